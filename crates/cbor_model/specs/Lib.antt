@@ -1,0 +1,13 @@
+pub mod Head
+pub mod Raw
+pub mod Spelling
+pub mod Acceptable
+pub mod Plain
+pub mod Order
+pub mod Value
+pub mod Canonical
+pub mod Refusal
+pub mod Supported
+pub mod Reader
+pub mod Program
+pub mod Laws

@@ -1,0 +1,67 @@
+-- What the program answers to the lines that it reads.
+use Rattle.std.specs.Prelude.{◌≡◌, ℕ, ◌+◌, ◌-◌, ◌/◌, ◌%◌, List, [], ◌∷◌, ◌++◌, length, map, flat_map, codes, Err, nat_lt, ◌==◌, if◌then◌else◌, refl}
+use Rattle.std.specs.Char.{to_ascii_lowercase}
+use Rattle.cbor_model.specs.Raw.{Raw, AreBytes}
+use Rattle.cbor_model.specs.Spelling.{spell}
+use Rattle.cbor_model.specs.Acceptable.{IsAcceptable}
+use Rattle.cbor_model.specs.Value.{value}
+use Rattle.cbor_model.specs.Canonical.{canon}
+use Rattle.cbor_model.specs.Refusal.{words, at_offset}
+use Rattle.cbor_model.specs.Supported.{IsSupported}
+use Rattle.cbor_model.specs.Reader.{Fault, read_value}
+
+-- ---- lines
+
+-- a line's first byte, before the lines that follow without it
+abbrev pub begin_line : ℕ → List (List ℕ) → List (List ℕ)
+begin_line b [] = (b ∷ []) ∷ []
+begin_line b (line ∷ lines) = (b ∷ line) ∷ lines
+
+-- A line ends with the byte 0a. A last line without it counts unless it is empty.
+abbrev pub lines : List ℕ → List (List ℕ)
+lines [] = []
+lines (b ∷ bs) = if b == 0x0a then [] ∷ lines bs else begin_line b (lines bs)
+
+-- ---- hexadecimal
+
+abbrev pub hex_digit : ℕ → ℕ
+hex_digit n = if nat_lt n 10 then 48 + n else 87 + n
+
+-- two digits a byte, in lower case
+abbrev pub hex : List ℕ → List ℕ
+hex bytes = flat_map (λ b. hex_digit (b / 16) ∷ hex_digit (b % 16) ∷ []) bytes
+
+-- the line is the hexadecimal of these bytes, in digits of either case
+pub record IsHexOf (line bytes : List ℕ) : Type 0 where
+  pub are_bytes : AreBytes bytes
+  pub digits : map to_ascii_lowercase line ≡ hex bytes
+
+-- ---- answers
+
+-- The text of the refusal of these bytes, which the reference reader tells.
+pub record IsRefusalText (bytes text : List ℕ) : Type 0 where
+  pub fault : Fault
+  pub refused : read_value bytes ≡ Err fault
+  pub is : text ≡ words fault.why ++ at_offset (length bytes - fault.left)
+
+-- The answer to a line: the canonical spelling of the value that its bytes spell, or why there is none.
+pub data IsAnswer (line answer : List ℕ) : Type 0 where
+  canonical : (r : Raw) → IsAcceptable r → IsSupported r → IsHexOf line (spell r) → answer ≡ hex (canon (value r)) → IsAnswer line answer
+  refused : (bytes text : List ℕ) → IsHexOf line bytes → ((r : Raw) → IsAcceptable r → IsSupported r → spell r ≡ bytes → ⊥) → IsRefusalText bytes text → answer ≡ codes "error: " ++ text → IsAnswer line answer
+  not_hexadecimal : ((bytes : List ℕ) → IsHexOf line bytes → ⊥) → answer ≡ codes "error: not hexadecimal" → IsAnswer line answer
+
+-- The output is one answer for each of the lines, in their order, each ended by 0a.
+abbrev pub AreAnswers : List (List ℕ) → List ℕ → Type 0
+AreAnswers [] output = output ≡ []
+AreAnswers (line ∷ lines) output = (answer others : List ℕ) × IsAnswer line answer × (output ≡ answer ++ (0x0a ∷ others)) × AreAnswers lines others
+
+-- ---- examples
+
+two_lines : lines (0x31 ∷ 0x0a ∷ 0x32 ∷ []) ≡ (0x31 ∷ []) ∷ (0x32 ∷ []) ∷ []
+two_lines = refl
+
+empty_line : lines (0x0a ∷ []) ≡ [] ∷ []
+empty_line = refl
+
+digits : hex (0x2a ∷ 0x0f ∷ []) ≡ codes "2a0f"
+digits = refl

@@ -1,0 +1,137 @@
+-- Raw items (RFC 7049, sections 2.1 to 2.3): items as they are spelled, with the width of each
+-- number, and with open forms and chunks apart from definite ones.
+use Rattle.std.specs.Prelude.{ℕ, suc, ◌^◌, ◌<◌, max, List, [], ◌∷◌, length, slice_index, flat_map}
+use Rattle.std.specs.List.{AllByRecursion}
+use Rattle.cbor_model.specs.Head.{HeadWidth, limit}
+
+-- The simple values that are assigned.
+pub data Simple : Type 0 where
+  false_item : Simple
+  true_item : Simple
+  null_item : Simple
+  undefined_item : Simple
+
+-- Floats of 16, 32 and 64 bits.
+pub data FloatWidth : Type 0 where
+  half : FloatWidth
+  single : FloatWidth
+  double : FloatWidth
+
+-- A definite string: the width of its length, and its bytes.
+pub record Chunk : Type 0 where
+  pub width : HeadWidth
+  pub bytes : List ℕ
+
+mutual
+  pub data Raw : Type 0 where
+    unsigned : HeadWidth → ℕ → Raw
+    negative : HeadWidth → ℕ → Raw
+    bytes : Chunk → Raw
+    text : Chunk → Raw
+    bytes_chunks : List Chunk → Raw
+    text_chunks : List Chunk → Raw
+    array : HeadWidth → Raws → Raw
+    array_open : Raws → Raw
+    map : HeadWidth → RawPairs → Raw
+    map_open : RawPairs → Raw
+    tag : HeadWidth → ℕ → Raw → Raw
+    simple : Simple → Raw
+    float : FloatWidth → ℕ → Raw
+
+  -- the items of an array
+  pub data Raws : Type 0 where
+    no_raws : Raws
+    raw : Raw → Raws → Raws
+
+  -- the keys and values of a map
+  pub data RawPairs : Type 0 where
+    no_raw_pairs : RawPairs
+    raw_pair : Raw → Raw → RawPairs → RawPairs
+
+abbrev pub count : Raws → ℕ
+count no_raws = 0
+count (raw r rs) = suc (count rs)
+
+abbrev pub pair_count : RawPairs → ℕ
+pair_count no_raw_pairs = 0
+pair_count (raw_pair k v ps) = suc (pair_count ps)
+
+-- the bytes of a chunked string
+abbrev pub joined : List Chunk → List ℕ
+joined cs = flat_map (λ c. c.bytes) cs
+
+-- a float's bits are below this
+abbrev pub float_limit : FloatWidth → ℕ
+float_limit half = 2 ^ 16
+float_limit single = 2 ^ 32
+float_limit double = 2 ^ 64
+
+-- each element is a byte
+abbrev pub AreBytes : List ℕ → Type 0
+AreBytes bs = (i : ℕ) → slice_index bs i < 256
+
+abbrev pub IsChunk : Chunk → Type 0
+IsChunk c = (length c.bytes < limit c.width) × AreBytes c.bytes
+
+-- Well formed: each number, length and count fits its width, and each float's bits fit theirs.
+abbrev mutual
+  pub IsWellFormed : Raw → Type 0
+  IsWellFormed (unsigned w n) = n < limit w
+  IsWellFormed (negative w n) = n < limit w
+  IsWellFormed (bytes c) = IsChunk c
+  IsWellFormed (text c) = IsChunk c
+  IsWellFormed (bytes_chunks cs) = AllByRecursion IsChunk cs
+  IsWellFormed (text_chunks cs) = AllByRecursion IsChunk cs
+  IsWellFormed (array w rs) = (count rs < limit w) × AreWellFormed rs
+  IsWellFormed (array_open rs) = AreWellFormed rs
+  IsWellFormed (map w ps) = (pair_count ps < limit w) × ArePairsWellFormed ps
+  IsWellFormed (map_open ps) = ArePairsWellFormed ps
+  IsWellFormed (tag w n r) = (n < limit w) × IsWellFormed r
+  IsWellFormed (simple s) = Unit {0}
+  IsWellFormed (float w bits) = bits < float_limit w
+
+  pub AreWellFormed : Raws → Type 0
+  AreWellFormed no_raws = Unit {0}
+  AreWellFormed (raw r rs) = IsWellFormed r × AreWellFormed rs
+
+  pub ArePairsWellFormed : RawPairs → Type 0
+  ArePairsWellFormed no_raw_pairs = Unit {0}
+  ArePairsWellFormed (raw_pair k v ps) = IsWellFormed k × IsWellFormed v × ArePairsWellFormed ps
+
+-- How many arrays, maps and tags stand inside one another. Chunks don't count.
+abbrev mutual
+  pub depth : Raw → ℕ
+  depth (array w rs) = suc (depth_all rs)
+  depth (array_open rs) = suc (depth_all rs)
+  depth (map w ps) = suc (depth_pairs ps)
+  depth (map_open ps) = suc (depth_pairs ps)
+  depth (tag w n r) = suc (depth r)
+  depth _ = 0
+
+  pub depth_all : Raws → ℕ
+  depth_all no_raws = 0
+  depth_all (raw r rs) = max (depth r) (depth_all rs)
+
+  pub depth_pairs : RawPairs → ℕ
+  depth_pairs no_raw_pairs = 0
+  depth_pairs (raw_pair k v ps) = max (max (depth k) (depth v)) (depth_pairs ps)
+
+-- The bytes of each text in the item, those of a chunked one joined, meet P.
+abbrev mutual
+  pub EachText : (List ℕ → Type 0) → Raw → Type 0
+  EachText P (text c) = P c.bytes
+  EachText P (text_chunks cs) = P (joined cs)
+  EachText P (array w rs) = EachTextOfAll P rs
+  EachText P (array_open rs) = EachTextOfAll P rs
+  EachText P (map w ps) = EachTextOfPairs P ps
+  EachText P (map_open ps) = EachTextOfPairs P ps
+  EachText P (tag w n r) = EachText P r
+  EachText P _ = Unit {0}
+
+  pub EachTextOfAll : (List ℕ → Type 0) → Raws → Type 0
+  EachTextOfAll P no_raws = Unit {0}
+  EachTextOfAll P (raw r rs) = EachText P r × EachTextOfAll P rs
+
+  pub EachTextOfPairs : (List ℕ → Type 0) → RawPairs → Type 0
+  EachTextOfPairs P no_raw_pairs = Unit {0}
+  EachTextOfPairs P (raw_pair k v ps) = EachText P k × EachText P v × EachTextOfPairs P ps

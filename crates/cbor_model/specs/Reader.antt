@@ -1,0 +1,199 @@
+-- The reference reader. It is no definition of the format: it goes through the bytes from left to
+-- right, as a program does, and says what is read first or what is at fault first. Laws tie it to the
+-- definitions: what it reads is spelled so and acceptable, and what is spelled so it reads.
+use Rattle.std.specs.Prelude.{◌≡◌, ℕ, zero, suc, ◌+◌, ◌-◌, ◌*◌, ◌/◌, ◌%◌, ◌^◌, Bool, true, false, List, [], ◌∷◌, length, take, drop, pos, negsuc, Result, Ok, Err, Option, Some, None, nat_lt, nat_le, ◌==◌, ◌&&◌, ◌||◌, if◌then◌else◌, refl}
+use Rattle.std.specs.Int.{Width, w8, w16, w32, w64, byte_len, from_be_bytes}
+use Rattle.std.specs.Str.Lossy.{utf8_valid_len}
+use Rattle.cbor_model.specs.Head.{HeadWidth, no_bytes, one_byte, two_bytes, four_bytes, eight_bytes}
+use Rattle.cbor_model.specs.Raw.{Chunk, Simple, false_item, true_item, null_item, undefined_item, FloatWidth, half, single, double}
+use Rattle.cbor_model.specs.Acceptable.{max_depth}
+use Rattle.cbor_model.specs.Refusal.{Refusal, end_in_value, length_out_of_range, invalid_utf8, unassigned_code, unexpected_code, trailing_data, too_deep}
+use Rattle.cbor_model.specs.Plain.{Val, Vals, no_vals, val}
+use Rattle.cbor_model.specs.Plain as plain
+use Rattle.cbor_model.specs.Value.{simple_value}
+
+-- A fault: why, and how many bytes were left. Its offset is the input's length less that.
+pub record Fault : Type 0 where
+  pub why : Refusal
+  pub left : ℕ
+
+-- what was read, and the bytes after it; or the fault
+abbrev pub Reads : Type 0 → Type 0
+Reads A = Result (A × List ℕ) Fault
+
+infixl 10 ◌>>=◌
+abbrev pub ◌>>=◌ : {A B : Type 0} → Result A Fault → (A → Result B Fault) → Result B Fault
+(Ok x) >>= f = f x
+(Err e) >>= f = Err e
+
+-- What is made of the parts that are read, and which texts are let pass.
+pub record Reading (Item Items : Type 0) : Type 0 where
+  pub unsigned : HeadWidth → ℕ → Item
+  pub negative : HeadWidth → ℕ → Item
+  pub bytes : Chunk → Item
+  pub text : Chunk → Item
+  pub array : HeadWidth → Items → Item
+  pub simple : Simple → Item
+  pub float : FloatWidth → ℕ → Item
+  pub no_items : Items
+  pub item : Item → Items → Items
+  -- whether a text may have this length, where so many bytes are left
+  pub has_room : ℕ → ℕ → Bool
+  pub is_text : List ℕ → Bool
+
+-- Values, in an input of this length: a text ends before 2^64 and is UTF-8.
+abbrev pub values_within : ℕ → Reading Val Vals
+values_within total = record {
+  unsigned = λ w n. plain.integer (pos n);
+  negative = λ w n. plain.integer (negsuc n);
+  bytes = λ c. plain.bytes c.bytes;
+  text = λ c. plain.text c.bytes;
+  array = λ w vs. plain.array vs;
+  simple = simple_value;
+  float = plain.float;
+  no_items = no_vals;
+  item = val;
+  has_room = λ left n. nat_lt (total - left + n) (2 ^ 64);
+  is_text = λ b. utf8_valid_len b == length b;
+}
+
+abbrev pub ended : Fault
+ended = record { why = end_in_value; left = 0 }
+
+-- a fault before these bytes
+abbrev pub before : Refusal → List ℕ → Fault
+before why bs = record { why = why; left = length bs }
+
+unfoldable pub byte_at : List ℕ → Reads ℕ
+byte_at [] = Err ended
+byte_at (b ∷ bs) = Ok (b, bs)
+
+-- n whole bytes
+abbrev pub bytes_at : ℕ → List ℕ → Reads (List ℕ)
+bytes_at n bs = if nat_lt (length bs) n then Err ended else Ok (take n bs, drop n bs)
+
+-- a number, the most significant byte first
+abbrev pub number_at : Width → List ℕ → Reads ℕ
+number_at w bs = if nat_lt (length bs) (byte_len w) then Err ended else Ok (from_be_bytes w (take (byte_len w) bs), drop (byte_len w) bs)
+
+-- the width that the lower five bits of a first byte say, which are below 28
+abbrev pub width_of : ℕ → HeadWidth
+width_of low =
+    if nat_lt low 24 then no_bytes
+    else (if low == 24 then one_byte
+    else (if low == 25 then two_bytes
+    else (if low == 26 then four_bytes
+    else eight_bytes)))
+
+-- the number behind a first byte with those lower five bits
+unfoldable pub number_behind : ℕ → List ℕ → Reads ℕ
+number_behind low bs =
+    if nat_lt low 24 then Ok (low, bs)
+    else (if low == 24 then number_at w8 bs
+    else (if low == 25 then number_at w16 bs
+    else (if low == 26 then number_at w32 bs
+    else (if low == 27 then number_at w64 bs
+    else Err (before unassigned_code bs)))))
+
+-- a float of that width, of which number_at reads the bits
+unfoldable pub float_at : {Item Items : Type 0} → Reading Item Items → ℕ → List ℕ → Reads Item
+float_at m low bs =
+    if low == 25 then number_at w16 bs >>= (λ n. Ok (m.float half n.0, n.1))
+    else (if low == 26 then number_at w32 bs >>= (λ n. Ok (m.float single n.0, n.1))
+    else (if low == 27 then number_at w64 bs >>= (λ n. Ok (m.float double n.0, n.1))
+    else Err (before (if low == 31 then unexpected_code else unassigned_code) bs)))
+
+-- what follows a first byte of major type 7
+unfoldable pub simple_at : {Item Items : Type 0} → Reading Item Items → ℕ → List ℕ → Reads Item
+simple_at m low bs =
+    if low == 20 then Ok (m.simple false_item, bs)
+    else (if low == 21 then Ok (m.simple true_item, bs)
+    else (if low == 22 then Ok (m.simple null_item, bs)
+    else (if low == 23 then Ok (m.simple undefined_item, bs)
+    else float_at m low bs)))
+
+unfoldable pub string_at : {Item Items : Type 0} → Reading Item Items → HeadWidth → ℕ → List ℕ → Reads Item
+string_at m w n bs = do
+  b ← bytes_at n bs
+  Ok (m.bytes (record { width = w; bytes = b.0 }), b.1)
+
+-- the text of these bytes, which others follow; or a fault before the first byte that isn't UTF-8
+unfoldable pub checked_text : {Item Items : Type 0} → Reading Item Items → HeadWidth → List ℕ → List ℕ → Reads Item
+checked_text m w b bs =
+    if m.is_text b then Ok (m.text (record { width = w; bytes = b }), bs)
+    else Err (record { why = invalid_utf8; left = length bs + (length b - utf8_valid_len b) })
+
+unfoldable pub text_at : {Item Items : Type 0} → Reading Item Items → HeadWidth → ℕ → List ℕ → Reads Item
+text_at m w n bs =
+    if m.has_room (length bs) n then bytes_at n bs >>= (λ b. checked_text m w b.0 b.1)
+    else Err (before length_out_of_range bs)
+
+-- n items, one after the other, each read by p
+unfoldable pub items_by : {Item Items : Type 0} → Reading Item Items → (List ℕ → Reads Item) → ℕ → List ℕ → Reads Items
+items_by m p zero bs = Ok (m.no_items, bs)
+items_by m p (suc n) bs = do
+  first ← p bs
+  others ← items_by m p n first.1
+  Ok (m.item first.0 others.0, others.1)
+
+-- the n items of an array, where a level is left
+unfoldable pub items_at : {Item Items : Type 0} → Reading Item Items → Option (List ℕ → Reads Item) → ℕ → List ℕ → Reads Items
+items_at m None n bs = Err (before too_deep bs)
+items_at m (Some p) n bs = items_by m p n bs
+
+unfoldable pub array_at : {Item Items : Type 0} → Reading Item Items → Option (List ℕ → Reads Item) → HeadWidth → ℕ → List ℕ → Reads Item
+array_at m inner w n bs = do
+  items ← items_at m inner n bs
+  Ok (m.array w items.0, items.1)
+
+-- what follows the head of a major type below 5
+unfoldable pub content_at : {Item Items : Type 0} → Reading Item Items → Option (List ℕ → Reads Item) → ℕ → HeadWidth → ℕ → List ℕ → Reads Item
+content_at m inner major w n bs =
+    if major == 0 then Ok (m.unsigned w n, bs)
+    else (if major == 1 then Ok (m.negative w n, bs)
+    else (if major == 2 then string_at m w n bs
+    else (if major == 3 then text_at m w n bs
+    else array_at m inner w n bs)))
+
+-- first bytes of maps, tags, open forms and chunked strings
+abbrev pub is_unsupported : ℕ → Bool
+is_unsupported b = (b == 0x5f) || (b == 0x7f) || (b == 0x9f) || (nat_le 0xa0 b && nat_le b 0xbb) || (b == 0xbf) || (nat_le 0xc0 b && nat_le b 0xdb)
+
+-- what follows the first byte b
+unfoldable pub after_first : {Item Items : Type 0} → Reading Item Items → Option (List ℕ → Reads Item) → ℕ → List ℕ → Reads Item
+after_first m inner b bs =
+    if is_unsupported b then Err (before unexpected_code bs)
+    else (if b / 32 == 7 then simple_at m (b % 32) bs
+    else number_behind (b % 32) bs >>= (λ n. content_at m inner (b / 32) (width_of (b % 32)) n.0 n.1))
+
+-- an item, where inner reads the items of an array if a level is left
+unfoldable pub item_by : {Item Items : Type 0} → Reading Item Items → Option (List ℕ → Reads Item) → List ℕ → Reads Item
+item_by m inner bs = byte_at bs >>= (λ b. after_first m inner b.0 b.1)
+
+-- an item, where so many levels are left
+unfoldable pub item_at : {Item Items : Type 0} → Reading Item Items → ℕ → List ℕ → Reads Item
+item_at m zero = item_by m None
+item_at m (suc levels) = item_by m (Some (item_at m levels))
+
+-- the reader of what lies one level further in, where one is left
+abbrev pub inside : {Item Items : Type 0} → Reading Item Items → ℕ → Option (List ℕ → Reads Item)
+inside m zero = None
+inside m (suc levels) = Some (item_at m levels)
+
+-- nothing follows
+abbrev pub whole : {A : Type 0} → Reads A → Result A Fault
+whole read = read >>= (λ x. if length x.1 == 0 then Ok x.0 else Err (record { why = trailing_data; left = length x.1 - 1 }))
+
+-- the value that all of the bytes spell
+unfoldable pub read_value : List ℕ → Result Val Fault
+read_value bs = whole (item_at (values_within (length bs)) max_depth bs)
+
+-- ---- examples
+
+short_item : read_value (0x18 ∷ 0x17 ∷ []) ≡ Ok (plain.integer (pos 23))
+unfolding read_value item_at item_by byte_at after_first number_behind content_at
+short_item = refl
+
+trailing : read_value (0xf4 ∷ 0xf4 ∷ 0xf4 ∷ []) ≡ Err (record { why = trailing_data; left = 1 })
+unfolding read_value item_at item_by byte_at after_first simple_at
+trailing = refl

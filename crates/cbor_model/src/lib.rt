@@ -1,0 +1,5 @@
+//! The definitions of CBOR with canonical values, and laws about them.
+//!
+//! The definitions are in `specs/`, one file a subject: they print trees and compare lists, and say
+//! nothing of how a program goes through the bytes.
+#![tactic(auto)]
