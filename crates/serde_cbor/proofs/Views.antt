@@ -1,0 +1,17 @@
+-- What lists of values stand for.
+use Rattle.std.proofs.Common.{◌≡◌, suc, List, [], ◌∷◌, length, refl, ap, rules}
+use Rattle.cbor_model.specs.Plain.{count, pair_count}
+use Rattle.serde_cbor.specs.declared.value.Map.{Map, out-Map}
+use Rattle.serde_cbor.specs.declared.value.Value.{Value, the_lemmas}
+use Rattle.serde_cbor.specs.View.{map_view, views, pair_views}
+
+pub count_views : (vs : List Value) → count (views vs) ≡ length vs
+count_views [] = refl
+count_views (v ∷ vs) = ap suc (count_views vs)
+
+pub pair_count_pair_views : (ps : List (Value × Value)) → pair_count (pair_views ps) ≡ length ps
+pair_count_pair_views [] = refl
+pair_count_pair_views (p ∷ ps) = ap suc (pair_count_pair_views ps)
+
+pub map_view_is : (m : Map) → map_view m ≡ pair_views (out-Map m).pairs.items
+map_view_is m = search (rules, the_lemmas)

@@ -1,0 +1,4 @@
+pub mod Error
+pub mod View
+pub mod Gives
+pub mod Written

