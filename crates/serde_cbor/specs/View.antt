@@ -1,5 +1,5 @@
 -- What a `Value` stands for: a plain tree.
-use Rattle.std.specs.Prelude.{ℕ, List, [], ◌∷◌, map, string_bytes, box_value}
+use Rattle.std.specs.Prelude.{List, [], ◌∷◌, map, string_bytes, box_value}
 use Rattle.cbor_model.specs.Raw.{half, single, double}
 use Rattle.cbor_model.specs.Plain as plain
 use Rattle.cbor_model.specs.Plain.{Val, Vals, no_vals, val, Pairs, no_pairs, pair}

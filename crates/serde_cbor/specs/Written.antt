@@ -1,8 +1,8 @@
 -- What the writer of a value answers.
-use Rattle.std.specs.Prelude.{◌≡◌, ◌++◌, ℕ, List, codes, Result, Ok, Err}
+use Rattle.std.specs.Prelude.{◌≡◌, codes}
 use Rattle.std.specs.String.{string_bytes}
 use Rattle.cbor_model.specs.Plain.{Val}
-use Rattle.cbor_model.specs.Canonical.{canon, IsStorable}
+use Rattle.cbor_model.specs.Canonical.{IsStorable}
 use Rattle.serde_cbor.specs.declared.error.ErrorCode.{ErrorCode}
 use Rattle.serde_cbor.specs.declared.error.ErrorCode.TheVariants.{Message, OutOfMemory}
 use Rattle.serde_cbor.specs.declared.error.Error.{Error}

@@ -6,9 +6,7 @@ ghost use Rattle.serde_cbor.specs.declared.error.ErrorCode.TheVariants.{ScratchT
 ghost use Rattle.serde_cbor.specs.declared.error.Category.TheVariants as category;
 
 use std::alloc::{AllocError, AllocFailed, Global};
-use std::error;
-use std::fmt;
-use std::io;
+use std::{error, fmt, io};
 
 /// What the calls of this crate answer.
 pub type Result<T> = std::result::Result<T, Error>;
