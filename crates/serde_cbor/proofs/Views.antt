@@ -1,9 +1,11 @@
 -- What lists of values stand for.
 use Rattle.std.proofs.Common.{◌≡◌, suc, List, [], ◌∷◌, length, refl, ap, rules}
-use Rattle.cbor_model.specs.Plain.{count, pair_count}
+use Rattle.std.specs.Global.{String}
+use Rattle.std.specs.String.{string_bytes}
+use Rattle.cbor_model.specs.Plain.{text, count, pair_count}
 use Rattle.serde_cbor.specs.declared.value.Map.{Map, out-Map}
-use Rattle.serde_cbor.specs.declared.value.Value.{Value, the_lemmas}
-use Rattle.serde_cbor.specs.View.{map_view, views, pair_views}
+use Rattle.serde_cbor.specs.declared.value.Value.{Value, Text, the_lemmas}
+use Rattle.serde_cbor.specs.View.{view, map_view, views, pair_views}
 
 pub count_views : (vs : List Value) → count (views vs) ≡ length vs
 count_views [] = refl
@@ -15,3 +17,6 @@ pair_count_pair_views (p ∷ ps) = ap suc (pair_count_pair_views ps)
 
 pub map_view_is : (m : Map) → map_view m ≡ pair_views (out-Map m).pairs.items
 map_view_is m = search (rules, the_lemmas)
+
+pub view_text : (s : String) → view (Text s) ≡ text (string_bytes s)
+view_text s = search (rules, the_lemmas)

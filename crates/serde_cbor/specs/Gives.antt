@@ -7,6 +7,11 @@ use Rattle.serde_cbor.specs.declared.error.ErrorCode.TheVariants.{EofWhileParsin
 use Rattle.serde_cbor.specs.declared.error.Error.{Error}
 use Rattle.serde_cbor.specs.Error.{code_of, offset_of}
 
+-- Where a source stands: the bytes to come, and the offset of the input's end.
+pub record Input : Type 0 where
+  pub rest : List ℕ
+  pub total : ℕ
+
 -- reading meets this fault, at the offset in an input of that length
 abbrev pub FailsAs : {A : Type 0} → Refusal → ℕ → ℕ → Result A Fault → Type 0
 FailsAs why total offset read = (left : ℕ) × (offset + left ≡ total) × (read ≡ Err (record { why = why; left = left }))

@@ -6,11 +6,19 @@ ghost use Rattle.cbor_model.specs.Laws.{SpellsValue};
 ghost use Rattle.cbor_model.specs.Reader.{read_value};
 ghost use Rattle.serde_cbor.specs.Error.{IsOutOfMemory};
 ghost use Rattle.serde_cbor.specs.View.{view};
-ghost use Rattle.serde_cbor.specs.Gives.{Fails};
+ghost use Rattle.serde_cbor.specs.Gives.{Fails, GivesWhole};
 
-use crate::error::{Error, ErrorCode, Result};
+mod source;
+mod value;
+
+use crate::error::Result;
 use crate::value::Value;
+use self::source::Source;
+use self::value::read_value;
 use std::alloc::Global;
+
+/// How many arrays, maps and tags may stand inside one another.
+const MAX_DEPTH: u8 = 127;
 
 /// The value of the one item that the bytes spell.
 pub fn from_slice(alloc: Global, slice: &[u8]) -> Result<Value>
@@ -21,5 +29,15 @@ pub fn from_slice(alloc: Global, slice: &[u8]) -> Result<Value>
     // A refusal tells the first fault, as the reference reader does, or that memory ran out.
     ensures refused { IfErr result (λ e. Fails (length slice.now) e (read_value slice.now)) }
 {
-    Err(Error::at(ErrorCode::OutOfMemory, 0))
+    read_whole(alloc, slice)
+}
+
+#[tactic(auto, unfolding(cbor_model::specs::Reader::read_value))]
+fn read_whole(alloc: Global, slice: &[u8]) -> Result<Value>
+    ensures { GivesWhole view (length slice.now) result (read_value slice.now) }
+{
+    let mut source = Source::new(slice);
+    let value = read_value(alloc, &mut source, MAX_DEPTH)?;
+    source.end()?;
+    Ok(value)
 }
