@@ -1,0 +1,8 @@
+pub mod Steps
+pub mod Made
+pub mod Found
+pub mod Again
+pub mod Texts
+pub mod Whole
+pub mod Storable
+pub mod Laws

@@ -1,0 +1,32 @@
+-- The texts of an item, and the two tests of UTF-8.
+use Rattle.std.proofs.Common.{◌≡◌, ℕ, zero, suc, ◌≤◌, Bool, true, false, cond, eqb, List, [], ◌∷◌, length, take, IsUtf8, refl, sym, ap, subst, ◌∙◌, arith, inl, inr}
+use Rattle.std.specs.Str.{is_utf8}
+use Rattle.std.specs.Str.Lossy.{utf8_valid_len, valid_len_up_to}
+use Rattle.std.proofs.lemmas.Bool.{eqb-true}
+use Rattle.std.proofs.lemmas.Str.{utf8_valid_len-IsUtf8, IsUtf8-from_is_utf8}
+use Rattle.cbor_model.specs.Raw as raw
+use Rattle.cbor_model.specs.Raw.{Raw, Raws, no_raws, RawPairs, no_raw_pairs, raw_pair, EachText, EachTextOfAll, EachTextOfPairs, joined}
+
+module _ (P Q : List ℕ → Type 0) (weaker : (b : List ℕ) → P b → Q b) where
+  mutual
+    pub EachText-map : (r : Raw) → EachText P r → EachText Q r
+    EachText-map (raw.text c) texts = weaker c.bytes texts
+    EachText-map (raw.text_chunks cs) texts = weaker (joined cs) texts
+    EachText-map (raw.array w rs) texts = EachTextOfAll-map rs texts
+    EachText-map (raw.array_open rs) texts = EachTextOfAll-map rs texts
+    EachText-map (raw.map w ps) texts = EachTextOfPairs-map ps texts
+    EachText-map (raw.map_open ps) texts = EachTextOfPairs-map ps texts
+    EachText-map (raw.tag w n r) texts = EachText-map r texts
+    EachText-map _ texts = tt
+
+    pub EachTextOfAll-map : (rs : Raws) → EachTextOfAll P rs → EachTextOfAll Q rs
+    EachTextOfAll-map no_raws texts = tt
+    EachTextOfAll-map (raw.raw r rs) texts = (EachText-map r texts.0, EachTextOfAll-map rs texts.1)
+
+    pub EachTextOfPairs-map : (ps : RawPairs) → EachTextOfPairs P ps → EachTextOfPairs Q ps
+    EachTextOfPairs-map no_raw_pairs texts = tt
+    EachTextOfPairs-map (raw_pair k v ps) texts = (EachText-map k texts.0, EachText-map v texts.1, EachTextOfPairs-map ps texts.2)
+
+-- a front that is found is UTF-8
+IsUtf8-valid_len_up_to : (bs : List ℕ) (n : ℕ) → IsUtf8 (take (valid_len_up_to bs n) bs)
+IsUtf8-valid_len_up_to bs n = ?
