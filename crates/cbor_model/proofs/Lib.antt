@@ -5,4 +5,4 @@ pub mod Again
 pub mod Texts
 pub mod Whole
 pub mod Storable
-pub mod Laws
+pub mod Proved

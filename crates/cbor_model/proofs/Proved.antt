@@ -1,0 +1,13 @@
+-- The laws' proofs.
+use Rattle.cbor_model.specs.Laws.{ReaderFinds, ReaderAccepts, ValueIsStorable}
+use Rattle.cbor_model.proofs.Whole.{found_whole, read_whole}
+use Rattle.cbor_model.proofs.Storable.{storable}
+
+pub reader_finds : ReaderFinds
+reader_finds = found_whole
+
+pub reader_accepts : ReaderAccepts
+reader_accepts = read_whole
+
+pub value_is_storable : ValueIsStorable
+value_is_storable = storable
