@@ -81,6 +81,21 @@ behind_head major w n k bs b rest parts long =
     two_parts (head major w n ++ bs) (head major w k) bs b rest (ap (λ (n : ℕ). head major w n ++ bs) (sym long)) parts
 
 module _ {Item Items : Type 0} (m : Reading Item Items) where
+  -- an item, and those after it
+  item_added : (levels n : ℕ) (bs more rest : List ℕ) (first : Item) (others : Items) → IsItem m levels bs (first, more) → AreItems m levels n more (others, rest) → AreItems m levels (suc n) bs (m.item first others, rest)
+  unfolding spell made
+  item_added levels n bs more rest first others one all = record {
+    items = raw.raw one.item all.items;
+    made_is = ap (λ (i : Item). m.item i (made_all m all.items)) one.made_is ∙ ap (m.item first) all.made_is;
+    parts = two_parts bs (spell one.item) more (spell_all all.items) rest one.parts all.parts;
+    count_is = ap suc all.count_is;
+    fits = (one.fits, all.fits);
+    nests = omega (arith, one.nests, all.nests);
+    texts = (one.texts, all.texts);
+    supported = (one.supported, all.supported);
+    rest_fits = all.rest_fits;
+  }
+
   items_found : (p : List ℕ → Reads Item) (levels : ℕ) → Finds m p levels → (n : ℕ) (bs : List ℕ) (x : Items × List ℕ) → AreBytes bs → items_by m p n bs ≡ Ok x → AreItems m levels n bs x
   unfolding items_by spell made
   items_found p levels finds zero bs x fits is =
@@ -89,18 +104,8 @@ module _ {Item Items : Type 0} (m : Reading Item Items) where
       let a = bind_ok (p bs) (λ first. items_by m p n first.1 >>= λ others. Ok (m.item first.0 others.0, others.1)) x is in
       let b = bind_ok (items_by m p n a.0.1) (λ others. Ok (m.item a.0.0 others.0, others.1)) x a.2 in
       let one = finds bs a.0 fits a.1 in
-      let more = items_found p levels finds n a.0.1 b.0 one.rest_fits b.1 in
-      subst (AreItems m levels (suc n) bs) (ok_is (m.item a.0.0 b.0.0, b.0.1) x b.2) (record {
-        items = raw.raw one.item more.items;
-        made_is = ap (λ (i : Item). m.item i (made_all m more.items)) one.made_is ∙ ap (m.item a.0.0) more.made_is;
-        parts = two_parts bs (spell one.item) a.0.1 (spell_all more.items) b.0.1 one.parts more.parts;
-        count_is = ap suc more.count_is;
-        fits = (one.fits, more.fits);
-        nests = omega (arith, one.nests, more.nests);
-        texts = (one.texts, more.texts);
-        supported = (one.supported, more.supported);
-        rest_fits = more.rest_fits;
-      })
+      let all = items_found p levels finds n a.0.1 b.0 one.rest_fits b.1 in
+      subst (AreItems m levels (suc n) bs) (ok_is (m.item a.0.0 b.0.0, b.0.1) x b.2) (item_added levels n bs a.0.1 b.0.1 a.0.0 b.0.0 one all)
 
   -- the content of an item of this head
   abbrev IsContent : ℕ → ℕ → HeadWidth → ℕ → List ℕ → Item × List ℕ → Type 0

@@ -5,4 +5,6 @@ pub mod Again
 pub mod Texts
 pub mod Whole
 pub mod Storable
+pub mod Apart
+pub mod Program
 pub mod Proved

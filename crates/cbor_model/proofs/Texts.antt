@@ -29,6 +29,26 @@ module _ (P Q : List ℕ → Type 0) (weaker : (b : List ℕ) → P b → Q b) w
     EachTextOfPairs-map no_raw_pairs texts = tt
     EachTextOfPairs-map (raw_pair k v ps) texts = (EachText-map k texts.0, EachText-map v texts.1, EachTextOfPairs-map ps texts.2)
 
+module _ (P : List ℕ → Type 0) (each : (b : List ℕ) → P b) where
+  mutual
+    pub EachText-from_each : (r : Raw) → EachText P r
+    EachText-from_each (raw.text c) = each c.bytes
+    EachText-from_each (raw.text_chunks cs) = each (joined cs)
+    EachText-from_each (raw.array w rs) = EachTextOfAll-from_each rs
+    EachText-from_each (raw.array_open rs) = EachTextOfAll-from_each rs
+    EachText-from_each (raw.map w ps) = EachTextOfPairs-from_each ps
+    EachText-from_each (raw.map_open ps) = EachTextOfPairs-from_each ps
+    EachText-from_each (raw.tag w n r) = EachText-from_each r
+    EachText-from_each _ = tt
+
+    pub EachTextOfAll-from_each : (rs : Raws) → EachTextOfAll P rs
+    EachTextOfAll-from_each no_raws = tt
+    EachTextOfAll-from_each (raw.raw r rs) = (EachText-from_each r, EachTextOfAll-from_each rs)
+
+    pub EachTextOfPairs-from_each : (ps : RawPairs) → EachTextOfPairs P ps
+    EachTextOfPairs-from_each no_raw_pairs = tt
+    EachTextOfPairs-from_each (raw_pair k v ps) = (EachText-from_each k, EachText-from_each v, EachTextOfPairs-from_each ps)
+
 -- ---- UTF-8
 
 passed_or : (P : ℕ → Type 0) (b : Bool) (x y : ℕ) → (b ≡ true → P x) → P y → P (cond b x y)
