@@ -1,14 +1,14 @@
 -- What is spelled is read.
-use Rattle.std.proofs.Common.{◌≡◌, ℕ, zero, suc, ◌+◌, ◌*◌, ◌/◌, ◌%◌, ◌<◌, ◌≤◌, max, Bool, true, false, cond, eqb, leb, List, [], ◌∷◌, ◌++◌, length, Option, Some, None, Ok, Err, ◌&&◌, ◌||◌, refl, sym, ap, ◌∙◌, append_assoc, arith}
-use Rattle.std.specs.Int.{w16, w32, w64, to_be_bytes}
+use Rattle.std.proofs.Common.{◌≡◌, ℕ, zero, suc, ◌+◌, ◌*◌, ◌<◌, ◌≤◌, true, false, eqb, leb, List, ◌∷◌, ◌++◌, length, Option, Some, Ok, refl, ap, ◌∙◌, append_assoc, arith}
+use Rattle.std.specs.Int.{w16, w32, w64}
 use Rattle.std.proofs.lemmas.Bool.{ne_eqb, lt-leb}
 use Rattle.std.proofs.lemmas.List.{length-append}
-use Rattle.cbor_model.specs.Head.{HeadWidth, limit, info, behind, head}
+use Rattle.cbor_model.specs.Head.{HeadWidth, limit, info, head}
 use Rattle.cbor_model.specs.Raw as raw
 use Rattle.cbor_model.specs.Raw.{Raw, Raws, no_raws, Chunk, Simple, false_item, true_item, null_item, undefined_item, FloatWidth, half, single, double, float_limit, count, depth, depth_all, IsWellFormed, AreWellFormed, EachText, EachTextOfAll}
 use Rattle.cbor_model.specs.Spelling.{spell, spell_all, simple_byte, float_spelling}
 use Rattle.cbor_model.specs.Supported.{IsSupported, AreSupported}
-use Rattle.cbor_model.specs.Reader.{Fault, Reads, ◌>>=◌, Reading, byte_at, width_of, float_at, simple_at, string_at, checked_text, text_at, items_by, items_at, array_at, content_at, is_unsupported, after_first, item_by, item_at, inside}
+use Rattle.cbor_model.specs.Reader.{Reads, ◌>>=◌, Reading, byte_at, float_at, simple_at, string_at, checked_text, text_at, items_by, items_at, array_at, content_at, is_unsupported, after_first, item_by, item_at, inside}
 use Rattle.cbor_model.proofs.Made.{made, made_all}
 use Rattle.cbor_model.proofs.Steps.{bytes_again, wide16, wide32, wide64, number_again, info-below, width_of-info, number_behind_again, major_of, low_of}
 use Rattle.cbor_model.proofs.Found.{Passes}
@@ -78,6 +78,7 @@ module _ {Item Items : Type 0} (m : Reading Item Items) where
 
   mutual
     unfolding spell content_at items_by made
+
     pub again : (r : Raw) (levels : ℕ) (rest : List ℕ) (total : ℕ) → HasRoom m total → IsSupported r → IsWellFormed r → depth r ≤ levels → EachText (Passes m) r → length (spell r ++ rest) ≤ total → item_at m levels (spell r ++ rest) ≡ Ok (made m r, rest)
     again (raw.unsigned w n) levels rest total room reads fits nests texts within = item_at-inside m levels _ ∙ head_again (inside m levels) 0 w n rest (omega arith) fits
     again (raw.negative w n) levels rest total room reads fits nests texts within = item_at-inside m levels _ ∙ head_again (inside m levels) 1 w n rest (omega arith) fits
@@ -94,9 +95,9 @@ module _ {Item Items : Type 0} (m : Reading Item Items) where
         let items = spell_all rs in
         let less : length (items ++ rest) ≤ total = omega (arith, length-append (front ++ items) rest, length-append front items, length-append items rest) in
         ap (item_at m (suc levels)) (append_assoc front items rest)
-            ∙ item_at-inside m (suc levels) _
-            ∙ head_again (inside m (suc levels)) 4 w (count rs) (items ++ rest) (omega arith) fits.0
-            ∙ array_again w rs levels rest (all_again rs levels rest total room reads fits.1 (omega (arith, nests)) texts less)
+        ∙ item_at-inside m (suc levels) _
+        ∙ head_again (inside m (suc levels)) 4 w (count rs) (items ++ rest) (omega arith) fits.0
+        ∙ array_again w rs levels rest (all_again rs levels rest total room reads fits.1 (omega (arith, nests)) texts less)
     again (raw.simple s) levels rest total room reads fits nests texts within = item_at-inside m levels _ ∙ simple_again (inside m levels) s rest
     again (raw.float f n) levels rest total room reads fits nests texts within = item_at-inside m levels _ ∙ float_again (inside m levels) f n rest fits
     again _ levels rest total room reads fits nests texts within = absurd reads
@@ -110,4 +111,4 @@ module _ {Item Items : Type 0} (m : Reading Item Items) where
         let within_one : length (one ++ (more ++ rest)) ≤ total = omega (arith, ap length regrouped) in
         let within_more : length (more ++ rest) ≤ total = omega (arith, length-append one (more ++ rest)) in
         ap (items_by m (item_at m levels) (suc (count rs))) regrouped
-            ∙ items_again r rs levels rest (again r levels (more ++ rest) total room reads.0 fits.0 (omega (arith, nests)) texts.0 within_one) (all_again rs levels rest total room reads.1 fits.1 (omega (arith, nests)) texts.1 within_more)
+        ∙ items_again r rs levels rest (again r levels (more ++ rest) total room reads.0 fits.0 (omega (arith, nests)) texts.0 within_one) (all_again rs levels rest total room reads.1 fits.1 (omega (arith, nests)) texts.1 within_more)

@@ -1,5 +1,5 @@
 -- No spelling of an item that is read begins another's.
-use Rattle.std.proofs.Common.{◌≡◌, ℕ, ◌+◌, ◌≤◌, Bool, true, List, [], ◌++◌, length, Ok, refl, sym, ap, ◌∙◌, arith}
+use Rattle.std.proofs.Common.{◌≡◌, ℕ, ◌+◌, ◌≤◌, true, List, ◌++◌, length, Ok, refl, sym, ap, ◌∙◌, arith}
 use Rattle.cbor_model.specs.Raw as raw
 use Rattle.cbor_model.specs.Raw.{Raw, Raws, no_raws, depth, IsWellFormed, EachText}
 use Rattle.cbor_model.specs.Spelling.{spell}
@@ -29,6 +29,7 @@ raw_items = record {
 
 mutual
   unfolding made
+
   pub made-raw : (r : Raw) → IsSupported r → made raw_items r ≡ r
   made-raw (raw.unsigned w n) reads = refl
   made-raw (raw.negative w n) reads = refl
@@ -47,7 +48,7 @@ mutual
 item_again : (r : Raw) (levels : ℕ) (rest : List ℕ) → IsSupported r → IsWellFormed r → depth r ≤ levels → item_at raw_items levels (spell r ++ rest) ≡ Ok (r, rest)
 item_again r levels rest reads fits nests =
     again raw_items r levels rest (length (spell r ++ rest)) (λ left n few within. refl) reads fits nests (EachText-from_each (Passes raw_items) (λ b. refl) r) (omega arith)
-        ∙ ap (λ (i : Raw). Ok (i, rest)) (made-raw r reads)
+    ∙ ap (λ (i : Raw). Ok (i, rest)) (made-raw r reads)
 
 pub one_spelling : (r s : Raw) (x y : List ℕ) → IsSupported r → IsSupported s → IsWellFormed r → IsWellFormed s → spell r ++ x ≡ spell s ++ y → (r ≡ s) × (x ≡ y)
 one_spelling r s x y reads reads' fits fits' same =

@@ -1,16 +1,16 @@
 -- What is read is spelled so.
-use Rattle.std.proofs.Common.{◌≡◌, ℕ, zero, suc, ◌+◌, ◌*◌, ◌/◌, ◌%◌, ◌<◌, ◌≤◌, max, Bool, true, false, cond, eqb, leb, List, [], ◌∷◌, ◌++◌, length, Option, Some, None, Ok, Err, ◌&&◌, ◌||◌, refl, sym, ap, subst, ◌∙◌, append_assoc, arith, inl, inr, ◌⊎◌}
+use Rattle.std.proofs.Common.{◌≡◌, ℕ, zero, suc, ◌+◌, ◌*◌, ◌/◌, ◌%◌, ◌<◌, ◌≤◌, Bool, true, false, eqb, leb, List, [], ◌∷◌, ◌++◌, length, Option, Some, None, Ok, ◌&&◌, ◌||◌, refl, sym, ap, subst, ◌∙◌, append_assoc, arith, inl, inr, ◌⊎◌}
 use Rattle.std.specs.Int.{Width, w16, w32, w64, to_be_bytes}
 use Rattle.std.proofs.lemmas.Bool.{cases_lt, eqb-true, eqb-false, leb-false, le-leb}
-use Rattle.cbor_model.specs.Head.{HeadWidth, limit, info, behind, head}
+use Rattle.cbor_model.specs.Head.{HeadWidth, limit, info, head}
 use Rattle.cbor_model.specs.Raw as raw
 use Rattle.cbor_model.specs.Raw.{Raw, Raws, no_raws, Simple, false_item, true_item, null_item, undefined_item, FloatWidth, half, single, double, float_limit, count, depth, depth_all, AreBytes, IsWellFormed, AreWellFormed, EachText, EachTextOfAll}
 use Rattle.cbor_model.specs.Spelling.{spell, spell_all, simple_byte, float_spelling}
 use Rattle.cbor_model.specs.Supported.{IsSupported, AreSupported}
-use Rattle.cbor_model.specs.Refusal.{unassigned_code, unexpected_code, too_deep, length_out_of_range}
-use Rattle.cbor_model.specs.Reader.{Fault, Reads, ◌>>=◌, Reading, ended, before, byte_at, bytes_at, number_at, width_of, number_behind, float_at, simple_at, string_at, checked_text, text_at, items_by, items_at, array_at, content_at, is_unsupported, after_first, item_by, item_at}
+use Rattle.cbor_model.specs.Refusal.{unexpected_code, too_deep, length_out_of_range}
+use Rattle.cbor_model.specs.Reader.{Reads, ◌>>=◌, Reading, ended, before, byte_at, bytes_at, number_at, width_of, number_behind, float_at, simple_at, string_at, checked_text, text_at, items_by, items_at, array_at, content_at, is_unsupported, after_first, item_by, item_at}
 use Rattle.cbor_model.proofs.Made.{made, made_all}
-use Rattle.cbor_model.proofs.Steps.{AreBytes-rest, bind_ok, chosen, done, ok_is, not_ok, bytes_found, IsWide, wide16, wide32, wide64, number_found, IsBehind, info-below, number_behind_found, first_is}
+use Rattle.cbor_model.proofs.Steps.{AreBytes-rest, bind_ok, chosen, done, ok_is, not_ok, bytes_found, IsWide, wide16, wide32, wide64, number_found, info-below, number_behind_found, first_is}
 
 -- the reading lets the text pass
 abbrev pub Passes : {Item Items : Type 0} → Reading Item Items → List ℕ → Type 0
@@ -39,7 +39,7 @@ pub record AreItems {Item Items : Type 0} (m : Reading Item Items) (levels n : �
   pub rest_fits : AreBytes x.1
 
 abbrev pub Finds : {Item Items : Type 0} → Reading Item Items → (List ℕ → Reads Item) → ℕ → Type 0
-Finds m p levels = (bs : List ℕ) (x : _ × List ℕ) → AreBytes bs → p bs ≡ Ok x → IsItem m levels bs x
+Finds {Item = Item} m p levels = (bs : List ℕ) (x : Item × List ℕ) → AreBytes bs → p bs ≡ Ok x → IsItem m levels bs x
 
 -- a reader of what lies one level further in
 abbrev pub FindsInside : {Item Items : Type 0} → Reading Item Items → Option (List ℕ → Reads Item) → ℕ → Type 0

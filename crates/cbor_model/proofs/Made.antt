@@ -27,6 +27,7 @@ unfoldable mutual
 -- values are made so
 mutual
   unfolding made value
+
   pub made-value : (total : ℕ) (r : Raw) → IsSupported r → made (values_within total) r ≡ value r
   made-value total (raw.unsigned w n) reads = refl
   made-value total (raw.negative w n) reads = refl

@@ -7,7 +7,7 @@ use Rattle.std.proofs.lemmas.Nat.{be_bytes_2, be_bytes_4, be_bytes_8, from_be_by
 use Rattle.cbor_model.specs.Head.{HeadWidth, no_bytes, one_byte, two_bytes, four_bytes, eight_bytes, limit, info, behind}
 use Rattle.cbor_model.specs.Raw.{AreBytes}
 use Rattle.cbor_model.specs.Refusal.{unassigned_code}
-use Rattle.cbor_model.specs.Reader.{Fault, Reads, ◌>>=◌, ended, before, bytes_at, number_at, width_of, number_behind}
+use Rattle.cbor_model.specs.Reader.{Fault, ◌>>=◌, ended, before, bytes_at, number_at, width_of, number_behind}
 
 pub AreBytes-drop : (n : ℕ) (bs : List ℕ) → AreBytes bs → AreBytes (drop n bs)
 AreBytes-drop n bs h i = rw get_or-drop (h (n + i))

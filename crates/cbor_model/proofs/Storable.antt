@@ -1,5 +1,5 @@
 -- The value of a well-formed item is storable.
-use Rattle.std.proofs.Common.{◌≡◌, ℕ, ◌^◌, ◌<◌, ◌≤◌, List, arith, refl}
+use Rattle.std.proofs.Common.{◌^◌, ◌≤◌, arith}
 use Rattle.std.specs.declared.cmp.Ordering.{Ordering}
 use Rattle.std.specs.declared.cmp.Ordering.TheVariants.{Less, Equal, Greater}
 use Rattle.cbor_model.specs.Head.{HeadWidth, no_bytes, one_byte, two_bytes, four_bytes, eight_bytes, limit}
@@ -27,9 +27,9 @@ put_keeps : (k v : Val) (ps : Pairs) → IsStorable k → IsStorable v → ArePa
 put_keeps k v no_pairs key val all = (key, val, tt)
 put_keeps k v (pair l w ps) key val all =
     by_order_keeps (lex (flat k) (flat l)) (pair k v (pair l w ps)) (pair k v ps) (pair l w (put k v ps))
-        (key, val, all)
-        (key, val, all.2)
-        (all.0, all.1, put_keeps k v ps key val all.2)
+    (key, val, all)
+    (key, val, all.2)
+    (all.0, all.1, put_keeps k v ps key val all.2)
 
 simple_storable : (s : raw.Simple) → IsStorable (simple_value s)
 simple_storable false_item = tt
@@ -39,6 +39,7 @@ simple_storable undefined_item = tt
 
 mutual
   unfolding value
+
   pub storable : (r : Raw) → IsWellFormed r → IsStorable (value r)
   storable (raw.unsigned w n) fits = omega (arith, fits, limit-le w)
   storable (raw.negative w n) fits = omega (arith, fits, limit-le w)

@@ -1,16 +1,13 @@
 -- A whole input: what the reference reader reads is spelled so, and what is spelled so it reads.
-use Rattle.std.specs.Prelude.{◌==◌}
-use Rattle.std.proofs.Common.{◌≡◌, ℕ, ◌+◌, ◌-◌, ◌^◌, ◌<◌, ◌≤◌, Bool, true, false, cond, eqb, List, [], ◌∷◌, ◌++◌, length, Result, Ok, Err, IsUtf8, refl, sym, ap, ◌∙◌, arith, inl, inr}
-use Rattle.std.specs.Str.Lossy.{utf8_valid_len}
+use Rattle.std.proofs.Common.{◌≡◌, ℕ, ◌-◌, ◌^◌, ◌<◌, cond, eqb, List, [], ◌++◌, length, Ok, Err, IsUtf8, sym, ap, ◌∙◌, arith, inl, inr}
 use Rattle.std.proofs.lemmas.Bool.{eqb-true, lt-ltb}
 use Rattle.std.proofs.lemmas.List.{append-nil, nil_from_length}
-use Rattle.cbor_model.specs.Raw.{Raw, AreBytes, EachText}
+use Rattle.cbor_model.specs.Raw.{AreBytes}
 use Rattle.cbor_model.specs.Spelling.{spell}
 use Rattle.cbor_model.specs.Acceptable.{max_depth}
 use Rattle.cbor_model.specs.Plain.{Val}
-use Rattle.cbor_model.specs.Value.{value}
 use Rattle.cbor_model.specs.Refusal.{trailing_data}
-use Rattle.cbor_model.specs.Reader.{Fault, Reads, ◌>>=◌, values_within, item_at, read_value}
+use Rattle.cbor_model.specs.Reader.{Fault, values_within, item_at, read_value}
 use Rattle.cbor_model.specs.Laws.{SpellsValue}
 use Rattle.cbor_model.proofs.Made.{made, made-value}
 use Rattle.cbor_model.proofs.Steps.{bind_ok, chosen, ok_is, not_ok}
