@@ -35,6 +35,7 @@ item_at-inside m zero bs = refl
 item_at-inside m (suc levels) bs = refl
 
 module _ {Item Items : Type 0} (m : Reading Item Items) where
+  -- past a head, the reader is at the content
   head_again : (inner : Option (List ℕ → Reads Item)) (major : ℕ) (w : HeadWidth) (n : ℕ) (rest : List ℕ) → major ≤ 4 → n < limit w → item_by m inner (head major w n ++ rest) ≡ content_at m inner major w n rest
   unfolding item_by byte_at after_first
   head_again inner major w n rest at_most fits =
@@ -79,6 +80,7 @@ module _ {Item Items : Type 0} (m : Reading Item Items) where
   mutual
     unfolding spell content_at items_by made
 
+    -- what is spelled is read, where each text has room and passes
     pub again : (r : Raw) (levels : ℕ) (rest : List ℕ) (total : ℕ) → HasRoom m total → IsSupported r → IsWellFormed r → depth r ≤ levels → EachText (Passes m) r → length (spell r ++ rest) ≤ total → item_at m levels (spell r ++ rest) ≡ Ok (made m r, rest)
     again (raw.unsigned w n) levels rest total room reads fits nests texts within = item_at-inside m levels _ ∙ head_again (inside m levels) 0 w n rest (omega arith) fits
     again (raw.negative w n) levels rest total room reads fits nests texts within = item_at-inside m levels _ ∙ head_again (inside m levels) 1 w n rest (omega arith) fits

@@ -50,6 +50,7 @@ item_again r levels rest reads fits nests =
     again raw_items r levels rest (length (spell r ++ rest)) (λ left n few within. refl) reads fits nests (EachText-from_each (Passes raw_items) (λ b. refl) r) (omega arith)
     ∙ ap (λ (i : Raw). Ok (i, rest)) (made-raw r reads)
 
+-- where two spellings begin the same bytes, they are one item's
 pub one_spelling : (r s : Raw) (x y : List ℕ) → IsSupported r → IsSupported s → IsWellFormed r → IsWellFormed s → spell r ++ x ≡ spell s ++ y → (r ≡ s) × (x ≡ y)
 one_spelling r s x y reads reads' fits fits' same =
     let levels = depth r + depth s in

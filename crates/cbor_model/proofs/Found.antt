@@ -46,16 +46,19 @@ abbrev pub FindsInside : {Item Items : Type 0} → Reading Item Items → Option
 FindsInside m None levels = Unit {0}
 FindsInside m (Some p) levels = (inside : ℕ) × (suc inside ≤ levels) × Finds m p inside
 
+-- a test by `||` that failed, part by part
 neither : (a b : Bool) → (a || b) ≡ false → (a ≡ false) × (b ≡ false)
 neither true b e = absurd cc
 neither false b e = (refl, e)
 
+-- of the six tests of a refused first byte, the two that are ranges
 fourth_and_last : (a b c d e f : Bool) → (a || b || c || d || e || f) ≡ false → (d ≡ false) × (f ≡ false)
 fourth_and_last a b c d e f none =
     let but_last = neither (a || b || c || d || e) f none in
     let front = neither (a || b || c || d) e but_last.0 in
     ((neither (a || b || c) d front.0).1, but_last.1)
 
+-- a test of a range that failed
 outside : (low high b : ℕ) → (leb low b && leb b high) ≡ false → (b < low) ⊎ (high < b)
 outside low high b e =
     elim (cases_lt b low) [
@@ -177,6 +180,7 @@ module _ {Item Items : Type 0} (m : Reading Item Items) where
   abbrev IsSpecial : ℕ → ℕ → List ℕ → Item × List ℕ → Type 0
   IsSpecial levels low bs x = IsItem m levels ((32 * 7 + low) ∷ bs) x
 
+  -- a float of one width, whose lower five bits are `this`
   one_float : (f : FloatWidth) (w : Width) (levels low this : ℕ) → IsWide w (float_limit f) → ((n : ℕ) → float_spelling f n ≡ (224 + this) ∷ to_be_bytes w n) → eqb low this ≡ true → (bs : List ℕ) (x : Item × List ℕ) → AreBytes bs → (number_at w bs >>= (λ n. Ok (m.float f n.0, n.1))) ≡ Ok x → IsSpecial levels low bs x
   unfolding spell made
   one_float f w levels low this wide spelled low_is bs x fits is =
@@ -211,6 +215,7 @@ module _ {Item Items : Type 0} (m : Reading Item Items) where
             ]
       ]
 
+  -- a simple value, whose lower five bits are `this`
   one_simple : (s : Simple) (levels low this : ℕ) → simple_byte s ≡ 224 + this → eqb low this ≡ true → (bs : List ℕ) (x : Item × List ℕ) → AreBytes bs → done (m.simple s, bs) ≡ Ok x → IsSpecial levels low bs x
   unfolding spell made
   one_simple s levels low this spelled low_is bs x fits is =
@@ -297,6 +302,7 @@ module _ {Item Items : Type 0} (m : Reading Item Items) where
   item_found inner levels finds [] x fits is = not_ok ended x is
   item_found inner levels finds (b ∷ bs) x fits is = after_first_found inner levels finds b bs x fits is
 
+  -- what the reader reads is spelled so, whatever is made of it
   pub found : (levels : ℕ) → Finds m (item_at m levels) levels
   unfolding item_at
   found zero = item_found None zero tt

@@ -53,6 +53,7 @@ refusal d = Err d
 err_is : (d e : Fault) → refusal d ≡ refusal e → d ≡ e
 err_is d e same = cc
 
+-- the same bytes are refused with the same text
 refusal_unique : (bytes bytes' text text' : List ℕ) → bytes ≡ bytes' → IsRefusalText bytes text → IsRefusalText bytes' text' → text ≡ text'
 refusal_unique bytes bytes' text text' same one other =
     let fault_same : one.fault ≡ other.fault = err_is one.fault other.fault (sym one.refused ∙ ap read_value same ∙ other.refused) in
