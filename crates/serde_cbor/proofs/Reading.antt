@@ -1,19 +1,18 @@
 -- Reading items one after the other, as a loop does.
-use Rattle.std.proofs.Common.{◌≡◌, ℕ, zero, suc, ◌-◌, ◌+◌, ◌^◌, ◌≤◌, ◌<◌, Bool, true, eqb, ltb, List, [], ◌∷◌, ◌++◌, length, Result, Ok, Err, refl, sym, ap, ◌∙◌, arith}
+use Rattle.std.proofs.Common.{◌≡◌, ℕ, zero, suc, ◌-◌, ◌+◌, ◌^◌, ◌≤◌, ◌<◌, true, eqb, ltb, List, [], ◌∷◌, ◌++◌, length, Result, Ok, Err, refl, sym, ap, ◌∙◌, arith}
 use Rattle.std.specs.Prelude.{IsUtf8}
 use Rattle.std.specs.Str.Lossy.{utf8_valid_len}
 use Rattle.std.proofs.lemmas.Bool.{eq-eqb}
 use Rattle.std.proofs.lemmas.Str.{utf8_valid_len-IsUtf8}
 use Rattle.cbor_model.specs.Head.{HeadWidth}
 use Rattle.cbor_model.specs.Plain.{Val, text, Vals, no_vals, val}
-use Rattle.cbor_model.specs.Refusal.{Refusal}
 use Rattle.cbor_model.specs.Reader.{Fault, Reads, ◌>>=◌, values_within, bytes_at, text_at, checked_text, items_by, items_at, item_at, inside}
 use Rattle.serde_cbor.specs.declared.error.ErrorCode.{ErrorCode}
 use Rattle.serde_cbor.specs.declared.error.ErrorCode.TheVariants as code
 use Rattle.serde_cbor.specs.declared.error.Error.{Error}
 use Rattle.serde_cbor.specs.Error.{code_of, offset_of}
 use Rattle.serde_cbor.specs.View.{vals_of}
-use Rattle.serde_cbor.specs.Gives.{FailsAs, FailsBy, Fails}
+use Rattle.serde_cbor.specs.Gives.{FailsBy, Fails}
 
 -- these values, and then those
 abbrev pub append : List Val → Vals → Vals

@@ -1,6 +1,7 @@
 -- What lists of values stand for.
 use Rattle.std.proofs.Common.{◌≡◌, suc, List, [], ◌∷◌, length, refl, ap, rules}
-use Rattle.std.specs.Global.{String}
+use Rattle.std.specs.Prelude.{String}
+use Rattle.std.specs.Global.{Global}
 use Rattle.std.specs.String.{string_bytes}
 use Rattle.cbor_model.specs.Plain.{text, count, pair_count}
 use Rattle.serde_cbor.specs.declared.value.Map.{Map, out-Map}
@@ -18,5 +19,5 @@ pair_count_pair_views (p ∷ ps) = ap suc (pair_count_pair_views ps)
 pub map_view_is : (m : Map) → map_view m ≡ pair_views (out-Map m).pairs.items
 map_view_is m = search (rules, the_lemmas)
 
-pub view_text : (s : String) → view (Text s) ≡ text (string_bytes s)
+pub view_text : (s : String Global) → view (Text s) ≡ text (string_bytes s)
 view_text s = search (rules, the_lemmas)

@@ -11,10 +11,10 @@ ghost use Rattle.serde_cbor.specs.Gives.{Fails, GivesWhole};
 mod source;
 mod value;
 
-use crate::error::Result;
-use crate::value::Value;
 use self::source::Source;
 use self::value::read_value;
+use crate::error::Result;
+use crate::value::Value;
 use std::alloc::Global;
 
 /// How many arrays, maps and tags may stand inside one another.

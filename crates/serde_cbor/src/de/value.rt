@@ -98,12 +98,7 @@ fn read_text(alloc: Global, source: &mut Source<'_>, low: u8, n: u64) -> Result<
 /// Reads the items of an array.
 #[cycle(read)]
 #[tactic(auto, unfolding(cbor_model::specs::Reader::items_at))]
-fn read_items(
-    alloc: Global,
-    source: &mut Source<'_>,
-    levels: u8,
-    count: u64,
-) -> Result<Vec<Value>>
+fn read_items(alloc: Global, source: &mut Source<'_>, levels: u8, count: u64) -> Result<Vec<Value>>
     ensures read { Gives (λ v. views v.items) source.old.total source.new.rest result (items_at (values_within source.old.total) (inside (values_within source.old.total) levels) count source.old.rest) }
     ensures total { source.new.total ≡ source.old.total }
 {

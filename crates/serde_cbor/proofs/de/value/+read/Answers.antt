@@ -1,4 +1,4 @@
-use Rattle.std.proofs.Common.{◌≡◌, ◌+◌, ◌-◌, ◌<◌, ◌∷◌, ◌++◌, [], map, sym, ◌∙◌, subst, arith, ℕ, Ok}
+use Rattle.std.proofs.Common.{◌≡◌, ◌-◌, ◌<◌, ◌∷◌, ◌++◌, [], map, sym, ◌∙◌, subst, arith, ℕ, Ok}
 use Rattle.std.proofs.lemmas.Result.{err_from_is_err_and}
 use Rattle.std.proofs.lemmas.List.{map_push}
 use Rattle.cbor_model.specs.Plain.{Vals}
@@ -37,4 +37,4 @@ read_items-returns-clause-read t c =
     let p = item_at (values_within end) (c.args.levels - 1) in
     let some : 0 < c.args.levels = omega arith in
     sym (opened end c.args.levels c.args.count c.args.source.now.rest some)
-        ∙ is_done end p (map view c.items.items.items) c.args.count c.items.counter c.items.source.rest (values_by end p c.args.count c.args.source.now.rest) c.items-test.false c.items.invariant.so_far
+    ∙ is_done end p (map view c.items.items.items) c.args.count c.items.counter c.items.source.rest (values_by end p c.args.count c.args.source.now.rest) c.items-test.false c.items.invariant.so_far

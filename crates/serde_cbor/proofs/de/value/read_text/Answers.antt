@@ -13,5 +13,5 @@ returns-in_ok-from_str-in-Ok-clause-read c =
     let is_text = c.in-Ok.ensures.cases in
     let after = c.take.new.self.rest in
     text_read c.args.source.now.total c.args.n (width_of c.args.low) c.args.source.now.rest c.in_ok-bytes.bytes.now after (sym c.has_room.ensures ∙ c.if-not-has_room.false) c.in_ok-bytes.ensures.read is_text.1
-        ∙ ap (λ (s : List ℕ). reads after (text s)) (sym (c.in_ok-from_str-in-Ok.ensures.ok ∙ is_text.0))
-        ∙ ap (reads after) (sym (view_text c.in_ok-from_str-in-Ok.field-0))
+    ∙ ap (λ (s : List ℕ). reads after (text s)) (sym (c.in_ok-from_str-in-Ok.ensures.ok ∙ is_text.0))
+    ∙ ap (reads after) (sym (view_text c.in_ok-from_str-in-Ok.field-0))

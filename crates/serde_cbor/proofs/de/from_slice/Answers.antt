@@ -1,0 +1,45 @@
+use Rattle.std.proofs.Common.{◌≡◌, ℕ, ◌^◌, ◌<◌, List, length, Result, Ok, Err, IfOk, MatchResult, refl, subst, arith}
+use Rattle.cbor_model.specs.Plain.{Val}
+use Rattle.cbor_model.specs.Raw.{AreBytes}
+use Rattle.cbor_model.specs.Laws.{SpellsValue}
+use Rattle.cbor_model.specs.Reader.{read_value}
+use Rattle.cbor_model.proofs.Proved.{reader_finds, reader_accepts}
+use Rattle.serde_cbor.specs.declared.value.Value.{Value}
+use Rattle.serde_cbor.specs.declared.error.ErrorCode.{ErrorCode}
+use Rattle.serde_cbor.specs.declared.error.ErrorCode.TheVariants as code
+use Rattle.serde_cbor.specs.declared.error.Error.{Error}
+use Rattle.serde_cbor.specs.Error.{code_of, offset_of, IsOutOfMemory}
+use Rattle.serde_cbor.specs.View.{view}
+use Rattle.serde_cbor.specs.Gives.{GivesWhole, FailsBy}
+use Rattle.serde_cbor.proofs.de.from_slice.Goals as goal
+
+is_found : (bs : List ℕ) (total : ℕ) (r : Result Value Error) → AreBytes bs → GivesWhole view total r (read_value bs) → IfOk r (λ v. SpellsValue bs (view v))
+is_found bs total (Ok v) fits given = reader_finds bs (view v) fits given
+is_found bs total (Err e) fits given = tt
+
+-- where reading gives a value, only memory fails
+only_memory : (k : ErrorCode) (total offset : ℕ) (v : Val) → FailsBy k total offset (Ok v) → (k ≡ code.OutOfMemory) × (offset ≡ 0)
+only_memory code.EofWhileParsingValue total offset v h = absurd cc
+only_memory code.EofWhileParsingArray total offset v h = absurd cc
+only_memory code.EofWhileParsingMap total offset v h = absurd cc
+only_memory code.LengthOutOfRange total offset v h = absurd cc
+only_memory code.InvalidUtf8 total offset v h = absurd cc
+only_memory code.UnassignedCode total offset v h = absurd cc
+only_memory code.UnexpectedCode total offset v h = absurd cc
+only_memory code.TrailingData total offset v h = absurd cc
+only_memory code.RecursionLimitExceeded total offset v h = absurd cc
+only_memory code.OutOfMemory total offset v h = (refl, h)
+only_memory _ total offset v h = absurd h
+
+is_accepted : (total : ℕ) (v : Val) (r : Result Value Error) → GivesWhole view total r (Ok v) → MatchResult r (λ x. view x ≡ v) IsOutOfMemory
+is_accepted total v (Ok x) given = cc
+is_accepted total v (Err e) given = only_memory (code_of e) total (offset_of e) v given
+
+pub returns-clause-found : goal.returns-clause-found
+returns-clause-found c = is_found c.args.slice.now (length c.args.slice.now) c.read_whole.result (λ i. omega (arith, c.type_inv.slice i)) c.read_whole.ensures
+
+pub returns-clause-accepted : goal.returns-clause-accepted
+returns-clause-accepted c = λ v spelled.
+    let bs = c.args.slice.now in
+    let short : length bs < 2 ^ 64 = omega (arith, c.type_inv) in
+    is_accepted (length bs) v c.read_whole.result (subst (λ r. GivesWhole view (length bs) c.read_whole.result r) (reader_accepts bs v short spelled) c.read_whole.ensures)
