@@ -9,6 +9,8 @@ ghost use Rattle.serde_cbor.specs.View.{view};
 ghost use Rattle.serde_cbor.specs.Gives.{Fails, GivesWhole};
 
 mod source;
+#[cfg(test)]
+mod tests;
 mod value;
 
 use self::source::Source;

@@ -1,19 +1,223 @@
 //! Writing values.
 
-ghost use Rattle.std.specs.Prelude.{◌≡◌, IfOk, IfErr};
-ghost use Rattle.cbor_model.specs.Canonical.{canon, IsStorable};
-ghost use Rattle.serde_cbor.specs.View.{view};
+ghost use Rattle.std.specs.Prelude.{◌≡◌, ◌++◌, ◌<◌, length, IfOk, IfErr, OnOk};
+ghost use Rattle.cbor_model.specs.Head.{short};
+ghost use Rattle.cbor_model.specs.Plain as plain;
+ghost use Rattle.cbor_model.specs.Plain.{Val};
+ghost use Rattle.cbor_model.specs.Spelling.{spell_all, spell_pairs};
+ghost use Rattle.cbor_model.specs.Canonical.{canon, canonical_all, canonical_pairs, IsStorable, IsStorableInteger, AreStorable, ArePairsStorable};
+ghost use Rattle.serde_cbor.specs.Error.{IsOutOfMemory};
+ghost use Rattle.serde_cbor.specs.View.{view, views, float_view, map_view, pair_views};
 ghost use Rattle.serde_cbor.specs.Written.{IsNotWritten};
 
-use crate::error::{Error, ErrorCode, Result};
-use crate::value::Value;
+use crate::error::{Error, Result};
+use crate::value::{Float, Map, Value};
 use std::alloc::Global;
 
+// The major types.
+const UNSIGNED: u8 = 0;
+const NEGATIVE: u8 = 1;
+const BYTES: u8 = 2;
+const TEXT: u8 = 3;
+const ARRAY: u8 = 4;
+const MAP: u8 = 5;
+const TAG: u8 = 6;
+
+const FALSE: u8 = 0xf4;
+const TRUE: u8 = 0xf5;
+const NULL: u8 = 0xf6;
+const HALF: u8 = 0xf9;
+const SINGLE: u8 = 0xfa;
+const DOUBLE: u8 = 0xfb;
+
 /// The canonical spelling of a value.
+///
+/// It refuses an integer outside `-2^64..=2^64-1`, at any depth.
 pub fn to_vec(alloc: Global, value: &Value) -> Result<Vec<u8>>
     ensures storable { IfOk result (λ bytes. IsStorable (view value.now)) }
     ensures written { IfOk result (λ bytes. bytes.items ≡ canon (view value.now)) }
     ensures refused { IfErr result (IsNotWritten (view value.now)) }
 {
-    Err(Error::at(ErrorCode::OutOfMemory, 0))
+    let mut bytes = Vec::new(alloc);
+    write_value(alloc, &mut bytes, value)?;
+    Ok(bytes)
+}
+
+#[cycle(write)]
+#[tactic(auto, unfolding(cbor_model::specs::Canonical::canon, cbor_model::specs::Canonical::canonical, cbor_model::specs::Spelling::spell))]
+fn write_value(alloc: Global, out: &mut Vec<u8>, value: &Value) -> Result<()>
+    ensures storable { OnOk result (IsStorable (view value.now)) }
+    ensures written { OnOk result (out.new.items ≡ out.old.items ++ canon (view value.now)) }
+    ensures refused { IfErr result (IsNotWritten (view value.now)) }
+{
+    match value {
+        Value::Null => {
+            out.push(NULL)?;
+            Ok(())
+        }
+        Value::Bool(b) => {
+            out.push(if *b { TRUE } else { FALSE })?;
+            Ok(())
+        }
+        Value::Integer(i) => {
+            write_integer(alloc, out, *i)?;
+            Ok(())
+        }
+        Value::Float(float) => {
+            write_float(out, float)?;
+            Ok(())
+        }
+        Value::Bytes(bytes) => {
+            write_string(out, BYTES, bytes)?;
+            Ok(())
+        }
+        Value::Text(text) => {
+            write_string(out, TEXT, text.as_bytes())?;
+            Ok(())
+        }
+        Value::Array(items) => {
+            write_array(alloc, out, items)?;
+            Ok(())
+        }
+        Value::Map(map) => {
+            write_map(alloc, out, map)?;
+            Ok(())
+        }
+        Value::Tag(tag, inner) => {
+            write_head(out, TAG, *tag)?;
+            write_value(alloc, out, inner)?;
+            Ok(())
+        }
+    }
+}
+
+#[cycle(write)]
+fn write_array(alloc: Global, out: &mut Vec<u8>, items: &[Value]) -> Result<()>
+    ensures storable { OnOk result (AreStorable (views items.now)) }
+    ensures written { OnOk result (out.new.items ≡ out.old.items ++ canon (plain.array (views items.now))) }
+    ensures refused { IfErr result (IsNotWritten (plain.array (views items.now))) }
+{
+    write_head(out, ARRAY, items.len() as u64)?;
+    write_items(alloc, out, items)?;
+    Ok(())
+}
+
+/// Writes values, one after the other.
+#[cycle(write)]
+fn write_items(alloc: Global, out: &mut Vec<u8>, items: &[Value]) -> Result<()>
+    ensures storable { OnOk result (AreStorable (views items.now)) }
+    ensures written { OnOk result (out.new.items ≡ out.old.items ++ spell_all (canonical_all (views items.now))) }
+    ensures refused { IfErr result (IsNotWritten (plain.array (views items.now))) }
+{
+    for item in items {
+        write_value(alloc, out, item)?;
+    }
+    Ok(())
+}
+
+#[cycle(write)]
+fn write_map(alloc: Global, out: &mut Vec<u8>, map: &Map) -> Result<()>
+    ensures storable { OnOk result (ArePairsStorable (map_view map.now)) }
+    ensures written { OnOk result (out.new.items ≡ out.old.items ++ canon (plain.map (map_view map.now))) }
+    ensures refused { IfErr result (IsNotWritten (plain.map (map_view map.now))) }
+{
+    write_head(out, MAP, map.len() as u64)?;
+    write_pairs(alloc, out, map.iter().as_slice())?;
+    Ok(())
+}
+
+/// Writes keys and values, as they are listed.
+#[cycle(write)]
+fn write_pairs(alloc: Global, out: &mut Vec<u8>, pairs: &[(Value, Value)]) -> Result<()>
+    ensures storable { OnOk result (ArePairsStorable (pair_views pairs.now)) }
+    ensures written { OnOk result (out.new.items ≡ out.old.items ++ spell_pairs (canonical_pairs (pair_views pairs.now))) }
+    ensures refused { IfErr result (IsNotWritten (plain.map (pair_views pairs.now))) }
+{
+    for pair in pairs {
+        write_value(alloc, out, &pair.0)?;
+        write_value(alloc, out, &pair.1)?;
+    }
+    Ok(())
+}
+
+#[tactic(auto, unfolding(cbor_model::specs::Canonical::canon, cbor_model::specs::Canonical::canonical, cbor_model::specs::Spelling::spell))]
+fn write_integer(alloc: Global, out: &mut Vec<u8>, i: i128) -> Result<()>
+    ensures storable { OnOk result (IsStorableInteger i) }
+    ensures written { OnOk result (out.new.items ≡ out.old.items ++ canon (plain.integer i)) }
+    ensures refused { IfErr result (IsNotWritten (plain.integer i)) }
+{
+    if let Ok(n) = u64::try_from(i) {
+        write_head(out, UNSIGNED, n)?;
+        return Ok(());
+    }
+    if let Ok(n) = u64::try_from(-1 - i) {
+        write_head(out, NEGATIVE, n)?;
+        return Ok(());
+    }
+    Err(not_storable(alloc))
+}
+
+/// What refuses a value that has an integer outside `-2^64..=2^64-1`.
+fn not_storable(alloc: Global) -> Error
+    ensures { (v : Val) → (IsStorable v → ⊥) → IsNotWritten v result }
+{
+    Error::message(alloc, "The number can't be stored in CBOR")
+}
+
+#[tactic(auto, unfolding(cbor_model::specs::Canonical::canon, cbor_model::specs::Canonical::canonical, cbor_model::specs::Spelling::spell))]
+fn write_float(out: &mut Vec<u8>, float: &Float) -> Result<()>
+    ensures written { OnOk result (out.new.items ≡ out.old.items ++ canon (float_view float.now)) }
+    ensures refused { IfErr result IsOutOfMemory }
+{
+    match float {
+        Float::Half(bits) => {
+            out.push(HALF)?;
+            out.extend_from_slice(&bits.to_be_bytes())?;
+        }
+        Float::Single(bits) => {
+            out.push(SINGLE)?;
+            out.extend_from_slice(&bits.to_be_bytes())?;
+        }
+        Float::Double(bits) => {
+            out.push(DOUBLE)?;
+            out.extend_from_slice(&bits.to_be_bytes())?;
+        }
+    }
+    Ok(())
+}
+
+/// Writes the head of a string, and then what it holds.
+fn write_string(out: &mut Vec<u8>, major: u8, content: &[u8]) -> Result<()>
+    requires { major < 8 }
+    ensures written { OnOk result (out.new.items ≡ out.old.items ++ (short major (length content.now) ++ content.now)) }
+    ensures refused { IfErr result IsOutOfMemory }
+{
+    write_head(out, major, content.len() as u64)?;
+    out.extend_from_slice(content)?;
+    Ok(())
+}
+
+/// Writes the shortest head of the major type with this number.
+fn write_head(out: &mut Vec<u8>, major: u8, n: u64) -> Result<()>
+    requires { major < 8 }
+    ensures written { OnOk result (out.new.items ≡ out.old.items ++ short major n) }
+    ensures refused { IfErr result IsOutOfMemory }
+{
+    let first = major * 32;
+    if n < 24 {
+        out.push(first + n as u8)?;
+    } else if n < 1 << 8 {
+        out.push(first + 24)?;
+        out.push(n as u8)?;
+    } else if n < 1 << 16 {
+        out.push(first + 25)?;
+        out.extend_from_slice(&(n as u16).to_be_bytes())?;
+    } else if n < 1 << 32 {
+        out.push(first + 26)?;
+        out.extend_from_slice(&(n as u32).to_be_bytes())?;
+    } else {
+        out.push(first + 27)?;
+        out.extend_from_slice(&n.to_be_bytes())?;
+    }
+    Ok(())
 }

@@ -1,0 +1,127 @@
+use super::from_slice;
+use crate::ser::to_vec;
+use crate::value::{Float, Value};
+use std::alloc::Global;
+use std::test::Fail;
+
+/// What is written of the value that is read, or the text of the refusal.
+fn written(alloc: Global, bytes: &[u8]) -> Result<Result<Vec<u8>, String>, Fail> {
+    match from_slice(alloc, bytes) {
+        Ok(value) => Ok(Ok(to_vec(alloc, &value)?)),
+        Err(e) => Ok(Err(e.to_string(alloc)?)),
+    }
+}
+
+#[test]
+fn reads_what_is_written(rt: HostRuntime) -> Result<(), Fail> {
+    for (bytes, want) in [
+        (&[0x18, 0x17][..], &[0x17][..]),
+        (&[0xf7], &[0xf6]),
+        (&[0xf4], &[0xf4]),
+        (&[0xf5], &[0xf5]),
+        (&[0x83, 1, 2, 3], &[0x83, 1, 2, 3]),
+        (&[0x39, 0x01, 0x2b], &[0x39, 0x01, 0x2b]),
+        (&[0x1a, 0, 0, 0, 24], &[0x18, 0x18]),
+        (&[0x5b, 0, 0, 0, 0, 0, 0, 0, 2, 1, 0x23], &[0x42, 1, 0x23]),
+        (&[0x62, 0xc3, 0xa9], &[0x62, 0xc3, 0xa9]),
+        (&[0x98, 0x01, 0x80], &[0x81, 0x80]),
+        (&[0xf9, 0x3c, 0x00], &[0xf9, 0x3c, 0x00]),
+        (&[0xfa, 0x7f, 0xc0, 0, 1], &[0xfa, 0x7f, 0xc0, 0, 1]),
+        (
+            &[0xfb, 0x3f, 0xf0, 0, 0, 0, 0, 0, 0],
+            &[0xfb, 0x3f, 0xf0, 0, 0, 0, 0, 0, 0],
+        ),
+        (
+            &[0x3b, 255, 255, 255, 255, 255, 255, 255, 255],
+            &[0x3b, 255, 255, 255, 255, 255, 255, 255, 255],
+        ),
+    ] {
+        let answer = written(rt.alloc(), bytes)?.ok().ok_or("a refusal")?;
+        assert_eq!(rt; answer.as_slice(), want);
+    }
+    Ok(())
+}
+
+#[test]
+fn refuses_with_the_place(rt: HostRuntime) -> Result<(), Fail> {
+    for (bytes, want) in [
+        (&[][..], "EOF while parsing a value"),
+        (
+            &[0x7b, 255, 255, 255, 255, 255, 255, 255, 255],
+            "length out of range at offset 9",
+        ),
+        (
+            &[0x5b, 255, 255, 255, 255, 255, 255, 255, 255],
+            "EOF while parsing a value at offset 9",
+        ),
+        (
+            &[0x9b, 255, 255, 255, 255, 255, 255, 255, 255],
+            "EOF while parsing a value at offset 9",
+        ),
+        (&[0x82, 0x01], "EOF while parsing a value at offset 2"),
+        (&[0x19, 0x01], "EOF while parsing a value at offset 2"),
+        (&[0x62, 0xc3, 0x28], "invalid UTF-8 at offset 1"),
+        (&[0x63, 0x61, 0x62, 0xff], "invalid UTF-8 at offset 3"),
+        (b"\xf4trailing", "trailing data at offset 2"),
+        (&[0xf8, 0x20], "unassigned type at offset 1"),
+        (&[0xbc], "unassigned type at offset 1"),
+        (&[0x1f], "unassigned type at offset 1"),
+        (&[0xff], "unexpected code at offset 1"),
+        (&[0xa0], "unexpected code at offset 1"),
+        (&[0xc1, 0x00], "unexpected code at offset 1"),
+        (&[0x81, 0xc1, 0x00], "unexpected code at offset 2"),
+    ] {
+        let answer = written(rt.alloc(), bytes)?.err().ok_or("a value")?;
+        assert_eq!(rt; answer.as_str(), want);
+    }
+    Ok(())
+}
+
+#[test]
+fn nests_127_levels(rt: HostRuntime) -> Result<(), Fail> {
+    let mut bytes = [0x81; 128];
+    bytes[127] = 0x00;
+    let answer = written(rt.alloc(), &bytes)?.ok().ok_or("a refusal")?;
+    assert_eq!(rt; answer.as_slice(), bytes.as_slice());
+    let mut deeper = [0x81; 129];
+    deeper[128] = 0x00;
+    let answer = written(rt.alloc(), &deeper)?.err().ok_or("a value")?;
+    assert_eq!(rt; answer.as_str(), "recursion limit exceeded at offset 128");
+    Ok(())
+}
+
+#[test]
+fn reads_many_items(rt: HostRuntime) -> Result<(), Fail> {
+    let mut bytes = [0xf6; 259];
+    bytes[0] = 0x99;
+    bytes[1] = 0x01;
+    bytes[2] = 0x00;
+    let answer = written(rt.alloc(), &bytes)?.ok().ok_or("a refusal")?;
+    assert_eq!(rt; answer.as_slice(), bytes.as_slice());
+    Ok(())
+}
+
+#[test]
+fn keeps_the_variants(rt: HostRuntime) -> Result<(), Fail> {
+    let alloc = rt.alloc();
+    assert!(rt; matches!(from_slice(alloc, &[0x18, 0x17])?, Value::Integer(23)));
+    assert!(rt; matches!(from_slice(alloc, &[0x20])?, Value::Integer(-1)));
+    assert!(rt; matches!(from_slice(alloc, &[0xf7])?, Value::Null));
+    assert!(rt;
+        matches!(
+            from_slice(alloc, &[0xf9, 0x3c, 0x00])?,
+            Value::Float(Float::Half(0x3c00))
+        )
+    );
+    assert!(rt;
+        matches!(
+            from_slice(alloc, &[0xfb, 0x3f, 0xf0, 0, 0, 0, 0, 0, 0])?,
+            Value::Float(Float::Double(0x3ff0000000000000))
+        )
+    );
+    assert!(rt; matches!(from_slice(alloc, &[0x61, 0x78])?, Value::Text(s) if s.as_str() == "x"));
+    assert!(rt;
+        matches!(from_slice(alloc, &[0x41, 0x78])?, Value::Bytes(b) if b.as_slice() == b"x".as_slice())
+    );
+    Ok(())
+}
