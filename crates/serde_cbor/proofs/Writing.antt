@@ -1,5 +1,5 @@
 -- Writing values one after the other.
-use Rattle.std.proofs.Common.{◌≡◌, ℕ, zero, suc, ◌+◌, ◌*◌, ◌<◌, ◌≤◌, List, [], ◌∷◌, ◌++◌, length, drop, get_or, refl, sym, ap, ◌∙◌, subst, append_assoc, arith, add-one, drop-cons}
+use Rattle.std.proofs.Common.{◌≡◌, ℕ, zero, suc, ◌+◌, ◌<◌, ◌≤◌, List, [], ◌∷◌, ◌++◌, length, drop, get_or, refl, sym, ap, ◌∙◌, subst, append_assoc, arith, add-one, drop-cons}
 use Rattle.cbor_model.specs.Head.{short}
 use Rattle.cbor_model.specs.Raw as raw
 use Rattle.cbor_model.specs.Spelling.{spell, spell_all, spell_pairs}
@@ -55,13 +55,13 @@ pub array_written : (old mid new : List ℕ) (n : ℕ) (vs : Vals) → n ≡ cou
 unfolding canon canonical spell
 array_written old mid new n vs counted first second =
     second ∙ ap (λ (m : List ℕ). m ++ spell_all (canonical_all vs)) (first ∙ ap (λ (k : ℕ). old ++ short 4 k) (counted ∙ sym (count_canonical vs)))
-        ∙ append_assoc old (short 4 (raw.count (canonical_all vs))) (spell_all (canonical_all vs))
+    ∙ append_assoc old (short 4 (raw.count (canonical_all vs))) (spell_all (canonical_all vs))
 
 pub map_written : (old mid new : List ℕ) (n : ℕ) (ps : Pairs) → n ≡ pair_count ps → mid ≡ old ++ short 5 n → new ≡ mid ++ spell_pairs (canonical_pairs ps) → new ≡ old ++ canon (map ps)
 unfolding canon canonical spell
 map_written old mid new n ps counted first second =
     second ∙ ap (λ (m : List ℕ). m ++ spell_pairs (canonical_pairs ps)) (first ∙ ap (λ (k : ℕ). old ++ short 5 k) (counted ∙ sym (pair_count_canonical ps)))
-        ∙ append_assoc old (short 5 (raw.pair_count (canonical_pairs ps))) (spell_pairs (canonical_pairs ps))
+    ∙ append_assoc old (short 5 (raw.pair_count (canonical_pairs ps))) (spell_pairs (canonical_pairs ps))
 
 pub tag_written : (old mid new : List ℕ) (n : ℕ) (v : Val) → mid ≡ old ++ short 6 n → new ≡ mid ++ canon v → new ≡ old ++ canon (tag n v)
 unfolding canon canonical spell
@@ -86,7 +86,7 @@ unfolding canon canonical spell
 item_written vs i v out new lt is written =
     let rest = spell_all (canonical_all (views (drop (i + 1) vs))) in
     ap (λ (l : List ℕ). l ++ rest) written ∙ append_assoc out (canon (view v)) rest
-        ∙ ap (λ (xs : List Value). out ++ spell_all (canonical_all (views xs))) (sym (cons_at vs i v lt is))
+    ∙ ap (λ (xs : List Value). out ++ spell_all (canonical_all (views xs))) (sym (cons_at vs i v lt is))
 
 pub pair_storable_at : (ps : List (Value × Value)) (i : ℕ) (p : Value × Value) → i < length ps → p ≡ get_or ps i p → ArePairsStorable (pair_views ps) → IsStorable (view p.0) × IsStorable (view p.1)
 pair_storable_at [] i p lt is all = absurd (omega arith)
@@ -104,8 +104,8 @@ unfolding canon canonical spell
 pair_written ps i p out mid new lt is first second =
     let rest = spell_pairs (canonical_pairs (pair_views (drop (i + 1) ps))) in
     ap (λ (l : List ℕ). l ++ rest) second ∙ append_assoc mid (canon (view p.1)) rest
-        ∙ ap (λ (l : List ℕ). l ++ (canon (view p.1) ++ rest)) first ∙ append_assoc out (canon (view p.0)) (canon (view p.1) ++ rest)
-        ∙ ap (λ (xs : List (Value × Value)). out ++ spell_pairs (canonical_pairs (pair_views xs))) (sym (cons_at ps i p lt is))
+    ∙ ap (λ (l : List ℕ). l ++ (canon (view p.1) ++ rest)) first ∙ append_assoc out (canon (view p.0)) (canon (view p.1) ++ rest)
+    ∙ ap (λ (xs : List (Value × Value)). out ++ spell_pairs (canonical_pairs (pair_views xs))) (sym (cons_at ps i p lt is))
 
 -- ---- refusals
 

@@ -16,18 +16,29 @@ use std::alloc::Global;
 
 // The major types.
 const UNSIGNED: u8 = 0;
+
 const NEGATIVE: u8 = 1;
+
 const BYTES: u8 = 2;
+
 const TEXT: u8 = 3;
+
 const ARRAY: u8 = 4;
+
 const MAP: u8 = 5;
+
 const TAG: u8 = 6;
 
 const FALSE: u8 = 0xf4;
+
 const TRUE: u8 = 0xf5;
+
 const NULL: u8 = 0xf6;
+
 const HALF: u8 = 0xf9;
+
 const SINGLE: u8 = 0xfa;
+
 const DOUBLE: u8 = 0xfb;
 
 /// The canonical spelling of a value.
@@ -221,3 +232,6 @@ fn write_head(out: &mut Vec<u8>, major: u8, n: u64) -> Result<()>
     }
     Ok(())
 }
+
+#[cfg(test)]
+mod tests;

@@ -1,4 +1,4 @@
-use Rattle.std.proofs.Common.{◌<◌, ℤ, pos, negsuc, ◌-ℤ◌, FitsSigned, arith, rules}
+use Rattle.std.proofs.Common.{ℤ, pos, negsuc, ◌-ℤ◌, FitsSigned, arith, rules}
 use Rattle.std.specs.Int.{w64, w128, FitsUnsigned}
 use Rattle.std.proofs.lemmas.Int.{ints, to_z-of_z}
 use Rattle.cbor_model.specs.Plain.{integer}
@@ -18,4 +18,4 @@ returns-clause-refused c =
     let fits = c.ranges.i in
     let mirrored = mirrored_fits c.args.i fits in
     c.not_storable.ensures (integer c.args.i)
-        (outside c.args.i (simp to_z-of_z at c.in_default.ensures) (simp to_z-of_z at c.in_default-try_from.ensures))
+    (outside c.args.i (simp to_z-of_z at c.in_default.ensures) (simp to_z-of_z at c.in_default-try_from.ensures))
