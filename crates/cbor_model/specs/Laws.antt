@@ -1,20 +1,21 @@
 -- The laws, each of which is the contract of a public function.
-use Rattle.std.specs.Prelude.{◌≡◌, ℕ, ◌^◌, ◌<◌, List, length, Ok}
+use Rattle.std.specs.Prelude.{◌≡◌, ℕ, ◌^◌, ◌<◌, List, [], ◌++◌, length, Ok}
 use Rattle.cbor_model.specs.Raw.{Raw, AreBytes, IsWellFormed}
 use Rattle.cbor_model.specs.Spelling.{spell}
-use Rattle.cbor_model.specs.Acceptable.{IsAcceptable}
+use Rattle.cbor_model.specs.Acceptable.{IsAcceptable, IsAcceptableWithin}
 use Rattle.cbor_model.specs.Plain.{Val}
 use Rattle.cbor_model.specs.Value.{value}
-use Rattle.cbor_model.specs.Canonical.{IsStorable}
-use Rattle.cbor_model.specs.Supported.{IsSupported}
+use Rattle.cbor_model.specs.Canonical.{IsStorable, IsOrdered, canonical}
+use Rattle.cbor_model.specs.Order.{flat}
+use Rattle.cbor_model.specs.FiniteMap.{val_cmp}
+use Rattle.std.specs.Cmp.{IsTotalOrder}
 use Rattle.cbor_model.specs.Reader.{read_value}
 use Rattle.cbor_model.specs.Program.{IsAnswer}
 
--- the bytes spell one acceptable item that is read, and v is its value
+-- the bytes spell one acceptable item, and v is its value
 pub record SpellsValue (bytes : List ℕ) (v : Val) : Type 0 where
   pub item : Raw
   pub acceptable : IsAcceptable item
-  pub supported : IsSupported item
   pub spelled : spell item ≡ bytes
   pub valued : v ≡ value item
 
@@ -26,6 +27,10 @@ ReaderFinds = (bytes : List ℕ) (v : Val) → AreBytes bytes → read_value byt
 abbrev pub ReaderAccepts : Type 0
 ReaderAccepts = (bytes : List ℕ) (v : Val) → length bytes < 2 ^ 64 → SpellsValue bytes v → read_value bytes ≡ Ok v
 
+-- No well-formed item's spelling begins another's, and equal spellings are equal items.
+abbrev pub OneSpelling : Type 0
+OneSpelling = (r s : Raw) (more : List ℕ) → IsWellFormed r → IsWellFormed s → spell r ++ more ≡ spell s → (r ≡ s) × (more ≡ [])
+
 -- The value of a well-formed item is storable.
 abbrev pub ValueIsStorable : Type 0
 ValueIsStorable = (r : Raw) → IsWellFormed r → IsStorable (value r)
@@ -33,3 +38,21 @@ ValueIsStorable = (r : Raw) → IsWellFormed r → IsStorable (value r)
 -- A line has no two answers.
 abbrev pub OneAnswer : Type 0
 OneAnswer = (line a b : List ℕ) → IsAnswer line a → IsAnswer line b → a ≡ b
+
+-- The value of an acceptable item, of which the bytes are fewer than 2^64, is storable and ordered,
+-- and its canonical item is acceptable.
+abbrev pub ValueIsCanonical : Type 0
+ValueIsCanonical = (levels : ℕ) (r : Raw) → IsAcceptableWithin levels r → length (spell r) < 2 ^ 64
+    → IsStorable (value r) × IsOrdered (value r) × IsAcceptableWithin levels (canonical (value r))
+
+-- The canonical item of an ordered value has that value.
+abbrev pub CanonicalReadsBack : Type 0
+CanonicalReadsBack = (v : Val) → IsOrdered v → value (canonical v) ≡ v
+
+-- The order of values is total.
+abbrev pub OrderIsTotal : Type 0
+OrderIsTotal = IsTotalOrder val_cmp
+
+-- Values with equal lists are equal.
+abbrev pub OneFlat : Type 0
+OneFlat = (a b : Val) → flat a ≡ flat b → a ≡ b

@@ -6,8 +6,8 @@ pub mod Plain
 pub mod Order
 pub mod Value
 pub mod Canonical
+pub mod FiniteMap
 pub mod Refusal
-pub mod Supported
 pub mod Reader
 pub mod Program
 pub mod Laws

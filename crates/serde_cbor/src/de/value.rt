@@ -1,47 +1,46 @@
 //! The item at the front of a source, as a value.
 
-ghost use Rattle.std.specs.Prelude.{◌≡◌, ◌/◌, ◌%◌};
-ghost use Rattle.cbor_model.specs.Reader.{values_within, inside, is_unsupported, width_of, float_at, simple_at, string_at, text_at, checked_text, items_at, array_at, content_at, after_first, item_at};
-ghost use Rattle.serde_cbor.specs.View.{view, views, float_view};
-ghost use Rattle.serde_cbor.specs.Gives.{Gives};
+ghost use Rattle.std.specs.Prelude.{◌≡◌, ◌+◌, ◌<◌, ◌≤◌, length, IfOk, OnOk};
+ghost use Rattle.cbor_model.specs.Reader.{values_within, inside, width_of, float_at, simple_at, text_at, items_by, open_items_by, pairs_by, open_pairs_by, array_at, open_array_at, map_at, open_map_at, tag_at, content_at, open_at, string_chunks_at, text_chunks_at, chunks_at, after_first, item_at};
+ghost use Rattle.serde_cbor.specs.View.{view, views, float_view, map_view};
+ghost use Rattle.serde_cbor.specs.Gives.{Gives, total, joined_of, made_of};
 
-use super::source::Source;
+use super::source::{BREAK, Open, Source};
 use crate::error::{ErrorCode, Result};
-use crate::value::{Float, Value};
+use crate::value::{Float, Map, Value};
 use std::alloc::Global;
+
+// The major types of the chunks of a string.
+const BYTES: u8 = 2;
+const TEXT: u8 = 3;
 
 /// Reads an item, where so many levels are left.
 #[cycle(read)]
 #[tactic(auto, unfolding(cbor_model::specs::Reader::item_at, cbor_model::specs::Reader::item_by))]
 pub fn read_value(alloc: Global, source: &mut Source<'_>, levels: u8) -> Result<Value>
-    ensures read { Gives view source.old.total source.new.rest result (item_at (values_within source.old.total) levels source.old.rest) }
-    ensures total { source.new.total ≡ source.old.total }
+    ensures read { Gives view (total source.old) source.new.rest result (item_at (values_within (total source.old)) levels source.old.rest) }
+    ensures taken { OnOk result (source.old.at < source.new.at) }
+    ensures total { total source.new ≡ total source.old }
 {
     let first = source.byte()?;
     read_after(alloc, source, levels, first)
-}
-
-/// Whether this is the first byte of a map, a tag, an open form or a chunked string.
-fn is_unsupported(first: u8) -> bool
-    ensures { result ≡ is_unsupported first }
-{
-    matches!(first, 0x5f | 0x7f | 0x9f | 0xa0..=0xbb | 0xbf | 0xc0..=0xdb)
 }
 
 /// Reads what follows the first byte.
 #[cycle(read)]
 #[tactic(auto, unfolding(cbor_model::specs::Reader::after_first))]
 fn read_after(alloc: Global, source: &mut Source<'_>, levels: u8, first: u8) -> Result<Value>
-    ensures read { Gives view source.old.total source.new.rest result (after_first (values_within source.old.total) (inside (values_within source.old.total) levels) first source.old.rest) }
-    ensures total { source.new.total ≡ source.old.total }
+    ensures read { Gives view (total source.old) source.new.rest result (after_first (values_within (total source.old)) (inside (values_within (total source.old)) levels) first source.old.rest) }
+    ensures forward { OnOk result (source.old.at ≤ source.new.at) }
+    ensures total { total source.new ≡ total source.old }
 {
-    if is_unsupported(first) {
-        return Err(source.fault(ErrorCode::UnexpectedCode));
-    }
     let major = first / 32;
     let low = first % 32;
     if major == 7 {
         return read_simple(source, low);
+    }
+    if low == 31 {
+        return read_open(alloc, source, levels, major);
     }
     let n = source.number(low)?;
     read_content(alloc, source, levels, major, low, n)
@@ -49,7 +48,7 @@ fn read_after(alloc: Global, source: &mut Source<'_>, levels: u8, first: u8) -> 
 
 /// Reads what follows a head.
 #[cycle(read)]
-#[tactic(auto, unfolding(cbor_model::specs::Reader::content_at, cbor_model::specs::Reader::string_at, cbor_model::specs::Reader::array_at))]
+#[tactic(auto, unfolding(cbor_model::specs::Reader::content_at, cbor_model::specs::Reader::string_at))]
 fn read_content(
     alloc: Global,
     source: &mut Source<'_>,
@@ -58,8 +57,9 @@ fn read_content(
     low: u8,
     n: u64,
 ) -> Result<Value>
-    ensures read { Gives view source.old.total source.new.rest result (content_at (values_within source.old.total) (inside (values_within source.old.total) levels) major (width_of low) n source.old.rest) }
-    ensures total { source.new.total ≡ source.old.total }
+    ensures read { Gives view (total source.old) source.new.rest result (content_at (values_within (total source.old)) (inside (values_within (total source.old)) levels) major (width_of low) n source.old.rest) }
+    ensures forward { OnOk result (source.old.at ≤ source.new.at) }
+    ensures total { total source.new ≡ total source.old }
 {
     match major {
         0 => Ok(Value::Integer(n as i128)),
@@ -68,22 +68,36 @@ fn read_content(
             let bytes = source.take(n)?;
             Ok(Value::Bytes(Vec::from_slice(alloc, bytes)?))
         }
-        3 => {
-            let text = read_text(alloc, source, low, n)?;
-            Ok(text)
-        }
-        _ => {
-            let items = read_items(alloc, source, levels, n)?;
-            Ok(Value::Array(items))
-        }
+        3 => read_text(alloc, source, low, n),
+        4 => read_array(alloc, source, levels, low, n),
+        5 => read_map(alloc, source, levels, low, n),
+        _ => read_tag(alloc, source, levels, low, n),
+    }
+}
+
+/// Reads what follows the first byte of an open form or of a chunked string.
+#[cycle(read)]
+#[tactic(auto, unfolding(cbor_model::specs::Reader::open_at))]
+fn read_open(alloc: Global, source: &mut Source<'_>, levels: u8, major: u8) -> Result<Value>
+    ensures read { Gives view (total source.old) source.new.rest result (open_at (values_within (total source.old)) (inside (values_within (total source.old)) levels) major source.old.rest) }
+    ensures forward { OnOk result (source.old.at ≤ source.new.at) }
+    ensures total { total source.new ≡ total source.old }
+{
+    match major {
+        2 => read_byte_chunks(alloc, source),
+        3 => read_text_chunks(alloc, source),
+        4 => read_open_array(alloc, source, levels),
+        5 => read_open_map(alloc, source, levels),
+        _ => Err(source.fault(ErrorCode::UnassignedCode)),
     }
 }
 
 /// Reads a text of n bytes.
 #[tactic(auto, unfolding(cbor_model::specs::Reader::text_at, cbor_model::specs::Reader::checked_text))]
 fn read_text(alloc: Global, source: &mut Source<'_>, low: u8, n: u64) -> Result<Value>
-    ensures read { Gives view source.old.total source.new.rest result (text_at (values_within source.old.total) (width_of low) n source.old.rest) }
-    ensures total { source.new.total ≡ source.old.total }
+    ensures read { Gives view (total source.old) source.new.rest result (text_at (values_within (total source.old)) (width_of low) n source.old.rest) }
+    ensures forward { OnOk result (source.old.at ≤ source.new.at) }
+    ensures total { total source.new ≡ total source.old }
 {
     if !source.has_room(n) {
         return Err(source.fault(ErrorCode::LengthOutOfRange));
@@ -95,29 +109,185 @@ fn read_text(alloc: Global, source: &mut Source<'_>, low: u8, n: u64) -> Result<
     }
 }
 
-/// Reads the items of an array.
-#[cycle(read)]
-#[tactic(auto, unfolding(cbor_model::specs::Reader::items_at))]
-fn read_items(alloc: Global, source: &mut Source<'_>, levels: u8, count: u64) -> Result<Vec<Value>>
-    ensures read { Gives (λ v. views v.items) source.old.total source.new.rest result (items_at (values_within source.old.total) (inside (values_within source.old.total) levels) count source.old.rest) }
-    ensures total { source.new.total ≡ source.old.total }
+/// Reads a byte string in chunks.
+#[tactic(auto, unfolding(cbor_model::specs::Reader::string_chunks_at))]
+fn read_byte_chunks(alloc: Global, source: &mut Source<'_>) -> Result<Value>
+    ensures read { Gives view (total source.old) source.new.rest result (string_chunks_at (values_within (total source.old)) source.old.rest) }
+    ensures forward { OnOk result (source.old.at ≤ source.new.at) }
+    ensures total { total source.new ≡ total source.old }
 {
-    if levels == 0 {
-        return Err(source.fault(ErrorCode::RecursionLimitExceeded));
+    let joined = read_chunks(alloc, source, BYTES)?;
+    Ok(Value::Bytes(joined))
+}
+
+/// Reads a text in chunks.
+#[tactic(auto, unfolding(cbor_model::specs::Reader::text_chunks_at, cbor_model::specs::Reader::checked_text))]
+fn read_text_chunks(alloc: Global, source: &mut Source<'_>) -> Result<Value>
+    ensures read { Gives view (total source.old) source.new.rest result (text_chunks_at (values_within (total source.old)) source.old.rest) }
+    ensures forward { OnOk result (source.old.at ≤ source.new.at) }
+    ensures total { total source.new ≡ total source.old }
+{
+    let joined = read_chunks(alloc, source, TEXT)?;
+    let len = joined.len();
+    match String::from_utf8(joined) {
+        Ok(text) => Ok(Value::Text(text)),
+        Err(e) => {
+            let valid = e.utf8_error().valid_up_to();
+            Err(source.fault_back(ErrorCode::InvalidUtf8, len - valid))
+        }
     }
+}
+
+/// Reads chunks of the major type up to the break, and joins them.
+fn read_chunks(alloc: Global, source: &mut Source<'_>, major: u8) -> Result<Vec<u8>>
+    ensures read { Gives (λ v. v.items) (total source.old) source.new.rest result (joined_of (chunks_at major source.old.rest)) }
+    ensures taken { IfOk result (λ v. source.old.at + length v.items ≤ source.new.at) }
+    ensures total { total source.new ≡ total source.old }
+{
+    let mut joined = Vec::new(alloc);
+    'chunks: loop {
+        let first = source.byte()?;
+        if first == BREAK {
+            return Ok(joined);
+        }
+        let chunk = source.chunk(major, first)?;
+        joined.extend_from_slice(chunk)?;
+    }
+}
+
+/// Reads an array behind its head.
+#[cycle(read)]
+#[tactic(auto, unfolding(cbor_model::specs::Reader::array_at))]
+fn read_array(alloc: Global, source: &mut Source<'_>, levels: u8, low: u8, n: u64) -> Result<Value>
+    ensures read { Gives view (total source.old) source.new.rest result (array_at (values_within (total source.old)) (inside (values_within (total source.old)) levels) (width_of low) n source.old.rest) }
+    ensures forward { OnOk result (source.old.at ≤ source.new.at) }
+    ensures total { total source.new ≡ total source.old }
+{
+    let inner = source.enter(levels)?;
+    let items = read_items(alloc, source, inner, n)?;
+    Ok(Value::Array(items))
+}
+
+/// Reads n items, where so many levels are left.
+#[cycle(read)]
+fn read_items(alloc: Global, source: &mut Source<'_>, levels: u8, n: u64) -> Result<Vec<Value>>
+    ensures read { Gives (λ v. views v.items) (total source.old) source.new.rest result (items_by (values_within (total source.old)) (item_at (values_within (total source.old)) levels) n source.old.rest) }
+    ensures forward { OnOk result (source.old.at ≤ source.new.at) }
+    ensures total { total source.new ≡ total source.old }
+{
     let mut items = Vec::new(alloc);
-    'items: for _ in 0..count {
-        let item = read_value(alloc, source, levels - 1)?;
+    'items: for _ in 0..n {
+        let item = read_value(alloc, source, levels)?;
         items.push(item)?;
     }
     Ok(items)
 }
 
+/// Reads an open array behind its first byte.
+#[cycle(read)]
+#[tactic(auto, unfolding(cbor_model::specs::Reader::open_array_at))]
+fn read_open_array(alloc: Global, source: &mut Source<'_>, levels: u8) -> Result<Value>
+    ensures read { Gives view (total source.old) source.new.rest result (open_array_at (values_within (total source.old)) (inside (values_within (total source.old)) levels) source.old.rest) }
+    ensures forward { OnOk result (source.old.at ≤ source.new.at) }
+    ensures total { total source.new ≡ total source.old }
+{
+    let inner = source.enter(levels)?;
+    let items = read_open_items(alloc, source, inner)?;
+    Ok(Value::Array(items))
+}
+
+/// Reads items up to the break, where so many levels are left.
+#[cycle(read)]
+fn read_open_items(alloc: Global, source: &mut Source<'_>, levels: u8) -> Result<Vec<Value>>
+    ensures read { Gives (λ v. views v.items) (total source.old) source.new.rest result (open_items_by (values_within (total source.old)) (item_at (values_within (total source.old)) levels) (length source.old.rest + 1) source.old.rest) }
+    ensures forward { OnOk result (source.old.at ≤ source.new.at) }
+    ensures total { total source.new ≡ total source.old }
+{
+    let mut items = Vec::new(alloc);
+    'items: while source.more(Open::Array)? {
+        let item = read_value(alloc, source, levels)?;
+        items.push(item)?;
+    }
+    Ok(items)
+}
+
+/// Reads a map behind its head.
+#[cycle(read)]
+#[tactic(auto, unfolding(cbor_model::specs::Reader::map_at))]
+fn read_map(alloc: Global, source: &mut Source<'_>, levels: u8, low: u8, n: u64) -> Result<Value>
+    ensures read { Gives view (total source.old) source.new.rest result (map_at (values_within (total source.old)) (inside (values_within (total source.old)) levels) (width_of low) n source.old.rest) }
+    ensures forward { OnOk result (source.old.at ≤ source.new.at) }
+    ensures total { total source.new ≡ total source.old }
+{
+    let inner = source.enter(levels)?;
+    let map = read_pairs(alloc, source, inner, n)?;
+    Ok(Value::Map(map))
+}
+
+/// Reads n pairs, where so many levels are left.
+#[cycle(read)]
+fn read_pairs(alloc: Global, source: &mut Source<'_>, levels: u8, n: u64) -> Result<Map>
+    ensures read { Gives map_view (total source.old) source.new.rest result (made_of (pairs_by (values_within (total source.old)) (item_at (values_within (total source.old)) levels) n source.old.rest)) }
+    ensures forward { OnOk result (source.old.at ≤ source.new.at) }
+    ensures total { total source.new ≡ total source.old }
+{
+    let mut map = Map::new(alloc);
+    'pairs: for _ in 0..n {
+        let key = read_value(alloc, source, levels)?;
+        let value = read_value(alloc, source, levels)?;
+        let _ = map.insert(key, value)?;
+    }
+    Ok(map)
+}
+
+/// Reads an open map behind its first byte.
+#[cycle(read)]
+#[tactic(auto, unfolding(cbor_model::specs::Reader::open_map_at))]
+fn read_open_map(alloc: Global, source: &mut Source<'_>, levels: u8) -> Result<Value>
+    ensures read { Gives view (total source.old) source.new.rest result (open_map_at (values_within (total source.old)) (inside (values_within (total source.old)) levels) source.old.rest) }
+    ensures forward { OnOk result (source.old.at ≤ source.new.at) }
+    ensures total { total source.new ≡ total source.old }
+{
+    let inner = source.enter(levels)?;
+    let map = read_open_pairs(alloc, source, inner)?;
+    Ok(Value::Map(map))
+}
+
+/// Reads pairs up to the break, where so many levels are left.
+#[cycle(read)]
+fn read_open_pairs(alloc: Global, source: &mut Source<'_>, levels: u8) -> Result<Map>
+    ensures read { Gives map_view (total source.old) source.new.rest result (made_of (open_pairs_by (values_within (total source.old)) (item_at (values_within (total source.old)) levels) (length source.old.rest + 1) source.old.rest)) }
+    ensures forward { OnOk result (source.old.at ≤ source.new.at) }
+    ensures total { total source.new ≡ total source.old }
+{
+    let mut map = Map::new(alloc);
+    'pairs: while source.more(Open::Map)? {
+        let key = read_value(alloc, source, levels)?;
+        let value = read_value(alloc, source, levels)?;
+        let _ = map.insert(key, value)?;
+    }
+    Ok(map)
+}
+
+/// Reads a tagged item behind the tag's head.
+#[cycle(read)]
+#[tactic(auto, unfolding(cbor_model::specs::Reader::tag_at))]
+fn read_tag(alloc: Global, source: &mut Source<'_>, levels: u8, low: u8, tag: u64) -> Result<Value>
+    ensures read { Gives view (total source.old) source.new.rest result (tag_at (values_within (total source.old)) (inside (values_within (total source.old)) levels) (width_of low) tag source.old.rest) }
+    ensures forward { OnOk result (source.old.at ≤ source.new.at) }
+    ensures total { total source.new ≡ total source.old }
+{
+    let inner = source.enter(levels)?;
+    let value = read_value(alloc, source, inner)?;
+    Ok(Value::Tag(tag, Box::new(alloc, value)?))
+}
+
 /// Reads what follows a first byte of major type 7.
 #[tactic(auto, unfolding(cbor_model::specs::Reader::simple_at))]
 fn read_simple(source: &mut Source<'_>, low: u8) -> Result<Value>
-    ensures read { Gives view source.old.total source.new.rest result (simple_at (values_within source.old.total) low source.old.rest) }
-    ensures total { source.new.total ≡ source.old.total }
+    ensures read { Gives view (total source.old) source.new.rest result (simple_at (values_within (total source.old)) low source.old.rest) }
+    ensures forward { OnOk result (source.old.at ≤ source.new.at) }
+    ensures total { total source.new ≡ total source.old }
 {
     match low {
         20 => Ok(Value::Bool(false)),
@@ -133,8 +303,9 @@ fn read_simple(source: &mut Source<'_>, low: u8) -> Result<Value>
 /// Reads the bits of a float.
 #[tactic(auto, unfolding(cbor_model::specs::Reader::float_at))]
 fn read_float(source: &mut Source<'_>, low: u8) -> Result<Float>
-    ensures read { Gives float_view source.old.total source.new.rest result (float_at (values_within source.old.total) low source.old.rest) }
-    ensures total { source.new.total ≡ source.old.total }
+    ensures read { Gives float_view (total source.old) source.new.rest result (float_at (values_within (total source.old)) low source.old.rest) }
+    ensures forward { OnOk result (source.old.at ≤ source.new.at) }
+    ensures total { total source.new ≡ total source.old }
 {
     match low {
         25 => Ok(Float::Half(source.u16()?)),
