@@ -1,3 +1,5 @@
+pub mod Chunks
 pub mod Reading
+pub mod ReadingPairs
 pub mod Views
 pub mod Writing

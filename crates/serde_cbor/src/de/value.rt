@@ -1,7 +1,10 @@
 //! The item at the front of a source, as a value.
 
-ghost use Rattle.std.specs.Prelude.{◌≡◌, ◌+◌, ◌<◌, ◌≤◌, length, IfOk, OnOk};
+ghost use Rattle.std.specs.Prelude.{◌≡◌, ◌+◌, ◌<◌, ◌≤◌, suc, length, IfOk, IfErr, OnOk};
 ghost use Rattle.cbor_model.specs.Reader.{values_within, inside, width_of, float_at, simple_at, text_at, items_by, open_items_by, pairs_by, open_pairs_by, array_at, open_array_at, map_at, open_map_at, tag_at, content_at, open_at, string_chunks_at, text_chunks_at, chunks_at, after_first, item_at};
+ghost use Rattle.cbor_model.specs.Canonical.{KeysAscend};
+ghost use Rattle.cbor_model.specs.Value.{put};
+ghost use Rattle.serde_cbor.specs.Error.{IsOutOfMemory};
 ghost use Rattle.serde_cbor.specs.View.{view, views, float_view, map_view};
 ghost use Rattle.serde_cbor.specs.Gives.{Gives, total, joined_of, made_of};
 
@@ -199,7 +202,7 @@ fn read_open_array(alloc: Global, source: &mut Source<'_>, levels: u8) -> Result
 /// Reads items up to the break, where so many levels are left.
 #[cycle(read)]
 fn read_open_items(alloc: Global, source: &mut Source<'_>, levels: u8) -> Result<Vec<Value>>
-    ensures read { Gives (λ v. views v.items) (total source.old) source.new.rest result (open_items_by (values_within (total source.old)) (item_at (values_within (total source.old)) levels) (length source.old.rest + 1) source.old.rest) }
+    ensures read { Gives (λ v. views v.items) (total source.old) source.new.rest result (open_items_by (values_within (total source.old)) (item_at (values_within (total source.old)) levels) (suc (length source.old.rest)) source.old.rest) }
     ensures forward { OnOk result (source.old.at ≤ source.new.at) }
     ensures total { total source.new ≡ total source.old }
 {
@@ -235,9 +238,19 @@ fn read_pairs(alloc: Global, source: &mut Source<'_>, levels: u8, n: u64) -> Res
     'pairs: for _ in 0..n {
         let key = read_value(alloc, source, levels)?;
         let value = read_value(alloc, source, levels)?;
-        let _ = map.insert(key, value)?;
+        put(&mut map, key, value)?;
     }
     Ok(map)
+}
+
+/// Puts a pair into a map, in the place of one that has its key.
+fn put(map: &mut Map, key: Value, value: Value) -> Result<()>
+    ensures listed { OnOk result (KeysAscend (map_view map.old) → map_view map.new ≡ put (view key) (view value) (map_view map.old)) }
+    ensures ascending { KeysAscend (map_view map.old) → KeysAscend (map_view map.new) }
+    ensures memory { IfErr result IsOutOfMemory }
+{
+    let _ = map.insert(key, value)?;
+    Ok(())
 }
 
 /// Reads an open map behind its first byte.
@@ -256,7 +269,7 @@ fn read_open_map(alloc: Global, source: &mut Source<'_>, levels: u8) -> Result<V
 /// Reads pairs up to the break, where so many levels are left.
 #[cycle(read)]
 fn read_open_pairs(alloc: Global, source: &mut Source<'_>, levels: u8) -> Result<Map>
-    ensures read { Gives map_view (total source.old) source.new.rest result (made_of (open_pairs_by (values_within (total source.old)) (item_at (values_within (total source.old)) levels) (length source.old.rest + 1) source.old.rest)) }
+    ensures read { Gives map_view (total source.old) source.new.rest result (made_of (open_pairs_by (values_within (total source.old)) (item_at (values_within (total source.old)) levels) (suc (length source.old.rest)) source.old.rest)) }
     ensures forward { OnOk result (source.old.at ≤ source.new.at) }
     ensures total { total source.new ≡ total source.old }
 {
@@ -264,7 +277,7 @@ fn read_open_pairs(alloc: Global, source: &mut Source<'_>, levels: u8) -> Result
     'pairs: while source.more(Open::Map)? {
         let key = read_value(alloc, source, levels)?;
         let value = read_value(alloc, source, levels)?;
-        let _ = map.insert(key, value)?;
+        put(&mut map, key, value)?;
     }
     Ok(map)
 }

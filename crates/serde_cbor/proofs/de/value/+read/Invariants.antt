@@ -1,26 +1,92 @@
-use Rattle.std.proofs.Common.{◌≡◌, ◌+◌, ◌-◌, ◌*◌, map}
-use Rattle.cbor_model.specs.Reader.{values_within, item_at}
-use Rattle.serde_cbor.specs.View.{view}
-use Rattle.serde_cbor.proofs.Reading.{with_front, values_by}
+use Rattle.std.proofs.Common.{◌≡◌, ◌+◌, ◌-◌, ◌*◌, ◌≤◌, length, map}
+use Rattle.cbor_model.specs.Canonical.{KeysAscend}
+use Rattle.cbor_model.specs.Plain.{no_pairs}
+use Rattle.serde_cbor.specs.View.{view, map_view}
+use Rattle.serde_cbor.specs.Gives.{total}
+use Rattle.serde_cbor.proofs.Reading.{with_front, values_at, open_values_at}
+use Rattle.serde_cbor.proofs.ReadingPairs.{with_earlier, pairs_at, open_pairs_at}
 use Rattle.serde_cbor.proofs.de.value.+read.Given as goal
 
+-- each call goes to one lower in this list, or to one level less
 abbrev pub decreases-read_value : goal.decreases-read_value
-decreases-read_value l = 4 * l.levels + 3
+decreases-read_value l = 8 * l.levels + 7
 
 abbrev pub decreases-read_after : goal.decreases-read_after
-decreases-read_after l = 4 * l.levels + 2
+decreases-read_after l = 8 * l.levels + 6
 
 abbrev pub decreases-read_content : goal.decreases-read_content
-decreases-read_content l = 4 * l.levels + 1
+decreases-read_content l = 8 * l.levels + 5
+
+abbrev pub decreases-read_open : goal.decreases-read_open
+decreases-read_open l = 8 * l.levels + 5
+
+abbrev pub decreases-read_array : goal.decreases-read_array
+decreases-read_array l = 8 * l.levels + 4
+
+abbrev pub decreases-read_open_array : goal.decreases-read_open_array
+decreases-read_open_array l = 8 * l.levels + 4
+
+abbrev pub decreases-read_map : goal.decreases-read_map
+decreases-read_map l = 8 * l.levels + 4
+
+abbrev pub decreases-read_open_map : goal.decreases-read_open_map
+decreases-read_open_map l = 8 * l.levels + 4
+
+abbrev pub decreases-read_tag : goal.decreases-read_tag
+decreases-read_tag l = 8 * l.levels + 4
 
 abbrev pub decreases-read_items : goal.decreases-read_items
-decreases-read_items l = 4 * l.levels
+decreases-read_items l = 8 * l.levels + 8
+
+abbrev pub decreases-read_open_items : goal.decreases-read_open_items
+decreases-read_open_items l = 8 * l.levels + 8
+
+abbrev pub decreases-read_pairs : goal.decreases-read_pairs
+decreases-read_pairs l = 8 * l.levels + 8
+
+abbrev pub decreases-read_open_pairs : goal.decreases-read_open_pairs
+decreases-read_open_pairs l = 8 * l.levels + 8
 
 abbrev pub invariant-read_items-items : goal.invariant-read_items-items
 invariant-read_items-items l =
-    let end = l.fn.source.total in
-    let p = item_at (values_within end) (l.levels - 1) in
+    let end = total l.fn.source in
     record {
-      so_far : with_front (map view l.items.items) (values_by end p (l.count - l.counter) l.source.rest) ≡ values_by end p l.count l.fn.source.rest;
-      total : l.source.total ≡ end;
+      so_far : with_front (map view l.items.items) (values_at end l.levels (l.n - l.counter) l.source.rest) ≡ values_at end l.levels l.n l.fn.source.rest;
+      forward : l.fn.source.at ≤ l.source.at;
+      total : total l.source ≡ end;
     }
+
+abbrev pub invariant-read_open_items-items : goal.invariant-read_open_items-items
+invariant-read_open_items-items l =
+    let end = total l.fn.source in
+    record {
+      so_far : with_front (map view l.items.items) (open_values_at end l.levels l.source.rest) ≡ open_values_at end l.levels l.fn.source.rest;
+      forward : l.fn.source.at ≤ l.source.at;
+      total : total l.source ≡ end;
+    }
+
+abbrev pub decreases-read_open_items-items : goal.decreases-read_open_items-items
+decreases-read_open_items-items l = length l.source.rest
+
+abbrev pub invariant-read_pairs-pairs : goal.invariant-read_pairs-pairs
+invariant-read_pairs-pairs l =
+    let end = total l.fn.source in
+    record {
+      so_far : with_earlier (map_view l.map) (pairs_at end l.levels (l.n - l.counter) l.source.rest) ≡ with_earlier no_pairs (pairs_at end l.levels l.n l.fn.source.rest);
+      ascend : KeysAscend (map_view l.map);
+      forward : l.fn.source.at ≤ l.source.at;
+      total : total l.source ≡ end;
+    }
+
+abbrev pub invariant-read_open_pairs-pairs : goal.invariant-read_open_pairs-pairs
+invariant-read_open_pairs-pairs l =
+    let end = total l.fn.source in
+    record {
+      so_far : with_earlier (map_view l.map) (open_pairs_at end l.levels l.source.rest) ≡ with_earlier no_pairs (open_pairs_at end l.levels l.fn.source.rest);
+      ascend : KeysAscend (map_view l.map);
+      forward : l.fn.source.at ≤ l.source.at;
+      total : total l.source ≡ end;
+    }
+
+abbrev pub decreases-read_open_pairs-pairs : goal.decreases-read_open_pairs-pairs
+decreases-read_open_pairs-pairs l = length l.source.rest

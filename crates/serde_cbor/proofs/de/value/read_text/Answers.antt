@@ -1,6 +1,7 @@
-use Rattle.std.proofs.Common.{ℕ, List, Ok, ap, sym, ◌∙◌}
+use Rattle.std.proofs.Common.{◌≡◌, ◌+◌, ◌^◌, ℕ, true, ltb, List, Ok, ap, sym, subst, ◌∙◌, arith}
 use Rattle.cbor_model.specs.Plain.{Val, text}
 use Rattle.cbor_model.specs.Reader.{Reads, width_of}
+use Rattle.serde_cbor.specs.Gives.{total}
 use Rattle.serde_cbor.proofs.Reading.{text_read}
 use Rattle.serde_cbor.proofs.Views.{view_text}
 use Rattle.serde_cbor.proofs.de.value.read_text.Goals as goal
@@ -12,6 +13,7 @@ pub returns-in_ok-from_str-in-Ok-clause-read : goal.returns-in_ok-from_str-in-Ok
 returns-in_ok-from_str-in-Ok-clause-read c =
     let is_text = c.in-Ok.ensures.cases in
     let after = c.take.new.self.rest in
-    text_read c.args.source.now.total c.args.n (width_of c.args.low) c.args.source.now.rest c.in_ok-bytes.bytes.now after (sym c.has_room.ensures ∙ c.if-not-has_room.false) c.in_ok-bytes.ensures.read is_text.1
-    ∙ ap (λ (s : List ℕ). reads after (text s)) (sym (c.in_ok-from_str-in-Ok.ensures.ok ∙ is_text.0))
-    ∙ ap (reads after) (sym (view_text c.in_ok-from_str-in-Ok.field-0))
+    let room = subst (λ (at : ℕ). ltb (at + c.args.n) (2 ^ 64) ≡ true) (omega arith) (sym c.has_room.ensures ∙ c.if-not-has_room.false) in
+    text_read (total c.args.source.now) c.args.n (width_of c.args.low) c.args.source.now.rest c.in_ok-bytes.bytes.now after room c.in_ok-bytes.ensures.read is_text.1
+        ∙ ap (λ (s : List ℕ). reads after (text s)) (sym (c.in_ok-from_str-in-Ok.ensures.ok ∙ is_text.0))
+        ∙ ap (reads after) (sym (view_text c.in_ok-from_str-in-Ok.field-0))
