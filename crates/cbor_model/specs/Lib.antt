@@ -7,7 +7,6 @@ pub mod Order
 pub mod Value
 pub mod Canonical
 pub mod Refusal
-pub mod Supported
 pub mod Reader
 pub mod Program
 pub mod Laws

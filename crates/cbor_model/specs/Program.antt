@@ -7,7 +7,6 @@ use Rattle.cbor_model.specs.Acceptable.{IsAcceptable}
 use Rattle.cbor_model.specs.Value.{value}
 use Rattle.cbor_model.specs.Canonical.{canon}
 use Rattle.cbor_model.specs.Refusal.{words, at_offset}
-use Rattle.cbor_model.specs.Supported.{IsSupported}
 use Rattle.cbor_model.specs.Reader.{Fault, read_value}
 
 -- ---- lines
@@ -46,8 +45,8 @@ pub record IsRefusalText (bytes text : List ℕ) : Type 0 where
 
 -- The answer to a line: the canonical spelling of the value that its bytes spell, or why there is none.
 pub data IsAnswer (line answer : List ℕ) : Type 0 where
-  canonical : (r : Raw) → IsAcceptable r → IsSupported r → IsHexOf line (spell r) → answer ≡ hex (canon (value r)) → IsAnswer line answer
-  refused : (bytes text : List ℕ) → IsHexOf line bytes → ((r : Raw) → IsAcceptable r → IsSupported r → spell r ≡ bytes → ⊥) → IsRefusalText bytes text → answer ≡ codes "error: " ++ text → IsAnswer line answer
+  canonical : (r : Raw) → IsAcceptable r → IsHexOf line (spell r) → answer ≡ hex (canon (value r)) → IsAnswer line answer
+  refused : (bytes text : List ℕ) → IsHexOf line bytes → ((r : Raw) → IsAcceptable r → spell r ≡ bytes → ⊥) → IsRefusalText bytes text → answer ≡ codes "error: " ++ text → IsAnswer line answer
   not_hexadecimal : ((bytes : List ℕ) → IsHexOf line bytes → ⊥) → answer ≡ codes "error: not hexadecimal" → IsAnswer line answer
 
 -- The output is one answer for each of the lines, in their order, each ended by 0a.

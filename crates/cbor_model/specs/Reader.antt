@@ -1,16 +1,16 @@
 -- The reference reader. It is no definition of the format: it goes through the bytes from left to
 -- right, as a program does, and says what is read first or what is at fault first. Laws tie it to the
 -- definitions: what it reads is spelled so and acceptable, and what is spelled so it reads.
-use Rattle.std.specs.Prelude.{◌≡◌, ℕ, zero, suc, ◌+◌, ◌-◌, ◌/◌, ◌%◌, ◌^◌, Bool, List, [], ◌∷◌, length, take, drop, pos, negsuc, Result, Ok, Err, Option, Some, None, nat_lt, nat_le, ◌==◌, ◌&&◌, ◌||◌, if◌then◌else◌, refl}
+use Rattle.std.specs.Prelude.{◌≡◌, ℕ, zero, suc, ◌+◌, ◌-◌, ◌/◌, ◌%◌, ◌^◌, Bool, true, false, List, [], ◌∷◌, length, take, drop, pos, negsuc, Result, Ok, Err, Option, Some, None, nat_lt, ◌==◌, ◌&&◌, if◌then◌else◌, refl}
 use Rattle.std.specs.Int.{Width, w8, w16, w32, w64, byte_len, from_be_bytes}
 use Rattle.std.specs.Str.Lossy.{utf8_valid_len}
 use Rattle.cbor_model.specs.Head.{HeadWidth, no_bytes, one_byte, two_bytes, four_bytes, eight_bytes}
-use Rattle.cbor_model.specs.Raw.{Chunk, Simple, false_item, true_item, null_item, undefined_item, FloatWidth, half, single, double}
+use Rattle.cbor_model.specs.Raw.{Chunk, joined, Simple, false_item, true_item, null_item, undefined_item, FloatWidth, half, single, double}
 use Rattle.cbor_model.specs.Acceptable.{max_depth}
-use Rattle.cbor_model.specs.Refusal.{Refusal, end_in_value, length_out_of_range, invalid_utf8, unassigned_code, unexpected_code, trailing_data, too_deep}
-use Rattle.cbor_model.specs.Plain.{Val, Vals, no_vals, val}
+use Rattle.cbor_model.specs.Refusal.{Refusal, end_in_value, end_in_array, end_in_map, length_out_of_range, invalid_utf8, unassigned_code, unexpected_code, trailing_data, too_deep}
+use Rattle.cbor_model.specs.Plain.{Val, Vals, no_vals, val, Pairs, no_pairs}
 use Rattle.cbor_model.specs.Plain as plain
-use Rattle.cbor_model.specs.Value.{simple_value}
+use Rattle.cbor_model.specs.Value.{simple_value, put}
 
 -- A fault: why, and how many bytes were left. Its offset is the input's length less that.
 pub record Fault : Type 0 where
@@ -27,32 +27,49 @@ abbrev pub ◌>>=◌ : {A B : Type 0} → Result A Fault → (A → Result B Fau
 (Err e) >>= f = Err e
 
 -- What is made of the parts that are read, and which texts are let pass.
-pub record Reading (Item Items : Type 0) : Type 0 where
+pub record Reading (Item Items Pairs : Type 0) : Type 0 where
   pub unsigned : HeadWidth → ℕ → Item
   pub negative : HeadWidth → ℕ → Item
   pub bytes : Chunk → Item
   pub text : Chunk → Item
+  pub bytes_chunks : List Chunk → Item
+  pub text_chunks : List Chunk → Item
   pub array : HeadWidth → Items → Item
+  pub array_open : Items → Item
+  pub map : HeadWidth → Pairs → Item
+  pub map_open : Pairs → Item
+  pub tag : HeadWidth → ℕ → Item → Item
   pub simple : Simple → Item
   pub float : FloatWidth → ℕ → Item
   pub no_items : Items
   pub item : Item → Items → Items
+  pub no_pairs : Pairs
+  pub pair : Item → Item → Pairs → Pairs
   -- whether a text may have this length, where so many bytes are left
   pub has_room : ℕ → ℕ → Bool
   pub is_text : List ℕ → Bool
 
--- Values, in an input of this length: a text ends before 2^64 and is UTF-8.
-abbrev pub values_within : ℕ → Reading Val Vals
+-- Values, in an input of this length: a definite text ends before 2^64, and each text is UTF-8. Of
+-- pairs it makes what they make of the pairs before them.
+abbrev pub values_within : ℕ → Reading Val Vals (Pairs → Pairs)
 values_within total = record {
   unsigned = λ w n. plain.integer (pos n);
   negative = λ w n. plain.integer (negsuc n);
   bytes = λ c. plain.bytes c.bytes;
   text = λ c. plain.text c.bytes;
+  bytes_chunks = λ cs. plain.bytes (joined cs);
+  text_chunks = λ cs. plain.text (joined cs);
   array = λ w vs. plain.array vs;
+  array_open = plain.array;
+  map = λ w ps. plain.map (ps no_pairs);
+  map_open = λ ps. plain.map (ps no_pairs);
+  tag = λ w n v. plain.tag n v;
   simple = simple_value;
   float = plain.float;
   no_items = no_vals;
   item = val;
+  no_pairs = λ earlier. earlier;
+  pair = λ k v others earlier. others (put k v earlier);
   has_room = λ left n. nat_lt (total - left + n) (2 ^ 64);
   is_text = λ b. utf8_valid_len b == length b;
 }
@@ -96,7 +113,7 @@ number_behind low bs =
     else Err (before unassigned_code bs)))))
 
 -- a float of that width, of which number_at reads the bits
-unfoldable pub float_at : {Item Items : Type 0} → Reading Item Items → ℕ → List ℕ → Reads Item
+unfoldable pub float_at : {Item Items Pairs : Type 0} → Reading Item Items Pairs → ℕ → List ℕ → Reads Item
 float_at m low bs =
     if low == 25 then number_at w16 bs >>= (λ n. Ok (m.float half n.0, n.1))
     else (if low == 26 then number_at w32 bs >>= (λ n. Ok (m.float single n.0, n.1))
@@ -104,7 +121,7 @@ float_at m low bs =
     else Err (before (if low == 31 then unexpected_code else unassigned_code) bs)))
 
 -- what follows a first byte of major type 7
-unfoldable pub simple_at : {Item Items : Type 0} → Reading Item Items → ℕ → List ℕ → Reads Item
+unfoldable pub simple_at : {Item Items Pairs : Type 0} → Reading Item Items Pairs → ℕ → List ℕ → Reads Item
 simple_at m low bs =
     if low == 20 then Ok (m.simple false_item, bs)
     else (if low == 21 then Ok (m.simple true_item, bs)
@@ -112,71 +129,142 @@ simple_at m low bs =
     else (if low == 23 then Ok (m.simple undefined_item, bs)
     else float_at m low bs)))
 
-unfoldable pub string_at : {Item Items : Type 0} → Reading Item Items → HeadWidth → ℕ → List ℕ → Reads Item
+unfoldable pub string_at : {Item Items Pairs : Type 0} → Reading Item Items Pairs → HeadWidth → ℕ → List ℕ → Reads Item
 string_at m w n bs = do
   b ← bytes_at n bs
   Ok (m.bytes (record { width = w; bytes = b.0 }), b.1)
 
--- the text of these bytes, which others follow; or a fault before the first byte that isn't UTF-8
-unfoldable pub checked_text : {Item Items : Type 0} → Reading Item Items → HeadWidth → List ℕ → List ℕ → Reads Item
-checked_text m w b bs =
-    if m.is_text b then Ok (m.text (record { width = w; bytes = b }), bs)
+-- a text of these bytes, which others follow; or a fault before the first byte that isn't UTF-8
+unfoldable pub checked_text : {Item Items Pairs : Type 0} → Reading Item Items Pairs → Item → List ℕ → List ℕ → Reads Item
+checked_text m text b bs =
+    if m.is_text b then Ok (text, bs)
     else Err (record { why = invalid_utf8; left = length bs + (length b - utf8_valid_len b) })
 
-unfoldable pub text_at : {Item Items : Type 0} → Reading Item Items → HeadWidth → ℕ → List ℕ → Reads Item
+unfoldable pub text_at : {Item Items Pairs : Type 0} → Reading Item Items Pairs → HeadWidth → ℕ → List ℕ → Reads Item
 text_at m w n bs =
-    if m.has_room (length bs) n then bytes_at n bs >>= (λ b. checked_text m w b.0 b.1)
+    if m.has_room (length bs) n then bytes_at n bs >>= (λ b. checked_text m (m.text (record { width = w; bytes = b.0 })) b.0 b.1)
     else Err (before length_out_of_range bs)
 
+-- the first byte is that of a definite string of the major type
+abbrev pub begins_chunk : ℕ → ℕ → Bool
+begins_chunk major b = b / 32 == major && nat_lt (b % 32) 28
+
+-- what follows the first byte of a chunk
+unfoldable pub chunk_at : ℕ → ℕ → List ℕ → Reads Chunk
+chunk_at major b bs =
+    if begins_chunk major b then number_behind (b % 32) bs >>= (λ n. bytes_at n.0 n.1 >>= (λ c. Ok (record { width = width_of (b % 32); bytes = c.0 }, c.1)))
+    else Err (before unexpected_code bs)
+
+-- chunks of the major type up to the break, which take fewer bytes than fuel
+unfoldable pub chunks_by : ℕ → ℕ → List ℕ → Reads (List Chunk)
+chunks_by major zero bs = Err ended
+chunks_by major (suc fuel) bs = byte_at bs >>= (λ b.
+    if b.0 == 0xff then Ok ([], b.1)
+    else chunk_at major b.0 b.1 >>= (λ c. chunks_by major fuel c.1 >>= (λ cs. Ok (c.0 ∷ cs.0, cs.1))))
+
+abbrev pub chunks_at : ℕ → List ℕ → Reads (List Chunk)
+chunks_at major bs = chunks_by major (suc (length bs)) bs
+
+unfoldable pub string_chunks_at : {Item Items Pairs : Type 0} → Reading Item Items Pairs → List ℕ → Reads Item
+string_chunks_at m bs = chunks_at 2 bs >>= (λ cs. Ok (m.bytes_chunks cs.0, cs.1))
+
+unfoldable pub text_chunks_at : {Item Items Pairs : Type 0} → Reading Item Items Pairs → List ℕ → Reads Item
+text_chunks_at m bs = chunks_at 3 bs >>= (λ cs. checked_text m (m.text_chunks cs.0) (joined cs.0) cs.1)
+
 -- n items, one after the other, each read by p
-unfoldable pub items_by : {Item Items : Type 0} → Reading Item Items → (List ℕ → Reads Item) → ℕ → List ℕ → Reads Items
+unfoldable pub items_by : {Item Items Pairs : Type 0} → Reading Item Items Pairs → (List ℕ → Reads Item) → ℕ → List ℕ → Reads Items
 items_by m p zero bs = Ok (m.no_items, bs)
 items_by m p (suc n) bs = do
   first ← p bs
   others ← items_by m p n first.1
   Ok (m.item first.0 others.0, others.1)
 
--- the n items of an array, where a level is left
-unfoldable pub items_at : {Item Items : Type 0} → Reading Item Items → Option (List ℕ → Reads Item) → ℕ → List ℕ → Reads Items
-items_at m None n bs = Err (before too_deep bs)
-items_at m (Some p) n bs = items_by m p n bs
+-- whether another element comes, and not the break of an open form, which is taken then
+unfoldable pub more_at : Refusal → List ℕ → Reads Bool
+more_at why [] = Err (record { why = why; left = 0 })
+more_at why (b ∷ bs) = if b == 0xff then Ok (false, bs) else Ok (true, b ∷ bs)
 
-unfoldable pub array_at : {Item Items : Type 0} → Reading Item Items → Option (List ℕ → Reads Item) → HeadWidth → ℕ → List ℕ → Reads Item
-array_at m inner w n bs = do
-  items ← items_at m inner n bs
-  Ok (m.array w items.0, items.1)
+-- items up to the break, which take fewer bytes than fuel
+unfoldable pub open_items_by : {Item Items Pairs : Type 0} → Reading Item Items Pairs → (List ℕ → Reads Item) → ℕ → List ℕ → Reads Items
+open_items_by m p zero bs = Err ended
+open_items_by m p (suc fuel) bs = more_at end_in_array bs >>= (λ more.
+    if more.0 then p more.1 >>= (λ first. open_items_by m p fuel first.1 >>= (λ others. Ok (m.item first.0 others.0, others.1)))
+    else Ok (m.no_items, more.1))
 
--- what follows the head of a major type below 5
-unfoldable pub content_at : {Item Items : Type 0} → Reading Item Items → Option (List ℕ → Reads Item) → ℕ → HeadWidth → ℕ → List ℕ → Reads Item
+-- n pairs, one after the other, each key and each value read by p
+unfoldable pub pairs_by : {Item Items Pairs : Type 0} → Reading Item Items Pairs → (List ℕ → Reads Item) → ℕ → List ℕ → Reads Pairs
+pairs_by m p zero bs = Ok (m.no_pairs, bs)
+pairs_by m p (suc n) bs = do
+  k ← p bs
+  v ← p k.1
+  others ← pairs_by m p n v.1
+  Ok (m.pair k.0 v.0 others.0, others.1)
+
+-- pairs up to the break, which take fewer bytes than fuel
+unfoldable pub open_pairs_by : {Item Items Pairs : Type 0} → Reading Item Items Pairs → (List ℕ → Reads Item) → ℕ → List ℕ → Reads Pairs
+open_pairs_by m p zero bs = Err ended
+open_pairs_by m p (suc fuel) bs = more_at end_in_map bs >>= (λ more.
+    if more.0 then p more.1 >>= (λ k. p k.1 >>= (λ v. open_pairs_by m p fuel v.1 >>= (λ others. Ok (m.pair k.0 v.0 others.0, others.1))))
+    else Ok (m.no_pairs, more.1))
+
+-- what lies one level further in, where one is left
+abbrev pub within : {Item A : Type 0} → Option (List ℕ → Reads Item) → List ℕ → ((List ℕ → Reads Item) → Reads A) → Reads A
+within None bs read = Err (before too_deep bs)
+within (Some p) bs read = read p
+
+unfoldable pub array_at : {Item Items Pairs : Type 0} → Reading Item Items Pairs → Option (List ℕ → Reads Item) → HeadWidth → ℕ → List ℕ → Reads Item
+array_at m inner w n bs = within inner bs (λ p. items_by m p n bs) >>= (λ items. Ok (m.array w items.0, items.1))
+
+unfoldable pub map_at : {Item Items Pairs : Type 0} → Reading Item Items Pairs → Option (List ℕ → Reads Item) → HeadWidth → ℕ → List ℕ → Reads Item
+map_at m inner w n bs = within inner bs (λ p. pairs_by m p n bs) >>= (λ pairs. Ok (m.map w pairs.0, pairs.1))
+
+unfoldable pub tag_at : {Item Items Pairs : Type 0} → Reading Item Items Pairs → Option (List ℕ → Reads Item) → HeadWidth → ℕ → List ℕ → Reads Item
+tag_at m inner w n bs = within inner bs (λ p. p bs) >>= (λ item. Ok (m.tag w n item.0, item.1))
+
+unfoldable pub open_array_at : {Item Items Pairs : Type 0} → Reading Item Items Pairs → Option (List ℕ → Reads Item) → List ℕ → Reads Item
+open_array_at m inner bs = within inner bs (λ p. open_items_by m p (suc (length bs)) bs) >>= (λ items. Ok (m.array_open items.0, items.1))
+
+unfoldable pub open_map_at : {Item Items Pairs : Type 0} → Reading Item Items Pairs → Option (List ℕ → Reads Item) → List ℕ → Reads Item
+open_map_at m inner bs = within inner bs (λ p. open_pairs_by m p (suc (length bs)) bs) >>= (λ pairs. Ok (m.map_open pairs.0, pairs.1))
+
+-- what follows the head of a major type below 7
+unfoldable pub content_at : {Item Items Pairs : Type 0} → Reading Item Items Pairs → Option (List ℕ → Reads Item) → ℕ → HeadWidth → ℕ → List ℕ → Reads Item
 content_at m inner major w n bs =
     if major == 0 then Ok (m.unsigned w n, bs)
     else (if major == 1 then Ok (m.negative w n, bs)
     else (if major == 2 then string_at m w n bs
     else (if major == 3 then text_at m w n bs
-    else array_at m inner w n bs)))
+    else (if major == 4 then array_at m inner w n bs
+    else (if major == 5 then map_at m inner w n bs
+    else tag_at m inner w n bs)))))
 
--- first bytes of maps, tags, open forms and chunked strings
-abbrev pub is_unsupported : ℕ → Bool
-is_unsupported b = (b == 0x5f) || (b == 0x7f) || (b == 0x9f) || (nat_le 0xa0 b && nat_le b 0xbb) || (b == 0xbf) || (nat_le 0xc0 b && nat_le b 0xdb)
+-- what follows the first byte of an open form or of a chunked string
+unfoldable pub open_at : {Item Items Pairs : Type 0} → Reading Item Items Pairs → Option (List ℕ → Reads Item) → ℕ → List ℕ → Reads Item
+open_at m inner major bs =
+    if major == 2 then string_chunks_at m bs
+    else (if major == 3 then text_chunks_at m bs
+    else (if major == 4 then open_array_at m inner bs
+    else (if major == 5 then open_map_at m inner bs
+    else Err (before unassigned_code bs))))
 
 -- what follows the first byte b
-unfoldable pub after_first : {Item Items : Type 0} → Reading Item Items → Option (List ℕ → Reads Item) → ℕ → List ℕ → Reads Item
+unfoldable pub after_first : {Item Items Pairs : Type 0} → Reading Item Items Pairs → Option (List ℕ → Reads Item) → ℕ → List ℕ → Reads Item
 after_first m inner b bs =
-    if is_unsupported b then Err (before unexpected_code bs)
-    else (if b / 32 == 7 then simple_at m (b % 32) bs
+    if b / 32 == 7 then simple_at m (b % 32) bs
+    else (if b % 32 == 31 then open_at m inner (b / 32) bs
     else number_behind (b % 32) bs >>= (λ n. content_at m inner (b / 32) (width_of (b % 32)) n.0 n.1))
 
--- an item, where inner reads the items of an array if a level is left
-unfoldable pub item_by : {Item Items : Type 0} → Reading Item Items → Option (List ℕ → Reads Item) → List ℕ → Reads Item
+-- an item, where inner reads what lies one level further in if one is left
+unfoldable pub item_by : {Item Items Pairs : Type 0} → Reading Item Items Pairs → Option (List ℕ → Reads Item) → List ℕ → Reads Item
 item_by m inner bs = byte_at bs >>= (λ b. after_first m inner b.0 b.1)
 
 -- an item, where so many levels are left
-unfoldable pub item_at : {Item Items : Type 0} → Reading Item Items → ℕ → List ℕ → Reads Item
+unfoldable pub item_at : {Item Items Pairs : Type 0} → Reading Item Items Pairs → ℕ → List ℕ → Reads Item
 item_at m zero = item_by m None
 item_at m (suc levels) = item_by m (Some (item_at m levels))
 
 -- the reader of what lies one level further in, where one is left
-abbrev pub inside : {Item Items : Type 0} → Reading Item Items → ℕ → Option (List ℕ → Reads Item)
+abbrev pub inside : {Item Items Pairs : Type 0} → Reading Item Items Pairs → ℕ → Option (List ℕ → Reads Item)
 inside m zero = None
 inside m (suc levels) = Some (item_at m levels)
 
@@ -190,10 +278,20 @@ read_value bs = whole (item_at (values_within (length bs)) max_depth bs)
 
 -- ---- examples
 
-short_item : read_value (0x18 ∷ 0x17 ∷ []) ≡ Ok (plain.integer (pos 23))
+head_not_shortest : read_value (0x18 ∷ 0x17 ∷ []) ≡ Ok (plain.integer (pos 23))
 unfolding read_value item_at item_by byte_at after_first number_behind content_at
-short_item = refl
+head_not_shortest = refl
 
 trailing : read_value (0xf4 ∷ 0xf4 ∷ 0xf4 ∷ []) ≡ Err (record { why = trailing_data; left = 1 })
 unfolding read_value item_at item_by byte_at after_first simple_at
 trailing = refl
+
+-- bf 61 61 ff: a break in the place of a value
+break_as_value : read_value (0xbf ∷ 0x61 ∷ 0x61 ∷ 0xff ∷ []) ≡ Err (record { why = unexpected_code; left = 0 })
+unfolding read_value item_at item_by byte_at after_first open_at open_map_at open_pairs_by more_at number_behind content_at text_at checked_text simple_at float_at utf8_valid_len
+break_as_value = refl
+
+-- 9f 01: the break is wanted
+open_ends : read_value (0x9f ∷ 0x01 ∷ []) ≡ Err (record { why = end_in_array; left = 0 })
+unfolding read_value item_at item_by byte_at after_first open_at open_array_at open_items_by more_at number_behind content_at
+open_ends = refl
