@@ -286,9 +286,9 @@ trailing : read_value (0xf4 ∷ 0xf4 ∷ 0xf4 ∷ []) ≡ Err (record { why = tr
 unfolding read_value item_at item_by byte_at after_first simple_at
 trailing = refl
 
--- bf 61 61 ff: a break in the place of a value
-break_as_value : read_value (0xbf ∷ 0x61 ∷ 0x61 ∷ 0xff ∷ []) ≡ Err (record { why = unexpected_code; left = 0 })
-unfolding read_value item_at item_by byte_at after_first open_at open_map_at open_pairs_by more_at number_behind content_at text_at checked_text simple_at float_at utf8_valid_len
+-- bf 00 ff: a break in the place of a value
+break_as_value : read_value (0xbf ∷ 0x00 ∷ 0xff ∷ []) ≡ Err (record { why = unexpected_code; left = 0 })
+unfolding read_value item_at item_by byte_at after_first open_at open_map_at open_pairs_by more_at number_behind content_at simple_at float_at
 break_as_value = refl
 
 -- 9f 01: the break is wanted
