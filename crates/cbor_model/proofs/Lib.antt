@@ -1,5 +1,7 @@
 pub mod Steps
 pub mod Made
+pub mod Taken
+pub mod Fuel
 pub mod Found
 pub mod Again
 pub mod Texts

@@ -1,44 +1,63 @@
 -- What a reading makes of an item.
 use Rattle.std.proofs.Common.{◌≡◌, ℕ, refl, ap, ◌∙◌}
 use Rattle.cbor_model.specs.Raw as raw
-use Rattle.cbor_model.specs.Raw.{Raw, Raws, no_raws, null_item}
-use Rattle.cbor_model.specs.Supported.{IsSupported, AreSupported}
+use Rattle.cbor_model.specs.Raw.{Raw, Raws, no_raws, RawPairs, no_raw_pairs, raw_pair}
 use Rattle.cbor_model.specs.Plain as plain
-use Rattle.cbor_model.specs.Plain.{val}
-use Rattle.cbor_model.specs.Value.{value, values}
+use Rattle.cbor_model.specs.Plain.{val, no_pairs}
+use Rattle.cbor_model.specs.Value.{value, values, pairs, put}
 use Rattle.cbor_model.specs.Reader.{Reading, values_within}
 
--- what the reading makes of an item that is read; of any other, null
 unfoldable mutual
-  pub made : {Item Items : Type 0} → Reading Item Items → Raw → Item
+  pub made : {Item Items Pairs : Type 0} → Reading Item Items Pairs → Raw → Item
   made m (raw.unsigned w n) = m.unsigned w n
   made m (raw.negative w n) = m.negative w n
   made m (raw.bytes c) = m.bytes c
   made m (raw.text c) = m.text c
+  made m (raw.bytes_chunks cs) = m.bytes_chunks cs
+  made m (raw.text_chunks cs) = m.text_chunks cs
   made m (raw.array w rs) = m.array w (made_all m rs)
+  made m (raw.array_open rs) = m.array_open (made_all m rs)
+  made m (raw.map w ps) = m.map w (made_pairs m ps)
+  made m (raw.map_open ps) = m.map_open (made_pairs m ps)
+  made m (raw.tag w n r) = m.tag w n (made m r)
   made m (raw.simple s) = m.simple s
   made m (raw.float w bits) = m.float w bits
-  made m _ = m.simple null_item
 
-  pub made_all : {Item Items : Type 0} → Reading Item Items → Raws → Items
+  pub made_all : {Item Items Pairs : Type 0} → Reading Item Items Pairs → Raws → Items
   made_all m no_raws = m.no_items
   made_all m (raw.raw r rs) = m.item (made m r) (made_all m rs)
+
+  pub made_pairs : {Item Items Pairs : Type 0} → Reading Item Items Pairs → RawPairs → Pairs
+  made_pairs m no_raw_pairs = m.no_pairs
+  made_pairs m (raw_pair k v ps) = m.pair (made m k) (made m v) (made_pairs m ps)
 
 -- values are made so
 mutual
   unfolding made value
 
-  pub made-value : (total : ℕ) (r : Raw) → IsSupported r → made (values_within total) r ≡ value r
-  made-value total (raw.unsigned w n) reads = refl
-  made-value total (raw.negative w n) reads = refl
-  made-value total (raw.bytes c) reads = refl
-  made-value total (raw.text c) reads = refl
-  made-value total (raw.array w rs) reads = ap plain.array (made_all-values total rs reads)
-  made-value total (raw.simple s) reads = refl
-  made-value total (raw.float w bits) reads = refl
-  made-value total _ reads = absurd reads
+  pub made-value : (total : ℕ) (r : Raw) → made (values_within total) r ≡ value r
+  made-value total (raw.unsigned w n) = refl
+  made-value total (raw.negative w n) = refl
+  made-value total (raw.bytes c) = refl
+  made-value total (raw.text c) = refl
+  made-value total (raw.bytes_chunks cs) = refl
+  made-value total (raw.text_chunks cs) = refl
+  made-value total (raw.array w rs) = ap plain.array (made_all-values total rs)
+  made-value total (raw.array_open rs) = ap plain.array (made_all-values total rs)
+  made-value total (raw.map w ps) = ap plain.map (made_pairs-pairs total ps no_pairs)
+  made-value total (raw.map_open ps) = ap plain.map (made_pairs-pairs total ps no_pairs)
+  made-value total (raw.tag w n r) = ap (plain.tag n) (made-value total r)
+  made-value total (raw.simple s) = refl
+  made-value total (raw.float w bits) = refl
 
-  pub made_all-values : (total : ℕ) (rs : Raws) → AreSupported rs → made_all (values_within total) rs ≡ values rs
-  made_all-values total no_raws reads = refl
-  made_all-values total (raw.raw r rs) reads =
-      ap (λ (v : plain.Val). val v (made_all (values_within total) rs)) (made-value total r reads.0) ∙ ap (val (value r)) (made_all-values total rs reads.1)
+  pub made_all-values : (total : ℕ) (rs : Raws) → made_all (values_within total) rs ≡ values rs
+  made_all-values total no_raws = refl
+  made_all-values total (raw.raw r rs) =
+      ap (λ (v : plain.Val). val v (made_all (values_within total) rs)) (made-value total r) ∙ ap (val (value r)) (made_all-values total rs)
+
+  pub made_pairs-pairs : (total : ℕ) (ps : RawPairs) (before : plain.Pairs) → made_pairs (values_within total) ps before ≡ pairs ps before
+  made_pairs-pairs total no_raw_pairs before = refl
+  made_pairs-pairs total (raw_pair k v ps) before =
+      ap (λ (l : plain.Val). made_pairs (values_within total) ps (put l (made (values_within total) v) before)) (made-value total k)
+      ∙ ap (λ (w : plain.Val). made_pairs (values_within total) ps (put (value k) w before)) (made-value total v)
+      ∙ made_pairs-pairs total ps (put (value k) (value v) before)

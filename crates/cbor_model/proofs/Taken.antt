@@ -1,0 +1,232 @@
+-- An item takes a byte at the least, and no step of reading leaves more bytes than it began with.
+use Rattle.std.proofs.Common.{◌≡◌, ℕ, zero, suc, ◌+◌, ◌/◌, ◌%◌, ◌<◌, ◌≤◌, Bool, true, false, cond, eqb, ltb, List, [], ◌∷◌, length, drop, Option, Some, None, Result, Ok, Err, refl, subst, arith}
+use Rattle.std.specs.Int.{Width, w8, w16, w32, w64, byte_len}
+use Rattle.std.proofs.lemmas.List.{length-drop}
+use Rattle.cbor_model.specs.Head.{HeadWidth}
+use Rattle.cbor_model.specs.Refusal.{Refusal}
+use Rattle.cbor_model.specs.Reader.{Fault, Reads, ◌>>=◌, Reading, byte_at, bytes_at, number_at, number_behind, float_at, simple_at, string_at, checked_text, text_at, begins_chunk, chunk_at, chunks_by, chunks_at, string_chunks_at, text_chunks_at, items_by, more_at, open_items_by, pairs_by, open_pairs_by, within, array_at, map_at, tag_at, open_array_at, open_map_at, content_at, open_at, after_first, item_by, item_at}
+
+-- where something is read, no more than n bytes are left
+abbrev pub Leaves : {A : Type 0} → ℕ → Reads A → Type 0
+Leaves n (Ok x) = length x.1 ≤ n
+Leaves n (Err d) = Unit {0}
+
+pub Leaves-use : {A : Type 0} (n : ℕ) (r : Reads A) (x : A × List ℕ) → Leaves n r → r ≡ Ok x → length x.1 ≤ n
+Leaves-use {A = A} n r x few is = subst (λ (r : Reads A). Leaves n r) is few
+
+pub Leaves-from_each : {A : Type 0} (n : ℕ) (r : Reads A) → ((x : A × List ℕ) → r ≡ Ok x → length x.1 ≤ n) → Leaves n r
+Leaves-from_each n (Ok x) each = each x refl
+Leaves-from_each n (Err d) each = tt
+
+Leaves-bind : {A B : Type 0} (n k : ℕ) (r : Reads A) (f : A × List ℕ → Reads B) → Leaves k r → ((x : A × List ℕ) → length x.1 ≤ k → Leaves n (f x)) → Leaves n (r >>= f)
+Leaves-bind n k (Ok x) f few each = each x few
+Leaves-bind n k (Err d) f few each = tt
+
+Leaves-cond : {A : Type 0} (n : ℕ) (b : Bool) (x y : Reads A) → Leaves n x → Leaves n y → Leaves n (cond b x y)
+Leaves-cond n true x y one other = one
+Leaves-cond n false x y one other = other
+
+-- ---- numbers and strings
+
+number_leaves : (w : Width) (n : ℕ) (bs : List ℕ) → length bs ≤ n → Leaves n (number_at w bs)
+number_leaves w n bs few = Leaves-cond n (ltb (length bs) (byte_len w)) _ _ tt (omega (arith, length-drop (byte_len w) bs))
+
+bytes_leaves : (k n : ℕ) (bs : List ℕ) → length bs ≤ n → Leaves n (bytes_at k bs)
+bytes_leaves k n bs few = Leaves-cond n (ltb (length bs) k) _ _ tt (omega (arith, length-drop k bs))
+
+number_behind_leaves : (low n : ℕ) (bs : List ℕ) → length bs ≤ n → Leaves n (number_behind low bs)
+unfolding number_behind
+number_behind_leaves low n bs few =
+    Leaves-cond n (ltb low 24) _ _ few
+    (Leaves-cond n (eqb low 24) _ _ (number_leaves w8 n bs few)
+    (Leaves-cond n (eqb low 25) _ _ (number_leaves w16 n bs few)
+    (Leaves-cond n (eqb low 26) _ _ (number_leaves w32 n bs few)
+    (Leaves-cond n (eqb low 27) _ _ (number_leaves w64 n bs few) tt))))
+
+pub chunk_leaves : (major b n : ℕ) (bs : List ℕ) → length bs ≤ n → Leaves n (chunk_at major b bs)
+unfolding chunk_at
+chunk_leaves major b n bs few =
+    Leaves-cond n (begins_chunk major b) _ _
+    (Leaves-bind n n (number_behind (b % 32) bs) _ (number_behind_leaves (b % 32) n bs few) (λ k few.
+        Leaves-bind n n (bytes_at k.0 k.1) _ (bytes_leaves k.0 n k.1 few) (λ c few. few)))
+    tt
+
+chunks_leaves : (major fuel n : ℕ) (bs : List ℕ) → length bs ≤ n → Leaves n (chunks_by major fuel bs)
+unfolding chunks_by byte_at
+chunks_leaves major zero n bs few = tt
+chunks_leaves major (suc fuel) n [] few = tt
+chunks_leaves major (suc fuel) n (b ∷ bs) few =
+    let fewer : length bs ≤ n = omega arith in
+    Leaves-cond n (eqb b 0xff) _ _ fewer
+    (Leaves-bind n n (chunk_at major b bs) _ (chunk_leaves major b n bs fewer) (λ c few.
+        Leaves-bind n n (chunks_by major fuel c.1) _ (chunks_leaves major fuel n c.1 few) (λ cs few. few)))
+
+-- an element leaves no more, and the break less
+pub more_leaves : (why : Refusal) (n : ℕ) (bs : List ℕ) → length bs ≤ n → Leaves n (more_at why bs)
+unfolding more_at
+more_leaves why n [] few = tt
+more_leaves why n (b ∷ bs) few = Leaves-cond n (eqb b 0xff) _ _ (omega arith) few
+
+module _ {Item Items Pairs : Type 0} (m : Reading Item Items Pairs) where
+  -- the reader leaves no more bytes than it began with
+  abbrev LeavesNoMore : (List ℕ → Reads Item) → Type 0
+  LeavesNoMore p = (n : ℕ) (bs : List ℕ) → length bs ≤ n → Leaves n (p bs)
+
+  -- and likewise what lies one level further in
+  abbrev LeavesNoMoreInside : Option (List ℕ → Reads Item) → Type 0
+  LeavesNoMoreInside None = Unit {0}
+  LeavesNoMoreInside (Some p) = LeavesNoMore p
+
+  float_leaves : (low n : ℕ) (bs : List ℕ) → length bs ≤ n → Leaves n (float_at m low bs)
+  unfolding float_at
+  float_leaves low n bs few =
+      Leaves-cond n (eqb low 25) _ _ (Leaves-bind n n (number_at w16 bs) _ (number_leaves w16 n bs few) (λ x few. few))
+      (Leaves-cond n (eqb low 26) _ _ (Leaves-bind n n (number_at w32 bs) _ (number_leaves w32 n bs few) (λ x few. few))
+      (Leaves-cond n (eqb low 27) _ _ (Leaves-bind n n (number_at w64 bs) _ (number_leaves w64 n bs few) (λ x few. few)) tt))
+
+  simple_leaves : (low n : ℕ) (bs : List ℕ) → length bs ≤ n → Leaves n (simple_at m low bs)
+  unfolding simple_at
+  simple_leaves low n bs few =
+      Leaves-cond n (eqb low 20) _ _ few
+      (Leaves-cond n (eqb low 21) _ _ few
+      (Leaves-cond n (eqb low 22) _ _ few
+      (Leaves-cond n (eqb low 23) _ _ few (float_leaves low n bs few))))
+
+  checked_leaves : (text : Item) (n : ℕ) (b bs : List ℕ) → length bs ≤ n → Leaves n (checked_text m text b bs)
+  unfolding checked_text
+  checked_leaves text n b bs few = Leaves-cond n (m.is_text b) _ _ few tt
+
+  string_leaves : (w : HeadWidth) (k n : ℕ) (bs : List ℕ) → length bs ≤ n → Leaves n (string_at m w k bs)
+  unfolding string_at
+  string_leaves w k n bs few = Leaves-bind n n (bytes_at k bs) _ (bytes_leaves k n bs few) (λ b few. few)
+
+  text_leaves : (w : HeadWidth) (k n : ℕ) (bs : List ℕ) → length bs ≤ n → Leaves n (text_at m w k bs)
+  unfolding text_at
+  text_leaves w k n bs few =
+      Leaves-cond n (m.has_room (length bs) k) _ _
+      (Leaves-bind n n (bytes_at k bs) _ (bytes_leaves k n bs few) (λ b few. checked_leaves _ n b.0 b.1 few))
+      tt
+
+  string_chunks_leaves : (n : ℕ) (bs : List ℕ) → length bs ≤ n → Leaves n (string_chunks_at m bs)
+  unfolding string_chunks_at
+  string_chunks_leaves n bs few = Leaves-bind n n (chunks_at 2 bs) _ (chunks_leaves 2 _ n bs few) (λ cs few. few)
+
+  text_chunks_leaves : (n : ℕ) (bs : List ℕ) → length bs ≤ n → Leaves n (text_chunks_at m bs)
+  unfolding text_chunks_at
+  text_chunks_leaves n bs few = Leaves-bind n n (chunks_at 3 bs) _ (chunks_leaves 3 _ n bs few) (λ cs few. checked_leaves _ n _ cs.1 few)
+
+  -- ---- what lies one level further in
+
+  items_leave : (p : List ℕ → Reads Item) → LeavesNoMore p → (k n : ℕ) (bs : List ℕ) → length bs ≤ n → Leaves n (items_by m p k bs)
+  unfolding items_by
+  items_leave p leaves zero n bs few = few
+  items_leave p leaves (suc k) n bs few =
+      Leaves-bind n n (p bs) _ (leaves n bs few) (λ first few.
+        Leaves-bind n n (items_by m p k first.1) _ (items_leave p leaves k n first.1 few) (λ others few. few))
+
+  pairs_leave : (p : List ℕ → Reads Item) → LeavesNoMore p → (k n : ℕ) (bs : List ℕ) → length bs ≤ n → Leaves n (pairs_by m p k bs)
+  unfolding pairs_by
+  pairs_leave p leaves zero n bs few = few
+  pairs_leave p leaves (suc k) n bs few =
+      Leaves-bind n n (p bs) _ (leaves n bs few) (λ key few.
+        Leaves-bind n n (p key.1) _ (leaves n key.1 few) (λ v few.
+          Leaves-bind n n (pairs_by m p k v.1) _ (pairs_leave p leaves k n v.1 few) (λ others few. few)))
+
+  open_items_leave : (p : List ℕ → Reads Item) → LeavesNoMore p → (fuel n : ℕ) (bs : List ℕ) → length bs ≤ n → Leaves n (open_items_by m p fuel bs)
+  unfolding open_items_by
+  open_items_leave p leaves zero n bs few = tt
+  open_items_leave p leaves (suc fuel) n bs few =
+      Leaves-bind n n (more_at _ bs) _ (more_leaves _ n bs few) (λ more few.
+        Leaves-cond n more.0 _ _
+        (Leaves-bind n n (p more.1) _ (leaves n more.1 few) (λ first few.
+          Leaves-bind n n (open_items_by m p fuel first.1) _ (open_items_leave p leaves fuel n first.1 few) (λ others few. few)))
+        few)
+
+  open_pairs_leave : (p : List ℕ → Reads Item) → LeavesNoMore p → (fuel n : ℕ) (bs : List ℕ) → length bs ≤ n → Leaves n (open_pairs_by m p fuel bs)
+  unfolding open_pairs_by
+  open_pairs_leave p leaves zero n bs few = tt
+  open_pairs_leave p leaves (suc fuel) n bs few =
+      Leaves-bind n n (more_at _ bs) _ (more_leaves _ n bs few) (λ more few.
+        Leaves-cond n more.0 _ _
+        (Leaves-bind n n (p more.1) _ (leaves n more.1 few) (λ key few.
+          Leaves-bind n n (p key.1) _ (leaves n key.1 few) (λ v few.
+            Leaves-bind n n (open_pairs_by m p fuel v.1) _ (open_pairs_leave p leaves fuel n v.1 few) (λ others few. few))))
+        few)
+
+  -- one of the above, by a reader of what lies one level further in
+  within_leaves : {A : Type 0} (inner : Option (List ℕ → Reads Item)) → LeavesNoMoreInside inner → (n : ℕ) (bs : List ℕ) (read : (List ℕ → Reads Item) → Reads A) → ((p : List ℕ → Reads Item) → LeavesNoMore p → Leaves n (read p)) → Leaves n (within inner bs read)
+  within_leaves None leaves n bs read each = tt
+  within_leaves (Some p) leaves n bs read each = each p leaves
+
+  array_leaves : (inner : Option (List ℕ → Reads Item)) → LeavesNoMoreInside inner → (w : HeadWidth) (k n : ℕ) (bs : List ℕ) → length bs ≤ n → Leaves n (array_at m inner w k bs)
+  unfolding array_at
+  array_leaves inner leaves w k n bs few =
+      Leaves-bind n n (within inner bs (λ p. items_by m p k bs)) _ (within_leaves inner leaves n bs _ (λ p leaves. items_leave p leaves k n bs few)) (λ items few. few)
+
+  map_leaves : (inner : Option (List ℕ → Reads Item)) → LeavesNoMoreInside inner → (w : HeadWidth) (k n : ℕ) (bs : List ℕ) → length bs ≤ n → Leaves n (map_at m inner w k bs)
+  unfolding map_at
+  map_leaves inner leaves w k n bs few =
+      Leaves-bind n n (within inner bs (λ p. pairs_by m p k bs)) _ (within_leaves inner leaves n bs _ (λ p leaves. pairs_leave p leaves k n bs few)) (λ pairs few. few)
+
+  tag_leaves : (inner : Option (List ℕ → Reads Item)) → LeavesNoMoreInside inner → (w : HeadWidth) (k n : ℕ) (bs : List ℕ) → length bs ≤ n → Leaves n (tag_at m inner w k bs)
+  unfolding tag_at
+  tag_leaves inner leaves w k n bs few =
+      Leaves-bind n n (within inner bs (λ p. p bs)) _ (within_leaves inner leaves n bs _ (λ p leaves. leaves n bs few)) (λ item few. few)
+
+  open_array_leaves : (inner : Option (List ℕ → Reads Item)) → LeavesNoMoreInside inner → (n : ℕ) (bs : List ℕ) → length bs ≤ n → Leaves n (open_array_at m inner bs)
+  unfolding open_array_at
+  open_array_leaves inner leaves n bs few =
+      Leaves-bind n n (within inner bs (λ p. open_items_by m p (suc (length bs)) bs)) _ (within_leaves inner leaves n bs _ (λ p leaves. open_items_leave p leaves _ n bs few)) (λ items few. few)
+
+  open_map_leaves : (inner : Option (List ℕ → Reads Item)) → LeavesNoMoreInside inner → (n : ℕ) (bs : List ℕ) → length bs ≤ n → Leaves n (open_map_at m inner bs)
+  unfolding open_map_at
+  open_map_leaves inner leaves n bs few =
+      Leaves-bind n n (within inner bs (λ p. open_pairs_by m p (suc (length bs)) bs)) _ (within_leaves inner leaves n bs _ (λ p leaves. open_pairs_leave p leaves _ n bs few)) (λ pairs few. few)
+
+  -- ---- items
+
+  content_leaves : (inner : Option (List ℕ → Reads Item)) → LeavesNoMoreInside inner → (major : ℕ) (w : HeadWidth) (k n : ℕ) (bs : List ℕ) → length bs ≤ n → Leaves n (content_at m inner major w k bs)
+  unfolding content_at
+  content_leaves inner leaves major w k n bs few =
+      Leaves-cond n (eqb major 0) _ _ few
+      (Leaves-cond n (eqb major 1) _ _ few
+      (Leaves-cond n (eqb major 2) _ _ (string_leaves w k n bs few)
+      (Leaves-cond n (eqb major 3) _ _ (text_leaves w k n bs few)
+      (Leaves-cond n (eqb major 4) _ _ (array_leaves inner leaves w k n bs few)
+      (Leaves-cond n (eqb major 5) _ _ (map_leaves inner leaves w k n bs few) (tag_leaves inner leaves w k n bs few))))))
+
+  open_leaves : (inner : Option (List ℕ → Reads Item)) → LeavesNoMoreInside inner → (major n : ℕ) (bs : List ℕ) → length bs ≤ n → Leaves n (open_at m inner major bs)
+  unfolding open_at
+  open_leaves inner leaves major n bs few =
+      Leaves-cond n (eqb major 2) _ _ (string_chunks_leaves n bs few)
+      (Leaves-cond n (eqb major 3) _ _ (text_chunks_leaves n bs few)
+      (Leaves-cond n (eqb major 4) _ _ (open_array_leaves inner leaves n bs few)
+      (Leaves-cond n (eqb major 5) _ _ (open_map_leaves inner leaves n bs few) tt)))
+
+  after_first_leaves : (inner : Option (List ℕ → Reads Item)) → LeavesNoMoreInside inner → (b n : ℕ) (bs : List ℕ) → length bs ≤ n → Leaves n (after_first m inner b bs)
+  unfolding after_first
+  after_first_leaves inner leaves b n bs few =
+      Leaves-cond n (eqb (b / 32) 7) _ _ (simple_leaves (b % 32) n bs few)
+      (Leaves-cond n (eqb (b % 32) 31) _ _ (open_leaves inner leaves (b / 32) n bs few)
+      (Leaves-bind n n (number_behind (b % 32) bs) _ (number_behind_leaves (b % 32) n bs few) (λ k few. content_leaves inner leaves (b / 32) _ k.0 n k.1 few)))
+
+  -- one byte is the first
+  item_leaves : (inner : Option (List ℕ → Reads Item)) → LeavesNoMoreInside inner → (n : ℕ) (bs : List ℕ) → length bs ≤ suc n → Leaves n (item_by m inner bs)
+  unfolding item_by byte_at
+  item_leaves inner leaves n [] few = tt
+  item_leaves inner leaves n (b ∷ bs) few = after_first_leaves inner leaves b n bs (omega arith)
+
+  -- an item leaves no more than what follows a first byte
+  pub leaves : (levels n : ℕ) (bs : List ℕ) → length bs ≤ suc n → Leaves n (item_at m levels bs)
+  unfolding item_at
+  leaves zero n bs few = item_leaves None tt n bs few
+  leaves (suc levels) n bs few = item_leaves (Some (item_at m levels)) (λ n bs few. leaves levels n bs (omega arith)) n bs few
+
+  -- an item takes a byte at the least
+  pub taken : (levels : ℕ) (bs : List ℕ) (x : Item × List ℕ) → item_at m levels bs ≡ Ok x → length x.1 < length bs
+  unfolding item_at item_by byte_at
+  taken zero [] x is = absurd cc
+  taken (suc levels) [] x is = absurd cc
+  taken levels (b ∷ bs) x is =
+      let few : length x.1 ≤ length bs = Leaves-use (length bs) (item_at m levels (b ∷ bs)) x (leaves levels (length bs) (b ∷ bs) (omega arith)) is in
+      omega arith
