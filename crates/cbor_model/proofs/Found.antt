@@ -1,33 +1,33 @@
 -- What is read is spelled so.
-use Rattle.std.proofs.Common.{◌≡◌, ℕ, zero, suc, ◌+◌, ◌*◌, ◌/◌, ◌%◌, ◌<◌, ◌≤◌, Bool, true, false, eqb, leb, List, [], ◌∷◌, ◌++◌, length, Option, Some, None, Ok, ◌&&◌, ◌||◌, refl, sym, ap, subst, ◌∙◌, append_assoc, arith, inl, inr, ◌⊎◌}
+use Rattle.std.proofs.Common.{◌≡◌, ℕ, zero, suc, ◌+◌, ◌*◌, ◌/◌, ◌%◌, ◌<◌, ◌≤◌, Bool, true, false, cond, eqb, ltb, ◌&&◌, List, [], ◌∷◌, ◌++◌, length, Option, Some, None, Ok, refl, sym, ap, subst, ◌∙◌, append_assoc, arith, inl, inr}
+use Rattle.std.specs.Prelude.{flat_map}
+use Rattle.std.specs.List.{AllByRecursion}
 use Rattle.std.specs.Int.{Width, w16, w32, w64, to_be_bytes}
-use Rattle.std.proofs.lemmas.Bool.{cases_lt, eqb-true, eqb-false, leb-false, le-leb}
-use Rattle.cbor_model.specs.Head.{HeadWidth, limit, info, head}
+use Rattle.std.proofs.lemmas.Bool.{eqb-true, eqb-false}
+use Rattle.cbor_model.specs.Head.{HeadWidth, limit, info, head, behind}
 use Rattle.cbor_model.specs.Raw as raw
-use Rattle.cbor_model.specs.Raw.{Raw, Raws, no_raws, Simple, false_item, true_item, null_item, undefined_item, FloatWidth, half, single, double, float_limit, count, depth, depth_all, AreBytes, IsWellFormed, AreWellFormed, EachText, EachTextOfAll}
-use Rattle.cbor_model.specs.Spelling.{spell, spell_all, simple_byte, float_spelling}
-use Rattle.cbor_model.specs.Supported.{IsSupported, AreSupported}
-use Rattle.cbor_model.specs.Refusal.{unexpected_code, too_deep, length_out_of_range}
-use Rattle.cbor_model.specs.Reader.{Reads, ◌>>=◌, Reading, ended, before, byte_at, bytes_at, number_at, width_of, number_behind, float_at, simple_at, string_at, checked_text, text_at, items_by, items_at, array_at, content_at, is_unsupported, after_first, item_by, item_at}
-use Rattle.cbor_model.proofs.Made.{made, made_all}
+use Rattle.cbor_model.specs.Raw.{Raw, Raws, no_raws, RawPairs, no_raw_pairs, raw_pair, Chunk, joined, Simple, false_item, true_item, null_item, undefined_item, FloatWidth, half, single, double, float_limit, count, pair_count, depth, depth_all, depth_pairs, AreBytes, IsChunk, IsWellFormed, AreWellFormed, ArePairsWellFormed, EachText, EachTextOfAll, EachTextOfPairs}
+use Rattle.cbor_model.specs.Spelling.{spell, spell_all, spell_pairs, chunk, simple_byte, float_spelling, break}
+use Rattle.cbor_model.specs.Refusal.{Refusal, end_in_array, end_in_map, unassigned_code, unexpected_code, too_deep, length_out_of_range}
+use Rattle.cbor_model.specs.Reader.{Reads, ◌>>=◌, Reading, ended, before, byte_at, bytes_at, number_at, width_of, number_behind, float_at, simple_at, string_at, checked_text, text_at, begins_chunk, chunk_at, chunks_by, chunks_at, string_chunks_at, text_chunks_at, items_by, more_at, open_items_by, pairs_by, open_pairs_by, array_at, map_at, tag_at, open_array_at, open_map_at, content_at, open_at, after_first, item_by, item_at}
+use Rattle.cbor_model.proofs.Made.{made, made_all, made_pairs}
 use Rattle.cbor_model.proofs.Steps.{AreBytes-rest, bind_ok, chosen, done, ok_is, not_ok, bytes_found, IsWide, wide16, wide32, wide64, number_found, info-below, number_behind_found, first_is}
 
 -- the reading lets the text pass
-abbrev pub Passes : {Item Items : Type 0} → Reading Item Items → List ℕ → Type 0
+abbrev pub Passes : {Item Items Pairs : Type 0} → Reading Item Items Pairs → List ℕ → Type 0
 Passes m b = m.is_text b ≡ true
 
 -- what is read of bs at that depth at the most
-pub record IsItem {Item Items : Type 0} (m : Reading Item Items) (levels : ℕ) (bs : List ℕ) (x : Item × List ℕ) : Type 0 where
+pub record IsItem {Item Items Pairs : Type 0} (m : Reading Item Items Pairs) (levels : ℕ) (bs : List ℕ) (x : Item × List ℕ) : Type 0 where
   pub item : Raw
   pub made_is : made m item ≡ x.0
   pub parts : bs ≡ spell item ++ x.1
   pub fits : IsWellFormed item
   pub nests : depth item ≤ levels
   pub texts : EachText (Passes m) item
-  pub supported : IsSupported item
   pub rest_fits : AreBytes x.1
 
-pub record AreItems {Item Items : Type 0} (m : Reading Item Items) (levels n : ℕ) (bs : List ℕ) (x : Items × List ℕ) : Type 0 where
+pub record AreItems {Item Items Pairs : Type 0} (m : Reading Item Items Pairs) (levels n : ℕ) (bs : List ℕ) (x : Items × List ℕ) : Type 0 where
   pub items : Raws
   pub made_is : made_all m items ≡ x.0
   pub parts : bs ≡ spell_all items ++ x.1
@@ -35,44 +35,44 @@ pub record AreItems {Item Items : Type 0} (m : Reading Item Items) (levels n : �
   pub fits : AreWellFormed items
   pub nests : depth_all items ≤ levels
   pub texts : EachTextOfAll (Passes m) items
-  pub supported : AreSupported items
   pub rest_fits : AreBytes x.1
 
-abbrev pub Finds : {Item Items : Type 0} → Reading Item Items → (List ℕ → Reads Item) → ℕ → Type 0
+pub record ArePairs {Item Items Pairs : Type 0} (m : Reading Item Items Pairs) (levels n : ℕ) (bs : List ℕ) (x : Pairs × List ℕ) : Type 0 where
+  pub pairs : RawPairs
+  pub made_is : made_pairs m pairs ≡ x.0
+  pub parts : bs ≡ spell_pairs pairs ++ x.1
+  pub count_is : pair_count pairs ≡ n
+  pub fits : ArePairsWellFormed pairs
+  pub nests : depth_pairs pairs ≤ levels
+  pub texts : EachTextOfPairs (Passes m) pairs
+  pub rest_fits : AreBytes x.1
+
+-- items up to the break, which is taken too
+abbrev pub AreOpenItems : {Item Items Pairs : Type 0} → Reading Item Items Pairs → ℕ → List ℕ → Items × List ℕ → Type 0
+AreOpenItems m levels bs x = (n : ℕ) × AreItems m levels n bs (x.0, 0xff ∷ x.1)
+
+abbrev pub AreOpenPairs : {Item Items Pairs : Type 0} → Reading Item Items Pairs → ℕ → List ℕ → Pairs × List ℕ → Type 0
+AreOpenPairs m levels bs x = (n : ℕ) × ArePairs m levels n bs (x.0, 0xff ∷ x.1)
+
+-- a chunk with the first byte b
+pub record IsChunkOf (major b : ℕ) (bs : List ℕ) (x : Chunk × List ℕ) : Type 0 where
+  pub parts : (b ∷ bs) ≡ chunk major x.0 ++ x.1
+  pub fits : IsChunk x.0
+  pub rest_fits : AreBytes x.1
+
+-- chunks up to the break, which is taken too
+pub record AreChunks (major : ℕ) (bs : List ℕ) (x : List Chunk × List ℕ) : Type 0 where
+  pub parts : bs ≡ flat_map (chunk major) x.0 ++ (0xff ∷ x.1)
+  pub fits : AllByRecursion IsChunk x.0
+  pub rest_fits : AreBytes x.1
+
+abbrev pub Finds : {Item Items Pairs : Type 0} → Reading Item Items Pairs → (List ℕ → Reads Item) → ℕ → Type 0
 Finds {Item = Item} m p levels = (bs : List ℕ) (x : Item × List ℕ) → AreBytes bs → p bs ≡ Ok x → IsItem m levels bs x
 
 -- a reader of what lies one level further in
-abbrev pub FindsInside : {Item Items : Type 0} → Reading Item Items → Option (List ℕ → Reads Item) → ℕ → Type 0
+abbrev pub FindsInside : {Item Items Pairs : Type 0} → Reading Item Items Pairs → Option (List ℕ → Reads Item) → ℕ → Type 0
 FindsInside m None levels = Unit {0}
 FindsInside m (Some p) levels = (inside : ℕ) × (suc inside ≤ levels) × Finds m p inside
-
--- a test by `||` that failed, part by part
-neither : (a b : Bool) → (a || b) ≡ false → (a ≡ false) × (b ≡ false)
-neither true b e = absurd cc
-neither false b e = (refl, e)
-
--- of the six tests of a refused first byte, the two that are ranges
-fourth_and_last : (a b c d e f : Bool) → (a || b || c || d || e || f) ≡ false → (d ≡ false) × (f ≡ false)
-fourth_and_last a b c d e f none =
-    let but_last = neither (a || b || c || d || e) f none in
-    let front = neither (a || b || c || d) e but_last.0 in
-    ((neither (a || b || c) d front.0).1, but_last.1)
-
--- a test of a range that failed
-outside : (low high b : ℕ) → (leb low b && leb b high) ≡ false → (b < low) ⊎ (high < b)
-outside low high b e =
-    elim (cases_lt b low) [
-      | inl below ↦ inl below
-      | inr above ↦ inr (leb-false b high (subst (λ (c : Bool). (c && leb b high) ≡ false) (le-leb low b above) e))
-    ]
-
--- a first byte that isn't refused, and says a width, is of a major type up to 4, or 7
-major-supported : (b : ℕ) → b < 256 → is_unsupported b ≡ false → (b / 32 ≡ 7 → ⊥) → b % 32 < 28 → b / 32 ≤ 4
-major-supported b lt e not_seven low =
-    let ranges = fourth_and_last (eqb b 0x5f) (eqb b 0x7f) (eqb b 0x9f) (leb 0xa0 b && leb b 0xbb) (eqb b 0xbf) (leb 0xc0 b && leb b 0xdb) e in
-    let no_map : (b < 0xa0) ⊎ (0xbb < b) = outside 0xa0 0xbb b ranges.0 in
-    let no_tag : (b < 0xc0) ⊎ (0xdb < b) = outside 0xc0 0xdb b ranges.1 in
-    omega arith
 
 -- two parts, one after the other
 two_parts : (bs a more b rest : List ℕ) → bs ≡ a ++ more → more ≡ b ++ rest → bs ≡ (a ++ b) ++ rest
@@ -83,7 +83,92 @@ behind_head : (major : ℕ) (w : HeadWidth) (n k : ℕ) (bs b rest : List ℕ) �
 behind_head major w n k bs b rest parts long =
     two_parts (head major w n ++ bs) (head major w k) bs b rest (ap (λ (n : ℕ). head major w n ++ bs) (sym long)) parts
 
-module _ {Item Items : Type 0} (m : Reading Item Items) where
+-- a first byte, and parts up to the break
+behind_first : (first : ℕ) (bs parts rest : List ℕ) → bs ≡ parts ++ (0xff ∷ rest) → (first ∷ bs) ≡ (first ∷ (parts ++ break)) ++ rest
+behind_first first bs parts rest is = ap (λ (t : List ℕ). first ∷ t) (is ∙ sym (append_assoc parts break rest))
+
+-- ---- whether another element comes
+
+another_found : (why : Refusal) (bs : List ℕ) (x : Bool × List ℕ) → more_at why bs ≡ Ok x → x.0 ≡ true → x.1 ≡ bs
+unfolding more_at
+another_found why [] x is more = not_ok _ x is
+another_found why (b ∷ bs) x is more =
+    elim (chosen (eqb b 0xff) _ _ _ is) [
+      | inl last ↦
+          let same = ok_is (false, bs) x last.1 in
+          absurd cc
+      | inr other ↦ sym (ap (λ (y : Bool × List ℕ). y.1) (ok_is (true, b ∷ bs) x other.1))
+    ]
+
+break_found : (why : Refusal) (bs : List ℕ) (x : Bool × List ℕ) → more_at why bs ≡ Ok x → x.0 ≡ false → bs ≡ 0xff ∷ x.1
+unfolding more_at
+break_found why [] x is none = not_ok _ x is
+break_found why (b ∷ bs) x is none =
+    elim (chosen (eqb b 0xff) _ _ _ is) [
+      | inl last ↦ ap (λ (c : ℕ). c ∷ bs) (eqb-true _ _ last.0) ∙ ap (λ (y : Bool × List ℕ). 0xff ∷ y.1) (ok_is (false, bs) x last.1)
+      | inr other ↦
+          let same = ok_is (true, b ∷ bs) x other.1 in
+          absurd cc
+    ]
+
+-- ---- chunks
+
+both_hold : (a b : Bool) → (a && b) ≡ true → (a ≡ true) × (b ≡ true)
+both_hold true b e = (refl, e)
+both_hold false b e = absurd cc
+
+-- the head of this major type, and what stands behind its first byte
+whole_head : (major b n : ℕ) (w : HeadWidth) (bs rest : List ℕ) → b / 32 ≡ major → b % 32 ≡ info w n → bs ≡ behind w n ++ rest → (b ∷ bs) ≡ head major w n ++ rest
+whole_head major b n w bs rest high low parts =
+    let first : b ≡ 32 * major + info w n = omega (arith, first_is b) in
+    ap (λ (c : ℕ). c ∷ bs) first ∙ ap (λ (t : List ℕ). (32 * major + info w n) ∷ t) parts
+
+chunk_found : (major b : ℕ) (bs : List ℕ) (x : Chunk × List ℕ) → AreBytes bs → chunk_at major b bs ≡ Ok x → IsChunkOf major b bs x
+unfolding chunk_at
+chunk_found major b bs x fits is =
+    elim (chosen (begins_chunk major b) _ _ _ is) [
+      | inr other ↦ not_ok (before unexpected_code bs) x other.1
+      | inl this ↦
+          let w = width_of (b % 32) in
+          let high : b / 32 ≡ major = eqb-true _ _ (both_hold (eqb (b / 32) major) (ltb (b % 32) 28) this.0).0 in
+          let step = bind_ok (number_behind (b % 32) bs) (λ n. bytes_at n.0 n.1 >>= (λ c. Ok (record { width = w; bytes = c.0 }, c.1))) x this.1 in
+          let n = step.0.0 in
+          let got = number_behind_found (b % 32) bs step.0 fits step.1 in
+          let step' = bind_ok (bytes_at n step.0.1) (λ c. Ok (record { width = w; bytes = c.0 }, c.1)) x step.2 in
+          let c = step'.0 in
+          let got' = bytes_found n step.0.1 c got.rest_fits step'.1 in
+          let long : length c.0 ≡ n = got'.long in
+          let small : n < limit w = got.fits in
+          subst (IsChunkOf major b bs) (ok_is (record { width = w; bytes = c.0 }, c.1) x step'.2) (record {
+            parts = whole_head major b n w bs step.0.1 high got.is_low got.parts ∙ behind_head major w n (length c.0) step.0.1 c.0 c.1 got'.parts long;
+            fits = (omega (arith, long, small), got'.fits);
+            rest_fits = got'.rest_fits;
+          })
+    ]
+
+chunks_found : (major fuel : ℕ) (bs : List ℕ) (x : List Chunk × List ℕ) → AreBytes bs → chunks_by major fuel bs ≡ Ok x → AreChunks major bs x
+unfolding chunks_by byte_at
+chunks_found major zero bs x fits is = not_ok ended x is
+chunks_found major (suc fuel) [] x fits is = not_ok ended x is
+chunks_found major (suc fuel) (b ∷ bs) x fits is =
+    let rest_fits = AreBytes-rest b bs fits in
+    elim (chosen (eqb b 0xff) _ _ _ is) [
+      | inl last ↦ subst (AreChunks major (b ∷ bs)) (ok_is ([], bs) x last.1) (record { parts = ap (λ (c : ℕ). c ∷ bs) (eqb-true _ _ last.0); fits = tt; rest_fits = rest_fits })
+      | inr other ↦
+          let step = bind_ok (chunk_at major b bs) (λ c. chunks_by major fuel c.1 >>= (λ cs. Ok (c.0 ∷ cs.0, cs.1))) x other.1 in
+          let c = step.0 in
+          let got = chunk_found major b bs c rest_fits step.1 in
+          let step' = bind_ok (chunks_by major fuel c.1) (λ cs. Ok (c.0 ∷ cs.0, cs.1)) x step.2 in
+          let cs = step'.0 in
+          let got' = chunks_found major fuel c.1 cs got.rest_fits step'.1 in
+          subst (AreChunks major (b ∷ bs)) (ok_is (c.0 ∷ cs.0, cs.1) x step'.2) (record {
+            parts = two_parts (b ∷ bs) (chunk major c.0) c.1 (flat_map (chunk major) cs.0) (0xff ∷ cs.1) got.parts got'.parts;
+            fits = (got.fits, got'.fits);
+            rest_fits = got'.rest_fits;
+          })
+    ]
+
+module _ {Item Items Pairs : Type 0} (m : Reading Item Items Pairs) where
   -- an item, and those after it
   item_added : (levels n : ℕ) (bs more rest : List ℕ) (first : Item) (others : Items) → IsItem m levels bs (first, more) → AreItems m levels n more (others, rest) → AreItems m levels (suc n) bs (m.item first others, rest)
   unfolding spell made
@@ -95,20 +180,88 @@ module _ {Item Items : Type 0} (m : Reading Item Items) where
     fits = (one.fits, all.fits);
     nests = omega (arith, one.nests, all.nests);
     texts = (one.texts, all.texts);
-    supported = (one.supported, all.supported);
     rest_fits = all.rest_fits;
   }
 
   items_found : (p : List ℕ → Reads Item) (levels : ℕ) → Finds m p levels → (n : ℕ) (bs : List ℕ) (x : Items × List ℕ) → AreBytes bs → items_by m p n bs ≡ Ok x → AreItems m levels n bs x
   unfolding items_by spell made
   items_found p levels finds zero bs x fits is =
-      subst (AreItems m levels 0 bs) (ok_is (m.no_items, bs) x is) (record { items = no_raws; made_is = refl; parts = refl; count_is = refl; fits = tt; nests = omega arith; texts = tt; supported = tt; rest_fits = fits })
+      subst (AreItems m levels 0 bs) (ok_is (m.no_items, bs) x is) (record { items = no_raws; made_is = refl; parts = refl; count_is = refl; fits = tt; nests = omega arith; texts = tt; rest_fits = fits })
   items_found p levels finds (suc n) bs x fits is =
       let a = bind_ok (p bs) (λ first. items_by m p n first.1 >>= λ others. Ok (m.item first.0 others.0, others.1)) x is in
       let b = bind_ok (items_by m p n a.0.1) (λ others. Ok (m.item a.0.0 others.0, others.1)) x a.2 in
       let one = finds bs a.0 fits a.1 in
       let all = items_found p levels finds n a.0.1 b.0 one.rest_fits b.1 in
       subst (AreItems m levels (suc n) bs) (ok_is (m.item a.0.0 b.0.0, b.0.1) x b.2) (item_added levels n bs a.0.1 b.0.1 a.0.0 b.0.0 one all)
+
+  open_items_found : (p : List ℕ → Reads Item) (levels : ℕ) → Finds m p levels → (fuel : ℕ) (bs : List ℕ) (x : Items × List ℕ) → AreBytes bs → open_items_by m p fuel bs ≡ Ok x → AreOpenItems m levels bs x
+  unfolding open_items_by spell made
+  open_items_found p levels finds zero bs x fits is = not_ok ended x is
+  open_items_found p levels finds (suc fuel) bs x fits is =
+      let step = bind_ok (more_at end_in_array bs) (λ more. cond more.0 (p more.1 >>= (λ first. open_items_by m p fuel first.1 >>= (λ others. Ok (m.item first.0 others.0, others.1)))) (Ok (m.no_items, more.1))) x is in
+      let more = step.0 in
+      elim (chosen more.0 _ _ _ step.2) [
+        | inl another ↦
+            let same : more.1 ≡ bs = another_found end_in_array bs more step.1 another.0 in
+            let a = bind_ok (p more.1) (λ first. open_items_by m p fuel first.1 >>= (λ others. Ok (m.item first.0 others.0, others.1))) x another.1 in
+            let b = bind_ok (open_items_by m p fuel a.0.1) (λ others. Ok (m.item a.0.0 others.0, others.1)) x a.2 in
+            let one = finds bs a.0 fits (ap p (sym same) ∙ a.1) in
+            let all = open_items_found p levels finds fuel a.0.1 b.0 one.rest_fits b.1 in
+            subst (AreOpenItems m levels bs) (ok_is (m.item a.0.0 b.0.0, b.0.1) x b.2) (suc all.0, item_added levels all.0 bs a.0.1 (0xff ∷ b.0.1) a.0.0 b.0.0 one all.1)
+        | inr none ↦
+            let last : bs ≡ 0xff ∷ more.1 = break_found end_in_array bs more step.1 none.0 in
+            subst (AreOpenItems m levels bs) (ok_is (m.no_items, more.1) x none.1) (0, record { items = no_raws; made_is = refl; parts = last; count_is = refl; fits = tt; nests = omega arith; texts = tt; rest_fits = subst (λ (t : List ℕ). AreBytes t) last fits })
+      ]
+
+  -- a pair, and those after it
+  pair_added : (levels n : ℕ) (bs at_value more rest : List ℕ) (k v : Item) (others : Pairs) → IsItem m levels bs (k, at_value) → IsItem m levels at_value (v, more) → ArePairs m levels n more (others, rest) → ArePairs m levels (suc n) bs (m.pair k v others, rest)
+  unfolding spell made
+  pair_added levels n bs at_value more rest k v others key val all = record {
+    pairs = raw_pair key.item val.item all.pairs;
+    made_is = ap (λ (i : Item). m.pair i (made m val.item) (made_pairs m all.pairs)) key.made_is ∙ ap (λ (i : Item). m.pair k i (made_pairs m all.pairs)) val.made_is ∙ ap (m.pair k v) all.made_is;
+    parts = two_parts bs (spell key.item) at_value (spell val.item ++ spell_pairs all.pairs) rest key.parts (two_parts at_value (spell val.item) more (spell_pairs all.pairs) rest val.parts all.parts);
+    count_is = ap suc all.count_is;
+    fits = (key.fits, val.fits, all.fits);
+    nests = omega (arith, key.nests, val.nests, all.nests);
+    texts = (key.texts, val.texts, all.texts);
+    rest_fits = all.rest_fits;
+  }
+
+  pairs_found : (p : List ℕ → Reads Item) (levels : ℕ) → Finds m p levels → (n : ℕ) (bs : List ℕ) (x : Pairs × List ℕ) → AreBytes bs → pairs_by m p n bs ≡ Ok x → ArePairs m levels n bs x
+  unfolding pairs_by spell made
+  pairs_found p levels finds zero bs x fits is =
+      subst (ArePairs m levels 0 bs) (ok_is (m.no_pairs, bs) x is) (record { pairs = no_raw_pairs; made_is = refl; parts = refl; count_is = refl; fits = tt; nests = omega arith; texts = tt; rest_fits = fits })
+  pairs_found p levels finds (suc n) bs x fits is =
+      let a = bind_ok (p bs) (λ k. p k.1 >>= λ v. pairs_by m p n v.1 >>= λ others. Ok (m.pair k.0 v.0 others.0, others.1)) x is in
+      let b = bind_ok (p a.0.1) (λ v. pairs_by m p n v.1 >>= λ others. Ok (m.pair a.0.0 v.0 others.0, others.1)) x a.2 in
+      let c = bind_ok (pairs_by m p n b.0.1) (λ others. Ok (m.pair a.0.0 b.0.0 others.0, others.1)) x b.2 in
+      let key = finds bs a.0 fits a.1 in
+      let val = finds a.0.1 b.0 key.rest_fits b.1 in
+      let all = pairs_found p levels finds n b.0.1 c.0 val.rest_fits c.1 in
+      subst (ArePairs m levels (suc n) bs) (ok_is (m.pair a.0.0 b.0.0 c.0.0, c.0.1) x c.2) (pair_added levels n bs a.0.1 b.0.1 c.0.1 a.0.0 b.0.0 c.0.0 key val all)
+
+  open_pairs_found : (p : List ℕ → Reads Item) (levels : ℕ) → Finds m p levels → (fuel : ℕ) (bs : List ℕ) (x : Pairs × List ℕ) → AreBytes bs → open_pairs_by m p fuel bs ≡ Ok x → AreOpenPairs m levels bs x
+  unfolding open_pairs_by spell made
+  open_pairs_found p levels finds zero bs x fits is = not_ok ended x is
+  open_pairs_found p levels finds (suc fuel) bs x fits is =
+      let step = bind_ok (more_at end_in_map bs) (λ more. cond more.0 (p more.1 >>= (λ k. p k.1 >>= (λ v. open_pairs_by m p fuel v.1 >>= (λ others. Ok (m.pair k.0 v.0 others.0, others.1))))) (Ok (m.no_pairs, more.1))) x is in
+      let more = step.0 in
+      elim (chosen more.0 _ _ _ step.2) [
+        | inl another ↦
+            let same : more.1 ≡ bs = another_found end_in_map bs more step.1 another.0 in
+            let a = bind_ok (p more.1) (λ k. p k.1 >>= (λ v. open_pairs_by m p fuel v.1 >>= (λ others. Ok (m.pair k.0 v.0 others.0, others.1)))) x another.1 in
+            let b = bind_ok (p a.0.1) (λ v. open_pairs_by m p fuel v.1 >>= (λ others. Ok (m.pair a.0.0 v.0 others.0, others.1))) x a.2 in
+            let c = bind_ok (open_pairs_by m p fuel b.0.1) (λ others. Ok (m.pair a.0.0 b.0.0 others.0, others.1)) x b.2 in
+            let key = finds bs a.0 fits (ap p (sym same) ∙ a.1) in
+            let val = finds a.0.1 b.0 key.rest_fits b.1 in
+            let all = open_pairs_found p levels finds fuel b.0.1 c.0 val.rest_fits c.1 in
+            subst (AreOpenPairs m levels bs) (ok_is (m.pair a.0.0 b.0.0 c.0.0, c.0.1) x c.2) (suc all.0, pair_added levels all.0 bs a.0.1 b.0.1 (0xff ∷ c.0.1) a.0.0 b.0.0 c.0.0 key val all.1)
+        | inr none ↦
+            let last : bs ≡ 0xff ∷ more.1 = break_found end_in_map bs more step.1 none.0 in
+            subst (AreOpenPairs m levels bs) (ok_is (m.no_pairs, more.1) x none.1) (0, record { pairs = no_raw_pairs; made_is = refl; parts = last; count_is = refl; fits = tt; nests = omega arith; texts = tt; rest_fits = subst (λ (t : List ℕ). AreBytes t) last fits })
+      ]
+
+  -- ---- what stands behind a head
 
   -- the content of an item of this head
   abbrev IsContent : ℕ → ℕ → HeadWidth → ℕ → List ℕ → Item × List ℕ → Type 0
@@ -128,7 +281,6 @@ module _ {Item Items : Type 0} (m : Reading Item Items) where
         fits = (omega (arith, long, small), got.fits);
         nests = omega arith;
         texts = tt;
-        supported = tt;
         rest_fits = got.rest_fits;
       })
 
@@ -138,7 +290,7 @@ module _ {Item Items : Type 0} (m : Reading Item Items) where
       elim (chosen (m.has_room (length bs) n) _ _ _ is) [
         | inr out ↦ not_ok (before length_out_of_range bs) x out.1
         | inl room ↦
-            let step = bind_ok (bytes_at n bs) (λ b. checked_text m w b.0 b.1) x room.1 in
+            let step = bind_ok (bytes_at n bs) (λ b. checked_text m (m.text (record { width = w; bytes = b.0 })) b.0 b.1) x room.1 in
             let b = step.0 in
             let got = bytes_found n bs b fits step.1 in
             let long : length b.0 ≡ n = got.long in
@@ -151,14 +303,13 @@ module _ {Item Items : Type 0} (m : Reading Item Items) where
                 fits = (omega (arith, long, small), got.fits);
                 nests = omega arith;
                 texts = passes.0;
-                supported = tt;
                 rest_fits = got.rest_fits;
               })
             ]
       ]
 
   array_found : (inner : Option (List ℕ → Reads Item)) (levels : ℕ) → FindsInside m inner levels → (w : HeadWidth) (n : ℕ) (bs : List ℕ) (x : Item × List ℕ) → AreBytes bs → n < limit w → array_at m inner w n bs ≡ Ok x → IsContent levels 4 w n bs x
-  unfolding array_at items_at spell made
+  unfolding array_at spell made
   array_found None levels finds w n bs x fits small is = not_ok (before too_deep bs) x is
   array_found (Some p) levels finds w n bs x fits small is =
       let step = bind_ok (items_by m p n bs) (λ items. Ok (m.array w items.0, items.1)) x is in
@@ -172,9 +323,140 @@ module _ {Item Items : Type 0} (m : Reading Item Items) where
         fits = (omega (arith, many, small), got.fits);
         nests = omega (arith, got.nests, finds.1);
         texts = got.texts;
-        supported = got.supported;
         rest_fits = got.rest_fits;
       })
+
+  map_found : (inner : Option (List ℕ → Reads Item)) (levels : ℕ) → FindsInside m inner levels → (w : HeadWidth) (n : ℕ) (bs : List ℕ) (x : Item × List ℕ) → AreBytes bs → n < limit w → map_at m inner w n bs ≡ Ok x → IsContent levels 5 w n bs x
+  unfolding map_at spell made
+  map_found None levels finds w n bs x fits small is = not_ok (before too_deep bs) x is
+  map_found (Some p) levels finds w n bs x fits small is =
+      let step = bind_ok (pairs_by m p n bs) (λ pairs. Ok (m.map w pairs.0, pairs.1)) x is in
+      let got = pairs_found p finds.0 finds.2 n bs step.0 fits step.1 in
+      let many : pair_count got.pairs ≡ n = got.count_is in
+      let rest = step.0.1 in
+      subst (IsContent levels 5 w n bs) (ok_is (m.map w step.0.0, rest) x step.2) (record {
+        item = raw.map w got.pairs;
+        made_is = ap (m.map w) got.made_is;
+        parts = behind_head 5 w n (pair_count got.pairs) bs (spell_pairs got.pairs) rest got.parts many;
+        fits = (omega (arith, many, small), got.fits);
+        nests = omega (arith, got.nests, finds.1);
+        texts = got.texts;
+        rest_fits = got.rest_fits;
+      })
+
+  tag_found : (inner : Option (List ℕ → Reads Item)) (levels : ℕ) → FindsInside m inner levels → (w : HeadWidth) (n : ℕ) (bs : List ℕ) (x : Item × List ℕ) → AreBytes bs → n < limit w → tag_at m inner w n bs ≡ Ok x → IsContent levels 6 w n bs x
+  unfolding tag_at spell made
+  tag_found None levels finds w n bs x fits small is = not_ok (before too_deep bs) x is
+  tag_found (Some p) levels finds w n bs x fits small is =
+      let step = bind_ok (p bs) (λ item. Ok (m.tag w n item.0, item.1)) x is in
+      let got = finds.2 bs step.0 fits step.1 in
+      let rest = step.0.1 in
+      subst (IsContent levels 6 w n bs) (ok_is (m.tag w n step.0.0, rest) x step.2) (record {
+        item = raw.tag w n got.item;
+        made_is = ap (m.tag w n) got.made_is;
+        parts = behind_head 6 w n n bs (spell got.item) rest got.parts refl;
+        fits = (small, got.fits);
+        nests = omega (arith, got.nests, finds.1);
+        texts = got.texts;
+        rest_fits = got.rest_fits;
+      })
+
+  -- ---- open forms and chunked strings
+
+  -- an item whose first byte says this major type and no width
+  abbrev IsOpen : ℕ → ℕ → List ℕ → Item × List ℕ → Type 0
+  IsOpen levels major bs x = IsItem m levels ((32 * major + 31) ∷ bs) x
+
+  string_chunks_found : (levels : ℕ) (bs : List ℕ) (x : Item × List ℕ) → AreBytes bs → string_chunks_at m bs ≡ Ok x → IsOpen levels 2 bs x
+  unfolding string_chunks_at spell made
+  string_chunks_found levels bs x fits is =
+      let step = bind_ok (chunks_at 2 bs) (λ cs. Ok (m.bytes_chunks cs.0, cs.1)) x is in
+      let cs = step.0 in
+      let got = chunks_found 2 (suc (length bs)) bs cs fits step.1 in
+      subst (IsOpen levels 2 bs) (ok_is (m.bytes_chunks cs.0, cs.1) x step.2) (record {
+        item = raw.bytes_chunks cs.0;
+        made_is = refl;
+        parts = behind_first 0x5f bs (flat_map (chunk 2) cs.0) cs.1 got.parts;
+        fits = got.fits;
+        nests = omega arith;
+        texts = tt;
+        rest_fits = got.rest_fits;
+      })
+
+  text_chunks_found : (levels : ℕ) (bs : List ℕ) (x : Item × List ℕ) → AreBytes bs → text_chunks_at m bs ≡ Ok x → IsOpen levels 3 bs x
+  unfolding text_chunks_at checked_text spell made
+  text_chunks_found levels bs x fits is =
+      let step = bind_ok (chunks_at 3 bs) (λ cs. checked_text m (m.text_chunks cs.0) (joined cs.0) cs.1) x is in
+      let cs = step.0 in
+      let got = chunks_found 3 (suc (length bs)) bs cs fits step.1 in
+      elim (chosen (m.is_text (joined cs.0)) _ _ _ step.2) [
+        | inr other ↦ not_ok _ x other.1
+        | inl passes ↦ subst (IsOpen levels 3 bs) (ok_is (m.text_chunks cs.0, cs.1) x passes.1) (record {
+          item = raw.text_chunks cs.0;
+          made_is = refl;
+          parts = behind_first 0x7f bs (flat_map (chunk 3) cs.0) cs.1 got.parts;
+          fits = got.fits;
+          nests = omega arith;
+          texts = passes.0;
+          rest_fits = got.rest_fits;
+        })
+      ]
+
+  open_array_found : (inner : Option (List ℕ → Reads Item)) (levels : ℕ) → FindsInside m inner levels → (bs : List ℕ) (x : Item × List ℕ) → AreBytes bs → open_array_at m inner bs ≡ Ok x → IsOpen levels 4 bs x
+  unfolding open_array_at spell made
+  open_array_found None levels finds bs x fits is = not_ok (before too_deep bs) x is
+  open_array_found (Some p) levels finds bs x fits is =
+      let step = bind_ok (open_items_by m p (suc (length bs)) bs) (λ items. Ok (m.array_open items.0, items.1)) x is in
+      let got = (open_items_found p finds.0 finds.2 (suc (length bs)) bs step.0 fits step.1).1 in
+      let rest = step.0.1 in
+      subst (IsOpen levels 4 bs) (ok_is (m.array_open step.0.0, rest) x step.2) (record {
+        item = raw.array_open got.items;
+        made_is = ap m.array_open got.made_is;
+        parts = behind_first 0x9f bs (spell_all got.items) rest got.parts;
+        fits = got.fits;
+        nests = omega (arith, got.nests, finds.1);
+        texts = got.texts;
+        rest_fits = AreBytes-rest 0xff rest got.rest_fits;
+      })
+
+  open_map_found : (inner : Option (List ℕ → Reads Item)) (levels : ℕ) → FindsInside m inner levels → (bs : List ℕ) (x : Item × List ℕ) → AreBytes bs → open_map_at m inner bs ≡ Ok x → IsOpen levels 5 bs x
+  unfolding open_map_at spell made
+  open_map_found None levels finds bs x fits is = not_ok (before too_deep bs) x is
+  open_map_found (Some p) levels finds bs x fits is =
+      let step = bind_ok (open_pairs_by m p (suc (length bs)) bs) (λ pairs. Ok (m.map_open pairs.0, pairs.1)) x is in
+      let got = (open_pairs_found p finds.0 finds.2 (suc (length bs)) bs step.0 fits step.1).1 in
+      let rest = step.0.1 in
+      subst (IsOpen levels 5 bs) (ok_is (m.map_open step.0.0, rest) x step.2) (record {
+        item = raw.map_open got.pairs;
+        made_is = ap m.map_open got.made_is;
+        parts = behind_first 0xbf bs (spell_pairs got.pairs) rest got.parts;
+        fits = got.fits;
+        nests = omega (arith, got.nests, finds.1);
+        texts = got.texts;
+        rest_fits = AreBytes-rest 0xff rest got.rest_fits;
+      })
+
+  open_found : (inner : Option (List ℕ → Reads Item)) (levels : ℕ) → FindsInside m inner levels → (major : ℕ) (bs : List ℕ) (x : Item × List ℕ) → AreBytes bs → open_at m inner major bs ≡ Ok x → IsOpen levels major bs x
+  unfolding open_at
+  open_found inner levels finds major bs x fits is =
+      elim (chosen (eqb major 2) _ _ _ is) [
+        | inl this ↦ subst (λ (k : ℕ). IsOpen levels k bs x) (sym (eqb-true _ _ this.0)) (string_chunks_found levels bs x fits this.1)
+        | inr other ↦
+            elim (chosen (eqb major 3) _ _ _ other.1) [
+              | inl this ↦ subst (λ (k : ℕ). IsOpen levels k bs x) (sym (eqb-true _ _ this.0)) (text_chunks_found levels bs x fits this.1)
+              | inr other ↦
+                  elim (chosen (eqb major 4) _ _ _ other.1) [
+                    | inl this ↦ subst (λ (k : ℕ). IsOpen levels k bs x) (sym (eqb-true _ _ this.0)) (open_array_found inner levels finds bs x fits this.1)
+                    | inr other ↦
+                        elim (chosen (eqb major 5) _ _ _ other.1) [
+                          | inl this ↦ subst (λ (k : ℕ). IsOpen levels k bs x) (sym (eqb-true _ _ this.0)) (open_map_found inner levels finds bs x fits this.1)
+                          | inr none ↦ not_ok (before unassigned_code bs) x none.1
+                        ]
+                  ]
+            ]
+      ]
+
+  -- ---- simple values and floats
 
   -- an item of major type 7, by its lower five bits
   abbrev IsSpecial : ℕ → ℕ → List ℕ → Item × List ℕ → Type 0
@@ -195,7 +477,6 @@ module _ {Item Items : Type 0} (m : Reading Item Items) where
         fits = got.fits;
         nests = omega arith;
         texts = tt;
-        supported = tt;
         rest_fits = got.rest_fits;
       })
 
@@ -226,7 +507,6 @@ module _ {Item Items : Type 0} (m : Reading Item Items) where
         fits = tt;
         nests = omega arith;
         texts = tt;
-        supported = tt;
         rest_fits = fits;
       })
 
@@ -250,25 +530,34 @@ module _ {Item Items : Type 0} (m : Reading Item Items) where
             ]
       ]
 
-  content_found : (inner : Option (List ℕ → Reads Item)) (levels : ℕ) → FindsInside m inner levels → (major : ℕ) → major ≤ 4 → (w : HeadWidth) (n : ℕ) (bs : List ℕ) (x : Item × List ℕ) → AreBytes bs → n < limit w → content_at m inner major w n bs ≡ Ok x → IsContent levels major w n bs x
+  -- ---- items
+
+  content_found : (inner : Option (List ℕ → Reads Item)) (levels : ℕ) → FindsInside m inner levels → (major : ℕ) → major ≤ 6 → (w : HeadWidth) (n : ℕ) (bs : List ℕ) (x : Item × List ℕ) → AreBytes bs → n < limit w → content_at m inner major w n bs ≡ Ok x → IsContent levels major w n bs x
   unfolding content_at spell made
   content_found inner levels finds major at_most w n bs x fits small is =
+      let at_major = λ (k : ℕ) (this : eqb major k ≡ true) (got : IsContent levels k w n bs x). subst (λ (k : ℕ). IsContent levels k w n bs x) (sym (eqb-true major k this)) got in
       elim (chosen (eqb major 0) _ _ _ is) [
-        | inl this ↦
-            subst (λ (k : ℕ). IsContent levels k w n bs x) (sym (eqb-true _ _ this.0)) (subst (IsContent levels 0 w n bs) (ok_is (m.unsigned w n, bs) x this.1) (record { item = raw.unsigned w n; made_is = refl; parts = refl; fits = small; nests = omega arith; texts = tt; supported = tt; rest_fits = fits }))
+        | inl this ↦ at_major 0 this.0 (subst (IsContent levels 0 w n bs) (ok_is (m.unsigned w n, bs) x this.1) (record { item = raw.unsigned w n; made_is = refl; parts = refl; fits = small; nests = omega arith; texts = tt; rest_fits = fits }))
         | inr not_0 ↦
             elim (chosen (eqb major 1) _ _ _ not_0.1) [
-              | inl this ↦
-                  subst (λ (k : ℕ). IsContent levels k w n bs x) (sym (eqb-true _ _ this.0)) (subst (IsContent levels 1 w n bs) (ok_is (m.negative w n, bs) x this.1) (record { item = raw.negative w n; made_is = refl; parts = refl; fits = small; nests = omega arith; texts = tt; supported = tt; rest_fits = fits }))
+              | inl this ↦ at_major 1 this.0 (subst (IsContent levels 1 w n bs) (ok_is (m.negative w n, bs) x this.1) (record { item = raw.negative w n; made_is = refl; parts = refl; fits = small; nests = omega arith; texts = tt; rest_fits = fits }))
               | inr not_1 ↦
                   elim (chosen (eqb major 2) _ _ _ not_1.1) [
-                    | inl this ↦ subst (λ (k : ℕ). IsContent levels k w n bs x) (sym (eqb-true _ _ this.0)) (string_found levels w n bs x fits small this.1)
+                    | inl this ↦ at_major 2 this.0 (string_found levels w n bs x fits small this.1)
                     | inr not_2 ↦
                         elim (chosen (eqb major 3) _ _ _ not_2.1) [
-                          | inl this ↦ subst (λ (k : ℕ). IsContent levels k w n bs x) (sym (eqb-true _ _ this.0)) (text_found levels w n bs x fits small this.1)
+                          | inl this ↦ at_major 3 this.0 (text_found levels w n bs x fits small this.1)
                           | inr not_3 ↦
-                              let four : major ≡ 4 = omega (arith, eqb-false _ _ not_0.0, eqb-false _ _ not_1.0, eqb-false _ _ not_2.0, eqb-false _ _ not_3.0) in
-                              subst (λ (k : ℕ). IsContent levels k w n bs x) (sym four) (array_found inner levels finds w n bs x fits small not_3.1)
+                              elim (chosen (eqb major 4) _ _ _ not_3.1) [
+                                | inl this ↦ at_major 4 this.0 (array_found inner levels finds w n bs x fits small this.1)
+                                | inr not_4 ↦
+                                    elim (chosen (eqb major 5) _ _ _ not_4.1) [
+                                      | inl this ↦ at_major 5 this.0 (map_found inner levels finds w n bs x fits small this.1)
+                                      | inr not_5 ↦
+                                          let six : major ≡ 6 = omega (arith, eqb-false _ _ not_0.0, eqb-false _ _ not_1.0, eqb-false _ _ not_2.0, eqb-false _ _ not_3.0, eqb-false _ _ not_4.0, eqb-false _ _ not_5.0) in
+                                          subst (λ (k : ℕ). IsContent levels k w n bs x) (sym six) (tag_found inner levels finds w n bs x fits small not_5.1)
+                                    ]
+                              ]
                         ]
                   ]
             ]
@@ -277,23 +566,24 @@ module _ {Item Items : Type 0} (m : Reading Item Items) where
   after_first_found : (inner : Option (List ℕ → Reads Item)) (levels : ℕ) → FindsInside m inner levels → (b : ℕ) (bs : List ℕ) (x : Item × List ℕ) → AreBytes (b ∷ bs) → after_first m inner b bs ≡ Ok x → IsItem m levels (b ∷ bs) x
   unfolding after_first
   after_first_found inner levels finds b bs x fits is =
-      elim (chosen (is_unsupported b) _ _ _ is) [
-        | inl refused ↦ not_ok (before unexpected_code bs) x refused.1
-        | inr passes ↦
-            elim (chosen (eqb (b / 32) 7) _ _ _ passes.1) [
+      let rest_fits = AreBytes-rest b bs fits in
+      elim (chosen (eqb (b / 32) 7) _ _ _ is) [
+        | inl this ↦
+            let first : b ≡ 32 * 7 + b % 32 = omega (arith, first_is b, eqb-true _ _ this.0) in
+            subst (λ (c : ℕ). IsItem m levels (c ∷ bs) x) (sym first) (simple_found levels (b % 32) bs x rest_fits this.1)
+        | inr other ↦
+            let at_most : b / 32 ≤ 6 = omega (arith, fits 0, eqb-false _ _ other.0) in
+            elim (chosen (eqb (b % 32) 31) _ _ _ other.1) [
               | inl this ↦
-                  let first : b ≡ 32 * 7 + b % 32 = omega (arith, first_is b, eqb-true _ _ this.0) in
-                  subst (λ (c : ℕ). IsItem m levels (c ∷ bs) x) (sym first) (simple_found levels (b % 32) bs x (AreBytes-rest b bs fits) this.1)
+                  let first : b ≡ 32 * (b / 32) + 31 = omega (arith, first_is b, eqb-true _ _ this.0) in
+                  subst (λ (c : ℕ). IsItem m levels (c ∷ bs) x) (sym first) (open_found inner levels finds (b / 32) bs x rest_fits this.1)
               | inr other ↦
                   let w = width_of (b % 32) in
                   let step = bind_ok (number_behind (b % 32) bs) (λ n. content_at m inner (b / 32) w n.0 n.1) x other.1 in
                   let n = step.0.0 in
                   let rest = step.0.1 in
-                  let got = number_behind_found (b % 32) bs step.0 (AreBytes-rest b bs fits) step.1 in
-                  let low : b % 32 < 28 = subst (λ (k : ℕ). k < 28) (sym got.is_low) (info-below w n got.fits) in
-                  let first : b ≡ 32 * (b / 32) + info w n = first_is b ∙ ap (λ (low : ℕ). 32 * (b / 32) + low) got.is_low in
-                  let whole : (b ∷ bs) ≡ head (b / 32) w n ++ rest = ap (λ (c : ℕ). c ∷ bs) first ∙ ap (λ (t : List ℕ). (32 * (b / 32) + info w n) ∷ t) got.parts in
-                  subst (λ (t : List ℕ). IsItem m levels t x) (sym whole) (content_found inner levels finds (b / 32) (major-supported b (fits 0) passes.0 (eqb-false _ _ other.0) low) w n rest x got.rest_fits got.fits step.2)
+                  let got = number_behind_found (b % 32) bs step.0 rest_fits step.1 in
+                  subst (λ (t : List ℕ). IsItem m levels t x) (sym (whole_head (b / 32) b n w bs rest refl got.is_low got.parts)) (content_found inner levels finds (b / 32) at_most w n rest x got.rest_fits got.fits step.2)
             ]
       ]
 
