@@ -1,48 +1,139 @@
 -- What is spelled is read.
-use Rattle.std.proofs.Common.{◌≡◌, ℕ, zero, suc, ◌+◌, ◌*◌, ◌<◌, ◌≤◌, true, false, eqb, leb, List, ◌∷◌, ◌++◌, length, Option, Some, Ok, refl, ap, ◌∙◌, append_assoc, arith}
+use Rattle.std.proofs.Common.{◌≡◌, ℕ, zero, suc, ◌+◌, ◌*◌, ◌<◌, ◌≤◌, true, false, eqb, List, [], ◌∷◌, ◌++◌, length, Option, Some, Ok, refl, ap, ◌∙◌, append_assoc, arith}
+use Rattle.std.specs.Prelude.{flat_map}
+use Rattle.std.specs.List.{AllByRecursion}
 use Rattle.std.specs.Int.{w16, w32, w64}
-use Rattle.std.proofs.lemmas.Bool.{ne_eqb, lt-leb}
+use Rattle.std.proofs.lemmas.Bool.{ne_eqb, eq-eqb, lt-ltb}
 use Rattle.std.proofs.lemmas.List.{length-append}
-use Rattle.cbor_model.specs.Head.{HeadWidth, limit, info, head}
+use Rattle.cbor_model.specs.Head.{HeadWidth, no_bytes, one_byte, two_bytes, four_bytes, eight_bytes, limit, info, head, behind}
 use Rattle.cbor_model.specs.Raw as raw
-use Rattle.cbor_model.specs.Raw.{Raw, Raws, no_raws, Chunk, Simple, false_item, true_item, null_item, undefined_item, FloatWidth, half, single, double, float_limit, count, depth, depth_all, IsWellFormed, AreWellFormed, EachText, EachTextOfAll}
-use Rattle.cbor_model.specs.Spelling.{spell, spell_all, simple_byte, float_spelling}
-use Rattle.cbor_model.specs.Supported.{IsSupported, AreSupported}
-use Rattle.cbor_model.specs.Reader.{Reads, ◌>>=◌, Reading, byte_at, float_at, simple_at, string_at, checked_text, text_at, items_by, items_at, array_at, content_at, is_unsupported, after_first, item_by, item_at, inside}
-use Rattle.cbor_model.proofs.Made.{made, made_all}
+use Rattle.cbor_model.specs.Raw.{Raw, Raws, no_raws, RawPairs, no_raw_pairs, raw_pair, Chunk, joined, Simple, false_item, true_item, null_item, undefined_item, FloatWidth, half, single, double, float_limit, count, pair_count, depth, depth_all, depth_pairs, IsChunk, IsWellFormed, AreWellFormed, ArePairsWellFormed, EachText, EachTextOfAll, EachTextOfPairs}
+use Rattle.cbor_model.specs.Spelling.{spell, spell_all, spell_pairs, chunk, simple_byte, float_spelling, break}
+use Rattle.cbor_model.specs.Refusal.{Refusal, end_in_array, end_in_map}
+use Rattle.cbor_model.specs.Reader.{Reads, ◌>>=◌, Reading, byte_at, float_at, simple_at, string_at, checked_text, text_at, chunk_at, chunks_by, string_chunks_at, text_chunks_at, items_by, more_at, open_items_by, pairs_by, open_pairs_by, array_at, map_at, tag_at, open_array_at, open_map_at, content_at, open_at, after_first, item_by, item_at, inside}
+use Rattle.cbor_model.proofs.Made.{made, made_all, made_pairs}
 use Rattle.cbor_model.proofs.Steps.{bytes_again, wide16, wide32, wide64, number_again, info-below, width_of-info, number_behind_again, major_of, low_of}
 use Rattle.cbor_model.proofs.Found.{Passes}
 
 -- each text that fits what is left has room, where no more than so many bytes are left
-abbrev pub HasRoom : {Item Items : Type 0} → Reading Item Items → ℕ → Type 0
+abbrev pub HasRoom : {Item Items Pairs : Type 0} → Reading Item Items Pairs → ℕ → Type 0
 HasRoom m total = (left n : ℕ) → n ≤ left → left ≤ total → m.has_room left n ≡ true
 
--- a first byte of a major type up to 4 that says a width is not refused
-is_unsupported-head : (major low : ℕ) → major ≤ 4 → low < 28 → is_unsupported (32 * major + low) ≡ false
-is_unsupported-head major low at_most lt =
-    let b = 32 * major + low in
-    let bytes : eqb b 0x5f ≡ false = ne_eqb b 0x5f (λ same. omega arith) in
-    let texts : eqb b 0x7f ≡ false = ne_eqb b 0x7f (λ same. omega arith) in
-    let arrays : eqb b 0x9f ≡ false = ne_eqb b 0x9f (λ same. omega arith) in
-    let maps : leb 0xa0 b ≡ false = lt-leb 0xa0 b (omega arith) in
-    let open_maps : eqb b 0xbf ≡ false = ne_eqb b 0xbf (λ same. omega arith) in
-    let tags : leb 0xc0 b ≡ false = lt-leb 0xc0 b (omega arith) in
-    rw (bytes, texts, arrays, maps, open_maps, tags) refl
+-- ---- first bytes
 
-item_at-inside : {Item Items : Type 0} (m : Reading Item Items) (levels : ℕ) (bs : List ℕ) → item_at m levels bs ≡ item_by m (inside m levels) bs
+-- the bytes begin with one, which isn't the break
+pub record IsBegun (bs : List ℕ) : Type 0 where
+  pub first : ℕ
+  pub others : List ℕ
+  pub is : bs ≡ first ∷ others
+  pub no_break : eqb first 0xff ≡ false
+
+head-no_break : (major : ℕ) (w : HeadWidth) (n : ℕ) → major ≤ 6 → n < limit w → eqb (32 * major + info w n) 0xff ≡ false
+head-no_break major w n at_most fits =
+    let below = info-below w n fits in
+    ne_eqb (32 * major + info w n) 0xff (λ same. omega arith)
+
+head_begun : (major : ℕ) (w : HeadWidth) (n : ℕ) (others : List ℕ) → major ≤ 6 → n < limit w → IsBegun ((32 * major + info w n) ∷ others)
+head_begun major w n others at_most fits = record { first = 32 * major + info w n; others = others; is = refl; no_break = head-no_break major w n at_most fits }
+
+simple_begun : (s : Simple) → IsBegun (simple_byte s ∷ [])
+simple_begun false_item = record { first = 0xf4; others = []; is = refl; no_break = refl }
+simple_begun true_item = record { first = 0xf5; others = []; is = refl; no_break = refl }
+simple_begun null_item = record { first = 0xf6; others = []; is = refl; no_break = refl }
+simple_begun undefined_item = record { first = 0xf7; others = []; is = refl; no_break = refl }
+
+float_begun : (f : FloatWidth) (n : ℕ) → IsBegun (float_spelling f n)
+float_begun half n = record { first = 0xf9; others = _; is = refl; no_break = refl }
+float_begun single n = record { first = 0xfa; others = _; is = refl; no_break = refl }
+float_begun double n = record { first = 0xfb; others = _; is = refl; no_break = refl }
+
+-- no spelling begins with the break
+pub begun : (r : Raw) → IsWellFormed r → IsBegun (spell r)
+unfolding spell
+begun (raw.unsigned w n) fits = head_begun 0 w n _ (omega arith) fits
+begun (raw.negative w n) fits = head_begun 1 w n _ (omega arith) fits
+begun (raw.bytes c) fits = head_begun 2 c.width (length c.bytes) _ (omega arith) fits.0
+begun (raw.text c) fits = head_begun 3 c.width (length c.bytes) _ (omega arith) fits.0
+begun (raw.bytes_chunks cs) fits = record { first = 0x5f; others = _; is = refl; no_break = refl }
+begun (raw.text_chunks cs) fits = record { first = 0x7f; others = _; is = refl; no_break = refl }
+begun (raw.array w rs) fits = head_begun 4 w (count rs) _ (omega arith) fits.0
+begun (raw.array_open rs) fits = record { first = 0x9f; others = _; is = refl; no_break = refl }
+begun (raw.map w ps) fits = head_begun 5 w (pair_count ps) _ (omega arith) fits.0
+begun (raw.map_open ps) fits = record { first = 0xbf; others = _; is = refl; no_break = refl }
+begun (raw.tag w n r) fits = head_begun 6 w n _ (omega arith) fits.0
+begun (raw.simple s) fits = simple_begun s
+begun (raw.float w bits) fits = float_begun w bits
+
+begun-length : (bs : List ℕ) → IsBegun bs → 0 < length bs
+begun-length bs starts = omega (arith, ap length starts.is)
+
+-- an element comes where its spelling does
+more_again : (why : Refusal) (bs rest : List ℕ) → IsBegun bs → more_at why (bs ++ rest) ≡ Ok (true, bs ++ rest)
+unfolding more_at
+more_again why bs rest starts = rw (starts.is, starts.no_break) refl
+
+-- ---- counts
+
+pub count-le : (rs : Raws) → AreWellFormed rs → count rs ≤ length (spell_all rs)
+unfolding spell
+count-le no_raws fits = omega arith
+count-le (raw.raw r rs) fits = omega (arith, begun-length (spell r) (begun r fits.0), count-le rs fits.1, length-append (spell r) (spell_all rs))
+
+pub pair_count-le : (ps : RawPairs) → ArePairsWellFormed ps → pair_count ps ≤ length (spell_pairs ps)
+unfolding spell
+pair_count-le no_raw_pairs fits = omega arith
+pair_count-le (raw_pair k v ps) fits =
+    omega (arith, begun-length (spell k) (begun k fits.0), pair_count-le ps fits.2, length-append (spell k) (spell v ++ spell_pairs ps), length-append (spell v) (spell_pairs ps))
+
+pub chunk_count-le : (major : ℕ) (cs : List Chunk) → length cs ≤ length (flat_map (chunk major) cs)
+chunk_count-le major [] = omega arith
+chunk_count-le major (c ∷ cs) =
+    omega (arith, chunk_count-le major cs, length-append (chunk major c) (flat_map (chunk major) cs), length-append (head major c.width (length c.bytes)) c.bytes)
+
+-- ---- chunks
+
+-- three parts behind another
+behind_parts : (a b c rest : List ℕ) → ((a ++ b) ++ c) ++ rest ≡ a ++ (b ++ (c ++ rest))
+behind_parts a b c rest = simp append_assoc
+
+chunk_again : (major : ℕ) (c : Chunk) (rest : List ℕ) → IsChunk c → chunk_at major (32 * major + info c.width (length c.bytes)) (behind c.width (length c.bytes) ++ (c.bytes ++ rest)) ≡ Ok (c, rest)
+unfolding chunk_at
+chunk_again major c rest fits =
+    let w = c.width in
+    let n = length c.bytes in
+    let below : info w n < 28 = info-below w n fits.0 in
+    let small : info w n < 32 = omega arith in
+    rw (major_of major (info w n) small, low_of major (info w n) small, eq-eqb major major refl, lt-ltb (info w n) 28 below, number_behind_again w n (c.bytes ++ rest) fits.0, bytes_again c.bytes rest, width_of-info w n fits.0) refl
+
+chunks_again : (major : ℕ) (cs : List Chunk) (fuel : ℕ) (rest : List ℕ) → major ≤ 6 → AllByRecursion IsChunk cs → length cs < fuel → chunks_by major fuel (flat_map (chunk major) cs ++ (0xff ∷ rest)) ≡ Ok (cs, rest)
+unfolding chunks_by byte_at
+chunks_again major cs zero rest at_most fits enough = absurd (omega arith)
+chunks_again major [] (suc fuel) rest at_most fits enough = refl
+chunks_again major (c ∷ cs) (suc fuel) rest at_most fits enough =
+    let w = c.width in
+    let n = length c.bytes in
+    let more = flat_map (chunk major) cs ++ (0xff ∷ rest) in
+    let others : chunks_by major fuel more ≡ Ok (cs, rest) = chunks_again major cs fuel rest at_most fits.1 (omega arith) in
+    ap (λ (t : List ℕ). chunks_by major (suc fuel) ((32 * major + info w n) ∷ t)) (behind_parts (behind w n) c.bytes (flat_map (chunk major) cs) (0xff ∷ rest))
+    ∙ rw (head-no_break major w n at_most fits.0.0, chunk_again major c more fits.0, others) refl
+
+-- ---- items
+
+item_at-inside : {Item Items Pairs : Type 0} (m : Reading Item Items Pairs) (levels : ℕ) (bs : List ℕ) → item_at m levels bs ≡ item_by m (inside m levels) bs
 unfolding item_at
 item_at-inside m zero bs = refl
 item_at-inside m (suc levels) bs = refl
 
-module _ {Item Items : Type 0} (m : Reading Item Items) where
+module _ {Item Items Pairs : Type 0} (m : Reading Item Items Pairs) where
   -- past a head, the reader is at the content
-  head_again : (inner : Option (List ℕ → Reads Item)) (major : ℕ) (w : HeadWidth) (n : ℕ) (rest : List ℕ) → major ≤ 4 → n < limit w → item_by m inner (head major w n ++ rest) ≡ content_at m inner major w n rest
+  head_again : (inner : Option (List ℕ → Reads Item)) (major : ℕ) (w : HeadWidth) (n : ℕ) (rest : List ℕ) → major ≤ 6 → n < limit w → item_by m inner (head major w n ++ rest) ≡ content_at m inner major w n rest
   unfolding item_by byte_at after_first
   head_again inner major w n rest at_most fits =
       let below = info-below w n fits in
       let small : info w n < 32 = omega arith in
       let not_seven : eqb major 7 ≡ false = ne_eqb major 7 (λ same. omega arith) in
-      rw (is_unsupported-head major (info w n) at_most below, major_of major (info w n) small, low_of major (info w n) small, not_seven, number_behind_again w n rest fits, width_of-info w n fits) refl
+      let not_open : eqb (info w n) 31 ≡ false = ne_eqb (info w n) 31 (λ same. omega arith) in
+      rw (major_of major (info w n) small, low_of major (info w n) small, not_seven, not_open, number_behind_again w n rest fits, width_of-info w n fits) refl
 
   simple_again : (inner : Option (List ℕ → Reads Item)) (s : Simple) (rest : List ℕ) → item_by m inner (simple_byte s ∷ rest) ≡ Ok (m.simple s, rest)
   unfolding item_by byte_at after_first simple_at
@@ -65,52 +156,189 @@ module _ {Item Items : Type 0} (m : Reading Item Items) where
   unfolding text_at checked_text
   text_again c rest room passes = rw (room, bytes_again c.bytes rest, passes) refl
 
+  -- chunks behind their first byte, in a reader with this much fuel
+  all_chunks_again : (major : ℕ) (cs : List Chunk) (rest : List ℕ) → major ≤ 6 → AllByRecursion IsChunk cs → chunks_by major (suc (length (flat_map (chunk major) cs ++ (0xff ∷ rest)))) (flat_map (chunk major) cs ++ (0xff ∷ rest)) ≡ Ok (cs, rest)
+  all_chunks_again major cs rest at_most fits =
+      chunks_again major cs _ rest at_most fits (omega (arith, chunk_count-le major cs, length-append (flat_map (chunk major) cs) (0xff ∷ rest)))
+
+  string_chunks_again : (inner : Option (List ℕ → Reads Item)) (cs : List Chunk) (rest : List ℕ) → AllByRecursion IsChunk cs → item_by m inner (0x5f ∷ (flat_map (chunk 2) cs ++ (0xff ∷ rest))) ≡ Ok (m.bytes_chunks cs, rest)
+  unfolding item_by byte_at after_first open_at string_chunks_at
+  string_chunks_again inner cs rest fits = rw (all_chunks_again 2 cs rest (omega arith) fits) refl
+
+  text_chunks_again : (inner : Option (List ℕ → Reads Item)) (cs : List Chunk) (rest : List ℕ) → AllByRecursion IsChunk cs → Passes m (joined cs) → item_by m inner (0x7f ∷ (flat_map (chunk 3) cs ++ (0xff ∷ rest))) ≡ Ok (m.text_chunks cs, rest)
+  unfolding item_by byte_at after_first open_at text_chunks_at checked_text
+  text_chunks_again inner cs rest fits passes = rw (all_chunks_again 3 cs rest (omega arith) fits, passes) refl
+
+  -- ---- what lies one level further in, by a reader p that reads it
+
   -- an array, once its items are read
-  array_again : (w : HeadWidth) (rs : Raws) (levels : ℕ) (rest : List ℕ) → items_by m (item_at m levels) (count rs) (spell_all rs ++ rest) ≡ Ok (made_all m rs, rest)
-      → array_at m (Some (item_at m levels)) w (count rs) (spell_all rs ++ rest) ≡ Ok (m.array w (made_all m rs), rest)
-  unfolding array_at items_at
-  array_again w rs levels rest is = rw is refl
+  array_again : (p : List ℕ → Reads Item) (w : HeadWidth) (n : ℕ) (bs rest : List ℕ) (items : Items) → items_by m p n bs ≡ Ok (items, rest) → array_at m (Some p) w n bs ≡ Ok (m.array w items, rest)
+  unfolding array_at
+  array_again p w n bs rest items is = rw is refl
 
-  -- items, once the first of them is read
-  items_again : (r : Raw) (rs : Raws) (levels : ℕ) (rest : List ℕ) → item_at m levels (spell r ++ (spell_all rs ++ rest)) ≡ Ok (made m r, spell_all rs ++ rest) → items_by m (item_at m levels) (count rs) (spell_all rs ++ rest) ≡ Ok (made_all m rs, rest)
-      → items_by m (item_at m levels) (suc (count rs)) (spell r ++ (spell_all rs ++ rest)) ≡ Ok (m.item (made m r) (made_all m rs), rest)
+  map_again : (p : List ℕ → Reads Item) (w : HeadWidth) (n : ℕ) (bs rest : List ℕ) (pairs : Pairs) → pairs_by m p n bs ≡ Ok (pairs, rest) → map_at m (Some p) w n bs ≡ Ok (m.map w pairs, rest)
+  unfolding map_at
+  map_again p w n bs rest pairs is = rw is refl
+
+  tag_again : (p : List ℕ → Reads Item) (w : HeadWidth) (n : ℕ) (bs rest : List ℕ) (item : Item) → p bs ≡ Ok (item, rest) → tag_at m (Some p) w n bs ≡ Ok (m.tag w n item, rest)
+  unfolding tag_at
+  tag_again p w n bs rest item is = rw is refl
+
+  open_array_again : (p : List ℕ → Reads Item) (bs rest : List ℕ) (items : Items) → open_items_by m p (suc (length bs)) bs ≡ Ok (items, rest) → item_by m (Some p) (0x9f ∷ bs) ≡ Ok (m.array_open items, rest)
+  unfolding item_by byte_at after_first open_at open_array_at
+  open_array_again p bs rest items is = rw is refl
+
+  open_map_again : (p : List ℕ → Reads Item) (bs rest : List ℕ) (pairs : Pairs) → open_pairs_by m p (suc (length bs)) bs ≡ Ok (pairs, rest) → item_by m (Some p) (0xbf ∷ bs) ≡ Ok (m.map_open pairs, rest)
+  unfolding item_by byte_at after_first open_at open_map_at
+  open_map_again p bs rest pairs is = rw is refl
+
+  -- items, once the first of them is read and the others
+  item_before : (p : List ℕ → Reads Item) (n : ℕ) (bs more rest : List ℕ) (first : Item) (others : Items) → p bs ≡ Ok (first, more) → items_by m p n more ≡ Ok (others, rest) → items_by m p (suc n) bs ≡ Ok (m.item first others, rest)
   unfolding items_by
-  items_again r rs levels rest first others = rw (first, others) refl
+  item_before p n bs more rest first others one all = rw (one, all) refl
 
+  open_item_before : (p : List ℕ → Reads Item) (fuel : ℕ) (bs more rest : List ℕ) (first : Item) (others : Items) → more_at end_in_array bs ≡ Ok (true, bs) → p bs ≡ Ok (first, more) → open_items_by m p fuel more ≡ Ok (others, rest) → open_items_by m p (suc fuel) bs ≡ Ok (m.item first others, rest)
+  unfolding open_items_by
+  open_item_before p fuel bs more rest first others another one all = rw (another, one, all) refl
+
+  pair_before : (p : List ℕ → Reads Item) (n : ℕ) (bs at_value more rest : List ℕ) (k v : Item) (others : Pairs) → p bs ≡ Ok (k, at_value) → p at_value ≡ Ok (v, more) → pairs_by m p n more ≡ Ok (others, rest) → pairs_by m p (suc n) bs ≡ Ok (m.pair k v others, rest)
+  unfolding pairs_by
+  pair_before p n bs at_value more rest k v others key val all = rw (key, val, all) refl
+
+  open_pair_before : (p : List ℕ → Reads Item) (fuel : ℕ) (bs at_value more rest : List ℕ) (k v : Item) (others : Pairs) → more_at end_in_map bs ≡ Ok (true, bs) → p bs ≡ Ok (k, at_value) → p at_value ≡ Ok (v, more) → open_pairs_by m p fuel more ≡ Ok (others, rest) → open_pairs_by m p (suc fuel) bs ≡ Ok (m.pair k v others, rest)
+  unfolding open_pairs_by
+  open_pair_before p fuel bs at_value more rest k v others another key val all = rw (another, key, val, all) refl
+
+-- a key and a value, and the pairs behind them
+pair_parts : (k v more rest : List ℕ) → (k ++ (v ++ more)) ++ rest ≡ k ++ (v ++ (more ++ rest))
+pair_parts k v more rest = simp append_assoc
+
+-- a head, and parts behind it
+within_head : (a b rest : List ℕ) (total : ℕ) → length ((a ++ b) ++ rest) ≤ total → length (b ++ rest) ≤ total
+within_head a b rest total within = omega (arith, length-append (a ++ b) rest, length-append a b, length-append b rest)
+
+-- a first byte, and parts behind it up to the break
+within_open : (first : ℕ) (parts rest : List ℕ) (total : ℕ) → length ((first ∷ (parts ++ break)) ++ rest) ≤ total → length (parts ++ (0xff ∷ rest)) ≤ total
+within_open first parts rest total within = omega (arith, ap length (append_assoc parts break rest))
+
+module _ {Item Items Pairs : Type 0} (m : Reading Item Items Pairs) (total : ℕ) (room : HasRoom m total) where
   mutual
-    unfolding spell content_at items_by made
+    unfolding spell content_at items_by open_items_by pairs_by open_pairs_by more_at made
 
     -- what is spelled is read, where each text has room and passes
-    pub again : (r : Raw) (levels : ℕ) (rest : List ℕ) (total : ℕ) → HasRoom m total → IsSupported r → IsWellFormed r → depth r ≤ levels → EachText (Passes m) r → length (spell r ++ rest) ≤ total → item_at m levels (spell r ++ rest) ≡ Ok (made m r, rest)
-    again (raw.unsigned w n) levels rest total room reads fits nests texts within = item_at-inside m levels _ ∙ head_again (inside m levels) 0 w n rest (omega arith) fits
-    again (raw.negative w n) levels rest total room reads fits nests texts within = item_at-inside m levels _ ∙ head_again (inside m levels) 1 w n rest (omega arith) fits
-    again (raw.bytes c) levels rest total room reads fits nests texts within =
-        ap (item_at m levels) (append_assoc (head 2 c.width (length c.bytes)) c.bytes rest) ∙ item_at-inside m levels _ ∙ head_again (inside m levels) 2 c.width (length c.bytes) (c.bytes ++ rest) (omega arith) fits.0 ∙ string_again c rest
-    again (raw.text c) levels rest total room reads fits nests texts within =
+    pub again : (r : Raw) (levels : ℕ) (rest : List ℕ) → IsWellFormed r → depth r ≤ levels → EachText (Passes m) r → length (spell r ++ rest) ≤ total → item_at m levels (spell r ++ rest) ≡ Ok (made m r, rest)
+    again (raw.unsigned w n) levels rest fits nests texts within = item_at-inside m levels _ ∙ head_again m (inside m levels) 0 w n rest (omega arith) fits
+    again (raw.negative w n) levels rest fits nests texts within = item_at-inside m levels _ ∙ head_again m (inside m levels) 1 w n rest (omega arith) fits
+    again (raw.bytes c) levels rest fits nests texts within =
+        ap (item_at m levels) (append_assoc (head 2 c.width (length c.bytes)) c.bytes rest) ∙ item_at-inside m levels _ ∙ head_again m (inside m levels) 2 c.width (length c.bytes) (c.bytes ++ rest) (omega arith) fits.0 ∙ string_again m c rest
+    again (raw.text c) levels rest fits nests texts within =
         let b = c.bytes in
         let front = head 3 c.width (length b) in
-        let fits_room = room (length (b ++ rest)) (length b) (omega (arith, length-append b rest)) (omega (arith, length-append (front ++ b) rest, length-append front b, length-append b rest)) in
-        ap (item_at m levels) (append_assoc front b rest) ∙ item_at-inside m levels _ ∙ head_again (inside m levels) 3 c.width (length b) (b ++ rest) (omega arith) fits.0 ∙ text_again c rest fits_room texts
-    again (raw.array w rs) zero rest total room reads fits nests texts within = absurd (omega (arith, nests))
-    again (raw.array w rs) (suc levels) rest total room reads fits nests texts within =
+        let fits_room = room (length (b ++ rest)) (length b) (omega (arith, length-append b rest)) (within_head front b rest total within) in
+        ap (item_at m levels) (append_assoc front b rest) ∙ item_at-inside m levels _ ∙ head_again m (inside m levels) 3 c.width (length b) (b ++ rest) (omega arith) fits.0 ∙ text_again m c rest fits_room texts
+    again (raw.bytes_chunks cs) levels rest fits nests texts within =
+        ap (λ (t : List ℕ). item_at m levels (0x5f ∷ t)) (append_assoc (flat_map (chunk 2) cs) break rest) ∙ item_at-inside m levels _ ∙ string_chunks_again m (inside m levels) cs rest fits
+    again (raw.text_chunks cs) levels rest fits nests texts within =
+        ap (λ (t : List ℕ). item_at m levels (0x7f ∷ t)) (append_assoc (flat_map (chunk 3) cs) break rest) ∙ item_at-inside m levels _ ∙ text_chunks_again m (inside m levels) cs rest fits texts
+    again (raw.array w rs) zero rest fits nests texts within = absurd (omega (arith, nests))
+    again (raw.array w rs) (suc levels) rest fits nests texts within =
         let front = head 4 w (count rs) in
         let items = spell_all rs in
-        let less : length (items ++ rest) ≤ total = omega (arith, length-append (front ++ items) rest, length-append front items, length-append items rest) in
         ap (item_at m (suc levels)) (append_assoc front items rest)
         ∙ item_at-inside m (suc levels) _
-        ∙ head_again (inside m (suc levels)) 4 w (count rs) (items ++ rest) (omega arith) fits.0
-        ∙ array_again w rs levels rest (all_again rs levels rest total room reads fits.1 (omega (arith, nests)) texts less)
-    again (raw.simple s) levels rest total room reads fits nests texts within = item_at-inside m levels _ ∙ simple_again (inside m levels) s rest
-    again (raw.float f n) levels rest total room reads fits nests texts within = item_at-inside m levels _ ∙ float_again (inside m levels) f n rest fits
-    again _ levels rest total room reads fits nests texts within = absurd reads
+        ∙ head_again m (inside m (suc levels)) 4 w (count rs) (items ++ rest) (omega arith) fits.0
+        ∙ array_again m (item_at m levels) w (count rs) (items ++ rest) rest (made_all m rs) (all_again rs levels rest fits.1 (omega (arith, nests)) texts (within_head front items rest total within))
+    again (raw.array_open rs) zero rest fits nests texts within = absurd (omega (arith, nests))
+    again (raw.array_open rs) (suc levels) rest fits nests texts within =
+        let items = spell_all rs in
+        let bs = items ++ (0xff ∷ rest) in
+        let enough : count rs < suc (length bs) = omega (arith, count-le rs fits, length-append items (0xff ∷ rest)) in
+        ap (λ (t : List ℕ). item_at m (suc levels) (0x9f ∷ t)) (append_assoc items break rest)
+        ∙ item_at-inside m (suc levels) _
+        ∙ open_array_again m (item_at m levels) bs rest (made_all m rs) (open_all_again rs levels rest (suc (length bs)) fits (omega (arith, nests)) texts (within_open 0x9f items rest total within) enough)
+    again (raw.map w ps) zero rest fits nests texts within = absurd (omega (arith, nests))
+    again (raw.map w ps) (suc levels) rest fits nests texts within =
+        let front = head 5 w (pair_count ps) in
+        let pairs = spell_pairs ps in
+        ap (item_at m (suc levels)) (append_assoc front pairs rest)
+        ∙ item_at-inside m (suc levels) _
+        ∙ head_again m (inside m (suc levels)) 5 w (pair_count ps) (pairs ++ rest) (omega arith) fits.0
+        ∙ map_again m (item_at m levels) w (pair_count ps) (pairs ++ rest) rest (made_pairs m ps) (pairs_again ps levels rest fits.1 (omega (arith, nests)) texts (within_head front pairs rest total within))
+    again (raw.map_open ps) zero rest fits nests texts within = absurd (omega (arith, nests))
+    again (raw.map_open ps) (suc levels) rest fits nests texts within =
+        let pairs = spell_pairs ps in
+        let bs = pairs ++ (0xff ∷ rest) in
+        let enough : pair_count ps < suc (length bs) = omega (arith, pair_count-le ps fits, length-append pairs (0xff ∷ rest)) in
+        ap (λ (t : List ℕ). item_at m (suc levels) (0xbf ∷ t)) (append_assoc pairs break rest)
+        ∙ item_at-inside m (suc levels) _
+        ∙ open_map_again m (item_at m levels) bs rest (made_pairs m ps) (open_pairs_again ps levels rest (suc (length bs)) fits (omega (arith, nests)) texts (within_open 0xbf pairs rest total within) enough)
+    again (raw.tag w n r) zero rest fits nests texts within = absurd (omega (arith, nests))
+    again (raw.tag w n r) (suc levels) rest fits nests texts within =
+        let front = head 6 w n in
+        let item = spell r in
+        ap (item_at m (suc levels)) (append_assoc front item rest)
+        ∙ item_at-inside m (suc levels) _
+        ∙ head_again m (inside m (suc levels)) 6 w n (item ++ rest) (omega arith) fits.0
+        ∙ tag_again m (item_at m levels) w n (item ++ rest) rest (made m r) (again r levels rest fits.1 (omega (arith, nests)) texts (within_head front item rest total within))
+    again (raw.simple s) levels rest fits nests texts within = item_at-inside m levels _ ∙ simple_again m (inside m levels) s rest
+    again (raw.float f n) levels rest fits nests texts within = item_at-inside m levels _ ∙ float_again m (inside m levels) f n rest fits
 
-    pub all_again : (rs : Raws) (levels : ℕ) (rest : List ℕ) (total : ℕ) → HasRoom m total → AreSupported rs → AreWellFormed rs → depth_all rs ≤ levels → EachTextOfAll (Passes m) rs → length (spell_all rs ++ rest) ≤ total → items_by m (item_at m levels) (count rs) (spell_all rs ++ rest) ≡ Ok (made_all m rs, rest)
-    all_again no_raws levels rest total room reads fits nests texts within = refl
-    all_again (raw.raw r rs) levels rest total room reads fits nests texts within =
+    pub all_again : (rs : Raws) (levels : ℕ) (rest : List ℕ) → AreWellFormed rs → depth_all rs ≤ levels → EachTextOfAll (Passes m) rs → length (spell_all rs ++ rest) ≤ total → items_by m (item_at m levels) (count rs) (spell_all rs ++ rest) ≡ Ok (made_all m rs, rest)
+    all_again no_raws levels rest fits nests texts within = refl
+    all_again (raw.raw r rs) levels rest fits nests texts within =
         let one = spell r in
-        let more = spell_all rs in
-        let regrouped = append_assoc one more rest in
-        let within_one : length (one ++ (more ++ rest)) ≤ total = omega (arith, ap length regrouped) in
-        let within_more : length (more ++ rest) ≤ total = omega (arith, length-append one (more ++ rest)) in
+        let more = spell_all rs ++ rest in
+        let regrouped = append_assoc one (spell_all rs) rest in
+        let within_one : length (one ++ more) ≤ total = omega (arith, ap length regrouped) in
+        let within_more : length more ≤ total = omega (arith, length-append one more) in
         ap (items_by m (item_at m levels) (suc (count rs))) regrouped
-        ∙ items_again r rs levels rest (again r levels (more ++ rest) total room reads.0 fits.0 (omega (arith, nests)) texts.0 within_one) (all_again rs levels rest total room reads.1 fits.1 (omega (arith, nests)) texts.1 within_more)
+        ∙ item_before m (item_at m levels) (count rs) (one ++ more) more rest (made m r) (made_all m rs)
+          (again r levels more fits.0 (omega (arith, nests)) texts.0 within_one)
+          (all_again rs levels rest fits.1 (omega (arith, nests)) texts.1 within_more)
+
+    pub open_all_again : (rs : Raws) (levels : ℕ) (rest : List ℕ) (fuel : ℕ) → AreWellFormed rs → depth_all rs ≤ levels → EachTextOfAll (Passes m) rs → length (spell_all rs ++ (0xff ∷ rest)) ≤ total → count rs < fuel → open_items_by m (item_at m levels) fuel (spell_all rs ++ (0xff ∷ rest)) ≡ Ok (made_all m rs, rest)
+    open_all_again rs levels rest zero fits nests texts within enough = absurd (omega arith)
+    open_all_again no_raws levels rest (suc fuel) fits nests texts within enough = refl
+    open_all_again (raw.raw r rs) levels rest (suc fuel) fits nests texts within enough =
+        let one = spell r in
+        let more = spell_all rs ++ (0xff ∷ rest) in
+        let regrouped = append_assoc one (spell_all rs) (0xff ∷ rest) in
+        let within_one : length (one ++ more) ≤ total = omega (arith, ap length regrouped) in
+        let within_more : length more ≤ total = omega (arith, length-append one more) in
+        ap (open_items_by m (item_at m levels) (suc fuel)) regrouped
+        ∙ open_item_before m (item_at m levels) fuel (one ++ more) more rest (made m r) (made_all m rs)
+          (more_again end_in_array one more (begun r fits.0))
+          (again r levels more fits.0 (omega (arith, nests)) texts.0 within_one)
+          (open_all_again rs levels rest fuel fits.1 (omega (arith, nests)) texts.1 within_more (omega arith))
+
+    pub pairs_again : (ps : RawPairs) (levels : ℕ) (rest : List ℕ) → ArePairsWellFormed ps → depth_pairs ps ≤ levels → EachTextOfPairs (Passes m) ps → length (spell_pairs ps ++ rest) ≤ total → pairs_by m (item_at m levels) (pair_count ps) (spell_pairs ps ++ rest) ≡ Ok (made_pairs m ps, rest)
+    pairs_again no_raw_pairs levels rest fits nests texts within = refl
+    pairs_again (raw_pair k v ps) levels rest fits nests texts within =
+        let more = spell_pairs ps ++ rest in
+        let at_value = spell v ++ more in
+        let regrouped = pair_parts (spell k) (spell v) (spell_pairs ps) rest in
+        let within_key : length (spell k ++ at_value) ≤ total = omega (arith, ap length regrouped) in
+        let within_value : length at_value ≤ total = omega (arith, length-append (spell k) at_value) in
+        let within_more : length more ≤ total = omega (arith, length-append (spell v) more) in
+        ap (pairs_by m (item_at m levels) (suc (pair_count ps))) regrouped
+        ∙ pair_before m (item_at m levels) (pair_count ps) (spell k ++ at_value) at_value more rest (made m k) (made m v) (made_pairs m ps)
+          (again k levels at_value fits.0 (omega (arith, nests)) texts.0 within_key)
+          (again v levels more fits.1 (omega (arith, nests)) texts.1 within_value)
+          (pairs_again ps levels rest fits.2 (omega (arith, nests)) texts.2 within_more)
+
+    pub open_pairs_again : (ps : RawPairs) (levels : ℕ) (rest : List ℕ) (fuel : ℕ) → ArePairsWellFormed ps → depth_pairs ps ≤ levels → EachTextOfPairs (Passes m) ps → length (spell_pairs ps ++ (0xff ∷ rest)) ≤ total → pair_count ps < fuel → open_pairs_by m (item_at m levels) fuel (spell_pairs ps ++ (0xff ∷ rest)) ≡ Ok (made_pairs m ps, rest)
+    open_pairs_again ps levels rest zero fits nests texts within enough = absurd (omega arith)
+    open_pairs_again no_raw_pairs levels rest (suc fuel) fits nests texts within enough = refl
+    open_pairs_again (raw_pair k v ps) levels rest (suc fuel) fits nests texts within enough =
+        let more = spell_pairs ps ++ (0xff ∷ rest) in
+        let at_value = spell v ++ more in
+        let regrouped = pair_parts (spell k) (spell v) (spell_pairs ps) (0xff ∷ rest) in
+        let within_key : length (spell k ++ at_value) ≤ total = omega (arith, ap length regrouped) in
+        let within_value : length at_value ≤ total = omega (arith, length-append (spell k) at_value) in
+        let within_more : length more ≤ total = omega (arith, length-append (spell v) more) in
+        ap (open_pairs_by m (item_at m levels) (suc fuel)) regrouped
+        ∙ open_pair_before m (item_at m levels) fuel (spell k ++ at_value) at_value more rest (made m k) (made m v) (made_pairs m ps)
+          (more_again end_in_map (spell k) at_value (begun k fits.0))
+          (again k levels at_value fits.0 (omega (arith, nests)) texts.0 within_key)
+          (again v levels more fits.1 (omega (arith, nests)) texts.1 within_value)
+          (open_pairs_again ps levels rest fuel fits.2 (omega (arith, nests)) texts.2 within_more (omega arith))

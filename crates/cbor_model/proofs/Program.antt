@@ -2,13 +2,13 @@
 use Rattle.std.proofs.Common.{◌≡◌, ℕ, ◌-◌, ◌/◌, ◌%◌, ◌<◌, List, [], ◌∷◌, ◌++◌, length, Result, Err, refl, sym, ap, ◌∙◌, arith}
 use Rattle.std.specs.Prelude.{codes}
 use Rattle.std.proofs.lemmas.Bool.Decides.{nat_tests}
+use Rattle.std.proofs.lemmas.List.{append-nil}
 use Rattle.cbor_model.specs.Raw.{Raw, AreBytes}
 use Rattle.cbor_model.specs.Spelling.{spell}
 use Rattle.cbor_model.specs.Acceptable.{IsAcceptable}
 use Rattle.cbor_model.specs.Value.{value}
 use Rattle.cbor_model.specs.Canonical.{canon}
 use Rattle.cbor_model.specs.Refusal.{words, at_offset}
-use Rattle.cbor_model.specs.Supported.{IsSupported}
 use Rattle.cbor_model.specs.Plain.{Val}
 use Rattle.cbor_model.specs.Reader.{Fault, read_value}
 use Rattle.cbor_model.specs.Program.{hex_digit, hex, IsHexOf, IsRefusalText, IsAnswer, canonical, refused, not_hexadecimal}
@@ -44,8 +44,8 @@ hex_unique line a b one other = bytes_unique a b one.are_bytes other.are_bytes (
 -- ---- answers
 
 -- items of one spelling are one
-same_item : (r s : Raw) → IsAcceptable r → IsAcceptable s → IsSupported r → IsSupported s → spell r ≡ spell s → r ≡ s
-same_item r s good good' reads reads' same = (one_spelling r s [] [] reads reads' good.fits good'.fits (ap (λ (t : List ℕ). t ++ []) same)).0
+same_item : (r s : Raw) → IsAcceptable r → IsAcceptable s → spell r ≡ spell s → r ≡ s
+same_item r s good good' same = (one_spelling r s [] good.fits good'.fits (append-nil (spell r) ∙ same)).0
 
 abbrev refusal : Fault → Result Val Fault
 refusal d = Err d
@@ -60,14 +60,14 @@ refusal_unique bytes bytes' text text' same one other =
     one.is ∙ ap (λ (d : Fault). words d.why ++ at_offset (length bytes - d.left)) fault_same ∙ ap (λ (b : List ℕ). words other.fault.why ++ at_offset (length b - other.fault.left)) same ∙ sym other.is
 
 pub one_answer : (line a b : List ℕ) → IsAnswer line a → IsAnswer line b → a ≡ b
-one_answer line a b (canonical r good reads digits is) (canonical s good' reads' digits' is') =
-    is ∙ ap (λ (i : Raw). hex (canon (value i))) (same_item r s good good' reads reads' (hex_unique line (spell r) (spell s) digits digits')) ∙ sym is'
-one_answer line a b (canonical r good reads digits is) (refused bytes text digits' none why is') = absurd (none r good reads (hex_unique line (spell r) bytes digits digits'))
-one_answer line a b (canonical r good reads digits is) (not_hexadecimal none is') = absurd (none (spell r) digits)
-one_answer line a b (refused bytes text digits none why is) (canonical s good' reads' digits' is') = absurd (none s good' reads' (hex_unique line (spell s) bytes digits' digits))
+one_answer line a b (canonical r good digits is) (canonical s good' digits' is') =
+    is ∙ ap (λ (i : Raw). hex (canon (value i))) (same_item r s good good' (hex_unique line (spell r) (spell s) digits digits')) ∙ sym is'
+one_answer line a b (canonical r good digits is) (refused bytes text digits' none why is') = absurd (none r good (hex_unique line (spell r) bytes digits digits'))
+one_answer line a b (canonical r good digits is) (not_hexadecimal none is') = absurd (none (spell r) digits)
+one_answer line a b (refused bytes text digits none why is) (canonical s good' digits' is') = absurd (none s good' (hex_unique line (spell s) bytes digits' digits))
 one_answer line a b (refused bytes text digits none why is) (refused bytes' text' digits' none' why' is') =
     is ∙ ap (λ (t : List ℕ). codes "error: " ++ t) (refusal_unique bytes bytes' text text' (hex_unique line bytes bytes' digits digits') why why') ∙ sym is'
 one_answer line a b (refused bytes text digits none why is) (not_hexadecimal none' is') = absurd (none' bytes digits)
-one_answer line a b (not_hexadecimal none is) (canonical s good' reads' digits' is') = absurd (none (spell s) digits')
+one_answer line a b (not_hexadecimal none is) (canonical s good' digits' is') = absurd (none (spell s) digits')
 one_answer line a b (not_hexadecimal none is) (refused bytes' text' digits' none' why' is') = absurd (none bytes' digits')
 one_answer line a b (not_hexadecimal none is) (not_hexadecimal none' is') = is ∙ sym is'

@@ -1,7 +1,8 @@
 -- The laws' proofs.
-use Rattle.cbor_model.specs.Laws.{ReaderFinds, ReaderAccepts, ValueIsStorable, OneAnswer}
+use Rattle.cbor_model.specs.Laws.{ReaderFinds, ReaderAccepts, OneSpelling, ValueIsStorable, OneAnswer}
 use Rattle.cbor_model.proofs.Whole.{found_whole, read_whole}
 use Rattle.cbor_model.proofs.Storable.{storable}
+use Rattle.cbor_model.proofs.Apart as apart
 use Rattle.cbor_model.proofs.Program as program
 
 pub reader_finds : ReaderFinds
@@ -9,6 +10,9 @@ reader_finds = found_whole
 
 pub reader_accepts : ReaderAccepts
 reader_accepts = read_whole
+
+pub one_spelling : OneSpelling
+one_spelling = apart.one_spelling
 
 pub value_is_storable : ValueIsStorable
 value_is_storable = storable

@@ -33,9 +33,8 @@ found_whole bs v fits is =
           record {
             item = got.item;
             acceptable = record { fits = got.fits; nests = got.nests; texts = EachText-map (Passes m) IsUtf8 IsUtf8-from_valid_len got.item got.texts };
-            supported = got.supported;
             spelled = sym (got.parts ∙ ap (λ (t : List ℕ). spell got.item ++ t) nothing ∙ append-nil (spell got.item));
-            valued = sym (ok_is x.0 v ended.1) ∙ sym got.made_is ∙ made-value (length bs) got.item got.supported;
+            valued = sym (ok_is x.0 v ended.1) ∙ sym got.made_is ∙ made-value (length bs) got.item;
           }
     ]
 
@@ -50,6 +49,6 @@ read_whole bs v short spelt =
     let m = values_within (length bs) in
     let same : spell r ++ [] ≡ bs = append-nil (spell r) ∙ spelt.spelled in
     let texts = EachText-map IsUtf8 (Passes m) valid_len-from_IsUtf8 r spelt.acceptable.texts in
-    let read = again m r max_depth [] (length bs) (has_room (length bs) short) spelt.supported spelt.acceptable.fits spelt.acceptable.nests texts (omega (arith, ap length same)) in
+    let read = again m (length bs) (has_room (length bs) short) r max_depth [] spelt.acceptable.fits spelt.acceptable.nests texts (omega (arith, ap length same)) in
     let whole_read : item_at m max_depth bs ≡ Ok (made m r, []) = ap (item_at m max_depth) (sym same) ∙ read in
-    rw whole_read (ap (λ (w : Val). Ok w) (made-value (length bs) r spelt.supported ∙ sym spelt.valued))
+    rw whole_read (ap (λ (w : Val). Ok w) (made-value (length bs) r ∙ sym spelt.valued))

@@ -1,14 +1,19 @@
 //! The laws, each of which is the contract of a function that does nothing.
-ghost use Rattle.cbor_model.specs.Laws.{ReaderFinds, ReaderAccepts, ValueIsStorable, OneAnswer};
+ghost use Rattle.cbor_model.specs.Laws.{ReaderFinds, ReaderAccepts, OneSpelling, ValueIsStorable, OneAnswer};
 
 /// What the reference reader reads is the value of an acceptable item, and the bytes are its spelling.
 pub fn reader_finds()
     ensures { ReaderFinds }
 {}
 
-/// The reference reader reads the spelling of each acceptable item that it supports, as the item's value.
+/// The reference reader reads the spelling of each acceptable item, as the item's value.
 pub fn reader_accepts()
     ensures { ReaderAccepts }
+{}
+
+/// No well-formed item's spelling begins another's, and equal spellings are equal items.
+pub fn one_spelling()
+    ensures { OneSpelling }
 {}
 
 /// Each integer in the value of a well-formed item is from -2^64 to 2^64 - 1.

@@ -6,4 +6,4 @@
 
 mod laws;
 
-pub use laws::{one_answer, reader_accepts, reader_finds, value_is_storable};
+pub use laws::{one_answer, one_spelling, reader_accepts, reader_finds, value_is_storable};
