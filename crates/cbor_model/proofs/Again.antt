@@ -5,7 +5,7 @@ use Rattle.std.specs.List.{AllByRecursion}
 use Rattle.std.specs.Int.{w16, w32, w64}
 use Rattle.std.proofs.lemmas.Bool.{ne_eqb, eq-eqb, lt-ltb}
 use Rattle.std.proofs.lemmas.List.{length-append}
-use Rattle.cbor_model.specs.Head.{HeadWidth, no_bytes, one_byte, two_bytes, four_bytes, eight_bytes, limit, info, head, behind}
+use Rattle.cbor_model.specs.Head.{HeadWidth, limit, info, head, behind}
 use Rattle.cbor_model.specs.Raw as raw
 use Rattle.cbor_model.specs.Raw.{Raw, Raws, no_raws, RawPairs, no_raw_pairs, raw_pair, Chunk, joined, Simple, false_item, true_item, null_item, undefined_item, FloatWidth, half, single, double, float_limit, count, pair_count, depth, depth_all, depth_pairs, IsChunk, IsWellFormed, AreWellFormed, ArePairsWellFormed, EachText, EachTextOfAll, EachTextOfPairs}
 use Rattle.cbor_model.specs.Spelling.{spell, spell_all, spell_pairs, chunk, simple_byte, float_spelling, break}
@@ -293,8 +293,8 @@ module _ {Item Items Pairs : Type 0} (m : Reading Item Items Pairs) (total : ℕ
         let within_more : length more ≤ total = omega (arith, length-append one more) in
         ap (items_by m (item_at m levels) (suc (count rs))) regrouped
         ∙ item_before m (item_at m levels) (count rs) (one ++ more) more rest (made m r) (made_all m rs)
-          (again r levels more fits.0 (omega (arith, nests)) texts.0 within_one)
-          (all_again rs levels rest fits.1 (omega (arith, nests)) texts.1 within_more)
+        (again r levels more fits.0 (omega (arith, nests)) texts.0 within_one)
+        (all_again rs levels rest fits.1 (omega (arith, nests)) texts.1 within_more)
 
     pub open_all_again : (rs : Raws) (levels : ℕ) (rest : List ℕ) (fuel : ℕ) → AreWellFormed rs → depth_all rs ≤ levels → EachTextOfAll (Passes m) rs → length (spell_all rs ++ (0xff ∷ rest)) ≤ total → count rs < fuel → open_items_by m (item_at m levels) fuel (spell_all rs ++ (0xff ∷ rest)) ≡ Ok (made_all m rs, rest)
     open_all_again rs levels rest zero fits nests texts within enough = absurd (omega arith)
@@ -307,9 +307,9 @@ module _ {Item Items Pairs : Type 0} (m : Reading Item Items Pairs) (total : ℕ
         let within_more : length more ≤ total = omega (arith, length-append one more) in
         ap (open_items_by m (item_at m levels) (suc fuel)) regrouped
         ∙ open_item_before m (item_at m levels) fuel (one ++ more) more rest (made m r) (made_all m rs)
-          (more_again end_in_array one more (begun r fits.0))
-          (again r levels more fits.0 (omega (arith, nests)) texts.0 within_one)
-          (open_all_again rs levels rest fuel fits.1 (omega (arith, nests)) texts.1 within_more (omega arith))
+        (more_again end_in_array one more (begun r fits.0))
+        (again r levels more fits.0 (omega (arith, nests)) texts.0 within_one)
+        (open_all_again rs levels rest fuel fits.1 (omega (arith, nests)) texts.1 within_more (omega arith))
 
     pub pairs_again : (ps : RawPairs) (levels : ℕ) (rest : List ℕ) → ArePairsWellFormed ps → depth_pairs ps ≤ levels → EachTextOfPairs (Passes m) ps → length (spell_pairs ps ++ rest) ≤ total → pairs_by m (item_at m levels) (pair_count ps) (spell_pairs ps ++ rest) ≡ Ok (made_pairs m ps, rest)
     pairs_again no_raw_pairs levels rest fits nests texts within = refl
@@ -322,9 +322,9 @@ module _ {Item Items Pairs : Type 0} (m : Reading Item Items Pairs) (total : ℕ
         let within_more : length more ≤ total = omega (arith, length-append (spell v) more) in
         ap (pairs_by m (item_at m levels) (suc (pair_count ps))) regrouped
         ∙ pair_before m (item_at m levels) (pair_count ps) (spell k ++ at_value) at_value more rest (made m k) (made m v) (made_pairs m ps)
-          (again k levels at_value fits.0 (omega (arith, nests)) texts.0 within_key)
-          (again v levels more fits.1 (omega (arith, nests)) texts.1 within_value)
-          (pairs_again ps levels rest fits.2 (omega (arith, nests)) texts.2 within_more)
+        (again k levels at_value fits.0 (omega (arith, nests)) texts.0 within_key)
+        (again v levels more fits.1 (omega (arith, nests)) texts.1 within_value)
+        (pairs_again ps levels rest fits.2 (omega (arith, nests)) texts.2 within_more)
 
     pub open_pairs_again : (ps : RawPairs) (levels : ℕ) (rest : List ℕ) (fuel : ℕ) → ArePairsWellFormed ps → depth_pairs ps ≤ levels → EachTextOfPairs (Passes m) ps → length (spell_pairs ps ++ (0xff ∷ rest)) ≤ total → pair_count ps < fuel → open_pairs_by m (item_at m levels) fuel (spell_pairs ps ++ (0xff ∷ rest)) ≡ Ok (made_pairs m ps, rest)
     open_pairs_again ps levels rest zero fits nests texts within enough = absurd (omega arith)
@@ -338,7 +338,7 @@ module _ {Item Items Pairs : Type 0} (m : Reading Item Items Pairs) (total : ℕ
         let within_more : length more ≤ total = omega (arith, length-append (spell v) more) in
         ap (open_pairs_by m (item_at m levels) (suc fuel)) regrouped
         ∙ open_pair_before m (item_at m levels) fuel (spell k ++ at_value) at_value more rest (made m k) (made m v) (made_pairs m ps)
-          (more_again end_in_map (spell k) at_value (begun k fits.0))
-          (again k levels at_value fits.0 (omega (arith, nests)) texts.0 within_key)
-          (again v levels more fits.1 (omega (arith, nests)) texts.1 within_value)
-          (open_pairs_again ps levels rest fuel fits.2 (omega (arith, nests)) texts.2 within_more (omega arith))
+        (more_again end_in_map (spell k) at_value (begun k fits.0))
+        (again k levels at_value fits.0 (omega (arith, nests)) texts.0 within_key)
+        (again v levels more fits.1 (omega (arith, nests)) texts.1 within_value)
+        (open_pairs_again ps levels rest fuel fits.2 (omega (arith, nests)) texts.2 within_more (omega arith))

@@ -11,7 +11,7 @@ use Rattle.cbor_model.specs.Spelling.{spell, spell_all, spell_pairs, chunk, simp
 use Rattle.cbor_model.specs.Refusal.{Refusal, end_in_array, end_in_map, unassigned_code, unexpected_code, too_deep, length_out_of_range}
 use Rattle.cbor_model.specs.Reader.{Reads, ◌>>=◌, Reading, ended, before, byte_at, bytes_at, number_at, width_of, number_behind, float_at, simple_at, string_at, checked_text, text_at, begins_chunk, chunk_at, chunks_by, chunks_at, string_chunks_at, text_chunks_at, items_by, more_at, open_items_by, pairs_by, open_pairs_by, array_at, map_at, tag_at, open_array_at, open_map_at, content_at, open_at, after_first, item_by, item_at}
 use Rattle.cbor_model.proofs.Made.{made, made_all, made_pairs}
-use Rattle.cbor_model.proofs.Steps.{AreBytes-rest, bind_ok, chosen, done, ok_is, not_ok, bytes_found, IsWide, wide16, wide32, wide64, number_found, info-below, number_behind_found, first_is}
+use Rattle.cbor_model.proofs.Steps.{AreBytes-rest, bind_ok, chosen, done, ok_is, read_as, not_ok, bytes_found, IsWide, wide16, wide32, wide64, number_found, number_behind_found, first_is}
 
 -- the reading lets the text pass
 abbrev pub Passes : {Item Items Pairs : Type 0} → Reading Item Items Pairs → List ℕ → Type 0
@@ -139,7 +139,7 @@ chunk_found major b bs x fits is =
           let got' = bytes_found n step.0.1 c got.rest_fits step'.1 in
           let long : length c.0 ≡ n = got'.long in
           let small : n < limit w = got.fits in
-          subst (IsChunkOf major b bs) (ok_is (record { width = w; bytes = c.0 }, c.1) x step'.2) (record {
+          read_as (IsChunkOf major b bs) (record { width = w; bytes = c.0 }, c.1) x step'.2 (record {
             parts = whole_head major b n w bs step.0.1 high got.is_low got.parts ∙ behind_head major w n (length c.0) step.0.1 c.0 c.1 got'.parts long;
             fits = (omega (arith, long, small), got'.fits);
             rest_fits = got'.rest_fits;
@@ -153,7 +153,7 @@ chunks_found major (suc fuel) [] x fits is = not_ok ended x is
 chunks_found major (suc fuel) (b ∷ bs) x fits is =
     let rest_fits = AreBytes-rest b bs fits in
     elim (chosen (eqb b 0xff) _ _ _ is) [
-      | inl last ↦ subst (AreChunks major (b ∷ bs)) (ok_is ([], bs) x last.1) (record { parts = ap (λ (c : ℕ). c ∷ bs) (eqb-true _ _ last.0); fits = tt; rest_fits = rest_fits })
+      | inl last ↦ read_as (AreChunks major (b ∷ bs)) ([], bs) x last.1 (record { parts = ap (λ (c : ℕ). c ∷ bs) (eqb-true _ _ last.0); fits = tt; rest_fits = rest_fits })
       | inr other ↦
           let step = bind_ok (chunk_at major b bs) (λ c. chunks_by major fuel c.1 >>= (λ cs. Ok (c.0 ∷ cs.0, cs.1))) x other.1 in
           let c = step.0 in
@@ -161,7 +161,7 @@ chunks_found major (suc fuel) (b ∷ bs) x fits is =
           let step' = bind_ok (chunks_by major fuel c.1) (λ cs. Ok (c.0 ∷ cs.0, cs.1)) x step.2 in
           let cs = step'.0 in
           let got' = chunks_found major fuel c.1 cs got.rest_fits step'.1 in
-          subst (AreChunks major (b ∷ bs)) (ok_is (c.0 ∷ cs.0, cs.1) x step'.2) (record {
+          read_as (AreChunks major (b ∷ bs)) (c.0 ∷ cs.0, cs.1) x step'.2 (record {
             parts = two_parts (b ∷ bs) (chunk major c.0) c.1 (flat_map (chunk major) cs.0) (0xff ∷ cs.1) got.parts got'.parts;
             fits = (got.fits, got'.fits);
             rest_fits = got'.rest_fits;
@@ -186,13 +186,13 @@ module _ {Item Items Pairs : Type 0} (m : Reading Item Items Pairs) where
   items_found : (p : List ℕ → Reads Item) (levels : ℕ) → Finds m p levels → (n : ℕ) (bs : List ℕ) (x : Items × List ℕ) → AreBytes bs → items_by m p n bs ≡ Ok x → AreItems m levels n bs x
   unfolding items_by spell made
   items_found p levels finds zero bs x fits is =
-      subst (AreItems m levels 0 bs) (ok_is (m.no_items, bs) x is) (record { items = no_raws; made_is = refl; parts = refl; count_is = refl; fits = tt; nests = omega arith; texts = tt; rest_fits = fits })
+      read_as (AreItems m levels 0 bs) (m.no_items, bs) x is (record { items = no_raws; made_is = refl; parts = refl; count_is = refl; fits = tt; nests = omega arith; texts = tt; rest_fits = fits })
   items_found p levels finds (suc n) bs x fits is =
       let a = bind_ok (p bs) (λ first. items_by m p n first.1 >>= λ others. Ok (m.item first.0 others.0, others.1)) x is in
       let b = bind_ok (items_by m p n a.0.1) (λ others. Ok (m.item a.0.0 others.0, others.1)) x a.2 in
       let one = finds bs a.0 fits a.1 in
       let all = items_found p levels finds n a.0.1 b.0 one.rest_fits b.1 in
-      subst (AreItems m levels (suc n) bs) (ok_is (m.item a.0.0 b.0.0, b.0.1) x b.2) (item_added levels n bs a.0.1 b.0.1 a.0.0 b.0.0 one all)
+      read_as (AreItems m levels (suc n) bs) (m.item a.0.0 b.0.0, b.0.1) x b.2 (item_added levels n bs a.0.1 b.0.1 a.0.0 b.0.0 one all)
 
   open_items_found : (p : List ℕ → Reads Item) (levels : ℕ) → Finds m p levels → (fuel : ℕ) (bs : List ℕ) (x : Items × List ℕ) → AreBytes bs → open_items_by m p fuel bs ≡ Ok x → AreOpenItems m levels bs x
   unfolding open_items_by spell made
@@ -207,10 +207,10 @@ module _ {Item Items Pairs : Type 0} (m : Reading Item Items Pairs) where
             let b = bind_ok (open_items_by m p fuel a.0.1) (λ others. Ok (m.item a.0.0 others.0, others.1)) x a.2 in
             let one = finds bs a.0 fits (ap p (sym same) ∙ a.1) in
             let all = open_items_found p levels finds fuel a.0.1 b.0 one.rest_fits b.1 in
-            subst (AreOpenItems m levels bs) (ok_is (m.item a.0.0 b.0.0, b.0.1) x b.2) (suc all.0, item_added levels all.0 bs a.0.1 (0xff ∷ b.0.1) a.0.0 b.0.0 one all.1)
+            read_as (AreOpenItems m levels bs) (m.item a.0.0 b.0.0, b.0.1) x b.2 (suc all.0, item_added levels all.0 bs a.0.1 (0xff ∷ b.0.1) a.0.0 b.0.0 one all.1)
         | inr none ↦
             let last : bs ≡ 0xff ∷ more.1 = break_found end_in_array bs more step.1 none.0 in
-            subst (AreOpenItems m levels bs) (ok_is (m.no_items, more.1) x none.1) (0, record { items = no_raws; made_is = refl; parts = last; count_is = refl; fits = tt; nests = omega arith; texts = tt; rest_fits = subst (λ (t : List ℕ). AreBytes t) last fits })
+            read_as (AreOpenItems m levels bs) (m.no_items, more.1) x none.1 (0, record { items = no_raws; made_is = refl; parts = last; count_is = refl; fits = tt; nests = omega arith; texts = tt; rest_fits = subst (λ (t : List ℕ). AreBytes t) last fits })
       ]
 
   -- a pair, and those after it
@@ -230,7 +230,7 @@ module _ {Item Items Pairs : Type 0} (m : Reading Item Items Pairs) where
   pairs_found : (p : List ℕ → Reads Item) (levels : ℕ) → Finds m p levels → (n : ℕ) (bs : List ℕ) (x : Pairs × List ℕ) → AreBytes bs → pairs_by m p n bs ≡ Ok x → ArePairs m levels n bs x
   unfolding pairs_by spell made
   pairs_found p levels finds zero bs x fits is =
-      subst (ArePairs m levels 0 bs) (ok_is (m.no_pairs, bs) x is) (record { pairs = no_raw_pairs; made_is = refl; parts = refl; count_is = refl; fits = tt; nests = omega arith; texts = tt; rest_fits = fits })
+      read_as (ArePairs m levels 0 bs) (m.no_pairs, bs) x is (record { pairs = no_raw_pairs; made_is = refl; parts = refl; count_is = refl; fits = tt; nests = omega arith; texts = tt; rest_fits = fits })
   pairs_found p levels finds (suc n) bs x fits is =
       let a = bind_ok (p bs) (λ k. p k.1 >>= λ v. pairs_by m p n v.1 >>= λ others. Ok (m.pair k.0 v.0 others.0, others.1)) x is in
       let b = bind_ok (p a.0.1) (λ v. pairs_by m p n v.1 >>= λ others. Ok (m.pair a.0.0 v.0 others.0, others.1)) x a.2 in
@@ -238,7 +238,7 @@ module _ {Item Items Pairs : Type 0} (m : Reading Item Items Pairs) where
       let key = finds bs a.0 fits a.1 in
       let val = finds a.0.1 b.0 key.rest_fits b.1 in
       let all = pairs_found p levels finds n b.0.1 c.0 val.rest_fits c.1 in
-      subst (ArePairs m levels (suc n) bs) (ok_is (m.pair a.0.0 b.0.0 c.0.0, c.0.1) x c.2) (pair_added levels n bs a.0.1 b.0.1 c.0.1 a.0.0 b.0.0 c.0.0 key val all)
+      read_as (ArePairs m levels (suc n) bs) (m.pair a.0.0 b.0.0 c.0.0, c.0.1) x c.2 (pair_added levels n bs a.0.1 b.0.1 c.0.1 a.0.0 b.0.0 c.0.0 key val all)
 
   open_pairs_found : (p : List ℕ → Reads Item) (levels : ℕ) → Finds m p levels → (fuel : ℕ) (bs : List ℕ) (x : Pairs × List ℕ) → AreBytes bs → open_pairs_by m p fuel bs ≡ Ok x → AreOpenPairs m levels bs x
   unfolding open_pairs_by spell made
@@ -255,10 +255,10 @@ module _ {Item Items Pairs : Type 0} (m : Reading Item Items Pairs) where
             let key = finds bs a.0 fits (ap p (sym same) ∙ a.1) in
             let val = finds a.0.1 b.0 key.rest_fits b.1 in
             let all = open_pairs_found p levels finds fuel b.0.1 c.0 val.rest_fits c.1 in
-            subst (AreOpenPairs m levels bs) (ok_is (m.pair a.0.0 b.0.0 c.0.0, c.0.1) x c.2) (suc all.0, pair_added levels all.0 bs a.0.1 b.0.1 (0xff ∷ c.0.1) a.0.0 b.0.0 c.0.0 key val all.1)
+            read_as (AreOpenPairs m levels bs) (m.pair a.0.0 b.0.0 c.0.0, c.0.1) x c.2 (suc all.0, pair_added levels all.0 bs a.0.1 b.0.1 (0xff ∷ c.0.1) a.0.0 b.0.0 c.0.0 key val all.1)
         | inr none ↦
             let last : bs ≡ 0xff ∷ more.1 = break_found end_in_map bs more step.1 none.0 in
-            subst (AreOpenPairs m levels bs) (ok_is (m.no_pairs, more.1) x none.1) (0, record { pairs = no_raw_pairs; made_is = refl; parts = last; count_is = refl; fits = tt; nests = omega arith; texts = tt; rest_fits = subst (λ (t : List ℕ). AreBytes t) last fits })
+            read_as (AreOpenPairs m levels bs) (m.no_pairs, more.1) x none.1 (0, record { pairs = no_raw_pairs; made_is = refl; parts = last; count_is = refl; fits = tt; nests = omega arith; texts = tt; rest_fits = subst (λ (t : List ℕ). AreBytes t) last fits })
       ]
 
   -- ---- what stands behind a head
@@ -274,7 +274,7 @@ module _ {Item Items Pairs : Type 0} (m : Reading Item Items Pairs) where
       let b = step.0 in
       let got = bytes_found n bs b fits step.1 in
       let long : length b.0 ≡ n = got.long in
-      subst (IsContent levels 2 w n bs) (ok_is (m.bytes (record { width = w; bytes = b.0 }), b.1) x step.2) (record {
+      read_as (IsContent levels 2 w n bs) (m.bytes (record { width = w; bytes = b.0 }), b.1) x step.2 (record {
         item = raw.bytes (record { width = w; bytes = b.0 });
         made_is = refl;
         parts = behind_head 2 w n (length b.0) bs b.0 b.1 got.parts long;
@@ -296,7 +296,7 @@ module _ {Item Items Pairs : Type 0} (m : Reading Item Items Pairs) where
             let long : length b.0 ≡ n = got.long in
             elim (chosen (m.is_text b.0) _ _ _ step.2) [
               | inr other ↦ not_ok _ x other.1
-              | inl passes ↦ subst (IsContent levels 3 w n bs) (ok_is (m.text (record { width = w; bytes = b.0 }), b.1) x passes.1) (record {
+              | inl passes ↦ read_as (IsContent levels 3 w n bs) (m.text (record { width = w; bytes = b.0 }), b.1) x passes.1 (record {
                 item = raw.text (record { width = w; bytes = b.0 });
                 made_is = refl;
                 parts = behind_head 3 w n (length b.0) bs b.0 b.1 got.parts long;
@@ -316,7 +316,7 @@ module _ {Item Items Pairs : Type 0} (m : Reading Item Items Pairs) where
       let got = items_found p finds.0 finds.2 n bs step.0 fits step.1 in
       let many : count got.items ≡ n = got.count_is in
       let rest = step.0.1 in
-      subst (IsContent levels 4 w n bs) (ok_is (m.array w step.0.0, rest) x step.2) (record {
+      read_as (IsContent levels 4 w n bs) (m.array w step.0.0, rest) x step.2 (record {
         item = raw.array w got.items;
         made_is = ap (m.array w) got.made_is;
         parts = behind_head 4 w n (count got.items) bs (spell_all got.items) rest got.parts many;
@@ -334,7 +334,7 @@ module _ {Item Items Pairs : Type 0} (m : Reading Item Items Pairs) where
       let got = pairs_found p finds.0 finds.2 n bs step.0 fits step.1 in
       let many : pair_count got.pairs ≡ n = got.count_is in
       let rest = step.0.1 in
-      subst (IsContent levels 5 w n bs) (ok_is (m.map w step.0.0, rest) x step.2) (record {
+      read_as (IsContent levels 5 w n bs) (m.map w step.0.0, rest) x step.2 (record {
         item = raw.map w got.pairs;
         made_is = ap (m.map w) got.made_is;
         parts = behind_head 5 w n (pair_count got.pairs) bs (spell_pairs got.pairs) rest got.parts many;
@@ -351,7 +351,7 @@ module _ {Item Items Pairs : Type 0} (m : Reading Item Items Pairs) where
       let step = bind_ok (p bs) (λ item. Ok (m.tag w n item.0, item.1)) x is in
       let got = finds.2 bs step.0 fits step.1 in
       let rest = step.0.1 in
-      subst (IsContent levels 6 w n bs) (ok_is (m.tag w n step.0.0, rest) x step.2) (record {
+      read_as (IsContent levels 6 w n bs) (m.tag w n step.0.0, rest) x step.2 (record {
         item = raw.tag w n got.item;
         made_is = ap (m.tag w n) got.made_is;
         parts = behind_head 6 w n n bs (spell got.item) rest got.parts refl;
@@ -373,7 +373,7 @@ module _ {Item Items Pairs : Type 0} (m : Reading Item Items Pairs) where
       let step = bind_ok (chunks_at 2 bs) (λ cs. Ok (m.bytes_chunks cs.0, cs.1)) x is in
       let cs = step.0 in
       let got = chunks_found 2 (suc (length bs)) bs cs fits step.1 in
-      subst (IsOpen levels 2 bs) (ok_is (m.bytes_chunks cs.0, cs.1) x step.2) (record {
+      read_as (IsOpen levels 2 bs) (m.bytes_chunks cs.0, cs.1) x step.2 (record {
         item = raw.bytes_chunks cs.0;
         made_is = refl;
         parts = behind_first 0x5f bs (flat_map (chunk 2) cs.0) cs.1 got.parts;
@@ -391,7 +391,7 @@ module _ {Item Items Pairs : Type 0} (m : Reading Item Items Pairs) where
       let got = chunks_found 3 (suc (length bs)) bs cs fits step.1 in
       elim (chosen (m.is_text (joined cs.0)) _ _ _ step.2) [
         | inr other ↦ not_ok _ x other.1
-        | inl passes ↦ subst (IsOpen levels 3 bs) (ok_is (m.text_chunks cs.0, cs.1) x passes.1) (record {
+        | inl passes ↦ read_as (IsOpen levels 3 bs) (m.text_chunks cs.0, cs.1) x passes.1 (record {
           item = raw.text_chunks cs.0;
           made_is = refl;
           parts = behind_first 0x7f bs (flat_map (chunk 3) cs.0) cs.1 got.parts;
@@ -409,7 +409,7 @@ module _ {Item Items Pairs : Type 0} (m : Reading Item Items Pairs) where
       let step = bind_ok (open_items_by m p (suc (length bs)) bs) (λ items. Ok (m.array_open items.0, items.1)) x is in
       let got = (open_items_found p finds.0 finds.2 (suc (length bs)) bs step.0 fits step.1).1 in
       let rest = step.0.1 in
-      subst (IsOpen levels 4 bs) (ok_is (m.array_open step.0.0, rest) x step.2) (record {
+      read_as (IsOpen levels 4 bs) (m.array_open step.0.0, rest) x step.2 (record {
         item = raw.array_open got.items;
         made_is = ap m.array_open got.made_is;
         parts = behind_first 0x9f bs (spell_all got.items) rest got.parts;
@@ -426,7 +426,7 @@ module _ {Item Items Pairs : Type 0} (m : Reading Item Items Pairs) where
       let step = bind_ok (open_pairs_by m p (suc (length bs)) bs) (λ pairs. Ok (m.map_open pairs.0, pairs.1)) x is in
       let got = (open_pairs_found p finds.0 finds.2 (suc (length bs)) bs step.0 fits step.1).1 in
       let rest = step.0.1 in
-      subst (IsOpen levels 5 bs) (ok_is (m.map_open step.0.0, rest) x step.2) (record {
+      read_as (IsOpen levels 5 bs) (m.map_open step.0.0, rest) x step.2 (record {
         item = raw.map_open got.pairs;
         made_is = ap m.map_open got.made_is;
         parts = behind_first 0xbf bs (spell_pairs got.pairs) rest got.parts;
@@ -439,17 +439,18 @@ module _ {Item Items Pairs : Type 0} (m : Reading Item Items Pairs) where
   open_found : (inner : Option (List ℕ → Reads Item)) (levels : ℕ) → FindsInside m inner levels → (major : ℕ) (bs : List ℕ) (x : Item × List ℕ) → AreBytes bs → open_at m inner major bs ≡ Ok x → IsOpen levels major bs x
   unfolding open_at
   open_found inner levels finds major bs x fits is =
+      let at_major = λ (k : ℕ) (this : eqb major k ≡ true) (got : IsOpen levels k bs x). subst (λ (k : ℕ). IsOpen levels k bs x) (sym (eqb-true major k this)) got in
       elim (chosen (eqb major 2) _ _ _ is) [
-        | inl this ↦ subst (λ (k : ℕ). IsOpen levels k bs x) (sym (eqb-true _ _ this.0)) (string_chunks_found levels bs x fits this.1)
+        | inl this ↦ at_major 2 this.0 (string_chunks_found levels bs x fits this.1)
         | inr other ↦
             elim (chosen (eqb major 3) _ _ _ other.1) [
-              | inl this ↦ subst (λ (k : ℕ). IsOpen levels k bs x) (sym (eqb-true _ _ this.0)) (text_chunks_found levels bs x fits this.1)
+              | inl this ↦ at_major 3 this.0 (text_chunks_found levels bs x fits this.1)
               | inr other ↦
                   elim (chosen (eqb major 4) _ _ _ other.1) [
-                    | inl this ↦ subst (λ (k : ℕ). IsOpen levels k bs x) (sym (eqb-true _ _ this.0)) (open_array_found inner levels finds bs x fits this.1)
+                    | inl this ↦ at_major 4 this.0 (open_array_found inner levels finds bs x fits this.1)
                     | inr other ↦
                         elim (chosen (eqb major 5) _ _ _ other.1) [
-                          | inl this ↦ subst (λ (k : ℕ). IsOpen levels k bs x) (sym (eqb-true _ _ this.0)) (open_map_found inner levels finds bs x fits this.1)
+                          | inl this ↦ at_major 5 this.0 (open_map_found inner levels finds bs x fits this.1)
                           | inr none ↦ not_ok (before unassigned_code bs) x none.1
                         ]
                   ]
@@ -470,7 +471,7 @@ module _ {Item Items Pairs : Type 0} (m : Reading Item Items Pairs) where
       let n = step.0.0 in
       let rest = step.0.1 in
       let got = number_found w (float_limit f) wide bs step.0 fits step.1 in
-      subst (IsSpecial levels low bs) (ok_is (m.float f n, rest) x step.2) (record {
+      read_as (IsSpecial levels low bs) (m.float f n, rest) x step.2 (record {
         item = raw.float f n;
         made_is = refl;
         parts = ap (λ (b : ℕ). (224 + b) ∷ bs) (eqb-true _ _ low_is) ∙ ap (λ (t : List ℕ). (224 + this) ∷ t) got.parts ∙ ap (λ (t : List ℕ). t ++ rest) (sym (spelled n));
@@ -500,7 +501,7 @@ module _ {Item Items Pairs : Type 0} (m : Reading Item Items Pairs) where
   one_simple : (s : Simple) (levels low this : ℕ) → simple_byte s ≡ 224 + this → eqb low this ≡ true → (bs : List ℕ) (x : Item × List ℕ) → AreBytes bs → done (m.simple s, bs) ≡ Ok x → IsSpecial levels low bs x
   unfolding spell made
   one_simple s levels low this spelled low_is bs x fits is =
-      subst (IsSpecial levels low bs) (ok_is (m.simple s, bs) x is) (record {
+      read_as (IsSpecial levels low bs) (m.simple s, bs) x is (record {
         item = raw.simple s;
         made_is = refl;
         parts = ap (λ (b : ℕ). (224 + b) ∷ bs) (eqb-true _ _ low_is) ∙ ap (λ (b : ℕ). b ∷ bs) (sym spelled);
@@ -537,10 +538,10 @@ module _ {Item Items Pairs : Type 0} (m : Reading Item Items Pairs) where
   content_found inner levels finds major at_most w n bs x fits small is =
       let at_major = λ (k : ℕ) (this : eqb major k ≡ true) (got : IsContent levels k w n bs x). subst (λ (k : ℕ). IsContent levels k w n bs x) (sym (eqb-true major k this)) got in
       elim (chosen (eqb major 0) _ _ _ is) [
-        | inl this ↦ at_major 0 this.0 (subst (IsContent levels 0 w n bs) (ok_is (m.unsigned w n, bs) x this.1) (record { item = raw.unsigned w n; made_is = refl; parts = refl; fits = small; nests = omega arith; texts = tt; rest_fits = fits }))
+        | inl this ↦ at_major 0 this.0 (read_as (IsContent levels 0 w n bs) (m.unsigned w n, bs) x this.1 (record { item = raw.unsigned w n; made_is = refl; parts = refl; fits = small; nests = omega arith; texts = tt; rest_fits = fits }))
         | inr not_0 ↦
             elim (chosen (eqb major 1) _ _ _ not_0.1) [
-              | inl this ↦ at_major 1 this.0 (subst (IsContent levels 1 w n bs) (ok_is (m.negative w n, bs) x this.1) (record { item = raw.negative w n; made_is = refl; parts = refl; fits = small; nests = omega arith; texts = tt; rest_fits = fits }))
+              | inl this ↦ at_major 1 this.0 (read_as (IsContent levels 1 w n bs) (m.negative w n, bs) x this.1 (record { item = raw.negative w n; made_is = refl; parts = refl; fits = small; nests = omega arith; texts = tt; rest_fits = fits }))
               | inr not_1 ↦
                   elim (chosen (eqb major 2) _ _ _ not_1.1) [
                     | inl this ↦ at_major 2 this.0 (string_found levels w n bs x fits small this.1)

@@ -40,6 +40,10 @@ done x = Ok x
 pub ok_is : {A : Type 0} (x y : A) → done x ≡ done y → x ≡ y
 ok_is x y e = cc
 
+-- what holds of a value holds of what is read as it
+pub read_as : {A : Type 0} (P : A → Type 0) (x y : A) → done x ≡ done y → P x → P y
+read_as P x y e p = subst P (ok_is x y e) p
+
 pub not_ok : {A : Type 0} {B : Type 0} (d : Fault) (x : A) → Err d ≡ done x → B
 not_ok d x e = absurd cc
 
@@ -58,7 +62,7 @@ bytes_found n bs x fits e =
       | inl too_few ↦ not_ok ended x too_few.1
       | inr enough ↦
           let long : n ≤ length bs = ltb-false _ _ enough.0 in
-          subst (AreTaken n bs) (ok_is (take n bs, drop n bs) x enough.1) (record {
+          read_as (AreTaken n bs) (take n bs, drop n bs) x enough.1 (record {
             parts = sym (take-append-drop n bs);
             long = omega (arith, length-take n bs);
             fits = AreBytes-take n bs fits;
@@ -130,7 +134,7 @@ number_found w bound wide bs x fits is =
       | inr enough ↦
           let long : byte_len w ≤ length bs = ltb-false _ _ enough.0 in
           let front : to_be_bytes w (from_be_bytes w (take (byte_len w) bs)) ≡ take (byte_len w) bs = wide.back (take (byte_len w) bs) (omega (arith, length-take (byte_len w) bs)) (AreBytes-take (byte_len w) bs fits) in
-          subst (IsTaken w bound bs) (ok_is (from_be_bytes w (take (byte_len w) bs), drop (byte_len w) bs) x enough.1) (record {
+          read_as (IsTaken w bound bs) (from_be_bytes w (take (byte_len w) bs), drop (byte_len w) bs) x enough.1 (record {
             parts = rw front (sym (take-append-drop (byte_len w) bs));
             fits = wide.below _ (AreBytes-take (byte_len w) bs fits);
             rest_fits = AreBytes-drop (byte_len w) bs fits;
@@ -178,7 +182,7 @@ number_behind_found low bs x fits is =
     elim (chosen (ltb low 24) _ _ _ is) [
       | inl small ↦
           let lt : low < 24 = ltb-true _ _ small.0 in
-          subst (λ (w : HeadWidth). IsBehind w low bs x) (sym (width_of-info no_bytes low lt)) (subst (IsBehind no_bytes low bs) (ok_is (low, bs) x small.1) (record { is_low = refl; parts = refl; fits = lt; rest_fits = fits }))
+          subst (λ (w : HeadWidth). IsBehind w low bs x) (sym (width_of-info no_bytes low lt)) (read_as (IsBehind no_bytes low bs) (low, bs) x small.1 (record { is_low = refl; parts = refl; fits = lt; rest_fits = fits }))
       | inr more ↦
           elim (chosen (eqb low 24) _ _ _ more.1) [
             | inl this ↦

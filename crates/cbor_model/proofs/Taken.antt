@@ -1,22 +1,19 @@
 -- An item takes a byte at the least, and no step of reading leaves more bytes than it began with.
-use Rattle.std.proofs.Common.{◌≡◌, ℕ, zero, suc, ◌+◌, ◌/◌, ◌%◌, ◌<◌, ◌≤◌, Bool, true, false, cond, eqb, ltb, List, [], ◌∷◌, length, drop, Option, Some, None, Result, Ok, Err, refl, subst, arith}
+use Rattle.std.proofs.Common.{◌≡◌, ℕ, zero, suc, ◌/◌, ◌%◌, ◌<◌, ◌≤◌, Bool, true, false, cond, eqb, ltb, List, [], ◌∷◌, length, Option, Some, None, Ok, Err, subst, arith}
 use Rattle.std.specs.Int.{Width, w8, w16, w32, w64, byte_len}
 use Rattle.std.proofs.lemmas.List.{length-drop}
 use Rattle.cbor_model.specs.Head.{HeadWidth}
+use Rattle.cbor_model.specs.Raw.{Chunk}
 use Rattle.cbor_model.specs.Refusal.{Refusal}
-use Rattle.cbor_model.specs.Reader.{Fault, Reads, ◌>>=◌, Reading, byte_at, bytes_at, number_at, number_behind, float_at, simple_at, string_at, checked_text, text_at, begins_chunk, chunk_at, chunks_by, chunks_at, string_chunks_at, text_chunks_at, items_by, more_at, open_items_by, pairs_by, open_pairs_by, within, array_at, map_at, tag_at, open_array_at, open_map_at, content_at, open_at, after_first, item_by, item_at}
+use Rattle.cbor_model.specs.Reader.{Reads, ◌>>=◌, Reading, byte_at, bytes_at, number_at, number_behind, float_at, simple_at, string_at, checked_text, text_at, begins_chunk, chunk_at, chunks_by, chunks_at, string_chunks_at, text_chunks_at, items_by, more_at, open_items_by, pairs_by, open_pairs_by, within, array_at, map_at, tag_at, open_array_at, open_map_at, content_at, open_at, after_first, item_by, item_at}
 
 -- where something is read, no more than n bytes are left
 abbrev pub Leaves : {A : Type 0} → ℕ → Reads A → Type 0
 Leaves n (Ok x) = length x.1 ≤ n
 Leaves n (Err d) = Unit {0}
 
-pub Leaves-use : {A : Type 0} (n : ℕ) (r : Reads A) (x : A × List ℕ) → Leaves n r → r ≡ Ok x → length x.1 ≤ n
+Leaves-use : {A : Type 0} (n : ℕ) (r : Reads A) (x : A × List ℕ) → Leaves n r → r ≡ Ok x → length x.1 ≤ n
 Leaves-use {A = A} n r x few is = subst (λ (r : Reads A). Leaves n r) is few
-
-pub Leaves-from_each : {A : Type 0} (n : ℕ) (r : Reads A) → ((x : A × List ℕ) → r ≡ Ok x → length x.1 ≤ n) → Leaves n r
-Leaves-from_each n (Ok x) each = each x refl
-Leaves-from_each n (Err d) each = tt
 
 Leaves-bind : {A B : Type 0} (n k : ℕ) (r : Reads A) (f : A × List ℕ → Reads B) → Leaves k r → ((x : A × List ℕ) → length x.1 ≤ k → Leaves n (f x)) → Leaves n (r >>= f)
 Leaves-bind n k (Ok x) f few each = each x few
@@ -43,13 +40,16 @@ number_behind_leaves low n bs few =
     (Leaves-cond n (eqb low 26) _ _ (number_leaves w32 n bs few)
     (Leaves-cond n (eqb low 27) _ _ (number_leaves w64 n bs few) tt))))
 
-pub chunk_leaves : (major b n : ℕ) (bs : List ℕ) → length bs ≤ n → Leaves n (chunk_at major b bs)
+chunk_leaves : (major b n : ℕ) (bs : List ℕ) → length bs ≤ n → Leaves n (chunk_at major b bs)
 unfolding chunk_at
 chunk_leaves major b n bs few =
     Leaves-cond n (begins_chunk major b) _ _
     (Leaves-bind n n (number_behind (b % 32) bs) _ (number_behind_leaves (b % 32) n bs few) (λ k few.
-        Leaves-bind n n (bytes_at k.0 k.1) _ (bytes_leaves k.0 n k.1 few) (λ c few. few)))
+    Leaves-bind n n (bytes_at k.0 k.1) _ (bytes_leaves k.0 n k.1 few) (λ c few. few)))
     tt
+
+pub chunk_taken : (major b : ℕ) (bs : List ℕ) (x : Chunk × List ℕ) → chunk_at major b bs ≡ Ok x → length x.1 ≤ length bs
+chunk_taken major b bs x is = Leaves-use (length bs) (chunk_at major b bs) x (chunk_leaves major b (length bs) bs (omega arith)) is
 
 chunks_leaves : (major fuel n : ℕ) (bs : List ℕ) → length bs ≤ n → Leaves n (chunks_by major fuel bs)
 unfolding chunks_by byte_at
@@ -59,13 +59,15 @@ chunks_leaves major (suc fuel) n (b ∷ bs) few =
     let fewer : length bs ≤ n = omega arith in
     Leaves-cond n (eqb b 0xff) _ _ fewer
     (Leaves-bind n n (chunk_at major b bs) _ (chunk_leaves major b n bs fewer) (λ c few.
-        Leaves-bind n n (chunks_by major fuel c.1) _ (chunks_leaves major fuel n c.1 few) (λ cs few. few)))
+    Leaves-bind n n (chunks_by major fuel c.1) _ (chunks_leaves major fuel n c.1 few) (λ cs few. few)))
 
--- an element leaves no more, and the break less
-pub more_leaves : (why : Refusal) (n : ℕ) (bs : List ℕ) → length bs ≤ n → Leaves n (more_at why bs)
+more_leaves : (why : Refusal) (n : ℕ) (bs : List ℕ) → length bs ≤ n → Leaves n (more_at why bs)
 unfolding more_at
 more_leaves why n [] few = tt
 more_leaves why n (b ∷ bs) few = Leaves-cond n (eqb b 0xff) _ _ (omega arith) few
+
+pub more_taken : (why : Refusal) (bs : List ℕ) (x : Bool × List ℕ) → more_at why bs ≡ Ok x → length x.1 ≤ length bs
+more_taken why bs x is = Leaves-use (length bs) (more_at why bs) x (more_leaves why (length bs) bs (omega arith)) is
 
 module _ {Item Items Pairs : Type 0} (m : Reading Item Items Pairs) where
   -- the reader leaves no more bytes than it began with
@@ -122,36 +124,36 @@ module _ {Item Items Pairs : Type 0} (m : Reading Item Items Pairs) where
   items_leave p leaves zero n bs few = few
   items_leave p leaves (suc k) n bs few =
       Leaves-bind n n (p bs) _ (leaves n bs few) (λ first few.
-        Leaves-bind n n (items_by m p k first.1) _ (items_leave p leaves k n first.1 few) (λ others few. few))
+      Leaves-bind n n (items_by m p k first.1) _ (items_leave p leaves k n first.1 few) (λ others few. few))
 
   pairs_leave : (p : List ℕ → Reads Item) → LeavesNoMore p → (k n : ℕ) (bs : List ℕ) → length bs ≤ n → Leaves n (pairs_by m p k bs)
   unfolding pairs_by
   pairs_leave p leaves zero n bs few = few
   pairs_leave p leaves (suc k) n bs few =
       Leaves-bind n n (p bs) _ (leaves n bs few) (λ key few.
-        Leaves-bind n n (p key.1) _ (leaves n key.1 few) (λ v few.
-          Leaves-bind n n (pairs_by m p k v.1) _ (pairs_leave p leaves k n v.1 few) (λ others few. few)))
+      Leaves-bind n n (p key.1) _ (leaves n key.1 few) (λ v few.
+      Leaves-bind n n (pairs_by m p k v.1) _ (pairs_leave p leaves k n v.1 few) (λ others few. few)))
 
   open_items_leave : (p : List ℕ → Reads Item) → LeavesNoMore p → (fuel n : ℕ) (bs : List ℕ) → length bs ≤ n → Leaves n (open_items_by m p fuel bs)
   unfolding open_items_by
   open_items_leave p leaves zero n bs few = tt
   open_items_leave p leaves (suc fuel) n bs few =
       Leaves-bind n n (more_at _ bs) _ (more_leaves _ n bs few) (λ more few.
-        Leaves-cond n more.0 _ _
-        (Leaves-bind n n (p more.1) _ (leaves n more.1 few) (λ first few.
-          Leaves-bind n n (open_items_by m p fuel first.1) _ (open_items_leave p leaves fuel n first.1 few) (λ others few. few)))
-        few)
+      Leaves-cond n more.0 _ _
+      (Leaves-bind n n (p more.1) _ (leaves n more.1 few) (λ first few.
+      Leaves-bind n n (open_items_by m p fuel first.1) _ (open_items_leave p leaves fuel n first.1 few) (λ others few. few)))
+      few)
 
   open_pairs_leave : (p : List ℕ → Reads Item) → LeavesNoMore p → (fuel n : ℕ) (bs : List ℕ) → length bs ≤ n → Leaves n (open_pairs_by m p fuel bs)
   unfolding open_pairs_by
   open_pairs_leave p leaves zero n bs few = tt
   open_pairs_leave p leaves (suc fuel) n bs few =
       Leaves-bind n n (more_at _ bs) _ (more_leaves _ n bs few) (λ more few.
-        Leaves-cond n more.0 _ _
-        (Leaves-bind n n (p more.1) _ (leaves n more.1 few) (λ key few.
-          Leaves-bind n n (p key.1) _ (leaves n key.1 few) (λ v few.
-            Leaves-bind n n (open_pairs_by m p fuel v.1) _ (open_pairs_leave p leaves fuel n v.1 few) (λ others few. few))))
-        few)
+      Leaves-cond n more.0 _ _
+      (Leaves-bind n n (p more.1) _ (leaves n more.1 few) (λ key few.
+      Leaves-bind n n (p key.1) _ (leaves n key.1 few) (λ v few.
+      Leaves-bind n n (open_pairs_by m p fuel v.1) _ (open_pairs_leave p leaves fuel n v.1 few) (λ others few. few))))
+      few)
 
   -- one of the above, by a reader of what lies one level further in
   within_leaves : {A : Type 0} (inner : Option (List ℕ → Reads Item)) → LeavesNoMoreInside inner → (n : ℕ) (bs : List ℕ) (read : (List ℕ → Reads Item) → Reads A) → ((p : List ℕ → Reads Item) → LeavesNoMore p → Leaves n (read p)) → Leaves n (within inner bs read)
@@ -217,10 +219,10 @@ module _ {Item Items Pairs : Type 0} (m : Reading Item Items Pairs) where
   item_leaves inner leaves n (b ∷ bs) few = after_first_leaves inner leaves b n bs (omega arith)
 
   -- an item leaves no more than what follows a first byte
-  pub leaves : (levels n : ℕ) (bs : List ℕ) → length bs ≤ suc n → Leaves n (item_at m levels bs)
+  item_at-leaves : (levels n : ℕ) (bs : List ℕ) → length bs ≤ suc n → Leaves n (item_at m levels bs)
   unfolding item_at
-  leaves zero n bs few = item_leaves None tt n bs few
-  leaves (suc levels) n bs few = item_leaves (Some (item_at m levels)) (λ n bs few. leaves levels n bs (omega arith)) n bs few
+  item_at-leaves zero n bs few = item_leaves None tt n bs few
+  item_at-leaves (suc levels) n bs few = item_leaves (Some (item_at m levels)) (λ n bs few. item_at-leaves levels n bs (omega arith)) n bs few
 
   -- an item takes a byte at the least
   pub taken : (levels : ℕ) (bs : List ℕ) (x : Item × List ℕ) → item_at m levels bs ≡ Ok x → length x.1 < length bs
@@ -228,5 +230,5 @@ module _ {Item Items Pairs : Type 0} (m : Reading Item Items Pairs) where
   taken zero [] x is = absurd cc
   taken (suc levels) [] x is = absurd cc
   taken levels (b ∷ bs) x is =
-      let few : length x.1 ≤ length bs = Leaves-use (length bs) (item_at m levels (b ∷ bs)) x (leaves levels (length bs) (b ∷ bs) (omega arith)) is in
+      let few : length x.1 ≤ length bs = Leaves-use (length bs) (item_at m levels (b ∷ bs)) x (item_at-leaves levels (length bs) (b ∷ bs) (omega arith)) is in
       omega arith
