@@ -35,6 +35,11 @@ abbrev pub IsBelow : Val → Pairs → Type 0
 IsBelow k no_pairs = Unit {0}
 IsBelow k (pair l w ps) = lex (flat k) (flat l) ≡ Less
 
+-- the keys strictly ascend
+abbrev pub KeysAscend : Pairs → Type 0
+KeysAscend no_pairs = Unit {0}
+KeysAscend (pair k v ps) = IsBelow k ps × KeysAscend ps
+
 -- the keys of each map in the value strictly ascend
 abbrev mutual
   pub IsOrdered : Val → Type 0

@@ -2,10 +2,13 @@
 use Rattle.std.specs.Prelude.{◌≡◌, ℕ, ◌^◌, ◌<◌, List, [], ◌++◌, length, Ok}
 use Rattle.cbor_model.specs.Raw.{Raw, AreBytes, IsWellFormed}
 use Rattle.cbor_model.specs.Spelling.{spell}
-use Rattle.cbor_model.specs.Acceptable.{IsAcceptable}
+use Rattle.cbor_model.specs.Acceptable.{IsAcceptable, IsAcceptableWithin}
 use Rattle.cbor_model.specs.Plain.{Val}
 use Rattle.cbor_model.specs.Value.{value}
-use Rattle.cbor_model.specs.Canonical.{IsStorable}
+use Rattle.cbor_model.specs.Canonical.{IsStorable, IsOrdered, canonical}
+use Rattle.cbor_model.specs.Order.{flat}
+use Rattle.cbor_model.specs.FiniteMap.{val_cmp}
+use Rattle.std.specs.Cmp.{IsTotalOrder}
 use Rattle.cbor_model.specs.Reader.{read_value}
 use Rattle.cbor_model.specs.Program.{IsAnswer}
 
@@ -35,3 +38,21 @@ ValueIsStorable = (r : Raw) → IsWellFormed r → IsStorable (value r)
 -- A line has no two answers.
 abbrev pub OneAnswer : Type 0
 OneAnswer = (line a b : List ℕ) → IsAnswer line a → IsAnswer line b → a ≡ b
+
+-- The value of an acceptable item, of which the bytes are fewer than 2^64, is storable and ordered,
+-- and its canonical item is acceptable.
+abbrev pub ValueIsCanonical : Type 0
+ValueIsCanonical = (levels : ℕ) (r : Raw) → IsAcceptableWithin levels r → length (spell r) < 2 ^ 64
+    → IsStorable (value r) × IsOrdered (value r) × IsAcceptableWithin levels (canonical (value r))
+
+-- The canonical item of an ordered value has that value.
+abbrev pub CanonicalReadsBack : Type 0
+CanonicalReadsBack = (v : Val) → IsOrdered v → value (canonical v) ≡ v
+
+-- The order of values is total.
+abbrev pub OrderIsTotal : Type 0
+OrderIsTotal = IsTotalOrder val_cmp
+
+-- Values with equal lists are equal.
+abbrev pub OneFlat : Type 0
+OneFlat = (a b : Val) → flat a ≡ flat b → a ≡ b

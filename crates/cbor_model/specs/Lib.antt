@@ -6,6 +6,7 @@ pub mod Plain
 pub mod Order
 pub mod Value
 pub mod Canonical
+pub mod FiniteMap
 pub mod Refusal
 pub mod Reader
 pub mod Program

@@ -1,0 +1,17 @@
+-- The finite map that the pairs of a map list, where their keys strictly ascend.
+use Rattle.std.specs.Prelude.{List, [], ◌∷◌}
+use Rattle.std.specs.declared.cmp.Ordering.{Ordering}
+use Rattle.std.specs.FinMap.{FinMap, from_entries}
+use Rattle.cbor_model.specs.Plain.{Val, Pairs, no_pairs, pair}
+use Rattle.cbor_model.specs.Order.{lex, flat}
+
+-- the order of values
+unfoldable pub val_cmp : Val → Val → Ordering
+val_cmp a b = lex (flat a) (flat b)
+
+abbrev pub entries : Pairs → List (Val × Val)
+entries no_pairs = []
+entries (pair k v ps) = (k, v) ∷ entries ps
+
+unfoldable pub finite_map : Pairs → FinMap val_cmp Val
+finite_map ps = from_entries (entries ps)
