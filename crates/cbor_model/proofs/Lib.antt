@@ -7,6 +7,7 @@ pub mod Again
 pub mod Texts
 pub mod Whole
 pub mod Storable
+pub mod Same
 pub mod Apart
 pub mod Program
 pub mod Proved
