@@ -8,6 +8,7 @@ pub mod Texts
 pub mod Whole
 pub mod Storable
 pub mod Same
+pub mod Pairs
 pub mod Apart
 pub mod Program
 pub mod Proved
