@@ -9,6 +9,7 @@ pub mod Whole
 pub mod Storable
 pub mod Same
 pub mod Pairs
+pub mod ReadsBack
 pub mod Apart
 pub mod Program
 pub mod Proved

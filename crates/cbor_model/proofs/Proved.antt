@@ -1,8 +1,9 @@
 -- The laws' proofs.
-use Rattle.cbor_model.specs.Laws.{ReaderFinds, ReaderAccepts, OneSpelling, ValueIsStorable, OneAnswer, OrderIsTotal, OneFlat}
+use Rattle.cbor_model.specs.Laws.{ReaderFinds, ReaderAccepts, OneSpelling, ValueIsStorable, OneAnswer, OrderIsTotal, OneFlat, CanonicalReadsBack}
 use Rattle.cbor_model.proofs.Whole.{found_whole, read_whole}
 use Rattle.cbor_model.proofs.Storable.{storable}
 use Rattle.cbor_model.proofs.Same as same
+use Rattle.cbor_model.proofs.ReadsBack.{reads_back}
 use Rattle.cbor_model.proofs.Apart as apart
 use Rattle.cbor_model.proofs.Program as program
 
@@ -26,3 +27,6 @@ order_is_total = same.val_cmp_total
 
 pub one_flat : OneFlat
 one_flat = same.one_flat
+
+pub canonical_reads_back : CanonicalReadsBack
+canonical_reads_back = reads_back

@@ -1,5 +1,5 @@
 //! The laws, each of which is the contract of a function that does nothing.
-ghost use Rattle.cbor_model.specs.Laws.{ReaderFinds, ReaderAccepts, OneSpelling, ValueIsStorable, OneAnswer, OrderIsTotal, OneFlat};
+ghost use Rattle.cbor_model.specs.Laws.{ReaderFinds, ReaderAccepts, OneSpelling, ValueIsStorable, OneAnswer, OrderIsTotal, OneFlat, CanonicalReadsBack};
 
 /// What the reference reader reads is the value of an acceptable item, and the bytes are its spelling.
 pub fn reader_finds()
@@ -34,4 +34,9 @@ pub fn order_is_total()
 /// Values whose lists of numbers are equal are equal, so no two values compare alike.
 pub fn one_flat()
     ensures { OneFlat }
+{}
+
+/// The canonical item of an ordered value has that value, so an ordered value is the value of an item.
+pub fn canonical_reads_back()
+    ensures { CanonicalReadsBack }
 {}
