@@ -10,6 +10,7 @@ pub mod Storable
 pub mod Same
 pub mod Pairs
 pub mod ReadsBack
+pub mod Canonical
 pub mod Apart
 pub mod Program
 pub mod Proved

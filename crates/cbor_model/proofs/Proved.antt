@@ -1,9 +1,10 @@
 -- The laws' proofs.
-use Rattle.cbor_model.specs.Laws.{ReaderFinds, ReaderAccepts, OneSpelling, ValueIsStorable, OneAnswer, OrderIsTotal, OneFlat, CanonicalReadsBack}
+use Rattle.cbor_model.specs.Laws.{ReaderFinds, ReaderAccepts, OneSpelling, ValueIsStorable, OneAnswer, OrderIsTotal, OneFlat, CanonicalReadsBack, ValueIsCanonical}
 use Rattle.cbor_model.proofs.Whole.{found_whole, read_whole}
 use Rattle.cbor_model.proofs.Storable.{storable}
 use Rattle.cbor_model.proofs.Same as same
 use Rattle.cbor_model.proofs.ReadsBack.{reads_back}
+use Rattle.cbor_model.proofs.Canonical as canonical
 use Rattle.cbor_model.proofs.Apart as apart
 use Rattle.cbor_model.proofs.Program as program
 
@@ -30,3 +31,6 @@ one_flat = same.one_flat
 
 pub canonical_reads_back : CanonicalReadsBack
 canonical_reads_back = reads_back
+
+pub value_is_canonical : ValueIsCanonical
+value_is_canonical = canonical.value_is_canonical
