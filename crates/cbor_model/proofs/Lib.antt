@@ -7,6 +7,10 @@ pub mod Again
 pub mod Texts
 pub mod Whole
 pub mod Storable
+pub mod Same
+pub mod Pairs
+pub mod ReadsBack
+pub mod Canonical
 pub mod Apart
 pub mod Program
 pub mod Proved

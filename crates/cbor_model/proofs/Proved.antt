@@ -1,7 +1,10 @@
 -- The laws' proofs.
-use Rattle.cbor_model.specs.Laws.{ReaderFinds, ReaderAccepts, OneSpelling, ValueIsStorable, OneAnswer}
+use Rattle.cbor_model.specs.Laws.{ReaderFinds, ReaderAccepts, OneSpelling, ValueIsStorable, OneAnswer, OrderIsTotal, OneFlat, CanonicalReadsBack, ValueIsCanonical}
 use Rattle.cbor_model.proofs.Whole.{found_whole, read_whole}
 use Rattle.cbor_model.proofs.Storable.{storable}
+use Rattle.cbor_model.proofs.Same as same
+use Rattle.cbor_model.proofs.ReadsBack.{reads_back}
+use Rattle.cbor_model.proofs.Canonical as canonical
 use Rattle.cbor_model.proofs.Apart as apart
 use Rattle.cbor_model.proofs.Program as program
 
@@ -19,3 +22,15 @@ value_is_storable = storable
 
 pub one_answer : OneAnswer
 one_answer = program.one_answer
+
+pub order_is_total : OrderIsTotal
+order_is_total = same.val_cmp_total
+
+pub one_flat : OneFlat
+one_flat = same.one_flat
+
+pub canonical_reads_back : CanonicalReadsBack
+canonical_reads_back = reads_back
+
+pub value_is_canonical : ValueIsCanonical
+value_is_canonical = canonical.value_is_canonical

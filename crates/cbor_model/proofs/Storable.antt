@@ -10,7 +10,7 @@ use Rattle.cbor_model.specs.Order.{lex, flat}
 use Rattle.cbor_model.specs.Value.{value, values, pairs, by_order, put, simple_value}
 use Rattle.cbor_model.specs.Canonical.{IsStorable, AreStorable, ArePairsStorable}
 
-limit-le : (w : HeadWidth) → limit w ≤ 2 ^ 64
+pub limit-le : (w : HeadWidth) → limit w ≤ 2 ^ 64
 limit-le no_bytes = omega arith
 limit-le one_byte = omega arith
 limit-le two_bytes = omega arith

@@ -4,6 +4,7 @@ use Rattle.std.specs.declared.cmp.Ordering.{Ordering}
 use Rattle.std.specs.FinMap.{FinMap, from_entries}
 use Rattle.cbor_model.specs.Plain.{Val, Pairs, no_pairs, pair}
 use Rattle.cbor_model.specs.Order.{lex, flat}
+use Rattle.cbor_model.specs.Value.{by_order}
 
 -- the order of values
 unfoldable pub val_cmp : Val → Val → Ordering
@@ -15,3 +16,8 @@ entries (pair k v ps) = (k, v) ∷ entries ps
 
 unfoldable pub finite_map : Pairs → FinMap val_cmp Val
 finite_map ps = from_entries (entries ps)
+
+-- ordered pairs without the one at the key k
+abbrev pub without : Val → Pairs → Pairs
+without k no_pairs = no_pairs
+without k (pair l w ps) = by_order (lex (flat k) (flat l)) (pair l w ps) ps (pair l w (without k ps))

@@ -47,6 +47,42 @@ unfoldable mutual
   flat_pairs no_pairs = []
   flat_pairs (pair k v ps) = flat k ++ (flat v ++ flat_pairs ps)
 
+-- ---- the list as its first number and the others, which a comparison goes by
+
+abbrev pub kind : Val → ℕ
+kind (integer (pos n)) = 0
+kind (integer (negsuc n)) = 1
+kind (bytes b) = 2
+kind (text b) = 3
+kind (array vs) = 4
+kind (map ps) = 5
+kind (tag n v) = 6
+kind _ = 7
+
+abbrev pub magnitude : ℤ → ℕ
+magnitude (pos n) = n
+magnitude (negsuc n) = n
+
+abbrev pub bool_code : Bool → ℕ
+bool_code false = 20
+bool_code true = 21
+
+abbrev pub float_code : FloatWidth → ℕ
+float_code half = 25
+float_code single = 26
+float_code double = 27
+
+abbrev pub body : Val → List ℕ
+body null = 22 ∷ []
+body (bool b) = bool_code b ∷ []
+body (integer z) = magnitude z ∷ []
+body (float w bits) = float_code w ∷ bits ∷ []
+body (bytes b) = length b ∷ b
+body (text b) = length b ∷ b
+body (array vs) = count vs ∷ flat_all vs
+body (map ps) = pair_count ps ∷ flat_pairs ps
+body (tag n v) = n ∷ flat v
+
 -- ---- examples
 
 -- 0 stands before -1

@@ -1,5 +1,5 @@
 //! The laws, each of which is the contract of a function that does nothing.
-ghost use Rattle.cbor_model.specs.Laws.{ReaderFinds, ReaderAccepts, OneSpelling, ValueIsStorable, OneAnswer};
+ghost use Rattle.cbor_model.specs.Laws.{ReaderFinds, ReaderAccepts, OneSpelling, ValueIsStorable, OneAnswer, OrderIsTotal, OneFlat, CanonicalReadsBack, ValueIsCanonical};
 
 /// What the reference reader reads is the value of an acceptable item, and the bytes are its spelling.
 pub fn reader_finds()
@@ -24,4 +24,25 @@ pub fn value_is_storable()
 /// A line has no two answers, so what the program is to print for it is settled.
 pub fn one_answer()
     ensures { OneAnswer }
+{}
+
+/// The order of values is total, as a `BTreeMap` asks it of its keys.
+pub fn order_is_total()
+    ensures { OrderIsTotal }
+{}
+
+/// Values whose lists of numbers are equal are equal, so no two values compare alike.
+pub fn one_flat()
+    ensures { OneFlat }
+{}
+
+/// The canonical item of an ordered value has that value, so an ordered value is the value of an item.
+pub fn canonical_reads_back()
+    ensures { CanonicalReadsBack }
+{}
+
+/// The value of an acceptable item in fewer than 2^64 bytes is storable and ordered, and its canonical
+/// item is acceptable within the same levels.
+pub fn value_is_canonical()
+    ensures { ValueIsCanonical }
 {}

@@ -6,4 +6,7 @@
 
 mod laws;
 
-pub use laws::{one_answer, one_spelling, reader_accepts, reader_finds, value_is_storable};
+pub use laws::{
+    canonical_reads_back, one_answer, one_flat, one_spelling, order_is_total, reader_accepts,
+    reader_finds, value_is_canonical, value_is_storable,
+};
