@@ -8,6 +8,7 @@ pub mod Texts
 pub mod Whole
 pub mod Storable
 pub mod Same
+pub mod Compared
 pub mod Pairs
 pub mod ReadsBack
 pub mod Canonical

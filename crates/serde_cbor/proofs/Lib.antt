@@ -1,4 +1,5 @@
 pub mod Chunks
+pub mod Comparing
 pub mod Reading
 pub mod ReadingPairs
 pub mod Views

@@ -1,6 +1,9 @@
 -- What a `Value` stands for: a plain tree.
-use Rattle.std.specs.Prelude.{List, [], ◌∷◌, map, string_bytes, box_value}
+use Rattle.std.specs.Prelude.{ℕ, List, [], ◌∷◌, map, string_bytes, box_value}
+use Rattle.std.specs.Ordering.{ordering_then}
+use Rattle.std.specs.declared.cmp.Ordering.{Ordering}
 use Rattle.cbor_model.specs.Raw.{half, single, double}
+use Rattle.cbor_model.specs.Order.{lex, flat}
 use Rattle.cbor_model.specs.Plain as plain
 use Rattle.cbor_model.specs.Plain.{Val, Vals, no_vals, val, Pairs, no_pairs, pair}
 use Rattle.serde_cbor.specs.declared.value.Float.{Float}
@@ -49,3 +52,11 @@ views vs = vals_of (map view vs)
 
 abbrev pub pair_views : List (Value × Value) → Pairs
 pair_views ps = pairs_of (map (λ p. (view p.0, view p.1)) ps)
+
+-- the list of numbers by which values are compared
+unfoldable pub flat_of : Value → List ℕ
+flat_of v = flat (view v)
+
+-- the order of two pairs, by their keys and then by their values
+abbrev pub pair_order : Value × Value → Value × Value → Ordering
+pair_order p q = ordering_then (lex (flat (view p.0)) (flat (view q.0))) (lex (flat (view p.1)) (flat (view q.1)))

@@ -7,6 +7,8 @@ ghost use Rattle.std.specs.Slice.Iter.{iter_rest};
 ghost use Rattle.cbor_model.specs.Plain.{no_pairs, pair_count};
 ghost use Rattle.serde_cbor.specs.View.{map_view, pair_views};
 
+mod order;
+
 use crate::error::{Error, ErrorCode, Result};
 use std::alloc::Global;
 use std::slice::Iter;

@@ -15,6 +15,7 @@ use std::alloc::Global;
 
 // The major types of the chunks of a string.
 const BYTES: u8 = 2;
+
 const TEXT: u8 = 3;
 
 /// Reads an item, where so many levels are left.

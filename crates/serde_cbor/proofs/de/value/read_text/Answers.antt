@@ -15,5 +15,5 @@ returns-in_ok-from_str-in-Ok-clause-read c =
     let after = c.take.new.self.rest in
     let room = subst (λ (at : ℕ). ltb (at + c.args.n) (2 ^ 64) ≡ true) (omega arith) (sym c.has_room.ensures ∙ c.if-not-has_room.false) in
     text_read (total c.args.source.now) c.args.n (width_of c.args.low) c.args.source.now.rest c.in_ok-bytes.bytes.now after room c.in_ok-bytes.ensures.read is_text.1
-        ∙ ap (λ (s : List ℕ). reads after (text s)) (sym (c.in_ok-from_str-in-Ok.ensures.ok ∙ is_text.0))
-        ∙ ap (reads after) (sym (view_text c.in_ok-from_str-in-Ok.field-0))
+    ∙ ap (λ (s : List ℕ). reads after (text s)) (sym (c.in_ok-from_str-in-Ok.ensures.ok ∙ is_text.0))
+    ∙ ap (reads after) (sym (view_text c.in_ok-from_str-in-Ok.field-0))

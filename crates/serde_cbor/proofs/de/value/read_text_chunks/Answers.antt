@@ -30,8 +30,8 @@ returns-in-Ok-clause-read c =
     let after = c.read_chunks.new.source.rest in
     let same : string_bytes c.in-Ok.text ≡ b = search rules in
     text_joined (total c.args.source.now) c.args.source.now.rest b after c.in_ok-joined.ensures.read (subst IsUtf8 same (IsUtf8-string_bytes c.in-Ok.text))
-        ∙ ap (λ (s : List ℕ). reads after (text s)) (sym same)
-        ∙ ap (reads after) (sym (view_text c.in-Ok.text))
+    ∙ ap (λ (s : List ℕ). reads after (text s)) (sym same)
+    ∙ ap (reads after) (sym (view_text c.in-Ok.text))
 
 pub returns-in-Err-clause-read : goal.returns-in-Err-clause-read
 returns-in-Err-clause-read c =
