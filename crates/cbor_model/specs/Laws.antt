@@ -8,6 +8,7 @@ use Rattle.cbor_model.specs.Value.{value}
 use Rattle.cbor_model.specs.Canonical.{IsStorable}
 use Rattle.cbor_model.specs.Supported.{IsSupported}
 use Rattle.cbor_model.specs.Reader.{read_value}
+use Rattle.cbor_model.specs.Program.{IsAnswer}
 
 -- the bytes spell one acceptable item that is read, and v is its value
 pub record SpellsValue (bytes : List ℕ) (v : Val) : Type 0 where
@@ -28,3 +29,7 @@ ReaderAccepts = (bytes : List ℕ) (v : Val) → length bytes < 2 ^ 64 → Spell
 -- The value of a well-formed item is storable.
 abbrev pub ValueIsStorable : Type 0
 ValueIsStorable = (r : Raw) → IsWellFormed r → IsStorable (value r)
+
+-- A line has no two answers.
+abbrev pub OneAnswer : Type 0
+OneAnswer = (line a b : List ℕ) → IsAnswer line a → IsAnswer line b → a ≡ b

@@ -1,6 +1,6 @@
 -- Raw items (RFC 7049, sections 2.1 to 2.3): items as they are spelled, with the width of each
 -- number, and with open forms and chunks apart from definite ones.
-use Rattle.std.specs.Prelude.{ℕ, suc, ◌^◌, ◌<◌, max, List, [], ◌∷◌, length, slice_index, flat_map}
+use Rattle.std.specs.Prelude.{ℕ, suc, ◌^◌, ◌<◌, max, List, length, slice_index, flat_map}
 use Rattle.std.specs.List.{AllByRecursion}
 use Rattle.cbor_model.specs.Head.{HeadWidth, limit}
 

@@ -1,5 +1,5 @@
 -- The value of a raw item.
-use Rattle.std.specs.Prelude.{◌≡◌, ℕ, List, true, false, pos, negsuc, refl}
+use Rattle.std.specs.Prelude.{◌≡◌, true, false, pos, negsuc, refl}
 use Rattle.std.specs.declared.cmp.Ordering.{Ordering}
 use Rattle.std.specs.declared.cmp.Ordering.TheVariants.{Less, Equal, Greater}
 use Rattle.cbor_model.specs.Head.{no_bytes, one_byte}

@@ -3,3 +3,7 @@
 //! The definitions are in `specs/`, one file a subject: they print trees and compare lists, and say
 //! nothing of how a program goes through the bytes.
 #![tactic(auto)]
+
+mod laws;
+
+pub use laws::{one_answer, reader_accepts, reader_finds, value_is_storable};

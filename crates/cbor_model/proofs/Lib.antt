@@ -1,0 +1,10 @@
+pub mod Steps
+pub mod Made
+pub mod Found
+pub mod Again
+pub mod Texts
+pub mod Whole
+pub mod Storable
+pub mod Apart
+pub mod Program
+pub mod Proved

@@ -1,0 +1,73 @@
+-- Hexadecimal has one reading, and a line one answer.
+use Rattle.std.proofs.Common.{◌≡◌, ℕ, ◌-◌, ◌/◌, ◌%◌, ◌<◌, List, [], ◌∷◌, ◌++◌, length, Result, Err, refl, sym, ap, ◌∙◌, arith}
+use Rattle.std.specs.Prelude.{codes}
+use Rattle.std.proofs.lemmas.Bool.Decides.{nat_tests}
+use Rattle.cbor_model.specs.Raw.{Raw, AreBytes}
+use Rattle.cbor_model.specs.Spelling.{spell}
+use Rattle.cbor_model.specs.Acceptable.{IsAcceptable}
+use Rattle.cbor_model.specs.Value.{value}
+use Rattle.cbor_model.specs.Canonical.{canon}
+use Rattle.cbor_model.specs.Refusal.{words, at_offset}
+use Rattle.cbor_model.specs.Supported.{IsSupported}
+use Rattle.cbor_model.specs.Plain.{Val}
+use Rattle.cbor_model.specs.Reader.{Fault, read_value}
+use Rattle.cbor_model.specs.Program.{hex_digit, hex, IsHexOf, IsRefusalText, IsAnswer, canonical, refused, not_hexadecimal}
+use Rattle.cbor_model.proofs.Steps.{AreBytes-rest}
+use Rattle.cbor_model.proofs.Apart.{one_spelling}
+
+-- ---- hexadecimal
+
+hex_digit_unique : (n k : ℕ) → n < 16 → k < 16 → hex_digit n ≡ hex_digit k → n ≡ k
+hex_digit_unique n k small small' same = grind (arith, nat_tests)
+
+byte_unique : (x y : ℕ) → x < 256 → y < 256 → hex_digit (x / 16) ≡ hex_digit (y / 16) → hex_digit (x % 16) ≡ hex_digit (y % 16) → x ≡ y
+byte_unique x y small small' high low =
+    let high_same : x / 16 ≡ y / 16 = hex_digit_unique (x / 16) (y / 16) (omega arith) (omega arith) high in
+    let low_same : x % 16 ≡ y % 16 = hex_digit_unique (x % 16) (y % 16) (omega arith) (omega arith) low in
+    omega arith
+
+bytes_unique : (a b : List ℕ) → AreBytes a → AreBytes b → hex a ≡ hex b → a ≡ b
+bytes_unique [] [] fits fits' same = refl
+bytes_unique [] (y ∷ b) fits fits' same = absurd cc
+bytes_unique (x ∷ a) [] fits fits' same = absurd cc
+bytes_unique (x ∷ a) (y ∷ b) fits fits' same =
+    let high : hex_digit (x / 16) ≡ hex_digit (y / 16) = cc in
+    let low : hex_digit (x % 16) ≡ hex_digit (y % 16) = cc in
+    let others : hex a ≡ hex b = cc in
+    let first : x ≡ y = byte_unique x y (fits 0) (fits' 0) high low in
+    let more : a ≡ b = bytes_unique a b (AreBytes-rest x a fits) (AreBytes-rest y b fits') others in
+    cc
+
+pub hex_unique : (line a b : List ℕ) → IsHexOf line a → IsHexOf line b → a ≡ b
+hex_unique line a b one other = bytes_unique a b one.are_bytes other.are_bytes (sym one.digits ∙ other.digits)
+
+-- ---- answers
+
+-- items of one spelling are one
+same_item : (r s : Raw) → IsAcceptable r → IsAcceptable s → IsSupported r → IsSupported s → spell r ≡ spell s → r ≡ s
+same_item r s good good' reads reads' same = (one_spelling r s [] [] reads reads' good.fits good'.fits (ap (λ (t : List ℕ). t ++ []) same)).0
+
+abbrev refusal : Fault → Result Val Fault
+refusal d = Err d
+
+err_is : (d e : Fault) → refusal d ≡ refusal e → d ≡ e
+err_is d e same = cc
+
+-- the same bytes are refused with the same text
+refusal_unique : (bytes bytes' text text' : List ℕ) → bytes ≡ bytes' → IsRefusalText bytes text → IsRefusalText bytes' text' → text ≡ text'
+refusal_unique bytes bytes' text text' same one other =
+    let fault_same : one.fault ≡ other.fault = err_is one.fault other.fault (sym one.refused ∙ ap read_value same ∙ other.refused) in
+    one.is ∙ ap (λ (d : Fault). words d.why ++ at_offset (length bytes - d.left)) fault_same ∙ ap (λ (b : List ℕ). words other.fault.why ++ at_offset (length b - other.fault.left)) same ∙ sym other.is
+
+pub one_answer : (line a b : List ℕ) → IsAnswer line a → IsAnswer line b → a ≡ b
+one_answer line a b (canonical r good reads digits is) (canonical s good' reads' digits' is') =
+    is ∙ ap (λ (i : Raw). hex (canon (value i))) (same_item r s good good' reads reads' (hex_unique line (spell r) (spell s) digits digits')) ∙ sym is'
+one_answer line a b (canonical r good reads digits is) (refused bytes text digits' none why is') = absurd (none r good reads (hex_unique line (spell r) bytes digits digits'))
+one_answer line a b (canonical r good reads digits is) (not_hexadecimal none is') = absurd (none (spell r) digits)
+one_answer line a b (refused bytes text digits none why is) (canonical s good' reads' digits' is') = absurd (none s good' reads' (hex_unique line (spell s) bytes digits' digits))
+one_answer line a b (refused bytes text digits none why is) (refused bytes' text' digits' none' why' is') =
+    is ∙ ap (λ (t : List ℕ). codes "error: " ++ t) (refusal_unique bytes bytes' text text' (hex_unique line bytes bytes' digits digits') why why') ∙ sym is'
+one_answer line a b (refused bytes text digits none why is) (not_hexadecimal none' is') = absurd (none' bytes digits)
+one_answer line a b (not_hexadecimal none is) (canonical s good' reads' digits' is') = absurd (none (spell s) digits')
+one_answer line a b (not_hexadecimal none is) (refused bytes' text' digits' none' why' is') = absurd (none bytes' digits')
+one_answer line a b (not_hexadecimal none is) (not_hexadecimal none' is') = is ∙ sym is'
