@@ -1,5 +1,5 @@
 -- What the steps of a run do.
-use Rattle.std.specs.Prelude.{◌≡◌, ◌≢◌, ℕ, ◌+◌, List, [], ◌∷◌, ◌++◌, length, All, Option, Some, None}
+use Rattle.std.specs.Prelude.{◌≡◌, ◌≢◌, ℕ, ◌+◌, ◌<◌, List, [], ◌∷◌, ◌++◌, length, All, Option, Some, None}
 use Rattle.std.specs.Io.KnownBytes.{Consumes, Keeps, IsAtEnd}
 use Rattle.cbor_model.specs.Program.{IsHexOf, IsAnswer}
 use Rattle.serde_cbor.specs.declared.error.ErrorCode.{ErrorCode}
@@ -14,7 +14,7 @@ use Rattle.cbor_tool.specs.Run.{limit}
 
 -- the next byte, or the end
 abbrev pub IsNext : Option ℕ → (count count' : ℕ) (reader reader' : Option (List ℕ)) → Type 0
-IsNext (Some b) count count' reader reader' = (count' ≡ count + 1) × Consumes reader reader' (b ∷ [])
+IsNext (Some b) count count' reader reader' = (count < limit) × (count' ≡ count + 1) × Consumes reader reader' (b ∷ [])
 IsNext None count count' reader reader' = (count' ≡ count) × Consumes reader reader' [] × IsAtEnd reader'
 
 -- no byte of the line ends it
@@ -23,7 +23,7 @@ IsInLine line = All (λ b. b ≢ 0x0a) line
 
 -- the line, up to what ended it
 abbrev pub IsNextLine : End → List ℕ → (count count' : ℕ) (reader reader' : Option (List ℕ)) → Type 0
-IsNextLine Newline line count count' reader reader' = IsInLine line × (count' ≡ count + (length line + 1)) × Consumes reader reader' (line ++ 0x0a ∷ [])
+IsNextLine Newline line count count' reader reader' = IsInLine line × (count < limit) × (count' ≡ count + (length line + 1)) × Consumes reader reader' (line ++ 0x0a ∷ [])
 IsNextLine Input line count count' reader reader' = IsInLine line × Consumes reader reader' line × IsAtEnd reader'
 
 -- memory ran out once some bytes of the line were taken

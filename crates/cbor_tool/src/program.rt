@@ -1,6 +1,6 @@
 //! Lines of hexadecimal in, lines of answers out.
 
-ghost use Rattle.std.specs.Prelude.{◌≡◌, ◌+◌, ◌∷◌, IfOk, IfErr, OnOk, IfSome};
+ghost use Rattle.std.specs.Prelude.{◌≡◌, ◌+◌, ◌∷◌, IfOk, IfErr, OnOk, IfSome, []};
 ghost use Rattle.std.specs.Io.KnownBytes.{IsAtEnd};
 ghost use Rattle.cbor_model.specs.Program.{lines, hex, IsAnswer};
 ghost use Rattle.serde_cbor.specs.Error.{IsOutOfMemory};
@@ -106,8 +106,10 @@ fn answer(alloc: Global, line: &[u8], text: &mut Vec<u8>) -> Result<()>
 {
     match hex::decode(alloc, line) {
         Ok(bytes) => answer_bytes(alloc, &bytes, text),
-        Err(FromHexError::OutOfMemory) => Err(Error::from(AllocError)),
-        Err(_) => replace(text, b"error: not hexadecimal"),
+        Err(error) => match error {
+            FromHexError::OutOfMemory => Err(Error::from(AllocError)),
+            _ => replace(text, b"error: not hexadecimal"),
+        },
     }
 }
 
