@@ -1,5 +1,5 @@
 -- What makes a text the answer to a line, and answers that follow others.
-use Rattle.std.proofs.Common.{◌≡◌, ℕ, ◌+◌, ◌-◌, List, [], ◌∷◌, ◌++◌, length, Option, Result, Ok, Err, refl, sym, ap, ◌∙◌, subst, arith, append_assoc}
+use Rattle.std.proofs.Common.{◌≡◌, ℕ, ◌-◌, List, [], ◌∷◌, ◌++◌, length, Option, Result, Ok, Err, refl, ap, ◌∙◌, arith, append_assoc}
 use Rattle.std.specs.Prelude.{codes}
 use Rattle.std.specs.Io.KnownBytes.{Appends, Keeps}
 use Rattle.std.proofs.KnownBytes.{Appends-nil, Appends-trans, Appends-kept}
@@ -11,7 +11,7 @@ use Rattle.cbor_model.specs.Refusal.{Refusal, words, at_offset, end_in_value, en
 use Rattle.cbor_model.specs.Reader.{Fault, read_value}
 use Rattle.cbor_model.specs.Value.{value}
 use Rattle.cbor_model.specs.Laws.{SpellsValue}
-use Rattle.cbor_model.specs.Program.{hex, IsHexOf, IsAnswer, AreAnswers, canonical, refused, not_hexadecimal}
+use Rattle.cbor_model.specs.Program.{hex, IsAnswer, AreAnswers, canonical, refused, not_hexadecimal}
 use Rattle.cbor_model.proofs.Proved.{value_is_storable}
 use Rattle.serde_cbor.specs.declared.error.ErrorCode.{ErrorCode}
 use Rattle.serde_cbor.specs.declared.error.ErrorCode.TheVariants.{Message, EofWhileParsingValue, EofWhileParsingArray, EofWhileParsingMap, LengthOutOfRange, InvalidUtf8, UnassignedCode, UnexpectedCode, TrailingData, RecursionLimitExceeded, OutOfMemory}
@@ -62,9 +62,9 @@ pub IsAnswerTo-refused : (bytes text : List ℕ) (e : Error) → Fails (length b
 IsAnswerTo-refused bytes text e fails accepted ne is =
     let told = told_by (code_of e) (length bytes) (offset_of e) (read_value bytes) fails ne in
     λ line h. refused bytes (error_text e) h
-        (λ r good reads spelled. ne (accepted (value r) (record { item = r; acceptable = good; supported = reads; spelled = spelled; valued = refl })).0)
-        (record { fault = told.fault; refused = told.refused; is = told.text })
-        is
+    (λ r good reads spelled. ne (accepted (value r) (record { item = r; acceptable = good; supported = reads; spelled = spelled; valued = refl })).0)
+    (record { fault = told.fault; refused = told.refused; is = told.text })
+    is
 
 pub IsAnswer-decoded : (line bytes text : List ℕ) → decode_of line ≡ Ok bytes → IsAnswerTo bytes text → IsAnswer line text
 IsAnswer-decoded line bytes text e h = h line (IsHexOf-decoded line bytes e)

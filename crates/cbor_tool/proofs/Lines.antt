@@ -1,9 +1,9 @@
 -- Lines, taken one after the other, are the lines of all that was taken.
-use Rattle.std.proofs.Common.{◌≡◌, ◌≢◌, ℕ, ◌==◌, Bool, false, List, [], ◌∷◌, ◌++◌, All, refl, sym, ap, ◌∙◌, append_assoc, append-nil}
+use Rattle.std.proofs.Common.{◌≡◌, ◌≢◌, ℕ, ◌==◌, false, List, [], ◌∷◌, ◌++◌, refl, sym, ap, ◌∙◌, append_assoc, append-nil}
 use Rattle.std.proofs.lemmas.Bool.{ne_eqb}
 use Rattle.std.proofs.lemmas.List.Elements.{All-head, All-tail}
-use Rattle.cbor_model.specs.Program.{lines, begin_line}
-use Rattle.cbor_tool.specs.Run.{ended_lines, begin_ended}
+use Rattle.cbor_model.specs.Program.{lines}
+use Rattle.cbor_tool.specs.Run.{ended_lines}
 use Rattle.cbor_tool.specs.Steps.{IsInLine}
 
 not_end : (b : ℕ) (line : List ℕ) → IsInLine (b ∷ line) → (b == 0x0a) ≡ false
@@ -35,6 +35,9 @@ pub record IsWhole (bytes : List ℕ) : Type 0 where
 
 pub IsWhole-nil : IsWhole []
 IsWhole-nil = record { before = λ more. refl; ended_before = λ more. refl }
+
+pub ended_lines-whole : (bytes : List ℕ) → IsWhole bytes → ended_lines bytes ≡ lines bytes
+ended_lines-whole bytes whole = ap ended_lines (sym (append-nil bytes)) ∙ whole.ended_before [] ∙ append-nil (lines bytes)
 
 pub lines-whole_line : (bytes line : List ℕ) → IsWhole bytes → IsInLine line → lines (bytes ++ (line ++ 0x0a ∷ [])) ≡ lines bytes ++ line ∷ []
 lines-whole_line bytes line whole h = whole.before (line ++ 0x0a ∷ []) ∙ ap (λ l. lines bytes ++ l) (lines-line line [] h)

@@ -1,9 +1,9 @@
 -- Why a run stops, and what it has done by then.
-use Rattle.std.proofs.Common.{◌≡◌, ◌≢◌, ℕ, ◌+◌, ◌==◌, Bool, true, false, List, [], ◌∷◌, ◌++◌, length, All, Option, Result, refl, sym, ap, ◌∙◌, arith, append_assoc, append-nil, length-append}
+use Rattle.std.proofs.Common.{◌≡◌, ◌≢◌, ℕ, ◌+◌, ◌==◌, Bool, true, false, List, [], ◌∷◌, ◌++◌, length, Option, Result, inl, inr, refl, sym, ap, ◌∙◌, arith, append_assoc, append-nil, length-append}
 use Rattle.std.specs.Prelude.{IfErr, IfSome, None, Some}
 use Rattle.std.specs.Result.{IsErrAnd}
 use Rattle.std.specs.Io.KnownBytes.{Consumes, IsAtEnd}
-use Rattle.std.proofs.KnownBytes.{Consumes-nil, Consumes-trans}
+use Rattle.std.proofs.KnownBytes.{Consumes-nil, Consumes-kept, Consumes-trans}
 use Rattle.std.proofs.lemmas.List.Elements.{All-append, All-cons, All-nil}
 use Rattle.std.proofs.lemmas.Result.{err_from_is_err_and}
 use Rattle.std.proofs.lemmas.Bool.{eqb-true}
@@ -14,9 +14,9 @@ use Rattle.serde_cbor.specs.declared.error.ErrorCode.TheVariants.{Io, OutOfMemor
 use Rattle.serde_cbor.specs.declared.error.Error.{Error}
 use Rattle.serde_cbor.specs.Error.{code_of, offset_of, IsOutOfMemory}
 use Rattle.cbor_tool.specs.declared.program.End.TheVariants.{Newline, Input}
-use Rattle.cbor_tool.specs.Run.{AppendsAnswers, IsStoppedBy, IsStopped, ended_lines}
+use Rattle.cbor_tool.specs.Run.{AppendsAnswers, StopsAtWriter, IsStoppedBy, IsStopped, ended_lines}
 use Rattle.cbor_tool.specs.Steps.{IsInLine, IsNextLine, StopsAtByteBy, StopsAtByte, StopsReadingBy, StopsReading, StopsAnsweringBy, StopsAnswering}
-use Rattle.cbor_tool.proofs.Lines.{IsWhole, IsWhole-nil, IsWhole-line, lines-last, ended_lines-last, lines-whole_line}
+use Rattle.cbor_tool.proofs.Lines.{IsWhole, IsWhole-nil, IsWhole-line, lines-last, ended_lines-last, ended_lines-whole, lines-whole_line}
 use Rattle.cbor_tool.proofs.Answers.{AppendsAnswers-nil, AppendsAnswers-append, AppendsAnswers-kept}
 
 -- what a `?` returns of an error with Q
@@ -45,7 +45,8 @@ IfSome-consumed (Some xs) (Some ys) bytes P consumed end h = rw (consumed ∙ ap
 
 reading_by : (code : ErrorCode) (offset : ℕ) (line : List ℕ) (start count : ℕ) (a b c : Option (List ℕ)) → IsInLine line → count ≡ start + length line
     → Consumes a b line → StopsAtByteBy code offset count b c → StopsReadingBy code offset start a c
-reading_by (Io fault) offset line start count a b c in_line counted consumed h = h
+reading_by (Io fault) offset line start count a b c in_line counted consumed (is, kept) =
+    (is, record { line = line; in_line = in_line; consumed = Consumes-kept a b c line consumed kept })
 reading_by LengthOutOfRange offset line start count a b c in_line counted consumed (is, full, (past, more)) = (
   is,
   record { line = line; past = past; in_line = in_line; sum = sym counted ∙ full; consumed = Consumes-trans a b c line (past ∷ []) consumed more },
@@ -63,12 +64,15 @@ not_nil (x ∷ line) b = λ h. cc
 pub StopsReading-out_of_memory : (e : Error) (line : List ℕ) (byte start : ℕ) (a b c : Option (List ℕ)) → IsInLine line → byte ≢ 0x0a
     → Consumes a b line → Consumes b c (byte ∷ []) → IsOutOfMemory e → StopsReading e start a c
 StopsReading-out_of_memory e line byte start a b c in_line ne consumed more (code, offset) =
-    rw code (offset, record {
-      line = line ++ byte ∷ [];
-      in_line = IsInLine-more line byte in_line ne;
-      begun = not_nil line byte;
-      consumed = Consumes-trans a b c line (byte ∷ []) consumed more;
-    })
+    rw code (
+      offset,
+      record {
+        line = line ++ byte ∷ [];
+        in_line = IsInLine-more line byte in_line ne;
+        begun = not_nil line byte;
+        consumed = Consumes-trans a b c line (byte ∷ []) consumed more;
+      },
+    )
 
 -- ---- the run
 
@@ -108,19 +112,26 @@ pub AppendsAnswers-all : (line : List ℕ) (count count' : ℕ) (a b c w w' w'' 
     → IsNextLine Input line count count' b c → line ≢ [] → AppendsAnswers (line ∷ []) w' w'' → IfSome a (λ input. AppendsAnswers (lines input) w w'')
 AppendsAnswers-all line count count' a b c w w' w'' before (in_line, taken, end) ne answered =
     IfSome-consumed a c (before.bytes ++ line) (λ input. AppendsAnswers (lines input) w w'')
-        (Consumes-trans a b c before.bytes line before.consumed taken) end
-        (rw (begun_line before.bytes line before.whole in_line ne) (AppendsAnswers-append (lines before.bytes) (line ∷ []) w w' w'' before.written answered))
+    (Consumes-trans a b c before.bytes line before.consumed taken) end
+    (rw (begun_line before.bytes line before.whole in_line ne) (AppendsAnswers-append (lines before.bytes) (line ∷ []) w w' w'' before.written answered))
 
 -- all is answered, where no last line was begun
 pub AppendsAnswers-whole : (line : List ℕ) (count count' : ℕ) (a b c w w' : Option (List ℕ)) → HasAnswered count a b w w'
     → IsNextLine Input line count count' b c → line ≡ [] → IfSome a (λ input. AppendsAnswers (lines input) w w')
 AppendsAnswers-whole line count count' a b c w w' before (in_line, taken, end) none =
     IfSome-consumed a c before.bytes (λ input. AppendsAnswers (lines input) w w')
-        (rw append-nil at (Consumes-trans a b c before.bytes [] before.consumed (rw none at taken))) end before.written
+    (rw append-nil at (Consumes-trans a b c before.bytes [] before.consumed (rw none at taken))) end before.written
 
 stopped_reading_by : (code : ErrorCode) (offset count : ℕ) (a b c w w' : Option (List ℕ)) → HasAnswered count a b w w'
     → StopsReadingBy code offset count b c → IsStoppedBy code offset a c w w'
-stopped_reading_by (Io fault) offset count a b c w w' before h = h
+stopped_reading_by (Io fault) offset count a b c w w' before (is, s) = (
+  is,
+  inl (record {
+    taken = before.bytes ++ s.line;
+    consumed = Consumes-trans a b c before.bytes s.line before.consumed s.consumed;
+    written = rw (ended_before before.bytes s.line before.whole s.in_line) before.written;
+  }),
+)
 stopped_reading_by OutOfMemory offset count a b c w w' before (is, s) = (
   is,
   record {
@@ -148,23 +159,36 @@ pub IsStopped-reading : (e : Error) (count : ℕ) (a b c w w' : Option (List ℕ
     → StopsReading e count b c → IsStopped e a c w w'
 IsStopped-reading e = stopped_reading_by (code_of e) (offset_of e)
 
-stopped_answering_by : (code : ErrorCode) (offset : ℕ) (taken last : List ℕ) (answered : List (List ℕ)) (a b w w' w'' : Option (List ℕ))
-    → lines taken ≡ answered ++ last ∷ [] → Consumes a b taken → AppendsAnswers answered w w' → StopsAnsweringBy code offset w' w'' → IsStoppedBy code offset a b w w''
-stopped_answering_by (Io fault) offset taken last answered a b w w' w'' begun consumed written h = h
-stopped_answering_by OutOfMemory offset taken last answered a b w w' w'' begun consumed written (is, kept) =
-    (is, record { taken = taken; answered = answered; last = last; begun = begun; consumed = consumed; written = AppendsAnswers-kept answered w w' w'' written kept })
-stopped_answering_by _ offset taken last answered a b w w' w'' begun consumed written h = absurd h
+stopped_answering_by : (code : ErrorCode) (offset : ℕ) (a b w w' w'' : Option (List ℕ)) (s : StopsAtWriter a b) → AppendsAnswers s.before w w'
+    → StopsAnsweringBy code offset w' w'' → IsStoppedBy code offset a b w w''
+stopped_answering_by (Io fault) offset a b w w' w'' s written is = (is, inr s)
+stopped_answering_by OutOfMemory offset a b w w' w'' s written (is, kept) =
+    (is, record { taken = s.taken; answered = s.before; last = s.last; begun = s.begun; consumed = s.consumed; written = AppendsAnswers-kept s.before w w' w'' written kept })
+stopped_answering_by _ offset a b w w' w'' s written h = absurd h
 
 pub IsStopped-at_line : (e : Error) (line : List ℕ) (count count' : ℕ) (a b c w w' w'' : Option (List ℕ)) → HasAnswered count a b w w'
     → IsNextLine Newline line count count' b c → StopsAnswering e w' w'' → IsStopped e a c w w''
 IsStopped-at_line e line count count' a b c w w' w'' before (in_line, few, counted, taken) h =
-    stopped_answering_by (code_of e) (offset_of e) (before.bytes ++ (line ++ 0x0a ∷ [])) line (lines before.bytes) a c w w' w''
-        (lines-whole_line before.bytes line before.whole in_line)
-        (Consumes-trans a b c before.bytes (line ++ 0x0a ∷ []) before.consumed taken) before.written h
+    let whole = IsWhole-line before.bytes line before.whole in_line in
+    let s : StopsAtWriter a c = record {
+      taken = before.bytes ++ (line ++ 0x0a ∷ []);
+      before = lines before.bytes;
+      last = line;
+      begun = lines-whole_line before.bytes line before.whole in_line;
+      ended = inl (ended_lines-whole (before.bytes ++ (line ++ 0x0a ∷ [])) whole);
+      consumed = Consumes-trans a b c before.bytes (line ++ 0x0a ∷ []) before.consumed taken;
+    } in
+    stopped_answering_by (code_of e) (offset_of e) a c w w' w'' s before.written h
 
 pub IsStopped-at_last : (e : Error) (line : List ℕ) (count count' : ℕ) (a b c w w' w'' : Option (List ℕ)) → HasAnswered count a b w w'
     → IsNextLine Input line count count' b c → line ≢ [] → StopsAnswering e w' w'' → IsStopped e a c w w''
 IsStopped-at_last e line count count' a b c w w' w'' before (in_line, taken, end) ne h =
-    stopped_answering_by (code_of e) (offset_of e) (before.bytes ++ line) line (lines before.bytes) a c w w' w''
-        (begun_line before.bytes line before.whole in_line ne)
-        (Consumes-trans a b c before.bytes line before.consumed taken) before.written h
+    let s : StopsAtWriter a c = record {
+      taken = before.bytes ++ line;
+      before = lines before.bytes;
+      last = line;
+      begun = begun_line before.bytes line before.whole in_line ne;
+      ended = inr end;
+      consumed = Consumes-trans a b c before.bytes line before.consumed taken;
+    } in
+    stopped_answering_by (code_of e) (offset_of e) a c w w' w'' s before.written h

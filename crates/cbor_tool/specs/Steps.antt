@@ -8,13 +8,13 @@ use Rattle.serde_cbor.specs.declared.error.Error.{Error}
 use Rattle.serde_cbor.specs.Error.{code_of, offset_of}
 use Rattle.cbor_tool.specs.declared.program.End.{End}
 use Rattle.cbor_tool.specs.declared.program.End.TheVariants.{Newline, Input}
-use Rattle.cbor_tool.specs.Run.{limit}
+use Rattle.cbor_tool.specs.Run.{max_offset}
 
 -- ---- reading, where `count` bytes come before and `count'` in all
 
 -- the next byte, or the end
 abbrev pub IsNext : Option ℕ → (count count' : ℕ) (reader reader' : Option (List ℕ)) → Type 0
-IsNext (Some b) count count' reader reader' = (count < limit) × (count' ≡ count + 1) × Consumes reader reader' (b ∷ [])
+IsNext (Some b) count count' reader reader' = (count < max_offset) × (count' ≡ count + 1) × Consumes reader reader' (b ∷ [])
 IsNext None count count' reader reader' = (count' ≡ count) × Consumes reader reader' [] × IsAtEnd reader'
 
 -- no byte of the line ends it
@@ -23,8 +23,14 @@ IsInLine line = All (λ b. b ≢ 0x0a) line
 
 -- the line, up to what ended it
 abbrev pub IsNextLine : End → List ℕ → (count count' : ℕ) (reader reader' : Option (List ℕ)) → Type 0
-IsNextLine Newline line count count' reader reader' = IsInLine line × (count < limit) × (count' ≡ count + (length line + 1)) × Consumes reader reader' (line ++ 0x0a ∷ [])
+IsNextLine Newline line count count' reader reader' = IsInLine line × (count < max_offset) × (count' ≡ count + (length line + 1)) × Consumes reader reader' (line ++ 0x0a ∷ [])
 IsNextLine Input line count count' reader reader' = IsInLine line × Consumes reader reader' line × IsAtEnd reader'
+
+-- the reader failed after some of the line
+pub record LosesReader (reader reader' : Option (List ℕ)) : Type 0 where
+  pub line : List ℕ
+  pub in_line : IsInLine line
+  pub consumed : Consumes reader reader' line
 
 -- memory ran out once some bytes of the line were taken
 pub record BreaksLine (reader reader' : Option (List ℕ)) : Type 0 where
@@ -34,25 +40,25 @@ pub record BreaksLine (reader reader' : Option (List ℕ)) : Type 0 where
   pub consumed : Consumes reader reader' line
 
 -- one byte too many was taken after some of the line
-pub record PassesLimit (count : ℕ) (reader reader' : Option (List ℕ)) : Type 0 where
+pub record PassesMax (count : ℕ) (reader reader' : Option (List ℕ)) : Type 0 where
   pub line : List ℕ
   pub past : ℕ
   pub in_line : IsInLine line
-  pub sum : count + length line ≡ limit
+  pub sum : count + length line ≡ max_offset
   pub consumed : Consumes reader reader' (line ++ past ∷ [])
 
 abbrev pub StopsReadingBy : ErrorCode → ℕ → (count : ℕ) (reader reader' : Option (List ℕ)) → Type 0
-StopsReadingBy (Io fault) offset count reader reader' = offset ≡ 0
+StopsReadingBy (Io fault) offset count reader reader' = (offset ≡ 0) × LosesReader reader reader'
 StopsReadingBy OutOfMemory offset count reader reader' = (offset ≡ 0) × BreaksLine reader reader'
-StopsReadingBy LengthOutOfRange offset count reader reader' = (offset ≡ limit) × PassesLimit count reader reader'
+StopsReadingBy LengthOutOfRange offset count reader reader' = (offset ≡ max_offset) × PassesMax count reader reader'
 StopsReadingBy _ offset count reader reader' = ⊥
 
 abbrev pub StopsReading : Error → (count : ℕ) (reader reader' : Option (List ℕ)) → Type 0
 StopsReading e = StopsReadingBy (code_of e) (offset_of e)
 
 abbrev pub StopsAtByteBy : ErrorCode → ℕ → (count : ℕ) (reader reader' : Option (List ℕ)) → Type 0
-StopsAtByteBy (Io fault) offset count reader reader' = offset ≡ 0
-StopsAtByteBy LengthOutOfRange offset count reader reader' = (offset ≡ limit) × (count ≡ limit) × ((past : ℕ) × Consumes reader reader' (past ∷ []))
+StopsAtByteBy (Io fault) offset count reader reader' = (offset ≡ 0) × Keeps reader reader'
+StopsAtByteBy LengthOutOfRange offset count reader reader' = (offset ≡ max_offset) × (count ≡ max_offset) × ((past : ℕ) × Consumes reader reader' (past ∷ []))
 StopsAtByteBy _ offset count reader reader' = ⊥
 
 abbrev pub StopsAtByte : Error → (count : ℕ) (reader reader' : Option (List ℕ)) → Type 0

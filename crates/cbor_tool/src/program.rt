@@ -22,17 +22,15 @@ enum End {
 
 /// Answers each line that the reader gives by one line to the writer.
 ///
-/// Each answer is written and flushed before the next byte is taken.
-pub fn run<R: io::Read, W: io::Write>(
-    alloc: Global,
-    reader: &mut R,
-    writer: &mut W,
-) -> Result<()>
+/// Bytes are taken one at a time. Each answer is written by one call and flushed before the byte
+/// that follows its line is taken. The run stops at the first fault of the reader or the writer,
+/// where memory runs out, and where the reader gives more than 2^64 - 1 bytes.
+pub fn run<R: io::Read, W: io::Write>(alloc: Global, reader: &mut R, writer: &mut W) -> Result<()>
     // The output is one answer for each of the input's lines, and the input was read to its end.
     ensures answers { OnOk result (IfSome (R.remaining reader.old) (λ input.
         AppendsAnswers (lines input) (W.contents writer.old) (W.contents writer.new))) }
     ensures end { OnOk result (IsAtEnd (R.remaining reader.new)) }
-    // What was written where memory ran out, or where the input was too long.
+    // Why it stopped, with what taken and what answered.
     ensures stopped { IfErr result (λ e. IsStopped e (R.remaining reader.old) (R.remaining reader.new)
         (W.contents writer.old) (W.contents writer.new)) }
 {
@@ -48,7 +46,8 @@ pub fn run<R: io::Read, W: io::Write>(
     Ok(())
 }
 
-// Takes the bytes of the next line, and the 0a that ends it. `taken` counts all that were taken.
+// Makes `line` the bytes up to the next 0a, which is taken too, or to the end of the input. `taken`
+// counts all the bytes that were taken.
 fn read_line<R: io::Read>(reader: &mut R, taken: &mut u64, line: &mut Vec<u8>) -> Result<End>
     ensures ok { IfOk result (λ end. IsNextLine end line.new.items taken.old taken.new
         (R.remaining reader.old) (R.remaining reader.new)) }
@@ -65,6 +64,7 @@ fn read_line<R: io::Read>(reader: &mut R, taken: &mut u64, line: &mut Vec<u8>) -
     Ok(End::Input)
 }
 
+// Takes the next byte, if there is one.
 fn read_byte<R: io::Read>(reader: &mut R, taken: &mut u64) -> Result<Option<u8>>
     ensures ok { IfOk result (λ next. IsNext next taken.old taken.new
         (R.remaining reader.old) (R.remaining reader.new)) }
@@ -82,7 +82,7 @@ fn read_byte<R: io::Read>(reader: &mut R, taken: &mut u64) -> Result<Option<u8>>
     Ok(Some(buf[0]))
 }
 
-// Writes the answer to the line, made in `text`, by one call.
+// Writes the answer to the line, which is made in `text`, and a 0a.
 fn write_answer<W: io::Write>(
     alloc: Global,
     line: &[u8],

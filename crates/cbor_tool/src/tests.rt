@@ -1,6 +1,6 @@
 use crate::program::run;
-use serde_cbor::error::Error;
 use serde_cbor::Result;
+use serde_cbor::error::Error;
 use std::alloc::Global;
 use std::io;
 use std::io::{ErrorKind, Read, Write};
@@ -68,9 +68,15 @@ fn answers_each_line(rt: HostRuntime) -> Result<()> {
         (b"\n", b"error: EOF while parsing a value\n"),
         (b"19002A", b"182a\n"),
         (b"19002a\n1817\n", b"182a\n17\n"),
-        (b"17 \n17\r\n8", b"error: not hexadecimal\nerror: not hexadecimal\nerror: not hexadecimal\n"),
+        (
+            b"17 \n17\r\n8",
+            b"error: not hexadecimal\nerror: not hexadecimal\nerror: not hexadecimal\n",
+        ),
         (b"8", b"error: not hexadecimal\n"),
-        (b"\n\nf6", b"error: EOF while parsing a value\nerror: EOF while parsing a value\nf6\n"),
+        (
+            b"\n\nf6",
+            b"error: EOF while parsing a value\nerror: EOF while parsing a value\nf6\n",
+        ),
         (b"62c328\n", b"error: invalid UTF-8 at offset 1\n"),
     ];
     for (input, output) in cases {
