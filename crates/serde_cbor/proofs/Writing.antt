@@ -1,5 +1,6 @@
 -- Writing values one after the other.
 use Rattle.std.proofs.Common.{◌≡◌, ℕ, zero, suc, ◌+◌, ◌<◌, ◌≤◌, List, [], ◌∷◌, ◌++◌, length, drop, get_or, refl, sym, ap, ◌∙◌, subst, append_assoc, arith, add-one, drop-cons}
+use Rattle.std.proofs.lemmas.List.{drop_all}
 use Rattle.cbor_model.specs.Head.{short}
 use Rattle.cbor_model.specs.Raw as raw
 use Rattle.cbor_model.specs.Spelling.{spell, spell_all, spell_pairs}
@@ -10,6 +11,7 @@ use Rattle.serde_cbor.specs.declared.error.ErrorCode.TheVariants.{Message, OutOf
 use Rattle.serde_cbor.specs.declared.error.Error.{Error}
 use Rattle.serde_cbor.specs.declared.value.Value.{Value}
 use Rattle.serde_cbor.specs.View.{view, views, pair_views}
+use Rattle.serde_cbor.proofs.Views.{count_views}
 use Rattle.serde_cbor.specs.Written.{IsRefusedBy, IsNotWritten}
 
 -- ---- a measure: what lies inside a value is smaller
@@ -34,10 +36,15 @@ size_at [] i v lt is = absurd (omega arith)
 size_at (w ∷ ws) zero v lt is = let e : size (view v) ≡ size (view w) = ap (λ (x : Value). size (view x)) is in omega arith
 size_at (w ∷ ws) (suc i) v lt is = let h = size_at ws i v (omega arith) is in omega (arith, h)
 
-pub pair_size_at : (ps : List (Value × Value)) (i : ℕ) (p : Value × Value) → i < length ps → p ≡ get_or ps i p → size (view p.0) + size (view p.1) ≤ pair_sizes (pair_views ps)
-pair_size_at [] i p lt is = absurd (omega arith)
-pair_size_at (q ∷ qs) zero p lt is = let e : size (view p.0) + size (view p.1) ≡ size (view q.0) + size (view q.1) = ap (λ (x : Value × Value). size (view x.0) + size (view x.1)) is in omega arith
-pair_size_at (q ∷ qs) (suc i) p lt is = let h = pair_size_at qs i p (omega arith) is in omega (arith, h)
+pub key_size_at : (ps : List (Value × Value)) (i : ℕ) (p : Value × Value) → i < length ps → p ≡ get_or ps i p → size (view p.0) ≤ pair_sizes (pair_views ps)
+key_size_at [] i p lt is = absurd (omega arith)
+key_size_at (q ∷ qs) zero p lt is = let e : size (view p.0) ≡ size (view q.0) = ap (λ (x : Value × Value). size (view x.0)) is in omega arith
+key_size_at (q ∷ qs) (suc i) p lt is = let h = key_size_at qs i p (omega arith) is in omega (arith, h)
+
+pub value_size_at : (ps : List (Value × Value)) (i : ℕ) (p : Value × Value) → i < length ps → p ≡ get_or ps i p → size (view p.1) ≤ pair_sizes (pair_views ps)
+value_size_at [] i p lt is = absurd (omega arith)
+value_size_at (q ∷ qs) zero p lt is = let e : size (view p.1) ≡ size (view q.1) = ap (λ (x : Value × Value). size (view x.1)) is in omega arith
+value_size_at (q ∷ qs) (suc i) p lt is = let h = value_size_at qs i p (omega arith) is in omega (arith, h)
 
 -- ---- heads with what follows
 
@@ -63,10 +70,6 @@ map_written old mid new n ps counted first second =
     second ∙ ap (λ (m : List ℕ). m ++ spell_pairs (canonical_pairs ps)) (first ∙ ap (λ (k : ℕ). old ++ short 5 k) (counted ∙ sym (pair_count_canonical ps)))
     ∙ append_assoc old (short 5 (raw.pair_count (canonical_pairs ps))) (spell_pairs (canonical_pairs ps))
 
-pub tag_written : (old mid new : List ℕ) (n : ℕ) (v : Val) → mid ≡ old ++ short 6 n → new ≡ mid ++ canon v → new ≡ old ++ canon (tag n v)
-unfolding canon canonical spell
-tag_written old mid new n v first second = second ∙ ap (λ (m : List ℕ). m ++ canon v) first ∙ append_assoc old (short 6 n) (canon v)
-
 -- ---- one more item, or pair
 
 cons_at : {A : Type 0} → (xs : List A) (i : ℕ) (x : A) → i < length xs → x ≡ get_or xs i x → drop i xs ≡ x ∷ drop (i + 1) xs
@@ -88,10 +91,15 @@ item_written vs i v out new lt is written =
     ap (λ (l : List ℕ). l ++ rest) written ∙ append_assoc out (canon (view v)) rest
     ∙ ap (λ (xs : List Value). out ++ spell_all (canonical_all (views xs))) (sym (cons_at vs i v lt is))
 
-pub pair_storable_at : (ps : List (Value × Value)) (i : ℕ) (p : Value × Value) → i < length ps → p ≡ get_or ps i p → ArePairsStorable (pair_views ps) → IsStorable (view p.0) × IsStorable (view p.1)
-pair_storable_at [] i p lt is all = absurd (omega arith)
-pair_storable_at (q ∷ qs) zero p lt is all = subst (λ (x : Value × Value). IsStorable (view x.0) × IsStorable (view x.1)) (sym is) (all.0, all.1)
-pair_storable_at (q ∷ qs) (suc i) p lt is all = pair_storable_at qs i p (omega arith) is all.2
+pub key_storable_at : (ps : List (Value × Value)) (i : ℕ) (p : Value × Value) → i < length ps → p ≡ get_or ps i p → ArePairsStorable (pair_views ps) → IsStorable (view p.0)
+key_storable_at [] i p lt is all = absurd (omega arith)
+key_storable_at (q ∷ qs) zero p lt is all = subst (λ (x : Value × Value). IsStorable (view x.0)) (sym is) all.0
+key_storable_at (q ∷ qs) (suc i) p lt is all = key_storable_at qs i p (omega arith) is all.2
+
+pub value_storable_at : (ps : List (Value × Value)) (i : ℕ) (p : Value × Value) → i < length ps → p ≡ get_or ps i p → ArePairsStorable (pair_views ps) → IsStorable (view p.1)
+value_storable_at [] i p lt is all = absurd (omega arith)
+value_storable_at (q ∷ qs) zero p lt is all = subst (λ (x : Value × Value). IsStorable (view x.1)) (sym is) all.1
+value_storable_at (q ∷ qs) (suc i) p lt is all = value_storable_at qs i p (omega arith) is all.2
 
 pub pair_storable_from : (ps : List (Value × Value)) (i : ℕ) (p : Value × Value) → i < length ps → p ≡ get_or ps i p → IsStorable (view p.0) → IsStorable (view p.1)
     → ArePairsStorable (pair_views (drop (i + 1) ps)) → ArePairsStorable (pair_views (drop i ps))
@@ -117,3 +125,9 @@ refused_with _ v w inside refused = absurd refused
 -- Where a value isn't written, what it lies in isn't either.
 pub not_written_with : (v w : Val) (e : Error) → (IsStorable w → IsStorable v) → IsNotWritten v e → IsNotWritten w e
 not_written_with v w e inside refused = (refused_with e.code v w inside refused.0, refused.1)
+
+-- ---- what the writers cite
+
+pub ruleset heads = (array_written, map_written, count_views)
+
+pub ruleset items = (size_at, storable_from, item_written, drop_all)

@@ -29,6 +29,7 @@ const MAP: u8 = 5;
 
 const TAG: u8 = 6;
 
+// The first bytes of the items of major type 7.
 const FALSE: u8 = 0xf4;
 
 const TRUE: u8 = 0xf5;
@@ -54,6 +55,7 @@ pub fn to_vec(alloc: Global, value: &Value) -> Result<Vec<u8>>
     Ok(bytes)
 }
 
+/// Appends a value. What a refusal leaves in `out` isn't said.
 #[cycle(write)]
 #[tactic(auto, unfolding(cbor_model::specs::Canonical::canon, cbor_model::specs::Canonical::canonical, cbor_model::specs::Spelling::spell))]
 fn write_value(alloc: Global, out: &mut Vec<u8>, value: &Value) -> Result<()>
@@ -103,6 +105,7 @@ fn write_value(alloc: Global, out: &mut Vec<u8>, value: &Value) -> Result<()>
 }
 
 #[cycle(write)]
+#[tactic(auto, using(crate::proofs::Writing::heads))]
 fn write_array(alloc: Global, out: &mut Vec<u8>, items: &[Value]) -> Result<()>
     ensures storable { OnOk result (AreStorable (views items.now)) }
     ensures written { OnOk result (out.new.items ≡ out.old.items ++ canon (plain.array (views items.now))) }
@@ -113,8 +116,9 @@ fn write_array(alloc: Global, out: &mut Vec<u8>, items: &[Value]) -> Result<()>
     Ok(())
 }
 
-/// Writes values, one after the other.
+/// Appends values, one after the other.
 #[cycle(write)]
+#[tactic(auto, using(crate::proofs::Writing::items), unfolding(cbor_model::specs::Canonical::canonical, cbor_model::specs::Spelling::spell))]
 fn write_items(alloc: Global, out: &mut Vec<u8>, items: &[Value]) -> Result<()>
     ensures storable { OnOk result (AreStorable (views items.now)) }
     ensures written { OnOk result (out.new.items ≡ out.old.items ++ spell_all (canonical_all (views items.now))) }
@@ -127,6 +131,7 @@ fn write_items(alloc: Global, out: &mut Vec<u8>, items: &[Value]) -> Result<()>
 }
 
 #[cycle(write)]
+#[tactic(auto, using(crate::proofs::Writing::heads))]
 fn write_map(alloc: Global, out: &mut Vec<u8>, map: &Map) -> Result<()>
     ensures storable { OnOk result (ArePairsStorable (map_view map.now)) }
     ensures written { OnOk result (out.new.items ≡ out.old.items ++ canon (plain.map (map_view map.now))) }
@@ -137,16 +142,17 @@ fn write_map(alloc: Global, out: &mut Vec<u8>, map: &Map) -> Result<()>
     Ok(())
 }
 
-/// Writes keys and values, as they are listed.
+/// Appends keys and values, as they are listed.
 #[cycle(write)]
+#[tactic(auto, using(std::proofs::lemmas::List::drop_all), unfolding(cbor_model::specs::Canonical::canonical, cbor_model::specs::Spelling::spell))]
 fn write_pairs(alloc: Global, out: &mut Vec<u8>, pairs: &[(Value, Value)]) -> Result<()>
     ensures storable { OnOk result (ArePairsStorable (pair_views pairs.now)) }
     ensures written { OnOk result (out.new.items ≡ out.old.items ++ spell_pairs (canonical_pairs (pair_views pairs.now))) }
     ensures refused { IfErr result (IsNotWritten (plain.map (pair_views pairs.now))) }
 {
-    for pair in pairs {
-        write_value(alloc, out, &pair.0)?;
-        write_value(alloc, out, &pair.1)?;
+    for (key, value) in pairs {
+        write_value(alloc, out, key)?;
+        write_value(alloc, out, value)?;
     }
     Ok(())
 }
@@ -197,7 +203,7 @@ fn write_float(out: &mut Vec<u8>, float: &Float) -> Result<()>
     Ok(())
 }
 
-/// Writes the head of a string, and then what it holds.
+/// Appends the head of a string, and then what it holds.
 fn write_string(out: &mut Vec<u8>, major: u8, content: &[u8]) -> Result<()>
     requires { major < 8 }
     ensures written { OnOk result (out.new.items ≡ out.old.items ++ (short major (length content.now) ++ content.now)) }
@@ -208,7 +214,7 @@ fn write_string(out: &mut Vec<u8>, major: u8, content: &[u8]) -> Result<()>
     Ok(())
 }
 
-/// Writes the shortest head of the major type with this number.
+/// Appends the shortest head of the major type with this number.
 fn write_head(out: &mut Vec<u8>, major: u8, n: u64) -> Result<()>
     requires { major < 8 }
     ensures written { OnOk result (out.new.items ≡ out.old.items ++ short major n) }

@@ -11,10 +11,10 @@ invariant-write_items-loop-item l = record {
   written : l.out.items ++ spell_all (canonical_all (views (drop l.item-index l.items))) ≡ l.fn.out.items ++ spell_all (canonical_all (views l.items));
 }
 
-abbrev pub invariant-write_pairs-loop-pair : goal.invariant-write_pairs-loop-pair
-invariant-write_pairs-loop-pair l = record {
-  storable : ArePairsStorable (pair_views (drop l.pair-index l.pairs)) → ArePairsStorable (pair_views l.pairs);
-  written : l.out.items ++ spell_pairs (canonical_pairs (pair_views (drop l.pair-index l.pairs))) ≡ l.fn.out.items ++ spell_pairs (canonical_pairs (pair_views l.pairs));
+abbrev pub invariant-write_pairs-loop-key : goal.invariant-write_pairs-loop-key
+invariant-write_pairs-loop-key l = record {
+  storable : ArePairsStorable (pair_views (drop l.key-index l.pairs)) → ArePairsStorable (pair_views l.pairs);
+  written : l.out.items ++ spell_pairs (canonical_pairs (pair_views (drop l.key-index l.pairs))) ≡ l.fn.out.items ++ spell_pairs (canonical_pairs (pair_views l.pairs));
 }
 
 abbrev pub decreases-write_value : goal.decreases-write_value

@@ -1,0 +1,4 @@
+pub mod Hexadecimal
+pub mod Lines
+pub mod Answers
+pub mod Stops

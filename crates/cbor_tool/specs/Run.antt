@@ -1,0 +1,75 @@
+-- What a run has taken and written, where the reader and the writer tell their bytes.
+use Rattle.std.specs.Prelude.{◌≡◌, ℕ, ◌-◌, ◌^◌, List, [], ◌∷◌, ◌++◌, length, ◌==◌, if◌then◌else◌, ◌⊎◌, Option, refl}
+use Rattle.std.specs.Io.KnownBytes.{Appends, Consumes, IsAtEnd}
+use Rattle.cbor_model.specs.Program.{lines, AreAnswers}
+use Rattle.serde_cbor.specs.declared.error.ErrorCode.{ErrorCode}
+use Rattle.serde_cbor.specs.declared.error.ErrorCode.TheVariants.{Io, OutOfMemory, LengthOutOfRange}
+use Rattle.serde_cbor.specs.declared.error.Error.{Error}
+use Rattle.serde_cbor.specs.Error.{code_of, offset_of}
+
+-- One answer for each of the lines was written, and nothing else.
+abbrev pub AppendsAnswers : List (List ℕ) → Option (List ℕ) → Option (List ℕ) → Type 0
+AppendsAnswers lines old new = (output : List ℕ) × AreAnswers lines output × Appends old new output
+
+-- a line's first byte, before the ended lines that follow without it
+abbrev pub begin_ended : ℕ → List (List ℕ) → List (List ℕ)
+begin_ended b [] = []
+begin_ended b (line ∷ lines) = (b ∷ line) ∷ lines
+
+-- The lines whose 0a is among the bytes.
+abbrev pub ended_lines : List ℕ → List (List ℕ)
+ended_lines [] = []
+ended_lines (b ∷ bs) = if b == 0x0a then [] ∷ ended_lines bs else begin_ended b (ended_lines bs)
+
+-- ---- why a run stops before the input's end, and what it has done
+
+-- Memory ran out. All lines that were begun but the last have been answered. A line is begun once its
+-- first byte was taken.
+pub record StopsInLine (reader reader' writer writer' : Option (List ℕ)) : Type 0 where
+  pub taken : List ℕ
+  pub answered : List (List ℕ)
+  pub last : List ℕ
+  pub begun : lines taken ≡ answered ++ last ∷ []
+  pub consumed : Consumes reader reader' taken
+  pub written : AppendsAnswers answered writer writer'
+
+-- The reader failed. The lines that had ended have been answered.
+pub record StopsAtReader (reader reader' writer writer' : Option (List ℕ)) : Type 0 where
+  pub taken : List ℕ
+  pub consumed : Consumes reader reader' taken
+  pub written : AppendsAnswers (ended_lines taken) writer writer'
+
+-- The writer failed, on the answer to a line. No byte that follows this line was taken.
+pub record StopsAtWriter (reader reader' : Option (List ℕ)) : Type 0 where
+  pub taken : List ℕ
+  pub before : List (List ℕ)
+  pub last : List ℕ
+  pub begun : lines taken ≡ before ++ last ∷ []
+  pub ended : (ended_lines taken ≡ lines taken) ⊎ IsAtEnd reader'
+  pub consumed : Consumes reader reader' taken
+
+-- the greatest offset, and the greatest length of an input
+abbrev pub max_offset : ℕ
+max_offset = 2 ^ 64 - 1
+
+-- A byte too many was taken. The lines that ended before it have been answered.
+pub record StopsPastMax (reader reader' writer writer' : Option (List ℕ)) : Type 0 where
+  pub taken : List ℕ
+  pub past : ℕ
+  pub count : length taken ≡ max_offset
+  pub consumed : Consumes reader reader' (taken ++ past ∷ [])
+  pub written : AppendsAnswers (ended_lines taken) writer writer'
+
+abbrev pub IsStoppedBy : ErrorCode → ℕ → (reader reader' writer writer' : Option (List ℕ)) → Type 0
+IsStoppedBy (Io fault) offset reader reader' writer writer' = (offset ≡ 0) × (StopsAtReader reader reader' writer writer' ⊎ StopsAtWriter reader reader')
+IsStoppedBy OutOfMemory offset reader reader' writer writer' = (offset ≡ 0) × StopsInLine reader reader' writer writer'
+IsStoppedBy LengthOutOfRange offset reader reader' writer writer' = (offset ≡ max_offset) × StopsPastMax reader reader' writer writer'
+IsStoppedBy _ offset reader reader' writer writer' = ⊥
+
+abbrev pub IsStopped : Error → (reader reader' writer writer' : Option (List ℕ)) → Type 0
+IsStopped e = IsStoppedBy (code_of e) (offset_of e)
+
+-- ---- examples
+
+ended : ended_lines (0x31 ∷ 0x0a ∷ 0x0a ∷ 0x32 ∷ []) ≡ (0x31 ∷ []) ∷ [] ∷ []
+ended = refl

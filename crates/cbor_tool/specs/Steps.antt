@@ -1,0 +1,79 @@
+-- What the steps of a run do.
+use Rattle.std.specs.Prelude.{◌≡◌, ◌≢◌, ℕ, ◌+◌, ◌<◌, List, [], ◌∷◌, ◌++◌, length, All, Option, Some, None}
+use Rattle.std.specs.Io.KnownBytes.{Consumes, Keeps, IsAtEnd}
+use Rattle.cbor_model.specs.Program.{IsHexOf, IsAnswer}
+use Rattle.serde_cbor.specs.declared.error.ErrorCode.{ErrorCode}
+use Rattle.serde_cbor.specs.declared.error.ErrorCode.TheVariants.{Io, OutOfMemory, LengthOutOfRange}
+use Rattle.serde_cbor.specs.declared.error.Error.{Error}
+use Rattle.serde_cbor.specs.Error.{code_of, offset_of}
+use Rattle.cbor_tool.specs.declared.program.End.{End}
+use Rattle.cbor_tool.specs.declared.program.End.TheVariants.{Newline, Input}
+use Rattle.cbor_tool.specs.Run.{max_offset}
+
+-- ---- reading, where `count` bytes come before and `count'` in all
+
+-- the next byte, or the end
+abbrev pub IsNext : Option ℕ → (count count' : ℕ) (reader reader' : Option (List ℕ)) → Type 0
+IsNext (Some b) count count' reader reader' = (count < max_offset) × (count' ≡ count + 1) × Consumes reader reader' (b ∷ [])
+IsNext None count count' reader reader' = (count' ≡ count) × Consumes reader reader' [] × IsAtEnd reader'
+
+-- no byte of the line ends it
+abbrev pub IsInLine : List ℕ → Type 0
+IsInLine line = All (λ b. b ≢ 0x0a) line
+
+-- the line, up to what ended it
+abbrev pub IsNextLine : End → List ℕ → (count count' : ℕ) (reader reader' : Option (List ℕ)) → Type 0
+IsNextLine Newline line count count' reader reader' = IsInLine line × (count < max_offset) × (count' ≡ count + (length line + 1)) × Consumes reader reader' (line ++ 0x0a ∷ [])
+IsNextLine Input line count count' reader reader' = IsInLine line × Consumes reader reader' line × IsAtEnd reader'
+
+-- the reader failed after some of the line
+pub record LosesReader (reader reader' : Option (List ℕ)) : Type 0 where
+  pub line : List ℕ
+  pub in_line : IsInLine line
+  pub consumed : Consumes reader reader' line
+
+-- memory ran out once some bytes of the line were taken
+pub record BreaksLine (reader reader' : Option (List ℕ)) : Type 0 where
+  pub line : List ℕ
+  pub in_line : IsInLine line
+  pub begun : line ≢ []
+  pub consumed : Consumes reader reader' line
+
+-- one byte too many was taken after some of the line
+pub record PassesMax (count : ℕ) (reader reader' : Option (List ℕ)) : Type 0 where
+  pub line : List ℕ
+  pub past : ℕ
+  pub in_line : IsInLine line
+  pub sum : count + length line ≡ max_offset
+  pub consumed : Consumes reader reader' (line ++ past ∷ [])
+
+abbrev pub StopsReadingBy : ErrorCode → ℕ → (count : ℕ) (reader reader' : Option (List ℕ)) → Type 0
+StopsReadingBy (Io fault) offset count reader reader' = (offset ≡ 0) × LosesReader reader reader'
+StopsReadingBy OutOfMemory offset count reader reader' = (offset ≡ 0) × BreaksLine reader reader'
+StopsReadingBy LengthOutOfRange offset count reader reader' = (offset ≡ max_offset) × PassesMax count reader reader'
+StopsReadingBy _ offset count reader reader' = ⊥
+
+abbrev pub StopsReading : Error → (count : ℕ) (reader reader' : Option (List ℕ)) → Type 0
+StopsReading e = StopsReadingBy (code_of e) (offset_of e)
+
+abbrev pub StopsAtByteBy : ErrorCode → ℕ → (count : ℕ) (reader reader' : Option (List ℕ)) → Type 0
+StopsAtByteBy (Io fault) offset count reader reader' = (offset ≡ 0) × Keeps reader reader'
+StopsAtByteBy LengthOutOfRange offset count reader reader' = (offset ≡ max_offset) × (count ≡ max_offset) × ((past : ℕ) × Consumes reader reader' (past ∷ []))
+StopsAtByteBy _ offset count reader reader' = ⊥
+
+abbrev pub StopsAtByte : Error → (count : ℕ) (reader reader' : Option (List ℕ)) → Type 0
+StopsAtByte e = StopsAtByteBy (code_of e) (offset_of e)
+
+-- ---- answering
+
+-- the text answers each line that is the hexadecimal of these bytes
+abbrev pub IsAnswerTo : List ℕ → List ℕ → Type 0
+IsAnswerTo bytes text = (line : List ℕ) → IsHexOf line bytes → IsAnswer line text
+
+abbrev pub StopsAnsweringBy : ErrorCode → ℕ → (writer writer' : Option (List ℕ)) → Type 0
+StopsAnsweringBy (Io fault) offset writer writer' = offset ≡ 0
+StopsAnsweringBy OutOfMemory offset writer writer' = (offset ≡ 0) × Keeps writer writer'
+StopsAnsweringBy _ offset writer writer' = ⊥
+
+abbrev pub StopsAnswering : Error → (writer writer' : Option (List ℕ)) → Type 0
+StopsAnswering e = StopsAnsweringBy (code_of e) (offset_of e)

@@ -1,0 +1,157 @@
+//! Lines of hexadecimal in, lines of answers out.
+
+ghost use Rattle.std.specs.Prelude.{◌≡◌, ◌+◌, ◌∷◌, IfOk, IfErr, OnOk, IfSome, []};
+ghost use Rattle.std.specs.Io.KnownBytes.{IsAtEnd};
+ghost use Rattle.cbor_model.specs.Program.{lines, hex, IsAnswer};
+ghost use Rattle.serde_cbor.specs.Error.{IsOutOfMemory};
+ghost use Rattle.cbor_tool.specs.Run.{AppendsAnswers, IsStopped};
+ghost use Rattle.cbor_tool.specs.Steps.{IsNext, IsNextLine, StopsReading, StopsAtByte, IsAnswerTo, StopsAnswering};
+
+use hex::FromHexError;
+use serde_cbor::error::{Error, ErrorCode};
+use serde_cbor::{Result, from_slice, to_vec};
+use std::alloc::{AllocError, Global};
+use std::io;
+
+// What ended a line.
+#[derive(Clone, Copy)]
+enum End {
+    Newline,
+    Input,
+}
+
+/// Answers each line that the reader gives by one line to the writer.
+///
+/// Bytes are taken one at a time. Each answer is written by one call and flushed before the byte
+/// that follows its line is taken. The run stops at the first fault of the reader or the writer,
+/// where memory runs out, and where the reader gives more than 2^64 - 1 bytes.
+pub fn run<R: io::Read, W: io::Write>(alloc: Global, reader: &mut R, writer: &mut W) -> Result<()>
+    // The output is one answer for each of the input's lines, and the input was read to its end.
+    ensures answers { OnOk result (IfSome (R.remaining reader.old) (λ input.
+        AppendsAnswers (lines input) (W.contents writer.old) (W.contents writer.new))) }
+    ensures end { OnOk result (IsAtEnd (R.remaining reader.new)) }
+    // Why it stopped, with what taken and what answered.
+    ensures stopped { IfErr result (λ e. IsStopped e (R.remaining reader.old) (R.remaining reader.new)
+        (W.contents writer.old) (W.contents writer.new)) }
+{
+    let mut taken = 0;
+    let mut line = Vec::new(alloc);
+    let mut text = Vec::new(alloc);
+    'lines: while let End::Newline = read_line(reader, &mut taken, &mut line)? {
+        write_answer(alloc, &line, &mut text, writer)?;
+    }
+    if !line.is_empty() {
+        write_answer(alloc, &line, &mut text, writer)?;
+    }
+    Ok(())
+}
+
+// Makes `line` the bytes up to the next 0a, which is taken too, or to the end of the input. `taken`
+// counts all the bytes that were taken.
+fn read_line<R: io::Read>(reader: &mut R, taken: &mut u64, line: &mut Vec<u8>) -> Result<End>
+    ensures ok { IfOk result (λ end. IsNextLine end line.new.items taken.old taken.new
+        (R.remaining reader.old) (R.remaining reader.new)) }
+    ensures err { IfErr result (λ e. StopsReading e taken.old
+        (R.remaining reader.old) (R.remaining reader.new)) }
+{
+    line.clear();
+    'bytes: while let Some(byte) = read_byte(reader, taken)? {
+        if byte == b'\n' {
+            return Ok(End::Newline);
+        }
+        line.push(byte)?;
+    }
+    Ok(End::Input)
+}
+
+// Takes the next byte, if there is one.
+fn read_byte<R: io::Read>(reader: &mut R, taken: &mut u64) -> Result<Option<u8>>
+    ensures ok { IfOk result (λ next. IsNext next taken.old taken.new
+        (R.remaining reader.old) (R.remaining reader.new)) }
+    ensures err { IfErr result (λ e. StopsAtByte e taken.old
+        (R.remaining reader.old) (R.remaining reader.new)) }
+{
+    let mut buf = [0];
+    if reader.read(&mut buf)? == 0 {
+        return Ok(None);
+    }
+    let Some(count) = taken.checked_add(1) else {
+        return Err(Error::at(ErrorCode::LengthOutOfRange, u64::MAX));
+    };
+    *taken = count;
+    Ok(Some(buf[0]))
+}
+
+// Writes the answer to the line, which is made in `text`, and a 0a.
+fn write_answer<W: io::Write>(
+    alloc: Global,
+    line: &[u8],
+    text: &mut Vec<u8>,
+    writer: &mut W,
+) -> Result<()>
+    ensures ok { OnOk result (AppendsAnswers (line.now ∷ []) (W.contents writer.old) (W.contents writer.new)) }
+    ensures err { IfErr result (λ e. StopsAnswering e (W.contents writer.old) (W.contents writer.new)) }
+{
+    answer(alloc, line, text)?;
+    text.push(b'\n')?;
+    writer.write_all(text)?;
+    writer.flush()?;
+    Ok(())
+}
+
+// Makes `text` the answer to the line.
+fn answer(alloc: Global, line: &[u8], text: &mut Vec<u8>) -> Result<()>
+    ensures ok { OnOk result (IsAnswer line.now text.new.items) }
+    ensures err { IfErr result IsOutOfMemory }
+{
+    match hex::decode(alloc, line) {
+        Ok(bytes) => answer_bytes(alloc, &bytes, text),
+        Err(error) => match error {
+            FromHexError::OutOfMemory => Err(Error::from(AllocError)),
+            _ => replace(text, b"error: not hexadecimal"),
+        },
+    }
+}
+
+// Makes `text` the answer to a line that is the hexadecimal of these bytes.
+fn answer_bytes(alloc: Global, bytes: &[u8], text: &mut Vec<u8>) -> Result<()>
+    ensures ok { OnOk result (IsAnswerTo bytes.now text.new.items) }
+    ensures err { IfErr result IsOutOfMemory }
+{
+    match from_slice(alloc, bytes) {
+        Ok(value) => {
+            let spelling = to_vec(alloc, &value)?;
+            replace_by_hex(text, &spelling)
+        }
+        Err(error) => {
+            if error.is_memory() {
+                return Err(error);
+            }
+            let refusal = format!(in alloc; "error: {error}")?;
+            replace(text, refusal.as_bytes())
+        }
+    }
+}
+
+fn replace(text: &mut Vec<u8>, with: &[u8]) -> Result<()>
+    ensures ok { OnOk result (text.new.items ≡ with.now) }
+    ensures err { IfErr result IsOutOfMemory }
+{
+    text.clear();
+    text.extend_from_slice(with)?;
+    Ok(())
+}
+
+fn replace_by_hex(text: &mut Vec<u8>, bytes: &[u8]) -> Result<()>
+    ensures ok { OnOk result (text.new.items ≡ hex bytes.now) }
+    ensures err { IfErr result IsOutOfMemory }
+{
+    let Some(len) = bytes.len().checked_mul(2) else {
+        return Err(Error::from(AllocError));
+    };
+    text.clear();
+    text.resize(len, 0)?;
+    let is_encoded = hex::encode_to_slice(bytes, text.as_mut_slice()).is_ok();
+    prove!(is_encoded);
+    Ok(())
+}
