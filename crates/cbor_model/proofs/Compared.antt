@@ -30,7 +30,7 @@ Apart-cons n m p q inside x y = Apart-cons-by (nat_cmp n m) n m p q (ranked n m 
 pub Apart-append : (p q p' q' : List ℕ) → Apart p q → Apart p' q' → Apart (p ++ p') (q ++ q')
 Apart-append p q p' q' a b x y =
     ap (λ (l : List ℕ). lex l ((q ++ q') ++ y)) (append_assoc p p' x) ∙ ap (lex (p ++ (p' ++ x))) (append_assoc q q' y)
-        ∙ a (p' ++ x) (q' ++ y) ∙ ap (ordering_then (lex p q)) (b x y) ∙ sym (then_assoc (lex p q) (lex p' q') (lex x y)) ∙ ap (λ (o : Ordering). ordering_then o (lex x y)) (sym (a p' q'))
+    ∙ a (p' ++ x) (q' ++ y) ∙ ap (ordering_then (lex p q)) (b x y) ∙ sym (then_assoc (lex p q) (lex p' q') (lex x y)) ∙ ap (λ (o : Ordering). ordering_then o (lex x y)) (sym (a p' q'))
 
 pub Apart-same_len : (p q : List ℕ) → length p ≡ length q → Apart p q
 Apart-same_len [] [] e = Apart-nil
@@ -50,6 +50,7 @@ null-low w e = omega (arith, lt-float_code w)
 
 mutual
   unfolding flat
+
   pub bodies_apart : (a b : Val) → kind a ≡ kind b → Apart (body a) (body b)
   bodies_apart (integer (pos n)) (integer (pos m)) e = number_apart n m
   bodies_apart (integer (negsuc n)) (integer (negsuc m)) e = number_apart n m
@@ -86,7 +87,7 @@ mutual
   pairs_apart (pair k v ps) no_pairs e = absurd (omega arith)
   pairs_apart (pair k v ps) (pair l w qs) e =
       Apart-append (flat k) (flat l) (flat v ++ flat_pairs ps) (flat w ++ flat_pairs qs) (rw (flat-is k, flat-is l) (Apart-cons (kind k) (kind l) (body k) (body l) (bodies_apart k l)))
-          (Apart-append (flat v) (flat w) (flat_pairs ps) (flat_pairs qs) (rw (flat-is v, flat-is w) (Apart-cons (kind v) (kind w) (body v) (body w) (bodies_apart v w))) (pairs_apart ps qs (ap pred e)))
+      (Apart-append (flat v) (flat w) (flat_pairs ps) (flat_pairs qs) (rw (flat-is v, flat-is w) (Apart-cons (kind v) (kind w) (body v) (body w) (bodies_apart v w))) (pairs_apart ps qs (ap pred e)))
 
 pub flats_apart : (a b : Val) → Apart (flat a) (flat b)
 flats_apart a b = rw (flat-is a, flat-is b) (Apart-cons (kind a) (kind b) (body a) (body b) (bodies_apart a b))

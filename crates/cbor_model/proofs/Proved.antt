@@ -1,5 +1,5 @@
 -- The laws' proofs.
-use Rattle.cbor_model.specs.Laws.{ReaderFinds, ReaderAccepts, OneSpelling, ValueIsStorable, OneAnswer, OrderIsTotal, OneFlat, CanonicalReadsBack, ValueIsCanonical}
+use Rattle.cbor_model.specs.Laws.{ReaderFinds, ReaderAccepts, OneSpelling, ValueIsStorable, OneAnswer, OrderIsTotal, OneFlat, CanonicalReadsBack, ValueIsCanonical, NormalisedOnce, EqualBytes}
 use Rattle.cbor_model.proofs.Whole.{found_whole, read_whole}
 use Rattle.cbor_model.proofs.Storable.{storable}
 use Rattle.cbor_model.proofs.Same as same
@@ -7,6 +7,7 @@ use Rattle.cbor_model.proofs.ReadsBack.{reads_back}
 use Rattle.cbor_model.proofs.Canonical as canonical
 use Rattle.cbor_model.proofs.Apart as apart
 use Rattle.cbor_model.proofs.Program as program
+use Rattle.cbor_model.proofs.Normal as normal
 
 pub reader_finds : ReaderFinds
 reader_finds = found_whole
@@ -34,3 +35,9 @@ canonical_reads_back = reads_back
 
 pub value_is_canonical : ValueIsCanonical
 value_is_canonical = canonical.value_is_canonical
+
+pub normalised_once : NormalisedOnce
+normalised_once = normal.normalised_once
+
+pub equal_bytes : EqualBytes
+equal_bytes = normal.equal_bytes

@@ -5,7 +5,7 @@ use Rattle.cbor_model.specs.Spelling.{spell}
 use Rattle.cbor_model.specs.Acceptable.{IsAcceptable, IsAcceptableWithin}
 use Rattle.cbor_model.specs.Plain.{Val}
 use Rattle.cbor_model.specs.Value.{value}
-use Rattle.cbor_model.specs.Canonical.{IsStorable, IsOrdered, canonical}
+use Rattle.cbor_model.specs.Canonical.{IsStorable, IsOrdered, canonical, canon}
 use Rattle.cbor_model.specs.Order.{flat}
 use Rattle.cbor_model.specs.FiniteMap.{val_cmp}
 use Rattle.std.specs.Cmp.{IsTotalOrder}
@@ -56,3 +56,11 @@ OrderIsTotal = IsTotalOrder val_cmp
 -- Values with equal lists are equal.
 abbrev pub OneFlat : Type 0
 OneFlat = (a b : Val) → flat a ≡ flat b → a ≡ b
+
+-- Of what is read, the canonical spelling is read as the same value again.
+abbrev pub NormalisedOnce : Type 0
+NormalisedOnce = (bytes : List ℕ) (v : Val) → length bytes < 2 ^ 64 → SpellsValue bytes v → SpellsValue (canon v) v
+
+-- Ordered values with equal canonical spellings are equal, where their canonical items are acceptable.
+abbrev pub EqualBytes : Type 0
+EqualBytes = (a b : Val) → IsOrdered a → IsOrdered b → IsAcceptable (canonical a) → IsAcceptable (canonical b) → canon a ≡ canon b → a ≡ b

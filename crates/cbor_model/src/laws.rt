@@ -1,5 +1,5 @@
 //! The laws, each of which is the contract of a function that does nothing.
-ghost use Rattle.cbor_model.specs.Laws.{ReaderFinds, ReaderAccepts, OneSpelling, ValueIsStorable, OneAnswer, OrderIsTotal, OneFlat, CanonicalReadsBack, ValueIsCanonical};
+ghost use Rattle.cbor_model.specs.Laws.{ReaderFinds, ReaderAccepts, OneSpelling, ValueIsStorable, OneAnswer, OrderIsTotal, OneFlat, CanonicalReadsBack, ValueIsCanonical, NormalisedOnce, EqualBytes};
 
 /// What the reference reader reads is the value of an acceptable item, and the bytes are its spelling.
 pub fn reader_finds()
@@ -45,4 +45,14 @@ pub fn canonical_reads_back()
 /// item is acceptable within the same levels.
 pub fn value_is_canonical()
     ensures { ValueIsCanonical }
+{}
+
+/// Of what is read, the canonical spelling is read as the same value again: normalising twice is once.
+pub fn normalised_once()
+    ensures { NormalisedOnce }
+{}
+
+/// Ordered values with equal canonical spellings are equal, where those spellings are acceptable.
+pub fn equal_bytes()
+    ensures { EqualBytes }
 {}

@@ -27,7 +27,7 @@ use Rattle.cbor_tool.proofs.Hexadecimal.{IsHexOf-decoded, decode_of-hex}
 
 pub IsAnswerTo-canonical : (bytes text : List ℕ) (v : Val) → SpellsValue bytes v → text ≡ hex (canon v) → IsAnswerTo bytes text
 IsAnswerTo-canonical bytes text v spells is =
-    λ line h. canonical spells.item spells.acceptable spells.supported (rw spells.spelled h) (is ∙ ap (λ w. hex (canon w)) spells.valued)
+    λ line h. canonical spells.item spells.acceptable (rw spells.spelled h) (is ∙ ap (λ w. hex (canon w)) spells.valued)
 
 -- the fault that an error tells, where memory did not run out
 pub record Told (code : ErrorCode) (offset total : ℕ) (read : Result Val Fault) : Type 0 where
@@ -62,7 +62,7 @@ pub IsAnswerTo-refused : (bytes text : List ℕ) (e : Error) → Fails (length b
 IsAnswerTo-refused bytes text e fails accepted ne is =
     let told = told_by (code_of e) (length bytes) (offset_of e) (read_value bytes) fails ne in
     λ line h. refused bytes (error_text e) h
-    (λ r good reads spelled. ne (accepted (value r) (record { item = r; acceptable = good; supported = reads; spelled = spelled; valued = refl })).0)
+    (λ r good spelled. ne (accepted (value r) (record { item = r; acceptable = good; spelled = spelled; valued = refl })).0)
     (record { fault = told.fault; refused = told.refused; is = told.text })
     is
 

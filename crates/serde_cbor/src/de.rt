@@ -2,6 +2,7 @@
 
 ghost use Rattle.std.specs.Prelude.{◌≡◌, length, IfOk, IfErr, MatchResult};
 ghost use Rattle.cbor_model.specs.Plain.{Val};
+ghost use Rattle.cbor_model.specs.Canonical.{IsStorable, IsOrdered};
 ghost use Rattle.cbor_model.specs.Laws.{SpellsValue};
 ghost use Rattle.cbor_model.specs.Reader.{read_value};
 ghost use Rattle.serde_cbor.specs.Error.{IsOutOfMemory};
@@ -26,6 +27,9 @@ const MAX_DEPTH: u8 = 127;
 pub fn from_slice(alloc: Global, slice: &[u8]) -> Result<Value>
     // What is read is the value of an acceptable item, and the bytes are its spelling.
     ensures found { IfOk result (λ v. SpellsValue slice.now (view v)) }
+    // So `to_vec` writes its one canonical spelling, which is read as the same value again.
+    ensures storable { IfOk result (λ v. IsStorable (view v)) }
+    ensures ordered { IfOk result (λ v. IsOrdered (view v)) }
     // Each such item is read, unless memory runs out.
     ensures accepted { (v : Val) → SpellsValue slice.now v → MatchResult result (λ x. view x ≡ v) IsOutOfMemory }
     // A refusal tells the first fault, as the reference reader does, or that memory ran out.

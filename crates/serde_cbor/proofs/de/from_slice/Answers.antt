@@ -1,9 +1,11 @@
-use Rattle.std.proofs.Common.{◌≡◌, ℕ, ◌^◌, ◌<◌, List, length, Result, Ok, Err, IfOk, MatchResult, refl, subst, arith}
+use Rattle.std.proofs.Common.{◌≡◌, ℕ, ◌^◌, ◌<◌, List, length, Result, Ok, Err, IfOk, MatchResult, refl, sym, ap, subst, arith}
 use Rattle.cbor_model.specs.Plain.{Val}
 use Rattle.cbor_model.specs.Raw.{AreBytes}
 use Rattle.cbor_model.specs.Laws.{SpellsValue}
 use Rattle.cbor_model.specs.Reader.{read_value}
-use Rattle.cbor_model.proofs.Proved.{reader_finds, reader_accepts}
+use Rattle.cbor_model.proofs.Proved.{reader_finds, reader_accepts, value_is_canonical}
+use Rattle.cbor_model.specs.Acceptable.{max_depth}
+use Rattle.cbor_model.specs.Canonical.{IsStorable, IsOrdered}
 use Rattle.serde_cbor.specs.declared.value.Value.{Value}
 use Rattle.serde_cbor.specs.declared.error.ErrorCode.{ErrorCode}
 use Rattle.serde_cbor.specs.declared.error.ErrorCode.TheVariants as code
@@ -16,6 +18,16 @@ use Rattle.serde_cbor.proofs.de.from_slice.Goals as goal
 is_found : (bs : List ℕ) (total : ℕ) (r : Result Value Error) → AreBytes bs → GivesWhole view total r (read_value bs) → IfOk r (λ v. SpellsValue bs (view v))
 is_found bs total (Ok v) fits given = reader_finds bs (view v) fits given
 is_found bs total (Err e) fits given = tt
+
+-- a value that is read, with what the law says of it
+is_canonical : (bs : List ℕ) (v : Val) → length bs < 2 ^ 64 → SpellsValue bs v → IsStorable v × IsOrdered v
+is_canonical bs v short spells =
+    let good = value_is_canonical max_depth spells.item spells.acceptable (omega (arith, ap length spells.spelled)) in
+    subst (λ (w : Val). IsStorable w × IsOrdered w) (sym spells.valued) (good.0, good.1)
+
+both : (bs : List ℕ) (r : Result Value Error) → length bs < 2 ^ 64 → IfOk r (λ v. SpellsValue bs (view v)) → IfOk r (λ v. IsStorable (view v)) × IfOk r (λ v. IsOrdered (view v))
+both bs (Ok v) short found = is_canonical bs (view v) short found
+both bs (Err e) short found = (tt, tt)
 
 -- where reading gives a value, only memory fails
 only_memory : (k : ErrorCode) (total offset : ℕ) (v : Val) → FailsBy k total offset (Ok v) → (k ≡ code.OutOfMemory) × (offset ≡ 0)
@@ -38,8 +50,20 @@ is_accepted total v (Err e) given = only_memory (code_of e) total (offset_of e) 
 pub returns-clause-found : goal.returns-clause-found
 returns-clause-found c = is_found c.args.slice.now (length c.args.slice.now) c.read_whole.result (λ i. omega (arith, c.type_inv.slice i)) c.read_whole.ensures
 
+pub returns-clause-storable : goal.returns-clause-storable
+returns-clause-storable c =
+    let bs = c.args.slice.now in
+    let short : length bs < 2 ^ 64 = omega arith in
+    (both bs c.read_whole.result short (is_found bs (length bs) c.read_whole.result (λ i. omega (arith, c.type_inv.slice i)) c.read_whole.ensures)).0
+
+pub returns-clause-ordered : goal.returns-clause-ordered
+returns-clause-ordered c =
+    let bs = c.args.slice.now in
+    let short : length bs < 2 ^ 64 = omega arith in
+    (both bs c.read_whole.result short (is_found bs (length bs) c.read_whole.result (λ i. omega (arith, c.type_inv.slice i)) c.read_whole.ensures)).1
+
 pub returns-clause-accepted : goal.returns-clause-accepted
 returns-clause-accepted c = λ v spelled.
     let bs = c.args.slice.now in
-    let short : length bs < 2 ^ 64 = omega (arith, c.type_inv) in
+    let short : length bs < 2 ^ 64 = omega arith in
     is_accepted (length bs) v c.read_whole.result (subst (λ r. GivesWhole view (length bs) c.read_whole.result r) (reader_accepts bs v short spelled) c.read_whole.ensures)
