@@ -1,4 +1,5 @@
 use super::from_slice;
+use crate::error::ErrorCode;
 use crate::ser::to_vec;
 use crate::value::{Float, Value};
 use std::alloc::Global;
@@ -8,8 +9,33 @@ use std::test::Fail;
 fn written(alloc: Global, bytes: &[u8]) -> Result<Result<Vec<u8>, String>, Fail> {
     match from_slice(alloc, bytes) {
         Ok(value) => Ok(Ok(to_vec(alloc, &value)?)),
+        Err(e) if e.is_memory() => Err(Fail::from(e)),
         Err(e) => Ok(Err(e.to_string(alloc)?)),
     }
+}
+
+#[test]
+fn takes_no_memory_for_a_claimed_length(rt: HostRuntime) -> Result<(), Fail> {
+    let mut bytes = [255; 10];
+    for (first, second) in [(0x5f, 0x5b), (0x7f, 0x7b)] {
+        bytes[0] = first;
+        bytes[1] = second;
+        let e = from_slice(rt.alloc(), &bytes).err().ok_or("a value")?;
+        assert!(rt; matches!(e.code(), ErrorCode::EofWhileParsingValue));
+        assert_eq!(rt; e.offset(), 10);
+    }
+    bytes[1] = 255;
+    for first in [0x5b, 0x9b, 0xbb, 0xdb] {
+        bytes[0] = first;
+        let e = from_slice(rt.alloc(), &bytes[..9]).err().ok_or("a value")?;
+        assert!(rt; matches!(e.code(), ErrorCode::EofWhileParsingValue));
+        assert_eq!(rt; e.offset(), 9);
+    }
+    bytes[0] = 0x7b;
+    let e = from_slice(rt.alloc(), &bytes[..9]).err().ok_or("a value")?;
+    assert!(rt; matches!(e.code(), ErrorCode::LengthOutOfRange));
+    assert_eq!(rt; e.offset(), 9);
+    Ok(())
 }
 
 #[test]
@@ -25,6 +51,27 @@ fn reads_what_is_written(rt: HostRuntime) -> Result<(), Fail> {
         (&[0x5b, 0, 0, 0, 0, 0, 0, 0, 2, 1, 0x23], &[0x42, 1, 0x23]),
         (&[0x62, 0xc3, 0xa9], &[0x62, 0xc3, 0xa9]),
         (&[0x98, 0x01, 0x80], &[0x81, 0x80]),
+        (&[0xbf, 2, 0, 1, 0, 0xff], &[0xa2, 1, 0, 2, 0]),
+        (&[0xa2, 1, 0, 0x18, 1, 2], &[0xa1, 1, 2]),
+        (&[0xa2, 0xf6, 1, 0xf7, 2], &[0xa1, 0xf6, 2]),
+        (
+            &[0xa2, 0x82, 0, 0, 0xf6, 0x81, 0x18, 0x64, 0xf6],
+            &[0xa2, 0x81, 0x18, 0x64, 0xf6, 0x82, 0, 0, 0xf6],
+        ),
+        (&[0xbf, 0xff], &[0xa0]),
+        (&[0x9f, 0xff], &[0x80]),
+        (&[0x5f, 0xff], &[0x40]),
+        (&[0x7f, 0xff], &[0x60]),
+        (
+            b"\x82\x7f\x65Mary \x64Had \x62a \x67Little \x60\x64Lamb\xff\x5f\x42\x01\x23\x42\x45\x67\xff",
+            b"\x82\x76Mary Had a Little Lamb\x44\x01\x23\x45\x67",
+        ),
+        (&[0x7f, 0x61, 0xc3, 0x61, 0xa9, 0xff], &[0x62, 0xc3, 0xa9]),
+        (
+            b"\xc1\x82\xc2\x63foo\xc3\xa1\xc4\x61a\xc5\x61b",
+            b"\xc1\x82\xc2\x63foo\xc3\xa1\xc4\x61a\xc5\x61b",
+        ),
+        (b"\xd9\xd9\xf7\x66foobar", b"\xd9\xd9\xf7\x66foobar"),
         (&[0xf9, 0x3c, 0x00], &[0xf9, 0x3c, 0x00]),
         (&[0xfa, 0x7f, 0xc0, 0, 1], &[0xfa, 0x7f, 0xc0, 0, 1]),
         (
@@ -65,11 +112,48 @@ fn refuses_with_the_place(rt: HostRuntime) -> Result<(), Fail> {
         (b"\xf4trailing", "trailing data at offset 2"),
         (&[0xf8, 0x20], "unassigned type at offset 1"),
         (&[0xbc], "unassigned type at offset 1"),
+        (&[0xdf], "unassigned type at offset 1"),
+        (&[0x5c], "unassigned type at offset 1"),
         (&[0x1f], "unassigned type at offset 1"),
         (&[0xff], "unexpected code at offset 1"),
-        (&[0xa0], "unexpected code at offset 1"),
-        (&[0xc1, 0x00], "unexpected code at offset 1"),
-        (&[0x81, 0xc1, 0x00], "unexpected code at offset 2"),
+        (&[0x81, 0xff], "unexpected code at offset 2"),
+        (&[0xbf, 0x61, 0x61, 0xff], "unexpected code at offset 4"),
+        (&[0x7f, 0x7f], "unexpected code at offset 2"),
+        (&[0x5f, 0x61, 0x61, 0xff], "unexpected code at offset 2"),
+        (&[0x7f, 0x40, 0xff], "unexpected code at offset 2"),
+        (&[0x5f, 0x5c], "unexpected code at offset 2"),
+        (
+            &[0x7f, 0x61, 0xc3, 0x61, 0x28, 0xff],
+            "invalid UTF-8 at offset 4",
+        ),
+        (
+            &[0x7f, 0x61, 0xf0, 0x61, 0x9f, 0xff],
+            "invalid UTF-8 at offset 4",
+        ),
+        (&[0xbf], "EOF while parsing a map at offset 1"),
+        (&[0xbf, 0x01], "EOF while parsing a value at offset 2"),
+        (&[0xbf, 0x01, 0x02], "EOF while parsing a map at offset 3"),
+        (&[0x9f], "EOF while parsing an array at offset 1"),
+        (&[0x9f, 0x01], "EOF while parsing an array at offset 2"),
+        (&[0x5f, 0x41], "EOF while parsing a value at offset 2"),
+        (&[0x7f, 0x61, 0x61], "EOF while parsing a value at offset 3"),
+        (&[0xc1], "EOF while parsing a value at offset 1"),
+        (
+            &[0xbb, 255, 255, 255, 255, 255, 255, 255, 255],
+            "EOF while parsing a value at offset 9",
+        ),
+        (
+            &[0xdb, 255, 255, 255, 255, 255, 255, 255, 255],
+            "EOF while parsing a value at offset 9",
+        ),
+        (
+            &[0x5f, 0x5b, 255, 255, 255, 255, 255, 255, 255, 255],
+            "EOF while parsing a value at offset 10",
+        ),
+        (
+            &[0x7f, 0x7b, 255, 255, 255, 255, 255, 255, 255, 255],
+            "EOF while parsing a value at offset 10",
+        ),
     ] {
         let answer = written(rt.alloc(), bytes)?.err().ok_or("a value")?;
         assert_eq!(rt; answer.as_str(), want);
@@ -98,6 +182,30 @@ fn reads_many_items(rt: HostRuntime) -> Result<(), Fail> {
     bytes[2] = 0x00;
     let answer = written(rt.alloc(), &bytes)?.ok().ok_or("a refusal")?;
     assert_eq!(rt; answer.as_slice(), bytes.as_slice());
+    Ok(())
+}
+
+#[test]
+fn reads_an_open_array(rt: HostRuntime) -> Result<(), Fail> {
+    let mut open = [0xf6; 258];
+    open[0] = 0x9f;
+    open[257] = 0xff;
+    let mut definite = [0xf6; 259];
+    definite[0] = 0x99;
+    definite[1] = 0x01;
+    definite[2] = 0x00;
+    let answer = written(rt.alloc(), &open)?.ok().ok_or("a refusal")?;
+    assert_eq!(rt; answer.as_slice(), definite.as_slice());
+    Ok(())
+}
+
+#[test]
+fn counts_each_kind_of_level(rt: HostRuntime) -> Result<(), Fail> {
+    for opening in [0x81, 0x9f, 0xc1, 0xd1] {
+        let deep = [opening; 129];
+        let answer = written(rt.alloc(), &deep)?.err().ok_or("a value")?;
+        assert_eq!(rt; answer.as_str(), "recursion limit exceeded at offset 128");
+    }
     Ok(())
 }
 
