@@ -2,8 +2,8 @@
 use Rattle.std.specs.Prelude.{◌≡◌, ◌+◌, ℕ, List, length, Result, Ok, Err}
 use Rattle.cbor_model.specs.Refusal.{Refusal, end_in_value, end_in_array, end_in_map, length_out_of_range, invalid_utf8, unassigned_code, unexpected_code, trailing_data, too_deep}
 use Rattle.cbor_model.specs.Raw.{Chunk, joined}
-use Rattle.cbor_model.specs.Plain.{Pairs, no_pairs}
-use Rattle.cbor_model.specs.Reader.{Fault, Reads, ◌>>=◌}
+use Rattle.cbor_model.specs.Plain.{Val, Vals, Pairs, no_pairs}
+use Rattle.cbor_model.specs.Reader.{Fault, Reads, ◌>>=◌, Reading, values_within}
 use Rattle.serde_cbor.specs.declared.de.source.Open.{Open}
 use Rattle.serde_cbor.specs.declared.de.source.Open.TheVariants.{Array, Map}
 use Rattle.serde_cbor.specs.declared.error.ErrorCode.{ErrorCode}
@@ -50,6 +50,14 @@ Fails end e read = FailsBy (code_of e) end (offset_of e) read
 abbrev pub Gives : {X A : Type 0} → (X → A) → ℕ → List ℕ → Result X Error → Reads A → Type 0
 Gives view end rest (Ok x) read = read ≡ Ok (view x, rest)
 Gives view end rest (Err e) read = Fails end e read
+
+-- The same of a step from one place in an input to another.
+abbrev pub GivesAt : {X A : Type 0} → (X → A) → (List ℕ → Reads A) → Input → Input → Result X Error → Type 0
+GivesAt view read old new result = Gives view (total old) new.rest result (read old.rest)
+
+-- The same of a step that reads values, of which the input's length decides where a text may end.
+abbrev pub GivesFrom : {X A : Type 0} → (X → A) → (Reading Val Vals (Pairs → Pairs) → List ℕ → Reads A) → Input → Input → Result X Error → Type 0
+GivesFrom view read old new result = GivesAt view (read (values_within (total old))) old new result
 
 -- the same of a whole input, of which nothing is left
 abbrev pub GivesWhole : {X A : Type 0} → (X → A) → ℕ → Result X Error → Result A Fault → Type 0

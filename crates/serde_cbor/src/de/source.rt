@@ -4,7 +4,7 @@ ghost use Rattle.std.specs.Prelude.{◌≡◌, ◌+◌, ◌-◌, ◌^◌, ◌%�
 ghost use Rattle.std.specs.Int.{w8, w16, w32, w64};
 ghost use Rattle.cbor_model.specs.Reader.{byte_at, bytes_at, number_at, number_behind, width_of, chunk_at, more_at, item_at, inside, values_within};
 ghost use Rattle.serde_cbor.specs.Error.{code_of, offset_of, HasNoOffset};
-ghost use Rattle.serde_cbor.specs.Gives.{Input, Gives, total, end_of};
+ghost use Rattle.serde_cbor.specs.Gives.{Input, GivesAt, total, end_of};
 ghost use Rattle.serde_cbor.specs.declared.error.ErrorCode.TheVariants.{EofWhileParsingValue, TrailingData, RecursionLimitExceeded};
 
 use crate::error::{Error, ErrorCode, Result};
@@ -92,7 +92,7 @@ impl<'a> Source<'a> {
     /// Takes one byte.
     #[tactic(auto, unfolding(cbor_model::specs::Reader::byte_at))]
     pub fn byte(&mut self) -> Result<u8>
-        ensures read { Gives (λ b. b) (total self.old) self.new.rest result (byte_at self.old.rest) }
+        ensures read { GivesAt (λ b. b) byte_at self.old self.new result }
         ensures taken { OnOk result (self.new.at ≡ self.old.at + 1) }
         ensures total { total self.new ≡ total self.old }
     {
@@ -106,7 +106,7 @@ impl<'a> Source<'a> {
 
     /// Takes n bytes.
     pub fn take(&mut self, n: u64) -> Result<&'a [u8]>
-        ensures read { Gives (λ b. b.now) (total self.old) self.new.rest result (bytes_at n self.old.rest) }
+        ensures read { GivesAt (λ b. b.now) (bytes_at n) self.old self.new result }
         ensures taken { IfOk result (λ b. self.new.at ≡ self.old.at + length b.now) }
         ensures forward { self.old.at ≤ self.new.at }
         ensures total { total self.new ≡ total self.old }
@@ -124,7 +124,7 @@ impl<'a> Source<'a> {
     /// Whether another element comes. If not, the break is taken.
     #[tactic(auto, unfolding(cbor_model::specs::Reader::more_at))]
     pub fn more(&mut self, form: Open) -> Result<bool>
-        ensures read { Gives (λ b. b) (total self.old) self.new.rest result (more_at (end_of form) self.old.rest) }
+        ensures read { GivesAt (λ b. b) (more_at (end_of form)) self.old self.new result }
         ensures forward { self.old.at ≤ self.new.at }
         ensures total { total self.new ≡ total self.old }
     {
@@ -145,7 +145,9 @@ impl<'a> Source<'a> {
     /// Takes the chunk of this first byte, which has to be one of the major type.
     #[tactic(auto, unfolding(cbor_model::specs::Reader::chunk_at))]
     pub fn chunk(&mut self, major: u8, first: u8) -> Result<&'a [u8]>
-        ensures read { Gives (λ b. record { width = width_of (first % 32); bytes = b.now }) (total self.old) self.new.rest result (chunk_at major first self.old.rest) }
+        ensures read { GivesAt (λ b. record { width = width_of (first % 32); bytes = b.now })
+            (chunk_at major first)
+            self.old self.new result }
         ensures taken { IfOk result (λ b. self.old.at + length b.now ≤ self.new.at) }
         ensures total { total self.new ≡ total self.old }
     {
@@ -173,7 +175,7 @@ impl<'a> Source<'a> {
     /// Takes the number behind a first byte with these lower five bits (RFC 7049, section 2).
     #[tactic(auto, unfolding(cbor_model::specs::Reader::number_behind))]
     pub fn number(&mut self, low: u8) -> Result<u64>
-        ensures read { Gives (λ n. n) (total self.old) self.new.rest result (number_behind low self.old.rest) }
+        ensures read { GivesAt (λ n. n) (number_behind low) self.old self.new result }
         ensures forward { self.old.at ≤ self.new.at }
         ensures total { total self.new ≡ total self.old }
     {
@@ -189,7 +191,7 @@ impl<'a> Source<'a> {
 
     /// Takes a number of one byte.
     pub fn u8(&mut self) -> Result<u8>
-        ensures read { Gives (λ n. n) (total self.old) self.new.rest result (number_at w8 self.old.rest) }
+        ensures read { GivesAt (λ n. n) (number_at w8) self.old self.new result }
         ensures forward { self.old.at ≤ self.new.at }
         ensures total { total self.new ≡ total self.old }
     {
@@ -199,7 +201,7 @@ impl<'a> Source<'a> {
 
     /// Takes a number of two bytes, the most significant first.
     pub fn u16(&mut self) -> Result<u16>
-        ensures read { Gives (λ n. n) (total self.old) self.new.rest result (number_at w16 self.old.rest) }
+        ensures read { GivesAt (λ n. n) (number_at w16) self.old self.new result }
         ensures forward { self.old.at ≤ self.new.at }
         ensures total { total self.new ≡ total self.old }
     {
@@ -209,7 +211,7 @@ impl<'a> Source<'a> {
 
     /// Takes a number of four bytes, the most significant first.
     pub fn u32(&mut self) -> Result<u32>
-        ensures read { Gives (λ n. n) (total self.old) self.new.rest result (number_at w32 self.old.rest) }
+        ensures read { GivesAt (λ n. n) (number_at w32) self.old self.new result }
         ensures forward { self.old.at ≤ self.new.at }
         ensures total { total self.new ≡ total self.old }
     {
@@ -219,7 +221,7 @@ impl<'a> Source<'a> {
 
     /// Takes a number of eight bytes, the most significant first.
     pub fn u64(&mut self) -> Result<u64>
-        ensures read { Gives (λ n. n) (total self.old) self.new.rest result (number_at w64 self.old.rest) }
+        ensures read { GivesAt (λ n. n) (number_at w64) self.old self.new result }
         ensures forward { self.old.at ≤ self.new.at }
         ensures total { total self.new ≡ total self.old }
     {

@@ -212,24 +212,20 @@ fn counts_each_kind_of_level(rt: HostRuntime) -> Result<(), Fail> {
 #[test]
 fn keeps_the_variants(rt: HostRuntime) -> Result<(), Fail> {
     let alloc = rt.alloc();
-    assert!(rt; matches!(from_slice(alloc, &[0x18, 0x17])?, Value::Integer(23)));
-    assert!(rt; matches!(from_slice(alloc, &[0x20])?, Value::Integer(-1)));
-    assert!(rt; matches!(from_slice(alloc, &[0xf7])?, Value::Null));
-    assert!(rt;
-        matches!(
-            from_slice(alloc, &[0xf9, 0x3c, 0x00])?,
-            Value::Float(Float::Half(0x3c00))
-        )
-    );
-    assert!(rt;
-        matches!(
-            from_slice(alloc, &[0xfb, 0x3f, 0xf0, 0, 0, 0, 0, 0, 0])?,
-            Value::Float(Float::Double(0x3ff0000000000000))
-        )
-    );
-    assert!(rt; matches!(from_slice(alloc, &[0x61, 0x78])?, Value::Text(s) if s.as_str() == "x"));
-    assert!(rt;
-        matches!(from_slice(alloc, &[0x41, 0x78])?, Value::Bytes(b) if b.as_slice() == b"x".as_slice())
-    );
+    for (bytes, want) in [
+        (&[0x18, 0x17][..], Value::Integer(23)),
+        (&[0x20], Value::Integer(-1)),
+        (&[0xf7], Value::Null),
+        (&[0xf9, 0x3c, 0x00], Value::Float(Float::Half(0x3c00))),
+        (
+            &[0xfb, 0x3f, 0xf0, 0, 0, 0, 0, 0, 0],
+            Value::Float(Float::Double(0x3ff0000000000000)),
+        ),
+        (&[0x61, 0x78], Value::Text(String::from_str(alloc, "x")?)),
+        (&[0x41, 0x78], Value::Bytes(Vec::from_slice(alloc, b"x")?)),
+    ] {
+        let value = from_slice(alloc, bytes)?;
+        assert!(rt; value == want);
+    }
     Ok(())
 }

@@ -1,12 +1,12 @@
 //! The item at the front of a source, as a value.
 
 ghost use Rattle.std.specs.Prelude.{◌≡◌, ◌+◌, ◌<◌, ◌≤◌, suc, length, IfOk, IfErr, OnOk};
-ghost use Rattle.cbor_model.specs.Reader.{values_within, inside, width_of, float_at, simple_at, text_at, items_by, open_items_by, pairs_by, open_pairs_by, array_at, open_array_at, map_at, open_map_at, tag_at, content_at, open_at, string_chunks_at, text_chunks_at, chunks_at, after_first, item_at};
+ghost use Rattle.cbor_model.specs.Reader.{inside, width_of, float_at, simple_at, text_at, items_by, open_items_by, pairs_by, open_pairs_by, array_at, open_array_at, map_at, open_map_at, tag_at, content_at, open_at, string_chunks_at, text_chunks_at, chunks_at, after_first, item_at};
 ghost use Rattle.cbor_model.specs.Canonical.{KeysAscend};
 ghost use Rattle.cbor_model.specs.Value.{put};
 ghost use Rattle.serde_cbor.specs.Error.{IsOutOfMemory};
 ghost use Rattle.serde_cbor.specs.View.{view, views, float_view, map_view};
-ghost use Rattle.serde_cbor.specs.Gives.{Gives, total, joined_of, made_of};
+ghost use Rattle.serde_cbor.specs.Gives.{GivesFrom, total, joined_of, made_of};
 
 use super::source::{BREAK, Open, Source};
 use crate::error::{ErrorCode, Result};
@@ -22,7 +22,7 @@ const TEXT: u8 = 3;
 #[cycle(read)]
 #[tactic(auto, unfolding(cbor_model::specs::Reader::item_at, cbor_model::specs::Reader::item_by))]
 pub fn read_value(alloc: Global, source: &mut Source<'_>, levels: u8) -> Result<Value>
-    ensures read { Gives view (total source.old) source.new.rest result (item_at (values_within (total source.old)) levels source.old.rest) }
+    ensures read { GivesFrom view (λ m. item_at m levels) source.old source.new result }
     ensures taken { OnOk result (source.old.at < source.new.at) }
     ensures total { total source.new ≡ total source.old }
 {
@@ -34,7 +34,9 @@ pub fn read_value(alloc: Global, source: &mut Source<'_>, levels: u8) -> Result<
 #[cycle(read)]
 #[tactic(auto, unfolding(cbor_model::specs::Reader::after_first))]
 fn read_after(alloc: Global, source: &mut Source<'_>, levels: u8, first: u8) -> Result<Value>
-    ensures read { Gives view (total source.old) source.new.rest result (after_first (values_within (total source.old)) (inside (values_within (total source.old)) levels) first source.old.rest) }
+    ensures read { GivesFrom view
+        (λ m. after_first m (inside m levels) first)
+        source.old source.new result }
     ensures forward { OnOk result (source.old.at ≤ source.new.at) }
     ensures total { total source.new ≡ total source.old }
 {
@@ -61,7 +63,9 @@ fn read_content(
     low: u8,
     n: u64,
 ) -> Result<Value>
-    ensures read { Gives view (total source.old) source.new.rest result (content_at (values_within (total source.old)) (inside (values_within (total source.old)) levels) major (width_of low) n source.old.rest) }
+    ensures read { GivesFrom view
+        (λ m. content_at m (inside m levels) major (width_of low) n)
+        source.old source.new result }
     ensures forward { OnOk result (source.old.at ≤ source.new.at) }
     ensures total { total source.new ≡ total source.old }
 {
@@ -83,7 +87,9 @@ fn read_content(
 #[cycle(read)]
 #[tactic(auto, unfolding(cbor_model::specs::Reader::open_at))]
 fn read_open(alloc: Global, source: &mut Source<'_>, levels: u8, major: u8) -> Result<Value>
-    ensures read { Gives view (total source.old) source.new.rest result (open_at (values_within (total source.old)) (inside (values_within (total source.old)) levels) major source.old.rest) }
+    ensures read { GivesFrom view
+        (λ m. open_at m (inside m levels) major)
+        source.old source.new result }
     ensures forward { OnOk result (source.old.at ≤ source.new.at) }
     ensures total { total source.new ≡ total source.old }
 {
@@ -99,7 +105,7 @@ fn read_open(alloc: Global, source: &mut Source<'_>, levels: u8, major: u8) -> R
 /// Reads a text of n bytes.
 #[tactic(auto, unfolding(cbor_model::specs::Reader::text_at, cbor_model::specs::Reader::checked_text))]
 fn read_text(alloc: Global, source: &mut Source<'_>, low: u8, n: u64) -> Result<Value>
-    ensures read { Gives view (total source.old) source.new.rest result (text_at (values_within (total source.old)) (width_of low) n source.old.rest) }
+    ensures read { GivesFrom view (λ m. text_at m (width_of low) n) source.old source.new result }
     ensures forward { OnOk result (source.old.at ≤ source.new.at) }
     ensures total { total source.new ≡ total source.old }
 {
@@ -116,7 +122,7 @@ fn read_text(alloc: Global, source: &mut Source<'_>, low: u8, n: u64) -> Result<
 /// Reads a byte string in chunks.
 #[tactic(auto, unfolding(cbor_model::specs::Reader::string_chunks_at))]
 fn read_byte_chunks(alloc: Global, source: &mut Source<'_>) -> Result<Value>
-    ensures read { Gives view (total source.old) source.new.rest result (string_chunks_at (values_within (total source.old)) source.old.rest) }
+    ensures read { GivesFrom view (λ m. string_chunks_at m) source.old source.new result }
     ensures forward { OnOk result (source.old.at ≤ source.new.at) }
     ensures total { total source.new ≡ total source.old }
 {
@@ -127,7 +133,7 @@ fn read_byte_chunks(alloc: Global, source: &mut Source<'_>) -> Result<Value>
 /// Reads a text in chunks.
 #[tactic(auto, unfolding(cbor_model::specs::Reader::text_chunks_at, cbor_model::specs::Reader::checked_text))]
 fn read_text_chunks(alloc: Global, source: &mut Source<'_>) -> Result<Value>
-    ensures read { Gives view (total source.old) source.new.rest result (text_chunks_at (values_within (total source.old)) source.old.rest) }
+    ensures read { GivesFrom view (λ m. text_chunks_at m) source.old source.new result }
     ensures forward { OnOk result (source.old.at ≤ source.new.at) }
     ensures total { total source.new ≡ total source.old }
 {
@@ -144,7 +150,9 @@ fn read_text_chunks(alloc: Global, source: &mut Source<'_>) -> Result<Value>
 
 /// Reads chunks of the major type up to the break, and joins them.
 fn read_chunks(alloc: Global, source: &mut Source<'_>, major: u8) -> Result<Vec<u8>>
-    ensures read { Gives (λ v. v.items) (total source.old) source.new.rest result (joined_of (chunks_at major source.old.rest)) }
+    ensures read { GivesFrom (λ v. v.items)
+        (λ m bs. joined_of (chunks_at major bs))
+        source.old source.new result }
     ensures taken { IfOk result (λ v. source.old.at + length v.items ≤ source.new.at) }
     ensures total { total source.new ≡ total source.old }
 {
@@ -163,7 +171,9 @@ fn read_chunks(alloc: Global, source: &mut Source<'_>, major: u8) -> Result<Vec<
 #[cycle(read)]
 #[tactic(auto, unfolding(cbor_model::specs::Reader::array_at))]
 fn read_array(alloc: Global, source: &mut Source<'_>, levels: u8, low: u8, n: u64) -> Result<Value>
-    ensures read { Gives view (total source.old) source.new.rest result (array_at (values_within (total source.old)) (inside (values_within (total source.old)) levels) (width_of low) n source.old.rest) }
+    ensures read { GivesFrom view
+        (λ m. array_at m (inside m levels) (width_of low) n)
+        source.old source.new result }
     ensures forward { OnOk result (source.old.at ≤ source.new.at) }
     ensures total { total source.new ≡ total source.old }
 {
@@ -175,7 +185,9 @@ fn read_array(alloc: Global, source: &mut Source<'_>, levels: u8, low: u8, n: u6
 /// Reads n items, where so many levels are left.
 #[cycle(read)]
 fn read_items(alloc: Global, source: &mut Source<'_>, levels: u8, n: u64) -> Result<Vec<Value>>
-    ensures read { Gives (λ v. views v.items) (total source.old) source.new.rest result (items_by (values_within (total source.old)) (item_at (values_within (total source.old)) levels) n source.old.rest) }
+    ensures read { GivesFrom (λ v. views v.items)
+        (λ m. items_by m (item_at m levels) n)
+        source.old source.new result }
     ensures forward { OnOk result (source.old.at ≤ source.new.at) }
     ensures total { total source.new ≡ total source.old }
 {
@@ -191,7 +203,9 @@ fn read_items(alloc: Global, source: &mut Source<'_>, levels: u8, n: u64) -> Res
 #[cycle(read)]
 #[tactic(auto, unfolding(cbor_model::specs::Reader::open_array_at))]
 fn read_open_array(alloc: Global, source: &mut Source<'_>, levels: u8) -> Result<Value>
-    ensures read { Gives view (total source.old) source.new.rest result (open_array_at (values_within (total source.old)) (inside (values_within (total source.old)) levels) source.old.rest) }
+    ensures read { GivesFrom view
+        (λ m. open_array_at m (inside m levels))
+        source.old source.new result }
     ensures forward { OnOk result (source.old.at ≤ source.new.at) }
     ensures total { total source.new ≡ total source.old }
 {
@@ -203,7 +217,9 @@ fn read_open_array(alloc: Global, source: &mut Source<'_>, levels: u8) -> Result
 /// Reads items up to the break, where so many levels are left.
 #[cycle(read)]
 fn read_open_items(alloc: Global, source: &mut Source<'_>, levels: u8) -> Result<Vec<Value>>
-    ensures read { Gives (λ v. views v.items) (total source.old) source.new.rest result (open_items_by (values_within (total source.old)) (item_at (values_within (total source.old)) levels) (suc (length source.old.rest)) source.old.rest) }
+    ensures read { GivesFrom (λ v. views v.items)
+        (λ m bs. open_items_by m (item_at m levels) (suc (length bs)) bs)
+        source.old source.new result }
     ensures forward { OnOk result (source.old.at ≤ source.new.at) }
     ensures total { total source.new ≡ total source.old }
 {
@@ -219,7 +235,9 @@ fn read_open_items(alloc: Global, source: &mut Source<'_>, levels: u8) -> Result
 #[cycle(read)]
 #[tactic(auto, unfolding(cbor_model::specs::Reader::map_at))]
 fn read_map(alloc: Global, source: &mut Source<'_>, levels: u8, low: u8, n: u64) -> Result<Value>
-    ensures read { Gives view (total source.old) source.new.rest result (map_at (values_within (total source.old)) (inside (values_within (total source.old)) levels) (width_of low) n source.old.rest) }
+    ensures read { GivesFrom view
+        (λ m. map_at m (inside m levels) (width_of low) n)
+        source.old source.new result }
     ensures forward { OnOk result (source.old.at ≤ source.new.at) }
     ensures total { total source.new ≡ total source.old }
 {
@@ -231,7 +249,9 @@ fn read_map(alloc: Global, source: &mut Source<'_>, levels: u8, low: u8, n: u64)
 /// Reads n pairs, where so many levels are left.
 #[cycle(read)]
 fn read_pairs(alloc: Global, source: &mut Source<'_>, levels: u8, n: u64) -> Result<Map>
-    ensures read { Gives map_view (total source.old) source.new.rest result (made_of (pairs_by (values_within (total source.old)) (item_at (values_within (total source.old)) levels) n source.old.rest)) }
+    ensures read { GivesFrom map_view
+        (λ m bs. made_of (pairs_by m (item_at m levels) n bs))
+        source.old source.new result }
     ensures forward { OnOk result (source.old.at ≤ source.new.at) }
     ensures total { total source.new ≡ total source.old }
 {
@@ -258,7 +278,9 @@ fn put(map: &mut Map, key: Value, value: Value) -> Result<()>
 #[cycle(read)]
 #[tactic(auto, unfolding(cbor_model::specs::Reader::open_map_at))]
 fn read_open_map(alloc: Global, source: &mut Source<'_>, levels: u8) -> Result<Value>
-    ensures read { Gives view (total source.old) source.new.rest result (open_map_at (values_within (total source.old)) (inside (values_within (total source.old)) levels) source.old.rest) }
+    ensures read { GivesFrom view
+        (λ m. open_map_at m (inside m levels))
+        source.old source.new result }
     ensures forward { OnOk result (source.old.at ≤ source.new.at) }
     ensures total { total source.new ≡ total source.old }
 {
@@ -270,7 +292,9 @@ fn read_open_map(alloc: Global, source: &mut Source<'_>, levels: u8) -> Result<V
 /// Reads pairs up to the break, where so many levels are left.
 #[cycle(read)]
 fn read_open_pairs(alloc: Global, source: &mut Source<'_>, levels: u8) -> Result<Map>
-    ensures read { Gives map_view (total source.old) source.new.rest result (made_of (open_pairs_by (values_within (total source.old)) (item_at (values_within (total source.old)) levels) (suc (length source.old.rest)) source.old.rest)) }
+    ensures read { GivesFrom map_view
+        (λ m bs. made_of (open_pairs_by m (item_at m levels) (suc (length bs)) bs))
+        source.old source.new result }
     ensures forward { OnOk result (source.old.at ≤ source.new.at) }
     ensures total { total source.new ≡ total source.old }
 {
@@ -287,7 +311,9 @@ fn read_open_pairs(alloc: Global, source: &mut Source<'_>, levels: u8) -> Result
 #[cycle(read)]
 #[tactic(auto, unfolding(cbor_model::specs::Reader::tag_at))]
 fn read_tag(alloc: Global, source: &mut Source<'_>, levels: u8, low: u8, tag: u64) -> Result<Value>
-    ensures read { Gives view (total source.old) source.new.rest result (tag_at (values_within (total source.old)) (inside (values_within (total source.old)) levels) (width_of low) tag source.old.rest) }
+    ensures read { GivesFrom view
+        (λ m. tag_at m (inside m levels) (width_of low) tag)
+        source.old source.new result }
     ensures forward { OnOk result (source.old.at ≤ source.new.at) }
     ensures total { total source.new ≡ total source.old }
 {
@@ -299,7 +325,7 @@ fn read_tag(alloc: Global, source: &mut Source<'_>, levels: u8, low: u8, tag: u6
 /// Reads what follows a first byte of major type 7.
 #[tactic(auto, unfolding(cbor_model::specs::Reader::simple_at))]
 fn read_simple(source: &mut Source<'_>, low: u8) -> Result<Value>
-    ensures read { Gives view (total source.old) source.new.rest result (simple_at (values_within (total source.old)) low source.old.rest) }
+    ensures read { GivesFrom view (λ m. simple_at m low) source.old source.new result }
     ensures forward { OnOk result (source.old.at ≤ source.new.at) }
     ensures total { total source.new ≡ total source.old }
 {
@@ -317,7 +343,7 @@ fn read_simple(source: &mut Source<'_>, low: u8) -> Result<Value>
 /// Reads the bits of a float.
 #[tactic(auto, unfolding(cbor_model::specs::Reader::float_at))]
 fn read_float(source: &mut Source<'_>, low: u8) -> Result<Float>
-    ensures read { Gives float_view (total source.old) source.new.rest result (float_at (values_within (total source.old)) low source.old.rest) }
+    ensures read { GivesFrom float_view (λ m. float_at m low) source.old source.new result }
     ensures forward { OnOk result (source.old.at ≤ source.new.at) }
     ensures total { total source.new ≡ total source.old }
 {
