@@ -51,7 +51,7 @@ pub write_map-returns-clause-written : goal.write_map-returns-clause-written
 write_map-returns-clause-written t c =
     let listed = ap pair_views c.as_slice.ensures.value ∙ c.iter.ensures in
     map_written c.args.out.now.items c.write_head.new.out.items c.write_pairs.new.out.items c.len.result (map_view c.args.map.now)
-    c.len.ensures c.in_ok-write_head.ensures.written
+    c.len.ensures.listed c.in_ok-write_head.ensures.written
     (c.in_ok-write_pairs.ensures.written ∙ ap (λ (ps : Pairs). c.write_head.new.out.items ++ spell_pairs (canonical_pairs ps)) listed)
 
 pub write_pairs-write_value-requires : goal.write_pairs-write_value-requires
