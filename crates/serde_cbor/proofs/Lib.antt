@@ -1,5 +1,6 @@
 pub mod Chunks
 pub mod Comparing
+pub mod Maps
 pub mod Reading
 pub mod ReadingPairs
 pub mod Views

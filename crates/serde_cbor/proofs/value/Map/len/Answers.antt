@@ -1,7 +1,15 @@
 use Rattle.std.proofs.Common.{◌≡◌, ◌∙◌, sym, ap, rules, length}
 use Rattle.cbor_model.specs.Plain.{pair_count}
+use Rattle.cbor_model.proofs.Pairs.{len-finite_map}
+use Rattle.serde_cbor.specs.View.{map_view}
 use Rattle.serde_cbor.proofs.Views.{map_view_is, pair_count_pair_views}
 use Rattle.serde_cbor.proofs.value.Map.len.Goals as goal
 
-pub returns : goal.returns
-returns c = let same : c.len.result ≡ length c.args.self.now.pairs.items = search rules in same ∙ sym (ap pair_count (map_view_is c.args.self.now) ∙ pair_count_pair_views c.args.self.now.pairs.items)
+pub returns-clause-listed : goal.returns-clause-listed
+returns-clause-listed c =
+    let m = c.args.self.now in
+    let same : c.len.result ≡ length m.pairs.items = search rules in
+    same ∙ sym (ap pair_count (map_view_is m) ∙ pair_count_pair_views m.pairs.items)
+
+pub returns-clause-counted : goal.returns-clause-counted
+returns-clause-counted c = λ ascend. returns-clause-listed c ∙ sym (len-finite_map (map_view c.args.self.now) ascend)

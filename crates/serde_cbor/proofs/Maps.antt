@@ -1,0 +1,147 @@
+-- The place of a key among pairs, and what an insertion and a removal there give.
+use Rattle.std.proofs.Common.{◌≡◌, ℕ, zero, suc, ◌<◌, ◌≤◌, List, [], ◌∷◌, length, get_or, set, Some, None, Ordering, Less, Equal, Greater, refl, sym, ap, subst, ◌∙◌, arith, rules}
+use Rattle.std.specs.Global.{Global}
+use Rattle.std.specs.Prelude.{Vec}
+use Rattle.std.specs.List.{insert, remove}
+use Rattle.std.specs.FinMap as finmap
+use Rattle.std.specs.FinMap.{find}
+use Rattle.cbor_model.specs.Plain.{Val, Pairs, no_pairs, pair}
+use Rattle.cbor_model.specs.Order.{lex, flat}
+use Rattle.cbor_model.specs.Value.{by_order, put}
+use Rattle.cbor_model.specs.Canonical.{IsBelow, KeysAscend, IsOrdered, ArePairsOrdered}
+use Rattle.cbor_model.specs.FiniteMap.{val_cmp, entries, finite_map, without}
+use Rattle.cbor_model.proofs.Pairs.{same_key, IsBelow-trans, get-finite_map, finite_map-put, finite_map-without, KeysAscend-put, KeysAscend-without, KeysAscend-from_IsOrdered, IsOrdered-put, IsOrdered-without}
+use Rattle.serde_cbor.specs.declared.value.Map.{Map}
+use Rattle.serde_cbor.specs.declared.value.Value.{Value, the_lemmas}
+use Rattle.serde_cbor.specs.declared.value.Value.TheViews.{roll-Map}
+use Rattle.serde_cbor.specs.View.{view, map_view, pair_views, StandsAt, BelongsAt}
+
+pub map_view-roll : (v : Vec (Value × Value) Global) → map_view (roll-Map (record { pairs = v })) ≡ pair_views v.items
+map_view-roll v = search (rules, the_lemmas)
+
+-- ---- the search
+
+-- the key is above those of the first i pairs
+abbrev pub Passed : Val → ℕ → Pairs → Type 0
+Passed k zero ps = Unit {0}
+Passed k (suc i) no_pairs = ⊥
+Passed k (suc i) (pair l w ps) = (lex (flat k) (flat l) ≡ Greater) × Passed k i ps
+
+order_at : (k : Val) (p q : Value × Value) (o : Ordering) → p ≡ q → o ≡ lex (flat k) (flat (view p.0)) → lex (flat k) (flat (view q.0)) ≡ o
+order_at k p q o is order = ap (λ (r : Value × Value). lex (flat k) (flat (view r.0))) (sym is) ∙ sym order
+
+pub Passed-suc : (k : Val) (i : ℕ) (ps : List (Value × Value)) (p : Value × Value) → i < length ps → p ≡ get_or ps i p
+    → Greater ≡ lex (flat k) (flat (view p.0)) → Passed k i (pair_views ps) → Passed k (suc i) (pair_views ps)
+Passed-suc k i [] p lt is more passed = absurd (omega arith)
+Passed-suc k zero (q ∷ ps) p lt is more passed = (order_at k p q Greater is more, tt)
+Passed-suc k (suc i) (q ∷ ps) p lt is more passed = (passed.0, Passed-suc k i ps p (omega arith) is more passed.1)
+
+pub StandsAt-passed : (k : Val) (i : ℕ) (ps : List (Value × Value)) (p : Value × Value) → i < length ps → p ≡ get_or ps i p
+    → Equal ≡ lex (flat k) (flat (view p.0)) → Passed k i (pair_views ps) → StandsAt k i (pair_views ps)
+StandsAt-passed k i [] p lt is same passed = absurd (omega arith)
+StandsAt-passed k zero (q ∷ ps) p lt is same passed = order_at k p q Equal is same
+StandsAt-passed k (suc i) (q ∷ ps) p lt is same passed = (passed.0, StandsAt-passed k i ps p (omega arith) is same passed.1)
+
+pub BelongsAt-passed : (k : Val) (i : ℕ) (ps : List (Value × Value)) (p : Value × Value) → i < length ps → p ≡ get_or ps i p
+    → Less ≡ lex (flat k) (flat (view p.0)) → Passed k i (pair_views ps) → BelongsAt k i (pair_views ps)
+BelongsAt-passed k i [] p lt is less passed = absurd (omega arith)
+BelongsAt-passed k zero (q ∷ ps) p lt is less passed = order_at k p q Less is less
+BelongsAt-passed k (suc i) (q ∷ ps) p lt is less passed = (passed.0, BelongsAt-passed k i ps p (omega arith) is less passed.1)
+
+pub BelongsAt-end : (k : Val) (i : ℕ) (ps : List (Value × Value)) → length ps ≤ i → Passed k i (pair_views ps) → BelongsAt k i (pair_views ps)
+BelongsAt-end k zero [] le passed = tt
+BelongsAt-end k (suc i) [] le passed = passed
+BelongsAt-end k zero (q ∷ ps) le passed = absurd (omega arith)
+BelongsAt-end k (suc i) (q ∷ ps) le passed = (passed.0, BelongsAt-end k i ps (omega arith) passed.1)
+
+-- ---- one pair further
+
+put_to : (k v l w : Val) (ps : Pairs) (o : Ordering) → lex (flat k) (flat l) ≡ o → put k v (pair l w ps) ≡ by_order o (pair k v (pair l w ps)) (pair k v ps) (pair l w (put k v ps))
+put_to k v l w ps o is = ap (λ (x : Ordering). by_order x (pair k v (pair l w ps)) (pair k v ps) (pair l w (put k v ps))) is
+
+without_to : (k l w : Val) (ps : Pairs) (o : Ordering) → lex (flat k) (flat l) ≡ o → without k (pair l w ps) ≡ by_order o (pair l w ps) ps (pair l w (without k ps))
+without_to k l w ps o is = ap (λ (x : Ordering). by_order x (pair l w ps) ps (pair l w (without k ps))) is
+
+-- ---- the key is there
+
+pub put-StandsAt : (k : Val) (v : Value) (i : ℕ) (ps : List (Value × Value)) (p : Value × Value) → p ≡ get_or ps i p → StandsAt k i (pair_views ps)
+    → pair_views (set ps i (p.0, v)) ≡ put k (view v) (pair_views ps)
+put-StandsAt k v i [] p is stands = absurd stands
+put-StandsAt k v zero (q ∷ ps) p is stands =
+    ap (λ (x : Val). pair x (view v) (pair_views ps)) (ap (λ (r : Value × Value). view r.0) is ∙ sym (same_key k (view q.0) stands))
+    ∙ sym (put_to k (view v) (view q.0) (view q.1) (pair_views ps) Equal stands)
+put-StandsAt k v (suc i) (q ∷ ps) p is stands =
+    ap (pair (view q.0) (view q.1)) (put-StandsAt k v i ps p is stands.1)
+    ∙ sym (put_to k (view v) (view q.0) (view q.1) (pair_views ps) Greater stands.0)
+
+pub without-StandsAt : (k : Val) (i : ℕ) (ps : List (Value × Value)) → StandsAt k i (pair_views ps) → pair_views (remove ps i) ≡ without k (pair_views ps)
+without-StandsAt k i [] stands = absurd stands
+without-StandsAt k zero (q ∷ ps) stands = sym (without_to k (view q.0) (view q.1) (pair_views ps) Equal stands)
+without-StandsAt k (suc i) (q ∷ ps) stands =
+    ap (pair (view q.0) (view q.1)) (without-StandsAt k i ps stands.1)
+    ∙ sym (without_to k (view q.0) (view q.1) (pair_views ps) Greater stands.0)
+
+find-StandsAt : (k : Val) (i : ℕ) (ps : List (Value × Value)) (p : Value × Value) → p ≡ get_or ps i p → StandsAt k i (pair_views ps)
+    → find val_cmp k (entries (pair_views ps)) ≡ Some (view p.1)
+unfolding val_cmp
+find-StandsAt k i [] p is stands = absurd stands
+find-StandsAt k zero (q ∷ ps) p is stands = rw stands (ap (λ (r : Value × Value). Some (view r.1)) (sym is))
+find-StandsAt k (suc i) (q ∷ ps) p is stands = rw stands.0 (find-StandsAt k i ps p is stands.1)
+
+pub get-StandsAt : (k : Val) (i : ℕ) (ps : List (Value × Value)) (p : Value × Value) → p ≡ get_or ps i p → StandsAt k i (pair_views ps)
+    → Some (view p.1) ≡ finmap.get (finite_map (pair_views ps)) k
+get-StandsAt k i ps p is stands = sym (get-finite_map k (pair_views ps) ∙ find-StandsAt k i ps p is stands)
+
+-- ---- the key is missing
+
+put-IsBelow : (k v : Val) (ps : Pairs) → IsBelow k ps → put k v ps ≡ pair k v ps
+put-IsBelow k v no_pairs below = refl
+put-IsBelow k v (pair l w ps) below = put_to k v l w ps Less below
+
+pub put-BelongsAt : (k v : Value) (i : ℕ) (ps : List (Value × Value)) → BelongsAt (view k) i (pair_views ps)
+    → pair_views (insert ps i (k, v)) ≡ put (view k) (view v) (pair_views ps)
+put-BelongsAt k v zero ps belongs = sym (put-IsBelow (view k) (view v) (pair_views ps) belongs)
+put-BelongsAt k v (suc i) [] belongs = absurd belongs
+put-BelongsAt k v (suc i) (q ∷ ps) belongs =
+    ap (pair (view q.0) (view q.1)) (put-BelongsAt k v i ps belongs.1)
+    ∙ sym (put_to (view k) (view v) (view q.0) (view q.1) (pair_views ps) Greater belongs.0)
+
+pub without-BelongsAt : (k : Val) (i : ℕ) (ps : Pairs) → BelongsAt k i ps → ps ≡ without k ps
+without-BelongsAt k i no_pairs belongs = refl
+without-BelongsAt k zero (pair l w ps) belongs = sym (without_to k l w ps Less belongs)
+without-BelongsAt k (suc i) (pair l w ps) belongs = ap (pair l w) (without-BelongsAt k i ps belongs.1) ∙ sym (without_to k l w ps Greater belongs.0)
+
+find-IsBelow : (k : Val) (ps : Pairs) → IsBelow k ps → KeysAscend ps → find val_cmp k (entries ps) ≡ None
+unfolding val_cmp
+find-IsBelow k no_pairs below ascend = refl
+find-IsBelow k (pair l w ps) below ascend = rw below (find-IsBelow k ps (IsBelow-trans k l ps below ascend.0) ascend.1)
+
+find-BelongsAt : (k : Val) (i : ℕ) (ps : Pairs) → BelongsAt k i ps → KeysAscend ps → find val_cmp k (entries ps) ≡ None
+unfolding val_cmp
+find-BelongsAt k zero ps belongs ascend = find-IsBelow k ps belongs ascend
+find-BelongsAt k (suc i) no_pairs belongs ascend = absurd belongs
+find-BelongsAt k (suc i) (pair l w ps) belongs ascend = rw belongs.0 (find-BelongsAt k i ps belongs.1 ascend.1)
+
+pub get-BelongsAt : (k : Val) (i : ℕ) (ps : Pairs) → BelongsAt k i ps → KeysAscend ps → None ≡ finmap.get (finite_map ps) k
+get-BelongsAt k i ps belongs ascend = sym (get-finite_map k ps ∙ find-BelongsAt k i ps belongs ascend)
+
+-- ---- what follows for the whole map
+
+pub inserted : (k v : Val) (ps qs : Pairs) → (KeysAscend ps → qs ≡ put k v ps) → KeysAscend ps → finite_map qs ≡ finmap.insert (finite_map ps) k v
+inserted k v ps qs is ascend = ap finite_map (is ascend) ∙ finite_map-put k v ps ascend
+
+pub inserted-ascending : (k v : Val) (ps qs : Pairs) → (KeysAscend ps → qs ≡ put k v ps) → KeysAscend ps → KeysAscend qs
+inserted-ascending k v ps qs is ascend = subst KeysAscend (sym (is ascend)) (KeysAscend-put k v ps ascend)
+
+pub inserted-ordered : (k v : Val) (ps qs : Pairs) → (KeysAscend ps → qs ≡ put k v ps) → ArePairsOrdered ps → IsOrdered k → IsOrdered v → ArePairsOrdered qs
+inserted-ordered k v ps qs is ordered key value =
+    subst ArePairsOrdered (sym (is (KeysAscend-from_IsOrdered ps ordered))) (IsOrdered-put k v ps key value ordered)
+
+pub removed : (k : Val) (ps qs : Pairs) → (KeysAscend ps → qs ≡ without k ps) → KeysAscend ps → finite_map qs ≡ finmap.remove (finite_map ps) k
+removed k ps qs is ascend = ap finite_map (is ascend) ∙ finite_map-without k ps ascend
+
+pub removed-ascending : (k : Val) (ps qs : Pairs) → (KeysAscend ps → qs ≡ without k ps) → KeysAscend ps → KeysAscend qs
+removed-ascending k ps qs is ascend = subst KeysAscend (sym (is ascend)) (KeysAscend-without k ps ascend)
+
+pub removed-ordered : (k : Val) (ps qs : Pairs) → (KeysAscend ps → qs ≡ without k ps) → ArePairsOrdered ps → ArePairsOrdered qs
+removed-ordered k ps qs is ordered = subst ArePairsOrdered (sym (is (KeysAscend-from_IsOrdered ps ordered))) (IsOrdered-without k ps ordered)

@@ -1,0 +1,24 @@
+use Rattle.std.proofs.Common.{◌≡◌, Some, refl, ◌∙◌}
+use Rattle.cbor_model.specs.Plain.{Val}
+use Rattle.cbor_model.specs.Value.{put}
+use Rattle.serde_cbor.specs.declared.value.Value.{Value}
+use Rattle.serde_cbor.specs.View.{view, map_view, StandsAt}
+use Rattle.serde_cbor.proofs.Views.{map_view_is}
+use Rattle.serde_cbor.proofs.Maps.{map_view-roll, put-StandsAt, get-StandsAt}
+use Rattle.serde_cbor.proofs.value.Map.replace.Goals as goal
+
+pub returns-clause-before : goal.returns-clause-before
+returns-clause-before c =
+    let m = c.args.self.now in
+    λ k stands.
+    let at = rw (map_view_is m) at stands in
+    rw (c.replace.ensures.value, map_view_is m) (get-StandsAt k c.args.i m.pairs.items c.index_mut-pair.result.now c.index_mut-pair.ensures.value at)
+
+pub returns-clause-listed : goal.returns-clause-listed
+returns-clause-listed c =
+    let m = c.args.self.now in
+    λ k stands.
+    let at = rw (map_view_is m) at stands in
+    map_view-roll _
+    ∙ put-StandsAt k c.replace.new.dest c.args.i m.pairs.items c.index_mut-pair.result.now c.index_mut-pair.ensures.value at
+    ∙ rw (c.replace.ensures.after, map_view_is m) refl

@@ -1,0 +1,124 @@
+//! Maps: their pairs stand in a list, in the order of the keys.
+
+ghost use Rattle.std.specs.Prelude.{◌≡◌, ◌<◌, ◌≤◌, length, IfOk, OnOk, OnErr, IfErr, MatchResult, Some};
+ghost use Rattle.std.specs.Option.{option_map};
+ghost use Rattle.std.specs.Slice.Iter.{iter_rest};
+ghost use Rattle.std.specs.FinMap as finmap;
+ghost use Rattle.cbor_model.specs.Plain as plain;
+ghost use Rattle.cbor_model.specs.Plain.{Val, no_pairs, pair_count};
+ghost use Rattle.cbor_model.specs.Canonical.{KeysAscend, IsOrdered};
+ghost use Rattle.cbor_model.specs.Value.{put};
+ghost use Rattle.cbor_model.specs.FiniteMap.{finite_map, without};
+ghost use Rattle.serde_cbor.specs.Error.{IsOutOfMemory};
+ghost use Rattle.serde_cbor.specs.View.{view, map_view, pair_views, StandsAt, BelongsAt};
+
+use super::{Map, Value};
+use crate::error;
+use std::alloc::Global;
+use std::cmp::Ordering;
+use std::mem;
+use std::slice::Iter;
+
+impl Map {
+    /// A map with no pairs, which grows in this memory. It takes none yet.
+    pub fn new(alloc: Global) -> Map
+        ensures { map_view result ≡ no_pairs }
+    {
+        Map {
+            pairs: Vec::new(alloc),
+        }
+    }
+
+    /// Puts a pair in, and answers the value that the key had before.
+    /// A refused growth leaves the map as it was, and drops the pair: the growth comes first.
+    pub fn insert(&mut self, key: Value, value: Value) -> error::Result<Option<Value>>
+        ensures before { IfOk result (λ before. KeysAscend (map_view self.old) → option_map view before ≡ finmap.get (finite_map (map_view self.old)) (view key)) }
+        ensures inserted { OnOk result (KeysAscend (map_view self.old) → finite_map (map_view self.new) ≡ finmap.insert (finite_map (map_view self.old)) (view key) (view value)) }
+        ensures listed { OnOk result (KeysAscend (map_view self.old) → map_view self.new ≡ put (view key) (view value) (map_view self.old)) }
+        ensures ascending { KeysAscend (map_view self.old) → KeysAscend (map_view self.new) }
+        ensures ordered { IsOrdered (plain.map (map_view self.old)) → IsOrdered (view key) → IsOrdered (view value) → IsOrdered (plain.map (map_view self.new)) }
+        ensures err { OnErr result (map_view self.new ≡ map_view self.old) }
+        ensures memory { IfErr result IsOutOfMemory }
+    {
+        match self.position(&key) {
+            Ok(i) => Ok(Some(self.replace(i, value))),
+            Err(i) => {
+                self.pairs.insert(i, (key, value))?;
+                Ok(None)
+            }
+        }
+    }
+
+    /// The value of a key.
+    pub fn get(&self, key: &Value) -> Option<&Value>
+        ensures { KeysAscend (map_view self.now) → option_map (λ v. view v.now) result ≡ finmap.get (finite_map (map_view self.now)) (view key.now) }
+    {
+        match self.position(key) {
+            Ok(i) => {
+                let pair = &self.pairs[i];
+                Some(&pair.1)
+            }
+            Err(_) => None,
+        }
+    }
+
+    /// Takes a pair out, and answers its value.
+    pub fn remove(&mut self, key: &Value) -> Option<Value>
+        ensures before { KeysAscend (map_view self.old) → option_map view result ≡ finmap.get (finite_map (map_view self.old)) (view key.now) }
+        ensures removed { KeysAscend (map_view self.old) → finite_map (map_view self.new) ≡ finmap.remove (finite_map (map_view self.old)) (view key.now) }
+        ensures listed { KeysAscend (map_view self.old) → map_view self.new ≡ without (view key.now) (map_view self.old) }
+        ensures ascending { KeysAscend (map_view self.old) → KeysAscend (map_view self.new) }
+        ensures ordered { IsOrdered (plain.map (map_view self.old)) → IsOrdered (plain.map (map_view self.new)) }
+    {
+        match self.position(key) {
+            Ok(i) => {
+                let (_, value) = self.pairs.remove(i);
+                Some(value)
+            }
+            Err(_) => None,
+        }
+    }
+
+    /// How many pairs it has.
+    pub fn len(&self) -> usize
+        ensures listed { result ≡ pair_count (map_view self.now) }
+        ensures counted { KeysAscend (map_view self.now) → result ≡ finmap.len (finite_map (map_view self.now)) }
+    {
+        self.pairs.len()
+    }
+
+    /// Its pairs of a key and a value, in the order of the keys.
+    pub fn iter(&self) -> Iter<'_, (Value, Value)>
+        ensures { pair_views (iter_rest result) ≡ map_view self.now }
+    {
+        self.pairs.iter()
+    }
+
+    /// Where the key stands, or else where it belongs.
+    fn position(&self, key: &Value) -> Result<usize, usize>
+        ensures in_range { MatchResult result (λ i. i < length self.now.pairs.items) (λ i. i ≤ length self.now.pairs.items) }
+        ensures found { KeysAscend (map_view self.now) → MatchResult result (λ i. StandsAt (view key.now) i (map_view self.now)) (λ i. BelongsAt (view key.now) i (map_view self.now)) }
+    {
+        let mut i = 0;
+        'pairs: while i < self.pairs.len() {
+            let pair = &self.pairs[i];
+            match key.cmp(&pair.0) {
+                Ordering::Less => return Err(i),
+                Ordering::Equal => return Ok(i),
+                Ordering::Greater => {}
+            }
+            i += 1;
+        }
+        Err(i)
+    }
+
+    /// Gives the i-th pair another value, and answers the one that it had.
+    fn replace(&mut self, i: usize, value: Value) -> Value
+        requires { i < length self.old.pairs.items }
+        ensures before { (k : Val) → StandsAt k i (map_view self.old) → Some (view result) ≡ finmap.get (finite_map (map_view self.old)) k }
+        ensures listed { (k : Val) → StandsAt k i (map_view self.old) → map_view self.new ≡ put k (view value) (map_view self.old) }
+    {
+        let pair = &mut self.pairs[i];
+        mem::replace(&mut pair.1, value)
+    }
+}
