@@ -3,15 +3,189 @@ use crate::error::ErrorCode;
 use crate::ser::to_vec;
 use crate::value::{Float, Value};
 use std::alloc::Global;
+use std::process::Abort;
 use std::test::Fail;
 
-/// What is written of the value that is read, or the text of the refusal.
-fn written(alloc: Global, bytes: &[u8]) -> Result<Result<Vec<u8>, String>, Fail> {
-    match from_slice(alloc, bytes) {
-        Ok(value) => Ok(Ok(to_vec(alloc, &value)?)),
-        Err(e) if e.is_memory() => Err(Fail::from(e)),
-        Err(e) => Ok(Err(e.to_string(alloc)?)),
+/// Each of the bytes is read, and its value is written so.
+fn are_written(
+    rt: &impl Abort,
+    alloc: Global,
+    rows: &[(&'static [u8], &'static [u8])],
+) -> Result<(), Fail> {
+    for (bytes, want) in rows {
+        let written = to_vec(alloc, &from_slice(alloc, bytes)?)?;
+        assert_eq!(rt; written.as_slice(), *want);
     }
+    Ok(())
+}
+
+/// Each of the bytes is refused with this text.
+fn are_refused(
+    rt: &impl Abort,
+    alloc: Global,
+    rows: &[(&'static [u8], &'static str)],
+) -> Result<(), Fail> {
+    for (bytes, want) in rows {
+        let e = from_slice(alloc, bytes).err().ok_or("a value")?;
+        if e.is_memory() {
+            return Err(Fail::from(e));
+        }
+        let text = e.to_string(alloc)?;
+        assert_eq!(rt; text.as_str(), *want);
+    }
+    Ok(())
+}
+
+#[test]
+fn reads_numbers_and_simple_values(rt: HostRuntime) -> Result<(), Fail> {
+    are_written(
+        &rt,
+        rt.alloc(),
+        &[
+            (&[0x18, 0x17], &[0x17]),
+            (&[0x39, 0x01, 0x2b], &[0x39, 0x01, 0x2b]),
+            (&[0x1a, 0, 0, 0, 24], &[0x18, 0x18]),
+            (
+                &[0x3b, 255, 255, 255, 255, 255, 255, 255, 255],
+                &[0x3b, 255, 255, 255, 255, 255, 255, 255, 255],
+            ),
+            (&[0xf4], &[0xf4]),
+            (&[0xf5], &[0xf5]),
+            (&[0xf6], &[0xf6]),
+            (&[0xf7], &[0xf6]),
+            (&[0xf9, 0x3c, 0x00], &[0xf9, 0x3c, 0x00]),
+            (&[0xfa, 0x7f, 0xc0, 0, 1], &[0xfa, 0x7f, 0xc0, 0, 1]),
+            (
+                &[0xfb, 0x3f, 0xf0, 0, 0, 0, 0, 0, 0],
+                &[0xfb, 0x3f, 0xf0, 0, 0, 0, 0, 0, 0],
+            ),
+        ],
+    )
+}
+
+#[test]
+fn reads_strings_and_chunks(rt: HostRuntime) -> Result<(), Fail> {
+    are_written(
+        &rt,
+        rt.alloc(),
+        &[
+            (&[0x5b, 0, 0, 0, 0, 0, 0, 0, 2, 1, 0x23], &[0x42, 1, 0x23]),
+            (&[0x62, 0xc3, 0xa9], &[0x62, 0xc3, 0xa9]),
+            (&[0x7f, 0x61, 0xc3, 0x61, 0xa9, 0xff], &[0x62, 0xc3, 0xa9]),
+            (
+                &[0x7f, 0x61, 0xf0, 0x61, 0x9f, 0x61, 0x92, 0x61, 0x94, 0xff],
+                &[0x64, 0xf0, 0x9f, 0x92, 0x94],
+            ),
+            (&[0x5f, 0xff], &[0x40]),
+            (&[0x7f, 0xff], &[0x60]),
+            (
+                b"\x82\x7f\x65Mary \x64Had \x62a \x67Little \x60\x64Lamb\xff\x5f\x42\x01\x23\x42\x45\x67\xff",
+                b"\x82\x76Mary Had a Little Lamb\x44\x01\x23\x45\x67",
+            ),
+        ],
+    )
+}
+
+#[test]
+fn reads_arrays_and_tags(rt: HostRuntime) -> Result<(), Fail> {
+    are_written(
+        &rt,
+        rt.alloc(),
+        &[
+            (&[0x83, 1, 2, 3], &[0x83, 1, 2, 3]),
+            (&[0x98, 0x01, 0x80], &[0x81, 0x80]),
+            (&[0x9f, 0xff], &[0x80]),
+            (
+                b"\xc1\x82\xc2\x63foo\xc3\xa1\xc4\x61a\xc5\x61b",
+                b"\xc1\x82\xc2\x63foo\xc3\xa1\xc4\x61a\xc5\x61b",
+            ),
+            (b"\xd9\xd9\xf7\x66foobar", b"\xd9\xd9\xf7\x66foobar"),
+        ],
+    )
+}
+
+#[test]
+fn reads_maps(rt: HostRuntime) -> Result<(), Fail> {
+    are_written(
+        &rt,
+        rt.alloc(),
+        &[
+            (&[0xbf, 2, 0, 1, 0, 0xff], &[0xa2, 1, 0, 2, 0]),
+            (&[0xa2, 1, 0, 0x18, 1, 2], &[0xa1, 1, 2]),
+            (&[0xa2, 0xf6, 1, 0xf7, 2], &[0xa1, 0xf6, 2]),
+            (
+                &[0xa2, 0x82, 0, 0, 0xf6, 0x81, 0x18, 0x64, 0xf6],
+                &[0xa2, 0x81, 0x18, 0x64, 0xf6, 0x82, 0, 0, 0xf6],
+            ),
+            (&[0xbf, 0xff], &[0xa0]),
+            (&[0xa0], &[0xa0]),
+        ],
+    )
+}
+
+#[test]
+fn refuses_the_end_of_input(rt: HostRuntime) -> Result<(), Fail> {
+    are_refused(
+        &rt,
+        rt.alloc(),
+        &[
+            (&[], "EOF while parsing a value"),
+            (&[0x19, 0x01], "EOF while parsing a value at offset 2"),
+            (&[0x82, 0x01], "EOF while parsing a value at offset 2"),
+            (&[0xc1], "EOF while parsing a value at offset 1"),
+            (&[0x5f, 0x41], "EOF while parsing a value at offset 2"),
+            (&[0x7f, 0x61, 0x61], "EOF while parsing a value at offset 3"),
+            (&[0xbf, 0x01], "EOF while parsing a value at offset 2"),
+            (&[0xbf], "EOF while parsing a map at offset 1"),
+            (&[0xbf, 0x01, 0x02], "EOF while parsing a map at offset 3"),
+            (&[0x9f], "EOF while parsing an array at offset 1"),
+            (&[0x9f, 0x01], "EOF while parsing an array at offset 2"),
+        ],
+    )
+}
+
+#[test]
+fn refuses_first_bytes(rt: HostRuntime) -> Result<(), Fail> {
+    are_refused(
+        &rt,
+        rt.alloc(),
+        &[
+            (&[0xf8, 0x20], "unassigned type at offset 1"),
+            (&[0xbc], "unassigned type at offset 1"),
+            (&[0x1f], "unassigned type at offset 1"),
+            (&[0xdf], "unassigned type at offset 1"),
+            (&[0x5c], "unassigned type at offset 1"),
+            (&[0xff], "unexpected code at offset 1"),
+            (&[0x81, 0xff], "unexpected code at offset 2"),
+            (&[0xbf, 0x61, 0x61, 0xff], "unexpected code at offset 4"),
+            (&[0x7f, 0x7f], "unexpected code at offset 2"),
+            (&[0x5f, 0x61, 0x61, 0xff], "unexpected code at offset 2"),
+            (&[0x7f, 0x40, 0xff], "unexpected code at offset 2"),
+            (&[0x5f, 0x5c], "unexpected code at offset 2"),
+        ],
+    )
+}
+
+#[test]
+fn refuses_texts_and_what_follows(rt: HostRuntime) -> Result<(), Fail> {
+    are_refused(
+        &rt,
+        rt.alloc(),
+        &[
+            (&[0x62, 0xc3, 0x28], "invalid UTF-8 at offset 1"),
+            (&[0x62, 0x61, 0xff], "invalid UTF-8 at offset 2"),
+            (&[0x82, 0x62, 0xc3, 0x28, 0x1c], "invalid UTF-8 at offset 2"),
+            (
+                &[0x7f, 0x61, 0xc3, 0x61, 0x28, 0xff],
+                "invalid UTF-8 at offset 4",
+            ),
+            (
+                &[0x7f, 0x61, 0xf0, 0x61, 0x9f, 0xff],
+                "invalid UTF-8 at offset 4",
+            ),
+            (b"\xf4trailing", "trailing data at offset 2"),
+        ],
+    )
 }
 
 #[test]
@@ -39,173 +213,42 @@ fn takes_no_memory_for_a_claimed_length(rt: HostRuntime) -> Result<(), Fail> {
 }
 
 #[test]
-fn reads_what_is_written(rt: HostRuntime) -> Result<(), Fail> {
-    for (bytes, want) in [
-        (&[0x18, 0x17][..], &[0x17][..]),
-        (&[0xf7], &[0xf6]),
-        (&[0xf4], &[0xf4]),
-        (&[0xf5], &[0xf5]),
-        (&[0x83, 1, 2, 3], &[0x83, 1, 2, 3]),
-        (&[0x39, 0x01, 0x2b], &[0x39, 0x01, 0x2b]),
-        (&[0x1a, 0, 0, 0, 24], &[0x18, 0x18]),
-        (&[0x5b, 0, 0, 0, 0, 0, 0, 0, 2, 1, 0x23], &[0x42, 1, 0x23]),
-        (&[0x62, 0xc3, 0xa9], &[0x62, 0xc3, 0xa9]),
-        (&[0x98, 0x01, 0x80], &[0x81, 0x80]),
-        (&[0xbf, 2, 0, 1, 0, 0xff], &[0xa2, 1, 0, 2, 0]),
-        (&[0xa2, 1, 0, 0x18, 1, 2], &[0xa1, 1, 2]),
-        (&[0xa2, 0xf6, 1, 0xf7, 2], &[0xa1, 0xf6, 2]),
-        (
-            &[0xa2, 0x82, 0, 0, 0xf6, 0x81, 0x18, 0x64, 0xf6],
-            &[0xa2, 0x81, 0x18, 0x64, 0xf6, 0x82, 0, 0, 0xf6],
-        ),
-        (&[0xbf, 0xff], &[0xa0]),
-        (&[0x9f, 0xff], &[0x80]),
-        (&[0x5f, 0xff], &[0x40]),
-        (&[0x7f, 0xff], &[0x60]),
-        (
-            b"\x82\x7f\x65Mary \x64Had \x62a \x67Little \x60\x64Lamb\xff\x5f\x42\x01\x23\x42\x45\x67\xff",
-            b"\x82\x76Mary Had a Little Lamb\x44\x01\x23\x45\x67",
-        ),
-        (&[0x7f, 0x61, 0xc3, 0x61, 0xa9, 0xff], &[0x62, 0xc3, 0xa9]),
-        (
-            b"\xc1\x82\xc2\x63foo\xc3\xa1\xc4\x61a\xc5\x61b",
-            b"\xc1\x82\xc2\x63foo\xc3\xa1\xc4\x61a\xc5\x61b",
-        ),
-        (b"\xd9\xd9\xf7\x66foobar", b"\xd9\xd9\xf7\x66foobar"),
-        (&[0xf9, 0x3c, 0x00], &[0xf9, 0x3c, 0x00]),
-        (&[0xfa, 0x7f, 0xc0, 0, 1], &[0xfa, 0x7f, 0xc0, 0, 1]),
-        (
-            &[0xfb, 0x3f, 0xf0, 0, 0, 0, 0, 0, 0],
-            &[0xfb, 0x3f, 0xf0, 0, 0, 0, 0, 0, 0],
-        ),
-        (
-            &[0x3b, 255, 255, 255, 255, 255, 255, 255, 255],
-            &[0x3b, 255, 255, 255, 255, 255, 255, 255, 255],
-        ),
-    ] {
-        let answer = written(rt.alloc(), bytes)?.ok().ok_or("a refusal")?;
-        assert_eq!(rt; answer.as_slice(), want);
-    }
-    Ok(())
-}
-
-#[test]
-fn refuses_with_the_place(rt: HostRuntime) -> Result<(), Fail> {
-    for (bytes, want) in [
-        (&[][..], "EOF while parsing a value"),
-        (
-            &[0x7b, 255, 255, 255, 255, 255, 255, 255, 255],
-            "length out of range at offset 9",
-        ),
-        (
-            &[0x5b, 255, 255, 255, 255, 255, 255, 255, 255],
-            "EOF while parsing a value at offset 9",
-        ),
-        (
-            &[0x9b, 255, 255, 255, 255, 255, 255, 255, 255],
-            "EOF while parsing a value at offset 9",
-        ),
-        (&[0x82, 0x01], "EOF while parsing a value at offset 2"),
-        (&[0x19, 0x01], "EOF while parsing a value at offset 2"),
-        (&[0x62, 0xc3, 0x28], "invalid UTF-8 at offset 1"),
-        (&[0x63, 0x61, 0x62, 0xff], "invalid UTF-8 at offset 3"),
-        (b"\xf4trailing", "trailing data at offset 2"),
-        (&[0xf8, 0x20], "unassigned type at offset 1"),
-        (&[0xbc], "unassigned type at offset 1"),
-        (&[0xdf], "unassigned type at offset 1"),
-        (&[0x5c], "unassigned type at offset 1"),
-        (&[0x1f], "unassigned type at offset 1"),
-        (&[0xff], "unexpected code at offset 1"),
-        (&[0x81, 0xff], "unexpected code at offset 2"),
-        (&[0xbf, 0x61, 0x61, 0xff], "unexpected code at offset 4"),
-        (&[0x7f, 0x7f], "unexpected code at offset 2"),
-        (&[0x5f, 0x61, 0x61, 0xff], "unexpected code at offset 2"),
-        (&[0x7f, 0x40, 0xff], "unexpected code at offset 2"),
-        (&[0x5f, 0x5c], "unexpected code at offset 2"),
-        (
-            &[0x7f, 0x61, 0xc3, 0x61, 0x28, 0xff],
-            "invalid UTF-8 at offset 4",
-        ),
-        (
-            &[0x7f, 0x61, 0xf0, 0x61, 0x9f, 0xff],
-            "invalid UTF-8 at offset 4",
-        ),
-        (&[0xbf], "EOF while parsing a map at offset 1"),
-        (&[0xbf, 0x01], "EOF while parsing a value at offset 2"),
-        (&[0xbf, 0x01, 0x02], "EOF while parsing a map at offset 3"),
-        (&[0x9f], "EOF while parsing an array at offset 1"),
-        (&[0x9f, 0x01], "EOF while parsing an array at offset 2"),
-        (&[0x5f, 0x41], "EOF while parsing a value at offset 2"),
-        (&[0x7f, 0x61, 0x61], "EOF while parsing a value at offset 3"),
-        (&[0xc1], "EOF while parsing a value at offset 1"),
-        (
-            &[0xbb, 255, 255, 255, 255, 255, 255, 255, 255],
-            "EOF while parsing a value at offset 9",
-        ),
-        (
-            &[0xdb, 255, 255, 255, 255, 255, 255, 255, 255],
-            "EOF while parsing a value at offset 9",
-        ),
-        (
-            &[0x5f, 0x5b, 255, 255, 255, 255, 255, 255, 255, 255],
-            "EOF while parsing a value at offset 10",
-        ),
-        (
-            &[0x7f, 0x7b, 255, 255, 255, 255, 255, 255, 255, 255],
-            "EOF while parsing a value at offset 10",
-        ),
-    ] {
-        let answer = written(rt.alloc(), bytes)?.err().ok_or("a value")?;
-        assert_eq!(rt; answer.as_str(), want);
-    }
-    Ok(())
-}
-
-#[test]
 fn nests_127_levels(rt: HostRuntime) -> Result<(), Fail> {
     let mut bytes = [0x81; 128];
     bytes[127] = 0x00;
-    let answer = written(rt.alloc(), &bytes)?.ok().ok_or("a refusal")?;
-    assert_eq!(rt; answer.as_slice(), bytes.as_slice());
-    let mut deeper = [0x81; 129];
-    deeper[128] = 0x00;
-    let answer = written(rt.alloc(), &deeper)?.err().ok_or("a value")?;
-    assert_eq!(rt; answer.as_str(), "recursion limit exceeded at offset 128");
+    let written = to_vec(rt.alloc(), &from_slice(rt.alloc(), &bytes)?)?;
+    assert_eq!(rt; written.as_slice(), bytes.as_slice());
     Ok(())
 }
 
 #[test]
-fn reads_many_items(rt: HostRuntime) -> Result<(), Fail> {
-    let mut bytes = [0xf6; 259];
-    bytes[0] = 0x99;
-    bytes[1] = 0x01;
-    bytes[2] = 0x00;
-    let answer = written(rt.alloc(), &bytes)?.ok().ok_or("a refusal")?;
-    assert_eq!(rt; answer.as_slice(), bytes.as_slice());
+fn refuses_the_128th_level(rt: HostRuntime) -> Result<(), Fail> {
+    for opening in [0x81, 0x9f, 0xc1, 0xd1] {
+        let mut deeper = [opening; 129];
+        deeper[128] = 0x00;
+        let e = from_slice(rt.alloc(), &deeper).err().ok_or("a value")?;
+        if e.is_memory() {
+            return Err(Fail::from(e));
+        }
+        assert!(rt; matches!(e.code(), ErrorCode::RecursionLimitExceeded));
+        assert_eq!(rt; e.offset(), 128);
+    }
     Ok(())
 }
 
 #[test]
-fn reads_an_open_array(rt: HostRuntime) -> Result<(), Fail> {
-    let mut open = [0xf6; 258];
-    open[0] = 0x9f;
-    open[257] = 0xff;
+fn reads_256_items(rt: HostRuntime) -> Result<(), Fail> {
     let mut definite = [0xf6; 259];
     definite[0] = 0x99;
     definite[1] = 0x01;
     definite[2] = 0x00;
-    let answer = written(rt.alloc(), &open)?.ok().ok_or("a refusal")?;
-    assert_eq!(rt; answer.as_slice(), definite.as_slice());
-    Ok(())
-}
-
-#[test]
-fn counts_each_kind_of_level(rt: HostRuntime) -> Result<(), Fail> {
-    for opening in [0x81, 0x9f, 0xc1, 0xd1] {
-        let deep = [opening; 129];
-        let answer = written(rt.alloc(), &deep)?.err().ok_or("a value")?;
-        assert_eq!(rt; answer.as_str(), "recursion limit exceeded at offset 128");
-    }
+    let written = to_vec(rt.alloc(), &from_slice(rt.alloc(), &definite)?)?;
+    assert_eq!(rt; written.as_slice(), definite.as_slice());
+    let mut open = [0xf6; 258];
+    open[0] = 0x9f;
+    open[257] = 0xff;
+    let written = to_vec(rt.alloc(), &from_slice(rt.alloc(), &open)?)?;
+    assert_eq!(rt; written.as_slice(), definite.as_slice());
     Ok(())
 }
 
