@@ -1,11 +1,9 @@
 -- Why a run stops, and what it has done by then.
-use Rattle.std.proofs.Common.{◌≡◌, ◌≢◌, ℕ, ◌+◌, ◌==◌, Bool, true, false, List, [], ◌∷◌, ◌++◌, length, Option, Result, inl, inr, refl, sym, ap, ◌∙◌, arith, append_assoc, append-nil, length-append}
-use Rattle.std.specs.Prelude.{IfErr, IfSome, None, Some}
-use Rattle.std.specs.Result.{IsErrAnd}
+use Rattle.std.proofs.Common.{◌≡◌, ◌≢◌, ℕ, ◌+◌, ◌==◌, Bool, true, false, List, [], ◌∷◌, ◌++◌, length, Option, inl, inr, refl, sym, ap, ◌∙◌, arith, append_assoc, append-nil, length-append}
+use Rattle.std.specs.Prelude.{IfSome, None, Some}
 use Rattle.std.specs.Io.KnownBytes.{Consumes, IsAtEnd}
 use Rattle.std.proofs.KnownBytes.{Consumes-nil, Consumes-kept, Consumes-trans}
 use Rattle.std.proofs.lemmas.List.Elements.{All-append, All-cons, All-nil}
-use Rattle.std.proofs.lemmas.Result.{err_from_is_err_and}
 use Rattle.std.proofs.lemmas.Bool.{eqb-true}
 use Rattle.std.proofs.lemmas.Bool.Decides.{nat_tests}
 use Rattle.cbor_model.specs.Program.{lines}
@@ -18,12 +16,6 @@ use Rattle.cbor_tool.specs.Run.{AppendsAnswers, StopsAtWriter, IsStoppedBy, IsSt
 use Rattle.cbor_tool.specs.Steps.{IsInLine, IsNextLine, StopsAtByteBy, StopsAtByte, StopsReadingBy, StopsReading, StopsAnsweringBy, StopsAnswering}
 use Rattle.cbor_tool.proofs.Lines.{IsWhole, IsWhole-nil, IsWhole-line, lines-last, ended_lines-last, ended_lines-whole, lines-whole_line}
 use Rattle.cbor_tool.proofs.Answers.{AppendsAnswers-nil, AppendsAnswers-append, AppendsAnswers-kept}
-
--- what a `?` returns of an error with Q
-pub IfErr-exit : {T : Type 0} {Q : Error → Type 0} (r : Result T Error) (P : Error → Type 0) → IsErrAnd r Q → ((e : Error) → Q e → P e) → IfErr r P
-IfErr-exit r P h f =
-    let (e, is, holds) = err_from_is_err_and r h in
-    rw is (f e holds)
 
 pub IsInLine-more : (line : List ℕ) (b : ℕ) → IsInLine line → b ≢ 0x0a → IsInLine (line ++ b ∷ [])
 IsInLine-more line b h ne = All-append (λ x. x ≢ 0x0a) line (b ∷ []) h (All-cons (λ x. x ≢ 0x0a) b [] ne (All-nil (λ x. x ≢ 0x0a)))

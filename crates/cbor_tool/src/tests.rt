@@ -1,6 +1,5 @@
 use crate::program::run;
 use serde_cbor::Result;
-use serde_cbor::error::Error;
 use std::alloc::Global;
 use std::io;
 use std::io::{ErrorKind, Read, Write};

@@ -1,14 +1,13 @@
 use Rattle.std.proofs.Common.{ap, ◌∙◌}
-use Rattle.std.proofs.lemmas.Result.{on_ok_weaker}
+use Rattle.std.proofs.lemmas.Result.{err_from_is_err_and, on_ok_weaker}
 use Rattle.cbor_model.specs.Program.{hex}
 use Rattle.cbor_tool.proofs.Answers.{IsAnswerTo-canonical, IsAnswerTo-refused, IsOutOfMemory-not_written}
-use Rattle.cbor_tool.proofs.Stops.{IfErr-exit}
 use Rattle.cbor_tool.proofs.program.answer_bytes.Goals as goal
 
 pub returns-in_err-spelling-in-Ok-clause-err : goal.returns-in_err-spelling-in-Ok-clause-err
 returns-in_err-spelling-in-Ok-clause-err c =
-    IfErr-exit c.from_residual.result _ c.from_residual.ensures.1
-    (λ e is. rw is (IsOutOfMemory-not_written _ _ _ c.in-Ok.ensures.found c.in_err-spelling-in-Ok.ensures.refused))
+    let p = err_from_is_err_and c.from_residual.result c.from_residual.ensures.1 in
+    rw (p.1, p.2) (IsOutOfMemory-not_written _ _ _ c.in-Ok.ensures.found c.in_err-spelling-in-Ok.ensures.refused)
 
 pub returns-in_ok-spelling-in-Ok-clause-ok : goal.returns-in_ok-spelling-in-Ok-clause-ok
 returns-in_ok-spelling-in-Ok-clause-ok c =

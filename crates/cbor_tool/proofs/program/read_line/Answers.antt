@@ -1,12 +1,13 @@
 use Rattle.std.proofs.Common.{arith}
-use Rattle.cbor_tool.proofs.Stops.{IfErr-exit, StopsReading-at_byte, StopsReading-out_of_memory}
+use Rattle.std.proofs.lemmas.Result.{err_from_is_err_and}
+use Rattle.cbor_tool.proofs.Stops.{StopsReading-at_byte, StopsReading-out_of_memory}
 use Rattle.cbor_tool.proofs.program.read_line.Goals as goal
 
 pub returns-in_err-byte-clause-err : goal.returns-in_err-byte-clause-err
 returns-in_err-byte-clause-err g c =
     let before = c.bytes.invariant in
-    IfErr-exit c.from_residual.result _ c.from_residual.ensures.1
-    (λ e is. rw is (StopsReading-at_byte _ _ _ _ _ _ _ before.in_line before.counted before.consumed c.in_err-byte.ensures.err))
+    let p = err_from_is_err_and c.from_residual.result c.from_residual.ensures.1 in
+    rw (p.1, p.2) (StopsReading-at_byte _ _ _ _ _ _ _ before.in_line before.counted before.consumed c.in_err-byte.ensures.err)
 
 pub bytes-smaller : goal.bytes-smaller
 bytes-smaller g c = let next = rw c.in-Some.is at c.in_ok-byte.ensures.ok in omega (arith, next.0)
@@ -15,5 +16,5 @@ pub returns-in_err-push-clause-err : goal.returns-in_err-push-clause-err
 returns-in_err-push-clause-err g c =
     let before = c.bytes.invariant in
     let next = rw c.in-Some.is at c.in_ok-byte.ensures.ok in
-    IfErr-exit c.from_residual-in_err-push.result _ c.from_residual-in_err-push.ensures.1
-    (λ e is. StopsReading-out_of_memory e _ _ _ _ _ _ before.in_line c.if-byte-eq10.false before.consumed next.2 is)
+    let p = err_from_is_err_and c.from_residual-in_err-push.result c.from_residual-in_err-push.ensures.1 in
+    rw p.1 (StopsReading-out_of_memory p.0 _ _ _ _ _ _ before.in_line c.if-byte-eq10.false before.consumed next.2 p.2)

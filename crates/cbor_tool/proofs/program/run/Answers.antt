@@ -1,5 +1,6 @@
 use Rattle.std.proofs.Common.{◌≢◌, [], arith}
-use Rattle.cbor_tool.proofs.Stops.{IfErr-exit, not_empty, empty, HasAnswered-none, HasAnswered-line, AppendsAnswers-all, AppendsAnswers-whole, IsStopped-reading, IsStopped-at_line, IsStopped-at_last}
+use Rattle.std.proofs.lemmas.Result.{err_from_is_err_and}
+use Rattle.cbor_tool.proofs.Stops.{not_empty, empty, HasAnswered-none, HasAnswered-line, AppendsAnswers-all, AppendsAnswers-whole, IsStopped-reading, IsStopped-at_line, IsStopped-at_last}
 use Rattle.cbor_tool.proofs.program.run.Goals as goal
 use Rattle.cbor_tool.proofs.program.run.Goals.{then-not-is_empty+in_ok-write_answer-2, else-not-is_empty}
 
@@ -8,8 +9,8 @@ lines-init g c = HasAnswered-none _ _
 
 pub returns-in_err-read_line-clause-stopped : goal.returns-in_err-read_line-clause-stopped
 returns-in_err-read_line-clause-stopped g c =
-    IfErr-exit c.from_residual.result _ c.from_residual.ensures.1
-    (λ e is. rw is (IsStopped-reading _ _ _ _ _ _ _ c.lines.invariant c.in_err-read_line.ensures.err))
+    let p = err_from_is_err_and c.from_residual.result c.from_residual.ensures.1 in
+    rw (p.1, p.2) (IsStopped-reading _ _ _ _ _ _ _ c.lines.invariant c.in_err-read_line.ensures.err)
 
 pub lines-smaller : goal.lines-smaller
 lines-smaller g c = let next = rw c.in-Newline.is at c.in_ok-read_line.ensures.ok in omega (arith, next.1, next.2)
@@ -22,15 +23,15 @@ lines-preserved g c =
 pub returns-in_err-write_answer-clause-stopped : goal.returns-in_err-write_answer-clause-stopped
 returns-in_err-write_answer-clause-stopped g c =
     let next = rw c.in-Newline.is at c.in_ok-read_line.ensures.ok in
-    IfErr-exit c.from_residual-in_err-write_answer.result _ c.from_residual-in_err-write_answer.ensures.1
-    (λ e is. rw is (IsStopped-at_line _ _ _ _ _ _ _ _ (g.W.Write.contents c.lines.writer) _ c.lines.invariant next c.in_err-write_answer.ensures.err))
+    let p = err_from_is_err_and c.from_residual-in_err-write_answer.result c.from_residual-in_err-write_answer.ensures.1 in
+    rw (p.1, p.2) (IsStopped-at_line _ _ _ _ _ _ _ _ (g.W.Write.contents c.lines.writer) _ c.lines.invariant next c.in_err-write_answer.ensures.err)
 
 pub returns-in_err-write_answer-2-clause-stopped : goal.returns-in_err-write_answer-2-clause-stopped
 returns-in_err-write_answer-2-clause-stopped g c =
     let next = rw c.in_default.is at c.in_ok-read_line.ensures.ok in
     let begun : c.read_line.new.line.items ≢ [] = not_empty _ _ _ c.read_line.new.line.ok.0 c.is_empty.ensures c.if-not-is_empty.true in
-    IfErr-exit c.from_residual-in_err-write_answer-2.result _ c.from_residual-in_err-write_answer-2.ensures.1
-    (λ e is. rw is (IsStopped-at_last _ _ _ c.read_line.new.taken _ _ _ _ (g.W.Write.contents c.lines.writer) _ c.lines.invariant next begun c.in_err-write_answer-2.ensures.err))
+    let p = err_from_is_err_and c.from_residual-in_err-write_answer-2.result c.from_residual-in_err-write_answer-2.ensures.1 in
+    rw (p.1, p.2) (IsStopped-at_last _ _ _ c.read_line.new.taken _ _ _ _ (g.W.Write.contents c.lines.writer) _ c.lines.invariant next begun c.in_err-write_answer-2.ensures.err)
 
 pub returns-clause-answers : goal.returns-clause-answers
 returns-clause-answers g c =
