@@ -1,5 +1,7 @@
 //! Any value that CBOR spells, as a tree.
 
+mod clone;
+mod from;
 mod order;
 mod pairs;
 
