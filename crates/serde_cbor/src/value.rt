@@ -49,3 +49,6 @@ pub enum Value {
 pub struct Map {
     pairs: Vec<(Value, Value)>,
 }
+
+#[cfg(test)]
+mod tests;
