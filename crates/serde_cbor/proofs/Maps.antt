@@ -1,11 +1,13 @@
 -- The place of a key among pairs, and what an insertion and a removal there give.
-use Rattle.std.proofs.Common.{◌≡◌, ℕ, zero, suc, ◌<◌, ◌≤◌, List, [], ◌∷◌, length, get_or, set, Some, None, Ordering, Less, Equal, Greater, refl, sym, ap, subst, ◌∙◌, arith, rules}
+use Rattle.std.proofs.Common.{◌≡◌, ℕ, zero, suc, ◌+◌, ◌<◌, ◌≤◌, List, [], ◌∷◌, ◌++◌, length, map, take, get_or, set, Some, None, Ordering, Less, Equal, Greater, refl, sym, ap, ap₂, subst, ◌∙◌, add-one, arith, rules}
+use Rattle.std.proofs.Math.Seq.{take-suc}
+use Rattle.std.proofs.lemmas.List.{map-append, take_all}
 use Rattle.std.specs.Global.{Global}
 use Rattle.std.specs.Prelude.{Vec}
 use Rattle.std.specs.List.{insert, remove}
 use Rattle.std.specs.FinMap as finmap
 use Rattle.std.specs.FinMap.{find}
-use Rattle.cbor_model.specs.Plain.{Val, Pairs, no_pairs, pair}
+use Rattle.cbor_model.specs.Plain.{Val, Vals, Pairs, no_pairs, pair}
 use Rattle.cbor_model.specs.Order.{lex, flat}
 use Rattle.cbor_model.specs.Value.{by_order, put}
 use Rattle.cbor_model.specs.Canonical.{IsBelow, KeysAscend, IsOrdered, ArePairsOrdered}
@@ -14,7 +16,7 @@ use Rattle.cbor_model.proofs.Pairs.{same_key, IsBelow-trans, get-finite_map, fin
 use Rattle.serde_cbor.specs.declared.value.Map.{Map}
 use Rattle.serde_cbor.specs.declared.value.Value.{Value, the_lemmas}
 use Rattle.serde_cbor.specs.declared.value.Value.TheViews.{roll-Map}
-use Rattle.serde_cbor.specs.View.{view, map_view, pair_views, StandsAt, BelongsAt}
+use Rattle.serde_cbor.specs.View.{view, views, vals_of, pairs_of, map_view, pair_views, StandsAt, BelongsAt}
 
 pub map_view-roll : (v : Vec (Value × Value) Global) → map_view (roll-Map (record { pairs = v })) ≡ pair_views v.items
 map_view-roll v = search (rules, the_lemmas)
@@ -145,3 +147,23 @@ removed-ascending k ps qs is ascend = subst KeysAscend (sym (is ascend)) (KeysAs
 
 pub removed-ordered : (k : Val) (ps qs : Pairs) → (KeysAscend ps → qs ≡ without k ps) → ArePairsOrdered ps → ArePairsOrdered qs
 removed-ordered k ps qs is ordered = subst ArePairsOrdered (sym (is (KeysAscend-from_IsOrdered ps ordered))) (IsOrdered-without k ps ordered)
+
+-- ---- copies
+
+abbrev pub both_views : Value × Value → Val × Val
+both_views p = (view p.0, view p.1)
+
+pub copied_more : {A B : Type 0} (f : A → B) (ys xs : List A) (i : ℕ) (y x : A) → i < length xs → x ≡ get_or xs i x → f y ≡ f x → map f ys ≡ map f (take i xs)
+    → map f (ys ++ y ∷ []) ≡ map f (take (i + 1) xs)
+copied_more f ys xs i y x lt is same before =
+    let more : take (i + 1) xs ≡ take i xs ++ x ∷ [] = rw add-one (take-suc xs i x lt ∙ ap (λ z. take i xs ++ z ∷ []) (sym is)) in
+    map-append f ys (y ∷ [])
+    ∙ ap₂ (λ a b. a ++ b ∷ []) before same
+    ∙ sym (map-append f (take i xs) (x ∷ []))
+    ∙ ap (map f) (sym more)
+
+pub copied_views : (ys xs : List Value) (i : ℕ) → length xs ≤ i → map view ys ≡ map view (take i xs) → views ys ≡ views xs
+copied_views ys xs i le same = ap vals_of (same ∙ ap (map view) (take_all i xs le))
+
+pub copied_pairs : (ys xs : List (Value × Value)) (i : ℕ) → length xs ≤ i → map both_views ys ≡ map both_views (take i xs) → pair_views ys ≡ pair_views xs
+copied_pairs ys xs i le same = ap pairs_of (same ∙ ap (map both_views) (take_all i xs le))

@@ -1,5 +1,7 @@
 //! Any value that CBOR spells, as a tree.
 
+mod clone;
+mod from;
 mod order;
 mod pairs;
 
@@ -47,3 +49,6 @@ pub enum Value {
 pub struct Map {
     pairs: Vec<(Value, Value)>,
 }
+
+#[cfg(test)]
+mod tests;

@@ -1,0 +1,166 @@
+use super::{Float, Map, Value};
+use std::alloc::{AllocError, Global};
+use std::cmp::Ordering;
+use std::test::Fail;
+
+fn text(alloc: Global, text: &str) -> Result<Value, AllocError> {
+    Ok(Value::Text(text.to_owned(alloc)?))
+}
+
+fn bytes(alloc: Global, bytes: &[u8]) -> Result<Value, AllocError> {
+    Ok(Value::Bytes(bytes.to_owned(alloc)?))
+}
+
+fn tag(alloc: Global, tag: u64, value: Value) -> Result<Value, AllocError> {
+    let inner = match Box::new(alloc, value) {
+        Ok(inner) => inner,
+        Err(_) => return Err(AllocError),
+    };
+    Ok(Value::Tag(tag, inner))
+}
+
+#[test]
+fn keeps_one_pair_of_a_key(rt: HostRuntime) -> Result<(), Fail> {
+    let alloc = rt.alloc();
+    let mut map = Map::new(alloc);
+    assert_eq!(rt; map.insert(Value::Integer(1), text(alloc, "a")?)?, None);
+    assert_eq!(rt; map.insert(Value::Integer(1), text(alloc, "b")?)?, Some(text(alloc, "a")?));
+    assert_eq!(rt; map.len(), 1);
+    assert_eq!(rt; map.get(&Value::Integer(1)), Some(&text(alloc, "b")?));
+    assert_eq!(rt; map.get(&Value::Integer(2)), None);
+    assert_eq!(rt; map.remove(&Value::Integer(2)), None);
+    assert_eq!(rt; map.len(), 1);
+    assert_eq!(rt; map.remove(&Value::Integer(1)), Some(text(alloc, "b")?));
+    assert_eq!(rt; map.len(), 0);
+    assert_eq!(rt; map.remove(&Value::Integer(1)), None);
+    Ok(())
+}
+
+#[test]
+fn iterates_in_key_order(rt: HostRuntime) -> Result<(), Fail> {
+    let alloc = rt.alloc();
+    let mut map = Map::new(alloc);
+    let keys = vec![in alloc;
+        Value::Integer(2),
+        Value::Integer(1),
+        text(alloc, "z")?,
+        Value::Integer(-1),
+        Value::Integer(10),
+    ]?;
+    let mut i = 0;
+    for key in keys {
+        map.insert(key, Value::Integer(i))?;
+        i += 1;
+    }
+    let wanted = vec![in alloc;
+        (Value::Integer(1), Value::Integer(1)),
+        (Value::Integer(2), Value::Integer(0)),
+        (Value::Integer(10), Value::Integer(4)),
+        (Value::Integer(-1), Value::Integer(3)),
+        (text(alloc, "z")?, Value::Integer(2)),
+    ]?;
+    assert_eq!(rt; map.iter().as_slice(), wanted.as_slice());
+    map.remove(&Value::Integer(10));
+    assert_eq!(rt; map.len(), 4);
+    assert_eq!(rt; map.get(&Value::Integer(-1)), Some(&Value::Integer(3)));
+    assert_eq!(rt; map.get(&Value::Integer(10)), None);
+    Ok(())
+}
+
+#[test]
+fn sorts_values(rt: HostRuntime) -> Result<(), Fail> {
+    let alloc = rt.alloc();
+    let mut integers = Vec::new(alloc);
+    for i in [
+        0, 23, 24, 255, 256, 65535, 65536, 4294967295, -1, -24, -25, -256, -257, -65536, -65537,
+        -4294967296,
+    ] {
+        integers.push(Value::Integer(i))?;
+    }
+    let mut texts = Vec::new(alloc);
+    for word in ["", "a", "b", "aa"] {
+        texts.push(text(alloc, word)?)?;
+    }
+    let mut strings = Vec::new(alloc);
+    for string in [&[][..], &[0], &[1], &[0, 0]] {
+        strings.push(bytes(alloc, string)?)?;
+    }
+    let simple = vec![in alloc; Value::Bool(false), Value::Bool(true), Value::Null]?;
+    let kinds = vec![in alloc;
+        Value::Integer(0),
+        Value::Integer(-1),
+        bytes(alloc, &[])?,
+        text(alloc, "")?,
+        Value::Null,
+    ]?;
+    let mixed = vec![in alloc;
+        Value::Integer(10),
+        Value::Integer(100),
+        Value::Integer(-1),
+        text(alloc, "z")?,
+        text(alloc, "aa")?,
+        Value::Array(vec![in alloc; Value::Integer(100)]?),
+        Value::Array(vec![in alloc; Value::Integer(-1)]?),
+        Value::Bool(false),
+    ]?;
+    for list in vec![in alloc; integers, texts, strings, simple, kinds, mixed]? {
+        let mut backward = Vec::new(alloc);
+        for value in &list {
+            backward.insert(0, value.clone(alloc)?)?;
+        }
+        backward.sort()?;
+        assert_eq!(rt; backward, list);
+    }
+    assert_eq!(rt;
+        Value::Integer(i128::MIN).cmp(&Value::Integer(-18446744073709551616)),
+        Ordering::Greater
+    );
+    Ok(())
+}
+
+#[test]
+fn copies_equal_values(rt: HostRuntime) -> Result<(), Fail> {
+    let alloc = rt.alloc();
+    let mut map = Map::new(alloc);
+    map.insert(text(alloc, "b")?, Value::Array(vec![in alloc; Value::Integer(-7), Value::Null]?))?;
+    map.insert(text(alloc, "a")?, tag(alloc, 1, Value::Bool(true))?)?;
+    assert_eq!(rt; map.clone(alloc)?.iter().as_slice(), map.iter().as_slice());
+    let rows = [
+        Value::Null,
+        Value::Float(Float::Single(0x7fc0_0001)),
+        bytes(alloc, b"\x01\x02")?,
+        tag(alloc, 55799, Value::Map(map))?,
+    ];
+    for value in &rows {
+        assert_eq!(rt; value.clone(alloc)?, *value);
+    }
+    Ok(())
+}
+
+#[test]
+fn makes_values(rt: HostRuntime) -> Result<(), Fail> {
+    let alloc = rt.alloc();
+    let rows = [
+        (Value::from(true), Value::Bool(true)),
+        (Value::from(-1i8), Value::Integer(-1)),
+        (Value::from(i16::MIN), Value::Integer(-32768)),
+        (Value::from(-3i32), Value::Integer(-3)),
+        (Value::from(i64::MIN), Value::Integer(-9223372036854775808)),
+        (Value::from(255u8), Value::Integer(255)),
+        (Value::from(6u16), Value::Integer(6)),
+        (Value::from(7u32), Value::Integer(7)),
+        (Value::from(u64::MAX), Value::Integer(18446744073709551615)),
+        (Value::from(Float::Half(0x3c00)), Value::Float(Float::Half(0x3c00))),
+        (Value::from(Vec::from_slice(alloc, b"ab")?), bytes(alloc, b"ab")?),
+        (Value::from("ab".to_owned(alloc)?), text(alloc, "ab")?),
+        (
+            Value::from(vec![in alloc; Value::Null]?),
+            Value::Array(vec![in alloc; Value::Null]?),
+        ),
+        (Value::from(Map::new(alloc)), Value::Map(Map::new(alloc))),
+    ];
+    for (made, value) in &rows {
+        assert_eq!(rt; *made, *value);
+    }
+    Ok(())
+}
