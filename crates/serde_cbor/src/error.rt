@@ -8,6 +8,9 @@ ghost use Rattle.serde_cbor.specs.declared.error.Category.TheVariants as categor
 use std::alloc::{AllocError, AllocFailed, Global};
 use std::{error, fmt, io};
 
+#[cfg(test)]
+mod tests;
+
 /// What the calls of this crate answer.
 pub type Result<T> = std::result::Result<T, Error>;
 

@@ -24,7 +24,10 @@ fn keeps_one_pair_of_a_key(rt: HostRuntime) -> Result<(), Fail> {
     let alloc = rt.alloc();
     let mut map = Map::new(alloc);
     assert_eq!(rt; map.insert(Value::Integer(1), text(alloc, "a")?)?, None);
-    assert_eq!(rt; map.insert(Value::Integer(1), text(alloc, "b")?)?, Some(text(alloc, "a")?));
+    assert_eq!(rt;
+        map.insert(Value::Integer(1), text(alloc, "b")?)?,
+        Some(text(alloc, "a")?)
+    );
     assert_eq!(rt; map.len(), 1);
     assert_eq!(rt; map.get(&Value::Integer(1)), Some(&text(alloc, "b")?));
     assert_eq!(rt; map.get(&Value::Integer(2)), None);
@@ -72,7 +75,21 @@ fn sorts_values(rt: HostRuntime) -> Result<(), Fail> {
     let alloc = rt.alloc();
     let mut integers = Vec::new(alloc);
     for i in [
-        0, 23, 24, 255, 256, 65535, 65536, 4294967295, -1, -24, -25, -256, -257, -65536, -65537,
+        0,
+        23,
+        24,
+        255,
+        256,
+        65535,
+        65536,
+        4294967295,
+        -1,
+        -24,
+        -25,
+        -256,
+        -257,
+        -65536,
+        -65537,
         -4294967296,
     ] {
         integers.push(Value::Integer(i))?;
@@ -122,7 +139,10 @@ fn sorts_values(rt: HostRuntime) -> Result<(), Fail> {
 fn copies_equal_values(rt: HostRuntime) -> Result<(), Fail> {
     let alloc = rt.alloc();
     let mut map = Map::new(alloc);
-    map.insert(text(alloc, "b")?, Value::Array(vec![in alloc; Value::Integer(-7), Value::Null]?))?;
+    map.insert(
+        text(alloc, "b")?,
+        Value::Array(vec![in alloc; Value::Integer(-7), Value::Null]?),
+    )?;
     map.insert(text(alloc, "a")?, tag(alloc, 1, Value::Bool(true))?)?;
     assert_eq!(rt; map.clone(alloc)?.iter().as_slice(), map.iter().as_slice());
     let rows = [
@@ -150,8 +170,14 @@ fn makes_values(rt: HostRuntime) -> Result<(), Fail> {
         (Value::from(6u16), Value::Integer(6)),
         (Value::from(7u32), Value::Integer(7)),
         (Value::from(u64::MAX), Value::Integer(18446744073709551615)),
-        (Value::from(Float::Half(0x3c00)), Value::Float(Float::Half(0x3c00))),
-        (Value::from(Vec::from_slice(alloc, b"ab")?), bytes(alloc, b"ab")?),
+        (
+            Value::from(Float::Half(0x3c00)),
+            Value::Float(Float::Half(0x3c00)),
+        ),
+        (
+            Value::from(Vec::from_slice(alloc, b"ab")?),
+            bytes(alloc, b"ab")?,
+        ),
         (Value::from("ab".to_owned(alloc)?), text(alloc, "ab")?),
         (
             Value::from(vec![in alloc; Value::Null]?),
