@@ -40,6 +40,22 @@ fn keeps_one_pair_of_a_key(rt: HostRuntime) -> Result<(), Fail> {
 }
 
 #[test]
+fn keeps_a_map_that_cannot_grow(rt: HostRuntime) -> Result<(), Fail> {
+    let alloc = rt.alloc();
+    let mut map = Map::new(alloc);
+    for i in 0..9 {
+        let before = Value::Map(map.clone(alloc)?);
+        if let Err(e) = map.insert(Value::Integer(i), Value::Null) {
+            assert!(rt; e.is_memory());
+            assert!(rt; Value::Map(map) == before);
+            return Err(Fail::from(e));
+        }
+    }
+    assert_eq!(rt; map.len(), 9);
+    Ok(())
+}
+
+#[test]
 fn iterates_in_key_order(rt: HostRuntime) -> Result<(), Fail> {
     let alloc = rt.alloc();
     let mut map = Map::new(alloc);
