@@ -13,10 +13,23 @@ use crate::error::{ErrorCode, Result};
 use crate::value::{Float, Map, Value};
 use std::alloc::Global;
 
-// The major types of the chunks of a string.
+// The major types (RFC 7049, section 2.1), which the upper three bits of a first byte say.
+const UNSIGNED: u8 = 0;
+
+const NEGATIVE: u8 = 1;
+
 const BYTES: u8 = 2;
 
 const TEXT: u8 = 3;
+
+const ARRAY: u8 = 4;
+
+const MAP: u8 = 5;
+
+const SIMPLE: u8 = 7;
+
+// The lower five bits of the first byte of an open form or of a chunked string.
+const OPEN: u8 = 31;
 
 /// Reads an item, where so many levels are left.
 #[cycle(read)]
@@ -42,10 +55,10 @@ fn read_after(alloc: Global, source: &mut Source<'_>, levels: u8, first: u8) -> 
 {
     let major = first / 32;
     let low = first % 32;
-    if major == 7 {
+    if major == SIMPLE {
         return read_simple(source, low);
     }
-    if low == 31 {
+    if low == OPEN {
         return read_open(alloc, source, levels, major);
     }
     let n = source.number(low)?;
@@ -70,15 +83,15 @@ fn read_content(
     ensures total { total source.new ≡ total source.old }
 {
     match major {
-        0 => Ok(Value::Integer(n as i128)),
-        1 => Ok(Value::Integer(-1 - n as i128)),
-        2 => {
+        UNSIGNED => Ok(Value::Integer(n as i128)),
+        NEGATIVE => Ok(Value::Integer(-1 - n as i128)),
+        BYTES => {
             let bytes = source.take(n)?;
             Ok(Value::Bytes(Vec::from_slice(alloc, bytes)?))
         }
-        3 => read_text(alloc, source, low, n),
-        4 => read_array(alloc, source, levels, low, n),
-        5 => read_map(alloc, source, levels, low, n),
+        TEXT => read_text(alloc, source, low, n),
+        ARRAY => read_array(alloc, source, levels, low, n),
+        MAP => read_map(alloc, source, levels, low, n),
         _ => read_tag(alloc, source, levels, low, n),
     }
 }
@@ -94,10 +107,10 @@ fn read_open(alloc: Global, source: &mut Source<'_>, levels: u8, major: u8) -> R
     ensures total { total source.new ≡ total source.old }
 {
     match major {
-        2 => read_byte_chunks(alloc, source),
-        3 => read_text_chunks(alloc, source),
-        4 => read_open_array(alloc, source, levels),
-        5 => read_open_map(alloc, source, levels),
+        BYTES => read_byte_chunks(alloc, source),
+        TEXT => read_text_chunks(alloc, source),
+        ARRAY => read_open_array(alloc, source, levels),
+        MAP => read_open_map(alloc, source, levels),
         _ => Err(source.fault(ErrorCode::UnassignedCode)),
     }
 }
@@ -322,7 +335,7 @@ fn read_tag(alloc: Global, source: &mut Source<'_>, levels: u8, low: u8, tag: u6
     Ok(Value::Tag(tag, Box::new(alloc, value)?))
 }
 
-/// Reads what follows a first byte of major type 7.
+/// Reads what follows a first byte of major type 7 (RFC 7049, section 2.3).
 #[tactic(auto, unfolding(cbor_model::specs::Reader::simple_at))]
 fn read_simple(source: &mut Source<'_>, low: u8) -> Result<Value>
     ensures read { GivesFrom view (λ m. simple_at m low) source.old source.new result }
