@@ -24,7 +24,10 @@ fn keeps_one_pair_of_a_key(rt: HostRuntime) -> Result<(), Fail> {
     let alloc = rt.alloc();
     let mut map = Map::new(alloc);
     assert_eq!(rt; map.insert(Value::Integer(1), text(alloc, "a")?)?, None);
-    assert_eq!(rt; map.insert(Value::Integer(1), text(alloc, "b")?)?, Some(text(alloc, "a")?));
+    assert_eq!(rt;
+        map.insert(Value::Integer(1), text(alloc, "b")?)?,
+        Some(text(alloc, "a")?)
+    );
     assert_eq!(rt; map.len(), 1);
     assert_eq!(rt; map.get(&Value::Integer(1)), Some(&text(alloc, "b")?));
     assert_eq!(rt; map.get(&Value::Integer(2)), None);
@@ -40,17 +43,15 @@ fn keeps_one_pair_of_a_key(rt: HostRuntime) -> Result<(), Fail> {
 fn iterates_in_key_order(rt: HostRuntime) -> Result<(), Fail> {
     let alloc = rt.alloc();
     let mut map = Map::new(alloc);
-    let keys = vec![in alloc;
-        Value::Integer(2),
-        Value::Integer(1),
-        text(alloc, "z")?,
-        Value::Integer(-1),
-        Value::Integer(10),
+    let pairs = vec![in alloc;
+        (Value::Integer(2), Value::Integer(0)),
+        (Value::Integer(1), Value::Integer(1)),
+        (text(alloc, "z")?, Value::Integer(2)),
+        (Value::Integer(-1), Value::Integer(3)),
+        (Value::Integer(10), Value::Integer(4)),
     ]?;
-    let mut i = 0;
-    for key in keys {
-        map.insert(key, Value::Integer(i))?;
-        i += 1;
+    for (key, value) in pairs {
+        map.insert(key, value)?;
     }
     let wanted = vec![in alloc;
         (Value::Integer(1), Value::Integer(1)),
@@ -72,7 +73,21 @@ fn sorts_values(rt: HostRuntime) -> Result<(), Fail> {
     let alloc = rt.alloc();
     let mut integers = Vec::new(alloc);
     for i in [
-        0, 23, 24, 255, 256, 65535, 65536, 4294967295, -1, -24, -25, -256, -257, -65536, -65537,
+        0,
+        23,
+        24,
+        255,
+        256,
+        65535,
+        65536,
+        4294967295,
+        -1,
+        -24,
+        -25,
+        -256,
+        -257,
+        -65536,
+        -65537,
         -4294967296,
     ] {
         integers.push(Value::Integer(i))?;
@@ -122,7 +137,10 @@ fn sorts_values(rt: HostRuntime) -> Result<(), Fail> {
 fn copies_equal_values(rt: HostRuntime) -> Result<(), Fail> {
     let alloc = rt.alloc();
     let mut map = Map::new(alloc);
-    map.insert(text(alloc, "b")?, Value::Array(vec![in alloc; Value::Integer(-7), Value::Null]?))?;
+    map.insert(
+        text(alloc, "b")?,
+        Value::Array(vec![in alloc; Value::Integer(-7), Value::Null]?),
+    )?;
     map.insert(text(alloc, "a")?, tag(alloc, 1, Value::Bool(true))?)?;
     assert_eq!(rt; map.clone(alloc)?.iter().as_slice(), map.iter().as_slice());
     let rows = [
@@ -150,8 +168,14 @@ fn makes_values(rt: HostRuntime) -> Result<(), Fail> {
         (Value::from(6u16), Value::Integer(6)),
         (Value::from(7u32), Value::Integer(7)),
         (Value::from(u64::MAX), Value::Integer(18446744073709551615)),
-        (Value::from(Float::Half(0x3c00)), Value::Float(Float::Half(0x3c00))),
-        (Value::from(Vec::from_slice(alloc, b"ab")?), bytes(alloc, b"ab")?),
+        (
+            Value::from(Float::Half(0x3c00)),
+            Value::Float(Float::Half(0x3c00)),
+        ),
+        (
+            Value::from(Vec::from_slice(alloc, b"ab")?),
+            bytes(alloc, b"ab")?,
+        ),
         (Value::from("ab".to_owned(alloc)?), text(alloc, "ab")?),
         (
             Value::from(vec![in alloc; Value::Null]?),
