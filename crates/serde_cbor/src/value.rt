@@ -43,7 +43,7 @@ pub enum Value {
     Tag(u64, Box<Value>),
 }
 
-/// A map from values to values, which lists its pairs.
+/// A map from values to values, which lists its pairs in the order of the keys.
 #[cycle(value)]
 #[derive(Debug, Drop)]
 pub struct Map {

@@ -9,10 +9,10 @@ use crate::error::Result;
 use std::alloc::Global;
 
 impl Value {
-    /// An equal value in this memory. A refused growth drops what was copied.
+    /// An equal value in this memory. A refused growth drops what was copied until then.
     ///
-    /// ```
-    /// let copy = value.clone(rt.alloc())?;
+    /// ```rust
+    /// let copy = value.clone(alloc)?;
     /// ```
     pub fn clone(&self, alloc: Global) -> Result<Value>
         ensures equal { IfOk result (λ v. view v ≡ view self.now) }
@@ -23,7 +23,7 @@ impl Value {
 }
 
 impl Map {
-    /// An equal map in this memory. A refused growth drops what was copied.
+    /// An equal map in this memory. A refused growth drops what was copied until then.
     pub fn clone(&self, alloc: Global) -> Result<Map>
         ensures equal { IfOk result (λ m. map_view m ≡ map_view self.now) }
         ensures memory { IfErr result IsOutOfMemory }

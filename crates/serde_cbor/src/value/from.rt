@@ -15,7 +15,7 @@ impl From<bool> for Value {
     }
 }
 
-/// A whole number.
+/// A whole number, as `Value::from(-1i8)` is `Value::Integer(-1)`.
 impl From<i8> for Value {
     ghost from_gives = { λ n v. view v ≡ plain.integer n };
 
@@ -105,7 +105,7 @@ impl From<Vec<u8>> for Value {
     }
 }
 
-/// A text.
+/// A text, as `Value::from("a".to_owned(alloc)?)`.
 impl From<String> for Value {
     ghost from_gives = { λ text v. view v ≡ plain.text (string_bytes text) };
 

@@ -21,6 +21,10 @@ use std::slice::Iter;
 
 impl Map {
     /// A map with no pairs, which grows in this memory. It takes none yet.
+    ///
+    /// ```rust
+    /// let mut map = Map::new(rt.alloc());
+    /// ```
     pub fn new(alloc: Global) -> Map
         ensures { map_view result ≡ no_pairs }
     {
@@ -30,7 +34,15 @@ impl Map {
     }
 
     /// Puts a pair in, and answers the value that the key had before.
-    /// A refused growth leaves the map as it was, and drops the pair: the growth comes first.
+    ///
+    /// The map grows only where the key is new. A refused growth leaves the map as it was, and drops
+    /// the pair: the growth comes first.
+    ///
+    /// ```rust
+    /// let mut map = Map::new(alloc);
+    /// assert_eq!(rt; map.insert(Value::Integer(1), Value::Null)?, None);
+    /// assert_eq!(rt; map.insert(Value::Integer(1), Value::Bool(true))?, Some(Value::Null));
+    /// ```
     pub fn insert(&mut self, key: Value, value: Value) -> error::Result<Option<Value>>
         ensures before { IfOk result (λ before. KeysAscend (map_view self.old) → option_map view before ≡ finmap.get (finite_map (map_view self.old)) (view key)) }
         ensures inserted { OnOk result (KeysAscend (map_view self.old) → finite_map (map_view self.new) ≡ finmap.insert (finite_map (map_view self.old)) (view key) (view value)) }
@@ -49,7 +61,13 @@ impl Map {
         }
     }
 
-    /// The value of a key.
+    /// The value of a key, or `None` where the map lacks the key.
+    ///
+    /// ```rust
+    /// if let Some(value) = map.get(&Value::Integer(1)) {
+    ///     ..
+    /// }
+    /// ```
     pub fn get(&self, key: &Value) -> Option<&Value>
         ensures { KeysAscend (map_view self.now) → option_map (λ v. view v.now) result ≡ finmap.get (finite_map (map_view self.now)) (view key.now) }
     {
@@ -62,7 +80,9 @@ impl Map {
         }
     }
 
-    /// Takes a pair out, and answers its value.
+    /// Takes a key's pair out, and answers its value. It takes no memory.
+    ///
+    /// Where the map lacks the key it stays as it was, and the answer is `None`.
     pub fn remove(&mut self, key: &Value) -> Option<Value>
         ensures before { KeysAscend (map_view self.old) → option_map view result ≡ finmap.get (finite_map (map_view self.old)) (view key.now) }
         ensures removed { KeysAscend (map_view self.old) → finite_map (map_view self.new) ≡ finmap.remove (finite_map (map_view self.old)) (view key.now) }
@@ -88,6 +108,12 @@ impl Map {
     }
 
     /// Its pairs of a key and a value, in the order of the keys.
+    ///
+    /// ```rust
+    /// for (key, value) in map.iter() {
+    ///     ..
+    /// }
+    /// ```
     pub fn iter(&self) -> Iter<'_, (Value, Value)>
         ensures { pair_views (iter_rest result) ≡ map_view self.now }
     {

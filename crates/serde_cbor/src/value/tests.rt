@@ -59,17 +59,15 @@ fn keeps_a_map_that_cannot_grow(rt: HostRuntime) -> Result<(), Fail> {
 fn iterates_in_key_order(rt: HostRuntime) -> Result<(), Fail> {
     let alloc = rt.alloc();
     let mut map = Map::new(alloc);
-    let keys = vec![in alloc;
-        Value::Integer(2),
-        Value::Integer(1),
-        text(alloc, "z")?,
-        Value::Integer(-1),
-        Value::Integer(10),
+    let pairs = vec![in alloc;
+        (Value::Integer(2), Value::Integer(0)),
+        (Value::Integer(1), Value::Integer(1)),
+        (text(alloc, "z")?, Value::Integer(2)),
+        (Value::Integer(-1), Value::Integer(3)),
+        (Value::Integer(10), Value::Integer(4)),
     ]?;
-    let mut i = 0;
-    for key in keys {
-        map.insert(key, Value::Integer(i))?;
-        i += 1;
+    for (key, value) in pairs {
+        map.insert(key, value)?;
     }
     let wanted = vec![in alloc;
         (Value::Integer(1), Value::Integer(1)),

@@ -1,4 +1,3 @@
-use Rattle.std.proofs.Common.{◌≡◌}
 use Rattle.serde_cbor.specs.View.{view, map_view}
 use Rattle.serde_cbor.proofs.Views.{map_view_is}
 use Rattle.serde_cbor.proofs.Maps.{get-StandsAt, get-BelongsAt}

@@ -1,6 +1,5 @@
-use Rattle.std.proofs.Common.{◌≡◌, ◌+◌, ◌<◌, ◌≤◌, length, Less, Equal, Greater, sym, ◌∙◌, add-one, rules, arith}
-use Rattle.cbor_model.specs.Order.{lex, flat}
-use Rattle.serde_cbor.specs.View.{view, flat_of}
+use Rattle.std.proofs.Common.{◌<◌, length, sym, ◌∙◌, add-one, rules, arith}
+use Rattle.serde_cbor.specs.View.{flat_of}
 use Rattle.serde_cbor.proofs.Views.{map_view_is}
 use Rattle.serde_cbor.proofs.Maps.{Passed-suc, StandsAt-passed, BelongsAt-passed, BelongsAt-end}
 use Rattle.serde_cbor.proofs.value.Map.position.Goals as goal

@@ -1,4 +1,4 @@
-use Rattle.std.proofs.Common.{◌≡◌, ◌∙◌, sym, ap, rules, refl}
+use Rattle.std.proofs.Common.{◌∙◌, sym, ap}
 use Rattle.cbor_model.specs.FiniteMap.{without}
 use Rattle.serde_cbor.specs.View.{view, map_view}
 use Rattle.serde_cbor.proofs.Views.{map_view_is}

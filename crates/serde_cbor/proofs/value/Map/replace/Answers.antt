@@ -1,8 +1,4 @@
-use Rattle.std.proofs.Common.{◌≡◌, Some, refl, ◌∙◌}
-use Rattle.cbor_model.specs.Plain.{Val}
-use Rattle.cbor_model.specs.Value.{put}
-use Rattle.serde_cbor.specs.declared.value.Value.{Value}
-use Rattle.serde_cbor.specs.View.{view, map_view, StandsAt}
+use Rattle.std.proofs.Common.{refl, ◌∙◌}
 use Rattle.serde_cbor.proofs.Views.{map_view_is}
 use Rattle.serde_cbor.proofs.Maps.{map_view-roll, put-StandsAt, get-StandsAt}
 use Rattle.serde_cbor.proofs.value.Map.replace.Goals as goal

@@ -1,5 +1,5 @@
-use Rattle.std.proofs.Common.{◌≡◌, rules}
-use Rattle.serde_cbor.specs.View.{view, views, pair_views}
+use Rattle.std.proofs.Common.{◌≡◌}
+use Rattle.serde_cbor.specs.View.{view}
 use Rattle.serde_cbor.proofs.Maps.{both_views, copied_more, copied_views, copied_pairs}
 use Rattle.serde_cbor.proofs.value.clone.+copy.Goals as goal
 

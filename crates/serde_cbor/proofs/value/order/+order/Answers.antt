@@ -1,10 +1,9 @@
-use Rattle.std.proofs.Common.{◌≡◌, ℕ, ◌+◌, ◌<◌, ◌≤◌, length, drop, Ordering, Equal, nat_cmp, List, refl, sym, ap, ◌∙◌, arith, rules}
+use Rattle.std.proofs.Common.{◌≡◌, ◌+◌, length, drop, Ordering, Equal, nat_cmp, List, sym, ap, ◌∙◌, arith}
 use Rattle.std.specs.Ordering.{ordering_then}
-use Rattle.cbor_model.specs.Order.{lex, flat}
 use Rattle.cbor_model.specs.Plain as plain
 use Rattle.serde_cbor.specs.declared.value.Value.{Value}
 use Rattle.serde_cbor.specs.View.{view, pair_views}
-use Rattle.serde_cbor.proofs.Comparing.{stays, same_len, rest_order, turn, ended, bodies, bodies_differ, rest_pairs, pair_turn, pairs_ended, pair_bodies, pair_bodies_differ, view-Map, key_decides, value_decides, both_tied}
+use Rattle.serde_cbor.proofs.Comparing.{stays, rest_order, turn, ended, bodies, bodies_differ, rest_pairs, pair_turn, pairs_ended, pair_bodies, pair_bodies_differ, view-Map, key_decides, value_decides, both_tied}
 use Rattle.serde_cbor.proofs.value.order.+order.Goals as goal
 
 pub cmp_items-returns-in_default : goal.cmp_items-returns-in_default
