@@ -1,6 +1,7 @@
 use super::{Float, Map, Value};
 use std::alloc::{AllocError, Global};
 use std::cmp::Ordering;
+use std::process::Abort;
 use std::test::Fail;
 
 fn text(alloc: Global, text: &str) -> Result<Value, AllocError> {
@@ -39,17 +40,24 @@ fn keeps_one_pair_of_a_key(rt: HostRuntime) -> Result<(), Fail> {
     Ok(())
 }
 
+/// Inserts a key. Where the growth is refused, the map is as it was.
+fn insert_or_keep(rt: &impl Abort, alloc: Global, map: &mut Map, key: Value) -> Result<(), Fail> {
+    let before = Value::Map(map.clone(alloc)?);
+    match map.insert(key, Value::Null) {
+        Ok(_) => Ok(()),
+        Err(e) => {
+            assert!(rt; e.is_memory());
+            assert!(rt; Value::Map(map.clone(alloc)?) == before);
+            Err(Fail::from(e))
+        }
+    }
+}
+
 #[test]
 fn keeps_a_map_that_cannot_grow(rt: HostRuntime) -> Result<(), Fail> {
-    let alloc = rt.alloc();
-    let mut map = Map::new(alloc);
-    for i in 0..9 {
-        let before = Value::Map(map.clone(alloc)?);
-        if let Err(e) = map.insert(Value::Integer(i), Value::Null) {
-            assert!(rt; e.is_memory());
-            assert!(rt; Value::Map(map) == before);
-            return Err(Fail::from(e));
-        }
+    let mut map = Map::new(rt.alloc());
+    for key in 0..9u8 {
+        insert_or_keep(&rt, rt.alloc(), &mut map, Value::from(key))?;
     }
     assert_eq!(rt; map.len(), 9);
     Ok(())
