@@ -1,8 +1,8 @@
 -- No value's list begins another's of the same shape, so lists joined end to end compare part by part.
-use Rattle.std.proofs.Common.{◌≡◌, ℕ, suc, pred, ◌<◌, Bool, true, false, List, [], ◌∷◌, ◌++◌, length, pos, negsuc, nat_cmp, Ordering, Less, Equal, Greater, refl, sym, ap, ◌∙◌, append_assoc, arith}
+use Rattle.std.proofs.Common.{◌≡◌, ℕ, pred, ◌<◌, Bool, List, [], ◌∷◌, ◌++◌, length, pos, negsuc, nat_cmp, Ordering, Less, Equal, Greater, refl, sym, ap, ◌∙◌, append_assoc, arith}
 use Rattle.std.proofs.lemmas.Cmp.{ranked, tied_itself, nat_cmp_total}
 use Rattle.std.specs.Ordering.{ordering_then, MatchOrdering}
-use Rattle.cbor_model.specs.Raw.{FloatWidth, half, single, double}
+use Rattle.cbor_model.specs.Raw.{FloatWidth}
 use Rattle.cbor_model.specs.Plain.{Val, null, bool, integer, float, bytes, text, array, map, tag, Vals, no_vals, val, Pairs, no_pairs, pair, count, pair_count}
 use Rattle.cbor_model.specs.Order.{lex, flat, flat_all, flat_pairs, kind, body, bool_code, float_code}
 use Rattle.cbor_model.proofs.Same.{flat-is, bool_code-lt, lt-float_code}

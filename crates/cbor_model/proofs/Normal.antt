@@ -2,7 +2,7 @@
 use Rattle.std.proofs.Common.{◌≡◌, ℕ, ◌^◌, ◌<◌, List, [], length, refl, sym, ap, subst, ◌∙◌, arith}
 use Rattle.std.proofs.lemmas.List.{append-nil}
 use Rattle.cbor_model.specs.Spelling.{spell}
-use Rattle.cbor_model.specs.Acceptable.{IsAcceptable, IsAcceptableWithin, max_depth}
+use Rattle.cbor_model.specs.Acceptable.{IsAcceptable, max_depth}
 use Rattle.cbor_model.specs.Plain.{Val}
 use Rattle.cbor_model.specs.Value.{value}
 use Rattle.cbor_model.specs.Canonical.{IsOrdered, canonical, canon}

@@ -1,13 +1,12 @@
 -- Equal lists are equal values, and the order of values is total.
 use Rattle.std.proofs.Common.{◌≡◌, ℕ, pred, ◌<◌, Bool, true, false, List, [], ◌∷◌, ◌++◌, length, pos, negsuc, refl, sym, ap, ap₂, ◌∙◌, append_assoc, arith}
-use Rattle.std.specs.Prelude.{ℤ}
 use Rattle.std.specs.Cmp.{IsTotalOrder, on_total}
 use Rattle.std.specs.Cmp.Lexicographic.{nat_list_cmp_total}
 use Rattle.std.proofs.lemmas.List.{append-nil}
 use Rattle.std.proofs.lemmas.Map.Lookups.{CmpEqualImpliesEq, exact_bytes}
 use Rattle.cbor_model.specs.Raw.{FloatWidth, half, single, double}
 use Rattle.cbor_model.specs.Plain.{Val, null, bool, integer, float, bytes, text, array, map, tag, Vals, no_vals, val, Pairs, no_pairs, pair, count, pair_count}
-use Rattle.cbor_model.specs.Order.{flat, flat_all, flat_pairs, kind, magnitude, bool_code, float_code, body}
+use Rattle.cbor_model.specs.Order.{flat, flat_all, flat_pairs, kind, bool_code, float_code, body}
 use Rattle.cbor_model.specs.FiniteMap.{val_cmp}
 
 pub flat-is : (v : Val) → flat v ≡ kind v ∷ body v

@@ -1,6 +1,6 @@
 -- Reading the chunks of a string one after the other, as a loop does.
-use Rattle.std.proofs.Common.{◌≡◌, ℕ, zero, suc, ◌+◌, ◌≤◌, ◌<◌, true, false, eqb, cond, List, [], ◌∷◌, ◌++◌, length, Ok, Err, Result, refl, sym, ap, ap₂, ◌∙◌, append_assoc, arith}
-use Rattle.std.proofs.lemmas.Bool.{eq-eqb, ne_eqb}
+use Rattle.std.proofs.Common.{◌≡◌, ℕ, suc, ◌≤◌, false, eqb, List, [], ◌∷◌, ◌++◌, length, Ok, Err, Result, refl, sym, ap, ap₂, ◌∙◌, append_assoc, arith}
+use Rattle.std.proofs.lemmas.Bool.{ne_eqb}
 use Rattle.std.proofs.lemmas.List.{append-nil}
 use Rattle.cbor_model.specs.Raw.{Chunk, joined}
 use Rattle.cbor_model.specs.Reader.{Fault, Reads, ◌>>=◌, ended, byte_at, chunk_at, chunks_by, chunks_at}
@@ -9,7 +9,7 @@ use Rattle.cbor_model.proofs.Fuel.{chunks_by-fuel}
 use Rattle.cbor_model.proofs.Taken.{chunk_taken}
 use Rattle.serde_cbor.specs.declared.error.Error.{Error}
 use Rattle.serde_cbor.specs.Error.{code_of, offset_of}
-use Rattle.serde_cbor.specs.Gives.{Fails, FailsBy}
+use Rattle.serde_cbor.specs.Gives.{Fails}
 use Rattle.serde_cbor.proofs.Reading.{passed_on}
 
 -- the bytes so far, and those of the chunks that are still read

@@ -1,5 +1,5 @@
 -- Comparing two lists of values, an element at a time.
-use Rattle.std.proofs.Common.{◌≡◌, ℕ, suc, ◌+◌, ◌<◌, ◌≤◌, List, [], ◌∷◌, ◌++◌, length, drop, get_or, nat_cmp, Ordering, Less, Equal, Greater, pos, negsuc, refl, sym, ap, ap₂, ◌∙◌, arith, rules, add-one, drop-cons}
+use Rattle.std.proofs.Common.{◌≡◌, ℕ, suc, ◌+◌, ◌<◌, ◌≤◌, List, ◌∷◌, ◌++◌, length, drop, get_or, nat_cmp, Ordering, Less, Equal, Greater, pos, negsuc, refl, sym, ap, ap₂, ◌∙◌, arith, rules, add-one, drop-cons}
 use Rattle.std.proofs.lemmas.List.{drop_all}
 use Rattle.std.proofs.lemmas.Cmp.{ranked}
 use Rattle.std.specs.Ordering.{ordering_then, MatchOrdering, is_eq}

@@ -1,5 +1,5 @@
 -- Reading pairs one after the other, as a loop does.
-use Rattle.std.proofs.Common.{◌≡◌, ℕ, zero, suc, ◌-◌, ◌+◌, ◌≤◌, ◌<◌, true, false, List, length, Ok, Err, refl, sym, ap, ◌∙◌, arith}
+use Rattle.std.proofs.Common.{◌≡◌, ℕ, suc, ◌-◌, ◌+◌, ◌≤◌, ◌<◌, true, false, List, length, Ok, Err, refl, sym, ap, ◌∙◌, arith}
 use Rattle.cbor_model.specs.Plain.{Val, Pairs}
 use Rattle.cbor_model.specs.Value.{put}
 use Rattle.cbor_model.specs.Refusal.{end_in_map}

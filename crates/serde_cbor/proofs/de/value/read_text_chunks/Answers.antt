@@ -1,4 +1,4 @@
-use Rattle.std.proofs.Common.{◌≡◌, ◌≢◌, ◌+◌, ◌-◌, ℕ, List, length, Ok, Err, ap, sym, subst, ◌∙◌, arith, rules}
+use Rattle.std.proofs.Common.{◌≡◌, ◌+◌, ◌-◌, ℕ, List, length, Ok, ap, sym, subst, ◌∙◌, arith, rules}
 use Rattle.std.specs.String.{string_bytes}
 use Rattle.std.specs.Str.{IsUtf8}
 use Rattle.std.specs.Str.Lossy.{utf8_valid_len}
@@ -8,7 +8,6 @@ use Rattle.cbor_model.specs.Refusal.{invalid_utf8}
 use Rattle.cbor_model.specs.Reader.{Reads, values_within, text_chunks_at}
 use Rattle.serde_cbor.specs.Gives.{total, FailsAs, FailsBy}
 use Rattle.serde_cbor.specs.declared.error.ErrorCode.{ErrorCode}
-use Rattle.serde_cbor.specs.declared.error.ErrorCode.TheVariants.{InvalidUtf8}
 use Rattle.serde_cbor.specs.Error.{offset_of}
 use Rattle.serde_cbor.proofs.Reading.{text_joined, text_not_utf8}
 use Rattle.serde_cbor.proofs.Views.{view_text}
