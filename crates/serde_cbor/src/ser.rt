@@ -42,9 +42,17 @@ const SINGLE: u8 = 0xfa;
 
 const DOUBLE: u8 = 0xfb;
 
-/// The canonical spelling of a value.
+/// The canonical spelling of a value: shortest heads, definite lengths, a map's pairs as it lists
+/// them, and floats in their width.
 ///
-/// It refuses an integer outside `-2^64..=2^64-1`, at any depth.
+/// It refuses an integer outside `-2^64..=2^64-1`, at any depth, with the message
+/// `The number can't be stored in CBOR`, and answers `OutOfMemory` where a growth is refused. A value
+/// may be nested deeper than the 127 levels that are read.
+///
+/// ```rust
+/// let bytes = to_vec(alloc, &Value::Integer(-300))?;
+/// assert_eq!(rt; bytes.as_slice(), [0x39, 0x01, 0x2b].as_slice());
+/// ```
 pub fn to_vec(alloc: Global, value: &Value) -> Result<Vec<u8>>
     ensures storable { IfOk result (λ bytes. IsStorable (view value.now)) }
     ensures written { IfOk result (λ bytes. bytes.items ≡ canon (view value.now)) }
