@@ -20,6 +20,11 @@ pub enum Float {
 }
 
 /// Any CBOR value.
+///
+/// Values are ordered by their kind: whole numbers from 0, those below 0, byte strings, texts, arrays,
+/// maps, tags, then false, true, null and floats. Within a kind the smaller head comes first (a number
+/// nearer to 0, a shorter string or text, fewer items or pairs, a smaller tag), and then the content,
+/// from its front. They are equal where nothing of that differs. Comparing takes no memory.
 #[cycle(value)]
 #[derive(Debug, Drop)]
 pub enum Value {
