@@ -116,7 +116,7 @@ entries-put k v no_pairs = refl
 entries-put k v (pair l w ps) = put_by (lex (flat k) (flat l)) k v l w ps (put k v ps) refl (entries-put k v ps)
 
 -- a key below the pairs goes to the front
-put-below : (k v : Val) (ps : Pairs) → IsBelow k ps → put k v ps ≡ pair k v ps
+pub put-below : (k v : Val) (ps : Pairs) → IsBelow k ps → put k v ps ≡ pair k v ps
 put-below k v no_pairs below = refl
 put-below k v (pair l w ps) below = ap (λ (o : Ordering). by_order o (pair k v (pair l w ps)) (pair k v ps) (pair l w (put k v ps))) below
 
@@ -142,7 +142,7 @@ finite_map-put k v ps ascend =
 
 -- ---- leaving a pair out
 
-find-below : (q : Val) (ps : Pairs) → IsBelow q ps → KeysAscend ps → find val_cmp q (entries ps) ≡ None
+pub find-below : (q : Val) (ps : Pairs) → IsBelow q ps → KeysAscend ps → find val_cmp q (entries ps) ≡ None
 unfolding val_cmp
 find-below q no_pairs below ascend = refl
 find-below q (pair l w ps) below ascend = rw below (find-below q ps (IsBelow-trans q l ps below ascend.0) ascend.1)

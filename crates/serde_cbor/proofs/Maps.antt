@@ -12,7 +12,7 @@ use Rattle.cbor_model.specs.Order.{lex, flat}
 use Rattle.cbor_model.specs.Value.{by_order, put}
 use Rattle.cbor_model.specs.Canonical.{IsBelow, KeysAscend, IsOrdered, ArePairsOrdered}
 use Rattle.cbor_model.specs.FiniteMap.{val_cmp, entries, finite_map, without}
-use Rattle.cbor_model.proofs.Pairs.{same_key, IsBelow-trans, get-finite_map, finite_map-put, finite_map-without, KeysAscend-put, KeysAscend-without, KeysAscend-from_IsOrdered, IsOrdered-put, IsOrdered-without}
+use Rattle.cbor_model.proofs.Pairs.{same_key, IsBelow-trans, get-finite_map, finite_map-put, finite_map-without, KeysAscend-put, KeysAscend-without, KeysAscend-from_IsOrdered, IsOrdered-put, IsOrdered-without, put-below, find-below}
 use Rattle.serde_cbor.specs.declared.value.Value.{Value, the_lemmas}
 use Rattle.serde_cbor.specs.declared.value.Value.TheViews.{roll-Map}
 use Rattle.serde_cbor.specs.View.{view, views, vals_of, pairs_of, map_view, pair_views, StandsAt, BelongsAt}
@@ -95,13 +95,9 @@ get-StandsAt k i ps p is stands = sym (get-finite_map k (pair_views ps) ∙ find
 
 -- ---- the key is missing
 
-put-IsBelow : (k v : Val) (ps : Pairs) → IsBelow k ps → put k v ps ≡ pair k v ps
-put-IsBelow k v no_pairs below = refl
-put-IsBelow k v (pair l w ps) below = put_to k v l w ps Less below
-
 pub put-BelongsAt : (k v : Value) (i : ℕ) (ps : List (Value × Value)) → BelongsAt (view k) i (pair_views ps)
     → pair_views (insert ps i (k, v)) ≡ put (view k) (view v) (pair_views ps)
-put-BelongsAt k v zero ps belongs = sym (put-IsBelow (view k) (view v) (pair_views ps) belongs)
+put-BelongsAt k v zero ps belongs = sym (put-below (view k) (view v) (pair_views ps) belongs)
 put-BelongsAt k v (suc i) [] belongs = absurd belongs
 put-BelongsAt k v (suc i) (q ∷ ps) belongs =
     ap (pair (view q.0) (view q.1)) (put-BelongsAt k v i ps belongs.1)
@@ -112,14 +108,9 @@ without-BelongsAt k i no_pairs belongs = refl
 without-BelongsAt k zero (pair l w ps) belongs = sym (without_to k l w ps Less belongs)
 without-BelongsAt k (suc i) (pair l w ps) belongs = ap (pair l w) (without-BelongsAt k i ps belongs.1) ∙ sym (without_to k l w ps Greater belongs.0)
 
-find-IsBelow : (k : Val) (ps : Pairs) → IsBelow k ps → KeysAscend ps → find val_cmp k (entries ps) ≡ None
-unfolding val_cmp
-find-IsBelow k no_pairs below ascend = refl
-find-IsBelow k (pair l w ps) below ascend = rw below (find-IsBelow k ps (IsBelow-trans k l ps below ascend.0) ascend.1)
-
 find-BelongsAt : (k : Val) (i : ℕ) (ps : Pairs) → BelongsAt k i ps → KeysAscend ps → find val_cmp k (entries ps) ≡ None
 unfolding val_cmp
-find-BelongsAt k zero ps belongs ascend = find-IsBelow k ps belongs ascend
+find-BelongsAt k zero ps belongs ascend = find-below k ps belongs ascend
 find-BelongsAt k (suc i) no_pairs belongs ascend = absurd belongs
 find-BelongsAt k (suc i) (pair l w ps) belongs ascend = rw belongs.0 (find-BelongsAt k i ps belongs.1 ascend.1)
 

@@ -1,6 +1,6 @@
 //! Maps: their pairs stand in a list, in the order of the keys.
 
-ghost use Rattle.std.specs.Prelude.{◌≡◌, ◌<◌, ◌≤◌, length, IfOk, OnOk, OnErr, IfErr, MatchResult, Some};
+ghost use Rattle.std.specs.Prelude.{◌≡◌, ◌==◌, ◌<◌, ◌≤◌, length, IfOk, OnOk, OnErr, IfErr, MatchResult, Some};
 ghost use Rattle.std.specs.Option.{option_map};
 ghost use Rattle.std.specs.Slice.Iter.{iter_rest};
 ghost use Rattle.std.specs.FinMap as finmap;
@@ -105,6 +105,13 @@ impl Map {
         ensures counted { KeysAscend (map_view self.now) → result ≡ finmap.len (finite_map (map_view self.now)) }
     {
         self.pairs.len()
+    }
+
+    /// Whether it has no pairs.
+    pub fn is_empty(&self) -> bool
+        ensures { result ≡ (pair_count (map_view self.now) == 0) }
+    {
+        self.pairs.is_empty()
     }
 
     /// Its pairs of a key and a value, in the order of the keys.
