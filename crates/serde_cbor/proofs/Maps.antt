@@ -10,9 +10,9 @@ use Rattle.std.specs.FinMap.{find}
 use Rattle.cbor_model.specs.Plain.{Val, Pairs, no_pairs, pair}
 use Rattle.cbor_model.specs.Order.{lex, flat}
 use Rattle.cbor_model.specs.Value.{by_order, put}
-use Rattle.cbor_model.specs.Canonical.{IsBelow, KeysAscend, IsOrdered, ArePairsOrdered}
+use Rattle.cbor_model.specs.Canonical.{KeysAscend, IsOrdered, ArePairsOrdered}
 use Rattle.cbor_model.specs.FiniteMap.{val_cmp, entries, finite_map, without}
-use Rattle.cbor_model.proofs.Pairs.{same_key, IsBelow-trans, get-finite_map, finite_map-put, finite_map-without, KeysAscend-put, KeysAscend-without, KeysAscend-from_IsOrdered, IsOrdered-put, IsOrdered-without, put-below, find-below}
+use Rattle.cbor_model.proofs.Pairs.{same_key, get-finite_map, finite_map-put, finite_map-without, KeysAscend-put, KeysAscend-without, KeysAscend-from_IsOrdered, IsOrdered-put, IsOrdered-without, put-below, find-below}
 use Rattle.serde_cbor.specs.declared.value.Value.{Value, the_lemmas}
 use Rattle.serde_cbor.specs.declared.value.Value.TheViews.{roll-Map}
 use Rattle.serde_cbor.specs.View.{view, views, vals_of, pairs_of, map_view, pair_views, StandsAt, BelongsAt}

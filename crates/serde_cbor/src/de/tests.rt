@@ -64,13 +64,24 @@ fn reads_numbers_and_simple_values(rt: HostRuntime) -> Result<(), Fail> {
 }
 
 #[test]
-fn reads_strings_and_chunks(rt: HostRuntime) -> Result<(), Fail> {
+fn reads_strings(rt: HostRuntime) -> Result<(), Fail> {
     are_written(
         &rt,
         rt.alloc(),
         &[
             (&[0x5b, 0, 0, 0, 0, 0, 0, 0, 2, 1, 0x23], &[0x42, 1, 0x23]),
             (&[0x62, 0xc3, 0xa9], &[0x62, 0xc3, 0xa9]),
+            (&[0x60], &[0x60]),
+        ],
+    )
+}
+
+#[test]
+fn reads_chunks(rt: HostRuntime) -> Result<(), Fail> {
+    are_written(
+        &rt,
+        rt.alloc(),
+        &[
             (&[0x7f, 0x61, 0xc3, 0x61, 0xa9, 0xff], &[0x62, 0xc3, 0xa9]),
             (
                 &[0x7f, 0x61, 0xf0, 0x61, 0x9f, 0x61, 0x92, 0x61, 0x94, 0xff],
@@ -87,7 +98,7 @@ fn reads_strings_and_chunks(rt: HostRuntime) -> Result<(), Fail> {
 }
 
 #[test]
-fn reads_arrays_and_tags(rt: HostRuntime) -> Result<(), Fail> {
+fn reads_arrays(rt: HostRuntime) -> Result<(), Fail> {
     are_written(
         &rt,
         rt.alloc(),
@@ -95,6 +106,16 @@ fn reads_arrays_and_tags(rt: HostRuntime) -> Result<(), Fail> {
             (&[0x83, 1, 2, 3], &[0x83, 1, 2, 3]),
             (&[0x98, 0x01, 0x80], &[0x81, 0x80]),
             (&[0x9f, 0xff], &[0x80]),
+        ],
+    )
+}
+
+#[test]
+fn reads_tags(rt: HostRuntime) -> Result<(), Fail> {
+    are_written(
+        &rt,
+        rt.alloc(),
+        &[
             (
                 b"\xc1\x82\xc2\x63foo\xc3\xa1\xc4\x61a\xc5\x61b",
                 b"\xc1\x82\xc2\x63foo\xc3\xa1\xc4\x61a\xc5\x61b",
@@ -124,7 +145,7 @@ fn reads_maps(rt: HostRuntime) -> Result<(), Fail> {
 }
 
 #[test]
-fn refuses_the_end_of_input(rt: HostRuntime) -> Result<(), Fail> {
+fn refuses_the_end_within_a_value(rt: HostRuntime) -> Result<(), Fail> {
     are_refused(
         &rt,
         rt.alloc(),
@@ -136,6 +157,16 @@ fn refuses_the_end_of_input(rt: HostRuntime) -> Result<(), Fail> {
             (&[0x5f, 0x41], "EOF while parsing a value at offset 2"),
             (&[0x7f, 0x61, 0x61], "EOF while parsing a value at offset 3"),
             (&[0xbf, 0x01], "EOF while parsing a value at offset 2"),
+        ],
+    )
+}
+
+#[test]
+fn refuses_the_end_of_open_forms(rt: HostRuntime) -> Result<(), Fail> {
+    are_refused(
+        &rt,
+        rt.alloc(),
+        &[
             (&[0xbf], "EOF while parsing a map at offset 1"),
             (&[0xbf, 0x01, 0x02], "EOF while parsing a map at offset 3"),
             (&[0x9f], "EOF while parsing an array at offset 1"),
@@ -145,7 +176,7 @@ fn refuses_the_end_of_input(rt: HostRuntime) -> Result<(), Fail> {
 }
 
 #[test]
-fn refuses_first_bytes(rt: HostRuntime) -> Result<(), Fail> {
+fn refuses_unassigned_first_bytes(rt: HostRuntime) -> Result<(), Fail> {
     are_refused(
         &rt,
         rt.alloc(),
@@ -155,6 +186,16 @@ fn refuses_first_bytes(rt: HostRuntime) -> Result<(), Fail> {
             (&[0x1f], "unassigned type at offset 1"),
             (&[0xdf], "unassigned type at offset 1"),
             (&[0x5c], "unassigned type at offset 1"),
+        ],
+    )
+}
+
+#[test]
+fn refuses_bytes_out_of_place(rt: HostRuntime) -> Result<(), Fail> {
+    are_refused(
+        &rt,
+        rt.alloc(),
+        &[
             (&[0xff], "unexpected code at offset 1"),
             (&[0x81, 0xff], "unexpected code at offset 2"),
             (&[0xbf, 0x61, 0x61, 0xff], "unexpected code at offset 4"),
@@ -238,17 +279,22 @@ fn refuses_the_128th_level(rt: HostRuntime) -> Result<(), Fail> {
 
 #[test]
 fn reads_256_items(rt: HostRuntime) -> Result<(), Fail> {
-    let mut definite = [0xf6; 259];
-    definite[0] = 0x99;
-    definite[1] = 0x01;
-    definite[2] = 0x00;
-    let written = to_vec(rt.alloc(), &from_slice(rt.alloc(), &definite)?)?;
-    assert_eq!(rt; written.as_slice(), definite.as_slice());
-    let mut open = [0xf6; 258];
-    open[0] = 0x9f;
-    open[257] = 0xff;
-    let written = to_vec(rt.alloc(), &from_slice(rt.alloc(), &open)?)?;
-    assert_eq!(rt; written.as_slice(), definite.as_slice());
+    let mut bytes = [0xf6; 259];
+    bytes[..3].copy_from_slice(&[0x99, 0x01, 0x00]);
+    let written = to_vec(rt.alloc(), &from_slice(rt.alloc(), &bytes)?)?;
+    assert_eq!(rt; written.as_slice(), bytes.as_slice());
+    Ok(())
+}
+
+#[test]
+fn reads_256_items_up_to_a_break(rt: HostRuntime) -> Result<(), Fail> {
+    let mut bytes = [0xf6; 258];
+    bytes[0] = 0x9f;
+    bytes[257] = 0xff;
+    let written = to_vec(rt.alloc(), &from_slice(rt.alloc(), &bytes)?)?;
+    assert_eq!(rt; written.len(), 259);
+    assert_eq!(rt; &written[..3], [0x99, 0x01, 0x00].as_slice());
+    assert!(rt; written[3..].iter().all(|byte| *byte == 0xf6));
     Ok(())
 }
 

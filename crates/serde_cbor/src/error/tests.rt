@@ -1,5 +1,5 @@
 use super::{Category, Error, ErrorCode};
-use std::alloc::AllocError;
+use std::alloc::{AllocError, Global};
 use std::io;
 use std::io::ErrorKind;
 use std::process::Abort;
@@ -14,87 +14,84 @@ fn prints(
     Ok(())
 }
 
+/// The error, which is one at offset 7, is of this category and prints these words and its offset.
+fn is_told(
+    rt: &impl Abort,
+    alloc: Global,
+    e: &Error,
+    category: Category,
+    words: &'static str,
+) -> Result<(), Fail> {
+    assert_eq!(rt; e.offset(), 7);
+    assert_eq!(rt; e.classify(), category);
+    assert_eq!(rt; e.is_io(), category == Category::Io);
+    assert_eq!(rt; e.is_syntax(), category == Category::Syntax);
+    assert_eq!(rt; e.is_eof(), category == Category::Eof);
+    let text = e.to_string(alloc)?;
+    assert_eq!(rt; text.as_str().strip_suffix(" at offset 7"), Some(words));
+    Ok(())
+}
+
 #[test]
-fn codes_have_words_and_categories(rt: HostRuntime) -> Result<(), Fail> {
+fn tells_too_little_room_and_input(rt: HostRuntime) -> Result<(), Fail> {
     let alloc = rt.alloc();
-    for (e, words, category) in [
-        (
-            Error::at(ErrorCode::ScratchTooSmall, 7),
-            "Scratch buffer too small at offset 7",
-            Category::Io,
-        ),
+    let e = Error::scratch_too_small(7);
+    is_told(&rt, alloc, &e, Category::Io, "Scratch buffer too small")?;
+    for (e, words) in [
         (
             Error::at(ErrorCode::EofWhileParsingValue, 7),
-            "EOF while parsing a value at offset 7",
-            Category::Eof,
+            "EOF while parsing a value",
         ),
         (
             Error::at(ErrorCode::EofWhileParsingArray, 7),
-            "EOF while parsing an array at offset 7",
-            Category::Eof,
+            "EOF while parsing an array",
         ),
         (
             Error::at(ErrorCode::EofWhileParsingMap, 7),
-            "EOF while parsing a map at offset 7",
-            Category::Eof,
+            "EOF while parsing a map",
         ),
+    ] {
+        is_told(&rt, alloc, &e, Category::Eof, words)?;
+    }
+    Ok(())
+}
+
+#[test]
+fn tells_bytes_that_spell_nothing(rt: HostRuntime) -> Result<(), Fail> {
+    for (e, words) in [
         (
             Error::at(ErrorCode::LengthOutOfRange, 7),
-            "length out of range at offset 7",
-            Category::Syntax,
+            "length out of range",
         ),
-        (
-            Error::at(ErrorCode::InvalidUtf8, 7),
-            "invalid UTF-8 at offset 7",
-            Category::Syntax,
-        ),
-        (
-            Error::at(ErrorCode::UnassignedCode, 7),
-            "unassigned type at offset 7",
-            Category::Syntax,
-        ),
-        (
-            Error::at(ErrorCode::UnexpectedCode, 7),
-            "unexpected code at offset 7",
-            Category::Syntax,
-        ),
-        (
-            Error::at(ErrorCode::TrailingData, 7),
-            "trailing data at offset 7",
-            Category::Syntax,
-        ),
-        (
-            Error::at(ErrorCode::ArrayTooShort, 7),
-            "array too short at offset 7",
-            Category::Syntax,
-        ),
-        (
-            Error::at(ErrorCode::ArrayTooLong, 7),
-            "array too long at offset 7",
-            Category::Syntax,
-        ),
+        (Error::at(ErrorCode::InvalidUtf8, 7), "invalid UTF-8"),
+        (Error::at(ErrorCode::UnassignedCode, 7), "unassigned type"),
+        (Error::at(ErrorCode::UnexpectedCode, 7), "unexpected code"),
+        (Error::at(ErrorCode::TrailingData, 7), "trailing data"),
         (
             Error::at(ErrorCode::RecursionLimitExceeded, 7),
-            "recursion limit exceeded at offset 7",
-            Category::Syntax,
+            "recursion limit exceeded",
         ),
+    ] {
+        is_told(&rt, rt.alloc(), &e, Category::Syntax, words)?;
+    }
+    Ok(())
+}
+
+#[test]
+fn tells_items_of_another_form(rt: HostRuntime) -> Result<(), Fail> {
+    for (e, words) in [
+        (Error::at(ErrorCode::ArrayTooShort, 7), "array too short"),
+        (Error::at(ErrorCode::ArrayTooLong, 7), "array too long"),
         (
             Error::at(ErrorCode::WrongEnumFormat, 7),
-            "wrong enum format at offset 7",
-            Category::Syntax,
+            "wrong enum format",
         ),
         (
             Error::at(ErrorCode::WrongStructFormat, 7),
-            "wrong struct format at offset 7",
-            Category::Syntax,
+            "wrong struct format",
         ),
     ] {
-        assert_eq!(rt; e.offset(), 7);
-        assert_eq!(rt; e.classify(), category);
-        assert_eq!(rt; e.is_io(), category == Category::Io);
-        assert_eq!(rt; e.is_syntax(), category == Category::Syntax);
-        assert_eq!(rt; e.is_eof(), category == Category::Eof);
-        prints(&rt, e.to_string(alloc), words)?;
+        is_told(&rt, rt.alloc(), &e, Category::Syntax, words)?;
     }
     Ok(())
 }

@@ -1,7 +1,6 @@
 use Rattle.std.proofs.Common.{◌≡◌, ◌∙◌, ℕ, sym, ap, rules, length, eqb}
 use Rattle.std.specs.Vec.{vec_len}
 use Rattle.cbor_model.specs.Plain.{pair_count}
-use Rattle.serde_cbor.specs.View.{map_view}
 use Rattle.serde_cbor.proofs.Views.{map_view_is, pair_count_pair_views}
 use Rattle.serde_cbor.proofs.value.Map.is_empty.Goals as goal
 
