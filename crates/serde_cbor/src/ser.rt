@@ -72,44 +72,20 @@ fn write_value(alloc: Global, out: &mut Vec<u8>, value: &Value) -> Result<()>
     ensures refused { IfErr result (IsNotWritten (view value.now)) }
 {
     match value {
-        Value::Null => {
-            out.push(NULL)?;
-            Ok(())
-        }
-        Value::Bool(b) => {
-            out.push(if *b { TRUE } else { FALSE })?;
-            Ok(())
-        }
-        Value::Integer(i) => {
-            write_integer(alloc, out, *i)?;
-            Ok(())
-        }
-        Value::Float(float) => {
-            write_float(out, float)?;
-            Ok(())
-        }
-        Value::Bytes(bytes) => {
-            write_string(out, BYTES, bytes)?;
-            Ok(())
-        }
-        Value::Text(text) => {
-            write_string(out, TEXT, text.as_bytes())?;
-            Ok(())
-        }
-        Value::Array(items) => {
-            write_array(alloc, out, items)?;
-            Ok(())
-        }
-        Value::Map(map) => {
-            write_map(alloc, out, map)?;
-            Ok(())
-        }
+        Value::Null => out.push(NULL)?,
+        Value::Bool(b) => out.push(if *b { TRUE } else { FALSE })?,
+        Value::Integer(i) => write_integer(alloc, out, *i)?,
+        Value::Float(float) => write_float(out, float)?,
+        Value::Bytes(bytes) => write_string(out, BYTES, bytes)?,
+        Value::Text(text) => write_string(out, TEXT, text.as_bytes())?,
+        Value::Array(items) => write_array(alloc, out, items)?,
+        Value::Map(map) => write_map(alloc, out, map)?,
         Value::Tag(tag, inner) => {
             write_head(out, TAG, *tag)?;
             write_value(alloc, out, inner)?;
-            Ok(())
         }
     }
+    Ok(())
 }
 
 #[cycle(write)]

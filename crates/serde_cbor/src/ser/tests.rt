@@ -28,7 +28,7 @@ fn are_spelled(
     Ok(())
 }
 
-// Of RFC 7049's appendix A, but -23567997.
+// 23, 24, and the greatest and the least number are of RFC 7049's appendix A.
 #[test]
 fn spells_numbers(rt: HostRuntime) -> Result<(), Fail> {
     are_spelled(
