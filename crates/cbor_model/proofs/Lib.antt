@@ -10,6 +10,7 @@ pub mod Storable
 pub mod Same
 pub mod Compared
 pub mod Pairs
+pub mod Puts
 pub mod ReadsBack
 pub mod Canonical
 pub mod Apart

@@ -4,7 +4,7 @@ use Rattle.std.specs.declared.cmp.Ordering.{Ordering}
 use Rattle.std.specs.FinMap.{FinMap, from_entries}
 use Rattle.cbor_model.specs.Plain.{Val, Pairs, no_pairs, pair}
 use Rattle.cbor_model.specs.Order.{lex, flat}
-use Rattle.cbor_model.specs.Value.{by_order}
+use Rattle.cbor_model.specs.Value.{by_order, put}
 
 -- the order of values
 unfoldable pub val_cmp : Val → Val → Ordering
@@ -21,3 +21,8 @@ finite_map ps = from_entries (entries ps)
 abbrev pub without : Val → Pairs → Pairs
 without k no_pairs = no_pairs
 without k (pair l w ps) = by_order (lex (flat k) (flat l)) (pair l w ps) ps (pair l w (without k ps))
+
+-- the pairs, put one after the other into those before
+abbrev pub put_all : Pairs → Pairs → Pairs
+put_all no_pairs before = before
+put_all (pair k v ps) before = put_all ps (put k v before)

@@ -1,7 +1,9 @@
 -- The place of a key among pairs, and what an insertion and a removal there give.
-use Rattle.std.proofs.Common.{◌≡◌, ℕ, zero, suc, ◌+◌, ◌<◌, ◌≤◌, List, [], ◌∷◌, ◌++◌, length, map, take, get_or, set, Some, None, Ordering, Less, Equal, Greater, refl, sym, ap, ap₂, subst, ◌∙◌, add-one, arith, rules}
+use Rattle.std.proofs.Common.{◌≡◌, ℕ, zero, suc, ◌+◌, ◌/◌, ◌^◌, ◌<◌, ◌≤◌, List, [], ◌∷◌, ◌++◌, length, map, take, drop, get_or, set, Some, None, Ordering, Less, Equal, Greater, refl, sym, ap, ap₂, subst, ◌∙◌, add-one, arith, rules}
 use Rattle.std.proofs.Math.Seq.{take-suc}
 use Rattle.std.proofs.lemmas.List.{map-append, take_all}
+use Rattle.std.proofs.lemmas.Int.Digits.{number_lt, number_digits_of, all_below_base_digits_of, length-digits_of_step, length-digits_of-le}
+use Rattle.std.specs.Int.Digits.{digits_of}
 use Rattle.std.specs.Global.{Global}
 use Rattle.std.specs.Prelude.{Vec}
 use Rattle.std.specs.List.{insert, remove}
@@ -10,12 +12,12 @@ use Rattle.std.specs.FinMap.{find}
 use Rattle.cbor_model.specs.Plain.{Val, Pairs, no_pairs, pair}
 use Rattle.cbor_model.specs.Order.{lex, flat}
 use Rattle.cbor_model.specs.Value.{by_order, put}
-use Rattle.cbor_model.specs.Canonical.{KeysAscend, IsOrdered, ArePairsOrdered}
+use Rattle.cbor_model.specs.Canonical.{IsBelow, KeysAscend, IsOrdered, ArePairsOrdered}
 use Rattle.cbor_model.specs.FiniteMap.{val_cmp, entries, finite_map, without}
-use Rattle.cbor_model.proofs.Pairs.{same_key, get-finite_map, finite_map-put, finite_map-without, KeysAscend-put, KeysAscend-without, KeysAscend-from_IsOrdered, IsOrdered-put, IsOrdered-without, put-below, find-below}
+use Rattle.cbor_model.proofs.Pairs.{Less-trans, Less-from_Greater, Greater-from_Less, same_key, IsBelow-trans, get-finite_map, finite_map-put, finite_map-without, KeysAscend-put, KeysAscend-without, KeysAscend-from_IsOrdered, IsOrdered-put, IsOrdered-without, put-below, find-below}
 use Rattle.serde_cbor.specs.declared.value.Value.{Value, the_lemmas}
 use Rattle.serde_cbor.specs.declared.value.Value.TheViews.{roll-Map}
-use Rattle.serde_cbor.specs.View.{view, views, vals_of, pairs_of, map_view, pair_views, StandsAt, BelongsAt}
+use Rattle.serde_cbor.specs.View.{view, views, vals_of, pairs_of, map_view, pair_views, StandsAt, BelongsAt, binary_digits}
 
 pub map_view-roll : (v : Vec (Value × Value) Global) → map_view (roll-Map (record { pairs = v })) ≡ pair_views v.items
 map_view-roll v = search (rules, the_lemmas)
@@ -43,17 +45,54 @@ StandsAt-passed k i [] p lt is same passed = absurd (omega arith)
 StandsAt-passed k zero (q ∷ ps) p lt is same passed = order_at k p q Equal is same
 StandsAt-passed k (suc i) (q ∷ ps) p lt is same passed = (passed.0, StandsAt-passed k i ps p (omega arith) is same passed.1)
 
-pub BelongsAt-passed : (k : Val) (i : ℕ) (ps : List (Value × Value)) (p : Value × Value) → i < length ps → p ≡ get_or ps i p
-    → Less ≡ lex (flat k) (flat (view p.0)) → Passed k i (pair_views ps) → BelongsAt k i (pair_views ps)
-BelongsAt-passed k i [] p lt is less passed = absurd (omega arith)
-BelongsAt-passed k zero (q ∷ ps) p lt is less passed = order_at k p q Less is less
-BelongsAt-passed k (suc i) (q ∷ ps) p lt is less passed = (passed.0, BelongsAt-passed k i ps p (omega arith) is less passed.1)
+-- a key below the first of ascending pairs is below each
+Less-get_or : (a : Val) (i : ℕ) (ps : List (Value × Value)) (p : Value × Value) → i < length ps → p ≡ get_or ps i p → IsBelow a (pair_views ps) → KeysAscend (pair_views ps)
+    → lex (flat a) (flat (view p.0)) ≡ Less
+Less-get_or a i [] p lt is below ascend = absurd (omega arith)
+Less-get_or a zero (q ∷ ps) p lt is below ascend = ap (λ (r : Value × Value). lex (flat a) (flat (view r.0))) is ∙ below
+Less-get_or a (suc i) (q ∷ ps) p lt is below ascend = Less-get_or a i ps p (omega arith) is (IsBelow-trans a (view q.0) (pair_views ps) below ascend.0) ascend.1
 
-pub BelongsAt-end : (k : Val) (i : ℕ) (ps : List (Value × Value)) → length ps ≤ i → Passed k i (pair_views ps) → BelongsAt k i (pair_views ps)
-BelongsAt-end k zero [] le passed = tt
-BelongsAt-end k (suc i) [] le passed = passed
-BelongsAt-end k zero (q ∷ ps) le passed = absurd (omega arith)
-BelongsAt-end k (suc i) (q ∷ ps) le passed = (passed.0, BelongsAt-end k i ps (omega arith) passed.1)
+-- what is below the i-th key is below k
+abbrev pub Reaches : Val → Val → Type 0
+Reaches k l = (a : Val) → lex (flat a) (flat l) ≡ Less → lex (flat k) (flat a) ≡ Greater
+
+pub Reaches-Equal : (k l : Val) → Equal ≡ lex (flat k) (flat l) → Reaches k l
+Reaches-Equal k l same a less = Greater-from_Less a k (subst (λ (x : Val). lex (flat a) (flat x) ≡ Less) (sym (same_key k l (sym same))) less)
+
+pub Reaches-Greater : (k l : Val) → Greater ≡ lex (flat k) (flat l) → Reaches k l
+Reaches-Greater k l more a less = Greater-from_Less a k (Less-trans a l k less (Less-from_Greater k l (sym more)))
+
+pub Passed-ascending : (k : Val) (i : ℕ) (ps : List (Value × Value)) (p : Value × Value) → i < length ps → p ≡ get_or ps i p → Reaches k (view p.0) → KeysAscend (pair_views ps)
+    → Passed k i (pair_views ps)
+Passed-ascending k i [] p lt is reaches ascend = absurd (omega arith)
+Passed-ascending k zero (q ∷ ps) p lt is reaches ascend = tt
+Passed-ascending k (suc i) (q ∷ ps) p lt is reaches ascend =
+    (reaches (view q.0) (Less-get_or (view q.0) i ps p (omega arith) is ascend.0 ascend.1), Passed-ascending k i ps p (omega arith) is reaches ascend.1)
+
+pub IsBelow-drop : (k : Val) (i : ℕ) (ps : List (Value × Value)) (p : Value × Value) → i < length ps → p ≡ get_or ps i p
+    → Less ≡ lex (flat k) (flat (view p.0)) → IsBelow k (pair_views (drop i ps))
+IsBelow-drop k i [] p lt is less = absurd (omega arith)
+IsBelow-drop k zero (q ∷ ps) p lt is less = order_at k p q Less is less
+IsBelow-drop k (suc i) (q ∷ ps) p lt is less = IsBelow-drop k i ps p (omega arith) is less
+
+pub BelongsAt-between : (k : Val) (i : ℕ) (ps : List (Value × Value)) → Passed k i (pair_views ps) → IsBelow k (pair_views (drop i ps)) → BelongsAt k i (pair_views ps)
+BelongsAt-between k zero ps passed below = below
+BelongsAt-between k (suc i) [] passed below = passed
+BelongsAt-between k (suc i) (q ∷ ps) passed below = (passed.0, BelongsAt-between k i ps passed.1 below)
+
+-- ---- the number of steps
+
+pub binary_digits-mono : (m n : ℕ) → m ≤ n → binary_digits m ≤ binary_digits n
+binary_digits-mono m n le =
+    length-digits_of-le 2 (binary_digits n) m (omega arith)
+    (omega (arith, number_lt 2 (digits_of 2 n) (all_below_base_digits_of 2 n (omega arith)), number_digits_of 2 n (omega arith)))
+
+-- half of what is left takes a digit less
+pub binary_digits-half : (m n : ℕ) → 0 < n → m ≤ n / 2 → binary_digits m + 1 ≤ binary_digits n
+binary_digits-half m n some le = omega (arith, binary_digits-mono m (n / 2) le, length-digits_of_step 2 n (omega arith) some)
+
+pub binary_digits-fit : (n : ℕ) → n < 2 ^ 64 → binary_digits n ≤ 64
+binary_digits-fit n small = length-digits_of-le 2 64 n (omega arith) small
 
 -- ---- one pair further
 

@@ -1,5 +1,5 @@
 -- What lists of values stand for.
-use Rattle.std.proofs.Common.{◌≡◌, suc, List, [], ◌∷◌, length, refl, ap, rules}
+use Rattle.std.proofs.Common.{◌≡◌, suc, List, [], ◌∷◌, length, refl, ap, ◌∙◌, rules}
 use Rattle.std.specs.Prelude.{String}
 use Rattle.std.specs.Global.{Global}
 use Rattle.std.specs.String.{string_bytes}
@@ -18,6 +18,9 @@ pair_count_pair_views (p ∷ ps) = ap suc (pair_count_pair_views ps)
 
 pub map_view_is : (m : Map) → map_view m ≡ pair_views (out-Map m).pairs.items
 map_view_is m = search (rules, the_lemmas)
+
+pub pair_count_map_view : (m : Map) → pair_count (map_view m) ≡ length (out-Map m).pairs.items
+pair_count_map_view m = ap pair_count (map_view_is m) ∙ pair_count_pair_views (out-Map m).pairs.items
 
 pub view_text : (s : String Global) → view (Text s) ≡ text (string_bytes s)
 view_text s = search (rules, the_lemmas)

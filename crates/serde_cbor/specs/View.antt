@@ -1,9 +1,10 @@
 -- What a `Value` stands for: a plain tree.
-use Rattle.std.specs.Prelude.{◌≡◌, ℕ, zero, suc, List, [], ◌∷◌, map, string_bytes, box_value}
+use Rattle.std.specs.Prelude.{◌≡◌, ℕ, zero, suc, List, [], ◌∷◌, map, length, string_bytes, box_value}
+use Rattle.std.specs.Int.Digits.{digits_of}
 use Rattle.std.specs.Ordering.{ordering_then}
 use Rattle.std.specs.declared.cmp.Ordering.{Ordering}
 use Rattle.std.specs.declared.cmp.Ordering.TheVariants.{Equal, Greater}
-use Rattle.cbor_model.specs.Canonical.{IsBelow}
+use Rattle.cbor_model.specs.Canonical.{IsBelow, IsOrdered}
 use Rattle.cbor_model.specs.Raw.{half, single, double}
 use Rattle.cbor_model.specs.Order.{lex, flat}
 use Rattle.cbor_model.specs.Plain as plain
@@ -55,6 +56,10 @@ views vs = vals_of (map view vs)
 abbrev pub pair_views : List (Value × Value) → Pairs
 pair_views ps = pairs_of (map (λ p. (view p.0, view p.1)) ps)
 
+-- the maps in the pair's key and value list their keys in order
+abbrev pub IsPairOrdered : Value × Value → Type 0
+IsPairOrdered p = IsOrdered (view p.0) × IsOrdered (view p.1)
+
 -- the list of numbers by which values are compared
 unfoldable pub flat_of : Value → List ℕ
 flat_of v = flat (view v)
@@ -74,3 +79,7 @@ abbrev pub BelongsAt : Val → ℕ → Pairs → Type 0
 BelongsAt k zero ps = IsBelow k ps
 BelongsAt k (suc i) no_pairs = ⊥
 BelongsAt k (suc i) (pair l w ps) = (lex (flat k) (flat l) ≡ Greater) × BelongsAt k i ps
+
+-- how many binary digits the number has, 0 none
+abbrev pub binary_digits : ℕ → ℕ
+binary_digits n = length (digits_of 2 n)

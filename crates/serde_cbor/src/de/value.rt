@@ -1,10 +1,7 @@
 //! The item at the front of a source, as a value.
 
-ghost use Rattle.std.specs.Prelude.{◌≡◌, ◌+◌, ◌<◌, ◌≤◌, suc, length, IfOk, IfErr, OnOk};
+ghost use Rattle.std.specs.Prelude.{◌≡◌, ◌+◌, ◌<◌, ◌≤◌, suc, length, IfOk, OnOk};
 ghost use Rattle.cbor_model.specs.Reader.{inside, width_of, float_at, simple_at, text_at, items_by, open_items_by, pairs_by, open_pairs_by, array_at, open_array_at, map_at, open_map_at, tag_at, content_at, open_at, string_chunks_at, text_chunks_at, chunks_at, after_first, item_at};
-ghost use Rattle.cbor_model.specs.Canonical.{KeysAscend};
-ghost use Rattle.cbor_model.specs.Value.{put};
-ghost use Rattle.serde_cbor.specs.Error.{IsOutOfMemory};
 ghost use Rattle.serde_cbor.specs.View.{view, views, float_view, map_view};
 ghost use Rattle.serde_cbor.specs.Gives.{GivesFrom, total, joined_of, made_of};
 
@@ -268,23 +265,14 @@ fn read_pairs(alloc: Global, source: &mut Source<'_>, levels: u8, n: u64) -> Res
     ensures forward { OnOk result (source.old.at ≤ source.new.at) }
     ensures total { total source.new ≡ total source.old }
 {
-    let mut map = Map::new(alloc);
+    let mut pairs = Vec::new(alloc);
     'pairs: for _ in 0..n {
         let key = read_value(alloc, source, levels)?;
         let value = read_value(alloc, source, levels)?;
-        put(&mut map, key, value)?;
+        pairs.push((key, value))?;
     }
+    let map = Map::from_pairs(pairs)?;
     Ok(map)
-}
-
-/// Puts a pair into a map, in the place of one that has its key.
-fn put(map: &mut Map, key: Value, value: Value) -> Result<()>
-    ensures listed { OnOk result (KeysAscend (map_view map.old) → map_view map.new ≡ put (view key) (view value) (map_view map.old)) }
-    ensures ascending { KeysAscend (map_view map.old) → KeysAscend (map_view map.new) }
-    ensures memory { IfErr result IsOutOfMemory }
-{
-    let _ = map.insert(key, value)?;
-    Ok(())
 }
 
 /// Reads an open map behind its first byte.
@@ -311,12 +299,13 @@ fn read_open_pairs(alloc: Global, source: &mut Source<'_>, levels: u8) -> Result
     ensures forward { OnOk result (source.old.at ≤ source.new.at) }
     ensures total { total source.new ≡ total source.old }
 {
-    let mut map = Map::new(alloc);
+    let mut pairs = Vec::new(alloc);
     'pairs: while source.more(Open::Map)? {
         let key = read_value(alloc, source, levels)?;
         let value = read_value(alloc, source, levels)?;
-        put(&mut map, key, value)?;
+        pairs.push((key, value))?;
     }
+    let map = Map::from_pairs(pairs)?;
     Ok(map)
 }
 

@@ -40,6 +40,37 @@ fn keeps_one_pair_of_a_key(rt: HostRuntime) -> Result<(), Fail> {
     Ok(())
 }
 
+#[test]
+fn finds_a_key_among_thousands(rt: HostRuntime) -> Result<(), Fail> {
+    let mut pairs = Vec::new(rt.alloc());
+    for i in 0..5000u64 {
+        pairs.push((Value::from(i * 7 % 5000), Value::from(i)))?;
+    }
+    let map = Map::from_pairs(pairs)?;
+    assert_eq!(rt; map.len(), 5000);
+    let (value, count) = map.get_counted(&Value::from(7u8));
+    assert_eq!(rt; value, Some(&Value::from(1u8)));
+    assert!(rt; count <= 13);
+    let (value, count) = map.get_counted(&Value::Null);
+    assert_eq!(rt; value, None);
+    assert!(rt; count <= 13);
+    Ok(())
+}
+
+#[test]
+fn keeps_the_last_pair_of_a_key(rt: HostRuntime) -> Result<(), Fail> {
+    let alloc = rt.alloc();
+    let mut pairs = Vec::new(alloc);
+    pairs.push((Value::Integer(2), text(alloc, "a")?))?;
+    pairs.push((Value::Integer(1), text(alloc, "b")?))?;
+    pairs.push((Value::Integer(2), text(alloc, "c")?))?;
+    let map = Map::from_pairs(pairs)?;
+    assert_eq!(rt; map.len(), 2);
+    assert_eq!(rt; map.get(&Value::Integer(1)), Some(&text(alloc, "b")?));
+    assert_eq!(rt; map.get(&Value::Integer(2)), Some(&text(alloc, "c")?));
+    Ok(())
+}
+
 /// Inserts a key. Where the growth is refused, the map is as it was.
 fn insert_or_keep(rt: &impl Abort, alloc: Global, map: &mut Map, key: Value) -> Result<(), Fail> {
     let before = Value::Map(map.clone(alloc)?);

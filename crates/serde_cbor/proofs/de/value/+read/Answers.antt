@@ -2,12 +2,14 @@ use Rattle.std.proofs.Common.{◌≡◌, ◌∷◌, ◌++◌, [], map, Bool, Ok,
 use Rattle.std.proofs.lemmas.Result.{err_from_is_err_and}
 use Rattle.std.proofs.lemmas.List.{map_push}
 use Rattle.cbor_model.specs.Plain.{no_pairs}
+use Rattle.cbor_model.specs.FiniteMap.{put_all}
 use Rattle.cbor_model.specs.Refusal.{end_in_array, end_in_map}
 use Rattle.cbor_model.specs.Reader.{more_at}
-use Rattle.serde_cbor.specs.View.{view, map_view}
+use Rattle.serde_cbor.specs.View.{view, pair_views}
 use Rattle.serde_cbor.specs.Gives.{Fails, total}
 use Rattle.serde_cbor.proofs.Reading.{passes, value_at, values_at, goes_on, faulted, is_done, open_values_at, open_goes_on, open_faulted, open_cut, open_is_done}
 use Rattle.serde_cbor.proofs.ReadingPairs.{with_earlier, pairs_at, pairs_go_on, key_faulted, value_faulted, pairs_done, open_pairs_at, open_pairs_go_on, open_key_faulted, open_value_faulted, open_pairs_cut, open_pairs_done}
+use Rattle.serde_cbor.proofs.Sorting.{put_all-push}
 use Rattle.serde_cbor.proofs.de.value.+read.Goals as goal
 
 -- ---- items of a counted array
@@ -99,7 +101,7 @@ read_pairs-returns-in_err-key-clause-read t c =
     let bs = c.pairs.source.rest in
     let all = with_earlier no_pairs (pairs_at end c.args.levels c.args.n c.args.source.now.rest) in
     let failed = subst (λ (n : ℕ). Fails n e (value_at n c.args.levels bs)) c.pairs.invariant.total c.in_err-key.ensures.read in
-    rw (passed.1, passed.2) (passes e end (value_at end c.args.levels bs) all (key_faulted end c.args.levels (map_view c.pairs.map) c.args.n c.pairs.counter bs all c.pairs-test.true c.pairs.invariant.so_far) failed)
+    rw (passed.1, passed.2) (passes e end (value_at end c.args.levels bs) all (key_faulted end c.args.levels (put_all (pair_views c.pairs.pairs.items) no_pairs) c.args.n c.pairs.counter bs all c.pairs-test.true c.pairs.invariant.so_far) failed)
 
 pub read_pairs-returns-in_err-value-clause-read : goal.read_pairs-returns-in_err-value-clause-read
 read_pairs-returns-in_err-value-clause-read t c =
@@ -112,7 +114,7 @@ read_pairs-returns-in_err-value-clause-read t c =
     let all = with_earlier no_pairs (pairs_at end c.args.levels c.args.n c.args.source.now.rest) in
     let first = subst (λ (n : ℕ). value_at n c.args.levels bs ≡ Ok (k, mid)) c.pairs.invariant.total c.in_ok-key.ensures.read in
     let failed = subst (λ (n : ℕ). Fails n e (value_at n c.args.levels mid)) (c.in_ok-key.ensures.total ∙ c.pairs.invariant.total) c.in_err-value.ensures.read in
-    rw (passed.1, passed.2) (passes e end (value_at end c.args.levels mid) all (value_faulted end c.args.levels (map_view c.pairs.map) c.args.n c.pairs.counter bs mid k all c.pairs-test.true first c.pairs.invariant.so_far) failed)
+    rw (passed.1, passed.2) (passes e end (value_at end c.args.levels mid) all (value_faulted end c.args.levels (put_all (pair_views c.pairs.pairs.items) no_pairs) c.args.n c.pairs.counter bs mid k all c.pairs-test.true first c.pairs.invariant.so_far) failed)
 
 pub read_pairs-pairs-preserved : goal.read_pairs-pairs-preserved
 read_pairs-pairs-preserved t c =
@@ -126,8 +128,7 @@ read_pairs-pairs-preserved t c =
     let first = subst (λ (n : ℕ). value_at n c.args.levels bs ≡ Ok (k, mid)) c.pairs.invariant.total c.in_ok-key.ensures.read in
     let second = subst (λ (n : ℕ). value_at n c.args.levels mid ≡ Ok (v, after)) same c.in_ok-value.ensures.read in
     record {
-      so_far = rw (c.in_ok-put.ensures.listed c.pairs.invariant.ascend) (pairs_go_on end c.args.levels (map_view c.pairs.map) c.args.n c.pairs.counter bs mid after k v (with_earlier no_pairs (pairs_at end c.args.levels c.args.n c.args.source.now.rest)) c.pairs-test.true first second c.pairs.invariant.so_far);
-      ascend = c.in_ok-put.ensures.ascending c.pairs.invariant.ascend;
+      so_far = rw (c.in_ok-push.ensures.items, put_all-push) (pairs_go_on end c.args.levels (put_all (pair_views c.pairs.pairs.items) no_pairs) c.args.n c.pairs.counter bs mid after k v (with_earlier no_pairs (pairs_at end c.args.levels c.args.n c.args.source.now.rest)) c.pairs-test.true first second c.pairs.invariant.so_far);
       forward = omega (arith, c.pairs.invariant.forward, c.in_ok-key.ensures.taken, c.in_ok-value.ensures.taken);
       total = c.in_ok-value.ensures.total ∙ same;
     }
@@ -135,7 +136,7 @@ read_pairs-pairs-preserved t c =
 pub read_pairs-returns-clause-read : goal.read_pairs-returns-clause-read
 read_pairs-returns-clause-read t c =
     let end = total c.args.source.now in
-    pairs_done end c.args.levels (map_view c.pairs.map) c.args.n c.pairs.counter c.pairs.source.rest (with_earlier no_pairs (pairs_at end c.args.levels c.args.n c.args.source.now.rest)) c.pairs-test.false c.pairs.invariant.so_far
+    rw c.in_ok-map.ensures.listed (pairs_done end c.args.levels (put_all (pair_views c.pairs.pairs.items) no_pairs) c.args.n c.pairs.counter c.pairs.source.rest (with_earlier no_pairs (pairs_at end c.args.levels c.args.n c.args.source.now.rest)) c.pairs-test.false c.pairs.invariant.so_far)
 
 -- ---- pairs of an open map
 
@@ -147,7 +148,7 @@ read_open_pairs-returns-in_err-more-clause-read t c =
     let bs = c.pairs.source.rest in
     let all = with_earlier no_pairs (open_pairs_at end c.args.levels c.args.source.now.rest) in
     let failed = subst (λ (n : ℕ). Fails n e (more_at end_in_map bs)) c.pairs.invariant.total c.in_err-more.ensures.read in
-    rw (passed.1, passed.2) (passes e end (more_at end_in_map bs) all (open_pairs_cut end c.args.levels (map_view c.pairs.map) bs all c.pairs.invariant.so_far) failed)
+    rw (passed.1, passed.2) (passes e end (more_at end_in_map bs) all (open_pairs_cut end c.args.levels (put_all (pair_views c.pairs.pairs.items) no_pairs) bs all c.pairs.invariant.so_far) failed)
 
 pub read_open_pairs-returns-in_err-key-clause-read : goal.read_open_pairs-returns-in_err-key-clause-read
 read_open_pairs-returns-in_err-key-clause-read t c =
@@ -159,7 +160,7 @@ read_open_pairs-returns-in_err-key-clause-read t c =
     let all = with_earlier no_pairs (open_pairs_at end c.args.levels c.args.source.now.rest) in
     let more = subst (λ (b : Bool). more_at end_in_map bs ≡ Ok (b, begun)) c.if-branch.true c.in_ok-more.ensures.read in
     let failed = subst (λ (n : ℕ). Fails n e (value_at n c.args.levels begun)) (c.in_ok-more.ensures.total ∙ c.pairs.invariant.total) c.in_err-key.ensures.read in
-    rw (passed.1, passed.2) (passes e end (value_at end c.args.levels begun) all (open_key_faulted end c.args.levels (map_view c.pairs.map) bs begun all more c.pairs.invariant.so_far) failed)
+    rw (passed.1, passed.2) (passes e end (value_at end c.args.levels begun) all (open_key_faulted end c.args.levels (put_all (pair_views c.pairs.pairs.items) no_pairs) bs begun all more c.pairs.invariant.so_far) failed)
 
 pub read_open_pairs-returns-in_err-value-clause-read : goal.read_open_pairs-returns-in_err-value-clause-read
 read_open_pairs-returns-in_err-value-clause-read t c =
@@ -175,7 +176,7 @@ read_open_pairs-returns-in_err-value-clause-read t c =
     let same = c.in_ok-more.ensures.total ∙ c.pairs.invariant.total in
     let first = subst (λ (n : ℕ). value_at n c.args.levels begun ≡ Ok (k, mid)) same c.in_ok-key.ensures.read in
     let failed = subst (λ (n : ℕ). Fails n e (value_at n c.args.levels mid)) (c.in_ok-key.ensures.total ∙ same) c.in_err-value.ensures.read in
-    rw (passed.1, passed.2) (passes e end (value_at end c.args.levels mid) all (open_value_faulted end c.args.levels (map_view c.pairs.map) bs begun mid k all more first c.pairs.invariant.so_far) failed)
+    rw (passed.1, passed.2) (passes e end (value_at end c.args.levels mid) all (open_value_faulted end c.args.levels (put_all (pair_views c.pairs.pairs.items) no_pairs) bs begun mid k all more first c.pairs.invariant.so_far) failed)
 
 pub read_open_pairs-pairs-preserved : goal.read_open_pairs-pairs-preserved
 read_open_pairs-pairs-preserved t c =
@@ -191,8 +192,7 @@ read_open_pairs-pairs-preserved t c =
     let first = subst (λ (n : ℕ). value_at n c.args.levels begun ≡ Ok (k, mid)) same c.in_ok-key.ensures.read in
     let second = subst (λ (n : ℕ). value_at n c.args.levels mid ≡ Ok (v, after)) (c.in_ok-key.ensures.total ∙ same) c.in_ok-value.ensures.read in
     record {
-      so_far = rw (c.in_ok-put.ensures.listed c.pairs.invariant.ascend) (open_pairs_go_on end c.args.levels (map_view c.pairs.map) bs begun mid after k v (with_earlier no_pairs (open_pairs_at end c.args.levels c.args.source.now.rest)) more first second c.pairs.invariant.so_far);
-      ascend = c.in_ok-put.ensures.ascending c.pairs.invariant.ascend;
+      so_far = rw (c.in_ok-push.ensures.items, put_all-push) (open_pairs_go_on end c.args.levels (put_all (pair_views c.pairs.pairs.items) no_pairs) bs begun mid after k v (with_earlier no_pairs (open_pairs_at end c.args.levels c.args.source.now.rest)) more first second c.pairs.invariant.so_far);
       forward = omega (arith, c.pairs.invariant.forward, c.in_ok-more.ensures.forward, c.in_ok-key.ensures.taken, c.in_ok-value.ensures.taken);
       total = c.in_ok-value.ensures.total ∙ c.in_ok-key.ensures.total ∙ same;
     }
@@ -203,4 +203,4 @@ read_open_pairs-returns-clause-read t c =
     let bs = c.pairs.source.rest in
     let after = c.more.new.self.rest in
     let more = subst (λ (b : Bool). more_at end_in_map bs ≡ Ok (b, after)) c.if-branch.false c.in_ok-more.ensures.read in
-    open_pairs_done end c.args.levels (map_view c.pairs.map) bs after (with_earlier no_pairs (open_pairs_at end c.args.levels c.args.source.now.rest)) more c.pairs.invariant.so_far
+    rw c.in_ok-map.ensures.listed (open_pairs_done end c.args.levels (put_all (pair_views c.pairs.pairs.items) no_pairs) bs after (with_earlier no_pairs (open_pairs_at end c.args.levels c.args.source.now.rest)) more c.pairs.invariant.so_far)

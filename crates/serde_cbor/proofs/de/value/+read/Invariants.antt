@@ -1,7 +1,7 @@
 use Rattle.std.proofs.Common.{◌≡◌, ◌+◌, ◌-◌, ◌*◌, ◌≤◌, length, map}
-use Rattle.cbor_model.specs.Canonical.{KeysAscend}
 use Rattle.cbor_model.specs.Plain.{no_pairs}
-use Rattle.serde_cbor.specs.View.{view, map_view}
+use Rattle.cbor_model.specs.FiniteMap.{put_all}
+use Rattle.serde_cbor.specs.View.{view, pair_views}
 use Rattle.serde_cbor.specs.Gives.{total}
 use Rattle.serde_cbor.proofs.Reading.{with_front, values_at, open_values_at}
 use Rattle.serde_cbor.proofs.ReadingPairs.{with_earlier, pairs_at, open_pairs_at}
@@ -72,8 +72,7 @@ abbrev pub invariant-read_pairs-pairs : goal.invariant-read_pairs-pairs
 invariant-read_pairs-pairs l =
     let end = total l.fn.source in
     record {
-      so_far : with_earlier (map_view l.map) (pairs_at end l.levels (l.n - l.counter) l.source.rest) ≡ with_earlier no_pairs (pairs_at end l.levels l.n l.fn.source.rest);
-      ascend : KeysAscend (map_view l.map);
+      so_far : with_earlier (put_all (pair_views l.pairs.items) no_pairs) (pairs_at end l.levels (l.n - l.counter) l.source.rest) ≡ with_earlier no_pairs (pairs_at end l.levels l.n l.fn.source.rest);
       forward : l.fn.source.at ≤ l.source.at;
       total : total l.source ≡ end;
     }
@@ -82,8 +81,7 @@ abbrev pub invariant-read_open_pairs-pairs : goal.invariant-read_open_pairs-pair
 invariant-read_open_pairs-pairs l =
     let end = total l.fn.source in
     record {
-      so_far : with_earlier (map_view l.map) (open_pairs_at end l.levels l.source.rest) ≡ with_earlier no_pairs (open_pairs_at end l.levels l.fn.source.rest);
-      ascend : KeysAscend (map_view l.map);
+      so_far : with_earlier (put_all (pair_views l.pairs.items) no_pairs) (open_pairs_at end l.levels l.source.rest) ≡ with_earlier no_pairs (open_pairs_at end l.levels l.fn.source.rest);
       forward : l.fn.source.at ≤ l.source.at;
       total : total l.source ≡ end;
     }
