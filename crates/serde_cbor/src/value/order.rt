@@ -5,15 +5,36 @@ ghost use Rattle.std.specs.Ordering.{nat_cmp};
 ghost use Rattle.std.specs.Cmp.{on_per, on_equiv, on_po, on_total, partial_equiv_from_equiv};
 ghost use Rattle.std.specs.Cmp.Lexicographic.{pointwise, slice_cmp, nat_list_eq_equiv, nat_list_cmp_total, texts_ties, texts_po};
 ghost use Rattle.cbor_model.specs.Plain.{array, map};
-ghost use Rattle.cbor_model.specs.Order.{lex, flat, kind, body, magnitude};
+ghost use Rattle.cbor_model.specs.Order.{lex, flat, flat_integer, kind, body};
 ghost use Rattle.serde_cbor.specs.View.{view, views, pair_views, flat_of};
 
 use super::{Float, Value};
 use std::cmp::Ordering;
 
+/// Values of one major type are compared by what they hold; the others differ by their major types.
 #[cycle(order)]
-#[tactic(auto, using(cbor_model::proofs::Compared::kinds_differ, cbor_model::proofs::Compared::kinds_same))]
+#[tactic(auto, unfolding(cbor_model::specs::Order::flat))]
 fn cmp_values(a: &Value, b: &Value) -> Ordering
+    ensures { result ≡ lex (flat (view a.now)) (flat (view b.now)) }
+{
+    match (a, b) {
+        (Value::Integer(x), Value::Integer(y)) => cmp_integers(*x, *y),
+        (Value::Bytes(x), Value::Bytes(y)) => cmp_strings(x, y),
+        (Value::Text(x), Value::Text(y)) => cmp_strings(x.as_bytes(), y.as_bytes()),
+        (Value::Array(x), Value::Array(y)) => cmp_items(x, y),
+        (Value::Map(x), Value::Map(y)) => cmp_pairs(&x.pairs, &y.pairs),
+        (Value::Tag(n, x), Value::Tag(m, y)) => match n.cmp(m) {
+            Ordering::Equal => cmp_values(x, y),
+            other => other,
+        },
+        _ => cmp_others(a, b),
+    }
+}
+
+/// Compares values of different major types, or two of null, the bools and floats.
+#[tactic(auto, using(cbor_model::proofs::Compared::kinds_differ, cbor_model::proofs::Compared::kinds_same))]
+fn cmp_others(a: &Value, b: &Value) -> Ordering
+    requires { kind (view a.now) ≡ kind (view b.now) → kind (view a.now) ≡ 7 }
     ensures { result ≡ lex (flat (view a.now)) (flat (view b.now)) }
 {
     let x = kind(a);
@@ -21,7 +42,7 @@ fn cmp_values(a: &Value, b: &Value) -> Ordering
     if x != y {
         return x.cmp(&y);
     }
-    cmp_bodies(a, b)
+    cmp_simple(a, b)
 }
 
 /// The major type, by which values are compared first.
@@ -41,35 +62,26 @@ fn kind(v: &Value) -> u8
     }
 }
 
-/// Compares values of one major type.
-#[cycle(order)]
-fn cmp_bodies(a: &Value, b: &Value) -> Ordering
-    requires { kind (view a.now) ≡ kind (view b.now) }
-    ensures { result ≡ lex (body (view a.now)) (body (view b.now)) }
+/// Numbers from 0 stand first, and on either side the one nearer to 0.
+fn cmp_integers(x: i128, y: i128) -> Ordering
+    ensures { result ≡ lex (flat_integer x) (flat_integer y) }
 {
-    match (a, b) {
-        (Value::Integer(x), Value::Integer(y)) => magnitude(*x).cmp(&magnitude(*y)),
-        (Value::Bytes(x), Value::Bytes(y)) => cmp_strings(x, y),
-        (Value::Text(x), Value::Text(y)) => cmp_strings(x.as_bytes(), y.as_bytes()),
-        (Value::Array(x), Value::Array(y)) => cmp_items(x, y),
-        (Value::Tag(n, x), Value::Tag(m, y)) => n.cmp(m).then(cmp_values(x, y)),
-        (Value::Map(x), Value::Map(y)) => cmp_pairs(&x.pairs, &y.pairs),
-        _ => cmp_simple(a, b),
+    match (x < 0, y < 0) {
+        (false, false) => x.cmp(&y),
+        (true, true) => y.cmp(&x),
+        (false, true) => Ordering::Less,
+        (true, false) => Ordering::Greater,
     }
-}
-
-/// The number in an integer's head: below 0 it is -1 - i.
-fn magnitude(i: i128) -> u128
-    ensures { result ≡ magnitude i }
-{
-    if i >= 0 { i as u128 } else { (-1 - i) as u128 }
 }
 
 /// The shorter string first, and then by the bytes.
 fn cmp_strings(a: &[u8], b: &[u8]) -> Ordering
     ensures { result ≡ lex (length a.now ∷ a.now) (length b.now ∷ b.now) }
 {
-    a.len().cmp(&b.len()).then(a.cmp(b))
+    match a.len().cmp(&b.len()) {
+        Ordering::Equal => a.cmp(b),
+        other => other,
+    }
 }
 
 /// The shorter list first, and then item by item.

@@ -1,6 +1,7 @@
 use Rattle.std.proofs.Common.{◌≡◌, ◌+◌, length, drop, Ordering, Equal, nat_cmp, List, sym, ap, ◌∙◌, arith}
 use Rattle.std.specs.Ordering.{ordering_then}
 use Rattle.cbor_model.specs.Plain as plain
+use Rattle.cbor_model.specs.Order.{flat}
 use Rattle.serde_cbor.specs.declared.value.Value.{Value}
 use Rattle.serde_cbor.specs.View.{view, pair_views}
 use Rattle.serde_cbor.proofs.Comparing.{stays, rest_order, turn, ended, bodies, bodies_differ, rest_pairs, pair_turn, pairs_ended, pair_bodies, pair_bodies_differ, view-Map, key_decides, value_decides, both_tied}
@@ -43,8 +44,9 @@ cmp_items-returns t c =
     let lens : nat_cmp (length a) (length b) ≡ Equal = sym c.cmp.ensures ∙ c.in-Equal.is in
     sym (ended a b c.items.i c.items-test.false c.items.invariant.lens) ∙ c.items.invariant.same ∙ sym (bodies a b lens)
 
-pub cmp_bodies-returns-in-Map-Map : goal.cmp_bodies-returns-in-Map-Map
-cmp_bodies-returns-in-Map-Map t c =
+pub cmp_values-returns-in-Map-Map : goal.cmp_values-returns-in-Map-Map
+unfolding flat
+cmp_values-returns-in-Map-Map t c =
     let x : view c.args.a.now ≡ plain.map (pair_views c.deref-in-Map-Map.result.now) = ap view c.in-Map-Map.is-0 ∙ view-Map _ ∙ ap (λ (ps : List (Value × Value)). plain.map (pair_views ps)) (sym c.deref-in-Map-Map.ensures.value) in
     let y : view c.args.b.now ≡ plain.map (pair_views c.deref-in-Map-Map-2.result.now) = ap view c.in-Map-Map.is-1 ∙ view-Map _ ∙ ap (λ (ps : List (Value × Value)). plain.map (pair_views ps)) (sym c.deref-in-Map-Map-2.ensures.value) in
     rw (x, y) c.cmp_pairs.ensures
