@@ -1,5 +1,5 @@
 -- The finite map that the pairs of a map list, where their keys strictly ascend.
-use Rattle.std.specs.Prelude.{List, [], ◌∷◌}
+use Rattle.std.specs.Prelude.{List, [], ◌∷◌, Option, None, Some}
 use Rattle.std.specs.declared.cmp.Ordering.{Ordering}
 use Rattle.std.specs.FinMap.{FinMap, from_entries}
 use Rattle.cbor_model.specs.Plain.{Val, Pairs, no_pairs, pair}
@@ -26,3 +26,12 @@ without k (pair l w ps) = by_order (lex (flat k) (flat l)) (pair l w ps) ps (pai
 abbrev pub put_all : Pairs → Pairs → Pairs
 put_all no_pairs before = before
 put_all (pair k v ps) before = put_all ps (put k v before)
+
+abbrev pub first_pair : Pairs → Option (Val × Val)
+first_pair no_pairs = None
+first_pair (pair k v ps) = Some (k, v)
+
+abbrev pub last_pair : Pairs → Option (Val × Val)
+last_pair no_pairs = None
+last_pair (pair k v no_pairs) = Some (k, v)
+last_pair (pair k v ps) = last_pair ps

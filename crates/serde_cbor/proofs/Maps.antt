@@ -1,19 +1,20 @@
 -- The place of a key among pairs, and what an insertion and a removal there give.
-use Rattle.std.proofs.Common.{◌≡◌, ℕ, zero, suc, ◌+◌, ◌/◌, ◌^◌, ◌<◌, ◌≤◌, List, [], ◌∷◌, ◌++◌, length, map, take, drop, get_or, set, Some, None, Ordering, Less, Equal, Greater, refl, sym, ap, ap₂, subst, ◌∙◌, add-one, arith, rules}
+use Rattle.std.proofs.Common.{◌≡◌, ℕ, zero, suc, ◌+◌, ◌-◌, ◌/◌, ◌^◌, ◌<◌, ◌≤◌, List, [], ◌∷◌, ◌++◌, length, map, take, drop, get_or, set, Some, None, Ordering, Less, Equal, Greater, refl, sym, ap, ap₂, subst, ◌∙◌, add-one, arith, rules}
 use Rattle.std.proofs.Math.Seq.{take-suc}
 use Rattle.std.proofs.lemmas.List.{map-append, take_all}
 use Rattle.std.proofs.lemmas.Int.Digits.{number_lt, number_digits_of, all_below_base_digits_of, length-digits_of_step, length-digits_of-le}
 use Rattle.std.specs.Int.Digits.{digits_of}
 use Rattle.std.specs.Global.{Global}
 use Rattle.std.specs.Prelude.{Vec}
-use Rattle.std.specs.List.{insert, remove}
+use Rattle.std.specs.List.{insert, remove, slice_get}
+use Rattle.std.specs.Option.{option_map}
 use Rattle.std.specs.FinMap as finmap
 use Rattle.std.specs.FinMap.{find}
 use Rattle.cbor_model.specs.Plain.{Val, Pairs, no_pairs, pair}
 use Rattle.cbor_model.specs.Order.{lex, flat}
 use Rattle.cbor_model.specs.Value.{by_order, put}
 use Rattle.cbor_model.specs.Canonical.{IsBelow, KeysAscend, IsOrdered, ArePairsOrdered}
-use Rattle.cbor_model.specs.FiniteMap.{val_cmp, entries, finite_map, without}
+use Rattle.cbor_model.specs.FiniteMap.{val_cmp, entries, finite_map, last_pair, without}
 use Rattle.cbor_model.proofs.Pairs.{Less-trans, Less-from_Greater, Greater-from_Less, same_key, IsBelow-trans, get-finite_map, finite_map-put, finite_map-without, KeysAscend-put, KeysAscend-without, KeysAscend-from_IsOrdered, IsOrdered-put, IsOrdered-without, put-below, find-below}
 use Rattle.serde_cbor.specs.declared.value.Value.{Value, the_lemmas}
 use Rattle.serde_cbor.specs.declared.value.Value.TheViews.{roll-Map}
@@ -196,3 +197,11 @@ copied_views ys xs i le same = ap vals_of (same ∙ ap (map view) (take_all i xs
 
 pub copied_pairs : (ys xs : List (Value × Value)) (i : ℕ) → length xs ≤ i → map both_views ys ≡ map both_views (take i xs) → pair_views ys ≡ pair_views xs
 copied_pairs ys xs i le same = ap pairs_of (same ∙ ap (map both_views) (take_all i xs le))
+
+-- the pair of the greatest key is the last
+pub last_pair-views : (ps : List (Value × Value)) → last_pair (pair_views ps) ≡ option_map (λ (p : Value × Value). (view p.0, view p.1)) (slice_get ps (length ps - 1))
+last_pair-views [] = refl
+last_pair-views (p ∷ []) = refl
+last_pair-views (p ∷ (q ∷ ps)) =
+    let at : suc (length (q ∷ ps) - 1) ≡ length (p ∷ (q ∷ ps)) - 1 = omega arith in
+    last_pair-views (q ∷ ps) ∙ ap (λ (i : ℕ). option_map (λ (r : Value × Value). (view r.0, view r.1)) (slice_get (p ∷ (q ∷ ps)) i)) at

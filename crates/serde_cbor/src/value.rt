@@ -49,6 +49,11 @@ pub enum Value {
 }
 
 /// A map from values to values, which lists its pairs in the order of the keys.
+///
+/// Of n pairs, `get`, `contains_key`, `insert` and `remove` compare a key with at most as many as n has
+/// binary digits; `insert` of a key that is new, and `remove`, then move the pairs behind it. So many
+/// pairs are best put in at once: `from_pairs` compares n - 1 times where the keys ascend already, and
+/// else in the order of n log n times. The other calls take the same time whatever n is.
 #[cycle(value)]
 #[derive(Debug, Drop)]
 pub struct Map {

@@ -1,6 +1,6 @@
 //! Maps: their pairs stand in a list, in the order of the keys.
 
-ghost use Rattle.std.specs.Prelude.{◌≡◌, ◌+◌, ◌-◌, ◌^◌, ◌==◌, ◌<◌, ◌≤◌, length, true, ◌↔◌, IsOkAnd, IfOk, OnOk, OnErr, IfErr, MatchResult, Some};
+ghost use Rattle.std.specs.Prelude.{◌≡◌, ◌+◌, ◌-◌, ◌^◌, ◌==◌, ◌<◌, ◌≤◌, length, true, ◌↔◌, IsOk, IfOk, OnOk, OnErr, IfErr, MatchResult, Some};
 ghost use Rattle.std.specs.List.{All};
 ghost use Rattle.std.specs.Option.{option_map};
 ghost use Rattle.std.specs.Slice.Iter.{iter_rest};
@@ -10,7 +10,7 @@ ghost use Rattle.cbor_model.specs.Plain.{Val, no_pairs, pair_count};
 ghost use Rattle.cbor_model.specs.Order.{lex, flat};
 ghost use Rattle.cbor_model.specs.Canonical.{KeysAscend, IsOrdered};
 ghost use Rattle.cbor_model.specs.Value.{put};
-ghost use Rattle.cbor_model.specs.FiniteMap.{finite_map, put_all, without};
+ghost use Rattle.cbor_model.specs.FiniteMap.{finite_map, first_pair, last_pair, put_all, without};
 ghost use Rattle.serde_cbor.specs.Error.{IsOutOfMemory};
 ghost use Rattle.serde_cbor.specs.View.{view, map_view, pair_views, IsPairOrdered, StandsAt, BelongsAt, binary_digits};
 
@@ -37,7 +37,8 @@ impl Map {
 
     /// The map that these pairs give, put in one after the other: of equal keys the last pair stays.
     ///
-    /// Pairs whose keys ascend stay where they are, which takes no memory. Others are sorted.
+    /// Where the keys ascend the pairs stay where they are, which takes no memory. Else they are sorted,
+    /// which can answer `OutOfMemory`: the pairs are dropped then.
     ///
     /// ```rust
     /// let pairs = vec![in alloc; (Value::Integer(2), Value::Null), (Value::Integer(1), Value::Null)]?;
@@ -47,7 +48,7 @@ impl Map {
         ensures listed { IfOk result (λ m. map_view m ≡ put_all (pair_views pairs.items) no_pairs) }
         ensures ascending { IfOk result (λ m. KeysAscend (map_view m)) }
         ensures ordered { IfOk result (λ m. All IsPairOrdered pairs.items → IsOrdered (plain.map (map_view m))) }
-        ensures untouched { KeysAscend (pair_views pairs.items) → IsOkAnd result (λ m. m.pairs ≡ pairs) }
+        ensures unrefused { KeysAscend (pair_views pairs.items) → IsOk result }
         ensures memory { IfErr result IsOutOfMemory }
     {
         if keys_ascend(&pairs) {
@@ -102,7 +103,8 @@ impl Map {
         value
     }
 
-    /// The value of a key as by `get`, and with how many keys the search compared it.
+    /// The value of a key as by `get`, and with how many keys the search compared it: with at most as
+    /// many as the number of pairs has binary digits, and with none where there are no pairs.
     pub fn get_counted(&self, key: &Value) -> (Option<&Value>, u32)
         ensures found { KeysAscend (map_view self.now) → option_map (λ v. view v.now) result.0 ≡ finmap.get (finite_map (map_view self.now)) (view key.now) }
         ensures few { result.1 ≤ binary_digits (pair_count (map_view self.now)) }
@@ -117,6 +119,13 @@ impl Map {
             }
             Err(_) => (None, count),
         }
+    }
+
+    /// Whether it has the key.
+    pub fn contains_key(&self, key: &Value) -> bool
+        ensures { KeysAscend (map_view self.now) → result ≡ finmap.contains_key (finite_map (map_view self.now)) (view key.now) }
+    {
+        self.get(key).is_some()
     }
 
     /// Takes a key's pair out, and answers its value. It takes no memory.
@@ -151,6 +160,37 @@ impl Map {
         ensures { result ≡ (pair_count (map_view self.now) == 0) }
     {
         self.pairs.is_empty()
+    }
+
+    /// The pair of the least key, or `None` where it has no pairs.
+    pub fn first_key_value(&self) -> Option<(&Value, &Value)>
+        ensures { option_map (λ p. (view p.0.now, view p.1.now)) result ≡ first_pair (map_view self.now) }
+    {
+        self.pairs.first().map(|pair| (&pair.0, &pair.1))
+    }
+
+    /// The pair of the greatest key, or `None` where it has no pairs.
+    pub fn last_key_value(&self) -> Option<(&Value, &Value)>
+        ensures { option_map (λ p. (view p.0.now, view p.1.now)) result ≡ last_pair (map_view self.now) }
+    {
+        match self.pairs.last() {
+            Some(pair) => Some((&pair.0, &pair.1)),
+            None => None,
+        }
+    }
+
+    /// Its pairs, in the order of the keys, which are the caller's to take apart.
+    ///
+    /// ```rust
+    /// for (key, value) in map.into_pairs() {
+    ///     ..
+    /// }
+    /// ```
+    pub fn into_pairs(self) -> Vec<(Value, Value)>
+        ensures { pair_views result.items ≡ map_view self }
+    {
+        let Map { pairs } = self;
+        pairs
     }
 
     /// Its pairs of a key and a value, in the order of the keys.

@@ -40,34 +40,164 @@ fn keeps_one_pair_of_a_key(rt: HostRuntime) -> Result<(), Fail> {
     Ok(())
 }
 
-#[test]
-fn finds_a_key_among_thousands(rt: HostRuntime) -> Result<(), Fail> {
-    let mut pairs = Vec::new(rt.alloc());
-    for i in 0..5000u64 {
-        pairs.push((Value::from(i * 7 % 5000), Value::from(i)))?;
+/// The map of the keys from 0 below n, each to itself.
+fn counting(alloc: Global, n: u16) -> Result<Map, Fail> {
+    let mut pairs = Vec::new(alloc);
+    for key in 0..n {
+        pairs.push((Value::from(key), Value::from(key)))?;
     }
-    let map = Map::from_pairs(pairs)?;
-    assert_eq!(rt; map.len(), 5000);
-    let (value, count) = map.get_counted(&Value::from(7u8));
-    assert_eq!(rt; value, Some(&Value::from(1u8)));
-    assert!(rt; count <= 13);
-    let (value, count) = map.get_counted(&Value::Null);
+    Ok(Map::from_pairs(pairs)?)
+}
+
+/// Each key of such a map is found by so many comparisons at most, and so is that a key is missing.
+fn searches_by(rt: &impl Abort, alloc: Global, n: u16, most: u32) -> Result<(), Fail> {
+    let map = counting(alloc, n)?;
+    for key in 0..n {
+        let wanted = Value::from(key);
+        let (value, count) = map.get_counted(&wanted);
+        assert_eq!(rt; value, Some(&wanted));
+        assert!(rt; count >= 1 && count <= most);
+    }
+    let (value, count) = map.get_counted(&Value::from(n));
     assert_eq!(rt; value, None);
-    assert!(rt; count <= 13);
+    assert!(rt; count >= 1 && count <= most);
     Ok(())
 }
 
 #[test]
-fn keeps_the_last_pair_of_a_key(rt: HostRuntime) -> Result<(), Fail> {
-    let alloc = rt.alloc();
+fn compares_no_key_of_an_empty_map(rt: HostRuntime) -> Result<(), Fail> {
+    let map = Map::new(rt.alloc());
+    let (value, count) = map.get_counted(&Value::Null);
+    assert_eq!(rt; value, None);
+    assert_eq!(rt; count, 0);
+    Ok(())
+}
+
+#[test]
+fn compares_1_of_1_key(rt: HostRuntime) -> Result<(), Fail> {
+    searches_by(&rt, rt.alloc(), 1, 1)
+}
+
+#[test]
+fn compares_3_of_7_keys(rt: HostRuntime) -> Result<(), Fail> {
+    searches_by(&rt, rt.alloc(), 7, 3)
+}
+
+#[test]
+fn compares_4_of_8_keys(rt: HostRuntime) -> Result<(), Fail> {
+    searches_by(&rt, rt.alloc(), 8, 4)
+}
+
+#[test]
+fn compares_10_of_1000_keys(rt: HostRuntime) -> Result<(), Fail> {
+    searches_by(&rt, rt.alloc(), 1000, 10)
+}
+
+#[test]
+fn counts_the_keys_that_it_compares(rt: HostRuntime) -> Result<(), Fail> {
+    let map = counting(rt.alloc(), 7)?;
+    let (_, count) = map.get_counted(&Value::Integer(3));
+    assert_eq!(rt; count, 1);
+    for missing in [Value::Integer(-1), Value::Integer(7), Value::Null] {
+        let (_, count) = map.get_counted(&missing);
+        assert_eq!(rt; count, 3);
+    }
+    Ok(())
+}
+
+/// The map of pairs of small numbers lists these pairs.
+fn makes(
+    rt: &impl Abort,
+    alloc: Global,
+    given: &[(u8, u8)],
+    listed: &[(u8, u8)],
+) -> Result<(), Fail> {
     let mut pairs = Vec::new(alloc);
-    pairs.push((Value::Integer(2), text(alloc, "a")?))?;
-    pairs.push((Value::Integer(1), text(alloc, "b")?))?;
-    pairs.push((Value::Integer(2), text(alloc, "c")?))?;
+    for (key, value) in given {
+        pairs.push((Value::from(*key), Value::from(*value)))?;
+    }
     let map = Map::from_pairs(pairs)?;
-    assert_eq!(rt; map.len(), 2);
-    assert_eq!(rt; map.get(&Value::Integer(1)), Some(&text(alloc, "b")?));
-    assert_eq!(rt; map.get(&Value::Integer(2)), Some(&text(alloc, "c")?));
+    assert_eq!(rt; map.len(), listed.len());
+    for ((key, value), wanted) in map.iter().zip(listed) {
+        assert_eq!(rt; *key, Value::from(wanted.0));
+        assert_eq!(rt; *value, Value::from(wanted.1));
+    }
+    Ok(())
+}
+
+#[test]
+fn makes_a_map_of_no_pairs(rt: HostRuntime) -> Result<(), Fail> {
+    makes(&rt, rt.alloc(), &[], &[])
+}
+
+#[test]
+fn makes_a_map_of_one_pair(rt: HostRuntime) -> Result<(), Fail> {
+    makes(&rt, rt.alloc(), &[(5, 1)], &[(5, 1)])
+}
+
+#[test]
+fn makes_a_map_of_ascending_keys(rt: HostRuntime) -> Result<(), Fail> {
+    makes(
+        &rt,
+        rt.alloc(),
+        &[(1, 9), (2, 8), (3, 7)],
+        &[(1, 9), (2, 8), (3, 7)],
+    )
+}
+
+#[test]
+fn makes_a_map_of_descending_keys(rt: HostRuntime) -> Result<(), Fail> {
+    makes(
+        &rt,
+        rt.alloc(),
+        &[(3, 7), (2, 8), (1, 9)],
+        &[(1, 9), (2, 8), (3, 7)],
+    )
+}
+
+#[test]
+fn keeps_the_last_of_all_equal_keys(rt: HostRuntime) -> Result<(), Fail> {
+    makes(
+        &rt,
+        rt.alloc(),
+        &[(4, 1), (4, 2), (4, 3), (4, 4)],
+        &[(4, 4)],
+    )
+}
+
+#[test]
+fn keeps_the_last_of_equal_keys_far_apart(rt: HostRuntime) -> Result<(), Fail> {
+    let given = [
+        (9, 0),
+        (1, 1),
+        (7, 2),
+        (3, 3),
+        (5, 4),
+        (2, 5),
+        (9, 6),
+        (8, 7),
+        (1, 8),
+    ];
+    let listed = [(1, 8), (2, 5), (3, 3), (5, 4), (7, 2), (8, 7), (9, 6)];
+    makes(&rt, rt.alloc(), &given, &listed)
+}
+
+#[test]
+fn tells_the_ends_of_a_map(rt: HostRuntime) -> Result<(), Fail> {
+    let alloc = rt.alloc();
+    let map = Map::new(alloc);
+    assert!(rt; map.first_key_value().is_none());
+    assert!(rt; map.last_key_value().is_none());
+    assert!(rt; !map.contains_key(&Value::Null));
+    let map = counting(alloc, 3)?;
+    assert!(rt; map.contains_key(&Value::Integer(2)));
+    assert!(rt; !map.contains_key(&Value::Integer(3)));
+    let (first, _) = map.first_key_value().ok_or("no pair")?;
+    assert_eq!(rt; *first, Value::Integer(0));
+    let (last, _) = map.last_key_value().ok_or("no pair")?;
+    assert_eq!(rt; *last, Value::Integer(2));
+    let pairs = map.into_pairs();
+    assert_eq!(rt; pairs.len(), 3);
     Ok(())
 }
 
