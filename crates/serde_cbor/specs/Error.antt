@@ -1,5 +1,5 @@
 -- What an `Error` is: a code and an offset; and what it prints.
-use Rattle.std.specs.Prelude.{◌≡◌, ⊤, ℕ, List, ◌++◌, codes, Option, Some, None}
+use Rattle.std.specs.Prelude.{◌≡◌, ⊤, ℕ, zero, suc, List, ◌++◌, codes, Option, Some, None}
 use Rattle.std.specs.String.{string_bytes}
 use Rattle.cbor_model.specs.Refusal.{words, at_offset, end_in_value, end_in_array, end_in_map, length_out_of_range, invalid_utf8, unassigned_code, unexpected_code, trailing_data, too_deep}
 use Rattle.serde_cbor.specs.declared.error.Category.{Category}
@@ -58,6 +58,15 @@ code_text OutOfMemory = codes "out of memory"
 -- the words, and the offset where it isn't 0
 abbrev pub error_text : Error → List ℕ
 error_text e = code_text e.code ++ at_offset e.offset
+
+-- The same under the options of a hole, as `{:#}` or `{:>40}`, which it ignores. Where an offset
+-- follows the words, what is printed then isn't said.
+abbrev pub styled_at : ℕ → List ℕ → Option (List ℕ)
+styled_at zero text = Some text
+styled_at (suc n) text = None
+
+abbrev pub styled_error_text : Error → Option (List ℕ)
+styled_error_text e = styled_at e.offset (code_text e.code)
 
 -- an error with this text, where the text is known; or out of memory
 abbrev pub IsMessageOf : Option (List ℕ) → ErrorCode → Type 0

@@ -253,6 +253,8 @@ impl fmt::Display for ErrorCode {
 
     ghost output = { λ code. Some (code_text code) };
 
+    ghost styled_output = { λ code _. Some (code_text code) };
+
     fn fmt<W: fmt::Write>(&self, f: &mut fmt::Formatter<W>) -> fmt::Result {
         match self {
             ErrorCode::Message(text) => f.write_str(text),
@@ -278,13 +280,15 @@ impl fmt::Display for ErrorCode {
 
 impl fmt::Display for Error {
     ghost use Rattle.std.specs.Prelude.{Some};
-    ghost use Rattle.serde_cbor.specs.Error.{error_text};
+    ghost use Rattle.serde_cbor.specs.Error.{error_text, styled_error_text};
 
     ghost output = { λ e. Some (error_text e) };
 
+    ghost styled_output = { λ e _. styled_error_text e };
+
     fn fmt<W: fmt::Write>(&self, f: &mut fmt::Formatter<W>) -> fmt::Result {
         if self.offset == 0 {
-            return write!(f, "{}", self.code);
+            return self.code.fmt(f);
         }
         write!(f, "{} at offset {}", self.code, self.offset)
     }

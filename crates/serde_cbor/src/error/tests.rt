@@ -29,7 +29,9 @@ fn is_told(
     assert_eq!(rt; e.is_eof(), category == Category::Eof);
     let text = e.to_string(alloc)?;
     assert_eq!(rt; text.as_str().strip_suffix(" at offset 7"), Some(words));
-    Ok(())
+    assert_eq!(rt; format!(in alloc; "{e:#}")?.as_str(), text.as_str());
+    assert_eq!(rt; format!(in alloc; "{e:>60}")?.as_str(), text.as_str());
+    prints(rt, e.code().to_string(alloc), words)
 }
 
 #[test]
@@ -123,5 +125,9 @@ fn errors_without_a_place(rt: HostRuntime) -> Result<(), Fail> {
         e.to_string(alloc),
         "Scratch buffer too small at offset 1",
     )?;
-    Ok(())
+    prints(
+        &rt,
+        Error::eof(u64::MAX).to_string(alloc),
+        "EOF while parsing a value at offset 18446744073709551615",
+    )
 }
