@@ -7,8 +7,8 @@ use Rattle.std.proofs.lemmas.Bool.{ne_eqb, eq-eqb, lt-ltb}
 use Rattle.std.proofs.lemmas.List.{length-append}
 use Rattle.cbor_model.specs.Head.{HeadWidth, limit, info, head, behind}
 use Rattle.cbor_model.specs.Raw as raw
-use Rattle.cbor_model.specs.Raw.{Raw, Raws, no_raws, RawPairs, no_raw_pairs, raw_pair, Chunk, joined, Simple, false_item, true_item, null_item, undefined_item, FloatWidth, half, single, double, float_limit, count, pair_count, depth, depth_all, depth_pairs, IsChunk, IsWellFormed, AreWellFormed, ArePairsWellFormed, EachText, EachTextOfAll, EachTextOfPairs}
-use Rattle.cbor_model.specs.Spelling.{spell, spell_all, spell_pairs, chunk, simple_byte, float_spelling, break}
+use Rattle.cbor_model.specs.Raw.{Length, definite, indefinite, Raw, Raws, no_raws, RawPairs, no_raw_pairs, raw_pair, Chunk, joined, Simple, false_item, true_item, null_item, undefined_item, FloatWidth, half, single, double, float_limit, count, pair_count, depth, depth_all, depth_pairs, IsChunk, IsWellFormed, AreWellFormed, ArePairsWellFormed, EachText, EachTextOfAll, EachTextOfPairs}
+use Rattle.cbor_model.specs.Spelling.{spell, spell_all, spell_pairs, chunk, simple_byte, float_spelling, enclosed, break}
 use Rattle.cbor_model.specs.Refusal.{Refusal, end_in_array, end_in_map}
 use Rattle.cbor_model.specs.Reader.{Reads, ◌>>=◌, Reading, byte_at, float_at, simple_at, string_at, checked_text, text_at, chunk_at, chunks_by, string_chunks_at, text_chunks_at, items_by, more_at, open_items_by, pairs_by, open_pairs_by, array_at, map_at, tag_at, open_array_at, open_map_at, content_at, open_at, after_first, item_by, item_at, inside}
 use Rattle.cbor_model.proofs.Made.{made, made_all, made_pairs}
@@ -56,10 +56,10 @@ begun (raw.bytes c) fits = head_begun 2 c.width (length c.bytes) _ (omega arith)
 begun (raw.text c) fits = head_begun 3 c.width (length c.bytes) _ (omega arith) fits.0
 begun (raw.bytes_chunks cs) fits = record { first = 0x5f; others = _; is = refl; no_break = refl }
 begun (raw.text_chunks cs) fits = record { first = 0x7f; others = _; is = refl; no_break = refl }
-begun (raw.array w rs) fits = head_begun 4 w (count rs) _ (omega arith) fits.0
-begun (raw.array_open rs) fits = record { first = 0x9f; others = _; is = refl; no_break = refl }
-begun (raw.map w ps) fits = head_begun 5 w (pair_count ps) _ (omega arith) fits.0
-begun (raw.map_open ps) fits = record { first = 0xbf; others = _; is = refl; no_break = refl }
+begun (raw.array (definite w) rs) fits = head_begun 4 w (count rs) _ (omega arith) fits.0
+begun (raw.array indefinite rs) fits = record { first = 0x9f; others = _; is = refl; no_break = refl }
+begun (raw.map (definite w) ps) fits = head_begun 5 w (pair_count ps) _ (omega arith) fits.0
+begun (raw.map indefinite ps) fits = record { first = 0xbf; others = _; is = refl; no_break = refl }
 begun (raw.tag w n r) fits = head_begun 6 w n _ (omega arith) fits.0
 begun (raw.simple s) fits = simple_begun s
 begun (raw.float w bits) fits = float_begun w bits
@@ -172,11 +172,11 @@ module _ {Item Items Pairs : Type 0} (m : Reading Item Items Pairs) where
   -- ---- what lies one level further in, by a reader p that reads it
 
   -- an array, once its items are read
-  array_again : (p : List ℕ → Reads Item) (w : HeadWidth) (n : ℕ) (bs rest : List ℕ) (items : Items) → items_by m p n bs ≡ Ok (items, rest) → array_at m (Some p) w n bs ≡ Ok (m.array w items, rest)
+  array_again : (p : List ℕ → Reads Item) (w : HeadWidth) (n : ℕ) (bs rest : List ℕ) (items : Items) → items_by m p n bs ≡ Ok (items, rest) → array_at m (Some p) w n bs ≡ Ok (m.array (definite w) items, rest)
   unfolding array_at
   array_again p w n bs rest items is = rw is refl
 
-  map_again : (p : List ℕ → Reads Item) (w : HeadWidth) (n : ℕ) (bs rest : List ℕ) (pairs : Pairs) → pairs_by m p n bs ≡ Ok (pairs, rest) → map_at m (Some p) w n bs ≡ Ok (m.map w pairs, rest)
+  map_again : (p : List ℕ → Reads Item) (w : HeadWidth) (n : ℕ) (bs rest : List ℕ) (pairs : Pairs) → pairs_by m p n bs ≡ Ok (pairs, rest) → map_at m (Some p) w n bs ≡ Ok (m.map (definite w) pairs, rest)
   unfolding map_at
   map_again p w n bs rest pairs is = rw is refl
 
@@ -184,11 +184,11 @@ module _ {Item Items Pairs : Type 0} (m : Reading Item Items Pairs) where
   unfolding tag_at
   tag_again p w n bs rest item is = rw is refl
 
-  open_array_again : (p : List ℕ → Reads Item) (bs rest : List ℕ) (items : Items) → open_items_by m p (suc (length bs)) bs ≡ Ok (items, rest) → item_by m (Some p) (0x9f ∷ bs) ≡ Ok (m.array_open items, rest)
+  open_array_again : (p : List ℕ → Reads Item) (bs rest : List ℕ) (items : Items) → open_items_by m p (suc (length bs)) bs ≡ Ok (items, rest) → item_by m (Some p) (0x9f ∷ bs) ≡ Ok (m.array indefinite items, rest)
   unfolding item_by byte_at after_first open_at open_array_at
   open_array_again p bs rest items is = rw is refl
 
-  open_map_again : (p : List ℕ → Reads Item) (bs rest : List ℕ) (pairs : Pairs) → open_pairs_by m p (suc (length bs)) bs ≡ Ok (pairs, rest) → item_by m (Some p) (0xbf ∷ bs) ≡ Ok (m.map_open pairs, rest)
+  open_map_again : (p : List ℕ → Reads Item) (bs rest : List ℕ) (pairs : Pairs) → open_pairs_by m p (suc (length bs)) bs ≡ Ok (pairs, rest) → item_by m (Some p) (0xbf ∷ bs) ≡ Ok (m.map indefinite pairs, rest)
   unfolding item_by byte_at after_first open_at open_map_at
   open_map_again p bs rest pairs is = rw is refl
 
@@ -240,38 +240,36 @@ module _ {Item Items Pairs : Type 0} (m : Reading Item Items Pairs) (total : ℕ
         ap (λ (t : List ℕ). item_at m levels (0x5f ∷ t)) (append_assoc (flat_map (chunk 2) cs) break rest) ∙ item_at-inside m levels _ ∙ string_chunks_again m (inside m levels) cs rest fits
     again (raw.text_chunks cs) levels rest fits nests texts within =
         ap (λ (t : List ℕ). item_at m levels (0x7f ∷ t)) (append_assoc (flat_map (chunk 3) cs) break rest) ∙ item_at-inside m levels _ ∙ text_chunks_again m (inside m levels) cs rest fits texts
-    again (raw.array w rs) zero rest fits nests texts within = absurd (omega (arith, nests))
-    again (raw.array w rs) (suc levels) rest fits nests texts within =
+    again (raw.array l rs) zero rest fits nests texts within = absurd (omega (arith, nests))
+    again (raw.array (definite w) rs) (suc levels) rest fits nests texts within =
         let front = head 4 w (count rs) in
         let items = spell_all rs in
         ap (item_at m (suc levels)) (append_assoc front items rest)
         ∙ item_at-inside m (suc levels) _
         ∙ head_again m (inside m (suc levels)) 4 w (count rs) (items ++ rest) (omega arith) fits.0
         ∙ array_again m (item_at m levels) w (count rs) (items ++ rest) rest (made_all m rs) (all_again rs levels rest fits.1 (omega (arith, nests)) texts (within_head front items rest total within))
-    again (raw.array_open rs) zero rest fits nests texts within = absurd (omega (arith, nests))
-    again (raw.array_open rs) (suc levels) rest fits nests texts within =
+    again (raw.array indefinite rs) (suc levels) rest fits nests texts within =
         let items = spell_all rs in
         let bs = items ++ (0xff ∷ rest) in
-        let enough : count rs < suc (length bs) = omega (arith, count-le rs fits, length-append items (0xff ∷ rest)) in
+        let enough : count rs < suc (length bs) = omega (arith, count-le rs fits.1, length-append items (0xff ∷ rest)) in
         ap (λ (t : List ℕ). item_at m (suc levels) (0x9f ∷ t)) (append_assoc items break rest)
         ∙ item_at-inside m (suc levels) _
-        ∙ open_array_again m (item_at m levels) bs rest (made_all m rs) (open_all_again rs levels rest (suc (length bs)) fits (omega (arith, nests)) texts (within_open 0x9f items rest total within) enough)
-    again (raw.map w ps) zero rest fits nests texts within = absurd (omega (arith, nests))
-    again (raw.map w ps) (suc levels) rest fits nests texts within =
+        ∙ open_array_again m (item_at m levels) bs rest (made_all m rs) (open_all_again rs levels rest (suc (length bs)) fits.1 (omega (arith, nests)) texts (within_open 0x9f items rest total within) enough)
+    again (raw.map l ps) zero rest fits nests texts within = absurd (omega (arith, nests))
+    again (raw.map (definite w) ps) (suc levels) rest fits nests texts within =
         let front = head 5 w (pair_count ps) in
         let pairs = spell_pairs ps in
         ap (item_at m (suc levels)) (append_assoc front pairs rest)
         ∙ item_at-inside m (suc levels) _
         ∙ head_again m (inside m (suc levels)) 5 w (pair_count ps) (pairs ++ rest) (omega arith) fits.0
         ∙ map_again m (item_at m levels) w (pair_count ps) (pairs ++ rest) rest (made_pairs m ps) (pairs_again ps levels rest fits.1 (omega (arith, nests)) texts (within_head front pairs rest total within))
-    again (raw.map_open ps) zero rest fits nests texts within = absurd (omega (arith, nests))
-    again (raw.map_open ps) (suc levels) rest fits nests texts within =
+    again (raw.map indefinite ps) (suc levels) rest fits nests texts within =
         let pairs = spell_pairs ps in
         let bs = pairs ++ (0xff ∷ rest) in
-        let enough : pair_count ps < suc (length bs) = omega (arith, pair_count-le ps fits, length-append pairs (0xff ∷ rest)) in
+        let enough : pair_count ps < suc (length bs) = omega (arith, pair_count-le ps fits.1, length-append pairs (0xff ∷ rest)) in
         ap (λ (t : List ℕ). item_at m (suc levels) (0xbf ∷ t)) (append_assoc pairs break rest)
         ∙ item_at-inside m (suc levels) _
-        ∙ open_map_again m (item_at m levels) bs rest (made_pairs m ps) (open_pairs_again ps levels rest (suc (length bs)) fits (omega (arith, nests)) texts (within_open 0xbf pairs rest total within) enough)
+        ∙ open_map_again m (item_at m levels) bs rest (made_pairs m ps) (open_pairs_again ps levels rest (suc (length bs)) fits.1 (omega (arith, nests)) texts (within_open 0xbf pairs rest total within) enough)
     again (raw.tag w n r) zero rest fits nests texts within = absurd (omega (arith, nests))
     again (raw.tag w n r) (suc levels) rest fits nests texts within =
         let front = head 6 w n in

@@ -6,8 +6,8 @@ use Rattle.std.proofs.lemmas.Bool.{ltb-true}
 use Rattle.std.proofs.lemmas.List.{length-append}
 use Rattle.cbor_model.specs.Head.{HeadWidth, no_bytes, one_byte, two_bytes, four_bytes, limit, least, head}
 use Rattle.cbor_model.specs.Raw as raw
-use Rattle.cbor_model.specs.Raw.{Raw, Raws, no_raws, RawPairs, no_raw_pairs, raw_pair, Chunk, joined, false_item, true_item, null_item, undefined_item, AreBytes, IsChunk, IsWellFormed, AreWellFormed, ArePairsWellFormed, depth, depth_all, depth_pairs, EachText, EachTextOfAll, EachTextOfPairs}
-use Rattle.cbor_model.specs.Spelling.{spell, spell_all, spell_pairs, chunk, break}
+use Rattle.cbor_model.specs.Raw.{Length, definite, indefinite, Raw, Raws, no_raws, RawPairs, no_raw_pairs, raw_pair, Chunk, joined, false_item, true_item, null_item, undefined_item, AreBytes, IsChunk, IsWellFormed, AreWellFormed, ArePairsWellFormed, depth, depth_all, depth_pairs, EachText, EachTextOfAll, EachTextOfPairs}
+use Rattle.cbor_model.specs.Spelling.{spell, spell_all, spell_pairs, chunk, enclosed, break}
 use Rattle.cbor_model.specs.Acceptable.{IsAcceptableWithin}
 use Rattle.cbor_model.specs.Plain.{Val, Pairs, no_pairs, pair}
 use Rattle.cbor_model.specs.Order.{lex, flat}
@@ -35,10 +35,8 @@ mutual
   ordered (raw.text c) = tt
   ordered (raw.bytes_chunks cs) = tt
   ordered (raw.text_chunks cs) = tt
-  ordered (raw.array w rs) = all_ordered rs
-  ordered (raw.array_open rs) = all_ordered rs
-  ordered (raw.map w ps) = pairs_ordered ps no_pairs tt
-  ordered (raw.map_open ps) = pairs_ordered ps no_pairs tt
+  ordered (raw.array l rs) = all_ordered rs
+  ordered (raw.map l ps) = pairs_ordered ps no_pairs tt
   ordered (raw.tag w n r) = ordered r
   ordered (raw.simple s) = simple_ordered s
   ordered (raw.float w bits) = tt
@@ -77,10 +75,8 @@ mutual
   no_deeper (raw.text c) = omega arith
   no_deeper (raw.bytes_chunks cs) = omega arith
   no_deeper (raw.text_chunks cs) = omega arith
-  no_deeper (raw.array w rs) = omega (arith, all_no_deeper rs)
-  no_deeper (raw.array_open rs) = omega (arith, all_no_deeper rs)
-  no_deeper (raw.map w ps) = omega (arith, pairs_no_deeper ps no_pairs (depth_pairs ps) (omega arith) (omega arith))
-  no_deeper (raw.map_open ps) = omega (arith, pairs_no_deeper ps no_pairs (depth_pairs ps) (omega arith) (omega arith))
+  no_deeper (raw.array l rs) = omega (arith, all_no_deeper rs)
+  no_deeper (raw.map l ps) = omega (arith, pairs_no_deeper ps no_pairs (depth_pairs ps) (omega arith) (omega arith))
   no_deeper (raw.tag w n r) = omega (arith, no_deeper r)
   no_deeper (raw.simple s) = simple_flat s
   no_deeper (raw.float w bits) = omega arith
@@ -124,10 +120,8 @@ module _ (P : List ℕ → Type 0) where
     same_texts (raw.text c) texts = texts
     same_texts (raw.bytes_chunks cs) texts = tt
     same_texts (raw.text_chunks cs) texts = texts
-    same_texts (raw.array w rs) texts = all_same_texts rs texts
-    same_texts (raw.array_open rs) texts = all_same_texts rs texts
-    same_texts (raw.map w ps) texts = pairs_same_texts ps no_pairs texts tt
-    same_texts (raw.map_open ps) texts = pairs_same_texts ps no_pairs texts tt
+    same_texts (raw.array l rs) texts = all_same_texts rs texts
+    same_texts (raw.map l ps) texts = pairs_same_texts ps no_pairs texts tt
     same_texts (raw.tag w n r) texts = same_texts r texts
     same_texts (raw.simple s) texts = simple_texts s
     same_texts (raw.float w bits) texts = tt
@@ -216,6 +210,11 @@ map_fits : (ps : RawPairs) → ArePairsWellFormed ps → length (spell_pairs ps)
 unfolding canonical
 map_fits ps fits short = lt-limit-least _ (omega (arith, count_pairs ps no_pairs, pair_count-le ps fits))
 
+-- what is enclosed is no longer than the whole
+length-enclosed : (major : ℕ) (l : Length) (n : ℕ) (items : List ℕ) → length items ≤ length (enclosed major l n items)
+length-enclosed major (definite w) n items = omega (arith, length-append (head major w n) items)
+length-enclosed major indefinite n items = omega (arith, length-append items break)
+
 mutual
   unfolding value canonical spell
 
@@ -226,18 +225,12 @@ mutual
   well_formed (raw.text c) fits short = (fits_least c.width (length c.bytes) fits.0, fits.1)
   well_formed (raw.bytes_chunks cs) fits short = (joined_fits 2 cs (omega arith), joined_bytes cs fits)
   well_formed (raw.text_chunks cs) fits short = (joined_fits 3 cs (omega arith), joined_bytes cs fits)
-  well_formed (raw.array w rs) fits short =
-      let few : length (spell_all rs) < 2 ^ 64 = omega (arith, length-append (head 4 w (raw.count rs)) (spell_all rs)) in
+  well_formed (raw.array l rs) fits short =
+      let few : length (spell_all rs) < 2 ^ 64 = omega (arith, length-enclosed 4 l (raw.count rs) (spell_all rs)) in
       (array_fits rs fits.1 few, all_well_formed rs fits.1 few)
-  well_formed (raw.array_open rs) fits short =
-      let few : length (spell_all rs) < 2 ^ 64 = omega (arith, length-append (spell_all rs) break) in
-      (array_fits rs fits few, all_well_formed rs fits few)
-  well_formed (raw.map w ps) fits short =
-      let few : length (spell_pairs ps) < 2 ^ 64 = omega (arith, length-append (head 5 w (raw.pair_count ps)) (spell_pairs ps)) in
+  well_formed (raw.map l ps) fits short =
+      let few : length (spell_pairs ps) < 2 ^ 64 = omega (arith, length-enclosed 5 l (raw.pair_count ps) (spell_pairs ps)) in
       (map_fits ps fits.1 few, pairs_well_formed ps no_pairs fits.1 few tt)
-  well_formed (raw.map_open ps) fits short =
-      let few : length (spell_pairs ps) < 2 ^ 64 = omega (arith, length-append (spell_pairs ps) break) in
-      (map_fits ps fits few, pairs_well_formed ps no_pairs fits few tt)
   well_formed (raw.tag w n r) fits short = (fits_least w n fits.0, well_formed r fits.1 (omega (arith, length-append (head 6 w n) (spell r))))
   well_formed (raw.simple s) fits short = simple_well_formed s
   well_formed (raw.float w bits) fits short = fits

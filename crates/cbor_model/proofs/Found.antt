@@ -6,8 +6,8 @@ use Rattle.std.specs.Int.{Width, w16, w32, w64, to_be_bytes}
 use Rattle.std.proofs.lemmas.Bool.{eqb-true, eqb-false}
 use Rattle.cbor_model.specs.Head.{HeadWidth, limit, info, head, behind}
 use Rattle.cbor_model.specs.Raw as raw
-use Rattle.cbor_model.specs.Raw.{Raw, Raws, no_raws, RawPairs, no_raw_pairs, raw_pair, Chunk, joined, Simple, false_item, true_item, null_item, undefined_item, FloatWidth, half, single, double, float_limit, count, pair_count, depth, depth_all, depth_pairs, AreBytes, IsChunk, IsWellFormed, AreWellFormed, ArePairsWellFormed, EachText, EachTextOfAll, EachTextOfPairs}
-use Rattle.cbor_model.specs.Spelling.{spell, spell_all, spell_pairs, chunk, simple_byte, float_spelling, break}
+use Rattle.cbor_model.specs.Raw.{Length, definite, indefinite, Raw, Raws, no_raws, RawPairs, no_raw_pairs, raw_pair, Chunk, joined, Simple, false_item, true_item, null_item, undefined_item, FloatWidth, half, single, double, float_limit, count, pair_count, depth, depth_all, depth_pairs, AreBytes, IsChunk, IsWellFormed, AreWellFormed, ArePairsWellFormed, EachText, EachTextOfAll, EachTextOfPairs}
+use Rattle.cbor_model.specs.Spelling.{spell, spell_all, spell_pairs, chunk, simple_byte, float_spelling, enclosed, break}
 use Rattle.cbor_model.specs.Refusal.{Refusal, end_in_array, end_in_map, unassigned_code, unexpected_code, too_deep, length_out_of_range}
 use Rattle.cbor_model.specs.Reader.{Reads, ◌>>=◌, Reading, ended, before, byte_at, bytes_at, number_at, width_of, number_behind, float_at, simple_at, string_at, checked_text, text_at, begins_chunk, chunk_at, chunks_by, chunks_at, string_chunks_at, text_chunks_at, items_by, more_at, open_items_by, pairs_by, open_pairs_by, array_at, map_at, tag_at, open_array_at, open_map_at, content_at, open_at, after_first, item_by, item_at}
 use Rattle.cbor_model.proofs.Made.{made, made_all, made_pairs}
@@ -312,13 +312,13 @@ module _ {Item Items Pairs : Type 0} (m : Reading Item Items Pairs) where
   unfolding array_at spell made
   array_found None levels finds w n bs x fits small is = not_ok (before too_deep bs) x is
   array_found (Some p) levels finds w n bs x fits small is =
-      let step = bind_ok (items_by m p n bs) (λ items. Ok (m.array w items.0, items.1)) x is in
+      let step = bind_ok (items_by m p n bs) (λ items. Ok (m.array (definite w) items.0, items.1)) x is in
       let got = items_found p finds.0 finds.2 n bs step.0 fits step.1 in
       let many : count got.items ≡ n = got.count_is in
       let rest = step.0.1 in
-      read_as (IsContent levels 4 w n bs) (m.array w step.0.0, rest) x step.2 (record {
-        item = raw.array w got.items;
-        made_is = ap (m.array w) got.made_is;
+      read_as (IsContent levels 4 w n bs) (m.array (definite w) step.0.0, rest) x step.2 (record {
+        item = raw.array (definite w) got.items;
+        made_is = ap (m.array (definite w)) got.made_is;
         parts = behind_head 4 w n (count got.items) bs (spell_all got.items) rest got.parts many;
         fits = (omega (arith, many, small), got.fits);
         nests = omega (arith, got.nests, finds.1);
@@ -330,13 +330,13 @@ module _ {Item Items Pairs : Type 0} (m : Reading Item Items Pairs) where
   unfolding map_at spell made
   map_found None levels finds w n bs x fits small is = not_ok (before too_deep bs) x is
   map_found (Some p) levels finds w n bs x fits small is =
-      let step = bind_ok (pairs_by m p n bs) (λ pairs. Ok (m.map w pairs.0, pairs.1)) x is in
+      let step = bind_ok (pairs_by m p n bs) (λ pairs. Ok (m.map (definite w) pairs.0, pairs.1)) x is in
       let got = pairs_found p finds.0 finds.2 n bs step.0 fits step.1 in
       let many : pair_count got.pairs ≡ n = got.count_is in
       let rest = step.0.1 in
-      read_as (IsContent levels 5 w n bs) (m.map w step.0.0, rest) x step.2 (record {
-        item = raw.map w got.pairs;
-        made_is = ap (m.map w) got.made_is;
+      read_as (IsContent levels 5 w n bs) (m.map (definite w) step.0.0, rest) x step.2 (record {
+        item = raw.map (definite w) got.pairs;
+        made_is = ap (m.map (definite w)) got.made_is;
         parts = behind_head 5 w n (pair_count got.pairs) bs (spell_pairs got.pairs) rest got.parts many;
         fits = (omega (arith, many, small), got.fits);
         nests = omega (arith, got.nests, finds.1);
@@ -406,14 +406,14 @@ module _ {Item Items Pairs : Type 0} (m : Reading Item Items Pairs) where
   unfolding open_array_at spell made
   open_array_found None levels finds bs x fits is = not_ok (before too_deep bs) x is
   open_array_found (Some p) levels finds bs x fits is =
-      let step = bind_ok (open_items_by m p (suc (length bs)) bs) (λ items. Ok (m.array_open items.0, items.1)) x is in
+      let step = bind_ok (open_items_by m p (suc (length bs)) bs) (λ items. Ok (m.array indefinite items.0, items.1)) x is in
       let got = (open_items_found p finds.0 finds.2 (suc (length bs)) bs step.0 fits step.1).1 in
       let rest = step.0.1 in
-      read_as (IsOpen levels 4 bs) (m.array_open step.0.0, rest) x step.2 (record {
-        item = raw.array_open got.items;
-        made_is = ap m.array_open got.made_is;
+      read_as (IsOpen levels 4 bs) (m.array indefinite step.0.0, rest) x step.2 (record {
+        item = raw.array indefinite got.items;
+        made_is = ap (m.array indefinite) got.made_is;
         parts = behind_first 0x9f bs (spell_all got.items) rest got.parts;
-        fits = got.fits;
+        fits = (tt, got.fits);
         nests = omega (arith, got.nests, finds.1);
         texts = got.texts;
         rest_fits = AreBytes-rest 0xff rest got.rest_fits;
@@ -423,14 +423,14 @@ module _ {Item Items Pairs : Type 0} (m : Reading Item Items Pairs) where
   unfolding open_map_at spell made
   open_map_found None levels finds bs x fits is = not_ok (before too_deep bs) x is
   open_map_found (Some p) levels finds bs x fits is =
-      let step = bind_ok (open_pairs_by m p (suc (length bs)) bs) (λ pairs. Ok (m.map_open pairs.0, pairs.1)) x is in
+      let step = bind_ok (open_pairs_by m p (suc (length bs)) bs) (λ pairs. Ok (m.map indefinite pairs.0, pairs.1)) x is in
       let got = (open_pairs_found p finds.0 finds.2 (suc (length bs)) bs step.0 fits step.1).1 in
       let rest = step.0.1 in
-      read_as (IsOpen levels 5 bs) (m.map_open step.0.0, rest) x step.2 (record {
-        item = raw.map_open got.pairs;
-        made_is = ap m.map_open got.made_is;
+      read_as (IsOpen levels 5 bs) (m.map indefinite step.0.0, rest) x step.2 (record {
+        item = raw.map indefinite got.pairs;
+        made_is = ap (m.map indefinite) got.made_is;
         parts = behind_first 0xbf bs (spell_pairs got.pairs) rest got.parts;
-        fits = got.fits;
+        fits = (tt, got.fits);
         nests = omega (arith, got.nests, finds.1);
         texts = got.texts;
         rest_fits = AreBytes-rest 0xff rest got.rest_fits;

@@ -15,10 +15,8 @@ unfoldable mutual
   made m (raw.text c) = m.text c
   made m (raw.bytes_chunks cs) = m.bytes_chunks cs
   made m (raw.text_chunks cs) = m.text_chunks cs
-  made m (raw.array w rs) = m.array w (made_all m rs)
-  made m (raw.array_open rs) = m.array_open (made_all m rs)
-  made m (raw.map w ps) = m.map w (made_pairs m ps)
-  made m (raw.map_open ps) = m.map_open (made_pairs m ps)
+  made m (raw.array l rs) = m.array l (made_all m rs)
+  made m (raw.map l ps) = m.map l (made_pairs m ps)
   made m (raw.tag w n r) = m.tag w n (made m r)
   made m (raw.simple s) = m.simple s
   made m (raw.float w bits) = m.float w bits
@@ -42,10 +40,8 @@ mutual
   made-value total (raw.text c) = refl
   made-value total (raw.bytes_chunks cs) = refl
   made-value total (raw.text_chunks cs) = refl
-  made-value total (raw.array w rs) = ap plain.array (made_all-values total rs)
-  made-value total (raw.array_open rs) = ap plain.array (made_all-values total rs)
-  made-value total (raw.map w ps) = ap plain.map (made_pairs-pairs total ps no_pairs)
-  made-value total (raw.map_open ps) = ap plain.map (made_pairs-pairs total ps no_pairs)
+  made-value total (raw.array l rs) = ap plain.array (made_all-values total rs)
+  made-value total (raw.map l ps) = ap plain.map (made_pairs-pairs total ps no_pairs)
   made-value total (raw.tag w n r) = ap (plain.tag n) (made-value total r)
   made-value total (raw.simple s) = refl
   made-value total (raw.float w bits) = refl

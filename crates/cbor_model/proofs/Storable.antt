@@ -47,10 +47,8 @@ mutual
   storable (raw.text c) fits = tt
   storable (raw.bytes_chunks cs) fits = tt
   storable (raw.text_chunks cs) fits = tt
-  storable (raw.array w rs) fits = all_storable rs fits.1
-  storable (raw.array_open rs) fits = all_storable rs fits
-  storable (raw.map w ps) fits = pairs_storable ps no_pairs fits.1 tt
-  storable (raw.map_open ps) fits = pairs_storable ps no_pairs fits tt
+  storable (raw.array l rs) fits = all_storable rs fits.1
+  storable (raw.map l ps) fits = pairs_storable ps no_pairs fits.1 tt
   storable (raw.tag w n r) fits = storable r fits.1
   storable (raw.simple s) fits = simple_storable s
   storable (raw.float w bits) fits = tt

@@ -14,10 +14,8 @@ module _ (P Q : List ℕ → Type 0) (weaker : (b : List ℕ) → P b → Q b) w
     pub EachText-map : (r : Raw) → EachText P r → EachText Q r
     EachText-map (raw.text c) texts = weaker c.bytes texts
     EachText-map (raw.text_chunks cs) texts = weaker (joined cs) texts
-    EachText-map (raw.array w rs) texts = EachTextOfAll-map rs texts
-    EachText-map (raw.array_open rs) texts = EachTextOfAll-map rs texts
-    EachText-map (raw.map w ps) texts = EachTextOfPairs-map ps texts
-    EachText-map (raw.map_open ps) texts = EachTextOfPairs-map ps texts
+    EachText-map (raw.array l rs) texts = EachTextOfAll-map rs texts
+    EachText-map (raw.map l ps) texts = EachTextOfPairs-map ps texts
     EachText-map (raw.tag w n r) texts = EachText-map r texts
     EachText-map _ texts = tt
 
@@ -34,10 +32,8 @@ module _ (P : List ℕ → Type 0) (each : (b : List ℕ) → P b) where
     pub EachText-from_each : (r : Raw) → EachText P r
     EachText-from_each (raw.text c) = each c.bytes
     EachText-from_each (raw.text_chunks cs) = each (joined cs)
-    EachText-from_each (raw.array w rs) = EachTextOfAll-from_each rs
-    EachText-from_each (raw.array_open rs) = EachTextOfAll-from_each rs
-    EachText-from_each (raw.map w ps) = EachTextOfPairs-from_each ps
-    EachText-from_each (raw.map_open ps) = EachTextOfPairs-from_each ps
+    EachText-from_each (raw.array l rs) = EachTextOfAll-from_each rs
+    EachText-from_each (raw.map l ps) = EachTextOfPairs-from_each ps
     EachText-from_each (raw.tag w n r) = EachText-from_each r
     EachText-from_each _ = tt
 

@@ -68,7 +68,7 @@ abbrev pub canonical_integer : ℤ → Raw
 canonical_integer (pos n) = raw.unsigned (least n) n
 canonical_integer (negsuc n) = raw.negative (least n) n
 
--- The canonical item: definite forms, least widths, a map's pairs as listed, floats in their width.
+-- The canonical item: definite lengths, least widths, a map's pairs as listed, floats in their width.
 unfoldable mutual
   pub canonical : Val → Raw
   canonical null = raw.simple null_item
@@ -77,8 +77,8 @@ unfoldable mutual
   canonical (float w bits) = raw.float w bits
   canonical (bytes b) = raw.bytes (chunk_of b)
   canonical (text b) = raw.text (chunk_of b)
-  canonical (array vs) = raw.array (least (raw.count (canonical_all vs))) (canonical_all vs)
-  canonical (map ps) = raw.map (least (raw.pair_count (canonical_pairs ps))) (canonical_pairs ps)
+  canonical (array vs) = raw.array (raw.definite (least (raw.count (canonical_all vs)))) (canonical_all vs)
+  canonical (map ps) = raw.map (raw.definite (least (raw.pair_count (canonical_pairs ps)))) (canonical_pairs ps)
   canonical (tag n v) = raw.tag (least n) n (canonical v)
 
   pub canonical_all : Vals → Raws

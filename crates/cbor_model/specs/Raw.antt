@@ -1,5 +1,5 @@
 -- Raw items (RFC 7049, sections 2.1 to 2.3): items as they are spelled, with the width of each
--- number, and with open forms and chunks apart from definite ones.
+-- number, and with indefinite lengths and chunks apart from definite lengths.
 use Rattle.std.specs.Prelude.{ℕ, suc, ◌^◌, ◌<◌, max, List, length, slice_index, flat_map}
 use Rattle.std.specs.List.{AllByRecursion}
 use Rattle.cbor_model.specs.Head.{HeadWidth, limit}
@@ -22,6 +22,11 @@ pub record Chunk : Type 0 where
   pub width : HeadWidth
   pub bytes : List ℕ
 
+-- The length of an array or a map: a count that precedes its items, or a break that follows them.
+pub data Length : Type 0 where
+  definite : HeadWidth → Length
+  indefinite : Length
+
 mutual
   pub data Raw : Type 0 where
     unsigned : HeadWidth → ℕ → Raw
@@ -30,10 +35,8 @@ mutual
     text : Chunk → Raw
     bytes_chunks : List Chunk → Raw
     text_chunks : List Chunk → Raw
-    array : HeadWidth → Raws → Raw
-    array_open : Raws → Raw
-    map : HeadWidth → RawPairs → Raw
-    map_open : RawPairs → Raw
+    array : Length → Raws → Raw
+    map : Length → RawPairs → Raw
     tag : HeadWidth → ℕ → Raw → Raw
     simple : Simple → Raw
     float : FloatWidth → ℕ → Raw
@@ -73,6 +76,11 @@ AreBytes bs = (i : ℕ) → slice_index bs i < 256
 abbrev pub IsChunk : Chunk → Type 0
 IsChunk c = (length c.bytes < limit c.width) × AreBytes c.bytes
 
+-- a count of items fits the width of the length
+abbrev pub FitsLength : ℕ → Length → Type 0
+FitsLength n (definite w) = n < limit w
+FitsLength n indefinite = Unit {0}
+
 -- Well formed: each number, length and count fits its width, and each float's bits fit theirs.
 abbrev mutual
   pub IsWellFormed : Raw → Type 0
@@ -82,10 +90,8 @@ abbrev mutual
   IsWellFormed (text c) = IsChunk c
   IsWellFormed (bytes_chunks cs) = AllByRecursion IsChunk cs
   IsWellFormed (text_chunks cs) = AllByRecursion IsChunk cs
-  IsWellFormed (array w rs) = (count rs < limit w) × AreWellFormed rs
-  IsWellFormed (array_open rs) = AreWellFormed rs
-  IsWellFormed (map w ps) = (pair_count ps < limit w) × ArePairsWellFormed ps
-  IsWellFormed (map_open ps) = ArePairsWellFormed ps
+  IsWellFormed (array l rs) = FitsLength (count rs) l × AreWellFormed rs
+  IsWellFormed (map l ps) = FitsLength (pair_count ps) l × ArePairsWellFormed ps
   IsWellFormed (tag w n r) = (n < limit w) × IsWellFormed r
   IsWellFormed (simple s) = Unit {0}
   IsWellFormed (float w bits) = bits < float_limit w
@@ -101,10 +107,8 @@ abbrev mutual
 -- How many arrays, maps and tags stand inside one another. Chunks don't count.
 abbrev mutual
   pub depth : Raw → ℕ
-  depth (array w rs) = suc (depth_all rs)
-  depth (array_open rs) = suc (depth_all rs)
-  depth (map w ps) = suc (depth_pairs ps)
-  depth (map_open ps) = suc (depth_pairs ps)
+  depth (array l rs) = suc (depth_all rs)
+  depth (map l ps) = suc (depth_pairs ps)
   depth (tag w n r) = suc (depth r)
   depth _ = 0
 
@@ -121,10 +125,8 @@ abbrev mutual
   pub EachText : (List ℕ → Type 0) → Raw → Type 0
   EachText P (text c) = P c.bytes
   EachText P (text_chunks cs) = P (joined cs)
-  EachText P (array w rs) = EachTextOfAll P rs
-  EachText P (array_open rs) = EachTextOfAll P rs
-  EachText P (map w ps) = EachTextOfPairs P ps
-  EachText P (map_open ps) = EachTextOfPairs P ps
+  EachText P (array l rs) = EachTextOfAll P rs
+  EachText P (map l ps) = EachTextOfPairs P ps
   EachText P (tag w n r) = EachText P r
   EachText P _ = Unit {0}
 

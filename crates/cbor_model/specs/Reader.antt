@@ -5,7 +5,7 @@ use Rattle.std.specs.Prelude.{◌≡◌, ℕ, zero, suc, ◌+◌, ◌-◌, ◌/�
 use Rattle.std.specs.Int.{Width, w8, w16, w32, w64, byte_len, from_be_bytes}
 use Rattle.std.specs.Str.Lossy.{utf8_valid_len}
 use Rattle.cbor_model.specs.Head.{HeadWidth, no_bytes, one_byte, two_bytes, four_bytes, eight_bytes}
-use Rattle.cbor_model.specs.Raw.{Chunk, joined, Simple, false_item, true_item, null_item, undefined_item, FloatWidth, half, single, double}
+use Rattle.cbor_model.specs.Raw.{Length, definite, indefinite, Chunk, joined, Simple, false_item, true_item, null_item, undefined_item, FloatWidth, half, single, double}
 use Rattle.cbor_model.specs.Acceptable.{max_depth}
 use Rattle.cbor_model.specs.Refusal.{Refusal, end_in_value, end_in_array, end_in_map, length_out_of_range, invalid_utf8, unassigned_code, unexpected_code, trailing_data, too_deep}
 use Rattle.cbor_model.specs.Plain.{Val, Vals, no_vals, val, Pairs, no_pairs}
@@ -34,10 +34,8 @@ pub record Reading (Item Items Pairs : Type 0) : Type 0 where
   pub text : Chunk → Item
   pub bytes_chunks : List Chunk → Item
   pub text_chunks : List Chunk → Item
-  pub array : HeadWidth → Items → Item
-  pub array_open : Items → Item
-  pub map : HeadWidth → Pairs → Item
-  pub map_open : Pairs → Item
+  pub array : Length → Items → Item
+  pub map : Length → Pairs → Item
   pub tag : HeadWidth → ℕ → Item → Item
   pub simple : Simple → Item
   pub float : FloatWidth → ℕ → Item
@@ -59,10 +57,8 @@ values_within total = record {
   text = λ c. plain.text c.bytes;
   bytes_chunks = λ cs. plain.bytes (joined cs);
   text_chunks = λ cs. plain.text (joined cs);
-  array = λ w vs. plain.array vs;
-  array_open = plain.array;
-  map = λ w ps. plain.map (ps no_pairs);
-  map_open = λ ps. plain.map (ps no_pairs);
+  array = λ l vs. plain.array vs;
+  map = λ l ps. plain.map (ps no_pairs);
   tag = λ w n v. plain.tag n v;
   simple = simple_value;
   float = plain.float;
@@ -213,19 +209,19 @@ within None bs read = Err (before too_deep bs)
 within (Some p) bs read = read p
 
 unfoldable pub array_at : {Item Items Pairs : Type 0} → Reading Item Items Pairs → Option (List ℕ → Reads Item) → HeadWidth → ℕ → List ℕ → Reads Item
-array_at m inner w n bs = within inner bs (λ p. items_by m p n bs) >>= (λ items. Ok (m.array w items.0, items.1))
+array_at m inner w n bs = within inner bs (λ p. items_by m p n bs) >>= (λ items. Ok (m.array (definite w) items.0, items.1))
 
 unfoldable pub map_at : {Item Items Pairs : Type 0} → Reading Item Items Pairs → Option (List ℕ → Reads Item) → HeadWidth → ℕ → List ℕ → Reads Item
-map_at m inner w n bs = within inner bs (λ p. pairs_by m p n bs) >>= (λ pairs. Ok (m.map w pairs.0, pairs.1))
+map_at m inner w n bs = within inner bs (λ p. pairs_by m p n bs) >>= (λ pairs. Ok (m.map (definite w) pairs.0, pairs.1))
 
 unfoldable pub tag_at : {Item Items Pairs : Type 0} → Reading Item Items Pairs → Option (List ℕ → Reads Item) → HeadWidth → ℕ → List ℕ → Reads Item
 tag_at m inner w n bs = within inner bs (λ p. p bs) >>= (λ item. Ok (m.tag w n item.0, item.1))
 
 unfoldable pub open_array_at : {Item Items Pairs : Type 0} → Reading Item Items Pairs → Option (List ℕ → Reads Item) → List ℕ → Reads Item
-open_array_at m inner bs = within inner bs (λ p. open_items_by m p (suc (length bs)) bs) >>= (λ items. Ok (m.array_open items.0, items.1))
+open_array_at m inner bs = within inner bs (λ p. open_items_by m p (suc (length bs)) bs) >>= (λ items. Ok (m.array indefinite items.0, items.1))
 
 unfoldable pub open_map_at : {Item Items Pairs : Type 0} → Reading Item Items Pairs → Option (List ℕ → Reads Item) → List ℕ → Reads Item
-open_map_at m inner bs = within inner bs (λ p. open_pairs_by m p (suc (length bs)) bs) >>= (λ pairs. Ok (m.map_open pairs.0, pairs.1))
+open_map_at m inner bs = within inner bs (λ p. open_pairs_by m p (suc (length bs)) bs) >>= (λ pairs. Ok (m.map indefinite pairs.0, pairs.1))
 
 -- what follows the head of a major type below 7
 unfoldable pub content_at : {Item Items Pairs : Type 0} → Reading Item Items Pairs → Option (List ℕ → Reads Item) → ℕ → HeadWidth → ℕ → List ℕ → Reads Item

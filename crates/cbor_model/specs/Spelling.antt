@@ -1,8 +1,8 @@
 -- The spelling of a raw item: its bytes (RFC 7049, sections 2.1 to 2.3).
-use Rattle.std.specs.Prelude.{◌≡◌, ℕ, List, [], ◌∷◌, ◌++◌, length, flat_map, refl}
+use Rattle.std.specs.Prelude.{◌≡◌, ℕ, ◌+◌, ◌*◌, List, [], ◌∷◌, ◌++◌, length, flat_map, refl}
 use Rattle.std.specs.Int.{w16, w32, w64, to_be_bytes}
 use Rattle.cbor_model.specs.Head.{head, no_bytes, one_byte}
-use Rattle.cbor_model.specs.Raw.{Raw, Raws, no_raws, raw, RawPairs, no_raw_pairs, raw_pair, Chunk, Simple, false_item, true_item, null_item, undefined_item, FloatWidth, half, single, double, unsigned, negative, bytes, text, bytes_chunks, text_chunks, array, array_open, map, map_open, tag, simple, float, count, pair_count, IsWellFormed}
+use Rattle.cbor_model.specs.Raw.{Length, definite, indefinite, Raw, Raws, no_raws, raw, RawPairs, no_raw_pairs, raw_pair, Chunk, Simple, false_item, true_item, null_item, undefined_item, FloatWidth, half, single, double, unsigned, negative, bytes, text, bytes_chunks, text_chunks, array, map, tag, simple, float, count, pair_count, IsWellFormed}
 
 abbrev pub chunk : ℕ → Chunk → List ℕ
 chunk major c = head major c.width (length c.bytes) ++ c.bytes
@@ -18,9 +18,14 @@ float_spelling half bits = 0xf9 ∷ to_be_bytes w16 bits
 float_spelling single bits = 0xfa ∷ to_be_bytes w32 bits
 float_spelling double bits = 0xfb ∷ to_be_bytes w64 bits
 
--- what ends an open form and the chunks of a string
+-- what ends an array or a map of indefinite length, and the chunks of a string
 abbrev pub break : List ℕ
 break = 0xff ∷ []
+
+-- n items of an array or a map: their count before them, or a break behind them
+abbrev pub enclosed : ℕ → Length → ℕ → List ℕ → List ℕ
+enclosed major (definite w) n items = head major w n ++ items
+enclosed major indefinite n items = (32 * major + 31) ∷ (items ++ break)
 
 unfoldable mutual
   pub spell : Raw → List ℕ
@@ -30,10 +35,8 @@ unfoldable mutual
   spell (text c) = chunk 3 c
   spell (bytes_chunks cs) = 0x5f ∷ (flat_map (chunk 2) cs ++ break)
   spell (text_chunks cs) = 0x7f ∷ (flat_map (chunk 3) cs ++ break)
-  spell (array w rs) = head 4 w (count rs) ++ spell_all rs
-  spell (array_open rs) = 0x9f ∷ (spell_all rs ++ break)
-  spell (map w ps) = head 5 w (pair_count ps) ++ spell_pairs ps
-  spell (map_open ps) = 0xbf ∷ (spell_pairs ps ++ break)
+  spell (array l rs) = enclosed 4 l (count rs) (spell_all rs)
+  spell (map l ps) = enclosed 5 l (pair_count ps) (spell_pairs ps)
   spell (tag w n r) = head 6 w n ++ spell r
   spell (simple s) = simple_byte s ∷ []
   spell (float w bits) = float_spelling w bits
@@ -61,10 +64,10 @@ unfolding spell
 long_23 = refl
 
 -- [_ 1, {_ 2: undefined}]
-open_forms : spell (array_open (raw (unsigned no_bytes 1) (raw (map_open (raw_pair (unsigned no_bytes 2) (simple undefined_item) no_raw_pairs)) no_raws)))
+indefinite_lengths : spell (array indefinite (raw (unsigned no_bytes 1) (raw (map indefinite (raw_pair (unsigned no_bytes 2) (simple undefined_item) no_raw_pairs)) no_raws)))
     ≡ 0x9f ∷ 0x01 ∷ 0xbf ∷ 0x02 ∷ 0xf7 ∷ 0xff ∷ 0xff ∷ []
 unfolding spell
-open_forms = refl
+indefinite_lengths = refl
 
 -- the text "ab" in two chunks
 two_chunks : spell (text_chunks (record { width = no_bytes; bytes = 0x61 ∷ [] } ∷ record { width = no_bytes; bytes = 0x62 ∷ [] } ∷ []))

@@ -34,10 +34,8 @@ unfoldable mutual
   value (raw.text c) = text c.bytes
   value (raw.bytes_chunks cs) = bytes (joined cs)
   value (raw.text_chunks cs) = text (joined cs)
-  value (raw.array w rs) = array (values rs)
-  value (raw.array_open rs) = array (values rs)
-  value (raw.map w ps) = map (pairs ps no_pairs)
-  value (raw.map_open ps) = map (pairs ps no_pairs)
+  value (raw.array l rs) = array (values rs)
+  value (raw.map l ps) = map (pairs ps no_pairs)
   value (raw.tag w n r) = tag n (value r)
   value (raw.simple s) = simple_value s
   value (raw.float w bits) = float w bits
@@ -54,19 +52,19 @@ unfoldable mutual
 -- ---- examples
 
 -- {_ 2: 0, 1: 0} is {1: 0, 2: 0}
-keys_ordered : value (raw.map_open (raw_pair (raw.unsigned no_bytes 2) (raw.unsigned no_bytes 0) (raw_pair (raw.unsigned no_bytes 1) (raw.unsigned no_bytes 0) no_raw_pairs)))
+keys_ordered : value (raw.map raw.indefinite (raw_pair (raw.unsigned no_bytes 2) (raw.unsigned no_bytes 0) (raw_pair (raw.unsigned no_bytes 1) (raw.unsigned no_bytes 0) no_raw_pairs)))
     ≡ map (pair (integer (pos 1)) (integer (pos 0)) (pair (integer (pos 2)) (integer (pos 0)) no_pairs))
 unfolding value flat
 keys_ordered = refl
 
 -- {1: 0, 1: 2}, the second key in a longer head, is {1: 2}
-last_stays : value (raw.map no_bytes (raw_pair (raw.unsigned no_bytes 1) (raw.unsigned no_bytes 0) (raw_pair (raw.unsigned one_byte 1) (raw.unsigned no_bytes 2) no_raw_pairs)))
+last_stays : value (raw.map (raw.definite no_bytes) (raw_pair (raw.unsigned no_bytes 1) (raw.unsigned no_bytes 0) (raw_pair (raw.unsigned one_byte 1) (raw.unsigned no_bytes 2) no_raw_pairs)))
     ≡ map (pair (integer (pos 1)) (integer (pos 2)) no_pairs)
 unfolding value flat
 last_stays = refl
 
 -- {null: 1, undefined: 2} is {null: 2}
-undefined_is_null : value (raw.map no_bytes (raw_pair (raw.simple null_item) (raw.unsigned no_bytes 1) (raw_pair (raw.simple undefined_item) (raw.unsigned no_bytes 2) no_raw_pairs)))
+undefined_is_null : value (raw.map (raw.definite no_bytes) (raw_pair (raw.simple null_item) (raw.unsigned no_bytes 1) (raw_pair (raw.simple undefined_item) (raw.unsigned no_bytes 2) no_raw_pairs)))
     ≡ map (pair null (integer (pos 2)) no_pairs)
 unfolding value flat
 undefined_is_null = refl
