@@ -169,7 +169,7 @@ joined-length major (c ∷ cs) =
 joined_fits : (major : ℕ) (cs : List Chunk) → length (flat_map (chunk major) cs ++ break) < 2 ^ 64 → length (joined cs) < limit (least (length (joined cs)))
 joined_fits major cs short = lt-limit-least (length (joined cs)) (omega (arith, joined-length major cs, length-append (flat_map (chunk major) cs) break))
 
-count_values : (rs : Raws) → raw.count (canonical_all (values rs)) ≤ raw.count rs
+pub count_values : (rs : Raws) → raw.count (canonical_all (values rs)) ≤ raw.count rs
 unfolding value canonical
 count_values no_raws = omega arith
 count_values (raw.raw r rs) = omega (arith, count_values rs)
@@ -181,7 +181,7 @@ count_put k v (pair l w ps) =
     let rest = count_put k v ps in
     by_order-cases (λ (r : Pairs). raw.pair_count (canonical_pairs r) ≤ suc (suc (raw.pair_count (canonical_pairs ps)))) (lex (flat k) (flat l)) _ _ _ (λ less. omega arith) (λ same. omega arith) (λ more. omega arith)
 
-count_pairs : (ps : RawPairs) (before : Pairs) → raw.pair_count (canonical_pairs (pairs ps before)) ≤ raw.pair_count ps + raw.pair_count (canonical_pairs before)
+pub count_pairs : (ps : RawPairs) (before : Pairs) → raw.pair_count (canonical_pairs (pairs ps before)) ≤ raw.pair_count ps + raw.pair_count (canonical_pairs before)
 unfolding value canonical
 count_pairs no_raw_pairs before = omega arith
 count_pairs (raw_pair k v ps) before = omega (arith, count_pairs ps (put (value k) (value v) before), count_put (value k) (value v) before)

@@ -17,3 +17,6 @@ pub mod Apart
 pub mod Program
 pub mod Normal
 pub mod Proved
+pub mod Heads
+pub mod ByteOrder
+pub mod Least

@@ -1,13 +1,11 @@
 -- Reading and writing again and again.
-use Rattle.std.proofs.Common.{◌≡◌, ℕ, ◌^◌, ◌<◌, List, [], length, refl, sym, ap, subst, ◌∙◌, arith}
-use Rattle.std.proofs.lemmas.List.{append-nil}
+use Rattle.std.proofs.Common.{ℕ, ◌^◌, ◌<◌, List, length, refl, sym, ap, subst, arith}
 use Rattle.cbor_model.specs.Spelling.{spell}
 use Rattle.cbor_model.specs.Acceptable.{IsAcceptable, max_depth}
 use Rattle.cbor_model.specs.Plain.{Val}
 use Rattle.cbor_model.specs.Value.{value}
 use Rattle.cbor_model.specs.Canonical.{IsOrdered, canonical, canon}
 use Rattle.cbor_model.specs.Laws.{SpellsValue}
-use Rattle.cbor_model.proofs.Apart.{one_spelling}
 use Rattle.cbor_model.proofs.ReadsBack.{reads_back}
 use Rattle.cbor_model.proofs.Canonical.{value_is_canonical}
 
@@ -22,9 +20,3 @@ normalised_once bytes v short spells =
     let shorter : length (spell r) < 2 ^ 64 = omega (arith, ap length spells.spelled) in
     let good = value_is_canonical max_depth r spells.acceptable shorter in
     subst (λ (w : Val). SpellsValue (canon w) w) (sym spells.valued) (spells_canon (value r) good.1 good.2)
-
-pub equal_bytes : (a b : Val) → IsOrdered a → IsOrdered b → IsAcceptable (canonical a) → IsAcceptable (canonical b) → canon a ≡ canon b → a ≡ b
-unfolding canon
-equal_bytes a b ordered ordered' good good' same =
-    let items = (one_spelling (canonical a) (canonical b) [] good.fits good'.fits (append-nil (spell (canonical a)) ∙ same)).0 in
-    sym (reads_back a ordered) ∙ ap value items ∙ reads_back b ordered'

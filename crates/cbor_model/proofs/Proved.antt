@@ -1,5 +1,5 @@
 -- The laws' proofs.
-use Rattle.cbor_model.specs.Laws.{ReaderFinds, ReaderAccepts, OneSpelling, ValueIsStorable, OneAnswer, OrderIsTotal, OneFlat, CanonicalReadsBack, ValueIsCanonical, NormalisedOnce, EqualBytes}
+use Rattle.cbor_model.specs.Laws.{ReaderFinds, ReaderAccepts, OneSpelling, ValueIsStorable, OneAnswer, OrderIsTotal, OneFlat, CanonicalReadsBack, ValueIsCanonical, NormalisedOnce, EqualBytes, ByteOrder, LeastSpelling}
 use Rattle.cbor_model.proofs.Whole.{found_whole, read_whole}
 use Rattle.cbor_model.proofs.Storable.{storable}
 use Rattle.cbor_model.proofs.Same as same
@@ -8,6 +8,8 @@ use Rattle.cbor_model.proofs.Canonical as canonical
 use Rattle.cbor_model.proofs.Apart as apart
 use Rattle.cbor_model.proofs.Program as program
 use Rattle.cbor_model.proofs.Normal as normal
+use Rattle.cbor_model.proofs.ByteOrder as byteorder
+use Rattle.cbor_model.proofs.Least as least
 
 pub reader_finds : ReaderFinds
 reader_finds = found_whole
@@ -40,4 +42,10 @@ pub normalised_once : NormalisedOnce
 normalised_once = normal.normalised_once
 
 pub equal_bytes : EqualBytes
-equal_bytes = normal.equal_bytes
+equal_bytes = byteorder.equal_bytes
+
+pub byte_order : ByteOrder
+byte_order = byteorder.byte_order
+
+pub least_spelling : LeastSpelling
+least_spelling = least.least_spelling

@@ -1,13 +1,15 @@
 -- The laws, each of which is the contract of a public function.
-use Rattle.std.specs.Prelude.{◌≡◌, ℕ, ◌^◌, ◌<◌, List, [], ◌++◌, length, Ok}
+use Rattle.std.specs.Prelude.{◌≡◌, ℕ, ◌^◌, ◌<◌, ◌≤◌, List, [], ◌++◌, length, Ok}
 use Rattle.cbor_model.specs.Raw.{Raw, AreBytes, IsWellFormed}
 use Rattle.cbor_model.specs.Spelling.{spell}
 use Rattle.cbor_model.specs.Acceptable.{IsAcceptable, IsAcceptableWithin}
 use Rattle.cbor_model.specs.Plain.{Val}
 use Rattle.cbor_model.specs.Value.{value}
 use Rattle.cbor_model.specs.Canonical.{IsStorable, IsOrdered, canonical, canon}
-use Rattle.cbor_model.specs.Order.{flat}
+use Rattle.cbor_model.specs.Order.{lex, flat}
 use Rattle.cbor_model.specs.FiniteMap.{val_cmp}
+use Rattle.cbor_model.specs.InRange.{IsInRange}
+use Rattle.cbor_model.specs.Definite.{IsDefinite}
 use Rattle.std.specs.Cmp.{IsTotalOrder}
 use Rattle.cbor_model.specs.Reader.{read_value}
 use Rattle.cbor_model.specs.Program.{IsAnswer}
@@ -61,6 +63,14 @@ OneFlat = (a b : Val) → flat a ≡ flat b → a ≡ b
 abbrev pub NormalisedOnce : Type 0
 NormalisedOnce = (bytes : List ℕ) (v : Val) → length bytes < 2 ^ 64 → SpellsValue bytes v → SpellsValue (canon v) v
 
--- Ordered values with equal canonical spellings are equal, where their canonical items are acceptable.
+-- Storable values in range with equal canonical spellings are equal.
 abbrev pub EqualBytes : Type 0
-EqualBytes = (a b : Val) → IsOrdered a → IsOrdered b → IsAcceptable (canonical a) → IsAcceptable (canonical b) → canon a ≡ canon b → a ≡ b
+EqualBytes = (a b : Val) → IsStorable a → IsStorable b → IsInRange a → IsInRange b → canon a ≡ canon b → a ≡ b
+
+-- The order of storable values in range is the byte order of their canonical spellings.
+abbrev pub ByteOrder : Type 0
+ByteOrder = (a b : Val) → IsStorable a → IsStorable b → IsInRange a → IsInRange b → lex (flat a) (flat b) ≡ lex (canon a) (canon b)
+
+-- No well-formed item of definite lengths is spelled shorter than its value's canonical item.
+abbrev pub LeastSpelling : Type 0
+LeastSpelling = (v : Val) (r : Raw) → IsWellFormed r → IsDefinite r → v ≡ value r → length (canon v) ≤ length (spell r)

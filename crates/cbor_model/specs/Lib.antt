@@ -11,3 +11,5 @@ pub mod Refusal
 pub mod Reader
 pub mod Program
 pub mod Laws
+pub mod InRange
+pub mod Definite

@@ -7,6 +7,7 @@
 mod laws;
 
 pub use laws::{
-    canonical_reads_back, equal_bytes, normalised_once, one_answer, one_flat, one_spelling,
-    order_is_total, reader_accepts, reader_finds, value_is_canonical, value_is_storable,
+    byte_order, canonical_reads_back, equal_bytes, least_spelling, normalised_once, one_answer,
+    one_flat, one_spelling, order_is_total, reader_accepts, reader_finds, value_is_canonical,
+    value_is_storable,
 };
