@@ -1,15 +1,19 @@
--- Items of definite lengths: no open forms, and no strings in chunks (RFC 7049, section 2.2, has the others).
+-- Items of definite lengths: no array or map up to a break, and no string in chunks (RFC 7049, section
+-- 2.2, has those).
 use Rattle.cbor_model.specs.Head.{no_bytes, one_byte}
-use Rattle.cbor_model.specs.Raw.{Raw, bytes_chunks, text_chunks, array, array_open, map, map_open, tag, unsigned, Raws, no_raws, raw, RawPairs, no_raw_pairs, raw_pair}
+use Rattle.cbor_model.specs.Raw.{Length, definite, indefinite, Raw, bytes_chunks, text_chunks, array, map, tag, unsigned, Raws, no_raws, raw, RawPairs, no_raw_pairs, raw_pair}
+
+-- a count precedes the items
+abbrev pub IsCounted : Length → Type 0
+IsCounted (definite w) = Unit {0}
+IsCounted indefinite = ⊥
 
 abbrev mutual
   pub IsDefinite : Raw → Type 0
   IsDefinite (bytes_chunks cs) = ⊥
   IsDefinite (text_chunks cs) = ⊥
-  IsDefinite (array_open rs) = ⊥
-  IsDefinite (map_open ps) = ⊥
-  IsDefinite (array w rs) = AreDefinite rs
-  IsDefinite (map w ps) = ArePairsDefinite ps
+  IsDefinite (array l rs) = IsCounted l × AreDefinite rs
+  IsDefinite (map l ps) = IsCounted l × ArePairsDefinite ps
   IsDefinite (tag w n r) = IsDefinite r
   IsDefinite _ = Unit {0}
 
@@ -24,9 +28,9 @@ abbrev mutual
 -- ---- examples
 
 -- [23], with both heads longer than they have to be
-long_heads : IsDefinite (array one_byte (raw (unsigned one_byte 23) no_raws))
-long_heads = (tt, tt)
+long_heads : IsDefinite (array (definite one_byte) (raw (unsigned one_byte 23) no_raws))
+long_heads = (tt, (tt, tt))
 
 -- [[_ ]]
-open_inside : IsDefinite (array no_bytes (raw (array_open no_raws) no_raws)) → ⊥
-open_inside definite = definite.0
+break_inside : IsDefinite (array (definite no_bytes) (raw (array indefinite no_raws) no_raws)) → ⊥
+break_inside counted = counted.1.0.0
