@@ -17,3 +17,4 @@ pub mod Apart
 pub mod Program
 pub mod Normal
 pub mod Proved
+pub mod facts
