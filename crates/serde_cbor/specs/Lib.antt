@@ -1,4 +1,4 @@
-pub mod Error
-pub mod View
-pub mod Gives
-pub mod Written
+pub use Rattle.cbor_io.specs.Error
+pub use Rattle.cbor_value.specs.View
+pub use Rattle.cbor_de.specs.Gives
+pub use Rattle.cbor_ser.specs.Written

@@ -9,14 +9,20 @@
 //! let bytes = to_vec(alloc, &value)?;
 //! assert_eq!(rt; bytes.as_slice(), [0xa2, 1, 0, 2, 0].as_slice());
 //! ```
+//!
+//! The items stand in crates of their own, `cbor_io`, `cbor_value`, `cbor_ser` and `cbor_de`. This
+//! one has them all under the paths of the Rust crate, and passes on the words that their contracts
+//! use, so that a crate above names no other.
 #![tactic(auto)]
 
-pub mod de;
-pub mod error;
-pub mod ser;
-pub mod value;
+pub use cbor_de as de;
+pub use cbor_de::from_slice;
+pub use cbor_io::error;
+pub use cbor_io::error::{Error, Result};
+pub use cbor_ser as ser;
+pub use cbor_ser::to_vec;
+pub use cbor_value as value;
+pub use cbor_value::Value;
 
-pub use de::from_slice;
-pub use error::{Error, Result};
-pub use ser::to_vec;
-pub use value::Value;
+#[cfg(test)]
+mod tests;

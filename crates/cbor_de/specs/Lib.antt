@@ -1,0 +1,3 @@
+pub mod Gives
+pub use Rattle.cbor_io.specs.Error
+pub use Rattle.cbor_value.specs.View

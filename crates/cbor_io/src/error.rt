@@ -1,0 +1,297 @@
+//! What reading and writing answer when they refuse: a code, and an offset in the input.
+
+ghost use Rattle.std.specs.Prelude.{◌≡◌, ◌↔◌, IsTrue};
+ghost use Rattle.cbor_io.specs.Error.{code_of, offset_of, category_of, IsMessageOf, HasNoOffset};
+ghost use Rattle.cbor_io.specs.declared.error.ErrorCode.TheVariants.{ScratchTooSmall, EofWhileParsingValue, OutOfMemory};
+ghost use Rattle.cbor_io.specs.declared.error.Category.TheVariants as category;
+
+use std::alloc::{AllocError, AllocFailed, Global};
+use std::{error, fmt, io};
+
+#[cfg(test)]
+mod tests;
+
+/// What the calls of this crate answer.
+pub type Result<T> = std::result::Result<T, Error>;
+
+/// Why a call refused.
+///
+/// `Message`, `Io` and `OutOfMemory` have no place in the input: their offset is 0.
+#[derive(Debug, Drop)]
+pub enum ErrorCode {
+    /// A text of the caller's, or of a value that doesn't fit.
+    Message(String),
+    /// A reader or writer reported this fault.
+    Io(io::Error),
+    /// The scratch, or the slice that is written to, has too little room.
+    ScratchTooSmall,
+    /// The input ended where an item, or a part of it, was wanted.
+    EofWhileParsingValue,
+    /// The input ended where an element or the break of an open array was wanted.
+    EofWhileParsingArray,
+    /// The input ended where a key or the break of an open map was wanted.
+    EofWhileParsingMap,
+    /// A text would end past 2^64 - 1 bytes.
+    LengthOutOfRange,
+    /// A text isn't UTF-8. The offset is that of the first byte that isn't.
+    InvalidUtf8,
+    /// A first byte that RFC 7049 leaves unassigned.
+    UnassignedCode,
+    /// A first byte that may not stand here.
+    UnexpectedCode,
+    /// Bytes follow the item.
+    TrailingData,
+    /// An array has fewer elements than an enum wants.
+    ArrayTooShort,
+    /// An array has more elements than an enum wants.
+    ArrayTooLong,
+    /// Arrays, maps and tags are nested more than 127 levels deep.
+    RecursionLimitExceeded,
+    /// An enum in a form that is disabled.
+    WrongEnumFormat,
+    /// A map's key in a form that is disabled.
+    WrongStructFormat,
+    /// A growth was refused.
+    OutOfMemory,
+}
+
+/// The kinds of [`ErrorCode`].
+#[derive(Clone, Copy, Debug, PartialEq, Eq)]
+pub enum Category {
+    /// A device's fault, or too little room or memory.
+    Io,
+    /// The input isn't well formed, or isn't accepted.
+    Syntax,
+    /// The input is well formed, and of another type than was asked for.
+    Data,
+    /// The input ended too early.
+    Eof,
+}
+
+/// Why a call refused, and where: how many bytes of the input come before that place.
+#[derive(Debug, Drop)]
+pub struct Error {
+    code: ErrorCode,
+    offset: u64,
+}
+
+impl Error {
+    /// The error of this code at this offset.
+    ///
+    /// `Message`, `Io` and `OutOfMemory` want the offset 0.
+    pub fn at(code: ErrorCode, offset: u64) -> Error
+        requires { HasNoOffset code → offset ≡ 0 }
+        ensures code { code_of result ≡ code }
+        ensures offset { offset_of result ≡ offset }
+    {
+        Error { code, offset }
+    }
+
+    /// An end of input within a value, at this offset.
+    pub fn eof(offset: u64) -> Error
+        ensures code { code_of result ≡ EofWhileParsingValue }
+        ensures offset { offset_of result ≡ offset }
+    {
+        Error {
+            code: ErrorCode::EofWhileParsingValue,
+            offset,
+        }
+    }
+
+    /// Too little room in a scratch or a slice, at this offset.
+    pub fn scratch_too_small(offset: u64) -> Error
+        ensures code { code_of result ≡ ScratchTooSmall }
+        ensures offset { offset_of result ≡ offset }
+    {
+        Error {
+            code: ErrorCode::ScratchTooSmall,
+            offset,
+        }
+    }
+
+    /// An error with a text of the caller's; or `OutOfMemory`, where its text finds no memory.
+    ///
+    /// ```rust
+    /// let error = Error::message(alloc, "no such key");
+    /// assert_eq!(rt; error.to_string(alloc)?.as_str(), "no such key");
+    /// ```
+    pub fn message<T: fmt::Display + Drop>(alloc: Global, msg: T) -> Error
+        ensures code { IsMessageOf (T.output msg) (code_of result) }
+        ensures offset { offset_of result ≡ 0 }
+    {
+        let code = match format!(in alloc; "{msg}") {
+            Ok(text) => ErrorCode::Message(text),
+            Err(_) => ErrorCode::OutOfMemory,
+        };
+        Error { code, offset: 0 }
+    }
+
+    /// How many bytes of the input come before the place of the fault; 0 where it has none.
+    pub fn offset(&self) -> u64
+        ensures { result ≡ offset_of self.now }
+    {
+        self.offset
+    }
+
+    /// Why the call refused.
+    pub fn code(&self) -> &ErrorCode
+        ensures { result.now ≡ code_of self.now }
+    {
+        &self.code
+    }
+
+    /// The kind of the code.
+    pub fn classify(&self) -> Category
+        ensures { result ≡ category_of (code_of self.now) }
+    {
+        match &self.code {
+            ErrorCode::Message(_) => Category::Data,
+            ErrorCode::Io(_) | ErrorCode::ScratchTooSmall | ErrorCode::OutOfMemory => Category::Io,
+            ErrorCode::EofWhileParsingValue
+            | ErrorCode::EofWhileParsingArray
+            | ErrorCode::EofWhileParsingMap => Category::Eof,
+            ErrorCode::LengthOutOfRange
+            | ErrorCode::InvalidUtf8
+            | ErrorCode::UnassignedCode
+            | ErrorCode::UnexpectedCode
+            | ErrorCode::TrailingData
+            | ErrorCode::ArrayTooShort
+            | ErrorCode::ArrayTooLong
+            | ErrorCode::RecursionLimitExceeded
+            | ErrorCode::WrongEnumFormat
+            | ErrorCode::WrongStructFormat => Category::Syntax,
+        }
+    }
+
+    /// Whether a device failed, or room or memory was wanting.
+    pub fn is_io(&self) -> bool
+        ensures { IsTrue result ↔ (category_of (code_of self.now) ≡ category.Io) }
+    {
+        self.classify() == Category::Io
+    }
+
+    /// Whether the input isn't well formed, or isn't accepted.
+    pub fn is_syntax(&self) -> bool
+        ensures { IsTrue result ↔ (category_of (code_of self.now) ≡ category.Syntax) }
+    {
+        self.classify() == Category::Syntax
+    }
+
+    /// Whether the input is of another type than was asked for.
+    pub fn is_data(&self) -> bool
+        ensures { IsTrue result ↔ (category_of (code_of self.now) ≡ category.Data) }
+    {
+        self.classify() == Category::Data
+    }
+
+    /// Whether the input ended too early.
+    pub fn is_eof(&self) -> bool
+        ensures { IsTrue result ↔ (category_of (code_of self.now) ≡ category.Eof) }
+    {
+        self.classify() == Category::Eof
+    }
+
+    /// Whether a scratch or a slice had too little room.
+    pub fn is_scratch_too_small(&self) -> bool
+        ensures { IsTrue result ↔ (code_of self.now ≡ ScratchTooSmall) }
+    {
+        matches!(&self.code, ErrorCode::ScratchTooSmall)
+    }
+
+    /// Whether a growth was refused.
+    pub fn is_memory(&self) -> bool
+        ensures { IsTrue result ↔ (code_of self.now ≡ OutOfMemory) }
+    {
+        matches!(&self.code, ErrorCode::OutOfMemory)
+    }
+}
+
+impl From<AllocError> for Error {
+    ghost use Rattle.cbor_io.specs.Error.{IsOutOfMemory};
+
+    ghost from_gives = { λ _ e. IsOutOfMemory e };
+
+    fn from(_error: AllocError) -> Error {
+        Error {
+            code: ErrorCode::OutOfMemory,
+            offset: 0,
+        }
+    }
+}
+
+impl<T: Drop> From<AllocFailed<T>> for Error {
+    ghost use Rattle.cbor_io.specs.Error.{IsOutOfMemory};
+
+    ghost from_gives = { λ _ e. IsOutOfMemory e };
+
+    fn from(_error: AllocFailed<T>) -> Error {
+        Error {
+            code: ErrorCode::OutOfMemory,
+            offset: 0,
+        }
+    }
+}
+
+impl From<io::Error> for Error {
+    ghost use Rattle.cbor_io.specs.declared.error.ErrorCode.TheVariants.{Io};
+    ghost use Rattle.cbor_io.specs.Error.{code_of, offset_of};
+    ghost use Rattle.std.specs.Prelude.{◌≡◌};
+
+    ghost from_gives = { λ fault e. (code_of e ≡ Io fault) × (offset_of e ≡ 0) };
+
+    fn from(error: io::Error) -> Error {
+        Error {
+            code: ErrorCode::Io(error),
+            offset: 0,
+        }
+    }
+}
+
+impl fmt::Display for ErrorCode {
+    ghost use Rattle.std.specs.Prelude.{Some};
+    ghost use Rattle.cbor_io.specs.Error.{code_text};
+
+    ghost output = { λ code. Some (code_text code) };
+
+    ghost styled_output = { λ code _. Some (code_text code) };
+
+    fn fmt<W: fmt::Write>(&self, f: &mut fmt::Formatter<W>) -> fmt::Result {
+        match self {
+            ErrorCode::Message(text) => f.write_str(text),
+            ErrorCode::Io(_) => f.write_str("I/O error"),
+            ErrorCode::ScratchTooSmall => f.write_str("Scratch buffer too small"),
+            ErrorCode::EofWhileParsingValue => f.write_str("EOF while parsing a value"),
+            ErrorCode::EofWhileParsingArray => f.write_str("EOF while parsing an array"),
+            ErrorCode::EofWhileParsingMap => f.write_str("EOF while parsing a map"),
+            ErrorCode::LengthOutOfRange => f.write_str("length out of range"),
+            ErrorCode::InvalidUtf8 => f.write_str("invalid UTF-8"),
+            ErrorCode::UnassignedCode => f.write_str("unassigned type"),
+            ErrorCode::UnexpectedCode => f.write_str("unexpected code"),
+            ErrorCode::TrailingData => f.write_str("trailing data"),
+            ErrorCode::ArrayTooShort => f.write_str("array too short"),
+            ErrorCode::ArrayTooLong => f.write_str("array too long"),
+            ErrorCode::RecursionLimitExceeded => f.write_str("recursion limit exceeded"),
+            ErrorCode::WrongEnumFormat => f.write_str("wrong enum format"),
+            ErrorCode::WrongStructFormat => f.write_str("wrong struct format"),
+            ErrorCode::OutOfMemory => f.write_str("out of memory"),
+        }
+    }
+}
+
+impl fmt::Display for Error {
+    ghost use Rattle.std.specs.Prelude.{Some};
+    ghost use Rattle.cbor_io.specs.Error.{error_text, styled_error_text};
+
+    ghost output = { λ e. Some (error_text e) };
+
+    ghost styled_output = { λ e _. styled_error_text e };
+
+    fn fmt<W: fmt::Write>(&self, f: &mut fmt::Formatter<W>) -> fmt::Result {
+        if self.offset == 0 {
+            return self.code.fmt(f);
+        }
+        write!(f, "{} at offset {}", self.code, self.offset)
+    }
+}
+
+impl error::Error for Error {}

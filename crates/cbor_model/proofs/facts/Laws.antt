@@ -1,0 +1,2 @@
+-- Published: laws about what is read.
+pub use Rattle.cbor_model.proofs.Proved.{reader_finds, reader_accepts, value_is_storable, value_is_canonical}

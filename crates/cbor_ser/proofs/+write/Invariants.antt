@@ -1,0 +1,33 @@
+use Rattle.std.proofs.Common.{◌≡◌, ◌+◌, ◌*◌, ◌++◌, drop}
+use Rattle.cbor_model.specs.Spelling.{spell_all, spell_pairs}
+use Rattle.cbor_model.specs.Canonical.{canonical_all, canonical_pairs, AreStorable, ArePairsStorable}
+use Rattle.cbor_value.specs.View.{view, views, map_view, pair_views}
+use Rattle.cbor_ser.proofs.Writing.{size, sizes, pair_sizes}
+use Rattle.cbor_ser.proofs.+write.Given as goal
+
+abbrev pub invariant-write_items-loop-item : goal.invariant-write_items-loop-item
+invariant-write_items-loop-item l = record {
+  storable : AreStorable (views (drop l.item-index l.items)) → AreStorable (views l.items);
+  written : l.out.items ++ spell_all (canonical_all (views (drop l.item-index l.items))) ≡ l.fn.out.items ++ spell_all (canonical_all (views l.items));
+}
+
+abbrev pub invariant-write_pairs-loop-key : goal.invariant-write_pairs-loop-key
+invariant-write_pairs-loop-key l = record {
+  storable : ArePairsStorable (pair_views (drop l.key-index l.pairs)) → ArePairsStorable (pair_views l.pairs);
+  written : l.out.items ++ spell_pairs (canonical_pairs (pair_views (drop l.key-index l.pairs))) ≡ l.fn.out.items ++ spell_pairs (canonical_pairs (pair_views l.pairs));
+}
+
+abbrev pub decreases-write_value : goal.decreases-write_value
+decreases-write_value l = 3 * size (view l.value.now)
+
+abbrev pub decreases-write_array : goal.decreases-write_array
+decreases-write_array l = 3 * sizes (views l.items.now) + 2
+
+abbrev pub decreases-write_items : goal.decreases-write_items
+decreases-write_items l = 3 * sizes (views l.items.now) + 1
+
+abbrev pub decreases-write_map : goal.decreases-write_map
+decreases-write_map l = 3 * pair_sizes (map_view l.map.now) + 2
+
+abbrev pub decreases-write_pairs : goal.decreases-write_pairs
+decreases-write_pairs l = 3 * pair_sizes (pair_views l.pairs.now) + 1

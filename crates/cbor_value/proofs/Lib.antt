@@ -1,0 +1,5 @@
+pub mod Comparing
+pub mod Maps
+pub mod Sorting
+pub mod Views
+pub mod facts

@@ -1,0 +1,2 @@
+pub mod View
+pub use Rattle.cbor_io.specs.Error
