@@ -8,7 +8,7 @@ use Rattle.std.proofs.lemmas.List.{length-append}
 use Rattle.cbor_model.specs.Head.{HeadWidth, limit, info, head, behind}
 use Rattle.cbor_model.specs.Raw as raw
 use Rattle.cbor_model.specs.Raw.{Length, definite, indefinite, Raw, Raws, no_raws, RawPairs, no_raw_pairs, raw_pair, Chunk, joined, Simple, false_item, true_item, null_item, undefined_item, FloatWidth, half, single, double, float_limit, count, pair_count, depth, depth_all, depth_pairs, IsChunk, IsWellFormed, AreWellFormed, ArePairsWellFormed, EachText, EachTextOfAll, EachTextOfPairs}
-use Rattle.cbor_model.specs.Spelling.{spell, spell_all, spell_pairs, chunk, simple_byte, float_spelling, enclosed, break}
+use Rattle.cbor_model.specs.Spelling.{spell, spell_all, spell_pairs, chunk, simple_byte, float_spelling, break}
 use Rattle.cbor_model.specs.Refusal.{Refusal, end_in_array, end_in_map}
 use Rattle.cbor_model.specs.Reader.{Reads, ◌>>=◌, Reading, byte_at, float_at, simple_at, string_at, checked_text, text_at, chunk_at, chunks_by, string_chunks_at, text_chunks_at, items_by, more_at, open_items_by, pairs_by, open_pairs_by, array_at, map_at, tag_at, open_array_at, open_map_at, content_at, open_at, after_first, item_by, item_at, inside}
 use Rattle.cbor_model.proofs.Made.{made, made_all, made_pairs}

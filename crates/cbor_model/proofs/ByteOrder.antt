@@ -11,7 +11,7 @@ use Rattle.cbor_model.specs.Raw as raw
 use Rattle.cbor_model.specs.Raw.{FloatWidth, half, single, double, float_limit}
 use Rattle.cbor_model.specs.Spelling.{spell, spell_all, spell_pairs, simple_byte, float_spelling}
 use Rattle.cbor_model.specs.Plain.{Val, null, bool, integer, float, bytes, text, array, map, tag, Vals, no_vals, val, Pairs, no_pairs, pair, count, pair_count}
-use Rattle.cbor_model.specs.Order.{lex, flat, flat_all, flat_pairs, kind, body, bool_code, float_code}
+use Rattle.cbor_model.specs.Order.{lex, flat, flat_all, flat_pairs, major_type, body, bool_code, float_code, val_cmp}
 use Rattle.cbor_model.specs.Canonical.{IsStorable, AreStorable, ArePairsStorable, canonical, canonical_all, canonical_pairs, canonical_bool, canon}
 use Rattle.cbor_model.specs.InRange.{IsInRange, AreInRange, ArePairsInRange}
 use Rattle.cbor_model.proofs.Steps.{info-below}
@@ -121,7 +121,7 @@ record IsOpened (v : Val) : Type 0 where
   low : ℕ
   small : low < 32
   others : List ℕ
-  is : canon v ≡ (32 * kind v + low) ∷ others
+  is : canon v ≡ (32 * major_type v + low) ∷ others
 
 low_bits : (n : ℕ) → n < 2 ^ 64 → info (least n) n < 32
 low_bits n fits = omega (arith, info-below (least n) n (lt-limit-least n fits))
@@ -159,14 +159,14 @@ opened (map ps) stored fits =
 opened (tag n v) stored fits = record { low = info (least n) n; small = low_bits n fits.0; others = _; is = refl }
 
 -- values of two major types differ in their first byte
-Alike-kinds : (a b : Val) → IsOpened a → IsOpened b → (kind a ≡ kind b → Alike (body a) (body b) (canon a) (canon b)) → Alike (flat a) (flat b) (canon a) (canon b)
-Alike-kinds a b one other same =
+Alike-majors : (a b : Val) → IsOpened a → IsOpened b → (major_type a ≡ major_type b → Alike (body a) (body b) (canon a) (canon b)) → Alike (flat a) (flat b) (canon a) (canon b)
+Alike-majors a b one other same =
     let begun = λ (s t : List ℕ). ap₂ (λ (c d : List ℕ). lex (c ++ s) (d ++ t)) one.is other.is in
     let turned = λ (s t : List ℕ). ap₂ (λ (c d : List ℕ). lex (d ++ t) (c ++ s)) one.is other.is in
     rw (flat-is a, flat-is b)
-    (Alike-first (kind a) (kind b) (body a) (body b) (canon a) (canon b)
-    (λ lt s t. begun s t ∙ lex-less (32 * kind a + one.low) (32 * kind b + other.low) (one.others ++ s) (other.others ++ t) (omega (arith, one.small)))
-    (λ gt s t. turned s t ∙ lex-less (32 * kind b + other.low) (32 * kind a + one.low) (other.others ++ t) (one.others ++ s) (omega (arith, other.small)))
+    (Alike-first (major_type a) (major_type b) (body a) (body b) (canon a) (canon b)
+    (λ lt s t. begun s t ∙ lex-less (32 * major_type a + one.low) (32 * major_type b + other.low) (one.others ++ s) (other.others ++ t) (omega (arith, one.small)))
+    (λ gt s t. turned s t ∙ lex-less (32 * major_type b + other.low) (32 * major_type a + one.low) (other.others ++ t) (one.others ++ s) (omega (arith, other.small)))
     same)
 
 -- ---- values
@@ -174,7 +174,7 @@ Alike-kinds a b one other same =
 mutual
   unfolding flat canon canonical spell
 
-  bodies_alike : (a b : Val) → IsStorable a → IsStorable b → IsInRange a → IsInRange b → kind a ≡ kind b → Alike (body a) (body b) (canon a) (canon b)
+  bodies_alike : (a b : Val) → IsStorable a → IsStorable b → IsInRange a → IsInRange b → major_type a ≡ major_type b → Alike (body a) (body b) (canon a) (canon b)
   bodies_alike (integer (pos n)) (integer (pos m)) s t f g e = Alike-number 0 n m s t
   bodies_alike (integer (negsuc n)) (integer (negsuc m)) s t f g e = Alike-number 1 n m s t
   bodies_alike (bytes b) (bytes c) s t f g e = Alike-short 2 (length b) (length c) b c b c f g (Alike-string b c)
@@ -184,7 +184,7 @@ mutual
   bodies_alike (map ps) (map qs) s t f g e =
       rw (pair_count_canonical ps, pair_count_canonical qs) (Alike-short 5 (pair_count ps) (pair_count qs) (flat_pairs ps) (flat_pairs qs) (spell_pairs (canonical_pairs ps)) (spell_pairs (canonical_pairs qs)) f.0 g.0 (pairs_alike ps qs s t f.1 g.1))
   bodies_alike (tag n v) (tag m w) s t f g e =
-      Alike-short 6 n m (flat v) (flat w) (canon v) (canon w) f.0 g.0 (λ same. Alike-kinds v w (opened v s f.1) (opened w t g.1) (bodies_alike v w s t f.1 g.1))
+      Alike-short 6 n m (flat v) (flat w) (canon v) (canon w) f.0 g.0 (λ same. Alike-majors v w (opened v s f.1) (opened w t g.1) (bodies_alike v w s t f.1 g.1))
   bodies_alike null null s t f g e = Alike-byte 224 22 22 [] [] [] [] (λ same. Alike-nil)
   bodies_alike null (bool c) s t f g e = rw (bool_is c) (Alike-byte 224 22 (bool_code c) [] [] [] [] (λ same. Alike-nil))
   bodies_alike null (float z m) s t f g e = rw (float_is z m) (Alike-byte 224 22 (float_code z) [] (m ∷ []) [] (float_bytes z m) (λ same. absurd (omega (arith, lt-float_code z))))
@@ -209,7 +209,7 @@ mutual
   all_alike (val v vs) no_vals s t f g e = absurd (omega arith)
   all_alike (val v vs) (val w ws) s t f g e =
       Alike-append (flat v) (flat w) (canon v) (canon w) (flat_all vs) (flat_all ws) (spell_all (canonical_all vs)) (spell_all (canonical_all ws))
-      (Alike-kinds v w (opened v s.0 f.0) (opened w t.0 g.0) (bodies_alike v w s.0 t.0 f.0 g.0))
+      (Alike-majors v w (opened v s.0 f.0) (opened w t.0 g.0) (bodies_alike v w s.0 t.0 f.0 g.0))
       (all_alike vs ws s.1 t.1 f.1 g.1 (ap pred e))
 
   pairs_alike : (ps qs : Pairs) → ArePairsStorable ps → ArePairsStorable qs → ArePairsInRange ps → ArePairsInRange qs → pair_count ps ≡ pair_count qs → Alike (flat_pairs ps) (flat_pairs qs) (spell_pairs (canonical_pairs ps)) (spell_pairs (canonical_pairs qs))
@@ -218,16 +218,16 @@ mutual
   pairs_alike (pair k v ps) no_pairs s t f g e = absurd (omega arith)
   pairs_alike (pair k v ps) (pair l w qs) s t f g e =
       Alike-append (flat k) (flat l) (canon k) (canon l) (flat v ++ flat_pairs ps) (flat w ++ flat_pairs qs) (canon v ++ spell_pairs (canonical_pairs ps)) (canon w ++ spell_pairs (canonical_pairs qs))
-      (Alike-kinds k l (opened k s.0 f.0) (opened l t.0 g.0) (bodies_alike k l s.0 t.0 f.0 g.0))
+      (Alike-majors k l (opened k s.0 f.0) (opened l t.0 g.0) (bodies_alike k l s.0 t.0 f.0 g.0))
       (Alike-append (flat v) (flat w) (canon v) (canon w) (flat_pairs ps) (flat_pairs qs) (spell_pairs (canonical_pairs ps)) (spell_pairs (canonical_pairs qs))
-      (Alike-kinds v w (opened v s.1 f.1) (opened w t.1 g.1) (bodies_alike v w s.1 t.1 f.1 g.1))
+      (Alike-majors v w (opened v s.1 f.1) (opened w t.1 g.1) (bodies_alike v w s.1 t.1 f.1 g.1))
       (pairs_alike ps qs s.2 t.2 f.2 g.2 (ap pred e)))
 
 -- ---- the laws
 
-pub byte_order : (a b : Val) → IsStorable a → IsStorable b → IsInRange a → IsInRange b → lex (flat a) (flat b) ≡ lex (canon a) (canon b)
+pub byte_order : (a b : Val) → IsStorable a → IsStorable b → IsInRange a → IsInRange b → val_cmp a b ≡ lex (canon a) (canon b)
 byte_order a b stored stored' fits fits' =
-    let alike : Alike (flat a) (flat b) (canon a) (canon b) = Alike-kinds a b (opened a stored fits) (opened b stored' fits') (bodies_alike a b stored stored' fits fits') in
+    let alike : Alike (flat a) (flat b) (canon a) (canon b) = Alike-majors a b (opened a stored fits) (opened b stored' fits') (bodies_alike a b stored stored' fits fits') in
     sym (ap₂ lex (append-nil (flat a)) (append-nil (flat b)))
     ∙ alike [] [] [] [] refl
     ∙ ap₂ lex (append-nil (canon a)) (append-nil (canon b))

@@ -10,7 +10,7 @@ use Rattle.cbor_model.specs.Raw.{Length, definite, indefinite, Raw, Raws, no_raw
 use Rattle.cbor_model.specs.Spelling.{spell, spell_all, spell_pairs, chunk, enclosed, break}
 use Rattle.cbor_model.specs.Acceptable.{IsAcceptableWithin}
 use Rattle.cbor_model.specs.Plain.{Val, Pairs, no_pairs, pair}
-use Rattle.cbor_model.specs.Order.{lex, flat}
+use Rattle.cbor_model.specs.Order.{val_cmp}
 use Rattle.cbor_model.specs.Value.{value, values, pairs, put, simple_value}
 use Rattle.cbor_model.specs.Canonical.{IsStorable, IsOrdered, AreOrdered, ArePairsOrdered, canonical, canonical_all, canonical_pairs}
 use Rattle.cbor_model.proofs.Again.{count-le, pair_count-le}
@@ -56,7 +56,7 @@ unfolding canonical
 depth_put k v no_pairs levels key val all = omega arith
 depth_put k v (pair l w ps) levels key val all =
     let rest = depth_put k v ps levels key val (omega arith) in
-    by_order-cases (λ (r : Pairs). depth_pairs (canonical_pairs r) ≤ levels) (lex (flat k) (flat l)) _ _ _ (λ less. omega arith) (λ same. omega arith) (λ more. omega arith)
+    by_order-cases (λ (r : Pairs). depth_pairs (canonical_pairs r) ≤ levels) (val_cmp k l) _ _ _ (λ less. omega arith) (λ same. omega arith) (λ more. omega arith)
 
 simple_flat : (s : raw.Simple) → depth (canonical (simple_value s)) ≤ 0
 unfolding canonical
@@ -98,7 +98,7 @@ module _ (P : List ℕ → Type 0) where
   unfolding canonical
   texts_put k v no_pairs key val all = (key, val, tt)
   texts_put k v (pair l w ps) key val all =
-      by_order-cases (λ (r : Pairs). EachTextOfPairs P (canonical_pairs r)) (lex (flat k) (flat l)) _ _ _
+      by_order-cases (λ (r : Pairs). EachTextOfPairs P (canonical_pairs r)) (val_cmp k l) _ _ _
       (λ less. (key, val, all))
       (λ same. (key, val, all.2))
       (λ more. (all.0, all.1, texts_put k v ps key val all.2))
@@ -179,7 +179,7 @@ unfolding canonical
 count_put k v no_pairs = omega arith
 count_put k v (pair l w ps) =
     let rest = count_put k v ps in
-    by_order-cases (λ (r : Pairs). raw.pair_count (canonical_pairs r) ≤ suc (suc (raw.pair_count (canonical_pairs ps)))) (lex (flat k) (flat l)) _ _ _ (λ less. omega arith) (λ same. omega arith) (λ more. omega arith)
+    by_order-cases (λ (r : Pairs). raw.pair_count (canonical_pairs r) ≤ suc (suc (raw.pair_count (canonical_pairs ps)))) (val_cmp k l) _ _ _ (λ less. omega arith) (λ same. omega arith) (λ more. omega arith)
 
 pub count_pairs : (ps : RawPairs) (before : Pairs) → raw.pair_count (canonical_pairs (pairs ps before)) ≤ raw.pair_count ps + raw.pair_count (canonical_pairs before)
 unfolding value canonical
@@ -190,7 +190,7 @@ well_formed_put : (k v : Val) (ps : Pairs) → IsWellFormed (canonical k) → Is
 unfolding canonical
 well_formed_put k v no_pairs key val all = (key, val, tt)
 well_formed_put k v (pair l w ps) key val all =
-    by_order-cases (λ (r : Pairs). ArePairsWellFormed (canonical_pairs r)) (lex (flat k) (flat l)) _ _ _
+    by_order-cases (λ (r : Pairs). ArePairsWellFormed (canonical_pairs r)) (val_cmp k l) _ _ _
     (λ less. (key, val, all))
     (λ same. (key, val, all.2))
     (λ more. (all.0, all.1, well_formed_put k v ps key val all.2))

@@ -4,7 +4,7 @@ use Rattle.std.proofs.lemmas.Cmp.{ranked, tied_itself, nat_cmp_total}
 use Rattle.std.specs.Ordering.{ordering_then, MatchOrdering}
 use Rattle.cbor_model.specs.Raw.{FloatWidth}
 use Rattle.cbor_model.specs.Plain.{Val, null, bool, integer, float, bytes, text, array, map, tag, Vals, no_vals, val, Pairs, no_pairs, pair, count, pair_count}
-use Rattle.cbor_model.specs.Order.{lex, flat, flat_all, flat_pairs, kind, body, bool_code, float_code}
+use Rattle.cbor_model.specs.Order.{lex, flat, flat_all, flat_pairs, major_type, body, bool_code, float_code, val_cmp}
 use Rattle.cbor_model.proofs.Same.{flat-is, bool_code-lt, lt-float_code}
 
 -- whatever follows, the first difference within p and q decides, and only else what follows
@@ -51,14 +51,14 @@ null-low w e = omega (arith, lt-float_code w)
 mutual
   unfolding flat
 
-  pub bodies_apart : (a b : Val) → kind a ≡ kind b → Apart (body a) (body b)
+  pub bodies_apart : (a b : Val) → major_type a ≡ major_type b → Apart (body a) (body b)
   bodies_apart (integer (pos n)) (integer (pos m)) e = number_apart n m
   bodies_apart (integer (negsuc n)) (integer (negsuc m)) e = number_apart n m
   bodies_apart (bytes b) (bytes c) e = Apart-cons (length b) (length c) b c (Apart-same_len b c)
   bodies_apart (text b) (text c) e = Apart-cons (length b) (length c) b c (Apart-same_len b c)
   bodies_apart (array vs) (array ws) e = Apart-cons (count vs) (count ws) (flat_all vs) (flat_all ws) (all_apart vs ws)
   bodies_apart (map ps) (map qs) e = Apart-cons (pair_count ps) (pair_count qs) (flat_pairs ps) (flat_pairs qs) (pairs_apart ps qs)
-  bodies_apart (tag n v) (tag m w) e = Apart-cons n m (flat v) (flat w) (λ same. rw (flat-is v, flat-is w) (Apart-cons (kind v) (kind w) (body v) (body w) (bodies_apart v w)))
+  bodies_apart (tag n v) (tag m w) e = Apart-cons n m (flat v) (flat w) (λ same. Apart-cons (major_type v) (major_type w) (body v) (body w) (bodies_apart v w))
   bodies_apart null null e = number_apart 22 22
   bodies_apart null (bool c) e = (number_apart 22 (bool_code c))
   bodies_apart null (float w bits) e = (Apart-cons 22 (float_code w) [] (bits ∷ []) (λ same. absurd (null-low w same)))
@@ -79,27 +79,27 @@ mutual
   all_apart no_vals (val w ws) e = absurd (omega arith)
   all_apart (val v vs) no_vals e = absurd (omega arith)
   all_apart (val v vs) (val w ws) e =
-      Apart-append (flat v) (flat w) (flat_all vs) (flat_all ws) (rw (flat-is v, flat-is w) (Apart-cons (kind v) (kind w) (body v) (body w) (bodies_apart v w))) (all_apart vs ws (ap pred e))
+      Apart-append (flat v) (flat w) (flat_all vs) (flat_all ws) (Apart-cons (major_type v) (major_type w) (body v) (body w) (bodies_apart v w)) (all_apart vs ws (ap pred e))
 
   pub pairs_apart : (ps qs : Pairs) → pair_count ps ≡ pair_count qs → Apart (flat_pairs ps) (flat_pairs qs)
   pairs_apart no_pairs no_pairs e = Apart-nil
   pairs_apart no_pairs (pair k v qs) e = absurd (omega arith)
   pairs_apart (pair k v ps) no_pairs e = absurd (omega arith)
   pairs_apart (pair k v ps) (pair l w qs) e =
-      Apart-append (flat k) (flat l) (flat v ++ flat_pairs ps) (flat w ++ flat_pairs qs) (rw (flat-is k, flat-is l) (Apart-cons (kind k) (kind l) (body k) (body l) (bodies_apart k l)))
-      (Apart-append (flat v) (flat w) (flat_pairs ps) (flat_pairs qs) (rw (flat-is v, flat-is w) (Apart-cons (kind v) (kind w) (body v) (body w) (bodies_apart v w))) (pairs_apart ps qs (ap pred e)))
+      Apart-append (flat k) (flat l) (flat v ++ flat_pairs ps) (flat w ++ flat_pairs qs) (Apart-cons (major_type k) (major_type l) (body k) (body l) (bodies_apart k l))
+      (Apart-append (flat v) (flat w) (flat_pairs ps) (flat_pairs qs) (Apart-cons (major_type v) (major_type w) (body v) (body w) (bodies_apart v w)) (pairs_apart ps qs (ap pred e)))
 
 pub flats_apart : (a b : Val) → Apart (flat a) (flat b)
-flats_apart a b = rw (flat-is a, flat-is b) (Apart-cons (kind a) (kind b) (body a) (body b) (bodies_apart a b))
+flats_apart a b = rw (flat-is a, flat-is b) (Apart-cons (major_type a) (major_type b) (body a) (body b) (bodies_apart a b))
 
 -- values whose lists begin with other numbers
-pub kinds_differ : (a b : Val) → (kind a ≡ kind b → ⊥) → nat_cmp (kind a) (kind b) ≡ lex (flat a) (flat b)
-kinds_differ a b differ = rw (flat-is a, flat-is b) (by_order (nat_cmp (kind a) (kind b)) (ranked (kind a) (kind b) (nat_cmp (kind a) (kind b)) refl))
+pub majors_differ : (a b : Val) → (major_type a ≡ major_type b → ⊥) → nat_cmp (major_type a) (major_type b) ≡ val_cmp a b
+majors_differ a b differ = rw (flat-is a, flat-is b) (by_order (nat_cmp (major_type a) (major_type b)) (ranked (major_type a) (major_type b) (nat_cmp (major_type a) (major_type b)) refl))
   where
-    by_order : (o : Ordering) → MatchOrdering o (kind a < kind b) (kind a ≡ kind b) (kind b < kind a) → o ≡ ordering_then o (lex (body a) (body b))
+    by_order : (o : Ordering) → MatchOrdering o (major_type a < major_type b) (major_type a ≡ major_type b) (major_type b < major_type a) → o ≡ ordering_then o (lex (body a) (body b))
     by_order Less is = refl
     by_order Equal is = absurd (differ is)
     by_order Greater is = refl
 
-pub kinds_same : (a b : Val) → kind a ≡ kind b → lex (flat a) (flat b) ≡ lex (body a) (body b)
-kinds_same a b same = rw (flat-is a, flat-is b) (ap (λ (o : Ordering). ordering_then o (lex (body a) (body b))) (ap (λ (k : ℕ). nat_cmp k (kind b)) same ∙ tied_itself nat_cmp_total (kind b)))
+pub majors_same : (a b : Val) → major_type a ≡ major_type b → val_cmp a b ≡ lex (body a) (body b)
+majors_same a b same = rw (flat-is a, flat-is b) (ap (λ (o : Ordering). ordering_then o (lex (body a) (body b))) (ap (λ (k : ℕ). nat_cmp k (major_type b)) same ∙ tied_itself nat_cmp_total (major_type b)))

@@ -7,7 +7,7 @@ use Rattle.cbor_model.specs.Raw.{definite, indefinite, Raw, Raws, no_raws, RawPa
 use Rattle.cbor_model.specs.Spelling.{spell, spell_all, spell_pairs}
 use Rattle.cbor_model.specs.Definite.{IsDefinite, AreDefinite, ArePairsDefinite}
 use Rattle.cbor_model.specs.Plain.{Val, Pairs, no_pairs, pair}
-use Rattle.cbor_model.specs.Order.{lex, flat}
+use Rattle.cbor_model.specs.Order.{val_cmp}
 use Rattle.cbor_model.specs.Value.{value, values, pairs, put, simple_value}
 use Rattle.cbor_model.specs.Canonical.{canonical, canonical_all, canonical_pairs, canon}
 use Rattle.cbor_model.proofs.Pairs.{by_order-cases}
@@ -50,7 +50,7 @@ put-le k v (pair l w ps) =
     let most = length (canon k) + length (canon v) + length (spell_pairs (canonical_pairs (pair l w ps))) in
     let parts = λ (a b : Val) (qs : Pairs). length-append (canon a) (canon b ++ spell_pairs (canonical_pairs qs)) in
     let parts' = λ (b : Val) (qs : Pairs). length-append (canon b) (spell_pairs (canonical_pairs qs)) in
-    by_order-cases (λ (r : Pairs). length (spell_pairs (canonical_pairs r)) ≤ most) (lex (flat k) (flat l)) _ _ _
+    by_order-cases (λ (r : Pairs). length (spell_pairs (canonical_pairs r)) ≤ most) (val_cmp k l) _ _ _
     (λ less. omega (arith, parts k v (pair l w ps), parts' v (pair l w ps)))
     (λ same. omega (arith, parts k v ps, parts' v ps, parts l w ps, parts' w ps))
     (λ more. omega (arith, rest, parts l w (put k v ps), parts' w (put k v ps), parts l w ps, parts' w ps))

@@ -6,10 +6,10 @@ use Rattle.std.specs.FinMap.{find, same_map}
 use Rattle.std.specs.FinMap as finmap
 use Rattle.std.specs.FinMap.Entries as listed
 use Rattle.cbor_model.specs.Plain.{Val, Pairs, no_pairs, pair}
-use Rattle.cbor_model.specs.Order.{lex, flat}
 use Rattle.cbor_model.specs.Value.{by_order, put}
 use Rattle.cbor_model.specs.Canonical.{IsBelow, KeysAscend}
-use Rattle.cbor_model.specs.FiniteMap.{val_cmp, entries, finite_map, put_all}
+use Rattle.cbor_model.specs.FiniteMap.{entries, finite_map, put_all}
+use Rattle.cbor_model.specs.Order.{val_cmp}
 use Rattle.cbor_model.proofs.Same.{val_cmp_total, exact_vals}
 use Rattle.cbor_model.proofs.Pairs.{Greater-from_Less, IsBelow-trans, KeysAscend-put, get-finite_map, entries-put, entries-finite_map}
 
@@ -55,7 +55,7 @@ same_pairs ps qs up also_up same =
 
 -- ---- ascending pairs stay as they are
 
-put-past : (k v l w : Val) (ps : Pairs) → lex (flat k) (flat l) ≡ Greater → put k v (pair l w ps) ≡ pair l w (put k v ps)
+put-past : (k v l w : Val) (ps : Pairs) → val_cmp k l ≡ Greater → put k v (pair l w ps) ≡ pair l w (put k v ps)
 put-past k v l w ps more = ap (λ (o : Ordering). by_order o (pair k v (pair l w ps)) (pair k v ps) (pair l w (put k v ps))) more
 
 put_all-below : (k v : Val) (ps before : Pairs) → IsBelow k ps → KeysAscend ps → put_all ps (pair k v before) ≡ pair k v (put_all ps before)

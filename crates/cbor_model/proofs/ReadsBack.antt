@@ -1,7 +1,7 @@
 -- The canonical item of an ordered value has that value.
 use Rattle.std.proofs.Common.{◌≡◌, true, false, pos, negsuc, Ordering, Less, refl, sym, ap, ap₂, subst, ◌∙◌}
 use Rattle.cbor_model.specs.Plain.{Val, null, bool, integer, float, bytes, text, array, map, tag, Vals, no_vals, val, Pairs, no_pairs, pair}
-use Rattle.cbor_model.specs.Order.{lex, flat}
+use Rattle.cbor_model.specs.Order.{val_cmp}
 use Rattle.cbor_model.specs.Value.{value, values, pairs, by_order, put}
 use Rattle.cbor_model.specs.Canonical.{KeysAscend, IsOrdered, AreOrdered, ArePairsOrdered, canonical, canonical_all, canonical_pairs}
 use Rattle.cbor_model.proofs.Pairs.{Less-trans, Greater-from_Less, KeysAscend-from_IsOrdered}
@@ -20,7 +20,7 @@ followed_by_assoc no_pairs qs rs = refl
 followed_by_assoc (pair k v ps) qs rs = ap (pair k v) (followed_by_assoc ps qs rs)
 
 -- the first of ascending keys is less than each later one
-first_less : (l w k v : Val) (before ps : Pairs) → KeysAscend (pair l w (followed_by before (pair k v ps))) → lex (flat l) (flat k) ≡ Less
+first_less : (l w k v : Val) (before ps : Pairs) → KeysAscend (pair l w (followed_by before (pair k v ps))) → val_cmp l k ≡ Less
 first_less l w k v no_pairs ps ascend = ascend.0
 first_less l w k v (pair m x before) ps ascend = Less-trans l m k ascend.0 (first_less m x k v before ps ascend.1)
 

@@ -6,24 +6,12 @@ use Rattle.std.proofs.lemmas.List.{append-nil}
 use Rattle.std.proofs.lemmas.Map.Lookups.{CmpEqualImpliesEq, exact_bytes}
 use Rattle.cbor_model.specs.Raw.{FloatWidth, half, single, double}
 use Rattle.cbor_model.specs.Plain.{Val, null, bool, integer, float, bytes, text, array, map, tag, Vals, no_vals, val, Pairs, no_pairs, pair, count, pair_count}
-use Rattle.cbor_model.specs.Order.{flat, flat_all, flat_pairs, kind, bool_code, float_code, body}
-use Rattle.cbor_model.specs.FiniteMap.{val_cmp}
+use Rattle.cbor_model.specs.Order.{flat, flat_all, flat_pairs, major_type, bool_code, float_code, body}
+use Rattle.cbor_model.specs.Order.{val_cmp}
 
-pub flat-is : (v : Val) → flat v ≡ kind v ∷ body v
+pub flat-is : (v : Val) → flat v ≡ major_type v ∷ body v
 unfolding flat
-flat-is null = refl
-flat-is (bool false) = refl
-flat-is (bool true) = refl
-flat-is (integer (pos n)) = refl
-flat-is (integer (negsuc n)) = refl
-flat-is (float half bits) = refl
-flat-is (float single bits) = refl
-flat-is (float double bits) = refl
-flat-is (bytes b) = refl
-flat-is (text b) = refl
-flat-is (array vs) = refl
-flat-is (map ps) = refl
-flat-is (tag n v) = refl
+flat-is v = refl
 
 pub bool_code-lt : (b : Bool) → bool_code b < 22
 bool_code-lt false = omega arith
@@ -70,16 +58,16 @@ same_front (n ∷ b) (m ∷ c) x y e s =
     (ap₂ (λ (k : ℕ) (l : List ℕ). k ∷ l) (ap hd s) rest.0, rest.1)
 
 -- a value's list and what follows it, where the first number stands apart
-opened : (a b : Val) (x y : List ℕ) → flat a ++ x ≡ flat b ++ y → (kind a ∷ body a) ++ x ≡ (kind b ∷ body b) ++ y
+opened : (a b : Val) (x y : List ℕ) → flat a ++ x ≡ flat b ++ y → (major_type a ∷ body a) ++ x ≡ (major_type b ∷ body b) ++ y
 opened a b x y s = ap (λ (l : List ℕ). l ++ x) (sym (flat-is a)) ∙ s ∙ ap (λ (l : List ℕ). l ++ y) (flat-is b)
 
-split : (a b : Val) (p q x y : List ℕ) → (flat a ++ p) ++ x ≡ (flat b ++ q) ++ y → (kind a ∷ body a) ++ (p ++ x) ≡ (kind b ∷ body b) ++ (q ++ y)
+split : (a b : Val) (p q x y : List ℕ) → (flat a ++ p) ++ x ≡ (flat b ++ q) ++ y → (major_type a ∷ body a) ++ (p ++ x) ≡ (major_type b ∷ body b) ++ (q ++ y)
 split a b p q x y s = opened a b (p ++ x) (q ++ y) (sym (append_assoc (flat a) p x) ∙ s ∙ append_assoc (flat b) q y)
 
 mutual
   unfolding flat
 
-  same_body : (a b : Val) (x y : List ℕ) → kind a ≡ kind b → body a ++ x ≡ body b ++ y → (a ≡ b) × (x ≡ y)
+  same_body : (a b : Val) (x y : List ℕ) → major_type a ≡ major_type b → body a ++ x ≡ body b ++ y → (a ≡ b) × (x ≡ y)
   same_body (integer (pos n)) (integer (pos m)) x y e s = (ap (λ (k : ℕ). integer (pos k)) (ap hd s), ap tl s)
   same_body (integer (negsuc n)) (integer (negsuc m)) x y e s = (ap (λ (k : ℕ). integer (negsuc k)) (ap hd s), ap tl s)
   same_body (bytes b) (bytes c) x y e s = let r = same_front b c x y (ap hd s) (ap tl s) in (ap bytes r.0, r.1)
@@ -137,10 +125,8 @@ one_flat a b s = (same_beginning a b [] [] (append-nil (flat a) ∙ s ∙ sym (a
 -- ---- the order
 
 pub val_cmp_total : IsTotalOrder val_cmp
-unfolding val_cmp
 val_cmp_total = on_total flat nat_list_cmp_total
 
 -- values that compare alike are one
 pub exact_vals : CmpEqualImpliesEq val_cmp
-unfolding val_cmp
 exact_vals a b same = one_flat a b (exact_bytes (flat a) (flat b) same)

@@ -6,7 +6,7 @@ use Rattle.cbor_model.specs.Head.{HeadWidth, no_bytes, one_byte, two_bytes, four
 use Rattle.cbor_model.specs.Raw as raw
 use Rattle.cbor_model.specs.Raw.{Raw, Raws, no_raws, RawPairs, no_raw_pairs, raw_pair, false_item, true_item, null_item, undefined_item, IsWellFormed, AreWellFormed, ArePairsWellFormed}
 use Rattle.cbor_model.specs.Plain.{Val, Pairs, no_pairs, pair}
-use Rattle.cbor_model.specs.Order.{lex, flat}
+use Rattle.cbor_model.specs.Order.{val_cmp}
 use Rattle.cbor_model.specs.Value.{value, values, pairs, by_order, put, simple_value}
 use Rattle.cbor_model.specs.Canonical.{IsStorable, AreStorable, ArePairsStorable}
 
@@ -26,7 +26,7 @@ by_order_keeps Greater a b c p q r = r
 put_keeps : (k v : Val) (ps : Pairs) → IsStorable k → IsStorable v → ArePairsStorable ps → ArePairsStorable (put k v ps)
 put_keeps k v no_pairs key val all = (key, val, tt)
 put_keeps k v (pair l w ps) key val all =
-    by_order_keeps (lex (flat k) (flat l)) (pair k v (pair l w ps)) (pair k v ps) (pair l w (put k v ps))
+    by_order_keeps (val_cmp k l) (pair k v (pair l w ps)) (pair k v ps) (pair l w (put k v ps))
     (key, val, all)
     (key, val, all.2)
     (all.0, all.1, put_keeps k v ps key val all.2)

@@ -6,7 +6,7 @@ use Rattle.cbor_model.specs.Raw as raw
 use Rattle.cbor_model.specs.Raw.{Raw, Raws, no_raws, RawPairs, no_raw_pairs, raw_pair, Simple, false_item, true_item, null_item, half, Chunk}
 use Rattle.cbor_model.specs.Spelling.{spell}
 use Rattle.cbor_model.specs.Plain.{Val, null, bool, integer, float, bytes, text, array, map, tag, Vals, no_vals, val, Pairs, no_pairs, pair}
-use Rattle.cbor_model.specs.Order.{lex, flat}
+use Rattle.cbor_model.specs.Order.{val_cmp}
 
 -- from -2^64 to 2^64 - 1
 abbrev pub IsStorableInteger : ℤ → Type 0
@@ -33,7 +33,7 @@ abbrev mutual
 -- the key stands before the first of the pairs
 abbrev pub IsBelow : Val → Pairs → Type 0
 IsBelow k no_pairs = Unit {0}
-IsBelow k (pair l w ps) = lex (flat k) (flat l) ≡ Less
+IsBelow k (pair l w ps) = val_cmp k l ≡ Less
 
 -- the keys strictly ascend
 abbrev pub KeysAscend : Pairs → Type 0

@@ -1,14 +1,9 @@
 -- The finite map that the pairs of a map list, where their keys strictly ascend.
 use Rattle.std.specs.Prelude.{List, [], ◌∷◌, Option, None, Some}
-use Rattle.std.specs.declared.cmp.Ordering.{Ordering}
 use Rattle.std.specs.FinMap.{FinMap, from_entries}
 use Rattle.cbor_model.specs.Plain.{Val, Pairs, no_pairs, pair}
-use Rattle.cbor_model.specs.Order.{lex, flat}
+use Rattle.cbor_model.specs.Order.{val_cmp}
 use Rattle.cbor_model.specs.Value.{by_order, put}
-
--- the order of values
-unfoldable pub val_cmp : Val → Val → Ordering
-val_cmp a b = lex (flat a) (flat b)
 
 abbrev pub entries : Pairs → List (Val × Val)
 entries no_pairs = []
@@ -20,7 +15,7 @@ finite_map ps = from_entries (entries ps)
 -- ordered pairs without the one at the key k
 abbrev pub without : Val → Pairs → Pairs
 without k no_pairs = no_pairs
-without k (pair l w ps) = by_order (lex (flat k) (flat l)) (pair l w ps) ps (pair l w (without k ps))
+without k (pair l w ps) = by_order (val_cmp k l) (pair l w ps) ps (pair l w (without k ps))
 
 -- the pairs, put one after the other into those before
 abbrev pub put_all : Pairs → Pairs → Pairs

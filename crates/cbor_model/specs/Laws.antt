@@ -7,7 +7,7 @@ use Rattle.cbor_model.specs.Plain.{Val}
 use Rattle.cbor_model.specs.Value.{value}
 use Rattle.cbor_model.specs.Canonical.{IsStorable, IsOrdered, canonical, canon}
 use Rattle.cbor_model.specs.Order.{lex, flat}
-use Rattle.cbor_model.specs.FiniteMap.{val_cmp}
+use Rattle.cbor_model.specs.Order.{val_cmp}
 use Rattle.cbor_model.specs.InRange.{IsInRange}
 use Rattle.cbor_model.specs.Definite.{IsDefinite}
 use Rattle.std.specs.Cmp.{IsTotalOrder}
@@ -69,7 +69,7 @@ EqualBytes = (a b : Val) → IsStorable a → IsStorable b → IsInRange a → I
 
 -- The order of storable values in range is the byte order of their canonical spellings.
 abbrev pub ByteOrder : Type 0
-ByteOrder = (a b : Val) → IsStorable a → IsStorable b → IsInRange a → IsInRange b → lex (flat a) (flat b) ≡ lex (canon a) (canon b)
+ByteOrder = (a b : Val) → IsStorable a → IsStorable b → IsInRange a → IsInRange b → val_cmp a b ≡ lex (canon a) (canon b)
 
 -- No well-formed item of definite lengths is spelled shorter than its value's canonical item.
 abbrev pub LeastSpelling : Type 0

@@ -6,7 +6,7 @@ use Rattle.cbor_model.specs.Head.{no_bytes, one_byte}
 use Rattle.cbor_model.specs.Raw as raw
 use Rattle.cbor_model.specs.Raw.{Raw, Raws, no_raws, RawPairs, no_raw_pairs, raw_pair, Simple, false_item, true_item, null_item, undefined_item, joined}
 use Rattle.cbor_model.specs.Plain.{Val, null, bool, integer, float, bytes, text, array, map, tag, Vals, no_vals, val, Pairs, no_pairs, pair}
-use Rattle.cbor_model.specs.Order.{lex, flat}
+use Rattle.cbor_model.specs.Order.{flat, val_cmp}
 
 abbrev pub by_order : {A : Type 0} → Ordering → A → A → A → A
 by_order Less a b c = a
@@ -16,7 +16,7 @@ by_order Greater a b c = c
 -- ordered pairs with the value v at the key k, in the place of one that is there
 abbrev pub put : Val → Val → Pairs → Pairs
 put k v no_pairs = pair k v no_pairs
-put k v (pair l w ps) = by_order (lex (flat k) (flat l)) (pair k v (pair l w ps)) (pair k v ps) (pair l w (put k v ps))
+put k v (pair l w ps) = by_order (val_cmp k l) (pair k v (pair l w ps)) (pair k v ps) (pair l w (put k v ps))
 
 -- undefined is null
 abbrev pub simple_value : Simple → Val

@@ -7,7 +7,7 @@ use Rattle.std.specs.Prelude.{nat_eq, slice_index}
 use Rattle.std.specs.Cmp.Lexicographic.{pointwise, texts_ties}
 use Rattle.cbor_model.specs.Plain as plain
 use Rattle.cbor_model.specs.Plain.{Val}
-use Rattle.cbor_model.specs.Order.{lex, flat, flat_all, flat_pairs, kind, body, bool_code, float_code}
+use Rattle.cbor_model.specs.Order.{lex, flat, flat_all, flat_pairs, major_type, body, bool_code, float_code, val_cmp}
 use Rattle.cbor_model.proofs.facts.Order.{bool_code-lt, lt-float_code, flats_apart, then_assoc}
 use Rattle.cbor_value.specs.declared.Map.{Map as MapType, out-Map}
 use Rattle.cbor_value.specs.declared.Value.{Value, the_lemmas}
@@ -31,13 +31,13 @@ same_len n m e = go (nat_cmp n m) (ranked n m (nat_cmp n m) refl) e
 abbrev pub rest_order : List Value → List Value → Ordering
 rest_order vs ws = lex (flat_all (views vs)) (flat_all (views ws))
 
-pub first_decides : (v w : Value) (vs ws : List Value) → rest_order (v ∷ vs) (w ∷ ws) ≡ ordering_then (lex (flat (view v)) (flat (view w))) (rest_order vs ws)
+pub first_decides : (v w : Value) (vs ws : List Value) → rest_order (v ∷ vs) (w ∷ ws) ≡ ordering_then (val_cmp (view v) (view w)) (rest_order vs ws)
 unfolding flat
 first_decides v w vs ws = flats_apart (view v) (view w) (flat_all (views vs)) (flat_all (views ws))
 
 -- one turn
 pub turn : (a b : List Value) (i : ℕ) (v w : Value) → i < length a → length a ≡ length b → v ≡ get_or a i v → w ≡ get_or b i w
-    → rest_order (drop i a) (drop i b) ≡ ordering_then (lex (flat (view v)) (flat (view w))) (rest_order (drop (i + 1) a) (drop (i + 1) b))
+    → rest_order (drop i a) (drop i b) ≡ ordering_then (val_cmp (view v) (view w)) (rest_order (drop (i + 1) a) (drop (i + 1) b))
 turn a b i v w lt same v-is w-is =
     let first : drop i a ≡ v ∷ drop (i + 1) a = rw add-one (drop-cons a i v lt ∙ ap (λ (x : Value). x ∷ drop (suc i) a) (sym v-is)) in
     let second : drop i b ≡ w ∷ drop (i + 1) b = rw add-one (drop-cons b i w (omega arith) ∙ ap (λ (x : Value). x ∷ drop (suc i) b) (sym w-is)) in
@@ -72,7 +72,7 @@ differ n m x y apart = by_order (nat_cmp n m) (ranked n m (nat_cmp n m) refl)
 abbrev by_key : Val → Val → Ordering
 by_key a b = ordering_then (nat_cmp (slice_index (body a) 0) (slice_index (body b) 0)) (nat_cmp (slice_index (body a) 1) (slice_index (body b) 1))
 
-simple_pair : (a b : Val) → kind a ≡ 7 → kind b ≡ 7 → by_key a b ≡ lex (body a) (body b)
+simple_pair : (a b : Val) → major_type a ≡ 7 → major_type b ≡ 7 → by_key a b ≡ lex (body a) (body b)
 simple_pair (plain.integer (pos n)) _ x y = absurd (omega arith)
 simple_pair (plain.integer (negsuc n)) _ x y = absurd (omega arith)
 simple_pair (plain.bytes s) _ x y = absurd (omega arith)
@@ -97,7 +97,7 @@ simple_pair (plain.float w n) plain.null x y = differ (float_code w) 22 _ _ (λ 
 simple_pair (plain.float w n) (plain.bool b) x y = differ (float_code w) (bool_code b) _ _ (λ same. omega (arith, bool_code-lt b, lt-float_code w))
 simple_pair (plain.float w n) (plain.float z m) x y = ap (ordering_then (nat_cmp (float_code w) (float_code z))) (sym (then_equal (nat_cmp n m)))
 
-pub simples : (a b : Val) (o : Ordering) → kind a ≡ 7 → kind b ≡ 7 → o ≡ by_key a b → o ≡ lex (body a) (body b)
+pub simples : (a b : Val) (o : Ordering) → major_type a ≡ 7 → major_type b ≡ 7 → o ≡ by_key a b → o ≡ lex (body a) (body b)
 simples a b o x y is = is ∙ simple_pair a b x y
 
 -- ---- pairs
@@ -109,8 +109,8 @@ first_pair : (p q : Value × Value) (ps qs : List (Value × Value)) → rest_pai
 unfolding flat
 first_pair p q ps qs =
     flats_apart (view p.0) (view q.0) (flat (view p.1) ++ flat_pairs (pair_views ps)) (flat (view q.1) ++ flat_pairs (pair_views qs))
-    ∙ ap (ordering_then (lex (flat (view p.0)) (flat (view q.0)))) (flats_apart (view p.1) (view q.1) (flat_pairs (pair_views ps)) (flat_pairs (pair_views qs)))
-    ∙ sym (then_assoc (lex (flat (view p.0)) (flat (view q.0))) (lex (flat (view p.1)) (flat (view q.1))) (rest_pairs ps qs))
+    ∙ ap (ordering_then (val_cmp (view p.0) (view q.0))) (flats_apart (view p.1) (view q.1) (flat_pairs (pair_views ps)) (flat_pairs (pair_views qs)))
+    ∙ sym (then_assoc (val_cmp (view p.0) (view q.0)) (val_cmp (view p.1) (view q.1)) (rest_pairs ps qs))
 
 pub pair_turn : (a b : List (Value × Value)) (i : ℕ) (v w : Value × Value) → i < length a → length a ≡ length b → v ≡ get_or a i v → w ≡ get_or b i w
     → rest_pairs (drop i a) (drop i b) ≡ ordering_then (pair_order v w) (rest_pairs (drop (i + 1) a) (drop (i + 1) b))
@@ -132,17 +132,17 @@ pair_bodies_differ a b o is differs = stays o (rest_pairs a b) differs ∙ ap (�
 pub view-Map : (m : MapType) → view (variants.Map m) ≡ plain.map (pair_views (out-Map m).pairs.items)
 view-Map m = search (rules, the_lemmas)
 
-pub key_decides : (o : Ordering) (p q : Value × Value) (r : Ordering) → (o ≡ Equal → ⊥) → o ≡ lex (flat (view p.0)) (flat (view q.0)) → o ≡ ordering_then (pair_order p q) r
+pub key_decides : (o : Ordering) (p q : Value × Value) (r : Ordering) → (o ≡ Equal → ⊥) → o ≡ val_cmp (view p.0) (view q.0) → o ≡ ordering_then (pair_order p q) r
 key_decides o p q r differs is =
-    let x = lex (flat (view p.1)) (flat (view q.1)) in
+    let x = val_cmp (view p.1) (view q.1) in
     stays o (ordering_then x r) differs ∙ sym (then_assoc o x r) ∙ ap (λ (k : Ordering). ordering_then (ordering_then k x) r) is
 
-pub value_decides : (o : Ordering) (p q : Value × Value) (r : Ordering) → Equal ≡ lex (flat (view p.0)) (flat (view q.0)) → (o ≡ Equal → ⊥) → o ≡ lex (flat (view p.1)) (flat (view q.1)) → o ≡ ordering_then (pair_order p q) r
-value_decides o p q r tied differs is = stays o r differs ∙ ap (λ (k : Ordering). ordering_then k r) (is ∙ ap (λ (k : Ordering). ordering_then k (lex (flat (view p.1)) (flat (view q.1)))) tied)
+pub value_decides : (o : Ordering) (p q : Value × Value) (r : Ordering) → Equal ≡ val_cmp (view p.0) (view q.0) → (o ≡ Equal → ⊥) → o ≡ val_cmp (view p.1) (view q.1) → o ≡ ordering_then (pair_order p q) r
+value_decides o p q r tied differs is = stays o r differs ∙ ap (λ (k : Ordering). ordering_then k r) (is ∙ ap (λ (k : Ordering). ordering_then k (val_cmp (view p.1) (view q.1))) tied)
 
-pub both_tied : (p q : Value × Value) (r : Ordering) → Equal ≡ lex (flat (view p.0)) (flat (view q.0)) → Equal ≡ lex (flat (view p.1)) (flat (view q.1)) → r ≡ ordering_then (pair_order p q) r
-both_tied p q r keys values = ap (λ (k : Ordering). ordering_then k r) (values ∙ ap (λ (k : Ordering). ordering_then k (lex (flat (view p.1)) (flat (view q.1)))) keys)
+pub both_tied : (p q : Value × Value) (r : Ordering) → Equal ≡ val_cmp (view p.0) (view q.0) → Equal ≡ val_cmp (view p.1) (view q.1) → r ≡ ordering_then (pair_order p q) r
+both_tied p q r keys values = ap (λ (k : Ordering). ordering_then k r) (values ∙ ap (λ (k : Ordering). ordering_then k (val_cmp (view p.1) (view q.1))) keys)
 
 -- `==` is a tie
-pub tied : (a b : Value) (o : Ordering) → o ≡ lex (flat (view a)) (flat (view b)) → is_eq o ≡ pointwise nat_eq (flat (view a)) (flat (view b))
+pub tied : (a b : Value) (o : Ordering) → o ≡ val_cmp (view a) (view b) → is_eq o ≡ pointwise nat_eq (flat (view a)) (flat (view b))
 tied a b o is = ap is_eq is ∙ sym (texts_ties (flat (view a)) (flat (view b)))

@@ -14,7 +14,8 @@ use Rattle.cbor_model.specs.Plain.{Val, Pairs, no_pairs, pair}
 use Rattle.cbor_model.specs.Order.{lex, flat}
 use Rattle.cbor_model.specs.Value.{by_order, put}
 use Rattle.cbor_model.specs.Canonical.{IsBelow, KeysAscend, IsOrdered, ArePairsOrdered}
-use Rattle.cbor_model.specs.FiniteMap.{val_cmp, entries, finite_map, last_pair, without}
+use Rattle.cbor_model.specs.FiniteMap.{entries, finite_map, last_pair, without}
+use Rattle.cbor_model.specs.Order.{val_cmp}
 use Rattle.cbor_model.proofs.facts.Order.{Less-trans, Less-from_Greater, Greater-from_Less, same_key}
 use Rattle.cbor_model.proofs.facts.Maps.{IsBelow-trans, get-finite_map, finite_map-put, finite_map-without, KeysAscend-put, KeysAscend-without, KeysAscend-from_IsOrdered, IsOrdered-put, IsOrdered-without, put-below, find-below}
 use Rattle.cbor_value.specs.declared.Value.{Value, the_lemmas}
@@ -30,38 +31,38 @@ map_view-roll v = search (rules, the_lemmas)
 abbrev pub Passed : Val → ℕ → Pairs → Type 0
 Passed k zero ps = Unit {0}
 Passed k (suc i) no_pairs = ⊥
-Passed k (suc i) (pair l w ps) = (lex (flat k) (flat l) ≡ Greater) × Passed k i ps
+Passed k (suc i) (pair l w ps) = (val_cmp k l ≡ Greater) × Passed k i ps
 
-order_at : (k : Val) (p q : Value × Value) (o : Ordering) → p ≡ q → o ≡ lex (flat k) (flat (view p.0)) → lex (flat k) (flat (view q.0)) ≡ o
-order_at k p q o is order = ap (λ (r : Value × Value). lex (flat k) (flat (view r.0))) (sym is) ∙ sym order
+order_at : (k : Val) (p q : Value × Value) (o : Ordering) → p ≡ q → o ≡ val_cmp k (view p.0) → val_cmp k (view q.0) ≡ o
+order_at k p q o is order = ap (λ (r : Value × Value). val_cmp k (view r.0)) (sym is) ∙ sym order
 
 pub Passed-suc : (k : Val) (i : ℕ) (ps : List (Value × Value)) (p : Value × Value) → i < length ps → p ≡ get_or ps i p
-    → Greater ≡ lex (flat k) (flat (view p.0)) → Passed k i (pair_views ps) → Passed k (suc i) (pair_views ps)
+    → Greater ≡ val_cmp k (view p.0) → Passed k i (pair_views ps) → Passed k (suc i) (pair_views ps)
 Passed-suc k i [] p lt is more passed = absurd (omega arith)
 Passed-suc k zero (q ∷ ps) p lt is more passed = (order_at k p q Greater is more, tt)
 Passed-suc k (suc i) (q ∷ ps) p lt is more passed = (passed.0, Passed-suc k i ps p (omega arith) is more passed.1)
 
 pub StandsAt-passed : (k : Val) (i : ℕ) (ps : List (Value × Value)) (p : Value × Value) → i < length ps → p ≡ get_or ps i p
-    → Equal ≡ lex (flat k) (flat (view p.0)) → Passed k i (pair_views ps) → StandsAt k i (pair_views ps)
+    → Equal ≡ val_cmp k (view p.0) → Passed k i (pair_views ps) → StandsAt k i (pair_views ps)
 StandsAt-passed k i [] p lt is same passed = absurd (omega arith)
 StandsAt-passed k zero (q ∷ ps) p lt is same passed = order_at k p q Equal is same
 StandsAt-passed k (suc i) (q ∷ ps) p lt is same passed = (passed.0, StandsAt-passed k i ps p (omega arith) is same passed.1)
 
 -- a key below the first of ascending pairs is below each
 Less-get_or : (a : Val) (i : ℕ) (ps : List (Value × Value)) (p : Value × Value) → i < length ps → p ≡ get_or ps i p → IsBelow a (pair_views ps) → KeysAscend (pair_views ps)
-    → lex (flat a) (flat (view p.0)) ≡ Less
+    → val_cmp a (view p.0) ≡ Less
 Less-get_or a i [] p lt is below ascend = absurd (omega arith)
-Less-get_or a zero (q ∷ ps) p lt is below ascend = ap (λ (r : Value × Value). lex (flat a) (flat (view r.0))) is ∙ below
+Less-get_or a zero (q ∷ ps) p lt is below ascend = ap (λ (r : Value × Value). val_cmp a (view r.0)) is ∙ below
 Less-get_or a (suc i) (q ∷ ps) p lt is below ascend = Less-get_or a i ps p (omega arith) is (IsBelow-trans a (view q.0) (pair_views ps) below ascend.0) ascend.1
 
 -- what is below the i-th key is below k
 abbrev pub Reaches : Val → Val → Type 0
-Reaches k l = (a : Val) → lex (flat a) (flat l) ≡ Less → lex (flat k) (flat a) ≡ Greater
+Reaches k l = (a : Val) → val_cmp a l ≡ Less → val_cmp k a ≡ Greater
 
-pub Reaches-Equal : (k l : Val) → Equal ≡ lex (flat k) (flat l) → Reaches k l
-Reaches-Equal k l same a less = Greater-from_Less a k (subst (λ (x : Val). lex (flat a) (flat x) ≡ Less) (sym (same_key k l (sym same))) less)
+pub Reaches-Equal : (k l : Val) → Equal ≡ val_cmp k l → Reaches k l
+Reaches-Equal k l same a less = Greater-from_Less a k (subst (λ (x : Val). val_cmp a x ≡ Less) (sym (same_key k l (sym same))) less)
 
-pub Reaches-Greater : (k l : Val) → Greater ≡ lex (flat k) (flat l) → Reaches k l
+pub Reaches-Greater : (k l : Val) → Greater ≡ val_cmp k l → Reaches k l
 Reaches-Greater k l more a less = Greater-from_Less a k (Less-trans a l k less (Less-from_Greater k l (sym more)))
 
 pub Passed-ascending : (k : Val) (i : ℕ) (ps : List (Value × Value)) (p : Value × Value) → i < length ps → p ≡ get_or ps i p → Reaches k (view p.0) → KeysAscend (pair_views ps)
@@ -72,7 +73,7 @@ Passed-ascending k (suc i) (q ∷ ps) p lt is reaches ascend =
     (reaches (view q.0) (Less-get_or (view q.0) i ps p (omega arith) is ascend.0 ascend.1), Passed-ascending k i ps p (omega arith) is reaches ascend.1)
 
 pub IsBelow-drop : (k : Val) (i : ℕ) (ps : List (Value × Value)) (p : Value × Value) → i < length ps → p ≡ get_or ps i p
-    → Less ≡ lex (flat k) (flat (view p.0)) → IsBelow k (pair_views (drop i ps))
+    → Less ≡ val_cmp k (view p.0) → IsBelow k (pair_views (drop i ps))
 IsBelow-drop k i [] p lt is less = absurd (omega arith)
 IsBelow-drop k zero (q ∷ ps) p lt is less = order_at k p q Less is less
 IsBelow-drop k (suc i) (q ∷ ps) p lt is less = IsBelow-drop k i ps p (omega arith) is less
@@ -98,10 +99,10 @@ binary_digits-fit n small = length-digits_of-le 2 64 n (omega arith) small
 
 -- ---- one pair further
 
-put_to : (k v l w : Val) (ps : Pairs) (o : Ordering) → lex (flat k) (flat l) ≡ o → put k v (pair l w ps) ≡ by_order o (pair k v (pair l w ps)) (pair k v ps) (pair l w (put k v ps))
+put_to : (k v l w : Val) (ps : Pairs) (o : Ordering) → val_cmp k l ≡ o → put k v (pair l w ps) ≡ by_order o (pair k v (pair l w ps)) (pair k v ps) (pair l w (put k v ps))
 put_to k v l w ps o is = ap (λ (x : Ordering). by_order x (pair k v (pair l w ps)) (pair k v ps) (pair l w (put k v ps))) is
 
-without_to : (k l w : Val) (ps : Pairs) (o : Ordering) → lex (flat k) (flat l) ≡ o → without k (pair l w ps) ≡ by_order o (pair l w ps) ps (pair l w (without k ps))
+without_to : (k l w : Val) (ps : Pairs) (o : Ordering) → val_cmp k l ≡ o → without k (pair l w ps) ≡ by_order o (pair l w ps) ps (pair l w (without k ps))
 without_to k l w ps o is = ap (λ (x : Ordering). by_order x (pair l w ps) ps (pair l w (without k ps))) is
 
 -- ---- the key is there
@@ -125,7 +126,6 @@ without-StandsAt k (suc i) (q ∷ ps) stands =
 
 find-StandsAt : (k : Val) (i : ℕ) (ps : List (Value × Value)) (p : Value × Value) → p ≡ get_or ps i p → StandsAt k i (pair_views ps)
     → find val_cmp k (entries (pair_views ps)) ≡ Some (view p.1)
-unfolding val_cmp
 find-StandsAt k i [] p is stands = absurd stands
 find-StandsAt k zero (q ∷ ps) p is stands = rw stands (ap (λ (r : Value × Value). Some (view r.1)) (sym is))
 find-StandsAt k (suc i) (q ∷ ps) p is stands = rw stands.0 (find-StandsAt k i ps p is stands.1)
@@ -150,7 +150,6 @@ without-BelongsAt k zero (pair l w ps) belongs = sym (without_to k l w ps Less b
 without-BelongsAt k (suc i) (pair l w ps) belongs = ap (pair l w) (without-BelongsAt k i ps belongs.1) ∙ sym (without_to k l w ps Greater belongs.0)
 
 find-BelongsAt : (k : Val) (i : ℕ) (ps : Pairs) → BelongsAt k i ps → KeysAscend ps → find val_cmp k (entries ps) ≡ None
-unfolding val_cmp
 find-BelongsAt k zero ps belongs ascend = find-below k ps belongs ascend
 find-BelongsAt k (suc i) no_pairs belongs ascend = absurd belongs
 find-BelongsAt k (suc i) (pair l w ps) belongs ascend = rw belongs.0 (find-BelongsAt k i ps belongs.1 ascend.1)

@@ -13,7 +13,8 @@ use Rattle.cbor_model.specs.Plain.{Val, Pairs, no_pairs}
 use Rattle.cbor_model.specs.Order.{lex, flat}
 use Rattle.cbor_model.specs.Canonical.{KeysAscend, ArePairsOrdered}
 use Rattle.cbor_model.specs.Value.{put}
-use Rattle.cbor_model.specs.FiniteMap.{val_cmp, entries, put_all}
+use Rattle.cbor_model.specs.FiniteMap.{entries, put_all}
+use Rattle.cbor_model.specs.Order.{val_cmp}
 use Rattle.cbor_model.proofs.facts.Order.{exact_vals}
 use Rattle.cbor_model.proofs.facts.Maps.{IsOrdered-put, find-put_all, same_pairs, KeysAscend-put_all}
 use Rattle.cbor_value.specs.declared.Value.{Value}
@@ -24,7 +25,7 @@ Pair = Value × Value
 
 -- the order of the keys
 abbrev pub key_order : Pair → Pair → Ordering
-key_order p q = lex (flat (view p.0)) (flat (view q.0))
+key_order p q = val_cmp (view p.0) (view q.0)
 
 abbrev pub key_lt : Pair → Pair → Bool
 key_lt p q = is_lt (key_order p q)
@@ -54,7 +55,6 @@ tie Equal = refl
 tie Greater = refl
 
 ties_by_key : (p q : Pair) → ties key_lt p q ≡ eq_by_cmp val_cmp (view p.0) (view q.0)
-unfolding val_cmp
 ties_by_key p q = ap (λ (o : Ordering). not (is_lt (key_order p q)) && not (is_lt o)) (nat_list_cmp_total.antisymm (flat (view q.0)) (flat (view p.0))) ∙ tie (key_order p q)
 
 -- only the pairs that tie with it matter
@@ -93,7 +93,6 @@ unfolding flat_of
 key_eq-is p q = texts_ties (flat (view p.0)) (flat (view q.0))
 
 key_eq-same : (p q : Pair) → key_eq p q ≡ true → view p.0 ≡ view q.0
-unfolding val_cmp
 key_eq-same p q same = exact_vals (view p.0) (view q.0) ((Equal-is (key_order p q)).0 (sym (key_eq-is p q) ∙ same))
 
 first-dedup_from : (k : Val) (p : Pair) (ps : List Pair) → first k (dedup_from key_eq p ps) ≡ first k (p ∷ ps)

@@ -6,7 +6,7 @@ use Rattle.std.specs.declared.cmp.Ordering.{Ordering}
 use Rattle.std.specs.declared.cmp.Ordering.TheVariants.{Equal, Greater}
 use Rattle.cbor_model.specs.Canonical.{IsBelow, IsOrdered}
 use Rattle.cbor_model.specs.Raw.{half, single, double}
-use Rattle.cbor_model.specs.Order.{lex, flat}
+use Rattle.cbor_model.specs.Order.{lex, flat, val_cmp}
 use Rattle.cbor_model.specs.Plain as plain
 use Rattle.cbor_model.specs.Plain.{Val, Vals, no_vals, val, Pairs, no_pairs, pair}
 use Rattle.cbor_value.specs.declared.Float.{Float}
@@ -66,19 +66,19 @@ flat_of v = flat (view v)
 
 -- the order of two pairs, by their keys and then by their values
 abbrev pub pair_order : Value × Value → Value × Value → Ordering
-pair_order p q = ordering_then (lex (flat (view p.0)) (flat (view q.0))) (lex (flat (view p.1)) (flat (view q.1)))
+pair_order p q = ordering_then (val_cmp (view p.0) (view q.0)) (val_cmp (view p.1) (view q.1))
 
 -- the i-th pair has the key k, and those before it have keys below k
 abbrev pub StandsAt : Val → ℕ → Pairs → Type 0
 StandsAt k i no_pairs = ⊥
-StandsAt k zero (pair l w ps) = lex (flat k) (flat l) ≡ Equal
-StandsAt k (suc i) (pair l w ps) = (lex (flat k) (flat l) ≡ Greater) × StandsAt k i ps
+StandsAt k zero (pair l w ps) = val_cmp k l ≡ Equal
+StandsAt k (suc i) (pair l w ps) = (val_cmp k l ≡ Greater) × StandsAt k i ps
 
 -- the key k is missing, and belongs before the i-th pair
 abbrev pub BelongsAt : Val → ℕ → Pairs → Type 0
 BelongsAt k zero ps = IsBelow k ps
 BelongsAt k (suc i) no_pairs = ⊥
-BelongsAt k (suc i) (pair l w ps) = (lex (flat k) (flat l) ≡ Greater) × BelongsAt k i ps
+BelongsAt k (suc i) (pair l w ps) = (val_cmp k l ≡ Greater) × BelongsAt k i ps
 
 -- how many binary digits the number has, 0 none
 abbrev pub binary_digits : ℕ → ℕ

@@ -4,8 +4,8 @@ ghost use Rattle.std.specs.Prelude.{◌≡◌, ◌∷◌, nat_eq, Some, refl, le
 ghost use Rattle.std.specs.Ordering.{nat_cmp};
 ghost use Rattle.std.specs.Cmp.{on_per, on_equiv, on_po, on_total, partial_equiv_from_equiv};
 ghost use Rattle.std.specs.Cmp.Lexicographic.{pointwise, slice_cmp, nat_list_eq_equiv, nat_list_cmp_total, texts_ties, texts_po};
-ghost use Rattle.cbor_model.specs.Plain.{array, map};
-ghost use Rattle.cbor_model.specs.Order.{lex, flat, flat_integer, kind, body};
+ghost use Rattle.cbor_model.specs.Plain.{array, integer, map};
+ghost use Rattle.cbor_model.specs.Order.{lex, flat, major_type, body, val_cmp};
 ghost use Rattle.cbor_value.specs.View.{view, views, pair_views, flat_of};
 
 use super::{Float, Value};
@@ -15,7 +15,7 @@ use std::cmp::Ordering;
 #[cycle(order)]
 #[tactic(auto, unfolding(cbor_model::specs::Order::flat))]
 fn cmp_values(a: &Value, b: &Value) -> Ordering
-    ensures { result ≡ lex (flat (view a.now)) (flat (view b.now)) }
+    ensures { result ≡ val_cmp (view a.now) (view b.now) }
 {
     match (a, b) {
         (Value::Integer(x), Value::Integer(y)) => cmp_integers(*x, *y),
@@ -32,13 +32,13 @@ fn cmp_values(a: &Value, b: &Value) -> Ordering
 }
 
 /// Compares values of different major types, or two of null, the bools and floats.
-#[tactic(auto, using(cbor_model::proofs::facts::Order::kinds_differ, cbor_model::proofs::facts::Order::kinds_same))]
+#[tactic(auto, using(cbor_model::proofs::facts::Order::majors_differ, cbor_model::proofs::facts::Order::majors_same))]
 fn cmp_others(a: &Value, b: &Value) -> Ordering
-    requires { kind (view a.now) ≡ kind (view b.now) → kind (view a.now) ≡ 7 }
-    ensures { result ≡ lex (flat (view a.now)) (flat (view b.now)) }
+    requires { major_type (view a.now) ≡ major_type (view b.now) → major_type (view a.now) ≡ 7 }
+    ensures { result ≡ val_cmp (view a.now) (view b.now) }
 {
-    let x = kind(a);
-    let y = kind(b);
+    let x = major_type(a);
+    let y = major_type(b);
     if x != y {
         return x.cmp(&y);
     }
@@ -46,8 +46,8 @@ fn cmp_others(a: &Value, b: &Value) -> Ordering
 }
 
 /// The major type, by which values are compared first.
-fn kind(v: &Value) -> u8
-    ensures { result ≡ kind (view v.now) }
+fn major_type(v: &Value) -> u8
+    ensures { result ≡ major_type (view v.now) }
 {
     match v {
         Value::Integer(i) => { if *i >= 0 { 0 } else { 1 } }
@@ -63,8 +63,9 @@ fn kind(v: &Value) -> u8
 }
 
 /// Numbers from 0 stand first, and on either side the one nearer to 0.
+#[tactic(auto, unfolding(cbor_model::specs::Order::flat))]
 fn cmp_integers(x: i128, y: i128) -> Ordering
-    ensures { result ≡ lex (flat_integer x) (flat_integer y) }
+    ensures { result ≡ val_cmp (integer x) (integer y) }
 {
     match (x < 0, y < 0) {
         (false, false) => x.cmp(&y),
@@ -133,8 +134,8 @@ fn cmp_pairs(a: &[(Value, Value)], b: &[(Value, Value)]) -> Ordering
 /// Null, the bools and floats by their codes, and floats of one width by their bits.
 #[tactic(auto, using(crate::proofs::Comparing::simples))]
 fn cmp_simple(a: &Value, b: &Value) -> Ordering
-    requires a { kind (view a.now) ≡ 7 }
-    requires b { kind (view b.now) ≡ 7 }
+    requires a { major_type (view a.now) ≡ 7 }
+    requires b { major_type (view b.now) ≡ 7 }
     ensures { result ≡ lex (body (view a.now)) (body (view b.now)) }
 {
     code(a).cmp(&code(b)).then(bits(a).cmp(&bits(b)))
@@ -142,7 +143,7 @@ fn cmp_simple(a: &Value, b: &Value) -> Ordering
 
 /// The lower five bits of the first byte of null, a bool or a float.
 fn code(v: &Value) -> u8
-    requires { kind (view v.now) ≡ 7 }
+    requires { major_type (view v.now) ≡ 7 }
     ensures { result ≡ slice_index (body (view v.now)) 0 }
 {
     match v {
@@ -157,7 +158,7 @@ fn code(v: &Value) -> u8
 
 /// The bits of a float, and 0 for null and a bool.
 fn bits(v: &Value) -> u64
-    requires { kind (view v.now) ≡ 7 }
+    requires { major_type (view v.now) ≡ 7 }
     ensures { result ≡ slice_index (body (view v.now)) 1 }
 {
     match v {

@@ -7,7 +7,7 @@ ghost use Rattle.std.specs.Slice.Iter.{iter_rest};
 ghost use Rattle.std.specs.FinMap as finmap;
 ghost use Rattle.cbor_model.specs.Plain as plain;
 ghost use Rattle.cbor_model.specs.Plain.{Val, no_pairs, pair_count};
-ghost use Rattle.cbor_model.specs.Order.{lex, flat};
+ghost use Rattle.cbor_model.specs.Order.{lex, flat, val_cmp};
 ghost use Rattle.cbor_model.specs.Canonical.{KeysAscend, IsOrdered};
 ghost use Rattle.cbor_model.specs.Value.{put};
 ghost use Rattle.cbor_model.specs.FiniteMap.{finite_map, first_pair, last_pair, put_all, without};
@@ -252,7 +252,7 @@ impl Map {
 #[tactic(auto, unfolding(crate::specs::View::flat_of))]
 fn compare(key: &Value, other: &Value, count: &mut u32) -> Ordering
     requires { count.old < 2 ^ 32 - 1 }
-    ensures order { result ≡ lex (flat (view key.now)) (flat (view other.now)) }
+    ensures order { result ≡ val_cmp (view key.now) (view other.now) }
     ensures counted { count.new ≡ count.old + 1 }
 {
     *count += 1;
@@ -269,7 +269,7 @@ fn keys_ascend(pairs: &[(Value, Value)]) -> bool
 /// Compares the keys of two pairs.
 #[tactic(auto, unfolding(crate::specs::View::flat_of))]
 fn by_key(p: &(Value, Value), q: &(Value, Value)) -> Ordering
-    ensures { result ≡ lex (flat (view p.now.0)) (flat (view q.now.0)) }
+    ensures { result ≡ val_cmp (view p.now.0) (view q.now.0) }
 {
     p.0.cmp(&q.0)
 }

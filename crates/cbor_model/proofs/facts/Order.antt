@@ -5,8 +5,8 @@ pub use Rattle.cbor_model.proofs.Same.{exact_vals}
 pub use Rattle.cbor_model.proofs.Pairs.{same_key}
 -- less is passed on, and turned round is greater
 pub use Rattle.cbor_model.proofs.Pairs.{Less-trans, Less-from_Greater, Greater-from_Less}
--- the kinds decide, and only for one kind the bodies
-pub use Rattle.cbor_model.proofs.Compared.{kinds_differ, kinds_same}
+-- the major types decide, and only for one major type the bodies
+pub use Rattle.cbor_model.proofs.Compared.{majors_differ, majors_same}
 -- whatever follows two values' lists, the first difference within them decides
 pub use Rattle.cbor_model.proofs.Compared.{flats_apart, then_assoc}
 -- the codes of false and true are below null's, and those of floats above it
