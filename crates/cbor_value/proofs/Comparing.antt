@@ -8,11 +8,13 @@ use Rattle.std.specs.Cmp.Lexicographic.{pointwise, texts_ties}
 use Rattle.cbor_model.specs.Plain as plain
 use Rattle.cbor_model.specs.Plain.{Val}
 use Rattle.cbor_model.specs.Order.{lex, flat, flat_all, flat_pairs, major_type, body, bool_code, float_code, val_cmp}
-use Rattle.cbor_model.proofs.facts.Order.{bool_code-lt, lt-float_code, flats_apart, then_assoc}
+use Rattle.cbor_model.proofs.facts.Order.{majors_same, bool_code-lt, lt-float_code, flats_apart, then_assoc}
 use Rattle.cbor_value.specs.declared.Map.{Map as MapType, out-Map}
 use Rattle.cbor_value.specs.declared.Value.{Value, the_lemmas}
 use Rattle.cbor_value.specs.declared.Value.TheViews as variants
-use Rattle.cbor_value.specs.View.{view, views, pair_views, pair_order}
+use Rattle.cbor_value.specs.View.{view, views, float_view, pair_views, pair_order}
+use Rattle.cbor_value.specs.declared.Float.{Float}
+use Rattle.cbor_value.specs.declared.Float.TheVariants.{Half, Single, Double}
 use Rattle.cbor_value.proofs.Views.{count_views, pair_count_pair_views}
 
 pub stays : (o x : Ordering) → (o ≡ Equal → ⊥) → o ≡ ordering_then o x
@@ -100,6 +102,17 @@ simple_pair (plain.float w n) (plain.float z m) x y = ap (ordering_then (nat_cmp
 pub simples : (a b : Val) (o : Ordering) → major_type a ≡ 7 → major_type b ≡ 7 → o ≡ by_key a b → o ≡ lex (body a) (body b)
 simples a b o x y is = is ∙ simple_pair a b x y
 
+float_major : (f : Float) → major_type (float_view f) ≡ 7
+float_major (Half n) = refl
+float_major (Single n) = refl
+float_major (Double n) = refl
+
+pub floats : (f g : Float) (o : Ordering) → o ≡ by_key (float_view f) (float_view g) → o ≡ val_cmp (float_view f) (float_view g)
+floats f g o is =
+    let a = float_view f in
+    let b = float_view g in
+    simples a b o (float_major f) (float_major g) is ∙ sym (majors_same a b (float_major f ∙ sym (float_major g)))
+
 -- ---- pairs
 
 abbrev pub rest_pairs : List (Value × Value) → List (Value × Value) → Ordering
@@ -146,3 +159,6 @@ both_tied p q r keys values = ap (λ (k : Ordering). ordering_then k r) (values 
 -- `==` is a tie
 pub tied : (a b : Value) (o : Ordering) → o ≡ val_cmp (view a) (view b) → is_eq o ≡ pointwise nat_eq (flat (view a)) (flat (view b))
 tied a b o is = ap is_eq is ∙ sym (texts_ties (flat (view a)) (flat (view b)))
+
+pub floats_tied : (f g : Float) (o : Ordering) → o ≡ val_cmp (float_view f) (float_view g) → is_eq o ≡ pointwise nat_eq (flat (float_view f)) (flat (float_view g))
+floats_tied f g o is = ap is_eq is ∙ sym (texts_ties (flat (float_view f)) (flat (float_view g)))

@@ -11,7 +11,6 @@ use Rattle.std.specs.Option.{option_map}
 use Rattle.std.specs.FinMap as finmap
 use Rattle.std.specs.FinMap.{find}
 use Rattle.cbor_model.specs.Plain.{Val, Pairs, no_pairs, pair}
-use Rattle.cbor_model.specs.Order.{lex, flat}
 use Rattle.cbor_model.specs.Value.{by_order, put}
 use Rattle.cbor_model.specs.Canonical.{IsBelow, KeysAscend, IsOrdered, ArePairsOrdered}
 use Rattle.cbor_model.specs.FiniteMap.{entries, finite_map, last_pair, without}

@@ -10,7 +10,7 @@ use Rattle.std.specs.List.Sorted.{IsSorted, IsStable, IsStrictlySortedBy, ties}
 use Rattle.std.specs.FinMap.{find}
 use Rattle.std.proofs.lemmas.List.Kept.{IsStrictlySortedBy-dedup}
 use Rattle.cbor_model.specs.Plain.{Val, Pairs, no_pairs}
-use Rattle.cbor_model.specs.Order.{lex, flat}
+use Rattle.cbor_model.specs.Order.{flat}
 use Rattle.cbor_model.specs.Canonical.{KeysAscend, ArePairsOrdered}
 use Rattle.cbor_model.specs.Value.{put}
 use Rattle.cbor_model.specs.FiniteMap.{entries, put_all}

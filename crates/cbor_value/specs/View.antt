@@ -6,7 +6,7 @@ use Rattle.std.specs.declared.cmp.Ordering.{Ordering}
 use Rattle.std.specs.declared.cmp.Ordering.TheVariants.{Equal, Greater}
 use Rattle.cbor_model.specs.Canonical.{IsBelow, IsOrdered}
 use Rattle.cbor_model.specs.Raw.{half, single, double}
-use Rattle.cbor_model.specs.Order.{lex, flat, val_cmp}
+use Rattle.cbor_model.specs.Order.{flat, val_cmp}
 use Rattle.cbor_model.specs.Plain as plain
 use Rattle.cbor_model.specs.Plain.{Val, Vals, no_vals, val, Pairs, no_pairs, pair}
 use Rattle.cbor_value.specs.declared.Float.{Float}
@@ -63,6 +63,9 @@ IsPairOrdered p = IsOrdered (view p.0) × IsOrdered (view p.1)
 -- the list of numbers by which values are compared
 unfoldable pub flat_of : Value → List ℕ
 flat_of v = flat (view v)
+
+unfoldable pub flat_of_float : Float → List ℕ
+flat_of_float f = flat (float_view f)
 
 -- the order of two pairs, by their keys and then by their values
 abbrev pub pair_order : Value × Value → Value × Value → Ordering

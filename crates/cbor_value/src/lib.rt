@@ -14,8 +14,8 @@ mod pairs;
 /// A float as it was read: its width, and its bits by IEEE 754.
 ///
 /// Two floats are equal where width and bits are, so `1.0` of 16 bits isn't `1.0` of 64 bits, and a
-/// NaN equals itself. The order is that of the widths, and then that of the bits.
-#[derive(Clone, Copy, Debug, PartialEq, Eq, PartialOrd, Ord)]
+/// NaN equals itself. The order is that of the widths, and then that of the bits, as it is among values.
+#[derive(Clone, Copy, Debug)]
 pub enum Float {
     /// 16 bits.
     Half(u16),

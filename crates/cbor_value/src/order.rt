@@ -6,7 +6,7 @@ ghost use Rattle.std.specs.Cmp.{on_per, on_equiv, on_po, on_total, partial_equiv
 ghost use Rattle.std.specs.Cmp.Lexicographic.{pointwise, slice_cmp, nat_list_eq_equiv, nat_list_cmp_total, texts_ties, texts_po};
 ghost use Rattle.cbor_model.specs.Plain.{array, integer, map};
 ghost use Rattle.cbor_model.specs.Order.{lex, flat, major_type, body, val_cmp};
-ghost use Rattle.cbor_value.specs.View.{view, views, pair_views, flat_of};
+ghost use Rattle.cbor_value.specs.View.{view, views, float_view, pair_views, flat_of, flat_of_float};
 
 use super::{Float, Value};
 use std::cmp::Ordering;
@@ -149,9 +149,7 @@ fn code(v: &Value) -> u8
     match v {
         Value::Bool(false) => 20,
         Value::Bool(true) => 21,
-        Value::Float(Float::Half(_)) => 25,
-        Value::Float(Float::Single(_)) => 26,
-        Value::Float(Float::Double(_)) => 27,
+        Value::Float(float) => float_code(float),
         _ => 22,
     }
 }
@@ -162,10 +160,79 @@ fn bits(v: &Value) -> u64
     ensures { result ≡ slice_index (body (view v.now)) 1 }
 {
     match v {
-        Value::Float(Float::Half(bits)) => *bits as u64,
-        Value::Float(Float::Single(bits)) => *bits as u64,
-        Value::Float(Float::Double(bits)) => *bits,
+        Value::Float(float) => float_bits(float),
         _ => 0,
+    }
+}
+
+/// By their widths, and of one width by their bits.
+#[tactic(auto, using(crate::proofs::Comparing::floats))]
+fn cmp_floats(x: &Float, y: &Float) -> Ordering
+    ensures { result ≡ val_cmp (float_view x.now) (float_view y.now) }
+{
+    float_code(x)
+        .cmp(&float_code(y))
+        .then(float_bits(x).cmp(&float_bits(y)))
+}
+
+/// The lower five bits of the first byte, which tell the width (RFC 7049, section 2.3).
+fn float_code(float: &Float) -> u8
+    ensures { result ≡ slice_index (body (float_view float.now)) 0 }
+{
+    match float {
+        Float::Half(_) => 25,
+        Float::Single(_) => 26,
+        Float::Double(_) => 27,
+    }
+}
+
+fn float_bits(float: &Float) -> u64
+    ensures { result ≡ slice_index (body (float_view float.now)) 1 }
+{
+    match float {
+        Float::Half(bits) => *bits as u64,
+        Float::Single(bits) => *bits as u64,
+        Float::Double(bits) => *bits,
+    }
+}
+
+impl PartialEq for Float {
+    ghost eq = { λ a b. pointwise nat_eq (flat_of_float a) (flat_of_float b) };
+
+    ghost laws = { on_per flat_of_float (partial_equiv_from_equiv nat_list_eq_equiv) };
+
+    #[tactic(auto, using(crate::proofs::Comparing::floats_tied), unfolding(crate::specs::View::flat_of_float))]
+    fn eq(&self, other: &Float) -> bool {
+        cmp_floats(self, other).is_eq()
+    }
+}
+
+impl Eq for Float {
+    ghost laws = { on_equiv flat_of_float nat_list_eq_equiv };
+}
+
+impl PartialOrd for Float {
+    ghost partial_cmp = { λ a b. Some (slice_cmp nat_cmp (flat_of_float a) (flat_of_float b)) };
+
+    ghost laws = { on_po flat_of_float texts_po };
+
+    fn partial_cmp(&self, other: &Float) -> Option<Ordering> {
+        Some(self.cmp(other))
+    }
+}
+
+impl Ord for Float {
+    ghost cmp = { λ a b. slice_cmp nat_cmp (flat_of_float a) (flat_of_float b) };
+
+    ghost total = { on_total flat_of_float nat_list_cmp_total };
+
+    ghost matches_partial_cmp = { λ a b. refl };
+
+    ghost matches_eq = { λ a b. texts_ties (flat_of_float a) (flat_of_float b) };
+
+    #[tactic(auto, unfolding(crate::specs::View::flat_of_float))]
+    fn cmp(&self, other: &Float) -> Ordering {
+        cmp_floats(self, other)
     }
 }
 

@@ -1,4 +1,4 @@
-use Rattle.std.proofs.Common.{List, sym, ap, ◌∙◌}
+use Rattle.std.proofs.Common.{sym, ap, ◌∙◌}
 use Rattle.std.specs.Option.{option_map}
 use Rattle.cbor_model.specs.FiniteMap.{last_pair}
 use Rattle.cbor_value.specs.declared.Value.{Value}
