@@ -32,9 +32,19 @@ fn refuses_the_end_within_a_value(rt: HostRuntime) -> Result<(), Fail> {
             (&[0x19, 0x01], "EOF while parsing a value at offset 2"),
             (&[0x82, 0x01], "EOF while parsing a value at offset 2"),
             (&[0xc1], "EOF while parsing a value at offset 1"),
+            (&[0xbf, 0x01], "EOF while parsing a value at offset 2"),
+        ],
+    )
+}
+
+#[test]
+fn refuses_the_end_within_chunks(rt: HostRuntime) -> Result<(), Fail> {
+    are_refused(
+        &rt,
+        rt.alloc(),
+        &[
             (&[0x5f, 0x41], "EOF while parsing a value at offset 2"),
             (&[0x7f, 0x61, 0x61], "EOF while parsing a value at offset 3"),
-            (&[0xbf, 0x01], "EOF while parsing a value at offset 2"),
         ],
     )
 }
@@ -69,7 +79,7 @@ fn refuses_unassigned_first_bytes(rt: HostRuntime) -> Result<(), Fail> {
 }
 
 #[test]
-fn refuses_bytes_out_of_place(rt: HostRuntime) -> Result<(), Fail> {
+fn refuses_breaks_out_of_place(rt: HostRuntime) -> Result<(), Fail> {
     are_refused(
         &rt,
         rt.alloc(),
@@ -77,6 +87,16 @@ fn refuses_bytes_out_of_place(rt: HostRuntime) -> Result<(), Fail> {
             (&[0xff], "unexpected code at offset 1"),
             (&[0x81, 0xff], "unexpected code at offset 2"),
             (&[0xbf, 0x61, 0x61, 0xff], "unexpected code at offset 4"),
+        ],
+    )
+}
+
+#[test]
+fn refuses_chunks_of_another_type(rt: HostRuntime) -> Result<(), Fail> {
+    are_refused(
+        &rt,
+        rt.alloc(),
+        &[
             (&[0x7f, 0x7f], "unexpected code at offset 2"),
             (&[0x5f, 0x61, 0x61, 0xff], "unexpected code at offset 2"),
             (&[0x7f, 0x40, 0xff], "unexpected code at offset 2"),
@@ -86,7 +106,7 @@ fn refuses_bytes_out_of_place(rt: HostRuntime) -> Result<(), Fail> {
 }
 
 #[test]
-fn refuses_texts_and_what_follows(rt: HostRuntime) -> Result<(), Fail> {
+fn refuses_texts_that_are_not_utf8(rt: HostRuntime) -> Result<(), Fail> {
     are_refused(
         &rt,
         rt.alloc(),
@@ -94,6 +114,16 @@ fn refuses_texts_and_what_follows(rt: HostRuntime) -> Result<(), Fail> {
             (&[0x62, 0xc3, 0x28], "invalid UTF-8 at offset 1"),
             (&[0x62, 0x61, 0xff], "invalid UTF-8 at offset 2"),
             (&[0x82, 0x62, 0xc3, 0x28, 0x1c], "invalid UTF-8 at offset 2"),
+        ],
+    )
+}
+
+#[test]
+fn refuses_chunks_that_do_not_join_to_utf8(rt: HostRuntime) -> Result<(), Fail> {
+    are_refused(
+        &rt,
+        rt.alloc(),
+        &[
             (
                 &[0x7f, 0x61, 0xc3, 0x61, 0x28, 0xff],
                 "invalid UTF-8 at offset 4",
@@ -102,8 +132,16 @@ fn refuses_texts_and_what_follows(rt: HostRuntime) -> Result<(), Fail> {
                 &[0x7f, 0x61, 0xf0, 0x61, 0x9f, 0xff],
                 "invalid UTF-8 at offset 4",
             ),
-            (b"\xf4trailing", "trailing data at offset 2"),
         ],
+    )
+}
+
+#[test]
+fn refuses_what_follows(rt: HostRuntime) -> Result<(), Fail> {
+    are_refused(
+        &rt,
+        rt.alloc(),
+        &[(b"\xf4trailing", "trailing data at offset 2")],
     )
 }
 

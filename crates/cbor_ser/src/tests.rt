@@ -71,10 +71,8 @@ fn spells_simple_values_and_floats(rt: HostRuntime) -> Result<(), Fail> {
 }
 
 #[test]
-fn spells_strings_and_what_holds_values(rt: HostRuntime) -> Result<(), Fail> {
+fn spells_strings(rt: HostRuntime) -> Result<(), Fail> {
     let alloc = rt.alloc();
-    let pair = vec![in alloc; Value::Integer(2), Value::Integer(3)]?;
-    let nested = vec![in alloc; Value::Integer(1), Value::Array(pair)]?;
     are_spelled(
         &rt,
         alloc,
@@ -84,8 +82,32 @@ fn spells_strings_and_what_holds_values(rt: HostRuntime) -> Result<(), Fail> {
                 text(alloc, "aâø↓é")?,
                 b"\x6a\x61\xc3\xa2\xc3\xb8\xe2\x86\x93\xc3\xa9",
             ),
+        ],
+    )
+}
+
+#[test]
+fn spells_arrays_and_maps(rt: HostRuntime) -> Result<(), Fail> {
+    let alloc = rt.alloc();
+    let pair = vec![in alloc; Value::Integer(2), Value::Integer(3)]?;
+    let nested = vec![in alloc; Value::Integer(1), Value::Array(pair)]?;
+    are_spelled(
+        &rt,
+        alloc,
+        &[
             (Value::Array(nested), b"\x82\x01\x82\x02\x03"),
             (Value::Map(Map::new(alloc)), b"\xa0"),
+        ],
+    )
+}
+
+#[test]
+fn spells_tags(rt: HostRuntime) -> Result<(), Fail> {
+    let alloc = rt.alloc();
+    are_spelled(
+        &rt,
+        alloc,
+        &[
             (tag(alloc, 1, Value::Integer(5))?, b"\xc1\x05"),
             (
                 tag(alloc, 55799, text(alloc, "foobar")?)?,
@@ -133,12 +155,22 @@ fn refuses_numbers_that_are_too_far_out(rt: HostRuntime) -> Result<(), Fail> {
 }
 
 #[test]
-fn refuses_such_numbers_at_any_depth(rt: HostRuntime) -> Result<(), Fail> {
+fn refuses_such_a_number_at_the_end_of_an_array(rt: HostRuntime) -> Result<(), Fail> {
     let alloc = rt.alloc();
-    let last = Value::Array(vec![in alloc; Value::Null, Value::Integer(1 << 64)]?);
-    is_refused(&rt, alloc, &last)?;
-    is_refused(&rt, alloc, &tag(alloc, 1, Value::Integer(i128::MIN))?)?;
-    let first = Value::Array(vec![in alloc; Value::Integer(1 << 64), Value::Null]?);
-    let tagged = tag(alloc, 2, first)?;
+    let array = vec![in alloc; Value::Null, Value::Integer(1 << 64)]?;
+    is_refused(&rt, alloc, &Value::Array(array))
+}
+
+#[test]
+fn refuses_such_a_number_under_a_tag(rt: HostRuntime) -> Result<(), Fail> {
+    let alloc = rt.alloc();
+    is_refused(&rt, alloc, &tag(alloc, 1, Value::Integer(i128::MIN))?)
+}
+
+#[test]
+fn refuses_such_a_number_at_any_depth(rt: HostRuntime) -> Result<(), Fail> {
+    let alloc = rt.alloc();
+    let array = Value::Array(vec![in alloc; Value::Integer(1 << 64), Value::Null]?);
+    let tagged = tag(alloc, 2, array)?;
     is_refused(&rt, alloc, &Value::Array(vec![in alloc; tagged]?))
 }

@@ -1,4 +1,6 @@
 //! Reads lines of CBOR in hexadecimal, and answers each with its canonical spelling.
+//!
+//! It names `serde_cbor`, the definitions of `cbor_model`, and the kit's `hex`.
 #![tactic(auto)]
 
 mod program;

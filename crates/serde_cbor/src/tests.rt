@@ -33,6 +33,16 @@ fn reads_numbers_and_simple_values(rt: HostRuntime) -> Result<(), Fail> {
             (&[0xf5], &[0xf5]),
             (&[0xf6], &[0xf6]),
             (&[0xf7], &[0xf6]),
+        ],
+    )
+}
+
+#[test]
+fn reads_floats(rt: HostRuntime) -> Result<(), Fail> {
+    are_written(
+        &rt,
+        rt.alloc(),
+        &[
             (&[0xf9, 0x3c, 0x00], &[0xf9, 0x3c, 0x00]),
             (&[0xfa, 0x7f, 0xc0, 0, 1], &[0xfa, 0x7f, 0xc0, 0, 1]),
             (
@@ -69,11 +79,19 @@ fn reads_chunks(rt: HostRuntime) -> Result<(), Fail> {
             ),
             (&[0x5f, 0xff], &[0x40]),
             (&[0x7f, 0xff], &[0x60]),
-            (
-                b"\x82\x7f\x65Mary \x64Had \x62a \x67Little \x60\x64Lamb\xff\x5f\x42\x01\x23\x42\x45\x67\xff",
-                b"\x82\x76Mary Had a Little Lamb\x44\x01\x23\x45\x67",
-            ),
         ],
+    )
+}
+
+#[test]
+fn reads_strings_of_many_chunks(rt: HostRuntime) -> Result<(), Fail> {
+    are_written(
+        &rt,
+        rt.alloc(),
+        &[(
+            b"\x82\x7f\x65Mary \x64Had \x62a \x67Little \x60\x64Lamb\xff\x5f\x42\x01\x23\x42\x45\x67\xff",
+            b"\x82\x76Mary Had a Little Lamb\x44\x01\x23\x45\x67",
+        )],
     )
 }
 
@@ -95,13 +113,19 @@ fn reads_tags(rt: HostRuntime) -> Result<(), Fail> {
     are_written(
         &rt,
         rt.alloc(),
-        &[
-            (
-                b"\xc1\x82\xc2\x63foo\xc3\xa1\xc4\x61a\xc5\x61b",
-                b"\xc1\x82\xc2\x63foo\xc3\xa1\xc4\x61a\xc5\x61b",
-            ),
-            (b"\xd9\xd9\xf7\x66foobar", b"\xd9\xd9\xf7\x66foobar"),
-        ],
+        &[(
+            b"\xc1\x82\xc2\x63foo\xc3\xa1\xc4\x61a\xc5\x61b",
+            b"\xc1\x82\xc2\x63foo\xc3\xa1\xc4\x61a\xc5\x61b",
+        )],
+    )
+}
+
+#[test]
+fn reads_a_tag_of_two_bytes(rt: HostRuntime) -> Result<(), Fail> {
+    are_written(
+        &rt,
+        rt.alloc(),
+        &[(b"\xd9\xd9\xf7\x66foobar", b"\xd9\xd9\xf7\x66foobar")],
     )
 }
 
@@ -112,14 +136,24 @@ fn reads_maps(rt: HostRuntime) -> Result<(), Fail> {
         rt.alloc(),
         &[
             (&[0xbf, 2, 0, 1, 0, 0xff], &[0xa2, 1, 0, 2, 0]),
-            (&[0xa2, 1, 0, 0x18, 1, 2], &[0xa1, 1, 2]),
-            (&[0xa2, 0xf6, 1, 0xf7, 2], &[0xa1, 0xf6, 2]),
             (
                 &[0xa2, 0x82, 0, 0, 0xf6, 0x81, 0x18, 0x64, 0xf6],
                 &[0xa2, 0x81, 0x18, 0x64, 0xf6, 0x82, 0, 0, 0xf6],
             ),
             (&[0xbf, 0xff], &[0xa0]),
             (&[0xa0], &[0xa0]),
+        ],
+    )
+}
+
+#[test]
+fn keeps_the_last_of_equal_keys(rt: HostRuntime) -> Result<(), Fail> {
+    are_written(
+        &rt,
+        rt.alloc(),
+        &[
+            (&[0xa2, 1, 0, 0x18, 1, 2], &[0xa1, 1, 2]),
+            (&[0xa2, 0xf6, 1, 0xf7, 2], &[0xa1, 0xf6, 2]),
         ],
     )
 }

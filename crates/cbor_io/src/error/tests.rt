@@ -61,13 +61,22 @@ fn tells_too_little_room_and_input(rt: HostRuntime) -> Result<(), Fail> {
 #[test]
 fn tells_bytes_that_spell_nothing(rt: HostRuntime) -> Result<(), Fail> {
     for (e, words) in [
+        (Error::at(ErrorCode::InvalidUtf8, 7), "invalid UTF-8"),
+        (Error::at(ErrorCode::UnassignedCode, 7), "unassigned type"),
+        (Error::at(ErrorCode::UnexpectedCode, 7), "unexpected code"),
+    ] {
+        is_told(&rt, rt.alloc(), &e, Category::Syntax, words)?;
+    }
+    Ok(())
+}
+
+#[test]
+fn tells_input_that_goes_too_far(rt: HostRuntime) -> Result<(), Fail> {
+    for (e, words) in [
         (
             Error::at(ErrorCode::LengthOutOfRange, 7),
             "length out of range",
         ),
-        (Error::at(ErrorCode::InvalidUtf8, 7), "invalid UTF-8"),
-        (Error::at(ErrorCode::UnassignedCode, 7), "unassigned type"),
-        (Error::at(ErrorCode::UnexpectedCode, 7), "unexpected code"),
         (Error::at(ErrorCode::TrailingData, 7), "trailing data"),
         (
             Error::at(ErrorCode::RecursionLimitExceeded, 7),
