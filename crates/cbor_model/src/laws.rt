@@ -52,22 +52,22 @@ pub fn normalised_once()
     ensures { NormalisedOnce }
 {}
 
-/// Equal canonical spellings are equal values, so the bytes can stand for the value, as a key, under a
-/// signature or in a hash. The values are storable and in range (each length, count and tag number is
-/// below 2^64), at any depth.
+/// Equal canonical spellings are equal values, so the bytes can stand for the value, as a key,
+/// under a signature or in a hash. The values are storable and in range (each length, count and
+/// tag number is below 2^64), at any depth.
 pub fn equal_bytes()
     ensures { EqualBytes }
 {}
 
-/// Comparing two values is comparing their canonical spellings byte by byte, so what is sorted by its
-/// bytes is sorted by its value. The values are storable and in range, at any depth.
+/// Comparing two values is comparing their canonical spellings byte by byte, so what is sorted by
+/// its bytes is sorted by its value. The values are storable and in range, at any depth.
 pub fn byte_order()
     ensures { ByteOrder }
 {}
 
-/// No spelling of definite lengths is shorter than its value's canonical one, whatever its heads, the
-/// order of its pairs and the keys that it says twice. An open form can be shorter: its break takes one
-/// byte, where a count of 256 takes two behind the first.
+/// No spelling of definite lengths is shorter than its value's canonical one, whatever its heads,
+/// the order of its pairs and the keys that it says twice. An open form can be shorter: its break
+/// takes one byte, where a count of 256 takes two behind the first.
 pub fn least_spelling()
     ensures { LeastSpelling }
 {}
