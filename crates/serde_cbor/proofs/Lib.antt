@@ -6,3 +6,5 @@ pub mod ReadingPairs
 pub mod Sorting
 pub mod Views
 pub mod Writing
+pub mod Ranges
+pub mod Bytes
