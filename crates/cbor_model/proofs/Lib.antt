@@ -20,3 +20,4 @@ pub mod Proved
 pub mod Heads
 pub mod ByteOrder
 pub mod Least
+pub mod InRange

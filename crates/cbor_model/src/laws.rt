@@ -1,5 +1,5 @@
 //! The laws, each of which is the contract of a function that does nothing.
-ghost use Rattle.cbor_model.specs.Laws.{ReaderFinds, ReaderAccepts, OneSpelling, ValueIsStorable, OneAnswer, OrderIsTotal, OneFlat, CanonicalReadsBack, ValueIsCanonical, NormalisedOnce, EqualBytes, ByteOrder, LeastSpelling};
+ghost use Rattle.cbor_model.specs.Laws.{ReaderFinds, ReaderAccepts, OneSpelling, ValueIsStorable, OneAnswer, OrderIsTotal, OneFlat, CanonicalReadsBack, ValueIsCanonical, NormalisedOnce, EqualBytes, ByteOrder, LeastSpelling, ValueIsInRange};
 
 /// What the reference reader reads is the value of an acceptable item, and the bytes are its spelling.
 pub fn reader_finds()
@@ -70,4 +70,10 @@ pub fn byte_order()
 /// takes one byte, where a count of 256 takes two behind the first.
 pub fn least_spelling()
     ensures { LeastSpelling }
+{}
+
+/// In the value of a well-formed item in fewer than 2^64 bytes each length, count and tag number is
+/// below 2^64, so that the laws on bytes hold of all that is read.
+pub fn value_is_in_range()
+    ensures { ValueIsInRange }
 {}
