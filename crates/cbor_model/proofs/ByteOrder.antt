@@ -126,12 +126,12 @@ record IsOpened (v : Val) : Type 0 where
 low_bits : (n : ℕ) → n < 2 ^ 64 → info (least n) n < 32
 low_bits n fits = omega (arith, info-below (least n) n (lt-limit-least n fits))
 
-count_canonical : (vs : Vals) → raw.count (canonical_all vs) ≡ count vs
+pub count_canonical : (vs : Vals) → raw.count (canonical_all vs) ≡ count vs
 unfolding canonical
 count_canonical no_vals = refl
 count_canonical (val v vs) = ap suc (count_canonical vs)
 
-pair_count_canonical : (ps : Pairs) → raw.pair_count (canonical_pairs ps) ≡ pair_count ps
+pub pair_count_canonical : (ps : Pairs) → raw.pair_count (canonical_pairs ps) ≡ pair_count ps
 unfolding canonical
 pair_count_canonical no_pairs = refl
 pair_count_canonical (pair k v ps) = ap suc (pair_count_canonical ps)

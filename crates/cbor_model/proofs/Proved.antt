@@ -1,5 +1,5 @@
 -- The laws' proofs.
-use Rattle.cbor_model.specs.Laws.{ReaderFinds, ReaderAccepts, OneSpelling, ValueIsStorable, OneAnswer, OrderIsTotal, OneFlat, CanonicalReadsBack, ValueIsCanonical, NormalisedOnce, EqualBytes, ByteOrder, LeastSpelling}
+use Rattle.cbor_model.specs.Laws.{ReaderFinds, ReaderAccepts, OneSpelling, ValueIsStorable, OneAnswer, OrderIsTotal, OneFlat, CanonicalReadsBack, ValueIsCanonical, NormalisedOnce, EqualBytes, ByteOrder, LeastSpelling, ValueIsInRange}
 use Rattle.cbor_model.proofs.Whole.{found_whole, read_whole}
 use Rattle.cbor_model.proofs.Storable.{storable}
 use Rattle.cbor_model.proofs.Same as same
@@ -10,6 +10,7 @@ use Rattle.cbor_model.proofs.Program as program
 use Rattle.cbor_model.proofs.Normal as normal
 use Rattle.cbor_model.proofs.ByteOrder as byteorder
 use Rattle.cbor_model.proofs.Least as least
+use Rattle.cbor_model.proofs.InRange as inrange
 
 pub reader_finds : ReaderFinds
 reader_finds = found_whole
@@ -49,3 +50,6 @@ byte_order = byteorder.byte_order
 
 pub least_spelling : LeastSpelling
 least_spelling = least.least_spelling
+
+pub value_is_in_range : ValueIsInRange
+value_is_in_range = inrange.value_is_in_range

@@ -74,3 +74,7 @@ ByteOrder = (a b : Val) → IsStorable a → IsStorable b → IsInRange a → Is
 -- No well-formed item of definite lengths is spelled shorter than its value's canonical item.
 abbrev pub LeastSpelling : Type 0
 LeastSpelling = (v : Val) (r : Raw) → IsWellFormed r → IsDefinite r → v ≡ value r → length (canon v) ≤ length (spell r)
+
+-- The value of a well-formed item, of which the bytes are fewer than 2^64, is in range.
+abbrev pub ValueIsInRange : Type 0
+ValueIsInRange = (r : Raw) → IsWellFormed r → length (spell r) < 2 ^ 64 → IsInRange (value r)

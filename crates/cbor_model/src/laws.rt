@@ -1,5 +1,5 @@
 //! The laws, each of which is the contract of a function that does nothing.
-ghost use Rattle.cbor_model.specs.Laws.{ReaderFinds, ReaderAccepts, OneSpelling, ValueIsStorable, OneAnswer, OrderIsTotal, OneFlat, CanonicalReadsBack, ValueIsCanonical, NormalisedOnce, EqualBytes, ByteOrder, LeastSpelling};
+ghost use Rattle.cbor_model.specs.Laws.{ReaderFinds, ReaderAccepts, OneSpelling, ValueIsStorable, OneAnswer, OrderIsTotal, OneFlat, CanonicalReadsBack, ValueIsCanonical, NormalisedOnce, EqualBytes, ByteOrder, LeastSpelling, ValueIsInRange};
 
 /// What the reference reader reads is the value of an acceptable item, and the bytes are its spelling.
 pub fn reader_finds()
@@ -52,22 +52,28 @@ pub fn normalised_once()
     ensures { NormalisedOnce }
 {}
 
-/// Equal canonical spellings are equal values, so the bytes can stand for the value, as a key, under a
-/// signature or in a hash. The values are storable and in range (each length, count and tag number is
-/// below 2^64), at any depth.
+/// Equal canonical spellings are equal values, so the bytes can stand for the value, as a key,
+/// under a signature or in a hash. The values are storable and in range (each length, count and
+/// tag number is below 2^64), at any depth.
 pub fn equal_bytes()
     ensures { EqualBytes }
 {}
 
-/// Comparing two values is comparing their canonical spellings byte by byte, so what is sorted by its
-/// bytes is sorted by its value. The values are storable and in range, at any depth.
+/// Comparing two values is comparing their canonical spellings byte by byte, so what is sorted by
+/// its bytes is sorted by its value. The values are storable and in range, at any depth.
 pub fn byte_order()
     ensures { ByteOrder }
 {}
 
-/// No spelling of definite lengths is shorter than its value's canonical one, whatever its heads, the
-/// order of its pairs and the keys that it says twice. An open form can be shorter: its break takes one
-/// byte, where a count of 256 takes two behind the first.
+/// No spelling of definite lengths is shorter than its value's canonical one, whatever its heads,
+/// the order of its pairs and the keys that it says twice. An open form can be shorter: its break
+/// takes one byte, where a count of 256 takes two behind the first.
 pub fn least_spelling()
     ensures { LeastSpelling }
+{}
+
+/// In the value of a well-formed item in fewer than 2^64 bytes each length, count and tag number is
+/// below 2^64, so that the laws on bytes hold of all that is read.
+pub fn value_is_in_range()
+    ensures { ValueIsInRange }
 {}

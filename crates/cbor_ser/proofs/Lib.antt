@@ -1,1 +1,3 @@
 pub mod Writing
+pub mod Ranges
+pub mod Bytes

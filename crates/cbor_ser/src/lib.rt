@@ -11,9 +11,11 @@ ghost use Rattle.cbor_model.specs.Plain as plain;
 ghost use Rattle.cbor_model.specs.Plain.{Val};
 ghost use Rattle.cbor_model.specs.Spelling.{spell_all, spell_pairs};
 ghost use Rattle.cbor_model.specs.Canonical.{canon, canonical_all, canonical_pairs, IsStorable, IsStorableInteger, AreStorable, ArePairsStorable};
+ghost use Rattle.cbor_model.specs.InRange.{IsInRange, AreInRange, ArePairsInRange};
 ghost use Rattle.cbor_io.specs.Error.{IsOutOfMemory};
 ghost use Rattle.cbor_io.specs.Head.{major_number};
 ghost use Rattle.cbor_value.specs.View.{view, views, float_view, map_view, pair_views};
+ghost use Rattle.cbor_ser.specs.Bytes.{AreLeast, CompareAs, ReadBack, StandFor};
 ghost use Rattle.cbor_ser.specs.Written.{IsNotWritten};
 
 use cbor_io::error::{Error, Result};
@@ -45,9 +47,20 @@ const DOUBLE: u8 = 0xfb;
 /// let bytes = to_vec(alloc, &Value::Integer(-300))?;
 /// assert_eq!(rt; bytes.as_slice(), [0x39, 0x01, 0x2b].as_slice());
 /// ```
+#[tactic(auto, using(crate::proofs::Bytes::compare_as, crate::proofs::Bytes::are_least, crate::proofs::Bytes::read_back))]
 pub fn to_vec(alloc: Global, value: &Value) -> Result<Vec<u8>>
+    // What is written has only integers that CBOR stores; all else in a value always fits.
     ensures storable { IfOk result (λ bytes. IsStorable (view value.now)) }
+    ensures in_range { IfOk result (λ bytes. IsInRange (view value.now)) }
     ensures written { IfOk result (λ bytes. bytes.items ≡ canon (view value.now)) }
+    // Of two values that are written, the bytes are equal where the values are, and they compare as
+    // `cmp` compares the values.
+    ensures exact { IfOk result (λ bytes. StandFor bytes.items (view value.now)) }
+    ensures in_order { IfOk result (λ bytes. CompareAs bytes.items (view value.now)) }
+    // No spelling of the value in definite lengths is shorter.
+    ensures least { IfOk result (λ bytes. AreLeast bytes.items (view value.now)) }
+    // What was read is written so that it is read again: normalising twice is once.
+    ensures read_back { IfOk result (λ bytes. ReadBack bytes.items (view value.now)) }
     ensures refused { IfErr result (IsNotWritten (view value.now)) }
 {
     let mut bytes = Vec::new(alloc);
@@ -60,6 +73,7 @@ pub fn to_vec(alloc: Global, value: &Value) -> Result<Vec<u8>>
 #[tactic(auto, unfolding(cbor_model::specs::Canonical::canon, cbor_model::specs::Canonical::canonical, cbor_model::specs::Spelling::spell))]
 fn write_value(alloc: Global, out: &mut Vec<u8>, value: &Value) -> Result<()>
     ensures storable { OnOk result (IsStorable (view value.now)) }
+    ensures in_range { OnOk result (IsInRange (view value.now)) }
     ensures written { OnOk result (out.new.items ≡ out.old.items ++ canon (view value.now)) }
     ensures refused { IfErr result (IsNotWritten (view value.now)) }
 {
@@ -84,6 +98,7 @@ fn write_value(alloc: Global, out: &mut Vec<u8>, value: &Value) -> Result<()>
 #[tactic(auto, using(crate::proofs::Writing::heads))]
 fn write_array(alloc: Global, out: &mut Vec<u8>, items: &[Value]) -> Result<()>
     ensures storable { OnOk result (AreStorable (views items.now)) }
+    ensures in_range { OnOk result (IsInRange (plain.array (views items.now))) }
     ensures written { OnOk result (out.new.items ≡ out.old.items ++ canon (plain.array (views items.now))) }
     ensures refused { IfErr result (IsNotWritten (plain.array (views items.now))) }
 {
@@ -97,6 +112,7 @@ fn write_array(alloc: Global, out: &mut Vec<u8>, items: &[Value]) -> Result<()>
 #[tactic(auto, using(crate::proofs::Writing::items), unfolding(cbor_model::specs::Canonical::canonical, cbor_model::specs::Spelling::spell))]
 fn write_items(alloc: Global, out: &mut Vec<u8>, items: &[Value]) -> Result<()>
     ensures storable { OnOk result (AreStorable (views items.now)) }
+    ensures in_range { OnOk result (AreInRange (views items.now)) }
     ensures written { OnOk result (out.new.items ≡ out.old.items ++ spell_all (canonical_all (views items.now))) }
     ensures refused { IfErr result (IsNotWritten (plain.array (views items.now))) }
 {
@@ -110,6 +126,7 @@ fn write_items(alloc: Global, out: &mut Vec<u8>, items: &[Value]) -> Result<()>
 #[tactic(auto, using(crate::proofs::Writing::heads))]
 fn write_map(alloc: Global, out: &mut Vec<u8>, map: &Map) -> Result<()>
     ensures storable { OnOk result (ArePairsStorable (map_view map.now)) }
+    ensures in_range { OnOk result (IsInRange (plain.map (map_view map.now))) }
     ensures written { OnOk result (out.new.items ≡ out.old.items ++ canon (plain.map (map_view map.now))) }
     ensures refused { IfErr result (IsNotWritten (plain.map (map_view map.now))) }
 {
@@ -123,6 +140,7 @@ fn write_map(alloc: Global, out: &mut Vec<u8>, map: &Map) -> Result<()>
 #[tactic(auto, using(std::proofs::lemmas::List::drop_all), unfolding(cbor_model::specs::Canonical::canonical, cbor_model::specs::Spelling::spell))]
 fn write_pairs(alloc: Global, out: &mut Vec<u8>, pairs: &[(Value, Value)]) -> Result<()>
     ensures storable { OnOk result (ArePairsStorable (pair_views pairs.now)) }
+    ensures in_range { OnOk result (ArePairsInRange (pair_views pairs.now)) }
     ensures written { OnOk result (out.new.items ≡ out.old.items ++ spell_pairs (canonical_pairs (pair_views pairs.now))) }
     ensures refused { IfErr result (IsNotWritten (plain.map (pair_views pairs.now))) }
 {
@@ -159,6 +177,7 @@ fn not_storable(alloc: Global) -> Error
 
 #[tactic(auto, unfolding(cbor_model::specs::Canonical::canon, cbor_model::specs::Canonical::canonical, cbor_model::specs::Spelling::spell))]
 fn write_float(out: &mut Vec<u8>, float: &Float) -> Result<()>
+    ensures in_range { OnOk result (IsInRange (float_view float.now)) }
     ensures written { OnOk result (out.new.items ≡ out.old.items ++ canon (float_view float.now)) }
     ensures refused { IfErr result IsOutOfMemory }
 {

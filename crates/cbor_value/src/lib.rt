@@ -31,6 +31,12 @@ pub enum Float {
 /// maps, tags, then false, true, null and floats. Within a kind the smaller head comes first (a number
 /// nearer to 0, a shorter string or text, fewer items or pairs, a smaller tag), and then the content,
 /// from its front. They are equal where nothing of that differs. Comparing takes no memory.
+///
+/// That is the byte order of the values' canonical spellings: of two values that `to_vec` writes,
+/// `a.cmp(&b)` is how their bytes compare, so what is sorted by value is sorted by its bytes. A
+/// proof takes this from the contract of `to_vec`: `in_order` says that the bytes of one value
+/// compare with another's as the values do, and `exact` that they are equal where these are. What
+/// both ask of the other value, its own `to_vec` gives, as `storable` and `in_range`.
 #[cycle(value)]
 #[derive(Debug, Drop)]
 pub enum Value {

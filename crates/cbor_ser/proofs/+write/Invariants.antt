@@ -1,6 +1,7 @@
 use Rattle.std.proofs.Common.{◌≡◌, ◌+◌, ◌*◌, ◌++◌, drop}
 use Rattle.cbor_model.specs.Spelling.{spell_all, spell_pairs}
 use Rattle.cbor_model.specs.Canonical.{canonical_all, canonical_pairs, AreStorable, ArePairsStorable}
+use Rattle.cbor_model.specs.InRange.{AreInRange, ArePairsInRange}
 use Rattle.cbor_value.specs.View.{view, views, map_view, pair_views}
 use Rattle.cbor_ser.proofs.Writing.{size, sizes, pair_sizes}
 use Rattle.cbor_ser.proofs.+write.Given as goal
@@ -8,12 +9,14 @@ use Rattle.cbor_ser.proofs.+write.Given as goal
 abbrev pub invariant-write_items-loop-item : goal.invariant-write_items-loop-item
 invariant-write_items-loop-item l = record {
   storable : AreStorable (views (drop l.item-index l.items)) → AreStorable (views l.items);
+  in_range : AreInRange (views (drop l.item-index l.items)) → AreInRange (views l.items);
   written : l.out.items ++ spell_all (canonical_all (views (drop l.item-index l.items))) ≡ l.fn.out.items ++ spell_all (canonical_all (views l.items));
 }
 
 abbrev pub invariant-write_pairs-loop-key : goal.invariant-write_pairs-loop-key
 invariant-write_pairs-loop-key l = record {
   storable : ArePairsStorable (pair_views (drop l.key-index l.pairs)) → ArePairsStorable (pair_views l.pairs);
+  in_range : ArePairsInRange (pair_views (drop l.key-index l.pairs)) → ArePairsInRange (pair_views l.pairs);
   written : l.out.items ++ spell_pairs (canonical_pairs (pair_views (drop l.key-index l.pairs))) ≡ l.fn.out.items ++ spell_pairs (canonical_pairs (pair_views l.pairs));
 }
 

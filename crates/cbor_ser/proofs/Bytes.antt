@@ -1,0 +1,24 @@
+-- What a canonical spelling says of its value.
+use Rattle.std.proofs.Common.{◌≡◌, ℕ, List, sym, ap, subst, ◌∙◌}
+use Rattle.cbor_model.specs.Plain.{Val}
+use Rattle.cbor_model.specs.Order.{lex}
+use Rattle.cbor_model.specs.Canonical.{IsStorable, canon}
+use Rattle.cbor_model.specs.InRange.{IsInRange}
+use Rattle.cbor_model.specs.Laws.{SpellsValue}
+use Rattle.cbor_model.proofs.facts.Laws.{byte_order, equal_bytes, least_spelling, normalised_once}
+use Rattle.cbor_ser.specs.Bytes.{StandFor, CompareAs, AreLeast, ReadBack}
+
+pub stand_for : (bytes : List ℕ) (v : Val) → IsStorable v → IsInRange v → bytes ≡ canon v → StandFor bytes v
+stand_for bytes v stored fits written w stored' fits' = (
+  λ same. equal_bytes v w stored stored' fits fits' (sym written ∙ same),
+  λ same. written ∙ ap canon same,
+)
+
+pub compare_as : (bytes : List ℕ) (v : Val) → IsStorable v → IsInRange v → bytes ≡ canon v → CompareAs bytes v
+compare_as bytes v stored fits written w stored' fits' = byte_order v w stored stored' fits fits' ∙ ap (λ (b : List ℕ). lex b (canon w)) (sym written)
+
+pub are_least : (bytes : List ℕ) (v : Val) → bytes ≡ canon v → AreLeast bytes v
+are_least bytes v written = subst (λ (b : List ℕ). AreLeast b v) (sym written) (least_spelling v)
+
+pub read_back : (bytes : List ℕ) (v : Val) → bytes ≡ canon v → ReadBack bytes v
+read_back bytes v written read short spells = subst (λ (b : List ℕ). SpellsValue b v) (sym written) (normalised_once read v short spells)

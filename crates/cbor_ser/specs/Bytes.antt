@@ -1,0 +1,27 @@
+-- What the bytes of a value's canonical spelling say of it, among all values that can be spelled.
+use Rattle.std.specs.Prelude.{◌≡◌, ℕ, ◌^◌, ◌<◌, ◌≤◌, ◌↔◌, List, length}
+use Rattle.cbor_model.specs.Raw.{Raw, IsWellFormed}
+use Rattle.cbor_model.specs.Spelling.{spell}
+use Rattle.cbor_model.specs.Plain.{Val}
+use Rattle.cbor_model.specs.Order.{lex, flat, val_cmp}
+use Rattle.cbor_model.specs.Value.{value}
+use Rattle.cbor_model.specs.Canonical.{IsStorable, canon}
+use Rattle.cbor_model.specs.InRange.{IsInRange}
+use Rattle.cbor_model.specs.Definite.{IsDefinite}
+use Rattle.cbor_model.specs.Laws.{SpellsValue}
+
+-- The bytes are another value's where the two values are equal, and only there.
+abbrev pub StandFor : List ℕ → Val → Type 0
+StandFor bytes v = (w : Val) → IsStorable w → IsInRange w → (bytes ≡ canon w) ↔ (v ≡ w)
+
+-- The bytes compare with another value's as the two values do.
+abbrev pub CompareAs : List ℕ → Val → Type 0
+CompareAs bytes v = (w : Val) → IsStorable w → IsInRange w → val_cmp v w ≡ lex bytes (canon w)
+
+-- No spelling of the value in definite lengths is shorter.
+abbrev pub AreLeast : List ℕ → Val → Type 0
+AreLeast bytes v = (r : Raw) → IsWellFormed r → IsDefinite r → v ≡ value r → length bytes ≤ length (spell r)
+
+-- If the value was read from some bytes, it is read from these.
+abbrev pub ReadBack : List ℕ → Val → Type 0
+ReadBack bytes v = (read : List ℕ) → length read < 2 ^ 64 → SpellsValue read v → SpellsValue bytes v
