@@ -14,6 +14,5 @@ pub mod Puts
 pub mod ReadsBack
 pub mod Canonical
 pub mod Apart
-pub mod Program
 pub mod Normal
 pub mod Proved

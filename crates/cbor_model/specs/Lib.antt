@@ -9,5 +9,4 @@ pub mod Canonical
 pub mod FiniteMap
 pub mod Refusal
 pub mod Reader
-pub mod Program
 pub mod Laws

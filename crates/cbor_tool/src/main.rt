@@ -1,6 +1,7 @@
 //! Reads lines of CBOR in hexadecimal, and answers each with its canonical spelling.
 #![tactic(auto)]
 
+mod laws;
 mod program;
 #[cfg(test)]
 mod tests;
