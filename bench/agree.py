@@ -23,6 +23,22 @@ def short_inputs():
             yield bytes([first, second])
 
 
+def deep_inputs():
+    """Items nested near the limit."""
+    for depth in range(120, 136):
+        for front in (b'\x81', b'\x9f', b'\xc1', b'\xa1\x00', b'\xbf\x00'):
+            yield front * depth + b'\x00' + (items.BREAK * depth if front[0] & 31 == 31 else b'')
+
+
+def hostile_lengths():
+    """Strings, arrays and maps that claim more than is there, at the front and after some bytes."""
+    for major in (items.BYTES, items.TEXT, items.ARRAY, items.MAP):
+        for length in (2 ** 32, 2 ** 63, 2 ** 64 - 20, 2 ** 64 - 10, 2 ** 64 - 9, 2 ** 64 - 1):
+            for front in (b'', b'\x81', b'\x9f\x00', bytes([major << 5 | 31])):
+                yield front + items.head(major, length)
+                yield front + items.head(major, length) + b'\x00\x00'
+
+
 def damaged(spelled, rng):
     """The bytes with one change: a byte turned, cut off, added, taken out, or put in again elsewhere."""
     at = rng.randrange(len(spelled))
@@ -45,9 +61,8 @@ def inputs(count, seed):
         yield spelled
         yield damaged(spelled, rng)
         yield damaged(damaged(spelled, rng) or b'\x00', rng)
-    for depth in range(120, 136):
-        for wrap in (b'\x81', b'\x9f', b'\xc1', b'\xa1\x00', b'\xbf\x00'):
-            yield wrap * depth + b'\x00' + items.BREAK * depth * (wrap[0] & 31 == 31)
+    yield from deep_inputs()
+    yield from hostile_lengths()
 
 
 def answers(program, lines):
@@ -79,9 +94,9 @@ EXPECTED = ('alike', 'written differently: the', 'written differently: maps')
 
 def main():
     parser = argparse.ArgumentParser(description=__doc__)
-    parser.add_argument('--items', type=int, default=10000, help='how many random items, each also damaged twice')
+    parser.add_argument('--items', type=int, default=10_000, help='how many random items')
     parser.add_argument('--seed', type=int, default=7049)
-    parser.add_argument('--show', type=int, default=3, help='how many lines of each kind of difference to print')
+    parser.add_argument('--show', type=int, default=3, help='how many lines to print of each kind')
     chosen = parser.parse_args()
     given = [spelled.hex() for spelled in inputs(chosen.items, chosen.seed)]
     lines = ''.join(line + '\n' for line in given).encode()
@@ -93,7 +108,8 @@ def main():
     print(f'{len(given)} lines')
     for name, found in sorted(kinds.items()):
         print(f'{len(found)} {name}')
-        for line, one, other in [] if name.startswith('alike') else sorted(found, key=lambda row: len(row[0]))[:chosen.show]:
+        shown = 0 if name.startswith('alike') else chosen.show
+        for line, one, other in sorted(found, key=lambda row: len(row[0]))[:shown]:
             print(f'    {line}\n        cbor_tool:  {one}\n        Rust crate: {other}')
     return 0 if all(name.startswith(EXPECTED) for name in kinds) else 1
 

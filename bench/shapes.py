@@ -75,5 +75,6 @@ SHAPES = {
     'a text of 8 MiB, ASCII': lambda: string(TEXT, b'a', 8 << 20),
     'a text of 8 MiB, two bytes a character': lambda: string(TEXT, 'é'.encode(), 8 << 20),
     'a byte string of 8 MiB': lambda: string(BYTES, b'a', 8 << 20),
-    **{f'a map of 10,000 pairs, keys {order}': lambda order=order: of_pairs(10_000, order) for order in ORDERS},
 }
+for ORDER in ORDERS:
+    SHAPES[f'a map of 10,000 pairs, keys {ORDER}'] = lambda order=ORDER: of_pairs(10_000, order)

@@ -66,7 +66,7 @@ def row(shape, item, measure):
 
 
 def table(word, measure, unit):
-    print(f'| shape | read, {unit} | Rust crate | libcbor | read and written | Rust crate | libcbor |')
+    print(f'| shape | read, {unit} | Rust crate | libcbor | and written | Rust crate | libcbor |')
     print('|---|---|---|---|---|---|---|')
     for shape, make in shapes.SHAPES.items():
         if word in shape:

@@ -1,6 +1,6 @@
 //! What is to be measured.
 
-ghost use Rattle.std.specs.Prelude.{◌≡◌, ◌<◌, ◌↔◌, length, IfOk, IfErr, IfSome, IsSome, OnOk, OnErr};
+ghost use Rattle.std.specs.Prelude.{◌<◌, ◌↔◌, length, IfOk, IfErr, IfSome, IsSome, OnOk, OnErr};
 ghost use Rattle.cbor_model.specs.Reader.{read_value};
 ghost use Rattle.serde_cbor.specs.Error.{IsOutOfMemory};
 ghost use Rattle.serde_cbor.specs.Gives.{Fails};

@@ -7,6 +7,6 @@
 mod laws;
 
 pub use laws::{
-    canonical_reads_back, equal_bytes, normalised_once, one_flat, one_spelling,
-    order_is_total, reader_accepts, reader_finds, value_is_canonical, value_is_storable,
+    canonical_reads_back, equal_bytes, normalised_once, one_flat, one_spelling, order_is_total,
+    reader_accepts, reader_finds, value_is_canonical, value_is_storable,
 };
