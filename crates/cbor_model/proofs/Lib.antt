@@ -14,7 +14,6 @@ pub mod Puts
 pub mod ReadsBack
 pub mod Canonical
 pub mod Apart
-pub mod Program
 pub mod Normal
 pub mod Proved
 pub mod Heads

@@ -1,12 +1,11 @@
 -- The laws' proofs.
-use Rattle.cbor_model.specs.Laws.{ReaderFinds, ReaderAccepts, OneSpelling, ValueIsStorable, OneAnswer, OrderIsTotal, OneFlat, CanonicalReadsBack, ValueIsCanonical, NormalisedOnce, EqualBytes, ByteOrder, LeastSpelling, ValueIsInRange}
+use Rattle.cbor_model.specs.Laws.{ReaderFinds, ReaderAccepts, OneSpelling, ValueIsStorable, OrderIsTotal, OneFlat, CanonicalReadsBack, ValueIsCanonical, NormalisedOnce, EqualBytes, ByteOrder, LeastSpelling, ValueIsInRange}
 use Rattle.cbor_model.proofs.Whole.{found_whole, read_whole}
 use Rattle.cbor_model.proofs.Storable.{storable}
 use Rattle.cbor_model.proofs.Same as same
 use Rattle.cbor_model.proofs.ReadsBack.{reads_back}
 use Rattle.cbor_model.proofs.Canonical as canonical
 use Rattle.cbor_model.proofs.Apart as apart
-use Rattle.cbor_model.proofs.Program as program
 use Rattle.cbor_model.proofs.Normal as normal
 use Rattle.cbor_model.proofs.ByteOrder as byteorder
 use Rattle.cbor_model.proofs.Least as least
@@ -23,9 +22,6 @@ one_spelling = apart.one_spelling
 
 pub value_is_storable : ValueIsStorable
 value_is_storable = storable
-
-pub one_answer : OneAnswer
-one_answer = program.one_answer
 
 pub order_is_total : OrderIsTotal
 order_is_total = same.val_cmp_total

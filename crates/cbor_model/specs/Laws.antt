@@ -12,7 +12,6 @@ use Rattle.cbor_model.specs.InRange.{IsInRange}
 use Rattle.cbor_model.specs.Definite.{IsDefinite}
 use Rattle.std.specs.Cmp.{IsTotalOrder}
 use Rattle.cbor_model.specs.Reader.{read_value}
-use Rattle.cbor_model.specs.Program.{IsAnswer}
 
 -- the bytes spell one acceptable item, and v is its value
 pub record SpellsValue (bytes : List ℕ) (v : Val) : Type 0 where
@@ -36,10 +35,6 @@ OneSpelling = (r s : Raw) (more : List ℕ) → IsWellFormed r → IsWellFormed 
 -- The value of a well-formed item is storable.
 abbrev pub ValueIsStorable : Type 0
 ValueIsStorable = (r : Raw) → IsWellFormed r → IsStorable (value r)
-
--- A line has no two answers.
-abbrev pub OneAnswer : Type 0
-OneAnswer = (line a b : List ℕ) → IsAnswer line a → IsAnswer line b → a ≡ b
 
 -- The value of an acceptable item, of which the bytes are fewer than 2^64, is storable and ordered,
 -- and its canonical item is acceptable.

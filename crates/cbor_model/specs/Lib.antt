@@ -9,7 +9,6 @@ pub mod Canonical
 pub mod FiniteMap
 pub mod Refusal
 pub mod Reader
-pub mod Program
 pub mod Laws
 pub mod InRange
 pub mod Definite

@@ -1,5 +1,5 @@
 //! The laws, each of which is the contract of a function that does nothing.
-ghost use Rattle.cbor_model.specs.Laws.{ReaderFinds, ReaderAccepts, OneSpelling, ValueIsStorable, OneAnswer, OrderIsTotal, OneFlat, CanonicalReadsBack, ValueIsCanonical, NormalisedOnce, EqualBytes, ByteOrder, LeastSpelling, ValueIsInRange};
+ghost use Rattle.cbor_model.specs.Laws.{ReaderFinds, ReaderAccepts, OneSpelling, ValueIsStorable, OrderIsTotal, OneFlat, CanonicalReadsBack, ValueIsCanonical, NormalisedOnce, EqualBytes, ByteOrder, LeastSpelling, ValueIsInRange};
 
 /// What the reference reader reads is the value of an acceptable item, and the bytes are its spelling.
 pub fn reader_finds()
@@ -19,11 +19,6 @@ pub fn one_spelling()
 /// Each integer in the value of a well-formed item is from -2^64 to 2^64 - 1.
 pub fn value_is_storable()
     ensures { ValueIsStorable }
-{}
-
-/// A line has no two answers, so what the program is to print for it is settled.
-pub fn one_answer()
-    ensures { OneAnswer }
 {}
 
 /// The order of values is total, as a `BTreeMap` asks it of its keys.

@@ -11,7 +11,7 @@ use Rattle.cbor_model.specs.Refusal.{Refusal, words, at_offset, end_in_value, en
 use Rattle.cbor_model.specs.Reader.{Fault, read_value}
 use Rattle.cbor_model.specs.Value.{value}
 use Rattle.cbor_model.specs.Laws.{SpellsValue}
-use Rattle.cbor_model.specs.Program.{hex, IsAnswer, AreAnswers, canonical, refused, not_hexadecimal}
+use Rattle.cbor_tool.specs.Answer.{hex, IsAnswer, AreAnswers, canonical, refused, not_hexadecimal}
 use Rattle.cbor_model.proofs.facts.Laws.{value_is_storable}
 use Rattle.serde_cbor.specs.declared.error.ErrorCode.{ErrorCode}
 use Rattle.serde_cbor.specs.declared.error.ErrorCode.TheVariants.{Message, EofWhileParsingValue, EofWhileParsingArray, EofWhileParsingMap, LengthOutOfRange, InvalidUtf8, UnassignedCode, UnexpectedCode, TrailingData, RecursionLimitExceeded, OutOfMemory}

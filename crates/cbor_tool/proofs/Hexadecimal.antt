@@ -10,7 +10,7 @@ use Rattle.hex.specs.Hex.{decode_of, decode_pairs, digit_or_error, encode_lower,
 use Rattle.hex.specs.declared.error.FromHexError.{FromHexError}
 use Rattle.hex.proofs.HexLemmas.{decode_of-even, decode_of-ok}
 use Rattle.cbor_model.specs.Raw.{AreBytes}
-use Rattle.cbor_model.specs.Program.{hex_digit, hex, IsHexOf}
+use Rattle.cbor_tool.specs.Answer.{hex_digit, hex, IsHexOf}
 
 -- ---- printing
 

@@ -2,7 +2,7 @@
 use Rattle.std.proofs.Common.{◌≡◌, ◌≢◌, ℕ, ◌==◌, false, List, [], ◌∷◌, ◌++◌, refl, sym, ap, ◌∙◌, append_assoc, append-nil}
 use Rattle.std.proofs.lemmas.Bool.{ne_eqb}
 use Rattle.std.proofs.lemmas.List.Elements.{All-head, All-tail}
-use Rattle.cbor_model.specs.Program.{lines}
+use Rattle.cbor_tool.specs.Answer.{lines}
 use Rattle.cbor_tool.specs.Run.{ended_lines}
 use Rattle.cbor_tool.specs.Steps.{IsInLine}
 

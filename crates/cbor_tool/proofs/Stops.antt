@@ -1,21 +1,22 @@
 -- Why a run stops, and what it has done by then.
-use Rattle.std.proofs.Common.{◌≡◌, ◌≢◌, ℕ, ◌+◌, ◌==◌, Bool, true, false, List, [], ◌∷◌, ◌++◌, length, Option, inl, inr, refl, sym, ap, ◌∙◌, arith, append_assoc, append-nil, length-append}
+use Rattle.std.proofs.Common.{◌≡◌, ◌≢◌, ℕ, ◌+◌, ◌==◌, Bool, true, false, List, [], ◌∷◌, ◌++◌, length, ◌⊎◌, Option, inl, inr, refl, sym, ap, ◌∙◌, arith, append_assoc, append-nil, length-append}
 use Rattle.std.specs.Prelude.{IfSome, None, Some}
 use Rattle.std.specs.Io.KnownBytes.{Consumes, IsAtEnd}
 use Rattle.std.proofs.KnownBytes.{Consumes-nil, Consumes-kept, Consumes-trans}
 use Rattle.std.proofs.lemmas.List.Elements.{All-append, All-cons, All-nil}
 use Rattle.std.proofs.lemmas.Bool.{eqb-true}
 use Rattle.std.proofs.lemmas.Bool.Decides.{nat_tests}
-use Rattle.cbor_model.specs.Program.{lines}
+use Rattle.cbor_tool.specs.Answer.{lines}
 use Rattle.serde_cbor.specs.declared.error.ErrorCode.{ErrorCode}
 use Rattle.serde_cbor.specs.declared.error.ErrorCode.TheVariants.{Io, OutOfMemory, LengthOutOfRange}
 use Rattle.serde_cbor.specs.declared.error.Error.{Error}
 use Rattle.serde_cbor.specs.Error.{code_of, offset_of, IsOutOfMemory}
 use Rattle.cbor_tool.specs.declared.program.End.TheVariants.{Newline, Input}
-use Rattle.cbor_tool.specs.Run.{AppendsAnswers, StopsAtWriter, IsStoppedBy, IsStopped, ended_lines}
+use Rattle.cbor_tool.specs.Run.{AppendsAnswers, IsStoppedBy, IsStopped, ended_lines}
 use Rattle.cbor_tool.specs.Steps.{IsInLine, IsNextLine, StopsAtByteBy, StopsAtByte, StopsReadingBy, StopsReading, StopsAnsweringBy, StopsAnswering}
 use Rattle.cbor_tool.proofs.Lines.{IsWhole, IsWhole-nil, IsWhole-line, lines-last, ended_lines-last, ended_lines-whole, lines-whole_line}
 use Rattle.cbor_tool.proofs.Answers.{AppendsAnswers-nil, AppendsAnswers-append, AppendsAnswers-kept}
+use Rattle.cbor_tool.proofs.Writing.{AppendsUpTo-append}
 
 pub IsInLine-more : (line : List ℕ) (b : ℕ) → IsInLine line → b ≢ 0x0a → IsInLine (line ++ b ∷ [])
 IsInLine-more line b h ne = All-append (λ x. x ≢ 0x0a) line (b ∷ []) h (All-cons (λ x. x ≢ 0x0a) b [] ne (All-nil (λ x. x ≢ 0x0a)))
@@ -151,36 +152,59 @@ pub IsStopped-reading : (e : Error) (count : ℕ) (a b c w w' : Option (List ℕ
     → StopsReading e count b c → IsStopped e a c w w'
 IsStopped-reading e = stopped_reading_by (code_of e) (offset_of e)
 
-stopped_answering_by : (code : ErrorCode) (offset : ℕ) (a b w w' w'' : Option (List ℕ)) (s : StopsAtWriter a b) → AppendsAnswers s.before w w'
-    → StopsAnsweringBy code offset w' w'' → IsStoppedBy code offset a b w w''
-stopped_answering_by (Io fault) offset a b w w' w'' s written is = (is, inr s)
-stopped_answering_by OutOfMemory offset a b w w' w'' s written (is, kept) =
-    (is, record { taken = s.taken; answered = s.before; last = s.last; begun = s.begun; consumed = s.consumed; written = AppendsAnswers-kept s.before w w' w'' written kept })
-stopped_answering_by _ offset a b w w' w'' s written h = absurd h
+-- the lines before one, and that line, were taken
+record AtLine (before : List (List ℕ)) (last : List ℕ) (reader reader' : Option (List ℕ)) : Type 0 where
+  taken : List ℕ
+  begun : lines taken ≡ before ++ last ∷ []
+  ended : (ended_lines taken ≡ lines taken) ⊎ IsAtEnd reader'
+  consumed : Consumes reader reader' taken
+
+stopped_answering_by : (code : ErrorCode) (offset : ℕ) (before : List (List ℕ)) (last : List ℕ) (a b w w' w'' : Option (List ℕ)) → AtLine before last a b
+    → AppendsAnswers before w w' → StopsAnsweringBy code offset last w' w'' → IsStoppedBy code offset a b w w''
+stopped_answering_by (Io fault) offset before last a b w w' w'' at written (is, up) = (
+  is,
+  inr (record {
+    taken = at.taken;
+    before = before;
+    last = last;
+    begun = at.begun;
+    ended = at.ended;
+    consumed = at.consumed;
+    written = AppendsUpTo-append before last w w' w'' written up;
+  }),
+)
+stopped_answering_by OutOfMemory offset before last a b w w' w'' at written (is, kept) = (
+  is,
+  record {
+    taken = at.taken;
+    answered = before;
+    last = last;
+    begun = at.begun;
+    consumed = at.consumed;
+    written = AppendsAnswers-kept before w w' w'' written kept;
+  },
+)
+stopped_answering_by _ offset before last a b w w' w'' at written h = absurd h
 
 pub IsStopped-at_line : (e : Error) (line : List ℕ) (count count' : ℕ) (a b c w w' w'' : Option (List ℕ)) → HasAnswered count a b w w'
-    → IsNextLine Newline line count count' b c → StopsAnswering e w' w'' → IsStopped e a c w w''
+    → IsNextLine Newline line count count' b c → StopsAnswering e line w' w'' → IsStopped e a c w w''
 IsStopped-at_line e line count count' a b c w w' w'' before (in_line, few, counted, taken) h =
     let whole = IsWhole-line before.bytes line before.whole in_line in
-    let s : StopsAtWriter a c = record {
+    let at : AtLine (lines before.bytes) line a c = record {
       taken = before.bytes ++ (line ++ 0x0a ∷ []);
-      before = lines before.bytes;
-      last = line;
       begun = lines-whole_line before.bytes line before.whole in_line;
       ended = inl (ended_lines-whole (before.bytes ++ (line ++ 0x0a ∷ [])) whole);
       consumed = Consumes-trans a b c before.bytes (line ++ 0x0a ∷ []) before.consumed taken;
     } in
-    stopped_answering_by (code_of e) (offset_of e) a c w w' w'' s before.written h
+    stopped_answering_by (code_of e) (offset_of e) (lines before.bytes) line a c w w' w'' at before.written h
 
 pub IsStopped-at_last : (e : Error) (line : List ℕ) (count count' : ℕ) (a b c w w' w'' : Option (List ℕ)) → HasAnswered count a b w w'
-    → IsNextLine Input line count count' b c → line ≢ [] → StopsAnswering e w' w'' → IsStopped e a c w w''
+    → IsNextLine Input line count count' b c → line ≢ [] → StopsAnswering e line w' w'' → IsStopped e a c w w''
 IsStopped-at_last e line count count' a b c w w' w'' before (in_line, taken, end) ne h =
-    let s : StopsAtWriter a c = record {
+    let at : AtLine (lines before.bytes) line a c = record {
       taken = before.bytes ++ line;
-      before = lines before.bytes;
-      last = line;
       begun = begun_line before.bytes line before.whole in_line ne;
       ended = inr end;
       consumed = Consumes-trans a b c before.bytes line before.consumed taken;
     } in
-    stopped_answering_by (code_of e) (offset_of e) a c w w' w'' s before.written h
+    stopped_answering_by (code_of e) (offset_of e) (lines before.bytes) line a c w w' w'' at before.written h

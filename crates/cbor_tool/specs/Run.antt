@@ -1,7 +1,7 @@
 -- What a run has taken and written, where the reader and the writer tell their bytes.
 use Rattle.std.specs.Prelude.{◌≡◌, ℕ, ◌-◌, ◌^◌, List, [], ◌∷◌, ◌++◌, length, ◌==◌, if◌then◌else◌, ◌⊎◌, Option, refl}
 use Rattle.std.specs.Io.KnownBytes.{Appends, Consumes, IsAtEnd}
-use Rattle.cbor_model.specs.Program.{lines, AreAnswers}
+use Rattle.cbor_tool.specs.Answer.{lines, AreAnswers}
 use Rattle.serde_cbor.specs.declared.error.ErrorCode.{ErrorCode}
 use Rattle.serde_cbor.specs.declared.error.ErrorCode.TheVariants.{Io, OutOfMemory, LengthOutOfRange}
 use Rattle.serde_cbor.specs.declared.error.Error.{Error}
@@ -10,6 +10,20 @@ use Rattle.serde_cbor.specs.Error.{code_of, offset_of}
 -- One answer for each of the lines was written, and nothing else.
 abbrev pub AppendsAnswers : List (List ℕ) → Option (List ℕ) → Option (List ℕ) → Type 0
 AppendsAnswers lines old new = (output : List ℕ) × AreAnswers lines output × Appends old new output
+
+-- a beginning of the answer to the line, its 0a counted
+pub record BeginsAnswer (line begun : List ℕ) : Type 0 where
+  pub missing : List ℕ
+  pub whole : AreAnswers (line ∷ []) (begun ++ missing)
+
+-- One answer for each of the lines before was written, then a beginning of the answer to the last, and
+-- nothing else.
+pub record AppendsUpTo (before : List (List ℕ)) (last : List ℕ) (old new : Option (List ℕ)) : Type 0 where
+  pub output : List ℕ
+  pub begun : List ℕ
+  pub answers : AreAnswers before output
+  pub begins : BeginsAnswer last begun
+  pub written : Appends old new (output ++ begun)
 
 -- a line's first byte, before the ended lines that follow without it
 abbrev pub begin_ended : ℕ → List (List ℕ) → List (List ℕ)
@@ -39,14 +53,16 @@ pub record StopsAtReader (reader reader' writer writer' : Option (List ℕ)) : T
   pub consumed : Consumes reader reader' taken
   pub written : AppendsAnswers (ended_lines taken) writer writer'
 
--- The writer failed, on the answer to a line. No byte that follows this line was taken.
-pub record StopsAtWriter (reader reader' : Option (List ℕ)) : Type 0 where
+-- The writer failed, on the answer to a line, of which a beginning was written. All lines before it have
+-- been answered. No byte that follows this line was taken.
+pub record StopsAtWriter (reader reader' writer writer' : Option (List ℕ)) : Type 0 where
   pub taken : List ℕ
   pub before : List (List ℕ)
   pub last : List ℕ
   pub begun : lines taken ≡ before ++ last ∷ []
   pub ended : (ended_lines taken ≡ lines taken) ⊎ IsAtEnd reader'
   pub consumed : Consumes reader reader' taken
+  pub written : AppendsUpTo before last writer writer'
 
 -- the greatest offset, and the greatest length of an input
 abbrev pub max_offset : ℕ
@@ -61,7 +77,7 @@ pub record StopsPastMax (reader reader' writer writer' : Option (List ℕ)) : Ty
   pub written : AppendsAnswers (ended_lines taken) writer writer'
 
 abbrev pub IsStoppedBy : ErrorCode → ℕ → (reader reader' writer writer' : Option (List ℕ)) → Type 0
-IsStoppedBy (Io fault) offset reader reader' writer writer' = (offset ≡ 0) × (StopsAtReader reader reader' writer writer' ⊎ StopsAtWriter reader reader')
+IsStoppedBy (Io fault) offset reader reader' writer writer' = (offset ≡ 0) × (StopsAtReader reader reader' writer writer' ⊎ StopsAtWriter reader reader' writer writer')
 IsStoppedBy OutOfMemory offset reader reader' writer writer' = (offset ≡ 0) × StopsInLine reader reader' writer writer'
 IsStoppedBy LengthOutOfRange offset reader reader' writer writer' = (offset ≡ max_offset) × StopsPastMax reader reader' writer writer'
 IsStoppedBy _ offset reader reader' writer writer' = ⊥

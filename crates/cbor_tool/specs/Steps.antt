@@ -1,14 +1,14 @@
 -- What the steps of a run do.
 use Rattle.std.specs.Prelude.{◌≡◌, ◌≢◌, ℕ, ◌+◌, ◌<◌, List, [], ◌∷◌, ◌++◌, length, All, Option, Some, None}
-use Rattle.std.specs.Io.KnownBytes.{Consumes, Keeps, IsAtEnd}
-use Rattle.cbor_model.specs.Program.{IsHexOf, IsAnswer}
+use Rattle.std.specs.Io.KnownBytes.{Appends, Consumes, Keeps, IsAtEnd}
+use Rattle.cbor_tool.specs.Answer.{IsHexOf, IsAnswer}
 use Rattle.serde_cbor.specs.declared.error.ErrorCode.{ErrorCode}
 use Rattle.serde_cbor.specs.declared.error.ErrorCode.TheVariants.{Io, OutOfMemory, LengthOutOfRange}
 use Rattle.serde_cbor.specs.declared.error.Error.{Error}
 use Rattle.serde_cbor.specs.Error.{code_of, offset_of}
 use Rattle.cbor_tool.specs.declared.program.End.{End}
 use Rattle.cbor_tool.specs.declared.program.End.TheVariants.{Newline, Input}
-use Rattle.cbor_tool.specs.Run.{max_offset}
+use Rattle.cbor_tool.specs.Run.{AppendsUpTo, max_offset}
 
 -- ---- reading, where `count` bytes come before and `count'` in all
 
@@ -64,16 +64,29 @@ StopsAtByteBy _ offset count reader reader' = ⊥
 abbrev pub StopsAtByte : Error → (count : ℕ) (reader reader' : Option (List ℕ)) → Type 0
 StopsAtByte e = StopsAtByteBy (code_of e) (offset_of e)
 
+-- ---- writing
+
+-- Of the bytes, the front was written, and the rest is left.
+pub record WritesFront (bytes rest : List ℕ) (writer writer' : Option (List ℕ)) : Type 0 where
+  pub front : List ℕ
+  pub parts : front ++ rest ≡ bytes
+  pub written : Appends writer writer' front
+
+-- some front of the bytes was written
+abbrev pub WritesBeginning : List ℕ → (writer writer' : Option (List ℕ)) → Type 0
+WritesBeginning bytes writer writer' = (rest : List ℕ) × WritesFront bytes rest writer writer'
+
 -- ---- answering
 
 -- the text answers each line that is the hexadecimal of these bytes
 abbrev pub IsAnswerTo : List ℕ → List ℕ → Type 0
 IsAnswerTo bytes text = (line : List ℕ) → IsHexOf line bytes → IsAnswer line text
 
-abbrev pub StopsAnsweringBy : ErrorCode → ℕ → (writer writer' : Option (List ℕ)) → Type 0
-StopsAnsweringBy (Io fault) offset writer writer' = offset ≡ 0
-StopsAnsweringBy OutOfMemory offset writer writer' = (offset ≡ 0) × Keeps writer writer'
-StopsAnsweringBy _ offset writer writer' = ⊥
+abbrev pub StopsAnsweringBy : ErrorCode → ℕ → List ℕ → (writer writer' : Option (List ℕ)) → Type 0
+StopsAnsweringBy (Io fault) offset line writer writer' = (offset ≡ 0) × AppendsUpTo [] line writer writer'
+StopsAnsweringBy OutOfMemory offset line writer writer' = (offset ≡ 0) × Keeps writer writer'
+StopsAnsweringBy _ offset line writer writer' = ⊥
 
-abbrev pub StopsAnswering : Error → (writer writer' : Option (List ℕ)) → Type 0
+-- why the line's answer was not written whole, and how much of it was
+abbrev pub StopsAnswering : Error → List ℕ → (writer writer' : Option (List ℕ)) → Type 0
 StopsAnswering e = StopsAnsweringBy (code_of e) (offset_of e)

@@ -3,6 +3,7 @@
 //! It names `serde_cbor`, the definitions of `cbor_model`, and the kit's `hex`.
 #![tactic(auto)]
 
+mod laws;
 mod program;
 #[cfg(test)]
 mod tests;

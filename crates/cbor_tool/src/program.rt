@@ -1,17 +1,20 @@
 //! Lines of hexadecimal in, lines of answers out.
 
-ghost use Rattle.std.specs.Prelude.{◌≡◌, ◌+◌, ◌∷◌, IfOk, IfErr, OnOk, IfSome, []};
-ghost use Rattle.std.specs.Io.KnownBytes.{IsAtEnd};
-ghost use Rattle.cbor_model.specs.Program.{lines, hex, IsAnswer};
+ghost use Rattle.std.specs.Prelude.{◌≡◌, ◌+◌, ◌<◌, ◌≤◌, ◌∷◌, [], length};
+ghost use Rattle.std.specs.Prelude.{IfOk, IfErr, IfSome, OnOk, OnErr};
+ghost use Rattle.std.specs.Io.KnownBytes.{Appends, WriteAppends, IsAtEnd};
+ghost use Rattle.cbor_tool.specs.Answer.{lines, hex, IsAnswer};
 ghost use Rattle.serde_cbor.specs.Error.{IsOutOfMemory};
 ghost use Rattle.cbor_tool.specs.Run.{AppendsAnswers, IsStopped};
-ghost use Rattle.cbor_tool.specs.Steps.{IsNext, IsNextLine, StopsReading, StopsAtByte, IsAnswerTo, StopsAnswering};
+ghost use Rattle.cbor_tool.specs.Steps.{IsNext, IsNextLine, StopsReading, StopsAtByte};
+ghost use Rattle.cbor_tool.specs.Steps.{IsAnswerTo, WritesBeginning, StopsAnswering};
 
 use hex::FromHexError;
 use serde_cbor::error::{Error, ErrorCode};
 use serde_cbor::{Result, from_slice, to_vec};
 use std::alloc::{AllocError, Global};
 use std::io;
+use std::io::ErrorKind;
 
 // What ended a line.
 #[derive(Clone, Copy)]
@@ -22,16 +25,20 @@ enum End {
 
 /// Answers each line that the reader gives by one line to the writer.
 ///
-/// Bytes are taken one at a time. Each answer is written by one call and flushed before the byte
-/// that follows its line is taken. The run stops at the first fault of the reader or the writer,
-/// where memory runs out, and where the reader gives more than 2^64 - 1 bytes.
+/// Bytes are taken one at a time. Each answer is made whole, then written, and flushed before the
+/// byte that follows its line is taken. The run stops at the first fault of the reader or of the
+/// writer, where memory runs out, and where the reader gives more than 2^64 - 1 bytes. A write that
+/// was interrupted is no fault, and is tried again.
 pub fn run<R: io::Read, W: io::Write>(alloc: Global, reader: &mut R, writer: &mut W) -> Result<()>
     // The output is one answer for each of the input's lines, and the input was read to its end.
     ensures answers { OnOk result (IfSome (R.remaining reader.old) (λ input.
         AppendsAnswers (lines input) (W.contents writer.old) (W.contents writer.new))) }
     ensures end { OnOk result (IsAtEnd (R.remaining reader.new)) }
-    // Why it stopped, with what taken and what answered.
-    ensures stopped { IfErr result (λ e. IsStopped e (R.remaining reader.old) (R.remaining reader.new)
+    // Why it stopped, with what taken and what written: at a fault of the reader the answers to the
+    // lines that had ended, and at a fault of the writer those to the lines before one, and a
+    // beginning of the answer to that line.
+    ensures stopped { IfErr result (λ e. IsStopped e
+        (R.remaining reader.old) (R.remaining reader.new)
         (W.contents writer.old) (W.contents writer.new)) }
 {
     let mut taken = 0;
@@ -89,14 +96,50 @@ fn write_answer<W: io::Write>(
     text: &mut Vec<u8>,
     writer: &mut W,
 ) -> Result<()>
-    ensures ok { OnOk result (AppendsAnswers (line.now ∷ []) (W.contents writer.old) (W.contents writer.new)) }
-    ensures err { IfErr result (λ e. StopsAnswering e (W.contents writer.old) (W.contents writer.new)) }
+    ensures ok { OnOk result (AppendsAnswers (line.now ∷ [])
+        (W.contents writer.old) (W.contents writer.new)) }
+    ensures err { IfErr result (λ e. StopsAnswering e line.now
+        (W.contents writer.old) (W.contents writer.new)) }
 {
     answer(alloc, line, text)?;
     text.push(b'\n')?;
-    writer.write_all(text)?;
+    write_all(writer, text)?;
     writer.flush()?;
     Ok(())
+}
+
+// Writes the bytes, as `io::Write::write_all` does. A clause says what stands after a fault.
+fn write_all<W: io::Write>(writer: &mut W, bytes: &[u8]) -> io::Result<()>
+    ensures ok { OnOk result (Appends (W.contents writer.old) (W.contents writer.new) bytes.now) }
+    ensures err { OnErr result (WritesBeginning bytes.now
+        (W.contents writer.old) (W.contents writer.new)) }
+{
+    let mut rest = bytes;
+    'bytes: while !rest.is_empty() {
+        let count = write_some(writer, rest)?;
+        rest = &rest[count..];
+    }
+    Ok(())
+}
+
+// Writes a front of the bytes, and answers how long it is. An interrupted write is tried again.
+fn write_some<W: io::Write>(writer: &mut W, bytes: &[u8]) -> io::Result<usize>
+    ensures within { IfOk result (λ n. (0 < n) × (n ≤ length bytes.now)) }
+    ensures written { WriteAppends
+        (W.contents writer.old) (W.contents writer.new) result bytes.now }
+{
+    'tries: for _ in 0..u64::MAX {
+        match writer.write(bytes) {
+            Ok(0) => return Err(io::Error::from(ErrorKind::WriteZero)),
+            Ok(count) => return Ok(count),
+            Err(fault) => {
+                if fault.kind() != ErrorKind::Interrupted {
+                    return Err(fault);
+                }
+            }
+        }
+    }
+    Err(io::Error::from(ErrorKind::Interrupted))
 }
 
 // Makes `text` the answer to the line.

@@ -22,25 +22,67 @@ impl Read for FailingReader<'_> {
     }
 }
 
-// A writer that fails once it has taken `left` writes.
+// A writer that takes at most `at_once` bytes a write, fails once it has taken `writes` writes, and
+// fails once it was flushed `flushes` times.
 #[derive(Drop)]
 struct FailingWriter {
     written: Vec<u8>,
-    left: usize,
+    at_once: usize,
+    writes: usize,
+    flushes: usize,
     flushed: usize,
+}
+
+impl FailingWriter {
+    fn new(alloc: Global, at_once: usize, writes: usize, flushes: usize) -> FailingWriter {
+        FailingWriter {
+            written: Vec::new(alloc),
+            at_once,
+            writes,
+            flushes,
+            flushed: 0,
+        }
+    }
 }
 
 impl Write for FailingWriter {
     fn write(&mut self, buf: &[u8]) -> io::Result<usize> {
-        if self.left == 0 {
+        if self.writes == 0 {
             return Err(io::Error::from(ErrorKind::BrokenPipe));
         }
-        self.left -= 1;
-        self.written.write(buf)
+        self.writes -= 1;
+        let count = buf.len().min(self.at_once);
+        self.written.write(&buf[..count])
     }
 
     fn flush(&mut self) -> io::Result<()> {
+        if self.flushes == 0 {
+            return Err(io::Error::from(ErrorKind::BrokenPipe));
+        }
+        self.flushes -= 1;
         self.flushed = self.written.len();
+        Ok(())
+    }
+}
+
+// A writer of which each other write is interrupted.
+#[derive(Drop)]
+struct InterruptedWriter {
+    written: Vec<u8>,
+    is_interrupted: bool,
+}
+
+impl Write for InterruptedWriter {
+    fn write(&mut self, buf: &[u8]) -> io::Result<usize> {
+        self.is_interrupted = !self.is_interrupted;
+        if self.is_interrupted {
+            return Err(io::Error::from(ErrorKind::Interrupted));
+        }
+        let count = buf.len().min(2);
+        self.written.write(&buf[..count])
+    }
+
+    fn flush(&mut self) -> io::Result<()> {
         Ok(())
     }
 }
@@ -108,21 +150,99 @@ fn stops_where_the_reader_fails(rt: HostRuntime) -> Result<()> {
     Ok(())
 }
 
+const INPUT: &[u8] = b"17\nf6\n18";
+
+const OUTPUT: &[u8] = b"17\nf6\nerror: EOF while parsing a value at offset 1\n";
+
+// How many bytes of the output are whole answers, where it has that many.
+fn answered(written: usize) -> usize {
+    match written {
+        0..3 => 0,
+        3..6 => 3,
+        _ => 6,
+    }
+}
+
 #[test]
-fn stops_where_the_writer_fails(rt: HostRuntime) -> Result<()> {
+fn stops_at_each_write_that_fails(rt: HostRuntime) -> Result<()> {
     let alloc = rt.alloc();
-    for left in 0..2 {
-        let mut reader: &[u8] = b"17\nf6\n18";
-        let mut writer = FailingWriter {
-            written: Vec::new(alloc),
-            left,
-            flushed: 0,
-        };
+    for writes in 0..OUTPUT.len() {
+        let mut reader = INPUT;
+        let mut writer = FailingWriter::new(alloc, 1, writes, 3);
         let ended = run(alloc, &mut reader, &mut writer);
         assert!(rt; is_io_error(alloc, &ended)?);
-        assert_eq!(rt; writer.written.len(), 3 * left);
-        assert_eq!(rt; writer.flushed, 3 * left);
-        assert_eq!(rt; reader.len(), 5 - 3 * left);
+        assert!(rt; writer.written.as_slice() == &OUTPUT[..writes]);
+        assert_eq!(rt; writer.flushed, answered(writes));
+        let unread: &[u8] = match writes {
+            0..3 => b"f6\n18",
+            3..6 => b"18",
+            _ => b"",
+        };
+        assert!(rt; reader == unread);
     }
+    Ok(())
+}
+
+#[test]
+fn stops_where_whole_writes_fail(rt: HostRuntime) -> Result<()> {
+    let alloc = rt.alloc();
+    for writes in 0..3 {
+        let mut reader = INPUT;
+        let mut writer = FailingWriter::new(alloc, 100, writes, 3);
+        let ended = run(alloc, &mut reader, &mut writer);
+        assert!(rt; is_io_error(alloc, &ended)?);
+        assert!(rt; writer.written.as_slice() == &OUTPUT[..3 * writes]);
+        assert_eq!(rt; writer.flushed, 3 * writes);
+    }
+    Ok(())
+}
+
+#[test]
+fn stops_where_the_writer_takes_nothing(rt: HostRuntime) -> Result<()> {
+    let alloc = rt.alloc();
+    let mut reader = INPUT;
+    let mut writer = FailingWriter::new(alloc, 0, 5, 3);
+    let ended = run(alloc, &mut reader, &mut writer);
+    assert!(rt; is_io_error(alloc, &ended)?);
+    assert_eq!(rt; writer.written.len(), 0);
+    Ok(())
+}
+
+#[test]
+fn stops_at_each_flush_that_fails(rt: HostRuntime) -> Result<()> {
+    let alloc = rt.alloc();
+    let outputs: [&[u8]; 3] = [&OUTPUT[..3], &OUTPUT[..6], OUTPUT];
+    for (flushes, output) in outputs.into_iter().enumerate() {
+        let mut reader = INPUT;
+        let mut writer = FailingWriter::new(alloc, 2, 100, flushes);
+        let ended = run(alloc, &mut reader, &mut writer);
+        assert!(rt; is_io_error(alloc, &ended)?);
+        assert!(rt; writer.written.as_slice() == output);
+    }
+    Ok(())
+}
+
+#[test]
+fn flushes_each_answer(rt: HostRuntime) -> Result<()> {
+    let alloc = rt.alloc();
+    let mut reader = INPUT;
+    let mut writer = FailingWriter::new(alloc, 2, 100, 3);
+    run(alloc, &mut reader, &mut writer)?;
+    assert!(rt; writer.written.as_slice() == OUTPUT);
+    assert_eq!(rt; writer.flushes, 0);
+    assert_eq!(rt; writer.flushed, OUTPUT.len());
+    Ok(())
+}
+
+#[test]
+fn tries_an_interrupted_write_again(rt: HostRuntime) -> Result<()> {
+    let alloc = rt.alloc();
+    let mut reader = INPUT;
+    let mut writer = InterruptedWriter {
+        written: Vec::new(alloc),
+        is_interrupted: false,
+    };
+    run(alloc, &mut reader, &mut writer)?;
+    assert!(rt; writer.written.as_slice() == OUTPUT);
     Ok(())
 }

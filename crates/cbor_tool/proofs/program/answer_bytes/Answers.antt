@@ -1,6 +1,6 @@
 use Rattle.std.proofs.Common.{ap, ◌∙◌}
 use Rattle.std.proofs.lemmas.Result.{err_from_is_err_and, on_ok_weaker}
-use Rattle.cbor_model.specs.Program.{hex}
+use Rattle.cbor_tool.specs.Answer.{hex}
 use Rattle.cbor_tool.proofs.Answers.{IsAnswerTo-canonical, IsAnswerTo-refused, IsOutOfMemory-not_written}
 use Rattle.cbor_tool.proofs.program.answer_bytes.Goals as goal
 

@@ -24,14 +24,14 @@ pub returns-in_err-write_answer-clause-stopped : goal.returns-in_err-write_answe
 returns-in_err-write_answer-clause-stopped g c =
     let next = rw c.in-Newline.is at c.in_ok-read_line.ensures.ok in
     let p = err_from_is_err_and c.from_residual-in_err-write_answer.result c.from_residual-in_err-write_answer.ensures.1 in
-    rw (p.1, p.2) (IsStopped-at_line _ _ _ _ _ _ _ _ (g.W.Write.contents c.lines.writer) _ c.lines.invariant next c.in_err-write_answer.ensures.err)
+    rw (p.1, p.2) (IsStopped-at_line _ _ _ _ _ _ _ _ (g.W.Write.contents c.lines.writer) _ c.lines.invariant next (rw c.deref.ensures.value at c.in_err-write_answer.ensures.err))
 
 pub returns-in_err-write_answer-2-clause-stopped : goal.returns-in_err-write_answer-2-clause-stopped
 returns-in_err-write_answer-2-clause-stopped g c =
     let next = rw c.in_default.is at c.in_ok-read_line.ensures.ok in
     let begun : c.read_line.new.line.items ≢ [] = not_empty _ _ _ c.read_line.new.line.ok.0 c.is_empty.ensures c.if-not-is_empty.true in
     let p = err_from_is_err_and c.from_residual-in_err-write_answer-2.result c.from_residual-in_err-write_answer-2.ensures.1 in
-    rw (p.1, p.2) (IsStopped-at_last _ _ _ c.read_line.new.taken _ _ _ _ (g.W.Write.contents c.lines.writer) _ c.lines.invariant next begun c.in_err-write_answer-2.ensures.err)
+    rw (p.1, p.2) (IsStopped-at_last _ _ _ c.read_line.new.taken _ _ _ _ (g.W.Write.contents c.lines.writer) _ c.lines.invariant next begun (rw c.deref-then-not-is_empty.ensures.value at c.in_err-write_answer-2.ensures.err))
 
 pub returns-clause-answers : goal.returns-clause-answers
 returns-clause-answers g c =

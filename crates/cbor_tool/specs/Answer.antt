@@ -54,6 +54,10 @@ abbrev pub AreAnswers : List (List ℕ) → List ℕ → Type 0
 AreAnswers [] output = output ≡ []
 AreAnswers (line ∷ lines) output = (answer others : List ℕ) × IsAnswer line answer × (output ≡ answer ++ (0x0a ∷ others)) × AreAnswers lines others
 
+-- A line has no two answers.
+abbrev pub OneAnswer : Type 0
+OneAnswer = (line a b : List ℕ) → IsAnswer line a → IsAnswer line b → a ≡ b
+
 -- ---- examples
 
 two_lines : lines (0x31 ∷ 0x0a ∷ 0x32 ∷ []) ≡ (0x31 ∷ []) ∷ (0x32 ∷ []) ∷ []

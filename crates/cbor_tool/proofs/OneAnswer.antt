@@ -1,5 +1,5 @@
 -- Hexadecimal has one reading, and a line one answer.
-use Rattle.std.proofs.Common.{◌≡◌, ℕ, ◌-◌, ◌/◌, ◌%◌, ◌<◌, List, [], ◌∷◌, ◌++◌, length, Result, Err, refl, sym, ap, ◌∙◌, arith}
+use Rattle.std.proofs.Common.{◌≡◌, ℕ, suc, ◌-◌, ◌/◌, ◌%◌, ◌<◌, List, [], ◌∷◌, ◌++◌, length, Result, Err, refl, sym, ap, ◌∙◌, arith}
 use Rattle.std.specs.Prelude.{codes}
 use Rattle.std.proofs.lemmas.Bool.Decides.{nat_tests}
 use Rattle.std.proofs.lemmas.List.{append-nil}
@@ -11,9 +11,8 @@ use Rattle.cbor_model.specs.Canonical.{canon}
 use Rattle.cbor_model.specs.Refusal.{words, at_offset}
 use Rattle.cbor_model.specs.Plain.{Val}
 use Rattle.cbor_model.specs.Reader.{Fault, read_value}
-use Rattle.cbor_model.specs.Program.{hex_digit, hex, IsHexOf, IsRefusalText, IsAnswer, canonical, refused, not_hexadecimal}
-use Rattle.cbor_model.proofs.Steps.{AreBytes-rest}
-use Rattle.cbor_model.proofs.Apart.{one_spelling}
+use Rattle.cbor_tool.specs.Answer.{hex_digit, hex, IsHexOf, IsRefusalText, IsAnswer, canonical, refused, not_hexadecimal, OneAnswer}
+use Rattle.cbor_model.proofs.Proved.{one_spelling}
 
 -- ---- hexadecimal
 
@@ -35,7 +34,7 @@ bytes_unique (x ∷ a) (y ∷ b) fits fits' same =
     let low : hex_digit (x % 16) ≡ hex_digit (y % 16) = cc in
     let others : hex a ≡ hex b = cc in
     let first : x ≡ y = byte_unique x y (fits 0) (fits' 0) high low in
-    let more : a ≡ b = bytes_unique a b (AreBytes-rest x a fits) (AreBytes-rest y b fits') others in
+    let more : a ≡ b = bytes_unique a b (λ k. fits (suc k)) (λ k. fits' (suc k)) others in
     cc
 
 pub hex_unique : (line a b : List ℕ) → IsHexOf line a → IsHexOf line b → a ≡ b
@@ -59,7 +58,7 @@ refusal_unique bytes bytes' text text' same one other =
     let fault_same : one.fault ≡ other.fault = err_is one.fault other.fault (sym one.refused ∙ ap read_value same ∙ other.refused) in
     one.is ∙ ap (λ (d : Fault). words d.why ++ at_offset (length bytes - d.left)) fault_same ∙ ap (λ (b : List ℕ). words other.fault.why ++ at_offset (length b - other.fault.left)) same ∙ sym other.is
 
-pub one_answer : (line a b : List ℕ) → IsAnswer line a → IsAnswer line b → a ≡ b
+pub one_answer : OneAnswer
 one_answer line a b (canonical r good digits is) (canonical s good' digits' is') =
     is ∙ ap (λ (i : Raw). hex (canon (value i))) (same_item r s good good' (hex_unique line (spell r) (spell s) digits digits')) ∙ sym is'
 one_answer line a b (canonical r good digits is) (refused bytes text digits' none why is') = absurd (none r good (hex_unique line (spell r) bytes digits digits'))

@@ -1,0 +1,101 @@
+#!/usr/bin/env python3
+"""Measures reading and writing beside the Rust crate and libcbor; see README.md."""
+import argparse
+import os
+import re
+import subprocess
+import tempfile
+
+import shapes
+
+HERE = os.path.dirname(os.path.abspath(__file__))
+OURS = os.path.join(HERE, '..', 'crates', 'cbor_bench', 'out', 'cbor_bench')
+PEERS = [os.path.join(HERE, 'out', 'measured'), os.path.join(HERE, 'out', 'libcbor')]
+READ, READ_AND_WRITE = 0, 1
+
+
+class Request:
+    """What a program is given: the task, how many times, and the item."""
+
+    def __init__(self, task, item):
+        self.task = task
+        self.item = item
+
+    def given_to(self, program, times):
+        given = tempfile.TemporaryFile()
+        given.write(bytes([self.task, times]) + self.item)
+        given.seek(0)
+        return subprocess.Popen(program, stdin=given, stdout=subprocess.DEVNULL, stderr=subprocess.PIPE)
+
+
+def seconds(program, request, times):
+    """The time that the CPU worked for one run, user and system."""
+    run = request.given_to([program], times)
+    _, status, used = os.wait4(run.pid, 0)
+    run.stderr.close()
+    assert status == 0, f'{program}: status {status}'
+    return used.ru_utime + used.ru_stime
+
+
+def milliseconds(program, request):
+    """The CPU time of one turn, in ms: the least of three runs of many turns, less the start."""
+    start = min(seconds(program, request, 0) for _ in range(3))
+    first = max(seconds(program, request, 1) - start, 0.005)
+    times = max(1, min(100, round(0.5 / first)))
+    return max(min(seconds(program, request, times) for _ in range(3)) - start, 0) * 1000 / times
+
+
+def instructions(program, request, times):
+    run = request.given_to(['valgrind', '--tool=callgrind', '--callgrind-out-file=/dev/null', program], times)
+    _, report = run.communicate()
+    assert run.returncode == 0, report.decode()
+    return int(re.search(rb'Collected : (\d+)', report)[1])
+
+
+def millions(program, request):
+    """The instructions of one turn, in millions: those of a run of one, less the start."""
+    return (instructions(program, request, 1) - instructions(program, request, 0)) / 1e6
+
+
+def row(shape, item, measure):
+    cells = [shape]
+    for task in (READ, READ_AND_WRITE):
+        ours, *theirs = (measure(program, Request(task, item)) for program in [OURS, *PEERS])
+        cells += [f'{ours:.2f}', *(f'{other / ours:.2f}' if ours else '' for other in theirs)]
+    return '| ' + ' | '.join(cells) + ' |'
+
+
+def table(word, measure, unit):
+    print(f'| shape | read, {unit} | Rust crate | libcbor | and written | Rust crate | libcbor |')
+    print('|---|---|---|---|---|---|---|')
+    for shape, make in shapes.SHAPES.items():
+        if word in shape:
+            print(row(shape, make(), measure), flush=True)
+
+
+def growth(word, measure, unit, most):
+    counts = [10_000 << doubled for doubled in range(most)]
+    print(f'| keys, read in {unit} | ' + ' | '.join(f'{count:,}' for count in counts) + ' |')
+    print('|---|' + '---|' * len(counts))
+    for order in shapes.ORDERS:
+        if word in order:
+            costs = [measure(OURS, Request(READ, shapes.of_pairs(count, order))) for count in counts]
+            print(f'| {order} | ' + ' | '.join(f'{cost:.1f}' for cost in costs) + ' |', flush=True)
+
+
+def main():
+    parser = argparse.ArgumentParser(description=__doc__)
+    parser.add_argument('word', nargs='?', default='', help='measure the shapes alone whose name has this in it')
+    parser.add_argument('--instructions', action='store_true', help='count instructions in place of CPU time')
+    parser.add_argument('--growth', action='store_true', help='read maps of 10,000 pairs, twice that, and on')
+    parser.add_argument('--most', type=int, default=6, help='how many maps are read for --growth')
+    chosen = parser.parse_args()
+    measure, unit = (millions, 'million instructions') if chosen.instructions else (milliseconds, 'ms')
+    if chosen.growth:
+        growth(chosen.word, measure, unit, chosen.most)
+    else:
+        table(chosen.word, measure, unit)
+
+
+if __name__ == '__main__':
+    main()

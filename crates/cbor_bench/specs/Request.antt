@@ -1,0 +1,30 @@
+-- What is asked for, and what doing it shows.
+use Rattle.std.specs.Prelude.{◌≡◌, ℕ, ◌≤◌, List, ◌∷◌}
+use Rattle.cbor_model.specs.Plain.{Val}
+use Rattle.cbor_model.specs.Canonical.{canon}
+use Rattle.cbor_model.specs.Laws.{SpellsValue}
+use Rattle.cbor_bench.specs.declared.request.Task.{Task}
+use Rattle.cbor_bench.specs.declared.request.Task.TheVariants.{Read, ReadAndWrite}
+use Rattle.cbor_bench.specs.declared.request.Request.{Request}
+
+-- the byte that asks for a task
+abbrev pub code_of : Task → ℕ
+code_of Read = 0
+code_of ReadAndWrite = 1
+
+-- The input has the byte of a task, a byte for how many times, and the item's bytes.
+abbrev pub IsRequest : List ℕ → Type 0
+IsRequest (code ∷ times ∷ item) = code ≤ 1
+IsRequest _ = ⊥
+
+-- The input asks for this.
+abbrev pub IsRequestOf : List ℕ → Request → Type 0
+IsRequestOf input request = input ≡ code_of request.task ∷ request.times ∷ request.item.now
+
+-- the bytes spell an acceptable item
+abbrev pub SpellsItem : List ℕ → Type 0
+SpellsItem bytes = (v : Val) × SpellsValue bytes v
+
+-- these are the canonical spelling of the value that the bytes spell
+abbrev pub IsRewritten : (bytes written : List ℕ) → Type 0
+IsRewritten bytes written = (v : Val) × SpellsValue bytes v × (written ≡ canon v)

@@ -1,0 +1,32 @@
+//! Reads a CBOR item, or reads and writes it, as many times as standard input says, to be measured.
+#![tactic(auto)]
+
+mod request;
+
+use crate::request::Request;
+use serde_cbor::Result;
+use std::io::Read;
+use std::process::ExitCode;
+
+fn main(rt: HostRuntime) -> ExitCode {
+    match answer_input(&rt) {
+        Ok(true) => ExitCode::SUCCESS,
+        Ok(false) => ExitCode::from(2),
+        Err(error) => {
+            // Nothing is left to do where standard error fails as well.
+            let _ = eprintln!(rt; "cbor_bench: {error}");
+            ExitCode::FAILURE
+        }
+    }
+}
+
+// Does what standard input asks for, or answers false where it asks for nothing that is known.
+fn answer_input(rt: &HostRuntime) -> Result<bool> {
+    let mut input = Vec::new(rt.alloc());
+    rt.stdin().read_to_end(&mut input)?;
+    let Some(request) = Request::parse(&input) else {
+        return Ok(false);
+    };
+    request.repeat(rt.alloc())?;
+    Ok(true)
+}

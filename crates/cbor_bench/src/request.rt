@@ -1,0 +1,101 @@
+//! What is to be measured.
+
+ghost use Rattle.std.specs.Prelude.{◌<◌, ◌↔◌, length, IfOk, IfErr, IfSome, IsSome, OnOk, OnErr};
+ghost use Rattle.cbor_model.specs.Reader.{read_value};
+ghost use Rattle.serde_cbor.specs.Error.{IsOutOfMemory};
+ghost use Rattle.serde_cbor.specs.Gives.{Fails};
+ghost use Rattle.cbor_bench.specs.Request.{IsRequest, IsRequestOf, SpellsItem, IsRewritten};
+
+use serde_cbor::{Result, from_slice, to_vec};
+use std::alloc::Global;
+
+const READ: u8 = 0;
+
+const READ_AND_WRITE: u8 = 1;
+
+/// What is done with an item.
+#[derive(Clone, Copy)]
+pub enum Task {
+    /// It is read as a `Value`.
+    Read,
+    /// It is read as a `Value`, which `to_vec` writes.
+    ReadAndWrite,
+}
+
+/// What to do with an item, and how many times.
+#[derive(Clone, Copy)]
+pub struct Request<'a> {
+    pub task: Task,
+    pub times: u8,
+    pub item: &'a [u8],
+}
+
+impl<'a> Request<'a> {
+    /// One byte for what to do (0: read, 1: read and write), one for how many times, and then the
+    /// item. `None` where there are fewer than two bytes, and for any other first byte.
+    pub fn parse(input: &'a [u8]) -> Option<Request<'a>>
+        ensures known { IsSome result ↔ IsRequest input.now }
+        ensures read { IfSome result (IsRequestOf input.now) }
+    {
+        match input {
+            [READ, times, item @ ..] => Some(Request {
+                task: Task::Read,
+                times: *times,
+                item,
+            }),
+            [READ_AND_WRITE, times, item @ ..] => Some(Request {
+                task: Task::ReadAndWrite,
+                times: *times,
+                item,
+            }),
+            _ => None,
+        }
+    }
+
+    /// Does it as many times as it says, each time from the item's bytes, and keeps nothing.
+    ///
+    /// It stops at the first refusal, which is `from_slice`'s or for want of memory.
+    pub fn repeat(&self, alloc: Global) -> Result<()>
+        // The bytes spell an acceptable item, if they were read at all.
+        ensures done { OnOk result (0 < self.now.times → SpellsItem self.now.item.now) }
+        // Such an item is refused for want of memory alone.
+        ensures accepted { SpellsItem self.now.item.now → IfErr result IsOutOfMemory }
+        // A refusal tells the fault that the reference reader meets, or that memory ran out.
+        ensures refused { IfErr result (λ e. Fails (length self.now.item.now) e
+            (read_value self.now.item.now)) }
+        ensures idle { OnErr result (0 < self.now.times) }
+    {
+        'turns: for _ in 0..self.times {
+            perform(alloc, self.task, self.item)?;
+        }
+        Ok(())
+    }
+}
+
+// Does it once.
+fn perform(alloc: Global, task: Task, item: &[u8]) -> Result<()>
+    ensures done { OnOk result (SpellsItem item.now) }
+    ensures accepted { SpellsItem item.now → IfErr result IsOutOfMemory }
+    ensures refused { IfErr result (λ e. Fails (length item.now) e (read_value item.now)) }
+{
+    match task {
+        Task::Read => {
+            let _value = from_slice(alloc, item)?;
+            Ok(())
+        }
+        Task::ReadAndWrite => {
+            let _bytes = rewritten(alloc, item)?;
+            Ok(())
+        }
+    }
+}
+
+// The canonical spelling of the item's value.
+fn rewritten(alloc: Global, item: &[u8]) -> Result<Vec<u8>>
+    ensures written { IfOk result (λ bytes. IsRewritten item.now bytes.items) }
+    ensures accepted { SpellsItem item.now → IfErr result IsOutOfMemory }
+    ensures refused { IfErr result (λ e. Fails (length item.now) e (read_value item.now)) }
+{
+    let value = from_slice(alloc, item)?;
+    to_vec(alloc, &value)
+}
