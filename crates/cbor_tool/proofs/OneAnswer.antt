@@ -11,7 +11,7 @@ use Rattle.cbor_model.specs.Canonical.{canon}
 use Rattle.cbor_model.specs.Refusal.{words, at_offset}
 use Rattle.cbor_model.specs.Plain.{Val}
 use Rattle.cbor_model.specs.Reader.{Fault, read_value}
-use Rattle.cbor_tool.specs.Answer.{hex_digit, hex, IsHexOf, IsRefusalText, IsAnswer, canonical, refused, not_hexadecimal, OneAnswer}
+use Rattle.cbor_tool.specs.Answer.{hex_digit, hex, IsHexOf, IsRefusalText, canonical, refused, not_hexadecimal, OneAnswer}
 use Rattle.cbor_model.proofs.Proved.{one_spelling}
 
 -- ---- hexadecimal

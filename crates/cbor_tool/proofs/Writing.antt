@@ -4,7 +4,7 @@ use Rattle.std.proofs.Math.Seq.{take-length}
 use Rattle.std.specs.Io.KnownBytes.{Appends, Keeps}
 use Rattle.std.proofs.KnownBytes.{Appends-nil, Appends-trans, Appends-kept}
 use Rattle.cbor_tool.specs.Answer.{IsAnswer}
-use Rattle.cbor_tool.specs.Run.{BeginsAnswer, AppendsAnswers, AppendsUpTo}
+use Rattle.cbor_tool.specs.Run.{AppendsAnswers, AppendsUpTo}
 use Rattle.cbor_tool.specs.Steps.{WritesFront, WritesBeginning}
 
 -- ---- tries that left the writer as it was
