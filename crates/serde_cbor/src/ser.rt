@@ -243,4 +243,8 @@ fn write_head(out: &mut Vec<u8>, major: u8, n: u64) -> Result<()>
 }
 
 #[cfg(test)]
+mod byte_order_tests;
+#[cfg(test)]
+mod normal_tests;
+#[cfg(test)]
 mod tests;
