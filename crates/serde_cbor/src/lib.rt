@@ -25,4 +25,8 @@ pub use cbor_value as value;
 pub use cbor_value::Value;
 
 #[cfg(test)]
+mod byte_order_tests;
+#[cfg(test)]
+mod normal_tests;
+#[cfg(test)]
 mod tests;

@@ -1,0 +1,84 @@
+ghost use Rattle.std.specs.Prelude.{◌≡◌, IfOk};
+
+use crate::value::Float;
+use crate::{Value, to_vec};
+use std::alloc::{AllocError, Global};
+use std::cmp::Ordering;
+use std::test::Fail;
+
+fn text(alloc: Global, text: &str) -> Result<Value, AllocError> {
+    Ok(Value::Text(text.to_owned(alloc)?))
+}
+
+fn array(alloc: Global, items: &[i128]) -> Result<Value, AllocError> {
+    let mut values = Vec::new(alloc);
+    for item in items {
+        values.push(Value::Integer(*item))?;
+    }
+    Ok(Value::Array(values))
+}
+
+fn tagged_null(alloc: Global, tag: u64) -> Result<Value, AllocError> {
+    match Box::new(alloc, Value::Null) {
+        Ok(inner) => Ok(Value::Tag(tag, inner)),
+        Err(_) => Err(AllocError),
+    }
+}
+
+// Each is less than the next (draft-ietf-cbor-7049bis-04, section 4.10): a longer head, another
+// major type, a longer text, more items, greater items, a greater tag, and then major type 7.
+#[test]
+fn values_and_their_bytes_stand_in_one_order(rt: HostRuntime) -> Result<(), Fail> {
+    let alloc = rt.alloc();
+    let ascending = [
+        Value::Integer(23),
+        Value::Integer(24),
+        Value::Integer(-1),
+        text(alloc, "b")?,
+        text(alloc, "aa")?,
+        array(alloc, &[100])?,
+        array(alloc, &[0, 0])?,
+        array(alloc, &[23, 0])?,
+        array(alloc, &[24, 0])?,
+        tagged_null(alloc, 1)?,
+        tagged_null(alloc, 24)?,
+        Value::Bool(false),
+        Value::Null,
+        Value::Float(Float::Half(0xffff)),
+        Value::Float(Float::Single(0)),
+    ];
+    let mut rows = Vec::new(alloc);
+    for value in ascending {
+        let bytes = to_vec(alloc, &value)?;
+        rows.push((value, bytes))?;
+    }
+    for (i, (a, x)) in rows.iter().enumerate() {
+        for (j, (b, y)) in rows.iter().enumerate() {
+            assert_eq!(rt; a.cmp(b), i.cmp(&j), "{a:?} and {b:?}");
+            assert_eq!(rt;
+                x.as_slice().cmp(y.as_slice()),
+                i.cmp(&j),
+                "{a:?} and {b:?}"
+            );
+        }
+    }
+    Ok(())
+}
+
+/// How two values compare, and how their bytes do: alike, by the contract of `to_vec` alone.
+#[tactic(auto, unfolding(crate::specs::View::flat_of))]
+fn cmp_both(alloc: Global, a: &Value, b: &Value) -> crate::Result<(Ordering, Ordering)>
+    ensures { IfOk result (λ orders. orders.0 ≡ orders.1) }
+{
+    let x = to_vec(alloc, a)?;
+    let y = to_vec(alloc, b)?;
+    Ok((a.cmp(b), x.as_slice().cmp(y.as_slice())))
+}
+
+#[test]
+fn a_caller_compares_bytes_in_place_of_values(rt: HostRuntime) -> Result<(), Fail> {
+    let alloc = rt.alloc();
+    let orders = cmp_both(alloc, &Value::Integer(-1), &text(alloc, "b")?)?;
+    assert_eq!(rt; orders, (Ordering::Less, Ordering::Less));
+    Ok(())
+}

@@ -1,0 +1,48 @@
+ghost use Rattle.std.specs.Prelude.{IfOk, IsTrue};
+
+use crate::{from_slice, to_vec};
+use std::alloc::Global;
+use std::test::Fail;
+
+/// Whether normalising the bytes a second time changes nothing: it never does.
+fn is_normal_after_once(alloc: Global, bytes: &[u8]) -> crate::Result<bool>
+    ensures { IfOk result (λ is_normal. IsTrue is_normal) }
+{
+    let value = from_slice(alloc, bytes)?;
+    let once = to_vec(alloc, &value)?;
+    let again = from_slice(alloc, &once)?;
+    let twice = to_vec(alloc, &again)?;
+    Ok(once.as_slice() == twice.as_slice())
+}
+
+// A number in a long head, a chunked text.
+#[test]
+fn normalises_heads_and_chunks_once(rt: HostRuntime) -> Result<(), Fail> {
+    for bytes in [b"\x18\x17".as_slice(), b"\x7f\x61a\x61b\xff"] {
+        assert!(rt; is_normal_after_once(rt.alloc(), bytes)?);
+    }
+    Ok(())
+}
+
+// A map of indefinite length, with its keys out of order and one of them said twice.
+#[test]
+fn normalises_a_map_once(rt: HostRuntime) -> Result<(), Fail> {
+    let bytes = b"\xbf\x02\x00\x01\x00\x18\x01\x02\xff";
+    assert!(rt; is_normal_after_once(rt.alloc(), bytes)?);
+    Ok(())
+}
+
+// An indefinite length can be shorter than the canonical spelling, which is the least of definite ones.
+#[test]
+fn spells_256_items_up_to_a_break_longer(rt: HostRuntime) -> Result<(), Fail> {
+    let alloc = rt.alloc();
+    let mut open = vec![in alloc; 0x9f]?;
+    for _ in 0..256 {
+        open.push(0xf6)?;
+    }
+    open.push(0xff)?;
+    assert_eq!(rt; open.len(), 258);
+    let spelling = to_vec(alloc, &from_slice(alloc, &open)?)?;
+    assert_eq!(rt; spelling.len(), 259);
+    Ok(())
+}
