@@ -66,7 +66,7 @@ fn values_and_their_bytes_stand_in_one_order(rt: HostRuntime) -> Result<(), Fail
 }
 
 /// How two values compare, and how their bytes do: alike, by the contract of `to_vec` alone.
-#[tactic(auto, unfolding(crate::specs::View::flat_of))]
+#[tactic(auto, unfolding(cbor_value::specs::View::flat_of))]
 fn cmp_both(alloc: Global, a: &Value, b: &Value) -> crate::Result<(Ordering, Ordering)>
     ensures { IfOk result (λ orders. orders.0 ≡ orders.1) }
 {
