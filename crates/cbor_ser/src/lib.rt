@@ -5,7 +5,7 @@
 //! [`to_vec`] alone, and on `specs/Written.antt`, which says when a value is refused.
 #![tactic(auto)]
 
-ghost use Rattle.std.specs.Prelude.{◌≡◌, ◌++◌, ◌<◌, length, IfOk, IfErr, OnOk};
+ghost use Rattle.std.specs.Prelude.{◌≡◌, ◌++◌, length, IfOk, IfErr, OnOk};
 ghost use Rattle.cbor_model.specs.Head.{short};
 ghost use Rattle.cbor_model.specs.Plain as plain;
 ghost use Rattle.cbor_model.specs.Plain.{Val};
@@ -200,7 +200,8 @@ fn write_float(out: &mut Vec<u8>, float: &Float) -> Result<()>
 
 /// Appends the head of a string, and then what it holds.
 fn write_string(out: &mut Vec<u8>, major: Major, content: &[u8]) -> Result<()>
-    ensures written { OnOk result (out.new.items ≡ out.old.items ++ (short (major_number major) (length content.now) ++ content.now)) }
+    ensures written { OnOk result (out.new.items
+        ≡ out.old.items ++ (short (major_number major) (length content.now) ++ content.now)) }
     ensures refused { IfErr result IsOutOfMemory }
 {
     write_head(out, major, content.len() as u64)?;
