@@ -1,5 +1,6 @@
 -- What is asked for, and what doing it shows.
-use Rattle.std.specs.Prelude.{◌≡◌, ℕ, ◌≤◌, List, ◌∷◌}
+use Rattle.std.specs.Prelude.{◌≡◌, ℕ, ◌≤◌, List, ◌∷◌, Option, Some, None, Vec}
+use Rattle.std.specs.declared.alloc.Global.{Global}
 use Rattle.cbor_model.specs.Plain.{Val}
 use Rattle.cbor_model.specs.Canonical.{canon}
 use Rattle.cbor_model.specs.Laws.{SpellsValue}
@@ -28,3 +29,9 @@ SpellsItem bytes = (v : Val) × SpellsValue bytes v
 -- these are the canonical spelling of the value that the bytes spell
 abbrev pub IsRewritten : (bytes written : List ℕ) → Type 0
 IsRewritten bytes written = (v : Val) × SpellsValue bytes v × (written ≡ canon v)
+
+-- What a task leaves of the bytes: nothing, where they were read; what was written.
+abbrev pub Leaves : Task → List ℕ → Option (Vec ℕ Global) → Type 0
+Leaves Read bytes None = SpellsItem bytes
+Leaves ReadAndWrite bytes (Some written) = IsRewritten bytes written.items
+Leaves _ bytes _ = ⊥

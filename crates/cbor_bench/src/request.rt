@@ -1,10 +1,10 @@
 //! What is to be measured.
 
-ghost use Rattle.std.specs.Prelude.{◌<◌, ◌↔◌, length, IfOk, IfErr, IfSome, IsSome, OnOk, OnErr};
+ghost use Rattle.std.specs.Prelude.{◌<◌, ◌↔◌, length, IfOk, IfErr, IfSome, IsSome, OnErr};
 ghost use Rattle.cbor_model.specs.Reader.{read_value};
 ghost use Rattle.serde_cbor.specs.Error.{IsOutOfMemory};
 ghost use Rattle.serde_cbor.specs.Gives.{Fails};
-ghost use Rattle.cbor_bench.specs.Request.{IsRequest, IsRequestOf, SpellsItem, IsRewritten};
+ghost use Rattle.cbor_bench.specs.Request.{IsRequest, IsRequestOf, SpellsItem, IsRewritten, Leaves};
 
 use serde_cbor::{Result, from_slice, to_vec};
 use std::alloc::Global;
@@ -52,40 +52,42 @@ impl<'a> Request<'a> {
         }
     }
 
-    /// Does it as many times as it says, each time from the item's bytes, and keeps nothing.
+    /// Does it as many times as it says, each time from the item's bytes, and answers what the last
+    /// turn wrote.
     ///
     /// It stops at the first refusal, which is `from_slice`'s or for want of memory.
-    pub fn repeat(&self, alloc: Global) -> Result<()>
-        // The bytes spell an acceptable item, if they were read at all.
-        ensures done { OnOk result (0 < self.now.times → SpellsItem self.now.item.now) }
-        // Such an item is refused for want of memory alone.
+    pub fn repeat(&self, alloc: Global) -> Result<Option<Vec<u8>>>
+        ensures done { IfOk result (λ last. 0 < self.now.times
+            → Leaves self.now.task self.now.item.now last) }
+        // An acceptable item is refused for want of memory alone.
         ensures accepted { SpellsItem self.now.item.now → IfErr result IsOutOfMemory }
         // A refusal tells the fault that the reference reader meets, or that memory ran out.
         ensures refused { IfErr result (λ e. Fails (length self.now.item.now) e
             (read_value self.now.item.now)) }
         ensures idle { OnErr result (0 < self.now.times) }
     {
+        let mut last = None;
         'turns: for _ in 0..self.times {
-            perform(alloc, self.task, self.item)?;
+            last = perform(alloc, self.task, self.item)?;
         }
-        Ok(())
+        Ok(last)
     }
 }
 
-// Does it once.
-fn perform(alloc: Global, task: Task, item: &[u8]) -> Result<()>
-    ensures done { OnOk result (SpellsItem item.now) }
+// Does it once, and answers what was written.
+fn perform(alloc: Global, task: Task, item: &[u8]) -> Result<Option<Vec<u8>>>
+    ensures done { IfOk result (Leaves task item.now) }
     ensures accepted { SpellsItem item.now → IfErr result IsOutOfMemory }
     ensures refused { IfErr result (λ e. Fails (length item.now) e (read_value item.now)) }
 {
     match task {
         Task::Read => {
             let _value = from_slice(alloc, item)?;
-            Ok(())
+            Ok(None)
         }
         Task::ReadAndWrite => {
-            let _bytes = rewritten(alloc, item)?;
-            Ok(())
+            let written = rewritten(alloc, item)?;
+            Ok(Some(written))
         }
     }
 }
