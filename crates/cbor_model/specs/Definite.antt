@@ -1,4 +1,5 @@
--- Items of definite lengths: no open forms, and no strings in chunks (RFC 7049, section 2.2, has the others).
+-- Items of definite lengths at each level (RFC 7049, section 2.2, has the indefinite ones, chunked strings
+-- among them).
 use Rattle.cbor_model.specs.Head.{no_bytes, one_byte}
 use Rattle.cbor_model.specs.Raw.{Raw, bytes_chunks, text_chunks, array, array_open, map, map_open, tag, unsigned, Raws, no_raws, raw, RawPairs, no_raw_pairs, raw_pair}
 

@@ -24,7 +24,7 @@ fn normalises_heads_and_chunks_once(rt: HostRuntime) -> Result<(), Fail> {
     Ok(())
 }
 
-// A map in an open form, with its keys out of order and one of them said twice.
+// A map of indefinite length, with its keys out of order and one of them said twice.
 #[test]
 fn normalises_a_map_once(rt: HostRuntime) -> Result<(), Fail> {
     let bytes = b"\xbf\x02\x00\x01\x00\x18\x01\x02\xff";
@@ -32,7 +32,7 @@ fn normalises_a_map_once(rt: HostRuntime) -> Result<(), Fail> {
     Ok(())
 }
 
-// An open form can be shorter than the canonical spelling, which is the least of definite lengths.
+// An indefinite length can be shorter than the canonical spelling, the least of definite ones.
 #[test]
 fn spells_256_items_of_an_open_array_longer(rt: HostRuntime) -> Result<(), Fail> {
     let alloc = rt.alloc();
