@@ -1,5 +1,5 @@
--- Items of definite lengths: no array or map up to a break, and no string in chunks (RFC 7049, section
--- 2.2, has those).
+-- Items of definite lengths at each level (RFC 7049, section 2.2, has the indefinite ones, chunked strings
+-- among them).
 use Rattle.cbor_model.specs.Head.{no_bytes, one_byte}
 use Rattle.cbor_model.specs.Raw.{Length, definite, indefinite, Raw, bytes_chunks, text_chunks, array, map, tag, unsigned, Raws, no_raws, raw, RawPairs, no_raw_pairs, raw_pair}
 

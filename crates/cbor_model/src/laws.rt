@@ -61,8 +61,8 @@ pub fn byte_order()
 {}
 
 /// No spelling of definite lengths is shorter than its value's canonical one, whatever its heads,
-/// the order of its pairs and the keys that it says twice. An open form can be shorter: its break
-/// takes one byte, where a count of 256 takes two behind the first.
+/// the order of its pairs and the keys that it says twice. One of indefinite length can be shorter:
+/// its break takes one byte, where a count of 256 takes two behind the first.
 pub fn least_spelling()
     ensures { LeastSpelling }
 {}

@@ -32,7 +32,7 @@ fn normalises_a_map_once(rt: HostRuntime) -> Result<(), Fail> {
     Ok(())
 }
 
-// An indefinite length can be shorter than the canonical spelling, which is the least of definite ones.
+// An indefinite length can be shorter than the canonical spelling, the least of definite ones.
 #[test]
 fn spells_256_items_up_to_a_break_longer(rt: HostRuntime) -> Result<(), Fail> {
     let alloc = rt.alloc();
