@@ -8,8 +8,8 @@ use Rattle.cbor_model.specs.Head.{HeadWidth}
 use Rattle.cbor_model.specs.Raw.{Chunk, joined}
 use Rattle.cbor_model.specs.Plain.{Val, text, Vals, no_vals, val}
 use Rattle.cbor_model.specs.Refusal.{end_in_array, invalid_utf8}
-use Rattle.cbor_model.specs.Reader.{Fault, Reads, ◌>>=◌, values_within, bytes_at, text_at, checked_text, chunks_at, text_chunks_at, more_at, items_by, open_items_by, item_at}
-use Rattle.cbor_model.proofs.facts.Reader.{ok_is, taken, more_taken, open_items_by-fuel, IsUtf8-from_valid_len}
+use Rattle.cbor_model.specs.Reader.{Fault, Reads, ◌>>=◌, values_within, bytes_at, text_at, checked_text, chunks_at, text_chunks_at, more_at, items_by, indefinite_items_by, item_at}
+use Rattle.cbor_model.proofs.facts.Reader.{ok_is, taken, more_taken, indefinite_items_by-fuel, IsUtf8-from_valid_len}
 use Rattle.cbor_io.specs.declared.error.ErrorCode.{ErrorCode}
 use Rattle.cbor_io.specs.declared.error.ErrorCode.TheVariants as code
 use Rattle.cbor_io.specs.declared.error.Error.{Error}
@@ -93,35 +93,35 @@ module _ (end levels : ℕ) where
 
   -- ---- items up to a break
 
-  abbrev pub open_values_at : List ℕ → Reads Vals
-  open_values_at bs = open_items_by (values_within end) value_at (suc (length bs)) bs
+  abbrev pub indefinite_values_at : List ℕ → Reads Vals
+  indefinite_values_at bs = indefinite_items_by (values_within end) value_at (suc (length bs)) bs
 
-  pub open_goes_on : (front : List Val) (bs mid after : List ℕ) (v : Val) (all : Reads Vals) → more_at end_in_array bs ≡ Ok (true, mid) → value_at mid ≡ Ok (v, after)
-      → with_front front (open_values_at bs) ≡ all → with_front (front ++ v ∷ []) (open_values_at after) ≡ all
-  unfolding open_items_by
-  open_goes_on front bs mid after v all more h so_far =
+  pub indefinite_goes_on : (front : List Val) (bs mid after : List ℕ) (v : Val) (all : Reads Vals) → more_at end_in_array bs ≡ Ok (true, mid) → value_at mid ≡ Ok (v, after)
+      → with_front front (indefinite_values_at bs) ≡ all → with_front (front ++ v ∷ []) (indefinite_values_at after) ≡ all
+  unfolding indefinite_items_by
+  indefinite_goes_on front bs mid after v all more h so_far =
       let m = values_within end in
       let shorter : length after < length bs = omega (arith, taken m levels mid (v, after) h, more_taken end_in_array bs (true, mid) more) in
-      let fuel = open_items_by-fuel m value_at (taken m levels) (length bs) (suc (length after)) after shorter (omega arith) in
-      let one : with_front front (open_values_at bs) ≡ with_front (front ++ v ∷ []) (open_values_at after) = rw (more, h) (regroup front v (open_items_by m value_at (length bs) after) ∙ ap (with_front (front ++ v ∷ [])) fuel) in
+      let fuel = indefinite_items_by-fuel m value_at (taken m levels) (length bs) (suc (length after)) after shorter (omega arith) in
+      let one : with_front front (indefinite_values_at bs) ≡ with_front (front ++ v ∷ []) (indefinite_values_at after) = rw (more, h) (regroup front v (indefinite_items_by m value_at (length bs) after) ∙ ap (with_front (front ++ v ∷ [])) fuel) in
       sym one ∙ so_far
 
-  pub open_faulted : (front : List Val) (bs mid : List ℕ) (all : Reads Vals) → more_at end_in_array bs ≡ Ok (true, mid) → with_front front (open_values_at bs) ≡ all → (f : Fault) → value_at mid ≡ Err f → all ≡ Err f
-  unfolding open_items_by
-  open_faulted front bs mid all more so_far f h =
-      let one : with_front front (open_values_at bs) ≡ Err f = rw (more, h) refl in
+  pub indefinite_faulted : (front : List Val) (bs mid : List ℕ) (all : Reads Vals) → more_at end_in_array bs ≡ Ok (true, mid) → with_front front (indefinite_values_at bs) ≡ all → (f : Fault) → value_at mid ≡ Err f → all ≡ Err f
+  unfolding indefinite_items_by
+  indefinite_faulted front bs mid all more so_far f h =
+      let one : with_front front (indefinite_values_at bs) ≡ Err f = rw (more, h) refl in
       sym so_far ∙ one
 
-  pub open_cut : (front : List Val) (bs : List ℕ) (all : Reads Vals) → with_front front (open_values_at bs) ≡ all → (f : Fault) → more_at end_in_array bs ≡ Err f → all ≡ Err f
-  unfolding open_items_by
-  open_cut front bs all so_far f h =
-      let one : with_front front (open_values_at bs) ≡ Err f = rw h refl in
+  pub indefinite_cut : (front : List Val) (bs : List ℕ) (all : Reads Vals) → with_front front (indefinite_values_at bs) ≡ all → (f : Fault) → more_at end_in_array bs ≡ Err f → all ≡ Err f
+  unfolding indefinite_items_by
+  indefinite_cut front bs all so_far f h =
+      let one : with_front front (indefinite_values_at bs) ≡ Err f = rw h refl in
       sym so_far ∙ one
 
-  pub open_is_done : (front : List Val) (bs after : List ℕ) (all : Reads Vals) → more_at end_in_array bs ≡ Ok (false, after) → with_front front (open_values_at bs) ≡ all → all ≡ Ok (vals_of front, after)
-  unfolding open_items_by
-  open_is_done front bs after all more so_far =
-      let one : with_front front (open_values_at bs) ≡ Ok (vals_of front, after) = rw more (ap (λ (vs : Vals). Ok (vs, after)) (append-none front)) in
+  pub indefinite_is_done : (front : List Val) (bs after : List ℕ) (all : Reads Vals) → more_at end_in_array bs ≡ Ok (false, after) → with_front front (indefinite_values_at bs) ≡ all → all ≡ Ok (vals_of front, after)
+  unfolding indefinite_items_by
+  indefinite_is_done front bs after all more so_far =
+      let one : with_front front (indefinite_values_at bs) ≡ Ok (vals_of front, after) = rw more (ap (λ (vs : Vals). Ok (vs, after)) (append-none front)) in
       sym so_far ∙ one
 
 -- ---- texts

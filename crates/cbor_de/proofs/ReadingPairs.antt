@@ -3,8 +3,8 @@ use Rattle.std.proofs.Common.{◌≡◌, ℕ, suc, ◌-◌, ◌+◌, ◌≤◌, 
 use Rattle.cbor_model.specs.Plain.{Val, Pairs}
 use Rattle.cbor_model.specs.Value.{put}
 use Rattle.cbor_model.specs.Refusal.{end_in_map}
-use Rattle.cbor_model.specs.Reader.{Fault, Reads, ◌>>=◌, values_within, more_at, pairs_by, open_pairs_by}
-use Rattle.cbor_model.proofs.facts.Reader.{taken, more_taken, open_pairs_by-fuel}
+use Rattle.cbor_model.specs.Reader.{Fault, Reads, ◌>>=◌, values_within, more_at, pairs_by, indefinite_pairs_by}
+use Rattle.cbor_model.proofs.facts.Reader.{taken, more_taken, indefinite_pairs_by-fuel}
 use Rattle.cbor_de.proofs.Reading.{value_at}
 
 -- the pairs so far, with those that are still read put in
@@ -51,39 +51,39 @@ module _ (end levels : ℕ) where
 
   -- ---- pairs up to a break
 
-  abbrev pub open_pairs_at : List ℕ → Reads (Pairs → Pairs)
-  open_pairs_at bs = open_pairs_by (values_within end) (value_at end levels) (suc (length bs)) bs
+  abbrev pub indefinite_pairs_at : List ℕ → Reads (Pairs → Pairs)
+  indefinite_pairs_at bs = indefinite_pairs_by (values_within end) (value_at end levels) (suc (length bs)) bs
 
-  pub open_pairs_go_on : (earlier : Pairs) (bs begun mid after : List ℕ) (k v : Val) (all : Reads Pairs) → more_at end_in_map bs ≡ Ok (true, begun) → value_at end levels begun ≡ Ok (k, mid) → value_at end levels mid ≡ Ok (v, after)
-      → with_earlier earlier (open_pairs_at bs) ≡ all → with_earlier (put k v earlier) (open_pairs_at after) ≡ all
-  unfolding open_pairs_by
-  open_pairs_go_on earlier bs begun mid after k v all more first second so_far =
+  pub indefinite_pairs_go_on : (earlier : Pairs) (bs begun mid after : List ℕ) (k v : Val) (all : Reads Pairs) → more_at end_in_map bs ≡ Ok (true, begun) → value_at end levels begun ≡ Ok (k, mid) → value_at end levels mid ≡ Ok (v, after)
+      → with_earlier earlier (indefinite_pairs_at bs) ≡ all → with_earlier (put k v earlier) (indefinite_pairs_at after) ≡ all
+  unfolding indefinite_pairs_by
+  indefinite_pairs_go_on earlier bs begun mid after k v all more first second so_far =
       let m = values_within end in
       let shorter : length after < length bs = omega (arith, taken m levels begun (k, mid) first, taken m levels mid (v, after) second, more_taken end_in_map bs (true, begun) more) in
-      let fuel = open_pairs_by-fuel m (value_at end levels) (taken m levels) (length bs) (suc (length after)) after shorter (omega arith) in
-      let one : with_earlier earlier (open_pairs_at bs) ≡ with_earlier (put k v earlier) (open_pairs_at after) = rw (more, first, second) (put_first earlier k v (open_pairs_by m (value_at end levels) (length bs) after) ∙ ap (with_earlier (put k v earlier)) fuel) in
+      let fuel = indefinite_pairs_by-fuel m (value_at end levels) (taken m levels) (length bs) (suc (length after)) after shorter (omega arith) in
+      let one : with_earlier earlier (indefinite_pairs_at bs) ≡ with_earlier (put k v earlier) (indefinite_pairs_at after) = rw (more, first, second) (put_first earlier k v (indefinite_pairs_by m (value_at end levels) (length bs) after) ∙ ap (with_earlier (put k v earlier)) fuel) in
       sym one ∙ so_far
 
-  pub open_key_faulted : (earlier : Pairs) (bs begun : List ℕ) (all : Reads Pairs) → more_at end_in_map bs ≡ Ok (true, begun) → with_earlier earlier (open_pairs_at bs) ≡ all → (f : Fault) → value_at end levels begun ≡ Err f → all ≡ Err f
-  unfolding open_pairs_by
-  open_key_faulted earlier bs begun all more so_far f h =
-      let one : with_earlier earlier (open_pairs_at bs) ≡ Err f = rw (more, h) refl in
+  pub indefinite_key_faulted : (earlier : Pairs) (bs begun : List ℕ) (all : Reads Pairs) → more_at end_in_map bs ≡ Ok (true, begun) → with_earlier earlier (indefinite_pairs_at bs) ≡ all → (f : Fault) → value_at end levels begun ≡ Err f → all ≡ Err f
+  unfolding indefinite_pairs_by
+  indefinite_key_faulted earlier bs begun all more so_far f h =
+      let one : with_earlier earlier (indefinite_pairs_at bs) ≡ Err f = rw (more, h) refl in
       sym so_far ∙ one
 
-  pub open_value_faulted : (earlier : Pairs) (bs begun mid : List ℕ) (k : Val) (all : Reads Pairs) → more_at end_in_map bs ≡ Ok (true, begun) → value_at end levels begun ≡ Ok (k, mid) → with_earlier earlier (open_pairs_at bs) ≡ all → (f : Fault) → value_at end levels mid ≡ Err f → all ≡ Err f
-  unfolding open_pairs_by
-  open_value_faulted earlier bs begun mid k all more first so_far f h =
-      let one : with_earlier earlier (open_pairs_at bs) ≡ Err f = rw (more, first, h) refl in
+  pub indefinite_value_faulted : (earlier : Pairs) (bs begun mid : List ℕ) (k : Val) (all : Reads Pairs) → more_at end_in_map bs ≡ Ok (true, begun) → value_at end levels begun ≡ Ok (k, mid) → with_earlier earlier (indefinite_pairs_at bs) ≡ all → (f : Fault) → value_at end levels mid ≡ Err f → all ≡ Err f
+  unfolding indefinite_pairs_by
+  indefinite_value_faulted earlier bs begun mid k all more first so_far f h =
+      let one : with_earlier earlier (indefinite_pairs_at bs) ≡ Err f = rw (more, first, h) refl in
       sym so_far ∙ one
 
-  pub open_pairs_cut : (earlier : Pairs) (bs : List ℕ) (all : Reads Pairs) → with_earlier earlier (open_pairs_at bs) ≡ all → (f : Fault) → more_at end_in_map bs ≡ Err f → all ≡ Err f
-  unfolding open_pairs_by
-  open_pairs_cut earlier bs all so_far f h =
-      let one : with_earlier earlier (open_pairs_at bs) ≡ Err f = rw h refl in
+  pub indefinite_pairs_cut : (earlier : Pairs) (bs : List ℕ) (all : Reads Pairs) → with_earlier earlier (indefinite_pairs_at bs) ≡ all → (f : Fault) → more_at end_in_map bs ≡ Err f → all ≡ Err f
+  unfolding indefinite_pairs_by
+  indefinite_pairs_cut earlier bs all so_far f h =
+      let one : with_earlier earlier (indefinite_pairs_at bs) ≡ Err f = rw h refl in
       sym so_far ∙ one
 
-  pub open_pairs_done : (earlier : Pairs) (bs after : List ℕ) (all : Reads Pairs) → more_at end_in_map bs ≡ Ok (false, after) → with_earlier earlier (open_pairs_at bs) ≡ all → all ≡ Ok (earlier, after)
-  unfolding open_pairs_by
-  open_pairs_done earlier bs after all more so_far =
-      let one : with_earlier earlier (open_pairs_at bs) ≡ Ok (earlier, after) = rw more refl in
+  pub indefinite_pairs_done : (earlier : Pairs) (bs after : List ℕ) (all : Reads Pairs) → more_at end_in_map bs ≡ Ok (false, after) → with_earlier earlier (indefinite_pairs_at bs) ≡ all → all ≡ Ok (earlier, after)
+  unfolding indefinite_pairs_by
+  indefinite_pairs_done earlier bs after all more so_far =
+      let one : with_earlier earlier (indefinite_pairs_at bs) ≡ Ok (earlier, after) = rw more refl in
       sym so_far ∙ one

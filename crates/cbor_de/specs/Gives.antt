@@ -4,8 +4,8 @@ use Rattle.cbor_model.specs.Refusal.{Refusal, end_in_value, end_in_array, end_in
 use Rattle.cbor_model.specs.Raw.{Chunk, joined}
 use Rattle.cbor_model.specs.Plain.{Val, Vals, Pairs, no_pairs}
 use Rattle.cbor_model.specs.Reader.{Fault, Reads, ◌>>=◌, Reading, values_within}
-use Rattle.cbor_de.specs.declared.source.Open.{Open}
-use Rattle.cbor_de.specs.declared.source.Open.TheVariants.{Array, Map}
+use Rattle.cbor_de.specs.declared.source.Collection.{Collection}
+use Rattle.cbor_de.specs.declared.source.Collection.TheVariants.{Array, Map}
 use Rattle.cbor_io.specs.declared.error.ErrorCode.{ErrorCode}
 use Rattle.cbor_io.specs.declared.error.ErrorCode.TheVariants.{EofWhileParsingValue, EofWhileParsingArray, EofWhileParsingMap, LengthOutOfRange, InvalidUtf8, UnassignedCode, UnexpectedCode, TrailingData, RecursionLimitExceeded, OutOfMemory}
 use Rattle.cbor_io.specs.declared.error.Error.{Error}
@@ -21,7 +21,7 @@ abbrev pub total : Input → ℕ
 total i = i.at + length i.rest
 
 -- what an input is that ends in this form
-abbrev pub end_of : Open → Refusal
+abbrev pub end_of : Collection → Refusal
 end_of Array = end_in_array
 end_of Map = end_in_map
 

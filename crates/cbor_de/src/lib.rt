@@ -31,12 +31,12 @@ const MAX_DEPTH: u8 = 127;
 
 /// The value of the one item that the bytes spell (RFC 7049, sections 2.1 to 2.4).
 ///
-/// Heads that aren't shortest, open forms and chunked strings are read too. Null and undefined are
+/// Heads that aren't shortest, indefinite lengths are read too. Null and undefined are
 /// `Null`; of a map's pairs with one key the last value stays, and the keys are put in order.
 ///
 /// The refusals, each at an offset in bytes:
 /// - `EofWhileParsingValue`, `EofWhileParsingArray`, `EofWhileParsingMap`: the bytes end too early,
-///   the latter two where an element of an open array or a key of an open map, or its break, is due;
+///   the latter two where an element of an array or a key of a map of indefinite length, or its break, is due;
 ///   at the end of the bytes;
 /// - `UnassignedCode`: a first byte that the format doesn't assign, after that byte;
 /// - `UnexpectedCode`: a break, or a byte in a chunk's place, that may not stand there, after it;

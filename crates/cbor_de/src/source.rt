@@ -10,12 +10,13 @@ ghost use Rattle.cbor_io.specs.declared.error.ErrorCode.TheVariants.{EofWhilePar
 use cbor_io::error::{Error, ErrorCode, Result};
 use std::marker::Model;
 
-/// The byte that ends an open form and the chunks of a string (RFC 7049, section 2.2).
+/// The byte that ends an indefinite length: of an array, a map, or a string in chunks (RFC 7049,
+/// section 2.2).
 pub const BREAK: u8 = 0xff;
 
-/// The forms that a break ends.
+/// What holds items, and can end by a break.
 #[derive(Clone, Copy)]
-pub enum Open {
+pub enum Collection {
     Array,
     Map,
 }
@@ -123,15 +124,15 @@ impl<'a> Source<'a> {
 
     /// Whether another element comes. If not, the break is taken.
     #[tactic(auto, unfolding(cbor_model::specs::Reader::more_at))]
-    pub fn more(&mut self, form: Open) -> Result<bool>
-        ensures read { GivesAt (λ b. b) (more_at (end_of form)) self.old self.new result }
+    pub fn more(&mut self, of: Collection) -> Result<bool>
+        ensures read { GivesAt (λ b. b) (more_at (end_of of)) self.old self.new result }
         ensures forward { self.old.at ≤ self.new.at }
         ensures total { total self.new ≡ total self.old }
     {
         if self.at == self.bytes.len() {
-            let code = match form {
-                Open::Array => ErrorCode::EofWhileParsingArray,
-                Open::Map => ErrorCode::EofWhileParsingMap,
+            let code = match of {
+                Collection::Array => ErrorCode::EofWhileParsingArray,
+                Collection::Map => ErrorCode::EofWhileParsingMap,
             };
             return Err(Error::at(code, self.at as u64));
         }

@@ -50,7 +50,7 @@ fn refuses_the_end_within_chunks(rt: HostRuntime) -> Result<(), Fail> {
 }
 
 #[test]
-fn refuses_the_end_of_open_forms(rt: HostRuntime) -> Result<(), Fail> {
+fn refuses_the_end_of_indefinite_lengths(rt: HostRuntime) -> Result<(), Fail> {
     are_refused(
         &rt,
         rt.alloc(),

@@ -1,11 +1,11 @@
 //! The item at the front of a source, as a value.
 
 ghost use Rattle.std.specs.Prelude.{◌≡◌, ◌+◌, ◌<◌, ◌≤◌, suc, length, IfOk, OnOk};
-ghost use Rattle.cbor_model.specs.Reader.{inside, width_of, float_at, simple_at, text_at, items_by, open_items_by, pairs_by, open_pairs_by, array_at, open_array_at, map_at, open_map_at, tag_at, content_at, open_at, string_chunks_at, text_chunks_at, chunks_at, after_first, item_at};
+ghost use Rattle.cbor_model.specs.Reader.{inside, width_of, float_at, simple_at, text_at, items_by, indefinite_items_by, pairs_by, indefinite_pairs_by, array_at, indefinite_array_at, map_at, indefinite_map_at, tag_at, content_at, indefinite_at, string_chunks_at, text_chunks_at, chunks_at, after_first, item_at};
 ghost use Rattle.cbor_value.specs.View.{view, views, float_view, map_view};
 ghost use Rattle.cbor_de.specs.Gives.{GivesFrom, total, joined_of, made_of};
 
-use super::source::{BREAK, Open, Source};
+use super::source::{BREAK, Collection, Source};
 use cbor_io::error::{ErrorCode, Result};
 use cbor_value::{Float, Map, Value};
 use std::alloc::Global;
@@ -25,8 +25,8 @@ const MAP: u8 = 5;
 
 const SIMPLE: u8 = 7;
 
-// The lower five bits of the first byte of an open form or of a chunked string.
-const OPEN: u8 = 31;
+// The lower five bits of the first byte of an indefinite length.
+const INDEFINITE: u8 = 31;
 
 /// Reads an item, where so many levels are left.
 #[cycle(read)]
@@ -55,8 +55,8 @@ fn read_after(alloc: Global, source: &mut Source<'_>, levels: u8, first: u8) -> 
     if major == SIMPLE {
         return read_simple(source, low);
     }
-    if low == OPEN {
-        return read_open(alloc, source, levels, major);
+    if low == INDEFINITE {
+        return read_indefinite(alloc, source, levels, major);
     }
     let n = source.number(low)?;
     read_content(alloc, source, levels, major, low, n)
@@ -93,12 +93,12 @@ fn read_content(
     }
 }
 
-/// Reads what follows the first byte of an open form or of a chunked string.
+/// Reads what follows the first byte of an indefinite length.
 #[cycle(read)]
-#[tactic(auto, unfolding(cbor_model::specs::Reader::open_at))]
-fn read_open(alloc: Global, source: &mut Source<'_>, levels: u8, major: u8) -> Result<Value>
+#[tactic(auto, unfolding(cbor_model::specs::Reader::indefinite_at))]
+fn read_indefinite(alloc: Global, source: &mut Source<'_>, levels: u8, major: u8) -> Result<Value>
     ensures read { GivesFrom view
-        (λ m. open_at m (inside m levels) major)
+        (λ m. indefinite_at m (inside m levels) major)
         source.old source.new result }
     ensures forward { OnOk result (source.old.at ≤ source.new.at) }
     ensures total { total source.new ≡ total source.old }
@@ -106,8 +106,8 @@ fn read_open(alloc: Global, source: &mut Source<'_>, levels: u8, major: u8) -> R
     match major {
         BYTES => read_byte_chunks(alloc, source),
         TEXT => read_text_chunks(alloc, source),
-        ARRAY => read_open_array(alloc, source, levels),
-        MAP => read_open_map(alloc, source, levels),
+        ARRAY => read_indefinite_array(alloc, source, levels),
+        MAP => read_indefinite_map(alloc, source, levels),
         _ => Err(source.fault(ErrorCode::UnassignedCode)),
     }
 }
@@ -209,32 +209,32 @@ fn read_items(alloc: Global, source: &mut Source<'_>, levels: u8, n: u64) -> Res
     Ok(items)
 }
 
-/// Reads an open array behind its first byte.
+/// Reads an array of indefinite length behind its first byte.
 #[cycle(read)]
-#[tactic(auto, unfolding(cbor_model::specs::Reader::open_array_at))]
-fn read_open_array(alloc: Global, source: &mut Source<'_>, levels: u8) -> Result<Value>
+#[tactic(auto, unfolding(cbor_model::specs::Reader::indefinite_array_at))]
+fn read_indefinite_array(alloc: Global, source: &mut Source<'_>, levels: u8) -> Result<Value>
     ensures read { GivesFrom view
-        (λ m. open_array_at m (inside m levels))
+        (λ m. indefinite_array_at m (inside m levels))
         source.old source.new result }
     ensures forward { OnOk result (source.old.at ≤ source.new.at) }
     ensures total { total source.new ≡ total source.old }
 {
     let inner = source.enter(levels)?;
-    let items = read_open_items(alloc, source, inner)?;
+    let items = read_indefinite_items(alloc, source, inner)?;
     Ok(Value::Array(items))
 }
 
 /// Reads items up to the break, where so many levels are left.
 #[cycle(read)]
-fn read_open_items(alloc: Global, source: &mut Source<'_>, levels: u8) -> Result<Vec<Value>>
+fn read_indefinite_items(alloc: Global, source: &mut Source<'_>, levels: u8) -> Result<Vec<Value>>
     ensures read { GivesFrom (λ v. views v.items)
-        (λ m bs. open_items_by m (item_at m levels) (suc (length bs)) bs)
+        (λ m bs. indefinite_items_by m (item_at m levels) (suc (length bs)) bs)
         source.old source.new result }
     ensures forward { OnOk result (source.old.at ≤ source.new.at) }
     ensures total { total source.new ≡ total source.old }
 {
     let mut items = Vec::new(alloc);
-    'items: while source.more(Open::Array)? {
+    'items: while source.more(Collection::Array)? {
         let item = read_value(alloc, source, levels)?;
         items.push(item)?;
     }
@@ -275,32 +275,32 @@ fn read_pairs(alloc: Global, source: &mut Source<'_>, levels: u8, n: u64) -> Res
     Ok(map)
 }
 
-/// Reads an open map behind its first byte.
+/// Reads a map of indefinite length behind its first byte.
 #[cycle(read)]
-#[tactic(auto, unfolding(cbor_model::specs::Reader::open_map_at))]
-fn read_open_map(alloc: Global, source: &mut Source<'_>, levels: u8) -> Result<Value>
+#[tactic(auto, unfolding(cbor_model::specs::Reader::indefinite_map_at))]
+fn read_indefinite_map(alloc: Global, source: &mut Source<'_>, levels: u8) -> Result<Value>
     ensures read { GivesFrom view
-        (λ m. open_map_at m (inside m levels))
+        (λ m. indefinite_map_at m (inside m levels))
         source.old source.new result }
     ensures forward { OnOk result (source.old.at ≤ source.new.at) }
     ensures total { total source.new ≡ total source.old }
 {
     let inner = source.enter(levels)?;
-    let map = read_open_pairs(alloc, source, inner)?;
+    let map = read_indefinite_pairs(alloc, source, inner)?;
     Ok(Value::Map(map))
 }
 
 /// Reads pairs up to the break, where so many levels are left.
 #[cycle(read)]
-fn read_open_pairs(alloc: Global, source: &mut Source<'_>, levels: u8) -> Result<Map>
+fn read_indefinite_pairs(alloc: Global, source: &mut Source<'_>, levels: u8) -> Result<Map>
     ensures read { GivesFrom map_view
-        (λ m bs. made_of (open_pairs_by m (item_at m levels) (suc (length bs)) bs))
+        (λ m bs. made_of (indefinite_pairs_by m (item_at m levels) (suc (length bs)) bs))
         source.old source.new result }
     ensures forward { OnOk result (source.old.at ≤ source.new.at) }
     ensures total { total source.new ≡ total source.old }
 {
     let mut pairs = Vec::new(alloc);
-    'pairs: while source.more(Open::Map)? {
+    'pairs: while source.more(Collection::Map)? {
         let key = read_value(alloc, source, levels)?;
         let value = read_value(alloc, source, levels)?;
         pairs.push((key, value))?;

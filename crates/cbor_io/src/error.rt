@@ -27,9 +27,9 @@ pub enum ErrorCode {
     ScratchTooSmall,
     /// The input ended where an item, or a part of it, was wanted.
     EofWhileParsingValue,
-    /// The input ended where an element or the break of an open array was wanted.
+    /// The input ended where an element or the break of an array of indefinite length was wanted.
     EofWhileParsingArray,
-    /// The input ended where a key or the break of an open map was wanted.
+    /// The input ended where a key or the break of a map of indefinite length was wanted.
     EofWhileParsingMap,
     /// A text would end past 2^64 - 1 bytes.
     LengthOutOfRange,

@@ -10,7 +10,7 @@ use Rattle.cbor_model.specs.Raw as raw
 use Rattle.cbor_model.specs.Raw.{Length, definite, indefinite, Raw, Raws, no_raws, RawPairs, no_raw_pairs, raw_pair, Chunk, joined, Simple, false_item, true_item, null_item, undefined_item, FloatWidth, half, single, double, float_limit, count, pair_count, depth, depth_all, depth_pairs, IsChunk, IsWellFormed, AreWellFormed, ArePairsWellFormed, EachText, EachTextOfAll, EachTextOfPairs}
 use Rattle.cbor_model.specs.Spelling.{spell, spell_all, spell_pairs, chunk, simple_byte, float_spelling, break}
 use Rattle.cbor_model.specs.Refusal.{Refusal, end_in_array, end_in_map}
-use Rattle.cbor_model.specs.Reader.{Reads, ◌>>=◌, Reading, byte_at, float_at, simple_at, string_at, checked_text, text_at, chunk_at, chunks_by, string_chunks_at, text_chunks_at, items_by, more_at, open_items_by, pairs_by, open_pairs_by, array_at, map_at, tag_at, open_array_at, open_map_at, content_at, open_at, after_first, item_by, item_at, inside}
+use Rattle.cbor_model.specs.Reader.{Reads, ◌>>=◌, Reading, byte_at, float_at, simple_at, string_at, checked_text, text_at, chunk_at, chunks_by, string_chunks_at, text_chunks_at, items_by, more_at, indefinite_items_by, pairs_by, indefinite_pairs_by, array_at, map_at, tag_at, indefinite_array_at, indefinite_map_at, content_at, indefinite_at, after_first, item_by, item_at, inside}
 use Rattle.cbor_model.proofs.Made.{made, made_all, made_pairs}
 use Rattle.cbor_model.proofs.Steps.{bytes_again, wide16, wide32, wide64, number_again, info-below, width_of-info, number_behind_again, major_of, low_of}
 use Rattle.cbor_model.proofs.Found.{Passes}
@@ -132,8 +132,8 @@ module _ {Item Items Pairs : Type 0} (m : Reading Item Items Pairs) where
       let below = info-below w n fits in
       let small : info w n < 32 = omega arith in
       let not_seven : eqb major 7 ≡ false = ne_eqb major 7 (λ same. omega arith) in
-      let not_open : eqb (info w n) 31 ≡ false = ne_eqb (info w n) 31 (λ same. omega arith) in
-      rw (major_of major (info w n) small, low_of major (info w n) small, not_seven, not_open, number_behind_again w n rest fits, width_of-info w n fits) refl
+      let not_indefinite : eqb (info w n) 31 ≡ false = ne_eqb (info w n) 31 (λ same. omega arith) in
+      rw (major_of major (info w n) small, low_of major (info w n) small, not_seven, not_indefinite, number_behind_again w n rest fits, width_of-info w n fits) refl
 
   simple_again : (inner : Option (List ℕ → Reads Item)) (s : Simple) (rest : List ℕ) → item_by m inner (simple_byte s ∷ rest) ≡ Ok (m.simple s, rest)
   unfolding item_by byte_at after_first simple_at
@@ -162,11 +162,11 @@ module _ {Item Items Pairs : Type 0} (m : Reading Item Items Pairs) where
       chunks_again major cs _ rest at_most fits (omega (arith, chunk_count-le major cs, length-append (flat_map (chunk major) cs) (0xff ∷ rest)))
 
   string_chunks_again : (inner : Option (List ℕ → Reads Item)) (cs : List Chunk) (rest : List ℕ) → AllByRecursion IsChunk cs → item_by m inner (0x5f ∷ (flat_map (chunk 2) cs ++ (0xff ∷ rest))) ≡ Ok (m.bytes_chunks cs, rest)
-  unfolding item_by byte_at after_first open_at string_chunks_at
+  unfolding item_by byte_at after_first indefinite_at string_chunks_at
   string_chunks_again inner cs rest fits = rw (all_chunks_again 2 cs rest (omega arith) fits) refl
 
   text_chunks_again : (inner : Option (List ℕ → Reads Item)) (cs : List Chunk) (rest : List ℕ) → AllByRecursion IsChunk cs → Passes m (joined cs) → item_by m inner (0x7f ∷ (flat_map (chunk 3) cs ++ (0xff ∷ rest))) ≡ Ok (m.text_chunks cs, rest)
-  unfolding item_by byte_at after_first open_at text_chunks_at checked_text
+  unfolding item_by byte_at after_first indefinite_at text_chunks_at checked_text
   text_chunks_again inner cs rest fits passes = rw (all_chunks_again 3 cs rest (omega arith) fits, passes) refl
 
   -- ---- what lies one level further in, by a reader p that reads it
@@ -184,30 +184,30 @@ module _ {Item Items Pairs : Type 0} (m : Reading Item Items Pairs) where
   unfolding tag_at
   tag_again p w n bs rest item is = rw is refl
 
-  open_array_again : (p : List ℕ → Reads Item) (bs rest : List ℕ) (items : Items) → open_items_by m p (suc (length bs)) bs ≡ Ok (items, rest) → item_by m (Some p) (0x9f ∷ bs) ≡ Ok (m.array indefinite items, rest)
-  unfolding item_by byte_at after_first open_at open_array_at
-  open_array_again p bs rest items is = rw is refl
+  indefinite_array_again : (p : List ℕ → Reads Item) (bs rest : List ℕ) (items : Items) → indefinite_items_by m p (suc (length bs)) bs ≡ Ok (items, rest) → item_by m (Some p) (0x9f ∷ bs) ≡ Ok (m.array indefinite items, rest)
+  unfolding item_by byte_at after_first indefinite_at indefinite_array_at
+  indefinite_array_again p bs rest items is = rw is refl
 
-  open_map_again : (p : List ℕ → Reads Item) (bs rest : List ℕ) (pairs : Pairs) → open_pairs_by m p (suc (length bs)) bs ≡ Ok (pairs, rest) → item_by m (Some p) (0xbf ∷ bs) ≡ Ok (m.map indefinite pairs, rest)
-  unfolding item_by byte_at after_first open_at open_map_at
-  open_map_again p bs rest pairs is = rw is refl
+  indefinite_map_again : (p : List ℕ → Reads Item) (bs rest : List ℕ) (pairs : Pairs) → indefinite_pairs_by m p (suc (length bs)) bs ≡ Ok (pairs, rest) → item_by m (Some p) (0xbf ∷ bs) ≡ Ok (m.map indefinite pairs, rest)
+  unfolding item_by byte_at after_first indefinite_at indefinite_map_at
+  indefinite_map_again p bs rest pairs is = rw is refl
 
   -- items, once the first of them is read and the others
   item_before : (p : List ℕ → Reads Item) (n : ℕ) (bs more rest : List ℕ) (first : Item) (others : Items) → p bs ≡ Ok (first, more) → items_by m p n more ≡ Ok (others, rest) → items_by m p (suc n) bs ≡ Ok (m.item first others, rest)
   unfolding items_by
   item_before p n bs more rest first others one all = rw (one, all) refl
 
-  open_item_before : (p : List ℕ → Reads Item) (fuel : ℕ) (bs more rest : List ℕ) (first : Item) (others : Items) → more_at end_in_array bs ≡ Ok (true, bs) → p bs ≡ Ok (first, more) → open_items_by m p fuel more ≡ Ok (others, rest) → open_items_by m p (suc fuel) bs ≡ Ok (m.item first others, rest)
-  unfolding open_items_by
-  open_item_before p fuel bs more rest first others another one all = rw (another, one, all) refl
+  indefinite_item_before : (p : List ℕ → Reads Item) (fuel : ℕ) (bs more rest : List ℕ) (first : Item) (others : Items) → more_at end_in_array bs ≡ Ok (true, bs) → p bs ≡ Ok (first, more) → indefinite_items_by m p fuel more ≡ Ok (others, rest) → indefinite_items_by m p (suc fuel) bs ≡ Ok (m.item first others, rest)
+  unfolding indefinite_items_by
+  indefinite_item_before p fuel bs more rest first others another one all = rw (another, one, all) refl
 
   pair_before : (p : List ℕ → Reads Item) (n : ℕ) (bs at_value more rest : List ℕ) (k v : Item) (others : Pairs) → p bs ≡ Ok (k, at_value) → p at_value ≡ Ok (v, more) → pairs_by m p n more ≡ Ok (others, rest) → pairs_by m p (suc n) bs ≡ Ok (m.pair k v others, rest)
   unfolding pairs_by
   pair_before p n bs at_value more rest k v others key val all = rw (key, val, all) refl
 
-  open_pair_before : (p : List ℕ → Reads Item) (fuel : ℕ) (bs at_value more rest : List ℕ) (k v : Item) (others : Pairs) → more_at end_in_map bs ≡ Ok (true, bs) → p bs ≡ Ok (k, at_value) → p at_value ≡ Ok (v, more) → open_pairs_by m p fuel more ≡ Ok (others, rest) → open_pairs_by m p (suc fuel) bs ≡ Ok (m.pair k v others, rest)
-  unfolding open_pairs_by
-  open_pair_before p fuel bs at_value more rest k v others another key val all = rw (another, key, val, all) refl
+  indefinite_pair_before : (p : List ℕ → Reads Item) (fuel : ℕ) (bs at_value more rest : List ℕ) (k v : Item) (others : Pairs) → more_at end_in_map bs ≡ Ok (true, bs) → p bs ≡ Ok (k, at_value) → p at_value ≡ Ok (v, more) → indefinite_pairs_by m p fuel more ≡ Ok (others, rest) → indefinite_pairs_by m p (suc fuel) bs ≡ Ok (m.pair k v others, rest)
+  unfolding indefinite_pairs_by
+  indefinite_pair_before p fuel bs at_value more rest k v others another key val all = rw (another, key, val, all) refl
 
 -- a key and a value, and the pairs behind them
 pair_parts : (k v more rest : List ℕ) → (k ++ (v ++ more)) ++ rest ≡ k ++ (v ++ (more ++ rest))
@@ -218,12 +218,12 @@ within_head : (a b rest : List ℕ) (total : ℕ) → length ((a ++ b) ++ rest) 
 within_head a b rest total within = omega (arith, length-append (a ++ b) rest, length-append a b, length-append b rest)
 
 -- a first byte, and parts behind it up to the break
-within_open : (first : ℕ) (parts rest : List ℕ) (total : ℕ) → length ((first ∷ (parts ++ break)) ++ rest) ≤ total → length (parts ++ (0xff ∷ rest)) ≤ total
-within_open first parts rest total within = omega (arith, ap length (append_assoc parts break rest))
+within_break : (first : ℕ) (parts rest : List ℕ) (total : ℕ) → length ((first ∷ (parts ++ break)) ++ rest) ≤ total → length (parts ++ (0xff ∷ rest)) ≤ total
+within_break first parts rest total within = omega (arith, ap length (append_assoc parts break rest))
 
 module _ {Item Items Pairs : Type 0} (m : Reading Item Items Pairs) (total : ℕ) (room : HasRoom m total) where
   mutual
-    unfolding spell content_at items_by open_items_by pairs_by open_pairs_by more_at made
+    unfolding spell content_at items_by indefinite_items_by pairs_by indefinite_pairs_by more_at made
 
     -- what is spelled is read, where each text has room and passes
     pub again : (r : Raw) (levels : ℕ) (rest : List ℕ) → IsWellFormed r → depth r ≤ levels → EachText (Passes m) r → length (spell r ++ rest) ≤ total → item_at m levels (spell r ++ rest) ≡ Ok (made m r, rest)
@@ -254,7 +254,7 @@ module _ {Item Items Pairs : Type 0} (m : Reading Item Items Pairs) (total : ℕ
         let enough : count rs < suc (length bs) = omega (arith, count-le rs fits.1, length-append items (0xff ∷ rest)) in
         ap (λ (t : List ℕ). item_at m (suc levels) (0x9f ∷ t)) (append_assoc items break rest)
         ∙ item_at-inside m (suc levels) _
-        ∙ open_array_again m (item_at m levels) bs rest (made_all m rs) (open_all_again rs levels rest (suc (length bs)) fits.1 (omega (arith, nests)) texts (within_open 0x9f items rest total within) enough)
+        ∙ indefinite_array_again m (item_at m levels) bs rest (made_all m rs) (indefinite_all_again rs levels rest (suc (length bs)) fits.1 (omega (arith, nests)) texts (within_break 0x9f items rest total within) enough)
     again (raw.map l ps) zero rest fits nests texts within = absurd (omega (arith, nests))
     again (raw.map (definite w) ps) (suc levels) rest fits nests texts within =
         let front = head 5 w (pair_count ps) in
@@ -269,7 +269,7 @@ module _ {Item Items Pairs : Type 0} (m : Reading Item Items Pairs) (total : ℕ
         let enough : pair_count ps < suc (length bs) = omega (arith, pair_count-le ps fits.1, length-append pairs (0xff ∷ rest)) in
         ap (λ (t : List ℕ). item_at m (suc levels) (0xbf ∷ t)) (append_assoc pairs break rest)
         ∙ item_at-inside m (suc levels) _
-        ∙ open_map_again m (item_at m levels) bs rest (made_pairs m ps) (open_pairs_again ps levels rest (suc (length bs)) fits.1 (omega (arith, nests)) texts (within_open 0xbf pairs rest total within) enough)
+        ∙ indefinite_map_again m (item_at m levels) bs rest (made_pairs m ps) (indefinite_pairs_again ps levels rest (suc (length bs)) fits.1 (omega (arith, nests)) texts (within_break 0xbf pairs rest total within) enough)
     again (raw.tag w n r) zero rest fits nests texts within = absurd (omega (arith, nests))
     again (raw.tag w n r) (suc levels) rest fits nests texts within =
         let front = head 6 w n in
@@ -294,20 +294,20 @@ module _ {Item Items Pairs : Type 0} (m : Reading Item Items Pairs) (total : ℕ
         (again r levels more fits.0 (omega (arith, nests)) texts.0 within_one)
         (all_again rs levels rest fits.1 (omega (arith, nests)) texts.1 within_more)
 
-    pub open_all_again : (rs : Raws) (levels : ℕ) (rest : List ℕ) (fuel : ℕ) → AreWellFormed rs → depth_all rs ≤ levels → EachTextOfAll (Passes m) rs → length (spell_all rs ++ (0xff ∷ rest)) ≤ total → count rs < fuel → open_items_by m (item_at m levels) fuel (spell_all rs ++ (0xff ∷ rest)) ≡ Ok (made_all m rs, rest)
-    open_all_again rs levels rest zero fits nests texts within enough = absurd (omega arith)
-    open_all_again no_raws levels rest (suc fuel) fits nests texts within enough = refl
-    open_all_again (raw.raw r rs) levels rest (suc fuel) fits nests texts within enough =
+    pub indefinite_all_again : (rs : Raws) (levels : ℕ) (rest : List ℕ) (fuel : ℕ) → AreWellFormed rs → depth_all rs ≤ levels → EachTextOfAll (Passes m) rs → length (spell_all rs ++ (0xff ∷ rest)) ≤ total → count rs < fuel → indefinite_items_by m (item_at m levels) fuel (spell_all rs ++ (0xff ∷ rest)) ≡ Ok (made_all m rs, rest)
+    indefinite_all_again rs levels rest zero fits nests texts within enough = absurd (omega arith)
+    indefinite_all_again no_raws levels rest (suc fuel) fits nests texts within enough = refl
+    indefinite_all_again (raw.raw r rs) levels rest (suc fuel) fits nests texts within enough =
         let one = spell r in
         let more = spell_all rs ++ (0xff ∷ rest) in
         let regrouped = append_assoc one (spell_all rs) (0xff ∷ rest) in
         let within_one : length (one ++ more) ≤ total = omega (arith, ap length regrouped) in
         let within_more : length more ≤ total = omega (arith, length-append one more) in
-        ap (open_items_by m (item_at m levels) (suc fuel)) regrouped
-        ∙ open_item_before m (item_at m levels) fuel (one ++ more) more rest (made m r) (made_all m rs)
+        ap (indefinite_items_by m (item_at m levels) (suc fuel)) regrouped
+        ∙ indefinite_item_before m (item_at m levels) fuel (one ++ more) more rest (made m r) (made_all m rs)
         (more_again end_in_array one more (begun r fits.0))
         (again r levels more fits.0 (omega (arith, nests)) texts.0 within_one)
-        (open_all_again rs levels rest fuel fits.1 (omega (arith, nests)) texts.1 within_more (omega arith))
+        (indefinite_all_again rs levels rest fuel fits.1 (omega (arith, nests)) texts.1 within_more (omega arith))
 
     pub pairs_again : (ps : RawPairs) (levels : ℕ) (rest : List ℕ) → ArePairsWellFormed ps → depth_pairs ps ≤ levels → EachTextOfPairs (Passes m) ps → length (spell_pairs ps ++ rest) ≤ total → pairs_by m (item_at m levels) (pair_count ps) (spell_pairs ps ++ rest) ≡ Ok (made_pairs m ps, rest)
     pairs_again no_raw_pairs levels rest fits nests texts within = refl
@@ -324,19 +324,19 @@ module _ {Item Items Pairs : Type 0} (m : Reading Item Items Pairs) (total : ℕ
         (again v levels more fits.1 (omega (arith, nests)) texts.1 within_value)
         (pairs_again ps levels rest fits.2 (omega (arith, nests)) texts.2 within_more)
 
-    pub open_pairs_again : (ps : RawPairs) (levels : ℕ) (rest : List ℕ) (fuel : ℕ) → ArePairsWellFormed ps → depth_pairs ps ≤ levels → EachTextOfPairs (Passes m) ps → length (spell_pairs ps ++ (0xff ∷ rest)) ≤ total → pair_count ps < fuel → open_pairs_by m (item_at m levels) fuel (spell_pairs ps ++ (0xff ∷ rest)) ≡ Ok (made_pairs m ps, rest)
-    open_pairs_again ps levels rest zero fits nests texts within enough = absurd (omega arith)
-    open_pairs_again no_raw_pairs levels rest (suc fuel) fits nests texts within enough = refl
-    open_pairs_again (raw_pair k v ps) levels rest (suc fuel) fits nests texts within enough =
+    pub indefinite_pairs_again : (ps : RawPairs) (levels : ℕ) (rest : List ℕ) (fuel : ℕ) → ArePairsWellFormed ps → depth_pairs ps ≤ levels → EachTextOfPairs (Passes m) ps → length (spell_pairs ps ++ (0xff ∷ rest)) ≤ total → pair_count ps < fuel → indefinite_pairs_by m (item_at m levels) fuel (spell_pairs ps ++ (0xff ∷ rest)) ≡ Ok (made_pairs m ps, rest)
+    indefinite_pairs_again ps levels rest zero fits nests texts within enough = absurd (omega arith)
+    indefinite_pairs_again no_raw_pairs levels rest (suc fuel) fits nests texts within enough = refl
+    indefinite_pairs_again (raw_pair k v ps) levels rest (suc fuel) fits nests texts within enough =
         let more = spell_pairs ps ++ (0xff ∷ rest) in
         let at_value = spell v ++ more in
         let regrouped = pair_parts (spell k) (spell v) (spell_pairs ps) (0xff ∷ rest) in
         let within_key : length (spell k ++ at_value) ≤ total = omega (arith, ap length regrouped) in
         let within_value : length at_value ≤ total = omega (arith, length-append (spell k) at_value) in
         let within_more : length more ≤ total = omega (arith, length-append (spell v) more) in
-        ap (open_pairs_by m (item_at m levels) (suc fuel)) regrouped
-        ∙ open_pair_before m (item_at m levels) fuel (spell k ++ at_value) at_value more rest (made m k) (made m v) (made_pairs m ps)
+        ap (indefinite_pairs_by m (item_at m levels) (suc fuel)) regrouped
+        ∙ indefinite_pair_before m (item_at m levels) fuel (spell k ++ at_value) at_value more rest (made m k) (made m v) (made_pairs m ps)
         (more_again end_in_map (spell k) at_value (begun k fits.0))
         (again k levels at_value fits.0 (omega (arith, nests)) texts.0 within_key)
         (again v levels more fits.1 (omega (arith, nests)) texts.1 within_value)
-        (open_pairs_again ps levels rest fuel fits.2 (omega (arith, nests)) texts.2 within_more (omega arith))
+        (indefinite_pairs_again ps levels rest fuel fits.2 (omega (arith, nests)) texts.2 within_more (omega arith))

@@ -9,7 +9,7 @@ use Rattle.cbor_model.specs.Raw as raw
 use Rattle.cbor_model.specs.Raw.{Length, definite, indefinite, Raw, Raws, no_raws, RawPairs, no_raw_pairs, raw_pair, Chunk, joined, Simple, false_item, true_item, null_item, undefined_item, FloatWidth, half, single, double, float_limit, count, pair_count, depth, depth_all, depth_pairs, AreBytes, IsChunk, IsWellFormed, AreWellFormed, ArePairsWellFormed, EachText, EachTextOfAll, EachTextOfPairs}
 use Rattle.cbor_model.specs.Spelling.{spell, spell_all, spell_pairs, chunk, simple_byte, float_spelling, break}
 use Rattle.cbor_model.specs.Refusal.{Refusal, end_in_array, end_in_map, unassigned_code, unexpected_code, too_deep, length_out_of_range}
-use Rattle.cbor_model.specs.Reader.{Reads, ◌>>=◌, Reading, ended, before, byte_at, bytes_at, number_at, width_of, number_behind, float_at, simple_at, string_at, checked_text, text_at, begins_chunk, chunk_at, chunks_by, chunks_at, string_chunks_at, text_chunks_at, items_by, more_at, open_items_by, pairs_by, open_pairs_by, array_at, map_at, tag_at, open_array_at, open_map_at, content_at, open_at, after_first, item_by, item_at}
+use Rattle.cbor_model.specs.Reader.{Reads, ◌>>=◌, Reading, ended, before, byte_at, bytes_at, number_at, width_of, number_behind, float_at, simple_at, string_at, checked_text, text_at, begins_chunk, chunk_at, chunks_by, chunks_at, string_chunks_at, text_chunks_at, items_by, more_at, indefinite_items_by, pairs_by, indefinite_pairs_by, array_at, map_at, tag_at, indefinite_array_at, indefinite_map_at, content_at, indefinite_at, after_first, item_by, item_at}
 use Rattle.cbor_model.proofs.Made.{made, made_all, made_pairs}
 use Rattle.cbor_model.proofs.Steps.{AreBytes-rest, bind_ok, chosen, done, ok_is, read_as, not_ok, bytes_found, IsWide, wide16, wide32, wide64, number_found, number_behind_found, first_is}
 
@@ -48,11 +48,11 @@ pub record ArePairs {Item Items Pairs : Type 0} (m : Reading Item Items Pairs) (
   pub rest_fits : AreBytes x.1
 
 -- items up to the break, which is taken too
-abbrev pub AreOpenItems : {Item Items Pairs : Type 0} → Reading Item Items Pairs → ℕ → List ℕ → Items × List ℕ → Type 0
-AreOpenItems m levels bs x = (n : ℕ) × AreItems m levels n bs (x.0, 0xff ∷ x.1)
+abbrev pub AreItemsToBreak : {Item Items Pairs : Type 0} → Reading Item Items Pairs → ℕ → List ℕ → Items × List ℕ → Type 0
+AreItemsToBreak m levels bs x = (n : ℕ) × AreItems m levels n bs (x.0, 0xff ∷ x.1)
 
-abbrev pub AreOpenPairs : {Item Items Pairs : Type 0} → Reading Item Items Pairs → ℕ → List ℕ → Pairs × List ℕ → Type 0
-AreOpenPairs m levels bs x = (n : ℕ) × ArePairs m levels n bs (x.0, 0xff ∷ x.1)
+abbrev pub ArePairsToBreak : {Item Items Pairs : Type 0} → Reading Item Items Pairs → ℕ → List ℕ → Pairs × List ℕ → Type 0
+ArePairsToBreak m levels bs x = (n : ℕ) × ArePairs m levels n bs (x.0, 0xff ∷ x.1)
 
 -- a chunk with the first byte b
 pub record IsChunkOf (major b : ℕ) (bs : List ℕ) (x : Chunk × List ℕ) : Type 0 where
@@ -194,23 +194,23 @@ module _ {Item Items Pairs : Type 0} (m : Reading Item Items Pairs) where
       let all = items_found p levels finds n a.0.1 b.0 one.rest_fits b.1 in
       read_as (AreItems m levels (suc n) bs) (m.item a.0.0 b.0.0, b.0.1) x b.2 (item_added levels n bs a.0.1 b.0.1 a.0.0 b.0.0 one all)
 
-  open_items_found : (p : List ℕ → Reads Item) (levels : ℕ) → Finds m p levels → (fuel : ℕ) (bs : List ℕ) (x : Items × List ℕ) → AreBytes bs → open_items_by m p fuel bs ≡ Ok x → AreOpenItems m levels bs x
-  unfolding open_items_by spell made
-  open_items_found p levels finds zero bs x fits is = not_ok ended x is
-  open_items_found p levels finds (suc fuel) bs x fits is =
-      let step = bind_ok (more_at end_in_array bs) (λ more. cond more.0 (p more.1 >>= (λ first. open_items_by m p fuel first.1 >>= (λ others. Ok (m.item first.0 others.0, others.1)))) (Ok (m.no_items, more.1))) x is in
+  indefinite_items_found : (p : List ℕ → Reads Item) (levels : ℕ) → Finds m p levels → (fuel : ℕ) (bs : List ℕ) (x : Items × List ℕ) → AreBytes bs → indefinite_items_by m p fuel bs ≡ Ok x → AreItemsToBreak m levels bs x
+  unfolding indefinite_items_by spell made
+  indefinite_items_found p levels finds zero bs x fits is = not_ok ended x is
+  indefinite_items_found p levels finds (suc fuel) bs x fits is =
+      let step = bind_ok (more_at end_in_array bs) (λ more. cond more.0 (p more.1 >>= (λ first. indefinite_items_by m p fuel first.1 >>= (λ others. Ok (m.item first.0 others.0, others.1)))) (Ok (m.no_items, more.1))) x is in
       let more = step.0 in
       elim (chosen more.0 _ _ _ step.2) [
         | inl another ↦
             let same : more.1 ≡ bs = another_found end_in_array bs more step.1 another.0 in
-            let a = bind_ok (p more.1) (λ first. open_items_by m p fuel first.1 >>= (λ others. Ok (m.item first.0 others.0, others.1))) x another.1 in
-            let b = bind_ok (open_items_by m p fuel a.0.1) (λ others. Ok (m.item a.0.0 others.0, others.1)) x a.2 in
+            let a = bind_ok (p more.1) (λ first. indefinite_items_by m p fuel first.1 >>= (λ others. Ok (m.item first.0 others.0, others.1))) x another.1 in
+            let b = bind_ok (indefinite_items_by m p fuel a.0.1) (λ others. Ok (m.item a.0.0 others.0, others.1)) x a.2 in
             let one = finds bs a.0 fits (ap p (sym same) ∙ a.1) in
-            let all = open_items_found p levels finds fuel a.0.1 b.0 one.rest_fits b.1 in
-            read_as (AreOpenItems m levels bs) (m.item a.0.0 b.0.0, b.0.1) x b.2 (suc all.0, item_added levels all.0 bs a.0.1 (0xff ∷ b.0.1) a.0.0 b.0.0 one all.1)
+            let all = indefinite_items_found p levels finds fuel a.0.1 b.0 one.rest_fits b.1 in
+            read_as (AreItemsToBreak m levels bs) (m.item a.0.0 b.0.0, b.0.1) x b.2 (suc all.0, item_added levels all.0 bs a.0.1 (0xff ∷ b.0.1) a.0.0 b.0.0 one all.1)
         | inr none ↦
             let last : bs ≡ 0xff ∷ more.1 = break_found end_in_array bs more step.1 none.0 in
-            read_as (AreOpenItems m levels bs) (m.no_items, more.1) x none.1 (0, record { items = no_raws; made_is = refl; parts = last; count_is = refl; fits = tt; nests = omega arith; texts = tt; rest_fits = subst (λ (t : List ℕ). AreBytes t) last fits })
+            read_as (AreItemsToBreak m levels bs) (m.no_items, more.1) x none.1 (0, record { items = no_raws; made_is = refl; parts = last; count_is = refl; fits = tt; nests = omega arith; texts = tt; rest_fits = subst (λ (t : List ℕ). AreBytes t) last fits })
       ]
 
   -- a pair, and those after it
@@ -240,25 +240,25 @@ module _ {Item Items Pairs : Type 0} (m : Reading Item Items Pairs) where
       let all = pairs_found p levels finds n b.0.1 c.0 val.rest_fits c.1 in
       read_as (ArePairs m levels (suc n) bs) (m.pair a.0.0 b.0.0 c.0.0, c.0.1) x c.2 (pair_added levels n bs a.0.1 b.0.1 c.0.1 a.0.0 b.0.0 c.0.0 key val all)
 
-  open_pairs_found : (p : List ℕ → Reads Item) (levels : ℕ) → Finds m p levels → (fuel : ℕ) (bs : List ℕ) (x : Pairs × List ℕ) → AreBytes bs → open_pairs_by m p fuel bs ≡ Ok x → AreOpenPairs m levels bs x
-  unfolding open_pairs_by spell made
-  open_pairs_found p levels finds zero bs x fits is = not_ok ended x is
-  open_pairs_found p levels finds (suc fuel) bs x fits is =
-      let step = bind_ok (more_at end_in_map bs) (λ more. cond more.0 (p more.1 >>= (λ k. p k.1 >>= (λ v. open_pairs_by m p fuel v.1 >>= (λ others. Ok (m.pair k.0 v.0 others.0, others.1))))) (Ok (m.no_pairs, more.1))) x is in
+  indefinite_pairs_found : (p : List ℕ → Reads Item) (levels : ℕ) → Finds m p levels → (fuel : ℕ) (bs : List ℕ) (x : Pairs × List ℕ) → AreBytes bs → indefinite_pairs_by m p fuel bs ≡ Ok x → ArePairsToBreak m levels bs x
+  unfolding indefinite_pairs_by spell made
+  indefinite_pairs_found p levels finds zero bs x fits is = not_ok ended x is
+  indefinite_pairs_found p levels finds (suc fuel) bs x fits is =
+      let step = bind_ok (more_at end_in_map bs) (λ more. cond more.0 (p more.1 >>= (λ k. p k.1 >>= (λ v. indefinite_pairs_by m p fuel v.1 >>= (λ others. Ok (m.pair k.0 v.0 others.0, others.1))))) (Ok (m.no_pairs, more.1))) x is in
       let more = step.0 in
       elim (chosen more.0 _ _ _ step.2) [
         | inl another ↦
             let same : more.1 ≡ bs = another_found end_in_map bs more step.1 another.0 in
-            let a = bind_ok (p more.1) (λ k. p k.1 >>= (λ v. open_pairs_by m p fuel v.1 >>= (λ others. Ok (m.pair k.0 v.0 others.0, others.1)))) x another.1 in
-            let b = bind_ok (p a.0.1) (λ v. open_pairs_by m p fuel v.1 >>= (λ others. Ok (m.pair a.0.0 v.0 others.0, others.1))) x a.2 in
-            let c = bind_ok (open_pairs_by m p fuel b.0.1) (λ others. Ok (m.pair a.0.0 b.0.0 others.0, others.1)) x b.2 in
+            let a = bind_ok (p more.1) (λ k. p k.1 >>= (λ v. indefinite_pairs_by m p fuel v.1 >>= (λ others. Ok (m.pair k.0 v.0 others.0, others.1)))) x another.1 in
+            let b = bind_ok (p a.0.1) (λ v. indefinite_pairs_by m p fuel v.1 >>= (λ others. Ok (m.pair a.0.0 v.0 others.0, others.1))) x a.2 in
+            let c = bind_ok (indefinite_pairs_by m p fuel b.0.1) (λ others. Ok (m.pair a.0.0 b.0.0 others.0, others.1)) x b.2 in
             let key = finds bs a.0 fits (ap p (sym same) ∙ a.1) in
             let val = finds a.0.1 b.0 key.rest_fits b.1 in
-            let all = open_pairs_found p levels finds fuel b.0.1 c.0 val.rest_fits c.1 in
-            read_as (AreOpenPairs m levels bs) (m.pair a.0.0 b.0.0 c.0.0, c.0.1) x c.2 (suc all.0, pair_added levels all.0 bs a.0.1 b.0.1 (0xff ∷ c.0.1) a.0.0 b.0.0 c.0.0 key val all.1)
+            let all = indefinite_pairs_found p levels finds fuel b.0.1 c.0 val.rest_fits c.1 in
+            read_as (ArePairsToBreak m levels bs) (m.pair a.0.0 b.0.0 c.0.0, c.0.1) x c.2 (suc all.0, pair_added levels all.0 bs a.0.1 b.0.1 (0xff ∷ c.0.1) a.0.0 b.0.0 c.0.0 key val all.1)
         | inr none ↦
             let last : bs ≡ 0xff ∷ more.1 = break_found end_in_map bs more step.1 none.0 in
-            read_as (AreOpenPairs m levels bs) (m.no_pairs, more.1) x none.1 (0, record { pairs = no_raw_pairs; made_is = refl; parts = last; count_is = refl; fits = tt; nests = omega arith; texts = tt; rest_fits = subst (λ (t : List ℕ). AreBytes t) last fits })
+            read_as (ArePairsToBreak m levels bs) (m.no_pairs, more.1) x none.1 (0, record { pairs = no_raw_pairs; made_is = refl; parts = last; count_is = refl; fits = tt; nests = omega arith; texts = tt; rest_fits = subst (λ (t : List ℕ). AreBytes t) last fits })
       ]
 
   -- ---- what stands behind a head
@@ -361,19 +361,19 @@ module _ {Item Items Pairs : Type 0} (m : Reading Item Items Pairs) where
         rest_fits = got.rest_fits;
       })
 
-  -- ---- open forms and chunked strings
+  -- ---- indefinite lengths
 
   -- an item whose first byte says this major type and no width
-  abbrev IsOpen : ℕ → ℕ → List ℕ → Item × List ℕ → Type 0
-  IsOpen levels major bs x = IsItem m levels ((32 * major + 31) ∷ bs) x
+  abbrev IsIndefinite : ℕ → ℕ → List ℕ → Item × List ℕ → Type 0
+  IsIndefinite levels major bs x = IsItem m levels ((32 * major + 31) ∷ bs) x
 
-  string_chunks_found : (levels : ℕ) (bs : List ℕ) (x : Item × List ℕ) → AreBytes bs → string_chunks_at m bs ≡ Ok x → IsOpen levels 2 bs x
+  string_chunks_found : (levels : ℕ) (bs : List ℕ) (x : Item × List ℕ) → AreBytes bs → string_chunks_at m bs ≡ Ok x → IsIndefinite levels 2 bs x
   unfolding string_chunks_at spell made
   string_chunks_found levels bs x fits is =
       let step = bind_ok (chunks_at 2 bs) (λ cs. Ok (m.bytes_chunks cs.0, cs.1)) x is in
       let cs = step.0 in
       let got = chunks_found 2 (suc (length bs)) bs cs fits step.1 in
-      read_as (IsOpen levels 2 bs) (m.bytes_chunks cs.0, cs.1) x step.2 (record {
+      read_as (IsIndefinite levels 2 bs) (m.bytes_chunks cs.0, cs.1) x step.2 (record {
         item = raw.bytes_chunks cs.0;
         made_is = refl;
         parts = behind_first 0x5f bs (flat_map (chunk 2) cs.0) cs.1 got.parts;
@@ -383,7 +383,7 @@ module _ {Item Items Pairs : Type 0} (m : Reading Item Items Pairs) where
         rest_fits = got.rest_fits;
       })
 
-  text_chunks_found : (levels : ℕ) (bs : List ℕ) (x : Item × List ℕ) → AreBytes bs → text_chunks_at m bs ≡ Ok x → IsOpen levels 3 bs x
+  text_chunks_found : (levels : ℕ) (bs : List ℕ) (x : Item × List ℕ) → AreBytes bs → text_chunks_at m bs ≡ Ok x → IsIndefinite levels 3 bs x
   unfolding text_chunks_at checked_text spell made
   text_chunks_found levels bs x fits is =
       let step = bind_ok (chunks_at 3 bs) (λ cs. checked_text m (m.text_chunks cs.0) (joined cs.0) cs.1) x is in
@@ -391,7 +391,7 @@ module _ {Item Items Pairs : Type 0} (m : Reading Item Items Pairs) where
       let got = chunks_found 3 (suc (length bs)) bs cs fits step.1 in
       elim (chosen (m.is_text (joined cs.0)) _ _ _ step.2) [
         | inr other ↦ not_ok _ x other.1
-        | inl passes ↦ read_as (IsOpen levels 3 bs) (m.text_chunks cs.0, cs.1) x passes.1 (record {
+        | inl passes ↦ read_as (IsIndefinite levels 3 bs) (m.text_chunks cs.0, cs.1) x passes.1 (record {
           item = raw.text_chunks cs.0;
           made_is = refl;
           parts = behind_first 0x7f bs (flat_map (chunk 3) cs.0) cs.1 got.parts;
@@ -402,14 +402,14 @@ module _ {Item Items Pairs : Type 0} (m : Reading Item Items Pairs) where
         })
       ]
 
-  open_array_found : (inner : Option (List ℕ → Reads Item)) (levels : ℕ) → FindsInside m inner levels → (bs : List ℕ) (x : Item × List ℕ) → AreBytes bs → open_array_at m inner bs ≡ Ok x → IsOpen levels 4 bs x
-  unfolding open_array_at spell made
-  open_array_found None levels finds bs x fits is = not_ok (before too_deep bs) x is
-  open_array_found (Some p) levels finds bs x fits is =
-      let step = bind_ok (open_items_by m p (suc (length bs)) bs) (λ items. Ok (m.array indefinite items.0, items.1)) x is in
-      let got = (open_items_found p finds.0 finds.2 (suc (length bs)) bs step.0 fits step.1).1 in
+  indefinite_array_found : (inner : Option (List ℕ → Reads Item)) (levels : ℕ) → FindsInside m inner levels → (bs : List ℕ) (x : Item × List ℕ) → AreBytes bs → indefinite_array_at m inner bs ≡ Ok x → IsIndefinite levels 4 bs x
+  unfolding indefinite_array_at spell made
+  indefinite_array_found None levels finds bs x fits is = not_ok (before too_deep bs) x is
+  indefinite_array_found (Some p) levels finds bs x fits is =
+      let step = bind_ok (indefinite_items_by m p (suc (length bs)) bs) (λ items. Ok (m.array indefinite items.0, items.1)) x is in
+      let got = (indefinite_items_found p finds.0 finds.2 (suc (length bs)) bs step.0 fits step.1).1 in
       let rest = step.0.1 in
-      read_as (IsOpen levels 4 bs) (m.array indefinite step.0.0, rest) x step.2 (record {
+      read_as (IsIndefinite levels 4 bs) (m.array indefinite step.0.0, rest) x step.2 (record {
         item = raw.array indefinite got.items;
         made_is = ap (m.array indefinite) got.made_is;
         parts = behind_first 0x9f bs (spell_all got.items) rest got.parts;
@@ -419,14 +419,14 @@ module _ {Item Items Pairs : Type 0} (m : Reading Item Items Pairs) where
         rest_fits = AreBytes-rest 0xff rest got.rest_fits;
       })
 
-  open_map_found : (inner : Option (List ℕ → Reads Item)) (levels : ℕ) → FindsInside m inner levels → (bs : List ℕ) (x : Item × List ℕ) → AreBytes bs → open_map_at m inner bs ≡ Ok x → IsOpen levels 5 bs x
-  unfolding open_map_at spell made
-  open_map_found None levels finds bs x fits is = not_ok (before too_deep bs) x is
-  open_map_found (Some p) levels finds bs x fits is =
-      let step = bind_ok (open_pairs_by m p (suc (length bs)) bs) (λ pairs. Ok (m.map indefinite pairs.0, pairs.1)) x is in
-      let got = (open_pairs_found p finds.0 finds.2 (suc (length bs)) bs step.0 fits step.1).1 in
+  indefinite_map_found : (inner : Option (List ℕ → Reads Item)) (levels : ℕ) → FindsInside m inner levels → (bs : List ℕ) (x : Item × List ℕ) → AreBytes bs → indefinite_map_at m inner bs ≡ Ok x → IsIndefinite levels 5 bs x
+  unfolding indefinite_map_at spell made
+  indefinite_map_found None levels finds bs x fits is = not_ok (before too_deep bs) x is
+  indefinite_map_found (Some p) levels finds bs x fits is =
+      let step = bind_ok (indefinite_pairs_by m p (suc (length bs)) bs) (λ pairs. Ok (m.map indefinite pairs.0, pairs.1)) x is in
+      let got = (indefinite_pairs_found p finds.0 finds.2 (suc (length bs)) bs step.0 fits step.1).1 in
       let rest = step.0.1 in
-      read_as (IsOpen levels 5 bs) (m.map indefinite step.0.0, rest) x step.2 (record {
+      read_as (IsIndefinite levels 5 bs) (m.map indefinite step.0.0, rest) x step.2 (record {
         item = raw.map indefinite got.pairs;
         made_is = ap (m.map indefinite) got.made_is;
         parts = behind_first 0xbf bs (spell_pairs got.pairs) rest got.parts;
@@ -436,10 +436,10 @@ module _ {Item Items Pairs : Type 0} (m : Reading Item Items Pairs) where
         rest_fits = AreBytes-rest 0xff rest got.rest_fits;
       })
 
-  open_found : (inner : Option (List ℕ → Reads Item)) (levels : ℕ) → FindsInside m inner levels → (major : ℕ) (bs : List ℕ) (x : Item × List ℕ) → AreBytes bs → open_at m inner major bs ≡ Ok x → IsOpen levels major bs x
-  unfolding open_at
-  open_found inner levels finds major bs x fits is =
-      let at_major = λ (k : ℕ) (this : eqb major k ≡ true) (got : IsOpen levels k bs x). subst (λ (k : ℕ). IsOpen levels k bs x) (sym (eqb-true major k this)) got in
+  indefinite_found : (inner : Option (List ℕ → Reads Item)) (levels : ℕ) → FindsInside m inner levels → (major : ℕ) (bs : List ℕ) (x : Item × List ℕ) → AreBytes bs → indefinite_at m inner major bs ≡ Ok x → IsIndefinite levels major bs x
+  unfolding indefinite_at
+  indefinite_found inner levels finds major bs x fits is =
+      let at_major = λ (k : ℕ) (this : eqb major k ≡ true) (got : IsIndefinite levels k bs x). subst (λ (k : ℕ). IsIndefinite levels k bs x) (sym (eqb-true major k this)) got in
       elim (chosen (eqb major 2) _ _ _ is) [
         | inl this ↦ at_major 2 this.0 (string_chunks_found levels bs x fits this.1)
         | inr other ↦
@@ -447,10 +447,10 @@ module _ {Item Items Pairs : Type 0} (m : Reading Item Items Pairs) where
               | inl this ↦ at_major 3 this.0 (text_chunks_found levels bs x fits this.1)
               | inr other ↦
                   elim (chosen (eqb major 4) _ _ _ other.1) [
-                    | inl this ↦ at_major 4 this.0 (open_array_found inner levels finds bs x fits this.1)
+                    | inl this ↦ at_major 4 this.0 (indefinite_array_found inner levels finds bs x fits this.1)
                     | inr other ↦
                         elim (chosen (eqb major 5) _ _ _ other.1) [
-                          | inl this ↦ at_major 5 this.0 (open_map_found inner levels finds bs x fits this.1)
+                          | inl this ↦ at_major 5 this.0 (indefinite_map_found inner levels finds bs x fits this.1)
                           | inr none ↦ not_ok (before unassigned_code bs) x none.1
                         ]
                   ]
@@ -577,7 +577,7 @@ module _ {Item Items Pairs : Type 0} (m : Reading Item Items Pairs) where
             elim (chosen (eqb (b % 32) 31) _ _ _ other.1) [
               | inl this ↦
                   let first : b ≡ 32 * (b / 32) + 31 = omega (arith, first_is b, eqb-true _ _ this.0) in
-                  subst (λ (c : ℕ). IsItem m levels (c ∷ bs) x) (sym first) (open_found inner levels finds (b / 32) bs x rest_fits this.1)
+                  subst (λ (c : ℕ). IsItem m levels (c ∷ bs) x) (sym first) (indefinite_found inner levels finds (b / 32) bs x rest_fits this.1)
               | inr other ↦
                   let w = width_of (b % 32) in
                   let step = bind_ok (number_behind (b % 32) bs) (λ n. content_at m inner (b / 32) w n.0 n.1) x other.1 in

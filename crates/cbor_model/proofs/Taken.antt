@@ -5,7 +5,7 @@ use Rattle.std.proofs.lemmas.List.{length-drop}
 use Rattle.cbor_model.specs.Head.{HeadWidth}
 use Rattle.cbor_model.specs.Raw.{Chunk}
 use Rattle.cbor_model.specs.Refusal.{Refusal}
-use Rattle.cbor_model.specs.Reader.{Reads, ◌>>=◌, Reading, byte_at, bytes_at, number_at, number_behind, float_at, simple_at, string_at, checked_text, text_at, begins_chunk, chunk_at, chunks_by, chunks_at, string_chunks_at, text_chunks_at, items_by, more_at, open_items_by, pairs_by, open_pairs_by, within, array_at, map_at, tag_at, open_array_at, open_map_at, content_at, open_at, after_first, item_by, item_at}
+use Rattle.cbor_model.specs.Reader.{Reads, ◌>>=◌, Reading, byte_at, bytes_at, number_at, number_behind, float_at, simple_at, string_at, checked_text, text_at, begins_chunk, chunk_at, chunks_by, chunks_at, string_chunks_at, text_chunks_at, items_by, more_at, indefinite_items_by, pairs_by, indefinite_pairs_by, within, array_at, map_at, tag_at, indefinite_array_at, indefinite_map_at, content_at, indefinite_at, after_first, item_by, item_at}
 
 -- where something is read, no more than n bytes are left
 abbrev pub Leaves : {A : Type 0} → ℕ → Reads A → Type 0
@@ -134,25 +134,25 @@ module _ {Item Items Pairs : Type 0} (m : Reading Item Items Pairs) where
       Leaves-bind n n (p key.1) _ (leaves n key.1 few) (λ v few.
       Leaves-bind n n (pairs_by m p k v.1) _ (pairs_leave p leaves k n v.1 few) (λ others few. few)))
 
-  open_items_leave : (p : List ℕ → Reads Item) → LeavesNoMore p → (fuel n : ℕ) (bs : List ℕ) → length bs ≤ n → Leaves n (open_items_by m p fuel bs)
-  unfolding open_items_by
-  open_items_leave p leaves zero n bs few = tt
-  open_items_leave p leaves (suc fuel) n bs few =
+  indefinite_items_leave : (p : List ℕ → Reads Item) → LeavesNoMore p → (fuel n : ℕ) (bs : List ℕ) → length bs ≤ n → Leaves n (indefinite_items_by m p fuel bs)
+  unfolding indefinite_items_by
+  indefinite_items_leave p leaves zero n bs few = tt
+  indefinite_items_leave p leaves (suc fuel) n bs few =
       Leaves-bind n n (more_at _ bs) _ (more_leaves _ n bs few) (λ more few.
       Leaves-cond n more.0 _ _
       (Leaves-bind n n (p more.1) _ (leaves n more.1 few) (λ first few.
-      Leaves-bind n n (open_items_by m p fuel first.1) _ (open_items_leave p leaves fuel n first.1 few) (λ others few. few)))
+      Leaves-bind n n (indefinite_items_by m p fuel first.1) _ (indefinite_items_leave p leaves fuel n first.1 few) (λ others few. few)))
       few)
 
-  open_pairs_leave : (p : List ℕ → Reads Item) → LeavesNoMore p → (fuel n : ℕ) (bs : List ℕ) → length bs ≤ n → Leaves n (open_pairs_by m p fuel bs)
-  unfolding open_pairs_by
-  open_pairs_leave p leaves zero n bs few = tt
-  open_pairs_leave p leaves (suc fuel) n bs few =
+  indefinite_pairs_leave : (p : List ℕ → Reads Item) → LeavesNoMore p → (fuel n : ℕ) (bs : List ℕ) → length bs ≤ n → Leaves n (indefinite_pairs_by m p fuel bs)
+  unfolding indefinite_pairs_by
+  indefinite_pairs_leave p leaves zero n bs few = tt
+  indefinite_pairs_leave p leaves (suc fuel) n bs few =
       Leaves-bind n n (more_at _ bs) _ (more_leaves _ n bs few) (λ more few.
       Leaves-cond n more.0 _ _
       (Leaves-bind n n (p more.1) _ (leaves n more.1 few) (λ key few.
       Leaves-bind n n (p key.1) _ (leaves n key.1 few) (λ v few.
-      Leaves-bind n n (open_pairs_by m p fuel v.1) _ (open_pairs_leave p leaves fuel n v.1 few) (λ others few. few))))
+      Leaves-bind n n (indefinite_pairs_by m p fuel v.1) _ (indefinite_pairs_leave p leaves fuel n v.1 few) (λ others few. few))))
       few)
 
   -- one of the above, by a reader of what lies one level further in
@@ -175,15 +175,15 @@ module _ {Item Items Pairs : Type 0} (m : Reading Item Items Pairs) where
   tag_leaves inner leaves w k n bs few =
       Leaves-bind n n (within inner bs (λ p. p bs)) _ (within_leaves inner leaves n bs _ (λ p leaves. leaves n bs few)) (λ item few. few)
 
-  open_array_leaves : (inner : Option (List ℕ → Reads Item)) → LeavesNoMoreInside inner → (n : ℕ) (bs : List ℕ) → length bs ≤ n → Leaves n (open_array_at m inner bs)
-  unfolding open_array_at
-  open_array_leaves inner leaves n bs few =
-      Leaves-bind n n (within inner bs (λ p. open_items_by m p (suc (length bs)) bs)) _ (within_leaves inner leaves n bs _ (λ p leaves. open_items_leave p leaves _ n bs few)) (λ items few. few)
+  indefinite_array_leaves : (inner : Option (List ℕ → Reads Item)) → LeavesNoMoreInside inner → (n : ℕ) (bs : List ℕ) → length bs ≤ n → Leaves n (indefinite_array_at m inner bs)
+  unfolding indefinite_array_at
+  indefinite_array_leaves inner leaves n bs few =
+      Leaves-bind n n (within inner bs (λ p. indefinite_items_by m p (suc (length bs)) bs)) _ (within_leaves inner leaves n bs _ (λ p leaves. indefinite_items_leave p leaves _ n bs few)) (λ items few. few)
 
-  open_map_leaves : (inner : Option (List ℕ → Reads Item)) → LeavesNoMoreInside inner → (n : ℕ) (bs : List ℕ) → length bs ≤ n → Leaves n (open_map_at m inner bs)
-  unfolding open_map_at
-  open_map_leaves inner leaves n bs few =
-      Leaves-bind n n (within inner bs (λ p. open_pairs_by m p (suc (length bs)) bs)) _ (within_leaves inner leaves n bs _ (λ p leaves. open_pairs_leave p leaves _ n bs few)) (λ pairs few. few)
+  indefinite_map_leaves : (inner : Option (List ℕ → Reads Item)) → LeavesNoMoreInside inner → (n : ℕ) (bs : List ℕ) → length bs ≤ n → Leaves n (indefinite_map_at m inner bs)
+  unfolding indefinite_map_at
+  indefinite_map_leaves inner leaves n bs few =
+      Leaves-bind n n (within inner bs (λ p. indefinite_pairs_by m p (suc (length bs)) bs)) _ (within_leaves inner leaves n bs _ (λ p leaves. indefinite_pairs_leave p leaves _ n bs few)) (λ pairs few. few)
 
   -- ---- items
 
@@ -197,19 +197,19 @@ module _ {Item Items Pairs : Type 0} (m : Reading Item Items Pairs) where
       (Leaves-cond n (eqb major 4) _ _ (array_leaves inner leaves w k n bs few)
       (Leaves-cond n (eqb major 5) _ _ (map_leaves inner leaves w k n bs few) (tag_leaves inner leaves w k n bs few))))))
 
-  open_leaves : (inner : Option (List ℕ → Reads Item)) → LeavesNoMoreInside inner → (major n : ℕ) (bs : List ℕ) → length bs ≤ n → Leaves n (open_at m inner major bs)
-  unfolding open_at
-  open_leaves inner leaves major n bs few =
+  indefinite_leaves : (inner : Option (List ℕ → Reads Item)) → LeavesNoMoreInside inner → (major n : ℕ) (bs : List ℕ) → length bs ≤ n → Leaves n (indefinite_at m inner major bs)
+  unfolding indefinite_at
+  indefinite_leaves inner leaves major n bs few =
       Leaves-cond n (eqb major 2) _ _ (string_chunks_leaves n bs few)
       (Leaves-cond n (eqb major 3) _ _ (text_chunks_leaves n bs few)
-      (Leaves-cond n (eqb major 4) _ _ (open_array_leaves inner leaves n bs few)
-      (Leaves-cond n (eqb major 5) _ _ (open_map_leaves inner leaves n bs few) tt)))
+      (Leaves-cond n (eqb major 4) _ _ (indefinite_array_leaves inner leaves n bs few)
+      (Leaves-cond n (eqb major 5) _ _ (indefinite_map_leaves inner leaves n bs few) tt)))
 
   after_first_leaves : (inner : Option (List ℕ → Reads Item)) → LeavesNoMoreInside inner → (b n : ℕ) (bs : List ℕ) → length bs ≤ n → Leaves n (after_first m inner b bs)
   unfolding after_first
   after_first_leaves inner leaves b n bs few =
       Leaves-cond n (eqb (b / 32) 7) _ _ (simple_leaves (b % 32) n bs few)
-      (Leaves-cond n (eqb (b % 32) 31) _ _ (open_leaves inner leaves (b / 32) n bs few)
+      (Leaves-cond n (eqb (b % 32) 31) _ _ (indefinite_leaves inner leaves (b / 32) n bs few)
       (Leaves-bind n n (number_behind (b % 32) bs) _ (number_behind_leaves (b % 32) n bs few) (λ k few. content_leaves inner leaves (b / 32) _ k.0 n k.1 few)))
 
   -- one byte is the first

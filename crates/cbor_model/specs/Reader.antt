@@ -175,16 +175,16 @@ items_by m p (suc n) bs = do
   others ← items_by m p n first.1
   Ok (m.item first.0 others.0, others.1)
 
--- whether another element comes, and not the break of an open form, which is taken then
+-- whether another element comes, and not the break of an indefinite length, which is taken then
 unfoldable pub more_at : Refusal → List ℕ → Reads Bool
 more_at why [] = Err (record { why = why; left = 0 })
 more_at why (b ∷ bs) = if b == 0xff then Ok (false, bs) else Ok (true, b ∷ bs)
 
 -- items up to the break, which take fewer bytes than fuel
-unfoldable pub open_items_by : {Item Items Pairs : Type 0} → Reading Item Items Pairs → (List ℕ → Reads Item) → ℕ → List ℕ → Reads Items
-open_items_by m p zero bs = Err ended
-open_items_by m p (suc fuel) bs = more_at end_in_array bs >>= (λ more.
-    if more.0 then p more.1 >>= (λ first. open_items_by m p fuel first.1 >>= (λ others. Ok (m.item first.0 others.0, others.1)))
+unfoldable pub indefinite_items_by : {Item Items Pairs : Type 0} → Reading Item Items Pairs → (List ℕ → Reads Item) → ℕ → List ℕ → Reads Items
+indefinite_items_by m p zero bs = Err ended
+indefinite_items_by m p (suc fuel) bs = more_at end_in_array bs >>= (λ more.
+    if more.0 then p more.1 >>= (λ first. indefinite_items_by m p fuel first.1 >>= (λ others. Ok (m.item first.0 others.0, others.1)))
     else Ok (m.no_items, more.1))
 
 -- n pairs, one after the other, each key and each value read by p
@@ -197,10 +197,10 @@ pairs_by m p (suc n) bs = do
   Ok (m.pair k.0 v.0 others.0, others.1)
 
 -- pairs up to the break, which take fewer bytes than fuel
-unfoldable pub open_pairs_by : {Item Items Pairs : Type 0} → Reading Item Items Pairs → (List ℕ → Reads Item) → ℕ → List ℕ → Reads Pairs
-open_pairs_by m p zero bs = Err ended
-open_pairs_by m p (suc fuel) bs = more_at end_in_map bs >>= (λ more.
-    if more.0 then p more.1 >>= (λ k. p k.1 >>= (λ v. open_pairs_by m p fuel v.1 >>= (λ others. Ok (m.pair k.0 v.0 others.0, others.1))))
+unfoldable pub indefinite_pairs_by : {Item Items Pairs : Type 0} → Reading Item Items Pairs → (List ℕ → Reads Item) → ℕ → List ℕ → Reads Pairs
+indefinite_pairs_by m p zero bs = Err ended
+indefinite_pairs_by m p (suc fuel) bs = more_at end_in_map bs >>= (λ more.
+    if more.0 then p more.1 >>= (λ k. p k.1 >>= (λ v. indefinite_pairs_by m p fuel v.1 >>= (λ others. Ok (m.pair k.0 v.0 others.0, others.1))))
     else Ok (m.no_pairs, more.1))
 
 -- what lies one level further in, where one is left
@@ -217,11 +217,11 @@ map_at m inner w n bs = within inner bs (λ p. pairs_by m p n bs) >>= (λ pairs.
 unfoldable pub tag_at : {Item Items Pairs : Type 0} → Reading Item Items Pairs → Option (List ℕ → Reads Item) → HeadWidth → ℕ → List ℕ → Reads Item
 tag_at m inner w n bs = within inner bs (λ p. p bs) >>= (λ item. Ok (m.tag w n item.0, item.1))
 
-unfoldable pub open_array_at : {Item Items Pairs : Type 0} → Reading Item Items Pairs → Option (List ℕ → Reads Item) → List ℕ → Reads Item
-open_array_at m inner bs = within inner bs (λ p. open_items_by m p (suc (length bs)) bs) >>= (λ items. Ok (m.array indefinite items.0, items.1))
+unfoldable pub indefinite_array_at : {Item Items Pairs : Type 0} → Reading Item Items Pairs → Option (List ℕ → Reads Item) → List ℕ → Reads Item
+indefinite_array_at m inner bs = within inner bs (λ p. indefinite_items_by m p (suc (length bs)) bs) >>= (λ items. Ok (m.array indefinite items.0, items.1))
 
-unfoldable pub open_map_at : {Item Items Pairs : Type 0} → Reading Item Items Pairs → Option (List ℕ → Reads Item) → List ℕ → Reads Item
-open_map_at m inner bs = within inner bs (λ p. open_pairs_by m p (suc (length bs)) bs) >>= (λ pairs. Ok (m.map indefinite pairs.0, pairs.1))
+unfoldable pub indefinite_map_at : {Item Items Pairs : Type 0} → Reading Item Items Pairs → Option (List ℕ → Reads Item) → List ℕ → Reads Item
+indefinite_map_at m inner bs = within inner bs (λ p. indefinite_pairs_by m p (suc (length bs)) bs) >>= (λ pairs. Ok (m.map indefinite pairs.0, pairs.1))
 
 -- what follows the head of a major type below 7
 unfoldable pub content_at : {Item Items Pairs : Type 0} → Reading Item Items Pairs → Option (List ℕ → Reads Item) → ℕ → HeadWidth → ℕ → List ℕ → Reads Item
@@ -234,20 +234,20 @@ content_at m inner major w n bs =
     else (if major == 5 then map_at m inner w n bs
     else tag_at m inner w n bs)))))
 
--- what follows the first byte of an open form or of a chunked string
-unfoldable pub open_at : {Item Items Pairs : Type 0} → Reading Item Items Pairs → Option (List ℕ → Reads Item) → ℕ → List ℕ → Reads Item
-open_at m inner major bs =
+-- what follows the first byte of an indefinite length
+unfoldable pub indefinite_at : {Item Items Pairs : Type 0} → Reading Item Items Pairs → Option (List ℕ → Reads Item) → ℕ → List ℕ → Reads Item
+indefinite_at m inner major bs =
     if major == 2 then string_chunks_at m bs
     else (if major == 3 then text_chunks_at m bs
-    else (if major == 4 then open_array_at m inner bs
-    else (if major == 5 then open_map_at m inner bs
+    else (if major == 4 then indefinite_array_at m inner bs
+    else (if major == 5 then indefinite_map_at m inner bs
     else Err (before unassigned_code bs))))
 
 -- what follows the first byte b
 unfoldable pub after_first : {Item Items Pairs : Type 0} → Reading Item Items Pairs → Option (List ℕ → Reads Item) → ℕ → List ℕ → Reads Item
 after_first m inner b bs =
     if b / 32 == 7 then simple_at m (b % 32) bs
-    else (if b % 32 == 31 then open_at m inner (b / 32) bs
+    else (if b % 32 == 31 then indefinite_at m inner (b / 32) bs
     else number_behind (b % 32) bs >>= (λ n. content_at m inner (b / 32) (width_of (b % 32)) n.0 n.1))
 
 -- an item, where inner reads what lies one level further in if one is left
@@ -284,10 +284,10 @@ trailing = refl
 
 -- bf 00 ff: a break in the place of a value
 break_as_value : read_value (0xbf ∷ 0x00 ∷ 0xff ∷ []) ≡ Err (record { why = unexpected_code; left = 0 })
-unfolding read_value item_at item_by byte_at after_first open_at open_map_at open_pairs_by more_at number_behind content_at simple_at float_at
+unfolding read_value item_at item_by byte_at after_first indefinite_at indefinite_map_at indefinite_pairs_by more_at number_behind content_at simple_at float_at
 break_as_value = refl
 
 -- 9f 01: the break is wanted
-open_ends : read_value (0x9f ∷ 0x01 ∷ []) ≡ Err (record { why = end_in_array; left = 0 })
-unfolding read_value item_at item_by byte_at after_first open_at open_array_at open_items_by more_at number_behind content_at
-open_ends = refl
+break_wanted : read_value (0x9f ∷ 0x01 ∷ []) ≡ Err (record { why = end_in_array; left = 0 })
+unfolding read_value item_at item_by byte_at after_first indefinite_at indefinite_array_at indefinite_items_by more_at number_behind content_at
+break_wanted = refl
