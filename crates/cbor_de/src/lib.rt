@@ -31,20 +31,23 @@ const MAX_DEPTH: u8 = 127;
 
 /// The value of the one item that the bytes spell (RFC 7049, sections 2.1 to 2.4).
 ///
-/// Heads that aren't shortest, indefinite lengths are read too. Null and undefined are
-/// `Null`; of a map's pairs with one key the last value stays, and the keys are put in order.
+/// Any acceptable item is read: well formed, nested at most 127 levels deep, each text UTF-8. Heads may
+/// be longer than they have to be, and lengths indefinite. Null and undefined are `Null`; of a map's
+/// pairs with one key the last value stays, and the keys are put in order. Of the simple values only
+/// false, true, null and undefined are read (`f0` and `f8 ff` are refused).
 ///
 /// The refusals, each at an offset in bytes:
 /// - `EofWhileParsingValue`, `EofWhileParsingArray`, `EofWhileParsingMap`: the bytes end too early,
-///   the latter two where an element of an array or a key of a map of indefinite length, or its break, is due;
-///   at the end of the bytes;
-/// - `UnassignedCode`: a first byte that the format doesn't assign, after that byte;
+///   the latter two where an element of an array or a key of a map of indefinite length, or its
+///   break, is due; at the end of the bytes;
+/// - `UnassignedCode`: a first byte that the format doesn't assign, or that of another simple value,
+///   after that byte;
 /// - `UnexpectedCode`: a break, or a byte in a chunk's place, that may not stand there, after it;
 /// - `InvalidUtf8`: a text isn't UTF-8, at its first byte that isn't;
 /// - `LengthOutOfRange`: a text would end at 2^64 or beyond, after its head;
 /// - `RecursionLimitExceeded`: the 128th array, map or tag inside others, after its head;
 /// - `TrailingData`: bytes follow the item, after the first of them;
-/// - `OutOfMemory`: a growth was refused. No memory is taken on the word of a head.
+/// - `OutOfMemory`: an allocation failed. No memory is taken on the word of a head.
 ///
 /// ```rust
 /// let value: Value = from_slice(alloc, &[0x82, 0x18, 0x17, 0xf7])?;

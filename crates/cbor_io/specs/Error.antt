@@ -14,7 +14,7 @@ code_of e = e.code
 abbrev pub offset_of : Error → ℕ
 offset_of e = e.offset
 
--- a growth was refused
+-- an allocation failed
 abbrev pub IsOutOfMemory : Error → Type 0
 IsOutOfMemory e = (e.code ≡ OutOfMemory) × (e.offset ≡ 0)
 

@@ -35,7 +35,8 @@ pub enum ErrorCode {
     LengthOutOfRange,
     /// A text isn't UTF-8. The offset is that of the first byte that isn't.
     InvalidUtf8,
-    /// A first byte that RFC 7049 leaves unassigned.
+    /// A first byte that begins no item of RFC 7049, or begins a simple value other than false, true, null
+    /// and undefined (`e0` to `f3`, and `f8`), which this library doesn't have.
     UnassignedCode,
     /// A first byte that may not stand here.
     UnexpectedCode,
@@ -51,7 +52,7 @@ pub enum ErrorCode {
     WrongEnumFormat,
     /// A map's key in a form that is disabled.
     WrongStructFormat,
-    /// A growth was refused.
+    /// An allocation failed.
     OutOfMemory,
 }
 
@@ -198,7 +199,7 @@ impl Error {
         matches!(&self.code, ErrorCode::ScratchTooSmall)
     }
 
-    /// Whether a growth was refused.
+    /// Whether an allocation failed.
     pub fn is_memory(&self) -> bool
         ensures { IsTrue result ↔ (code_of self.now ≡ OutOfMemory) }
     {

@@ -40,7 +40,7 @@ const DOUBLE: u8 = 0xfb;
 /// them, and floats in their width.
 ///
 /// It refuses an integer outside `-2^64..=2^64-1`, at any depth, with the message
-/// `The number can't be stored in CBOR`, and answers `OutOfMemory` where a growth is refused. A value
+/// `The number can't be stored in CBOR`, and answers `OutOfMemory` where an allocation fails. A value
 /// may be nested deeper than the 127 levels that are read.
 ///
 /// ```rust

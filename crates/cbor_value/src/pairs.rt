@@ -63,8 +63,8 @@ impl Map {
 
     /// Puts a pair in, and answers the value that the key had before.
     ///
-    /// The map grows only where the key is new. A refused growth leaves the map as it was, and drops
-    /// the pair: the growth comes first.
+    /// The map grows only where the key is new. Where its allocation fails, the map stays as it was, and
+    /// the pair is dropped.
     ///
     /// ```rust
     /// let mut map = Map::new(alloc);

@@ -201,7 +201,7 @@ fn tells_the_ends_of_a_map(rt: HostRuntime) -> Result<(), Fail> {
     Ok(())
 }
 
-/// Inserts a key. Where the growth is refused, the map is as it was.
+/// Inserts a key. Where the allocation fails, the map is as it was.
 fn insert_or_keep(rt: &impl Abort, alloc: Global, map: &mut Map, key: Value) -> Result<(), Fail> {
     let before = Value::Map(map.clone(alloc)?);
     match map.insert(key, Value::Null) {
