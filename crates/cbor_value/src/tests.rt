@@ -326,6 +326,24 @@ fn sorts_simple_values(rt: HostRuntime) -> Result<(), Fail> {
 }
 
 #[test]
+fn sorts_floats_by_width(rt: HostRuntime) {
+    let ascending = [
+        Float::Half(0),
+        Float::Half(0xffff),
+        Float::Single(0),
+        Float::Single(u32::MAX),
+        Float::Double(0),
+        Float::Double(u64::MAX),
+    ];
+    for (i, a) in ascending.iter().enumerate() {
+        for (j, b) in ascending.iter().enumerate() {
+            assert_eq!(rt; a.cmp(b), i.cmp(&j));
+            assert_eq!(rt; a == b, i == j);
+        }
+    }
+}
+
+#[test]
 fn sorts_kinds(rt: HostRuntime) -> Result<(), Fail> {
     let alloc = rt.alloc();
     stands_sorted(
