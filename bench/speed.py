@@ -12,6 +12,7 @@ HERE = os.path.dirname(os.path.abspath(__file__))
 OURS = os.path.join(HERE, '..', 'crates', 'cbor_bench', 'out', 'cbor_bench')
 PEERS = [os.path.join(HERE, 'out', 'measured'), os.path.join(HERE, 'out', 'libcbor')]
 READ, READ_AND_WRITE = 0, 1
+ROUNDS = 5
 
 
 class Request:
@@ -28,7 +29,7 @@ class Request:
         return subprocess.Popen(program, stdin=given, stdout=subprocess.DEVNULL, stderr=subprocess.PIPE)
 
 
-def seconds(program, request, times):
+def seconds(program, times, request):
     """The time that the CPU worked for one run, user and system."""
     run = request.given_to([program], times)
     _, status, used = os.wait4(run.pid, 0)
@@ -37,30 +38,37 @@ def seconds(program, request, times):
     return used.ru_utime + used.ru_stime
 
 
-def milliseconds(program, request):
-    """The CPU time of one turn, in ms: the least of three runs of many turns, less the start."""
-    start = min(seconds(program, request, 0) for _ in range(3))
-    first = max(seconds(program, request, 1) - start, 0.005)
-    times = max(1, min(100, round(0.5 / first)))
-    return max(min(seconds(program, request, times) for _ in range(3)) - start, 0) * 1000 / times
+def least(programs, request, times):
+    """The least CPU time of each program's runs; the programs run in turn."""
+    rounds = [[seconds(*run, request) for run in zip(programs, times)] for _ in range(ROUNDS)]
+    return [min(runs) for runs in zip(*rounds)]
 
 
-def instructions(program, request, times):
+def milliseconds(programs, request):
+    """The CPU time of one turn by each program, in ms, less that of its start."""
+    starts = least(programs, request, [0] * len(programs))
+    firsts = [seconds(program, 1, request) - start for program, start in zip(programs, starts)]
+    times = [max(1, min(100, round(0.5 / max(first, 0.005)))) for first in firsts]
+    wholes = least(programs, request, times)
+    return [max(0, whole - start) * 1000 / n for whole, start, n in zip(wholes, starts, times)]
+
+
+def instructions(program, times, request):
     run = request.given_to(['valgrind', '--tool=callgrind', '--callgrind-out-file=/dev/null', program], times)
     _, report = run.communicate()
     assert run.returncode == 0, report.decode()
     return int(re.search(rb'Collected : (\d+)', report)[1])
 
 
-def millions(program, request):
-    """The instructions of one turn, in millions: those of a run of one, less the start."""
-    return (instructions(program, request, 1) - instructions(program, request, 0)) / 1e6
+def millions(programs, request):
+    """The instructions of one turn by each program, in millions: those of one turn, less its start."""
+    return [(instructions(p, 1, request) - instructions(p, 0, request)) / 1e6 for p in programs]
 
 
 def row(shape, item, measure):
     cells = [shape]
     for task in (READ, READ_AND_WRITE):
-        ours, *theirs = (measure(program, Request(task, item)) for program in [OURS, *PEERS])
+        ours, *theirs = measure([OURS, *PEERS], Request(task, item))
         cells += [f'{ours:.2f}', *(f'{other / ours:.2f}' if ours else '' for other in theirs)]
     return '| ' + ' | '.join(cells) + ' |'
 
@@ -79,7 +87,8 @@ def growth(word, measure, unit, most):
     print('|---|' + '---|' * len(counts))
     for order in shapes.ORDERS:
         if word in order:
-            costs = [measure(OURS, Request(READ, shapes.of_pairs(count, order))) for count in counts]
+            inputs = (Request(READ, shapes.of_pairs(count, order)) for count in counts)
+            costs = [measure([OURS], request)[0] for request in inputs]
             print(f'| {order} | ' + ' | '.join(f'{cost:.1f}' for cost in costs) + ' |', flush=True)
 
 

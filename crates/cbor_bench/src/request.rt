@@ -53,7 +53,7 @@ impl<'a> Request<'a> {
     }
 
     /// Does it as many times as it says, each time from the item's bytes, and answers what the last
-    /// turn wrote.
+    /// turn wrote. What another turn reads and writes is dropped at its end.
     ///
     /// It stops at the first refusal, which is `from_slice`'s or for want of memory.
     pub fn repeat(&self, alloc: Global) -> Result<Option<Vec<u8>>>
@@ -66,11 +66,13 @@ impl<'a> Request<'a> {
             (read_value self.now.item.now)) }
         ensures idle { OnErr result (0 < self.now.times) }
     {
-        let mut last = None;
-        'turns: for _ in 0..self.times {
-            last = perform(alloc, self.task, self.item)?;
+        if self.times == 0 {
+            return Ok(None);
         }
-        Ok(last)
+        'turns: for _ in 1..self.times {
+            perform(alloc, self.task, self.item)?;
+        }
+        perform(alloc, self.task, self.item)
     }
 }
 
