@@ -1,2 +1,3 @@
 pub mod Error
 pub mod Head
+pub mod Write

@@ -1,8 +1,8 @@
 //! Writing values.
 //!
-//! It names the definitions of `cbor_model`, the error and the major types of `cbor_io`, and the
-//! values of `cbor_value` with their facts; nothing of reading. Others rely on the contract of
-//! [`to_vec`] alone, and on `specs/Written.antt`, which says when a value is refused.
+//! It names the definitions of `cbor_model`, the error and the major types of `cbor_io`, whose sinks
+//! it passes on, and the values of `cbor_value` with their facts; nothing of reading. Others rely on
+//! the contract of [`to_vec`] alone, and on `specs/Written.antt`, which says when a value is refused.
 #![tactic(auto)]
 
 ghost use Rattle.std.specs.Prelude.{◌≡◌, ◌++◌, length, IfOk, IfErr, OnOk};
@@ -22,6 +22,8 @@ use cbor_io::error::{Error, Result};
 use cbor_io::head::Major;
 use cbor_value::{Float, Map, Value};
 use std::alloc::Global;
+
+pub use cbor_io::write::{IoWrite, SliceWrite, Write};
 
 // The first bytes of the items of major type 7.
 const FALSE: u8 = 0xf4;

@@ -11,6 +11,7 @@ pub use Rattle.cbor_model.specs.Refusal
 pub use Rattle.cbor_model.specs.Reader
 pub use Rattle.cbor_model.specs.Laws
 pub use Rattle.cbor_io.specs.Error
+pub use Rattle.cbor_io.specs.Write
 pub use Rattle.cbor_value.specs.View
 pub use Rattle.cbor_de.specs.Gives
 pub use Rattle.cbor_ser.specs.Written

@@ -1,0 +1,5 @@
+use Rattle.cbor_io.proofs.Fronts.{WritesFront-more}
+use Rattle.cbor_io.proofs.write.io_write.write_whole.Goals as goal
+
+pub bytes-preserved : goal.bytes-preserved
+bytes-preserved g c = WritesFront-more _ _ _ _ _ _ c.bytes.invariant c.in_ok-count.ensures.written

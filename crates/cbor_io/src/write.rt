@@ -1,0 +1,71 @@
+//! Sinks: what takes the bytes that are written.
+
+use crate::error::Result;
+
+mod io_write;
+mod slice_write;
+
+pub use io_write::IoWrite;
+pub use slice_write::SliceWrite;
+
+#[cfg(test)]
+mod tests;
+
+/// What takes bytes, piece by piece.
+///
+/// A head is one piece, and so is what a string holds. Implement it for a device of your own, or
+/// pass a `Vec<u8>`, an [`IoWrite`], a [`SliceWrite`], or a `&mut` of any of these.
+///
+/// ```rust
+/// let mut bytes: Vec<u8> = Vec::new(alloc);
+/// bytes.write_all(b"\x61")?;
+/// bytes.write_all(b"a")?;
+/// assert_eq!(rt; bytes.as_slice(), b"\x61a".as_slice());
+/// ```
+pub trait Write {
+    ghost use Rattle.cbor_io.specs.Write.{Wrote};
+    ghost use Rattle.cbor_io.specs.declared.error.Error.{Error};
+    ghost use Rattle.std.specs.Prelude.{ℕ, List, Option, IfErr};
+
+    // The bytes that it was given; None where it doesn't tell them.
+    ghost written: { Self → Option (List ℕ) };
+
+    // Which errors it answers, by what the refusal leaves.
+    ghost refuses: { Self → Error → Type 0 };
+
+    /// Appends a piece to the bytes written, or refuses. What a refusal has appended is a beginning
+    /// of the piece, nothing and all of it included.
+    fn write_all(&mut self, buf: &[u8]) -> Result<()>
+        ensures written { Wrote (written self.old) buf.now (written self.new) result }
+        ensures refused { IfErr result (λ e. refuses self.new e) };
+}
+
+/// It grows by each piece. Where a growth is refused it answers `OutOfMemory`, and stays as it was.
+impl Write for Vec<u8> {
+    ghost use Rattle.cbor_io.specs.Error.{IsOutOfMemory};
+    ghost use Rattle.cbor_io.specs.Write.{Wrote};
+    ghost use Rattle.std.specs.Prelude.{◌≡◌, Some, IfErr, OnErr};
+
+    ghost written = { λ v. Some v.items };
+
+    ghost refuses = { λ _ e. IsOutOfMemory e };
+
+    fn write_all(&mut self, buf: &[u8]) -> Result<()>
+        ensures written { Wrote (Some self.old.items) buf.now (Some self.new.items) result }
+        ensures refused { IfErr result (λ e. IsOutOfMemory e) }
+        ensures unchanged { OnErr result (self.new.items ≡ self.old.items) }
+    {
+        self.extend_from_slice(buf)?;
+        Ok(())
+    }
+}
+
+impl<W: Write> Write for &mut W {
+    ghost written = { λ w. W.written w.now };
+
+    ghost refuses = { λ w e. W.refuses w.now e };
+
+    fn write_all(&mut self, buf: &[u8]) -> Result<()> {
+        W::write_all(*self, buf)
+    }
+}
