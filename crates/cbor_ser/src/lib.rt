@@ -20,10 +20,9 @@ ghost use Rattle.cbor_ser.specs.Written.{IsNotWritten};
 
 use cbor_io::error::{Error, Result};
 use cbor_io::head::Major;
+pub use cbor_io::write::{IoWrite, SliceWrite, Write};
 use cbor_value::{Float, Map, Value};
 use std::alloc::Global;
-
-pub use cbor_io::write::{IoWrite, SliceWrite, Write};
 
 // The first bytes of the items of major type 7.
 const FALSE: u8 = 0xf4;
