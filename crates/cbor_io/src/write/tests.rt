@@ -1,6 +1,6 @@
 use super::{IoWrite, SliceWrite, Write};
 use crate::error::Result;
-use std::alloc::Global;
+use std::alloc::{AllocError, Global};
 use std::io;
 use std::io::ErrorKind;
 use std::process::Abort;
@@ -19,13 +19,18 @@ struct FailingWriter {
 }
 
 impl FailingWriter {
-    fn new(alloc: Global, left: usize, kind: ErrorKind) -> FailingWriter {
-        FailingWriter {
-            taken: Vec::new(alloc),
+    /// It has its memory from the beginning, so that no write can fail for want of it.
+    fn new(
+        alloc: Global,
+        left: usize,
+        kind: ErrorKind,
+    ) -> std::result::Result<FailingWriter, AllocError> {
+        Ok(FailingWriter {
+            taken: Vec::with_capacity(alloc, 16)?,
             left,
             is_interrupted: false,
             kind,
-        }
+        })
     }
 }
 
@@ -141,7 +146,7 @@ fn appends_to_a_vector(rt: HostRuntime) -> Done {
 
 #[test]
 fn writes_to_a_writer(rt: HostRuntime) -> Done {
-    let mut writer = FailingWriter::new(rt.alloc(), 4, ErrorKind::BrokenPipe);
+    let mut writer = FailingWriter::new(rt.alloc(), 4, ErrorKind::BrokenPipe)?;
     {
         let mut sink = IoWrite::new(&mut writer);
         sink.write_all(b"\x66")?;
@@ -155,7 +160,7 @@ fn writes_to_a_writer(rt: HostRuntime) -> Done {
 fn tells_a_writers_fault(rt: HostRuntime) -> Done {
     let alloc = rt.alloc();
     for left in 0..3usize {
-        let mut writer = FailingWriter::new(alloc, left, ErrorKind::BrokenPipe);
+        let mut writer = FailingWriter::new(alloc, left, ErrorKind::BrokenPipe)?;
         let refused = IoWrite::new(&mut writer).write_all(b"foobar");
         is_refused(&rt, alloc, refused, "I/O error")?;
         assert_eq!(rt; writer.taken.len(), 2 * left);
