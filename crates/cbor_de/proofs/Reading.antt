@@ -1,5 +1,5 @@
 -- Reading items one after the other, as a loop does.
-use Rattle.std.proofs.Common.{◌≡◌, ℕ, suc, ◌-◌, ◌+◌, ◌^◌, ◌≤◌, ◌<◌, true, false, eqb, ltb, List, [], ◌∷◌, ◌++◌, length, Result, Ok, Err, refl, sym, ap, ◌∙◌, arith}
+use Rattle.std.proofs.Common.{◌≡◌, ℕ, suc, ◌-◌, ◌+◌, ◌^◌, ◌<◌, true, false, eqb, ltb, List, [], ◌∷◌, ◌++◌, length, Some, None, Result, Ok, Err, refl, sym, ap, ◌∙◌, arith}
 use Rattle.std.specs.Prelude.{IsUtf8}
 use Rattle.std.specs.Str.Lossy.{utf8_valid_len}
 use Rattle.std.proofs.lemmas.Bool.{eq-eqb, ne_eqb}
@@ -8,8 +8,8 @@ use Rattle.cbor_model.specs.Head.{HeadWidth}
 use Rattle.cbor_model.specs.Raw.{Chunk, joined}
 use Rattle.cbor_model.specs.Plain.{Val, text, Vals, no_vals, val}
 use Rattle.cbor_model.specs.Refusal.{end_in_array, invalid_utf8}
-use Rattle.cbor_model.specs.Reader.{Fault, Reads, ◌>>=◌, values_within, bytes_at, text_at, checked_text, chunks_at, text_chunks_at, more_at, items_by, indefinite_items_by, item_at}
-use Rattle.cbor_model.proofs.facts.Reader.{ok_is, taken, more_taken, indefinite_items_by-fuel, IsUtf8-from_valid_len}
+use Rattle.cbor_model.specs.Reader.{Fault, Reads, ◌>>=◌, values_within, bytes_at, text_at, checked_text, chunks_at, text_chunks_at, Remaining, next_at, parts_by, parts_at, items_of, item_at}
+use Rattle.cbor_model.proofs.facts.Reader.{ok_is, taken, next_taken, parts_by-fuel, IsUtf8-from_valid_len}
 use Rattle.cbor_io.specs.declared.error.ErrorCode.{ErrorCode}
 use Rattle.cbor_io.specs.declared.error.ErrorCode.TheVariants as code
 use Rattle.cbor_io.specs.declared.error.Error.{Error}
@@ -62,66 +62,41 @@ regroup front v (Ok x) = ap (λ (vs : Vals). Ok (vs, x.1)) (sym (append-push fro
 regroup front v (Err f) = refl
 
 module _ (end levels : ℕ) where
-  -- an item, and n items, in an input of this length, where so many levels are left
+  -- an item, in an input of this length, where so many levels are left
   abbrev pub value_at : List ℕ → Reads Val
   value_at = item_at (values_within end) levels
 
-  abbrev pub values_at : ℕ → List ℕ → Reads Vals
-  values_at n bs = items_by (values_within end) value_at n bs
+  -- the items that remain
+  abbrev pub values_at : Remaining → List ℕ → Reads Vals
+  values_at remaining bs = parts_at (items_of (values_within end) value_at) remaining bs
 
-  pub goes_on : (front : List Val) (count i : ℕ) (bs : List ℕ) (v : Val) (after : List ℕ) (all : Reads Vals) → i < count → value_at bs ≡ Ok (v, after)
-      → with_front front (values_at (count - i) bs) ≡ all → with_front (front ++ v ∷ []) (values_at (count - (i + 1)) after) ≡ all
-  unfolding items_by
-  goes_on front count i bs v after all lt h so_far =
-      let k : count - i ≡ suc (count - (i + 1)) = omega arith in
-      let one : with_front front (values_at (count - i) bs) ≡ with_front (front ++ v ∷ []) (values_at (count - (i + 1)) after) = rw (k, h) (regroup front v (values_at (count - (i + 1)) after)) in
-      sym one ∙ so_far
-
-  pub faulted : (front : List Val) (count i : ℕ) (bs : List ℕ) (all : Reads Vals) → i < count → with_front front (values_at (count - i) bs) ≡ all → (f : Fault) → value_at bs ≡ Err f → all ≡ Err f
-  unfolding items_by
-  faulted front count i bs all lt so_far f h =
-      let k : count - i ≡ suc (count - (i + 1)) = omega arith in
-      let one : with_front front (values_at (count - i) bs) ≡ Err f = rw (k, h) refl in
-      sym so_far ∙ one
-
-  pub is_done : (front : List Val) (count i : ℕ) (bs : List ℕ) (all : Reads Vals) → count ≤ i → with_front front (values_at (count - i) bs) ≡ all → all ≡ Ok (vals_of front, bs)
-  unfolding items_by
-  is_done front count i bs all le so_far =
-      let k : count - i ≡ 0 = omega arith in
-      let one : with_front front (values_at (count - i) bs) ≡ Ok (vals_of front, bs) = rw k (ap (λ (vs : Vals). Ok (vs, bs)) (append-none front)) in
-      sym so_far ∙ one
-
-  -- ---- items up to a break
-
-  abbrev pub indefinite_values_at : List ℕ → Reads Vals
-  indefinite_values_at bs = indefinite_items_by (values_within end) value_at (suc (length bs)) bs
-
-  pub indefinite_goes_on : (front : List Val) (bs mid after : List ℕ) (v : Val) (all : Reads Vals) → more_at end_in_array bs ≡ Ok (true, mid) → value_at mid ≡ Ok (v, after)
-      → with_front front (indefinite_values_at bs) ≡ all → with_front (front ++ v ∷ []) (indefinite_values_at after) ≡ all
-  unfolding indefinite_items_by
-  indefinite_goes_on front bs mid after v all more h so_far =
+  pub goes_on : (front : List Val) (remaining remaining' : Remaining) (bs mid after : List ℕ) (v : Val) (all : Reads Vals) → next_at end_in_array remaining bs ≡ Ok (Some remaining', mid) → value_at mid ≡ Ok (v, after)
+      → with_front front (values_at remaining bs) ≡ all → with_front (front ++ v ∷ []) (values_at remaining' after) ≡ all
+  unfolding parts_by
+  goes_on front remaining remaining' bs mid after v all next h so_far =
       let m = values_within end in
-      let shorter : length after < length bs = omega (arith, taken m levels mid (v, after) h, more_taken end_in_array bs (true, mid) more) in
-      let fuel = indefinite_items_by-fuel m value_at (taken m levels) (length bs) (suc (length after)) after shorter (omega arith) in
-      let one : with_front front (indefinite_values_at bs) ≡ with_front (front ++ v ∷ []) (indefinite_values_at after) = rw (more, h) (regroup front v (indefinite_items_by m value_at (length bs) after) ∙ ap (with_front (front ++ v ∷ [])) fuel) in
+      let ps = items_of m value_at in
+      let shorter : length after < length bs = omega (arith, taken m levels mid (v, after) h, next_taken end_in_array remaining bs (Some remaining', mid) next) in
+      let fuel = parts_by-fuel ps (taken m levels) (length bs) (suc (length after)) remaining' after shorter (omega arith) in
+      let one : with_front front (values_at remaining bs) ≡ with_front (front ++ v ∷ []) (values_at remaining' after) = rw (next, h) (regroup front v (parts_by ps (length bs) remaining' after) ∙ ap (with_front (front ++ v ∷ [])) fuel) in
       sym one ∙ so_far
 
-  pub indefinite_faulted : (front : List Val) (bs mid : List ℕ) (all : Reads Vals) → more_at end_in_array bs ≡ Ok (true, mid) → with_front front (indefinite_values_at bs) ≡ all → (f : Fault) → value_at mid ≡ Err f → all ≡ Err f
-  unfolding indefinite_items_by
-  indefinite_faulted front bs mid all more so_far f h =
-      let one : with_front front (indefinite_values_at bs) ≡ Err f = rw (more, h) refl in
+  pub faulted : (front : List Val) (remaining remaining' : Remaining) (bs mid : List ℕ) (all : Reads Vals) → next_at end_in_array remaining bs ≡ Ok (Some remaining', mid) → with_front front (values_at remaining bs) ≡ all → (f : Fault) → value_at mid ≡ Err f → all ≡ Err f
+  unfolding parts_by
+  faulted front remaining remaining' bs mid all next so_far f h =
+      let one : with_front front (values_at remaining bs) ≡ Err f = rw (next, h) refl in
       sym so_far ∙ one
 
-  pub indefinite_cut : (front : List Val) (bs : List ℕ) (all : Reads Vals) → with_front front (indefinite_values_at bs) ≡ all → (f : Fault) → more_at end_in_array bs ≡ Err f → all ≡ Err f
-  unfolding indefinite_items_by
-  indefinite_cut front bs all so_far f h =
-      let one : with_front front (indefinite_values_at bs) ≡ Err f = rw h refl in
+  pub cut : (front : List Val) (remaining : Remaining) (bs : List ℕ) (all : Reads Vals) → with_front front (values_at remaining bs) ≡ all → (f : Fault) → next_at end_in_array remaining bs ≡ Err f → all ≡ Err f
+  unfolding parts_by
+  cut front remaining bs all so_far f h =
+      let one : with_front front (values_at remaining bs) ≡ Err f = rw h refl in
       sym so_far ∙ one
 
-  pub indefinite_is_done : (front : List Val) (bs after : List ℕ) (all : Reads Vals) → more_at end_in_array bs ≡ Ok (false, after) → with_front front (indefinite_values_at bs) ≡ all → all ≡ Ok (vals_of front, after)
-  unfolding indefinite_items_by
-  indefinite_is_done front bs after all more so_far =
-      let one : with_front front (indefinite_values_at bs) ≡ Ok (vals_of front, after) = rw more (ap (λ (vs : Vals). Ok (vs, after)) (append-none front)) in
+  pub is_done : (front : List Val) (remaining : Remaining) (bs after : List ℕ) (all : Reads Vals) → next_at end_in_array remaining bs ≡ Ok (None, after) → with_front front (values_at remaining bs) ≡ all → all ≡ Ok (vals_of front, after)
+  unfolding parts_by
+  is_done front remaining bs after all next so_far =
+      let one : with_front front (values_at remaining bs) ≡ Ok (vals_of front, after) = rw next (ap (λ (vs : Vals). Ok (vs, after)) (append-none front)) in
       sym so_far ∙ one
 
 -- ---- texts

@@ -1,9 +1,12 @@
 -- What a reader of the code answers, beside what the reference reader answers.
-use Rattle.std.specs.Prelude.{◌≡◌, ◌+◌, ℕ, List, length, Result, Ok, Err}
+use Rattle.std.specs.Prelude.{◌≡◌, ◌+◌, ℕ, Bool, true, false, List, length, Option, Some, None, Result, Ok, Err}
 use Rattle.cbor_model.specs.Refusal.{Refusal, end_in_value, end_in_array, end_in_map, length_out_of_range, invalid_utf8, unassigned_code, unexpected_code, trailing_data, too_deep}
 use Rattle.cbor_model.specs.Raw.{Chunk, joined}
 use Rattle.cbor_model.specs.Plain.{Val, Vals, Pairs, no_pairs}
 use Rattle.cbor_model.specs.Reader.{Fault, Reads, ◌>>=◌, Reading, values_within}
+use Rattle.cbor_model.specs.Reader as reader
+use Rattle.cbor_de.specs.declared.source.Remaining.{Remaining}
+use Rattle.cbor_de.specs.declared.source.Remaining.TheVariants.{Counted, ToBreak}
 use Rattle.cbor_de.specs.declared.source.Collection.{Collection}
 use Rattle.cbor_de.specs.declared.source.Collection.TheVariants.{Array, Map}
 use Rattle.cbor_io.specs.declared.error.ErrorCode.{ErrorCode}
@@ -71,3 +74,13 @@ joined_of read = read >>= (λ cs. Ok (joined cs.0, cs.1))
 -- the pairs that are made of those that are read
 abbrev pub made_of : Reads (Pairs → Pairs) → Reads Pairs
 made_of read = read >>= (λ ps. Ok (ps.0 no_pairs, ps.1))
+
+-- what remains of an array or a map
+abbrev pub remaining_of : Remaining → reader.Remaining
+remaining_of (Counted n) = reader.counted n
+remaining_of ToBreak = reader.to_break
+
+-- what remains behind the next part, where one comes
+abbrev pub next_of : Remaining → Bool → Option reader.Remaining
+next_of remaining true = Some (remaining_of remaining)
+next_of remaining false = None

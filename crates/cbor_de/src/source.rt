@@ -2,9 +2,9 @@
 
 ghost use Rattle.std.specs.Prelude.{◌≡◌, ◌+◌, ◌-◌, ◌^◌, ◌%◌, ◌<◌, ◌≤◌, nat_lt, length, drop, OnOk, IfErr, IfOk};
 ghost use Rattle.std.specs.Int.{w8, w16, w32, w64};
-ghost use Rattle.cbor_model.specs.Reader.{byte_at, bytes_at, number_at, number_behind, width_of, chunk_at, more_at, item_at, inside, values_within};
+ghost use Rattle.cbor_model.specs.Reader.{byte_at, bytes_at, number_at, number_behind, width_of, chunk_at, next_at, item_at, inside, values_within};
 ghost use Rattle.cbor_io.specs.Error.{code_of, offset_of, HasNoOffset};
-ghost use Rattle.cbor_de.specs.Gives.{Input, GivesAt, total, end_of};
+ghost use Rattle.cbor_de.specs.Gives.{Input, GivesAt, total, end_of, remaining_of, next_of};
 ghost use Rattle.cbor_io.specs.declared.error.ErrorCode.TheVariants.{EofWhileParsingValue, TrailingData, RecursionLimitExceeded};
 
 use cbor_io::error::{Error, ErrorCode, Result};
@@ -19,6 +19,15 @@ pub const BREAK: u8 = 0xff;
 pub enum Collection {
     Array,
     Map,
+}
+
+/// What remains of an array or a map.
+#[derive(Clone, Copy)]
+pub enum Remaining {
+    /// So many items or pairs.
+    Counted(u64),
+    /// All up to the break.
+    ToBreak,
 }
 
 /// A slice of bytes, and how many of them were taken.
@@ -122,25 +131,37 @@ impl<'a> Source<'a> {
         Ok(taken)
     }
 
-    /// Whether another element comes. If not, the break is taken.
-    #[tactic(auto, unfolding(cbor_model::specs::Reader::more_at))]
-    pub fn more(&mut self, of: Collection) -> Result<bool>
-        ensures read { GivesAt (λ b. b) (more_at (end_of of)) self.old self.new result }
+    /// Whether another part of an array or a map comes, of which so much remains. A break that comes
+    /// in its place is taken.
+    #[tactic(auto, unfolding(cbor_model::specs::Reader::next_at))]
+    pub fn next(&mut self, remaining: &mut Remaining, of: Collection) -> Result<bool>
+        ensures read { GivesAt (next_of remaining.new)
+            (next_at (end_of of) (remaining_of remaining.old))
+            self.old self.new result }
         ensures forward { self.old.at ≤ self.new.at }
         ensures total { total self.new ≡ total self.old }
     {
-        if self.at == self.bytes.len() {
-            let code = match of {
-                Collection::Array => ErrorCode::EofWhileParsingArray,
-                Collection::Map => ErrorCode::EofWhileParsingMap,
-            };
-            return Err(Error::at(code, self.at as u64));
+        match remaining {
+            Remaining::Counted(0) => Ok(false),
+            Remaining::Counted(n) => {
+                *n -= 1;
+                Ok(true)
+            }
+            Remaining::ToBreak => {
+                if self.at == self.bytes.len() {
+                    let code = match of {
+                        Collection::Array => ErrorCode::EofWhileParsingArray,
+                        Collection::Map => ErrorCode::EofWhileParsingMap,
+                    };
+                    return Err(Error::at(code, self.at as u64));
+                }
+                if self.bytes[self.at] == BREAK {
+                    self.at += 1;
+                    return Ok(false);
+                }
+                Ok(true)
+            }
         }
-        if self.bytes[self.at] == BREAK {
-            self.at += 1;
-            return Ok(false);
-        }
-        Ok(true)
     }
 
     /// Takes the chunk of this first byte, which has to be one of the major type.

@@ -1,11 +1,12 @@
 //! The item at the front of a source, as a value.
 
-ghost use Rattle.std.specs.Prelude.{◌≡◌, ◌+◌, ◌<◌, ◌≤◌, suc, length, IfOk, OnOk};
-ghost use Rattle.cbor_model.specs.Reader.{inside, width_of, float_at, simple_at, text_at, items_by, indefinite_items_by, pairs_by, indefinite_pairs_by, array_at, indefinite_array_at, map_at, indefinite_map_at, tag_at, content_at, indefinite_at, string_chunks_at, text_chunks_at, chunks_at, after_first, item_at};
+ghost use Rattle.std.specs.Prelude.{◌≡◌, ◌+◌, ◌<◌, ◌≤◌, length, IfOk, OnOk};
+ghost use Rattle.cbor_model.specs.Raw.{Length};
+ghost use Rattle.cbor_model.specs.Reader.{inside, width_of, float_at, simple_at, text_at, parts_at, items_of, pairs_of, array_at, map_at, tag_at, content_at, indefinite_at, string_chunks_at, text_chunks_at, chunks_at, after_first, item_at};
 ghost use Rattle.cbor_value.specs.View.{view, views, float_view, map_view};
-ghost use Rattle.cbor_de.specs.Gives.{GivesFrom, total, joined_of, made_of};
+ghost use Rattle.cbor_de.specs.Gives.{GivesFrom, total, joined_of, made_of, remaining_of};
 
-use super::source::{BREAK, Collection, Source};
+use super::source::{BREAK, Collection, Remaining, Source};
 use cbor_io::error::{ErrorCode, Result};
 use cbor_value::{Float, Map, Value};
 use std::alloc::Global;
@@ -87,8 +88,8 @@ fn read_content(
             Ok(Value::Bytes(Vec::from_slice(alloc, bytes)?))
         }
         TEXT => read_text(alloc, source, low, n),
-        ARRAY => read_array(alloc, source, levels, low, n),
-        MAP => read_map(alloc, source, levels, low, n),
+        ARRAY => read_array(alloc, source, levels, Remaining::Counted(n)),
+        MAP => read_map(alloc, source, levels, Remaining::Counted(n)),
         _ => read_tag(alloc, source, levels, low, n),
     }
 }
@@ -106,8 +107,8 @@ fn read_indefinite(alloc: Global, source: &mut Source<'_>, levels: u8, major: u8
     match major {
         BYTES => read_byte_chunks(alloc, source),
         TEXT => read_text_chunks(alloc, source),
-        ARRAY => read_indefinite_array(alloc, source, levels),
-        MAP => read_indefinite_map(alloc, source, levels),
+        ARRAY => read_array(alloc, source, levels, Remaining::ToBreak),
+        MAP => read_map(alloc, source, levels, Remaining::ToBreak),
         _ => Err(source.fault(ErrorCode::UnassignedCode)),
     }
 }
@@ -177,130 +178,84 @@ fn read_chunks(alloc: Global, source: &mut Source<'_>, major: u8) -> Result<Vec<
     }
 }
 
-/// Reads an array behind its head.
+/// Reads an array behind its head, or behind its first byte.
 #[cycle(read)]
 #[tactic(auto, unfolding(cbor_model::specs::Reader::array_at))]
-fn read_array(alloc: Global, source: &mut Source<'_>, levels: u8, low: u8, n: u64) -> Result<Value>
-    ensures read { GivesFrom view
-        (λ m. array_at m (inside m levels) (width_of low) n)
+fn read_array(
+    alloc: Global,
+    source: &mut Source<'_>,
+    levels: u8,
+    remaining: Remaining,
+) -> Result<Value>
+    ensures read { (l : Length) → GivesFrom view
+        (λ m. array_at m (inside m levels) l (remaining_of remaining))
         source.old source.new result }
     ensures forward { OnOk result (source.old.at ≤ source.new.at) }
     ensures total { total source.new ≡ total source.old }
 {
     let inner = source.enter(levels)?;
-    let items = read_items(alloc, source, inner, n)?;
+    let items = read_items(alloc, source, inner, remaining)?;
     Ok(Value::Array(items))
 }
 
-/// Reads n items, where so many levels are left.
+/// Reads the items that remain, where so many levels are left.
 #[cycle(read)]
-fn read_items(alloc: Global, source: &mut Source<'_>, levels: u8, n: u64) -> Result<Vec<Value>>
+fn read_items(
+    alloc: Global,
+    source: &mut Source<'_>,
+    levels: u8,
+    mut remaining: Remaining,
+) -> Result<Vec<Value>>
     ensures read { GivesFrom (λ v. views v.items)
-        (λ m. items_by m (item_at m levels) n)
+        (λ m. parts_at (items_of m (item_at m levels)) (remaining_of remaining))
         source.old source.new result }
     ensures forward { OnOk result (source.old.at ≤ source.new.at) }
     ensures total { total source.new ≡ total source.old }
 {
     let mut items = Vec::new(alloc);
-    'items: for _ in 0..n {
+    'items: while source.next(&mut remaining, Collection::Array)? {
         let item = read_value(alloc, source, levels)?;
         items.push(item)?;
     }
     Ok(items)
 }
 
-/// Reads an array of indefinite length behind its first byte.
-#[cycle(read)]
-#[tactic(auto, unfolding(cbor_model::specs::Reader::indefinite_array_at))]
-fn read_indefinite_array(alloc: Global, source: &mut Source<'_>, levels: u8) -> Result<Value>
-    ensures read { GivesFrom view
-        (λ m. indefinite_array_at m (inside m levels))
-        source.old source.new result }
-    ensures forward { OnOk result (source.old.at ≤ source.new.at) }
-    ensures total { total source.new ≡ total source.old }
-{
-    let inner = source.enter(levels)?;
-    let items = read_indefinite_items(alloc, source, inner)?;
-    Ok(Value::Array(items))
-}
-
-/// Reads items up to the break, where so many levels are left.
-#[cycle(read)]
-fn read_indefinite_items(alloc: Global, source: &mut Source<'_>, levels: u8) -> Result<Vec<Value>>
-    ensures read { GivesFrom (λ v. views v.items)
-        (λ m bs. indefinite_items_by m (item_at m levels) (suc (length bs)) bs)
-        source.old source.new result }
-    ensures forward { OnOk result (source.old.at ≤ source.new.at) }
-    ensures total { total source.new ≡ total source.old }
-{
-    let mut items = Vec::new(alloc);
-    'items: while source.more(Collection::Array)? {
-        let item = read_value(alloc, source, levels)?;
-        items.push(item)?;
-    }
-    Ok(items)
-}
-
-/// Reads a map behind its head.
+/// Reads a map behind its head, or behind its first byte.
 #[cycle(read)]
 #[tactic(auto, unfolding(cbor_model::specs::Reader::map_at))]
-fn read_map(alloc: Global, source: &mut Source<'_>, levels: u8, low: u8, n: u64) -> Result<Value>
-    ensures read { GivesFrom view
-        (λ m. map_at m (inside m levels) (width_of low) n)
+fn read_map(
+    alloc: Global,
+    source: &mut Source<'_>,
+    levels: u8,
+    remaining: Remaining,
+) -> Result<Value>
+    ensures read { (l : Length) → GivesFrom view
+        (λ m. map_at m (inside m levels) l (remaining_of remaining))
         source.old source.new result }
     ensures forward { OnOk result (source.old.at ≤ source.new.at) }
     ensures total { total source.new ≡ total source.old }
 {
     let inner = source.enter(levels)?;
-    let map = read_pairs(alloc, source, inner, n)?;
+    let map = read_pairs(alloc, source, inner, remaining)?;
     Ok(Value::Map(map))
 }
 
-/// Reads n pairs, where so many levels are left.
+/// Reads the pairs that remain, where so many levels are left.
 #[cycle(read)]
-fn read_pairs(alloc: Global, source: &mut Source<'_>, levels: u8, n: u64) -> Result<Map>
+fn read_pairs(
+    alloc: Global,
+    source: &mut Source<'_>,
+    levels: u8,
+    mut remaining: Remaining,
+) -> Result<Map>
     ensures read { GivesFrom map_view
-        (λ m bs. made_of (pairs_by m (item_at m levels) n bs))
+        (λ m bs. made_of (parts_at (pairs_of m (item_at m levels)) (remaining_of remaining) bs))
         source.old source.new result }
     ensures forward { OnOk result (source.old.at ≤ source.new.at) }
     ensures total { total source.new ≡ total source.old }
 {
     let mut pairs = Vec::new(alloc);
-    'pairs: for _ in 0..n {
-        let key = read_value(alloc, source, levels)?;
-        let value = read_value(alloc, source, levels)?;
-        pairs.push((key, value))?;
-    }
-    let map = Map::from_pairs(pairs)?;
-    Ok(map)
-}
-
-/// Reads a map of indefinite length behind its first byte.
-#[cycle(read)]
-#[tactic(auto, unfolding(cbor_model::specs::Reader::indefinite_map_at))]
-fn read_indefinite_map(alloc: Global, source: &mut Source<'_>, levels: u8) -> Result<Value>
-    ensures read { GivesFrom view
-        (λ m. indefinite_map_at m (inside m levels))
-        source.old source.new result }
-    ensures forward { OnOk result (source.old.at ≤ source.new.at) }
-    ensures total { total source.new ≡ total source.old }
-{
-    let inner = source.enter(levels)?;
-    let map = read_indefinite_pairs(alloc, source, inner)?;
-    Ok(Value::Map(map))
-}
-
-/// Reads pairs up to the break, where so many levels are left.
-#[cycle(read)]
-fn read_indefinite_pairs(alloc: Global, source: &mut Source<'_>, levels: u8) -> Result<Map>
-    ensures read { GivesFrom map_view
-        (λ m bs. made_of (indefinite_pairs_by m (item_at m levels) (suc (length bs)) bs))
-        source.old source.new result }
-    ensures forward { OnOk result (source.old.at ≤ source.new.at) }
-    ensures total { total source.new ≡ total source.old }
-{
-    let mut pairs = Vec::new(alloc);
-    'pairs: while source.more(Collection::Map)? {
+    'pairs: while source.next(&mut remaining, Collection::Map)? {
         let key = read_value(alloc, source, levels)?;
         let value = read_value(alloc, source, levels)?;
         pairs.push((key, value))?;

@@ -1,5 +1,5 @@
 -- What is spelled is read.
-use Rattle.std.proofs.Common.{◌≡◌, ℕ, zero, suc, ◌+◌, ◌*◌, ◌<◌, ◌≤◌, true, false, eqb, List, [], ◌∷◌, ◌++◌, length, Option, Some, Ok, refl, ap, ◌∙◌, append_assoc, arith}
+use Rattle.std.proofs.Common.{◌≡◌, ℕ, zero, suc, ◌+◌, ◌*◌, ◌<◌, ◌≤◌, true, false, eqb, List, [], ◌∷◌, ◌++◌, length, Option, Some, Ok, refl, ap, ◌∙◌, append_assoc, arith, None}
 use Rattle.std.specs.Prelude.{flat_map}
 use Rattle.std.specs.List.{AllByRecursion}
 use Rattle.std.specs.Int.{w16, w32, w64}
@@ -10,7 +10,7 @@ use Rattle.cbor_model.specs.Raw as raw
 use Rattle.cbor_model.specs.Raw.{Length, definite, indefinite, Raw, Raws, no_raws, RawPairs, no_raw_pairs, raw_pair, Chunk, joined, Simple, false_item, true_item, null_item, undefined_item, FloatWidth, half, single, double, float_limit, count, pair_count, depth, depth_all, depth_pairs, IsChunk, IsWellFormed, AreWellFormed, ArePairsWellFormed, EachText, EachTextOfAll, EachTextOfPairs}
 use Rattle.cbor_model.specs.Spelling.{spell, spell_all, spell_pairs, chunk, simple_byte, float_spelling, break}
 use Rattle.cbor_model.specs.Refusal.{Refusal, end_in_array, end_in_map}
-use Rattle.cbor_model.specs.Reader.{Reads, ◌>>=◌, Reading, byte_at, float_at, simple_at, string_at, checked_text, text_at, chunk_at, chunks_by, string_chunks_at, text_chunks_at, items_by, more_at, indefinite_items_by, pairs_by, indefinite_pairs_by, array_at, map_at, tag_at, indefinite_array_at, indefinite_map_at, content_at, indefinite_at, after_first, item_by, item_at, inside}
+use Rattle.cbor_model.specs.Reader.{Reads, ◌>>=◌, Reading, byte_at, float_at, simple_at, string_at, checked_text, text_at, chunk_at, chunks_by, string_chunks_at, text_chunks_at, Remaining, counted, to_break, next_at, Parts, parts_by, parts_at, pair_at, items_of, pairs_of, array_at, map_at, tag_at, content_at, indefinite_at, after_first, item_by, item_at, inside}
 use Rattle.cbor_model.proofs.Made.{made, made_all, made_pairs}
 use Rattle.cbor_model.proofs.Steps.{bytes_again, wide16, wide32, wide64, number_again, info-below, width_of-info, number_behind_again, major_of, low_of}
 use Rattle.cbor_model.proofs.Found.{Passes}
@@ -67,10 +67,37 @@ begun (raw.float w bits) fits = float_begun w bits
 begun-length : (bs : List ℕ) → IsBegun bs → 0 < length bs
 begun-length bs starts = omega (arith, ap length starts.is)
 
--- an element comes where its spelling does
-more_again : (why : Refusal) (bs rest : List ℕ) → IsBegun bs → more_at why (bs ++ rest) ≡ Ok (true, bs ++ rest)
-unfolding more_at
-more_again why bs rest starts = rw (starts.is, starts.no_break) refl
+-- ---- what remains of an array or a map
+
+-- what remains before n parts of this length, and what follows them
+abbrev remaining_of : Length → ℕ → Remaining
+remaining_of (definite w) n = counted n
+remaining_of indefinite n = to_break
+
+abbrev after_parts : Length → List ℕ → List ℕ
+after_parts (definite w) rest = rest
+after_parts indefinite rest = 0xff ∷ rest
+
+-- a part comes where its spelling does, and none where the parts end
+next_again : (why : Refusal) (l : Length) (n : ℕ) (bs rest : List ℕ) → IsBegun bs → next_at why (remaining_of l (suc n)) (bs ++ rest) ≡ Ok (Some (remaining_of l n), bs ++ rest)
+unfolding next_at
+next_again why (definite w) n bs rest starts = refl
+next_again why indefinite n bs rest starts = rw (starts.is, starts.no_break) refl
+
+next_ends : (why : Refusal) (l : Length) (rest : List ℕ) → next_at why (remaining_of l 0) (after_parts l rest) ≡ Ok (None, rest)
+unfolding next_at
+next_ends why (definite w) rest = refl
+next_ends why indefinite rest = refl
+
+parts_end : {Part Whole : Type 0} (ps : Parts Part Whole) (fuel : ℕ) (l : Length) (rest : List ℕ) → parts_by ps (suc fuel) (remaining_of l 0) (after_parts l rest) ≡ Ok (ps.none, rest)
+unfolding parts_by
+parts_end ps fuel l rest = rw (next_ends ps.ends l rest) refl
+
+-- parts, once the first of them is read and the others
+part_before : {Part Whole : Type 0} (ps : Parts Part Whole) (fuel n : ℕ) (l : Length) (bs more rest : List ℕ) (first : Part) (others : Whole) → next_at ps.ends (remaining_of l (suc n)) bs ≡ Ok (Some (remaining_of l n), bs) → ps.part bs ≡ Ok (first, more)
+    → parts_by ps fuel (remaining_of l n) more ≡ Ok (others, rest) → parts_by ps (suc fuel) (remaining_of l (suc n)) bs ≡ Ok (ps.add first others, rest)
+unfolding parts_by
+part_before ps fuel n l bs more rest first others comes read all = rw (comes, read, all) refl
 
 -- ---- counts
 
@@ -172,42 +199,29 @@ module _ {Item Items Pairs : Type 0} (m : Reading Item Items Pairs) where
   -- ---- what lies one level further in, by a reader p that reads it
 
   -- an array, once its items are read
-  array_again : (p : List ℕ → Reads Item) (w : HeadWidth) (n : ℕ) (bs rest : List ℕ) (items : Items) → items_by m p n bs ≡ Ok (items, rest) → array_at m (Some p) w n bs ≡ Ok (m.array (definite w) items, rest)
+  array_again : (p : List ℕ → Reads Item) (l : Length) (remaining : Remaining) (bs rest : List ℕ) (items : Items) → parts_at (items_of m p) remaining bs ≡ Ok (items, rest) → array_at m (Some p) l remaining bs ≡ Ok (m.array l items, rest)
   unfolding array_at
-  array_again p w n bs rest items is = rw is refl
+  array_again p l remaining bs rest items is = rw is refl
 
-  map_again : (p : List ℕ → Reads Item) (w : HeadWidth) (n : ℕ) (bs rest : List ℕ) (pairs : Pairs) → pairs_by m p n bs ≡ Ok (pairs, rest) → map_at m (Some p) w n bs ≡ Ok (m.map (definite w) pairs, rest)
+  map_again : (p : List ℕ → Reads Item) (l : Length) (remaining : Remaining) (bs rest : List ℕ) (pairs : Pairs) → parts_at (pairs_of m p) remaining bs ≡ Ok (pairs, rest) → map_at m (Some p) l remaining bs ≡ Ok (m.map l pairs, rest)
   unfolding map_at
-  map_again p w n bs rest pairs is = rw is refl
+  map_again p l remaining bs rest pairs is = rw is refl
 
   tag_again : (p : List ℕ → Reads Item) (w : HeadWidth) (n : ℕ) (bs rest : List ℕ) (item : Item) → p bs ≡ Ok (item, rest) → tag_at m (Some p) w n bs ≡ Ok (m.tag w n item, rest)
   unfolding tag_at
   tag_again p w n bs rest item is = rw is refl
 
-  indefinite_array_again : (p : List ℕ → Reads Item) (bs rest : List ℕ) (items : Items) → indefinite_items_by m p (suc (length bs)) bs ≡ Ok (items, rest) → item_by m (Some p) (0x9f ∷ bs) ≡ Ok (m.array indefinite items, rest)
-  unfolding item_by byte_at after_first indefinite_at indefinite_array_at
-  indefinite_array_again p bs rest items is = rw is refl
+  indefinite_array_again : (p : List ℕ → Reads Item) (bs : List ℕ) → item_by m (Some p) (0x9f ∷ bs) ≡ array_at m (Some p) indefinite to_break bs
+  unfolding item_by byte_at after_first indefinite_at
+  indefinite_array_again p bs = refl
 
-  indefinite_map_again : (p : List ℕ → Reads Item) (bs rest : List ℕ) (pairs : Pairs) → indefinite_pairs_by m p (suc (length bs)) bs ≡ Ok (pairs, rest) → item_by m (Some p) (0xbf ∷ bs) ≡ Ok (m.map indefinite pairs, rest)
-  unfolding item_by byte_at after_first indefinite_at indefinite_map_at
-  indefinite_map_again p bs rest pairs is = rw is refl
+  indefinite_map_again : (p : List ℕ → Reads Item) (bs : List ℕ) → item_by m (Some p) (0xbf ∷ bs) ≡ map_at m (Some p) indefinite to_break bs
+  unfolding item_by byte_at after_first indefinite_at
+  indefinite_map_again p bs = refl
 
-  -- items, once the first of them is read and the others
-  item_before : (p : List ℕ → Reads Item) (n : ℕ) (bs more rest : List ℕ) (first : Item) (others : Items) → p bs ≡ Ok (first, more) → items_by m p n more ≡ Ok (others, rest) → items_by m p (suc n) bs ≡ Ok (m.item first others, rest)
-  unfolding items_by
-  item_before p n bs more rest first others one all = rw (one, all) refl
-
-  indefinite_item_before : (p : List ℕ → Reads Item) (fuel : ℕ) (bs more rest : List ℕ) (first : Item) (others : Items) → more_at end_in_array bs ≡ Ok (true, bs) → p bs ≡ Ok (first, more) → indefinite_items_by m p fuel more ≡ Ok (others, rest) → indefinite_items_by m p (suc fuel) bs ≡ Ok (m.item first others, rest)
-  unfolding indefinite_items_by
-  indefinite_item_before p fuel bs more rest first others another one all = rw (another, one, all) refl
-
-  pair_before : (p : List ℕ → Reads Item) (n : ℕ) (bs at_value more rest : List ℕ) (k v : Item) (others : Pairs) → p bs ≡ Ok (k, at_value) → p at_value ≡ Ok (v, more) → pairs_by m p n more ≡ Ok (others, rest) → pairs_by m p (suc n) bs ≡ Ok (m.pair k v others, rest)
-  unfolding pairs_by
-  pair_before p n bs at_value more rest k v others key val all = rw (key, val, all) refl
-
-  indefinite_pair_before : (p : List ℕ → Reads Item) (fuel : ℕ) (bs at_value more rest : List ℕ) (k v : Item) (others : Pairs) → more_at end_in_map bs ≡ Ok (true, bs) → p bs ≡ Ok (k, at_value) → p at_value ≡ Ok (v, more) → indefinite_pairs_by m p fuel more ≡ Ok (others, rest) → indefinite_pairs_by m p (suc fuel) bs ≡ Ok (m.pair k v others, rest)
-  unfolding indefinite_pairs_by
-  indefinite_pair_before p fuel bs at_value more rest k v others another key val all = rw (another, key, val, all) refl
+  pair_again : (p : List ℕ → Reads Item) (bs at_value more : List ℕ) (k v : Item) → p bs ≡ Ok (k, at_value) → p at_value ≡ Ok (v, more) → pair_at p bs ≡ Ok ((k, v), more)
+  unfolding pair_at
+  pair_again p bs at_value more k v key val = rw (key, val) refl
 
 -- a key and a value, and the pairs behind them
 pair_parts : (k v more rest : List ℕ) → (k ++ (v ++ more)) ++ rest ≡ k ++ (v ++ (more ++ rest))
@@ -223,7 +237,7 @@ within_break first parts rest total within = omega (arith, ap length (append_ass
 
 module _ {Item Items Pairs : Type 0} (m : Reading Item Items Pairs) (total : ℕ) (room : HasRoom m total) where
   mutual
-    unfolding spell content_at items_by indefinite_items_by pairs_by indefinite_pairs_by more_at made
+    unfolding spell content_at made
 
     -- what is spelled is read, where each text has room and passes
     pub again : (r : Raw) (levels : ℕ) (rest : List ℕ) → IsWellFormed r → depth r ≤ levels → EachText (Passes m) r → length (spell r ++ rest) ≤ total → item_at m levels (spell r ++ rest) ≡ Ok (made m r, rest)
@@ -244,32 +258,34 @@ module _ {Item Items Pairs : Type 0} (m : Reading Item Items Pairs) (total : ℕ
     again (raw.array (definite w) rs) (suc levels) rest fits nests texts within =
         let front = head 4 w (count rs) in
         let items = spell_all rs in
+        let bs = items ++ rest in
         ap (item_at m (suc levels)) (append_assoc front items rest)
         ∙ item_at-inside m (suc levels) _
-        ∙ head_again m (inside m (suc levels)) 4 w (count rs) (items ++ rest) (omega arith) fits.0
-        ∙ array_again m (item_at m levels) w (count rs) (items ++ rest) rest (made_all m rs) (all_again rs levels rest fits.1 (omega (arith, nests)) texts (within_head front items rest total within))
+        ∙ head_again m (inside m (suc levels)) 4 w (count rs) bs (omega arith) fits.0
+        ∙ array_again m (item_at m levels) (definite w) (counted (count rs)) bs rest (made_all m rs) (all_again rs (definite w) levels rest (suc (length bs)) fits.1 (omega (arith, nests)) texts (within_head front items rest total within) (omega (arith, count-le rs fits.1, length-append items rest)))
     again (raw.array indefinite rs) (suc levels) rest fits nests texts within =
         let items = spell_all rs in
         let bs = items ++ (0xff ∷ rest) in
-        let enough : count rs < suc (length bs) = omega (arith, count-le rs fits.1, length-append items (0xff ∷ rest)) in
         ap (λ (t : List ℕ). item_at m (suc levels) (0x9f ∷ t)) (append_assoc items break rest)
         ∙ item_at-inside m (suc levels) _
-        ∙ indefinite_array_again m (item_at m levels) bs rest (made_all m rs) (indefinite_all_again rs levels rest (suc (length bs)) fits.1 (omega (arith, nests)) texts (within_break 0x9f items rest total within) enough)
+        ∙ indefinite_array_again m (item_at m levels) bs
+        ∙ array_again m (item_at m levels) indefinite to_break bs rest (made_all m rs) (all_again rs indefinite levels rest (suc (length bs)) fits.1 (omega (arith, nests)) texts (within_break 0x9f items rest total within) (omega (arith, count-le rs fits.1, length-append items (0xff ∷ rest))))
     again (raw.map l ps) zero rest fits nests texts within = absurd (omega (arith, nests))
     again (raw.map (definite w) ps) (suc levels) rest fits nests texts within =
         let front = head 5 w (pair_count ps) in
         let pairs = spell_pairs ps in
+        let bs = pairs ++ rest in
         ap (item_at m (suc levels)) (append_assoc front pairs rest)
         ∙ item_at-inside m (suc levels) _
-        ∙ head_again m (inside m (suc levels)) 5 w (pair_count ps) (pairs ++ rest) (omega arith) fits.0
-        ∙ map_again m (item_at m levels) w (pair_count ps) (pairs ++ rest) rest (made_pairs m ps) (pairs_again ps levels rest fits.1 (omega (arith, nests)) texts (within_head front pairs rest total within))
+        ∙ head_again m (inside m (suc levels)) 5 w (pair_count ps) bs (omega arith) fits.0
+        ∙ map_again m (item_at m levels) (definite w) (counted (pair_count ps)) bs rest (made_pairs m ps) (pairs_again ps (definite w) levels rest (suc (length bs)) fits.1 (omega (arith, nests)) texts (within_head front pairs rest total within) (omega (arith, pair_count-le ps fits.1, length-append pairs rest)))
     again (raw.map indefinite ps) (suc levels) rest fits nests texts within =
         let pairs = spell_pairs ps in
         let bs = pairs ++ (0xff ∷ rest) in
-        let enough : pair_count ps < suc (length bs) = omega (arith, pair_count-le ps fits.1, length-append pairs (0xff ∷ rest)) in
         ap (λ (t : List ℕ). item_at m (suc levels) (0xbf ∷ t)) (append_assoc pairs break rest)
         ∙ item_at-inside m (suc levels) _
-        ∙ indefinite_map_again m (item_at m levels) bs rest (made_pairs m ps) (indefinite_pairs_again ps levels rest (suc (length bs)) fits.1 (omega (arith, nests)) texts (within_break 0xbf pairs rest total within) enough)
+        ∙ indefinite_map_again m (item_at m levels) bs
+        ∙ map_again m (item_at m levels) indefinite to_break bs rest (made_pairs m ps) (pairs_again ps indefinite levels rest (suc (length bs)) fits.1 (omega (arith, nests)) texts (within_break 0xbf pairs rest total within) (omega (arith, pair_count-le ps fits.1, length-append pairs (0xff ∷ rest))))
     again (raw.tag w n r) zero rest fits nests texts within = absurd (omega (arith, nests))
     again (raw.tag w n r) (suc levels) rest fits nests texts within =
         let front = head 6 w n in
@@ -281,62 +297,40 @@ module _ {Item Items Pairs : Type 0} (m : Reading Item Items Pairs) (total : ℕ
     again (raw.simple s) levels rest fits nests texts within = item_at-inside m levels _ ∙ simple_again m (inside m levels) s rest
     again (raw.float f n) levels rest fits nests texts within = item_at-inside m levels _ ∙ float_again m (inside m levels) f n rest fits
 
-    pub all_again : (rs : Raws) (levels : ℕ) (rest : List ℕ) → AreWellFormed rs → depth_all rs ≤ levels → EachTextOfAll (Passes m) rs → length (spell_all rs ++ rest) ≤ total → items_by m (item_at m levels) (count rs) (spell_all rs ++ rest) ≡ Ok (made_all m rs, rest)
-    all_again no_raws levels rest fits nests texts within = refl
-    all_again (raw.raw r rs) levels rest fits nests texts within =
+    pub all_again : (rs : Raws) (l : Length) (levels : ℕ) (rest : List ℕ) (fuel : ℕ) → AreWellFormed rs → depth_all rs ≤ levels → EachTextOfAll (Passes m) rs → length (spell_all rs ++ after_parts l rest) ≤ total → count rs < fuel
+        → parts_by (items_of m (item_at m levels)) fuel (remaining_of l (count rs)) (spell_all rs ++ after_parts l rest) ≡ Ok (made_all m rs, rest)
+    all_again rs l levels rest zero fits nests texts within enough = absurd (omega arith)
+    all_again no_raws l levels rest (suc fuel) fits nests texts within enough = parts_end (items_of m (item_at m levels)) fuel l rest
+    all_again (raw.raw r rs) l levels rest (suc fuel) fits nests texts within enough =
         let one = spell r in
-        let more = spell_all rs ++ rest in
-        let regrouped = append_assoc one (spell_all rs) rest in
+        let more = spell_all rs ++ after_parts l rest in
+        let regrouped = append_assoc one (spell_all rs) (after_parts l rest) in
         let within_one : length (one ++ more) ≤ total = omega (arith, ap length regrouped) in
         let within_more : length more ≤ total = omega (arith, length-append one more) in
-        ap (items_by m (item_at m levels) (suc (count rs))) regrouped
-        ∙ item_before m (item_at m levels) (count rs) (one ++ more) more rest (made m r) (made_all m rs)
+        let ps = items_of m (item_at m levels) in
+        ap (parts_by ps (suc fuel) (remaining_of l (suc (count rs)))) regrouped
+        ∙ part_before ps fuel (count rs) l (one ++ more) more rest (made m r) (made_all m rs)
+        (next_again end_in_array l (count rs) one more (begun r fits.0))
         (again r levels more fits.0 (omega (arith, nests)) texts.0 within_one)
-        (all_again rs levels rest fits.1 (omega (arith, nests)) texts.1 within_more)
+        (all_again rs l levels rest fuel fits.1 (omega (arith, nests)) texts.1 within_more (omega arith))
 
-    pub indefinite_all_again : (rs : Raws) (levels : ℕ) (rest : List ℕ) (fuel : ℕ) → AreWellFormed rs → depth_all rs ≤ levels → EachTextOfAll (Passes m) rs → length (spell_all rs ++ (0xff ∷ rest)) ≤ total → count rs < fuel → indefinite_items_by m (item_at m levels) fuel (spell_all rs ++ (0xff ∷ rest)) ≡ Ok (made_all m rs, rest)
-    indefinite_all_again rs levels rest zero fits nests texts within enough = absurd (omega arith)
-    indefinite_all_again no_raws levels rest (suc fuel) fits nests texts within enough = refl
-    indefinite_all_again (raw.raw r rs) levels rest (suc fuel) fits nests texts within enough =
-        let one = spell r in
-        let more = spell_all rs ++ (0xff ∷ rest) in
-        let regrouped = append_assoc one (spell_all rs) (0xff ∷ rest) in
-        let within_one : length (one ++ more) ≤ total = omega (arith, ap length regrouped) in
-        let within_more : length more ≤ total = omega (arith, length-append one more) in
-        ap (indefinite_items_by m (item_at m levels) (suc fuel)) regrouped
-        ∙ indefinite_item_before m (item_at m levels) fuel (one ++ more) more rest (made m r) (made_all m rs)
-        (more_again end_in_array one more (begun r fits.0))
-        (again r levels more fits.0 (omega (arith, nests)) texts.0 within_one)
-        (indefinite_all_again rs levels rest fuel fits.1 (omega (arith, nests)) texts.1 within_more (omega arith))
-
-    pub pairs_again : (ps : RawPairs) (levels : ℕ) (rest : List ℕ) → ArePairsWellFormed ps → depth_pairs ps ≤ levels → EachTextOfPairs (Passes m) ps → length (spell_pairs ps ++ rest) ≤ total → pairs_by m (item_at m levels) (pair_count ps) (spell_pairs ps ++ rest) ≡ Ok (made_pairs m ps, rest)
-    pairs_again no_raw_pairs levels rest fits nests texts within = refl
-    pairs_again (raw_pair k v ps) levels rest fits nests texts within =
-        let more = spell_pairs ps ++ rest in
+    pub pairs_again : (ps : RawPairs) (l : Length) (levels : ℕ) (rest : List ℕ) (fuel : ℕ) → ArePairsWellFormed ps → depth_pairs ps ≤ levels → EachTextOfPairs (Passes m) ps → length (spell_pairs ps ++ after_parts l rest) ≤ total → pair_count ps < fuel
+        → parts_by (pairs_of m (item_at m levels)) fuel (remaining_of l (pair_count ps)) (spell_pairs ps ++ after_parts l rest) ≡ Ok (made_pairs m ps, rest)
+    pairs_again ps l levels rest zero fits nests texts within enough = absurd (omega arith)
+    pairs_again no_raw_pairs l levels rest (suc fuel) fits nests texts within enough = parts_end (pairs_of m (item_at m levels)) fuel l rest
+    pairs_again (raw_pair k v ps) l levels rest (suc fuel) fits nests texts within enough =
+        let p = item_at m levels in
+        let tail = after_parts l rest in
+        let more = spell_pairs ps ++ tail in
         let at_value = spell v ++ more in
-        let regrouped = pair_parts (spell k) (spell v) (spell_pairs ps) rest in
+        let regrouped = pair_parts (spell k) (spell v) (spell_pairs ps) tail in
         let within_key : length (spell k ++ at_value) ≤ total = omega (arith, ap length regrouped) in
         let within_value : length at_value ≤ total = omega (arith, length-append (spell k) at_value) in
         let within_more : length more ≤ total = omega (arith, length-append (spell v) more) in
-        ap (pairs_by m (item_at m levels) (suc (pair_count ps))) regrouped
-        ∙ pair_before m (item_at m levels) (pair_count ps) (spell k ++ at_value) at_value more rest (made m k) (made m v) (made_pairs m ps)
+        ap (parts_by (pairs_of m p) (suc fuel) (remaining_of l (suc (pair_count ps)))) regrouped
+        ∙ part_before (pairs_of m p) fuel (pair_count ps) l (spell k ++ at_value) more rest (made m k, made m v) (made_pairs m ps)
+        (next_again end_in_map l (pair_count ps) (spell k) at_value (begun k fits.0))
+        (pair_again m p (spell k ++ at_value) at_value more (made m k) (made m v)
         (again k levels at_value fits.0 (omega (arith, nests)) texts.0 within_key)
-        (again v levels more fits.1 (omega (arith, nests)) texts.1 within_value)
-        (pairs_again ps levels rest fits.2 (omega (arith, nests)) texts.2 within_more)
-
-    pub indefinite_pairs_again : (ps : RawPairs) (levels : ℕ) (rest : List ℕ) (fuel : ℕ) → ArePairsWellFormed ps → depth_pairs ps ≤ levels → EachTextOfPairs (Passes m) ps → length (spell_pairs ps ++ (0xff ∷ rest)) ≤ total → pair_count ps < fuel → indefinite_pairs_by m (item_at m levels) fuel (spell_pairs ps ++ (0xff ∷ rest)) ≡ Ok (made_pairs m ps, rest)
-    indefinite_pairs_again ps levels rest zero fits nests texts within enough = absurd (omega arith)
-    indefinite_pairs_again no_raw_pairs levels rest (suc fuel) fits nests texts within enough = refl
-    indefinite_pairs_again (raw_pair k v ps) levels rest (suc fuel) fits nests texts within enough =
-        let more = spell_pairs ps ++ (0xff ∷ rest) in
-        let at_value = spell v ++ more in
-        let regrouped = pair_parts (spell k) (spell v) (spell_pairs ps) (0xff ∷ rest) in
-        let within_key : length (spell k ++ at_value) ≤ total = omega (arith, ap length regrouped) in
-        let within_value : length at_value ≤ total = omega (arith, length-append (spell k) at_value) in
-        let within_more : length more ≤ total = omega (arith, length-append (spell v) more) in
-        ap (indefinite_pairs_by m (item_at m levels) (suc fuel)) regrouped
-        ∙ indefinite_pair_before m (item_at m levels) fuel (spell k ++ at_value) at_value more rest (made m k) (made m v) (made_pairs m ps)
-        (more_again end_in_map (spell k) at_value (begun k fits.0))
-        (again k levels at_value fits.0 (omega (arith, nests)) texts.0 within_key)
-        (again v levels more fits.1 (omega (arith, nests)) texts.1 within_value)
-        (indefinite_pairs_again ps levels rest fuel fits.2 (omega (arith, nests)) texts.2 within_more (omega arith))
+        (again v levels more fits.1 (omega (arith, nests)) texts.1 within_value))
+        (pairs_again ps l levels rest fuel fits.2 (omega (arith, nests)) texts.2 within_more (omega arith))

@@ -8,8 +8,8 @@ use Rattle.cbor_model.specs.Head.{HeadWidth, limit, info, head, behind}
 use Rattle.cbor_model.specs.Raw as raw
 use Rattle.cbor_model.specs.Raw.{Length, definite, indefinite, Raw, Raws, no_raws, RawPairs, no_raw_pairs, raw_pair, Chunk, joined, Simple, false_item, true_item, null_item, undefined_item, FloatWidth, half, single, double, float_limit, count, pair_count, depth, depth_all, depth_pairs, AreBytes, IsChunk, IsWellFormed, AreWellFormed, ArePairsWellFormed, EachText, EachTextOfAll, EachTextOfPairs}
 use Rattle.cbor_model.specs.Spelling.{spell, spell_all, spell_pairs, chunk, simple_byte, float_spelling, break}
-use Rattle.cbor_model.specs.Refusal.{Refusal, end_in_array, end_in_map, unassigned_code, unexpected_code, too_deep, length_out_of_range}
-use Rattle.cbor_model.specs.Reader.{Reads, ◌>>=◌, Reading, ended, before, byte_at, bytes_at, number_at, width_of, number_behind, float_at, simple_at, string_at, checked_text, text_at, begins_chunk, chunk_at, chunks_by, chunks_at, string_chunks_at, text_chunks_at, items_by, more_at, indefinite_items_by, pairs_by, indefinite_pairs_by, array_at, map_at, tag_at, indefinite_array_at, indefinite_map_at, content_at, indefinite_at, after_first, item_by, item_at}
+use Rattle.cbor_model.specs.Refusal.{unassigned_code, unexpected_code, too_deep, length_out_of_range}
+use Rattle.cbor_model.specs.Reader.{Reads, ◌>>=◌, Reading, ended, before, byte_at, bytes_at, number_at, width_of, number_behind, float_at, simple_at, string_at, checked_text, text_at, begins_chunk, chunk_at, chunks_by, chunks_at, string_chunks_at, text_chunks_at, Remaining, counted, to_break, next_at, Parts, go_on, parts_by, parts_at, pair_at, items_of, pairs_of, array_at, map_at, tag_at, content_at, indefinite_at, after_first, item_by, item_at}
 use Rattle.cbor_model.proofs.Made.{made, made_all, made_pairs}
 use Rattle.cbor_model.proofs.Steps.{AreBytes-rest, bind_ok, chosen, done, ok_is, read_as, not_ok, bytes_found, IsWide, wide16, wide32, wide64, number_found, number_behind_found, first_is}
 
@@ -47,12 +47,21 @@ pub record ArePairs {Item Items Pairs : Type 0} (m : Reading Item Items Pairs) (
   pub texts : EachTextOfPairs (Passes m) pairs
   pub rest_fits : AreBytes x.1
 
--- items up to the break, which is taken too
-abbrev pub AreItemsToBreak : {Item Items Pairs : Type 0} → Reading Item Items Pairs → ℕ → List ℕ → Items × List ℕ → Type 0
-AreItemsToBreak m levels bs x = (n : ℕ) × AreItems m levels n bs (x.0, 0xff ∷ x.1)
+-- a key and a value
+pub record IsPair {Item Items Pairs : Type 0} (m : Reading Item Items Pairs) (levels : ℕ) (bs : List ℕ) (x : (Item × Item) × List ℕ) : Type 0 where
+  pub at_value : List ℕ
+  pub key : IsItem m levels bs (x.0.0, at_value)
+  pub value : IsItem m levels at_value (x.0.1, x.1)
 
-abbrev pub ArePairsToBreak : {Item Items Pairs : Type 0} → Reading Item Items Pairs → ℕ → List ℕ → Pairs × List ℕ → Type 0
-ArePairsToBreak m levels bs x = (n : ℕ) × ArePairs m levels n bs (x.0, 0xff ∷ x.1)
+-- So many parts, or parts up to the break, which is taken too.
+abbrev pub Ended : {Whole : Type 0} → (ℕ → List ℕ → Whole × List ℕ → Type 0) → Remaining → List ℕ → Whole × List ℕ → Type 0
+Ended Are (counted n) bs x = Are n bs x
+Ended Are to_break bs x = (n : ℕ) × Are n bs (x.0, 0xff ∷ x.1)
+
+-- what remains before a part, where this remains behind it
+abbrev pub another : Remaining → Remaining
+another (counted n) = counted (suc n)
+another to_break = to_break
 
 -- a chunk with the first byte b
 pub record IsChunkOf (major b : ℕ) (bs : List ℕ) (x : Chunk × List ℕ) : Type 0 where
@@ -86,30 +95,6 @@ behind_head major w n k bs b rest parts long =
 -- a first byte, and parts up to the break
 behind_first : (first : ℕ) (bs parts rest : List ℕ) → bs ≡ parts ++ (0xff ∷ rest) → (first ∷ bs) ≡ (first ∷ (parts ++ break)) ++ rest
 behind_first first bs parts rest is = ap (λ (t : List ℕ). first ∷ t) (is ∙ sym (append_assoc parts break rest))
-
--- ---- whether another element comes
-
-another_found : (why : Refusal) (bs : List ℕ) (x : Bool × List ℕ) → more_at why bs ≡ Ok x → x.0 ≡ true → x.1 ≡ bs
-unfolding more_at
-another_found why [] x is more = not_ok _ x is
-another_found why (b ∷ bs) x is more =
-    elim (chosen (eqb b 0xff) _ _ _ is) [
-      | inl last ↦
-          let same = ok_is (false, bs) x last.1 in
-          absurd cc
-      | inr other ↦ sym (ap (λ (y : Bool × List ℕ). y.1) (ok_is (true, b ∷ bs) x other.1))
-    ]
-
-break_found : (why : Refusal) (bs : List ℕ) (x : Bool × List ℕ) → more_at why bs ≡ Ok x → x.0 ≡ false → bs ≡ 0xff ∷ x.1
-unfolding more_at
-break_found why [] x is none = not_ok _ x is
-break_found why (b ∷ bs) x is none =
-    elim (chosen (eqb b 0xff) _ _ _ is) [
-      | inl last ↦ ap (λ (c : ℕ). c ∷ bs) (eqb-true _ _ last.0) ∙ ap (λ (y : Bool × List ℕ). 0xff ∷ y.1) (ok_is (false, bs) x last.1)
-      | inr other ↦
-          let same = ok_is (true, b ∷ bs) x other.1 in
-          absurd cc
-    ]
 
 -- ---- chunks
 
@@ -168,6 +153,45 @@ chunks_found major (suc fuel) (b ∷ bs) x fits is =
           })
     ]
 
+-- ---- the parts of an array or a map
+
+module _ {Part Whole : Type 0} (ps : Parts Part Whole) (Is : List ℕ → Part × List ℕ → Type 0) (Are : ℕ → List ℕ → Whole × List ℕ → Type 0)
+    (fit : (bs : List ℕ) (x : Part × List ℕ) → Is bs x → AreBytes x.1)
+    (found : (bs : List ℕ) (x : Part × List ℕ) → AreBytes bs → ps.part bs ≡ Ok x → Is bs x)
+    (nothing : (bs : List ℕ) → AreBytes bs → Are 0 bs (ps.none, bs))
+    (added : (n : ℕ) (bs more rest : List ℕ) (first : Part) (others : Whole) → Is bs (first, more) → Are n more (others, rest) → Are (suc n) bs (ps.add first others, rest))
+  where
+    -- one part, and those behind it
+    one_found : (fuel : ℕ) (remaining : Remaining) (bs : List ℕ) (x : Whole × List ℕ) → AreBytes bs → ((more : List ℕ) (y : Whole × List ℕ) → AreBytes more → parts_by ps fuel remaining more ≡ Ok y → Ended Are remaining more y)
+        → go_on ps (parts_by ps fuel) (Some remaining) bs ≡ Ok x → Ended Are (another remaining) bs x
+    one_found fuel remaining bs x fits others is =
+        let a = bind_ok (ps.part bs) (λ first. parts_by ps fuel remaining first.1 >>= λ rest. Ok (ps.add first.0 rest.0, rest.1)) x is in
+        let b = bind_ok (parts_by ps fuel remaining a.0.1) (λ rest. Ok (ps.add a.0.0 rest.0, rest.1)) x a.2 in
+        let one = found bs a.0 fits a.1 in
+        read_as (Ended Are (another remaining) bs) (ps.add a.0.0 b.0.0, b.0.1) x b.2 (behind_one remaining a.0.1 b.0 bs a.0.0 one (others a.0.1 b.0 (fit bs a.0 one) b.1))
+      where
+        behind_one : (remaining : Remaining) (more : List ℕ) (y : Whole × List ℕ) (bs : List ℕ) (first : Part) → Is bs (first, more) → Ended Are remaining more y → Ended Are (another remaining) bs (ps.add first y.0, y.1)
+        behind_one (counted n) more y bs first one all = added n bs more y.1 first y.0 one all
+        behind_one to_break more y bs first one all = (suc all.0, added all.0 bs more (0xff ∷ y.1) first y.0 one all.1)
+
+    pub parts_found : (fuel : ℕ) (remaining : Remaining) (bs : List ℕ) (x : Whole × List ℕ) → AreBytes bs → parts_by ps fuel remaining bs ≡ Ok x → Ended Are remaining bs x
+    unfolding parts_by next_at
+    parts_found zero remaining bs x fits is = not_ok ended x is
+    parts_found (suc fuel) (counted zero) bs x fits is = read_as (Are 0 bs) (ps.none, bs) x is (nothing bs fits)
+    parts_found (suc fuel) (counted (suc n)) bs x fits is = one_found fuel (counted n) bs x fits (parts_found fuel (counted n)) is
+    parts_found (suc fuel) to_break [] x fits is = not_ok _ x is
+    parts_found (suc fuel) to_break (b ∷ bs) x fits is =
+        let step = bind_ok (cond (eqb b 0xff) (Ok (None, bs)) (Ok (Some to_break, b ∷ bs))) (λ next. go_on ps (parts_by ps fuel) next.0 next.1) x is in
+        elim (chosen (eqb b 0xff) _ _ _ step.1) [
+          | inl last ↦
+              let same = ok_is (None, bs) step.0 last.1 in
+              read_as (Ended Are to_break (b ∷ bs)) (ps.none, bs) x (ap (λ (n : Option Remaining × List ℕ). go_on ps (parts_by ps fuel) n.0 n.1) same ∙ step.2)
+              (0, subst (λ (c : ℕ). Are 0 (c ∷ bs) (ps.none, 0xff ∷ bs)) (sym (eqb-true _ _ last.0)) (nothing (0xff ∷ bs) (subst (λ (c : ℕ). AreBytes (c ∷ bs)) (eqb-true _ _ last.0) fits)))
+          | inr other ↦
+              let same = ok_is (Some to_break, b ∷ bs) step.0 other.1 in
+              one_found fuel to_break (b ∷ bs) x fits (parts_found fuel to_break) (ap (λ (n : Option Remaining × List ℕ). go_on ps (parts_by ps fuel) n.0 n.1) same ∙ step.2)
+        ]
+
 module _ {Item Items Pairs : Type 0} (m : Reading Item Items Pairs) where
   -- an item, and those after it
   item_added : (levels n : ℕ) (bs more rest : List ℕ) (first : Item) (others : Items) → IsItem m levels bs (first, more) → AreItems m levels n more (others, rest) → AreItems m levels (suc n) bs (m.item first others, rest)
@@ -183,36 +207,6 @@ module _ {Item Items Pairs : Type 0} (m : Reading Item Items Pairs) where
     rest_fits = all.rest_fits;
   }
 
-  items_found : (p : List ℕ → Reads Item) (levels : ℕ) → Finds m p levels → (n : ℕ) (bs : List ℕ) (x : Items × List ℕ) → AreBytes bs → items_by m p n bs ≡ Ok x → AreItems m levels n bs x
-  unfolding items_by spell made
-  items_found p levels finds zero bs x fits is =
-      read_as (AreItems m levels 0 bs) (m.no_items, bs) x is (record { items = no_raws; made_is = refl; parts = refl; count_is = refl; fits = tt; nests = omega arith; texts = tt; rest_fits = fits })
-  items_found p levels finds (suc n) bs x fits is =
-      let a = bind_ok (p bs) (λ first. items_by m p n first.1 >>= λ others. Ok (m.item first.0 others.0, others.1)) x is in
-      let b = bind_ok (items_by m p n a.0.1) (λ others. Ok (m.item a.0.0 others.0, others.1)) x a.2 in
-      let one = finds bs a.0 fits a.1 in
-      let all = items_found p levels finds n a.0.1 b.0 one.rest_fits b.1 in
-      read_as (AreItems m levels (suc n) bs) (m.item a.0.0 b.0.0, b.0.1) x b.2 (item_added levels n bs a.0.1 b.0.1 a.0.0 b.0.0 one all)
-
-  indefinite_items_found : (p : List ℕ → Reads Item) (levels : ℕ) → Finds m p levels → (fuel : ℕ) (bs : List ℕ) (x : Items × List ℕ) → AreBytes bs → indefinite_items_by m p fuel bs ≡ Ok x → AreItemsToBreak m levels bs x
-  unfolding indefinite_items_by spell made
-  indefinite_items_found p levels finds zero bs x fits is = not_ok ended x is
-  indefinite_items_found p levels finds (suc fuel) bs x fits is =
-      let step = bind_ok (more_at end_in_array bs) (λ more. cond more.0 (p more.1 >>= (λ first. indefinite_items_by m p fuel first.1 >>= (λ others. Ok (m.item first.0 others.0, others.1)))) (Ok (m.no_items, more.1))) x is in
-      let more = step.0 in
-      elim (chosen more.0 _ _ _ step.2) [
-        | inl another ↦
-            let same : more.1 ≡ bs = another_found end_in_array bs more step.1 another.0 in
-            let a = bind_ok (p more.1) (λ first. indefinite_items_by m p fuel first.1 >>= (λ others. Ok (m.item first.0 others.0, others.1))) x another.1 in
-            let b = bind_ok (indefinite_items_by m p fuel a.0.1) (λ others. Ok (m.item a.0.0 others.0, others.1)) x a.2 in
-            let one = finds bs a.0 fits (ap p (sym same) ∙ a.1) in
-            let all = indefinite_items_found p levels finds fuel a.0.1 b.0 one.rest_fits b.1 in
-            read_as (AreItemsToBreak m levels bs) (m.item a.0.0 b.0.0, b.0.1) x b.2 (suc all.0, item_added levels all.0 bs a.0.1 (0xff ∷ b.0.1) a.0.0 b.0.0 one all.1)
-        | inr none ↦
-            let last : bs ≡ 0xff ∷ more.1 = break_found end_in_array bs more step.1 none.0 in
-            read_as (AreItemsToBreak m levels bs) (m.no_items, more.1) x none.1 (0, record { items = no_raws; made_is = refl; parts = last; count_is = refl; fits = tt; nests = omega arith; texts = tt; rest_fits = subst (λ (t : List ℕ). AreBytes t) last fits })
-      ]
-
   -- a pair, and those after it
   pair_added : (levels n : ℕ) (bs at_value more rest : List ℕ) (k v : Item) (others : Pairs) → IsItem m levels bs (k, at_value) → IsItem m levels at_value (v, more) → ArePairs m levels n more (others, rest) → ArePairs m levels (suc n) bs (m.pair k v others, rest)
   unfolding spell made
@@ -227,39 +221,15 @@ module _ {Item Items Pairs : Type 0} (m : Reading Item Items Pairs) where
     rest_fits = all.rest_fits;
   }
 
-  pairs_found : (p : List ℕ → Reads Item) (levels : ℕ) → Finds m p levels → (n : ℕ) (bs : List ℕ) (x : Pairs × List ℕ) → AreBytes bs → pairs_by m p n bs ≡ Ok x → ArePairs m levels n bs x
-  unfolding pairs_by spell made
-  pairs_found p levels finds zero bs x fits is =
-      read_as (ArePairs m levels 0 bs) (m.no_pairs, bs) x is (record { pairs = no_raw_pairs; made_is = refl; parts = refl; count_is = refl; fits = tt; nests = omega arith; texts = tt; rest_fits = fits })
-  pairs_found p levels finds (suc n) bs x fits is =
-      let a = bind_ok (p bs) (λ k. p k.1 >>= λ v. pairs_by m p n v.1 >>= λ others. Ok (m.pair k.0 v.0 others.0, others.1)) x is in
-      let b = bind_ok (p a.0.1) (λ v. pairs_by m p n v.1 >>= λ others. Ok (m.pair a.0.0 v.0 others.0, others.1)) x a.2 in
-      let c = bind_ok (pairs_by m p n b.0.1) (λ others. Ok (m.pair a.0.0 b.0.0 others.0, others.1)) x b.2 in
+  -- parts, of which so many are read, or those up to the break
+  pair_found : (p : List ℕ → Reads Item) (levels : ℕ) → Finds m p levels → (bs : List ℕ) (x : (Item × Item) × List ℕ) → AreBytes bs → pair_at p bs ≡ Ok x → IsPair m levels bs x
+  unfolding pair_at
+  pair_found p levels finds bs x fits is =
+      let a = bind_ok (p bs) (λ k. p k.1 >>= λ v. Ok ((k.0, v.0), v.1)) x is in
+      let b = bind_ok (p a.0.1) (λ v. Ok ((a.0.0, v.0), v.1)) x a.2 in
       let key = finds bs a.0 fits a.1 in
       let val = finds a.0.1 b.0 key.rest_fits b.1 in
-      let all = pairs_found p levels finds n b.0.1 c.0 val.rest_fits c.1 in
-      read_as (ArePairs m levels (suc n) bs) (m.pair a.0.0 b.0.0 c.0.0, c.0.1) x c.2 (pair_added levels n bs a.0.1 b.0.1 c.0.1 a.0.0 b.0.0 c.0.0 key val all)
-
-  indefinite_pairs_found : (p : List ℕ → Reads Item) (levels : ℕ) → Finds m p levels → (fuel : ℕ) (bs : List ℕ) (x : Pairs × List ℕ) → AreBytes bs → indefinite_pairs_by m p fuel bs ≡ Ok x → ArePairsToBreak m levels bs x
-  unfolding indefinite_pairs_by spell made
-  indefinite_pairs_found p levels finds zero bs x fits is = not_ok ended x is
-  indefinite_pairs_found p levels finds (suc fuel) bs x fits is =
-      let step = bind_ok (more_at end_in_map bs) (λ more. cond more.0 (p more.1 >>= (λ k. p k.1 >>= (λ v. indefinite_pairs_by m p fuel v.1 >>= (λ others. Ok (m.pair k.0 v.0 others.0, others.1))))) (Ok (m.no_pairs, more.1))) x is in
-      let more = step.0 in
-      elim (chosen more.0 _ _ _ step.2) [
-        | inl another ↦
-            let same : more.1 ≡ bs = another_found end_in_map bs more step.1 another.0 in
-            let a = bind_ok (p more.1) (λ k. p k.1 >>= (λ v. indefinite_pairs_by m p fuel v.1 >>= (λ others. Ok (m.pair k.0 v.0 others.0, others.1)))) x another.1 in
-            let b = bind_ok (p a.0.1) (λ v. indefinite_pairs_by m p fuel v.1 >>= (λ others. Ok (m.pair a.0.0 v.0 others.0, others.1))) x a.2 in
-            let c = bind_ok (indefinite_pairs_by m p fuel b.0.1) (λ others. Ok (m.pair a.0.0 b.0.0 others.0, others.1)) x b.2 in
-            let key = finds bs a.0 fits (ap p (sym same) ∙ a.1) in
-            let val = finds a.0.1 b.0 key.rest_fits b.1 in
-            let all = indefinite_pairs_found p levels finds fuel b.0.1 c.0 val.rest_fits c.1 in
-            read_as (ArePairsToBreak m levels bs) (m.pair a.0.0 b.0.0 c.0.0, c.0.1) x c.2 (suc all.0, pair_added levels all.0 bs a.0.1 b.0.1 (0xff ∷ c.0.1) a.0.0 b.0.0 c.0.0 key val all.1)
-        | inr none ↦
-            let last : bs ≡ 0xff ∷ more.1 = break_found end_in_map bs more step.1 none.0 in
-            read_as (ArePairsToBreak m levels bs) (m.no_pairs, more.1) x none.1 (0, record { pairs = no_raw_pairs; made_is = refl; parts = last; count_is = refl; fits = tt; nests = omega arith; texts = tt; rest_fits = subst (λ (t : List ℕ). AreBytes t) last fits })
-      ]
+      read_as (IsPair m levels bs) ((a.0.0, b.0.0), b.0.1) x b.2 (record { at_value = a.0.1; key = key; value = val })
 
   -- ---- what stands behind a head
 
@@ -308,12 +278,29 @@ module _ {Item Items Pairs : Type 0} (m : Reading Item Items Pairs) where
             ]
       ]
 
-  array_found : (inner : Option (List ℕ → Reads Item)) (levels : ℕ) → FindsInside m inner levels → (w : HeadWidth) (n : ℕ) (bs : List ℕ) (x : Item × List ℕ) → AreBytes bs → n < limit w → array_at m inner w n bs ≡ Ok x → IsContent levels 4 w n bs x
+  -- the items of an array, and the pairs of a map
+  items_found : (p : List ℕ → Reads Item) (levels : ℕ) → Finds m p levels → (remaining : Remaining) (bs : List ℕ) (x : Items × List ℕ) → AreBytes bs → parts_at (items_of m p) remaining bs ≡ Ok x → Ended (AreItems m levels) remaining bs x
+  unfolding spell made
+  items_found p levels finds remaining bs x fits is =
+      parts_found (items_of m p) (IsItem m levels) (AreItems m levels) (λ bs x one. one.rest_fits) finds
+      (λ bs fits. record { items = no_raws; made_is = refl; parts = refl; count_is = refl; fits = tt; nests = omega arith; texts = tt; rest_fits = fits })
+      (λ n bs more rest first others one all. item_added levels n bs more rest first others one all)
+      (suc (length bs)) remaining bs x fits is
+
+  pairs_found : (p : List ℕ → Reads Item) (levels : ℕ) → Finds m p levels → (remaining : Remaining) (bs : List ℕ) (x : Pairs × List ℕ) → AreBytes bs → parts_at (pairs_of m p) remaining bs ≡ Ok x → Ended (ArePairs m levels) remaining bs x
+  unfolding spell made
+  pairs_found p levels finds remaining bs x fits is =
+      parts_found (pairs_of m p) (IsPair m levels) (ArePairs m levels) (λ bs x one. one.value.rest_fits) (pair_found p levels finds)
+      (λ bs fits. record { pairs = no_raw_pairs; made_is = refl; parts = refl; count_is = refl; fits = tt; nests = omega arith; texts = tt; rest_fits = fits })
+      (λ n bs more rest first others one all. pair_added levels n bs one.at_value more rest first.0 first.1 others one.key one.value all)
+      (suc (length bs)) remaining bs x fits is
+
+  array_found : (inner : Option (List ℕ → Reads Item)) (levels : ℕ) → FindsInside m inner levels → (w : HeadWidth) (n : ℕ) (bs : List ℕ) (x : Item × List ℕ) → AreBytes bs → n < limit w → array_at m inner (definite w) (counted n) bs ≡ Ok x → IsContent levels 4 w n bs x
   unfolding array_at spell made
   array_found None levels finds w n bs x fits small is = not_ok (before too_deep bs) x is
   array_found (Some p) levels finds w n bs x fits small is =
-      let step = bind_ok (items_by m p n bs) (λ items. Ok (m.array (definite w) items.0, items.1)) x is in
-      let got = items_found p finds.0 finds.2 n bs step.0 fits step.1 in
+      let step = bind_ok (parts_at (items_of m p) (counted n) bs) (λ items. Ok (m.array (definite w) items.0, items.1)) x is in
+      let got = items_found p finds.0 finds.2 (counted n) bs step.0 fits step.1 in
       let many : count got.items ≡ n = got.count_is in
       let rest = step.0.1 in
       read_as (IsContent levels 4 w n bs) (m.array (definite w) step.0.0, rest) x step.2 (record {
@@ -326,12 +313,12 @@ module _ {Item Items Pairs : Type 0} (m : Reading Item Items Pairs) where
         rest_fits = got.rest_fits;
       })
 
-  map_found : (inner : Option (List ℕ → Reads Item)) (levels : ℕ) → FindsInside m inner levels → (w : HeadWidth) (n : ℕ) (bs : List ℕ) (x : Item × List ℕ) → AreBytes bs → n < limit w → map_at m inner w n bs ≡ Ok x → IsContent levels 5 w n bs x
+  map_found : (inner : Option (List ℕ → Reads Item)) (levels : ℕ) → FindsInside m inner levels → (w : HeadWidth) (n : ℕ) (bs : List ℕ) (x : Item × List ℕ) → AreBytes bs → n < limit w → map_at m inner (definite w) (counted n) bs ≡ Ok x → IsContent levels 5 w n bs x
   unfolding map_at spell made
   map_found None levels finds w n bs x fits small is = not_ok (before too_deep bs) x is
   map_found (Some p) levels finds w n bs x fits small is =
-      let step = bind_ok (pairs_by m p n bs) (λ pairs. Ok (m.map (definite w) pairs.0, pairs.1)) x is in
-      let got = pairs_found p finds.0 finds.2 n bs step.0 fits step.1 in
+      let step = bind_ok (parts_at (pairs_of m p) (counted n) bs) (λ pairs. Ok (m.map (definite w) pairs.0, pairs.1)) x is in
+      let got = pairs_found p finds.0 finds.2 (counted n) bs step.0 fits step.1 in
       let many : pair_count got.pairs ≡ n = got.count_is in
       let rest = step.0.1 in
       read_as (IsContent levels 5 w n bs) (m.map (definite w) step.0.0, rest) x step.2 (record {
@@ -402,12 +389,12 @@ module _ {Item Items Pairs : Type 0} (m : Reading Item Items Pairs) where
         })
       ]
 
-  indefinite_array_found : (inner : Option (List ℕ → Reads Item)) (levels : ℕ) → FindsInside m inner levels → (bs : List ℕ) (x : Item × List ℕ) → AreBytes bs → indefinite_array_at m inner bs ≡ Ok x → IsIndefinite levels 4 bs x
-  unfolding indefinite_array_at spell made
+  indefinite_array_found : (inner : Option (List ℕ → Reads Item)) (levels : ℕ) → FindsInside m inner levels → (bs : List ℕ) (x : Item × List ℕ) → AreBytes bs → array_at m inner indefinite to_break bs ≡ Ok x → IsIndefinite levels 4 bs x
+  unfolding array_at spell made
   indefinite_array_found None levels finds bs x fits is = not_ok (before too_deep bs) x is
   indefinite_array_found (Some p) levels finds bs x fits is =
-      let step = bind_ok (indefinite_items_by m p (suc (length bs)) bs) (λ items. Ok (m.array indefinite items.0, items.1)) x is in
-      let got = (indefinite_items_found p finds.0 finds.2 (suc (length bs)) bs step.0 fits step.1).1 in
+      let step = bind_ok (parts_at (items_of m p) to_break bs) (λ items. Ok (m.array indefinite items.0, items.1)) x is in
+      let got = (items_found p finds.0 finds.2 to_break bs step.0 fits step.1).1 in
       let rest = step.0.1 in
       read_as (IsIndefinite levels 4 bs) (m.array indefinite step.0.0, rest) x step.2 (record {
         item = raw.array indefinite got.items;
@@ -419,12 +406,12 @@ module _ {Item Items Pairs : Type 0} (m : Reading Item Items Pairs) where
         rest_fits = AreBytes-rest 0xff rest got.rest_fits;
       })
 
-  indefinite_map_found : (inner : Option (List ℕ → Reads Item)) (levels : ℕ) → FindsInside m inner levels → (bs : List ℕ) (x : Item × List ℕ) → AreBytes bs → indefinite_map_at m inner bs ≡ Ok x → IsIndefinite levels 5 bs x
-  unfolding indefinite_map_at spell made
+  indefinite_map_found : (inner : Option (List ℕ → Reads Item)) (levels : ℕ) → FindsInside m inner levels → (bs : List ℕ) (x : Item × List ℕ) → AreBytes bs → map_at m inner indefinite to_break bs ≡ Ok x → IsIndefinite levels 5 bs x
+  unfolding map_at spell made
   indefinite_map_found None levels finds bs x fits is = not_ok (before too_deep bs) x is
   indefinite_map_found (Some p) levels finds bs x fits is =
-      let step = bind_ok (indefinite_pairs_by m p (suc (length bs)) bs) (λ pairs. Ok (m.map indefinite pairs.0, pairs.1)) x is in
-      let got = (indefinite_pairs_found p finds.0 finds.2 (suc (length bs)) bs step.0 fits step.1).1 in
+      let step = bind_ok (parts_at (pairs_of m p) to_break bs) (λ pairs. Ok (m.map indefinite pairs.0, pairs.1)) x is in
+      let got = (pairs_found p finds.0 finds.2 to_break bs step.0 fits step.1).1 in
       let rest = step.0.1 in
       read_as (IsIndefinite levels 5 bs) (m.map indefinite step.0.0, rest) x step.2 (record {
         item = raw.map indefinite got.pairs;

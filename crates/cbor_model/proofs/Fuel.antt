@@ -1,8 +1,8 @@
 -- What the readers with fuel read doesn't depend on it, once it is above the number of bytes.
-use Rattle.std.proofs.Common.{◌≡◌, ℕ, zero, suc, ◌<◌, Bool, true, false, cond, eqb, List, [], ◌∷◌, length, Result, Ok, Err, refl, arith}
-use Rattle.cbor_model.specs.Refusal.{end_in_array, end_in_map}
-use Rattle.cbor_model.specs.Reader.{Fault, Reads, ◌>>=◌, Reading, byte_at, chunk_at, chunks_by, more_at, indefinite_items_by, indefinite_pairs_by}
-use Rattle.cbor_model.proofs.Taken.{chunk_taken, more_taken}
+use Rattle.std.proofs.Common.{◌≡◌, ℕ, zero, suc, ◌<◌, ◌≤◌, Bool, true, false, cond, eqb, List, [], ◌∷◌, length, Option, Some, None, Result, Ok, Err, refl, ap, arith}
+use Rattle.cbor_model.specs.Reader.{Fault, Reads, ◌>>=◌, byte_at, chunk_at, chunks_by, Remaining, next_at, Parts, go_on, parts_by, pair_at}
+use Rattle.cbor_model.proofs.Steps.{bind_ok, ok_is}
+use Rattle.cbor_model.proofs.Taken.{chunk_taken, next_taken}
 
 bind_same : {A B : Type 0} (r : Result A Fault) (f g : A → Result B Fault) → ((x : A) → r ≡ Ok x → f x ≡ g x) → (r >>= f) ≡ (r >>= g)
 bind_same (Ok x) f g each = each x refl
@@ -24,33 +24,31 @@ chunks_by-fuel major (suc f) (suc g) (b ∷ bs) enough enough' =
     let others : chunks_by major f c.1 ≡ chunks_by major g c.1 = chunks_by-fuel major f g c.1 (omega arith) (omega arith) in
     rw others refl))
 
-module _ {Item Items Pairs : Type 0} (m : Reading Item Items Pairs) (p : List ℕ → Reads Item) (takes : (bs : List ℕ) (x : Item × List ℕ) → p bs ≡ Ok x → length x.1 < length bs) where
-  pub indefinite_items_by-fuel : (f g : ℕ) (bs : List ℕ) → length bs < f → length bs < g → indefinite_items_by m p f bs ≡ indefinite_items_by m p g bs
-  unfolding indefinite_items_by
-  indefinite_items_by-fuel zero g bs enough enough' = absurd (omega arith)
-  indefinite_items_by-fuel (suc f) zero bs enough enough' = absurd (omega arith)
-  indefinite_items_by-fuel (suc f) (suc g) bs enough enough' =
-      bind_same (more_at end_in_array bs) _ _ (λ more is.
-      let few = more_taken end_in_array bs more is in
-      cond_same more.0 _ _ _ _
-      (bind_same (p more.1) _ _ (λ first is.
-      let fewer = takes more.1 first is in
-      let others : indefinite_items_by m p f first.1 ≡ indefinite_items_by m p g first.1 = indefinite_items_by-fuel f g first.1 (omega arith) (omega arith) in
-      rw others refl))
-      refl)
+module _ {Part Whole : Type 0} (ps : Parts Part Whole) (takes : (bs : List ℕ) (x : Part × List ℕ) → ps.part bs ≡ Ok x → length x.1 < length bs) where
+  go_on-fuel : (n : ℕ) (others others' : Remaining → List ℕ → Reads Whole) → ((remaining : Remaining) (bs : List ℕ) → length bs < n → others remaining bs ≡ others' remaining bs) → (next : Option Remaining) (bs : List ℕ) → length bs ≤ n → go_on ps others next bs ≡ go_on ps others' next bs
+  go_on-fuel n others others' same None bs few = refl
+  go_on-fuel n others others' same (Some remaining) bs few =
+      bind_same (ps.part bs) _ _ (λ first is.
+      let fewer = takes bs first is in
+      let each : others remaining first.1 ≡ others' remaining first.1 = same remaining first.1 (omega arith) in
+      rw each refl)
 
-  pub indefinite_pairs_by-fuel : (f g : ℕ) (bs : List ℕ) → length bs < f → length bs < g → indefinite_pairs_by m p f bs ≡ indefinite_pairs_by m p g bs
-  unfolding indefinite_pairs_by
-  indefinite_pairs_by-fuel zero g bs enough enough' = absurd (omega arith)
-  indefinite_pairs_by-fuel (suc f) zero bs enough enough' = absurd (omega arith)
-  indefinite_pairs_by-fuel (suc f) (suc g) bs enough enough' =
-      bind_same (more_at end_in_map bs) _ _ (λ more is.
-      let few = more_taken end_in_map bs more is in
-      cond_same more.0 _ _ _ _
-      (bind_same (p more.1) _ _ (λ k is.
-      let fewer = takes more.1 k is in
-      bind_same (p k.1) _ _ (λ v is.
-      let fewest = takes k.1 v is in
-      let others : indefinite_pairs_by m p f v.1 ≡ indefinite_pairs_by m p g v.1 = indefinite_pairs_by-fuel f g v.1 (omega arith) (omega arith) in
-      rw others refl)))
-      refl)
+  pub parts_by-fuel : (f g : ℕ) (remaining : Remaining) (bs : List ℕ) → length bs < f → length bs < g → parts_by ps f remaining bs ≡ parts_by ps g remaining bs
+  unfolding parts_by
+  parts_by-fuel zero g remaining bs enough enough' = absurd (omega arith)
+  parts_by-fuel (suc f) zero remaining bs enough enough' = absurd (omega arith)
+  parts_by-fuel (suc f) (suc g) remaining bs enough enough' =
+      bind_same (next_at ps.ends remaining bs) _ _ (λ next is.
+      let few = next_taken ps.ends remaining bs next is in
+      go_on-fuel (length bs) (parts_by ps f) (parts_by ps g) (λ remaining more fewer. parts_by-fuel f g remaining more (omega arith) (omega arith)) next.0 next.1 few)
+
+-- a key and a value take a byte at the least
+pub pair_taken : {Item : Type 0} (p : List ℕ → Reads Item) → ((bs : List ℕ) (x : Item × List ℕ) → p bs ≡ Ok x → length x.1 < length bs) → (bs : List ℕ) (x : (Item × Item) × List ℕ) → pair_at p bs ≡ Ok x → length x.1 < length bs
+unfolding pair_at
+pair_taken p takes bs x is =
+    let a = bind_ok (p bs) (λ k. p k.1 >>= λ v. Ok ((k.0, v.0), v.1)) x is in
+    let b = bind_ok (p a.0.1) (λ v. Ok ((a.0.0, v.0), v.1)) x a.2 in
+    let fewer = takes bs a.0 a.1 in
+    let fewest = takes a.0.1 b.0 b.1 in
+    let same = ok_is ((a.0.0, b.0.0), b.0.1) x b.2 in
+    omega (arith, ap (λ (y : (_ × _) × List ℕ). length y.1) same)

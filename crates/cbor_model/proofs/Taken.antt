@@ -3,9 +3,9 @@ use Rattle.std.proofs.Common.{◌≡◌, ℕ, zero, suc, ◌/◌, ◌%◌, ◌<�
 use Rattle.std.specs.Int.{Width, w8, w16, w32, w64, byte_len}
 use Rattle.std.proofs.lemmas.List.{length-drop}
 use Rattle.cbor_model.specs.Head.{HeadWidth}
-use Rattle.cbor_model.specs.Raw.{Chunk}
+use Rattle.cbor_model.specs.Raw.{Length, definite, indefinite, Chunk}
 use Rattle.cbor_model.specs.Refusal.{Refusal}
-use Rattle.cbor_model.specs.Reader.{Reads, ◌>>=◌, Reading, byte_at, bytes_at, number_at, number_behind, float_at, simple_at, string_at, checked_text, text_at, begins_chunk, chunk_at, chunks_by, chunks_at, string_chunks_at, text_chunks_at, items_by, more_at, indefinite_items_by, pairs_by, indefinite_pairs_by, within, array_at, map_at, tag_at, indefinite_array_at, indefinite_map_at, content_at, indefinite_at, after_first, item_by, item_at}
+use Rattle.cbor_model.specs.Reader.{Reads, ◌>>=◌, Reading, byte_at, bytes_at, number_at, number_behind, float_at, simple_at, string_at, checked_text, text_at, begins_chunk, chunk_at, chunks_by, chunks_at, string_chunks_at, text_chunks_at, Remaining, counted, to_break, next_at, Parts, go_on, parts_by, parts_at, pair_at, items_of, pairs_of, within, array_at, map_at, tag_at, content_at, indefinite_at, after_first, item_by, item_at}
 
 -- where something is read, no more than n bytes are left
 abbrev pub Leaves : {A : Type 0} → ℕ → Reads A → Type 0
@@ -61,13 +61,29 @@ chunks_leaves major (suc fuel) n (b ∷ bs) few =
     (Leaves-bind n n (chunk_at major b bs) _ (chunk_leaves major b n bs fewer) (λ c few.
     Leaves-bind n n (chunks_by major fuel c.1) _ (chunks_leaves major fuel n c.1 few) (λ cs few. few)))
 
-more_leaves : (why : Refusal) (n : ℕ) (bs : List ℕ) → length bs ≤ n → Leaves n (more_at why bs)
-unfolding more_at
-more_leaves why n [] few = tt
-more_leaves why n (b ∷ bs) few = Leaves-cond n (eqb b 0xff) _ _ (omega arith) few
+next_leaves : (why : Refusal) (remaining : Remaining) (n : ℕ) (bs : List ℕ) → length bs ≤ n → Leaves n (next_at why remaining bs)
+unfolding next_at
+next_leaves why (counted zero) n bs few = few
+next_leaves why (counted (suc k)) n bs few = few
+next_leaves why to_break n [] few = tt
+next_leaves why to_break n (b ∷ bs) few = Leaves-cond n (eqb b 0xff) _ _ (omega arith) few
 
-pub more_taken : (why : Refusal) (bs : List ℕ) (x : Bool × List ℕ) → more_at why bs ≡ Ok x → length x.1 ≤ length bs
-more_taken why bs x is = Leaves-use (length bs) (more_at why bs) x (more_leaves why (length bs) bs (omega arith)) is
+pub next_taken : (why : Refusal) (remaining : Remaining) (bs : List ℕ) (x : Option Remaining × List ℕ) → next_at why remaining bs ≡ Ok x → length x.1 ≤ length bs
+next_taken why remaining bs x is = Leaves-use (length bs) (next_at why remaining bs) x (next_leaves why remaining (length bs) bs (omega arith)) is
+
+module _ {Part Whole : Type 0} (ps : Parts Part Whole) (leaves : (n : ℕ) (bs : List ℕ) → length bs ≤ n → Leaves n (ps.part bs)) where
+  go_on_leaves : (others : Remaining → List ℕ → Reads Whole) → ((remaining : Remaining) (n : ℕ) (bs : List ℕ) → length bs ≤ n → Leaves n (others remaining bs)) → (next : Option Remaining) (n : ℕ) (bs : List ℕ) → length bs ≤ n → Leaves n (go_on ps others next bs)
+  go_on_leaves others each None n bs few = few
+  go_on_leaves others each (Some remaining) n bs few =
+      Leaves-bind n n (ps.part bs) _ (leaves n bs few) (λ first few.
+      Leaves-bind n n (others remaining first.1) _ (each remaining n first.1 few) (λ rest few. few))
+
+  pub parts_leave : (fuel : ℕ) (remaining : Remaining) (n : ℕ) (bs : List ℕ) → length bs ≤ n → Leaves n (parts_by ps fuel remaining bs)
+  unfolding parts_by
+  parts_leave zero remaining n bs few = tt
+  parts_leave (suc fuel) remaining n bs few =
+      Leaves-bind n n (next_at ps.ends remaining bs) _ (next_leaves ps.ends remaining n bs few) (λ next few.
+      go_on_leaves (parts_by ps fuel) (λ remaining n bs few. parts_leave fuel remaining n bs few) next.0 n next.1 few)
 
 module _ {Item Items Pairs : Type 0} (m : Reading Item Items Pairs) where
   -- the reader leaves no more bytes than it began with
@@ -119,71 +135,31 @@ module _ {Item Items Pairs : Type 0} (m : Reading Item Items Pairs) where
 
   -- ---- what lies one level further in
 
-  items_leave : (p : List ℕ → Reads Item) → LeavesNoMore p → (k n : ℕ) (bs : List ℕ) → length bs ≤ n → Leaves n (items_by m p k bs)
-  unfolding items_by
-  items_leave p leaves zero n bs few = few
-  items_leave p leaves (suc k) n bs few =
-      Leaves-bind n n (p bs) _ (leaves n bs few) (λ first few.
-      Leaves-bind n n (items_by m p k first.1) _ (items_leave p leaves k n first.1 few) (λ others few. few))
-
-  pairs_leave : (p : List ℕ → Reads Item) → LeavesNoMore p → (k n : ℕ) (bs : List ℕ) → length bs ≤ n → Leaves n (pairs_by m p k bs)
-  unfolding pairs_by
-  pairs_leave p leaves zero n bs few = few
-  pairs_leave p leaves (suc k) n bs few =
+  pair_leaves : (p : List ℕ → Reads Item) → LeavesNoMore p → (n : ℕ) (bs : List ℕ) → length bs ≤ n → Leaves n (pair_at p bs)
+  unfolding pair_at
+  pair_leaves p leaves n bs few =
       Leaves-bind n n (p bs) _ (leaves n bs few) (λ key few.
-      Leaves-bind n n (p key.1) _ (leaves n key.1 few) (λ v few.
-      Leaves-bind n n (pairs_by m p k v.1) _ (pairs_leave p leaves k n v.1 few) (λ others few. few)))
-
-  indefinite_items_leave : (p : List ℕ → Reads Item) → LeavesNoMore p → (fuel n : ℕ) (bs : List ℕ) → length bs ≤ n → Leaves n (indefinite_items_by m p fuel bs)
-  unfolding indefinite_items_by
-  indefinite_items_leave p leaves zero n bs few = tt
-  indefinite_items_leave p leaves (suc fuel) n bs few =
-      Leaves-bind n n (more_at _ bs) _ (more_leaves _ n bs few) (λ more few.
-      Leaves-cond n more.0 _ _
-      (Leaves-bind n n (p more.1) _ (leaves n more.1 few) (λ first few.
-      Leaves-bind n n (indefinite_items_by m p fuel first.1) _ (indefinite_items_leave p leaves fuel n first.1 few) (λ others few. few)))
-      few)
-
-  indefinite_pairs_leave : (p : List ℕ → Reads Item) → LeavesNoMore p → (fuel n : ℕ) (bs : List ℕ) → length bs ≤ n → Leaves n (indefinite_pairs_by m p fuel bs)
-  unfolding indefinite_pairs_by
-  indefinite_pairs_leave p leaves zero n bs few = tt
-  indefinite_pairs_leave p leaves (suc fuel) n bs few =
-      Leaves-bind n n (more_at _ bs) _ (more_leaves _ n bs few) (λ more few.
-      Leaves-cond n more.0 _ _
-      (Leaves-bind n n (p more.1) _ (leaves n more.1 few) (λ key few.
-      Leaves-bind n n (p key.1) _ (leaves n key.1 few) (λ v few.
-      Leaves-bind n n (indefinite_pairs_by m p fuel v.1) _ (indefinite_pairs_leave p leaves fuel n v.1 few) (λ others few. few))))
-      few)
+      Leaves-bind n n (p key.1) _ (leaves n key.1 few) (λ v few. few))
 
   -- one of the above, by a reader of what lies one level further in
   within_leaves : {A : Type 0} (inner : Option (List ℕ → Reads Item)) → LeavesNoMoreInside inner → (n : ℕ) (bs : List ℕ) (read : (List ℕ → Reads Item) → Reads A) → ((p : List ℕ → Reads Item) → LeavesNoMore p → Leaves n (read p)) → Leaves n (within inner bs read)
   within_leaves None leaves n bs read each = tt
   within_leaves (Some p) leaves n bs read each = each p leaves
 
-  array_leaves : (inner : Option (List ℕ → Reads Item)) → LeavesNoMoreInside inner → (w : HeadWidth) (k n : ℕ) (bs : List ℕ) → length bs ≤ n → Leaves n (array_at m inner w k bs)
+  array_leaves : (inner : Option (List ℕ → Reads Item)) → LeavesNoMoreInside inner → (l : Length) (remaining : Remaining) (n : ℕ) (bs : List ℕ) → length bs ≤ n → Leaves n (array_at m inner l remaining bs)
   unfolding array_at
-  array_leaves inner leaves w k n bs few =
-      Leaves-bind n n (within inner bs (λ p. items_by m p k bs)) _ (within_leaves inner leaves n bs _ (λ p leaves. items_leave p leaves k n bs few)) (λ items few. few)
+  array_leaves inner leaves l remaining n bs few =
+      Leaves-bind n n (within inner bs (λ p. parts_at (items_of m p) remaining bs)) _ (within_leaves inner leaves n bs _ (λ p leaves. parts_leave (items_of m p) leaves _ remaining n bs few)) (λ items few. few)
 
-  map_leaves : (inner : Option (List ℕ → Reads Item)) → LeavesNoMoreInside inner → (w : HeadWidth) (k n : ℕ) (bs : List ℕ) → length bs ≤ n → Leaves n (map_at m inner w k bs)
+  map_leaves : (inner : Option (List ℕ → Reads Item)) → LeavesNoMoreInside inner → (l : Length) (remaining : Remaining) (n : ℕ) (bs : List ℕ) → length bs ≤ n → Leaves n (map_at m inner l remaining bs)
   unfolding map_at
-  map_leaves inner leaves w k n bs few =
-      Leaves-bind n n (within inner bs (λ p. pairs_by m p k bs)) _ (within_leaves inner leaves n bs _ (λ p leaves. pairs_leave p leaves k n bs few)) (λ pairs few. few)
+  map_leaves inner leaves l remaining n bs few =
+      Leaves-bind n n (within inner bs (λ p. parts_at (pairs_of m p) remaining bs)) _ (within_leaves inner leaves n bs _ (λ p leaves. parts_leave (pairs_of m p) (pair_leaves p leaves) _ remaining n bs few)) (λ pairs few. few)
 
   tag_leaves : (inner : Option (List ℕ → Reads Item)) → LeavesNoMoreInside inner → (w : HeadWidth) (k n : ℕ) (bs : List ℕ) → length bs ≤ n → Leaves n (tag_at m inner w k bs)
   unfolding tag_at
   tag_leaves inner leaves w k n bs few =
       Leaves-bind n n (within inner bs (λ p. p bs)) _ (within_leaves inner leaves n bs _ (λ p leaves. leaves n bs few)) (λ item few. few)
-
-  indefinite_array_leaves : (inner : Option (List ℕ → Reads Item)) → LeavesNoMoreInside inner → (n : ℕ) (bs : List ℕ) → length bs ≤ n → Leaves n (indefinite_array_at m inner bs)
-  unfolding indefinite_array_at
-  indefinite_array_leaves inner leaves n bs few =
-      Leaves-bind n n (within inner bs (λ p. indefinite_items_by m p (suc (length bs)) bs)) _ (within_leaves inner leaves n bs _ (λ p leaves. indefinite_items_leave p leaves _ n bs few)) (λ items few. few)
-
-  indefinite_map_leaves : (inner : Option (List ℕ → Reads Item)) → LeavesNoMoreInside inner → (n : ℕ) (bs : List ℕ) → length bs ≤ n → Leaves n (indefinite_map_at m inner bs)
-  unfolding indefinite_map_at
-  indefinite_map_leaves inner leaves n bs few =
-      Leaves-bind n n (within inner bs (λ p. indefinite_pairs_by m p (suc (length bs)) bs)) _ (within_leaves inner leaves n bs _ (λ p leaves. indefinite_pairs_leave p leaves _ n bs few)) (λ pairs few. few)
 
   -- ---- items
 
@@ -194,16 +170,16 @@ module _ {Item Items Pairs : Type 0} (m : Reading Item Items Pairs) where
       (Leaves-cond n (eqb major 1) _ _ few
       (Leaves-cond n (eqb major 2) _ _ (string_leaves w k n bs few)
       (Leaves-cond n (eqb major 3) _ _ (text_leaves w k n bs few)
-      (Leaves-cond n (eqb major 4) _ _ (array_leaves inner leaves w k n bs few)
-      (Leaves-cond n (eqb major 5) _ _ (map_leaves inner leaves w k n bs few) (tag_leaves inner leaves w k n bs few))))))
+      (Leaves-cond n (eqb major 4) _ _ (array_leaves inner leaves (definite w) (counted k) n bs few)
+      (Leaves-cond n (eqb major 5) _ _ (map_leaves inner leaves (definite w) (counted k) n bs few) (tag_leaves inner leaves w k n bs few))))))
 
   indefinite_leaves : (inner : Option (List ℕ → Reads Item)) → LeavesNoMoreInside inner → (major n : ℕ) (bs : List ℕ) → length bs ≤ n → Leaves n (indefinite_at m inner major bs)
   unfolding indefinite_at
   indefinite_leaves inner leaves major n bs few =
       Leaves-cond n (eqb major 2) _ _ (string_chunks_leaves n bs few)
       (Leaves-cond n (eqb major 3) _ _ (text_chunks_leaves n bs few)
-      (Leaves-cond n (eqb major 4) _ _ (indefinite_array_leaves inner leaves n bs few)
-      (Leaves-cond n (eqb major 5) _ _ (indefinite_map_leaves inner leaves n bs few) tt)))
+      (Leaves-cond n (eqb major 4) _ _ (array_leaves inner leaves indefinite to_break n bs few)
+      (Leaves-cond n (eqb major 5) _ _ (map_leaves inner leaves indefinite to_break n bs few) tt)))
 
   after_first_leaves : (inner : Option (List ℕ → Reads Item)) → LeavesNoMoreInside inner → (b n : ℕ) (bs : List ℕ) → length bs ≤ n → Leaves n (after_first m inner b bs)
   unfolding after_first

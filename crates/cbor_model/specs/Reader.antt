@@ -1,7 +1,7 @@
 -- The reference reader. It is no definition of the format: it goes through the bytes from left to
 -- right, as a program does, and says what is read first or what is at fault first. Laws tie it to the
 -- definitions: what it reads is spelled so and acceptable, and what is spelled so it reads.
-use Rattle.std.specs.Prelude.{◌≡◌, ℕ, zero, suc, ◌+◌, ◌-◌, ◌/◌, ◌%◌, ◌^◌, Bool, true, false, List, [], ◌∷◌, length, take, drop, pos, negsuc, Result, Ok, Err, Option, Some, None, nat_lt, ◌==◌, ◌&&◌, if◌then◌else◌, refl}
+use Rattle.std.specs.Prelude.{◌≡◌, ℕ, zero, suc, ◌+◌, ◌-◌, ◌/◌, ◌%◌, ◌^◌, Bool, List, [], ◌∷◌, length, take, drop, pos, negsuc, Result, Ok, Err, Option, Some, None, nat_lt, ◌==◌, ◌&&◌, if◌then◌else◌, refl}
 use Rattle.std.specs.Int.{Width, w8, w16, w32, w64, byte_len, from_be_bytes}
 use Rattle.std.specs.Str.Lossy.{utf8_valid_len}
 use Rattle.cbor_model.specs.Head.{HeadWidth, no_bytes, one_byte, two_bytes, four_bytes, eight_bytes}
@@ -167,61 +167,70 @@ string_chunks_at m bs = chunks_at 2 bs >>= (λ cs. Ok (m.bytes_chunks cs.0, cs.1
 unfoldable pub text_chunks_at : {Item Items Pairs : Type 0} → Reading Item Items Pairs → List ℕ → Reads Item
 text_chunks_at m bs = chunks_at 3 bs >>= (λ cs. checked_text m (m.text_chunks cs.0) (joined cs.0) cs.1)
 
--- n items, one after the other, each read by p
-unfoldable pub items_by : {Item Items Pairs : Type 0} → Reading Item Items Pairs → (List ℕ → Reads Item) → ℕ → List ℕ → Reads Items
-items_by m p zero bs = Ok (m.no_items, bs)
-items_by m p (suc n) bs = do
-  first ← p bs
-  others ← items_by m p n first.1
-  Ok (m.item first.0 others.0, others.1)
+-- What remains of an array or a map: so many parts, or all up to the break. A part is an item of an
+-- array, or a pair of a map.
+pub data Remaining : Type 0 where
+  counted : ℕ → Remaining
+  to_break : Remaining
 
--- whether another element comes, and not the break of an indefinite length, which is taken then
-unfoldable pub more_at : Refusal → List ℕ → Reads Bool
-more_at why [] = Err (record { why = why; left = 0 })
-more_at why (b ∷ bs) = if b == 0xff then Ok (false, bs) else Ok (true, b ∷ bs)
+-- What remains behind the next part, if one comes. A break that comes is taken; at an end of input in
+-- its place the fault is why.
+unfoldable pub next_at : Refusal → Remaining → List ℕ → Reads (Option Remaining)
+next_at why (counted zero) bs = Ok (None, bs)
+next_at why (counted (suc n)) bs = Ok (Some (counted n), bs)
+next_at why to_break [] = Err (record { why = why; left = 0 })
+next_at why to_break (b ∷ bs) = if b == 0xff then Ok (None, bs) else Ok (Some to_break, b ∷ bs)
 
--- items up to the break, which take fewer bytes than fuel
-unfoldable pub indefinite_items_by : {Item Items Pairs : Type 0} → Reading Item Items Pairs → (List ℕ → Reads Item) → ℕ → List ℕ → Reads Items
-indefinite_items_by m p zero bs = Err ended
-indefinite_items_by m p (suc fuel) bs = more_at end_in_array bs >>= (λ more.
-    if more.0 then p more.1 >>= (λ first. indefinite_items_by m p fuel first.1 >>= (λ others. Ok (m.item first.0 others.0, others.1)))
-    else Ok (m.no_items, more.1))
+-- How the parts are read, and what is made of them.
+pub record Parts (Part Whole : Type 0) : Type 0 where
+  pub ends : Refusal
+  pub part : List ℕ → Reads Part
+  pub none : Whole
+  pub add : Part → Whole → Whole
 
--- n pairs, one after the other, each key and each value read by p
-unfoldable pub pairs_by : {Item Items Pairs : Type 0} → Reading Item Items Pairs → (List ℕ → Reads Item) → ℕ → List ℕ → Reads Pairs
-pairs_by m p zero bs = Ok (m.no_pairs, bs)
-pairs_by m p (suc n) bs = do
+-- a part and those behind it, where one comes
+abbrev pub go_on : {Part Whole : Type 0} → Parts Part Whole → (Remaining → List ℕ → Reads Whole) → Option Remaining → List ℕ → Reads Whole
+go_on ps others None bs = Ok (ps.none, bs)
+go_on ps others (Some remaining) bs = do
+  first ← ps.part bs
+  rest ← others remaining first.1
+  Ok (ps.add first.0 rest.0, rest.1)
+
+-- the parts that remain, each of which takes a byte at the least; they take fewer bytes than fuel
+unfoldable pub parts_by : {Part Whole : Type 0} → Parts Part Whole → ℕ → Remaining → List ℕ → Reads Whole
+parts_by ps zero remaining bs = Err ended
+parts_by ps (suc fuel) remaining bs = next_at ps.ends remaining bs >>= (λ next. go_on ps (parts_by ps fuel) next.0 next.1)
+
+abbrev pub parts_at : {Part Whole : Type 0} → Parts Part Whole → Remaining → List ℕ → Reads Whole
+parts_at ps remaining bs = parts_by ps (suc (length bs)) remaining bs
+
+-- a key and a value, each read by p
+unfoldable pub pair_at : {Item : Type 0} → (List ℕ → Reads Item) → List ℕ → Reads (Item × Item)
+pair_at p bs = do
   k ← p bs
   v ← p k.1
-  others ← pairs_by m p n v.1
-  Ok (m.pair k.0 v.0 others.0, others.1)
+  Ok ((k.0, v.0), v.1)
 
--- pairs up to the break, which take fewer bytes than fuel
-unfoldable pub indefinite_pairs_by : {Item Items Pairs : Type 0} → Reading Item Items Pairs → (List ℕ → Reads Item) → ℕ → List ℕ → Reads Pairs
-indefinite_pairs_by m p zero bs = Err ended
-indefinite_pairs_by m p (suc fuel) bs = more_at end_in_map bs >>= (λ more.
-    if more.0 then p more.1 >>= (λ k. p k.1 >>= (λ v. indefinite_pairs_by m p fuel v.1 >>= (λ others. Ok (m.pair k.0 v.0 others.0, others.1))))
-    else Ok (m.no_pairs, more.1))
+abbrev pub items_of : {Item Items Pairs : Type 0} → Reading Item Items Pairs → (List ℕ → Reads Item) → Parts Item Items
+items_of m p = record { ends = end_in_array; part = p; none = m.no_items; add = m.item }
+
+abbrev pub pairs_of : {Item Items Pairs : Type 0} → Reading Item Items Pairs → (List ℕ → Reads Item) → Parts (Item × Item) Pairs
+pairs_of m p = record { ends = end_in_map; part = pair_at p; none = m.no_pairs; add = λ (kv : _) others. m.pair kv.0 kv.1 others }
 
 -- what lies one level further in, where one is left
 abbrev pub within : {Item A : Type 0} → Option (List ℕ → Reads Item) → List ℕ → ((List ℕ → Reads Item) → Reads A) → Reads A
 within None bs read = Err (before too_deep bs)
 within (Some p) bs read = read p
 
-unfoldable pub array_at : {Item Items Pairs : Type 0} → Reading Item Items Pairs → Option (List ℕ → Reads Item) → HeadWidth → ℕ → List ℕ → Reads Item
-array_at m inner w n bs = within inner bs (λ p. items_by m p n bs) >>= (λ items. Ok (m.array (definite w) items.0, items.1))
+-- what follows the head of an array, or of a map
+unfoldable pub array_at : {Item Items Pairs : Type 0} → Reading Item Items Pairs → Option (List ℕ → Reads Item) → Length → Remaining → List ℕ → Reads Item
+array_at m inner l remaining bs = within inner bs (λ p. parts_at (items_of m p) remaining bs) >>= (λ items. Ok (m.array l items.0, items.1))
 
-unfoldable pub map_at : {Item Items Pairs : Type 0} → Reading Item Items Pairs → Option (List ℕ → Reads Item) → HeadWidth → ℕ → List ℕ → Reads Item
-map_at m inner w n bs = within inner bs (λ p. pairs_by m p n bs) >>= (λ pairs. Ok (m.map (definite w) pairs.0, pairs.1))
+unfoldable pub map_at : {Item Items Pairs : Type 0} → Reading Item Items Pairs → Option (List ℕ → Reads Item) → Length → Remaining → List ℕ → Reads Item
+map_at m inner l remaining bs = within inner bs (λ p. parts_at (pairs_of m p) remaining bs) >>= (λ pairs. Ok (m.map l pairs.0, pairs.1))
 
 unfoldable pub tag_at : {Item Items Pairs : Type 0} → Reading Item Items Pairs → Option (List ℕ → Reads Item) → HeadWidth → ℕ → List ℕ → Reads Item
 tag_at m inner w n bs = within inner bs (λ p. p bs) >>= (λ item. Ok (m.tag w n item.0, item.1))
-
-unfoldable pub indefinite_array_at : {Item Items Pairs : Type 0} → Reading Item Items Pairs → Option (List ℕ → Reads Item) → List ℕ → Reads Item
-indefinite_array_at m inner bs = within inner bs (λ p. indefinite_items_by m p (suc (length bs)) bs) >>= (λ items. Ok (m.array indefinite items.0, items.1))
-
-unfoldable pub indefinite_map_at : {Item Items Pairs : Type 0} → Reading Item Items Pairs → Option (List ℕ → Reads Item) → List ℕ → Reads Item
-indefinite_map_at m inner bs = within inner bs (λ p. indefinite_pairs_by m p (suc (length bs)) bs) >>= (λ pairs. Ok (m.map indefinite pairs.0, pairs.1))
 
 -- what follows the head of a major type below 7
 unfoldable pub content_at : {Item Items Pairs : Type 0} → Reading Item Items Pairs → Option (List ℕ → Reads Item) → ℕ → HeadWidth → ℕ → List ℕ → Reads Item
@@ -230,8 +239,8 @@ content_at m inner major w n bs =
     else (if major == 1 then Ok (m.negative w n, bs)
     else (if major == 2 then string_at m w n bs
     else (if major == 3 then text_at m w n bs
-    else (if major == 4 then array_at m inner w n bs
-    else (if major == 5 then map_at m inner w n bs
+    else (if major == 4 then array_at m inner (definite w) (counted n) bs
+    else (if major == 5 then map_at m inner (definite w) (counted n) bs
     else tag_at m inner w n bs)))))
 
 -- what follows the first byte of an indefinite length
@@ -239,8 +248,8 @@ unfoldable pub indefinite_at : {Item Items Pairs : Type 0} → Reading Item Item
 indefinite_at m inner major bs =
     if major == 2 then string_chunks_at m bs
     else (if major == 3 then text_chunks_at m bs
-    else (if major == 4 then indefinite_array_at m inner bs
-    else (if major == 5 then indefinite_map_at m inner bs
+    else (if major == 4 then array_at m inner indefinite to_break bs
+    else (if major == 5 then map_at m inner indefinite to_break bs
     else Err (before unassigned_code bs))))
 
 -- what follows the first byte b
@@ -284,10 +293,10 @@ trailing = refl
 
 -- bf 00 ff: a break in the place of a value
 break_as_value : read_value (0xbf ∷ 0x00 ∷ 0xff ∷ []) ≡ Err (record { why = unexpected_code; left = 0 })
-unfolding read_value item_at item_by byte_at after_first indefinite_at indefinite_map_at indefinite_pairs_by more_at number_behind content_at simple_at float_at
+unfolding read_value item_at item_by byte_at after_first indefinite_at map_at parts_by next_at pair_at number_behind content_at simple_at float_at
 break_as_value = refl
 
 -- 9f 01: the break is wanted
 break_wanted : read_value (0x9f ∷ 0x01 ∷ []) ≡ Err (record { why = end_in_array; left = 0 })
-unfolding read_value item_at item_by byte_at after_first indefinite_at indefinite_array_at indefinite_items_by more_at number_behind content_at
+unfolding read_value item_at item_by byte_at after_first indefinite_at array_at parts_by next_at number_behind content_at
 break_wanted = refl

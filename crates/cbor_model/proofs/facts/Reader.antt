@@ -3,8 +3,8 @@
 -- equal results of reading have equal values
 pub use Rattle.cbor_model.proofs.Steps.{ok_is}
 -- an item takes at least a byte, and no step gives bytes back
-pub use Rattle.cbor_model.proofs.Taken.{taken, chunk_taken, more_taken}
+pub use Rattle.cbor_model.proofs.Taken.{taken, chunk_taken, next_taken}
 -- more fuel than bytes changes nothing
-pub use Rattle.cbor_model.proofs.Fuel.{chunks_by-fuel, indefinite_items_by-fuel, indefinite_pairs_by-fuel}
+pub use Rattle.cbor_model.proofs.Fuel.{chunks_by-fuel, parts_by-fuel, pair_taken}
 -- bytes that are valid to their end are UTF-8
 pub use Rattle.cbor_model.proofs.Texts.{IsUtf8-from_valid_len}
