@@ -12,3 +12,4 @@ pub mod Reader
 pub mod Laws
 pub mod InRange
 pub mod Definite
+pub mod Document

@@ -1,3 +1,4 @@
 pub mod Writing
 pub mod Ranges
 pub mod Bytes
+pub mod Beginnings

@@ -3,7 +3,7 @@ use Rattle.std.specs.Prelude.{◌≡◌, ℕ, ◌^◌, ◌<◌, ◌≤◌, ◌�
 use Rattle.cbor_model.specs.Raw.{Raw, IsWellFormed}
 use Rattle.cbor_model.specs.Spelling.{spell}
 use Rattle.cbor_model.specs.Plain.{Val}
-use Rattle.cbor_model.specs.Order.{lex, flat, val_cmp}
+use Rattle.cbor_model.specs.Order.{lex, val_cmp}
 use Rattle.cbor_model.specs.Value.{value}
 use Rattle.cbor_model.specs.Canonical.{IsStorable, canon}
 use Rattle.cbor_model.specs.InRange.{IsInRange}

@@ -1,4 +1,5 @@
 pub mod Written
 pub mod Bytes
+pub mod Serialized
 pub use Rattle.cbor_io.specs.Error
 pub use Rattle.cbor_value.specs.View

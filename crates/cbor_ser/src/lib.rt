@@ -24,6 +24,10 @@ pub use cbor_io::write::{IoWrite, SliceWrite, Write};
 use cbor_value::{Float, Map, Value};
 use std::alloc::Global;
 
+mod serializer;
+
+pub use serializer::Serializer;
+
 // The first bytes of the items of major type 7.
 const FALSE: u8 = 0xf4;
 
@@ -170,7 +174,7 @@ fn write_integer(alloc: Global, out: &mut Vec<u8>, i: i128) -> Result<()>
 }
 
 /// What refuses a value that has an integer outside `-2^64..=2^64-1`.
-fn not_storable(alloc: Global) -> Error
+pub(crate) fn not_storable(alloc: Global) -> Error
     ensures { (v : Val) → (IsStorable v → ⊥) → IsNotWritten v result }
 {
     Error::message(alloc, "The number can't be stored in CBOR")
