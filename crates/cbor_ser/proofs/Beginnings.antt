@@ -1,9 +1,11 @@
 -- What was written, put together from its parts.
-use Rattle.std.proofs.Common.{ℕ, List, ◌++◌, Option, sym, ap, ◌∙◌, append_assoc}
-use Rattle.std.specs.Prelude.{Result, Ok, Err}
-use Rattle.std.specs.Result.{IsErr}
+use Rattle.std.proofs.Common.{◌≡◌, ℕ, List, [], ◌++◌, Option, sym, ap, ◌∙◌, append_assoc, subst, None, Some}
+use Rattle.std.specs.Prelude.{Result, Ok, Err, OnOk, OnErr, IfErr, IfSome}
+use Rattle.std.specs.Result.{IsErr, IsOk}
+use Rattle.std.specs.Option.{IsSomeAnd}
 use Rattle.std.specs.Io.KnownBytes.{Appends}
-use Rattle.std.proofs.KnownBytes.{Appends-trans}
+use Rattle.std.proofs.KnownBytes.{Appends-nil, Appends-trans}
+use Rattle.cbor_io.specs.declared.error.Error.{Error}
 use Rattle.cbor_io.specs.Write.{AppendsBeginning, Wrote}
 
 began_more : {old new : Option (List ℕ)} {f : List ℕ} (g : List ℕ) → AppendsBeginning f old new → AppendsBeginning (f ++ g) old new
@@ -31,3 +33,40 @@ and_then old mid new f g (Err x) a h = record { ok = tt; err = began_then old mi
 pub stops : {T E : Type 0} {old new : Option (List ℕ)} {f : List ℕ} (g : List ℕ) (r : Result T E) → IsErr r → AppendsBeginning f old new → Wrote old (f ++ g) new r
 stops g (Ok x) e h = cc
 stops g (Err x) e h = record { ok = tt; err = began_more g h }
+
+-- the exit of a `?` at the last part
+pub stopped : {T E : Type 0} {old new : Option (List ℕ)} {f : List ℕ} (r : Result T E) → IsErr r → AppendsBeginning f old new → Wrote old f new r
+stopped (Ok x) e h = cc
+stopped (Err x) e h = record { ok = tt; err = h }
+
+-- the same bytes, put together otherwise
+pub same_bytes : {T E : Type 0} {old new : Option (List ℕ)} {f g : List ℕ} {r : Result T E} → f ≡ g → Wrote old f new r → Wrote old g new r
+same_bytes {old = old} {new = new} {r = r} e h = subst (λ (bs : List ℕ). Wrote old bs new r) e h
+
+-- nothing was to be written
+pub nothing : {E : Type 0} {sink : Option (List ℕ)} → Wrote {T = Unit {0}} {E = E} sink [] sink (Ok tt)
+nothing {sink = sink} = record { ok = Appends-nil sink; err = tt }
+
+-- ---- a call whose steps answered `done`, and left this refusal
+
+pub told : {T E : Type 0} {old new : Option (List ℕ)} {f : List ℕ} (P : Error → Type 0) (done : Result T E) (kept : Option Error) (r : Result (Unit {0}) Error)
+    → OnOk done (IsOk r) → OnErr done (IfSome kept (λ e. r ≡ Err e)) → OnErr done (IsSomeAnd kept P) → Wrote old f new done → Wrote old f new r
+told P (Ok x) kept (Ok y) ok err refused h = record { ok = h.ok; err = tt }
+told P (Ok x) kept (Err e) ok err refused h = cc
+told P (Err x) None r ok err refused h = absurd refused
+told {old = old} {new = new} {f = f} P (Err x) (Some e) r ok err refused h =
+    subst (λ (z : Result (Unit {0}) Error). Wrote old f new z) (sym err) (record { ok = tt; err = h.err })
+
+pub told_refused : {T E : Type 0} (P : Error → Type 0) (done : Result T E) (kept : Option Error) (r : Result (Unit {0}) Error)
+    → OnOk done (IsOk r) → OnErr done (IfSome kept (λ e. r ≡ Err e)) → OnErr done (IsSomeAnd kept P) → IfErr r P
+told_refused P (Ok x) kept (Ok y) ok err refused = tt
+told_refused P (Ok x) kept (Err e) ok err refused = cc
+told_refused P (Err x) None r ok err refused = absurd refused
+told_refused P (Err x) (Some e) r ok err refused = subst (λ (z : Result (Unit {0}) Error). IfErr z P) (sym err) refused
+
+pub told_ok : {T E : Type 0} (P : Error → Type 0) (Q : Type 0) (done : Result T E) (kept : Option Error) (r : Result (Unit {0}) Error)
+    → OnErr done (IfSome kept (λ e. r ≡ Err e)) → OnErr done (IsSomeAnd kept P) → OnOk done Q → OnOk r Q
+told_ok P Q (Ok x) kept (Ok y) err refused h = h
+told_ok P Q (Ok x) kept (Err e) err refused h = tt
+told_ok P Q (Err x) None r err refused h = absurd refused
+told_ok P Q (Err x) (Some e) r err refused h = subst (λ (z : Result (Unit {0}) Error). OnOk z Q) (sym err) tt

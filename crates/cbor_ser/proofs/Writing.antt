@@ -1,5 +1,7 @@
 -- Writing values one after the other.
-use Rattle.std.proofs.Common.{◌≡◌, ℕ, zero, suc, ◌+◌, ◌<◌, ◌≤◌, List, [], ◌∷◌, ◌++◌, length, drop, get_or, refl, sym, ap, ◌∙◌, subst, append_assoc, arith, add-one, drop-cons}
+use Rattle.std.proofs.Common.{◌≡◌, ℕ, zero, suc, ◌+◌, ◌<◌, ◌≤◌, List, [], ◌∷◌, ◌++◌, length, drop, get_or, refl, sym, ap, ◌∙◌, subst, arith, add-one, drop-cons, ◌⊎◌, inl, inr, Option, None, Some, Result, Ok, Err}
+use Rattle.std.specs.Option.{IsSomeAnd}
+use Rattle.std.specs.Result.{OnErr}
 use Rattle.std.proofs.lemmas.List.{drop_all}
 use Rattle.cbor_model.specs.Head.{short}
 use Rattle.cbor_model.specs.Raw as raw
@@ -11,8 +13,8 @@ use Rattle.cbor_io.specs.declared.error.ErrorCode.TheVariants.{Message, OutOfMem
 use Rattle.cbor_io.specs.declared.error.Error.{Error}
 use Rattle.cbor_value.specs.declared.Value.{Value}
 use Rattle.cbor_value.specs.View.{view, views, pair_views}
-use Rattle.cbor_value.proofs.facts.Views.{count_views}
-use Rattle.cbor_ser.specs.Written.{IsRefusedBy, IsNotWritten}
+use Rattle.cbor_io.specs.Error.{IsOutOfMemory}
+use Rattle.cbor_ser.specs.Written.{IsRefusedBy, IsNotWritten, IsUnstorable}
 
 -- ---- a measure: what lies inside a value is smaller
 
@@ -58,17 +60,17 @@ unfolding canonical
 pair_count_canonical no_pairs = refl
 pair_count_canonical (pair k v ps) = ap suc (pair_count_canonical ps)
 
-pub array_written : (old mid new : List ℕ) (n : ℕ) (vs : Vals) → n ≡ count vs → mid ≡ old ++ short 4 n → new ≡ mid ++ spell_all (canonical_all vs) → new ≡ old ++ canon (array vs)
+pub array_spelled : (vs : Vals) (n : ℕ) → n ≡ count vs → short 4 n ++ spell_all (canonical_all vs) ≡ canon (array vs)
 unfolding canon canonical spell
-array_written old mid new n vs counted first second =
-    second ∙ ap (λ (m : List ℕ). m ++ spell_all (canonical_all vs)) (first ∙ ap (λ (k : ℕ). old ++ short 4 k) (counted ∙ sym (count_canonical vs)))
-    ∙ append_assoc old (short 4 (raw.count (canonical_all vs))) (spell_all (canonical_all vs))
+array_spelled vs n counted = ap (λ (k : ℕ). short 4 k ++ spell_all (canonical_all vs)) (counted ∙ sym (count_canonical vs))
 
-pub map_written : (old mid new : List ℕ) (n : ℕ) (ps : Pairs) → n ≡ pair_count ps → mid ≡ old ++ short 5 n → new ≡ mid ++ spell_pairs (canonical_pairs ps) → new ≡ old ++ canon (map ps)
+pub map_spelled : (ps : Pairs) (n : ℕ) → n ≡ pair_count ps → short 5 n ++ spell_pairs (canonical_pairs ps) ≡ canon (map ps)
 unfolding canon canonical spell
-map_written old mid new n ps counted first second =
-    second ∙ ap (λ (m : List ℕ). m ++ spell_pairs (canonical_pairs ps)) (first ∙ ap (λ (k : ℕ). old ++ short 5 k) (counted ∙ sym (pair_count_canonical ps)))
-    ∙ append_assoc old (short 5 (raw.pair_count (canonical_pairs ps))) (spell_pairs (canonical_pairs ps))
+map_spelled ps n counted = ap (λ (k : ℕ). short 5 k ++ spell_pairs (canonical_pairs ps)) (counted ∙ sym (pair_count_canonical ps))
+
+pub tag_spelled : (n : ℕ) (v : Val) → short 6 n ++ canon v ≡ canon (tag n v)
+unfolding canon canonical spell
+tag_spelled n v = refl
 
 -- ---- one more item, or pair
 
@@ -83,13 +85,14 @@ storable_at (w ∷ ws) (suc i) v lt is all = storable_at ws i v (omega arith) is
 pub storable_from : (vs : List Value) (i : ℕ) (v : Value) → i < length vs → v ≡ get_or vs i v → IsStorable (view v) → AreStorable (views (drop (i + 1) vs)) → AreStorable (views (drop i vs))
 storable_from vs i v lt is here after = subst (λ (xs : List Value). AreStorable (views xs)) (sym (cons_at vs i v lt is)) (here, after)
 
-pub item_written : (vs : List Value) (i : ℕ) (v : Value) (out new : List ℕ) → i < length vs → v ≡ get_or vs i v → new ≡ out ++ canon (view v)
-    → new ++ spell_all (canonical_all (views (drop (i + 1) vs))) ≡ out ++ spell_all (canonical_all (views (drop i vs)))
+pub item_spelled : (vs : List Value) (i : ℕ) (v : Value) → i < length vs → v ≡ get_or vs i v
+    → canon (view v) ++ spell_all (canonical_all (views (drop (i + 1) vs))) ≡ spell_all (canonical_all (views (drop i vs)))
 unfolding canon canonical spell
-item_written vs i v out new lt is written =
-    let rest = spell_all (canonical_all (views (drop (i + 1) vs))) in
-    ap (λ (l : List ℕ). l ++ rest) written ∙ append_assoc out (canon (view v)) rest
-    ∙ ap (λ (xs : List Value). out ++ spell_all (canonical_all (views xs))) (sym (cons_at vs i v lt is))
+item_spelled vs i v lt is = ap (λ (xs : List Value). spell_all (canonical_all (views xs))) (sym (cons_at vs i v lt is))
+
+pub none_spelled : (vs : List Value) (i : ℕ) → length vs ≤ i → [] ≡ spell_all (canonical_all (views (drop i vs)))
+unfolding canon canonical spell
+none_spelled vs i past = ap (λ (xs : List Value). spell_all (canonical_all (views xs))) (sym (drop_all i vs past))
 
 pub key_storable_at : (ps : List (Value × Value)) (i : ℕ) (p : Value × Value) → i < length ps → p ≡ get_or ps i p → ArePairsStorable (pair_views ps) → IsStorable (view p.0)
 key_storable_at [] i p lt is all = absurd (omega arith)
@@ -105,15 +108,14 @@ pub pair_storable_from : (ps : List (Value × Value)) (i : ℕ) (p : Value × Va
     → ArePairsStorable (pair_views (drop (i + 1) ps)) → ArePairsStorable (pair_views (drop i ps))
 pair_storable_from ps i p lt is key value after = subst (λ (xs : List (Value × Value)). ArePairsStorable (pair_views xs)) (sym (cons_at ps i p lt is)) (key, value, after)
 
-pub pair_written : (ps : List (Value × Value)) (i : ℕ) (p : Value × Value) (out mid new : List ℕ) → i < length ps → p ≡ get_or ps i p
-    → mid ≡ out ++ canon (view p.0) → new ≡ mid ++ canon (view p.1)
-    → new ++ spell_pairs (canonical_pairs (pair_views (drop (i + 1) ps))) ≡ out ++ spell_pairs (canonical_pairs (pair_views (drop i ps)))
+pub pair_spelled : (ps : List (Value × Value)) (i : ℕ) (p : Value × Value) → i < length ps → p ≡ get_or ps i p
+    → canon (view p.0) ++ (canon (view p.1) ++ spell_pairs (canonical_pairs (pair_views (drop (i + 1) ps)))) ≡ spell_pairs (canonical_pairs (pair_views (drop i ps)))
 unfolding canon canonical spell
-pair_written ps i p out mid new lt is first second =
-    let rest = spell_pairs (canonical_pairs (pair_views (drop (i + 1) ps))) in
-    ap (λ (l : List ℕ). l ++ rest) second ∙ append_assoc mid (canon (view p.1)) rest
-    ∙ ap (λ (l : List ℕ). l ++ (canon (view p.1) ++ rest)) first ∙ append_assoc out (canon (view p.0)) (canon (view p.1) ++ rest)
-    ∙ ap (λ (xs : List (Value × Value)). out ++ spell_pairs (canonical_pairs (pair_views xs))) (sym (cons_at ps i p lt is))
+pair_spelled ps i p lt is = ap (λ (xs : List (Value × Value)). spell_pairs (canonical_pairs (pair_views xs))) (sym (cons_at ps i p lt is))
+
+pub no_pair_spelled : (ps : List (Value × Value)) (i : ℕ) → length ps ≤ i → [] ≡ spell_pairs (canonical_pairs (pair_views (drop i ps)))
+unfolding canon canonical spell
+no_pair_spelled ps i past = ap (λ (xs : List (Value × Value)). spell_pairs (canonical_pairs (pair_views xs))) (sym (drop_all i ps past))
 
 -- ---- refusals
 
@@ -126,8 +128,28 @@ refused_with _ v w inside refused = absurd refused
 pub not_written_with : (v w : Val) (e : Error) → (IsStorable w → IsStorable v) → IsNotWritten v e → IsNotWritten w e
 not_written_with v w e inside refused = (refused_with e.code v w inside refused.0, refused.1)
 
--- ---- what the writers cite
+pub unstorable_with : (v w : Val) (e : Error) → (IsStorable w → IsStorable v) → IsUnstorable v e → IsUnstorable w e
+unstorable_with v w e inside refused = (λ all. refused.0 (inside all), not_written_with v w e inside refused.1)
 
-pub ruleset heads = (array_written, map_written, count_views)
+-- One of the sink's errors stays one, and a value that is refused is refused with all that it lies in.
+inside_with : {Sink : Type 0} (v w : Val) (e : Error) → (IsStorable w → IsStorable v) → Sink ⊎ IsUnstorable v e → Sink ⊎ IsUnstorable w e
+inside_with v w e inside (inl x) = inl x
+inside_with v w e inside (inr x) = inr (unstorable_with v w e inside x)
 
-pub ruleset items = (size_at, storable_from, item_written, drop_all)
+kept_with : (Sink : Error → Type 0) (v w : Val) (kept : Option Error) → (IsStorable w → IsStorable v)
+    → IsSomeAnd kept (λ e. Sink e ⊎ IsUnstorable v e) → IsSomeAnd kept (λ e. Sink e ⊎ IsUnstorable w e)
+kept_with Sink v w None inside refused = refused
+kept_with Sink v w (Some e) inside refused = inside_with v w e inside refused
+
+pub refused_inside : {T E : Type 0} (Sink : Error → Type 0) (v w : Val) (kept : Option Error) (r : Result T E) → (IsStorable w → IsStorable v)
+    → IsSomeAnd kept (λ e. Sink e ⊎ IsUnstorable v e) → OnErr r (IsSomeAnd kept (λ e. Sink e ⊎ IsUnstorable w e))
+refused_inside Sink v w kept (Ok x) inside refused = tt
+refused_inside Sink v w kept (Err x) inside refused = kept_with Sink v w kept inside refused
+
+-- An unstorable value is not written; nor is one for which a vector finds no memory.
+no_memory_with : (code : ErrorCode) (v : Val) → code ≡ OutOfMemory → IsRefusedBy code v
+no_memory_with code v is = subst (λ (x : ErrorCode). IsRefusedBy x v) (sym is) tt
+
+pub not_written : (v : Val) (e : Error) → IsOutOfMemory e ⊎ IsUnstorable v e → IsNotWritten v e
+not_written v e (inl memory) = (no_memory_with e.code v memory.0, memory.1)
+not_written v e (inr unstorable) = unstorable.1

@@ -1,8 +1,9 @@
 -- What a serializer's sink was given, and why a number is refused.
 use Rattle.std.specs.Prelude.{ℕ, List, Option, ◌⊎◌, ℤ}
 use Rattle.cbor_model.specs.Plain as plain
+use Rattle.cbor_model.specs.Plain.{Val}
 use Rattle.cbor_io.specs.declared.error.Error.{Error}
-use Rattle.cbor_ser.specs.Written.{IsNotWritten}
+use Rattle.cbor_ser.specs.Written.{IsUnstorable}
 use Rattle.cbor_ser.specs.declared.serializer.Serializer.{Serializer}
 
 abbrev pub writer_of : {W : Type 0} → Serializer W → W
@@ -18,4 +19,8 @@ SinkRefuses refuses s e = refuses s.writer e
 
 -- one of the sink's errors, or a number that isn't stored
 abbrev pub NumberRefused : {W : Type 0} → (W → Error → Type 0) → Serializer W → ℤ → Error → Type 0
-NumberRefused refuses s z e = refuses s.writer e ⊎ IsNotWritten (plain.integer z) e
+NumberRefused refuses s z e = refuses s.writer e ⊎ IsUnstorable (plain.integer z) e
+
+-- one of the sink's errors, or a number in the value that isn't stored
+abbrev pub ValueRefused : {W : Type 0} → (W → Error → Type 0) → W → Val → Error → Type 0
+ValueRefused refuses w v e = refuses w e ⊎ IsUnstorable v e

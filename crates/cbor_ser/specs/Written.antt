@@ -16,3 +16,7 @@ IsRefusedBy _ v = ⊥
 
 abbrev pub IsNotWritten : Val → Error → Type 0
 IsNotWritten v e = IsRefusedBy (code_of e) v × (offset_of e ≡ 0)
+
+-- A value that isn't storable: the refusal says so, or found no memory for its words.
+abbrev pub IsUnstorable : Val → Error → Type 0
+IsUnstorable v e = (IsStorable v → ⊥) × IsNotWritten v e

@@ -3,17 +3,19 @@
 ghost use Rattle.std.specs.Prelude.{◌≡◌, ◌++◌, length, pos, IfErr, OnOk, encode_utf8};
 ghost use Rattle.cbor_model.specs.Head.{short};
 ghost use Rattle.cbor_model.specs.Document.{null, bool, integer, bytes, text, document_bytes};
-ghost use Rattle.cbor_model.specs.Canonical.{canon, IsStorableInteger};
+ghost use Rattle.cbor_model.specs.Canonical.{canon, IsStorable, IsStorableInteger};
+ghost use Rattle.cbor_model.specs.InRange.{IsInRange};
 ghost use Rattle.cbor_io.specs.Head.{major_number};
 ghost use Rattle.cbor_io.specs.Write.{Wrote};
-ghost use Rattle.cbor_value.specs.View.{float_view};
-ghost use Rattle.cbor_ser.specs.Serialized.{writer_of, sink, SinkRefuses, NumberRefused};
+ghost use Rattle.cbor_value.specs.View.{view, float_view};
+ghost use Rattle.cbor_ser.specs.Serialized.{writer_of, sink, SinkRefuses, NumberRefused, ValueRefused};
 
-use crate::not_storable;
+use crate::items::{answer, not_storable, write_float, write_head, write_integer, write_string};
+use crate::to_writer;
 use cbor_io::error::Result;
 use cbor_io::head::Major;
 use cbor_io::write::Write;
-use cbor_value::Float;
+use cbor_value::{Float, Value};
 use std::alloc::Global;
 
 /// Writes items to a sink, one after the other.
@@ -167,7 +169,6 @@ impl<W: Write> Serializer<W> {
 
     /// Appends a whole number. Outside `-2^64..=2^64-1` it is refused with the message
     /// `The number can't be stored in CBOR`, for which it takes memory, and nothing is appended.
-    #[tactic(auto, unfolding(cbor_model::specs::Document::document_bytes, cbor_model::specs::Document::raw_of, cbor_model::specs::Spelling::spell))]
     pub fn serialize_i128(&mut self, alloc: Global, v: i128) -> Result<()>
         ensures storable { OnOk result (IsStorableInteger v) }
         ensures written { Wrote (sink W.written self.old) (document_bytes (integer v))
@@ -175,13 +176,9 @@ impl<W: Write> Serializer<W> {
         ensures refused { IfErr result (NumberRefused W.refuses self.new v) }
         ensures kept { (IsStorableInteger v → ⊥) → self.new ≡ self.old }
     {
-        if let Ok(n) = u64::try_from(v) {
-            return self.write_head(Major::UnsignedInteger, n);
-        }
-        if let Ok(n) = u64::try_from(-1 - v) {
-            return self.write_head(Major::NegativeInteger, n);
-        }
-        Err(not_storable(alloc))
+        let mut refusal = None;
+        let done = write_integer(alloc, &mut self.writer, &mut refusal, v);
+        answer(done, refusal)
     }
 
     /// Appends a whole number from 0. Above `2^64-1` it is refused as by `serialize_i128`.
@@ -217,26 +214,14 @@ impl<W: Write> Serializer<W> {
     }
 
     /// Appends a float in its width, with its bits as they are.
-    #[tactic(auto, unfolding(cbor_model::specs::Canonical::canon, cbor_model::specs::Canonical::canonical, cbor_model::specs::Spelling::spell))]
     pub fn serialize_float(&mut self, v: Float) -> Result<()>
         ensures written { Wrote (sink W.written self.old) (canon (float_view v))
             (sink W.written self.new) result }
         ensures refused { IfErr result (SinkRefuses W.refuses self.new) }
     {
-        match v {
-            Float::Half(bits) => {
-                let [a, b] = bits.to_be_bytes();
-                self.writer.write_all(&[0xf9, a, b])
-            }
-            Float::Single(bits) => {
-                let [a, b, c, d] = bits.to_be_bytes();
-                self.writer.write_all(&[0xfa, a, b, c, d])
-            }
-            Float::Double(bits) => {
-                let [a, b, c, d, e, f, g, h] = bits.to_be_bytes();
-                self.writer.write_all(&[0xfb, a, b, c, d, e, f, g, h])
-            }
-        }
+        let mut refusal = None;
+        let done = write_float(&mut self.writer, &mut refusal, v);
+        answer(done, refusal)
     }
 
     /// Appends a text: its head, and then its bytes.
@@ -269,6 +254,17 @@ impl<W: Write> Serializer<W> {
         self.write_string(Major::ByteString, v)
     }
 
+    /// Appends a value, as [`to_writer`](crate::to_writer) does.
+    pub fn serialize_value(&mut self, alloc: Global, v: &Value) -> Result<()>
+        ensures storable { OnOk result (IsStorable (view v.now)) }
+        ensures in_range { OnOk result (IsInRange (view v.now)) }
+        ensures written { Wrote (sink W.written self.old) (canon (view v.now))
+            (sink W.written self.new) result }
+        ensures refused { IfErr result (ValueRefused W.refuses (writer_of self.new) (view v.now)) }
+    {
+        to_writer(alloc, &mut self.writer, v)
+    }
+
     // Appends the head of a string, and then what it holds.
     fn write_string(&mut self, major: Major, content: &[u8]) -> Result<()>
         ensures written { Wrote (sink W.written self.old)
@@ -276,8 +272,9 @@ impl<W: Write> Serializer<W> {
             (sink W.written self.new) result }
         ensures refused { IfErr result (SinkRefuses W.refuses self.new) }
     {
-        self.write_head(major, content.len() as u64)?;
-        self.writer.write_all(content)
+        let mut refusal = None;
+        let done = write_string(&mut self.writer, &mut refusal, major, content);
+        answer(done, refusal)
     }
 
     // Appends the shortest head of the major type with this number, as one piece.
@@ -286,21 +283,9 @@ impl<W: Write> Serializer<W> {
             (sink W.written self.new) result }
         ensures refused { IfErr result (SinkRefuses W.refuses self.new) }
     {
-        let first = major.number() * 32;
-        if n < 24 {
-            self.writer.write_all(&[first + n as u8])
-        } else if n < 1 << 8 {
-            self.writer.write_all(&[first + 24, n as u8])
-        } else if n < 1 << 16 {
-            let [a, b] = (n as u16).to_be_bytes();
-            self.writer.write_all(&[first + 25, a, b])
-        } else if n < 1 << 32 {
-            let [a, b, c, d] = (n as u32).to_be_bytes();
-            self.writer.write_all(&[first + 26, a, b, c, d])
-        } else {
-            let [a, b, c, d, e, f, g, h] = n.to_be_bytes();
-            self.writer.write_all(&[first + 27, a, b, c, d, e, f, g, h])
-        }
+        let mut refusal = None;
+        let done = write_head(&mut self.writer, &mut refusal, major, n);
+        answer(done, refusal)
     }
 }
 

@@ -7,6 +7,6 @@ use Rattle.cbor_ser.proofs.to_vec.Goals as goal
 pub returns-clause-exact : goal.returns-clause-exact
 returns-clause-exact c =
     let v = view c.args.value.now in
-    let bytes = c.write_value.new.out.items in
+    let bytes = c.into_inner.result.items in
     let written : bytes ≡ canon v = search rules in
-    stand_for bytes v c.in_ok-write_value.ensures.storable c.in_ok-write_value.ensures.in_range written
+    stand_for bytes v c.in_ok-serialize_value.ensures.storable c.in_ok-serialize_value.ensures.in_range written

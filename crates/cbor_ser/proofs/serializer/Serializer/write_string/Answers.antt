@@ -1,12 +1,8 @@
-use Rattle.std.proofs.Common.{length}
-use Rattle.cbor_model.specs.Head.{short}
-use Rattle.cbor_io.specs.Head.{major_number}
-use Rattle.cbor_ser.proofs.Beginnings.{and_then, stops}
+use Rattle.cbor_ser.proofs.Beginnings.{told, told_refused}
 use Rattle.cbor_ser.proofs.serializer.Serializer.write_string.Goals as goal
 
-pub returns-in_err-write_head-clause-written : goal.returns-in_err-write_head-clause-written
-returns-in_err-write_head-clause-written g c = stops c.args.content.now _ c.from_residual.ensures.0 c.in_err-write_head.ensures.written.err
-
 pub returns-clause-written : goal.returns-clause-written
-returns-clause-written g c =
-    and_then _ _ _ (short (major_number c.args.major) (length c.args.content.now)) c.args.content.now _ c.in_ok-write_head.ensures.written.ok c.write_all.ensures.written
+returns-clause-written g c = told _ c.write_string-done.result _ c.answer.result c.answer.ensures.ok c.answer.ensures.err c.write_string-done.ensures.refused c.write_string-done.ensures.written
+
+pub returns-clause-refused : goal.returns-clause-refused
+returns-clause-refused g c = told_refused _ c.write_string-done.result _ c.answer.result c.answer.ensures.ok c.answer.ensures.err c.write_string-done.ensures.refused

@@ -1,0 +1,47 @@
+use Rattle.std.proofs.Common.{ℕ, ◌+◌, ◌*◌, List, Option, drop}
+use Rattle.std.specs.Prelude.{Result}
+use Rattle.cbor_model.specs.Spelling.{spell_all, spell_pairs}
+use Rattle.cbor_model.specs.Canonical.{canonical_all, canonical_pairs, AreStorable, ArePairsStorable}
+use Rattle.cbor_model.specs.InRange.{AreInRange, ArePairsInRange}
+use Rattle.cbor_io.specs.Write.{Wrote}
+use Rattle.cbor_value.specs.View.{view, views, map_view, pair_views}
+use Rattle.cbor_ser.specs.declared.items.Refused.{Refused}
+use Rattle.cbor_ser.proofs.Writing.{size, sizes, pair_sizes}
+use Rattle.cbor_ser.proofs.items.+value.Given as goal
+
+-- What is written next, with what follows, is all of it.
+abbrev pub invariant-write_items-loop-item : goal.invariant-write_items-loop-item
+invariant-write_items-loop-item g l = record {
+  storable : AreStorable (views (drop l.item-index l.items)) → AreStorable (views l.items);
+  in_range : AreInRange (views (drop l.item-index l.items)) → AreInRange (views l.items);
+  written : (new : Option (List ℕ)) (r : Result (Unit {0}) Refused)
+      → Wrote (g.W.Write.written l.writer) (spell_all (canonical_all (views (drop l.item-index l.items)))) new r
+      → Wrote (g.W.Write.written l.fn.writer) (spell_all (canonical_all (views l.items))) new r;
+}
+
+abbrev pub invariant-write_pairs-loop-key : goal.invariant-write_pairs-loop-key
+invariant-write_pairs-loop-key g l = record {
+  storable : ArePairsStorable (pair_views (drop l.key-index l.pairs)) → ArePairsStorable (pair_views l.pairs);
+  in_range : ArePairsInRange (pair_views (drop l.key-index l.pairs)) → ArePairsInRange (pair_views l.pairs);
+  written : (new : Option (List ℕ)) (r : Result (Unit {0}) Refused)
+      → Wrote (g.W.Write.written l.writer) (spell_pairs (canonical_pairs (pair_views (drop l.key-index l.pairs)))) new r
+      → Wrote (g.W.Write.written l.fn.writer) (spell_pairs (canonical_pairs (pair_views l.pairs))) new r;
+}
+
+abbrev pub decreases-write_value : goal.decreases-write_value
+decreases-write_value g l = 3 * size (view l.value.now)
+
+abbrev pub decreases-write_tag : goal.decreases-write_tag
+decreases-write_tag g l = 3 * size (view l.inner.now) + 2
+
+abbrev pub decreases-write_array : goal.decreases-write_array
+decreases-write_array g l = 3 * sizes (views l.items.now) + 2
+
+abbrev pub decreases-write_items : goal.decreases-write_items
+decreases-write_items g l = 3 * sizes (views l.items.now) + 1
+
+abbrev pub decreases-write_map : goal.decreases-write_map
+decreases-write_map g l = 3 * pair_sizes (map_view l.map.now) + 2
+
+abbrev pub decreases-write_pairs : goal.decreases-write_pairs
+decreases-write_pairs g l = 3 * pair_sizes (pair_views l.pairs.now) + 1

@@ -1,0 +1,291 @@
+//! Writing items to a sink, as the calls of the serializer do.
+//!
+//! A step answers no more than whether it was refused, and leaves the error with its caller: an
+//! `Error` is large, and would be copied at each step on the way out.
+
+ghost use Rattle.std.specs.Prelude.{◌≡◌, ◌++◌, length, Err, IfSome, IsSome, IsOk, OnErr, OnOk};
+ghost use Rattle.std.specs.Option.{IsSomeAnd};
+ghost use Rattle.cbor_model.specs.Head.{short};
+ghost use Rattle.cbor_model.specs.Plain as plain;
+ghost use Rattle.cbor_model.specs.Plain.{Val};
+ghost use Rattle.cbor_model.specs.Spelling.{spell_all, spell_pairs};
+ghost use Rattle.cbor_model.specs.Canonical.{canon, canonical_all, canonical_pairs, IsStorable, IsStorableInteger, AreStorable, ArePairsStorable};
+ghost use Rattle.cbor_model.specs.InRange.{IsInRange, AreInRange, ArePairsInRange};
+ghost use Rattle.cbor_io.specs.Head.{major_number};
+ghost use Rattle.cbor_io.specs.Write.{Wrote};
+ghost use Rattle.cbor_value.specs.View.{view, views, float_view, map_view, pair_views};
+ghost use Rattle.cbor_ser.specs.Written.{IsUnstorable};
+ghost use Rattle.cbor_ser.specs.Serialized.{ValueRefused};
+
+use cbor_io::error::{Error, Result};
+use cbor_io::head::Major;
+use cbor_io::write::Write;
+use cbor_value::{Float, Map, Value};
+use std::alloc::Global;
+
+/// A step was refused.
+#[derive(Clone, Copy)]
+pub(crate) struct Refused;
+
+/// What a step answers.
+pub(crate) type Done = std::result::Result<(), Refused>;
+
+/// The answer of a call whose steps left this refusal.
+pub(crate) fn answer(done: Done, refusal: Option<Error>) -> Result<()>
+    requires { OnErr done (IsSome refusal) }
+    ensures ok { OnOk done (IsOk result) }
+    ensures err { OnErr done (IfSome refusal (λ e. result ≡ Err e)) }
+{
+    match (done, refusal) {
+        (Err(Refused), Some(error)) => Err(error),
+        _ => Ok(()),
+    }
+}
+
+/// What refuses a value that has an integer outside `-2^64..=2^64-1`.
+pub(crate) fn not_storable(alloc: Global) -> Error
+    ensures { (v : Val) → (IsStorable v → ⊥) → IsUnstorable v result }
+{
+    Error::message(alloc, "The number can't be stored in CBOR")
+}
+
+// Appends a piece.
+fn put<W: Write>(writer: &mut W, refusal: &mut Option<Error>, piece: &[u8]) -> Done
+    ensures written { Wrote (W.written writer.old) piece.now (W.written writer.new) result }
+    ensures refused { OnErr result (IsSomeAnd refusal.new (W.refuses writer.new)) }
+{
+    match writer.write_all(piece) {
+        Ok(()) => Ok(()),
+        Err(error) => {
+            *refusal = Some(error);
+            Err(Refused)
+        }
+    }
+}
+
+/// Appends the shortest head of the major type with this number, as one piece.
+pub(crate) fn write_head<W: Write>(
+    writer: &mut W,
+    refusal: &mut Option<Error>,
+    major: Major,
+    n: u64,
+) -> Done
+    ensures written { Wrote (W.written writer.old) (short (major_number major) n)
+        (W.written writer.new) result }
+    ensures refused { OnErr result (IsSomeAnd refusal.new (W.refuses writer.new)) }
+{
+    let first = major.number() * 32;
+    if n < 24 {
+        put(writer, refusal, &[first + n as u8])
+    } else if n < 1 << 8 {
+        put(writer, refusal, &[first + 24, n as u8])
+    } else if n < 1 << 16 {
+        let [a, b] = (n as u16).to_be_bytes();
+        put(writer, refusal, &[first + 25, a, b])
+    } else if n < 1 << 32 {
+        let [a, b, c, d] = (n as u32).to_be_bytes();
+        put(writer, refusal, &[first + 26, a, b, c, d])
+    } else {
+        let [a, b, c, d, e, f, g, h] = n.to_be_bytes();
+        put(writer, refusal, &[first + 27, a, b, c, d, e, f, g, h])
+    }
+}
+
+/// Appends the head of a string, and then what it holds.
+pub(crate) fn write_string<W: Write>(
+    writer: &mut W,
+    refusal: &mut Option<Error>,
+    major: Major,
+    content: &[u8],
+) -> Done
+    ensures written { Wrote (W.written writer.old)
+        (short (major_number major) (length content.now) ++ content.now)
+        (W.written writer.new) result }
+    ensures refused { OnErr result (IsSomeAnd refusal.new (W.refuses writer.new)) }
+{
+    write_head(writer, refusal, major, content.len() as u64)?;
+    put(writer, refusal, content)
+}
+
+/// Appends a float in its width, with its bits as they are.
+#[tactic(auto, unfolding(cbor_model::specs::Canonical::canon, cbor_model::specs::Canonical::canonical, cbor_model::specs::Spelling::spell))]
+pub(crate) fn write_float<W: Write>(
+    writer: &mut W,
+    refusal: &mut Option<Error>,
+    float: Float,
+) -> Done
+    ensures in_range { IsInRange (float_view float) }
+    ensures written { Wrote (W.written writer.old) (canon (float_view float))
+        (W.written writer.new) result }
+    ensures refused { OnErr result (IsSomeAnd refusal.new (W.refuses writer.new)) }
+{
+    match float {
+        Float::Half(bits) => {
+            let [a, b] = bits.to_be_bytes();
+            put(writer, refusal, &[0xf9, a, b])
+        }
+        Float::Single(bits) => {
+            let [a, b, c, d] = bits.to_be_bytes();
+            put(writer, refusal, &[0xfa, a, b, c, d])
+        }
+        Float::Double(bits) => {
+            let [a, b, c, d, e, f, g, h] = bits.to_be_bytes();
+            put(writer, refusal, &[0xfb, a, b, c, d, e, f, g, h])
+        }
+    }
+}
+
+/// Appends a whole number. One that isn't stored is refused, and nothing is appended.
+#[tactic(auto, unfolding(cbor_model::specs::Canonical::canon, cbor_model::specs::Canonical::canonical, cbor_model::specs::Spelling::spell))]
+pub(crate) fn write_integer<W: Write>(
+    alloc: Global,
+    writer: &mut W,
+    refusal: &mut Option<Error>,
+    i: i128,
+) -> Done
+    ensures storable { OnOk result (IsStorableInteger i) }
+    ensures written { Wrote (W.written writer.old) (canon (plain.integer i))
+        (W.written writer.new) result }
+    ensures refused { OnErr result
+        (IsSomeAnd refusal.new (ValueRefused W.refuses writer.new (plain.integer i))) }
+    ensures kept { (IsStorableInteger i → ⊥) → writer.new ≡ writer.old }
+{
+    if let Ok(n) = u64::try_from(i) {
+        return write_head(writer, refusal, Major::UnsignedInteger, n);
+    }
+    if let Ok(n) = u64::try_from(-1 - i) {
+        return write_head(writer, refusal, Major::NegativeInteger, n);
+    }
+    *refusal = Some(not_storable(alloc));
+    Err(Refused)
+}
+
+/// Appends a value's canonical spelling. The allocator is for the text of a refusal alone.
+#[cycle(value)]
+#[tactic(auto, unfolding(cbor_model::specs::Canonical::canon, cbor_model::specs::Canonical::canonical, cbor_model::specs::Spelling::spell))]
+pub(crate) fn write_value<W: Write>(
+    alloc: Global,
+    writer: &mut W,
+    refusal: &mut Option<Error>,
+    value: &Value,
+) -> Done
+    ensures storable { OnOk result (IsStorable (view value.now)) }
+    ensures in_range { OnOk result (IsInRange (view value.now)) }
+    ensures written { Wrote (W.written writer.old) (canon (view value.now))
+        (W.written writer.new) result }
+    ensures refused { OnErr result
+        (IsSomeAnd refusal.new (ValueRefused W.refuses writer.new (view value.now))) }
+{
+    match value {
+        Value::Null => put(writer, refusal, &[0xf6]),
+        Value::Bool(b) => put(writer, refusal, &[if *b { 0xf5 } else { 0xf4 }]),
+        Value::Integer(i) => write_integer(alloc, writer, refusal, *i),
+        Value::Float(float) => write_float(writer, refusal, *float),
+        Value::Bytes(bytes) => write_string(writer, refusal, Major::ByteString, bytes),
+        Value::Text(text) => write_string(writer, refusal, Major::TextString, text.as_bytes()),
+        Value::Array(items) => write_array(alloc, writer, refusal, items),
+        Value::Map(map) => write_map(alloc, writer, refusal, map),
+        Value::Tag(tag, inner) => write_tag(alloc, writer, refusal, *tag, inner),
+    }
+}
+
+#[cycle(value)]
+fn write_tag<W: Write>(
+    alloc: Global,
+    writer: &mut W,
+    refusal: &mut Option<Error>,
+    tag: u64,
+    inner: &Value,
+) -> Done
+    ensures storable { OnOk result (IsStorable (view inner.now)) }
+    ensures in_range { OnOk result (IsInRange (plain.tag tag (view inner.now))) }
+    ensures written { Wrote (W.written writer.old) (canon (plain.tag tag (view inner.now)))
+        (W.written writer.new) result }
+    ensures refused { OnErr result
+        (IsSomeAnd refusal.new (ValueRefused W.refuses writer.new (view inner.now))) }
+{
+    write_head(writer, refusal, Major::Tag, tag)?;
+    write_value(alloc, writer, refusal, inner)
+}
+
+#[cycle(value)]
+#[tactic(auto, using(crate::proofs::Ranges::array_in_range))]
+fn write_array<W: Write>(
+    alloc: Global,
+    writer: &mut W,
+    refusal: &mut Option<Error>,
+    items: &[Value],
+) -> Done
+    ensures storable { OnOk result (AreStorable (views items.now)) }
+    ensures in_range { OnOk result (IsInRange (plain.array (views items.now))) }
+    ensures written { Wrote (W.written writer.old) (canon (plain.array (views items.now)))
+        (W.written writer.new) result }
+    ensures refused { OnErr result
+        (IsSomeAnd refusal.new (ValueRefused W.refuses writer.new (plain.array (views items.now)))) }
+{
+    write_head(writer, refusal, Major::Array, items.len() as u64)?;
+    write_items(alloc, writer, refusal, items)
+}
+
+// Appends values, one after the other.
+#[cycle(value)]
+#[tactic(auto, using(crate::proofs::Writing::size_at, std::proofs::lemmas::List::drop_all))]
+fn write_items<W: Write>(
+    alloc: Global,
+    writer: &mut W,
+    refusal: &mut Option<Error>,
+    items: &[Value],
+) -> Done
+    ensures storable { OnOk result (AreStorable (views items.now)) }
+    ensures in_range { OnOk result (AreInRange (views items.now)) }
+    ensures written { Wrote (W.written writer.old) (spell_all (canonical_all (views items.now)))
+        (W.written writer.new) result }
+    ensures refused { OnErr result
+        (IsSomeAnd refusal.new (ValueRefused W.refuses writer.new (plain.array (views items.now)))) }
+{
+    for item in items {
+        write_value(alloc, writer, refusal, item)?;
+    }
+    Ok(())
+}
+
+#[cycle(value)]
+fn write_map<W: Write>(
+    alloc: Global,
+    writer: &mut W,
+    refusal: &mut Option<Error>,
+    map: &Map,
+) -> Done
+    ensures storable { OnOk result (ArePairsStorable (map_view map.now)) }
+    ensures in_range { OnOk result (IsInRange (plain.map (map_view map.now))) }
+    ensures written { Wrote (W.written writer.old) (canon (plain.map (map_view map.now)))
+        (W.written writer.new) result }
+    ensures refused { OnErr result
+        (IsSomeAnd refusal.new (ValueRefused W.refuses writer.new (plain.map (map_view map.now)))) }
+{
+    write_head(writer, refusal, Major::Map, map.len() as u64)?;
+    write_pairs(alloc, writer, refusal, map.iter().as_slice())
+}
+
+// Appends keys and values, as they are listed.
+#[cycle(value)]
+#[tactic(auto, using(crate::proofs::Writing::key_size_at, crate::proofs::Writing::value_size_at, std::proofs::lemmas::List::drop_all))]
+fn write_pairs<W: Write>(
+    alloc: Global,
+    writer: &mut W,
+    refusal: &mut Option<Error>,
+    pairs: &[(Value, Value)],
+) -> Done
+    ensures storable { OnOk result (ArePairsStorable (pair_views pairs.now)) }
+    ensures in_range { OnOk result (ArePairsInRange (pair_views pairs.now)) }
+    ensures written { Wrote (W.written writer.old)
+        (spell_pairs (canonical_pairs (pair_views pairs.now))) (W.written writer.new) result }
+    ensures refused { OnErr result
+        (IsSomeAnd refusal.new (ValueRefused W.refuses writer.new (plain.map (pair_views pairs.now)))) }
+{
+    for (key, value) in pairs {
+        write_value(alloc, writer, refusal, key)?;
+        write_value(alloc, writer, refusal, value)?;
+    }
+    Ok(())
+}
