@@ -20,4 +20,5 @@ pub mod Heads
 pub mod ByteOrder
 pub mod Least
 pub mod InRange
+pub mod Documents
 pub mod facts

@@ -3,3 +3,4 @@ pub mod Laws
 pub mod Maps
 pub mod Order
 pub mod Reader
+pub mod Documents

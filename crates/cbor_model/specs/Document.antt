@@ -3,7 +3,9 @@ use Rattle.std.specs.Prelude.{◌≡◌, ℕ, List, [], ◌∷◌, Bool, true, �
 use Rattle.cbor_model.specs.Head.{least}
 use Rattle.cbor_model.specs.Raw as raw
 use Rattle.cbor_model.specs.Raw.{Raw, Raws, no_raws, RawPairs, no_raw_pairs, raw_pair, FloatWidth, null_item, definite, indefinite, count, pair_count}
-use Rattle.cbor_model.specs.Canonical.{chunk_of, canonical_bool, canonical_integer}
+use Rattle.cbor_model.specs.Plain as plain
+use Rattle.cbor_model.specs.Plain.{Val, Vals, no_vals, val, Pairs, no_pairs, pair}
+use Rattle.cbor_model.specs.Canonical.{chunk_of, canonical_bool, canonical_integer, canon}
 use Rattle.cbor_model.specs.Spelling.{spell}
 
 -- whether the length of a sequence or a map is declared before its items
@@ -60,6 +62,31 @@ unfoldable mutual
 -- The bytes of a document.
 unfoldable pub document_bytes : Doc → List ℕ
 document_bytes d = spell (raw_of d)
+
+-- The document of a value: each length is declared.
+unfoldable mutual
+  pub document_of : Val → Doc
+  document_of plain.null = null
+  document_of (plain.bool b) = bool b
+  document_of (plain.integer z) = integer z
+  document_of (plain.float w bits) = float w bits
+  document_of (plain.bytes b) = bytes b
+  document_of (plain.text b) = text b
+  document_of (plain.array vs) = sequence declared (documents_of vs)
+  document_of (plain.map ps) = mapping declared (document_pairs_of ps)
+  document_of (plain.tag n v) = tagged n (document_of v)
+
+  pub documents_of : Vals → Docs
+  documents_of no_vals = no_docs
+  documents_of (val v vs) = doc (document_of v) (documents_of vs)
+
+  pub document_pairs_of : Pairs → DocPairs
+  document_pairs_of no_pairs = no_doc_pairs
+  document_pairs_of (pair k v ps) = doc_pair (document_of k) (document_of v) (document_pairs_of ps)
+
+-- The bytes of a value's document are its canonical spelling.
+abbrev pub DocumentIsCanonical : Val → Type 0
+DocumentIsCanonical v = document_bytes (document_of v) ≡ canon v
 
 -- ---- examples
 

@@ -84,3 +84,5 @@ pub fn to_writer<W: Write>(alloc: Global, writer: &mut W, value: &Value) -> Resu
 
 #[cfg(test)]
 mod tests;
+#[cfg(test)]
+mod to_writer_tests;
