@@ -8,6 +8,7 @@ use Rattle.cbor_model.specs.Raw as raw
 use Rattle.cbor_model.specs.Spelling.{spell, spell_all, spell_pairs}
 use Rattle.cbor_model.specs.Plain.{Val, array, map, tag, Vals, no_vals, val, Pairs, no_pairs, pair, count, pair_count}
 use Rattle.cbor_model.specs.Canonical.{canon, canonical, canonical_all, canonical_pairs, IsStorable, AreStorable, ArePairsStorable}
+pub use Rattle.cbor_model.proofs.facts.Documents.{document_is_canonical}
 use Rattle.cbor_io.specs.declared.error.ErrorCode.{ErrorCode}
 use Rattle.cbor_io.specs.declared.error.ErrorCode.TheVariants.{Message, OutOfMemory}
 use Rattle.cbor_io.specs.declared.error.Error.{Error}

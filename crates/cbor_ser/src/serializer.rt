@@ -2,7 +2,7 @@
 
 ghost use Rattle.std.specs.Prelude.{◌≡◌, ◌++◌, length, pos, IfErr, OnOk, encode_utf8};
 ghost use Rattle.cbor_model.specs.Head.{short};
-ghost use Rattle.cbor_model.specs.Document.{null, bool, integer, bytes, text, document_bytes};
+ghost use Rattle.cbor_model.specs.Document.{null, bool, integer, bytes, text, document_bytes, DocumentIsCanonical};
 ghost use Rattle.cbor_model.specs.Canonical.{canon, IsStorable, IsStorableInteger};
 ghost use Rattle.cbor_model.specs.InRange.{IsInRange};
 ghost use Rattle.cbor_io.specs.Head.{major_number};
@@ -254,6 +254,7 @@ impl<W: Write> Serializer<W> {
         self.write_string(Major::ByteString, v)
     }
 
+    #[tactic(auto, using(crate::proofs::Writing::document_is_canonical))]
     /// Appends a value, as [`to_writer`](crate::to_writer) does.
     pub fn serialize_value(&mut self, alloc: Global, v: &Value) -> Result<()>
         ensures storable { OnOk result (IsStorable (view v.now)) }
@@ -261,6 +262,8 @@ impl<W: Write> Serializer<W> {
         ensures written { Wrote (sink W.written self.old) (canon (view v.now))
             (sink W.written self.new) result }
         ensures refused { IfErr result (ValueRefused W.refuses (writer_of self.new) (view v.now)) }
+        // These are the bytes of the value's document.
+        ensures document { DocumentIsCanonical (view v.now) }
     {
         to_writer(alloc, &mut self.writer, v)
     }

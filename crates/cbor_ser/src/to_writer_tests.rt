@@ -145,6 +145,23 @@ fn refuses_any_byte_where_there_is_no_room(rt: HostRuntime) -> Result<(), Fail> 
     Ok(())
 }
 
+/// The call was refused, with these words.
+fn says(
+    rt: &impl Abort,
+    alloc: Global,
+    done: cbor_io::error::Result<()>,
+    words: &'static str,
+) -> Result<(), Fail> {
+    let Err(error) = done else {
+        panic!(rt; "not refused");
+    };
+    if error.is_memory() {
+        return Err(Fail::from(error));
+    }
+    assert_eq!(rt; error.to_string(alloc)?.as_str(), words);
+    Ok(())
+}
+
 /// The value has a number that is too far out, and this is written before it.
 fn is_refused(
     rt: &impl Abort,
@@ -154,18 +171,11 @@ fn is_refused(
 ) -> Result<(), Fail> {
     let mut room = [0; 16];
     let mut sink = SliceWrite::new(&mut room);
-    let Err(error) = to_writer(alloc, &mut sink, value) else {
-        panic!(rt; "{value:?}");
-    };
+    let done = to_writer(alloc, &mut sink, value);
     let count = sink.bytes_written();
     assert!(rt; count <= 16);
     assert_eq!(rt; &room[..count], before);
-    if error.is_memory() {
-        return Err(Fail::from(error));
-    }
-    let words = error.to_string(alloc)?;
-    assert_eq!(rt; words.as_str(), "The number can't be stored in CBOR");
-    Ok(())
+    says(rt, alloc, done, "The number can't be stored in CBOR")
 }
 
 #[test]

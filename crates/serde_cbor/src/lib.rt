@@ -20,7 +20,7 @@ pub use cbor_de::from_slice;
 pub use cbor_io::error;
 pub use cbor_io::error::{Error, Result};
 pub use cbor_ser as ser;
-pub use cbor_ser::to_vec;
+pub use cbor_ser::{to_vec, to_writer};
 pub use cbor_value as value;
 pub use cbor_value::Value;
 
