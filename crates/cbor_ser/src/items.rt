@@ -221,7 +221,8 @@ fn write_array<W: Write>(
     ensures written { Wrote (W.written writer.old) (canon (plain.array (views items.now)))
         (W.written writer.new) result }
     ensures refused { OnErr result
-        (IsSomeAnd refusal.new (ValueRefused W.refuses writer.new (plain.array (views items.now)))) }
+        (IsSomeAnd refusal.new
+        (ValueRefused W.refuses writer.new (plain.array (views items.now)))) }
 {
     write_head(writer, refusal, Major::Array, items.len() as u64)?;
     write_items(alloc, writer, refusal, items)
@@ -241,7 +242,8 @@ fn write_items<W: Write>(
     ensures written { Wrote (W.written writer.old) (spell_all (canonical_all (views items.now)))
         (W.written writer.new) result }
     ensures refused { OnErr result
-        (IsSomeAnd refusal.new (ValueRefused W.refuses writer.new (plain.array (views items.now)))) }
+        (IsSomeAnd refusal.new
+        (ValueRefused W.refuses writer.new (plain.array (views items.now)))) }
 {
     for item in items {
         write_value(alloc, writer, refusal, item)?;
@@ -261,7 +263,8 @@ fn write_map<W: Write>(
     ensures written { Wrote (W.written writer.old) (canon (plain.map (map_view map.now)))
         (W.written writer.new) result }
     ensures refused { OnErr result
-        (IsSomeAnd refusal.new (ValueRefused W.refuses writer.new (plain.map (map_view map.now)))) }
+        (IsSomeAnd refusal.new
+        (ValueRefused W.refuses writer.new (plain.map (map_view map.now)))) }
 {
     write_head(writer, refusal, Major::Map, map.len() as u64)?;
     write_pairs(alloc, writer, refusal, map.iter().as_slice())
@@ -281,7 +284,8 @@ fn write_pairs<W: Write>(
     ensures written { Wrote (W.written writer.old)
         (spell_pairs (canonical_pairs (pair_views pairs.now))) (W.written writer.new) result }
     ensures refused { OnErr result
-        (IsSomeAnd refusal.new (ValueRefused W.refuses writer.new (plain.map (pair_views pairs.now)))) }
+        (IsSomeAnd refusal.new
+        (ValueRefused W.refuses writer.new (plain.map (pair_views pairs.now)))) }
 {
     for (key, value) in pairs {
         write_value(alloc, writer, refusal, key)?;

@@ -1,8 +1,9 @@
 //! Writing values.
 //!
-//! It names the definitions of `cbor_model`, the error and the major types of `cbor_io`, whose sinks
-//! it passes on, and the values of `cbor_value` with their facts; nothing of reading. Others rely on
-//! the contract of [`to_vec`] alone, and on `specs/Written.antt`, which says when a value is refused.
+//! It names the definitions of `cbor_model`, the error and the major types of `cbor_io`, whose
+//! sinks it passes on, and the values of `cbor_value` with their facts; nothing of reading. Others
+//! rely on the contracts alone, and on `specs/Written.antt`, which says when a value is refused,
+//! and `specs/Serialized.antt`, which says what a serializer's sink was given.
 #![tactic(auto)]
 
 ghost use Rattle.std.specs.Prelude.{◌≡◌, IfOk, IfErr, OnOk};
@@ -29,8 +30,8 @@ pub use serializer::Serializer;
 /// them, and floats in their width.
 ///
 /// It refuses an integer outside `-2^64..=2^64-1`, at any depth, with the message
-/// `The number can't be stored in CBOR`, and answers `OutOfMemory` where an allocation fails. A value
-/// may be nested deeper than the 127 levels that are read.
+/// `The number can't be stored in CBOR`, and answers `OutOfMemory` where an allocation fails. A
+/// value may be nested deeper than the 127 levels that are read.
 ///
 /// ```rust
 /// let bytes = to_vec(alloc, &Value::Integer(-300))?;
@@ -60,15 +61,36 @@ pub fn to_vec(alloc: Global, value: &Value) -> Result<Vec<u8>>
 /// Appends a value's canonical spelling to a sink: the bytes that [`to_vec`] answers.
 ///
 /// It refuses an integer outside `-2^64..=2^64-1`, at any depth, with the message
-/// `The number can't be stored in CBOR`, and whatever the sink refuses. The allocator is for the text
-/// of the first refusal alone. After an Err, a sink that tells its bytes holds what it had and a
-/// beginning of the spelling: where a [`SliceWrite`] is too short, the bytes written are a beginning of
-/// what `to_vec` answers.
+/// `The number can't be stored in CBOR`, and whatever the sink refuses. The allocator is for the
+/// text of the first refusal alone. After an Err, a sink that tells its bytes holds what it had and
+/// a beginning of the spelling: where a [`SliceWrite`] is too short, the bytes written are a
+/// beginning of what `to_vec` answers.
+///
+/// A `Vec<u8>` grows:
 ///
 /// ```rust
 /// let mut bytes: Vec<u8> = Vec::new(alloc);
 /// to_writer(alloc, &mut bytes, &Value::Integer(-300))?;
 /// assert_eq!(rt; bytes.as_slice(), b"\x39\x01\x2b".as_slice());
+/// ```
+///
+/// A [`SliceWrite`] takes what fits:
+///
+/// ```rust
+/// let mut room = [0; 4];
+/// let mut sink = SliceWrite::new(&mut room);
+/// to_writer(alloc, &mut sink, &Value::Integer(-300))?;
+/// assert!(rt; to_writer(alloc, &mut sink, &Value::Integer(-300)).is_err());
+/// assert_eq!(rt; sink.bytes_written(), 3);
+/// assert_eq!(rt; &*sink.into_inner(), b"\x39\x01\x2b\0".as_slice());
+/// ```
+///
+/// An [`IoWrite`] gives it to a writer of the standard library:
+///
+/// ```rust
+/// let mut file: Vec<u8> = Vec::new(alloc); // or any other `io::Write`
+/// to_writer(alloc, &mut IoWrite::new(&mut file), &Value::Integer(-300))?;
+/// assert_eq!(rt; file.as_slice(), b"\x39\x01\x2b".as_slice());
 /// ```
 pub fn to_writer<W: Write>(alloc: Global, writer: &mut W, value: &Value) -> Result<()>
     ensures storable { OnOk result (IsStorable (view value.now)) }
@@ -83,6 +105,8 @@ pub fn to_writer<W: Write>(alloc: Global, writer: &mut W, value: &Value) -> Resu
     answer(done, refusal)
 }
 
+#[cfg(test)]
+mod beginning_tests;
 #[cfg(test)]
 mod tests;
 #[cfg(test)]

@@ -21,8 +21,8 @@ use std::alloc::Global;
 /// Writes items to a sink, one after the other.
 ///
 /// Each call appends the item's shortest spelling, a head as one piece and what a string holds as
-/// another. Where the sink refuses, it holds what it had and a beginning of the item, if it tells its
-/// bytes.
+/// another. Where the sink refuses, it holds what it had and a beginning of the item, if it tells
+/// its bytes.
 ///
 /// ```rust
 /// let mut ser = Serializer::new(Vec::new(alloc));
@@ -254,8 +254,16 @@ impl<W: Write> Serializer<W> {
         self.write_string(Major::ByteString, v)
     }
 
+    /// Appends a value's canonical spelling, or refuses it, as [`to_writer`](crate::to_writer)
+    /// does.
+    ///
+    /// ```rust
+    /// let mut ser = Serializer::new(Vec::new(alloc));
+    /// ser.self_describe()?;
+    /// ser.serialize_value(alloc, &Value::Integer(-300))?;
+    /// assert_eq!(rt; ser.into_inner().as_slice(), b"\xd9\xd9\xf7\x39\x01\x2b".as_slice());
+    /// ```
     #[tactic(auto, using(crate::proofs::Writing::document_is_canonical))]
-    /// Appends a value, as [`to_writer`](crate::to_writer) does.
     pub fn serialize_value(&mut self, alloc: Global, v: &Value) -> Result<()>
         ensures storable { OnOk result (IsStorable (view v.now)) }
         ensures in_range { OnOk result (IsInRange (view v.now)) }

@@ -205,9 +205,15 @@ fn fills_a_slice_without_memory(rt: HostRuntime) -> Result<(), Fail> {
     ser.serialize_bytes(b"\x01\x23")?;
     let sink = ser.into_inner();
     assert_eq!(rt; sink.bytes_written(), 25);
+    let room = sink.into_inner();
+    assert_eq!(rt; room.len(), 28);
     assert_eq!(rt;
-        &*sink.into_inner(),
-        b"\xf4\xf6\x1b\xff\xff\xff\xff\xff\xff\xff\xff\x39\x01\x2b\xf9\x3c\0\x61a\x62ab\x42\x01\x23\0\0\0".as_slice()
+        &room[..11],
+        b"\xf4\xf6\x1b\xff\xff\xff\xff\xff\xff\xff\xff".as_slice()
+    );
+    assert_eq!(rt;
+        &room[11..],
+        b"\x39\x01\x2b\xf9\x3c\0\x61a\x62ab\x42\x01\x23\0\0\0".as_slice()
     );
     Ok(())
 }
