@@ -110,18 +110,21 @@ impl io::Write for FailingWriter {
 fn tells_a_writers_fault_at_each_call(rt: HostRuntime) -> Result<(), Fail> {
     let alloc = rt.alloc();
     let value = each_kind(alloc)?;
+    // Its memory is taken beforehand, so that no write fails for want of it.
+    let mut writer = FailingWriter {
+        taken: Vec::with_capacity(alloc, 64)?,
+        left: 0,
+    };
     for left in 0..=PIECES {
-        // Its memory is taken beforehand, so that no write fails for want of it.
-        let mut writer = FailingWriter {
-            taken: Vec::with_capacity(alloc, 64)?,
-            left,
-        };
+        writer.taken.clear();
+        writer.left = left;
         let done = to_writer(alloc, &mut IoWrite::new(&mut writer), &value);
         match done {
             Ok(()) => assert_eq!(rt; left, PIECES),
             Err(error) => {
                 assert!(rt; left < PIECES);
-                assert_eq!(rt; error.to_string(alloc)?.as_str(), "I/O error");
+                assert!(rt; error.is_io(), "{left}");
+                assert_eq!(rt; error.offset(), 0);
                 assert!(rt; writer.taken.len() < EACH_KIND.len());
             }
         }
