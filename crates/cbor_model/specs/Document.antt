@@ -1,5 +1,5 @@
 -- Documents: what is written, item by item, and the raw item of a document.
-use Rattle.std.specs.Prelude.{◌≡◌, ℕ, List, [], ◌∷◌, Bool, true, ℤ, pos, negsuc, refl}
+use Rattle.std.specs.Prelude.{◌≡◌, ℕ, List, [], ◌∷◌, Bool, true, ℤ, negsuc, refl}
 use Rattle.cbor_model.specs.Head.{least}
 use Rattle.cbor_model.specs.Raw as raw
 use Rattle.cbor_model.specs.Raw.{Raw, Raws, no_raws, RawPairs, no_raw_pairs, raw_pair, FloatWidth, null_item, definite, indefinite, count, pair_count}
