@@ -85,6 +85,14 @@ impl Error {
         ensures code { code_of result ≡ code }
         ensures offset { offset_of result ≡ offset }
     {
+        Error::from_parts(code, offset)
+    }
+
+    // An error of a code that may have any offset.
+    pub(crate) fn from_parts(code: ErrorCode, offset: u64) -> Error
+        ensures code { code_of result ≡ code }
+        ensures offset { offset_of result ≡ offset }
+    {
         Error { code, offset }
     }
 

@@ -1,6 +1,6 @@
 //! Heads: the byte, or bytes, that an item begins with (RFC 7049, section 2).
 
-ghost use Rattle.std.specs.Prelude.{◌≡◌, ◌<◌};
+ghost use Rattle.std.specs.Prelude.{◌≡◌, ◌<◌, ◌/◌};
 ghost use Rattle.cbor_io.specs.Head.{major_number};
 
 /// The eight major types (RFC 7049, section 2.1), which the upper three bits of an item's first byte
@@ -26,6 +26,22 @@ pub enum Major {
 }
 
 impl Major {
+    /// That of the item that begins with this byte.
+    pub fn of(first: u8) -> Major
+        ensures { major_number result ≡ first / 32 }
+    {
+        match first / 32 {
+            0 => Major::UnsignedInteger,
+            1 => Major::NegativeInteger,
+            2 => Major::ByteString,
+            3 => Major::TextString,
+            4 => Major::Array,
+            5 => Major::Map,
+            6 => Major::Tag,
+            _ => Major::Simple,
+        }
+    }
+
     /// Its number, as `Major::Tag` is major type 6.
     pub fn number(self) -> u8
         ensures number { result ≡ major_number self }

@@ -9,4 +9,5 @@
 
 pub mod error;
 pub mod head;
+pub mod read;
 pub mod write;

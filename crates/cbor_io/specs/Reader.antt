@@ -1,0 +1,52 @@
+-- What a reader means as a source, with a byte of it that may have been peeked.
+use Rattle.std.specs.Prelude.{◌≡◌, ℕ, ◌^◌, ◌-◌, ◌≤◌, if◌then◌else◌, nat_lt, List, [], ◌∷◌, length, take, Option, Some, None, Result, Ok, Err}
+use Rattle.std.specs.Io.KnownBytes.{Consumes, Keeps, IsAtEnd, prepend_known}
+use Rattle.cbor_io.specs.ReadError.{why, place}
+use Rattle.cbor_io.specs.Source.{Input, TookKept, RefusedByte, reader_refusals}
+use Rattle.cbor_io.specs.declared.read.read_error.ReadError.{ReadError}
+use Rattle.cbor_io.specs.declared.read.read_error.ReadErrorCode.{ReadErrorCode}
+use Rattle.cbor_io.specs.declared.read.read_error.ReadErrorCode.TheVariants.{Io}
+
+-- the bytes that a reader has left, behind the byte that was peeked
+abbrev pub with_peeked : Option ℕ → Option (List ℕ) → Option (List ℕ)
+with_peeked None remaining = remaining
+with_peeked (Some b) remaining = prepend_known (b ∷ []) remaining
+
+-- a reader, of which offset bytes were handed out
+abbrev pub reader_input : Option ℕ → Option (List ℕ) → List ℕ → ℕ → Input
+reader_input peeked remaining buffer offset = record { to_come = with_peeked peeked remaining; buffer = buffer; offset = offset; room = None }
+
+-- the peeked byte, where the offset can count it
+abbrev pub peeked_at : ℕ → Option ℕ → Option ℕ
+peeked_at offset peeked = if nat_lt offset (2 ^ 64 - 1) then peeked else None
+
+-- ---- calls of the reader
+
+abbrev pub IsFaultCode : ReadErrorCode → Type 0
+IsFaultCode (Io fault) = Unit {0}
+IsFaultCode _ = ⊥
+
+-- a fault that the reader reported
+abbrev pub IsFault : ReadError → Type 0
+IsFault e = IsFaultCode (why e) × (place e ≡ 0)
+
+-- the next byte was read, or the end was met
+abbrev pub ByteRead : Option (List ℕ) → Option (List ℕ) → Result (Option ℕ) ReadError → Type 0
+ByteRead old new (Ok (Some b)) = Consumes old new (b ∷ [])
+ByteRead old new (Ok None) = Keeps old new × IsAtEnd old
+ByteRead old new (Err e) = Keeps old new × IsFault e
+
+-- a byte is peeked, or the end was met
+abbrev pub Filled : Option (List ℕ) → Option ℕ → Result Unit ReadError → Type 0
+Filled to_come peeked (Ok u) = peeked ≡ None → IsAtEnd to_come
+Filled to_come peeked (Err e) = IsFault e
+
+-- Some of the next bytes were read to the front of a piece: at most so many, and none only at the end.
+abbrev pub SomeRead : Option (List ℕ) → Option (List ℕ) → ℕ → List ℕ → Result ℕ ReadError → Type 0
+SomeRead old new most piece (Ok n) = (n ≤ most) × Consumes old new (take n piece) × (n ≡ 0 → IsAtEnd new)
+SomeRead old new most piece (Err e) = Keeps old new × IsFault e
+
+-- The same of a source: these bytes were taken and counted.
+abbrev pub PieceTaken : Input → Input → List ℕ → Result ℕ ReadError → Type 0
+PieceTaken s t piece (Ok n) = (n ≤ length piece) × TookKept s t (take n piece) × (n ≡ 0 → IsAtEnd s.to_come)
+PieceTaken s t piece (Err e) = RefusedByte reader_refusals s t e

@@ -1,0 +1,21 @@
+-- What each source of this crate means.
+use Rattle.std.specs.Prelude.{ℕ, ◌+◌, List, length, take, drop, Option, None, Some}
+use Rattle.cbor_io.specs.Reader.{reader_input}
+use Rattle.cbor_io.specs.Source.{Input, slice_input}
+use Rattle.cbor_io.specs.declared.read.io_read.IoRead.{IoRead}
+use Rattle.cbor_io.specs.declared.read.mut_slice_read.MutSliceRead.{MutSliceRead}
+use Rattle.cbor_io.specs.declared.read.slice_read.SliceRead.{SliceRead}
+use Rattle.cbor_io.specs.declared.read.slice_read_fixed.SliceReadFixed.{SliceReadFixed}
+
+abbrev pub input_of_slice : SliceRead → Input
+input_of_slice s = slice_input s.slice.now s.taken s.buffer.items None
+
+abbrev pub input_of_slice_fixed : SliceReadFixed → Input
+input_of_slice_fixed s = slice_input s.slice.now s.taken (take s.joined s.scratch.now) (Some (length s.scratch.now))
+
+abbrev pub input_of_mut_slice : MutSliceRead → Input
+input_of_mut_slice s = record { to_come = Some (drop s.taken s.slice.now); buffer = take s.joined s.slice.now; offset = s.before + s.taken; room = None }
+
+-- a reader, by the bytes that it has left
+abbrev pub input_of_reader : {R : Type 0} → (R → Option (List ℕ)) → IoRead R → Input
+input_of_reader remaining s = reader_input s.peeked (remaining s.reader) s.buffer.items s.offset

@@ -1,0 +1,148 @@
+//! A slice as a source.
+
+ghost use Rattle.std.specs.Prelude.{◌≡◌, ◌+◌, ◌<◌, ◌≤◌, [], length, IfOk, IfErr, Some, None};
+ghost use Rattle.cbor_io.specs.ReadError.{why, place};
+ghost use Rattle.cbor_io.specs.declared.read.read_error.ReadErrorCode.TheVariants.{EofWhileParsingValue};
+
+use super::{EitherLifetime, Offset, Read, ReadError, Result, Source};
+use std::alloc::Global;
+
+/// The bytes of a slice. What is read is lent by the slice; parts that are joined stand in a buffer
+/// that grows.
+///
+/// Its calls answer `EofWhileParsingValue` where too few bytes are to come; `read_to_buffer` and
+/// `read_to_vec` take memory, and answer `OutOfMemory` where there is none.
+///
+/// ```rust
+/// let mut source = SliceRead::new(alloc, b"\x63foo");
+/// assert_eq!(rt; source.next()?, Some(0x63));
+/// assert!(rt; matches!(source.read(3)?, EitherLifetime::Long(b"foo")));
+/// assert_eq!(rt; source.read(1).unwrap_err().offset(), 4);
+/// ```
+#[derive(Debug, Drop)]
+pub struct SliceRead<'a> {
+    slice: &'a [u8],
+    buffer: Vec<u8>,
+    taken: usize,
+    ghost within: { taken ≤ length slice.now },
+}
+
+impl<'a> SliceRead<'a> {
+    ghost use Rattle.cbor_io.specs.Source.{slice_input};
+    ghost use Rattle.cbor_io.specs.Sources.{input_of_slice};
+
+    /// The bytes of this slice, none of them taken.
+    pub fn new(alloc: Global, slice: &'a [u8]) -> SliceRead<'a>
+        ensures { input_of_slice result ≡ slice_input slice.now 0 [] None }
+    {
+        SliceRead {
+            slice,
+            buffer: Vec::new(alloc),
+            taken: 0,
+        }
+    }
+
+    // Where the next n bytes end.
+    fn end_of(&self, n: usize) -> Result<usize>
+        ensures ok { IfOk result
+            (λ end. (end ≡ self.now.taken + n) × (end ≤ length self.now.slice.now)) }
+        ensures err { IfErr result (λ e. (why e ≡ EofWhileParsingValue)
+            × (place e ≡ length self.now.slice.now)
+            × (length self.now.slice.now < self.now.taken + n)) }
+    {
+        if n <= self.slice.len() - self.taken {
+            Ok(self.taken + n)
+        } else {
+            Err(ReadError::eof(self.slice.len() as u64))
+        }
+    }
+}
+
+impl<'a> Source for SliceRead<'a> {
+    ghost use Rattle.std.specs.Prelude.{true, false, drop};
+    ghost use Rattle.cbor_io.specs.Source.{slice_refusals, first_of};
+    ghost use Rattle.cbor_io.specs.Sources.{input_of_slice};
+
+    ghost source = { input_of_slice };
+
+    ghost peeked = { λ s. first_of (drop s.taken s.slice.now) };
+
+    ghost refusals = { slice_refusals };
+
+    ghost lends = { record { whole = true; joined = false } };
+
+    fn next(&mut self) -> Result<Option<u8>> {
+        Ok(if self.taken < self.slice.len() {
+            let byte = self.slice[self.taken];
+            self.taken += 1;
+            Some(byte)
+        } else {
+            None
+        })
+    }
+
+    fn peek(&mut self) -> Result<Option<u8>> {
+        Ok(if self.taken < self.slice.len() {
+            Some(self.slice[self.taken])
+        } else {
+            None
+        })
+    }
+
+    fn clear_buffer(&mut self) {
+        self.buffer.clear();
+    }
+
+    fn read_to_buffer(&mut self, n: usize) -> Result<()> {
+        let end = self.end_of(n)?;
+        let part = &self.slice[self.taken..end];
+        self.buffer.extend_from_slice(part)?;
+        self.taken = end;
+        Ok(())
+    }
+
+    fn buffer(&self) -> &[u8] {
+        &self.buffer
+    }
+
+    fn read_to_vec(&mut self, n: usize, out: &mut Vec<u8>) -> Result<()> {
+        let end = self.end_of(n)?;
+        out.extend_from_slice(&self.slice[self.taken..end])?;
+        self.taken = end;
+        Ok(())
+    }
+
+    fn read_into(&mut self, buf: &mut [u8]) -> Result<()> {
+        let end = self.end_of(buf.len())?;
+        buf.copy_from_slice(&self.slice[self.taken..end]);
+        self.taken = end;
+        Ok(())
+    }
+
+    fn discard(&mut self) {
+        self.taken += 1;
+    }
+
+    fn offset(&self) -> u64 {
+        self.taken as u64
+    }
+}
+
+impl<'a> Read<'a> for SliceRead<'a> {
+    fn read<'b>(&'b mut self, n: usize) -> Result<EitherLifetime<'b, 'a>> {
+        let end = self.end_of(n)?;
+        let part = &self.slice[self.taken..end];
+        self.taken = end;
+        Ok(EitherLifetime::Long(part))
+    }
+
+    fn take_buffer<'b>(&'b mut self) -> EitherLifetime<'b, 'a> {
+        EitherLifetime::Short(&self.buffer)
+    }
+}
+
+impl<'a> Offset for SliceRead<'a> {
+    fn byte_offset(&self) -> usize {
+        self.taken
+    }
+}

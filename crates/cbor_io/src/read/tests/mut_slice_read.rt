@@ -1,0 +1,86 @@
+use super::{
+    Done, fills_a_vector, gives_all, is_refused, joins_two_chunks, lent_by_input, tells_the_end,
+};
+use crate::read::{MutSliceRead, Read, Source};
+
+#[test]
+fn gives_the_bytes_of_a_slice(rt: HostRuntime) -> Done {
+    let mut bytes = *b"\x63foo\x18\x2a\xf6";
+    gives_all(&rt, &mut MutSliceRead::new(&mut bytes))
+}
+
+#[test]
+fn fills_a_vector_of_a_slice(rt: HostRuntime) -> Done {
+    let mut bytes = *b"\x63foo\x18\x2a\xf6";
+    fills_a_vector(&rt, rt.alloc(), &mut MutSliceRead::new(&mut bytes))
+}
+
+#[test]
+fn tells_the_end_of_a_slice(rt: HostRuntime) -> Done {
+    let mut bytes = *b"\x01\x02\x03";
+    tells_the_end(&rt, rt.alloc(), &mut MutSliceRead::new(&mut bytes))
+}
+
+// The end is told from the input's start, also behind what was lent.
+#[test]
+fn counts_what_was_lent(rt: HostRuntime) -> Done {
+    let alloc = rt.alloc();
+    let mut bytes = *b"\x63foo\x63bar";
+    let mut source = MutSliceRead::new(&mut bytes);
+    assert_eq!(rt; source.next()?, Some(0x63));
+    let foo = lent_by_input(&rt, source.read(3)?);
+    assert_eq!(rt; source.offset(), 4);
+    let end = "EOF while parsing a value at offset 8";
+    is_refused(&rt, alloc, source.read(5).err(), end)?;
+    source.clear_buffer();
+    assert_eq!(rt; source.offset(), 4);
+    is_refused(&rt, alloc, source.read_to_buffer(5).err(), end)?;
+    assert_eq!(rt; source.next()?, Some(0x63));
+    let bar = lent_by_input(&rt, source.read(3)?);
+    assert_eq!(rt; source.offset(), 8);
+    assert_eq!(rt; foo, b"foo".as_slice());
+    assert_eq!(rt; bar, b"bar".as_slice());
+    Ok(())
+}
+
+// What was joined is lent by the input, and stays as it is while more is joined behind it.
+#[test]
+fn joins_chunks_in_place(rt: HostRuntime) -> Done {
+    let mut bytes = *b"aaab\xffcd62";
+    let mut source = MutSliceRead::new(&mut bytes);
+    joins_two_chunks(&rt, &mut source)?;
+    let ab = lent_by_input(&rt, source.take_buffer());
+    assert_eq!(rt; source.offset(), 5);
+    source.clear_buffer();
+    assert_eq!(rt; lent_by_input(&rt, source.take_buffer()).len(), 0);
+    source.read_to_buffer(1)?;
+    assert_eq!(rt; source.next()?, Some(0x64));
+    source.read_to_buffer(2)?;
+    let joined = lent_by_input(&rt, source.take_buffer());
+    assert_eq!(rt; source.offset(), 9);
+    assert_eq!(rt; source.next()?, None);
+    assert_eq!(rt; ab, b"ab".as_slice());
+    assert_eq!(rt; joined, b"c62".as_slice());
+    Ok(())
+}
+
+// A chunk that is longer than what lies between moves over its own bytes.
+#[test]
+fn joins_long_chunks_in_place(rt: HostRuntime) -> Done {
+    let mut bytes = *b"\x66foobar\x66123456\xff\x01";
+    let mut source = MutSliceRead::new(&mut bytes);
+    source.clear_buffer();
+    assert_eq!(rt; source.next()?, Some(0x66));
+    source.read_to_buffer(6)?;
+    assert_eq!(rt; source.next()?, Some(0x66));
+    source.read_to_buffer(6)?;
+    let mut last = [0; 2];
+    source.read_into(&mut last)?;
+    assert_eq!(rt; last, [0xff, 0x01]);
+    assert_eq!(rt;
+        lent_by_input(&rt, source.take_buffer()),
+        b"foobar123456".as_slice()
+    );
+    assert_eq!(rt; source.offset(), 16);
+    Ok(())
+}
