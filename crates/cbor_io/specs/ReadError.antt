@@ -1,5 +1,6 @@
 -- Why reading stopped, and where.
-use Rattle.std.specs.Prelude.{◌≡◌, ⊤, ℕ}
+use Rattle.std.specs.Prelude.{◌≡◌, ℕ}
+use Rattle.cbor_io.specs.Error.{HasNoOffset}
 use Rattle.cbor_io.specs.declared.error.ErrorCode.{ErrorCode}
 use Rattle.cbor_io.specs.declared.error.ErrorCode.TheVariants as error
 use Rattle.cbor_io.specs.declared.read.read_error.ReadError.{ReadError}
@@ -11,12 +12,6 @@ why r = r.code
 
 abbrev pub place : ReadError → ℕ
 place r = r.offset
-
--- a fault of a device and want of memory have no place in the input
-abbrev pub HasNoPlace : ReadErrorCode → Type 0
-HasNoPlace (Io fault) = ⊤
-HasNoPlace OutOfMemory = ⊤
-HasNoPlace _ = ⊥
 
 -- an allocation failed
 abbrev pub IsMemory : ReadError → Type 0
@@ -36,3 +31,7 @@ error_code UnexpectedCode = error.UnexpectedCode
 error_code TrailingData = error.TrailingData
 error_code RecursionLimitExceeded = error.RecursionLimitExceeded
 error_code OutOfMemory = error.OutOfMemory
+
+-- a fault of a device and want of memory have no place in the input
+abbrev pub HasNoPlace : ReadErrorCode → Type 0
+HasNoPlace code = HasNoOffset (error_code code)

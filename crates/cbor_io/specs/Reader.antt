@@ -1,11 +1,10 @@
 -- What a reader means as a source, with a byte of it that may have been peeked.
 use Rattle.std.specs.Prelude.{◌≡◌, ℕ, ◌^◌, ◌-◌, ◌≤◌, if◌then◌else◌, nat_lt, List, [], ◌∷◌, length, take, Option, Some, None, Result, Ok, Err}
 use Rattle.std.specs.Io.KnownBytes.{Consumes, Keeps, IsAtEnd, prepend_known}
-use Rattle.cbor_io.specs.ReadError.{why, place}
+use Rattle.cbor_io.specs.ReadError.{why, place, error_code}
 use Rattle.cbor_io.specs.Source.{Input, TookKept, RefusedByte, reader_refusals}
+use Rattle.cbor_io.specs.Write.{IsFaultCode}
 use Rattle.cbor_io.specs.declared.read.read_error.ReadError.{ReadError}
-use Rattle.cbor_io.specs.declared.read.read_error.ReadErrorCode.{ReadErrorCode}
-use Rattle.cbor_io.specs.declared.read.read_error.ReadErrorCode.TheVariants.{Io}
 
 -- the bytes that a reader has left, behind the byte that was peeked
 abbrev pub with_peeked : Option ℕ → Option (List ℕ) → Option (List ℕ)
@@ -22,13 +21,9 @@ peeked_at offset peeked = if nat_lt offset (2 ^ 64 - 1) then peeked else None
 
 -- ---- calls of the reader
 
-abbrev pub IsFaultCode : ReadErrorCode → Type 0
-IsFaultCode (Io fault) = Unit {0}
-IsFaultCode _ = ⊥
-
 -- a fault that the reader reported
 abbrev pub IsFault : ReadError → Type 0
-IsFault e = IsFaultCode (why e) × (place e ≡ 0)
+IsFault e = IsFaultCode (error_code (why e)) × (place e ≡ 0)
 
 -- the next byte was read, or the end was met
 abbrev pub ByteRead : Option (List ℕ) → Option (List ℕ) → Result (Option ℕ) ReadError → Type 0

@@ -101,10 +101,7 @@ impl Error {
         ensures code { code_of result ≡ EofWhileParsingValue }
         ensures offset { offset_of result ≡ offset }
     {
-        Error {
-            code: ErrorCode::EofWhileParsingValue,
-            offset,
-        }
+        Error::from_parts(ErrorCode::EofWhileParsingValue, offset)
     }
 
     /// Too little room in a scratch or a slice, at this offset.
@@ -112,10 +109,7 @@ impl Error {
         ensures code { code_of result ≡ ScratchTooSmall }
         ensures offset { offset_of result ≡ offset }
     {
-        Error {
-            code: ErrorCode::ScratchTooSmall,
-            offset,
-        }
+        Error::from_parts(ErrorCode::ScratchTooSmall, offset)
     }
 
     /// An error with a text of the caller's; or `OutOfMemory`, where its text finds no memory.
@@ -132,7 +126,7 @@ impl Error {
             Ok(text) => ErrorCode::Message(text),
             Err(_) => ErrorCode::OutOfMemory,
         };
-        Error { code, offset: 0 }
+        Error::from_parts(code, 0)
     }
 
     /// How many bytes of the input come before the place of the fault; 0 where it has none.
@@ -221,10 +215,7 @@ impl From<AllocError> for Error {
     ghost from_gives = { λ _ e. IsOutOfMemory e };
 
     fn from(_error: AllocError) -> Error {
-        Error {
-            code: ErrorCode::OutOfMemory,
-            offset: 0,
-        }
+        Error::from_parts(ErrorCode::OutOfMemory, 0)
     }
 }
 
@@ -234,10 +225,7 @@ impl<T: Drop> From<AllocFailed<T>> for Error {
     ghost from_gives = { λ _ e. IsOutOfMemory e };
 
     fn from(_error: AllocFailed<T>) -> Error {
-        Error {
-            code: ErrorCode::OutOfMemory,
-            offset: 0,
-        }
+        Error::from(AllocError)
     }
 }
 
@@ -249,10 +237,7 @@ impl From<io::Error> for Error {
     ghost from_gives = { λ fault e. (code_of e ≡ Io fault) × (offset_of e ≡ 0) };
 
     fn from(error: io::Error) -> Error {
-        Error {
-            code: ErrorCode::Io(error),
-            offset: 0,
-        }
+        Error::from_parts(ErrorCode::Io(error), 0)
     }
 }
 

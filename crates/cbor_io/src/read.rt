@@ -6,6 +6,7 @@ ghost use Rattle.std.specs.Io.BufRead.{Rests};
 ghost use Rattle.std.specs.Io.KnownBytes.{Keeps};
 ghost use Rattle.cbor_io.specs.Source.{Input, Lends, TookKept, Stays, KeepsBytes, Buffered, TookBehind, RefusedToBuffer, RefusedInto, RefusedByte, or_memory, NextDoes, ReadLeaves, part_bytes, is_long};
 
+mod front;
 mod io_read;
 mod mut_slice_read;
 mod read_error;

@@ -71,10 +71,7 @@ impl ReadError {
         ensures code { why result ≡ EofWhileParsingValue }
         ensures offset { place result ≡ offset }
     {
-        ReadError {
-            code: ReadErrorCode::EofWhileParsingValue,
-            offset,
-        }
+        ReadError::at(ReadErrorCode::EofWhileParsingValue, offset)
     }
 
     /// How many bytes of the input come before the place of the fault; 0 where it has none.
@@ -134,10 +131,7 @@ impl From<AllocError> for ReadError {
     ghost from_gives = { λ _ r. IsMemory r };
 
     fn from(_error: AllocError) -> ReadError {
-        ReadError {
-            code: ReadErrorCode::OutOfMemory,
-            offset: 0,
-        }
+        ReadError::at(ReadErrorCode::OutOfMemory, 0)
     }
 }
 
@@ -147,10 +141,7 @@ impl<T: Drop> From<AllocFailed<T>> for ReadError {
     ghost from_gives = { λ _ r. IsMemory r };
 
     fn from(_error: AllocFailed<T>) -> ReadError {
-        ReadError {
-            code: ReadErrorCode::OutOfMemory,
-            offset: 0,
-        }
+        ReadError::from(AllocError)
     }
 }
 
@@ -162,9 +153,6 @@ impl From<io::Error> for ReadError {
     ghost from_gives = { λ fault r. (why r ≡ Io fault) × (place r ≡ 0) };
 
     fn from(error: io::Error) -> ReadError {
-        ReadError {
-            code: ReadErrorCode::Io(error),
-            offset: 0,
-        }
+        ReadError::at(ReadErrorCode::Io(error), 0)
     }
 }

@@ -4,6 +4,7 @@ ghost use Rattle.std.specs.Prelude.{◌≡◌, ◌+◌, ◌<◌, ◌≤◌, [], 
 ghost use Rattle.cbor_io.specs.ReadError.{why, place};
 ghost use Rattle.cbor_io.specs.declared.read.read_error.ReadErrorCode.TheVariants.{EofWhileParsingValue};
 
+use super::front::{byte_at, end_of};
 use super::{EitherLifetime, Offset, Read, ReadError, Result, Source};
 use std::alloc::Global;
 
@@ -41,21 +42,6 @@ impl<'a> SliceRead<'a> {
             taken: 0,
         }
     }
-
-    // Where the next n bytes end.
-    fn end_of(&self, n: usize) -> Result<usize>
-        ensures ok { IfOk result
-            (λ end. (end ≡ self.now.taken + n) × (end ≤ length self.now.slice.now)) }
-        ensures err { IfErr result (λ e. (why e ≡ EofWhileParsingValue)
-            × (place e ≡ length self.now.slice.now)
-            × (length self.now.slice.now < self.now.taken + n)) }
-    {
-        if n <= self.slice.len() - self.taken {
-            Ok(self.taken + n)
-        } else {
-            Err(ReadError::eof(self.slice.len() as u64))
-        }
-    }
 }
 
 impl<'a> Source for SliceRead<'a> {
@@ -72,21 +58,15 @@ impl<'a> Source for SliceRead<'a> {
     ghost lends = { record { whole = true; joined = false } };
 
     fn next(&mut self) -> Result<Option<u8>> {
-        Ok(if self.taken < self.slice.len() {
-            let byte = self.slice[self.taken];
+        let byte = byte_at(self.slice, self.taken);
+        if byte.is_some() {
             self.taken += 1;
-            Some(byte)
-        } else {
-            None
-        })
+        }
+        Ok(byte)
     }
 
     fn peek(&mut self) -> Result<Option<u8>> {
-        Ok(if self.taken < self.slice.len() {
-            Some(self.slice[self.taken])
-        } else {
-            None
-        })
+        Ok(byte_at(self.slice, self.taken))
     }
 
     fn clear_buffer(&mut self) {
@@ -94,7 +74,7 @@ impl<'a> Source for SliceRead<'a> {
     }
 
     fn read_to_buffer(&mut self, n: usize) -> Result<()> {
-        let end = self.end_of(n)?;
+        let end = end_of(self.slice, self.taken, n)?;
         let part = &self.slice[self.taken..end];
         self.buffer.extend_from_slice(part)?;
         self.taken = end;
@@ -106,14 +86,14 @@ impl<'a> Source for SliceRead<'a> {
     }
 
     fn read_to_vec(&mut self, n: usize, out: &mut Vec<u8>) -> Result<()> {
-        let end = self.end_of(n)?;
+        let end = end_of(self.slice, self.taken, n)?;
         out.extend_from_slice(&self.slice[self.taken..end])?;
         self.taken = end;
         Ok(())
     }
 
     fn read_into(&mut self, buf: &mut [u8]) -> Result<()> {
-        let end = self.end_of(buf.len())?;
+        let end = end_of(self.slice, self.taken, buf.len())?;
         buf.copy_from_slice(&self.slice[self.taken..end]);
         self.taken = end;
         Ok(())
@@ -130,7 +110,7 @@ impl<'a> Source for SliceRead<'a> {
 
 impl<'a> Read<'a> for SliceRead<'a> {
     fn read<'b>(&'b mut self, n: usize) -> Result<EitherLifetime<'b, 'a>> {
-        let end = self.end_of(n)?;
+        let end = end_of(self.slice, self.taken, n)?;
         let part = &self.slice[self.taken..end];
         self.taken = end;
         Ok(EitherLifetime::Long(part))

@@ -4,6 +4,7 @@ ghost use Rattle.std.specs.Prelude.{◌≡◌, ◌+◌, ◌<◌, ◌≤◌, [], 
 ghost use Rattle.cbor_io.specs.ReadError.{why, place};
 ghost use Rattle.cbor_io.specs.declared.read.read_error.ReadErrorCode.TheVariants.{EofWhileParsingValue, ScratchTooSmall};
 
+use super::front::{byte_at, end_of};
 use super::{EitherLifetime, Offset, Read, ReadError, ReadErrorCode, Result, Source};
 
 /// The bytes of a slice. What is read is lent by the slice; parts that are joined stand in a scratch
@@ -50,21 +51,6 @@ impl<'a, 'b> SliceReadFixed<'a, 'b> {
         }
     }
 
-    // Where the next n bytes end.
-    fn end_of(&self, n: usize) -> Result<usize>
-        ensures ok { IfOk result
-            (λ end. (end ≡ self.now.taken + n) × (end ≤ length self.now.slice.now)) }
-        ensures err { IfErr result (λ e. (why e ≡ EofWhileParsingValue)
-            × (place e ≡ length self.now.slice.now)
-            × (length self.now.slice.now < self.now.taken + n)) }
-    {
-        if n <= self.slice.len() - self.taken {
-            Ok(self.taken + n)
-        } else {
-            Err(ReadError::eof(self.slice.len() as u64))
-        }
-    }
-
     // Where n more joined bytes end in the scratch.
     fn scratch_end_of(&self, n: usize) -> Result<usize>
         ensures ok { IfOk result
@@ -95,21 +81,15 @@ impl<'a, 'b> Source for SliceReadFixed<'a, 'b> {
     ghost lends = { record { whole = true; joined = false } };
 
     fn next(&mut self) -> Result<Option<u8>> {
-        Ok(if self.taken < self.slice.len() {
-            let byte = self.slice[self.taken];
+        let byte = byte_at(self.slice, self.taken);
+        if byte.is_some() {
             self.taken += 1;
-            Some(byte)
-        } else {
-            None
-        })
+        }
+        Ok(byte)
     }
 
     fn peek(&mut self) -> Result<Option<u8>> {
-        Ok(if self.taken < self.slice.len() {
-            Some(self.slice[self.taken])
-        } else {
-            None
-        })
+        Ok(byte_at(self.slice, self.taken))
     }
 
     fn clear_buffer(&mut self) {
@@ -117,7 +97,7 @@ impl<'a, 'b> Source for SliceReadFixed<'a, 'b> {
     }
 
     fn read_to_buffer(&mut self, n: usize) -> Result<()> {
-        let end = self.end_of(n)?;
+        let end = end_of(self.slice, self.taken, n)?;
         let scratch_end = self.scratch_end_of(n)?;
         let part = &self.slice[self.taken..end];
         self.scratch[self.joined..scratch_end].copy_from_slice(part);
@@ -131,14 +111,14 @@ impl<'a, 'b> Source for SliceReadFixed<'a, 'b> {
     }
 
     fn read_to_vec(&mut self, n: usize, out: &mut Vec<u8>) -> Result<()> {
-        let end = self.end_of(n)?;
+        let end = end_of(self.slice, self.taken, n)?;
         out.extend_from_slice(&self.slice[self.taken..end])?;
         self.taken = end;
         Ok(())
     }
 
     fn read_into(&mut self, buf: &mut [u8]) -> Result<()> {
-        let end = self.end_of(buf.len())?;
+        let end = end_of(self.slice, self.taken, buf.len())?;
         buf.copy_from_slice(&self.slice[self.taken..end]);
         self.taken = end;
         Ok(())
@@ -155,7 +135,7 @@ impl<'a, 'b> Source for SliceReadFixed<'a, 'b> {
 
 impl<'a, 'b> Read<'a> for SliceReadFixed<'a, 'b> {
     fn read<'c>(&'c mut self, n: usize) -> Result<EitherLifetime<'c, 'a>> {
-        let end = self.end_of(n)?;
+        let end = end_of(self.slice, self.taken, n)?;
         let part = &self.slice[self.taken..end];
         self.taken = end;
         Ok(EitherLifetime::Long(part))

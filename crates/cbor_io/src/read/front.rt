@@ -1,0 +1,32 @@
+//! What is left of a slice, where some bytes were taken from its front.
+
+ghost use Rattle.std.specs.Prelude.{◌≡◌, ◌+◌, ◌<◌, ◌≤◌, length, drop, IfOk, IfErr};
+ghost use Rattle.cbor_io.specs.ReadError.{why, place};
+ghost use Rattle.cbor_io.specs.Source.{first_of};
+ghost use Rattle.cbor_io.specs.declared.read.read_error.ReadErrorCode.TheVariants.{EofWhileParsingValue};
+
+use super::{ReadError, Result};
+
+// The next byte, where so many were taken; None at the end.
+#[inline]
+pub(super) fn byte_at(slice: &[u8], taken: usize) -> Option<u8>
+    ensures { result ≡ first_of (drop taken slice.now) }
+{
+    slice.get(taken).copied()
+}
+
+// Where the next n bytes end.
+#[inline]
+pub(super) fn end_of(slice: &[u8], taken: usize, n: usize) -> Result<usize>
+    requires { taken ≤ length slice.now }
+    ensures ok { IfOk result (λ end. (end ≡ taken + n) × (end ≤ length slice.now)) }
+    ensures err { IfErr result (λ e. (why e ≡ EofWhileParsingValue)
+        × (place e ≡ length slice.now)
+        × (length slice.now < taken + n)) }
+{
+    if n <= slice.len() - taken {
+        Ok(taken + n)
+    } else {
+        Err(ReadError::eof(slice.len() as u64))
+    }
+}
