@@ -1,32 +1,80 @@
 -- What went from an input to its buffer.
-use Rattle.std.proofs.Common.{◌≡◌, ℕ, ◌+◌, ◌≤◌, List, ◌++◌, length, drop, take, Option, Some, arith, take-append-drop, refl}
+use Rattle.std.proofs.Common.{◌≡◌, ℕ, ◌+◌, ◌≤◌, List, ◌++◌, length, drop, take, Option, Some, arith}
+use Rattle.std.proofs.Common.{take-append-drop, refl}
 use Rattle.std.proofs.lemmas.Grind.{common_steps}
 use Rattle.std.proofs.lemmas.List.{drop-drop}
 use Rattle.cbor_io.specs.Source.{Buffered, TookBehind, slice_input}
 
 -- The bytes of a slice up to `end` went to the buffer's end.
-pub appended : (bytes buffer after : List ℕ) (taken n end : ℕ) (room left : Option ℕ) → end ≡ taken + n → end ≤ length bytes → after ≡ buffer ++ take n (drop taken bytes)
-    → left ≡ room → Buffered (slice_input bytes taken buffer room) (slice_input bytes end after left) n
+pub appended : (bytes buffer after : List ℕ) (taken n end : ℕ) (room left : Option ℕ)
+    → end ≡ taken + n → end ≤ length bytes → after ≡ buffer ++ take n (drop taken bytes)
+    → left ≡ room → Buffered (slice_input bytes taken buffer room)
+    (slice_input bytes end after left) n
 appended bytes buffer after taken n end room left at within joined same =
     let rest = drop-drop n taken bytes in
     let parts = take-append-drop n (drop taken bytes) in
-    record { some = take n (drop taken bytes); len = grind (arith, common_steps); bytes = cc; count = at; room = same; buffered = joined }
+    record {
+      some = take n (drop taken bytes);
+      len = grind (arith, common_steps);
+      bytes = cc;
+      count = at;
+      room = same;
+      buffered = joined;
+    }
 
 -- The bytes of a slice up to `end` moved down to its front's end. None of what is to come changed.
-pub moved : (bytes after : List ℕ) (taken n joined offset end left : ℕ) (room : Option ℕ) → end ≡ taken + n → end ≤ length bytes
-    → take (joined + n) after ≡ take joined bytes ++ take n (drop taken bytes) → drop (taken + n) after ≡ drop (taken + n) bytes → left ≡ offset + n
-    → Buffered (record { to_come = Some (drop taken bytes); buffer = take joined bytes; offset = offset; room = room })
-    (record { to_come = Some (drop end after); buffer = take (joined + n) after; offset = left; room = room }) n
+pub moved : (bytes after : List ℕ) (taken n joined offset end left : ℕ) (room : Option ℕ)
+    → end ≡ taken + n → end ≤ length bytes
+    → take (joined + n) after ≡ take joined bytes ++ take n (drop taken bytes)
+    → drop (taken + n) after ≡ drop (taken + n) bytes → left ≡ offset + n
+    → Buffered (record {
+      to_come = Some (drop taken bytes);
+      buffer = take joined bytes;
+      offset = offset;
+      room = room;
+    })
+    (record {
+      to_come = Some (drop end after);
+      buffer = take (joined + n) after;
+      offset = left;
+      room = room;
+    }) n
 moved bytes after taken n joined offset end left room at within front back count =
     let rest = drop-drop n taken bytes in
     let parts = take-append-drop n (drop taken bytes) in
-    record { some = take n (drop taken bytes); len = grind (arith, common_steps); bytes = cc; count = count; room = refl; buffered = front }
+    record {
+      some = take n (drop taken bytes);
+      len = grind (arith, common_steps);
+      bytes = cc;
+      count = count;
+      room = refl;
+      buffered = front;
+    }
 
 -- The bytes of a slice up to `end` went behind other bytes, and the buffer stays.
-pub behind : (bytes buffer old new : List ℕ) (before taken n end : ℕ) (room : Option ℕ) → end ≡ taken + n → end ≤ length bytes → new ≡ old ++ take n (drop taken bytes)
-    → TookBehind (record { to_come = Some (drop taken bytes); buffer = buffer; offset = before + taken; room = room })
-    (record { to_come = Some (drop end bytes); buffer = buffer; offset = before + end; room = room }) n old new
+pub behind : (bytes buffer old new : List ℕ) (before taken n end : ℕ) (room : Option ℕ)
+    → end ≡ taken + n → end ≤ length bytes → new ≡ old ++ take n (drop taken bytes)
+    → TookBehind (record {
+      to_come = Some (drop taken bytes);
+      buffer = buffer;
+      offset = before + taken;
+      room = room;
+    })
+    (record {
+      to_come = Some (drop end bytes);
+      buffer = buffer;
+      offset = before + end;
+      room = room;
+    }) n old new
 behind bytes buffer old new before taken n end room at within joined =
     let rest = drop-drop n taken bytes in
     let parts = take-append-drop n (drop taken bytes) in
-    record { some = take n (drop taken bytes); len = grind (arith, common_steps); bytes = cc; count = omega (arith, at); room = refl; kept = refl; behind = joined }
+    record {
+      some = take n (drop taken bytes);
+      len = grind (arith, common_steps);
+      bytes = cc;
+      count = omega (arith, at);
+      room = refl;
+      kept = refl;
+      behind = joined;
+    }

@@ -1,11 +1,22 @@
 -- What an `Error` is: a code and an offset; and what it prints.
 use Rattle.std.specs.Prelude.{◌≡◌, ⊤, ℕ, zero, suc, List, ◌++◌, codes, Option, Some, None}
 use Rattle.std.specs.String.{string_bytes}
-use Rattle.cbor_model.specs.Refusal.{words, at_offset, end_in_value, end_in_array, end_in_map, length_out_of_range, invalid_utf8, unassigned_code, unexpected_code, trailing_data, too_deep}
+use Rattle.cbor_model.specs.Refusal.{words, at_offset, end_in_value, end_in_array, end_in_map}
+use Rattle.cbor_model.specs.Refusal.{length_out_of_range, invalid_utf8, unassigned_code}
+use Rattle.cbor_model.specs.Refusal.{unexpected_code, trailing_data, too_deep}
 use Rattle.cbor_io.specs.declared.error.Category.{Category}
 use Rattle.cbor_io.specs.declared.error.Category.TheVariants as category
 use Rattle.cbor_io.specs.declared.error.ErrorCode.{ErrorCode}
-use Rattle.cbor_io.specs.declared.error.ErrorCode.TheVariants.{Message, Io, ScratchTooSmall, EofWhileParsingValue, EofWhileParsingArray, EofWhileParsingMap, LengthOutOfRange, InvalidUtf8, UnassignedCode, UnexpectedCode, TrailingData, ArrayTooShort, ArrayTooLong, RecursionLimitExceeded, WrongEnumFormat, WrongStructFormat, OutOfMemory}
+use Rattle.cbor_io.specs.declared.error.ErrorCode.TheVariants.{Message, Io, ScratchTooSmall}
+use Rattle.cbor_io.specs.declared.error.ErrorCode.TheVariants.{EofWhileParsingValue}
+use Rattle.cbor_io.specs.declared.error.ErrorCode.TheVariants.{EofWhileParsingArray}
+use Rattle.cbor_io.specs.declared.error.ErrorCode.TheVariants.{EofWhileParsingMap, LengthOutOfRange}
+use Rattle.cbor_io.specs.declared.error.ErrorCode.TheVariants.{InvalidUtf8, UnassignedCode}
+use Rattle.cbor_io.specs.declared.error.ErrorCode.TheVariants.{UnexpectedCode, TrailingData}
+use Rattle.cbor_io.specs.declared.error.ErrorCode.TheVariants.{ArrayTooShort, ArrayTooLong}
+use Rattle.cbor_io.specs.declared.error.ErrorCode.TheVariants.{RecursionLimitExceeded}
+use Rattle.cbor_io.specs.declared.error.ErrorCode.TheVariants.{WrongEnumFormat, WrongStructFormat}
+use Rattle.cbor_io.specs.declared.error.ErrorCode.TheVariants.{OutOfMemory}
 use Rattle.cbor_io.specs.declared.error.Error.{Error}
 
 abbrev pub code_of : Error → ErrorCode

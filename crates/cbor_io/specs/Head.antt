@@ -1,7 +1,9 @@
 -- The numbers of the major types (RFC 7049, section 2.1).
 use Rattle.std.specs.Prelude.{◌≡◌, ℕ, refl}
 use Rattle.cbor_io.specs.declared.head.Major.{Major}
-use Rattle.cbor_io.specs.declared.head.Major.TheVariants.{UnsignedInteger, NegativeInteger, ByteString, TextString, Array, Map, Tag, Simple}
+use Rattle.cbor_io.specs.declared.head.Major.TheVariants.{UnsignedInteger, NegativeInteger}
+use Rattle.cbor_io.specs.declared.head.Major.TheVariants.{ByteString, TextString, Array, Map, Tag}
+use Rattle.cbor_io.specs.declared.head.Major.TheVariants.{Simple}
 
 abbrev pub major_number : Major → ℕ
 major_number UnsignedInteger = 0

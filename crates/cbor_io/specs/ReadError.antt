@@ -5,7 +5,7 @@ use Rattle.cbor_io.specs.declared.error.ErrorCode.{ErrorCode}
 use Rattle.cbor_io.specs.declared.error.ErrorCode.TheVariants as error
 use Rattle.cbor_io.specs.declared.read.read_error.ReadError.{ReadError}
 use Rattle.cbor_io.specs.declared.read.read_error.ReadErrorCode.{ReadErrorCode}
-use Rattle.cbor_io.specs.declared.read.read_error.ReadErrorCode.TheVariants.{Io, ScratchTooSmall, EofWhileParsingValue, EofWhileParsingArray, EofWhileParsingMap, LengthOutOfRange, InvalidUtf8, UnassignedCode, UnexpectedCode, TrailingData, RecursionLimitExceeded, OutOfMemory}
+use Rattle.cbor_io.specs.declared.read.read_error.ReadErrorCode.TheVariants as read
 
 abbrev pub why : ReadError → ReadErrorCode
 why r = r.code
@@ -15,22 +15,22 @@ place r = r.offset
 
 -- an allocation failed
 abbrev pub IsMemory : ReadError → Type 0
-IsMemory r = (r.code ≡ OutOfMemory) × (r.offset ≡ 0)
+IsMemory r = (r.code ≡ read.OutOfMemory) × (r.offset ≡ 0)
 
 -- the code of the error that is made of it
 abbrev pub error_code : ReadErrorCode → ErrorCode
-error_code (Io fault) = error.Io fault
-error_code ScratchTooSmall = error.ScratchTooSmall
-error_code EofWhileParsingValue = error.EofWhileParsingValue
-error_code EofWhileParsingArray = error.EofWhileParsingArray
-error_code EofWhileParsingMap = error.EofWhileParsingMap
-error_code LengthOutOfRange = error.LengthOutOfRange
-error_code InvalidUtf8 = error.InvalidUtf8
-error_code UnassignedCode = error.UnassignedCode
-error_code UnexpectedCode = error.UnexpectedCode
-error_code TrailingData = error.TrailingData
-error_code RecursionLimitExceeded = error.RecursionLimitExceeded
-error_code OutOfMemory = error.OutOfMemory
+error_code (read.Io fault) = error.Io fault
+error_code read.ScratchTooSmall = error.ScratchTooSmall
+error_code read.EofWhileParsingValue = error.EofWhileParsingValue
+error_code read.EofWhileParsingArray = error.EofWhileParsingArray
+error_code read.EofWhileParsingMap = error.EofWhileParsingMap
+error_code read.LengthOutOfRange = error.LengthOutOfRange
+error_code read.InvalidUtf8 = error.InvalidUtf8
+error_code read.UnassignedCode = error.UnassignedCode
+error_code read.UnexpectedCode = error.UnexpectedCode
+error_code read.TrailingData = error.TrailingData
+error_code read.RecursionLimitExceeded = error.RecursionLimitExceeded
+error_code read.OutOfMemory = error.OutOfMemory
 
 -- a fault of a device and want of memory have no place in the input
 abbrev pub HasNoPlace : ReadErrorCode → Type 0

@@ -1,5 +1,6 @@
 -- What a reader means as a source, with a byte of it that may have been peeked.
-use Rattle.std.specs.Prelude.{◌≡◌, ℕ, ◌^◌, ◌-◌, ◌≤◌, if◌then◌else◌, nat_lt, List, [], ◌∷◌, length, take, Option, Some, None, Result, Ok, Err}
+use Rattle.std.specs.Prelude.{◌≡◌, ℕ, ◌^◌, ◌-◌, ◌≤◌, if◌then◌else◌, nat_lt, List, [], ◌∷◌, length}
+use Rattle.std.specs.Prelude.{take, Option, Some, None, Result, Ok, Err}
 use Rattle.std.specs.Io.KnownBytes.{Consumes, Keeps, IsAtEnd, prepend_known}
 use Rattle.cbor_io.specs.ReadError.{why, place, error_code}
 use Rattle.cbor_io.specs.Source.{Input, TookKept, RefusedByte, reader_refusals}
@@ -13,7 +14,13 @@ with_peeked (Some b) remaining = prepend_known (b ∷ []) remaining
 
 -- a reader, of which offset bytes were handed out
 abbrev pub reader_input : Option ℕ → Option (List ℕ) → List ℕ → ℕ → Input
-reader_input peeked remaining buffer offset = record { to_come = with_peeked peeked remaining; buffer = buffer; offset = offset; room = None }
+reader_input peeked remaining buffer offset =
+    record {
+      to_come = with_peeked peeked remaining;
+      buffer = buffer;
+      offset = offset;
+      room = None;
+    }
 
 -- the peeked byte, where the offset can count it
 abbrev pub peeked_at : ℕ → Option ℕ → Option ℕ
@@ -36,12 +43,15 @@ abbrev pub Filled : Option (List ℕ) → Option ℕ → Result Unit ReadError �
 Filled to_come peeked (Ok u) = peeked ≡ None → IsAtEnd to_come
 Filled to_come peeked (Err e) = IsFault e
 
--- Some of the next bytes were read to the front of a piece: at most so many, and none only at the end.
+-- Some of the next bytes were read to the front of a piece: at most so many, and none only at the
+-- end.
 abbrev pub SomeRead : Option (List ℕ) → Option (List ℕ) → ℕ → List ℕ → Result ℕ ReadError → Type 0
-SomeRead old new most piece (Ok n) = (n ≤ most) × Consumes old new (take n piece) × (n ≡ 0 → IsAtEnd new)
+SomeRead old new most piece (Ok n) =
+    (n ≤ most) × Consumes old new (take n piece) × (n ≡ 0 → IsAtEnd new)
 SomeRead old new most piece (Err e) = Keeps old new × IsFault e
 
 -- The same of a source: these bytes were taken and counted.
 abbrev pub PieceTaken : Input → Input → List ℕ → Result ℕ ReadError → Type 0
-PieceTaken s t piece (Ok n) = (n ≤ length piece) × TookKept s t (take n piece) × (n ≡ 0 → IsAtEnd s.to_come)
+PieceTaken s t piece (Ok n) =
+    (n ≤ length piece) × TookKept s t (take n piece) × (n ≡ 0 → IsAtEnd s.to_come)
 PieceTaken s t piece (Err e) = RefusedByte reader_refusals s t e

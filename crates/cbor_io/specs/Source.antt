@@ -1,10 +1,15 @@
 -- What a source of bytes means, and what each of its calls takes.
-use Rattle.std.specs.Prelude.{◌≡◌, ◌≢◌, ⊤, ℕ, ◌+◌, ◌^◌, ◌-◌, ◌<◌, ◌≤◌, Bool, true, false, List, [], ◌∷◌, ◌++◌, length, drop, Option, Some, None, Result, Ok, Err, IfSome, MatchResult, MatchOption}
+use Rattle.std.specs.Prelude.{◌≡◌, ◌≢◌, ⊤, ℕ, ◌+◌, ◌^◌, ◌-◌, ◌<◌, ◌≤◌, Bool, true, false, List, []}
+use Rattle.std.specs.Prelude.{◌∷◌, ◌++◌, length, drop, Option, Some, None, Result, Ok, Err, IfSome}
+use Rattle.std.specs.Prelude.{MatchResult, MatchOption}
 use Rattle.std.specs.Io.KnownBytes.{Consumes, Keeps}
 use Rattle.cbor_io.specs.ReadError.{why, place, HasNoPlace}
 use Rattle.cbor_io.specs.declared.read.read_error.ReadError.{ReadError}
 use Rattle.cbor_io.specs.declared.read.read_error.ReadErrorCode.{ReadErrorCode}
-use Rattle.cbor_io.specs.declared.read.read_error.ReadErrorCode.TheVariants.{Io, ScratchTooSmall, EofWhileParsingValue, LengthOutOfRange, OutOfMemory}
+use Rattle.cbor_io.specs.declared.read.read_error.ReadErrorCode.TheVariants.{Io, ScratchTooSmall}
+use Rattle.cbor_io.specs.declared.read.read_error.ReadErrorCode.TheVariants.{EofWhileParsingValue}
+use Rattle.cbor_io.specs.declared.read.read_error.ReadErrorCode.TheVariants.{LengthOutOfRange}
+use Rattle.cbor_io.specs.declared.read.read_error.ReadErrorCode.TheVariants.{OutOfMemory}
 use Rattle.cbor_io.specs.declared.read.EitherLifetime.{EitherLifetime}
 use Rattle.cbor_io.specs.declared.read.EitherLifetime.TheVariants.{Short, Long}
 
@@ -16,7 +21,8 @@ pub record Input : Type 0 where
   pub offset : ℕ
   pub room : Option ℕ
 
--- What a source lends for the input's whole life: what `read` takes, and what was joined in the buffer.
+-- What a source lends for the input's whole life: what `read` takes, and what was joined in the
+-- buffer.
 pub record Lends : Type 0 where
   pub whole : Bool
   pub joined : Bool
@@ -109,9 +115,10 @@ IsOfSource EofWhileParsingValue = ⊤
 IsOfSource LengthOutOfRange = ⊤
 IsOfSource _ = ⊥
 
--- How a call that wanted n bytes of s was refused, and left t: by one of the codes allowed, with some
--- further beginning of the bytes gone.
-pub record Refused (allowed : ReadErrorCode → Bool) (s t : Input) (n : ℕ) (e : ReadError) : Type 0 where
+-- How a call that wanted n bytes of s was refused, and left t: by one of the codes allowed, with
+-- some further beginning of the bytes gone.
+pub record Refused (allowed : ReadErrorCode → Bool) (s t : Input) (n : ℕ) (e : ReadError)
+    : Type 0 where
   pub code : allowed (why e) ≡ true
   pub kind : IsOfSource (why e)
   pub moved : TookSome s t
@@ -121,10 +128,13 @@ pub record Refused (allowed : ReadErrorCode → Bool) (s t : Input) (n : ℕ) (e
 
 -- the buffer has no room for n bytes more, which are there
 abbrev pub NoRoom : Input → ℕ → Type 0
-NoRoom s n = MatchOption s.room ⊥ (λ most. most < length s.buffer + n) × IfSome s.to_come (λ bs. n ≤ length bs)
+NoRoom s n =
+    MatchOption s.room ⊥ (λ most. most < length s.buffer + n)
+    × IfSome s.to_come (λ bs. n ≤ length bs)
 
 -- How a call that appends to the buffer was refused. Where there is no room, nothing has changed.
-pub record RefusedToBuffer (allowed : ReadErrorCode → Bool) (s t : Input) (n : ℕ) (e : ReadError) : Type 0 where
+pub record RefusedToBuffer (allowed : ReadErrorCode → Bool) (s t : Input) (n : ℕ) (e : ReadError)
+    : Type 0 where
   pub refused : Refused allowed s t n e
   pub small : why e ≡ ScratchTooSmall → Stays s t × (place e ≡ s.offset) × NoRoom s n
 
@@ -134,7 +144,8 @@ or_memory allowed OutOfMemory = true
 or_memory allowed code = allowed code
 
 -- how a call that leaves the buffer alone was refused
-pub record RefusedInto (allowed : ReadErrorCode → Bool) (s t : Input) (n : ℕ) (e : ReadError) : Type 0 where
+pub record RefusedInto (allowed : ReadErrorCode → Bool) (s t : Input) (n : ℕ) (e : ReadError)
+    : Type 0 where
   pub refused : Refused allowed s t n e
   pub kept : t.buffer ≡ s.buffer
   pub room : why e ≢ ScratchTooSmall
@@ -153,14 +164,18 @@ NextDoes allowed s t (Ok None) = Stays s t × IfSome s.to_come (λ bs. bs ≡ []
 NextDoes allowed s t (Err e) = RefusedByte allowed s t e
 
 -- what `read` leaves
-abbrev pub ReadLeaves : (ReadErrorCode → Bool) → Input → Input → ℕ → Result EitherLifetime ReadError → Type 0
-ReadLeaves allowed s t n r = MatchResult r (λ p. Took s t (part_bytes p)) (λ e. Refused allowed s t n e × (why e ≢ ScratchTooSmall))
+abbrev pub ReadLeaves : (ReadErrorCode → Bool) → Input → Input → ℕ → Result EitherLifetime ReadError
+    → Type 0
+ReadLeaves allowed s t n r =
+    MatchResult r (λ p. Took s t (part_bytes p))
+    (λ e. Refused allowed s t n e × (why e ≢ ScratchTooSmall))
 
 -- ---- the sources
 
 -- a slice of which the first bytes were taken
 abbrev pub slice_input : List ℕ → ℕ → List ℕ → Option ℕ → Input
-slice_input bs taken buffer room = record { to_come = Some (drop taken bs); buffer = buffer; offset = taken; room = room }
+slice_input bs taken buffer room =
+    record { to_come = Some (drop taken bs); buffer = buffer; offset = taken; room = room }
 
 -- which codes each source may answer
 abbrev pub slice_refusals : ReadErrorCode → Bool

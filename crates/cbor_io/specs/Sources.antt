@@ -11,10 +11,17 @@ abbrev pub input_of_slice : SliceRead → Input
 input_of_slice s = slice_input s.slice.now s.taken s.buffer.items None
 
 abbrev pub input_of_slice_fixed : SliceReadFixed → Input
-input_of_slice_fixed s = slice_input s.slice.now s.taken (take s.joined s.scratch.now) (Some (length s.scratch.now))
+input_of_slice_fixed s =
+    slice_input s.slice.now s.taken (take s.joined s.scratch.now) (Some (length s.scratch.now))
 
 abbrev pub input_of_mut_slice : MutSliceRead → Input
-input_of_mut_slice s = record { to_come = Some (drop s.taken s.slice.now); buffer = take s.joined s.slice.now; offset = s.before + s.taken; room = None }
+input_of_mut_slice s =
+    record {
+      to_come = Some (drop s.taken s.slice.now);
+      buffer = take s.joined s.slice.now;
+      offset = s.before + s.taken;
+      room = None;
+    }
 
 -- a reader, by the bytes that it has left
 abbrev pub input_of_reader : {R : Type 0} → (R → Option (List ℕ)) → IoRead R → Input

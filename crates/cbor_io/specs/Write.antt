@@ -16,7 +16,8 @@ pub record AppendsBeginning (bytes : List ℕ) (old new : Option (List ℕ)) : T
   pub written : Appends old new front
 
 -- Ok has appended the bytes, and an Err a beginning of them.
-pub record Wrote {T E : Type 0} (old : Option (List ℕ)) (bytes : List ℕ) (new : Option (List ℕ)) (result : Result T E) : Type 0 where
+pub record Wrote {T E : Type 0} (old : Option (List ℕ)) (bytes : List ℕ) (new : Option (List ℕ))
+    (result : Result T E) : Type 0 where
   pub ok : OnOk result (Appends old new bytes)
   pub err : OnErr result (AppendsBeginning bytes old new)
 

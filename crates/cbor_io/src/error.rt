@@ -2,7 +2,9 @@
 
 ghost use Rattle.std.specs.Prelude.{◌≡◌, ◌↔◌, IsTrue};
 ghost use Rattle.cbor_io.specs.Error.{code_of, offset_of, category_of, IsMessageOf, HasNoOffset};
-ghost use Rattle.cbor_io.specs.declared.error.ErrorCode.TheVariants.{ScratchTooSmall, EofWhileParsingValue, OutOfMemory};
+ghost use Rattle.cbor_io.specs.declared.error.ErrorCode.TheVariants.{ScratchTooSmall};
+ghost use Rattle.cbor_io.specs.declared.error.ErrorCode.TheVariants.{EofWhileParsingValue};
+ghost use Rattle.cbor_io.specs.declared.error.ErrorCode.TheVariants.{OutOfMemory};
 ghost use Rattle.cbor_io.specs.declared.error.Category.TheVariants as category;
 
 use std::alloc::{AllocError, AllocFailed, Global};
@@ -35,8 +37,8 @@ pub enum ErrorCode {
     LengthOutOfRange,
     /// A text isn't UTF-8. The offset is that of the first byte that isn't.
     InvalidUtf8,
-    /// A first byte that begins no item of RFC 7049, or begins a simple value other than false, true, null
-    /// and undefined (`e0` to `f3`, and `f8`), which this library doesn't have.
+    /// A first byte that begins no item of RFC 7049, or begins a simple value other than false,
+    /// true, null and undefined (`e0` to `f3`, and `f8`), which this library doesn't have.
     UnassignedCode,
     /// A first byte that may not stand here.
     UnexpectedCode,

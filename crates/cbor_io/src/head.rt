@@ -3,8 +3,8 @@
 ghost use Rattle.std.specs.Prelude.{◌≡◌, ◌<◌, ◌/◌};
 ghost use Rattle.cbor_io.specs.Head.{major_number};
 
-/// The eight major types (RFC 7049, section 2.1), which the upper three bits of an item's first byte
-/// say.
+/// The eight major types (RFC 7049, section 2.1), which the upper three bits of an item's first
+/// byte say.
 #[derive(Clone, Copy, Debug, PartialEq, Eq)]
 pub enum Major {
     /// 0: a whole number from 0.

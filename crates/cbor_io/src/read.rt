@@ -49,11 +49,11 @@ pub trait Offset: Source {
 
 /// What bytes are taken from, as far as nothing is lent.
 ///
-/// A source has bytes to come, a buffer, and an offset: how many bytes it handed out. `next`, `peek`
-/// and `discard` take or look at one byte, `read_into` takes as many as there is room for, and
-/// `clear_buffer` and `read_to_buffer` join parts of the input in the buffer, as the chunks of a
-/// string of indefinite length (RFC 7049, section 2.2.2). After an Err some further beginning of the
-/// bytes to come is gone, and the offset counts it.
+/// A source has bytes to come, a buffer, and an offset: how many bytes it handed out. `next`,
+/// `peek` and `discard` take or look at one byte, `read_into` takes as many as there is room for,
+/// and `clear_buffer` and `read_to_buffer` join parts of the input in the buffer, as the chunks of
+/// a string of indefinite length (RFC 7049, section 2.2.2). After an Err some further beginning of
+/// the bytes to come is gone, and the offset counts it.
 ///
 /// ```rust
 /// let mut source = SliceRead::new(alloc, b"\x61a\x61b");
@@ -72,11 +72,12 @@ pub trait Offset: Source {
 /// What it has to keep:
 ///
 /// - It hands out the bytes of its input in their order, each once, and the offset counts exactly
-///   those. `peek` hands out none; the byte that it shows is the one that `next` or `discard` takes.
+///   those. `peek` hands out none; the byte that it shows is the one that `next` or `discard`
+///   takes.
 /// - At the end `next` and `peek` answer None. A call that wants n bytes answers
 ///   `EofWhileParsingValue` only where fewer are to come, and at the offset where they end.
-/// - `read_to_buffer` appends to the buffer, and `clear_buffer` empties it. The other calls leave it
-///   as it is; `read` and `take_buffer` alone may drop it. `buffer` shows it.
+/// - `read_to_buffer` appends to the buffer, and `clear_buffer` empties it. The other calls leave
+///   it as it is; `read` and `take_buffer` alone may drop it. `buffer` shows it.
 /// - `read_to_vec` appends to the vector that it is given, in place of the buffer. It takes memory
 ///   only for bytes that came, however many are asked for.
 /// - The offset never passes 2^64 - 1.

@@ -3,7 +3,7 @@
 ghost use Rattle.std.specs.Prelude.{◌≡◌, ◌+◌, ◌<◌, ◌≤◌, length, drop, IfOk, IfErr};
 ghost use Rattle.cbor_io.specs.ReadError.{why, place};
 ghost use Rattle.cbor_io.specs.Source.{first_of};
-ghost use Rattle.cbor_io.specs.declared.read.read_error.ReadErrorCode.TheVariants.{EofWhileParsingValue};
+ghost use Rattle.cbor_io.specs.declared.read.read_error.ReadErrorCode.TheVariants as refusal;
 
 use super::{ReadError, Result};
 
@@ -20,7 +20,7 @@ pub(super) fn byte_at(slice: &[u8], taken: usize) -> Option<u8>
 pub(super) fn end_of(slice: &[u8], taken: usize, n: usize) -> Result<usize>
     requires { taken ≤ length slice.now }
     ensures ok { IfOk result (λ end. (end ≡ taken + n) × (end ≤ length slice.now)) }
-    ensures err { IfErr result (λ e. (why e ≡ EofWhileParsingValue)
+    ensures err { IfErr result (λ e. (why e ≡ refusal.EofWhileParsingValue)
         × (place e ≡ length slice.now)
         × (length slice.now < taken + n)) }
 {

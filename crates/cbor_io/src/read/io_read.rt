@@ -1,8 +1,10 @@
 //! A reader of the standard library as a source.
 
-ghost use Rattle.std.specs.Prelude.{◌≡◌, ◌+◌, ◌<◌, ◌≤◌, [], length, IfSome, OnOk, IfOk, IfErr, Ok, Some, None};
+ghost use Rattle.std.specs.Prelude.{◌≡◌, ◌+◌, ◌<◌, ◌≤◌, [], length, IfSome, OnOk, IfOk, IfErr, Ok};
+ghost use Rattle.std.specs.Prelude.{Some, None};
 ghost use Rattle.std.specs.Io.KnownBytes.{Keeps};
-ghost use Rattle.cbor_io.specs.Reader.{with_peeked, reader_input, ByteRead, Filled, SomeRead, PieceTaken};
+ghost use Rattle.cbor_io.specs.Reader.{with_peeked, reader_input, ByteRead, Filled, SomeRead};
+ghost use Rattle.cbor_io.specs.Reader.{PieceTaken};
 
 #[cfg(test)]
 mod tests;
@@ -13,17 +15,17 @@ use std::{io, mem};
 
 /// The bytes that a reader of the standard library gives. What is read is lent until the next call.
 ///
-/// It takes no byte of the reader that isn't asked for, but for one that is peeked. Long strings are
-/// read in pieces of some thousand bytes, and memory is taken for what came, however long a string
-/// claims to be.
+/// It takes no byte of the reader that isn't asked for, but for one that is peeked. Long strings
+/// are read in pieces of some thousand bytes, and memory is taken for what came, however long a
+/// string claims to be.
 ///
 /// Its calls answer
 ///
 /// - `Io` where the reader reports a fault; an interrupted read is one, and isn't tried again;
 /// - `EofWhileParsingValue` where too few bytes are to come;
 /// - `LengthOutOfRange` at the offset 2^64 - 1, where another byte is there;
-/// - `OutOfMemory` where the buffer or the vector to fill can't grow, in `read`, `read_to_buffer` and
-///   `read_to_vec` alone.
+/// - `OutOfMemory` where the buffer or the vector to fill can't grow, in `read`, `read_to_buffer`
+///   and `read_to_vec` alone.
 ///
 /// ```rust
 /// let mut source = IoRead::new(alloc, rt.reader());

@@ -1,15 +1,16 @@
 //! A slice as a source, which is rewritten in place.
 
-ghost use Rattle.std.specs.Prelude.{◌≡◌, ◌+◌, ◌-◌, ◌^◌, ◌++◌, ◌<◌, ◌≤◌, [], length, take, drop, IfOk, IfErr, None};
+ghost use Rattle.std.specs.Prelude.{◌≡◌, ◌+◌, ◌-◌, ◌^◌, ◌++◌, ◌<◌, ◌≤◌, [], length, take, drop};
+ghost use Rattle.std.specs.Prelude.{IfOk, IfErr, None};
 ghost use Rattle.cbor_io.specs.ReadError.{why, place};
-ghost use Rattle.cbor_io.specs.declared.read.read_error.ReadErrorCode.TheVariants.{EofWhileParsingValue};
+ghost use Rattle.cbor_io.specs.declared.read.read_error.ReadErrorCode.TheVariants as refusal;
 
 use super::{EitherLifetime, Read, ReadError, Result, Source};
 use std::mem;
 
 /// The bytes of a slice that may be rewritten. All that is handed out is lent for the slice's whole
-/// life, also parts that were joined: they move down over the bytes between them. `read_to_vec` takes
-/// memory, for the vector that it fills; no other call does.
+/// life, also parts that were joined: they move down over the bytes between them. `read_to_vec`
+/// takes memory, for the vector that it fills; no other call does.
 ///
 /// Its calls answer `EofWhileParsingValue` where too few bytes are to come, `read_to_vec` also
 /// `OutOfMemory`, and nothing else.
@@ -59,7 +60,7 @@ impl<'a> MutSliceRead<'a> {
     fn end_of(&self, n: usize) -> Result<usize>
         ensures ok { IfOk result
             (λ end. (end ≡ self.now.taken + n) × (end ≤ length self.now.slice.now)) }
-        ensures err { IfErr result (λ e. (why e ≡ EofWhileParsingValue)
+        ensures err { IfErr result (λ e. (why e ≡ refusal.EofWhileParsingValue)
             × (place e ≡ self.now.before + length self.now.slice.now)
             × (length self.now.slice.now < self.now.taken + n)) }
     {

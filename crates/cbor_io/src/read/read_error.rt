@@ -2,7 +2,7 @@
 
 ghost use Rattle.std.specs.Prelude.{◌≡◌};
 ghost use Rattle.cbor_io.specs.ReadError.{why, place, HasNoPlace};
-ghost use Rattle.cbor_io.specs.declared.read.read_error.ReadErrorCode.TheVariants.{EofWhileParsingValue};
+ghost use Rattle.cbor_io.specs.declared.read.read_error.ReadErrorCode.TheVariants as refusal;
 
 use crate::error::{Error, ErrorCode};
 use std::alloc::{AllocError, AllocFailed};
@@ -41,8 +41,8 @@ pub enum ReadErrorCode {
 
 /// Why reading stopped, and where: how many bytes of the input come before that place.
 ///
-/// It owns no memory, so that it can be answered in place of bytes that a source lends. `?` makes an
-/// [`Error`] of it, of the same code and offset.
+/// It owns no memory, so that it can be answered in place of bytes that a source lends. `?` makes
+/// an [`Error`] of it, of the same code and offset.
 ///
 /// ```rust
 /// let refused: Error = ReadError::eof(9).into();
@@ -68,7 +68,7 @@ impl ReadError {
 
     /// An end of input within a value, at this offset.
     pub fn eof(offset: u64) -> ReadError
-        ensures code { why result ≡ EofWhileParsingValue }
+        ensures code { why result ≡ refusal.EofWhileParsingValue }
         ensures offset { place result ≡ offset }
     {
         ReadError::at(ReadErrorCode::EofWhileParsingValue, offset)

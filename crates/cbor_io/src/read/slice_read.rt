@@ -1,11 +1,9 @@
 //! A slice as a source.
 
-ghost use Rattle.std.specs.Prelude.{◌≡◌, ◌+◌, ◌<◌, ◌≤◌, [], length, IfOk, IfErr, Some, None};
-ghost use Rattle.cbor_io.specs.ReadError.{why, place};
-ghost use Rattle.cbor_io.specs.declared.read.read_error.ReadErrorCode.TheVariants.{EofWhileParsingValue};
+ghost use Rattle.std.specs.Prelude.{◌≡◌, ◌≤◌, [], length, None};
 
 use super::front::{byte_at, end_of};
-use super::{EitherLifetime, Offset, Read, ReadError, Result, Source};
+use super::{EitherLifetime, Offset, Read, Result, Source};
 use std::alloc::Global;
 
 /// The bytes of a slice. What is read is lent by the slice; parts that are joined stand in a buffer

@@ -2,17 +2,18 @@
 
 ghost use Rattle.std.specs.Prelude.{◌≡◌, ◌+◌, ◌<◌, ◌≤◌, [], length, IfOk, IfErr, Some};
 ghost use Rattle.cbor_io.specs.ReadError.{why, place};
-ghost use Rattle.cbor_io.specs.declared.read.read_error.ReadErrorCode.TheVariants.{EofWhileParsingValue, ScratchTooSmall};
+ghost use Rattle.cbor_io.specs.declared.read.read_error.ReadErrorCode.TheVariants.{ScratchTooSmall};
 
 use super::front::{byte_at, end_of};
 use super::{EitherLifetime, Offset, Read, ReadError, ReadErrorCode, Result, Source};
 
-/// The bytes of a slice. What is read is lent by the slice; parts that are joined stand in a scratch
-/// that the caller lends. `read_to_vec` takes memory, for the vector that it fills; no other call does.
+/// The bytes of a slice. What is read is lent by the slice; parts that are joined stand in a
+/// scratch that the caller lends. `read_to_vec` takes memory, for the vector that it fills; no
+/// other call does.
 ///
-/// Its calls answer `EofWhileParsingValue` where too few bytes are to come. `read_to_buffer` answers
-/// `ScratchTooSmall` where the bytes are there and what was joined would be longer than the scratch:
-/// at the present offset, with nothing taken. `read_to_vec` alone answers `OutOfMemory`.
+/// Its calls answer `EofWhileParsingValue` where too few bytes are to come. `read_to_buffer`
+/// answers `ScratchTooSmall` where the bytes are there and what was joined would be longer than the
+/// scratch: at the present offset, with nothing taken. `read_to_vec` alone answers `OutOfMemory`.
 ///
 /// ```rust
 /// let mut scratch = [0; 4];
@@ -37,8 +38,8 @@ impl<'a, 'b> SliceReadFixed<'a, 'b> {
     ghost use Rattle.cbor_io.specs.Source.{slice_input};
     ghost use Rattle.cbor_io.specs.Sources.{input_of_slice_fixed};
 
-    /// The bytes of this slice, none of them taken, and room for as many joined bytes as the scratch
-    /// is long.
+    /// The bytes of this slice, none of them taken, and room for as many joined bytes as the
+    /// scratch is long.
     pub fn new(slice: &'a [u8], scratch: &'b mut [u8]) -> SliceReadFixed<'a, 'b>
         ensures { input_of_slice_fixed result
             ≡ slice_input slice.now 0 [] (Some (length scratch.old)) }

@@ -61,10 +61,12 @@ impl Write for SliceWrite<'_> {
     ghost refuses = { λ s e. IsFull s e };
 
     fn write_all(&mut self, buf: &[u8]) -> Result<()>
-        ensures written { Wrote (Some (written_bytes self.old)) buf.now (Some (written_bytes self.new)) result }
+        ensures written { Wrote (Some (written_bytes self.old)) buf.now
+            (Some (written_bytes self.new)) result }
         ensures refused { IfErr result (λ e. IsFull self.new e) }
         // A piece that fits leaves the bytes behind it as they were.
-        ensures behind { OnOk result (unwritten_bytes self.new ≡ drop (length buf.now) (unwritten_bytes self.old)) }
+        ensures behind { OnOk result
+            (unwritten_bytes self.new ≡ drop (length buf.now) (unwritten_bytes self.old)) }
         // A piece is refused where it doesn't fit, and nothing of it is taken.
         ensures too_long { OnErr result (length (unwritten_bytes self.old) < length buf.now) }
         ensures kept { OnErr result (written_bytes self.new ≡ written_bytes self.old) }

@@ -1,8 +1,9 @@
 //! A source of a user's own: the bytes of a vector that it owns.
 
-ghost use Rattle.std.specs.Prelude.{◌≡◌, ◌+◌, ◌<◌, ◌≤◌, [], length, drop, None, IfOk, IfErr, vec_len};
+ghost use Rattle.std.specs.Prelude.{◌≡◌, ◌+◌, ◌<◌, ◌≤◌, [], length, drop, None, IfOk, IfErr};
+ghost use Rattle.std.specs.Prelude.{vec_len};
 ghost use Rattle.cbor_io.specs.ReadError.{why, place};
-ghost use Rattle.cbor_io.specs.declared.read.read_error.ReadErrorCode.TheVariants.{EofWhileParsingValue};
+ghost use Rattle.cbor_io.specs.declared.read.read_error.ReadErrorCode.TheVariants as refusal;
 
 use super::{Done, fills_a_vector, gives_all, joins_two_chunks, lent_by_source, tells_the_end};
 use crate::read::{EitherLifetime, Read, ReadError, Result, Source};
@@ -34,7 +35,7 @@ impl VecRead {
     fn end_of(&self, n: usize) -> Result<usize>
         ensures ok { IfOk result
             (λ end. (end ≡ self.now.taken + n) × (end ≤ vec_len self.now.bytes)) }
-        ensures err { IfErr result (λ e. (why e ≡ EofWhileParsingValue)
+        ensures err { IfErr result (λ e. (why e ≡ refusal.EofWhileParsingValue)
             × (place e ≡ vec_len self.now.bytes)
             × (vec_len self.now.bytes < self.now.taken + n)) }
     {

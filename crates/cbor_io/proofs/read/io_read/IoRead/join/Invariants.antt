@@ -5,7 +5,9 @@ use Rattle.cbor_io.specs.Sources.{input_of_reader}
 use Rattle.cbor_io.proofs.read.io_read.IoRead.join.Given as goal
 
 abbrev pub invariant-pieces : goal.invariant-pieces
-invariant-pieces g l = (length l.piece ≡ length l.initial.piece) × (l.left ≤ l.n) × Buffered (input_of_reader g.R.Read.remaining l.initial.self) (input_of_reader g.R.Read.remaining l.self) (l.n - l.left)
+invariant-pieces g l = (length l.piece ≡ length l.initial.piece) × (l.left ≤ l.n)
+    × Buffered (input_of_reader g.R.Read.remaining l.initial.self)
+    (input_of_reader g.R.Read.remaining l.self) (l.n - l.left)
 
 abbrev pub decreases-pieces : goal.decreases-pieces
 decreases-pieces g l = l.left

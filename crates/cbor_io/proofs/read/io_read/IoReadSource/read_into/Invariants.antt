@@ -5,7 +5,9 @@ use Rattle.cbor_io.specs.Sources.{input_of_reader}
 use Rattle.cbor_io.proofs.read.io_read.IoReadSource.read_into.Given as goal
 
 abbrev pub invariant-pieces : goal.invariant-pieces
-invariant-pieces g l = (length l.buf ≡ length l.initial.buf) × (l.filled ≤ length l.buf) × TookKept (input_of_reader g.R.Read.remaining l.initial.self) (input_of_reader g.R.Read.remaining l.self) (take l.filled l.buf)
+invariant-pieces g l = (length l.buf ≡ length l.initial.buf) × (l.filled ≤ length l.buf)
+    × TookKept (input_of_reader g.R.Read.remaining l.initial.self)
+    (input_of_reader g.R.Read.remaining l.self) (take l.filled l.buf)
 
 abbrev pub decreases-pieces : goal.decreases-pieces
 decreases-pieces g l = length l.initial.buf - l.filled

@@ -5,4 +5,6 @@ use Rattle.cbor_io.proofs.Inputs.{appended}
 use Rattle.cbor_io.proofs.read.slice_read_fixed.SliceReadFixedSource.read_to_buffer.Goals as goal
 
 pub returns-clause-ok : goal.returns-clause-ok
-returns-clause-ok c = appended _ _ _ _ _ _ _ _ c.in_ok-end.ensures.ok.0 c.in_ok-end.ensures.ok.1 (grind (arith, common_steps, take-put_mid {X = ℕ})) (ap Some (grind (arith, common_steps)))
+returns-clause-ok c =
+    appended _ _ _ _ _ _ _ _ c.in_ok-end.ensures.ok.0 c.in_ok-end.ensures.ok.1
+    (grind (arith, common_steps, take-put_mid {X = ℕ})) (ap Some (grind (arith, common_steps)))
