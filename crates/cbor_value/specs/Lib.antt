@@ -1,2 +1,3 @@
+pub mod Search
 pub mod View
 pub use Rattle.cbor_io.specs.Error

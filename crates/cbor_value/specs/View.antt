@@ -1,10 +1,10 @@
 -- What a `Value` stands for: a plain tree.
-use Rattle.std.specs.Prelude.{◌≡◌, ℕ, zero, suc, List, [], ◌∷◌, map, length, string_bytes, box_value}
-use Rattle.std.specs.Int.Digits.{digits_of}
+use Rattle.std.specs.FinMap.{FinMap}
+use Rattle.std.specs.Prelude.{ℕ, List, [], ◌∷◌, map, string_bytes, box_value}
 use Rattle.std.specs.Ordering.{ordering_then}
 use Rattle.std.specs.declared.cmp.Ordering.{Ordering}
-use Rattle.std.specs.declared.cmp.Ordering.TheVariants.{Equal, Greater}
-use Rattle.cbor_model.specs.Canonical.{IsBelow, IsOrdered}
+use Rattle.cbor_model.specs.Canonical.{IsOrdered}
+use Rattle.cbor_model.specs.FiniteMap.{finite_map}
 use Rattle.cbor_model.specs.Raw.{half, single, double}
 use Rattle.cbor_model.specs.Order.{flat, val_cmp}
 use Rattle.cbor_model.specs.Plain as plain
@@ -56,6 +56,14 @@ views vs = vals_of (map view vs)
 abbrev pub pair_views : List (Value × Value) → Pairs
 pair_views ps = pairs_of (map (λ p. (view p.0, view p.1)) ps)
 
+-- the finite map that a map's pairs list, where their keys ascend
+abbrev pub map_of : Map → FinMap val_cmp Val
+map_of m = finite_map (map_view m)
+
+-- the keys of the map, and of each map in its keys and values, strictly ascend
+abbrev pub IsMapOrdered : Map → Type 0
+IsMapOrdered m = IsOrdered (plain.map (map_view m))
+
 -- the maps in the pair's key and value list their keys in order
 abbrev pub IsPairOrdered : Value × Value → Type 0
 IsPairOrdered p = IsOrdered (view p.0) × IsOrdered (view p.1)
@@ -70,19 +78,3 @@ flat_of_float f = flat (float_view f)
 -- the order of two pairs, by their keys and then by their values
 abbrev pub pair_order : Value × Value → Value × Value → Ordering
 pair_order p q = ordering_then (val_cmp (view p.0) (view q.0)) (val_cmp (view p.1) (view q.1))
-
--- the i-th pair has the key k, and those before it have keys below k
-abbrev pub StandsAt : Val → ℕ → Pairs → Type 0
-StandsAt k i no_pairs = ⊥
-StandsAt k zero (pair l w ps) = val_cmp k l ≡ Equal
-StandsAt k (suc i) (pair l w ps) = (val_cmp k l ≡ Greater) × StandsAt k i ps
-
--- the key k is missing, and belongs before the i-th pair
-abbrev pub BelongsAt : Val → ℕ → Pairs → Type 0
-BelongsAt k zero ps = IsBelow k ps
-BelongsAt k (suc i) no_pairs = ⊥
-BelongsAt k (suc i) (pair l w ps) = (val_cmp k l ≡ Greater) × BelongsAt k i ps
-
--- how many binary digits the number has, 0 none
-abbrev pub binary_digits : ℕ → ℕ
-binary_digits n = length (digits_of 2 n)

@@ -9,7 +9,8 @@ use cbor_io::error::Result;
 use std::alloc::Global;
 
 impl Value {
-    /// An equal value in this memory. Where an allocation fails, what was copied until then is dropped.
+    /// An equal value in this memory. Where an allocation fails, what was copied until then is
+    /// dropped.
     ///
     /// ```rust
     /// let copy = value.clone(alloc)?;
@@ -23,7 +24,8 @@ impl Value {
 }
 
 impl Map {
-    /// An equal map in this memory. Where an allocation fails, what was copied until then is dropped.
+    /// An equal map in this memory. Where an allocation fails, what was copied until then is
+    /// dropped.
     pub fn clone(&self, alloc: Global) -> Result<Map>
         ensures equal { IfOk result (λ m. map_view m ≡ map_view self.now) }
         ensures memory { IfErr result IsOutOfMemory }

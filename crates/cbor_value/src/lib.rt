@@ -1,9 +1,9 @@
 //! Any value that CBOR spells, as a tree.
 //!
 //! [`Value`] and [`Map`] with their order, copies and conversions. It names the definitions of
-//! `cbor_model`, its facts on the order and on maps, and the error of `cbor_io`. The crates above rely
-//! on the contracts of its public calls, on `specs/View.antt` (the tree of the model that a value
-//! stands for), and on the facts of `proofs/facts`.
+//! `cbor_model`, its facts on the order and on maps, and the error of `cbor_io`. The crates above
+//! rely on the contracts of its public calls, on `specs/View.antt` (the tree of the model that a
+//! value stands for), and on the facts of `proofs/facts`.
 #![tactic(auto)]
 
 mod clone;
@@ -14,7 +14,8 @@ mod pairs;
 /// A float as it was read: its width, and its bits by IEEE 754.
 ///
 /// Two floats are equal where width and bits are, so `1.0` of 16 bits isn't `1.0` of 64 bits, and a
-/// NaN equals itself. The order is that of the widths, and then that of the bits, as it is among values.
+/// NaN equals itself. The order is that of the widths, and then that of the bits, as it is among
+/// values.
 #[derive(Clone, Copy, Debug)]
 pub enum Float {
     /// 16 bits.
@@ -27,10 +28,11 @@ pub enum Float {
 
 /// Any CBOR value.
 ///
-/// Values are ordered by their kind: whole numbers from 0, those below 0, byte strings, texts, arrays,
-/// maps, tags, then false, true, null and floats. Within a kind the smaller head comes first (a number
-/// nearer to 0, a shorter string or text, fewer items or pairs, a smaller tag), and then the content,
-/// from its front. They are equal where nothing of that differs. Comparing takes no memory.
+/// Values are ordered by their kind: whole numbers from 0, those below 0, byte strings, texts,
+/// arrays, maps, tags, then false, true, null and floats. Within a kind the smaller head comes
+/// first (a number nearer to 0, a shorter string or text, fewer items or pairs, a smaller tag), and
+/// then the content, from its front. They are equal where nothing of that differs. Comparing takes
+/// no memory.
 ///
 /// That is the byte order of the values' canonical spellings: of two values that `to_vec` writes,
 /// `a.cmp(&b)` is how their bytes compare, so what is sorted by value is sorted by its bytes. A
@@ -62,10 +64,11 @@ pub enum Value {
 
 /// A map from values to values, which lists its pairs in the order of the keys.
 ///
-/// Of n pairs, `get`, `contains_key`, `insert` and `remove` compare a key with at most as many as n has
-/// binary digits; `insert` of a key that is new, and `remove`, then move the pairs behind it. So many
-/// pairs are best put in at once: `from_pairs` compares n - 1 times where the keys ascend already, and
-/// else in the order of n log n times. The other calls take the same time whatever n is.
+/// Of n pairs, `get`, `contains_key`, `insert` and `remove` compare a key with at most as many as n
+/// has binary digits; `insert` of a key that is new, and `remove`, then move the pairs behind it.
+/// So many pairs are best put in at once: `from_pairs` compares n - 1 times where the keys ascend
+/// already, and else in the order of n log n times. The other calls take the same time whatever n
+/// is.
 #[cycle(value)]
 #[derive(Debug, Drop)]
 pub struct Map {

@@ -3,10 +3,12 @@
 ghost use Rattle.std.specs.Prelude.{◌≡◌, ◌∷◌, nat_eq, Some, refl, length, slice_index};
 ghost use Rattle.std.specs.Ordering.{nat_cmp};
 ghost use Rattle.std.specs.Cmp.{on_per, on_equiv, on_po, on_total, partial_equiv_from_equiv};
-ghost use Rattle.std.specs.Cmp.Lexicographic.{pointwise, slice_cmp, nat_list_eq_equiv, nat_list_cmp_total, texts_ties, texts_po};
+ghost use Rattle.std.specs.Cmp.Lexicographic.{pointwise, slice_cmp, nat_list_eq_equiv};
+ghost use Rattle.std.specs.Cmp.Lexicographic.{nat_list_cmp_total, texts_ties, texts_po};
 ghost use Rattle.cbor_model.specs.Plain.{array, integer, map};
 ghost use Rattle.cbor_model.specs.Order.{lex, flat, major_type, body, val_cmp};
-ghost use Rattle.cbor_value.specs.View.{view, views, float_view, pair_views, flat_of, flat_of_float};
+ghost use Rattle.cbor_value.specs.View.{view, views, float_view, pair_views, flat_of};
+ghost use Rattle.cbor_value.specs.View.{flat_of_float};
 
 use super::{Float, Value};
 use std::cmp::Ordering;
@@ -201,7 +203,7 @@ impl PartialEq for Float {
 
     ghost laws = { on_per flat_of_float (partial_equiv_from_equiv nat_list_eq_equiv) };
 
-    #[tactic(auto, using(crate::proofs::Comparing::floats_tied), unfolding(crate::specs::View::flat_of_float))]
+    #[tactic(auto, using(crate::proofs::Comparing::tied), unfolding(crate::specs::View::flat_of_float))]
     fn eq(&self, other: &Float) -> bool {
         cmp_floats(self, other).is_eq()
     }

@@ -1,6 +1,7 @@
 //! Maps: their pairs stand in a list, in the order of the keys.
 
-ghost use Rattle.std.specs.Prelude.{◌≡◌, ◌+◌, ◌-◌, ◌^◌, ◌==◌, ◌<◌, ◌≤◌, length, true, ◌↔◌, IsOk, IfOk, OnOk, OnErr, IfErr, MatchResult, Some};
+ghost use Rattle.std.specs.Prelude.{◌≡◌, ◌+◌, ◌-◌, ◌^◌, ◌==◌, ◌<◌, ◌≤◌, length, true, ◌↔◌, IsOk};
+ghost use Rattle.std.specs.Prelude.{IfOk, OnOk, OnErr, IfErr, Some};
 ghost use Rattle.std.specs.List.{All};
 ghost use Rattle.std.specs.Option.{option_map};
 ghost use Rattle.std.specs.Slice.Iter.{iter_rest};
@@ -10,9 +11,11 @@ ghost use Rattle.cbor_model.specs.Plain.{Val, no_pairs, pair_count};
 ghost use Rattle.cbor_model.specs.Order.{lex, flat, val_cmp};
 ghost use Rattle.cbor_model.specs.Canonical.{KeysAscend, IsOrdered};
 ghost use Rattle.cbor_model.specs.Value.{put};
-ghost use Rattle.cbor_model.specs.FiniteMap.{finite_map, first_pair, last_pair, put_all, without};
+ghost use Rattle.cbor_model.specs.FiniteMap.{first_pair, last_pair, put_all, without};
 ghost use Rattle.cbor_io.specs.Error.{IsOutOfMemory};
-ghost use Rattle.cbor_value.specs.View.{view, map_view, pair_views, IsPairOrdered, StandsAt, BelongsAt, binary_digits};
+ghost use Rattle.cbor_value.specs.View.{view, map_view, map_of, pair_views, IsMapOrdered};
+ghost use Rattle.cbor_value.specs.View.{IsPairOrdered};
+ghost use Rattle.cbor_value.specs.Search.{StandsAt, IsPlaceIn, IsPlaceOf, binary_digits};
 
 use super::{Map, Value};
 use cbor_io::error;
@@ -35,19 +38,21 @@ impl Map {
         }
     }
 
-    /// The map that these pairs give, put in one after the other: of equal keys the last pair stays.
+    /// The map that these pairs give, put in one after the other: of equal keys the last pair
+    /// stays.
     ///
-    /// Where the keys ascend the pairs stay where they are, which takes no memory. Else they are sorted,
-    /// which can answer `OutOfMemory`: the pairs are dropped then.
+    /// Where the keys ascend the pairs stay where they are, which takes no memory. Else they are
+    /// sorted, which can answer `OutOfMemory`: the pairs are dropped then.
     ///
     /// ```rust
-    /// let pairs = vec![in alloc; (Value::Integer(2), Value::Null), (Value::Integer(1), Value::Null)]?;
+    /// let (one, two) = (Value::Integer(1), Value::Integer(2));
+    /// let pairs = vec![in alloc; (two, Value::Null), (one, Value::Null)]?;
     /// let map = Map::from_pairs(pairs)?;
     /// ```
     pub fn from_pairs(mut pairs: Vec<(Value, Value)>) -> error::Result<Map>
         ensures listed { IfOk result (λ m. map_view m ≡ put_all (pair_views pairs.items) no_pairs) }
         ensures ascending { IfOk result (λ m. KeysAscend (map_view m)) }
-        ensures ordered { IfOk result (λ m. All IsPairOrdered pairs.items → IsOrdered (plain.map (map_view m))) }
+        ensures ordered { IfOk result (λ m. All IsPairOrdered pairs.items → IsMapOrdered m) }
         ensures unrefused { KeysAscend (pair_views pairs.items) → IsOk result }
         ensures memory { IfErr result IsOutOfMemory }
     {
@@ -63,8 +68,8 @@ impl Map {
 
     /// Puts a pair in, and answers the value that the key had before.
     ///
-    /// The map grows only where the key is new. Where its allocation fails, the map stays as it was, and
-    /// the pair is dropped.
+    /// The map grows only where the key is new. Where its allocation fails, the map stays as it
+    /// was, and the pair is dropped.
     ///
     /// ```rust
     /// let mut map = Map::new(alloc);
@@ -72,11 +77,15 @@ impl Map {
     /// assert_eq!(rt; map.insert(Value::Integer(1), Value::Bool(true))?, Some(Value::Null));
     /// ```
     pub fn insert(&mut self, key: Value, value: Value) -> error::Result<Option<Value>>
-        ensures before { IfOk result (λ before. KeysAscend (map_view self.old) → option_map view before ≡ finmap.get (finite_map (map_view self.old)) (view key)) }
-        ensures inserted { OnOk result (KeysAscend (map_view self.old) → finite_map (map_view self.new) ≡ finmap.insert (finite_map (map_view self.old)) (view key) (view value)) }
-        ensures listed { OnOk result (KeysAscend (map_view self.old) → map_view self.new ≡ put (view key) (view value) (map_view self.old)) }
+        ensures before { IfOk result (λ before. KeysAscend (map_view self.old)
+            → option_map view before ≡ finmap.get (map_of self.old) (view key)) }
+        ensures inserted { OnOk result (KeysAscend (map_view self.old)
+            → map_of self.new ≡ finmap.insert (map_of self.old) (view key) (view value)) }
+        ensures listed { OnOk result (KeysAscend (map_view self.old)
+            → map_view self.new ≡ put (view key) (view value) (map_view self.old)) }
         ensures ascending { KeysAscend (map_view self.old) → KeysAscend (map_view self.new) }
-        ensures ordered { IsOrdered (plain.map (map_view self.old)) → IsOrdered (view key) → IsOrdered (view value) → IsOrdered (plain.map (map_view self.new)) }
+        ensures ordered { IsMapOrdered self.old → IsOrdered (view key) → IsOrdered (view value)
+            → IsMapOrdered self.new }
         ensures err { OnErr result (map_view self.new ≡ map_view self.old) }
         ensures memory { IfErr result IsOutOfMemory }
     {
@@ -97,16 +106,18 @@ impl Map {
     /// }
     /// ```
     pub fn get(&self, key: &Value) -> Option<&Value>
-        ensures { KeysAscend (map_view self.now) → option_map (λ v. view v.now) result ≡ finmap.get (finite_map (map_view self.now)) (view key.now) }
+        ensures { KeysAscend (map_view self.now)
+            → option_map (λ v. view v.now) result ≡ finmap.get (map_of self.now) (view key.now) }
     {
         let (value, _) = self.get_counted(key);
         value
     }
 
-    /// The value of a key as by `get`, and with how many keys the search compared it: with at most as
-    /// many as the number of pairs has binary digits, and with none where there are no pairs.
+    /// The value of a key as by `get`, and with how many keys the search compared it: with at most
+    /// as many as the number of pairs has binary digits, and with none where there are no pairs.
     pub fn get_counted(&self, key: &Value) -> (Option<&Value>, u32)
-        ensures found { KeysAscend (map_view self.now) → option_map (λ v. view v.now) result.0 ≡ finmap.get (finite_map (map_view self.now)) (view key.now) }
+        ensures found { KeysAscend (map_view self.now)
+            → option_map (λ v. view v.now) result.0 ≡ finmap.get (map_of self.now) (view key.now) }
         ensures few { result.1 ≤ binary_digits (pair_count (map_view self.now)) }
         ensures some { result.1 ≡ 0 → pair_count (map_view self.now) ≡ 0 }
     {
@@ -123,7 +134,8 @@ impl Map {
 
     /// Whether it has the key.
     pub fn contains_key(&self, key: &Value) -> bool
-        ensures { KeysAscend (map_view self.now) → result ≡ finmap.contains_key (finite_map (map_view self.now)) (view key.now) }
+        ensures { KeysAscend (map_view self.now)
+            → result ≡ finmap.contains_key (map_of self.now) (view key.now) }
     {
         self.get(key).is_some()
     }
@@ -132,11 +144,14 @@ impl Map {
     ///
     /// Where the map lacks the key it stays as it was, and the answer is `None`.
     pub fn remove(&mut self, key: &Value) -> Option<Value>
-        ensures before { KeysAscend (map_view self.old) → option_map view result ≡ finmap.get (finite_map (map_view self.old)) (view key.now) }
-        ensures removed { KeysAscend (map_view self.old) → finite_map (map_view self.new) ≡ finmap.remove (finite_map (map_view self.old)) (view key.now) }
-        ensures listed { KeysAscend (map_view self.old) → map_view self.new ≡ without (view key.now) (map_view self.old) }
+        ensures before { KeysAscend (map_view self.old)
+            → option_map view result ≡ finmap.get (map_of self.old) (view key.now) }
+        ensures removed { KeysAscend (map_view self.old)
+            → map_of self.new ≡ finmap.remove (map_of self.old) (view key.now) }
+        ensures listed { KeysAscend (map_view self.old)
+            → map_view self.new ≡ without (view key.now) (map_view self.old) }
         ensures ascending { KeysAscend (map_view self.old) → KeysAscend (map_view self.new) }
-        ensures ordered { IsOrdered (plain.map (map_view self.old)) → IsOrdered (plain.map (map_view self.new)) }
+        ensures ordered { IsMapOrdered self.old → IsMapOrdered self.new }
     {
         match self.position(key) {
             Ok(i) => {
@@ -150,7 +165,7 @@ impl Map {
     /// How many pairs it has.
     pub fn len(&self) -> usize
         ensures listed { result ≡ pair_count (map_view self.now) }
-        ensures counted { KeysAscend (map_view self.now) → result ≡ finmap.len (finite_map (map_view self.now)) }
+        ensures counted { KeysAscend (map_view self.now) → result ≡ finmap.len (map_of self.now) }
     {
         self.pairs.len()
     }
@@ -164,14 +179,16 @@ impl Map {
 
     /// The pair of the least key, or `None` where it has no pairs.
     pub fn first_key_value(&self) -> Option<(&Value, &Value)>
-        ensures { option_map (λ p. (view p.0.now, view p.1.now)) result ≡ first_pair (map_view self.now) }
+        ensures { option_map (λ p. (view p.0.now, view p.1.now)) result
+            ≡ first_pair (map_view self.now) }
     {
         self.pairs.first().map(|pair| (&pair.0, &pair.1))
     }
 
     /// The pair of the greatest key, or `None` where it has no pairs.
     pub fn last_key_value(&self) -> Option<(&Value, &Value)>
-        ensures { option_map (λ p. (view p.0.now, view p.1.now)) result ≡ last_pair (map_view self.now) }
+        ensures { option_map (λ p. (view p.0.now, view p.1.now)) result
+            ≡ last_pair (map_view self.now) }
     {
         match self.pairs.last() {
             Some(pair) => Some((&pair.0, &pair.1)),
@@ -208,8 +225,9 @@ impl Map {
 
     /// Where the key stands, or else where it belongs.
     fn position(&self, key: &Value) -> Result<usize, usize>
-        ensures in_range { MatchResult result (λ i. i < length self.now.pairs.items) (λ i. i ≤ length self.now.pairs.items) }
-        ensures found { KeysAscend (map_view self.now) → MatchResult result (λ i. StandsAt (view key.now) i (map_view self.now)) (λ i. BelongsAt (view key.now) i (map_view self.now)) }
+        ensures in_range { IsPlaceIn (length self.now.pairs.items) result }
+        ensures found { KeysAscend (map_view self.now)
+            → IsPlaceOf (view key.now) (map_view self.now) result }
     {
         let mut count = 0;
         self.search(key, &mut count)
@@ -218,8 +236,9 @@ impl Map {
     /// The key's position, by halves; it counts the keys that it is compared with.
     fn search(&self, key: &Value, count: &mut u32) -> Result<usize, usize>
         requires { count.old ≡ 0 }
-        ensures in_range { MatchResult result (λ i. i < length self.now.pairs.items) (λ i. i ≤ length self.now.pairs.items) }
-        ensures found { KeysAscend (map_view self.now) → MatchResult result (λ i. StandsAt (view key.now) i (map_view self.now)) (λ i. BelongsAt (view key.now) i (map_view self.now)) }
+        ensures in_range { IsPlaceIn (length self.now.pairs.items) result }
+        ensures found { KeysAscend (map_view self.now)
+            → IsPlaceOf (view key.now) (map_view self.now) result }
         ensures few { count.new ≤ binary_digits (pair_count (map_view self.now)) }
         ensures some { count.new ≡ 0 → pair_count (map_view self.now) ≡ 0 }
     {
@@ -240,8 +259,10 @@ impl Map {
     /// Gives the i-th pair another value, and answers the one that it had.
     fn replace(&mut self, i: usize, value: Value) -> Value
         requires { i < length self.old.pairs.items }
-        ensures before { (k : Val) → StandsAt k i (map_view self.old) → Some (view result) ≡ finmap.get (finite_map (map_view self.old)) k }
-        ensures listed { (k : Val) → StandsAt k i (map_view self.old) → map_view self.new ≡ put k (view value) (map_view self.old) }
+        ensures before { (k : Val) → StandsAt k i (map_view self.old)
+            → Some (view result) ≡ finmap.get (map_of self.old) k }
+        ensures listed { (k : Val) → StandsAt k i (map_view self.old)
+            → map_view self.new ≡ put k (view value) (map_view self.old) }
     {
         let pair = &mut self.pairs[i];
         mem::replace(&mut pair.1, value)

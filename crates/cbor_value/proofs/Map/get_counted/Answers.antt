@@ -8,7 +8,11 @@ returns-in-Ok-clause-found c =
     let m = c.args.self.now in
     λ ascend.
     let stands = rw (map_view_is m) at (c.in-Ok.ensures.found ascend) in
-    rw (map_view_is m) (get-StandsAt (view c.args.key.now) c.in-Ok.i m.pairs.items c.index-pair.result.now c.index-pair.ensures stands)
+    rw (map_view_is m) (get-StandsAt
+    (view c.args.key.now) c.in-Ok.i m.pairs.items c.index-pair.result.now c.index-pair.ensures
+    stands)
 
 pub returns-in-Err-clause-found : goal.returns-in-Err-clause-found
-returns-in-Err-clause-found c = λ ascend. get-BelongsAt _ c.in-Err.field-0 (map_view c.args.self.now) (c.in-Err.ensures.found ascend) ascend
+returns-in-Err-clause-found c =
+    λ ascend. get-BelongsAt _ c.in-Err.field-0 (map_view c.args.self.now)
+    (c.in-Err.ensures.found ascend) ascend

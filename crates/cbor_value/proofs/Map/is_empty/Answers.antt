@@ -8,4 +8,5 @@ pub returns : goal.returns
 returns c =
     let m = c.args.self.now in
     let same : vec_len m.pairs ≡ length m.pairs.items = search rules in
-    c.is_empty.ensures ∙ ap (λ (n : ℕ). eqb n 0) (same ∙ sym (ap pair_count (map_view_is m) ∙ pair_count_pair_views m.pairs.items))
+    c.is_empty.ensures ∙ ap (λ (n : ℕ). eqb n 0)
+    (same ∙ sym (ap pair_count (map_view_is m) ∙ pair_count_pair_views m.pairs.items))

@@ -12,4 +12,5 @@ returns-clause-listed c =
     same ∙ sym (ap pair_count (map_view_is m) ∙ pair_count_pair_views m.pairs.items)
 
 pub returns-clause-counted : goal.returns-clause-counted
-returns-clause-counted c = λ ascend. returns-clause-listed c ∙ sym (len-finite_map (map_view c.args.self.now) ascend)
+returns-clause-counted c = λ ascend. returns-clause-listed c
+    ∙ sym (len-finite_map (map_view c.args.self.now) ascend)

@@ -1,6 +1,7 @@
 use Rattle.std.proofs.Common.{◌≡◌, ◌+◌, ◌-◌, ◌≤◌, drop, length}
 use Rattle.cbor_model.specs.Canonical.{IsBelow, KeysAscend}
-use Rattle.cbor_value.specs.View.{view, map_view, pair_views, binary_digits}
+use Rattle.cbor_value.specs.Search.{binary_digits}
+use Rattle.cbor_value.specs.View.{view, map_view, pair_views}
 use Rattle.cbor_value.proofs.Maps.{Passed}
 use Rattle.cbor_value.proofs.Map.search.Given as goal
 
