@@ -1,5 +1,6 @@
 -- Hexadecimal has one reading, and a line one answer.
-use Rattle.std.proofs.Common.{◌≡◌, ℕ, suc, ◌-◌, ◌/◌, ◌%◌, ◌<◌, List, [], ◌∷◌, ◌++◌, length, Result, Err, refl, sym, ap, ◌∙◌, arith}
+use Rattle.std.proofs.Common.{◌≡◌, ℕ, suc, ◌-◌, ◌/◌, ◌%◌, ◌<◌, List, [], ◌∷◌, ◌++◌, length, Result}
+use Rattle.std.proofs.Common.{Err, refl, sym, ap, ◌∙◌, arith}
 use Rattle.std.specs.Prelude.{codes}
 use Rattle.std.proofs.lemmas.Bool.Decides.{nat_tests}
 use Rattle.std.proofs.lemmas.List.{append-nil}
@@ -11,7 +12,8 @@ use Rattle.cbor_model.specs.Canonical.{canon}
 use Rattle.cbor_model.specs.Refusal.{words, at_offset}
 use Rattle.cbor_model.specs.Plain.{Val}
 use Rattle.cbor_model.specs.Reader.{Fault, read_value}
-use Rattle.cbor_tool.specs.Answer.{hex_digit, hex, IsHexOf, IsRefusalText, canonical, refused, not_hexadecimal, OneAnswer}
+use Rattle.cbor_tool.specs.Answer.{hex_digit, hex, IsHexOf, IsRefusalText, canonical, refused}
+use Rattle.cbor_tool.specs.Answer.{not_hexadecimal, OneAnswer}
 use Rattle.cbor_model.proofs.Proved.{one_spelling}
 
 -- ---- hexadecimal
@@ -19,10 +21,13 @@ use Rattle.cbor_model.proofs.Proved.{one_spelling}
 hex_digit_unique : (n k : ℕ) → n < 16 → k < 16 → hex_digit n ≡ hex_digit k → n ≡ k
 hex_digit_unique n k small small' same = grind (arith, nat_tests)
 
-byte_unique : (x y : ℕ) → x < 256 → y < 256 → hex_digit (x / 16) ≡ hex_digit (y / 16) → hex_digit (x % 16) ≡ hex_digit (y % 16) → x ≡ y
+byte_unique : (x y : ℕ) → x < 256 → y < 256 → hex_digit (x / 16) ≡ hex_digit (y / 16)
+    → hex_digit (x % 16) ≡ hex_digit (y % 16) → x ≡ y
 byte_unique x y small small' high low =
-    let high_same : x / 16 ≡ y / 16 = hex_digit_unique (x / 16) (y / 16) (omega arith) (omega arith) high in
-    let low_same : x % 16 ≡ y % 16 = hex_digit_unique (x % 16) (y % 16) (omega arith) (omega arith) low in
+    let high_same : x / 16 ≡ y / 16 =
+    hex_digit_unique (x / 16) (y / 16) (omega arith) (omega arith) high in
+    let low_same : x % 16 ≡ y % 16 =
+    hex_digit_unique (x % 16) (y % 16) (omega arith) (omega arith) low in
     omega arith
 
 bytes_unique : (a b : List ℕ) → AreBytes a → AreBytes b → hex a ≡ hex b → a ≡ b
@@ -38,13 +43,15 @@ bytes_unique (x ∷ a) (y ∷ b) fits fits' same =
     cc
 
 pub hex_unique : (line a b : List ℕ) → IsHexOf line a → IsHexOf line b → a ≡ b
-hex_unique line a b one other = bytes_unique a b one.are_bytes other.are_bytes (sym one.digits ∙ other.digits)
+hex_unique line a b one other =
+    bytes_unique a b one.are_bytes other.are_bytes (sym one.digits ∙ other.digits)
 
 -- ---- answers
 
 -- items of one spelling are one
 same_item : (r s : Raw) → IsAcceptable r → IsAcceptable s → spell r ≡ spell s → r ≡ s
-same_item r s good good' same = (one_spelling r s [] good.fits good'.fits (append-nil (spell r) ∙ same)).0
+same_item r s good good' same =
+    (one_spelling r s [] good.fits good'.fits (append-nil (spell r) ∙ same)).0
 
 abbrev refusal : Fault → Result Val Fault
 refusal d = Err d
@@ -53,20 +60,34 @@ err_is : (d e : Fault) → refusal d ≡ refusal e → d ≡ e
 err_is d e same = cc
 
 -- the same bytes are refused with the same text
-refusal_unique : (bytes bytes' text text' : List ℕ) → bytes ≡ bytes' → IsRefusalText bytes text → IsRefusalText bytes' text' → text ≡ text'
+refusal_unique : (bytes bytes' text text' : List ℕ) → bytes ≡ bytes' → IsRefusalText bytes text
+    → IsRefusalText bytes' text' → text ≡ text'
 refusal_unique bytes bytes' text text' same one other =
-    let fault_same : one.fault ≡ other.fault = err_is one.fault other.fault (sym one.refused ∙ ap read_value same ∙ other.refused) in
-    one.is ∙ ap (λ (d : Fault). words d.why ++ at_offset (length bytes - d.left)) fault_same ∙ ap (λ (b : List ℕ). words other.fault.why ++ at_offset (length b - other.fault.left)) same ∙ sym other.is
+    let fault_same : one.fault ≡ other.fault =
+    err_is one.fault other.fault (sym one.refused ∙ ap read_value same ∙ other.refused) in
+    one.is ∙ ap (λ (d : Fault). words d.why ++ at_offset (length bytes - d.left)) fault_same
+    ∙ ap (λ (b : List ℕ). words other.fault.why ++ at_offset (length b - other.fault.left)) same
+    ∙ sym other.is
 
 pub one_answer : OneAnswer
 one_answer line a b (canonical r good digits is) (canonical s good' digits' is') =
-    is ∙ ap (λ (i : Raw). hex (canon (value i))) (same_item r s good good' (hex_unique line (spell r) (spell s) digits digits')) ∙ sym is'
-one_answer line a b (canonical r good digits is) (refused bytes text digits' none why is') = absurd (none r good (hex_unique line (spell r) bytes digits digits'))
-one_answer line a b (canonical r good digits is) (not_hexadecimal none is') = absurd (none (spell r) digits)
-one_answer line a b (refused bytes text digits none why is) (canonical s good' digits' is') = absurd (none s good' (hex_unique line (spell s) bytes digits' digits))
-one_answer line a b (refused bytes text digits none why is) (refused bytes' text' digits' none' why' is') =
-    is ∙ ap (λ (t : List ℕ). codes "error: " ++ t) (refusal_unique bytes bytes' text text' (hex_unique line bytes bytes' digits digits') why why') ∙ sym is'
-one_answer line a b (refused bytes text digits none why is) (not_hexadecimal none' is') = absurd (none' bytes digits)
-one_answer line a b (not_hexadecimal none is) (canonical s good' digits' is') = absurd (none (spell s) digits')
-one_answer line a b (not_hexadecimal none is) (refused bytes' text' digits' none' why' is') = absurd (none bytes' digits')
+    is ∙ ap (λ (i : Raw). hex (canon (value i)))
+    (same_item r s good good' (hex_unique line (spell r) (spell s) digits digits')) ∙ sym is'
+one_answer line a b (canonical r good digits is) (refused bytes text digits' none why is') =
+    absurd (none r good (hex_unique line (spell r) bytes digits digits'))
+one_answer line a b (canonical r good digits is) (not_hexadecimal none is') =
+    absurd (none (spell r) digits)
+one_answer line a b (refused bytes text digits none why is) (canonical s good' digits' is') =
+    absurd (none s good' (hex_unique line (spell s) bytes digits' digits))
+one_answer line a b (refused bytes text digits none why is)
+    (refused bytes' text' digits' none' why' is') =
+    is ∙ ap (λ (t : List ℕ). codes "error: " ++ t)
+    (refusal_unique bytes bytes' text text'
+    (hex_unique line bytes bytes' digits digits') why why') ∙ sym is'
+one_answer line a b (refused bytes text digits none why is) (not_hexadecimal none' is') =
+    absurd (none' bytes digits)
+one_answer line a b (not_hexadecimal none is) (canonical s good' digits' is') =
+    absurd (none (spell s) digits')
+one_answer line a b (not_hexadecimal none is) (refused bytes' text' digits' none' why' is') =
+    absurd (none bytes' digits')
 one_answer line a b (not_hexadecimal none is) (not_hexadecimal none' is') = is ∙ sym is'

@@ -1,5 +1,7 @@
 -- Why a run stops, and what it has done by then.
-use Rattle.std.proofs.Common.{◌≡◌, ◌≢◌, ℕ, ◌+◌, ◌==◌, Bool, true, false, List, [], ◌∷◌, ◌++◌, length, ◌⊎◌, Option, inl, inr, refl, sym, ap, ◌∙◌, arith, append_assoc, append-nil, length-append}
+use Rattle.std.proofs.Common.{◌≡◌, ◌≢◌, ℕ, ◌+◌, ◌==◌, Bool, true, false, List, [], ◌∷◌, ◌++◌}
+use Rattle.std.proofs.Common.{length, ◌⊎◌, Option, inl, inr, refl, sym, ap, ◌∙◌, arith}
+use Rattle.std.proofs.Common.{append_assoc, append-nil, length-append}
 use Rattle.std.specs.Prelude.{IfSome, None, Some}
 use Rattle.std.specs.Io.KnownBytes.{Consumes, IsAtEnd}
 use Rattle.std.proofs.KnownBytes.{Consumes-nil, Consumes-kept, Consumes-trans}
@@ -13,40 +15,65 @@ use Rattle.serde_cbor.specs.declared.error.Error.{Error}
 use Rattle.serde_cbor.specs.Error.{code_of, offset_of, IsOutOfMemory}
 use Rattle.cbor_tool.specs.declared.program.End.TheVariants.{Newline, Input}
 use Rattle.cbor_tool.specs.Run.{AppendsAnswers, IsStoppedBy, IsStopped, ended_lines}
-use Rattle.cbor_tool.specs.Steps.{IsInLine, IsNextLine, StopsAtByteBy, StopsAtByte, StopsReadingBy, StopsReading, StopsAnsweringBy, StopsAnswering}
-use Rattle.cbor_tool.proofs.Lines.{IsWhole, IsWhole-nil, IsWhole-line, lines-last, ended_lines-last, ended_lines-whole, lines-whole_line}
+use Rattle.cbor_tool.specs.Steps.{IsInLine, IsNextLine, StopsAtByteBy, StopsAtByte, StopsReadingBy}
+use Rattle.cbor_tool.specs.Steps.{StopsReading, StopsAnsweringBy, StopsAnswering}
+use Rattle.cbor_tool.proofs.Lines.{IsWhole, IsWhole-nil, IsWhole-line, lines-last, ended_lines-last}
+use Rattle.cbor_tool.proofs.Lines.{ended_lines-whole, lines-whole_line}
 use Rattle.cbor_tool.proofs.Answers.{AppendsAnswers-nil, AppendsAnswers-append, AppendsAnswers-kept}
 use Rattle.cbor_tool.proofs.Writing.{AppendsUpTo-append}
 
 pub IsInLine-more : (line : List ℕ) (b : ℕ) → IsInLine line → b ≢ 0x0a → IsInLine (line ++ b ∷ [])
-IsInLine-more line b h ne = All-append (λ x. x ≢ 0x0a) line (b ∷ []) h (All-cons (λ x. x ≢ 0x0a) b [] ne (All-nil (λ x. x ≢ 0x0a)))
+IsInLine-more line b h ne =
+    All-append (λ x. x ≢ 0x0a) line (b ∷ []) h
+    (All-cons (λ x. x ≢ 0x0a) b [] ne (All-nil (λ x. x ≢ 0x0a)))
 
-pub not_empty : (n : ℕ) (items : List ℕ) (is_empty : Bool) → n ≡ length items → is_empty ≡ (n == 0) → is_empty ≡ false → items ≢ []
-not_empty n items is_empty long tested is none = let zero : n ≡ 0 = long ∙ ap length none in grind (arith, nat_tests)
+pub not_empty : (n : ℕ) (items : List ℕ) (is_empty : Bool) → n ≡ length items → is_empty ≡ (n == 0)
+    → is_empty ≡ false → items ≢ []
+not_empty n items is_empty long tested is none = let zero : n ≡ 0 = long
+    ∙ ap length none in grind (arith, nat_tests)
 
-pub empty : (n : ℕ) (items : List ℕ) (is_empty : Bool) → n ≡ length items → is_empty ≡ (n == 0) → is_empty ≡ true → items ≡ []
+pub empty : (n : ℕ) (items : List ℕ) (is_empty : Bool) → n ≡ length items → is_empty ≡ (n == 0)
+    → is_empty ≡ true → items ≡ []
 empty n [] is_empty long tested is = refl
-empty n (x ∷ items) is_empty long tested is = let zero = eqb-true n 0 (sym tested ∙ is) in absurd (omega arith)
+empty n (x ∷ items) is_empty long tested is = let zero = eqb-true n 0 (sym tested ∙ is) in
+    absurd (omega arith)
 
 -- a reader that is at its end gave all that it had
-IfSome-consumed : (a b : Option (List ℕ)) (bytes : List ℕ) (P : List ℕ → Type 0) → Consumes a b bytes → IsAtEnd b → P bytes → IfSome a P
+IfSome-consumed : (a b : Option (List ℕ)) (bytes : List ℕ) (P : List ℕ → Type 0)
+    → Consumes a b bytes → IsAtEnd b → P bytes → IfSome a P
 IfSome-consumed None b bytes P consumed end h = tt
 IfSome-consumed (Some xs) None bytes P consumed end h = absurd consumed
-IfSome-consumed (Some xs) (Some ys) bytes P consumed end h = rw (consumed ∙ ap (λ l. bytes ++ l) end ∙ append-nil bytes) h
+IfSome-consumed (Some xs) (Some ys) bytes P consumed end h =
+    rw (consumed ∙ ap (λ l. bytes ++ l) end ∙ append-nil bytes) h
 
 -- ---- reading
 
-reading_by : (code : ErrorCode) (offset : ℕ) (line : List ℕ) (start count : ℕ) (a b c : Option (List ℕ)) → IsInLine line → count ≡ start + length line
+reading_by : (code : ErrorCode) (offset : ℕ) (line : List ℕ) (start count : ℕ)
+    (a b c : Option (List ℕ)) → IsInLine line → count ≡ start + length line
     → Consumes a b line → StopsAtByteBy code offset count b c → StopsReadingBy code offset start a c
-reading_by (Io fault) offset line start count a b c in_line counted consumed (is, kept) =
-    (is, record { line = line; in_line = in_line; consumed = Consumes-kept a b c line consumed kept })
-reading_by LengthOutOfRange offset line start count a b c in_line counted consumed (is, full, (past, more)) = (
+reading_by (Io fault) offset line start count a b c in_line counted consumed (is, kept) = (
   is,
-  record { line = line; past = past; in_line = in_line; sum = sym counted ∙ full; consumed = Consumes-trans a b c line (past ∷ []) consumed more },
+  record {
+    line = line;
+    in_line = in_line;
+    consumed = Consumes-kept a b c line consumed kept;
+  },
 )
+reading_by LengthOutOfRange offset line start count a b c in_line counted consumed
+    (is, full, (past, more)) = (
+      is,
+      record {
+        line = line;
+        past = past;
+        in_line = in_line;
+        sum = sym counted ∙ full;
+        consumed = Consumes-trans a b c line (past ∷ []) consumed more;
+      },
+    )
 reading_by _ offset line start count a b c in_line counted consumed h = absurd h
 
-pub StopsReading-at_byte : (e : Error) (line : List ℕ) (start count : ℕ) (a b c : Option (List ℕ)) → IsInLine line → count ≡ start + length line
+pub StopsReading-at_byte : (e : Error) (line : List ℕ) (start count : ℕ) (a b c : Option (List ℕ))
+    → IsInLine line → count ≡ start + length line
     → Consumes a b line → StopsAtByte e count b c → StopsReading e start a c
 StopsReading-at_byte e = reading_by (code_of e) (offset_of e)
 
@@ -54,7 +81,8 @@ not_nil : (line : List ℕ) (b : ℕ) → line ++ b ∷ [] ≢ []
 not_nil [] b = λ h. cc
 not_nil (x ∷ line) b = λ h. cc
 
-pub StopsReading-out_of_memory : (e : Error) (line : List ℕ) (byte start : ℕ) (a b c : Option (List ℕ)) → IsInLine line → byte ≢ 0x0a
+pub StopsReading-out_of_memory : (e : Error) (line : List ℕ) (byte start : ℕ)
+    (a b c : Option (List ℕ)) → IsInLine line → byte ≢ 0x0a
     → Consumes a b line → Consumes b c (byte ∷ []) → IsOutOfMemory e → StopsReading e start a c
 StopsReading-out_of_memory e line byte start a b c in_line ne consumed more (code, offset) =
     rw code (
@@ -78,44 +106,69 @@ pub record HasAnswered (count : ℕ) (a b w w' : Option (List ℕ)) : Type 0 whe
   pub written : AppendsAnswers (lines bytes) w w'
 
 pub HasAnswered-none : (a w : Option (List ℕ)) → HasAnswered 0 a a w w
-HasAnswered-none a w = record { bytes = []; whole = IsWhole-nil; counted = refl; consumed = Consumes-nil a; written = AppendsAnswers-nil w }
+HasAnswered-none a w =
+    record {
+      bytes = [];
+      whole = IsWhole-nil;
+      counted = refl;
+      consumed = Consumes-nil a;
+      written = AppendsAnswers-nil w;
+    }
 
-pub HasAnswered-line : (line : List ℕ) (count count' : ℕ) (a b c w w' w'' : Option (List ℕ)) → HasAnswered count a b w w'
-    → IsNextLine Newline line count count' b c → AppendsAnswers (line ∷ []) w' w'' → HasAnswered count' a c w w''
+pub HasAnswered-line : (line : List ℕ) (count count' : ℕ) (a b c w w' w'' : Option (List ℕ))
+    → HasAnswered count a b w w'
+    → IsNextLine Newline line count count' b c → AppendsAnswers (line ∷ []) w' w''
+    → HasAnswered count' a c w w''
 HasAnswered-line line count count' a b c w w' w'' before (in_line, few, counted, taken) answered =
     let bytes = before.bytes in
     let start = before.counted in
     record {
       bytes = bytes ++ (line ++ 0x0a ∷ []);
       whole = IsWhole-line bytes line before.whole in_line;
-      counted = omega (arith, length-append bytes (line ++ 0x0a ∷ []), length-append line (0x0a ∷ []));
+      counted = omega (
+        arith,
+        length-append bytes (line ++ 0x0a ∷ []),
+        length-append line (0x0a ∷ []),
+      );
       consumed = Consumes-trans a b c bytes (line ++ 0x0a ∷ []) before.consumed taken;
-      written = rw (lines-whole_line bytes line before.whole in_line) (AppendsAnswers-append (lines bytes) (line ∷ []) w w' w'' before.written answered);
+      written = rw (lines-whole_line bytes line before.whole in_line)
+          (AppendsAnswers-append (lines bytes) (line ∷ []) w w' w'' before.written answered);
     }
 
-begun_line : (bytes line : List ℕ) → IsWhole bytes → IsInLine line → line ≢ [] → lines (bytes ++ line) ≡ lines bytes ++ line ∷ []
+begun_line : (bytes line : List ℕ) → IsWhole bytes → IsInLine line → line ≢ []
+    → lines (bytes ++ line) ≡ lines bytes ++ line ∷ []
 begun_line bytes [] whole h ne = absurd (ne refl)
-begun_line bytes (b ∷ line) whole h ne = whole.before (b ∷ line) ∙ ap (λ l. lines bytes ++ l) (lines-last b line h)
+begun_line bytes (b ∷ line) whole h ne = whole.before (b ∷ line)
+    ∙ ap (λ l. lines bytes ++ l) (lines-last b line h)
 
-ended_before : (bytes line : List ℕ) → IsWhole bytes → IsInLine line → ended_lines (bytes ++ line) ≡ lines bytes
-ended_before bytes line whole h = whole.ended_before line ∙ ap (λ l. lines bytes ++ l) (ended_lines-last line h) ∙ append-nil (lines bytes)
+ended_before : (bytes line : List ℕ) → IsWhole bytes → IsInLine line
+    → ended_lines (bytes ++ line) ≡ lines bytes
+ended_before bytes line whole h = whole.ended_before line
+    ∙ ap (λ l. lines bytes ++ l) (ended_lines-last line h) ∙ append-nil (lines bytes)
 
 -- all is answered, where the last line was
-pub AppendsAnswers-all : (line : List ℕ) (count count' : ℕ) (a b c w w' w'' : Option (List ℕ)) → HasAnswered count a b w w'
-    → IsNextLine Input line count count' b c → line ≢ [] → AppendsAnswers (line ∷ []) w' w'' → IfSome a (λ input. AppendsAnswers (lines input) w w'')
+pub AppendsAnswers-all : (line : List ℕ) (count count' : ℕ) (a b c w w' w'' : Option (List ℕ))
+    → HasAnswered count a b w w'
+    → IsNextLine Input line count count' b c → line ≢ [] → AppendsAnswers (line ∷ []) w' w''
+    → IfSome a (λ input. AppendsAnswers (lines input) w w'')
 AppendsAnswers-all line count count' a b c w w' w'' before (in_line, taken, end) ne answered =
     IfSome-consumed a c (before.bytes ++ line) (λ input. AppendsAnswers (lines input) w w'')
     (Consumes-trans a b c before.bytes line before.consumed taken) end
-    (rw (begun_line before.bytes line before.whole in_line ne) (AppendsAnswers-append (lines before.bytes) (line ∷ []) w w' w'' before.written answered))
+    (rw (begun_line before.bytes line before.whole in_line ne)
+    (AppendsAnswers-append (lines before.bytes) (line ∷ []) w w' w'' before.written answered))
 
 -- all is answered, where no last line was begun
-pub AppendsAnswers-whole : (line : List ℕ) (count count' : ℕ) (a b c w w' : Option (List ℕ)) → HasAnswered count a b w w'
-    → IsNextLine Input line count count' b c → line ≡ [] → IfSome a (λ input. AppendsAnswers (lines input) w w')
+pub AppendsAnswers-whole : (line : List ℕ) (count count' : ℕ) (a b c w w' : Option (List ℕ))
+    → HasAnswered count a b w w'
+    → IsNextLine Input line count count' b c → line ≡ []
+    → IfSome a (λ input. AppendsAnswers (lines input) w w')
 AppendsAnswers-whole line count count' a b c w w' before (in_line, taken, end) none =
     IfSome-consumed a c before.bytes (λ input. AppendsAnswers (lines input) w w')
-    (rw append-nil at (Consumes-trans a b c before.bytes [] before.consumed (rw none at taken))) end before.written
+    (rw append-nil at (Consumes-trans a b c before.bytes [] before.consumed (rw none at taken))) end
+    before.written
 
-stopped_reading_by : (code : ErrorCode) (offset count : ℕ) (a b c w w' : Option (List ℕ)) → HasAnswered count a b w w'
+stopped_reading_by : (code : ErrorCode) (offset count : ℕ) (a b c w w' : Option (List ℕ))
+    → HasAnswered count a b w w'
     → StopsReadingBy code offset count b c → IsStoppedBy code offset a c w w'
 stopped_reading_by (Io fault) offset count a b c w w' before (is, s) = (
   is,
@@ -141,26 +194,32 @@ stopped_reading_by LengthOutOfRange offset count a b c w w' before (is, s) = (
   record {
     taken = before.bytes ++ s.line;
     past = s.past;
-    count = length-append before.bytes s.line ∙ ap (λ n. n + length s.line) (sym before.counted) ∙ s.sum;
-    consumed = rw append_assoc (Consumes-trans a b c before.bytes (s.line ++ s.past ∷ []) before.consumed s.consumed);
+    count = length-append before.bytes s.line ∙ ap (λ n. n + length s.line) (sym before.counted)
+        ∙ s.sum;
+    consumed = rw append_assoc
+        (Consumes-trans a b c before.bytes (s.line ++ s.past ∷ []) before.consumed s.consumed);
     written = rw (ended_before before.bytes s.line before.whole s.in_line) before.written;
   },
 )
 stopped_reading_by _ offset count a b c w w' before h = absurd h
 
-pub IsStopped-reading : (e : Error) (count : ℕ) (a b c w w' : Option (List ℕ)) → HasAnswered count a b w w'
+pub IsStopped-reading : (e : Error) (count : ℕ) (a b c w w' : Option (List ℕ))
+    → HasAnswered count a b w w'
     → StopsReading e count b c → IsStopped e a c w w'
 IsStopped-reading e = stopped_reading_by (code_of e) (offset_of e)
 
 -- the lines before one, and that line, were taken
-record AtLine (before : List (List ℕ)) (last : List ℕ) (reader reader' : Option (List ℕ)) : Type 0 where
+record AtLine (before : List (List ℕ)) (last : List ℕ)
+    (reader reader' : Option (List ℕ)) : Type 0 where
   taken : List ℕ
   begun : lines taken ≡ before ++ last ∷ []
   ended : (ended_lines taken ≡ lines taken) ⊎ IsAtEnd reader'
   consumed : Consumes reader reader' taken
 
-stopped_answering_by : (code : ErrorCode) (offset : ℕ) (before : List (List ℕ)) (last : List ℕ) (a b w w' w'' : Option (List ℕ)) → AtLine before last a b
-    → AppendsAnswers before w w' → StopsAnsweringBy code offset last w' w'' → IsStoppedBy code offset a b w w''
+stopped_answering_by : (code : ErrorCode) (offset : ℕ) (before : List (List ℕ)) (last : List ℕ)
+    (a b w w' w'' : Option (List ℕ)) → AtLine before last a b
+    → AppendsAnswers before w w' → StopsAnsweringBy code offset last w' w''
+    → IsStoppedBy code offset a b w w''
 stopped_answering_by (Io fault) offset before last a b w w' w'' at written (is, up) = (
   is,
   inr (record {
@@ -186,8 +245,10 @@ stopped_answering_by OutOfMemory offset before last a b w w' w'' at written (is,
 )
 stopped_answering_by _ offset before last a b w w' w'' at written h = absurd h
 
-pub IsStopped-at_line : (e : Error) (line : List ℕ) (count count' : ℕ) (a b c w w' w'' : Option (List ℕ)) → HasAnswered count a b w w'
-    → IsNextLine Newline line count count' b c → StopsAnswering e line w' w'' → IsStopped e a c w w''
+pub IsStopped-at_line : (e : Error) (line : List ℕ) (count count' : ℕ)
+    (a b c w w' w'' : Option (List ℕ)) → HasAnswered count a b w w'
+    → IsNextLine Newline line count count' b c → StopsAnswering e line w' w''
+    → IsStopped e a c w w''
 IsStopped-at_line e line count count' a b c w w' w'' before (in_line, few, counted, taken) h =
     let whole = IsWhole-line before.bytes line before.whole in_line in
     let at : AtLine (lines before.bytes) line a c = record {
@@ -196,10 +257,13 @@ IsStopped-at_line e line count count' a b c w w' w'' before (in_line, few, count
       ended = inl (ended_lines-whole (before.bytes ++ (line ++ 0x0a ∷ [])) whole);
       consumed = Consumes-trans a b c before.bytes (line ++ 0x0a ∷ []) before.consumed taken;
     } in
-    stopped_answering_by (code_of e) (offset_of e) (lines before.bytes) line a c w w' w'' at before.written h
+    stopped_answering_by (code_of e) (offset_of e)
+    (lines before.bytes) line a c w w' w'' at before.written h
 
-pub IsStopped-at_last : (e : Error) (line : List ℕ) (count count' : ℕ) (a b c w w' w'' : Option (List ℕ)) → HasAnswered count a b w w'
-    → IsNextLine Input line count count' b c → line ≢ [] → StopsAnswering e line w' w'' → IsStopped e a c w w''
+pub IsStopped-at_last : (e : Error) (line : List ℕ) (count count' : ℕ)
+    (a b c w w' w'' : Option (List ℕ)) → HasAnswered count a b w w'
+    → IsNextLine Input line count count' b c → line ≢ [] → StopsAnswering e line w' w''
+    → IsStopped e a c w w''
 IsStopped-at_last e line count count' a b c w w' w'' before (in_line, taken, end) ne h =
     let at : AtLine (lines before.bytes) line a c = record {
       taken = before.bytes ++ line;
@@ -207,4 +271,5 @@ IsStopped-at_last e line count count' a b c w w' w'' before (in_line, taken, end
       ended = inr end;
       consumed = Consumes-trans a b c before.bytes line before.consumed taken;
     } in
-    stopped_answering_by (code_of e) (offset_of e) (lines before.bytes) line a c w w' w'' at before.written h
+    stopped_answering_by (code_of e) (offset_of e)
+    (lines before.bytes) line a c w w' w'' at before.written h

@@ -1,5 +1,6 @@
 -- What the program answers to the lines that it reads.
-use Rattle.std.specs.Prelude.{◌≡◌, ℕ, ◌+◌, ◌-◌, ◌/◌, ◌%◌, List, [], ◌∷◌, ◌++◌, length, map, flat_map, codes, Err, nat_lt, ◌==◌, if◌then◌else◌, refl}
+use Rattle.std.specs.Prelude.{◌≡◌, ℕ, ◌+◌, ◌-◌, ◌/◌, ◌%◌, List, [], ◌∷◌, ◌++◌, length, map}
+use Rattle.std.specs.Prelude.{flat_map, codes, Err, nat_lt, ◌==◌, if◌then◌else◌, refl}
 use Rattle.std.specs.Char.{to_ascii_lowercase}
 use Rattle.cbor_model.specs.Raw.{Raw, AreBytes}
 use Rattle.cbor_model.specs.Spelling.{spell}
@@ -43,16 +44,22 @@ pub record IsRefusalText (bytes text : List ℕ) : Type 0 where
   pub refused : read_value bytes ≡ Err fault
   pub is : text ≡ words fault.why ++ at_offset (length bytes - fault.left)
 
--- The answer to a line: the canonical spelling of the value that its bytes spell, or why there is none.
+-- The answer to a line: the canonical spelling of the value that its bytes spell, or why there is
+-- none.
 pub data IsAnswer (line answer : List ℕ) : Type 0 where
-  canonical : (r : Raw) → IsAcceptable r → IsHexOf line (spell r) → answer ≡ hex (canon (value r)) → IsAnswer line answer
-  refused : (bytes text : List ℕ) → IsHexOf line bytes → ((r : Raw) → IsAcceptable r → spell r ≡ bytes → ⊥) → IsRefusalText bytes text → answer ≡ codes "error: " ++ text → IsAnswer line answer
-  not_hexadecimal : ((bytes : List ℕ) → IsHexOf line bytes → ⊥) → answer ≡ codes "error: not hexadecimal" → IsAnswer line answer
+  canonical : (r : Raw) → IsAcceptable r → IsHexOf line (spell r) → answer ≡ hex (canon (value r))
+      → IsAnswer line answer
+  refused : (bytes text : List ℕ) → IsHexOf line bytes
+      → ((r : Raw) → IsAcceptable r → spell r ≡ bytes → ⊥) → IsRefusalText bytes text
+      → answer ≡ codes "error: " ++ text → IsAnswer line answer
+  not_hexadecimal : ((bytes : List ℕ) → IsHexOf line bytes → ⊥)
+      → answer ≡ codes "error: not hexadecimal" → IsAnswer line answer
 
 -- The output is one answer for each of the lines, in their order, each ended by 0a.
 abbrev pub AreAnswers : List (List ℕ) → List ℕ → Type 0
 AreAnswers [] output = output ≡ []
-AreAnswers (line ∷ lines) output = (answer others : List ℕ) × IsAnswer line answer × (output ≡ answer ++ (0x0a ∷ others)) × AreAnswers lines others
+AreAnswers (line ∷ lines) output = (answer others : List ℕ) × IsAnswer line answer
+    × (output ≡ answer ++ (0x0a ∷ others)) × AreAnswers lines others
 
 -- A line has no two answers.
 abbrev pub OneAnswer : Type 0

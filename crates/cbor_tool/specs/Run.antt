@@ -1,5 +1,6 @@
 -- What a run has taken and written, where the reader and the writer tell their bytes.
-use Rattle.std.specs.Prelude.{◌≡◌, ℕ, ◌-◌, ◌^◌, List, [], ◌∷◌, ◌++◌, length, ◌==◌, if◌then◌else◌, ◌⊎◌, Option, refl}
+use Rattle.std.specs.Prelude.{◌≡◌, ℕ, ◌-◌, ◌^◌, List, [], ◌∷◌, ◌++◌, length, ◌==◌, if◌then◌else◌}
+use Rattle.std.specs.Prelude.{◌⊎◌, Option, refl}
 use Rattle.std.specs.Io.KnownBytes.{Appends, Consumes, IsAtEnd}
 use Rattle.cbor_tool.specs.Answer.{lines, AreAnswers}
 use Rattle.serde_cbor.specs.declared.error.ErrorCode.{ErrorCode}
@@ -16,9 +17,10 @@ pub record BeginsAnswer (line begun : List ℕ) : Type 0 where
   pub missing : List ℕ
   pub whole : AreAnswers (line ∷ []) (begun ++ missing)
 
--- One answer for each of the lines before was written, then a beginning of the answer to the last, and
--- nothing else.
-pub record AppendsUpTo (before : List (List ℕ)) (last : List ℕ) (old new : Option (List ℕ)) : Type 0 where
+-- One answer for each of the lines before was written, then a beginning of the answer to the last,
+-- and nothing else.
+pub record AppendsUpTo (before : List (List ℕ)) (last : List ℕ)
+    (old new : Option (List ℕ)) : Type 0 where
   pub output : List ℕ
   pub begun : List ℕ
   pub answers : AreAnswers before output
@@ -37,8 +39,8 @@ ended_lines (b ∷ bs) = if b == 0x0a then [] ∷ ended_lines bs else begin_ende
 
 -- ---- why a run stops before the input's end, and what it has done
 
--- Memory ran out. All lines that were begun but the last have been answered. A line is begun once its
--- first byte was taken.
+-- Memory ran out. All lines that were begun but the last have been answered. A line is begun once
+-- its first byte was taken.
 pub record StopsInLine (reader reader' writer writer' : Option (List ℕ)) : Type 0 where
   pub taken : List ℕ
   pub answered : List (List ℕ)
@@ -53,8 +55,8 @@ pub record StopsAtReader (reader reader' writer writer' : Option (List ℕ)) : T
   pub consumed : Consumes reader reader' taken
   pub written : AppendsAnswers (ended_lines taken) writer writer'
 
--- The writer failed, on the answer to a line, of which a beginning was written. All lines before it have
--- been answered. No byte that follows this line was taken.
+-- The writer failed, on the answer to a line, of which a beginning was written. All lines before it
+-- have been answered. No byte that follows this line was taken.
 pub record StopsAtWriter (reader reader' writer writer' : Option (List ℕ)) : Type 0 where
   pub taken : List ℕ
   pub before : List (List ℕ)
@@ -77,9 +79,12 @@ pub record StopsPastMax (reader reader' writer writer' : Option (List ℕ)) : Ty
   pub written : AppendsAnswers (ended_lines taken) writer writer'
 
 abbrev pub IsStoppedBy : ErrorCode → ℕ → (reader reader' writer writer' : Option (List ℕ)) → Type 0
-IsStoppedBy (Io fault) offset reader reader' writer writer' = (offset ≡ 0) × (StopsAtReader reader reader' writer writer' ⊎ StopsAtWriter reader reader' writer writer')
-IsStoppedBy OutOfMemory offset reader reader' writer writer' = (offset ≡ 0) × StopsInLine reader reader' writer writer'
-IsStoppedBy LengthOutOfRange offset reader reader' writer writer' = (offset ≡ max_offset) × StopsPastMax reader reader' writer writer'
+IsStoppedBy (Io fault) offset reader reader' writer writer' = (offset ≡ 0)
+    × (StopsAtReader reader reader' writer writer' ⊎ StopsAtWriter reader reader' writer writer')
+IsStoppedBy OutOfMemory offset reader reader' writer writer' = (offset ≡ 0)
+    × StopsInLine reader reader' writer writer'
+IsStoppedBy LengthOutOfRange offset reader reader' writer writer' = (offset ≡ max_offset)
+    × StopsPastMax reader reader' writer writer'
 IsStoppedBy _ offset reader reader' writer writer' = ⊥
 
 abbrev pub IsStopped : Error → (reader reader' writer writer' : Option (List ℕ)) → Type 0

@@ -1,6 +1,7 @@
 -- What the steps of a run do.
-use Rattle.std.specs.Prelude.{◌≡◌, ◌≢◌, ℕ, ◌+◌, ◌<◌, List, [], ◌∷◌, ◌++◌, length, All, Option, Some, None}
-use Rattle.std.specs.Io.KnownBytes.{Appends, Consumes, Keeps, IsAtEnd}
+use Rattle.std.specs.Prelude.{◌≡◌, ◌≢◌, ℕ, ◌+◌, ◌<◌, List, [], ◌∷◌, ◌++◌, length, All, Option, Some}
+use Rattle.std.specs.Prelude.{None}
+use Rattle.std.specs.Io.KnownBytes.{Consumes, Keeps, IsAtEnd}
 use Rattle.cbor_tool.specs.Answer.{IsHexOf, IsAnswer}
 use Rattle.serde_cbor.specs.declared.error.ErrorCode.{ErrorCode}
 use Rattle.serde_cbor.specs.declared.error.ErrorCode.TheVariants.{Io, OutOfMemory, LengthOutOfRange}
@@ -14,17 +15,22 @@ use Rattle.cbor_tool.specs.Run.{AppendsUpTo, max_offset}
 
 -- the next byte, or the end
 abbrev pub IsNext : Option ℕ → (count count' : ℕ) (reader reader' : Option (List ℕ)) → Type 0
-IsNext (Some b) count count' reader reader' = (count < max_offset) × (count' ≡ count + 1) × Consumes reader reader' (b ∷ [])
-IsNext None count count' reader reader' = (count' ≡ count) × Consumes reader reader' [] × IsAtEnd reader'
+IsNext (Some b) count count' reader reader' = (count < max_offset) × (count' ≡ count + 1)
+    × Consumes reader reader' (b ∷ [])
+IsNext None count count' reader reader' = (count' ≡ count) × Consumes reader reader' []
+    × IsAtEnd reader'
 
 -- no byte of the line ends it
 abbrev pub IsInLine : List ℕ → Type 0
 IsInLine line = All (λ b. b ≢ 0x0a) line
 
 -- the line, up to what ended it
-abbrev pub IsNextLine : End → List ℕ → (count count' : ℕ) (reader reader' : Option (List ℕ)) → Type 0
-IsNextLine Newline line count count' reader reader' = IsInLine line × (count < max_offset) × (count' ≡ count + (length line + 1)) × Consumes reader reader' (line ++ 0x0a ∷ [])
-IsNextLine Input line count count' reader reader' = IsInLine line × Consumes reader reader' line × IsAtEnd reader'
+abbrev pub IsNextLine : End → List ℕ → (count count' : ℕ) (reader reader' : Option (List ℕ))
+    → Type 0
+IsNextLine Newline line count count' reader reader' = IsInLine line × (count < max_offset)
+    × (count' ≡ count + (length line + 1)) × Consumes reader reader' (line ++ 0x0a ∷ [])
+IsNextLine Input line count count' reader reader' = IsInLine line × Consumes reader reader' line
+    × IsAtEnd reader'
 
 -- the reader failed after some of the line
 pub record LosesReader (reader reader' : Option (List ℕ)) : Type 0 where
@@ -50,7 +56,8 @@ pub record PassesMax (count : ℕ) (reader reader' : Option (List ℕ)) : Type 0
 abbrev pub StopsReadingBy : ErrorCode → ℕ → (count : ℕ) (reader reader' : Option (List ℕ)) → Type 0
 StopsReadingBy (Io fault) offset count reader reader' = (offset ≡ 0) × LosesReader reader reader'
 StopsReadingBy OutOfMemory offset count reader reader' = (offset ≡ 0) × BreaksLine reader reader'
-StopsReadingBy LengthOutOfRange offset count reader reader' = (offset ≡ max_offset) × PassesMax count reader reader'
+StopsReadingBy LengthOutOfRange offset count reader reader' = (offset ≡ max_offset)
+    × PassesMax count reader reader'
 StopsReadingBy _ offset count reader reader' = ⊥
 
 abbrev pub StopsReading : Error → (count : ℕ) (reader reader' : Option (List ℕ)) → Type 0
@@ -58,23 +65,12 @@ StopsReading e = StopsReadingBy (code_of e) (offset_of e)
 
 abbrev pub StopsAtByteBy : ErrorCode → ℕ → (count : ℕ) (reader reader' : Option (List ℕ)) → Type 0
 StopsAtByteBy (Io fault) offset count reader reader' = (offset ≡ 0) × Keeps reader reader'
-StopsAtByteBy LengthOutOfRange offset count reader reader' = (offset ≡ max_offset) × (count ≡ max_offset) × ((past : ℕ) × Consumes reader reader' (past ∷ []))
+StopsAtByteBy LengthOutOfRange offset count reader reader' = (offset ≡ max_offset)
+    × (count ≡ max_offset) × ((past : ℕ) × Consumes reader reader' (past ∷ []))
 StopsAtByteBy _ offset count reader reader' = ⊥
 
 abbrev pub StopsAtByte : Error → (count : ℕ) (reader reader' : Option (List ℕ)) → Type 0
 StopsAtByte e = StopsAtByteBy (code_of e) (offset_of e)
-
--- ---- writing
-
--- Of the bytes, the front was written, and the rest is left.
-pub record WritesFront (bytes rest : List ℕ) (writer writer' : Option (List ℕ)) : Type 0 where
-  pub front : List ℕ
-  pub parts : front ++ rest ≡ bytes
-  pub written : Appends writer writer' front
-
--- some front of the bytes was written
-abbrev pub WritesBeginning : List ℕ → (writer writer' : Option (List ℕ)) → Type 0
-WritesBeginning bytes writer writer' = (rest : List ℕ) × WritesFront bytes rest writer writer'
 
 -- ---- answering
 
@@ -83,7 +79,8 @@ abbrev pub IsAnswerTo : List ℕ → List ℕ → Type 0
 IsAnswerTo bytes text = (line : List ℕ) → IsHexOf line bytes → IsAnswer line text
 
 abbrev pub StopsAnsweringBy : ErrorCode → ℕ → List ℕ → (writer writer' : Option (List ℕ)) → Type 0
-StopsAnsweringBy (Io fault) offset line writer writer' = (offset ≡ 0) × AppendsUpTo [] line writer writer'
+StopsAnsweringBy (Io fault) offset line writer writer' = (offset ≡ 0)
+    × AppendsUpTo [] line writer writer'
 StopsAnsweringBy OutOfMemory offset line writer writer' = (offset ≡ 0) × Keeps writer writer'
 StopsAnsweringBy _ offset line writer writer' = ⊥
 

@@ -1,13 +1,14 @@
 //! Lines of hexadecimal in, lines of answers out.
 
 ghost use Rattle.std.specs.Prelude.{◌≡◌, ◌+◌, ◌<◌, ◌≤◌, ◌∷◌, [], length};
-ghost use Rattle.std.specs.Prelude.{IfOk, IfErr, IfSome, OnOk, OnErr};
-ghost use Rattle.std.specs.Io.KnownBytes.{Appends, WriteAppends, IsAtEnd};
+ghost use Rattle.std.specs.Prelude.{IfOk, IfErr, IfSome, OnOk};
+ghost use Rattle.std.specs.Io.KnownBytes.{WriteAppends, IsAtEnd};
 ghost use Rattle.cbor_tool.specs.Answer.{lines, hex, IsAnswer};
 ghost use Rattle.serde_cbor.specs.Error.{IsOutOfMemory};
+ghost use Rattle.serde_cbor.specs.Write.{Wrote};
 ghost use Rattle.cbor_tool.specs.Run.{AppendsAnswers, IsStopped};
 ghost use Rattle.cbor_tool.specs.Steps.{IsNext, IsNextLine, StopsReading, StopsAtByte};
-ghost use Rattle.cbor_tool.specs.Steps.{IsAnswerTo, WritesBeginning, StopsAnswering};
+ghost use Rattle.cbor_tool.specs.Steps.{IsAnswerTo, StopsAnswering};
 
 use hex::FromHexError;
 use serde_cbor::error::{Error, ErrorCode};
@@ -110,9 +111,7 @@ fn write_answer<W: io::Write>(
 
 // Writes the bytes, as `io::Write::write_all` does. A clause says what stands after a fault.
 fn write_all<W: io::Write>(writer: &mut W, bytes: &[u8]) -> io::Result<()>
-    ensures ok { OnOk result (Appends (W.contents writer.old) (W.contents writer.new) bytes.now) }
-    ensures err { OnErr result (WritesBeginning bytes.now
-        (W.contents writer.old) (W.contents writer.new)) }
+    ensures { Wrote (W.contents writer.old) bytes.now (W.contents writer.new) result }
 {
     let mut rest = bytes;
     'bytes: while !rest.is_empty() {

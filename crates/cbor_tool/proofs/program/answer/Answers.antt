@@ -16,5 +16,6 @@ returns-in-Ok-clause-ok c =
 pub returns-in_default-clause-ok : goal.returns-in_default-clause-ok
 returns-in_default-clause-ok c =
     on_ok_weaker c.replace.result
-    (λ is. IsAnswer-not_hexadecimal _ _ _ (other_of c.in-Err.ensures.err c.in_default.not-OutOfMemory) is)
+    (λ is. IsAnswer-not_hexadecimal _ _ _
+    (other_of c.in-Err.ensures.err c.in_default.not-OutOfMemory) is)
     c.replace.ensures.ok

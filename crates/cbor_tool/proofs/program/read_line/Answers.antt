@@ -7,7 +7,8 @@ pub returns-in_err-byte-clause-err : goal.returns-in_err-byte-clause-err
 returns-in_err-byte-clause-err g c =
     let before = c.bytes.invariant in
     let p = err_from_is_err_and c.from_residual.result c.from_residual.ensures.1 in
-    rw (p.1, p.2) (StopsReading-at_byte _ _ _ _ _ _ _ before.in_line before.counted before.consumed c.in_err-byte.ensures.err)
+    rw (p.1, p.2) (StopsReading-at_byte _ _ _ _ _ _ _ before.in_line before.counted before.consumed
+    c.in_err-byte.ensures.err)
 
 pub bytes-smaller : goal.bytes-smaller
 bytes-smaller g c = let next = rw c.in-Some.is at c.in_ok-byte.ensures.ok in omega (arith, next.0)
@@ -16,5 +17,7 @@ pub returns-in_err-push-clause-err : goal.returns-in_err-push-clause-err
 returns-in_err-push-clause-err g c =
     let before = c.bytes.invariant in
     let next = rw c.in-Some.is at c.in_ok-byte.ensures.ok in
-    let p = err_from_is_err_and c.from_residual-in_err-push.result c.from_residual-in_err-push.ensures.1 in
-    rw p.1 (StopsReading-out_of_memory p.0 _ _ _ _ _ _ before.in_line c.if-byte-eq10.false before.consumed next.2 p.2)
+    let p = err_from_is_err_and c.from_residual-in_err-push.result
+    c.from_residual-in_err-push.ensures.1 in
+    rw p.1 (StopsReading-out_of_memory p.0 _ _ _ _ _ _ before.in_line c.if-byte-eq10.false
+    before.consumed next.2 p.2)

@@ -8,7 +8,8 @@ abbrev pub invariant-bytes : goal.invariant-bytes
 invariant-bytes g l = record {
   in_line : IsInLine l.line.items;
   counted : l.taken ≡ l.initial.taken + length l.line.items;
-  consumed : Consumes (g.R.Read.remaining l.initial.reader) (g.R.Read.remaining l.reader) l.line.items;
+  consumed : Consumes (g.R.Read.remaining l.initial.reader)
+      (g.R.Read.remaining l.reader) l.line.items;
 }
 
 abbrev pub decreases-bytes : goal.decreases-bytes

@@ -4,7 +4,8 @@ use Rattle.cbor_tool.proofs.Stops.{HasAnswered}
 use Rattle.cbor_tool.proofs.program.run.Given as goal
 
 abbrev pub invariant-lines : goal.invariant-lines
-invariant-lines g l = HasAnswered l.taken (g.R.Read.remaining l.initial.reader) (g.R.Read.remaining l.reader)
+invariant-lines g l =
+    HasAnswered l.taken (g.R.Read.remaining l.initial.reader) (g.R.Read.remaining l.reader)
     (g.W.Write.contents l.initial.writer) (g.W.Write.contents l.writer)
 
 abbrev pub decreases-lines : goal.decreases-lines

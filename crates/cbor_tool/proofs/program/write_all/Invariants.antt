@@ -1,10 +1,12 @@
 -- What isn't left was written.
 use Rattle.std.proofs.Common.{length}
-use Rattle.cbor_tool.specs.Steps.{WritesFront}
+use Rattle.cbor_tool.proofs.Writing.{WritesFront}
 use Rattle.cbor_tool.proofs.program.write_all.Given as goal
 
 abbrev pub invariant-bytes : goal.invariant-bytes
-invariant-bytes g l = WritesFront l.fn.bytes l.rest (g.W.Write.contents l.initial.writer) (g.W.Write.contents l.writer)
+invariant-bytes g l =
+    WritesFront l.fn.bytes l.rest (g.W.Write.contents l.initial.writer)
+    (g.W.Write.contents l.writer)
 
 abbrev pub decreases-bytes : goal.decreases-bytes
 decreases-bytes g l = length l.rest
