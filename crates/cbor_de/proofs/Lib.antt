@@ -1,3 +1,10 @@
+pub mod Steps
+pub mod Calls
+pub mod Heads
+pub mod Chunk
 pub mod Chunks
-pub mod Reading
-pub mod ReadingPairs
+pub mod Items
+pub mod Pairs
+pub mod Inside
+pub mod All
+pub mod Inputs

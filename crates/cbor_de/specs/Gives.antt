@@ -1,86 +1,152 @@
 -- What a reader of the code answers, beside what the reference reader answers.
-use Rattle.std.specs.Prelude.{◌≡◌, ◌+◌, ℕ, Bool, true, false, List, length, Option, Some, None, Result, Ok, Err}
-use Rattle.cbor_model.specs.Refusal.{Refusal, end_in_value, end_in_array, end_in_map, length_out_of_range, invalid_utf8, unassigned_code, unexpected_code, trailing_data, too_deep}
-use Rattle.cbor_model.specs.Raw.{Chunk, joined}
-use Rattle.cbor_model.specs.Plain.{Val, Vals, Pairs, no_pairs}
-use Rattle.cbor_model.specs.Reader.{Fault, Reads, ◌>>=◌, Reading, values_within}
-use Rattle.cbor_model.specs.Reader as reader
-use Rattle.cbor_de.specs.declared.source.Remaining.{Remaining}
-use Rattle.cbor_de.specs.declared.source.Remaining.TheVariants.{Counted, ToBreak}
-use Rattle.cbor_de.specs.declared.source.Collection.{Collection}
-use Rattle.cbor_de.specs.declared.source.Collection.TheVariants.{Array, Map}
+use Rattle.std.specs.Prelude.{⊤, ◌≡◌, ◌+◌, ◌^◌, ◌<◌, ◌≤◌, ℕ, Bool, true, List, [], ◌∷◌, length, Option, Some, None, IsSomeAnd, Result, Ok, Err}
+use Rattle.cbor_model.specs.Refusal.{Refusal, end_in_value, end_in_array, end_in_map, length_out_of_range, invalid_utf8, unassigned_code, unexpected_code, trailing_data, too_deep, scratch_too_small}
+use Rattle.cbor_model.specs.Raw.{AreBytes}
+use Rattle.cbor_model.specs.Plain.{Val, Vals, Pairs}
+use Rattle.cbor_model.specs.Reader.{Fault, Reads, Reading, ◌>>=◌, values_in, item_at, read_value_in}
 use Rattle.cbor_io.specs.declared.error.ErrorCode.{ErrorCode}
-use Rattle.cbor_io.specs.declared.error.ErrorCode.TheVariants.{EofWhileParsingValue, EofWhileParsingArray, EofWhileParsingMap, LengthOutOfRange, InvalidUtf8, UnassignedCode, UnexpectedCode, TrailingData, RecursionLimitExceeded, OutOfMemory}
+use Rattle.cbor_io.specs.declared.error.ErrorCode.TheVariants.{Io, ScratchTooSmall, EofWhileParsingValue, EofWhileParsingArray, EofWhileParsingMap, LengthOutOfRange, InvalidUtf8, UnassignedCode, UnexpectedCode, TrailingData, RecursionLimitExceeded, OutOfMemory}
 use Rattle.cbor_io.specs.declared.error.Error.{Error}
-use Rattle.cbor_io.specs.Error.{code_of, offset_of}
+use Rattle.cbor_io.specs.Error.{code_of, offset_of, IsOutOfMemory}
+use Rattle.cbor_io.specs.declared.read.read_error.ReadError.{ReadError}
+use Rattle.cbor_io.specs.declared.read.read_error.ReadErrorCode.{ReadErrorCode}
+use Rattle.cbor_io.specs.declared.read.read_error.ReadErrorCode.TheVariants as reading
+use Rattle.cbor_io.specs.ReadError.{why, place, error_code}
+use Rattle.cbor_io.specs.Source.{Input}
+use Rattle.cbor_de.specs.declared.refusal.Refused.{Refused}
+use Rattle.cbor_de.specs.declared.refusal.Refused.TheVariants as refused
 
--- Where a source stands: how many bytes were taken, and the bytes to come.
-pub record Input : Type 0 where
-  pub at : ℕ
-  pub rest : List ℕ
-
--- the length of the whole input
-abbrev pub total : Input → ℕ
-total i = i.at + length i.rest
-
--- what an input is that ends in this form
-abbrev pub end_of : Collection → Refusal
-end_of Array = end_in_array
-end_of Map = end_in_map
+-- ---- refusals
 
 -- reading meets this fault, at the offset in an input of that length
 abbrev pub FailsAs : {A : Type 0} → Refusal → ℕ → ℕ → Result A Fault → Type 0
 FailsAs why end offset read = (left : ℕ) × (offset + left ≡ end) × (read ≡ Err (record { why = why; left = left }))
 
-abbrev pub FailsBy : {A : Type 0} → ErrorCode → ℕ → ℕ → Result A Fault → Type 0
-FailsBy EofWhileParsingValue end offset read = FailsAs end_in_value end offset read
-FailsBy EofWhileParsingArray end offset read = FailsAs end_in_array end offset read
-FailsBy EofWhileParsingMap end offset read = FailsAs end_in_map end offset read
-FailsBy LengthOutOfRange end offset read = FailsAs length_out_of_range end offset read
-FailsBy InvalidUtf8 end offset read = FailsAs invalid_utf8 end offset read
-FailsBy UnassignedCode end offset read = FailsAs unassigned_code end offset read
-FailsBy UnexpectedCode end offset read = FailsAs unexpected_code end offset read
-FailsBy TrailingData end offset read = FailsAs trailing_data end offset read
-FailsBy RecursionLimitExceeded end offset read = FailsAs too_deep end offset read
-FailsBy OutOfMemory end offset read = offset ≡ 0
-FailsBy _ end offset read = ⊥
+-- The code and the offset tell the fault; or that memory ran out, or a fault of the device, where
+-- there can be one.
+abbrev pub FailsBy : {A : Type 0} → Type 0 → ErrorCode → ℕ → ℕ → Result A Fault → Type 0
+FailsBy Device EofWhileParsingValue end offset read = FailsAs end_in_value end offset read
+FailsBy Device EofWhileParsingArray end offset read = FailsAs end_in_array end offset read
+FailsBy Device EofWhileParsingMap end offset read = FailsAs end_in_map end offset read
+FailsBy Device LengthOutOfRange end offset read = FailsAs length_out_of_range end offset read
+FailsBy Device InvalidUtf8 end offset read = FailsAs invalid_utf8 end offset read
+FailsBy Device UnassignedCode end offset read = FailsAs unassigned_code end offset read
+FailsBy Device UnexpectedCode end offset read = FailsAs unexpected_code end offset read
+FailsBy Device TrailingData end offset read = FailsAs trailing_data end offset read
+FailsBy Device RecursionLimitExceeded end offset read = FailsAs too_deep end offset read
+FailsBy Device ScratchTooSmall end offset read = FailsAs scratch_too_small end offset read
+FailsBy Device (Io fault) end offset read = Device × (offset ≡ 0)
+FailsBy Device OutOfMemory end offset read = offset ≡ 0
+FailsBy Device _ end offset read = ⊥
 
 -- The error tells the fault, or that memory ran out.
 abbrev pub Fails : {A : Type 0} → ℕ → Error → Result A Fault → Type 0
-Fails end e read = FailsBy (code_of e) end (offset_of e) read
+Fails end e read = FailsBy ⊥ (code_of e) end (offset_of e) read
+
+-- The same, or a fault of the reader.
+abbrev pub FailsOrFaults : {A : Type 0} → ℕ → Error → Result A Fault → Type 0
+FailsOrFaults end e read = FailsBy ⊤ (code_of e) end (offset_of e) read
+
+abbrev pub IsMemoryOrFaultBy : ErrorCode → Type 0
+IsMemoryOrFaultBy OutOfMemory = ⊤
+IsMemoryOrFaultBy (Io fault) = ⊤
+IsMemoryOrFaultBy _ = ⊥
+
+-- memory ran out, or a reader reported a fault
+abbrev pub IsMemoryOrFault : Error → Type 0
+IsMemoryOrFault e = IsMemoryOrFaultBy (code_of e) × (offset_of e ≡ 0)
+
+-- A reader tells that these bytes are to come from it.
+pub record Gave (remaining : Option (List ℕ)) (bytes : List ℕ) : Type 0 where
+  pub told : remaining ≡ Some bytes
+  pub are_bytes : AreBytes bytes
+  pub short : length bytes < 2 ^ 64
+
+-- ---- sources
+
+-- The bytes that a source tells, where its whole input is shorter than 2^64.
+pub record Tells (s : Input) (bs : List ℕ) : Type 0 where
+  pub is : s.to_come ≡ Some bs
+  pub short : s.offset + length bs < 2 ^ 64
+
+-- What an input sets: its length, and how many bytes of chunks can be joined.
+pub record Limits : Type 0 where
+  pub total : ℕ
+  pub room : Option ℕ
+
+abbrev pub limits : Input → List ℕ → Limits
+limits s bs = record { total = s.offset + length bs; room = s.room }
+
+-- the reading of values within these limits
+abbrev pub values : Limits → Reading Val Vals (Pairs → Pairs)
+values l = values_in l.total l.room
+
+-- what a step from s, which tells bs, leaves in t
+pub record Leaves (s t : Input) (bs : List ℕ) (P : List ℕ → Type 0) : Type 0 where
+  pub rest : List ℕ
+  pub tells : Tells t rest
+  pub total : t.offset + length rest ≡ s.offset + length bs
+  pub holds : P rest
+
+-- A step from s to t, of which P holds: of the limits, the bytes before and those after.
+pub record Step (s t : Input) (P : Limits → List ℕ → List ℕ → Type 0) : Type 0 where
+  pub room : t.room ≡ s.room
+  pub forward : s.offset ≤ t.offset
+  pub told : (bs : List ℕ) → Tells s bs → Leaves s t bs (P (limits s bs) bs)
+
+-- whether a source can report a fault of a device
+abbrev pub Reports : (ReadErrorCode → Bool) → Type 0
+Reports refusals = (fault : _) × (refusals (reading.Io fault) ≡ true)
+
+-- The error tells the fault of a reading from s.
+pub record Stops {A : Type 0} (refusals : ReadErrorCode → Bool) (read : Limits → List ℕ → Reads A) (s : Input) (e : ReadError) : Type 0 where
+  pub told : (bs : List ℕ) → Tells s bs → FailsBy (Reports refusals) (error_code (why e)) (s.offset + length bs) (place e) (read (limits s bs) bs)
+
+-- A step was refused, and what the deserializer keeps tells the fault of a reading from s.
+abbrev pub Stopped : {A : Type 0} → (ReadErrorCode → Bool) → (Limits → List ℕ → Reads A) → Input → Option ReadError → Refused → Type 0
+Stopped refusals read s kept refused.OutOfMemory = ⊤
+Stopped refusals read s kept refused.Kept = IsSomeAnd kept (Stops refusals read s)
 
 -- What was read, seen by view, and the bytes to come after it; or why not.
-abbrev pub Gives : {X A : Type 0} → (X → A) → ℕ → List ℕ → Result X Error → Reads A → Type 0
-Gives view end rest (Ok x) read = read ≡ Ok (view x, rest)
-Gives view end rest (Err e) read = Fails end e read
+abbrev pub Gives : {X A : Type 0} → (ReadErrorCode → Bool) → (X → A) → (Limits → List ℕ → Reads A) → Input → Input → Option ReadError → Result X Refused → Type 0
+Gives refusals view read s t kept (Ok x) = Step s t (λ l bs rest. read l bs ≡ Ok (view x, rest))
+Gives refusals view read s t kept (Err r) = Stopped refusals read s kept r
 
--- The same of a step from one place in an input to another.
-abbrev pub GivesAt : {X A : Type 0} → (X → A) → (List ℕ → Reads A) → Input → Input → Result X Error → Type 0
-GivesAt view read old new result = Gives view (total old) new.rest result (read old.rest)
+-- a refusal by this code, at this offset
+abbrev pub IsAt : ReadErrorCode → ℕ → ReadError → Type 0
+IsAt code offset e = (why e ≡ code) × (place e ≡ offset)
 
--- The same of a step that reads values, of which the input's length decides where a text may end.
-abbrev pub GivesFrom : {X A : Type 0} → (X → A) → (Reading Val Vals (Pairs → Pairs) → List ℕ → Reads A) → Input → Input → Result X Error → Type 0
-GivesFrom view read old new result = GivesAt view (read (values_within (total old))) old new result
+-- the error that a call makes of a refusal
+abbrev pub IsErrorOf : Option ReadError → Refused → Error → Type 0
+IsErrorOf kept refused.OutOfMemory e = IsOutOfMemory e
+IsErrorOf None refused.Kept e = IsOutOfMemory e
+IsErrorOf (Some q) refused.Kept e = (code_of e ≡ error_code (why q)) × (offset_of e ≡ place q)
 
--- the same of a whole input, of which nothing is left
-abbrev pub GivesWhole : {X A : Type 0} → (X → A) → ℕ → Result X Error → Result A Fault → Type 0
-GivesWhole view end (Ok x) read = read ≡ Ok (view x)
-GivesWhole view end (Err e) read = Fails end e read
+-- nothing is to come
+abbrev pub end_at : List ℕ → Reads (Unit {0})
+end_at [] = Ok (tt, [])
+end_at (b ∷ bs) = Err (record { why = trailing_data; left = length bs })
 
--- the bytes of the chunks that are read
-abbrev pub joined_of : Reads (List Chunk) → Reads (List ℕ)
-joined_of read = read >>= (λ cs. Ok (joined cs.0, cs.1))
+-- an item, and nothing behind it
+abbrev pub whole_at : ℕ → Limits → List ℕ → Reads Val
+whole_at levels l bs = item_at (values l) levels bs >>= (λ v. end_at v.1 >>= (λ u. Ok (v.0, u.1)))
 
--- the pairs that are made of those that are read
-abbrev pub made_of : Reads (Pairs → Pairs) → Reads Pairs
-made_of read = read >>= (λ ps. Ok (ps.0 no_pairs, ps.1))
+-- That nothing is to come; or why not.
+abbrev pub Ends : (ReadErrorCode → Bool) → Input → Result (Unit {0}) Error → Type 0
+Ends refusals s (Ok u) = (bs : List ℕ) → Tells s bs → bs ≡ []
+Ends refusals s (Err e) = (bs : List ℕ) → Tells s bs → FailsBy (Reports refusals) (code_of e) (s.offset + length bs) (offset_of e) (end_at bs)
 
--- what remains of an array or a map
-abbrev pub remaining_of : Remaining → reader.Remaining
-remaining_of (Counted n) = reader.counted n
-remaining_of ToBreak = reader.to_break
+-- a byte at the least was taken
+pub record Onward (s t : Input) : Type 0 where
+  pub further : s.offset < t.offset
+  pub counted : s.offset < 2 ^ 64
 
--- what remains behind the next part, where one comes
-abbrev pub next_of : Remaining → Bool → Option reader.Remaining
-next_of remaining true = Some (remaining_of remaining)
-next_of remaining false = None
+-- the buffer stays
+abbrev pub Keeps : Input → Input → Type 0
+Keeps s t = t.buffer ≡ s.buffer
+
+-- The value of all that a source has to give, of which nothing was taken; or the fault that the
+-- reference reader meets.
+abbrev pub GivesAll : {X : Type 0} → (ReadErrorCode → Bool) → (X → Val) → Input → Result X Error → Type 0
+GivesAll refusals view s (Ok x) = (bs : List ℕ) → Tells s bs → s.offset ≡ 0 → read_value_in s.room bs ≡ Ok (view x)
+GivesAll refusals view s (Err e) = (bs : List ℕ) → Tells s bs → s.offset ≡ 0 → FailsBy (Reports refusals) (code_of e) (length bs) (offset_of e) (read_value_in s.room bs)

@@ -1,26 +1,11 @@
--- What a reader means as a source, with a byte of it that may have been peeked.
+-- What the calls of a reader do, with a byte of it that may have been peeked.
 use Rattle.std.specs.Prelude.{◌≡◌, ℕ, ◌^◌, ◌-◌, ◌≤◌, if◌then◌else◌, nat_lt, List, [], ◌∷◌, length}
 use Rattle.std.specs.Prelude.{take, Option, Some, None, Result, Ok, Err}
-use Rattle.std.specs.Io.KnownBytes.{Consumes, Keeps, IsAtEnd, prepend_known}
+use Rattle.std.specs.Io.KnownBytes.{Consumes, Keeps, IsAtEnd}
 use Rattle.cbor_io.specs.ReadError.{why, place, error_code}
 use Rattle.cbor_io.specs.Source.{Input, TookKept, RefusedByte, reader_refusals}
 use Rattle.cbor_io.specs.Write.{IsFaultCode}
 use Rattle.cbor_io.specs.declared.read.read_error.ReadError.{ReadError}
-
--- the bytes that a reader has left, behind the byte that was peeked
-abbrev pub with_peeked : Option ℕ → Option (List ℕ) → Option (List ℕ)
-with_peeked None remaining = remaining
-with_peeked (Some b) remaining = prepend_known (b ∷ []) remaining
-
--- a reader, of which offset bytes were handed out
-abbrev pub reader_input : Option ℕ → Option (List ℕ) → List ℕ → ℕ → Input
-reader_input peeked remaining buffer offset =
-    record {
-      to_come = with_peeked peeked remaining;
-      buffer = buffer;
-      offset = offset;
-      room = None;
-    }
 
 -- the peeked byte, where the offset can count it
 abbrev pub peeked_at : ℕ → Option ℕ → Option ℕ

@@ -2,7 +2,7 @@
 use Rattle.std.specs.Prelude.{◌≡◌, ◌≢◌, ⊤, ℕ, ◌+◌, ◌^◌, ◌-◌, ◌<◌, ◌≤◌, Bool, true, false, List, []}
 use Rattle.std.specs.Prelude.{◌∷◌, ◌++◌, length, drop, Option, Some, None, Result, Ok, Err, IfSome}
 use Rattle.std.specs.Prelude.{MatchResult, MatchOption}
-use Rattle.std.specs.Io.KnownBytes.{Consumes, Keeps}
+use Rattle.std.specs.Io.KnownBytes.{Consumes, Keeps, prepend_known}
 use Rattle.cbor_io.specs.ReadError.{why, place, HasNoPlace}
 use Rattle.cbor_io.specs.declared.read.read_error.ReadError.{ReadError}
 use Rattle.cbor_io.specs.declared.read.read_error.ReadErrorCode.{ReadErrorCode}
@@ -96,6 +96,10 @@ pub record TookBehind (s t : Input) (n : ℕ) (old new : List ℕ) : Type 0 wher
   pub kept : t.buffer ≡ s.buffer
   pub behind : new ≡ old ++ some
 
+-- the buffer is no longer than the most that it holds
+abbrev pub FitsRoom : Input → Type 0
+FitsRoom s = MatchOption s.room ⊤ (λ most. length s.buffer ≤ most)
+
 -- ---- refusals
 
 -- fewer than n bytes are to come, and at is where they end
@@ -176,6 +180,21 @@ ReadLeaves allowed s t n r =
 abbrev pub slice_input : List ℕ → ℕ → List ℕ → Option ℕ → Input
 slice_input bs taken buffer room =
     record { to_come = Some (drop taken bs); buffer = buffer; offset = taken; room = room }
+
+-- the bytes that a reader has left, behind the byte that was peeked
+abbrev pub with_peeked : Option ℕ → Option (List ℕ) → Option (List ℕ)
+with_peeked None remaining = remaining
+with_peeked (Some b) remaining = prepend_known (b ∷ []) remaining
+
+-- a reader, of which offset bytes were handed out
+abbrev pub reader_input : Option ℕ → Option (List ℕ) → List ℕ → ℕ → Input
+reader_input peeked remaining buffer offset =
+    record {
+      to_come = with_peeked peeked remaining;
+      buffer = buffer;
+      offset = offset;
+      room = None;
+    }
 
 -- which codes each source may answer
 abbrev pub slice_refusals : ReadErrorCode → Bool

@@ -1,7 +1,6 @@
 -- What each source of this crate means.
 use Rattle.std.specs.Prelude.{ℕ, ◌+◌, List, length, take, drop, Option, None, Some}
-use Rattle.cbor_io.specs.Reader.{reader_input}
-use Rattle.cbor_io.specs.Source.{Input, slice_input}
+use Rattle.cbor_io.specs.Source.{Input, slice_input, reader_input}
 use Rattle.cbor_io.specs.declared.read.io_read.IoRead.{IoRead}
 use Rattle.cbor_io.specs.declared.read.mut_slice_read.MutSliceRead.{MutSliceRead}
 use Rattle.cbor_io.specs.declared.read.slice_read.SliceRead.{SliceRead}

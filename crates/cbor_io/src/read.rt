@@ -4,7 +4,7 @@ ghost use Rattle.std.specs.Prelude.{◌≡◌, ℕ, ◌<◌, ◌^◌, Bool, List
 ghost use types.Logic.{sem};
 ghost use Rattle.std.specs.Io.BufRead.{Rests};
 ghost use Rattle.std.specs.Io.KnownBytes.{Keeps};
-ghost use Rattle.cbor_io.specs.Source.{Input, Lends, TookKept, Stays, KeepsBytes, Buffered, TookBehind, RefusedToBuffer, RefusedInto, RefusedByte, or_memory, NextDoes, ReadLeaves, part_bytes, is_long};
+ghost use Rattle.cbor_io.specs.Source.{Input, Lends, TookKept, Stays, KeepsBytes, Buffered, TookBehind, FitsRoom, RefusedToBuffer, RefusedInto, RefusedByte, or_memory, NextDoes, ReadLeaves, part_bytes, is_long};
 
 mod front;
 mod io_read;
@@ -238,6 +238,7 @@ pub trait Source {
     /// Takes n bytes, to the buffer's end.
     fn read_to_buffer(&mut self, n: usize) -> Result<()>
         ensures ok { OnOk result (Buffered (source self.old) (source self.new) n) }
+        ensures fits { OnOk result (FitsRoom (source self.new)) }
         ensures err { IfErr result (RefusedToBuffer refusals (source self.old) (source self.new) n) };
 
     /// What was joined in the buffer.

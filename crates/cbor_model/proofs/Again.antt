@@ -1,5 +1,5 @@
 -- What is spelled is read.
-use Rattle.std.proofs.Common.{◌≡◌, ℕ, zero, suc, ◌+◌, ◌*◌, ◌<◌, ◌≤◌, true, false, eqb, List, [], ◌∷◌, ◌++◌, length, Option, Some, Ok, refl, ap, ◌∙◌, append_assoc, arith, None}
+use Rattle.std.proofs.Common.{◌≡◌, ℕ, zero, suc, ◌+◌, ◌*◌, ◌<◌, ◌≤◌, true, false, eqb, List, [], ◌∷◌, ◌++◌, length, Option, Some, Ok, refl, sym, ap, ◌∙◌, append_assoc, arith, None, Bool}
 use Rattle.std.specs.Prelude.{flat_map}
 use Rattle.std.specs.List.{AllByRecursion}
 use Rattle.std.specs.Int.{w16, w32, w64}
@@ -7,10 +7,10 @@ use Rattle.std.proofs.lemmas.Bool.{ne_eqb, eq-eqb, lt-ltb}
 use Rattle.std.proofs.lemmas.List.{length-append}
 use Rattle.cbor_model.specs.Head.{HeadWidth, limit, info, head, behind}
 use Rattle.cbor_model.specs.Raw as raw
-use Rattle.cbor_model.specs.Raw.{Length, definite, indefinite, Raw, Raws, no_raws, RawPairs, no_raw_pairs, raw_pair, Chunk, joined, Simple, false_item, true_item, null_item, undefined_item, FloatWidth, half, single, double, float_limit, count, pair_count, depth, depth_all, depth_pairs, IsChunk, IsWellFormed, AreWellFormed, ArePairsWellFormed, EachText, EachTextOfAll, EachTextOfPairs}
+use Rattle.cbor_model.specs.Raw.{Length, definite, indefinite, Raw, Raws, no_raws, RawPairs, no_raw_pairs, raw_pair, Chunk, joined, Simple, false_item, true_item, null_item, undefined_item, FloatWidth, half, single, double, float_limit, count, pair_count, depth, depth_all, depth_pairs, IsChunk, IsWellFormed, AreWellFormed, ArePairsWellFormed, EachText, EachTextOfAll, EachTextOfPairs, EachJoined, EachJoinedOfAll, EachJoinedOfPairs}
 use Rattle.cbor_model.specs.Spelling.{spell, spell_all, spell_pairs, chunk, simple_byte, float_spelling, break}
 use Rattle.cbor_model.specs.Refusal.{Refusal, end_in_array, end_in_map}
-use Rattle.cbor_model.specs.Reader.{Reads, ◌>>=◌, Reading, byte_at, float_at, simple_at, string_at, checked_text, text_at, chunk_at, chunks_by, string_chunks_at, text_chunks_at, Remaining, counted, to_break, next_at, Parts, parts_by, parts_at, pair_at, items_of, pairs_of, array_at, map_at, tag_at, content_at, indefinite_at, after_first, item_by, item_at, inside}
+use Rattle.cbor_model.specs.Reader.{Reads, ◌>>=◌, Reading, byte_at, float_at, simple_at, string_at, checked_text, text_at, content_of_chunk, chunk_at, chunks_by, string_chunks_at, text_chunks_at, Remaining, counted, to_break, next_at, Parts, parts_by, parts_at, pair_at, items_of, pairs_of, array_at, map_at, tag_at, content_at, indefinite_at, after_first, item_by, item_at, inside}
 use Rattle.cbor_model.proofs.Made.{made, made_all, made_pairs}
 use Rattle.cbor_model.proofs.Steps.{bytes_again, wide16, wide32, wide64, number_again, info-below, width_of-info, number_behind_again, major_of, low_of}
 use Rattle.cbor_model.proofs.Found.{Passes}
@@ -18,6 +18,52 @@ use Rattle.cbor_model.proofs.Found.{Passes}
 -- each text that fits what is left has room, where no more than so many bytes are left
 abbrev pub HasRoom : {Item Items Pairs : Type 0} → Reading Item Items Pairs → ℕ → Type 0
 HasRoom m total = (left n : ℕ) → n ≤ left → left ≤ total → m.has_room left n ≡ true
+
+-- no chunks are too long where longer ones aren't
+abbrev pub Grows : (ℕ → Bool) → Type 0
+Grows exceeds = (a b : ℕ) → a ≤ b → exceeds b ≡ false → exceeds a ≡ false
+
+-- chunks of these bytes are joined
+abbrev pub Joins : {Item Items Pairs : Type 0} → Reading Item Items Pairs → List ℕ → Type 0
+Joins m b = m.exceeds (length b) ≡ false
+
+-- each text passes, and each chunked string is joined
+abbrev mutual
+  pub Lets : {Item Items Pairs : Type 0} → Reading Item Items Pairs → Raw → Type 0
+  Lets m (raw.text c) = Passes m c.bytes
+  Lets m (raw.bytes_chunks cs) = Joins m (joined cs)
+  Lets m (raw.text_chunks cs) = Passes m (joined cs) × Joins m (joined cs)
+  Lets m (raw.array l rs) = LetsAll m rs
+  Lets m (raw.map l ps) = LetsPairs m ps
+  Lets m (raw.tag w n r) = Lets m r
+  Lets m _ = Unit {0}
+
+  pub LetsAll : {Item Items Pairs : Type 0} → Reading Item Items Pairs → Raws → Type 0
+  LetsAll m no_raws = Unit {0}
+  LetsAll m (raw.raw r rs) = Lets m r × LetsAll m rs
+
+  pub LetsPairs : {Item Items Pairs : Type 0} → Reading Item Items Pairs → RawPairs → Type 0
+  LetsPairs m no_raw_pairs = Unit {0}
+  LetsPairs m (raw_pair k v ps) = Lets m k × Lets m v × LetsPairs m ps
+
+module _ {Item Items Pairs : Type 0} (m : Reading Item Items Pairs) where
+  mutual
+    pub lets : (r : Raw) → EachText (Passes m) r → EachJoined (Joins m) r → Lets m r
+    lets (raw.text c) texts joins = texts
+    lets (raw.bytes_chunks cs) texts joins = joins
+    lets (raw.text_chunks cs) texts joins = (texts, joins)
+    lets (raw.array l rs) texts joins = lets_all rs texts joins
+    lets (raw.map l ps) texts joins = lets_pairs ps texts joins
+    lets (raw.tag w n r) texts joins = lets r texts joins
+    lets _ texts joins = tt
+
+    lets_all : (rs : Raws) → EachTextOfAll (Passes m) rs → EachJoinedOfAll (Joins m) rs → LetsAll m rs
+    lets_all no_raws texts joins = tt
+    lets_all (raw.raw r rs) texts joins = (lets r texts.0 joins.0, lets_all rs texts.1 joins.1)
+
+    lets_pairs : (ps : RawPairs) → EachTextOfPairs (Passes m) ps → EachJoinedOfPairs (Joins m) ps → LetsPairs m ps
+    lets_pairs no_raw_pairs texts joins = tt
+    lets_pairs (raw_pair k v ps) texts joins = (lets k texts.0 joins.0, lets v texts.1 joins.1, lets_pairs ps texts.2 joins.2)
 
 -- ---- first bytes
 
@@ -123,26 +169,29 @@ chunk_count-le major (c ∷ cs) =
 behind_parts : (a b c rest : List ℕ) → ((a ++ b) ++ c) ++ rest ≡ a ++ (b ++ (c ++ rest))
 behind_parts a b c rest = simp append_assoc
 
-chunk_again : (major : ℕ) (c : Chunk) (rest : List ℕ) → IsChunk c → chunk_at major (32 * major + info c.width (length c.bytes)) (behind c.width (length c.bytes) ++ (c.bytes ++ rest)) ≡ Ok (c, rest)
-unfolding chunk_at
-chunk_again major c rest fits =
+chunk_again : (exceeds : ℕ → Bool) (major : ℕ) (c : Chunk) (rest : List ℕ) → IsChunk c → exceeds (length c.bytes) ≡ false → chunk_at exceeds major (32 * major + info c.width (length c.bytes)) (behind c.width (length c.bytes) ++ (c.bytes ++ rest)) ≡ Ok (c, rest)
+unfolding chunk_at content_of_chunk
+chunk_again exceeds major c rest fits joins =
     let w = c.width in
     let n = length c.bytes in
     let below : info w n < 28 = info-below w n fits.0 in
     let small : info w n < 32 = omega arith in
-    rw (major_of major (info w n) small, low_of major (info w n) small, eq-eqb major major refl, lt-ltb (info w n) 28 below, number_behind_again w n (c.bytes ++ rest) fits.0, bytes_again c.bytes rest, width_of-info w n fits.0) refl
+    rw (major_of major (info w n) small, low_of major (info w n) small, eq-eqb major major refl, lt-ltb (info w n) 28 below, number_behind_again w n (c.bytes ++ rest) fits.0, bytes_again c.bytes rest, joins, width_of-info w n fits.0) refl
 
-chunks_again : (major : ℕ) (cs : List Chunk) (fuel : ℕ) (rest : List ℕ) → major ≤ 6 → AllByRecursion IsChunk cs → length cs < fuel → chunks_by major fuel (flat_map (chunk major) cs ++ (0xff ∷ rest)) ≡ Ok (cs, rest)
+chunks_again : (exceeds : ℕ → Bool) → Grows exceeds → (have major : ℕ) (cs : List Chunk) (fuel : ℕ) (rest : List ℕ) → major ≤ 6 → AllByRecursion IsChunk cs → exceeds (have + length (joined cs)) ≡ false → length cs < fuel → chunks_by exceeds have major fuel (flat_map (chunk major) cs ++ (0xff ∷ rest)) ≡ Ok (cs, rest)
 unfolding chunks_by byte_at
-chunks_again major cs zero rest at_most fits enough = absurd (omega arith)
-chunks_again major [] (suc fuel) rest at_most fits enough = refl
-chunks_again major (c ∷ cs) (suc fuel) rest at_most fits enough =
+chunks_again exceeds grows have major cs zero rest at_most fits joins enough = absurd (omega arith)
+chunks_again exceeds grows have major [] (suc fuel) rest at_most fits joins enough = refl
+chunks_again exceeds grows have major (c ∷ cs) (suc fuel) rest at_most fits joins enough =
     let w = c.width in
     let n = length c.bytes in
     let more = flat_map (chunk major) cs ++ (0xff ∷ rest) in
-    let others : chunks_by major fuel more ≡ Ok (cs, rest) = chunks_again major cs fuel rest at_most fits.1 (omega arith) in
-    ap (λ (t : List ℕ). chunks_by major (suc fuel) ((32 * major + info w n) ∷ t)) (behind_parts (behind w n) c.bytes (flat_map (chunk major) cs) (0xff ∷ rest))
-    ∙ rw (head-no_break major w n at_most fits.0.0, chunk_again major c more fits.0, others) refl
+    let long : have + length (joined (c ∷ cs)) ≡ have + n + length (joined cs) = omega (arith, length-append c.bytes (joined cs)) in
+    let joins' : exceeds (have + n + length (joined cs)) ≡ false = ap exceeds (sym long) ∙ joins in
+    let others : chunks_by exceeds (have + n) major fuel more ≡ Ok (cs, rest) = chunks_again exceeds grows (have + n) major cs fuel rest at_most fits.1 joins' (omega arith) in
+    let one = chunk_again (λ n. exceeds (have + n)) major c more fits.0 (grows (have + n) (have + n + length (joined cs)) (omega arith) joins') in
+    ap (λ (t : List ℕ). chunks_by exceeds have major (suc fuel) ((32 * major + info w n) ∷ t)) (behind_parts (behind w n) c.bytes (flat_map (chunk major) cs) (0xff ∷ rest))
+    ∙ rw (head-no_break major w n at_most fits.0.0, one, others) refl
 
 -- ---- items
 
@@ -184,17 +233,18 @@ module _ {Item Items Pairs : Type 0} (m : Reading Item Items Pairs) where
   text_again c rest room passes = rw (room, bytes_again c.bytes rest, passes) refl
 
   -- chunks behind their first byte, in a reader with this much fuel
-  all_chunks_again : (major : ℕ) (cs : List Chunk) (rest : List ℕ) → major ≤ 6 → AllByRecursion IsChunk cs → chunks_by major (suc (length (flat_map (chunk major) cs ++ (0xff ∷ rest)))) (flat_map (chunk major) cs ++ (0xff ∷ rest)) ≡ Ok (cs, rest)
-  all_chunks_again major cs rest at_most fits =
-      chunks_again major cs _ rest at_most fits (omega (arith, chunk_count-le major cs, length-append (flat_map (chunk major) cs) (0xff ∷ rest)))
+  all_chunks_again : Grows m.exceeds → (major : ℕ) (cs : List Chunk) (rest : List ℕ) → major ≤ 6 → AllByRecursion IsChunk cs → Joins m (joined cs) → chunks_by m.exceeds 0 major (suc (length (flat_map (chunk major) cs ++ (0xff ∷ rest)))) (flat_map (chunk major) cs ++ (0xff ∷ rest)) ≡ Ok (cs, rest)
+  all_chunks_again grows major cs rest at_most fits joins =
+      let none : 0 + length (joined cs) ≡ length (joined cs) = omega arith in
+      chunks_again m.exceeds grows 0 major cs _ rest at_most fits (ap m.exceeds none ∙ joins) (omega (arith, chunk_count-le major cs, length-append (flat_map (chunk major) cs) (0xff ∷ rest)))
 
-  string_chunks_again : (inner : Option (List ℕ → Reads Item)) (cs : List Chunk) (rest : List ℕ) → AllByRecursion IsChunk cs → item_by m inner (0x5f ∷ (flat_map (chunk 2) cs ++ (0xff ∷ rest))) ≡ Ok (m.bytes_chunks cs, rest)
+  string_chunks_again : Grows m.exceeds → (inner : Option (List ℕ → Reads Item)) (cs : List Chunk) (rest : List ℕ) → AllByRecursion IsChunk cs → Joins m (joined cs) → item_by m inner (0x5f ∷ (flat_map (chunk 2) cs ++ (0xff ∷ rest))) ≡ Ok (m.bytes_chunks cs, rest)
   unfolding item_by byte_at after_first indefinite_at string_chunks_at
-  string_chunks_again inner cs rest fits = rw (all_chunks_again 2 cs rest (omega arith) fits) refl
+  string_chunks_again grows inner cs rest fits joins = rw (all_chunks_again grows 2 cs rest (omega arith) fits joins) refl
 
-  text_chunks_again : (inner : Option (List ℕ → Reads Item)) (cs : List Chunk) (rest : List ℕ) → AllByRecursion IsChunk cs → Passes m (joined cs) → item_by m inner (0x7f ∷ (flat_map (chunk 3) cs ++ (0xff ∷ rest))) ≡ Ok (m.text_chunks cs, rest)
+  text_chunks_again : Grows m.exceeds → (inner : Option (List ℕ → Reads Item)) (cs : List Chunk) (rest : List ℕ) → AllByRecursion IsChunk cs → Passes m (joined cs) → Joins m (joined cs) → item_by m inner (0x7f ∷ (flat_map (chunk 3) cs ++ (0xff ∷ rest))) ≡ Ok (m.text_chunks cs, rest)
   unfolding item_by byte_at after_first indefinite_at text_chunks_at checked_text
-  text_chunks_again inner cs rest fits passes = rw (all_chunks_again 3 cs rest (omega arith) fits, passes) refl
+  text_chunks_again grows inner cs rest fits passes joins = rw (all_chunks_again grows 3 cs rest (omega arith) fits joins, passes) refl
 
   -- ---- what lies one level further in, by a reader p that reads it
 
@@ -235,12 +285,12 @@ within_head a b rest total within = omega (arith, length-append (a ++ b) rest, l
 within_break : (first : ℕ) (parts rest : List ℕ) (total : ℕ) → length ((first ∷ (parts ++ break)) ++ rest) ≤ total → length (parts ++ (0xff ∷ rest)) ≤ total
 within_break first parts rest total within = omega (arith, ap length (append_assoc parts break rest))
 
-module _ {Item Items Pairs : Type 0} (m : Reading Item Items Pairs) (total : ℕ) (room : HasRoom m total) where
+module _ {Item Items Pairs : Type 0} (m : Reading Item Items Pairs) (total : ℕ) (room : HasRoom m total) (grows : Grows m.exceeds) where
   mutual
     unfolding spell content_at made
 
     -- what is spelled is read, where each text has room and passes
-    pub again : (r : Raw) (levels : ℕ) (rest : List ℕ) → IsWellFormed r → depth r ≤ levels → EachText (Passes m) r → length (spell r ++ rest) ≤ total → item_at m levels (spell r ++ rest) ≡ Ok (made m r, rest)
+    pub again : (r : Raw) (levels : ℕ) (rest : List ℕ) → IsWellFormed r → depth r ≤ levels → Lets m r → length (spell r ++ rest) ≤ total → item_at m levels (spell r ++ rest) ≡ Ok (made m r, rest)
     again (raw.unsigned w n) levels rest fits nests texts within = item_at-inside m levels _ ∙ head_again m (inside m levels) 0 w n rest (omega arith) fits
     again (raw.negative w n) levels rest fits nests texts within = item_at-inside m levels _ ∙ head_again m (inside m levels) 1 w n rest (omega arith) fits
     again (raw.bytes c) levels rest fits nests texts within =
@@ -251,9 +301,9 @@ module _ {Item Items Pairs : Type 0} (m : Reading Item Items Pairs) (total : ℕ
         let fits_room = room (length (b ++ rest)) (length b) (omega (arith, length-append b rest)) (within_head front b rest total within) in
         ap (item_at m levels) (append_assoc front b rest) ∙ item_at-inside m levels _ ∙ head_again m (inside m levels) 3 c.width (length b) (b ++ rest) (omega arith) fits.0 ∙ text_again m c rest fits_room texts
     again (raw.bytes_chunks cs) levels rest fits nests texts within =
-        ap (λ (t : List ℕ). item_at m levels (0x5f ∷ t)) (append_assoc (flat_map (chunk 2) cs) break rest) ∙ item_at-inside m levels _ ∙ string_chunks_again m (inside m levels) cs rest fits
+        ap (λ (t : List ℕ). item_at m levels (0x5f ∷ t)) (append_assoc (flat_map (chunk 2) cs) break rest) ∙ item_at-inside m levels _ ∙ string_chunks_again m grows (inside m levels) cs rest fits texts
     again (raw.text_chunks cs) levels rest fits nests texts within =
-        ap (λ (t : List ℕ). item_at m levels (0x7f ∷ t)) (append_assoc (flat_map (chunk 3) cs) break rest) ∙ item_at-inside m levels _ ∙ text_chunks_again m (inside m levels) cs rest fits texts
+        ap (λ (t : List ℕ). item_at m levels (0x7f ∷ t)) (append_assoc (flat_map (chunk 3) cs) break rest) ∙ item_at-inside m levels _ ∙ text_chunks_again m grows (inside m levels) cs rest fits texts.0 texts.1
     again (raw.array l rs) zero rest fits nests texts within = absurd (omega (arith, nests))
     again (raw.array (definite w) rs) (suc levels) rest fits nests texts within =
         let front = head 4 w (count rs) in
@@ -297,7 +347,7 @@ module _ {Item Items Pairs : Type 0} (m : Reading Item Items Pairs) (total : ℕ
     again (raw.simple s) levels rest fits nests texts within = item_at-inside m levels _ ∙ simple_again m (inside m levels) s rest
     again (raw.float f n) levels rest fits nests texts within = item_at-inside m levels _ ∙ float_again m (inside m levels) f n rest fits
 
-    pub all_again : (rs : Raws) (l : Length) (levels : ℕ) (rest : List ℕ) (fuel : ℕ) → AreWellFormed rs → depth_all rs ≤ levels → EachTextOfAll (Passes m) rs → length (spell_all rs ++ after_parts l rest) ≤ total → count rs < fuel
+    pub all_again : (rs : Raws) (l : Length) (levels : ℕ) (rest : List ℕ) (fuel : ℕ) → AreWellFormed rs → depth_all rs ≤ levels → LetsAll m rs → length (spell_all rs ++ after_parts l rest) ≤ total → count rs < fuel
         → parts_by (items_of m (item_at m levels)) fuel (remaining_of l (count rs)) (spell_all rs ++ after_parts l rest) ≡ Ok (made_all m rs, rest)
     all_again rs l levels rest zero fits nests texts within enough = absurd (omega arith)
     all_again no_raws l levels rest (suc fuel) fits nests texts within enough = parts_end (items_of m (item_at m levels)) fuel l rest
@@ -314,7 +364,7 @@ module _ {Item Items Pairs : Type 0} (m : Reading Item Items Pairs) (total : ℕ
         (again r levels more fits.0 (omega (arith, nests)) texts.0 within_one)
         (all_again rs l levels rest fuel fits.1 (omega (arith, nests)) texts.1 within_more (omega arith))
 
-    pub pairs_again : (ps : RawPairs) (l : Length) (levels : ℕ) (rest : List ℕ) (fuel : ℕ) → ArePairsWellFormed ps → depth_pairs ps ≤ levels → EachTextOfPairs (Passes m) ps → length (spell_pairs ps ++ after_parts l rest) ≤ total → pair_count ps < fuel
+    pub pairs_again : (ps : RawPairs) (l : Length) (levels : ℕ) (rest : List ℕ) (fuel : ℕ) → ArePairsWellFormed ps → depth_pairs ps ≤ levels → LetsPairs m ps → length (spell_pairs ps ++ after_parts l rest) ≤ total → pair_count ps < fuel
         → parts_by (pairs_of m (item_at m levels)) fuel (remaining_of l (pair_count ps)) (spell_pairs ps ++ after_parts l rest) ≡ Ok (made_pairs m ps, rest)
     pairs_again ps l levels rest zero fits nests texts within enough = absurd (omega arith)
     pairs_again no_raw_pairs l levels rest (suc fuel) fits nests texts within enough = parts_end (pairs_of m (item_at m levels)) fuel l rest

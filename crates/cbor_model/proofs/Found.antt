@@ -1,5 +1,5 @@
 -- What is read is spelled so.
-use Rattle.std.proofs.Common.{◌≡◌, ℕ, zero, suc, ◌+◌, ◌*◌, ◌/◌, ◌%◌, ◌<◌, ◌≤◌, Bool, true, false, cond, eqb, ltb, ◌&&◌, List, [], ◌∷◌, ◌++◌, length, Option, Some, None, Ok, refl, sym, ap, subst, ◌∙◌, append_assoc, arith, inl, inr}
+use Rattle.std.proofs.Common.{◌≡◌, ℕ, zero, suc, ◌+◌, ◌*◌, ◌/◌, ◌%◌, ◌<◌, ◌≤◌, Bool, true, false, cond, eqb, ltb, ◌&&◌, List, [], ◌∷◌, ◌++◌, length, Option, Some, None, Ok, refl, sym, ap, subst, ◌∙◌, append_assoc, arith, inl, inr, Err}
 use Rattle.std.specs.Prelude.{flat_map}
 use Rattle.std.specs.List.{AllByRecursion}
 use Rattle.std.specs.Int.{Width, w16, w32, w64, to_be_bytes}
@@ -8,8 +8,8 @@ use Rattle.cbor_model.specs.Head.{HeadWidth, limit, info, head, behind}
 use Rattle.cbor_model.specs.Raw as raw
 use Rattle.cbor_model.specs.Raw.{Length, definite, indefinite, Raw, Raws, no_raws, RawPairs, no_raw_pairs, raw_pair, Chunk, joined, Simple, false_item, true_item, null_item, undefined_item, FloatWidth, half, single, double, float_limit, count, pair_count, depth, depth_all, depth_pairs, AreBytes, IsChunk, IsWellFormed, AreWellFormed, ArePairsWellFormed, EachText, EachTextOfAll, EachTextOfPairs}
 use Rattle.cbor_model.specs.Spelling.{spell, spell_all, spell_pairs, chunk, simple_byte, float_spelling, break}
-use Rattle.cbor_model.specs.Refusal.{unassigned_code, unexpected_code, too_deep, length_out_of_range}
-use Rattle.cbor_model.specs.Reader.{Reads, ◌>>=◌, Reading, ended, before, byte_at, bytes_at, number_at, width_of, number_behind, float_at, simple_at, string_at, checked_text, text_at, begins_chunk, chunk_at, chunks_by, chunks_at, string_chunks_at, text_chunks_at, Remaining, counted, to_break, next_at, Parts, go_on, parts_by, parts_at, pair_at, items_of, pairs_of, array_at, map_at, tag_at, content_at, indefinite_at, after_first, item_by, item_at}
+use Rattle.cbor_model.specs.Refusal.{unassigned_code, unexpected_code, too_deep, length_out_of_range, scratch_too_small}
+use Rattle.cbor_model.specs.Reader.{Reads, ◌>>=◌, Reading, ended, before, byte_at, bytes_at, number_at, width_of, number_behind, float_at, simple_at, string_at, checked_text, text_at, begins_chunk, content_of_chunk, chunk_at, chunks_by, chunks_at, string_chunks_at, text_chunks_at, Remaining, counted, to_break, next_at, Parts, go_on, parts_by, parts_at, pair_at, items_of, pairs_of, array_at, map_at, tag_at, content_at, indefinite_at, after_first, item_by, item_at}
 use Rattle.cbor_model.proofs.Made.{made, made_all, made_pairs}
 use Rattle.cbor_model.proofs.Steps.{AreBytes-rest, bind_ok, chosen, done, ok_is, read_as, not_ok, bytes_found, IsWide, wide16, wide32, wide64, number_found, number_behind_found, first_is}
 
@@ -108,44 +108,47 @@ whole_head major b n w bs rest high low parts =
     let first : b ≡ 32 * major + info w n = omega (arith, first_is b) in
     ap (λ (c : ℕ). c ∷ bs) first ∙ ap (λ (t : List ℕ). (32 * major + info w n) ∷ t) parts
 
-chunk_found : (major b : ℕ) (bs : List ℕ) (x : Chunk × List ℕ) → AreBytes bs → chunk_at major b bs ≡ Ok x → IsChunkOf major b bs x
-unfolding chunk_at
-chunk_found major b bs x fits is =
+chunk_found : (exceeds : ℕ → Bool) (major b : ℕ) (bs : List ℕ) (x : Chunk × List ℕ) → AreBytes bs → chunk_at exceeds major b bs ≡ Ok x → IsChunkOf major b bs x
+unfolding chunk_at content_of_chunk
+chunk_found exceeds major b bs x fits is =
     elim (chosen (begins_chunk major b) _ _ _ is) [
       | inr other ↦ not_ok (before unexpected_code bs) x other.1
       | inl this ↦
           let w = width_of (b % 32) in
           let high : b / 32 ≡ major = eqb-true _ _ (both_hold (eqb (b / 32) major) (ltb (b % 32) 28) this.0).0 in
-          let step = bind_ok (number_behind (b % 32) bs) (λ n. bytes_at n.0 n.1 >>= (λ c. Ok (record { width = w; bytes = c.0 }, c.1))) x this.1 in
+          let step = bind_ok (number_behind (b % 32) bs) (λ n. content_of_chunk exceeds w n.0 n.1) x this.1 in
           let n = step.0.0 in
           let got = number_behind_found (b % 32) bs step.0 fits step.1 in
-          let step' = bind_ok (bytes_at n step.0.1) (λ c. Ok (record { width = w; bytes = c.0 }, c.1)) x step.2 in
+          let step' = bind_ok (bytes_at n step.0.1) (λ c. cond (exceeds n) (Err (before scratch_too_small step.0.1)) (Ok (record { width = w; bytes = c.0 }, c.1))) x step.2 in
           let c = step'.0 in
           let got' = bytes_found n step.0.1 c got.rest_fits step'.1 in
           let long : length c.0 ≡ n = got'.long in
           let small : n < limit w = got.fits in
-          read_as (IsChunkOf major b bs) (record { width = w; bytes = c.0 }, c.1) x step'.2 (record {
-            parts = whole_head major b n w bs step.0.1 high got.is_low got.parts ∙ behind_head major w n (length c.0) step.0.1 c.0 c.1 got'.parts long;
-            fits = (omega (arith, long, small), got'.fits);
-            rest_fits = got'.rest_fits;
-          })
+          elim (chosen (exceeds n) _ _ _ step'.2) [
+            | inl more ↦ not_ok (before scratch_too_small step.0.1) x more.1
+            | inr holds ↦ read_as (IsChunkOf major b bs) (record { width = w; bytes = c.0 }, c.1) x holds.1 (record {
+                parts = whole_head major b n w bs step.0.1 high got.is_low got.parts ∙ behind_head major w n (length c.0) step.0.1 c.0 c.1 got'.parts long;
+                fits = (omega (arith, long, small), got'.fits);
+                rest_fits = got'.rest_fits;
+              })
+          ]
     ]
 
-chunks_found : (major fuel : ℕ) (bs : List ℕ) (x : List Chunk × List ℕ) → AreBytes bs → chunks_by major fuel bs ≡ Ok x → AreChunks major bs x
+chunks_found : (exceeds : ℕ → Bool) (have major fuel : ℕ) (bs : List ℕ) (x : List Chunk × List ℕ) → AreBytes bs → chunks_by exceeds have major fuel bs ≡ Ok x → AreChunks major bs x
 unfolding chunks_by byte_at
-chunks_found major zero bs x fits is = not_ok ended x is
-chunks_found major (suc fuel) [] x fits is = not_ok ended x is
-chunks_found major (suc fuel) (b ∷ bs) x fits is =
+chunks_found exceeds have major zero bs x fits is = not_ok ended x is
+chunks_found exceeds have major (suc fuel) [] x fits is = not_ok ended x is
+chunks_found exceeds have major (suc fuel) (b ∷ bs) x fits is =
     let rest_fits = AreBytes-rest b bs fits in
     elim (chosen (eqb b 0xff) _ _ _ is) [
       | inl last ↦ read_as (AreChunks major (b ∷ bs)) ([], bs) x last.1 (record { parts = ap (λ (c : ℕ). c ∷ bs) (eqb-true _ _ last.0); fits = tt; rest_fits = rest_fits })
       | inr other ↦
-          let step = bind_ok (chunk_at major b bs) (λ c. chunks_by major fuel c.1 >>= (λ cs. Ok (c.0 ∷ cs.0, cs.1))) x other.1 in
+          let step = bind_ok (chunk_at (λ n. exceeds (have + n)) major b bs) (λ c. chunks_by exceeds (have + length c.0.bytes) major fuel c.1 >>= (λ cs. Ok (c.0 ∷ cs.0, cs.1))) x other.1 in
           let c = step.0 in
-          let got = chunk_found major b bs c rest_fits step.1 in
-          let step' = bind_ok (chunks_by major fuel c.1) (λ cs. Ok (c.0 ∷ cs.0, cs.1)) x step.2 in
+          let got = chunk_found (λ n. exceeds (have + n)) major b bs c rest_fits step.1 in
+          let step' = bind_ok (chunks_by exceeds (have + length c.0.bytes) major fuel c.1) (λ cs. Ok (c.0 ∷ cs.0, cs.1)) x step.2 in
           let cs = step'.0 in
-          let got' = chunks_found major fuel c.1 cs got.rest_fits step'.1 in
+          let got' = chunks_found exceeds (have + length c.0.bytes) major fuel c.1 cs got.rest_fits step'.1 in
           read_as (AreChunks major (b ∷ bs)) (c.0 ∷ cs.0, cs.1) x step'.2 (record {
             parts = two_parts (b ∷ bs) (chunk major c.0) c.1 (flat_map (chunk major) cs.0) (0xff ∷ cs.1) got.parts got'.parts;
             fits = (got.fits, got'.fits);
@@ -357,9 +360,9 @@ module _ {Item Items Pairs : Type 0} (m : Reading Item Items Pairs) where
   string_chunks_found : (levels : ℕ) (bs : List ℕ) (x : Item × List ℕ) → AreBytes bs → string_chunks_at m bs ≡ Ok x → IsIndefinite levels 2 bs x
   unfolding string_chunks_at spell made
   string_chunks_found levels bs x fits is =
-      let step = bind_ok (chunks_at 2 bs) (λ cs. Ok (m.bytes_chunks cs.0, cs.1)) x is in
+      let step = bind_ok (chunks_at m.exceeds 0 2 bs) (λ cs. Ok (m.bytes_chunks cs.0, cs.1)) x is in
       let cs = step.0 in
-      let got = chunks_found 2 (suc (length bs)) bs cs fits step.1 in
+      let got = chunks_found m.exceeds 0 2 (suc (length bs)) bs cs fits step.1 in
       read_as (IsIndefinite levels 2 bs) (m.bytes_chunks cs.0, cs.1) x step.2 (record {
         item = raw.bytes_chunks cs.0;
         made_is = refl;
@@ -373,9 +376,9 @@ module _ {Item Items Pairs : Type 0} (m : Reading Item Items Pairs) where
   text_chunks_found : (levels : ℕ) (bs : List ℕ) (x : Item × List ℕ) → AreBytes bs → text_chunks_at m bs ≡ Ok x → IsIndefinite levels 3 bs x
   unfolding text_chunks_at checked_text spell made
   text_chunks_found levels bs x fits is =
-      let step = bind_ok (chunks_at 3 bs) (λ cs. checked_text m (m.text_chunks cs.0) (joined cs.0) cs.1) x is in
+      let step = bind_ok (chunks_at m.exceeds 0 3 bs) (λ cs. checked_text m (m.text_chunks cs.0) (joined cs.0) cs.1) x is in
       let cs = step.0 in
-      let got = chunks_found 3 (suc (length bs)) bs cs fits step.1 in
+      let got = chunks_found m.exceeds 0 3 (suc (length bs)) bs cs fits step.1 in
       elim (chosen (m.is_text (joined cs.0)) _ _ _ step.2) [
         | inr other ↦ not_ok _ x other.1
         | inl passes ↦ read_as (IsIndefinite levels 3 bs) (m.text_chunks cs.0, cs.1) x passes.1 (record {

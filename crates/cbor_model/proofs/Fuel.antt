@@ -1,5 +1,5 @@
 -- What the readers with fuel read doesn't depend on it, once it is above the number of bytes.
-use Rattle.std.proofs.Common.{◌≡◌, ℕ, zero, suc, ◌<◌, ◌≤◌, Bool, true, false, cond, eqb, List, [], ◌∷◌, length, Option, Some, None, Result, Ok, Err, refl, ap, arith}
+use Rattle.std.proofs.Common.{◌≡◌, ℕ, zero, suc, ◌<◌, ◌≤◌, Bool, true, false, cond, eqb, List, [], ◌∷◌, length, Option, Some, None, Result, Ok, Err, refl, ap, arith, ◌+◌}
 use Rattle.cbor_model.specs.Reader.{Fault, Reads, ◌>>=◌, byte_at, chunk_at, chunks_by, Remaining, next_at, Parts, go_on, parts_by, pair_at}
 use Rattle.cbor_model.proofs.Steps.{bind_ok, ok_is}
 use Rattle.cbor_model.proofs.Taken.{chunk_taken, next_taken}
@@ -12,16 +12,16 @@ cond_same : {A : Type 0} (b : Bool) (x x' y y' : A) → x ≡ x' → y ≡ y' �
 cond_same true x x' y y' one other = one
 cond_same false x x' y y' one other = other
 
-pub chunks_by-fuel : (major f g : ℕ) (bs : List ℕ) → length bs < f → length bs < g → chunks_by major f bs ≡ chunks_by major g bs
+pub chunks_by-fuel : (exceeds : ℕ → Bool) (have major f g : ℕ) (bs : List ℕ) → length bs < f → length bs < g → chunks_by exceeds have major f bs ≡ chunks_by exceeds have major g bs
 unfolding chunks_by byte_at
-chunks_by-fuel major zero g bs enough enough' = absurd (omega arith)
-chunks_by-fuel major (suc f) zero bs enough enough' = absurd (omega arith)
-chunks_by-fuel major (suc f) (suc g) [] enough enough' = refl
-chunks_by-fuel major (suc f) (suc g) (b ∷ bs) enough enough' =
+chunks_by-fuel exceeds have major zero g bs enough enough' = absurd (omega arith)
+chunks_by-fuel exceeds have major (suc f) zero bs enough enough' = absurd (omega arith)
+chunks_by-fuel exceeds have major (suc f) (suc g) [] enough enough' = refl
+chunks_by-fuel exceeds have major (suc f) (suc g) (b ∷ bs) enough enough' =
     cond_same (eqb b 0xff) _ _ _ _ refl
-    (bind_same (chunk_at major b bs) _ _ (λ c is.
-    let few = chunk_taken major b bs c is in
-    let others : chunks_by major f c.1 ≡ chunks_by major g c.1 = chunks_by-fuel major f g c.1 (omega arith) (omega arith) in
+    (bind_same (chunk_at (λ n. exceeds (have + n)) major b bs) _ _ (λ c is.
+    let few = chunk_taken (λ n. exceeds (have + n)) major b bs c is in
+    let others = chunks_by-fuel exceeds (have + length c.0.bytes) major f g c.1 (omega arith) (omega arith) in
     rw others refl))
 
 module _ {Part Whole : Type 0} (ps : Parts Part Whole) (takes : (bs : List ℕ) (x : Part × List ℕ) → ps.part bs ≡ Ok x → length x.1 < length bs) where

@@ -1,11 +1,11 @@
 -- What a reading makes of an item.
-use Rattle.std.proofs.Common.{◌≡◌, ℕ, refl, ap, ◌∙◌}
+use Rattle.std.proofs.Common.{◌≡◌, ℕ, Option, refl, ap, ◌∙◌}
 use Rattle.cbor_model.specs.Raw as raw
 use Rattle.cbor_model.specs.Raw.{Raw, Raws, no_raws, RawPairs, no_raw_pairs, raw_pair}
 use Rattle.cbor_model.specs.Plain as plain
 use Rattle.cbor_model.specs.Plain.{val, no_pairs}
 use Rattle.cbor_model.specs.Value.{value, values, pairs, put}
-use Rattle.cbor_model.specs.Reader.{Reading, values_within}
+use Rattle.cbor_model.specs.Reader.{Reading, values_in}
 
 unfoldable mutual
   pub made : {Item Items Pairs : Type 0} → Reading Item Items Pairs → Raw → Item
@@ -33,27 +33,27 @@ unfoldable mutual
 mutual
   unfolding made value
 
-  pub made-value : (total : ℕ) (r : Raw) → made (values_within total) r ≡ value r
-  made-value total (raw.unsigned w n) = refl
-  made-value total (raw.negative w n) = refl
-  made-value total (raw.bytes c) = refl
-  made-value total (raw.text c) = refl
-  made-value total (raw.bytes_chunks cs) = refl
-  made-value total (raw.text_chunks cs) = refl
-  made-value total (raw.array l rs) = ap plain.array (made_all-values total rs)
-  made-value total (raw.map l ps) = ap plain.map (made_pairs-pairs total ps no_pairs)
-  made-value total (raw.tag w n r) = ap (plain.tag n) (made-value total r)
-  made-value total (raw.simple s) = refl
-  made-value total (raw.float w bits) = refl
+  pub made-value : (total : ℕ) (most : Option ℕ) (r : Raw) → made (values_in total most) r ≡ value r
+  made-value total most (raw.unsigned w n) = refl
+  made-value total most (raw.negative w n) = refl
+  made-value total most (raw.bytes c) = refl
+  made-value total most (raw.text c) = refl
+  made-value total most (raw.bytes_chunks cs) = refl
+  made-value total most (raw.text_chunks cs) = refl
+  made-value total most (raw.array l rs) = ap plain.array (made_all-values total most rs)
+  made-value total most (raw.map l ps) = ap plain.map (made_pairs-pairs total most ps no_pairs)
+  made-value total most (raw.tag w n r) = ap (plain.tag n) (made-value total most r)
+  made-value total most (raw.simple s) = refl
+  made-value total most (raw.float w bits) = refl
 
-  pub made_all-values : (total : ℕ) (rs : Raws) → made_all (values_within total) rs ≡ values rs
-  made_all-values total no_raws = refl
-  made_all-values total (raw.raw r rs) =
-      ap (λ (v : plain.Val). val v (made_all (values_within total) rs)) (made-value total r) ∙ ap (val (value r)) (made_all-values total rs)
+  pub made_all-values : (total : ℕ) (most : Option ℕ) (rs : Raws) → made_all (values_in total most) rs ≡ values rs
+  made_all-values total most no_raws = refl
+  made_all-values total most (raw.raw r rs) =
+      ap (λ (v : plain.Val). val v (made_all (values_in total most) rs)) (made-value total most r) ∙ ap (val (value r)) (made_all-values total most rs)
 
-  pub made_pairs-pairs : (total : ℕ) (ps : RawPairs) (before : plain.Pairs) → made_pairs (values_within total) ps before ≡ pairs ps before
-  made_pairs-pairs total no_raw_pairs before = refl
-  made_pairs-pairs total (raw_pair k v ps) before =
-      ap (λ (l : plain.Val). made_pairs (values_within total) ps (put l (made (values_within total) v) before)) (made-value total k)
-      ∙ ap (λ (w : plain.Val). made_pairs (values_within total) ps (put (value k) w before)) (made-value total v)
-      ∙ made_pairs-pairs total ps (put (value k) (value v) before)
+  pub made_pairs-pairs : (total : ℕ) (most : Option ℕ) (ps : RawPairs) (before : plain.Pairs) → made_pairs (values_in total most) ps before ≡ pairs ps before
+  made_pairs-pairs total most no_raw_pairs before = refl
+  made_pairs-pairs total most (raw_pair k v ps) before =
+      ap (λ (l : plain.Val). made_pairs (values_in total most) ps (put l (made (values_in total most) v) before)) (made-value total most k)
+      ∙ ap (λ (w : plain.Val). made_pairs (values_in total most) ps (put (value k) w before)) (made-value total most v)
+      ∙ made_pairs-pairs total most ps (put (value k) (value v) before)

@@ -1,11 +1,11 @@
 -- An item takes a byte at the least, and no step of reading leaves more bytes than it began with.
-use Rattle.std.proofs.Common.{◌≡◌, ℕ, zero, suc, ◌/◌, ◌%◌, ◌<◌, ◌≤◌, Bool, true, false, cond, eqb, ltb, List, [], ◌∷◌, length, Option, Some, None, Ok, Err, subst, arith}
+use Rattle.std.proofs.Common.{◌≡◌, ℕ, zero, suc, ◌+◌, ◌/◌, ◌%◌, ◌<◌, ◌≤◌, Bool, true, false, cond, eqb, ltb, List, [], ◌∷◌, length, Option, Some, None, Ok, Err, subst, arith}
 use Rattle.std.specs.Int.{Width, w8, w16, w32, w64, byte_len}
 use Rattle.std.proofs.lemmas.List.{length-drop}
 use Rattle.cbor_model.specs.Head.{HeadWidth}
 use Rattle.cbor_model.specs.Raw.{Length, definite, indefinite, Chunk}
 use Rattle.cbor_model.specs.Refusal.{Refusal}
-use Rattle.cbor_model.specs.Reader.{Reads, ◌>>=◌, Reading, byte_at, bytes_at, number_at, number_behind, float_at, simple_at, string_at, checked_text, text_at, begins_chunk, chunk_at, chunks_by, chunks_at, string_chunks_at, text_chunks_at, Remaining, counted, to_break, next_at, Parts, go_on, parts_by, parts_at, pair_at, items_of, pairs_of, within, array_at, map_at, tag_at, content_at, indefinite_at, after_first, item_by, item_at}
+use Rattle.cbor_model.specs.Reader.{Reads, ◌>>=◌, Reading, byte_at, bytes_at, number_at, number_behind, float_at, simple_at, string_at, checked_text, text_at, begins_chunk, content_of_chunk, chunk_at, chunks_by, chunks_at, string_chunks_at, text_chunks_at, Remaining, counted, to_break, next_at, Parts, go_on, parts_by, parts_at, pair_at, items_of, pairs_of, within, array_at, map_at, tag_at, content_at, indefinite_at, after_first, item_by, item_at}
 
 -- where something is read, no more than n bytes are left
 abbrev pub Leaves : {A : Type 0} → ℕ → Reads A → Type 0
@@ -40,26 +40,29 @@ number_behind_leaves low n bs few =
     (Leaves-cond n (eqb low 26) _ _ (number_leaves w32 n bs few)
     (Leaves-cond n (eqb low 27) _ _ (number_leaves w64 n bs few) tt))))
 
-chunk_leaves : (major b n : ℕ) (bs : List ℕ) → length bs ≤ n → Leaves n (chunk_at major b bs)
+chunk_content_leaves : (exceeds : ℕ → Bool) (w : HeadWidth) (k n : ℕ) (bs : List ℕ) → length bs ≤ n → Leaves n (content_of_chunk exceeds w k bs)
+unfolding content_of_chunk
+chunk_content_leaves exceeds w k n bs few = Leaves-bind n n (bytes_at k bs) _ (bytes_leaves k n bs few) (λ c few. Leaves-cond n (exceeds k) _ _ tt few)
+
+chunk_leaves : (exceeds : ℕ → Bool) (major b n : ℕ) (bs : List ℕ) → length bs ≤ n → Leaves n (chunk_at exceeds major b bs)
 unfolding chunk_at
-chunk_leaves major b n bs few =
+chunk_leaves exceeds major b n bs few =
     Leaves-cond n (begins_chunk major b) _ _
-    (Leaves-bind n n (number_behind (b % 32) bs) _ (number_behind_leaves (b % 32) n bs few) (λ k few.
-    Leaves-bind n n (bytes_at k.0 k.1) _ (bytes_leaves k.0 n k.1 few) (λ c few. few)))
+    (Leaves-bind n n (number_behind (b % 32) bs) _ (number_behind_leaves (b % 32) n bs few) (λ k few. chunk_content_leaves exceeds _ k.0 n k.1 few))
     tt
 
-pub chunk_taken : (major b : ℕ) (bs : List ℕ) (x : Chunk × List ℕ) → chunk_at major b bs ≡ Ok x → length x.1 ≤ length bs
-chunk_taken major b bs x is = Leaves-use (length bs) (chunk_at major b bs) x (chunk_leaves major b (length bs) bs (omega arith)) is
+pub chunk_taken : (exceeds : ℕ → Bool) (major b : ℕ) (bs : List ℕ) (x : Chunk × List ℕ) → chunk_at exceeds major b bs ≡ Ok x → length x.1 ≤ length bs
+chunk_taken exceeds major b bs x is = Leaves-use (length bs) (chunk_at exceeds major b bs) x (chunk_leaves exceeds major b (length bs) bs (omega arith)) is
 
-chunks_leaves : (major fuel n : ℕ) (bs : List ℕ) → length bs ≤ n → Leaves n (chunks_by major fuel bs)
+chunks_leaves : (exceeds : ℕ → Bool) (have major fuel n : ℕ) (bs : List ℕ) → length bs ≤ n → Leaves n (chunks_by exceeds have major fuel bs)
 unfolding chunks_by byte_at
-chunks_leaves major zero n bs few = tt
-chunks_leaves major (suc fuel) n [] few = tt
-chunks_leaves major (suc fuel) n (b ∷ bs) few =
+chunks_leaves exceeds have major zero n bs few = tt
+chunks_leaves exceeds have major (suc fuel) n [] few = tt
+chunks_leaves exceeds have major (suc fuel) n (b ∷ bs) few =
     let fewer : length bs ≤ n = omega arith in
     Leaves-cond n (eqb b 0xff) _ _ fewer
-    (Leaves-bind n n (chunk_at major b bs) _ (chunk_leaves major b n bs fewer) (λ c few.
-    Leaves-bind n n (chunks_by major fuel c.1) _ (chunks_leaves major fuel n c.1 few) (λ cs few. few)))
+    (Leaves-bind n n (chunk_at (λ k. exceeds (have + k)) major b bs) _ (chunk_leaves (λ k. exceeds (have + k)) major b n bs fewer) (λ c few.
+    Leaves-bind n n (chunks_by exceeds (have + length c.0.bytes) major fuel c.1) _ (chunks_leaves exceeds (have + length c.0.bytes) major fuel n c.1 few) (λ cs few. few)))
 
 next_leaves : (why : Refusal) (remaining : Remaining) (n : ℕ) (bs : List ℕ) → length bs ≤ n → Leaves n (next_at why remaining bs)
 unfolding next_at
@@ -127,11 +130,11 @@ module _ {Item Items Pairs : Type 0} (m : Reading Item Items Pairs) where
 
   string_chunks_leaves : (n : ℕ) (bs : List ℕ) → length bs ≤ n → Leaves n (string_chunks_at m bs)
   unfolding string_chunks_at
-  string_chunks_leaves n bs few = Leaves-bind n n (chunks_at 2 bs) _ (chunks_leaves 2 _ n bs few) (λ cs few. few)
+  string_chunks_leaves n bs few = Leaves-bind n n (chunks_at m.exceeds 0 2 bs) _ (chunks_leaves m.exceeds 0 2 _ n bs few) (λ cs few. few)
 
   text_chunks_leaves : (n : ℕ) (bs : List ℕ) → length bs ≤ n → Leaves n (text_chunks_at m bs)
   unfolding text_chunks_at
-  text_chunks_leaves n bs few = Leaves-bind n n (chunks_at 3 bs) _ (chunks_leaves 3 _ n bs few) (λ cs few. checked_leaves _ n _ cs.1 few)
+  text_chunks_leaves n bs few = Leaves-bind n n (chunks_at m.exceeds 0 3 bs) _ (chunks_leaves m.exceeds 0 3 _ n bs few) (λ cs few. checked_leaves _ n _ cs.1 few)
 
   -- ---- what lies one level further in
 

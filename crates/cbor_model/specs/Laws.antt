@@ -1,8 +1,8 @@
 -- The laws, each of which is the contract of a public function.
-use Rattle.std.specs.Prelude.{◌≡◌, ℕ, ◌^◌, ◌<◌, ◌≤◌, List, [], ◌++◌, length, Ok}
+use Rattle.std.specs.Prelude.{◌≡◌, ℕ, ◌^◌, ◌<◌, ◌≤◌, List, [], ◌++◌, length, Ok, Option}
 use Rattle.cbor_model.specs.Raw.{Raw, AreBytes, IsWellFormed}
 use Rattle.cbor_model.specs.Spelling.{spell}
-use Rattle.cbor_model.specs.Acceptable.{IsAcceptable, IsAcceptableWithin}
+use Rattle.cbor_model.specs.Acceptable.{IsAcceptable, IsAcceptableWithin, FitsScratch}
 use Rattle.cbor_model.specs.Plain.{Val}
 use Rattle.cbor_model.specs.Value.{value}
 use Rattle.cbor_model.specs.Canonical.{IsStorable, IsOrdered, canonical, canon}
@@ -11,7 +11,7 @@ use Rattle.cbor_model.specs.Order.{val_cmp}
 use Rattle.cbor_model.specs.InRange.{IsInRange}
 use Rattle.cbor_model.specs.Definite.{IsDefinite}
 use Rattle.std.specs.Cmp.{IsTotalOrder}
-use Rattle.cbor_model.specs.Reader.{read_value}
+use Rattle.cbor_model.specs.Reader.{read_value_in}
 
 -- the bytes spell one acceptable item, and v is its value
 pub record SpellsValue (bytes : List ℕ) (v : Val) : Type 0 where
@@ -20,13 +20,13 @@ pub record SpellsValue (bytes : List ℕ) (v : Val) : Type 0 where
   pub spelled : spell item ≡ bytes
   pub valued : v ≡ value item
 
--- What the reference reader reads is spelled so.
+-- What the reference reader reads, with a scratch of some length or none, is spelled so.
 abbrev pub ReaderFinds : Type 0
-ReaderFinds = (bytes : List ℕ) (v : Val) → AreBytes bytes → read_value bytes ≡ Ok v → SpellsValue bytes v
+ReaderFinds = (room : Option ℕ) (bytes : List ℕ) (v : Val) → AreBytes bytes → read_value_in room bytes ≡ Ok v → SpellsValue bytes v
 
--- What is spelled so, the reference reader reads.
+-- What is spelled so, the reference reader reads, with a scratch that its chunks fit.
 abbrev pub ReaderAccepts : Type 0
-ReaderAccepts = (bytes : List ℕ) (v : Val) → length bytes < 2 ^ 64 → SpellsValue bytes v → read_value bytes ≡ Ok v
+ReaderAccepts = (room : Option ℕ) (bytes : List ℕ) (v : Val) → length bytes < 2 ^ 64 → (spelt : SpellsValue bytes v) → FitsScratch room spelt.item → read_value_in room bytes ≡ Ok v
 
 -- No well-formed item's spelling begins another's, and equal spellings are equal items.
 abbrev pub OneSpelling : Type 0

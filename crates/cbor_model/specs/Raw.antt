@@ -137,3 +137,21 @@ abbrev mutual
   pub EachTextOfPairs : (List ℕ → Type 0) → RawPairs → Type 0
   EachTextOfPairs P no_raw_pairs = Unit {0}
   EachTextOfPairs P (raw_pair k v ps) = EachText P k × EachText P v × EachTextOfPairs P ps
+
+-- The bytes of each chunked string in the item, joined, meet P.
+abbrev mutual
+  pub EachJoined : (List ℕ → Type 0) → Raw → Type 0
+  EachJoined P (bytes_chunks cs) = P (joined cs)
+  EachJoined P (text_chunks cs) = P (joined cs)
+  EachJoined P (array l rs) = EachJoinedOfAll P rs
+  EachJoined P (map l ps) = EachJoinedOfPairs P ps
+  EachJoined P (tag w n r) = EachJoined P r
+  EachJoined P _ = Unit {0}
+
+  pub EachJoinedOfAll : (List ℕ → Type 0) → Raws → Type 0
+  EachJoinedOfAll P no_raws = Unit {0}
+  EachJoinedOfAll P (raw r rs) = EachJoined P r × EachJoinedOfAll P rs
+
+  pub EachJoinedOfPairs : (List ℕ → Type 0) → RawPairs → Type 0
+  EachJoinedOfPairs P no_raw_pairs = Unit {0}
+  EachJoinedOfPairs P (raw_pair k v ps) = EachJoined P k × EachJoined P v × EachJoinedOfPairs P ps

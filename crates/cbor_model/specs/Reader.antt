@@ -1,13 +1,13 @@
 -- The reference reader. It is no definition of the format: it goes through the bytes from left to
 -- right, as a program does, and says what is read first or what is at fault first. Laws tie it to the
 -- definitions: what it reads is spelled so and acceptable, and what is spelled so it reads.
-use Rattle.std.specs.Prelude.{◌≡◌, ℕ, zero, suc, ◌+◌, ◌-◌, ◌/◌, ◌%◌, ◌^◌, Bool, List, [], ◌∷◌, length, take, drop, pos, negsuc, Result, Ok, Err, Option, Some, None, nat_lt, ◌==◌, ◌&&◌, if◌then◌else◌, refl}
+use Rattle.std.specs.Prelude.{◌≡◌, ℕ, zero, suc, ◌+◌, ◌-◌, ◌/◌, ◌%◌, ◌^◌, Bool, false, List, [], ◌∷◌, length, take, drop, pos, negsuc, Result, Ok, Err, Option, Some, None, nat_lt, ◌==◌, ◌&&◌, if◌then◌else◌, refl}
 use Rattle.std.specs.Int.{Width, w8, w16, w32, w64, byte_len, from_be_bytes}
 use Rattle.std.specs.Str.Lossy.{utf8_valid_len}
 use Rattle.cbor_model.specs.Head.{HeadWidth, no_bytes, one_byte, two_bytes, four_bytes, eight_bytes}
 use Rattle.cbor_model.specs.Raw.{Length, definite, indefinite, Chunk, joined, Simple, false_item, true_item, null_item, undefined_item, FloatWidth, half, single, double}
 use Rattle.cbor_model.specs.Acceptable.{max_depth}
-use Rattle.cbor_model.specs.Refusal.{Refusal, end_in_value, end_in_array, end_in_map, length_out_of_range, invalid_utf8, unassigned_code, unexpected_code, trailing_data, too_deep}
+use Rattle.cbor_model.specs.Refusal.{Refusal, end_in_value, end_in_array, end_in_map, length_out_of_range, invalid_utf8, unassigned_code, unexpected_code, trailing_data, too_deep, scratch_too_small}
 use Rattle.cbor_model.specs.Plain.{Val, Vals, no_vals, val, Pairs, no_pairs}
 use Rattle.cbor_model.specs.Plain as plain
 use Rattle.cbor_model.specs.Value.{simple_value, put}
@@ -26,7 +26,8 @@ abbrev pub ◌>>=◌ : {A B : Type 0} → Result A Fault → (A → Result B Fau
 (Ok x) >>= f = f x
 (Err e) >>= f = Err e
 
--- What is made of the parts that are read, and which texts are let pass.
+-- What is made of the parts that are read, which texts are let pass, and how many bytes of chunks are
+-- joined.
 pub record Reading (Item Items Pairs : Type 0) : Type 0 where
   pub unsigned : HeadWidth → ℕ → Item
   pub negative : HeadWidth → ℕ → Item
@@ -46,11 +47,18 @@ pub record Reading (Item Items Pairs : Type 0) : Type 0 where
   -- whether a text may have this length, where so many bytes are left
   pub has_room : ℕ → ℕ → Bool
   pub is_text : List ℕ → Bool
+  -- whether this is more than can be joined
+  pub exceeds : ℕ → Bool
 
--- Values, in an input of this length: a definite text ends before 2^64, and each text is UTF-8. Of
--- pairs it makes what they make of the pairs before them.
-abbrev pub values_within : ℕ → Reading Val Vals (Pairs → Pairs)
-values_within total = record {
+-- more than the most, where there is one
+abbrev pub exceeds_most : Option ℕ → ℕ → Bool
+exceeds_most None n = false
+exceeds_most (Some most) n = nat_lt most n
+
+-- Values, in an input of this length, where so many bytes of chunks can be joined: a definite text ends
+-- before 2^64, and each text is UTF-8. Of pairs it makes what they make of the pairs before them.
+abbrev pub values_in : ℕ → Option ℕ → Reading Val Vals (Pairs → Pairs)
+values_in total most = record {
   unsigned = λ w n. plain.integer (pos n);
   negative = λ w n. plain.integer (negsuc n);
   bytes = λ c. plain.bytes c.bytes;
@@ -68,7 +76,12 @@ values_within total = record {
   pair = λ k v others earlier. others (put k v earlier);
   has_room = λ left n. nat_lt (total - left + n) (2 ^ 64);
   is_text = λ b. utf8_valid_len b == length b;
+  exceeds = exceeds_most most;
 }
+
+-- where any number of bytes can be joined
+abbrev pub values_within : ℕ → Reading Val Vals (Pairs → Pairs)
+values_within total = values_in total None
 
 abbrev pub ended : Fault
 ended = record { why = end_in_value; left = 0 }
@@ -145,27 +158,34 @@ text_at m w n bs =
 abbrev pub begins_chunk : ℕ → ℕ → Bool
 begins_chunk major b = b / 32 == major && nat_lt (b % 32) 28
 
+-- the content of a chunk, of n bytes, which is joined to what was read
+unfoldable pub content_of_chunk : (ℕ → Bool) → HeadWidth → ℕ → List ℕ → Reads Chunk
+content_of_chunk exceeds w n bs = bytes_at n bs >>= (λ c.
+    if exceeds n then Err (before scratch_too_small bs)
+    else Ok (record { width = w; bytes = c.0 }, c.1))
+
 -- what follows the first byte of a chunk
-unfoldable pub chunk_at : ℕ → ℕ → List ℕ → Reads Chunk
-chunk_at major b bs =
-    if begins_chunk major b then number_behind (b % 32) bs >>= (λ n. bytes_at n.0 n.1 >>= (λ c. Ok (record { width = width_of (b % 32); bytes = c.0 }, c.1)))
+unfoldable pub chunk_at : (ℕ → Bool) → ℕ → ℕ → List ℕ → Reads Chunk
+chunk_at exceeds major b bs =
+    if begins_chunk major b then number_behind (b % 32) bs >>= (λ n. content_of_chunk exceeds (width_of (b % 32)) n.0 n.1)
     else Err (before unexpected_code bs)
 
--- chunks of the major type up to the break, which take fewer bytes than fuel
-unfoldable pub chunks_by : ℕ → ℕ → List ℕ → Reads (List Chunk)
-chunks_by major zero bs = Err ended
-chunks_by major (suc fuel) bs = byte_at bs >>= (λ b.
+-- chunks of the major type up to the break, behind so many bytes of chunks; they take fewer bytes
+-- than fuel
+unfoldable pub chunks_by : (ℕ → Bool) → ℕ → ℕ → ℕ → List ℕ → Reads (List Chunk)
+chunks_by exceeds have major zero bs = Err ended
+chunks_by exceeds have major (suc fuel) bs = byte_at bs >>= (λ b.
     if b.0 == 0xff then Ok ([], b.1)
-    else chunk_at major b.0 b.1 >>= (λ c. chunks_by major fuel c.1 >>= (λ cs. Ok (c.0 ∷ cs.0, cs.1))))
+    else chunk_at (λ n. exceeds (have + n)) major b.0 b.1 >>= (λ c. chunks_by exceeds (have + length c.0.bytes) major fuel c.1 >>= (λ cs. Ok (c.0 ∷ cs.0, cs.1))))
 
-abbrev pub chunks_at : ℕ → List ℕ → Reads (List Chunk)
-chunks_at major bs = chunks_by major (suc (length bs)) bs
+abbrev pub chunks_at : (ℕ → Bool) → ℕ → ℕ → List ℕ → Reads (List Chunk)
+chunks_at exceeds have major bs = chunks_by exceeds have major (suc (length bs)) bs
 
 unfoldable pub string_chunks_at : {Item Items Pairs : Type 0} → Reading Item Items Pairs → List ℕ → Reads Item
-string_chunks_at m bs = chunks_at 2 bs >>= (λ cs. Ok (m.bytes_chunks cs.0, cs.1))
+string_chunks_at m bs = chunks_at m.exceeds 0 2 bs >>= (λ cs. Ok (m.bytes_chunks cs.0, cs.1))
 
 unfoldable pub text_chunks_at : {Item Items Pairs : Type 0} → Reading Item Items Pairs → List ℕ → Reads Item
-text_chunks_at m bs = chunks_at 3 bs >>= (λ cs. checked_text m (m.text_chunks cs.0) (joined cs.0) cs.1)
+text_chunks_at m bs = chunks_at m.exceeds 0 3 bs >>= (λ cs. checked_text m (m.text_chunks cs.0) (joined cs.0) cs.1)
 
 -- What remains of an array or a map: so many parts, or all up to the break. A part is an item of an
 -- array, or a pair of a map.
@@ -277,26 +297,35 @@ inside m (suc levels) = Some (item_at m levels)
 abbrev pub whole : {A : Type 0} → Reads A → Result A Fault
 whole read = read >>= (λ x. if length x.1 == 0 then Ok x.0 else Err (record { why = trailing_data; left = length x.1 - 1 }))
 
--- the value that all of the bytes spell
-unfoldable pub read_value : List ℕ → Result Val Fault
-read_value bs = whole (item_at (values_within (length bs)) max_depth bs)
+-- the value that all of the bytes spell, where so many bytes of chunks can be joined
+unfoldable pub read_value_in : Option ℕ → List ℕ → Result Val Fault
+read_value_in most bs = whole (item_at (values_in (length bs) most) max_depth bs)
+
+-- where any number of bytes can be joined
+abbrev pub read_value : List ℕ → Result Val Fault
+read_value bs = read_value_in None bs
 
 -- ---- examples
 
 head_not_shortest : read_value (0x18 ∷ 0x17 ∷ []) ≡ Ok (plain.integer (pos 23))
-unfolding read_value item_at item_by byte_at after_first number_behind content_at
+unfolding read_value_in item_at item_by byte_at after_first number_behind content_at
 head_not_shortest = refl
 
 trailing : read_value (0xf4 ∷ 0xf4 ∷ 0xf4 ∷ []) ≡ Err (record { why = trailing_data; left = 1 })
-unfolding read_value item_at item_by byte_at after_first simple_at
+unfolding read_value_in item_at item_by byte_at after_first simple_at
 trailing = refl
 
 -- bf 00 ff: a break in the place of a value
 break_as_value : read_value (0xbf ∷ 0x00 ∷ 0xff ∷ []) ≡ Err (record { why = unexpected_code; left = 0 })
-unfolding read_value item_at item_by byte_at after_first indefinite_at map_at parts_by next_at pair_at number_behind content_at simple_at float_at
+unfolding read_value_in item_at item_by byte_at after_first indefinite_at map_at parts_by next_at pair_at number_behind content_at simple_at float_at
 break_as_value = refl
 
 -- 9f 01: the break is wanted
 break_wanted : read_value (0x9f ∷ 0x01 ∷ []) ≡ Err (record { why = end_in_array; left = 0 })
-unfolding read_value item_at item_by byte_at after_first indefinite_at array_at parts_by next_at number_behind content_at
+unfolding read_value_in item_at item_by byte_at after_first indefinite_at array_at parts_by next_at number_behind content_at
 break_wanted = refl
+
+-- 7f 61 61 ff: a chunk of one byte is more than a scratch of none holds
+chunk_too_long : read_value_in (Some 0) (0x7f ∷ 0x61 ∷ 0x61 ∷ 0xff ∷ []) ≡ Err (record { why = scratch_too_small; left = 2 })
+unfolding read_value_in item_at item_by byte_at after_first indefinite_at text_chunks_at chunks_by chunk_at content_of_chunk number_behind
+chunk_too_long = refl

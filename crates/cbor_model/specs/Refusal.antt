@@ -12,6 +12,7 @@ pub data Refusal : Type 0 where
   unexpected_code : Refusal
   trailing_data : Refusal
   too_deep : Refusal
+  scratch_too_small : Refusal
 
 abbrev pub words : Refusal → List ℕ
 words end_in_value = codes "EOF while parsing a value"
@@ -23,6 +24,7 @@ words unassigned_code = codes "unassigned type"
 words unexpected_code = codes "unexpected code"
 words trailing_data = codes "trailing data"
 words too_deep = codes "recursion limit exceeded"
+words scratch_too_small = codes "Scratch buffer too small"
 
 -- what follows the words: the offset, where it isn't 0
 abbrev pub at_offset : ℕ → List ℕ

@@ -8,14 +8,14 @@ use Rattle.hex.specs.Hex.{decode_of}
 use Rattle.hex.specs.declared.error.FromHexError.{FromHexError}
 use Rattle.cbor_model.specs.Plain.{Val}
 use Rattle.cbor_model.specs.Canonical.{canon, IsStorable}
-use Rattle.cbor_model.specs.Refusal.{Refusal, words, at_offset, end_in_value, end_in_array, end_in_map, length_out_of_range, invalid_utf8, unassigned_code, unexpected_code, trailing_data, too_deep}
+use Rattle.cbor_model.specs.Refusal.{Refusal, words, at_offset, end_in_value, end_in_array, end_in_map, length_out_of_range, invalid_utf8, unassigned_code, unexpected_code, trailing_data, too_deep, scratch_too_small}
 use Rattle.cbor_model.specs.Reader.{Fault, read_value}
 use Rattle.cbor_model.specs.Value.{value}
 use Rattle.cbor_model.specs.Laws.{SpellsValue}
 use Rattle.cbor_tool.specs.Answer.{hex, IsAnswer, AreAnswers, canonical, refused, not_hexadecimal}
 use Rattle.cbor_model.proofs.facts.Laws.{value_is_storable}
 use Rattle.serde_cbor.specs.declared.error.ErrorCode.{ErrorCode}
-use Rattle.serde_cbor.specs.declared.error.ErrorCode.TheVariants.{Message, EofWhileParsingValue, EofWhileParsingArray, EofWhileParsingMap, LengthOutOfRange, InvalidUtf8, UnassignedCode, UnexpectedCode, TrailingData, RecursionLimitExceeded, OutOfMemory}
+use Rattle.serde_cbor.specs.declared.error.ErrorCode.TheVariants.{Message, Io, ScratchTooSmall, EofWhileParsingValue, EofWhileParsingArray, EofWhileParsingMap, LengthOutOfRange, InvalidUtf8, UnassignedCode, UnexpectedCode, TrailingData, RecursionLimitExceeded, OutOfMemory}
 use Rattle.serde_cbor.specs.declared.error.Error.{Error}
 use Rattle.serde_cbor.specs.Error.{code_of, offset_of, code_text, error_text, IsOutOfMemory}
 use Rattle.serde_cbor.specs.Gives.{FailsAs, FailsBy, Fails}
@@ -48,7 +48,7 @@ told_as code why total offset read same (left, sum, is) =
       text = ap (λ t. t ++ at_offset offset) same ∙ ap (λ n. words why ++ at_offset n) place;
     }
 
-told_by : (code : ErrorCode) (total offset : ℕ) (read : Result Val Fault) → FailsBy code total offset read → (code ≡ OutOfMemory → ⊥) → Told code offset total read
+told_by : (code : ErrorCode) (total offset : ℕ) (read : Result Val Fault) → FailsBy ⊥ code total offset read → (code ≡ OutOfMemory → ⊥) → Told code offset total read
 told_by EofWhileParsingValue total offset read h ne = told_as _ end_in_value total offset read refl h
 told_by EofWhileParsingArray total offset read h ne = told_as _ end_in_array total offset read refl h
 told_by EofWhileParsingMap total offset read h ne = told_as _ end_in_map total offset read refl h
@@ -58,6 +58,8 @@ told_by UnassignedCode total offset read h ne = told_as _ unassigned_code total 
 told_by UnexpectedCode total offset read h ne = told_as _ unexpected_code total offset read refl h
 told_by TrailingData total offset read h ne = told_as _ trailing_data total offset read refl h
 told_by RecursionLimitExceeded total offset read h ne = told_as _ too_deep total offset read refl h
+told_by ScratchTooSmall total offset read h ne = told_as _ scratch_too_small total offset read refl h
+told_by (Io fault) total offset read h ne = absurd h.0
 told_by OutOfMemory total offset read h ne = absurd (ne refl)
 told_by _ total offset read h ne = absurd h
 

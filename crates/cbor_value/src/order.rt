@@ -35,6 +35,7 @@ fn cmp_values(a: &Value, b: &Value) -> Ordering
 
 /// Compares values of different major types, or two of null, the bools and floats.
 #[tactic(auto, using(cbor_model::proofs::facts::Order::majors_differ, cbor_model::proofs::facts::Order::majors_same))]
+#[inline(never)]
 fn cmp_others(a: &Value, b: &Value) -> Ordering
     requires { major_type (view a.now) ≡ major_type (view b.now) → major_type (view a.now) ≡ 7 }
     ensures { result ≡ val_cmp (view a.now) (view b.now) }
@@ -89,6 +90,7 @@ fn cmp_strings(a: &[u8], b: &[u8]) -> Ordering
 
 /// The shorter list first, and then item by item.
 #[cycle(order)]
+#[inline(never)]
 fn cmp_items(a: &[Value], b: &[Value]) -> Ordering
     ensures { result ≡ lex (body (array (views a.now))) (body (array (views b.now))) }
 {
@@ -109,6 +111,7 @@ fn cmp_items(a: &[Value], b: &[Value]) -> Ordering
 
 /// The shorter list first, and then key by key, each with its value.
 #[cycle(order)]
+#[inline(never)]
 fn cmp_pairs(a: &[(Value, Value)], b: &[(Value, Value)]) -> Ordering
     ensures { result ≡ lex (body (map (pair_views a.now))) (body (map (pair_views b.now))) }
 {

@@ -49,6 +49,7 @@ impl Map {
     /// let pairs = vec![in alloc; (two, Value::Null), (one, Value::Null)]?;
     /// let map = Map::from_pairs(pairs)?;
     /// ```
+    #[inline(never)]
     pub fn from_pairs(mut pairs: Vec<(Value, Value)>) -> error::Result<Map>
         ensures listed { IfOk result (λ m. map_view m ≡ put_all (pair_views pairs.items) no_pairs) }
         ensures ascending { IfOk result (λ m. KeysAscend (map_view m)) }

@@ -13,8 +13,13 @@ pub use Rattle.cbor_model.specs.Reader
 pub use Rattle.cbor_model.specs.Laws
 pub use Rattle.cbor_model.specs.Document
 pub use Rattle.cbor_io.specs.Error
+pub use Rattle.cbor_io.specs.ReadError
+pub use Rattle.cbor_io.specs.Source
+pub use Rattle.cbor_io.specs.Sources
 pub use Rattle.cbor_io.specs.Write
 pub use Rattle.cbor_value.specs.View
+pub use Rattle.cbor_value.specs.Search
+pub use Rattle.cbor_de.specs.Deserializer
 pub use Rattle.cbor_de.specs.Gives
 pub use Rattle.cbor_ser.specs.Written
 pub use Rattle.cbor_ser.specs.Bytes

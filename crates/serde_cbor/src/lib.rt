@@ -1,6 +1,6 @@
 //! CBOR with canonical values (RFC 7049).
 //!
-//! [`from_slice`] reads any CBOR item as a [`Value`], and [`to_vec`] writes a value as its one
+//! [`from_slice`], [`from_slice_with_scratch`], [`from_mut_slice`] and [`from_reader`] read any CBOR item as a [`Value`], and [`to_vec`] writes a value as its one
 //! canonical spelling. Values are compared by the order of their spellings' heads and contents, so
 //! that a map lists its keys in one order.
 //!
@@ -16,7 +16,7 @@
 #![tactic(auto)]
 
 pub use cbor_de as de;
-pub use cbor_de::from_slice;
+pub use cbor_de::{Deserializer, from_mut_slice, from_reader, from_slice, from_slice_with_scratch};
 pub use cbor_io::error;
 pub use cbor_io::error::{Error, Result};
 pub use cbor_ser as ser;

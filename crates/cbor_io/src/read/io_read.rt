@@ -3,8 +3,8 @@
 ghost use Rattle.std.specs.Prelude.{◌≡◌, ◌+◌, ◌<◌, ◌≤◌, [], length, IfSome, OnOk, IfOk, IfErr, Ok};
 ghost use Rattle.std.specs.Prelude.{Some, None};
 ghost use Rattle.std.specs.Io.KnownBytes.{Keeps};
-ghost use Rattle.cbor_io.specs.Reader.{with_peeked, reader_input, ByteRead, Filled, SomeRead};
-ghost use Rattle.cbor_io.specs.Reader.{PieceTaken};
+ghost use Rattle.cbor_io.specs.Reader.{ByteRead, Filled, SomeRead, PieceTaken};
+ghost use Rattle.cbor_io.specs.Source.{with_peeked, reader_input};
 
 #[cfg(test)]
 mod tests;

@@ -1,0 +1,96 @@
+-- Reading all that a source has to give.
+use Rattle.std.proofs.Common.{◌≡◌, ◌∙◌, ℕ, Bool, List, [], ◌∷◌, length, Option, Some, None, Ok, Err, refl, sym, ap, subst, arith, eqb, false}
+use Rattle.std.proofs.lemmas.Bool.{ne_eqb}
+use Rattle.cbor_model.specs.Plain.{Val, Vals, Pairs}
+use Rattle.cbor_model.specs.Refusal.{trailing_data}
+use Rattle.cbor_model.specs.Acceptable.{max_depth}
+use Rattle.cbor_model.specs.Reader.{Fault, Reads, Reading, ◌>>=◌, values_in, item_at, whole, read_value_in}
+use Rattle.cbor_model.proofs.facts.Reader.{ok_is}
+use Rattle.cbor_io.specs.declared.error.Error.{Error}
+use Rattle.cbor_io.specs.declared.read.read_error.ReadError.{ReadError}
+use Rattle.cbor_io.specs.declared.read.read_error.ReadErrorCode.{ReadErrorCode}
+use Rattle.cbor_io.specs.Error.{code_of, offset_of}
+use Rattle.cbor_io.specs.ReadError.{why, place, error_code}
+use Rattle.cbor_io.specs.Source.{Input}
+use Rattle.cbor_de.specs.declared.refusal.Refused.{Refused}
+use Rattle.cbor_de.specs.declared.refusal.Refused.TheVariants as refused
+use Rattle.cbor_de.specs.Gives.{FailsBy, Tells, Limits, limits, values, Step, Reports, Stops, Stopped, IsErrorOf, end_at, whole_at}
+use Rattle.cbor_de.proofs.Steps.{passed_on}
+
+-- ---- an item, and then the end
+
+module _ (levels : ℕ) (l : Limits) (bs : List ℕ) where
+  pub whole_read : (v : Val) (mid rest : List ℕ) → item_at (values l) levels bs ≡ Ok (v, mid) → end_at mid ≡ Ok (tt, rest) → whole_at levels l bs ≡ Ok (v, rest)
+  whole_read v mid rest read end = rw (read, end) refl
+
+  pub whole_stops : (f : Fault) → item_at (values l) levels bs ≡ Err f → whole_at levels l bs ≡ Err f
+  whole_stops f read = rw read refl
+
+  pub whole_trails : (v : Val) (mid : List ℕ) (f : Fault) → item_at (values l) levels bs ≡ Ok (v, mid) → end_at mid ≡ Err f → whole_at levels l bs ≡ Err f
+  whole_trails v mid f read end = rw (read, end) refl
+
+-- ---- the same in the reference reader
+
+-- what the limits are where nothing was taken
+from_start : (s : Input) (bs : List ℕ) → s.offset ≡ 0 → values (limits s bs) ≡ values_in (length bs) s.room
+from_start s bs zero = ap (λ (n : ℕ). values_in n s.room) (omega (arith, zero))
+
+abbrev behind : Reads Val → Reads Val
+behind read = read >>= (λ v. end_at v.1 >>= (λ u. Ok (v.0, u.1)))
+
+abbrev okay : Val → List ℕ → Reads Val
+okay v rest = Ok (v, rest)
+
+same_value : (v w : Val) (bs rest : List ℕ) → okay v bs ≡ okay w rest → v ≡ w
+same_value v w bs rest e = ap (λ (p : Val × List ℕ). p.0) (ok_is (v, bs) (w, rest) e)
+
+abbrev failed : Fault → Reads Val
+failed f = Err f
+
+same_fault : (c d : Fault) → failed c ≡ Err d → c ≡ d
+same_fault c d e = cc
+
+of_value : (read : Reads Val) (v : Val) (rest : List ℕ) → behind read ≡ Ok (v, rest) → whole read ≡ Ok v
+of_value (Ok (w, [])) v rest e = ap (λ (x : Val). Ok x) (same_value w v [] rest e)
+of_value (Ok (w, b ∷ bs)) v rest e = absurd cc
+of_value (Err f) v rest e = absurd cc
+
+of_fault : (read : Reads Val) (f : Fault) → behind read ≡ Err f → whole read ≡ Err f
+of_fault (Ok (w, [])) f e = absurd cc
+of_fault (Ok (w, b ∷ bs)) f e =
+    let some : eqb (length (b ∷ bs)) 0 ≡ false = ne_eqb (length (b ∷ bs)) 0 (λ none. absurd (omega (arith, none))) in
+    rw some (ap (λ (n : ℕ). Err (record { why = trailing_data; left = n })) (omega arith) ∙ ap (λ (g : Fault). Err g) (same_fault (record { why = trailing_data; left = length bs }) f e))
+of_fault (Err g) f e = ap (λ (h : Fault). Err h) (same_fault g f e)
+
+module _ (s : Input) (bs : List ℕ) (zero : s.offset ≡ 0) where
+  abbrev item : Reads Val
+  item = item_at (values_in (length bs) s.room) max_depth bs
+
+  as_item : behind item ≡ whole_at max_depth (limits s bs) bs
+  as_item = ap (λ (m : Reading Val Vals (Pairs → Pairs)). behind (item_at m max_depth bs)) (sym (from_start s bs zero))
+
+  value_in : (v : Val) (rest : List ℕ) → whole_at max_depth (limits s bs) bs ≡ Ok (v, rest) → read_value_in s.room bs ≡ Ok v
+  unfolding read_value_in
+  value_in v rest e = of_value item v rest (as_item ∙ e)
+
+  fault_in : (f : Fault) → whole_at max_depth (limits s bs) bs ≡ Err f → read_value_in s.room bs ≡ Err f
+  unfolding read_value_in
+  fault_in f e = of_fault item f (as_item ∙ e)
+
+module _ {X : Type 0} (refusals : ReadErrorCode → Bool) (view : X → Val) (s t : Input) where
+  pub all_read : (x : X) → Step s t (λ l bs rest. whole_at max_depth l bs ≡ Ok (view x, rest)) → (bs : List ℕ) → Tells s bs → s.offset ≡ 0 → read_value_in s.room bs ≡ Ok (view x)
+  all_read x h bs tells zero =
+      let one = h.told bs tells in
+      value_in s bs zero (view x) one.rest one.holds
+
+  kept_fails : (q : ReadError) → Stops refusals (whole_at max_depth) s q → (bs : List ℕ) → Tells s bs → s.offset ≡ 0 → FailsBy (Reports refusals) (error_code (why q)) (length bs) (place q) (read_value_in s.room bs)
+  kept_fails q h bs tells zero =
+      let part = whole_at max_depth (limits s bs) bs in
+      passed_on (Reports refusals) (error_code (why q)) (length bs) (place q) part (read_value_in s.room bs) (fault_in s bs zero)
+      (subst (λ (n : ℕ). FailsBy (Reports refusals) (error_code (why q)) n (place q) part) (omega (arith, zero)) (h.told bs tells))
+
+  -- the error that is made of a refusal tells the fault
+  pub all_stops : (kept : Option ReadError) (r : Refused) (e : Error) → IsErrorOf kept r e → Stopped refusals (whole_at max_depth) s kept r → (bs : List ℕ) → Tells s bs → s.offset ≡ 0 → FailsBy (Reports refusals) (code_of e) (length bs) (offset_of e) (read_value_in s.room bs)
+  all_stops kept refused.OutOfMemory e is h bs tells zero = rw (is.0) is.1
+  all_stops None refused.Kept e is h bs tells zero = absurd h
+  all_stops (Some q) refused.Kept e is h bs tells zero = rw (is.0, is.1) (kept_fails q h bs tells zero)

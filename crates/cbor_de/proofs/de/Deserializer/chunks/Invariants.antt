@@ -1,0 +1,18 @@
+use Rattle.std.proofs.Common.{◌≡◌, ◌-◌, ◌^◌, ◌≤◌, length}
+use Rattle.cbor_model.specs.Reader.{exceeds_most}
+use Rattle.cbor_io.specs.Head.{major_number}
+use Rattle.cbor_de.specs.Gives.{Step}
+use Rattle.cbor_de.proofs.Chunks.{BytesSoFar}
+use Rattle.cbor_de.proofs.de.Deserializer.chunks.Given as goal
+
+abbrev pub invariant-chunks : goal.invariant-chunks
+invariant-chunks g l =
+    let s = g.R.Source.source l.self.source in
+    record {
+      so_far : Step (g.R.Source.source l.fn.self.source) s (λ limits bs rest. BytesSoFar (exceeds_most limits.room) (major_number l.major) s.buffer bs rest);
+      counted : length s.buffer ≤ s.offset;
+      levels : l.self.levels ≡ l.fn.self.levels;
+    }
+
+abbrev pub decreases-chunks : goal.decreases-chunks
+decreases-chunks g l = 2 ^ 64 - (g.R.Source.source l.self.source).offset

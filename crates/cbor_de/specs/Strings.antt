@@ -1,0 +1,32 @@
+-- Chunks that are joined in the buffer of a source.
+use Rattle.std.specs.Prelude.{◌≡◌, ℕ, Bool, List, ◌++◌, length, Option, Result, Ok, Err, ◌+◌, ◌≤◌}
+use Rattle.std.specs.Prelude.{String}
+use Rattle.std.specs.Global.{Global}
+use Rattle.std.specs.String.{string_bytes}
+use Rattle.cbor_model.specs.Plain.{Val, text}
+use Rattle.cbor_model.specs.Raw.{Chunk}
+use Rattle.cbor_model.specs.Reader.{Reads, ◌>>=◌}
+use Rattle.cbor_io.specs.declared.read.read_error.ReadError.{ReadError}
+use Rattle.cbor_io.specs.declared.read.read_error.ReadErrorCode.{ReadErrorCode}
+use Rattle.cbor_io.specs.Source.{Input}
+use Rattle.cbor_de.specs.Gives.{Limits, Step, Stopped}
+use Rattle.cbor_de.specs.declared.refusal.Refused.{Refused}
+
+-- the value of a text
+abbrev pub text_view : String Global → Val
+text_view s = text (string_bytes s)
+
+-- the bytes of a chunk that is read
+abbrev pub content : Reads Chunk → Reads (List ℕ)
+content read = read >>= (λ c. Ok (c.0.bytes, c.1))
+
+-- A chunk was read behind so many bytes of chunks, and its bytes were joined to the buffer; or why not.
+pub record ChunkStep (read : Limits → ℕ → List ℕ → Reads Chunk) (s t : Input) : Type 0 where
+  pub some : List ℕ
+  pub buffer : t.buffer ≡ s.buffer ++ some
+  pub step : Step s t (λ l bs rest. content (read l (length s.buffer) bs) ≡ Ok (some, rest))
+  pub counted : s.offset + length some ≤ t.offset
+
+abbrev pub ChunkGives : (ReadErrorCode → Bool) → (Limits → ℕ → List ℕ → Reads Chunk) → Input → Input → Option ReadError → Result (Unit {0}) Refused → Type 0
+ChunkGives refusals read s t kept (Ok u) = ChunkStep read s t
+ChunkGives refusals read s t kept (Err r) = Stopped refusals (λ l. read l (length s.buffer)) s kept r

@@ -1,0 +1,191 @@
+//! What reads items from a source.
+
+ghost use Rattle.std.specs.Prelude.{◌≡◌, ◌+◌, ◌^◌, ◌<◌, [], length, None, Some, nat_lt, OnOk, OnErr, IfErr, IsSomeAnd};
+ghost use Rattle.cbor_io.specs.declared.read.read_error.ReadErrorCode.TheVariants.{RecursionLimitExceeded};
+ghost use Rattle.cbor_io.specs.Source.{slice_input, reader_input};
+ghost use Rattle.cbor_io.specs.Sources.{input_of_slice, input_of_slice_fixed, input_of_mut_slice, input_of_reader};
+ghost use Rattle.cbor_model.specs.Acceptable.{max_depth};
+ghost use Rattle.cbor_model.specs.Reader.{byte_at};
+ghost use Rattle.cbor_de.specs.Deserializer.{source_of, levels_of};
+ghost use Rattle.cbor_de.specs.Gives.{Gives, Ends, Onward, Keeps, IsAt, end_at};
+ghost use Rattle.cbor_de.specs.declared.refusal.Refused.TheVariants.{Kept};
+
+use crate::refusal::Done;
+use cbor_io::error::Result;
+use cbor_io::read::{
+    IoRead, MutSliceRead, Offset, ReadError, ReadErrorCode, SliceRead, SliceReadFixed, Source,
+};
+use std::alloc::Global;
+use std::io;
+
+/// How many arrays, maps and tags may stand inside one another.
+const MAX_DEPTH: u8 = 127;
+
+/// Reads items from a source: a slice, a slice with a scratch, a slice that is rewritten, any reader,
+/// or a source of the caller's own. Arrays, maps and tags may be nested 127 levels deep.
+///
+/// ```rust
+/// let mut de = Deserializer::from_slice(alloc, &[]);
+/// de.end()?;
+/// assert_eq!(rt; de.byte_offset(), 0);
+/// ```
+#[derive(Drop)]
+pub struct Deserializer<R> {
+    pub(crate) alloc: Global,
+    pub(crate) source: R,
+    // How many levels of arrays, maps and tags are left.
+    pub(crate) levels: u8,
+    // Why the last step that was refused was refused.
+    pub(crate) refusal: Option<ReadError>,
+}
+
+impl<'a> Deserializer<SliceRead<'a>> {
+    /// Reads from a slice. Strings in chunks are joined in memory.
+    pub fn from_slice(alloc: Global, slice: &'a [u8]) -> Deserializer<SliceRead<'a>>
+        ensures input { input_of_slice (source_of result) ≡ slice_input slice.now 0 [] None }
+        ensures levels { levels_of result ≡ max_depth }
+    {
+        Deserializer::new(alloc, SliceRead::new(alloc, slice))
+    }
+}
+
+impl<'a, 'b> Deserializer<SliceReadFixed<'a, 'b>> {
+    /// Reads from a slice. Strings in chunks are joined in the scratch: where they don't fit,
+    /// `ScratchTooSmall` is answered.
+    pub fn from_slice_with_scratch(
+        alloc: Global,
+        slice: &'a [u8],
+        scratch: &'b mut [u8],
+    ) -> Deserializer<SliceReadFixed<'a, 'b>>
+        ensures input { input_of_slice_fixed (source_of result)
+            ≡ slice_input slice.now 0 [] (Some (length scratch.old)) }
+        ensures levels { levels_of result ≡ max_depth }
+    {
+        Deserializer::new(alloc, SliceReadFixed::new(slice, scratch))
+    }
+}
+
+impl<'a> Deserializer<MutSliceRead<'a>> {
+    /// Reads from a slice that is rewritten: strings in chunks are joined in place.
+    pub fn from_mut_slice(alloc: Global, slice: &'a mut [u8]) -> Deserializer<MutSliceRead<'a>>
+        ensures input { input_of_mut_slice (source_of result) ≡ slice_input slice.old 0 [] None }
+        ensures levels { levels_of result ≡ max_depth }
+    {
+        Deserializer::new(alloc, MutSliceRead::new(slice))
+    }
+}
+
+impl<R: io::Read + Drop> Deserializer<IoRead<R>> {
+    /// Reads from a reader. No byte is taken that isn't asked for.
+    pub fn from_reader(alloc: Global, reader: R) -> Deserializer<IoRead<R>>
+        ensures input { input_of_reader R.remaining (source_of result)
+            ≡ reader_input None (R.remaining reader) [] 0 }
+        ensures levels { levels_of result ≡ max_depth }
+    {
+        Deserializer::new(alloc, IoRead::new(alloc, reader))
+    }
+}
+
+impl<R: Offset> Deserializer<R> {
+    /// How many bytes of the input were taken.
+    ///
+    /// ```rust
+    /// let mut de = Deserializer::from_slice(alloc, b"\xf6\xf6");
+    /// assert!(rt; de.end().is_err());
+    /// assert_eq!(rt; de.byte_offset(), 1);
+    /// ```
+    pub fn byte_offset(&self) -> usize
+        ensures { result ≡ (R.source (source_of self.now)).offset }
+    {
+        self.source.byte_offset()
+    }
+}
+
+impl<R: Source> Deserializer<R> {
+    /// Reads from this source.
+    pub fn new(alloc: Global, source: R) -> Deserializer<R>
+        ensures source { source_of result ≡ source }
+        ensures levels { levels_of result ≡ max_depth }
+    {
+        Deserializer {
+            alloc,
+            source,
+            levels: MAX_DEPTH,
+            refusal: None,
+        }
+    }
+
+    /// Ok where nothing is to come.
+    ///
+    /// Else it takes a byte, and refuses with `TrailingData`, after that byte; or with `Io`, where the
+    /// source is a reader that reports a fault.
+    ///
+    /// ```rust
+    /// let mut de = Deserializer::from_slice(alloc, b"\xf6");
+    /// assert_eq!(rt; de.end().unwrap_err().offset(), 1);
+    /// de.end()?;
+    /// ```
+    pub fn end(&mut self) -> Result<()>
+        ensures ends { Ends R.refusals (R.source (source_of self.old)) result }
+        ensures levels { levels_of self.new ≡ levels_of self.old }
+    {
+        match self.ended() {
+            Ok(()) => Ok(()),
+            Err(refused) => Err(self.error(refused)),
+        }
+    }
+
+    /// Whether a text of n bytes would end below 2^64.
+    pub(crate) fn has_room(&self, n: u64) -> bool
+        ensures { result ≡ nat_lt ((R.source self.now.source).offset + n) (2 ^ 64) }
+    {
+        self.source.offset().checked_add(n).is_some()
+    }
+
+    /// Takes one byte.
+    #[inline(always)]
+    pub(crate) fn byte(&mut self) -> Done<u8>
+        ensures read { Gives R.refusals (λ b. b) (λ l. byte_at)
+            (R.source self.old.source) (R.source self.new.source) self.new.refusal result }
+        ensures taken { OnOk result (Onward (R.source self.old.source) (R.source self.new.source)) }
+        ensures buffer { OnOk result (Keeps (R.source self.old.source) (R.source self.new.source)) }
+        ensures levels { self.new.levels ≡ self.old.levels }
+    {
+        match self.source.next() {
+            Ok(Some(b)) => Ok(b),
+            Ok(None) => Err(self.refuse(ReadErrorCode::EofWhileParsingValue)),
+            Err(refusal) => Err(self.keep(refusal)),
+        }
+    }
+
+    /// Goes one level in, where one is left.
+    pub(crate) fn enter(&mut self) -> Done<()>
+        ensures inside { OnOk result (self.old.levels ≡ self.new.levels + 1) }
+        ensures below { OnOk result (self.new.levels < 255) }
+        ensures none { OnErr result ((self.old.levels ≡ 0) × (self.new.levels ≡ 0)) }
+        ensures refused { IfErr result (λ r. r ≡ Kept) }
+        ensures kept { OnErr result (IsSomeAnd self.new.refusal
+            (IsAt RecursionLimitExceeded (R.source self.old.source).offset)) }
+        ensures source { self.new.source ≡ self.old.source }
+    {
+        if self.levels == 0 {
+            return Err(self.refuse(ReadErrorCode::RecursionLimitExceeded));
+        }
+        self.levels -= 1;
+        Ok(())
+    }
+
+    /// Takes the end of the input.
+    #[tactic(auto, using(crate::proofs::Calls::trailing_stops))]
+    pub(crate) fn ended(&mut self) -> Done<()>
+        ensures read { Gives R.refusals (λ u. u) (λ l. end_at)
+            (R.source self.old.source) (R.source self.new.source) self.new.refusal result }
+        ensures levels { self.new.levels ≡ self.old.levels }
+    {
+        match self.source.next() {
+            Ok(Some(_)) => Err(self.refuse(ReadErrorCode::TrailingData)),
+            Ok(None) => Ok(()),
+            Err(refusal) => Err(self.keep(refusal)),
+        }
+    }
+}

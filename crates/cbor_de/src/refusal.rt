@@ -1,0 +1,104 @@
+//! How a step of reading is refused.
+//!
+//! A step answers no more than that it was refused, and the deserializer keeps why until the call
+//! that the step belongs to ends: an error is large, and would be copied at each step on the way
+//! out.
+
+ghost use Rattle.std.specs.Prelude.{◌≡◌, ◌+◌, ◌≤◌, Some};
+ghost use Rattle.std.specs.Option.{IsSomeAnd};
+ghost use Rattle.cbor_io.specs.ReadError.{why, place, HasNoPlace};
+ghost use Rattle.cbor_de.specs.Gives.{IsAt, IsErrorOf};
+ghost use Rattle.cbor_de.specs.declared.refusal.Refused.TheVariants.{Kept};
+
+use crate::de::Deserializer;
+use cbor_io::error::Error;
+use cbor_io::read::{ReadError, ReadErrorCode, Source};
+use std::alloc::{AllocError, AllocFailed};
+
+/// A step was refused.
+#[derive(Clone, Copy)]
+pub enum Refused {
+    /// An allocation failed.
+    OutOfMemory,
+    /// For what the deserializer keeps.
+    Kept,
+}
+
+/// What a step answers.
+pub type Done<T> = std::result::Result<T, Refused>;
+
+impl From<AllocError> for Refused {
+    ghost use Rattle.std.specs.Prelude.{◌≡◌};
+    ghost use Rattle.cbor_de.specs.declared.refusal.Refused.TheVariants.{OutOfMemory};
+
+    ghost from_gives = { λ _ r. r ≡ OutOfMemory };
+
+    fn from(_error: AllocError) -> Refused {
+        Refused::OutOfMemory
+    }
+}
+
+impl<T: Drop> From<AllocFailed<T>> for Refused {
+    ghost use Rattle.std.specs.Prelude.{◌≡◌};
+    ghost use Rattle.cbor_de.specs.declared.refusal.Refused.TheVariants.{OutOfMemory};
+
+    ghost from_gives = { λ _ r. r ≡ OutOfMemory };
+
+    fn from(_error: AllocFailed<T>) -> Refused {
+        Refused::OutOfMemory
+    }
+}
+
+impl<R: Source> Deserializer<R> {
+    /// Refuses for this.
+    #[cold]
+    pub(crate) fn keep(&mut self, refusal: ReadError) -> Refused
+        ensures refused { result ≡ Kept }
+        ensures kept { self.new.refusal ≡ Some refusal }
+        ensures source { self.new.source ≡ self.old.source }
+        ensures levels { self.new.levels ≡ self.old.levels }
+    {
+        self.refusal = Some(refusal);
+        Refused::Kept
+    }
+
+    /// Refuses before the bytes to come.
+    #[cold]
+    pub(crate) fn refuse(&mut self, code: ReadErrorCode) -> Refused
+        requires { HasNoPlace code → ⊥ }
+        ensures refused { result ≡ Kept }
+        ensures kept { IsSomeAnd self.new.refusal (IsAt code (R.source self.old.source).offset) }
+        ensures source { self.new.source ≡ self.old.source }
+        ensures levels { self.new.levels ≡ self.old.levels }
+    {
+        self.refuse_back(code, 0)
+    }
+
+    /// Refuses so many bytes before that.
+    #[cold]
+    pub(crate) fn refuse_back(&mut self, code: ReadErrorCode, back: usize) -> Refused
+        requires code { HasNoPlace code → ⊥ }
+        requires taken { back ≤ (R.source self.old.source).offset }
+        ensures refused { result ≡ Kept }
+        ensures kept { IsSomeAnd self.new.refusal
+            (λ e. (why e ≡ code) × (place e + back ≡ (R.source self.old.source).offset)) }
+        ensures source { self.new.source ≡ self.old.source }
+        ensures levels { self.new.levels ≡ self.old.levels }
+    {
+        let place = self.source.offset() - back as u64;
+        self.refusal = Some(ReadError::at(code, place));
+        Refused::Kept
+    }
+
+    /// The error of a call whose step was refused.
+    pub(crate) fn error(&mut self, refused: Refused) -> Error
+        ensures tells { IsErrorOf self.old.refusal refused result }
+        ensures source { self.new.source ≡ self.old.source }
+        ensures levels { self.new.levels ≡ self.old.levels }
+    {
+        match (refused, self.refusal.take()) {
+            (Refused::Kept, Some(refusal)) => Error::from(refusal),
+            _ => Error::from(AllocError),
+        }
+    }
+}

@@ -1,0 +1,113 @@
+//! Byte strings and texts.
+
+ghost use Rattle.std.specs.Prelude.{◌≡◌, ◌+◌, ◌≤◌, [], length, IfOk};
+ghost use Rattle.cbor_model.specs.Head.{no_bytes};
+ghost use Rattle.cbor_model.specs.Reader.{bytes_at, chunk_at, content_of_chunk, chunks_at, checked_text, text_at, text_chunks_at, exceeds_most};
+ghost use Rattle.cbor_model.specs.Plain as plain;
+ghost use Rattle.cbor_io.specs.Head.{major_number};
+ghost use Rattle.cbor_de.specs.Gives.{Gives, values};
+ghost use Rattle.cbor_de.specs.Heads.{joined_of};
+ghost use Rattle.cbor_de.specs.Strings.{ChunkGives, text_view};
+
+use crate::cursor::BREAK;
+use crate::de::Deserializer;
+use crate::refusal::Done;
+use cbor_io::head::Major;
+use cbor_io::read::{ReadErrorCode, Source};
+
+impl<R: Source> Deserializer<R> {
+    /// Takes n bytes.
+    pub fn bytes(&mut self, n: u64) -> Done<Vec<u8>>
+        ensures read { Gives R.refusals (λ v. v.items) (λ l. bytes_at n)
+            (R.source self.old.source) (R.source self.new.source) self.new.refusal result }
+        ensures counted { IfOk result
+            (λ v. length v.items ≤ (R.source self.new.source).offset) }
+        ensures levels { self.new.levels ≡ self.old.levels }
+    {
+        let mut bytes = Vec::new(self.alloc);
+        match self.source.read_to_vec(n as usize, &mut bytes) {
+            Ok(()) => Ok(bytes),
+            Err(refusal) => Err(self.keep(refusal)),
+        }
+    }
+
+    /// Reads a text of n bytes.
+    pub fn text(&mut self, n: u64) -> Done<String>
+        ensures read { Gives R.refusals text_view (λ l. text_at (values l) no_bytes n)
+            (R.source self.old.source) (R.source self.new.source) self.new.refusal result }
+        ensures levels { self.new.levels ≡ self.old.levels }
+    {
+        if !self.has_room(n) {
+            return Err(self.refuse(ReadErrorCode::LengthOutOfRange));
+        }
+        let bytes = self.bytes(n)?;
+        self.checked(bytes)
+    }
+
+    /// Reads a text in chunks.
+    pub fn text_chunks(&mut self) -> Done<String>
+        ensures read { Gives R.refusals text_view (λ l. text_chunks_at (values l))
+            (R.source self.old.source) (R.source self.new.source) self.new.refusal result }
+        ensures levels { self.new.levels ≡ self.old.levels }
+    {
+        let bytes = self.chunks(Major::TextString)?;
+        self.checked(bytes)
+    }
+
+    // The text of these bytes, which were taken just now, if they are UTF-8.
+    #[tactic(auto, unfolding(cbor_model::specs::Reader::checked_text))]
+    fn checked(&mut self, bytes: Vec<u8>) -> Done<String>
+        requires taken { length bytes.items ≤ (R.source self.old.source).offset }
+        ensures read { Gives R.refusals text_view
+            (λ l. checked_text (values l) (plain.text bytes.items) bytes.items)
+            (R.source self.old.source) (R.source self.new.source) self.new.refusal result }
+        ensures levels { self.new.levels ≡ self.old.levels }
+    {
+        let len = bytes.len();
+        match String::from_utf8(bytes) {
+            Ok(text) => Ok(text),
+            Err(e) => {
+                let valid = e.utf8_error().valid_up_to();
+                Err(self.refuse_back(ReadErrorCode::InvalidUtf8, len - valid))
+            }
+        }
+    }
+
+    /// Reads chunks of the major type up to the break, and joins them.
+    pub fn chunks(&mut self, major: Major) -> Done<Vec<u8>>
+        ensures read { Gives R.refusals (λ v. v.items)
+            (λ l bs. joined_of (chunks_at (exceeds_most l.room) 0 (major_number major) bs))
+            (R.source self.old.source) (R.source self.new.source) self.new.refusal result }
+        ensures counted { IfOk result
+            (λ v. length v.items ≤ (R.source self.new.source).offset) }
+        ensures levels { self.new.levels ≡ self.old.levels }
+    {
+        self.source.clear_buffer();
+        'chunks: loop {
+            let first = self.byte()?;
+            if first == BREAK {
+                break;
+            }
+            self.chunk(major, first)?;
+        }
+        let joined = Vec::from_slice(self.alloc, self.source.buffer())?;
+        Ok(joined)
+    }
+
+    // Takes the chunk of this first byte, which has to be one of the major type, to the buffer's end.
+    fn chunk(&mut self, major: Major, first: u8) -> Done<()>
+        ensures read { ChunkGives R.refusals (λ l have. chunk_at (λ n. exceeds_most l.room (have + n)) (major_number major) first)
+            (R.source self.old.source) (R.source self.new.source) self.new.refusal result }
+        ensures levels { self.new.levels ≡ self.old.levels }
+    {
+        let low = first % 32;
+        if Major::of(first) != major || low >= 28 {
+            return Err(self.refuse(ReadErrorCode::UnexpectedCode));
+        }
+        let n = self.argument(low)?;
+        match self.source.read_to_buffer(n as usize) {
+            Ok(()) => Ok(()),
+            Err(refusal) => Err(self.keep(refusal)),
+        }
+    }
+}
