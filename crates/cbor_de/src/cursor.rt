@@ -43,8 +43,8 @@ pub enum Remaining {
 }
 
 impl<R: Source> Deserializer<R> {
-    /// Takes the first byte of the next item of an array, or of the next key of a map, of which so much
-    /// remains; None where none comes. A break that comes in its place is taken.
+    /// Takes the first byte of the next item of an array, or of the next key of a map, of which so
+    /// much remains; None where none comes. A break that comes in its place is taken.
     #[tactic(auto, unfolding(cbor_model::specs::Reader::next_at, cbor_model::specs::Reader::byte_at))]
     pub fn next(&mut self, remaining: &mut Remaining, of: Collection) -> Done<Option<u8>>
         ensures read { Gives R.refusals (first_of_next remaining.new)

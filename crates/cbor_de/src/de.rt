@@ -21,8 +21,8 @@ use std::io;
 /// How many arrays, maps and tags may stand inside one another.
 const MAX_DEPTH: u8 = 127;
 
-/// Reads items from a source: a slice, a slice with a scratch, a slice that is rewritten, any reader,
-/// or a source of the caller's own. Arrays, maps and tags may be nested 127 levels deep.
+/// Reads items from a source: a slice, a slice with a scratch, a slice that is rewritten, any
+/// reader, or a source of the caller's own. Arrays, maps and tags may be nested 127 levels deep.
 ///
 /// ```rust
 /// let mut de = Deserializer::from_slice(alloc, &[]);
@@ -117,8 +117,8 @@ impl<R: Source> Deserializer<R> {
 
     /// Ok where nothing is to come.
     ///
-    /// Else it takes a byte, and refuses with `TrailingData`, after that byte; or with `Io`, where the
-    /// source is a reader that reports a fault.
+    /// Else it takes a byte, and refuses with `TrailingData`, after that byte; or with `Io`, where
+    /// the source is a reader that reports a fault.
     ///
     /// ```rust
     /// let mut de = Deserializer::from_slice(alloc, b"\xf6");

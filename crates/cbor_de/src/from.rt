@@ -49,17 +49,17 @@ fn are_bytes(slice: &[u8])
 
 /// The value of the one item that the bytes spell (RFC 7049, sections 2.1 to 2.4).
 ///
-/// Any acceptable item is read: well formed, nested at most 127 levels deep, each text UTF-8. Heads may
-/// be longer than they have to be, and lengths indefinite. Null and undefined are `Null`; of a map's
-/// pairs with one key the last value stays, and the keys are put in order. Of the simple values only
-/// false, true, null and undefined are read (`f0` and `f8 ff` are refused).
+/// Any acceptable item is read: well formed, nested at most 127 levels deep, each text UTF-8. Heads
+/// may be longer than they have to be, and lengths indefinite. Null and undefined are `Null`; of a
+/// map's pairs with one key the last value stays, and the keys are put in order. Of the simple
+/// values only false, true, null and undefined are read (`f0` and `f8 ff` are refused).
 ///
 /// The refusals, each at an offset in bytes:
 /// - `EofWhileParsingValue`, `EofWhileParsingArray`, `EofWhileParsingMap`: the bytes end too early,
 ///   the latter two where an element of an array or a key of a map of indefinite length, or its
 ///   break, is due; at the end of the bytes;
-/// - `UnassignedCode`: a first byte that the format doesn't assign, or that of another simple value,
-///   after that byte;
+/// - `UnassignedCode`: a first byte that the format doesn't assign, or that of another simple
+///   value, after that byte;
 /// - `UnexpectedCode`: a break, or a byte in a chunk's place, that may not stand there, after it;
 /// - `InvalidUtf8`: a text isn't UTF-8, at its first byte that isn't;
 /// - `LengthOutOfRange`: a text would end at 2^64 or beyond, after its head;
@@ -78,19 +78,20 @@ pub fn from_slice(alloc: Global, slice: &[u8]) -> Result<Value>
     ensures storable { IfOk result (λ v. IsStorable (view v)) }
     ensures ordered { IfOk result (λ v. IsOrdered (view v)) }
     // Each such item is read, unless memory runs out.
-    ensures accepted { (v : Val) → SpellsValue slice.now v → MatchResult result (λ x. view x ≡ v) IsOutOfMemory }
+    ensures accepted { (v : Val) → SpellsValue slice.now v
+        → MatchResult result (λ x. view x ≡ v) IsOutOfMemory }
     // A refusal tells the fault that the reference reader meets, or that memory ran out.
     ensures refused { IfErr result (λ e. Fails (length slice.now) e (read_value slice.now)) }
 {
     read_all(alloc, SliceRead::new(alloc, slice))
 }
 
-/// The value of the one item that the bytes spell, as by [`from_slice`]; strings in chunks are joined
-/// in a scratch of the caller's.
+/// The value of the one item that the bytes spell, as by [`from_slice`]; strings in chunks are
+/// joined in a scratch of the caller's.
 ///
-/// It refuses as `from_slice` does, and with `ScratchTooSmall` where the chunks of a string, each whole
-/// in the bytes, are longer together than the scratch: at the offset behind the head of the chunk
-/// that doesn't fit. What the scratch holds afterwards isn't said.
+/// It refuses as `from_slice` does, and with `ScratchTooSmall` where the chunks of a string, each
+/// whole in the bytes, are longer together than the scratch: at the offset behind the head of the
+/// chunk that doesn't fit. What the scratch holds afterwards isn't said.
 ///
 /// ```rust
 /// let mut scratch = [0; 2];
@@ -124,7 +125,8 @@ pub fn from_mut_slice(alloc: Global, slice: &mut [u8]) -> Result<Value>
     ensures found { IfOk result (λ v. SpellsValue slice.old (view v)) }
     ensures storable { IfOk result (λ v. IsStorable (view v)) }
     ensures ordered { IfOk result (λ v. IsOrdered (view v)) }
-    ensures accepted { (v : Val) → SpellsValue slice.old v → MatchResult result (λ x. view x ≡ v) IsOutOfMemory }
+    ensures accepted { (v : Val) → SpellsValue slice.old v
+        → MatchResult result (λ x. view x ≡ v) IsOutOfMemory }
     ensures refused { IfErr result (λ e. Fails (length slice.old) e (read_value slice.old)) }
 {
     are_bytes(slice);
@@ -134,8 +136,8 @@ pub fn from_mut_slice(alloc: Global, slice: &mut [u8]) -> Result<Value>
 /// The value of the one item that the reader's bytes spell, as by [`from_slice`]. It reads to the
 /// reader's end, and takes memory for what came alone.
 ///
-/// It refuses as `from_slice` does, with `Io` where the reader reports a fault (an interrupted read is
-/// one), and with `LengthOutOfRange` where it gives 2^64 bytes and more.
+/// It refuses as `from_slice` does, with `Io` where the reader reports a fault (an interrupted read
+/// is one), and with `LengthOutOfRange` where it gives 2^64 bytes and more.
 ///
 /// ```rust
 /// let value = from_reader(alloc, b"\x82\x01\xf6".as_slice())?;

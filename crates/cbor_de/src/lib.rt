@@ -1,12 +1,12 @@
 //! Reading: a [`Deserializer`] takes items from a source, and the four `from_*` read a whole input.
 //!
-//! [`from_slice`] joins strings in chunks in memory, [`from_slice_with_scratch`] in a scratch of the
-//! caller's, and [`from_mut_slice`] in the slice itself; [`from_reader`] takes its bytes from any
-//! reader. All four give the same answers.
+//! [`from_slice`] joins strings in chunks in memory, [`from_slice_with_scratch`] in a scratch of
+//! the caller's, and [`from_mut_slice`] in the slice itself; [`from_reader`] takes its bytes from
+//! any reader. All four give the same answers.
 //!
-//! This crate names the definitions of `cbor_model` and its facts on the reference reader, the errors
-//! and the sources of `cbor_io`, which it passes on, and the values of `cbor_value` with their facts;
-//! nothing of writing. Others rely on the contracts, and on the words that they use:
+//! This crate names the definitions of `cbor_model` and its facts on the reference reader, the
+//! errors and the sources of `cbor_io`, which it passes on, and the values of `cbor_value` with
+//! their facts; nothing of writing. Others rely on the contracts, and on the words that they use:
 //! `specs/Gives.antt` says when an error tells a fault of the reference reader, and
 //! `specs/Deserializer.antt` what a deserializer reads from.
 #![tactic(auto)]

@@ -94,9 +94,11 @@ impl<R: Source> Deserializer<R> {
         Ok(joined)
     }
 
-    // Takes the chunk of this first byte, which has to be one of the major type, to the buffer's end.
+    // Takes the chunk of this first byte, which has to be one of the major type, to the buffer's
+    // end.
     fn chunk(&mut self, major: Major, first: u8) -> Done<()>
-        ensures read { ChunkGives R.refusals (λ l have. chunk_at (λ n. exceeds_most l.room (have + n)) (major_number major) first)
+        ensures read { ChunkGives R.refusals
+            (λ l have. chunk_at (λ n. exceeds_most l.room (have + n)) (major_number major) first)
             (R.source self.old.source) (R.source self.new.source) self.new.refusal result }
         ensures levels { self.new.levels ≡ self.old.levels }
     {

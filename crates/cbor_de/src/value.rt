@@ -74,7 +74,8 @@ impl<R: Source> Deserializer<R> {
     #[cycle(read)]
     fn array(&mut self, remaining: Remaining) -> Done<Vec<Value>>
         ensures read { Gives R.refusals (λ v. plain.array (views v.items))
-            (λ l. array_at (values l) (inside (values l) self.old.levels) indefinite (remaining_of remaining))
+            (λ l. array_at (values l) (inside (values l) self.old.levels) indefinite
+            (remaining_of remaining))
             (R.source self.old.source) (R.source self.new.source) self.new.refusal result }
         ensures levels { self.new.levels ≡ self.old.levels }
     {
@@ -89,7 +90,8 @@ impl<R: Source> Deserializer<R> {
     #[inline(never)]
     fn items(&mut self, mut remaining: Remaining) -> Done<Vec<Value>>
         ensures read { Gives R.refusals (λ v. views v.items)
-            (λ l. parts_at (items_of (values l) (item_at (values l) self.old.levels)) (remaining_of remaining))
+            (λ l. parts_at (items_of (values l) (item_at (values l) self.old.levels))
+            (remaining_of remaining))
             (R.source self.old.source) (R.source self.new.source) self.new.refusal result }
         ensures levels { self.new.levels ≡ self.old.levels }
     {
@@ -105,7 +107,8 @@ impl<R: Source> Deserializer<R> {
     #[cycle(read)]
     fn map(&mut self, remaining: Remaining) -> Done<Map>
         ensures read { Gives R.refusals (λ m. plain.map (map_view m))
-            (λ l. map_at (values l) (inside (values l) self.old.levels) indefinite (remaining_of remaining))
+            (λ l. map_at (values l) (inside (values l) self.old.levels) indefinite
+            (remaining_of remaining))
             (R.source self.old.source) (R.source self.new.source) self.new.refusal result }
         ensures levels { self.new.levels ≡ self.old.levels }
     {
@@ -120,7 +123,8 @@ impl<R: Source> Deserializer<R> {
     #[inline(never)]
     fn pairs(&mut self, mut remaining: Remaining) -> Done<Map>
         ensures read { Gives R.refusals map_view
-            (λ l bs. made_of (parts_at (pairs_of (values l) (item_at (values l) self.old.levels)) (remaining_of remaining) bs))
+            (λ l bs. made_of (parts_at (pairs_of (values l) (item_at (values l) self.old.levels))
+            (remaining_of remaining) bs))
             (R.source self.old.source) (R.source self.new.source) self.new.refusal result }
         ensures levels { self.new.levels ≡ self.old.levels }
     {

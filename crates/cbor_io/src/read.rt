@@ -239,7 +239,8 @@ pub trait Source {
     fn read_to_buffer(&mut self, n: usize) -> Result<()>
         ensures ok { OnOk result (Buffered (source self.old) (source self.new) n) }
         ensures fits { OnOk result (FitsRoom (source self.new)) }
-        ensures err { IfErr result (RefusedToBuffer refusals (source self.old) (source self.new) n) };
+        ensures err { IfErr result
+            (RefusedToBuffer refusals (source self.old) (source self.new) n) };
 
     /// What was joined in the buffer.
     fn buffer(&self) -> &[u8]

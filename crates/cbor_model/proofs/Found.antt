@@ -127,10 +127,10 @@ chunk_found exceeds major b bs x fits is =
           elim (chosen (exceeds n) _ _ _ step'.2) [
             | inl more ↦ not_ok (before scratch_too_small step.0.1) x more.1
             | inr holds ↦ read_as (IsChunkOf major b bs) (record { width = w; bytes = c.0 }, c.1) x holds.1 (record {
-                parts = whole_head major b n w bs step.0.1 high got.is_low got.parts ∙ behind_head major w n (length c.0) step.0.1 c.0 c.1 got'.parts long;
-                fits = (omega (arith, long, small), got'.fits);
-                rest_fits = got'.rest_fits;
-              })
+              parts = whole_head major b n w bs step.0.1 high got.is_low got.parts ∙ behind_head major w n (length c.0) step.0.1 c.0 c.1 got'.parts long;
+              fits = (omega (arith, long, small), got'.fits);
+              rest_fits = got'.rest_fits;
+            })
           ]
     ]
 

@@ -21,4 +21,5 @@ pub mod ByteOrder
 pub mod Least
 pub mod InRange
 pub mod Documents
+pub mod Parts
 pub mod facts

@@ -13,3 +13,4 @@ pub mod Laws
 pub mod InRange
 pub mod Definite
 pub mod Document
+pub mod Parts

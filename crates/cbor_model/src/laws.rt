@@ -1,7 +1,8 @@
 //! The laws, each of which is the contract of a function that does nothing.
 ghost use Rattle.cbor_model.specs.Laws.{ReaderFinds, ReaderAccepts, OneSpelling, ValueIsStorable, OrderIsTotal, OneFlat, CanonicalReadsBack, ValueIsCanonical, NormalisedOnce, EqualBytes, ByteOrder, LeastSpelling, ValueIsInRange};
 
-/// What the reference reader reads is the value of an acceptable item, and the bytes are its spelling.
+/// What the reference reader reads is the value of an acceptable item, and the bytes are its
+/// spelling.
 pub fn reader_finds()
     ensures { ReaderFinds }
 {}
@@ -31,18 +32,20 @@ pub fn one_flat()
     ensures { OneFlat }
 {}
 
-/// The canonical item of an ordered value has that value, so an ordered value is the value of an item.
+/// The canonical item of an ordered value has that value, so an ordered value is the value of an
+/// item.
 pub fn canonical_reads_back()
     ensures { CanonicalReadsBack }
 {}
 
-/// The value of an acceptable item in fewer than 2^64 bytes is storable and ordered, and its canonical
-/// item is acceptable within the same levels.
+/// The value of an acceptable item in fewer than 2^64 bytes is storable and ordered, and its
+/// canonical item is acceptable within the same levels.
 pub fn value_is_canonical()
     ensures { ValueIsCanonical }
 {}
 
-/// Of what is read, the canonical spelling is read as the same value again: normalising twice is once.
+/// Of what is read, the canonical spelling is read as the same value again: normalising twice is
+/// once.
 pub fn normalised_once()
     ensures { NormalisedOnce }
 {}

@@ -1,8 +1,8 @@
 //! The definitions of CBOR with canonical values, and laws about them.
 //!
 //! The definitions are in `specs/`, one file a subject: they print trees and compare lists, and say
-//! nothing of how a program goes through the bytes. They name no type of a program. The crates above
-//! rely on them, on the laws, and on the lemmas that `proofs/facts` publishes.
+//! nothing of how a program goes through the bytes. They name no type of a program. The crates
+//! above rely on them, on the laws, and on the lemmas that `proofs/facts` publishes.
 #![tactic(auto)]
 
 mod laws;

@@ -8,7 +8,7 @@ use Rattle.std.proofs.KnownBytes.{Appends-nil, Appends-trans}
 use Rattle.cbor_io.specs.declared.error.Error.{Error}
 use Rattle.cbor_io.specs.Write.{AppendsBeginning, Wrote}
 
-began_more : {old new : Option (List ℕ)} {f : List ℕ} (g : List ℕ) → AppendsBeginning f old new → AppendsBeginning (f ++ g) old new
+pub began_more : {old new : Option (List ℕ)} {f : List ℕ} (g : List ℕ) → AppendsBeginning f old new → AppendsBeginning (f ++ g) old new
 began_more g h = record {
   front = h.front;
   rest = h.rest ++ g;
@@ -16,7 +16,7 @@ began_more g h = record {
   written = h.written;
 }
 
-began_then : (old mid new : Option (List ℕ)) (f g : List ℕ) → Appends old mid f → AppendsBeginning g mid new → AppendsBeginning (f ++ g) old new
+pub began_then : (old mid new : Option (List ℕ)) (f g : List ℕ) → Appends old mid f → AppendsBeginning g mid new → AppendsBeginning (f ++ g) old new
 began_then old mid new f g a h = record {
   front = f ++ h.front;
   rest = h.rest;

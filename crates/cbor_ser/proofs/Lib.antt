@@ -2,3 +2,8 @@ pub mod Writing
 pub mod Ranges
 pub mod Bytes
 pub mod Beginnings
+pub mod Steps
+pub mod Heads
+pub mod Users
+pub mod Lists
+pub mod facts

@@ -15,7 +15,7 @@ use Rattle.cbor_io.specs.declared.error.Error.{Error}
 use Rattle.cbor_value.specs.declared.Value.{Value}
 use Rattle.cbor_value.specs.View.{view, views, pair_views}
 use Rattle.cbor_io.specs.Error.{IsOutOfMemory}
-use Rattle.cbor_ser.specs.Written.{IsRefusedBy, IsNotWritten, IsUnstorable}
+use Rattle.cbor_ser.specs.Written.{IsRefusedBy, IsNotWritten, IsUnstorable, IsUnstorableCode, SaysUnstorable}
 
 -- ---- a measure: what lies inside a value is smaller
 
@@ -120,17 +120,9 @@ no_pair_spelled ps i past = ap (λ (xs : List (Value × Value)). spell_pairs (ca
 
 -- ---- refusals
 
-refused_with : (code : ErrorCode) (v w : Val) → (IsStorable w → IsStorable v) → IsRefusedBy code v → IsRefusedBy code w
-refused_with (Message text) v w inside refused = (refused.0, λ all. refused.1 (inside all))
-refused_with OutOfMemory v w inside refused = refused
-refused_with _ v w inside refused = absurd refused
-
--- Where a value isn't written, what it lies in isn't either.
-pub not_written_with : (v w : Val) (e : Error) → (IsStorable w → IsStorable v) → IsNotWritten v e → IsNotWritten w e
-not_written_with v w e inside refused = (refused_with e.code v w inside refused.0, refused.1)
-
+-- Where a value isn't stored, what it lies in isn't either.
 pub unstorable_with : (v w : Val) (e : Error) → (IsStorable w → IsStorable v) → IsUnstorable v e → IsUnstorable w e
-unstorable_with v w e inside refused = (λ all. refused.0 (inside all), not_written_with v w e inside refused.1)
+unstorable_with v w e inside refused = (λ all. refused.0 (inside all), refused.1)
 
 -- One of the sink's errors stays one, and a value that is refused is refused with all that it lies in.
 inside_with : {Sink : Type 0} (v w : Val) (e : Error) → (IsStorable w → IsStorable v) → Sink ⊎ IsUnstorable v e → Sink ⊎ IsUnstorable w e
@@ -147,10 +139,15 @@ pub refused_inside : {T E : Type 0} (Sink : Error → Type 0) (v w : Val) (kept 
 refused_inside Sink v w kept (Ok x) inside refused = tt
 refused_inside Sink v w kept (Err x) inside refused = kept_with Sink v w kept inside refused
 
--- An unstorable value is not written; nor is one for which a vector finds no memory.
-no_memory_with : (code : ErrorCode) (v : Val) → code ≡ OutOfMemory → IsRefusedBy code v
-no_memory_with code v is = subst (λ (x : ErrorCode). IsRefusedBy x v) (sym is) tt
+-- What isn't storable is not written; nor is anything for which a vector finds no memory.
+not_written_code : (code : ErrorCode) (S : Type 0) → (S → ⊥) → IsUnstorableCode code → IsRefusedBy code S
+not_written_code (Message text) S unstorable says = (says, unstorable)
+not_written_code OutOfMemory S unstorable says = tt
+not_written_code _ S unstorable says = absurd says
 
-pub not_written : (v : Val) (e : Error) → IsOutOfMemory e ⊎ IsUnstorable v e → IsNotWritten v e
-not_written v e (inl memory) = (no_memory_with e.code v memory.0, memory.1)
-not_written v e (inr unstorable) = unstorable.1
+no_memory_with : (code : ErrorCode) (S : Type 0) → code ≡ OutOfMemory → IsRefusedBy code S
+no_memory_with code S is = subst (λ (x : ErrorCode). IsRefusedBy x S) (sym is) tt
+
+pub not_written : (S : Type 0) (e : Error) → IsOutOfMemory e ⊎ ((S → ⊥) × SaysUnstorable e) → IsNotWritten S e
+not_written S e (inl memory) = (no_memory_with e.code S memory.0, memory.1)
+not_written S e (inr unstorable) = (not_written_code e.code S unstorable.0 unstorable.1.0, unstorable.1.1)

@@ -9,6 +9,7 @@ use Rattle.cbor_model.specs.Canonical.{IsStorable, canon}
 use Rattle.cbor_model.specs.InRange.{IsInRange}
 use Rattle.cbor_model.specs.Definite.{IsDefinite}
 use Rattle.cbor_model.specs.Laws.{SpellsValue}
+use Rattle.cbor_model.specs.Document.{Doc, document_of}
 
 -- The bytes are another value's where the two values are equal, and only there.
 abbrev pub StandFor : List ℕ → Val → Type 0
@@ -25,3 +26,18 @@ AreLeast bytes v = (r : Raw) → IsWellFormed r → IsDefinite r → v ≡ value
 -- If the value was read from some bytes, it is read from these.
 abbrev pub ReadBack : List ℕ → Val → Type 0
 ReadBack bytes v = (read : List ℕ) → length read < 2 ^ 64 → SpellsValue read v → SpellsValue bytes v
+
+-- The bytes are the canonical spelling of the value, which is storable and in range, with all that
+-- they say of it.
+pub record IsCanonicalSpelling (bytes : List ℕ) (v : Val) : Type 0 where
+  pub storable : IsStorable v
+  pub in_range : IsInRange v
+  pub written : bytes ≡ canon v
+  pub exact : StandFor bytes v
+  pub in_order : CompareAs bytes v
+  pub least : AreLeast bytes v
+  pub read_back : ReadBack bytes v
+
+-- If the document is a value's, the bytes are that value's canonical spelling.
+abbrev pub SpellsValues : List ℕ → Doc → Type 0
+SpellsValues bytes d = (v : Val) → d ≡ document_of v → IsCanonicalSpelling bytes v

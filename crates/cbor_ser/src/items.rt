@@ -14,7 +14,7 @@ ghost use Rattle.cbor_model.specs.InRange.{IsInRange, AreInRange, ArePairsInRang
 ghost use Rattle.cbor_io.specs.Head.{major_number};
 ghost use Rattle.cbor_io.specs.Write.{Wrote};
 ghost use Rattle.cbor_value.specs.View.{view, views, float_view, map_view, pair_views};
-ghost use Rattle.cbor_ser.specs.Written.{IsUnstorable};
+ghost use Rattle.cbor_ser.specs.Written.{SaysUnstorable};
 ghost use Rattle.cbor_ser.specs.Serialized.{ValueRefused};
 
 use cbor_io::error::{Error, Result};
@@ -44,7 +44,7 @@ pub(crate) fn answer(done: Done, refusal: Option<Error>) -> Result<()>
 
 /// What refuses a value that has an integer outside `-2^64..=2^64-1`.
 pub(crate) fn not_storable(alloc: Global) -> Error
-    ensures { (v : Val) → (IsStorable v → ⊥) → IsUnstorable v result }
+    ensures { SaysUnstorable result }
 {
     Error::message(alloc, "The number can't be stored in CBOR")
 }

@@ -1,19 +1,22 @@
-//! Writing values.
+//! Writing documents.
 //!
-//! It names the definitions of `cbor_model`, the error and the major types of `cbor_io`, whose
-//! sinks it passes on, and the values of `cbor_value` with their facts; nothing of reading. Others
-//! rely on the contracts alone, and on `specs/Written.antt`, which says when a value is refused,
-//! and `specs/Serialized.antt`, which says what a serializer's sink was given.
+//! A type says by [`Serialize`] what its document is, and [`to_vec`] writes that document's bytes.
+//! The crate names the definitions of `cbor_model`, the error and the major types of `cbor_io`,
+//! whose sinks it passes on, and the values of `cbor_value` with their facts; nothing of reading.
+//! Others rely on the contracts, on `specs/Serialized.antt`, which says what a call leaves in a
+//! serializer's sink, on `specs/Written.antt`, which says when a document is refused, and on the
+//! published facts, by which a type's own `serialize` is proved.
 #![tactic(auto)]
 
-ghost use Rattle.std.specs.Prelude.{◌≡◌, IfOk, IfErr, OnOk};
+ghost use Rattle.std.specs.Prelude.{◌≡◌, false, true, IfOk, IfErr, OnOk};
 ghost use Rattle.cbor_model.specs.Canonical.{canon, IsStorable};
 ghost use Rattle.cbor_model.specs.InRange.{IsInRange};
-ghost use Rattle.cbor_io.specs.Write.{Wrote};
 ghost use Rattle.cbor_value.specs.View.{view};
-ghost use Rattle.cbor_ser.specs.Bytes.{AreLeast, CompareAs, ReadBack, StandFor};
-ghost use Rattle.cbor_ser.specs.Written.{IsNotWritten};
 ghost use Rattle.cbor_ser.specs.Serialized.{ValueRefused};
+ghost use Rattle.cbor_model.specs.Document.{document_bytes, IsStorableDocument, IsDocumentInRange};
+ghost use Rattle.cbor_io.specs.Write.{Wrote};
+ghost use Rattle.cbor_ser.specs.Bytes.{SpellsValues};
+ghost use Rattle.cbor_ser.specs.Written.{IsNotWritten};
 
 use crate::items::{answer, write_value};
 use cbor_io::error::Result;
@@ -21,13 +24,19 @@ pub use cbor_io::write::{IoWrite, SliceWrite, Write};
 use cbor_value::Value;
 use std::alloc::Global;
 
+mod collection;
+mod impls;
 mod items;
+mod serialize;
 mod serializer;
 
+pub use collection::{CollectionSerializer, StructSerializer};
+pub use serialize::Serialize;
 pub use serializer::Serializer;
 
-/// The canonical spelling of a value: shortest heads, definite lengths, a map's pairs as it lists
-/// them, and floats in their width.
+/// The bytes of a value's document: shortest heads, fields and variants by their names, and
+/// definite lengths where the document declares them. A [`Value`](cbor_value::Value) is written as
+/// its canonical spelling.
 ///
 /// It refuses an integer outside `-2^64..=2^64-1`, at any depth, with the message
 /// `The number can't be stored in CBOR`, and answers `OutOfMemory` where an allocation fails. A
@@ -37,24 +46,35 @@ pub use serializer::Serializer;
 /// let bytes = to_vec(alloc, &Value::Integer(-300))?;
 /// assert_eq!(rt; bytes.as_slice(), [0x39, 0x01, 0x2b].as_slice());
 /// ```
-#[tactic(auto, using(crate::proofs::Bytes::compare_as, crate::proofs::Bytes::are_least, crate::proofs::Bytes::read_back))]
-pub fn to_vec(alloc: Global, value: &Value) -> Result<Vec<u8>>
-    // What is written has only integers that CBOR stores; all else in a value always fits.
-    ensures storable { IfOk result (λ bytes. IsStorable (view value.now)) }
-    ensures in_range { IfOk result (λ bytes. IsInRange (view value.now)) }
-    ensures written { IfOk result (λ bytes. bytes.items ≡ canon (view value.now)) }
-    // Of two values that are written, the bytes are equal where the values are, and they compare as
-    // `cmp` compares the values.
-    ensures exact { IfOk result (λ bytes. StandFor bytes.items (view value.now)) }
-    ensures in_order { IfOk result (λ bytes. CompareAs bytes.items (view value.now)) }
-    // No spelling of the value in definite lengths is shorter.
-    ensures least { IfOk result (λ bytes. AreLeast bytes.items (view value.now)) }
-    // What was read is written so that it is read again: normalising twice is once.
-    ensures read_back { IfOk result (λ bytes. ReadBack bytes.items (view value.now)) }
-    ensures refused { IfErr result (IsNotWritten (view value.now)) }
+pub fn to_vec<T: Serialize>(alloc: Global, value: &T) -> Result<Vec<u8>>
+    // What is written has only integers that CBOR stores; all else in a document always fits.
+    ensures storable { IfOk result (λ bytes. IsStorableDocument (T.document value.now)) }
+    ensures in_range { IfOk result (λ bytes. IsDocumentInRange (T.document value.now)) }
+    ensures written { IfOk result
+        (λ bytes. bytes.items ≡ document_bytes (T.document value.now) false false) }
+    // Where the document is that of a `Value`, these are the value's canonical spelling, and stand
+    // for it among all values.
+    ensures canonical { IfOk result (λ bytes. SpellsValues bytes.items (T.document value.now)) }
+    ensures refused { IfErr result (IsNotWritten (IsStorableDocument (T.document value.now))) }
 {
-    let mut ser = Serializer::new(Vec::new(alloc));
-    ser.serialize_value(alloc, value)?;
+    let mut ser = Serializer::new(alloc, Vec::new(alloc));
+    value.serialize(&mut ser)?;
+    Ok(ser.into_inner())
+}
+
+/// The bytes of a value's document as [`to_vec`] answers them, but in the packed format: fields and
+/// unit variants by their numbers in place of their names, and the keys of struct variants too.
+///
+/// It refuses what `to_vec` refuses.
+pub fn to_vec_packed<T: Serialize>(alloc: Global, value: &T) -> Result<Vec<u8>>
+    ensures storable { IfOk result (λ bytes. IsStorableDocument (T.document value.now)) }
+    ensures in_range { IfOk result (λ bytes. IsDocumentInRange (T.document value.now)) }
+    ensures written { IfOk result
+        (λ bytes. bytes.items ≡ document_bytes (T.document value.now) true false) }
+    ensures refused { IfErr result (IsNotWritten (IsStorableDocument (T.document value.now))) }
+{
+    let mut ser = Serializer::new(alloc, Vec::new(alloc)).packed_format();
+    value.serialize(&mut ser)?;
     Ok(ser.into_inner())
 }
 

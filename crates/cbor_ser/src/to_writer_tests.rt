@@ -136,7 +136,7 @@ fn tells_a_writers_fault_at_each_call(rt: HostRuntime) -> Result<(), Fail> {
 #[test]
 fn refuses_any_byte_where_there_is_no_room(rt: HostRuntime) -> Result<(), Fail> {
     let mut room: [u8; 0] = [];
-    let mut ser = Serializer::new(SliceWrite::new(&mut room));
+    let mut ser = Serializer::new(rt.alloc(), SliceWrite::new(&mut room));
     let Err(error) = ser.serialize_unit() else {
         panic!(&rt; "not refused");
     };
@@ -197,7 +197,7 @@ fn refuses_numbers_that_are_too_far_out(rt: HostRuntime) -> Result<(), Fail> {
 #[test]
 fn fills_a_slice_without_memory(rt: HostRuntime) -> Result<(), Fail> {
     let mut room = [0; 28];
-    let mut ser = Serializer::new(SliceWrite::new(&mut room));
+    let mut ser = Serializer::new(rt.alloc(), SliceWrite::new(&mut room));
     ser.serialize_bool(false)?;
     ser.serialize_unit()?;
     ser.serialize_u64(u64::MAX)?;

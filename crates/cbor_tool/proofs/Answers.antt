@@ -13,7 +13,9 @@ use Rattle.cbor_model.specs.Reader.{Fault, read_value}
 use Rattle.cbor_model.specs.Value.{value}
 use Rattle.cbor_model.specs.Laws.{SpellsValue}
 use Rattle.cbor_tool.specs.Answer.{hex, IsAnswer, AreAnswers, canonical, refused, not_hexadecimal}
+use Rattle.cbor_model.specs.Document.{document_of, IsStorableDocument}
 use Rattle.cbor_model.proofs.facts.Laws.{value_is_storable}
+use Rattle.cbor_model.proofs.facts.Documents.{storable_document}
 use Rattle.serde_cbor.specs.declared.error.ErrorCode.{ErrorCode}
 use Rattle.serde_cbor.specs.declared.error.ErrorCode.TheVariants.{Message, Io, ScratchTooSmall, EofWhileParsingValue, EofWhileParsingArray, EofWhileParsingMap, LengthOutOfRange, InvalidUtf8, UnassignedCode, UnexpectedCode, TrailingData, RecursionLimitExceeded, OutOfMemory}
 use Rattle.serde_cbor.specs.declared.error.Error.{Error}
@@ -91,18 +93,15 @@ IsAnswer-not_hexadecimal line text e failed is =
 
 -- ---- a value that was read is written, unless memory runs out
 
-code_of_refusal : (code : ErrorCode) (v : Val) → IsStorable v → IsRefusedBy code v
-    → code ≡ OutOfMemory
-code_of_refusal OutOfMemory v fits h = refl
-code_of_refusal (Message text) v fits h = absurd (h.1 fits)
-code_of_refusal _ v fits h = absurd h
+code_of_refusal : (code : ErrorCode) (storable : Type 0) → storable → IsRefusedBy code storable → code ≡ OutOfMemory
+code_of_refusal OutOfMemory storable fits h = refl
+code_of_refusal (Message text) storable fits h = absurd (h.1 fits)
+code_of_refusal _ storable fits h = absurd h
 
-pub IsOutOfMemory-not_written : (bytes : List ℕ) (v : Val) (e : Error) → SpellsValue bytes v
-    → IsNotWritten v e → IsOutOfMemory e
+pub IsOutOfMemory-not_written : (bytes : List ℕ) (v : Val) (e : Error) → SpellsValue bytes v → IsNotWritten (IsStorableDocument (document_of v)) e → IsOutOfMemory e
 IsOutOfMemory-not_written bytes v e spells h =
-    let fits : IsStorable v =
-    rw spells.valued (value_is_storable spells.item spells.acceptable.fits) in
-    (code_of_refusal (code_of e) v fits h.0, h.1)
+    let fits : IsStorable v = rw spells.valued (value_is_storable spells.item spells.acceptable.fits) in
+    (code_of_refusal (code_of e) (IsStorableDocument (document_of v)) (storable_document v fits) h.0, h.1)
 
 -- ---- answers that follow others
 

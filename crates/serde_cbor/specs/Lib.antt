@@ -12,6 +12,7 @@ pub use Rattle.cbor_model.specs.Refusal
 pub use Rattle.cbor_model.specs.Reader
 pub use Rattle.cbor_model.specs.Laws
 pub use Rattle.cbor_model.specs.Document
+pub use Rattle.cbor_model.specs.Parts
 pub use Rattle.cbor_io.specs.Error
 pub use Rattle.cbor_io.specs.ReadError
 pub use Rattle.cbor_io.specs.Source
@@ -24,3 +25,5 @@ pub use Rattle.cbor_de.specs.Gives
 pub use Rattle.cbor_ser.specs.Written
 pub use Rattle.cbor_ser.specs.Bytes
 pub use Rattle.cbor_ser.specs.Serialized
+pub use Rattle.cbor_ser.specs.Collections
+pub use Rattle.cbor_ser.specs.Documents

@@ -1,8 +1,9 @@
 //! CBOR with canonical values (RFC 7049).
 //!
-//! [`from_slice`], [`from_slice_with_scratch`], [`from_mut_slice`] and [`from_reader`] read any CBOR item as a [`Value`], and [`to_vec`] writes a value as its one
-//! canonical spelling. Values are compared by the order of their spellings' heads and contents, so
-//! that a map lists its keys in one order.
+//! [`from_slice`], [`from_slice_with_scratch`], [`from_mut_slice`] and [`from_reader`] read any
+//! CBOR item as a [`Value`], and [`to_vec`] writes a value as its one canonical spelling. Values
+//! are compared by the order of their spellings' heads and contents, so that a map lists its keys
+//! in one order.
 //!
 //! ```rust
 //! let value: Value = from_slice(alloc, &[0xbf, 2, 0, 1, 0, 0xff])?;
@@ -20,7 +21,7 @@ pub use cbor_de::{Deserializer, from_mut_slice, from_reader, from_slice, from_sl
 pub use cbor_io::error;
 pub use cbor_io::error::{Error, Result};
 pub use cbor_ser as ser;
-pub use cbor_ser::{to_vec, to_writer};
+pub use cbor_ser::{Serializer, to_vec, to_writer};
 pub use cbor_value as value;
 pub use cbor_value::Value;
 
@@ -29,4 +30,8 @@ mod byte_order_tests;
 #[cfg(test)]
 mod normal_tests;
 #[cfg(test)]
+mod samples;
+#[cfg(test)]
 mod tests;
+#[cfg(test)]
+mod writing_tests;

@@ -1,12 +1,17 @@
-use Rattle.std.proofs.Common.{rules, ◌≡◌}
-use Rattle.cbor_model.specs.Canonical.{canon}
-use Rattle.cbor_value.specs.View.{view}
-use Rattle.cbor_ser.proofs.Bytes.{stand_for}
+use Rattle.std.proofs.Common.{◌≡◌, [], ◌∙◌, false, rules, ap}
+use Rattle.cbor_ser.proofs.Bytes.{spells_values}
+use Rattle.cbor_ser.proofs.Steps.{vector_holds}
 use Rattle.cbor_ser.proofs.to_vec.Goals as goal
 
-pub returns-clause-exact : goal.returns-clause-exact
-returns-clause-exact c =
-    let v = view c.args.value.now in
-    let bytes = c.into_inner.result.items in
-    let written : bytes ≡ canon v = search rules in
-    stand_for bytes v c.in_ok-serialize_value.ensures.storable c.in_ok-serialize_value.ensures.in_range written
+pub returns-clause-written : goal.returns-clause-written
+returns-clause-written g c =
+    let d = g.T.Serialize.document c.args.value.now in
+    let empty : c.new-ser.result.writer.items ≡ [] = search rules in
+    ap (λ v. v.items) c.into_inner.ensures ∙ vector_holds d false false empty c.new-ser.ensures.settings c.in_ok-serialize.ensures.ok
+
+pub returns-clause-canonical : goal.returns-clause-canonical
+returns-clause-canonical g c =
+    let d = g.T.Serialize.document c.args.value.now in
+    let empty : c.new-ser.result.writer.items ≡ [] = search rules in
+    spells_values c.into_inner.result.items d c.in_ok-serialize.ensures.ok.storable c.in_ok-serialize.ensures.ok.in_range
+    (ap (λ v. v.items) c.into_inner.ensures ∙ vector_holds d false false empty c.new-ser.ensures.settings c.in_ok-serialize.ensures.ok)

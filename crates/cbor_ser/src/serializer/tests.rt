@@ -14,7 +14,7 @@ fn is_written(rt: &impl Abort, ser: Serializer<Vec<u8>>, bytes: &'static [u8]) {
 }
 
 fn to_vector(alloc: Global) -> Serializer<Vec<u8>> {
-    Serializer::new(Vec::new(alloc))
+    Serializer::new(alloc, Vec::new(alloc))
 }
 
 #[test]
@@ -46,11 +46,11 @@ fn writes_whole_numbers(rt: HostRuntime) -> Result<(), Fail> {
 fn writes_numbers_of_128_bits(rt: HostRuntime) -> Result<(), Fail> {
     let alloc = rt.alloc();
     let mut ser = to_vector(alloc);
-    ser.serialize_i128(alloc, -1 - u64::MAX as i128)?;
+    ser.serialize_i128(-1 - u64::MAX as i128)?;
     for refused in [
-        ser.serialize_i128(alloc, 1 << 64),
-        ser.serialize_u128(alloc, 1 << 64),
-        ser.serialize_i128(alloc, -2 - u64::MAX as i128),
+        ser.serialize_i128(1 << 64),
+        ser.serialize_u128(1 << 64),
+        ser.serialize_i128(-2 - u64::MAX as i128),
     ] {
         let Err(error) = refused else {
             panic!(&rt; "not refused");
@@ -61,7 +61,7 @@ fn writes_numbers_of_128_bits(rt: HostRuntime) -> Result<(), Fail> {
         let words = error.to_string(alloc)?;
         assert_eq!(rt; words.as_str(), "The number can't be stored in CBOR");
     }
-    ser.serialize_u128(alloc, 9)?;
+    ser.serialize_u128(9)?;
     is_written(&rt, ser, b"\x3b\xff\xff\xff\xff\xff\xff\xff\xff\x09");
     Ok(())
 }
@@ -127,7 +127,7 @@ fn writes_long_strings(rt: HostRuntime) -> Result<(), Fail> {
 #[test]
 fn stops_where_a_slice_is_full(rt: HostRuntime) -> Result<(), Fail> {
     let mut room = [0; 3];
-    let mut ser = Serializer::new(SliceWrite::new(&mut room));
+    let mut ser = Serializer::new(rt.alloc(), SliceWrite::new(&mut room));
     let Err(error) = ser.serialize_str("foobar") else {
         panic!(&rt; "not refused");
     };
@@ -142,7 +142,7 @@ fn stops_where_a_slice_is_full(rt: HostRuntime) -> Result<(), Fail> {
 #[test]
 fn fills_a_slice(rt: HostRuntime) -> Result<(), Fail> {
     let mut room = [0; 7];
-    let mut ser = Serializer::new(SliceWrite::new(&mut room));
+    let mut ser = Serializer::new(rt.alloc(), SliceWrite::new(&mut room));
     ser.serialize_str("foobar")?;
     assert!(rt; ser.serialize_unit().is_err());
     let sink = ser.into_inner();
@@ -175,7 +175,7 @@ impl io::Write for FailingWriter {
 #[test]
 fn tells_a_writers_fault(rt: HostRuntime) -> Result<(), Fail> {
     for left in 0..3usize {
-        let mut ser = Serializer::new(IoWrite::new(FailingWriter { left }));
+        let mut ser = Serializer::new(rt.alloc(), IoWrite::new(FailingWriter { left }));
         match ser.serialize_str("foobar") {
             Ok(()) => assert_eq!(rt; left, 2),
             Err(error) => {

@@ -1,4 +1,5 @@
-use Rattle.std.proofs.Common.{ap, ◌∙◌}
+use Rattle.std.proofs.Common.{ap, refl, ◌∙◌}
+use Rattle.serde_cbor.specs.View.{view}
 use Rattle.std.proofs.lemmas.Result.{err_from_is_err_and, on_ok_weaker}
 use Rattle.cbor_tool.specs.Answer.{hex}
 use Rattle.cbor_tool.proofs.Answers.{IsAnswerTo-canonical, IsAnswerTo-refused}
@@ -14,8 +15,7 @@ returns-in_err-spelling-in-Ok-clause-err c =
 pub returns-in_ok-spelling-in-Ok-clause-ok : goal.returns-in_ok-spelling-in-Ok-clause-ok
 returns-in_ok-spelling-in-Ok-clause-ok c =
     on_ok_weaker c.replace_by_hex.result
-    (λ is. IsAnswerTo-canonical _ _ _ c.in-Ok.ensures.found
-    (is ∙ ap hex (c.deref.ensures.value ∙ c.in_ok-spelling-in-Ok.ensures.written)))
+    (λ is. IsAnswerTo-canonical _ _ _ c.in-Ok.ensures.found (is ∙ ap hex (c.deref.ensures.value ∙ (c.in_ok-spelling-in-Ok.ensures.canonical (view c.in-Ok.value) refl).written)))
     c.replace_by_hex.ensures.ok
 
 pub returns-in_ok-refusal-in-Err-clause-ok : goal.returns-in_ok-refusal-in-Err-clause-ok

@@ -1,8 +1,21 @@
+use Rattle.cbor_ser.proofs.Steps.{float_storable}
+use Rattle.std.proofs.Common.{refl}
 use Rattle.cbor_ser.proofs.Beginnings.{told, told_refused}
+use Rattle.cbor_ser.proofs.Steps.{serialized}
+use Rattle.cbor_value.specs.View.{float_view}
+use Rattle.cbor_model.proofs.facts.Documents.{document_is_canonical, storable_document, document_in_range}
+use Rattle.cbor_model.specs.Parts.{part_bytes, item}
+use Rattle.cbor_model.specs.Document as document
+use Rattle.cbor_model.specs.Document.{document_bytes, raw_of}
 use Rattle.cbor_ser.proofs.serializer.Serializer.serialize_float.Goals as goal
 
-pub returns-clause-written : goal.returns-clause-written
-returns-clause-written g c = told _ c.write_float-done.result _ c.answer.result c.answer.ensures.ok c.answer.ensures.err c.write_float-done.ensures.refused c.write_float-done.ensures.written
-
-pub returns-clause-refused : goal.returns-clause-refused
-returns-clause-refused g c = told_refused _ c.write_float-done.result _ c.answer.result c.answer.ensures.ok c.answer.ensures.err c.write_float-done.ensures.refused
+pub returns : goal.returns
+unfolding part_bytes
+returns g c =
+    let done = c.write_float-done in
+    let s = c.args.self.now.settings in
+    let v = float_view c.args.v in
+    serialized (item (document.document_of v)) c.answer.result
+    (record { same = document_is_canonical v s.packed s.legacy; storable = storable_document v (float_storable c.args.v); in_range = document_in_range v done.ensures.in_range }) refl
+    (told _ done.result _ c.answer.result c.answer.ensures.ok c.answer.ensures.err done.ensures.refused done.ensures.written)
+    (told_refused _ done.result _ c.answer.result c.answer.ensures.ok c.answer.ensures.err done.ensures.refused)

@@ -1,8 +1,11 @@
+use Rattle.std.proofs.Common.{refl}
 use Rattle.cbor_ser.proofs.Beginnings.{told, told_refused}
+use Rattle.cbor_ser.proofs.Steps.{serialized}
 use Rattle.cbor_ser.proofs.serializer.Serializer.write_string.Goals as goal
 
-pub returns-clause-written : goal.returns-clause-written
-returns-clause-written g c = told _ c.write_string-done.result _ c.answer.result c.answer.ensures.ok c.answer.ensures.err c.write_string-done.ensures.refused c.write_string-done.ensures.written
-
-pub returns-clause-refused : goal.returns-clause-refused
-returns-clause-refused g c = told_refused _ c.write_string-done.result _ c.answer.result c.answer.ensures.ok c.answer.ensures.err c.write_string-done.ensures.refused
+pub returns : goal.returns
+returns g c part spells =
+    let done = c.write_string-done in
+    serialized part c.answer.result spells refl
+    (told _ done.result _ c.answer.result c.answer.ensures.ok c.answer.ensures.err done.ensures.refused done.ensures.written)
+    (told_refused _ done.result _ c.answer.result c.answer.ensures.ok c.answer.ensures.err done.ensures.refused)

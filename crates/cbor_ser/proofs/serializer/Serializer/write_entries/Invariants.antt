@@ -1,0 +1,14 @@
+use Rattle.std.proofs.Common.{Some}
+use Rattle.std.specs.Prelude.{Result}
+use Rattle.cbor_model.specs.Document.{doc_pairs}
+use Rattle.cbor_model.specs.Parts.{pairs, ending}
+use Rattle.cbor_io.specs.declared.error.Error.{Error}
+use Rattle.cbor_ser.specs.Serialized.{Serialized}
+use Rattle.cbor_ser.specs.declared.serializer.Serializer.{Serializer}
+use Rattle.cbor_ser.proofs.serializer.Serializer.write_entries.Given as goal
+
+-- What is written next, with what follows, is all of it.
+abbrev pub invariant-loop-key : goal.invariant-loop-key
+invariant-loop-key g l = (new : Serializer g.row.W.Denot) (r : Result (Unit {0}) Error)
+    → Serialized g.W.Write.written g.W.Write.refuses l.self (pairs (doc_pairs g.K.Serialize.document g.V.Serialize.document l.key-iterator) (ending (Some 0))) new r
+    → Serialized g.W.Write.written g.W.Write.refuses l.fn.self (pairs (doc_pairs g.K.Serialize.document g.V.Serialize.document l.map.entries) (ending (Some 0))) new r

@@ -1,0 +1,10 @@
+use Rattle.std.proofs.Common.{rules, arith}
+use Rattle.cbor_model.specs.Parts.{part_bytes, item}
+use Rattle.cbor_model.specs.Document as document
+use Rattle.cbor_model.specs.Document.{document_bytes, raw_of}
+use Rattle.cbor_model.specs.Spelling.{spell}
+use Rattle.cbor_ser.proofs.serializer.Serializer.write_name.Goals as goal
+
+pub returns : goal.returns
+unfolding part_bytes document_bytes raw_of spell
+returns g c = c.write_string.ensures (item (document.unit_variant c.args.index c.args.name.now)) (record { same = search rules; storable = tt; in_range = (omega arith, omega arith) })

@@ -1,0 +1,10 @@
+use Rattle.std.proofs.Common.{arith}
+use Rattle.cbor_ser.proofs.Steps.{same_part}
+use Rattle.cbor_ser.proofs.Heads.{newtype_legacy, newtype_named}
+use Rattle.cbor_ser.proofs.serializer.Serializer.write_newtype_head.Goals as goal
+
+pub returns-then-self : goal.returns-then-self
+returns-then-self g c = same_part (newtype_legacy _ _ _ c.if-self.true) c.write_legacy_head.ensures
+
+pub returns-else-self : goal.returns-else-self
+returns-else-self g c = same_part (newtype_named _ c.args.index _ c.if-self.false (omega arith)) c.write_named_head.ensures

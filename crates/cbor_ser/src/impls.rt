@@ -1,0 +1,250 @@
+//! The documents of the standard library's types, and of values.
+
+ghost use Rattle.std.specs.Prelude.{pos, string_bytes, encode_utf8};
+ghost use Rattle.cbor_model.specs.Document.{null, bool, integer, text, sequence, mapping, declared, doc, no_docs, docs, doc_pairs, document_of};
+ghost use Rattle.cbor_value.specs.View.{view, float_view};
+ghost use Rattle.cbor_ser.specs.Documents.{option_document};
+
+use crate::serialize::Serialize;
+use crate::serializer::Serializer;
+use cbor_io::error::Result;
+use cbor_io::write::Write;
+use cbor_value::{Float, Value};
+use std::collections::BTreeMap;
+
+impl Serialize for bool {
+    ghost document = { bool };
+
+    fn serialize<W: Write>(&self, ser: &mut Serializer<W>) -> Result<()> {
+        ser.serialize_bool(*self)
+    }
+}
+
+impl Serialize for u8 {
+    ghost document = { λ n. integer (pos n) };
+
+    fn serialize<W: Write>(&self, ser: &mut Serializer<W>) -> Result<()> {
+        ser.serialize_u8(*self)
+    }
+}
+
+impl Serialize for u16 {
+    ghost document = { λ n. integer (pos n) };
+
+    fn serialize<W: Write>(&self, ser: &mut Serializer<W>) -> Result<()> {
+        ser.serialize_u16(*self)
+    }
+}
+
+impl Serialize for u32 {
+    ghost document = { λ n. integer (pos n) };
+
+    fn serialize<W: Write>(&self, ser: &mut Serializer<W>) -> Result<()> {
+        ser.serialize_u32(*self)
+    }
+}
+
+impl Serialize for u64 {
+    ghost document = { λ n. integer (pos n) };
+
+    fn serialize<W: Write>(&self, ser: &mut Serializer<W>) -> Result<()> {
+        ser.serialize_u64(*self)
+    }
+}
+
+impl Serialize for u128 {
+    ghost document = { λ n. integer (pos n) };
+
+    fn serialize<W: Write>(&self, ser: &mut Serializer<W>) -> Result<()> {
+        ser.serialize_u128(*self)
+    }
+}
+
+impl Serialize for usize {
+    ghost document = { λ n. integer (pos n) };
+
+    fn serialize<W: Write>(&self, ser: &mut Serializer<W>) -> Result<()> {
+        ser.serialize_u64(*self as u64)
+    }
+}
+
+impl Serialize for i8 {
+    ghost document = { λ n. integer n };
+
+    fn serialize<W: Write>(&self, ser: &mut Serializer<W>) -> Result<()> {
+        ser.serialize_i8(*self)
+    }
+}
+
+impl Serialize for i16 {
+    ghost document = { λ n. integer n };
+
+    fn serialize<W: Write>(&self, ser: &mut Serializer<W>) -> Result<()> {
+        ser.serialize_i16(*self)
+    }
+}
+
+impl Serialize for i32 {
+    ghost document = { λ n. integer n };
+
+    fn serialize<W: Write>(&self, ser: &mut Serializer<W>) -> Result<()> {
+        ser.serialize_i32(*self)
+    }
+}
+
+impl Serialize for i64 {
+    ghost document = { λ n. integer n };
+
+    fn serialize<W: Write>(&self, ser: &mut Serializer<W>) -> Result<()> {
+        ser.serialize_i64(*self)
+    }
+}
+
+impl Serialize for i128 {
+    ghost document = { λ n. integer n };
+
+    fn serialize<W: Write>(&self, ser: &mut Serializer<W>) -> Result<()> {
+        ser.serialize_i128(*self)
+    }
+}
+
+impl Serialize for isize {
+    ghost document = { λ n. integer n };
+
+    fn serialize<W: Write>(&self, ser: &mut Serializer<W>) -> Result<()> {
+        ser.serialize_i64(*self as i64)
+    }
+}
+
+impl Serialize for char {
+    ghost document = { λ c. text (encode_utf8 c) };
+
+    fn serialize<W: Write>(&self, ser: &mut Serializer<W>) -> Result<()> {
+        ser.serialize_char(*self)
+    }
+}
+
+impl Serialize for String {
+    ghost document = { λ s. text (string_bytes s) };
+
+    fn serialize<W: Write>(&self, ser: &mut Serializer<W>) -> Result<()> {
+        ser.serialize_str(self.as_str())
+    }
+}
+
+impl Serialize for &str {
+    ghost document = { λ s. text s.now };
+
+    fn serialize<W: Write>(&self, ser: &mut Serializer<W>) -> Result<()> {
+        ser.serialize_str(*self)
+    }
+}
+
+impl Serialize for () {
+    ghost document = { λ _. null };
+
+    fn serialize<W: Write>(&self, ser: &mut Serializer<W>) -> Result<()> {
+        ser.serialize_unit()
+    }
+}
+
+impl Serialize for Float {
+    ghost document = { λ f. document_of (float_view f) };
+
+    fn serialize<W: Write>(&self, ser: &mut Serializer<W>) -> Result<()> {
+        ser.serialize_float(*self)
+    }
+}
+
+/// Its canonical spelling, whatever the settings.
+impl Serialize for Value {
+    ghost document = { λ v. document_of (view v) };
+
+    fn serialize<W: Write>(&self, ser: &mut Serializer<W>) -> Result<()> {
+        ser.write_value(self)
+    }
+}
+
+impl<T: Serialize> Serialize for Option<T> {
+    ghost document = { option_document T.document };
+
+    fn serialize<W: Write>(&self, ser: &mut Serializer<W>) -> Result<()> {
+        match self {
+            Some(value) => ser.serialize_some(value),
+            None => ser.serialize_none(),
+        }
+    }
+}
+
+impl<T: Serialize> Serialize for Vec<T> {
+    ghost document = { λ v. sequence declared (docs T.document v.items) };
+
+    fn serialize<W: Write>(&self, ser: &mut Serializer<W>) -> Result<()> {
+        ser.write_sequence(self)
+    }
+}
+
+impl<T: Serialize, const N: usize> Serialize for [T; N] {
+    ghost document = { λ a. sequence declared (docs T.document a) };
+
+    fn serialize<W: Write>(&self, ser: &mut Serializer<W>) -> Result<()> {
+        ser.write_sequence(self)
+    }
+}
+
+/// In the order of its keys.
+impl<K: Serialize + Ord, V: Serialize> Serialize for BTreeMap<K, V> {
+    ghost document = { λ m. mapping declared (doc_pairs K.document V.document m.entries) };
+
+    fn serialize<W: Write>(&self, ser: &mut Serializer<W>) -> Result<()> {
+        ser.write_mapping(self)
+    }
+}
+
+impl<A: Serialize> Serialize for (A,) {
+    ghost document = { λ t. sequence declared (doc (A.document t.0) no_docs) };
+
+    fn serialize<W: Write>(&self, ser: &mut Serializer<W>) -> Result<()> {
+        ser.write_array_head(Some(1))?;
+        self.0.serialize(ser)
+    }
+}
+
+impl<A: Serialize, B: Serialize> Serialize for (A, B) {
+    ghost document = { λ t. sequence declared (doc (A.document t.0)
+        (doc (B.document t.1) no_docs)) };
+
+    fn serialize<W: Write>(&self, ser: &mut Serializer<W>) -> Result<()> {
+        ser.write_array_head(Some(2))?;
+        self.0.serialize(ser)?;
+        self.1.serialize(ser)
+    }
+}
+
+impl<A: Serialize, B: Serialize, C: Serialize> Serialize for (A, B, C) {
+    ghost document = { λ t. sequence declared (doc (A.document t.0)
+        (doc (B.document t.1)
+        (doc (C.document t.2) no_docs))) };
+
+    fn serialize<W: Write>(&self, ser: &mut Serializer<W>) -> Result<()> {
+        ser.write_array_head(Some(3))?;
+        self.0.serialize(ser)?;
+        self.1.serialize(ser)?;
+        self.2.serialize(ser)
+    }
+}
+
+impl<A: Serialize, B: Serialize, C: Serialize, D: Serialize> Serialize for (A, B, C, D) {
+    ghost document = { λ t. sequence declared (doc (A.document t.0)
+        (doc (B.document t.1)
+        (doc (C.document t.2)
+        (doc (D.document t.3) no_docs)))) };
+
+    fn serialize<W: Write>(&self, ser: &mut Serializer<W>) -> Result<()> {
+        ser.write_array_head(Some(4))?;
+        self.0.serialize(ser)?;
+        self.1.serialize(ser)?;
+        self.2.serialize(ser)?;
+        self.3.serialize(ser)
+    }
+}

@@ -1,0 +1,81 @@
+//! The trait of the types that are written.
+
+use crate::serializer::Serializer;
+use cbor_io::error::Result;
+use cbor_io::write::Write;
+
+/// A type with a document, which is what a value of it is written as.
+///
+/// An implementation says the document, as a function of the value, and writes it by the calls of
+/// [`Serializer`]. A struct, an enum, and a struct that holds both:
+///
+/// ```rust
+/// struct Point { x: u8, y: u8 }
+///
+/// impl Serialize for Point {
+///     ghost document = {
+///         λ p. structure (field 0 (codes "x") (⟦<u8 as Serialize>⟧.document p.x)
+///             (field 1 (codes "y") (⟦<u8 as Serialize>⟧.document p.y) no_fields))
+///     };
+///
+///     fn serialize<W: Write>(&self, ser: &mut Serializer<W>) -> Result<()> {
+///         let mut fields = ser.serialize_struct("Point", 2)?;
+///         fields.serialize_field("x", &self.x)?;
+///         fields.serialize_field("y", &self.y)?;
+///         fields.end()
+///     }
+/// }
+///
+/// enum Shape { Nothing, Circle(u8) }
+///
+/// impl Serialize for Shape {
+///     ghost document = {
+///         elim [ Nothing ↦ unit_variant 0 (codes "Nothing")
+///         | Circle radius ↦ newtype_variant 1 (codes "Circle") (integer (pos radius)) ]
+///     };
+///
+///     fn serialize<W: Write>(&self, ser: &mut Serializer<W>) -> Result<()> {
+///         match self {
+///             Shape::Nothing => ser.serialize_unit_variant("Shape", 0, "Nothing"),
+///             Shape::Circle(r) => ser.serialize_newtype_variant("Shape", 1, "Circle", r),
+///         }
+///     }
+/// }
+///
+/// struct Mark { at: Point, shape: Shape } // as `Point`, by the documents of its fields' types
+///
+/// let mark = Mark { at: Point { x: 1, y: 2 }, shape: Shape::Circle(3) };
+/// let bytes = to_vec_packed(alloc, &mark)?;
+/// assert_eq!(rt; bytes.as_slice(), b"\xa2\0\xa2\0\x01\x01\x02\x01\xa1\x66Circle\x03".as_slice());
+/// ```
+///
+/// An implementation that is one call proves by itself. Where it writes several parts, each exit of
+/// a `?` and the end take one line each, by the published facts (`proofs/facts/Serialize`):
+/// `by_parts` opens the document; `and_then` takes a part that was written; `head_stops` and
+/// `stops` are the exit at the head and at a part; `ends` is the last call.
+///
+/// ```text
+/// returns-in_err-fields g c =
+///     by_parts (head_stops c.serialize_struct.follows.holds-at-none c.in_err-fields.was
+///       c.from_residual.ensures.1)
+///
+/// returns-in_err-serialize_field g c =
+///     by_parts (and_then c.in_ok-fields.ensures.head refl
+///       (stops c.in_err-serialize_field.ensures.wrote.err (search rules)
+///         c.from_residual-in_err-serialize_field.ensures.1 (search rules)))
+/// ```
+pub trait Serialize {
+    ghost use Rattle.cbor_model.specs.Document.{Doc};
+    ghost use Rattle.cbor_model.specs.Parts.{item};
+    ghost use Rattle.cbor_ser.specs.Serialized.{Serialized};
+
+    // What a value is written as: its document.
+    ghost document: { Self → Doc };
+
+    /// Appends the document, or a beginning of it and refuses: for want of memory, by the or
+    /// with the message `The number can't be stored in CBOR`, which only a document with such a
+    /// number gets.
+    fn serialize<W: Write>(&self, ser: &mut Serializer<W>) -> Result<()>
+        ensures { Serialized W.written W.refuses ser.old (item (document self.now))
+            ser.new result };
+}

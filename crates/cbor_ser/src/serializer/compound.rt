@@ -1,0 +1,356 @@
+//! Writing what holds documents: options, newtype structs, variants, sequences, maps and structs.
+
+ghost use Rattle.std.specs.Prelude.{◌≡◌, ◌-◌, ◌+◌, ◌^◌, ◌<◌, IfOk, Some, false};
+ghost use Rattle.std.specs.Borrow.{sem, RestsIfErr};
+ghost use Rattle.cbor_model.specs.Document.{text, unit_variant, newtype_variant};
+ghost use Rattle.cbor_model.specs.Parts.{Part, item, both, array_head, map_head, ending, newtype_head, tuple_head, struct_head, field_part};
+ghost use Rattle.cbor_ser.specs.Serialized.{Added, Serialized};
+ghost use Rattle.cbor_ser.specs.contracts.serializer.Serializer.{the_row};
+
+use super::Serializer;
+use crate::collection::{CollectionSerializer, StructSerializer, Turn};
+use crate::serialize::Serialize;
+use cbor_io::error::Result;
+use cbor_io::head::Major;
+use cbor_io::write::Write;
+
+impl<W: Write> Serializer<W> {
+    /// Appends a value that is there, as it is.
+    pub fn serialize_some<T: Serialize>(&mut self, v: &T) -> Result<()>
+        ensures { Serialized W.written W.refuses self.old
+            (item (T.document v.now)) self.new result }
+    {
+        v.serialize(self)
+    }
+
+    /// Appends what a struct of one unnamed part holds, whatever the struct's name.
+    pub fn serialize_newtype_struct<T: Serialize>(
+        &mut self,
+        _name: &'static str,
+        v: &T,
+    ) -> Result<()>
+        ensures { Serialized W.written W.refuses self.old
+            (item (T.document v.now)) self.new result }
+    {
+        v.serialize(self)
+    }
+
+    /// Appends a variant that holds nothing: its name, or its number where the format is packed.
+    pub fn serialize_unit_variant(
+        &mut self,
+        _name: &'static str,
+        index: u32,
+        variant: &'static str,
+    ) -> Result<()>
+        ensures { Serialized W.written W.refuses self.old
+            (item (unit_variant index variant.now)) self.new result }
+    {
+        self.write_identifier(index, variant)
+    }
+
+    /// Appends a variant of one unnamed part: the map of its name and the part, or in the legacy
+    /// form the array of its name (its number where the format is packed) and the part.
+    pub fn serialize_newtype_variant<T: Serialize>(
+        &mut self,
+        _name: &'static str,
+        index: u32,
+        variant: &'static str,
+        v: &T,
+    ) -> Result<()>
+        ensures { Serialized W.written W.refuses self.old
+            (item (newtype_variant index variant.now (T.document v.now)))
+            self.new result }
+    {
+        self.write_newtype_head(index, variant)?;
+        v.serialize(self)
+    }
+
+    /// Begins a sequence of so many items, or up to a break where the length isn't declared.
+    /// The items follow by [`CollectionSerializer::serialize_element`].
+    pub fn serialize_seq<'a>(
+        &'a mut self,
+        len: Option<usize>,
+    ) -> Result<CollectionSerializer<'a, W>>
+        ensures* rests { sem 𝓛 (RestsIfErr (the_row W.row) self.entry (λ s. s.ser.ghost_name) result
+            (λ last. Serialized W.written W.refuses self.old (array_head len) last result)) }
+        ensures same_reference { IfOk result (λ s. s.ser.ghost_name ≡ self.entry.ghost_name) }
+        ensures head { IfOk result (λ s. Added W.written self.old (array_head len) s.ser.now) }
+        ensures state { IfOk result (λ s. (s.left ≡ len) × (s.turn ≡ Turn.Element)) }
+    {
+        self.write_array_head(len)?;
+        Ok(CollectionSerializer {
+            ser: self,
+            left: len,
+            turn: Turn::Element,
+        })
+    }
+
+    /// Begins a map of so many pairs, or up to a break where the length isn't declared. Keys and
+    /// values follow by turns.
+    pub fn serialize_map<'a>(
+        &'a mut self,
+        len: Option<usize>,
+    ) -> Result<CollectionSerializer<'a, W>>
+        ensures* rests { sem 𝓛 (RestsIfErr (the_row W.row) self.entry (λ s. s.ser.ghost_name) result
+            (λ last. Serialized W.written W.refuses self.old (map_head len) last result)) }
+        ensures same_reference { IfOk result (λ s. s.ser.ghost_name ≡ self.entry.ghost_name) }
+        ensures head { IfOk result (λ s. Added W.written self.old (map_head len) s.ser.now) }
+        ensures state { IfOk result (λ s. (s.left ≡ len) × (s.turn ≡ Turn.Key)) }
+    {
+        self.write_map_head(len)?;
+        Ok(CollectionSerializer {
+            ser: self,
+            left: len,
+            turn: Turn::Key,
+        })
+    }
+
+    /// Begins a tuple, which is a sequence of so many items.
+    pub fn serialize_tuple<'a>(&'a mut self, len: usize) -> Result<CollectionSerializer<'a, W>>
+        ensures* rests { sem 𝓛 (RestsIfErr (the_row W.row) self.entry (λ s. s.ser.ghost_name) result
+            (λ last. Serialized W.written W.refuses self.old (array_head (Some len)) last result)) }
+        ensures same_reference { IfOk result (λ s. s.ser.ghost_name ≡ self.entry.ghost_name) }
+        ensures head { IfOk result
+            (λ s. Added W.written self.old (array_head (Some len)) s.ser.now) }
+        ensures state { IfOk result (λ s. (s.left ≡ Some len) × (s.turn ≡ Turn.Element)) }
+    {
+        self.write_array_head(Some(len))?;
+        Ok(CollectionSerializer {
+            ser: self,
+            left: Some(len),
+            turn: Turn::Element,
+        })
+    }
+
+    /// Begins a struct of unnamed parts, which is a sequence of them, whatever its name.
+    pub fn serialize_tuple_struct<'a>(
+        &'a mut self,
+        _name: &'static str,
+        len: usize,
+    ) -> Result<CollectionSerializer<'a, W>>
+        ensures* rests { sem 𝓛 (RestsIfErr (the_row W.row) self.entry (λ s. s.ser.ghost_name) result
+            (λ last. Serialized W.written W.refuses self.old (array_head (Some len)) last result)) }
+        ensures same_reference { IfOk result (λ s. s.ser.ghost_name ≡ self.entry.ghost_name) }
+        ensures head { IfOk result
+            (λ s. Added W.written self.old (array_head (Some len)) s.ser.now) }
+        ensures state { IfOk result (λ s. (s.left ≡ Some len) × (s.turn ≡ Turn.Element)) }
+    {
+        self.write_array_head(Some(len))?;
+        Ok(CollectionSerializer {
+            ser: self,
+            left: Some(len),
+            turn: Turn::Element,
+        })
+    }
+
+    /// Begins a variant of unnamed parts: the map of its name and the array of its parts, or in the
+    /// legacy form the array of its name (its number where the format is packed) and its parts.
+    pub fn serialize_tuple_variant<'a>(
+        &'a mut self,
+        _name: &'static str,
+        index: u32,
+        variant: &'static str,
+        len: usize,
+    ) -> Result<CollectionSerializer<'a, W>>
+        requires len { len < 2 ^ 64 - 1 }
+        ensures* rests { sem 𝓛 (RestsIfErr (the_row W.row) self.entry (λ s. s.ser.ghost_name) result
+            (λ last. Serialized W.written W.refuses self.old
+            (tuple_head index variant.now len) last result)) }
+        ensures same_reference { IfOk result (λ s. s.ser.ghost_name ≡ self.entry.ghost_name) }
+        ensures head { IfOk result (λ s. Added W.written self.old (tuple_head index variant.now len)
+            s.ser.now) }
+        ensures state { IfOk result (λ s. (s.left ≡ Some len) × (s.turn ≡ Turn.Element)) }
+    {
+        self.write_tuple_head(index, variant, len)?;
+        Ok(CollectionSerializer {
+            ser: self,
+            left: Some(len),
+            turn: Turn::Element,
+        })
+    }
+
+    /// Begins a struct: a map of its fields, of which so many are written.
+    pub fn serialize_struct<'a>(
+        &'a mut self,
+        _name: &'static str,
+        len: usize,
+    ) -> Result<StructSerializer<'a, W>>
+        ensures* rests { sem 𝓛 (RestsIfErr (the_row W.row) self.entry (λ s. s.ser.ghost_name) result
+            (λ last. Serialized W.written W.refuses self.old (map_head (Some len)) last result)) }
+        ensures same_reference { IfOk result (λ s. s.ser.ghost_name ≡ self.entry.ghost_name) }
+        ensures head { IfOk result (λ s. Added W.written self.old (map_head (Some len)) s.ser.now) }
+        ensures state { IfOk result (λ s. (s.left ≡ len) × (s.next ≡ 0)) }
+    {
+        self.write_map_head(Some(len))?;
+        Ok(StructSerializer {
+            ser: self,
+            next: 0,
+            left: len,
+        })
+    }
+
+    /// Begins a variant of named fields: the map of its name (its number where the format is
+    /// packed) and the map of its fields, or in the legacy form the array of the two.
+    pub fn serialize_struct_variant<'a>(
+        &'a mut self,
+        _name: &'static str,
+        index: u32,
+        variant: &'static str,
+        len: usize,
+    ) -> Result<StructSerializer<'a, W>>
+        ensures* rests { sem 𝓛 (RestsIfErr (the_row W.row) self.entry (λ s. s.ser.ghost_name) result
+            (λ last. Serialized W.written W.refuses self.old
+            (both (struct_head index variant.now) (map_head (Some len)))
+            last result)) }
+        ensures same_reference { IfOk result (λ s. s.ser.ghost_name ≡ self.entry.ghost_name) }
+        ensures head { IfOk result (λ s. Added W.written self.old
+            (both (struct_head index variant.now) (map_head (Some len)))
+            s.ser.now) }
+        ensures state { IfOk result (λ s. (s.left ≡ len) × (s.next ≡ 0)) }
+    {
+        self.write_struct_head(index, variant, len)?;
+        Ok(StructSerializer {
+            ser: self,
+            next: 0,
+            left: len,
+        })
+    }
+
+    // Appends the head of an array, or `9f` where the length isn't declared.
+    pub(crate) fn write_array_head(&mut self, len: Option<usize>) -> Result<()>
+        ensures { Serialized W.written W.refuses self.old (array_head len) self.new result }
+    {
+        match len {
+            Some(n) => self.write_head(Major::Array, n as u64),
+            None => self.write_piece(&[0x9f]),
+        }
+    }
+
+    // Appends the head of a map, or `bf` where the length isn't declared.
+    pub(crate) fn write_map_head(&mut self, len: Option<usize>) -> Result<()>
+        ensures { Serialized W.written W.refuses self.old (map_head len) self.new result }
+    {
+        match len {
+            Some(n) => self.write_head(Major::Map, n as u64),
+            None => self.write_piece(&[0xbf]),
+        }
+    }
+
+    // Ends an array or a map: by a break where its length wasn't declared.
+    pub(crate) fn write_end(&mut self, left: Option<usize>) -> Result<()>
+        ensures { Serialized W.written W.refuses self.old (ending left) self.new result }
+    {
+        match left {
+            Some(_) => Ok(()),
+            None => self.write_piece(&[0xff]),
+        }
+    }
+
+    // Appends a name, or the number in its place where the format is packed.
+    pub(crate) fn write_identifier(&mut self, index: u32, name: &str) -> Result<()>
+        ensures { Serialized W.written W.refuses self.old
+            (item (unit_variant index name.now)) self.new result }
+    {
+        if self.settings.packed {
+            self.write_head(Major::UnsignedInteger, index as u64)
+        } else {
+            self.write_name(index, name)
+        }
+    }
+
+    // Appends a name, which is what identifies a field or a variant unless the format is packed.
+    fn write_name(&mut self, index: u32, name: &str) -> Result<()>
+        requires { self.old.settings.packed ≡ false }
+        ensures { Serialized W.written W.refuses self.old
+            (item (unit_variant index name.now)) self.new result }
+    {
+        self.write_string(Major::TextString, name.as_bytes())
+    }
+
+    // Begins an array in which the parts of a variant follow its identifier.
+    fn write_legacy_head(&mut self, len: usize, index: u32, name: &str) -> Result<()>
+        ensures { Serialized W.written W.refuses self.old
+            (both (array_head (Some len)) (item (unit_variant index name.now)))
+            self.new result }
+    {
+        self.write_array_head(Some(len))?;
+        self.write_identifier(index, name)
+    }
+
+    // Begins the map of a variant's name and what it holds.
+    fn write_named_head(&mut self, name: &str) -> Result<()>
+        ensures { Serialized W.written W.refuses self.old
+            (both (map_head (Some 1)) (item (text name.now)))
+            self.new result }
+    {
+        self.write_map_head(Some(1))?;
+        self.serialize_str(name)
+    }
+
+    // Begins the map of a variant's identifier and what it holds.
+    fn write_identified_head(&mut self, index: u32, name: &str) -> Result<()>
+        ensures { Serialized W.written W.refuses self.old
+            (both (map_head (Some 1)) (item (unit_variant index name.now)))
+            self.new result }
+    {
+        self.write_map_head(Some(1))?;
+        self.write_identifier(index, name)
+    }
+
+    // Appends what precedes the part of a newtype variant.
+    fn write_newtype_head(&mut self, index: u32, name: &str) -> Result<()>
+        ensures { Serialized W.written W.refuses self.old
+            (newtype_head index name.now) self.new result }
+    {
+        if self.settings.legacy {
+            self.write_legacy_head(2, index, name)
+        } else {
+            self.write_named_head(name)
+        }
+    }
+
+    // Appends what precedes the parts of a tuple variant.
+    fn write_tuple_head(&mut self, index: u32, name: &str, len: usize) -> Result<()>
+        requires { len < 2 ^ 64 - 1 }
+        ensures { Serialized W.written W.refuses self.old
+            (tuple_head index name.now len) self.new result }
+    {
+        if self.settings.legacy {
+            return self.write_legacy_head(len + 1, index, name);
+        }
+        self.write_named_head(name)?;
+        self.write_array_head(Some(len))
+    }
+
+    // Appends what precedes the fields of a struct variant.
+    fn write_struct_head(&mut self, index: u32, name: &str, len: usize) -> Result<()>
+        ensures { Serialized W.written W.refuses self.old
+            (both (struct_head index name.now) (map_head (Some len)))
+            self.new result }
+    {
+        self.write_struct_key(index, name)?;
+        self.write_map_head(Some(len))
+    }
+
+    // Appends what precedes the map of a struct variant's fields.
+    fn write_struct_key(&mut self, index: u32, name: &str) -> Result<()>
+        ensures { Serialized W.written W.refuses self.old
+            (struct_head index name.now) self.new result }
+    {
+        if self.settings.legacy {
+            self.write_legacy_head(2, index, name)
+        } else {
+            self.write_identified_head(index, name)
+        }
+    }
+
+    // Appends the identifier of a field, and what it holds.
+    pub(crate) fn write_field<T: Serialize>(&mut self, number: u32, name: &str, v: &T) -> Result<()>
+        ensures { Serialized W.written W.refuses self.old
+            (field_part number name.now (T.document v.now))
+            self.new result }
+    {
+        self.write_identifier(number, name)?;
+        v.serialize(self)
+    }
+}
