@@ -17,6 +17,7 @@ use cbor_io::read::{ReadErrorCode, Source};
 
 impl<R: Source> Deserializer<R> {
     /// Takes n bytes.
+    #[inline(always)]
     pub fn bytes(&mut self, n: u64) -> Done<Vec<u8>>
         ensures read { Gives R.refusals (λ v. v.items) (λ l. bytes_at n)
             (R.source self.old.source) (R.source self.new.source) self.new.refusal result }
@@ -32,6 +33,7 @@ impl<R: Source> Deserializer<R> {
     }
 
     /// Reads a text of n bytes.
+    #[inline(always)]
     pub fn text(&mut self, n: u64) -> Done<String>
         ensures read { Gives R.refusals text_view (λ l. text_at (values l) no_bytes n)
             (R.source self.old.source) (R.source self.new.source) self.new.refusal result }
@@ -44,7 +46,19 @@ impl<R: Source> Deserializer<R> {
         self.checked(bytes)
     }
 
+    /// Reads a byte string in chunks.
+    #[inline(always)]
+    pub fn byte_chunks(&mut self) -> Done<Vec<u8>>
+        ensures read { Gives R.refusals (λ v. v.items)
+            (λ l bs. joined_of (chunks_at (exceeds_most l.room) 0 2 bs))
+            (R.source self.old.source) (R.source self.new.source) self.new.refusal result }
+        ensures levels { self.new.levels ≡ self.old.levels }
+    {
+        self.chunks(Major::ByteString)
+    }
+
     /// Reads a text in chunks.
+    #[inline(always)]
     pub fn text_chunks(&mut self) -> Done<String>
         ensures read { Gives R.refusals text_view (λ l. text_chunks_at (values l))
             (R.source self.old.source) (R.source self.new.source) self.new.refusal result }
@@ -74,7 +88,8 @@ impl<R: Source> Deserializer<R> {
     }
 
     /// Reads chunks of the major type up to the break, and joins them.
-    pub fn chunks(&mut self, major: Major) -> Done<Vec<u8>>
+    #[inline(never)]
+    fn chunks(&mut self, major: Major) -> Done<Vec<u8>>
         ensures read { Gives R.refusals (λ v. v.items)
             (λ l bs. joined_of (chunks_at (exceeds_most l.room) 0 (major_number major) bs))
             (R.source self.old.source) (R.source self.new.source) self.new.refusal result }

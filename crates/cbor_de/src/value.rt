@@ -13,7 +13,6 @@ use crate::cursor::{Collection, Remaining};
 use crate::de::Deserializer;
 use crate::head::Head;
 use crate::refusal::{Done, Refused};
-use cbor_io::head::Major;
 use cbor_io::read::{ReadErrorCode, Source};
 use cbor_value::{Map, Value};
 
@@ -57,7 +56,7 @@ impl<R: Source> Deserializer<R> {
             Head::Unsigned(n) => Ok(Value::Integer(n as i128)),
             Head::Negative(n) => Ok(Value::Integer(-1 - n as i128)),
             Head::Bytes(Some(n)) => Ok(Value::Bytes(self.bytes(n)?)),
-            Head::Bytes(None) => Ok(Value::Bytes(self.chunks(Major::ByteString)?)),
+            Head::Bytes(None) => Ok(Value::Bytes(self.byte_chunks()?)),
             Head::Text(Some(n)) => Ok(Value::Text(self.text(n)?)),
             Head::Text(None) => Ok(Value::Text(self.text_chunks()?)),
             Head::Array(remaining) => Ok(Value::Array(self.array(remaining)?)),
@@ -142,7 +141,6 @@ impl<R: Source> Deserializer<R> {
 
     /// Reads a tagged item behind the tag's head.
     #[cycle(read)]
-    #[inline(never)]
     fn tagged(&mut self, tag: u64) -> Done<Box<Value>>
         ensures read { Gives R.refusals (λ b. plain.tag tag (view b.value))
             (λ l. tag_at (values l) (inside (values l) self.old.levels) no_bytes tag)
@@ -150,8 +148,21 @@ impl<R: Source> Deserializer<R> {
         ensures levels { self.new.levels ≡ self.old.levels }
     {
         self.enter()?;
-        let value = self.value();
+        let value = self.boxed();
         self.levels += 1;
-        Ok(Box::new(self.alloc, value?)?)
+        value
+    }
+
+    /// Reads an item to a place of its own.
+    #[cycle(read)]
+    #[inline(never)]
+    fn boxed(&mut self) -> Done<Box<Value>>
+        ensures read { Gives R.refusals (λ b. view b.value)
+            (λ l. item_at (values l) self.old.levels)
+            (R.source self.old.source) (R.source self.new.source) self.new.refusal result }
+        ensures levels { self.new.levels ≡ self.old.levels }
+    {
+        let value = self.value()?;
+        Ok(Box::new(self.alloc, value)?)
     }
 }

@@ -52,13 +52,6 @@ tagged-returns-in_err-enter-clause-read g t c =
     rw (passed.1, passed.2) (fault_stops g.R.Source.refusals (g.R.Source.source c.args.self.now.source) (λ l. tag_at (values l) (inside (values l) c.args.self.now.levels) no_bytes c.args.tag) _ _ RecursionLimitExceeded too_deep (λ at end r h. h)
     (λ l bs. tag_too_deep l c.args.self.now.levels c.args.tag bs e.none.0) e.refused e.kept)
 
-pub tagged-returns-in_err-value-clause-read : goal.tagged-returns-in_err-value-clause-read
-tagged-returns-in_err-value-clause-read g t c =
-    let passed = err_from_is_err_and c.from_residual-in_err-value.result c.from_residual-in_err-value.ensures.1 in
-    let same = ap g.R.Source.source c.in_ok-enter.ensures.source in
-    let stops = subst (λ (s : Input). Stopped g.R.Source.refusals (λ l. item_at (values l) c.enter.new.self.levels) s c.value-value.new.self.refusal c.in_err-value.field-0.0) same c.in_err-value.ensures.read in
-    rw (passed.1, passed.2) (stopped_map g.R.Source.refusals (λ l. item_at (values l) c.enter.new.self.levels) (λ l. tag_at (values l) (inside (values l) c.args.self.now.levels) no_bytes c.args.tag) (g.R.Source.source c.args.self.now.source) _ _ (λ l bs f is. tag_stops l c.args.self.now.levels c.enter.new.self.levels c.args.tag bs f c.in_ok-enter.ensures.inside is) stops)
-
 pub array-returns-clause-read : goal.array-returns-clause-read
 array-returns-clause-read g t c =
     let levels = c.args.self.now.levels in
@@ -81,13 +74,18 @@ map-returns-clause-read g t c =
 
 pub tagged-returns-clause-read : goal.tagged-returns-clause-read
 tagged-returns-clause-read g t c =
-    let v = view c.in_ok-value.field-0 in
-    let s = g.R.Source.source c.args.self.now.source in
-    let u = g.R.Source.source c.value-value.new.self.source in
-    let P : (Limits → List ℕ → List ℕ → Type 0) = λ l bs rest. item_at (values l) c.enter.new.self.levels bs ≡ Ok (v, rest) in
-    let step = subst (λ (s : Input). Step s u P) (ap g.R.Source.source c.in_ok-enter.ensures.source) c.in_ok-value.ensures.read in
-    let tagged : plain.tag c.args.tag v ≡ plain.tag c.args.tag (view c.in_ok-new.field-0.value) = ap (λ (w : Value). plain.tag c.args.tag (view w)) (sym c.in_ok-new.ensures.ok) in
-    step_map s u P _ (λ l bs rest is. tag_inside l c.args.self.now.levels c.enter.new.self.levels c.args.tag bs rest v c.in_ok-enter.ensures.inside is ∙ ap (λ (v : Val). Ok (v, rest)) tagged) step
+    let levels = c.args.self.now.levels in
+    let left = c.enter.new.self.levels in
+    let tag = c.args.tag in
+    let read : (Limits → List ℕ → Reads Val) = λ l. item_at (values l) left in
+    let given = subst (λ (s : Input). Gives g.R.Source.refusals (λ b. view b.value) read s (g.R.Source.source c.boxed-value.new.self.source) c.boxed-value.new.self.refusal c.boxed-value.result) (ap g.R.Source.source c.in_ok-enter.ensures.source) c.boxed-value.ensures.read in
+    gives_seen g.R.Source.refusals (λ b. view b.value) (λ b. plain.tag tag (view b.value)) read (λ l. tag_at (values l) (inside (values l) levels) no_bytes tag) _ _ _ _
+    (λ l bs rest b is. tag_inside l levels left tag bs rest (view b.value) c.in_ok-enter.ensures.inside is) (λ l bs f is. tag_stops l levels left tag bs f c.in_ok-enter.ensures.inside is) given
+
+pub boxed-returns-clause-read : goal.boxed-returns-clause-read
+boxed-returns-clause-read g t c =
+    let same : view c.in_ok-value.value ≡ view c.in_ok-new.field-0.value = ap view (sym c.in_ok-new.ensures.ok) in
+    step_map _ _ (λ l bs rest. item_at (values l) c.args.self.now.levels bs ≡ Ok (view c.in_ok-value.value, rest)) _ (λ l bs rest is. is ∙ ap (λ (v : Val). Ok (v, rest)) same) c.in_ok-value.ensures.read
 
 -- ---- a level is given back
 
@@ -98,7 +96,7 @@ pub map-overflow_add-self : goal.map-overflow_add-self
 map-overflow_add-self g t c = omega (arith, c.pairs-map.ensures.levels, c.in_ok-enter.ensures.below)
 
 pub tagged-overflow_add-self : goal.tagged-overflow_add-self
-tagged-overflow_add-self g t c = omega (arith, c.value-value.ensures.levels, c.in_ok-enter.ensures.below)
+tagged-overflow_add-self g t c = omega (arith, c.boxed-value.ensures.levels, c.in_ok-enter.ensures.below)
 
 -- ---- items
 
@@ -320,11 +318,11 @@ value_of-returns-in_err-bytes-in-Bytes-Some-clause-read g t c =
     let is_head : c.args.head ≡ head.Bytes (Some n) = search rules in
     rw (passed.1, passed.2, is_head) (stopped_map g.R.Source.refusals (λ l. bytes_at n) (λ l. string_at (values l) no_bytes n) _ _ _ (λ l bs f is. bytes_stop l n bs f is) c.in_err-bytes-in-Bytes-Some.ensures.read)
 
-pub value_of-returns-in_err-chunks-in-Bytes-None-clause-read : goal.value_of-returns-in_err-chunks-in-Bytes-None-clause-read
-value_of-returns-in_err-chunks-in-Bytes-None-clause-read g t c =
-    let passed = err_from_is_err_and c.from_residual-in_err-chunks-in-Bytes-None.result c.from_residual-in_err-chunks-in-Bytes-None.ensures.1 in
+pub value_of-returns-in_err-byte_chunks-in-Bytes-None-clause-read : goal.value_of-returns-in_err-byte_chunks-in-Bytes-None-clause-read
+value_of-returns-in_err-byte_chunks-in-Bytes-None-clause-read g t c =
+    let passed = err_from_is_err_and c.from_residual-in_err-byte_chunks-in-Bytes-None.result c.from_residual-in_err-byte_chunks-in-Bytes-None.ensures.1 in
     let is_head : c.args.head ≡ head.Bytes None = search rules in
-    rw (passed.1, passed.2, is_head) (stopped_map g.R.Source.refusals (λ l bs. joined_of (chunks_at (exceeds_most l.room) 0 2 bs)) (λ l. string_chunks_at (values l)) _ _ _ (λ l bs f is. chunks_stop l bs f is) c.in_err-chunks-in-Bytes-None.ensures.read)
+    rw (passed.1, passed.2, is_head) (stopped_map g.R.Source.refusals (λ l bs. joined_of (chunks_at (exceeds_most l.room) 0 2 bs)) (λ l. string_chunks_at (values l)) _ _ _ (λ l bs f is. chunks_stop l bs f is) c.in_err-byte_chunks-in-Bytes-None.ensures.read)
 
 pub value_of-returns-in_ok-bytes-in-Bytes-Some-clause-read : goal.value_of-returns-in_ok-bytes-in-Bytes-Some-clause-read
 value_of-returns-in_ok-bytes-in-Bytes-Some-clause-read g t c =
@@ -333,11 +331,11 @@ value_of-returns-in_ok-bytes-in-Bytes-Some-clause-read g t c =
     let is_head : c.args.head ≡ head.Bytes (Some n) = search rules in
     step_map _ _ (λ l bs rest. bytes_at n bs ≡ Ok (b, rest)) _ (λ l bs rest is. rw is_head (bytes_read l n bs b rest is ∙ ap (λ (v : Val). Ok (v, rest)) (sym (view_bytes c.in_ok-bytes-in-Bytes-Some.field-0)))) c.in_ok-bytes-in-Bytes-Some.ensures.read
 
-pub value_of-returns-in_ok-chunks-in-Bytes-None-clause-read : goal.value_of-returns-in_ok-chunks-in-Bytes-None-clause-read
-value_of-returns-in_ok-chunks-in-Bytes-None-clause-read g t c =
-    let b = c.in_ok-chunks-in-Bytes-None.field-0.items in
+pub value_of-returns-in_ok-byte_chunks-in-Bytes-None-clause-read : goal.value_of-returns-in_ok-byte_chunks-in-Bytes-None-clause-read
+value_of-returns-in_ok-byte_chunks-in-Bytes-None-clause-read g t c =
+    let b = c.in_ok-byte_chunks-in-Bytes-None.field-0.items in
     let is_head : c.args.head ≡ head.Bytes None = search rules in
-    step_map _ _ (λ l bs rest. joined_of (chunks_at (exceeds_most l.room) 0 2 bs) ≡ Ok (b, rest)) _ (λ l bs rest is. rw is_head (chunks_read l bs b rest is ∙ ap (λ (v : Val). Ok (v, rest)) (sym (view_bytes c.in_ok-chunks-in-Bytes-None.field-0)))) c.in_ok-chunks-in-Bytes-None.ensures.read
+    step_map _ _ (λ l bs rest. joined_of (chunks_at (exceeds_most l.room) 0 2 bs) ≡ Ok (b, rest)) _ (λ l bs rest is. rw is_head (chunks_read l bs b rest is ∙ ap (λ (v : Val). Ok (v, rest)) (sym (view_bytes c.in_ok-byte_chunks-in-Bytes-None.field-0)))) c.in_ok-byte_chunks-in-Bytes-None.ensures.read
 
 pub value_of-returns-in_err-text-in-Text-Some-clause-read : goal.value_of-returns-in_err-text-in-Text-Some-clause-read
 value_of-returns-in_err-text-in-Text-Some-clause-read g t c =

@@ -26,6 +26,9 @@ decreases-map g l = 8 * l.self.now.levels + 4
 abbrev pub decreases-tagged : goal.decreases-tagged
 decreases-tagged g l = 8 * l.self.now.levels + 4
 
+abbrev pub decreases-boxed : goal.decreases-boxed
+decreases-boxed g l = 8 * l.self.now.levels + 8
+
 abbrev pub decreases-items : goal.decreases-items
 decreases-items g l = 8 * l.self.now.levels + 8
 
