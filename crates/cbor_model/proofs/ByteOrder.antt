@@ -1,5 +1,5 @@
 -- The order of storable values in range is the byte order of their canonical spellings.
-use Rattle.std.proofs.Common.{◌≡◌, ℕ, suc, pred, ◌+◌, ◌*◌, ◌^◌, ◌<◌, Bool, true, false, List, [], ◌∷◌, ◌++◌, length, pos, negsuc, nat_cmp, Ordering, Less, Equal, Greater, refl, sym, ap, ap₂, ◌∙◌, append_assoc, zero-add, arith}
+use Rattle.std.proofs.Common.{◌≡◌, ℕ, pred, ◌+◌, ◌*◌, ◌^◌, ◌<◌, Bool, true, false, List, [], ◌∷◌, ◌++◌, length, pos, negsuc, nat_cmp, Ordering, Less, Equal, Greater, refl, sym, ap, ap₂, ◌∙◌, append_assoc, zero-add, arith}
 use Rattle.std.specs.Int.{bytes_high_first}
 use Rattle.std.specs.Ordering.{ordering_then, MatchOrdering}
 use Rattle.std.proofs.Math.Nat.{mod-eq_of_lt}
@@ -16,6 +16,7 @@ use Rattle.cbor_model.specs.Canonical.{IsStorable, AreStorable, ArePairsStorable
 use Rattle.cbor_model.specs.InRange.{IsInRange, AreInRange, ArePairsInRange}
 use Rattle.cbor_model.proofs.Steps.{info-below}
 use Rattle.cbor_model.proofs.Canonical.{lt-limit-least}
+use Rattle.cbor_model.proofs.Counts.{count_canonical, pair_count_canonical}
 use Rattle.cbor_model.proofs.Same.{flat-is, bool_code-lt, lt-float_code}
 use Rattle.cbor_model.proofs.Pairs.{same_key}
 use Rattle.cbor_model.proofs.Heads.{lex-less, lex-same, lex-front, lex-turned, bytes_less, shorts_less}
@@ -125,16 +126,6 @@ record IsOpened (v : Val) : Type 0 where
 
 low_bits : (n : ℕ) → n < 2 ^ 64 → info (least n) n < 32
 low_bits n fits = omega (arith, info-below (least n) n (lt-limit-least n fits))
-
-pub count_canonical : (vs : Vals) → raw.count (canonical_all vs) ≡ count vs
-unfolding canonical
-count_canonical no_vals = refl
-count_canonical (val v vs) = ap suc (count_canonical vs)
-
-pub pair_count_canonical : (ps : Pairs) → raw.pair_count (canonical_pairs ps) ≡ pair_count ps
-unfolding canonical
-pair_count_canonical no_pairs = refl
-pair_count_canonical (pair k v ps) = ap suc (pair_count_canonical ps)
 
 opened : (v : Val) → IsStorable v → IsInRange v → IsOpened v
 unfolding canon canonical spell

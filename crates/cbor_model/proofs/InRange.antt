@@ -10,7 +10,7 @@ use Rattle.cbor_model.specs.Canonical.{canonical, canonical_all, canonical_pairs
 use Rattle.cbor_model.specs.InRange.{IsInRange, AreInRange, ArePairsInRange}
 use Rattle.cbor_model.proofs.Storable.{limit-le}
 use Rattle.cbor_model.proofs.Canonical.{well_formed}
-use Rattle.cbor_model.proofs.ByteOrder.{count_canonical, pair_count_canonical}
+use Rattle.cbor_model.proofs.Counts.{count_canonical, pair_count_canonical}
 
 mutual
   unfolding canonical

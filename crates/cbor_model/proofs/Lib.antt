@@ -13,6 +13,7 @@ pub mod Pairs
 pub mod Puts
 pub mod ReadsBack
 pub mod Canonical
+pub mod Counts
 pub mod Apart
 pub mod Normal
 pub mod Proved

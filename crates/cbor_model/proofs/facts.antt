@@ -1,4 +1,5 @@
 -- What the crates above may cite of this crate's proofs, and nothing else.
+pub mod Canonical
 pub mod Laws
 pub mod Maps
 pub mod Order

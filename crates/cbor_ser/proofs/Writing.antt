@@ -4,10 +4,10 @@ use Rattle.std.specs.Option.{IsSomeAnd}
 use Rattle.std.specs.Result.{OnErr}
 use Rattle.std.proofs.lemmas.List.{drop_all}
 use Rattle.cbor_model.specs.Head.{short}
-use Rattle.cbor_model.specs.Raw as raw
 use Rattle.cbor_model.specs.Spelling.{spell, spell_all, spell_pairs}
 use Rattle.cbor_model.specs.Plain.{Val, array, map, tag, Vals, no_vals, val, Pairs, no_pairs, pair, count, pair_count}
 use Rattle.cbor_model.specs.Canonical.{canon, canonical, canonical_all, canonical_pairs, IsStorable, AreStorable, ArePairsStorable}
+use Rattle.cbor_model.proofs.facts.Canonical.{count_canonical, pair_count_canonical}
 pub use Rattle.cbor_model.proofs.facts.Documents.{document_is_canonical}
 use Rattle.cbor_io.specs.declared.error.ErrorCode.{ErrorCode}
 use Rattle.cbor_io.specs.declared.error.ErrorCode.TheVariants.{Message, OutOfMemory}
@@ -50,16 +50,6 @@ value_size_at (q ∷ qs) zero p lt is = let e : size (view p.1) ≡ size (view q
 value_size_at (q ∷ qs) (suc i) p lt is = let h = value_size_at qs i p (omega arith) is in omega (arith, h)
 
 -- ---- heads with what follows
-
-pub count_canonical : (vs : Vals) → raw.count (canonical_all vs) ≡ count vs
-unfolding canonical
-count_canonical no_vals = refl
-count_canonical (val v vs) = ap suc (count_canonical vs)
-
-pub pair_count_canonical : (ps : Pairs) → raw.pair_count (canonical_pairs ps) ≡ pair_count ps
-unfolding canonical
-pair_count_canonical no_pairs = refl
-pair_count_canonical (pair k v ps) = ap suc (pair_count_canonical ps)
 
 pub array_spelled : (vs : Vals) (n : ℕ) → n ≡ count vs → short 4 n ++ spell_all (canonical_all vs) ≡ canon (array vs)
 unfolding canon canonical spell
