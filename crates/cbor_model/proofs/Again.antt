@@ -7,7 +7,7 @@ use Rattle.std.proofs.lemmas.Bool.{ne_eqb, eq-eqb, lt-ltb}
 use Rattle.std.proofs.lemmas.List.{length-append}
 use Rattle.cbor_model.specs.Head.{HeadWidth, limit, info, head, behind}
 use Rattle.cbor_model.specs.Raw as raw
-use Rattle.cbor_model.specs.Raw.{Length, definite, indefinite, Raw, Raws, no_raws, RawPairs, no_raw_pairs, raw_pair, Chunk, joined, Simple, false_item, true_item, null_item, undefined_item, FloatWidth, half, single, double, float_limit, count, pair_count, depth, depth_all, depth_pairs, IsChunk, IsWellFormed, AreWellFormed, ArePairsWellFormed, EachText, EachTextOfAll, EachTextOfPairs, EachJoined, EachJoinedOfAll, EachJoinedOfPairs}
+use Rattle.cbor_model.specs.Raw.{Length, definite, indefinite, Raw, Raws, no_raws, RawPairs, no_raw_pairs, raw_pair, Chunk, joined, Simple, false_item, true_item, null_item, undefined_item, FloatWidth, half, single, double, float_limit, count, pair_count, depth, depth_all, depth_pairs, IsChunk, IsWellFormed, AreWellFormed, ArePairsWellFormed, EachText, EachTextOfAll, EachTextOfPairs, longest_joined, longest_joined_all, longest_joined_pairs}
 use Rattle.cbor_model.specs.Spelling.{spell, spell_all, spell_pairs, chunk, simple_byte, float_spelling, break}
 use Rattle.cbor_model.specs.Refusal.{Refusal, end_in_array, end_in_map}
 use Rattle.cbor_model.specs.Reader.{Reads, ◌>>=◌, Reading, byte_at, float_at, simple_at, string_at, checked_text, text_at, content_of_chunk, chunk_at, chunks_by, string_chunks_at, text_chunks_at, Remaining, counted, to_break, next_at, Parts, parts_by, parts_at, pair_at, items_of, pairs_of, array_at, map_at, tag_at, content_at, indefinite_at, after_first, item_by, item_at, inside}
@@ -46,9 +46,9 @@ abbrev mutual
   LetsPairs m no_raw_pairs = Unit {0}
   LetsPairs m (raw_pair k v ps) = Lets m k × Lets m v × LetsPairs m ps
 
-module _ {Item Items Pairs : Type 0} (m : Reading Item Items Pairs) where
+module _ {Item Items Pairs : Type 0} (m : Reading Item Items Pairs) (grows : Grows m.exceeds) where
   mutual
-    pub lets : (r : Raw) → EachText (Passes m) r → EachJoined (Joins m) r → Lets m r
+    pub lets : (r : Raw) → EachText (Passes m) r → m.exceeds (longest_joined r) ≡ false → Lets m r
     lets (raw.text c) texts joins = texts
     lets (raw.bytes_chunks cs) texts joins = joins
     lets (raw.text_chunks cs) texts joins = (texts, joins)
@@ -57,13 +57,25 @@ module _ {Item Items Pairs : Type 0} (m : Reading Item Items Pairs) where
     lets (raw.tag w n r) texts joins = lets r texts joins
     lets _ texts joins = tt
 
-    lets_all : (rs : Raws) → EachTextOfAll (Passes m) rs → EachJoinedOfAll (Joins m) rs → LetsAll m rs
+    lets_all : (rs : Raws)
+        → EachTextOfAll (Passes m) rs → m.exceeds (longest_joined_all rs) ≡ false → LetsAll m rs
     lets_all no_raws texts joins = tt
-    lets_all (raw.raw r rs) texts joins = (lets r texts.0 joins.0, lets_all rs texts.1 joins.1)
+    lets_all (raw.raw r rs) texts joins =
+        let most = longest_joined_all (raw.raw r rs) in (
+          lets r texts.0 (grows (longest_joined r) most (omega arith) joins),
+          lets_all rs texts.1 (grows (longest_joined_all rs) most (omega arith) joins),
+        )
 
-    lets_pairs : (ps : RawPairs) → EachTextOfPairs (Passes m) ps → EachJoinedOfPairs (Joins m) ps → LetsPairs m ps
+    lets_pairs : (ps : RawPairs)
+        → EachTextOfPairs (Passes m) ps → m.exceeds (longest_joined_pairs ps) ≡ false
+        → LetsPairs m ps
     lets_pairs no_raw_pairs texts joins = tt
-    lets_pairs (raw_pair k v ps) texts joins = (lets k texts.0 joins.0, lets v texts.1 joins.1, lets_pairs ps texts.2 joins.2)
+    lets_pairs (raw_pair k v ps) texts joins =
+        let most = longest_joined_pairs (raw_pair k v ps) in (
+          lets k texts.0 (grows (longest_joined k) most (omega arith) joins),
+          lets v texts.1 (grows (longest_joined v) most (omega arith) joins),
+          lets_pairs ps texts.2 (grows (longest_joined_pairs ps) most (omega arith) joins),
+        )
 
 -- ---- first bytes
 

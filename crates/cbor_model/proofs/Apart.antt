@@ -8,8 +8,7 @@ use Rattle.cbor_model.specs.Reader.{Reading, item_at}
 use Rattle.cbor_model.proofs.Steps.{ok_is}
 use Rattle.cbor_model.proofs.Made.{made, made_all, made_pairs}
 use Rattle.cbor_model.proofs.Found.{Passes}
-use Rattle.cbor_model.proofs.Again.{Joins, lets, again}
-use Rattle.cbor_model.proofs.Texts.{EachJoined-from_each}
+use Rattle.cbor_model.proofs.Again.{lets, again}
 use Rattle.cbor_model.proofs.Texts.{EachText-from_each}
 
 -- items as they are spelled, of any texts
@@ -63,7 +62,7 @@ mutual
 -- reading gives the item itself
 item_again : (r : Raw) (levels : ℕ) (rest : List ℕ) → IsWellFormed r → depth r ≤ levels → item_at raw_items levels (spell r ++ rest) ≡ Ok (r, rest)
 item_again r levels rest fits nests =
-    again raw_items (length (spell r ++ rest)) (λ left n few within. refl) (λ a b few holds. refl) r levels rest fits nests (lets raw_items r (EachText-from_each (Passes raw_items) (λ b. refl) r) (EachJoined-from_each (Joins raw_items) (λ b. refl) r)) (omega arith)
+    again raw_items (length (spell r ++ rest)) (λ left n few within. refl) (λ a b few holds. refl) r levels rest fits nests (lets raw_items (λ a b few holds. refl) r (EachText-from_each (Passes raw_items) (λ b. refl) r) refl) (omega arith)
     ∙ ap (λ (i : Raw). Ok (i, rest)) (made-raw r)
 
 -- where two spellings begin the same bytes, they are one item's

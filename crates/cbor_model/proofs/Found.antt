@@ -1,12 +1,13 @@
 -- What is read is spelled so.
 use Rattle.std.proofs.Common.{◌≡◌, ℕ, zero, suc, ◌+◌, ◌*◌, ◌/◌, ◌%◌, ◌<◌, ◌≤◌, Bool, true, false, cond, eqb, ltb, ◌&&◌, List, [], ◌∷◌, ◌++◌, length, Option, Some, None, Ok, refl, sym, ap, subst, ◌∙◌, append_assoc, arith, inl, inr, Err}
-use Rattle.std.specs.Prelude.{flat_map}
+use Rattle.std.specs.Prelude.{flat_map, max}
 use Rattle.std.specs.List.{AllByRecursion}
 use Rattle.std.specs.Int.{Width, w16, w32, w64, to_be_bytes}
-use Rattle.std.proofs.lemmas.Bool.{eqb-true, eqb-false}
+use Rattle.std.proofs.lemmas.Bool.{eqb-true, eqb-false, cases_lt}
+use Rattle.std.proofs.lemmas.List.{length-append}
 use Rattle.cbor_model.specs.Head.{HeadWidth, limit, info, head, behind}
 use Rattle.cbor_model.specs.Raw as raw
-use Rattle.cbor_model.specs.Raw.{Length, definite, indefinite, Raw, Raws, no_raws, RawPairs, no_raw_pairs, raw_pair, Chunk, joined, Simple, false_item, true_item, null_item, undefined_item, FloatWidth, half, single, double, float_limit, count, pair_count, depth, depth_all, depth_pairs, AreBytes, IsChunk, IsWellFormed, AreWellFormed, ArePairsWellFormed, EachText, EachTextOfAll, EachTextOfPairs}
+use Rattle.cbor_model.specs.Raw.{Length, definite, indefinite, Raw, Raws, no_raws, RawPairs, no_raw_pairs, raw_pair, Chunk, joined, Simple, false_item, true_item, null_item, undefined_item, FloatWidth, half, single, double, float_limit, count, pair_count, depth, depth_all, depth_pairs, AreBytes, IsChunk, IsWellFormed, AreWellFormed, ArePairsWellFormed, EachText, EachTextOfAll, EachTextOfPairs, longest_joined, longest_joined_all, longest_joined_pairs}
 use Rattle.cbor_model.specs.Spelling.{spell, spell_all, spell_pairs, chunk, simple_byte, float_spelling, break}
 use Rattle.cbor_model.specs.Refusal.{unassigned_code, unexpected_code, too_deep, length_out_of_range, scratch_too_small}
 use Rattle.cbor_model.specs.Reader.{Reads, ◌>>=◌, Reading, ended, before, byte_at, bytes_at, number_at, width_of, number_behind, float_at, simple_at, string_at, checked_text, text_at, begins_chunk, content_of_chunk, chunk_at, chunks_by, chunks_at, string_chunks_at, text_chunks_at, Remaining, counted, to_break, next_at, Parts, go_on, parts_by, parts_at, pair_at, items_of, pairs_of, array_at, map_at, tag_at, content_at, indefinite_at, after_first, item_by, item_at}
@@ -25,6 +26,7 @@ pub record IsItem {Item Items Pairs : Type 0} (m : Reading Item Items Pairs) (le
   pub fits : IsWellFormed item
   pub nests : depth item ≤ levels
   pub texts : EachText (Passes m) item
+  pub joins : m.exceeds (longest_joined item) ≡ false
   pub rest_fits : AreBytes x.1
 
 pub record AreItems {Item Items Pairs : Type 0} (m : Reading Item Items Pairs) (levels n : ℕ) (bs : List ℕ) (x : Items × List ℕ) : Type 0 where
@@ -35,6 +37,7 @@ pub record AreItems {Item Items Pairs : Type 0} (m : Reading Item Items Pairs) (
   pub fits : AreWellFormed items
   pub nests : depth_all items ≤ levels
   pub texts : EachTextOfAll (Passes m) items
+  pub joins : m.exceeds (longest_joined_all items) ≡ false
   pub rest_fits : AreBytes x.1
 
 pub record ArePairs {Item Items Pairs : Type 0} (m : Reading Item Items Pairs) (levels n : ℕ) (bs : List ℕ) (x : Pairs × List ℕ) : Type 0 where
@@ -45,6 +48,7 @@ pub record ArePairs {Item Items Pairs : Type 0} (m : Reading Item Items Pairs) (
   pub fits : ArePairsWellFormed pairs
   pub nests : depth_pairs pairs ≤ levels
   pub texts : EachTextOfPairs (Passes m) pairs
+  pub joins : m.exceeds (longest_joined_pairs pairs) ≡ false
   pub rest_fits : AreBytes x.1
 
 -- a key and a value
@@ -64,15 +68,17 @@ another (counted n) = counted (suc n)
 another to_break = to_break
 
 -- a chunk with the first byte b
-pub record IsChunkOf (major b : ℕ) (bs : List ℕ) (x : Chunk × List ℕ) : Type 0 where
+pub record IsChunkOf (exceeds : ℕ → Bool) (major b : ℕ) (bs : List ℕ) (x : Chunk × List ℕ) : Type 0 where
   pub parts : (b ∷ bs) ≡ chunk major x.0 ++ x.1
   pub fits : IsChunk x.0
+  pub joins : exceeds (length x.0.bytes) ≡ false
   pub rest_fits : AreBytes x.1
 
--- chunks up to the break, which is taken too
-pub record AreChunks (major : ℕ) (bs : List ℕ) (x : List Chunk × List ℕ) : Type 0 where
+-- chunks up to the break, which is taken too, behind so many bytes of chunks
+pub record AreChunks (exceeds : ℕ → Bool) (have major : ℕ) (bs : List ℕ) (x : List Chunk × List ℕ) : Type 0 where
   pub parts : bs ≡ flat_map (chunk major) x.0 ++ (0xff ∷ x.1)
   pub fits : AllByRecursion IsChunk x.0
+  pub joins : exceeds (have + length (joined x.0)) ≡ false
   pub rest_fits : AreBytes x.1
 
 abbrev pub Finds : {Item Items Pairs : Type 0} → Reading Item Items Pairs → (List ℕ → Reads Item) → ℕ → Type 0
@@ -96,6 +102,18 @@ behind_head major w n k bs b rest parts long =
 behind_first : (first : ℕ) (bs parts rest : List ℕ) → bs ≡ parts ++ (0xff ∷ rest) → (first ∷ bs) ≡ (first ∷ (parts ++ break)) ++ rest
 behind_first first bs parts rest is = ap (λ (t : List ℕ). first ∷ t) (is ∙ sym (append_assoc parts break rest))
 
+-- the longer of two is joined where both are
+both_join : (exceeds : ℕ → Bool) (a b : ℕ) → exceeds a ≡ false → exceeds b ≡ false → exceeds (max a b) ≡ false
+both_join exceeds a b one other =
+    elim (cases_lt a b) [
+      | inl lt ↦
+          let is : max a b ≡ b = omega (arith, lt) in
+          ap exceeds is ∙ other
+      | inr le ↦
+          let is : max a b ≡ a = omega (arith, le) in
+          ap exceeds is ∙ one
+    ]
+
 -- ---- chunks
 
 both_hold : (a b : Bool) → (a && b) ≡ true → (a ≡ true) × (b ≡ true)
@@ -108,7 +126,7 @@ whole_head major b n w bs rest high low parts =
     let first : b ≡ 32 * major + info w n = omega (arith, first_is b) in
     ap (λ (c : ℕ). c ∷ bs) first ∙ ap (λ (t : List ℕ). (32 * major + info w n) ∷ t) parts
 
-chunk_found : (exceeds : ℕ → Bool) (major b : ℕ) (bs : List ℕ) (x : Chunk × List ℕ) → AreBytes bs → chunk_at exceeds major b bs ≡ Ok x → IsChunkOf major b bs x
+chunk_found : (exceeds : ℕ → Bool) (major b : ℕ) (bs : List ℕ) (x : Chunk × List ℕ) → AreBytes bs → chunk_at exceeds major b bs ≡ Ok x → IsChunkOf exceeds major b bs x
 unfolding chunk_at content_of_chunk
 chunk_found exceeds major b bs x fits is =
     elim (chosen (begins_chunk major b) _ _ _ is) [
@@ -126,32 +144,46 @@ chunk_found exceeds major b bs x fits is =
           let small : n < limit w = got.fits in
           elim (chosen (exceeds n) _ _ _ step'.2) [
             | inl more ↦ not_ok (before scratch_too_small step.0.1) x more.1
-            | inr holds ↦ read_as (IsChunkOf major b bs) (record { width = w; bytes = c.0 }, c.1) x holds.1 (record {
+            | inr holds ↦ read_as (IsChunkOf exceeds major b bs) (record { width = w; bytes = c.0 }, c.1) x holds.1 (record {
               parts = whole_head major b n w bs step.0.1 high got.is_low got.parts ∙ behind_head major w n (length c.0) step.0.1 c.0 c.1 got'.parts long;
               fits = (omega (arith, long, small), got'.fits);
+              joins = ap exceeds long ∙ holds.0;
               rest_fits = got'.rest_fits;
             })
           ]
     ]
 
-chunks_found : (exceeds : ℕ → Bool) (have major fuel : ℕ) (bs : List ℕ) (x : List Chunk × List ℕ) → AreBytes bs → chunks_by exceeds have major fuel bs ≡ Ok x → AreChunks major bs x
+chunks_found : (exceeds : ℕ → Bool) (have major fuel : ℕ) (bs : List ℕ) (x : List Chunk × List ℕ) → exceeds have ≡ false → AreBytes bs → chunks_by exceeds have major fuel bs ≡ Ok x → AreChunks exceeds have major bs x
 unfolding chunks_by byte_at
-chunks_found exceeds have major zero bs x fits is = not_ok ended x is
-chunks_found exceeds have major (suc fuel) [] x fits is = not_ok ended x is
-chunks_found exceeds have major (suc fuel) (b ∷ bs) x fits is =
+chunks_found exceeds have major zero bs x before_fits fits is = not_ok ended x is
+chunks_found exceeds have major (suc fuel) [] x before_fits fits is = not_ok ended x is
+chunks_found exceeds have major (suc fuel) (b ∷ bs) x before_fits fits is =
     let rest_fits = AreBytes-rest b bs fits in
     elim (chosen (eqb b 0xff) _ _ _ is) [
-      | inl last ↦ read_as (AreChunks major (b ∷ bs)) ([], bs) x last.1 (record { parts = ap (λ (c : ℕ). c ∷ bs) (eqb-true _ _ last.0); fits = tt; rest_fits = rest_fits })
+      | inl last ↦
+          let none : have + 0 ≡ have = omega arith in
+          read_as (AreChunks exceeds have major (b ∷ bs)) ([], bs) x last.1 (record {
+            parts = ap (λ (c : ℕ). c ∷ bs) (eqb-true _ _ last.0);
+            fits = tt;
+            joins = ap exceeds none ∙ before_fits;
+            rest_fits = rest_fits;
+          })
       | inr other ↦
           let step = bind_ok (chunk_at (λ n. exceeds (have + n)) major b bs) (λ c. chunks_by exceeds (have + length c.0.bytes) major fuel c.1 >>= (λ cs. Ok (c.0 ∷ cs.0, cs.1))) x other.1 in
           let c = step.0 in
           let got = chunk_found (λ n. exceeds (have + n)) major b bs c rest_fits step.1 in
           let step' = bind_ok (chunks_by exceeds (have + length c.0.bytes) major fuel c.1) (λ cs. Ok (c.0 ∷ cs.0, cs.1)) x step.2 in
           let cs = step'.0 in
-          let got' = chunks_found exceeds (have + length c.0.bytes) major fuel c.1 cs got.rest_fits step'.1 in
-          read_as (AreChunks major (b ∷ bs)) (c.0 ∷ cs.0, cs.1) x step'.2 (record {
+          let got' =
+          chunks_found exceeds (have + length c.0.bytes) major fuel c.1 cs got.joins
+          got.rest_fits step'.1 in
+          let n = have + length c.0.bytes in
+          let long : have + length (joined (c.0 ∷ cs.0)) ≡ n + length (joined cs.0) =
+          omega (arith, length-append c.0.bytes (joined cs.0)) in
+          read_as (AreChunks exceeds have major (b ∷ bs)) (c.0 ∷ cs.0, cs.1) x step'.2 (record {
             parts = two_parts (b ∷ bs) (chunk major c.0) c.1 (flat_map (chunk major) cs.0) (0xff ∷ cs.1) got.parts got'.parts;
             fits = (got.fits, got'.fits);
+            joins = ap exceeds long ∙ got'.joins;
             rest_fits = got'.rest_fits;
           })
     ]
@@ -195,7 +227,7 @@ module _ {Part Whole : Type 0} (ps : Parts Part Whole) (Is : List ℕ → Part �
               one_found fuel to_break (b ∷ bs) x fits (parts_found fuel to_break) (ap (λ (n : Option Remaining × List ℕ). go_on ps (parts_by ps fuel) n.0 n.1) same ∙ step.2)
         ]
 
-module _ {Item Items Pairs : Type 0} (m : Reading Item Items Pairs) where
+module _ {Item Items Pairs : Type 0} (m : Reading Item Items Pairs) (none_fits : m.exceeds 0 ≡ false) where
   -- an item, and those after it
   item_added : (levels n : ℕ) (bs more rest : List ℕ) (first : Item) (others : Items) → IsItem m levels bs (first, more) → AreItems m levels n more (others, rest) → AreItems m levels (suc n) bs (m.item first others, rest)
   unfolding spell made
@@ -207,6 +239,7 @@ module _ {Item Items Pairs : Type 0} (m : Reading Item Items Pairs) where
     fits = (one.fits, all.fits);
     nests = omega (arith, one.nests, all.nests);
     texts = (one.texts, all.texts);
+    joins = both_join m.exceeds (longest_joined one.item) (longest_joined_all all.items) one.joins all.joins;
     rest_fits = all.rest_fits;
   }
 
@@ -221,6 +254,10 @@ module _ {Item Items Pairs : Type 0} (m : Reading Item Items Pairs) where
     fits = (key.fits, val.fits, all.fits);
     nests = omega (arith, key.nests, val.nests, all.nests);
     texts = (key.texts, val.texts, all.texts);
+    joins =
+        both_join m.exceeds (max (longest_joined key.item) (longest_joined val.item)) (longest_joined_pairs all.pairs)
+        (both_join m.exceeds (longest_joined key.item) (longest_joined val.item) key.joins val.joins)
+        all.joins;
     rest_fits = all.rest_fits;
   }
 
@@ -254,6 +291,7 @@ module _ {Item Items Pairs : Type 0} (m : Reading Item Items Pairs) where
         fits = (omega (arith, long, small), got.fits);
         nests = omega arith;
         texts = tt;
+        joins = none_fits;
         rest_fits = got.rest_fits;
       })
 
@@ -276,6 +314,7 @@ module _ {Item Items Pairs : Type 0} (m : Reading Item Items Pairs) where
                 fits = (omega (arith, long, small), got.fits);
                 nests = omega arith;
                 texts = passes.0;
+                joins = none_fits;
                 rest_fits = got.rest_fits;
               })
             ]
@@ -286,7 +325,7 @@ module _ {Item Items Pairs : Type 0} (m : Reading Item Items Pairs) where
   unfolding spell made
   items_found p levels finds remaining bs x fits is =
       parts_found (items_of m p) (IsItem m levels) (AreItems m levels) (λ bs x one. one.rest_fits) finds
-      (λ bs fits. record { items = no_raws; made_is = refl; parts = refl; count_is = refl; fits = tt; nests = omega arith; texts = tt; rest_fits = fits })
+      (λ bs fits. record { items = no_raws; made_is = refl; parts = refl; count_is = refl; fits = tt; nests = omega arith; texts = tt; joins = none_fits; rest_fits = fits })
       (λ n bs more rest first others one all. item_added levels n bs more rest first others one all)
       (suc (length bs)) remaining bs x fits is
 
@@ -294,7 +333,7 @@ module _ {Item Items Pairs : Type 0} (m : Reading Item Items Pairs) where
   unfolding spell made
   pairs_found p levels finds remaining bs x fits is =
       parts_found (pairs_of m p) (IsPair m levels) (ArePairs m levels) (λ bs x one. one.value.rest_fits) (pair_found p levels finds)
-      (λ bs fits. record { pairs = no_raw_pairs; made_is = refl; parts = refl; count_is = refl; fits = tt; nests = omega arith; texts = tt; rest_fits = fits })
+      (λ bs fits. record { pairs = no_raw_pairs; made_is = refl; parts = refl; count_is = refl; fits = tt; nests = omega arith; texts = tt; joins = none_fits; rest_fits = fits })
       (λ n bs more rest first others one all. pair_added levels n bs one.at_value more rest first.0 first.1 others one.key one.value all)
       (suc (length bs)) remaining bs x fits is
 
@@ -313,6 +352,7 @@ module _ {Item Items Pairs : Type 0} (m : Reading Item Items Pairs) where
         fits = (omega (arith, many, small), got.fits);
         nests = omega (arith, got.nests, finds.1);
         texts = got.texts;
+        joins = got.joins;
         rest_fits = got.rest_fits;
       })
 
@@ -331,6 +371,7 @@ module _ {Item Items Pairs : Type 0} (m : Reading Item Items Pairs) where
         fits = (omega (arith, many, small), got.fits);
         nests = omega (arith, got.nests, finds.1);
         texts = got.texts;
+        joins = got.joins;
         rest_fits = got.rest_fits;
       })
 
@@ -348,6 +389,7 @@ module _ {Item Items Pairs : Type 0} (m : Reading Item Items Pairs) where
         fits = (small, got.fits);
         nests = omega (arith, got.nests, finds.1);
         texts = got.texts;
+        joins = got.joins;
         rest_fits = got.rest_fits;
       })
 
@@ -362,7 +404,8 @@ module _ {Item Items Pairs : Type 0} (m : Reading Item Items Pairs) where
   string_chunks_found levels bs x fits is =
       let step = bind_ok (chunks_at m.exceeds 0 2 bs) (λ cs. Ok (m.bytes_chunks cs.0, cs.1)) x is in
       let cs = step.0 in
-      let got = chunks_found m.exceeds 0 2 (suc (length bs)) bs cs fits step.1 in
+      let got = chunks_found m.exceeds 0 2 (suc (length bs)) bs cs none_fits fits step.1 in
+      let all : length (joined cs.0) ≡ 0 + length (joined cs.0) = omega arith in
       read_as (IsIndefinite levels 2 bs) (m.bytes_chunks cs.0, cs.1) x step.2 (record {
         item = raw.bytes_chunks cs.0;
         made_is = refl;
@@ -370,6 +413,7 @@ module _ {Item Items Pairs : Type 0} (m : Reading Item Items Pairs) where
         fits = got.fits;
         nests = omega arith;
         texts = tt;
+        joins = ap m.exceeds all ∙ got.joins;
         rest_fits = got.rest_fits;
       })
 
@@ -378,7 +422,8 @@ module _ {Item Items Pairs : Type 0} (m : Reading Item Items Pairs) where
   text_chunks_found levels bs x fits is =
       let step = bind_ok (chunks_at m.exceeds 0 3 bs) (λ cs. checked_text m (m.text_chunks cs.0) (joined cs.0) cs.1) x is in
       let cs = step.0 in
-      let got = chunks_found m.exceeds 0 3 (suc (length bs)) bs cs fits step.1 in
+      let got = chunks_found m.exceeds 0 3 (suc (length bs)) bs cs none_fits fits step.1 in
+      let all : length (joined cs.0) ≡ 0 + length (joined cs.0) = omega arith in
       elim (chosen (m.is_text (joined cs.0)) _ _ _ step.2) [
         | inr other ↦ not_ok _ x other.1
         | inl passes ↦ read_as (IsIndefinite levels 3 bs) (m.text_chunks cs.0, cs.1) x passes.1 (record {
@@ -388,6 +433,7 @@ module _ {Item Items Pairs : Type 0} (m : Reading Item Items Pairs) where
           fits = got.fits;
           nests = omega arith;
           texts = passes.0;
+          joins = ap m.exceeds all ∙ got.joins;
           rest_fits = got.rest_fits;
         })
       ]
@@ -406,6 +452,7 @@ module _ {Item Items Pairs : Type 0} (m : Reading Item Items Pairs) where
         fits = (tt, got.fits);
         nests = omega (arith, got.nests, finds.1);
         texts = got.texts;
+        joins = got.joins;
         rest_fits = AreBytes-rest 0xff rest got.rest_fits;
       })
 
@@ -423,6 +470,7 @@ module _ {Item Items Pairs : Type 0} (m : Reading Item Items Pairs) where
         fits = (tt, got.fits);
         nests = omega (arith, got.nests, finds.1);
         texts = got.texts;
+        joins = got.joins;
         rest_fits = AreBytes-rest 0xff rest got.rest_fits;
       })
 
@@ -468,6 +516,7 @@ module _ {Item Items Pairs : Type 0} (m : Reading Item Items Pairs) where
         fits = got.fits;
         nests = omega arith;
         texts = tt;
+        joins = none_fits;
         rest_fits = got.rest_fits;
       })
 
@@ -498,6 +547,7 @@ module _ {Item Items Pairs : Type 0} (m : Reading Item Items Pairs) where
         fits = tt;
         nests = omega arith;
         texts = tt;
+        joins = none_fits;
         rest_fits = fits;
       })
 
@@ -528,10 +578,10 @@ module _ {Item Items Pairs : Type 0} (m : Reading Item Items Pairs) where
   content_found inner levels finds major at_most w n bs x fits small is =
       let at_major = λ (k : ℕ) (this : eqb major k ≡ true) (got : IsContent levels k w n bs x). subst (λ (k : ℕ). IsContent levels k w n bs x) (sym (eqb-true major k this)) got in
       elim (chosen (eqb major 0) _ _ _ is) [
-        | inl this ↦ at_major 0 this.0 (read_as (IsContent levels 0 w n bs) (m.unsigned w n, bs) x this.1 (record { item = raw.unsigned w n; made_is = refl; parts = refl; fits = small; nests = omega arith; texts = tt; rest_fits = fits }))
+        | inl this ↦ at_major 0 this.0 (read_as (IsContent levels 0 w n bs) (m.unsigned w n, bs) x this.1 (record { item = raw.unsigned w n; made_is = refl; parts = refl; fits = small; nests = omega arith; texts = tt; joins = none_fits; rest_fits = fits }))
         | inr not_0 ↦
             elim (chosen (eqb major 1) _ _ _ not_0.1) [
-              | inl this ↦ at_major 1 this.0 (read_as (IsContent levels 1 w n bs) (m.negative w n, bs) x this.1 (record { item = raw.negative w n; made_is = refl; parts = refl; fits = small; nests = omega arith; texts = tt; rest_fits = fits }))
+              | inl this ↦ at_major 1 this.0 (read_as (IsContent levels 1 w n bs) (m.negative w n, bs) x this.1 (record { item = raw.negative w n; made_is = refl; parts = refl; fits = small; nests = omega arith; texts = tt; joins = none_fits; rest_fits = fits }))
               | inr not_1 ↦
                   elim (chosen (eqb major 2) _ _ _ not_1.1) [
                     | inl this ↦ at_major 2 this.0 (string_found levels w n bs x fits small this.1)

@@ -16,6 +16,8 @@ pub mod Canonical
 pub mod Counts
 pub mod Apart
 pub mod Normal
+pub mod Agrees
+pub mod Scratch
 pub mod Proved
 pub mod Heads
 pub mod ByteOrder

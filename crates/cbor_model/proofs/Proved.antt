@@ -1,6 +1,7 @@
 -- The laws' proofs.
-use Rattle.cbor_model.specs.Laws.{ReaderFinds, ReaderAccepts, OneSpelling, ValueIsStorable, OrderIsTotal, OneFlat, CanonicalReadsBack, ValueIsCanonical, NormalisedOnce, EqualBytes, ByteOrder, LeastSpelling, ValueIsInRange}
+use Rattle.cbor_model.specs.Laws.{ReaderFinds, ReaderAccepts, SameWithScratch, ScratchNeed, OneSpelling, ValueIsStorable, OrderIsTotal, OneFlat, CanonicalReadsBack, ValueIsCanonical, NormalisedOnce, EqualBytes, ByteOrder, LeastSpelling, ValueIsInRange}
 use Rattle.cbor_model.proofs.Whole.{found_whole, read_whole}
+use Rattle.cbor_model.proofs.Scratch as scratch
 use Rattle.cbor_model.proofs.Storable.{storable}
 use Rattle.cbor_model.proofs.Same as same
 use Rattle.cbor_model.proofs.ReadsBack.{reads_back}
@@ -16,6 +17,12 @@ reader_finds = found_whole
 
 pub reader_accepts : ReaderAccepts
 reader_accepts = read_whole
+
+pub same_with_scratch : SameWithScratch
+same_with_scratch = scratch.same_with_scratch
+
+pub scratch_need : ScratchNeed
+scratch_need = scratch.scratch_need
 
 pub one_spelling : OneSpelling
 one_spelling = apart.one_spelling

@@ -1,13 +1,15 @@
 -- The texts of an item, and the two tests of UTF-8.
 use Rattle.std.specs.Prelude.{◌==◌}
-use Rattle.std.proofs.Common.{◌≡◌, ℕ, zero, suc, Bool, true, false, cond, List, length, take, IsUtf8, refl, ap, subst, ◌∙◌}
+use Rattle.std.proofs.Common.{◌≡◌, ℕ, zero, suc, Bool, true, false, cond, List, length, take}
+use Rattle.std.proofs.Common.{IsUtf8, refl, ap, subst, ◌∙◌}
 use Rattle.std.specs.Str.{is_utf8}
 use Rattle.std.specs.Str.Lossy.{utf8_valid_len, valid_len_up_to}
 use Rattle.std.proofs.lemmas.Bool.{eqb-true, eq-eqb}
 use Rattle.std.proofs.Math.Seq.{take-length}
 use Rattle.std.proofs.lemmas.Str.{utf8_valid_len-IsUtf8, IsUtf8-from_is_utf8, IsUtf8-nil}
 use Rattle.cbor_model.specs.Raw as raw
-use Rattle.cbor_model.specs.Raw.{Raw, Raws, no_raws, RawPairs, no_raw_pairs, raw_pair, EachText, EachTextOfAll, EachTextOfPairs, EachJoined, EachJoinedOfAll, EachJoinedOfPairs, joined}
+use Rattle.cbor_model.specs.Raw.{Raw, Raws, no_raws, RawPairs, no_raw_pairs, raw_pair, EachText}
+use Rattle.cbor_model.specs.Raw.{EachTextOfAll, EachTextOfPairs, joined}
 
 module _ (P Q : List ℕ → Type 0) (weaker : (b : List ℕ) → P b → Q b) where
   mutual
@@ -44,42 +46,6 @@ module _ (P : List ℕ → Type 0) (each : (b : List ℕ) → P b) where
     pub EachTextOfPairs-from_each : (ps : RawPairs) → EachTextOfPairs P ps
     EachTextOfPairs-from_each no_raw_pairs = tt
     EachTextOfPairs-from_each (raw_pair k v ps) = (EachText-from_each k, EachText-from_each v, EachTextOfPairs-from_each ps)
-
-module _ (P Q : List ℕ → Type 0) (weaker : (b : List ℕ) → P b → Q b) where
-  mutual
-    pub EachJoined-map : (r : Raw) → EachJoined P r → EachJoined Q r
-    EachJoined-map (raw.bytes_chunks cs) joins = weaker (joined cs) joins
-    EachJoined-map (raw.text_chunks cs) joins = weaker (joined cs) joins
-    EachJoined-map (raw.array l rs) joins = EachJoinedOfAll-map rs joins
-    EachJoined-map (raw.map l ps) joins = EachJoinedOfPairs-map ps joins
-    EachJoined-map (raw.tag w n r) joins = EachJoined-map r joins
-    EachJoined-map _ joins = tt
-
-    pub EachJoinedOfAll-map : (rs : Raws) → EachJoinedOfAll P rs → EachJoinedOfAll Q rs
-    EachJoinedOfAll-map no_raws joins = tt
-    EachJoinedOfAll-map (raw.raw r rs) joins = (EachJoined-map r joins.0, EachJoinedOfAll-map rs joins.1)
-
-    pub EachJoinedOfPairs-map : (ps : RawPairs) → EachJoinedOfPairs P ps → EachJoinedOfPairs Q ps
-    EachJoinedOfPairs-map no_raw_pairs joins = tt
-    EachJoinedOfPairs-map (raw_pair k v ps) joins = (EachJoined-map k joins.0, EachJoined-map v joins.1, EachJoinedOfPairs-map ps joins.2)
-
-module _ (P : List ℕ → Type 0) (each : (b : List ℕ) → P b) where
-  mutual
-    pub EachJoined-from_each : (r : Raw) → EachJoined P r
-    EachJoined-from_each (raw.bytes_chunks cs) = each (joined cs)
-    EachJoined-from_each (raw.text_chunks cs) = each (joined cs)
-    EachJoined-from_each (raw.array l rs) = EachJoinedOfAll-from_each rs
-    EachJoined-from_each (raw.map l ps) = EachJoinedOfPairs-from_each ps
-    EachJoined-from_each (raw.tag w n r) = EachJoined-from_each r
-    EachJoined-from_each _ = tt
-
-    pub EachJoinedOfAll-from_each : (rs : Raws) → EachJoinedOfAll P rs
-    EachJoinedOfAll-from_each no_raws = tt
-    EachJoinedOfAll-from_each (raw.raw r rs) = (EachJoined-from_each r, EachJoinedOfAll-from_each rs)
-
-    pub EachJoinedOfPairs-from_each : (ps : RawPairs) → EachJoinedOfPairs P ps
-    EachJoinedOfPairs-from_each no_raw_pairs = tt
-    EachJoinedOfPairs-from_each (raw_pair k v ps) = (EachJoined-from_each k, EachJoined-from_each v, EachJoinedOfPairs-from_each ps)
 
 -- ---- UTF-8
 

@@ -1,6 +1,7 @@
 -- The laws, each of which is the contract of a public function.
-use Rattle.std.specs.Prelude.{◌≡◌, ℕ, ◌^◌, ◌<◌, ◌≤◌, List, [], ◌++◌, length, Ok, Option}
-use Rattle.cbor_model.specs.Raw.{Raw, AreBytes, IsWellFormed}
+use Rattle.std.specs.Prelude.{◌≡◌, ◌⊎◌, ℕ, ◌^◌, ◌<◌, ◌≤◌, List, [], ◌++◌, length, Result, Ok}
+use Rattle.std.specs.Prelude.{IsErrAnd, Option, Some}
+use Rattle.cbor_model.specs.Raw.{Raw, AreBytes, IsWellFormed, longest_joined}
 use Rattle.cbor_model.specs.Spelling.{spell}
 use Rattle.cbor_model.specs.Acceptable.{IsAcceptable, IsAcceptableWithin, FitsScratch}
 use Rattle.cbor_model.specs.Plain.{Val}
@@ -11,7 +12,8 @@ use Rattle.cbor_model.specs.Order.{val_cmp}
 use Rattle.cbor_model.specs.InRange.{IsInRange}
 use Rattle.cbor_model.specs.Definite.{IsDefinite}
 use Rattle.std.specs.Cmp.{IsTotalOrder}
-use Rattle.cbor_model.specs.Reader.{read_value_in}
+use Rattle.cbor_model.specs.Refusal.{scratch_too_small}
+use Rattle.cbor_model.specs.Reader.{Fault, read_value, read_value_in}
 
 -- the bytes spell one acceptable item, and v is its value
 pub record SpellsValue (bytes : List ℕ) (v : Val) : Type 0 where
@@ -27,6 +29,25 @@ ReaderFinds = (room : Option ℕ) (bytes : List ℕ) (v : Val) → AreBytes byte
 -- What is spelled so, the reference reader reads, with a scratch that its chunks fit.
 abbrev pub ReaderAccepts : Type 0
 ReaderAccepts = (room : Option ℕ) (bytes : List ℕ) (v : Val) → length bytes < 2 ^ 64 → (spelt : SpellsValue bytes v) → FitsScratch room spelt.item → read_value_in room bytes ≡ Ok v
+
+-- refused because chunks don't fit the scratch
+abbrev pub IsScratchTooSmall : {A : Type 0} → Result A Fault → Type 0
+IsScratchTooSmall read = IsErrAnd read (λ f. f.why ≡ scratch_too_small)
+
+-- With a scratch the reference reader answers as it does without one, or that the scratch is too
+-- small.
+abbrev pub SameWithScratch : Type 0
+SameWithScratch = (room : ℕ) (bytes : List ℕ)
+    → (read_value_in (Some room) bytes ≡ read_value bytes)
+    ⊎ IsScratchTooSmall (read_value_in (Some room) bytes)
+
+-- The scratch's need is exact: an acceptable item is read where the scratch is at least as long as the
+-- longest of its strings in chunks, and where it is shorter the scratch is too small.
+abbrev pub ScratchNeed : Type 0
+ScratchNeed = (room : ℕ) (bytes : List ℕ) (v : Val)
+    → AreBytes bytes → length bytes < 2 ^ 64 → (spelt : SpellsValue bytes v)
+    → (longest_joined spelt.item ≤ room → read_value_in (Some room) bytes ≡ Ok v)
+    × (room < longest_joined spelt.item → IsScratchTooSmall (read_value_in (Some room) bytes))
 
 -- No well-formed item's spelling begins another's, and equal spellings are equal items.
 abbrev pub OneSpelling : Type 0

@@ -1,8 +1,9 @@
 -- Raw items (RFC 7049, sections 2.1 to 2.3): items as they are spelled, with the width of each
 -- number, and with indefinite lengths and chunks apart from definite lengths.
-use Rattle.std.specs.Prelude.{ℕ, suc, ◌^◌, ◌<◌, max, List, length, slice_index, flat_map}
+use Rattle.std.specs.Prelude.{◌≡◌, ℕ, suc, ◌^◌, ◌<◌, max, List, [], ◌∷◌, length, slice_index}
+use Rattle.std.specs.Prelude.{flat_map, refl}
 use Rattle.std.specs.List.{AllByRecursion}
-use Rattle.cbor_model.specs.Head.{HeadWidth, limit}
+use Rattle.cbor_model.specs.Head.{HeadWidth, no_bytes, limit}
 
 -- The simple values that are assigned.
 pub data Simple : Type 0 where
@@ -138,20 +139,34 @@ abbrev mutual
   EachTextOfPairs P no_raw_pairs = Unit {0}
   EachTextOfPairs P (raw_pair k v ps) = EachText P k × EachText P v × EachTextOfPairs P ps
 
--- The bytes of each chunked string in the item, joined, meet P.
+-- The length of the longest of the item's strings in chunks, once they are joined; 0 without one.
 abbrev mutual
-  pub EachJoined : (List ℕ → Type 0) → Raw → Type 0
-  EachJoined P (bytes_chunks cs) = P (joined cs)
-  EachJoined P (text_chunks cs) = P (joined cs)
-  EachJoined P (array l rs) = EachJoinedOfAll P rs
-  EachJoined P (map l ps) = EachJoinedOfPairs P ps
-  EachJoined P (tag w n r) = EachJoined P r
-  EachJoined P _ = Unit {0}
+  pub longest_joined : Raw → ℕ
+  longest_joined (bytes_chunks cs) = length (joined cs)
+  longest_joined (text_chunks cs) = length (joined cs)
+  longest_joined (array l rs) = longest_joined_all rs
+  longest_joined (map l ps) = longest_joined_pairs ps
+  longest_joined (tag w n r) = longest_joined r
+  longest_joined _ = 0
 
-  pub EachJoinedOfAll : (List ℕ → Type 0) → Raws → Type 0
-  EachJoinedOfAll P no_raws = Unit {0}
-  EachJoinedOfAll P (raw r rs) = EachJoined P r × EachJoinedOfAll P rs
+  pub longest_joined_all : Raws → ℕ
+  longest_joined_all no_raws = 0
+  longest_joined_all (raw r rs) = max (longest_joined r) (longest_joined_all rs)
 
-  pub EachJoinedOfPairs : (List ℕ → Type 0) → RawPairs → Type 0
-  EachJoinedOfPairs P no_raw_pairs = Unit {0}
-  EachJoinedOfPairs P (raw_pair k v ps) = EachJoined P k × EachJoined P v × EachJoinedOfPairs P ps
+  pub longest_joined_pairs : RawPairs → ℕ
+  longest_joined_pairs no_raw_pairs = 0
+  longest_joined_pairs (raw_pair k v ps) =
+      max (max (longest_joined k) (longest_joined v)) (longest_joined_pairs ps)
+
+-- ---- examples
+
+-- "ab" in two chunks, and "abc" in none
+longest_in_chunks : longest_joined (array indefinite
+    (raw (text_chunks (
+    record { width = no_bytes; bytes = 0x61 ∷ [] }
+    ∷ record { width = no_bytes; bytes = 0x62 ∷ [] }
+    ∷ []))
+    (raw (text (record { width = no_bytes; bytes = 0x61 ∷ 0x62 ∷ 0x63 ∷ [] }))
+    no_raws)))
+    ≡ 2
+longest_in_chunks = refl

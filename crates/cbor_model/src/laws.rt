@@ -1,5 +1,8 @@
 //! The laws, each of which is the contract of a function that does nothing.
-ghost use Rattle.cbor_model.specs.Laws.{ReaderFinds, ReaderAccepts, OneSpelling, ValueIsStorable, OrderIsTotal, OneFlat, CanonicalReadsBack, ValueIsCanonical, NormalisedOnce, EqualBytes, ByteOrder, LeastSpelling, ValueIsInRange};
+ghost use Rattle.cbor_model.specs.Laws.{ReaderFinds, ReaderAccepts, SameWithScratch, ScratchNeed};
+ghost use Rattle.cbor_model.specs.Laws.{OneSpelling, ValueIsStorable, OrderIsTotal, OneFlat};
+ghost use Rattle.cbor_model.specs.Laws.{CanonicalReadsBack, ValueIsCanonical, NormalisedOnce};
+ghost use Rattle.cbor_model.specs.Laws.{EqualBytes, ByteOrder, LeastSpelling, ValueIsInRange};
 
 /// What the reference reader reads is the value of an acceptable item, and the bytes are its
 /// spelling.
@@ -10,6 +13,18 @@ pub fn reader_finds()
 /// The reference reader reads the spelling of each acceptable item, as the item's value.
 pub fn reader_accepts()
     ensures { ReaderAccepts }
+{}
+
+/// With a scratch, into which the chunks of a string are joined, the reference reader answers as it
+/// does without one, value or fault, or that the scratch is too small.
+pub fn same_with_scratch()
+    ensures { SameWithScratch }
+{}
+
+/// The scratch's need is exact: an acceptable item is read where the scratch is at least as long as
+/// the longest of its strings in chunks, and where it is shorter the scratch is too small.
+pub fn scratch_need()
+    ensures { ScratchNeed }
 {}
 
 /// No well-formed item's spelling begins another's, and equal spellings are equal items.

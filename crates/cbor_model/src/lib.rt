@@ -9,6 +9,6 @@ mod laws;
 
 pub use laws::{
     byte_order, canonical_reads_back, equal_bytes, least_spelling, normalised_once, one_flat,
-    one_spelling, order_is_total, reader_accepts, reader_finds, value_is_canonical,
-    value_is_in_range, value_is_storable,
+    one_spelling, order_is_total, reader_accepts, reader_finds, same_with_scratch, scratch_need,
+    value_is_canonical, value_is_in_range, value_is_storable,
 };
