@@ -1,5 +1,7 @@
 -- What is read is spelled so.
-use Rattle.std.proofs.Common.{◌≡◌, ℕ, zero, suc, ◌+◌, ◌*◌, ◌/◌, ◌%◌, ◌<◌, ◌≤◌, Bool, true, false, cond, eqb, ltb, ◌&&◌, List, [], ◌∷◌, ◌++◌, length, Option, Some, None, Ok, refl, sym, ap, subst, ◌∙◌, append_assoc, arith, inl, inr, Err}
+use Rattle.std.proofs.Common.{◌≡◌, ℕ, zero, suc, ◌+◌, ◌*◌, ◌/◌, ◌%◌, ◌<◌, ◌≤◌, Bool, true, false}
+use Rattle.std.proofs.Common.{cond, eqb, ltb, ◌&&◌, List, [], ◌∷◌, ◌++◌, length, Option, Some, None}
+use Rattle.std.proofs.Common.{Ok, refl, sym, ap, subst, ◌∙◌, append_assoc, arith, inl, inr, Err}
 use Rattle.std.specs.Prelude.{flat_map, max}
 use Rattle.std.specs.List.{AllByRecursion}
 use Rattle.std.specs.Int.{Width, w16, w32, w64, to_be_bytes}
@@ -7,12 +9,29 @@ use Rattle.std.proofs.lemmas.Bool.{eqb-true, eqb-false, cases_lt}
 use Rattle.std.proofs.lemmas.List.{length-append}
 use Rattle.cbor_model.specs.Head.{HeadWidth, limit, info, head, behind}
 use Rattle.cbor_model.specs.Raw as raw
-use Rattle.cbor_model.specs.Raw.{Length, definite, indefinite, Raw, Raws, no_raws, RawPairs, no_raw_pairs, raw_pair, Chunk, joined, Simple, false_item, true_item, null_item, undefined_item, FloatWidth, half, single, double, float_limit, count, pair_count, depth, depth_all, depth_pairs, AreBytes, IsChunk, IsWellFormed, AreWellFormed, ArePairsWellFormed, EachText, EachTextOfAll, EachTextOfPairs, longest_joined, longest_joined_all, longest_joined_pairs}
-use Rattle.cbor_model.specs.Spelling.{spell, spell_all, spell_pairs, chunk, simple_byte, float_spelling, break}
-use Rattle.cbor_model.specs.Refusal.{unassigned_code, unexpected_code, too_deep, length_out_of_range, scratch_too_small}
-use Rattle.cbor_model.specs.Reader.{Reads, ◌>>=◌, Reading, ended, before, byte_at, bytes_at, number_at, width_of, number_behind, float_at, simple_at, string_at, checked_text, text_at, begins_chunk, content_of_chunk, chunk_at, chunks_by, chunks_at, string_chunks_at, text_chunks_at, Remaining, counted, to_break, next_at, Parts, go_on, parts_by, parts_at, pair_at, items_of, pairs_of, array_at, map_at, tag_at, content_at, indefinite_at, after_first, item_by, item_at}
+use Rattle.cbor_model.specs.Raw.{Length, definite, indefinite, Raw, Raws, no_raws, RawPairs}
+use Rattle.cbor_model.specs.Raw.{no_raw_pairs, raw_pair, Chunk, joined, Simple, false_item}
+use Rattle.cbor_model.specs.Raw.{true_item, null_item, undefined_item, FloatWidth, half, single}
+use Rattle.cbor_model.specs.Raw.{double, float_limit, count, pair_count, depth, depth_all}
+use Rattle.cbor_model.specs.Raw.{depth_pairs, AreBytes, IsChunk, IsWellFormed, AreWellFormed}
+use Rattle.cbor_model.specs.Raw.{ArePairsWellFormed, EachText, EachTextOfAll, EachTextOfPairs}
+use Rattle.cbor_model.specs.Raw.{longest_joined, longest_joined_all, longest_joined_pairs}
+use Rattle.cbor_model.specs.Spelling.{spell, spell_all, spell_pairs, chunk, simple_byte}
+use Rattle.cbor_model.specs.Spelling.{float_spelling, break}
+use Rattle.cbor_model.specs.Refusal.{unassigned_code, unexpected_code, too_deep}
+use Rattle.cbor_model.specs.Refusal.{length_out_of_range, scratch_too_small}
+use Rattle.cbor_model.specs.Reader.{Reads, ◌>>=◌, Reading, ended, before, byte_at, bytes_at}
+use Rattle.cbor_model.specs.Reader.{number_at, width_of, number_behind, float_at, simple_at}
+use Rattle.cbor_model.specs.Reader.{string_at, checked_text, text_at, begins_chunk}
+use Rattle.cbor_model.specs.Reader.{content_of_chunk, chunk_at, chunks_by, chunks_at}
+use Rattle.cbor_model.specs.Reader.{string_chunks_at, text_chunks_at, Remaining, counted, to_break}
+use Rattle.cbor_model.specs.Reader.{next_at, Parts, go_on, parts_by, parts_at, pair_at, items_of}
+use Rattle.cbor_model.specs.Reader.{pairs_of, array_at, map_at, tag_at, content_at, indefinite_at}
+use Rattle.cbor_model.specs.Reader.{after_first, item_by, item_at}
 use Rattle.cbor_model.proofs.Made.{made, made_all, made_pairs}
-use Rattle.cbor_model.proofs.Steps.{AreBytes-rest, bind_ok, chosen, done, ok_is, read_as, not_ok, bytes_found, IsWide, wide16, wide32, wide64, number_found, number_behind_found, first_is}
+use Rattle.cbor_model.proofs.Steps.{AreBytes-rest, bind_ok, chosen, at_number, done, ok_is, read_as}
+use Rattle.cbor_model.proofs.Steps.{not_ok, bytes_found, IsWide, wide16, wide32, wide64}
+use Rattle.cbor_model.proofs.Steps.{number_found, number_behind_found, first_is}
 
 -- the reading lets the text pass
 abbrev pub Passes : {Item Items Pairs : Type 0} → Reading Item Items Pairs → List ℕ → Type 0
@@ -58,7 +77,8 @@ pub record IsPair {Item Items Pairs : Type 0} (m : Reading Item Items Pairs) (le
   pub value : IsItem m levels at_value (x.0.1, x.1)
 
 -- So many parts, or parts up to the break, which is taken too.
-abbrev pub Ended : {Whole : Type 0} → (ℕ → List ℕ → Whole × List ℕ → Type 0) → Remaining → List ℕ → Whole × List ℕ → Type 0
+abbrev pub Ended : {Whole : Type 0} → (ℕ → List ℕ → Whole × List ℕ → Type 0) → Remaining → List ℕ
+    → Whole × List ℕ → Type 0
 Ended Are (counted n) bs x = Are n bs x
 Ended Are to_break bs x = (n : ℕ) × Are n bs (x.0, 0xff ∷ x.1)
 
@@ -81,11 +101,13 @@ pub record AreChunks (exceeds : ℕ → Bool) (have major : ℕ) (bs : List ℕ)
   pub joins : exceeds (have + length (joined x.0)) ≡ false
   pub rest_fits : AreBytes x.1
 
-abbrev pub Finds : {Item Items Pairs : Type 0} → Reading Item Items Pairs → (List ℕ → Reads Item) → ℕ → Type 0
+abbrev pub Finds : {Item Items Pairs : Type 0} → Reading Item Items Pairs → (List ℕ → Reads Item)
+    → ℕ → Type 0
 Finds {Item = Item} m p levels = (bs : List ℕ) (x : Item × List ℕ) → AreBytes bs → p bs ≡ Ok x → IsItem m levels bs x
 
 -- a reader of what lies one level further in
-abbrev pub FindsInside : {Item Items Pairs : Type 0} → Reading Item Items Pairs → Option (List ℕ → Reads Item) → ℕ → Type 0
+abbrev pub FindsInside : {Item Items Pairs : Type 0} → Reading Item Items Pairs
+    → Option (List ℕ → Reads Item) → ℕ → Type 0
 FindsInside m None levels = Unit {0}
 FindsInside m (Some p) levels = (inside : ℕ) × (suc inside ≤ levels) × Finds m p inside
 
@@ -94,16 +116,19 @@ two_parts : (bs a more b rest : List ℕ) → bs ≡ a ++ more → more ≡ b ++
 two_parts bs a more b rest first second = first ∙ ap (λ (t : List ℕ). a ++ t) second ∙ sym (append_assoc a b rest)
 
 -- a head and what stands behind it, which is that long
-behind_head : (major : ℕ) (w : HeadWidth) (n k : ℕ) (bs b rest : List ℕ) → bs ≡ b ++ rest → k ≡ n → head major w n ++ bs ≡ (head major w k ++ b) ++ rest
+behind_head : (major : ℕ) (w : HeadWidth) (n k : ℕ) (bs b rest : List ℕ) → bs ≡ b ++ rest → k ≡ n
+    → head major w n ++ bs ≡ (head major w k ++ b) ++ rest
 behind_head major w n k bs b rest parts long =
     two_parts (head major w n ++ bs) (head major w k) bs b rest (ap (λ (n : ℕ). head major w n ++ bs) (sym long)) parts
 
 -- a first byte, and parts up to the break
-behind_first : (first : ℕ) (bs parts rest : List ℕ) → bs ≡ parts ++ (0xff ∷ rest) → (first ∷ bs) ≡ (first ∷ (parts ++ break)) ++ rest
+behind_first : (first : ℕ) (bs parts rest : List ℕ) → bs ≡ parts ++ (0xff ∷ rest)
+    → (first ∷ bs) ≡ (first ∷ (parts ++ break)) ++ rest
 behind_first first bs parts rest is = ap (λ (t : List ℕ). first ∷ t) (is ∙ sym (append_assoc parts break rest))
 
 -- the longer of two is joined where both are
-both_join : (exceeds : ℕ → Bool) (a b : ℕ) → exceeds a ≡ false → exceeds b ≡ false → exceeds (max a b) ≡ false
+both_join : (exceeds : ℕ → Bool) (a b : ℕ) → exceeds a ≡ false → exceeds b ≡ false
+    → exceeds (max a b) ≡ false
 both_join exceeds a b one other =
     elim (cases_lt a b) [
       | inl lt ↦
@@ -121,12 +146,14 @@ both_hold true b e = (refl, e)
 both_hold false b e = absurd cc
 
 -- the head of this major type, and what stands behind its first byte
-whole_head : (major b n : ℕ) (w : HeadWidth) (bs rest : List ℕ) → b / 32 ≡ major → b % 32 ≡ info w n → bs ≡ behind w n ++ rest → (b ∷ bs) ≡ head major w n ++ rest
+whole_head : (major b n : ℕ) (w : HeadWidth) (bs rest : List ℕ) → b / 32 ≡ major → b % 32 ≡ info w n
+    → bs ≡ behind w n ++ rest → (b ∷ bs) ≡ head major w n ++ rest
 whole_head major b n w bs rest high low parts =
     let first : b ≡ 32 * major + info w n = omega (arith, first_is b) in
     ap (λ (c : ℕ). c ∷ bs) first ∙ ap (λ (t : List ℕ). (32 * major + info w n) ∷ t) parts
 
-chunk_found : (exceeds : ℕ → Bool) (major b : ℕ) (bs : List ℕ) (x : Chunk × List ℕ) → AreBytes bs → chunk_at exceeds major b bs ≡ Ok x → IsChunkOf exceeds major b bs x
+chunk_found : (exceeds : ℕ → Bool) (major b : ℕ) (bs : List ℕ) (x : Chunk × List ℕ) → AreBytes bs
+    → chunk_at exceeds major b bs ≡ Ok x → IsChunkOf exceeds major b bs x
 unfolding chunk_at content_of_chunk
 chunk_found exceeds major b bs x fits is =
     elim (chosen (begins_chunk major b) _ _ _ is) [
@@ -153,7 +180,9 @@ chunk_found exceeds major b bs x fits is =
           ]
     ]
 
-chunks_found : (exceeds : ℕ → Bool) (have major fuel : ℕ) (bs : List ℕ) (x : List Chunk × List ℕ) → exceeds have ≡ false → AreBytes bs → chunks_by exceeds have major fuel bs ≡ Ok x → AreChunks exceeds have major bs x
+chunks_found : (exceeds : ℕ → Bool) (have major fuel : ℕ) (bs : List ℕ) (x : List Chunk × List ℕ)
+    → exceeds have ≡ false → AreBytes bs → chunks_by exceeds have major fuel bs ≡ Ok x
+    → AreChunks exceeds have major bs x
 unfolding chunks_by byte_at
 chunks_found exceeds have major zero bs x before_fits fits is = not_ok ended x is
 chunks_found exceeds have major (suc fuel) [] x before_fits fits is = not_ok ended x is
@@ -197,7 +226,8 @@ module _ {Part Whole : Type 0} (ps : Parts Part Whole) (Is : List ℕ → Part �
     (added : (n : ℕ) (bs more rest : List ℕ) (first : Part) (others : Whole) → Is bs (first, more) → Are n more (others, rest) → Are (suc n) bs (ps.add first others, rest))
   where
     -- one part, and those behind it
-    one_found : (fuel : ℕ) (remaining : Remaining) (bs : List ℕ) (x : Whole × List ℕ) → AreBytes bs → ((more : List ℕ) (y : Whole × List ℕ) → AreBytes more → parts_by ps fuel remaining more ≡ Ok y → Ended Are remaining more y)
+    one_found : (fuel : ℕ) (remaining : Remaining) (bs : List ℕ) (x : Whole × List ℕ) → AreBytes bs
+        → ((more : List ℕ) (y : Whole × List ℕ) → AreBytes more → parts_by ps fuel remaining more ≡ Ok y → Ended Are remaining more y)
         → go_on ps (parts_by ps fuel) (Some remaining) bs ≡ Ok x → Ended Are (another remaining) bs x
     one_found fuel remaining bs x fits others is =
         let a = bind_ok (ps.part bs) (λ first. parts_by ps fuel remaining first.1 >>= λ rest. Ok (ps.add first.0 rest.0, rest.1)) x is in
@@ -205,11 +235,14 @@ module _ {Part Whole : Type 0} (ps : Parts Part Whole) (Is : List ℕ → Part �
         let one = found bs a.0 fits a.1 in
         read_as (Ended Are (another remaining) bs) (ps.add a.0.0 b.0.0, b.0.1) x b.2 (behind_one remaining a.0.1 b.0 bs a.0.0 one (others a.0.1 b.0 (fit bs a.0 one) b.1))
       where
-        behind_one : (remaining : Remaining) (more : List ℕ) (y : Whole × List ℕ) (bs : List ℕ) (first : Part) → Is bs (first, more) → Ended Are remaining more y → Ended Are (another remaining) bs (ps.add first y.0, y.1)
+        behind_one : (remaining : Remaining) (more : List ℕ) (y : Whole × List ℕ) (bs : List ℕ) (first : Part)
+            → Is bs (first, more) → Ended Are remaining more y
+            → Ended Are (another remaining) bs (ps.add first y.0, y.1)
         behind_one (counted n) more y bs first one all = added n bs more y.1 first y.0 one all
         behind_one to_break more y bs first one all = (suc all.0, added all.0 bs more (0xff ∷ y.1) first y.0 one all.1)
 
-    pub parts_found : (fuel : ℕ) (remaining : Remaining) (bs : List ℕ) (x : Whole × List ℕ) → AreBytes bs → parts_by ps fuel remaining bs ≡ Ok x → Ended Are remaining bs x
+    pub parts_found : (fuel : ℕ) (remaining : Remaining) (bs : List ℕ) (x : Whole × List ℕ)
+        → AreBytes bs → parts_by ps fuel remaining bs ≡ Ok x → Ended Are remaining bs x
     unfolding parts_by next_at
     parts_found zero remaining bs x fits is = not_ok ended x is
     parts_found (suc fuel) (counted zero) bs x fits is = read_as (Are 0 bs) (ps.none, bs) x is (nothing bs fits)
@@ -229,7 +262,9 @@ module _ {Part Whole : Type 0} (ps : Parts Part Whole) (Is : List ℕ → Part �
 
 module _ {Item Items Pairs : Type 0} (m : Reading Item Items Pairs) (none_fits : m.exceeds 0 ≡ false) where
   -- an item, and those after it
-  item_added : (levels n : ℕ) (bs more rest : List ℕ) (first : Item) (others : Items) → IsItem m levels bs (first, more) → AreItems m levels n more (others, rest) → AreItems m levels (suc n) bs (m.item first others, rest)
+  item_added : (levels n : ℕ) (bs more rest : List ℕ) (first : Item) (others : Items)
+      → IsItem m levels bs (first, more) → AreItems m levels n more (others, rest)
+      → AreItems m levels (suc n) bs (m.item first others, rest)
   unfolding spell made
   item_added levels n bs more rest first others one all = record {
     items = raw.raw one.item all.items;
@@ -244,7 +279,10 @@ module _ {Item Items Pairs : Type 0} (m : Reading Item Items Pairs) (none_fits :
   }
 
   -- a pair, and those after it
-  pair_added : (levels n : ℕ) (bs at_value more rest : List ℕ) (k v : Item) (others : Pairs) → IsItem m levels bs (k, at_value) → IsItem m levels at_value (v, more) → ArePairs m levels n more (others, rest) → ArePairs m levels (suc n) bs (m.pair k v others, rest)
+  pair_added : (levels n : ℕ) (bs at_value more rest : List ℕ) (k v : Item) (others : Pairs)
+      → IsItem m levels bs (k, at_value) → IsItem m levels at_value (v, more)
+      → ArePairs m levels n more (others, rest)
+      → ArePairs m levels (suc n) bs (m.pair k v others, rest)
   unfolding spell made
   pair_added levels n bs at_value more rest k v others key val all = record {
     pairs = raw_pair key.item val.item all.pairs;
@@ -262,7 +300,9 @@ module _ {Item Items Pairs : Type 0} (m : Reading Item Items Pairs) (none_fits :
   }
 
   -- parts, of which so many are read, or those up to the break
-  pair_found : (p : List ℕ → Reads Item) (levels : ℕ) → Finds m p levels → (bs : List ℕ) (x : (Item × Item) × List ℕ) → AreBytes bs → pair_at p bs ≡ Ok x → IsPair m levels bs x
+  pair_found : (p : List ℕ → Reads Item) (levels : ℕ) → Finds m p levels
+      → (bs : List ℕ) (x : (Item × Item) × List ℕ) → AreBytes bs → pair_at p bs ≡ Ok x
+      → IsPair m levels bs x
   unfolding pair_at
   pair_found p levels finds bs x fits is =
       let a = bind_ok (p bs) (λ k. p k.1 >>= λ v. Ok ((k.0, v.0), v.1)) x is in
@@ -277,7 +317,8 @@ module _ {Item Items Pairs : Type 0} (m : Reading Item Items Pairs) (none_fits :
   abbrev IsContent : ℕ → ℕ → HeadWidth → ℕ → List ℕ → Item × List ℕ → Type 0
   IsContent levels major w n bs x = IsItem m levels (head major w n ++ bs) x
 
-  string_found : (levels : ℕ) (w : HeadWidth) (n : ℕ) (bs : List ℕ) (x : Item × List ℕ) → AreBytes bs → n < limit w → string_at m w n bs ≡ Ok x → IsContent levels 2 w n bs x
+  string_found : (levels : ℕ) (w : HeadWidth) (n : ℕ) (bs : List ℕ) (x : Item × List ℕ)
+      → AreBytes bs → n < limit w → string_at m w n bs ≡ Ok x → IsContent levels 2 w n bs x
   unfolding string_at spell made
   string_found levels w n bs x fits small is =
       let step = bind_ok (bytes_at n bs) (λ b. Ok (m.bytes (record { width = w; bytes = b.0 }), b.1)) x is in
@@ -295,7 +336,8 @@ module _ {Item Items Pairs : Type 0} (m : Reading Item Items Pairs) (none_fits :
         rest_fits = got.rest_fits;
       })
 
-  text_found : (levels : ℕ) (w : HeadWidth) (n : ℕ) (bs : List ℕ) (x : Item × List ℕ) → AreBytes bs → n < limit w → text_at m w n bs ≡ Ok x → IsContent levels 3 w n bs x
+  text_found : (levels : ℕ) (w : HeadWidth) (n : ℕ) (bs : List ℕ) (x : Item × List ℕ) → AreBytes bs
+      → n < limit w → text_at m w n bs ≡ Ok x → IsContent levels 3 w n bs x
   unfolding text_at checked_text spell made
   text_found levels w n bs x fits small is =
       elim (chosen (m.has_room (length bs) n) _ _ _ is) [
@@ -321,7 +363,9 @@ module _ {Item Items Pairs : Type 0} (m : Reading Item Items Pairs) (none_fits :
       ]
 
   -- the items of an array, and the pairs of a map
-  items_found : (p : List ℕ → Reads Item) (levels : ℕ) → Finds m p levels → (remaining : Remaining) (bs : List ℕ) (x : Items × List ℕ) → AreBytes bs → parts_at (items_of m p) remaining bs ≡ Ok x → Ended (AreItems m levels) remaining bs x
+  items_found : (p : List ℕ → Reads Item) (levels : ℕ) → Finds m p levels
+      → (remaining : Remaining) (bs : List ℕ) (x : Items × List ℕ) → AreBytes bs
+      → parts_at (items_of m p) remaining bs ≡ Ok x → Ended (AreItems m levels) remaining bs x
   unfolding spell made
   items_found p levels finds remaining bs x fits is =
       parts_found (items_of m p) (IsItem m levels) (AreItems m levels) (λ bs x one. one.rest_fits) finds
@@ -329,7 +373,9 @@ module _ {Item Items Pairs : Type 0} (m : Reading Item Items Pairs) (none_fits :
       (λ n bs more rest first others one all. item_added levels n bs more rest first others one all)
       (suc (length bs)) remaining bs x fits is
 
-  pairs_found : (p : List ℕ → Reads Item) (levels : ℕ) → Finds m p levels → (remaining : Remaining) (bs : List ℕ) (x : Pairs × List ℕ) → AreBytes bs → parts_at (pairs_of m p) remaining bs ≡ Ok x → Ended (ArePairs m levels) remaining bs x
+  pairs_found : (p : List ℕ → Reads Item) (levels : ℕ) → Finds m p levels
+      → (remaining : Remaining) (bs : List ℕ) (x : Pairs × List ℕ) → AreBytes bs
+      → parts_at (pairs_of m p) remaining bs ≡ Ok x → Ended (ArePairs m levels) remaining bs x
   unfolding spell made
   pairs_found p levels finds remaining bs x fits is =
       parts_found (pairs_of m p) (IsPair m levels) (ArePairs m levels) (λ bs x one. one.value.rest_fits) (pair_found p levels finds)
@@ -337,7 +383,9 @@ module _ {Item Items Pairs : Type 0} (m : Reading Item Items Pairs) (none_fits :
       (λ n bs more rest first others one all. pair_added levels n bs one.at_value more rest first.0 first.1 others one.key one.value all)
       (suc (length bs)) remaining bs x fits is
 
-  array_found : (inner : Option (List ℕ → Reads Item)) (levels : ℕ) → FindsInside m inner levels → (w : HeadWidth) (n : ℕ) (bs : List ℕ) (x : Item × List ℕ) → AreBytes bs → n < limit w → array_at m inner (definite w) (counted n) bs ≡ Ok x → IsContent levels 4 w n bs x
+  array_found : (inner : Option (List ℕ → Reads Item)) (levels : ℕ) → FindsInside m inner levels
+      → (w : HeadWidth) (n : ℕ) (bs : List ℕ) (x : Item × List ℕ) → AreBytes bs → n < limit w
+      → array_at m inner (definite w) (counted n) bs ≡ Ok x → IsContent levels 4 w n bs x
   unfolding array_at spell made
   array_found None levels finds w n bs x fits small is = not_ok (before too_deep bs) x is
   array_found (Some p) levels finds w n bs x fits small is =
@@ -356,7 +404,9 @@ module _ {Item Items Pairs : Type 0} (m : Reading Item Items Pairs) (none_fits :
         rest_fits = got.rest_fits;
       })
 
-  map_found : (inner : Option (List ℕ → Reads Item)) (levels : ℕ) → FindsInside m inner levels → (w : HeadWidth) (n : ℕ) (bs : List ℕ) (x : Item × List ℕ) → AreBytes bs → n < limit w → map_at m inner (definite w) (counted n) bs ≡ Ok x → IsContent levels 5 w n bs x
+  map_found : (inner : Option (List ℕ → Reads Item)) (levels : ℕ) → FindsInside m inner levels
+      → (w : HeadWidth) (n : ℕ) (bs : List ℕ) (x : Item × List ℕ) → AreBytes bs → n < limit w
+      → map_at m inner (definite w) (counted n) bs ≡ Ok x → IsContent levels 5 w n bs x
   unfolding map_at spell made
   map_found None levels finds w n bs x fits small is = not_ok (before too_deep bs) x is
   map_found (Some p) levels finds w n bs x fits small is =
@@ -375,7 +425,9 @@ module _ {Item Items Pairs : Type 0} (m : Reading Item Items Pairs) (none_fits :
         rest_fits = got.rest_fits;
       })
 
-  tag_found : (inner : Option (List ℕ → Reads Item)) (levels : ℕ) → FindsInside m inner levels → (w : HeadWidth) (n : ℕ) (bs : List ℕ) (x : Item × List ℕ) → AreBytes bs → n < limit w → tag_at m inner w n bs ≡ Ok x → IsContent levels 6 w n bs x
+  tag_found : (inner : Option (List ℕ → Reads Item)) (levels : ℕ) → FindsInside m inner levels
+      → (w : HeadWidth) (n : ℕ) (bs : List ℕ) (x : Item × List ℕ) → AreBytes bs → n < limit w
+      → tag_at m inner w n bs ≡ Ok x → IsContent levels 6 w n bs x
   unfolding tag_at spell made
   tag_found None levels finds w n bs x fits small is = not_ok (before too_deep bs) x is
   tag_found (Some p) levels finds w n bs x fits small is =
@@ -399,7 +451,8 @@ module _ {Item Items Pairs : Type 0} (m : Reading Item Items Pairs) (none_fits :
   abbrev IsIndefinite : ℕ → ℕ → List ℕ → Item × List ℕ → Type 0
   IsIndefinite levels major bs x = IsItem m levels ((32 * major + 31) ∷ bs) x
 
-  string_chunks_found : (levels : ℕ) (bs : List ℕ) (x : Item × List ℕ) → AreBytes bs → string_chunks_at m bs ≡ Ok x → IsIndefinite levels 2 bs x
+  string_chunks_found : (levels : ℕ) (bs : List ℕ) (x : Item × List ℕ) → AreBytes bs
+      → string_chunks_at m bs ≡ Ok x → IsIndefinite levels 2 bs x
   unfolding string_chunks_at spell made
   string_chunks_found levels bs x fits is =
       let step = bind_ok (chunks_at m.exceeds 0 2 bs) (λ cs. Ok (m.bytes_chunks cs.0, cs.1)) x is in
@@ -417,7 +470,8 @@ module _ {Item Items Pairs : Type 0} (m : Reading Item Items Pairs) (none_fits :
         rest_fits = got.rest_fits;
       })
 
-  text_chunks_found : (levels : ℕ) (bs : List ℕ) (x : Item × List ℕ) → AreBytes bs → text_chunks_at m bs ≡ Ok x → IsIndefinite levels 3 bs x
+  text_chunks_found : (levels : ℕ) (bs : List ℕ) (x : Item × List ℕ) → AreBytes bs
+      → text_chunks_at m bs ≡ Ok x → IsIndefinite levels 3 bs x
   unfolding text_chunks_at checked_text spell made
   text_chunks_found levels bs x fits is =
       let step = bind_ok (chunks_at m.exceeds 0 3 bs) (λ cs. checked_text m (m.text_chunks cs.0) (joined cs.0) cs.1) x is in
@@ -438,7 +492,9 @@ module _ {Item Items Pairs : Type 0} (m : Reading Item Items Pairs) (none_fits :
         })
       ]
 
-  indefinite_array_found : (inner : Option (List ℕ → Reads Item)) (levels : ℕ) → FindsInside m inner levels → (bs : List ℕ) (x : Item × List ℕ) → AreBytes bs → array_at m inner indefinite to_break bs ≡ Ok x → IsIndefinite levels 4 bs x
+  indefinite_array_found : (inner : Option (List ℕ → Reads Item)) (levels : ℕ)
+      → FindsInside m inner levels → (bs : List ℕ) (x : Item × List ℕ) → AreBytes bs
+      → array_at m inner indefinite to_break bs ≡ Ok x → IsIndefinite levels 4 bs x
   unfolding array_at spell made
   indefinite_array_found None levels finds bs x fits is = not_ok (before too_deep bs) x is
   indefinite_array_found (Some p) levels finds bs x fits is =
@@ -456,7 +512,9 @@ module _ {Item Items Pairs : Type 0} (m : Reading Item Items Pairs) (none_fits :
         rest_fits = AreBytes-rest 0xff rest got.rest_fits;
       })
 
-  indefinite_map_found : (inner : Option (List ℕ → Reads Item)) (levels : ℕ) → FindsInside m inner levels → (bs : List ℕ) (x : Item × List ℕ) → AreBytes bs → map_at m inner indefinite to_break bs ≡ Ok x → IsIndefinite levels 5 bs x
+  indefinite_map_found : (inner : Option (List ℕ → Reads Item)) (levels : ℕ)
+      → FindsInside m inner levels → (bs : List ℕ) (x : Item × List ℕ) → AreBytes bs
+      → map_at m inner indefinite to_break bs ≡ Ok x → IsIndefinite levels 5 bs x
   unfolding map_at spell made
   indefinite_map_found None levels finds bs x fits is = not_ok (before too_deep bs) x is
   indefinite_map_found (Some p) levels finds bs x fits is =
@@ -474,26 +532,19 @@ module _ {Item Items Pairs : Type 0} (m : Reading Item Items Pairs) (none_fits :
         rest_fits = AreBytes-rest 0xff rest got.rest_fits;
       })
 
-  indefinite_found : (inner : Option (List ℕ → Reads Item)) (levels : ℕ) → FindsInside m inner levels → (major : ℕ) (bs : List ℕ) (x : Item × List ℕ) → AreBytes bs → indefinite_at m inner major bs ≡ Ok x → IsIndefinite levels major bs x
+  indefinite_found : (inner : Option (List ℕ → Reads Item)) (levels : ℕ)
+      → FindsInside m inner levels → (major : ℕ) (bs : List ℕ) (x : Item × List ℕ)
+      → AreBytes bs → indefinite_at m inner major bs ≡ Ok x → IsIndefinite levels major bs x
   unfolding indefinite_at
   indefinite_found inner levels finds major bs x fits is =
-      let at_major = λ (k : ℕ) (this : eqb major k ≡ true) (got : IsIndefinite levels k bs x). subst (λ (k : ℕ). IsIndefinite levels k bs x) (sym (eqb-true major k this)) got in
-      elim (chosen (eqb major 2) _ _ _ is) [
-        | inl this ↦ at_major 2 this.0 (string_chunks_found levels bs x fits this.1)
-        | inr other ↦
-            elim (chosen (eqb major 3) _ _ _ other.1) [
-              | inl this ↦ at_major 3 this.0 (text_chunks_found levels bs x fits this.1)
-              | inr other ↦
-                  elim (chosen (eqb major 4) _ _ _ other.1) [
-                    | inl this ↦ at_major 4 this.0 (indefinite_array_found inner levels finds bs x fits this.1)
-                    | inr other ↦
-                        elim (chosen (eqb major 5) _ _ _ other.1) [
-                          | inl this ↦ at_major 5 this.0 (indefinite_map_found inner levels finds bs x fits this.1)
-                          | inr none ↦ not_ok (before unassigned_code bs) x none.1
-                        ]
-                  ]
-            ]
-      ]
+      at_number P major 2 _ _ _ is (string_chunks_found levels bs x fits) (λ not_2 is.
+      at_number P major 3 _ _ _ is (text_chunks_found levels bs x fits) (λ not_3 is.
+      at_number P major 4 _ _ _ is (indefinite_array_found inner levels finds bs x fits) (λ not_4 is.
+      at_number P major 5 _ _ _ is (indefinite_map_found inner levels finds bs x fits)
+      (λ not_5 none. not_ok (before unassigned_code bs) x none))))
+    where
+      P : ℕ → Type 0
+      P major = IsIndefinite levels major bs x
 
   -- ---- simple values and floats
 
@@ -501,10 +552,13 @@ module _ {Item Items Pairs : Type 0} (m : Reading Item Items Pairs) (none_fits :
   abbrev IsSpecial : ℕ → ℕ → List ℕ → Item × List ℕ → Type 0
   IsSpecial levels low bs x = IsItem m levels ((32 * 7 + low) ∷ bs) x
 
-  -- a float of one width, whose lower five bits are `this`
-  one_float : (f : FloatWidth) (w : Width) (levels low this : ℕ) → IsWide w (float_limit f) → ((n : ℕ) → float_spelling f n ≡ (224 + this) ∷ to_be_bytes w n) → eqb low this ≡ true → (bs : List ℕ) (x : Item × List ℕ) → AreBytes bs → (number_at w bs >>= (λ n. Ok (m.float f n.0, n.1))) ≡ Ok x → IsSpecial levels low bs x
+  -- a float of one width
+  one_float : (f : FloatWidth) (w : Width) (levels low : ℕ) → IsWide w (float_limit f)
+      → ((n : ℕ) → float_spelling f n ≡ (224 + low) ∷ to_be_bytes w n)
+      → (bs : List ℕ) (x : Item × List ℕ) → AreBytes bs
+      → (number_at w bs >>= (λ n. Ok (m.float f n.0, n.1))) ≡ Ok x → IsSpecial levels low bs x
   unfolding spell made
-  one_float f w levels low this wide spelled low_is bs x fits is =
+  one_float f w levels low wide spelled bs x fits is =
       let step = bind_ok (number_at w bs) (λ n. Ok (m.float f n.0, n.1)) x is in
       let n = step.0.0 in
       let rest = step.0.1 in
@@ -512,7 +566,8 @@ module _ {Item Items Pairs : Type 0} (m : Reading Item Items Pairs) (none_fits :
       read_as (IsSpecial levels low bs) (m.float f n, rest) x step.2 (record {
         item = raw.float f n;
         made_is = refl;
-        parts = ap (λ (b : ℕ). (224 + b) ∷ bs) (eqb-true _ _ low_is) ∙ ap (λ (t : List ℕ). (224 + this) ∷ t) got.parts ∙ ap (λ (t : List ℕ). t ++ rest) (sym (spelled n));
+        parts = ap (λ (t : List ℕ). (224 + low) ∷ t) got.parts
+            ∙ ap (λ (t : List ℕ). t ++ rest) (sym (spelled n));
         fits = got.fits;
         nests = omega arith;
         texts = tt;
@@ -520,30 +575,27 @@ module _ {Item Items Pairs : Type 0} (m : Reading Item Items Pairs) (none_fits :
         rest_fits = got.rest_fits;
       })
 
-  float_found : (levels low : ℕ) (bs : List ℕ) (x : Item × List ℕ) → AreBytes bs → float_at m low bs ≡ Ok x → IsSpecial levels low bs x
+  float_found : (levels low : ℕ) (bs : List ℕ) (x : Item × List ℕ)
+      → AreBytes bs → float_at m low bs ≡ Ok x → IsSpecial levels low bs x
   unfolding float_at
   float_found levels low bs x fits is =
-      elim (chosen (eqb low 25) _ _ _ is) [
-        | inl this ↦ one_float half w16 levels low 25 wide16 (λ n. refl) this.0 bs x fits this.1
-        | inr other ↦
-            elim (chosen (eqb low 26) _ _ _ other.1) [
-              | inl this ↦ one_float single w32 levels low 26 wide32 (λ n. refl) this.0 bs x fits this.1
-              | inr other ↦
-                  elim (chosen (eqb low 27) _ _ _ other.1) [
-                    | inl this ↦ one_float double w64 levels low 27 wide64 (λ n. refl) this.0 bs x fits this.1
-                    | inr none ↦ not_ok _ x none.1
-                  ]
-            ]
-      ]
+      at_number P low 25 _ _ _ is (one_float half w16 levels 25 wide16 (λ n. refl) bs x fits) (λ not_25 is.
+      at_number P low 26 _ _ _ is (one_float single w32 levels 26 wide32 (λ n. refl) bs x fits) (λ not_26 is.
+      at_number P low 27 _ _ _ is (one_float double w64 levels 27 wide64 (λ n. refl) bs x fits)
+      (λ not_27 none. not_ok _ x none)))
+    where
+      P : ℕ → Type 0
+      P low = IsSpecial levels low bs x
 
-  -- a simple value, whose lower five bits are `this`
-  one_simple : (s : Simple) (levels low this : ℕ) → simple_byte s ≡ 224 + this → eqb low this ≡ true → (bs : List ℕ) (x : Item × List ℕ) → AreBytes bs → done (m.simple s, bs) ≡ Ok x → IsSpecial levels low bs x
+  one_simple : (s : Simple) (levels low : ℕ) → simple_byte s ≡ 224 + low
+      → (bs : List ℕ) (x : Item × List ℕ) → AreBytes bs
+      → done (m.simple s, bs) ≡ Ok x → IsSpecial levels low bs x
   unfolding spell made
-  one_simple s levels low this spelled low_is bs x fits is =
+  one_simple s levels low spelled bs x fits is =
       read_as (IsSpecial levels low bs) (m.simple s, bs) x is (record {
         item = raw.simple s;
         made_is = refl;
-        parts = ap (λ (b : ℕ). (224 + b) ∷ bs) (eqb-true _ _ low_is) ∙ ap (λ (b : ℕ). b ∷ bs) (sym spelled);
+        parts = ap (λ (b : ℕ). b ∷ bs) (sym spelled);
         fits = tt;
         nests = omega arith;
         texts = tt;
@@ -551,60 +603,72 @@ module _ {Item Items Pairs : Type 0} (m : Reading Item Items Pairs) (none_fits :
         rest_fits = fits;
       })
 
-  simple_found : (levels low : ℕ) (bs : List ℕ) (x : Item × List ℕ) → AreBytes bs → simple_at m low bs ≡ Ok x → IsSpecial levels low bs x
+  simple_found : (levels low : ℕ) (bs : List ℕ) (x : Item × List ℕ)
+      → AreBytes bs → simple_at m low bs ≡ Ok x → IsSpecial levels low bs x
   unfolding simple_at
   simple_found levels low bs x fits is =
-      elim (chosen (eqb low 20) _ _ _ is) [
-        | inl this ↦ one_simple false_item levels low 20 refl this.0 bs x fits this.1
-        | inr other ↦
-            elim (chosen (eqb low 21) _ _ _ other.1) [
-              | inl this ↦ one_simple true_item levels low 21 refl this.0 bs x fits this.1
-              | inr other ↦
-                  elim (chosen (eqb low 22) _ _ _ other.1) [
-                    | inl this ↦ one_simple null_item levels low 22 refl this.0 bs x fits this.1
-                    | inr other ↦
-                        elim (chosen (eqb low 23) _ _ _ other.1) [
-                          | inl this ↦ one_simple undefined_item levels low 23 refl this.0 bs x fits this.1
-                          | inr other ↦ float_found levels low bs x fits other.1
-                        ]
-                  ]
-            ]
-      ]
+      at_number P low 20 _ _ _ is (one_simple false_item levels 20 refl bs x fits) (λ not_20 is.
+      at_number P low 21 _ _ _ is (one_simple true_item levels 21 refl bs x fits) (λ not_21 is.
+      at_number P low 22 _ _ _ is (one_simple null_item levels 22 refl bs x fits) (λ not_22 is.
+      at_number P low 23 _ _ _ is (one_simple undefined_item levels 23 refl bs x fits)
+      (λ not_23. float_found levels low bs x fits))))
+    where
+      P : ℕ → Type 0
+      P low = IsSpecial levels low bs x
 
   -- ---- items
 
-  content_found : (inner : Option (List ℕ → Reads Item)) (levels : ℕ) → FindsInside m inner levels → (major : ℕ) → major ≤ 6 → (w : HeadWidth) (n : ℕ) (bs : List ℕ) (x : Item × List ℕ) → AreBytes bs → n < limit w → content_at m inner major w n bs ≡ Ok x → IsContent levels major w n bs x
+  unsigned_found : (levels : ℕ) (w : HeadWidth) (n : ℕ) (bs : List ℕ) (x : Item × List ℕ)
+      → AreBytes bs → n < limit w → done (m.unsigned w n, bs) ≡ Ok x → IsContent levels 0 w n bs x
+  unfolding spell made
+  unsigned_found levels w n bs x fits small is =
+      read_as (IsContent levels 0 w n bs) (m.unsigned w n, bs) x is (record {
+        item = raw.unsigned w n;
+        made_is = refl;
+        parts = refl;
+        fits = small;
+        nests = omega arith;
+        texts = tt;
+        joins = none_fits;
+        rest_fits = fits;
+      })
+
+  negative_found : (levels : ℕ) (w : HeadWidth) (n : ℕ) (bs : List ℕ) (x : Item × List ℕ)
+      → AreBytes bs → n < limit w → done (m.negative w n, bs) ≡ Ok x → IsContent levels 1 w n bs x
+  unfolding spell made
+  negative_found levels w n bs x fits small is =
+      read_as (IsContent levels 1 w n bs) (m.negative w n, bs) x is (record {
+        item = raw.negative w n;
+        made_is = refl;
+        parts = refl;
+        fits = small;
+        nests = omega arith;
+        texts = tt;
+        joins = none_fits;
+        rest_fits = fits;
+      })
+
+  content_found : (inner : Option (List ℕ → Reads Item)) (levels : ℕ)
+      → FindsInside m inner levels → (major : ℕ) → major ≤ 6 → (w : HeadWidth) (n : ℕ)
+      (bs : List ℕ) (x : Item × List ℕ) → AreBytes bs → n < limit w
+      → content_at m inner major w n bs ≡ Ok x → IsContent levels major w n bs x
   unfolding content_at spell made
   content_found inner levels finds major at_most w n bs x fits small is =
-      let at_major = λ (k : ℕ) (this : eqb major k ≡ true) (got : IsContent levels k w n bs x). subst (λ (k : ℕ). IsContent levels k w n bs x) (sym (eqb-true major k this)) got in
-      elim (chosen (eqb major 0) _ _ _ is) [
-        | inl this ↦ at_major 0 this.0 (read_as (IsContent levels 0 w n bs) (m.unsigned w n, bs) x this.1 (record { item = raw.unsigned w n; made_is = refl; parts = refl; fits = small; nests = omega arith; texts = tt; joins = none_fits; rest_fits = fits }))
-        | inr not_0 ↦
-            elim (chosen (eqb major 1) _ _ _ not_0.1) [
-              | inl this ↦ at_major 1 this.0 (read_as (IsContent levels 1 w n bs) (m.negative w n, bs) x this.1 (record { item = raw.negative w n; made_is = refl; parts = refl; fits = small; nests = omega arith; texts = tt; joins = none_fits; rest_fits = fits }))
-              | inr not_1 ↦
-                  elim (chosen (eqb major 2) _ _ _ not_1.1) [
-                    | inl this ↦ at_major 2 this.0 (string_found levels w n bs x fits small this.1)
-                    | inr not_2 ↦
-                        elim (chosen (eqb major 3) _ _ _ not_2.1) [
-                          | inl this ↦ at_major 3 this.0 (text_found levels w n bs x fits small this.1)
-                          | inr not_3 ↦
-                              elim (chosen (eqb major 4) _ _ _ not_3.1) [
-                                | inl this ↦ at_major 4 this.0 (array_found inner levels finds w n bs x fits small this.1)
-                                | inr not_4 ↦
-                                    elim (chosen (eqb major 5) _ _ _ not_4.1) [
-                                      | inl this ↦ at_major 5 this.0 (map_found inner levels finds w n bs x fits small this.1)
-                                      | inr not_5 ↦
-                                          let six : major ≡ 6 = omega (arith, eqb-false _ _ not_0.0, eqb-false _ _ not_1.0, eqb-false _ _ not_2.0, eqb-false _ _ not_3.0, eqb-false _ _ not_4.0, eqb-false _ _ not_5.0) in
-                                          subst (λ (k : ℕ). IsContent levels k w n bs x) (sym six) (tag_found inner levels finds w n bs x fits small not_5.1)
-                                    ]
-                              ]
-                        ]
-                  ]
-            ]
-      ]
+      at_number P major 0 _ _ _ is (unsigned_found levels w n bs x fits small) (λ not_0 is.
+      at_number P major 1 _ _ _ is (negative_found levels w n bs x fits small) (λ not_1 is.
+      at_number P major 2 _ _ _ is (string_found levels w n bs x fits small) (λ not_2 is.
+      at_number P major 3 _ _ _ is (text_found levels w n bs x fits small) (λ not_3 is.
+      at_number P major 4 _ _ _ is (array_found inner levels finds w n bs x fits small) (λ not_4 is.
+      at_number P major 5 _ _ _ is (map_found inner levels finds w n bs x fits small) (λ not_5 is.
+      let six : major ≡ 6 = omega (arith, not_0, not_1, not_2, not_3, not_4, not_5) in
+      subst P (sym six) (tag_found inner levels finds w n bs x fits small is)))))))
+    where
+      P : ℕ → Type 0
+      P major = IsContent levels major w n bs x
 
-  after_first_found : (inner : Option (List ℕ → Reads Item)) (levels : ℕ) → FindsInside m inner levels → (b : ℕ) (bs : List ℕ) (x : Item × List ℕ) → AreBytes (b ∷ bs) → after_first m inner b bs ≡ Ok x → IsItem m levels (b ∷ bs) x
+  after_first_found : (inner : Option (List ℕ → Reads Item)) (levels : ℕ)
+      → FindsInside m inner levels → (b : ℕ) (bs : List ℕ) (x : Item × List ℕ) → AreBytes (b ∷ bs)
+      → after_first m inner b bs ≡ Ok x → IsItem m levels (b ∷ bs) x
   unfolding after_first
   after_first_found inner levels finds b bs x fits is =
       let rest_fits = AreBytes-rest b bs fits in
@@ -628,7 +692,8 @@ module _ {Item Items Pairs : Type 0} (m : Reading Item Items Pairs) (none_fits :
             ]
       ]
 
-  item_found : (inner : Option (List ℕ → Reads Item)) (levels : ℕ) → FindsInside m inner levels → Finds m (item_by m inner) levels
+  item_found : (inner : Option (List ℕ → Reads Item)) (levels : ℕ) → FindsInside m inner levels
+      → Finds m (item_by m inner) levels
   unfolding item_by byte_at
   item_found inner levels finds [] x fits is = not_ok ended x is
   item_found inner levels finds (b ∷ bs) x fits is = after_first_found inner levels finds b bs x fits is

@@ -1,13 +1,20 @@
 -- Steps of reading: bytes, numbers, and the number behind a first byte.
-use Rattle.std.proofs.Common.{◌≡◌, ℕ, suc, ◌+◌, ◌*◌, ◌/◌, ◌%◌, ◌^◌, ◌<◌, ◌≤◌, Bool, true, false, cond, ltb, eqb, List, [], ◌∷◌, ◌++◌, length, take, drop, Result, Ok, Err, refl, sym, ap, subst, ◌∙◌, arith, inl, inr, ◌⊎◌}
+use Rattle.std.proofs.Common.{◌≡◌, ℕ, suc, ◌+◌, ◌*◌, ◌/◌, ◌%◌, ◌^◌, ◌<◌, ◌≤◌, Bool, true, false}
+use Rattle.std.proofs.Common.{cond, ltb, eqb, List, [], ◌∷◌, ◌++◌, length, take, drop, Result, Ok}
+use Rattle.std.proofs.Common.{Err, refl, sym, ap, subst, ◌∙◌, arith, inl, inr, ◌⊎◌}
 use Rattle.std.specs.Int.{Width, w8, w16, w32, w64, byte_len, from_be_bytes, to_be_bytes}
 use Rattle.std.proofs.lemmas.Bool.{cases_lt, ltb-false, ltb-true, le-ltb, lt-ltb, eqb-true}
-use Rattle.std.proofs.lemmas.List.{take_at, drop_at, take-append-drop, length-append, length-take, get_or-drop, get_or-take, get_or_past}
-use Rattle.std.proofs.lemmas.Nat.{be_bytes_2, be_bytes_4, be_bytes_8, from_be_bytes-to_be_bytes_2, from_be_bytes-to_be_bytes_4, from_be_bytes-to_be_bytes_8}
-use Rattle.cbor_model.specs.Head.{HeadWidth, no_bytes, one_byte, two_bytes, four_bytes, eight_bytes, limit, info, behind}
+use Rattle.std.proofs.lemmas.Bool.{eqb-false}
+use Rattle.std.proofs.lemmas.List.{take_at, drop_at, take-append-drop, length-append, length-take}
+use Rattle.std.proofs.lemmas.List.{get_or-drop, get_or-take, get_or_past}
+use Rattle.std.proofs.lemmas.Nat.{be_bytes_2, be_bytes_4, be_bytes_8, from_be_bytes-to_be_bytes_2}
+use Rattle.std.proofs.lemmas.Nat.{from_be_bytes-to_be_bytes_4, from_be_bytes-to_be_bytes_8}
+use Rattle.cbor_model.specs.Head.{HeadWidth, no_bytes, one_byte, two_bytes, four_bytes, eight_bytes}
+use Rattle.cbor_model.specs.Head.{limit, info, behind}
 use Rattle.cbor_model.specs.Raw.{AreBytes}
 use Rattle.cbor_model.specs.Refusal.{unassigned_code}
-use Rattle.cbor_model.specs.Reader.{Fault, ◌>>=◌, ended, before, bytes_at, number_at, width_of, number_behind}
+use Rattle.cbor_model.specs.Reader.{Fault, ◌>>=◌, ended, before, bytes_at, number_at, width_of}
+use Rattle.cbor_model.specs.Reader.{number_behind}
 
 pub AreBytes-drop : (n : ℕ) (bs : List ℕ) → AreBytes bs → AreBytes (drop n bs)
 AreBytes-drop n bs h i = rw get_or-drop (h (n + i))
@@ -25,14 +32,25 @@ AreBytes-rest b bs h i = h (suc i)
 -- ---- results
 
 -- the value of a step that did not fail
-pub bind_ok : {A B : Type 0} (r : Result A Fault) (f : A → Result B Fault) (y : B) → (r >>= f) ≡ Ok y → (x : A) × (r ≡ Ok x) × (f x ≡ Ok y)
+pub bind_ok : {A B : Type 0} (r : Result A Fault) (f : A → Result B Fault) (y : B)
+    → (r >>= f) ≡ Ok y → (x : A) × (r ≡ Ok x) × (f x ≡ Ok y)
 bind_ok (Ok x) f y e = (x, refl, e)
 bind_ok (Err d) f y e = absurd cc
 
 -- which way a test went
-pub chosen : {A : Type 0} (b : Bool) (x y z : A) → cond b x y ≡ z → ((b ≡ true) × (x ≡ z)) ⊎ ((b ≡ false) × (y ≡ z))
+pub chosen : {A : Type 0} (b : Bool) (x y z : A) → cond b x y ≡ z
+    → ((b ≡ true) × (x ≡ z)) ⊎ ((b ≡ false) × (y ≡ z))
 chosen true x y z e = inl (refl, e)
 chosen false x y z e = inr (refl, e)
+
+-- what holds at k where the first is done, and else where the other is, holds at the number
+pub at_number : {A : Type 0} (P : ℕ → Type 0) (n k : ℕ) (x y z : A) → cond (eqb n k) x y ≡ z
+    → (x ≡ z → P k) → ((n ≡ k → ⊥) → y ≡ z → P n) → P n
+at_number P n k x y z e at_k other =
+    elim (chosen (eqb n k) x y z e) [
+      | inl is ↦ subst P (sym (eqb-true n k is.0)) (at_k is.1)
+      | inr not ↦ other (eqb-false n k not.0) not.1
+    ]
 
 abbrev pub done : {A : Type 0} → A → Result A Fault
 done x = Ok x
@@ -56,7 +74,8 @@ pub record AreTaken (n : ℕ) (bs : List ℕ) (x : List ℕ × List ℕ) : Type 
   pub fits : AreBytes x.0
   pub rest_fits : AreBytes x.1
 
-pub bytes_found : (n : ℕ) (bs : List ℕ) (x : List ℕ × List ℕ) → AreBytes bs → bytes_at n bs ≡ Ok x → AreTaken n bs x
+pub bytes_found : (n : ℕ) (bs : List ℕ) (x : List ℕ × List ℕ) → AreBytes bs → bytes_at n bs ≡ Ok x
+    → AreTaken n bs x
 bytes_found n bs x fits e =
     elim (chosen (ltb (length bs) n) (Err ended) (Ok (take n bs, drop n bs)) (Ok x) e) [
       | inl too_few ↦ not_ok ended x too_few.1
@@ -80,7 +99,8 @@ bytes_again b rest =
 -- numbers below the bound are the bytes of this width, to and fro
 pub record IsWide (w : Width) (bound : ℕ) : Type 0 where
   pub len : (n : ℕ) → length (to_be_bytes w n) ≡ byte_len w
-  pub back : (bs : List ℕ) → length bs ≡ byte_len w → AreBytes bs → to_be_bytes w (from_be_bytes w bs) ≡ bs
+  pub back : (bs : List ℕ) → length bs ≡ byte_len w → AreBytes bs
+      → to_be_bytes w (from_be_bytes w bs) ≡ bs
   pub again : (n : ℕ) → n < bound → from_be_bytes w (to_be_bytes w n) ≡ n
   pub below : (bs : List ℕ) → AreBytes bs → from_be_bytes w bs < bound
 
@@ -127,7 +147,8 @@ pub record IsTaken (w : Width) (bound : ℕ) (bs : List ℕ) (x : ℕ × List �
   pub fits : x.0 < bound
   pub rest_fits : AreBytes x.1
 
-pub number_found : (w : Width) (bound : ℕ) → IsWide w bound → (bs : List ℕ) (x : ℕ × List ℕ) → AreBytes bs → number_at w bs ≡ Ok x → IsTaken w bound bs x
+pub number_found : (w : Width) (bound : ℕ) → IsWide w bound → (bs : List ℕ) (x : ℕ × List ℕ)
+    → AreBytes bs → number_at w bs ≡ Ok x → IsTaken w bound bs x
 number_found w bound wide bs x fits is =
     elim (chosen (ltb (length bs) (byte_len w)) (Err ended) (Ok (from_be_bytes w (take (byte_len w) bs), drop (byte_len w) bs)) (Ok x) is) [
       | inl too_few ↦ not_ok ended x too_few.1
@@ -141,7 +162,8 @@ number_found w bound wide bs x fits is =
           })
     ]
 
-pub number_again : (w : Width) (bound : ℕ) → IsWide w bound → (n : ℕ) (rest : List ℕ) → n < bound → number_at w (to_be_bytes w n ++ rest) ≡ Ok (n, rest)
+pub number_again : (w : Width) (bound : ℕ) → IsWide w bound → (n : ℕ) (rest : List ℕ) → n < bound
+    → number_at w (to_be_bytes w n ++ rest) ≡ Ok (n, rest)
 number_again w bound wide n rest lt =
     let len = wide.len n in
     let long : ltb (length (to_be_bytes w n ++ rest)) (byte_len w) ≡ false = le-ltb _ _ (omega (arith, length-append (to_be_bytes w n) rest)) in
@@ -171,46 +193,45 @@ width_of-info four_bytes n lt = refl
 width_of-info eight_bytes n lt = refl
 
 -- a number of one width
-wide_behind : (h : HeadWidth) (w : Width) (low : ℕ) → IsWide w (limit h) → ((n : ℕ) → behind h n ≡ to_be_bytes w n) → ((n : ℕ) → low ≡ info h n) → (bs : List ℕ) (x : ℕ × List ℕ) → AreBytes bs → number_at w bs ≡ Ok x → IsBehind h low bs x
+wide_behind : (h : HeadWidth) (w : Width) (low : ℕ) → IsWide w (limit h)
+    → ((n : ℕ) → behind h n ≡ to_be_bytes w n) → ((n : ℕ) → low ≡ info h n)
+    → (bs : List ℕ) (x : ℕ × List ℕ) → AreBytes bs → number_at w bs ≡ Ok x → IsBehind h low bs x
 wide_behind h w low wide same low_is bs x fits is =
     let got = number_found w (limit h) wide bs x fits is in
-    record { is_low = low_is x.0; parts = got.parts ∙ ap (λ (t : List ℕ). t ++ x.1) (sym (same x.0)); fits = got.fits; rest_fits = got.rest_fits }
+    record {
+      is_low = low_is x.0;
+      parts = got.parts ∙ ap (λ (t : List ℕ). t ++ x.1) (sym (same x.0));
+      fits = got.fits;
+      rest_fits = got.rest_fits;
+    }
 
-pub number_behind_found : (low : ℕ) (bs : List ℕ) (x : ℕ × List ℕ) → AreBytes bs → number_behind low bs ≡ Ok x → IsBehind (width_of low) low bs x
+pub number_behind_found : (low : ℕ) (bs : List ℕ) (x : ℕ × List ℕ)
+    → AreBytes bs → number_behind low bs ≡ Ok x → IsBehind (width_of low) low bs x
 unfolding number_behind
 number_behind_found low bs x fits is =
     elim (chosen (ltb low 24) _ _ _ is) [
       | inl small ↦
           let lt : low < 24 = ltb-true _ _ small.0 in
-          subst (λ (w : HeadWidth). IsBehind w low bs x) (sym (width_of-info no_bytes low lt)) (read_as (IsBehind no_bytes low bs) (low, bs) x small.1 (record { is_low = refl; parts = refl; fits = lt; rest_fits = fits }))
+          subst (λ (w : HeadWidth). IsBehind w low bs x) (sym (width_of-info no_bytes low lt))
+          (read_as (IsBehind no_bytes low bs) (low, bs) x small.1
+          (record { is_low = refl; parts = refl; fits = lt; rest_fits = fits }))
       | inr more ↦
-          elim (chosen (eqb low 24) _ _ _ more.1) [
-            | inl this ↦
-                let low_is : low ≡ 24 = eqb-true _ _ this.0 in
-                subst (λ (w : HeadWidth). IsBehind w low bs x) (sym (ap width_of low_is)) (wide_behind one_byte w8 low wide8 (λ n. refl) (λ n. low_is) bs x fits this.1)
-            | inr more ↦
-                elim (chosen (eqb low 25) _ _ _ more.1) [
-                  | inl this ↦
-                      let low_is : low ≡ 25 = eqb-true _ _ this.0 in
-                      subst (λ (w : HeadWidth). IsBehind w low bs x) (sym (ap width_of low_is)) (wide_behind two_bytes w16 low wide16 (λ n. refl) (λ n. low_is) bs x fits this.1)
-                  | inr more ↦
-                      elim (chosen (eqb low 26) _ _ _ more.1) [
-                        | inl this ↦
-                            let low_is : low ≡ 26 = eqb-true _ _ this.0 in
-                            subst (λ (w : HeadWidth). IsBehind w low bs x) (sym (ap width_of low_is)) (wide_behind four_bytes w32 low wide32 (λ n. refl) (λ n. low_is) bs x fits this.1)
-                        | inr more ↦
-                            elim (chosen (eqb low 27) _ _ _ more.1) [
-                              | inl this ↦
-                                  let low_is : low ≡ 27 = eqb-true _ _ this.0 in
-                                  subst (λ (w : HeadWidth). IsBehind w low bs x) (sym (ap width_of low_is)) (wide_behind eight_bytes w64 low wide64 (λ n. refl) (λ n. low_is) bs x fits this.1)
-                              | inr none ↦ not_ok (before unassigned_code bs) x none.1
-                            ]
-                      ]
-                ]
-          ]
+          at_number P low 24 _ _ _ more.1
+          (wide_behind one_byte w8 24 wide8 (λ n. refl) (λ n. refl) bs x fits) (λ not_24 more.
+          at_number P low 25 _ _ _ more
+          (wide_behind two_bytes w16 25 wide16 (λ n. refl) (λ n. refl) bs x fits) (λ not_25 more.
+          at_number P low 26 _ _ _ more
+          (wide_behind four_bytes w32 26 wide32 (λ n. refl) (λ n. refl) bs x fits) (λ not_26 more.
+          at_number P low 27 _ _ _ more
+          (wide_behind eight_bytes w64 27 wide64 (λ n. refl) (λ n. refl) bs x fits)
+          (λ not_27 none. not_ok (before unassigned_code bs) x none))))
     ]
+  where
+    P : ℕ → Type 0
+    P low = IsBehind (width_of low) low bs x
 
-pub number_behind_again : (w : HeadWidth) (n : ℕ) (rest : List ℕ) → n < limit w → number_behind (info w n) (behind w n ++ rest) ≡ Ok (n, rest)
+pub number_behind_again : (w : HeadWidth) (n : ℕ) (rest : List ℕ) → n < limit w
+    → number_behind (info w n) (behind w n ++ rest) ≡ Ok (n, rest)
 unfolding number_behind
 number_behind_again no_bytes n rest lt = rw (lt-ltb n 24 lt) refl
 number_behind_again one_byte n rest lt = number_again w8 (2 ^ 8) wide8 n rest lt
