@@ -1,5 +1,5 @@
 -- The value of an acceptable item is ordered, and its canonical item is acceptable.
-use Rattle.std.proofs.Common.{◌≡◌, ℕ, zero, suc, ◌+◌, ◌^◌, ◌<◌, ◌≤◌, Bool, true, false, cond, List, [], ◌∷◌, ◌++◌, length, IsUtf8, refl, arith}
+use Rattle.std.proofs.Common.{◌≡◌, ℕ, suc, ◌+◌, ◌^◌, ◌<◌, ◌≤◌, Bool, true, false, cond, List, [], ◌∷◌, ◌++◌, length, IsUtf8, refl, arith}
 use Rattle.std.specs.Prelude.{flat_map, nat_lt}
 use Rattle.std.specs.List.{AllByRecursion}
 use Rattle.std.proofs.lemmas.Bool.{ltb-true}
@@ -14,6 +14,7 @@ use Rattle.cbor_model.specs.Order.{val_cmp}
 use Rattle.cbor_model.specs.Value.{value, values, pairs, put, simple_value}
 use Rattle.cbor_model.specs.Canonical.{IsStorable, IsOrdered, AreOrdered, ArePairsOrdered, canonical, canonical_all, canonical_pairs}
 use Rattle.cbor_model.proofs.Again.{count-le, pair_count-le}
+use Rattle.cbor_model.proofs.Bytes.{AreBytes-append}
 use Rattle.cbor_model.proofs.Storable.{limit-le, storable}
 use Rattle.cbor_model.proofs.Pairs.{by_order-cases, IsOrdered-put}
 
@@ -151,11 +152,6 @@ module _ (n : ℕ) where
 
 fits_least : (w : HeadWidth) (n : ℕ) → n < limit w → n < limit (least n)
 fits_least w n fits = lt-limit-least n (omega (arith, limit-le w))
-
-AreBytes-append : (a b : List ℕ) → AreBytes a → AreBytes b → AreBytes (a ++ b)
-AreBytes-append [] b fits others i = others i
-AreBytes-append (x ∷ a) b fits others zero = fits 0
-AreBytes-append (x ∷ a) b fits others (suc i) = AreBytes-append a b (λ j. fits (suc j)) others i
 
 joined_bytes : (cs : List Chunk) → AllByRecursion IsChunk cs → AreBytes (joined cs)
 joined_bytes [] fits = λ i. omega arith

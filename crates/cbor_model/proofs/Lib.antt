@@ -4,6 +4,7 @@ pub mod Taken
 pub mod Fuel
 pub mod Found
 pub mod Again
+pub mod Bytes
 pub mod Texts
 pub mod Whole
 pub mod Storable

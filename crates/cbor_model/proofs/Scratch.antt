@@ -1,5 +1,6 @@
 -- What a scratch changes.
-use Rattle.std.proofs.Common.{◌≡◌, ℕ, ◌^◌, ◌<◌, ◌≤◌, List, [], ◌++◌, length, Ok, Some, None, refl}
+use Rattle.std.proofs.Common.{subst, ◌≡◌, ℕ, ◌^◌, ◌<◌, ◌≤◌, List, [], ◌++◌, length, Ok, Some, None}
+use Rattle.std.proofs.Common.{refl}
 use Rattle.std.proofs.Common.{sym, ap, ◌∙◌, arith, inl, inr}
 use Rattle.std.proofs.lemmas.List.{append-nil}
 use Rattle.cbor_model.specs.Raw.{AreBytes, longest_joined}
@@ -9,6 +10,7 @@ use Rattle.cbor_model.specs.Plain.{Val}
 use Rattle.cbor_model.specs.Reader.{values_in, values_within, item_at, read_value, read_value_in}
 use Rattle.cbor_model.specs.Laws.{SpellsValue, IsScratchTooSmall}
 use Rattle.cbor_model.proofs.Agrees.{Agrees, agrees_bind, item_agrees}
+use Rattle.cbor_model.proofs.Bytes.{spelled_bytes}
 use Rattle.cbor_model.proofs.Apart.{one_spelling}
 use Rattle.cbor_model.proofs.Whole.{found_fits, read_whole}
 
@@ -23,9 +25,10 @@ same_with_scratch room bs =
     (λ x. inl refl)
 
 -- what was read with a scratch fits it
-read_fits : (room : ℕ) (bs : List ℕ) (v : Val) → AreBytes bs → (spelt : SpellsValue bs v)
+read_fits : (room : ℕ) (bs : List ℕ) (v : Val) (spelt : SpellsValue bs v)
     → read_value_in (Some room) bs ≡ Ok v → longest_joined spelt.item ≤ room
-read_fits room bs v fits spelt read =
+read_fits room bs v spelt read =
+    let fits = subst AreBytes spelt.spelled (spelled_bytes spelt.item spelt.acceptable.fits) in
     let found = found_fits (Some room) bs v fits read in
     let r = found.0.item in
     let same : spell r ++ [] ≡ spell spelt.item =
@@ -33,11 +36,11 @@ read_fits room bs v fits spelt read =
     let one = one_spelling r spelt.item [] found.0.acceptable.fits spelt.acceptable.fits same in
     omega (arith, found.1, ap longest_joined one.0)
 
-pub scratch_need : (room : ℕ) (bs : List ℕ) (v : Val) → AreBytes bs → length bs < 2 ^ 64
+pub scratch_need : (room : ℕ) (bs : List ℕ) (v : Val) → length bs < 2 ^ 64
     → (spelt : SpellsValue bs v)
     → (longest_joined spelt.item ≤ room → read_value_in (Some room) bs ≡ Ok v)
     × (room < longest_joined spelt.item → IsScratchTooSmall (read_value_in (Some room) bs))
-scratch_need room bs v fits short spelt =
+scratch_need room bs v short spelt =
     (λ enough. read_whole (Some room) bs v short spelt enough, too_small)
   where
     too_small : room < longest_joined spelt.item → IsScratchTooSmall (read_value_in (Some room) bs)
@@ -46,5 +49,5 @@ scratch_need room bs v fits short spelt =
           | inr small ↦ small
           | inl same ↦
               let read = same ∙ read_whole None bs v short spelt tt in
-              absurd (omega (arith, less, read_fits room bs v fits spelt read))
+              absurd (omega (arith, less, read_fits room bs v spelt read))
         ]

@@ -41,11 +41,11 @@ SameWithScratch = (room : ℕ) (bytes : List ℕ)
     → (read_value_in (Some room) bytes ≡ read_value bytes)
     ⊎ IsScratchTooSmall (read_value_in (Some room) bytes)
 
--- The scratch's need is exact: an acceptable item is read where the scratch is at least as long as the
--- longest of its strings in chunks, and where it is shorter the scratch is too small.
+-- The scratch's need is exact: an acceptable item is read where the scratch is at least as long as
+-- the longest of its strings in chunks, and where it is shorter the scratch is too small.
 abbrev pub ScratchNeed : Type 0
 ScratchNeed = (room : ℕ) (bytes : List ℕ) (v : Val)
-    → AreBytes bytes → length bytes < 2 ^ 64 → (spelt : SpellsValue bytes v)
+    → length bytes < 2 ^ 64 → (spelt : SpellsValue bytes v)
     → (longest_joined spelt.item ≤ room → read_value_in (Some room) bytes ≡ Ok v)
     × (room < longest_joined spelt.item → IsScratchTooSmall (read_value_in (Some room) bytes))
 
