@@ -22,7 +22,7 @@ abbrev trailing : Val × List ℕ → Fault
 trailing x = record { why = trailing_data; left = length x.1 - 1 }
 
 -- no chunks fit each scratch
-none_fits : (most : Option ℕ) → exceeds_most most 0 ≡ false
+pub none_fits : (most : Option ℕ) → exceeds_most most 0 ≡ false
 none_fits None = refl
 none_fits (Some most) = le-ltb most 0 (omega arith)
 
@@ -70,12 +70,12 @@ found_whole most bs v fits is = (found_fits most bs v fits is).0
 has_room : (total : ℕ) (most : Option ℕ) → total < 2 ^ 64 → HasRoom (values_in total most) total
 has_room total most short left n fits within = lt-ltb _ _ (omega arith)
 
-grows : (most : Option ℕ) → Grows (exceeds_most most)
+pub grows : (most : Option ℕ) → Grows (exceeds_most most)
 grows None a b few holds = refl
 grows (Some most) a b few holds = le-ltb most a (omega (arith, few, ltb-false most b holds))
 
 -- chunks that fit are joined
-fits_joins : (room : Option ℕ) (r : Raw) → FitsScratch room r
+pub fits_joins : (room : Option ℕ) (r : Raw) → FitsScratch room r
     → exceeds_most room (longest_joined r) ≡ false
 fits_joins None r fits = refl
 fits_joins (Some most) r fits = le-ltb most (longest_joined r) fits
