@@ -123,7 +123,8 @@ module _ {Item Items Pairs : Type 0} (m : Reading Item Items Pairs) where
   abbrev unlimited : Reading Item Items Pairs
   unlimited = record m { exceeds = none_exceeds }
 
-  string_chunks_agree : (bs : List ℕ) → Agrees (string_chunks_at m bs) (string_chunks_at unlimited bs)
+  string_chunks_agree : (bs : List ℕ)
+      → Agrees (string_chunks_at m bs) (string_chunks_at unlimited bs)
   unfolding string_chunks_at
   string_chunks_agree bs =
       agrees_bind (chunks_at m.exceeds 0 2 bs) (chunks_at none_exceeds 0 2 bs) _ _
@@ -220,8 +221,10 @@ module _ {Item Items Pairs : Type 0} (m : Reading Item Items Pairs) where
     unfolding item_by
     item_by_agrees bs = agrees_then (byte_at bs) _ _ (λ b. after_first_agrees b.0 b.1)
 
-  pub item_agrees : (levels : ℕ) (bs : List ℕ) → Agrees (item_at m levels bs) (item_at unlimited levels bs)
+  pub item_agrees : (levels : ℕ) (bs : List ℕ)
+      → Agrees (item_at m levels bs) (item_at unlimited levels bs)
   unfolding item_at
   item_agrees zero = item_by_agrees None None tt
   item_agrees (suc levels) =
-      item_by_agrees (Some (item_at m levels)) (Some (item_at unlimited levels)) (item_agrees levels)
+      let p = item_at m levels in
+      item_by_agrees (Some p) (Some (item_at unlimited levels)) (item_agrees levels)

@@ -15,8 +15,8 @@ max_depth = 127
 abbrev pub IsAcceptable : Raw → Type 0
 IsAcceptable = IsAcceptableWithin max_depth
 
--- The longest of the item's strings in chunks, joined, fits a scratch of this length; any does where
--- there is no such limit.
+-- The longest of the item's strings in chunks, joined, fits a scratch of this length; any does
+-- where there is no such limit.
 abbrev pub FitsScratch : Option ℕ → Raw → Type 0
 FitsScratch None r = Unit {0}
 FitsScratch (Some room) r = longest_joined r ≤ room

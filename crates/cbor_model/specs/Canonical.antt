@@ -1,11 +1,14 @@
 -- Which values are storable and ordered, and the one canonical spelling of a value.
-use Rattle.std.specs.Prelude.{◌≡◌, ℕ, ◌^◌, ◌<◌, List, [], ◌∷◌, length, Bool, true, false, ℤ, pos, negsuc, refl}
+use Rattle.std.specs.Prelude.{◌≡◌, ℕ, ◌^◌, ◌<◌, List, [], ◌∷◌, length, Bool, true, false, ℤ, pos}
+use Rattle.std.specs.Prelude.{negsuc, refl}
 use Rattle.std.specs.declared.cmp.Ordering.TheVariants.{Less}
 use Rattle.cbor_model.specs.Head.{least}
 use Rattle.cbor_model.specs.Raw as raw
-use Rattle.cbor_model.specs.Raw.{Raw, Raws, no_raws, RawPairs, no_raw_pairs, raw_pair, Simple, false_item, true_item, null_item, half, Chunk}
+use Rattle.cbor_model.specs.Raw.{Raw, Raws, no_raws, RawPairs, no_raw_pairs, raw_pair, Simple}
+use Rattle.cbor_model.specs.Raw.{false_item, true_item, null_item, half, Chunk}
 use Rattle.cbor_model.specs.Spelling.{spell}
-use Rattle.cbor_model.specs.Plain.{Val, null, bool, integer, float, bytes, text, array, map, tag, Vals, no_vals, val, Pairs, no_pairs, pair}
+use Rattle.cbor_model.specs.Plain.{Val, null, bool, integer, float, bytes, text, array, map, tag}
+use Rattle.cbor_model.specs.Plain.{Vals, no_vals, val, Pairs, no_pairs, pair}
 use Rattle.cbor_model.specs.Order.{val_cmp}
 
 -- from -2^64 to 2^64 - 1
@@ -68,7 +71,8 @@ abbrev pub canonical_integer : ℤ → Raw
 canonical_integer (pos n) = raw.unsigned (least n) n
 canonical_integer (negsuc n) = raw.negative (least n) n
 
--- The canonical item: definite lengths, least widths, a map's pairs as listed, floats in their width.
+-- The canonical item: definite lengths, least widths, a map's pairs as listed, floats in their
+-- width.
 unfoldable mutual
   pub canonical : Val → Raw
   canonical null = raw.simple null_item
@@ -77,8 +81,10 @@ unfoldable mutual
   canonical (float w bits) = raw.float w bits
   canonical (bytes b) = raw.bytes (chunk_of b)
   canonical (text b) = raw.text (chunk_of b)
-  canonical (array vs) = raw.array (raw.definite (least (raw.count (canonical_all vs)))) (canonical_all vs)
-  canonical (map ps) = raw.map (raw.definite (least (raw.pair_count (canonical_pairs ps)))) (canonical_pairs ps)
+  canonical (array vs) =
+      raw.array (raw.definite (least (raw.count (canonical_all vs)))) (canonical_all vs)
+  canonical (map ps) =
+      raw.map (raw.definite (least (raw.pair_count (canonical_pairs ps)))) (canonical_pairs ps)
   canonical (tag n v) = raw.tag (least n) n (canonical v)
 
   pub canonical_all : Vals → Raws
@@ -100,12 +106,14 @@ unfolding canon canonical spell
 thousand = refl
 
 -- -2^64
-least_integer : canon (integer (negsuc (0xffff_ffff_ffff_ffff))) ≡ 0x3b ∷ 0xff ∷ 0xff ∷ 0xff ∷ 0xff ∷ 0xff ∷ 0xff ∷ 0xff ∷ 0xff ∷ []
+least_integer : canon (integer (negsuc (0xffff_ffff_ffff_ffff)))
+    ≡ 0x3b ∷ 0xff ∷ 0xff ∷ 0xff ∷ 0xff ∷ 0xff ∷ 0xff ∷ 0xff ∷ 0xff ∷ []
 unfolding canon canonical spell
 least_integer = refl
 
 -- [1, {2: null}]
-nested : canon (array (val (integer (pos 1)) (val (map (pair (integer (pos 2)) null no_pairs)) no_vals)))
+nested : canon (array
+    (val (integer (pos 1)) (val (map (pair (integer (pos 2)) null no_pairs)) no_vals)))
     ≡ 0x82 ∷ 0x01 ∷ 0xa1 ∷ 0x02 ∷ 0xf6 ∷ []
 unfolding canon canonical spell
 nested = refl

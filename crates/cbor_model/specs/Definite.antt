@@ -1,7 +1,9 @@
--- Items of definite lengths at each level (RFC 7049, section 2.2, has the indefinite ones, chunked strings
--- among them).
+-- Items of definite lengths at each level (RFC 7049, section 2.2, has the indefinite ones, chunked
+-- strings among them).
 use Rattle.cbor_model.specs.Head.{no_bytes, one_byte}
-use Rattle.cbor_model.specs.Raw.{Length, definite, indefinite, Raw, bytes_chunks, text_chunks, array, map, tag, unsigned, Raws, no_raws, raw, RawPairs, no_raw_pairs, raw_pair}
+use Rattle.cbor_model.specs.Raw.{Length, definite, indefinite, Raw, bytes_chunks, text_chunks}
+use Rattle.cbor_model.specs.Raw.{array, map, tag, unsigned, Raws, no_raws, raw, RawPairs}
+use Rattle.cbor_model.specs.Raw.{no_raw_pairs, raw_pair}
 
 -- a count precedes the items
 abbrev pub IsCounted : Length → Type 0

@@ -3,7 +3,8 @@
 use Rattle.std.specs.Prelude.{◌^◌, ◌<◌, length, pos}
 use Rattle.std.proofs.Common.{lit<}
 use Rattle.cbor_model.specs.Raw.{half, float_limit}
-use Rattle.cbor_model.specs.Plain.{Val, integer, float, bytes, text, array, map, tag, Vals, no_vals, val, Pairs, no_pairs, pair, count, pair_count}
+use Rattle.cbor_model.specs.Plain.{Val, integer, float, bytes, text, array, map, tag, Vals, no_vals}
+use Rattle.cbor_model.specs.Plain.{val, Pairs, no_pairs, pair, count, pair_count}
 
 -- Lengths, counts and tag numbers are below 2^64, and a float's bits fit its width.
 abbrev mutual

@@ -24,11 +24,14 @@ pub record SpellsValue (bytes : List ℕ) (v : Val) : Type 0 where
 
 -- What the reference reader reads, with a scratch of some length or none, is spelled so.
 abbrev pub ReaderFinds : Type 0
-ReaderFinds = (room : Option ℕ) (bytes : List ℕ) (v : Val) → AreBytes bytes → read_value_in room bytes ≡ Ok v → SpellsValue bytes v
+ReaderFinds = (room : Option ℕ) (bytes : List ℕ) (v : Val)
+    → AreBytes bytes → read_value_in room bytes ≡ Ok v → SpellsValue bytes v
 
 -- What is spelled so, the reference reader reads, with a scratch that its chunks fit.
 abbrev pub ReaderAccepts : Type 0
-ReaderAccepts = (room : Option ℕ) (bytes : List ℕ) (v : Val) → length bytes < 2 ^ 64 → (spelt : SpellsValue bytes v) → FitsScratch room spelt.item → read_value_in room bytes ≡ Ok v
+ReaderAccepts = (room : Option ℕ) (bytes : List ℕ) (v : Val)
+    → length bytes < 2 ^ 64 → (spelt : SpellsValue bytes v)
+    → FitsScratch room spelt.item → read_value_in room bytes ≡ Ok v
 
 -- refused because chunks don't fit the scratch
 abbrev pub IsScratchTooSmall : {A : Type 0} → Result A Fault → Type 0
@@ -51,7 +54,8 @@ ScratchNeed = (room : ℕ) (bytes : List ℕ) (v : Val)
 
 -- No well-formed item's spelling begins another's, and equal spellings are equal items.
 abbrev pub OneSpelling : Type 0
-OneSpelling = (r s : Raw) (more : List ℕ) → IsWellFormed r → IsWellFormed s → spell r ++ more ≡ spell s → (r ≡ s) × (more ≡ [])
+OneSpelling = (r s : Raw) (more : List ℕ)
+    → IsWellFormed r → IsWellFormed s → spell r ++ more ≡ spell s → (r ≡ s) × (more ≡ [])
 
 -- The value of a well-formed item is storable.
 abbrev pub ValueIsStorable : Type 0
@@ -77,19 +81,24 @@ OneFlat = (a b : Val) → flat a ≡ flat b → a ≡ b
 
 -- Of what is read, the canonical spelling is read as the same value again.
 abbrev pub NormalisedOnce : Type 0
-NormalisedOnce = (bytes : List ℕ) (v : Val) → length bytes < 2 ^ 64 → SpellsValue bytes v → SpellsValue (canon v) v
+NormalisedOnce = (bytes : List ℕ) (v : Val)
+    → length bytes < 2 ^ 64 → SpellsValue bytes v → SpellsValue (canon v) v
 
 -- Storable values in range with equal canonical spellings are equal.
 abbrev pub EqualBytes : Type 0
-EqualBytes = (a b : Val) → IsStorable a → IsStorable b → IsInRange a → IsInRange b → canon a ≡ canon b → a ≡ b
+EqualBytes = (a b : Val)
+    → IsStorable a → IsStorable b → IsInRange a → IsInRange b → canon a ≡ canon b → a ≡ b
 
 -- The order of storable values in range is the byte order of their canonical spellings.
 abbrev pub ByteOrder : Type 0
-ByteOrder = (a b : Val) → IsStorable a → IsStorable b → IsInRange a → IsInRange b → val_cmp a b ≡ lex (canon a) (canon b)
+ByteOrder = (a b : Val)
+    → IsStorable a → IsStorable b → IsInRange a → IsInRange b
+    → val_cmp a b ≡ lex (canon a) (canon b)
 
 -- No well-formed item of definite lengths is spelled shorter than its value's canonical item.
 abbrev pub LeastSpelling : Type 0
-LeastSpelling = (v : Val) (r : Raw) → IsWellFormed r → IsDefinite r → v ≡ value r → length (canon v) ≤ length (spell r)
+LeastSpelling = (v : Val) (r : Raw)
+    → IsWellFormed r → IsDefinite r → v ≡ value r → length (canon v) ≤ length (spell r)
 
 -- The value of a well-formed item, of which the bytes are fewer than 2^64, is in range.
 abbrev pub ValueIsInRange : Type 0

@@ -1,12 +1,14 @@
 -- The order of values (draft-ietf-cbor-7049bis-04, section 4.10): each value has a list of numbers,
 -- and lists are compared at their first difference.
-use Rattle.std.specs.Prelude.{◌≡◌, ℕ, List, [], ◌∷◌, ◌++◌, length, Bool, true, false, ℤ, pos, negsuc, refl}
+use Rattle.std.specs.Prelude.{◌≡◌, ℕ, List, [], ◌∷◌, ◌++◌, length, Bool, true, false, ℤ, pos}
+use Rattle.std.specs.Prelude.{negsuc, refl}
 use Rattle.std.specs.Ordering.{nat_cmp}
 use Rattle.std.specs.declared.cmp.Ordering.{Ordering}
 use Rattle.std.specs.declared.cmp.Ordering.TheVariants.{Less}
 use Rattle.std.specs.Cmp.Lexicographic.{slice_cmp}
 use Rattle.cbor_model.specs.Raw.{FloatWidth, half, single, double}
-use Rattle.cbor_model.specs.Plain.{Val, null, bool, integer, float, bytes, text, array, map, tag, Vals, no_vals, val, Pairs, no_pairs, pair, count, pair_count}
+use Rattle.cbor_model.specs.Plain.{Val, null, bool, integer, float, bytes, text, array, map, tag}
+use Rattle.cbor_model.specs.Plain.{Vals, no_vals, val, Pairs, no_pairs, pair, count, pair_count}
 
 -- Lists of numbers by their first difference, a beginning before what continues it.
 abbrev pub lex : List ℕ → List ℕ → Ordering
@@ -79,6 +81,8 @@ unfolding flat
 nearer_first = refl
 
 -- [100] stands before [0, 0]
-counts_first : val_cmp (array (val (integer (pos 100)) no_vals)) (array (val (integer (pos 0)) (val (integer (pos 0)) no_vals))) ≡ Less
+counts_first : val_cmp (array (val (integer (pos 100)) no_vals))
+    (array (val (integer (pos 0)) (val (integer (pos 0)) no_vals)))
+    ≡ Less
 unfolding flat
 counts_first = refl

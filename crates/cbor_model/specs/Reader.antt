@@ -1,13 +1,19 @@
 -- The reference reader. It is no definition of the format: it goes through the bytes from left to
--- right, as a program does, and says what is read first or what is at fault first. Laws tie it to the
--- definitions: what it reads is spelled so and acceptable, and what is spelled so it reads.
-use Rattle.std.specs.Prelude.{◌≡◌, ℕ, zero, suc, ◌+◌, ◌-◌, ◌/◌, ◌%◌, ◌^◌, Bool, false, List, [], ◌∷◌, length, take, drop, pos, negsuc, Result, Ok, Err, Option, Some, None, nat_lt, ◌==◌, ◌&&◌, if◌then◌else◌, refl}
+-- right, as a program does, and says what is read first or what is at fault first. Laws tie it to
+-- the definitions: what it reads is spelled so and acceptable, and what is spelled so it reads.
+use Rattle.std.specs.Prelude.{◌≡◌, ℕ, zero, suc, ◌+◌, ◌-◌, ◌/◌, ◌%◌, ◌^◌, Bool, false, List, []}
+use Rattle.std.specs.Prelude.{◌∷◌, length, take, drop, pos, negsuc, Result, Ok, Err, Option, Some}
+use Rattle.std.specs.Prelude.{None, nat_lt, ◌==◌, ◌&&◌, if◌then◌else◌, refl}
 use Rattle.std.specs.Int.{Width, w8, w16, w32, w64, byte_len, from_be_bytes}
 use Rattle.std.specs.Str.Lossy.{utf8_valid_len}
 use Rattle.cbor_model.specs.Head.{HeadWidth, no_bytes, one_byte, two_bytes, four_bytes, eight_bytes}
-use Rattle.cbor_model.specs.Raw.{Length, definite, indefinite, Chunk, joined, Simple, false_item, true_item, null_item, undefined_item, FloatWidth, half, single, double}
+use Rattle.cbor_model.specs.Raw.{Length, definite, indefinite, Chunk, joined, Simple, false_item}
+use Rattle.cbor_model.specs.Raw.{true_item, null_item, undefined_item, FloatWidth, half, single}
+use Rattle.cbor_model.specs.Raw.{double}
 use Rattle.cbor_model.specs.Acceptable.{max_depth}
-use Rattle.cbor_model.specs.Refusal.{Refusal, end_in_value, end_in_array, end_in_map, length_out_of_range, invalid_utf8, unassigned_code, unexpected_code, trailing_data, too_deep, scratch_too_small}
+use Rattle.cbor_model.specs.Refusal.{Refusal, end_in_value, end_in_array, end_in_map}
+use Rattle.cbor_model.specs.Refusal.{length_out_of_range, invalid_utf8, unassigned_code}
+use Rattle.cbor_model.specs.Refusal.{unexpected_code, trailing_data, too_deep, scratch_too_small}
 use Rattle.cbor_model.specs.Plain.{Val, Vals, no_vals, val, Pairs, no_pairs}
 use Rattle.cbor_model.specs.Plain as plain
 use Rattle.cbor_model.specs.Value.{simple_value, put}
@@ -26,8 +32,8 @@ abbrev pub ◌>>=◌ : {A B : Type 0} → Result A Fault → (A → Result B Fau
 (Ok x) >>= f = f x
 (Err e) >>= f = Err e
 
--- What is made of the parts that are read, which texts are let pass, and how many bytes of chunks are
--- joined.
+-- What is made of the parts that are read, which texts are let pass, and how many bytes of chunks
+-- are joined.
 pub record Reading (Item Items Pairs : Type 0) : Type 0 where
   pub unsigned : HeadWidth → ℕ → Item
   pub negative : HeadWidth → ℕ → Item
@@ -55,8 +61,9 @@ abbrev pub exceeds_most : Option ℕ → ℕ → Bool
 exceeds_most None n = false
 exceeds_most (Some most) n = nat_lt most n
 
--- Values, in an input of this length, where so many bytes of chunks can be joined: a definite text ends
--- before 2^64, and each text is UTF-8. Of pairs it makes what they make of the pairs before them.
+-- Values, in an input of this length, where so many bytes of chunks can be joined: a definite text
+-- ends before 2^64, and each text is UTF-8. Of pairs it makes what they make of the pairs before
+-- them.
 abbrev pub values_in : ℕ → Option ℕ → Reading Val Vals (Pairs → Pairs)
 values_in total most = record {
   unsigned = λ w n. plain.integer (pos n);
@@ -100,7 +107,9 @@ bytes_at n bs = if nat_lt (length bs) n then Err ended else Ok (take n bs, drop 
 
 -- a number, the most significant byte first
 abbrev pub number_at : Width → List ℕ → Reads ℕ
-number_at w bs = if nat_lt (length bs) (byte_len w) then Err ended else Ok (from_be_bytes w (take (byte_len w) bs), drop (byte_len w) bs)
+number_at w bs =
+    if nat_lt (length bs) (byte_len w) then Err ended
+    else Ok (from_be_bytes w (take (byte_len w) bs), drop (byte_len w) bs)
 
 -- the width that the lower five bits of a first byte say, which are below 28
 abbrev pub width_of : ℕ → HeadWidth
@@ -122,7 +131,8 @@ number_behind low bs =
     else Err (before unassigned_code bs)))))
 
 -- a float of that width, of which number_at reads the bits
-unfoldable pub float_at : {Item Items Pairs : Type 0} → Reading Item Items Pairs → ℕ → List ℕ → Reads Item
+unfoldable pub float_at : {Item Items Pairs : Type 0} → Reading Item Items Pairs → ℕ → List ℕ
+    → Reads Item
 float_at m low bs =
     if low == 25 then number_at w16 bs >>= (λ n. Ok (m.float half n.0, n.1))
     else (if low == 26 then number_at w32 bs >>= (λ n. Ok (m.float single n.0, n.1))
@@ -130,7 +140,8 @@ float_at m low bs =
     else Err (before (if low == 31 then unexpected_code else unassigned_code) bs)))
 
 -- what follows a first byte of major type 7
-unfoldable pub simple_at : {Item Items Pairs : Type 0} → Reading Item Items Pairs → ℕ → List ℕ → Reads Item
+unfoldable pub simple_at : {Item Items Pairs : Type 0} → Reading Item Items Pairs → ℕ → List ℕ
+    → Reads Item
 simple_at m low bs =
     if low == 20 then Ok (m.simple false_item, bs)
     else (if low == 21 then Ok (m.simple true_item, bs)
@@ -138,20 +149,24 @@ simple_at m low bs =
     else (if low == 23 then Ok (m.simple undefined_item, bs)
     else float_at m low bs)))
 
-unfoldable pub string_at : {Item Items Pairs : Type 0} → Reading Item Items Pairs → HeadWidth → ℕ → List ℕ → Reads Item
+unfoldable pub string_at : {Item Items Pairs : Type 0} → Reading Item Items Pairs → HeadWidth → ℕ
+    → List ℕ → Reads Item
 string_at m w n bs = do
   b ← bytes_at n bs
   Ok (m.bytes (record { width = w; bytes = b.0 }), b.1)
 
 -- a text of these bytes, which others follow; or a fault before the first byte that isn't UTF-8
-unfoldable pub checked_text : {Item Items Pairs : Type 0} → Reading Item Items Pairs → Item → List ℕ → List ℕ → Reads Item
+unfoldable pub checked_text : {Item Items Pairs : Type 0} → Reading Item Items Pairs → Item → List ℕ
+    → List ℕ → Reads Item
 checked_text m text b bs =
     if m.is_text b then Ok (text, bs)
     else Err (record { why = invalid_utf8; left = length bs + (length b - utf8_valid_len b) })
 
-unfoldable pub text_at : {Item Items Pairs : Type 0} → Reading Item Items Pairs → HeadWidth → ℕ → List ℕ → Reads Item
+unfoldable pub text_at : {Item Items Pairs : Type 0} → Reading Item Items Pairs → HeadWidth → ℕ
+    → List ℕ → Reads Item
 text_at m w n bs =
-    if m.has_room (length bs) n then bytes_at n bs >>= (λ b. checked_text m (m.text (record { width = w; bytes = b.0 })) b.0 b.1)
+    if m.has_room (length bs) n then bytes_at n bs >>= (λ b.
+    checked_text m (m.text (record { width = w; bytes = b.0 })) b.0 b.1)
     else Err (before length_out_of_range bs)
 
 -- the first byte is that of a definite string of the major type
@@ -167,7 +182,8 @@ content_of_chunk exceeds w n bs = bytes_at n bs >>= (λ c.
 -- what follows the first byte of a chunk
 unfoldable pub chunk_at : (ℕ → Bool) → ℕ → ℕ → List ℕ → Reads Chunk
 chunk_at exceeds major b bs =
-    if begins_chunk major b then number_behind (b % 32) bs >>= (λ n. content_of_chunk exceeds (width_of (b % 32)) n.0 n.1)
+    if begins_chunk major b then number_behind (b % 32) bs >>= (λ n.
+    content_of_chunk exceeds (width_of (b % 32)) n.0 n.1)
     else Err (before unexpected_code bs)
 
 -- chunks of the major type up to the break, behind so many bytes of chunks; they take fewer bytes
@@ -176,16 +192,22 @@ unfoldable pub chunks_by : (ℕ → Bool) → ℕ → ℕ → ℕ → List ℕ �
 chunks_by exceeds have major zero bs = Err ended
 chunks_by exceeds have major (suc fuel) bs = byte_at bs >>= (λ b.
     if b.0 == 0xff then Ok ([], b.1)
-    else chunk_at (λ n. exceeds (have + n)) major b.0 b.1 >>= (λ c. chunks_by exceeds (have + length c.0.bytes) major fuel c.1 >>= (λ cs. Ok (c.0 ∷ cs.0, cs.1))))
+    else chunk_at (λ n. exceeds (have + n)) major b.0 b.1 >>= (λ c.
+    chunks_by exceeds (have + length c.0.bytes) major fuel c.1 >>= (λ cs.
+    Ok (c.0 ∷ cs.0, cs.1))))
 
 abbrev pub chunks_at : (ℕ → Bool) → ℕ → ℕ → List ℕ → Reads (List Chunk)
 chunks_at exceeds have major bs = chunks_by exceeds have major (suc (length bs)) bs
 
-unfoldable pub string_chunks_at : {Item Items Pairs : Type 0} → Reading Item Items Pairs → List ℕ → Reads Item
+unfoldable pub string_chunks_at : {Item Items Pairs : Type 0} → Reading Item Items Pairs → List ℕ
+    → Reads Item
 string_chunks_at m bs = chunks_at m.exceeds 0 2 bs >>= (λ cs. Ok (m.bytes_chunks cs.0, cs.1))
 
-unfoldable pub text_chunks_at : {Item Items Pairs : Type 0} → Reading Item Items Pairs → List ℕ → Reads Item
-text_chunks_at m bs = chunks_at m.exceeds 0 3 bs >>= (λ cs. checked_text m (m.text_chunks cs.0) (joined cs.0) cs.1)
+unfoldable pub text_chunks_at : {Item Items Pairs : Type 0} → Reading Item Items Pairs → List ℕ
+    → Reads Item
+text_chunks_at m bs = do
+  cs ← chunks_at m.exceeds 0 3 bs
+  checked_text m (m.text_chunks cs.0) (joined cs.0) cs.1
 
 -- What remains of an array or a map: so many parts, or all up to the break. A part is an item of an
 -- array, or a pair of a map.
@@ -193,8 +215,8 @@ pub data Remaining : Type 0 where
   counted : ℕ → Remaining
   to_break : Remaining
 
--- What remains behind the next part, if one comes. A break that comes is taken; at an end of input in
--- its place the fault is why.
+-- What remains behind the next part, if one comes. A break that comes is taken; at an end of input
+-- in its place the fault is why.
 unfoldable pub next_at : Refusal → Remaining → List ℕ → Reads (Option Remaining)
 next_at why (counted zero) bs = Ok (None, bs)
 next_at why (counted (suc n)) bs = Ok (Some (counted n), bs)
@@ -209,7 +231,8 @@ pub record Parts (Part Whole : Type 0) : Type 0 where
   pub add : Part → Whole → Whole
 
 -- a part and those behind it, where one comes
-abbrev pub go_on : {Part Whole : Type 0} → Parts Part Whole → (Remaining → List ℕ → Reads Whole) → Option Remaining → List ℕ → Reads Whole
+abbrev pub go_on : {Part Whole : Type 0} → Parts Part Whole → (Remaining → List ℕ → Reads Whole)
+    → Option Remaining → List ℕ → Reads Whole
 go_on ps others None bs = Ok (ps.none, bs)
 go_on ps others (Some remaining) bs = do
   first ← ps.part bs
@@ -217,9 +240,12 @@ go_on ps others (Some remaining) bs = do
   Ok (ps.add first.0 rest.0, rest.1)
 
 -- the parts that remain, each of which takes a byte at the least; they take fewer bytes than fuel
-unfoldable pub parts_by : {Part Whole : Type 0} → Parts Part Whole → ℕ → Remaining → List ℕ → Reads Whole
+unfoldable pub parts_by : {Part Whole : Type 0} → Parts Part Whole → ℕ → Remaining → List ℕ
+    → Reads Whole
 parts_by ps zero remaining bs = Err ended
-parts_by ps (suc fuel) remaining bs = next_at ps.ends remaining bs >>= (λ next. go_on ps (parts_by ps fuel) next.0 next.1)
+parts_by ps (suc fuel) remaining bs = do
+  next ← next_at ps.ends remaining bs
+  go_on ps (parts_by ps fuel) next.0 next.1
 
 abbrev pub parts_at : {Part Whole : Type 0} → Parts Part Whole → Remaining → List ℕ → Reads Whole
 parts_at ps remaining bs = parts_by ps (suc (length bs)) remaining bs
@@ -231,29 +257,47 @@ pair_at p bs = do
   v ← p k.1
   Ok ((k.0, v.0), v.1)
 
-abbrev pub items_of : {Item Items Pairs : Type 0} → Reading Item Items Pairs → (List ℕ → Reads Item) → Parts Item Items
+abbrev pub items_of : {Item Items Pairs : Type 0} → Reading Item Items Pairs → (List ℕ → Reads Item)
+    → Parts Item Items
 items_of m p = record { ends = end_in_array; part = p; none = m.no_items; add = m.item }
 
-abbrev pub pairs_of : {Item Items Pairs : Type 0} → Reading Item Items Pairs → (List ℕ → Reads Item) → Parts (Item × Item) Pairs
-pairs_of m p = record { ends = end_in_map; part = pair_at p; none = m.no_pairs; add = λ (kv : _) others. m.pair kv.0 kv.1 others }
+abbrev pub pairs_of : {Item Items Pairs : Type 0} → Reading Item Items Pairs → (List ℕ → Reads Item)
+    → Parts (Item × Item) Pairs
+pairs_of m p = record {
+  ends = end_in_map;
+  part = pair_at p;
+  none = m.no_pairs;
+  add = λ (kv : _) others. m.pair kv.0 kv.1 others;
+}
 
 -- what lies one level further in, where one is left
-abbrev pub within : {Item A : Type 0} → Option (List ℕ → Reads Item) → List ℕ → ((List ℕ → Reads Item) → Reads A) → Reads A
+abbrev pub within : {Item A : Type 0} → Option (List ℕ → Reads Item) → List ℕ
+    → ((List ℕ → Reads Item) → Reads A) → Reads A
 within None bs read = Err (before too_deep bs)
 within (Some p) bs read = read p
 
 -- what follows the head of an array, or of a map
-unfoldable pub array_at : {Item Items Pairs : Type 0} → Reading Item Items Pairs → Option (List ℕ → Reads Item) → Length → Remaining → List ℕ → Reads Item
-array_at m inner l remaining bs = within inner bs (λ p. parts_at (items_of m p) remaining bs) >>= (λ items. Ok (m.array l items.0, items.1))
+unfoldable pub array_at : {Item Items Pairs : Type 0} → Reading Item Items Pairs
+    → Option (List ℕ → Reads Item) → Length → Remaining → List ℕ → Reads Item
+array_at m inner l remaining bs = do
+  items ← within inner bs (λ p. parts_at (items_of m p) remaining bs)
+  Ok (m.array l items.0, items.1)
 
-unfoldable pub map_at : {Item Items Pairs : Type 0} → Reading Item Items Pairs → Option (List ℕ → Reads Item) → Length → Remaining → List ℕ → Reads Item
-map_at m inner l remaining bs = within inner bs (λ p. parts_at (pairs_of m p) remaining bs) >>= (λ pairs. Ok (m.map l pairs.0, pairs.1))
+unfoldable pub map_at : {Item Items Pairs : Type 0} → Reading Item Items Pairs
+    → Option (List ℕ → Reads Item) → Length → Remaining → List ℕ → Reads Item
+map_at m inner l remaining bs = do
+  pairs ← within inner bs (λ p. parts_at (pairs_of m p) remaining bs)
+  Ok (m.map l pairs.0, pairs.1)
 
-unfoldable pub tag_at : {Item Items Pairs : Type 0} → Reading Item Items Pairs → Option (List ℕ → Reads Item) → HeadWidth → ℕ → List ℕ → Reads Item
-tag_at m inner w n bs = within inner bs (λ p. p bs) >>= (λ item. Ok (m.tag w n item.0, item.1))
+unfoldable pub tag_at : {Item Items Pairs : Type 0} → Reading Item Items Pairs
+    → Option (List ℕ → Reads Item) → HeadWidth → ℕ → List ℕ → Reads Item
+tag_at m inner w n bs = do
+  item ← within inner bs (λ p. p bs)
+  Ok (m.tag w n item.0, item.1)
 
 -- what follows the head of a major type below 7
-unfoldable pub content_at : {Item Items Pairs : Type 0} → Reading Item Items Pairs → Option (List ℕ → Reads Item) → ℕ → HeadWidth → ℕ → List ℕ → Reads Item
+unfoldable pub content_at : {Item Items Pairs : Type 0} → Reading Item Items Pairs
+    → Option (List ℕ → Reads Item) → ℕ → HeadWidth → ℕ → List ℕ → Reads Item
 content_at m inner major w n bs =
     if major == 0 then Ok (m.unsigned w n, bs)
     else (if major == 1 then Ok (m.negative w n, bs)
@@ -264,7 +308,8 @@ content_at m inner major w n bs =
     else tag_at m inner w n bs)))))
 
 -- what follows the first byte of an indefinite length
-unfoldable pub indefinite_at : {Item Items Pairs : Type 0} → Reading Item Items Pairs → Option (List ℕ → Reads Item) → ℕ → List ℕ → Reads Item
+unfoldable pub indefinite_at : {Item Items Pairs : Type 0} → Reading Item Items Pairs
+    → Option (List ℕ → Reads Item) → ℕ → List ℕ → Reads Item
 indefinite_at m inner major bs =
     if major == 2 then string_chunks_at m bs
     else (if major == 3 then text_chunks_at m bs
@@ -273,29 +318,36 @@ indefinite_at m inner major bs =
     else Err (before unassigned_code bs))))
 
 -- what follows the first byte b
-unfoldable pub after_first : {Item Items Pairs : Type 0} → Reading Item Items Pairs → Option (List ℕ → Reads Item) → ℕ → List ℕ → Reads Item
+unfoldable pub after_first : {Item Items Pairs : Type 0} → Reading Item Items Pairs
+    → Option (List ℕ → Reads Item) → ℕ → List ℕ → Reads Item
 after_first m inner b bs =
     if b / 32 == 7 then simple_at m (b % 32) bs
     else (if b % 32 == 31 then indefinite_at m inner (b / 32) bs
-    else number_behind (b % 32) bs >>= (λ n. content_at m inner (b / 32) (width_of (b % 32)) n.0 n.1))
+    else number_behind (b % 32) bs >>= (λ n.
+    content_at m inner (b / 32) (width_of (b % 32)) n.0 n.1))
 
 -- an item, where inner reads what lies one level further in if one is left
-unfoldable pub item_by : {Item Items Pairs : Type 0} → Reading Item Items Pairs → Option (List ℕ → Reads Item) → List ℕ → Reads Item
+unfoldable pub item_by : {Item Items Pairs : Type 0} → Reading Item Items Pairs
+    → Option (List ℕ → Reads Item) → List ℕ → Reads Item
 item_by m inner bs = byte_at bs >>= (λ b. after_first m inner b.0 b.1)
 
 -- an item, where so many levels are left
-unfoldable pub item_at : {Item Items Pairs : Type 0} → Reading Item Items Pairs → ℕ → List ℕ → Reads Item
+unfoldable pub item_at : {Item Items Pairs : Type 0} → Reading Item Items Pairs → ℕ → List ℕ
+    → Reads Item
 item_at m zero = item_by m None
 item_at m (suc levels) = item_by m (Some (item_at m levels))
 
 -- the reader of what lies one level further in, where one is left
-abbrev pub inside : {Item Items Pairs : Type 0} → Reading Item Items Pairs → ℕ → Option (List ℕ → Reads Item)
+abbrev pub inside : {Item Items Pairs : Type 0} → Reading Item Items Pairs → ℕ
+    → Option (List ℕ → Reads Item)
 inside m zero = None
 inside m (suc levels) = Some (item_at m levels)
 
 -- nothing follows
 abbrev pub whole : {A : Type 0} → Reads A → Result A Fault
-whole read = read >>= (λ x. if length x.1 == 0 then Ok x.0 else Err (record { why = trailing_data; left = length x.1 - 1 }))
+whole read = read >>= (λ x.
+    if length x.1 == 0 then Ok x.0
+    else Err (record { why = trailing_data; left = length x.1 - 1 }))
 
 -- the value that all of the bytes spell, where so many bytes of chunks can be joined
 unfoldable pub read_value_in : Option ℕ → List ℕ → Result Val Fault
@@ -316,7 +368,8 @@ unfolding read_value_in item_at item_by byte_at after_first simple_at
 trailing = refl
 
 -- bf 00 ff: a break in the place of a value
-break_as_value : read_value (0xbf ∷ 0x00 ∷ 0xff ∷ []) ≡ Err (record { why = unexpected_code; left = 0 })
+break_as_value : read_value (0xbf ∷ 0x00 ∷ 0xff ∷ [])
+    ≡ Err (record { why = unexpected_code; left = 0 })
 unfolding read_value_in item_at item_by byte_at after_first indefinite_at map_at parts_by next_at pair_at number_behind content_at simple_at float_at
 break_as_value = refl
 
@@ -326,6 +379,7 @@ unfolding read_value_in item_at item_by byte_at after_first indefinite_at array_
 break_wanted = refl
 
 -- 7f 61 61 ff: a chunk of one byte is more than a scratch of none holds
-chunk_too_long : read_value_in (Some 0) (0x7f ∷ 0x61 ∷ 0x61 ∷ 0xff ∷ []) ≡ Err (record { why = scratch_too_small; left = 2 })
+chunk_too_long : read_value_in (Some 0) (0x7f ∷ 0x61 ∷ 0x61 ∷ 0xff ∷ [])
+    ≡ Err (record { why = scratch_too_small; left = 2 })
 unfolding read_value_in item_at item_by byte_at after_first indefinite_at text_chunks_at chunks_by chunk_at content_of_chunk number_behind
 chunk_too_long = refl

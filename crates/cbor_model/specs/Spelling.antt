@@ -2,7 +2,11 @@
 use Rattle.std.specs.Prelude.{◌≡◌, ℕ, ◌+◌, ◌*◌, List, [], ◌∷◌, ◌++◌, length, flat_map, refl}
 use Rattle.std.specs.Int.{w16, w32, w64, to_be_bytes}
 use Rattle.cbor_model.specs.Head.{head, no_bytes, one_byte}
-use Rattle.cbor_model.specs.Raw.{Length, definite, indefinite, Raw, Raws, no_raws, raw, RawPairs, no_raw_pairs, raw_pair, Chunk, Simple, false_item, true_item, null_item, undefined_item, FloatWidth, half, single, double, unsigned, negative, bytes, text, bytes_chunks, text_chunks, array, map, tag, simple, float, count, pair_count, IsWellFormed}
+use Rattle.cbor_model.specs.Raw.{Length, definite, indefinite, Raw, Raws, no_raws, raw, RawPairs}
+use Rattle.cbor_model.specs.Raw.{no_raw_pairs, raw_pair, Chunk, Simple, false_item, true_item}
+use Rattle.cbor_model.specs.Raw.{null_item, undefined_item, FloatWidth, half, single, double}
+use Rattle.cbor_model.specs.Raw.{unsigned, negative, bytes, text, bytes_chunks, text_chunks, array}
+use Rattle.cbor_model.specs.Raw.{map, tag, simple, float, count, pair_count, IsWellFormed}
 
 abbrev pub chunk : ℕ → Chunk → List ℕ
 chunk major c = head major c.width (length c.bytes) ++ c.bytes
@@ -64,13 +68,19 @@ unfolding spell
 long_23 = refl
 
 -- [_ 1, {_ 2: undefined}]
-indefinite_lengths : spell (array indefinite (raw (unsigned no_bytes 1) (raw (map indefinite (raw_pair (unsigned no_bytes 2) (simple undefined_item) no_raw_pairs)) no_raws)))
+indefinite_lengths : spell (array indefinite
+    (raw (unsigned no_bytes 1)
+    (raw (map indefinite (raw_pair (unsigned no_bytes 2) (simple undefined_item) no_raw_pairs))
+    no_raws)))
     ≡ 0x9f ∷ 0x01 ∷ 0xbf ∷ 0x02 ∷ 0xf7 ∷ 0xff ∷ 0xff ∷ []
 unfolding spell
 indefinite_lengths = refl
 
 -- the text "ab" in two chunks
-two_chunks : spell (text_chunks (record { width = no_bytes; bytes = 0x61 ∷ [] } ∷ record { width = no_bytes; bytes = 0x62 ∷ [] } ∷ []))
+two_chunks : spell (text_chunks (
+    record { width = no_bytes; bytes = 0x61 ∷ [] }
+    ∷ record { width = no_bytes; bytes = 0x62 ∷ [] }
+    ∷ []))
     ≡ 0x7f ∷ 0x61 ∷ 0x61 ∷ 0x61 ∷ 0x62 ∷ 0xff ∷ []
 unfolding spell
 two_chunks = refl

@@ -4,8 +4,10 @@ use Rattle.std.specs.declared.cmp.Ordering.{Ordering}
 use Rattle.std.specs.declared.cmp.Ordering.TheVariants.{Less, Equal, Greater}
 use Rattle.cbor_model.specs.Head.{no_bytes, one_byte}
 use Rattle.cbor_model.specs.Raw as raw
-use Rattle.cbor_model.specs.Raw.{Raw, Raws, no_raws, RawPairs, no_raw_pairs, raw_pair, Simple, false_item, true_item, null_item, undefined_item, joined}
-use Rattle.cbor_model.specs.Plain.{Val, null, bool, integer, float, bytes, text, array, map, tag, Vals, no_vals, val, Pairs, no_pairs, pair}
+use Rattle.cbor_model.specs.Raw.{Raw, Raws, no_raws, RawPairs, no_raw_pairs, raw_pair, Simple}
+use Rattle.cbor_model.specs.Raw.{false_item, true_item, null_item, undefined_item, joined}
+use Rattle.cbor_model.specs.Plain.{Val, null, bool, integer, float, bytes, text, array, map, tag}
+use Rattle.cbor_model.specs.Plain.{Vals, no_vals, val, Pairs, no_pairs, pair}
 use Rattle.cbor_model.specs.Order.{flat, val_cmp}
 
 abbrev pub by_order : {A : Type 0} → Ordering → A → A → A → A
@@ -16,7 +18,8 @@ by_order Greater a b c = c
 -- ordered pairs with the value v at the key k, in the place of one that is there
 abbrev pub put : Val → Val → Pairs → Pairs
 put k v no_pairs = pair k v no_pairs
-put k v (pair l w ps) = by_order (val_cmp k l) (pair k v (pair l w ps)) (pair k v ps) (pair l w (put k v ps))
+put k v (pair l w ps) =
+    by_order (val_cmp k l) (pair k v (pair l w ps)) (pair k v ps) (pair l w (put k v ps))
 
 -- undefined is null
 abbrev pub simple_value : Simple → Val
@@ -52,19 +55,29 @@ unfoldable mutual
 -- ---- examples
 
 -- {_ 2: 0, 1: 0} is {1: 0, 2: 0}
-keys_ordered : value (raw.map raw.indefinite (raw_pair (raw.unsigned no_bytes 2) (raw.unsigned no_bytes 0) (raw_pair (raw.unsigned no_bytes 1) (raw.unsigned no_bytes 0) no_raw_pairs)))
-    ≡ map (pair (integer (pos 1)) (integer (pos 0)) (pair (integer (pos 2)) (integer (pos 0)) no_pairs))
+keys_ordered : value (raw.map raw.indefinite
+    (raw_pair (raw.unsigned no_bytes 2) (raw.unsigned no_bytes 0)
+    (raw_pair (raw.unsigned no_bytes 1) (raw.unsigned no_bytes 0)
+    no_raw_pairs)))
+    ≡ map
+    (pair (integer (pos 1)) (integer (pos 0)) (pair (integer (pos 2)) (integer (pos 0)) no_pairs))
 unfolding value flat
 keys_ordered = refl
 
 -- {1: 0, 1: 2}, the second key in a longer head, is {1: 2}
-last_stays : value (raw.map (raw.definite no_bytes) (raw_pair (raw.unsigned no_bytes 1) (raw.unsigned no_bytes 0) (raw_pair (raw.unsigned one_byte 1) (raw.unsigned no_bytes 2) no_raw_pairs)))
+last_stays : value (raw.map (raw.definite no_bytes)
+    (raw_pair (raw.unsigned no_bytes 1) (raw.unsigned no_bytes 0)
+    (raw_pair (raw.unsigned one_byte 1) (raw.unsigned no_bytes 2)
+    no_raw_pairs)))
     ≡ map (pair (integer (pos 1)) (integer (pos 2)) no_pairs)
 unfolding value flat
 last_stays = refl
 
 -- {null: 1, undefined: 2} is {null: 2}
-undefined_is_null : value (raw.map (raw.definite no_bytes) (raw_pair (raw.simple null_item) (raw.unsigned no_bytes 1) (raw_pair (raw.simple undefined_item) (raw.unsigned no_bytes 2) no_raw_pairs)))
+undefined_is_null : value (raw.map (raw.definite no_bytes)
+    (raw_pair (raw.simple null_item) (raw.unsigned no_bytes 1)
+    (raw_pair (raw.simple undefined_item) (raw.unsigned no_bytes 2)
+    no_raw_pairs)))
     ≡ map (pair null (integer (pos 2)) no_pairs)
 unfolding value flat
 undefined_is_null = refl
