@@ -4,7 +4,8 @@ use Rattle.std.specs.Prelude.{⊤}
 use Rattle.std.specs.Result.{IsErrAnd}
 use Rattle.cbor_model.specs.Plain.{Val}
 use Rattle.cbor_model.specs.Raw.{AreBytes}
-use Rattle.cbor_model.specs.Laws.{SpellsValue}
+use Rattle.cbor_model.specs.Refusal.{Refusal, end_in_value, end_in_array, end_in_map, length_out_of_range, invalid_utf8, unassigned_code, unexpected_code, trailing_data, too_deep, scratch_too_small}
+use Rattle.cbor_model.specs.Laws.{SpellsValue, IsScratchTooSmall}
 use Rattle.cbor_model.specs.Acceptable.{max_depth, FitsScratch}
 use Rattle.cbor_model.specs.Canonical.{IsStorable, IsOrdered}
 use Rattle.cbor_model.specs.Reader.{Fault, read_value_in}
@@ -19,7 +20,7 @@ use Rattle.cbor_io.specs.declared.read.read_error.ReadError.{ReadError}
 use Rattle.cbor_io.specs.declared.read.read_error.ReadErrorCode.{ReadErrorCode}
 use Rattle.cbor_io.specs.ReadError.{why, place, error_code}
 use Rattle.cbor_io.specs.Source.{Input}
-use Rattle.cbor_de.specs.Gives.{FailsBy, FailsOrFaults, IsMemoryOrFault, IsMemoryOrFaultBy, Tells, Reports, GivesAll}
+use Rattle.cbor_de.specs.Gives.{FailsAs, FailsBy, FailsOrFaults, IsMemoryOrFault, IsMemoryOrFaultBy, IsScratchOrMemory, IsScratchOrMemoryBy, Tells, Reports, GivesAll}
 
 -- an error that is made of a refusal tells the same
 pub stopped : (refusals : ReadErrorCode → Bool) (s : Input) (r : Result Value Error) (q : ReadError) → IsErrAnd r (λ e. (code_of e ≡ error_code (why q)) × (offset_of e ≡ place q))
@@ -63,6 +64,25 @@ memory_or_fault D code.ScratchTooSmall total offset v h = absurd cc
 memory_or_fault D (code.Io fault) total offset v h = (tt, h.1)
 memory_or_fault D code.OutOfMemory total offset v h = (tt, h)
 memory_or_fault D _ total offset v h = absurd h
+
+-- a fault other than a scratch that is too small
+not_scratch : (why : Refusal) → (why ≡ scratch_too_small → ⊥) → (offset total : ℕ) (r : Result Val Fault) → IsScratchTooSmall r → FailsAs why total offset r → ⊥
+not_scratch why other offset total r small h = other (subst IsScratchTooSmall h.2 small)
+
+scratch_or_memory : (D : Type 0) → (D → ⊥) → (k : ErrorCode) (total offset : ℕ) (r : Result Val Fault) → IsScratchTooSmall r → FailsBy D k total offset r → IsScratchOrMemoryBy k
+scratch_or_memory D none code.EofWhileParsingValue total offset r small h = absurd (not_scratch end_in_value (λ e. absurd cc) offset total r small h)
+scratch_or_memory D none code.EofWhileParsingArray total offset r small h = absurd (not_scratch end_in_array (λ e. absurd cc) offset total r small h)
+scratch_or_memory D none code.EofWhileParsingMap total offset r small h = absurd (not_scratch end_in_map (λ e. absurd cc) offset total r small h)
+scratch_or_memory D none code.LengthOutOfRange total offset r small h = absurd (not_scratch length_out_of_range (λ e. absurd cc) offset total r small h)
+scratch_or_memory D none code.InvalidUtf8 total offset r small h = absurd (not_scratch invalid_utf8 (λ e. absurd cc) offset total r small h)
+scratch_or_memory D none code.UnassignedCode total offset r small h = absurd (not_scratch unassigned_code (λ e. absurd cc) offset total r small h)
+scratch_or_memory D none code.UnexpectedCode total offset r small h = absurd (not_scratch unexpected_code (λ e. absurd cc) offset total r small h)
+scratch_or_memory D none code.TrailingData total offset r small h = absurd (not_scratch trailing_data (λ e. absurd cc) offset total r small h)
+scratch_or_memory D none code.RecursionLimitExceeded total offset r small h = absurd (not_scratch too_deep (λ e. absurd cc) offset total r small h)
+scratch_or_memory D none code.ScratchTooSmall total offset r small h = tt
+scratch_or_memory D none (code.Io fault) total offset r small h = absurd (none h.0)
+scratch_or_memory D none code.OutOfMemory total offset r small h = tt
+scratch_or_memory D none _ total offset r small h = absurd h
 
 -- a fault of a device is one, whatever it takes
 faults : (D : Type 0) (k : ErrorCode) (total offset : ℕ) (r : Result Val Fault) → FailsBy D k total offset r → FailsBy ⊤ k total offset r
@@ -121,3 +141,7 @@ module _ (refusals : ReadErrorCode → Bool) (s : Input) (bs : List ℕ) (tells 
   pub refused : (r : Result Value Error) → GivesAll refusals view s r → IfErr r (λ e. FailsOrFaults (length bs) e (read_value_in s.room bs))
   refused (Ok x) given = tt
   refused (Err e) given = faults (Reports refusals) (code_of e) (length bs) (offset_of e) (read_value_in s.room bs) (given bs tells zero)
+
+  pub small : (Reports refusals → ⊥) → IsScratchTooSmall (read_value_in s.room bs) → (r : Result Value Error) → GivesAll refusals view s r → MatchResult r (λ x. ⊥) IsScratchOrMemory
+  small none stops (Ok x) given = subst IsScratchTooSmall (given bs tells zero) stops
+  small none stops (Err e) given = scratch_or_memory (Reports refusals) none (code_of e) (length bs) (offset_of e) (read_value_in s.room bs) stops (given bs tells zero)

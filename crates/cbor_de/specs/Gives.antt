@@ -56,6 +56,15 @@ IsMemoryOrFaultBy _ = ⊥
 abbrev pub IsMemoryOrFault : Error → Type 0
 IsMemoryOrFault e = IsMemoryOrFaultBy (code_of e) × (offset_of e ≡ 0)
 
+abbrev pub IsScratchOrMemoryBy : ErrorCode → Type 0
+IsScratchOrMemoryBy ScratchTooSmall = ⊤
+IsScratchOrMemoryBy OutOfMemory = ⊤
+IsScratchOrMemoryBy _ = ⊥
+
+-- the scratch is too small, or memory ran out
+abbrev pub IsScratchOrMemory : Error → Type 0
+IsScratchOrMemory e = IsScratchOrMemoryBy (code_of e)
+
 -- A reader tells that these bytes are to come from it.
 pub record Gave (remaining : Option (List ℕ)) (bytes : List ℕ) : Type 0 where
   pub told : remaining ≡ Some bytes

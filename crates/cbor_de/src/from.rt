@@ -5,11 +5,11 @@ ghost use Rattle.cbor_model.specs.Acceptable.{FitsScratch};
 ghost use Rattle.cbor_model.specs.Canonical.{IsStorable, IsOrdered};
 ghost use Rattle.cbor_model.specs.Laws.{SpellsValue};
 ghost use Rattle.cbor_model.specs.Plain.{Val};
-ghost use Rattle.cbor_model.specs.Raw.{AreBytes};
+ghost use Rattle.cbor_model.specs.Raw.{AreBytes, longest_joined};
 ghost use Rattle.cbor_model.specs.Reader.{read_value, read_value_in};
 ghost use Rattle.cbor_io.specs.Error.{IsOutOfMemory};
 ghost use Rattle.cbor_value.specs.View.{view};
-ghost use Rattle.cbor_de.specs.Gives.{Gives, whole_at, Fails, FailsOrFaults, GivesAll, Gave, IsMemoryOrFault};
+ghost use Rattle.cbor_de.specs.Gives.{Gives, whole_at, Fails, FailsOrFaults, GivesAll, Gave, IsMemoryOrFault, IsScratchOrMemory};
 
 use crate::de::Deserializer;
 use crate::refusal::Done;
@@ -106,6 +106,10 @@ pub fn from_slice_with_scratch(alloc: Global, slice: &[u8], scratch: &mut [u8]) 
     ensures accepted { (v : Val) → (spelt : SpellsValue slice.now v)
         → FitsScratch (Some (length scratch.old)) spelt.item
         → MatchResult result (λ x. view x ≡ v) IsOutOfMemory }
+    // Where a string in chunks is longer than the scratch, that is told, unless memory runs out.
+    ensures small { (v : Val) → (spelt : SpellsValue slice.now v)
+        → length scratch.old < longest_joined spelt.item
+        → MatchResult result (λ x. ⊥) IsScratchOrMemory }
     // A refusal tells the fault that the reference reader meets with such a scratch.
     ensures refused { IfErr result (λ e.
         Fails (length slice.now) e (read_value_in (Some (length scratch.old)) slice.now)) }
