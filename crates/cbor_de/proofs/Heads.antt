@@ -1,22 +1,19 @@
--- What the first byte of an item says in the reference reader.
-use Rattle.std.proofs.Common.{◌≡◌, ℕ, ◌/◌, ◌%◌, Bool, List, Option, Result, Ok, Err, refl, sym, ap, ◌∙◌}
+-- What the first byte of an item says, and what is read behind a head.
+use Rattle.std.proofs.Common.{◌≡◌, ℕ, ◌/◌, ◌%◌, Bool, true, false, cond, eqb, List, Option, Some, None, Result, Ok, Err, refl, sym, ap, ◌∙◌}
+use Rattle.std.specs.Int.{w16, w32, w64}
 use Rattle.std.proofs.lemmas.Bool.{ne_eqb}
 use Rattle.cbor_model.specs.Head.{HeadWidth, no_bytes}
-use Rattle.cbor_model.specs.Raw.{indefinite}
-use Rattle.cbor_model.specs.Plain.{Val, integer}
-use Rattle.cbor_model.specs.Reader.{Fault, Reads, ◌>>=◌, width_of, number_behind, simple_at, string_at, text_at, checked_text, array_at, map_at, tag_at, content_at, indefinite_at, after_first, counted}
-use Rattle.std.specs.Prelude.{pos, negsuc}
+use Rattle.cbor_model.specs.Refusal.{unassigned_code, unexpected_code}
+use Rattle.cbor_model.specs.Plain.{Val}
+use Rattle.cbor_model.specs.Reader.{Fault, Reads, Reading, ◌>>=◌, before, width_of, number_at, number_behind, simple_at, float_at, string_at, text_at, checked_text, array_at, map_at, tag_at, content_at, indefinite_at, after_first}
 use Rattle.cbor_io.specs.Head.{major_number}
 use Rattle.cbor_io.specs.declared.head.Major.{Major}
 use Rattle.cbor_io.specs.declared.head.Major.TheVariants.{UnsignedInteger, NegativeInteger, ByteString, TextString, Array, Map, Tag, Simple}
-use Rattle.cbor_io.specs.Source.{Input}
-use Rattle.cbor_io.specs.declared.read.read_error.ReadError.{ReadError}
-use Rattle.cbor_io.specs.declared.read.read_error.ReadErrorCode.{ReadErrorCode}
+use Rattle.cbor_value.specs.declared.Float.TheVariants.{Half, Single, Double}
 use Rattle.cbor_de.specs.declared.head.Head.{Head}
-use Rattle.cbor_de.specs.declared.refusal.Refused.{Refused}
+use Rattle.cbor_de.specs.declared.head.Head.TheVariants as head
 use Rattle.cbor_de.specs.Gives.{Limits, values}
-use Rattle.cbor_de.specs.Heads.{HeadGives, after_head}
-use Rattle.cbor_de.proofs.Steps.{step_map, stopped_map}
+use Rattle.cbor_de.specs.Heads.{definite_head, simple_head, indefinite_head, head_at, behind_head, after_head}
 
 -- ---- major types
 
@@ -42,62 +39,133 @@ is_tag Simple s u n b t a m = absurd (s refl)
 
 -- ---- first bytes
 
-module _ (l : Limits) (inner : Option (List ℕ → Reads Val)) (first : ℕ) (bs : List ℕ) where
-  pub first_simple : first / 32 ≡ 7 → after_first (values l) inner first bs ≡ simple_at (values l) (first % 32) bs
-  unfolding after_first
+module _ (first : ℕ) (bs : List ℕ) where
+  pub first_simple : first / 32 ≡ 7 → head_at first bs ≡ simple_head (first % 32) bs
+  unfolding head_at
   first_simple is = rw is refl
 
-  pub first_indefinite : (first / 32 ≡ 7 → ⊥) → first % 32 ≡ 31 → after_first (values l) inner first bs ≡ indefinite_at (values l) inner (first / 32) bs
-  unfolding after_first
+  pub first_indefinite : (first / 32 ≡ 7 → ⊥) → first % 32 ≡ 31 → head_at first bs ≡ indefinite_head (first / 32) bs
+  unfolding head_at
   first_indefinite other is = rw (ne_eqb (first / 32) 7 other, is) refl
 
-  pub first_definite : (first / 32 ≡ 7 → ⊥) → (first % 32 ≡ 31 → ⊥) → after_first (values l) inner first bs ≡ (number_behind (first % 32) bs >>= (λ n. content_at (values l) inner (first / 32) (width_of (first % 32)) n.0 n.1))
-  unfolding after_first
+  first_definite : (first / 32 ≡ 7 → ⊥) → (first % 32 ≡ 31 → ⊥) → head_at first bs ≡ (number_behind (first % 32) bs >>= (λ n. Ok ((width_of (first % 32), definite_head (first / 32) n.0), n.1)))
+  unfolding head_at
   first_definite other short = rw (ne_eqb (first / 32) 7 other, ne_eqb (first % 32) 31 short) refl
 
-  pub first_stops : (f : Fault) → (first / 32 ≡ 7 → ⊥) → (first % 32 ≡ 31 → ⊥) → number_behind (first % 32) bs ≡ Err f → after_first (values l) inner first bs ≡ Err f
+  pub first_stops : (f : Fault) → (first / 32 ≡ 7 → ⊥) → (first % 32 ≡ 31 → ⊥) → number_behind (first % 32) bs ≡ Err f → head_at first bs ≡ Err f
   first_stops f other short is = first_definite other short ∙ rw is refl
 
--- ---- what follows a head, whatever its width
+-- a head of this major type
+pub first_is : (first : ℕ) (bs rest : List ℕ) (n k : ℕ) (h : Head) → (k ≡ 7 → ⊥) → (first % 32 ≡ 31 → ⊥) → k ≡ first / 32 → number_behind (first % 32) bs ≡ Ok (n, rest)
+    → definite_head k n ≡ h → (w : HeadWidth) × (head_at first bs ≡ Ok ((w, h), rest))
+first_is first bs rest n k h other short major number is =
+    let w = width_of (first % 32) in
+    (w, first_definite first bs (λ e. other (major ∙ e)) short ∙ rw number (ap (λ (k : ℕ). Ok ((w, definite_head k n), rest)) (sym major) ∙ ap (λ (h : Head). Ok ((w, h), rest)) is))
 
-module _ (l : Limits) (inner : Option (List ℕ → Reads Val)) (w : HeadWidth) (n : ℕ) (bs : List ℕ) where
-  pub content_unsigned : content_at (values l) inner 0 w n bs ≡ Ok (integer (pos n), bs)
+-- ---- what is read behind a head
+
+-- a test in the first of two steps
+bind_cond : {A B : Type 0} (c : Bool) (x y : Reads A) (f : A × List ℕ → Reads B) (x' y' : Reads B) → x' ≡ (x >>= f) → y' ≡ (y >>= f) → cond c x' y' ≡ (cond c x y >>= f)
+bind_cond true x y f x' y' a b = a
+bind_cond false x y f x' y' a b = b
+
+bind_bind : {A B C : Type 0} (x : Reads A) (f : A × List ℕ → Reads B) (g : B × List ℕ → Reads C) → (x >>= (λ y. f y >>= g)) ≡ ((x >>= f) >>= g)
+bind_bind (Ok x) f g = refl
+bind_bind (Err e) f g = refl
+
+abbrev failed : {A : Type 0} → Fault → Result A Fault
+failed f = Err f
+
+-- which of two faults
+which : {A : Type 0} (c : Bool) (bs : List ℕ) → failed {A = A} (before (cond c unexpected_code unassigned_code) bs) ≡ cond c (Err (before unexpected_code bs)) (Err (before unassigned_code bs))
+which true bs = refl
+which false bs = refl
+
+module _ {Item Items Pairs : Type 0} (m : Reading Item Items Pairs) (inner : Option (List ℕ → Reads Item)) where
+  abbrev behind : (HeadWidth × Head) × List ℕ → Reads Item
+  behind h = behind_head m inner h.0.0 h.0.1 h.1
+
+  float_behind : (low : ℕ) (bs : List ℕ) → float_at m low bs ≡ (cond (eqb low 25) (number_at w16 bs >>= (λ n. Ok ((no_bytes, head.Float (Half n.0)), n.1)))
+      (cond (eqb low 26) (number_at w32 bs >>= (λ n. Ok ((no_bytes, head.Float (Single n.0)), n.1)))
+      (cond (eqb low 27) (number_at w64 bs >>= (λ n. Ok ((no_bytes, head.Float (Double n.0)), n.1)))
+      (cond (eqb low 31) (Ok ((no_bytes, head.Break), bs)) (Err (before unassigned_code bs))))) >>= behind)
+  unfolding float_at
+  float_behind low bs =
+      bind_cond (eqb low 25) _ _ behind _ _ (bind_bind (number_at w16 bs) (λ n. Ok ((no_bytes, head.Float (Half n.0)), n.1)) behind)
+      (bind_cond (eqb low 26) _ _ behind _ _ (bind_bind (number_at w32 bs) (λ n. Ok ((no_bytes, head.Float (Single n.0)), n.1)) behind)
+      (bind_cond (eqb low 27) _ _ behind _ _ (bind_bind (number_at w64 bs) (λ n. Ok ((no_bytes, head.Float (Double n.0)), n.1)) behind)
+      (which (eqb low 31) bs ∙ bind_cond (eqb low 31) (Ok ((no_bytes, head.Break), bs)) (Err (before unassigned_code bs)) behind (Err (before unexpected_code bs)) (Err (before unassigned_code bs)) refl refl)))
+
+  simple_behind : (low : ℕ) (bs : List ℕ) → simple_at m low bs ≡ (simple_head low bs >>= behind)
+  unfolding simple_at simple_head
+  simple_behind low bs =
+      bind_cond (eqb low 20) _ _ behind _ _ refl
+      (bind_cond (eqb low 21) _ _ behind _ _ refl
+      (bind_cond (eqb low 22) _ _ behind _ _ refl
+      (bind_cond (eqb low 23) _ _ behind _ _ refl
+      (float_behind low bs))))
+
+  indefinite_behind : (major : ℕ) (bs : List ℕ) → indefinite_at m inner major bs ≡ (indefinite_head major bs >>= behind)
+  unfolding indefinite_at indefinite_head
+  indefinite_behind major bs =
+      bind_cond (eqb major 2) _ _ behind _ _ refl
+      (bind_cond (eqb major 3) _ _ behind _ _ refl
+      (bind_cond (eqb major 4) _ _ behind _ _ refl
+      (bind_cond (eqb major 5) _ _ behind _ _ refl refl)))
+
+  -- a test between heads
+  head_cond : (c : Bool) (w : HeadWidth) (h k : Head) (bs : List ℕ) (x y : Reads Item) → x ≡ behind_head m inner w h bs → y ≡ behind_head m inner w k bs → cond c x y ≡ behind_head m inner w (cond c h k) bs
+  head_cond true w h k bs x y a b = a
+  head_cond false w h k bs x y a b = b
+
+  definite_behind : (major : ℕ) (w : HeadWidth) (n : ℕ) (bs : List ℕ) → content_at m inner major w n bs ≡ behind_head m inner w (definite_head major n) bs
   unfolding content_at
-  content_unsigned = refl
+  definite_behind major w n bs =
+      head_cond (eqb major 0) w _ _ bs _ _ refl
+      (head_cond (eqb major 1) w _ _ bs _ _ refl
+      (head_cond (eqb major 2) w _ _ bs _ _ refl
+      (head_cond (eqb major 3) w _ _ bs _ _ refl
+      (head_cond (eqb major 4) w _ _ bs _ _ refl
+      (head_cond (eqb major 5) w _ _ bs _ _ refl refl)))))
 
-  pub content_negative : content_at (values l) inner 1 w n bs ≡ Ok (integer (negsuc n), bs)
-  unfolding content_at
-  content_negative = refl
+  number_first : (b : ℕ) (bs : List ℕ) (read : Reads ℕ) → (read >>= (λ n. content_at m inner (b / 32) (width_of (b % 32)) n.0 n.1)) ≡ ((read >>= (λ n. Ok ((width_of (b % 32), definite_head (b / 32) n.0), n.1))) >>= behind)
+  number_first b bs (Ok n) = definite_behind (b / 32) (width_of (b % 32)) n.0 n.1
+  number_first b bs (Err f) = refl
 
-  pub content_bytes : content_at (values l) inner 2 w n bs ≡ string_at (values l) no_bytes n bs
-  unfolding content_at string_at
-  content_bytes = refl
+  -- the item of this first byte is read behind its head
+  pub first_behind : (b : ℕ) (bs : List ℕ) → after_first m inner b bs ≡ (head_at b bs >>= behind)
+  unfolding after_first head_at
+  first_behind b bs =
+      bind_cond (eqb (b / 32) 7) _ _ behind _ _ (simple_behind (b % 32) bs)
+      (bind_cond (eqb (b % 32) 31) _ _ behind _ _ (indefinite_behind (b / 32) bs)
+      (number_first b bs (number_behind (b % 32) bs)))
 
-  pub content_text : content_at (values l) inner 3 w n bs ≡ text_at (values l) no_bytes n bs
-  unfolding content_at text_at checked_text
-  content_text = refl
+-- ---- values
 
-  pub content_array : content_at (values l) inner 4 w n bs ≡ array_at (values l) inner indefinite (counted n) bs
-  unfolding content_at array_at
-  content_array = refl
+-- of no width is a value's own
+value_behind : (l : Limits) (inner : Option (List ℕ → Reads Val)) (w : HeadWidth) (h : Head) (bs : List ℕ) → behind_head (values l) inner w h bs ≡ after_head l inner h bs
+unfolding string_at text_at checked_text array_at map_at tag_at
+value_behind l inner w (head.Unsigned n) bs = refl
+value_behind l inner w (head.Negative n) bs = refl
+value_behind l inner w (head.Bytes (Some n)) bs = refl
+value_behind l inner w (head.Bytes None) bs = refl
+value_behind l inner w (head.Text (Some n)) bs = refl
+value_behind l inner w (head.Text None) bs = refl
+value_behind l inner w (head.Array r) bs = refl
+value_behind l inner w (head.Map r) bs = refl
+value_behind l inner w (head.Tag n) bs = refl
+value_behind l inner w (head.Bool false) bs = refl
+value_behind l inner w (head.Bool true) bs = refl
+value_behind l inner w head.Null bs = refl
+value_behind l inner w head.Undefined bs = refl
+value_behind l inner w (head.Float (Half n)) bs = refl
+value_behind l inner w (head.Float (Single n)) bs = refl
+value_behind l inner w (head.Float (Double n)) bs = refl
+value_behind l inner w head.Break bs = refl
 
-  pub content_map : content_at (values l) inner 5 w n bs ≡ map_at (values l) inner indefinite (counted n) bs
-  unfolding content_at map_at
-  content_map = refl
+-- the value of this first byte is read behind its head
+pub value_after : (l : Limits) (inner : Option (List ℕ → Reads Val)) (b : ℕ) (w : HeadWidth) (h : Head) (bs rest : List ℕ) → head_at b bs ≡ Ok ((w, h), rest) → after_first (values l) inner b bs ≡ after_head l inner h rest
+value_after l inner b w h bs rest is = first_behind (values l) inner b bs ∙ rw is (value_behind l inner w h rest)
 
-  pub content_tag : content_at (values l) inner 6 w n bs ≡ tag_at (values l) inner no_bytes n bs
-  unfolding content_at tag_at
-  content_tag = refl
-
--- a head of this major type, behind which is read as the content of it is
-pub first_is : (l : Limits) (inner : Option (List ℕ → Reads Val)) (first : ℕ) (bs rest : List ℕ) (n k : ℕ) (r : Reads Val) → (k ≡ 7 → ⊥) → (first % 32 ≡ 31 → ⊥) → k ≡ first / 32 → number_behind (first % 32) bs ≡ Ok (n, rest)
-    → ((w : HeadWidth) → content_at (values l) inner k w n rest ≡ r) → after_first (values l) inner first bs ≡ r
-first_is l inner first bs rest n k r other short major number content =
-    first_definite l inner first bs (λ e. other (major ∙ e)) short
-    ∙ rw number (ap (λ (k : ℕ). content_at (values l) inner k (width_of (first % 32)) n rest) (sym major) ∙ content (width_of (first % 32)))
-
--- a head that is read as another is
-pub head_map : (allowed : ReadErrorCode → Bool) (read read' : Limits → Option (List ℕ → Reads Val) → List ℕ → Reads Val) (s t : Input) (kept : Option ReadError) (r : Result Head Refused)
-    → ((l : Limits) (inner : Option (List ℕ → Reads Val)) (bs : List ℕ) → read' l inner bs ≡ read l inner bs) → HeadGives allowed read s t kept r → HeadGives allowed read' s t kept r
-head_map allowed read read' s t kept (Ok h) same given = step_map s t (λ l bs rest. (inner : Option (List ℕ → Reads Val)) → read l inner bs ≡ after_head l inner h rest) (λ l bs rest. (inner : Option (List ℕ → Reads Val)) → read' l inner bs ≡ after_head l inner h rest) (λ l bs rest is inner. same l inner bs ∙ is inner) given
-head_map allowed read read' s t kept (Err r) same given = λ inner. stopped_map allowed (λ l. read l (inner l)) (λ l. read' l (inner l)) s kept r (λ l bs f is. same l (inner l) bs ∙ is) (given inner)
+pub value_stops_at : (l : Limits) (inner : Option (List ℕ → Reads Val)) (b : ℕ) (bs : List ℕ) (f : Fault) → head_at b bs ≡ Err f → after_first (values l) inner b bs ≡ Err f
+value_stops_at l inner b bs f is = first_behind (values l) inner b bs ∙ rw is refl

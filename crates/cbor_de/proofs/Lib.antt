@@ -8,3 +8,4 @@ pub mod Pairs
 pub mod Inside
 pub mod All
 pub mod Inputs
+pub mod facts

@@ -11,6 +11,9 @@ use Rattle.cbor_io.specs.ReadError.{why, place, error_code, HasNoPlace}
 use Rattle.cbor_io.specs.Source.{Input, TookKept, TookSome, Refused, RefusedByte, TooFew, AtLimit, IsOfSource}
 use Rattle.cbor_de.specs.declared.refusal.Refused.{Refused as Reason}
 use Rattle.cbor_de.specs.declared.refusal.Refused.TheVariants as refused
+use Rattle.cbor_model.specs.Head.{HeadWidth}
+use Rattle.cbor_de.specs.declared.head.Head.{Head}
+use Rattle.cbor_de.specs.Heads.{HeadGives}
 use Rattle.cbor_de.specs.Gives.{FailsBy, Tells, Limits, limits, Step, Reports, Stops, Stopped, Gives}
 
 -- an error of one reading is one of another with the same fault
@@ -235,3 +238,9 @@ byte_refused allowed s t e read h = refused_stops allowed s t 0 e read (λ l bs 
 -- the end was met, where this reading stops
 pub at_end : (s : Input) (bs : List ℕ) → Tells s bs → IfSome s.to_come (λ bs. bs ≡ []) → bs ≡ []
 at_end s bs tells h = subst (λ (o : Option (List ℕ)). IfSome o (λ bs. bs ≡ [])) tells.is h
+
+-- a head that is read as another is
+pub head_map : (allowed : ReadErrorCode → Bool) (read read' : List ℕ → Reads (HeadWidth × Head)) (s t : Input) (kept : Option ReadError) (r : Result Head Reason)
+    → ((bs : List ℕ) → read' bs ≡ read bs) → HeadGives allowed read s t kept r → HeadGives allowed read' s t kept r
+head_map allowed read read' s t kept (Ok h) same given = step_map s t (λ l bs rest. (w : HeadWidth) × (read bs ≡ Ok ((w, h), rest))) (λ l bs rest. (w : HeadWidth) × (read' bs ≡ Ok ((w, h), rest))) (λ l bs rest is. (is.0, same bs ∙ is.1)) given
+head_map allowed read read' s t kept (Err r) same given = stopped_map allowed (λ l. read) (λ l. read') s kept r (λ l bs f is. same bs ∙ is) given

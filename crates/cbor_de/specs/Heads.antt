@@ -1,13 +1,16 @@
 -- What a head says of the item behind it.
-use Rattle.std.specs.Prelude.{◌≡◌, ℕ, Bool, List, Option, Some, None, Result, Ok, Err, pos, negsuc}
-use Rattle.cbor_model.specs.Head.{no_bytes}
-use Rattle.cbor_model.specs.Raw.{Chunk, joined, indefinite}
-use Rattle.cbor_model.specs.Refusal.{Refusal, end_in_array, end_in_map, unexpected_code}
+use Rattle.std.specs.Prelude.{◌≡◌, ℕ, ◌/◌, ◌%◌, Bool, true, false, List, Option, Some, None, Result, Ok, Err, pos, negsuc, ◌==◌, if◌then◌else◌}
+use Rattle.std.specs.Int.{w16, w32, w64}
+use Rattle.cbor_model.specs.Head.{HeadWidth, no_bytes}
+use Rattle.cbor_model.specs.Raw.{Chunk, joined, Length, definite, indefinite, false_item, true_item, null_item, undefined_item, half, single, double}
+use Rattle.cbor_model.specs.Refusal.{Refusal, end_in_array, end_in_map, unassigned_code, unexpected_code}
 use Rattle.cbor_model.specs.Plain.{Val, Pairs, no_pairs}
 use Rattle.cbor_model.specs.Plain as plain
-use Rattle.cbor_model.specs.Reader.{Reads, ◌>>=◌, before, byte_at, next_at, string_at, string_chunks_at, text_at, text_chunks_at, array_at, map_at, tag_at}
+use Rattle.cbor_model.specs.Reader.{Reads, Reading, ◌>>=◌, before, width_of, number_at, number_behind, byte_at, next_at, string_at, string_chunks_at, text_at, text_chunks_at, array_at, map_at, tag_at}
 use Rattle.cbor_model.specs.Reader as reader
 use Rattle.cbor_value.specs.View.{float_view}
+use Rattle.cbor_value.specs.declared.Float.{Float as ValueFloat}
+use Rattle.cbor_value.specs.declared.Float.TheVariants.{Half, Single, Double}
 use Rattle.cbor_io.specs.declared.read.read_error.ReadError.{ReadError}
 use Rattle.cbor_io.specs.declared.read.read_error.ReadErrorCode.{ReadErrorCode}
 use Rattle.cbor_io.specs.declared.read.read_error.ReadErrorCode.TheVariants.{EofWhileParsingArray, EofWhileParsingMap}
@@ -36,8 +39,85 @@ abbrev pub end_code : Collection → ReadErrorCode
 end_code collection.Array = EofWhileParsingArray
 end_code collection.Map = EofWhileParsingMap
 
--- What follows a head, read as the value of its item. A width of no bytes stands for every width,
--- since no value depends on it.
+-- ---- what a head says
+
+-- a head of a definite length or a number, of this major type
+abbrev pub definite_head : ℕ → ℕ → Head
+definite_head major n =
+    if major == 0 then Unsigned n
+    else (if major == 1 then Negative n
+    else (if major == 2 then Bytes (Some n)
+    else (if major == 3 then Text (Some n)
+    else (if major == 4 then Array (Counted n)
+    else (if major == 5 then Map (Counted n)
+    else Tag n)))))
+
+-- what the lower five bits of a first byte of major type 7 say, with the bits of a float
+unfoldable pub simple_head : ℕ → List ℕ → Reads (HeadWidth × Head)
+simple_head low bs =
+    if low == 20 then Ok ((no_bytes, Boolean false), bs)
+    else (if low == 21 then Ok ((no_bytes, Boolean true), bs)
+    else (if low == 22 then Ok ((no_bytes, Null), bs)
+    else (if low == 23 then Ok ((no_bytes, Undefined), bs)
+    else (if low == 25 then number_at w16 bs >>= (λ n. Ok ((no_bytes, Float (Half n.0)), n.1))
+    else (if low == 26 then number_at w32 bs >>= (λ n. Ok ((no_bytes, Float (Single n.0)), n.1))
+    else (if low == 27 then number_at w64 bs >>= (λ n. Ok ((no_bytes, Float (Double n.0)), n.1))
+    else (if low == 31 then Ok ((no_bytes, Break), bs)
+    else Err (before unassigned_code bs))))))))
+
+-- what a first byte of this major type says that announces an indefinite length
+unfoldable pub indefinite_head : ℕ → List ℕ → Reads (HeadWidth × Head)
+indefinite_head major bs =
+    if major == 2 then Ok ((no_bytes, Bytes None), bs)
+    else (if major == 3 then Ok ((no_bytes, Text None), bs)
+    else (if major == 4 then Ok ((no_bytes, Array ToBreak), bs)
+    else (if major == 5 then Ok ((no_bytes, Map ToBreak), bs)
+    else Err (before unassigned_code bs))))
+
+-- the head of this first byte, and its width
+unfoldable pub head_at : ℕ → List ℕ → Reads (HeadWidth × Head)
+head_at b bs =
+    if b / 32 == 7 then simple_head (b % 32) bs
+    else (if b % 32 == 31 then indefinite_head (b / 32) bs
+    else number_behind (b % 32) bs >>= (λ n. Ok ((width_of (b % 32), definite_head (b / 32) n.0), n.1)))
+
+-- a head was read, of some width; or why not
+abbrev pub HeadGives : (ReadErrorCode → Bool) → (List ℕ → Reads (HeadWidth × Head)) → Input → Input → Option ReadError → Result Head Refused → Type 0
+HeadGives refusals read s t kept (Ok h) = Step s t (λ l bs rest. (w : HeadWidth) × (read bs ≡ Ok ((w, h), rest)))
+HeadGives refusals read s t kept (Err r) = Stopped refusals (λ l. read) s kept r
+
+-- ---- what follows a head
+
+-- the length of an array or a map with a head of this width
+abbrev pub length_of : HeadWidth → Remaining → Length
+length_of w (Counted n) = definite w
+length_of w ToBreak = indefinite
+
+abbrev pub float_of : {Item Items Pairs : Type 0} → Reading Item Items Pairs → ValueFloat → Item
+float_of m (Half bits) = m.float half bits
+float_of m (Single bits) = m.float single bits
+float_of m (Double bits) = m.float double bits
+
+-- What follows a head of this width, where inner reads what lies one level further in if one is left.
+abbrev pub behind_head : {Item Items Pairs : Type 0} → Reading Item Items Pairs → Option (List ℕ → Reads Item) → HeadWidth → Head → List ℕ → Reads Item
+behind_head m inner w (Unsigned n) bs = Ok (m.unsigned w n, bs)
+behind_head m inner w (Negative n) bs = Ok (m.negative w n, bs)
+behind_head m inner w (Bytes (Some n)) bs = string_at m w n bs
+behind_head m inner w (Bytes None) bs = string_chunks_at m bs
+behind_head m inner w (Text (Some n)) bs = text_at m w n bs
+behind_head m inner w (Text None) bs = text_chunks_at m bs
+behind_head m inner w (Array remaining) bs = array_at m inner (length_of w remaining) (remaining_of remaining) bs
+behind_head m inner w (Map remaining) bs = map_at m inner (length_of w remaining) (remaining_of remaining) bs
+behind_head m inner w (Tag n) bs = tag_at m inner w n bs
+behind_head m inner w (Boolean false) bs = Ok (m.simple false_item, bs)
+behind_head m inner w (Boolean true) bs = Ok (m.simple true_item, bs)
+behind_head m inner w Null bs = Ok (m.simple null_item, bs)
+behind_head m inner w Undefined bs = Ok (m.simple undefined_item, bs)
+behind_head m inner w (Float f) bs = Ok (float_of m f, bs)
+behind_head m inner w Break bs = Err (before unexpected_code bs)
+
+-- The same, read as the value of its item. A width of no bytes stands for every width, since no value
+-- depends on it.
 abbrev pub after_head : Limits → Option (List ℕ → Reads Val) → Head → List ℕ → Reads Val
 after_head l inner (Unsigned n) bs = Ok (plain.integer (pos n), bs)
 after_head l inner (Negative n) bs = Ok (plain.integer (negsuc n), bs)
@@ -53,11 +133,6 @@ after_head l inner Null bs = Ok (plain.null, bs)
 after_head l inner Undefined bs = Ok (plain.null, bs)
 after_head l inner (Float f) bs = Ok (float_view f, bs)
 after_head l inner Break bs = Err (before unexpected_code bs)
-
--- A head was read as read reads the item; or why not.
-abbrev pub HeadGives : (ReadErrorCode → Bool) → (Limits → Option (List ℕ → Reads Val) → List ℕ → Reads Val) → Input → Input → Option ReadError → Result Head Refused → Type 0
-HeadGives refusals read s t kept (Ok h) = Step s t (λ l bs rest. (inner : Option (List ℕ → Reads Val)) → read l inner bs ≡ after_head l inner h rest)
-HeadGives refusals read s t kept (Err r) = (inner : Limits → Option (List ℕ → Reads Val)) → Stopped refusals (λ l. read l (inner l)) s kept r
 
 -- the first byte of the next part, and what remains behind that part; or none
 abbrev pub first_behind : Option reader.Remaining → List ℕ → Reads (Option (reader.Remaining × ℕ))

@@ -31,12 +31,12 @@ const MAX_DEPTH: u8 = 127;
 /// ```
 #[derive(Drop)]
 pub struct Deserializer<R> {
-    pub(crate) alloc: Global,
-    pub(crate) source: R,
+    pub alloc: Global,
+    pub source: R,
     // How many levels of arrays, maps and tags are left.
-    pub(crate) levels: u8,
+    pub levels: u8,
     // Why the last step that was refused was refused.
-    pub(crate) refusal: Option<ReadError>,
+    pub refusal: Option<ReadError>,
 }
 
 impl<'a> Deserializer<SliceRead<'a>> {
@@ -136,7 +136,7 @@ impl<R: Source> Deserializer<R> {
     }
 
     /// Whether a text of n bytes would end below 2^64.
-    pub(crate) fn has_room(&self, n: u64) -> bool
+    pub fn has_room(&self, n: u64) -> bool
         ensures { result ≡ nat_lt ((R.source self.now.source).offset + n) (2 ^ 64) }
     {
         self.source.offset().checked_add(n).is_some()
@@ -144,7 +144,7 @@ impl<R: Source> Deserializer<R> {
 
     /// Takes one byte.
     #[inline(always)]
-    pub(crate) fn byte(&mut self) -> Done<u8>
+    pub fn byte(&mut self) -> Done<u8>
         ensures read { Gives R.refusals (λ b. b) (λ l. byte_at)
             (R.source self.old.source) (R.source self.new.source) self.new.refusal result }
         ensures taken { OnOk result (Onward (R.source self.old.source) (R.source self.new.source)) }
@@ -159,7 +159,7 @@ impl<R: Source> Deserializer<R> {
     }
 
     /// Goes one level in, where one is left.
-    pub(crate) fn enter(&mut self) -> Done<()>
+    pub fn enter(&mut self) -> Done<()>
         ensures inside { OnOk result (self.old.levels ≡ self.new.levels + 1) }
         ensures below { OnOk result (self.new.levels < 255) }
         ensures none { OnErr result ((self.old.levels ≡ 0) × (self.new.levels ≡ 0)) }
@@ -177,7 +177,7 @@ impl<R: Source> Deserializer<R> {
 
     /// Takes the end of the input.
     #[tactic(auto, using(crate::proofs::Calls::trailing_stops))]
-    pub(crate) fn ended(&mut self) -> Done<()>
+    pub fn ended(&mut self) -> Done<()>
         ensures read { Gives R.refusals (λ u. u) (λ l. end_at)
             (R.source self.old.source) (R.source self.new.source) self.new.refusal result }
         ensures levels { self.new.levels ≡ self.old.levels }

@@ -186,7 +186,7 @@ fn tests_texts(rt: HostRuntime) -> Done {
 }
 
 #[test]
-fn refuses_alike(rt: HostRuntime) -> Done {
+fn tells_what_follows_and_what_is_unassigned(rt: HostRuntime) -> Done {
     let alloc = rt.alloc();
     all_refuse(
         &rt,
@@ -201,7 +201,12 @@ fn refuses_alike(rt: HostRuntime) -> Done {
         b"\xf8\x20",
         &mut [],
         "unassigned type at offset 1",
-    )?;
+    )
+}
+
+#[test]
+fn tells_a_code_out_of_place(rt: HostRuntime) -> Done {
+    let alloc = rt.alloc();
     all_refuse(
         &rt,
         alloc,
@@ -215,7 +220,12 @@ fn refuses_alike(rt: HostRuntime) -> Done {
         b"\x7f\x7f",
         &mut [],
         "unexpected code at offset 2",
-    )?;
+    )
+}
+
+#[test]
+fn tells_where_a_collection_is_cut(rt: HostRuntime) -> Done {
+    let alloc = rt.alloc();
     all_refuse(
         &rt,
         alloc,
@@ -229,7 +239,12 @@ fn refuses_alike(rt: HostRuntime) -> Done {
         b"\x9f\x01",
         &mut [],
         "EOF while parsing an array at offset 2",
-    )?;
+    )
+}
+
+#[test]
+fn tells_where_a_text_is_cut(rt: HostRuntime) -> Done {
+    let alloc = rt.alloc();
     all_refuse(
         &rt,
         alloc,

@@ -2,10 +2,10 @@
 
 ghost use Rattle.std.specs.Prelude.{◌≡◌, length, IfErr, IsSomeAnd, OnErr, OnOk};
 ghost use Rattle.std.specs.Int.{w8, w16, w32, w64};
-ghost use Rattle.cbor_model.specs.Reader.{number_at, number_behind, simple_at, indefinite_at, after_first};
+ghost use Rattle.cbor_model.specs.Reader.{number_at, number_behind};
 ghost use Rattle.cbor_io.specs.Head.{major_number};
-ghost use Rattle.cbor_de.specs.Gives.{Gives, Keeps, values};
-ghost use Rattle.cbor_de.specs.Heads.{HeadGives};
+ghost use Rattle.cbor_de.specs.Gives.{Gives, Keeps};
+ghost use Rattle.cbor_de.specs.Heads.{HeadGives, head_at, simple_head, indefinite_head};
 ghost use Rattle.cbor_io.specs.Source.{TookKept, RefusedInto};
 ghost use Rattle.cbor_de.specs.declared.refusal.Refused.TheVariants.{Kept};
 
@@ -50,7 +50,7 @@ impl<R: Source> Deserializer<R> {
     /// Takes the rest of a head behind its first byte.
     #[inline(always)]
     pub fn head(&mut self, first: u8) -> Done<Head>
-        ensures read { HeadGives R.refusals (λ l inner. after_first (values l) inner first)
+        ensures read { HeadGives R.refusals (head_at first)
             (R.source self.old.source) (R.source self.new.source) self.new.refusal result }
         ensures levels { self.new.levels ≡ self.old.levels }
     {
@@ -77,7 +77,7 @@ impl<R: Source> Deserializer<R> {
     // What follows a first byte of major type 7 (RFC 7049, section 2.3).
     #[inline(always)]
     fn simple(&mut self, low: u8) -> Done<Head>
-        ensures read { HeadGives R.refusals (λ l inner. simple_at (values l) low)
+        ensures read { HeadGives R.refusals (simple_head low)
             (R.source self.old.source) (R.source self.new.source) self.new.refusal result }
         ensures levels { self.new.levels ≡ self.old.levels }
     {
@@ -97,8 +97,7 @@ impl<R: Source> Deserializer<R> {
     // What a first byte of an indefinite length says.
     #[inline(always)]
     fn indefinite(&mut self, major: Major) -> Done<Head>
-        ensures read { HeadGives R.refusals
-            (λ l inner. indefinite_at (values l) inner (major_number major))
+        ensures read { HeadGives R.refusals (indefinite_head (major_number major))
             (R.source self.old.source) (R.source self.new.source) self.new.refusal result }
         ensures levels { self.new.levels ≡ self.old.levels }
     {

@@ -29,5 +29,8 @@ pub use cbor_io::read::{
     EitherLifetime, IoRead, MutSliceRead, Offset, Read, ReadError, ReadErrorCode, SliceRead,
     SliceReadFixed, Source,
 };
+pub use cursor::{Collection, Remaining};
 pub use de::Deserializer;
 pub use from::{from_mut_slice, from_reader, from_slice, from_slice_with_scratch};
+pub use head::Head;
+pub use refusal::{Done, Refused};

@@ -52,7 +52,7 @@ impl<T: Drop> From<AllocFailed<T>> for Refused {
 impl<R: Source> Deserializer<R> {
     /// Refuses for this.
     #[cold]
-    pub(crate) fn keep(&mut self, refusal: ReadError) -> Refused
+    pub fn keep(&mut self, refusal: ReadError) -> Refused
         ensures refused { result ≡ Kept }
         ensures kept { self.new.refusal ≡ Some refusal }
         ensures source { self.new.source ≡ self.old.source }
@@ -64,7 +64,7 @@ impl<R: Source> Deserializer<R> {
 
     /// Refuses before the bytes to come.
     #[cold]
-    pub(crate) fn refuse(&mut self, code: ReadErrorCode) -> Refused
+    pub fn refuse(&mut self, code: ReadErrorCode) -> Refused
         requires { HasNoPlace code → ⊥ }
         ensures refused { result ≡ Kept }
         ensures kept { IsSomeAnd self.new.refusal (IsAt code (R.source self.old.source).offset) }
@@ -76,7 +76,7 @@ impl<R: Source> Deserializer<R> {
 
     /// Refuses so many bytes before that.
     #[cold]
-    pub(crate) fn refuse_back(&mut self, code: ReadErrorCode, back: usize) -> Refused
+    pub fn refuse_back(&mut self, code: ReadErrorCode, back: usize) -> Refused
         requires code { HasNoPlace code → ⊥ }
         requires taken { back ≤ (R.source self.old.source).offset }
         ensures refused { result ≡ Kept }
@@ -91,7 +91,7 @@ impl<R: Source> Deserializer<R> {
     }
 
     /// The error of a call whose step was refused.
-    pub(crate) fn error(&mut self, refused: Refused) -> Error
+    pub fn error(&mut self, refused: Refused) -> Error
         ensures tells { IsErrorOf self.old.refusal refused result }
         ensures source { self.new.source ≡ self.old.source }
         ensures levels { self.new.levels ≡ self.old.levels }

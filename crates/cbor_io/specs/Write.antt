@@ -43,6 +43,10 @@ written_bytes s = take s.count s.slice.now
 abbrev pub unwritten_bytes : SliceWrite → List ℕ
 unwritten_bytes s = drop s.count s.slice.now
 
+-- which slice it is, by the name of the reference to it
+abbrev pub slice_reference : SliceWrite → ℕ
+slice_reference s = s.slice.ghost_name
+
 -- too little room, at the number of bytes written
 abbrev pub IsFull : SliceWrite → Error → Type 0
 IsFull s e = (code_of e ≡ ScratchTooSmall) × (offset_of e ≡ length (written_bytes s))

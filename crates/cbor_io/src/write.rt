@@ -22,10 +22,29 @@ mod tests;
 /// bytes.write_all(b"a")?;
 /// assert_eq!(rt; bytes.as_slice(), b"\x61a".as_slice());
 /// ```
+///
+/// A sink of one's own says in `written` which bytes it was given and in `refuses` which errors it
+/// answers. One that holds a `&mut`, say in a field `to`, names it in `references`, as
+/// `λ s. s.to.ghost_name ∷ []`; others leave that out, as this one does:
+///
+/// ```rust
+/// struct Counter { count: usize }
+///
+/// impl Write for Counter {
+///     ghost written = { λ _. None };
+///
+///     ghost refuses = { λ _ _. ⊥ }; // no error
+///
+///     fn write_all(&mut self, buf: &[u8]) -> Result<()> {
+///         self.count = self.count.saturating_add(buf.len());
+///         Ok(())
+///     }
+/// }
+/// ```
 pub trait Write {
     ghost use Rattle.cbor_io.specs.Write.{Wrote};
     ghost use Rattle.cbor_io.specs.declared.error.Error.{Error};
-    ghost use Rattle.std.specs.Prelude.{ℕ, List, Option, IfErr};
+    ghost use Rattle.std.specs.Prelude.{◌≡◌, ℕ, List, [], Option, IfErr};
 
     // The bytes that it was given; None where it doesn't tell them.
     ghost written: { Self → Option (List ℕ) };
@@ -33,11 +52,16 @@ pub trait Write {
     // Which errors it answers, by what the refusal leaves.
     ghost refuses: { Self → Error → Type 0 };
 
+    // The references that it writes through, by their ghost names. Writing changes none of them, so
+    // that what a reference leads to is known once the sink is gone.
+    ghost references: { Self → List ℕ } = { λ _. [] };
+
     /// Appends a piece to the bytes written, or refuses. What a refusal has appended is a beginning
     /// of the piece, nothing and all of it included.
     fn write_all(&mut self, buf: &[u8]) -> Result<()>
         ensures written { Wrote (written self.old) buf.now (written self.new) result }
-        ensures refused { IfErr result (λ e. refuses self.new e) };
+        ensures refused { IfErr result (λ e. refuses self.new e) }
+        ensures same_references { references self.new ≡ references self.old };
 }
 
 /// It grows by each piece. Where a growth is refused it answers `OutOfMemory`, and stays as it was.
@@ -61,9 +85,13 @@ impl Write for Vec<u8> {
 }
 
 impl<W: Write> Write for &mut W {
+    ghost use Rattle.std.specs.Prelude.{◌∷◌};
+
     ghost written = { λ w. W.written w.now };
 
     ghost refuses = { λ w e. W.refuses w.now e };
+
+    ghost references = { λ w. w.ghost_name ∷ W.references w.now };
 
     fn write_all(&mut self, buf: &[u8]) -> Result<()> {
         W::write_all(*self, buf)

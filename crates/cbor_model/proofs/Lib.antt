@@ -26,4 +26,5 @@ pub mod Least
 pub mod InRange
 pub mod Documents
 pub mod Parts
+pub mod RawReader
 pub mod facts

@@ -14,3 +14,6 @@ pub mod InRange
 pub mod Definite
 pub mod Document
 pub mod Parts
+pub mod Formats
+pub mod Readable
+pub mod RawReader

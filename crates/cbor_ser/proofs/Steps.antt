@@ -1,5 +1,5 @@
 -- What the calls of a serializer leave, put together.
-use Rattle.std.proofs.Common.{◌≡◌, ℕ, List, [], ◌++◌, Option, refl, sym, ap, ◌∙◌, subst, ◌⊎◌, inl, inr, ℤ, pos, negsuc, FitsSigned, arith, append-nil, Some, Bool, Vec}
+use Rattle.std.proofs.Common.{◌≡◌, ℕ, List, [], ◌++◌, Option, refl, sym, ap, ◌∙◌, subst, ◌⊎◌, inl, inr, ℤ, pos, negsuc, FitsSigned, arith, append-nil, Some, Bool, false, Vec}
 use Rattle.std.specs.Prelude.{Result, Ok, Err, IfErr, OnOk}
 use Rattle.std.specs.Result.{IsErrAnd}
 use Rattle.std.specs.Int.{w64}
@@ -9,16 +9,16 @@ use Rattle.std.proofs.KnownBytes.{Appends-nil, Appends-trans}
 use Rattle.cbor_model.specs.Plain.{Val}
 use Rattle.cbor_model.specs.Canonical.{canon, IsStorable, IsStorableInteger}
 use Rattle.cbor_model.specs.InRange.{IsInRange}
-use Rattle.cbor_model.specs.Document.{Doc, document_of, document_bytes}
+use Rattle.cbor_model.specs.Document.{Doc, document_of, document_bytes, IsStorableDocument, IsDocumentInRange}
 use Rattle.cbor_model.specs.Parts.{Part, item, both, ending, parts, part_bytes, IsStorablePart, IsPartInRange}
-use Rattle.cbor_model.proofs.facts.Documents.{parts_bytes, storable_parts, parts_storable, parts_in_range, document_is_canonical, storable_document, storable_value, document_in_range}
+use Rattle.cbor_model.proofs.facts.Documents.{parts_bytes, storable_parts, parts_storable, parts_in_range, document_is_canonical, storable_document, storable_value, document_in_range, value_in_range}
 use Rattle.cbor_value.specs.declared.Float.{Float}
 use Rattle.cbor_value.specs.declared.Float.TheVariants.{Half, Single, Double}
 use Rattle.cbor_value.specs.View.{float_view}
 use Rattle.cbor_io.specs.declared.error.Error.{Error}
 use Rattle.cbor_io.specs.Write.{AppendsBeginning, Wrote}
 use Rattle.cbor_ser.specs.Written.{IsUnstorable, DocumentRefused}
-use Rattle.cbor_ser.specs.Serialized.{Added, Stopped, Serialized, Spells, bytes_under}
+use Rattle.cbor_ser.specs.Serialized.{Added, Stopped, Serialized, Spells, bytes_under, WroteValues}
 use Rattle.cbor_ser.specs.declared.serializer.Settings.{Settings}
 use Rattle.cbor_ser.specs.declared.serializer.Serializer.{Serializer}
 use Rattle.cbor_ser.proofs.Beginnings.{began_more, began_then}
@@ -56,12 +56,13 @@ parts_same s d = record {
   in_range = parts_in_range d;
 }
 
-pub added_then : {W : Type 0} {written : W → Option (List ℕ)} {old mid new : Serializer W} {f g : Part} → Added written old f mid → Added written mid g new → Added written old (both f g) new
+pub added_then : {W : Type 0} {written : W → Option (List ℕ)} {references : W → List ℕ} {old mid new : Serializer W} {f g : Part} → Added written references old f mid → Added written references mid g new → Added written references old (both f g) new
 unfolding part_bytes
 added_then {written = written} {old = old} {mid = mid} {new = new} {f = f} {g = g} a b = record {
   appended = Appends-trans (written old.writer) (written mid.writer) (written new.writer) (bytes_under old.settings f) (bytes_under old.settings g) a.appended
       (subst (λ (s : Settings). Appends (written mid.writer) (written new.writer) (bytes_under s g)) a.settings b.appended);
   settings = b.settings ∙ a.settings;
+  same_references = b.same_references ∙ a.same_references;
   storable = (a.storable, b.storable);
   in_range = (a.in_range, b.in_range);
 }
@@ -69,7 +70,7 @@ added_then {written = written} {old = old} {mid = mid} {new = new} {f = f} {g = 
 -- ---- a document in a vector that was empty
 
 pub vector_holds : {A : Type 0} {old new : Serializer (Vec ℕ A)} (d : Doc) (p l : Bool) → old.writer.items ≡ [] → old.settings ≡ record { packed = p; legacy = l }
-    → Added (λ v. Some v.items) old (item d) new → new.writer.items ≡ document_bytes d p l
+    → Added (λ v. Some v.items) (λ _. []) old (item d) new → new.writer.items ≡ document_bytes d p l
 unfolding part_bytes
 vector_holds {old = old} {new = new} d p l empty begun h =
     h.appended ∙ ap (λ xs. xs ++ document_bytes d old.settings.packed old.settings.legacy) empty
@@ -77,65 +78,70 @@ vector_holds {old = old} {new = new} d p l empty begun h =
 
 -- ---- what the calls leave
 
-module _ {W : Type 0} {written : W → Option (List ℕ)} {refuses : W → Error → Type 0} where
+module _ {W : Type 0} {written : W → Option (List ℕ)} {refuses : W → Error → Type 0} {references : W → List ℕ} where
   -- these bytes were written, which are the part's
   pub serialized : {T : Type 0} {old new : Serializer W} {bytes : List ℕ} (part : Part) (r : Result T Error) → Spells old.settings part bytes → new.settings ≡ old.settings
-      → Wrote (written old.writer) bytes (written new.writer) r → IfErr r (refuses new.writer) → Serialized written refuses old part new r
-  serialized {old = old} {new = new} part (Ok x) spells kept w refused = record {
+      → references new.writer ≡ references old.writer → Wrote (written old.writer) bytes (written new.writer) r → IfErr r (refuses new.writer) → Serialized written refuses references old part new r
+  serialized {old = old} {new = new} part (Ok x) spells kept same_references w refused = record {
     ok = record {
       appended = subst (λ bs. Appends (written old.writer) (written new.writer) bs) (sym spells.same) w.ok;
       settings = kept;
+      same_references = same_references;
       storable = spells.storable;
       in_range = spells.in_range;
     };
     err = tt;
   }
-  serialized {old = old} {new = new} part (Err e) spells kept w refused = record {
+  serialized {old = old} {new = new} part (Err e) spells kept same_references w refused = record {
     ok = tt;
     err = record {
       appended = subst (λ bs. AppendsBeginning bs (written old.writer) (written new.writer)) (sym spells.same) w.err;
       settings = kept;
+      same_references = same_references;
       refused = inl refused;
     };
   }
 
-  stopped_then : {old mid new : Serializer W} {f g : Part} {e : Error} → Added written old f mid → Stopped written refuses mid g new e → Stopped written refuses old (both f g) new e
+  stopped_then : {old mid new : Serializer W} {f g : Part} {e : Error} → Added written references old f mid → Stopped written refuses references mid g new e → Stopped written refuses references old (both f g) new e
   unfolding part_bytes
   stopped_then {old = old} {mid = mid} {new = new} {f = f} {g = g} a b = record {
     appended = began_then (written old.writer) (written mid.writer) (written new.writer) (bytes_under old.settings f) (bytes_under old.settings g) a.appended
         (subst (λ (s : Settings). AppendsBeginning (bytes_under s g) (written mid.writer) (written new.writer)) a.settings b.appended);
     settings = b.settings ∙ a.settings;
+    same_references = b.same_references ∙ a.same_references;
     refused = elim b.refused [ inl r ↦ inl r | inr u ↦ inr ((λ h. u.0 h.1), u.1) ];
   }
 
-  stopped_before : {old new : Serializer W} {f : Part} (g : Part) {e : Error} → Stopped written refuses old f new e → Stopped written refuses old (both f g) new e
+  stopped_before : {old new : Serializer W} {f : Part} (g : Part) {e : Error} → Stopped written refuses references old f new e → Stopped written refuses references old (both f g) new e
   unfolding part_bytes
   stopped_before {old = old} g b = record {
     appended = began_more (bytes_under old.settings g) b.appended;
     settings = b.settings;
+    same_references = b.same_references;
     refused = elim b.refused [ inl r ↦ inl r | inr u ↦ inr ((λ h. u.0 h.0), u.1) ];
   }
 
   -- a part was appended, and then the rest
-  pub and_then : {T : Type 0} {old mid new : Serializer W} {f g : Part} {r : Result T Error} → Added written old f mid → Serialized written refuses mid g new r → Serialized written refuses old (both f g) new r
+  pub and_then : {T : Type 0} {old mid new : Serializer W} {f g : Part} {r : Result T Error} → Added written references old f mid → Serialized written refuses references mid g new r → Serialized written refuses references old (both f g) new r
   and_then {r = Ok x} a h = record { ok = added_then a h.ok; err = tt }
   and_then {r = Err e} a h = record { ok = tt; err = stopped_then a h.err }
 
   -- the exit of a `?`, before more parts
-  pub stops : {T : Type 0} {old new : Serializer W} {f g : Part} {e : Error} {r : Result T Error} → IsErrAnd r (λ x. x ≡ e) → Stopped written refuses old f new e → Serialized written refuses old (both f g) new r
+  pub stops : {T : Type 0} {old new : Serializer W} {f g : Part} {e : Error} {r : Result T Error} → IsErrAnd r (λ x. x ≡ e) → Stopped written refuses references old f new e → Serialized written refuses references old (both f g) new r
   stops {r = Ok x} is h = absurd is
-  stops {old = old} {new = new} {f = f} {g = g} {r = Err x} is h = record { ok = tt; err = stopped_before g (subst (λ z. Stopped written refuses old f new z) (sym is) h) }
+  stops {old = old} {new = new} {f = f} {g = g} {r = Err x} is h = record { ok = tt; err = stopped_before g (subst (λ z. Stopped written refuses references old f new z) (sym is) h) }
 
   -- the exit of a `?` at the last part
-  pub stops_last : {T : Type 0} {old new : Serializer W} {f : Part} {e : Error} {r : Result T Error} → IsErrAnd r (λ x. x ≡ e) → Stopped written refuses old f new e → Serialized written refuses old f new r
+  pub stops_last : {T : Type 0} {old new : Serializer W} {f : Part} {e : Error} {r : Result T Error} → IsErrAnd r (λ x. x ≡ e) → Stopped written refuses references old f new e → Serialized written refuses references old f new r
   stops_last {r = Ok x} is h = absurd is
-  stops_last {old = old} {new = new} {f = f} {r = Err x} is h = record { ok = tt; err = subst (λ z. Stopped written refuses old f new z) (sym is) h }
+  stops_last {old = old} {new = new} {f = f} {r = Err x} is h = record { ok = tt; err = subst (λ z. Stopped written refuses references old f new z) (sym is) h }
 
-  pub same_part : {T : Type 0} {old new : Serializer W} {f g : Part} {r : Result T Error} → Same old.settings f g → Serialized written refuses old f new r → Serialized written refuses old g new r
+  pub same_part : {T : Type 0} {old new : Serializer W} {f g : Part} {r : Result T Error} → Same old.settings f g → Serialized written refuses references old f new r → Serialized written refuses references old g new r
   same_part {old = old} {new = new} {r = Ok x} is h = record {
     ok = record {
       appended = subst (λ bs. Appends (written old.writer) (written new.writer) bs) is.same h.ok.appended;
       settings = h.ok.settings;
+      same_references = h.ok.same_references;
       storable = is.storable h.ok.storable;
       in_range = is.in_range h.ok.in_range;
     };
@@ -146,23 +152,25 @@ module _ {W : Type 0} {written : W → Option (List ℕ)} {refuses : W → Error
     err = record {
       appended = subst (λ bs. AppendsBeginning bs (written old.writer) (written new.writer)) is.same h.err.appended;
       settings = h.err.settings;
+      same_references = h.err.same_references;
       refused = elim h.err.refused [ inl r ↦ inl r | inr u ↦ inr ((λ g. u.0 (is.unstorable g)), u.1) ];
     };
   }
 
   -- a part that is the same
-  pub same : {T : Type 0} {old new : Serializer W} {f g : Part} {r : Result T Error} → f ≡ g → Serialized written refuses old f new r → Serialized written refuses old g new r
-  same {old = old} {new = new} {r = r} is h = subst (λ p. Serialized written refuses old p new r) is h
+  pub same : {T : Type 0} {old new : Serializer W} {f g : Part} {r : Result T Error} → f ≡ g → Serialized written refuses references old f new r → Serialized written refuses references old g new r
+  same {old = old} {new = new} {r = r} is h = subst (λ p. Serialized written refuses references old p new r) is h
 
-  pub by_parts : {T : Type 0} {old new : Serializer W} {d : Doc} {r : Result T Error} → Serialized written refuses old (parts d) new r → Serialized written refuses old (item d) new r
+  pub by_parts : {T : Type 0} {old new : Serializer W} {d : Doc} {r : Result T Error} → Serialized written refuses references old (parts d) new r → Serialized written refuses references old (item d) new r
   by_parts {old = old} {d = d} h = same_part (parts_same old.settings d) h
 
   -- no byte was to be written
-  pub nothing_is : {old : Serializer W} (part : Part) → bytes_under old.settings part ≡ [] → IsStorablePart part → IsPartInRange part → Serialized {T = Unit {0}} written refuses old part old (Ok tt)
+  pub nothing_is : {old : Serializer W} (part : Part) → bytes_under old.settings part ≡ [] → IsStorablePart part → IsPartInRange part → Serialized {T = Unit {0}} written refuses references old part old (Ok tt)
   nothing_is {old = old} part none storable in_range = record {
     ok = record {
       appended = subst (λ bs. Appends (written old.writer) (written old.writer) bs) (sym none) (Appends-nil (written old.writer));
       settings = refl;
+      same_references = refl;
       storable = storable;
       in_range = in_range;
     };
@@ -170,29 +178,31 @@ module _ {W : Type 0} {written : W → Option (List ℕ)} {refuses : W → Error
   }
 
   -- a value's canonical spelling was written, which is that of its document
-  pub serialized_value : {T : Type 0} {old new : Serializer W} (v : Val) (r : Result T Error) → new.settings ≡ old.settings → OnOk r (IsStorable v) → OnOk r (IsInRange v)
-      → Wrote (written old.writer) (canon v) (written new.writer) r → IfErr r (λ e. refuses new.writer e ⊎ IsUnstorable v e) → Serialized written refuses old (item (document_of v)) new r
+  pub serialized_value : {T : Type 0} {old new : Serializer W} (v : Val) (r : Result T Error) → new.settings ≡ old.settings → references new.writer ≡ references old.writer → OnOk r (IsStorable v) → OnOk r (IsInRange v)
+      → Wrote (written old.writer) (canon v) (written new.writer) r → IfErr r (λ e. refuses new.writer e ⊎ IsUnstorable v e) → Serialized written refuses references old (item (document_of v)) new r
   unfolding part_bytes
-  serialized_value {old = old} {new = new} v (Ok x) kept storable in_range w refused = record {
+  serialized_value {old = old} {new = new} v (Ok x) kept same_references storable in_range w refused = record {
     ok = record {
       appended = subst (λ bs. Appends (written old.writer) (written new.writer) bs) (sym (document_is_canonical v old.settings.packed old.settings.legacy)) w.ok;
       settings = kept;
+      same_references = same_references;
       storable = storable_document v storable;
       in_range = document_in_range v in_range;
     };
     err = tt;
   }
-  serialized_value {old = old} {new = new} v (Err e) kept storable in_range w refused = record {
+  serialized_value {old = old} {new = new} v (Err e) kept same_references storable in_range w refused = record {
     ok = tt;
     err = record {
       appended = subst (λ bs. AppendsBeginning bs (written old.writer) (written new.writer)) (sym (document_is_canonical v old.settings.packed old.settings.legacy)) w.err;
       settings = kept;
+      same_references = same_references;
       refused = elim refused [ inl r ↦ inl r | inr u ↦ inr ((λ h. u.0 (storable_value v h)), u.1) ];
     };
   }
 
   -- the last part, where a declared length needs no end
-  pub last : {T : Type 0} {old new : Serializer W} {f : Part} {r : Result T Error} → Serialized written refuses old f new r → Serialized written refuses old (both f (ending (Some 0))) new r
+  pub last : {T : Type 0} {old new : Serializer W} {f : Part} {r : Result T Error} → Serialized written refuses references old f new r → Serialized written refuses references old (both f (ending (Some 0))) new r
   unfolding part_bytes
   last {old = old} {f = f} h = same_part (record {
     same = sym (append-nil (bytes_under old.settings f));
@@ -204,7 +214,7 @@ module _ {W : Type 0} {written : W → Option (List ℕ)} {refuses : W → Error
   -- ---- a document, by the settings that its serializer began with
 
   pub document_wrote : {T : Type 0} {old new : Serializer W} {d : Doc} {r : Result T Error} (p l : Bool) → old.settings ≡ record { packed = p; legacy = l }
-      → Serialized written refuses old (item d) new r → Wrote (written old.writer) (document_bytes d p l) (written new.writer) r
+      → Serialized written refuses references old (item d) new r → Wrote (written old.writer) (document_bytes d p l) (written new.writer) r
   unfolding part_bytes
   document_wrote {old = old} {new = new} {d = d} {r = Ok x} p l begun h = record {
     ok = subst (λ (s : Settings). Appends (written old.writer) (written new.writer) (document_bytes d s.packed s.legacy)) begun h.ok.appended;
@@ -215,6 +225,34 @@ module _ {W : Type 0} {written : W → Option (List ℕ)} {refuses : W → Error
     err = subst (λ (s : Settings). AppendsBeginning (document_bytes d s.packed s.legacy) (written old.writer) (written new.writer)) begun h.err.appended;
   }
 
-  pub document_refused : {T : Type 0} {old new : Serializer W} {d : Doc} {r : Result T Error} → Serialized written refuses old (item d) new r → IfErr r (DocumentRefused refuses new.writer d)
+  pub document_refused : {T : Type 0} {old new : Serializer W} {d : Doc} {r : Result T Error} → Serialized written refuses references old (item d) new r → IfErr r (DocumentRefused refuses new.writer d)
   document_refused {r = Ok x} h = tt
   document_refused {r = Err e} h = h.err.refused
+
+-- ---- a document that is a value's, written to a sink
+
+canon_is : (v : Val) (d : Doc) → d ≡ document_of v → document_bytes d false false ≡ canon v
+canon_is v d is = ap (λ (z : Doc). document_bytes z false false) is ∙ document_is_canonical v false false
+
+pub wrote_values : {T W : Type 0} {written : W → Option (List ℕ)} {refuses : W → Error → Type 0} {old new : W} (d : Doc) (r : Result T Error)
+    → OnOk r (IsStorableDocument d) → OnOk r (IsDocumentInRange d) → Wrote (written old) (document_bytes d false false) (written new) r
+    → IfErr r (DocumentRefused refuses new d) → WroteValues written refuses old d new r
+wrote_values {T = T} {written = written} {old = old} {new = new} d (Ok x) storable in_range wrote refused v is = record {
+  storable = storable_value v (subst IsStorableDocument is storable);
+  in_range = value_in_range v (subst IsDocumentInRange is in_range);
+  written = subst (λ bs. Wrote {T = T} {E = Error} (written old) bs (written new) (Ok x)) (canon_is v d is) wrote;
+  refused = tt;
+}
+wrote_values {T = T} {written = written} {old = old} {new = new} d (Err e) storable in_range wrote refused v is = record {
+  storable = tt;
+  in_range = tt;
+  written = subst (λ bs. Wrote {T = T} {E = Error} (written old) bs (written new) (Err e)) (canon_is v d is) wrote;
+  refused = elim refused [ inl r ↦ inl r | inr u ↦ inr ((λ h. u.0 (subst IsStorableDocument (sym is) (storable_document v h))), u.1) ];
+}
+
+-- ---- a sink that was lent
+
+pub references_stay : {T W : Type 0} {written : W → Option (List ℕ)} {refuses : W → Error → Type 0} {references : W → List ℕ} {old new : Serializer W} {f : Part} {r : Result T Error}
+    → Serialized written refuses references old f new r → references new.writer ≡ references old.writer
+references_stay {r = Ok x} h = h.ok.same_references
+references_stay {r = Err e} h = h.err.same_references

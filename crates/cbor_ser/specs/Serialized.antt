@@ -1,11 +1,15 @@
 -- What a call of a serializer leaves: a part of a document was appended to its sink, or a beginning
--- of that part. `written` tells a sink's bytes and `refuses` its errors, as `Write` has them.
+-- of that part. `written` tells a sink's bytes, `refuses` its errors, and `references` what it
+-- writes through, as `Write` has them.
 use Rattle.std.specs.Prelude.{◌≡◌, ℕ, List, Option, ◌⊎◌, Result, OnOk, IfErr}
 use Rattle.std.specs.Io.KnownBytes.{Appends}
 use Rattle.cbor_model.specs.Plain.{Val}
+use Rattle.cbor_model.specs.Canonical.{IsStorable, canon}
+use Rattle.cbor_model.specs.InRange.{IsInRange}
+use Rattle.cbor_model.specs.Document.{Doc, document_of}
 use Rattle.cbor_model.specs.Parts.{Part, part_bytes, IsStorablePart, IsPartInRange}
 use Rattle.cbor_io.specs.declared.error.Error.{Error}
-use Rattle.cbor_io.specs.Write.{AppendsBeginning}
+use Rattle.cbor_io.specs.Write.{AppendsBeginning, Wrote}
 use Rattle.cbor_ser.specs.Written.{IsUnstorable, SaysUnstorable}
 use Rattle.cbor_ser.specs.declared.serializer.Settings.{Settings}
 use Rattle.cbor_ser.specs.declared.serializer.Serializer.{Serializer}
@@ -21,22 +25,30 @@ abbrev pub bytes_under : Settings → Part → List ℕ
 bytes_under s part = part_bytes part s.packed s.legacy
 
 -- The part was appended, and all its numbers fit.
-pub record Added {W : Type 0} (written : W → Option (List ℕ)) (old : Serializer W) (part : Part) (new : Serializer W) : Type 0 where
+pub record Added {W : Type 0} (written : W → Option (List ℕ)) (references : W → List ℕ)
+    (old : Serializer W) (part : Part) (new : Serializer W) : Type 0 where
   pub appended : Appends (written old.writer) (written new.writer) (bytes_under old.settings part)
   pub settings : new.settings ≡ old.settings
+  pub same_references : references new.writer ≡ references old.writer
   pub storable : IsStorablePart part
   pub in_range : IsPartInRange part
 
 -- A beginning of the part was appended. The error is one of the sink's, or the part has a number
 -- that isn't stored.
-pub record Stopped {W : Type 0} (written : W → Option (List ℕ)) (refuses : W → Error → Type 0) (old : Serializer W) (part : Part) (new : Serializer W) (e : Error) : Type 0 where
-  pub appended : AppendsBeginning (bytes_under old.settings part) (written old.writer) (written new.writer)
+pub record Stopped {W : Type 0} (written : W → Option (List ℕ)) (refuses : W → Error → Type 0)
+    (references : W → List ℕ) (old : Serializer W) (part : Part) (new : Serializer W)
+    (e : Error) : Type 0 where
+  pub appended : AppendsBeginning (bytes_under old.settings part)
+      (written old.writer) (written new.writer)
   pub settings : new.settings ≡ old.settings
+  pub same_references : references new.writer ≡ references old.writer
   pub refused : refuses new.writer e ⊎ ((IsStorablePart part → ⊥) × SaysUnstorable e)
 
-pub record Serialized {T W : Type 0} (written : W → Option (List ℕ)) (refuses : W → Error → Type 0) (old : Serializer W) (part : Part) (new : Serializer W) (result : Result T Error) : Type 0 where
-  pub ok : OnOk result (Added written old part new)
-  pub err : IfErr result (Stopped written refuses old part new)
+pub record Serialized {T W : Type 0} (written : W → Option (List ℕ)) (refuses : W → Error → Type 0)
+    (references : W → List ℕ) (old : Serializer W) (part : Part) (new : Serializer W)
+    (result : Result T Error) : Type 0 where
+  pub ok : OnOk result (Added written references old part new)
+  pub err : IfErr result (Stopped written refuses references old part new)
 
 -- under these settings the part is spelled so, and all its numbers fit
 pub record Spells (s : Settings) (part : Part) (bytes : List ℕ) : Type 0 where
@@ -47,3 +59,19 @@ pub record Spells (s : Settings) (part : Part) (bytes : List ℕ) : Type 0 where
 -- one of the sink's errors, or a number in the value that isn't stored
 abbrev pub ValueRefused : {W : Type 0} → (W → Error → Type 0) → W → Val → Error → Type 0
 ValueRefused refuses w v e = refuses w e ⊎ IsUnstorable v e
+
+-- The value's canonical spelling was appended, or a beginning of it.
+pub record WroteValue {T W : Type 0} (written_by : W → Option (List ℕ))
+    (refuses : W → Error → Type 0) (old : W) (v : Val) (new : W)
+    (result : Result T Error) : Type 0 where
+  pub storable : OnOk result (IsStorable v)
+  pub in_range : OnOk result (IsInRange v)
+  pub written : Wrote (written_by old) (canon v) (written_by new) result
+  pub refused : IfErr result (ValueRefused refuses new v)
+
+-- If the document is a value's, what was appended is that value's canonical spelling, or a
+-- beginning of it.
+abbrev pub WroteValues : {T W : Type 0} → (W → Option (List ℕ)) → (W → Error → Type 0)
+    → W → Doc → W → Result T Error → Type 0
+WroteValues written refuses old d new result =
+    (v : Val) → d ≡ document_of v → WroteValue written refuses old v new result

@@ -1,6 +1,7 @@
-ghost use Rattle.std.specs.Prelude.{IfOk, IsTrue};
+ghost use Rattle.std.specs.Prelude.{◌≡◌, false, take, IfOk, IsTrue};
+ghost use Rattle.cbor_model.specs.Document.{document_bytes};
 
-use crate::{SliceWrite, to_vec, to_writer};
+use crate::{Serialize, SliceWrite, to_vec, to_writer};
 use cbor_io::error;
 use cbor_value::Value;
 use std::alloc::Global;
@@ -17,6 +18,25 @@ fn leaves_a_beginning(alloc: Global, room: &mut [u8], value: &Value) -> error::R
     let count = sink.bytes_written();
     let slice = sink.into_inner();
     Ok(whole.starts_with(&slice[..count]))
+}
+
+/// Writes a document to the front of a slice, and answers how long it is. The caller's own slice
+/// then holds those bytes.
+fn fill_front<T: Serialize>(alloc: Global, room: &mut [u8], value: &T) -> error::Result<usize>
+    ensures { IfOk result
+        (λ n. take n room.new ≡ document_bytes (T.document value.now) false false) }
+{
+    let mut sink = SliceWrite::new(room);
+    to_writer(alloc, &mut sink, value)?;
+    Ok(sink.bytes_written())
+}
+
+#[test]
+fn fills_the_front_of_a_slice(rt: HostRuntime) -> Result<(), Fail> {
+    let mut room = [7; 4];
+    assert_eq!(rt; fill_front(rt.alloc(), &mut room, &"ab")?, 3);
+    assert_eq!(rt; room.as_slice(), b"\x62ab\x07".as_slice());
+    Ok(())
 }
 
 // A text of 3 bytes: its head is one piece, and what it holds another.

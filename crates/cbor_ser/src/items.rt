@@ -52,6 +52,7 @@ pub(crate) fn not_storable(alloc: Global) -> Error
 // Appends a piece.
 fn put<W: Write>(writer: &mut W, refusal: &mut Option<Error>, piece: &[u8]) -> Done
     ensures written { Wrote (W.written writer.old) piece.now (W.written writer.new) result }
+    ensures same_references { W.references writer.new ≡ W.references writer.old }
     ensures refused { OnErr result (IsSomeAnd refusal.new (W.refuses writer.new)) }
 {
     match writer.write_all(piece) {
@@ -72,6 +73,7 @@ pub(crate) fn write_head<W: Write>(
 ) -> Done
     ensures written { Wrote (W.written writer.old) (short (major_number major) n)
         (W.written writer.new) result }
+    ensures same_references { W.references writer.new ≡ W.references writer.old }
     ensures refused { OnErr result (IsSomeAnd refusal.new (W.refuses writer.new)) }
 {
     let first = major.number() * 32;
@@ -101,6 +103,7 @@ pub(crate) fn write_string<W: Write>(
     ensures written { Wrote (W.written writer.old)
         (short (major_number major) (length content.now) ++ content.now)
         (W.written writer.new) result }
+    ensures same_references { W.references writer.new ≡ W.references writer.old }
     ensures refused { OnErr result (IsSomeAnd refusal.new (W.refuses writer.new)) }
 {
     write_head(writer, refusal, major, content.len() as u64)?;
@@ -117,6 +120,7 @@ pub(crate) fn write_float<W: Write>(
     ensures in_range { IsInRange (float_view float) }
     ensures written { Wrote (W.written writer.old) (canon (float_view float))
         (W.written writer.new) result }
+    ensures same_references { W.references writer.new ≡ W.references writer.old }
     ensures refused { OnErr result (IsSomeAnd refusal.new (W.refuses writer.new)) }
 {
     match float {
@@ -146,6 +150,7 @@ pub(crate) fn write_integer<W: Write>(
     ensures storable { OnOk result (IsStorableInteger i) }
     ensures written { Wrote (W.written writer.old) (canon (plain.integer i))
         (W.written writer.new) result }
+    ensures same_references { W.references writer.new ≡ W.references writer.old }
     ensures refused { OnErr result
         (IsSomeAnd refusal.new (ValueRefused W.refuses writer.new (plain.integer i))) }
     ensures kept { (IsStorableInteger i → ⊥) → writer.new ≡ writer.old }
@@ -173,6 +178,7 @@ pub(crate) fn write_value<W: Write>(
     ensures in_range { OnOk result (IsInRange (view value.now)) }
     ensures written { Wrote (W.written writer.old) (canon (view value.now))
         (W.written writer.new) result }
+    ensures same_references { W.references writer.new ≡ W.references writer.old }
     ensures refused { OnErr result
         (IsSomeAnd refusal.new (ValueRefused W.refuses writer.new (view value.now))) }
 {
@@ -201,6 +207,7 @@ fn write_tag<W: Write>(
     ensures in_range { OnOk result (IsInRange (plain.tag tag (view inner.now))) }
     ensures written { Wrote (W.written writer.old) (canon (plain.tag tag (view inner.now)))
         (W.written writer.new) result }
+    ensures same_references { W.references writer.new ≡ W.references writer.old }
     ensures refused { OnErr result
         (IsSomeAnd refusal.new (ValueRefused W.refuses writer.new (view inner.now))) }
 {
@@ -220,6 +227,7 @@ fn write_array<W: Write>(
     ensures in_range { OnOk result (IsInRange (plain.array (views items.now))) }
     ensures written { Wrote (W.written writer.old) (canon (plain.array (views items.now)))
         (W.written writer.new) result }
+    ensures same_references { W.references writer.new ≡ W.references writer.old }
     ensures refused { OnErr result
         (IsSomeAnd refusal.new
         (ValueRefused W.refuses writer.new (plain.array (views items.now)))) }
@@ -241,6 +249,7 @@ fn write_items<W: Write>(
     ensures in_range { OnOk result (AreInRange (views items.now)) }
     ensures written { Wrote (W.written writer.old) (spell_all (canonical_all (views items.now)))
         (W.written writer.new) result }
+    ensures same_references { W.references writer.new ≡ W.references writer.old }
     ensures refused { OnErr result
         (IsSomeAnd refusal.new
         (ValueRefused W.refuses writer.new (plain.array (views items.now)))) }
@@ -262,6 +271,7 @@ fn write_map<W: Write>(
     ensures in_range { OnOk result (IsInRange (plain.map (map_view map.now))) }
     ensures written { Wrote (W.written writer.old) (canon (plain.map (map_view map.now)))
         (W.written writer.new) result }
+    ensures same_references { W.references writer.new ≡ W.references writer.old }
     ensures refused { OnErr result
         (IsSomeAnd refusal.new
         (ValueRefused W.refuses writer.new (plain.map (map_view map.now)))) }
@@ -283,6 +293,7 @@ fn write_pairs<W: Write>(
     ensures in_range { OnOk result (ArePairsInRange (pair_views pairs.now)) }
     ensures written { Wrote (W.written writer.old)
         (spell_pairs (canonical_pairs (pair_views pairs.now))) (W.written writer.new) result }
+    ensures same_references { W.references writer.new ≡ W.references writer.old }
     ensures refused { OnErr result
         (IsSomeAnd refusal.new
         (ValueRefused W.refuses writer.new (plain.map (pair_views pairs.now)))) }

@@ -9,19 +9,14 @@
 #![tactic(auto)]
 
 ghost use Rattle.std.specs.Prelude.{◌≡◌, false, true, IfOk, IfErr, OnOk};
-ghost use Rattle.cbor_model.specs.Canonical.{canon, IsStorable};
-ghost use Rattle.cbor_model.specs.InRange.{IsInRange};
-ghost use Rattle.cbor_value.specs.View.{view};
-ghost use Rattle.cbor_ser.specs.Serialized.{ValueRefused};
+ghost use Rattle.cbor_ser.specs.Serialized.{WroteValues};
 ghost use Rattle.cbor_model.specs.Document.{document_bytes, IsStorableDocument, IsDocumentInRange};
 ghost use Rattle.cbor_io.specs.Write.{Wrote};
 ghost use Rattle.cbor_ser.specs.Bytes.{SpellsValues};
-ghost use Rattle.cbor_ser.specs.Written.{IsNotWritten};
+ghost use Rattle.cbor_ser.specs.Written.{IsNotWritten, DocumentRefused};
 
-use crate::items::{answer, write_value};
 use cbor_io::error::Result;
 pub use cbor_io::write::{IoWrite, SliceWrite, Write};
-use cbor_value::Value;
 use std::alloc::Global;
 
 mod collection;
@@ -78,12 +73,12 @@ pub fn to_vec_packed<T: Serialize>(alloc: Global, value: &T) -> Result<Vec<u8>>
     Ok(ser.into_inner())
 }
 
-/// Appends a value's canonical spelling to a sink: the bytes that [`to_vec`] answers.
+/// Appends a value's document to a sink: the bytes that [`to_vec`] answers.
 ///
 /// It refuses an integer outside `-2^64..=2^64-1`, at any depth, with the message
 /// `The number can't be stored in CBOR`, and whatever the sink refuses. The allocator is for the
 /// text of the first refusal alone. After an Err, a sink that tells its bytes holds what it had and
-/// a beginning of the spelling: where a [`SliceWrite`] is too short, the bytes written are a
+/// a beginning of the document's bytes: where a [`SliceWrite`] is too short, the bytes written are a
 /// beginning of what `to_vec` answers.
 ///
 /// A `Vec<u8>` grows:
@@ -112,17 +107,21 @@ pub fn to_vec_packed<T: Serialize>(alloc: Global, value: &T) -> Result<Vec<u8>>
 /// to_writer(alloc, &mut IoWrite::new(&mut file), &Value::Integer(-300))?;
 /// assert_eq!(rt; file.as_slice(), b"\x39\x01\x2b".as_slice());
 /// ```
-pub fn to_writer<W: Write>(alloc: Global, writer: &mut W, value: &Value) -> Result<()>
-    ensures storable { OnOk result (IsStorable (view value.now)) }
-    ensures in_range { OnOk result (IsInRange (view value.now)) }
-    // Ok has appended the canonical spelling, and an Err a beginning of it.
-    ensures written { Wrote (W.written writer.old) (canon (view value.now))
-        (W.written writer.new) result }
-    ensures refused { IfErr result (ValueRefused W.refuses writer.new (view value.now)) }
+pub fn to_writer<W: Write, T: Serialize>(alloc: Global, writer: &mut W, value: &T) -> Result<()>
+    ensures storable { OnOk result (IsStorableDocument (T.document value.now)) }
+    ensures in_range { OnOk result (IsDocumentInRange (T.document value.now)) }
+    // Ok has appended the document's bytes, and an Err a beginning of them.
+    ensures written { Wrote (W.written writer.old)
+        (document_bytes (T.document value.now) false false) (W.written writer.new) result }
+    ensures refused { IfErr result
+        (DocumentRefused W.refuses writer.new (T.document value.now)) }
+    ensures same_references { W.references writer.new ≡ W.references writer.old }
+    // Where the document is that of a `Value`, the bytes are the value's canonical spelling.
+    ensures canonical { WroteValues W.written W.refuses writer.old (T.document value.now)
+        writer.new result }
 {
-    let mut refusal = None;
-    let done = write_value(alloc, writer, &mut refusal, value);
-    answer(done, refusal)
+    let mut ser = Serializer::new(alloc, writer);
+    value.serialize(&mut ser)
 }
 
 #[cfg(test)]

@@ -49,10 +49,33 @@ use cbor_io::write::Write;
 /// assert_eq!(rt; bytes.as_slice(), b"\xa2\0\xa2\0\x01\x01\x02\x01\xa1\x66Circle\x03".as_slice());
 /// ```
 ///
+/// A type that contains itself says its document as a fold over its values, of which one level is
+/// given, with the documents of its parts in their places; it writes them by their own type:
+///
+/// ```rust
+/// enum Tree { Leaf(u8), Node(Vec<Tree>) }
+///
+/// impl Serialize for Tree {
+///     ghost document = {
+///         fold-Tree Doc (elim [ Tree-F.Leaf n ↦ integer (pos n)
+///         | Tree-F.Node parts ↦ sequence declared (docs (λ d. d) parts.items) ])
+///     };
+///
+///     fn serialize<W: Write>(&self, ser: &mut Serializer<W>) -> Result<()> {
+///         match self {
+///             Tree::Leaf(n) => n.serialize(ser),
+///             Tree::Node(parts) => parts.serialize(ser),
+///         }
+///     }
+/// }
+/// ```
+///
 /// An implementation that is one call proves by itself. Where it writes several parts, each exit of
 /// a `?` and the end take one line each, by the published facts (`proofs/facts/Serialize`):
 /// `by_parts` opens the document; `and_then` takes a part that was written; `head_stops` and
-/// `stops` are the exit at the head and at a part; `ends` is the last call.
+/// `stops` are the exit at the head and at a part; `ends` is the last call. For a type that
+/// contains itself, its own `the_lemmas` say what the fold is at one level, and `docs_of` what a
+/// list is there (the samples among `serde_cbor`'s tests have one).
 ///
 /// ```text
 /// returns-in_err-fields g c =
@@ -72,10 +95,10 @@ pub trait Serialize {
     // What a value is written as: its document.
     ghost document: { Self → Doc };
 
-    /// Appends the document, or a beginning of it and refuses: for want of memory, by the or
+    /// Appends the document, or a beginning of it and refuses: for want of memory, by the sink, or
     /// with the message `The number can't be stored in CBOR`, which only a document with such a
     /// number gets.
     fn serialize<W: Write>(&self, ser: &mut Serializer<W>) -> Result<()>
-        ensures { Serialized W.written W.refuses ser.old (item (document self.now))
+        ensures { Serialized W.written W.refuses W.references ser.old (item (document self.now))
             ser.new result };
 }

@@ -28,7 +28,7 @@ pub(crate) struct Settings {
     pub(crate) legacy: bool,
 }
 
-/// Writes items to a one after the other.
+/// Writes items to a sink, one after the other.
 ///
 /// Each call appends the item's shortest spelling, a head as one piece and what a string holds as
 /// another. Where the sink refuses, it holds what it had and a beginning of the item, if it tells
@@ -110,98 +110,109 @@ impl<W: Write> Serializer<W> {
 
     /// Appends the tag 55799, which says that CBOR follows (RFC 7049, section 2.4.5).
     pub fn self_describe(&mut self) -> Result<()>
-        ensures { Serialized W.written W.refuses self.old (tag_head 55799) self.new result }
+        ensures { Serialized W.written W.refuses W.references self.old (tag_head 55799)
+            self.new result }
     {
         self.serialize_tag(55799)
     }
 
     /// Appends the head of a tag. The item that it is of is to be written next.
     pub fn serialize_tag(&mut self, tag: u64) -> Result<()>
-        ensures { Serialized W.written W.refuses self.old (tag_head tag) self.new result }
+        ensures { Serialized W.written W.refuses W.references self.old (tag_head tag)
+            self.new result }
     {
         self.write_head(Major::Tag, tag)
     }
 
     /// Appends `f4` or `f5`.
     pub fn serialize_bool(&mut self, v: bool) -> Result<()>
-        ensures { Serialized W.written W.refuses self.old (item (bool v)) self.new result }
+        ensures { Serialized W.written W.refuses W.references self.old (item (bool v))
+            self.new result }
     {
         self.write_piece(&[if v { 0xf5 } else { 0xf4 }])
     }
 
     /// Appends `f6`.
     pub fn serialize_unit(&mut self) -> Result<()>
-        ensures { Serialized W.written W.refuses self.old (item null) self.new result }
+        ensures { Serialized W.written W.refuses W.references self.old (item null) self.new result }
     {
         self.write_piece(&[0xf6])
     }
 
     /// Appends `f6`, which is what an absent value is written as.
     pub fn serialize_none(&mut self) -> Result<()>
-        ensures { Serialized W.written W.refuses self.old (item null) self.new result }
+        ensures { Serialized W.written W.refuses W.references self.old (item null) self.new result }
     {
         self.serialize_unit()
     }
 
     /// Appends `f6`, whatever the struct's name.
     pub fn serialize_unit_struct(&mut self, _name: &'static str) -> Result<()>
-        ensures { Serialized W.written W.refuses self.old (item null) self.new result }
+        ensures { Serialized W.written W.refuses W.references self.old (item null) self.new result }
     {
         self.serialize_unit()
     }
 
     /// Appends a whole number from 0.
     pub fn serialize_u64(&mut self, v: u64) -> Result<()>
-        ensures { Serialized W.written W.refuses self.old (item (integer (pos v))) self.new result }
+        ensures { Serialized W.written W.refuses W.references self.old (item (integer (pos v)))
+            self.new result }
     {
         self.write_head(Major::UnsignedInteger, v)
     }
 
     /// Appends a whole number from 0.
     pub fn serialize_u8(&mut self, v: u8) -> Result<()>
-        ensures { Serialized W.written W.refuses self.old (item (integer (pos v))) self.new result }
+        ensures { Serialized W.written W.refuses W.references self.old (item (integer (pos v)))
+            self.new result }
     {
         self.serialize_u64(v as u64)
     }
 
     /// Appends a whole number from 0.
     pub fn serialize_u16(&mut self, v: u16) -> Result<()>
-        ensures { Serialized W.written W.refuses self.old (item (integer (pos v))) self.new result }
+        ensures { Serialized W.written W.refuses W.references self.old (item (integer (pos v)))
+            self.new result }
     {
         self.serialize_u64(v as u64)
     }
 
     /// Appends a whole number from 0.
     pub fn serialize_u32(&mut self, v: u32) -> Result<()>
-        ensures { Serialized W.written W.refuses self.old (item (integer (pos v))) self.new result }
+        ensures { Serialized W.written W.refuses W.references self.old (item (integer (pos v)))
+            self.new result }
     {
         self.serialize_u64(v as u64)
     }
 
     /// Appends a whole number.
     pub fn serialize_i8(&mut self, v: i8) -> Result<()>
-        ensures { Serialized W.written W.refuses self.old (item (integer v)) self.new result }
+        ensures { Serialized W.written W.refuses W.references self.old (item (integer v))
+            self.new result }
     {
         self.serialize_i64(v as i64)
     }
 
     /// Appends a whole number.
     pub fn serialize_i16(&mut self, v: i16) -> Result<()>
-        ensures { Serialized W.written W.refuses self.old (item (integer v)) self.new result }
+        ensures { Serialized W.written W.refuses W.references self.old (item (integer v))
+            self.new result }
     {
         self.serialize_i64(v as i64)
     }
 
     /// Appends a whole number.
     pub fn serialize_i32(&mut self, v: i32) -> Result<()>
-        ensures { Serialized W.written W.refuses self.old (item (integer v)) self.new result }
+        ensures { Serialized W.written W.refuses W.references self.old (item (integer v))
+            self.new result }
     {
         self.serialize_i64(v as i64)
     }
 
     /// Appends a whole number.
     pub fn serialize_i64(&mut self, v: i64) -> Result<()>
-        ensures { Serialized W.written W.refuses self.old (item (integer v)) self.new result }
+        ensures { Serialized W.written W.refuses W.references self.old (item (integer v))
+            self.new result }
     {
         if v >= 0 {
             self.write_head(Major::UnsignedInteger, v as u64)
@@ -213,8 +224,8 @@ impl<W: Write> Serializer<W> {
     /// Appends a whole number. Outside `-2^64..=2^64-1` it is refused with the message
     /// `The number can't be stored in CBOR`, for which it takes memory, and nothing is appended.
     pub fn serialize_i128(&mut self, v: i128) -> Result<()>
-        ensures written { Serialized W.written W.refuses self.old
-            (item (integer v)) self.new result }
+        ensures written { Serialized W.written W.refuses W.references self.old (item (integer v))
+            self.new result }
         ensures kept { (IsStorableInteger v → ⊥) → self.new ≡ self.old }
     {
         let mut refusal = None;
@@ -224,7 +235,7 @@ impl<W: Write> Serializer<W> {
 
     /// Appends a whole number from 0. Above `2^64-1` it is refused as by `serialize_i128`.
     pub fn serialize_u128(&mut self, v: u128) -> Result<()>
-        ensures written { Serialized W.written W.refuses self.old
+        ensures written { Serialized W.written W.refuses W.references self.old
             (item (integer (pos v))) self.new result }
         ensures kept { (IsStorableInteger (pos v) → ⊥) → self.new ≡ self.old }
     {
@@ -236,7 +247,7 @@ impl<W: Write> Serializer<W> {
 
     /// Appends a float in its width, with its bits as they are.
     pub fn serialize_float(&mut self, v: Float) -> Result<()>
-        ensures { Serialized W.written W.refuses self.old
+        ensures { Serialized W.written W.refuses W.references self.old
             (item (document_of (float_view v))) self.new result }
     {
         let mut refusal = None;
@@ -246,15 +257,16 @@ impl<W: Write> Serializer<W> {
 
     /// Appends a text: its head, and then its bytes.
     pub fn serialize_str(&mut self, v: &str) -> Result<()>
-        ensures { Serialized W.written W.refuses self.old (item (text v.now)) self.new result }
+        ensures { Serialized W.written W.refuses W.references self.old (item (text v.now))
+            self.new result }
     {
         self.write_string(Major::TextString, v.as_bytes())
     }
 
     /// Appends a character as the text of it alone.
     pub fn serialize_char(&mut self, v: char) -> Result<()>
-        ensures { Serialized W.written W.refuses self.old
-            (item (text (encode_utf8 v))) self.new result }
+        ensures { Serialized W.written W.refuses W.references self.old (item (text (encode_utf8 v)))
+            self.new result }
     {
         let mut bytes = [0; 4];
         self.serialize_str(v.encode_utf8(&mut bytes))
@@ -262,14 +274,15 @@ impl<W: Write> Serializer<W> {
 
     /// Appends a byte string: its head, and then the bytes.
     pub fn serialize_bytes(&mut self, v: &[u8]) -> Result<()>
-        ensures { Serialized W.written W.refuses self.old (item (bytes v.now)) self.new result }
+        ensures { Serialized W.written W.refuses W.references self.old (item (bytes v.now))
+            self.new result }
     {
         self.write_string(Major::ByteString, v)
     }
 
     // Appends a value's canonical spelling.
     pub(crate) fn write_value(&mut self, v: &Value) -> Result<()>
-        ensures { Serialized W.written W.refuses self.old
+        ensures { Serialized W.written W.refuses W.references self.old
             (item (document_of (view v.now))) self.new result }
     {
         let mut refusal = None;
@@ -281,7 +294,7 @@ impl<W: Write> Serializer<W> {
     fn write_string(&mut self, major: Major, content: &[u8]) -> Result<()>
         ensures { (part : Part) → Spells self.old.settings part
             (short (major_number major) (length content.now) ++ content.now) →
-            Serialized W.written W.refuses self.old part self.new result }
+            Serialized W.written W.refuses W.references self.old part self.new result }
     {
         let mut refusal = None;
         let done = write_string(&mut self.writer, &mut refusal, major, content);
@@ -291,7 +304,7 @@ impl<W: Write> Serializer<W> {
     // Appends the shortest head of the major type with this number, as one piece.
     fn write_head(&mut self, major: Major, n: u64) -> Result<()>
         ensures { (part : Part) → Spells self.old.settings part (short (major_number major) n) →
-            Serialized W.written W.refuses self.old part self.new result }
+            Serialized W.written W.refuses W.references self.old part self.new result }
     {
         let mut refusal = None;
         let done = write_head(&mut self.writer, &mut refusal, major, n);
@@ -301,7 +314,7 @@ impl<W: Write> Serializer<W> {
     // Appends a piece.
     fn write_piece(&mut self, piece: &[u8]) -> Result<()>
         ensures { (part : Part) → Spells self.old.settings part piece.now →
-            Serialized W.written W.refuses self.old part self.new result }
+            Serialized W.written W.refuses W.references self.old part self.new result }
     {
         self.writer.write_all(piece)
     }

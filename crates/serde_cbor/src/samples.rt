@@ -253,3 +253,95 @@ impl Serialize for TwoVariants {
         }
     }
 }
+
+#[derive(Drop)]
+pub struct Mascot {
+    pub name: String,
+    pub species: String,
+    pub year_of_birth: u32,
+}
+
+impl Serialize for Mascot {
+    ghost document = { λ m. structure
+        (field 0 (codes "name") (⟦<String as Serialize>⟧.document m.name)
+        (field 1 (codes "species") (⟦<String as Serialize>⟧.document m.species)
+        (field 2 (codes "year_of_birth") (⟦<u32 as Serialize>⟧.document m.year_of_birth)
+        no_fields))) };
+
+    fn serialize<W: Write>(&self, ser: &mut Serializer<W>) -> Result<()> {
+        let mut fields = ser.serialize_struct("Mascot", 3)?;
+        fields.serialize_field("name", &self.name)?;
+        fields.serialize_field("species", &self.species)?;
+        fields.serialize_field("year_of_birth", &self.year_of_birth)?;
+        fields.end()
+    }
+}
+
+#[derive(Drop)]
+pub struct Person {
+    pub name: String,
+    pub year_of_birth: u16,
+    pub profession: Option<String>,
+}
+
+impl Serialize for Person {
+    ghost document = { λ p. structure
+        (field 0 (codes "name") (⟦<String as Serialize>⟧.document p.name)
+        (field 1 (codes "year_of_birth") (⟦<u16 as Serialize>⟧.document p.year_of_birth)
+        (field 2 (codes "profession") (⟦<Option<String> as Serialize>⟧.document p.profession)
+        no_fields))) };
+
+    fn serialize<W: Write>(&self, ser: &mut Serializer<W>) -> Result<()> {
+        let mut fields = ser.serialize_struct("Person", 3)?;
+        fields.serialize_field("name", &self.name)?;
+        fields.serialize_field("year_of_birth", &self.year_of_birth)?;
+        fields.serialize_field("profession", &self.profession)?;
+        fields.end()
+    }
+}
+
+/// A type that contains itself: a leaf is its number, and a node the list of what it holds.
+#[derive(Drop)]
+pub enum Tree {
+    Leaf(u8),
+    Node(Vec<Tree>),
+}
+
+impl Serialize for Tree {
+    ghost use Rattle.std.specs.Prelude.{pos};
+    ghost use Rattle.cbor_model.specs.Document.{Doc, integer, sequence, declared, docs};
+    ghost use Rattle.serde_cbor.specs.declared.samples.Tree.{fold-Tree};
+    ghost use Rattle.serde_cbor.specs.declared.samples.Tree.TheOpen.{Tree-F};
+
+    // What the parts are written as stands in their places.
+    ghost document = { fold-Tree Doc (elim [
+      | Tree-F.Leaf n ↦ integer (pos n)
+      | Tree-F.Node parts ↦ sequence declared (docs (λ d. d) parts.items)
+    ]) };
+
+    fn serialize<W: Write>(&self, ser: &mut Serializer<W>) -> Result<()> {
+        match self {
+            Tree::Leaf(n) => n.serialize(ser),
+            Tree::Node(parts) => parts.serialize(ser),
+        }
+    }
+}
+
+/// A sink that counts the bytes that it is given, and takes them all.
+#[derive(Drop)]
+pub struct Counter {
+    pub count: usize,
+}
+
+impl Write for Counter {
+    ghost use Rattle.std.specs.Prelude.{None};
+
+    ghost written = { λ _. None };
+
+    ghost refuses = { λ _ _. ⊥ };
+
+    fn write_all(&mut self, buf: &[u8]) -> Result<()> {
+        self.count = self.count.saturating_add(buf.len());
+        Ok(())
+    }
+}

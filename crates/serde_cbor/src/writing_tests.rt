@@ -1,11 +1,11 @@
 //! Types that users write, and their bytes.
 
 use crate::samples::{
-    Bar, Color, DataEnum, Example, Foo, NewtypeStruct, OptionalPerson, SmallStruct, TwoVariants,
-    User,
+    Bar, Color, Counter, DataEnum, Example, Foo, Mascot, NewtypeStruct, OptionalPerson, Person,
+    SmallStruct, Tree, TwoVariants, User,
 };
-use crate::ser::{Serialize, Serializer, SliceWrite, to_vec_packed};
-use crate::to_vec;
+use crate::ser::{IoWrite, Serialize, Serializer, SliceWrite, to_vec_packed};
+use crate::{to_vec, to_writer};
 use std::alloc::Global;
 use std::collections::BTreeMap;
 use std::test::Fail;
@@ -178,11 +178,10 @@ fn leaves_a_beginning_of_a_struct(rt: HostRuntime) -> Result<(), Fail> {
     let whole = to_vec(alloc, &user)?;
     for len in 0..30usize {
         let mut room = [0; 30];
-        let mut ser = Serializer::new(alloc, SliceWrite::new(&mut room[..len]));
-        let Err(error) = user.serialize(&mut ser) else {
+        let mut sink = SliceWrite::new(&mut room[..len]);
+        let Err(error) = to_writer(alloc, &mut sink, &user) else {
             panic!(&rt; "not refused");
         };
-        let sink = ser.into_inner();
         let count = sink.bytes_written();
         assert!(rt; error.is_scratch_too_small());
         assert_eq!(rt; error.offset(), count as u64);
@@ -212,7 +211,9 @@ fn writes_numbers_of_each_width(rt: HostRuntime) -> Result<(), Fail> {
     let bytes = ser.into_inner();
     assert_eq!(rt;
         bytes.as_slice(),
-        b"\x38\xff\x39\x01\0\x18\xff\x1a\x05\xe2\xbe\x12\x1a\0\xbc\x61\x4e\x39\x07\xde\x20\x61\0".as_slice()
+        b"\x38\xff\x39\x01\0\x18\xff\x1a\x05\xe2\xbe\x12\
+            \x1a\0\xbc\x61\x4e\x39\x07\xde\x20\x61\0"
+            .as_slice()
     );
     Ok(())
 }
@@ -235,5 +236,143 @@ fn writes_lists_tuples_and_options(rt: HostRuntime) -> Result<(), Fail> {
         bytes.as_slice(),
         b"\xa2\x01\x81\xf4\x02\x81\xf5".as_slice()
     );
+    Ok(())
+}
+
+// The map of the crate's front page.
+#[test]
+fn writes_a_map_of_lists(rt: HostRuntime) -> Result<(), Fail> {
+    let alloc = rt.alloc();
+    let mut languages: BTreeMap<&'static str, Vec<&'static str>> = BTreeMap::new(alloc);
+    languages.insert("rust", vec![in alloc; "safe", "concurrent", "fast"]?)?;
+    languages.insert("python", vec![in alloc; "powerful", "friendly", "open"]?)?;
+    languages.insert(
+        "js",
+        vec![in alloc; "lightweight", "interpreted", "object-oriented"]?,
+    )?;
+    let bytes = to_vec(alloc, &languages)?;
+    assert_eq!(rt;
+        bytes.as_slice(),
+        b"\xa3\x62js\x83\x6blightweight\x6binterpreted\x6fobject-oriented\
+            \x66python\x83\x68powerful\x68friendly\x64open\
+            \x64rust\x83\x64safe\x6aconcurrent\x64fast"
+            .as_slice()
+    );
+    assert_eq!(rt; bytes.len(), 103);
+    Ok(())
+}
+
+fn ferris(alloc: Global) -> Result<Mascot, Fail> {
+    Ok(Mascot {
+        name: "Ferris".to_owned(alloc)?,
+        species: "crab".to_owned(alloc)?,
+        year_of_birth: 2015,
+    })
+}
+
+const FERRIS: &[u8] = b"\xa3\x64name\x66Ferris\x67species\x64crab\x6dyear_of_birth\x19\x07\xdf";
+
+#[test]
+fn writes_a_struct_to_each_sink(rt: HostRuntime) -> Result<(), Fail> {
+    let alloc = rt.alloc();
+    let mascot = ferris(alloc)?;
+    let mut bytes = vec![in alloc; 0xf6]?;
+    to_writer(alloc, &mut bytes, &mascot)?;
+    assert_eq!(rt; bytes[0], 0xf6);
+    assert_eq!(rt; &bytes[1..], FERRIS);
+    let mut room = [0; 64];
+    let mut sink = SliceWrite::new(&mut room);
+    to_writer(alloc, &mut sink, &mascot)?;
+    assert_eq!(rt; sink.bytes_written(), FERRIS.len());
+    assert!(rt; room.starts_with(FERRIS));
+    let mut file: Vec<u8> = Vec::new(alloc);
+    {
+        let mut sink = IoWrite::new(&mut file);
+        to_writer(alloc, &mut sink, &mascot)?;
+        to_writer(alloc, &mut sink, &mascot.year_of_birth)?;
+    }
+    assert_eq!(rt; file.len(), FERRIS.len() + 3);
+    assert!(rt; file.starts_with(FERRIS));
+    assert!(rt; file.ends_with(b"\x19\x07\xdf"));
+    let mut counter = Counter { count: 0 };
+    to_writer(alloc, &mut counter, &mascot)?;
+    to_writer(alloc, &mut &mut counter, &mascot.year_of_birth)?;
+    assert_eq!(rt; counter.count, FERRIS.len() + 3);
+    Ok(())
+}
+
+#[test]
+fn writes_an_option_within_a_struct(rt: HostRuntime) -> Result<(), Fail> {
+    let alloc = rt.alloc();
+    let grace = Person {
+        name: "Grace Hopper".to_owned(alloc)?,
+        year_of_birth: 1906,
+        profession: Some("computer scientist".to_owned(alloc)?),
+    };
+    let bytes = to_vec(alloc, &grace)?;
+    assert_eq!(rt;
+        bytes.as_slice(),
+        b"\xa3\x64name\x6cGrace Hopper\x6dyear_of_birth\x19\x07\x72\
+            \x6aprofession\x72computer scientist"
+            .as_slice()
+    );
+    let nobody = Person {
+        name: String::new(alloc),
+        year_of_birth: 0,
+        profession: None,
+    };
+    let bytes = to_vec_packed(alloc, &nobody)?;
+    assert_eq!(rt; bytes.as_slice(), b"\xa3\0\x60\x01\0\x02\xf6".as_slice());
+    Ok(())
+}
+
+// The settings reach what lists, maps, tuples and options hold.
+#[test]
+fn writes_enums_within_std_types_in_each_form(rt: HostRuntime) -> Result<(), Fail> {
+    let alloc = rt.alloc();
+    let list = vec![in alloc; DataEnum::A(42), DataEnum::B(true, 9)]?;
+    let mut map: BTreeMap<u8, Option<Bar>> = BTreeMap::new(alloc);
+    map.insert(1, Some(Bar::Number(42)))?;
+    map.insert(2, None)?;
+    let all = (list, map, [Bar::Empty]);
+    let bytes = legacy(alloc, &all)?;
+    assert_eq!(rt;
+        bytes.as_slice(),
+        b"\x83\x82\x82\x61A\x18\x2a\x83\x61B\xf5\x09\
+            \xa2\x01\x82\x66Number\x18\x2a\x02\xf6\x81\x65Empty"
+            .as_slice()
+    );
+    let bytes = packed_legacy(alloc, &all)?;
+    assert_eq!(rt;
+        bytes.as_slice(),
+        b"\x83\x82\x82\0\x18\x2a\x83\x01\xf5\x09\xa2\x01\x82\x01\x18\x2a\x02\xf6\x81\0".as_slice()
+    );
+    Ok(())
+}
+
+#[test]
+fn writes_an_enum_within_structs_in_the_legacy_form(rt: HostRuntime) -> Result<(), Fail> {
+    let example = Example {
+        foo: Foo {
+            x: 0xaa,
+            color: Color::Yellow(40),
+        },
+        payload: 0xcc,
+    };
+    let bytes = legacy(rt.alloc(), &example)?;
+    assert_eq!(rt;
+        bytes.as_slice(),
+        b"\xa2\x63foo\xa2\x61x\x18\xaa\x65color\x82\x66Yellow\x18\x28\x67payload\x18\xcc".as_slice()
+    );
+    Ok(())
+}
+
+#[test]
+fn writes_a_type_that_contains_itself(rt: HostRuntime) -> Result<(), Fail> {
+    let alloc = rt.alloc();
+    let inner = vec![in alloc; Tree::Leaf(2), Tree::Node(Vec::new(alloc))]?;
+    let tree = Tree::Node(vec![in alloc; Tree::Leaf(1), Tree::Node(inner)]?);
+    let bytes = to_vec(alloc, &tree)?;
+    assert_eq!(rt; bytes.as_slice(), b"\x82\x01\x82\x02\x80".as_slice());
     Ok(())
 }

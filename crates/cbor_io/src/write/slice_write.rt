@@ -25,13 +25,14 @@ pub struct SliceWrite<'a> {
 }
 
 impl<'a> SliceWrite<'a> {
-    ghost use Rattle.cbor_io.specs.Write.{written_bytes, unwritten_bytes};
+    ghost use Rattle.cbor_io.specs.Write.{written_bytes, unwritten_bytes, slice_reference};
     ghost use Rattle.std.specs.Prelude.{◌≡◌, ◌++◌, []};
 
     /// The slice as a sink, with nothing written.
     pub fn new(slice: &'a mut [u8]) -> SliceWrite<'a>
         ensures written { written_bytes result ≡ [] }
         ensures unwritten { unwritten_bytes result ≡ slice.old }
+        ensures same_reference { slice_reference result ≡ slice.entry.ghost_name }
     {
         SliceWrite { slice, count: 0 }
     }
@@ -45,7 +46,8 @@ impl<'a> SliceWrite<'a> {
 
     /// The slice: the bytes written, and then the rest of it, unchanged.
     pub fn into_inner(self) -> &'a mut [u8]
-        ensures { result.now ≡ written_bytes self.entry ++ unwritten_bytes self.entry }
+        ensures whole { result.now ≡ written_bytes self.entry ++ unwritten_bytes self.entry }
+        ensures same_reference { result.ghost_name ≡ slice_reference self.entry }
     {
         let SliceWrite { slice, count: _ } = self;
         slice
@@ -53,17 +55,20 @@ impl<'a> SliceWrite<'a> {
 }
 
 impl Write for SliceWrite<'_> {
-    ghost use Rattle.cbor_io.specs.Write.{Wrote, IsFull, written_bytes, unwritten_bytes};
-    ghost use Rattle.std.specs.Prelude.{◌≡◌, ◌<◌, Some, drop, OnOk, OnErr, IfErr};
+    ghost use Rattle.cbor_io.specs.Write.{Wrote, IsFull, written_bytes, unwritten_bytes, slice_reference};
+    ghost use Rattle.std.specs.Prelude.{◌≡◌, ◌<◌, ◌∷◌, [], Some, drop, OnOk, OnErr, IfErr};
 
     ghost written = { λ s. Some (written_bytes s) };
 
     ghost refuses = { λ s e. IsFull s e };
 
+    ghost references = { λ s. slice_reference s ∷ [] };
+
     fn write_all(&mut self, buf: &[u8]) -> Result<()>
         ensures written { Wrote (Some (written_bytes self.old)) buf.now
             (Some (written_bytes self.new)) result }
         ensures refused { IfErr result (λ e. IsFull self.new e) }
+        ensures same_reference { slice_reference self.new ≡ slice_reference self.old }
         // A piece that fits leaves the bytes behind it as they were.
         ensures behind { OnOk result
             (unwritten_bytes self.new ≡ drop (length buf.now) (unwritten_bytes self.old)) }

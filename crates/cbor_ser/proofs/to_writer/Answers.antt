@@ -1,14 +1,32 @@
-use Rattle.cbor_ser.proofs.Beginnings.{told, told_refused, told_ok}
+use Rattle.std.proofs.Common.{rules, false}
+use Rattle.std.specs.Prelude.{OnOk, IfErr}
+use Rattle.cbor_model.specs.Document.{document_bytes, IsStorableDocument, IsDocumentInRange}
+use Rattle.cbor_io.specs.Write.{Wrote}
+use Rattle.cbor_ser.specs.Written.{DocumentRefused}
+use Rattle.cbor_ser.proofs.Steps.{document_wrote, document_refused, references_stay, wrote_values}
 use Rattle.cbor_ser.proofs.to_writer.Goals as goal
 
-pub returns-clause-storable : goal.returns-clause-storable
-returns-clause-storable g c = told_ok _ _ c.write_value-done.result _ c.answer.result c.answer.ensures.err c.write_value-done.ensures.refused c.write_value-done.ensures.storable
-
-pub returns-clause-in_range : goal.returns-clause-in_range
-returns-clause-in_range g c = told_ok _ _ c.write_value-done.result _ c.answer.result c.answer.ensures.err c.write_value-done.ensures.refused c.write_value-done.ensures.in_range
-
 pub returns-clause-written : goal.returns-clause-written
-returns-clause-written g c = told _ c.write_value-done.result _ c.answer.result c.answer.ensures.ok c.answer.ensures.err c.write_value-done.ensures.refused c.write_value-done.ensures.written
+returns-clause-written g c =
+    let stay = references_stay c.serialize.ensures in
+    let wrote = document_wrote false false c.new-ser.ensures.settings c.serialize.ensures in
+    search (rules, stay, wrote)
 
-pub returns-clause-refused : goal.returns-clause-refused
-returns-clause-refused g c = told_refused _ c.write_value-done.result _ c.answer.result c.answer.ensures.ok c.answer.ensures.err c.write_value-done.ensures.refused
+pub returns-clause-same_references : goal.returns-clause-same_references
+returns-clause-same_references g c =
+    let stay = references_stay c.serialize.ensures in
+    search (rules, stay)
+
+pub returns-clause-canonical : goal.returns-clause-canonical
+returns-clause-canonical g c v is =
+    let stay = references_stay c.serialize.ensures in
+    let d = g.T.Serialize.document c.args.value.now in
+    let old = c.args.writer.now in
+    let new = c.serialize.new.ser.writer.now in
+    let storable : OnOk c.serialize.result (IsStorableDocument d) = search rules in
+    let in_range : OnOk c.serialize.result (IsDocumentInRange d) = search rules in
+    let written = document_wrote false false c.new-ser.ensures.settings c.serialize.ensures in
+    let wrote : Wrote (g.W.Write.written old) (document_bytes d false false) (g.W.Write.written new) c.serialize.result = search (rules, written) in
+    let refused : IfErr c.serialize.result (DocumentRefused g.W.Write.refuses new d) = document_refused c.serialize.ensures in
+    let value = wrote_values {written = g.W.Write.written} {refuses = g.W.Write.refuses} {old = old} {new = new} d c.serialize.result storable in_range wrote refused v is in
+    search (rules, stay, value)

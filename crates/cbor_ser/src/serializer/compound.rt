@@ -4,6 +4,7 @@ ghost use Rattle.std.specs.Prelude.{◌≡◌, ◌-◌, ◌+◌, ◌^◌, ◌<�
 ghost use Rattle.std.specs.Borrow.{sem, RestsIfErr};
 ghost use Rattle.cbor_model.specs.Document.{text, unit_variant, newtype_variant};
 ghost use Rattle.cbor_model.specs.Parts.{Part, item, both, array_head, map_head, ending, newtype_head, tuple_head, struct_head, field_part};
+ghost use Rattle.cbor_ser.specs.Documents.{key_document};
 ghost use Rattle.cbor_ser.specs.Serialized.{Added, Serialized};
 ghost use Rattle.cbor_ser.specs.contracts.serializer.Serializer.{the_row};
 
@@ -17,8 +18,8 @@ use cbor_io::write::Write;
 impl<W: Write> Serializer<W> {
     /// Appends a value that is there, as it is.
     pub fn serialize_some<T: Serialize>(&mut self, v: &T) -> Result<()>
-        ensures { Serialized W.written W.refuses self.old
-            (item (T.document v.now)) self.new result }
+        ensures { Serialized W.written W.refuses W.references self.old (item (T.document v.now))
+            self.new result }
     {
         v.serialize(self)
     }
@@ -29,8 +30,8 @@ impl<W: Write> Serializer<W> {
         _name: &'static str,
         v: &T,
     ) -> Result<()>
-        ensures { Serialized W.written W.refuses self.old
-            (item (T.document v.now)) self.new result }
+        ensures { Serialized W.written W.refuses W.references self.old (item (T.document v.now))
+            self.new result }
     {
         v.serialize(self)
     }
@@ -42,7 +43,7 @@ impl<W: Write> Serializer<W> {
         index: u32,
         variant: &'static str,
     ) -> Result<()>
-        ensures { Serialized W.written W.refuses self.old
+        ensures { Serialized W.written W.refuses W.references self.old
             (item (unit_variant index variant.now)) self.new result }
     {
         self.write_identifier(index, variant)
@@ -57,9 +58,8 @@ impl<W: Write> Serializer<W> {
         variant: &'static str,
         v: &T,
     ) -> Result<()>
-        ensures { Serialized W.written W.refuses self.old
-            (item (newtype_variant index variant.now (T.document v.now)))
-            self.new result }
+        ensures { Serialized W.written W.refuses W.references self.old
+            (item (newtype_variant index variant.now (T.document v.now))) self.new result }
     {
         self.write_newtype_head(index, variant)?;
         v.serialize(self)
@@ -72,9 +72,11 @@ impl<W: Write> Serializer<W> {
         len: Option<usize>,
     ) -> Result<CollectionSerializer<'a, W>>
         ensures* rests { sem 𝓛 (RestsIfErr (the_row W.row) self.entry (λ s. s.ser.ghost_name) result
-            (λ last. Serialized W.written W.refuses self.old (array_head len) last result)) }
+            (λ last. Serialized W.written W.refuses W.references self.old (array_head len)
+            last result)) }
         ensures same_reference { IfOk result (λ s. s.ser.ghost_name ≡ self.entry.ghost_name) }
-        ensures head { IfOk result (λ s. Added W.written self.old (array_head len) s.ser.now) }
+        ensures head { IfOk result (λ s. Added W.written W.references self.old (array_head len)
+            s.ser.now) }
         ensures state { IfOk result (λ s. (s.left ≡ len) × (s.turn ≡ Turn.Element)) }
     {
         self.write_array_head(len)?;
@@ -92,9 +94,11 @@ impl<W: Write> Serializer<W> {
         len: Option<usize>,
     ) -> Result<CollectionSerializer<'a, W>>
         ensures* rests { sem 𝓛 (RestsIfErr (the_row W.row) self.entry (λ s. s.ser.ghost_name) result
-            (λ last. Serialized W.written W.refuses self.old (map_head len) last result)) }
+            (λ last. Serialized W.written W.refuses W.references self.old (map_head len)
+            last result)) }
         ensures same_reference { IfOk result (λ s. s.ser.ghost_name ≡ self.entry.ghost_name) }
-        ensures head { IfOk result (λ s. Added W.written self.old (map_head len) s.ser.now) }
+        ensures head { IfOk result (λ s. Added W.written W.references self.old (map_head len)
+            s.ser.now) }
         ensures state { IfOk result (λ s. (s.left ≡ len) × (s.turn ≡ Turn.Key)) }
     {
         self.write_map_head(len)?;
@@ -108,10 +112,11 @@ impl<W: Write> Serializer<W> {
     /// Begins a tuple, which is a sequence of so many items.
     pub fn serialize_tuple<'a>(&'a mut self, len: usize) -> Result<CollectionSerializer<'a, W>>
         ensures* rests { sem 𝓛 (RestsIfErr (the_row W.row) self.entry (λ s. s.ser.ghost_name) result
-            (λ last. Serialized W.written W.refuses self.old (array_head (Some len)) last result)) }
+            (λ last. Serialized W.written W.refuses W.references self.old (array_head (Some len))
+            last result)) }
         ensures same_reference { IfOk result (λ s. s.ser.ghost_name ≡ self.entry.ghost_name) }
-        ensures head { IfOk result
-            (λ s. Added W.written self.old (array_head (Some len)) s.ser.now) }
+        ensures head { IfOk result (λ s. Added W.written W.references self.old
+            (array_head (Some len)) s.ser.now) }
         ensures state { IfOk result (λ s. (s.left ≡ Some len) × (s.turn ≡ Turn.Element)) }
     {
         self.write_array_head(Some(len))?;
@@ -129,10 +134,11 @@ impl<W: Write> Serializer<W> {
         len: usize,
     ) -> Result<CollectionSerializer<'a, W>>
         ensures* rests { sem 𝓛 (RestsIfErr (the_row W.row) self.entry (λ s. s.ser.ghost_name) result
-            (λ last. Serialized W.written W.refuses self.old (array_head (Some len)) last result)) }
+            (λ last. Serialized W.written W.refuses W.references self.old (array_head (Some len))
+            last result)) }
         ensures same_reference { IfOk result (λ s. s.ser.ghost_name ≡ self.entry.ghost_name) }
-        ensures head { IfOk result
-            (λ s. Added W.written self.old (array_head (Some len)) s.ser.now) }
+        ensures head { IfOk result (λ s. Added W.written W.references self.old
+            (array_head (Some len)) s.ser.now) }
         ensures state { IfOk result (λ s. (s.left ≡ Some len) × (s.turn ≡ Turn.Element)) }
     {
         self.write_array_head(Some(len))?;
@@ -154,11 +160,11 @@ impl<W: Write> Serializer<W> {
     ) -> Result<CollectionSerializer<'a, W>>
         requires len { len < 2 ^ 64 - 1 }
         ensures* rests { sem 𝓛 (RestsIfErr (the_row W.row) self.entry (λ s. s.ser.ghost_name) result
-            (λ last. Serialized W.written W.refuses self.old
+            (λ last. Serialized W.written W.refuses W.references self.old
             (tuple_head index variant.now len) last result)) }
         ensures same_reference { IfOk result (λ s. s.ser.ghost_name ≡ self.entry.ghost_name) }
-        ensures head { IfOk result (λ s. Added W.written self.old (tuple_head index variant.now len)
-            s.ser.now) }
+        ensures head { IfOk result (λ s. Added W.written W.references self.old
+            (tuple_head index variant.now len) s.ser.now) }
         ensures state { IfOk result (λ s. (s.left ≡ Some len) × (s.turn ≡ Turn.Element)) }
     {
         self.write_tuple_head(index, variant, len)?;
@@ -176,9 +182,11 @@ impl<W: Write> Serializer<W> {
         len: usize,
     ) -> Result<StructSerializer<'a, W>>
         ensures* rests { sem 𝓛 (RestsIfErr (the_row W.row) self.entry (λ s. s.ser.ghost_name) result
-            (λ last. Serialized W.written W.refuses self.old (map_head (Some len)) last result)) }
+            (λ last. Serialized W.written W.refuses W.references self.old (map_head (Some len))
+            last result)) }
         ensures same_reference { IfOk result (λ s. s.ser.ghost_name ≡ self.entry.ghost_name) }
-        ensures head { IfOk result (λ s. Added W.written self.old (map_head (Some len)) s.ser.now) }
+        ensures head { IfOk result (λ s. Added W.written W.references self.old (map_head (Some len))
+            s.ser.now) }
         ensures state { IfOk result (λ s. (s.left ≡ len) × (s.next ≡ 0)) }
     {
         self.write_map_head(Some(len))?;
@@ -199,13 +207,11 @@ impl<W: Write> Serializer<W> {
         len: usize,
     ) -> Result<StructSerializer<'a, W>>
         ensures* rests { sem 𝓛 (RestsIfErr (the_row W.row) self.entry (λ s. s.ser.ghost_name) result
-            (λ last. Serialized W.written W.refuses self.old
-            (both (struct_head index variant.now) (map_head (Some len)))
-            last result)) }
+            (λ last. Serialized W.written W.refuses W.references self.old
+            (both (struct_head index variant.now) (map_head (Some len))) last result)) }
         ensures same_reference { IfOk result (λ s. s.ser.ghost_name ≡ self.entry.ghost_name) }
-        ensures head { IfOk result (λ s. Added W.written self.old
-            (both (struct_head index variant.now) (map_head (Some len)))
-            s.ser.now) }
+        ensures head { IfOk result (λ s. Added W.written W.references self.old
+            (both (struct_head index variant.now) (map_head (Some len))) s.ser.now) }
         ensures state { IfOk result (λ s. (s.left ≡ len) × (s.next ≡ 0)) }
     {
         self.write_struct_head(index, variant, len)?;
@@ -218,7 +224,8 @@ impl<W: Write> Serializer<W> {
 
     // Appends the head of an array, or `9f` where the length isn't declared.
     pub(crate) fn write_array_head(&mut self, len: Option<usize>) -> Result<()>
-        ensures { Serialized W.written W.refuses self.old (array_head len) self.new result }
+        ensures { Serialized W.written W.refuses W.references self.old (array_head len)
+            self.new result }
     {
         match len {
             Some(n) => self.write_head(Major::Array, n as u64),
@@ -228,7 +235,8 @@ impl<W: Write> Serializer<W> {
 
     // Appends the head of a map, or `bf` where the length isn't declared.
     pub(crate) fn write_map_head(&mut self, len: Option<usize>) -> Result<()>
-        ensures { Serialized W.written W.refuses self.old (map_head len) self.new result }
+        ensures { Serialized W.written W.refuses W.references self.old (map_head len)
+            self.new result }
     {
         match len {
             Some(n) => self.write_head(Major::Map, n as u64),
@@ -238,7 +246,8 @@ impl<W: Write> Serializer<W> {
 
     // Ends an array or a map: by a break where its length wasn't declared.
     pub(crate) fn write_end(&mut self, left: Option<usize>) -> Result<()>
-        ensures { Serialized W.written W.refuses self.old (ending left) self.new result }
+        ensures { Serialized W.written W.refuses W.references self.old (ending left)
+            self.new result }
     {
         match left {
             Some(_) => Ok(()),
@@ -246,87 +255,75 @@ impl<W: Write> Serializer<W> {
         }
     }
 
-    // Appends a name, or the number in its place where the format is packed.
-    pub(crate) fn write_identifier(&mut self, index: u32, name: &str) -> Result<()>
-        ensures { Serialized W.written W.refuses self.old
+    // Appends what identifies a field or a variant: its name, or its number where the format is
+    // packed.
+    fn write_identifier(&mut self, index: u32, name: &str) -> Result<()>
+        ensures { Serialized W.written W.refuses W.references self.old
             (item (unit_variant index name.now)) self.new result }
     {
-        if self.settings.packed {
-            self.write_head(Major::UnsignedInteger, index as u64)
-        } else {
-            self.write_name(index, name)
-        }
+        self.write_key(self.settings.packed, index, name)
     }
 
-    // Appends a name, which is what identifies a field or a variant unless the format is packed.
-    fn write_name(&mut self, index: u32, name: &str) -> Result<()>
-        requires { self.old.settings.packed ≡ false }
-        ensures { Serialized W.written W.refuses self.old
-            (item (unit_variant index name.now)) self.new result }
+    // Appends a name, or the number in its place.
+    fn write_key(&mut self, by_number: bool, index: u32, name: &str) -> Result<()>
+        ensures { Serialized W.written W.refuses W.references self.old
+            (item (key_document by_number index name.now)) self.new result }
     {
-        self.write_string(Major::TextString, name.as_bytes())
+        if by_number {
+            self.serialize_u32(index)
+        } else {
+            self.serialize_str(name)
+        }
     }
 
     // Begins an array in which the parts of a variant follow its identifier.
     fn write_legacy_head(&mut self, len: usize, index: u32, name: &str) -> Result<()>
-        ensures { Serialized W.written W.refuses self.old
-            (both (array_head (Some len)) (item (unit_variant index name.now)))
-            self.new result }
+        ensures { Serialized W.written W.refuses W.references self.old
+            (both (array_head (Some len)) (item (unit_variant index name.now))) self.new result }
     {
         self.write_array_head(Some(len))?;
         self.write_identifier(index, name)
     }
 
-    // Begins the map of a variant's name and what it holds.
-    fn write_named_head(&mut self, name: &str) -> Result<()>
-        ensures { Serialized W.written W.refuses self.old
-            (both (map_head (Some 1)) (item (text name.now)))
+    // Begins the map of a variant's name, or of its number, and what it holds.
+    fn write_map_key(&mut self, by_number: bool, index: u32, name: &str) -> Result<()>
+        ensures { Serialized W.written W.refuses W.references self.old
+            (both (map_head (Some 1)) (item (key_document by_number index name.now)))
             self.new result }
     {
         self.write_map_head(Some(1))?;
-        self.serialize_str(name)
-    }
-
-    // Begins the map of a variant's identifier and what it holds.
-    fn write_identified_head(&mut self, index: u32, name: &str) -> Result<()>
-        ensures { Serialized W.written W.refuses self.old
-            (both (map_head (Some 1)) (item (unit_variant index name.now)))
-            self.new result }
-    {
-        self.write_map_head(Some(1))?;
-        self.write_identifier(index, name)
+        self.write_key(by_number, index, name)
     }
 
     // Appends what precedes the part of a newtype variant.
     fn write_newtype_head(&mut self, index: u32, name: &str) -> Result<()>
-        ensures { Serialized W.written W.refuses self.old
-            (newtype_head index name.now) self.new result }
+        ensures { Serialized W.written W.refuses W.references self.old (newtype_head index name.now)
+            self.new result }
     {
         if self.settings.legacy {
             self.write_legacy_head(2, index, name)
         } else {
-            self.write_named_head(name)
+            self.write_map_key(false, index, name)
         }
     }
 
     // Appends what precedes the parts of a tuple variant.
     fn write_tuple_head(&mut self, index: u32, name: &str, len: usize) -> Result<()>
         requires { len < 2 ^ 64 - 1 }
-        ensures { Serialized W.written W.refuses self.old
+        ensures { Serialized W.written W.refuses W.references self.old
             (tuple_head index name.now len) self.new result }
     {
         if self.settings.legacy {
             return self.write_legacy_head(len + 1, index, name);
         }
-        self.write_named_head(name)?;
+        self.write_map_key(false, index, name)?;
         self.write_array_head(Some(len))
     }
 
     // Appends what precedes the fields of a struct variant.
     fn write_struct_head(&mut self, index: u32, name: &str, len: usize) -> Result<()>
-        ensures { Serialized W.written W.refuses self.old
-            (both (struct_head index name.now) (map_head (Some len)))
-            self.new result }
+        ensures { Serialized W.written W.refuses W.references self.old
+            (both (struct_head index name.now) (map_head (Some len))) self.new result }
     {
         self.write_struct_key(index, name)?;
         self.write_map_head(Some(len))
@@ -334,21 +331,20 @@ impl<W: Write> Serializer<W> {
 
     // Appends what precedes the map of a struct variant's fields.
     fn write_struct_key(&mut self, index: u32, name: &str) -> Result<()>
-        ensures { Serialized W.written W.refuses self.old
-            (struct_head index name.now) self.new result }
+        ensures { Serialized W.written W.refuses W.references self.old (struct_head index name.now)
+            self.new result }
     {
         if self.settings.legacy {
             self.write_legacy_head(2, index, name)
         } else {
-            self.write_identified_head(index, name)
+            self.write_map_key(self.settings.packed, index, name)
         }
     }
 
     // Appends the identifier of a field, and what it holds.
     pub(crate) fn write_field<T: Serialize>(&mut self, number: u32, name: &str, v: &T) -> Result<()>
-        ensures { Serialized W.written W.refuses self.old
-            (field_part number name.now (T.document v.now))
-            self.new result }
+        ensures { Serialized W.written W.refuses W.references self.old
+            (field_part number name.now (T.document v.now)) self.new result }
     {
         self.write_identifier(number, name)?;
         v.serialize(self)

@@ -80,6 +80,7 @@ write_items-loop-item-preserved g t c =
       in_range = λ after. c.loop-item.invariant.in_range (in_range_from items i item c.loop-item-test.true c.item-item.is c.in_ok-write_value.ensures.in_range after);
       written = λ new r rest. c.loop-item.invariant.written new r (same_bytes (item_spelled items i item c.loop-item-test.true c.item-item.is)
           (and_then _ _ new _ _ r c.in_ok-write_value.ensures.written.ok rest));
+      same_references = c.in_ok-write_value.ensures.same_references ∙ c.loop-item.invariant.same_references;
     }
 
 pub write_pairs-returns-in_err-write_value-clause-written : goal.write_pairs-returns-in_err-write_value-clause-written
@@ -125,4 +126,5 @@ write_pairs-loop-key-preserved g t c =
           (pair_in_range_from pairs i pair c.loop-key-test.true c.loop-key-item.is c.in_ok-write_value.ensures.in_range c.in_ok-write_value-2.ensures.in_range after);
       written = λ new r rest. c.loop-key.invariant.written new r (same_bytes (pair_spelled pairs i pair c.loop-key-test.true c.loop-key-item.is)
           (and_then _ _ new _ _ r c.in_ok-write_value.ensures.written.ok (and_then _ _ new _ _ r c.in_ok-write_value-2.ensures.written.ok rest)));
+      same_references = c.in_ok-write_value-2.ensures.same_references ∙ (c.in_ok-write_value.ensures.same_references ∙ c.loop-key.invariant.same_references);
     }

@@ -1,4 +1,4 @@
-use Rattle.std.proofs.Common.{ℕ, ◌+◌, ◌*◌, List, Option, drop}
+use Rattle.std.proofs.Common.{◌≡◌, ℕ, ◌+◌, ◌*◌, List, Option, drop}
 use Rattle.std.specs.Prelude.{Result}
 use Rattle.cbor_model.specs.Spelling.{spell_all, spell_pairs}
 use Rattle.cbor_model.specs.Canonical.{canonical_all, canonical_pairs, AreStorable, ArePairsStorable}
@@ -17,6 +17,7 @@ invariant-write_items-loop-item g l = record {
   written : (new : Option (List ℕ)) (r : Result (Unit {0}) Refused)
       → Wrote (g.W.Write.written l.writer) (spell_all (canonical_all (views (drop l.item-index l.items)))) new r
       → Wrote (g.W.Write.written l.fn.writer) (spell_all (canonical_all (views l.items))) new r;
+  same_references : g.W.Write.references l.writer ≡ g.W.Write.references l.fn.writer;
 }
 
 abbrev pub invariant-write_pairs-loop-key : goal.invariant-write_pairs-loop-key
@@ -26,6 +27,7 @@ invariant-write_pairs-loop-key g l = record {
   written : (new : Option (List ℕ)) (r : Result (Unit {0}) Refused)
       → Wrote (g.W.Write.written l.writer) (spell_pairs (canonical_pairs (pair_views (drop l.key-index l.pairs)))) new r
       → Wrote (g.W.Write.written l.fn.writer) (spell_pairs (canonical_pairs (pair_views l.pairs))) new r;
+  same_references : g.W.Write.references l.writer ≡ g.W.Write.references l.fn.writer;
 }
 
 abbrev pub decreases-write_value : goal.decreases-write_value

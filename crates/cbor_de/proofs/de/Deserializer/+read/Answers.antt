@@ -16,10 +16,11 @@ use Rattle.cbor_value.proofs.facts.Views.{put_all-push, view_text, view_bytes, v
 use Rattle.cbor_value.specs.declared.Value.{Value}
 use Rattle.cbor_de.specs.declared.head.Head.TheVariants as head
 use Rattle.cbor_de.specs.Gives.{Limits, values, Step, Stopped, Gives}
-use Rattle.cbor_de.specs.Heads.{after_head, remaining_of, made_of, joined_of, first_at, first_of_next}
+use Rattle.cbor_de.specs.Heads.{after_head, head_at, remaining_of, made_of, joined_of, first_at, first_of_next}
 use Rattle.cbor_de.specs.Strings.{text_view}
 use Rattle.cbor_de.proofs.Steps.{gives_seen, step_same, step_map, step_then, stopped_map, stopped_then, gives_then}
 use Rattle.cbor_de.proofs.Calls.{fault_stops}
+use Rattle.cbor_de.proofs.Heads.{value_after, value_stops_at}
 use Rattle.cbor_de.proofs.Items.{SoFar, items_begin, ItemBegun, item_begins, goes_on, faulted, cut, is_done}
 use Rattle.cbor_de.proofs.Pairs.{PairsSoFar, pairs_begin, KeyBegun, key_begins, KeyRead, key_ends, pairs_go_on, key_faulted, value_faulted, pairs_cut, pairs_done}
 use Rattle.cbor_de.proofs.Inside.{array_too_deep, map_too_deep, tag_too_deep, array_inside, map_inside, tag_inside, array_stops, map_stops, tag_stops, value_first, value_stops, bytes_read, bytes_stop, chunks_read, chunks_stop}
@@ -301,7 +302,8 @@ value-returns-clause-read g t c =
 pub value_from-returns-in_err-head-clause-read : goal.value_from-returns-in_err-head-clause-read
 value_from-returns-in_err-head-clause-read g t c =
     let passed = err_from_is_err_and c.from_residual.result c.from_residual.ensures.1 in
-    rw (passed.1, passed.2) (c.in_err-head.ensures.read (λ l. inside (values l) c.args.self.now.levels))
+    let levels = c.args.self.now.levels in
+    rw (passed.1, passed.2) (stopped_map g.R.Source.refusals (λ l. head_at c.args.first) (λ l. after_first (values l) (inside (values l) levels) c.args.first) _ _ _ (λ l bs f is. value_stops_at l (inside (values l) levels) c.args.first bs f is) c.in_err-head.ensures.read)
 
 pub value_from-returns-clause-read : goal.value_from-returns-clause-read
 value_from-returns-clause-read g t c =
@@ -309,7 +311,7 @@ value_from-returns-clause-read g t c =
     let h = c.in_ok-head.head in
     let given = subst (λ (n : ℕ). Gives g.R.Source.refusals view (λ l. after_head l (inside (values l) n) h) (g.R.Source.source c.head.new.self.source) (g.R.Source.source c.value_of.new.self.source) c.value_of.new.self.refusal c.value_of.result) c.in_ok-head.ensures.levels c.value_of.ensures.read in
     gives_then g.R.Source.refusals view (λ l. after_head l (inside (values l) levels) h) (λ l. after_first (values l) (inside (values l) levels) c.args.first) _ _ _ _ _ _
-    (λ l bs mid is. is (inside (values l) levels)) c.in_ok-head.ensures.read given
+    (λ l bs mid is. value_after l (inside (values l) levels) c.args.first is.0 h bs mid is.1) c.in_ok-head.ensures.read given
 
 pub value_of-returns-in_err-bytes-in-Bytes-Some-clause-read : goal.value_of-returns-in_err-bytes-in-Bytes-Some-clause-read
 value_of-returns-in_err-bytes-in-Bytes-Some-clause-read g t c =

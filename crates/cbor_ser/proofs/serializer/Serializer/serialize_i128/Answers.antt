@@ -14,4 +14,4 @@ returns-clause-written g c =
     let refused = told_refused _ done.result _ c.answer.result c.answer.ensures.ok c.answer.ensures.err done.ensures.refused in
     let stored = told_ok _ _ done.result _ c.answer.result c.answer.ensures.err done.ensures.refused done.ensures.storable in
     let wrote = told _ done.result _ c.answer.result c.answer.ensures.ok c.answer.ensures.err done.ensures.refused done.ensures.written in
-    serialized_value (plain.integer c.args.v) c.answer.result refl (simp to_z-of_z at stored) (always c.answer.result) (simp to_z-of_z at wrote) (simp to_z-of_z at refused)
+    serialized_value (plain.integer c.args.v) c.answer.result refl done.ensures.same_references (simp to_z-of_z at stored) (always c.answer.result) (simp to_z-of_z at wrote) (simp to_z-of_z at refused)

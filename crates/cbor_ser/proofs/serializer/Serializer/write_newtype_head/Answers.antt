@@ -7,4 +7,4 @@ pub returns-then-self : goal.returns-then-self
 returns-then-self g c = same_part (newtype_legacy _ _ _ c.if-self.true) c.write_legacy_head.ensures
 
 pub returns-else-self : goal.returns-else-self
-returns-else-self g c = same_part (newtype_named _ c.args.index _ c.if-self.false (omega arith)) c.write_named_head.ensures
+returns-else-self g c = same_part (newtype_named _ c.args.index _ c.if-self.false (omega arith)) c.write_map_key.ensures

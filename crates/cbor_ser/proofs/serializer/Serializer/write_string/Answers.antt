@@ -6,6 +6,6 @@ use Rattle.cbor_ser.proofs.serializer.Serializer.write_string.Goals as goal
 pub returns : goal.returns
 returns g c part spells =
     let done = c.write_string-done in
-    serialized part c.answer.result spells refl
+    serialized part c.answer.result spells refl done.ensures.same_references
     (told _ done.result _ c.answer.result c.answer.ensures.ok c.answer.ensures.err done.ensures.refused done.ensures.written)
     (told_refused _ done.result _ c.answer.result c.answer.ensures.ok c.answer.ensures.err done.ensures.refused)

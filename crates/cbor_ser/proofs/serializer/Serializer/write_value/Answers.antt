@@ -8,7 +8,7 @@ pub returns : goal.returns
 returns g c =
     let done = c.write_value-done in
     let v = view c.args.v.now in
-    serialized_value v c.answer.result refl
+    serialized_value v c.answer.result refl done.ensures.same_references
     (told_ok _ _ done.result _ c.answer.result c.answer.ensures.err done.ensures.refused done.ensures.storable)
     (told_ok _ _ done.result _ c.answer.result c.answer.ensures.err done.ensures.refused done.ensures.in_range)
     (told _ done.result _ c.answer.result c.answer.ensures.ok c.answer.ensures.err done.ensures.refused done.ensures.written)

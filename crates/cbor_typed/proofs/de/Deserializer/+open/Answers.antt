@@ -1,0 +1,48 @@
+use Rattle.std.proofs.Common.{◌≡◌, ℕ, Ok, ap, subst, arith}
+use Rattle.std.proofs.lemmas.Result.{err_from_is_err_and}
+use Rattle.cbor_model.specs.Head.{HeadWidth}
+use Rattle.cbor_model.specs.Refusal.{too_deep}
+use Rattle.cbor_io.specs.declared.read.read_error.ReadErrorCode.TheVariants.{RecursionLimitExceeded}
+use Rattle.cbor_de.specs.Gives.{Step}
+use Rattle.cbor_de.specs.declared.head.Head.{Head}
+use Rattle.cbor_de.proofs.facts.Steps.{fault_stops}
+use Rattle.cbor_typed.specs.Opens.{OpensAt, opening_at, item_inside}
+use Rattle.cbor_typed.proofs.Opening.{no_tag, head_opens, head_stops, behind_tag, inside_too_deep, inside_opens}
+use Rattle.cbor_typed.proofs.de.Deserializer.+open.Goals as goal
+
+pub open-returns-in_err-head-clause-read : goal.open-returns-in_err-head-clause-read
+open-returns-in_err-head-clause-read g t c =
+    let passed = err_from_is_err_and c.from_residual.result c.from_residual.ensures.1 in
+    rw (passed.1, passed.2) (head_stops g.R.Source.refusals _ _ _ _ c.in_err-head.ensures.read)
+
+pub open-returns-in-Tag-clause-read : goal.open-returns-in-Tag-clause-read
+open-returns-in-Tag-clause-read g t c =
+    let levels = c.args.self.now.items.levels in
+    let s = g.R.Source.source c.args.self.now.items.source in
+    let m = g.R.Source.source c.head.new.self.items.source in
+    let u = c.open_inside.new.self.items in
+    let first = subst (λ (h : Head). Step s m (λ l bs rest. (w : HeadWidth) × (opening_at bs ≡ Ok ((w, h), rest)))) c.in-Tag.is c.in_ok-head.ensures.read in
+    let inner = subst (λ (n : ℕ). OpensAt g.R.Source.refusals (λ l. item_inside l n) m (g.R.Source.source u.source) u.levels u.refusal c.open_inside.result) c.in_ok-head.ensures.levels c.open_inside.ensures.read in
+    behind_tag g.R.Source.refusals s m (g.R.Source.source u.source) levels u.levels c.in-Tag.field-0 u.refusal c.open_inside.result first inner
+
+pub open-returns : goal.open-returns
+open-returns g t c = record {
+  read = head_opens (g.R.Source.source c.args.self.now.items.source) (g.R.Source.source c.head.new.self.items.source) c.args.self.now.items.levels c.head.new.self.items.levels c.in_ok-head.head (no_tag c.in_ok-head.head c.in_default.not-Tag) c.in_ok-head.ensures.levels c.in_ok-head.ensures.read;
+  levels = omega (arith, c.in_ok-head.ensures.levels);
+  formats = c.in_ok-head.ensures.formats;
+}
+
+pub open_inside-returns-in_err-enter-clause-read : goal.open_inside-returns-in_err-enter-clause-read
+open_inside-returns-in_err-enter-clause-read g t c =
+    let passed = err_from_is_err_and c.from_residual.result c.from_residual.ensures.1 in
+    let e = c.in_err-enter.ensures in
+    rw (passed.1, passed.2) (fault_stops g.R.Source.refusals (g.R.Source.source c.args.self.now.items.source) (λ l. item_inside l c.args.self.now.items.levels) _ _ RecursionLimitExceeded too_deep (λ at end r h. h)
+    (λ l bs. inside_too_deep l c.args.self.now.items.levels bs e.none.0) e.refused e.kept)
+
+pub open_inside-returns-clause-read : goal.open_inside-returns-clause-read
+open_inside-returns-clause-read g t c =
+    let s = g.R.Source.source c.args.self.now.items.source in
+    let m = g.R.Source.source c.enter.new.self.source in
+    let u = c.open.new.self.items in
+    let at : m ≡ s = ap g.R.Source.source c.enter.ensures.source in
+    inside_opens g.R.Source.refusals s m (g.R.Source.source u.source) c.args.self.now.items.levels c.enter.new.self.levels u.levels u.refusal c.open.result c.in_ok-enter.ensures.inside at c.open.ensures.read

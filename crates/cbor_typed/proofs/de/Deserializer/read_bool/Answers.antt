@@ -1,0 +1,26 @@
+use Rattle.std.proofs.Common.{◌∙◌, Ok, subst}
+use Rattle.cbor_de.specs.declared.head.Head.{Head}
+use Rattle.cbor_model.specs.Readable.{IsBool}
+use Rattle.cbor_typed.specs.Opens.{OpensItem}
+use Rattle.cbor_typed.specs.Takes.{formats_of}
+use Rattle.cbor_typed.proofs.Scalars.{none_scalar, bool_read, not_bool}
+use Rattle.cbor_typed.proofs.de.Deserializer.read_bool.Goals as goal
+
+pub returns-in-Bool-clause-read : goal.returns-in-Bool-clause-read
+returns-in-Bool-clause-read g c =
+    let s = g.R.Source.source c.args.self.now.items.source in
+    let u = c.scalar.new.self.items in
+    let t = g.R.Source.source u.source in
+    let levels = c.args.self.now.items.levels in
+    let read = subst (λ (h : Head). OpensItem g.R.Source.refusals levels s t u.refusal (Ok h)) c.in-Bool.is c.in-Ok.ensures.read in
+    bool_read g.R.Source.refusals (formats_of c.args.self.now.formats) levels s t u.refusal c.in-Bool.b read
+
+pub returns-in_default : goal.returns-in_default
+returns-in_default g c =
+    let s = g.R.Source.source c.args.self.now.items.source in
+    let u = c.scalar.new.self.items in
+    record {
+      read = none_scalar g.R.Source.refusals (formats_of c.args.self.now.formats) IsBool c.args.self.now.items.levels s (g.R.Source.source u.source) u.refusal c.in-Ok.head c.mismatch.result (not_bool c.in-Ok.head c.in_default.not-Bool) c.in-Ok.ensures.read;
+      levels = c.mismatch.ensures.levels ∙ c.in-Ok.ensures.levels;
+      formats = c.mismatch.ensures.formats ∙ c.in-Ok.ensures.formats;
+    }

@@ -1,0 +1,29 @@
+use Rattle.std.proofs.Common.{[], None, refl, subst, arith}
+use Rattle.cbor_model.specs.Acceptable.{max_depth}
+use Rattle.cbor_model.specs.Formats.{all_formats}
+use Rattle.cbor_model.specs.Raw.{AreBytes}
+use Rattle.cbor_io.specs.Source.{Input, slice_input, slice_refusals}
+use Rattle.cbor_de.specs.Gives.{Tells}
+use Rattle.cbor_typed.specs.Whole.{ReadsAll, from_slice_context}
+use Rattle.cbor_typed.proofs.Inputs.{found, accepted}
+use Rattle.cbor_typed.proofs.from.from_slice.Goals as goal
+
+pub returns-clause-found : goal.returns-clause-found
+returns-clause-found g c =
+    let bs = c.args.slice.now in
+    let s = slice_input bs 0 [] None in
+    let fits : AreBytes bs = λ i. omega (arith, c.type_inv.slice i) in
+    let reads = g.T.Readable.reads from_slice_context in
+    let given = subst (λ (s : Input). ReadsAll slice_refusals all_formats reads max_depth s c.read_all.result) c.new.ensures c.read_all.ensures in
+    let tells : Tells s bs = record { is = refl; short = omega arith } in
+    found slice_refusals all_formats reads s bs tells refl fits c.read_all.result given
+
+pub returns-clause-accepted : goal.returns-clause-accepted
+returns-clause-accepted g c = λ x spelt.
+    let bs = c.args.slice.now in
+    let s = slice_input bs 0 [] None in
+    let fits : AreBytes bs = λ i. omega (arith, c.type_inv.slice i) in
+    let reads = g.T.Readable.reads from_slice_context in
+    let given = subst (λ (s : Input). ReadsAll slice_refusals all_formats reads max_depth s c.read_all.result) c.new.ensures c.read_all.ensures in
+    let tells : Tells s bs = record { is = refl; short = omega arith } in
+    accepted slice_refusals all_formats reads s bs tells refl fits (λ device. absurd cc) x spelt tt c.read_all.result given

@@ -1,0 +1,61 @@
+-- What a call takes of its source that reads a type.
+use Rattle.std.specs.Prelude.{◌≡◌, ℕ, Bool, List, Result, Ok, Err, ◌⊎◌}
+use Rattle.cbor_model.specs.Raw.{Raw, Raws, RawPairs}
+use Rattle.cbor_model.specs.Formats as model
+use Rattle.cbor_model.specs.Formats.{HasAllowedKeys}
+use Rattle.cbor_model.specs.Readable.{Context}
+use Rattle.cbor_model.specs.RawReader.{raws_in}
+use Rattle.cbor_model.specs.Reader.{Reads, Reading, item_at}
+use Rattle.cbor_io.specs.declared.error.Error.{Error}
+use Rattle.cbor_io.specs.declared.error.ErrorCode.{ErrorCode}
+use Rattle.cbor_io.specs.declared.error.ErrorCode.TheVariants.{Io, OutOfMemory}
+use Rattle.cbor_io.specs.declared.read.read_error.ReadErrorCode.{ReadErrorCode}
+use Rattle.cbor_io.specs.Error.{code_of, offset_of}
+use Rattle.cbor_io.specs.Source.{Input, Lends}
+use Rattle.cbor_de.specs.Gives.{Limits, limits, Tells, Step, Reports}
+use Rattle.cbor_typed.specs.declared.formats.Formats.{Formats}
+
+abbrev pub formats_of : Formats → model.Formats
+formats_of f = record { named = f.named; packed = f.packed; standard_enums = f.standard_enums; legacy_enums = f.legacy_enums }
+
+-- these formats are read, and so much is lent
+abbrev pub lending : model.Formats → Lends → Context
+lending f l = record { formats = f; lends_definite = l.whole; lends_joined = l.joined }
+
+abbrev pub context : Formats → Lends → Context
+context f l = lending (formats_of f) l
+
+-- the reading of items as they are spelled, within these limits
+abbrev pub raws : Limits → Reading Raw Raws RawPairs
+raws l = raws_in l.total l.room
+
+-- The item that the reference reader reads is read as x, and the rest follows it.
+pub record IsRead {A : Type 0} (f : model.Formats) (reads : Raw → A → Type 0) (read : Reads Raw) (x : A) (rest : List ℕ) : Type 0 where
+  pub item : Raw
+  pub is : read ≡ Ok (item, rest)
+  pub keys : HasAllowedKeys f item
+  pub means : reads item x
+
+-- No item that is read as something is at the front.
+abbrev pub IsNotRead : {A : Type 0} → model.Formats → (Raw → A → Type 0) → Reads Raw → Type 0
+IsNotRead {A} f reads read = (x : A) (rest : List ℕ) → IsRead f reads read x rest → ⊥
+
+-- an allocation failed; or the device has a fault, where there can be one
+abbrev pub ExcusedBy : Type 0 → ErrorCode → ℕ → Type 0
+ExcusedBy Device OutOfMemory at = at ≡ 0
+ExcusedBy Device (Io fault) at = Device × (at ≡ 0)
+ExcusedBy Device _ at = ⊥
+
+-- A refusal is by want of memory or a fault of the device, or N holds of the bytes to come.
+pub record Refuses (refusals : ReadErrorCode → Bool) (s : Input) (code : ErrorCode) (at : ℕ) (N : Limits → List ℕ → Type 0) : Type 0 where
+  pub told : (bs : List ℕ) → Tells s bs → ExcusedBy (Reports refusals) code at ⊎ N (limits s bs) bs
+
+-- What a call gave for the item at the front, and the bytes to come after it; or that no such item is
+-- there.
+abbrev pub Takes : {A : Type 0} → (ReadErrorCode → Bool) → model.Formats → (Raw → A → Type 0) → (Limits → List ℕ → Reads Raw) → Input → Input → Result A Error → Type 0
+Takes refusals f reads read s t (Ok x) = Step s t (λ l bs rest. IsRead f reads (read l bs) x rest)
+Takes refusals f reads read s t (Err e) = Refuses refusals s (code_of e) (offset_of e) (λ l bs. IsNotRead f reads (read l bs))
+
+-- the same of the item at the front, where so many levels are left
+abbrev pub TakesItem : {A : Type 0} → (ReadErrorCode → Bool) → model.Formats → (Raw → A → Type 0) → ℕ → Input → Input → Result A Error → Type 0
+TakesItem refusals f reads levels s t r = Takes refusals f reads (λ l. item_at (raws l) levels) s t r

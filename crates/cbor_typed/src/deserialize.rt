@@ -1,0 +1,45 @@
+//! Types that are read.
+
+ghost use Rattle.std.specs.Prelude.{◌≡◌};
+ghost use Rattle.cbor_typed.specs.Takes.{TakesItem, context, formats_of};
+
+use crate::de::Deserializer;
+use cbor_io::error::Result;
+use cbor_io::read::Read;
+
+/// What a type reads, whatever the source.
+///
+/// `reads` says of an item, and of what a source lends and which formats are read, as which values
+/// the type reads it. Nesting and the formats of keys are not its matter.
+pub trait Readable: Sized + Drop {
+    ghost use Rattle.cbor_model.specs.Raw.{Raw};
+    ghost use Rattle.cbor_model.specs.Readable.{Context};
+
+    ghost reads: { Context → Raw → Self → Type 0 };
+}
+
+/// A type that is read from a source.
+///
+/// Ok where the bytes to come begin with the spelling of an item that the type reads: acceptable
+/// within the levels that are left, and with keys of the formats that are read. Exactly the item's
+/// bytes are taken then. Ok or Err, as many levels are left as before.
+pub trait Deserialize<'de, R: Read<'de>>: Readable {
+    /// Reads the item at the front.
+    fn deserialize(de: &mut Deserializer<R>) -> Result<Self>
+        ensures read { TakesItem R.refusals (formats_of de.old.formats)
+            (Self.reads (context de.old.formats R.lends)) de.old.items.levels
+            (R.source de.old.items.source) (R.source de.new.items.source) result }
+        ensures levels { de.new.items.levels ≡ de.old.items.levels }
+        ensures formats { de.new.formats ≡ de.old.formats };
+}
+
+/// A type that borrows nothing: what it reads doesn't depend on what a source lends.
+pub trait DeserializeOwned: Readable {
+    ghost use Rattle.cbor_model.specs.Formats.{Formats};
+    ghost use Rattle.cbor_model.specs.Raw.{Raw};
+    ghost use Rattle.cbor_io.specs.Source.{Lends};
+    ghost use Rattle.cbor_typed.specs.Takes.{lending};
+
+    ghost same: { (f : Formats) (a b : Lends) (r : Raw) (x : Self)
+        → Self.reads (lending f a) r x → Self.reads (lending f b) r x };
+}

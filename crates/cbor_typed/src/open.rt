@@ -1,0 +1,57 @@
+//! The head of an item within its tags.
+
+ghost use Rattle.std.specs.Prelude.{◌≡◌, ◌≤◌, OnOk};
+ghost use Rattle.cbor_model.specs.Reader.{item_at};
+ghost use Rattle.cbor_de.specs.Heads.{HeadGives};
+ghost use Rattle.cbor_typed.specs.Opens.{OpensAt, opening_at, item_inside};
+ghost use Rattle.cbor_typed.specs.Takes.{raws};
+
+use crate::de::Deserializer;
+use cbor_de::{Done, Head};
+use cbor_io::read::Source;
+
+impl<R: Source> Deserializer<R> {
+    // Takes a head.
+    #[inline(always)]
+    fn head(&mut self) -> Done<Head>
+        ensures read { HeadGives R.refusals opening_at
+            (R.source self.old.items.source) (R.source self.new.items.source)
+            self.new.items.refusal result }
+        ensures levels { self.new.items.levels ≡ self.old.items.levels }
+        ensures formats { self.new.formats ≡ self.old.formats }
+    {
+        let first = self.items.byte()?;
+        self.items.head(first)
+    }
+
+    /// Takes the tags of an item and the head behind them; each tag is a level further in.
+    #[cycle(open)]
+    #[inline(always)]
+    pub fn open(&mut self) -> Done<Head>
+        ensures read { OpensAt R.refusals (λ l. item_at (raws l) self.old.items.levels)
+            (R.source self.old.items.source) (R.source self.new.items.source)
+            self.new.items.levels self.new.items.refusal result }
+        ensures levels { OnOk result (self.new.items.levels ≤ self.old.items.levels) }
+        ensures formats { self.new.formats ≡ self.old.formats }
+    {
+        let head = self.head()?;
+        if let Head::Tag(_) = head {
+            return self.open_inside();
+        }
+        Ok(head)
+    }
+
+    // The same of the item that a tag is of.
+    #[cycle(open)]
+    #[inline(never)]
+    fn open_inside(&mut self) -> Done<Head>
+        ensures read { OpensAt R.refusals (λ l. item_inside l self.old.items.levels)
+            (R.source self.old.items.source) (R.source self.new.items.source)
+            self.new.items.levels self.new.items.refusal result }
+        ensures levels { OnOk result (self.new.items.levels ≤ self.old.items.levels) }
+        ensures formats { self.new.formats ≡ self.old.formats }
+    {
+        self.items.enter()?;
+        self.open()
+    }
+}

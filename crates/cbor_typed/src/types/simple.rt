@@ -1,0 +1,59 @@
+//! Simple values and floats.
+
+use crate::de::Deserializer;
+use crate::deserialize::{Deserialize, DeserializeOwned, Readable};
+use cbor_io::error::Result;
+use cbor_io::read::Read;
+use cbor_value::Float;
+
+impl Readable for bool {
+    ghost use Rattle.cbor_model.specs.Readable.{PassesTags, IsBool};
+
+    ghost reads = { λ c. PassesTags IsBool };
+}
+
+impl<'de, R: Read<'de>> Deserialize<'de, R> for bool {
+    #[inline(always)]
+    fn deserialize(de: &mut Deserializer<R>) -> Result<bool> {
+        de.read_bool()
+    }
+}
+
+impl DeserializeOwned for bool {
+    ghost same = { λ f a b r x h. h };
+}
+
+impl Readable for () {
+    ghost use Rattle.cbor_model.specs.Readable.{PassesTags, IsUnit};
+
+    ghost reads = { λ c. PassesTags IsUnit };
+}
+
+impl<'de, R: Read<'de>> Deserialize<'de, R> for () {
+    #[inline(always)]
+    fn deserialize(de: &mut Deserializer<R>) -> Result<()> {
+        de.read_unit()
+    }
+}
+
+impl DeserializeOwned for () {
+    ghost same = { λ f a b r x h. h };
+}
+
+impl Readable for Float {
+    ghost use Rattle.cbor_model.specs.Readable.{PassesTags};
+    ghost use Rattle.cbor_typed.specs.Scalars.{IsFloatItem};
+
+    ghost reads = { λ c. PassesTags IsFloatItem };
+}
+
+impl<'de, R: Read<'de>> Deserialize<'de, R> for Float {
+    #[inline(always)]
+    fn deserialize(de: &mut Deserializer<R>) -> Result<Float> {
+        de.read_float()
+    }
+}
+
+impl DeserializeOwned for Float {
+    ghost same = { λ f a b r x h. h };
+}
