@@ -1,5 +1,5 @@
 -- What the calls of a source are in the reference reader.
-use Rattle.std.proofs.Common.{◌≡◌, ℕ, ◌+◌, Bool, List, [], ◌∷◌, ◌++◌, length, Option, Some, None, Ok, Err, IfSome, IsSomeAnd, sym, ap, subst, ◌∙◌, refl, arith}
+use Rattle.std.proofs.Common.{◌≡◌, ℕ, suc, ◌+◌, Bool, List, [], ◌∷◌, ◌++◌, length, Option, Some, None, Ok, Err, IfSome, IsSomeAnd, sym, ap, subst, ◌∙◌, refl, arith}
 use Rattle.std.specs.Int.{Width, byte_len}
 use Rattle.std.proofs.lemmas.Bool.{ne_eqb, lt-ltb}
 use Rattle.cbor_model.specs.Refusal.{Refusal, trailing_data}
@@ -7,7 +7,7 @@ use Rattle.cbor_model.specs.Reader.{Reads, byte_at, bytes_at, number_at, next_at
 use Rattle.cbor_io.specs.declared.read.read_error.ReadError.{ReadError}
 use Rattle.cbor_io.specs.declared.read.read_error.ReadErrorCode.{ReadErrorCode}
 use Rattle.cbor_io.specs.declared.read.read_error.ReadErrorCode.TheVariants as reading
-use Rattle.cbor_io.specs.ReadError.{place, error_code}
+use Rattle.cbor_io.specs.ReadError.{why, place, error_code}
 use Rattle.cbor_io.specs.Source.{Input, TookKept, Stays, RefusedInto, RefusedByte, NextDoes, or_memory}
 use Rattle.cbor_de.specs.declared.refusal.Refused.{Refused}
 use Rattle.cbor_de.specs.declared.refusal.Refused.TheVariants as refused
@@ -118,6 +118,22 @@ fault_stops {A} allowed s read kept r k w tells_as stops is keeps = kept_stops a
           subst (λ (c : ReadErrorCode). FailsBy (Reports allowed) (error_code c) (s.offset + length bs) (place e) r) (sym at.0) (tells_as (place e) (s.offset + length bs) r (length bs, end, stops (limits s bs) bs));
     }
 
+-- a fault before the byte that was taken last, behind a step of which P holds
+pub first_stops : {A : Type 0} (allowed : ReadErrorCode → Bool) (s t : Input) (read : Limits → List ℕ → Reads A) (kept : Option ReadError) (r : Refused) (k : ReadErrorCode) (w : Refusal)
+    → ((offset end : ℕ) (r : Reads A) → FailsAs w end offset r → FailsBy (Reports allowed) (error_code k) end offset r)
+    → (P : Limits → List ℕ → List ℕ → Type 0) → ((l : Limits) (bs mid : List ℕ) → P l bs mid → read l bs ≡ Err (record { why = w; left = suc (length mid) }))
+    → Step s t P → r ≡ refused.Kept → IsSomeAnd kept (λ e. (why e ≡ k) × (place e + 1 ≡ t.offset)) → Stopped allowed read s kept r
+first_stops {A} allowed s t read kept r k w tells_as P stops step is keeps = kept_stops allowed s read kept r (λ e. (why e ≡ k) × (place e + 1 ≡ t.offset)) here is keeps
+  where
+    here : (e : ReadError) → (why e ≡ k) × (place e + 1 ≡ t.offset) → Stops allowed read s e
+    here e at = record {
+      told = λ bs tells.
+          let got = step.told bs tells in
+          let r = read (limits s bs) bs in
+          let end : place e + suc (length got.rest) ≡ s.offset + length bs = omega (arith, at.1, got.total) in
+          subst (λ (c : ReadErrorCode). FailsBy (Reports allowed) (error_code c) (s.offset + length bs) (place e) r) (sym at.0) (tells_as (place e) (s.offset + length bs) r (suc (length got.rest), end, stops (limits s bs) bs got.rest got.holds));
+    }
+
 -- ---- numbers and strings
 
 number_refused : (allowed : ReadErrorCode → Bool) (s t : Input) (w : Width) (e : ReadError) → RefusedInto allowed s t (byte_len w) e → Stops allowed (λ l. number_at w) s e
@@ -151,7 +167,7 @@ pub last_step : (allowed : ReadErrorCode → Bool) (s t : Input) (o : Option ℕ
 last_step allowed s t o b w is = next_step allowed s t o b (λ l bs rest. first_at w to_break bs ≡ Ok (None, rest)) (λ l rest. last w b rest is)
 
 -- the code tells the fault
-tells_end : {A : Type 0} (D : Type 0) (of : Collection) (at end : ℕ) (r : Reads A) → FailsAs (end_of of) end at r → FailsBy D (error_code (end_code of)) end at r
+pub tells_end : {A : Type 0} (D : Type 0) (of : Collection) (at end : ℕ) (r : Reads A) → FailsAs (end_of of) end at r → FailsBy D (error_code (end_code of)) end at r
 tells_end D Array at end r h = h
 tells_end D Map at end r h = h
 

@@ -83,6 +83,7 @@ small_or reading.UnassignedCode = inr (λ q. absurd (cc))
 small_or reading.UnexpectedCode = inr (λ q. absurd (cc))
 small_or reading.TrailingData = inr (λ q. absurd (cc))
 small_or reading.RecursionLimitExceeded = inr (λ q. absurd (cc))
+small_or reading.WrongStructFormat = inr (λ q. absurd (cc))
 small_or reading.OutOfMemory = inr (λ q. absurd (cc))
 
 module _ (allowed : ReadErrorCode → Bool) (major first n : ℕ) (s t u : Input) (is : first / 32 ≡ major) (small : first % 32 < 28) (kept : t.buffer ≡ s.buffer)

@@ -2,10 +2,11 @@
 use Rattle.std.proofs.Common.{◌≡◌, ℕ, ◌/◌, ◌%◌, Bool, true, false, cond, eqb, List, Option, Some, None, Result, Ok, Err, refl, sym, ap, ◌∙◌}
 use Rattle.std.specs.Int.{w16, w32, w64}
 use Rattle.std.proofs.lemmas.Bool.{ne_eqb}
+use Rattle.cbor_model.specs.Formats.{Formats}
 use Rattle.cbor_model.specs.Head.{HeadWidth, no_bytes}
 use Rattle.cbor_model.specs.Refusal.{unassigned_code, unexpected_code}
 use Rattle.cbor_model.specs.Plain.{Val}
-use Rattle.cbor_model.specs.Reader.{Fault, Reads, Reading, ◌>>=◌, before, width_of, number_at, number_behind, simple_at, float_at, string_at, text_at, checked_text, array_at, map_at, tag_at, content_at, indefinite_at, after_first}
+use Rattle.cbor_model.specs.Reader.{Fault, Reads, Reading, ◌>>=◌, before, width_of, number_at, number_behind, simple_at, float_at, string_at, string_chunks_at, text_at, text_chunks_at, checked_text, array_at, map_at, tag_at, content_at, indefinite_at, after_first}
 use Rattle.cbor_io.specs.Head.{major_number}
 use Rattle.cbor_io.specs.declared.head.Major.{Major}
 use Rattle.cbor_io.specs.declared.head.Major.TheVariants.{UnsignedInteger, NegativeInteger, ByteString, TextString, Array, Map, Tag, Simple}
@@ -143,29 +144,29 @@ module _ {Item Items Pairs : Type 0} (m : Reading Item Items Pairs) (inner : Opt
 -- ---- values
 
 -- of no width is a value's own
-value_behind : (l : Limits) (inner : Option (List ℕ → Reads Val)) (w : HeadWidth) (h : Head) (bs : List ℕ) → behind_head (values l) inner w h bs ≡ after_head l inner h bs
-unfolding string_at text_at checked_text array_at map_at tag_at
-value_behind l inner w (head.Unsigned n) bs = refl
-value_behind l inner w (head.Negative n) bs = refl
-value_behind l inner w (head.Bytes (Some n)) bs = refl
-value_behind l inner w (head.Bytes None) bs = refl
-value_behind l inner w (head.Text (Some n)) bs = refl
-value_behind l inner w (head.Text None) bs = refl
-value_behind l inner w (head.Array r) bs = refl
-value_behind l inner w (head.Map r) bs = refl
-value_behind l inner w (head.Tag n) bs = refl
-value_behind l inner w (head.Bool false) bs = refl
-value_behind l inner w (head.Bool true) bs = refl
-value_behind l inner w head.Null bs = refl
-value_behind l inner w head.Undefined bs = refl
-value_behind l inner w (head.Float (Half n)) bs = refl
-value_behind l inner w (head.Float (Single n)) bs = refl
-value_behind l inner w (head.Float (Double n)) bs = refl
-value_behind l inner w head.Break bs = refl
+value_behind : (f : Formats) (l : Limits) (inner : Option (List ℕ → Reads Val)) (w : HeadWidth) (h : Head) (bs : List ℕ) → behind_head (values f l) inner w h bs ≡ after_head f l inner h bs
+unfolding string_at string_chunks_at text_at text_chunks_at checked_text array_at map_at tag_at
+value_behind f l inner w (head.Unsigned n) bs = refl
+value_behind f l inner w (head.Negative n) bs = refl
+value_behind f l inner w (head.Bytes (Some n)) bs = refl
+value_behind f l inner w (head.Bytes None) bs = refl
+value_behind f l inner w (head.Text (Some n)) bs = refl
+value_behind f l inner w (head.Text None) bs = refl
+value_behind f l inner w (head.Array r) bs = refl
+value_behind f l inner w (head.Map r) bs = refl
+value_behind f l inner w (head.Tag n) bs = refl
+value_behind f l inner w (head.Bool false) bs = refl
+value_behind f l inner w (head.Bool true) bs = refl
+value_behind f l inner w head.Null bs = refl
+value_behind f l inner w head.Undefined bs = refl
+value_behind f l inner w (head.Float (Half n)) bs = refl
+value_behind f l inner w (head.Float (Single n)) bs = refl
+value_behind f l inner w (head.Float (Double n)) bs = refl
+value_behind f l inner w head.Break bs = refl
 
 -- the value of this first byte is read behind its head
-pub value_after : (l : Limits) (inner : Option (List ℕ → Reads Val)) (b : ℕ) (w : HeadWidth) (h : Head) (bs rest : List ℕ) → head_at b bs ≡ Ok ((w, h), rest) → after_first (values l) inner b bs ≡ after_head l inner h rest
-value_after l inner b w h bs rest is = first_behind (values l) inner b bs ∙ rw is (value_behind l inner w h rest)
+pub value_after : (f : Formats) (l : Limits) (inner : Option (List ℕ → Reads Val)) (b : ℕ) (w : HeadWidth) (h : Head) (bs rest : List ℕ) → head_at b bs ≡ Ok ((w, h), rest) → after_first (values f l) inner b bs ≡ after_head f l inner h rest
+value_after f l inner b w h bs rest is = first_behind (values f l) inner b bs ∙ rw is (value_behind f l inner w h rest)
 
-pub value_stops_at : (l : Limits) (inner : Option (List ℕ → Reads Val)) (b : ℕ) (bs : List ℕ) (f : Fault) → head_at b bs ≡ Err f → after_first (values l) inner b bs ≡ Err f
-value_stops_at l inner b bs f is = first_behind (values l) inner b bs ∙ rw is refl
+pub value_stops_at : (f : Formats) (l : Limits) (inner : Option (List ℕ → Reads Val)) (b : ℕ) (bs : List ℕ) (d : Fault) → head_at b bs ≡ Err d → after_first (values f l) inner b bs ≡ Err d
+value_stops_at f l inner b bs d is = first_behind (values f l) inner b bs ∙ rw is refl

@@ -4,7 +4,7 @@ use Rattle.std.specs.Prelude.{⊤}
 use Rattle.std.specs.Result.{IsErrAnd}
 use Rattle.cbor_model.specs.Plain.{Val}
 use Rattle.cbor_model.specs.Raw.{AreBytes}
-use Rattle.cbor_model.specs.Refusal.{Refusal, end_in_value, end_in_array, end_in_map, length_out_of_range, invalid_utf8, unassigned_code, unexpected_code, trailing_data, too_deep, scratch_too_small}
+use Rattle.cbor_model.specs.Refusal.{Refusal, end_in_value, end_in_array, end_in_map, length_out_of_range, invalid_utf8, unassigned_code, unexpected_code, trailing_data, too_deep, scratch_too_small, wrong_struct_format}
 use Rattle.cbor_model.specs.Laws.{SpellsValue, IsScratchTooSmall}
 use Rattle.cbor_model.specs.Acceptable.{max_depth, FitsScratch}
 use Rattle.cbor_model.specs.Canonical.{IsStorable, IsOrdered}
@@ -45,6 +45,7 @@ only_memory D none code.UnassignedCode total offset v h = absurd cc
 only_memory D none code.UnexpectedCode total offset v h = absurd cc
 only_memory D none code.TrailingData total offset v h = absurd cc
 only_memory D none code.RecursionLimitExceeded total offset v h = absurd cc
+only_memory D none code.WrongStructFormat total offset v h = absurd cc
 only_memory D none code.ScratchTooSmall total offset v h = absurd cc
 only_memory D none (code.Io fault) total offset v h = absurd (none h.0)
 only_memory D none code.OutOfMemory total offset v h = (refl, h)
@@ -60,6 +61,7 @@ memory_or_fault D code.UnassignedCode total offset v h = absurd cc
 memory_or_fault D code.UnexpectedCode total offset v h = absurd cc
 memory_or_fault D code.TrailingData total offset v h = absurd cc
 memory_or_fault D code.RecursionLimitExceeded total offset v h = absurd cc
+memory_or_fault D code.WrongStructFormat total offset v h = absurd cc
 memory_or_fault D code.ScratchTooSmall total offset v h = absurd cc
 memory_or_fault D (code.Io fault) total offset v h = (tt, h.1)
 memory_or_fault D code.OutOfMemory total offset v h = (tt, h)
@@ -79,6 +81,7 @@ scratch_or_memory D none code.UnassignedCode total offset r small h = absurd (no
 scratch_or_memory D none code.UnexpectedCode total offset r small h = absurd (not_scratch unexpected_code (λ e. absurd cc) offset total r small h)
 scratch_or_memory D none code.TrailingData total offset r small h = absurd (not_scratch trailing_data (λ e. absurd cc) offset total r small h)
 scratch_or_memory D none code.RecursionLimitExceeded total offset r small h = absurd (not_scratch too_deep (λ e. absurd cc) offset total r small h)
+scratch_or_memory D none code.WrongStructFormat total offset r small h = absurd (not_scratch wrong_struct_format (λ e. absurd cc) offset total r small h)
 scratch_or_memory D none code.ScratchTooSmall total offset r small h = tt
 scratch_or_memory D none (code.Io fault) total offset r small h = absurd (none h.0)
 scratch_or_memory D none code.OutOfMemory total offset r small h = tt
@@ -95,6 +98,7 @@ faults D code.UnassignedCode total offset r h = h
 faults D code.UnexpectedCode total offset r h = h
 faults D code.TrailingData total offset r h = h
 faults D code.RecursionLimitExceeded total offset r h = h
+faults D code.WrongStructFormat total offset r h = h
 faults D code.ScratchTooSmall total offset r h = h
 faults D (code.Io fault) total offset r h = (tt, h.1)
 faults D code.OutOfMemory total offset r h = h

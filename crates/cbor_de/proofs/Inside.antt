@@ -1,5 +1,6 @@
 -- What lies one level further in, and strings.
 use Rattle.std.proofs.Common.{◌≡◌, ◌+◌, ℕ, zero, suc, List, Some, Ok, Err, refl, ap, arith, length}
+use Rattle.cbor_model.specs.Formats.{Formats, all_formats}
 use Rattle.cbor_model.specs.Head.{no_bytes}
 use Rattle.cbor_model.specs.Raw.{Chunk, joined, indefinite}
 use Rattle.cbor_model.specs.Plain.{Val, Vals, Pairs, no_pairs}
@@ -12,81 +13,81 @@ use Rattle.cbor_de.specs.Heads.{made_of, joined_of}
 
 -- ---- no level is left
 
-pub array_too_deep : (l : Limits) (levels : ℕ) (r : Remaining) (bs : List ℕ) → levels ≡ 0 → array_at (values l) (inside (values l) levels) indefinite r bs ≡ Err (record { why = too_deep; left = length bs })
+pub array_too_deep : (f : Formats) (l : Limits) (levels : ℕ) (r : Remaining) (bs : List ℕ) → levels ≡ 0 → array_at (values f l) (inside (values f l) levels) indefinite r bs ≡ Err (record { why = too_deep; left = length bs })
 unfolding array_at
-array_too_deep l levels r bs none = rw none refl
+array_too_deep f l levels r bs none = rw none refl
 
-pub map_too_deep : (l : Limits) (levels : ℕ) (r : Remaining) (bs : List ℕ) → levels ≡ 0 → map_at (values l) (inside (values l) levels) indefinite r bs ≡ Err (record { why = too_deep; left = length bs })
+pub map_too_deep : (f : Formats) (l : Limits) (levels : ℕ) (r : Remaining) (bs : List ℕ) → levels ≡ 0 → map_at (values f l) (inside (values f l) levels) indefinite r bs ≡ Err (record { why = too_deep; left = length bs })
 unfolding map_at
-map_too_deep l levels r bs none = rw none refl
+map_too_deep f l levels r bs none = rw none refl
 
-pub tag_too_deep : (l : Limits) (levels n : ℕ) (bs : List ℕ) → levels ≡ 0 → tag_at (values l) (inside (values l) levels) no_bytes n bs ≡ Err (record { why = too_deep; left = length bs })
+pub tag_too_deep : (f : Formats) (l : Limits) (levels n : ℕ) (bs : List ℕ) → levels ≡ 0 → tag_at (values f l) (inside (values f l) levels) no_bytes n bs ≡ Err (record { why = too_deep; left = length bs })
 unfolding tag_at
-tag_too_deep l levels n bs none = rw none refl
+tag_too_deep f l levels n bs none = rw none refl
 
 -- ---- a level is left
 
-one_in : (l : Limits) (levels left : ℕ) → levels ≡ left + 1 → inside (values l) levels ≡ Some (item_at (values l) left)
-one_in l levels left is = ap (λ (n : ℕ). inside (values l) n) next
+one_in : (f : Formats) (l : Limits) (levels left : ℕ) → levels ≡ left + 1 → inside (values f l) levels ≡ Some (item_at (values f l) left)
+one_in f l levels left is = ap (λ (n : ℕ). inside (values f l) n) next
   where
     next : levels ≡ suc left
     next = omega (arith, is)
 
-module _ (l : Limits) (levels left : ℕ) where
-  pub array_inside : (r : Remaining) (bs rest : List ℕ) (vs : Vals) → levels ≡ left + 1 → parts_at (items_of (values l) (item_at (values l) left)) r bs ≡ Ok (vs, rest) → array_at (values l) (inside (values l) levels) indefinite r bs ≡ Ok (plain.array vs, rest)
+module _ (f : Formats) (l : Limits) (levels left : ℕ) where
+  pub array_inside : (r : Remaining) (bs rest : List ℕ) (vs : Vals) → levels ≡ left + 1 → parts_at (items_of (values f l) (item_at (values f l) left)) r bs ≡ Ok (vs, rest) → array_at (values f l) (inside (values f l) levels) indefinite r bs ≡ Ok (plain.array vs, rest)
   unfolding array_at
-  array_inside r bs rest vs is read = rw (one_in l levels left is, read) refl
+  array_inside r bs rest vs is read = rw (one_in f l levels left is, read) refl
 
-  pub array_stops : (r : Remaining) (bs : List ℕ) (f : Fault) → levels ≡ left + 1 → parts_at (items_of (values l) (item_at (values l) left)) r bs ≡ Err f → array_at (values l) (inside (values l) levels) indefinite r bs ≡ Err f
+  pub array_stops : (r : Remaining) (bs : List ℕ) (d : Fault) → levels ≡ left + 1 → parts_at (items_of (values f l) (item_at (values f l) left)) r bs ≡ Err d → array_at (values f l) (inside (values f l) levels) indefinite r bs ≡ Err d
   unfolding array_at
-  array_stops r bs f is read = rw (one_in l levels left is, read) refl
+  array_stops r bs d is read = rw (one_in f l levels left is, read) refl
 
   abbrev as_map : Reads (Pairs → Pairs) → Reads Val
   as_map read = read >>= (λ pairs. Ok (plain.map (pairs.0 no_pairs), pairs.1))
 
   made_read : (read : Reads (Pairs → Pairs)) (ps : Pairs) (rest : List ℕ) → made_of read ≡ Ok (ps, rest) → as_map read ≡ Ok (plain.map ps, rest)
   made_read (Ok x) ps rest e = ap (λ (p : Pairs × List ℕ). Ok (plain.map p.0, p.1)) (ok_is (x.0 no_pairs, x.1) (ps, rest) e)
-  made_read (Err f) ps rest e = absurd cc
+  made_read (Err d) ps rest e = absurd cc
 
-  made_stops : (read : Reads (Pairs → Pairs)) (f : Fault) → made_of read ≡ Err f → as_map read ≡ Err f
-  made_stops (Ok x) f e = absurd cc
-  made_stops (Err g) f e = cc
+  made_stops : (read : Reads (Pairs → Pairs)) (d : Fault) → made_of read ≡ Err d → as_map read ≡ Err d
+  made_stops (Ok x) d e = absurd cc
+  made_stops (Err g) d e = cc
 
-  pub map_inside : (r : Remaining) (bs rest : List ℕ) (ps : Pairs) → levels ≡ left + 1 → made_of (parts_at (pairs_of (values l) (item_at (values l) left)) r bs) ≡ Ok (ps, rest) → map_at (values l) (inside (values l) levels) indefinite r bs ≡ Ok (plain.map ps, rest)
+  pub map_inside : (r : Remaining) (bs rest : List ℕ) (ps : Pairs) → levels ≡ left + 1 → made_of (parts_at (pairs_of (values f l) (item_at (values f l) left)) r bs) ≡ Ok (ps, rest) → map_at (values f l) (inside (values f l) levels) indefinite r bs ≡ Ok (plain.map ps, rest)
   unfolding map_at
-  map_inside r bs rest ps is read = rw (one_in l levels left is) (made_read (parts_at (pairs_of (values l) (item_at (values l) left)) r bs) ps rest read)
+  map_inside r bs rest ps is read = rw (one_in f l levels left is) (made_read (parts_at (pairs_of (values f l) (item_at (values f l) left)) r bs) ps rest read)
 
-  pub map_stops : (r : Remaining) (bs : List ℕ) (f : Fault) → levels ≡ left + 1 → made_of (parts_at (pairs_of (values l) (item_at (values l) left)) r bs) ≡ Err f → map_at (values l) (inside (values l) levels) indefinite r bs ≡ Err f
+  pub map_stops : (r : Remaining) (bs : List ℕ) (d : Fault) → levels ≡ left + 1 → made_of (parts_at (pairs_of (values f l) (item_at (values f l) left)) r bs) ≡ Err d → map_at (values f l) (inside (values f l) levels) indefinite r bs ≡ Err d
   unfolding map_at
-  map_stops r bs f is read = rw (one_in l levels left is) (made_stops (parts_at (pairs_of (values l) (item_at (values l) left)) r bs) f read)
+  map_stops r bs d is read = rw (one_in f l levels left is) (made_stops (parts_at (pairs_of (values f l) (item_at (values f l) left)) r bs) d read)
 
-  pub tag_inside : (n : ℕ) (bs rest : List ℕ) (v : Val) → levels ≡ left + 1 → item_at (values l) left bs ≡ Ok (v, rest) → tag_at (values l) (inside (values l) levels) no_bytes n bs ≡ Ok (plain.tag n v, rest)
+  pub tag_inside : (n : ℕ) (bs rest : List ℕ) (v : Val) → levels ≡ left + 1 → item_at (values f l) left bs ≡ Ok (v, rest) → tag_at (values f l) (inside (values f l) levels) no_bytes n bs ≡ Ok (plain.tag n v, rest)
   unfolding tag_at
-  tag_inside n bs rest v is read = rw (one_in l levels left is, read) refl
+  tag_inside n bs rest v is read = rw (one_in f l levels left is, read) refl
 
-  pub tag_stops : (n : ℕ) (bs : List ℕ) (f : Fault) → levels ≡ left + 1 → item_at (values l) left bs ≡ Err f → tag_at (values l) (inside (values l) levels) no_bytes n bs ≡ Err f
+  pub tag_stops : (n : ℕ) (bs : List ℕ) (d : Fault) → levels ≡ left + 1 → item_at (values f l) left bs ≡ Err d → tag_at (values f l) (inside (values f l) levels) no_bytes n bs ≡ Err d
   unfolding tag_at
-  tag_stops n bs f is read = rw (one_in l levels left is, read) refl
+  tag_stops n bs d is read = rw (one_in f l levels left is, read) refl
 
 -- ---- the first byte of an item
 
-pub value_first : (l : Limits) (levels b : ℕ) (bs mid : List ℕ) → byte_at bs ≡ Ok (b, mid) → item_at (values l) levels bs ≡ after_first (values l) (inside (values l) levels) b mid
+pub value_first : (f : Formats) (l : Limits) (levels b : ℕ) (bs mid : List ℕ) → byte_at bs ≡ Ok (b, mid) → item_at (values f l) levels bs ≡ after_first (values f l) (inside (values f l) levels) b mid
 unfolding item_at item_by
-value_first l zero b bs mid is = rw is refl
-value_first l (suc levels) b bs mid is = rw is refl
+value_first f l zero b bs mid is = rw is refl
+value_first f l (suc levels) b bs mid is = rw is refl
 
-pub value_stops : (l : Limits) (levels : ℕ) (bs : List ℕ) (f : Fault) → byte_at bs ≡ Err f → item_at (values l) levels bs ≡ Err f
+pub value_stops : (f : Formats) (l : Limits) (levels : ℕ) (bs : List ℕ) (d : Fault) → byte_at bs ≡ Err d → item_at (values f l) levels bs ≡ Err d
 unfolding item_at item_by
-value_stops l zero bs f is = rw is refl
-value_stops l (suc levels) bs f is = rw is refl
+value_stops f l zero bs d is = rw is refl
+value_stops f l (suc levels) bs d is = rw is refl
 
 -- ---- byte strings
 
-pub bytes_read : (l : Limits) (n : ℕ) (bs b rest : List ℕ) → bytes_at n bs ≡ Ok (b, rest) → string_at (values l) no_bytes n bs ≡ Ok (plain.bytes b, rest)
+pub bytes_read : (l : Limits) (n : ℕ) (bs b rest : List ℕ) → bytes_at n bs ≡ Ok (b, rest) → string_at (values all_formats l) no_bytes n bs ≡ Ok (plain.bytes b, rest)
 unfolding string_at
 bytes_read l n bs b rest is = rw is refl
 
-pub bytes_stop : (l : Limits) (n : ℕ) (bs : List ℕ) (f : Fault) → bytes_at n bs ≡ Err f → string_at (values l) no_bytes n bs ≡ Err f
+pub bytes_stop : (l : Limits) (n : ℕ) (bs : List ℕ) (f : Fault) → bytes_at n bs ≡ Err f → string_at (values all_formats l) no_bytes n bs ≡ Err f
 unfolding string_at
 bytes_stop l n bs f is = rw is refl
 
@@ -101,10 +102,10 @@ of_fault : (read : Reads (List Chunk)) (f : Fault) → joined_of read ≡ Err f 
 of_fault (Ok cs) f h = absurd cc
 of_fault (Err g) f h = cc
 
-pub chunks_read : (l : Limits) (bs b rest : List ℕ) → joined_of (chunks_at (exceeds_most l.room) 0 2 bs) ≡ Ok (b, rest) → string_chunks_at (values l) bs ≡ Ok (plain.bytes b, rest)
+pub chunks_read : (l : Limits) (bs b rest : List ℕ) → joined_of (chunks_at (exceeds_most l.room) 0 2 bs) ≡ Ok (b, rest) → string_chunks_at (values all_formats l) bs ≡ Ok (plain.bytes b, rest)
 unfolding string_chunks_at
 chunks_read l bs b rest is = of_joined (chunks_at (exceeds_most l.room) 0 2 bs) b rest is
 
-pub chunks_stop : (l : Limits) (bs : List ℕ) (f : Fault) → joined_of (chunks_at (exceeds_most l.room) 0 2 bs) ≡ Err f → string_chunks_at (values l) bs ≡ Err f
+pub chunks_stop : (l : Limits) (bs : List ℕ) (f : Fault) → joined_of (chunks_at (exceeds_most l.room) 0 2 bs) ≡ Err f → string_chunks_at (values all_formats l) bs ≡ Err f
 unfolding string_chunks_at
 chunks_stop l bs f is = of_fault (chunks_at (exceeds_most l.room) 0 2 bs) f is

@@ -1,5 +1,6 @@
 -- Reading items one after the other, as a loop does.
 use Rattle.std.proofs.Common.{◌≡◌, ℕ, zero, suc, ◌<◌, List, [], ◌∷◌, ◌++◌, length, Option, Some, None, Ok, Err, refl, sym, ap, ap₂, ◌∙◌, arith, ◌⊎◌, inl, inr}
+use Rattle.cbor_model.specs.Formats.{Formats}
 use Rattle.cbor_model.specs.Plain.{Val, Vals, no_vals, val}
 use Rattle.cbor_model.specs.Refusal.{Refusal, end_in_array}
 use Rattle.cbor_model.specs.Reader.{Fault, Reads, ◌>>=◌, ended, byte_at, Remaining, next_at, parts_by, parts_at, items_of, after_first, item_by, item_at, inside}
@@ -11,15 +12,15 @@ use Rattle.cbor_de.specs.Heads.{first_at, first_behind}
 -- ---- the first byte of a part
 
 -- an item begins with its first byte
-pub item_from : (l : Limits) (levels b : ℕ) (bs : List ℕ) → item_at (values l) levels (b ∷ bs) ≡ after_first (values l) (inside (values l) levels) b bs
+pub item_from : (f : Formats) (l : Limits) (levels b : ℕ) (bs : List ℕ) → item_at (values f l) levels (b ∷ bs) ≡ after_first (values f l) (inside (values f l) levels) b bs
 unfolding item_at item_by byte_at
-item_from l zero b bs = refl
-item_from l (suc levels) b bs = refl
+item_from f l zero b bs = refl
+item_from f l (suc levels) b bs = refl
 
-pub item_none : (l : Limits) (levels : ℕ) → item_at (values l) levels [] ≡ Err ended
+pub item_none : (f : Formats) (l : Limits) (levels : ℕ) → item_at (values f l) levels [] ≡ Err ended
 unfolding item_at item_by byte_at
-item_none l zero = refl
-item_none l (suc levels) = refl
+item_none f l zero = refl
+item_none f l (suc levels) = refl
 
 none_is_some : (x : Remaining × ℕ) → None ≡ Some x → ⊥
 none_is_some x e = absurd cc
@@ -83,21 +84,21 @@ regroup : (front : List Val) (v : Val) (read : Reads Vals) → with_front front 
 regroup front v (Ok x) = ap (λ (vs : Vals). Ok (vs, x.1)) (sym (append-push front v x.0))
 regroup front v (Err f) = refl
 
-module _ (levels : ℕ) (all : Remaining) (front : List Val) where
+module _ (f : Formats) (levels : ℕ) (all : Remaining) (front : List Val) where
   -- the items that remain
   abbrev values_at : Limits → Remaining → List ℕ → Reads Vals
-  values_at l remaining bs = parts_at (items_of (values l) (item_at (values l) levels)) remaining bs
+  values_at l remaining bs = parts_at (items_of (values f l) (item_at (values f l) levels)) remaining bs
 
   -- the items so far, and those that remain of all
   abbrev pub SoFar : Remaining → Limits → List ℕ → List ℕ → Type 0
   SoFar remaining l bs rest = with_front front (values_at l remaining rest) ≡ values_at l all bs
 
   pub items_begin : (l : Limits) (bs : List ℕ) → front ≡ [] → SoFar all l bs bs
-  items_begin l bs none = ap (λ (f : List Val). with_front f (values_at l all bs)) none ∙ nothing (values_at l all bs)
+  items_begin l bs none = ap (λ (e : List Val). with_front e (values_at l all bs)) none ∙ nothing (values_at l all bs)
     where
       nothing : (read : Reads Vals) → with_front [] read ≡ read
       nothing (Ok x) = refl
-      nothing (Err f) = refl
+      nothing (Err d) = refl
 
   -- an item begins with b, behind which this remains
   pub record ItemBegun (behind : Remaining) (b : ℕ) (l : Limits) (bs mid : List ℕ) : Type 0 where
@@ -109,36 +110,36 @@ module _ (levels : ℕ) (all : Remaining) (front : List Val) where
   pub item_begins : (remaining behind : Remaining) (b : ℕ) (l : Limits) (bs rest mid : List ℕ) → SoFar remaining l bs rest → first_at end_in_array remaining rest ≡ Ok (Some (behind, b), mid) → ItemBegun behind b l bs mid
   item_begins remaining behind b l bs rest mid so_far first = record { remaining = remaining; rest = rest; so_far = so_far; next = first_some end_in_array remaining behind b rest mid first }
 
-  pub goes_on : (behind : Remaining) (b : ℕ) (l : Limits) (bs mid after : List ℕ) (v : Val) → ItemBegun behind b l bs mid → after_first (values l) (inside (values l) levels) b mid ≡ Ok (v, after)
+  pub goes_on : (behind : Remaining) (b : ℕ) (l : Limits) (bs mid after : List ℕ) (v : Val) → ItemBegun behind b l bs mid → after_first (values f l) (inside (values f l) levels) b mid ≡ Ok (v, after)
       → with_front (front ++ v ∷ []) (values_at l behind after) ≡ values_at l all bs
   unfolding parts_by
   goes_on behind b l bs mid after v begun is =
-      let m = values l in
+      let m = values f l in
       let ps = items_of m (item_at m levels) in
       let rest = begun.rest in
       let remaining = begun.remaining in
-      let h : item_at m levels (b ∷ mid) ≡ Ok (v, after) = item_from l levels b mid ∙ is in
+      let h : item_at m levels (b ∷ mid) ≡ Ok (v, after) = item_from f l levels b mid ∙ is in
       let shorter : length after < length rest = omega (arith, taken m levels (b ∷ mid) (v, after) h, next_taken end_in_array remaining rest (Some behind, b ∷ mid) begun.next) in
       let fuel = parts_by-fuel ps (taken m levels) (length rest) (suc (length after)) behind after shorter (omega arith) in
       let one : with_front front (values_at l remaining rest) ≡ with_front (front ++ v ∷ []) (values_at l behind after) = rw (begun.next, h) (regroup front v (parts_by ps (length rest) behind after) ∙ ap (with_front (front ++ v ∷ [])) fuel) in
       sym one ∙ begun.so_far
 
-  pub faulted : (behind : Remaining) (b : ℕ) (l : Limits) (bs mid : List ℕ) (f : Fault) → ItemBegun behind b l bs mid → after_first (values l) (inside (values l) levels) b mid ≡ Err f → values_at l all bs ≡ Err f
+  pub faulted : (behind : Remaining) (b : ℕ) (l : Limits) (bs mid : List ℕ) (d : Fault) → ItemBegun behind b l bs mid → after_first (values f l) (inside (values f l) levels) b mid ≡ Err d → values_at l all bs ≡ Err d
   unfolding parts_by
-  faulted behind b l bs mid f begun is =
-      let h : item_at (values l) levels (b ∷ mid) ≡ Err f = item_from l levels b mid ∙ is in
-      let one : with_front front (values_at l begun.remaining begun.rest) ≡ Err f = rw (begun.next, h) refl in
+  faulted behind b l bs mid d begun is =
+      let h : item_at (values f l) levels (b ∷ mid) ≡ Err d = item_from f l levels b mid ∙ is in
+      let one : with_front front (values_at l begun.remaining begun.rest) ≡ Err d = rw (begun.next, h) refl in
       sym begun.so_far ∙ one
 
-  pub cut : (remaining : Remaining) (l : Limits) (bs rest : List ℕ) (f : Fault) → SoFar remaining l bs rest → first_at end_in_array remaining rest ≡ Err f → values_at l all bs ≡ Err f
+  pub cut : (remaining : Remaining) (l : Limits) (bs rest : List ℕ) (d : Fault) → SoFar remaining l bs rest → first_at end_in_array remaining rest ≡ Err d → values_at l all bs ≡ Err d
   unfolding parts_by
-  cut remaining l bs rest f so_far first = elim (first_err end_in_array remaining rest f first) [
+  cut remaining l bs rest d so_far first = elim (first_err end_in_array remaining rest d first) [
     | inl next ↦
-        let one : with_front front (values_at l remaining rest) ≡ Err f = rw next refl in
+        let one : with_front front (values_at l remaining rest) ≡ Err d = rw next refl in
         sym so_far ∙ one
     | inr w ↦
-        let none : item_at (values l) levels [] ≡ Err f = item_none l levels ∙ ap (λ (g : Fault). Err g) (sym w.2) in
-        let one : with_front front (values_at l remaining rest) ≡ Err f = rw (w.1, none) refl in
+        let none : item_at (values f l) levels [] ≡ Err d = item_none f l levels ∙ ap (λ (g : Fault). Err g) (sym w.2) in
+        let one : with_front front (values_at l remaining rest) ≡ Err d = rw (w.1, none) refl in
         sym so_far ∙ one
   ]
 

@@ -1,11 +1,14 @@
 pub mod Steps
 pub mod Calls
+pub mod Peeked
+pub mod Ended
 pub mod Heads
 pub mod Chunk
 pub mod Chunks
 pub mod Items
 pub mod Pairs
 pub mod Inside
+pub mod Numbers
 pub mod All
 pub mod Inputs
 pub mod facts

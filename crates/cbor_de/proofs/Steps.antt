@@ -33,8 +33,12 @@ passed_on D code.ArrayTooShort end offset part all on h = h
 passed_on D code.ArrayTooLong end offset part all on h = h
 passed_on D code.RecursionLimitExceeded end offset part all on h = (h.0, h.1, on _ h.2)
 passed_on D code.WrongEnumFormat end offset part all on h = h
-passed_on D code.WrongStructFormat end offset part all on h = h
+passed_on D code.WrongStructFormat end offset part all on h = (h.0, h.1, on _ h.2)
 passed_on D code.OutOfMemory end offset part all on h = h
+
+-- what holds at two places holds at two others that are equal
+pub subst_both : {A B : Type 0} (P : A → B → Type 0) {a a' : A} {b b' : B} → a ≡ a' → b ≡ b' → P a b → P a' b'
+subst_both P {a' = a'} {b = b} p q h = subst (P a') q (subst (λ x. P x b) p h)
 
 -- ---- steps
 
@@ -224,6 +228,7 @@ refused_by allowed s t n reading.UnassignedCode at read bs tells end ok kind roo
 refused_by allowed s t n reading.UnexpectedCode at read bs tells end ok kind room nowhere ends limit = absurd kind
 refused_by allowed s t n reading.TrailingData at read bs tells end ok kind room nowhere ends limit = absurd kind
 refused_by allowed s t n reading.RecursionLimitExceeded at read bs tells end ok kind room nowhere ends limit = absurd kind
+refused_by allowed s t n reading.WrongStructFormat at read bs tells end ok kind room nowhere ends limit = absurd kind
 refused_by allowed s t n reading.OutOfMemory at read bs tells end ok kind room nowhere ends limit = nowhere tt
 
 pub refused_stops : {A : Type 0} (allowed : ReadErrorCode → Bool) (s t : Input) (n : ℕ) (e : ReadError) (read : Limits → List ℕ → Reads A) → ((l : Limits) (bs : List ℕ) → length bs < n → read l bs ≡ Err ended) → why e ≢ reading.ScratchTooSmall → Refused allowed s t n e → Stops allowed read s e

@@ -1,11 +1,12 @@
 -- What a reader of the code answers, beside what the reference reader answers.
 use Rattle.std.specs.Prelude.{⊤, ◌≡◌, ◌+◌, ◌^◌, ◌<◌, ◌≤◌, ℕ, Bool, true, List, [], ◌∷◌, length, Option, Some, None, IsSomeAnd, Result, Ok, Err}
-use Rattle.cbor_model.specs.Refusal.{Refusal, end_in_value, end_in_array, end_in_map, length_out_of_range, invalid_utf8, unassigned_code, unexpected_code, trailing_data, too_deep, scratch_too_small}
+use Rattle.cbor_model.specs.Refusal.{Refusal, end_in_value, end_in_array, end_in_map, length_out_of_range, invalid_utf8, unassigned_code, unexpected_code, trailing_data, too_deep, scratch_too_small, wrong_struct_format}
+use Rattle.cbor_model.specs.Formats.{Formats}
 use Rattle.cbor_model.specs.Raw.{AreBytes}
 use Rattle.cbor_model.specs.Plain.{Val, Vals, Pairs}
-use Rattle.cbor_model.specs.Reader.{Fault, Reads, Reading, ◌>>=◌, values_in, item_at, read_value_in}
+use Rattle.cbor_model.specs.Reader.{Fault, Reads, Reading, ◌>>=◌, values_of, item_at, read_value_in}
 use Rattle.cbor_io.specs.declared.error.ErrorCode.{ErrorCode}
-use Rattle.cbor_io.specs.declared.error.ErrorCode.TheVariants.{Io, ScratchTooSmall, EofWhileParsingValue, EofWhileParsingArray, EofWhileParsingMap, LengthOutOfRange, InvalidUtf8, UnassignedCode, UnexpectedCode, TrailingData, RecursionLimitExceeded, OutOfMemory}
+use Rattle.cbor_io.specs.declared.error.ErrorCode.TheVariants.{Io, ScratchTooSmall, EofWhileParsingValue, EofWhileParsingArray, EofWhileParsingMap, LengthOutOfRange, InvalidUtf8, UnassignedCode, UnexpectedCode, TrailingData, RecursionLimitExceeded, WrongStructFormat, OutOfMemory}
 use Rattle.cbor_io.specs.declared.error.Error.{Error}
 use Rattle.cbor_io.specs.Error.{code_of, offset_of, IsOutOfMemory}
 use Rattle.cbor_io.specs.declared.read.read_error.ReadError.{ReadError}
@@ -35,6 +36,7 @@ FailsBy Device UnexpectedCode end offset read = FailsAs unexpected_code end offs
 FailsBy Device TrailingData end offset read = FailsAs trailing_data end offset read
 FailsBy Device RecursionLimitExceeded end offset read = FailsAs too_deep end offset read
 FailsBy Device ScratchTooSmall end offset read = FailsAs scratch_too_small end offset read
+FailsBy Device WrongStructFormat end offset read = FailsAs wrong_struct_format end offset read
 FailsBy Device (Io fault) end offset read = Device × (offset ≡ 0)
 FailsBy Device OutOfMemory end offset read = offset ≡ 0
 FailsBy Device _ end offset read = ⊥
@@ -86,9 +88,9 @@ pub record Limits : Type 0 where
 abbrev pub limits : Input → List ℕ → Limits
 limits s bs = record { total = s.offset + length bs; room = s.room }
 
--- the reading of values within these limits
-abbrev pub values : Limits → Reading Val Vals (Pairs → Pairs)
-values l = values_in l.total l.room
+-- the reading of values of these formats within these limits
+abbrev pub values : Formats → Limits → Reading Val Vals (Pairs → Pairs)
+values f l = values_of f l.total l.room
 
 -- what a step from s, which tells bs, leaves in t
 pub record Leaves (s t : Input) (bs : List ℕ) (P : List ℕ → Type 0) : Type 0 where
@@ -137,8 +139,8 @@ end_at [] = Ok (tt, [])
 end_at (b ∷ bs) = Err (record { why = trailing_data; left = length bs })
 
 -- an item, and nothing behind it
-abbrev pub whole_at : ℕ → Limits → List ℕ → Reads Val
-whole_at levels l bs = item_at (values l) levels bs >>= (λ v. end_at v.1 >>= (λ u. Ok (v.0, u.1)))
+abbrev pub whole_at : Formats → ℕ → Limits → List ℕ → Reads Val
+whole_at f levels l bs = item_at (values f l) levels bs >>= (λ v. end_at v.1 >>= (λ u. Ok (v.0, u.1)))
 
 -- That nothing is to come; or why not.
 abbrev pub Ends : (ReadErrorCode → Bool) → Input → Result (Unit {0}) Error → Type 0

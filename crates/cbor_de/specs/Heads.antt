@@ -1,6 +1,7 @@
 -- What a head says of the item behind it.
 use Rattle.std.specs.Prelude.{◌≡◌, ℕ, ◌/◌, ◌%◌, Bool, true, false, List, Option, Some, None, Result, Ok, Err, pos, negsuc, ◌==◌, if◌then◌else◌}
 use Rattle.std.specs.Int.{w16, w32, w64}
+use Rattle.cbor_model.specs.Formats.{Formats, all_formats}
 use Rattle.cbor_model.specs.Head.{HeadWidth, no_bytes}
 use Rattle.cbor_model.specs.Raw.{Chunk, joined, Length, definite, indefinite, false_item, true_item, null_item, undefined_item, half, single, double}
 use Rattle.cbor_model.specs.Refusal.{Refusal, end_in_array, end_in_map, unassigned_code, unexpected_code}
@@ -117,22 +118,22 @@ behind_head m inner w (Float f) bs = Ok (float_of m f, bs)
 behind_head m inner w Break bs = Err (before unexpected_code bs)
 
 -- The same, read as the value of its item. A width of no bytes stands for every width, since no value
--- depends on it.
-abbrev pub after_head : Limits → Option (List ℕ → Reads Val) → Head → List ℕ → Reads Val
-after_head l inner (Unsigned n) bs = Ok (plain.integer (pos n), bs)
-after_head l inner (Negative n) bs = Ok (plain.integer (negsuc n), bs)
-after_head l inner (Bytes (Some n)) bs = string_at (values l) no_bytes n bs
-after_head l inner (Bytes None) bs = string_chunks_at (values l) bs
-after_head l inner (Text (Some n)) bs = text_at (values l) no_bytes n bs
-after_head l inner (Text None) bs = text_chunks_at (values l) bs
-after_head l inner (Array remaining) bs = array_at (values l) inner indefinite (remaining_of remaining) bs
-after_head l inner (Map remaining) bs = map_at (values l) inner indefinite (remaining_of remaining) bs
-after_head l inner (Tag n) bs = tag_at (values l) inner no_bytes n bs
-after_head l inner (Boolean b) bs = Ok (plain.bool b, bs)
-after_head l inner Null bs = Ok (plain.null, bs)
-after_head l inner Undefined bs = Ok (plain.null, bs)
-after_head l inner (Float f) bs = Ok (float_view f, bs)
-after_head l inner Break bs = Err (before unexpected_code bs)
+-- depends on it; all formats stand for each in strings.
+abbrev pub after_head : Formats → Limits → Option (List ℕ → Reads Val) → Head → List ℕ → Reads Val
+after_head f l inner (Unsigned n) bs = Ok (plain.integer (pos n), bs)
+after_head f l inner (Negative n) bs = Ok (plain.integer (negsuc n), bs)
+after_head f l inner (Bytes (Some n)) bs = string_at (values all_formats l) no_bytes n bs
+after_head f l inner (Bytes None) bs = string_chunks_at (values all_formats l) bs
+after_head f l inner (Text (Some n)) bs = text_at (values all_formats l) no_bytes n bs
+after_head f l inner (Text None) bs = text_chunks_at (values all_formats l) bs
+after_head f l inner (Array remaining) bs = array_at (values f l) inner indefinite (remaining_of remaining) bs
+after_head f l inner (Map remaining) bs = map_at (values f l) inner indefinite (remaining_of remaining) bs
+after_head f l inner (Tag n) bs = tag_at (values f l) inner no_bytes n bs
+after_head f l inner (Boolean b) bs = Ok (plain.bool b, bs)
+after_head f l inner Null bs = Ok (plain.null, bs)
+after_head f l inner Undefined bs = Ok (plain.null, bs)
+after_head f l inner (Float x) bs = Ok (float_view x, bs)
+after_head f l inner Break bs = Err (before unexpected_code bs)
 
 -- the first byte of the next part, and what remains behind that part; or none
 abbrev pub first_behind : Option reader.Remaining → List ℕ → Reads (Option (reader.Remaining × ℕ))

@@ -1,3 +1,4 @@
+pub mod Cursor
 pub mod Deserializer
 pub mod Gives
 pub mod Heads

@@ -23,7 +23,7 @@ pub enum Collection {
 
 impl Collection {
     // The refusal of an input that ends where an item or the break is due.
-    fn end(self) -> ReadErrorCode
+    pub(crate) fn end(self) -> ReadErrorCode
         ensures { result ≡ end_code self }
     {
         match self {
@@ -53,6 +53,7 @@ impl<R: Source> Deserializer<R> {
         ensures taken { IfOk result
             (λ o. IfSome o (λ b. Onward (R.source self.old.source) (R.source self.new.source))) }
         ensures levels { self.new.levels ≡ self.old.levels }
+        ensures formats { self.new.formats ≡ self.old.formats }
     {
         match remaining {
             Remaining::Counted(0) => Ok(None),
@@ -73,6 +74,7 @@ impl<R: Source> Deserializer<R> {
         ensures taken { IfOk result
             (λ o. IfSome o (λ b. Onward (R.source self.old.source) (R.source self.new.source))) }
         ensures levels { self.new.levels ≡ self.old.levels }
+        ensures formats { self.new.formats ≡ self.old.formats }
     {
         match self.source.next() {
             Ok(Some(BREAK)) => Ok(None),

@@ -1,15 +1,19 @@
 //! What reads items from a source.
 
-ghost use Rattle.std.specs.Prelude.{◌≡◌, ◌+◌, ◌^◌, ◌<◌, [], length, None, Some, nat_lt, OnOk, OnErr, IfErr, IsSomeAnd};
+ghost use Rattle.std.specs.Prelude.{◌≡◌, false, ◌+◌, ◌^◌, ◌<◌, [], length, None, Some, nat_lt};
+ghost use Rattle.std.specs.Prelude.{OnOk, OnErr, IfErr, IsSomeAnd};
 ghost use Rattle.cbor_io.specs.declared.read.read_error.ReadErrorCode.TheVariants.{RecursionLimitExceeded};
 ghost use Rattle.cbor_io.specs.Source.{slice_input, reader_input};
-ghost use Rattle.cbor_io.specs.Sources.{input_of_slice, input_of_slice_fixed, input_of_mut_slice, input_of_reader};
+ghost use Rattle.cbor_io.specs.Sources.{input_of_slice, input_of_slice_fixed, input_of_mut_slice};
+ghost use Rattle.cbor_io.specs.Sources.{input_of_reader};
 ghost use Rattle.cbor_model.specs.Acceptable.{max_depth};
+ghost use Rattle.cbor_model.specs.Formats.{all_formats};
 ghost use Rattle.cbor_model.specs.Reader.{byte_at};
-ghost use Rattle.cbor_de.specs.Deserializer.{source_of, levels_of};
+ghost use Rattle.cbor_de.specs.Deserializer.{source_of, levels_of, formats_of};
 ghost use Rattle.cbor_de.specs.Gives.{Gives, Ends, Onward, Keeps, IsAt, end_at};
 ghost use Rattle.cbor_de.specs.declared.refusal.Refused.TheVariants.{Kept};
 
+use crate::formats::Formats;
 use crate::refusal::Done;
 use cbor_io::error::Result;
 use cbor_io::read::{
@@ -35,6 +39,8 @@ pub struct Deserializer<R> {
     pub source: R,
     // How many levels of arrays, maps and tags are left.
     pub levels: u8,
+    // Which formats are read.
+    pub formats: Formats,
     // Why the last step that was refused was refused.
     pub refusal: Option<ReadError>,
 }
@@ -44,6 +50,7 @@ impl<'a> Deserializer<SliceRead<'a>> {
     pub fn from_slice(alloc: Global, slice: &'a [u8]) -> Deserializer<SliceRead<'a>>
         ensures input { input_of_slice (source_of result) ≡ slice_input slice.now 0 [] None }
         ensures levels { levels_of result ≡ max_depth }
+        ensures formats { formats_of result.formats ≡ all_formats }
     {
         Deserializer::new(alloc, SliceRead::new(alloc, slice))
     }
@@ -60,6 +67,7 @@ impl<'a, 'b> Deserializer<SliceReadFixed<'a, 'b>> {
         ensures input { input_of_slice_fixed (source_of result)
             ≡ slice_input slice.now 0 [] (Some (length scratch.old)) }
         ensures levels { levels_of result ≡ max_depth }
+        ensures formats { formats_of result.formats ≡ all_formats }
     {
         Deserializer::new(alloc, SliceReadFixed::new(slice, scratch))
     }
@@ -70,6 +78,7 @@ impl<'a> Deserializer<MutSliceRead<'a>> {
     pub fn from_mut_slice(alloc: Global, slice: &'a mut [u8]) -> Deserializer<MutSliceRead<'a>>
         ensures input { input_of_mut_slice (source_of result) ≡ slice_input slice.old 0 [] None }
         ensures levels { levels_of result ≡ max_depth }
+        ensures formats { formats_of result.formats ≡ all_formats }
     {
         Deserializer::new(alloc, MutSliceRead::new(slice))
     }
@@ -81,6 +90,7 @@ impl<R: io::Read + Drop> Deserializer<IoRead<R>> {
         ensures input { input_of_reader R.remaining (source_of result)
             ≡ reader_input None (R.remaining reader) [] 0 }
         ensures levels { levels_of result ≡ max_depth }
+        ensures formats { formats_of result.formats ≡ all_formats }
     {
         Deserializer::new(alloc, IoRead::new(alloc, reader))
     }
@@ -102,17 +112,71 @@ impl<R: Offset> Deserializer<R> {
 }
 
 impl<R: Source> Deserializer<R> {
-    /// Reads from this source.
+    /// Reads from this source, in all formats.
     pub fn new(alloc: Global, source: R) -> Deserializer<R>
         ensures source { source_of result ≡ source }
         ensures levels { levels_of result ≡ max_depth }
+        ensures formats { formats_of result.formats ≡ all_formats }
     {
         Deserializer {
             alloc,
             source,
             levels: MAX_DEPTH,
+            formats: Formats::ALL,
             refusal: None,
         }
+    }
+
+    /// Maps with names among their keys are refused from now on: a key that is a text is
+    /// `WrongStructFormat`, at the key.
+    ///
+    /// ```rust
+    /// let mut de = Deserializer::from_slice(alloc, b"\xa1\x61a\x01").disable_named_format();
+    /// assert!(rt; de.value().is_err());
+    /// ```
+    pub fn disable_named_format(mut self) -> Deserializer<R>
+        ensures formats { formats_of result.formats
+            ≡ record (formats_of self.formats) { named = false } }
+        ensures source { source_of result ≡ source_of self }
+        ensures levels { levels_of result ≡ levels_of self }
+    {
+        self.formats.named = false;
+        self
+    }
+
+    /// Maps with numbers among their keys are refused from now on: a key that is a number from 0 is
+    /// `WrongStructFormat`, at the key. A negative number as a key is no name for a field, and
+    /// passes.
+    pub fn disable_packed_format(mut self) -> Deserializer<R>
+        ensures formats { formats_of result.formats
+            ≡ record (formats_of self.formats) { packed = false } }
+        ensures source { source_of result ≡ source_of self }
+        ensures levels { levels_of result ≡ levels_of self }
+    {
+        self.formats.packed = false;
+        self
+    }
+
+    /// Enums that are a name alone, or a map of one pair, are refused from now on.
+    pub fn disable_standard_enums(mut self) -> Deserializer<R>
+        ensures formats { formats_of result.formats
+            ≡ record (formats_of self.formats) { standard_enums = false } }
+        ensures source { source_of result ≡ source_of self }
+        ensures levels { levels_of result ≡ levels_of self }
+    {
+        self.formats.standard_enums = false;
+        self
+    }
+
+    /// Enums that are an array are refused from now on.
+    pub fn disable_legacy_enums(mut self) -> Deserializer<R>
+        ensures formats { formats_of result.formats
+            ≡ record (formats_of self.formats) { legacy_enums = false } }
+        ensures source { source_of result ≡ source_of self }
+        ensures levels { levels_of result ≡ levels_of self }
+    {
+        self.formats.legacy_enums = false;
+        self
     }
 
     /// Ok where nothing is to come.
@@ -128,6 +192,7 @@ impl<R: Source> Deserializer<R> {
     pub fn end(&mut self) -> Result<()>
         ensures ends { Ends R.refusals (R.source (source_of self.old)) result }
         ensures levels { levels_of self.new ≡ levels_of self.old }
+        ensures formats { self.new.formats ≡ self.old.formats }
     {
         match self.ended() {
             Ok(()) => Ok(()),
@@ -150,6 +215,7 @@ impl<R: Source> Deserializer<R> {
         ensures taken { OnOk result (Onward (R.source self.old.source) (R.source self.new.source)) }
         ensures buffer { OnOk result (Keeps (R.source self.old.source) (R.source self.new.source)) }
         ensures levels { self.new.levels ≡ self.old.levels }
+        ensures formats { self.new.formats ≡ self.old.formats }
     {
         match self.source.next() {
             Ok(Some(b)) => Ok(b),
@@ -167,6 +233,7 @@ impl<R: Source> Deserializer<R> {
         ensures kept { OnErr result (IsSomeAnd self.new.refusal
             (IsAt RecursionLimitExceeded (R.source self.old.source).offset)) }
         ensures source { self.new.source ≡ self.old.source }
+        ensures formats { self.new.formats ≡ self.old.formats }
     {
         if self.levels == 0 {
             return Err(self.refuse(ReadErrorCode::RecursionLimitExceeded));
@@ -181,6 +248,7 @@ impl<R: Source> Deserializer<R> {
         ensures read { Gives R.refusals (λ u. u) (λ l. end_at)
             (R.source self.old.source) (R.source self.new.source) self.new.refusal result }
         ensures levels { self.new.levels ≡ self.old.levels }
+        ensures formats { self.new.formats ≡ self.old.formats }
     {
         match self.source.next() {
             Ok(Some(_)) => Err(self.refuse(ReadErrorCode::TrailingData)),

@@ -1,6 +1,7 @@
 //! Reading a whole input as a value.
 
-ghost use Rattle.std.specs.Prelude.{◌≡◌, ◌^◌, ◌<◌, ℕ, List, length, Option, Some, IfOk, IfErr, MatchResult};
+ghost use Rattle.std.specs.Prelude.{◌≡◌, ◌^◌, ◌<◌, ℕ, List, length, Option, Some, IfOk, IfErr};
+ghost use Rattle.std.specs.Prelude.{MatchResult};
 ghost use Rattle.cbor_model.specs.Acceptable.{FitsScratch};
 ghost use Rattle.cbor_model.specs.Canonical.{IsStorable, IsOrdered};
 ghost use Rattle.cbor_model.specs.Laws.{SpellsValue};
@@ -9,7 +10,9 @@ ghost use Rattle.cbor_model.specs.Raw.{AreBytes, longest_joined};
 ghost use Rattle.cbor_model.specs.Reader.{read_value, read_value_in};
 ghost use Rattle.cbor_io.specs.Error.{IsOutOfMemory};
 ghost use Rattle.cbor_value.specs.View.{view};
-ghost use Rattle.cbor_de.specs.Gives.{Gives, whole_at, Fails, FailsOrFaults, GivesAll, Gave, IsMemoryOrFault, IsScratchOrMemory};
+ghost use Rattle.cbor_de.specs.Deserializer.{formats_of};
+ghost use Rattle.cbor_de.specs.Gives.{Gives, whole_at, Fails, FailsOrFaults, GivesAll, Gave};
+ghost use Rattle.cbor_de.specs.Gives.{IsMemoryOrFault, IsScratchOrMemory};
 
 use crate::de::Deserializer;
 use crate::refusal::Done;
@@ -32,7 +35,7 @@ fn read_all<R: Source + Drop>(alloc: Global, source: R) -> Result<Value>
 
 // The value of the one item that is to come.
 fn whole<R: Source + Drop>(de: &mut Deserializer<R>) -> Done<Value>
-    ensures { Gives R.refusals view (whole_at de.old.levels)
+    ensures { Gives R.refusals view (whole_at (formats_of de.old.formats) de.old.levels)
         (R.source de.old.source) (R.source de.new.source) de.new.refusal result }
 {
     let item = de.value()?;

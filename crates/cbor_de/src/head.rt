@@ -53,6 +53,7 @@ impl<R: Source> Deserializer<R> {
         ensures read { HeadGives R.refusals (head_at first)
             (R.source self.old.source) (R.source self.new.source) self.new.refusal result }
         ensures levels { self.new.levels ≡ self.old.levels }
+        ensures formats { self.new.formats ≡ self.old.formats }
     {
         let low = first % 32;
         let major = Major::of(first);
@@ -80,6 +81,7 @@ impl<R: Source> Deserializer<R> {
         ensures read { HeadGives R.refusals (simple_head low)
             (R.source self.old.source) (R.source self.new.source) self.new.refusal result }
         ensures levels { self.new.levels ≡ self.old.levels }
+        ensures formats { self.new.formats ≡ self.old.formats }
     {
         match low {
             20 => Ok(Head::Bool(false)),
@@ -100,6 +102,7 @@ impl<R: Source> Deserializer<R> {
         ensures read { HeadGives R.refusals (indefinite_head (major_number major))
             (R.source self.old.source) (R.source self.new.source) self.new.refusal result }
         ensures levels { self.new.levels ≡ self.old.levels }
+        ensures formats { self.new.formats ≡ self.old.formats }
     {
         match major {
             Major::ByteString => Ok(Head::Bytes(None)),
@@ -117,6 +120,7 @@ impl<R: Source> Deserializer<R> {
             (R.source self.old.source) (R.source self.new.source) self.new.refusal result }
         ensures buffer { OnOk result (Keeps (R.source self.old.source) (R.source self.new.source)) }
         ensures levels { self.new.levels ≡ self.old.levels }
+        ensures formats { self.new.formats ≡ self.old.formats }
     {
         match low {
             0..=23 => Ok(low as u64),
@@ -130,11 +134,12 @@ impl<R: Source> Deserializer<R> {
 
     // Takes a number of one byte.
     #[inline(always)]
-    fn number_of_1(&mut self) -> Done<u8>
+    pub fn number_of_1(&mut self) -> Done<u8>
         ensures read { Gives R.refusals (λ n. n) (λ l. number_at w8)
             (R.source self.old.source) (R.source self.new.source) self.new.refusal result }
         ensures buffer { OnOk result (Keeps (R.source self.old.source) (R.source self.new.source)) }
         ensures levels { self.new.levels ≡ self.old.levels }
+        ensures formats { self.new.formats ≡ self.old.formats }
     {
         let mut bytes = [0; 1];
         self.fill(&mut bytes)?;
@@ -143,11 +148,12 @@ impl<R: Source> Deserializer<R> {
 
     // Takes a number of two bytes, the most significant first.
     #[inline(always)]
-    fn number_of_2(&mut self) -> Done<u16>
+    pub fn number_of_2(&mut self) -> Done<u16>
         ensures read { Gives R.refusals (λ n. n) (λ l. number_at w16)
             (R.source self.old.source) (R.source self.new.source) self.new.refusal result }
         ensures buffer { OnOk result (Keeps (R.source self.old.source) (R.source self.new.source)) }
         ensures levels { self.new.levels ≡ self.old.levels }
+        ensures formats { self.new.formats ≡ self.old.formats }
     {
         let mut bytes = [0; 2];
         self.fill(&mut bytes)?;
@@ -156,11 +162,12 @@ impl<R: Source> Deserializer<R> {
 
     // Takes a number of four bytes, the most significant first.
     #[inline(always)]
-    fn number_of_4(&mut self) -> Done<u32>
+    pub fn number_of_4(&mut self) -> Done<u32>
         ensures read { Gives R.refusals (λ n. n) (λ l. number_at w32)
             (R.source self.old.source) (R.source self.new.source) self.new.refusal result }
         ensures buffer { OnOk result (Keeps (R.source self.old.source) (R.source self.new.source)) }
         ensures levels { self.new.levels ≡ self.old.levels }
+        ensures formats { self.new.formats ≡ self.old.formats }
     {
         let mut bytes = [0; 4];
         self.fill(&mut bytes)?;
@@ -169,11 +176,12 @@ impl<R: Source> Deserializer<R> {
 
     // Takes a number of eight bytes, the most significant first.
     #[inline(always)]
-    fn number_of_8(&mut self) -> Done<u64>
+    pub fn number_of_8(&mut self) -> Done<u64>
         ensures read { Gives R.refusals (λ n. n) (λ l. number_at w64)
             (R.source self.old.source) (R.source self.new.source) self.new.refusal result }
         ensures buffer { OnOk result (Keeps (R.source self.old.source) (R.source self.new.source)) }
         ensures levels { self.new.levels ≡ self.old.levels }
+        ensures formats { self.new.formats ≡ self.old.formats }
     {
         let mut bytes = [0; 8];
         self.fill(&mut bytes)?;
@@ -189,6 +197,7 @@ impl<R: Source> Deserializer<R> {
         ensures kept { OnErr result (IsSomeAnd self.new.refusal (RefusedInto R.refusals
             (R.source self.old.source) (R.source self.new.source) (length bytes.old))) }
         ensures levels { self.new.levels ≡ self.old.levels }
+        ensures formats { self.new.formats ≡ self.old.formats }
     {
         match self.source.read_into(bytes) {
             Ok(()) => Ok(()),

@@ -15,10 +15,13 @@ mod cursor;
 mod de;
 #[cfg(test)]
 mod de_tests;
+mod formats;
 #[cfg(test)]
 mod four_sources_tests;
 mod from;
 mod head;
+mod more;
+mod number;
 mod refusal;
 mod strings;
 #[cfg(test)]
@@ -31,6 +34,7 @@ pub use cbor_io::read::{
 };
 pub use cursor::{Collection, Remaining};
 pub use de::Deserializer;
+pub use formats::Formats;
 pub use from::{from_mut_slice, from_reader, from_slice, from_slice_with_scratch};
 pub use head::Head;
 pub use refusal::{Done, Refused};

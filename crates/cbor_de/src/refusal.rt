@@ -57,6 +57,7 @@ impl<R: Source> Deserializer<R> {
         ensures kept { self.new.refusal ≡ Some refusal }
         ensures source { self.new.source ≡ self.old.source }
         ensures levels { self.new.levels ≡ self.old.levels }
+        ensures formats { self.new.formats ≡ self.old.formats }
     {
         self.refusal = Some(refusal);
         Refused::Kept
@@ -70,6 +71,7 @@ impl<R: Source> Deserializer<R> {
         ensures kept { IsSomeAnd self.new.refusal (IsAt code (R.source self.old.source).offset) }
         ensures source { self.new.source ≡ self.old.source }
         ensures levels { self.new.levels ≡ self.old.levels }
+        ensures formats { self.new.formats ≡ self.old.formats }
     {
         self.refuse_back(code, 0)
     }
@@ -84,6 +86,7 @@ impl<R: Source> Deserializer<R> {
             (λ e. (why e ≡ code) × (place e + back ≡ (R.source self.old.source).offset)) }
         ensures source { self.new.source ≡ self.old.source }
         ensures levels { self.new.levels ≡ self.old.levels }
+        ensures formats { self.new.formats ≡ self.old.formats }
     {
         let place = self.source.offset() - back as u64;
         self.refusal = Some(ReadError::at(code, place));
@@ -95,6 +98,7 @@ impl<R: Source> Deserializer<R> {
         ensures tells { IsErrorOf self.old.refusal refused result }
         ensures source { self.new.source ≡ self.old.source }
         ensures levels { self.new.levels ≡ self.old.levels }
+        ensures formats { self.new.formats ≡ self.old.formats }
     {
         match (refused, self.refusal.take()) {
             (Refused::Kept, Some(refusal)) => Error::from(refusal),

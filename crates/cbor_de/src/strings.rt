@@ -1,8 +1,10 @@
 //! Byte strings and texts.
 
-ghost use Rattle.std.specs.Prelude.{◌≡◌, ◌+◌, ◌≤◌, [], length, IfOk};
+ghost use Rattle.std.specs.Prelude.{◌≡◌, ◌+◌, ◌≤◌, [], length, IfOk, OnOk};
+ghost use Rattle.cbor_model.specs.Formats.{all_formats};
 ghost use Rattle.cbor_model.specs.Head.{no_bytes};
-ghost use Rattle.cbor_model.specs.Reader.{bytes_at, chunk_at, content_of_chunk, chunks_at, checked_text, text_at, text_chunks_at, exceeds_most};
+ghost use Rattle.cbor_model.specs.Reader.{bytes_at, chunk_at, content_of_chunk, chunks_at};
+ghost use Rattle.cbor_model.specs.Reader.{checked_text, text_at, text_chunks_at, exceeds_most};
 ghost use Rattle.cbor_model.specs.Plain as plain;
 ghost use Rattle.cbor_io.specs.Head.{major_number};
 ghost use Rattle.cbor_de.specs.Gives.{Gives, values};
@@ -24,6 +26,7 @@ impl<R: Source> Deserializer<R> {
         ensures counted { IfOk result
             (λ v. length v.items ≤ (R.source self.new.source).offset) }
         ensures levels { self.new.levels ≡ self.old.levels }
+        ensures formats { self.new.formats ≡ self.old.formats }
     {
         let mut bytes = Vec::new(self.alloc);
         match self.source.read_to_vec(n as usize, &mut bytes) {
@@ -35,9 +38,10 @@ impl<R: Source> Deserializer<R> {
     /// Reads a text of n bytes.
     #[inline(always)]
     pub fn text(&mut self, n: u64) -> Done<String>
-        ensures read { Gives R.refusals text_view (λ l. text_at (values l) no_bytes n)
+        ensures read { Gives R.refusals text_view (λ l. text_at (values all_formats l) no_bytes n)
             (R.source self.old.source) (R.source self.new.source) self.new.refusal result }
         ensures levels { self.new.levels ≡ self.old.levels }
+        ensures formats { self.new.formats ≡ self.old.formats }
     {
         if !self.has_room(n) {
             return Err(self.refuse(ReadErrorCode::LengthOutOfRange));
@@ -53,6 +57,7 @@ impl<R: Source> Deserializer<R> {
             (λ l bs. joined_of (chunks_at (exceeds_most l.room) 0 2 bs))
             (R.source self.old.source) (R.source self.new.source) self.new.refusal result }
         ensures levels { self.new.levels ≡ self.old.levels }
+        ensures formats { self.new.formats ≡ self.old.formats }
     {
         self.chunks(Major::ByteString)
     }
@@ -60,22 +65,25 @@ impl<R: Source> Deserializer<R> {
     /// Reads a text in chunks.
     #[inline(always)]
     pub fn text_chunks(&mut self) -> Done<String>
-        ensures read { Gives R.refusals text_view (λ l. text_chunks_at (values l))
+        ensures read { Gives R.refusals text_view (λ l. text_chunks_at (values all_formats l))
             (R.source self.old.source) (R.source self.new.source) self.new.refusal result }
         ensures levels { self.new.levels ≡ self.old.levels }
+        ensures formats { self.new.formats ≡ self.old.formats }
     {
         let bytes = self.chunks(Major::TextString)?;
         self.checked(bytes)
     }
 
     // The text of these bytes, which were taken just now, if they are UTF-8.
+    #[inline(always)]
     #[tactic(auto, unfolding(cbor_model::specs::Reader::checked_text))]
     fn checked(&mut self, bytes: Vec<u8>) -> Done<String>
         requires taken { length bytes.items ≤ (R.source self.old.source).offset }
         ensures read { Gives R.refusals text_view
-            (λ l. checked_text (values l) (plain.text bytes.items) bytes.items)
+            (λ l. checked_text (values all_formats l) (plain.text bytes.items) bytes.items)
             (R.source self.old.source) (R.source self.new.source) self.new.refusal result }
         ensures levels { self.new.levels ≡ self.old.levels }
+        ensures formats { self.new.formats ≡ self.old.formats }
     {
         let len = bytes.len();
         match String::from_utf8(bytes) {
@@ -87,26 +95,40 @@ impl<R: Source> Deserializer<R> {
         }
     }
 
-    /// Reads chunks of the major type up to the break, and joins them.
-    #[inline(never)]
-    fn chunks(&mut self, major: Major) -> Done<Vec<u8>>
+    /// Takes chunks of the major type up to the break, and joins them.
+    pub fn chunks(&mut self, major: Major) -> Done<Vec<u8>>
         ensures read { Gives R.refusals (λ v. v.items)
             (λ l bs. joined_of (chunks_at (exceeds_most l.room) 0 (major_number major) bs))
             (R.source self.old.source) (R.source self.new.source) self.new.refusal result }
         ensures counted { IfOk result
             (λ v. length v.items ≤ (R.source self.new.source).offset) }
         ensures levels { self.new.levels ≡ self.old.levels }
+        ensures formats { self.new.formats ≡ self.old.formats }
+    {
+        self.join(major)?;
+        let joined = Vec::from_slice(self.alloc, self.source.buffer())?;
+        Ok(joined)
+    }
+
+    /// Takes chunks of the major type up to the break, and joins them in the source's buffer.
+    #[inline(never)]
+    pub fn join(&mut self, major: Major) -> Done<()>
+        ensures read { Gives R.refusals (λ u. (R.source self.new.source).buffer)
+            (λ l bs. joined_of (chunks_at (exceeds_most l.room) 0 (major_number major) bs))
+            (R.source self.old.source) (R.source self.new.source) self.new.refusal result }
+        ensures counted { OnOk result
+            (length (R.source self.new.source).buffer ≤ (R.source self.new.source).offset) }
+        ensures levels { self.new.levels ≡ self.old.levels }
+        ensures formats { self.new.formats ≡ self.old.formats }
     {
         self.source.clear_buffer();
         'chunks: loop {
             let first = self.byte()?;
             if first == BREAK {
-                break;
+                return Ok(());
             }
             self.chunk(major, first)?;
         }
-        let joined = Vec::from_slice(self.alloc, self.source.buffer())?;
-        Ok(joined)
     }
 
     // Takes the chunk of this first byte, which has to be one of the major type, to the buffer's
@@ -116,6 +138,7 @@ impl<R: Source> Deserializer<R> {
             (λ l have. chunk_at (λ n. exceeds_most l.room (have + n)) (major_number major) first)
             (R.source self.old.source) (R.source self.new.source) self.new.refusal result }
         ensures levels { self.new.levels ≡ self.old.levels }
+        ensures formats { self.new.formats ≡ self.old.formats }
     {
         let low = first % 32;
         if Major::of(first) != major || low >= 28 {

@@ -4,9 +4,11 @@ ghost use Rattle.std.specs.Prelude.{◌≡◌, OnOk};
 ghost use Rattle.cbor_model.specs.Head.{no_bytes};
 ghost use Rattle.cbor_model.specs.Plain as plain;
 ghost use Rattle.cbor_model.specs.Raw.{indefinite};
-ghost use Rattle.cbor_model.specs.Reader.{inside, parts_at, items_of, pairs_of, array_at, map_at, tag_at, after_first, item_at};
+ghost use Rattle.cbor_model.specs.Reader.{inside, parts_at, items_of, pairs_of, array_at, map_at};
+ghost use Rattle.cbor_model.specs.Reader.{tag_at, after_first, item_at};
 ghost use Rattle.cbor_value.specs.View.{view, views, map_view};
-ghost use Rattle.cbor_de.specs.Gives.{Gives, Onward, values};
+ghost use Rattle.cbor_de.specs.Gives.{Gives, Onward};
+ghost use Rattle.cbor_de.specs.Deserializer.{formats_of, values_by};
 ghost use Rattle.cbor_de.specs.Heads.{after_head, remaining_of, made_of};
 
 use crate::cursor::{Collection, Remaining};
@@ -21,10 +23,12 @@ impl<R: Source> Deserializer<R> {
     #[cycle(read)]
     #[inline(always)]
     pub fn value(&mut self) -> Done<Value>
-        ensures read { Gives R.refusals view (λ l. item_at (values l) self.old.levels)
+        ensures read { Gives R.refusals view
+            (λ l. item_at (values_by self.old.formats l) self.old.levels)
             (R.source self.old.source) (R.source self.new.source) self.new.refusal result }
         ensures taken { OnOk result (Onward (R.source self.old.source) (R.source self.new.source)) }
         ensures levels { self.new.levels ≡ self.old.levels }
+        ensures formats { self.new.formats ≡ self.old.formats }
     {
         let first = self.byte()?;
         self.value_from(first)
@@ -35,12 +39,21 @@ impl<R: Source> Deserializer<R> {
     #[inline(always)]
     fn value_from(&mut self, first: u8) -> Done<Value>
         ensures read { Gives R.refusals view
-            (λ l. after_first (values l) (inside (values l) self.old.levels) first)
+            (λ l. after_first (values_by self.old.formats l)
+            (inside (values_by self.old.formats l) self.old.levels) first)
             (R.source self.old.source) (R.source self.new.source) self.new.refusal result }
         ensures levels { self.new.levels ≡ self.old.levels }
+        ensures formats { self.new.formats ≡ self.old.formats }
     {
-        let head = self.head(first)?;
-        self.value_of(head)
+        match first {
+            // Numbers, which most items are, without a head between.
+            0x00..=0x1b => self.unsigned_from(first),
+            0xf9..=0xfb => self.float_from(first),
+            _ => {
+                let head = self.head(first)?;
+                self.value_of(head)
+            }
+        }
     }
 
     /// Reads what follows a head.
@@ -48,9 +61,11 @@ impl<R: Source> Deserializer<R> {
     #[inline(always)]
     fn value_of(&mut self, head: Head) -> Done<Value>
         ensures read { Gives R.refusals view
-            (λ l. after_head l (inside (values l) self.old.levels) head)
+            (λ l. after_head (formats_of self.old.formats) l
+            (inside (values_by self.old.formats l) self.old.levels) head)
             (R.source self.old.source) (R.source self.new.source) self.new.refusal result }
         ensures levels { self.new.levels ≡ self.old.levels }
+        ensures formats { self.new.formats ≡ self.old.formats }
     {
         match head {
             Head::Unsigned(n) => Ok(Value::Integer(n as i128)),
@@ -73,10 +88,12 @@ impl<R: Source> Deserializer<R> {
     #[cycle(read)]
     fn array(&mut self, remaining: Remaining) -> Done<Vec<Value>>
         ensures read { Gives R.refusals (λ v. plain.array (views v.items))
-            (λ l. array_at (values l) (inside (values l) self.old.levels) indefinite
-            (remaining_of remaining))
+            (λ l. array_at (values_by self.old.formats l)
+            (inside (values_by self.old.formats l) self.old.levels)
+            indefinite (remaining_of remaining))
             (R.source self.old.source) (R.source self.new.source) self.new.refusal result }
         ensures levels { self.new.levels ≡ self.old.levels }
+        ensures formats { self.new.formats ≡ self.old.formats }
     {
         self.enter()?;
         let items = self.items(remaining);
@@ -89,10 +106,12 @@ impl<R: Source> Deserializer<R> {
     #[inline(never)]
     fn items(&mut self, mut remaining: Remaining) -> Done<Vec<Value>>
         ensures read { Gives R.refusals (λ v. views v.items)
-            (λ l. parts_at (items_of (values l) (item_at (values l) self.old.levels))
+            (λ l. parts_at (items_of (values_by self.old.formats l)
+            (item_at (values_by self.old.formats l) self.old.levels))
             (remaining_of remaining))
             (R.source self.old.source) (R.source self.new.source) self.new.refusal result }
         ensures levels { self.new.levels ≡ self.old.levels }
+        ensures formats { self.new.formats ≡ self.old.formats }
     {
         let mut items = Vec::new(self.alloc);
         'items: while let Some(first) = self.next(&mut remaining, Collection::Array)? {
@@ -106,10 +125,12 @@ impl<R: Source> Deserializer<R> {
     #[cycle(read)]
     fn map(&mut self, remaining: Remaining) -> Done<Map>
         ensures read { Gives R.refusals (λ m. plain.map (map_view m))
-            (λ l. map_at (values l) (inside (values l) self.old.levels) indefinite
-            (remaining_of remaining))
+            (λ l. map_at (values_by self.old.formats l)
+            (inside (values_by self.old.formats l) self.old.levels)
+            indefinite (remaining_of remaining))
             (R.source self.old.source) (R.source self.new.source) self.new.refusal result }
         ensures levels { self.new.levels ≡ self.old.levels }
+        ensures formats { self.new.formats ≡ self.old.formats }
     {
         self.enter()?;
         let map = self.pairs(remaining);
@@ -122,13 +143,18 @@ impl<R: Source> Deserializer<R> {
     #[inline(never)]
     fn pairs(&mut self, mut remaining: Remaining) -> Done<Map>
         ensures read { Gives R.refusals map_view
-            (λ l bs. made_of (parts_at (pairs_of (values l) (item_at (values l) self.old.levels))
+            (λ l bs. made_of (parts_at (pairs_of (values_by self.old.formats l)
+            (item_at (values_by self.old.formats l) self.old.levels))
             (remaining_of remaining) bs))
             (R.source self.old.source) (R.source self.new.source) self.new.refusal result }
         ensures levels { self.new.levels ≡ self.old.levels }
+        ensures formats { self.new.formats ≡ self.old.formats }
     {
         let mut pairs = Vec::new(self.alloc);
         'pairs: while let Some(first) = self.next(&mut remaining, Collection::Map)? {
+            if !self.formats.may_begin_key(first) {
+                return Err(self.refuse_back(ReadErrorCode::WrongStructFormat, 1));
+            }
             let key = self.value_from(first)?;
             let value = self.value()?;
             pairs.push((key, value))?;
@@ -143,9 +169,11 @@ impl<R: Source> Deserializer<R> {
     #[cycle(read)]
     fn tagged(&mut self, tag: u64) -> Done<Box<Value>>
         ensures read { Gives R.refusals (λ b. plain.tag tag (view b.value))
-            (λ l. tag_at (values l) (inside (values l) self.old.levels) no_bytes tag)
+            (λ l. tag_at (values_by self.old.formats l)
+            (inside (values_by self.old.formats l) self.old.levels) no_bytes tag)
             (R.source self.old.source) (R.source self.new.source) self.new.refusal result }
         ensures levels { self.new.levels ≡ self.old.levels }
+        ensures formats { self.new.formats ≡ self.old.formats }
     {
         self.enter()?;
         let value = self.boxed();
@@ -158,9 +186,10 @@ impl<R: Source> Deserializer<R> {
     #[inline(never)]
     fn boxed(&mut self) -> Done<Box<Value>>
         ensures read { Gives R.refusals (λ b. view b.value)
-            (λ l. item_at (values l) self.old.levels)
+            (λ l. item_at (values_by self.old.formats l) self.old.levels)
             (R.source self.old.source) (R.source self.new.source) self.new.refusal result }
         ensures levels { self.new.levels ≡ self.old.levels }
+        ensures formats { self.new.formats ≡ self.old.formats }
     {
         let value = self.value()?;
         Ok(Box::new(self.alloc, value)?)

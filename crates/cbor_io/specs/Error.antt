@@ -4,6 +4,7 @@ use Rattle.std.specs.String.{string_bytes}
 use Rattle.cbor_model.specs.Refusal.{words, at_offset, end_in_value, end_in_array, end_in_map}
 use Rattle.cbor_model.specs.Refusal.{length_out_of_range, invalid_utf8, unassigned_code}
 use Rattle.cbor_model.specs.Refusal.{unexpected_code, trailing_data, too_deep}
+use Rattle.cbor_model.specs.Refusal.{wrong_struct_format}
 use Rattle.cbor_io.specs.declared.error.Category.{Category}
 use Rattle.cbor_io.specs.declared.error.Category.TheVariants as category
 use Rattle.cbor_io.specs.declared.error.ErrorCode.{ErrorCode}
@@ -63,7 +64,7 @@ code_text ArrayTooShort = codes "array too short"
 code_text ArrayTooLong = codes "array too long"
 code_text RecursionLimitExceeded = words too_deep
 code_text WrongEnumFormat = codes "wrong enum format"
-code_text WrongStructFormat = codes "wrong struct format"
+code_text WrongStructFormat = words wrong_struct_format
 code_text OutOfMemory = codes "out of memory"
 
 -- the words, and the offset where it isn't 0

@@ -30,6 +30,7 @@ error_code read.UnassignedCode = error.UnassignedCode
 error_code read.UnexpectedCode = error.UnexpectedCode
 error_code read.TrailingData = error.TrailingData
 error_code read.RecursionLimitExceeded = error.RecursionLimitExceeded
+error_code read.WrongStructFormat = error.WrongStructFormat
 error_code read.OutOfMemory = error.OutOfMemory
 
 -- a fault of a device and want of memory have no place in the input

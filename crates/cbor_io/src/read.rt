@@ -1,10 +1,14 @@
 //! Sources: what the bytes of an input are taken from.
 
-ghost use Rattle.std.specs.Prelude.{◌≡◌, ℕ, ◌<◌, ◌^◌, Bool, List, [], ◌∷◌, length, take, IfOk, IfErr, OnOk, IfSome, IsSome, MatchOption, Some, Option};
+ghost use Rattle.std.specs.Prelude.{◌≡◌, ℕ, ◌<◌, ◌^◌, Bool, List, [], ◌∷◌, length, take, IfOk};
+ghost use Rattle.std.specs.Prelude.{IfErr, OnOk, IfSome, IsSome, MatchOption, Some, Option};
 ghost use types.Logic.{sem};
 ghost use Rattle.std.specs.Io.BufRead.{Rests};
 ghost use Rattle.std.specs.Io.KnownBytes.{Keeps};
-ghost use Rattle.cbor_io.specs.Source.{Input, Lends, TookKept, Stays, KeepsBytes, Buffered, TookBehind, FitsRoom, RefusedToBuffer, RefusedInto, RefusedByte, or_memory, NextDoes, ReadLeaves, part_bytes, is_long};
+ghost use Rattle.cbor_io.specs.Source.{Input, Lends, TookKept, Stays, KeepsBytes, Buffered};
+ghost use Rattle.cbor_io.specs.Source.{TookBehind, FitsRoom, RefusedToBuffer, RefusedInto};
+ghost use Rattle.cbor_io.specs.Source.{RefusedByte, or_memory, NextDoes, ReadLeaves, part_bytes};
+ghost use Rattle.cbor_io.specs.Source.{is_long};
 
 mod front;
 mod io_read;

@@ -7,13 +7,14 @@ use Rattle.std.proofs.lemmas.Bool.{ne_eqb, eq-eqb, lt-ltb}
 use Rattle.std.proofs.lemmas.List.{length-append}
 use Rattle.cbor_model.specs.Head.{HeadWidth, limit, info, head, behind}
 use Rattle.cbor_model.specs.Raw as raw
-use Rattle.cbor_model.specs.Raw.{Length, definite, indefinite, Raw, Raws, no_raws, RawPairs, no_raw_pairs, raw_pair, Chunk, joined, Simple, false_item, true_item, null_item, undefined_item, FloatWidth, half, single, double, float_limit, count, pair_count, depth, depth_all, depth_pairs, IsChunk, IsWellFormed, AreWellFormed, ArePairsWellFormed, EachText, EachTextOfAll, EachTextOfPairs, longest_joined, longest_joined_all, longest_joined_pairs}
+use Rattle.cbor_model.specs.Raw.{Length, definite, indefinite, Raw, Raws, no_raws, RawPairs, no_raw_pairs, raw_pair, Chunk, joined, Simple, false_item, true_item, null_item, undefined_item, FloatWidth, half, single, double, float_limit, count, pair_count, depth, depth_all, depth_pairs, IsChunk, IsWellFormed, AreWellFormed, ArePairsWellFormed, EachText, EachTextOfAll, EachTextOfPairs, EachKey, EachKeyOfAll, EachKeyOfPairs, longest_joined, longest_joined_all, longest_joined_pairs}
 use Rattle.cbor_model.specs.Spelling.{spell, spell_all, spell_pairs, chunk, simple_byte, float_spelling, break}
 use Rattle.cbor_model.specs.Refusal.{Refusal, end_in_array, end_in_map}
 use Rattle.cbor_model.specs.Reader.{Reads, ◌>>=◌, Reading, byte_at, float_at, simple_at, string_at, checked_text, text_at, content_of_chunk, chunk_at, chunks_by, string_chunks_at, text_chunks_at, Remaining, counted, to_break, next_at, Parts, parts_by, parts_at, pair_at, items_of, pairs_of, array_at, map_at, tag_at, content_at, indefinite_at, after_first, item_by, item_at, inside}
 use Rattle.cbor_model.proofs.Made.{made, made_all, made_pairs}
-use Rattle.cbor_model.proofs.Steps.{bytes_again, wide16, wide32, wide64, number_again, info-below, width_of-info, number_behind_again, major_of, low_of}
-use Rattle.cbor_model.proofs.Found.{Passes}
+use Rattle.cbor_model.proofs.Steps.{bytes_again, wide16, wide32, wide64, number_again, info-below, width_of-info, number_behind_again, major_of, low_of, BeginsWith, key_is}
+use Rattle.cbor_model.proofs.Found.{Passes, MayBeKey}
+use Rattle.cbor_model.proofs.FirstBytes.{IsBegun, begun, begun-length, head-no_break, begins_front}
 
 -- each text that fits what is left has room, where no more than so many bytes are left
 abbrev pub HasRoom : {Item Items Pairs : Type 0} → Reading Item Items Pairs → ℕ → Type 0
@@ -27,7 +28,7 @@ Grows exceeds = (a b : ℕ) → a ≤ b → exceeds b ≡ false → exceeds a �
 abbrev pub Joins : {Item Items Pairs : Type 0} → Reading Item Items Pairs → List ℕ → Type 0
 Joins m b = m.exceeds (length b) ≡ false
 
--- each text passes, and each chunked string is joined
+-- each text and each key passes, and each chunked string is joined
 abbrev mutual
   pub Lets : {Item Items Pairs : Type 0} → Reading Item Items Pairs → Raw → Type 0
   Lets m (raw.text c) = Passes m c.bytes
@@ -44,86 +45,39 @@ abbrev mutual
 
   pub LetsPairs : {Item Items Pairs : Type 0} → Reading Item Items Pairs → RawPairs → Type 0
   LetsPairs m no_raw_pairs = Unit {0}
-  LetsPairs m (raw_pair k v ps) = Lets m k × Lets m v × LetsPairs m ps
+  LetsPairs m (raw_pair k v ps) = MayBeKey m k × Lets m k × Lets m v × LetsPairs m ps
 
 module _ {Item Items Pairs : Type 0} (m : Reading Item Items Pairs) (grows : Grows m.exceeds) where
   mutual
-    pub lets : (r : Raw) → EachText (Passes m) r → m.exceeds (longest_joined r) ≡ false → Lets m r
-    lets (raw.text c) texts joins = texts
-    lets (raw.bytes_chunks cs) texts joins = joins
-    lets (raw.text_chunks cs) texts joins = (texts, joins)
-    lets (raw.array l rs) texts joins = lets_all rs texts joins
-    lets (raw.map l ps) texts joins = lets_pairs ps texts joins
-    lets (raw.tag w n r) texts joins = lets r texts joins
-    lets _ texts joins = tt
+    pub lets : (r : Raw) → EachText (Passes m) r → EachKey (MayBeKey m) r
+        → m.exceeds (longest_joined r) ≡ false → Lets m r
+    lets (raw.text c) texts keys joins = texts
+    lets (raw.bytes_chunks cs) texts keys joins = joins
+    lets (raw.text_chunks cs) texts keys joins = (texts, joins)
+    lets (raw.array l rs) texts keys joins = lets_all rs texts keys joins
+    lets (raw.map l ps) texts keys joins = lets_pairs ps texts keys joins
+    lets (raw.tag w n r) texts keys joins = lets r texts keys joins
+    lets _ texts keys joins = tt
 
-    lets_all : (rs : Raws)
-        → EachTextOfAll (Passes m) rs → m.exceeds (longest_joined_all rs) ≡ false → LetsAll m rs
-    lets_all no_raws texts joins = tt
-    lets_all (raw.raw r rs) texts joins =
+    lets_all : (rs : Raws) → EachTextOfAll (Passes m) rs → EachKeyOfAll (MayBeKey m) rs
+        → m.exceeds (longest_joined_all rs) ≡ false → LetsAll m rs
+    lets_all no_raws texts keys joins = tt
+    lets_all (raw.raw r rs) texts keys joins =
         let most = longest_joined_all (raw.raw r rs) in (
-          lets r texts.0 (grows (longest_joined r) most (omega arith) joins),
-          lets_all rs texts.1 (grows (longest_joined_all rs) most (omega arith) joins),
+          lets r texts.0 keys.0 (grows (longest_joined r) most (omega arith) joins),
+          lets_all rs texts.1 keys.1 (grows (longest_joined_all rs) most (omega arith) joins),
         )
 
-    lets_pairs : (ps : RawPairs)
-        → EachTextOfPairs (Passes m) ps → m.exceeds (longest_joined_pairs ps) ≡ false
-        → LetsPairs m ps
-    lets_pairs no_raw_pairs texts joins = tt
-    lets_pairs (raw_pair k v ps) texts joins =
+    lets_pairs : (ps : RawPairs) → EachTextOfPairs (Passes m) ps → EachKeyOfPairs (MayBeKey m) ps
+        → m.exceeds (longest_joined_pairs ps) ≡ false → LetsPairs m ps
+    lets_pairs no_raw_pairs texts keys joins = tt
+    lets_pairs (raw_pair k v ps) texts keys joins =
         let most = longest_joined_pairs (raw_pair k v ps) in (
-          lets k texts.0 (grows (longest_joined k) most (omega arith) joins),
-          lets v texts.1 (grows (longest_joined v) most (omega arith) joins),
-          lets_pairs ps texts.2 (grows (longest_joined_pairs ps) most (omega arith) joins),
+          keys.0,
+          lets k texts.0 keys.1 (grows (longest_joined k) most (omega arith) joins),
+          lets v texts.1 keys.2 (grows (longest_joined v) most (omega arith) joins),
+          lets_pairs ps texts.2 keys.3 (grows (longest_joined_pairs ps) most (omega arith) joins),
         )
-
--- ---- first bytes
-
--- the bytes begin with one, which isn't the break
-pub record IsBegun (bs : List ℕ) : Type 0 where
-  pub first : ℕ
-  pub others : List ℕ
-  pub is : bs ≡ first ∷ others
-  pub no_break : eqb first 0xff ≡ false
-
-head-no_break : (major : ℕ) (w : HeadWidth) (n : ℕ) → major ≤ 6 → n < limit w → eqb (32 * major + info w n) 0xff ≡ false
-head-no_break major w n at_most fits =
-    let below = info-below w n fits in
-    ne_eqb (32 * major + info w n) 0xff (λ same. omega arith)
-
-head_begun : (major : ℕ) (w : HeadWidth) (n : ℕ) (others : List ℕ) → major ≤ 6 → n < limit w → IsBegun ((32 * major + info w n) ∷ others)
-head_begun major w n others at_most fits = record { first = 32 * major + info w n; others = others; is = refl; no_break = head-no_break major w n at_most fits }
-
-simple_begun : (s : Simple) → IsBegun (simple_byte s ∷ [])
-simple_begun false_item = record { first = 0xf4; others = []; is = refl; no_break = refl }
-simple_begun true_item = record { first = 0xf5; others = []; is = refl; no_break = refl }
-simple_begun null_item = record { first = 0xf6; others = []; is = refl; no_break = refl }
-simple_begun undefined_item = record { first = 0xf7; others = []; is = refl; no_break = refl }
-
-float_begun : (f : FloatWidth) (n : ℕ) → IsBegun (float_spelling f n)
-float_begun half n = record { first = 0xf9; others = _; is = refl; no_break = refl }
-float_begun single n = record { first = 0xfa; others = _; is = refl; no_break = refl }
-float_begun double n = record { first = 0xfb; others = _; is = refl; no_break = refl }
-
--- no spelling begins with the break
-pub begun : (r : Raw) → IsWellFormed r → IsBegun (spell r)
-unfolding spell
-begun (raw.unsigned w n) fits = head_begun 0 w n _ (omega arith) fits
-begun (raw.negative w n) fits = head_begun 1 w n _ (omega arith) fits
-begun (raw.bytes c) fits = head_begun 2 c.width (length c.bytes) _ (omega arith) fits.0
-begun (raw.text c) fits = head_begun 3 c.width (length c.bytes) _ (omega arith) fits.0
-begun (raw.bytes_chunks cs) fits = record { first = 0x5f; others = _; is = refl; no_break = refl }
-begun (raw.text_chunks cs) fits = record { first = 0x7f; others = _; is = refl; no_break = refl }
-begun (raw.array (definite w) rs) fits = head_begun 4 w (count rs) _ (omega arith) fits.0
-begun (raw.array indefinite rs) fits = record { first = 0x9f; others = _; is = refl; no_break = refl }
-begun (raw.map (definite w) ps) fits = head_begun 5 w (pair_count ps) _ (omega arith) fits.0
-begun (raw.map indefinite ps) fits = record { first = 0xbf; others = _; is = refl; no_break = refl }
-begun (raw.tag w n r) fits = head_begun 6 w n _ (omega arith) fits.0
-begun (raw.simple s) fits = simple_begun s
-begun (raw.float w bits) fits = float_begun w bits
-
-begun-length : (bs : List ℕ) → IsBegun bs → 0 < length bs
-begun-length bs starts = omega (arith, ap length starts.is)
 
 -- ---- what remains of an array or a map
 
@@ -281,9 +235,9 @@ module _ {Item Items Pairs : Type 0} (m : Reading Item Items Pairs) where
   unfolding item_by byte_at after_first indefinite_at
   indefinite_map_again p bs = refl
 
-  pair_again : (p : List ℕ → Reads Item) (bs at_value more : List ℕ) (k v : Item) → p bs ≡ Ok (k, at_value) → p at_value ≡ Ok (v, more) → pair_at p bs ≡ Ok ((k, v), more)
+  pair_again : (p : List ℕ → Reads Item) (bs at_value more : List ℕ) (k v : Item) → BeginsWith m.allows bs → p bs ≡ Ok (k, at_value) → p at_value ≡ Ok (v, more) → pair_at m.allows p bs ≡ Ok ((k, v), more)
   unfolding pair_at
-  pair_again p bs at_value more k v key val = rw (key, val) refl
+  pair_again p bs at_value more k v may key val = rw (key_is m.allows p bs may, key, val) refl
 
 -- a key and a value, and the pairs behind them
 pair_parts : (k v more rest : List ℕ) → (k ++ (v ++ more)) ++ rest ≡ k ++ (v ++ (more ++ rest))
@@ -393,6 +347,7 @@ module _ {Item Items Pairs : Type 0} (m : Reading Item Items Pairs) (total : ℕ
         ∙ part_before (pairs_of m p) fuel (pair_count ps) l (spell k ++ at_value) more rest (made m k, made m v) (made_pairs m ps)
         (next_again end_in_map l (pair_count ps) (spell k) at_value (begun k fits.0))
         (pair_again m p (spell k ++ at_value) at_value more (made m k) (made m v)
-        (again k levels at_value fits.0 (omega (arith, nests)) texts.0 within_key)
-        (again v levels more fits.1 (omega (arith, nests)) texts.1 within_value))
-        (pairs_again ps l levels rest fuel fits.2 (omega (arith, nests)) texts.2 within_more (omega arith))
+        (begins_front m.allows (spell k) at_value texts.0)
+        (again k levels at_value fits.0 (omega (arith, nests)) texts.1 within_key)
+        (again v levels more fits.1 (omega (arith, nests)) texts.2 within_value))
+        (pairs_again ps l levels rest fuel fits.2 (omega (arith, nests)) texts.3 within_more (omega arith))

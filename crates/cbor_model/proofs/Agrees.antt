@@ -1,7 +1,7 @@
 -- Where fewer bytes of chunks can be joined, the reference reader answers the same, or that the
 -- scratch is too small.
 use Rattle.std.proofs.Common.{◌≡◌, ◌⊎◌, ℕ, zero, suc, ◌+◌, ◌/◌, ◌%◌, Bool, true, false, cond, eqb}
-use Rattle.std.proofs.Common.{List, length, Option, Some, None, Result, Ok, Err, refl, sym, subst}
+use Rattle.std.proofs.Common.{List, [], ◌∷◌, length, Option, Some, None, Result, Ok, Err, refl, sym, subst}
 use Rattle.std.proofs.Common.{inl, inr}
 use Rattle.cbor_model.specs.Head.{HeadWidth}
 use Rattle.cbor_model.specs.Raw.{Length, definite, indefinite}
@@ -10,7 +10,8 @@ use Rattle.cbor_model.specs.Reader.{Fault, Reads, ◌>>=◌, Reading, byte_at, b
 use Rattle.cbor_model.specs.Reader.{width_of, simple_at, float_at, string_at, checked_text, text_at}
 use Rattle.cbor_model.specs.Reader.{begins_chunk, content_of_chunk, chunk_at, chunks_by, chunks_at}
 use Rattle.cbor_model.specs.Reader.{string_chunks_at, text_chunks_at, Remaining, counted, to_break}
-use Rattle.cbor_model.specs.Reader.{next_at, Parts, go_on, parts_by, parts_at, pair_at, items_of}
+use Rattle.cbor_model.specs.Reader.{next_at, Parts, go_on, parts_by, parts_at, key_at}
+use Rattle.cbor_model.specs.Reader.{pair_at, items_of}
 use Rattle.cbor_model.specs.Reader.{pairs_of, within, array_at, map_at, tag_at, content_at}
 use Rattle.cbor_model.specs.Reader.{indefinite_at, after_first, item_by, item_at}
 use Rattle.cbor_model.specs.Laws.{IsScratchTooSmall}
@@ -109,11 +110,20 @@ module _ {Part Whole : Type 0} (ps : Parts Part Whole) (q : List ℕ → Reads P
         agrees_then (next_at ps.ends remaining bs) _ _ (λ next.
         go_on_agrees (parts_by ps fuel) (parts_by qs fuel) (parts_agree fuel) next.0 next.1)
 
-pair_agrees : {Item : Type 0} (p q : List ℕ → Reads Item)
-    → ((bs : List ℕ) → Agrees (p bs) (q bs)) → (bs : List ℕ) → Agrees (pair_at p bs) (pair_at q bs)
+key_agrees : {Item : Type 0} (allows : ℕ → Bool) (p q : List ℕ → Reads Item)
+    → ((bs : List ℕ) → Agrees (p bs) (q bs))
+    → (bs : List ℕ) → Agrees (key_at allows p bs) (key_at allows q bs)
+unfolding key_at
+key_agrees allows p q agrees [] = inl refl
+key_agrees allows p q agrees (b ∷ bs) =
+    agrees_cond (allows b) _ _ _ _ (agrees (b ∷ bs)) (inl refl)
+
+pair_agrees : {Item : Type 0} (allows : ℕ → Bool) (p q : List ℕ → Reads Item)
+    → ((bs : List ℕ) → Agrees (p bs) (q bs))
+    → (bs : List ℕ) → Agrees (pair_at allows p bs) (pair_at allows q bs)
 unfolding pair_at
-pair_agrees p q agrees bs =
-    agrees_bind (p bs) (q bs) _ _ (agrees bs) (λ k.
+pair_agrees allows p q agrees bs =
+    agrees_bind (key_at allows p bs) (key_at allows q bs) _ _ (key_agrees allows p q agrees bs) (λ k.
     agrees_bind (p k.1) (q k.1) _ _ (agrees k.1) (λ v. inl refl))
 
 -- ---- items
@@ -175,8 +185,8 @@ module _ {Item Items Pairs : Type 0} (m : Reading Item Items Pairs) where
         agrees_bind (within inner bs (λ p. parts_at (pairs_of m p) remaining bs))
         (within inner' bs (λ p. parts_at (pairs_of unlimited p) remaining bs)) _ _
         (within_agrees bs _ _ (λ p q alike.
-        let pairs = pair_agrees p q alike in
-        parts_agree (pairs_of m p) (pair_at q) pairs (suc (length bs)) remaining bs))
+        let pairs = pair_agrees m.allows p q alike in
+        parts_agree (pairs_of m p) (pair_at m.allows q) pairs (suc (length bs)) remaining bs))
         (λ pairs. inl refl)
 
     tag_agrees : (w : HeadWidth) (n : ℕ) (bs : List ℕ)

@@ -15,6 +15,7 @@ use Rattle.cbor_model.specs.Raw.{true_item, null_item, undefined_item, FloatWidt
 use Rattle.cbor_model.specs.Raw.{double, float_limit, count, pair_count, depth, depth_all}
 use Rattle.cbor_model.specs.Raw.{depth_pairs, AreBytes, IsChunk, IsWellFormed, AreWellFormed}
 use Rattle.cbor_model.specs.Raw.{ArePairsWellFormed, EachText, EachTextOfAll, EachTextOfPairs}
+use Rattle.cbor_model.specs.Raw.{EachKey, EachKeyOfAll, EachKeyOfPairs}
 use Rattle.cbor_model.specs.Raw.{longest_joined, longest_joined_all, longest_joined_pairs}
 use Rattle.cbor_model.specs.Spelling.{spell, spell_all, spell_pairs, chunk, simple_byte}
 use Rattle.cbor_model.specs.Spelling.{float_spelling, break}
@@ -25,17 +26,24 @@ use Rattle.cbor_model.specs.Reader.{number_at, width_of, number_behind, float_at
 use Rattle.cbor_model.specs.Reader.{string_at, checked_text, text_at, begins_chunk}
 use Rattle.cbor_model.specs.Reader.{content_of_chunk, chunk_at, chunks_by, chunks_at}
 use Rattle.cbor_model.specs.Reader.{string_chunks_at, text_chunks_at, Remaining, counted, to_break}
-use Rattle.cbor_model.specs.Reader.{next_at, Parts, go_on, parts_by, parts_at, pair_at, items_of}
+use Rattle.cbor_model.specs.Reader.{next_at, Parts, go_on, parts_by, parts_at, key_at}
+use Rattle.cbor_model.specs.Reader.{pair_at, items_of}
 use Rattle.cbor_model.specs.Reader.{pairs_of, array_at, map_at, tag_at, content_at, indefinite_at}
 use Rattle.cbor_model.specs.Reader.{after_first, item_by, item_at}
 use Rattle.cbor_model.proofs.Made.{made, made_all, made_pairs}
 use Rattle.cbor_model.proofs.Steps.{AreBytes-rest, bind_ok, chosen, at_number, done, ok_is, read_as}
 use Rattle.cbor_model.proofs.Steps.{not_ok, bytes_found, IsWide, wide16, wide32, wide64}
 use Rattle.cbor_model.proofs.Steps.{number_found, number_behind_found, first_is}
+use Rattle.cbor_model.proofs.Steps.{BeginsWith, key_read}
+use Rattle.cbor_model.proofs.FirstBytes.{begun, front_begins}
 
 -- the reading lets the text pass
 abbrev pub Passes : {Item Items Pairs : Type 0} → Reading Item Items Pairs → List ℕ → Type 0
 Passes m b = m.is_text b ≡ true
+
+-- the reading lets the key pass, by its first byte
+abbrev pub MayBeKey : {Item Items Pairs : Type 0} → Reading Item Items Pairs → Raw → Type 0
+MayBeKey m k = BeginsWith m.allows (spell k)
 
 -- what is read of bs at that depth at the most
 pub record IsItem {Item Items Pairs : Type 0} (m : Reading Item Items Pairs) (levels : ℕ) (bs : List ℕ) (x : Item × List ℕ) : Type 0 where
@@ -45,6 +53,7 @@ pub record IsItem {Item Items Pairs : Type 0} (m : Reading Item Items Pairs) (le
   pub fits : IsWellFormed item
   pub nests : depth item ≤ levels
   pub texts : EachText (Passes m) item
+  pub keys : EachKey (MayBeKey m) item
   pub joins : m.exceeds (longest_joined item) ≡ false
   pub rest_fits : AreBytes x.1
 
@@ -56,6 +65,7 @@ pub record AreItems {Item Items Pairs : Type 0} (m : Reading Item Items Pairs) (
   pub fits : AreWellFormed items
   pub nests : depth_all items ≤ levels
   pub texts : EachTextOfAll (Passes m) items
+  pub keys : EachKeyOfAll (MayBeKey m) items
   pub joins : m.exceeds (longest_joined_all items) ≡ false
   pub rest_fits : AreBytes x.1
 
@@ -67,6 +77,7 @@ pub record ArePairs {Item Items Pairs : Type 0} (m : Reading Item Items Pairs) (
   pub fits : ArePairsWellFormed pairs
   pub nests : depth_pairs pairs ≤ levels
   pub texts : EachTextOfPairs (Passes m) pairs
+  pub keys : EachKeyOfPairs (MayBeKey m) pairs
   pub joins : m.exceeds (longest_joined_pairs pairs) ≡ false
   pub rest_fits : AreBytes x.1
 
@@ -74,6 +85,7 @@ pub record ArePairs {Item Items Pairs : Type 0} (m : Reading Item Items Pairs) (
 pub record IsPair {Item Items Pairs : Type 0} (m : Reading Item Items Pairs) (levels : ℕ) (bs : List ℕ) (x : (Item × Item) × List ℕ) : Type 0 where
   pub at_value : List ℕ
   pub key : IsItem m levels bs (x.0.0, at_value)
+  pub allowed : MayBeKey m key.item
   pub value : IsItem m levels at_value (x.0.1, x.1)
 
 -- So many parts, or parts up to the break, which is taken too.
@@ -274,17 +286,18 @@ module _ {Item Items Pairs : Type 0} (m : Reading Item Items Pairs) (none_fits :
     fits = (one.fits, all.fits);
     nests = omega (arith, one.nests, all.nests);
     texts = (one.texts, all.texts);
+    keys = (one.keys, all.keys);
     joins = both_join m.exceeds (longest_joined one.item) (longest_joined_all all.items) one.joins all.joins;
     rest_fits = all.rest_fits;
   }
 
   -- a pair, and those after it
   pair_added : (levels n : ℕ) (bs at_value more rest : List ℕ) (k v : Item) (others : Pairs)
-      → IsItem m levels bs (k, at_value) → IsItem m levels at_value (v, more)
+      → (key : IsItem m levels bs (k, at_value)) → MayBeKey m key.item → IsItem m levels at_value (v, more)
       → ArePairs m levels n more (others, rest)
       → ArePairs m levels (suc n) bs (m.pair k v others, rest)
   unfolding spell made
-  pair_added levels n bs at_value more rest k v others key val all = record {
+  pair_added levels n bs at_value more rest k v others key allowed val all = record {
     pairs = raw_pair key.item val.item all.pairs;
     made_is = ap (λ (i : Item). m.pair i (made m val.item) (made_pairs m all.pairs)) key.made_is ∙ ap (λ (i : Item). m.pair k i (made_pairs m all.pairs)) val.made_is ∙ ap (m.pair k v) all.made_is;
     parts = two_parts bs (spell key.item) at_value (spell val.item ++ spell_pairs all.pairs) rest key.parts (two_parts at_value (spell val.item) more (spell_pairs all.pairs) rest val.parts all.parts);
@@ -292,6 +305,7 @@ module _ {Item Items Pairs : Type 0} (m : Reading Item Items Pairs) (none_fits :
     fits = (key.fits, val.fits, all.fits);
     nests = omega (arith, key.nests, val.nests, all.nests);
     texts = (key.texts, val.texts, all.texts);
+    keys = (allowed, key.keys, val.keys, all.keys);
     joins =
         both_join m.exceeds (max (longest_joined key.item) (longest_joined val.item)) (longest_joined_pairs all.pairs)
         (both_join m.exceeds (longest_joined key.item) (longest_joined val.item) key.joins val.joins)
@@ -301,15 +315,17 @@ module _ {Item Items Pairs : Type 0} (m : Reading Item Items Pairs) (none_fits :
 
   -- parts, of which so many are read, or those up to the break
   pair_found : (p : List ℕ → Reads Item) (levels : ℕ) → Finds m p levels
-      → (bs : List ℕ) (x : (Item × Item) × List ℕ) → AreBytes bs → pair_at p bs ≡ Ok x
+      → (bs : List ℕ) (x : (Item × Item) × List ℕ) → AreBytes bs → pair_at m.allows p bs ≡ Ok x
       → IsPair m levels bs x
   unfolding pair_at
   pair_found p levels finds bs x fits is =
-      let a = bind_ok (p bs) (λ k. p k.1 >>= λ v. Ok ((k.0, v.0), v.1)) x is in
+      let a = bind_ok (key_at m.allows p bs) (λ k. p k.1 >>= λ v. Ok ((k.0, v.0), v.1)) x is in
       let b = bind_ok (p a.0.1) (λ v. Ok ((a.0.0, v.0), v.1)) x a.2 in
-      let key = finds bs a.0 fits a.1 in
+      let read = key_read m.allows p bs a.0 a.1 in
+      let key = finds bs a.0 fits read.1 in
+      let allowed = front_begins m.allows bs (spell key.item) a.0.1 (begun key.item key.fits) key.parts read.0 in
       let val = finds a.0.1 b.0 key.rest_fits b.1 in
-      read_as (IsPair m levels bs) ((a.0.0, b.0.0), b.0.1) x b.2 (record { at_value = a.0.1; key = key; value = val })
+      read_as (IsPair m levels bs) ((a.0.0, b.0.0), b.0.1) x b.2 (record { at_value = a.0.1; key = key; allowed = allowed; value = val })
 
   -- ---- what stands behind a head
 
@@ -332,6 +348,7 @@ module _ {Item Items Pairs : Type 0} (m : Reading Item Items Pairs) (none_fits :
         fits = (omega (arith, long, small), got.fits);
         nests = omega arith;
         texts = tt;
+        keys = tt;
         joins = none_fits;
         rest_fits = got.rest_fits;
       })
@@ -356,6 +373,7 @@ module _ {Item Items Pairs : Type 0} (m : Reading Item Items Pairs) (none_fits :
                 fits = (omega (arith, long, small), got.fits);
                 nests = omega arith;
                 texts = passes.0;
+                keys = tt;
                 joins = none_fits;
                 rest_fits = got.rest_fits;
               })
@@ -369,7 +387,7 @@ module _ {Item Items Pairs : Type 0} (m : Reading Item Items Pairs) (none_fits :
   unfolding spell made
   items_found p levels finds remaining bs x fits is =
       parts_found (items_of m p) (IsItem m levels) (AreItems m levels) (λ bs x one. one.rest_fits) finds
-      (λ bs fits. record { items = no_raws; made_is = refl; parts = refl; count_is = refl; fits = tt; nests = omega arith; texts = tt; joins = none_fits; rest_fits = fits })
+      (λ bs fits. record { items = no_raws; made_is = refl; parts = refl; count_is = refl; fits = tt; nests = omega arith; texts = tt; keys = tt; joins = none_fits; rest_fits = fits })
       (λ n bs more rest first others one all. item_added levels n bs more rest first others one all)
       (suc (length bs)) remaining bs x fits is
 
@@ -379,8 +397,8 @@ module _ {Item Items Pairs : Type 0} (m : Reading Item Items Pairs) (none_fits :
   unfolding spell made
   pairs_found p levels finds remaining bs x fits is =
       parts_found (pairs_of m p) (IsPair m levels) (ArePairs m levels) (λ bs x one. one.value.rest_fits) (pair_found p levels finds)
-      (λ bs fits. record { pairs = no_raw_pairs; made_is = refl; parts = refl; count_is = refl; fits = tt; nests = omega arith; texts = tt; joins = none_fits; rest_fits = fits })
-      (λ n bs more rest first others one all. pair_added levels n bs one.at_value more rest first.0 first.1 others one.key one.value all)
+      (λ bs fits. record { pairs = no_raw_pairs; made_is = refl; parts = refl; count_is = refl; fits = tt; nests = omega arith; texts = tt; keys = tt; joins = none_fits; rest_fits = fits })
+      (λ n bs more rest first others one all. pair_added levels n bs one.at_value more rest first.0 first.1 others one.key one.allowed one.value all)
       (suc (length bs)) remaining bs x fits is
 
   array_found : (inner : Option (List ℕ → Reads Item)) (levels : ℕ) → FindsInside m inner levels
@@ -400,6 +418,7 @@ module _ {Item Items Pairs : Type 0} (m : Reading Item Items Pairs) (none_fits :
         fits = (omega (arith, many, small), got.fits);
         nests = omega (arith, got.nests, finds.1);
         texts = got.texts;
+        keys = got.keys;
         joins = got.joins;
         rest_fits = got.rest_fits;
       })
@@ -421,6 +440,7 @@ module _ {Item Items Pairs : Type 0} (m : Reading Item Items Pairs) (none_fits :
         fits = (omega (arith, many, small), got.fits);
         nests = omega (arith, got.nests, finds.1);
         texts = got.texts;
+        keys = got.keys;
         joins = got.joins;
         rest_fits = got.rest_fits;
       })
@@ -441,6 +461,7 @@ module _ {Item Items Pairs : Type 0} (m : Reading Item Items Pairs) (none_fits :
         fits = (small, got.fits);
         nests = omega (arith, got.nests, finds.1);
         texts = got.texts;
+        keys = got.keys;
         joins = got.joins;
         rest_fits = got.rest_fits;
       })
@@ -466,6 +487,7 @@ module _ {Item Items Pairs : Type 0} (m : Reading Item Items Pairs) (none_fits :
         fits = got.fits;
         nests = omega arith;
         texts = tt;
+        keys = tt;
         joins = ap m.exceeds all ∙ got.joins;
         rest_fits = got.rest_fits;
       })
@@ -487,6 +509,7 @@ module _ {Item Items Pairs : Type 0} (m : Reading Item Items Pairs) (none_fits :
           fits = got.fits;
           nests = omega arith;
           texts = passes.0;
+          keys = tt;
           joins = ap m.exceeds all ∙ got.joins;
           rest_fits = got.rest_fits;
         })
@@ -508,6 +531,7 @@ module _ {Item Items Pairs : Type 0} (m : Reading Item Items Pairs) (none_fits :
         fits = (tt, got.fits);
         nests = omega (arith, got.nests, finds.1);
         texts = got.texts;
+        keys = got.keys;
         joins = got.joins;
         rest_fits = AreBytes-rest 0xff rest got.rest_fits;
       })
@@ -528,6 +552,7 @@ module _ {Item Items Pairs : Type 0} (m : Reading Item Items Pairs) (none_fits :
         fits = (tt, got.fits);
         nests = omega (arith, got.nests, finds.1);
         texts = got.texts;
+        keys = got.keys;
         joins = got.joins;
         rest_fits = AreBytes-rest 0xff rest got.rest_fits;
       })
@@ -571,6 +596,7 @@ module _ {Item Items Pairs : Type 0} (m : Reading Item Items Pairs) (none_fits :
         fits = got.fits;
         nests = omega arith;
         texts = tt;
+        keys = tt;
         joins = none_fits;
         rest_fits = got.rest_fits;
       })
@@ -599,6 +625,7 @@ module _ {Item Items Pairs : Type 0} (m : Reading Item Items Pairs) (none_fits :
         fits = tt;
         nests = omega arith;
         texts = tt;
+        keys = tt;
         joins = none_fits;
         rest_fits = fits;
       })
@@ -629,6 +656,7 @@ module _ {Item Items Pairs : Type 0} (m : Reading Item Items Pairs) (none_fits :
         fits = small;
         nests = omega arith;
         texts = tt;
+        keys = tt;
         joins = none_fits;
         rest_fits = fits;
       })
@@ -644,6 +672,7 @@ module _ {Item Items Pairs : Type 0} (m : Reading Item Items Pairs) (none_fits :
         fits = small;
         nests = omega arith;
         texts = tt;
+        keys = tt;
         joins = none_fits;
         rest_fits = fits;
       })

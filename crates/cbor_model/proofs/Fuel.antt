@@ -1,7 +1,7 @@
 -- What the readers with fuel read doesn't depend on it, once it is above the number of bytes.
 use Rattle.std.proofs.Common.{◌≡◌, ℕ, zero, suc, ◌<◌, ◌≤◌, Bool, true, false, cond, eqb, List, [], ◌∷◌, length, Option, Some, None, Result, Ok, Err, refl, ap, arith, ◌+◌}
-use Rattle.cbor_model.specs.Reader.{Fault, Reads, ◌>>=◌, byte_at, chunk_at, chunks_by, Remaining, next_at, Parts, go_on, parts_by, pair_at}
-use Rattle.cbor_model.proofs.Steps.{bind_ok, ok_is}
+use Rattle.cbor_model.specs.Reader.{Fault, Reads, ◌>>=◌, byte_at, chunk_at, chunks_by, Remaining, next_at, Parts, go_on, parts_by, key_at, pair_at}
+use Rattle.cbor_model.proofs.Steps.{bind_ok, ok_is, key_read}
 use Rattle.cbor_model.proofs.Taken.{chunk_taken, next_taken}
 
 bind_same : {A B : Type 0} (r : Result A Fault) (f g : A → Result B Fault) → ((x : A) → r ≡ Ok x → f x ≡ g x) → (r >>= f) ≡ (r >>= g)
@@ -43,12 +43,12 @@ module _ {Part Whole : Type 0} (ps : Parts Part Whole) (takes : (bs : List ℕ) 
       go_on-fuel (length bs) (parts_by ps f) (parts_by ps g) (λ remaining more fewer. parts_by-fuel f g remaining more (omega arith) (omega arith)) next.0 next.1 few)
 
 -- a key and a value take a byte at the least
-pub pair_taken : {Item : Type 0} (p : List ℕ → Reads Item) → ((bs : List ℕ) (x : Item × List ℕ) → p bs ≡ Ok x → length x.1 < length bs) → (bs : List ℕ) (x : (Item × Item) × List ℕ) → pair_at p bs ≡ Ok x → length x.1 < length bs
+pub pair_taken : {Item : Type 0} (allows : ℕ → Bool) (p : List ℕ → Reads Item) → ((bs : List ℕ) (x : Item × List ℕ) → p bs ≡ Ok x → length x.1 < length bs) → (bs : List ℕ) (x : (Item × Item) × List ℕ) → pair_at allows p bs ≡ Ok x → length x.1 < length bs
 unfolding pair_at
-pair_taken p takes bs x is =
-    let a = bind_ok (p bs) (λ k. p k.1 >>= λ v. Ok ((k.0, v.0), v.1)) x is in
+pair_taken allows p takes bs x is =
+    let a = bind_ok (key_at allows p bs) (λ k. p k.1 >>= λ v. Ok ((k.0, v.0), v.1)) x is in
     let b = bind_ok (p a.0.1) (λ v. Ok ((a.0.0, v.0), v.1)) x a.2 in
-    let fewer = takes bs a.0 a.1 in
+    let fewer = takes bs a.0 (key_read allows p bs a.0 a.1).1 in
     let fewest = takes a.0.1 b.0 b.1 in
     let same = ok_is ((a.0.0, b.0.0), b.0.1) x b.2 in
     omega (arith, ap (λ (y : (_ × _) × List ℕ). length y.1) same)

@@ -2,6 +2,7 @@ pub mod Steps
 pub mod Made
 pub mod Taken
 pub mod Fuel
+pub mod FirstBytes
 pub mod Found
 pub mod Again
 pub mod Bytes

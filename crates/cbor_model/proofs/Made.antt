@@ -5,7 +5,8 @@ use Rattle.cbor_model.specs.Raw.{Raw, Raws, no_raws, RawPairs, no_raw_pairs, raw
 use Rattle.cbor_model.specs.Plain as plain
 use Rattle.cbor_model.specs.Plain.{val, no_pairs}
 use Rattle.cbor_model.specs.Value.{value, values, pairs, put}
-use Rattle.cbor_model.specs.Reader.{Reading, values_in}
+use Rattle.cbor_model.specs.Formats.{Formats}
+use Rattle.cbor_model.specs.Reader.{Reading, values_of}
 
 unfoldable mutual
   pub made : {Item Items Pairs : Type 0} → Reading Item Items Pairs → Raw → Item
@@ -33,27 +34,27 @@ unfoldable mutual
 mutual
   unfolding made value
 
-  pub made-value : (total : ℕ) (most : Option ℕ) (r : Raw) → made (values_in total most) r ≡ value r
-  made-value total most (raw.unsigned w n) = refl
-  made-value total most (raw.negative w n) = refl
-  made-value total most (raw.bytes c) = refl
-  made-value total most (raw.text c) = refl
-  made-value total most (raw.bytes_chunks cs) = refl
-  made-value total most (raw.text_chunks cs) = refl
-  made-value total most (raw.array l rs) = ap plain.array (made_all-values total most rs)
-  made-value total most (raw.map l ps) = ap plain.map (made_pairs-pairs total most ps no_pairs)
-  made-value total most (raw.tag w n r) = ap (plain.tag n) (made-value total most r)
-  made-value total most (raw.simple s) = refl
-  made-value total most (raw.float w bits) = refl
+  pub made-value : (f : Formats) (total : ℕ) (most : Option ℕ) (r : Raw) → made (values_of f total most) r ≡ value r
+  made-value f total most (raw.unsigned w n) = refl
+  made-value f total most (raw.negative w n) = refl
+  made-value f total most (raw.bytes c) = refl
+  made-value f total most (raw.text c) = refl
+  made-value f total most (raw.bytes_chunks cs) = refl
+  made-value f total most (raw.text_chunks cs) = refl
+  made-value f total most (raw.array l rs) = ap plain.array (made_all-values f total most rs)
+  made-value f total most (raw.map l ps) = ap plain.map (made_pairs-pairs f total most ps no_pairs)
+  made-value f total most (raw.tag w n r) = ap (plain.tag n) (made-value f total most r)
+  made-value f total most (raw.simple s) = refl
+  made-value f total most (raw.float w bits) = refl
 
-  pub made_all-values : (total : ℕ) (most : Option ℕ) (rs : Raws) → made_all (values_in total most) rs ≡ values rs
-  made_all-values total most no_raws = refl
-  made_all-values total most (raw.raw r rs) =
-      ap (λ (v : plain.Val). val v (made_all (values_in total most) rs)) (made-value total most r) ∙ ap (val (value r)) (made_all-values total most rs)
+  pub made_all-values : (f : Formats) (total : ℕ) (most : Option ℕ) (rs : Raws) → made_all (values_of f total most) rs ≡ values rs
+  made_all-values f total most no_raws = refl
+  made_all-values f total most (raw.raw r rs) =
+      ap (λ (v : plain.Val). val v (made_all (values_of f total most) rs)) (made-value f total most r) ∙ ap (val (value r)) (made_all-values f total most rs)
 
-  pub made_pairs-pairs : (total : ℕ) (most : Option ℕ) (ps : RawPairs) (before : plain.Pairs) → made_pairs (values_in total most) ps before ≡ pairs ps before
-  made_pairs-pairs total most no_raw_pairs before = refl
-  made_pairs-pairs total most (raw_pair k v ps) before =
-      ap (λ (l : plain.Val). made_pairs (values_in total most) ps (put l (made (values_in total most) v) before)) (made-value total most k)
-      ∙ ap (λ (w : plain.Val). made_pairs (values_in total most) ps (put (value k) w before)) (made-value total most v)
-      ∙ made_pairs-pairs total most ps (put (value k) (value v) before)
+  pub made_pairs-pairs : (f : Formats) (total : ℕ) (most : Option ℕ) (ps : RawPairs) (before : plain.Pairs) → made_pairs (values_of f total most) ps before ≡ pairs ps before
+  made_pairs-pairs f total most no_raw_pairs before = refl
+  made_pairs-pairs f total most (raw_pair k v ps) before =
+      ap (λ (l : plain.Val). made_pairs (values_of f total most) ps (put l (made (values_of f total most) v) before)) (made-value f total most k)
+      ∙ ap (λ (w : plain.Val). made_pairs (values_of f total most) ps (put (value k) w before)) (made-value f total most v)
+      ∙ made_pairs-pairs f total most ps (put (value k) (value v) before)

@@ -14,7 +14,7 @@ use Rattle.cbor_model.specs.Head.{limit, info, behind}
 use Rattle.cbor_model.specs.Raw.{AreBytes}
 use Rattle.cbor_model.specs.Refusal.{unassigned_code}
 use Rattle.cbor_model.specs.Reader.{Fault, ◌>>=◌, ended, before, bytes_at, number_at, width_of}
-use Rattle.cbor_model.specs.Reader.{number_behind}
+use Rattle.cbor_model.specs.Reader.{number_behind, key_at}
 
 pub AreBytes-drop : (n : ℕ) (bs : List ℕ) → AreBytes bs → AreBytes (drop n bs)
 AreBytes-drop n bs h i = rw get_or-drop (h (n + i))
@@ -64,6 +64,28 @@ read_as P x y e p = subst P (ok_is x y e) p
 
 pub not_ok : {A : Type 0} {B : Type 0} (d : Fault) (x : A) → Err d ≡ done x → B
 not_ok d x e = absurd cc
+
+-- a key begins with a byte that it may begin with
+abbrev pub BeginsWith : (ℕ → Bool) → List ℕ → Type 0
+BeginsWith allows [] = ⊥
+BeginsWith allows (b ∷ bs) = allows b ≡ true
+
+-- what is read as a key begins so, and is read by p
+pub key_read : {Item : Type 0} (allows : ℕ → Bool) (p : List ℕ → Result (Item × List ℕ) Fault) (bs : List ℕ)
+    (x : Item × List ℕ) → key_at allows p bs ≡ Ok x → BeginsWith allows bs × (p bs ≡ Ok x)
+unfolding key_at
+key_read allows p [] x is = not_ok ended x is
+key_read allows p (b ∷ bs) x is =
+    elim (chosen (allows b) _ _ _ is) [
+      | inl may ↦ may
+      | inr other ↦ not_ok _ x other.1
+    ]
+
+pub key_is : {Item : Type 0} (allows : ℕ → Bool) (p : List ℕ → Result (Item × List ℕ) Fault) (bs : List ℕ)
+    → BeginsWith allows bs → key_at allows p bs ≡ p bs
+unfolding key_at
+key_is allows p [] may = absurd may
+key_is allows p (b ∷ bs) may = rw may refl
 
 -- ---- bytes
 

@@ -5,7 +5,7 @@ use Rattle.std.proofs.lemmas.List.{length-drop}
 use Rattle.cbor_model.specs.Head.{HeadWidth}
 use Rattle.cbor_model.specs.Raw.{Length, definite, indefinite, Chunk}
 use Rattle.cbor_model.specs.Refusal.{Refusal}
-use Rattle.cbor_model.specs.Reader.{Reads, ◌>>=◌, Reading, byte_at, bytes_at, number_at, number_behind, float_at, simple_at, string_at, checked_text, text_at, begins_chunk, content_of_chunk, chunk_at, chunks_by, chunks_at, string_chunks_at, text_chunks_at, Remaining, counted, to_break, next_at, Parts, go_on, parts_by, parts_at, pair_at, items_of, pairs_of, within, array_at, map_at, tag_at, content_at, indefinite_at, after_first, item_by, item_at}
+use Rattle.cbor_model.specs.Reader.{Reads, ◌>>=◌, Reading, byte_at, bytes_at, number_at, number_behind, float_at, simple_at, string_at, checked_text, text_at, begins_chunk, content_of_chunk, chunk_at, chunks_by, chunks_at, string_chunks_at, text_chunks_at, Remaining, counted, to_break, next_at, Parts, go_on, parts_by, parts_at, key_at, pair_at, items_of, pairs_of, within, array_at, map_at, tag_at, content_at, indefinite_at, after_first, item_by, item_at}
 
 -- where something is read, no more than n bytes are left
 abbrev pub Leaves : {A : Type 0} → ℕ → Reads A → Type 0
@@ -138,10 +138,15 @@ module _ {Item Items Pairs : Type 0} (m : Reading Item Items Pairs) where
 
   -- ---- what lies one level further in
 
-  pair_leaves : (p : List ℕ → Reads Item) → LeavesNoMore p → (n : ℕ) (bs : List ℕ) → length bs ≤ n → Leaves n (pair_at p bs)
+  key_leaves : (allows : ℕ → Bool) (p : List ℕ → Reads Item) → LeavesNoMore p → (n : ℕ) (bs : List ℕ) → length bs ≤ n → Leaves n (key_at allows p bs)
+  unfolding key_at
+  key_leaves allows p leaves n [] few = tt
+  key_leaves allows p leaves n (b ∷ bs) few = Leaves-cond n (allows b) _ _ (leaves n (b ∷ bs) few) tt
+
+  pair_leaves : (allows : ℕ → Bool) (p : List ℕ → Reads Item) → LeavesNoMore p → (n : ℕ) (bs : List ℕ) → length bs ≤ n → Leaves n (pair_at allows p bs)
   unfolding pair_at
-  pair_leaves p leaves n bs few =
-      Leaves-bind n n (p bs) _ (leaves n bs few) (λ key few.
+  pair_leaves allows p leaves n bs few =
+      Leaves-bind n n (key_at allows p bs) _ (key_leaves allows p leaves n bs few) (λ key few.
       Leaves-bind n n (p key.1) _ (leaves n key.1 few) (λ v few. few))
 
   -- one of the above, by a reader of what lies one level further in
@@ -157,7 +162,7 @@ module _ {Item Items Pairs : Type 0} (m : Reading Item Items Pairs) where
   map_leaves : (inner : Option (List ℕ → Reads Item)) → LeavesNoMoreInside inner → (l : Length) (remaining : Remaining) (n : ℕ) (bs : List ℕ) → length bs ≤ n → Leaves n (map_at m inner l remaining bs)
   unfolding map_at
   map_leaves inner leaves l remaining n bs few =
-      Leaves-bind n n (within inner bs (λ p. parts_at (pairs_of m p) remaining bs)) _ (within_leaves inner leaves n bs _ (λ p leaves. parts_leave (pairs_of m p) (pair_leaves p leaves) _ remaining n bs few)) (λ pairs few. few)
+      Leaves-bind n n (within inner bs (λ p. parts_at (pairs_of m p) remaining bs)) _ (within_leaves inner leaves n bs _ (λ p leaves. parts_leave (pairs_of m p) (pair_leaves m.allows p leaves) _ remaining n bs few)) (λ pairs few. few)
 
   tag_leaves : (inner : Option (List ℕ → Reads Item)) → LeavesNoMoreInside inner → (w : HeadWidth) (k n : ℕ) (bs : List ℕ) → length bs ≤ n → Leaves n (tag_at m inner w k bs)
   unfolding tag_at

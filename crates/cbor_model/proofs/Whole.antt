@@ -8,12 +8,14 @@ use Rattle.cbor_model.specs.Raw.{Raw, AreBytes, longest_joined}
 use Rattle.cbor_model.specs.Spelling.{spell}
 use Rattle.cbor_model.specs.Acceptable.{max_depth, FitsScratch}
 use Rattle.cbor_model.specs.Plain.{Val}
+use Rattle.cbor_model.specs.Formats.{all_formats, IsAllowedKey}
 use Rattle.cbor_model.specs.Refusal.{trailing_data}
 use Rattle.cbor_model.specs.Reader.{Fault, values_in, exceeds_most, item_at, read_value_in}
 use Rattle.cbor_model.specs.Laws.{SpellsValue}
 use Rattle.cbor_model.proofs.Made.{made, made-value}
 use Rattle.cbor_model.proofs.Steps.{bind_ok, chosen, ok_is, not_ok}
-use Rattle.cbor_model.proofs.Found.{Passes, found}
+use Rattle.cbor_model.proofs.FirstBytes.{EachKey-map, key_begins, all_allowed}
+use Rattle.cbor_model.proofs.Found.{Passes, MayBeKey, found}
 use Rattle.cbor_model.proofs.Again.{HasRoom, Grows, lets, again}
 use Rattle.cbor_model.proofs.Texts.{EachText-map, IsUtf8-from_valid_len, valid_len-from_IsUtf8}
 
@@ -56,7 +58,7 @@ found_fits most bs v fits is =
               spelled = sym (got.parts ∙ ap (λ (t : List ℕ). spell got.item ++ t) nothing
                   ∙ append-nil (spell got.item));
               valued = sym (ok_is x.0 v ended.1) ∙ sym got.made_is
-                  ∙ made-value (length bs) most got.item;
+                  ∙ made-value all_formats (length bs) most got.item;
             },
             joins_fit most got.item got.joins,
           )
@@ -88,10 +90,11 @@ read_whole most bs v short spelt fits =
     let m = values_in (length bs) most in
     let same : spell r ++ [] ≡ bs = append-nil (spell r) ∙ spelt.spelled in
     let texts = EachText-map IsUtf8 (Passes m) valid_len-from_IsUtf8 r spelt.acceptable.texts in
-    let good = lets m (grows most) r texts (fits_joins most r fits) in
+    let keys = EachKey-map (IsAllowedKey all_formats) (MayBeKey m) (key_begins all_formats) r spelt.acceptable.fits (all_allowed r) in
+    let good = lets m (grows most) r texts keys (fits_joins most r fits) in
     let read =
     again m (length bs) (has_room (length bs) most short) (grows most) r max_depth []
     spelt.acceptable.fits spelt.acceptable.nests good (omega (arith, ap length same)) in
     let whole_read : item_at m max_depth bs ≡ Ok (made m r, []) =
     ap (item_at m max_depth) (sym same) ∙ read in
-    rw whole_read (ap (λ (w : Val). Ok w) (made-value (length bs) most r ∙ sym spelt.valued))
+    rw whole_read (ap (λ (w : Val). Ok w) (made-value all_formats (length bs) most r ∙ sym spelt.valued))

@@ -139,6 +139,22 @@ abbrev mutual
   EachTextOfPairs P no_raw_pairs = Unit {0}
   EachTextOfPairs P (raw_pair k v ps) = EachText P k × EachText P v × EachTextOfPairs P ps
 
+-- Each key of each map in the item meets P.
+abbrev mutual
+  pub EachKey : (Raw → Type 0) → Raw → Type 0
+  EachKey P (array l rs) = EachKeyOfAll P rs
+  EachKey P (map l ps) = EachKeyOfPairs P ps
+  EachKey P (tag w n r) = EachKey P r
+  EachKey P _ = Unit {0}
+
+  pub EachKeyOfAll : (Raw → Type 0) → Raws → Type 0
+  EachKeyOfAll P no_raws = Unit {0}
+  EachKeyOfAll P (raw r rs) = EachKey P r × EachKeyOfAll P rs
+
+  pub EachKeyOfPairs : (Raw → Type 0) → RawPairs → Type 0
+  EachKeyOfPairs P no_raw_pairs = Unit {0}
+  EachKeyOfPairs P (raw_pair k v ps) = P k × EachKey P k × EachKey P v × EachKeyOfPairs P ps
+
 -- The length of the longest of the item's strings in chunks, once they are joined; 0 without one.
 abbrev mutual
   pub longest_joined : Raw → ℕ

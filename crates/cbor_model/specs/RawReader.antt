@@ -5,11 +5,13 @@ use Rattle.cbor_model.specs.Raw as raw
 use Rattle.cbor_model.specs.Raw.{Raw, Raws, no_raws, RawPairs, no_raw_pairs, raw_pair}
 use Rattle.cbor_model.specs.Spelling.{spell}
 use Rattle.cbor_model.specs.Acceptable.{IsAcceptableWithin}
+use Rattle.cbor_model.specs.Formats.{Formats, may_begin_key}
 use Rattle.cbor_model.specs.Reader.{Reading, exceeds_most}
 
 -- items as they are spelled, with these tests
-abbrev pub raws_where : (ℕ → ℕ → Bool) → (List ℕ → Bool) → (ℕ → Bool) → Reading Raw Raws RawPairs
-raws_where has_room is_text exceeds = record {
+abbrev pub raws_where : (ℕ → ℕ → Bool) → (List ℕ → Bool) → (ℕ → Bool) → (ℕ → Bool)
+    → Reading Raw Raws RawPairs
+raws_where has_room is_text exceeds allows = record {
   unsigned = raw.unsigned;
   negative = raw.negative;
   bytes = raw.bytes;
@@ -28,11 +30,14 @@ raws_where has_room is_text exceeds = record {
   has_room = has_room;
   is_text = is_text;
   exceeds = exceeds;
+  allows = allows;
 }
 
--- in an input of this length, where so many bytes of chunks can be joined
-abbrev pub raws_in : ℕ → Option ℕ → Reading Raw Raws RawPairs
-raws_in total most = raws_where (λ left n. nat_lt (total - left + n) (2 ^ 64)) (λ b. utf8_valid_len b == length b) (exceeds_most most)
+-- of these formats, in an input of this length, where so many bytes of chunks can be joined
+abbrev pub raws_in : Formats → ℕ → Option ℕ → Reading Raw Raws RawPairs
+raws_in f total most =
+    raws_where (λ left n. nat_lt (total - left + n) (2 ^ 64)) (λ b. utf8_valid_len b == length b)
+    (exceeds_most most) (may_begin_key f)
 
 -- An acceptable item stands at the front of the bytes, and these others behind it.
 pub record Begins (levels : ℕ) (bytes : List ℕ) (item : Raw) (rest : List ℕ) : Type 0 where

@@ -1,8 +1,11 @@
 -- What a type reads: the items, and the value for each.
-use Rattle.std.specs.Prelude.{◌≡◌, ◌≤◌, ℕ, Bool, true, false, List, ℤ, pos, negsuc, ◌≤ℤ◌, refl}
+use Rattle.std.specs.Prelude.{◌≡◌, ◌≢◌, ◌≤◌, ℕ, Bool, true, false, List, [], ◌∷◌, ℤ, pos, negsuc}
+use Rattle.std.specs.Prelude.{◌≤ℤ◌, Option, Some, None, refl}
+use Rattle.std.specs.Str.{IsUtf8}
 use Rattle.cbor_model.specs.Head.{no_bytes, one_byte}
 use Rattle.cbor_model.specs.Raw as raw
-use Rattle.cbor_model.specs.Raw.{Raw, FloatWidth, false_item, true_item, null_item, undefined_item}
+use Rattle.cbor_model.specs.Raw.{Raw, FloatWidth, joined}
+use Rattle.cbor_model.specs.Raw.{false_item, true_item, null_item, undefined_item}
 use Rattle.cbor_model.specs.Spelling.{spell}
 use Rattle.cbor_model.specs.Acceptable.{IsAcceptable}
 use Rattle.cbor_model.specs.Formats.{Formats, HasAllowedKeys}
@@ -67,6 +70,33 @@ abbrev pub IsFloat : Raw → FloatWidth × ℕ → Type 0
 IsFloat (raw.float w n) f = f ≡ (w, n)
 IsFloat _ f = ⊥
 
+-- ---- strings
+
+-- a byte string or a text of these bytes, definite or in chunks
+abbrev pub IsString : Raw → List ℕ → Type 0
+IsString (raw.bytes c) b = c.bytes ≡ b
+IsString (raw.text c) b = c.bytes ≡ b
+IsString (raw.bytes_chunks cs) b = joined cs ≡ b
+IsString (raw.text_chunks cs) b = joined cs ≡ b
+IsString _ b = ⊥
+
+-- a text, or a byte string that is UTF-8
+abbrev pub IsText : Raw → List ℕ → Type 0
+IsText r b = IsString r b × IsUtf8 b
+
+-- whether a string is lent
+abbrev pub is_lent : Context → Raw → Bool
+is_lent c (raw.bytes_chunks cs) = c.lends_joined
+is_lent c (raw.text_chunks cs) = c.lends_joined
+is_lent c r = c.lends_definite
+
+-- ---- what may be absent
+
+-- null is None, and another item is Some of what it is read as
+abbrev pub IsOptional : {A : Type 0} → (Raw → A → Type 0) → Raw → Option A → Type 0
+IsOptional reads r None = r ≡ raw.simple null_item
+IsOptional reads r (Some x) = (r ≢ raw.simple null_item) × reads r x
+
 -- ---- examples
 
 -- 1(0(23)), with a longer head, is 23
@@ -76,3 +106,19 @@ tags_passed = refl
 -- undefined is unit
 undefined_is_unit : PassesTags IsUnit (raw.simple undefined_item) tt
 undefined_is_unit = tt
+
+-- c3 and a9 in two chunks of a text are the bytes of one character
+joined_character : IsString
+    (raw.text_chunks (
+    record { width = no_bytes; bytes = 0xc3 ∷ [] }
+    ∷ record { width = no_bytes; bytes = 0xa9 ∷ [] }
+    ∷ []))
+    (0xc3 ∷ 0xa9 ∷ [])
+joined_character = refl
+
+-- null is None also of a type that reads null, and undefined isn't None
+null_is_none : IsOptional (PassesTags IsUnit) (raw.simple null_item) None
+null_is_none = refl
+
+undefined_is_some : IsOptional (PassesTags IsUnit) (raw.simple undefined_item) (Some tt)
+undefined_is_some = ((λ e. cc), tt)

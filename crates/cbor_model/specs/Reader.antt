@@ -14,6 +14,8 @@ use Rattle.cbor_model.specs.Acceptable.{max_depth}
 use Rattle.cbor_model.specs.Refusal.{Refusal, end_in_value, end_in_array, end_in_map}
 use Rattle.cbor_model.specs.Refusal.{length_out_of_range, invalid_utf8, unassigned_code}
 use Rattle.cbor_model.specs.Refusal.{unexpected_code, trailing_data, too_deep, scratch_too_small}
+use Rattle.cbor_model.specs.Refusal.{wrong_struct_format}
+use Rattle.cbor_model.specs.Formats.{Formats, all_formats, may_begin_key}
 use Rattle.cbor_model.specs.Plain.{Val, Vals, no_vals, val, Pairs, no_pairs}
 use Rattle.cbor_model.specs.Plain as plain
 use Rattle.cbor_model.specs.Value.{simple_value, put}
@@ -32,8 +34,8 @@ abbrev pub ◌>>=◌ : {A B : Type 0} → Result A Fault → (A → Result B Fau
 (Ok x) >>= f = f x
 (Err e) >>= f = Err e
 
--- What is made of the parts that are read, which texts are let pass, and how many bytes of chunks
--- are joined.
+-- What is made of the parts that are read, which texts and keys are let pass, and how many bytes of
+-- chunks are joined.
 pub record Reading (Item Items Pairs : Type 0) : Type 0 where
   pub unsigned : HeadWidth → ℕ → Item
   pub negative : HeadWidth → ℕ → Item
@@ -55,17 +57,19 @@ pub record Reading (Item Items Pairs : Type 0) : Type 0 where
   pub is_text : List ℕ → Bool
   -- whether this is more than can be joined
   pub exceeds : ℕ → Bool
+  -- whether a key may begin with this byte
+  pub allows : ℕ → Bool
 
 -- more than the most, where there is one
 abbrev pub exceeds_most : Option ℕ → ℕ → Bool
 exceeds_most None n = false
 exceeds_most (Some most) n = nat_lt most n
 
--- Values, in an input of this length, where so many bytes of chunks can be joined: a definite text
--- ends before 2^64, and each text is UTF-8. Of pairs it makes what they make of the pairs before
--- them.
-abbrev pub values_in : ℕ → Option ℕ → Reading Val Vals (Pairs → Pairs)
-values_in total most = record {
+-- Values of these formats, in an input of this length, where so many bytes of chunks can be joined: a
+-- definite text ends before 2^64, and each text is UTF-8. Of pairs it makes what they make of the
+-- pairs before them.
+abbrev pub values_of : Formats → ℕ → Option ℕ → Reading Val Vals (Pairs → Pairs)
+values_of f total most = record {
   unsigned = λ w n. plain.integer (pos n);
   negative = λ w n. plain.integer (negsuc n);
   bytes = λ c. plain.bytes c.bytes;
@@ -84,7 +88,12 @@ values_in total most = record {
   has_room = λ left n. nat_lt (total - left + n) (2 ^ 64);
   is_text = λ b. utf8_valid_len b == length b;
   exceeds = exceeds_most most;
+  allows = may_begin_key f;
 }
+
+-- of all formats
+abbrev pub values_in : ℕ → Option ℕ → Reading Val Vals (Pairs → Pairs)
+values_in total most = values_of all_formats total most
 
 -- where any number of bytes can be joined
 abbrev pub values_within : ℕ → Reading Val Vals (Pairs → Pairs)
@@ -250,10 +259,18 @@ parts_by ps (suc fuel) remaining bs = do
 abbrev pub parts_at : {Part Whole : Type 0} → Parts Part Whole → Remaining → List ℕ → Reads Whole
 parts_at ps remaining bs = parts_by ps (suc (length bs)) remaining bs
 
+-- a key, whose first byte is one that it may begin with
+unfoldable pub key_at : {Item : Type 0} → (ℕ → Bool) → (List ℕ → Reads Item) → List ℕ → Reads Item
+key_at allows p [] = Err ended
+key_at allows p (b ∷ bs) =
+    if allows b then p (b ∷ bs)
+    else Err (before wrong_struct_format (b ∷ bs))
+
 -- a key and a value, each read by p
-unfoldable pub pair_at : {Item : Type 0} → (List ℕ → Reads Item) → List ℕ → Reads (Item × Item)
-pair_at p bs = do
-  k ← p bs
+unfoldable pub pair_at : {Item : Type 0} → (ℕ → Bool) → (List ℕ → Reads Item) → List ℕ
+    → Reads (Item × Item)
+pair_at allows p bs = do
+  k ← key_at allows p bs
   v ← p k.1
   Ok ((k.0, v.0), v.1)
 
@@ -265,7 +282,7 @@ abbrev pub pairs_of : {Item Items Pairs : Type 0} → Reading Item Items Pairs �
     → Parts (Item × Item) Pairs
 pairs_of m p = record {
   ends = end_in_map;
-  part = pair_at p;
+  part = pair_at m.allows p;
   none = m.no_pairs;
   add = λ (kv : _) others. m.pair kv.0 kv.1 others;
 }
@@ -370,7 +387,7 @@ trailing = refl
 -- bf 00 ff: a break in the place of a value
 break_as_value : read_value (0xbf ∷ 0x00 ∷ 0xff ∷ [])
     ≡ Err (record { why = unexpected_code; left = 0 })
-unfolding read_value_in item_at item_by byte_at after_first indefinite_at map_at parts_by next_at pair_at number_behind content_at simple_at float_at
+unfolding read_value_in item_at item_by byte_at after_first indefinite_at map_at parts_by next_at pair_at key_at number_behind content_at simple_at float_at
 break_as_value = refl
 
 -- 9f 01: the break is wanted
@@ -383,3 +400,17 @@ chunk_too_long : read_value_in (Some 0) (0x7f ∷ 0x61 ∷ 0x61 ∷ 0xff ∷ [])
     ≡ Err (record { why = scratch_too_small; left = 2 })
 unfolding read_value_in item_at item_by byte_at after_first indefinite_at text_chunks_at chunks_by chunk_at content_of_chunk number_behind
 chunk_too_long = refl
+
+-- a1 20 01, a1 01 02: -1 as a key where no numbers from 0 are keys, and 1
+abbrev no_numbers : Reading Val Vals (Pairs → Pairs)
+no_numbers = values_of (record all_formats { packed = false }) 3 None
+
+negative_key : item_at no_numbers 1 (0xa1 ∷ 0x20 ∷ 0x01 ∷ [])
+    ≡ Ok (plain.map (plain.pair (plain.integer (negsuc 0)) (plain.integer (pos 1)) no_pairs), [])
+unfolding item_at item_by byte_at after_first number_behind content_at map_at parts_by next_at pair_at key_at
+negative_key = refl
+
+number_key : item_at no_numbers 1 (0xa1 ∷ 0x01 ∷ 0x02 ∷ [])
+    ≡ Err (record { why = wrong_struct_format; left = 2 })
+unfolding item_at item_by byte_at after_first number_behind content_at map_at parts_by next_at pair_at key_at
+number_key = refl

@@ -13,6 +13,7 @@ pub data Refusal : Type 0 where
   trailing_data : Refusal
   too_deep : Refusal
   scratch_too_small : Refusal
+  wrong_struct_format : Refusal
 
 abbrev pub words : Refusal → List ℕ
 words end_in_value = codes "EOF while parsing a value"
@@ -25,6 +26,7 @@ words unexpected_code = codes "unexpected code"
 words trailing_data = codes "trailing data"
 words too_deep = codes "recursion limit exceeded"
 words scratch_too_small = codes "Scratch buffer too small"
+words wrong_struct_format = codes "wrong struct format"
 
 -- what follows the words: the offset, where it isn't 0
 abbrev pub at_offset : ℕ → List ℕ

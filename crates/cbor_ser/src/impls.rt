@@ -1,7 +1,8 @@
 //! The documents of the standard library's types, and of values.
 
 ghost use Rattle.std.specs.Prelude.{pos, string_bytes, encode_utf8};
-ghost use Rattle.cbor_model.specs.Document.{null, bool, integer, text, sequence, mapping, declared, doc, no_docs, docs, doc_pairs, document_of};
+ghost use Rattle.cbor_model.specs.Document.{null, bool, integer, text, sequence, mapping, declared};
+ghost use Rattle.cbor_model.specs.Document.{doc, no_docs, docs, doc_pairs, document_of};
 ghost use Rattle.cbor_value.specs.View.{view, float_view};
 ghost use Rattle.cbor_ser.specs.Documents.{option_document};
 

@@ -2,7 +2,8 @@
 
 ghost use Rattle.std.specs.Prelude.{◌≡◌, ◌++◌, ℕ, List, length, pos, true, false, encode_utf8};
 ghost use Rattle.cbor_model.specs.Head.{short};
-ghost use Rattle.cbor_model.specs.Document.{null, bool, integer, bytes, text, unit_variant, document_of};
+ghost use Rattle.cbor_model.specs.Document.{null, bool, integer, bytes, text, unit_variant};
+ghost use Rattle.cbor_model.specs.Document.{document_of};
 ghost use Rattle.cbor_model.specs.Parts.{Part, item, tag_head};
 ghost use Rattle.cbor_model.specs.Canonical.{IsStorableInteger};
 ghost use Rattle.cbor_io.specs.Head.{major_number};

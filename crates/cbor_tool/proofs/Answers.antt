@@ -8,7 +8,7 @@ use Rattle.hex.specs.Hex.{decode_of}
 use Rattle.hex.specs.declared.error.FromHexError.{FromHexError}
 use Rattle.cbor_model.specs.Plain.{Val}
 use Rattle.cbor_model.specs.Canonical.{canon, IsStorable}
-use Rattle.cbor_model.specs.Refusal.{Refusal, words, at_offset, end_in_value, end_in_array, end_in_map, length_out_of_range, invalid_utf8, unassigned_code, unexpected_code, trailing_data, too_deep, scratch_too_small}
+use Rattle.cbor_model.specs.Refusal.{Refusal, words, at_offset, end_in_value, end_in_array, end_in_map, length_out_of_range, invalid_utf8, unassigned_code, unexpected_code, trailing_data, too_deep, scratch_too_small, wrong_struct_format}
 use Rattle.cbor_model.specs.Reader.{Fault, read_value}
 use Rattle.cbor_model.specs.Value.{value}
 use Rattle.cbor_model.specs.Laws.{SpellsValue}
@@ -17,7 +17,7 @@ use Rattle.cbor_model.specs.Document.{document_of, IsStorableDocument}
 use Rattle.cbor_model.proofs.facts.Laws.{value_is_storable}
 use Rattle.cbor_model.proofs.facts.Documents.{storable_document}
 use Rattle.serde_cbor.specs.declared.error.ErrorCode.{ErrorCode}
-use Rattle.serde_cbor.specs.declared.error.ErrorCode.TheVariants.{Message, Io, ScratchTooSmall, EofWhileParsingValue, EofWhileParsingArray, EofWhileParsingMap, LengthOutOfRange, InvalidUtf8, UnassignedCode, UnexpectedCode, TrailingData, RecursionLimitExceeded, OutOfMemory}
+use Rattle.serde_cbor.specs.declared.error.ErrorCode.TheVariants.{Message, Io, ScratchTooSmall, EofWhileParsingValue, EofWhileParsingArray, EofWhileParsingMap, LengthOutOfRange, InvalidUtf8, UnassignedCode, UnexpectedCode, TrailingData, RecursionLimitExceeded, WrongStructFormat, OutOfMemory}
 use Rattle.serde_cbor.specs.declared.error.Error.{Error}
 use Rattle.serde_cbor.specs.Error.{code_of, offset_of, code_text, error_text, IsOutOfMemory}
 use Rattle.serde_cbor.specs.Gives.{FailsAs, FailsBy, Fails}
@@ -61,6 +61,7 @@ told_by UnexpectedCode total offset read h ne = told_as _ unexpected_code total 
 told_by TrailingData total offset read h ne = told_as _ trailing_data total offset read refl h
 told_by RecursionLimitExceeded total offset read h ne = told_as _ too_deep total offset read refl h
 told_by ScratchTooSmall total offset read h ne = told_as _ scratch_too_small total offset read refl h
+told_by WrongStructFormat total offset read h ne = told_as _ wrong_struct_format total offset read refl h
 told_by (Io fault) total offset read h ne = absurd h.0
 told_by OutOfMemory total offset read h ne = absurd (ne refl)
 told_by _ total offset read h ne = absurd h

@@ -21,9 +21,9 @@ use Rattle.cbor_typed.proofs.Scalars.{excused_or}
 
 module _ {A : Type 0} (allowed : ReadErrorCode → Bool) (f : Formats) (reads : Raw → A → Type 0) (levels : ℕ) where
   abbrev Front : Limits → List ℕ → A → List ℕ → Type 0
-  Front l bs x rest = IsRead f reads (item_at (raws l) levels bs) x rest
+  Front l bs x rest = IsRead reads (item_at (raws f l) levels bs) x rest
 
-  pub all_refused : (s : Input) (e : Error) → Refuses allowed s (code_of e) (offset_of e) (λ l bs. IsNotRead f reads (item_at (raws l) levels bs)) → ReadsAll allowed f reads levels s (Err e)
+  pub all_refused : (s : Input) (e : Error) → Refuses allowed s (code_of e) (offset_of e) (λ l bs. IsNotRead reads (item_at (raws f l) levels bs)) → ReadsAll allowed f reads levels s (Err e)
   all_refused s e h bs tells = elim (h.told bs tells) [
     | inl excused ↦ inl excused
     | inr none ↦ inr (λ x got. none x [] got)
@@ -58,14 +58,14 @@ module _ {A : Type 0} (allowed : ReadErrorCode → Bool) (f : Formats) (reads : 
   spells : (x : A) → IsWholeRead f reads max_depth s bs x → SpellsAs f reads bs x
   spells x got =
       let l = limits s bs in
-      let b = item_found l.total l.room max_depth bs [] got.item fits got.is in
-      record { item = got.item; acceptable = b.acceptable; keys = got.keys; spelled = sym (b.spelled ∙ append-nil _); means = got.means }
+      let b = item_found f l.total l.room max_depth bs [] got.item fits got.is in
+      record { item = got.item; acceptable = b.0.acceptable; keys = b.1; spelled = sym (b.0.spelled ∙ append-nil _); means = got.means }
 
   is_read : (x : A) → (spelt : SpellsAs f reads bs x) → FitsScratch s.room spelt.item → IsWholeRead f reads max_depth s bs x
   is_read x spelt room =
       let l = limits s bs in
       let b : Begins max_depth bs spelt.item [] = record { spelled = sym (append-nil _ ∙ spelt.spelled); acceptable = spelt.acceptable } in
-      record { item = spelt.item; is = item_again l.total l.room max_depth bs [] spelt.item tells.short (omega (arith, begins)) room b; keys = spelt.keys; means = spelt.means }
+      record { item = spelt.item; is = item_again f l.total l.room max_depth bs [] spelt.item tells.short (omega (arith, begins)) room b spelt.keys; means = spelt.means }
 
   pub found : (r : Result A Error) → ReadsAll allowed f reads max_depth s r → IfOk r (SpellsAs f reads bs)
   found (Ok x) h = spells x (h bs tells)

@@ -1,6 +1,16 @@
 pub mod OfKind
 pub mod Opening
 pub mod Scalars
+pub mod Refusing
+pub mod ArrayHeads
+pub mod Sequences
+pub mod Nexts
+pub mod WholeArrays
+pub mod Tuples
 pub mod Numbers
+pub mod Contents
+pub mod Nulls
+pub mod Lending
 pub mod Inputs
 pub mod Mapped
+pub mod Faults

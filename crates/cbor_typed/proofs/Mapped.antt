@@ -1,13 +1,14 @@
 -- The value of what is read as it is spelled is what is read as a value.
-use Rattle.std.proofs.Common.{◌≡◌, ℕ, zero, suc, Bool, true, false, cond, List, Option, Some, None, Ok, Err, refl, sym, ap, ◌∙◌, length}
+use Rattle.std.proofs.Common.{◌≡◌, ℕ, zero, suc, Bool, true, false, cond, List, [], ◌∷◌, Option, Some, None, Ok, Err, refl, sym, ap, ◌∙◌, length}
 use Rattle.cbor_model.specs.Head.{HeadWidth}
+use Rattle.cbor_model.specs.Formats.{Formats}
 use Rattle.cbor_model.specs.Raw as raw
 use Rattle.cbor_model.specs.Raw.{Raw, joined}
 use Rattle.cbor_model.specs.Plain as plain
 use Rattle.cbor_model.specs.Plain.{Val, Pairs}
 use Rattle.cbor_model.specs.Value as model
 use Rattle.cbor_model.specs.Value.{value}
-use Rattle.cbor_model.specs.Reader.{Reads, ◌>>=◌, Parts, Remaining, go_on, next_at, parts_by, parts_at, pair_at, items_of, pairs_of, bytes_at, chunks_at, string_at, checked_text, text_at, string_chunks_at, text_chunks_at, array_at, map_at, tag_at, item_at, inside}
+use Rattle.cbor_model.specs.Reader.{Reads, ◌>>=◌, Parts, Remaining, go_on, next_at, parts_by, parts_at, key_at, pair_at, items_of, pairs_of, bytes_at, chunks_at, string_at, checked_text, text_at, string_chunks_at, text_chunks_at, array_at, map_at, tag_at, item_at, inside}
 use Rattle.cbor_value.specs.declared.Float.TheVariants.{Half, Single, Double}
 use Rattle.cbor_de.specs.Gives.{Limits, values}
 use Rattle.cbor_de.specs.Heads.{behind_head}
@@ -68,7 +69,7 @@ seen_made : {A B C D : Type 0} (h : A → B) (k : C → D) (f : A → C) (g : B 
 seen_made h k f g (Ok x) same = ap (λ d. Ok (d, x.1)) (same x.0)
 seen_made h k f g (Err e) same = refl
 
-module _ (l : Limits) where
+module _ (f : Formats) (l : Limits) where
   abbrev Same : (List ℕ → Reads Raw) → (List ℕ → Reads Val) → Type 0
   Same p q = (bs : List ℕ) → q bs ≡ along value (p bs)
 
@@ -78,7 +79,7 @@ module _ (l : Limits) where
   SameInside (Some p) None = ⊥
   SameInside (Some p) (Some q) = Same p q
 
-  items_seen : (p : List ℕ → Reads Raw) (q : List ℕ → Reads Val) → Same p q → Seen value model.values (items_of (raws l) p) (items_of (values l) q)
+  items_seen : (p : List ℕ → Reads Raw) (q : List ℕ → Reads Val) → Same p q → Seen value model.values (items_of (raws f l) p) (items_of (values f l) q)
   unfolding value
   items_seen p q same = record { ends = refl; part = same; none = refl; add = λ r rs. refl }
 
@@ -90,33 +91,38 @@ module _ (l : Limits) where
   key_first p q same (Ok k) = rw (same k.1) (value_second k (p k.1))
   key_first p q same (Err e) = refl
 
-  pair_seen : (p : List ℕ → Reads Raw) (q : List ℕ → Reads Val) → Same p q → (bs : List ℕ) → pair_at q bs ≡ along both (pair_at p bs)
+  key_seen : (allows : ℕ → Bool) (p : List ℕ → Reads Raw) (q : List ℕ → Reads Val) → Same p q → (bs : List ℕ) → key_at allows q bs ≡ along value (key_at allows p bs)
+  unfolding key_at
+  key_seen allows p q same [] = refl
+  key_seen allows p q same (b ∷ bs) = along_cond value (allows b) _ _ _ _ (same (b ∷ bs)) refl
+
+  pair_seen : (allows : ℕ → Bool) (p : List ℕ → Reads Raw) (q : List ℕ → Reads Val) → Same p q → (bs : List ℕ) → pair_at allows q bs ≡ along both (pair_at allows p bs)
   unfolding pair_at
-  pair_seen p q same bs = rw (same bs) (key_first p q same (p bs))
+  pair_seen allows p q same bs = rw (key_seen allows p q same bs) (key_first p q same (key_at allows p bs))
 
-  pairs_seen : (p : List ℕ → Reads Raw) (q : List ℕ → Reads Val) → Same p q → Seen both model.pairs (pairs_of (raws l) p) (pairs_of (values l) q)
+  pairs_seen : (p : List ℕ → Reads Raw) (q : List ℕ → Reads Val) → Same p q → Seen both model.pairs (pairs_of (raws f l) p) (pairs_of (values f l) q)
   unfolding value
-  pairs_seen p q same = record { ends = refl; part = pair_seen p q same; none = refl; add = λ kv others. refl }
+  pairs_seen p q same = record { ends = refl; part = pair_seen (values f l).allows p q same; none = refl; add = λ kv others. refl }
 
-  array_seen : (inner : Option (List ℕ → Reads Raw)) (inner' : Option (List ℕ → Reads Val)) → SameInside inner inner' → (n : raw.Length) (r : Remaining) (bs : List ℕ) → array_at (values l) inner' n r bs ≡ along value (array_at (raws l) inner n r bs)
+  array_seen : (inner : Option (List ℕ → Reads Raw)) (inner' : Option (List ℕ → Reads Val)) → SameInside inner inner' → (n : raw.Length) (r : Remaining) (bs : List ℕ) → array_at (values f l) inner' n r bs ≡ along value (array_at (raws f l) inner n r bs)
   unfolding array_at value
   array_seen None None same n r bs = refl
   array_seen None (Some q) same n r bs = absurd same
   array_seen (Some p) None same n r bs = absurd same
   array_seen (Some p) (Some q) same n r bs =
-      rw (parts_seen value model.values (items_of (raws l) p) (items_of (values l) q) (items_seen p q same) (suc (length bs)) r bs)
-      (seen_made model.values value (raw.array n) plain.array (parts_at (items_of (raws l) p) r bs) (λ rs. refl))
+      rw (parts_seen value model.values (items_of (raws f l) p) (items_of (values f l) q) (items_seen p q same) (suc (length bs)) r bs)
+      (seen_made model.values value (raw.array n) plain.array (parts_at (items_of (raws f l) p) r bs) (λ rs. refl))
 
-  map_seen : (inner : Option (List ℕ → Reads Raw)) (inner' : Option (List ℕ → Reads Val)) → SameInside inner inner' → (n : raw.Length) (r : Remaining) (bs : List ℕ) → map_at (values l) inner' n r bs ≡ along value (map_at (raws l) inner n r bs)
+  map_seen : (inner : Option (List ℕ → Reads Raw)) (inner' : Option (List ℕ → Reads Val)) → SameInside inner inner' → (n : raw.Length) (r : Remaining) (bs : List ℕ) → map_at (values f l) inner' n r bs ≡ along value (map_at (raws f l) inner n r bs)
   unfolding map_at value
   map_seen None None same n r bs = refl
   map_seen None (Some q) same n r bs = absurd same
   map_seen (Some p) None same n r bs = absurd same
   map_seen (Some p) (Some q) same n r bs =
-      rw (parts_seen both model.pairs (pairs_of (raws l) p) (pairs_of (values l) q) (pairs_seen p q same) (suc (length bs)) r bs)
-      (seen_made model.pairs value (raw.map n) (λ (ps : Pairs → Pairs). plain.map (ps plain.no_pairs)) (parts_at (pairs_of (raws l) p) r bs) (λ ps. refl))
+      rw (parts_seen both model.pairs (pairs_of (raws f l) p) (pairs_of (values f l) q) (pairs_seen p q same) (suc (length bs)) r bs)
+      (seen_made model.pairs value (raw.map n) (λ (ps : Pairs → Pairs). plain.map (ps plain.no_pairs)) (parts_at (pairs_of (raws f l) p) r bs) (λ ps. refl))
 
-  tag_seen : (inner : Option (List ℕ → Reads Raw)) (inner' : Option (List ℕ → Reads Val)) → SameInside inner inner' → (w : HeadWidth) (n : ℕ) (bs : List ℕ) → tag_at (values l) inner' w n bs ≡ along value (tag_at (raws l) inner w n bs)
+  tag_seen : (inner : Option (List ℕ → Reads Raw)) (inner' : Option (List ℕ → Reads Val)) → SameInside inner inner' → (w : HeadWidth) (n : ℕ) (bs : List ℕ) → tag_at (values f l) inner' w n bs ≡ along value (tag_at (raws f l) inner w n bs)
   unfolding tag_at value
   tag_seen None None same w n bs = refl
   tag_seen None (Some q) same w n bs = absurd same
@@ -125,29 +131,29 @@ module _ (l : Limits) where
 
   -- ---- strings
 
-  string_seen : (w : HeadWidth) (n : ℕ) (bs : List ℕ) → string_at (values l) w n bs ≡ along value (string_at (raws l) w n bs)
+  string_seen : (w : HeadWidth) (n : ℕ) (bs : List ℕ) → string_at (values f l) w n bs ≡ along value (string_at (raws f l) w n bs)
   unfolding string_at value
   string_seen w n bs = along_bind value (bytes_at n bs) _ _ (λ b. refl)
 
-  checked_seen : (t : Raw) (b bs : List ℕ) → checked_text (values l) (value t) b bs ≡ along value (checked_text (raws l) t b bs)
+  checked_seen : (t : Raw) (b bs : List ℕ) → checked_text (values f l) (value t) b bs ≡ along value (checked_text (raws f l) t b bs)
   unfolding checked_text
-  checked_seen t b bs = along_cond value ((raws l).is_text b) _ _ _ _ refl refl
+  checked_seen t b bs = along_cond value ((raws f l).is_text b) _ _ _ _ refl refl
 
-  text_seen : (w : HeadWidth) (n : ℕ) (bs : List ℕ) → text_at (values l) w n bs ≡ along value (text_at (raws l) w n bs)
+  text_seen : (w : HeadWidth) (n : ℕ) (bs : List ℕ) → text_at (values f l) w n bs ≡ along value (text_at (raws f l) w n bs)
   unfolding text_at value
-  text_seen w n bs = along_cond value ((raws l).has_room (length bs) n) _ _ _ _ (along_bind value (bytes_at n bs) _ _ (λ b. checked_seen (raw.text (record { width = w; bytes = b.0 })) b.0 b.1)) refl
+  text_seen w n bs = along_cond value ((raws f l).has_room (length bs) n) _ _ _ _ (along_bind value (bytes_at n bs) _ _ (λ b. checked_seen (raw.text (record { width = w; bytes = b.0 })) b.0 b.1)) refl
 
-  string_chunks_seen : (bs : List ℕ) → string_chunks_at (values l) bs ≡ along value (string_chunks_at (raws l) bs)
+  string_chunks_seen : (bs : List ℕ) → string_chunks_at (values f l) bs ≡ along value (string_chunks_at (raws f l) bs)
   unfolding string_chunks_at value
-  string_chunks_seen bs = along_bind value (chunks_at (raws l).exceeds 0 2 bs) _ _ (λ cs. refl)
+  string_chunks_seen bs = along_bind value (chunks_at (raws f l).exceeds 0 2 bs) _ _ (λ cs. refl)
 
-  text_chunks_seen : (bs : List ℕ) → text_chunks_at (values l) bs ≡ along value (text_chunks_at (raws l) bs)
+  text_chunks_seen : (bs : List ℕ) → text_chunks_at (values f l) bs ≡ along value (text_chunks_at (raws f l) bs)
   unfolding text_chunks_at value
-  text_chunks_seen bs = along_bind value (chunks_at (raws l).exceeds 0 3 bs) _ _ (λ cs. checked_seen (raw.text_chunks cs.0) (joined cs.0) cs.1)
+  text_chunks_seen bs = along_bind value (chunks_at (raws f l).exceeds 0 3 bs) _ _ (λ cs. checked_seen (raw.text_chunks cs.0) (joined cs.0) cs.1)
 
   -- ---- all levels
 
-  behind_seen : (inner : Option (List ℕ → Reads Raw)) (inner' : Option (List ℕ → Reads Val)) → SameInside inner inner' → (w : HeadWidth) (h : Head) (bs : List ℕ) → behind_head (values l) inner' w h bs ≡ along value (behind_head (raws l) inner w h bs)
+  behind_seen : (inner : Option (List ℕ → Reads Raw)) (inner' : Option (List ℕ → Reads Val)) → SameInside inner inner' → (w : HeadWidth) (h : Head) (bs : List ℕ) → behind_head (values f l) inner' w h bs ≡ along value (behind_head (raws f l) inner w h bs)
   unfolding value
   behind_seen inner inner' same w (head.Unsigned n) bs = refl
   behind_seen inner inner' same w (head.Negative n) bs = refl
@@ -167,12 +173,12 @@ module _ (l : Limits) where
   behind_seen inner inner' same w (head.Float (Double n)) bs = refl
   behind_seen inner inner' same w head.Break bs = refl
 
-  opened_seen : (levels : ℕ) → SameInside (inside (raws l) levels) (inside (values l) levels) → Same (item_at (raws l) levels) (item_at (values l) levels)
+  opened_seen : (levels : ℕ) → SameInside (inside (raws f l) levels) (inside (values f l) levels) → Same (item_at (raws f l) levels) (item_at (values f l) levels)
   opened_seen levels same bs =
-      item_opened (values l) levels bs
-      ∙ along_bind value (opening_at bs) _ _ (λ h. behind_seen (inside (raws l) levels) (inside (values l) levels) same h.0.0 h.0.1 h.1)
-      ∙ ap (along value) (sym (item_opened (raws l) levels bs))
+      item_opened (values f l) levels bs
+      ∙ along_bind value (opening_at bs) _ _ (λ h. behind_seen (inside (raws f l) levels) (inside (values f l) levels) same h.0.0 h.0.1 h.1)
+      ∙ ap (along value) (sym (item_opened (raws f l) levels bs))
 
-  pub value_seen : (levels : ℕ) → Same (item_at (raws l) levels) (item_at (values l) levels)
+  pub value_seen : (levels : ℕ) → Same (item_at (raws f l) levels) (item_at (values f l) levels)
   value_seen zero = opened_seen zero tt
   value_seen (suc levels) = opened_seen (suc levels) (value_seen levels)

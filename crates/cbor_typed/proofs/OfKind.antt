@@ -1,5 +1,6 @@
 -- What is read behind a head is of its kind.
 use Rattle.std.proofs.Common.{◌≡◌, ℕ, Bool, true, false, cond, List, Option, Some, None, Ok, Err, refl, sym, ap, ◌∙◌}
+use Rattle.cbor_model.specs.Formats.{Formats}
 use Rattle.cbor_model.specs.Head.{HeadWidth}
 use Rattle.cbor_model.specs.Raw as raw
 use Rattle.cbor_model.specs.Raw.{Raw, Chunk}
@@ -37,28 +38,28 @@ bind_of : {A : Type 0} (k : Kind) (read : Reads A) (f : A × List ℕ → Reads 
 bind_of k (Ok x) f e = e x
 bind_of k (Err g) f e = none_of k g
 
-module _ (l : Limits) (inner : Option (List ℕ → Reads Raw)) (w : HeadWidth) (bs : List ℕ) where
-  string_of : (n : ℕ) → IsOf kind.bytes (string_at (raws l) w n bs)
+module _ (f : Formats) (l : Limits) (inner : Option (List ℕ → Reads Raw)) (w : HeadWidth) (bs : List ℕ) where
+  string_of : (n : ℕ) → IsOf kind.bytes (string_at (raws f l) w n bs)
   unfolding string_at
   string_of n = made_of kind.bytes (bytes_at n bs) (λ b. raw.bytes (record { width = w; bytes = b.0 })) (λ b. refl)
 
-  string_chunks_of : IsOf kind.bytes (string_chunks_at (raws l) bs)
+  string_chunks_of : IsOf kind.bytes (string_chunks_at (raws f l) bs)
   unfolding string_chunks_at
-  string_chunks_of = made_of kind.bytes (chunks_at (raws l).exceeds 0 2 bs) (λ cs. raw.bytes_chunks cs.0) (λ cs. refl)
+  string_chunks_of = made_of kind.bytes (chunks_at (raws f l).exceeds 0 2 bs) (λ cs. raw.bytes_chunks cs.0) (λ cs. refl)
 
-  checked_of : (r : Raw) (b rest : List ℕ) → kind_of r ≡ kind.text → IsOf kind.text (checked_text (raws l) r b rest)
+  checked_of : (r : Raw) (b rest : List ℕ) → kind_of r ≡ kind.text → IsOf kind.text (checked_text (raws f l) r b rest)
   unfolding checked_text
-  checked_of r b rest e = either_of kind.text ((raws l).is_text b) _ _ (is_of kind.text r rest e) (none_of kind.text _)
+  checked_of r b rest e = either_of kind.text ((raws f l).is_text b) _ _ (is_of kind.text r rest e) (none_of kind.text _)
 
-  text_of : (n : ℕ) → IsOf kind.text (text_at (raws l) w n bs)
+  text_of : (n : ℕ) → IsOf kind.text (text_at (raws f l) w n bs)
   unfolding text_at
   text_of n = either_of kind.text _ _ _ (bind_of kind.text (bytes_at n bs) _ (λ b. checked_of (raw.text (record { width = w; bytes = b.0 })) b.0 b.1 refl)) (none_of kind.text _)
 
-  text_chunks_of : IsOf kind.text (text_chunks_at (raws l) bs)
+  text_chunks_of : IsOf kind.text (text_chunks_at (raws f l) bs)
   unfolding text_chunks_at
-  text_chunks_of = bind_of kind.text (chunks_at (raws l).exceeds 0 3 bs) _ (λ cs. checked_of (raw.text_chunks cs.0) _ cs.1 refl)
+  text_chunks_of = bind_of kind.text (chunks_at (raws f l).exceeds 0 3 bs) _ (λ cs. checked_of (raw.text_chunks cs.0) _ cs.1 refl)
 
-  pub kinds : (h : Head) → IsOf (head_kind h) (behind_head (raws l) inner w h bs)
+  pub kinds : (h : Head) → IsOf (head_kind h) (behind_head (raws f l) inner w h bs)
   unfolding array_at map_at tag_at
   kinds (head.Unsigned n) = is_of kind.unsigned _ bs refl
   kinds (head.Negative n) = is_of kind.negative _ bs refl

@@ -3,7 +3,7 @@ use Rattle.std.proofs.Common.{◌≡◌, ◌+◌, length, ◌⊎◌, inl, inr, �
 use Rattle.cbor_model.specs.Head.{HeadWidth}
 use Rattle.cbor_model.specs.Raw as raw
 use Rattle.cbor_model.specs.Raw.{Raw, Simple, false_item, true_item, null_item, undefined_item}
-use Rattle.cbor_model.specs.Formats.{Formats, HasAllowedKeys}
+use Rattle.cbor_model.specs.Formats.{Formats}
 use Rattle.cbor_model.specs.Readable.{untagged, PassesTags, IsBool, IsUnit}
 use Rattle.cbor_model.specs.Reader.{Fault, Reads, item_at, inside}
 use Rattle.cbor_model.proofs.facts.Reader.{ok_is}
@@ -50,109 +50,98 @@ excused_or D code.ArrayTooShort end at read h = absurd h
 excused_or D code.ArrayTooLong end at read h = absurd h
 excused_or D code.RecursionLimitExceeded end at read h = inr (_, h.2)
 excused_or D code.WrongEnumFormat end at read h = absurd h
-excused_or D code.WrongStructFormat end at read h = absurd h
+excused_or D code.WrongStructFormat end at read h = inr (_, h.2)
 excused_or D code.OutOfMemory end at read h = inl h
 
-not_both : (read : Reads Raw) (x : Raw × List ℕ) (f : Fault) → read ≡ Ok x → read ≡ Err f → ⊥
+pub not_both : (read : Reads Raw) (x : Raw × List ℕ) (f : Fault) → read ≡ Ok x → read ≡ Err f → ⊥
 not_both (Ok y) x f is other = absurd cc
 not_both (Err g) x f is other = absurd cc
 
 -- what a fault stops is not read
-not_read : {A : Type 0} (f : Formats) (reads : Raw → A → Type 0) (read : Reads Raw) (fault : Fault) → read ≡ Err fault → IsNotRead f reads read
-not_read f reads read fault is x rest got = not_both read (got.item, rest) fault got.is is
+not_read : {A : Type 0} (reads : Raw → A → Type 0) (read : Reads Raw) (fault : Fault) → read ≡ Err fault → IsNotRead reads read
+not_read reads read fault is x rest got = not_both read (got.item, rest) fault got.is is
 
-or_none : {A : Type 0} (D : Type 0) (k : ErrorCode) (at : ℕ) (f : Formats) (reads : Raw → A → Type 0) (read : Reads Raw) → ExcusedBy D k at ⊎ ((fault : Fault) × (read ≡ Err fault)) → ExcusedBy D k at ⊎ IsNotRead f reads read
-or_none D k at f reads read (inl e) = inl e
-or_none D k at f reads read (inr h) = inr (not_read f reads read h.0 h.1)
+or_none : {A : Type 0} (D : Type 0) (k : ErrorCode) (at : ℕ) (reads : Raw → A → Type 0) (read : Reads Raw) → ExcusedBy D k at ⊎ ((fault : Fault) × (read ≡ Err fault)) → ExcusedBy D k at ⊎ IsNotRead reads read
+or_none D k at reads read (inl e) = inl e
+or_none D k at reads read (inr h) = inr (not_read reads read h.0 h.1)
 
 -- an error that is made of a refusal
-pub refuses : {A : Type 0} (allowed : ReadErrorCode → Bool) (f : Formats) (reads : Raw → A → Type 0) (read : Limits → List ℕ → Reads Raw) (s : Input) (kept : Option ReadError) (r : Refused) (e : Error)
-    → IsErrorOf kept r e → Stopped allowed read s kept r → Refuses allowed s (code_of e) (offset_of e) (λ l bs. IsNotRead f reads (read l bs))
-refuses allowed f reads read s kept refused.OutOfMemory e is h = record { told = λ bs tells. inl (subst (λ (k : ErrorCode). ExcusedBy (Reports allowed) k (offset_of e)) (sym is.0) is.1) }
-refuses allowed f reads read s None refused.Kept e is h = absurd h
-refuses allowed f reads read s (Some q) refused.Kept e is h = record {
+pub refuses : {A : Type 0} (allowed : ReadErrorCode → Bool) (reads : Raw → A → Type 0) (read : Limits → List ℕ → Reads Raw) (s : Input) (kept : Option ReadError) (r : Refused) (e : Error)
+    → IsErrorOf kept r e → Stopped allowed read s kept r → Refuses allowed s (code_of e) (offset_of e) (λ l bs. IsNotRead reads (read l bs))
+refuses allowed reads read s kept refused.OutOfMemory e is h = record { told = λ bs tells. inl (subst (λ (k : ErrorCode). ExcusedBy (Reports allowed) k (offset_of e)) (sym is.0) is.1) }
+refuses allowed reads read s None refused.Kept e is h = absurd h
+refuses allowed reads read s (Some q) refused.Kept e is h = record {
   told = λ bs tells.
       let D = Reports allowed in
       let here = h.told bs tells in
       let there = subst (λ (k : ErrorCode). FailsBy D k (s.offset + length bs) (place q) (read (limits s bs) bs)) (sym is.0) here in
       let at = subst (λ (n : ℕ). FailsBy D (code_of e) (s.offset + length bs) n (read (limits s bs) bs)) (sym is.1) there in
-      or_none D (code_of e) (offset_of e) f reads (read (limits s bs) bs) (excused_or D (code_of e) (s.offset + length bs) (offset_of e) (read (limits s bs) bs) at);
+      or_none D (code_of e) (offset_of e) reads (read (limits s bs) bs) (excused_or D (code_of e) (s.offset + length bs) (offset_of e) (read (limits s bs) bs) at);
 }
 
 -- ---- within tags
 
-untagged-tagged : (ts : List (HeadWidth × ℕ)) (r : Raw) → untagged (tagged ts r) ≡ untagged r
+pub untagged-tagged : (ts : List (HeadWidth × ℕ)) (r : Raw) → untagged (tagged ts r) ≡ untagged r
 untagged-tagged [] r = refl
 untagged-tagged (t ∷ ts) r = untagged-tagged ts r
 
-keys-tagged : (f : Formats) (ts : List (HeadWidth × ℕ)) (r : Raw) → HasAllowedKeys f r → HasAllowedKeys f (tagged ts r)
-unfolding HasAllowedKeys
-keys-tagged f [] r h = h
-keys-tagged f (t ∷ ts) r h = keys-tagged f ts r h
-
-keys-untagged : (f : Formats) (ts : List (HeadWidth × ℕ)) (r : Raw) → HasAllowedKeys f (tagged ts r) → HasAllowedKeys f r
-unfolding HasAllowedKeys
-keys-untagged f [] r h = h
-keys-untagged f (t ∷ ts) r h = keys-untagged f ts r h
-
 -- what is read within tags
-record Within (ts : List (HeadWidth × ℕ)) (read : Reads Raw) (r : Raw) (rest : List ℕ) : Type 0 where
-  item : Raw
-  is : read ≡ Ok (item, rest)
-  wrapped : r ≡ tagged ts item
+pub record Within (ts : List (HeadWidth × ℕ)) (read : Reads Raw) (r : Raw) (rest : List ℕ) : Type 0 where
+  pub item : Raw
+  pub is : read ≡ Ok (item, rest)
+  pub wrapped : r ≡ tagged ts item
 
-within_tags : (ts : List (HeadWidth × ℕ)) (read : Reads Raw) (r : Raw) (rest : List ℕ) → in_tags ts read ≡ Ok (r, rest) → Within ts read r rest
+pub within_tags : (ts : List (HeadWidth × ℕ)) (read : Reads Raw) (r : Raw) (rest : List ℕ) → in_tags ts read ≡ Ok (r, rest) → Within ts read r rest
 within_tags ts (Ok x) r rest is =
     let both = ok_is (tagged ts x.0, x.1) (r, rest) is in
     record { item = x.0; is = ap (λ (p : Raw × List ℕ). Ok (x.0, p.1)) both; wrapped = sym (ap (λ (p : Raw × List ℕ). p.0) both) }
 within_tags ts (Err f) r rest is = absurd cc
 
-module _ {A : Type 0} (f : Formats) (reads : Raw → A → Type 0) (l : Limits) (read : Reads Raw) (left : ℕ) (h : Head) (mid : List ℕ) (o : Opens l read left h mid) where
+module _ {A : Type 0} (f : Formats) (reads : Raw → A → Type 0) (l : Limits) (read : Reads Raw) (left : ℕ) (h : Head) (mid : List ℕ) (o : Opens f l read left h mid) where
   abbrev behind : Reads Raw
-  behind = behind_head (raws l) (inside (raws l) left) o.width h mid
+  behind = behind_head (raws f l) (inside (raws f l) left) o.width h mid
 
   -- what is read behind the head is read of the item
-  pub opened_read : (r : Raw) (rest : List ℕ) (x : A) → behind ≡ Ok (r, rest) → HasAllowedKeys f r → reads (untagged r) x → IsRead f (PassesTags reads) read x rest
-  opened_read r rest x is keys means = record {
+  pub opened_read : (r : Raw) (rest : List ℕ) (x : A) → behind ≡ Ok (r, rest) → reads (untagged r) x → IsRead (PassesTags reads) read x rest
+  opened_read r rest x is means = record {
     item = tagged o.tags r;
     is = o.is ∙ ap (in_tags o.tags) is;
-    keys = keys-tagged f o.tags r keys;
     means = subst (λ (i : Raw). reads i x) (sym (untagged-tagged o.tags r)) means;
   }
 
   -- and what isn't isn't
-  pub opened_none : ((r : Raw) (rest : List ℕ) (x : A) → behind ≡ Ok (r, rest) → HasAllowedKeys f r → reads (untagged r) x → ⊥) → IsNotRead f (PassesTags reads) read
+  pub opened_none : ((r : Raw) (rest : List ℕ) (x : A) → behind ≡ Ok (r, rest) → reads (untagged r) x → ⊥) → IsNotRead (PassesTags reads) read
   opened_none none x rest got =
       let w = within_tags o.tags behind got.item rest (sym o.is ∙ got.is) in
-      none w.item rest x w.is (keys-untagged f o.tags w.item (subst (HasAllowedKeys f) w.wrapped got.keys))
+      none w.item rest x w.is
       (subst (λ (i : Raw). reads i x) (untagged-tagged o.tags w.item) (subst (λ (i : Raw). reads (untagged i) x) w.wrapped got.means))
 
   -- an item of another kind isn't read
-  pub other_kind : ((r : Raw) (x : A) → reads (untagged r) x → kind_of r ≡ head_kind h → ⊥) → IsNotRead f (PassesTags reads) read
-  other_kind none = opened_none (λ r rest x is keys means. none r x means (kinds l (inside (raws l) left) o.width mid h r rest is))
+  pub other_kind : ((r : Raw) (x : A) → reads (untagged r) x → kind_of r ≡ head_kind h → ⊥) → IsNotRead (PassesTags reads) read
+  other_kind none = opened_none (λ r rest x is means. none r x means (kinds f l (inside (raws f l) left) o.width mid h r rest is))
 
 -- ---- calls
 
 pub takes_scalar : {A : Type 0} (allowed : ReadErrorCode → Bool) (f : Formats) (reads : Raw → A → Type 0) (levels : ℕ) (s t : Input) (kept : Option ReadError) (h : Head) (x : A) (item : HeadWidth → Raw)
-    → ((l : Limits) (inner : Option (List ℕ → Reads Raw)) (w : HeadWidth) (mid : List ℕ) → behind_head (raws l) inner w h mid ≡ Ok (item w, mid)) → ((w : HeadWidth) → HasAllowedKeys f (item w)) → ((w : HeadWidth) → reads (untagged (item w)) x)
-    → OpensItem allowed levels s t kept (Ok h) → Step s t (λ l bs rest. IsRead f (PassesTags reads) (item_at (raws l) levels bs) x rest)
-takes_scalar allowed f reads levels s t kept h x item whole keys means (left, step) =
-    step_map s t (λ l bs rest. Opens l (item_at (raws l) levels bs) left h rest) (λ l bs rest. IsRead f (PassesTags reads) (item_at (raws l) levels bs) x rest)
-    (λ l bs rest o. opened_read f reads l (item_at (raws l) levels bs) left h rest o (item o.width) rest x (whole l (inside (raws l) left) o.width rest) (keys o.width) (means o.width)) step
+    → ((l : Limits) (inner : Option (List ℕ → Reads Raw)) (w : HeadWidth) (mid : List ℕ) → behind_head (raws f l) inner w h mid ≡ Ok (item w, mid)) → ((w : HeadWidth) → reads (untagged (item w)) x)
+    → OpensItem allowed f levels s t kept (Ok h) → Step s t (λ l bs rest. IsRead (PassesTags reads) (item_at (raws f l) levels bs) x rest)
+takes_scalar allowed f reads levels s t kept h x item whole means (left, step) =
+    step_map s t (λ l bs rest. Opens f l (item_at (raws f l) levels bs) left h rest) (λ l bs rest. IsRead (PassesTags reads) (item_at (raws f l) levels bs) x rest)
+    (λ l bs rest o. opened_read f reads l (item_at (raws f l) levels bs) left h rest o (item o.width) rest x (whole l (inside (raws f l) left) o.width rest) (means o.width)) step
 
 pub none_scalar : {A : Type 0} (allowed : ReadErrorCode → Bool) (f : Formats) (reads : Raw → A → Type 0) (levels : ℕ) (s t : Input) (kept : Option ReadError) (h : Head) (e : Error)
     → ((r : Raw) (x : A) → reads (untagged r) x → (kind_of r ≡ kind.tag → ⊥) → kind_of r ≡ head_kind h → ⊥)
-    → OpensItem allowed levels s t kept (Ok h) → Refuses allowed s (code_of e) (offset_of e) (λ l bs. IsNotRead f (PassesTags reads) (item_at (raws l) levels bs))
+    → OpensItem allowed f levels s t kept (Ok h) → Refuses allowed s (code_of e) (offset_of e) (λ l bs. IsNotRead (PassesTags reads) (item_at (raws f l) levels bs))
 none_scalar allowed f reads levels s t kept h e other (left, step) = record {
   told = λ bs tells.
       let l = limits s bs in
       let o = (step.told bs tells).holds in
-      inr (other_kind f reads l (item_at (raws l) levels bs) left h (step.told bs tells).rest o (λ r x means is. other r x means (λ tag. o.inner (sym is ∙ tag)) is));
+      inr (other_kind f reads l (item_at (raws f l) levels bs) left h (step.told bs tells).rest o (λ r x means is. other r x means (λ tag. o.inner (sym is ∙ tag)) is));
 }
 
 pub stops_scalar : {A : Type 0} (allowed : ReadErrorCode → Bool) (f : Formats) (reads : Raw → A → Type 0) (levels : ℕ) (s t : Input) (kept : Option ReadError) (r : Refused) (e : Error)
-    → OpensItem allowed levels s t kept (Err r) → IsErrorOf kept r e → Refuses allowed s (code_of e) (offset_of e) (λ l bs. IsNotRead f reads (item_at (raws l) levels bs))
-stops_scalar allowed f reads levels s t kept r e (left, stops) is = refuses allowed f reads (λ l. item_at (raws l) levels) s kept r e is stops
+    → OpensItem allowed f levels s t kept (Err r) → IsErrorOf kept r e → Refuses allowed s (code_of e) (offset_of e) (λ l bs. IsNotRead reads (item_at (raws f l) levels bs))
+stops_scalar allowed f reads levels s t kept r e (left, stops) is = refuses allowed reads (λ l. item_at (raws f l) levels) s kept r e is stops
 
 -- ---- kinds
 
@@ -232,7 +221,7 @@ no_float head.Undefined other e = absurd cc
 no_float (head.Float n) other e = other n refl
 no_float head.Break other e = absurd cc
 
-no_null : (h : Head) → (h ≡ head.Null → ⊥) → kind.null ≡ head_kind h → ⊥
+pub no_null : (h : Head) → (h ≡ head.Null → ⊥) → kind.null ≡ head_kind h → ⊥
 no_null (head.Unsigned n) other e = absurd cc
 no_null (head.Negative n) other e = absurd cc
 no_null (head.Bytes n) other e = absurd cc
@@ -279,21 +268,17 @@ abbrev pub bool_item : Bool → Simple
 bool_item false = false_item
 bool_item true = true_item
 
-pub bool_read : (allowed : ReadErrorCode → Bool) (f : Formats) (levels : ℕ) (s t : Input) (kept : Option ReadError) (b : Bool) → OpensItem allowed levels s t kept (Ok (head.Bool b)) → Step s t (λ l bs rest. IsRead f (PassesTags IsBool) (item_at (raws l) levels bs) b rest)
-unfolding HasAllowedKeys
-bool_read allowed f levels s t kept false = takes_scalar allowed f IsBool levels s t kept (head.Bool false) false (λ w. raw.simple false_item) (λ l inner w mid. refl) (λ w. tt) (λ w. refl)
-bool_read allowed f levels s t kept true = takes_scalar allowed f IsBool levels s t kept (head.Bool true) true (λ w. raw.simple true_item) (λ l inner w mid. refl) (λ w. tt) (λ w. refl)
+pub bool_read : (allowed : ReadErrorCode → Bool) (f : Formats) (levels : ℕ) (s t : Input) (kept : Option ReadError) (b : Bool) → OpensItem allowed f levels s t kept (Ok (head.Bool b)) → Step s t (λ l bs rest. IsRead (PassesTags IsBool) (item_at (raws f l) levels bs) b rest)
+bool_read allowed f levels s t kept false = takes_scalar allowed f IsBool levels s t kept (head.Bool false) false (λ w. raw.simple false_item) (λ l inner w mid. refl) (λ w. refl)
+bool_read allowed f levels s t kept true = takes_scalar allowed f IsBool levels s t kept (head.Bool true) true (λ w. raw.simple true_item) (λ l inner w mid. refl) (λ w. refl)
 
-pub float_read : (allowed : ReadErrorCode → Bool) (f : Formats) (levels : ℕ) (s t : Input) (kept : Option ReadError) (x : Float) → OpensItem allowed levels s t kept (Ok (head.Float x)) → Step s t (λ l bs rest. IsRead f (PassesTags IsFloatItem) (item_at (raws l) levels bs) x rest)
-unfolding HasAllowedKeys
-float_read allowed f levels s t kept (Half n) = takes_scalar allowed f IsFloatItem levels s t kept (head.Float (Half n)) (Half n) (λ w. raw.float raw.half n) (λ l inner w mid. refl) (λ w. tt) (λ w. refl)
-float_read allowed f levels s t kept (Single n) = takes_scalar allowed f IsFloatItem levels s t kept (head.Float (Single n)) (Single n) (λ w. raw.float raw.single n) (λ l inner w mid. refl) (λ w. tt) (λ w. refl)
-float_read allowed f levels s t kept (Double n) = takes_scalar allowed f IsFloatItem levels s t kept (head.Float (Double n)) (Double n) (λ w. raw.float raw.double n) (λ l inner w mid. refl) (λ w. tt) (λ w. refl)
+pub float_read : (allowed : ReadErrorCode → Bool) (f : Formats) (levels : ℕ) (s t : Input) (kept : Option ReadError) (x : Float) → OpensItem allowed f levels s t kept (Ok (head.Float x)) → Step s t (λ l bs rest. IsRead (PassesTags IsFloatItem) (item_at (raws f l) levels bs) x rest)
+float_read allowed f levels s t kept (Half n) = takes_scalar allowed f IsFloatItem levels s t kept (head.Float (Half n)) (Half n) (λ w. raw.float raw.half n) (λ l inner w mid. refl) (λ w. refl)
+float_read allowed f levels s t kept (Single n) = takes_scalar allowed f IsFloatItem levels s t kept (head.Float (Single n)) (Single n) (λ w. raw.float raw.single n) (λ l inner w mid. refl) (λ w. refl)
+float_read allowed f levels s t kept (Double n) = takes_scalar allowed f IsFloatItem levels s t kept (head.Float (Double n)) (Double n) (λ w. raw.float raw.double n) (λ l inner w mid. refl) (λ w. refl)
 
-pub null_read : (allowed : ReadErrorCode → Bool) (f : Formats) (levels : ℕ) (s t : Input) (kept : Option ReadError) → OpensItem allowed levels s t kept (Ok head.Null) → Step s t (λ l bs rest. IsRead f (PassesTags IsUnit) (item_at (raws l) levels bs) tt rest)
-unfolding HasAllowedKeys
-null_read allowed f levels s t kept = takes_scalar allowed f IsUnit levels s t kept head.Null tt (λ w. raw.simple null_item) (λ l inner w mid. refl) (λ w. tt) (λ w. tt)
+pub null_read : (allowed : ReadErrorCode → Bool) (f : Formats) (levels : ℕ) (s t : Input) (kept : Option ReadError) → OpensItem allowed f levels s t kept (Ok head.Null) → Step s t (λ l bs rest. IsRead (PassesTags IsUnit) (item_at (raws f l) levels bs) tt rest)
+null_read allowed f levels s t kept = takes_scalar allowed f IsUnit levels s t kept head.Null tt (λ w. raw.simple null_item) (λ l inner w mid. refl) (λ w. tt)
 
-pub undefined_read : (allowed : ReadErrorCode → Bool) (f : Formats) (levels : ℕ) (s t : Input) (kept : Option ReadError) → OpensItem allowed levels s t kept (Ok head.Undefined) → Step s t (λ l bs rest. IsRead f (PassesTags IsUnit) (item_at (raws l) levels bs) tt rest)
-unfolding HasAllowedKeys
-undefined_read allowed f levels s t kept = takes_scalar allowed f IsUnit levels s t kept head.Undefined tt (λ w. raw.simple undefined_item) (λ l inner w mid. refl) (λ w. tt) (λ w. tt)
+pub undefined_read : (allowed : ReadErrorCode → Bool) (f : Formats) (levels : ℕ) (s t : Input) (kept : Option ReadError) → OpensItem allowed f levels s t kept (Ok head.Undefined) → Step s t (λ l bs rest. IsRead (PassesTags IsUnit) (item_at (raws f l) levels bs) tt rest)
+undefined_read allowed f levels s t kept = takes_scalar allowed f IsUnit levels s t kept head.Undefined tt (λ w. raw.simple undefined_item) (λ l inner w mid. refl) (λ w. tt)

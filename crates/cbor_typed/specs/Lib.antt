@@ -1,6 +1,10 @@
 pub mod Kinds
 pub mod Takes
 pub mod Opens
+pub mod Arrays
+pub mod Accesses
 pub mod Scalars
+pub mod Strings
+pub mod Options
 pub mod Whole
 pub use Rattle.cbor_io.specs.Error

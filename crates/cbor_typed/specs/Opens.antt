@@ -1,5 +1,6 @@
 -- The head of an item within its tags.
 use Rattle.std.specs.Prelude.{◌≡◌, ℕ, List, [], ◌∷◌, Option, Bool, Result, Ok, Err}
+use Rattle.cbor_model.specs.Formats.{Formats}
 use Rattle.cbor_model.specs.Head.{HeadWidth}
 use Rattle.cbor_model.specs.Raw.{Raw, tag}
 use Rattle.cbor_model.specs.Reader.{Reads, ◌>>=◌, byte_at, item_at, inside, within}
@@ -28,21 +29,21 @@ abbrev pub opening_at : List ℕ → Reads (HeadWidth × Head)
 opening_at bs = byte_at bs >>= (λ b. head_at b.0 b.1)
 
 -- The reading goes on behind the head of the item within all tags, where so many levels are left.
-pub record Opens (l : Limits) (read : Reads Raw) (left : ℕ) (h : Head) (rest : List ℕ) : Type 0 where
+pub record Opens (f : Formats) (l : Limits) (read : Reads Raw) (left : ℕ) (h : Head) (rest : List ℕ) : Type 0 where
   pub tags : List (HeadWidth × ℕ)
   pub width : HeadWidth
   pub inner : head_kind h ≡ kind.tag → ⊥
-  pub is : read ≡ in_tags tags (behind_head (raws l) (inside (raws l) left) width h rest)
+  pub is : read ≡ in_tags tags (behind_head (raws f l) (inside (raws f l) left) width h rest)
 
 -- the item one level further in
-abbrev pub item_inside : Limits → ℕ → List ℕ → Reads Raw
-item_inside l levels bs = within (inside (raws l) levels) bs (λ p. p bs)
+abbrev pub item_inside : Formats → Limits → ℕ → List ℕ → Reads Raw
+item_inside f l levels bs = within (inside (raws f l) levels) bs (λ p. p bs)
 
 -- The head of the item that is read was taken, and so many levels are left; or why not.
-abbrev pub OpensAt : (ReadErrorCode → Bool) → (Limits → List ℕ → Reads Raw) → Input → Input → ℕ → Option ReadError → Result Head Refused → Type 0
-OpensAt refusals read s t left kept (Ok h) = Step s t (λ l bs rest. Opens l (read l bs) left h rest)
-OpensAt refusals read s t left kept (Err r) = Stopped refusals read s kept r
+abbrev pub OpensAt : (ReadErrorCode → Bool) → Formats → (Limits → List ℕ → Reads Raw) → Input → Input → ℕ → Option ReadError → Result Head Refused → Type 0
+OpensAt refusals f read s t left kept (Ok h) = Step s t (λ l bs rest. Opens f l (read l bs) left h rest)
+OpensAt refusals f read s t left kept (Err r) = Stopped refusals read s kept r
 
 -- The head of the item at the front was taken, where so many levels are left; or why not.
-abbrev pub OpensItem : (ReadErrorCode → Bool) → ℕ → Input → Input → Option ReadError → Result Head Refused → Type 0
-OpensItem refusals levels s t kept r = (left : ℕ) × OpensAt refusals (λ l. item_at (raws l) levels) s t left kept r
+abbrev pub OpensItem : (ReadErrorCode → Bool) → Formats → ℕ → Input → Input → Option ReadError → Result Head Refused → Type 0
+OpensItem refusals f levels s t kept r = (left : ℕ) × OpensAt refusals f (λ l. item_at (raws f l) levels) s t left kept r

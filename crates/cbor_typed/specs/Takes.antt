@@ -1,8 +1,7 @@
 -- What a call takes of its source that reads a type.
-use Rattle.std.specs.Prelude.{◌≡◌, ℕ, Bool, List, Result, Ok, Err, ◌⊎◌}
+use Rattle.std.specs.Prelude.{◌≡◌, ◌+◌, ℕ, Bool, true, false, List, length, Result, Ok, Err, ◌⊎◌}
 use Rattle.cbor_model.specs.Raw.{Raw, Raws, RawPairs}
 use Rattle.cbor_model.specs.Formats as model
-use Rattle.cbor_model.specs.Formats.{HasAllowedKeys}
 use Rattle.cbor_model.specs.Readable.{Context}
 use Rattle.cbor_model.specs.RawReader.{raws_in}
 use Rattle.cbor_model.specs.Reader.{Reads, Reading, item_at}
@@ -12,11 +11,9 @@ use Rattle.cbor_io.specs.declared.error.ErrorCode.TheVariants.{Io, OutOfMemory}
 use Rattle.cbor_io.specs.declared.read.read_error.ReadErrorCode.{ReadErrorCode}
 use Rattle.cbor_io.specs.Error.{code_of, offset_of}
 use Rattle.cbor_io.specs.Source.{Input, Lends}
-use Rattle.cbor_de.specs.Gives.{Limits, limits, Tells, Step, Reports}
-use Rattle.cbor_typed.specs.declared.formats.Formats.{Formats}
-
-abbrev pub formats_of : Formats → model.Formats
-formats_of f = record { named = f.named; packed = f.packed; standard_enums = f.standard_enums; legacy_enums = f.legacy_enums }
+use Rattle.cbor_de.specs.Gives.{Limits, limits, values, Tells, Step, Reports, FailsBy}
+use Rattle.cbor_de.specs.declared.formats.Formats.{Formats}
+pub use Rattle.cbor_de.specs.Deserializer.{formats_of}
 
 -- these formats are read, and so much is lent
 abbrev pub lending : model.Formats → Lends → Context
@@ -26,19 +23,18 @@ abbrev pub context : Formats → Lends → Context
 context f l = lending (formats_of f) l
 
 -- the reading of items as they are spelled, within these limits
-abbrev pub raws : Limits → Reading Raw Raws RawPairs
-raws l = raws_in l.total l.room
+abbrev pub raws : model.Formats → Limits → Reading Raw Raws RawPairs
+raws f l = raws_in f l.total l.room
 
 -- The item that the reference reader reads is read as x, and the rest follows it.
-pub record IsRead {A : Type 0} (f : model.Formats) (reads : Raw → A → Type 0) (read : Reads Raw) (x : A) (rest : List ℕ) : Type 0 where
+pub record IsRead {A : Type 0} (reads : Raw → A → Type 0) (read : Reads Raw) (x : A) (rest : List ℕ) : Type 0 where
   pub item : Raw
   pub is : read ≡ Ok (item, rest)
-  pub keys : HasAllowedKeys f item
   pub means : reads item x
 
 -- No item that is read as something is at the front.
-abbrev pub IsNotRead : {A : Type 0} → model.Formats → (Raw → A → Type 0) → Reads Raw → Type 0
-IsNotRead {A} f reads read = (x : A) (rest : List ℕ) → IsRead f reads read x rest → ⊥
+abbrev pub IsNotRead : {A : Type 0} → (Raw → A → Type 0) → Reads Raw → Type 0
+IsNotRead {A} reads read = (x : A) (rest : List ℕ) → IsRead reads read x rest → ⊥
 
 -- an allocation failed; or the device has a fault, where there can be one
 abbrev pub ExcusedBy : Type 0 → ErrorCode → ℕ → Type 0
@@ -52,10 +48,25 @@ pub record Refuses (refusals : ReadErrorCode → Bool) (s : Input) (code : Error
 
 -- What a call gave for the item at the front, and the bytes to come after it; or that no such item is
 -- there.
-abbrev pub Takes : {A : Type 0} → (ReadErrorCode → Bool) → model.Formats → (Raw → A → Type 0) → (Limits → List ℕ → Reads Raw) → Input → Input → Result A Error → Type 0
-Takes refusals f reads read s t (Ok x) = Step s t (λ l bs rest. IsRead f reads (read l bs) x rest)
-Takes refusals f reads read s t (Err e) = Refuses refusals s (code_of e) (offset_of e) (λ l bs. IsNotRead f reads (read l bs))
+abbrev pub Takes : {A : Type 0} → (ReadErrorCode → Bool) → (Raw → A → Type 0) → (Limits → List ℕ → Reads Raw) → Input → Input → Result A Error → Type 0
+Takes refusals reads read s t (Ok x) = Step s t (λ l bs rest. IsRead reads (read l bs) x rest)
+Takes refusals reads read s t (Err e) = Refuses refusals s (code_of e) (offset_of e) (λ l bs. IsNotRead reads (read l bs))
 
 -- the same of the item at the front, where so many levels are left
 abbrev pub TakesItem : {A : Type 0} → (ReadErrorCode → Bool) → model.Formats → (Raw → A → Type 0) → ℕ → Input → Input → Result A Error → Type 0
-TakesItem refusals f reads levels s t r = Takes refusals f reads (λ l. item_at (raws l) levels) s t r
+TakesItem refusals f reads levels s t r = Takes refusals reads (λ l. item_at (raws f l) levels) s t r
+
+-- ---- the fault that is told
+
+-- claimed where a type reads every item
+abbrev pub WhereTotal : Bool → Type 0 → Type 0
+WhereTotal false P = Unit {0}
+WhereTotal true P = P
+
+-- The error tells the fault that the reference reader meets in this reading.
+abbrev pub TellsFault : {A : Type 0} → (ReadErrorCode → Bool) → (Limits → List ℕ → Reads A) → Input → Error → Type 0
+TellsFault refusals read s e = (bs : List ℕ) → Tells s bs → FailsBy (Reports refusals) (code_of e) (s.offset + length bs) (offset_of e) (read (limits s bs) bs)
+
+-- Where a type reads every item, a refusal tells the fault of the item at the front.
+abbrev pub TellsItem : Bool → (ReadErrorCode → Bool) → model.Formats → ℕ → Input → Error → Type 0
+TellsItem total refusals f levels s e = WhereTotal total (TellsFault refusals (λ l. item_at (values f l) levels) s e)

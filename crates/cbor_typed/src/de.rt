@@ -1,41 +1,160 @@
 //! What reads types from a source.
 
-ghost use Rattle.std.specs.Prelude.{◌≡◌};
+ghost use Rattle.std.specs.Prelude.{◌≡◌, false, [], None, Some, length};
+ghost use Rattle.cbor_model.specs.Acceptable.{max_depth};
 ghost use Rattle.cbor_model.specs.Formats.{all_formats};
+ghost use Rattle.cbor_io.specs.Source.{slice_input, reader_input};
+ghost use Rattle.cbor_io.specs.Sources.{input_of_slice, input_of_slice_fixed, input_of_mut_slice, input_of_reader};
 ghost use Rattle.cbor_de.specs.Gives.{Ends};
+ghost use Rattle.cbor_typed.specs.Takes.{formats_of};
 
-use crate::formats::Formats;
 use cbor_de::Deserializer as Items;
 use cbor_io::error::Result;
-use cbor_io::read::Source;
+use cbor_io::read::{IoRead, MutSliceRead, Offset, SliceRead, SliceReadFixed, Source};
 use std::alloc::Global;
+use std::io;
 
-/// Reads types from a source.
+/// Reads types from a source: a slice, a slice with a scratch, a slice that is rewritten, any reader,
+/// or a source of the caller's own. Arrays, maps and tags may be nested 127 levels deep.
+///
+/// ```rust
+/// let mut de = Deserializer::from_slice(alloc, b"\x18\x2a\xf5");
+/// assert_eq!(rt; u8::deserialize(&mut de)?, 42);
+/// assert_eq!(rt; de.byte_offset(), 2);
+/// assert!(rt; bool::deserialize(&mut de)?);
+/// de.end()?;
+/// ```
 #[derive(Drop)]
 pub struct Deserializer<R> {
     /// What reads items.
     pub items: Items<R>,
-    /// Which formats are read.
-    pub formats: Formats,
+}
+
+impl<'a> Deserializer<SliceRead<'a>> {
+    /// Reads from a slice. Strings in chunks are joined in memory.
+    pub fn from_slice(alloc: Global, slice: &'a [u8]) -> Deserializer<SliceRead<'a>>
+        ensures input { input_of_slice result.items.source ≡ slice_input slice.now 0 [] None }
+        ensures levels { result.items.levels ≡ max_depth }
+        ensures formats { formats_of result.items.formats ≡ all_formats }
+    {
+        Deserializer::new(alloc, SliceRead::new(alloc, slice))
+    }
+}
+
+impl<'a, 'b> Deserializer<SliceReadFixed<'a, 'b>> {
+    /// Reads from a slice. Strings in chunks are joined in the scratch: where they don't fit,
+    /// `ScratchTooSmall` is answered.
+    pub fn from_slice_with_scratch(
+        alloc: Global,
+        slice: &'a [u8],
+        scratch: &'b mut [u8],
+    ) -> Deserializer<SliceReadFixed<'a, 'b>>
+        ensures input { input_of_slice_fixed result.items.source
+            ≡ slice_input slice.now 0 [] (Some (length scratch.old)) }
+        ensures levels { result.items.levels ≡ max_depth }
+        ensures formats { formats_of result.items.formats ≡ all_formats }
+    {
+        Deserializer::new(alloc, SliceReadFixed::new(slice, scratch))
+    }
+}
+
+impl<'a> Deserializer<MutSliceRead<'a>> {
+    /// Reads from a slice that is rewritten: strings in chunks are joined in place.
+    pub fn from_mut_slice(alloc: Global, slice: &'a mut [u8]) -> Deserializer<MutSliceRead<'a>>
+        ensures input { input_of_mut_slice result.items.source ≡ slice_input slice.old 0 [] None }
+        ensures levels { result.items.levels ≡ max_depth }
+        ensures formats { formats_of result.items.formats ≡ all_formats }
+    {
+        Deserializer::new(alloc, MutSliceRead::new(slice))
+    }
+}
+
+impl<R: io::Read + Drop> Deserializer<IoRead<R>> {
+    /// Reads from a reader. No byte is taken that isn't asked for.
+    pub fn from_reader(alloc: Global, reader: R) -> Deserializer<IoRead<R>>
+        ensures input { input_of_reader R.remaining result.items.source
+            ≡ reader_input None (R.remaining reader) [] 0 }
+        ensures levels { result.items.levels ≡ max_depth }
+        ensures formats { formats_of result.items.formats ≡ all_formats }
+    {
+        Deserializer::new(alloc, IoRead::new(alloc, reader))
+    }
+}
+
+impl<R: Offset> Deserializer<R> {
+    /// How many bytes of the input were taken.
+    pub fn byte_offset(&self) -> usize
+        ensures { result ≡ (R.source self.now.items.source).offset }
+    {
+        self.items.byte_offset()
+    }
 }
 
 impl<R: Source> Deserializer<R> {
-    ghost use Rattle.cbor_typed.specs.Takes.{formats_of};
-
     /// Reads from this source, in all formats.
     pub fn new(alloc: Global, source: R) -> Deserializer<R>
         ensures source { result.items.source ≡ source }
         ensures levels { result.items.levels ≡ 127 }
-        ensures formats { formats_of result.formats ≡ all_formats }
+        ensures formats { formats_of result.items.formats ≡ all_formats }
     {
         Deserializer {
             items: Items::new(alloc, source),
-            formats: Formats {
-                named: true,
-                packed: true,
-                standard_enums: true,
-                legacy_enums: true,
-            },
+        }
+    }
+
+    /// Maps with names among their keys are refused from now on: a key that is a text is
+    /// `WrongStructFormat`, at the key, in every map.
+    ///
+    /// ```rust
+    /// let source = SliceRead::new(alloc, b"\xa1\x61a\x01");
+    /// let mut de = Deserializer::new(alloc, source).disable_named_format();
+    /// assert!(rt; de.items.value().is_err());
+    /// ```
+    pub fn disable_named_format(self) -> Deserializer<R>
+        ensures formats { formats_of result.items.formats
+            ≡ record (formats_of self.items.formats) { named = false } }
+        ensures source { result.items.source ≡ self.items.source }
+        ensures levels { result.items.levels ≡ self.items.levels }
+    {
+        Deserializer {
+            items: self.items.disable_named_format(),
+        }
+    }
+
+    /// Maps with numbers among their keys are refused from now on: a key that is a number from 0 is
+    /// `WrongStructFormat`, at the key, in every map. A negative number names no field, and passes.
+    pub fn disable_packed_format(self) -> Deserializer<R>
+        ensures formats { formats_of result.items.formats
+            ≡ record (formats_of self.items.formats) { packed = false } }
+        ensures source { result.items.source ≡ self.items.source }
+        ensures levels { result.items.levels ≡ self.items.levels }
+    {
+        Deserializer {
+            items: self.items.disable_packed_format(),
+        }
+    }
+
+    /// Enums that are a name alone, or a map of one pair, are refused from now on.
+    pub fn disable_standard_enums(self) -> Deserializer<R>
+        ensures formats { formats_of result.items.formats
+            ≡ record (formats_of self.items.formats) { standard_enums = false } }
+        ensures source { result.items.source ≡ self.items.source }
+        ensures levels { result.items.levels ≡ self.items.levels }
+    {
+        Deserializer {
+            items: self.items.disable_standard_enums(),
+        }
+    }
+
+    /// Enums that are an array are refused from now on.
+    pub fn disable_legacy_enums(self) -> Deserializer<R>
+        ensures formats { formats_of result.items.formats
+            ≡ record (formats_of self.items.formats) { legacy_enums = false } }
+        ensures source { result.items.source ≡ self.items.source }
+        ensures levels { result.items.levels ≡ self.items.levels }
+    {
+        Deserializer {
+            items: self.items.disable_legacy_enums(),
         }
     }
 
@@ -43,7 +162,7 @@ impl<R: Source> Deserializer<R> {
     pub fn end(&mut self) -> Result<()>
         ensures read { Ends R.refusals (R.source self.old.items.source) result }
         ensures levels { self.new.items.levels ≡ self.old.items.levels }
-        ensures formats { self.new.formats ≡ self.old.formats }
+        ensures formats { self.new.items.formats ≡ self.old.items.formats }
     {
         self.items.end()
     }

@@ -1,7 +1,7 @@
 //! Types that are read.
 
-ghost use Rattle.std.specs.Prelude.{◌≡◌};
-ghost use Rattle.cbor_typed.specs.Takes.{TakesItem, context, formats_of};
+ghost use Rattle.std.specs.Prelude.{◌≡◌, IfErr};
+ghost use Rattle.cbor_typed.specs.Takes.{TakesItem, TellsItem, context, formats_of};
 
 use crate::de::Deserializer;
 use cbor_io::error::Result;
@@ -11,11 +11,17 @@ use cbor_io::read::Read;
 ///
 /// `reads` says of an item, and of what a source lends and which formats are read, as which values
 /// the type reads it. Nesting and the formats of keys are not its matter.
+///
+/// `total` says that the type reads every item, so that each refusal tells why the bytes spell
+/// none.
 pub trait Readable: Sized + Drop {
+    ghost use Rattle.std.specs.Prelude.{Bool, false};
     ghost use Rattle.cbor_model.specs.Raw.{Raw};
     ghost use Rattle.cbor_model.specs.Readable.{Context};
 
     ghost reads: { Context → Raw → Self → Type 0 };
+
+    ghost total: { Bool } = { false };
 }
 
 /// A type that is read from a source.
@@ -26,11 +32,14 @@ pub trait Readable: Sized + Drop {
 pub trait Deserialize<'de, R: Read<'de>>: Readable {
     /// Reads the item at the front.
     fn deserialize(de: &mut Deserializer<R>) -> Result<Self>
-        ensures read { TakesItem R.refusals (formats_of de.old.formats)
-            (Self.reads (context de.old.formats R.lends)) de.old.items.levels
+        ensures read { TakesItem R.refusals (formats_of de.old.items.formats)
+            (Self.reads (context de.old.items.formats R.lends)) de.old.items.levels
             (R.source de.old.items.source) (R.source de.new.items.source) result }
+        ensures fault { IfErr result (TellsItem Self.total R.refusals
+            (formats_of de.old.items.formats) de.old.items.levels
+            (R.source de.old.items.source)) }
         ensures levels { de.new.items.levels ≡ de.old.items.levels }
-        ensures formats { de.new.formats ≡ de.old.formats };
+        ensures formats { de.new.items.formats ≡ de.old.items.formats };
 }
 
 /// A type that borrows nothing: what it reads doesn't depend on what a source lends.

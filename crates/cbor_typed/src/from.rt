@@ -5,10 +5,11 @@ ghost use Rattle.cbor_model.specs.Acceptable.{max_depth, FitsScratch};
 ghost use Rattle.cbor_model.specs.Formats.{all_formats};
 ghost use Rattle.cbor_model.specs.Raw.{AreBytes};
 ghost use Rattle.cbor_model.specs.Readable.{SpellsAs};
+ghost use Rattle.cbor_model.specs.Reader.{read_value, read_value_in};
 ghost use Rattle.cbor_io.specs.Error.{IsOutOfMemory};
-ghost use Rattle.cbor_de.specs.Gives.{Gave, IsMemoryOrFault};
-ghost use Rattle.cbor_typed.specs.Takes.{context, formats_of, lending};
-ghost use Rattle.cbor_typed.specs.Whole.{ReadsAll, from_slice_context};
+ghost use Rattle.cbor_de.specs.Gives.{Fails, FailsOrFaults, Gave, IsMemoryOrFault};
+ghost use Rattle.cbor_typed.specs.Takes.{context, formats_of, lending, WhereTotal};
+ghost use Rattle.cbor_typed.specs.Whole.{ReadsAll, TellsWhole, from_slice_context};
 ghost use Rattle.cbor_typed.specs.Whole.{from_mut_slice_context, from_reader_context};
 
 use crate::de::Deserializer;
@@ -20,8 +21,10 @@ use std::io;
 
 // What all that the source has to give is read as.
 fn read_all<'de, T: Deserialize<'de, R>, R: Read<'de> + Drop>(alloc: Global, source: R) -> Result<T>
-    ensures { ReadsAll R.refusals all_formats (T.reads (lending all_formats R.lends)) max_depth
-        (R.source source) result }
+    ensures read { ReadsAll R.refusals all_formats (T.reads (lending all_formats R.lends))
+        max_depth (R.source source) result }
+    ensures fault { IfErr result (TellsWhole T.total R.refusals all_formats max_depth
+        (R.source source)) }
 {
     let mut de = Deserializer::new(alloc, source);
     whole(&mut de)
@@ -29,9 +32,11 @@ fn read_all<'de, T: Deserialize<'de, R>, R: Read<'de> + Drop>(alloc: Global, sou
 
 // What the one item that is to come is read as.
 fn whole<'de, T: Deserialize<'de, R>, R: Read<'de>>(de: &mut Deserializer<R>) -> Result<T>
-    ensures { ReadsAll R.refusals (formats_of de.old.formats)
-        (T.reads (context de.old.formats R.lends)) de.old.items.levels
+    ensures read { ReadsAll R.refusals (formats_of de.old.items.formats)
+        (T.reads (context de.old.items.formats R.lends)) de.old.items.levels
         (R.source de.old.items.source) result }
+    ensures fault { IfErr result (TellsWhole T.total R.refusals
+        (formats_of de.old.items.formats) de.old.items.levels (R.source de.old.items.source)) }
 {
     let value = match T::deserialize(de) {
         Ok(value) => value,
@@ -72,6 +77,10 @@ pub fn from_slice<'a, T: Deserialize<'a, SliceRead<'a>>>(
     // Each such item is read, unless memory runs out.
     ensures accepted { (x : T) → SpellsAs all_formats (T.reads from_slice_context) slice.now x
         → IfErr result IsOutOfMemory }
+    // Where the type reads every item, a refusal tells the fault that the reference reader meets,
+    // or that memory ran out.
+    ensures refused { IfErr result (λ e.
+        WhereTotal T.total (Fails (length slice.now) e (read_value slice.now))) }
 {
     read_all(alloc, SliceRead::new(alloc, slice))
 }
@@ -96,6 +105,8 @@ pub fn from_slice_with_scratch<'a, T: Deserialize<'a, SliceReadFixed<'a, 'a>>>(
     ensures accepted { (x : T)
         → (spelt : SpellsAs all_formats (T.reads from_slice_context) slice.now x)
         → FitsScratch (Some (length scratch.old)) spelt.item → IfErr result IsOutOfMemory }
+    ensures refused { IfErr result (λ e. WhereTotal T.total (Fails (length slice.now) e
+        (read_value_in (Some (length scratch.old)) slice.now))) }
 {
     read_all(alloc, SliceReadFixed::new(slice, scratch))
 }
@@ -116,6 +127,8 @@ pub fn from_mut_slice<'a, T: Deserialize<'a, MutSliceRead<'a>>>(
     ensures accepted { (x : T)
         → SpellsAs all_formats (T.reads from_mut_slice_context) slice.old x
         → IfErr result IsOutOfMemory }
+    ensures refused { IfErr result (λ e.
+        WhereTotal T.total (Fails (length slice.old) e (read_value slice.old))) }
 {
     are_bytes(slice);
     read_all(alloc, MutSliceRead::new(slice))
@@ -142,6 +155,11 @@ pub fn from_reader<'de, T: DeserializeOwned + Deserialize<'de, IoRead<R>>, R: io
     ensures accepted { (bytes : List ℕ) → Gave (R.remaining reader) bytes
         → (x : T) → SpellsAs all_formats (T.reads from_reader_context) bytes x
         → IfErr result IsMemoryOrFault }
+    // Where the type reads every item, a refusal tells the fault that the reference reader meets, or
+    // that memory ran out, or the reader's.
+    ensures refused { (bytes : List ℕ) → Gave (R.remaining reader) bytes
+        → IfErr result (λ e.
+        WhereTotal T.total (FailsOrFaults (length bytes) e (read_value bytes))) }
 {
     read_all(alloc, IoRead::new(alloc, reader))
 }

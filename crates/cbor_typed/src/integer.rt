@@ -64,11 +64,11 @@ impl<R: Source> Deserializer<R> {
     /// Reads a whole number.
     #[inline(always)]
     pub fn read_integer(&mut self) -> Result<i128>
-        ensures read { TakesItem R.refusals (formats_of self.old.formats) (PassesTags IsInteger)
-            self.old.items.levels (R.source self.old.items.source) (R.source self.new.items.source)
-            result }
+        ensures read { TakesItem R.refusals (formats_of self.old.items.formats)
+            (PassesTags IsInteger) self.old.items.levels
+            (R.source self.old.items.source) (R.source self.new.items.source) result }
         ensures levels { self.new.items.levels ≡ self.old.items.levels }
-        ensures formats { self.new.formats ≡ self.old.formats }
+        ensures formats { self.new.items.formats ≡ self.old.items.formats }
     {
         let head = match self.scalar() {
             Ok(head) => head,
@@ -83,12 +83,12 @@ impl<R: Source> Deserializer<R> {
     /// Reads a number from 0 to the most; the message is for another number.
     #[inline(always)]
     pub(crate) fn read_from_zero(&mut self, most: u64, message: &'static str) -> Result<u64>
-        ensures read { TakesItem R.refusals (formats_of self.old.formats)
+        ensures read { TakesItem R.refusals (formats_of self.old.items.formats)
             (PassesTags (IsFromZero most)) self.old.items.levels
             (R.source self.old.items.source) (R.source self.new.items.source) result }
         ensures bound { IfOk result (λ n. n ≤ most) }
         ensures levels { self.new.items.levels ≡ self.old.items.levels }
-        ensures formats { self.new.formats ≡ self.old.formats }
+        ensures formats { self.new.items.formats ≡ self.old.items.formats }
     {
         let head = match self.scalar() {
             Ok(head) => head,
@@ -103,11 +103,11 @@ impl<R: Source> Deserializer<R> {
     /// Reads a number from 0.
     #[inline(always)]
     pub(crate) fn read_u128(&mut self) -> Result<u128>
-        ensures read { TakesItem R.refusals (formats_of self.old.formats)
+        ensures read { TakesItem R.refusals (formats_of self.old.items.formats)
             (PassesTags (IsFromZero (2 ^ 128 - 1))) self.old.items.levels
             (R.source self.old.items.source) (R.source self.new.items.source) result }
         ensures levels { self.new.items.levels ≡ self.old.items.levels }
-        ensures formats { self.new.formats ≡ self.old.formats }
+        ensures formats { self.new.items.formats ≡ self.old.items.formats }
     {
         let head = match self.scalar() {
             Ok(head) => head,
@@ -123,12 +123,12 @@ impl<R: Source> Deserializer<R> {
     #[inline(always)]
     pub(crate) fn read_signed(&mut self, most: u64, message: &'static str) -> Result<i64>
         requires { most < 2 ^ 63 }
-        ensures read { TakesItem R.refusals (formats_of self.old.formats)
+        ensures read { TakesItem R.refusals (formats_of self.old.items.formats)
             (PassesTags (IsSigned most)) self.old.items.levels
             (R.source self.old.items.source) (R.source self.new.items.source) result }
         ensures bounds { IfOk result (IsWithin most) }
         ensures levels { self.new.items.levels ≡ self.old.items.levels }
-        ensures formats { self.new.formats ≡ self.old.formats }
+        ensures formats { self.new.items.formats ≡ self.old.items.formats }
     {
         let head = match self.scalar() {
             Ok(head) => head,
@@ -145,7 +145,7 @@ impl<R: Source> Deserializer<R> {
     #[inline(never)]
     fn no_number(&mut self, head: Head, message: &'static str) -> Error
         ensures levels { self.new.items.levels ≡ self.old.items.levels }
-        ensures formats { self.new.formats ≡ self.old.formats }
+        ensures formats { self.new.items.formats ≡ self.old.items.formats }
     {
         match head {
             Head::Unsigned(_) | Head::Negative(_) => Error::message(self.items.alloc, message),

@@ -4,7 +4,7 @@ ghost use Rattle.std.specs.Prelude.{◌≡◌, ◌≤◌, OnOk};
 ghost use Rattle.cbor_model.specs.Reader.{item_at};
 ghost use Rattle.cbor_de.specs.Heads.{HeadGives};
 ghost use Rattle.cbor_typed.specs.Opens.{OpensAt, opening_at, item_inside};
-ghost use Rattle.cbor_typed.specs.Takes.{raws};
+ghost use Rattle.cbor_typed.specs.Takes.{formats_of, raws};
 
 use crate::de::Deserializer;
 use cbor_de::{Done, Head};
@@ -18,7 +18,7 @@ impl<R: Source> Deserializer<R> {
             (R.source self.old.items.source) (R.source self.new.items.source)
             self.new.items.refusal result }
         ensures levels { self.new.items.levels ≡ self.old.items.levels }
-        ensures formats { self.new.formats ≡ self.old.formats }
+        ensures formats { self.new.items.formats ≡ self.old.items.formats }
     {
         let first = self.items.byte()?;
         self.items.head(first)
@@ -28,11 +28,12 @@ impl<R: Source> Deserializer<R> {
     #[cycle(open)]
     #[inline(always)]
     pub fn open(&mut self) -> Done<Head>
-        ensures read { OpensAt R.refusals (λ l. item_at (raws l) self.old.items.levels)
+        ensures read { OpensAt R.refusals (formats_of self.old.items.formats)
+            (λ l. item_at (raws (formats_of self.old.items.formats) l) self.old.items.levels)
             (R.source self.old.items.source) (R.source self.new.items.source)
             self.new.items.levels self.new.items.refusal result }
         ensures levels { OnOk result (self.new.items.levels ≤ self.old.items.levels) }
-        ensures formats { self.new.formats ≡ self.old.formats }
+        ensures formats { self.new.items.formats ≡ self.old.items.formats }
     {
         let head = self.head()?;
         if let Head::Tag(_) = head {
@@ -45,11 +46,12 @@ impl<R: Source> Deserializer<R> {
     #[cycle(open)]
     #[inline(never)]
     fn open_inside(&mut self) -> Done<Head>
-        ensures read { OpensAt R.refusals (λ l. item_inside l self.old.items.levels)
+        ensures read { OpensAt R.refusals (formats_of self.old.items.formats)
+            (λ l. item_inside (formats_of self.old.items.formats) l self.old.items.levels)
             (R.source self.old.items.source) (R.source self.new.items.source)
             self.new.items.levels self.new.items.refusal result }
         ensures levels { OnOk result (self.new.items.levels ≤ self.old.items.levels) }
-        ensures formats { self.new.formats ≡ self.old.formats }
+        ensures formats { self.new.items.formats ≡ self.old.items.formats }
     {
         self.items.enter()?;
         self.open()

@@ -17,11 +17,12 @@ impl<R: Source> Deserializer<R> {
     // the item has to be whole with its head.
     #[inline(always)]
     pub(crate) fn scalar(&mut self) -> Done<Head>
-        ensures read { OpensItem R.refusals self.old.items.levels
+        ensures read { OpensItem R.refusals (formats_of self.old.items.formats)
+            self.old.items.levels
             (R.source self.old.items.source) (R.source self.new.items.source)
             self.new.items.refusal result }
         ensures levels { self.new.items.levels ≡ self.old.items.levels }
-        ensures formats { self.new.formats ≡ self.old.formats }
+        ensures formats { self.new.items.formats ≡ self.old.items.formats }
     {
         let levels = self.items.levels;
         let head = self.open();
@@ -34,7 +35,7 @@ impl<R: Source> Deserializer<R> {
     #[inline(never)]
     pub(crate) fn mismatch(&mut self, head: Head, message: &'static str) -> Error
         ensures levels { self.new.items.levels ≡ self.old.items.levels }
-        ensures formats { self.new.formats ≡ self.old.formats }
+        ensures formats { self.new.items.formats ≡ self.old.items.formats }
     {
         if let Head::Break = head {
             let refused = self.items.refuse(ReadErrorCode::UnexpectedCode);
@@ -46,11 +47,12 @@ impl<R: Source> Deserializer<R> {
     /// Reads false or true (RFC 7049, section 2.3).
     #[inline(always)]
     pub fn read_bool(&mut self) -> Result<bool>
-        ensures read { TakesItem R.refusals (formats_of self.old.formats) (PassesTags IsBool)
-            self.old.items.levels (R.source self.old.items.source) (R.source self.new.items.source)
+        ensures read { TakesItem R.refusals (formats_of self.old.items.formats) (PassesTags IsBool)
+            self.old.items.levels
+            (R.source self.old.items.source) (R.source self.new.items.source)
             result }
         ensures levels { self.new.items.levels ≡ self.old.items.levels }
-        ensures formats { self.new.formats ≡ self.old.formats }
+        ensures formats { self.new.items.formats ≡ self.old.items.formats }
     {
         let head = match self.scalar() {
             Ok(head) => head,
@@ -65,11 +67,12 @@ impl<R: Source> Deserializer<R> {
     /// Reads a float of 16, 32 or 64 bits (RFC 7049, section 2.3).
     #[inline(always)]
     pub fn read_float(&mut self) -> Result<Float>
-        ensures read { TakesItem R.refusals (formats_of self.old.formats) (PassesTags IsFloatItem)
-            self.old.items.levels (R.source self.old.items.source) (R.source self.new.items.source)
+        ensures read { TakesItem R.refusals (formats_of self.old.items.formats)
+            (PassesTags IsFloatItem) self.old.items.levels
+            (R.source self.old.items.source) (R.source self.new.items.source)
             result }
         ensures levels { self.new.items.levels ≡ self.old.items.levels }
-        ensures formats { self.new.formats ≡ self.old.formats }
+        ensures formats { self.new.items.formats ≡ self.old.items.formats }
     {
         let head = match self.scalar() {
             Ok(head) => head,
@@ -84,11 +87,12 @@ impl<R: Source> Deserializer<R> {
     /// Reads null or undefined (RFC 7049, section 2.3).
     #[inline(always)]
     pub fn read_unit(&mut self) -> Result<()>
-        ensures read { TakesItem R.refusals (formats_of self.old.formats) (PassesTags IsUnit)
-            self.old.items.levels (R.source self.old.items.source) (R.source self.new.items.source)
+        ensures read { TakesItem R.refusals (formats_of self.old.items.formats) (PassesTags IsUnit)
+            self.old.items.levels
+            (R.source self.old.items.source) (R.source self.new.items.source)
             result }
         ensures levels { self.new.items.levels ≡ self.old.items.levels }
-        ensures formats { self.new.formats ≡ self.old.formats }
+        ensures formats { self.new.items.formats ≡ self.old.items.formats }
     {
         let head = match self.scalar() {
             Ok(head) => head,

@@ -9,7 +9,7 @@ use std::process::Abort;
 use std::test::Fail;
 
 /// The text of a refusal.
-fn refused<T: Drop>(
+pub(crate) fn refused<T: Drop>(
     rt: &impl Abort,
     alloc: Global,
     read: Read<T>,

@@ -12,6 +12,7 @@ pub use Rattle.cbor_model.specs.Refusal
 pub use Rattle.cbor_model.specs.Reader
 pub use Rattle.cbor_model.specs.Laws
 pub use Rattle.cbor_model.specs.Document
+pub use Rattle.cbor_model.specs.Formats
 pub use Rattle.cbor_model.specs.Parts
 pub use Rattle.cbor_io.specs.Error
 pub use Rattle.cbor_io.specs.ReadError

@@ -17,7 +17,9 @@
 #![tactic(auto)]
 
 pub use cbor_de as de;
-pub use cbor_de::{Deserializer, from_mut_slice, from_reader, from_slice, from_slice_with_scratch};
+pub use cbor_de::{
+    Deserializer, Formats, from_mut_slice, from_reader, from_slice, from_slice_with_scratch,
+};
 pub use cbor_io::error;
 pub use cbor_io::error::{Error, Result};
 pub use cbor_ser as ser;

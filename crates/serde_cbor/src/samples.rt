@@ -57,8 +57,10 @@ pub enum Color {
 
 impl Serialize for Color {
     ghost use Rattle.std.specs.Prelude.{codes, pos};
-    ghost use Rattle.cbor_model.specs.Document.{Doc, doc, no_docs, integer, unit_variant, newtype_variant, tuple_variant};
-    ghost use Rattle.serde_cbor.specs.declared.samples.Color.TheVariants.{Blue, Other, Yellow, Alpha};
+    ghost use Rattle.cbor_model.specs.Document.{Doc, doc, no_docs, integer, unit_variant};
+    ghost use Rattle.cbor_model.specs.Document.{newtype_variant, tuple_variant};
+    ghost use Rattle.serde_cbor.specs.declared.samples.Color.TheVariants.{Blue, Other, Yellow};
+    ghost use Rattle.serde_cbor.specs.declared.samples.Color.TheVariants.{Alpha};
 
     ghost document = { elim [
       | Blue ↦ unit_variant 0 (codes "Blue")
@@ -94,7 +96,9 @@ pub enum Bar {
 
 impl Serialize for Bar {
     ghost use Rattle.std.specs.Prelude.{codes, string_bytes};
-    ghost use Rattle.cbor_model.specs.Document.{Doc, doc, no_docs, field, no_fields, bool, integer, text, unit_variant, newtype_variant, tuple_variant, struct_variant};
+    ghost use Rattle.cbor_model.specs.Document.{Doc, doc, no_docs, field, no_fields, bool, integer};
+    ghost use Rattle.cbor_model.specs.Document.{text, unit_variant, newtype_variant, tuple_variant};
+    ghost use Rattle.cbor_model.specs.Document.{struct_variant};
     ghost use Rattle.serde_cbor.specs.declared.samples.Bar.TheVariants.{Empty, Number, Flag, Point};
 
     ghost document = { elim [
@@ -205,7 +209,8 @@ pub enum DataEnum {
 
 impl Serialize for DataEnum {
     ghost use Rattle.std.specs.Prelude.{codes, pos};
-    ghost use Rattle.cbor_model.specs.Document.{Doc, doc, no_docs, bool, integer, newtype_variant, tuple_variant};
+    ghost use Rattle.cbor_model.specs.Document.{Doc, doc, no_docs, bool, integer, newtype_variant};
+    ghost use Rattle.cbor_model.specs.Document.{tuple_variant};
     ghost use Rattle.serde_cbor.specs.declared.samples.DataEnum.TheVariants.{A, B};
 
     ghost document = { elim [
@@ -235,7 +240,8 @@ pub enum TwoVariants {
 impl Serialize for TwoVariants {
     ghost use Rattle.std.specs.Prelude.{codes, pos};
     ghost use Rattle.cbor_model.specs.Document.{Doc, integer, unit_variant, newtype_variant};
-    ghost use Rattle.serde_cbor.specs.declared.samples.TwoVariants.TheVariants.{FirstVariant, SecondVariant};
+    ghost use Rattle.serde_cbor.specs.declared.samples.TwoVariants.TheVariants.{FirstVariant};
+    ghost use Rattle.serde_cbor.specs.declared.samples.TwoVariants.TheVariants.{SecondVariant};
 
     ghost document = { elim [
       | FirstVariant ↦ unit_variant 0 (codes "FirstVariant")

@@ -6,3 +6,12 @@ pub use Rattle.cbor_de.proofs.Steps.{step_same, step_map, step_then}
 pub use Rattle.cbor_de.proofs.Steps.{stopped_then, stopped_map, stopped_at}
 -- a fault before the bytes to come
 pub use Rattle.cbor_de.proofs.Calls.{fault_stops}
+-- what is kept, where it tells a fault
+pub use Rattle.cbor_de.proofs.Calls.{kept_stops}
+-- a refusal of a source
+pub use Rattle.cbor_de.proofs.Calls.{source_stops}
+pub use Rattle.cbor_de.proofs.Steps.{byte_refused, refused_stops, taken_step, kept_step, none_step}
+-- an error of one reading is one of another with the same fault
+pub use Rattle.cbor_de.proofs.Steps.{passed_on}
+-- a fault of a whole input is one of the reference reader
+pub use Rattle.cbor_de.proofs.All.{fault_in}

@@ -35,6 +35,8 @@ pub enum ReadErrorCode {
     TrailingData,
     /// Arrays, maps and tags are nested too deep.
     RecursionLimitExceeded,
+    /// A key of a map is of a format that isn't read.
+    WrongStructFormat,
     /// An allocation failed.
     OutOfMemory,
 }
@@ -108,6 +110,7 @@ impl From<ReadErrorCode> for ErrorCode {
             ReadErrorCode::UnexpectedCode => ErrorCode::UnexpectedCode,
             ReadErrorCode::TrailingData => ErrorCode::TrailingData,
             ReadErrorCode::RecursionLimitExceeded => ErrorCode::RecursionLimitExceeded,
+            ReadErrorCode::WrongStructFormat => ErrorCode::WrongStructFormat,
             ReadErrorCode::OutOfMemory => ErrorCode::OutOfMemory,
         }
     }

@@ -83,6 +83,7 @@ impl<'a> Source for SliceRead<'a> {
         &self.buffer
     }
 
+    #[inline(always)]
     fn read_to_vec(&mut self, n: usize, out: &mut Vec<u8>) -> Result<()> {
         let end = end_of(self.slice, self.taken, n)?;
         out.extend_from_slice(&self.slice[self.taken..end])?;

@@ -55,7 +55,8 @@ impl<'a> SliceWrite<'a> {
 }
 
 impl Write for SliceWrite<'_> {
-    ghost use Rattle.cbor_io.specs.Write.{Wrote, IsFull, written_bytes, unwritten_bytes, slice_reference};
+    ghost use Rattle.cbor_io.specs.Write.{Wrote, IsFull, written_bytes, unwritten_bytes};
+    ghost use Rattle.cbor_io.specs.Write.{slice_reference};
     ghost use Rattle.std.specs.Prelude.{◌≡◌, ◌<◌, ◌∷◌, [], Some, drop, OnOk, OnErr, IfErr};
 
     ghost written = { λ s. Some (written_bytes s) };

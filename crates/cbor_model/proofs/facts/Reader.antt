@@ -8,7 +8,12 @@ pub use Rattle.cbor_model.proofs.Taken.{taken, chunk_taken, next_taken}
 pub use Rattle.cbor_model.proofs.Fuel.{chunks_by-fuel, parts_by-fuel, pair_taken}
 -- bytes that are valid to their end are UTF-8
 pub use Rattle.cbor_model.proofs.Texts.{IsUtf8-from_valid_len}
--- an item at the front of the bytes is read as it is spelled
+-- an item at the front of the bytes, whose keys are of the formats that are read, is read as it is
+-- spelled
 pub use Rattle.cbor_model.proofs.RawReader.{item_found, item_again}
 -- the value of a step that did not fail
 pub use Rattle.cbor_model.proofs.Steps.{bind_ok}
+-- a key begins with a byte that may begin one, and is read as an item
+pub use Rattle.cbor_model.proofs.Steps.{BeginsWith, key_read, key_is}
+-- where all formats are read, each key is of one
+pub use Rattle.cbor_model.proofs.FirstBytes.{all_allowed, all_may_begin}

@@ -3,7 +3,8 @@
 ghost use Rattle.std.specs.Prelude.{◌≡◌, ◌-◌, ◌+◌, ◌^◌, ◌<◌, IfOk, Some, false};
 ghost use Rattle.std.specs.Borrow.{sem, RestsIfErr};
 ghost use Rattle.cbor_model.specs.Document.{text, unit_variant, newtype_variant};
-ghost use Rattle.cbor_model.specs.Parts.{Part, item, both, array_head, map_head, ending, newtype_head, tuple_head, struct_head, field_part};
+ghost use Rattle.cbor_model.specs.Parts.{Part, item, both, array_head, map_head, ending};
+ghost use Rattle.cbor_model.specs.Parts.{newtype_head, tuple_head, struct_head, field_part};
 ghost use Rattle.cbor_ser.specs.Documents.{key_document};
 ghost use Rattle.cbor_ser.specs.Serialized.{Added, Serialized};
 ghost use Rattle.cbor_ser.specs.contracts.serializer.Serializer.{the_row};

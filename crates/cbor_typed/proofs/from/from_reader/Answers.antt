@@ -1,9 +1,10 @@
-use Rattle.std.proofs.Common.{[], None, refl, subst, arith}
+use Rattle.std.proofs.Common.{IfErr, [], None, refl, subst, arith}
 use Rattle.cbor_model.specs.Acceptable.{max_depth}
 use Rattle.cbor_model.specs.Formats.{all_formats}
 use Rattle.cbor_io.specs.Source.{Input, reader_input, reader_refusals}
 use Rattle.cbor_de.specs.Gives.{Tells}
-use Rattle.cbor_typed.specs.Whole.{ReadsAll, from_reader_context}
+use Rattle.cbor_typed.specs.Whole.{ReadsAll, TellsWhole, from_reader_context}
+use Rattle.cbor_typed.proofs.Faults.{fails_or_faults}
 use Rattle.cbor_typed.proofs.Inputs.{found, accepted_or_fault}
 use Rattle.cbor_typed.proofs.from.from_reader.Goals as goal
 
@@ -11,7 +12,7 @@ pub returns-clause-found : goal.returns-clause-found
 returns-clause-found g c = λ bs gave.
     let s = reader_input None (g.R.Read.remaining c.args.reader) [] 0 in
     let reads = g.T.Readable.reads from_reader_context in
-    let given = subst (λ (s : Input). ReadsAll reader_refusals all_formats reads max_depth s c.read_all.result) c.new.ensures c.read_all.ensures in
+    let given = subst (λ (s : Input). ReadsAll reader_refusals all_formats reads max_depth s c.read_all.result) c.new.ensures c.read_all.ensures.read in
     let tells : Tells s bs = record { is = gave.told; short = omega (arith, gave.short) } in
     found reader_refusals all_formats reads s bs tells refl gave.are_bytes c.read_all.result given
 
@@ -19,6 +20,13 @@ pub returns-clause-accepted : goal.returns-clause-accepted
 returns-clause-accepted g c = λ bs gave x spelt.
     let s = reader_input None (g.R.Read.remaining c.args.reader) [] 0 in
     let reads = g.T.Readable.reads from_reader_context in
-    let given = subst (λ (s : Input). ReadsAll reader_refusals all_formats reads max_depth s c.read_all.result) c.new.ensures c.read_all.ensures in
+    let given = subst (λ (s : Input). ReadsAll reader_refusals all_formats reads max_depth s c.read_all.result) c.new.ensures c.read_all.ensures.read in
     let tells : Tells s bs = record { is = gave.told; short = omega (arith, gave.short) } in
     accepted_or_fault reader_refusals all_formats reads s bs tells refl gave.are_bytes x spelt tt c.read_all.result given
+
+pub returns-clause-refused : goal.returns-clause-refused
+returns-clause-refused g c = λ bs gave.
+    let s = reader_input None (g.R.Read.remaining c.args.reader) [] 0 in
+    let tells : Tells s bs = record { is = gave.told; short = omega (arith, gave.short) } in
+    let given = subst (λ (s : Input). IfErr c.read_all.result (TellsWhole g.T.Readable.total reader_refusals all_formats max_depth s)) c.new.ensures c.read_all.ensures.fault in
+    fails_or_faults g.T.Readable.total reader_refusals s bs tells refl c.read_all.result given

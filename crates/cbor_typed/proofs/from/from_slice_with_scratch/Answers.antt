@@ -1,10 +1,11 @@
-use Rattle.std.proofs.Common.{[], length, Some, refl, subst, arith}
+use Rattle.std.proofs.Common.{IfErr, [], length, Some, refl, subst, arith}
 use Rattle.cbor_model.specs.Acceptable.{max_depth}
 use Rattle.cbor_model.specs.Formats.{all_formats}
 use Rattle.cbor_model.specs.Raw.{AreBytes}
 use Rattle.cbor_io.specs.Source.{Input, slice_input, fixed_refusals}
 use Rattle.cbor_de.specs.Gives.{Tells}
-use Rattle.cbor_typed.specs.Whole.{ReadsAll, from_slice_context}
+use Rattle.cbor_typed.specs.Whole.{ReadsAll, TellsWhole, from_slice_context}
+use Rattle.cbor_typed.proofs.Faults.{fails}
 use Rattle.cbor_typed.proofs.Inputs.{found, accepted}
 use Rattle.cbor_typed.proofs.from.from_slice_with_scratch.Goals as goal
 
@@ -14,7 +15,7 @@ returns-clause-found g c =
     let s = slice_input bs 0 [] (Some (length c.args.scratch.now)) in
     let fits : AreBytes bs = λ i. omega (arith, c.type_inv.slice i) in
     let reads = g.T.Readable.reads from_slice_context in
-    let given = subst (λ (s : Input). ReadsAll fixed_refusals all_formats reads max_depth s c.read_all.result) c.new.ensures c.read_all.ensures in
+    let given = subst (λ (s : Input). ReadsAll fixed_refusals all_formats reads max_depth s c.read_all.result) c.new.ensures c.read_all.ensures.read in
     let tells : Tells s bs = record { is = refl; short = omega arith } in
     found fixed_refusals all_formats reads s bs tells refl fits c.read_all.result given
 
@@ -24,6 +25,14 @@ returns-clause-accepted g c = λ x spelt room.
     let s = slice_input bs 0 [] (Some (length c.args.scratch.now)) in
     let fits : AreBytes bs = λ i. omega (arith, c.type_inv.slice i) in
     let reads = g.T.Readable.reads from_slice_context in
-    let given = subst (λ (s : Input). ReadsAll fixed_refusals all_formats reads max_depth s c.read_all.result) c.new.ensures c.read_all.ensures in
+    let given = subst (λ (s : Input). ReadsAll fixed_refusals all_formats reads max_depth s c.read_all.result) c.new.ensures c.read_all.ensures.read in
     let tells : Tells s bs = record { is = refl; short = omega arith } in
     accepted fixed_refusals all_formats reads s bs tells refl fits (λ device. absurd cc) x spelt room c.read_all.result given
+
+pub returns-clause-refused : goal.returns-clause-refused
+returns-clause-refused g c =
+    let bs = c.args.slice.now in
+    let s = slice_input bs 0 [] (Some (length c.args.scratch.now)) in
+    let tells : Tells s bs = record { is = refl; short = omega arith } in
+    let given = subst (λ (s : Input). IfErr c.read_all.result (TellsWhole g.T.Readable.total fixed_refusals all_formats max_depth s)) c.new.ensures c.read_all.ensures.fault in
+    fails g.T.Readable.total fixed_refusals s bs tells refl (λ device. absurd cc) c.read_all.result given

@@ -1,8 +1,19 @@
 use Rattle.cbor_typed.specs.Takes.{context, formats_of}
+use Rattle.cbor_typed.proofs.Faults.{item_whole, end_whole}
 use Rattle.cbor_typed.proofs.Inputs.{all_refused}
 use Rattle.cbor_typed.proofs.from.whole.Goals as goal
 
-pub returns-in-Err : goal.returns-in-Err
-returns-in-Err g c =
-    let reads = g.T.Readable.reads (context c.args.de.now.formats g.R.Source.lends) in
-    all_refused g.R.Source.refusals (formats_of c.args.de.now.formats) reads c.args.de.now.items.levels (g.R.Source.source c.args.de.now.items.source) c.in-Err.e c.in-Err.ensures.read
+pub returns-in-Err-clause-read : goal.returns-in-Err-clause-read
+returns-in-Err-clause-read g c =
+    let reads = g.T.Readable.reads (context c.args.de.now.items.formats g.R.Source.lends) in
+    all_refused g.R.Source.refusals (formats_of c.args.de.now.items.formats) reads c.args.de.now.items.levels (g.R.Source.source c.args.de.now.items.source) c.in-Err.e c.in-Err.ensures.read
+
+pub returns-in-Err-clause-fault : goal.returns-in-Err-clause-fault
+returns-in-Err-clause-fault g c =
+    item_whole g.R.Source.refusals (formats_of c.args.de.now.items.formats) c.args.de.now.items.levels (g.R.Source.source c.args.de.now.items.source) c.in-Err.e g.T.Readable.total c.in-Err.ensures.fault
+
+pub returns-in-Err-end-clause-fault : goal.returns-in-Err-end-clause-fault
+returns-in-Err-end-clause-fault g c =
+    let d = c.args.de.now.items in
+    let reads = g.T.Readable.reads (context d.formats g.R.Source.lends) in
+    end_whole g.R.Source.refusals (formats_of d.formats) d.levels (g.R.Source.source d.source) c.in-Err-end.e g.T.Readable.total reads (g.R.Source.source c.deserialize.new.de.items.source) c.in-Ok.value c.in-Ok.ensures.read c.in-Err-end.ensures.read

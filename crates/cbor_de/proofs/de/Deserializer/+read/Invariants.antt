@@ -2,6 +2,7 @@ use Rattle.std.proofs.Common.{◌≡◌, ◌+◌, ◌-◌, ◌*◌, ◌^◌, map
 use Rattle.cbor_model.specs.Plain.{no_pairs}
 use Rattle.cbor_model.specs.FiniteMap.{put_all}
 use Rattle.cbor_value.specs.View.{view, pair_views}
+use Rattle.cbor_de.specs.Deserializer.{formats_of}
 use Rattle.cbor_de.specs.Gives.{Step}
 use Rattle.cbor_de.specs.Heads.{remaining_of}
 use Rattle.cbor_de.proofs.Items.{SoFar}
@@ -37,8 +38,9 @@ decreases-pairs g l = 8 * l.self.now.levels + 8
 
 abbrev pub invariant-items-items : goal.invariant-items-items
 invariant-items-items g l = record {
-  so_far : Step (g.R.Source.source l.fn.self.source) (g.R.Source.source l.self.source) (SoFar l.fn.self.levels (remaining_of l.fn.remaining) (map view l.items.items) (remaining_of l.remaining));
+  so_far : Step (g.R.Source.source l.fn.self.source) (g.R.Source.source l.self.source) (SoFar (formats_of l.fn.self.formats) l.fn.self.levels (remaining_of l.fn.remaining) (map view l.items.items) (remaining_of l.remaining));
   levels : l.self.levels ≡ l.fn.self.levels;
+  formats : l.self.formats ≡ l.fn.self.formats;
 }
 
 abbrev pub decreases-items-items : goal.decreases-items-items
@@ -46,8 +48,9 @@ decreases-items-items g l = 2 ^ 64 - (g.R.Source.source l.self.source).offset
 
 abbrev pub invariant-pairs-pairs : goal.invariant-pairs-pairs
 invariant-pairs-pairs g l = record {
-  so_far : Step (g.R.Source.source l.fn.self.source) (g.R.Source.source l.self.source) (PairsSoFar l.fn.self.levels (remaining_of l.fn.remaining) (put_all (pair_views l.pairs.items) no_pairs) (remaining_of l.remaining));
+  so_far : Step (g.R.Source.source l.fn.self.source) (g.R.Source.source l.self.source) (PairsSoFar (formats_of l.fn.self.formats) l.fn.self.levels (remaining_of l.fn.remaining) (put_all (pair_views l.pairs.items) no_pairs) (remaining_of l.remaining));
   levels : l.self.levels ≡ l.fn.self.levels;
+  formats : l.self.formats ≡ l.fn.self.formats;
 }
 
 abbrev pub decreases-pairs-pairs : goal.decreases-pairs-pairs

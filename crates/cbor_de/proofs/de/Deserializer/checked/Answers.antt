@@ -4,6 +4,7 @@ use Rattle.std.specs.Str.{IsUtf8}
 use Rattle.std.specs.Str.Lossy.{utf8_valid_len}
 use Rattle.std.proofs.lemmas.Bool.{ne_eqb, eq-eqb}
 use Rattle.std.proofs.lemmas.Str.{utf8_valid_len_le, utf8_valid_len-IsUtf8, IsUtf8-string_bytes}
+use Rattle.cbor_model.specs.Formats.{all_formats}
 use Rattle.cbor_model.specs.Plain.{Val, text}
 use Rattle.cbor_model.specs.Refusal.{invalid_utf8}
 use Rattle.cbor_model.specs.Reader.{Reads, checked_text}
@@ -18,13 +19,13 @@ use Rattle.cbor_de.proofs.Steps.{step_same}
 use Rattle.cbor_de.proofs.de.Deserializer.checked.Goals as goal
 
 -- a text that is UTF-8
-passes : (l : Limits) (b bs : List ℕ) → IsUtf8 b → checked_text (values l) (text b) b bs ≡ Ok (text b, bs)
+passes : (l : Limits) (b bs : List ℕ) → IsUtf8 b → checked_text (values all_formats l) (text b) b bs ≡ Ok (text b, bs)
 unfolding checked_text
 passes l b bs is =
     let all : eqb (utf8_valid_len b) (length b) ≡ true = eq-eqb _ _ (utf8_valid_len-IsUtf8 b is) in
     rw all refl
 
-not_utf8 : (l : Limits) (b bs : List ℕ) → (IsUtf8 b → ⊥) → checked_text (values l) (text b) b bs ≡ Err (record { why = invalid_utf8; left = length bs + (length b - utf8_valid_len b) })
+not_utf8 : (l : Limits) (b bs : List ℕ) → (IsUtf8 b → ⊥) → checked_text (values all_formats l) (text b) b bs ≡ Err (record { why = invalid_utf8; left = length bs + (length b - utf8_valid_len b) })
 unfolding checked_text
 not_utf8 l b bs bad =
     let some : eqb (utf8_valid_len b) (length b) ≡ false = ne_eqb _ _ (λ same. bad (IsUtf8-from_valid_len b (eq-eqb _ _ same))) in
@@ -52,7 +53,7 @@ returns-in-Err-clause-read g c =
     let long : c.len-len.result ≡ length b = search rules in
     let valid : c.valid_up_to-valid.result ≡ utf8_valid_len b = rw (c.valid_up_to-valid.ensures, c.utf8_error.ensures) c.in-Err.ensures.valid_len in
     let bad : IsUtf8 b → ⊥ = λ is. cc (c.in-Err.ensures.succeeds is) in
-    let read : (Limits → List ℕ → Reads Val) = λ l. checked_text (values l) (text b) b in
+    let read : (Limits → List ℕ → Reads Val) = λ l. checked_text (values all_formats l) (text b) b in
     let P : (ReadError → Type 0) = λ e. (why e ≡ InvalidUtf8) × (place e + (c.len-len.result - c.valid_up_to-valid.result) ≡ s.offset) in
     let stops : ((e : ReadError) → P e → Stops g.R.Source.refusals read s e) = λ e h. record {
       told = λ bs tells.

@@ -19,6 +19,7 @@ returns-then-low-eq-INDEFINITE g c =
       read = head_map g.R.Source.refusals (indefinite_head (major_number c.of-major.result)) (head_at c.args.first) _ _ _ _
           (λ bs. first_indefinite c.args.first bs other c.if-low-eq-INDEFINITE.true ∙ ap (λ (k : ℕ). indefinite_head k bs) (sym major)) c.indefinite.ensures.read;
       levels = c.indefinite.ensures.levels;
+      formats = c.indefinite.ensures.formats;
     }
 
 pub returns-in_err-n : goal.returns-in_err-n
@@ -28,42 +29,49 @@ returns-in_err-n g c =
     record {
       read = rw (passed.1, passed.2) (stopped_map g.R.Source.refusals (λ l. number_behind (c.args.first % 32)) (λ l. head_at c.args.first) _ _ _ (λ l bs f is. first_stops c.args.first bs f other c.if-low-eq-INDEFINITE.false is) c.in_err-n.ensures.read);
       levels = c.in_err-n.ensures.levels;
+      formats = c.in_err-n.ensures.formats;
     }
 
 pub returns-in-UnsignedInteger : goal.returns-in-UnsignedInteger
 returns-in-UnsignedInteger g c = record {
   read = step_map _ _ (λ l bs rest. number_behind (c.args.first % 32) bs ≡ Ok (c.in_ok-n.n, rest)) _ (λ l bs rest is. first_is c.args.first bs rest c.in_ok-n.n 0 _ (λ e. absurd cc) c.if-low-eq-INDEFINITE.false c.in-UnsignedInteger.ensures is refl) c.in_ok-n.ensures.read;
   levels = c.in_ok-n.ensures.levels;
+  formats = c.in_ok-n.ensures.formats;
 }
 
 pub returns-in-NegativeInteger : goal.returns-in-NegativeInteger
 returns-in-NegativeInteger g c = record {
   read = step_map _ _ (λ l bs rest. number_behind (c.args.first % 32) bs ≡ Ok (c.in_ok-n.n, rest)) _ (λ l bs rest is. first_is c.args.first bs rest c.in_ok-n.n 1 _ (λ e. absurd cc) c.if-low-eq-INDEFINITE.false c.in-NegativeInteger.ensures is refl) c.in_ok-n.ensures.read;
   levels = c.in_ok-n.ensures.levels;
+  formats = c.in_ok-n.ensures.formats;
 }
 
 pub returns-in-ByteString : goal.returns-in-ByteString
 returns-in-ByteString g c = record {
   read = step_map _ _ (λ l bs rest. number_behind (c.args.first % 32) bs ≡ Ok (c.in_ok-n.n, rest)) _ (λ l bs rest is. first_is c.args.first bs rest c.in_ok-n.n 2 _ (λ e. absurd cc) c.if-low-eq-INDEFINITE.false c.in-ByteString.ensures is refl) c.in_ok-n.ensures.read;
   levels = c.in_ok-n.ensures.levels;
+  formats = c.in_ok-n.ensures.formats;
 }
 
 pub returns-in-TextString : goal.returns-in-TextString
 returns-in-TextString g c = record {
   read = step_map _ _ (λ l bs rest. number_behind (c.args.first % 32) bs ≡ Ok (c.in_ok-n.n, rest)) _ (λ l bs rest is. first_is c.args.first bs rest c.in_ok-n.n 3 _ (λ e. absurd cc) c.if-low-eq-INDEFINITE.false c.in-TextString.ensures is refl) c.in_ok-n.ensures.read;
   levels = c.in_ok-n.ensures.levels;
+  formats = c.in_ok-n.ensures.formats;
 }
 
 pub returns-in-Array : goal.returns-in-Array
 returns-in-Array g c = record {
   read = step_map _ _ (λ l bs rest. number_behind (c.args.first % 32) bs ≡ Ok (c.in_ok-n.n, rest)) _ (λ l bs rest is. first_is c.args.first bs rest c.in_ok-n.n 4 _ (λ e. absurd cc) c.if-low-eq-INDEFINITE.false c.in-Array.ensures is refl) c.in_ok-n.ensures.read;
   levels = c.in_ok-n.ensures.levels;
+  formats = c.in_ok-n.ensures.formats;
 }
 
 pub returns-in-Map : goal.returns-in-Map
 returns-in-Map g c = record {
   read = step_map _ _ (λ l bs rest. number_behind (c.args.first % 32) bs ≡ Ok (c.in_ok-n.n, rest)) _ (λ l bs rest is. first_is c.args.first bs rest c.in_ok-n.n 5 _ (λ e. absurd cc) c.if-low-eq-INDEFINITE.false c.in-Map.ensures is refl) c.in_ok-n.ensures.read;
   levels = c.in_ok-n.ensures.levels;
+  formats = c.in_ok-n.ensures.formats;
 }
 
 pub returns-in_default-major : goal.returns-in_default-major
@@ -73,4 +81,5 @@ returns-in_default-major g c =
     record {
       read = step_map _ _ (λ l bs rest. number_behind (c.args.first % 32) bs ≡ Ok (c.in_ok-n.n, rest)) _ (λ l bs rest is. first_is c.args.first bs rest c.in_ok-n.n 6 _ (λ e. absurd cc) c.if-low-eq-INDEFINITE.false (sym six ∙ c.of-major.ensures) is refl) c.in_ok-n.ensures.read;
       levels = c.in_ok-n.ensures.levels;
+      formats = c.in_ok-n.ensures.formats;
     }

@@ -6,7 +6,7 @@ use Rattle.cbor_typed.proofs.de.Deserializer.read_from_zero.Goals as goal
 
 pub returns-in-Some-clause-read : goal.returns-in-Some-clause-read
 returns-in-Some-clause-read g c =
-    let f = formats_of c.args.self.now.formats in
+    let f = formats_of c.args.self.now.items.formats in
     let s = g.R.Source.source c.args.self.now.items.source in
     let u = c.scalar.new.self.items in
     let n = c.in-Some.number in
@@ -16,4 +16,4 @@ pub returns-in-None-clause-read : goal.returns-in-None-clause-read
 returns-in-None-clause-read g c =
     let s = g.R.Source.source c.args.self.now.items.source in
     let u = c.scalar.new.self.items in
-    number_none g.R.Source.refusals (formats_of c.args.self.now.formats) (IsFromZero c.args.most) c.args.self.now.items.levels s (g.R.Source.source u.source) u.refusal c.in-Ok.head c.no_number.result (λ n. pos n) (λ r n h. h.0) (λ r n h is. c.in-None.ensures n is h.1) c.in-Ok.ensures.read
+    number_none g.R.Source.refusals (formats_of c.args.self.now.items.formats) (IsFromZero c.args.most) c.args.self.now.items.levels s (g.R.Source.source u.source) u.refusal c.in-Ok.head c.no_number.result (λ n. pos n) (λ r n h. h.0) (λ r n h is. c.in-None.ensures n is h.1) c.in-Ok.ensures.read

@@ -13,10 +13,10 @@ returns-in-Null-clause-read g c =
     let u = c.scalar.new.self.items in
     let t = g.R.Source.source u.source in
     let levels = c.args.self.now.items.levels in
-    let taken = λ (h : Head). λ (is : c.in-Ok.head ≡ h). subst (λ (h : Head). OpensItem g.R.Source.refusals levels s t u.refusal (Ok h)) is c.in-Ok.ensures.read in
+    let taken = λ (h : Head). λ (is : c.in-Ok.head ≡ h). subst (λ (h : Head). OpensItem g.R.Source.refusals (formats_of c.args.self.now.items.formats) levels s t u.refusal (Ok h)) is c.in-Ok.ensures.read in
     elim c.in-Null.is [
-      | inl is ↦ null_read g.R.Source.refusals (formats_of c.args.self.now.formats) levels s t u.refusal (taken head.Null is)
-      | inr is ↦ undefined_read g.R.Source.refusals (formats_of c.args.self.now.formats) levels s t u.refusal (taken head.Undefined is)
+      | inl is ↦ null_read g.R.Source.refusals (formats_of c.args.self.now.items.formats) levels s t u.refusal (taken head.Null is)
+      | inr is ↦ undefined_read g.R.Source.refusals (formats_of c.args.self.now.items.formats) levels s t u.refusal (taken head.Undefined is)
     ]
 
 pub returns-in_default : goal.returns-in_default
@@ -24,7 +24,7 @@ returns-in_default g c =
     let s = g.R.Source.source c.args.self.now.items.source in
     let u = c.scalar.new.self.items in
     record {
-      read = none_scalar g.R.Source.refusals (formats_of c.args.self.now.formats) IsUnit c.args.self.now.items.levels s (g.R.Source.source u.source) u.refusal c.in-Ok.head c.mismatch.result (not_unit c.in-Ok.head c.in_default.not-Null c.in_default.not-Undefined) c.in-Ok.ensures.read;
+      read = none_scalar g.R.Source.refusals (formats_of c.args.self.now.items.formats) IsUnit c.args.self.now.items.levels s (g.R.Source.source u.source) u.refusal c.in-Ok.head c.mismatch.result (not_unit c.in-Ok.head c.in_default.not-Null c.in_default.not-Undefined) c.in-Ok.ensures.read;
       levels = c.mismatch.ensures.levels ∙ c.in-Ok.ensures.levels;
       formats = c.mismatch.ensures.formats ∙ c.in-Ok.ensures.formats;
     }

@@ -7,7 +7,7 @@ use Rattle.cbor_de.specs.Heads.{joined_of}
 use Rattle.cbor_de.specs.Strings.{content}
 use Rattle.cbor_de.proofs.Steps.{step_map, step_then, stopped_then, none_step}
 use Rattle.cbor_de.proofs.Chunks.{with_bytes, BytesSoFar, break_ends, chunk_goes_on, byte_faulted, chunk_faulted}
-use Rattle.cbor_de.proofs.de.Deserializer.chunks.Goals as goal
+use Rattle.cbor_de.proofs.de.Deserializer.join.Goals as goal
 
 abbrev all : ℕ → Limits → List ℕ → Reads (List ℕ)
 all major l bs = joined_of (chunks_at (exceeds_most l.room) 0 major bs)
@@ -28,6 +28,7 @@ chunks-init g c =
       so_far = step_map s t (λ l bs rest. bs ≡ rest) (λ l bs rest. BytesSoFar (exceeds_most l.room) major t.buffer bs rest) (λ l bs rest same. rw c.clear_buffer.ensures.empty (ap (λ (x : List ℕ). with_bytes [] (chunks_at (exceeds_most l.room) 0 major x)) (sym same))) (none_step s t b.bytes b.count b.room);
       counted = omega (arith, ap length c.clear_buffer.ensures.empty);
       levels = refl;
+      formats = refl;
     }
 
 pub returns-in_err-first-clause-read : goal.returns-in_err-first-clause-read
@@ -67,16 +68,17 @@ chunks-preserved g c =
           (λ l bs mid after h is. rw buffer (chunk_goes_on (exceeds_most l.room) major s.buffer got.some bs h.rest mid after b c.if-first.false h.first (ap (λ (k : ℕ). content (chunk_at (λ n. exceeds_most l.room (k + n)) major b mid)) (sym same) ∙ is) h.so_far)) begun got.step;
       counted = omega (arith, ap length buffer, length-append s.buffer got.some, c.chunks.invariant.counted, got.counted, c.in_ok-first.ensures.taken.further);
       levels = c.in_ok-chunk.ensures.levels ∙ c.in_ok-first.ensures.levels ∙ c.chunks.invariant.levels;
+      formats = c.in_ok-chunk.ensures.formats ∙ c.in_ok-first.ensures.formats ∙ c.chunks.invariant.formats;
     }
 
 pub chunks-smaller : goal.chunks-smaller
 chunks-smaller g c = omega (arith, c.in_ok-chunk.ensures.read.counted, c.in_ok-first.ensures.taken.further, c.in_ok-first.ensures.taken.counted)
 
-pub returns-clause-read : goal.returns-clause-read
-returns-clause-read g c =
+pub returns-then-first-clause-read : goal.returns-then-first-clause-read
+returns-then-first-clause-read g c =
     let s = g.R.Source.source c.chunks.self.source in
     let t = g.R.Source.source c.byte.new.self.source in
     let major = major_number c.args.major in
     let kept : t.buffer ≡ s.buffer = c.in_ok-first.ensures.buffer in
     step_then _ s t (λ l bs rest. BytesSoFar (exceeds_most l.room) major s.buffer bs rest) (λ l rest after. byte_at rest ≡ Ok (c.in_ok-first.first, after)) _
-    (λ l bs rest after so_far is. break_ends (exceeds_most l.room) major s.buffer bs rest after (subst (λ (b : ℕ). byte_at rest ≡ Ok (b, after)) c.if-first.true is) so_far ∙ ap (λ (x : List ℕ). Ok (x, after)) (sym kept ∙ sym (c.in_ok-joined.ensures.items ∙ c.buffer.ensures))) c.chunks.invariant.so_far c.in_ok-first.ensures.read
+    (λ l bs rest after so_far is. break_ends (exceeds_most l.room) major s.buffer bs rest after (subst (λ (b : ℕ). byte_at rest ≡ Ok (b, after)) c.if-first.true is) so_far ∙ ap (λ (x : List ℕ). Ok (x, after)) (sym kept)) c.chunks.invariant.so_far c.in_ok-first.ensures.read

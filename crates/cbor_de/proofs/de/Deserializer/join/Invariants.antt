@@ -3,7 +3,7 @@ use Rattle.cbor_model.specs.Reader.{exceeds_most}
 use Rattle.cbor_io.specs.Head.{major_number}
 use Rattle.cbor_de.specs.Gives.{Step}
 use Rattle.cbor_de.proofs.Chunks.{BytesSoFar}
-use Rattle.cbor_de.proofs.de.Deserializer.chunks.Given as goal
+use Rattle.cbor_de.proofs.de.Deserializer.join.Given as goal
 
 abbrev pub invariant-chunks : goal.invariant-chunks
 invariant-chunks g l =
@@ -12,6 +12,7 @@ invariant-chunks g l =
       so_far : Step (g.R.Source.source l.fn.self.source) s (λ limits bs rest. BytesSoFar (exceeds_most limits.room) (major_number l.major) s.buffer bs rest);
       counted : length s.buffer ≤ s.offset;
       levels : l.self.levels ≡ l.fn.self.levels;
+      formats : l.self.formats ≡ l.fn.self.formats;
     }
 
 abbrev pub decreases-chunks : goal.decreases-chunks

@@ -1,0 +1,76 @@
+use Rattle.std.proofs.Common.{rules, refl}
+use Rattle.std.proofs.lemmas.Result.{err_from_is_err_and}
+use Rattle.cbor_model.specs.Raw.{Raws}
+use Rattle.cbor_io.specs.Error.{code_of, offset_of}
+use Rattle.cbor_de.specs.declared.formats.Formats.{Formats}
+use Rattle.cbor_typed.specs.Arrays.{FirstThen, AreNone}
+use Rattle.cbor_typed.specs.Takes.{context, formats_of}
+use Rattle.cbor_typed.proofs.Sequences.{MustFollow}
+use Rattle.cbor_typed.proofs.Tuples.{Empty, Then, one_more, none_all, then_all, empty_rest, then_rest, first_follows}
+use Rattle.cbor_typed.proofs.WholeArrays.{end_step, end_lacks, loop_begins, part_goes_on, part_lacks, array_takes_to, array_refused, no_array_read}
+use Rattle.cbor_typed.proofs.types.tuples.Tuple1Deserialize.deserialize.Goals as goal
+
+pub returns-in_err-access-clause-read : goal.returns-in_err-access-clause-read
+returns-in_err-access-clause-read g c =
+    let passed = err_from_is_err_and c.from_residual.result c.from_residual.ensures.1 in
+    let old = c.args.de.now in
+    let ra = λ (f : Formats). g.A.Readable.reads (context f g.R.Source.lends) in
+    let items = λ (rs : Raws) (t : record { 0 : g.row.A.Denot }). FirstThen (ra old.items.formats) t.0 AreNone rs in
+    rw (passed.1, passed.2) (no_array_read items g.R.Source.refusals (formats_of old.items.formats) old.items.levels (g.R.Source.source old.items.source) _ c.in_err-access.ensures.refused)
+
+pub returns-in_err-a-clause-read : goal.returns-in_err-a-clause-read
+returns-in_err-a-clause-read g c =
+    let passed = err_from_is_err_and c.from_residual-in_err-a.result c.from_residual-in_err-a.ensures.1 in
+    let old = c.args.de.now in
+    let first = c.in_ok-access.access.de.now in
+    let all = c.in_ok-access.access.remaining in
+    let start = g.R.Source.source old.items.source in
+    let s0 = g.R.Source.source first.items.source in
+    let ra = λ (f : Formats). g.A.Readable.reads (context f g.R.Source.lends) in
+    let items = λ (rs : Raws) (t : record { 0 : g.row.A.Denot }). FirstThen (ra old.items.formats) t.0 AreNone rs in
+    let so0 = loop_begins s0 Empty old.items.formats old.items.formats first.items.levels first.items.levels refl refl all tt in
+    let e = c.in_err-a.field-0.0 in
+    rw (passed.1, passed.2) (array_refused s0 Empty old.items.formats first.items.formats first.items.levels first.items.levels c.in_ok-access.ensures.formats refl all items old.items.levels start g.R.Source.refusals (code_of e) (offset_of e) c.in_ok-access.ensures.head
+    (part_lacks s0 Empty old.items.formats first.items.formats first.items.levels first.items.levels c.in_ok-access.ensures.formats refl all ra all s0 items g.R.Source.refusals (code_of e) (offset_of e)
+    (λ front more t h means. empty_rest (MustFollow (ra old.items.formats)) (FirstThen (ra old.items.formats) t.0 AreNone) (λ more means. first_follows (ra old.items.formats) t.0 AreNone more means) front more h means) so0 c.in_err-a.ensures.read))
+
+pub returns-in_err-end-clause-read : goal.returns-in_err-end-clause-read
+returns-in_err-end-clause-read g c =
+    let passed = err_from_is_err_and c.from_residual-in_err-end.result c.from_residual-in_err-end.ensures.1 in
+    let old = c.args.de.now in
+    let first = c.in_ok-access.access.de.now in
+    let now = c.part.new.self.de.now in
+    let all = c.in_ok-access.access.remaining in
+    let start = g.R.Source.source old.items.source in
+    let s0 = g.R.Source.source first.items.source in
+    let s1 = g.R.Source.source now.items.source in
+    let ra = λ (f : Formats). g.A.Readable.reads (context f g.R.Source.lends) in
+    let items = λ (rs : Raws) (t : record { 0 : g.row.A.Denot }). FirstThen (ra old.items.formats) t.0 AreNone rs in
+    let so0 = loop_begins s0 Empty old.items.formats old.items.formats first.items.levels first.items.levels refl refl all tt in
+    let read = Then (ra old.items.formats) c.in_ok-a.a Empty in
+    let so1 = part_goes_on s0 Empty old.items.formats first.items.formats first.items.levels first.items.levels c.in_ok-access.ensures.formats refl all
+    ra all s0 read c.part.new.self.remaining s1 c.in_ok-a.a (λ front r h m. one_more (ra old.items.formats) c.in_ok-a.a r m front h) so0 c.in_ok-a.ensures.read in
+    let e = c.in_err-end.field-0.0 in
+    rw (passed.1, passed.2) (array_refused s0 read old.items.formats first.items.formats first.items.levels first.items.levels c.in_ok-access.ensures.formats refl all items old.items.levels start g.R.Source.refusals (code_of e) (offset_of e) c.in_ok-access.ensures.head
+    (end_lacks s0 read old.items.formats first.items.formats first.items.levels first.items.levels c.in_ok-access.ensures.formats refl all items g.R.Source.refusals c.part.new.self.remaining s1 (g.R.Source.source c.end.new.self.0.items.source) e
+    (λ front more t h means. then_rest (ra old.items.formats) c.in_ok-a.a t.0 Empty AreNone AreNone (empty_rest AreNone AreNone (λ more means. means)) front more h means) so1 c.in_err-end.ensures.read))
+
+pub returns-clause-read : goal.returns-clause-read
+returns-clause-read g c =
+    let old = c.args.de.now in
+    let first = c.in_ok-access.access.de.now in
+    let now = c.part.new.self.de.now in
+    let all = c.in_ok-access.access.remaining in
+    let start = g.R.Source.source old.items.source in
+    let s0 = g.R.Source.source first.items.source in
+    let s1 = g.R.Source.source now.items.source in
+    let w = g.R.Source.source c.end.new.self.0.items.source in
+    let ra = λ (f : Formats). g.A.Readable.reads (context f g.R.Source.lends) in
+    let items = λ (rs : Raws) (t : record { 0 : g.row.A.Denot }). FirstThen (ra old.items.formats) t.0 AreNone rs in
+    let so0 = loop_begins s0 Empty old.items.formats old.items.formats first.items.levels first.items.levels refl refl all tt in
+    let read = Then (ra old.items.formats) c.in_ok-a.a Empty in
+    let so1 = part_goes_on s0 Empty old.items.formats first.items.formats first.items.levels first.items.levels c.in_ok-access.ensures.formats refl all
+    ra all s0 read c.part.new.self.remaining s1 c.in_ok-a.a (λ front r h m. one_more (ra old.items.formats) c.in_ok-a.a r m front h) so0 c.in_ok-a.ensures.read in
+    array_takes_to s0 read old.items.formats first.items.formats first.items.levels first.items.levels c.in_ok-access.ensures.formats refl all items old.items.levels start s1 w _ c.part.new.self.remaining (record { 0 = c.in_ok-a.a })
+    (λ front h. then_all (ra old.items.formats) c.in_ok-a.a Empty AreNone none_all front h)
+    c.in_ok-access.ensures.head so1 (end_step c.part.new.self.remaining s1 w c.in_ok-end.ensures.read) (search rules)

@@ -1,0 +1,251 @@
+//! Strings that are lent.
+
+ghost use Rattle.std.specs.Prelude.{◌≡◌, ◌≤◌, length, Ok};
+ghost use types.Logic.{sem};
+ghost use Rattle.std.specs.Io.BufRead.{Rests};
+ghost use Rattle.cbor_io.specs.Source.{part_bytes};
+ghost use Rattle.cbor_de.specs.declared.head.Head.TheVariants.{Bytes, Text};
+ghost use Rattle.cbor_typed.specs.Strings.{BytesOf, IsBadAt, IsKept, IsMadeOf, Lacks, Lent, LentText, LendsString, LendsText, PartText, Utf8Of};
+ghost use Rattle.cbor_typed.specs.Takes.{context};
+ghost use Rattle.cbor_de.specs.contracts.de.Deserializer.{the_row};
+ghost use Rattle.cbor_typed.specs.contracts.de.Deserializer.{the_row as typed_row};
+
+use crate::de::Deserializer;
+use cbor_de::{Deserializer as Items, Head, Refused};
+use cbor_io::error::Error;
+use cbor_io::head::Major;
+use cbor_io::read::{EitherLifetime, Read, ReadError, ReadErrorCode, Source};
+
+/// A text that is lent: by the source until its next call, or by the input for its whole life.
+#[derive(Debug, Drop)]
+pub enum EitherStr<'short, 'long> {
+    /// Lent by the source.
+    Short(&'short str),
+    /// Lent by the input.
+    Long(&'long str),
+}
+
+/// Why no string was lent. It owns no memory, so that it can be answered in place of what a source
+/// lends.
+#[derive(Debug, Drop)]
+pub enum Unread {
+    /// Reading stopped.
+    Stopped(ReadError),
+    /// An item of another kind is there.
+    Other,
+}
+
+impl From<ReadError> for Unread {
+    ghost use Rattle.std.specs.Prelude.{◌≡◌};
+    ghost use Rattle.cbor_typed.specs.declared.lent.Unread.TheVariants.{Stopped};
+
+    ghost from_gives = { λ e u. u ≡ Stopped e };
+
+    fn from(e: ReadError) -> Unread {
+        Unread::Stopped(e)
+    }
+}
+
+/// What lends answers.
+type Result<T> = std::result::Result<T, Unread>;
+
+// Hands a part on.
+#[inline(always)]
+fn given<'a, 'de>(part: EitherLifetime<'a, 'de>) -> Result<EitherLifetime<'a, 'de>>
+    ensures { result ≡ Ok part.entry }
+{
+    Ok(part)
+}
+
+// The text of a part that ends at this offset.
+#[inline(always)]
+fn text_of<'a, 'de>(part: EitherLifetime<'a, 'de>, end: u64) -> Result<EitherStr<'a, 'de>>
+    requires { length (part_bytes part) ≤ end }
+    ensures { PartText part.entry end result }
+{
+    match part {
+        EitherLifetime::Short(bytes) => match str::from_utf8(bytes) {
+            Ok(text) => Ok(EitherStr::Short(text)),
+            Err(e) => Err(not_utf8(end, bytes.len() - e.valid_up_to())),
+        },
+        EitherLifetime::Long(bytes) => match str::from_utf8(bytes) {
+            Ok(text) => Ok(EitherStr::Long(text)),
+            Err(e) => Err(not_utf8(end, bytes.len() - e.valid_up_to())),
+        },
+    }
+}
+
+// The refusal of a text that isn't UTF-8, so many bytes before this offset.
+#[cold]
+#[inline(never)]
+fn not_utf8(end: u64, back: usize) -> Unread
+    requires { back ≤ end }
+    ensures { IsBadAt end back result }
+{
+    Unread::Stopped(ReadError::at(ReadErrorCode::InvalidUtf8, end - back as u64))
+}
+
+// The refusal that was kept.
+#[cold]
+#[inline(never)]
+fn stopped<R: Source>(items: &mut Items<R>, refused: Refused) -> ReadError
+    ensures kept { IsKept items.old.refusal refused result }
+    ensures source { items.new.source ≡ items.old.source }
+    ensures levels { items.new.levels ≡ items.old.levels }
+    ensures formats { items.new.formats ≡ items.old.formats }
+{
+    match (refused, items.refusal.take()) {
+        (Refused::Kept, Some(refusal)) => refusal,
+        _ => ReadError::at(ReadErrorCode::OutOfMemory, 0),
+    }
+}
+
+// Takes the bytes of a byte string behind its head.
+#[inline(always)]
+fn bytes_part<'a, 'de, R: Read<'de>>(
+    items: &'a mut Items<R>,
+    n: Option<u64>,
+) -> Result<EitherLifetime<'a, 'de>>
+    ensures* after_borrow { sem 𝓛 (Rests (the_row R.row) items.entry (λ new.
+        (new.levels ≡ items.old.levels) × (new.formats ≡ items.old.formats)
+        × Lent R.refusals R.lends (Bytes n)
+        (R.source items.old.source) (R.source new.source) result)) }
+{
+    match n {
+        Some(n) => given(items.source.read(n as usize)?),
+        None => {
+            if let Err(refused) = items.join(Major::ByteString) {
+                return Err(Unread::Stopped(stopped(items, refused)));
+            }
+            given(items.source.take_buffer())
+        }
+    }
+}
+
+// Takes the bytes of a text behind its head.
+#[inline(always)]
+fn text_part<'a, 'de, R: Read<'de>>(
+    items: &'a mut Items<R>,
+    n: Option<u64>,
+) -> Result<EitherStr<'a, 'de>>
+    ensures* after_borrow { sem 𝓛 (Rests (the_row R.row) items.entry (λ new.
+        (new.levels ≡ items.old.levels) × (new.formats ≡ items.old.formats)
+        × LentText R.refusals R.lends (Text n)
+        (R.source items.old.source) (R.source new.source) result)) }
+{
+    match n {
+        Some(n) => {
+            if !items.has_room(n) {
+                let refused = items.refuse(ReadErrorCode::LengthOutOfRange);
+                return Err(Unread::Stopped(stopped(items, refused)));
+            }
+            let end = items.source.offset() + n;
+            text_of(items.source.read(n as usize)?, end)
+        }
+        None => {
+            match items.join(Major::TextString) {
+                Ok(()) => {}
+                Err(refused) => return Err(Unread::Stopped(stopped(items, refused))),
+            }
+            let end = items.source.offset();
+            text_of(items.source.take_buffer(), end)
+        }
+    }
+}
+
+// The text of a part, if it is UTF-8.
+#[inline(always)]
+fn utf8<'a, 'de>(part: EitherLifetime<'a, 'de>) -> Result<EitherStr<'a, 'de>>
+    ensures { Utf8Of part.entry result }
+{
+    match part {
+        EitherLifetime::Short(bytes) => match str::from_utf8(bytes) {
+            Ok(text) => Ok(EitherStr::Short(text)),
+            Err(_) => Err(Unread::Other),
+        },
+        EitherLifetime::Long(bytes) => match str::from_utf8(bytes) {
+            Ok(text) => Ok(EitherStr::Long(text)),
+            Err(_) => Err(Unread::Other),
+        },
+    }
+}
+
+// The bytes of a text.
+#[inline(always)]
+fn bytes_of<'a, 'de>(text: EitherStr<'a, 'de>) -> Result<EitherLifetime<'a, 'de>>
+    ensures { BytesOf text.entry result }
+{
+    match text {
+        EitherStr::Short(text) => Ok(EitherLifetime::Short(text.as_bytes())),
+        EitherStr::Long(text) => Ok(EitherLifetime::Long(text.as_bytes())),
+    }
+}
+
+impl<R: Source> Deserializer<R> {
+    // The refusal of an item of another kind, behind its head.
+    #[cold]
+    #[inline(never)]
+    fn other(&mut self, head: Head) -> Unread
+        ensures levels { self.new.items.levels ≡ self.old.items.levels }
+        ensures formats { self.new.items.formats ≡ self.old.items.formats }
+    {
+        if let Head::Break = head {
+            let refused = self.items.refuse(ReadErrorCode::UnexpectedCode);
+            return Unread::Stopped(stopped(&mut self.items, refused));
+        }
+        Unread::Other
+    }
+
+    /// The error of a string that wasn't lent; the message is for an item of another kind.
+    #[cold]
+    #[inline(never)]
+    pub fn unread(&mut self, why: Unread, message: &'static str) -> Error
+        ensures made { IsMadeOf why result }
+        ensures source { self.new.items.source ≡ self.old.items.source }
+        ensures levels { self.new.items.levels ≡ self.old.items.levels }
+        ensures formats { self.new.items.formats ≡ self.old.items.formats }
+    {
+        match why {
+            Unread::Stopped(refusal) => Error::from(refusal),
+            Unread::Other => Error::message(self.items.alloc, message),
+        }
+    }
+}
+
+impl<'de, R: Read<'de>> Deserializer<R> {
+    /// Lends a text, or a byte string that is UTF-8.
+    pub fn lend_text<'a>(&'a mut self) -> Result<EitherStr<'a, 'de>>
+        ensures* after_borrow { sem 𝓛 (Rests (typed_row R.row) self.entry (λ new.
+            (new.items.levels ≡ self.old.items.levels) × (new.items.formats ≡ self.old.items.formats)
+            × LendsText R.refusals (context self.old.items.formats R.lends) self.old.items.levels
+            (R.source self.old.items.source) (R.source new.items.source) result)) }
+    {
+        let head = match self.scalar() {
+            Ok(head) => head,
+            Err(refused) => return Err(Unread::Stopped(stopped(&mut self.items, refused))),
+        };
+        match head {
+            Head::Text(n) => text_part(&mut self.items, n),
+            Head::Bytes(n) => utf8(bytes_part(&mut self.items, n)?),
+            _ => Err(self.other(head)),
+        }
+    }
+
+    /// Lends the bytes of a byte string, or of a text.
+    pub fn lend_bytes<'a>(&'a mut self) -> Result<EitherLifetime<'a, 'de>>
+        ensures* after_borrow { sem 𝓛 (Rests (typed_row R.row) self.entry (λ new.
+            (new.items.levels ≡ self.old.items.levels) × (new.items.formats ≡ self.old.items.formats)
+            × LendsString R.refusals (context self.old.items.formats R.lends) self.old.items.levels
+            (R.source self.old.items.source) (R.source new.items.source) result)) }
+    {
+        let head = match self.scalar() {
+            Ok(head) => head,
+            Err(refused) => return Err(Unread::Stopped(stopped(&mut self.items, refused))),
+        };
+        match head {
+            Head::Bytes(n) => bytes_part(&mut self.items, n),
+            Head::Text(n) => bytes_of(text_part(&mut self.items, n)?),
+            _ => Err(self.other(head)),
+        }
+    }
+}

@@ -1,0 +1,287 @@
+//! Arrays, one item after the other (RFC 7049, section 2.1, major type 4).
+
+ghost use Rattle.std.specs.Prelude.{◌≡◌, ◌+◌, ◌<◌, IfOk, IfErr, MatchOption, OnErr};
+ghost use Rattle.cbor_de.specs.declared.cursor.Remaining.TheVariants.{Counted};
+ghost use Rattle.std.specs.Borrow.{sem, RestsIfErr};
+ghost use Rattle.cbor_model.specs.Reader.{item_at};
+ghost use Rattle.cbor_de.specs.Cursor.{Counts};
+ghost use Rattle.cbor_de.specs.Gives.{Step};
+ghost use Rattle.cbor_typed.specs.Accesses.{IsArrayHead, RefusesArray, TakesHead, TakesNext};
+ghost use Rattle.cbor_typed.specs.Accesses.{TakesMore, TakesPart, TakesEnd, turns, size_of};
+ghost use Rattle.cbor_typed.specs.Takes.{context, formats_of, raws};
+ghost use Rattle.cbor_typed.specs.contracts.de.Deserializer.{the_row};
+
+use crate::de::Deserializer;
+use crate::deserialize::Deserialize;
+use cbor_de::{Collection, Head, Remaining};
+use cbor_io::error::{Error, Result};
+use cbor_io::read::{Read, ReadErrorCode, Source};
+
+impl<R: Source> Deserializer<R> {
+    /// Takes the tags and the head of an array, and goes one level in for its items.
+    ///
+    /// An item of another kind is refused with `invalid type: expected an array`, and an array for
+    /// which no level is left with `RecursionLimitExceeded`.
+    pub fn array<'a>(&'a mut self) -> Result<SeqAccess<'a, R>>
+        ensures* rests { sem 𝓛 (RestsIfErr (the_row R.row) self.entry (λ s. s.de.ghost_name) result
+            (λ last. (last.items.levels ≡ self.old.items.levels)
+            × (last.items.formats ≡ self.old.items.formats))) }
+        ensures same_reference { IfOk result (λ s. s.de.ghost_name ≡ self.entry.ghost_name) }
+        ensures head { IfOk result (λ s. Step (R.source self.old.items.source)
+            (R.source s.de.now.items.source)
+            (λ l bs rest. IsArrayHead (formats_of self.old.items.formats) l
+            (item_at (raws (formats_of self.old.items.formats) l) self.old.items.levels bs)
+            s.de.now.items.levels s.remaining rest)) }
+        ensures refused { IfErr result (RefusesArray R.refusals (formats_of self.old.items.formats)
+            self.old.items.levels (R.source self.old.items.source)) }
+        ensures outer { IfOk result (λ s. s.outer ≡ self.old.items.levels) }
+        ensures inside { IfOk result (λ s. s.de.now.items.levels < s.outer) }
+        ensures formats { IfOk result (λ s. s.de.now.items.formats ≡ self.old.items.formats) }
+    {
+        let outer = self.items.levels;
+        let remaining = self.array_head()?;
+        Ok(SeqAccess {
+            de: self,
+            remaining,
+            outer,
+        })
+    }
+
+    // Takes the tags and the head of an array, and goes one level in.
+    fn array_head(&mut self) -> Result<Remaining>
+        ensures read { TakesHead R.refusals (formats_of self.old.items.formats) self.old.items.levels
+            (R.source self.old.items.source) (R.source self.new.items.source)
+            self.new.items.levels result }
+        ensures inside { IfOk result (λ r. self.new.items.levels < self.old.items.levels) }
+        ensures outer { OnErr result (self.new.items.levels ≡ self.old.items.levels) }
+        ensures formats { self.new.items.formats ≡ self.old.items.formats }
+    {
+        let outer = self.items.levels;
+        let head = match self.open() {
+            Ok(head) => head,
+            Err(refused) => {
+                self.items.levels = outer;
+                return Err(self.items.error(refused));
+            }
+        };
+        let Head::Array(remaining) = head else {
+            self.items.levels = outer;
+            return Err(self.mismatch(head, "invalid type: expected an array"));
+        };
+        match self.items.enter() {
+            Ok(()) => Ok(remaining),
+            Err(refused) => {
+                self.items.levels = outer;
+                Err(self.items.error(refused))
+            }
+        }
+    }
+
+    // Whether another item of an array comes, of which so much remains; its first byte stays.
+    #[inline(always)]
+    fn more_items(&mut self, remaining: &mut Remaining) -> Result<bool>
+        ensures read { TakesMore R.refusals remaining.old remaining.new
+            (R.source self.old.items.source) (R.source self.new.items.source) result }
+        ensures counts { IfOk result (λ more. Counts remaining.old more remaining.new) }
+        ensures levels { self.new.items.levels ≡ self.old.items.levels }
+        ensures formats { self.new.items.formats ≡ self.old.items.formats }
+    {
+        match self.items.more(remaining, Collection::Array) {
+            Ok(more) => Ok(more),
+            Err(refused) => Err(self.items.error(refused)),
+        }
+    }
+
+    // Takes the end of an array of which so much remains.
+    fn end_array(&mut self, remaining: Remaining) -> Result<()>
+        ensures read { TakesEnd R.refusals remaining
+            (R.source self.old.items.source) (R.source self.new.items.source) result }
+        ensures levels { self.new.items.levels ≡ self.old.items.levels }
+        ensures formats { self.new.items.formats ≡ self.old.items.formats }
+    {
+        match self.items.end_of(remaining, Collection::Array) {
+            Ok(()) => Ok(()),
+            Err(refused) => Err(self.items.error(refused)),
+        }
+    }
+
+    // The error of an array that has too few items.
+    #[cold]
+    #[inline(never)]
+    fn invalid_length(&self, found: usize, expected: usize) -> Error {
+        let alloc = self.items.alloc;
+        match format!(in alloc; "invalid length {found}, expected {expected}") {
+            Ok(text) => Error::message(alloc, text),
+            Err(e) => Error::from(e),
+        }
+    }
+
+    // The error of an item that took no byte, where no count ends the array.
+    #[cold]
+    #[inline(never)]
+    fn no_item(&mut self) -> Error
+        ensures levels { self.new.items.levels ≡ self.old.items.levels }
+        ensures formats { self.new.items.formats ≡ self.old.items.formats }
+    {
+        let refused = self.items.refuse(ReadErrorCode::UnexpectedCode);
+        self.items.error(refused)
+    }
+}
+
+/// The items of an array that are still to be read.
+///
+/// It holds the level that the array took. [`end`](SeqAccess::end), [`refuse`](SeqAccess::refuse)
+/// and each call that answers Err leave that level. After an Err no call follows.
+///
+/// ```rust
+/// let mut de = Deserializer::new(alloc, SliceRead::new(alloc, b"\x82\x01\x02"));
+/// let mut items = de.array()?;
+/// assert_eq!(rt; items.size_hint(), Some(2));
+/// assert_eq!(rt; items.next_element::<u8>()?, Some(1));
+/// assert_eq!(rt; items.next_element::<u8>()?, Some(2));
+/// assert_eq!(rt; items.next_element::<u8>()?, None);
+/// items.end()?;
+/// ```
+#[derive(Drop)]
+pub struct SeqAccess<'a, R> {
+    /// What reads the items.
+    pub de: &'a mut Deserializer<R>,
+    /// What remains of the array.
+    pub remaining: Remaining,
+    /// How many levels were left before the array.
+    pub outer: u8,
+}
+
+impl<'a, R: Source> SeqAccess<'a, R> {
+    /// Reads the next item; None where the array's last item was read.
+    ///
+    /// It refuses as the reading of `T` does, and with `EofWhileParsingArray` where an array of
+    /// indefinite length has no end.
+    #[inline(always)]
+    pub fn next_element<'de, T: Deserialize<'de, R>>(&mut self) -> Result<Option<T>>
+    where
+        R: Read<'de>,
+        // The access is live: no call on it has answered Err.
+        requires { self.old.de.now.items.levels < self.old.outer }
+        ensures same_reference { self.new.de.ghost_name ≡ self.old.de.ghost_name }
+        ensures read { TakesNext R.refusals (formats_of self.old.de.now.items.formats)
+            (T.reads (context self.old.de.now.items.formats R.lends))
+            self.old.de.now.items.levels self.old.remaining self.new.remaining
+            (R.source self.old.de.now.items.source) (R.source self.new.de.now.items.source) result }
+        // Nothing remains behind the last item, and a loop over the items ends.
+        ensures remains { IfOk result (λ next. MatchOption next
+            (self.new.remaining ≡ Counted 0)
+            (λ x. turns self.new.remaining (R.source self.new.de.now.items.source)
+            < turns self.old.remaining (R.source self.old.de.now.items.source))) }
+        ensures inside { IfOk result (λ x.
+            self.new.de.now.items.levels ≡ self.old.de.now.items.levels) }
+        ensures left { IfErr result (λ e. self.new.de.now.items.levels ≡ self.old.outer) }
+        ensures outer { self.new.outer ≡ self.old.outer }
+        ensures formats { self.new.de.now.items.formats ≡ self.old.de.now.items.formats }
+    {
+        match self.de.more_items(&mut self.remaining) {
+            Ok(true) => {}
+            Ok(false) => return Ok(None),
+            Err(e) => {
+                self.de.items.levels = self.outer;
+                return Err(e);
+            }
+        }
+        let start = self.de.items.source.offset();
+        let item = match T::deserialize(self.de) {
+            Ok(item) => item,
+            Err(e) => {
+                self.de.items.levels = self.outer;
+                return Err(e);
+            }
+        };
+        if let Remaining::ToBreak = self.remaining {
+            if self.de.items.source.offset() <= start {
+                self.de.items.levels = self.outer;
+                return Err(self.de.no_item());
+            }
+        }
+        Ok(Some(item))
+    }
+
+    // Reads the next item of an array that has to have so many; this many were read before it.
+    #[inline(always)]
+    pub(crate) fn part<'de, T: Deserialize<'de, R>>(
+        &mut self,
+        before: usize,
+        expected: usize,
+    ) -> Result<T>
+    where
+        R: Read<'de>,
+        requires { self.old.de.now.items.levels < self.old.outer }
+        ensures same_reference { self.new.de.ghost_name ≡ self.old.de.ghost_name }
+        ensures read { TakesPart R.refusals (formats_of self.old.de.now.items.formats)
+            (T.reads (context self.old.de.now.items.formats R.lends))
+            self.old.de.now.items.levels self.old.remaining self.new.remaining
+            (R.source self.old.de.now.items.source) (R.source self.new.de.now.items.source) result }
+        ensures inside { IfOk result (λ x.
+            self.new.de.now.items.levels ≡ self.old.de.now.items.levels) }
+        ensures left { IfErr result (λ e. self.new.de.now.items.levels ≡ self.old.outer) }
+        ensures outer { self.new.outer ≡ self.old.outer }
+        ensures formats { self.new.de.now.items.formats ≡ self.old.de.now.items.formats }
+    {
+        match self.next_element::<T>() {
+            Ok(Some(item)) => Ok(item),
+            Ok(None) => {
+                self.de.items.levels = self.outer;
+                Err(self.de.invalid_length(before, expected))
+            }
+            Err(e) => Err(e),
+        }
+    }
+
+    /// How many items of a declared count are still to be read; None where no count was declared,
+    /// or where it doesn't fit a `usize`.
+    pub fn size_hint(&self) -> Option<usize>
+        ensures { result ≡ size_of self.now.remaining }
+    {
+        match self.remaining {
+            Remaining::Counted(n) => usize::try_from(n).ok(),
+            Remaining::ToBreak => None,
+        }
+    }
+
+    /// Takes the end of the array.
+    ///
+    /// Items that weren't read are refused with `TrailingData`: at the present offset where a count
+    /// was declared; else behind the first byte of the next item, or with `EofWhileParsingArray`
+    /// where there is none.
+    pub fn end(self) -> Result<()>
+        requires { self.de.now.items.levels < self.outer }
+        ensures read { TakesEnd R.refusals self.entry.remaining
+            (R.source self.entry.de.now.items.source) (R.source self.exit.0.now.items.source)
+            result }
+        ensures levels { self.exit.0.now.items.levels ≡ self.entry.outer }
+        ensures formats { self.exit.0.now.items.formats ≡ self.entry.de.now.items.formats }
+    {
+        let SeqAccess {
+            de,
+            remaining,
+            outer,
+        } = self;
+        de.items.levels = outer;
+        de.end_array(remaining)
+    }
+
+    /// Leaves the array for this error, which it passes on.
+    pub fn refuse(self, e: Error) -> Error
+        requires { self.de.now.items.levels < self.outer }
+        ensures error { result ≡ e }
+        ensures source { self.exit.0.now.items.source ≡ self.entry.de.now.items.source }
+        ensures levels { self.exit.0.now.items.levels ≡ self.entry.outer }
+        ensures formats { self.exit.0.now.items.formats ≡ self.entry.de.now.items.formats }
+    {
+        let SeqAccess {
+            de,
+            remaining: _,
+            outer,
+        } = self;
+        de.items.levels = outer;
+        e
+    }
+}

@@ -1,0 +1,34 @@
+//! What may be absent.
+
+use crate::de::Deserializer;
+use crate::deserialize::{Deserialize, DeserializeOwned, Readable};
+use cbor_io::error::Result;
+use cbor_io::read::Read;
+
+// Null is None, by its first byte alone: neither undefined nor a tagged null is.
+impl<T: Readable> Readable for Option<T> {
+    ghost use Rattle.cbor_model.specs.Readable.{IsOptional};
+
+    ghost reads = { λ c. IsOptional (T.reads c) };
+}
+
+impl<'de, R: Read<'de>, T: Deserialize<'de, R>> Deserialize<'de, R> for Option<T> {
+    #[inline(always)]
+    fn deserialize(de: &mut Deserializer<R>) -> Result<Option<T>> {
+        match de.take_null() {
+            Ok(true) => return Ok(None),
+            Ok(false) => {}
+            Err(refused) => return Err(de.items.error(refused)),
+        }
+        match T::deserialize(de) {
+            Ok(value) => Ok(Some(value)),
+            Err(e) => Err(e),
+        }
+    }
+}
+
+impl<T: DeserializeOwned> DeserializeOwned for Option<T> {
+    ghost use Rattle.cbor_typed.specs.Options.{same_optional};
+
+    ghost same = { λ f a b. same_optional _ _ (T.same f a b) };
+}

@@ -1,0 +1,110 @@
+//! Vectors and arrays, which are read from arrays.
+
+ghost use Rattle.std.specs.Prelude.{◌≡◌, IfOk, vec_len};
+ghost use Rattle.cbor_model.specs.Readable.{PassesTags};
+ghost use Rattle.cbor_typed.specs.Arrays.{AsArray, AreExactly, items_in};
+ghost use Rattle.cbor_typed.specs.Takes.{TakesItem, context, formats_of};
+
+use crate::de::Deserializer;
+use crate::deserialize::{Deserialize, DeserializeOwned, Readable};
+use cbor_io::error::{Error, Result};
+use cbor_io::read::Read;
+use std::alloc::AllocError;
+
+/// An array, item by item. Nothing is reserved by a declared count.
+impl<T: Readable> Readable for Vec<T> {
+    ghost use Rattle.cbor_model.specs.Readable.{PassesTags};
+    ghost use Rattle.cbor_typed.specs.Arrays.{AsArray, AreRead};
+
+    ghost reads = { λ c. PassesTags (AsArray (λ rs v. AreRead (T.reads c) rs v.items)) };
+}
+
+impl<'de, R: Read<'de>, T: Deserialize<'de, R>> Deserialize<'de, R> for Vec<T> {
+    fn deserialize(de: &mut Deserializer<R>) -> Result<Vec<T>> {
+        let mut items = Vec::new(de.items.alloc);
+        let mut access = de.array()?;
+        'items: while let Some(item) = access.next_element::<T>()? {
+            if items.push(item).is_err() {
+                return Err(access.refuse(Error::from(AllocError)));
+            }
+        }
+        access.end()?;
+        Ok(items)
+    }
+}
+
+impl<T: DeserializeOwned> DeserializeOwned for Vec<T> {
+    ghost use Rattle.cbor_model.specs.Readable.{untagged};
+    ghost use Rattle.cbor_typed.specs.Arrays.{AreRead, as_array_same, are_read_same};
+    ghost use Rattle.cbor_typed.specs.Takes.{lending};
+
+    ghost same = { λ f a b r v h. as_array_same
+        (λ rs w. AreRead (T.reads (lending f a)) rs w.items)
+        (λ rs w. AreRead (T.reads (lending f b)) rs w.items)
+        (λ rs w. are_read_same (T.reads (lending f a)) (T.reads (lending f b))
+        (T.same f a b) rs w.items)
+        (untagged r) v h };
+}
+
+// The items of an array of exactly n.
+fn exactly<'de, T: Deserialize<'de, R>, R: Read<'de>>(
+    de: &mut Deserializer<R>,
+    n: usize,
+) -> Result<Vec<T>>
+    ensures read { TakesItem R.refusals (formats_of de.old.items.formats)
+        (PassesTags (AsArray (AreExactly (T.reads (context de.old.items.formats R.lends)) n)))
+        de.old.items.levels (R.source de.old.items.source) (R.source de.new.items.source)
+        (items_in result) }
+    ensures count { IfOk result (λ v. vec_len v ≡ n) }
+    ensures levels { de.new.items.levels ≡ de.old.items.levels }
+    ensures formats { de.new.items.formats ≡ de.old.items.formats }
+{
+    let mut items = Vec::new(de.items.alloc);
+    let mut access = de.array()?;
+    'items: while items.len() < n {
+        let item = access.part::<T>(items.len(), n)?;
+        if items.push(item).is_err() {
+            return Err(access.refuse(Error::from(AllocError)));
+        }
+    }
+    access.end()?;
+    Ok(items)
+}
+
+/// An array of exactly `N` items. One of fewer is refused with `invalid length n, expected N`, and
+/// one of more with `TrailingData`.
+impl<T: Readable, const N: usize> Readable for [T; N] {
+    ghost use Rattle.cbor_model.specs.Readable.{PassesTags};
+    ghost use Rattle.cbor_typed.specs.Arrays.{AsArray, AreExactly};
+
+    ghost reads = { λ c. PassesTags (AsArray (AreExactly (T.reads c) N)) };
+}
+
+impl<'de, R: Read<'de>, T: Deserialize<'de, R>, const N: usize> Deserialize<'de, R> for [T; N] {
+    fn deserialize(de: &mut Deserializer<R>) -> Result<[T; N]> {
+        let items = match exactly::<T, R>(de, N) {
+            Ok(items) => items,
+            Err(e) => return Err(e),
+        };
+        match <[T; N]>::try_from(items) {
+            Ok(array) => Ok(array),
+            Err(_) => Err(Error::from(AllocError)),
+        }
+    }
+}
+
+impl<T: DeserializeOwned, const N: usize> DeserializeOwned for [T; N] {
+    ghost use Rattle.cbor_model.specs.Readable.{untagged};
+    ghost use Rattle.cbor_typed.specs.Arrays.{AreExactly, as_array_same, are_read_same};
+    ghost use Rattle.cbor_typed.specs.Takes.{lending};
+
+    ghost same = { λ f a b r v h. as_array_same
+        (AreExactly (T.reads (lending f a)) N)
+        (AreExactly (T.reads (lending f b)) N)
+        (λ rs xs k. (
+          are_read_same (T.reads (lending f a)) (T.reads (lending f b))
+              (T.same f a b) rs xs k.0,
+          k.1,
+        ))
+        (untagged r) v h };
+}

@@ -1,0 +1,67 @@
+//! Strings.
+
+use crate::de::Deserializer;
+use crate::deserialize::{Deserialize, DeserializeOwned, Readable};
+use crate::lent::EitherStr;
+use crate::strings::NO_STRING;
+use cbor_io::error::{Error, Result};
+use cbor_io::read::{EitherLifetime, Read};
+
+impl Readable for String {
+    ghost use Rattle.std.specs.String.{string_bytes};
+    ghost use Rattle.cbor_model.specs.Readable.{PassesTags, IsText};
+
+    ghost reads = { λ c. PassesTags (λ r s. IsText r (string_bytes s)) };
+}
+
+impl<'de, R: Read<'de>> Deserialize<'de, R> for String {
+    fn deserialize(de: &mut Deserializer<R>) -> Result<String> {
+        de.read_string()
+    }
+}
+
+impl DeserializeOwned for String {
+    ghost same = { λ f a b r x h. h };
+}
+
+// A text is read where the source lends it for the input's life.
+impl Readable for &str {
+    ghost use Rattle.cbor_model.specs.Readable.{PassesTags};
+    ghost use Rattle.cbor_typed.specs.Strings.{IsBorrowedText};
+
+    ghost reads = { λ c. PassesTags (λ r s. IsBorrowedText c r s.now) };
+}
+
+impl<'de, R: Read<'de>> Deserialize<'de, R> for &'de str {
+    fn deserialize(de: &mut Deserializer<R>) -> Result<&'de str> {
+        let alloc = de.items.alloc;
+        match de.lend_text() {
+            Ok(EitherStr::Long(text)) => Ok(text),
+            Ok(EitherStr::Short(_)) => {
+                Err(Error::message(alloc, "invalid type: expected a borrowed string"))
+            }
+            Err(why) => Err(de.unread(why, NO_STRING)),
+        }
+    }
+}
+
+// Bytes are read where the source lends them for the input's life.
+impl Readable for &[u8] {
+    ghost use Rattle.cbor_model.specs.Readable.{PassesTags};
+    ghost use Rattle.cbor_typed.specs.Strings.{IsBorrowedString};
+
+    ghost reads = { λ c. PassesTags (λ r s. IsBorrowedString c r s.now) };
+}
+
+impl<'de, R: Read<'de>> Deserialize<'de, R> for &'de [u8] {
+    fn deserialize(de: &mut Deserializer<R>) -> Result<&'de [u8]> {
+        let alloc = de.items.alloc;
+        match de.lend_bytes() {
+            Ok(EitherLifetime::Long(bytes)) => Ok(bytes),
+            Ok(EitherLifetime::Short(_)) => {
+                Err(Error::message(alloc, "invalid type: expected borrowed bytes"))
+            }
+            Err(why) => Err(de.unread(why, "invalid type: expected bytes")),
+        }
+    }
+}

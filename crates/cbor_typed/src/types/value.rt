@@ -1,0 +1,30 @@
+//! Values: any item, with its tags.
+
+use crate::de::Deserializer;
+use crate::deserialize::{Deserialize, DeserializeOwned, Readable};
+use cbor_io::error::Result;
+use cbor_io::read::Read;
+use cbor_value::Value;
+
+impl Readable for Value {
+    ghost use Rattle.std.specs.Prelude.{◌≡◌, true};
+    ghost use Rattle.cbor_model.specs.Value.{value};
+    ghost use Rattle.cbor_value.specs.View.{view};
+
+    ghost reads = { λ c r v. view v ≡ value r };
+
+    ghost total = { true };
+}
+
+impl<'de, R: Read<'de>> Deserialize<'de, R> for Value {
+    fn deserialize(de: &mut Deserializer<R>) -> Result<Value> {
+        match de.items.value() {
+            Ok(value) => Ok(value),
+            Err(refused) => Err(de.items.error(refused)),
+        }
+    }
+}
+
+impl DeserializeOwned for Value {
+    ghost same = { λ f a b r x h. h };
+}
