@@ -6,7 +6,7 @@ ghost use Rattle.serde_cbor.specs.Error.{IsOutOfMemory};
 ghost use Rattle.serde_cbor.specs.Gives.{Fails};
 ghost use Rattle.cbor_bench.specs.Request.{IsRequest, IsRequestOf, SpellsItem, IsRewritten, Leaves};
 
-use serde_cbor::{Result, from_slice, to_vec};
+use serde_cbor::{Result, Value, from_slice, to_vec};
 use std::alloc::Global;
 
 const READ: u8 = 0;
@@ -84,7 +84,7 @@ fn perform(alloc: Global, task: Task, item: &[u8]) -> Result<Option<Vec<u8>>>
 {
     match task {
         Task::Read => {
-            let _value = from_slice(alloc, item)?;
+            let _value: Value = from_slice(alloc, item)?;
             Ok(None)
         }
         Task::ReadAndWrite => {
@@ -100,6 +100,6 @@ fn rewritten(alloc: Global, item: &[u8]) -> Result<Vec<u8>>
     ensures accepted { SpellsItem item.now → IfErr result IsOutOfMemory }
     ensures refused { IfErr result (λ e. Fails (length item.now) e (read_value item.now)) }
 {
-    let value = from_slice(alloc, item)?;
+    let value: Value = from_slice(alloc, item)?;
     to_vec(alloc, &value)
 }

@@ -18,20 +18,6 @@ use Rattle.cbor_de.specs.declared.refusal.Refused.TheVariants as refused
 use Rattle.cbor_de.specs.Gives.{FailsBy, Tells, Limits, limits, values, Step, Reports, Stops, Stopped, IsErrorOf, end_at, whole_at}
 use Rattle.cbor_de.proofs.Steps.{passed_on}
 
--- ---- an item, and then the end
-
-module _ (f : Formats) (levels : ℕ) (l : Limits) (bs : List ℕ) where
-  pub whole_read : (v : Val) (mid rest : List ℕ) → item_at (values f l) levels bs ≡ Ok (v, mid) → end_at mid ≡ Ok (tt, rest) → whole_at f levels l bs ≡ Ok (v, rest)
-  whole_read v mid rest read end = rw (read, end) refl
-
-  pub whole_stops : (d : Fault) → item_at (values f l) levels bs ≡ Err d → whole_at f levels l bs ≡ Err d
-  whole_stops d read = rw read refl
-
-  pub whole_trails : (v : Val) (mid : List ℕ) (d : Fault) → item_at (values f l) levels bs ≡ Ok (v, mid) → end_at mid ≡ Err d → whole_at f levels l bs ≡ Err d
-  whole_trails v mid d read end = rw (read, end) refl
-
--- ---- the same in the reference reader
-
 -- what the limits are where nothing was taken
 from_start : (s : Input) (bs : List ℕ) → s.offset ≡ 0 → values all_formats (limits s bs) ≡ values_in (length bs) s.room
 from_start s bs zero = ap (λ (n : ℕ). values_in n s.room) (omega (arith, zero))
@@ -70,28 +56,10 @@ module _ (s : Input) (bs : List ℕ) (zero : s.offset ≡ 0) where
   as_item : behind item ≡ whole_at all_formats max_depth (limits s bs) bs
   as_item = ap (λ (m : Reading Val Vals (Pairs → Pairs)). behind (item_at m max_depth bs)) (sym (from_start s bs zero))
 
-  value_in : (v : Val) (rest : List ℕ) → whole_at all_formats max_depth (limits s bs) bs ≡ Ok (v, rest) → read_value_in s.room bs ≡ Ok v
+  pub value_in : (v : Val) (rest : List ℕ) → whole_at all_formats max_depth (limits s bs) bs ≡ Ok (v, rest) → read_value_in s.room bs ≡ Ok v
   unfolding read_value_in
   value_in v rest e = of_value item v rest (as_item ∙ e)
 
   pub fault_in : (f : Fault) → whole_at all_formats max_depth (limits s bs) bs ≡ Err f → read_value_in s.room bs ≡ Err f
   unfolding read_value_in
   fault_in f e = of_fault item f (as_item ∙ e)
-
-module _ {X : Type 0} (refusals : ReadErrorCode → Bool) (view : X → Val) (s t : Input) where
-  pub all_read : (x : X) → Step s t (λ l bs rest. whole_at all_formats max_depth l bs ≡ Ok (view x, rest)) → (bs : List ℕ) → Tells s bs → s.offset ≡ 0 → read_value_in s.room bs ≡ Ok (view x)
-  all_read x h bs tells zero =
-      let one = h.told bs tells in
-      value_in s bs zero (view x) one.rest one.holds
-
-  kept_fails : (q : ReadError) → Stops refusals (whole_at all_formats max_depth) s q → (bs : List ℕ) → Tells s bs → s.offset ≡ 0 → FailsBy (Reports refusals) (error_code (why q)) (length bs) (place q) (read_value_in s.room bs)
-  kept_fails q h bs tells zero =
-      let part = whole_at all_formats max_depth (limits s bs) bs in
-      passed_on (Reports refusals) (error_code (why q)) (length bs) (place q) part (read_value_in s.room bs) (fault_in s bs zero)
-      (subst (λ (n : ℕ). FailsBy (Reports refusals) (error_code (why q)) n (place q) part) (omega (arith, zero)) (h.told bs tells))
-
-  -- the error that is made of a refusal tells the fault
-  pub all_stops : (kept : Option ReadError) (r : Refused) (e : Error) → IsErrorOf kept r e → Stopped refusals (whole_at all_formats max_depth) s kept r → (bs : List ℕ) → Tells s bs → s.offset ≡ 0 → FailsBy (Reports refusals) (code_of e) (length bs) (offset_of e) (read_value_in s.room bs)
-  all_stops kept refused.OutOfMemory e is h bs tells zero = rw (is.0) is.1
-  all_stops None refused.Kept e is h bs tells zero = absurd h
-  all_stops (Some q) refused.Kept e is h bs tells zero = rw (is.0, is.1) (kept_fails q h bs tells zero)

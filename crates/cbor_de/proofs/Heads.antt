@@ -4,29 +4,22 @@ use Rattle.std.specs.Int.{w16, w32, w64}
 use Rattle.std.proofs.lemmas.Bool.{ne_eqb}
 use Rattle.cbor_model.specs.Formats.{Formats}
 use Rattle.cbor_model.specs.Head.{HeadWidth, no_bytes}
+use Rattle.cbor_model.specs.Major as major
+use Rattle.cbor_model.specs.Major.{major_of}
 use Rattle.cbor_model.specs.Refusal.{unassigned_code, unexpected_code}
 use Rattle.cbor_model.specs.Plain.{Val}
-use Rattle.cbor_model.specs.Reader.{Fault, Reads, Reading, ◌>>=◌, before, width_of, number_at, number_behind, simple_at, float_at, string_at, string_chunks_at, text_at, text_chunks_at, checked_text, array_at, map_at, tag_at, content_at, indefinite_at, after_first}
+use Rattle.cbor_model.specs.Reader.{Fault, Reads, Reading, ◌>>=◌, before, width_of, number_at, number_behind, with_number, with_length, simple_at, float_at, string_at, string_chunks_at, text_at, text_chunks_at, checked_text, array_at, map_at, tag_at, content_at, after_first}
 use Rattle.cbor_io.specs.Head.{major_number}
 use Rattle.cbor_io.specs.declared.head.Major.{Major}
 use Rattle.cbor_io.specs.declared.head.Major.TheVariants.{UnsignedInteger, NegativeInteger, ByteString, TextString, Array, Map, Tag, Simple}
 use Rattle.cbor_value.specs.declared.Float.TheVariants.{Half, Single, Double}
 use Rattle.cbor_de.specs.declared.head.Head.{Head}
 use Rattle.cbor_de.specs.declared.head.Head.TheVariants as head
+use Rattle.cbor_de.specs.declared.cursor.Remaining.TheVariants.{Counted, ToBreak}
 use Rattle.cbor_de.specs.Gives.{Limits, values}
-use Rattle.cbor_de.specs.Heads.{definite_head, simple_head, indefinite_head, head_at, behind_head, after_head}
+use Rattle.cbor_de.specs.Heads.{number_head, length_head, simple_head, head_of, head_at, behind_head, after_head}
 
 -- ---- major types
-
-pub not_simple : (m : Major) → (m ≡ Simple → ⊥) → major_number m ≡ 7 → ⊥
-not_simple UnsignedInteger n e = absurd cc
-not_simple NegativeInteger n e = absurd cc
-not_simple ByteString n e = absurd cc
-not_simple TextString n e = absurd cc
-not_simple Array n e = absurd cc
-not_simple Map n e = absurd cc
-not_simple Tag n e = absurd cc
-not_simple Simple n e = n refl
 
 pub is_tag : (m : Major) → (m ≡ Simple → ⊥) → (m ≡ UnsignedInteger → ⊥) → (m ≡ NegativeInteger → ⊥) → (m ≡ ByteString → ⊥) → (m ≡ TextString → ⊥) → (m ≡ Array → ⊥) → (m ≡ Map → ⊥) → major_number m ≡ 6
 is_tag UnsignedInteger s u n b t a m = absurd (u refl)
@@ -40,28 +33,47 @@ is_tag Simple s u n b t a m = absurd (s refl)
 
 -- ---- first bytes
 
+-- the head that says this number, of a major type but simple
+abbrev pub definite_head : Major → ℕ → Head
+definite_head UnsignedInteger n = head.Unsigned n
+definite_head NegativeInteger n = head.Negative n
+definite_head ByteString n = head.Bytes (Some n)
+definite_head TextString n = head.Text (Some n)
+definite_head Array n = head.Array (Counted n)
+definite_head Map n = head.Map (Counted n)
+definite_head _ n = head.Tag n
+
+other_head : (t : Major) (low : ℕ) (bs : List ℕ) → (t ≡ Simple → ⊥) → eqb low 31 ≡ false → head_of (major_of (major_number t)) low bs ≡ with_number (λ w n rest. Ok ((w, definite_head t n), rest)) low bs
+unfolding head_of
+other_head UnsignedInteger low bs other short = refl
+other_head NegativeInteger low bs other short = refl
+other_head ByteString low bs other short = rw short refl
+other_head TextString low bs other short = rw short refl
+other_head Array low bs other short = rw short refl
+other_head Map low bs other short = rw short refl
+other_head Tag low bs other short = refl
+other_head Simple low bs other short = absurd (other refl)
+
 module _ (first : ℕ) (bs : List ℕ) where
   pub first_simple : first / 32 ≡ 7 → head_at first bs ≡ simple_head (first % 32) bs
-  unfolding head_at
+  unfolding head_at head_of
   first_simple is = rw is refl
 
-  pub first_indefinite : (first / 32 ≡ 7 → ⊥) → first % 32 ≡ 31 → head_at first bs ≡ indefinite_head (first / 32) bs
+  pub first_indefinite : first % 32 ≡ 31 → head_at first bs ≡ head_of (major_of (first / 32)) 31 bs
   unfolding head_at
-  first_indefinite other is = rw (ne_eqb (first / 32) 7 other, is) refl
+  first_indefinite is = rw is refl
 
-  first_definite : (first / 32 ≡ 7 → ⊥) → (first % 32 ≡ 31 → ⊥) → head_at first bs ≡ (number_behind (first % 32) bs >>= (λ n. Ok ((width_of (first % 32), definite_head (first / 32) n.0), n.1)))
+  first_definite : (t : Major) → (t ≡ Simple → ⊥) → (first % 32 ≡ 31 → ⊥) → major_number t ≡ first / 32 → head_at first bs ≡ with_number (λ w n rest. Ok ((w, definite_head t n), rest)) (first % 32) bs
   unfolding head_at
-  first_definite other short = rw (ne_eqb (first / 32) 7 other, ne_eqb (first % 32) 31 short) refl
+  first_definite t other short major = ap (λ (k : ℕ). head_of (major_of k) (first % 32) bs) (sym major) ∙ other_head t (first % 32) bs other (ne_eqb (first % 32) 31 short)
 
-  pub first_stops : (f : Fault) → (first / 32 ≡ 7 → ⊥) → (first % 32 ≡ 31 → ⊥) → number_behind (first % 32) bs ≡ Err f → head_at first bs ≡ Err f
-  first_stops f other short is = first_definite other short ∙ rw is refl
+  pub first_stops : (f : Fault) (t : Major) → (t ≡ Simple → ⊥) → (first % 32 ≡ 31 → ⊥) → major_number t ≡ first / 32 → number_behind (first % 32) bs ≡ Err f → head_at first bs ≡ Err f
+  first_stops f t other short major is = first_definite t other short major ∙ rw is refl
 
--- a head of this major type
-pub first_is : (first : ℕ) (bs rest : List ℕ) (n k : ℕ) (h : Head) → (k ≡ 7 → ⊥) → (first % 32 ≡ 31 → ⊥) → k ≡ first / 32 → number_behind (first % 32) bs ≡ Ok (n, rest)
-    → definite_head k n ≡ h → (w : HeadWidth) × (head_at first bs ≡ Ok ((w, h), rest))
-first_is first bs rest n k h other short major number is =
-    let w = width_of (first % 32) in
-    (w, first_definite first bs (λ e. other (major ∙ e)) short ∙ rw number (ap (λ (k : ℕ). Ok ((w, definite_head k n), rest)) (sym major) ∙ ap (λ (h : Head). Ok ((w, h), rest)) is))
+  -- a head of this major type
+  pub first_is : (rest : List ℕ) (n : ℕ) (t : Major) → (t ≡ Simple → ⊥) → (first % 32 ≡ 31 → ⊥) → major_number t ≡ first / 32 → number_behind (first % 32) bs ≡ Ok (n, rest)
+      → (w : HeadWidth) × (head_at first bs ≡ Ok ((w, definite_head t n), rest))
+  first_is rest n t other short major number = (width_of (first % 32), first_definite t other short major ∙ rw number refl)
 
 -- ---- what is read behind a head
 
@@ -106,40 +118,27 @@ module _ {Item Items Pairs : Type 0} (m : Reading Item Items Pairs) (inner : Opt
       (bind_cond (eqb low 23) _ _ behind _ _ refl
       (float_behind low bs))))
 
-  indefinite_behind : (major : ℕ) (bs : List ℕ) → indefinite_at m inner major bs ≡ (indefinite_head major bs >>= behind)
-  unfolding indefinite_at indefinite_head
-  indefinite_behind major bs =
-      bind_cond (eqb major 2) _ _ behind _ _ refl
-      (bind_cond (eqb major 3) _ _ behind _ _ refl
-      (bind_cond (eqb major 4) _ _ behind _ _ refl
-      (bind_cond (eqb major 5) _ _ behind _ _ refl refl)))
+  numbered_behind : (make : ℕ → Head) (low : ℕ) (bs : List ℕ) → with_number (λ w n bs. behind_head m inner w (make n) bs) low bs ≡ (number_head make low bs >>= behind)
+  numbered_behind make low bs = bind_bind (number_behind low bs) (λ n. Ok ((width_of low, make n.0), n.1)) behind
 
-  -- a test between heads
-  head_cond : (c : Bool) (w : HeadWidth) (h k : Head) (bs : List ℕ) (x y : Reads Item) → x ≡ behind_head m inner w h bs → y ≡ behind_head m inner w k bs → cond c x y ≡ behind_head m inner w (cond c h k) bs
-  head_cond true w h k bs x y a b = a
-  head_cond false w h k bs x y a b = b
+  length_behind : (make : ℕ → Head) (other : Head) (low : ℕ) (bs : List ℕ) → with_length (λ w n bs. behind_head m inner w (make n) bs) (behind_head m inner no_bytes other) low bs ≡ (length_head make other low bs >>= behind)
+  length_behind make other low bs = bind_cond (eqb low 31) _ _ behind _ _ refl (numbered_behind make low bs)
 
-  definite_behind : (major : ℕ) (w : HeadWidth) (n : ℕ) (bs : List ℕ) → content_at m inner major w n bs ≡ behind_head m inner w (definite_head major n) bs
-  unfolding content_at
-  definite_behind major w n bs =
-      head_cond (eqb major 0) w _ _ bs _ _ refl
-      (head_cond (eqb major 1) w _ _ bs _ _ refl
-      (head_cond (eqb major 2) w _ _ bs _ _ refl
-      (head_cond (eqb major 3) w _ _ bs _ _ refl
-      (head_cond (eqb major 4) w _ _ bs _ _ refl
-      (head_cond (eqb major 5) w _ _ bs _ _ refl refl)))))
-
-  number_first : (b : ℕ) (bs : List ℕ) (read : Reads ℕ) → (read >>= (λ n. content_at m inner (b / 32) (width_of (b % 32)) n.0 n.1)) ≡ ((read >>= (λ n. Ok ((width_of (b % 32), definite_head (b / 32) n.0), n.1))) >>= behind)
-  number_first b bs (Ok n) = definite_behind (b / 32) (width_of (b % 32)) n.0 n.1
-  number_first b bs (Err f) = refl
+  content_behind : (t : major.Major) (low : ℕ) (bs : List ℕ) → content_at m inner t low bs ≡ (head_of t low bs >>= behind)
+  unfolding content_at head_of
+  content_behind major.unsigned = numbered_behind head.Unsigned
+  content_behind major.negative = numbered_behind head.Negative
+  content_behind major.bytes = length_behind (λ n. head.Bytes (Some n)) (head.Bytes None)
+  content_behind major.text = length_behind (λ n. head.Text (Some n)) (head.Text None)
+  content_behind major.array = length_behind (λ n. head.Array (Counted n)) (head.Array ToBreak)
+  content_behind major.map = length_behind (λ n. head.Map (Counted n)) (head.Map ToBreak)
+  content_behind major.tag = numbered_behind head.Tag
+  content_behind major.simple = simple_behind
 
   -- the item of this first byte is read behind its head
   pub first_behind : (b : ℕ) (bs : List ℕ) → after_first m inner b bs ≡ (head_at b bs >>= behind)
   unfolding after_first head_at
-  first_behind b bs =
-      bind_cond (eqb (b / 32) 7) _ _ behind _ _ (simple_behind (b % 32) bs)
-      (bind_cond (eqb (b % 32) 31) _ _ behind _ _ (indefinite_behind (b / 32) bs)
-      (number_first b bs (number_behind (b % 32) bs)))
+  first_behind b bs = content_behind (major_of (b / 32)) (b % 32) bs
 
 -- ---- values
 

@@ -8,7 +8,9 @@ pub mod Chunks
 pub mod Items
 pub mod Pairs
 pub mod Inside
+pub mod Texts
 pub mod Numbers
 pub mod All
-pub mod Inputs
+pub mod Skipped
+pub mod SkippedStrings
 pub mod facts

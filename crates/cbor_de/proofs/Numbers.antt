@@ -1,6 +1,6 @@
 -- Numbers behind their first byte.
-use Rattle.std.proofs.Common.{◌≡◌, ◌≤◌, ◌<◌, ◌/◌, ◌%◌, ℕ, List, Option, Ok, pos, ◌^◌, refl, sym, ap, ◌∙◌, arith, rules, to_z}
-use Rattle.std.proofs.lemmas.Bool.{ne_eqb, lt-ltb}
+use Rattle.std.proofs.Common.{◌≡◌, ◌≤◌, ◌<◌, ◌/◌, ◌%◌, ℕ, List, Option, Ok, pos, ◌^◌, refl, ap, ◌∙◌, arith, rules, to_z}
+use Rattle.std.proofs.lemmas.Bool.{lt-ltb}
 use Rattle.std.specs.Int.{w8, w16, w32, w64, w128}
 use Rattle.std.specs.Prelude.{ℤ}
 use Rattle.std.proofs.lemmas.Int.{to_z_pos}
@@ -22,7 +22,7 @@ module _ (f : Formats) (l : Limits) (inner : Option (List ℕ → Reads Val)) (f
   small_at small =
       let major : first / 32 ≡ 0 = omega (arith, small) in
       let low : first % 32 ≡ first = omega (arith, small) in
-      rw (major, low, ne_eqb first 31 (omega (arith, small)), lt-ltb first 24 (omega (arith, small))) refl
+      rw (major, low, lt-ltb first 24 (omega (arith, small))) refl
 
   pub unsigned_of_1 : first ≡ 24 → after_first (values f l) inner first bs ≡ (number_at w8 bs >>= (λ n. Ok (plain.integer (pos n.0), n.1)))
   unfolding after_first number_behind content_at
@@ -41,15 +41,15 @@ module _ (f : Formats) (l : Limits) (inner : Option (List ℕ → Reads Val)) (f
   unsigned_of_8 is = rw is refl
 
   pub float_of_2 : first ≡ 249 → after_first (values f l) inner first bs ≡ (number_at w16 bs >>= (λ n. Ok (plain.float half n.0, n.1)))
-  unfolding after_first simple_at float_at
+  unfolding after_first content_at simple_at float_at
   float_of_2 is = rw is refl
 
   pub float_of_4 : first ≡ 250 → after_first (values f l) inner first bs ≡ (number_at w32 bs >>= (λ n. Ok (plain.float single n.0, n.1)))
-  unfolding after_first simple_at float_at
+  unfolding after_first content_at simple_at float_at
   float_of_4 is = rw is refl
 
   pub float_of_8 : first ≡ 251 → after_first (values f l) inner first bs ≡ (number_at w64 bs >>= (λ n. Ok (plain.float double n.0, n.1)))
-  unfolding after_first simple_at float_at
+  unfolding after_first content_at simple_at float_at
   float_of_8 is = rw is refl
 
 -- what the values stand for

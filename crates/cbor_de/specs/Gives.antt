@@ -1,12 +1,23 @@
 -- What a reader of the code answers, beside what the reference reader answers.
-use Rattle.std.specs.Prelude.{⊤, ◌≡◌, ◌+◌, ◌^◌, ◌<◌, ◌≤◌, ℕ, Bool, true, List, [], ◌∷◌, length, Option, Some, None, IsSomeAnd, Result, Ok, Err}
-use Rattle.cbor_model.specs.Refusal.{Refusal, end_in_value, end_in_array, end_in_map, length_out_of_range, invalid_utf8, unassigned_code, unexpected_code, trailing_data, too_deep, scratch_too_small, wrong_struct_format}
+use Rattle.std.specs.Prelude.{⊤, ◌≡◌, ◌+◌, ◌^◌, ◌<◌, ◌≤◌, ℕ, Bool, true, List, [], ◌∷◌, length}
+use Rattle.std.specs.Prelude.{Option, Some, None, IsSomeAnd, Result, Ok, Err}
+use Rattle.cbor_model.specs.Refusal.{Refusal, end_in_value, end_in_array, end_in_map}
+use Rattle.cbor_model.specs.Refusal.{length_out_of_range, invalid_utf8, unassigned_code}
+use Rattle.cbor_model.specs.Refusal.{unexpected_code, trailing_data, too_deep, scratch_too_small}
+use Rattle.cbor_model.specs.Refusal.{wrong_struct_format}
 use Rattle.cbor_model.specs.Formats.{Formats}
 use Rattle.cbor_model.specs.Raw.{AreBytes}
 use Rattle.cbor_model.specs.Plain.{Val, Vals, Pairs}
-use Rattle.cbor_model.specs.Reader.{Fault, Reads, Reading, ◌>>=◌, values_of, item_at, read_value_in}
+use Rattle.cbor_model.specs.Reader.{Fault, Reads, Reading, ◌>>=◌, values_of, item_at}
 use Rattle.cbor_io.specs.declared.error.ErrorCode.{ErrorCode}
-use Rattle.cbor_io.specs.declared.error.ErrorCode.TheVariants.{Io, ScratchTooSmall, EofWhileParsingValue, EofWhileParsingArray, EofWhileParsingMap, LengthOutOfRange, InvalidUtf8, UnassignedCode, UnexpectedCode, TrailingData, RecursionLimitExceeded, WrongStructFormat, OutOfMemory}
+use Rattle.cbor_io.specs.declared.error.ErrorCode.TheVariants.{Io, ScratchTooSmall}
+use Rattle.cbor_io.specs.declared.error.ErrorCode.TheVariants.{EofWhileParsingValue}
+use Rattle.cbor_io.specs.declared.error.ErrorCode.TheVariants.{EofWhileParsingArray}
+use Rattle.cbor_io.specs.declared.error.ErrorCode.TheVariants.{EofWhileParsingMap, LengthOutOfRange}
+use Rattle.cbor_io.specs.declared.error.ErrorCode.TheVariants.{InvalidUtf8, UnassignedCode}
+use Rattle.cbor_io.specs.declared.error.ErrorCode.TheVariants.{UnexpectedCode, TrailingData}
+use Rattle.cbor_io.specs.declared.error.ErrorCode.TheVariants.{RecursionLimitExceeded}
+use Rattle.cbor_io.specs.declared.error.ErrorCode.TheVariants.{WrongStructFormat, OutOfMemory}
 use Rattle.cbor_io.specs.declared.error.Error.{Error}
 use Rattle.cbor_io.specs.Error.{code_of, offset_of, IsOutOfMemory}
 use Rattle.cbor_io.specs.declared.read.read_error.ReadError.{ReadError}
@@ -21,7 +32,8 @@ use Rattle.cbor_de.specs.declared.refusal.Refused.TheVariants as refused
 
 -- reading meets this fault, at the offset in an input of that length
 abbrev pub FailsAs : {A : Type 0} → Refusal → ℕ → ℕ → Result A Fault → Type 0
-FailsAs why end offset read = (left : ℕ) × (offset + left ≡ end) × (read ≡ Err (record { why = why; left = left }))
+FailsAs why end offset read =
+    (left : ℕ) × (offset + left ≡ end) × (read ≡ Err (record { why = why; left = left }))
 
 -- The code and the offset tell the fault; or that memory ran out, or a fault of the device, where
 -- there can be one.
@@ -114,12 +126,14 @@ pub record Stops {A : Type 0} (refusals : ReadErrorCode → Bool) (read : Limits
   pub told : (bs : List ℕ) → Tells s bs → FailsBy (Reports refusals) (error_code (why e)) (s.offset + length bs) (place e) (read (limits s bs) bs)
 
 -- A step was refused, and what the deserializer keeps tells the fault of a reading from s.
-abbrev pub Stopped : {A : Type 0} → (ReadErrorCode → Bool) → (Limits → List ℕ → Reads A) → Input → Option ReadError → Refused → Type 0
+abbrev pub Stopped : {A : Type 0} → (ReadErrorCode → Bool) → (Limits → List ℕ → Reads A) → Input
+    → Option ReadError → Refused → Type 0
 Stopped refusals read s kept refused.OutOfMemory = ⊤
 Stopped refusals read s kept refused.Kept = IsSomeAnd kept (Stops refusals read s)
 
 -- What was read, seen by view, and the bytes to come after it; or why not.
-abbrev pub Gives : {X A : Type 0} → (ReadErrorCode → Bool) → (X → A) → (Limits → List ℕ → Reads A) → Input → Input → Option ReadError → Result X Refused → Type 0
+abbrev pub Gives : {X A : Type 0} → (ReadErrorCode → Bool) → (X → A) → (Limits → List ℕ → Reads A)
+    → Input → Input → Option ReadError → Result X Refused → Type 0
 Gives refusals view read s t kept (Ok x) = Step s t (λ l bs rest. read l bs ≡ Ok (view x, rest))
 Gives refusals view read s t kept (Err r) = Stopped refusals read s kept r
 
@@ -140,7 +154,8 @@ end_at (b ∷ bs) = Err (record { why = trailing_data; left = length bs })
 
 -- an item, and nothing behind it
 abbrev pub whole_at : Formats → ℕ → Limits → List ℕ → Reads Val
-whole_at f levels l bs = item_at (values f l) levels bs >>= (λ v. end_at v.1 >>= (λ u. Ok (v.0, u.1)))
+whole_at f levels l bs =
+    item_at (values f l) levels bs >>= (λ v. end_at v.1 >>= (λ u. Ok (v.0, u.1)))
 
 -- That nothing is to come; or why not.
 abbrev pub Ends : (ReadErrorCode → Bool) → Input → Result (Unit {0}) Error → Type 0
@@ -155,9 +170,3 @@ pub record Onward (s t : Input) : Type 0 where
 -- the buffer stays
 abbrev pub Keeps : Input → Input → Type 0
 Keeps s t = t.buffer ≡ s.buffer
-
--- The value of all that a source has to give, of which nothing was taken; or the fault that the
--- reference reader meets.
-abbrev pub GivesAll : {X : Type 0} → (ReadErrorCode → Bool) → (X → Val) → Input → Result X Error → Type 0
-GivesAll refusals view s (Ok x) = (bs : List ℕ) → Tells s bs → s.offset ≡ 0 → read_value_in s.room bs ≡ Ok (view x)
-GivesAll refusals view s (Err e) = (bs : List ℕ) → Tells s bs → s.offset ≡ 0 → FailsBy (Reports refusals) (code_of e) (length bs) (offset_of e) (read_value_in s.room bs)

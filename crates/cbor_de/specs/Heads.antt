@@ -1,25 +1,35 @@
 -- What a head says of the item behind it.
-use Rattle.std.specs.Prelude.{◌≡◌, ℕ, ◌/◌, ◌%◌, Bool, true, false, List, Option, Some, None, Result, Ok, Err, pos, negsuc, ◌==◌, if◌then◌else◌}
+use Rattle.std.specs.Prelude.{◌≡◌, ℕ, ◌/◌, ◌%◌, Bool, true, false, List, Option, Some, None, Result}
+use Rattle.std.specs.Prelude.{Ok, Err, pos, negsuc, ◌==◌, if◌then◌else◌}
 use Rattle.std.specs.Int.{w16, w32, w64}
 use Rattle.cbor_model.specs.Formats.{Formats, all_formats}
 use Rattle.cbor_model.specs.Head.{HeadWidth, no_bytes}
-use Rattle.cbor_model.specs.Raw.{Chunk, joined, Length, definite, indefinite, false_item, true_item, null_item, undefined_item, half, single, double}
-use Rattle.cbor_model.specs.Refusal.{Refusal, end_in_array, end_in_map, unassigned_code, unexpected_code}
+use Rattle.cbor_model.specs.Major.{Major, major_of, unsigned, negative, bytes, text, array, map}
+use Rattle.cbor_model.specs.Major.{tag, simple}
+use Rattle.cbor_model.specs.Raw.{Chunk, joined, Length, definite, indefinite, false_item, true_item}
+use Rattle.cbor_model.specs.Raw.{null_item, undefined_item, half, single, double}
+use Rattle.cbor_model.specs.Refusal.{Refusal, end_in_array, end_in_map, unassigned_code}
+use Rattle.cbor_model.specs.Refusal.{unexpected_code}
 use Rattle.cbor_model.specs.Plain.{Val, Pairs, no_pairs}
 use Rattle.cbor_model.specs.Plain as plain
-use Rattle.cbor_model.specs.Reader.{Reads, Reading, ◌>>=◌, before, width_of, number_at, number_behind, byte_at, next_at, string_at, string_chunks_at, text_at, text_chunks_at, array_at, map_at, tag_at}
+use Rattle.cbor_model.specs.Reader.{Reads, Reading, ◌>>=◌, before, number_at, with_number}
+use Rattle.cbor_model.specs.Reader.{with_length, byte_at, next_at, string_at, string_chunks_at}
+use Rattle.cbor_model.specs.Reader.{text_at, text_chunks_at, array_at, map_at, tag_at}
 use Rattle.cbor_model.specs.Reader as reader
 use Rattle.cbor_value.specs.View.{float_view}
 use Rattle.cbor_value.specs.declared.Float.{Float as ValueFloat}
 use Rattle.cbor_value.specs.declared.Float.TheVariants.{Half, Single, Double}
 use Rattle.cbor_io.specs.declared.read.read_error.ReadError.{ReadError}
 use Rattle.cbor_io.specs.declared.read.read_error.ReadErrorCode.{ReadErrorCode}
-use Rattle.cbor_io.specs.declared.read.read_error.ReadErrorCode.TheVariants.{EofWhileParsingArray, EofWhileParsingMap}
+use Rattle.cbor_io.specs.declared.read.read_error.ReadErrorCode.TheVariants.{EofWhileParsingArray}
+use Rattle.cbor_io.specs.declared.read.read_error.ReadErrorCode.TheVariants.{EofWhileParsingMap}
 use Rattle.cbor_io.specs.Source.{Input}
 use Rattle.cbor_de.specs.Gives.{Limits, values, Step, Stopped}
 use Rattle.cbor_de.specs.declared.refusal.Refused.{Refused}
 use Rattle.cbor_de.specs.declared.head.Head.{Head}
-use Rattle.cbor_de.specs.declared.head.Head.TheVariants.{Unsigned, Negative, Bytes, Text, Array, Map, Tag, Bool as Boolean, Null, Undefined, Float, Break}
+use Rattle.cbor_de.specs.declared.head.Head.TheVariants.{Unsigned, Negative, Bytes, Text, Array}
+use Rattle.cbor_de.specs.declared.head.Head.TheVariants.{Map, Tag, Bool as Boolean, Null, Undefined}
+use Rattle.cbor_de.specs.declared.head.Head.TheVariants.{Float, Break}
 use Rattle.cbor_de.specs.declared.cursor.Remaining.{Remaining}
 use Rattle.cbor_de.specs.declared.cursor.Remaining.TheVariants.{Counted, ToBreak}
 use Rattle.cbor_de.specs.declared.cursor.Collection.{Collection}
@@ -42,16 +52,14 @@ end_code collection.Map = EofWhileParsingMap
 
 -- ---- what a head says
 
--- a head of a definite length or a number, of this major type
-abbrev pub definite_head : ℕ → ℕ → Head
-definite_head major n =
-    if major == 0 then Unsigned n
-    else (if major == 1 then Negative n
-    else (if major == 2 then Bytes (Some n)
-    else (if major == 3 then Text (Some n)
-    else (if major == 4 then Array (Counted n)
-    else (if major == 5 then Map (Counted n)
-    else Tag n)))))
+-- a head that says a number, with its width
+abbrev pub number_head : (ℕ → Head) → ℕ → List ℕ → Reads (HeadWidth × Head)
+number_head make = with_number (λ w n bs. Ok ((w, make n), bs))
+
+-- one that says a length, or that it is indefinite
+abbrev pub length_head : (ℕ → Head) → Head → ℕ → List ℕ → Reads (HeadWidth × Head)
+length_head make other =
+    with_length (λ w n bs. Ok ((w, make n), bs)) (λ bs. Ok ((no_bytes, other), bs))
 
 -- what the lower five bits of a first byte of major type 7 say, with the bits of a float
 unfoldable pub simple_head : ℕ → List ℕ → Reads (HeadWidth × Head)
@@ -66,25 +74,26 @@ simple_head low bs =
     else (if low == 31 then Ok ((no_bytes, Break), bs)
     else Err (before unassigned_code bs))))))))
 
--- what a first byte of this major type says that announces an indefinite length
-unfoldable pub indefinite_head : ℕ → List ℕ → Reads (HeadWidth × Head)
-indefinite_head major bs =
-    if major == 2 then Ok ((no_bytes, Bytes None), bs)
-    else (if major == 3 then Ok ((no_bytes, Text None), bs)
-    else (if major == 4 then Ok ((no_bytes, Array ToBreak), bs)
-    else (if major == 5 then Ok ((no_bytes, Map ToBreak), bs)
-    else Err (before unassigned_code bs))))
+-- the head of this major type with these lower five bits
+unfoldable pub head_of : Major → ℕ → List ℕ → Reads (HeadWidth × Head)
+head_of unsigned = number_head Unsigned
+head_of negative = number_head Negative
+head_of bytes = length_head (λ n. Bytes (Some n)) (Bytes None)
+head_of text = length_head (λ n. Text (Some n)) (Text None)
+head_of array = length_head (λ n. Array (Counted n)) (Array ToBreak)
+head_of map = length_head (λ n. Map (Counted n)) (Map ToBreak)
+head_of tag = number_head Tag
+head_of simple = simple_head
 
--- the head of this first byte, and its width
+-- that of this first byte
 unfoldable pub head_at : ℕ → List ℕ → Reads (HeadWidth × Head)
-head_at b bs =
-    if b / 32 == 7 then simple_head (b % 32) bs
-    else (if b % 32 == 31 then indefinite_head (b / 32) bs
-    else number_behind (b % 32) bs >>= (λ n. Ok ((width_of (b % 32), definite_head (b / 32) n.0), n.1)))
+head_at b bs = head_of (major_of (b / 32)) (b % 32) bs
 
 -- a head was read, of some width; or why not
-abbrev pub HeadGives : (ReadErrorCode → Bool) → (List ℕ → Reads (HeadWidth × Head)) → Input → Input → Option ReadError → Result Head Refused → Type 0
-HeadGives refusals read s t kept (Ok h) = Step s t (λ l bs rest. (w : HeadWidth) × (read bs ≡ Ok ((w, h), rest)))
+abbrev pub HeadGives : (ReadErrorCode → Bool) → (List ℕ → Reads (HeadWidth × Head)) → Input → Input
+    → Option ReadError → Result Head Refused → Type 0
+HeadGives refusals read s t kept (Ok h) =
+    Step s t (λ l bs rest. (w : HeadWidth) × (read bs ≡ Ok ((w, h), rest)))
 HeadGives refusals read s t kept (Err r) = Stopped refusals (λ l. read) s kept r
 
 -- ---- what follows a head
@@ -100,15 +109,18 @@ float_of m (Single bits) = m.float single bits
 float_of m (Double bits) = m.float double bits
 
 -- What follows a head of this width, where inner reads what lies one level further in if one is left.
-abbrev pub behind_head : {Item Items Pairs : Type 0} → Reading Item Items Pairs → Option (List ℕ → Reads Item) → HeadWidth → Head → List ℕ → Reads Item
+abbrev pub behind_head : {Item Items Pairs : Type 0} → Reading Item Items Pairs
+    → Option (List ℕ → Reads Item) → HeadWidth → Head → List ℕ → Reads Item
 behind_head m inner w (Unsigned n) bs = Ok (m.unsigned w n, bs)
 behind_head m inner w (Negative n) bs = Ok (m.negative w n, bs)
 behind_head m inner w (Bytes (Some n)) bs = string_at m w n bs
 behind_head m inner w (Bytes None) bs = string_chunks_at m bs
 behind_head m inner w (Text (Some n)) bs = text_at m w n bs
 behind_head m inner w (Text None) bs = text_chunks_at m bs
-behind_head m inner w (Array remaining) bs = array_at m inner (length_of w remaining) (remaining_of remaining) bs
-behind_head m inner w (Map remaining) bs = map_at m inner (length_of w remaining) (remaining_of remaining) bs
+behind_head m inner w (Array remaining) bs =
+    array_at m inner (length_of w remaining) (remaining_of remaining) bs
+behind_head m inner w (Map remaining) bs =
+    map_at m inner (length_of w remaining) (remaining_of remaining) bs
 behind_head m inner w (Tag n) bs = tag_at m inner w n bs
 behind_head m inner w (Boolean false) bs = Ok (m.simple false_item, bs)
 behind_head m inner w (Boolean true) bs = Ok (m.simple true_item, bs)
@@ -126,8 +138,10 @@ after_head f l inner (Bytes (Some n)) bs = string_at (values all_formats l) no_b
 after_head f l inner (Bytes None) bs = string_chunks_at (values all_formats l) bs
 after_head f l inner (Text (Some n)) bs = text_at (values all_formats l) no_bytes n bs
 after_head f l inner (Text None) bs = text_chunks_at (values all_formats l) bs
-after_head f l inner (Array remaining) bs = array_at (values f l) inner indefinite (remaining_of remaining) bs
-after_head f l inner (Map remaining) bs = map_at (values f l) inner indefinite (remaining_of remaining) bs
+after_head f l inner (Array remaining) bs =
+    array_at (values f l) inner indefinite (remaining_of remaining) bs
+after_head f l inner (Map remaining) bs =
+    map_at (values f l) inner indefinite (remaining_of remaining) bs
 after_head f l inner (Tag n) bs = tag_at (values f l) inner no_bytes n bs
 after_head f l inner (Boolean b) bs = Ok (plain.bool b, bs)
 after_head f l inner Null bs = Ok (plain.null, bs)
@@ -154,3 +168,7 @@ joined_of read = read >>= (λ cs. Ok (joined cs.0, cs.1))
 -- the pairs that are made of those that are read
 abbrev pub made_of : Reads (Pairs → Pairs) → Reads Pairs
 made_of read = read >>= (λ ps. Ok (ps.0 no_pairs, ps.1))
+
+-- what was read, of which nothing is kept
+abbrev pub passed : {A : Type 0} → Reads A → Reads (Unit {0})
+passed read = read >>= (λ x. Ok (tt, x.1))

@@ -1,11 +1,8 @@
 //! What reads items from a source.
 
-ghost use Rattle.std.specs.Prelude.{◌≡◌, false, ◌+◌, ◌^◌, ◌<◌, [], length, None, Some, nat_lt};
+ghost use Rattle.std.specs.Prelude.{◌≡◌, false, ◌+◌, ◌^◌, ◌<◌, nat_lt};
 ghost use Rattle.std.specs.Prelude.{OnOk, OnErr, IfErr, IsSomeAnd};
 ghost use Rattle.cbor_io.specs.declared.read.read_error.ReadErrorCode.TheVariants.{RecursionLimitExceeded};
-ghost use Rattle.cbor_io.specs.Source.{slice_input, reader_input};
-ghost use Rattle.cbor_io.specs.Sources.{input_of_slice, input_of_slice_fixed, input_of_mut_slice};
-ghost use Rattle.cbor_io.specs.Sources.{input_of_reader};
 ghost use Rattle.cbor_model.specs.Acceptable.{max_depth};
 ghost use Rattle.cbor_model.specs.Formats.{all_formats};
 ghost use Rattle.cbor_model.specs.Reader.{byte_at};
@@ -16,20 +13,16 @@ ghost use Rattle.cbor_de.specs.declared.refusal.Refused.TheVariants.{Kept};
 use crate::formats::Formats;
 use crate::refusal::Done;
 use cbor_io::error::Result;
-use cbor_io::read::{
-    IoRead, MutSliceRead, Offset, ReadError, ReadErrorCode, SliceRead, SliceReadFixed, Source,
-};
+use cbor_io::read::{Offset, ReadError, ReadErrorCode, Source};
 use std::alloc::Global;
-use std::io;
 
 /// How many arrays, maps and tags may stand inside one another.
 const MAX_DEPTH: u8 = 127;
 
-/// Reads items from a source: a slice, a slice with a scratch, a slice that is rewritten, any
-/// reader, or a source of the caller's own. Arrays, maps and tags may be nested 127 levels deep.
+/// Reads items from a source. Arrays, maps and tags may be nested 127 levels deep.
 ///
 /// ```rust
-/// let mut de = Deserializer::from_slice(alloc, &[]);
+/// let mut de = Deserializer::new(alloc, SliceRead::new(alloc, &[]));
 /// de.end()?;
 /// assert_eq!(rt; de.byte_offset(), 0);
 /// ```
@@ -45,62 +38,11 @@ pub struct Deserializer<R> {
     pub refusal: Option<ReadError>,
 }
 
-impl<'a> Deserializer<SliceRead<'a>> {
-    /// Reads from a slice. Strings in chunks are joined in memory.
-    pub fn from_slice(alloc: Global, slice: &'a [u8]) -> Deserializer<SliceRead<'a>>
-        ensures input { input_of_slice (source_of result) ≡ slice_input slice.now 0 [] None }
-        ensures levels { levels_of result ≡ max_depth }
-        ensures formats { formats_of result.formats ≡ all_formats }
-    {
-        Deserializer::new(alloc, SliceRead::new(alloc, slice))
-    }
-}
-
-impl<'a, 'b> Deserializer<SliceReadFixed<'a, 'b>> {
-    /// Reads from a slice. Strings in chunks are joined in the scratch: where they don't fit,
-    /// `ScratchTooSmall` is answered.
-    pub fn from_slice_with_scratch(
-        alloc: Global,
-        slice: &'a [u8],
-        scratch: &'b mut [u8],
-    ) -> Deserializer<SliceReadFixed<'a, 'b>>
-        ensures input { input_of_slice_fixed (source_of result)
-            ≡ slice_input slice.now 0 [] (Some (length scratch.old)) }
-        ensures levels { levels_of result ≡ max_depth }
-        ensures formats { formats_of result.formats ≡ all_formats }
-    {
-        Deserializer::new(alloc, SliceReadFixed::new(slice, scratch))
-    }
-}
-
-impl<'a> Deserializer<MutSliceRead<'a>> {
-    /// Reads from a slice that is rewritten: strings in chunks are joined in place.
-    pub fn from_mut_slice(alloc: Global, slice: &'a mut [u8]) -> Deserializer<MutSliceRead<'a>>
-        ensures input { input_of_mut_slice (source_of result) ≡ slice_input slice.old 0 [] None }
-        ensures levels { levels_of result ≡ max_depth }
-        ensures formats { formats_of result.formats ≡ all_formats }
-    {
-        Deserializer::new(alloc, MutSliceRead::new(slice))
-    }
-}
-
-impl<R: io::Read + Drop> Deserializer<IoRead<R>> {
-    /// Reads from a reader. No byte is taken that isn't asked for.
-    pub fn from_reader(alloc: Global, reader: R) -> Deserializer<IoRead<R>>
-        ensures input { input_of_reader R.remaining (source_of result)
-            ≡ reader_input None (R.remaining reader) [] 0 }
-        ensures levels { levels_of result ≡ max_depth }
-        ensures formats { formats_of result.formats ≡ all_formats }
-    {
-        Deserializer::new(alloc, IoRead::new(alloc, reader))
-    }
-}
-
 impl<R: Offset> Deserializer<R> {
     /// How many bytes of the input were taken.
     ///
     /// ```rust
-    /// let mut de = Deserializer::from_slice(alloc, b"\xf6\xf6");
+    /// let mut de = Deserializer::new(alloc, SliceRead::new(alloc, b"\xf6\xf6"));
     /// assert!(rt; de.end().is_err());
     /// assert_eq!(rt; de.byte_offset(), 1);
     /// ```
@@ -185,7 +127,7 @@ impl<R: Source> Deserializer<R> {
     /// the source is a reader that reports a fault.
     ///
     /// ```rust
-    /// let mut de = Deserializer::from_slice(alloc, b"\xf6");
+    /// let mut de = Deserializer::new(alloc, SliceRead::new(alloc, b"\xf6"));
     /// assert_eq!(rt; de.end().unwrap_err().offset(), 1);
     /// de.end()?;
     /// ```

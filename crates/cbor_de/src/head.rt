@@ -3,9 +3,10 @@
 ghost use Rattle.std.specs.Prelude.{◌≡◌, length, IfErr, IsSomeAnd, OnErr, OnOk};
 ghost use Rattle.std.specs.Int.{w8, w16, w32, w64};
 ghost use Rattle.cbor_model.specs.Reader.{number_at, number_behind};
+ghost use Rattle.cbor_model.specs.Major.{major_of};
 ghost use Rattle.cbor_io.specs.Head.{major_number};
 ghost use Rattle.cbor_de.specs.Gives.{Gives, Keeps};
-ghost use Rattle.cbor_de.specs.Heads.{HeadGives, head_at, simple_head, indefinite_head};
+ghost use Rattle.cbor_de.specs.Heads.{HeadGives, head_at, head_of, simple_head};
 ghost use Rattle.cbor_io.specs.Source.{TookKept, RefusedInto};
 ghost use Rattle.cbor_de.specs.declared.refusal.Refused.TheVariants.{Kept};
 
@@ -96,10 +97,10 @@ impl<R: Source> Deserializer<R> {
         }
     }
 
-    // What a first byte of an indefinite length says.
+    // What a first byte says whose lower five bits are 31.
     #[inline(always)]
     fn indefinite(&mut self, major: Major) -> Done<Head>
-        ensures read { HeadGives R.refusals (indefinite_head (major_number major))
+        ensures read { HeadGives R.refusals (head_of (major_of (major_number major)) 31)
             (R.source self.old.source) (R.source self.new.source) self.new.refusal result }
         ensures levels { self.new.levels ≡ self.old.levels }
         ensures formats { self.new.formats ≡ self.old.formats }
@@ -109,6 +110,7 @@ impl<R: Source> Deserializer<R> {
             Major::TextString => Ok(Head::Text(None)),
             Major::Array => Ok(Head::Array(Remaining::ToBreak)),
             Major::Map => Ok(Head::Map(Remaining::ToBreak)),
+            Major::Simple => Ok(Head::Break),
             _ => Err(self.refuse(ReadErrorCode::UnassignedCode)),
         }
     }

@@ -1,9 +1,12 @@
 -- What went from an input to its buffer.
 use Rattle.std.proofs.Common.{◌≡◌, ℕ, ◌+◌, ◌≤◌, List, ◌++◌, length, drop, take, Option, Some, arith}
-use Rattle.std.proofs.Common.{take-append-drop, refl}
+use Rattle.std.proofs.Common.{take-append-drop, refl, sym}
 use Rattle.std.proofs.lemmas.Grind.{common_steps}
 use Rattle.std.proofs.lemmas.List.{drop-drop}
-use Rattle.cbor_io.specs.Source.{Buffered, TookBehind, slice_input}
+use Rattle.std.proofs.lemmas.Str.{utf8_valid_len-IsUtf8}
+use Rattle.std.specs.Str.{IsUtf8}
+use Rattle.std.specs.Str.Lossy.{utf8_valid_len}
+use Rattle.cbor_io.specs.Source.{Buffered, TookBehind, Skipped, SkippedText, slice_input}
 
 -- The bytes of a slice up to `end` went to the buffer's end.
 pub appended : (bytes buffer after : List ℕ) (taken n end : ℕ) (room left : Option ℕ)
@@ -77,4 +80,64 @@ behind bytes buffer old new before taken n end room at within joined =
       room = refl;
       kept = refl;
       behind = joined;
+    }
+
+-- ---- what is skipped
+
+-- all of a text is UTF-8
+pub all_valid : (b : List ℕ) → IsUtf8 b → length b ≡ utf8_valid_len b
+all_valid b is = sym (utf8_valid_len-IsUtf8 b is)
+
+-- The bytes of a slice up to `end` were skipped.
+pub skipped : (bytes buffer after : List ℕ) (taken n end offset left : ℕ) (room : Option ℕ)
+    → end ≡ taken + n → end ≤ length bytes → left ≡ offset + n
+    → Skipped (record {
+      to_come = Some (drop taken bytes);
+      buffer = buffer;
+      offset = offset;
+      room = room;
+    })
+    (record {
+      to_come = Some (drop end bytes);
+      buffer = after;
+      offset = left;
+      room = room;
+    }) n
+skipped bytes buffer after taken n end offset left room at within count =
+    let rest = drop-drop n taken bytes in
+    let parts = take-append-drop n (drop taken bytes) in
+    record {
+      some = take n (drop taken bytes);
+      len = grind (arith, common_steps);
+      bytes = cc;
+      count = count;
+      room = refl;
+    }
+
+-- The same of a text.
+pub skipped_text : (bytes buffer after : List ℕ) (taken n end offset left valid : ℕ) (room : Option ℕ)
+    → end ≡ taken + n → end ≤ length bytes → left ≡ offset + n
+    → valid ≡ utf8_valid_len (take n (drop taken bytes))
+    → SkippedText (record {
+      to_come = Some (drop taken bytes);
+      buffer = buffer;
+      offset = offset;
+      room = room;
+    })
+    (record {
+      to_come = Some (drop end bytes);
+      buffer = after;
+      offset = left;
+      room = room;
+    }) n valid
+skipped_text bytes buffer after taken n end offset left valid room at within count is =
+    let rest = drop-drop n taken bytes in
+    let parts = take-append-drop n (drop taken bytes) in
+    record {
+      some = take n (drop taken bytes);
+      len = grind (arith, common_steps);
+      utf8 = is;
+      bytes = cc;
+      count = count;
+      room = refl;
     }

@@ -3,6 +3,7 @@ use Rattle.std.specs.Prelude.{◌≡◌, ◌≢◌, ⊤, ℕ, ◌+◌, ◌^◌, 
 use Rattle.std.specs.Prelude.{◌∷◌, ◌++◌, length, drop, Option, Some, None, Result, Ok, Err, IfSome}
 use Rattle.std.specs.Prelude.{MatchResult, MatchOption}
 use Rattle.std.specs.Io.KnownBytes.{Consumes, Keeps, prepend_known}
+use Rattle.std.specs.Str.Lossy.{utf8_valid_len}
 use Rattle.cbor_io.specs.ReadError.{why, place, HasNoPlace}
 use Rattle.cbor_io.specs.declared.read.read_error.ReadError.{ReadError}
 use Rattle.cbor_io.specs.declared.read.read_error.ReadErrorCode.{ReadErrorCode}
@@ -100,6 +101,23 @@ pub record TookBehind (s t : Input) (n : ℕ) (old new : List ℕ) : Type 0 wher
 abbrev pub FitsRoom : Input → Type 0
 FitsRoom s = MatchOption s.room ⊤ (λ most. length s.buffer ≤ most)
 
+-- the next n bytes were taken
+pub record Skipped (s t : Input) (n : ℕ) : Type 0 where
+  pub some : List ℕ
+  pub len : length some ≡ n
+  pub bytes : Consumes s.to_come t.to_come some
+  pub count : t.offset ≡ s.offset + n
+  pub room : t.room ≡ s.room
+
+-- the same, and so many of them are UTF-8, from the front
+pub record SkippedText (s t : Input) (n valid : ℕ) : Type 0 where
+  pub some : List ℕ
+  pub len : length some ≡ n
+  pub utf8 : valid ≡ utf8_valid_len some
+  pub bytes : Consumes s.to_come t.to_come some
+  pub count : t.offset ≡ s.offset + n
+  pub room : t.room ≡ s.room
+
 -- ---- refusals
 
 -- fewer than n bytes are to come, and at is where they end
@@ -161,6 +179,10 @@ pub record RefusedByte (allowed : ReadErrorCode → Bool) (s t : Input) (e : Rea
   pub room : why e ≢ ScratchTooSmall
   pub ended : why e ≢ EofWhileParsingValue
 
+-- how a call that hands on n bytes, or skips them, was refused
+abbrev pub RefusedPart : (ReadErrorCode → Bool) → Input → Input → ℕ → ReadError → Type 0
+RefusedPart allowed s t n e = Refused allowed s t n e × (why e ≢ ScratchTooSmall)
+
 -- what `next` does: a byte was taken, or the end was met
 abbrev pub NextDoes : (ReadErrorCode → Bool) → Input → Input → Result (Option ℕ) ReadError → Type 0
 NextDoes allowed s t (Ok (Some b)) = TookKept s t (b ∷ [])
@@ -172,7 +194,7 @@ abbrev pub ReadLeaves : (ReadErrorCode → Bool) → Input → Input → ℕ →
     → Type 0
 ReadLeaves allowed s t n r =
     MatchResult r (λ p. Took s t (part_bytes p))
-    (λ e. Refused allowed s t n e × (why e ≢ ScratchTooSmall))
+    (RefusedPart allowed s t n)
 
 -- ---- the sources
 

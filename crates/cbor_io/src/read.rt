@@ -8,7 +8,7 @@ ghost use Rattle.std.specs.Io.KnownBytes.{Keeps};
 ghost use Rattle.cbor_io.specs.Source.{Input, Lends, TookKept, Stays, KeepsBytes, Buffered};
 ghost use Rattle.cbor_io.specs.Source.{TookBehind, FitsRoom, RefusedToBuffer, RefusedInto};
 ghost use Rattle.cbor_io.specs.Source.{RefusedByte, or_memory, NextDoes, ReadLeaves, part_bytes};
-ghost use Rattle.cbor_io.specs.Source.{is_long};
+ghost use Rattle.cbor_io.specs.Source.{is_long, Skipped, SkippedText, RefusedPart};
 
 mod front;
 mod io_read;
@@ -55,7 +55,7 @@ pub trait Offset: Source {
 ///
 /// A source has bytes to come, a buffer, and an offset: how many bytes it handed out. `next`,
 /// `peek` and `discard` take or look at one byte, `read_into` takes as many as there is room for,
-/// and `clear_buffer` and `read_to_buffer` join parts of the input in the buffer, as the chunks of
+/// `skip` and `skip_text` take bytes that nobody wants, and `clear_buffer` and `read_to_buffer` join parts of the input in the buffer, as the chunks of
 /// a string of indefinite length (RFC 7049, section 2.2.2). After an Err some further beginning of
 /// the bytes to come is gone, and the offset counts it.
 ///
@@ -80,8 +80,8 @@ pub trait Offset: Source {
 ///   takes.
 /// - At the end `next` and `peek` answer None. A call that wants n bytes answers
 ///   `EofWhileParsingValue` only where fewer are to come, and at the offset where they end.
-/// - `read_to_buffer` appends to the buffer, and `clear_buffer` empties it. The other calls leave
-///   it as it is; `read` and `take_buffer` alone may drop it. `buffer` shows it.
+/// - `read_to_buffer` appends to the buffer, and `clear_buffer` empties it. `read`, `take_buffer`,
+///   `skip` and `skip_text` may drop it; the other calls leave it as it is. `buffer` shows it.
 /// - `read_to_vec` appends to the vector that it is given, in place of the buffer. It takes memory
 ///   only for bytes that came, however many are asked for.
 /// - The offset never passes 2^64 - 1.
@@ -120,6 +120,16 @@ pub trait Offset: Source {
 ///         } else {
 ///             Err(ReadError::eof(self.bytes.len() as u64))
 ///         }
+///     }
+/// }
+///
+/// // How many of these bytes, from the front, are UTF-8.
+/// fn valid_in(bytes: &[u8]) -> usize
+///     ensures { result ≡ utf8_valid_len bytes.now }
+/// {
+///     match str::from_utf8(bytes) {
+///         Ok(text) => text.len(),
+///         Err(e) => e.valid_up_to(),
 ///     }
 /// }
 ///
@@ -178,6 +188,18 @@ pub trait Offset: Source {
 ///         buf.copy_from_slice(&self.bytes[self.taken..end]);
 ///         self.taken = end;
 ///         Ok(())
+///     }
+///
+///     fn skip(&mut self, n: usize) -> Result<(), ReadError> {
+///         self.taken = self.end_of(n)?;
+///         Ok(())
+///     }
+///
+///     fn skip_text(&mut self, n: usize) -> Result<usize, ReadError> {
+///         let end = self.end_of(n)?;
+///         let valid = valid_in(&self.bytes[self.taken..end]);
+///         self.taken = end;
+///         Ok(valid)
 ///     }
 ///
 ///     fn discard(&mut self) {
@@ -262,6 +284,16 @@ pub trait Source {
         ensures ok { OnOk result (TookKept (source self.old) (source self.new) buf.new) }
         ensures err { IfErr result
             (RefusedInto refusals (source self.old) (source self.new) (length buf.old)) };
+
+    /// Takes n bytes, which are handed to nobody.
+    fn skip(&mut self, n: usize) -> Result<()>
+        ensures ok { OnOk result (Skipped (source self.old) (source self.new) n) }
+        ensures err { IfErr result (RefusedPart refusals (source self.old) (source self.new) n) };
+
+    /// The same, and answers how many of them, from the front, are UTF-8.
+    fn skip_text(&mut self, n: usize) -> Result<usize>
+        ensures ok { IfOk result (SkippedText (source self.old) (source self.new) n) }
+        ensures err { IfErr result (RefusedPart refusals (source self.old) (source self.new) n) };
 
     /// Takes the byte that was peeked.
     fn discard(&mut self)

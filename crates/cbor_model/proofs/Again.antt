@@ -6,13 +6,14 @@ use Rattle.std.specs.Int.{w16, w32, w64}
 use Rattle.std.proofs.lemmas.Bool.{ne_eqb, eq-eqb, lt-ltb}
 use Rattle.std.proofs.lemmas.List.{length-append}
 use Rattle.cbor_model.specs.Head.{HeadWidth, limit, info, head, behind}
+use Rattle.cbor_model.specs.Major.{major_of}
 use Rattle.cbor_model.specs.Raw as raw
 use Rattle.cbor_model.specs.Raw.{Length, definite, indefinite, Raw, Raws, no_raws, RawPairs, no_raw_pairs, raw_pair, Chunk, joined, Simple, false_item, true_item, null_item, undefined_item, FloatWidth, half, single, double, float_limit, count, pair_count, depth, depth_all, depth_pairs, IsChunk, IsWellFormed, AreWellFormed, ArePairsWellFormed, EachText, EachTextOfAll, EachTextOfPairs, EachKey, EachKeyOfAll, EachKeyOfPairs, longest_joined, longest_joined_all, longest_joined_pairs}
 use Rattle.cbor_model.specs.Spelling.{spell, spell_all, spell_pairs, chunk, simple_byte, float_spelling, break}
 use Rattle.cbor_model.specs.Refusal.{Refusal, end_in_array, end_in_map}
-use Rattle.cbor_model.specs.Reader.{Reads, ◌>>=◌, Reading, byte_at, float_at, simple_at, string_at, checked_text, text_at, content_of_chunk, chunk_at, chunks_by, string_chunks_at, text_chunks_at, Remaining, counted, to_break, next_at, Parts, parts_by, parts_at, pair_at, items_of, pairs_of, array_at, map_at, tag_at, content_at, indefinite_at, after_first, item_by, item_at, inside}
+use Rattle.cbor_model.specs.Reader.{Reads, ◌>>=◌, Reading, byte_at, with_number, with_length, float_at, simple_at, string_at, checked_text, text_at, content_of_chunk, chunk_at, chunks_by, string_chunks_at, text_chunks_at, Remaining, counted, to_break, next_at, Parts, parts_by, parts_at, pair_at, items_of, pairs_of, array_at, map_at, tag_at, content_at, after_first, item_by, item_at, inside}
 use Rattle.cbor_model.proofs.Made.{made, made_all, made_pairs}
-use Rattle.cbor_model.proofs.Steps.{bytes_again, wide16, wide32, wide64, number_again, info-below, width_of-info, number_behind_again, major_of, low_of, BeginsWith, key_is}
+use Rattle.cbor_model.proofs.Steps.{bytes_again, wide16, wide32, wide64, number_again, info-below, width_of-info, number_behind_again, high_of, low_of, BeginsWith, key_is}
 use Rattle.cbor_model.proofs.Found.{Passes, MayBeKey}
 use Rattle.cbor_model.proofs.FirstBytes.{IsBegun, begun, begun-length, head-no_break, begins_front}
 
@@ -142,7 +143,7 @@ chunk_again exceeds major c rest fits joins =
     let n = length c.bytes in
     let below : info w n < 28 = info-below w n fits.0 in
     let small : info w n < 32 = omega arith in
-    rw (major_of major (info w n) small, low_of major (info w n) small, eq-eqb major major refl, lt-ltb (info w n) 28 below, number_behind_again w n (c.bytes ++ rest) fits.0, bytes_again c.bytes rest, joins, width_of-info w n fits.0) refl
+    rw (high_of major (info w n) small, low_of major (info w n) small, eq-eqb major major refl, lt-ltb (info w n) 28 below, number_behind_again w n (c.bytes ++ rest) fits.0, bytes_again c.bytes rest, joins, width_of-info w n fits.0) refl
 
 chunks_again : (exceeds : ℕ → Bool) → Grows exceeds → (have major : ℕ) (cs : List Chunk) (fuel : ℕ) (rest : List ℕ) → major ≤ 6 → AllByRecursion IsChunk cs → exceeds (have + length (joined cs)) ≡ false → length cs < fuel → chunks_by exceeds have major fuel (flat_map (chunk major) cs ++ (0xff ∷ rest)) ≡ Ok (cs, rest)
 unfolding chunks_by byte_at
@@ -168,24 +169,29 @@ item_at-inside m (suc levels) bs = refl
 
 module _ {Item Items Pairs : Type 0} (m : Reading Item Items Pairs) where
   -- past a head, the reader is at the content
-  head_again : (inner : Option (List ℕ → Reads Item)) (major : ℕ) (w : HeadWidth) (n : ℕ) (rest : List ℕ) → major ≤ 6 → n < limit w → item_by m inner (head major w n ++ rest) ≡ content_at m inner major w n rest
+  head_again : (inner : Option (List ℕ → Reads Item)) (major : ℕ) (w : HeadWidth) (n : ℕ) (bs : List ℕ) → n < limit w → item_by m inner ((32 * major + info w n) ∷ bs) ≡ content_at m inner (major_of major) (info w n) bs
   unfolding item_by byte_at after_first
-  head_again inner major w n rest at_most fits =
-      let below = info-below w n fits in
-      let small : info w n < 32 = omega arith in
-      let not_seven : eqb major 7 ≡ false = ne_eqb major 7 (λ same. omega arith) in
-      let not_indefinite : eqb (info w n) 31 ≡ false = ne_eqb (info w n) 31 (λ same. omega arith) in
-      rw (major_of major (info w n) small, low_of major (info w n) small, not_seven, not_indefinite, number_behind_again w n rest fits, width_of-info w n fits) refl
+  head_again inner major w n bs fits =
+      let small : info w n < 32 = omega (arith, info-below w n fits) in
+      rw (high_of major (info w n) small, low_of major (info w n) small) refl
+
+  numbered_again : (inner : Option (List ℕ → Reads Item)) (major : ℕ) (read : HeadWidth → ℕ → List ℕ → Reads Item) (w : HeadWidth) (n : ℕ) (rest : List ℕ) → n < limit w → content_at m inner (major_of major) ≡ with_number read → item_by m inner (head major w n ++ rest) ≡ read w n rest
+  numbered_again inner major read w n rest fits is = head_again inner major w n (behind w n ++ rest) fits ∙ rw (is, number_behind_again w n rest fits, width_of-info w n fits) refl
+
+  length_again : (inner : Option (List ℕ → Reads Item)) (major : ℕ) (read : HeadWidth → ℕ → List ℕ → Reads Item) (others : List ℕ → Reads Item) (w : HeadWidth) (n : ℕ) (rest : List ℕ) → n < limit w → content_at m inner (major_of major) ≡ with_length read others → item_by m inner (head major w n ++ rest) ≡ read w n rest
+  length_again inner major read others w n rest fits is =
+      let not_31 : eqb (info w n) 31 ≡ false = ne_eqb (info w n) 31 (λ same. omega (arith, info-below w n fits)) in
+      head_again inner major w n (behind w n ++ rest) fits ∙ rw (is, not_31, number_behind_again w n rest fits, width_of-info w n fits) refl
 
   simple_again : (inner : Option (List ℕ → Reads Item)) (s : Simple) (rest : List ℕ) → item_by m inner (simple_byte s ∷ rest) ≡ Ok (m.simple s, rest)
-  unfolding item_by byte_at after_first simple_at
+  unfolding item_by byte_at after_first content_at simple_at
   simple_again inner false_item rest = refl
   simple_again inner true_item rest = refl
   simple_again inner null_item rest = refl
   simple_again inner undefined_item rest = refl
 
   float_again : (inner : Option (List ℕ → Reads Item)) (f : FloatWidth) (n : ℕ) (rest : List ℕ) → n < float_limit f → item_by m inner (float_spelling f n ++ rest) ≡ Ok (m.float f n, rest)
-  unfolding item_by byte_at after_first simple_at float_at
+  unfolding item_by byte_at after_first content_at simple_at float_at
   float_again inner half n rest lt = ap (λ r. r >>= (λ n. Ok (m.float half n.0, n.1))) (number_again w16 (float_limit half) wide16 n rest lt)
   float_again inner single n rest lt = ap (λ r. r >>= (λ n. Ok (m.float single n.0, n.1))) (number_again w32 (float_limit single) wide32 n rest lt)
   float_again inner double n rest lt = ap (λ r. r >>= (λ n. Ok (m.float double n.0, n.1))) (number_again w64 (float_limit double) wide64 n rest lt)
@@ -205,11 +211,11 @@ module _ {Item Items Pairs : Type 0} (m : Reading Item Items Pairs) where
       chunks_again m.exceeds grows 0 major cs _ rest at_most fits (ap m.exceeds none ∙ joins) (omega (arith, chunk_count-le major cs, length-append (flat_map (chunk major) cs) (0xff ∷ rest)))
 
   string_chunks_again : Grows m.exceeds → (inner : Option (List ℕ → Reads Item)) (cs : List Chunk) (rest : List ℕ) → AllByRecursion IsChunk cs → Joins m (joined cs) → item_by m inner (0x5f ∷ (flat_map (chunk 2) cs ++ (0xff ∷ rest))) ≡ Ok (m.bytes_chunks cs, rest)
-  unfolding item_by byte_at after_first indefinite_at string_chunks_at
+  unfolding item_by byte_at after_first content_at string_chunks_at
   string_chunks_again grows inner cs rest fits joins = rw (all_chunks_again grows 2 cs rest (omega arith) fits joins) refl
 
   text_chunks_again : Grows m.exceeds → (inner : Option (List ℕ → Reads Item)) (cs : List Chunk) (rest : List ℕ) → AllByRecursion IsChunk cs → Passes m (joined cs) → Joins m (joined cs) → item_by m inner (0x7f ∷ (flat_map (chunk 3) cs ++ (0xff ∷ rest))) ≡ Ok (m.text_chunks cs, rest)
-  unfolding item_by byte_at after_first indefinite_at text_chunks_at checked_text
+  unfolding item_by byte_at after_first content_at text_chunks_at checked_text
   text_chunks_again grows inner cs rest fits passes joins = rw (all_chunks_again grows 3 cs rest (omega arith) fits joins, passes) refl
 
   -- ---- what lies one level further in, by a reader p that reads it
@@ -228,11 +234,11 @@ module _ {Item Items Pairs : Type 0} (m : Reading Item Items Pairs) where
   tag_again p w n bs rest item is = rw is refl
 
   indefinite_array_again : (p : List ℕ → Reads Item) (bs : List ℕ) → item_by m (Some p) (0x9f ∷ bs) ≡ array_at m (Some p) indefinite to_break bs
-  unfolding item_by byte_at after_first indefinite_at
+  unfolding item_by byte_at after_first content_at
   indefinite_array_again p bs = refl
 
   indefinite_map_again : (p : List ℕ → Reads Item) (bs : List ℕ) → item_by m (Some p) (0xbf ∷ bs) ≡ map_at m (Some p) indefinite to_break bs
-  unfolding item_by byte_at after_first indefinite_at
+  unfolding item_by byte_at after_first content_at
   indefinite_map_again p bs = refl
 
   pair_again : (p : List ℕ → Reads Item) (bs at_value more : List ℕ) (k v : Item) → BeginsWith m.allows bs → p bs ≡ Ok (k, at_value) → p at_value ≡ Ok (v, more) → pair_at m.allows p bs ≡ Ok ((k, v), more)
@@ -257,15 +263,15 @@ module _ {Item Items Pairs : Type 0} (m : Reading Item Items Pairs) (total : ℕ
 
     -- what is spelled is read, where each text has room and passes
     pub again : (r : Raw) (levels : ℕ) (rest : List ℕ) → IsWellFormed r → depth r ≤ levels → Lets m r → length (spell r ++ rest) ≤ total → item_at m levels (spell r ++ rest) ≡ Ok (made m r, rest)
-    again (raw.unsigned w n) levels rest fits nests texts within = item_at-inside m levels _ ∙ head_again m (inside m levels) 0 w n rest (omega arith) fits
-    again (raw.negative w n) levels rest fits nests texts within = item_at-inside m levels _ ∙ head_again m (inside m levels) 1 w n rest (omega arith) fits
+    again (raw.unsigned w n) levels rest fits nests texts within = item_at-inside m levels _ ∙ numbered_again m (inside m levels) 0 (λ w n bs. Ok (m.unsigned w n, bs)) w n rest fits refl
+    again (raw.negative w n) levels rest fits nests texts within = item_at-inside m levels _ ∙ numbered_again m (inside m levels) 1 (λ w n bs. Ok (m.negative w n, bs)) w n rest fits refl
     again (raw.bytes c) levels rest fits nests texts within =
-        ap (item_at m levels) (append_assoc (head 2 c.width (length c.bytes)) c.bytes rest) ∙ item_at-inside m levels _ ∙ head_again m (inside m levels) 2 c.width (length c.bytes) (c.bytes ++ rest) (omega arith) fits.0 ∙ string_again m c rest
+        ap (item_at m levels) (append_assoc (head 2 c.width (length c.bytes)) c.bytes rest) ∙ item_at-inside m levels _ ∙ length_again m (inside m levels) 2 (string_at m) _ c.width (length c.bytes) (c.bytes ++ rest) fits.0 refl ∙ string_again m c rest
     again (raw.text c) levels rest fits nests texts within =
         let b = c.bytes in
         let front = head 3 c.width (length b) in
         let fits_room = room (length (b ++ rest)) (length b) (omega (arith, length-append b rest)) (within_head front b rest total within) in
-        ap (item_at m levels) (append_assoc front b rest) ∙ item_at-inside m levels _ ∙ head_again m (inside m levels) 3 c.width (length b) (b ++ rest) (omega arith) fits.0 ∙ text_again m c rest fits_room texts
+        ap (item_at m levels) (append_assoc front b rest) ∙ item_at-inside m levels _ ∙ length_again m (inside m levels) 3 (text_at m) _ c.width (length b) (b ++ rest) fits.0 refl ∙ text_again m c rest fits_room texts
     again (raw.bytes_chunks cs) levels rest fits nests texts within =
         ap (λ (t : List ℕ). item_at m levels (0x5f ∷ t)) (append_assoc (flat_map (chunk 2) cs) break rest) ∙ item_at-inside m levels _ ∙ string_chunks_again m grows (inside m levels) cs rest fits texts
     again (raw.text_chunks cs) levels rest fits nests texts within =
@@ -277,7 +283,7 @@ module _ {Item Items Pairs : Type 0} (m : Reading Item Items Pairs) (total : ℕ
         let bs = items ++ rest in
         ap (item_at m (suc levels)) (append_assoc front items rest)
         ∙ item_at-inside m (suc levels) _
-        ∙ head_again m (inside m (suc levels)) 4 w (count rs) bs (omega arith) fits.0
+        ∙ length_again m (inside m (suc levels)) 4 (λ w n. array_at m (Some (item_at m levels)) (definite w) (counted n)) _ w (count rs) bs fits.0 refl
         ∙ array_again m (item_at m levels) (definite w) (counted (count rs)) bs rest (made_all m rs) (all_again rs (definite w) levels rest (suc (length bs)) fits.1 (omega (arith, nests)) texts (within_head front items rest total within) (omega (arith, count-le rs fits.1, length-append items rest)))
     again (raw.array indefinite rs) (suc levels) rest fits nests texts within =
         let items = spell_all rs in
@@ -293,7 +299,7 @@ module _ {Item Items Pairs : Type 0} (m : Reading Item Items Pairs) (total : ℕ
         let bs = pairs ++ rest in
         ap (item_at m (suc levels)) (append_assoc front pairs rest)
         ∙ item_at-inside m (suc levels) _
-        ∙ head_again m (inside m (suc levels)) 5 w (pair_count ps) bs (omega arith) fits.0
+        ∙ length_again m (inside m (suc levels)) 5 (λ w n. map_at m (Some (item_at m levels)) (definite w) (counted n)) _ w (pair_count ps) bs fits.0 refl
         ∙ map_again m (item_at m levels) (definite w) (counted (pair_count ps)) bs rest (made_pairs m ps) (pairs_again ps (definite w) levels rest (suc (length bs)) fits.1 (omega (arith, nests)) texts (within_head front pairs rest total within) (omega (arith, pair_count-le ps fits.1, length-append pairs rest)))
     again (raw.map indefinite ps) (suc levels) rest fits nests texts within =
         let pairs = spell_pairs ps in
@@ -308,7 +314,7 @@ module _ {Item Items Pairs : Type 0} (m : Reading Item Items Pairs) (total : ℕ
         let item = spell r in
         ap (item_at m (suc levels)) (append_assoc front item rest)
         ∙ item_at-inside m (suc levels) _
-        ∙ head_again m (inside m (suc levels)) 6 w n (item ++ rest) (omega arith) fits.0
+        ∙ numbered_again m (inside m (suc levels)) 6 (tag_at m (Some (item_at m levels))) w n (item ++ rest) fits.0 refl
         ∙ tag_again m (item_at m levels) w n (item ++ rest) rest (made m r) (again r levels rest fits.1 (omega (arith, nests)) texts (within_head front item rest total within))
     again (raw.simple s) levels rest fits nests texts within = item_at-inside m levels _ ∙ simple_again m (inside m levels) s rest
     again (raw.float f n) levels rest fits nests texts within = item_at-inside m levels _ ∙ float_again m (inside m levels) f n rest fits

@@ -4,16 +4,18 @@ use Rattle.std.proofs.Common.{◌≡◌, ◌⊎◌, ℕ, zero, suc, ◌+◌, ◌
 use Rattle.std.proofs.Common.{List, [], ◌∷◌, length, Option, Some, None, Result, Ok, Err, refl, sym, subst}
 use Rattle.std.proofs.Common.{inl, inr}
 use Rattle.cbor_model.specs.Head.{HeadWidth}
+use Rattle.cbor_model.specs.Major.{Major, unsigned, negative, bytes, text, array, map, tag, simple}
+use Rattle.cbor_model.specs.Major.{major_of}
 use Rattle.cbor_model.specs.Raw.{Length, definite, indefinite}
 use Rattle.cbor_model.specs.Refusal.{scratch_too_small}
 use Rattle.cbor_model.specs.Reader.{Fault, Reads, ◌>>=◌, Reading, byte_at, bytes_at, number_behind}
-use Rattle.cbor_model.specs.Reader.{width_of, simple_at, float_at, string_at, checked_text, text_at}
+use Rattle.cbor_model.specs.Reader.{width_of, with_number, with_length, simple_at, float_at, string_at, checked_text, text_at}
 use Rattle.cbor_model.specs.Reader.{begins_chunk, content_of_chunk, chunk_at, chunks_by, chunks_at}
 use Rattle.cbor_model.specs.Reader.{string_chunks_at, text_chunks_at, Remaining, counted, to_break}
 use Rattle.cbor_model.specs.Reader.{next_at, Parts, go_on, parts_by, parts_at, key_at}
 use Rattle.cbor_model.specs.Reader.{pair_at, items_of}
 use Rattle.cbor_model.specs.Reader.{pairs_of, within, array_at, map_at, tag_at, content_at}
-use Rattle.cbor_model.specs.Reader.{indefinite_at, after_first, item_by, item_at}
+use Rattle.cbor_model.specs.Reader.{after_first, item_by, item_at}
 use Rattle.cbor_model.specs.Laws.{IsScratchTooSmall}
 
 -- the same, or that the scratch is too small
@@ -38,6 +40,23 @@ agrees_cond : {A : Type 0} (b : Bool) (x x' y y' : Result A Fault) → Agrees x 
 agrees_cond true x x' y y' one other = one
 agrees_cond false x x' y y' one other = other
 
+-- a number, or a length, and what is read behind it
+abbrev EachAgrees : {A : Type 0} → (HeadWidth → ℕ → List ℕ → Reads A) → (HeadWidth → ℕ → List ℕ → Reads A) → Type 0
+EachAgrees read read' = (w : HeadWidth) (n : ℕ) (bs : List ℕ) → Agrees (read w n bs) (read' w n bs)
+
+numbered_agrees : {A : Type 0} (read read' : HeadWidth → ℕ → List ℕ → Reads A)
+    → EachAgrees read read' → (low : ℕ) (bs : List ℕ)
+    → Agrees (with_number read low bs) (with_number read' low bs)
+numbered_agrees read read' each low bs =
+    agrees_then (number_behind low bs) _ _ (λ n. each (width_of low) n.0 n.1)
+
+length_agrees : {A : Type 0} (read read' : HeadWidth → ℕ → List ℕ → Reads A)
+    (others others' : List ℕ → Reads A) → EachAgrees read read'
+    → ((bs : List ℕ) → Agrees (others bs) (others' bs)) → (low : ℕ) (bs : List ℕ)
+    → Agrees (with_length read others low bs) (with_length read' others' low bs)
+length_agrees read read' others others' each none low bs =
+    agrees_cond (eqb low 31) _ _ _ _ (none bs) (numbered_agrees read read' each low bs)
+
 -- ---- chunks
 
 -- any number of bytes can be joined
@@ -61,8 +80,8 @@ module _ (exceeds : ℕ → Bool) where
   unfolding chunk_at
   chunk_agrees major b bs =
       agrees_cond (begins_chunk major b) _ _ _ _
-      (agrees_then (number_behind (b % 32) bs) _ _
-      (λ n. chunk_content_agrees (width_of (b % 32)) n.0 n.1))
+      (numbered_agrees (content_of_chunk exceeds) (content_of_chunk none_exceeds)
+      chunk_content_agrees (b % 32) bs)
       (inl refl)
 
 chunks_agree : (exceeds : ℕ → Bool) (have major fuel : ℕ) (bs : List ℕ)
@@ -197,39 +216,28 @@ module _ {Item Items Pairs : Type 0} (m : Reading Item Items Pairs) where
         (within_agrees bs _ _ (λ p q alike. alike bs))
         (λ item. inl refl)
 
-    content_agrees : (major : ℕ) (w : HeadWidth) (n : ℕ) (bs : List ℕ)
-        → Agrees (content_at m inner major w n bs) (content_at unlimited inner' major w n bs)
-    unfolding content_at string_at text_at checked_text
-    content_agrees major w n bs =
-        agrees_cond (eqb major 0) _ _ _ _ (inl refl)
-        (agrees_cond (eqb major 1) _ _ _ _ (inl refl)
-        (agrees_cond (eqb major 2) _ _ _ _ (inl refl)
-        (agrees_cond (eqb major 3) _ _ _ _ (inl refl)
-        (agrees_cond (eqb major 4) _ _ _ _ (array_agrees (definite w) (counted n) bs)
-        (agrees_cond (eqb major 5) _ _ _ _ (map_agrees (definite w) (counted n) bs)
-        (tag_agrees w n bs))))))
-
-    indefinite_agrees : (major : ℕ) (bs : List ℕ)
-        → Agrees (indefinite_at m inner major bs) (indefinite_at unlimited inner' major bs)
-    unfolding indefinite_at
-    indefinite_agrees major bs =
-        agrees_cond (eqb major 2) _ _ _ _ (string_chunks_agree bs)
-        (agrees_cond (eqb major 3) _ _ _ _ (text_chunks_agree bs)
-        (agrees_cond (eqb major 4) _ _ _ _ (array_agrees indefinite to_break bs)
-        (agrees_cond (eqb major 5) _ _ _ _ (map_agrees indefinite to_break bs) (inl refl))))
-
-    after_first_agrees : (b : ℕ) (bs : List ℕ)
-        → Agrees (after_first m inner b bs) (after_first unlimited inner' b bs)
-    unfolding after_first simple_at float_at
-    after_first_agrees b bs =
-        agrees_cond (eqb (b / 32) 7) _ _ _ _ (inl refl)
-        (agrees_cond (eqb (b % 32) 31) _ _ _ _ (indefinite_agrees (b / 32) bs)
-        (agrees_then (number_behind (b % 32) bs) _ _
-        (λ n. content_agrees (b / 32) (width_of (b % 32)) n.0 n.1)))
+    content_agrees : (t : Major) (low : ℕ) (bs : List ℕ)
+        → Agrees (content_at m inner t low bs) (content_at unlimited inner' t low bs)
+    unfolding content_at string_at text_at checked_text simple_at float_at
+    content_agrees unsigned = λ low bs. inl refl
+    content_agrees negative = λ low bs. inl refl
+    content_agrees bytes =
+        length_agrees (string_at m) (string_at unlimited) _ _ (λ w n bs. inl refl) string_chunks_agree
+    content_agrees text =
+        length_agrees (text_at m) (text_at unlimited) _ _ (λ w n bs. inl refl) text_chunks_agree
+    content_agrees array =
+        length_agrees _ _ _ _ (λ w n. array_agrees (definite w) (counted n))
+        (array_agrees indefinite to_break)
+    content_agrees map =
+        length_agrees _ _ _ _ (λ w n. map_agrees (definite w) (counted n))
+        (map_agrees indefinite to_break)
+    content_agrees tag = numbered_agrees _ _ tag_agrees
+    content_agrees simple = λ low bs. inl refl
 
     item_by_agrees : (bs : List ℕ) → Agrees (item_by m inner bs) (item_by unlimited inner' bs)
-    unfolding item_by
-    item_by_agrees bs = agrees_then (byte_at bs) _ _ (λ b. after_first_agrees b.0 b.1)
+    unfolding item_by after_first
+    item_by_agrees bs =
+        agrees_then (byte_at bs) _ _ (λ b. content_agrees (major_of (b.0 / 32)) (b.0 % 32) b.1)
 
   pub item_agrees : (levels : ℕ) (bs : List ℕ)
       → Agrees (item_at m levels bs) (item_at unlimited levels bs)

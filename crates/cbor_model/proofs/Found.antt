@@ -5,9 +5,10 @@ use Rattle.std.proofs.Common.{Ok, refl, sym, ap, subst, ◌∙◌, append_assoc,
 use Rattle.std.specs.Prelude.{flat_map, max}
 use Rattle.std.specs.List.{AllByRecursion}
 use Rattle.std.specs.Int.{Width, w16, w32, w64, to_be_bytes}
-use Rattle.std.proofs.lemmas.Bool.{eqb-true, eqb-false, cases_lt}
+use Rattle.std.proofs.lemmas.Bool.{eqb-true, cases_lt}
 use Rattle.std.proofs.lemmas.List.{length-append}
 use Rattle.cbor_model.specs.Head.{HeadWidth, limit, info, head, behind}
+use Rattle.cbor_model.specs.Major.{major_of}
 use Rattle.cbor_model.specs.Raw as raw
 use Rattle.cbor_model.specs.Raw.{Length, definite, indefinite, Raw, Raws, no_raws, RawPairs}
 use Rattle.cbor_model.specs.Raw.{no_raw_pairs, raw_pair, Chunk, joined, Simple, false_item}
@@ -19,16 +20,16 @@ use Rattle.cbor_model.specs.Raw.{EachKey, EachKeyOfAll, EachKeyOfPairs}
 use Rattle.cbor_model.specs.Raw.{longest_joined, longest_joined_all, longest_joined_pairs}
 use Rattle.cbor_model.specs.Spelling.{spell, spell_all, spell_pairs, chunk, simple_byte}
 use Rattle.cbor_model.specs.Spelling.{float_spelling, break}
-use Rattle.cbor_model.specs.Refusal.{unassigned_code, unexpected_code, too_deep}
+use Rattle.cbor_model.specs.Refusal.{unexpected_code, too_deep}
 use Rattle.cbor_model.specs.Refusal.{length_out_of_range, scratch_too_small}
 use Rattle.cbor_model.specs.Reader.{Reads, ◌>>=◌, Reading, ended, before, byte_at, bytes_at}
-use Rattle.cbor_model.specs.Reader.{number_at, width_of, number_behind, float_at, simple_at}
+use Rattle.cbor_model.specs.Reader.{number_at, width_of, number_behind, with_number, with_length, float_at, simple_at}
 use Rattle.cbor_model.specs.Reader.{string_at, checked_text, text_at, begins_chunk}
 use Rattle.cbor_model.specs.Reader.{content_of_chunk, chunk_at, chunks_by, chunks_at}
 use Rattle.cbor_model.specs.Reader.{string_chunks_at, text_chunks_at, Remaining, counted, to_break}
 use Rattle.cbor_model.specs.Reader.{next_at, Parts, go_on, parts_by, parts_at, key_at}
 use Rattle.cbor_model.specs.Reader.{pair_at, items_of}
-use Rattle.cbor_model.specs.Reader.{pairs_of, array_at, map_at, tag_at, content_at, indefinite_at}
+use Rattle.cbor_model.specs.Reader.{pairs_of, array_at, map_at, tag_at, content_at}
 use Rattle.cbor_model.specs.Reader.{after_first, item_by, item_at}
 use Rattle.cbor_model.proofs.Made.{made, made_all, made_pairs}
 use Rattle.cbor_model.proofs.Steps.{AreBytes-rest, bind_ok, chosen, at_number, done, ok_is, read_as}
@@ -36,6 +37,7 @@ use Rattle.cbor_model.proofs.Steps.{not_ok, bytes_found, IsWide, wide16, wide32,
 use Rattle.cbor_model.proofs.Steps.{number_found, number_behind_found, first_is}
 use Rattle.cbor_model.proofs.Steps.{BeginsWith, key_read}
 use Rattle.cbor_model.proofs.FirstBytes.{begun, front_begins}
+use Rattle.cbor_model.proofs.Majors.{each_major}
 
 -- the reading lets the text pass
 abbrev pub Passes : {Item Items Pairs : Type 0} → Reading Item Items Pairs → List ℕ → Type 0
@@ -158,11 +160,10 @@ both_hold true b e = (refl, e)
 both_hold false b e = absurd cc
 
 -- the head of this major type, and what stands behind its first byte
-whole_head : (major b n : ℕ) (w : HeadWidth) (bs rest : List ℕ) → b / 32 ≡ major → b % 32 ≡ info w n
-    → bs ≡ behind w n ++ rest → (b ∷ bs) ≡ head major w n ++ rest
-whole_head major b n w bs rest high low parts =
-    let first : b ≡ 32 * major + info w n = omega (arith, first_is b) in
-    ap (λ (c : ℕ). c ∷ bs) first ∙ ap (λ (t : List ℕ). (32 * major + info w n) ∷ t) parts
+whole_head : (major low n : ℕ) (w : HeadWidth) (bs rest : List ℕ) → low ≡ info w n
+    → bs ≡ behind w n ++ rest → ((32 * major + low) ∷ bs) ≡ head major w n ++ rest
+whole_head major low n w bs rest low_is parts =
+    ap (λ (i : ℕ). (32 * major + i) ∷ bs) low_is ∙ ap (λ (t : List ℕ). (32 * major + info w n) ∷ t) parts
 
 chunk_found : (exceeds : ℕ → Bool) (major b : ℕ) (bs : List ℕ) (x : Chunk × List ℕ) → AreBytes bs
     → chunk_at exceeds major b bs ≡ Ok x → IsChunkOf exceeds major b bs x
@@ -172,7 +173,8 @@ chunk_found exceeds major b bs x fits is =
       | inr other ↦ not_ok (before unexpected_code bs) x other.1
       | inl this ↦
           let w = width_of (b % 32) in
-          let high : b / 32 ≡ major = eqb-true _ _ (both_hold (eqb (b / 32) major) (ltb (b % 32) 28) this.0).0 in
+          let is_major : b / 32 ≡ major = eqb-true _ _ (both_hold (eqb (b / 32) major) (ltb (b % 32) 28) this.0).0 in
+          let first : b ≡ 32 * major + b % 32 = omega (arith, first_is b, is_major) in
           let step = bind_ok (number_behind (b % 32) bs) (λ n. content_of_chunk exceeds w n.0 n.1) x this.1 in
           let n = step.0.0 in
           let got = number_behind_found (b % 32) bs step.0 fits step.1 in
@@ -184,7 +186,7 @@ chunk_found exceeds major b bs x fits is =
           elim (chosen (exceeds n) _ _ _ step'.2) [
             | inl more ↦ not_ok (before scratch_too_small step.0.1) x more.1
             | inr holds ↦ read_as (IsChunkOf exceeds major b bs) (record { width = w; bytes = c.0 }, c.1) x holds.1 (record {
-              parts = whole_head major b n w bs step.0.1 high got.is_low got.parts ∙ behind_head major w n (length c.0) step.0.1 c.0 c.1 got'.parts long;
+              parts = ap (λ (c : ℕ). c ∷ bs) first ∙ whole_head major (b % 32) n w bs step.0.1 got.is_low got.parts ∙ behind_head major w n (length c.0) step.0.1 c.0 c.1 got'.parts long;
               fits = (omega (arith, long, small), got'.fits);
               joins = ap exceeds long ∙ holds.0;
               rest_fits = got'.rest_fits;
@@ -557,20 +559,6 @@ module _ {Item Items Pairs : Type 0} (m : Reading Item Items Pairs) (none_fits :
         rest_fits = AreBytes-rest 0xff rest got.rest_fits;
       })
 
-  indefinite_found : (inner : Option (List ℕ → Reads Item)) (levels : ℕ)
-      → FindsInside m inner levels → (major : ℕ) (bs : List ℕ) (x : Item × List ℕ)
-      → AreBytes bs → indefinite_at m inner major bs ≡ Ok x → IsIndefinite levels major bs x
-  unfolding indefinite_at
-  indefinite_found inner levels finds major bs x fits is =
-      at_number P major 2 _ _ _ is (string_chunks_found levels bs x fits) (λ not_2 is.
-      at_number P major 3 _ _ _ is (text_chunks_found levels bs x fits) (λ not_3 is.
-      at_number P major 4 _ _ _ is (indefinite_array_found inner levels finds bs x fits) (λ not_4 is.
-      at_number P major 5 _ _ _ is (indefinite_map_found inner levels finds bs x fits)
-      (λ not_5 none. not_ok (before unassigned_code bs) x none))))
-    where
-      P : ℕ → Type 0
-      P major = IsIndefinite levels major bs x
-
   -- ---- simple values and floats
 
   -- an item of major type 7, by its lower five bits
@@ -677,49 +665,59 @@ module _ {Item Items Pairs : Type 0} (m : Reading Item Items Pairs) (none_fits :
         rest_fits = fits;
       })
 
+  -- a number, and what is found behind it
+  numbered_found : (levels major low : ℕ) (read : HeadWidth → ℕ → List ℕ → Reads Item)
+      → ((w : HeadWidth) (n : ℕ) (bs : List ℕ) (x : Item × List ℕ) → AreBytes bs → n < limit w
+      → read w n bs ≡ Ok x → IsContent levels major w n bs x)
+      → (bs : List ℕ) (x : Item × List ℕ) → AreBytes bs → with_number read low bs ≡ Ok x
+      → IsItem m levels ((32 * major + low) ∷ bs) x
+  numbered_found levels major low read each bs x fits is =
+      let w = width_of low in
+      let step = bind_ok (number_behind low bs) (λ n. read w n.0 n.1) x is in
+      let got = number_behind_found low bs step.0 fits step.1 in
+      subst (λ (t : List ℕ). IsItem m levels t x) (sym (whole_head major low step.0.0 w bs step.0.1 got.is_low got.parts))
+      (each w step.0.0 step.0.1 x got.rest_fits got.fits step.2)
+
+  -- a length, and what is found behind it, or behind none
+  length_found : (levels major low : ℕ) (read : HeadWidth → ℕ → List ℕ → Reads Item)
+      (others : List ℕ → Reads Item)
+      → ((w : HeadWidth) (n : ℕ) (bs : List ℕ) (x : Item × List ℕ) → AreBytes bs → n < limit w
+      → read w n bs ≡ Ok x → IsContent levels major w n bs x)
+      → ((bs : List ℕ) (x : Item × List ℕ) → AreBytes bs → others bs ≡ Ok x
+      → IsIndefinite levels major bs x)
+      → (bs : List ℕ) (x : Item × List ℕ) → AreBytes bs → with_length read others low bs ≡ Ok x
+      → IsItem m levels ((32 * major + low) ∷ bs) x
+  length_found levels major low read others each none bs x fits is =
+      at_number (λ low. IsItem m levels ((32 * major + low) ∷ bs) x) low 31 _ _ _ is (none bs x fits)
+      (λ not_31. numbered_found levels major low read each bs x fits)
+
   content_found : (inner : Option (List ℕ → Reads Item)) (levels : ℕ)
-      → FindsInside m inner levels → (major : ℕ) → major ≤ 6 → (w : HeadWidth) (n : ℕ)
-      (bs : List ℕ) (x : Item × List ℕ) → AreBytes bs → n < limit w
-      → content_at m inner major w n bs ≡ Ok x → IsContent levels major w n bs x
-  unfolding content_at spell made
-  content_found inner levels finds major at_most w n bs x fits small is =
-      at_number P major 0 _ _ _ is (unsigned_found levels w n bs x fits small) (λ not_0 is.
-      at_number P major 1 _ _ _ is (negative_found levels w n bs x fits small) (λ not_1 is.
-      at_number P major 2 _ _ _ is (string_found levels w n bs x fits small) (λ not_2 is.
-      at_number P major 3 _ _ _ is (text_found levels w n bs x fits small) (λ not_3 is.
-      at_number P major 4 _ _ _ is (array_found inner levels finds w n bs x fits small) (λ not_4 is.
-      at_number P major 5 _ _ _ is (map_found inner levels finds w n bs x fits small) (λ not_5 is.
-      let six : major ≡ 6 = omega (arith, not_0, not_1, not_2, not_3, not_4, not_5) in
-      subst P (sym six) (tag_found inner levels finds w n bs x fits small is)))))))
-    where
-      P : ℕ → Type 0
-      P major = IsContent levels major w n bs x
+      → FindsInside m inner levels → (major low : ℕ) (bs : List ℕ) (x : Item × List ℕ)
+      → AreBytes bs → major < 8 → content_at m inner (major_of major) low bs ≡ Ok x
+      → IsItem m levels ((32 * major + low) ∷ bs) x
+  unfolding content_at
+  content_found inner levels finds major low bs x fits =
+      each_major (λ k t. content_at m inner t low bs ≡ Ok x → IsItem m levels ((32 * k + low) ∷ bs) x)
+      (numbered_found levels 0 low (λ w n bs. Ok (m.unsigned w n, bs)) (unsigned_found levels) bs x fits)
+      (numbered_found levels 1 low (λ w n bs. Ok (m.negative w n, bs)) (negative_found levels) bs x fits)
+      (length_found levels 2 low (string_at m) (string_chunks_at m) (string_found levels) (string_chunks_found levels) bs x fits)
+      (length_found levels 3 low (text_at m) (text_chunks_at m) (text_found levels) (text_chunks_found levels) bs x fits)
+      (length_found levels 4 low (λ w n. array_at m inner (definite w) (counted n)) (array_at m inner indefinite to_break)
+      (array_found inner levels finds) (indefinite_array_found inner levels finds) bs x fits)
+      (length_found levels 5 low (λ w n. map_at m inner (definite w) (counted n)) (map_at m inner indefinite to_break)
+      (map_found inner levels finds) (indefinite_map_found inner levels finds) bs x fits)
+      (numbered_found levels 6 low (tag_at m inner) (tag_found inner levels finds) bs x fits)
+      (simple_found levels low bs x fits)
+      major
 
   after_first_found : (inner : Option (List ℕ → Reads Item)) (levels : ℕ)
       → FindsInside m inner levels → (b : ℕ) (bs : List ℕ) (x : Item × List ℕ) → AreBytes (b ∷ bs)
       → after_first m inner b bs ≡ Ok x → IsItem m levels (b ∷ bs) x
   unfolding after_first
   after_first_found inner levels finds b bs x fits is =
-      let rest_fits = AreBytes-rest b bs fits in
-      elim (chosen (eqb (b / 32) 7) _ _ _ is) [
-        | inl this ↦
-            let first : b ≡ 32 * 7 + b % 32 = omega (arith, first_is b, eqb-true _ _ this.0) in
-            subst (λ (c : ℕ). IsItem m levels (c ∷ bs) x) (sym first) (simple_found levels (b % 32) bs x rest_fits this.1)
-        | inr other ↦
-            let at_most : b / 32 ≤ 6 = omega (arith, fits 0, eqb-false _ _ other.0) in
-            elim (chosen (eqb (b % 32) 31) _ _ _ other.1) [
-              | inl this ↦
-                  let first : b ≡ 32 * (b / 32) + 31 = omega (arith, first_is b, eqb-true _ _ this.0) in
-                  subst (λ (c : ℕ). IsItem m levels (c ∷ bs) x) (sym first) (indefinite_found inner levels finds (b / 32) bs x rest_fits this.1)
-              | inr other ↦
-                  let w = width_of (b % 32) in
-                  let step = bind_ok (number_behind (b % 32) bs) (λ n. content_at m inner (b / 32) w n.0 n.1) x other.1 in
-                  let n = step.0.0 in
-                  let rest = step.0.1 in
-                  let got = number_behind_found (b % 32) bs step.0 rest_fits step.1 in
-                  subst (λ (t : List ℕ). IsItem m levels t x) (sym (whole_head (b / 32) b n w bs rest refl got.is_low got.parts)) (content_found inner levels finds (b / 32) at_most w n rest x got.rest_fits got.fits step.2)
-            ]
-      ]
+      let below : b / 32 < 8 = omega (arith, fits 0) in
+      subst (λ (c : ℕ). IsItem m levels (c ∷ bs) x) (sym (first_is b))
+      (content_found inner levels finds (b / 32) (b % 32) bs x (AreBytes-rest b bs fits) below is)
 
   item_found : (inner : Option (List ℕ → Reads Item)) (levels : ℕ) → FindsInside m inner levels
       → Finds m (item_by m inner) levels

@@ -1,4 +1,5 @@
 pub mod Steps
+pub mod Majors
 pub mod Made
 pub mod Taken
 pub mod Fuel

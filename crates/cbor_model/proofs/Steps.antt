@@ -263,8 +263,8 @@ number_behind_again eight_bytes n rest lt = number_again w64 (2 ^ 64) wide64 n r
 
 -- ---- first bytes
 
-pub major_of : (major low : ℕ) → low < 32 → (32 * major + low) / 32 ≡ major
-major_of major low lt = omega (arith, lt)
+pub high_of : (major low : ℕ) → low < 32 → (32 * major + low) / 32 ≡ major
+high_of major low lt = omega (arith, lt)
 
 pub low_of : (major low : ℕ) → low < 32 → (32 * major + low) % 32 ≡ low
 low_of major low lt = omega (arith, lt)

@@ -1,11 +1,12 @@
 -- An item takes a byte at the least, and no step of reading leaves more bytes than it began with.
-use Rattle.std.proofs.Common.{◌≡◌, ℕ, zero, suc, ◌+◌, ◌/◌, ◌%◌, ◌<◌, ◌≤◌, Bool, true, false, cond, eqb, ltb, List, [], ◌∷◌, length, Option, Some, None, Ok, Err, subst, arith}
+use Rattle.std.proofs.Common.{◌≡◌, ℕ, zero, suc, ◌+◌, ◌%◌, ◌<◌, ◌≤◌, Bool, true, false, cond, eqb, ltb, List, [], ◌∷◌, length, Option, Some, None, Ok, Err, subst, arith}
 use Rattle.std.specs.Int.{Width, w8, w16, w32, w64, byte_len}
 use Rattle.std.proofs.lemmas.List.{length-drop}
 use Rattle.cbor_model.specs.Head.{HeadWidth}
+use Rattle.cbor_model.specs.Major.{Major, unsigned, negative, bytes, text, array, map, tag, simple}
 use Rattle.cbor_model.specs.Raw.{Length, definite, indefinite, Chunk}
 use Rattle.cbor_model.specs.Refusal.{Refusal}
-use Rattle.cbor_model.specs.Reader.{Reads, ◌>>=◌, Reading, byte_at, bytes_at, number_at, number_behind, float_at, simple_at, string_at, checked_text, text_at, begins_chunk, content_of_chunk, chunk_at, chunks_by, chunks_at, string_chunks_at, text_chunks_at, Remaining, counted, to_break, next_at, Parts, go_on, parts_by, parts_at, key_at, pair_at, items_of, pairs_of, within, array_at, map_at, tag_at, content_at, indefinite_at, after_first, item_by, item_at}
+use Rattle.cbor_model.specs.Reader.{Reads, ◌>>=◌, Reading, byte_at, bytes_at, number_at, number_behind, with_number, with_length, float_at, simple_at, string_at, checked_text, text_at, begins_chunk, content_of_chunk, chunk_at, chunks_by, chunks_at, string_chunks_at, text_chunks_at, Remaining, counted, to_break, next_at, Parts, go_on, parts_by, parts_at, key_at, pair_at, items_of, pairs_of, within, array_at, map_at, tag_at, content_at, after_first, item_by, item_at}
 
 -- where something is read, no more than n bytes are left
 abbrev pub Leaves : {A : Type 0} → ℕ → Reads A → Type 0
@@ -40,6 +41,16 @@ number_behind_leaves low n bs few =
     (Leaves-cond n (eqb low 26) _ _ (number_leaves w32 n bs few)
     (Leaves-cond n (eqb low 27) _ _ (number_leaves w64 n bs few) tt))))
 
+-- a number, or a length, and what is read behind it
+abbrev EachLeaves : {A : Type 0} → (HeadWidth → ℕ → List ℕ → Reads A) → Type 0
+EachLeaves read = (w : HeadWidth) (k n : ℕ) (bs : List ℕ) → length bs ≤ n → Leaves n (read w k bs)
+
+numbered_leaves : {A : Type 0} (read : HeadWidth → ℕ → List ℕ → Reads A) → EachLeaves read → (low n : ℕ) (bs : List ℕ) → length bs ≤ n → Leaves n (with_number read low bs)
+numbered_leaves read each low n bs few = Leaves-bind n n (number_behind low bs) _ (number_behind_leaves low n bs few) (λ k few. each _ k.0 n k.1 few)
+
+length_leaves : {A : Type 0} (read : HeadWidth → ℕ → List ℕ → Reads A) (others : List ℕ → Reads A) → EachLeaves read → ((n : ℕ) (bs : List ℕ) → length bs ≤ n → Leaves n (others bs)) → (low n : ℕ) (bs : List ℕ) → length bs ≤ n → Leaves n (with_length read others low bs)
+length_leaves read others each none low n bs few = Leaves-cond n (eqb low 31) _ _ (none n bs few) (numbered_leaves read each low n bs few)
+
 chunk_content_leaves : (exceeds : ℕ → Bool) (w : HeadWidth) (k n : ℕ) (bs : List ℕ) → length bs ≤ n → Leaves n (content_of_chunk exceeds w k bs)
 unfolding content_of_chunk
 chunk_content_leaves exceeds w k n bs few = Leaves-bind n n (bytes_at k bs) _ (bytes_leaves k n bs few) (λ c few. Leaves-cond n (exceeds k) _ _ tt few)
@@ -48,7 +59,7 @@ chunk_leaves : (exceeds : ℕ → Bool) (major b n : ℕ) (bs : List ℕ) → le
 unfolding chunk_at
 chunk_leaves exceeds major b n bs few =
     Leaves-cond n (begins_chunk major b) _ _
-    (Leaves-bind n n (number_behind (b % 32) bs) _ (number_behind_leaves (b % 32) n bs few) (λ k few. chunk_content_leaves exceeds _ k.0 n k.1 few))
+    (numbered_leaves (content_of_chunk exceeds) (chunk_content_leaves exceeds) (b % 32) n bs few)
     tt
 
 pub chunk_taken : (exceeds : ℕ → Bool) (major b : ℕ) (bs : List ℕ) (x : Chunk × List ℕ) → chunk_at exceeds major b bs ≡ Ok x → length x.1 ≤ length bs
@@ -113,9 +124,9 @@ module _ {Item Items Pairs : Type 0} (m : Reading Item Items Pairs) where
       (Leaves-cond n (eqb low 22) _ _ few
       (Leaves-cond n (eqb low 23) _ _ few (float_leaves low n bs few))))
 
-  checked_leaves : (text : Item) (n : ℕ) (b bs : List ℕ) → length bs ≤ n → Leaves n (checked_text m text b bs)
+  checked_leaves : (item : Item) (n : ℕ) (b bs : List ℕ) → length bs ≤ n → Leaves n (checked_text m item b bs)
   unfolding checked_text
-  checked_leaves text n b bs few = Leaves-cond n (m.is_text b) _ _ few tt
+  checked_leaves item n b bs few = Leaves-cond n (m.is_text b) _ _ few tt
 
   string_leaves : (w : HeadWidth) (k n : ℕ) (bs : List ℕ) → length bs ≤ n → Leaves n (string_at m w k bs)
   unfolding string_at
@@ -171,36 +182,22 @@ module _ {Item Items Pairs : Type 0} (m : Reading Item Items Pairs) where
 
   -- ---- items
 
-  content_leaves : (inner : Option (List ℕ → Reads Item)) → LeavesNoMoreInside inner → (major : ℕ) (w : HeadWidth) (k n : ℕ) (bs : List ℕ) → length bs ≤ n → Leaves n (content_at m inner major w k bs)
+  content_leaves : (inner : Option (List ℕ → Reads Item)) → LeavesNoMoreInside inner → (t : Major) (low n : ℕ) (bs : List ℕ) → length bs ≤ n → Leaves n (content_at m inner t low bs)
   unfolding content_at
-  content_leaves inner leaves major w k n bs few =
-      Leaves-cond n (eqb major 0) _ _ few
-      (Leaves-cond n (eqb major 1) _ _ few
-      (Leaves-cond n (eqb major 2) _ _ (string_leaves w k n bs few)
-      (Leaves-cond n (eqb major 3) _ _ (text_leaves w k n bs few)
-      (Leaves-cond n (eqb major 4) _ _ (array_leaves inner leaves (definite w) (counted k) n bs few)
-      (Leaves-cond n (eqb major 5) _ _ (map_leaves inner leaves (definite w) (counted k) n bs few) (tag_leaves inner leaves w k n bs few))))))
-
-  indefinite_leaves : (inner : Option (List ℕ → Reads Item)) → LeavesNoMoreInside inner → (major n : ℕ) (bs : List ℕ) → length bs ≤ n → Leaves n (indefinite_at m inner major bs)
-  unfolding indefinite_at
-  indefinite_leaves inner leaves major n bs few =
-      Leaves-cond n (eqb major 2) _ _ (string_chunks_leaves n bs few)
-      (Leaves-cond n (eqb major 3) _ _ (text_chunks_leaves n bs few)
-      (Leaves-cond n (eqb major 4) _ _ (array_leaves inner leaves indefinite to_break n bs few)
-      (Leaves-cond n (eqb major 5) _ _ (map_leaves inner leaves indefinite to_break n bs few) tt)))
-
-  after_first_leaves : (inner : Option (List ℕ → Reads Item)) → LeavesNoMoreInside inner → (b n : ℕ) (bs : List ℕ) → length bs ≤ n → Leaves n (after_first m inner b bs)
-  unfolding after_first
-  after_first_leaves inner leaves b n bs few =
-      Leaves-cond n (eqb (b / 32) 7) _ _ (simple_leaves (b % 32) n bs few)
-      (Leaves-cond n (eqb (b % 32) 31) _ _ (indefinite_leaves inner leaves (b / 32) n bs few)
-      (Leaves-bind n n (number_behind (b % 32) bs) _ (number_behind_leaves (b % 32) n bs few) (λ k few. content_leaves inner leaves (b / 32) _ k.0 n k.1 few)))
+  content_leaves inner leaves unsigned = numbered_leaves (λ w k rest. Ok (m.unsigned w k, rest)) (λ w k n bs few. few)
+  content_leaves inner leaves negative = numbered_leaves (λ w k rest. Ok (m.negative w k, rest)) (λ w k n bs few. few)
+  content_leaves inner leaves bytes = length_leaves _ _ string_leaves string_chunks_leaves
+  content_leaves inner leaves text = length_leaves _ _ text_leaves text_chunks_leaves
+  content_leaves inner leaves array = length_leaves _ _ (λ w k. array_leaves inner leaves (definite w) (counted k)) (array_leaves inner leaves indefinite to_break)
+  content_leaves inner leaves map = length_leaves _ _ (λ w k. map_leaves inner leaves (definite w) (counted k)) (map_leaves inner leaves indefinite to_break)
+  content_leaves inner leaves tag = numbered_leaves _ (tag_leaves inner leaves)
+  content_leaves inner leaves simple = simple_leaves
 
   -- one byte is the first
   item_leaves : (inner : Option (List ℕ → Reads Item)) → LeavesNoMoreInside inner → (n : ℕ) (bs : List ℕ) → length bs ≤ suc n → Leaves n (item_by m inner bs)
-  unfolding item_by byte_at
+  unfolding item_by byte_at after_first
   item_leaves inner leaves n [] few = tt
-  item_leaves inner leaves n (b ∷ bs) few = after_first_leaves inner leaves b n bs (omega arith)
+  item_leaves inner leaves n (b ∷ bs) few = content_leaves inner leaves _ (b % 32) n bs (omega arith)
 
   -- an item leaves no more than what follows a first byte
   item_at-leaves : (levels n : ℕ) (bs : List ℕ) → length bs ≤ suc n → Leaves n (item_at m levels bs)

@@ -1,12 +1,15 @@
 -- Documents: what a typed value says before a serializer's settings choose how names and enums are
 -- spelled, and the raw item of a document.
-use Rattle.std.specs.Prelude.{◌≡◌, ℕ, suc, ◌^◌, ◌<◌, length, List, [], ◌∷◌, Bool, true, false, ℤ, pos, negsuc, refl, codes}
+use Rattle.std.specs.Prelude.{◌≡◌, ℕ, suc, ◌^◌, ◌<◌, length, List, [], ◌∷◌, Bool, true, false, ℤ}
+use Rattle.std.specs.Prelude.{pos, negsuc, refl, codes}
 use Rattle.cbor_model.specs.Head.{least}
 use Rattle.cbor_model.specs.Raw as raw
-use Rattle.cbor_model.specs.Raw.{Raw, Raws, no_raws, RawPairs, no_raw_pairs, raw_pair, FloatWidth, float_limit, null_item, definite, indefinite, count, pair_count}
+use Rattle.cbor_model.specs.Raw.{Raw, Raws, no_raws, RawPairs, no_raw_pairs, raw_pair, FloatWidth}
+use Rattle.cbor_model.specs.Raw.{float_limit, null_item, definite, indefinite, count, pair_count}
 use Rattle.cbor_model.specs.Plain as plain
 use Rattle.cbor_model.specs.Plain.{Val, Vals, no_vals, val, Pairs, no_pairs, pair}
-use Rattle.cbor_model.specs.Canonical.{chunk_of, canonical_bool, canonical_integer, canon, IsStorableInteger}
+use Rattle.cbor_model.specs.Canonical.{chunk_of, canonical_bool, canonical_integer, canon}
+use Rattle.cbor_model.specs.Canonical.{IsStorableInteger}
 use Rattle.cbor_model.specs.Spelling.{spell}
 
 -- whether the length of a sequence or a map is declared before its items
@@ -65,7 +68,8 @@ abbrev mutual
 
   pub AreStorableDocumentPairs : DocPairs → Type 0
   AreStorableDocumentPairs no_doc_pairs = Unit {0}
-  AreStorableDocumentPairs (doc_pair k v ps) = IsStorableDocument k × IsStorableDocument v × AreStorableDocumentPairs ps
+  AreStorableDocumentPairs (doc_pair k v ps) =
+      IsStorableDocument k × IsStorableDocument v × AreStorableDocumentPairs ps
 
   pub AreStorableFields : Fields → Type 0
   AreStorableFields no_fields = Unit {0}
@@ -99,9 +103,12 @@ abbrev mutual
   IsDocumentInRange (mapping l ps) = FitsCount l (doc_pair_count ps) × AreDocumentPairsInRange ps
   IsDocumentInRange (structure fs) = (field_count fs < 2 ^ 64) × AreFieldsInRange fs
   IsDocumentInRange (unit_variant i n) = (i < 2 ^ 64) × (length n < 2 ^ 64)
-  IsDocumentInRange (newtype_variant i n d) = (i < 2 ^ 64) × (length n < 2 ^ 64) × IsDocumentInRange d
-  IsDocumentInRange (tuple_variant i n ds) = (i < 2 ^ 64) × (length n < 2 ^ 64) × (suc (doc_count ds) < 2 ^ 64) × AreDocumentsInRange ds
-  IsDocumentInRange (struct_variant i n fs) = (i < 2 ^ 64) × (length n < 2 ^ 64) × (field_count fs < 2 ^ 64) × AreFieldsInRange fs
+  IsDocumentInRange (newtype_variant i n d) =
+      (i < 2 ^ 64) × (length n < 2 ^ 64) × IsDocumentInRange d
+  IsDocumentInRange (tuple_variant i n ds) =
+      (i < 2 ^ 64) × (length n < 2 ^ 64) × (suc (doc_count ds) < 2 ^ 64) × AreDocumentsInRange ds
+  IsDocumentInRange (struct_variant i n fs) =
+      (i < 2 ^ 64) × (length n < 2 ^ 64) × (field_count fs < 2 ^ 64) × AreFieldsInRange fs
   IsDocumentInRange (tagged n d) = (n < 2 ^ 64) × IsDocumentInRange d
   IsDocumentInRange _ = Unit {0}
 
@@ -111,11 +118,13 @@ abbrev mutual
 
   pub AreDocumentPairsInRange : DocPairs → Type 0
   AreDocumentPairsInRange no_doc_pairs = Unit {0}
-  AreDocumentPairsInRange (doc_pair k v ps) = IsDocumentInRange k × IsDocumentInRange v × AreDocumentPairsInRange ps
+  AreDocumentPairsInRange (doc_pair k v ps) =
+      IsDocumentInRange k × IsDocumentInRange v × AreDocumentPairsInRange ps
 
   pub AreFieldsInRange : Fields → Type 0
   AreFieldsInRange no_fields = Unit {0}
-  AreFieldsInRange (field i n d fs) = (i < 2 ^ 64) × (length n < 2 ^ 64) × IsDocumentInRange d × AreFieldsInRange fs
+  AreFieldsInRange (field i n d fs) =
+      (i < 2 ^ 64) × (length n < 2 ^ 64) × IsDocumentInRange d × AreFieldsInRange fs
 
 -- the length of an array or a map with this many items
 abbrev pub length_of : Length → ℕ → raw.Length
@@ -171,11 +180,13 @@ unfoldable mutual
 
   pub raw_pairs_of : DocPairs → Bool → Bool → RawPairs
   raw_pairs_of no_doc_pairs packed legacy = no_raw_pairs
-  raw_pairs_of (doc_pair k v ps) packed legacy = raw_pair (raw_of k packed legacy) (raw_of v packed legacy) (raw_pairs_of ps packed legacy)
+  raw_pairs_of (doc_pair k v ps) packed legacy =
+      raw_pair (raw_of k packed legacy) (raw_of v packed legacy) (raw_pairs_of ps packed legacy)
 
   pub raw_fields_of : Fields → Bool → Bool → RawPairs
   raw_fields_of no_fields packed legacy = no_raw_pairs
-  raw_fields_of (field i n d fs) packed legacy = raw_pair (identifier packed i n) (raw_of d packed legacy) (raw_fields_of fs packed legacy)
+  raw_fields_of (field i n d fs) packed legacy =
+      raw_pair (identifier packed i n) (raw_of d packed legacy) (raw_fields_of fs packed legacy)
 
 -- The bytes of a document, under the settings `packed` and `legacy`.
 unfoldable pub document_bytes : Doc → Bool → Bool → List ℕ
@@ -204,7 +215,8 @@ unfoldable mutual
 
 -- The bytes of a value's document are its canonical spelling, whatever the settings.
 abbrev pub DocumentIsCanonical : Val → Type 0
-DocumentIsCanonical v = (packed legacy : Bool) → document_bytes (document_of v) packed legacy ≡ canon v
+DocumentIsCanonical v =
+    (packed legacy : Bool) → document_bytes (document_of v) packed legacy ≡ canon v
 
 -- ---- the documents of lists
 

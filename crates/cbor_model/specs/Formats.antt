@@ -1,7 +1,8 @@
 -- Which formats are read: of the keys of maps, and of enums.
 use Rattle.std.specs.Prelude.{◌≡◌, ◌==◌, ℕ, Bool, true, false, nat_lt, if◌then◌else◌, refl}
 use Rattle.cbor_model.specs.Head.{no_bytes}
-use Rattle.cbor_model.specs.Raw.{Raw, no_raws, raw, no_raw_pairs, raw_pair, unsigned, negative, text}
+use Rattle.cbor_model.specs.Raw.{Raw, no_raws, raw, no_raw_pairs, raw_pair, unsigned, negative}
+use Rattle.cbor_model.specs.Raw.{text}
 use Rattle.cbor_model.specs.Raw.{text_chunks, array, map, indefinite, EachKey}
 
 -- Keys that are names, and keys that are numbers; enums by a map or their name alone, and enums by an

@@ -1,4 +1,5 @@
 pub mod Head
+pub mod Major
 pub mod Raw
 pub mod Spelling
 pub mod Acceptable

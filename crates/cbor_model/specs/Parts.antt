@@ -1,8 +1,14 @@
 -- The parts of a document, as a serializer's calls write them one after the other.
-use Rattle.std.specs.Prelude.{ℕ, suc, ◌^◌, ◌<◌, length, List, [], ◌∷◌, ◌++◌, Bool, true, false, Option, Some, None}
+use Rattle.std.specs.Prelude.{ℕ, suc, ◌^◌, ◌<◌, length, List, [], ◌∷◌, ◌++◌, Bool, true, false}
+use Rattle.std.specs.Prelude.{Option, Some, None}
 use Rattle.cbor_model.specs.Head.{short}
 use Rattle.cbor_model.specs.Spelling.{spell, break}
-use Rattle.cbor_model.specs.Document.{Doc, Docs, DocPairs, Fields, Length, declared, undeclared, sequence, mapping, structure, newtype_variant, tuple_variant, struct_variant, tagged, no_docs, doc, no_doc_pairs, doc_pair, no_fields, field, identifier, name_of, document_bytes, IsStorableDocument, IsDocumentInRange, doc_count, doc_pair_count, field_count}
+use Rattle.cbor_model.specs.Document.{Doc, Docs, DocPairs, Fields, Length, declared, undeclared}
+use Rattle.cbor_model.specs.Document.{sequence, mapping, structure, newtype_variant, tuple_variant}
+use Rattle.cbor_model.specs.Document.{struct_variant, tagged, no_docs, doc, no_doc_pairs, doc_pair}
+use Rattle.cbor_model.specs.Document.{no_fields, field, identifier, name_of, document_bytes}
+use Rattle.cbor_model.specs.Document.{IsStorableDocument, IsDocumentInRange, doc_count}
+use Rattle.cbor_model.specs.Document.{doc_pair_count, field_count}
 
 -- What one call appends. `item` is a whole document, `key` the name or the number of a field.
 pub data Part : Type 0 where
@@ -56,7 +62,8 @@ part_bytes (tag_head n) packed legacy = short 6 n
 part_bytes (newtype_head i n) packed legacy = newtype_start i n packed legacy
 part_bytes (tuple_head i n len) packed legacy = tuple_start i n len packed legacy
 part_bytes (struct_head i n) packed legacy = struct_start i n packed legacy
-part_bytes (field_part i n d) packed legacy = spell (identifier packed i n) ++ document_bytes d packed legacy
+part_bytes (field_part i n d) packed legacy =
+    spell (identifier packed i n) ++ document_bytes d packed legacy
 part_bytes (both p q) packed legacy = part_bytes p packed legacy ++ part_bytes q packed legacy
 
 -- Each integer in the part is one that CBOR stores.
@@ -104,6 +111,7 @@ parts (mapping l ps) = both (map_head (said l (doc_pair_count ps))) (pairs ps (e
 parts (structure fs) = both (map_head (Some (field_count fs))) (fields fs)
 parts (newtype_variant i n d) = both (newtype_head i n) (item d)
 parts (tuple_variant i n ds) = both (tuple_head i n (doc_count ds)) (items ds (ending (Some 0)))
-parts (struct_variant i n fs) = both (both (struct_head i n) (map_head (Some (field_count fs)))) (fields fs)
+parts (struct_variant i n fs) =
+    both (both (struct_head i n) (map_head (Some (field_count fs)))) (fields fs)
 parts (tagged n d) = both (tag_head n) (item d)
 parts d = item d

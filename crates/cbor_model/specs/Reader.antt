@@ -7,6 +7,8 @@ use Rattle.std.specs.Prelude.{None, nat_lt, ◌==◌, ◌&&◌, if◌then◌else
 use Rattle.std.specs.Int.{Width, w8, w16, w32, w64, byte_len, from_be_bytes}
 use Rattle.std.specs.Str.Lossy.{utf8_valid_len}
 use Rattle.cbor_model.specs.Head.{HeadWidth, no_bytes, one_byte, two_bytes, four_bytes, eight_bytes}
+use Rattle.cbor_model.specs.Major.{Major, unsigned, negative, bytes, text, array, map, tag, simple}
+use Rattle.cbor_model.specs.Major.{major_of}
 use Rattle.cbor_model.specs.Raw.{Length, definite, indefinite, Chunk, joined, Simple, false_item}
 use Rattle.cbor_model.specs.Raw.{true_item, null_item, undefined_item, FloatWidth, half, single}
 use Rattle.cbor_model.specs.Raw.{double}
@@ -139,6 +141,15 @@ number_behind low bs =
     else (if low == 27 then number_at w64 bs
     else Err (before unassigned_code bs)))))
 
+-- such a number, and what is read behind it
+abbrev pub with_number : {A : Type 0} → (HeadWidth → ℕ → List ℕ → Reads A) → ℕ → List ℕ → Reads A
+with_number read low bs = number_behind low bs >>= (λ n. read (width_of low) n.0 n.1)
+
+-- a length likewise; or what is read where it is indefinite
+abbrev pub with_length : {A : Type 0} → (HeadWidth → ℕ → List ℕ → Reads A) → (List ℕ → Reads A)
+    → ℕ → List ℕ → Reads A
+with_length read others low bs = if low == 31 then others bs else with_number read low bs
+
 -- a float of that width, of which number_at reads the bits
 unfoldable pub float_at : {Item Items Pairs : Type 0} → Reading Item Items Pairs → ℕ → List ℕ
     → Reads Item
@@ -167,8 +178,8 @@ string_at m w n bs = do
 -- a text of these bytes, which others follow; or a fault before the first byte that isn't UTF-8
 unfoldable pub checked_text : {Item Items Pairs : Type 0} → Reading Item Items Pairs → Item → List ℕ
     → List ℕ → Reads Item
-checked_text m text b bs =
-    if m.is_text b then Ok (text, bs)
+checked_text m item b bs =
+    if m.is_text b then Ok (item, bs)
     else Err (record { why = invalid_utf8; left = length bs + (length b - utf8_valid_len b) })
 
 unfoldable pub text_at : {Item Items Pairs : Type 0} → Reading Item Items Pairs → HeadWidth → ℕ
@@ -191,8 +202,7 @@ content_of_chunk exceeds w n bs = bytes_at n bs >>= (λ c.
 -- what follows the first byte of a chunk
 unfoldable pub chunk_at : (ℕ → Bool) → ℕ → ℕ → List ℕ → Reads Chunk
 chunk_at exceeds major b bs =
-    if begins_chunk major b then number_behind (b % 32) bs >>= (λ n.
-    content_of_chunk exceeds (width_of (b % 32)) n.0 n.1)
+    if begins_chunk major b then with_number (content_of_chunk exceeds) (b % 32) bs
     else Err (before unexpected_code bs)
 
 -- chunks of the major type up to the break, behind so many bytes of chunks; they take fewer bytes
@@ -312,36 +322,26 @@ tag_at m inner w n bs = do
   item ← within inner bs (λ p. p bs)
   Ok (m.tag w n item.0, item.1)
 
--- what follows the head of a major type below 7
+-- what follows a first byte of this major type, with these lower five bits
 unfoldable pub content_at : {Item Items Pairs : Type 0} → Reading Item Items Pairs
-    → Option (List ℕ → Reads Item) → ℕ → HeadWidth → ℕ → List ℕ → Reads Item
-content_at m inner major w n bs =
-    if major == 0 then Ok (m.unsigned w n, bs)
-    else (if major == 1 then Ok (m.negative w n, bs)
-    else (if major == 2 then string_at m w n bs
-    else (if major == 3 then text_at m w n bs
-    else (if major == 4 then array_at m inner (definite w) (counted n) bs
-    else (if major == 5 then map_at m inner (definite w) (counted n) bs
-    else tag_at m inner w n bs)))))
-
--- what follows the first byte of an indefinite length
-unfoldable pub indefinite_at : {Item Items Pairs : Type 0} → Reading Item Items Pairs
-    → Option (List ℕ → Reads Item) → ℕ → List ℕ → Reads Item
-indefinite_at m inner major bs =
-    if major == 2 then string_chunks_at m bs
-    else (if major == 3 then text_chunks_at m bs
-    else (if major == 4 then array_at m inner indefinite to_break bs
-    else (if major == 5 then map_at m inner indefinite to_break bs
-    else Err (before unassigned_code bs))))
+    → Option (List ℕ → Reads Item) → Major → ℕ → List ℕ → Reads Item
+content_at m inner unsigned = with_number (λ w n bs. Ok (m.unsigned w n, bs))
+content_at m inner negative = with_number (λ w n bs. Ok (m.negative w n, bs))
+content_at m inner bytes = with_length (string_at m) (string_chunks_at m)
+content_at m inner text = with_length (text_at m) (text_chunks_at m)
+content_at m inner array =
+    with_length (λ w n. array_at m inner (definite w) (counted n))
+    (array_at m inner indefinite to_break)
+content_at m inner map =
+    with_length (λ w n. map_at m inner (definite w) (counted n))
+    (map_at m inner indefinite to_break)
+content_at m inner tag = with_number (tag_at m inner)
+content_at m inner simple = simple_at m
 
 -- what follows the first byte b
 unfoldable pub after_first : {Item Items Pairs : Type 0} → Reading Item Items Pairs
     → Option (List ℕ → Reads Item) → ℕ → List ℕ → Reads Item
-after_first m inner b bs =
-    if b / 32 == 7 then simple_at m (b % 32) bs
-    else (if b % 32 == 31 then indefinite_at m inner (b / 32) bs
-    else number_behind (b % 32) bs >>= (λ n.
-    content_at m inner (b / 32) (width_of (b % 32)) n.0 n.1))
+after_first m inner b bs = content_at m inner (major_of (b / 32)) (b % 32) bs
 
 -- an item, where inner reads what lies one level further in if one is left
 unfoldable pub item_by : {Item Items Pairs : Type 0} → Reading Item Items Pairs
@@ -377,28 +377,28 @@ read_value bs = read_value_in None bs
 -- ---- examples
 
 head_not_shortest : read_value (0x18 ∷ 0x17 ∷ []) ≡ Ok (plain.integer (pos 23))
-unfolding read_value_in item_at item_by byte_at after_first number_behind content_at
+unfolding read_value_in item_at item_by byte_at after_first content_at number_behind
 head_not_shortest = refl
 
 trailing : read_value (0xf4 ∷ 0xf4 ∷ 0xf4 ∷ []) ≡ Err (record { why = trailing_data; left = 1 })
-unfolding read_value_in item_at item_by byte_at after_first simple_at
+unfolding read_value_in item_at item_by byte_at after_first content_at simple_at
 trailing = refl
 
 -- bf 00 ff: a break in the place of a value
 break_as_value : read_value (0xbf ∷ 0x00 ∷ 0xff ∷ [])
     ≡ Err (record { why = unexpected_code; left = 0 })
-unfolding read_value_in item_at item_by byte_at after_first indefinite_at map_at parts_by next_at pair_at key_at number_behind content_at simple_at float_at
+unfolding read_value_in item_at item_by byte_at after_first content_at map_at parts_by next_at pair_at key_at number_behind simple_at float_at
 break_as_value = refl
 
 -- 9f 01: the break is wanted
 break_wanted : read_value (0x9f ∷ 0x01 ∷ []) ≡ Err (record { why = end_in_array; left = 0 })
-unfolding read_value_in item_at item_by byte_at after_first indefinite_at array_at parts_by next_at number_behind content_at
+unfolding read_value_in item_at item_by byte_at after_first content_at array_at parts_by next_at number_behind
 break_wanted = refl
 
 -- 7f 61 61 ff: a chunk of one byte is more than a scratch of none holds
 chunk_too_long : read_value_in (Some 0) (0x7f ∷ 0x61 ∷ 0x61 ∷ 0xff ∷ [])
     ≡ Err (record { why = scratch_too_small; left = 2 })
-unfolding read_value_in item_at item_by byte_at after_first indefinite_at text_chunks_at chunks_by chunk_at content_of_chunk number_behind
+unfolding read_value_in item_at item_by byte_at after_first content_at text_chunks_at chunks_by chunk_at content_of_chunk number_behind
 chunk_too_long = refl
 
 -- a1 20 01, a1 01 02: -1 as a key where no numbers from 0 are keys, and 1
@@ -407,10 +407,10 @@ no_numbers = values_of (record all_formats { packed = false }) 3 None
 
 negative_key : item_at no_numbers 1 (0xa1 ∷ 0x20 ∷ 0x01 ∷ [])
     ≡ Ok (plain.map (plain.pair (plain.integer (negsuc 0)) (plain.integer (pos 1)) no_pairs), [])
-unfolding item_at item_by byte_at after_first number_behind content_at map_at parts_by next_at pair_at key_at
+unfolding item_at item_by byte_at after_first content_at number_behind map_at parts_by next_at pair_at key_at
 negative_key = refl
 
 number_key : item_at no_numbers 1 (0xa1 ∷ 0x01 ∷ 0x02 ∷ [])
     ≡ Err (record { why = wrong_struct_format; left = 2 })
-unfolding item_at item_by byte_at after_first number_behind content_at map_at parts_by next_at pair_at key_at
+unfolding item_at item_by byte_at after_first content_at number_behind map_at parts_by next_at pair_at key_at
 number_key = refl

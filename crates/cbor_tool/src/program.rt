@@ -12,7 +12,7 @@ ghost use Rattle.cbor_tool.specs.Steps.{IsAnswerTo, StopsAnswering};
 
 use hex::FromHexError;
 use serde_cbor::error::{Error, ErrorCode};
-use serde_cbor::{Result, from_slice, to_vec};
+use serde_cbor::{Result, Value, from_slice, to_vec};
 use std::alloc::{AllocError, Global};
 use std::io;
 use std::io::ErrorKind;
@@ -160,7 +160,7 @@ fn answer_bytes(alloc: Global, bytes: &[u8], text: &mut Vec<u8>) -> Result<()>
     ensures ok { OnOk result (IsAnswerTo bytes.now text.new.items) }
     ensures err { IfErr result IsOutOfMemory }
 {
-    match from_slice(alloc, bytes) {
+    match from_slice::<Value>(alloc, bytes) {
         Ok(value) => {
             let spelling = to_vec(alloc, &value)?;
             replace_by_hex(text, &spelling)

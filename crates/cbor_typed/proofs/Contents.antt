@@ -48,7 +48,7 @@ untagged_string (raw.simple s) b h = absurd h
 untagged_string (raw.float w bits) b h = absurd h
 
 -- a string has one list of bytes
-same_bytes : (r : Raw) (a b : List ℕ) → IsString r a → IsString r b → b ≡ a
+pub same_bytes : (r : Raw) (a b : List ℕ) → IsString r a → IsString r b → b ≡ a
 same_bytes (raw.unsigned w m) a b h k = absurd h
 same_bytes (raw.negative w m) a b h k = absurd h
 same_bytes (raw.bytes c) a b h k = sym k ∙ h

@@ -21,7 +21,8 @@ use Rattle.cbor_value.specs.declared.Value.{Value}
 use Rattle.cbor_de.specs.Gives.{Limits, limits, values, Tells, Step, Stopped, Reports, Ends, FailsBy, Fails, FailsOrFaults, IsErrorOf, end_at, whole_at}
 use Rattle.cbor_de.specs.declared.refusal.Refused.{Refused}
 use Rattle.cbor_de.specs.declared.refusal.Refused.TheVariants as refused
-use Rattle.cbor_de.proofs.facts.Steps.{step_map, stopped_map, passed_on, fault_in}
+use Rattle.cbor_de.specs.Heads.{passed}
+use Rattle.cbor_de.proofs.facts.Steps.{step_map, stopped_map, passed_on, fault_in, passed_was, passed_stops}
 use Rattle.cbor_typed.specs.Takes.{raws, IsRead, IsNotRead, Refuses, WhereTotal, TellsFault}
 use Rattle.cbor_typed.specs.Whole.{TellsWhole}
 use Rattle.cbor_typed.proofs.Scalars.{refuses}
@@ -125,6 +126,19 @@ module _ (allowed : ReadErrorCode → Bool) (f : Formats) (levels : ℕ) (s : In
       refuses allowed reads (λ l. item_at (raws f l) levels) s kept r e is
       (stopped_map allowed (λ l. item_at (values f l) levels) (λ l. item_at (raws f l) levels) s kept r
       (λ l bs d at. fault_of (item_at (raws f l) levels bs) d (sym (value_seen f l levels bs) ∙ at)) stops)
+
+  -- ---- items of which nothing is kept
+
+  pub any_passed : {A : Type 0} (x : A) (t : Input) → Step s t (λ l bs rest. passed (item_at (values f l) levels bs) ≡ Ok (tt, rest)) → Step s t (λ l bs rest. IsRead (λ r y. ⊤) (item_at (raws f l) levels bs) x rest)
+  any_passed x t step = step_map s t (λ l bs rest. passed (item_at (values f l) levels bs) ≡ Ok (tt, rest)) (λ l bs rest. IsRead (λ r y. ⊤) (item_at (raws f l) levels bs) x rest)
+      (λ l bs rest is.
+      let v = passed_was (item_at (values f l) levels bs) rest is in
+      let w = seen_of (item_at (raws f l) levels bs) v.0 rest (sym (value_seen f l levels bs) ∙ v.1) in
+      record { item = w.item; is = w.is; means = tt }) step
+
+  -- what stops passing over an item stops reading it
+  pub any_stops : (kept : Option ReadError) (r : Refused) → Stopped allowed (λ l bs. passed (item_at (values f l) levels bs)) s kept r → Stopped allowed (λ l. item_at (values f l) levels) s kept r
+  any_stops kept r = stopped_map allowed (λ l bs. passed (item_at (values f l) levels bs)) (λ l. item_at (values f l) levels) s kept r (λ l bs d is. passed_stops (item_at (values f l) levels bs) d is)
 
 -- the error of a refusal tells the fault
 pub told_by : {A : Type 0} (allowed : ReadErrorCode → Bool) (read : Limits → List ℕ → Reads A) (s : Input) (kept : Option ReadError) (r : Refused) (e : Error) → IsErrorOf kept r e → Stopped allowed read s kept r → TellsFault allowed read s e

@@ -4,11 +4,13 @@ use Rattle.std.proofs.lemmas.Bool.{eqb-true, eqb-false}
 use Rattle.std.specs.Int.{w16, w32, w64}
 use Rattle.cbor_model.specs.Formats.{Formats}
 use Rattle.cbor_model.specs.Head.{HeadWidth, no_bytes}
+use Rattle.cbor_model.specs.Major.{Major, major_of}
+use Rattle.cbor_model.specs.Major as major
 use Rattle.cbor_model.specs.Raw as raw
 use Rattle.cbor_model.specs.Raw.{Raw, null_item}
 use Rattle.cbor_model.specs.Readable.{IsOptional}
-use Rattle.cbor_model.specs.Reader.{Fault, Reads, ◌>>=◌, before, byte_at, number_at, number_behind, width_of, after_first, simple_at, item_by, item_at, inside}
-use Rattle.cbor_model.proofs.facts.Reader.{ok_is}
+use Rattle.cbor_model.specs.Reader.{Fault, Reads, ◌>>=◌, before, byte_at, number_at, number_behind, width_of, after_first, content_at, simple_at, item_by, item_at, inside}
+use Rattle.cbor_model.proofs.facts.Reader.{ok_is, simple_number}
 use Rattle.cbor_io.specs.Source.{Input}
 use Rattle.cbor_io.specs.Error.{code_of, offset_of}
 use Rattle.cbor_io.specs.declared.error.Error.{Error}
@@ -17,7 +19,7 @@ use Rattle.cbor_io.specs.declared.read.read_error.ReadError.{ReadError}
 use Rattle.cbor_io.specs.declared.read.read_error.ReadErrorCode.{ReadErrorCode}
 use Rattle.cbor_value.specs.declared.Float.TheVariants.{Half, Single, Double}
 use Rattle.cbor_de.specs.Gives.{Limits, limits, Step, Stopped, IsErrorOf, Gives}
-use Rattle.cbor_de.specs.Heads.{head_at, simple_head, indefinite_head, definite_head, behind_head}
+use Rattle.cbor_de.specs.Heads.{head_at, head_of, number_head, length_head, simple_head, behind_head}
 use Rattle.cbor_de.specs.declared.head.Head.{Head}
 use Rattle.cbor_de.specs.declared.head.Head.TheVariants as head
 use Rattle.cbor_de.specs.declared.cursor.Remaining.TheVariants.{Counted, ToBreak}
@@ -44,28 +46,19 @@ other_head w h rest other v more is = other (ap (λ (p : (HeadWidth × Head) × 
 no_head : (e : Fault) → NotNull (Err e)
 no_head e v more is = absurd cc
 
-head_of : {A : Type 0} (read : Reads A) (w : HeadWidth) (make : A → Head) → ((x : A) → make x ≡ head.Null → ⊥) → NotNull (read >>= (λ x. Ok ((w, make x.0), x.1)))
-head_of (Ok x) w make other = other_head w (make x.0) x.1 (other x.0)
-head_of (Err e) w make other = no_head e
+bits_other : {A : Type 0} (read : Reads A) (w : HeadWidth) (make : A → Head) → ((x : A) → make x ≡ head.Null → ⊥) → NotNull (read >>= (λ x. Ok ((w, make x.0), x.1)))
+bits_other (Ok x) w make other = other_head w (make x.0) x.1 (other x.0)
+bits_other (Err e) w make other = no_head e
 
 either_head : (c : Bool) (x y : Reads (HeadWidth × Head)) → NotNull x → NotNull y → NotNull (cond c x y)
 either_head true x y a b = a
 either_head false x y a b = b
 
-either : (c : Bool) (x y : Head) → (x ≡ head.Null → ⊥) → (y ≡ head.Null → ⊥) → cond c x y ≡ head.Null → ⊥
-either true x y a b = a
-either false x y a b = b
+number_other : (make : ℕ → Head) (low : ℕ) (bs : List ℕ) → ((n : ℕ) → make n ≡ head.Null → ⊥) → NotNull (number_head make low bs)
+number_other make low bs = bits_other (number_behind low bs) (width_of low) make
 
-definite_other : (major n : ℕ) → definite_head major n ≡ head.Null → ⊥
-definite_other major n =
-    either _ (head.Unsigned n) _ (λ e. absurd cc) (either _ (head.Negative n) _ (λ e. absurd cc) (either _ (head.Bytes (Some n)) _ (λ e. absurd cc) (either _ (head.Text (Some n)) _ (λ e. absurd cc)
-    (either _ (head.Array (Counted n)) _ (λ e. absurd cc) (either _ (head.Map (Counted n)) (head.Tag n) (λ e. absurd cc) (λ e. absurd cc))))))
-
-indefinite_other : (major : ℕ) (bs : List ℕ) → NotNull (indefinite_head major bs)
-unfolding indefinite_head
-indefinite_other major bs =
-    either_head _ _ _ (other_head no_bytes (head.Bytes None) bs (λ e. absurd cc)) (either_head _ _ _ (other_head no_bytes (head.Text None) bs (λ e. absurd cc))
-    (either_head _ _ _ (other_head no_bytes (head.Array ToBreak) bs (λ e. absurd cc)) (either_head _ _ _ (other_head no_bytes (head.Map ToBreak) bs (λ e. absurd cc)) (no_head _))))
+length_other : (make : ℕ → Head) (h : Head) (low : ℕ) (bs : List ℕ) → ((n : ℕ) → make n ≡ head.Null → ⊥) → (h ≡ head.Null → ⊥) → NotNull (length_head make h low bs)
+length_other make h low bs other a = either_head (eqb low 31) _ _ (other_head no_bytes h bs a) (number_other make low bs other)
 
 -- the test that leads to null's head
 chosen : (c : Bool) (x y : Reads (HeadWidth × Head)) (w : HeadWidth) (rest : List ℕ) → NotNull y → cond c x y ≡ Ok ((w, head.Null), rest) → (c ≡ true) × (x ≡ Ok ((w, head.Null), rest))
@@ -83,20 +76,28 @@ simple_null low bs rest w is =
     let b = beyond (eqb low 21) _ _ w rest (other_head no_bytes (head.Bool true) bs (λ e. absurd cc)) a in
     eqb-true low 22 (chosen (eqb low 22) _ _ w rest
     (either_head (eqb low 23) _ _ (other_head no_bytes head.Undefined bs (λ e. absurd cc))
-    (either_head (eqb low 25) _ _ (head_of (number_at w16 bs) no_bytes (λ n. head.Float (Half n)) (λ x e. absurd cc))
-    (either_head (eqb low 26) _ _ (head_of (number_at w32 bs) no_bytes (λ n. head.Float (Single n)) (λ x e. absurd cc))
-    (either_head (eqb low 27) _ _ (head_of (number_at w64 bs) no_bytes (λ n. head.Float (Double n)) (λ x e. absurd cc))
+    (either_head (eqb low 25) _ _ (bits_other (number_at w16 bs) no_bytes (λ n. head.Float (Half n)) (λ x e. absurd cc))
+    (either_head (eqb low 26) _ _ (bits_other (number_at w32 bs) no_bytes (λ n. head.Float (Single n)) (λ x e. absurd cc))
+    (either_head (eqb low 27) _ _ (bits_other (number_at w64 bs) no_bytes (λ n. head.Float (Double n)) (λ x e. absurd cc))
     (either_head (eqb low 31) _ _ (other_head no_bytes head.Break bs (λ e. absurd cc)) (no_head _)))))) b).0
+
+-- null's head is of major type 7
+null_simple : (t : Major) (low : ℕ) (bs rest : List ℕ) (w : HeadWidth) → head_of t low bs ≡ Ok ((w, head.Null), rest) → (t ≡ major.simple) × (low ≡ 22)
+unfolding head_of
+null_simple major.unsigned low bs rest w is = absurd (number_other head.Unsigned low bs (λ n e. absurd cc) w rest is)
+null_simple major.negative low bs rest w is = absurd (number_other head.Negative low bs (λ n e. absurd cc) w rest is)
+null_simple major.bytes low bs rest w is = absurd (length_other (λ n. head.Bytes (Some n)) (head.Bytes None) low bs (λ n e. absurd cc) (λ e. absurd cc) w rest is)
+null_simple major.text low bs rest w is = absurd (length_other (λ n. head.Text (Some n)) (head.Text None) low bs (λ n e. absurd cc) (λ e. absurd cc) w rest is)
+null_simple major.array low bs rest w is = absurd (length_other (λ n. head.Array (Counted n)) (head.Array ToBreak) low bs (λ n e. absurd cc) (λ e. absurd cc) w rest is)
+null_simple major.map low bs rest w is = absurd (length_other (λ n. head.Map (Counted n)) (head.Map ToBreak) low bs (λ n e. absurd cc) (λ e. absurd cc) w rest is)
+null_simple major.tag low bs rest w is = absurd (number_other head.Tag low bs (λ n e. absurd cc) w rest is)
+null_simple major.simple low bs rest w is = (refl, simple_null low bs rest w is)
 
 head_null : (b : ℕ) (bs rest : List ℕ) (w : HeadWidth) → head_at b bs ≡ Ok ((w, head.Null), rest) → b ≡ 0xf6
 unfolding head_at
 head_null b bs rest w is =
-    let low = b % 32 in
-    let simple = chosen (eqb (b / 32) 7) _ _ w rest
-    (either_head (eqb low 31) _ _ (indefinite_other (b / 32) bs) (head_of (number_behind low bs) (width_of low) (definite_head (b / 32)) (definite_other (b / 32)))) is in
-    let seven : b / 32 ≡ 7 = eqb-true _ _ simple.0 in
-    let last : b % 32 ≡ 22 = simple_null low bs rest w simple.1 in
-    omega (arith, seven, last)
+    let got = null_simple (major_of (b / 32)) (b % 32) bs rest w is in
+    omega (arith, simple_number (b / 32) got.0, got.1)
 
 -- ---- the front
 
@@ -145,7 +146,7 @@ module _ (f : Formats) (l : Limits) where
   not_null levels bs rest other is = no_null_behind (inside (raws f l) levels) (opening_at bs) rest other (sym (item_opened (raws f l) levels bs) ∙ is)
 
   null_here : (levels : ℕ) (bs : List ℕ) → item_at (raws f l) levels (0xf6 ∷ bs) ≡ Ok (raw.simple null_item, bs)
-  unfolding item_at item_by byte_at after_first simple_at
+  unfolding item_at item_by byte_at after_first content_at simple_at
   null_here zero bs = refl
   null_here (suc levels) bs = refl
 

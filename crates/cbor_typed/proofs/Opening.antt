@@ -36,7 +36,7 @@ module _ {Item Items Pairs : Type 0} (m : Reading Item Items Pairs) where
 
 -- ---- a head, and what is behind it
 
-untagged_same : (read : Reads Raw) → read ≡ in_tags [] read
+pub untagged_same : (read : Reads Raw) → read ≡ in_tags [] read
 untagged_same (Ok r) = refl
 untagged_same (Err f) = refl
 
@@ -62,7 +62,7 @@ tag_read : (f : Formats) (l : Limits) (levels n : ℕ) (w : HeadWidth) (bs mid :
 unfolding tag_at
 tag_read f l levels n w bs mid is = item_opened (raws f l) levels bs ∙ rw is refl
 
-one_more : (w : HeadWidth) (n : ℕ) (tags : List (HeadWidth × ℕ)) (read : Reads Raw) → in_tags ((w, n) ∷ []) (in_tags tags read) ≡ in_tags ((w, n) ∷ tags) read
+pub one_more : (w : HeadWidth) (n : ℕ) (tags : List (HeadWidth × ℕ)) (read : Reads Raw) → in_tags ((w, n) ∷ []) (in_tags tags read) ≡ in_tags ((w, n) ∷ tags) read
 one_more w n tags (Ok r) = refl
 one_more w n tags (Err f) = refl
 

@@ -1,5 +1,6 @@
 -- What the calls of an access take of its source.
-use Rattle.std.specs.Prelude.{◌≡◌, ℕ, ◌+◌, ◌^◌, ◌-◌, Bool, List, length, Option, Some, None, Result, Ok, Err}
+use Rattle.std.specs.Prelude.{◌≡◌, ℕ, ◌+◌, ◌^◌, ◌-◌, Bool, List, length, Option, Some, None, Result}
+use Rattle.std.specs.Prelude.{Ok, Err}
 use Rattle.cbor_model.specs.Formats.{Formats}
 use Rattle.cbor_model.specs.Head.{HeadWidth}
 use Rattle.cbor_model.specs.Raw.{Raw, Raws, Length, array}
@@ -22,7 +23,8 @@ use Rattle.cbor_typed.specs.Takes.{raws, IsRead, IsNotRead, Refuses}
 
 -- the items of an array that remain, where so many levels are left for each
 abbrev pub items_at : Formats → Limits → ℕ → reader.Remaining → List ℕ → Reads Raws
-items_at f l levels remaining bs = parts_at (items_of (raws f l) (item_at (raws f l) levels)) remaining bs
+items_at f l levels remaining bs =
+    parts_at (items_of (raws f l) (item_at (raws f l) levels)) remaining bs
 
 -- an array of this length, of the items that are read
 abbrev pub array_of : Length → Reads Raws → Reads Raw
@@ -45,7 +47,8 @@ RefusesArray refusals f levels s e = Refuses refusals s (code_of e) (offset_of e
     (λ l bs. IsNotRead (PassesTags IsItems) (item_at (raws f l) levels bs))
 
 -- The head of the array at the front was taken; or no array is there.
-abbrev pub TakesHead : (ReadErrorCode → Bool) → Formats → ℕ → Input → Input → ℕ → Result Remaining Error → Type 0
+abbrev pub TakesHead : (ReadErrorCode → Bool) → Formats → ℕ → Input → Input → ℕ
+    → Result Remaining Error → Type 0
 TakesHead refusals f levels s t left (Ok remaining) = Step s t
     (λ l bs rest. IsArrayHead f l (item_at (raws f l) levels bs) left remaining rest)
 TakesHead refusals f levels s t left (Err e) = RefusesArray refusals f levels s e
@@ -63,23 +66,29 @@ abbrev pub IsEnd : reader.Remaining → Limits → List ℕ → List ℕ → Typ
 IsEnd remaining l bs rest = next_at end_in_array remaining bs ≡ Ok (None, rest)
 
 -- the next item is read as x, or none comes
-abbrev pub IsNext : {A : Type 0} → (Raw → A → Type 0) → Formats → ℕ → reader.Remaining → reader.Remaining → Option A → Limits → List ℕ → List ℕ → Type 0
-IsNext reads f levels remaining behind (Some x) l bs rest = IsNextItem reads f levels remaining behind x l bs rest
+abbrev pub IsNext : {A : Type 0} → (Raw → A → Type 0) → Formats → ℕ → reader.Remaining
+    → reader.Remaining → Option A → Limits → List ℕ → List ℕ → Type 0
+IsNext reads f levels remaining behind (Some x) l bs rest =
+    IsNextItem reads f levels remaining behind x l bs rest
 IsNext reads f levels remaining behind None l bs rest = IsEnd remaining l bs rest
 
 -- What a call gave for the next item of an array of which so much remains; or that neither an item is
 -- there that is read as something, nor the end.
-abbrev pub TakesNext : {A : Type 0} → (ReadErrorCode → Bool) → Formats → (Raw → A → Type 0) → ℕ → Remaining → Remaining → Input → Input → Result (Option A) Error → Type 0
+abbrev pub TakesNext : {A : Type 0} → (ReadErrorCode → Bool) → Formats → (Raw → A → Type 0) → ℕ
+    → Remaining → Remaining → Input → Input → Result (Option A) Error → Type 0
 TakesNext refusals f reads levels remaining behind s t (Ok next) = Step s t
     (IsNext reads f levels (remaining_of remaining) (remaining_of behind) next)
-TakesNext {A} refusals f reads levels remaining behind s t (Err e) = Refuses refusals s (code_of e) (offset_of e)
+TakesNext {A} refusals f reads levels remaining behind s t (Err e) =
+    Refuses refusals s (code_of e) (offset_of e)
     (λ l bs. (next : Option A) (after : reader.Remaining) (rest : List ℕ) → IsNext reads f levels (remaining_of remaining) after next l bs rest → ⊥)
 
 -- The next item was read as x; or no item comes that is read as something.
-abbrev pub TakesPart : {A : Type 0} → (ReadErrorCode → Bool) → Formats → (Raw → A → Type 0) → ℕ → Remaining → Remaining → Input → Input → Result A Error → Type 0
+abbrev pub TakesPart : {A : Type 0} → (ReadErrorCode → Bool) → Formats → (Raw → A → Type 0) → ℕ
+    → Remaining → Remaining → Input → Input → Result A Error → Type 0
 TakesPart refusals f reads levels remaining behind s t (Ok x) = Step s t
     (IsNextItem reads f levels (remaining_of remaining) (remaining_of behind) x)
-TakesPart {A} refusals f reads levels remaining behind s t (Err e) = Refuses refusals s (code_of e) (offset_of e)
+TakesPart {A} refusals f reads levels remaining behind s t (Err e) =
+    Refuses refusals s (code_of e) (offset_of e)
     (λ l bs. (x : A) (after : reader.Remaining) (rest : List ℕ) → IsNextItem reads f levels (remaining_of remaining) after x l bs rest → ⊥)
 
 -- how many more items can follow: a loop over them ends
@@ -88,18 +97,21 @@ turns (Counted n) s = n
 turns ToBreak s = 2 ^ 64 - s.offset
 
 -- The array's end was taken; or the error tells why not.
-abbrev pub TakesEnd : (ReadErrorCode → Bool) → Remaining → Input → Input → Result (Unit {0}) Error → Type 0
-TakesEnd refusals remaining s t (Ok u) = Step s t (λ l bs rest. ended_at end_in_array (remaining_of remaining) bs ≡ Ok (tt, rest))
+abbrev pub TakesEnd : (ReadErrorCode → Bool) → Remaining → Input → Input → Result (Unit {0}) Error
+    → Type 0
+TakesEnd refusals remaining s t (Ok u) =
+    Step s t (λ l bs rest. ended_at end_in_array (remaining_of remaining) bs ≡ Ok (tt, rest))
 TakesEnd refusals remaining s t (Err e) = (bs : List ℕ) → Tells s bs
     → FailsBy (Reports refusals) (code_of e) (s.offset + length bs) (offset_of e) (ended_at end_in_array (remaining_of remaining) bs)
 
--- what is left of a declared count, where it fits 64 bits
+-- what is left of a declared count
 abbrev pub size_of : Remaining → Option ℕ
 size_of (Counted n) = Some n
 size_of ToBreak = None
 
 -- Whether another item comes, and what remains behind it; or that neither an item comes nor the end.
-abbrev pub TakesMore : (ReadErrorCode → Bool) → Remaining → Remaining → Input → Input → Result Bool Error → Type 0
+abbrev pub TakesMore : (ReadErrorCode → Bool) → Remaining → Remaining → Input → Input
+    → Result Bool Error → Type 0
 TakesMore refusals remaining behind s t (Ok more) = Step s t (λ l bs rest. next_at end_in_array (remaining_of remaining) bs ≡ Ok (behind_next behind more, rest))
 TakesMore refusals remaining behind s t (Err e) = Refuses refusals s (code_of e) (offset_of e)
     (λ l bs. (next : Option reader.Remaining) (rest : List ℕ) → next_at end_in_array (remaining_of remaining) bs ≡ Ok (next, rest) → ⊥)

@@ -42,7 +42,8 @@ AreNone (raw.raw r rs) = ⊥
 -- ---- laws
 
 -- what items are read as, each array of them is read as
-pub as_array_same : {A : Type 0} (one two : Raws → A → Type 0) → ((rs : Raws) (x : A) → one rs x → two rs x)
+pub as_array_same : {A : Type 0} (one two : Raws → A → Type 0)
+    → ((rs : Raws) (x : A) → one rs x → two rs x)
     → (r : Raw) (x : A) → AsArray one r x → AsArray two r x
 as_array_same one two on (raw.unsigned w n) x h = h
 as_array_same one two on (raw.negative w n) x h = h
@@ -56,12 +57,14 @@ as_array_same one two on (raw.tag w n r) x h = h
 as_array_same one two on (raw.simple s) x h = h
 as_array_same one two on (raw.float w bits) x h = h
 
-pub are_read_same : {A : Type 0} (one two : Raw → A → Type 0) → ((r : Raw) (x : A) → one r x → two r x)
+pub are_read_same : {A : Type 0} (one two : Raw → A → Type 0)
+    → ((r : Raw) (x : A) → one r x → two r x)
     → (rs : Raws) (xs : List A) → AreRead one rs xs → AreRead two rs xs
 are_read_same one two on no_raws [] h = h
 are_read_same one two on no_raws (x ∷ xs) h = h
 are_read_same one two on (raw.raw r rs) [] h = h
-are_read_same one two on (raw.raw r rs) (x ∷ xs) h = (on r x h.0, are_read_same one two on rs xs h.1)
+are_read_same one two on (raw.raw r rs) (x ∷ xs) h =
+    (on r x h.0, are_read_same one two on rs xs h.1)
 
 pub first_then_same : {A : Type 0} (one two : Raw → A → Type 0) (x : A) (some others : Raws → Type 0)
     → ((r : Raw) → one r x → two r x) → ((rs : Raws) → some rs → others rs)

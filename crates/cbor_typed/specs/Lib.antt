@@ -3,8 +3,15 @@ pub mod Takes
 pub mod Opens
 pub mod Arrays
 pub mod Accesses
+pub mod Maps
+pub mod MapAccesses
 pub mod Scalars
+pub mod Tags
 pub mod Strings
+pub mod Identifiers
+pub mod Structs
+pub mod Enums
+pub mod Variants
 pub mod Options
 pub mod Whole
 pub use Rattle.cbor_io.specs.Error

@@ -1,6 +1,8 @@
 -- Strings behind their heads.
-use Rattle.std.specs.Prelude.{◌≡◌, ℕ, ◌+◌, ◌-◌, ◌^◌, Bool, true, false, List, length, Option, Some, None, Result}
+use Rattle.std.specs.Prelude.{◌≡◌, ℕ, ◌+◌, ◌-◌, ◌^◌, Bool, true, false, List, length, Option, Some}
+use Rattle.std.specs.Prelude.{None, Result}
 use Rattle.std.specs.Prelude.{Ok, Err, nat_lt, if◌then◌else◌}
+use Rattle.std.specs.Char.{IsScalar, encode_utf8}
 use Rattle.std.specs.Str.{IsUtf8}
 use Rattle.std.specs.Str.Lossy.{utf8_valid_len}
 use Rattle.cbor_model.specs.Raw.{Raw}
@@ -169,3 +171,18 @@ IsBorrowedText c r b = IsText r b × (is_lent c r ≡ true)
 -- a string of these bytes that is lent
 abbrev pub IsBorrowedString : Context → Raw → List ℕ → Type 0
 IsBorrowedString c r b = IsString r b × (is_lent c r ≡ true)
+
+-- ---- characters
+
+-- the text is this one character
+abbrev pub IsOneCharacter : List ℕ → ℕ → Type 0
+IsOneCharacter b c = IsScalar c × (b ≡ encode_utf8 c)
+
+-- the one character that the text is, or that it is none
+abbrev pub IsOneOf : List ℕ → Result ℕ Error → Type 0
+IsOneOf b (Ok c) = IsOneCharacter b c
+IsOneOf b (Err e) = (c : ℕ) → IsOneCharacter b c → ⊥
+
+-- a text, or a byte string that is UTF-8, of this one character
+abbrev pub IsCharacter : Raw → ℕ → Type 0
+IsCharacter r c = IsScalar c × IsText r (encode_utf8 c)

@@ -48,13 +48,17 @@ pub record Refuses (refusals : ReadErrorCode → Bool) (s : Input) (code : Error
 
 -- What a call gave for the item at the front, and the bytes to come after it; or that no such item is
 -- there.
-abbrev pub Takes : {A : Type 0} → (ReadErrorCode → Bool) → (Raw → A → Type 0) → (Limits → List ℕ → Reads Raw) → Input → Input → Result A Error → Type 0
+abbrev pub Takes : {A : Type 0} → (ReadErrorCode → Bool) → (Raw → A → Type 0)
+    → (Limits → List ℕ → Reads Raw) → Input → Input → Result A Error → Type 0
 Takes refusals reads read s t (Ok x) = Step s t (λ l bs rest. IsRead reads (read l bs) x rest)
-Takes refusals reads read s t (Err e) = Refuses refusals s (code_of e) (offset_of e) (λ l bs. IsNotRead reads (read l bs))
+Takes refusals reads read s t (Err e) =
+    Refuses refusals s (code_of e) (offset_of e) (λ l bs. IsNotRead reads (read l bs))
 
 -- the same of the item at the front, where so many levels are left
-abbrev pub TakesItem : {A : Type 0} → (ReadErrorCode → Bool) → model.Formats → (Raw → A → Type 0) → ℕ → Input → Input → Result A Error → Type 0
-TakesItem refusals f reads levels s t r = Takes refusals reads (λ l. item_at (raws f l) levels) s t r
+abbrev pub TakesItem : {A : Type 0} → (ReadErrorCode → Bool) → model.Formats → (Raw → A → Type 0)
+    → ℕ → Input → Input → Result A Error → Type 0
+TakesItem refusals f reads levels s t r =
+    Takes refusals reads (λ l. item_at (raws f l) levels) s t r
 
 -- ---- the fault that is told
 
@@ -64,9 +68,11 @@ WhereTotal false P = Unit {0}
 WhereTotal true P = P
 
 -- The error tells the fault that the reference reader meets in this reading.
-abbrev pub TellsFault : {A : Type 0} → (ReadErrorCode → Bool) → (Limits → List ℕ → Reads A) → Input → Error → Type 0
+abbrev pub TellsFault : {A : Type 0} → (ReadErrorCode → Bool) → (Limits → List ℕ → Reads A) → Input
+    → Error → Type 0
 TellsFault refusals read s e = (bs : List ℕ) → Tells s bs → FailsBy (Reports refusals) (code_of e) (s.offset + length bs) (offset_of e) (read (limits s bs) bs)
 
 -- Where a type reads every item, a refusal tells the fault of the item at the front.
 abbrev pub TellsItem : Bool → (ReadErrorCode → Bool) → model.Formats → ℕ → Input → Error → Type 0
-TellsItem total refusals f levels s e = WhereTotal total (TellsFault refusals (λ l. item_at (values f l) levels) s e)
+TellsItem total refusals f levels s e =
+    WhereTotal total (TellsFault refusals (λ l. item_at (values f l) levels) s e)

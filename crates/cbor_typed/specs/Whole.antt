@@ -12,18 +12,22 @@ use Rattle.cbor_de.specs.Gives.{limits, Tells, Reports, whole_at}
 use Rattle.cbor_typed.specs.Takes.{raws, IsRead, ExcusedBy, WhereTotal, TellsFault}
 
 -- The one item that a source has to give is read as x, where so many levels are left.
-abbrev pub IsWholeRead : {A : Type 0} → Formats → (Raw → A → Type 0) → ℕ → Input → List ℕ → A → Type 0
+abbrev pub IsWholeRead : {A : Type 0} → Formats → (Raw → A → Type 0) → ℕ → Input → List ℕ → A
+    → Type 0
 IsWholeRead f reads levels s bs x = IsRead reads (item_at (raws f (limits s bs)) levels bs) x []
 
 -- What all that a source has to give is read as; or that it isn't such an item.
-abbrev pub ReadsAll : {A : Type 0} → (ReadErrorCode → Bool) → Formats → (Raw → A → Type 0) → ℕ → Input → Result A Error → Type 0
-ReadsAll refusals f reads levels s (Ok x) = (bs : List ℕ) → Tells s bs → IsWholeRead f reads levels s bs x
+abbrev pub ReadsAll : {A : Type 0} → (ReadErrorCode → Bool) → Formats → (Raw → A → Type 0) → ℕ
+    → Input → Result A Error → Type 0
+ReadsAll refusals f reads levels s (Ok x) =
+    (bs : List ℕ) → Tells s bs → IsWholeRead f reads levels s bs x
 ReadsAll {A} refusals f reads levels s (Err e) = (bs : List ℕ) → Tells s bs → ExcusedBy (Reports refusals) (code_of e) (offset_of e) ⊎ ((x : A) → IsWholeRead f reads levels s bs x → ⊥)
 
 -- Where a type reads every item, a refusal tells the fault of the one item that a source has to give,
 -- or that more follows it.
 abbrev pub TellsWhole : Bool → (ReadErrorCode → Bool) → Formats → ℕ → Input → Error → Type 0
-TellsWhole total refusals f levels s e = WhereTotal total (TellsFault refusals (whole_at f levels) s e)
+TellsWhole total refusals f levels s e =
+    WhereTotal total (TellsFault refusals (whole_at f levels) s e)
 
 -- What a slice lends: definite strings, for its whole life.
 abbrev pub from_slice_context : Context
@@ -31,7 +35,8 @@ from_slice_context = record { formats = all_formats; lends_definite = true; lend
 
 -- What a slice that is rewritten lends: definite strings, and strings in chunks.
 abbrev pub from_mut_slice_context : Context
-from_mut_slice_context = record { formats = all_formats; lends_definite = true; lends_joined = true }
+from_mut_slice_context =
+    record { formats = all_formats; lends_definite = true; lends_joined = true }
 
 -- A reader lends nothing.
 abbrev pub from_reader_context : Context

@@ -1,13 +1,16 @@
 //! Reading a whole input as a type.
 
-ghost use Rattle.std.specs.Prelude.{◌≡◌, ℕ, List, length, Some, IfOk, IfErr};
+ghost use Rattle.std.specs.Prelude.{◌≡◌, ◌<◌, ℕ, List, length, Some, IfOk, IfErr, MatchResult};
 ghost use Rattle.cbor_model.specs.Acceptable.{max_depth, FitsScratch};
 ghost use Rattle.cbor_model.specs.Formats.{all_formats};
-ghost use Rattle.cbor_model.specs.Raw.{AreBytes};
+ghost use Rattle.cbor_model.specs.Laws.{SpellsValue};
+ghost use Rattle.cbor_model.specs.Plain.{Val};
+ghost use Rattle.cbor_model.specs.Raw.{AreBytes, longest_joined};
 ghost use Rattle.cbor_model.specs.Readable.{SpellsAs};
 ghost use Rattle.cbor_model.specs.Reader.{read_value, read_value_in};
 ghost use Rattle.cbor_io.specs.Error.{IsOutOfMemory};
-ghost use Rattle.cbor_de.specs.Gives.{Fails, FailsOrFaults, Gave, IsMemoryOrFault};
+ghost use Rattle.cbor_de.specs.Gives.{Fails, FailsOrFaults, Gave};
+ghost use Rattle.cbor_de.specs.Gives.{IsMemoryOrFault, IsScratchOrMemory};
 ghost use Rattle.cbor_typed.specs.Takes.{context, formats_of, lending, WhereTotal};
 ghost use Rattle.cbor_typed.specs.Whole.{ReadsAll, TellsWhole, from_slice_context};
 ghost use Rattle.cbor_typed.specs.Whole.{from_mut_slice_context, from_reader_context};
@@ -60,13 +63,34 @@ fn are_bytes(slice: &[u8])
 /// The item has to be acceptable: well formed, nested at most 127 levels deep, each text UTF-8; and
 /// one that the type reads. Heads may be longer than they have to be, and lengths indefinite.
 ///
-/// It refuses a malformed input as the reading of a `Value` does, and an item that the type doesn't
-/// read with a `Message`. Where several faults stand in one input, no clause says which is
-/// answered.
+/// A [`Value`](cbor_value::Value) is read from any acceptable item. Null and undefined are `Null`;
+/// of a map's pairs with one key the last value stays, and the keys are put in order. Of the simple
+/// values only false, true, null and undefined are acceptable (`f0` and `f8 ff` are refused).
+///
+/// The refusals, each at an offset in bytes:
+/// - `EofWhileParsingValue`, `EofWhileParsingArray`, `EofWhileParsingMap`: the bytes end too early,
+///   the latter two where an element of an array or a key of a map of indefinite length, or its
+///   break, is due; at the end of the bytes;
+/// - `UnassignedCode`: a first byte that the format doesn't assign, or that of another simple
+///   value, after that byte;
+/// - `UnexpectedCode`: a break, or a byte in a chunk's place, that may not stand there, after it;
+/// - `InvalidUtf8`: a text isn't UTF-8, at its first byte that isn't;
+/// - `LengthOutOfRange`: a text would end at 2^64 or beyond, after its head;
+/// - `RecursionLimitExceeded`: the 128th array, map or tag inside others, after its head;
+/// - `TrailingData`: bytes follow the item, after the first of them; or items or pairs that the
+///   type doesn't read follow those that it does;
+/// - `Message`, without an offset: an item that the type doesn't read;
+/// - `OutOfMemory`: an allocation failed. No memory is taken on the word of a head.
+///
+/// Where several faults stand in one input, a type that reads every item, as `Value` does, answers
+/// the first; of others no clause says which is answered.
 ///
 /// ```rust
 /// let number: u8 = from_slice(alloc, b"\x18\x2a")?;
 /// assert_eq!(rt; number, 42);
+///
+/// let value: Value = from_slice(alloc, &[0x82, 0x18, 0x17, 0xf7])?;
+/// assert_eq!(rt; value, Value::Array(vec![in alloc; Value::Integer(23), Value::Null]?));
 /// ```
 pub fn from_slice<'a, T: Deserialize<'a, SliceRead<'a>>>(
     alloc: Global,
@@ -77,8 +101,12 @@ pub fn from_slice<'a, T: Deserialize<'a, SliceRead<'a>>>(
     // Each such item is read, unless memory runs out.
     ensures accepted { (x : T) → SpellsAs all_formats (T.reads from_slice_context) slice.now x
         → IfErr result IsOutOfMemory }
-    // Where the type reads every item, a refusal tells the fault that the reference reader meets,
-    // or that memory ran out.
+    // The acceptable item that the bytes spell is the one that is read; and where the type reads
+    // every item, it is read, unless memory runs out.
+    ensures every { (v : Val) → (spelt : SpellsValue slice.now v)
+        → MatchResult result (T.reads from_slice_context spelt.item)
+        (λ e. WhereTotal T.total (IsOutOfMemory e)) }
+    // A refusal of it tells the fault that the reference reader meets, or that memory ran out.
     ensures refused { IfErr result (λ e.
         WhereTotal T.total (Fails (length slice.now) e (read_value slice.now))) }
 {
@@ -88,8 +116,9 @@ pub fn from_slice<'a, T: Deserialize<'a, SliceRead<'a>>>(
 /// What the one item that the bytes spell is read as, as by [`from_slice`]; strings in chunks are
 /// joined in a scratch of the caller's.
 ///
-/// It refuses as `from_slice` does, and with `ScratchTooSmall` where the chunks of a string are
-/// longer together than the scratch. What the scratch holds afterwards isn't said.
+/// It refuses as `from_slice` does, and with `ScratchTooSmall` where the chunks of a string, each
+/// whole in the bytes, are longer together than the scratch: at the offset behind the head of the
+/// chunk that doesn't fit. What the scratch holds afterwards isn't said.
 ///
 /// ```rust
 /// let flag: bool = from_slice_with_scratch(alloc, b"\xf5", &mut [])?;
@@ -105,6 +134,15 @@ pub fn from_slice_with_scratch<'a, T: Deserialize<'a, SliceReadFixed<'a, 'a>>>(
     ensures accepted { (x : T)
         → (spelt : SpellsAs all_formats (T.reads from_slice_context) slice.now x)
         → FitsScratch (Some (length scratch.old)) spelt.item → IfErr result IsOutOfMemory }
+    ensures every { (v : Val) → (spelt : SpellsValue slice.now v)
+        → FitsScratch (Some (length scratch.old)) spelt.item
+        → MatchResult result (T.reads from_slice_context spelt.item)
+        (λ e. WhereTotal T.total (IsOutOfMemory e)) }
+    // An item with a string in chunks that is longer than the scratch isn't read; where the type
+    // reads every item, that is told, unless memory runs out.
+    ensures small { (v : Val) → (spelt : SpellsValue slice.now v)
+        → length scratch.old < longest_joined spelt.item
+        → MatchResult result (λ x. ⊥) (λ e. WhereTotal T.total (IsScratchOrMemory e)) }
     ensures refused { IfErr result (λ e. WhereTotal T.total (Fails (length slice.now) e
         (read_value_in (Some (length scratch.old)) slice.now))) }
 {
@@ -127,6 +165,9 @@ pub fn from_mut_slice<'a, T: Deserialize<'a, MutSliceRead<'a>>>(
     ensures accepted { (x : T)
         → SpellsAs all_formats (T.reads from_mut_slice_context) slice.old x
         → IfErr result IsOutOfMemory }
+    ensures every { (v : Val) → (spelt : SpellsValue slice.old v)
+        → MatchResult result (T.reads from_mut_slice_context spelt.item)
+        (λ e. WhereTotal T.total (IsOutOfMemory e)) }
     ensures refused { IfErr result (λ e.
         WhereTotal T.total (Fails (length slice.old) e (read_value slice.old))) }
 {
@@ -155,8 +196,14 @@ pub fn from_reader<'de, T: DeserializeOwned + Deserialize<'de, IoRead<R>>, R: io
     ensures accepted { (bytes : List ℕ) → Gave (R.remaining reader) bytes
         → (x : T) → SpellsAs all_formats (T.reads from_reader_context) bytes x
         → IfErr result IsMemoryOrFault }
-    // Where the type reads every item, a refusal tells the fault that the reference reader meets, or
-    // that memory ran out, or the reader's.
+    // The acceptable item that the bytes spell is the one that is read; and where the type reads
+    // every item, it is read, with the same exceptions.
+    ensures every { (bytes : List ℕ) → Gave (R.remaining reader) bytes
+        → (v : Val) → (spelt : SpellsValue bytes v)
+        → MatchResult result (T.reads from_reader_context spelt.item)
+        (λ e. WhereTotal T.total (IsMemoryOrFault e)) }
+    // A refusal of it tells the fault that the reference reader meets, or that memory ran out, or
+    // the reader's.
     ensures refused { (bytes : List ℕ) → Gave (R.remaining reader) bytes
         → IfErr result (λ e.
         WhereTotal T.total (FailsOrFaults (length bytes) e (read_value bytes))) }

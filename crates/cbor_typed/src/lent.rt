@@ -102,7 +102,7 @@ fn stopped<R: Source>(items: &mut Items<R>, refused: Refused) -> ReadError
 
 // Takes the bytes of a byte string behind its head.
 #[inline(always)]
-fn bytes_part<'a, 'de, R: Read<'de>>(
+pub(crate) fn bytes_part<'a, 'de, R: Read<'de>>(
     items: &'a mut Items<R>,
     n: Option<u64>,
 ) -> Result<EitherLifetime<'a, 'de>>
@@ -124,7 +124,7 @@ fn bytes_part<'a, 'de, R: Read<'de>>(
 
 // Takes the bytes of a text behind its head.
 #[inline(always)]
-fn text_part<'a, 'de, R: Read<'de>>(
+pub(crate) fn text_part<'a, 'de, R: Read<'de>>(
     items: &'a mut Items<R>,
     n: Option<u64>,
 ) -> Result<EitherStr<'a, 'de>>
@@ -199,7 +199,7 @@ impl<R: Source> Deserializer<R> {
     /// The error of a string that wasn't lent; the message is for an item of another kind.
     #[cold]
     #[inline(never)]
-    pub fn unread(&mut self, why: Unread, message: &'static str) -> Error
+    pub fn unread(&mut self, why: Unread, message: &str) -> Error
         ensures made { IsMadeOf why result }
         ensures source { self.new.items.source ≡ self.old.items.source }
         ensures levels { self.new.items.levels ≡ self.old.items.levels }
@@ -214,7 +214,7 @@ impl<R: Source> Deserializer<R> {
 
 impl<'de, R: Read<'de>> Deserializer<R> {
     /// Lends a text, or a byte string that is UTF-8.
-    pub fn lend_text<'a>(&'a mut self) -> Result<EitherStr<'a, 'de>>
+    pub fn read_text<'a>(&'a mut self) -> Result<EitherStr<'a, 'de>>
         ensures* after_borrow { sem 𝓛 (Rests (typed_row R.row) self.entry (λ new.
             (new.items.levels ≡ self.old.items.levels) × (new.items.formats ≡ self.old.items.formats)
             × LendsText R.refusals (context self.old.items.formats R.lends) self.old.items.levels
@@ -232,7 +232,7 @@ impl<'de, R: Read<'de>> Deserializer<R> {
     }
 
     /// Lends the bytes of a byte string, or of a text.
-    pub fn lend_bytes<'a>(&'a mut self) -> Result<EitherLifetime<'a, 'de>>
+    pub fn read_bytes<'a>(&'a mut self) -> Result<EitherLifetime<'a, 'de>>
         ensures* after_borrow { sem 𝓛 (Rests (typed_row R.row) self.entry (λ new.
             (new.items.levels ≡ self.old.items.levels) × (new.items.formats ≡ self.old.items.formats)
             × LendsString R.refusals (context self.old.items.formats R.lends) self.old.items.levels

@@ -33,7 +33,7 @@ impl<R: Source> Deserializer<R> {
     /// The error of an item of another kind, behind its head.
     #[cold]
     #[inline(never)]
-    pub(crate) fn mismatch(&mut self, head: Head, message: &'static str) -> Error
+    pub(crate) fn mismatch(&mut self, head: Head, message: &str) -> Error
         ensures levels { self.new.items.levels ≡ self.old.items.levels }
         ensures formats { self.new.items.formats ≡ self.old.items.formats }
     {

@@ -48,7 +48,7 @@ impl<R: Source> Deserializer<R> {
     }
 
     // Takes the tags and the head of an array, and goes one level in.
-    fn array_head(&mut self) -> Result<Remaining>
+    pub(crate) fn array_head(&mut self) -> Result<Remaining>
         ensures read { TakesHead R.refusals (formats_of self.old.items.formats) self.old.items.levels
             (R.source self.old.items.source) (R.source self.new.items.source)
             self.new.items.levels result }
@@ -93,7 +93,7 @@ impl<R: Source> Deserializer<R> {
     }
 
     // Takes the end of an array of which so much remains.
-    fn end_array(&mut self, remaining: Remaining) -> Result<()>
+    pub(crate) fn end_array(&mut self, remaining: Remaining) -> Result<()>
         ensures read { TakesEnd R.refusals remaining
             (R.source self.old.items.source) (R.source self.new.items.source) result }
         ensures levels { self.new.items.levels ≡ self.old.items.levels }

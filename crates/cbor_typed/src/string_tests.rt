@@ -233,16 +233,58 @@ fn refuses_to_lend_other_bytes(rt: HostRuntime) -> Done {
 fn lends_from_a_reader_until_its_next_call(rt: HostRuntime) -> Done {
     let alloc = rt.alloc();
     let mut de = Deserializer::from_reader(alloc, b"\x62ab\x41c".as_slice());
-    match de.lend_text() {
+    match de.read_text() {
         Ok(EitherStr::Short(text)) => assert_eq!(rt; text, "ab"),
         Ok(EitherStr::Long(_)) => return Err(Fail::from("a reader lends nothing for long")),
         Err(why) => return Err(Fail::from(de.unread(why, "no text"))),
     }
-    match de.lend_bytes() {
+    match de.read_bytes() {
         Ok(EitherLifetime::Short(bytes)) => assert_eq!(rt; bytes, b"c".as_slice()),
         Ok(EitherLifetime::Long(_)) => return Err(Fail::from("a reader lends nothing for long")),
         Err(why) => return Err(Fail::from(de.unread(why, "no bytes"))),
     }
     de.end()?;
     Ok(())
+}
+
+#[test]
+fn reads_characters(rt: HostRuntime) -> Done {
+    let alloc = rt.alloc();
+    assert_eq!(rt; from_slice::<char>(alloc, b"\x41a")?, 'a');
+    assert_eq!(rt; from_slice::<char>(alloc, b"\x61\x00")?, '\0');
+    assert_eq!(rt;
+        from_slice::<char>(alloc, b"\xc1\x64\xf0\x9f\x98\x80")?,
+        '😀'
+    );
+    let mut scratch = [0; 2];
+    let read: char = from_slice_with_scratch(alloc, b"\x7f\x61\xc3\x61\xa9\xff", &mut scratch)?;
+    assert_eq!(rt; read, 'é');
+    assert_eq!(rt; from_reader::<char, _>(alloc, b"\x61b".as_slice())?, 'b');
+    Ok(())
+}
+
+#[test]
+fn refuses_what_is_no_character(rt: HostRuntime) -> Done {
+    let alloc = rt.alloc();
+    for bytes in [
+        &b"\x62aa"[..],
+        b"\x60",
+        b"\x40",
+        b"\x41\xc3",
+        b"\x05",
+        b"\x80",
+    ] {
+        refused(
+            &rt,
+            alloc,
+            from_slice::<char>(alloc, bytes),
+            "invalid type: expected a character",
+        )?;
+    }
+    refused(
+        &rt,
+        alloc,
+        from_slice::<char>(alloc, b"\x61\xc3"),
+        "invalid UTF-8 at offset 1",
+    )
 }

@@ -1,5 +1,8 @@
 //! Types of std that are read, and those of the values.
 
+mod character;
+mod ignored;
+mod maps;
 mod numbers;
 mod option;
 mod sequences;
@@ -7,3 +10,5 @@ mod simple;
 mod strings;
 mod tuples;
 mod value;
+
+pub use ignored::IgnoredAny;

@@ -13,6 +13,7 @@ pub use Rattle.cbor_model.specs.Reader
 pub use Rattle.cbor_model.specs.Laws
 pub use Rattle.cbor_model.specs.Document
 pub use Rattle.cbor_model.specs.Formats
+pub use Rattle.cbor_model.specs.Readable
 pub use Rattle.cbor_model.specs.Parts
 pub use Rattle.cbor_io.specs.Error
 pub use Rattle.cbor_io.specs.ReadError
@@ -23,6 +24,19 @@ pub use Rattle.cbor_value.specs.View
 pub use Rattle.cbor_value.specs.Search
 pub use Rattle.cbor_de.specs.Deserializer
 pub use Rattle.cbor_de.specs.Gives
+pub use Rattle.cbor_typed.specs.Takes
+pub use Rattle.cbor_typed.specs.Whole
+pub use Rattle.cbor_typed.specs.Accesses
+pub use Rattle.cbor_typed.specs.Arrays
+pub use Rattle.cbor_typed.specs.Maps
+pub use Rattle.cbor_typed.specs.MapAccesses
+pub use Rattle.cbor_typed.specs.Tags
+pub use Rattle.cbor_typed.specs.Strings
+pub use Rattle.cbor_typed.specs.Identifiers
+pub use Rattle.cbor_typed.specs.Structs
+pub use Rattle.cbor_typed.specs.Enums
+pub use Rattle.cbor_typed.specs.Variants
+pub use Rattle.cbor_typed.specs.Options
 pub use Rattle.cbor_ser.specs.Written
 pub use Rattle.cbor_ser.specs.Bytes
 pub use Rattle.cbor_ser.specs.Serialized

@@ -1,9 +1,10 @@
 //! CBOR with canonical values (RFC 7049).
 //!
 //! [`from_slice`], [`from_slice_with_scratch`], [`from_mut_slice`] and [`from_reader`] read any
-//! CBOR item as a [`Value`], and [`to_vec`] writes a value as its one canonical spelling. Values
-//! are compared by the order of their spellings' heads and contents, so that a map lists its keys
-//! in one order.
+//! CBOR item as a [`Value`], and others as types that say which items they read
+//! ([`de::Deserialize`]). [`to_vec`] writes a value as its one canonical spelling, and types that
+//! say their document ([`ser::Serialize`]). Values are compared by the order of their spellings'
+//! heads and contents, so that a map lists its keys in one order.
 //!
 //! ```rust
 //! let value: Value = from_slice(alloc, &[0xbf, 2, 0, 1, 0, 0xff])?;
@@ -11,19 +12,20 @@
 //! assert_eq!(rt; bytes.as_slice(), [0xa2, 1, 0, 2, 0].as_slice());
 //! ```
 //!
-//! The items stand in crates of their own, `cbor_io`, `cbor_value`, `cbor_ser` and `cbor_de`. This
+//! The items stand in crates of their own, `cbor_io`, `cbor_value`, `cbor_ser` and
+//! `cbor_typed`. This
 //! one has them all under the paths of the Rust crate, and passes on the words that their contracts
 //! use, so that a crate above names no other.
 #![tactic(auto)]
 
-pub use cbor_de as de;
-pub use cbor_de::{
-    Deserializer, Formats, from_mut_slice, from_reader, from_slice, from_slice_with_scratch,
-};
 pub use cbor_io::error;
 pub use cbor_io::error::{Error, Result};
 pub use cbor_ser as ser;
 pub use cbor_ser::{Serializer, to_vec, to_writer};
+pub use cbor_typed as de;
+pub use cbor_typed::{
+    Deserializer, Formats, from_mut_slice, from_reader, from_slice, from_slice_with_scratch,
+};
 pub use cbor_value as value;
 pub use cbor_value::Value;
 
@@ -33,6 +35,8 @@ mod byte_order_tests;
 mod normal_tests;
 #[cfg(test)]
 mod samples;
+#[cfg(test)]
+mod std_types_tests;
 #[cfg(test)]
 mod tests;
 #[cfg(test)]

@@ -1,6 +1,6 @@
 ghost use Rattle.std.specs.Prelude.{IfOk, IsTrue};
 
-use crate::{from_slice, to_vec};
+use crate::{Value, from_slice, to_vec};
 use std::alloc::Global;
 use std::test::Fail;
 
@@ -8,9 +8,9 @@ use std::test::Fail;
 fn is_normal_after_once(alloc: Global, bytes: &[u8]) -> crate::Result<bool>
     ensures { IfOk result (λ is_normal. IsTrue is_normal) }
 {
-    let value = from_slice(alloc, bytes)?;
+    let value: Value = from_slice(alloc, bytes)?;
     let once = to_vec(alloc, &value)?;
-    let again = from_slice(alloc, &once)?;
+    let again: Value = from_slice(alloc, &once)?;
     let twice = to_vec(alloc, &again)?;
     Ok(once.as_slice() == twice.as_slice())
 }
@@ -42,7 +42,7 @@ fn spells_256_items_up_to_a_break_longer(rt: HostRuntime) -> Result<(), Fail> {
     }
     open.push(0xff)?;
     assert_eq!(rt; open.len(), 258);
-    let spelling = to_vec(alloc, &from_slice(alloc, &open)?)?;
+    let spelling = to_vec(alloc, &from_slice::<Value>(alloc, &open)?)?;
     assert_eq!(rt; spelling.len(), 259);
     Ok(())
 }

@@ -1,4 +1,4 @@
-use crate::{from_slice, to_vec};
+use crate::{Value, from_slice, to_vec};
 use std::alloc::Global;
 use std::process::Abort;
 use std::test::Fail;
@@ -10,7 +10,7 @@ fn are_written(
     rows: &[(&'static [u8], &'static [u8])],
 ) -> Result<(), Fail> {
     for (bytes, want) in rows {
-        let written = to_vec(alloc, &from_slice(alloc, bytes)?)?;
+        let written = to_vec(alloc, &from_slice::<Value>(alloc, bytes)?)?;
         assert_eq!(rt; written.as_slice(), *want);
     }
     Ok(())
@@ -162,7 +162,7 @@ fn keeps_the_last_of_equal_keys(rt: HostRuntime) -> Result<(), Fail> {
 fn nests_127_levels(rt: HostRuntime) -> Result<(), Fail> {
     let mut bytes = [0x81; 128];
     bytes[127] = 0x00;
-    let written = to_vec(rt.alloc(), &from_slice(rt.alloc(), &bytes)?)?;
+    let written = to_vec(rt.alloc(), &from_slice::<Value>(rt.alloc(), &bytes)?)?;
     assert_eq!(rt; written.as_slice(), bytes.as_slice());
     Ok(())
 }
@@ -171,7 +171,7 @@ fn nests_127_levels(rt: HostRuntime) -> Result<(), Fail> {
 fn reads_256_items(rt: HostRuntime) -> Result<(), Fail> {
     let mut bytes = [0xf6; 259];
     bytes[..3].copy_from_slice(&[0x99, 0x01, 0x00]);
-    let written = to_vec(rt.alloc(), &from_slice(rt.alloc(), &bytes)?)?;
+    let written = to_vec(rt.alloc(), &from_slice::<Value>(rt.alloc(), &bytes)?)?;
     assert_eq!(rt; written.as_slice(), bytes.as_slice());
     Ok(())
 }
@@ -181,7 +181,7 @@ fn reads_256_items_up_to_a_break(rt: HostRuntime) -> Result<(), Fail> {
     let mut bytes = [0xf6; 258];
     bytes[0] = 0x9f;
     bytes[257] = 0xff;
-    let written = to_vec(rt.alloc(), &from_slice(rt.alloc(), &bytes)?)?;
+    let written = to_vec(rt.alloc(), &from_slice::<Value>(rt.alloc(), &bytes)?)?;
     assert_eq!(rt; written.len(), 259);
     assert_eq!(rt; &written[..3], [0x99, 0x01, 0x00].as_slice());
     assert!(rt; written[3..].iter().all(|byte| *byte == 0xf6));

@@ -13,5 +13,7 @@ pub use Rattle.cbor_de.proofs.Calls.{source_stops}
 pub use Rattle.cbor_de.proofs.Steps.{byte_refused, refused_stops, taken_step, kept_step, none_step}
 -- an error of one reading is one of another with the same fault
 pub use Rattle.cbor_de.proofs.Steps.{passed_on}
--- a fault of a whole input is one of the reference reader
-pub use Rattle.cbor_de.proofs.All.{fault_in}
+-- what a whole input is read as, and its fault, are the reference reader's
+pub use Rattle.cbor_de.proofs.All.{value_in, fault_in}
+-- what was passed over was read, and what stops the one stops the other
+pub use Rattle.cbor_de.proofs.Skipped.{passed_was, passed_stops}

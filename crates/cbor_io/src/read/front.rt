@@ -1,6 +1,7 @@
 //! What is left of a slice, where some bytes were taken from its front.
 
 ghost use Rattle.std.specs.Prelude.{◌≡◌, ◌+◌, ◌<◌, ◌≤◌, length, drop, IfOk, IfErr};
+ghost use Rattle.std.specs.Str.Lossy.{utf8_valid_len};
 ghost use Rattle.cbor_io.specs.ReadError.{why, place};
 ghost use Rattle.cbor_io.specs.Source.{first_of};
 ghost use Rattle.cbor_io.specs.declared.read.read_error.ReadErrorCode.TheVariants as refusal;
@@ -28,5 +29,17 @@ pub(super) fn end_of(slice: &[u8], taken: usize, n: usize) -> Result<usize>
         Ok(taken + n)
     } else {
         Err(ReadError::eof(slice.len() as u64))
+    }
+}
+
+// How many of these bytes, from the front, are UTF-8.
+#[inline]
+#[tactic(auto, using(crate::proofs::Inputs::all_valid))]
+pub(super) fn valid_in(bytes: &[u8]) -> usize
+    ensures { result ≡ utf8_valid_len bytes.now }
+{
+    match str::from_utf8(bytes) {
+        Ok(text) => text.len(),
+        Err(e) => e.valid_up_to(),
     }
 }

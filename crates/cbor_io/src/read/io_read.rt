@@ -9,6 +9,7 @@ ghost use Rattle.cbor_io.specs.Source.{with_peeked, reader_input};
 #[cfg(test)]
 mod tests;
 
+use super::front::valid_in;
 use super::{EitherLifetime, Offset, Read, ReadError, ReadErrorCode, Result, Source};
 use std::alloc::Global;
 use std::{io, mem};
@@ -24,8 +25,8 @@ use std::{io, mem};
 /// - `Io` where the reader reports a fault; an interrupted read is one, and isn't tried again;
 /// - `EofWhileParsingValue` where too few bytes are to come;
 /// - `LengthOutOfRange` at the offset 2^64 - 1, where another byte is there;
-/// - `OutOfMemory` where the buffer or the vector to fill can't grow, in `read`, `read_to_buffer`
-///   and `read_to_vec` alone.
+/// - `OutOfMemory` where the buffer or the vector to fill can't grow, in `read`, `read_to_buffer`,
+///   `read_to_vec`, `skip` and `skip_text` alone.
 ///
 /// ```rust
 /// let mut source = IoRead::new(alloc, rt.reader());
@@ -200,6 +201,18 @@ impl<R: io::Read> Source for IoRead<R> {
             filled += count;
         }
         Ok(())
+    }
+
+    // By way of the buffer.
+    fn skip(&mut self, n: usize) -> Result<()> {
+        self.buffer.clear();
+        self.read_to_buffer(n)
+    }
+
+    fn skip_text(&mut self, n: usize) -> Result<usize> {
+        self.buffer.clear();
+        self.read_to_buffer(n)?;
+        Ok(valid_in(&self.buffer))
     }
 
     fn discard(&mut self) {

@@ -5,6 +5,7 @@ ghost use Rattle.std.specs.Prelude.{IfOk, IfErr, None};
 ghost use Rattle.cbor_io.specs.ReadError.{why, place};
 ghost use Rattle.cbor_io.specs.declared.read.read_error.ReadErrorCode.TheVariants as refusal;
 
+use super::front::valid_in;
 use super::{EitherLifetime, Read, ReadError, Result, Source};
 use std::mem;
 
@@ -178,6 +179,19 @@ impl<'a> Source for MutSliceRead<'a> {
         buf.copy_from_slice(self.part(end));
         self.taken = end;
         Ok(())
+    }
+
+    fn skip(&mut self, n: usize) -> Result<()> {
+        let end = self.end_of(n)?;
+        self.taken = end;
+        Ok(())
+    }
+
+    fn skip_text(&mut self, n: usize) -> Result<usize> {
+        let end = self.end_of(n)?;
+        let valid = valid_in(self.part(end));
+        self.taken = end;
+        Ok(valid)
     }
 
     fn discard(&mut self) {

@@ -2,7 +2,7 @@
 
 ghost use Rattle.std.specs.Prelude.{◌≡◌, ◌≤◌, [], length, None};
 
-use super::front::{byte_at, end_of};
+use super::front::{byte_at, end_of, valid_in};
 use super::{EitherLifetime, Offset, Read, Result, Source};
 use std::alloc::Global;
 
@@ -96,6 +96,21 @@ impl<'a> Source for SliceRead<'a> {
         buf.copy_from_slice(&self.slice[self.taken..end]);
         self.taken = end;
         Ok(())
+    }
+
+    #[inline]
+    fn skip(&mut self, n: usize) -> Result<()> {
+        let end = end_of(self.slice, self.taken, n)?;
+        self.taken = end;
+        Ok(())
+    }
+
+    #[inline]
+    fn skip_text(&mut self, n: usize) -> Result<usize> {
+        let end = end_of(self.slice, self.taken, n)?;
+        let valid = valid_in(&self.slice[self.taken..end]);
+        self.taken = end;
+        Ok(valid)
     }
 
     fn discard(&mut self) {

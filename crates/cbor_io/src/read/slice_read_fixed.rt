@@ -4,7 +4,7 @@ ghost use Rattle.std.specs.Prelude.{◌≡◌, ◌+◌, ◌<◌, ◌≤◌, [], 
 ghost use Rattle.cbor_io.specs.ReadError.{why, place};
 ghost use Rattle.cbor_io.specs.declared.read.read_error.ReadErrorCode.TheVariants.{ScratchTooSmall};
 
-use super::front::{byte_at, end_of};
+use super::front::{byte_at, end_of, valid_in};
 use super::{EitherLifetime, Offset, Read, ReadError, ReadErrorCode, Result, Source};
 
 /// The bytes of a slice. What is read is lent by the slice; parts that are joined stand in a
@@ -123,6 +123,21 @@ impl<'a, 'b> Source for SliceReadFixed<'a, 'b> {
         buf.copy_from_slice(&self.slice[self.taken..end]);
         self.taken = end;
         Ok(())
+    }
+
+    #[inline]
+    fn skip(&mut self, n: usize) -> Result<()> {
+        let end = end_of(self.slice, self.taken, n)?;
+        self.taken = end;
+        Ok(())
+    }
+
+    #[inline]
+    fn skip_text(&mut self, n: usize) -> Result<usize> {
+        let end = end_of(self.slice, self.taken, n)?;
+        let valid = valid_in(&self.slice[self.taken..end]);
+        self.taken = end;
+        Ok(valid)
     }
 
     fn discard(&mut self) {

@@ -146,3 +146,20 @@ fn joins_two_chunks<S: Source>(rt: &impl Abort, source: &mut S) -> Done {
     assert_eq!(rt; source.next()?, Some(0xff));
     Ok(())
 }
+
+/// The source gives the bytes `01 61 c3 28 62 63 f6`. All but the first and the last are skipped.
+fn skips_its_bytes<S: Source>(rt: &impl Abort, alloc: Global, source: &mut S) -> Done {
+    assert_eq!(rt; source.peek()?, Some(1));
+    source.skip(1)?;
+    assert_eq!(rt; source.skip_text(0)?, 0);
+    assert_eq!(rt; source.skip_text(3)?, 1);
+    assert_eq!(rt; source.offset(), 4);
+    assert_eq!(rt; source.skip_text(2)?, 2);
+    source.skip(0)?;
+    assert_eq!(rt; source.next()?, Some(0xf6));
+    let end = "EOF while parsing a value at offset 7";
+    is_refused(rt, alloc, source.skip(1).err(), end)?;
+    is_refused(rt, alloc, source.skip_text(1).err(), end)?;
+    is_refused(rt, alloc, source.skip(usize::MAX).err(), end)?;
+    Ok(())
+}

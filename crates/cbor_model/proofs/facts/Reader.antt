@@ -1,5 +1,7 @@
 -- Published: the steps of the reference reader.
 
+-- only major type 7 is simple
+pub use Rattle.cbor_model.proofs.Majors.{simple_number}
 -- equal results of reading have equal values
 pub use Rattle.cbor_model.proofs.Steps.{ok_is}
 -- an item takes at least a byte, and no step gives bytes back
@@ -17,3 +19,5 @@ pub use Rattle.cbor_model.proofs.Steps.{bind_ok}
 pub use Rattle.cbor_model.proofs.Steps.{BeginsWith, key_read, key_is}
 -- where all formats are read, each key is of one
 pub use Rattle.cbor_model.proofs.FirstBytes.{all_allowed, all_may_begin}
+-- with all formats every key is allowed
+pub use Rattle.cbor_model.proofs.FirstBytes.{all_allowed}

@@ -35,7 +35,7 @@ impl Readable for &str {
 impl<'de, R: Read<'de>> Deserialize<'de, R> for &'de str {
     fn deserialize(de: &mut Deserializer<R>) -> Result<&'de str> {
         let alloc = de.items.alloc;
-        match de.lend_text() {
+        match de.read_text() {
             Ok(EitherStr::Long(text)) => Ok(text),
             Ok(EitherStr::Short(_)) => {
                 Err(Error::message(alloc, "invalid type: expected a borrowed string"))
@@ -56,7 +56,7 @@ impl Readable for &[u8] {
 impl<'de, R: Read<'de>> Deserialize<'de, R> for &'de [u8] {
     fn deserialize(de: &mut Deserializer<R>) -> Result<&'de [u8]> {
         let alloc = de.items.alloc;
-        match de.lend_bytes() {
+        match de.read_bytes() {
             Ok(EitherLifetime::Long(bytes)) => Ok(bytes),
             Ok(EitherLifetime::Short(_)) => {
                 Err(Error::message(alloc, "invalid type: expected borrowed bytes"))

@@ -284,3 +284,21 @@ fn forgets_what_was_joined(rt: HostRuntime) -> Done {
     source.read_to_buffer(3)?;
     is_short(&rt, source.take_buffer(), b"baz")
 }
+
+#[test]
+fn skips_bytes_of_a_reader(rt: HostRuntime) -> Done {
+    let alloc = rt.alloc();
+    let mut source = IoRead::new(alloc, b"\x01a\xc3\x28bc\xf6".as_slice());
+    assert_eq!(rt; source.peek()?, Some(1));
+    source.skip(1)?;
+    assert_eq!(rt; source.skip_text(3)?, 1);
+    source.skip(0)?;
+    assert_eq!(rt; source.skip_text(2)?, 2);
+    assert_eq!(rt; source.offset(), 6);
+    is_refused(
+        &rt,
+        alloc,
+        source.skip(2),
+        "EOF while parsing a value at offset 7",
+    )
+}

@@ -1,5 +1,6 @@
 use super::{
-    Done, fills_a_vector, gives_all, is_refused, joins_two_chunks, lent_by_input, tells_the_end,
+    Done, fills_a_vector, gives_all, is_refused, joins_two_chunks, lent_by_input, skips_its_bytes,
+    tells_the_end,
 };
 use crate::read::{MutSliceRead, Read, Source};
 
@@ -7,6 +8,12 @@ use crate::read::{MutSliceRead, Read, Source};
 fn gives_the_bytes_of_a_slice(rt: HostRuntime) -> Done {
     let mut bytes = *b"\x63foo\x18\x2a\xf6";
     gives_all(&rt, &mut MutSliceRead::new(&mut bytes))
+}
+
+#[test]
+fn skips_bytes_of_a_slice(rt: HostRuntime) -> Done {
+    let mut bytes = *b"\x01a\xc3\x28bc\xf6";
+    skips_its_bytes(&rt, rt.alloc(), &mut MutSliceRead::new(&mut bytes))
 }
 
 #[test]

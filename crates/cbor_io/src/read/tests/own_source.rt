@@ -2,10 +2,14 @@
 
 ghost use Rattle.std.specs.Prelude.{◌≡◌, ◌+◌, ◌<◌, ◌≤◌, [], length, drop, None, IfOk, IfErr};
 ghost use Rattle.std.specs.Prelude.{vec_len};
+ghost use Rattle.std.specs.Str.Lossy.{utf8_valid_len};
 ghost use Rattle.cbor_io.specs.ReadError.{why, place};
 ghost use Rattle.cbor_io.specs.declared.read.read_error.ReadErrorCode.TheVariants as refusal;
 
-use super::{Done, fills_a_vector, gives_all, joins_two_chunks, lent_by_source, tells_the_end};
+use super::{
+    Done, fills_a_vector, gives_all, joins_two_chunks, lent_by_source, skips_its_bytes,
+    tells_the_end,
+};
 use crate::read::{EitherLifetime, Read, ReadError, Result, Source};
 use std::alloc::{AllocError, Global};
 
@@ -44,6 +48,17 @@ impl VecRead {
         } else {
             Err(ReadError::eof(self.bytes.len() as u64))
         }
+    }
+}
+
+// How many of these bytes, from the front, are UTF-8.
+#[tactic(auto, using(crate::proofs::Inputs::all_valid))]
+fn valid_in(bytes: &[u8]) -> usize
+    ensures { result ≡ utf8_valid_len bytes.now }
+{
+    match str::from_utf8(bytes) {
+        Ok(text) => text.len(),
+        Err(e) => e.valid_up_to(),
     }
 }
 
@@ -104,6 +119,18 @@ impl Source for VecRead {
         Ok(())
     }
 
+    fn skip(&mut self, n: usize) -> Result<()> {
+        self.skip_text(n)?;
+        Ok(())
+    }
+
+    fn skip_text(&mut self, n: usize) -> Result<usize> {
+        let end = self.end_of(n)?;
+        let valid = valid_in(&self.bytes[self.taken..end]);
+        self.taken = end;
+        Ok(valid)
+    }
+
     fn discard(&mut self) {
         self.taken += 1;
     }
@@ -143,6 +170,12 @@ fn gives_its_bytes(rt: HostRuntime) -> Done {
 fn fills_a_vector_of_its_bytes(rt: HostRuntime) -> Done {
     let mut source = owned(rt.alloc(), b"\x63foo\x18\x2a\xf6")?;
     fills_a_vector(&rt, rt.alloc(), &mut source)
+}
+
+#[test]
+fn skips_bytes(rt: HostRuntime) -> Done {
+    let mut source = owned(rt.alloc(), b"\x01a\xc3\x28bc\xf6")?;
+    skips_its_bytes(&rt, rt.alloc(), &mut source)
 }
 
 #[test]

@@ -1,6 +1,6 @@
 use super::{
     Done, fills_a_vector, gives_all, is_refused, joins_two_chunks, lent_by_input, lent_by_source,
-    tells_the_end,
+    skips_its_bytes, tells_the_end,
 };
 use crate::read::{Offset, Read, SliceRead, Source};
 
@@ -11,6 +11,16 @@ fn gives_the_bytes_of_a_slice(rt: HostRuntime) -> Done {
     gives_all(&rt, &mut source)?;
     assert_eq!(rt; source.byte_offset(), 7);
     Ok(())
+}
+
+#[test]
+fn skips_bytes_of_a_slice(rt: HostRuntime) -> Done {
+    let alloc = rt.alloc();
+    skips_its_bytes(
+        &rt,
+        alloc,
+        &mut SliceRead::new(alloc, b"\x01a\xc3\x28bc\xf6"),
+    )
 }
 
 #[test]

@@ -5,6 +5,7 @@ use Rattle.cbor_model.specs.Raw.{AreBytes}
 use Rattle.cbor_io.specs.Source.{Input, slice_input, mut_refusals}
 use Rattle.cbor_de.specs.Gives.{Tells}
 use Rattle.cbor_typed.specs.Whole.{ReadsAll, TellsWhole, from_mut_slice_context}
+use Rattle.cbor_typed.proofs.Every.{every}
 use Rattle.cbor_typed.proofs.Faults.{fails}
 use Rattle.cbor_typed.proofs.Inputs.{found, accepted}
 use Rattle.cbor_typed.proofs.from.from_mut_slice.Goals as goal
@@ -36,3 +37,13 @@ returns-clause-refused g c =
     let tells : Tells s bs = record { is = refl; short = omega arith } in
     let given = subst (λ (s : Input). IfErr c.read_all.result (TellsWhole g.T.Readable.total mut_refusals all_formats max_depth s)) c.new.ensures c.read_all.ensures.fault in
     fails g.T.Readable.total mut_refusals s bs tells refl (λ device. absurd cc) c.read_all.result given
+
+pub returns-clause-every : goal.returns-clause-every
+returns-clause-every g c = λ v spelt.
+    let bs = c.args.slice.now in
+    let s = slice_input bs 0 [] None in
+    let tells : Tells s bs = record { is = refl; short = omega arith } in
+    let given = subst (λ (s : Input). IfErr c.read_all.result (TellsWhole g.T.Readable.total mut_refusals all_formats max_depth s)) c.new.ensures c.read_all.ensures.fault in
+    let reads = g.T.Readable.reads from_mut_slice_context in
+    let read = subst (λ (s : Input). ReadsAll mut_refusals all_formats reads max_depth s c.read_all.result) c.new.ensures c.read_all.ensures.read in
+    every g.T.Readable.total mut_refusals reads s bs tells refl (omega arith) v spelt tt c.read_all.result read (fails g.T.Readable.total mut_refusals s bs tells refl (λ device. absurd cc) c.read_all.result given)

@@ -4,6 +4,7 @@ use Rattle.cbor_model.specs.Formats.{all_formats}
 use Rattle.cbor_io.specs.Source.{Input, reader_input, reader_refusals}
 use Rattle.cbor_de.specs.Gives.{Tells}
 use Rattle.cbor_typed.specs.Whole.{ReadsAll, TellsWhole, from_reader_context}
+use Rattle.cbor_typed.proofs.Every.{every_or_fault}
 use Rattle.cbor_typed.proofs.Faults.{fails_or_faults}
 use Rattle.cbor_typed.proofs.Inputs.{found, accepted_or_fault}
 use Rattle.cbor_typed.proofs.from.from_reader.Goals as goal
@@ -30,3 +31,12 @@ returns-clause-refused g c = λ bs gave.
     let tells : Tells s bs = record { is = gave.told; short = omega (arith, gave.short) } in
     let given = subst (λ (s : Input). IfErr c.read_all.result (TellsWhole g.T.Readable.total reader_refusals all_formats max_depth s)) c.new.ensures c.read_all.ensures.fault in
     fails_or_faults g.T.Readable.total reader_refusals s bs tells refl c.read_all.result given
+
+pub returns-clause-every : goal.returns-clause-every
+returns-clause-every g c = λ bs gave v spelt.
+    let s = reader_input None (g.R.Read.remaining c.args.reader) [] 0 in
+    let tells : Tells s bs = record { is = gave.told; short = omega (arith, gave.short) } in
+    let given = subst (λ (s : Input). IfErr c.read_all.result (TellsWhole g.T.Readable.total reader_refusals all_formats max_depth s)) c.new.ensures c.read_all.ensures.fault in
+    let reads = g.T.Readable.reads from_reader_context in
+    let read = subst (λ (s : Input). ReadsAll reader_refusals all_formats reads max_depth s c.read_all.result) c.new.ensures c.read_all.ensures.read in
+    every_or_fault g.T.Readable.total reader_refusals reads s bs tells refl gave.short v spelt tt c.read_all.result read (fails_or_faults g.T.Readable.total reader_refusals s bs tells refl c.read_all.result given)

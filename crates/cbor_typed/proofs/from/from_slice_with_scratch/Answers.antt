@@ -5,6 +5,8 @@ use Rattle.cbor_model.specs.Raw.{AreBytes}
 use Rattle.cbor_io.specs.Source.{Input, slice_input, fixed_refusals}
 use Rattle.cbor_de.specs.Gives.{Tells}
 use Rattle.cbor_typed.specs.Whole.{ReadsAll, TellsWhole, from_slice_context}
+use Rattle.cbor_typed.proofs.Every.{every, small}
+use Rattle.cbor_model.proofs.facts.Laws.{scratch_need}
 use Rattle.cbor_typed.proofs.Faults.{fails}
 use Rattle.cbor_typed.proofs.Inputs.{found, accepted}
 use Rattle.cbor_typed.proofs.from.from_slice_with_scratch.Goals as goal
@@ -36,3 +38,26 @@ returns-clause-refused g c =
     let tells : Tells s bs = record { is = refl; short = omega arith } in
     let given = subst (λ (s : Input). IfErr c.read_all.result (TellsWhole g.T.Readable.total fixed_refusals all_formats max_depth s)) c.new.ensures c.read_all.ensures.fault in
     fails g.T.Readable.total fixed_refusals s bs tells refl (λ device. absurd cc) c.read_all.result given
+
+pub returns-clause-every : goal.returns-clause-every
+returns-clause-every g c = λ v spelt room.
+    let bs = c.args.slice.now in
+    let most = Some (length c.args.scratch.now) in
+    let s = slice_input bs 0 [] most in
+    let tells : Tells s bs = record { is = refl; short = omega arith } in
+    let given = subst (λ (s : Input). IfErr c.read_all.result (TellsWhole g.T.Readable.total fixed_refusals all_formats max_depth s)) c.new.ensures c.read_all.ensures.fault in
+    let reads = g.T.Readable.reads from_slice_context in
+    let read = subst (λ (s : Input). ReadsAll fixed_refusals all_formats reads max_depth s c.read_all.result) c.new.ensures c.read_all.ensures.read in
+    every g.T.Readable.total fixed_refusals reads s bs tells refl (omega arith) v spelt room c.read_all.result read (fails g.T.Readable.total fixed_refusals s bs tells refl (λ device. absurd cc) c.read_all.result given)
+
+pub returns-clause-small : goal.returns-clause-small
+returns-clause-small g c = λ v spelt longer.
+    let bs = c.args.slice.now in
+    let room = length c.args.scratch.now in
+    let s = slice_input bs 0 [] (Some room) in
+    let tells : Tells s bs = record { is = refl; short = omega arith } in
+    let reads = g.T.Readable.reads from_slice_context in
+    let read = subst (λ (s : Input). ReadsAll fixed_refusals all_formats reads max_depth s c.read_all.result) c.new.ensures c.read_all.ensures.read in
+    let given = subst (λ (s : Input). IfErr c.read_all.result (TellsWhole g.T.Readable.total fixed_refusals all_formats max_depth s)) c.new.ensures c.read_all.ensures.fault in
+    let need = scratch_need room bs v (omega arith) spelt in
+    small g.T.Readable.total fixed_refusals reads s bs tells refl (need.1 longer) c.read_all.result read (fails g.T.Readable.total fixed_refusals s bs tells refl (λ device. absurd cc) c.read_all.result given)

@@ -1,10 +1,12 @@
-use Rattle.std.proofs.Common.{◌≡◌, ◌∙◌, ◌/◌, ◌%◌, ℕ, Ok, sym, ap, refl}
+use Rattle.std.proofs.Common.{◌≡◌, ◌∙◌, ◌%◌, ℕ, Ok, sym, ap}
 use Rattle.std.proofs.lemmas.Result.{err_from_is_err_and}
+use Rattle.cbor_model.specs.Major.{major_of}
 use Rattle.cbor_model.specs.Reader.{number_behind}
 use Rattle.cbor_io.specs.Head.{major_number}
-use Rattle.cbor_de.specs.Heads.{head_at, simple_head, indefinite_head}
+use Rattle.cbor_io.specs.declared.head.Major.TheVariants.{UnsignedInteger, NegativeInteger, ByteString, TextString, Array, Map, Tag}
+use Rattle.cbor_de.specs.Heads.{head_at, head_of, simple_head}
 use Rattle.cbor_de.proofs.Steps.{step_map, stopped_map, head_map}
-use Rattle.cbor_de.proofs.Heads.{not_simple, is_tag, first_simple, first_indefinite, first_stops, first_is}
+use Rattle.cbor_de.proofs.Heads.{is_tag, first_simple, first_indefinite, first_stops, first_is}
 use Rattle.cbor_de.proofs.de.Deserializer.head.Goals as goal
 
 pub returns-in-Simple-clause-read : goal.returns-in-Simple-clause-read
@@ -14,10 +16,9 @@ returns-in-Simple-clause-read g c =
 pub returns-then-low-eq-INDEFINITE : goal.returns-then-low-eq-INDEFINITE
 returns-then-low-eq-INDEFINITE g c =
     let major = c.of-major.ensures in
-    let other : (c.args.first / 32 ≡ 7 → ⊥) = λ e. not_simple c.of-major.result c.in_default.not-Simple (major ∙ e) in
     record {
-      read = head_map g.R.Source.refusals (indefinite_head (major_number c.of-major.result)) (head_at c.args.first) _ _ _ _
-          (λ bs. first_indefinite c.args.first bs other c.if-low-eq-INDEFINITE.true ∙ ap (λ (k : ℕ). indefinite_head k bs) (sym major)) c.indefinite.ensures.read;
+      read = head_map g.R.Source.refusals (head_of (major_of (major_number c.of-major.result)) 31) (head_at c.args.first) _ _ _ _
+          (λ bs. first_indefinite c.args.first bs c.if-low-eq-INDEFINITE.true ∙ ap (λ (k : ℕ). head_of (major_of k) 31 bs) (sym major)) c.indefinite.ensures.read;
       levels = c.indefinite.ensures.levels;
       formats = c.indefinite.ensures.formats;
     }
@@ -25,51 +26,50 @@ returns-then-low-eq-INDEFINITE g c =
 pub returns-in_err-n : goal.returns-in_err-n
 returns-in_err-n g c =
     let passed = err_from_is_err_and c.from_residual.result c.from_residual.ensures.1 in
-    let other : (c.args.first / 32 ≡ 7 → ⊥) = λ e. not_simple c.of-major.result c.in_default.not-Simple (c.of-major.ensures ∙ e) in
     record {
-      read = rw (passed.1, passed.2) (stopped_map g.R.Source.refusals (λ l. number_behind (c.args.first % 32)) (λ l. head_at c.args.first) _ _ _ (λ l bs f is. first_stops c.args.first bs f other c.if-low-eq-INDEFINITE.false is) c.in_err-n.ensures.read);
+      read = rw (passed.1, passed.2) (stopped_map g.R.Source.refusals (λ l. number_behind (c.args.first % 32)) (λ l. head_at c.args.first) _ _ _ (λ l bs f is. first_stops c.args.first bs f c.of-major.result c.in_default.not-Simple c.if-low-eq-INDEFINITE.false c.of-major.ensures is) c.in_err-n.ensures.read);
       levels = c.in_err-n.ensures.levels;
       formats = c.in_err-n.ensures.formats;
     }
 
 pub returns-in-UnsignedInteger : goal.returns-in-UnsignedInteger
 returns-in-UnsignedInteger g c = record {
-  read = step_map _ _ (λ l bs rest. number_behind (c.args.first % 32) bs ≡ Ok (c.in_ok-n.n, rest)) _ (λ l bs rest is. first_is c.args.first bs rest c.in_ok-n.n 0 _ (λ e. absurd cc) c.if-low-eq-INDEFINITE.false c.in-UnsignedInteger.ensures is refl) c.in_ok-n.ensures.read;
+  read = step_map _ _ (λ l bs rest. number_behind (c.args.first % 32) bs ≡ Ok (c.in_ok-n.n, rest)) _ (λ l bs rest is. first_is c.args.first bs rest c.in_ok-n.n UnsignedInteger (λ e. absurd cc) c.if-low-eq-INDEFINITE.false c.in-UnsignedInteger.ensures is) c.in_ok-n.ensures.read;
   levels = c.in_ok-n.ensures.levels;
   formats = c.in_ok-n.ensures.formats;
 }
 
 pub returns-in-NegativeInteger : goal.returns-in-NegativeInteger
 returns-in-NegativeInteger g c = record {
-  read = step_map _ _ (λ l bs rest. number_behind (c.args.first % 32) bs ≡ Ok (c.in_ok-n.n, rest)) _ (λ l bs rest is. first_is c.args.first bs rest c.in_ok-n.n 1 _ (λ e. absurd cc) c.if-low-eq-INDEFINITE.false c.in-NegativeInteger.ensures is refl) c.in_ok-n.ensures.read;
+  read = step_map _ _ (λ l bs rest. number_behind (c.args.first % 32) bs ≡ Ok (c.in_ok-n.n, rest)) _ (λ l bs rest is. first_is c.args.first bs rest c.in_ok-n.n NegativeInteger (λ e. absurd cc) c.if-low-eq-INDEFINITE.false c.in-NegativeInteger.ensures is) c.in_ok-n.ensures.read;
   levels = c.in_ok-n.ensures.levels;
   formats = c.in_ok-n.ensures.formats;
 }
 
 pub returns-in-ByteString : goal.returns-in-ByteString
 returns-in-ByteString g c = record {
-  read = step_map _ _ (λ l bs rest. number_behind (c.args.first % 32) bs ≡ Ok (c.in_ok-n.n, rest)) _ (λ l bs rest is. first_is c.args.first bs rest c.in_ok-n.n 2 _ (λ e. absurd cc) c.if-low-eq-INDEFINITE.false c.in-ByteString.ensures is refl) c.in_ok-n.ensures.read;
+  read = step_map _ _ (λ l bs rest. number_behind (c.args.first % 32) bs ≡ Ok (c.in_ok-n.n, rest)) _ (λ l bs rest is. first_is c.args.first bs rest c.in_ok-n.n ByteString (λ e. absurd cc) c.if-low-eq-INDEFINITE.false c.in-ByteString.ensures is) c.in_ok-n.ensures.read;
   levels = c.in_ok-n.ensures.levels;
   formats = c.in_ok-n.ensures.formats;
 }
 
 pub returns-in-TextString : goal.returns-in-TextString
 returns-in-TextString g c = record {
-  read = step_map _ _ (λ l bs rest. number_behind (c.args.first % 32) bs ≡ Ok (c.in_ok-n.n, rest)) _ (λ l bs rest is. first_is c.args.first bs rest c.in_ok-n.n 3 _ (λ e. absurd cc) c.if-low-eq-INDEFINITE.false c.in-TextString.ensures is refl) c.in_ok-n.ensures.read;
+  read = step_map _ _ (λ l bs rest. number_behind (c.args.first % 32) bs ≡ Ok (c.in_ok-n.n, rest)) _ (λ l bs rest is. first_is c.args.first bs rest c.in_ok-n.n TextString (λ e. absurd cc) c.if-low-eq-INDEFINITE.false c.in-TextString.ensures is) c.in_ok-n.ensures.read;
   levels = c.in_ok-n.ensures.levels;
   formats = c.in_ok-n.ensures.formats;
 }
 
 pub returns-in-Array : goal.returns-in-Array
 returns-in-Array g c = record {
-  read = step_map _ _ (λ l bs rest. number_behind (c.args.first % 32) bs ≡ Ok (c.in_ok-n.n, rest)) _ (λ l bs rest is. first_is c.args.first bs rest c.in_ok-n.n 4 _ (λ e. absurd cc) c.if-low-eq-INDEFINITE.false c.in-Array.ensures is refl) c.in_ok-n.ensures.read;
+  read = step_map _ _ (λ l bs rest. number_behind (c.args.first % 32) bs ≡ Ok (c.in_ok-n.n, rest)) _ (λ l bs rest is. first_is c.args.first bs rest c.in_ok-n.n Array (λ e. absurd cc) c.if-low-eq-INDEFINITE.false c.in-Array.ensures is) c.in_ok-n.ensures.read;
   levels = c.in_ok-n.ensures.levels;
   formats = c.in_ok-n.ensures.formats;
 }
 
 pub returns-in-Map : goal.returns-in-Map
 returns-in-Map g c = record {
-  read = step_map _ _ (λ l bs rest. number_behind (c.args.first % 32) bs ≡ Ok (c.in_ok-n.n, rest)) _ (λ l bs rest is. first_is c.args.first bs rest c.in_ok-n.n 5 _ (λ e. absurd cc) c.if-low-eq-INDEFINITE.false c.in-Map.ensures is refl) c.in_ok-n.ensures.read;
+  read = step_map _ _ (λ l bs rest. number_behind (c.args.first % 32) bs ≡ Ok (c.in_ok-n.n, rest)) _ (λ l bs rest is. first_is c.args.first bs rest c.in_ok-n.n Map (λ e. absurd cc) c.if-low-eq-INDEFINITE.false c.in-Map.ensures is) c.in_ok-n.ensures.read;
   levels = c.in_ok-n.ensures.levels;
   formats = c.in_ok-n.ensures.formats;
 }
@@ -79,7 +79,7 @@ returns-in_default-major g c =
     let d = c.in_default-major in
     let six = is_tag c.of-major.result c.in_default.not-Simple d.not-UnsignedInteger d.not-NegativeInteger d.not-ByteString d.not-TextString d.not-Array d.not-Map in
     record {
-      read = step_map _ _ (λ l bs rest. number_behind (c.args.first % 32) bs ≡ Ok (c.in_ok-n.n, rest)) _ (λ l bs rest is. first_is c.args.first bs rest c.in_ok-n.n 6 _ (λ e. absurd cc) c.if-low-eq-INDEFINITE.false (sym six ∙ c.of-major.ensures) is refl) c.in_ok-n.ensures.read;
+      read = step_map _ _ (λ l bs rest. number_behind (c.args.first % 32) bs ≡ Ok (c.in_ok-n.n, rest)) _ (λ l bs rest is. first_is c.args.first bs rest c.in_ok-n.n Tag (λ e. absurd cc) c.if-low-eq-INDEFINITE.false (sym six ∙ c.of-major.ensures) is) c.in_ok-n.ensures.read;
       levels = c.in_ok-n.ensures.levels;
       formats = c.in_ok-n.ensures.formats;
     }

@@ -1,13 +1,11 @@
-use Rattle.std.proofs.Common.{◌≡◌, ◌+◌, ◌-◌, ◌^◌, ℕ, List, length, Ok, Err, refl, sym, subst, arith, ltb, Bool, true, false}
+use Rattle.std.proofs.Common.{◌≡◌, ◌+◌, ℕ, List, length, Ok, sym, subst, arith}
 use Rattle.std.proofs.lemmas.Result.{err_from_is_err_and}
 use Rattle.cbor_model.specs.Formats.{all_formats}
 use Rattle.cbor_model.specs.Head.{no_bytes}
 use Rattle.cbor_model.specs.Plain.{Val}
 use Rattle.cbor_model.specs.Plain as plain
-use Rattle.cbor_model.specs.Refusal.{length_out_of_range}
-use Rattle.cbor_model.specs.Reader.{Fault, Reads, bytes_at, checked_text, text_at}
+use Rattle.cbor_model.specs.Reader.{Reads, bytes_at, checked_text, text_at}
 use Rattle.cbor_de.specs.Strings.{text_view}
-use Rattle.cbor_io.specs.Source.{Input}
 use Rattle.cbor_io.specs.ReadError.{place, error_code}
 use Rattle.cbor_io.specs.declared.read.read_error.ReadErrorCode.{ReadErrorCode}
 use Rattle.cbor_io.specs.declared.read.read_error.ReadError.{ReadError}
@@ -15,23 +13,8 @@ use Rattle.cbor_io.specs.declared.read.read_error.ReadErrorCode.TheVariants.{Len
 use Rattle.cbor_de.specs.Gives.{FailsBy, Limits, limits, values, Reports, Stops, IsAt}
 use Rattle.cbor_de.proofs.Calls.{kept_stops}
 use Rattle.cbor_de.proofs.Steps.{stopped_at, gives_at}
+use Rattle.cbor_de.proofs.Texts.{no_room, has_room, text_stop}
 use Rattle.cbor_de.proofs.de.Deserializer.text.Goals as goal
-
--- the place of a text, where so many bytes are left
-ends_at : (s : Input) (bs : List ℕ) (n : ℕ) (b : Bool) → ltb (s.offset + n) (2 ^ 64) ≡ b → ltb ((limits s bs).total - length bs + n) (2 ^ 64) ≡ b
-ends_at s bs n b h = subst (λ (k : ℕ). ltb (k + n) (2 ^ 64) ≡ b) (omega arith) h
-
-no_room : (s : Input) (bs : List ℕ) (n : ℕ) → ltb (s.offset + n) (2 ^ 64) ≡ false → text_at (values all_formats (limits s bs)) no_bytes n bs ≡ Err (record { why = length_out_of_range; left = length bs })
-unfolding text_at
-no_room s bs n h = rw (ends_at s bs n false h) refl
-
-has_room : (s : Input) (bs b rest : List ℕ) (n : ℕ) → ltb (s.offset + n) (2 ^ 64) ≡ true → bytes_at n bs ≡ Ok (b, rest) → text_at (values all_formats (limits s bs)) no_bytes n bs ≡ checked_text (values all_formats (limits s bs)) (plain.text b) b rest
-unfolding text_at
-has_room s bs b rest n h is = rw (ends_at s bs n true h, is) refl
-
-bytes_stop : (s : Input) (bs : List ℕ) (n : ℕ) (f : Fault) → ltb (s.offset + n) (2 ^ 64) ≡ true → bytes_at n bs ≡ Err f → text_at (values all_formats (limits s bs)) no_bytes n bs ≡ Err f
-unfolding text_at
-bytes_stop s bs n f h is = rw (ends_at s bs n true h, is) refl
 
 pub returns-then-not-has_room-clause-read : goal.returns-then-not-has_room-clause-read
 returns-then-not-has_room-clause-read g c =
@@ -49,7 +32,7 @@ pub returns-in_err-bytes-clause-read : goal.returns-in_err-bytes-clause-read
 returns-in_err-bytes-clause-read g c =
     let passed = err_from_is_err_and c.from_residual.result c.from_residual.ensures.1 in
     let s = g.R.Source.source c.args.self.now.source in
-    rw (passed.1, passed.2) (stopped_at g.R.Source.refusals (λ l. bytes_at c.args.n) (λ l. text_at (values all_formats l) no_bytes c.args.n) s _ _ (λ bs f is. bytes_stop s bs c.args.n f (sym c.if-not-has_room.ensures) is) c.in_err-bytes.ensures.read)
+    rw (passed.1, passed.2) (stopped_at g.R.Source.refusals (λ l. bytes_at c.args.n) (λ l. text_at (values all_formats l) no_bytes c.args.n) s _ _ (λ bs f is. text_stop s bs c.args.n f (sym c.if-not-has_room.ensures) is) c.in_err-bytes.ensures.read)
 
 pub returns-clause-read : goal.returns-clause-read
 returns-clause-read g c =

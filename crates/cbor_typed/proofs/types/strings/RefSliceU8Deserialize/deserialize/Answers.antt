@@ -13,9 +13,9 @@ returns-in-Err-clause-read g c =
     let f = formats_of de.items.formats in
     let levels = de.items.levels in
     let s = g.R.Source.source de.items.source in
-    let t = g.R.Source.source c.lend_bytes.follows.lender-at-none.items.source in
+    let t = g.R.Source.source c.read_bytes.follows.lender-at-none.items.source in
     let ctx = context de.items.formats g.R.Source.lends in
     let reads : (Raw → Bor (List ℕ) → Type 0) = λ r x. IsBorrowedString ctx r x.now in
-    let lacks = subst (λ r. LendsString g.R.Source.refusals ctx levels s t r) c.in-Err.is c.lend_bytes.follows.holds-at-none.2 in
+    let lacks = subst (λ r. LendsString g.R.Source.refusals ctx levels s t r) c.in-Err.is c.read_bytes.follows.holds-at-none.2 in
     made_refuses g.R.Source.refusals s (λ l bs. IsNotRead (PassesTags IsString) (item_at (raws f l) levels bs)) (λ l bs. IsNotRead (PassesTags reads) (item_at (raws f l) levels bs)) c.in-Err.why c.unread.result
     (λ l bs none. none_of reads IsString (λ x. x.now) (item_at (raws f l) levels bs) (λ r x is. is.0) none) c.unread.ensures.made lacks

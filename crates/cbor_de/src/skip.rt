@@ -1,0 +1,163 @@
+//! Passing over the item at the front of a source.
+
+ghost use Rattle.std.specs.Prelude.{◌≡◌, OnOk};
+ghost use Rattle.cbor_model.specs.Head.{no_bytes};
+ghost use Rattle.cbor_model.specs.Raw.{indefinite};
+ghost use Rattle.cbor_model.specs.Reader.{inside, parts_at, items_of, pairs_of, array_at, map_at};
+ghost use Rattle.cbor_model.specs.Reader.{tag_at, after_first, item_at};
+ghost use Rattle.cbor_de.specs.Deserializer.{formats_of, values_by};
+ghost use Rattle.cbor_de.specs.Gives.{Gives, Onward};
+ghost use Rattle.cbor_de.specs.Heads.{after_head, remaining_of, passed};
+
+use crate::cursor::{Collection, Remaining};
+use crate::de::Deserializer;
+use crate::head::Head;
+use crate::refusal::Done;
+use cbor_io::read::{ReadErrorCode, Source};
+
+impl<R: Source> Deserializer<R> {
+    /// Passes over an item, of which nothing is kept.
+    ///
+    /// A slice takes no memory for it, but where chunks of a string are joined in a buffer that
+    /// grows.
+    #[cycle(skip)]
+    pub fn skip(&mut self) -> Done<()>
+        ensures read { Gives R.refusals (λ u. u)
+            (λ l bs. passed (item_at (values_by self.old.formats l) self.old.levels bs))
+            (R.source self.old.source) (R.source self.new.source) self.new.refusal result }
+        ensures levels { self.new.levels ≡ self.old.levels }
+        ensures formats { self.new.formats ≡ self.old.formats }
+        ensures taken { OnOk result (Onward (R.source self.old.source) (R.source self.new.source)) }
+    {
+        let first = self.byte()?;
+        self.skip_from(first)
+    }
+
+    // Passes over what follows a first byte.
+    #[cycle(skip)]
+    fn skip_from(&mut self, first: u8) -> Done<()>
+        ensures read { Gives R.refusals (λ u. u)
+            (λ l bs. passed (after_first (values_by self.old.formats l)
+            (inside (values_by self.old.formats l) self.old.levels) first bs))
+            (R.source self.old.source) (R.source self.new.source) self.new.refusal result }
+        ensures levels { self.new.levels ≡ self.old.levels }
+        ensures formats { self.new.formats ≡ self.old.formats }
+    {
+        let head = self.head(first)?;
+        self.skip_of(head)
+    }
+
+    // Passes over what follows a head.
+    #[cycle(skip)]
+    fn skip_of(&mut self, head: Head) -> Done<()>
+        ensures read { Gives R.refusals (λ u. u)
+            (λ l bs. passed (after_head (formats_of self.old.formats) l
+            (inside (values_by self.old.formats l) self.old.levels) head bs))
+            (R.source self.old.source) (R.source self.new.source) self.new.refusal result }
+        ensures levels { self.new.levels ≡ self.old.levels }
+        ensures formats { self.new.formats ≡ self.old.formats }
+    {
+        match head {
+            Head::Unsigned(_) => Ok(()),
+            Head::Negative(_) => Ok(()),
+            Head::Bytes(Some(n)) => self.skip_bytes(n),
+            Head::Bytes(None) => self.skip_byte_chunks(),
+            Head::Text(Some(n)) => self.skip_text(n),
+            Head::Text(None) => self.skip_text_chunks(),
+            Head::Array(remaining) => self.skip_array(remaining),
+            Head::Map(remaining) => self.skip_map(remaining),
+            Head::Tag(tag) => self.skip_tagged(tag),
+            Head::Bool(_) => Ok(()),
+            Head::Null => Ok(()),
+            Head::Undefined => Ok(()),
+            Head::Float(_) => Ok(()),
+            Head::Break => Err(self.refuse(ReadErrorCode::UnexpectedCode)),
+        }
+    }
+
+    // Passes over an array behind its head.
+    #[cycle(skip)]
+    fn skip_array(&mut self, remaining: Remaining) -> Done<()>
+        ensures read { Gives R.refusals (λ u. u)
+            (λ l bs. passed (array_at (values_by self.old.formats l)
+            (inside (values_by self.old.formats l) self.old.levels) indefinite (remaining_of remaining) bs))
+            (R.source self.old.source) (R.source self.new.source) self.new.refusal result }
+        ensures levels { self.new.levels ≡ self.old.levels }
+        ensures formats { self.new.formats ≡ self.old.formats }
+    {
+        self.enter()?;
+        let passed = self.skip_items(remaining);
+        self.levels += 1;
+        passed
+    }
+
+    // Passes over the items that remain.
+    #[cycle(skip)]
+    #[inline(never)]
+    fn skip_items(&mut self, mut remaining: Remaining) -> Done<()>
+        ensures read { Gives R.refusals (λ u. u)
+            (λ l bs. passed (parts_at (items_of (values_by self.old.formats l)
+            (item_at (values_by self.old.formats l) self.old.levels)) (remaining_of remaining) bs))
+            (R.source self.old.source) (R.source self.new.source) self.new.refusal result }
+        ensures levels { self.new.levels ≡ self.old.levels }
+        ensures formats { self.new.formats ≡ self.old.formats }
+    {
+        'items: while let Some(first) = self.next(&mut remaining, Collection::Array)? {
+            self.skip_from(first)?;
+        }
+        Ok(())
+    }
+
+    // Passes over a map behind its head.
+    #[cycle(skip)]
+    fn skip_map(&mut self, remaining: Remaining) -> Done<()>
+        ensures read { Gives R.refusals (λ u. u)
+            (λ l bs. passed (map_at (values_by self.old.formats l)
+            (inside (values_by self.old.formats l) self.old.levels) indefinite (remaining_of remaining) bs))
+            (R.source self.old.source) (R.source self.new.source) self.new.refusal result }
+        ensures levels { self.new.levels ≡ self.old.levels }
+        ensures formats { self.new.formats ≡ self.old.formats }
+    {
+        self.enter()?;
+        let passed = self.skip_pairs(remaining);
+        self.levels += 1;
+        passed
+    }
+
+    // Passes over the pairs that remain.
+    #[cycle(skip)]
+    #[inline(never)]
+    fn skip_pairs(&mut self, mut remaining: Remaining) -> Done<()>
+        ensures read { Gives R.refusals (λ u. u)
+            (λ l bs. passed (parts_at (pairs_of (values_by self.old.formats l)
+            (item_at (values_by self.old.formats l) self.old.levels)) (remaining_of remaining) bs))
+            (R.source self.old.source) (R.source self.new.source) self.new.refusal result }
+        ensures levels { self.new.levels ≡ self.old.levels }
+        ensures formats { self.new.formats ≡ self.old.formats }
+    {
+        'pairs: while let Some(first) = self.next(&mut remaining, Collection::Map)? {
+            if !self.formats.may_begin_key(first) {
+                return Err(self.refuse_back(ReadErrorCode::WrongStructFormat, 1));
+            }
+            self.skip_from(first)?;
+            self.skip()?;
+        }
+        Ok(())
+    }
+
+    // Passes over a tagged item behind the tag's head.
+    #[cycle(skip)]
+    fn skip_tagged(&mut self, tag: u64) -> Done<()>
+        ensures read { Gives R.refusals (λ u. u)
+            (λ l bs. passed (tag_at (values_by self.old.formats l)
+            (inside (values_by self.old.formats l) self.old.levels) no_bytes tag bs))
+            (R.source self.old.source) (R.source self.new.source) self.new.refusal result }
+        ensures levels { self.new.levels ≡ self.old.levels }
+        ensures formats { self.new.formats ≡ self.old.formats }
+    {
+        self.enter()?;
+        let passed = self.skip();
+        self.levels += 1;
+        passed
+    }
+}

@@ -1,0 +1,11 @@
+use Rattle.cbor_io.specs.Error.{code_of, offset_of}
+use Rattle.cbor_typed.specs.Identifiers.{texts}
+use Rattle.cbor_typed.specs.Takes.{formats_of}
+use Rattle.cbor_typed.proofs.Fields.{no_field}
+use Rattle.cbor_typed.proofs.de.Deserializer.field.Goals as goal
+
+pub returns-in-Err-clause-read : goal.returns-in-Err-clause-read
+returns-in-Err-clause-read g c =
+    let old = c.args.self.now.items in
+    let e = c.in-Err.e in
+    no_field (texts c.args.names.now) g.R.Source.refusals (formats_of old.formats) old.levels (g.R.Source.source old.source) (code_of e) (offset_of e) c.in-Err.ensures.read

@@ -1,0 +1,14 @@
+use Rattle.cbor_typed.specs.Takes.{formats_of}
+use Rattle.cbor_typed.proofs.VariantParts.{parts_here, parts_answer}
+use Rattle.cbor_typed.proofs.de.Deserializer.parts.Goals as goal
+
+pub returns-in-Array-clause-read : goal.returns-in-Array-clause-read
+returns-in-Array-clause-read g c =
+    let old = c.args.self.now in
+    rw c.in-Array.is (parts_here (formats_of old.items.formats) old.items.levels c.in-Array.remaining (g.R.Source.source old.items.source))
+
+pub returns-in-Map-clause-read : goal.returns-in-Map-clause-read
+returns-in-Map-clause-read g c =
+    let old = c.args.self.now in
+    let new = c.array_head.new.self in
+    rw c.in-Map.is (parts_answer (formats_of old.items.formats) old.items.levels new.items.levels (g.R.Source.source old.items.source) (g.R.Source.source new.items.source) g.R.Source.refusals c.array_head.result c.array_head.ensures.read)

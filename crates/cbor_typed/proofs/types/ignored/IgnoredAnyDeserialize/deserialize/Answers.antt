@@ -1,0 +1,27 @@
+use Rattle.std.specs.Prelude.{⊤}
+use Rattle.cbor_typed.specs.Takes.{formats_of}
+use Rattle.cbor_typed.proofs.Faults.{any_passed, any_stops, value_refused, told_by}
+use Rattle.cbor_model.specs.Reader.{item_at}
+use Rattle.cbor_de.specs.Gives.{values}
+use Rattle.cbor_typed.proofs.types.ignored.IgnoredAnyDeserialize.deserialize.Goals as goal
+
+pub returns-in-Ok-clause-read : goal.returns-in-Ok-clause-read
+returns-in-Ok-clause-read g c =
+    let d = c.args.de.now.items in
+    any_passed g.R.Source.refusals (formats_of d.formats) d.levels (g.R.Source.source d.source) _ _ c.in-Ok.ensures.read
+
+pub returns-in-Err-clause-read : goal.returns-in-Err-clause-read
+returns-in-Err-clause-read g c =
+    let d = c.args.de.now.items in
+    let s = g.R.Source.source d.source in
+    let f = formats_of d.formats in
+    value_refused g.R.Source.refusals f d.levels s (λ r y. ⊤) c.skip.new.self.refusal c.in-Err.refused c.error.result c.error.ensures.tells
+    (any_stops g.R.Source.refusals f d.levels s c.skip.new.self.refusal c.in-Err.refused c.in-Err.ensures.read)
+
+pub returns-in-Err-clause-fault : goal.returns-in-Err-clause-fault
+returns-in-Err-clause-fault g c =
+    let d = c.args.de.now.items in
+    let s = g.R.Source.source d.source in
+    let f = formats_of d.formats in
+    told_by g.R.Source.refusals (λ l. item_at (values f l) d.levels) s c.skip.new.self.refusal c.in-Err.refused c.error.result c.error.ensures.tells
+    (any_stops g.R.Source.refusals f d.levels s c.skip.new.self.refusal c.in-Err.refused c.in-Err.ensures.read)

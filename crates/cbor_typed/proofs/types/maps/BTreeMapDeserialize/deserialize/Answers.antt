@@ -1,0 +1,172 @@
+use Rattle.std.proofs.Common.{rules, ◌≡◌, Option, refl, subst, ◌∙◌}
+use Rattle.std.proofs.lemmas.Result.{err_from_is_err_and}
+use Rattle.std.specs.BTreeMap.{BTreeMap, insert_entry}
+use Rattle.cbor_model.specs.Raw.{RawPairs}
+use Rattle.cbor_io.specs.Error.{code_of, offset_of}
+use Rattle.cbor_de.specs.Gives.{Step}
+use Rattle.cbor_de.specs.Heads.{remaining_of}
+use Rattle.cbor_de.specs.declared.formats.Formats.{Formats}
+use Rattle.cbor_typed.specs.MapAccesses.{IsKey}
+use Rattle.cbor_typed.specs.Maps.{AreEntries}
+use Rattle.cbor_typed.specs.Takes.{context, formats_of}
+use Rattle.cbor_typed.proofs.PairsRead.{Made, none_made, made_more, made_all, may_follow_made}
+use Rattle.cbor_typed.proofs.WholeMaps.{map_begins, map_goes_on, key_lacks, value_lacks, map_takes, map_refused, map_end_refused, map_end_twice, no_map_read}
+use Rattle.cbor_typed.proofs.types.maps.BTreeMapDeserialize.deserialize.Goals as goal
+
+pub returns-in_err-access-clause-read : goal.returns-in_err-access-clause-read
+returns-in_err-access-clause-read g c =
+    let passed = err_from_is_err_and c.from_residual.result c.from_residual.ensures.1 in
+    let old = c.args.de.now in
+    let keys = g.K.Readable.reads (context old.items.formats g.R.Source.lends) in
+    let values = g.V.Readable.reads (context old.items.formats g.R.Source.lends) in
+    rw (passed.1, passed.2) (no_map_read (λ (rs : RawPairs) (m : BTreeMap g.row.K.Denot g.row.V.Denot). AreEntries g.K.Ord.cmp keys values rs m.entries) g.R.Source.refusals (formats_of old.items.formats) old.items.levels (g.R.Source.source old.items.source) _ c.in_err-access.ensures.refused)
+
+pub pairs-init : goal.pairs-init
+pairs-init g c =
+    let old = c.args.de.now in
+    let first = c.in_ok-access.access.de.now in
+    let s0 = g.R.Source.source first.items.source in
+    let keys = g.K.Readable.reads (context old.items.formats g.R.Source.lends) in
+    let values = g.V.Readable.reads (context old.items.formats g.R.Source.lends) in
+    let es = c.new-map.result.entries in
+    record {
+      same = refl;
+      outer = refl;
+      levels = refl;
+      formats = c.in_ok-access.ensures.formats;
+      due = c.in_ok-access.ensures.due;
+      so_far = map_begins s0 (Made keys values g.K.Ord.cmp es) old.items.formats first.items.levels c.in_ok-access.access.remaining (none_made keys values g.K.Ord.cmp es c.new-map.ensures.empty);
+    }
+
+pub pairs-preserved : goal.pairs-preserved
+pairs-preserved g c =
+    let old = c.args.de.now in
+    let first = c.in_ok-access.access.de.now in
+    let i = c.pairs.invariant in
+    let now = c.pairs.access.de.now in
+    let next = c.next_key.new.self in
+    let done = c.next_value.new.self in
+    let s0 = g.R.Source.source first.items.source in
+    let s = g.R.Source.source now.items.source in
+    let t = g.R.Source.source next.de.now.items.source in
+    let u = g.R.Source.source done.de.now.items.source in
+    let keys = λ (f : Formats). g.K.Readable.reads (context f g.R.Source.lends) in
+    let values = λ (f : Formats). g.V.Readable.reads (context f g.R.Source.lends) in
+    let es = c.pairs.map.entries in
+    let k = c.in-Some.key in
+    let v = c.in_ok-value.value in
+    let new = c.insert.new.self.entries in
+    let put : new ≡ insert_entry g.K.Ord.cmp es k v = search rules in
+    let P = Made (keys old.items.formats) (values old.items.formats) g.K.Ord.cmp es in
+    let Q = Made (keys old.items.formats) (values old.items.formats) g.K.Ord.cmp new in
+    let read = subst (λ (o : Option g.row.K.Denot). Step s t (IsKey (keys now.items.formats) (formats_of now.items.formats) now.items.levels (remaining_of c.pairs.access.remaining) (remaining_of next.remaining) o)) c.in-Some.is c.in_ok-key.ensures.read in
+    let formats : next.de.now.items.formats ≡ old.items.formats = c.in_ok-key.ensures.formats ∙ i.formats in
+    let levels : next.de.now.items.levels ≡ first.items.levels = c.in_ok-key.ensures.inside ∙ i.levels in
+    let so_far = map_goes_on s0 P old.items.formats first.items.levels c.in_ok-access.access.remaining
+    now.items.formats now.items.levels i.formats i.levels keys values c.pairs.access.remaining s
+    next.remaining t k next.de.now.items.formats next.de.now.items.levels formats levels
+    Q u v (made_more (keys old.items.formats) (values old.items.formats) g.K.Ord.cmp es new k v put) i.so_far read c.in_ok-value.ensures.read in
+    record {
+      same = search rules;
+      outer = search rules;
+      levels = search rules;
+      formats = search rules;
+      due = search rules;
+      so_far = rw c.in_ok-value.ensures.remaining so_far;
+    }
+
+pub returns-in_err-key-clause-read : goal.returns-in_err-key-clause-read
+returns-in_err-key-clause-read g c =
+    let passed = err_from_is_err_and c.from_residual-in_err-key.result c.from_residual-in_err-key.ensures.1 in
+    let old = c.args.de.now in
+    let first = c.in_ok-access.access.de.now in
+    let i = c.pairs.invariant in
+    let now = c.pairs.access.de.now in
+    let s0 = g.R.Source.source first.items.source in
+    let s = g.R.Source.source now.items.source in
+    let keys = λ (f : Formats). g.K.Readable.reads (context f g.R.Source.lends) in
+    let values = λ (f : Formats). g.V.Readable.reads (context f g.R.Source.lends) in
+    let es = c.pairs.map.entries in
+    let e = c.in_err-key.field-0.0 in
+    let P = Made (keys old.items.formats) (values old.items.formats) g.K.Ord.cmp es in
+    let pairs = λ (rs : RawPairs) (m : BTreeMap g.row.K.Denot g.row.V.Denot). AreEntries g.K.Ord.cmp (keys old.items.formats) (values old.items.formats) rs m.entries in
+    rw (passed.1, passed.2) (map_refused s0 P old.items.formats first.items.levels c.in_ok-access.access.remaining
+    pairs old.items.levels (g.R.Source.source old.items.source) g.R.Source.refusals (code_of e) (offset_of e) c.in_ok-access.ensures.head
+    (key_lacks s0 P old.items.formats first.items.levels c.in_ok-access.access.remaining
+    now.items.formats now.items.levels i.formats i.levels keys values c.pairs.access.remaining s
+    pairs g.R.Source.refusals (code_of e) (offset_of e)
+    (λ front more m h means. may_follow_made (keys old.items.formats) (values old.items.formats) g.K.Ord.cmp front more m.entries means)
+    i.so_far c.in_err-key.ensures.read))
+
+pub returns-in_err-value-clause-read : goal.returns-in_err-value-clause-read
+returns-in_err-value-clause-read g c =
+    let passed = err_from_is_err_and c.from_residual-in_err-value.result c.from_residual-in_err-value.ensures.1 in
+    let old = c.args.de.now in
+    let first = c.in_ok-access.access.de.now in
+    let i = c.pairs.invariant in
+    let now = c.pairs.access.de.now in
+    let next = c.next_key.new.self in
+    let s0 = g.R.Source.source first.items.source in
+    let s = g.R.Source.source now.items.source in
+    let t = g.R.Source.source next.de.now.items.source in
+    let keys = λ (f : Formats). g.K.Readable.reads (context f g.R.Source.lends) in
+    let values = λ (f : Formats). g.V.Readable.reads (context f g.R.Source.lends) in
+    let es = c.pairs.map.entries in
+    let k = c.in-Some.key in
+    let e = c.in_err-value.field-0.0 in
+    let P = Made (keys old.items.formats) (values old.items.formats) g.K.Ord.cmp es in
+    let pairs = λ (rs : RawPairs) (m : BTreeMap g.row.K.Denot g.row.V.Denot). AreEntries g.K.Ord.cmp (keys old.items.formats) (values old.items.formats) rs m.entries in
+    let read = subst (λ (o : Option g.row.K.Denot). Step s t (IsKey (keys now.items.formats) (formats_of now.items.formats) now.items.levels (remaining_of c.pairs.access.remaining) (remaining_of next.remaining) o)) c.in-Some.is c.in_ok-key.ensures.read in
+    let formats : next.de.now.items.formats ≡ old.items.formats = c.in_ok-key.ensures.formats ∙ i.formats in
+    let levels : next.de.now.items.levels ≡ first.items.levels = c.in_ok-key.ensures.inside ∙ i.levels in
+    rw (passed.1, passed.2) (map_refused s0 P old.items.formats first.items.levels c.in_ok-access.access.remaining
+    pairs old.items.levels (g.R.Source.source old.items.source) g.R.Source.refusals (code_of e) (offset_of e) c.in_ok-access.ensures.head
+    (value_lacks s0 P old.items.formats first.items.levels c.in_ok-access.access.remaining
+    now.items.formats now.items.levels i.formats i.levels keys values c.pairs.access.remaining s
+    next.remaining t k next.de.now.items.formats next.de.now.items.levels formats levels
+    pairs g.R.Source.refusals (code_of e) (offset_of e)
+    (λ front more m h means. may_follow_made (keys old.items.formats) (values old.items.formats) g.K.Ord.cmp front more m.entries means)
+    i.so_far read c.in_err-value.ensures.read))
+
+pub returns-in_err-end-clause-read : goal.returns-in_err-end-clause-read
+returns-in_err-end-clause-read g c =
+    let passed = err_from_is_err_and c.from_residual-in_err-end.result c.from_residual-in_err-end.ensures.1 in
+    let old = c.args.de.now in
+    let first = c.in_ok-access.access.de.now in
+    let i = c.pairs.invariant in
+    let now = c.pairs.access.de.now in
+    let next = c.next_key.new.self in
+    let s0 = g.R.Source.source first.items.source in
+    let t = g.R.Source.source now.items.source in
+    let u = g.R.Source.source next.de.now.items.source in
+    let w = g.R.Source.source c.end.new.self.0.items.source in
+    let keys = λ (f : Formats). g.K.Readable.reads (context f g.R.Source.lends) in
+    let values = λ (f : Formats). g.V.Readable.reads (context f g.R.Source.lends) in
+    let P = Made (keys old.items.formats) (values old.items.formats) g.K.Ord.cmp c.pairs.map.entries in
+    let pairs = λ (rs : RawPairs) (m : BTreeMap g.row.K.Denot g.row.V.Denot). AreEntries g.K.Ord.cmp (keys old.items.formats) (values old.items.formats) rs m.entries in
+    let end = subst (λ (o : Option g.row.K.Denot). Step t u (IsKey (keys now.items.formats) (formats_of now.items.formats) now.items.levels (remaining_of c.pairs.access.remaining) (remaining_of next.remaining) o)) c.in_default.is c.in_ok-key.ensures.read in
+    let none = rw c.in_default.is at c.in_ok-key.ensures.remains in
+    rw (passed.1, passed.2) (map_end_refused s0 P old.items.formats first.items.levels c.in_ok-access.access.remaining
+    pairs old.items.levels (g.R.Source.source old.items.source) g.R.Source.refusals t u w c.pairs.access.remaining next.remaining c.in_err-end.field-0.0 none c.in_ok-access.ensures.head i.so_far end c.in_err-end.ensures.read)
+
+pub returns-clause-read : goal.returns-clause-read
+returns-clause-read g c =
+    let old = c.args.de.now in
+    let first = c.in_ok-access.access.de.now in
+    let i = c.pairs.invariant in
+    let now = c.pairs.access.de.now in
+    let next = c.next_key.new.self in
+    let s0 = g.R.Source.source first.items.source in
+    let t = g.R.Source.source now.items.source in
+    let u = g.R.Source.source next.de.now.items.source in
+    let w = g.R.Source.source c.end.new.self.0.items.source in
+    let keys = λ (f : Formats). g.K.Readable.reads (context f g.R.Source.lends) in
+    let values = λ (f : Formats). g.V.Readable.reads (context f g.R.Source.lends) in
+    let es = c.pairs.map.entries in
+    let P = Made (keys old.items.formats) (values old.items.formats) g.K.Ord.cmp es in
+    let pairs = λ (rs : RawPairs) (m : BTreeMap g.row.K.Denot g.row.V.Denot). AreEntries g.K.Ord.cmp (keys old.items.formats) (values old.items.formats) rs m.entries in
+    let end = subst (λ (o : Option g.row.K.Denot). Step t u (IsKey (keys now.items.formats) (formats_of now.items.formats) now.items.levels (remaining_of c.pairs.access.remaining) (remaining_of next.remaining) o)) c.in_default.is c.in_ok-key.ensures.read in
+    let none = rw c.in_default.is at c.in_ok-key.ensures.remains in
+    map_takes s0 P old.items.formats first.items.levels c.in_ok-access.access.remaining
+    pairs old.items.levels (g.R.Source.source old.items.source) t w _ c.pairs.access.remaining c.pairs.map (λ front h. made_all (keys old.items.formats) (values old.items.formats) g.K.Ord.cmp es front h)
+    c.in_ok-access.ensures.head i.so_far (map_end_twice (remaining_of c.pairs.access.remaining) next.remaining t u w none end c.in_ok-end.ensures.read) (search rules)

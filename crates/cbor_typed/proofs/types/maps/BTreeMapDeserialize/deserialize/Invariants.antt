@@ -1,0 +1,22 @@
+use Rattle.std.proofs.Common.{◌≡◌, false}
+use Rattle.cbor_de.specs.Gives.{Step}
+use Rattle.cbor_de.specs.Heads.{remaining_of}
+use Rattle.cbor_typed.specs.Accesses.{turns}
+use Rattle.cbor_typed.specs.Takes.{context, formats_of}
+use Rattle.cbor_typed.proofs.PairsRead.{PairsSoFar, Made}
+use Rattle.cbor_typed.proofs.types.maps.BTreeMapDeserialize.deserialize.Given as goal
+
+abbrev pub invariant-pairs : goal.invariant-pairs
+invariant-pairs g l = record {
+  same : l.access.de.ghost_name ≡ l.initial.access.de.ghost_name;
+  outer : l.access.outer ≡ l.initial.access.outer;
+  levels : l.access.de.now.items.levels ≡ l.initial.access.de.now.items.levels;
+  formats : l.access.de.now.items.formats ≡ l.fn.de.items.formats;
+  due : l.access.value_due ≡ false;
+  so_far : Step (g.R.Source.source l.initial.access.de.now.items.source) (g.R.Source.source l.access.de.now.items.source)
+      (PairsSoFar (Made (g.K.Readable.reads (context l.fn.de.items.formats g.R.Source.lends)) (g.V.Readable.reads (context l.fn.de.items.formats g.R.Source.lends)) g.K.Ord.cmp l.map.entries)
+      (formats_of l.fn.de.items.formats) l.initial.access.de.now.items.levels (remaining_of l.initial.access.remaining) (remaining_of l.access.remaining));
+}
+
+abbrev pub decreases-pairs : goal.decreases-pairs
+decreases-pairs g l = turns l.access.remaining (g.R.Source.source l.access.de.now.items.source)

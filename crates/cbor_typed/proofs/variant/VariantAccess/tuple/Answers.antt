@@ -1,0 +1,17 @@
+use Rattle.std.proofs.Common.{refl}
+use Rattle.cbor_typed.proofs.VariantParts.{parts_inside}
+use Rattle.cbor_typed.proofs.variant.VariantAccess.tuple.Goals as goal
+
+pub returns-in-Ok : goal.returns-in-Ok
+returns-in-Ok g c = (
+  (refl, (λ w. refl), tt),
+  record {
+    rests = tt;
+    same_reference = refl;
+    head = c.in-Ok.ensures.read;
+    refused = tt;
+    outer = refl;
+    inside = parts_inside c.args.self.form c.args.self.de.now.items.levels c.parts.new.self.items.levels c.args.self.outer c.requires c.in-Ok.ensures.inside;
+    formats = c.in-Ok.ensures.formats;
+  },
+)

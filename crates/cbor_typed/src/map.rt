@@ -1,0 +1,323 @@
+//! Maps, one pair after the other (RFC 7049, section 2.1, major type 5).
+
+ghost use Rattle.std.specs.Prelude.{◌≡◌, ◌<◌, ◌≤◌, true, false, IfOk, IfErr, MatchOption, OnErr};
+ghost use Rattle.std.specs.Option.{is_some};
+ghost use Rattle.std.specs.Borrow.{sem, RestsIfErr};
+ghost use Rattle.cbor_model.specs.Reader.{item_at};
+ghost use Rattle.cbor_de.specs.declared.cursor.Remaining.TheVariants.{Counted};
+ghost use Rattle.cbor_de.specs.Cursor.{Counts};
+ghost use Rattle.cbor_de.specs.Gives.{Gives, Step};
+ghost use Rattle.cbor_typed.specs.Accesses.{turns, size_of};
+ghost use Rattle.cbor_typed.specs.MapAccesses.{IsMapHead, RefusesMap, TakesMapHead, TakesKey};
+ghost use Rattle.cbor_typed.specs.MapAccesses.{TakesMorePairs, TakesMapEnd, key_front};
+ghost use Rattle.cbor_typed.specs.Takes.{TakesItem, context, formats_of, raws};
+ghost use Rattle.cbor_typed.specs.contracts.de.Deserializer.{the_row};
+
+use crate::de::Deserializer;
+use crate::deserialize::Deserialize;
+use cbor_de::{Collection, Done, Head, Remaining};
+use cbor_io::error::{Error, Result};
+use cbor_io::read::{Read, ReadErrorCode, Source};
+
+impl<R: Source> Deserializer<R> {
+    /// Takes the tags and the head of a map, and goes one level in for its pairs.
+    ///
+    /// An item of another kind is refused with `invalid type: expected a map`, and a map for which
+    /// no level is left with `RecursionLimitExceeded`.
+    pub fn map<'a>(&'a mut self) -> Result<MapAccess<'a, R>>
+        ensures* rests { sem 𝓛 (RestsIfErr (the_row R.row) self.entry (λ m. m.de.ghost_name) result
+            (λ last. (last.items.levels ≡ self.old.items.levels)
+            × (last.items.formats ≡ self.old.items.formats))) }
+        ensures same_reference { IfOk result (λ m. m.de.ghost_name ≡ self.entry.ghost_name) }
+        ensures head { IfOk result (λ m. Step (R.source self.old.items.source)
+            (R.source m.de.now.items.source)
+            (λ l bs rest. IsMapHead (formats_of self.old.items.formats) l
+            (item_at (raws (formats_of self.old.items.formats) l) self.old.items.levels bs)
+            m.de.now.items.levels m.remaining rest)) }
+        ensures refused { IfErr result (RefusesMap R.refusals (formats_of self.old.items.formats)
+            self.old.items.levels (R.source self.old.items.source)) }
+        ensures outer { IfOk result (λ m. m.outer ≡ self.old.items.levels) }
+        ensures inside { IfOk result (λ m. m.de.now.items.levels < m.outer) }
+        ensures formats { IfOk result (λ m. m.de.now.items.formats ≡ self.old.items.formats) }
+        ensures due { IfOk result (λ m. m.value_due ≡ false) }
+    {
+        let outer = self.items.levels;
+        let remaining = self.map_head()?;
+        Ok(MapAccess {
+            de: self,
+            remaining,
+            outer,
+            value_due: false,
+        })
+    }
+
+    // Takes the tags and the head of a map, and goes one level in.
+    pub(crate) fn map_head(&mut self) -> Result<Remaining>
+        ensures read { TakesMapHead R.refusals (formats_of self.old.items.formats)
+            self.old.items.levels (R.source self.old.items.source)
+            (R.source self.new.items.source) self.new.items.levels result }
+        ensures inside { IfOk result (λ r. self.new.items.levels < self.old.items.levels) }
+        ensures outer { OnErr result (self.new.items.levels ≡ self.old.items.levels) }
+        ensures formats { self.new.items.formats ≡ self.old.items.formats }
+    {
+        let outer = self.items.levels;
+        let head = match self.open() {
+            Ok(head) => head,
+            Err(refused) => {
+                self.items.levels = outer;
+                return Err(self.items.error(refused));
+            }
+        };
+        let Head::Map(remaining) = head else {
+            self.items.levels = outer;
+            return Err(self.mismatch(head, "invalid type: expected a map"));
+        };
+        match self.items.enter() {
+            Ok(()) => Ok(remaining),
+            Err(refused) => {
+                self.items.levels = outer;
+                Err(self.items.error(refused))
+            }
+        }
+    }
+
+    // Refuses a key that may not begin as it does; its first byte stays.
+    #[inline(always)]
+    #[tactic(auto, unfolding(cbor_model::specs::Reader::key_at))]
+    pub(crate) fn key_begins(&mut self) -> Done<()>
+        ensures read { Gives R.refusals (λ u. u)
+            (λ l. key_front (formats_of self.old.items.formats))
+            (R.source self.old.items.source) (R.source self.new.items.source)
+            self.new.items.refusal result }
+        ensures levels { self.new.items.levels ≡ self.old.items.levels }
+        ensures formats { self.new.items.formats ≡ self.old.items.formats }
+    {
+        match self.items.source.peek() {
+            Ok(Some(first)) => {
+                if !self.items.formats.may_begin_key(first) {
+                    return Err(self.items.refuse(ReadErrorCode::WrongStructFormat));
+                }
+                Ok(())
+            }
+            Ok(None) => Err(self.items.refuse(ReadErrorCode::EofWhileParsingValue)),
+            Err(refusal) => Err(self.items.keep(refusal)),
+        }
+    }
+
+    // Whether another pair of a map comes, of which so much remains; its first byte stays. A key
+    // that may not begin as it does is refused.
+    #[inline(always)]
+    pub(crate) fn more_pairs(&mut self, remaining: &mut Remaining) -> Result<bool>
+        ensures read { TakesMorePairs R.refusals (formats_of self.old.items.formats)
+            remaining.old remaining.new
+            (R.source self.old.items.source) (R.source self.new.items.source) result }
+        ensures counts { IfOk result (λ more. Counts remaining.old more remaining.new) }
+        ensures levels { self.new.items.levels ≡ self.old.items.levels }
+        ensures formats { self.new.items.formats ≡ self.old.items.formats }
+    {
+        match self.items.more(remaining, Collection::Map) {
+            Ok(true) => {}
+            Ok(false) => return Ok(false),
+            Err(refused) => return Err(self.items.error(refused)),
+        }
+        match self.key_begins() {
+            Ok(()) => Ok(true),
+            Err(refused) => Err(self.items.error(refused)),
+        }
+    }
+
+    // Takes the end of a map of which so much remains.
+    pub(crate) fn end_map(&mut self, remaining: Remaining) -> Result<()>
+        ensures read { TakesMapEnd R.refusals remaining
+            (R.source self.old.items.source) (R.source self.new.items.source) result }
+        ensures levels { self.new.items.levels ≡ self.old.items.levels }
+        ensures formats { self.new.items.formats ≡ self.old.items.formats }
+    {
+        match self.items.end_of(remaining, Collection::Map) {
+            Ok(()) => Ok(()),
+            Err(refused) => Err(self.items.error(refused)),
+        }
+    }
+
+    // The error of a key that took no byte, where no count ends the map.
+    #[cold]
+    #[inline(never)]
+    pub(crate) fn no_key(&mut self) -> Error
+        ensures levels { self.new.items.levels ≡ self.old.items.levels }
+        ensures formats { self.new.items.formats ≡ self.old.items.formats }
+    {
+        let refused = self.items.refuse(ReadErrorCode::UnexpectedCode);
+        self.items.error(refused)
+    }
+}
+
+/// The pairs of a map that are still to be read, each a key and its value.
+///
+/// It holds the level that the map took. [`end`](MapAccess::end), [`refuse`](MapAccess::refuse) and
+/// each call that answers Err leave that level. After an Err no call follows.
+///
+/// ```rust
+/// let mut de = Deserializer::new(alloc, SliceRead::new(alloc, b"\xa1\x01\xf5"));
+/// let mut pairs = de.map()?;
+/// assert_eq!(rt; pairs.size_hint(), Some(1));
+/// assert_eq!(rt; pairs.next_key::<u8>()?, Some(1));
+/// assert!(rt; pairs.next_value::<bool>()?);
+/// assert_eq!(rt; pairs.next_key::<u8>()?, None);
+/// pairs.end()?;
+/// ```
+#[derive(Drop)]
+pub struct MapAccess<'a, R> {
+    /// What reads the keys and the values.
+    pub de: &'a mut Deserializer<R>,
+    /// What remains of the map, behind the pair that was begun.
+    pub remaining: Remaining,
+    /// How many levels were left before the map.
+    pub outer: u8,
+    /// Whether a key was read whose value wasn't.
+    pub value_due: bool,
+}
+
+impl<'a, R: Source> MapAccess<'a, R> {
+    /// Reads the next key; None where the map's last pair was read.
+    ///
+    /// It refuses as the reading of `K` does, with `WrongStructFormat` before a key of a format
+    /// that isn't read, and with `EofWhileParsingMap` where a map of indefinite length has no end.
+    #[inline(always)]
+    pub fn next_key<'de, K: Deserialize<'de, R>>(&mut self) -> Result<Option<K>>
+    where
+        R: Read<'de>,
+        // The access is live: no call on it has answered Err.
+        requires live { self.old.de.now.items.levels < self.old.outer }
+        requires due { self.old.value_due ≡ false }
+        ensures same_reference { self.new.de.ghost_name ≡ self.old.de.ghost_name }
+        ensures read { TakesKey R.refusals (formats_of self.old.de.now.items.formats)
+            (K.reads (context self.old.de.now.items.formats R.lends))
+            self.old.de.now.items.levels self.old.remaining self.new.remaining
+            (R.source self.old.de.now.items.source) (R.source self.new.de.now.items.source) result }
+        // Nothing remains behind the last pair, and a loop over the pairs ends.
+        ensures remains { IfOk result (λ next. MatchOption next
+            (self.new.remaining ≡ Counted 0)
+            (λ k. turns self.new.remaining (R.source self.new.de.now.items.source)
+            < turns self.old.remaining (R.source self.old.de.now.items.source))) }
+        ensures due { IfOk result (λ next. self.new.value_due ≡ is_some next) }
+        ensures inside { IfOk result (λ k.
+            self.new.de.now.items.levels ≡ self.old.de.now.items.levels) }
+        ensures left { IfErr result (λ e. self.new.de.now.items.levels ≡ self.old.outer) }
+        ensures outer { self.new.outer ≡ self.old.outer }
+        ensures formats { self.new.de.now.items.formats ≡ self.old.de.now.items.formats }
+    {
+        match self.de.more_pairs(&mut self.remaining) {
+            Ok(true) => {}
+            Ok(false) => return Ok(None),
+            Err(e) => {
+                self.de.items.levels = self.outer;
+                return Err(e);
+            }
+        }
+        let start = self.de.items.source.offset();
+        let key = match K::deserialize(self.de) {
+            Ok(key) => key,
+            Err(e) => {
+                self.de.items.levels = self.outer;
+                return Err(e);
+            }
+        };
+        if let Remaining::ToBreak = self.remaining {
+            if self.de.items.source.offset() <= start {
+                self.de.items.levels = self.outer;
+                return Err(self.de.no_key());
+            }
+        }
+        self.value_due = true;
+        Ok(Some(key))
+    }
+
+    /// Reads the value of the key that was read last. It refuses as the reading of `V` does.
+    #[inline(always)]
+    pub fn next_value<'de, V: Deserialize<'de, R>>(&mut self) -> Result<V>
+    where
+        R: Read<'de>,
+        requires live { self.old.de.now.items.levels < self.old.outer }
+        requires due { self.old.value_due ≡ true }
+        ensures same_reference { self.new.de.ghost_name ≡ self.old.de.ghost_name }
+        ensures read { TakesItem R.refusals (formats_of self.old.de.now.items.formats)
+            (V.reads (context self.old.de.now.items.formats R.lends))
+            self.old.de.now.items.levels
+            (R.source self.old.de.now.items.source) (R.source self.new.de.now.items.source) result }
+        ensures due { IfOk result (λ v. self.new.value_due ≡ false) }
+        ensures inside { IfOk result (λ v.
+            self.new.de.now.items.levels ≡ self.old.de.now.items.levels) }
+        ensures left { IfErr result (λ e. self.new.de.now.items.levels ≡ self.old.outer) }
+        ensures outer { self.new.outer ≡ self.old.outer }
+        ensures remaining { self.new.remaining ≡ self.old.remaining }
+        // A loop over the pairs ends.
+        ensures remains { IfOk result (λ v.
+            turns self.new.remaining (R.source self.new.de.now.items.source)
+            ≤ turns self.old.remaining (R.source self.old.de.now.items.source)) }
+        ensures formats { self.new.de.now.items.formats ≡ self.old.de.now.items.formats }
+    {
+        match V::deserialize(self.de) {
+            Ok(value) => {
+                self.value_due = false;
+                Ok(value)
+            }
+            Err(e) => {
+                self.de.items.levels = self.outer;
+                Err(e)
+            }
+        }
+    }
+
+    /// How many pairs of a declared count are still to be read, without one whose key was read;
+    /// None where no count was declared, or where it doesn't fit a `usize`.
+    pub fn size_hint(&self) -> Option<usize>
+        ensures { result ≡ size_of self.now.remaining }
+    {
+        match self.remaining {
+            Remaining::Counted(n) => usize::try_from(n).ok(),
+            Remaining::ToBreak => None,
+        }
+    }
+
+    /// Takes the end of the map.
+    ///
+    /// Pairs that weren't read are refused with `TrailingData`: at the present offset where a count
+    /// was declared; else behind the first byte of the next key, or with `EofWhileParsingMap` where
+    /// there is none.
+    pub fn end(self) -> Result<()>
+        requires live { self.de.now.items.levels < self.outer }
+        requires due { self.value_due ≡ false }
+        ensures read { TakesMapEnd R.refusals self.entry.remaining
+            (R.source self.entry.de.now.items.source) (R.source self.exit.0.now.items.source)
+            result }
+        ensures levels { self.exit.0.now.items.levels ≡ self.entry.outer }
+        ensures formats { self.exit.0.now.items.formats ≡ self.entry.de.now.items.formats }
+    {
+        let MapAccess {
+            de,
+            remaining,
+            outer,
+            value_due: _,
+        } = self;
+        de.items.levels = outer;
+        de.end_map(remaining)
+    }
+
+    /// Leaves the map for this error, which it passes on.
+    pub fn refuse(self, e: Error) -> Error
+        requires { self.de.now.items.levels < self.outer }
+        ensures error { result ≡ e }
+        ensures source { self.exit.0.now.items.source ≡ self.entry.de.now.items.source }
+        ensures levels { self.exit.0.now.items.levels ≡ self.entry.outer }
+        ensures formats { self.exit.0.now.items.formats ≡ self.entry.de.now.items.formats }
+    {
+        let MapAccess {
+            de,
+            remaining: _,
+            outer,
+            value_due: _,
+        } = self;
+        de.items.levels = outer;
+        e
+    }
+}

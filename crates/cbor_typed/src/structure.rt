@@ -1,0 +1,438 @@
+//! Structs of named fields, which are read from maps (RFC 7049, section 2.1, major type 5).
+
+ghost use Rattle.std.specs.Prelude.{◌≡◌, ◌<◌, ◌≤◌, true, false, length, IfOk, IfErr, IfSome};
+ghost use Rattle.std.specs.Prelude.{MatchOption, Some};
+ghost use Rattle.std.specs.Option.{is_some};
+ghost use Rattle.std.specs.Borrow.{sem, RestsIfErr};
+ghost use Rattle.cbor_io.specs.Error.{code_of, offset_of};
+ghost use Rattle.cbor_model.specs.Reader.{item_at};
+ghost use Rattle.cbor_de.specs.declared.cursor.Remaining.TheVariants.{Counted};
+ghost use Rattle.cbor_de.specs.Gives.{Step};
+ghost use Rattle.cbor_typed.specs.Accesses.{turns, size_of};
+ghost use Rattle.cbor_typed.specs.Identifiers.{texts};
+ghost use Rattle.cbor_typed.specs.MapAccesses.{IsMapHead, RefusesMap, TakesKey, TakesMapEnd};
+ghost use Rattle.cbor_typed.specs.Structs.{IsAny, IsField, place_in};
+ghost use Rattle.cbor_typed.specs.Takes.{TakesItem, IsRead, IsNotRead, Refuses, context, formats_of, raws};
+ghost use Rattle.cbor_typed.specs.contracts.de.Deserializer.{the_row};
+
+use crate::de::Deserializer;
+use crate::deserialize::Deserialize;
+use crate::types::IgnoredAny;
+use cbor_de::Remaining;
+use cbor_io::error::{Error, Result};
+use cbor_io::read::{Read, Source};
+use std::alloc::Global;
+
+/// A field that a key names.
+#[derive(Clone, Copy, Debug, PartialEq, Eq)]
+pub enum Field {
+    /// The field in this place among the names, from 0.
+    Known(usize),
+    /// A number or a name that no field has.
+    Unknown,
+}
+
+impl<R: Source> Deserializer<R> {
+    /// Takes the tags and the head of a map, and goes one level in for the fields of a struct with
+    /// these names.
+    ///
+    /// An item of another kind is refused with `invalid type: expected a map`, and a map for which
+    /// no level is left with `RecursionLimitExceeded`.
+    pub fn structure<'a>(&'a mut self, names: &'a [&'a str]) -> Result<StructAccess<'a, R>>
+        ensures* rests { sem 𝓛 (RestsIfErr (the_row R.row) self.entry
+            (λ m. m.de.ghost_name) result
+            (λ last. (last.items.levels ≡ self.old.items.levels)
+            × (last.items.formats ≡ self.old.items.formats))) }
+        ensures same_reference { IfOk result (λ m.
+            m.de.ghost_name ≡ self.entry.ghost_name) }
+        ensures head { IfOk result (λ m. Step (R.source self.old.items.source)
+            (R.source m.de.now.items.source)
+            (λ l bs rest. IsMapHead (formats_of self.old.items.formats) l
+            (item_at (raws (formats_of self.old.items.formats) l) self.old.items.levels bs)
+            m.de.now.items.levels m.remaining rest)) }
+        ensures refused { IfErr result (RefusesMap R.refusals (formats_of self.old.items.formats)
+            self.old.items.levels (R.source self.old.items.source)) }
+        ensures outer { IfOk result (λ m. m.outer ≡ self.old.items.levels) }
+        ensures inside { IfOk result (λ m. m.de.now.items.levels < m.outer) }
+        ensures formats { IfOk result (λ m.
+            m.de.now.items.formats ≡ self.old.items.formats) }
+        ensures due { IfOk result (λ m. m.value_due ≡ false) }
+        ensures names { IfOk result (λ m. texts m.names.now ≡ texts names.now) }
+    {
+        let outer = self.items.levels;
+        let remaining = self.map_head()?;
+        Ok(StructAccess {
+            de: self,
+            remaining,
+            outer,
+            value_due: false,
+            names,
+        })
+    }
+}
+
+impl<'de, R: Read<'de>> Deserializer<R> {
+    // Reads the field that a key names.
+    #[inline(always)]
+    fn field(&mut self, names: &[&str]) -> Result<Field>
+        ensures read { TakesItem R.refusals (formats_of self.old.items.formats)
+            (IsField (texts names.now)) self.old.items.levels
+            (R.source self.old.items.source) (R.source self.new.items.source) result }
+        ensures below { IfOk result (λ field. IfSome (place_in field) (λ i. i < length names.now)) }
+        ensures levels { self.new.items.levels ≡ self.old.items.levels }
+        ensures formats { self.new.items.formats ≡ self.old.items.formats }
+    {
+        match self.identifier(names, "invalid type: expected a field name") {
+            Ok(Some(place)) => Ok(Field::Known(place)),
+            Ok(None) => Ok(Field::Unknown),
+            Err(e) => Err(e),
+        }
+    }
+}
+
+/// The fields of a struct that are still to be read, each a key that names it and its value.
+///
+/// It holds the level that the map took. [`end`](StructAccess::end),
+/// [`missing`](StructAccess::missing), [`duplicate`](StructAccess::duplicate),
+/// [`refuse`](StructAccess::refuse) and each call that answers Err leave that level. After an Err no
+/// call follows.
+///
+/// ```rust
+/// let mut de = Deserializer::new(alloc, SliceRead::new(alloc, b"\xa2\x61b\xf5\x00\x0a"));
+/// let mut fields = de.structure(&["a", "b"])?;
+/// assert_eq!(rt; fields.next_field()?, Some(Field::Known(1)));
+/// assert!(rt; fields.value::<bool>()?);
+/// assert_eq!(rt; fields.next_field()?, Some(Field::Known(0)));
+/// fields.skip()?;
+/// assert_eq!(rt; fields.next_field()?, None);
+/// fields.end()?;
+/// ```
+#[derive(Drop)]
+pub struct StructAccess<'a, R> {
+    /// What reads the keys and the values.
+    pub de: &'a mut Deserializer<R>,
+    /// What remains of the map, behind the pair that was begun.
+    pub remaining: Remaining,
+    /// How many levels were left before the map.
+    pub outer: u8,
+    /// Whether a field was named whose value wasn't read.
+    pub value_due: bool,
+    /// The names of the fields, in the order of their numbers.
+    pub names: &'a [&'a str],
+}
+
+impl<'a, R: Source> StructAccess<'a, R> {
+    /// Reads the field that the next key names; None where the map's last pair was read.
+    ///
+    /// A number from 0 is the place of a field, and a text or a byte string its name. A key of
+    /// another kind is refused with `invalid type: expected a field name`, a key of a format that
+    /// isn't read with `WrongStructFormat`, and a map of indefinite length that has no end with
+    /// `EofWhileParsingMap`.
+    #[inline(always)]
+    pub fn next_field<'de>(&mut self) -> Result<Option<Field>>
+    where
+        R: Read<'de>,
+        // The access is live: no call on it has answered Err.
+        requires live { self.old.de.now.items.levels < self.old.outer }
+        requires due { self.old.value_due ≡ false }
+        ensures same_reference { self.new.de.ghost_name ≡ self.old.de.ghost_name }
+        ensures read { TakesKey R.refusals (formats_of self.old.de.now.items.formats)
+            (IsField (texts self.old.names.now))
+            self.old.de.now.items.levels self.old.remaining self.new.remaining
+            (R.source self.old.de.now.items.source)
+            (R.source self.new.de.now.items.source) result }
+        ensures below { IfOk result (λ next. IfSome next (λ field.
+            IfSome (place_in field) (λ i. i < length self.old.names.now))) }
+        // Nothing remains behind the last pair, and a loop over the fields ends.
+        ensures remains { IfOk result (λ next. MatchOption next
+            (self.new.remaining ≡ Counted 0)
+            (λ k. turns self.new.remaining (R.source self.new.de.now.items.source)
+            < turns self.old.remaining (R.source self.old.de.now.items.source))) }
+        ensures due { IfOk result (λ next. self.new.value_due ≡ is_some next) }
+        ensures inside { IfOk result (λ k.
+            self.new.de.now.items.levels ≡ self.old.de.now.items.levels) }
+        ensures left { IfErr result (λ e.
+            self.new.de.now.items.levels ≡ self.old.outer) }
+        ensures outer { self.new.outer ≡ self.old.outer }
+        ensures formats { self.new.de.now.items.formats
+            ≡ self.old.de.now.items.formats }
+        ensures names { self.new.names ≡ self.old.names }
+    {
+        match self.de.more_pairs(&mut self.remaining) {
+            Ok(true) => {}
+            Ok(false) => return Ok(None),
+            Err(e) => {
+                self.de.items.levels = self.outer;
+                return Err(e);
+            }
+        }
+        let start = self.de.items.source.offset();
+        let field = match self.de.field(self.names) {
+            Ok(field) => field,
+            Err(e) => {
+                self.de.items.levels = self.outer;
+                return Err(e);
+            }
+        };
+        if let Remaining::ToBreak = self.remaining {
+            if self.de.items.source.offset() <= start {
+                self.de.items.levels = self.outer;
+                return Err(self.de.no_key());
+            }
+        }
+        self.value_due = true;
+        Ok(Some(field))
+    }
+
+    /// Reads the value of the field that was named last. It refuses as the reading of `V` does.
+    #[inline(always)]
+    pub fn value<'de, V: Deserialize<'de, R>>(&mut self) -> Result<V>
+    where
+        R: Read<'de>,
+        requires live { self.old.de.now.items.levels < self.old.outer }
+        requires due { self.old.value_due ≡ true }
+        ensures same_reference { self.new.de.ghost_name ≡ self.old.de.ghost_name }
+        ensures read { TakesItem R.refusals (formats_of self.old.de.now.items.formats)
+            (V.reads (context self.old.de.now.items.formats R.lends))
+            self.old.de.now.items.levels
+            (R.source self.old.de.now.items.source)
+            (R.source self.new.de.now.items.source) result }
+        ensures due { IfOk result (λ v. self.new.value_due ≡ false) }
+        ensures inside { IfOk result (λ v.
+            self.new.de.now.items.levels ≡ self.old.de.now.items.levels) }
+        ensures left { IfErr result (λ e.
+            self.new.de.now.items.levels ≡ self.old.outer) }
+        ensures outer { self.new.outer ≡ self.old.outer }
+        ensures remaining { self.new.remaining ≡ self.old.remaining }
+        // A loop over the fields ends.
+        ensures remains { IfOk result (λ v.
+            turns self.new.remaining (R.source self.new.de.now.items.source)
+            ≤ turns self.old.remaining (R.source self.old.de.now.items.source)) }
+        ensures formats { self.new.de.now.items.formats
+            ≡ self.old.de.now.items.formats }
+        ensures names { self.new.names ≡ self.old.names }
+    {
+        match V::deserialize(self.de) {
+            Ok(value) => {
+                self.value_due = false;
+                Ok(value)
+            }
+            Err(e) => {
+                self.de.items.levels = self.outer;
+                Err(e)
+            }
+        }
+    }
+
+    /// Reads the value of the field that was named last into its slot. A slot that has a value is
+    /// refused with ``duplicate field `id` ``, and keeps it.
+    pub fn once<'de, V: Deserialize<'de, R>>(
+        &mut self,
+        name: &str,
+        slot: &mut Option<V>,
+    ) -> Result<()>
+    where
+        R: Read<'de>,
+        requires live { self.old.de.now.items.levels < self.old.outer }
+        requires due { self.old.value_due ≡ true }
+        ensures same_reference { self.new.de.ghost_name ≡ self.old.de.ghost_name }
+        ensures only_once { IfOk result (λ u. is_some slot.old ≡ false) }
+        ensures holds { IfOk result (λ u. is_some slot.new ≡ true) }
+        ensures read { IfOk result (λ u. IfSome slot.new (λ v.
+            Step (R.source self.old.de.now.items.source)
+            (R.source self.new.de.now.items.source)
+            (λ l bs rest. IsRead (V.reads (context self.old.de.now.items.formats R.lends))
+            (item_at (raws (formats_of self.old.de.now.items.formats) l)
+            self.old.de.now.items.levels bs) v rest))) }
+        ensures refused { IfErr result (λ e. is_some slot.old ≡ false →
+            Refuses R.refusals (R.source self.old.de.now.items.source) (code_of e) (offset_of e)
+            (λ l bs. IsNotRead (V.reads (context self.old.de.now.items.formats R.lends))
+            (item_at (raws (formats_of self.old.de.now.items.formats) l)
+            self.old.de.now.items.levels bs))) }
+        ensures kept { IfErr result (λ e. slot.new ≡ slot.old) }
+        ensures due { IfOk result (λ u. self.new.value_due ≡ false) }
+        ensures inside { IfOk result (λ u.
+            self.new.de.now.items.levels ≡ self.old.de.now.items.levels) }
+        ensures left { IfErr result (λ e.
+            self.new.de.now.items.levels ≡ self.old.outer) }
+        ensures outer { self.new.outer ≡ self.old.outer }
+        ensures remaining { self.new.remaining ≡ self.old.remaining }
+        ensures remains { IfOk result (λ u.
+            turns self.new.remaining (R.source self.new.de.now.items.source)
+            ≤ turns self.old.remaining (R.source self.old.de.now.items.source)) }
+        ensures formats { self.new.de.now.items.formats
+            ≡ self.old.de.now.items.formats }
+        ensures names { self.new.names ≡ self.old.names }
+    {
+        if slot.is_some() {
+            self.de.items.levels = self.outer;
+            return Err(duplicate_field(self.de.items.alloc, name));
+        }
+        match self.value::<V>() {
+            Ok(value) => {
+                *slot = Some(value);
+                Ok(())
+            }
+            Err(e) => Err(e),
+        }
+    }
+
+    /// The value of a field's slot, behind the map's last pair. A slot that has none is refused with
+    /// ``missing field `id` ``, which leaves the map.
+    pub fn required<V: Drop>(&mut self, name: &'static str, slot: Option<V>) -> Result<V>
+        requires live { self.old.de.now.items.levels < self.old.outer }
+        requires due { self.old.value_due ≡ false }
+        ensures same_reference { self.new.de.ghost_name ≡ self.old.de.ghost_name }
+        ensures value { IfOk result (λ v. slot ≡ Some v) }
+        ensures absent { IfErr result (λ e. is_some slot ≡ false) }
+        ensures source { self.new.de.now.items.source ≡ self.old.de.now.items.source }
+        ensures inside { IfOk result (λ v.
+            self.new.de.now.items.levels ≡ self.old.de.now.items.levels) }
+        ensures left { IfErr result (λ e.
+            self.new.de.now.items.levels ≡ self.old.outer) }
+        ensures due { self.new.value_due ≡ false }
+        ensures outer { self.new.outer ≡ self.old.outer }
+        ensures remaining { self.new.remaining ≡ self.old.remaining }
+        ensures formats { self.new.de.now.items.formats
+            ≡ self.old.de.now.items.formats }
+        ensures names { self.new.names ≡ self.old.names }
+    {
+        match slot {
+            Some(value) => Ok(value),
+            None => {
+                self.de.items.levels = self.outer;
+                Err(missing_field(self.de.items.alloc, name))
+            }
+        }
+    }
+
+    /// Passes over the value of the field that was named last, of which nothing is kept. It has to be
+    /// acceptable, with keys of the formats that are read.
+    #[inline(always)]
+    pub fn skip<'de>(&mut self) -> Result<()>
+    where
+        R: Read<'de>,
+        requires live { self.old.de.now.items.levels < self.old.outer }
+        requires due { self.old.value_due ≡ true }
+        ensures same_reference { self.new.de.ghost_name ≡ self.old.de.ghost_name }
+        ensures read { TakesItem R.refusals (formats_of self.old.de.now.items.formats)
+            IsAny self.old.de.now.items.levels
+            (R.source self.old.de.now.items.source)
+            (R.source self.new.de.now.items.source) result }
+        ensures due { IfOk result (λ u. self.new.value_due ≡ false) }
+        ensures inside { IfOk result (λ u.
+            self.new.de.now.items.levels ≡ self.old.de.now.items.levels) }
+        ensures left { IfErr result (λ e.
+            self.new.de.now.items.levels ≡ self.old.outer) }
+        ensures outer { self.new.outer ≡ self.old.outer }
+        ensures remaining { self.new.remaining ≡ self.old.remaining }
+        ensures remains { IfOk result (λ u.
+            turns self.new.remaining (R.source self.new.de.now.items.source)
+            ≤ turns self.old.remaining (R.source self.old.de.now.items.source)) }
+        ensures formats { self.new.de.now.items.formats
+            ≡ self.old.de.now.items.formats }
+        ensures names { self.new.names ≡ self.old.names }
+    {
+        match self.value::<IgnoredAny>() {
+            Ok(_) => Ok(()),
+            Err(e) => Err(e),
+        }
+    }
+
+    /// How many fields of a declared count are still to be read, without one whose key was read;
+    /// None where no count was declared, or where it doesn't fit a `usize`.
+    pub fn size_hint(&self) -> Option<usize>
+        ensures { result ≡ size_of self.now.remaining }
+    {
+        match self.remaining {
+            Remaining::Counted(n) => usize::try_from(n).ok(),
+            Remaining::ToBreak => None,
+        }
+    }
+
+    /// Leaves the map for the error of a field that isn't there, as ``missing field `id` ``.
+    pub fn missing(self, name: &'static str) -> Error
+        requires { self.de.now.items.levels < self.outer }
+        ensures source { self.exit.0.now.items.source ≡ self.entry.de.now.items.source }
+        ensures levels { self.exit.0.now.items.levels ≡ self.entry.outer }
+        ensures formats { self.exit.0.now.items.formats
+            ≡ self.entry.de.now.items.formats }
+    {
+        let alloc = self.de.items.alloc;
+        self.refuse(missing_field(alloc, name))
+    }
+
+    /// Leaves the map for the error of a field that is there twice, as ``duplicate field `id` ``.
+    pub fn duplicate(self, name: &'static str) -> Error
+        requires { self.de.now.items.levels < self.outer }
+        ensures source { self.exit.0.now.items.source ≡ self.entry.de.now.items.source }
+        ensures levels { self.exit.0.now.items.levels ≡ self.entry.outer }
+        ensures formats { self.exit.0.now.items.formats
+            ≡ self.entry.de.now.items.formats }
+    {
+        let alloc = self.de.items.alloc;
+        self.refuse(duplicate_field(alloc, name))
+    }
+
+    /// Leaves the map for this error, which it passes on.
+    pub fn refuse(self, e: Error) -> Error
+        requires { self.de.now.items.levels < self.outer }
+        ensures error { result ≡ e }
+        ensures source { self.exit.0.now.items.source ≡ self.entry.de.now.items.source }
+        ensures levels { self.exit.0.now.items.levels ≡ self.entry.outer }
+        ensures formats { self.exit.0.now.items.formats
+            ≡ self.entry.de.now.items.formats }
+    {
+        let StructAccess {
+            de,
+            remaining: _,
+            outer,
+            value_due: _,
+            names: _,
+        } = self;
+        de.items.levels = outer;
+        e
+    }
+
+    /// Takes the end of the map. Pairs that weren't read are refused as by `MapAccess::end`.
+    pub fn end(self) -> Result<()>
+        requires live { self.de.now.items.levels < self.outer }
+        requires due { self.value_due ≡ false }
+        ensures read { TakesMapEnd R.refusals self.entry.remaining
+            (R.source self.entry.de.now.items.source)
+            (R.source self.exit.0.now.items.source) result }
+        ensures levels { self.exit.0.now.items.levels ≡ self.entry.outer }
+        ensures formats { self.exit.0.now.items.formats
+            ≡ self.entry.de.now.items.formats }
+    {
+        let StructAccess {
+            de,
+            remaining,
+            outer,
+            value_due: _,
+            names: _,
+        } = self;
+        de.items.levels = outer;
+        de.end_map(remaining)
+    }
+}
+
+// The error of a field that isn't there.
+#[cold]
+#[inline(never)]
+fn missing_field(alloc: Global, name: &'static str) -> Error {
+    match format!(in alloc; "missing field `{name}`") {
+        Ok(text) => Error::message(alloc, text),
+        Err(e) => Error::from(e),
+    }
+}
+
+// The error of a field that is there twice.
+#[cold]
+#[inline(never)]
+fn duplicate_field(alloc: Global, name: &str) -> Error {
+    match format!(in alloc; "duplicate field `{name}`") {
+        Ok(text) => Error::message(alloc, text),
+        Err(e) => Error::from(e),
+    }
+}

@@ -1,0 +1,59 @@
+//! Characters.
+
+ghost use Rattle.cbor_typed.specs.Strings.{IsOneOf, text_bytes};
+
+use crate::de::Deserializer;
+use crate::deserialize::{Deserialize, DeserializeOwned, Readable};
+use crate::lent::EitherStr;
+use cbor_io::error::{Error, Result};
+use cbor_io::read::Read;
+use std::alloc::Global;
+
+const NO_CHARACTER: &str = "invalid type: expected a character";
+
+// The one character that a text is.
+fn one_of(text: &str, alloc: Global) -> Result<char>
+    ensures { IsOneOf text.now result }
+{
+    match text.chars().next() {
+        Some(first) => {
+            if first.len_utf8() == text.len() {
+                return Ok(first);
+            }
+            Err(Error::message(alloc, NO_CHARACTER))
+        }
+        None => Err(Error::message(alloc, NO_CHARACTER)),
+    }
+}
+
+// The same of a text that is lent.
+#[inline(always)]
+fn character(text: EitherStr<'_, '_>, alloc: Global) -> Result<char>
+    ensures { IsOneOf (text_bytes text.entry) result }
+{
+    match text {
+        EitherStr::Short(text) => one_of(text, alloc),
+        EitherStr::Long(text) => one_of(text, alloc),
+    }
+}
+
+impl Readable for char {
+    ghost use Rattle.cbor_model.specs.Readable.{PassesTags};
+    ghost use Rattle.cbor_typed.specs.Strings.{IsCharacter};
+
+    ghost reads = { λ c. PassesTags IsCharacter };
+}
+
+impl<'de, R: Read<'de>> Deserialize<'de, R> for char {
+    fn deserialize(de: &mut Deserializer<R>) -> Result<char> {
+        let alloc = de.items.alloc;
+        match de.read_text() {
+            Ok(text) => character(text, alloc),
+            Err(why) => Err(de.unread(why, NO_CHARACTER)),
+        }
+    }
+}
+
+impl DeserializeOwned for char {
+    ghost same = { λ f a b r x h. h };
+}

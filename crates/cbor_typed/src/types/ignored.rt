@@ -1,0 +1,38 @@
+//! Items of which nothing is kept.
+
+use crate::de::Deserializer;
+use crate::deserialize::{Deserialize, DeserializeOwned, Readable};
+use cbor_io::error::Result;
+use cbor_io::read::Read;
+
+/// Any item, of which nothing is kept: it has to be acceptable, with keys of the formats that are
+/// read.
+///
+/// ```rust
+/// let mut de = Deserializer::new(alloc, SliceRead::new(alloc, b"\x82\x01\xf6\x05"));
+/// IgnoredAny::deserialize(&mut de)?;
+/// assert_eq!(rt; u8::deserialize(&mut de)?, 5);
+/// ```
+#[derive(Clone, Copy, Debug)]
+pub struct IgnoredAny;
+
+impl Readable for IgnoredAny {
+    ghost use Rattle.std.specs.Prelude.{⊤, true};
+
+    ghost reads = { λ c r x. ⊤ };
+
+    ghost total = { true };
+}
+
+impl<'de, R: Read<'de>> Deserialize<'de, R> for IgnoredAny {
+    fn deserialize(de: &mut Deserializer<R>) -> Result<IgnoredAny> {
+        match de.items.skip() {
+            Ok(()) => Ok(IgnoredAny),
+            Err(refused) => Err(de.items.error(refused)),
+        }
+    }
+}
+
+impl DeserializeOwned for IgnoredAny {
+    ghost same = { λ f a b r x h. h };
+}

@@ -1,0 +1,48 @@
+//! Maps of std, which are read from maps.
+
+use crate::de::Deserializer;
+use crate::deserialize::{Deserialize, DeserializeOwned, Readable};
+use cbor_io::error::{Error, Result};
+use cbor_io::read::Read;
+use std::alloc::AllocError;
+use std::collections::BTreeMap;
+
+/// A map, pair by pair; of equal keys the last value stands.
+impl<K: Readable + Ord, V: Readable> Readable for BTreeMap<K, V> {
+    ghost use Rattle.cbor_model.specs.Readable.{PassesTags};
+    ghost use Rattle.cbor_typed.specs.Maps.{AsMap, AreEntries};
+
+    ghost reads = { λ c. PassesTags (AsMap
+        (λ rs m. AreEntries K.cmp (K.reads c) (V.reads c) rs m.entries)) };
+}
+
+impl<'de, R: Read<'de>, K: Deserialize<'de, R> + Ord, V: Deserialize<'de, R>> Deserialize<'de, R>
+    for BTreeMap<K, V> {
+    fn deserialize(de: &mut Deserializer<R>) -> Result<BTreeMap<K, V>> {
+        let mut map = BTreeMap::new(de.items.alloc);
+        let mut access = de.map()?;
+        'pairs: while let Some(key) = access.next_key::<K>()? {
+            let value = access.next_value::<V>()?;
+            if map.insert(key, value).is_err() {
+                return Err(access.refuse(Error::from(AllocError)));
+            }
+        }
+        access.end()?;
+        Ok(map)
+    }
+}
+
+impl<K: DeserializeOwned + Ord, V: DeserializeOwned> DeserializeOwned for BTreeMap<K, V> {
+    ghost use Rattle.cbor_model.specs.Readable.{untagged};
+    ghost use Rattle.cbor_typed.specs.Maps.{AreEntries, as_map_same, are_entries_same};
+    ghost use Rattle.cbor_typed.specs.Takes.{lending};
+
+    ghost same = { λ f a b r v h. as_map_same
+        (λ rs m. AreEntries K.cmp (K.reads (lending f a)) (V.reads (lending f a)) rs m.entries)
+        (λ rs m. AreEntries K.cmp (K.reads (lending f b)) (V.reads (lending f b)) rs m.entries)
+        (λ rs m. are_entries_same K.cmp
+        (K.reads (lending f a)) (K.reads (lending f b))
+        (V.reads (lending f a)) (V.reads (lending f b))
+        (K.same f a b) (V.same f a b) rs m.entries)
+        (untagged r) v h };
+}

@@ -1,0 +1,4 @@
+-- What the crates above may cite of the proofs below, and nothing else.
+pub mod Values
+pub mod Serialize
+pub mod Structs
