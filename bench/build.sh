@@ -1,12 +1,14 @@
 #!/usr/bin/env bash
 # Builds the programs that bench/speed.py and bench/agree.py compare with, into bench/out: `measured`
 # and `answers` over the Rust crate serde_cbor, and `libcbor`. They stand on Debian's packages
-# librust-serde-cbor-dev, librust-half-dev and libcbor-dev; cargo and cc have to be there.
+# librust-serde-cbor-dev, librust-serde-derive-dev, librust-half-dev and libcbor-dev; cargo and cc have
+# to be there.
 set -euo pipefail
 cd "$(dirname "$0")"
 registry=${CARGO_REGISTRY:-/usr/share/cargo/registry}
 if ! compgen -G "$registry/serde_cbor-0.11*" > /dev/null; then
-    echo "no serde_cbor below $registry: apt-get install librust-serde-cbor-dev librust-half-dev libcbor-dev valgrind" >&2
+    echo "no serde_cbor below $registry: apt-get install librust-serde-cbor-dev librust-serde-derive-dev" \
+        "librust-half-dev libcbor-dev valgrind" >&2
     exit 1
 fi
 mkdir -p out

@@ -64,12 +64,13 @@ def of_pairs(count, order):
     return pairs((key, NULL) for key in keys(count, order))
 
 
+RECORDS = '20,000 records of 6 fields'
 ORDERS = ['ascending', 'descending', 'shuffled', 'equal', 'long common fronts']
 
 SHAPES = {
     '200,000 integers': lambda: integers(200_000),
     '200,000 floats of 64 bits': lambda: floats(200_000),
-    '20,000 records of 6 fields': lambda: records(20_000),
+    RECORDS: lambda: records(20_000),
     '2,000 arrays, 120 deep': lambda: nested(2_000, 120),
     '100,000 texts of 16 bytes': lambda: texts(100_000, 16),
     'a text of 8 MiB, ASCII': lambda: string(TEXT, b'a', 8 << 20),

@@ -10,8 +10,9 @@ import shapes
 
 HERE = os.path.dirname(os.path.abspath(__file__))
 OURS = os.path.join(HERE, '..', 'crates', 'cbor_bench', 'out', 'cbor_bench')
-PEERS = [os.path.join(HERE, 'out', 'measured'), os.path.join(HERE, 'out', 'libcbor')]
-READ, READ_AND_WRITE = 0, 1
+CRATE = os.path.join(HERE, 'out', 'measured')
+LIBCBOR = os.path.join(HERE, 'out', 'libcbor')
+READ, READ_AND_WRITE, READ_RECORDS, READ_AND_WRITE_RECORDS = range(4)
 ROUNDS = 5
 
 
@@ -65,11 +66,12 @@ def millions(programs, request):
     return [(instructions(p, 1, request) - instructions(p, 0, request)) / 1e6 for p in programs]
 
 
-def row(shape, item, measure):
-    cells = [shape]
-    for task in (READ, READ_AND_WRITE):
-        ours, *theirs = measure([OURS, *PEERS], Request(task, item))
-        cells += [f'{ours:.2f}', *(f'{other / ours:.2f}' if ours else '' for other in theirs)]
+def row(name, tasks, peers, item, measure):
+    cells = [name]
+    for task in tasks:
+        ours, *theirs = measure([OURS, *peers], Request(task, item))
+        times = [f'{other / ours:.2f}' if ours else '' for other in theirs]
+        cells += [f'{ours:.2f}', *times, *[''] * (2 - len(times))]
     return '| ' + ' | '.join(cells) + ' |'
 
 
@@ -78,7 +80,11 @@ def table(word, measure, unit):
     print('|---|---|---|---|---|---|---|')
     for shape, make in shapes.SHAPES.items():
         if word in shape:
-            print(row(shape, make(), measure), flush=True)
+            item = make()
+            print(row(shape, (READ, READ_AND_WRITE), (CRATE, LIBCBOR), item, measure), flush=True)
+            if shape == shapes.RECORDS:
+                typed = (READ_RECORDS, READ_AND_WRITE_RECORDS)
+                print(row(f'{shape}, as a type', typed, (CRATE,), item, measure), flush=True)
 
 
 def growth(word, measure, unit, most):

@@ -1,21 +1,27 @@
 -- What is asked for, and what doing it shows.
-use Rattle.std.specs.Prelude.{◌≡◌, ℕ, ◌≤◌, List, ◌∷◌, Option, Some, None, Vec}
+use Rattle.std.specs.Prelude.{◌≡◌, ℕ, ◌≤◌, List, ◌∷◌, Option, Some, None, Vec, length}
 use Rattle.std.specs.declared.alloc.Global.{Global}
 use Rattle.cbor_model.specs.Plain.{Val}
 use Rattle.cbor_model.specs.Canonical.{canon}
 use Rattle.cbor_model.specs.Laws.{SpellsValue}
+use Rattle.cbor_model.specs.Reader.{read_value}
+use Rattle.serde_cbor.specs.declared.error.Error.{Error}
+use Rattle.serde_cbor.specs.Gives.{Fails}
+use Rattle.cbor_bench.specs.Record.{SpellsRecords, AreRewritten}
 use Rattle.cbor_bench.specs.declared.request.Task.{Task}
-use Rattle.cbor_bench.specs.declared.request.Task.TheVariants.{Read, ReadAndWrite}
+use Rattle.cbor_bench.specs.declared.request.Task.TheVariants.{Read, ReadAndWrite, ReadRecords, ReadAndWriteRecords}
 use Rattle.cbor_bench.specs.declared.request.Request.{Request}
 
 -- the byte that asks for a task
 abbrev pub code_of : Task → ℕ
 code_of Read = 0
 code_of ReadAndWrite = 1
+code_of ReadRecords = 2
+code_of ReadAndWriteRecords = 3
 
 -- The input has the byte of a task, a byte for how many times, and the item's bytes.
 abbrev pub IsRequest : List ℕ → Type 0
-IsRequest (code ∷ times ∷ item) = code ≤ 1
+IsRequest (code ∷ times ∷ item) = code ≤ 3
 IsRequest _ = ⊥
 
 -- The input asks for this.
@@ -34,4 +40,20 @@ IsRewritten bytes written = (v : Val) × SpellsValue bytes v × (written ≡ can
 abbrev pub Leaves : Task → List ℕ → Option (Vec ℕ Global) → Type 0
 Leaves Read bytes None = SpellsItem bytes
 Leaves ReadAndWrite bytes (Some written) = IsRewritten bytes written.items
+Leaves ReadRecords bytes None = SpellsRecords bytes
+Leaves ReadAndWriteRecords bytes (Some written) = AreRewritten bytes written.items
 Leaves _ bytes _ = ⊥
+
+-- the bytes spell what a task reads
+abbrev pub IsReadFor : Task → List ℕ → Type 0
+IsReadFor Read bytes = SpellsItem bytes
+IsReadFor ReadAndWrite bytes = SpellsItem bytes
+IsReadFor ReadRecords bytes = SpellsRecords bytes
+IsReadFor ReadAndWriteRecords bytes = SpellsRecords bytes
+
+-- Of bytes that are read as a value, a refusal tells the fault that the reference reader meets, or that
+-- memory ran out. Of records it may tell any fault.
+abbrev pub Refuses : Task → List ℕ → Error → Type 0
+Refuses Read bytes e = Fails (length bytes) e (read_value bytes)
+Refuses ReadAndWrite bytes e = Fails (length bytes) e (read_value bytes)
+Refuses _ bytes e = Unit {0}

@@ -1,6 +1,7 @@
 //! Reads a CBOR item, or reads and writes it, as many times as standard input says, to be measured.
 #![tactic(auto)]
 
+mod record;
 mod request;
 
 use crate::request::Request;

@@ -80,7 +80,8 @@ impl<R: Source> Deserializer<R> {
     fn skip_array(&mut self, remaining: Remaining) -> Done<()>
         ensures read { Gives R.refusals (λ u. u)
             (λ l bs. passed (array_at (values_by self.old.formats l)
-            (inside (values_by self.old.formats l) self.old.levels) indefinite (remaining_of remaining) bs))
+            (inside (values_by self.old.formats l) self.old.levels) indefinite
+            (remaining_of remaining) bs))
             (R.source self.old.source) (R.source self.new.source) self.new.refusal result }
         ensures levels { self.new.levels ≡ self.old.levels }
         ensures formats { self.new.formats ≡ self.old.formats }
@@ -113,7 +114,8 @@ impl<R: Source> Deserializer<R> {
     fn skip_map(&mut self, remaining: Remaining) -> Done<()>
         ensures read { Gives R.refusals (λ u. u)
             (λ l bs. passed (map_at (values_by self.old.formats l)
-            (inside (values_by self.old.formats l) self.old.levels) indefinite (remaining_of remaining) bs))
+            (inside (values_by self.old.formats l) self.old.levels) indefinite
+            (remaining_of remaining) bs))
             (R.source self.old.source) (R.source self.new.source) self.new.refusal result }
         ensures levels { self.new.levels ≡ self.old.levels }
         ensures formats { self.new.formats ≡ self.old.formats }

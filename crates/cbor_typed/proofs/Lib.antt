@@ -27,6 +27,7 @@ pub mod Identifiers
 pub mod Fields
 pub mod Slots
 pub mod Structs
+pub mod StructLoops
 pub mod Fronts
 pub mod VariantParts
 pub mod VariantTags
@@ -35,3 +36,4 @@ pub mod Variants
 pub mod VariantMaps
 pub mod VariantShapes
 pub mod VariantPairs
+pub mod Enums

@@ -18,7 +18,7 @@ abbrev pub append : List Raw → Raws → Raws
 append [] rs = rs
 append (r ∷ front) rs = raw.raw r (append front rs)
 
-append-push : (front : List Raw) (r : Raw) (rs : Raws) → append (front ++ r ∷ []) rs ≡ append front (raw.raw r rs)
+pub append-push : (front : List Raw) (r : Raw) (rs : Raws) → append (front ++ r ∷ []) rs ≡ append front (raw.raw r rs)
 append-push [] r rs = refl
 append-push (q ∷ front) r rs = ap (raw.raw q) (append-push front r rs)
 

@@ -213,6 +213,17 @@ module _ {S : Type 0} where
   put (d ∷ fields) zero v slots = (Some v, slots.1)
   put (d ∷ fields) (suc i) v slots = (slots.0, put fields i v slots.1)
 
+  -- with this in the i-th field's slot
+  abbrev pub fill : (fields : List (FieldOf S)) (i : ℕ) → Option (ValueAt fields i) → Slots fields → Slots fields
+  fill [] i o slots = slots
+  fill (d ∷ fields) zero o slots = (o, slots.1)
+  fill (d ∷ fields) (suc i) o slots = (slots.0, fill fields i o slots.1)
+
+  pub filled : (fields : List (FieldOf S)) (i : ℕ) (v : ValueAt fields i) (slots : Slots fields) → put fields i v slots ≡ fill fields i (Some v) slots
+  filled [] i v slots = refl
+  filled (d ∷ fields) zero v slots = refl
+  filled (d ∷ fields) (suc i) v slots = ap (λ (rest : Slots fields). (slots.0, rest)) (filled fields i v slots.1)
+
   -- none of the fields, from the k-th on
   abbrev pub IsOther : ℕ → List (FieldOf S) → Field → Type 0
   IsOther k [] field = Unit {0}

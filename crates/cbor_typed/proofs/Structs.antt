@@ -1,5 +1,7 @@
 -- A struct, from its map's head to its end: what a loop over its fields knows, and what each call adds.
 use Rattle.std.proofs.Common.{◌≡◌, ℕ, Bool, true, false, List, [], ◌∷◌, ◌++◌, Option, Some, None, Ok, Err, refl, sym, ap, subst, ◌∙◌}
+use Rattle.std.specs.Option.{is_some}
+use Rattle.std.specs.Prelude.{IfSome}
 use Rattle.cbor_model.specs.Formats.{may_begin_key}
 use Rattle.cbor_model.specs.Raw.{Raw, RawPairs, no_raw_pairs, raw_pair}
 use Rattle.cbor_model.specs.Refusal.{end_in_map}
@@ -25,7 +27,7 @@ use Rattle.cbor_typed.specs.declared.structure.Field.{Field}
 use Rattle.cbor_typed.specs.declared.structure.Field.TheVariants.{Known, Unknown}
 use Rattle.cbor_typed.proofs.PairsRead.{append_pairs, PairsSoFar, PairsDone, pairs_end, pairs_rest, first_pair, FirstPair, last, another, NoKey}
 use Rattle.cbor_typed.proofs.Refusing.{refuses_then, refuses_by}
-use Rattle.cbor_typed.proofs.Slots.{Slots, none_yet, all_of, Has, ValueAt, reads_at, put, IsOther, whole, behind, Gathered, gathered_none, gathered_set, gathered_other, gathered_twice, gathered_value, gathered_missing, gathered_all, gathered_follows}
+use Rattle.cbor_typed.proofs.Slots.{Slots, none_yet, all_of, Has, ValueAt, reads_at, put, fill, filled, IsOther, whole, behind, Gathered, gathered_none, gathered_set, gathered_other, gathered_twice, gathered_value, gathered_missing, gathered_all, gathered_follows}
 use Rattle.cbor_typed.proofs.WholeMaps.{NoPairs, map_begins, map_goes_on, key_lacks, map_takes, map_refused, map_end_refused, map_end_twice, no_map_read}
 
 -- ---- behind a key
@@ -263,3 +265,37 @@ module _ {S : Type 0} (names : List (List ℕ)) (fields : List (FieldOf S)) wher
       struct_read {w} {z} x all nothing ended is =
           map_takes so.first P f so.deep so.all (AreFieldsOf names fields) outer s t w z r x (λ front holds. gathered_all names fields slots front x all holds)
           so.head so.so_far (map_end_twice (remaining_of r) new t u w nothing end_here ended) is
+
+  -- ---- fields that are read once into their slots
+
+  -- What a field's key is known by, which `next_field` answered.
+  module _ {slots : Slots fields} {s : Input} {f : Formats} {outer : ℕ} {t : Input} {g : Formats} {levels : ℕ} {r : Remaining} where
+    pub record FieldNamed (so : StructSoFar slots s f outer t g levels r) (field : Field) (new : Remaining) (u : Input) (h : Formats) (n : ℕ) : Type 0 where
+      pub named : Step t u (IsKey (IsField names) (formats_of g) levels (remaining_of r) (remaining_of new) (Some field))
+      pub formats : h ≡ g
+      pub inside : n ≡ levels
+
+    pub field_named : (so : StructSoFar slots s f outer t g levels r) (next : Option Field) (field : Field) → next ≡ Some field → {given : List (List ℕ)} → given ≡ names → {u : Input} (new : Remaining)
+        → Step t u (IsKey (IsField given) (formats_of g) levels (remaining_of r) (remaining_of new) next) → {h : Formats} {n : ℕ} → h ≡ g → n ≡ levels → FieldNamed so field new u h n
+    field_named so next field is same new key formats inside = record { named = key_there so next field is same new key; formats = formats; inside = inside }
+
+    module _ {so : StructSoFar slots s f outer t g levels r} {field : Field} {new : Remaining} {u : Input} {h : Formats} {n : ℕ} (key : FieldNamed so field new u h n) where
+      module _ (i : ℕ) (is : field ≡ Known i) (values : Formats → Raw → ValueAt fields i → Type 0) where
+        -- a field isn't read into its slot: it is there again, or its value isn't read
+        pub field_not_once : (allowed : ReadErrorCode → Bool) (c : ErrorCode) (at : ℕ)
+            → {A : Type 0} (slot : Option A) → ((b : Bool) → is_some slot ≡ b → Has b fields i slots)
+            → ((b : Raw) (v : ValueAt fields i) → reads_at fields i b v → values f b v)
+            → (is_some slot ≡ false → Refuses allowed u c at (λ l bs. IsNotRead (values h) (item_at (raws (formats_of h) l) n bs))) → NoStruct allowed s f outer c at
+        field_not_once allowed c at None has means_so none =
+            field_unread so (Some field) field refl refl new key.named key.formats key.inside values allowed c at i is (has false refl) (λ b v means. (v, means_so b v means)) (none refl)
+        field_not_once allowed c at (Some x) has means_so none =
+            field_twice so (Some field) field refl refl new key.named allowed c at i is (has true refl)
+
+        -- a field is read into its slot
+        pub field_once : {w : Input} {last : Remaining} {k : Formats} {m : ℕ} → k ≡ h → m ≡ n → last ≡ new → Has false fields i slots → (slot : Option (ValueAt fields i)) → is_some slot ≡ true
+            → ((b : Raw) (v : ValueAt fields i) → values f b v → reads_at fields i b v)
+            → IfSome slot (λ v. Step u w (λ l bs rest. IsRead (values h) (item_at (raws (formats_of h) l) n bs) v rest)) → StructSoFar (fill fields i slot slots) s f outer w k m last
+        field_once formats inside remaining missing None some means_so read = absurd cc
+        field_once {w} {last} {k} {m} formats inside remaining missing (Some v) some means_so read =
+            subst (λ (slots : Slots fields). StructSoFar slots s f outer w k m last) (filled fields i v slots)
+            (field_read so (Some field) field refl refl new key.named key.formats key.inside formats inside remaining values v i is missing v (λ b means. means_so b v means) read)

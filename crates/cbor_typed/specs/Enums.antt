@@ -79,7 +79,21 @@ newtype {A} reads make c x = (y : A) × IsPart reads c y × (x ≡ make y)
 abbrev pub tuple : {A E : Type 0} → (Raws → A → Type 0) → (A → E) → Content → E → Type 0
 tuple {A} items make c x = (y : A) × AreParts items c y × (x ≡ make y)
 
+-- no item
+abbrev pub no_part : Raws → Unit {0} → Type 0
+no_part rs u = AreNone rs
+
+-- one item, and then others, which are read as a pair
+abbrev pub part_then : {A B : Type 0} → (Raw → A → Type 0) → (Raws → B → Type 0) → Raws → A × B → Type 0
+part_then reads others rs y = FirstThen reads y.0 (λ more. others more y.1) rs
+
 -- ---- examples
+
+-- [1, 2] has the parts 1 and 2
+two_parts : part_then IsInteger (part_then IsInteger no_part)
+    (raw.raw (raw.unsigned no_bytes 1) (raw.raw (raw.unsigned no_bytes 2) no_raws))
+    (pos 1, (pos 2, tt))
+two_parts = (refl, (refl, tt))
 
 -- "a" and "b"
 abbrev two_names : List (List ℕ)

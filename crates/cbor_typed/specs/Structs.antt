@@ -1,5 +1,5 @@
 -- Structs of named fields.
-use Rattle.std.specs.Prelude.{◌≡◌, ℕ, suc, List, [], ◌∷◌, Option, Some, None, ◌⊎◌, refl}
+use Rattle.std.specs.Prelude.{◌≡◌, ℕ, suc, List, [], ◌∷◌, ◌++◌, codes, Option, Some, None, ◌⊎◌, refl}
 use Rattle.cbor_model.specs.Head.{no_bytes, one_byte}
 use Rattle.cbor_model.specs.Raw as raw
 use Rattle.cbor_model.specs.Raw.{Raw, RawPairs, no_raw_pairs, raw_pair}
@@ -69,6 +69,13 @@ pub record AreFieldsOf {S : Type 0} (names : List (List ℕ)) (fields : List (Fi
 -- a struct of fields with these names, in any order, within tags
 abbrev pub IsStruct : {S : Type 0} → List (List ℕ) → List (FieldOf S) → Raw → S → Type 0
 IsStruct names fields = PassesTags (AsMap (AreFieldsOf names fields))
+
+-- the texts of the errors of a field that isn't there, and of one that is there twice
+abbrev pub missing_text : List ℕ → List ℕ
+missing_text name = codes "missing field `" ++ name ++ codes "`"
+
+abbrev pub duplicate_text : List ℕ → List ℕ
+duplicate_text name = codes "duplicate field `" ++ name ++ codes "`"
 
 -- ---- examples
 

@@ -4,7 +4,8 @@ ghost use Rattle.std.specs.Prelude.{◌≡◌, false, [], None, Some, length};
 ghost use Rattle.cbor_model.specs.Acceptable.{max_depth};
 ghost use Rattle.cbor_model.specs.Formats.{all_formats};
 ghost use Rattle.cbor_io.specs.Source.{slice_input, reader_input};
-ghost use Rattle.cbor_io.specs.Sources.{input_of_slice, input_of_slice_fixed, input_of_mut_slice, input_of_reader};
+ghost use Rattle.cbor_io.specs.Sources.{input_of_slice, input_of_slice_fixed, input_of_mut_slice};
+ghost use Rattle.cbor_io.specs.Sources.{input_of_reader};
 ghost use Rattle.cbor_de.specs.Gives.{Ends};
 ghost use Rattle.cbor_typed.specs.Takes.{formats_of};
 
@@ -14,8 +15,8 @@ use cbor_io::read::{IoRead, MutSliceRead, Offset, SliceRead, SliceReadFixed, Sou
 use std::alloc::Global;
 use std::io;
 
-/// Reads types from a source: a slice, a slice with a scratch, a slice that is rewritten, any reader,
-/// or a source of the caller's own. Arrays, maps and tags may be nested 127 levels deep.
+/// Reads types from a source: a slice, a slice with a scratch, a slice that is rewritten, any
+/// reader, or a source of the caller's own. Arrays, maps and tags may be nested 127 levels deep.
 ///
 /// ```rust
 /// let mut de = Deserializer::from_slice(alloc, b"\x18\x2a\xf5");

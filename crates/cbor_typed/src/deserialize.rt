@@ -54,35 +54,89 @@ pub trait Readable: Sized + Drop {
 ///         let mut access = de.structure(NAMES)?;
 ///         'fields: while let Some(field) = access.next_field()? {
 ///             match field {
-///                 Field::Known(0) => {
-///                     if user_id.is_some() {
-///                         return Err(access.duplicate("user_id"));
-///                     }
-///                     user_id = Some(access.value::<u32>()?);
-///                 }
-///                 Field::Known(1) => {
-///                     if admin.is_some() {
-///                         return Err(access.duplicate("admin"));
-///                     }
-///                     admin = Some(access.value::<bool>()?);
-///                 }
+///                 Field::Known(0) => access.once("user_id", &mut user_id)?,
+///                 Field::Known(1) => access.once("admin", &mut admin)?,
 ///                 _ => access.skip()?,
 ///             }
 ///         }
-///         let Some(user_id) = user_id else {
-///             return Err(access.missing("user_id"));
-///         };
-///         let Some(admin) = admin else {
-///             return Err(access.missing("admin"));
-///         };
+///         let user_id = access.required("user_id", user_id)?;
+///         let admin = access.required("admin", admin)?;
 ///         access.end()?;
 ///         Ok(User { user_id, admin })
 ///     }
 /// }
 /// ```
 ///
-/// Its proof keeps `StructSoFar` through the loop, and cites a lemma for each call
-/// (`proofs/facts/Structs.antt`); `src/struct_tests.rt` has one with its proof.
+/// `proofs/facts/Structs.antt` has what proves it. The loop keeps `FieldsSoFar`, and each call has
+/// two lemmas, of its Ok and of its Err: `fields_begin` and `no_fields` of `structure`,
+/// `field_due`, `fields_ended` and `none_named` of `next_field`, `field_taken` and `field_refused`
+/// of `once`, `other_taken` and `other_refused` of `skip`, `field_required` and `field_absent` of
+/// `required`, `fields_read` and `end_refused` of `end`. A whole proof is that of `User` in the
+/// crate `cbor_samples`: `src/structs.rt` and `proofs/structs/UserDeserialize`.
+///
+/// These lemmas are for fields that are read alike whatever formats are read. Where a field isn't,
+/// as an enum, the loop keeps `StructSoFar`, whose lemmas stand there too.
+///
+/// An enum is read by its variants, which [`Deserializer::variant`] tells by their names or their
+/// numbers, and each variant by the call on its content. Named fields are read as a struct of
+/// their own:
+///
+/// ```rust
+/// #[derive(Drop)]
+/// enum Bar {
+///     Empty,
+///     Number(i64),
+///     Flag(String, bool),
+///     Point { x: i64, y: i64 },
+/// }
+///
+/// const BARS: &[&str] = &["Empty", "Number", "Flag", "Point"];
+///
+/// impl Readable for Bar {
+///     ghost reads = { λ c. PassesTags (IsEnum c.formats (map (λ n. n.now) BARS.now) (variants
+///         (unit bar.Empty
+///         ∷ newtype (⟦<i64 as Readable>⟧.reads c) bar.Number
+///         ∷ tuple (part_then (⟦<String as Readable>⟧.reads c)
+///         (part_then (⟦<bool as Readable>⟧.reads c) no_part)) (λ y. bar.Flag y.0 y.1.0)
+///         ∷ newtype (⟦<Point as Readable>⟧.reads c) (λ p. bar.Point p.x p.y)
+///         ∷ []))) };
+/// }
+///
+/// impl<'de, R: Read<'de>> Deserialize<'de, R> for Bar {
+///     fn deserialize(de: &mut Deserializer<R>) -> Result<Bar> {
+///         let access = de.variant(BARS)?;
+///         match access.index() {
+///             0 => {
+///                 access.unit()?;
+///                 Ok(Bar::Empty)
+///             }
+///             1 => {
+///                 let number = access.newtype::<i64>()?;
+///                 Ok(Bar::Number(number))
+///             }
+///             2 => {
+///                 let mut parts = access.tuple()?;
+///                 let name = parts.part::<String>(0, 2)?;
+///                 let flag = parts.part::<bool>(1, 2)?;
+///                 parts.end()?;
+///                 Ok(Bar::Flag(name, flag))
+///             }
+///             _ => {
+///                 let point = access.structure::<Point>()?;
+///                 Ok(Bar::Point {
+///                     x: point.x,
+///                     y: point.y,
+///                 })
+///             }
+///         }
+///     }
+/// }
+/// ```
+///
+/// Its proof is two lines for each `?`, and one more for each part before it: `variant_is` tells
+/// the variant, and a lemma for each call what its answer says of the enum
+/// (`proofs/facts/Enums.antt`). A whole proof is that of this enum in the crate `cbor_samples`:
+/// `src/enums.rt` and `proofs/enums/BarDeserialize`.
 pub trait Deserialize<'de, R: Read<'de>>: Readable {
     /// Reads the item at the front.
     fn deserialize(de: &mut Deserializer<R>) -> Result<Self>

@@ -79,6 +79,8 @@ fn are_bytes(slice: &[u8])
 /// - `RecursionLimitExceeded`: the 128th array, map or tag inside others, after its head;
 /// - `TrailingData`: bytes follow the item, after the first of them; or items or pairs that the
 ///   type doesn't read follow those that it does;
+/// - `ArrayTooShort`, `ArrayTooLong`: an array in an enum's place has no name, or no item where
+///   the variant has a part; or it has a name alone and the variant no part; behind its last item;
 /// - `Message`, without an offset: an item that the type doesn't read;
 /// - `OutOfMemory`: an allocation failed. No memory is taken on the word of a head.
 ///

@@ -5,7 +5,8 @@ ghost use types.Logic.{sem};
 ghost use Rattle.std.specs.Io.BufRead.{Rests};
 ghost use Rattle.cbor_io.specs.Source.{part_bytes};
 ghost use Rattle.cbor_de.specs.declared.head.Head.TheVariants.{Bytes, Text};
-ghost use Rattle.cbor_typed.specs.Strings.{BytesOf, IsBadAt, IsKept, IsMadeOf, Lacks, Lent, LentText, LendsString, LendsText, PartText, Utf8Of};
+ghost use Rattle.cbor_typed.specs.Strings.{BytesOf, IsBadAt, IsKept, IsMadeOf, Lacks, Lent};
+ghost use Rattle.cbor_typed.specs.Strings.{LentText, LendsString, LendsText, PartText, Utf8Of};
 ghost use Rattle.cbor_typed.specs.Takes.{context};
 ghost use Rattle.cbor_de.specs.contracts.de.Deserializer.{the_row};
 ghost use Rattle.cbor_typed.specs.contracts.de.Deserializer.{the_row as typed_row};
@@ -216,7 +217,8 @@ impl<'de, R: Read<'de>> Deserializer<R> {
     /// Lends a text, or a byte string that is UTF-8.
     pub fn read_text<'a>(&'a mut self) -> Result<EitherStr<'a, 'de>>
         ensures* after_borrow { sem 𝓛 (Rests (typed_row R.row) self.entry (λ new.
-            (new.items.levels ≡ self.old.items.levels) × (new.items.formats ≡ self.old.items.formats)
+            (new.items.levels ≡ self.old.items.levels)
+            × (new.items.formats ≡ self.old.items.formats)
             × LendsText R.refusals (context self.old.items.formats R.lends) self.old.items.levels
             (R.source self.old.items.source) (R.source new.items.source) result)) }
     {
@@ -234,7 +236,8 @@ impl<'de, R: Read<'de>> Deserializer<R> {
     /// Lends the bytes of a byte string, or of a text.
     pub fn read_bytes<'a>(&'a mut self) -> Result<EitherLifetime<'a, 'de>>
         ensures* after_borrow { sem 𝓛 (Rests (typed_row R.row) self.entry (λ new.
-            (new.items.levels ≡ self.old.items.levels) × (new.items.formats ≡ self.old.items.formats)
+            (new.items.levels ≡ self.old.items.levels)
+            × (new.items.formats ≡ self.old.items.formats)
             × LendsString R.refusals (context self.old.items.formats R.lends) self.old.items.levels
             (R.source self.old.items.source) (R.source new.items.source) result)) }
     {

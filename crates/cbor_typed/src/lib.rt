@@ -1,5 +1,5 @@
-//! Reading: the four `from_*` read a whole input as a type, and a [`Deserializer`] reads types from a
-//! source, one after the other.
+//! Reading: the four `from_*` read a whole input as a type, and a [`Deserializer`] reads types
+//! from a source, one after the other.
 //!
 //! [`from_slice`] joins strings in chunks in memory, [`from_slice_with_scratch`] in a scratch of
 //! the caller's, and [`from_mut_slice`] in the slice itself; [`from_reader`] takes its bytes from
@@ -9,45 +9,21 @@
 //! `Value` is read from any item.
 #![tactic(auto)]
 
-#[cfg(test)]
-mod array_tests;
 mod de;
-#[cfg(test)]
-mod de_tests;
 mod deserialize;
-#[cfg(test)]
-mod enum_tests;
-#[cfg(test)]
-mod four_sources_tests;
 mod from;
 mod identifier;
-#[cfg(test)]
-mod ignored_tests;
 mod integer;
-#[cfg(test)]
-mod item_tests;
 mod lent;
 mod map;
-#[cfg(test)]
-mod map_tests;
 mod open;
 mod optional;
 mod scalar;
 mod sequence;
-#[cfg(test)]
-mod string_tests;
 mod strings;
-#[cfg(test)]
-mod struct_tests;
 mod structure;
-#[cfg(test)]
-mod tag_tests;
 mod tags;
-#[cfg(test)]
-mod tests;
 mod types;
-#[cfg(test)]
-mod value_tests;
 mod variant;
 
 pub use cbor_de::{Formats, Remaining};

@@ -49,8 +49,8 @@ impl<R: Source> Deserializer<R> {
 
     // Takes the tags and the head of an array, and goes one level in.
     pub(crate) fn array_head(&mut self) -> Result<Remaining>
-        ensures read { TakesHead R.refusals (formats_of self.old.items.formats) self.old.items.levels
-            (R.source self.old.items.source) (R.source self.new.items.source)
+        ensures read { TakesHead R.refusals (formats_of self.old.items.formats)
+            self.old.items.levels (R.source self.old.items.source) (R.source self.new.items.source)
             self.new.items.levels result }
         ensures inside { IfOk result (λ r. self.new.items.levels < self.old.items.levels) }
         ensures outer { OnErr result (self.new.items.levels ≡ self.old.items.levels) }
@@ -204,13 +204,19 @@ impl<'a, R: Source> SeqAccess<'a, R> {
         Ok(Some(item))
     }
 
-    // Reads the next item of an array that has to have so many; this many were read before it.
+    /// Reads the next item of an array that has to have so many; this many were read before it.
+    ///
+    /// It refuses as the reading of `T` does, and with `invalid length`, which tells both numbers,
+    /// where the array's last item was read.
+    ///
+    /// ```rust
+    /// let mut items = de.array()?;
+    /// let name = items.part::<String>(0, 2)?;
+    /// let flag = items.part::<bool>(1, 2)?;
+    /// items.end()?;
+    /// ```
     #[inline(always)]
-    pub(crate) fn part<'de, T: Deserialize<'de, R>>(
-        &mut self,
-        before: usize,
-        expected: usize,
-    ) -> Result<T>
+    pub fn part<'de, T: Deserialize<'de, R>>(&mut self, before: usize, expected: usize) -> Result<T>
     where
         R: Read<'de>,
         requires { self.old.de.now.items.levels < self.old.outer }

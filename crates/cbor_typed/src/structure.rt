@@ -4,15 +4,16 @@ ghost use Rattle.std.specs.Prelude.{◌≡◌, ◌<◌, ◌≤◌, true, false, 
 ghost use Rattle.std.specs.Prelude.{MatchOption, Some};
 ghost use Rattle.std.specs.Option.{is_some};
 ghost use Rattle.std.specs.Borrow.{sem, RestsIfErr};
-ghost use Rattle.cbor_io.specs.Error.{code_of, offset_of};
+ghost use Rattle.cbor_io.specs.Error.{code_of, offset_of, IsMessageOf};
 ghost use Rattle.cbor_model.specs.Reader.{item_at};
 ghost use Rattle.cbor_de.specs.declared.cursor.Remaining.TheVariants.{Counted};
 ghost use Rattle.cbor_de.specs.Gives.{Step};
 ghost use Rattle.cbor_typed.specs.Accesses.{turns, size_of};
 ghost use Rattle.cbor_typed.specs.Identifiers.{texts};
 ghost use Rattle.cbor_typed.specs.MapAccesses.{IsMapHead, RefusesMap, TakesKey, TakesMapEnd};
-ghost use Rattle.cbor_typed.specs.Structs.{IsAny, IsField, place_in};
-ghost use Rattle.cbor_typed.specs.Takes.{TakesItem, IsRead, IsNotRead, Refuses, context, formats_of, raws};
+ghost use Rattle.cbor_typed.specs.Structs.{IsAny, IsField, place_in, missing_text, duplicate_text};
+ghost use Rattle.cbor_typed.specs.Takes.{TakesItem, IsRead, IsNotRead, Refuses, context};
+ghost use Rattle.cbor_typed.specs.Takes.{formats_of, raws};
 ghost use Rattle.cbor_typed.specs.contracts.de.Deserializer.{the_row};
 
 use crate::de::Deserializer;
@@ -94,8 +95,8 @@ impl<'de, R: Read<'de>> Deserializer<R> {
 ///
 /// It holds the level that the map took. [`end`](StructAccess::end),
 /// [`missing`](StructAccess::missing), [`duplicate`](StructAccess::duplicate),
-/// [`refuse`](StructAccess::refuse) and each call that answers Err leave that level. After an Err no
-/// call follows.
+/// [`refuse`](StructAccess::refuse) and each call that answers Err leave that level. After an Err
+/// no call follows.
 ///
 /// ```rust
 /// let mut de = Deserializer::new(alloc, SliceRead::new(alloc, b"\xa2\x61b\xf5\x00\x0a"));
@@ -249,6 +250,8 @@ impl<'a, R: Source> StructAccess<'a, R> {
             (λ l bs. IsNotRead (V.reads (context self.old.de.now.items.formats R.lends))
             (item_at (raws (formats_of self.old.de.now.items.formats) l)
             self.old.de.now.items.levels bs))) }
+        ensures text { IfErr result (λ e. is_some slot.old ≡ true →
+            IsMessageOf (Some (duplicate_text name.now)) (code_of e)) }
         ensures kept { IfErr result (λ e. slot.new ≡ slot.old) }
         ensures due { IfOk result (λ u. self.new.value_due ≡ false) }
         ensures inside { IfOk result (λ u.
@@ -277,14 +280,16 @@ impl<'a, R: Source> StructAccess<'a, R> {
         }
     }
 
-    /// The value of a field's slot, behind the map's last pair. A slot that has none is refused with
-    /// ``missing field `id` ``, which leaves the map.
+    /// The value of a field's slot, behind the map's last pair. A slot that has none is refused
+    /// with ``missing field `id` ``, which leaves the map.
     pub fn required<V: Drop>(&mut self, name: &'static str, slot: Option<V>) -> Result<V>
         requires live { self.old.de.now.items.levels < self.old.outer }
         requires due { self.old.value_due ≡ false }
         ensures same_reference { self.new.de.ghost_name ≡ self.old.de.ghost_name }
         ensures value { IfOk result (λ v. slot ≡ Some v) }
         ensures absent { IfErr result (λ e. is_some slot ≡ false) }
+        ensures text { IfErr result (λ e.
+            IsMessageOf (Some (missing_text name.now)) (code_of e)) }
         ensures source { self.new.de.now.items.source ≡ self.old.de.now.items.source }
         ensures inside { IfOk result (λ v.
             self.new.de.now.items.levels ≡ self.old.de.now.items.levels) }
@@ -306,8 +311,8 @@ impl<'a, R: Source> StructAccess<'a, R> {
         }
     }
 
-    /// Passes over the value of the field that was named last, of which nothing is kept. It has to be
-    /// acceptable, with keys of the formats that are read.
+    /// Passes over the value of the field that was named last, of which nothing is kept. It has to
+    /// be acceptable, with keys of the formats that are read.
     #[inline(always)]
     pub fn skip<'de>(&mut self) -> Result<()>
     where
@@ -353,6 +358,7 @@ impl<'a, R: Source> StructAccess<'a, R> {
     /// Leaves the map for the error of a field that isn't there, as ``missing field `id` ``.
     pub fn missing(self, name: &'static str) -> Error
         requires { self.de.now.items.levels < self.outer }
+        ensures text { IsMessageOf (Some (missing_text name.now)) (code_of result) }
         ensures source { self.exit.0.now.items.source ≡ self.entry.de.now.items.source }
         ensures levels { self.exit.0.now.items.levels ≡ self.entry.outer }
         ensures formats { self.exit.0.now.items.formats
@@ -365,6 +371,7 @@ impl<'a, R: Source> StructAccess<'a, R> {
     /// Leaves the map for the error of a field that is there twice, as ``duplicate field `id` ``.
     pub fn duplicate(self, name: &'static str) -> Error
         requires { self.de.now.items.levels < self.outer }
+        ensures text { IsMessageOf (Some (duplicate_text name.now)) (code_of result) }
         ensures source { self.exit.0.now.items.source ≡ self.entry.de.now.items.source }
         ensures levels { self.exit.0.now.items.levels ≡ self.entry.outer }
         ensures formats { self.exit.0.now.items.formats
@@ -420,7 +427,9 @@ impl<'a, R: Source> StructAccess<'a, R> {
 // The error of a field that isn't there.
 #[cold]
 #[inline(never)]
-fn missing_field(alloc: Global, name: &'static str) -> Error {
+fn missing_field(alloc: Global, name: &'static str) -> Error
+    ensures text { IsMessageOf (Some (missing_text name.now)) (code_of result) }
+{
     match format!(in alloc; "missing field `{name}`") {
         Ok(text) => Error::message(alloc, text),
         Err(e) => Error::from(e),
@@ -430,7 +439,9 @@ fn missing_field(alloc: Global, name: &'static str) -> Error {
 // The error of a field that is there twice.
 #[cold]
 #[inline(never)]
-fn duplicate_field(alloc: Global, name: &str) -> Error {
+fn duplicate_field(alloc: Global, name: &str) -> Error
+    ensures text { IsMessageOf (Some (duplicate_text name.now)) (code_of result) }
+{
     match format!(in alloc; "duplicate field `{name}`") {
         Ok(text) => Error::message(alloc, text),
         Err(e) => Error::from(e),

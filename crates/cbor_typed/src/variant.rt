@@ -406,8 +406,8 @@ impl<'de, R: Read<'de>> Deserializer<R> {
         }
     }
 
-    // Reads the content of a variant of one part.
-    fn one_part<T: Deserialize<'de, R>>(&mut self, form: Form) -> Result<T>
+    // Reads the content of a variant of one part. An identifier alone is refused with this text.
+    fn one_part<T: Deserialize<'de, R>>(&mut self, form: Form, alone: &str) -> Result<T>
         ensures read { TakesContent R.refusals (formats_of self.old.items.formats)
             (IsPart (T.reads (context self.old.items.formats R.lends)))
             self.old.items.levels form
@@ -418,10 +418,7 @@ impl<'de, R: Read<'de>> Deserializer<R> {
         match form {
             Form::Array(remaining) => self.only_item::<T>(remaining, ErrorCode::ArrayTooShort),
             Form::Map => T::deserialize(self),
-            Form::Alone => Err(Error::message(
-                self.items.alloc,
-                "invalid type: unit variant, expected newtype variant",
-            )),
+            Form::Alone => Err(Error::message(self.items.alloc, alone)),
         }
     }
 }
@@ -500,7 +497,45 @@ impl<'a, R: Source> VariantAccess<'a, R> {
             form,
             outer,
         } = self;
-        let read = de.one_part::<T>(form);
+        let read = de.one_part::<T>(form, "invalid type: unit variant, expected newtype variant");
+        de.items.levels = outer;
+        read
+    }
+
+    /// Reads the content of a variant of named fields, as the struct of these fields.
+    ///
+    /// `T` reads the map of the fields, by [`Deserializer::structure`]: of names or of numbers, in
+    /// any order. It refuses what isn't such a map. An array in which nothing follows the
+    /// identifier is refused with `ArrayTooShort`, and an identifier alone with
+    /// `invalid type: unit variant, expected struct variant`.
+    ///
+    /// ```rust
+    /// // of an enum with a variant `Point { x: u32, y: u32 }`, and a struct `Point` of these
+    /// let point = access.structure::<Point>()?;
+    /// Ok(Shape::Point {
+    ///     x: point.x,
+    ///     y: point.y,
+    /// })
+    /// ```
+    pub fn structure<'de, T: Deserialize<'de, R>>(self) -> Result<T>
+    where
+        R: Read<'de>,
+        ensures read { TakesContent R.refusals
+            (formats_of self.entry.de.now.items.formats)
+            (IsPart (T.reads (context self.entry.de.now.items.formats R.lends)))
+            self.entry.de.now.items.levels self.entry.form
+            (R.source self.entry.de.now.items.source) (R.source self.exit.0.now.items.source)
+            result }
+        ensures levels { self.exit.0.now.items.levels ≡ self.entry.outer }
+        ensures formats { self.exit.0.now.items.formats ≡ self.entry.de.now.items.formats }
+    {
+        let VariantAccess {
+            de,
+            index: _,
+            form,
+            outer,
+        } = self;
+        let read = de.one_part::<T>(form, "invalid type: unit variant, expected struct variant");
         de.items.levels = outer;
         read
     }

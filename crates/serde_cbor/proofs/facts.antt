@@ -2,3 +2,4 @@
 pub mod Values
 pub mod Serialize
 pub mod Structs
+pub mod Enums

@@ -34,7 +34,7 @@ mod byte_order_tests;
 #[cfg(test)]
 mod normal_tests;
 #[cfg(test)]
-mod samples;
+mod reading_tests;
 #[cfg(test)]
 mod std_types_tests;
 #[cfg(test)]

@@ -89,7 +89,8 @@ fn reads_strings_of_many_chunks(rt: HostRuntime) -> Result<(), Fail> {
         &rt,
         rt.alloc(),
         &[(
-            b"\x82\x7f\x65Mary \x64Had \x62a \x67Little \x60\x64Lamb\xff\x5f\x42\x01\x23\x42\x45\x67\xff",
+            b"\x82\x7f\x65Mary \x64Had \x62a \x67Little \x60\x64Lamb\xff\
+              \x5f\x42\x01\x23\x42\x45\x67\xff",
             b"\x82\x76Mary Had a Little Lamb\x44\x01\x23\x45\x67",
         )],
     )

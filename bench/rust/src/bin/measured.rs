@@ -1,22 +1,44 @@
 //! What `cbor_bench` does, by the Rust crate.
-use serde_cbor::Value;
+use serde::de::DeserializeOwned;
+use serde::{Deserialize, Serialize};
+use serde_cbor::{Result, Value};
 use std::error::Error;
 use std::hint::black_box;
 use std::io::{self, Read};
 use std::process::ExitCode;
 
-fn main() -> Result<ExitCode, Box<dyn Error>> {
+#[derive(Serialize, Deserialize)]
+struct Record {
+    id: u32,
+    name: String,
+    email: String,
+    created: u32,
+    tags: Vec<String>,
+    active: bool,
+}
+
+fn perform<T: DeserializeOwned + Serialize>(item: &[u8], writes: bool) -> Result<()> {
+    let value: T = serde_cbor::from_slice(black_box(item))?;
+    if writes {
+        black_box(serde_cbor::to_vec(&value)?);
+    }
+    drop(black_box(value));
+    Ok(())
+}
+
+fn main() -> std::result::Result<ExitCode, Box<dyn Error>> {
     let mut input = Vec::new();
     io::stdin().read_to_end(&mut input)?;
-    let [task @ (0 | 1), times, item @ ..] = input.as_slice() else {
+    let [task @ 0..=3, times, item @ ..] = input.as_slice() else {
         return Ok(ExitCode::from(2));
     };
     for _ in 0..*times {
-        let value: Value = serde_cbor::from_slice(black_box(item))?;
-        if *task == 1 {
-            black_box(serde_cbor::to_vec(&value)?);
+        match task {
+            0 => perform::<Value>(item, false)?,
+            1 => perform::<Value>(item, true)?,
+            2 => perform::<Vec<Record>>(item, false)?,
+            _ => perform::<Vec<Record>>(item, true)?,
         }
-        drop(black_box(value));
     }
     Ok(ExitCode::SUCCESS)
 }

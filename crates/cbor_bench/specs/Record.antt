@@ -1,0 +1,75 @@
+-- Records, what they are read from, and what is written of them.
+use Rattle.std.specs.Prelude.{◌≡◌, ℕ, false, List, [], ◌∷◌, String, Vec, map, codes, pos}
+use Rattle.std.specs.String.{string_bytes}
+use Rattle.std.specs.declared.alloc.Global.{Global}
+use Rattle.serde_cbor.specs.Arrays.{AsArray, AreRead}
+use Rattle.serde_cbor.specs.Document as document
+use Rattle.serde_cbor.specs.Document.{Doc, structure, sequence, declared, text, integer, bool, no_fields}
+use Rattle.serde_cbor.specs.Formats.{all_formats}
+use Rattle.serde_cbor.specs.Document.{document_bytes, docs}
+use Rattle.serde_cbor.specs.Raw.{Raw}
+use Rattle.serde_cbor.specs.Readable.{SpellsAs, PassesTags, IsFromZero, IsText, IsBool}
+use Rattle.serde_cbor.specs.Structs.{FieldOf, IsStruct, field}
+use Rattle.cbor_bench.specs.declared.record.TheConstants.{NAMES}
+use Rattle.cbor_bench.specs.declared.record.Record.{Record}
+
+-- the names of a record's fields, in their order
+abbrev pub names : List (List ℕ)
+names = map (λ n. n.now) NAMES.now
+
+-- a number of 32 bits
+abbrev pub IsNumber : Raw → ℕ → Type 0
+IsNumber = PassesTags (IsFromZero 4294967295)
+
+-- a text, or a byte string that is UTF-8
+abbrev pub IsWord : Raw → String Global → Type 0
+IsWord = PassesTags (λ r s. IsText r (string_bytes s))
+
+abbrev pub AreWords : Raw → Vec (String Global) Global → Type 0
+AreWords = PassesTags (AsArray (λ rs v. AreRead IsWord rs v.items))
+
+-- as what the fields are read, and where they stand in the record
+abbrev pub fields : List (FieldOf Record)
+fields =
+    field IsNumber (λ r. r.id) ∷
+    field IsWord (λ r. r.name) ∷
+    field IsWord (λ r. r.email) ∷
+    field IsNumber (λ r. r.created) ∷
+    field AreWords (λ r. r.tags) ∷
+    field (PassesTags IsBool) (λ r. r.active) ∷
+    []
+
+-- a map of these fields, in any order
+abbrev pub IsRecord : Raw → Record → Type 0
+IsRecord = IsStruct names fields
+
+-- an array of records
+abbrev pub AreRecords : Raw → Vec Record Global → Type 0
+AreRecords = PassesTags (AsArray (λ rs v. AreRead IsRecord rs v.items))
+
+abbrev pub text_of : String Global → Doc
+text_of s = text (string_bytes s)
+
+-- a record's document
+abbrev pub record_document : Record → Doc
+record_document r = structure
+    (document.field 0 (codes "id") (integer (pos r.id))
+    (document.field 1 (codes "name") (text_of r.name)
+    (document.field 2 (codes "email") (text_of r.email)
+    (document.field 3 (codes "created") (integer (pos r.created))
+    (document.field 4 (codes "tags") (sequence declared (docs text_of r.tags.items))
+    (document.field 5 (codes "active") (bool r.active)
+    no_fields))))))
+
+-- the bytes spell these records, in names or numbers
+abbrev pub SpellsTheRecords : List ℕ → Vec Record Global → Type 0
+SpellsTheRecords = SpellsAs all_formats AreRecords
+
+-- the bytes spell an array that is read as records
+abbrev pub SpellsRecords : List ℕ → Type 0
+SpellsRecords bytes = (records : Vec Record Global) × SpellsTheRecords bytes records
+
+-- these are the bytes of a document of the records that the bytes spell
+abbrev pub AreRewritten : (bytes written : List ℕ) → Type 0
+AreRewritten bytes written = (records : Vec Record Global) × SpellsTheRecords bytes records
+    × (written ≡ document_bytes (sequence declared (docs record_document records.items)) false false)

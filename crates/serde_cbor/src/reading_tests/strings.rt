@@ -1,0 +1,287 @@
+use super::refused;
+use crate::de::{Deserialize, EitherLifetime, EitherStr};
+use crate::{Deserializer, from_mut_slice, from_reader, from_slice, from_slice_with_scratch};
+use std::alloc::Global;
+use std::process::Abort;
+use std::test::Fail;
+
+type Done = Result<(), Fail>;
+
+/// A string, read from each of the four sources.
+fn all_read(rt: &impl Abort, alloc: Global, bytes: &[u8], want: &str) -> Done {
+    let read: String = from_slice(alloc, bytes)?;
+    assert_eq!(rt; read.as_str(), want);
+    let read: String = from_slice_with_scratch(alloc, bytes, &mut [0; 8])?;
+    assert_eq!(rt; read.as_str(), want);
+    let mut copy = Vec::from_slice(alloc, bytes)?;
+    let read: String = from_mut_slice(alloc, &mut copy)?;
+    assert_eq!(rt; read.as_str(), want);
+    let read: String = from_reader(alloc, bytes)?;
+    assert_eq!(rt; read.as_str(), want);
+    Ok(())
+}
+
+#[test]
+fn reads_text(rt: HostRuntime) -> Done {
+    let alloc = rt.alloc();
+    all_read(&rt, alloc, b"\x60", "")?;
+    all_read(
+        &rt,
+        alloc,
+        b"\x6aa\xc3\xa2\xc3\xb8\xe2\x86\x93\xc3\xa9",
+        "aâø↓é",
+    )?;
+    all_read(&rt, alloc, b"\xc1\x78\x01\x61", "a")
+}
+
+#[test]
+fn reads_byte_strings_as_text(rt: HostRuntime) -> Done {
+    let alloc = rt.alloc();
+    all_read(&rt, alloc, b"\x42\xc3\xa9", "é")?;
+    all_read(&rt, alloc, b"\x5f\x41a\x41b\xff", "ab")
+}
+
+#[test]
+fn joins_a_character_of_two_chunks(rt: HostRuntime) -> Done {
+    let alloc = rt.alloc();
+    all_read(&rt, alloc, b"\x7f\x61\xc3\x61\xa9\xff", "é")?;
+    all_read(&rt, alloc, b"\x7f\xff", "")
+}
+
+#[test]
+fn reads_two_strings(rt: HostRuntime) -> Done {
+    let alloc = rt.alloc();
+    let mut de = Deserializer::from_slice(alloc, b"\x66foobar\x66foobar");
+    let read = String::deserialize(&mut de)?;
+    assert_eq!(rt; read.as_str(), "foobar");
+    assert_eq!(rt; de.byte_offset(), 7);
+    let read = String::deserialize(&mut de)?;
+    assert_eq!(rt; read.as_str(), "foobar");
+    de.end()?;
+    Ok(())
+}
+
+/// The text of a refusal to read a string, from a slice and from a reader.
+fn no_string(rt: &impl Abort, alloc: Global, bytes: &[u8], want: &'static str) -> Done {
+    refused(rt, alloc, from_slice::<String>(alloc, bytes), want)?;
+    refused(rt, alloc, from_reader::<String, _>(alloc, bytes), want)
+}
+
+#[test]
+fn refuses_what_is_not_utf8(rt: HostRuntime) -> Done {
+    let alloc = rt.alloc();
+    let at_1 = "invalid UTF-8 at offset 1";
+    no_string(&rt, alloc, b"\x62\xc3\x28", at_1)?;
+    no_string(
+        &rt,
+        alloc,
+        b"\x7f\x61a\x62\xc3\x28\xff",
+        "invalid UTF-8 at offset 5",
+    )?;
+    let other = "invalid type: expected a string";
+    no_string(&rt, alloc, b"\x42\xc3\x28", other)?;
+    no_string(&rt, alloc, b"\x5f\x42\xc3\x28\xff", other)
+}
+
+#[test]
+fn refuses_no_strings(rt: HostRuntime) -> Done {
+    let alloc = rt.alloc();
+    no_string(&rt, alloc, b"\x00", "invalid type: expected a string")?;
+    no_string(
+        &rt,
+        alloc,
+        b"\x7b\xff\xff\xff\xff\xff\xff\xff\xff",
+        "length out of range at offset 9",
+    )?;
+    no_string(
+        &rt,
+        alloc,
+        b"\x5b\xff\xff\xff\xff\xff\xff\xff\xff",
+        "EOF while parsing a value at offset 9",
+    )?;
+    no_string(&rt, alloc, b"\x7f\x41a\xff", "unexpected code at offset 2")
+}
+
+#[test]
+fn refuses_chunks_longer_than_the_scratch(rt: HostRuntime) -> Done {
+    let alloc = rt.alloc();
+    let mut scratch = [0; 1];
+    refused(
+        &rt,
+        alloc,
+        from_slice_with_scratch::<String>(alloc, b"\x7f\x61a\x61b\xff", &mut scratch),
+        "Scratch buffer too small at offset 4",
+    )
+}
+
+#[test]
+fn reads_what_may_be_absent(rt: HostRuntime) -> Done {
+    let alloc = rt.alloc();
+    assert_eq!(rt; from_slice::<Option<u8>>(alloc, b"\x18\x2a")?, Some(42));
+    assert_eq!(rt; from_slice::<Option<u8>>(alloc, b"\xf6")?, None);
+    assert_eq!(rt;
+        from_reader::<Option<u8>, _>(alloc, b"\xf6".as_slice())?,
+        None
+    );
+    assert_eq!(rt; from_mut_slice::<Option<u8>>(alloc, &mut [0xf6])?, None);
+    assert_eq!(rt;
+        from_slice_with_scratch::<Option<u8>>(alloc, b"\xf6", &mut [])?,
+        None
+    );
+    assert!(rt; from_slice::<Option<()>>(alloc, b"\xf7")?.is_some());
+    assert!(rt; from_slice::<Option<()>>(alloc, b"\xf6")?.is_none());
+    let text: Option<String> = from_slice(alloc, b"\x61a")?;
+    assert_eq!(rt; text.ok_or("none")?.as_str(), "a");
+    Ok(())
+}
+
+#[test]
+fn takes_null_alone_as_none(rt: HostRuntime) -> Done {
+    let alloc = rt.alloc();
+    let want = "invalid type: expected an integer";
+    refused(&rt, alloc, from_slice::<Option<u8>>(alloc, b"\xf7"), want)?;
+    refused(
+        &rt,
+        alloc,
+        from_slice::<Option<u8>>(alloc, b"\xc1\xf6"),
+        want,
+    )?;
+    refused(
+        &rt,
+        alloc,
+        from_slice::<Option<u8>>(alloc, b""),
+        "EOF while parsing a value",
+    )
+}
+
+#[test]
+fn lends_texts(rt: HostRuntime) -> Done {
+    let alloc = rt.alloc();
+    let lent: &str = from_slice(alloc, b"\x62ab")?;
+    assert_eq!(rt; lent, "ab");
+    let lent: &str = from_slice(alloc, b"\xc1\x42\xc3\xa9")?;
+    assert_eq!(rt; lent, "é");
+    let lent: &str = from_slice_with_scratch(alloc, b"\x62ab", &mut [])?;
+    assert_eq!(rt; lent, "ab");
+    let mut input = *b"\x7f\x61a\x61b\xff";
+    let lent: &str = from_mut_slice(alloc, &mut input)?;
+    assert_eq!(rt; lent, "ab");
+    Ok(())
+}
+
+#[test]
+fn lends_no_joined_text(rt: HostRuntime) -> Done {
+    let alloc = rt.alloc();
+    let input = b"\x7f\x61a\x61b\xff";
+    let want = "invalid type: expected a borrowed string";
+    refused(&rt, alloc, from_slice::<&str>(alloc, input), want)?;
+    let mut scratch = [0; 3];
+    let read = from_slice_with_scratch::<&str>(alloc, input, &mut scratch);
+    refused(&rt, alloc, read, want)
+}
+
+#[test]
+fn refuses_to_lend_what_is_no_text(rt: HostRuntime) -> Done {
+    let alloc = rt.alloc();
+    let other = "invalid type: expected a string";
+    refused(
+        &rt,
+        alloc,
+        from_slice::<&str>(alloc, b"\x42\xc3\x28"),
+        other,
+    )?;
+    refused(&rt, alloc, from_slice::<&str>(alloc, b"\x00"), other)?;
+    let bad = "invalid UTF-8 at offset 1";
+    refused(&rt, alloc, from_slice::<&str>(alloc, b"\x62\xc3\x28"), bad)?;
+    let ended = "EOF while parsing a value at offset 2";
+    refused(&rt, alloc, from_slice::<&str>(alloc, b"\x62a"), ended)?;
+    let out = from_slice::<&str>(alloc, b"\x7b\xff\xff\xff\xff\xff\xff\xff\xff");
+    refused(&rt, alloc, out, "length out of range at offset 9")?;
+    let read = from_slice::<&str>(alloc, b"\xff");
+    refused(&rt, alloc, read, "unexpected code at offset 1")
+}
+
+#[test]
+fn lends_bytes(rt: HostRuntime) -> Done {
+    let alloc = rt.alloc();
+    let lent: &[u8] = from_slice(alloc, b"\x42\xc3\x28")?;
+    assert_eq!(rt; lent, b"\xc3\x28".as_slice());
+    let lent: &[u8] = from_slice(alloc, b"\x62ab")?;
+    assert_eq!(rt; lent, b"ab".as_slice());
+    let mut input = *b"\x5f\x41\xc3\x41\x28\xff";
+    let lent: &[u8] = from_mut_slice(alloc, &mut input)?;
+    assert_eq!(rt; lent, b"\xc3\x28".as_slice());
+    Ok(())
+}
+
+#[test]
+fn refuses_to_lend_other_bytes(rt: HostRuntime) -> Done {
+    let alloc = rt.alloc();
+    let input = b"\x5f\x41a\x41b\xff";
+    let want = "invalid type: expected borrowed bytes";
+    refused(&rt, alloc, from_slice::<&[u8]>(alloc, input), want)?;
+    let other = "invalid type: expected bytes";
+    refused(&rt, alloc, from_slice::<&[u8]>(alloc, b"\xf6"), other)?;
+    let bad = "invalid UTF-8 at offset 1";
+    refused(&rt, alloc, from_slice::<&[u8]>(alloc, b"\x62\xc3\x28"), bad)
+}
+
+#[test]
+fn lends_from_a_reader_until_its_next_call(rt: HostRuntime) -> Done {
+    let alloc = rt.alloc();
+    let mut de = Deserializer::from_reader(alloc, b"\x62ab\x41c".as_slice());
+    match de.read_text() {
+        Ok(EitherStr::Short(text)) => assert_eq!(rt; text, "ab"),
+        Ok(EitherStr::Long(_)) => return Err(Fail::from("a reader lends nothing for long")),
+        Err(why) => return Err(Fail::from(de.unread(why, "no text"))),
+    }
+    match de.read_bytes() {
+        Ok(EitherLifetime::Short(bytes)) => assert_eq!(rt; bytes, b"c".as_slice()),
+        Ok(EitherLifetime::Long(_)) => return Err(Fail::from("a reader lends nothing for long")),
+        Err(why) => return Err(Fail::from(de.unread(why, "no bytes"))),
+    }
+    de.end()?;
+    Ok(())
+}
+
+#[test]
+fn reads_characters(rt: HostRuntime) -> Done {
+    let alloc = rt.alloc();
+    assert_eq!(rt; from_slice::<char>(alloc, b"\x41a")?, 'a');
+    assert_eq!(rt; from_slice::<char>(alloc, b"\x61\x00")?, '\0');
+    assert_eq!(rt;
+        from_slice::<char>(alloc, b"\xc1\x64\xf0\x9f\x98\x80")?,
+        '😀'
+    );
+    let mut scratch = [0; 2];
+    let read: char = from_slice_with_scratch(alloc, b"\x7f\x61\xc3\x61\xa9\xff", &mut scratch)?;
+    assert_eq!(rt; read, 'é');
+    assert_eq!(rt; from_reader::<char, _>(alloc, b"\x61b".as_slice())?, 'b');
+    Ok(())
+}
+
+#[test]
+fn refuses_what_is_no_character(rt: HostRuntime) -> Done {
+    let alloc = rt.alloc();
+    for bytes in [
+        &b"\x62aa"[..],
+        b"\x60",
+        b"\x40",
+        b"\x41\xc3",
+        b"\x05",
+        b"\x80",
+    ] {
+        refused(
+            &rt,
+            alloc,
+            from_slice::<char>(alloc, bytes),
+            "invalid type: expected a character",
+        )?;
+    }
+    refused(
+        &rt,
+        alloc,
+        from_slice::<char>(alloc, b"\x61\xc3"),
+        "invalid UTF-8 at offset 1",
+    )
+}

@@ -1,0 +1,101 @@
+use super::refused;
+use crate::de::{Deserialize, SliceRead};
+use crate::{Deserializer, Result as Read, Value, from_mut_slice, from_reader, from_slice};
+use std::alloc::Global;
+use std::process::Abort;
+use std::test::Fail;
+
+#[test]
+fn reads_values(rt: HostRuntime) -> Result<(), Fail> {
+    let alloc = rt.alloc();
+    let bytes = b"\x82\x18\x17\xf7";
+    let want = Value::Array(vec![in alloc; Value::Integer(23), Value::Null]?);
+    assert!(rt; from_slice::<Value>(alloc, bytes)? == want);
+    assert!(rt; from_reader::<Value, _>(alloc, bytes.as_slice())? == want);
+    let mut bytes = *bytes;
+    assert!(rt; from_mut_slice::<Value>(alloc, &mut bytes)? == want);
+    Ok(())
+}
+
+#[test]
+fn keeps_tags(rt: HostRuntime) -> Result<(), Fail> {
+    let alloc = rt.alloc();
+    let want = Value::Tag(1, Box::new(alloc, Value::Integer(5))?);
+    assert!(rt; from_slice::<Value>(alloc, b"\xc1\x05")? == want);
+    Ok(())
+}
+
+#[test]
+fn tells_the_fault(rt: HostRuntime) -> Result<(), Fail> {
+    let alloc = rt.alloc();
+    for (bytes, want) in [
+        (&b"\xf4\xf4"[..], "trailing data at offset 2"),
+        (b"\xbf\x61a\xff", "unexpected code at offset 4"),
+        (b"\x62\xc3\x28", "invalid UTF-8 at offset 1"),
+        (b"\x9f\x01", "EOF while parsing an array at offset 2"),
+    ] {
+        refused(&rt, alloc, from_slice::<Value>(alloc, bytes), want)?;
+    }
+    Ok(())
+}
+
+#[test]
+fn refuses_names_as_keys(rt: HostRuntime) -> Result<(), Fail> {
+    let alloc = rt.alloc();
+    for (bytes, want) in [
+        (&b"\xa1\x61a\x01"[..], "wrong struct format at offset 1"),
+        (b"\xbf\x7f\xff\x01\xff", "wrong struct format at offset 1"),
+        (b"\xa2\x01\x01\x61a\x01", "wrong struct format at offset 3"),
+        (
+            b"\x81\xa1\x20\xa1\x60\x01",
+            "wrong struct format at offset 4",
+        ),
+        (b"\xa1\xa1\x60\x01\x01", "wrong struct format at offset 2"),
+    ] {
+        let source = SliceRead::new(alloc, bytes);
+        let mut de = Deserializer::new(alloc, source).disable_named_format();
+        refused(&rt, alloc, Value::deserialize(&mut de), want)?;
+    }
+    let source = SliceRead::new(alloc, b"\xa1\x01\x01");
+    let mut de = Deserializer::new(alloc, source).disable_named_format();
+    Value::deserialize(&mut de)?;
+    Ok(())
+}
+
+#[test]
+fn refuses_numbers_as_keys(rt: HostRuntime) -> Result<(), Fail> {
+    let alloc = rt.alloc();
+    let source = SliceRead::new(alloc, b"\xa1\x18\x01\x01");
+    let mut de = Deserializer::new(alloc, source).disable_packed_format();
+    refused(
+        &rt,
+        alloc,
+        Value::deserialize(&mut de),
+        "wrong struct format at offset 1",
+    )?;
+    let source = SliceRead::new(alloc, b"\xa1\x20\x01");
+    let mut de = Deserializer::new(alloc, source).disable_packed_format();
+    let value = Value::deserialize(&mut de)?;
+    assert!(rt; value == from_slice::<Value>(alloc, b"\xa1\x20\x01")?);
+    Ok(())
+}
+
+#[test]
+fn goes_on_behind_a_refusal(rt: HostRuntime) -> Result<(), Fail> {
+    let alloc = rt.alloc();
+    let mut bytes = [0x81; 256];
+    bytes[255] = 0x00;
+    let mut de = Deserializer::new(alloc, SliceRead::new(alloc, &bytes));
+    refused(
+        &rt,
+        alloc,
+        Value::deserialize(&mut de),
+        "recursion limit exceeded at offset 128",
+    )?;
+    let value = Value::deserialize(&mut de)?;
+    de.end()?;
+    let mut deep = [0x81; 128];
+    deep[127] = 0x00;
+    assert!(rt; value == from_slice::<Value>(alloc, &deep)?);
+    Ok(())
+}
