@@ -1,26 +1,21 @@
-use super::refused;
+use super::{Done, is_read, is_refused, refused};
 use crate::de::{Deserialize, SliceRead};
 use crate::{Deserializer, Error, Result as Read, from_reader, from_slice};
-use std::alloc::Global;
-use std::process::Abort;
 use std::test::Fail;
 
 #[test]
-fn reads_vectors(rt: HostRuntime) -> Result<(), Fail> {
+fn reads_vectors(rt: HostRuntime) -> Done {
     let alloc = rt.alloc();
-    let items: Vec<u8> = from_slice(alloc, b"\x83\x01\x02\x03")?;
-    assert_eq!(rt; items.as_slice(), [1, 2, 3].as_slice());
-    let items: Vec<u8> = from_slice(alloc, b"\x9f\x01\x02\xff")?;
-    assert_eq!(rt; items.as_slice(), [1, 2].as_slice());
-    let items: Vec<u8> = from_slice(alloc, b"\xc1\x80")?;
-    assert!(rt; items.is_empty());
+    is_read(&rt, alloc, b"\x83\x01\x02\x03", vec![in alloc; 1u8, 2, 3]?)?;
+    is_read(&rt, alloc, b"\x9f\x01\x02\xff", vec![in alloc; 1u8, 2]?)?;
+    is_read(&rt, alloc, b"\xc1\x80", Vec::<u8>::new(alloc))?;
     let items: Vec<u8> = from_reader(alloc, b"\x9f\x01\xff".as_slice())?;
     assert_eq!(rt; items.as_slice(), [1].as_slice());
     Ok(())
 }
 
 #[test]
-fn reads_vectors_of_vectors(rt: HostRuntime) -> Result<(), Fail> {
+fn reads_vectors_of_vectors(rt: HostRuntime) -> Done {
     let alloc = rt.alloc();
     let rows: Vec<Vec<u8>> = from_slice(alloc, b"\x82\x9f\x01\xff\x81\x02")?;
     assert_eq!(rt; rows.len(), 2);
@@ -30,7 +25,7 @@ fn reads_vectors_of_vectors(rt: HostRuntime) -> Result<(), Fail> {
 }
 
 #[test]
-fn refuses_vectors(rt: HostRuntime) -> Result<(), Fail> {
+fn refuses_vectors(rt: HostRuntime) -> Done {
     let alloc = rt.alloc();
     for (bytes, want) in [
         (&b"\x9f\x01"[..], "EOF while parsing an array at offset 2"),
@@ -38,51 +33,45 @@ fn refuses_vectors(rt: HostRuntime) -> Result<(), Fail> {
         (b"\x82\x01\xff", "unexpected code at offset 3"),
         (b"\xa0", "invalid type: expected an array"),
     ] {
-        refused(&rt, alloc, from_slice::<Vec<u8>>(alloc, bytes), want)?;
+        is_refused::<Vec<u8>>(&rt, alloc, bytes, want)?;
     }
     Ok(())
 }
 
 #[test]
-fn reads_arrays_of_a_length(rt: HostRuntime) -> Result<(), Fail> {
+fn reads_arrays_of_a_length(rt: HostRuntime) -> Done {
     let alloc = rt.alloc();
-    let pair: [u64; 2] = from_slice(alloc, b"\x82\x02\x03")?;
-    assert_eq!(rt; pair.as_slice(), [2, 3].as_slice());
+    is_read(&rt, alloc, b"\x82\x02\x03", [2u64, 3])?;
     for (bytes, want) in [
         (&b"\x81\x02"[..], "invalid length 1, expected 2"),
         (b"\x83\x02\x03\x04", "trailing data at offset 3"),
         (b"\x9f\x02\x03\x04\xff", "trailing data at offset 4"),
         (b"\x9f\x02\x03", "EOF while parsing an array at offset 3"),
     ] {
-        refused(&rt, alloc, from_slice::<[u64; 2]>(alloc, bytes), want)?;
+        is_refused::<[u64; 2]>(&rt, alloc, bytes, want)?;
     }
     Ok(())
 }
 
 #[test]
-fn reads_tuples(rt: HostRuntime) -> Result<(), Fail> {
+fn reads_tuples(rt: HostRuntime) -> Done {
     let alloc = rt.alloc();
-    let (a,): (u8,) = from_slice(alloc, b"\x81\x01")?;
-    assert_eq!(rt; a, 1);
-    let (a, b): (u8, bool) = from_slice(alloc, b"\x9f\x01\xf5\xff")?;
-    assert_eq!(rt; a, 1);
-    assert!(rt; b);
-    let (a, b, c): (u8, i8, u16) = from_slice(alloc, b"\x83\x01\x20\x03")?;
-    assert_eq!(rt; (a, b, c), (1, -1, 3));
-    let (a, b, c, d): (u8, i8, u16, u8) = from_slice(alloc, b"\x84\x01\x20\x03\x04")?;
-    assert_eq!(rt; (a, b, c, d), (1, -1, 3, 4));
+    is_read(&rt, alloc, b"\x81\x01", (1u8,))?;
+    is_read(&rt, alloc, b"\x9f\x01\xf5\xff", (1u8, true))?;
+    is_read(&rt, alloc, b"\x83\x01\x20\x03", (1u8, -1i8, 3u16))?;
+    is_read(&rt, alloc, b"\x84\x01\x20\x03\x04", (1u8, -1i8, 3u16, 4u8))?;
     for (bytes, want) in [
         (&b"\x81\x01"[..], "invalid length 1, expected 2"),
         (b"\x83\x01\x02\x03", "trailing data at offset 3"),
         (b"\x01", "invalid type: expected an array"),
     ] {
-        refused(&rt, alloc, from_slice::<(u8, u8)>(alloc, bytes), want)?;
+        is_refused::<(u8, u8)>(&rt, alloc, bytes, want)?;
     }
     Ok(())
 }
 
 #[test]
-fn reads_item_by_item(rt: HostRuntime) -> Result<(), Fail> {
+fn reads_item_by_item(rt: HostRuntime) -> Done {
     let alloc = rt.alloc();
     let mut de = Deserializer::new(alloc, SliceRead::new(alloc, b"\x82\x01\xf5"));
     let mut items = de.array()?;
@@ -96,7 +85,7 @@ fn reads_item_by_item(rt: HostRuntime) -> Result<(), Fail> {
 }
 
 #[test]
-fn leaves_the_levels_of_arrays(rt: HostRuntime) -> Result<(), Fail> {
+fn leaves_the_levels_of_arrays(rt: HostRuntime) -> Done {
     let alloc = rt.alloc();
     let bytes = b"\x81\x01\x82\x01\xf4\x82\x01\x81\x03";
     let mut de = Deserializer::new(alloc, SliceRead::new(alloc, bytes));

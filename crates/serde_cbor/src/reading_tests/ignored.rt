@@ -1,9 +1,10 @@
+use super::{Done, is_refused, refused};
 use crate::de::{Deserialize, IgnoredAny, SliceRead};
 use crate::{Deserializer, from_mut_slice, from_slice, from_slice_with_scratch};
 use std::test::Fail;
 
 #[test]
-fn passes_over_any_item(rt: HostRuntime) -> Result<(), Fail> {
+fn passes_over_any_item(rt: HostRuntime) -> Done {
     let alloc = rt.alloc();
     for bytes in [
         &b"\x00"[..],
@@ -22,26 +23,16 @@ fn passes_over_any_item(rt: HostRuntime) -> Result<(), Fail> {
 }
 
 #[test]
-fn stops_at_the_128th_level(rt: HostRuntime) -> Result<(), Fail> {
+fn stops_at_the_128th_level(rt: HostRuntime) -> Done {
     let alloc = rt.alloc();
     let mut deep = [0x81; 129];
     deep[128] = 0x00;
     from_slice::<IgnoredAny>(alloc, &deep[1..])?;
-    let e = from_slice::<IgnoredAny>(alloc, &deep)
-        .err()
-        .ok_or("passed")?;
-    if e.is_memory() {
-        return Err(Fail::from(e));
-    }
-    assert_eq!(rt;
-        e.to_string(alloc)?.as_str(),
-        "recursion limit exceeded at offset 128"
-    );
-    Ok(())
+    is_refused::<IgnoredAny>(&rt, alloc, &deep, "recursion limit exceeded at offset 128")
 }
 
 #[test]
-fn tells_the_fault_of_what_is_passed_over(rt: HostRuntime) -> Result<(), Fail> {
+fn tells_the_fault_of_what_is_passed_over(rt: HostRuntime) -> Done {
     let alloc = rt.alloc();
     for (bytes, want) in [
         (&b"\x62\xc3\x28"[..], "invalid UTF-8 at offset 1"),
@@ -49,30 +40,17 @@ fn tells_the_fault_of_what_is_passed_over(rt: HostRuntime) -> Result<(), Fail> {
         (b"\xbf\x61a\xff", "unexpected code at offset 4"),
         (b"\x9f\x01", "EOF while parsing an array at offset 2"),
     ] {
-        let e = from_slice::<IgnoredAny>(alloc, bytes)
-            .err()
-            .ok_or("passed")?;
-        if e.is_memory() {
-            return Err(Fail::from(e));
-        }
-        assert_eq!(rt; e.to_string(alloc)?.as_str(), want);
+        is_refused::<IgnoredAny>(&rt, alloc, bytes, want)?;
     }
     let source = SliceRead::new(alloc, b"\x81\xa1\x01\xa1\x60\x01");
     let mut de = Deserializer::new(alloc, source).disable_named_format();
-    let e = IgnoredAny::deserialize(&mut de).err().ok_or("passed")?;
-    if e.is_memory() {
-        return Err(Fail::from(e));
-    }
-    assert_eq!(rt;
-        e.to_string(alloc)?.as_str(),
-        "wrong struct format at offset 4"
-    );
-    Ok(())
+    let read = IgnoredAny::deserialize(&mut de);
+    refused(&rt, alloc, read, "wrong struct format at offset 4")
 }
 
 // Where no chunks are joined no memory is taken, so that no growth can be refused here.
 #[test]
-fn takes_no_memory_to_pass_over(rt: HostRuntime) -> Result<(), Fail> {
+fn takes_no_memory_to_pass_over(rt: HostRuntime) -> Done {
     let alloc = rt.alloc();
     let bytes = b"\xa2\x63abc\x43\xff\xfe\xfd\x82\x01\xc1\x62\xc3\xa9\xf6";
     assert!(rt; from_slice::<IgnoredAny>(alloc, bytes).is_ok());

@@ -1,13 +1,11 @@
-use super::refused;
+use super::{Done, is_refused, refused};
 use crate::de::{Deserialize, SliceRead};
 use crate::{Deserializer, Error, Result as Read, from_reader, from_slice};
-use std::alloc::Global;
 use std::collections::BTreeMap;
-use std::process::Abort;
 use std::test::Fail;
 
 #[test]
-fn reads_maps(rt: HostRuntime) -> Result<(), Fail> {
+fn reads_maps(rt: HostRuntime) -> Done {
     let alloc = rt.alloc();
     let map: BTreeMap<u8, u8> = from_slice(alloc, b"\xa2\x03\x04\x01\x02")?;
     assert_eq!(rt; map.len(), 2);
@@ -24,7 +22,7 @@ fn reads_maps(rt: HostRuntime) -> Result<(), Fail> {
 }
 
 #[test]
-fn keeps_the_last_of_equal_keys(rt: HostRuntime) -> Result<(), Fail> {
+fn keeps_the_last_of_equal_keys(rt: HostRuntime) -> Done {
     let alloc = rt.alloc();
     let map: BTreeMap<u8, u8> = from_slice(alloc, b"\xa2\x01\x02\x18\x01\x03")?;
     assert_eq!(rt; map.len(), 1);
@@ -33,7 +31,7 @@ fn keeps_the_last_of_equal_keys(rt: HostRuntime) -> Result<(), Fail> {
 }
 
 #[test]
-fn refuses_maps(rt: HostRuntime) -> Result<(), Fail> {
+fn refuses_maps(rt: HostRuntime) -> Done {
     let alloc = rt.alloc();
     for (bytes, want) in [
         (&b"\xbf\x01\xff"[..], "unexpected code at offset 3"),
@@ -44,18 +42,13 @@ fn refuses_maps(rt: HostRuntime) -> Result<(), Fail> {
         (b"\xa1\xf5\x01", "invalid type: expected an integer"),
         (b"\xa1\x01\xf5", "invalid type: expected an integer"),
     ] {
-        refused(
-            &rt,
-            alloc,
-            from_slice::<BTreeMap<u8, u8>>(alloc, bytes),
-            want,
-        )?;
+        is_refused::<BTreeMap<u8, u8>>(&rt, alloc, bytes, want)?;
     }
     Ok(())
 }
 
 #[test]
-fn refuses_keys_of_other_formats(rt: HostRuntime) -> Result<(), Fail> {
+fn refuses_keys_of_other_formats(rt: HostRuntime) -> Done {
     let alloc = rt.alloc();
     let source = SliceRead::new(alloc, b"\xa1\x61\x61\x01");
     let mut de = Deserializer::new(alloc, source).disable_named_format();
@@ -70,7 +63,7 @@ fn refuses_keys_of_other_formats(rt: HostRuntime) -> Result<(), Fail> {
 }
 
 #[test]
-fn reads_pair_by_pair(rt: HostRuntime) -> Result<(), Fail> {
+fn reads_pair_by_pair(rt: HostRuntime) -> Done {
     let alloc = rt.alloc();
     let mut de = Deserializer::new(alloc, SliceRead::new(alloc, b"\xa2\x01\xf5\x61\x61\x02"));
     let mut pairs = de.map()?;
@@ -86,7 +79,7 @@ fn reads_pair_by_pair(rt: HostRuntime) -> Result<(), Fail> {
 }
 
 #[test]
-fn refuses_pairs_that_are_left(rt: HostRuntime) -> Result<(), Fail> {
+fn refuses_pairs_that_are_left(rt: HostRuntime) -> Done {
     let alloc = rt.alloc();
     for (bytes, want) in [
         (&b"\xa1\x01\x02"[..], "trailing data at offset 1"),
@@ -102,7 +95,7 @@ fn refuses_pairs_that_are_left(rt: HostRuntime) -> Result<(), Fail> {
 }
 
 #[test]
-fn leaves_the_levels_of_maps(rt: HostRuntime) -> Result<(), Fail> {
+fn leaves_the_levels_of_maps(rt: HostRuntime) -> Done {
     let alloc = rt.alloc();
     let bytes = b"\xa1\x01\x02\xa1\x01\xf5\xa1\x01\x02";
     let mut de = Deserializer::new(alloc, SliceRead::new(alloc, bytes));

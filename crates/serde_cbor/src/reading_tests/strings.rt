@@ -1,11 +1,9 @@
-use super::refused;
+use super::{Done, is_read, is_refused, refused};
 use crate::de::{Deserialize, EitherLifetime, EitherStr};
 use crate::{Deserializer, from_mut_slice, from_reader, from_slice, from_slice_with_scratch};
 use std::alloc::Global;
 use std::process::Abort;
 use std::test::Fail;
-
-type Done = Result<(), Fail>;
 
 /// A string, read from each of the four sources.
 fn all_read(rt: &impl Abort, alloc: Global, bytes: &[u8], want: &str) -> Done {
@@ -117,21 +115,22 @@ fn refuses_chunks_longer_than_the_scratch(rt: HostRuntime) -> Done {
 #[test]
 fn reads_what_may_be_absent(rt: HostRuntime) -> Done {
     let alloc = rt.alloc();
-    assert_eq!(rt; from_slice::<Option<u8>>(alloc, b"\x18\x2a")?, Some(42));
-    assert_eq!(rt; from_slice::<Option<u8>>(alloc, b"\xf6")?, None);
-    assert_eq!(rt;
-        from_reader::<Option<u8>, _>(alloc, b"\xf6".as_slice())?,
-        None
-    );
-    assert_eq!(rt; from_mut_slice::<Option<u8>>(alloc, &mut [0xf6])?, None);
-    assert_eq!(rt;
-        from_slice_with_scratch::<Option<u8>>(alloc, b"\xf6", &mut [])?,
-        None
-    );
-    assert!(rt; from_slice::<Option<()>>(alloc, b"\xf7")?.is_some());
-    assert!(rt; from_slice::<Option<()>>(alloc, b"\xf6")?.is_none());
-    let text: Option<String> = from_slice(alloc, b"\x61a")?;
-    assert_eq!(rt; text.ok_or("none")?.as_str(), "a");
+    is_read(&rt, alloc, b"\x18\x2a", Some(42u8))?;
+    is_read(&rt, alloc, b"\xf6", None::<u8>)?;
+    is_read(&rt, alloc, b"\xf7", Some(()))?;
+    is_read(&rt, alloc, b"\xf6", None::<()>)?;
+    is_read(&rt, alloc, b"\x61a", Some("a"))
+}
+
+#[test]
+fn reads_null_as_none_from_each_source(rt: HostRuntime) -> Done {
+    let alloc = rt.alloc();
+    let read: Option<u8> = from_reader(alloc, b"\xf6".as_slice())?;
+    assert_eq!(rt; read, None);
+    let read: Option<u8> = from_mut_slice(alloc, &mut [0xf6])?;
+    assert_eq!(rt; read, None);
+    let read: Option<u8> = from_slice_with_scratch(alloc, b"\xf6", &mut [])?;
+    assert_eq!(rt; read, None);
     Ok(())
 }
 
@@ -139,28 +138,16 @@ fn reads_what_may_be_absent(rt: HostRuntime) -> Done {
 fn takes_null_alone_as_none(rt: HostRuntime) -> Done {
     let alloc = rt.alloc();
     let want = "invalid type: expected an integer";
-    refused(&rt, alloc, from_slice::<Option<u8>>(alloc, b"\xf7"), want)?;
-    refused(
-        &rt,
-        alloc,
-        from_slice::<Option<u8>>(alloc, b"\xc1\xf6"),
-        want,
-    )?;
-    refused(
-        &rt,
-        alloc,
-        from_slice::<Option<u8>>(alloc, b""),
-        "EOF while parsing a value",
-    )
+    is_refused::<Option<u8>>(&rt, alloc, b"\xf7", want)?;
+    is_refused::<Option<u8>>(&rt, alloc, b"\xc1\xf6", want)?;
+    is_refused::<Option<u8>>(&rt, alloc, b"", "EOF while parsing a value")
 }
 
 #[test]
 fn lends_texts(rt: HostRuntime) -> Done {
     let alloc = rt.alloc();
-    let lent: &str = from_slice(alloc, b"\x62ab")?;
-    assert_eq!(rt; lent, "ab");
-    let lent: &str = from_slice(alloc, b"\xc1\x42\xc3\xa9")?;
-    assert_eq!(rt; lent, "é");
+    is_read(&rt, alloc, b"\x62ab", "ab")?;
+    is_read(&rt, alloc, b"\xc1\x42\xc3\xa9", "é")?;
     let lent: &str = from_slice_with_scratch(alloc, b"\x62ab", &mut [])?;
     assert_eq!(rt; lent, "ab");
     let mut input = *b"\x7f\x61a\x61b\xff";
@@ -184,30 +171,25 @@ fn lends_no_joined_text(rt: HostRuntime) -> Done {
 fn refuses_to_lend_what_is_no_text(rt: HostRuntime) -> Done {
     let alloc = rt.alloc();
     let other = "invalid type: expected a string";
-    refused(
+    is_refused::<&str>(&rt, alloc, b"\x42\xc3\x28", other)?;
+    is_refused::<&str>(&rt, alloc, b"\x00", other)?;
+    is_refused::<&str>(&rt, alloc, b"\x62\xc3\x28", "invalid UTF-8 at offset 1")?;
+    is_refused::<&str>(
         &rt,
         alloc,
-        from_slice::<&str>(alloc, b"\x42\xc3\x28"),
-        other,
+        b"\x62a",
+        "EOF while parsing a value at offset 2",
     )?;
-    refused(&rt, alloc, from_slice::<&str>(alloc, b"\x00"), other)?;
-    let bad = "invalid UTF-8 at offset 1";
-    refused(&rt, alloc, from_slice::<&str>(alloc, b"\x62\xc3\x28"), bad)?;
-    let ended = "EOF while parsing a value at offset 2";
-    refused(&rt, alloc, from_slice::<&str>(alloc, b"\x62a"), ended)?;
-    let out = from_slice::<&str>(alloc, b"\x7b\xff\xff\xff\xff\xff\xff\xff\xff");
-    refused(&rt, alloc, out, "length out of range at offset 9")?;
-    let read = from_slice::<&str>(alloc, b"\xff");
-    refused(&rt, alloc, read, "unexpected code at offset 1")
+    let out = b"\x7b\xff\xff\xff\xff\xff\xff\xff\xff";
+    is_refused::<&str>(&rt, alloc, out, "length out of range at offset 9")?;
+    is_refused::<&str>(&rt, alloc, b"\xff", "unexpected code at offset 1")
 }
 
 #[test]
 fn lends_bytes(rt: HostRuntime) -> Done {
     let alloc = rt.alloc();
-    let lent: &[u8] = from_slice(alloc, b"\x42\xc3\x28")?;
-    assert_eq!(rt; lent, b"\xc3\x28".as_slice());
-    let lent: &[u8] = from_slice(alloc, b"\x62ab")?;
-    assert_eq!(rt; lent, b"ab".as_slice());
+    is_read(&rt, alloc, b"\x42\xc3\x28", b"\xc3\x28".as_slice())?;
+    is_read(&rt, alloc, b"\x62ab", b"ab".as_slice())?;
     let mut input = *b"\x5f\x41\xc3\x41\x28\xff";
     let lent: &[u8] = from_mut_slice(alloc, &mut input)?;
     assert_eq!(rt; lent, b"\xc3\x28".as_slice());
@@ -219,11 +201,9 @@ fn refuses_to_lend_other_bytes(rt: HostRuntime) -> Done {
     let alloc = rt.alloc();
     let input = b"\x5f\x41a\x41b\xff";
     let want = "invalid type: expected borrowed bytes";
-    refused(&rt, alloc, from_slice::<&[u8]>(alloc, input), want)?;
-    let other = "invalid type: expected bytes";
-    refused(&rt, alloc, from_slice::<&[u8]>(alloc, b"\xf6"), other)?;
-    let bad = "invalid UTF-8 at offset 1";
-    refused(&rt, alloc, from_slice::<&[u8]>(alloc, b"\x62\xc3\x28"), bad)
+    is_refused::<&[u8]>(&rt, alloc, input, want)?;
+    is_refused::<&[u8]>(&rt, alloc, b"\xf6", "invalid type: expected bytes")?;
+    is_refused::<&[u8]>(&rt, alloc, b"\x62\xc3\x28", "invalid UTF-8 at offset 1")
 }
 
 #[test]
@@ -247,12 +227,9 @@ fn lends_from_a_reader_until_its_next_call(rt: HostRuntime) -> Done {
 #[test]
 fn reads_characters(rt: HostRuntime) -> Done {
     let alloc = rt.alloc();
-    assert_eq!(rt; from_slice::<char>(alloc, b"\x41a")?, 'a');
-    assert_eq!(rt; from_slice::<char>(alloc, b"\x61\x00")?, '\0');
-    assert_eq!(rt;
-        from_slice::<char>(alloc, b"\xc1\x64\xf0\x9f\x98\x80")?,
-        '😀'
-    );
+    is_read(&rt, alloc, b"\x41a", 'a')?;
+    is_read(&rt, alloc, b"\x61\x00", '\0')?;
+    is_read(&rt, alloc, b"\xc1\x64\xf0\x9f\x98\x80", '😀')?;
     let mut scratch = [0; 2];
     let read: char = from_slice_with_scratch(alloc, b"\x7f\x61\xc3\x61\xa9\xff", &mut scratch)?;
     assert_eq!(rt; read, 'é');
@@ -271,17 +248,7 @@ fn refuses_what_is_no_character(rt: HostRuntime) -> Done {
         b"\x05",
         b"\x80",
     ] {
-        refused(
-            &rt,
-            alloc,
-            from_slice::<char>(alloc, bytes),
-            "invalid type: expected a character",
-        )?;
+        is_refused::<char>(&rt, alloc, bytes, "invalid type: expected a character")?;
     }
-    refused(
-        &rt,
-        alloc,
-        from_slice::<char>(alloc, b"\x61\xc3"),
-        "invalid UTF-8 at offset 1",
-    )
+    is_refused::<char>(&rt, alloc, b"\x61\xc3", "invalid UTF-8 at offset 1")
 }

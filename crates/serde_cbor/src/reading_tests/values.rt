@@ -1,12 +1,10 @@
-use super::refused;
+use super::{Done, is_read, is_refused, refused};
 use crate::de::{Deserialize, SliceRead};
-use crate::{Deserializer, Result as Read, Value, from_mut_slice, from_reader, from_slice};
-use std::alloc::Global;
-use std::process::Abort;
+use crate::{Deserializer, Value, from_mut_slice, from_reader, from_slice};
 use std::test::Fail;
 
 #[test]
-fn reads_values(rt: HostRuntime) -> Result<(), Fail> {
+fn reads_values(rt: HostRuntime) -> Done {
     let alloc = rt.alloc();
     let bytes = b"\x82\x18\x17\xf7";
     let want = Value::Array(vec![in alloc; Value::Integer(23), Value::Null]?);
@@ -18,15 +16,14 @@ fn reads_values(rt: HostRuntime) -> Result<(), Fail> {
 }
 
 #[test]
-fn keeps_tags(rt: HostRuntime) -> Result<(), Fail> {
+fn keeps_tags(rt: HostRuntime) -> Done {
     let alloc = rt.alloc();
     let want = Value::Tag(1, Box::new(alloc, Value::Integer(5))?);
-    assert!(rt; from_slice::<Value>(alloc, b"\xc1\x05")? == want);
-    Ok(())
+    is_read(&rt, alloc, b"\xc1\x05", want)
 }
 
 #[test]
-fn tells_the_fault(rt: HostRuntime) -> Result<(), Fail> {
+fn tells_the_fault(rt: HostRuntime) -> Done {
     let alloc = rt.alloc();
     for (bytes, want) in [
         (&b"\xf4\xf4"[..], "trailing data at offset 2"),
@@ -34,13 +31,13 @@ fn tells_the_fault(rt: HostRuntime) -> Result<(), Fail> {
         (b"\x62\xc3\x28", "invalid UTF-8 at offset 1"),
         (b"\x9f\x01", "EOF while parsing an array at offset 2"),
     ] {
-        refused(&rt, alloc, from_slice::<Value>(alloc, bytes), want)?;
+        is_refused::<Value>(&rt, alloc, bytes, want)?;
     }
     Ok(())
 }
 
 #[test]
-fn refuses_names_as_keys(rt: HostRuntime) -> Result<(), Fail> {
+fn refuses_names_as_keys(rt: HostRuntime) -> Done {
     let alloc = rt.alloc();
     for (bytes, want) in [
         (&b"\xa1\x61a\x01"[..], "wrong struct format at offset 1"),
@@ -63,7 +60,7 @@ fn refuses_names_as_keys(rt: HostRuntime) -> Result<(), Fail> {
 }
 
 #[test]
-fn refuses_numbers_as_keys(rt: HostRuntime) -> Result<(), Fail> {
+fn refuses_numbers_as_keys(rt: HostRuntime) -> Done {
     let alloc = rt.alloc();
     let source = SliceRead::new(alloc, b"\xa1\x18\x01\x01");
     let mut de = Deserializer::new(alloc, source).disable_packed_format();
@@ -81,7 +78,7 @@ fn refuses_numbers_as_keys(rt: HostRuntime) -> Result<(), Fail> {
 }
 
 #[test]
-fn goes_on_behind_a_refusal(rt: HostRuntime) -> Result<(), Fail> {
+fn goes_on_behind_a_refusal(rt: HostRuntime) -> Done {
     let alloc = rt.alloc();
     let mut bytes = [0x81; 256];
     bytes[255] = 0x00;
