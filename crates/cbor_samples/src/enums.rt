@@ -368,3 +368,46 @@ impl<'de, R: Read<'de>> Deserialize<'de, R> for TwoVariants {
 impl DeserializeOwned for TwoVariants {
     ghost same = { λ f a b r v h. h };
 }
+
+/// An enum of one variant, which is written in small letters.
+#[derive(Debug, PartialEq, Drop)]
+pub enum Wish {
+    Require,
+}
+
+impl Serialize for Wish {
+    ghost use Rattle.std.specs.Prelude.{codes};
+    ghost use Rattle.serde_cbor.specs.Document.{unit_variant};
+
+    ghost document = { λ w. unit_variant 0 (codes "require") };
+
+    fn serialize<W: Write>(&self, ser: &mut Serializer<W>) -> Result<()> {
+        ser.serialize_unit_variant("Wish", 0, "require")
+    }
+}
+
+/// The name of its variant.
+const WISH: &[&str] = &["require"];
+
+impl Readable for Wish {
+    ghost use Rattle.std.specs.Prelude.{[], ◌∷◌, map};
+    ghost use Rattle.serde_cbor.specs.Readable.{PassesTags};
+    ghost use Rattle.serde_cbor.specs.Enums.{IsEnum, variants, unit};
+    ghost use Rattle.cbor_samples.specs.declared.enums.TheConstants.{WISH};
+    ghost use Rattle.cbor_samples.specs.declared.enums.Wish.TheVariants as wish;
+
+    ghost reads = { λ c. PassesTags (IsEnum c.formats (map (λ n. n.now) WISH.now) (variants
+        (unit wish.Require ∷ []))) };
+}
+
+impl<'de, R: Read<'de>> Deserialize<'de, R> for Wish {
+    fn deserialize(de: &mut Deserializer<R>) -> Result<Wish> {
+        let access = de.variant(WISH)?;
+        access.unit()?;
+        Ok(Wish::Require)
+    }
+}
+
+impl DeserializeOwned for Wish {
+    ghost same = { λ f a b r v h. h };
+}

@@ -6,12 +6,16 @@ pub mod counter;
 mod enum_tests;
 pub mod enums;
 #[cfg(test)]
+mod list_tests;
+#[cfg(test)]
 mod reading_tests;
 #[cfg(test)]
-mod refusals;
+mod rows;
 #[cfg(test)]
 mod struct_tests;
 pub mod structs;
 pub mod tree;
+#[cfg(test)]
+mod tree_tests;
 #[cfg(test)]
 mod writing_tests;

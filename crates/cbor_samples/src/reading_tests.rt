@@ -1,19 +1,14 @@
 //! What was written of the samples is read again, and other spellings of them.
 
 use crate::enums::{Bar, Color, DataEnum, TwoVariants};
-use crate::refusals::refused;
+use crate::rows::{Done, is_named, is_packed, is_read, is_refused, refuses};
 use crate::structs::{Example, Foo, Mascot, NewtypeStruct, Person, SmallStruct, User};
 use serde_cbor::de::{Deserialize, SliceRead};
-use serde_cbor::ser::{IoWrite, Serialize, Serializer, to_vec_packed};
-use serde_cbor::{
-    Deserializer, from_mut_slice, from_reader, from_slice, from_slice_with_scratch, to_vec,
-};
+use serde_cbor::ser::Serialize;
+use serde_cbor::{Deserializer, from_reader, from_slice, from_slice_with_scratch, to_vec};
 use std::alloc::Global;
 use std::fmt::Debug;
 use std::process::Abort;
-use std::test::Fail;
-
-type Done = Result<(), Fail>;
 
 /// The value is read from its bytes, named and packed.
 fn comes_back<'a, T: Serialize + Deserialize<'a, SliceRead<'a>> + PartialEq + Debug>(
@@ -23,25 +18,10 @@ fn comes_back<'a, T: Serialize + Deserialize<'a, SliceRead<'a>> + PartialEq + De
     named: &'a [u8],
     packed: &'a [u8],
 ) -> Done {
-    assert_eq!(rt; to_vec(alloc, value)?.as_slice(), named);
-    assert_eq!(rt; to_vec_packed(alloc, value)?.as_slice(), packed);
-    let read: T = from_slice(alloc, named)?;
-    assert_eq!(rt; read, *value);
-    let read: T = from_slice(alloc, packed)?;
-    assert_eq!(rt; read, *value);
-    Ok(())
-}
-
-/// The value is read from these bytes.
-fn is_read<'a, T: Deserialize<'a, SliceRead<'a>> + PartialEq + Debug>(
-    rt: &impl Abort,
-    alloc: Global,
-    bytes: &'a [u8],
-    want: &T,
-) -> Done {
-    let read: T = from_slice(alloc, bytes)?;
-    assert_eq!(rt; read, *want);
-    Ok(())
+    is_named(rt, alloc, value, named)?;
+    is_packed(rt, alloc, value, packed)?;
+    is_read(rt, alloc, named, value)?;
+    is_read(rt, alloc, packed, value)
 }
 
 #[test]
@@ -102,27 +82,33 @@ fn a_person_comes_back(rt: HostRuntime) -> Done {
     is_read(&rt, alloc, b"\xbf\x02\xf6\x01\x00\x00\x60\xff", &nobody)
 }
 
-#[test]
-fn structs_within_structs_come_back_by_an_empty_scratch(rt: HostRuntime) -> Done {
-    let alloc = rt.alloc();
-    let example = Example {
+fn example() -> Example {
+    Example {
         foo: Foo {
             x: 0xaa,
             color: Color::Yellow(40),
         },
         payload: 0xcc,
-    };
+    }
+}
+
+#[test]
+fn structs_within_structs_come_back_by_an_empty_scratch(rt: HostRuntime) -> Done {
+    let alloc = rt.alloc();
     let bytes = b"\xa2\x00\xa2\x00\x18\xaa\x01\xa1\x66Yellow\x18\x28\x01\x18\xcc";
-    assert_eq!(rt;
-        to_vec_packed(alloc, &example)?.as_slice(),
-        bytes.as_slice()
-    );
+    is_packed(&rt, alloc, &example(), bytes)?;
+    is_read(&rt, alloc, bytes, &example())?;
     let read: Example = from_slice_with_scratch(alloc, bytes, &mut [])?;
-    assert_eq!(rt; read, example);
-    is_read(&rt, alloc, bytes, &example)?;
-    let bytes = to_vec(alloc, &example)?;
+    assert_eq!(rt; read, example());
+    Ok(())
+}
+
+#[test]
+fn structs_within_structs_come_back_from_a_reader(rt: HostRuntime) -> Done {
+    let alloc = rt.alloc();
+    let bytes = to_vec(alloc, &example())?;
     let read: Example = from_reader(alloc, bytes.as_slice())?;
-    assert_eq!(rt; read, example);
+    assert_eq!(rt; read, example());
     Ok(())
 }
 
@@ -140,7 +126,12 @@ fn enums_come_back(rt: HostRuntime) -> Done {
     let point = Bar::Point { x: 5, y: -5 };
     is_read(&rt, alloc, b"\xa1\x03\xa2\x00\x05\x01\x24", &point)?;
     is_read(&rt, alloc, b"\x82\x03\xa2\x00\x05\x01\x24", &point)?;
-    is_read(&rt, alloc, b"\xc1\x65Empty", &Bar::Empty)?;
+    is_read(&rt, alloc, b"\xc1\x65Empty", &Bar::Empty)
+}
+
+#[test]
+fn enums_come_back_in_each_form(rt: HostRuntime) -> Done {
+    let alloc = rt.alloc();
     is_read(&rt, alloc, b"\x82\x61A\x18\x2a", &DataEnum::A(42))?;
     is_read(&rt, alloc, b"\xa1\x61A\x18\x2a", &DataEnum::A(42))?;
     is_read(&rt, alloc, b"\x83\x61B\xf5\x09", &DataEnum::B(true, 9))?;
@@ -171,21 +162,17 @@ fn refuses_samples(rt: HostRuntime) -> Done {
             "integer out of range: expected u8",
         ),
     ] {
-        refused(&rt, alloc, from_slice::<Foo>(alloc, bytes), want)?;
+        is_refused(&rt, from_slice::<Foo>(alloc, bytes), want)?;
     }
+    Ok(())
+}
+
+#[test]
+fn refuses_samples_of_other_formats(rt: HostRuntime) -> Done {
+    let alloc = rt.alloc();
     let bytes = b"\xa2\x61x\x18\xaa\x65color\xa1\x66Yellow\x18\x28";
-    let mut de = Deserializer::from_slice(alloc, bytes).disable_standard_enums();
-    refused(
-        &rt,
-        alloc,
-        Foo::deserialize(&mut de),
-        "wrong enum format at offset 11",
-    )?;
-    let mut de = Deserializer::from_slice(alloc, bytes).disable_named_format();
-    refused(
-        &rt,
-        alloc,
-        Foo::deserialize(&mut de),
-        "wrong struct format at offset 1",
-    )
+    let de = Deserializer::from_slice(alloc, bytes).disable_standard_enums();
+    refuses::<Foo>(&rt, de, "wrong enum format at offset 11")?;
+    let de = Deserializer::from_slice(alloc, bytes).disable_named_format();
+    refuses::<Foo>(&rt, de, "wrong struct format at offset 1")
 }

@@ -1,13 +1,13 @@
 //! Structs, read field by field.
 
-use crate::refusals::refused;
+use crate::rows::{Done, ends, gives, has_all_levels, is_read, is_refused, refuses};
 use crate::structs::User;
-use serde_cbor::de::{Deserialize, Field, SliceRead};
+use serde_cbor::de::{Field, SliceRead};
 use serde_cbor::{
-    Deserializer, Result as Read, from_mut_slice, from_reader, from_slice, from_slice_with_scratch,
+    Deserializer, Result as Read, from_mut_slice, from_reader, from_slice_with_scratch,
 };
 use std::alloc::Global;
-use std::test::Fail;
+use std::process::Abort;
 
 const NAMED: &[u8] = b"\xa2\x67user_id\x0a\x6dpassword_hash\x84\x01\x02\x03\x04";
 
@@ -22,16 +22,27 @@ const WANT: User = User {
     password_hash: [1, 2, 3, 4],
 };
 
+/// It is read from these bytes, by each source that leaves them as they are.
+fn is_user(rt: &impl Abort, alloc: Global, bytes: &[u8]) -> Done {
+    is_read(rt, alloc, bytes, &WANT)?;
+    assert_eq!(rt;
+        from_slice_with_scratch::<User>(alloc, bytes, &mut [])?,
+        WANT
+    );
+    assert_eq!(rt; from_reader::<User, _>(alloc, bytes)?, WANT);
+    Ok(())
+}
+
+/// No struct is read from these bytes.
+fn is_no_user(rt: &impl Abort, alloc: Global, bytes: &[u8], words: &str) -> Done {
+    refuses::<User>(rt, Deserializer::from_slice(alloc, bytes), words)
+}
+
 #[test]
-fn reads_structs_of_names_and_of_numbers(rt: HostRuntime) -> Result<(), Fail> {
+fn reads_structs_of_names_and_of_numbers(rt: HostRuntime) -> Done {
     let alloc = rt.alloc();
     for bytes in [NAMED, NAMED_OPEN, PACKED, PACKED_OPEN] {
-        let user: User = from_slice(alloc, bytes)?;
-        assert_eq!(rt; user, WANT);
-        let user: User = from_slice_with_scratch(alloc, bytes, &mut [])?;
-        assert_eq!(rt; user, WANT);
-        let user: User = from_reader(alloc, bytes)?;
-        assert_eq!(rt; user, WANT);
+        is_user(&rt, alloc, bytes)?;
     }
     let user: User = from_mut_slice(alloc, &mut [0xa2, 1, 0x84, 1, 2, 3, 4, 0, 10])?;
     assert_eq!(rt; user, WANT);
@@ -39,39 +50,26 @@ fn reads_structs_of_names_and_of_numbers(rt: HostRuntime) -> Result<(), Fail> {
 }
 
 #[test]
-fn reads_structs_of_the_formats_that_are_read(rt: HostRuntime) -> Result<(), Fail> {
+fn reads_structs_of_the_formats_that_are_read(rt: HostRuntime) -> Done {
     let alloc = rt.alloc();
+    let words = "wrong struct format at offset 1";
     for bytes in [NAMED, NAMED_OPEN] {
-        let mut de = Deserializer::from_slice(alloc, bytes).disable_packed_format();
-        assert_eq!(rt; User::deserialize(&mut de)?, WANT);
-        de.end()?;
-        let mut de = Deserializer::from_slice(alloc, bytes).disable_named_format();
-        refused(
-            &rt,
-            alloc,
-            User::deserialize(&mut de),
-            "wrong struct format at offset 1",
-        )?;
-        assert_eq!(rt; de.items.levels, 127);
+        let de = Deserializer::from_slice(alloc, bytes);
+        gives(&rt, de.disable_packed_format(), &WANT)?;
+        let de = Deserializer::from_slice(alloc, bytes);
+        refuses::<User>(&rt, de.disable_named_format(), words)?;
     }
     for bytes in [PACKED, PACKED_OPEN] {
-        let mut de = Deserializer::from_slice(alloc, bytes).disable_named_format();
-        assert_eq!(rt; User::deserialize(&mut de)?, WANT);
-        de.end()?;
-        let mut de = Deserializer::from_slice(alloc, bytes).disable_packed_format();
-        refused(
-            &rt,
-            alloc,
-            User::deserialize(&mut de),
-            "wrong struct format at offset 1",
-        )?;
-        assert_eq!(rt; de.items.levels, 127);
+        let de = Deserializer::from_slice(alloc, bytes);
+        gives(&rt, de.disable_named_format(), &WANT)?;
+        let de = Deserializer::from_slice(alloc, bytes);
+        refuses::<User>(&rt, de.disable_packed_format(), words)?;
     }
     Ok(())
 }
 
 #[test]
-fn refuses_structs(rt: HostRuntime) -> Result<(), Fail> {
+fn refuses_structs(rt: HostRuntime) -> Done {
     let alloc = rt.alloc();
     for (bytes, want) in [
         (&b"\xa1\x00\x0a"[..], "missing field `password_hash`"),
@@ -86,35 +84,38 @@ fn refuses_structs(rt: HostRuntime) -> Result<(), Fail> {
         (b"\xbf\x00\x0a", "EOF while parsing a map at offset 3"),
         (b"\xa1\x02\xff", "unexpected code at offset 3"),
     ] {
-        let mut de = Deserializer::from_slice(alloc, bytes);
-        refused(&rt, alloc, User::deserialize(&mut de), want)?;
-        assert_eq!(rt; de.items.levels, 127);
+        is_no_user(&rt, alloc, bytes, want)?;
     }
     Ok(())
 }
 
 #[test]
-fn passes_over_other_fields(rt: HostRuntime) -> Result<(), Fail> {
+fn refuses_names_that_are_not_utf8(rt: HostRuntime) -> Done {
     let alloc = rt.alloc();
-    let bytes =
-        b"\xbf\xc1\x00\x0a\x61z\x80\x02\xa1\x01\x01\x4dpassword_hash\x9f\x01\x02\x03\x04\xff\xff";
-    let user: User = from_slice(alloc, bytes)?;
-    assert_eq!(rt; user, WANT);
-    let source = SliceRead::new(alloc, b"\xa2\x67user_id\x01\x61z\xa1\x01\x01");
-    let mut de = Deserializer::new(alloc, source).disable_packed_format();
-    refused(
+    is_no_user(
         &rt,
         alloc,
-        User::deserialize(&mut de),
-        "wrong struct format at offset 13",
+        b"\xa1\x62\xc3\x28\x01",
+        "invalid UTF-8 at offset 2",
     )?;
-    Ok(())
+    let chunks = b"\xa1\x7f\x61\x61\x62\xc3\x28\xff\x01";
+    is_no_user(&rt, alloc, chunks, "invalid UTF-8 at offset 6")
 }
 
 #[test]
-fn reads_field_by_field(rt: HostRuntime) -> Result<(), Fail> {
+fn passes_over_other_fields(rt: HostRuntime) -> Done {
     let alloc = rt.alloc();
-    let mut de = Deserializer::from_slice(alloc, b"\xa2\x61b\xf5\x00\x0a");
+    let bytes =
+        b"\xbf\xc1\x00\x0a\x61z\x80\x02\xa1\x01\x01\x4dpassword_hash\x9f\x01\x02\x03\x04\xff\xff";
+    is_read(&rt, alloc, bytes, &WANT)?;
+    let source = SliceRead::new(alloc, b"\xa2\x67user_id\x01\x61z\xa1\x01\x01");
+    let de = Deserializer::new(alloc, source).disable_packed_format();
+    refuses::<User>(&rt, de, "wrong struct format at offset 13")
+}
+
+#[test]
+fn reads_field_by_field(rt: HostRuntime) -> Done {
+    let mut de = Deserializer::from_slice(rt.alloc(), b"\xa2\x61b\xf5\x00\x0a");
     let mut fields = de.structure(&["a", "b"])?;
     assert_eq!(rt; fields.size_hint(), Some(2));
     assert_eq!(rt; fields.next_field()?, Some(Field::Known(1)));
@@ -123,24 +124,32 @@ fn reads_field_by_field(rt: HostRuntime) -> Result<(), Fail> {
     fields.skip()?;
     assert_eq!(rt; fields.next_field()?, None);
     fields.end()?;
-    assert_eq!(rt; de.items.levels, 127);
-    let mut de = Deserializer::from_slice(alloc, b"\xa1\x00\x01");
+    ends(&rt, de)
+}
+
+#[test]
+fn leaves_a_struct_for_an_error(rt: HostRuntime) -> Done {
+    let mut de = Deserializer::from_slice(rt.alloc(), b"\xa1\x00\x01");
     let fields = de.structure(&["a"])?;
     let e = fields.duplicate("a");
-    refused(&rt, alloc, Read::<()>::Err(e), "duplicate field `a`")?;
-    assert_eq!(rt; de.items.levels, 127);
-    let mut de = Deserializer::from_slice(alloc, b"\xa1\x00\x01");
-    let fields = de.structure(&["a"])?;
-    refused(&rt, alloc, fields.end(), "trailing data at offset 1")?;
-    assert_eq!(rt; de.items.levels, 127);
+    is_refused(&rt, Read::<()>::Err(e), "duplicate field `a`")?;
+    has_all_levels(&rt, &de);
     Ok(())
 }
 
 #[test]
-fn passes_over_a_field_by_the_key_rule(rt: HostRuntime) -> Result<(), Fail> {
-    let alloc = rt.alloc();
+fn ends_no_struct_before_its_fields(rt: HostRuntime) -> Done {
+    let mut de = Deserializer::from_slice(rt.alloc(), b"\xa1\x00\x01");
+    let fields = de.structure(&["a"])?;
+    is_refused(&rt, fields.end(), "trailing data at offset 1")?;
+    has_all_levels(&rt, &de);
+    Ok(())
+}
+
+#[test]
+fn passes_over_a_field(rt: HostRuntime) -> Done {
     let bytes = b"\xbf\x61\x61\x01\x61\x7a\x80\x61\x62\x9f\x02\x03\xff\xff";
-    let mut de = Deserializer::from_slice(alloc, bytes);
+    let mut de = Deserializer::from_slice(rt.alloc(), bytes);
     let mut fields = de.structure(&["a", "b"])?;
     assert_eq!(rt; fields.next_field()?, Some(Field::Known(0)));
     assert_eq!(rt; fields.value::<u8>()?, 1);
@@ -150,43 +159,46 @@ fn passes_over_a_field_by_the_key_rule(rt: HostRuntime) -> Result<(), Fail> {
     assert_eq!(rt; fields.value::<[u8; 2]>()?, [2, 3]);
     assert_eq!(rt; fields.next_field()?, None);
     fields.end()?;
-    de.end()?;
+    ends(&rt, de)
+}
+
+#[test]
+fn passes_over_a_field_by_the_key_rule(rt: HostRuntime) -> Done {
     let bytes = b"\xa2\x61\x61\x01\x61\x7a\xa1\x01\x01";
-    let mut de = Deserializer::from_slice(alloc, bytes).disable_packed_format();
+    let mut de = Deserializer::from_slice(rt.alloc(), bytes).disable_packed_format();
     let mut fields = de.structure(&["a", "b"])?;
     assert_eq!(rt; fields.next_field()?, Some(Field::Known(0)));
     assert_eq!(rt; fields.value::<u8>()?, 1);
     assert_eq!(rt; fields.next_field()?, Some(Field::Unknown));
-    refused(&rt, alloc, fields.skip(), "wrong struct format at offset 7")?;
-    assert_eq!(rt; de.items.levels, 127);
+    is_refused(&rt, fields.skip(), "wrong struct format at offset 7")?;
+    has_all_levels(&rt, &de);
     Ok(())
 }
 
 // A slot that is full is left as it is, and one that is empty is asked for in vain.
 #[test]
-fn reads_a_field_into_its_slot_once(rt: HostRuntime) -> Result<(), Fail> {
-    let alloc = rt.alloc();
-    let mut de = Deserializer::new(alloc, SliceRead::new(alloc, b"\xa2\x61a\x05\x00\x06"));
+fn reads_a_field_into_its_slot_once(rt: HostRuntime) -> Done {
+    let mut de = Deserializer::from_slice(rt.alloc(), b"\xa2\x61a\x05\x00\x06");
     let mut fields = de.structure(&["a", "b"])?;
     let mut a: Option<u8> = None;
     assert_eq!(rt; fields.next_field()?, Some(Field::Known(0)));
     fields.once("a", &mut a)?;
     assert_eq!(rt; a, Some(5));
     assert_eq!(rt; fields.next_field()?, Some(Field::Known(0)));
-    refused(&rt, alloc, fields.once("a", &mut a), "duplicate field `a`")?;
+    is_refused(&rt, fields.once("a", &mut a), "duplicate field `a`")?;
     assert_eq!(rt; a, Some(5));
-    assert_eq!(rt; de.items.levels, 127);
+    has_all_levels(&rt, &de);
+    Ok(())
+}
 
-    let mut de = Deserializer::new(alloc, SliceRead::new(alloc, b"\xa0"));
+#[test]
+fn asks_for_a_field(rt: HostRuntime) -> Done {
+    let mut de = Deserializer::from_slice(rt.alloc(), b"\xa0");
     let mut fields = de.structure(&["a"])?;
     assert_eq!(rt; fields.next_field()?, None);
-    assert_eq!(rt; fields.required("a", a)?, 5);
-    refused(
-        &rt,
-        alloc,
-        fields.required::<u8>("a", None),
-        "missing field `a`",
-    )?;
-    assert_eq!(rt; de.items.levels, 127);
+    assert_eq!(rt; fields.required("a", Some(5u8))?, 5);
+    let absent = fields.required::<u8>("a", None);
+    is_refused(&rt, absent, "missing field `a`")?;
+    has_all_levels(&rt, &de);
     Ok(())
 }

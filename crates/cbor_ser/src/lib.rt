@@ -127,6 +127,8 @@ pub fn to_writer<W: Write, T: Serialize>(alloc: Global, writer: &mut W, value: &
 #[cfg(test)]
 mod beginning_tests;
 #[cfg(test)]
+mod rows;
+#[cfg(test)]
 mod tests;
 #[cfg(test)]
 mod to_writer_tests;

@@ -1,36 +1,49 @@
-use crate::{IoWrite, Serializer, SliceWrite, to_vec, to_writer};
+use crate::rows::{Done, is_refused, is_written_up_to, tag, text, writes};
+use crate::{IoWrite, Serializer, SliceWrite, Write, to_writer};
+use cbor_io::error;
 use cbor_value::{Float, Map, Value};
-use std::alloc::{AllocError, Global};
+use std::alloc::Global;
 use std::io;
 use std::io::ErrorKind;
 use std::process::Abort;
 use std::test::Fail;
 
-fn tag(alloc: Global, tag: u64, value: Value) -> Result<Value, AllocError> {
-    match Box::new(alloc, value) {
-        Ok(inner) => Ok(Value::Tag(tag, inner)),
-        Err(_) => Err(AllocError),
-    }
-}
-
 /// A value with each kind of item in it, whose spelling `EACH_KIND` puts together from RFC 7049,
 /// sections 2.1 to 2.4 and appendix A.
 fn each_kind(alloc: Global) -> Result<Value, Fail> {
+    let mut items = Vec::with_capacity(alloc, 10)?;
+    push_plain(&mut items)?;
+    push_others(alloc, &mut items)?;
+    Ok(Value::Array(items))
+}
+
+fn push_plain(items: &mut Vec<Value>) -> Done {
+    for value in [
+        Value::Null,
+        Value::Bool(true),
+        Value::Integer(-300),
+        Value::Float(Float::Half(0x3c00)),
+        Value::Float(Float::Single(0x47c35000)),
+        Value::Float(Float::Double(0x3ff1_9999_9999_999a)),
+    ] {
+        items.push(value)?;
+    }
+    Ok(())
+}
+
+fn push_others(alloc: Global, items: &mut Vec<Value>) -> Done {
+    items.push(Value::Bytes(vec![in alloc; 0x01, 0x23]?))?;
+    items.push(text(alloc, "ab")?)?;
+    items.push(one_pair(alloc)?)?;
+    items.push(tag(alloc, 1, Value::Integer(1363896240))?)?;
+    Ok(())
+}
+
+fn one_pair(alloc: Global) -> Result<Value, Fail> {
     let mut map = Map::new(alloc);
     let pair = vec![in alloc; Value::Integer(2), Value::Integer(3)]?;
     let _ = map.insert(Value::Integer(1), Value::Array(pair))?;
-    let mut items = Vec::new(alloc);
-    items.push(Value::Null)?;
-    items.push(Value::Bool(true))?;
-    items.push(Value::Integer(-300))?;
-    items.push(Value::Float(Float::Half(0x3c00)))?;
-    items.push(Value::Float(Float::Single(0x47c35000)))?;
-    items.push(Value::Float(Float::Double(0x3ff1_9999_9999_999a)))?;
-    items.push(Value::Bytes(vec![in alloc; 0x01, 0x23]?))?;
-    items.push(Value::Text("ab".to_owned(alloc)?))?;
-    items.push(Value::Map(map))?;
-    items.push(tag(alloc, 1, Value::Integer(1363896240))?)?;
-    Ok(Value::Array(items))
+    Ok(Value::Map(map))
 }
 
 const EACH_KIND: [u8; 40] = [
@@ -43,12 +56,16 @@ const EACH_KIND: [u8; 40] = [
 const PIECES: usize = 18;
 
 #[test]
-fn writes_each_kind(rt: HostRuntime) -> Result<(), Fail> {
+fn spells_each_kind(rt: HostRuntime) -> Done {
     let alloc = rt.alloc();
-    let value = each_kind(alloc)?;
-    assert_eq!(rt; to_vec(alloc, &value)?.as_slice(), EACH_KIND.as_slice());
+    writes(&rt, alloc, &each_kind(alloc)?, EACH_KIND.as_slice())
+}
+
+#[test]
+fn appends_each_kind(rt: HostRuntime) -> Done {
+    let alloc = rt.alloc();
     let mut bytes = vec![in alloc; 0x9f]?;
-    to_writer(alloc, &mut bytes, &value)?;
+    to_writer(alloc, &mut bytes, &each_kind(alloc)?)?;
     assert_eq!(rt; bytes[0], 0x9f);
     assert_eq!(rt; &bytes[1..], EACH_KIND.as_slice());
     Ok(())
@@ -56,33 +73,42 @@ fn writes_each_kind(rt: HostRuntime) -> Result<(), Fail> {
 
 // A slice of each length: what a refusal leaves is a beginning of the whole.
 #[test]
-fn fills_slices_of_each_length(rt: HostRuntime) -> Result<(), Fail> {
+fn fills_slices_of_each_length(rt: HostRuntime) -> Done {
     let alloc = rt.alloc();
     let value = each_kind(alloc)?;
     for len in 0..=EACH_KIND.len() {
-        let mut room = [0; 40];
-        assert!(rt; len <= room.len());
-        let mut sink = SliceWrite::new(&mut room[..len]);
-        let done = to_writer(alloc, &mut sink, &value);
-        let count = sink.bytes_written();
-        match done {
-            Ok(()) => {
-                assert_eq!(rt; len, 40);
-                assert_eq!(rt; count, 40);
-            }
-            Err(error) => {
-                assert!(rt; len < 40);
-                assert!(rt; error.is_scratch_too_small(), "{len}");
-                assert_eq!(rt; error.offset(), count as u64);
-            }
-        }
-        assert!(rt; count <= len);
-        assert!(rt; count <= 40);
-        assert_eq!(rt; &room[..count], &EACH_KIND[..count]);
-        // The bytes behind those written are untouched.
-        assert!(rt; room[count..].iter().all(|byte| *byte == 0));
+        fills_a_slice_of(&rt, alloc, &value, len);
     }
     Ok(())
+}
+
+/// A slice of this length holds a beginning of the bytes. What is behind them is untouched.
+fn fills_a_slice_of(rt: &impl Abort, alloc: Global, value: &Value, len: usize) {
+    let mut room = [0; 40];
+    assert!(rt; len <= room.len());
+    let mut sink = SliceWrite::new(&mut room[..len]);
+    let done = to_writer(alloc, &mut sink, value);
+    let count = sink.bytes_written();
+    ends_there(rt, done, len, count);
+    assert!(rt; count <= len);
+    assert!(rt; count <= 40);
+    assert_eq!(rt; &room[..count], &EACH_KIND[..count]);
+    assert!(rt; room[count..].iter().all(|byte| *byte == 0));
+}
+
+/// A slice of this length, of which so many bytes were written, ends the call so.
+fn ends_there(rt: &impl Abort, done: error::Result<()>, len: usize, count: usize) {
+    match done {
+        Ok(()) => {
+            assert_eq!(rt; len, 40);
+            assert_eq!(rt; count, 40);
+        }
+        Err(error) => {
+            assert!(rt; len < 40);
+            assert!(rt; error.is_scratch_too_small(), "{len}");
+            assert_eq!(rt; error.offset(), count as u64);
+        }
+    }
 }
 
 /// A writer that takes all it is given, and fails at the call after so many.
@@ -107,7 +133,7 @@ impl io::Write for FailingWriter {
 }
 
 #[test]
-fn tells_a_writers_fault_at_each_call(rt: HostRuntime) -> Result<(), Fail> {
+fn tells_a_writers_fault_at_each_call(rt: HostRuntime) -> Done {
     let alloc = rt.alloc();
     let value = each_kind(alloc)?;
     // Its memory is taken beforehand, so that no write fails for want of it.
@@ -119,93 +145,57 @@ fn tells_a_writers_fault_at_each_call(rt: HostRuntime) -> Result<(), Fail> {
         writer.taken.clear();
         writer.left = left;
         let done = to_writer(alloc, &mut IoWrite::new(&mut writer), &value);
-        match done {
-            Ok(()) => assert_eq!(rt; left, PIECES),
-            Err(error) => {
-                assert!(rt; left < PIECES);
-                assert!(rt; error.is_io(), "{left}");
-                assert_eq!(rt; error.offset(), 0);
-                assert!(rt; writer.taken.len() < EACH_KIND.len());
-            }
-        }
+        fails_after(&rt, done, left, writer.taken.len());
         assert!(rt; EACH_KIND.starts_with(writer.taken.as_slice()));
     }
     Ok(())
 }
 
+/// A writer that takes so many pieces, of so many bytes, ends the call so.
+fn fails_after(rt: &impl Abort, done: error::Result<()>, left: usize, count: usize) {
+    match done {
+        Ok(()) => assert_eq!(rt; left, PIECES),
+        Err(error) => {
+            assert!(rt; left < PIECES);
+            assert!(rt; error.is_io(), "{left}");
+            assert_eq!(rt; error.offset(), 0);
+            assert!(rt; count < EACH_KIND.len());
+        }
+    }
+}
+
 #[test]
-fn refuses_any_byte_where_there_is_no_room(rt: HostRuntime) -> Result<(), Fail> {
+fn refuses_any_byte_where_there_is_no_room(rt: HostRuntime) -> Done {
     let mut room: [u8; 0] = [];
     let mut ser = Serializer::new(rt.alloc(), SliceWrite::new(&mut room));
-    let Err(error) = ser.serialize_unit() else {
-        panic!(&rt; "not refused");
-    };
-    assert_eq!(rt;
-        error.to_string(rt.alloc())?.as_str(),
-        "Scratch buffer too small"
-    );
+    is_refused(&rt, ser.serialize_unit(), "Scratch buffer too small")?;
     assert_eq!(rt; ser.into_inner().bytes_written(), 0);
     Ok(())
 }
 
-/// The call was refused, with these words.
-fn says(
-    rt: &impl Abort,
-    alloc: Global,
-    done: cbor_io::error::Result<()>,
-    words: &'static str,
-) -> Result<(), Fail> {
-    let Err(error) = done else {
-        panic!(rt; "not refused");
-    };
-    if error.is_memory() {
-        return Err(Fail::from(error));
-    }
-    assert_eq!(rt; error.to_string(alloc)?.as_str(), words);
-    Ok(())
-}
-
-/// The value has a number that is too far out, and this is written before it.
-fn is_refused(
-    rt: &impl Abort,
-    alloc: Global,
-    value: &Value,
-    before: &'static [u8],
-) -> Result<(), Fail> {
-    let mut room = [0; 16];
-    let mut sink = SliceWrite::new(&mut room);
-    let done = to_writer(alloc, &mut sink, value);
-    let count = sink.bytes_written();
-    assert!(rt; count <= 16);
-    assert_eq!(rt; &room[..count], before);
-    says(rt, alloc, done, "The number can't be stored in CBOR")
-}
-
 #[test]
-fn refuses_numbers_that_are_too_far_out(rt: HostRuntime) -> Result<(), Fail> {
-    let alloc = rt.alloc();
+fn refuses_numbers_that_are_too_far_out(rt: HostRuntime) -> Done {
     for i in [1 << 64, -2 - u64::MAX as i128] {
-        is_refused(&rt, alloc, &Value::Integer(i), b"")?;
-        let array = vec![in alloc; Value::Null, Value::Integer(i)]?;
-        is_refused(&rt, alloc, &Value::Array(array), b"\x82\xf6")?;
-        is_refused(&rt, alloc, &tag(alloc, 1, Value::Integer(i))?, b"\xc1")?;
+        stops_at(&rt, rt.alloc(), i)?;
     }
     Ok(())
+}
+
+/// The number is not written, alone, in an array and under a tag.
+fn stops_at(rt: &impl Abort, alloc: Global, i: i128) -> Done {
+    is_written_up_to(rt, alloc, &Value::Integer(i), b"")?;
+    let array = vec![in alloc; Value::Null, Value::Integer(i)]?;
+    is_written_up_to(rt, alloc, &Value::Array(array), b"\x82\xf6")?;
+    is_written_up_to(rt, alloc, &tag(alloc, 1, Value::Integer(i))?, b"\xc1")
 }
 
 // These calls take no allocator, so that no memory is asked for.
 #[test]
-fn fills_a_slice_without_memory(rt: HostRuntime) -> Result<(), Fail> {
+fn fills_a_slice_without_memory(rt: HostRuntime) -> Done {
     let mut room = [0; 28];
     let mut ser = Serializer::new(rt.alloc(), SliceWrite::new(&mut room));
-    ser.serialize_bool(false)?;
-    ser.serialize_unit()?;
-    ser.serialize_u64(u64::MAX)?;
-    ser.serialize_i64(-300)?;
-    ser.serialize_float(Float::Half(0x3c00))?;
-    ser.serialize_char('a')?;
-    ser.serialize_str("ab")?;
-    ser.serialize_bytes(b"\x01\x23")?;
+    write_plain(&mut ser)?;
+    write_more(&mut ser)?;
     let sink = ser.into_inner();
     assert_eq!(rt; sink.bytes_written(), 25);
     let room = sink.into_inner();
@@ -218,5 +208,21 @@ fn fills_a_slice_without_memory(rt: HostRuntime) -> Result<(), Fail> {
         &room[11..],
         b"\x39\x01\x2b\xf9\x3c\0\x61a\x62ab\x42\x01\x23\0\0\0".as_slice()
     );
+    Ok(())
+}
+
+fn write_plain<W: Write>(ser: &mut Serializer<W>) -> Done {
+    ser.serialize_bool(false)?;
+    ser.serialize_unit()?;
+    ser.serialize_u64(u64::MAX)?;
+    ser.serialize_i64(-300)?;
+    Ok(())
+}
+
+fn write_more<W: Write>(ser: &mut Serializer<W>) -> Done {
+    ser.serialize_float(Float::Half(0x3c00))?;
+    ser.serialize_char('a')?;
+    ser.serialize_str("ab")?;
+    ser.serialize_bytes(b"\x01\x23")?;
     Ok(())
 }

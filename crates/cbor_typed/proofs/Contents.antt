@@ -1,5 +1,5 @@
 -- Strings behind their heads.
-use Rattle.std.proofs.Common.{◌≡◌, inr, ◌+◌, ◌-◌, ◌^◌, ℕ, Bool, true, false, cond, eqb, List, length, Option, Some, None, Result, Ok, Err, refl, sym, ap, subst, ◌∙◌}
+use Rattle.std.proofs.Common.{◌≡◌, ◌⊎◌, inl, inr, ◌+◌, ◌-◌, ◌^◌, ℕ, Bool, true, false, cond, eqb, List, length, Option, Some, None, Result, Ok, Err, refl, sym, ap, subst, ◌∙◌}
 use Rattle.std.specs.Str.{IsUtf8}
 use Rattle.std.specs.Str.Lossy.{utf8_valid_len}
 use Rattle.std.proofs.lemmas.Bool.{ne_eqb, eq-eqb}
@@ -18,7 +18,8 @@ use Rattle.cbor_io.specs.declared.error.Error.{Error}
 use Rattle.cbor_io.specs.declared.error.ErrorCode.{ErrorCode}
 use Rattle.cbor_io.specs.declared.read.read_error.ReadError.{ReadError}
 use Rattle.cbor_io.specs.declared.read.read_error.ReadErrorCode.{ReadErrorCode}
-use Rattle.cbor_de.specs.Gives.{Limits, limits, Step, Stopped, IsErrorOf}
+use Rattle.cbor_io.specs.declared.error.ErrorCode.TheVariants.{InvalidUtf8}
+use Rattle.cbor_de.specs.Gives.{Limits, limits, Step, Stopped, IsErrorOf, Reports, Tells}
 use Rattle.cbor_de.specs.Heads.{behind_head, joined_of}
 use Rattle.cbor_de.specs.declared.head.Head.{Head}
 use Rattle.cbor_de.specs.declared.head.Head.TheVariants as head
@@ -26,9 +27,9 @@ use Rattle.cbor_de.specs.declared.refusal.Refused.{Refused}
 use Rattle.cbor_de.proofs.facts.Steps.{step_map, step_then, stopped_then}
 use Rattle.cbor_typed.specs.Kinds.{kind_of, head_kind}
 use Rattle.cbor_typed.specs.Kinds as kind
-use Rattle.cbor_typed.specs.Takes.{raws, IsRead, IsNotRead, Refuses, TakesItem}
+use Rattle.cbor_typed.specs.Takes.{raws, IsRead, IsNotRead, Refuses, ExcusedBy}
 use Rattle.cbor_typed.specs.Opens.{in_tags, Opens, OpensItem}
-use Rattle.cbor_typed.specs.Strings.{content_at, is_lent_head, TextOf}
+use Rattle.cbor_typed.specs.Strings.{content_at, is_lent_head, IsNotUtf8}
 use Rattle.cbor_typed.proofs.Scalars.{refuses, opened_read, opened_none, other_kind, not_both}
 
 -- ---- items
@@ -264,13 +265,17 @@ module _ {A : Type 0} (allowed : ReadErrorCode → Bool) (f : Formats) (reads : 
       let found = text r x means' in
       bad (subst IsUtf8 (same_bytes r b (view x) string found.0) found.1)) taken
 
-  -- a text was taken, or bytes that aren't UTF-8
-  pub text_takes : OpensText → (t : Input) (b : List ℕ) (end : ℕ) (view : A → List ℕ) (r : Result A Error) → ((i : Raw) (x : A) → IsString i (view x) → IsUtf8 (view x) → ((c : Context) → is_lent c i ≡ is_lent_head c (head.Text n)) → reads i x)
-      → Step m t (λ l bs rest. content_at l (head.Text n) bs ≡ Ok (b, rest)) → TextOf view b end r → TakesItem allowed f (PassesTags reads) levels s t r
-  text_takes opened t b end view (Ok x) means taken is =
-      string_takes allowed f reads levels s m kept (head.Text n) opened t b x (λ l w bs rest content. text_read f l (inside (raws f l) opened.0) w n bs b rest content is.1)
-      (λ i string lent. means i x (subst (IsString i) (sym is.0) string) (subst IsUtf8 (sym is.0) is.1) lent) taken
-  text_takes opened t b end view (Err e) means taken is =
+  -- a text was taken
+  pub text_takes : OpensText → (t : Input) (b : List ℕ) (x : A) → ((r : Raw) → IsString r b → IsUtf8 b → ((c : Context) → is_lent c r ≡ is_lent_head c (head.Text n)) → reads r x) → IsUtf8 b
+      → Step m t (λ l bs rest. content_at l (head.Text n) bs ≡ Ok (b, rest)) → Step s t (λ l bs rest. IsRead (PassesTags reads) (item_at (raws f l) levels bs) x rest)
+  text_takes opened t b x means utf8 taken =
+      string_takes allowed f reads levels s m kept (head.Text n) opened t b x (λ l w bs rest content. text_read f l (inside (raws f l) opened.0) w n bs b rest content utf8)
+      (λ r string lent. means r string utf8 lent) taken
+
+  -- bytes that aren't UTF-8 are no text
+  pub text_none : OpensText → (t : Input) (b : List ℕ) (end : ℕ) (e : Error) → IsNotUtf8 b end e
+      → Step m t (λ l bs rest. content_at l (head.Text n) bs ≡ Ok (b, rest)) → Refuses allowed s (code_of e) (offset_of e) (λ l bs. IsNotRead (PassesTags reads) (item_at (raws f l) levels bs))
+  text_none opened t b end e is taken =
       string_none allowed f reads levels s m kept (head.Text n) opened t b (code_of e) (offset_of e)
       (λ l w bs rest after r x content read found. not_both (behind_head (raws f l) (inside (raws f l) opened.0) w (head.Text n) bs) (r, after) _ read (text_bad f l (inside (raws f l) opened.0) w n bs b rest content is.bad)) taken
 
@@ -282,3 +287,11 @@ none_at allowed f reads levels s t kept h k at none opened =
     step_refuses allowed s t k at (λ l bs. IsNotRead (PassesTags reads) (item_at (raws f l) levels bs))
     (step_map s t (λ l bs rest. Opens f l (item_at (raws f l) levels bs) opened.0 h rest) (λ l bs rest. IsNotRead (PassesTags reads) (item_at (raws f l) levels bs))
     (λ l bs rest o. other_kind f reads l (item_at (raws f l) levels bs) opened.0 h rest o (λ r x means is. none r x means (λ tag. o.inner (sym is ∙ tag)) is)) opened.1)
+
+-- What is refused by any code isn't there.
+pub none_there : {N : Limits → List ℕ → Type 0} (allowed : ReadErrorCode → Bool) (s : Input) → ((k : ErrorCode) (at : ℕ) → Refuses allowed s k at N) → (bs : List ℕ) → Tells s bs → N (limits s bs) bs
+none_there {N} allowed s refused bs tells = unexcused ((refused InvalidUtf8 0).told bs tells)
+  where
+    unexcused : ExcusedBy (Reports allowed) InvalidUtf8 0 ⊎ N (limits s bs) bs → N (limits s bs) bs
+    unexcused (inl e) = absurd e
+    unexcused (inr n) = n

@@ -1,34 +1,34 @@
 -- The place of a name.
 use Rattle.std.proofs.Common.{◌≡◌, ◌≢◌, ◌+◌, ◌∙◌, ap, refl, Some, None, Option, Ok, Err, Result, if◌then◌else◌, nat_lt, ℕ, zero, suc, ◌<◌, ◌≤◌, Bool, true, false, List, [], ◌∷◌, length, slice_index_or, Bor, subst, sym, arith}
+use Rattle.std.specs.Str.{IsUtf8}
 use Rattle.std.specs.Cmp.Lexicographic.{pointwise, same_text, other_text}
 use Rattle.std.specs.Prelude.{nat_eq}
 use Rattle.cbor_model.specs.Head.{HeadWidth}
 use Rattle.cbor_model.specs.Raw as raw
 use Rattle.cbor_model.specs.Raw.{Raw}
 use Rattle.cbor_model.specs.Formats.{Formats}
-use Rattle.cbor_model.specs.Readable.{untagged, PassesTags, IsString, IsText, Context}
-use Rattle.cbor_model.specs.Reader.{item_at}
-use Rattle.cbor_io.specs.Source.{Input, Lends, part_bytes}
+use Rattle.cbor_model.specs.Readable.{untagged, PassesTags, IsString}
+use Rattle.cbor_model.specs.Reader.{item_at, inside}
+use Rattle.cbor_io.specs.Source.{Input, Lends}
 use Rattle.cbor_io.specs.Error.{code_of, offset_of}
 use Rattle.cbor_io.specs.declared.error.Error.{Error}
 use Rattle.cbor_io.specs.declared.error.ErrorCode.{ErrorCode}
-use Rattle.cbor_io.specs.declared.read.EitherLifetime.{EitherLifetime}
 use Rattle.cbor_io.specs.declared.read.read_error.ReadError.{ReadError}
 use Rattle.cbor_io.specs.declared.read.read_error.ReadErrorCode.{ReadErrorCode}
 use Rattle.cbor_de.specs.Gives.{Step}
 use Rattle.cbor_de.specs.declared.head.Head.{Head}
 use Rattle.cbor_de.specs.declared.head.Head.TheVariants as head
-use Rattle.cbor_typed.specs.Identifiers.{texts, place_of, IsFirst, IsPlace, IsIdentifier}
+use Rattle.cbor_typed.specs.Identifiers.{texts, place_of, IsFirst, IsPlace, IsIdentifier, Content, IsMadeBy, TakesBytesName}
 use Rattle.cbor_typed.specs.Kinds.{kind_of, head_kind}
 use Rattle.cbor_typed.specs.Kinds as kind
-use Rattle.cbor_typed.specs.Opens.{OpensItem}
-use Rattle.cbor_typed.specs.Strings.{Lent, LentText, IsLentString, IsLentText, IsMadeOf, text_bytes}
-use Rattle.cbor_typed.specs.Takes.{raws, lending, IsRead, IsNotRead, Refuses}
-use Rattle.cbor_typed.specs.declared.lent.EitherStr.{EitherStr}
-use Rattle.cbor_typed.specs.declared.lent.Unread.{Unread}
-use Rattle.cbor_typed.proofs.Contents.{not_string, none_at}
-use Rattle.cbor_typed.proofs.Lending.{text_item, bytes_string, text_lacks, bytes_lacks, made_read, made_refuses}
-use Rattle.cbor_typed.proofs.Scalars.{takes_scalar}
+use Rattle.cbor_typed.specs.Opens.{Opens, OpensItem}
+use Rattle.cbor_typed.specs.Strings.{content_at}
+use Rattle.cbor_typed.specs.Takes.{raws, IsRead, IsNotRead, Refuses, TakesItem, OnceMade}
+use Rattle.cbor_typed.specs.declared.identifier.Why.{Why}
+use Rattle.cbor_typed.proofs.Contents.{not_string, none_at, string_takes, bytes_takes, text_read}
+use Rattle.cbor_typed.proofs.Lending.{no_text, no_bytes}
+use Rattle.cbor_typed.proofs.Nulls.{refuses_behind}
+use Rattle.cbor_typed.proofs.Scalars.{takes_scalar, opened_none}
 
 -- none of so many names is this text
 abbrev pub NoneBefore : List (List ℕ) → List ℕ → ℕ → Type 0
@@ -126,25 +126,31 @@ module _ (names : List (List ℕ)) where
     pub number_names : (n : ℕ) (place : Option ℕ) → place ≡ place_of names n → OpensItem allowed f levels s m kept (Ok (head.Unsigned n)) → Reads m place
     number_names n place is = takes_scalar allowed f (IsIdentifier names) levels s m kept (head.Unsigned n) place (λ w. raw.unsigned w n) (λ limits inner w mid. refl) (λ w. is)
 
-    pub text_names : (n : Option ℕ) (t : Input) (x : EitherStr) (place : Option ℕ) → IsPlace names (text_bytes x) place → OpensItem allowed f levels s m kept (Ok (head.Text n)) → LentText allowed l (head.Text n) m t (Ok x) → Reads t place
-    text_names n t x place at opened lent =
-        made_read allowed (IsIdentifier names) (IsLentText (lending f l)) (λ limits. item_at (raws f limits) levels) s t place x (λ r is. string_names r (text_bytes x) place is.0.0 at)
-        (text_item allowed f l levels s m kept n t (Ok x) opened lent)
+    pub text_names : (n : Option ℕ) (t : Input) (b : List ℕ) (place : Option ℕ) → IsUtf8 b → IsPlace names b place → OpensItem allowed f levels s m kept (Ok (head.Text n)) → Content (head.Text n) m t b → Reads t place
+    text_names n t b place utf8 at opened taken =
+        string_takes allowed f (IsIdentifier names) levels s m kept (head.Text n) opened t b place (λ limits w bs rest content. text_read f limits (inside (raws f limits) opened.0) w n bs b rest content utf8)
+        (λ r string lent. string_names r b place string at) taken
 
-    pub bytes_name : (n : Option ℕ) (t : Input) (x : EitherLifetime) (place : Option ℕ) → IsPlace names (part_bytes x) place → OpensItem allowed f levels s m kept (Ok (head.Bytes n)) → Lent allowed l (head.Bytes n) m t (Ok x) → Reads t place
-    bytes_name n t x place at opened lent =
-        made_read allowed (IsIdentifier names) (IsLentString (lending f l)) (λ limits. item_at (raws f limits) levels) s t place x (λ r is. string_names r (part_bytes x) place is.0 at)
-        (bytes_string allowed f l levels s m kept n t (Ok x) opened lent)
+    bytes_name : (n : Option ℕ) (t : Input) (b : List ℕ) (place : Option ℕ) → IsPlace names b place → OpensItem allowed f levels s m kept (Ok (head.Bytes n)) → Content (head.Bytes n) m t b → Reads t place
+    bytes_name n t b place at opened taken =
+        bytes_takes allowed f (IsIdentifier names) levels s m kept n opened t b place (λ r string lent. string_names r b place string at) taken
 
-    pub text_refused : (n : Option ℕ) (t : Input) (u : Unread) (e : Error) → IsMadeOf u e → OpensItem allowed f levels s m kept (Ok (head.Text n)) → LentText allowed l (head.Text n) m t (Err u) → Refused e
-    text_refused n t u e made opened lent =
-        made_refuses allowed s (λ limits bs. IsNotRead (PassesTags (IsIdentifier names)) (item_at (raws f limits) levels bs)) _ u e (λ limits bs none. none) made
-        (text_lacks allowed f l levels s m kept (IsIdentifier names) n t u opened lent)
+    pub text_refused : (n : Option ℕ) (e : Error) → OpensItem allowed f levels s m kept (Ok (head.Text n))
+        → Refuses allowed m (code_of e) (offset_of e) (λ limits bs. (b rest : List ℕ) → content_at limits (head.Text n) bs ≡ Ok (b, rest) → IsUtf8 b → ⊥) → Refused e
+    text_refused n e opened none =
+        refuses_behind allowed s m (code_of e) (offset_of e) (λ limits bs rest. Opens f limits (item_at (raws f limits) levels bs) opened.0 (head.Text n) rest) _ (λ limits bs. IsNotRead (PassesTags (IsIdentifier names)) (item_at (raws f limits) levels bs))
+        (λ limits bs mid o none. opened_none f (IsIdentifier names) limits (item_at (raws f limits) levels bs) opened.0 (head.Text n) mid o (λ r rest x read is. no_text allowed f l levels s m kept limits (inside (raws f limits) opened.0) o.width n mid _ refl none (r, rest) read)) opened.1 none
 
-    pub bytes_refused : (n : Option ℕ) (t : Input) (u : Unread) (e : Error) → IsMadeOf u e → OpensItem allowed f levels s m kept (Ok (head.Bytes n)) → Lent allowed l (head.Bytes n) m t (Err u) → Refused e
-    bytes_refused n t u e made opened lent =
-        made_refuses allowed s (λ limits bs. IsNotRead (PassesTags (IsIdentifier names)) (item_at (raws f limits) levels bs)) _ u e (λ limits bs none. none) made
-        (bytes_lacks allowed f l levels s m kept (IsIdentifier names) n t u opened lent)
+    bytes_refused : (n : Option ℕ) (e : Error) → OpensItem allowed f levels s m kept (Ok (head.Bytes n))
+        → Refuses allowed m (code_of e) (offset_of e) (λ limits bs. (b rest : List ℕ) → content_at limits (head.Bytes n) bs ≡ Ok (b, rest) → ⊥) → Refused e
+    bytes_refused n e opened none =
+        refuses_behind allowed s m (code_of e) (offset_of e) (λ limits bs rest. Opens f limits (item_at (raws f limits) levels bs) opened.0 (head.Bytes n) rest) _ (λ limits bs. IsNotRead (PassesTags (IsIdentifier names)) (item_at (raws f limits) levels bs))
+        (λ limits bs mid o none. opened_none f (IsIdentifier names) limits (item_at (raws f limits) levels bs) opened.0 (head.Bytes n) mid o (λ r rest x read is. no_bytes allowed f l levels s m kept limits (inside (raws f limits) opened.0) o.width n mid _ refl none (r, rest) read)) opened.1 none
+
+    pub bytes_read : (n : Option ℕ) (t : Input) (later : Option ReadError) (r : Result (Option ℕ) Why) → OpensItem allowed f levels s m kept (Ok (head.Bytes n)) → TakesBytesName allowed names (head.Bytes n) m t later r
+        → OnceMade (IsMadeBy later) (TakesItem allowed f (PassesTags (IsIdentifier names)) levels s t) r
+    bytes_read n t later (Ok place) opened is = bytes_name n t is.0 place is.1 opened is.2
+    bytes_read n t later (Err why) opened is = λ e made. bytes_refused n e opened (is e made)
 
     pub other_refused : (h : Head) (e : Error) → ((n : ℕ) → h ≡ head.Unsigned n → ⊥) → ((n : Option ℕ) → h ≡ head.Text n → ⊥) → ((n : Option ℕ) → h ≡ head.Bytes n → ⊥) → OpensItem allowed f levels s m kept (Ok h) → Refused e
     other_refused h e u t b opened = none_at allowed f (IsIdentifier names) levels s m kept h (code_of e) (offset_of e) (not_identifier h u t b) opened

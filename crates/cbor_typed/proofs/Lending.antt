@@ -106,12 +106,12 @@ module _ (allowed : ReadErrorCode → Bool) (f : Formats) (l : Lends) (levels : 
   lends_bytes (Some n) = refl
 
   -- nothing is read where the content of a text isn't there
-  no_text : (limits : Limits) (inner : Option (List ℕ → Reads Raw)) (w : HeadWidth) (n : Option ℕ) (bs : List ℕ) (content : Reads (List ℕ)) → content_at limits (head.Text n) bs ≡ content
+  pub no_text : (limits : Limits) (inner : Option (List ℕ → Reads Raw)) (w : HeadWidth) (n : Option ℕ) (bs : List ℕ) (content : Reads (List ℕ)) → content_at limits (head.Text n) bs ≡ content
       → ((b rest : List ℕ) → content_at limits (head.Text n) bs ≡ Ok (b, rest) → IsUtf8 b → ⊥) → (r : Raw × List ℕ) → behind_head (raws f limits) inner w (head.Text n) bs ≡ Ok r → ⊥
   no_text limits inner w n bs (Ok p) is none r read = not_both (behind_head (raws f limits) inner w (head.Text n) bs) r _ read (text_bad f limits inner w n bs p.0 p.1 is (none p.0 p.1 is))
   no_text limits inner w n bs (Err g) is none r read = not_both (behind_head (raws f limits) inner w (head.Text n) bs) r g read (text_stop f limits inner w n bs g is)
 
-  no_bytes : (limits : Limits) (inner : Option (List ℕ → Reads Raw)) (w : HeadWidth) (n : Option ℕ) (bs : List ℕ) (content : Reads (List ℕ)) → content_at limits (head.Bytes n) bs ≡ content
+  pub no_bytes : (limits : Limits) (inner : Option (List ℕ → Reads Raw)) (w : HeadWidth) (n : Option ℕ) (bs : List ℕ) (content : Reads (List ℕ)) → content_at limits (head.Bytes n) bs ≡ content
       → ((b rest : List ℕ) → content_at limits (head.Bytes n) bs ≡ Ok (b, rest) → ⊥) → (r : Raw × List ℕ) → behind_head (raws f limits) inner w (head.Bytes n) bs ≡ Ok r → ⊥
   no_bytes limits inner w n bs (Ok p) is none r read = none p.0 p.1 is
   no_bytes limits inner w n bs (Err g) is none r read = not_both (behind_head (raws f limits) inner w (head.Bytes n) bs) r g read (bytes_stop f limits inner w n bs g is)

@@ -20,6 +20,7 @@ pub mod Mapped
 pub mod Faults
 pub mod Every
 pub mod Values
+pub mod OfValues
 pub mod facts
 pub mod Characters
 pub mod TagHeads

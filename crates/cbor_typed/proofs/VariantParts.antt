@@ -1,5 +1,6 @@
 -- The content of a variant.
 use Rattle.std.proofs.Common.{◌≡◌, ℕ, Bool, true, false, List, [], ◌∷◌, Option, Some, None, Result, Ok, Err, refl, sym, ap, subst, ◌∙◌, ◌<◌, arith}
+use Rattle.std.specs.Prelude.{IfErr}
 use Rattle.cbor_model.specs.Formats as model
 use Rattle.cbor_model.specs.Raw as raw
 use Rattle.cbor_model.specs.Raw.{Raw, Raws, no_raws}
@@ -35,6 +36,13 @@ use Rattle.cbor_typed.proofs.Scalars.{untagged-tagged, within_tags}
 use Rattle.cbor_typed.proofs.Sequences.{append, no_part_rest, begins, goes_on, is_done}
 use Rattle.cbor_typed.proofs.Tuples.{Empty, Then, one_more, none_all, then_all, then_rest, empty_rest, first_follows}
 use Rattle.cbor_typed.proofs.WholeArrays.{NoItems, end_step, end_lacks, part_lacks, loop_begins, part_goes_on}
+
+-- ---- the form of an error
+
+-- nothing is said of it
+pub untold : {A : Type 0} (r : Result A Error) → IfErr r (λ e. Unit {0})
+untold (Ok x) = tt
+untold (Err e) = tt
 
 -- ---- the items of a content
 

@@ -5,6 +5,7 @@ use Rattle.std.specs.Prelude.{Ok, Err, nat_lt, if◌then◌else◌}
 use Rattle.std.specs.Char.{IsScalar, encode_utf8}
 use Rattle.std.specs.Str.{IsUtf8}
 use Rattle.std.specs.Str.Lossy.{utf8_valid_len}
+use Rattle.cbor_model.specs.Formats as model
 use Rattle.cbor_model.specs.Raw.{Raw}
 use Rattle.cbor_model.specs.Readable.{Context, PassesTags, IsString, IsText, is_lent}
 use Rattle.cbor_model.specs.Refusal.{length_out_of_range, unexpected_code}
@@ -15,7 +16,7 @@ use Rattle.cbor_io.specs.Error.{code_of, offset_of}
 use Rattle.cbor_io.specs.Source.{Input, Lends, part_bytes, is_long}
 use Rattle.cbor_io.specs.declared.read.EitherLifetime.{EitherLifetime}
 use Rattle.cbor_io.specs.declared.read.read_error.ReadErrorCode.{ReadErrorCode}
-use Rattle.cbor_de.specs.Gives.{Limits, Step}
+use Rattle.cbor_de.specs.Gives.{Limits, limits, Step, Tells, IsErrorOf}
 use Rattle.cbor_de.specs.Heads.{joined_of}
 use Rattle.cbor_io.specs.ReadError.{why, place, error_code, IsMemory}
 use Rattle.cbor_io.specs.declared.error.ErrorCode.{ErrorCode}
@@ -53,10 +54,22 @@ pub record IsNotUtf8 (b : List ℕ) (end : ℕ) (e : Error) : Type 0 where
   pub code : code_of e ≡ InvalidUtf8
   pub place : offset_of e + (length b - utf8_valid_len b) ≡ end
 
--- the text of these bytes, which end at this offset; or where they aren't UTF-8
-abbrev pub TextOf : {X : Type 0} → (X → List ℕ) → List ℕ → ℕ → Result X Error → Type 0
-TextOf view b end (Ok x) = (view x ≡ b) × IsUtf8 b
-TextOf view b end (Err e) = IsNotUtf8 b end e
+-- The text of these bytes, which end at this offset; or where they aren't UTF-8, as the error says
+-- that is made of the refusal that is kept.
+abbrev pub KeepsTextOf : {X : Type 0} → (X → List ℕ) → List ℕ → ℕ → Option ReadError → Result X Refused
+    → Type 0
+KeepsTextOf view b end kept (Ok x) = (view x ≡ b) × IsUtf8 b
+KeepsTextOf view b end kept (Err r) = (e : Error) → IsErrorOf kept r e → IsNotUtf8 b end e
+
+-- What was sought at the front, where so many levels are left: it was taken; an item of another kind
+-- is there, which isn't read; or reading stopped, as the error says that is made of the refusal that
+-- is kept.
+abbrev pub SeeksItem : {A : Type 0} → (ReadErrorCode → Bool) → model.Formats → (Raw → A → Type 0) → ℕ
+    → Input → Input → Option ReadError → Result (Option A) Refused → Type 0
+SeeksItem refusals f reads levels s t kept (Ok (Some x)) =
+    Step s t (λ l bs rest. IsRead reads (item_at (raws f l) levels bs) x rest)
+SeeksItem refusals f reads levels s t kept (Ok None) = (bs : List ℕ) → Tells s bs → IsNotRead reads (item_at (raws f (limits s bs)) levels bs)
+SeeksItem refusals f reads levels s t kept (Err r) = (e : Error) → IsErrorOf kept r e → Refuses refusals s (code_of e) (offset_of e) (λ l bs. IsNotRead reads (item_at (raws f l) levels bs))
 
 -- ---- what is lent
 

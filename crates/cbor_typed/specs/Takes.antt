@@ -60,6 +60,12 @@ abbrev pub TakesItem : {A : Type 0} → (ReadErrorCode → Bool) → model.Forma
 TakesItem refusals f reads levels s t r =
     Takes refusals reads (λ l. item_at (raws f l) levels) s t r
 
+-- What a call gives whose error is still to be made of why it was refused.
+abbrev pub OnceMade : {A W : Type 0} → (W → Error → Type 0) → (Result A Error → Type 0)
+    → Result A W → Type 0
+OnceMade made takes (Ok x) = takes (Ok x)
+OnceMade made takes (Err w) = (e : Error) → made w e → takes (Err e)
+
 -- ---- the fault that is told
 
 -- claimed where a type reads every item

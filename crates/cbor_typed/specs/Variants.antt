@@ -1,6 +1,6 @@
 -- What the calls take of their source that read an enum.
 use Rattle.std.specs.Prelude.{◌≡◌, ◌≤◌, ◌<◌, ℕ, zero, suc, Bool, true, false, List, [], ◌∷◌, Option, Some, None, Result, Ok, Err}
-use Rattle.std.specs.Prelude.{nat_lt, ◌==◌, if◌then◌else◌}
+use Rattle.std.specs.Prelude.{nat_lt, ◌==◌, if◌then◌else◌, codes, ◌++◌}
 use Rattle.cbor_model.specs.Formats.{Formats}
 use Rattle.cbor_model.specs.Head.{HeadWidth}
 use Rattle.cbor_model.specs.Raw.{Raw, Raws}
@@ -11,7 +11,7 @@ use Rattle.cbor_model.specs.Reader as reader
 use Rattle.cbor_io.specs.declared.error.Error.{Error}
 use Rattle.cbor_io.specs.declared.read.read_error.ReadError.{ReadError}
 use Rattle.cbor_io.specs.declared.read.read_error.ReadErrorCode.{ReadErrorCode}
-use Rattle.cbor_io.specs.Error.{code_of, offset_of}
+use Rattle.cbor_io.specs.Error.{code_of, offset_of, IsMessageOf}
 use Rattle.cbor_io.specs.Source.{Input}
 use Rattle.cbor_de.specs.Gives.{Limits, Step, Stopped}
 use Rattle.cbor_de.specs.Heads.{remaining_of}
@@ -113,6 +113,15 @@ abbrev pub TakesParts : (ReadErrorCode → Bool) → Formats → ℕ → Form �
 TakesParts refusals f left form s t inner (Ok remaining) = Step s t
     (λ l bs rest. IsPartsHead f l (content_at f l left form bs) inner remaining rest)
 TakesParts refusals f left form s t inner (Err e) = RefusesParts refusals f left form s e
+
+-- the text of the error of an identifier alone, where the variant has content of this kind
+abbrev pub alone_text : List ℕ → List ℕ
+alone_text kind = codes "invalid type: unit variant, expected " ++ kind ++ codes " variant"
+
+-- of an identifier alone the error is told by this text
+abbrev pub TellsAlone : List ℕ → Form → Error → Type 0
+TellsAlone text form.Alone e = IsMessageOf (Some text) (code_of e)
+TellsAlone text _ e = Unit {0}
 
 -- ---- steps
 

@@ -137,6 +137,34 @@ pub trait Readable: Sized + Drop {
 /// the variant, and a lemma for each call what its answer says of the enum
 /// (`proofs/facts/Enums.antt`). A whole proof is that of this enum in the crate `cbor_samples`:
 /// `src/enums.rt` and `proofs/enums/BarDeserialize`.
+///
+/// A type that contains itself is read by way of a value, since reading its parts by their own type
+/// would lead back to where they are read. A function that calls itself makes it of the value:
+///
+/// ```rust
+/// #[derive(Drop)]
+/// enum Tree {
+///     Leaf(i128),
+///     Node(Vec<Tree>),
+/// }
+///
+/// impl Readable for Tree {
+///     ghost reads = { λ c r t. IsTree (value r) t };
+/// }
+///
+/// impl<'de, R: Read<'de>> Deserialize<'de, R> for Tree {
+///     fn deserialize(de: &mut Deserializer<R>) -> Result<Tree> {
+///         let alloc = de.items.alloc;
+///         let value = Value::deserialize(de)?;
+///         tree_of(alloc, &value)
+///     }
+/// }
+/// ```
+///
+/// `IsTree` says of a plain value as which trees it is read. The contract of `tree_of` says that Ok
+/// is such a tree, and that there is none after an Err, but where memory ran out. The rest is two
+/// lines, by `value_made` and `no_value` (`proofs/facts/Values.antt`). The whole is in the crate
+/// `cbor_samples`: `src/tree.rt`, `specs/Trees.antt` and `proofs/tree`.
 pub trait Deserialize<'de, R: Read<'de>>: Readable {
     /// Reads the item at the front.
     fn deserialize(de: &mut Deserializer<R>) -> Result<Self>

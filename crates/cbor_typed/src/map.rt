@@ -6,11 +6,11 @@ ghost use Rattle.std.specs.Borrow.{sem, RestsIfErr};
 ghost use Rattle.cbor_model.specs.Reader.{item_at};
 ghost use Rattle.cbor_de.specs.declared.cursor.Remaining.TheVariants.{Counted};
 ghost use Rattle.cbor_de.specs.Cursor.{Counts};
-ghost use Rattle.cbor_de.specs.Gives.{Gives, Step};
+ghost use Rattle.cbor_de.specs.Gives.{Gives, IsErrorOf, Step};
 ghost use Rattle.cbor_typed.specs.Accesses.{turns, size_of};
 ghost use Rattle.cbor_typed.specs.MapAccesses.{IsMapHead, RefusesMap, TakesMapHead, TakesKey};
 ghost use Rattle.cbor_typed.specs.MapAccesses.{TakesMorePairs, TakesMapEnd, key_front};
-ghost use Rattle.cbor_typed.specs.Takes.{TakesItem, context, formats_of, raws};
+ghost use Rattle.cbor_typed.specs.Takes.{OnceMade, TakesItem, context, formats_of, raws};
 ghost use Rattle.cbor_typed.specs.contracts.de.Deserializer.{the_row};
 
 use crate::de::Deserializer;
@@ -107,23 +107,20 @@ impl<R: Source> Deserializer<R> {
     // Whether another pair of a map comes, of which so much remains; its first byte stays. A key
     // that may not begin as it does is refused.
     #[inline(always)]
-    pub(crate) fn more_pairs(&mut self, remaining: &mut Remaining) -> Result<bool>
-        ensures read { TakesMorePairs R.refusals (formats_of self.old.items.formats)
+    pub(crate) fn more_pairs(&mut self, remaining: &mut Remaining) -> Done<bool>
+        ensures read { OnceMade (IsErrorOf self.new.items.refusal)
+            (TakesMorePairs R.refusals (formats_of self.old.items.formats)
             remaining.old remaining.new
-            (R.source self.old.items.source) (R.source self.new.items.source) result }
+            (R.source self.old.items.source) (R.source self.new.items.source)) result }
         ensures counts { IfOk result (λ more. Counts remaining.old more remaining.new) }
         ensures levels { self.new.items.levels ≡ self.old.items.levels }
         ensures formats { self.new.items.formats ≡ self.old.items.formats }
     {
-        match self.items.more(remaining, Collection::Map) {
-            Ok(true) => {}
-            Ok(false) => return Ok(false),
-            Err(refused) => return Err(self.items.error(refused)),
+        if !self.items.more(remaining, Collection::Map)? {
+            return Ok(false);
         }
-        match self.key_begins() {
-            Ok(()) => Ok(true),
-            Err(refused) => Err(self.items.error(refused)),
-        }
+        self.key_begins()?;
+        Ok(true)
     }
 
     // Takes the end of a map of which so much remains.
@@ -209,9 +206,9 @@ impl<'a, R: Source> MapAccess<'a, R> {
         match self.de.more_pairs(&mut self.remaining) {
             Ok(true) => {}
             Ok(false) => return Ok(None),
-            Err(e) => {
+            Err(refused) => {
                 self.de.items.levels = self.outer;
-                return Err(e);
+                return Err(self.de.items.error(refused));
             }
         }
         let start = self.de.items.source.offset();

@@ -9,19 +9,20 @@ ghost use Rattle.cbor_model.specs.Reader.{item_at};
 ghost use Rattle.cbor_de.specs.declared.cursor.Remaining.TheVariants.{Counted};
 ghost use Rattle.cbor_de.specs.Gives.{Step};
 ghost use Rattle.cbor_typed.specs.Accesses.{turns, size_of};
-ghost use Rattle.cbor_typed.specs.Identifiers.{texts};
+ghost use Rattle.cbor_typed.specs.Identifiers.{IsMadeBy, texts};
 ghost use Rattle.cbor_typed.specs.MapAccesses.{IsMapHead, RefusesMap, TakesKey, TakesMapEnd};
 ghost use Rattle.cbor_typed.specs.Structs.{IsAny, IsField, place_in, missing_text, duplicate_text};
-ghost use Rattle.cbor_typed.specs.Takes.{TakesItem, IsRead, IsNotRead, Refuses, context};
-ghost use Rattle.cbor_typed.specs.Takes.{formats_of, raws};
+ghost use Rattle.cbor_typed.specs.Takes.{OnceMade, TakesItem, IsRead, IsNotRead, Refuses};
+ghost use Rattle.cbor_typed.specs.Takes.{context, formats_of, raws};
 ghost use Rattle.cbor_typed.specs.contracts.de.Deserializer.{the_row};
 
 use crate::de::Deserializer;
 use crate::deserialize::Deserialize;
+use crate::identifier::{Named, Why};
 use crate::types::IgnoredAny;
 use cbor_de::Remaining;
 use cbor_io::error::{Error, Result};
-use cbor_io::read::{Read, Source};
+use cbor_io::read::{Read, ReadErrorCode, Source};
 use std::alloc::Global;
 
 /// A field that a key names.
@@ -75,19 +76,49 @@ impl<R: Source> Deserializer<R> {
 impl<'de, R: Read<'de>> Deserializer<R> {
     // Reads the field that a key names.
     #[inline(always)]
-    fn field(&mut self, names: &[&str]) -> Result<Field>
-        ensures read { TakesItem R.refusals (formats_of self.old.items.formats)
+    fn field(&mut self, names: &[&str]) -> Named<Field>
+        ensures read { OnceMade (IsMadeBy self.new.items.refusal)
+            (TakesItem R.refusals (formats_of self.old.items.formats)
             (IsField (texts names.now)) self.old.items.levels
-            (R.source self.old.items.source) (R.source self.new.items.source) result }
+            (R.source self.old.items.source) (R.source self.new.items.source)) result }
         ensures below { IfOk result (λ field. IfSome (place_in field) (λ i. i < length names.now)) }
         ensures levels { self.new.items.levels ≡ self.old.items.levels }
         ensures formats { self.new.items.formats ≡ self.old.items.formats }
     {
-        match self.identifier(names, "invalid type: expected a field name") {
-            Ok(Some(place)) => Ok(Field::Known(place)),
-            Ok(None) => Ok(Field::Unknown),
-            Err(e) => Err(e),
+        match self.identifier(names)? {
+            Some(place) => Ok(Field::Known(place)),
+            None => Ok(Field::Unknown),
         }
+    }
+
+    // Reads the field that the next key names; None where no pair remains.
+    #[inline(always)]
+    fn next_field(&mut self, remaining: &mut Remaining, names: &[&str]) -> Named<Option<Field>>
+        ensures read { OnceMade (IsMadeBy self.new.items.refusal)
+            (TakesKey R.refusals (formats_of self.old.items.formats) (IsField (texts names.now))
+            self.old.items.levels remaining.old remaining.new
+            (R.source self.old.items.source) (R.source self.new.items.source)) result }
+        ensures below { IfOk result (λ next. IfSome next (λ field.
+            IfSome (place_in field) (λ i. i < length names.now))) }
+        // Nothing remains behind the last pair, and a loop over the fields ends.
+        ensures remains { IfOk result (λ next. MatchOption next (remaining.new ≡ Counted 0)
+            (λ k. turns remaining.new (R.source self.new.items.source)
+            < turns remaining.old (R.source self.old.items.source))) }
+        ensures levels { self.new.items.levels ≡ self.old.items.levels }
+        ensures formats { self.new.items.formats ≡ self.old.items.formats }
+    {
+        if !self.more_pairs(remaining)? {
+            return Ok(None);
+        }
+        let start = self.items.source.offset();
+        let field = self.field(names)?;
+        if let Remaining::ToBreak = remaining {
+            if self.items.source.offset() <= start {
+                let refused = self.items.refuse(ReadErrorCode::UnexpectedCode);
+                return Err(Why::Refused(refused));
+            }
+        }
+        Ok(Some(field))
     }
 }
 
@@ -159,30 +190,16 @@ impl<'a, R: Source> StructAccess<'a, R> {
             ≡ self.old.de.now.items.formats }
         ensures names { self.new.names ≡ self.old.names }
     {
-        match self.de.more_pairs(&mut self.remaining) {
-            Ok(true) => {}
-            Ok(false) => return Ok(None),
-            Err(e) => {
+        match self.de.next_field(&mut self.remaining, self.names) {
+            Ok(next) => {
+                self.value_due = next.is_some();
+                Ok(next)
+            }
+            Err(why) => {
                 self.de.items.levels = self.outer;
-                return Err(e);
+                Err(self.de.unnamed(why, "invalid type: expected a field name"))
             }
         }
-        let start = self.de.items.source.offset();
-        let field = match self.de.field(self.names) {
-            Ok(field) => field,
-            Err(e) => {
-                self.de.items.levels = self.outer;
-                return Err(e);
-            }
-        };
-        if let Remaining::ToBreak = self.remaining {
-            if self.de.items.source.offset() <= start {
-                self.de.items.levels = self.outer;
-                return Err(self.de.no_key());
-            }
-        }
-        self.value_due = true;
-        Ok(Some(field))
     }
 
     /// Reads the value of the field that was named last. It refuses as the reading of `V` does.

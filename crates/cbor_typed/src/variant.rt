@@ -1,6 +1,7 @@
 //! Enums, of which an item tells the variant and holds its content.
 
-ghost use Rattle.std.specs.Prelude.{◌≡◌, ◌+◌, ◌≤◌, ◌<◌, length, true, OnOk, OnErr, IfOk, IfErr};
+ghost use Rattle.std.specs.Prelude.{◌≡◌, ◌+◌, ◌≤◌, ◌<◌, codes, length, true};
+ghost use Rattle.std.specs.Prelude.{OnOk, OnErr, IfOk, IfErr};
 ghost use Rattle.std.specs.Borrow.{sem, RestsIfErr};
 ghost use Rattle.cbor_model.specs.Reader.{item_at};
 ghost use Rattle.cbor_io.specs.Error.{code_of, offset_of, HasNoOffset};
@@ -14,6 +15,7 @@ ghost use Rattle.cbor_typed.specs.Variants.{IsPartsHead, RefusesParts, TakesPart
 ghost use Rattle.cbor_typed.specs.Variants.{content_at, PassesAll, shape_of, reads_shape};
 ghost use Rattle.cbor_typed.specs.Variants.{HasNoTag, IsAlone, HasShape, TakesShape, TakesShaped};
 ghost use Rattle.cbor_typed.specs.Variants.{TakesComing, ExpectsItem, pair_head_at};
+ghost use Rattle.cbor_typed.specs.Variants.{TellsAlone, alone_text};
 ghost use Rattle.cbor_typed.specs.declared.variant.Form.TheVariants.{Array};
 ghost use Rattle.cbor_typed.specs.declared.variant.Shape.TheVariants as shape;
 ghost use Rattle.cbor_typed.specs.contracts.de.Deserializer.{the_row};
@@ -186,6 +188,7 @@ impl<R: Source> Deserializer<R> {
             self.old.items.levels form
             (R.source self.old.items.source) (R.source self.new.items.source)
             self.new.items.levels result }
+        ensures alone { IfErr result (TellsAlone (alone_text (codes "tuple")) form) }
         ensures inside { IfOk result (λ r. IsEntered form self.old.items.levels
             self.new.items.levels) }
         ensures formats { self.new.items.formats ≡ self.old.items.formats }
@@ -364,9 +367,10 @@ impl<'de, R: Read<'de>> Deserializer<R> {
         ensures levels { self.new.items.levels ≡ self.old.items.levels }
         ensures formats { self.new.items.formats ≡ self.old.items.formats }
     {
-        match self.identifier(names, "invalid type: expected a variant name")? {
-            Some(index) => Ok(index),
-            None => Err(Error::message(self.items.alloc, "unknown variant")),
+        match self.identifier(names) {
+            Ok(Some(index)) => Ok(index),
+            Ok(None) => Err(Error::message(self.items.alloc, "unknown variant")),
+            Err(why) => Err(self.unnamed(why, "invalid type: expected a variant name")),
         }
     }
 
@@ -412,6 +416,7 @@ impl<'de, R: Read<'de>> Deserializer<R> {
             (IsPart (T.reads (context self.old.items.formats R.lends)))
             self.old.items.levels form
             (R.source self.old.items.source) (R.source self.new.items.source) result }
+        ensures alone { IfErr result (TellsAlone alone.now form) }
         ensures levels { self.new.items.levels ≡ self.old.items.levels }
         ensures formats { self.new.items.formats ≡ self.old.items.formats }
     {
@@ -488,6 +493,8 @@ impl<'a, R: Source> VariantAccess<'a, R> {
             self.entry.de.now.items.levels self.entry.form
             (R.source self.entry.de.now.items.source) (R.source self.exit.0.now.items.source)
             result }
+        ensures alone { IfErr result
+            (TellsAlone (alone_text (codes "newtype")) self.entry.form) }
         ensures levels { self.exit.0.now.items.levels ≡ self.entry.outer }
         ensures formats { self.exit.0.now.items.formats ≡ self.entry.de.now.items.formats }
     {
@@ -526,6 +533,8 @@ impl<'a, R: Source> VariantAccess<'a, R> {
             self.entry.de.now.items.levels self.entry.form
             (R.source self.entry.de.now.items.source) (R.source self.exit.0.now.items.source)
             result }
+        ensures alone { IfErr result
+            (TellsAlone (alone_text (codes "struct")) self.entry.form) }
         ensures levels { self.exit.0.now.items.levels ≡ self.entry.outer }
         ensures formats { self.exit.0.now.items.formats ≡ self.entry.de.now.items.formats }
     {
@@ -559,6 +568,8 @@ impl<'a, R: Source> VariantAccess<'a, R> {
         ensures refused { IfErr result (RefusesParts R.refusals
             (formats_of self.entry.de.now.items.formats) self.entry.de.now.items.levels
             self.entry.form (R.source self.entry.de.now.items.source)) }
+        ensures alone { IfErr result
+            (TellsAlone (alone_text (codes "tuple")) self.entry.form) }
         ensures outer { IfOk result (λ s. s.outer ≡ self.entry.outer) }
         ensures inside { IfOk result (λ s. s.de.now.items.levels < s.outer) }
         ensures formats { IfOk result (λ s.

@@ -4,6 +4,8 @@ use std::cmp::Ordering;
 use std::process::Abort;
 use std::test::Fail;
 
+type Done = Result<(), Fail>;
+
 fn text(alloc: Global, text: &str) -> Result<Value, AllocError> {
     Ok(Value::Text(text.to_owned(alloc)?))
 }
@@ -13,30 +15,73 @@ fn bytes(alloc: Global, bytes: &[u8]) -> Result<Value, AllocError> {
 }
 
 fn tag(alloc: Global, tag: u64, value: Value) -> Result<Value, AllocError> {
-    let inner = match Box::new(alloc, value) {
-        Ok(inner) => inner,
-        Err(_) => return Err(AllocError),
-    };
-    Ok(Value::Tag(tag, inner))
+    match Box::new(alloc, value) {
+        Ok(inner) => Ok(Value::Tag(tag, inner)),
+        Err(_) => Err(AllocError),
+    }
+}
+
+// The checks below promise nothing, so that a test of many rows carries no facts from one to the
+// next.
+
+/// The value is this one.
+fn is_value(rt: &impl Abort, made: Value, want: Value) {
+    assert_eq!(rt; made, want);
+}
+
+/// The copy of the value is the value.
+fn is_copied(rt: &impl Abort, alloc: Global, value: &Value) -> Done {
+    assert_eq!(rt; value.clone(alloc)?, *value);
+    Ok(())
+}
+
+/// The map has so many pairs.
+fn has_len(rt: &impl Abort, map: &Map, want: usize) {
+    assert_eq!(rt; map.len(), want);
+    assert_eq!(rt; map.is_empty(), want == 0);
+}
+
+/// The map takes the key to this value.
+fn takes_to(rt: &impl Abort, map: &Map, key: i128, want: Option<&Value>) {
+    let key = Value::Integer(key);
+    assert_eq!(rt; map.get(&key), want);
+    assert_eq!(rt; map.contains_key(&key), want.is_some());
+}
+
+/// The map takes the key to the value from now on, and took it to that one before.
+fn inserts(
+    rt: &impl Abort,
+    map: &mut Map,
+    key: Value,
+    value: Value,
+    before: Option<Value>,
+) -> Done {
+    assert_eq!(rt; map.insert(key, value)?, before);
+    Ok(())
+}
+
+/// The key is gone, which the map took to this value.
+fn removes(rt: &impl Abort, map: &mut Map, key: i128, before: Option<Value>) {
+    assert_eq!(rt; map.remove(&Value::Integer(key)), before);
 }
 
 #[test]
-fn keeps_one_pair_of_a_key(rt: HostRuntime) -> Result<(), Fail> {
+fn keeps_one_pair_of_a_key(rt: HostRuntime) -> Done {
     let alloc = rt.alloc();
     let mut map = Map::new(alloc);
-    assert_eq!(rt; map.insert(Value::Integer(1), text(alloc, "a")?)?, None);
-    assert_eq!(rt;
-        map.insert(Value::Integer(1), text(alloc, "b")?)?,
-        Some(text(alloc, "a")?)
-    );
-    assert_eq!(rt; map.len(), 1);
-    assert_eq!(rt; map.get(&Value::Integer(1)), Some(&text(alloc, "b")?));
-    assert_eq!(rt; map.get(&Value::Integer(2)), None);
-    assert_eq!(rt; map.remove(&Value::Integer(2)), None);
-    assert_eq!(rt; map.len(), 1);
-    assert_eq!(rt; map.remove(&Value::Integer(1)), Some(text(alloc, "b")?));
-    assert!(rt; map.is_empty());
-    assert_eq!(rt; map.remove(&Value::Integer(1)), None);
+    let one = Value::Integer(1);
+    inserts(&rt, &mut map, one, text(alloc, "a")?, None)?;
+    let (one, a) = (Value::Integer(1), text(alloc, "a")?);
+    inserts(&rt, &mut map, one, text(alloc, "b")?, Some(a))?;
+    has_len(&rt, &map, 1);
+    let b = text(alloc, "b")?;
+    takes_to(&rt, &map, 1, Some(&b));
+    takes_to(&rt, &map, 2, None);
+    removes(&rt, &mut map, 2, None);
+    has_len(&rt, &map, 1);
+    removes(&rt, &mut map, 1, Some(b));
+    has_len(&rt, &map, 0);
+    removes(&rt, &mut map, 1, None);
     Ok(())
 }
 
@@ -50,7 +95,7 @@ fn counting(alloc: Global, n: u16) -> Result<Map, Fail> {
 }
 
 /// Each key of such a map is found by so many comparisons at most, and so is that a key is missing.
-fn searches_by(rt: &impl Abort, alloc: Global, n: u16, most: u32) -> Result<(), Fail> {
+fn searches_by(rt: &impl Abort, alloc: Global, n: u16, most: u32) -> Done {
     let map = counting(alloc, n)?;
     for key in 0..n {
         let wanted = Value::from(key);
@@ -65,7 +110,7 @@ fn searches_by(rt: &impl Abort, alloc: Global, n: u16, most: u32) -> Result<(), 
 }
 
 #[test]
-fn compares_no_key_of_an_empty_map(rt: HostRuntime) -> Result<(), Fail> {
+fn compares_no_key_of_an_empty_map(rt: HostRuntime) -> Done {
     let map = Map::new(rt.alloc());
     let (value, count) = map.get_counted(&Value::Null);
     assert_eq!(rt; value, None);
@@ -74,27 +119,27 @@ fn compares_no_key_of_an_empty_map(rt: HostRuntime) -> Result<(), Fail> {
 }
 
 #[test]
-fn compares_1_of_1_key(rt: HostRuntime) -> Result<(), Fail> {
+fn compares_1_of_1_key(rt: HostRuntime) -> Done {
     searches_by(&rt, rt.alloc(), 1, 1)
 }
 
 #[test]
-fn compares_3_of_7_keys(rt: HostRuntime) -> Result<(), Fail> {
+fn compares_3_of_7_keys(rt: HostRuntime) -> Done {
     searches_by(&rt, rt.alloc(), 7, 3)
 }
 
 #[test]
-fn compares_4_of_8_keys(rt: HostRuntime) -> Result<(), Fail> {
+fn compares_4_of_8_keys(rt: HostRuntime) -> Done {
     searches_by(&rt, rt.alloc(), 8, 4)
 }
 
 #[test]
-fn compares_10_of_1000_keys(rt: HostRuntime) -> Result<(), Fail> {
+fn compares_10_of_1000_keys(rt: HostRuntime) -> Done {
     searches_by(&rt, rt.alloc(), 1000, 10)
 }
 
 #[test]
-fn counts_the_keys_that_it_compares(rt: HostRuntime) -> Result<(), Fail> {
+fn counts_the_keys_that_it_compares(rt: HostRuntime) -> Done {
     let map = counting(rt.alloc(), 7)?;
     let (_, count) = map.get_counted(&Value::Integer(3));
     assert_eq!(rt; count, 1);
@@ -106,12 +151,7 @@ fn counts_the_keys_that_it_compares(rt: HostRuntime) -> Result<(), Fail> {
 }
 
 /// The map of pairs of small numbers lists these pairs.
-fn makes(
-    rt: &impl Abort,
-    alloc: Global,
-    given: &[(u8, u8)],
-    listed: &[(u8, u8)],
-) -> Result<(), Fail> {
+fn makes(rt: &impl Abort, alloc: Global, given: &[(u8, u8)], listed: &[(u8, u8)]) -> Done {
     let mut pairs = Vec::new(alloc);
     for (key, value) in given {
         pairs.push((Value::from(*key), Value::from(*value)))?;
@@ -126,17 +166,17 @@ fn makes(
 }
 
 #[test]
-fn makes_a_map_of_no_pairs(rt: HostRuntime) -> Result<(), Fail> {
+fn makes_a_map_of_no_pairs(rt: HostRuntime) -> Done {
     makes(&rt, rt.alloc(), &[], &[])
 }
 
 #[test]
-fn makes_a_map_of_one_pair(rt: HostRuntime) -> Result<(), Fail> {
+fn makes_a_map_of_one_pair(rt: HostRuntime) -> Done {
     makes(&rt, rt.alloc(), &[(5, 1)], &[(5, 1)])
 }
 
 #[test]
-fn makes_a_map_of_ascending_keys(rt: HostRuntime) -> Result<(), Fail> {
+fn makes_a_map_of_ascending_keys(rt: HostRuntime) -> Done {
     makes(
         &rt,
         rt.alloc(),
@@ -146,7 +186,7 @@ fn makes_a_map_of_ascending_keys(rt: HostRuntime) -> Result<(), Fail> {
 }
 
 #[test]
-fn makes_a_map_of_descending_keys(rt: HostRuntime) -> Result<(), Fail> {
+fn makes_a_map_of_descending_keys(rt: HostRuntime) -> Done {
     makes(
         &rt,
         rt.alloc(),
@@ -156,7 +196,7 @@ fn makes_a_map_of_descending_keys(rt: HostRuntime) -> Result<(), Fail> {
 }
 
 #[test]
-fn keeps_the_last_of_all_equal_keys(rt: HostRuntime) -> Result<(), Fail> {
+fn keeps_the_last_of_all_equal_keys(rt: HostRuntime) -> Done {
     makes(
         &rt,
         rt.alloc(),
@@ -166,7 +206,7 @@ fn keeps_the_last_of_all_equal_keys(rt: HostRuntime) -> Result<(), Fail> {
 }
 
 #[test]
-fn keeps_the_last_of_equal_keys_far_apart(rt: HostRuntime) -> Result<(), Fail> {
+fn keeps_the_last_of_equal_keys_far_apart(rt: HostRuntime) -> Done {
     let given = [
         (9, 0),
         (1, 1),
@@ -183,26 +223,34 @@ fn keeps_the_last_of_equal_keys_far_apart(rt: HostRuntime) -> Result<(), Fail> {
 }
 
 #[test]
-fn tells_the_ends_of_a_map(rt: HostRuntime) -> Result<(), Fail> {
-    let alloc = rt.alloc();
-    let map = Map::new(alloc);
+fn tells_that_a_map_has_no_ends(rt: HostRuntime) {
+    let map = Map::new(rt.alloc());
     assert!(rt; map.first_key_value().is_none());
     assert!(rt; map.last_key_value().is_none());
     assert!(rt; !map.contains_key(&Value::Null));
-    let map = counting(alloc, 3)?;
-    assert!(rt; map.contains_key(&Value::Integer(2)));
-    assert!(rt; !map.contains_key(&Value::Integer(3)));
-    let (first, _) = map.first_key_value().ok_or("no pair")?;
-    assert_eq!(rt; *first, Value::Integer(0));
-    let (last, _) = map.last_key_value().ok_or("no pair")?;
-    assert_eq!(rt; *last, Value::Integer(2));
-    let pairs = map.into_pairs();
-    assert_eq!(rt; pairs.len(), 3);
+}
+
+#[test]
+fn tells_the_ends_of_a_map(rt: HostRuntime) -> Done {
+    let map = counting(rt.alloc(), 3)?;
+    takes_to(&rt, &map, 2, Some(&Value::Integer(2)));
+    takes_to(&rt, &map, 3, None);
+    is_pair(&rt, map.first_key_value(), 0)?;
+    is_pair(&rt, map.last_key_value(), 2)?;
+    assert_eq!(rt; map.into_pairs().len(), 3);
+    Ok(())
+}
+
+/// The pair takes this number to itself.
+fn is_pair(rt: &impl Abort, pair: Option<(&Value, &Value)>, want: i128) -> Done {
+    let (key, value) = pair.ok_or("no pair")?;
+    assert_eq!(rt; *key, Value::Integer(want));
+    assert_eq!(rt; *value, Value::Integer(want));
     Ok(())
 }
 
 /// Inserts a key. Where the allocation fails, the map is as it was.
-fn insert_or_keep(rt: &impl Abort, alloc: Global, map: &mut Map, key: Value) -> Result<(), Fail> {
+fn insert_or_keep(rt: &impl Abort, alloc: Global, map: &mut Map, key: Value) -> Done {
     let before = Value::Map(map.clone(alloc)?);
     match map.insert(key, Value::Null) {
         Ok(_) => Ok(()),
@@ -215,7 +263,7 @@ fn insert_or_keep(rt: &impl Abort, alloc: Global, map: &mut Map, key: Value) -> 
 }
 
 #[test]
-fn keeps_a_map_that_cannot_grow(rt: HostRuntime) -> Result<(), Fail> {
+fn keeps_a_map_that_cannot_grow(rt: HostRuntime) -> Done {
     let mut map = Map::new(rt.alloc());
     for key in 0..5u8 {
         insert_or_keep(&rt, rt.alloc(), &mut map, Value::from(key))?;
@@ -225,7 +273,7 @@ fn keeps_a_map_that_cannot_grow(rt: HostRuntime) -> Result<(), Fail> {
 }
 
 #[test]
-fn iterates_in_key_order(rt: HostRuntime) -> Result<(), Fail> {
+fn iterates_in_key_order(rt: HostRuntime) -> Done {
     let alloc = rt.alloc();
     let mut map = Map::new(alloc);
     let pairs = vec![in alloc;
@@ -238,23 +286,29 @@ fn iterates_in_key_order(rt: HostRuntime) -> Result<(), Fail> {
     for (key, value) in pairs {
         map.insert(key, value)?;
     }
-    let wanted = vec![in alloc;
+    lists_in_order(&rt, alloc, &map)?;
+    removes(&rt, &mut map, 10, Some(Value::Integer(4)));
+    has_len(&rt, &map, 4);
+    takes_to(&rt, &map, -1, Some(&Value::Integer(3)));
+    takes_to(&rt, &map, 10, None);
+    Ok(())
+}
+
+/// The map of the test above lists its pairs so.
+fn lists_in_order(rt: &impl Abort, alloc: Global, map: &Map) -> Done {
+    let wanted = [
         (Value::Integer(1), Value::Integer(1)),
         (Value::Integer(2), Value::Integer(0)),
         (Value::Integer(10), Value::Integer(4)),
         (Value::Integer(-1), Value::Integer(3)),
         (text(alloc, "z")?, Value::Integer(2)),
-    ]?;
+    ];
     assert_eq!(rt; map.iter().as_slice(), wanted.as_slice());
-    map.remove(&Value::Integer(10));
-    assert_eq!(rt; map.len(), 4);
-    assert_eq!(rt; map.get(&Value::Integer(-1)), Some(&Value::Integer(3)));
-    assert_eq!(rt; map.get(&Value::Integer(10)), None);
     Ok(())
 }
 
 /// The list, sorted from its reverse, is the list again.
-fn stands_sorted(rt: &impl Abort, alloc: Global, list: &[Value]) -> Result<(), Fail> {
+fn stands_sorted(rt: &impl Abort, alloc: Global, list: &[Value]) -> Done {
     let mut sorted = Vec::new(alloc);
     for value in list.iter().rev() {
         sorted.push(value.clone(alloc)?)?;
@@ -265,7 +319,7 @@ fn stands_sorted(rt: &impl Abort, alloc: Global, list: &[Value]) -> Result<(), F
 }
 
 #[test]
-fn sorts_integers(rt: HostRuntime) -> Result<(), Fail> {
+fn sorts_integers(rt: HostRuntime) -> Done {
     let mut list = Vec::new(rt.alloc());
     for i in [
         0,
@@ -297,7 +351,7 @@ fn sorts_integers(rt: HostRuntime) -> Result<(), Fail> {
 }
 
 #[test]
-fn sorts_texts(rt: HostRuntime) -> Result<(), Fail> {
+fn sorts_texts(rt: HostRuntime) -> Done {
     let alloc = rt.alloc();
     let mut list = Vec::new(alloc);
     for word in ["", "a", "b", "aa"] {
@@ -307,7 +361,7 @@ fn sorts_texts(rt: HostRuntime) -> Result<(), Fail> {
 }
 
 #[test]
-fn sorts_byte_strings(rt: HostRuntime) -> Result<(), Fail> {
+fn sorts_byte_strings(rt: HostRuntime) -> Done {
     let alloc = rt.alloc();
     let mut list = Vec::new(alloc);
     for string in [&[][..], &[0], &[1], &[0, 0]] {
@@ -317,7 +371,7 @@ fn sorts_byte_strings(rt: HostRuntime) -> Result<(), Fail> {
 }
 
 #[test]
-fn sorts_simple_values(rt: HostRuntime) -> Result<(), Fail> {
+fn sorts_simple_values(rt: HostRuntime) -> Done {
     stands_sorted(
         &rt,
         rt.alloc(),
@@ -344,7 +398,7 @@ fn sorts_floats_by_width(rt: HostRuntime) {
 }
 
 #[test]
-fn sorts_kinds(rt: HostRuntime) -> Result<(), Fail> {
+fn sorts_kinds(rt: HostRuntime) -> Done {
     let alloc = rt.alloc();
     stands_sorted(
         &rt,
@@ -360,7 +414,7 @@ fn sorts_kinds(rt: HostRuntime) -> Result<(), Fail> {
 }
 
 #[test]
-fn sorts_keys(rt: HostRuntime) -> Result<(), Fail> {
+fn sorts_keys(rt: HostRuntime) -> Done {
     let alloc = rt.alloc();
     stands_sorted(
         &rt,
@@ -379,7 +433,7 @@ fn sorts_keys(rt: HostRuntime) -> Result<(), Fail> {
 }
 
 #[test]
-fn copies_maps(rt: HostRuntime) -> Result<(), Fail> {
+fn copies_maps(rt: HostRuntime) -> Done {
     let alloc = rt.alloc();
     let mut map = Map::new(alloc);
     let list = vec![in alloc; Value::Integer(-7), Value::Null]?;
@@ -390,52 +444,53 @@ fn copies_maps(rt: HostRuntime) -> Result<(), Fail> {
 }
 
 #[test]
-fn copies_values(rt: HostRuntime) -> Result<(), Fail> {
+fn copies_values(rt: HostRuntime) -> Done {
     let alloc = rt.alloc();
+    is_copied(&rt, alloc, &Value::Null)?;
+    is_copied(&rt, alloc, &Value::Float(Float::Single(0x7fc0_0001)))?;
+    is_copied(&rt, alloc, &bytes(alloc, b"\x01\x02")?)?;
     let mut map = Map::new(alloc);
     map.insert(Value::Integer(1), Value::Null)?;
-    let rows = [
-        Value::Null,
-        Value::Float(Float::Single(0x7fc0_0001)),
-        bytes(alloc, b"\x01\x02")?,
-        tag(alloc, 55799, Value::Map(map))?,
-    ];
-    for value in &rows {
-        assert_eq!(rt; value.clone(alloc)?, *value);
-    }
-    Ok(())
+    is_copied(&rt, alloc, &tag(alloc, 55799, Value::Map(map))?)
 }
 
 #[test]
-fn makes_values(rt: HostRuntime) -> Result<(), Fail> {
+fn makes_values_of_signed_numbers(rt: HostRuntime) {
+    is_value(&rt, Value::from(-1i8), Value::Integer(-1));
+    is_value(&rt, Value::from(i16::MIN), Value::Integer(-32768));
+    is_value(&rt, Value::from(-3i32), Value::Integer(-3));
+    is_value(
+        &rt,
+        Value::from(i64::MIN),
+        Value::Integer(-9223372036854775808),
+    );
+}
+
+#[test]
+fn makes_values_of_unsigned_numbers(rt: HostRuntime) {
+    is_value(&rt, Value::from(255u8), Value::Integer(255));
+    is_value(&rt, Value::from(6u16), Value::Integer(6));
+    is_value(&rt, Value::from(7u32), Value::Integer(7));
+    is_value(
+        &rt,
+        Value::from(u64::MAX),
+        Value::Integer(18446744073709551615),
+    );
+}
+
+#[test]
+fn makes_values_of_other_types(rt: HostRuntime) -> Done {
     let alloc = rt.alloc();
-    let rows = [
-        (Value::from(true), Value::Bool(true)),
-        (Value::from(-1i8), Value::Integer(-1)),
-        (Value::from(i16::MIN), Value::Integer(-32768)),
-        (Value::from(-3i32), Value::Integer(-3)),
-        (Value::from(i64::MIN), Value::Integer(-9223372036854775808)),
-        (Value::from(255u8), Value::Integer(255)),
-        (Value::from(6u16), Value::Integer(6)),
-        (Value::from(7u32), Value::Integer(7)),
-        (Value::from(u64::MAX), Value::Integer(18446744073709551615)),
-        (
-            Value::from(Float::Half(0x3c00)),
-            Value::Float(Float::Half(0x3c00)),
-        ),
-        (
-            Value::from(Vec::from_slice(alloc, b"ab")?),
-            bytes(alloc, b"ab")?,
-        ),
-        (Value::from("ab".to_owned(alloc)?), text(alloc, "ab")?),
-        (
-            Value::from(vec![in alloc; Value::Null]?),
-            Value::Array(vec![in alloc; Value::Null]?),
-        ),
-        (Value::from(Map::new(alloc)), Value::Map(Map::new(alloc))),
-    ];
-    for (made, value) in &rows {
-        assert_eq!(rt; *made, *value);
-    }
+    is_value(&rt, Value::from(true), Value::Bool(true));
+    let one = Float::Half(0x3c00);
+    is_value(&rt, Value::from(one), Value::Float(Float::Half(0x3c00)));
+    let made = Value::from(Vec::from_slice(alloc, b"ab")?);
+    is_value(&rt, made, bytes(alloc, b"ab")?);
+    let made = Value::from("ab".to_owned(alloc)?);
+    is_value(&rt, made, text(alloc, "ab")?);
+    let made = Value::from(vec![in alloc; Value::Null]?);
+    is_value(&rt, made, Value::Array(vec![in alloc; Value::Null]?));
+    let made = Value::from(Map::new(alloc));
+    is_value(&rt, made, Value::Map(Map::new(alloc)));
     Ok(())
 }

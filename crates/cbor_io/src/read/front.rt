@@ -1,12 +1,13 @@
 //! What is left of a slice, where some bytes were taken from its front.
 
-ghost use Rattle.std.specs.Prelude.{◌≡◌, ◌+◌, ◌<◌, ◌≤◌, length, drop, IfOk, IfErr};
+ghost use Rattle.std.specs.Prelude.{◌≡◌, ◌+◌, ◌++◌, ◌<◌, ◌≤◌, length, drop, IfOk, IfErr, OnOk};
 ghost use Rattle.std.specs.Str.Lossy.{utf8_valid_len};
 ghost use Rattle.cbor_io.specs.ReadError.{why, place};
 ghost use Rattle.cbor_io.specs.Source.{first_of};
 ghost use Rattle.cbor_io.specs.declared.read.read_error.ReadErrorCode.TheVariants as refusal;
 
 use super::{ReadError, Result};
+use std::alloc::AllocError;
 
 // The next byte, where so many were taken; None at the end.
 #[inline]
@@ -30,6 +31,19 @@ pub(super) fn end_of(slice: &[u8], taken: usize, n: usize) -> Result<usize>
     } else {
         Err(ReadError::eof(slice.len() as u64))
     }
+}
+
+// Appends a part to a vector. One that has no memory yet takes as much as the part needs: most
+// strings are whole then.
+#[inline(always)]
+pub(super) fn append(out: &mut Vec<u8>, part: &[u8]) -> std::result::Result<(), AllocError>
+    ensures { OnOk result (out.new.items ≡ out.old.items ++ part.now) }
+{
+    if out.capacity() == 0 {
+        out.reserve_exact(part.len())?;
+    }
+    out.extend_from_slice(part)?;
+    Ok(())
 }
 
 // How many of these bytes, from the front, are UTF-8.

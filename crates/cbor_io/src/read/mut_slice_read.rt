@@ -5,7 +5,7 @@ ghost use Rattle.std.specs.Prelude.{IfOk, IfErr, None};
 ghost use Rattle.cbor_io.specs.ReadError.{why, place};
 ghost use Rattle.cbor_io.specs.declared.read.read_error.ReadErrorCode.TheVariants as refusal;
 
-use super::front::valid_in;
+use super::front::{append, valid_in};
 use super::{EitherLifetime, Read, ReadError, Result, Source};
 use std::mem;
 
@@ -169,7 +169,7 @@ impl<'a> Source for MutSliceRead<'a> {
 
     fn read_to_vec(&mut self, n: usize, out: &mut Vec<u8>) -> Result<()> {
         let end = self.end_of(n)?;
-        out.extend_from_slice(self.part(end))?;
+        append(out, self.part(end))?;
         self.taken = end;
         Ok(())
     }

@@ -2,7 +2,7 @@
 
 ghost use Rattle.std.specs.Prelude.{◌≡◌, ◌≤◌, [], length, None};
 
-use super::front::{byte_at, end_of, valid_in};
+use super::front::{append, byte_at, end_of, valid_in};
 use super::{EitherLifetime, Offset, Read, Result, Source};
 use std::alloc::Global;
 
@@ -86,7 +86,7 @@ impl<'a> Source for SliceRead<'a> {
     #[inline(always)]
     fn read_to_vec(&mut self, n: usize, out: &mut Vec<u8>) -> Result<()> {
         let end = end_of(self.slice, self.taken, n)?;
-        out.extend_from_slice(&self.slice[self.taken..end])?;
+        append(out, &self.slice[self.taken..end])?;
         self.taken = end;
         Ok(())
     }

@@ -4,7 +4,7 @@ ghost use Rattle.std.specs.Prelude.{◌≡◌, ◌+◌, ◌<◌, ◌≤◌, [], 
 ghost use Rattle.cbor_io.specs.ReadError.{why, place};
 ghost use Rattle.cbor_io.specs.declared.read.read_error.ReadErrorCode.TheVariants.{ScratchTooSmall};
 
-use super::front::{byte_at, end_of, valid_in};
+use super::front::{append, byte_at, end_of, valid_in};
 use super::{EitherLifetime, Offset, Read, ReadError, ReadErrorCode, Result, Source};
 
 /// The bytes of a slice. What is read is lent by the slice; parts that are joined stand in a
@@ -113,7 +113,7 @@ impl<'a, 'b> Source for SliceReadFixed<'a, 'b> {
 
     fn read_to_vec(&mut self, n: usize, out: &mut Vec<u8>) -> Result<()> {
         let end = end_of(self.slice, self.taken, n)?;
-        out.extend_from_slice(&self.slice[self.taken..end])?;
+        append(out, &self.slice[self.taken..end])?;
         self.taken = end;
         Ok(())
     }

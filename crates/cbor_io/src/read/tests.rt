@@ -1,6 +1,7 @@
 use super::{EitherLifetime, Read, ReadError, ReadErrorCode, Source};
 use crate::error::Error;
 use std::alloc::Global;
+use std::fmt::InlineText;
 use std::process::Abort;
 use std::test::Fail;
 
@@ -11,21 +12,15 @@ mod slice_read_fixed;
 
 type Done = std::result::Result<(), Fail>;
 
-/// The call was refused, with these words.
-fn is_refused(
-    rt: &impl Abort,
-    alloc: Global,
-    answer: Option<ReadError>,
-    words: &'static str,
-) -> Done {
+/// The call was refused, with these words, for which no memory is taken.
+pub(crate) fn is_refused(rt: &impl Abort, answer: Option<ReadError>, words: &str) -> Done {
     let Some(refused) = answer else {
         panic!(rt; "not refused");
     };
     if matches!(refused.code(), ReadErrorCode::OutOfMemory) {
         return Err(Fail::from(refused));
     }
-    let text = Error::from(refused).to_string(alloc)?;
-    assert_eq!(rt; text.as_str(), words);
+    assert_eq!(rt; InlineText::<96>::of(Error::from(refused)).as_str(), words);
     Ok(())
 }
 
@@ -37,50 +32,134 @@ fn lent_by_input<'a>(rt: &impl Abort, part: EitherLifetime<'_, 'a>) -> &'a [u8] 
     }
 }
 
-/// The bytes of this part, which the source lends.
-fn lent_by_source<'a>(rt: &impl Abort, part: EitherLifetime<'a, '_>) -> &'a [u8] {
-    match part {
-        EitherLifetime::Short(bytes) => bytes,
+// The checks below promise nothing, so that a test of many calls carries no facts from one to the
+// next.
+
+/// This byte is next, and is taken; None at the end.
+pub(crate) fn next_is<S: Source>(rt: &impl Abort, source: &mut S, want: Option<u8>) -> Done {
+    assert_eq!(rt; source.next()?, want);
+    Ok(())
+}
+
+/// This byte is next, and stays; None at the end.
+pub(crate) fn peek_is<S: Source>(rt: &impl Abort, source: &mut S, want: Option<u8>) -> Done {
+    assert_eq!(rt; source.peek()?, want);
+    Ok(())
+}
+
+/// So many bytes were handed out.
+pub(crate) fn offset_is<S: Source>(rt: &impl Abort, source: &S, want: u64) {
+    assert_eq!(rt; source.offset(), want);
+}
+
+/// These bytes were joined.
+pub(crate) fn buffer_is<S: Source>(rt: &impl Abort, source: &S, want: &'static [u8]) {
+    assert_eq!(rt; source.buffer(), want);
+}
+
+/// So many bytes are joined to those before.
+pub(crate) fn joins<S: Source>(source: &mut S, n: usize) -> Done {
+    source.read_to_buffer(n)?;
+    Ok(())
+}
+
+/// This byte comes for a place of one.
+pub(crate) fn fills_one<S: Source>(rt: &impl Abort, source: &mut S, want: u8) -> Done {
+    let mut byte = [0; 1];
+    source.read_into(&mut byte)?;
+    assert_eq!(rt; byte[0], want);
+    Ok(())
+}
+
+/// So many bytes come to the vector's end, and it is these then.
+pub(crate) fn extends<S: Source>(
+    rt: &impl Abort,
+    source: &mut S,
+    out: &mut Vec<u8>,
+    n: usize,
+    want: &'static [u8],
+) -> Done {
+    source.read_to_vec(n, out)?;
+    assert_eq!(rt; out.as_slice(), want);
+    Ok(())
+}
+
+/// The part that is read is these bytes, whoever lends it.
+pub(crate) fn reads<'de, R: Read<'de>>(rt: &impl Abort, source: &mut R, want: &[u8]) -> Done {
+    match source.read(want.len())? {
+        EitherLifetime::Short(bytes) => assert_eq!(rt; bytes, want),
+        EitherLifetime::Long(bytes) => assert_eq!(rt; bytes, want),
+    }
+    Ok(())
+}
+
+/// What was joined is these bytes, which the source lends.
+fn joined_by_source<'de, R: Read<'de>>(rt: &impl Abort, source: &mut R, want: &[u8]) {
+    match source.take_buffer() {
+        EitherLifetime::Short(bytes) => assert_eq!(rt; bytes, want),
         EitherLifetime::Long(_) => panic!(rt; "lent by the input"),
     }
+}
+
+/// So many bytes are skipped.
+pub(crate) fn skips<S: Source>(source: &mut S, n: usize) -> Done {
+    source.skip(n)?;
+    Ok(())
+}
+
+/// So many bytes are skipped, of which so many are UTF-8.
+pub(crate) fn skips_text<S: Source>(
+    rt: &impl Abort,
+    source: &mut S,
+    n: usize,
+    valid: usize,
+) -> Done {
+    assert_eq!(rt; source.skip_text(n)?, valid);
+    Ok(())
 }
 
 /// This byte is next. It is looked at, and then taken.
 fn peeks_and_discards<S: Source>(rt: &impl Abort, source: &mut S, byte: u8) -> Done {
     let before = source.offset();
-    assert_eq!(rt; source.peek()?, Some(byte));
-    assert_eq!(rt; source.offset(), before);
+    peek_is(rt, source, Some(byte))?;
+    offset_is(rt, source, before);
+    discards(source)?;
+    assert_eq!(rt; source.offset().checked_sub(before), Some(1));
+    Ok(())
+}
+
+/// The next byte is passed over.
+fn discards<S: Source>(source: &mut S) -> Done {
     if source.peek()?.is_some() {
         source.discard();
     }
-    assert_eq!(rt; source.offset().checked_sub(before), Some(1));
     Ok(())
 }
 
 /// The source gives the bytes `63 66 6f 6f 18 2a f6`, and then the end.
 fn gives_all<'de, R: Read<'de>>(rt: &impl Abort, source: &mut R) -> Done {
-    assert_eq!(rt; source.offset(), 0);
+    offset_is(rt, source, 0);
     peeks_and_discards(rt, source, 0x63)?;
-    match source.read(3)? {
-        EitherLifetime::Short(bytes) => assert_eq!(rt; bytes, b"foo".as_slice()),
-        EitherLifetime::Long(bytes) => assert_eq!(rt; bytes, b"foo".as_slice()),
-    }
-    assert_eq!(rt; source.offset(), 4);
-    assert_eq!(rt; source.next()?, Some(0x18));
-    assert_eq!(rt; source.offset(), 5);
-    let mut number = [0; 1];
-    source.read_into(&mut number)?;
-    assert_eq!(rt; number[0], 0x2a);
-    source.read_into(&mut [])?;
-    assert_eq!(rt; source.offset(), 6);
+    reads(rt, source, b"foo")?;
+    offset_is(rt, source, 4);
+    next_is(rt, source, Some(0x18))?;
+    offset_is(rt, source, 5);
+    fills_one(rt, source, 0x2a)?;
+    fills_none(source)?;
+    offset_is(rt, source, 6);
     peeks_and_discards(rt, source, 0xf6)?;
-    assert_eq!(rt; source.peek()?, None);
-    assert_eq!(rt; source.peek()?, None);
-    assert_eq!(rt; source.next()?, None);
-    assert_eq!(rt; source.next()?, None);
-    assert_eq!(rt; source.offset(), 7);
+    peek_is(rt, source, None)?;
+    peek_is(rt, source, None)?;
+    next_is(rt, source, None)?;
+    next_is(rt, source, None)?;
+    offset_is(rt, source, 7);
+    fills_none(source)?;
+    joins(source, 0)
+}
+
+/// No byte is asked for.
+fn fills_none<S: Source>(source: &mut S) -> Done {
     source.read_into(&mut [])?;
-    source.read_to_buffer(0)?;
     Ok(())
 }
 
@@ -89,77 +168,118 @@ fn fills_a_vector<S: Source>(rt: &impl Abort, alloc: Global, source: &mut S) -> 
     let mut out = Vec::with_capacity(alloc, 7)?;
     out.push(0x43)?;
     source.clear_buffer();
-    assert_eq!(rt; source.peek()?, Some(0x63));
-    source.read_to_vec(3, &mut out)?;
-    assert_eq!(rt; out.as_slice(), b"\x43\x63fo".as_slice());
-    assert_eq!(rt; source.offset(), 3);
-    assert_eq!(rt; source.buffer().len(), 0);
-    source.read_to_buffer(2)?;
-    assert_eq!(rt; source.buffer(), b"o\x18".as_slice());
-    source.read_to_vec(0, &mut out)?;
-    source.read_to_vec(1, &mut out)?;
-    assert_eq!(rt; out.as_slice(), b"\x43\x63fo\x2a".as_slice());
-    assert_eq!(rt; source.buffer(), b"o\x18".as_slice());
-    assert_eq!(rt; source.offset(), 6);
-    assert_eq!(rt; source.next()?, Some(0xf6));
-    let end = "EOF while parsing a value at offset 7";
-    is_refused(rt, alloc, source.read_to_vec(1, &mut out).err(), end)?;
-    assert_eq!(rt; source.buffer(), b"o\x18".as_slice());
+    peek_is(rt, source, Some(0x63))?;
+    extends(rt, source, &mut out, 3, b"\x43\x63fo")?;
+    offset_is(rt, source, 3);
+    buffer_is(rt, source, b"");
+    joins(source, 2)?;
+    buffer_is(rt, source, b"o\x18");
+    extends(rt, source, &mut out, 0, b"\x43\x63fo")?;
+    extends(rt, source, &mut out, 1, b"\x43\x63fo\x2a")?;
+    buffer_is(rt, source, b"o\x18");
+    offset_is(rt, source, 6);
+    next_is(rt, source, Some(0xf6))?;
+    refuses_a_vector(
+        rt,
+        alloc,
+        source,
+        1,
+        "EOF while parsing a value at offset 7",
+    )?;
+    buffer_is(rt, source, b"o\x18");
     Ok(())
+}
+
+/// A vector gets no bytes, and takes no memory for them.
+pub(crate) fn refuses_a_vector<S: Source>(
+    rt: &impl Abort,
+    alloc: Global,
+    source: &mut S,
+    n: usize,
+    words: &str,
+) -> Done {
+    let mut out = Vec::new(alloc);
+    is_refused(rt, source.read_to_vec(n, &mut out).err(), words)?;
+    assert_eq!(rt; out.capacity(), 0);
+    Ok(())
+}
+
+/// So many bytes aren't joined.
+pub(crate) fn refuses_to_join<S: Source>(
+    rt: &impl Abort,
+    source: &mut S,
+    n: usize,
+    words: &str,
+) -> Done {
+    is_refused(rt, source.read_to_buffer(n).err(), words)
+}
+
+/// So many bytes aren't read.
+fn refuses_to_read<'de, R: Read<'de>>(
+    rt: &impl Abort,
+    source: &mut R,
+    n: usize,
+    words: &str,
+) -> Done {
+    is_refused(rt, source.read(n).err(), words)
+}
+
+/// A place of so many bytes isn't filled.
+pub(crate) fn refuses_to_fill<S: Source>(
+    rt: &impl Abort,
+    source: &mut S,
+    place: &mut [u8],
+    words: &str,
+) -> Done {
+    is_refused(rt, source.read_into(place).err(), words)
 }
 
 /// The source has the bytes `01 02 03` to come. What wants more of them is told where they end.
 fn tells_the_end<'de, R: Read<'de>>(rt: &impl Abort, alloc: Global, source: &mut R) -> Done {
     let end = "EOF while parsing a value at offset 3";
-    assert_eq!(rt; source.next()?, Some(1));
-    is_refused(rt, alloc, source.read_to_buffer(3).err(), end)?;
-    is_refused(rt, alloc, source.read_to_buffer(usize::MAX).err(), end)?;
-    is_refused(rt, alloc, source.read_into(&mut [0; 3]).err(), end)?;
-    let mut out = Vec::new(alloc);
-    is_refused(rt, alloc, source.read_to_vec(3, &mut out).err(), end)?;
-    is_refused(
-        rt,
-        alloc,
-        source.read_to_vec(usize::MAX, &mut out).err(),
-        end,
-    )?;
-    assert_eq!(rt; out.capacity(), 0);
-    is_refused(rt, alloc, source.read(3).err(), end)?;
-    is_refused(rt, alloc, source.read(usize::MAX).err(), end)?;
-    assert_eq!(rt; source.offset(), 1);
-    assert_eq!(rt; source.next()?, Some(2));
-    assert_eq!(rt; source.next()?, Some(3));
-    is_refused(rt, alloc, source.read_to_buffer(1).err(), end)?;
-    is_refused(rt, alloc, source.read_into(&mut [0; 1]).err(), end)?;
-    is_refused(rt, alloc, source.read(1).err(), end)?;
-    assert_eq!(rt; source.next()?, None);
-    Ok(())
+    next_is(rt, source, Some(1))?;
+    for n in [3, usize::MAX] {
+        refuses_to_join(rt, source, n, end)?;
+        refuses_a_vector(rt, alloc, source, n, end)?;
+        refuses_to_read(rt, source, n, end)?;
+    }
+    refuses_to_fill(rt, source, &mut [0; 3], end)?;
+    offset_is(rt, source, 1);
+    next_is(rt, source, Some(2))?;
+    next_is(rt, source, Some(3))?;
+    refuses_to_join(rt, source, 1, end)?;
+    refuses_to_fill(rt, source, &mut [0; 1], end)?;
+    refuses_to_read(rt, source, 1, end)?;
+    next_is(rt, source, None)
 }
 
 /// The source gives the chunks `61 61`, `61 62` and a break. They are joined.
 fn joins_two_chunks<S: Source>(rt: &impl Abort, source: &mut S) -> Done {
     source.clear_buffer();
-    assert_eq!(rt; source.next()?, Some(0x61));
-    source.read_to_buffer(1)?;
-    assert_eq!(rt; source.next()?, Some(0x61));
-    source.read_to_buffer(1)?;
-    assert_eq!(rt; source.next()?, Some(0xff));
-    Ok(())
+    next_is(rt, source, Some(0x61))?;
+    joins(source, 1)?;
+    next_is(rt, source, Some(0x61))?;
+    joins(source, 1)?;
+    next_is(rt, source, Some(0xff))
 }
 
 /// The source gives the bytes `01 61 c3 28 62 63 f6`. All but the first and the last are skipped.
-fn skips_its_bytes<S: Source>(rt: &impl Abort, alloc: Global, source: &mut S) -> Done {
-    assert_eq!(rt; source.peek()?, Some(1));
-    source.skip(1)?;
-    assert_eq!(rt; source.skip_text(0)?, 0);
-    assert_eq!(rt; source.skip_text(3)?, 1);
-    assert_eq!(rt; source.offset(), 4);
-    assert_eq!(rt; source.skip_text(2)?, 2);
-    source.skip(0)?;
-    assert_eq!(rt; source.next()?, Some(0xf6));
+fn skips_its_bytes<S: Source>(rt: &impl Abort, source: &mut S) -> Done {
+    peek_is(rt, source, Some(1))?;
+    skips(source, 1)?;
+    skips_text(rt, source, 0, 0)?;
+    skips_text(rt, source, 3, 1)?;
+    offset_is(rt, source, 4);
+    skips_text(rt, source, 2, 2)?;
+    skips(source, 0)?;
+    next_is(rt, source, Some(0xf6))?;
     let end = "EOF while parsing a value at offset 7";
-    is_refused(rt, alloc, source.skip(1).err(), end)?;
-    is_refused(rt, alloc, source.skip_text(1).err(), end)?;
-    is_refused(rt, alloc, source.skip(usize::MAX).err(), end)?;
-    Ok(())
+    refuses_to_skip(rt, source, 1, end)?;
+    is_refused(rt, source.skip_text(1).err(), end)?;
+    refuses_to_skip(rt, source, usize::MAX, end)
+}
+
+/// So many bytes aren't skipped.
+fn refuses_to_skip<S: Source>(rt: &impl Abort, source: &mut S, n: usize, words: &str) -> Done {
+    is_refused(rt, source.skip(n).err(), words)
 }

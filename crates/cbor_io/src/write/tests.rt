@@ -1,6 +1,7 @@
 use super::{IoWrite, SliceWrite, Write};
 use crate::error::Result;
 use std::alloc::{AllocError, Global};
+use std::fmt::InlineText;
 use std::io;
 use std::io::ErrorKind;
 use std::process::Abort;
@@ -67,26 +68,44 @@ impl io::Write for FullWriter {
     }
 }
 
-/// The call was refused, with these words.
-fn is_refused(rt: &impl Abort, alloc: Global, answer: Result<()>, words: &'static str) -> Done {
-    let Err(error) = answer else {
+// The checks below promise nothing, so that a test of many calls carries no facts from one to the
+// next.
+
+/// The call was refused, with these words, for which no memory is taken.
+fn is_refused(rt: &impl Abort, answer: Result<()>, words: &str) {
+    let Err(e) = answer else {
         panic!(rt; "not refused");
     };
-    assert_eq!(rt; error.to_string(alloc)?.as_str(), words);
+    assert_eq!(rt; InlineText::<96>::of(e).as_str(), words);
+}
+
+/// The piece is written.
+fn takes<W: Write>(sink: &mut W, piece: &[u8]) -> Done {
+    sink.write_all(piece)?;
     Ok(())
+}
+
+/// The piece isn't written, or only a beginning of it.
+fn refuses<W: Write>(rt: &impl Abort, sink: &mut W, piece: &[u8], words: &str) {
+    is_refused(rt, sink.write_all(piece), words);
+}
+
+/// So many bytes were written.
+fn has_written(rt: &impl Abort, sink: &SliceWrite<'_>, want: usize) {
+    assert_eq!(rt; sink.bytes_written(), want);
 }
 
 #[test]
 fn fills_a_slice(rt: HostRuntime) -> Done {
     let mut room = [7; 7];
     let mut sink = SliceWrite::new(&mut room);
-    assert_eq!(rt; sink.bytes_written(), 0);
-    sink.write_all(b"\x66")?;
-    sink.write_all(b"")?;
-    assert_eq!(rt; sink.bytes_written(), 1);
-    sink.write_all(b"foobar")?;
-    assert_eq!(rt; sink.bytes_written(), 7);
-    sink.write_all(b"")?;
+    has_written(&rt, &sink, 0);
+    takes(&mut sink, b"\x66")?;
+    takes(&mut sink, b"")?;
+    has_written(&rt, &sink, 1);
+    takes(&mut sink, b"foobar")?;
+    has_written(&rt, &sink, 7);
+    takes(&mut sink, b"")?;
     assert_eq!(rt; &*sink.into_inner(), b"\x66foobar".as_slice());
     Ok(())
 }
@@ -96,15 +115,14 @@ fn fills_a_slice(rt: HostRuntime) -> Done {
 fn refuses_a_piece_that_does_not_fit(rt: HostRuntime) -> Done {
     let mut room = [7; 3];
     let mut sink = SliceWrite::new(&mut room);
-    sink.write_all(b"\x66")?;
-    let refused = sink.write_all(b"foobar");
-    is_refused(
+    takes(&mut sink, b"\x66")?;
+    refuses(
         &rt,
-        rt.alloc(),
-        refused,
+        &mut sink,
+        b"foobar",
         "Scratch buffer too small at offset 1",
-    )?;
-    assert_eq!(rt; sink.bytes_written(), 1);
+    );
+    has_written(&rt, &sink, 1);
     assert_eq!(rt; &*sink.into_inner(), b"\x66\x07\x07".as_slice());
     Ok(())
 }
@@ -113,23 +131,26 @@ fn refuses_a_piece_that_does_not_fit(rt: HostRuntime) -> Done {
 fn goes_on_after_a_piece_that_did_not_fit(rt: HostRuntime) -> Done {
     let mut room = [7; 3];
     let mut sink = SliceWrite::new(&mut room);
-    assert!(rt; sink.write_all(b"four").is_err());
-    sink.write_all(b"ab")?;
-    assert!(rt; sink.write_all(b"cd").is_err());
-    sink.write_all(b"c")?;
-    assert_eq!(rt; sink.bytes_written(), 3);
+    refuses(&rt, &mut sink, b"four", "Scratch buffer too small");
+    takes(&mut sink, b"ab")?;
+    refuses(
+        &rt,
+        &mut sink,
+        b"cd",
+        "Scratch buffer too small at offset 2",
+    );
+    takes(&mut sink, b"c")?;
+    has_written(&rt, &sink, 3);
     assert_eq!(rt; &*sink.into_inner(), b"abc".as_slice());
     Ok(())
 }
 
 #[test]
-fn refuses_any_byte_where_there_is_no_room(rt: HostRuntime) -> Done {
+fn refuses_any_byte_where_there_is_no_room(rt: HostRuntime) {
     let mut room: [u8; 0] = [];
     let mut sink = SliceWrite::new(&mut room);
-    let refused = sink.write_all(b"\xf6");
-    is_refused(&rt, rt.alloc(), refused, "Scratch buffer too small")?;
-    assert_eq!(rt; sink.bytes_written(), 0);
-    Ok(())
+    refuses(&rt, &mut sink, b"\xf6", "Scratch buffer too small");
+    has_written(&rt, &sink, 0);
 }
 
 #[test]
@@ -137,9 +158,9 @@ fn appends_to_a_vector(rt: HostRuntime) -> Done {
     let mut bytes: Vec<u8> = vec![in rt.alloc(); 0x82]?;
     {
         let mut sink = &mut bytes;
-        Write::write_all(&mut sink, b"\x01")?;
+        takes(&mut sink, b"\x01")?;
     }
-    Write::write_all(&mut bytes, b"\x02")?;
+    takes(&mut bytes, b"\x02")?;
     assert_eq!(rt; bytes.as_slice(), b"\x82\x01\x02".as_slice());
     Ok(())
 }
@@ -149,8 +170,8 @@ fn writes_to_a_writer(rt: HostRuntime) -> Done {
     let mut writer = FailingWriter::new(rt.alloc(), 4, ErrorKind::BrokenPipe)?;
     {
         let mut sink = IoWrite::new(&mut writer);
-        sink.write_all(b"\x66")?;
-        sink.write_all(b"foobar")?;
+        takes(&mut sink, b"\x66")?;
+        takes(&mut sink, b"foobar")?;
     }
     assert_eq!(rt; writer.taken.as_slice(), b"\x66foobar".as_slice());
     Ok(())
@@ -158,21 +179,23 @@ fn writes_to_a_writer(rt: HostRuntime) -> Done {
 
 #[test]
 fn tells_a_writers_fault(rt: HostRuntime) -> Done {
-    let alloc = rt.alloc();
     for left in 0..3usize {
-        let mut writer = FailingWriter::new(alloc, left, ErrorKind::BrokenPipe)?;
-        let refused = IoWrite::new(&mut writer).write_all(b"foobar");
-        is_refused(&rt, alloc, refused, "I/O error")?;
-        assert_eq!(rt; writer.taken.len(), 2 * left);
+        fails_after(&rt, rt.alloc(), left)?;
     }
+    Ok(())
+}
+
+/// A writer that fails after so many writes has taken what they gave.
+fn fails_after(rt: &impl Abort, alloc: Global, left: usize) -> Done {
+    let mut writer = FailingWriter::new(alloc, left, ErrorKind::BrokenPipe)?;
+    refuses(rt, &mut IoWrite::new(&mut writer), b"foobar", "I/O error");
+    assert_eq!(rt; writer.taken.len().checked_sub(left), Some(left));
     Ok(())
 }
 
 #[test]
 fn tells_a_writer_that_takes_nothing(rt: HostRuntime) -> Done {
     let mut sink = IoWrite::new(FullWriter);
-    let refused = sink.write_all(b"\xf6");
-    is_refused(&rt, rt.alloc(), refused, "I/O error")?;
-    sink.write_all(b"")?;
-    Ok(())
+    refuses(&rt, &mut sink, b"\xf6", "I/O error");
+    takes(&mut sink, b"")
 }

@@ -2,3 +2,8 @@
 
 -- it is the value of the item that the bytes spell, and so storable and ordered
 pub use Rattle.cbor_typed.proofs.Values.{spelled_value, is_canonical}
+-- what is made of a value that was read, or that none was
+pub use Rattle.cbor_typed.proofs.OfValues.{value_made, no_value}
+-- what a value stands for
+pub use Rattle.cbor_typed.proofs.OfValues.{view_null, view_bool, view_integer, view_float}
+pub use Rattle.cbor_value.proofs.facts.Views.{view_bytes, view_text, view_array, view_map, view_tag, count_views}

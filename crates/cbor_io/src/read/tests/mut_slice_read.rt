@@ -1,8 +1,9 @@
 use super::{
-    Done, fills_a_vector, gives_all, is_refused, joins_two_chunks, lent_by_input, skips_its_bytes,
-    tells_the_end,
+    Done, fills_a_vector, gives_all, joins, joins_two_chunks, lent_by_input, next_is, offset_is,
+    refuses_to_join, refuses_to_read, skips_its_bytes, tells_the_end,
 };
 use crate::read::{MutSliceRead, Read, Source};
+use std::process::Abort;
 
 #[test]
 fn gives_the_bytes_of_a_slice(rt: HostRuntime) -> Done {
@@ -13,7 +14,7 @@ fn gives_the_bytes_of_a_slice(rt: HostRuntime) -> Done {
 #[test]
 fn skips_bytes_of_a_slice(rt: HostRuntime) -> Done {
     let mut bytes = *b"\x01a\xc3\x28bc\xf6";
-    skips_its_bytes(&rt, rt.alloc(), &mut MutSliceRead::new(&mut bytes))
+    skips_its_bytes(&rt, &mut MutSliceRead::new(&mut bytes))
 }
 
 #[test]
@@ -31,20 +32,19 @@ fn tells_the_end_of_a_slice(rt: HostRuntime) -> Done {
 // The end is told from the input's start, also behind what was lent.
 #[test]
 fn counts_what_was_lent(rt: HostRuntime) -> Done {
-    let alloc = rt.alloc();
     let mut bytes = *b"\x63foo\x63bar";
     let mut source = MutSliceRead::new(&mut bytes);
-    assert_eq!(rt; source.next()?, Some(0x63));
-    let foo = lent_by_input(&rt, source.read(3)?);
-    assert_eq!(rt; source.offset(), 4);
     let end = "EOF while parsing a value at offset 8";
-    is_refused(&rt, alloc, source.read(5).err(), end)?;
+    next_is(&rt, &mut source, Some(0x63))?;
+    let foo = lent_by_input(&rt, source.read(3)?);
+    offset_is(&rt, &source, 4);
+    refuses_to_read(&rt, &mut source, 5, end)?;
     source.clear_buffer();
-    assert_eq!(rt; source.offset(), 4);
-    is_refused(&rt, alloc, source.read_to_buffer(5).err(), end)?;
-    assert_eq!(rt; source.next()?, Some(0x63));
+    offset_is(&rt, &source, 4);
+    refuses_to_join(&rt, &mut source, 5, end)?;
+    next_is(&rt, &mut source, Some(0x63))?;
     let bar = lent_by_input(&rt, source.read(3)?);
-    assert_eq!(rt; source.offset(), 8);
+    offset_is(&rt, &source, 8);
     assert_eq!(rt; foo, b"foo".as_slice());
     assert_eq!(rt; bar, b"bar".as_slice());
     Ok(())
@@ -57,15 +57,15 @@ fn joins_chunks_in_place(rt: HostRuntime) -> Done {
     let mut source = MutSliceRead::new(&mut bytes);
     joins_two_chunks(&rt, &mut source)?;
     let ab = lent_by_input(&rt, source.take_buffer());
-    assert_eq!(rt; source.offset(), 5);
+    offset_is(&rt, &source, 5);
     source.clear_buffer();
     assert_eq!(rt; lent_by_input(&rt, source.take_buffer()).len(), 0);
-    source.read_to_buffer(1)?;
-    assert_eq!(rt; source.next()?, Some(0x64));
-    source.read_to_buffer(2)?;
+    joins(&mut source, 1)?;
+    next_is(&rt, &mut source, Some(0x64))?;
+    joins(&mut source, 2)?;
     let joined = lent_by_input(&rt, source.take_buffer());
-    assert_eq!(rt; source.offset(), 9);
-    assert_eq!(rt; source.next()?, None);
+    offset_is(&rt, &source, 9);
+    next_is(&rt, &mut source, None)?;
     assert_eq!(rt; ab, b"ab".as_slice());
     assert_eq!(rt; joined, b"c62".as_slice());
     Ok(())
@@ -77,17 +77,21 @@ fn joins_long_chunks_in_place(rt: HostRuntime) -> Done {
     let mut bytes = *b"\x66foobar\x66123456\xff\x01";
     let mut source = MutSliceRead::new(&mut bytes);
     source.clear_buffer();
-    assert_eq!(rt; source.next()?, Some(0x66));
-    source.read_to_buffer(6)?;
-    assert_eq!(rt; source.next()?, Some(0x66));
-    source.read_to_buffer(6)?;
-    let mut last = [0; 2];
-    source.read_into(&mut last)?;
-    assert_eq!(rt; last, [0xff, 0x01]);
-    assert_eq!(rt;
-        lent_by_input(&rt, source.take_buffer()),
-        b"foobar123456".as_slice()
-    );
-    assert_eq!(rt; source.offset(), 16);
+    next_is(&rt, &mut source, Some(0x66))?;
+    joins(&mut source, 6)?;
+    next_is(&rt, &mut source, Some(0x66))?;
+    joins(&mut source, 6)?;
+    fills_two(&rt, &mut source, [0xff, 0x01])?;
+    let joined = lent_by_input(&rt, source.take_buffer());
+    assert_eq!(rt; joined, b"foobar123456".as_slice());
+    offset_is(&rt, &source, 16);
+    Ok(())
+}
+
+/// These bytes come for a place of two.
+fn fills_two<S: Source>(rt: &impl Abort, source: &mut S, want: [u8; 2]) -> Done {
+    let mut place = [0; 2];
+    source.read_into(&mut place)?;
+    assert_eq!(rt; place, want);
     Ok(())
 }

@@ -1,6 +1,6 @@
 use super::{
-    Done, fills_a_vector, gives_all, is_refused, joins_two_chunks, lent_by_input, lent_by_source,
-    skips_its_bytes, tells_the_end,
+    Done, fills_a_vector, gives_all, is_refused, joined_by_source, joins, joins_two_chunks,
+    lent_by_input, offset_is, peek_is, skips_its_bytes, tells_the_end,
 };
 use crate::read::{Offset, Read, SliceRead, Source};
 
@@ -16,11 +16,8 @@ fn gives_the_bytes_of_a_slice(rt: HostRuntime) -> Done {
 #[test]
 fn skips_bytes_of_a_slice(rt: HostRuntime) -> Done {
     let alloc = rt.alloc();
-    skips_its_bytes(
-        &rt,
-        alloc,
-        &mut SliceRead::new(alloc, b"\x01a\xc3\x28bc\xf6"),
-    )
+    let mut source = SliceRead::new(alloc, b"\x01a\xc3\x28bc\xf6");
+    skips_its_bytes(&rt, &mut source)
 }
 
 #[test]
@@ -35,13 +32,8 @@ fn tells_the_end_of_a_slice(rt: HostRuntime) -> Done {
     let alloc = rt.alloc();
     tells_the_end(&rt, alloc, &mut SliceRead::new(alloc, b"\x01\x02\x03"))?;
     let mut nothing = SliceRead::new(alloc, b"");
-    assert_eq!(rt; nothing.peek()?, None);
-    is_refused(
-        &rt,
-        alloc,
-        nothing.read(1).err(),
-        "EOF while parsing a value",
-    )
+    peek_is(&rt, &mut nothing, None)?;
+    is_refused(&rt, nothing.read(1).err(), "EOF while parsing a value")
 }
 
 #[test]
@@ -51,7 +43,7 @@ fn lends_what_is_read_of_a_slice(rt: HostRuntime) -> Done {
     let foo = lent_by_input(&rt, source.read(3)?);
     let bar = lent_by_input(&rt, source.read(3)?);
     let nothing = lent_by_input(&rt, source.read(0)?);
-    assert_eq!(rt; source.offset(), 6);
+    offset_is(&rt, &source, 6);
     assert_eq!(rt; foo, b"foo".as_slice());
     assert_eq!(rt; bar, b"bar".as_slice());
     assert_eq!(rt; nothing.len(), 0);
@@ -62,16 +54,13 @@ fn lends_what_is_read_of_a_slice(rt: HostRuntime) -> Done {
 fn joins_chunks_of_a_slice(rt: HostRuntime) -> Done {
     let mut source = SliceRead::new(rt.alloc(), b"aaab\xffbcd");
     joins_two_chunks(&rt, &mut source)?;
-    assert_eq!(rt; lent_by_source(&rt, source.take_buffer()), b"ab".as_slice());
-    assert_eq!(rt; source.offset(), 5);
+    joined_by_source(&rt, &mut source, b"ab");
+    offset_is(&rt, &source, 5);
     source.clear_buffer();
-    assert_eq!(rt; lent_by_source(&rt, source.take_buffer()).len(), 0);
-    source.read_to_buffer(2)?;
-    source.read_to_buffer(1)?;
-    assert_eq!(rt;
-        lent_by_source(&rt, source.take_buffer()),
-        b"bcd".as_slice()
-    );
-    assert_eq!(rt; source.offset(), 8);
+    joined_by_source(&rt, &mut source, b"");
+    joins(&mut source, 2)?;
+    joins(&mut source, 1)?;
+    joined_by_source(&rt, &mut source, b"bcd");
+    offset_is(&rt, &source, 8);
     Ok(())
 }

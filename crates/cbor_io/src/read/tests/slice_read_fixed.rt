@@ -1,8 +1,9 @@
 use super::{
-    Done, fills_a_vector, gives_all, is_refused, joins_two_chunks, lent_by_input, lent_by_source,
-    skips_its_bytes, tells_the_end,
+    Done, fills_a_vector, gives_all, joined_by_source, joins, joins_two_chunks, lent_by_input,
+    next_is, offset_is, refuses_to_join, skips_its_bytes, tells_the_end,
 };
 use crate::read::{Offset, Read, SliceReadFixed, Source};
+use std::process::Abort;
 
 #[test]
 fn gives_the_bytes_of_a_slice(rt: HostRuntime) -> Done {
@@ -16,7 +17,7 @@ fn gives_the_bytes_of_a_slice(rt: HostRuntime) -> Done {
 #[test]
 fn skips_bytes_of_a_slice(rt: HostRuntime) -> Done {
     let mut source = SliceReadFixed::new(b"\x01a\xc3\x28bc\xf6", &mut []);
-    skips_its_bytes(&rt, rt.alloc(), &mut source)
+    skips_its_bytes(&rt, &mut source)
 }
 
 // A scratch of the length of what is joined is enough: nothing else goes there.
@@ -43,7 +44,7 @@ fn lends_what_is_read_of_a_slice(rt: HostRuntime) -> Done {
     let mut source = SliceReadFixed::new(&bytes, &mut []);
     let foo = lent_by_input(&rt, source.read(3)?);
     let bar = lent_by_input(&rt, source.read(3)?);
-    assert_eq!(rt; source.offset(), 6);
+    offset_is(&rt, &source, 6);
     assert_eq!(rt; foo, b"foo".as_slice());
     assert_eq!(rt; bar, b"bar".as_slice());
     Ok(())
@@ -54,13 +55,13 @@ fn joins_chunks_in_a_scratch_of_their_length(rt: HostRuntime) -> Done {
     let mut scratch = [7; 2];
     let mut source = SliceReadFixed::new(b"aaab\xffcd", &mut scratch);
     joins_two_chunks(&rt, &mut source)?;
-    assert_eq!(rt; lent_by_source(&rt, source.take_buffer()), b"ab".as_slice());
-    assert_eq!(rt; source.offset(), 5);
+    joined_by_source(&rt, &mut source, b"ab");
+    offset_is(&rt, &source, 5);
     source.clear_buffer();
-    assert_eq!(rt; lent_by_source(&rt, source.take_buffer()).len(), 0);
-    source.read_to_buffer(2)?;
-    assert_eq!(rt; lent_by_source(&rt, source.take_buffer()), b"cd".as_slice());
-    assert_eq!(rt; source.offset(), 7);
+    joined_by_source(&rt, &mut source, b"");
+    joins(&mut source, 2)?;
+    joined_by_source(&rt, &mut source, b"cd");
+    offset_is(&rt, &source, 7);
     Ok(())
 }
 
@@ -68,31 +69,29 @@ fn joins_chunks_in_a_scratch_of_their_length(rt: HostRuntime) -> Done {
 // nothing has changed then.
 #[test]
 fn tells_a_scratch_that_is_a_byte_too_short(rt: HostRuntime) -> Done {
-    let alloc = rt.alloc();
     let mut scratch = [7; 3];
     let mut source = SliceReadFixed::new(b"\x62ab\x62cd\xff", &mut scratch);
     source.clear_buffer();
-    assert_eq!(rt; source.next()?, Some(0x62));
-    source.read_to_buffer(2)?;
-    assert_eq!(rt; source.next()?, Some(0x62));
+    next_is(&rt, &mut source, Some(0x62))?;
+    joins(&mut source, 2)?;
+    next_is(&rt, &mut source, Some(0x62))?;
     let words = "Scratch buffer too small at offset 4";
-    is_refused(&rt, alloc, source.read_to_buffer(2).err(), words)?;
-    assert_eq!(rt; source.offset(), 4);
-    assert_eq!(rt; lent_by_source(&rt, source.take_buffer()), b"ab".as_slice());
-    source.read_to_buffer(1)?;
-    assert_eq!(rt;
-        lent_by_source(&rt, source.take_buffer()),
-        b"abc".as_slice()
-    );
+    refuses_to_join(&rt, &mut source, 2, words)?;
+    offset_is(&rt, &source, 4);
+    joined_by_source(&rt, &mut source, b"ab");
+    goes_on_byte_by_byte(&rt, &mut source)
+}
+
+/// The source has the bytes `63 64 ff` to come, and room for one more.
+fn goes_on_byte_by_byte(rt: &impl Abort, source: &mut SliceReadFixed<'_, '_>) -> Done {
+    joins(source, 1)?;
+    joined_by_source(rt, source, b"abc");
     let words = "Scratch buffer too small at offset 5";
-    is_refused(&rt, alloc, source.read_to_buffer(2).err(), words)?;
+    refuses_to_join(rt, source, 2, words)?;
     let end = "EOF while parsing a value at offset 7";
-    is_refused(&rt, alloc, source.read_to_buffer(3).err(), end)?;
+    refuses_to_join(rt, source, 3, end)?;
     source.clear_buffer();
-    source.read_to_buffer(2)?;
-    assert_eq!(rt;
-        lent_by_source(&rt, source.take_buffer()),
-        b"d\xff".as_slice()
-    );
+    joins(source, 2)?;
+    joined_by_source(rt, source, b"d\xff");
     Ok(())
 }

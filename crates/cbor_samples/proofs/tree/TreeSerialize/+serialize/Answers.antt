@@ -1,4 +1,4 @@
-use Rattle.std.proofs.Common.{rules, ◌≡◌, ◌∙◌, refl, sym, ap, pos}
+use Rattle.std.proofs.Common.{rules, ◌≡◌, ◌∙◌, refl, sym, ap}
 use Rattle.std.specs.Prelude.{map}
 use Rattle.serde_cbor.specs.Document.{Doc, integer, sequence, declared, docs}
 use Rattle.serde_cbor.specs.Parts.{item}
@@ -9,7 +9,7 @@ use Rattle.cbor_samples.proofs.tree.TreeSerialize.+serialize.Goals as goal
 
 pub returns-in-Node : goal.returns-in-Node
 returns-in-Node g t c =
-    let step : Tree-F Doc → Doc = elim [ Tree-F.Leaf n ↦ integer (pos n) | Tree-F.Node parts ↦ sequence declared (docs (λ d. d) parts.items) ] in
+    let step : Tree-F Doc → Doc = elim [ Tree-F.Leaf n ↦ integer n | Tree-F.Node parts ↦ sequence declared (docs (λ d. d) parts.items) ] in
     let document : Tree → Doc = fold-Tree Doc step in
     let parts = c.in-Node.parts in
     let level : document (Node parts) ≡ sequence declared (docs (λ d. d) (map document parts.items)) = search (rules, the_lemmas) in

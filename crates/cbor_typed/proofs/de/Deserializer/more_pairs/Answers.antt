@@ -1,4 +1,4 @@
-use Rattle.std.proofs.Common.{◌≡◌, Ok, subst}
+use Rattle.std.proofs.Common.{rules, ◌≡◌, true, Ok, subst}
 use Rattle.cbor_de.specs.Gives.{Step}
 use Rattle.cbor_de.specs.declared.formats.Formats.{Formats}
 use Rattle.cbor_typed.specs.MapAccesses.{key_front}
@@ -6,11 +6,12 @@ use Rattle.cbor_typed.specs.Takes.{formats_of}
 use Rattle.cbor_typed.proofs.NextKeys.{pair_comes}
 use Rattle.cbor_typed.proofs.de.Deserializer.more_pairs.Goals as goal
 
-pub returns-in-Ok-clause-read : goal.returns-in-Ok-clause-read
-returns-in-Ok-clause-read g c =
+pub returns-clause-read : goal.returns-clause-read
+returns-clause-read g c =
     let old = c.args.self.now in
     let s = g.R.Source.source old.items.source in
     let m = g.R.Source.source c.more.new.self.source in
     let t = g.R.Source.source c.key_begins.new.self.items.source in
-    let front = subst (λ (f : Formats). Step m t (λ l bs rest. key_front (formats_of f) bs ≡ Ok (tt, rest))) c.more.ensures.formats c.in-Ok.ensures.read in
-    pair_comes s m (formats_of old.items.formats) c.args.remaining.now c.more.new.remaining c.in-Ok-true.field-0 t c.in-Ok-true.field-0-test c.in-Ok-true.ensures.read front
+    let more : c.in_ok-more.field-0 ≡ true = search rules in
+    let front = subst (λ (f : Formats). Step m t (λ l bs rest. key_front (formats_of f) bs ≡ Ok (tt, rest))) c.more.ensures.formats c.in_ok-key_begins.ensures.read in
+    pair_comes s m (formats_of old.items.formats) c.args.remaining.now c.more.new.remaining c.in_ok-more.field-0 t more c.in_ok-more.ensures.read front

@@ -1,5 +1,5 @@
 use Rattle.cbor_typed.specs.Takes.{context, formats_of}
-use Rattle.cbor_typed.proofs.VariantParts.{one_answer}
+use Rattle.cbor_typed.proofs.VariantParts.{one_answer, untold}
 use Rattle.cbor_typed.proofs.de.Deserializer.one_part.Goals as goal
 
 pub returns-in-Array-clause-read : goal.returns-in-Array-clause-read
@@ -9,3 +9,9 @@ pub returns-in-Map-clause-read : goal.returns-in-Map-clause-read
 returns-in-Map-clause-read g c =
     let old = c.args.self.now in
     rw c.in-Map.is (one_answer (g.T.Readable.reads (context old.items.formats g.R.Source.lends)) (formats_of old.items.formats) old.items.levels (g.R.Source.source old.items.source) (g.R.Source.source c.deserialize.new.de.items.source) g.R.Source.refusals c.deserialize.result c.deserialize.ensures.read)
+
+pub returns-in-Array-clause-alone : goal.returns-in-Array-clause-alone
+returns-in-Array-clause-alone g c = rw c.in-Array.is (untold c.only_item.result)
+
+pub returns-in-Map-clause-alone : goal.returns-in-Map-clause-alone
+returns-in-Map-clause-alone g c = rw c.in-Map.is (untold c.deserialize.result)

@@ -1,5 +1,5 @@
 use Rattle.cbor_typed.specs.Takes.{formats_of}
-use Rattle.cbor_typed.proofs.VariantParts.{parts_here, parts_answer}
+use Rattle.cbor_typed.proofs.VariantParts.{parts_here, parts_answer, untold}
 use Rattle.cbor_typed.proofs.de.Deserializer.parts.Goals as goal
 
 pub returns-in-Array-clause-read : goal.returns-in-Array-clause-read
@@ -12,3 +12,6 @@ returns-in-Map-clause-read g c =
     let old = c.args.self.now in
     let new = c.array_head.new.self in
     rw c.in-Map.is (parts_answer (formats_of old.items.formats) old.items.levels new.items.levels (g.R.Source.source old.items.source) (g.R.Source.source new.items.source) g.R.Source.refusals c.array_head.result c.array_head.ensures.read)
+
+pub returns-in-Map-clause-alone : goal.returns-in-Map-clause-alone
+returns-in-Map-clause-alone g c = rw c.in-Map.is (untold c.array_head.result)

@@ -9,9 +9,9 @@ use Rattle.cbor_typed.proofs.map.MapAccess.next_key.Goals as goal
 pub returns-in-Err-clause-read : goal.returns-in-Err-clause-read
 returns-in-Err-clause-read g c =
     let old = c.args.self.now in
-    let e = c.in-Err.e in
+    let e = c.error.result in
     none_is_key (g.K.Readable.reads (context old.de.now.items.formats g.R.Source.lends)) (formats_of old.de.now.items.formats) old.de.now.items.levels (remaining_of old.remaining)
-    g.R.Source.refusals (g.R.Source.source old.de.now.items.source) (code_of e) (offset_of e) c.in-Err.ensures.read
+    g.R.Source.refusals (g.R.Source.source old.de.now.items.source) (code_of e) (offset_of e) (c.in-Err.ensures.read e c.error.ensures.tells)
 
 pub returns-in-Err-deserialize-clause-read : goal.returns-in-Err-deserialize-clause-read
 returns-in-Err-deserialize-clause-read g c =

@@ -10,6 +10,7 @@ returns-in-Ok g c = (
     same_reference = refl;
     head = c.in-Ok.ensures.read;
     refused = tt;
+    alone = tt;
     outer = refl;
     inside = parts_inside c.args.self.form c.args.self.de.now.items.levels c.parts.new.self.items.levels c.args.self.outer c.requires c.in-Ok.ensures.inside;
     formats = c.in-Ok.ensures.formats;

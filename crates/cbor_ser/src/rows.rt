@@ -1,0 +1,69 @@
+//! What one row of a test asks. These promise nothing, so that a test of many rows carries no facts
+//! from one to the next.
+
+use crate::{Serialize, SliceWrite, to_vec, to_writer};
+use cbor_io::error;
+use cbor_value::Value;
+use std::alloc::{AllocError, Global};
+use std::fmt::InlineText;
+use std::process::Abort;
+use std::test::Fail;
+
+pub type Done = Result<(), Fail>;
+
+pub fn text(alloc: Global, text: &str) -> Result<Value, AllocError> {
+    Ok(Value::Text(text.to_owned(alloc)?))
+}
+
+pub fn tag(alloc: Global, tag: u64, value: Value) -> Result<Value, AllocError> {
+    match Box::new(alloc, value) {
+        Ok(inner) => Ok(Value::Tag(tag, inner)),
+        Err(_) => Err(AllocError),
+    }
+}
+
+/// The value is spelled so.
+pub fn writes<T: Serialize>(rt: &impl Abort, alloc: Global, value: &T, want: &[u8]) -> Done {
+    assert_eq!(rt; to_vec(alloc, value)?.as_slice(), want);
+    Ok(())
+}
+
+/// The call was refused, with these words, for which no memory is taken.
+pub fn is_refused<T: Drop>(rt: &impl Abort, answer: error::Result<T>, words: &str) -> Done {
+    let Err(e) = answer else {
+        panic!(rt; "not refused");
+    };
+    if e.is_memory() {
+        return Err(Fail::from(e));
+    }
+    assert_eq!(rt; InlineText::<96>::of(e).as_str(), words);
+    Ok(())
+}
+
+const TOO_FAR_OUT: &str = "The number can't be stored in CBOR";
+
+/// The call was refused for a number that is too far out.
+pub fn is_too_far_out<T: Drop>(rt: &impl Abort, answer: error::Result<T>) -> Done {
+    is_refused(rt, answer, TOO_FAR_OUT)
+}
+
+/// The value has a number that is too far out.
+pub fn is_not_written(rt: &impl Abort, alloc: Global, value: &Value) -> Done {
+    let Err(e) = to_vec(alloc, value) else {
+        panic!(rt; "{value:?}");
+    };
+    assert!(rt; e.is_memory() || e.is_data(), "{value:?}");
+    assert_eq!(rt; e.offset(), 0);
+    is_too_far_out(rt, error::Result::<()>::Err(e))
+}
+
+/// The value has a number that is too far out, and this is written before it.
+pub fn is_written_up_to(rt: &impl Abort, alloc: Global, value: &Value, before: &[u8]) -> Done {
+    let mut room = [0; 16];
+    let mut sink = SliceWrite::new(&mut room);
+    let done = to_writer(alloc, &mut sink, value);
+    let count = sink.bytes_written();
+    assert!(rt; count <= 16);
+    assert_eq!(rt; &room[..count], before);
+    is_too_far_out(rt, done)
+}

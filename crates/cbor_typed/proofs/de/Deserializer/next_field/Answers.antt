@@ -1,0 +1,78 @@
+use Rattle.std.proofs.Common.{rules, ◌≡◌, true, arith}
+use Rattle.std.proofs.lemmas.Result.{err_from_is_err_and}
+use Rattle.cbor_io.specs.Error.{code_of, offset_of}
+use Rattle.cbor_de.specs.Heads.{remaining_of}
+use Rattle.cbor_de.specs.declared.formats.Formats.{Formats}
+use Rattle.cbor_typed.specs.Identifiers.{texts}
+use Rattle.cbor_typed.specs.Structs.{IsField}
+use Rattle.cbor_typed.specs.Takes.{formats_of}
+use Rattle.cbor_typed.proofs.NextKeys.{none_is_key, there, key_refused, key_next, no_key_taken}
+use Rattle.cbor_typed.proofs.de.Deserializer.next_field.Goals as goal
+
+pub returns-in_err-more_pairs-clause-read : goal.returns-in_err-more_pairs-clause-read
+returns-in_err-more_pairs-clause-read g c =
+    let passed = err_from_is_err_and c.from_residual.result c.from_residual.ensures.1 in
+    let old = c.args.self.now.items in
+    rw (passed.1, passed.2) (λ e made. none_is_key (IsField (texts c.args.names.now)) (formats_of old.formats) old.levels (remaining_of c.args.remaining.now)
+    g.R.Source.refusals (g.R.Source.source old.source) (code_of e) (offset_of e) (c.in_err-more_pairs.ensures.read e made))
+
+pub returns-in_err-field-clause-read : goal.returns-in_err-field-clause-read
+returns-in_err-field-clause-read g c =
+    let passed = err_from_is_err_and c.from_residual-in_err-field.result c.from_residual-in_err-field.ensures.1 in
+    let old = c.args.self.now.items in
+    let now = c.more_pairs.new.self.items in
+    let s = g.R.Source.source old.source in
+    let m = g.R.Source.source now.source in
+    let reads = λ (f : Formats). IsField (texts c.args.names.now) in
+    let remaining = c.args.remaining.now in
+    let new = c.more_pairs.new.remaining in
+    let more = c.in_ok-more_pairs.field-0 in
+    let comes : more ≡ true = search rules in
+    rw (passed.1, passed.2) (λ e made. key_refused s m remaining new more reads old.formats now.formats old.levels now.levels c.more_pairs.ensures.formats c.more_pairs.ensures.levels
+    g.R.Source.refusals (code_of e) (offset_of e) (there s m remaining new more old.formats comes c.in_ok-more_pairs.ensures.read) (c.in_err-field.ensures.read e made))
+
+pub returns-then-offset-start-clause-read : goal.returns-then-offset-start-clause-read
+returns-then-offset-start-clause-read g c =
+    let old = c.args.self.now.items in
+    let now = c.more_pairs.new.self.items in
+    let s = g.R.Source.source old.source in
+    let m = g.R.Source.source now.source in
+    let t = g.R.Source.source c.field.new.self.items.source in
+    let reads = λ (f : Formats). IsField (texts c.args.names.now) in
+    let remaining = c.args.remaining.now in
+    let new = c.more_pairs.new.remaining in
+    let more = c.in_ok-more_pairs.field-0 in
+    let comes : more ≡ true = search rules in
+    λ e made. no_key_taken s m remaining new more reads old.formats now.formats old.levels now.levels c.more_pairs.ensures.formats c.more_pairs.ensures.levels t c.in_ok-field.field
+    g.R.Source.refusals (code_of e) (offset_of e) _ (there s m remaining new more old.formats comes c.in_ok-more_pairs.ensures.read) c.in_ok-field.ensures.read
+    (omega (arith, c.if-offset-start.true, c.offset.ensures, c.offset-start.ensures))
+
+pub returns-else-offset-start-clause-read : goal.returns-else-offset-start-clause-read
+returns-else-offset-start-clause-read g c =
+    let old = c.args.self.now.items in
+    let now = c.more_pairs.new.self.items in
+    let s = g.R.Source.source old.source in
+    let m = g.R.Source.source now.source in
+    let t = g.R.Source.source c.field.new.self.items.source in
+    let reads = λ (f : Formats). IsField (texts c.args.names.now) in
+    let remaining = c.args.remaining.now in
+    let new = c.more_pairs.new.remaining in
+    let more = c.in_ok-more_pairs.field-0 in
+    let comes : more ≡ true = search rules in
+    key_next s m remaining new more reads old.formats now.formats old.levels now.levels c.more_pairs.ensures.formats c.more_pairs.ensures.levels t c.in_ok-field.field
+    (there s m remaining new more old.formats comes c.in_ok-more_pairs.ensures.read) c.in_ok-field.ensures.read
+
+pub returns-in_default-clause-read : goal.returns-in_default-clause-read
+returns-in_default-clause-read g c =
+    let old = c.args.self.now.items in
+    let now = c.more_pairs.new.self.items in
+    let s = g.R.Source.source old.source in
+    let m = g.R.Source.source now.source in
+    let t = g.R.Source.source c.field.new.self.items.source in
+    let reads = λ (f : Formats). IsField (texts c.args.names.now) in
+    let remaining = c.args.remaining.now in
+    let new = c.more_pairs.new.remaining in
+    let more = c.in_ok-more_pairs.field-0 in
+    let comes : more ≡ true = search rules in
+    key_next s m remaining new more reads old.formats now.formats old.levels now.levels c.more_pairs.ensures.formats c.more_pairs.ensures.levels t c.in_ok-field.field
+    (there s m remaining new more old.formats comes c.in_ok-more_pairs.ensures.read) c.in_ok-field.ensures.read
