@@ -1,5 +1,5 @@
 -- What the calls of a source are in the reference reader.
-use Rattle.std.proofs.Common.{◌≡◌, ℕ, suc, ◌+◌, Bool, List, [], ◌∷◌, ◌++◌, length, Option, Some, None, Ok, Err, IfSome, IsSomeAnd, sym, ap, subst, ◌∙◌, refl, arith}
+use Rattle.std.proofs.Common.{◌≡◌, ℕ, suc, ◌+◌, Bool, List, [], ◌∷◌, ◌++◌, length, take, slice_get, Option, Some, None, Ok, Err, IfSome, IsSomeAnd, sym, ap, subst, ◌∙◌, refl, arith}
 use Rattle.std.specs.Int.{Width, byte_len}
 use Rattle.std.proofs.lemmas.Bool.{ne_eqb, lt-ltb}
 use Rattle.cbor_model.specs.Refusal.{Refusal, trailing_data}
@@ -34,6 +34,17 @@ next_none allowed s t (Some c) e h = absurd cc
 pub next_step : (allowed : ReadErrorCode → Bool) (s t : Input) (o : Option ℕ) (b : ℕ) (P : Limits → List ℕ → List ℕ → Type 0) → ((l : Limits) (rest : List ℕ) → P l (b ∷ rest) rest) → o ≡ Some b → NextDoes allowed s t (Ok o) → Step s t P
 next_step allowed s t o b P holds e h =
     step_map s t (λ l bs rest. bs ≡ (b ∷ []) ++ rest) P (λ l bs rest is. subst (λ (x : List ℕ). P l x rest) (sym is) (holds l rest)) (kept_step s t (b ∷ []) (next_some allowed s t o b e h))
+
+-- the first byte at hand was taken
+pub hand_step : (s t : Input) (hand : List ℕ) (b : ℕ) → slice_get hand 0 ≡ Some b → TookKept s t (take 1 hand) → Step s t (λ l bs rest. byte_at bs ≡ Ok (b, rest))
+unfolding byte_at
+hand_step s t [] b is took = absurd cc
+hand_step s t (x ∷ xs) b is took =
+    step_map s t (λ l bs rest. bs ≡ (b ∷ []) ++ rest) (λ l bs rest. byte_at bs ≡ Ok (b, rest)) (λ l bs rest front. ap byte_at front)
+    (kept_step s t (b ∷ []) (subst (λ (n : ℕ). TookKept s t (n ∷ [])) (some_is x b is) took))
+  where
+    some_is : (x y : ℕ) → Some x ≡ Some y → x ≡ y
+    some_is x y e = cc
 
 -- nothing was to come
 pub end_step : (allowed : ReadErrorCode → Bool) (s t : Input) (o : Option ℕ) (P : Limits → List ℕ → List ℕ → Type 0) → ((l : Limits) → P l [] []) → o ≡ None → NextDoes allowed s t (Ok o) → Step s t P

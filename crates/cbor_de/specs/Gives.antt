@@ -1,5 +1,5 @@
 -- What a reader of the code answers, beside what the reference reader answers.
-use Rattle.std.specs.Prelude.{⊤, ◌≡◌, ◌+◌, ◌^◌, ◌<◌, ◌≤◌, ℕ, Bool, true, List, [], ◌∷◌, length}
+use Rattle.std.specs.Prelude.{⊤, ◌≡◌, ◌≢◌, ◌+◌, ◌^◌, ◌<◌, ◌≤◌, ℕ, Bool, true, List, [], ◌∷◌, length}
 use Rattle.std.specs.Prelude.{Option, Some, None, IsSomeAnd, Result, Ok, Err}
 use Rattle.cbor_model.specs.Refusal.{Refusal, end_in_value, end_in_array, end_in_map}
 use Rattle.cbor_model.specs.Refusal.{length_out_of_range, invalid_utf8, unassigned_code}
@@ -17,7 +17,9 @@ use Rattle.cbor_io.specs.declared.error.ErrorCode.TheVariants.{EofWhileParsingMa
 use Rattle.cbor_io.specs.declared.error.ErrorCode.TheVariants.{InvalidUtf8, UnassignedCode}
 use Rattle.cbor_io.specs.declared.error.ErrorCode.TheVariants.{UnexpectedCode, TrailingData}
 use Rattle.cbor_io.specs.declared.error.ErrorCode.TheVariants.{RecursionLimitExceeded}
-use Rattle.cbor_io.specs.declared.error.ErrorCode.TheVariants.{WrongStructFormat, OutOfMemory}
+use Rattle.cbor_io.specs.declared.error.ErrorCode.TheVariants.{WrongEnumFormat, WrongStructFormat}
+use Rattle.cbor_io.specs.declared.error.ErrorCode.TheVariants.{OutOfMemory}
+use Rattle.cbor_io.specs.declared.error.ErrorCode.TheVariants.{ArrayTooShort, ArrayTooLong}
 use Rattle.cbor_io.specs.declared.error.Error.{Error}
 use Rattle.cbor_io.specs.Error.{code_of, offset_of, IsOutOfMemory}
 use Rattle.cbor_io.specs.declared.read.read_error.ReadError.{ReadError}
@@ -141,11 +143,25 @@ Gives refusals view read s t kept (Err r) = Stopped refusals read s kept r
 abbrev pub IsAt : ReadErrorCode → ℕ → ReadError → Type 0
 IsAt code offset e = (why e ≡ code) × (place e ≡ offset)
 
+-- What is kept of a refusal isn't the key rule's: that a key may not begin as it does.
+abbrev pub TellsNoKey : Option ReadError → Refused → Type 0
+TellsNoKey kept refused.OutOfMemory = ⊤
+TellsNoKey None refused.Kept = ⊤
+TellsNoKey (Some q) refused.Kept = why q ≢ reading.WrongStructFormat
+
 -- the error that a call makes of a refusal
 abbrev pub IsErrorOf : Option ReadError → Refused → Error → Type 0
 IsErrorOf kept refused.OutOfMemory e = IsOutOfMemory e
 IsErrorOf None refused.Kept e = IsOutOfMemory e
 IsErrorOf (Some q) refused.Kept e = (code_of e ≡ error_code (why q)) × (offset_of e ≡ place q)
+
+-- none of the codes that tell a wrong form: of an array, an enum or a struct
+abbrev pub TellsNoForm : ErrorCode → Type 0
+TellsNoForm ArrayTooShort = ⊥
+TellsNoForm ArrayTooLong = ⊥
+TellsNoForm WrongEnumFormat = ⊥
+TellsNoForm WrongStructFormat = ⊥
+TellsNoForm code = ⊤
 
 -- nothing is to come
 abbrev pub end_at : List ℕ → Reads (Unit {0})

@@ -7,7 +7,7 @@ ghost use Rattle.cbor_model.specs.Acceptable.{max_depth};
 ghost use Rattle.cbor_model.specs.Formats.{all_formats};
 ghost use Rattle.cbor_model.specs.Reader.{byte_at};
 ghost use Rattle.cbor_de.specs.Deserializer.{source_of, levels_of, formats_of};
-ghost use Rattle.cbor_de.specs.Gives.{Gives, Ends, Onward, Keeps, IsAt, end_at};
+ghost use Rattle.cbor_de.specs.Gives.{Gives, Ends, Onward, Keeps, IsAt, TellsNoKey, end_at};
 ghost use Rattle.cbor_de.specs.declared.refusal.Refused.TheVariants.{Kept};
 
 use crate::formats::Formats;
@@ -151,11 +151,33 @@ impl<R: Source> Deserializer<R> {
 
     /// Takes one byte.
     #[inline(always)]
+    #[tactic(auto, using(crate::proofs::Calls::hand_step))]
     pub fn byte(&mut self) -> Done<u8>
         ensures read { Gives R.refusals (λ b. b) (λ l. byte_at)
             (R.source self.old.source) (R.source self.new.source) self.new.refusal result }
         ensures taken { OnOk result (Onward (R.source self.old.source) (R.source self.new.source)) }
         ensures buffer { OnOk result (Keeps (R.source self.old.source) (R.source self.new.source)) }
+        ensures no_key { IfErr result (TellsNoKey self.new.refusal) }
+        ensures levels { self.new.levels ≡ self.old.levels }
+        ensures formats { self.new.formats ≡ self.old.formats }
+    {
+        match self.source.ahead().first().copied() {
+            Some(first) => {
+                self.source.advance(1);
+                Ok(first)
+            }
+            None => self.byte_asked_for(),
+        }
+    }
+
+    // The same, where none is at hand.
+    #[inline(never)]
+    fn byte_asked_for(&mut self) -> Done<u8>
+        ensures read { Gives R.refusals (λ b. b) (λ l. byte_at)
+            (R.source self.old.source) (R.source self.new.source) self.new.refusal result }
+        ensures taken { OnOk result (Onward (R.source self.old.source) (R.source self.new.source)) }
+        ensures buffer { OnOk result (Keeps (R.source self.old.source) (R.source self.new.source)) }
+        ensures no_key { IfErr result (TellsNoKey self.new.refusal) }
         ensures levels { self.new.levels ≡ self.old.levels }
         ensures formats { self.new.formats ≡ self.old.formats }
     {
@@ -174,6 +196,7 @@ impl<R: Source> Deserializer<R> {
         ensures refused { IfErr result (λ r. r ≡ Kept) }
         ensures kept { OnErr result (IsSomeAnd self.new.refusal
             (IsAt RecursionLimitExceeded (R.source self.old.source).offset)) }
+        ensures no_key { IfErr result (TellsNoKey self.new.refusal) }
         ensures source { self.new.source ≡ self.old.source }
         ensures formats { self.new.formats ≡ self.old.formats }
     {

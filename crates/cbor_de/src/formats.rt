@@ -32,6 +32,10 @@ impl Formats {
     pub fn may_begin_key(self, byte: u8) -> bool
         ensures { result ≡ may_begin_key (formats_of self) byte }
     {
+        // Most deserializers read both.
+        if self.named && self.packed {
+            return true;
+        }
         match byte {
             0x00..=0x1b => self.packed,
             0x60..=0x7b | 0x7f => self.named,

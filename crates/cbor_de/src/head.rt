@@ -5,7 +5,7 @@ ghost use Rattle.std.specs.Int.{w8, w16, w32, w64};
 ghost use Rattle.cbor_model.specs.Reader.{number_at, number_behind};
 ghost use Rattle.cbor_model.specs.Major.{major_of};
 ghost use Rattle.cbor_io.specs.Head.{major_number};
-ghost use Rattle.cbor_de.specs.Gives.{Gives, Keeps};
+ghost use Rattle.cbor_de.specs.Gives.{Gives, Keeps, TellsNoKey};
 ghost use Rattle.cbor_de.specs.Heads.{HeadGives, head_at, head_of, simple_head};
 ghost use Rattle.cbor_io.specs.Source.{TookKept, RefusedInto};
 ghost use Rattle.cbor_de.specs.declared.refusal.Refused.TheVariants.{Kept};
@@ -53,6 +53,7 @@ impl<R: Source> Deserializer<R> {
     pub fn head(&mut self, first: u8) -> Done<Head>
         ensures read { HeadGives R.refusals (head_at first)
             (R.source self.old.source) (R.source self.new.source) self.new.refusal result }
+        ensures no_key { IfErr result (TellsNoKey self.new.refusal) }
         ensures levels { self.new.levels ≡ self.old.levels }
         ensures formats { self.new.formats ≡ self.old.formats }
     {
@@ -81,6 +82,7 @@ impl<R: Source> Deserializer<R> {
     fn simple(&mut self, low: u8) -> Done<Head>
         ensures read { HeadGives R.refusals (simple_head low)
             (R.source self.old.source) (R.source self.new.source) self.new.refusal result }
+        ensures no_key { IfErr result (TellsNoKey self.new.refusal) }
         ensures levels { self.new.levels ≡ self.old.levels }
         ensures formats { self.new.formats ≡ self.old.formats }
     {
@@ -102,6 +104,7 @@ impl<R: Source> Deserializer<R> {
     fn indefinite(&mut self, major: Major) -> Done<Head>
         ensures read { HeadGives R.refusals (head_of (major_of (major_number major)) 31)
             (R.source self.old.source) (R.source self.new.source) self.new.refusal result }
+        ensures no_key { IfErr result (TellsNoKey self.new.refusal) }
         ensures levels { self.new.levels ≡ self.old.levels }
         ensures formats { self.new.formats ≡ self.old.formats }
     {
@@ -121,6 +124,7 @@ impl<R: Source> Deserializer<R> {
         ensures read { Gives R.refusals (λ n. n) (λ l. number_behind low)
             (R.source self.old.source) (R.source self.new.source) self.new.refusal result }
         ensures buffer { OnOk result (Keeps (R.source self.old.source) (R.source self.new.source)) }
+        ensures no_key { IfErr result (TellsNoKey self.new.refusal) }
         ensures levels { self.new.levels ≡ self.old.levels }
         ensures formats { self.new.formats ≡ self.old.formats }
     {
@@ -140,6 +144,7 @@ impl<R: Source> Deserializer<R> {
         ensures read { Gives R.refusals (λ n. n) (λ l. number_at w8)
             (R.source self.old.source) (R.source self.new.source) self.new.refusal result }
         ensures buffer { OnOk result (Keeps (R.source self.old.source) (R.source self.new.source)) }
+        ensures no_key { IfErr result (TellsNoKey self.new.refusal) }
         ensures levels { self.new.levels ≡ self.old.levels }
         ensures formats { self.new.formats ≡ self.old.formats }
     {
@@ -154,6 +159,7 @@ impl<R: Source> Deserializer<R> {
         ensures read { Gives R.refusals (λ n. n) (λ l. number_at w16)
             (R.source self.old.source) (R.source self.new.source) self.new.refusal result }
         ensures buffer { OnOk result (Keeps (R.source self.old.source) (R.source self.new.source)) }
+        ensures no_key { IfErr result (TellsNoKey self.new.refusal) }
         ensures levels { self.new.levels ≡ self.old.levels }
         ensures formats { self.new.formats ≡ self.old.formats }
     {
@@ -168,6 +174,7 @@ impl<R: Source> Deserializer<R> {
         ensures read { Gives R.refusals (λ n. n) (λ l. number_at w32)
             (R.source self.old.source) (R.source self.new.source) self.new.refusal result }
         ensures buffer { OnOk result (Keeps (R.source self.old.source) (R.source self.new.source)) }
+        ensures no_key { IfErr result (TellsNoKey self.new.refusal) }
         ensures levels { self.new.levels ≡ self.old.levels }
         ensures formats { self.new.formats ≡ self.old.formats }
     {
@@ -182,6 +189,7 @@ impl<R: Source> Deserializer<R> {
         ensures read { Gives R.refusals (λ n. n) (λ l. number_at w64)
             (R.source self.old.source) (R.source self.new.source) self.new.refusal result }
         ensures buffer { OnOk result (Keeps (R.source self.old.source) (R.source self.new.source)) }
+        ensures no_key { IfErr result (TellsNoKey self.new.refusal) }
         ensures levels { self.new.levels ≡ self.old.levels }
         ensures formats { self.new.formats ≡ self.old.formats }
     {
@@ -198,6 +206,29 @@ impl<R: Source> Deserializer<R> {
         ensures refused { IfErr result (λ r. r ≡ Kept) }
         ensures kept { OnErr result (IsSomeAnd self.new.refusal (RefusedInto R.refusals
             (R.source self.old.source) (R.source self.new.source) (length bytes.old))) }
+        ensures no_key { IfErr result (TellsNoKey self.new.refusal) }
+        ensures levels { self.new.levels ≡ self.old.levels }
+        ensures formats { self.new.formats ≡ self.old.formats }
+    {
+        let ahead = self.source.ahead();
+        let n = bytes.len();
+        if n <= ahead.len() {
+            bytes.copy_from_slice(&ahead[..n]);
+            self.source.advance(n);
+            return Ok(());
+        }
+        self.fill_asked_for(bytes)
+    }
+
+    // The same, where too few are at hand.
+    #[inline(never)]
+    fn fill_asked_for(&mut self, bytes: &mut [u8]) -> Done<()>
+        ensures ok { OnOk result
+            (TookKept (R.source self.old.source) (R.source self.new.source) bytes.new) }
+        ensures refused { IfErr result (λ r. r ≡ Kept) }
+        ensures kept { OnErr result (IsSomeAnd self.new.refusal (RefusedInto R.refusals
+            (R.source self.old.source) (R.source self.new.source) (length bytes.old))) }
+        ensures no_key { IfErr result (TellsNoKey self.new.refusal) }
         ensures levels { self.new.levels ≡ self.old.levels }
         ensures formats { self.new.formats ≡ self.old.formats }
     {

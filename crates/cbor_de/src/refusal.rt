@@ -6,9 +6,11 @@
 
 ghost use Rattle.std.specs.Prelude.{◌≡◌, ◌+◌, ◌≤◌, Some};
 ghost use Rattle.std.specs.Option.{IsSomeAnd};
+ghost use Rattle.cbor_io.specs.Error.{code_of};
 ghost use Rattle.cbor_io.specs.ReadError.{why, place, HasNoPlace};
-ghost use Rattle.cbor_de.specs.Gives.{IsAt, IsErrorOf};
+ghost use Rattle.cbor_de.specs.Gives.{IsAt, IsErrorOf, TellsNoForm, TellsNoKey};
 ghost use Rattle.cbor_de.specs.declared.refusal.Refused.TheVariants.{Kept};
+ghost use Rattle.cbor_io.specs.declared.read.read_error.ReadErrorCode.TheVariants.{InvalidUtf8};
 
 use crate::de::Deserializer;
 use cbor_io::error::Error;
@@ -93,9 +95,25 @@ impl<R: Source> Deserializer<R> {
         Refused::Kept
     }
 
+    /// Refuses a text that isn't UTF-8, so many bytes before that.
+    #[cold]
+    #[inline(never)]
+    pub fn refuse_text(&mut self, back: usize) -> Refused
+        requires taken { back ≤ (R.source self.old.source).offset }
+        ensures refused { result ≡ Kept }
+        ensures kept { IsSomeAnd self.new.refusal
+            (λ e. (why e ≡ InvalidUtf8) × (place e + back ≡ (R.source self.old.source).offset)) }
+        ensures source { self.new.source ≡ self.old.source }
+        ensures levels { self.new.levels ≡ self.old.levels }
+        ensures formats { self.new.formats ≡ self.old.formats }
+    {
+        self.refuse_back(ReadErrorCode::InvalidUtf8, back)
+    }
+
     /// The error of a call whose step was refused.
     pub fn error(&mut self, refused: Refused) -> Error
         ensures tells { IsErrorOf self.old.refusal refused result }
+        ensures no_form { TellsNoKey self.old.refusal refused → TellsNoForm (code_of result) }
         ensures source { self.new.source ≡ self.old.source }
         ensures levels { self.new.levels ≡ self.old.levels }
         ensures formats { self.new.formats ≡ self.old.formats }

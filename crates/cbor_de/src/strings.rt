@@ -1,13 +1,13 @@
 //! Byte strings and texts.
 
-ghost use Rattle.std.specs.Prelude.{◌≡◌, ◌+◌, ◌≤◌, [], length, IfOk, OnOk};
+ghost use Rattle.std.specs.Prelude.{◌≡◌, ◌+◌, ◌≤◌, [], length, IfOk, IfErr, OnOk};
 ghost use Rattle.cbor_model.specs.Formats.{all_formats};
 ghost use Rattle.cbor_model.specs.Head.{no_bytes};
 ghost use Rattle.cbor_model.specs.Reader.{bytes_at, chunk_at, content_of_chunk, chunks_at};
 ghost use Rattle.cbor_model.specs.Reader.{checked_text, text_at, text_chunks_at, exceeds_most};
 ghost use Rattle.cbor_model.specs.Plain as plain;
 ghost use Rattle.cbor_io.specs.Head.{major_number};
-ghost use Rattle.cbor_de.specs.Gives.{Gives, values};
+ghost use Rattle.cbor_de.specs.Gives.{Gives, TellsNoKey, values};
 ghost use Rattle.cbor_de.specs.Heads.{joined_of};
 ghost use Rattle.cbor_de.specs.Strings.{ChunkGives, text_view};
 
@@ -25,6 +25,27 @@ impl<R: Source> Deserializer<R> {
             (R.source self.old.source) (R.source self.new.source) self.new.refusal result }
         ensures counted { IfOk result
             (λ v. length v.items ≤ (R.source self.new.source).offset) }
+        ensures no_key { IfErr result (TellsNoKey self.new.refusal) }
+        ensures levels { self.new.levels ≡ self.old.levels }
+        ensures formats { self.new.formats ≡ self.old.formats }
+    {
+        let ahead = self.source.ahead();
+        if n <= ahead.len() as u64 {
+            let bytes = Vec::from_slice(self.alloc, &ahead[..n as usize])?;
+            self.source.advance(n as usize);
+            return Ok(bytes);
+        }
+        self.bytes_asked_for(n)
+    }
+
+    // The same, where too few are at hand.
+    #[inline(never)]
+    fn bytes_asked_for(&mut self, n: u64) -> Done<Vec<u8>>
+        ensures read { Gives R.refusals (λ v. v.items) (λ l. bytes_at n)
+            (R.source self.old.source) (R.source self.new.source) self.new.refusal result }
+        ensures counted { IfOk result
+            (λ v. length v.items ≤ (R.source self.new.source).offset) }
+        ensures no_key { IfErr result (TellsNoKey self.new.refusal) }
         ensures levels { self.new.levels ≡ self.old.levels }
         ensures formats { self.new.formats ≡ self.old.formats }
     {
@@ -102,6 +123,7 @@ impl<R: Source> Deserializer<R> {
             (R.source self.old.source) (R.source self.new.source) self.new.refusal result }
         ensures counted { IfOk result
             (λ v. length v.items ≤ (R.source self.new.source).offset) }
+        ensures no_key { IfErr result (TellsNoKey self.new.refusal) }
         ensures levels { self.new.levels ≡ self.old.levels }
         ensures formats { self.new.formats ≡ self.old.formats }
     {
@@ -118,6 +140,7 @@ impl<R: Source> Deserializer<R> {
             (R.source self.old.source) (R.source self.new.source) self.new.refusal result }
         ensures counted { OnOk result
             (length (R.source self.new.source).buffer ≤ (R.source self.new.source).offset) }
+        ensures no_key { IfErr result (TellsNoKey self.new.refusal) }
         ensures levels { self.new.levels ≡ self.old.levels }
         ensures formats { self.new.formats ≡ self.old.formats }
     {
@@ -137,6 +160,7 @@ impl<R: Source> Deserializer<R> {
         ensures read { ChunkGives R.refusals
             (λ l have. chunk_at (λ n. exceeds_most l.room (have + n)) (major_number major) first)
             (R.source self.old.source) (R.source self.new.source) self.new.refusal result }
+        ensures no_key { IfErr result (TellsNoKey self.new.refusal) }
         ensures levels { self.new.levels ≡ self.old.levels }
         ensures formats { self.new.formats ≡ self.old.formats }
     {

@@ -1,7 +1,7 @@
 //! Sources: what the bytes of an input are taken from.
 
-ghost use Rattle.std.specs.Prelude.{◌≡◌, ℕ, ◌<◌, ◌^◌, Bool, List, [], ◌∷◌, length, take, IfOk};
-ghost use Rattle.std.specs.Prelude.{IfErr, OnOk, IfSome, IsSome, MatchOption, Some, Option};
+ghost use Rattle.std.specs.Prelude.{◌≡◌, ℕ, ◌<◌, ◌≤◌, ◌^◌, Bool, List, [], ◌∷◌, length, take};
+ghost use Rattle.std.specs.Prelude.{IfOk, IfErr, OnOk, IfSome, IsSome, MatchOption, Some, Option};
 ghost use types.Logic.{sem};
 ghost use Rattle.std.specs.Io.BufRead.{Rests};
 ghost use Rattle.std.specs.Io.KnownBytes.{Keeps};
@@ -54,7 +54,8 @@ pub trait Offset: Source {
 /// What bytes are taken from, as far as nothing is lent.
 ///
 /// A source has bytes to come, a buffer, and an offset: how many bytes it handed out. `next`,
-/// `peek` and `discard` take or look at one byte, `read_into` takes as many as there is room for,
+/// `peek` and `discard` take or look at one byte, `ahead` and `advance` do so with those that are at
+/// hand (as those of a slice are), `read_into` takes as many as there is room for,
 /// `skip` and `skip_text` take bytes that nobody wants, and `clear_buffer` and `read_to_buffer`
 /// join parts of the input in the buffer, as the chunks of a string of indefinite length (RFC 7049,
 /// section 2.2.2). After an Err some further beginning of the bytes to come is gone, and the offset
@@ -77,8 +78,9 @@ pub trait Offset: Source {
 /// What it has to keep:
 ///
 /// - It hands out the bytes of its input in their order, each once, and the offset counts exactly
-///   those. `peek` hands out none; the byte that it shows is the one that `next` or `discard`
-///   takes.
+///   those. `peek` and `ahead` hand out none; the bytes that they show are those that `next`,
+///   `discard` or `advance` takes. `ahead` shows as many as cost nothing to show: a source that has
+///   to ask for its bytes shows none, and its `advance` takes none.
 /// - At the end `next` and `peek` answer None. A call that wants n bytes answers
 ///   `EofWhileParsingValue` only where fewer are to come, and at the offset where they end.
 /// - `read_to_buffer` appends to the buffer, and `clear_buffer` empties it. `read`, `take_buffer`,
@@ -142,6 +144,8 @@ pub trait Offset: Source {
 ///
 ///     ghost peeked = { λ s. first_of (drop s.taken s.bytes.items) };
 ///
+///     ghost at_hand = { λ s. drop s.taken s.bytes.items };
+///
 ///     ghost refusals = { slice_refusals };
 ///
 ///     ghost lends = { record { whole = false; joined = false } };
@@ -160,6 +164,14 @@ pub trait Offset: Source {
 ///         } else {
 ///             None
 ///         })
+///     }
+///
+///     fn ahead(&self) -> &[u8] {
+///         &self.bytes[self.taken..]
+///     }
+///
+///     fn advance(&mut self, n: usize) {
+///         self.taken += n;
 ///     }
 ///
 ///     fn clear_buffer(&mut self) {
@@ -235,6 +247,9 @@ pub trait Source {
     // the byte that was peeked, which `discard` may take
     ghost peeked: { Self → Option ℕ };
 
+    // the bytes to come that are at hand, which `advance` may take
+    ghost at_hand: { Self → List ℕ };
+
     // which codes a call may answer; `read_to_vec` may answer `OutOfMemory` besides
     ghost refusals: { ReadErrorCode → Bool };
 
@@ -256,6 +271,19 @@ pub trait Source {
             (IfSome (source self.old).to_come (λ bs. bs ≡ []))
             (λ b. IfSome (source self.old).to_come (λ bs. take 1 bs ≡ b ∷ []))) }
         ensures err { IfErr result (RefusedByte refusals (source self.old) (source self.new)) };
+
+    /// The next bytes, as far as they are at hand, which may be none; they stay.
+    fn ahead(&self) -> &[u8]
+        ensures bytes { result.now ≡ at_hand self.now }
+        ensures front { IfSome (source self.now).to_come
+            (λ bs. take (length result.now) bs ≡ result.now) };
+
+    /// Takes the next n bytes, which are at hand.
+    fn advance(&mut self, n: usize)
+        requires { n ≤ length (at_hand self.old) }
+        ensures took { TookKept (source self.old) (source self.new)
+            (take n (at_hand self.old)) }
+        ensures counted { (source self.new).offset < 2 ^ 64 };
 
     /// Empties the buffer.
     fn clear_buffer(&mut self)

@@ -66,6 +66,7 @@ fn put<W: Write>(writer: &mut W, refusal: &mut Option<Error>, piece: &[u8]) -> D
 }
 
 /// Appends the shortest head of the major type with this number, as one piece.
+#[inline(always)]
 pub(crate) fn write_head<W: Write>(
     writer: &mut W,
     refusal: &mut Option<Error>,

@@ -1,7 +1,8 @@
 -- Strings that are lent.
-use Rattle.std.proofs.Common.{◌≡◌, inl, inr, ◌+◌, ◌-◌, ◌^◌, ◌<◌, ◌≤◌, ℕ, Bool, true, false, cond, ltb, List, [], ◌∷◌, ◌++◌, length, take, drop, Option, Some, None, Result, Ok, Err, refl, sym, ap, subst, ◌∙◌, arith, length-append}
+use Rattle.std.proofs.Common.{◌≡◌, inl, inr, ◌+◌, ◌-◌, ◌^◌, ◌<◌, ◌≤◌, ℕ, Bool, true, false, cond, ltb, List, [], ◌∷◌, ◌++◌, length, take, drop, Option, Some, None, Result, Ok, Err, IfErr, refl, sym, ap, subst, ◌∙◌, arith, length-append}
 use Rattle.std.proofs.Math.Seq.{take-append_seam, drop-append_seam}
-use Rattle.std.proofs.lemmas.Bool.{le-ltb}
+use Rattle.std.proofs.lemmas.Bool.{le-ltb, lt-ltb}
+use Rattle.std.proofs.lemmas.List.{length-take-le}
 use Rattle.std.specs.Str.{IsUtf8}
 use Rattle.cbor_model.specs.Formats.{Formats}
 use Rattle.cbor_model.specs.Head.{HeadWidth}
@@ -9,7 +10,7 @@ use Rattle.cbor_model.specs.Raw.{Raw}
 use Rattle.cbor_model.specs.Readable.{Context, untagged, PassesTags, IsString, IsText}
 use Rattle.cbor_model.specs.Reader.{Reads, bytes_at, item_at, inside}
 use Rattle.cbor_model.proofs.facts.Reader.{ok_is}
-use Rattle.cbor_io.specs.Source.{Input, Lends, Took, KeepsBytes, part_bytes, is_long}
+use Rattle.cbor_io.specs.Source.{Input, Lends, Took, TookKept, KeepsBytes, part_bytes, is_long}
 use Rattle.cbor_io.specs.ReadError.{why, place, error_code}
 use Rattle.cbor_io.specs.Error.{code_of, offset_of}
 use Rattle.cbor_io.specs.declared.error.Error.{Error}
@@ -22,6 +23,7 @@ use Rattle.cbor_de.specs.declared.head.Head.TheVariants as head
 use Rattle.cbor_de.proofs.facts.Steps.{step_map, step_then, taken_step, none_step}
 use Rattle.cbor_io.specs.declared.read.read_error.ReadError.{ReadError}
 use Rattle.cbor_de.specs.Heads.{behind_head}
+use Rattle.cbor_typed.specs.Cases.{IsNoKey}
 use Rattle.cbor_typed.specs.Opens.{Opens, OpensItem}
 use Rattle.cbor_typed.specs.Takes.{raws, lending, IsRead, IsNotRead, ExcusedBy, Refuses}
 use Rattle.cbor_typed.specs.Strings.{content_at, is_lent_head, lends_head, Lacks, Lent, LentText, LendsText, LendsString, IsLentText, IsLentString, IsMadeOf, BytesOf, PartText, Utf8Of, text_bytes}
@@ -62,6 +64,13 @@ text_step s t n p room len took =
           record { rest = one.rest; tells = one.tells; total = one.total; holds = rw (ends_at s bs n room) one.holds };
     }
 
+-- n bytes at hand, which were taken
+pub hand_step : (s t : Input) (n : ℕ) (hand : List ℕ) → n ≤ length hand → TookKept s t (take n hand) → t.offset < 2 ^ 64 → Step s t (λ l bs rest. content_at l (head.Text (Some n)) bs ≡ Ok (take n hand, rest))
+hand_step s t n hand within took below =
+    let len = length-take-le n hand within in
+    text_step s t n (take n hand) (lt-ltb (s.offset + n) (2 ^ 64) (omega (arith, took.count, len, below))) len
+    (record { bytes = took.bytes; count = took.count; room = took.room })
+
 -- chunks that were joined in the buffer, which is lent
 pub joined_step : (s m t : Input) (b p : List ℕ) → p ≡ b → KeepsBytes m t → Step s m (λ l bs rest. content_at l (head.Text None) bs ≡ Ok (b, rest)) → Step s t (λ l bs rest. content_at l (head.Text None) bs ≡ Ok (p, rest))
 joined_step s m t b p same kept step =
@@ -80,6 +89,20 @@ text_lent allowed l h s t p end (Err (Stopped e)) step long is =
     (step_map s t (λ limits bs rest. content_at limits h bs ≡ Ok (part_bytes p, rest)) (λ limits bs rest. (b after : List ℕ) → content_at limits h bs ≡ Ok (b, after) → IsUtf8 b → ⊥)
     (λ limits bs rest here b after there utf8. is.0 (subst IsUtf8 (ap (λ (q : List ℕ × List ℕ). q.0) (ok_is (b, after) (part_bytes p, rest) (sym there ∙ here))) utf8)) step)
 text_lent allowed l h s t p end (Err Other) step long is = absurd is
+
+-- what isn't UTF-8 isn't refused as a key is
+pub part_no_key : (p : EitherLifetime) (end : ℕ) (r : Result EitherStr Unread) → PartText p end r → IfErr r IsNoKey
+part_no_key p end (Ok x) is = tt
+part_no_key p end (Err (Stopped e)) is = λ key. let bad = is.1 in absurd cc
+part_no_key p end (Err Other) is = absurd is
+
+pub utf8_no_key : (p : EitherLifetime) (r : Result EitherStr Unread) → Utf8Of p r → IfErr r IsNoKey
+utf8_no_key p (Ok x) is = tt
+utf8_no_key p (Err u) is = subst IsNoKey (sym is.1) tt
+
+pub bytes_no_key : (t : EitherStr) (r : Result EitherLifetime Unread) → BytesOf t r → IfErr r IsNoKey
+bytes_no_key t (Ok p) is = tt
+bytes_no_key t (Err u) is = absurd is
 
 -- ---- items
 

@@ -38,3 +38,4 @@ pub mod VariantMaps
 pub mod VariantShapes
 pub mod VariantPairs
 pub mod Enums
+pub mod Cases

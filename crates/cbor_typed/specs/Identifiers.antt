@@ -11,7 +11,7 @@ use Rattle.cbor_model.specs.Readable.{IsString}
 use Rattle.cbor_io.specs.declared.error.Error.{Error}
 use Rattle.cbor_io.specs.declared.read.read_error.ReadError.{ReadError}
 use Rattle.cbor_io.specs.declared.read.read_error.ReadErrorCode.{ReadErrorCode}
-use Rattle.cbor_io.specs.Error.{code_of, offset_of}
+use Rattle.cbor_io.specs.Error.{code_of, offset_of, IsMessageOf}
 use Rattle.cbor_io.specs.Source.{Input}
 use Rattle.cbor_de.specs.Gives.{Limits, Step, IsErrorOf}
 use Rattle.cbor_de.specs.declared.head.Head.{Head}
@@ -51,7 +51,7 @@ IsIdentifier names r place = (b : List ℕ) × IsString r b × IsPlace names b p
 -- the error that is made of why nothing was named, by what the deserializer keeps
 abbrev pub IsMadeBy : Option ReadError → Why → Error → Type 0
 IsMadeBy kept (Refused r) e = IsErrorOf kept r e
-IsMadeBy kept Other e = Unit {0}
+IsMadeBy kept Other e = IsMessageOf None (code_of e)
 
 -- The place of the name that these bytes are as a text. Where they aren't UTF-8 they are no text.
 abbrev pub NamesText : List (List ℕ) → List ℕ → Result (Option ℕ) ℕ → Type 0

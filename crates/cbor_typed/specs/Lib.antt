@@ -13,5 +13,6 @@ pub mod Structs
 pub mod Enums
 pub mod Variants
 pub mod Options
+pub mod Cases
 pub mod Whole
 pub use Rattle.cbor_io.specs.Error

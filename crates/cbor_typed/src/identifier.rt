@@ -5,8 +5,10 @@ ghost use Rattle.std.specs.Str.{IsUtf8};
 ghost use Rattle.cbor_io.specs.declared.error.Error.{Error};
 ghost use Rattle.cbor_io.specs.Source.{part_bytes};
 ghost use Rattle.cbor_model.specs.Readable.{PassesTags};
-ghost use Rattle.cbor_de.specs.Gives.{IsErrorOf};
+ghost use Rattle.cbor_de.specs.Gives.{IsErrorOf, TellsNoForm, TellsNoKey};
 ghost use Rattle.cbor_de.specs.declared.head.Head.TheVariants.{Bytes, Text};
+ghost use Rattle.cbor_io.specs.Error.{code_of};
+ghost use Rattle.cbor_typed.specs.Cases.{IsNoKey, NamesNoKey};
 ghost use Rattle.cbor_typed.specs.Identifiers.{IsIdentifier, IsPlace, place_of, texts};
 ghost use Rattle.cbor_typed.specs.Identifiers.{IsMadeBy, NamesText, TakesBytesName, TakesName};
 ghost use Rattle.cbor_typed.specs.Strings.{IsMadeOf};
@@ -125,6 +127,7 @@ impl<R: Source> Deserializer<R> {
     fn kept(&mut self, unread: Unread) -> Why
         ensures kept { (e : Error) → IsMadeBy self.new.items.refusal result e → IsMadeOf unread e }
         ensures source { self.new.items.source ≡ self.old.items.source }
+        ensures no_key { IsNoKey unread → NamesNoKey self.new.items.refusal result }
         ensures levels { self.new.items.levels ≡ self.old.items.levels }
         ensures formats { self.new.items.formats ≡ self.old.items.formats }
     {
@@ -138,6 +141,7 @@ impl<R: Source> Deserializer<R> {
     #[cold]
     #[inline(never)]
     fn no_name(&mut self, head: Head) -> Why
+        ensures no_key { NamesNoKey self.new.items.refusal result }
         ensures levels { self.new.items.levels ≡ self.old.items.levels }
         ensures formats { self.new.items.formats ≡ self.old.items.formats }
     {
@@ -153,6 +157,7 @@ impl<R: Source> Deserializer<R> {
     pub(crate) fn unnamed(&mut self, why: Why, message: &str) -> Error
         ensures made { IsMadeBy self.old.items.refusal why result }
         ensures source { self.new.items.source ≡ self.old.items.source }
+        ensures no_form { NamesNoKey self.old.items.refusal why → TellsNoForm (code_of result) }
         ensures levels { self.new.items.levels ≡ self.old.items.levels }
         ensures formats { self.new.items.formats ≡ self.old.items.formats }
     {
@@ -166,11 +171,36 @@ impl<R: Source> Deserializer<R> {
 impl<'de, R: Read<'de>> Deserializer<R> {
     // Reads a text of n bytes behind its head, as a name.
     #[inline(always)]
+    #[tactic(auto, using(crate::proofs::Lending::hand_step))]
     fn definite_name(&mut self, names: &[&str], n: u64) -> Done<Option<usize>>
         ensures read { TakesName R.refusals (texts names.now) (Text (Some n))
             (R.source self.old.items.source) (R.source self.new.items.source)
             self.new.items.refusal result }
         ensures below { IfOk result (λ place. IfSome place (λ i. i < length names.now)) }
+        ensures no_key { IfErr result (TellsNoKey self.new.items.refusal) }
+        ensures levels { self.new.items.levels ≡ self.old.items.levels }
+        ensures formats { self.new.items.formats ≡ self.old.items.formats }
+    {
+        let ahead = self.items.source.ahead();
+        if n <= ahead.len() as u64 {
+            let named = place_of_text(names, &ahead[..n as usize]);
+            self.items.source.advance(n as usize);
+            return match named {
+                Ok(place) => Ok(place),
+                Err(back) => Err(self.items.refuse_text(back)),
+            };
+        }
+        self.name_asked_for(names, n)
+    }
+
+    // The same, where too few bytes are at hand.
+    #[inline(never)]
+    fn name_asked_for(&mut self, names: &[&str], n: u64) -> Done<Option<usize>>
+        ensures read { TakesName R.refusals (texts names.now) (Text (Some n))
+            (R.source self.old.items.source) (R.source self.new.items.source)
+            self.new.items.refusal result }
+        ensures below { IfOk result (λ place. IfSome place (λ i. i < length names.now)) }
+        ensures no_key { IfErr result (TellsNoKey self.new.items.refusal) }
         ensures levels { self.new.items.levels ≡ self.old.items.levels }
         ensures formats { self.new.items.formats ≡ self.old.items.formats }
     {
@@ -183,7 +213,7 @@ impl<'de, R: Read<'de>> Deserializer<R> {
         };
         match named {
             Ok(place) => Ok(place),
-            Err(back) => Err(self.items.refuse_back(ReadErrorCode::InvalidUtf8, back)),
+            Err(back) => Err(self.items.refuse_text(back)),
         }
     }
 
@@ -194,13 +224,14 @@ impl<'de, R: Read<'de>> Deserializer<R> {
             (R.source self.old.items.source) (R.source self.new.items.source)
             self.new.items.refusal result }
         ensures below { IfOk result (λ place. IfSome place (λ i. i < length names.now)) }
+        ensures no_key { IfErr result (TellsNoKey self.new.items.refusal) }
         ensures levels { self.new.items.levels ≡ self.old.items.levels }
         ensures formats { self.new.items.formats ≡ self.old.items.formats }
     {
         self.items.join(Major::TextString)?;
         match place_of_text_part(names, self.items.source.take_buffer()) {
             Ok(place) => Ok(place),
-            Err(back) => Err(self.items.refuse_back(ReadErrorCode::InvalidUtf8, back)),
+            Err(back) => Err(self.items.refuse_text(back)),
         }
     }
 
@@ -211,6 +242,7 @@ impl<'de, R: Read<'de>> Deserializer<R> {
             (R.source self.old.items.source) (R.source self.new.items.source)
             self.new.items.refusal result }
         ensures below { IfOk result (λ place. IfSome place (λ i. i < length names.now)) }
+        ensures no_key { IfErr result (TellsNoKey self.new.items.refusal) }
         ensures levels { self.new.items.levels ≡ self.old.items.levels }
         ensures formats { self.new.items.formats ≡ self.old.items.formats }
     {
@@ -226,6 +258,7 @@ impl<'de, R: Read<'de>> Deserializer<R> {
             (R.source self.old.items.source) (R.source self.new.items.source)
             self.new.items.refusal result }
         ensures below { IfOk result (λ place. IfSome place (λ i. i < length names.now)) }
+        ensures no_key { IfErr result (NamesNoKey self.new.items.refusal) }
         ensures levels { self.new.items.levels ≡ self.old.items.levels }
         ensures formats { self.new.items.formats ≡ self.old.items.formats }
     {
@@ -244,6 +277,7 @@ impl<'de, R: Read<'de>> Deserializer<R> {
             (PassesTags (IsIdentifier (texts names.now))) self.old.items.levels
             (R.source self.old.items.source) (R.source self.new.items.source)) result }
         ensures below { IfOk result (λ place. IfSome place (λ i. i < length names.now)) }
+        ensures no_key { IfErr result (NamesNoKey self.new.items.refusal) }
         ensures levels { self.new.items.levels ≡ self.old.items.levels }
         ensures formats { self.new.items.formats ≡ self.old.items.formats }
     {

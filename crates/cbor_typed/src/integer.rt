@@ -1,7 +1,9 @@
 //! Whole numbers (RFC 7049, section 2.1, major types 0 and 1).
 
-ghost use Rattle.std.specs.Prelude.{◌≡◌, ◌≤◌, ◌<◌, ◌-◌, ◌^◌, ℕ, ℤ, pos, IfOk, MatchOption};
+ghost use Rattle.std.specs.Prelude.{◌≡◌, ◌≤◌, ◌<◌, ◌-◌, ◌^◌, ℕ, ℤ, pos, IfOk, IfErr, MatchOption};
 ghost use Rattle.cbor_model.specs.Readable.{PassesTags, IsInteger, IsFromZero, IsSigned, IsWithin};
+ghost use Rattle.cbor_io.specs.Error.{code_of};
+ghost use Rattle.cbor_de.specs.Gives.{TellsNoForm};
 ghost use Rattle.cbor_typed.specs.Scalars.{IsNumber};
 ghost use Rattle.cbor_typed.specs.Takes.{TakesItem, formats_of};
 
@@ -67,6 +69,7 @@ impl<R: Source> Deserializer<R> {
         ensures read { TakesItem R.refusals (formats_of self.old.items.formats)
             (PassesTags IsInteger) self.old.items.levels
             (R.source self.old.items.source) (R.source self.new.items.source) result }
+        ensures no_form { IfErr result (λ e. TellsNoForm (code_of e)) }
         ensures levels { self.new.items.levels ≡ self.old.items.levels }
         ensures formats { self.new.items.formats ≡ self.old.items.formats }
     {
@@ -87,6 +90,7 @@ impl<R: Source> Deserializer<R> {
             (PassesTags (IsFromZero most)) self.old.items.levels
             (R.source self.old.items.source) (R.source self.new.items.source) result }
         ensures bound { IfOk result (λ n. n ≤ most) }
+        ensures no_form { IfErr result (λ e. TellsNoForm (code_of e)) }
         ensures levels { self.new.items.levels ≡ self.old.items.levels }
         ensures formats { self.new.items.formats ≡ self.old.items.formats }
     {
@@ -106,6 +110,7 @@ impl<R: Source> Deserializer<R> {
         ensures read { TakesItem R.refusals (formats_of self.old.items.formats)
             (PassesTags (IsFromZero (2 ^ 128 - 1))) self.old.items.levels
             (R.source self.old.items.source) (R.source self.new.items.source) result }
+        ensures no_form { IfErr result (λ e. TellsNoForm (code_of e)) }
         ensures levels { self.new.items.levels ≡ self.old.items.levels }
         ensures formats { self.new.items.formats ≡ self.old.items.formats }
     {
@@ -127,6 +132,7 @@ impl<R: Source> Deserializer<R> {
             (PassesTags (IsSigned most)) self.old.items.levels
             (R.source self.old.items.source) (R.source self.new.items.source) result }
         ensures bounds { IfOk result (IsWithin most) }
+        ensures no_form { IfErr result (λ e. TellsNoForm (code_of e)) }
         ensures levels { self.new.items.levels ≡ self.old.items.levels }
         ensures formats { self.new.items.formats ≡ self.old.items.formats }
     {
@@ -144,6 +150,7 @@ impl<R: Source> Deserializer<R> {
     #[cold]
     #[inline(never)]
     fn no_number(&mut self, head: Head, message: &'static str) -> Error
+        ensures no_form { TellsNoForm (code_of result) }
         ensures levels { self.new.items.levels ≡ self.old.items.levels }
         ensures formats { self.new.items.formats ≡ self.old.items.formats }
     {

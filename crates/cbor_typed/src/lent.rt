@@ -1,10 +1,13 @@
 //! Strings that are lent.
 
-ghost use Rattle.std.specs.Prelude.{◌≡◌, ◌≤◌, length, Ok};
+ghost use Rattle.std.specs.Prelude.{◌≡◌, ◌≤◌, length, IfErr, Ok};
 ghost use types.Logic.{sem};
 ghost use Rattle.std.specs.Io.BufRead.{Rests};
 ghost use Rattle.cbor_io.specs.Source.{part_bytes};
 ghost use Rattle.cbor_de.specs.declared.head.Head.TheVariants.{Bytes, Text};
+ghost use Rattle.cbor_io.specs.Error.{code_of};
+ghost use Rattle.cbor_de.specs.Gives.{TellsNoForm};
+ghost use Rattle.cbor_typed.specs.Cases.{IsNoKey};
 ghost use Rattle.cbor_typed.specs.Strings.{BytesOf, IsBadAt, IsKept, IsMadeOf, Lacks, Lent};
 ghost use Rattle.cbor_typed.specs.Strings.{LentText, LendsString, LendsText, PartText, Utf8Of};
 ghost use Rattle.cbor_typed.specs.Takes.{context};
@@ -110,7 +113,8 @@ pub(crate) fn bytes_part<'a, 'de, R: Read<'de>>(
     ensures* after_borrow { sem 𝓛 (Rests (the_row R.row) items.entry (λ new.
         (new.levels ≡ items.old.levels) × (new.formats ≡ items.old.formats)
         × Lent R.refusals R.lends (Bytes n)
-        (R.source items.old.source) (R.source new.source) result)) }
+        (R.source items.old.source) (R.source new.source) result
+        × IfErr result IsNoKey)) }
 {
     match n {
         Some(n) => given(items.source.read(n as usize)?),
@@ -132,7 +136,8 @@ pub(crate) fn text_part<'a, 'de, R: Read<'de>>(
     ensures* after_borrow { sem 𝓛 (Rests (the_row R.row) items.entry (λ new.
         (new.levels ≡ items.old.levels) × (new.formats ≡ items.old.formats)
         × LentText R.refusals R.lends (Text n)
-        (R.source items.old.source) (R.source new.source) result)) }
+        (R.source items.old.source) (R.source new.source) result
+        × IfErr result IsNoKey)) }
 {
     match n {
         Some(n) => {
@@ -187,6 +192,7 @@ impl<R: Source> Deserializer<R> {
     #[cold]
     #[inline(never)]
     fn other(&mut self, head: Head) -> Unread
+        ensures no_key { IsNoKey result }
         ensures levels { self.new.items.levels ≡ self.old.items.levels }
         ensures formats { self.new.items.formats ≡ self.old.items.formats }
     {
@@ -202,6 +208,7 @@ impl<R: Source> Deserializer<R> {
     #[inline(never)]
     pub fn unread(&mut self, why: Unread, message: &str) -> Error
         ensures made { IsMadeOf why result }
+        ensures no_form { IsNoKey why → TellsNoForm (code_of result) }
         ensures source { self.new.items.source ≡ self.old.items.source }
         ensures levels { self.new.items.levels ≡ self.old.items.levels }
         ensures formats { self.new.items.formats ≡ self.old.items.formats }
@@ -220,7 +227,8 @@ impl<'de, R: Read<'de>> Deserializer<R> {
             (new.items.levels ≡ self.old.items.levels)
             × (new.items.formats ≡ self.old.items.formats)
             × LendsText R.refusals (context self.old.items.formats R.lends) self.old.items.levels
-            (R.source self.old.items.source) (R.source new.items.source) result)) }
+            (R.source self.old.items.source) (R.source new.items.source) result
+            × IfErr result IsNoKey)) }
     {
         let head = match self.scalar() {
             Ok(head) => head,
@@ -239,7 +247,8 @@ impl<'de, R: Read<'de>> Deserializer<R> {
             (new.items.levels ≡ self.old.items.levels)
             × (new.items.formats ≡ self.old.items.formats)
             × LendsString R.refusals (context self.old.items.formats R.lends) self.old.items.levels
-            (R.source self.old.items.source) (R.source new.items.source) result)) }
+            (R.source self.old.items.source) (R.source new.items.source) result
+            × IfErr result IsNoKey)) }
     {
         let head = match self.scalar() {
             Ok(head) => head,

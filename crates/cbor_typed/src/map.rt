@@ -1,13 +1,20 @@
 //! Maps, one pair after the other (RFC 7049, section 2.1, major type 5).
 
-ghost use Rattle.std.specs.Prelude.{◌≡◌, ◌<◌, ◌≤◌, true, false, IfOk, IfErr, MatchOption, OnErr};
+ghost use Rattle.std.specs.Prelude.{◌≡◌, ◌<◌, ◌≤◌, true, false, IfOk, IfErr, MatchOption};
+ghost use Rattle.std.specs.Prelude.{OnOk, OnErr, IsSomeAnd};
 ghost use Rattle.std.specs.Option.{is_some};
 ghost use Rattle.std.specs.Borrow.{sem, RestsIfErr};
+ghost use Rattle.cbor_model.specs.Formats.{may_begin_key};
 ghost use Rattle.cbor_model.specs.Reader.{item_at};
 ghost use Rattle.cbor_de.specs.declared.cursor.Remaining.TheVariants.{Counted};
+ghost use Rattle.cbor_io.specs.Error.{code_of};
 ghost use Rattle.cbor_de.specs.Cursor.{Counts};
-ghost use Rattle.cbor_de.specs.Gives.{Gives, IsErrorOf, Step};
+ghost use Rattle.cbor_de.specs.Gives.{Gives, IsAt, IsErrorOf, Step, TellsNoForm};
+ghost use Rattle.cbor_de.specs.declared.refusal.Refused.TheVariants.{Kept};
+ghost use Rattle.cbor_io.specs.declared.read.read_error.ReadErrorCode.TheVariants as reading;
+ghost use Rattle.cbor_io.specs.declared.error.Error.{Error};
 ghost use Rattle.cbor_typed.specs.Accesses.{turns, size_of};
+ghost use Rattle.cbor_typed.specs.Cases.{Stands, key_cases};
 ghost use Rattle.cbor_typed.specs.MapAccesses.{IsMapHead, RefusesMap, TakesMapHead, TakesKey};
 ghost use Rattle.cbor_typed.specs.MapAccesses.{TakesMorePairs, TakesMapEnd, key_front};
 ghost use Rattle.cbor_typed.specs.Takes.{OnceMade, TakesItem, context, formats_of, raws};
@@ -36,6 +43,7 @@ impl<R: Source> Deserializer<R> {
             m.de.now.items.levels m.remaining rest)) }
         ensures refused { IfErr result (RefusesMap R.refusals (formats_of self.old.items.formats)
             self.old.items.levels (R.source self.old.items.source)) }
+        ensures no_form { IfErr result (λ e. TellsNoForm (code_of e)) }
         ensures outer { IfOk result (λ m. m.outer ≡ self.old.items.levels) }
         ensures inside { IfOk result (λ m. m.de.now.items.levels < m.outer) }
         ensures formats { IfOk result (λ m. m.de.now.items.formats ≡ self.old.items.formats) }
@@ -56,6 +64,7 @@ impl<R: Source> Deserializer<R> {
         ensures read { TakesMapHead R.refusals (formats_of self.old.items.formats)
             self.old.items.levels (R.source self.old.items.source)
             (R.source self.new.items.source) self.new.items.levels result }
+        ensures no_form { IfErr result (λ e. TellsNoForm (code_of e)) }
         ensures inside { IfOk result (λ r. self.new.items.levels < self.old.items.levels) }
         ensures outer { OnErr result (self.new.items.levels ≡ self.old.items.levels) }
         ensures formats { self.new.items.formats ≡ self.old.items.formats }
@@ -92,26 +101,62 @@ impl<R: Source> Deserializer<R> {
         ensures levels { self.new.items.levels ≡ self.old.items.levels }
         ensures formats { self.new.items.formats ≡ self.old.items.formats }
     {
+        match self.items.source.ahead().first().copied() {
+            Some(first) => self.key_may_begin(first),
+            None => self.key_begins_peeked(),
+        }
+    }
+
+    // The same, where no byte is at hand.
+    #[inline(never)]
+    #[tactic(auto, unfolding(cbor_model::specs::Reader::key_at))]
+    fn key_begins_peeked(&mut self) -> Done<()>
+        ensures read { Gives R.refusals (λ u. u)
+            (λ l. key_front (formats_of self.old.items.formats))
+            (R.source self.old.items.source) (R.source self.new.items.source)
+            self.new.items.refusal result }
+        ensures levels { self.new.items.levels ≡ self.old.items.levels }
+        ensures formats { self.new.items.formats ≡ self.old.items.formats }
+    {
         match self.items.source.peek() {
-            Ok(Some(first)) => {
-                if !self.items.formats.may_begin_key(first) {
-                    return Err(self.items.refuse(ReadErrorCode::WrongStructFormat));
-                }
-                Ok(())
-            }
+            Ok(Some(first)) => self.key_may_begin(first),
             Ok(None) => Err(self.items.refuse(ReadErrorCode::EofWhileParsingValue)),
             Err(refusal) => Err(self.items.keep(refusal)),
         }
     }
 
+    // Refuses a key that may not begin with this byte.
+    #[inline(always)]
+    fn key_may_begin(&mut self, first: u8) -> Done<()>
+        ensures allowed { OnOk result
+            (may_begin_key (formats_of self.old.items.formats) first ≡ true) }
+        ensures refused { IfErr result (λ r. r ≡ Kept) }
+        ensures kept { OnErr result (IsSomeAnd self.new.items.refusal
+            (IsAt reading.WrongStructFormat (R.source self.old.items.source).offset)) }
+        ensures not_allowed { OnErr result
+            (may_begin_key (formats_of self.old.items.formats) first ≡ false) }
+        ensures source { self.new.items.source ≡ self.old.items.source }
+        ensures levels { self.new.items.levels ≡ self.old.items.levels }
+        ensures formats { self.new.items.formats ≡ self.old.items.formats }
+    {
+        if !self.items.formats.may_begin_key(first) {
+            return Err(self.items.refuse(ReadErrorCode::WrongStructFormat));
+        }
+        Ok(())
+    }
+
     // Whether another pair of a map comes, of which so much remains; its first byte stays. A key
     // that may not begin as it does is refused.
     #[inline(always)]
+    #[tactic(auto, using(crate::proofs::Cases::made_stands, crate::proofs::Cases::key_stands))]
     pub(crate) fn more_pairs(&mut self, remaining: &mut Remaining) -> Done<bool>
         ensures read { OnceMade (IsErrorOf self.new.items.refusal)
             (TakesMorePairs R.refusals (formats_of self.old.items.formats)
             remaining.old remaining.new
             (R.source self.old.items.source) (R.source self.new.items.source)) result }
+        ensures cases { IfErr result (λ r. (e : Error) → IsErrorOf self.new.items.refusal r e
+            → Stands (R.source self.old.items.source) e
+            (key_cases (formats_of self.old.items.formats) remaining.old)) }
         ensures counts { IfOk result (λ more. Counts remaining.old more remaining.new) }
         ensures levels { self.new.items.levels ≡ self.old.items.levels }
         ensures formats { self.new.items.formats ≡ self.old.items.formats }
@@ -127,6 +172,7 @@ impl<R: Source> Deserializer<R> {
     pub(crate) fn end_map(&mut self, remaining: Remaining) -> Result<()>
         ensures read { TakesMapEnd R.refusals remaining
             (R.source self.old.items.source) (R.source self.new.items.source) result }
+        ensures no_form { IfErr result (λ e. TellsNoForm (code_of e)) }
         ensures levels { self.new.items.levels ≡ self.old.items.levels }
         ensures formats { self.new.items.formats ≡ self.old.items.formats }
     {
@@ -140,6 +186,7 @@ impl<R: Source> Deserializer<R> {
     #[cold]
     #[inline(never)]
     pub(crate) fn no_key(&mut self) -> Error
+        ensures no_form { TellsNoForm (code_of result) }
         ensures levels { self.new.items.levels ≡ self.old.items.levels }
         ensures formats { self.new.items.formats ≡ self.old.items.formats }
     {
@@ -287,6 +334,7 @@ impl<'a, R: Source> MapAccess<'a, R> {
         ensures read { TakesMapEnd R.refusals self.entry.remaining
             (R.source self.entry.de.now.items.source) (R.source self.exit.0.now.items.source)
             result }
+        ensures no_form { IfErr result (λ e. TellsNoForm (code_of e)) }
         ensures levels { self.exit.0.now.items.levels ≡ self.entry.outer }
         ensures formats { self.exit.0.now.items.formats ≡ self.entry.de.now.items.formats }
     {

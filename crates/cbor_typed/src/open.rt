@@ -1,7 +1,8 @@
 //! The head of an item within its tags.
 
-ghost use Rattle.std.specs.Prelude.{◌≡◌, ◌≤◌, OnOk};
+ghost use Rattle.std.specs.Prelude.{◌≡◌, ◌≤◌, IfErr, OnOk};
 ghost use Rattle.cbor_model.specs.Reader.{item_at};
+ghost use Rattle.cbor_de.specs.Gives.{TellsNoKey};
 ghost use Rattle.cbor_de.specs.Heads.{HeadGives};
 ghost use Rattle.cbor_typed.specs.Opens.{OpensAt, opening_at, item_inside};
 ghost use Rattle.cbor_typed.specs.Takes.{formats_of, raws};
@@ -17,6 +18,7 @@ impl<R: Source> Deserializer<R> {
         ensures read { HeadGives R.refusals opening_at
             (R.source self.old.items.source) (R.source self.new.items.source)
             self.new.items.refusal result }
+        ensures no_key { IfErr result (TellsNoKey self.new.items.refusal) }
         ensures levels { self.new.items.levels ≡ self.old.items.levels }
         ensures formats { self.new.items.formats ≡ self.old.items.formats }
     {
@@ -32,6 +34,7 @@ impl<R: Source> Deserializer<R> {
             (λ l. item_at (raws (formats_of self.old.items.formats) l) self.old.items.levels)
             (R.source self.old.items.source) (R.source self.new.items.source)
             self.new.items.levels self.new.items.refusal result }
+        ensures no_key { IfErr result (TellsNoKey self.new.items.refusal) }
         ensures levels { OnOk result (self.new.items.levels ≤ self.old.items.levels) }
         ensures formats { self.new.items.formats ≡ self.old.items.formats }
     {
@@ -50,6 +53,7 @@ impl<R: Source> Deserializer<R> {
             (λ l. item_inside (formats_of self.old.items.formats) l self.old.items.levels)
             (R.source self.old.items.source) (R.source self.new.items.source)
             self.new.items.levels self.new.items.refusal result }
+        ensures no_key { IfErr result (TellsNoKey self.new.items.refusal) }
         ensures levels { OnOk result (self.new.items.levels ≤ self.old.items.levels) }
         ensures formats { self.new.items.formats ≡ self.old.items.formats }
     {

@@ -1,7 +1,9 @@
 //! Simple values and numbers.
 
-ghost use Rattle.std.specs.Prelude.{◌≡◌};
+ghost use Rattle.std.specs.Prelude.{◌≡◌, IfErr};
 ghost use Rattle.cbor_model.specs.Readable.{PassesTags, IsBool, IsUnit};
+ghost use Rattle.cbor_io.specs.Error.{code_of};
+ghost use Rattle.cbor_de.specs.Gives.{TellsNoForm, TellsNoKey};
 ghost use Rattle.cbor_typed.specs.Opens.{OpensItem};
 ghost use Rattle.cbor_typed.specs.Scalars.{IsFloatItem};
 ghost use Rattle.cbor_typed.specs.Takes.{TakesItem, formats_of};
@@ -21,6 +23,7 @@ impl<R: Source> Deserializer<R> {
             self.old.items.levels
             (R.source self.old.items.source) (R.source self.new.items.source)
             self.new.items.refusal result }
+        ensures no_key { IfErr result (TellsNoKey self.new.items.refusal) }
         ensures levels { self.new.items.levels ≡ self.old.items.levels }
         ensures formats { self.new.items.formats ≡ self.old.items.formats }
     {
@@ -34,6 +37,7 @@ impl<R: Source> Deserializer<R> {
     #[cold]
     #[inline(never)]
     pub(crate) fn mismatch(&mut self, head: Head, message: &str) -> Error
+        ensures no_form { TellsNoForm (code_of result) }
         ensures levels { self.new.items.levels ≡ self.old.items.levels }
         ensures formats { self.new.items.formats ≡ self.old.items.formats }
     {
@@ -51,6 +55,7 @@ impl<R: Source> Deserializer<R> {
             self.old.items.levels
             (R.source self.old.items.source) (R.source self.new.items.source)
             result }
+        ensures no_form { IfErr result (λ e. TellsNoForm (code_of e)) }
         ensures levels { self.new.items.levels ≡ self.old.items.levels }
         ensures formats { self.new.items.formats ≡ self.old.items.formats }
     {
@@ -71,6 +76,7 @@ impl<R: Source> Deserializer<R> {
             (PassesTags IsFloatItem) self.old.items.levels
             (R.source self.old.items.source) (R.source self.new.items.source)
             result }
+        ensures no_form { IfErr result (λ e. TellsNoForm (code_of e)) }
         ensures levels { self.new.items.levels ≡ self.old.items.levels }
         ensures formats { self.new.items.formats ≡ self.old.items.formats }
     {
@@ -91,6 +97,7 @@ impl<R: Source> Deserializer<R> {
             self.old.items.levels
             (R.source self.old.items.source) (R.source self.new.items.source)
             result }
+        ensures no_form { IfErr result (λ e. TellsNoForm (code_of e)) }
         ensures levels { self.new.items.levels ≡ self.old.items.levels }
         ensures formats { self.new.items.formats ≡ self.old.items.formats }
     {

@@ -4,8 +4,9 @@ ghost use Rattle.std.specs.Prelude.{◌≡◌, ◌+◌, ◌<◌, IfOk, IfErr, Ma
 ghost use Rattle.cbor_de.specs.declared.cursor.Remaining.TheVariants.{Counted};
 ghost use Rattle.std.specs.Borrow.{sem, RestsIfErr};
 ghost use Rattle.cbor_model.specs.Reader.{item_at};
+ghost use Rattle.cbor_io.specs.Error.{code_of};
 ghost use Rattle.cbor_de.specs.Cursor.{Counts};
-ghost use Rattle.cbor_de.specs.Gives.{Step};
+ghost use Rattle.cbor_de.specs.Gives.{Step, TellsNoForm};
 ghost use Rattle.cbor_typed.specs.Accesses.{IsArrayHead, RefusesArray, TakesHead, TakesNext};
 ghost use Rattle.cbor_typed.specs.Accesses.{TakesMore, TakesPart, TakesEnd, turns, size_of};
 ghost use Rattle.cbor_typed.specs.Takes.{context, formats_of, raws};
@@ -34,6 +35,7 @@ impl<R: Source> Deserializer<R> {
             s.de.now.items.levels s.remaining rest)) }
         ensures refused { IfErr result (RefusesArray R.refusals (formats_of self.old.items.formats)
             self.old.items.levels (R.source self.old.items.source)) }
+        ensures no_form { IfErr result (λ e. TellsNoForm (code_of e)) }
         ensures outer { IfOk result (λ s. s.outer ≡ self.old.items.levels) }
         ensures inside { IfOk result (λ s. s.de.now.items.levels < s.outer) }
         ensures formats { IfOk result (λ s. s.de.now.items.formats ≡ self.old.items.formats) }
@@ -52,6 +54,7 @@ impl<R: Source> Deserializer<R> {
         ensures read { TakesHead R.refusals (formats_of self.old.items.formats)
             self.old.items.levels (R.source self.old.items.source) (R.source self.new.items.source)
             self.new.items.levels result }
+        ensures no_form { IfErr result (λ e. TellsNoForm (code_of e)) }
         ensures inside { IfOk result (λ r. self.new.items.levels < self.old.items.levels) }
         ensures outer { OnErr result (self.new.items.levels ≡ self.old.items.levels) }
         ensures formats { self.new.items.formats ≡ self.old.items.formats }
@@ -83,6 +86,7 @@ impl<R: Source> Deserializer<R> {
         ensures read { TakesMore R.refusals remaining.old remaining.new
             (R.source self.old.items.source) (R.source self.new.items.source) result }
         ensures counts { IfOk result (λ more. Counts remaining.old more remaining.new) }
+        ensures no_form { IfErr result (λ e. TellsNoForm (code_of e)) }
         ensures levels { self.new.items.levels ≡ self.old.items.levels }
         ensures formats { self.new.items.formats ≡ self.old.items.formats }
     {
@@ -96,6 +100,7 @@ impl<R: Source> Deserializer<R> {
     pub(crate) fn end_array(&mut self, remaining: Remaining) -> Result<()>
         ensures read { TakesEnd R.refusals remaining
             (R.source self.old.items.source) (R.source self.new.items.source) result }
+        ensures no_form { IfErr result (λ e. TellsNoForm (code_of e)) }
         ensures levels { self.new.items.levels ≡ self.old.items.levels }
         ensures formats { self.new.items.formats ≡ self.old.items.formats }
     {
@@ -120,6 +125,7 @@ impl<R: Source> Deserializer<R> {
     #[cold]
     #[inline(never)]
     fn no_item(&mut self) -> Error
+        ensures no_form { TellsNoForm (code_of result) }
         ensures levels { self.new.items.levels ≡ self.old.items.levels }
         ensures formats { self.new.items.formats ≡ self.old.items.formats }
     {
@@ -262,6 +268,7 @@ impl<'a, R: Source> SeqAccess<'a, R> {
         ensures read { TakesEnd R.refusals self.entry.remaining
             (R.source self.entry.de.now.items.source) (R.source self.exit.0.now.items.source)
             result }
+        ensures no_form { IfErr result (λ e. TellsNoForm (code_of e)) }
         ensures levels { self.exit.0.now.items.levels ≡ self.entry.outer }
         ensures formats { self.exit.0.now.items.formats ≡ self.entry.de.now.items.formats }
     {

@@ -1,17 +1,21 @@
 //! Strings: texts, and byte strings (RFC 7049, section 2.1, major types 2 and 3; in chunks, section
 //! 2.2.2).
 
-ghost use Rattle.std.specs.Prelude.{◌≡◌, ◌≤◌, length, IfOk};
+ghost use Rattle.std.specs.Prelude.{◌≡◌, ◌≤◌, length, IfOk, IfErr};
 ghost use Rattle.std.specs.String.{string_bytes};
 ghost use Rattle.cbor_model.specs.Readable.{PassesTags, IsText};
-ghost use Rattle.cbor_de.specs.Gives.{Gives};
+ghost use Rattle.cbor_io.specs.Error.{code_of};
+ghost use Rattle.cbor_de.specs.Gives.{Gives, TellsNoForm, TellsNoKey};
+ghost use Rattle.cbor_typed.specs.Cases.{NamesNoKey};
+ghost use Rattle.cbor_typed.specs.Identifiers.{IsMadeBy};
 ghost use Rattle.cbor_de.specs.declared.head.Head.TheVariants.{Bytes, Text};
 ghost use Rattle.cbor_typed.specs.Strings.{content_at, KeepsTextOf, SeeksItem};
-ghost use Rattle.cbor_typed.specs.Takes.{TakesItem, formats_of};
+ghost use Rattle.cbor_typed.specs.Takes.{OnceMade, TakesItem, formats_of};
 
 use crate::de::Deserializer;
+use crate::identifier::{Named, Why};
 use cbor_de::{Done, Head};
-use cbor_io::error::{Error, Result};
+use cbor_io::error::Result;
 use cbor_io::head::Major;
 use cbor_io::read::{ReadErrorCode, Source};
 
@@ -22,6 +26,7 @@ impl<R: Source> Deserializer<R> {
         ensures read { Gives R.refusals (λ v. v.items) (λ l. content_at l (Bytes n))
             (R.source self.old.items.source) (R.source self.new.items.source)
             self.new.items.refusal result }
+        ensures no_key { IfErr result (TellsNoKey self.new.items.refusal) }
         ensures levels { self.new.items.levels ≡ self.old.items.levels }
         ensures formats { self.new.items.formats ≡ self.old.items.formats }
     {
@@ -39,6 +44,7 @@ impl<R: Source> Deserializer<R> {
             self.new.items.refusal result }
         ensures counted { IfOk result
             (λ v. length v.items ≤ (R.source self.new.items.source).offset) }
+        ensures no_key { IfErr result (TellsNoKey self.new.items.refusal) }
         ensures levels { self.new.items.levels ≡ self.old.items.levels }
         ensures formats { self.new.items.formats ≡ self.old.items.formats }
     {
@@ -60,6 +66,7 @@ impl<R: Source> Deserializer<R> {
         ensures read { KeepsTextOf (λ s. string_bytes s) bytes.items
             (R.source self.old.items.source).offset self.new.items.refusal result }
         ensures source { self.new.items.source ≡ self.old.items.source }
+        ensures no_key { IfErr result (TellsNoKey self.new.items.refusal) }
         ensures levels { self.new.items.levels ≡ self.old.items.levels }
         ensures formats { self.new.items.formats ≡ self.old.items.formats }
     {
@@ -83,6 +90,7 @@ impl<R: Source> Deserializer<R> {
             (PassesTags (λ r s. IsText r (string_bytes s))) self.old.items.levels
             (R.source self.old.items.source) (R.source self.new.items.source)
             self.new.items.refusal result }
+        ensures no_key { IfErr result (TellsNoKey self.new.items.refusal) }
         ensures levels { self.new.items.levels ≡ self.old.items.levels }
         ensures formats { self.new.items.formats ≡ self.old.items.formats }
     {
@@ -105,11 +113,22 @@ impl<R: Source> Deserializer<R> {
         }
     }
 
-    // The error of an item that isn't a string.
-    #[cold]
-    #[inline(never)]
-    fn no_string(&self) -> Error {
-        Error::message(self.items.alloc, NO_STRING)
+    // The same; an item of another kind is why there is none.
+    #[inline(always)]
+    fn own_string(&mut self) -> Named<String>
+        ensures read { OnceMade (IsMadeBy self.new.items.refusal)
+            (TakesItem R.refusals (formats_of self.old.items.formats)
+            (PassesTags (λ r s. IsText r (string_bytes s))) self.old.items.levels
+            (R.source self.old.items.source) (R.source self.new.items.source)) result }
+        ensures no_key { IfErr result (NamesNoKey self.new.items.refusal) }
+        ensures levels { self.new.items.levels ≡ self.old.items.levels }
+        ensures formats { self.new.items.formats ≡ self.old.items.formats }
+    {
+        match self.string() {
+            Ok(Some(text)) => Ok(text),
+            Ok(None) => Err(Why::Other),
+            Err(refused) => Err(Why::Refused(refused)),
+        }
     }
 
     /// Reads a text, or a byte string that is UTF-8, to memory of its own.
@@ -117,13 +136,13 @@ impl<R: Source> Deserializer<R> {
         ensures read { TakesItem R.refusals (formats_of self.old.items.formats)
             (PassesTags (λ r s. IsText r (string_bytes s))) self.old.items.levels
             (R.source self.old.items.source) (R.source self.new.items.source) result }
+        ensures no_form { IfErr result (λ e. TellsNoForm (code_of e)) }
         ensures levels { self.new.items.levels ≡ self.old.items.levels }
         ensures formats { self.new.items.formats ≡ self.old.items.formats }
     {
-        match self.string() {
-            Ok(Some(text)) => Ok(text),
-            Ok(None) => Err(self.no_string()),
-            Err(refused) => Err(self.items.error(refused)),
+        match self.own_string() {
+            Ok(text) => Ok(text),
+            Err(why) => Err(self.unnamed(why, NO_STRING)),
         }
     }
 }

@@ -5,10 +5,12 @@ ghost use Rattle.std.specs.Prelude.{MatchOption, Some};
 ghost use Rattle.std.specs.Option.{is_some};
 ghost use Rattle.std.specs.Borrow.{sem, RestsIfErr};
 ghost use Rattle.cbor_io.specs.Error.{code_of, offset_of, IsMessageOf};
+ghost use Rattle.cbor_io.specs.declared.error.Error.{Error};
 ghost use Rattle.cbor_model.specs.Reader.{item_at};
 ghost use Rattle.cbor_de.specs.declared.cursor.Remaining.TheVariants.{Counted};
-ghost use Rattle.cbor_de.specs.Gives.{Step};
+ghost use Rattle.cbor_de.specs.Gives.{Step, TellsNoForm};
 ghost use Rattle.cbor_typed.specs.Accesses.{turns, size_of};
+ghost use Rattle.cbor_typed.specs.Cases.{NamesNoKey, Stands, key_cases};
 ghost use Rattle.cbor_typed.specs.Identifiers.{IsMadeBy, texts};
 ghost use Rattle.cbor_typed.specs.MapAccesses.{IsMapHead, RefusesMap, TakesKey, TakesMapEnd};
 ghost use Rattle.cbor_typed.specs.Structs.{IsAny, IsField, place_in, missing_text, duplicate_text};
@@ -54,6 +56,7 @@ impl<R: Source> Deserializer<R> {
             m.de.now.items.levels m.remaining rest)) }
         ensures refused { IfErr result (RefusesMap R.refusals (formats_of self.old.items.formats)
             self.old.items.levels (R.source self.old.items.source)) }
+        ensures no_form { IfErr result (λ e. TellsNoForm (code_of e)) }
         ensures outer { IfOk result (λ m. m.outer ≡ self.old.items.levels) }
         ensures inside { IfOk result (λ m. m.de.now.items.levels < m.outer) }
         ensures formats { IfOk result (λ m.
@@ -82,6 +85,7 @@ impl<'de, R: Read<'de>> Deserializer<R> {
             (IsField (texts names.now)) self.old.items.levels
             (R.source self.old.items.source) (R.source self.new.items.source)) result }
         ensures below { IfOk result (λ field. IfSome (place_in field) (λ i. i < length names.now)) }
+        ensures no_key { IfErr result (NamesNoKey self.new.items.refusal) }
         ensures levels { self.new.items.levels ≡ self.old.items.levels }
         ensures formats { self.new.items.formats ≡ self.old.items.formats }
     {
@@ -93,6 +97,7 @@ impl<'de, R: Read<'de>> Deserializer<R> {
 
     // Reads the field that the next key names; None where no pair remains.
     #[inline(always)]
+    #[tactic(auto, using(crate::proofs::Cases::unnamed_stands))]
     fn next_field(&mut self, remaining: &mut Remaining, names: &[&str]) -> Named<Option<Field>>
         ensures read { OnceMade (IsMadeBy self.new.items.refusal)
             (TakesKey R.refusals (formats_of self.old.items.formats) (IsField (texts names.now))
@@ -104,6 +109,9 @@ impl<'de, R: Read<'de>> Deserializer<R> {
         ensures remains { IfOk result (λ next. MatchOption next (remaining.new ≡ Counted 0)
             (λ k. turns remaining.new (R.source self.new.items.source)
             < turns remaining.old (R.source self.old.items.source))) }
+        ensures cases { IfErr result (λ w. (e : Error) → IsMadeBy self.new.items.refusal w e
+            → Stands (R.source self.old.items.source) e
+            (key_cases (formats_of self.old.items.formats) remaining.old)) }
         ensures levels { self.new.items.levels ≡ self.old.items.levels }
         ensures formats { self.new.items.formats ≡ self.old.items.formats }
     {
@@ -180,6 +188,8 @@ impl<'a, R: Source> StructAccess<'a, R> {
             (self.new.remaining ≡ Counted 0)
             (λ k. turns self.new.remaining (R.source self.new.de.now.items.source)
             < turns self.old.remaining (R.source self.old.de.now.items.source))) }
+        ensures cases { IfErr result (λ e. Stands (R.source self.old.de.now.items.source) e
+            (key_cases (formats_of self.old.de.now.items.formats) self.old.remaining)) }
         ensures due { IfOk result (λ next. self.new.value_due ≡ is_some next) }
         ensures inside { IfOk result (λ k.
             self.new.de.now.items.levels ≡ self.old.de.now.items.levels) }
@@ -288,12 +298,16 @@ impl<'a, R: Source> StructAccess<'a, R> {
             self.de.items.levels = self.outer;
             return Err(duplicate_field(self.de.items.alloc, name));
         }
-        match self.value::<V>() {
+        match V::deserialize(self.de) {
             Ok(value) => {
+                self.value_due = false;
                 *slot = Some(value);
                 Ok(())
             }
-            Err(e) => Err(e),
+            Err(e) => {
+                self.de.items.levels = self.outer;
+                Err(e)
+            }
         }
     }
 
@@ -425,6 +439,7 @@ impl<'a, R: Source> StructAccess<'a, R> {
         ensures read { TakesMapEnd R.refusals self.entry.remaining
             (R.source self.entry.de.now.items.source)
             (R.source self.exit.0.now.items.source) result }
+        ensures no_form { IfErr result (λ e. TellsNoForm (code_of e)) }
         ensures levels { self.exit.0.now.items.levels ≡ self.entry.outer }
         ensures formats { self.exit.0.now.items.formats
             ≡ self.entry.de.now.items.formats }

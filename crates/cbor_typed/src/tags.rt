@@ -1,7 +1,8 @@
 //! Tags (RFC 7049, section 2.4).
 
-ghost use Rattle.std.specs.Prelude.{◌≡◌, ◌+◌, ◌<◌, IfOk, IfSome};
-ghost use Rattle.cbor_de.specs.Gives.{Gives};
+ghost use Rattle.std.specs.Prelude.{◌≡◌, ◌+◌, ◌<◌, IfOk, IfErr, IfSome};
+ghost use Rattle.cbor_io.specs.Error.{code_of};
+ghost use Rattle.cbor_de.specs.Gives.{Gives, TellsNoForm, TellsNoKey};
 ghost use Rattle.cbor_typed.specs.Tags.{begins_tag, tag_first_at, tag_head_at};
 ghost use Rattle.cbor_typed.specs.Tags.{ReadsTag, LevelsBehind, TagIs};
 ghost use Rattle.cbor_typed.specs.Takes.{formats_of};
@@ -45,6 +46,7 @@ impl<R: Source> Deserializer<R> {
         ensures item { IfOk result (λ o. IfSome o (λ n.
             TagIs (formats_of self.old.items.formats) self.old.items.levels n
             (R.source self.old.items.source) (R.source self.new.items.source))) }
+        ensures no_form { IfErr result (λ e. TellsNoForm (code_of e)) }
         ensures levels { LevelsBehind result self.old.items.levels self.new.items.levels }
         ensures formats { self.new.items.formats ≡ self.old.items.formats }
     {
@@ -70,6 +72,7 @@ impl<R: Source> Deserializer<R> {
         ensures read { Gives R.refusals (λ o. o) (λ l. tag_head_at self.old.items.levels)
             (R.source self.old.items.source) (R.source self.new.items.source)
             self.new.items.refusal result }
+        ensures no_key { IfErr result (TellsNoKey self.new.items.refusal) }
         ensures levels { LevelsBehind result self.old.items.levels self.new.items.levels }
         ensures formats { self.new.items.formats ≡ self.old.items.formats }
     {
@@ -88,6 +91,7 @@ impl<R: Source> Deserializer<R> {
         ensures read { Gives R.refusals (λ o. o) (λ l. tag_first_at)
             (R.source self.old.items.source) (R.source self.new.items.source)
             self.new.items.refusal result }
+        ensures no_key { IfErr result (TellsNoKey self.new.items.refusal) }
         ensures levels { self.new.items.levels ≡ self.old.items.levels }
         ensures formats { self.new.items.formats ≡ self.old.items.formats }
     {

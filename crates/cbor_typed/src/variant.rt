@@ -1,14 +1,19 @@
 //! Enums, of which an item tells the variant and holds its content.
 
-ghost use Rattle.std.specs.Prelude.{◌≡◌, ◌+◌, ◌≤◌, ◌<◌, codes, length, true};
+ghost use Rattle.std.specs.Prelude.{◌≡◌, ◌⊎◌, ◌+◌, ◌≤◌, ◌<◌, codes, length, true};
 ghost use Rattle.std.specs.Prelude.{OnOk, OnErr, IfOk, IfErr};
 ghost use Rattle.std.specs.Borrow.{sem, RestsIfErr};
-ghost use Rattle.cbor_model.specs.Reader.{item_at};
+ghost use Rattle.cbor_model.specs.Readable.{PassesTags, IsUnit};
+ghost use Rattle.cbor_model.specs.Refusal.{end_in_array};
+ghost use Rattle.cbor_model.specs.Reader.{item_at, next_at};
+ghost use Rattle.cbor_de.specs.Heads.{remaining_of};
 ghost use Rattle.cbor_io.specs.Error.{code_of, offset_of, HasNoOffset};
-ghost use Rattle.cbor_de.specs.Gives.{Gives, Step};
+ghost use Rattle.cbor_de.specs.Gives.{Gives, Step, TellsNoForm, TellsNoKey};
+ghost use Rattle.cbor_typed.specs.Cases.{Stands, NoItemHere, form_cases};
+ghost use Rattle.cbor_typed.specs.Cases.{untagged_cases, enum_cases, unit_cases, TellsTooShort};
 ghost use Rattle.cbor_typed.specs.Enums.{IsName, IsNothing, IsPart};
 ghost use Rattle.cbor_typed.specs.Identifiers.{texts};
-ghost use Rattle.cbor_typed.specs.Takes.{TakesItem, context, formats_of, raws};
+ghost use Rattle.cbor_typed.specs.Takes.{TakesItem, TellsFault, context, formats_of, raws};
 ghost use Rattle.cbor_typed.specs.Variants.{IsVariantHead, RefusesVariant, TakesVariant};
 ghost use Rattle.cbor_typed.specs.Variants.{IsInside, IsEntered};
 ghost use Rattle.cbor_typed.specs.Variants.{IsPartsHead, RefusesParts, TakesParts, TakesContent};
@@ -71,6 +76,7 @@ impl<R: Source> Deserializer<R> {
             self.old.items.levels
             (R.source self.old.items.source) (R.source self.new.items.source)
             self.new.items.levels self.new.items.refusal result }
+        ensures no_key { IfErr result (TellsNoKey self.new.items.refusal) }
         ensures levels { OnOk result (self.new.items.levels ≤ self.old.items.levels) }
         ensures formats { self.new.items.formats ≡ self.old.items.formats }
     {
@@ -84,6 +90,8 @@ impl<R: Source> Deserializer<R> {
     fn enum_shape(&mut self) -> Result<Shape>
         ensures read { TakesShape R.refusals (formats_of self.old.items.formats)
             (R.source self.old.items.source) (R.source self.new.items.source) result }
+        ensures cases { IfErr result (λ e. Stands (R.source self.old.items.source) e
+            (form_cases (formats_of self.old.items.formats))) }
         ensures levels { self.new.items.levels ≡ self.old.items.levels }
         ensures formats { self.new.items.formats ≡ self.old.items.formats }
     {
@@ -135,6 +143,9 @@ impl<R: Source> Deserializer<R> {
         ensures read { TakesComing R.refusals remaining.old remaining.new
             (R.source self.old.items.source) (R.source self.new.items.source)
             self.new.items.refusal result }
+        ensures no_key { IfErr result (TellsNoKey self.new.items.refusal) }
+        ensures stays { OnOk result ((R.source self.new.items.source).offset
+            ≡ (R.source self.old.items.source).offset) }
         ensures levels { self.new.items.levels ≡ self.old.items.levels }
         ensures formats { self.new.items.formats ≡ self.old.items.formats }
     {
@@ -154,10 +165,17 @@ impl<R: Source> Deserializer<R> {
     }
 
     // Refuses with this code, at the present offset, where no item of the array comes.
+    #[tactic(auto, using(crate::proofs::Cases::coming_fault))]
     fn expect_item(&mut self, remaining: &mut Remaining, none: ErrorCode) -> Result<()>
         requires { HasNoOffset none → ⊥ }
         ensures read { ExpectsItem R.refusals remaining.old remaining.new
             (R.source self.old.items.source) (R.source self.new.items.source) result }
+        ensures none { IfErr result (λ e. TellsNoForm (code_of e)
+            ⊎ NoItemHere none remaining.old (R.source self.old.items.source) e) }
+        ensures fault { IfErr result (λ e. TellsFault R.refusals
+            (λ l. next_at end_in_array (remaining_of remaining.old))
+            (R.source self.old.items.source) e
+            ⊎ NoItemHere none remaining.old (R.source self.old.items.source) e) }
         ensures levels { self.new.items.levels ≡ self.old.items.levels }
         ensures formats { self.new.items.formats ≡ self.old.items.formats }
     {
@@ -189,6 +207,7 @@ impl<R: Source> Deserializer<R> {
             (R.source self.old.items.source) (R.source self.new.items.source)
             self.new.items.levels result }
         ensures alone { IfErr result (TellsAlone (alone_text (codes "tuple")) form) }
+        ensures no_form { IfErr result (λ e. TellsNoForm (code_of e)) }
         ensures inside { IfOk result (λ r. IsEntered form self.old.items.levels
             self.new.items.levels) }
         ensures formats { self.new.items.formats ≡ self.old.items.formats }
@@ -232,6 +251,9 @@ impl<'de, R: Read<'de>> Deserializer<R> {
         ensures refused { IfErr result (RefusesVariant R.refusals
             (formats_of self.old.items.formats) (texts names.now) self.old.items.levels
             (R.source self.old.items.source)) }
+        ensures cases { IfErr result (λ e. Stands (R.source self.old.items.source) e
+            (enum_cases (formats_of self.old.items.formats)
+            self.old.items.levels)) }
         ensures below { IfOk result (λ v. v.index < length names.now) }
         ensures outer { IfOk result (λ v. v.outer ≡ self.old.items.levels) }
         ensures inside { IfOk result (λ v. IsInside v.form v.de.now.items.levels v.outer) }
@@ -253,6 +275,9 @@ impl<'de, R: Read<'de>> Deserializer<R> {
             (texts names.now) self.old.items.levels
             (R.source self.old.items.source) (R.source self.new.items.source)
             self.new.items.levels result }
+        ensures cases { IfErr result (λ e. Stands (R.source self.old.items.source) e
+            (enum_cases (formats_of self.old.items.formats)
+            self.old.items.levels)) }
         ensures below { IfOk result (λ v. v.0 < length names.now) }
         ensures inside { IfOk result (λ v. IsInside v.1 self.new.items.levels
             self.old.items.levels) }
@@ -270,11 +295,15 @@ impl<'de, R: Read<'de>> Deserializer<R> {
     }
 
     // The same, of which levels may stay where it is refused.
+    #[tactic(auto, using(crate::proofs::Cases::other_stands, crate::proofs::Cases::tagged_stand))]
     fn tagged_variant(&mut self, names: &[&str]) -> Result<(usize, Form)>
         ensures read { TakesVariant R.refusals (formats_of self.old.items.formats)
             (texts names.now) self.old.items.levels
             (R.source self.old.items.source) (R.source self.new.items.source)
             self.new.items.levels result }
+        ensures cases { IfErr result (λ e. Stands (R.source self.old.items.source) e
+            (enum_cases (formats_of self.old.items.formats)
+            self.old.items.levels)) }
         ensures below { IfOk result (λ v. v.0 < length names.now) }
         ensures inside { IfOk result (λ v. IsInside v.1 self.new.items.levels
             self.old.items.levels) }
@@ -287,11 +316,15 @@ impl<'de, R: Read<'de>> Deserializer<R> {
     }
 
     // The same of an enum within no tag.
+    #[tactic(auto, using(crate::proofs::Cases::others_stand, crate::proofs::Cases::forms_stand, crate::proofs::Cases::shaped_stand))]
     fn untagged_variant(&mut self, names: &[&str]) -> Result<(usize, Form)>
         ensures read { TakesShaped HasNoTag R.refusals
             (formats_of self.old.items.formats) (texts names.now) self.old.items.levels
             (R.source self.old.items.source) (R.source self.new.items.source)
             self.new.items.levels result }
+        ensures cases { IfErr result (λ e. Stands (R.source self.old.items.source) e
+            (untagged_cases (formats_of self.old.items.formats)
+            self.old.items.levels)) }
         ensures below { IfOk result (λ v. v.0 < length names.now) }
         ensures inside { IfOk result (λ v. IsInside v.1 self.new.items.levels
             self.old.items.levels) }
@@ -311,6 +344,7 @@ impl<'de, R: Read<'de>> Deserializer<R> {
             (formats_of self.old.items.formats) (texts names.now) self.old.items.levels
             (R.source self.old.items.source) (R.source self.new.items.source)
             self.new.items.levels result }
+        ensures no_form { IfErr result (λ e. TellsNoForm (code_of e)) }
         ensures below { IfOk result (λ v. v.0 < length names.now) }
         ensures inside { IfOk result (λ v. IsInside v.1 self.new.items.levels
             self.old.items.levels) }
@@ -321,12 +355,16 @@ impl<'de, R: Read<'de>> Deserializer<R> {
     }
 
     // The same of an array.
+    #[tactic(auto, using(crate::proofs::Cases::other_stands, crate::proofs::Cases::empty_stands))]
     fn array_variant(&mut self, names: &[&str]) -> Result<(usize, Form)>
         requires { reads_shape (formats_of self.old.items.formats) shape.Array ≡ true }
         ensures read { TakesShaped (HasShape shape.Array) R.refusals
             (formats_of self.old.items.formats) (texts names.now) self.old.items.levels
             (R.source self.old.items.source) (R.source self.new.items.source)
             self.new.items.levels result }
+        ensures cases { IfErr result (λ e. Stands (R.source self.old.items.source) e
+            (untagged_cases (formats_of self.old.items.formats)
+            self.old.items.levels)) }
         ensures below { IfOk result (λ v. v.0 < length names.now) }
         ensures inside { IfOk result (λ v. IsInside v.1 self.new.items.levels
             self.old.items.levels) }
@@ -339,12 +377,16 @@ impl<'de, R: Read<'de>> Deserializer<R> {
     }
 
     // The same of a map of one pair.
+    #[tactic(auto, using(crate::proofs::Cases::other_stands, crate::proofs::Cases::pair_stands))]
     fn map_variant(&mut self, names: &[&str]) -> Result<(usize, Form)>
         requires { reads_shape (formats_of self.old.items.formats) shape.Map ≡ true }
         ensures read { TakesShaped (HasShape shape.Map) R.refusals
             (formats_of self.old.items.formats) (texts names.now) self.old.items.levels
             (R.source self.old.items.source) (R.source self.new.items.source)
             self.new.items.levels result }
+        ensures cases { IfErr result (λ e. Stands (R.source self.old.items.source) e
+            (untagged_cases (formats_of self.old.items.formats)
+            self.old.items.levels)) }
         ensures below { IfOk result (λ v. v.0 < length names.now) }
         ensures inside { IfOk result (λ v. IsInside v.1 self.new.items.levels
             self.old.items.levels) }
@@ -363,6 +405,7 @@ impl<'de, R: Read<'de>> Deserializer<R> {
         ensures read { TakesItem R.refusals (formats_of self.old.items.formats)
             (IsName (texts names.now)) self.old.items.levels
             (R.source self.old.items.source) (R.source self.new.items.source) result }
+        ensures no_form { IfErr result (λ e. TellsNoForm (code_of e)) }
         ensures below { IfOk result (λ i. i < length names.now) }
         ensures levels { self.new.items.levels ≡ self.old.items.levels }
         ensures formats { self.new.items.formats ≡ self.old.items.formats }
@@ -374,37 +417,56 @@ impl<'de, R: Read<'de>> Deserializer<R> {
         }
     }
 
-    // Reads the only item of an array that remains. Where none comes, it refuses with this code.
-    fn only_item<T: Deserialize<'de, R>>(
-        &mut self,
-        mut remaining: Remaining,
-        none: ErrorCode,
-    ) -> Result<T>
-        requires { HasNoOffset none → ⊥ }
+    // Reads the only item of an array that remains.
+    #[tactic(auto, using(crate::proofs::Cases::too_short_first, crate::proofs::Cases::too_short_later))]
+    fn only_item<T: Deserialize<'de, R>>(&mut self, mut remaining: Remaining) -> Result<T>
         ensures read { TakesContent R.refusals (formats_of self.old.items.formats)
             (IsPart (T.reads (context self.old.items.formats R.lends)))
             self.old.items.levels (Array remaining)
             (R.source self.old.items.source) (R.source self.new.items.source) result }
+        ensures too_short { IfErr result (TellsTooShort R.refusals (Array remaining)
+            (R.source self.old.items.source)) }
         ensures levels { self.new.items.levels ≡ self.old.items.levels }
         ensures formats { self.new.items.formats ≡ self.old.items.formats }
     {
-        self.expect_item(&mut remaining, none)?;
+        self.expect_item(&mut remaining, ErrorCode::ArrayTooShort)?;
         let item = T::deserialize(self)?;
         self.end_array(remaining)?;
         Ok(item)
     }
 
+    // Reads null or undefined, the only item of an array that remains.
+    #[tactic(auto, using(crate::proofs::Cases::other_stands, crate::proofs::Cases::full_stands))]
+    fn only_null(&mut self, mut remaining: Remaining) -> Result<()>
+        ensures read { TakesContent R.refusals (formats_of self.old.items.formats)
+            (IsPart (PassesTags IsUnit))
+            self.old.items.levels (Array remaining)
+            (R.source self.old.items.source) (R.source self.new.items.source) result }
+        ensures cases { IfErr result (λ e. Stands (R.source self.old.items.source) e
+            (unit_cases (Array remaining))) }
+        ensures levels { self.new.items.levels ≡ self.old.items.levels }
+        ensures formats { self.new.items.formats ≡ self.old.items.formats }
+    {
+        self.expect_item(&mut remaining, ErrorCode::ArrayTooLong)?;
+        self.read_unit()?;
+        self.end_array(remaining)?;
+        Ok(())
+    }
+
     // Reads the content of a variant of no part.
+    #[tactic(auto, using(crate::proofs::Cases::others_stand))]
     fn no_part(&mut self, form: Form) -> Result<()>
         ensures read { TakesContent R.refusals (formats_of self.old.items.formats)
             IsNothing
             self.old.items.levels form
             (R.source self.old.items.source) (R.source self.new.items.source) result }
+        ensures cases { IfErr result (λ e. Stands (R.source self.old.items.source) e
+            (unit_cases form)) }
         ensures levels { self.new.items.levels ≡ self.old.items.levels }
         ensures formats { self.new.items.formats ≡ self.old.items.formats }
     {
         match form {
-            Form::Array(remaining) => self.only_item::<()>(remaining, ErrorCode::ArrayTooLong),
+            Form::Array(remaining) => self.only_null(remaining),
             Form::Map => self.read_unit(),
             Form::Alone => Ok(()),
         }
@@ -417,11 +479,13 @@ impl<'de, R: Read<'de>> Deserializer<R> {
             self.old.items.levels form
             (R.source self.old.items.source) (R.source self.new.items.source) result }
         ensures alone { IfErr result (TellsAlone alone.now form) }
+        ensures too_short { IfErr result (TellsTooShort R.refusals form
+            (R.source self.old.items.source)) }
         ensures levels { self.new.items.levels ≡ self.old.items.levels }
         ensures formats { self.new.items.formats ≡ self.old.items.formats }
     {
         match form {
-            Form::Array(remaining) => self.only_item::<T>(remaining, ErrorCode::ArrayTooShort),
+            Form::Array(remaining) => self.only_item::<T>(remaining),
             Form::Map => T::deserialize(self),
             Form::Alone => Err(Error::message(self.items.alloc, alone)),
         }
@@ -466,6 +530,8 @@ impl<'a, R: Source> VariantAccess<'a, R> {
             self.entry.de.now.items.levels self.entry.form
             (R.source self.entry.de.now.items.source) (R.source self.exit.0.now.items.source)
             result }
+        ensures cases { IfErr result (λ e. Stands (R.source self.entry.de.now.items.source) e
+            (unit_cases self.entry.form)) }
         ensures levels { self.exit.0.now.items.levels ≡ self.entry.outer }
         ensures formats { self.exit.0.now.items.formats ≡ self.entry.de.now.items.formats }
     {
@@ -495,6 +561,8 @@ impl<'a, R: Source> VariantAccess<'a, R> {
             result }
         ensures alone { IfErr result
             (TellsAlone (alone_text (codes "newtype")) self.entry.form) }
+        ensures too_short { IfErr result (TellsTooShort R.refusals self.entry.form
+            (R.source self.entry.de.now.items.source)) }
         ensures levels { self.exit.0.now.items.levels ≡ self.entry.outer }
         ensures formats { self.exit.0.now.items.formats ≡ self.entry.de.now.items.formats }
     {
@@ -535,6 +603,8 @@ impl<'a, R: Source> VariantAccess<'a, R> {
             result }
         ensures alone { IfErr result
             (TellsAlone (alone_text (codes "struct")) self.entry.form) }
+        ensures too_short { IfErr result (TellsTooShort R.refusals self.entry.form
+            (R.source self.entry.de.now.items.source)) }
         ensures levels { self.exit.0.now.items.levels ≡ self.entry.outer }
         ensures formats { self.exit.0.now.items.formats ≡ self.entry.de.now.items.formats }
     {
@@ -570,6 +640,7 @@ impl<'a, R: Source> VariantAccess<'a, R> {
             self.entry.form (R.source self.entry.de.now.items.source)) }
         ensures alone { IfErr result
             (TellsAlone (alone_text (codes "tuple")) self.entry.form) }
+        ensures no_form { IfErr result (λ e. TellsNoForm (code_of e)) }
         ensures outer { IfOk result (λ s. s.outer ≡ self.entry.outer) }
         ensures inside { IfOk result (λ s. s.de.now.items.levels < s.outer) }
         ensures formats { IfOk result (λ s.

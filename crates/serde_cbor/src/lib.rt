@@ -32,9 +32,11 @@ pub use cbor_value::Value;
 #[cfg(test)]
 mod byte_order_tests;
 #[cfg(test)]
-mod normal_tests;
+mod four_sources_tests;
 #[cfg(test)]
-mod reading_tests;
+mod items_tests;
+#[cfg(test)]
+mod normal_tests;
 #[cfg(test)]
 mod std_types_tests;
 #[cfg(test)]

@@ -142,6 +142,8 @@ impl<R: io::Read> Source for IoRead<R> {
 
     ghost peeked = { λ s. peeked_at s.offset s.peeked };
 
+    ghost at_hand = { λ s. [] };
+
     ghost refusals = { reader_refusals };
 
     ghost lends = { record { whole = false; joined = false } };
@@ -165,6 +167,17 @@ impl<R: io::Read> Source for IoRead<R> {
             return Err(ReadError::at(ReadErrorCode::LengthOutOfRange, u64::MAX));
         }
         Ok(self.peeked)
+    }
+
+    // A reader is asked for each byte.
+    #[inline(always)]
+    fn ahead(&self) -> &[u8] {
+        &[]
+    }
+
+    #[inline(always)]
+    fn advance(&mut self, n: usize) {
+        self.offset += n as u64;
     }
 
     fn clear_buffer(&mut self) {

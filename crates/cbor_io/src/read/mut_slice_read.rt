@@ -124,6 +124,8 @@ impl<'a> Source for MutSliceRead<'a> {
 
     ghost peeked = { λ s. first_of (drop s.taken s.slice.now) };
 
+    ghost at_hand = { λ s. drop s.taken s.slice.now };
+
     ghost refusals = { mut_refusals };
 
     ghost lends = { record { whole = true; joined = true } };
@@ -144,6 +146,16 @@ impl<'a> Source for MutSliceRead<'a> {
         } else {
             None
         })
+    }
+
+    #[inline(always)]
+    fn ahead(&self) -> &[u8] {
+        &self.slice[self.taken..]
+    }
+
+    #[inline(always)]
+    fn advance(&mut self, n: usize) {
+        self.taken += n;
     }
 
     fn clear_buffer(&mut self) {

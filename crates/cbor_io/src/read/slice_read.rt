@@ -51,6 +51,8 @@ impl<'a> Source for SliceRead<'a> {
 
     ghost peeked = { λ s. first_of (drop s.taken s.slice.now) };
 
+    ghost at_hand = { λ s. drop s.taken s.slice.now };
+
     ghost refusals = { slice_refusals };
 
     ghost lends = { record { whole = true; joined = false } };
@@ -65,6 +67,16 @@ impl<'a> Source for SliceRead<'a> {
 
     fn peek(&mut self) -> Result<Option<u8>> {
         Ok(byte_at(self.slice, self.taken))
+    }
+
+    #[inline(always)]
+    fn ahead(&self) -> &[u8] {
+        &self.slice[self.taken..]
+    }
+
+    #[inline(always)]
+    fn advance(&mut self, n: usize) {
+        self.taken += n;
     }
 
     fn clear_buffer(&mut self) {

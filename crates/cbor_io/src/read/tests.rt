@@ -157,6 +157,35 @@ fn gives_all<'de, R: Read<'de>>(rt: &impl Abort, source: &mut R) -> Done {
     joins(source, 0)
 }
 
+/// These bytes are at hand, and stay.
+pub(crate) fn ahead_is<S: Source>(rt: &impl Abort, source: &S, want: &[u8]) {
+    assert_eq!(rt; source.ahead(), want);
+}
+
+/// So many of the bytes at hand are taken.
+pub(crate) fn advances<S: Source>(rt: &impl Abort, source: &mut S, n: usize) {
+    if n > source.ahead().len() {
+        panic!(rt; "too few bytes at hand");
+    }
+    source.advance(n);
+}
+
+/// The source has the bytes `63 66 6f 6f 18 2a f6` at hand, and shows them until they are taken.
+fn shows_its_bytes<S: Source>(rt: &impl Abort, source: &mut S) -> Done {
+    ahead_is(rt, source, b"\x63foo\x18\x2a\xf6");
+    peeks_and_discards(rt, source, 0x63)?;
+    ahead_is(rt, source, b"foo\x18\x2a\xf6");
+    advances(rt, source, 3);
+    offset_is(rt, source, 4);
+    advances(rt, source, 0);
+    next_is(rt, source, Some(0x18))?;
+    ahead_is(rt, source, b"\x2a\xf6");
+    advances(rt, source, 2);
+    offset_is(rt, source, 7);
+    ahead_is(rt, source, b"");
+    next_is(rt, source, None)
+}
+
 /// No byte is asked for.
 fn fills_none<S: Source>(source: &mut S) -> Done {
     source.read_into(&mut [])?;

@@ -1,7 +1,7 @@
 use super::IoRead;
 use crate::read::tests::{
-    extends, fills_one, is_refused, joins, next_is, offset_is, peek_is, refuses_to_fill,
-    refuses_to_join, skips, skips_text,
+    advances, ahead_is, extends, fills_one, is_refused, joins, next_is, offset_is, peek_is,
+    refuses_to_fill, refuses_to_join, skips, skips_text,
 };
 use crate::read::{EitherLifetime, Offset, Read, Result, Source};
 use std::alloc::{AllocError, Global};
@@ -77,6 +77,17 @@ fn hands_out_what_was_peeked_once(rt: HostRuntime) -> Done {
     next_is(&rt, &mut source, None)?;
     offset_is(&rt, &source, 2);
     Ok(())
+}
+
+#[test]
+fn shows_no_byte_of_a_reader(rt: HostRuntime) -> Done {
+    let mut source = IoRead::new(rt.alloc(), b"\x18\x2a".as_slice());
+    ahead_is(&rt, &source, b"");
+    peek_is(&rt, &mut source, Some(0x18))?;
+    ahead_is(&rt, &source, b"");
+    advances(&rt, &mut source, 0);
+    offset_is(&rt, &source, 0);
+    next_is(&rt, &mut source, Some(0x18))
 }
 
 #[test]

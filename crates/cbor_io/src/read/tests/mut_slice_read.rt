@@ -1,6 +1,6 @@
 use super::{
     Done, fills_a_vector, gives_all, joins, joins_two_chunks, lent_by_input, next_is, offset_is,
-    refuses_to_join, refuses_to_read, skips_its_bytes, tells_the_end,
+    refuses_to_join, refuses_to_read, shows_its_bytes, skips_its_bytes, tells_the_end,
 };
 use crate::read::{MutSliceRead, Read, Source};
 use std::process::Abort;
@@ -9,6 +9,12 @@ use std::process::Abort;
 fn gives_the_bytes_of_a_slice(rt: HostRuntime) -> Done {
     let mut bytes = *b"\x63foo\x18\x2a\xf6";
     gives_all(&rt, &mut MutSliceRead::new(&mut bytes))
+}
+
+#[test]
+fn shows_the_bytes_of_a_slice(rt: HostRuntime) -> Done {
+    let mut bytes = *b"\x63foo\x18\x2a\xf6";
+    shows_its_bytes(&rt, &mut MutSliceRead::new(&mut bytes))
 }
 
 #[test]

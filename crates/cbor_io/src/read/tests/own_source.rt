@@ -7,8 +7,8 @@ ghost use Rattle.cbor_io.specs.ReadError.{why, place};
 ghost use Rattle.cbor_io.specs.declared.read.read_error.ReadErrorCode.TheVariants as refusal;
 
 use super::{
-    Done, fills_a_vector, gives_all, joined_by_source, joins_two_chunks, skips_its_bytes,
-    tells_the_end,
+    Done, fills_a_vector, gives_all, joined_by_source, joins_two_chunks, shows_its_bytes,
+    skips_its_bytes, tells_the_end,
 };
 use crate::read::{EitherLifetime, Read, ReadError, Result, Source};
 use std::alloc::{AllocError, Global};
@@ -70,6 +70,8 @@ impl Source for VecRead {
 
     ghost peeked = { λ s. first_of (drop s.taken s.bytes.items) };
 
+    ghost at_hand = { λ s. drop s.taken s.bytes.items };
+
     ghost refusals = { slice_refusals };
 
     ghost lends = { record { whole = false; joined = false } };
@@ -88,6 +90,14 @@ impl Source for VecRead {
         } else {
             None
         })
+    }
+
+    fn ahead(&self) -> &[u8] {
+        &self.bytes[self.taken..]
+    }
+
+    fn advance(&mut self, n: usize) {
+        self.taken += n;
     }
 
     fn clear_buffer(&mut self) {
@@ -170,6 +180,12 @@ fn gives_its_bytes(rt: HostRuntime) -> Done {
 fn fills_a_vector_of_its_bytes(rt: HostRuntime) -> Done {
     let mut source = owned(rt.alloc(), b"\x63foo\x18\x2a\xf6")?;
     fills_a_vector(&rt, rt.alloc(), &mut source)
+}
+
+#[test]
+fn shows_the_bytes_to_come(rt: HostRuntime) -> Done {
+    let mut source = owned(rt.alloc(), b"\x63foo\x18\x2a\xf6")?;
+    shows_its_bytes(&rt, &mut source)
 }
 
 #[test]

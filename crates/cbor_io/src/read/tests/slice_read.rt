@@ -1,6 +1,6 @@
 use super::{
     Done, fills_a_vector, gives_all, is_refused, joined_by_source, joins, joins_two_chunks,
-    lent_by_input, offset_is, peek_is, skips_its_bytes, tells_the_end,
+    lent_by_input, offset_is, peek_is, shows_its_bytes, skips_its_bytes, tells_the_end,
 };
 use crate::read::{Offset, Read, SliceRead, Source};
 
@@ -11,6 +11,12 @@ fn gives_the_bytes_of_a_slice(rt: HostRuntime) -> Done {
     gives_all(&rt, &mut source)?;
     assert_eq!(rt; source.byte_offset(), 7);
     Ok(())
+}
+
+#[test]
+fn shows_the_bytes_of_a_slice(rt: HostRuntime) -> Done {
+    let mut source = SliceRead::new(rt.alloc(), b"\x63foo\x18\x2a\xf6");
+    shows_its_bytes(&rt, &mut source)
 }
 
 #[test]

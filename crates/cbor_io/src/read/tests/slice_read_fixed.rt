@@ -1,6 +1,6 @@
 use super::{
     Done, fills_a_vector, gives_all, joined_by_source, joins, joins_two_chunks, lent_by_input,
-    next_is, offset_is, refuses_to_join, skips_its_bytes, tells_the_end,
+    next_is, offset_is, refuses_to_join, shows_its_bytes, skips_its_bytes, tells_the_end,
 };
 use crate::read::{Offset, Read, SliceReadFixed, Source};
 use std::process::Abort;
@@ -12,6 +12,12 @@ fn gives_the_bytes_of_a_slice(rt: HostRuntime) -> Done {
     gives_all(&rt, &mut source)?;
     assert_eq!(rt; source.byte_offset(), 7);
     Ok(())
+}
+
+#[test]
+fn shows_the_bytes_of_a_slice(rt: HostRuntime) -> Done {
+    let mut source = SliceReadFixed::new(b"\x63foo\x18\x2a\xf6", &mut []);
+    shows_its_bytes(&rt, &mut source)
 }
 
 #[test]

@@ -13,73 +13,43 @@ pub returns-in-Simple-clause-read : goal.returns-in-Simple-clause-read
 returns-in-Simple-clause-read g c =
     head_map g.R.Source.refusals (simple_head (c.args.first % 32)) (head_at c.args.first) _ _ _ _ (λ bs. first_simple c.args.first bs (sym c.in-Simple.ensures)) c.simple.ensures.read
 
-pub returns-then-low-eq-INDEFINITE : goal.returns-then-low-eq-INDEFINITE
-returns-then-low-eq-INDEFINITE g c =
+pub returns-then-low-eq-INDEFINITE-clause-read : goal.returns-then-low-eq-INDEFINITE-clause-read
+returns-then-low-eq-INDEFINITE-clause-read g c =
     let major = c.of-major.ensures in
-    record {
-      read = head_map g.R.Source.refusals (head_of (major_of (major_number c.of-major.result)) 31) (head_at c.args.first) _ _ _ _
-          (λ bs. first_indefinite c.args.first bs c.if-low-eq-INDEFINITE.true ∙ ap (λ (k : ℕ). head_of (major_of k) 31 bs) (sym major)) c.indefinite.ensures.read;
-      levels = c.indefinite.ensures.levels;
-      formats = c.indefinite.ensures.formats;
-    }
+    head_map g.R.Source.refusals (head_of (major_of (major_number c.of-major.result)) 31) (head_at c.args.first) _ _ _ _
+    (λ bs. first_indefinite c.args.first bs c.if-low-eq-INDEFINITE.true ∙ ap (λ (k : ℕ). head_of (major_of k) 31 bs) (sym major)) c.indefinite.ensures.read
 
-pub returns-in_err-n : goal.returns-in_err-n
-returns-in_err-n g c =
+pub returns-in_err-n-clause-read : goal.returns-in_err-n-clause-read
+returns-in_err-n-clause-read g c =
     let passed = err_from_is_err_and c.from_residual.result c.from_residual.ensures.1 in
-    record {
-      read = rw (passed.1, passed.2) (stopped_map g.R.Source.refusals (λ l. number_behind (c.args.first % 32)) (λ l. head_at c.args.first) _ _ _ (λ l bs f is. first_stops c.args.first bs f c.of-major.result c.in_default.not-Simple c.if-low-eq-INDEFINITE.false c.of-major.ensures is) c.in_err-n.ensures.read);
-      levels = c.in_err-n.ensures.levels;
-      formats = c.in_err-n.ensures.formats;
-    }
+    rw (passed.1, passed.2) (stopped_map g.R.Source.refusals (λ l. number_behind (c.args.first % 32)) (λ l. head_at c.args.first) _ _ _ (λ l bs f is. first_stops c.args.first bs f c.of-major.result c.in_default.not-Simple c.if-low-eq-INDEFINITE.false c.of-major.ensures is) c.in_err-n.ensures.read)
 
-pub returns-in-UnsignedInteger : goal.returns-in-UnsignedInteger
-returns-in-UnsignedInteger g c = record {
-  read = step_map _ _ (λ l bs rest. number_behind (c.args.first % 32) bs ≡ Ok (c.in_ok-n.n, rest)) _ (λ l bs rest is. first_is c.args.first bs rest c.in_ok-n.n UnsignedInteger (λ e. absurd cc) c.if-low-eq-INDEFINITE.false c.in-UnsignedInteger.ensures is) c.in_ok-n.ensures.read;
-  levels = c.in_ok-n.ensures.levels;
-  formats = c.in_ok-n.ensures.formats;
-}
+pub returns-in-UnsignedInteger-clause-read : goal.returns-in-UnsignedInteger-clause-read
+returns-in-UnsignedInteger-clause-read g c =
+    step_map _ _ (λ l bs rest. number_behind (c.args.first % 32) bs ≡ Ok (c.in_ok-n.n, rest)) _ (λ l bs rest is. first_is c.args.first bs rest c.in_ok-n.n UnsignedInteger (λ e. absurd cc) c.if-low-eq-INDEFINITE.false c.in-UnsignedInteger.ensures is) c.in_ok-n.ensures.read
 
-pub returns-in-NegativeInteger : goal.returns-in-NegativeInteger
-returns-in-NegativeInteger g c = record {
-  read = step_map _ _ (λ l bs rest. number_behind (c.args.first % 32) bs ≡ Ok (c.in_ok-n.n, rest)) _ (λ l bs rest is. first_is c.args.first bs rest c.in_ok-n.n NegativeInteger (λ e. absurd cc) c.if-low-eq-INDEFINITE.false c.in-NegativeInteger.ensures is) c.in_ok-n.ensures.read;
-  levels = c.in_ok-n.ensures.levels;
-  formats = c.in_ok-n.ensures.formats;
-}
+pub returns-in-NegativeInteger-clause-read : goal.returns-in-NegativeInteger-clause-read
+returns-in-NegativeInteger-clause-read g c =
+    step_map _ _ (λ l bs rest. number_behind (c.args.first % 32) bs ≡ Ok (c.in_ok-n.n, rest)) _ (λ l bs rest is. first_is c.args.first bs rest c.in_ok-n.n NegativeInteger (λ e. absurd cc) c.if-low-eq-INDEFINITE.false c.in-NegativeInteger.ensures is) c.in_ok-n.ensures.read
 
-pub returns-in-ByteString : goal.returns-in-ByteString
-returns-in-ByteString g c = record {
-  read = step_map _ _ (λ l bs rest. number_behind (c.args.first % 32) bs ≡ Ok (c.in_ok-n.n, rest)) _ (λ l bs rest is. first_is c.args.first bs rest c.in_ok-n.n ByteString (λ e. absurd cc) c.if-low-eq-INDEFINITE.false c.in-ByteString.ensures is) c.in_ok-n.ensures.read;
-  levels = c.in_ok-n.ensures.levels;
-  formats = c.in_ok-n.ensures.formats;
-}
+pub returns-in-ByteString-clause-read : goal.returns-in-ByteString-clause-read
+returns-in-ByteString-clause-read g c =
+    step_map _ _ (λ l bs rest. number_behind (c.args.first % 32) bs ≡ Ok (c.in_ok-n.n, rest)) _ (λ l bs rest is. first_is c.args.first bs rest c.in_ok-n.n ByteString (λ e. absurd cc) c.if-low-eq-INDEFINITE.false c.in-ByteString.ensures is) c.in_ok-n.ensures.read
 
-pub returns-in-TextString : goal.returns-in-TextString
-returns-in-TextString g c = record {
-  read = step_map _ _ (λ l bs rest. number_behind (c.args.first % 32) bs ≡ Ok (c.in_ok-n.n, rest)) _ (λ l bs rest is. first_is c.args.first bs rest c.in_ok-n.n TextString (λ e. absurd cc) c.if-low-eq-INDEFINITE.false c.in-TextString.ensures is) c.in_ok-n.ensures.read;
-  levels = c.in_ok-n.ensures.levels;
-  formats = c.in_ok-n.ensures.formats;
-}
+pub returns-in-TextString-clause-read : goal.returns-in-TextString-clause-read
+returns-in-TextString-clause-read g c =
+    step_map _ _ (λ l bs rest. number_behind (c.args.first % 32) bs ≡ Ok (c.in_ok-n.n, rest)) _ (λ l bs rest is. first_is c.args.first bs rest c.in_ok-n.n TextString (λ e. absurd cc) c.if-low-eq-INDEFINITE.false c.in-TextString.ensures is) c.in_ok-n.ensures.read
 
-pub returns-in-Array : goal.returns-in-Array
-returns-in-Array g c = record {
-  read = step_map _ _ (λ l bs rest. number_behind (c.args.first % 32) bs ≡ Ok (c.in_ok-n.n, rest)) _ (λ l bs rest is. first_is c.args.first bs rest c.in_ok-n.n Array (λ e. absurd cc) c.if-low-eq-INDEFINITE.false c.in-Array.ensures is) c.in_ok-n.ensures.read;
-  levels = c.in_ok-n.ensures.levels;
-  formats = c.in_ok-n.ensures.formats;
-}
+pub returns-in-Array-clause-read : goal.returns-in-Array-clause-read
+returns-in-Array-clause-read g c =
+    step_map _ _ (λ l bs rest. number_behind (c.args.first % 32) bs ≡ Ok (c.in_ok-n.n, rest)) _ (λ l bs rest is. first_is c.args.first bs rest c.in_ok-n.n Array (λ e. absurd cc) c.if-low-eq-INDEFINITE.false c.in-Array.ensures is) c.in_ok-n.ensures.read
 
-pub returns-in-Map : goal.returns-in-Map
-returns-in-Map g c = record {
-  read = step_map _ _ (λ l bs rest. number_behind (c.args.first % 32) bs ≡ Ok (c.in_ok-n.n, rest)) _ (λ l bs rest is. first_is c.args.first bs rest c.in_ok-n.n Map (λ e. absurd cc) c.if-low-eq-INDEFINITE.false c.in-Map.ensures is) c.in_ok-n.ensures.read;
-  levels = c.in_ok-n.ensures.levels;
-  formats = c.in_ok-n.ensures.formats;
-}
+pub returns-in-Map-clause-read : goal.returns-in-Map-clause-read
+returns-in-Map-clause-read g c =
+    step_map _ _ (λ l bs rest. number_behind (c.args.first % 32) bs ≡ Ok (c.in_ok-n.n, rest)) _ (λ l bs rest is. first_is c.args.first bs rest c.in_ok-n.n Map (λ e. absurd cc) c.if-low-eq-INDEFINITE.false c.in-Map.ensures is) c.in_ok-n.ensures.read
 
-pub returns-in_default-major : goal.returns-in_default-major
-returns-in_default-major g c =
+pub returns-in_default-major-clause-read : goal.returns-in_default-major-clause-read
+returns-in_default-major-clause-read g c =
     let d = c.in_default-major in
     let six = is_tag c.of-major.result c.in_default.not-Simple d.not-UnsignedInteger d.not-NegativeInteger d.not-ByteString d.not-TextString d.not-Array d.not-Map in
-    record {
-      read = step_map _ _ (λ l bs rest. number_behind (c.args.first % 32) bs ≡ Ok (c.in_ok-n.n, rest)) _ (λ l bs rest is. first_is c.args.first bs rest c.in_ok-n.n Tag (λ e. absurd cc) c.if-low-eq-INDEFINITE.false (sym six ∙ c.of-major.ensures) is) c.in_ok-n.ensures.read;
-      levels = c.in_ok-n.ensures.levels;
-      formats = c.in_ok-n.ensures.formats;
-    }
+    step_map _ _ (λ l bs rest. number_behind (c.args.first % 32) bs ≡ Ok (c.in_ok-n.n, rest)) _ (λ l bs rest is. first_is c.args.first bs rest c.in_ok-n.n Tag (λ e. absurd cc) c.if-low-eq-INDEFINITE.false (sym six ∙ c.of-major.ensures) is) c.in_ok-n.ensures.read

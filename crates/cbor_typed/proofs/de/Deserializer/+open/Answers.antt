@@ -31,12 +31,9 @@ open-returns-in-Tag-clause-read g t c =
     (subst (λ (k : Formats). OpensAt g.R.Source.refusals k (λ l. item_inside k l c.head.new.self.items.levels) m (g.R.Source.source u.source) u.levels u.refusal c.open_inside.result) formats c.open_inside.ensures.read) in
     behind_tag g.R.Source.refusals f s m (g.R.Source.source u.source) levels u.levels c.in-Tag.field-0 u.refusal c.open_inside.result first inner
 
-pub open-returns : goal.open-returns
-open-returns g t c = record {
-  read = head_opens (formats_of c.args.self.now.items.formats) (g.R.Source.source c.args.self.now.items.source) (g.R.Source.source c.head.new.self.items.source) c.args.self.now.items.levels c.head.new.self.items.levels c.in_ok-head.head (no_tag c.in_ok-head.head c.in_default.not-Tag) c.in_ok-head.ensures.levels c.in_ok-head.ensures.read;
-  levels = omega (arith, c.in_ok-head.ensures.levels);
-  formats = c.in_ok-head.ensures.formats;
-}
+pub open-returns-clause-read : goal.open-returns-clause-read
+open-returns-clause-read g t c =
+    head_opens (formats_of c.args.self.now.items.formats) (g.R.Source.source c.args.self.now.items.source) (g.R.Source.source c.head.new.self.items.source) c.args.self.now.items.levels c.head.new.self.items.levels c.in_ok-head.head (no_tag c.in_ok-head.head c.in_default.not-Tag) c.in_ok-head.ensures.levels c.in_ok-head.ensures.read
 
 pub open_inside-returns-in_err-enter-clause-read : goal.open_inside-returns-in_err-enter-clause-read
 open_inside-returns-in_err-enter-clause-read g t c =

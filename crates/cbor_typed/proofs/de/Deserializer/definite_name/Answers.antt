@@ -1,16 +1,17 @@
-use Rattle.std.proofs.Common.{◌≡◌, ◌+◌, ◌^◌, true, ltb, sym}
-use Rattle.std.proofs.lemmas.Result.{MatchResult-at_ok}
-use Rattle.cbor_io.specs.Source.{part_bytes}
-use Rattle.cbor_typed.proofs.Lending.{text_step}
+use Rattle.std.proofs.Common.{◌≡◌, ◌≤◌, List, ℕ, length, take, ap, subst, arith}
+use Rattle.std.specs.Str.{IsUtf8}
+use Rattle.cbor_typed.specs.Identifiers.{IsPlace, texts}
+use Rattle.cbor_typed.proofs.Lending.{hand_step}
 use Rattle.cbor_typed.proofs.de.Deserializer.definite_name.Goals as goal
 
-pub returns-in-Ok-named-clause-read : goal.returns-in-Ok-named-clause-read
-returns-in-Ok-named-clause-read g c =
+pub returns-in-Ok-clause-read : goal.returns-in-Ok-clause-read
+returns-in-Ok-clause-read g c =
     let s = g.R.Source.source c.args.self.now.items.source in
-    let t = g.R.Source.source c.read.follows.lender-at-none in
-    let p = c.in-Ok.part in
+    let t = g.R.Source.source c.advance.new.self in
     let n = c.args.n in
-    let took = MatchResult-at_ok _ _ p c.in-Ok.is c.read.follows.holds-at-none in
-    let room : ltb (s.offset + n) (2 ^ 64) ≡ true = sym c.if-not-has_room.ensures in
-    let named = c.in-Ok-named.ensures.place in
-    (part_bytes p, named.0, named.1, text_step s t n (part_bytes p) room c.in-Ok.ensures.count took)
+    let hand = g.R.Source.at_hand c.args.self.now.items.source in
+    let same = c.ahead-ahead.ensures.bytes in
+    let within : n ≤ length hand = omega (arith, ap length same, c.if-n-ahead.true) in
+    let named : IsUtf8 (take n hand) × IsPlace (texts c.args.names.now) (take n hand) c.in-Ok.place =
+    subst (λ (h : List ℕ). IsUtf8 (take n h) × IsPlace (texts c.args.names.now) (take n h) c.in-Ok.place) same c.in-Ok.ensures.place in
+    (take n hand, named.0, named.1, hand_step s t n hand within c.advance.ensures.took c.advance.ensures.counted)

@@ -52,16 +52,11 @@ returns-in-Bytes-clause-read g c =
     let opened = subst (λ (h : Head). OpensItem g.R.Source.refusals f old.levels s m u.refusal (Ok h)) c.in-Bytes.is c.in_ok-head.ensures.read in
     bytes_read (texts c.args.names.now) g.R.Source.refusals f g.R.Source.lends old.levels s m u.refusal c.in-Bytes.n t new.refusal c.bytes_name.result opened c.bytes_name.ensures.read
 
-pub returns-in_default : goal.returns-in_default
-returns-in_default g c =
+pub returns-in_default-clause-read : goal.returns-in_default-clause-read
+returns-in_default-clause-read g c =
     let old = c.args.self.now.items in
     let u = c.scalar.new.self.items in
     let f = formats_of old.formats in
     let s = g.R.Source.source old.source in
     let m = g.R.Source.source u.source in
-    record {
-      read = λ e made. other_refused (texts c.args.names.now) g.R.Source.refusals f g.R.Source.lends old.levels s m u.refusal c.in_ok-head.head e c.in_default.not-Unsigned c.in_default.not-Text c.in_default.not-Bytes c.in_ok-head.ensures.read;
-      below = tt;
-      levels = c.no_name.ensures.levels ∙ c.in_ok-head.ensures.levels;
-      formats = c.no_name.ensures.formats ∙ c.in_ok-head.ensures.formats;
-    }
+    λ e made. other_refused (texts c.args.names.now) g.R.Source.refusals f g.R.Source.lends old.levels s m u.refusal c.in_ok-head.head e c.in_default.not-Unsigned c.in_default.not-Text c.in_default.not-Bytes c.in_ok-head.ensures.read

@@ -6,16 +6,11 @@ use Rattle.cbor_typed.specs.Opens.{Opens}
 use Rattle.cbor_typed.proofs.MapHeads.{whole, head_taken, other_head, too_deep_head}
 use Rattle.cbor_typed.proofs.de.Deserializer.map_head.Goals as goal
 
-pub returns-in_default : goal.returns-in_default
-returns-in_default g c =
+pub returns-in_default-clause-read : goal.returns-in_default-clause-read
+returns-in_default-clause-read g c =
     let old = c.args.self.now in
     let u = c.open.new.self in
-    record {
-      read = other_head g.R.Source.refusals (formats_of old.items.formats) old.items.levels (g.R.Source.source old.items.source) (g.R.Source.source u.items.source) u.items.levels c.in-Ok.head c.mismatch.result c.in_default.not-Map c.in-Ok.ensures.read;
-      inside = tt;
-      outer = c.mismatch.ensures.levels;
-      formats = c.mismatch.ensures.formats ∙ c.open.ensures.formats;
-    }
+    other_head g.R.Source.refusals (formats_of old.items.formats) old.items.levels (g.R.Source.source old.items.source) (g.R.Source.source u.items.source) u.items.levels c.in-Ok.head c.mismatch.result c.in_default.not-Map c.in-Ok.ensures.read
 
 pub returns-in-Ok-enter-clause-read : goal.returns-in-Ok-enter-clause-read
 returns-in-Ok-enter-clause-read g c =

@@ -5,7 +5,7 @@ use Rattle.cbor_typed.proofs.de.Deserializer.no_part.Goals as goal
 pub returns-in-Array-clause-read : goal.returns-in-Array-clause-read
 returns-in-Array-clause-read g c =
     let old = c.args.self.now in
-    rw c.in-Array.is (nothing_in_array (formats_of old.items.formats) old.items.levels (g.R.Source.source old.items.source) (g.R.Source.source c.only_item.new.self.items.source) g.R.Source.refusals c.in-Array.remaining c.only_item.result c.only_item.ensures.read)
+    rw c.in-Array.is (nothing_in_array (formats_of old.items.formats) old.items.levels (g.R.Source.source old.items.source) (g.R.Source.source c.only_null.new.self.items.source) g.R.Source.refusals c.in-Array.remaining c.only_null.result c.only_null.ensures.read)
 
 pub returns-in-Map-clause-read : goal.returns-in-Map-clause-read
 returns-in-Map-clause-read g c =

@@ -15,12 +15,8 @@ returns-in-Float-clause-read g c =
     let read = subst (λ (h : Head). OpensItem g.R.Source.refusals (formats_of c.args.self.now.items.formats) levels s t u.refusal (Ok h)) c.in-Float.is c.in-Ok.ensures.read in
     float_read g.R.Source.refusals (formats_of c.args.self.now.items.formats) levels s t u.refusal c.in-Float.float read
 
-pub returns-in_default : goal.returns-in_default
-returns-in_default g c =
+pub returns-in_default-clause-read : goal.returns-in_default-clause-read
+returns-in_default-clause-read g c =
     let s = g.R.Source.source c.args.self.now.items.source in
     let u = c.scalar.new.self.items in
-    record {
-      read = none_scalar g.R.Source.refusals (formats_of c.args.self.now.items.formats) IsFloatItem c.args.self.now.items.levels s (g.R.Source.source u.source) u.refusal c.in-Ok.head c.mismatch.result (not_float c.in-Ok.head c.in_default.not-Float) c.in-Ok.ensures.read;
-      levels = c.mismatch.ensures.levels ∙ c.in-Ok.ensures.levels;
-      formats = c.mismatch.ensures.formats ∙ c.in-Ok.ensures.formats;
-    }
+    none_scalar g.R.Source.refusals (formats_of c.args.self.now.items.formats) IsFloatItem c.args.self.now.items.levels s (g.R.Source.source u.source) u.refusal c.in-Ok.head c.mismatch.result (not_float c.in-Ok.head c.in_default.not-Float) c.in-Ok.ensures.read

@@ -1,11 +1,12 @@
-use Rattle.std.proofs.Common.{◌≡◌, ◌∙◌, ℕ, Option, Ok, Err, refl, sym, ap, subst}
+use Rattle.std.proofs.Common.{◌≡◌, ◌∙◌, ℕ, Option, Ok, Err, IfErr, refl, sym, ap, subst}
 use Rattle.std.proofs.lemmas.Result.{err_from_is_err_and}
 use Rattle.cbor_de.specs.declared.head.Head.{Head}
 use Rattle.cbor_de.specs.declared.head.Head.TheVariants as head
+use Rattle.cbor_typed.specs.Cases.{IsNoKey}
 use Rattle.cbor_typed.specs.Opens.{OpensItem}
 use Rattle.cbor_typed.specs.Strings.{Lent, LendsText}
 use Rattle.cbor_typed.specs.Takes.{formats_of, context}
-use Rattle.cbor_typed.proofs.Lending.{text_item, bytes_item, bytes_stopped, other_item}
+use Rattle.cbor_typed.proofs.Lending.{text_item, bytes_item, bytes_stopped, other_item, utf8_no_key}
 use Rattle.cbor_typed.proofs.de.Deserializer.read_text.Goals as goal
 
 pub returns-in-Text : goal.returns-in-Text
@@ -18,7 +19,7 @@ returns-in-Text g c =
     let t = g.R.Source.source c.text_part.follows.lender-at-none.source in
     let opened = subst (λ (h : Head). OpensItem g.R.Source.refusals f levels s m u.refusal (Ok h)) c.in-Text.is c.in-Ok.ensures.read in
     let after = c.text_part.follows.holds-at-none in
-    ((refl, λ _. tt, (after.0 ∙ c.in-Ok.ensures.levels, after.1 ∙ c.in-Ok.ensures.formats, text_item g.R.Source.refusals f g.R.Source.lends levels s m u.refusal c.in-Text.n t c.text_part.result opened after.2)), record { after_borrow = tt })
+    ((refl, λ _. tt, (after.0 ∙ c.in-Ok.ensures.levels, after.1 ∙ c.in-Ok.ensures.formats, text_item g.R.Source.refusals f g.R.Source.lends levels s m u.refusal c.in-Text.n t c.text_part.result opened after.2, after.3)), record { after_borrow = tt })
 
 pub returns-in_err-bytes_part-in-Bytes : goal.returns-in_err-bytes_part-in-Bytes
 returns-in_err-bytes_part-in-Bytes g c =
@@ -32,7 +33,7 @@ returns-in_err-bytes_part-in-Bytes g c =
     let opened = subst (λ (h : Head). OpensItem g.R.Source.refusals f levels s m u.refusal (Ok h)) c.in-Bytes.is c.in-Ok.ensures.read in
     let after = c.bytes_part.follows.holds-at-none in
     let lent = subst (λ r. Lent g.R.Source.refusals g.R.Source.lends (head.Bytes c.in-Bytes.n) m t r) c.in_err-bytes_part-in-Bytes.was after.2 in
-    ((refl, λ _. tt, (after.0 ∙ c.in-Ok.ensures.levels, after.1 ∙ c.in-Ok.ensures.formats, rw (passed.1, passed.2) (bytes_stopped g.R.Source.refusals f g.R.Source.lends levels s m u.refusal c.in-Bytes.n t _ opened lent))), record { after_borrow = tt })
+    ((refl, λ _. tt, (after.0 ∙ c.in-Ok.ensures.levels, after.1 ∙ c.in-Ok.ensures.formats, rw (passed.1, passed.2) (bytes_stopped g.R.Source.refusals f g.R.Source.lends levels s m u.refusal c.in-Bytes.n t _ opened lent), rw (passed.1, passed.2) (subst (λ r. IfErr r IsNoKey) c.in_err-bytes_part-in-Bytes.was after.3))), record { after_borrow = tt })
 
 pub returns-in_ok-bytes_part-in-Bytes : goal.returns-in_ok-bytes_part-in-Bytes
 returns-in_ok-bytes_part-in-Bytes g c =
@@ -46,7 +47,7 @@ returns-in_ok-bytes_part-in-Bytes g c =
     let opened = subst (λ (h : Head). OpensItem g.R.Source.refusals f levels s m u.refusal (Ok h)) c.in-Bytes.is c.in-Ok.ensures.read in
     let after = c.bytes_part.follows.holds-at-none in
     let lent = subst (λ r. Lent g.R.Source.refusals g.R.Source.lends (head.Bytes c.in-Bytes.n) m t r) c.in_ok-bytes_part-in-Bytes.was after.2 in
-    ((refl, λ _. tt, (after.0 ∙ c.in-Ok.ensures.levels, after.1 ∙ c.in-Ok.ensures.formats, bytes_item g.R.Source.refusals f g.R.Source.lends levels s m u.refusal c.in-Bytes.n t p c.utf8-2.result opened lent c.utf8-2.ensures)), record { after_borrow = tt })
+    ((refl, λ _. tt, (after.0 ∙ c.in-Ok.ensures.levels, after.1 ∙ c.in-Ok.ensures.formats, bytes_item g.R.Source.refusals f g.R.Source.lends levels s m u.refusal c.in-Bytes.n t p c.utf8-2.result opened lent c.utf8-2.ensures, utf8_no_key p c.utf8-2.result c.utf8-2.ensures)), record { after_borrow = tt })
 
 pub returns-in_default : goal.returns-in_default
 returns-in_default g c =
@@ -54,4 +55,4 @@ returns-in_default g c =
     let s = g.R.Source.source c.args.self.now.items.source in
     let f = formats_of c.args.self.now.items.formats in
     let t = g.R.Source.source c.other.new.self.items.source in
-    ((refl, λ _. tt, (c.other.ensures.levels ∙ c.in-Ok.ensures.levels, c.other.ensures.formats ∙ c.in-Ok.ensures.formats, other_item g.R.Source.refusals f g.R.Source.lends c.args.self.now.items.levels s (g.R.Source.source u.source) u.refusal c.in-Ok.head c.other.result t c.in_default.not-Text c.in_default.not-Bytes c.in-Ok.ensures.read)), record { after_borrow = tt })
+    ((refl, λ _. tt, (c.other.ensures.levels ∙ c.in-Ok.ensures.levels, c.other.ensures.formats ∙ c.in-Ok.ensures.formats, other_item g.R.Source.refusals f g.R.Source.lends c.args.self.now.items.levels s (g.R.Source.source u.source) u.refusal c.in-Ok.head c.other.result t c.in_default.not-Text c.in_default.not-Bytes c.in-Ok.ensures.read, c.other.ensures.no_key)), record { after_borrow = tt })

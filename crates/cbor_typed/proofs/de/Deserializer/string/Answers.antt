@@ -96,13 +96,9 @@ returns-in-Bytes-clause-read g c =
     let opened = subst (λ (h : Head). OpensItem g.R.Source.refusals f levels s m u.refusal (Ok h)) c.in-Bytes.is c.in_ok-head.ensures.read in
     none_there g.R.Source.refusals s (λ k at. bytes_bad g.R.Source.refusals f reads levels s m u.refusal c.in-Bytes.n opened (g.R.Source.source c.bytes.new.self.items.source) b k at (λ x. string_bytes x) (λ r x is. is) bad c.in_ok-bytes-in-Bytes.ensures.read)
 
-pub returns : goal.returns
-returns g c =
+pub returns-clause-read : goal.returns-clause-read
+returns-clause-read g c =
     let u = c.scalar.new.self.items in
     let s = g.R.Source.source c.args.self.now.items.source in
     let h = c.in_ok-head.head in
-    record {
-      read = none_there g.R.Source.refusals s (λ k at. none_at g.R.Source.refusals (formats_of c.args.self.now.items.formats) reads c.args.self.now.items.levels s (g.R.Source.source u.source) u.refusal h k at (λ r x is. not_string h c.in_default.not-Text c.in_default.not-Bytes r (string_bytes x) is.0) c.in_ok-head.ensures.read);
-      levels = c.in_ok-head.ensures.levels;
-      formats = c.in_ok-head.ensures.formats;
-    }
+    none_there g.R.Source.refusals s (λ k at. none_at g.R.Source.refusals (formats_of c.args.self.now.items.formats) reads c.args.self.now.items.levels s (g.R.Source.source u.source) u.refusal h k at (λ r x is. not_string h c.in_default.not-Text c.in_default.not-Bytes r (string_bytes x) is.0) c.in_ok-head.ensures.read)

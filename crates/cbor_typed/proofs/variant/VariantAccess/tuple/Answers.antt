@@ -11,6 +11,7 @@ returns-in-Ok g c = (
     head = c.in-Ok.ensures.read;
     refused = tt;
     alone = tt;
+    no_form = tt;
     outer = refl;
     inside = parts_inside c.args.self.form c.args.self.de.now.items.levels c.parts.new.self.items.levels c.args.self.outer c.requires c.in-Ok.ensures.inside;
     formats = c.in-Ok.ensures.formats;

@@ -1,5 +1,5 @@
 use Rattle.cbor_de.proofs.Calls.{bytes_stop}
-use Rattle.cbor_de.proofs.de.Deserializer.bytes.Goals as goal
+use Rattle.cbor_de.proofs.de.Deserializer.bytes_asked_for.Goals as goal
 
 pub returns-in-Err-clause-read : goal.returns-in-Err-clause-read
 returns-in-Err-clause-read g c =

@@ -1,6 +1,6 @@
-use super::{Done, is_read, is_refused, refused};
-use crate::de::{Deserialize, SliceRead};
-use crate::{Deserializer, Error, Result as Read, from_reader, from_slice};
+use super::{Done, is_read, is_refused, read, read_from_reader, refused};
+use serde_cbor::de::{Deserialize, SliceRead};
+use serde_cbor::{Deserializer, Error, Result as Read};
 use std::test::Fail;
 
 #[test]
@@ -9,7 +9,7 @@ fn reads_vectors(rt: HostRuntime) -> Done {
     is_read(&rt, alloc, b"\x83\x01\x02\x03", vec![in alloc; 1u8, 2, 3]?)?;
     is_read(&rt, alloc, b"\x9f\x01\x02\xff", vec![in alloc; 1u8, 2]?)?;
     is_read(&rt, alloc, b"\xc1\x80", Vec::<u8>::new(alloc))?;
-    let items: Vec<u8> = from_reader(alloc, b"\x9f\x01\xff".as_slice())?;
+    let items: Vec<u8> = read_from_reader(alloc, b"\x9f\x01\xff")?;
     assert_eq!(rt; items.as_slice(), [1].as_slice());
     Ok(())
 }
@@ -17,7 +17,7 @@ fn reads_vectors(rt: HostRuntime) -> Done {
 #[test]
 fn reads_vectors_of_vectors(rt: HostRuntime) -> Done {
     let alloc = rt.alloc();
-    let rows: Vec<Vec<u8>> = from_slice(alloc, b"\x82\x9f\x01\xff\x81\x02")?;
+    let rows: Vec<Vec<u8>> = read(alloc, b"\x82\x9f\x01\xff\x81\x02")?;
     assert_eq!(rt; rows.len(), 2);
     assert_eq!(rt; rows[0].as_slice(), [1].as_slice());
     assert_eq!(rt; rows[1].as_slice(), [2].as_slice());
@@ -41,7 +41,14 @@ fn refuses_vectors(rt: HostRuntime) -> Done {
 #[test]
 fn reads_arrays_of_a_length(rt: HostRuntime) -> Done {
     let alloc = rt.alloc();
-    is_read(&rt, alloc, b"\x82\x02\x03", [2u64, 3])?;
+    let items: [u64; 2] = read(alloc, b"\x82\x02\x03")?;
+    assert_eq!(rt; items, [2, 3]);
+    Ok(())
+}
+
+#[test]
+fn refuses_arrays_of_other_lengths(rt: HostRuntime) -> Done {
+    let alloc = rt.alloc();
     for (bytes, want) in [
         (&b"\x81\x02"[..], "invalid length 1, expected 2"),
         (b"\x83\x02\x03\x04", "trailing data at offset 3"),
@@ -56,10 +63,20 @@ fn reads_arrays_of_a_length(rt: HostRuntime) -> Done {
 #[test]
 fn reads_tuples(rt: HostRuntime) -> Done {
     let alloc = rt.alloc();
-    is_read(&rt, alloc, b"\x81\x01", (1u8,))?;
-    is_read(&rt, alloc, b"\x9f\x01\xf5\xff", (1u8, true))?;
-    is_read(&rt, alloc, b"\x83\x01\x20\x03", (1u8, -1i8, 3u16))?;
-    is_read(&rt, alloc, b"\x84\x01\x20\x03\x04", (1u8, -1i8, 3u16, 4u8))?;
+    let (n,): (u8,) = read(alloc, b"\x81\x01")?;
+    assert_eq!(rt; n, 1);
+    let (n, b): (u8, bool) = read(alloc, b"\x9f\x01\xf5\xff")?;
+    assert!(rt; n == 1 && b);
+    let (n, i, m): (u8, i8, u16) = read(alloc, b"\x83\x01\x20\x03")?;
+    assert!(rt; n == 1 && i == -1 && m == 3);
+    let (n, i, m, k): (u8, i8, u16, u8) = read(alloc, b"\x84\x01\x20\x03\x04")?;
+    assert!(rt; n == 1 && i == -1 && m == 3 && k == 4);
+    Ok(())
+}
+
+#[test]
+fn refuses_tuples(rt: HostRuntime) -> Done {
+    let alloc = rt.alloc();
     for (bytes, want) in [
         (&b"\x81\x01"[..], "invalid length 1, expected 2"),
         (b"\x83\x01\x02\x03", "trailing data at offset 3"),

@@ -1,6 +1,6 @@
-use super::{Done, is_read, is_refused, refused};
-use crate::de::{Deserialize, SliceRead};
-use crate::{Deserializer, Value, from_mut_slice, from_reader, from_slice};
+use super::{Done, is_read, is_refused, read, read_from_reader, read_in_place, refused};
+use serde_cbor::de::{Deserialize, SliceRead};
+use serde_cbor::{Deserializer, Value};
 use std::test::Fail;
 
 #[test]
@@ -8,10 +8,10 @@ fn reads_values(rt: HostRuntime) -> Done {
     let alloc = rt.alloc();
     let bytes = b"\x82\x18\x17\xf7";
     let want = Value::Array(vec![in alloc; Value::Integer(23), Value::Null]?);
-    assert!(rt; from_slice::<Value>(alloc, bytes)? == want);
-    assert!(rt; from_reader::<Value, _>(alloc, bytes.as_slice())? == want);
+    assert!(rt; read::<Value>(alloc, bytes)? == want);
+    assert!(rt; read_from_reader::<Value>(alloc, bytes)? == want);
     let mut bytes = *bytes;
-    assert!(rt; from_mut_slice::<Value>(alloc, &mut bytes)? == want);
+    assert!(rt; read_in_place::<Value>(alloc, &mut bytes)? == want);
     Ok(())
 }
 
@@ -73,7 +73,7 @@ fn refuses_numbers_as_keys(rt: HostRuntime) -> Done {
     let source = SliceRead::new(alloc, b"\xa1\x20\x01");
     let mut de = Deserializer::new(alloc, source).disable_packed_format();
     let value = Value::deserialize(&mut de)?;
-    assert!(rt; value == from_slice::<Value>(alloc, b"\xa1\x20\x01")?);
+    assert!(rt; value == read::<Value>(alloc, b"\xa1\x20\x01")?);
     Ok(())
 }
 
@@ -93,6 +93,6 @@ fn goes_on_behind_a_refusal(rt: HostRuntime) -> Done {
     de.end()?;
     let mut deep = [0x81; 128];
     deep[127] = 0x00;
-    assert!(rt; value == from_slice::<Value>(alloc, &deep)?);
+    assert!(rt; value == read::<Value>(alloc, &deep)?);
     Ok(())
 }

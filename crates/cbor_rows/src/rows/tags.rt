@@ -1,5 +1,5 @@
-use crate::Deserializer;
-use crate::de::{Deserialize, SliceRead};
+use serde_cbor::Deserializer;
+use serde_cbor::de::{Deserialize, SliceRead};
 use std::test::Fail;
 
 #[test]

@@ -4,11 +4,11 @@ use Rattle.std.specs.Global.{Global}
 use Rattle.cbor_model.specs.Readable.{IsText, PassesTags}
 use Rattle.cbor_typed.specs.Strings.{SeeksItem}
 use Rattle.cbor_typed.specs.Takes.{formats_of}
-use Rattle.cbor_typed.proofs.de.Deserializer.read_string.Goals as goal
+use Rattle.cbor_typed.proofs.de.Deserializer.own_string.Goals as goal
 
 pub returns-in-Ok-None-clause-read : goal.returns-in-Ok-None-clause-read
 returns-in-Ok-None-clause-read g c =
     let s = g.R.Source.source c.args.self.now.items.source in
     let u = c.string.new.self.items in
     let none = subst (λ (o : Option (String Global)). SeeksItem g.R.Source.refusals (formats_of c.args.self.now.items.formats) (PassesTags (λ r x. IsText r (string_bytes x))) c.args.self.now.items.levels s (g.R.Source.source u.source) u.refusal (Ok o)) c.in-Ok-None.field-0-is c.in-Ok-None.ensures.read in
-    record { told = λ bs tells. inr (none bs tells) }
+    λ e made. record { told = λ bs tells. inr (none bs tells) }

@@ -1,32 +1,33 @@
-use super::{Done, is_refused, refused};
-use crate::de::{Deserialize, SliceRead};
-use crate::{Deserializer, Error, Result as Read, from_reader, from_slice};
+use super::{Done, is_refused, read, read_from_reader, refused};
+use serde_cbor::de::{Deserialize, SliceRead};
+use serde_cbor::{Deserializer, Error, Result as Read};
 use std::collections::BTreeMap;
+use std::process::Abort;
 use std::test::Fail;
+
+/// The map has this many pairs, and this value under this key.
+fn has(rt: &impl Abort, map: &BTreeMap<u8, u8>, pairs: usize, key: u8, value: u8) {
+    assert_eq!(rt; map.len(), pairs);
+    assert_eq!(rt; map.get(&key), Some(&value));
+}
 
 #[test]
 fn reads_maps(rt: HostRuntime) -> Done {
     let alloc = rt.alloc();
-    let map: BTreeMap<u8, u8> = from_slice(alloc, b"\xa2\x03\x04\x01\x02")?;
-    assert_eq!(rt; map.len(), 2);
-    assert_eq!(rt; map.get(&1), Some(&2));
-    assert_eq!(rt; map.get(&3), Some(&4));
-    let map: BTreeMap<u8, u8> = from_slice(alloc, b"\xbf\x01\x02\xff")?;
-    assert_eq!(rt; map.len(), 1);
-    assert_eq!(rt; map.get(&1), Some(&2));
-    let map: BTreeMap<u8, bool> = from_slice(alloc, b"\xc1\xa0")?;
+    let map = read(alloc, b"\xa2\x03\x04\x01\x02")?;
+    has(&rt, &map, 2, 1, 2);
+    has(&rt, &map, 2, 3, 4);
+    has(&rt, &read(alloc, b"\xbf\x01\x02\xff")?, 1, 1, 2);
+    has(&rt, &read_from_reader(alloc, b"\xbf\x01\x02\xff")?, 1, 1, 2);
+    let map: BTreeMap<u8, bool> = read(alloc, b"\xc1\xa0")?;
     assert!(rt; map.is_empty());
-    let map: BTreeMap<u8, u8> = from_reader(alloc, b"\xbf\x01\x02\xff".as_slice())?;
-    assert_eq!(rt; map.len(), 1);
     Ok(())
 }
 
 #[test]
 fn keeps_the_last_of_equal_keys(rt: HostRuntime) -> Done {
     let alloc = rt.alloc();
-    let map: BTreeMap<u8, u8> = from_slice(alloc, b"\xa2\x01\x02\x18\x01\x03")?;
-    assert_eq!(rt; map.len(), 1);
-    assert_eq!(rt; map.get(&1), Some(&3));
+    has(&rt, &read(alloc, b"\xa2\x01\x02\x18\x01\x03")?, 1, 1, 3);
     Ok(())
 }
 

@@ -1,21 +1,24 @@
-use super::{Done, is_read, is_refused, refused};
-use crate::de::{Deserialize, EitherLifetime, EitherStr};
-use crate::{Deserializer, from_mut_slice, from_reader, from_slice, from_slice_with_scratch};
+use super::{
+    Done, is_read, is_refused, read, read_from_reader, read_in_place, read_with_scratch, refused,
+};
+use serde_cbor::de::{Deserialize, EitherLifetime, EitherStr};
+use serde_cbor::{Deserializer, from_reader, from_slice, from_slice_with_scratch};
 use std::alloc::Global;
 use std::process::Abort;
 use std::test::Fail;
 
+/// The string is this text.
+fn is_text(rt: &impl Abort, read: String, want: &str) {
+    assert_eq!(rt; read.as_str(), want);
+}
+
 /// A string, read from each of the four sources.
 fn all_read(rt: &impl Abort, alloc: Global, bytes: &[u8], want: &str) -> Done {
-    let read: String = from_slice(alloc, bytes)?;
-    assert_eq!(rt; read.as_str(), want);
-    let read: String = from_slice_with_scratch(alloc, bytes, &mut [0; 8])?;
-    assert_eq!(rt; read.as_str(), want);
+    is_text(rt, read(alloc, bytes)?, want);
+    is_text(rt, read_with_scratch(alloc, bytes, &mut [0; 8])?, want);
     let mut copy = Vec::from_slice(alloc, bytes)?;
-    let read: String = from_mut_slice(alloc, &mut copy)?;
-    assert_eq!(rt; read.as_str(), want);
-    let read: String = from_reader(alloc, bytes)?;
-    assert_eq!(rt; read.as_str(), want);
+    is_text(rt, read_in_place(alloc, &mut copy)?, want);
+    is_text(rt, read_from_reader(alloc, bytes)?, want);
     Ok(())
 }
 
@@ -122,15 +125,16 @@ fn reads_what_may_be_absent(rt: HostRuntime) -> Done {
     is_read(&rt, alloc, b"\x61a", Some("a"))
 }
 
+fn is_none(rt: &impl Abort, read: Option<u8>) {
+    assert!(rt; read.is_none());
+}
+
 #[test]
 fn reads_null_as_none_from_each_source(rt: HostRuntime) -> Done {
     let alloc = rt.alloc();
-    let read: Option<u8> = from_reader(alloc, b"\xf6".as_slice())?;
-    assert_eq!(rt; read, None);
-    let read: Option<u8> = from_mut_slice(alloc, &mut [0xf6])?;
-    assert_eq!(rt; read, None);
-    let read: Option<u8> = from_slice_with_scratch(alloc, b"\xf6", &mut [])?;
-    assert_eq!(rt; read, None);
+    is_none(&rt, read_from_reader(alloc, b"\xf6")?);
+    is_none(&rt, read_in_place(alloc, &mut [0xf6])?);
+    is_none(&rt, read_with_scratch(alloc, b"\xf6", &mut [])?);
     Ok(())
 }
 
@@ -148,10 +152,10 @@ fn lends_texts(rt: HostRuntime) -> Done {
     let alloc = rt.alloc();
     is_read(&rt, alloc, b"\x62ab", "ab")?;
     is_read(&rt, alloc, b"\xc1\x42\xc3\xa9", "é")?;
-    let lent: &str = from_slice_with_scratch(alloc, b"\x62ab", &mut [])?;
+    let lent: &str = read_with_scratch(alloc, b"\x62ab", &mut [])?;
     assert_eq!(rt; lent, "ab");
     let mut input = *b"\x7f\x61a\x61b\xff";
-    let lent: &str = from_mut_slice(alloc, &mut input)?;
+    let lent: &str = read_in_place(alloc, &mut input)?;
     assert_eq!(rt; lent, "ab");
     Ok(())
 }
@@ -191,7 +195,7 @@ fn lends_bytes(rt: HostRuntime) -> Done {
     is_read(&rt, alloc, b"\x42\xc3\x28", b"\xc3\x28".as_slice())?;
     is_read(&rt, alloc, b"\x62ab", b"ab".as_slice())?;
     let mut input = *b"\x5f\x41\xc3\x41\x28\xff";
-    let lent: &[u8] = from_mut_slice(alloc, &mut input)?;
+    let lent: &[u8] = read_in_place(alloc, &mut input)?;
     assert_eq!(rt; lent, b"\xc3\x28".as_slice());
     Ok(())
 }
@@ -231,9 +235,12 @@ fn reads_characters(rt: HostRuntime) -> Done {
     is_read(&rt, alloc, b"\x61\x00", '\0')?;
     is_read(&rt, alloc, b"\xc1\x64\xf0\x9f\x98\x80", '😀')?;
     let mut scratch = [0; 2];
-    let read: char = from_slice_with_scratch(alloc, b"\x7f\x61\xc3\x61\xa9\xff", &mut scratch)?;
-    assert_eq!(rt; read, 'é');
-    assert_eq!(rt; from_reader::<char, _>(alloc, b"\x61b".as_slice())?, 'b');
+    let joined = b"\x7f\x61\xc3\x61\xa9\xff";
+    assert_eq!(rt;
+        read_with_scratch::<char>(alloc, joined, &mut scratch)?,
+        'é'
+    );
+    assert_eq!(rt; read_from_reader::<char>(alloc, b"\x61b")?, 'b');
     Ok(())
 }
 

@@ -1,6 +1,6 @@
-use super::{Done, is_refused, refused};
-use crate::de::{Deserialize, IgnoredAny, SliceRead};
-use crate::{Deserializer, from_mut_slice, from_slice, from_slice_with_scratch};
+use super::{Done, is_refused, read, refused};
+use serde_cbor::de::{Deserialize, IgnoredAny, SliceRead};
+use serde_cbor::{Deserializer, from_mut_slice, from_slice, from_slice_with_scratch};
 use std::test::Fail;
 
 #[test]
@@ -14,7 +14,7 @@ fn passes_over_any_item(rt: HostRuntime) -> Done {
         b"\xbf\x7f\x61a\x61b\xff\xf9\x3c\x00\xff",
         b"\xc1\x9f\x5f\x41\x01\xff\xff",
     ] {
-        from_slice::<IgnoredAny>(alloc, bytes)?;
+        read::<IgnoredAny>(alloc, bytes)?;
     }
     let mut de = Deserializer::new(alloc, SliceRead::new(alloc, b"\x82\x01\xf6\x05"));
     IgnoredAny::deserialize(&mut de)?;
@@ -27,7 +27,7 @@ fn stops_at_the_128th_level(rt: HostRuntime) -> Done {
     let alloc = rt.alloc();
     let mut deep = [0x81; 129];
     deep[128] = 0x00;
-    from_slice::<IgnoredAny>(alloc, &deep[1..])?;
+    read::<IgnoredAny>(alloc, &deep[1..])?;
     is_refused::<IgnoredAny>(&rt, alloc, &deep, "recursion limit exceeded at offset 128")
 }
 

@@ -1,6 +1,6 @@
 use super::refused;
-use crate::de::Source;
-use crate::{Deserializer, Error, Result};
+use serde_cbor::de::Source;
+use serde_cbor::{Deserializer, Error, Result};
 use std::alloc::Global;
 use std::process::Abort;
 use std::test::Fail;

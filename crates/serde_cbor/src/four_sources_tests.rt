@@ -59,6 +59,26 @@ fn is_refused(rt: &impl Abort, alloc: Global, read: Result<Value>, want: &'stati
     Ok(())
 }
 
+// What is read of the bytes, from each of the four sources. These promise nothing, so that their
+// callers carry no facts from one call to the next.
+
+fn of_slice(alloc: Global, bytes: &[u8]) -> Result<Value> {
+    from_slice::<Value>(alloc, bytes)
+}
+
+fn with_scratch(alloc: Global, bytes: &[u8], scratch: &mut [u8]) -> Result<Value> {
+    from_slice_with_scratch::<Value>(alloc, bytes, scratch)
+}
+
+fn in_place(alloc: Global, bytes: &[u8]) -> Result<Value> {
+    let mut copy = Vec::from_slice(alloc, bytes)?;
+    from_mut_slice::<Value>(alloc, &mut copy)
+}
+
+fn of_reader(alloc: Global, bytes: &[u8]) -> Result<Value> {
+    from_reader::<Value, _>(alloc, Bytewise::new(bytes))
+}
+
 /// The bytes are refused with this text, by the scratch one of this length.
 fn all_refuse(
     rt: &impl Abort,
@@ -67,21 +87,10 @@ fn all_refuse(
     scratch: &mut [u8],
     want: &'static str,
 ) -> Done {
-    is_refused(rt, alloc, from_slice::<Value>(alloc, bytes), want)?;
-    is_refused(
-        rt,
-        alloc,
-        from_slice_with_scratch::<Value>(alloc, bytes, scratch),
-        want,
-    )?;
-    let mut copy = Vec::from_slice(alloc, bytes)?;
-    is_refused(rt, alloc, from_mut_slice::<Value>(alloc, &mut copy), want)?;
-    is_refused(
-        rt,
-        alloc,
-        from_reader::<Value, _>(alloc, Bytewise::new(bytes)),
-        want,
-    )
+    is_refused(rt, alloc, of_slice(alloc, bytes), want)?;
+    is_refused(rt, alloc, with_scratch(alloc, bytes, scratch), want)?;
+    is_refused(rt, alloc, in_place(alloc, bytes), want)?;
+    is_refused(rt, alloc, of_reader(alloc, bytes), want)
 }
 
 /// The bytes are read as this value.
@@ -92,11 +101,10 @@ fn all_read(
     scratch: &mut [u8],
     want: &Value,
 ) -> Done {
-    assert!(rt; from_slice::<Value>(alloc, bytes)? == *want);
-    assert!(rt; from_slice_with_scratch::<Value>(alloc, bytes, scratch)? == *want);
-    let mut copy = Vec::from_slice(alloc, bytes)?;
-    assert!(rt; from_mut_slice::<Value>(alloc, &mut copy)? == *want);
-    assert!(rt; from_reader::<Value, _>(alloc, Bytewise::new(bytes))? == *want);
+    assert!(rt; of_slice(alloc, bytes)? == *want);
+    assert!(rt; with_scratch(alloc, bytes, scratch)? == *want);
+    assert!(rt; in_place(alloc, bytes)? == *want);
+    assert!(rt; of_reader(alloc, bytes)? == *want);
     Ok(())
 }
 
@@ -119,7 +127,7 @@ fn joins_chunks(rt: HostRuntime) -> Done {
     is_refused(
         &rt,
         alloc,
-        from_slice_with_scratch::<Value>(alloc, MARY, &mut short),
+        with_scratch(alloc, MARY, &mut short),
         "Scratch buffer too small at offset 26",
     )
 }
@@ -136,13 +144,13 @@ fn tells_the_chunk_that_does_not_fit(rt: HostRuntime) -> Done {
             11..=17 => "Scratch buffer too small at offset 17",
             _ => "Scratch buffer too small at offset 26",
         };
-        let read = from_slice_with_scratch::<Value>(alloc, MARY, &mut scratch[..n]);
+        let read = with_scratch(alloc, MARY, &mut scratch[..n]);
         is_refused(&rt, alloc, read, want)?;
     }
     let cut = b"\x7f\x61a";
-    let read = from_slice_with_scratch::<Value>(alloc, cut, &mut []);
+    let read = with_scratch(alloc, cut, &mut []);
     is_refused(&rt, alloc, read, "Scratch buffer too small at offset 2")?;
-    let read = from_slice_with_scratch::<Value>(alloc, cut, &mut scratch[..1]);
+    let read = with_scratch(alloc, cut, &mut scratch[..1]);
     is_refused(&rt, alloc, read, "EOF while parsing a value at offset 3")
 }
 

@@ -2,17 +2,19 @@
 
 mod arrays;
 mod ends;
-mod four_sources;
 mod ignored;
-mod items;
 mod maps;
 mod strings;
 mod tags;
 mod values;
 
-use crate::de::{Deserialize, SliceRead};
-use crate::value::Float;
-use crate::{Result as Read, from_mut_slice, from_reader, from_slice, from_slice_with_scratch};
+use serde_cbor::de::{
+    Deserialize, DeserializeOwned, IoRead, MutSliceRead, SliceRead, SliceReadFixed,
+};
+use serde_cbor::value::Float;
+use serde_cbor::{
+    Result as Read, from_mut_slice, from_reader, from_slice, from_slice_with_scratch,
+};
 use std::alloc::Global;
 use std::fmt::Debug;
 use std::process::Abort;
@@ -39,6 +41,35 @@ fn is_read<'a, T: Deserialize<'a, SliceRead<'a>> + PartialEq + Debug>(
 ) -> Done {
     assert_eq!(rt; from_slice::<T>(alloc, bytes)?, want);
     Ok(())
+}
+
+// What is read of the bytes, from each of the four sources. These promise nothing, so that a test of
+// many calls carries no facts from one to the next.
+
+fn read<'a, T: Deserialize<'a, SliceRead<'a>>>(alloc: Global, bytes: &'a [u8]) -> Result<T, Fail> {
+    Ok(from_slice::<T>(alloc, bytes)?)
+}
+
+fn read_with_scratch<'a, T: Deserialize<'a, SliceReadFixed<'a, 'a>>>(
+    alloc: Global,
+    bytes: &'a [u8],
+    scratch: &'a mut [u8],
+) -> Result<T, Fail> {
+    Ok(from_slice_with_scratch::<T>(alloc, bytes, scratch)?)
+}
+
+fn read_in_place<'a, T: Deserialize<'a, MutSliceRead<'a>>>(
+    alloc: Global,
+    bytes: &'a mut [u8],
+) -> Result<T, Fail> {
+    Ok(from_mut_slice::<T>(alloc, bytes)?)
+}
+
+fn read_from_reader<'a, T: DeserializeOwned + Deserialize<'a, IoRead<&'a [u8]>>>(
+    alloc: Global,
+    bytes: &'a [u8],
+) -> Result<T, Fail> {
+    Ok(from_reader::<T, _>(alloc, bytes)?)
 }
 
 /// The bytes are refused with this text.
@@ -95,7 +126,12 @@ fn reads_simple_values(rt: HostRuntime) -> Done {
     is_read(&rt, alloc, b"\xf7", ())?;
     is_read(&rt, alloc, b"\xf9\x3c\x00", Float::Half(0x3c00))?;
     let one = b"\xfb\x3f\xf0\0\0\0\0\0\0";
-    is_read(&rt, alloc, one, Float::Double(0x3ff0000000000000))?;
+    is_read(&rt, alloc, one, Float::Double(0x3ff0000000000000))
+}
+
+#[test]
+fn refuses_other_items_as_simple_values(rt: HostRuntime) -> Done {
+    let alloc = rt.alloc();
     is_refused::<bool>(&rt, alloc, b"\xf6", "invalid type: expected a boolean")?;
     is_refused::<()>(&rt, alloc, b"\x00", "invalid type: expected unit")?;
     is_refused::<Float>(&rt, alloc, b"\x00", "invalid type: expected a float")
@@ -119,11 +155,8 @@ fn refuses_what_is_malformed(rt: HostRuntime) -> Done {
 #[test]
 fn reads_from_four_sources(rt: HostRuntime) -> Done {
     let alloc = rt.alloc();
-    assert_eq!(rt;
-        from_slice_with_scratch::<u8>(alloc, b"\x18\x2a", &mut [])?,
-        42
-    );
-    assert_eq!(rt; from_mut_slice::<u8>(alloc, &mut [0x18, 0x2a])?, 42);
-    assert_eq!(rt; from_reader::<u8, _>(alloc, b"\x18\x2a".as_slice())?, 42);
+    assert_eq!(rt; read_with_scratch::<u8>(alloc, b"\x18\x2a", &mut [])?, 42);
+    assert_eq!(rt; read_in_place::<u8>(alloc, &mut [0x18, 0x2a])?, 42);
+    assert_eq!(rt; read_from_reader::<u8>(alloc, b"\x18\x2a")?, 42);
     Ok(())
 }
