@@ -57,6 +57,10 @@ impl<R: Source> Deserializer<R> {
         ensures levels { self.new.levels ≡ self.old.levels }
         ensures formats { self.new.formats ≡ self.old.formats }
     {
+        // A text of up to 23 bytes, which most keys are.
+        if let 0x60..=0x77 = first {
+            return Ok(Head::Text(Some((first - 0x60) as u64)));
+        }
         let low = first % 32;
         let major = Major::of(first);
         if let Major::Simple = major {

@@ -29,7 +29,7 @@ use Rattle.cbor_typed.specs.Kinds.{kind_of, head_kind}
 use Rattle.cbor_typed.specs.Kinds as kind
 use Rattle.cbor_typed.specs.Takes.{raws, IsRead, IsNotRead, Refuses, ExcusedBy}
 use Rattle.cbor_typed.specs.Opens.{in_tags, Opens, OpensItem}
-use Rattle.cbor_typed.specs.Strings.{content_at, is_lent_head, IsNotUtf8}
+use Rattle.cbor_typed.specs.Strings.{content_at, is_lent_head, IsNotUtf8, KeepsTextOf, TakesText}
 use Rattle.cbor_typed.proofs.Scalars.{refuses, opened_read, opened_none, other_kind, not_both}
 
 -- ---- items
@@ -243,9 +243,6 @@ module _ {A : Type 0} (allowed : ReadErrorCode → Bool) (f : Formats) (reads : 
   abbrev OpensBytes : Type 0
   OpensBytes = OpensItem allowed f levels s m kept (Ok (head.Bytes n))
 
-  pub text_stops : OpensText → (r : Refused) (later : Option ReadError) (e : Error) → IsErrorOf later r e → Stopped allowed (λ l. content_at l (head.Text n)) m later r → Refuses allowed s (code_of e) (offset_of e) (λ l bs. IsNotRead (PassesTags reads) (item_at (raws f l) levels bs))
-  text_stops opened r later e is stopped = string_stops allowed f reads levels s m kept (head.Text n) opened r later e (λ l w bs g stops. text_stop f l (inside (raws f l) opened.0) w n bs g stops) is stopped
-
   pub bytes_stops : OpensBytes → (r : Refused) (later : Option ReadError) (e : Error) → IsErrorOf later r e → Stopped allowed (λ l. content_at l (head.Bytes n)) m later r → Refuses allowed s (code_of e) (offset_of e) (λ l bs. IsNotRead (PassesTags reads) (item_at (raws f l) levels bs))
   bytes_stops opened r later e is stopped = string_stops allowed f reads levels s m kept (head.Bytes n) opened r later e (λ l w bs g stops. bytes_stop f l (inside (raws f l) opened.0) w n bs g stops) is stopped
 
@@ -272,12 +269,17 @@ module _ {A : Type 0} (allowed : ReadErrorCode → Bool) (f : Formats) (reads : 
       string_takes allowed f reads levels s m kept (head.Text n) opened t b x (λ l w bs rest content. text_read f l (inside (raws f l) opened.0) w n bs b rest content utf8)
       (λ r string lent. means r string utf8 lent) taken
 
-  -- bytes that aren't UTF-8 are no text
-  pub text_none : OpensText → (t : Input) (b : List ℕ) (end : ℕ) (e : Error) → IsNotUtf8 b end e
-      → Step m t (λ l bs rest. content_at l (head.Text n) bs ≡ Ok (b, rest)) → Refuses allowed s (code_of e) (offset_of e) (λ l bs. IsNotRead (PassesTags reads) (item_at (raws f l) levels bs))
-  text_none opened t b end e is taken =
-      string_none allowed f reads levels s m kept (head.Text n) opened t b (code_of e) (offset_of e)
-      (λ l w bs rest after r x content read found. not_both (behind_head (raws f l) (inside (raws f l) opened.0) w (head.Text n) bs) (r, after) _ read (text_bad f l (inside (raws f l) opened.0) w n bs b rest content is.bad)) taken
+-- bytes that were taken, as a text if they are UTF-8
+pub text_checked : {X : Type 0} (allowed : ReadErrorCode → Bool) (view : X → List ℕ) (h : Head) (s t : Input) (b : List ℕ) (end : ℕ) (kept : Option ReadError) (r : Result X Refused) → Step s t (λ l bs rest. content_at l h bs ≡ Ok (b, rest))
+    → KeepsTextOf view b end kept r → TakesText allowed view h s t kept r
+text_checked allowed view h s t b end kept (Ok x) step is = (
+  subst (λ (q : List ℕ). Step s t (λ l bs rest. content_at l h bs ≡ Ok (q, rest))) (sym is.0) step,
+  subst IsUtf8 (sym is.0) is.1,
+)
+text_checked allowed view h s t b end kept (Err r) step is = λ e made.
+    step_refuses allowed s t (code_of e) (offset_of e) (λ l bs. (c rest : List ℕ) → content_at l h bs ≡ Ok (c, rest) → IsUtf8 c → ⊥)
+    (step_map s t (λ l bs rest. content_at l h bs ≡ Ok (b, rest)) (λ l bs rest. (c after : List ℕ) → content_at l h bs ≡ Ok (c, after) → IsUtf8 c → ⊥)
+    (λ l bs rest here c after there utf8. (is e made).bad (subst IsUtf8 (ap (λ (q : List ℕ × List ℕ). q.0) (ok_is (c, after) (b, rest) (sym there ∙ here))) utf8)) step)
 
 -- an item of another kind
 pub none_at : {A : Type 0} (allowed : ReadErrorCode → Bool) (f : Formats) (reads : Raw → A → Type 0) (levels : ℕ) (s t : Input) (kept : Option ReadError) (h : Head) (k : ErrorCode) (at : ℕ)

@@ -26,7 +26,7 @@ use Rattle.cbor_typed.specs.Strings.{content_at}
 use Rattle.cbor_typed.specs.Takes.{raws, IsRead, IsNotRead, Refuses, TakesItem, OnceMade}
 use Rattle.cbor_typed.specs.declared.identifier.Why.{Why}
 use Rattle.cbor_typed.proofs.Contents.{not_string, none_at, string_takes, bytes_takes, text_read}
-use Rattle.cbor_typed.proofs.Lending.{no_text, no_bytes}
+use Rattle.cbor_typed.proofs.Lending.{no_bytes}
 use Rattle.cbor_typed.proofs.Nulls.{refuses_behind}
 use Rattle.cbor_typed.proofs.Scalars.{takes_scalar, opened_none}
 
@@ -134,12 +134,6 @@ module _ (names : List (List ℕ)) where
     bytes_name : (n : Option ℕ) (t : Input) (b : List ℕ) (place : Option ℕ) → IsPlace names b place → OpensItem allowed f levels s m kept (Ok (head.Bytes n)) → Content (head.Bytes n) m t b → Reads t place
     bytes_name n t b place at opened taken =
         bytes_takes allowed f (IsIdentifier names) levels s m kept n opened t b place (λ r string lent. string_names r b place string at) taken
-
-    pub text_refused : (n : Option ℕ) (e : Error) → OpensItem allowed f levels s m kept (Ok (head.Text n))
-        → Refuses allowed m (code_of e) (offset_of e) (λ limits bs. (b rest : List ℕ) → content_at limits (head.Text n) bs ≡ Ok (b, rest) → IsUtf8 b → ⊥) → Refused e
-    text_refused n e opened none =
-        refuses_behind allowed s m (code_of e) (offset_of e) (λ limits bs rest. Opens f limits (item_at (raws f limits) levels bs) opened.0 (head.Text n) rest) _ (λ limits bs. IsNotRead (PassesTags (IsIdentifier names)) (item_at (raws f limits) levels bs))
-        (λ limits bs mid o none. opened_none f (IsIdentifier names) limits (item_at (raws f limits) levels bs) opened.0 (head.Text n) mid o (λ r rest x read is. no_text allowed f l levels s m kept limits (inside (raws f limits) opened.0) o.width n mid _ refl none (r, rest) read)) opened.1 none
 
     bytes_refused : (n : Option ℕ) (e : Error) → OpensItem allowed f levels s m kept (Ok (head.Bytes n))
         → Refuses allowed m (code_of e) (offset_of e) (λ limits bs. (b rest : List ℕ) → content_at limits (head.Bytes n) bs ≡ Ok (b, rest) → ⊥) → Refused e

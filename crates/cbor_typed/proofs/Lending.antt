@@ -150,6 +150,12 @@ module _ (allowed : ReadErrorCode → Bool) (f : Formats) (l : Lends) (levels : 
       lacks_behind allowed s m (λ limits bs rest. Opens f limits (item_at (raws f limits) levels bs) opened.0 (head.Bytes n) rest) _ (λ limits bs. IsNotRead (PassesTags reads) (item_at (raws f limits) levels bs))
       (λ limits bs mid o none. opened_none f reads limits (item_at (raws f limits) levels bs) opened.0 (head.Bytes n) mid o (λ r rest x read text. no_bytes limits (inside (raws f limits) opened.0) o.width n mid _ refl none (r, rest) read)) opened.1 u is
 
+  pub text_refuses : {X : Type 0} (reads : Raw → X → Type 0) (n : Option ℕ) (k : ErrorCode) (at : ℕ) → OpensItem allowed f levels s m kept (Ok (head.Text n)) → Refuses allowed m k at (λ limits bs. (b rest : List ℕ) → content_at limits (head.Text n) bs ≡ Ok (b, rest) → IsUtf8 b → ⊥)
+      → Refuses allowed s k at (λ limits bs. IsNotRead (PassesTags reads) (item_at (raws f limits) levels bs))
+  text_refuses reads n k at opened none =
+      refuses_behind allowed s m k at (λ limits bs rest. Opens f limits (item_at (raws f limits) levels bs) opened.0 (head.Text n) rest) _ (λ limits bs. IsNotRead (PassesTags reads) (item_at (raws f limits) levels bs))
+      (λ limits bs mid o none. opened_none f reads limits (item_at (raws f limits) levels bs) opened.0 (head.Text n) mid o (λ r rest x read text. no_text limits (inside (raws f limits) opened.0) o.width n mid _ refl none (r, rest) read)) opened.1 none
+
   pub text_item : (n : Option ℕ) (t : Input) (r : Result EitherStr Unread) → OpensItem allowed f levels s m kept (Ok (head.Text n)) → LentText allowed l (head.Text n) m t r → LendsText allowed c levels s t r
   text_item n t (Ok x) opened is =
       string_takes allowed f (IsLentText c) levels s m kept (head.Text n) opened t (text_bytes x) x (λ limits w bs rest content. text_read f limits (inside (raws f limits) opened.0) w n bs (text_bytes x) rest content is.1)

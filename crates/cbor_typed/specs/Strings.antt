@@ -61,6 +61,16 @@ abbrev pub KeepsTextOf : {X : Type 0} → (X → List ℕ) → List ℕ → ℕ 
 KeepsTextOf view b end kept (Ok x) = (view x ≡ b) × IsUtf8 b
 KeepsTextOf view b end kept (Err r) = (e : Error) → IsErrorOf kept r e → IsNotUtf8 b end e
 
+-- The text was taken behind its head; or none is there, as the error says that is made of the
+-- refusal that is kept.
+abbrev pub TakesText : {X : Type 0} → (ReadErrorCode → Bool) → (X → List ℕ) → Head → Input → Input
+    → Option ReadError → Result X Refused → Type 0
+TakesText refusals view h s t kept (Ok x) =
+    Step s t (λ l bs rest. content_at l h bs ≡ Ok (view x, rest)) × IsUtf8 (view x)
+TakesText refusals view h s t kept (Err r) = (e : Error) → IsErrorOf kept r e
+    → Refuses refusals s (code_of e) (offset_of e)
+    (λ l bs. (b rest : List ℕ) → content_at l h bs ≡ Ok (b, rest) → IsUtf8 b → ⊥)
+
 -- What was sought at the front, where so many levels are left: it was taken; an item of another kind
 -- is there, which isn't read; or reading stopped, as the error says that is made of the refusal that
 -- is kept.

@@ -14,7 +14,7 @@ use cbor_io::read::Source;
 impl<R: Source> Deserializer<R> {
     // Takes a head.
     #[inline(always)]
-    fn head(&mut self) -> Done<Head>
+    pub(crate) fn head(&mut self) -> Done<Head>
         ensures read { HeadGives R.refusals opening_at
             (R.source self.old.items.source) (R.source self.new.items.source)
             self.new.items.refusal result }
@@ -48,7 +48,7 @@ impl<R: Source> Deserializer<R> {
     // The same of the item that a tag is of.
     #[cycle(open)]
     #[inline(never)]
-    fn open_inside(&mut self) -> Done<Head>
+    pub(crate) fn open_inside(&mut self) -> Done<Head>
         ensures read { OpensAt R.refusals (formats_of self.old.items.formats)
             (λ l. item_inside (formats_of self.old.items.formats) l self.old.items.levels)
             (R.source self.old.items.source) (R.source self.new.items.source)

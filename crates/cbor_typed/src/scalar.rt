@@ -4,7 +4,7 @@ ghost use Rattle.std.specs.Prelude.{◌≡◌, IfErr};
 ghost use Rattle.cbor_model.specs.Readable.{PassesTags, IsBool, IsUnit};
 ghost use Rattle.cbor_io.specs.Error.{code_of};
 ghost use Rattle.cbor_de.specs.Gives.{TellsNoForm, TellsNoKey};
-ghost use Rattle.cbor_typed.specs.Opens.{OpensItem};
+ghost use Rattle.cbor_typed.specs.Opens.{OpensInside, OpensItem};
 ghost use Rattle.cbor_typed.specs.Scalars.{IsFloatItem};
 ghost use Rattle.cbor_typed.specs.Takes.{TakesItem, formats_of};
 
@@ -27,8 +27,26 @@ impl<R: Source> Deserializer<R> {
         ensures levels { self.new.items.levels ≡ self.old.items.levels }
         ensures formats { self.new.items.formats ≡ self.old.items.formats }
     {
+        let head = self.head()?;
+        if let Head::Tag(_) = head {
+            return self.scalar_inside();
+        }
+        Ok(head)
+    }
+
+    // The same of the item that a tag is of.
+    #[inline(never)]
+    fn scalar_inside(&mut self) -> Done<Head>
+        ensures read { OpensInside R.refusals (formats_of self.old.items.formats)
+            self.old.items.levels
+            (R.source self.old.items.source) (R.source self.new.items.source)
+            self.new.items.refusal result }
+        ensures no_key { IfErr result (TellsNoKey self.new.items.refusal) }
+        ensures levels { self.new.items.levels ≡ self.old.items.levels }
+        ensures formats { self.new.items.formats ≡ self.old.items.formats }
+    {
         let levels = self.items.levels;
-        let head = self.open();
+        let head = self.open_inside();
         self.items.levels = levels;
         head
     }

@@ -9,7 +9,7 @@ ghost use Rattle.cbor_de.specs.Gives.{Gives, TellsNoForm, TellsNoKey};
 ghost use Rattle.cbor_typed.specs.Cases.{NamesNoKey};
 ghost use Rattle.cbor_typed.specs.Identifiers.{IsMadeBy};
 ghost use Rattle.cbor_de.specs.declared.head.Head.TheVariants.{Bytes, Text};
-ghost use Rattle.cbor_typed.specs.Strings.{content_at, KeepsTextOf, SeeksItem};
+ghost use Rattle.cbor_typed.specs.Strings.{content_at, KeepsTextOf, SeeksItem, TakesText};
 ghost use Rattle.cbor_typed.specs.Takes.{OnceMade, TakesItem, formats_of};
 
 use crate::de::Deserializer;
@@ -38,7 +38,7 @@ impl<R: Source> Deserializer<R> {
 
     // Takes the bytes of a text behind its head.
     #[inline(always)]
-    fn text(&mut self, n: Option<u64>) -> Done<Vec<u8>>
+    fn content(&mut self, n: Option<u64>) -> Done<Vec<u8>>
         ensures read { Gives R.refusals (λ v. v.items) (λ l. content_at l (Text n))
             (R.source self.old.items.source) (R.source self.new.items.source)
             self.new.items.refusal result }
@@ -83,6 +83,65 @@ impl<R: Source> Deserializer<R> {
         }
     }
 
+    // Takes a text behind its head.
+    #[inline(always)]
+    fn text(&mut self, n: Option<u64>) -> Done<String>
+        ensures read { TakesText R.refusals (λ s. string_bytes s) (Text n)
+            (R.source self.old.items.source) (R.source self.new.items.source)
+            self.new.items.refusal result }
+        ensures no_key { IfErr result (TellsNoKey self.new.items.refusal) }
+        ensures levels { self.new.items.levels ≡ self.old.items.levels }
+        ensures formats { self.new.items.formats ≡ self.old.items.formats }
+    {
+        match n {
+            Some(n) => self.definite_text(n),
+            None => self.text_asked_for(None),
+        }
+    }
+
+    // Takes a text of n bytes behind its head. It is copied once it is known to be UTF-8.
+    #[inline(always)]
+    fn definite_text(&mut self, n: u64) -> Done<String>
+        ensures read { TakesText R.refusals (λ s. string_bytes s) (Text (Some n))
+            (R.source self.old.items.source) (R.source self.new.items.source)
+            self.new.items.refusal result }
+        ensures no_key { IfErr result (TellsNoKey self.new.items.refusal) }
+        ensures levels { self.new.items.levels ≡ self.old.items.levels }
+        ensures formats { self.new.items.formats ≡ self.old.items.formats }
+    {
+        let ahead = self.items.source.ahead();
+        if n <= ahead.len() as u64 {
+            let bytes = &ahead[..n as usize];
+            return match str::from_utf8(bytes) {
+                Ok(text) => {
+                    let text = String::from_str(self.items.alloc, text)?;
+                    self.items.source.advance(n as usize);
+                    Ok(text)
+                }
+                Err(e) => {
+                    let back = bytes.len() - e.valid_up_to();
+                    self.items.source.advance(n as usize);
+                    Err(self.items.refuse_text(back))
+                }
+            };
+        }
+        self.text_asked_for(Some(n))
+    }
+
+    // The same, where its bytes aren't at hand.
+    #[inline(never)]
+    fn text_asked_for(&mut self, n: Option<u64>) -> Done<String>
+        ensures read { TakesText R.refusals (λ s. string_bytes s) (Text n)
+            (R.source self.old.items.source) (R.source self.new.items.source)
+            self.new.items.refusal result }
+        ensures no_key { IfErr result (TellsNoKey self.new.items.refusal) }
+        ensures levels { self.new.items.levels ≡ self.old.items.levels }
+        ensures formats { self.new.items.formats ≡ self.old.items.formats }
+    {
+        let bytes = self.content(n)?;
+        self.checked(bytes)
+    }
+
     // Seeks a text, or a byte string that is UTF-8; None where an item of another kind is there.
     #[inline(always)]
     fn string(&mut self) -> Done<Option<String>>
@@ -97,8 +156,7 @@ impl<R: Source> Deserializer<R> {
         let head = self.scalar()?;
         match head {
             Head::Text(n) => {
-                let bytes = self.text(n)?;
-                let text = self.checked(bytes)?;
+                let text = self.text(n)?;
                 Ok(Some(text))
             }
             Head::Bytes(n) => {

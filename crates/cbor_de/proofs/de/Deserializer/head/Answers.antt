@@ -1,13 +1,23 @@
-use Rattle.std.proofs.Common.{◌≡◌, ◌∙◌, ◌%◌, ℕ, Ok, sym, ap}
+use Rattle.std.proofs.Common.{◌≡◌, ◌∙◌, ◌-◌, ◌/◌, ◌%◌, ℕ, Ok, sym, ap, arith, ltb, true}
 use Rattle.std.proofs.lemmas.Result.{err_from_is_err_and}
+use Rattle.std.proofs.lemmas.Bool.{lt-ltb}
 use Rattle.cbor_model.specs.Major.{major_of}
 use Rattle.cbor_model.specs.Reader.{number_behind}
 use Rattle.cbor_io.specs.Head.{major_number}
 use Rattle.cbor_io.specs.declared.head.Major.TheVariants.{UnsignedInteger, NegativeInteger, ByteString, TextString, Array, Map, Tag}
 use Rattle.cbor_de.specs.Heads.{head_at, head_of, simple_head}
-use Rattle.cbor_de.proofs.Steps.{step_map, stopped_map, head_map}
+use Rattle.cbor_de.proofs.Steps.{step_map, step_same, stopped_map, head_map}
 use Rattle.cbor_de.proofs.Heads.{is_tag, first_simple, first_indefinite, first_stops, first_is}
 use Rattle.cbor_de.proofs.de.Deserializer.head.Goals as goal
+
+pub returns-in-96-to-119-clause-read : goal.returns-in-96-to-119-clause-read
+unfolding number_behind
+returns-in-96-to-119-clause-read g c =
+    let first = c.args.first in
+    let below : ltb (first % 32) 24 ≡ true = lt-ltb (first % 32) 24 (omega (arith, c.in-96-to-119)) in
+    let low : first % 32 ≡ first - 96 = omega (arith, c.in-96-to-119) in
+    let major : 3 ≡ first / 32 = omega (arith, c.in-96-to-119) in
+    step_same _ _ (λ l bs. first_is first bs bs (first - 96) TextString (λ e. absurd cc) (λ e. absurd (omega (arith, e, c.in-96-to-119))) major (rw below (ap (λ (n : ℕ). Ok (n, bs)) low)))
 
 pub returns-in-Simple-clause-read : goal.returns-in-Simple-clause-read
 returns-in-Simple-clause-read g c =
@@ -22,7 +32,7 @@ returns-then-low-eq-INDEFINITE-clause-read g c =
 pub returns-in_err-n-clause-read : goal.returns-in_err-n-clause-read
 returns-in_err-n-clause-read g c =
     let passed = err_from_is_err_and c.from_residual.result c.from_residual.ensures.1 in
-    rw (passed.1, passed.2) (stopped_map g.R.Source.refusals (λ l. number_behind (c.args.first % 32)) (λ l. head_at c.args.first) _ _ _ (λ l bs f is. first_stops c.args.first bs f c.of-major.result c.in_default.not-Simple c.if-low-eq-INDEFINITE.false c.of-major.ensures is) c.in_err-n.ensures.read)
+    rw (passed.1, passed.2) (stopped_map g.R.Source.refusals (λ l. number_behind (c.args.first % 32)) (λ l. head_at c.args.first) _ _ _ (λ l bs f is. first_stops c.args.first bs f c.of-major.result c.in_default-major.not-Simple c.if-low-eq-INDEFINITE.false c.of-major.ensures is) c.in_err-n.ensures.read)
 
 pub returns-in-UnsignedInteger-clause-read : goal.returns-in-UnsignedInteger-clause-read
 returns-in-UnsignedInteger-clause-read g c =
@@ -48,8 +58,8 @@ pub returns-in-Map-clause-read : goal.returns-in-Map-clause-read
 returns-in-Map-clause-read g c =
     step_map _ _ (λ l bs rest. number_behind (c.args.first % 32) bs ≡ Ok (c.in_ok-n.n, rest)) _ (λ l bs rest is. first_is c.args.first bs rest c.in_ok-n.n Map (λ e. absurd cc) c.if-low-eq-INDEFINITE.false c.in-Map.ensures is) c.in_ok-n.ensures.read
 
-pub returns-in_default-major-clause-read : goal.returns-in_default-major-clause-read
-returns-in_default-major-clause-read g c =
-    let d = c.in_default-major in
-    let six = is_tag c.of-major.result c.in_default.not-Simple d.not-UnsignedInteger d.not-NegativeInteger d.not-ByteString d.not-TextString d.not-Array d.not-Map in
+pub returns-in_default-major-2-clause-read : goal.returns-in_default-major-2-clause-read
+returns-in_default-major-2-clause-read g c =
+    let d = c.in_default-major-2 in
+    let six = is_tag c.of-major.result c.in_default-major.not-Simple d.not-UnsignedInteger d.not-NegativeInteger d.not-ByteString d.not-TextString d.not-Array d.not-Map in
     step_map _ _ (λ l bs rest. number_behind (c.args.first % 32) bs ≡ Ok (c.in_ok-n.n, rest)) _ (λ l bs rest is. first_is c.args.first bs rest c.in_ok-n.n Tag (λ e. absurd cc) c.if-low-eq-INDEFINITE.false (sym six ∙ c.of-major.ensures) is) c.in_ok-n.ensures.read

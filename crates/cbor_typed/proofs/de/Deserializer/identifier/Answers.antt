@@ -1,10 +1,12 @@
 use Rattle.std.proofs.Common.{◌≡◌, ◌∙◌, ℕ, Option, Ok, Result, subst}
 use Rattle.std.proofs.lemmas.Result.{err_from_is_err_and}
+use Rattle.cbor_io.specs.Error.{code_of, offset_of}
 use Rattle.cbor_de.specs.declared.head.Head.{Head}
-use Rattle.cbor_typed.specs.Identifiers.{texts}
+use Rattle.cbor_typed.specs.Identifiers.{texts, IsIdentifier}
 use Rattle.cbor_typed.specs.Opens.{OpensItem}
 use Rattle.cbor_typed.specs.Takes.{formats_of}
-use Rattle.cbor_typed.proofs.Identifiers.{number_names, text_names, text_refused, bytes_read, other_refused}
+use Rattle.cbor_typed.proofs.Lending.{text_refuses}
+use Rattle.cbor_typed.proofs.Identifiers.{number_names, text_names, bytes_read, other_refused}
 use Rattle.cbor_typed.proofs.de.Deserializer.identifier.Goals as goal
 
 pub returns-in-Unsigned-clause-read : goal.returns-in-Unsigned-clause-read
@@ -38,7 +40,7 @@ returns-in_err-text_name-in-Text-clause-read g c =
     let s = g.R.Source.source old.source in
     let m = g.R.Source.source u.source in
     let opened = subst (λ (h : Head). OpensItem g.R.Source.refusals f old.levels s m u.refusal (Ok h)) c.in-Text.is c.in_ok-head.ensures.read in
-    rw (passed.1, passed.2) (λ e made. text_refused (texts c.args.names.now) g.R.Source.refusals f g.R.Source.lends old.levels s m u.refusal c.in-Text.n e opened (c.in_err-text_name-in-Text.ensures.read e made))
+    rw (passed.1, passed.2) (λ e made. text_refuses g.R.Source.refusals f g.R.Source.lends old.levels s m u.refusal (IsIdentifier (texts c.args.names.now)) c.in-Text.n (code_of e) (offset_of e) opened (c.in_err-text_name-in-Text.ensures.read e made))
 
 pub returns-in-Bytes-clause-read : goal.returns-in-Bytes-clause-read
 returns-in-Bytes-clause-read g c =

@@ -14,23 +14,13 @@ use Rattle.cbor_de.specs.declared.head.Head.TheVariants as head
 use Rattle.cbor_de.specs.Gives.{Step}
 use Rattle.cbor_typed.specs.Opens.{OpensItem}
 use Rattle.cbor_typed.specs.Takes.{formats_of, raws, IsRead}
-use Rattle.cbor_typed.proofs.Contents.{text_takes, text_stops, text_none, bytes_takes, bytes_stops, bytes_bad, not_string, none_at, none_there}
+use Rattle.cbor_typed.proofs.Lending.{text_refuses}
+use Rattle.cbor_typed.proofs.Contents.{text_takes, bytes_takes, bytes_stops, bytes_bad, not_string, none_at, none_there}
 use Rattle.cbor_typed.proofs.de.Deserializer.string.Goals as goal
 
 -- what a String is read from
 abbrev reads : Raw → String Global → Type 0
 reads r s = IsText r (string_bytes s)
-
-pub returns-in_err-bytes-in-Text-clause-read : goal.returns-in_err-bytes-in-Text-clause-read
-returns-in_err-bytes-in-Text-clause-read g c =
-    let p = err_from_is_err_and c.from_residual-in_err-bytes-in-Text.result c.from_residual-in_err-bytes-in-Text.ensures.1 in
-    let u = c.scalar.new.self.items in
-    let levels = c.args.self.now.items.levels in
-    let f = formats_of c.args.self.now.items.formats in
-    let s = g.R.Source.source c.args.self.now.items.source in
-    let m = g.R.Source.source u.source in
-    let opened = subst (λ (h : Head). OpensItem g.R.Source.refusals f levels s m u.refusal (Ok h)) c.in-Text.is c.in_ok-head.ensures.read in
-    rw (p.1, p.2) (λ e is. text_stops g.R.Source.refusals f reads levels s m u.refusal c.in-Text.n opened _ c.text.new.self.items.refusal e is c.in_err-bytes-in-Text.ensures.read)
 
 pub returns-in_err-text-in-Text-clause-read : goal.returns-in_err-text-in-Text-clause-read
 returns-in_err-text-in-Text-clause-read g c =
@@ -40,9 +30,8 @@ returns-in_err-text-in-Text-clause-read g c =
     let f = formats_of c.args.self.now.items.formats in
     let s = g.R.Source.source c.args.self.now.items.source in
     let m = g.R.Source.source u.source in
-    let t = g.R.Source.source c.text.new.self.items.source in
     let opened = subst (λ (h : Head). OpensItem g.R.Source.refusals f levels s m u.refusal (Ok h)) c.in-Text.is c.in_ok-head.ensures.read in
-    rw (p.1, p.2) (λ e is. text_none g.R.Source.refusals f reads levels s m u.refusal c.in-Text.n opened t c.in_ok-bytes-in-Text.bytes.items t.offset e (c.in_err-text-in-Text.ensures.read e is) c.in_ok-bytes-in-Text.ensures.read)
+    rw (p.1, p.2) (λ e is. text_refuses g.R.Source.refusals f g.R.Source.lends levels s m u.refusal reads c.in-Text.n (code_of e) (offset_of e) opened (c.in_err-text-in-Text.ensures.read e is))
 
 pub returns-in-Text-clause-read : goal.returns-in-Text-clause-read
 returns-in-Text-clause-read g c =
@@ -55,9 +44,7 @@ returns-in-Text-clause-read g c =
     let x = c.in_ok-text-in-Text.text in
     let is = c.in_ok-text-in-Text.ensures.read in
     let opened = subst (λ (h : Head). OpensItem g.R.Source.refusals f levels s m u.refusal (Ok h)) c.in-Text.is c.in_ok-head.ensures.read in
-    let took : Step s t (λ l bs rest. IsRead (PassesTags reads) (item_at (raws f l) levels bs) x rest) = text_takes g.R.Source.refusals f reads levels s m u.refusal c.in-Text.n opened t c.in_ok-bytes-in-Text.bytes.items x
-    (λ r string utf8 lent. (subst (IsString r) (sym is.0) string, subst IsUtf8 (sym is.0) utf8)) is.1 c.in_ok-bytes-in-Text.ensures.read in
-    rw c.in_ok-text-in-Text.ensures.source took
+    text_takes g.R.Source.refusals f reads levels s m u.refusal c.in-Text.n opened t (string_bytes x) x (λ r string utf8 lent. (string, utf8)) is.1 is.0
 
 pub returns-in_err-bytes-in-Bytes-clause-read : goal.returns-in_err-bytes-in-Bytes-clause-read
 returns-in_err-bytes-in-Bytes-clause-read g c =
