@@ -3,6 +3,7 @@ pub mod Calls
 pub mod Peeked
 pub mod Ended
 pub mod Heads
+pub mod ShortTexts
 pub mod Chunk
 pub mod Chunks
 pub mod Items

@@ -89,6 +89,10 @@ head_of simple = simple_head
 unfoldable pub head_at : ℕ → List ℕ → Reads (HeadWidth × Head)
 head_at b bs = head_of (major_of (b / 32)) (b % 32) bs
 
+-- a head, with its width
+abbrev pub opening_at : List ℕ → Reads (HeadWidth × Head)
+opening_at bs = byte_at bs >>= (λ b. head_at b.0 b.1)
+
 -- a head was read, of some width; or why not
 abbrev pub HeadGives : (ReadErrorCode → Bool) → (List ℕ → Reads (HeadWidth × Head)) → Input → Input
     → Option ReadError → Result Head Refused → Type 0

@@ -1,12 +1,14 @@
 //! Heads: what an item's first bytes say of it (RFC 7049, section 2).
 
-ghost use Rattle.std.specs.Prelude.{◌≡◌, length, IfErr, IsSomeAnd, OnErr, OnOk};
+ghost use Rattle.std.specs.Prelude.{◌≡◌, length, IfErr, IsSomeAnd, MatchOption, OnErr, OnOk};
+ghost use Rattle.std.specs.Prelude.{Ok, Some};
 ghost use Rattle.std.specs.Int.{w8, w16, w32, w64};
 ghost use Rattle.cbor_model.specs.Reader.{number_at, number_behind};
 ghost use Rattle.cbor_model.specs.Major.{major_of};
 ghost use Rattle.cbor_io.specs.Head.{major_number};
 ghost use Rattle.cbor_de.specs.Gives.{Gives, Keeps, TellsNoKey};
-ghost use Rattle.cbor_de.specs.Heads.{HeadGives, head_at, head_of, simple_head};
+ghost use Rattle.cbor_de.specs.Heads.{HeadGives, opening_at, head_at, head_of, simple_head};
+ghost use Rattle.cbor_de.specs.declared.head.Head.TheVariants.{Text};
 ghost use Rattle.cbor_io.specs.Source.{TookKept, RefusedInto};
 ghost use Rattle.cbor_de.specs.declared.refusal.Refused.TheVariants.{Kept};
 
@@ -48,6 +50,26 @@ pub enum Head {
 }
 
 impl<R: Source> Deserializer<R> {
+    /// Takes the head of a text of up to 23 bytes, which most names are, and answers how many. None
+    /// where another head comes, or no byte is at hand; then nothing is taken.
+    #[inline(always)]
+    #[tactic(auto, using(crate::proofs::ShortTexts::short_text_step))]
+    pub fn short_text(&mut self) -> Option<u64>
+        ensures read { MatchOption result (R.source self.new.source ≡ R.source self.old.source)
+            (λ n. HeadGives R.refusals opening_at (R.source self.old.source)
+            (R.source self.new.source) self.new.refusal (Ok (Text (Some n)))) }
+        ensures levels { self.new.levels ≡ self.old.levels }
+        ensures formats { self.new.formats ≡ self.old.formats }
+    {
+        match self.source.ahead().first().copied() {
+            Some(first @ 0x60..=0x77) => {
+                self.source.advance(1);
+                Some((first - 0x60) as u64)
+            }
+            _ => None,
+        }
+    }
+
     /// Takes the rest of a head behind its first byte.
     #[inline(always)]
     pub fn head(&mut self, first: u8) -> Done<Head>

@@ -11,11 +11,10 @@ use Rattle.cbor_model.specs.Value.{value}
 use Rattle.cbor_model.specs.Reader.{Reads, ◌>>=◌, Parts, Remaining, go_on, next_at, parts_by, parts_at, key_at, pair_at, items_of, pairs_of, bytes_at, chunks_at, string_at, checked_text, text_at, string_chunks_at, text_chunks_at, array_at, map_at, tag_at, item_at, inside}
 use Rattle.cbor_value.specs.declared.Float.TheVariants.{Half, Single, Double}
 use Rattle.cbor_de.specs.Gives.{Limits, values}
-use Rattle.cbor_de.specs.Heads.{behind_head}
+use Rattle.cbor_de.specs.Heads.{opening_at, behind_head}
 use Rattle.cbor_de.specs.declared.head.Head.{Head}
 use Rattle.cbor_de.specs.declared.head.Head.TheVariants as head
 use Rattle.cbor_typed.specs.Takes.{raws}
-use Rattle.cbor_typed.specs.Opens.{opening_at}
 use Rattle.cbor_typed.proofs.Opening.{item_opened}
 
 -- what is read, seen by h

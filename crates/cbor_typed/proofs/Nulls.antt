@@ -19,7 +19,7 @@ use Rattle.cbor_io.specs.declared.read.read_error.ReadError.{ReadError}
 use Rattle.cbor_io.specs.declared.read.read_error.ReadErrorCode.{ReadErrorCode}
 use Rattle.cbor_value.specs.declared.Float.TheVariants.{Half, Single, Double}
 use Rattle.cbor_de.specs.Gives.{Limits, limits, Step, Stopped, IsErrorOf, Gives}
-use Rattle.cbor_de.specs.Heads.{head_at, head_of, number_head, length_head, simple_head, behind_head}
+use Rattle.cbor_de.specs.Heads.{opening_at, head_at, head_of, number_head, length_head, simple_head, behind_head}
 use Rattle.cbor_de.specs.declared.head.Head.{Head}
 use Rattle.cbor_de.specs.declared.head.Head.TheVariants as head
 use Rattle.cbor_de.specs.declared.cursor.Remaining.TheVariants.{Counted, ToBreak}
@@ -28,7 +28,6 @@ use Rattle.cbor_de.proofs.facts.Steps.{step_map, step_then, stopped_then, stoppe
 use Rattle.cbor_typed.specs.Kinds.{kind_of, head_kind}
 use Rattle.cbor_typed.specs.Kinds as kind
 use Rattle.cbor_typed.specs.Takes.{raws, IsRead, IsNotRead, Refuses, TakesItem, ExcusedBy}
-use Rattle.cbor_typed.specs.Opens.{opening_at}
 use Rattle.cbor_typed.specs.Options.{null_at}
 use Rattle.cbor_typed.proofs.OfKind.{kinds}
 use Rattle.cbor_typed.proofs.Opening.{item_opened}

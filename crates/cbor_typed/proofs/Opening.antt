@@ -9,7 +9,7 @@ use Rattle.cbor_io.specs.Source.{Input}
 use Rattle.cbor_io.specs.declared.read.read_error.ReadError.{ReadError}
 use Rattle.cbor_io.specs.declared.read.read_error.ReadErrorCode.{ReadErrorCode}
 use Rattle.cbor_de.specs.Gives.{Limits, Step, Stopped}
-use Rattle.cbor_de.specs.Heads.{head_at, behind_head}
+use Rattle.cbor_de.specs.Heads.{opening_at, head_at, behind_head}
 use Rattle.cbor_de.specs.declared.head.Head.{Head}
 use Rattle.cbor_de.specs.declared.head.Head.TheVariants as head
 use Rattle.cbor_de.specs.declared.refusal.Refused.{Refused}
@@ -18,7 +18,7 @@ use Rattle.cbor_de.proofs.facts.Steps.{step_map, step_then, stopped_map, stopped
 use Rattle.cbor_typed.specs.Kinds.{head_kind}
 use Rattle.cbor_typed.specs.Kinds as kind
 use Rattle.cbor_typed.specs.Takes.{raws}
-use Rattle.cbor_typed.specs.Opens.{in_tags, opening_at, Opens, item_inside, OpensAt}
+use Rattle.cbor_typed.specs.Opens.{in_tags, Opens, item_inside, OpensAt, OpensItem}
 
 module _ {Item Items Pairs : Type 0} (m : Reading Item Items Pairs) where
   abbrev behind : Option (List ℕ → Reads Item) → (HeadWidth × Head) × List ℕ → Reads Item
@@ -108,6 +108,10 @@ inside_opens allowed f s t u levels inner left kept (Err r) is at stops =
 -- ---- kinds
 
 -- a head that is no tag
+-- a short text is within no tag
+pub text_opened : (allowed : ReadErrorCode → Bool) (f : Formats) (s t : Input) (levels n : ℕ) (kept : Option ReadError) → Step s t (λ l bs rest. (w : HeadWidth) × (opening_at bs ≡ Ok ((w, head.Text (Some n)), rest))) → OpensItem allowed f levels s t kept (Ok (head.Text (Some n)))
+text_opened allowed f s t levels n kept step = (levels, head_opens f s t levels levels (head.Text (Some n)) (λ e. absurd cc) refl step)
+
 pub no_tag : (h : Head) → ((n : ℕ) → h ≡ head.Tag n → ⊥) → head_kind h ≡ kind.tag → ⊥
 no_tag (head.Unsigned n) other e = absurd cc
 no_tag (head.Negative n) other e = absurd cc

@@ -13,7 +13,7 @@ use Rattle.cbor_model.specs.Reader as reader
 use Rattle.cbor_model.proofs.facts.Reader.{ok_is}
 use Rattle.cbor_value.specs.declared.Float.TheVariants.{Half, Single, Double}
 use Rattle.cbor_de.specs.Gives.{Limits}
-use Rattle.cbor_de.specs.Heads.{head_at, head_of, number_head, length_head, simple_head, behind_head, length_of, remaining_of}
+use Rattle.cbor_de.specs.Heads.{opening_at, head_at, head_of, number_head, length_head, simple_head, behind_head, length_of, remaining_of}
 use Rattle.cbor_de.specs.declared.head.Head.{Head}
 use Rattle.cbor_de.specs.declared.head.Head.TheVariants as head
 use Rattle.cbor_de.specs.declared.cursor.Remaining.{Remaining}
@@ -23,7 +23,6 @@ use Rattle.cbor_typed.specs.Enums.{IsVariant, IsName, Content, alone, reads_name
 use Rattle.cbor_typed.specs.Identifiers.{IsIdentifier}
 use Rattle.cbor_typed.specs.Kinds.{kind_of, head_kind}
 use Rattle.cbor_typed.specs.Kinds as kind
-use Rattle.cbor_typed.specs.Opens.{opening_at}
 use Rattle.cbor_typed.specs.Tags.{begins_tag, tag_first_at}
 use Rattle.cbor_typed.specs.Takes.{raws, IsNotRead, IsRead}
 use Rattle.cbor_typed.specs.Variants.{HasShape, HasNoTag, IsAlone, shape_of, reads_shape}

@@ -3,12 +3,12 @@ use Rattle.std.specs.Prelude.{◌≡◌, ℕ, List, [], ◌∷◌, Option, Bool,
 use Rattle.cbor_model.specs.Formats.{Formats}
 use Rattle.cbor_model.specs.Head.{HeadWidth}
 use Rattle.cbor_model.specs.Raw.{Raw, tag}
-use Rattle.cbor_model.specs.Reader.{Reads, ◌>>=◌, byte_at, item_at, inside, within}
+use Rattle.cbor_model.specs.Reader.{Reads, ◌>>=◌, item_at, inside, within}
 use Rattle.cbor_io.specs.declared.read.read_error.ReadError.{ReadError}
 use Rattle.cbor_io.specs.declared.read.read_error.ReadErrorCode.{ReadErrorCode}
 use Rattle.cbor_io.specs.Source.{Input}
 use Rattle.cbor_de.specs.Gives.{Limits, Step, Stopped}
-use Rattle.cbor_de.specs.Heads.{head_at, behind_head}
+use Rattle.cbor_de.specs.Heads.{behind_head}
 use Rattle.cbor_de.specs.declared.head.Head.{Head}
 use Rattle.cbor_de.specs.declared.refusal.Refused.{Refused}
 use Rattle.cbor_typed.specs.Kinds.{head_kind}
@@ -23,10 +23,6 @@ tagged (t ∷ ts) r = tag t.0 t.1 (tagged ts r)
 -- what is read of an item within these tags
 abbrev pub in_tags : List (HeadWidth × ℕ) → Reads Raw → Reads Raw
 in_tags ts read = read >>= (λ r. Ok (tagged ts r.0, r.1))
-
--- a head, with its width
-abbrev pub opening_at : List ℕ → Reads (HeadWidth × Head)
-opening_at bs = byte_at bs >>= (λ b. head_at b.0 b.1)
 
 -- The reading goes on behind the head of the item within all tags, where so many levels are left.
 pub record Opens (f : Formats) (l : Limits) (read : Reads Raw) (left : ℕ) (h : Head) (rest : List ℕ) : Type 0 where

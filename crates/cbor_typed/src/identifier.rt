@@ -281,6 +281,24 @@ impl<'de, R: Read<'de>> Deserializer<R> {
         ensures levels { self.new.items.levels ≡ self.old.items.levels }
         ensures formats { self.new.items.formats ≡ self.old.items.formats }
     {
+        match self.items.short_text() {
+            Some(n) => Ok(self.definite_name(names, n)?),
+            None => self.any_identifier(names),
+        }
+    }
+
+    // The same, whatever begins there.
+    #[inline(never)]
+    fn any_identifier(&mut self, names: &[&str]) -> Named<Option<usize>>
+        ensures read { OnceMade (IsMadeBy self.new.items.refusal)
+            (TakesItem R.refusals (formats_of self.old.items.formats)
+            (PassesTags (IsIdentifier (texts names.now))) self.old.items.levels
+            (R.source self.old.items.source) (R.source self.new.items.source)) result }
+        ensures below { IfOk result (λ place. IfSome place (λ i. i < length names.now)) }
+        ensures no_key { IfErr result (NamesNoKey self.new.items.refusal) }
+        ensures levels { self.new.items.levels ≡ self.old.items.levels }
+        ensures formats { self.new.items.formats ≡ self.old.items.formats }
+    {
         let head = self.scalar()?;
         match head {
             Head::Unsigned(n) => Ok(place_of_number(names, n)),

@@ -3,8 +3,8 @@
 ghost use Rattle.std.specs.Prelude.{◌≡◌, ◌≤◌, IfErr, OnOk};
 ghost use Rattle.cbor_model.specs.Reader.{item_at};
 ghost use Rattle.cbor_de.specs.Gives.{TellsNoKey};
-ghost use Rattle.cbor_de.specs.Heads.{HeadGives};
-ghost use Rattle.cbor_typed.specs.Opens.{OpensAt, opening_at, item_inside};
+ghost use Rattle.cbor_de.specs.Heads.{HeadGives, opening_at};
+ghost use Rattle.cbor_typed.specs.Opens.{OpensAt, item_inside};
 ghost use Rattle.cbor_typed.specs.Takes.{formats_of, raws};
 
 use crate::de::Deserializer;

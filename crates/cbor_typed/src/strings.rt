@@ -83,22 +83,6 @@ impl<R: Source> Deserializer<R> {
         }
     }
 
-    // Takes a text behind its head.
-    #[inline(always)]
-    fn text(&mut self, n: Option<u64>) -> Done<String>
-        ensures read { TakesText R.refusals (λ s. string_bytes s) (Text n)
-            (R.source self.old.items.source) (R.source self.new.items.source)
-            self.new.items.refusal result }
-        ensures no_key { IfErr result (TellsNoKey self.new.items.refusal) }
-        ensures levels { self.new.items.levels ≡ self.old.items.levels }
-        ensures formats { self.new.items.formats ≡ self.old.items.formats }
-    {
-        match n {
-            Some(n) => self.definite_text(n),
-            None => self.text_asked_for(None),
-        }
-    }
-
     // Takes a text of n bytes behind its head. It is copied once it is known to be UTF-8.
     #[inline(always)]
     fn definite_text(&mut self, n: u64) -> Done<String>
@@ -128,7 +112,7 @@ impl<R: Source> Deserializer<R> {
         self.text_asked_for(Some(n))
     }
 
-    // The same, where its bytes aren't at hand.
+    // Takes a text behind its head; its bytes need not be at hand.
     #[inline(never)]
     fn text_asked_for(&mut self, n: Option<u64>) -> Done<String>
         ensures read { TakesText R.refusals (λ s. string_bytes s) (Text n)
@@ -153,10 +137,28 @@ impl<R: Source> Deserializer<R> {
         ensures levels { self.new.items.levels ≡ self.old.items.levels }
         ensures formats { self.new.items.formats ≡ self.old.items.formats }
     {
+        if let Some(n) = self.items.short_text() {
+            let text = self.definite_text(n)?;
+            return Ok(Some(text));
+        }
+        self.any_string()
+    }
+
+    // The same, whatever begins there.
+    #[inline(always)]
+    fn any_string(&mut self) -> Done<Option<String>>
+        ensures read { SeeksItem R.refusals (formats_of self.old.items.formats)
+            (PassesTags (λ r s. IsText r (string_bytes s))) self.old.items.levels
+            (R.source self.old.items.source) (R.source self.new.items.source)
+            self.new.items.refusal result }
+        ensures no_key { IfErr result (TellsNoKey self.new.items.refusal) }
+        ensures levels { self.new.items.levels ≡ self.old.items.levels }
+        ensures formats { self.new.items.formats ≡ self.old.items.formats }
+    {
         let head = self.scalar()?;
         match head {
             Head::Text(n) => {
-                let text = self.text(n)?;
+                let text = self.text_asked_for(n)?;
                 Ok(Some(text))
             }
             Head::Bytes(n) => {

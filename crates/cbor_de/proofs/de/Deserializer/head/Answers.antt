@@ -1,23 +1,18 @@
-use Rattle.std.proofs.Common.{◌≡◌, ◌∙◌, ◌-◌, ◌/◌, ◌%◌, ℕ, Ok, sym, ap, arith, ltb, true}
+use Rattle.std.proofs.Common.{◌≡◌, ◌∙◌, ◌%◌, ℕ, Ok, sym, ap, arith}
 use Rattle.std.proofs.lemmas.Result.{err_from_is_err_and}
-use Rattle.std.proofs.lemmas.Bool.{lt-ltb}
 use Rattle.cbor_model.specs.Major.{major_of}
 use Rattle.cbor_model.specs.Reader.{number_behind}
 use Rattle.cbor_io.specs.Head.{major_number}
 use Rattle.cbor_io.specs.declared.head.Major.TheVariants.{UnsignedInteger, NegativeInteger, ByteString, TextString, Array, Map, Tag}
 use Rattle.cbor_de.specs.Heads.{head_at, head_of, simple_head}
 use Rattle.cbor_de.proofs.Steps.{step_map, step_same, stopped_map, head_map}
+use Rattle.cbor_de.proofs.ShortTexts.{short_text_head}
 use Rattle.cbor_de.proofs.Heads.{is_tag, first_simple, first_indefinite, first_stops, first_is}
 use Rattle.cbor_de.proofs.de.Deserializer.head.Goals as goal
 
 pub returns-in-96-to-119-clause-read : goal.returns-in-96-to-119-clause-read
-unfolding number_behind
 returns-in-96-to-119-clause-read g c =
-    let first = c.args.first in
-    let below : ltb (first % 32) 24 ≡ true = lt-ltb (first % 32) 24 (omega (arith, c.in-96-to-119)) in
-    let low : first % 32 ≡ first - 96 = omega (arith, c.in-96-to-119) in
-    let major : 3 ≡ first / 32 = omega (arith, c.in-96-to-119) in
-    step_same _ _ (λ l bs. first_is first bs bs (first - 96) TextString (λ e. absurd cc) (λ e. absurd (omega (arith, e, c.in-96-to-119))) major (rw below (ap (λ (n : ℕ). Ok (n, bs)) low)))
+    step_same _ _ (λ l bs. short_text_head c.args.first bs (omega (arith, c.in-96-to-119)) (omega (arith, c.in-96-to-119)))
 
 pub returns-in-Simple-clause-read : goal.returns-in-Simple-clause-read
 returns-in-Simple-clause-read g c =

@@ -9,7 +9,8 @@ use Rattle.cbor_de.proofs.facts.Steps.{fault_stops}
 use Rattle.cbor_typed.specs.Takes.{formats_of, raws}
 use Rattle.cbor_model.specs.Reader.{item_at}
 use Rattle.cbor_model.specs.Formats.{Formats}
-use Rattle.cbor_typed.specs.Opens.{OpensAt, opening_at, item_inside}
+use Rattle.cbor_typed.specs.Opens.{OpensAt, item_inside}
+use Rattle.cbor_de.specs.Heads.{opening_at}
 use Rattle.cbor_typed.proofs.Opening.{no_tag, head_opens, head_stops, behind_tag, inside_too_deep, inside_opens}
 use Rattle.cbor_typed.proofs.de.Deserializer.+open.Goals as goal
 

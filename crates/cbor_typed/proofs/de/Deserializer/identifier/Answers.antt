@@ -1,64 +1,47 @@
-use Rattle.std.proofs.Common.{◌≡◌, ◌∙◌, ℕ, Option, Ok, Result, subst}
+use Rattle.std.proofs.Common.{ℕ, Some, ap, subst}
 use Rattle.std.proofs.lemmas.Result.{err_from_is_err_and}
+use Rattle.cbor_model.specs.Formats.{Formats}
+use Rattle.cbor_model.specs.Readable.{PassesTags}
 use Rattle.cbor_io.specs.Error.{code_of, offset_of}
-use Rattle.cbor_de.specs.declared.head.Head.{Head}
-use Rattle.cbor_typed.specs.Identifiers.{texts, IsIdentifier}
-use Rattle.cbor_typed.specs.Opens.{OpensItem}
-use Rattle.cbor_typed.specs.Takes.{formats_of}
+use Rattle.cbor_io.specs.Source.{Input}
+use Rattle.cbor_typed.specs.Identifiers.{texts, IsIdentifier, IsMadeBy}
+use Rattle.cbor_typed.specs.Takes.{formats_of, OnceMade, TakesItem}
+use Rattle.cbor_typed.proofs.Opening.{text_opened}
 use Rattle.cbor_typed.proofs.Lending.{text_refuses}
-use Rattle.cbor_typed.proofs.Identifiers.{number_names, text_names, bytes_read, other_refused}
+use Rattle.cbor_typed.proofs.Identifiers.{text_names}
 use Rattle.cbor_typed.proofs.de.Deserializer.identifier.Goals as goal
 
-pub returns-in-Unsigned-clause-read : goal.returns-in-Unsigned-clause-read
-returns-in-Unsigned-clause-read g c =
+pub returns-in_err-definite_name-in-Some-clause-read : goal.returns-in_err-definite_name-in-Some-clause-read
+returns-in_err-definite_name-in-Some-clause-read g c =
+    let passed = err_from_is_err_and c.from_residual.result c.from_residual.ensures.1 in
     let old = c.args.self.now.items in
-    let u = c.scalar.new.self.items in
+    let u = c.short_text.new.self in
     let f = formats_of old.formats in
     let s = g.R.Source.source old.source in
     let m = g.R.Source.source u.source in
-    let opened = subst (λ (h : Head). OpensItem g.R.Source.refusals f old.levels s m u.refusal (Ok h)) c.in-Unsigned.is c.in_ok-head.ensures.read in
-    number_names (texts c.args.names.now) g.R.Source.refusals f g.R.Source.lends old.levels s m u.refusal c.in-Unsigned.n c.place_of_number.result c.place_of_number.ensures.place opened
+    let opened = text_opened g.R.Source.refusals f s m old.levels c.in-Some.n u.refusal c.in-Some.ensures.read in
+    rw (passed.1, passed.2) (λ e made. text_refuses g.R.Source.refusals f g.R.Source.lends old.levels s m u.refusal (IsIdentifier (texts c.args.names.now)) (Some c.in-Some.n) (code_of e) (offset_of e) opened (c.in_err-definite_name-in-Some.ensures.read e made))
 
-pub returns-in_ok-text_name-in-Text-clause-read : goal.returns-in_ok-text_name-in-Text-clause-read
-returns-in_ok-text_name-in-Text-clause-read g c =
+pub returns-in_ok-definite_name-in-Some-clause-read : goal.returns-in_ok-definite_name-in-Some-clause-read
+returns-in_ok-definite_name-in-Some-clause-read g c =
     let old = c.args.self.now.items in
-    let u = c.scalar.new.self.items in
+    let u = c.short_text.new.self in
     let f = formats_of old.formats in
     let s = g.R.Source.source old.source in
     let m = g.R.Source.source u.source in
-    let t = g.R.Source.source c.text_name.new.self.items.source in
-    let opened = subst (λ (h : Head). OpensItem g.R.Source.refusals f old.levels s m u.refusal (Ok h)) c.in-Text.is c.in_ok-head.ensures.read in
-    let named = c.in_ok-text_name-in-Text.ensures.read in
-    text_names (texts c.args.names.now) g.R.Source.refusals f g.R.Source.lends old.levels s m u.refusal c.in-Text.n t named.0 c.in_ok-text_name-in-Text.field-0 named.1 named.2 opened named.3
+    let t = g.R.Source.source c.definite_name.new.self.items.source in
+    let opened = text_opened g.R.Source.refusals f s m old.levels c.in-Some.n u.refusal c.in-Some.ensures.read in
+    let named = c.in_ok-definite_name-in-Some.ensures.read in
+    text_names (texts c.args.names.now) g.R.Source.refusals f g.R.Source.lends old.levels s m u.refusal (Some c.in-Some.n) t named.0 c.in_ok-definite_name-in-Some.field-0 named.1 named.2 opened named.3
 
-pub returns-in_err-text_name-in-Text-clause-read : goal.returns-in_err-text_name-in-Text-clause-read
-returns-in_err-text_name-in-Text-clause-read g c =
-    let passed = err_from_is_err_and c.from_residual-in_err-text_name-in-Text.result c.from_residual-in_err-text_name-in-Text.ensures.1 in
+pub returns-in-None-clause-read : goal.returns-in-None-clause-read
+returns-in-None-clause-read g c =
     let old = c.args.self.now.items in
-    let u = c.scalar.new.self.items in
-    let f = formats_of old.formats in
-    let s = g.R.Source.source old.source in
-    let m = g.R.Source.source u.source in
-    let opened = subst (λ (h : Head). OpensItem g.R.Source.refusals f old.levels s m u.refusal (Ok h)) c.in-Text.is c.in_ok-head.ensures.read in
-    rw (passed.1, passed.2) (λ e made. text_refuses g.R.Source.refusals f g.R.Source.lends old.levels s m u.refusal (IsIdentifier (texts c.args.names.now)) c.in-Text.n (code_of e) (offset_of e) opened (c.in_err-text_name-in-Text.ensures.read e made))
-
-pub returns-in-Bytes-clause-read : goal.returns-in-Bytes-clause-read
-returns-in-Bytes-clause-read g c =
-    let old = c.args.self.now.items in
-    let u = c.scalar.new.self.items in
-    let new = c.bytes_name.new.self.items in
-    let f = formats_of old.formats in
-    let s = g.R.Source.source old.source in
-    let m = g.R.Source.source u.source in
+    let u = c.short_text.new.self in
+    let new = c.any_identifier.new.self.items in
+    let s = g.R.Source.source u.source in
     let t = g.R.Source.source new.source in
-    let opened = subst (λ (h : Head). OpensItem g.R.Source.refusals f old.levels s m u.refusal (Ok h)) c.in-Bytes.is c.in_ok-head.ensures.read in
-    bytes_read (texts c.args.names.now) g.R.Source.refusals f g.R.Source.lends old.levels s m u.refusal c.in-Bytes.n t new.refusal c.bytes_name.result opened c.bytes_name.ensures.read
-
-pub returns-in_default-clause-read : goal.returns-in_default-clause-read
-returns-in_default-clause-read g c =
-    let old = c.args.self.now.items in
-    let u = c.scalar.new.self.items in
-    let f = formats_of old.formats in
-    let s = g.R.Source.source old.source in
-    let m = g.R.Source.source u.source in
-    λ e made. other_refused (texts c.args.names.now) g.R.Source.refusals f g.R.Source.lends old.levels s m u.refusal c.in_ok-head.head e c.in_default.not-Unsigned c.in_default.not-Text c.in_default.not-Bytes c.in_ok-head.ensures.read
+    let identifier = PassesTags (IsIdentifier (texts c.args.names.now)) in
+    subst (λ (x : Input). OnceMade (IsMadeBy new.refusal) (TakesItem g.R.Source.refusals (formats_of old.formats) identifier old.levels x t) c.any_identifier.result) c.in-None.ensures.read
+    (subst (λ (n : ℕ). OnceMade (IsMadeBy new.refusal) (TakesItem g.R.Source.refusals (formats_of old.formats) identifier n s t) c.any_identifier.result) c.in-None.ensures.levels
+    (subst (λ (k : Formats). OnceMade (IsMadeBy new.refusal) (TakesItem g.R.Source.refusals k identifier u.levels s t) c.any_identifier.result) (ap formats_of c.in-None.ensures.formats) c.any_identifier.ensures.read))

@@ -4,7 +4,8 @@ use Rattle.cbor_model.specs.Formats.{Formats}
 use Rattle.cbor_model.specs.Head.{HeadWidth}
 use Rattle.cbor_de.specs.Gives.{Step}
 use Rattle.cbor_de.specs.declared.head.Head.{Head}
-use Rattle.cbor_typed.specs.Opens.{OpensInside, opening_at}
+use Rattle.cbor_typed.specs.Opens.{OpensInside}
+use Rattle.cbor_de.specs.Heads.{opening_at}
 use Rattle.cbor_typed.specs.Takes.{formats_of}
 use Rattle.cbor_typed.proofs.Opening.{no_tag, head_opens, head_stops, behind_tag}
 use Rattle.cbor_typed.proofs.de.Deserializer.scalar.Goals as goal
