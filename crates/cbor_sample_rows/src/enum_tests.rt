@@ -1,7 +1,7 @@
 //! Enums, read up to their variant and then by their content.
 
-use crate::enums::Bar;
 use crate::rows::{Done, ends, gives, has_all_levels, is_read, is_refused, refuses};
+use cbor_samples::enums::Bar;
 use serde_cbor::de::SliceRead;
 use serde_cbor::{Deserializer, Error, Result as Answer, from_reader};
 use std::alloc::Global;

@@ -1,7 +1,7 @@
 //! Structs, read field by field.
 
 use crate::rows::{Done, ends, gives, has_all_levels, is_read, is_refused, refuses};
-use crate::structs::User;
+use cbor_samples::structs::User;
 use serde_cbor::de::{Field, SliceRead};
 use serde_cbor::{
     Deserializer, Result as Read, from_mut_slice, from_reader, from_slice_with_scratch,

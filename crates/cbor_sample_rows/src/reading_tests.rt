@@ -1,8 +1,8 @@
 //! What was written of the samples is read again, and other spellings of them.
 
-use crate::enums::{Bar, Color, DataEnum, TwoVariants};
 use crate::rows::{Done, is_named, is_packed, is_read, is_refused, refuses};
-use crate::structs::{Example, Foo, Mascot, NewtypeStruct, Person, SmallStruct, User};
+use cbor_samples::enums::{Bar, Color, DataEnum, TwoVariants};
+use cbor_samples::structs::{Example, Foo, Mascot, NewtypeStruct, Person, SmallStruct, User};
 use serde_cbor::de::{Deserialize, SliceRead};
 use serde_cbor::ser::Serialize;
 use serde_cbor::{Deserializer, from_reader, from_slice, from_slice_with_scratch, to_vec};

@@ -1,12 +1,12 @@
 //! Types that users write, and their bytes.
 
-use crate::counter::Counter;
-use crate::enums::{Bar, Color, DataEnum, TwoVariants};
 use crate::rows::{Done, is_legacy, is_named, is_packed, is_packed_legacy};
-use crate::structs::{
+use cbor_samples::counter::Counter;
+use cbor_samples::enums::{Bar, Color, DataEnum, TwoVariants};
+use cbor_samples::structs::{
     Example, Foo, Mascot, NewtypeStruct, OptionalPerson, Person, SmallStruct, User,
 };
-use crate::tree::Tree;
+use cbor_tree::tree::Tree;
 use serde_cbor::ser::{IoWrite, SliceWrite};
 use serde_cbor::{to_vec, to_writer};
 use std::alloc::Global;

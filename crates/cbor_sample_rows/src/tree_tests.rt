@@ -1,7 +1,7 @@
 //! A type that contains itself, written and read.
 
 use crate::rows::{Done, is_refused};
-use crate::tree::Tree;
+use cbor_tree::tree::Tree;
 use serde_cbor::de::Deserialize;
 use serde_cbor::{Deserializer, from_reader, from_slice, to_vec};
 use std::alloc::Global;

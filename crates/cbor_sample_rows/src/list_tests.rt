@@ -1,6 +1,6 @@
 //! Lists of enums, written and read.
 
-use crate::enums::Wish;
+use cbor_samples::enums::Wish;
 use serde_cbor::{from_reader, from_slice, to_vec};
 use std::test::Fail;
 
