@@ -54,12 +54,12 @@ pub trait Offset: Source {
 /// What bytes are taken from, as far as nothing is lent.
 ///
 /// A source has bytes to come, a buffer, and an offset: how many bytes it handed out. `next`,
-/// `peek` and `discard` take or look at one byte, `ahead` and `advance` do so with those that are at
-/// hand (as those of a slice are), `read_into` takes as many as there is room for,
-/// `skip` and `skip_text` take bytes that nobody wants, and `clear_buffer` and `read_to_buffer`
-/// join parts of the input in the buffer, as the chunks of a string of indefinite length (RFC 7049,
-/// section 2.2.2). After an Err some further beginning of the bytes to come is gone, and the offset
-/// counts it.
+/// `peek` and `discard` take or look at one byte, `ahead` and `advance` do so with those that are
+/// at hand (as those of a slice are), `read_into` takes as many as there is room for, `skip` and
+/// `skip_text` take bytes that nobody wants, and `clear_buffer` and `read_to_buffer` join parts of
+/// the input in the buffer, as the chunks of a string of indefinite length (RFC 7049, section
+/// 2.2.2). After an Err some further beginning of the bytes to come is gone, and the offset counts
+/// it.
 ///
 /// ```rust
 /// let mut source = SliceRead::new(alloc, b"\x61a\x61b");

@@ -43,8 +43,8 @@ fn is_read<'a, T: Deserialize<'a, SliceRead<'a>> + PartialEq + Debug>(
     Ok(())
 }
 
-// What is read of the bytes, from each of the four sources. These promise nothing, so that a test of
-// many calls carries no facts from one to the next.
+// What is read of the bytes, from each of the four sources. These promise nothing, so that a test
+// of many calls carries no facts from one to the next.
 
 fn read<'a, T: Deserialize<'a, SliceRead<'a>>>(alloc: Global, bytes: &'a [u8]) -> Result<T, Fail> {
     Ok(from_slice::<T>(alloc, bytes)?)

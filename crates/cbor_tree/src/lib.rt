@@ -1,4 +1,5 @@
-//! A type that contains itself, as a user of `serde_cbor` writes one, with the proofs that it takes.
+//! A type that contains itself, as a user of `serde_cbor` writes one, with the proofs that it
+//! takes.
 #![tactic(auto)]
 
 pub mod tree;

@@ -66,8 +66,10 @@ impl<A: DeserializeOwned, B: DeserializeOwned> DeserializeOwned for (A, B) {
     ghost use Rattle.cbor_typed.specs.Takes.{lending};
 
     ghost same = { λ f a b r v h. as_array_same
-        (λ rs t. FirstThen (A.reads (lending f a)) t.0 (FirstThen (B.reads (lending f a)) t.1 AreNone) rs)
-        (λ rs t. FirstThen (A.reads (lending f b)) t.0 (FirstThen (B.reads (lending f b)) t.1 AreNone) rs)
+        (λ rs t. FirstThen (A.reads (lending f a)) t.0
+        (FirstThen (B.reads (lending f a)) t.1 AreNone) rs)
+        (λ rs t. FirstThen (A.reads (lending f b)) t.0
+        (FirstThen (B.reads (lending f b)) t.1 AreNone) rs)
         (λ rs t. first_then_same (A.reads (lending f a)) (A.reads (lending f b)) t.0
         (FirstThen (B.reads (lending f a)) t.1 AreNone)
         (FirstThen (B.reads (lending f b)) t.1 AreNone)
@@ -114,8 +116,12 @@ impl<A: DeserializeOwned, B: DeserializeOwned, C: DeserializeOwned> DeserializeO
     ghost use Rattle.cbor_typed.specs.Takes.{lending};
 
     ghost same = { λ f a b r v h. as_array_same
-        (λ rs t. FirstThen (A.reads (lending f a)) t.0 (FirstThen (B.reads (lending f a)) t.1 (FirstThen (C.reads (lending f a)) t.2 AreNone)) rs)
-        (λ rs t. FirstThen (A.reads (lending f b)) t.0 (FirstThen (B.reads (lending f b)) t.1 (FirstThen (C.reads (lending f b)) t.2 AreNone)) rs)
+        (λ rs t. FirstThen (A.reads (lending f a)) t.0
+        (FirstThen (B.reads (lending f a)) t.1
+        (FirstThen (C.reads (lending f a)) t.2 AreNone)) rs)
+        (λ rs t. FirstThen (A.reads (lending f b)) t.0
+        (FirstThen (B.reads (lending f b)) t.1
+        (FirstThen (C.reads (lending f b)) t.2 AreNone)) rs)
         (λ rs t. first_then_same (A.reads (lending f a)) (A.reads (lending f b)) t.0
         (FirstThen (B.reads (lending f a)) t.1 (FirstThen (C.reads (lending f a)) t.2 AreNone))
         (FirstThen (B.reads (lending f b)) t.1 (FirstThen (C.reads (lending f b)) t.2 AreNone))
@@ -174,11 +180,21 @@ impl<
     ghost use Rattle.cbor_typed.specs.Takes.{lending};
 
     ghost same = { λ f a b r v h. as_array_same
-        (λ rs t. FirstThen (A.reads (lending f a)) t.0 (FirstThen (B.reads (lending f a)) t.1 (FirstThen (C.reads (lending f a)) t.2 (FirstThen (D.reads (lending f a)) t.3 AreNone))) rs)
-        (λ rs t. FirstThen (A.reads (lending f b)) t.0 (FirstThen (B.reads (lending f b)) t.1 (FirstThen (C.reads (lending f b)) t.2 (FirstThen (D.reads (lending f b)) t.3 AreNone))) rs)
+        (λ rs t. FirstThen (A.reads (lending f a)) t.0
+        (FirstThen (B.reads (lending f a)) t.1
+        (FirstThen (C.reads (lending f a)) t.2
+        (FirstThen (D.reads (lending f a)) t.3 AreNone))) rs)
+        (λ rs t. FirstThen (A.reads (lending f b)) t.0
+        (FirstThen (B.reads (lending f b)) t.1
+        (FirstThen (C.reads (lending f b)) t.2
+        (FirstThen (D.reads (lending f b)) t.3 AreNone))) rs)
         (λ rs t. first_then_same (A.reads (lending f a)) (A.reads (lending f b)) t.0
-        (FirstThen (B.reads (lending f a)) t.1 (FirstThen (C.reads (lending f a)) t.2 (FirstThen (D.reads (lending f a)) t.3 AreNone)))
-        (FirstThen (B.reads (lending f b)) t.1 (FirstThen (C.reads (lending f b)) t.2 (FirstThen (D.reads (lending f b)) t.3 AreNone)))
+        (FirstThen (B.reads (lending f a)) t.1
+        (FirstThen (C.reads (lending f a)) t.2
+        (FirstThen (D.reads (lending f a)) t.3 AreNone)))
+        (FirstThen (B.reads (lending f b)) t.1
+        (FirstThen (C.reads (lending f b)) t.2
+        (FirstThen (D.reads (lending f b)) t.3 AreNone)))
         (λ r. A.same f a b r t.0)
         (first_then_same (B.reads (lending f a)) (B.reads (lending f b)) t.1
         (FirstThen (C.reads (lending f a)) t.2 (FirstThen (D.reads (lending f a)) t.3 AreNone))
