@@ -1,7 +1,8 @@
 //! What reading and writing answer when they refuse: a code, and an offset in the input.
 
 ghost use Rattle.std.specs.Prelude.{◌≡◌, ◌↔◌, IsTrue};
-ghost use Rattle.cbor_io.specs.Error.{code_of, offset_of, category_of, IsMessageOf, HasNoOffset};
+ghost use Rattle.cbor_io.specs.Error.{code_of, offset_of, category_of, code_text};
+ghost use Rattle.cbor_io.specs.Error.{IsMessageOf, HasNoOffset};
 ghost use Rattle.cbor_io.specs.declared.error.ErrorCode.TheVariants.{ScratchTooSmall};
 ghost use Rattle.cbor_io.specs.declared.error.ErrorCode.TheVariants.{EofWhileParsingValue};
 ghost use Rattle.cbor_io.specs.declared.error.ErrorCode.TheVariants.{OutOfMemory};
@@ -243,6 +244,33 @@ impl From<io::Error> for Error {
     }
 }
 
+impl ErrorCode {
+    // The text of a message, or the words for the code.
+    fn words(&self) -> &str
+        ensures { result.now ≡ code_text self.now }
+    {
+        match self {
+            ErrorCode::Message(text) => text,
+            ErrorCode::Io(_) => "I/O error",
+            ErrorCode::ScratchTooSmall => "Scratch buffer too small",
+            ErrorCode::EofWhileParsingValue => "EOF while parsing a value",
+            ErrorCode::EofWhileParsingArray => "EOF while parsing an array",
+            ErrorCode::EofWhileParsingMap => "EOF while parsing a map",
+            ErrorCode::LengthOutOfRange => "length out of range",
+            ErrorCode::InvalidUtf8 => "invalid UTF-8",
+            ErrorCode::UnassignedCode => "unassigned type",
+            ErrorCode::UnexpectedCode => "unexpected code",
+            ErrorCode::TrailingData => "trailing data",
+            ErrorCode::ArrayTooShort => "array too short",
+            ErrorCode::ArrayTooLong => "array too long",
+            ErrorCode::RecursionLimitExceeded => "recursion limit exceeded",
+            ErrorCode::WrongEnumFormat => "wrong enum format",
+            ErrorCode::WrongStructFormat => "wrong struct format",
+            ErrorCode::OutOfMemory => "out of memory",
+        }
+    }
+}
+
 impl fmt::Display for ErrorCode {
     ghost use Rattle.std.specs.Prelude.{Some};
     ghost use Rattle.cbor_io.specs.Error.{code_text};
@@ -252,25 +280,7 @@ impl fmt::Display for ErrorCode {
     ghost styled_output = { λ code _. Some (code_text code) };
 
     fn fmt<W: fmt::Write>(&self, f: &mut fmt::Formatter<W>) -> fmt::Result {
-        match self {
-            ErrorCode::Message(text) => f.write_str(text),
-            ErrorCode::Io(_) => f.write_str("I/O error"),
-            ErrorCode::ScratchTooSmall => f.write_str("Scratch buffer too small"),
-            ErrorCode::EofWhileParsingValue => f.write_str("EOF while parsing a value"),
-            ErrorCode::EofWhileParsingArray => f.write_str("EOF while parsing an array"),
-            ErrorCode::EofWhileParsingMap => f.write_str("EOF while parsing a map"),
-            ErrorCode::LengthOutOfRange => f.write_str("length out of range"),
-            ErrorCode::InvalidUtf8 => f.write_str("invalid UTF-8"),
-            ErrorCode::UnassignedCode => f.write_str("unassigned type"),
-            ErrorCode::UnexpectedCode => f.write_str("unexpected code"),
-            ErrorCode::TrailingData => f.write_str("trailing data"),
-            ErrorCode::ArrayTooShort => f.write_str("array too short"),
-            ErrorCode::ArrayTooLong => f.write_str("array too long"),
-            ErrorCode::RecursionLimitExceeded => f.write_str("recursion limit exceeded"),
-            ErrorCode::WrongEnumFormat => f.write_str("wrong enum format"),
-            ErrorCode::WrongStructFormat => f.write_str("wrong struct format"),
-            ErrorCode::OutOfMemory => f.write_str("out of memory"),
-        }
+        f.write_str(self.words())
     }
 }
 

@@ -156,6 +156,9 @@ impl From<io::Error> for ReadError {
     ghost from_gives = { λ fault r. (why r ≡ Io fault) × (place r ≡ 0) };
 
     fn from(error: io::Error) -> ReadError {
-        ReadError::at(ReadErrorCode::Io(error), 0)
+        ReadError {
+            code: ReadErrorCode::Io(error),
+            offset: 0,
+        }
     }
 }
