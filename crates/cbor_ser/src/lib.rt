@@ -123,12 +123,3 @@ pub fn to_writer<W: Write, T: Serialize>(alloc: Global, writer: &mut W, value: &
     let mut ser = Serializer::new(alloc, writer);
     value.serialize(&mut ser)
 }
-
-#[cfg(test)]
-mod beginning_tests;
-#[cfg(test)]
-mod rows;
-#[cfg(test)]
-mod tests;
-#[cfg(test)]
-mod to_writer_tests;

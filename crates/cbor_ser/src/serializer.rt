@@ -320,6 +320,3 @@ impl<W: Write> Serializer<W> {
         self.writer.write_all(piece)
     }
 }
-
-#[cfg(test)]
-mod tests;

@@ -74,6 +74,3 @@ pub enum Value {
 pub struct Map {
     pairs: Vec<(Value, Value)>,
 }
-
-#[cfg(test)]
-mod tests;

@@ -1,6 +1,6 @@
 use crate::rows::{Done, is_not_written, tag, text, writes};
-use crate::to_vec;
 use cbor_value::{Float, Map, Value};
+use std::alloc::{AllocError, Global};
 
 const LEAST: i128 = -1 - u64::MAX as i128;
 
@@ -73,16 +73,18 @@ fn spells_tags(rt: HostRuntime) -> Done {
 
 #[test]
 fn spells_a_long_array(rt: HostRuntime) -> Done {
-    let alloc = rt.alloc();
+    let mut want = [0xf6; 259];
+    want[..3].copy_from_slice(b"\x99\x01\x00");
+    writes(&rt, rt.alloc(), &nulls(rt.alloc(), 256)?, &want)
+}
+
+/// An array of so many nulls.
+fn nulls(alloc: Global, n: u16) -> Result<Value, AllocError> {
     let mut items = Vec::new(alloc);
-    for _ in 0..256 {
+    for _ in 0..n {
         items.push(Value::Null)?;
     }
-    let bytes = to_vec(alloc, &Value::Array(items))?;
-    assert_eq!(rt; bytes.len(), 259);
-    assert_eq!(rt; &bytes[..3], b"\x99\x01\x00".as_slice());
-    assert!(rt; bytes[3..].iter().all(|byte| *byte == 0xf6));
-    Ok(())
+    Ok(Value::Array(items))
 }
 
 #[test]

@@ -1,4 +1,4 @@
-use super::{Float, Map, Value};
+use cbor_value::{Float, Map, Value};
 use std::alloc::{AllocError, Global};
 use std::cmp::Ordering;
 use std::process::Abort;
@@ -88,8 +88,8 @@ fn keeps_one_pair_of_a_key(rt: HostRuntime) -> Done {
 /// The map of the keys from 0 below n, each to itself.
 fn counting(alloc: Global, n: u16) -> Result<Map, Fail> {
     let mut pairs = Vec::new(alloc);
-    for key in 0..n {
-        pairs.push((Value::from(key), Value::from(key)))?;
+    for key in 0..n as i128 {
+        pairs.push((Value::Integer(key), Value::Integer(key)))?;
     }
     Ok(Map::from_pairs(pairs)?)
 }
@@ -150,18 +150,20 @@ fn counts_the_keys_that_it_compares(rt: HostRuntime) -> Done {
     Ok(())
 }
 
-/// The map of pairs of small numbers lists these pairs.
-fn makes(rt: &impl Abort, alloc: Global, given: &[(u8, u8)], listed: &[(u8, u8)]) -> Done {
+/// The pairs of numbers, as values.
+fn pairs_of(alloc: Global, numbers: &[(i128, i128)]) -> Result<Vec<(Value, Value)>, AllocError> {
     let mut pairs = Vec::new(alloc);
-    for (key, value) in given {
-        pairs.push((Value::from(*key), Value::from(*value)))?;
+    for (key, value) in numbers {
+        pairs.push((Value::Integer(*key), Value::Integer(*value)))?;
     }
-    let map = Map::from_pairs(pairs)?;
-    assert_eq!(rt; map.len(), listed.len());
-    for ((key, value), wanted) in map.iter().zip(listed) {
-        assert_eq!(rt; *key, Value::from(wanted.0));
-        assert_eq!(rt; *value, Value::from(wanted.1));
-    }
+    Ok(pairs)
+}
+
+/// The map of pairs of numbers lists these pairs.
+fn makes(rt: &impl Abort, alloc: Global, given: &[(i128, i128)], listed: &[(i128, i128)]) -> Done {
+    let map = Map::from_pairs(pairs_of(alloc, given)?)?;
+    let wanted = pairs_of(alloc, listed)?;
+    assert_eq!(rt; map.iter().as_slice(), wanted.as_slice());
     Ok(())
 }
 
@@ -276,16 +278,9 @@ fn keeps_a_map_that_cannot_grow(rt: HostRuntime) -> Done {
 fn iterates_in_key_order(rt: HostRuntime) -> Done {
     let alloc = rt.alloc();
     let mut map = Map::new(alloc);
-    let pairs = vec![in alloc;
-        (Value::Integer(2), Value::Integer(0)),
-        (Value::Integer(1), Value::Integer(1)),
-        (text(alloc, "z")?, Value::Integer(2)),
-        (Value::Integer(-1), Value::Integer(3)),
-        (Value::Integer(10), Value::Integer(4)),
-    ]?;
-    for (key, value) in pairs {
-        map.insert(key, value)?;
-    }
+    put(&mut map, pairs_of(alloc, &[(2, 0), (1, 1)])?)?;
+    inserts(&rt, &mut map, text(alloc, "z")?, Value::Integer(2), None)?;
+    put(&mut map, pairs_of(alloc, &[(-1, 3), (10, 4)])?)?;
     lists_in_order(&rt, alloc, &map)?;
     removes(&rt, &mut map, 10, Some(Value::Integer(4)));
     has_len(&rt, &map, 4);
@@ -294,15 +289,18 @@ fn iterates_in_key_order(rt: HostRuntime) -> Done {
     Ok(())
 }
 
+/// Puts the pairs into the map, one after the other.
+fn put(map: &mut Map, pairs: Vec<(Value, Value)>) -> Done {
+    for (key, value) in pairs {
+        map.insert(key, value)?;
+    }
+    Ok(())
+}
+
 /// The map of the test above lists its pairs so.
 fn lists_in_order(rt: &impl Abort, alloc: Global, map: &Map) -> Done {
-    let wanted = [
-        (Value::Integer(1), Value::Integer(1)),
-        (Value::Integer(2), Value::Integer(0)),
-        (Value::Integer(10), Value::Integer(4)),
-        (Value::Integer(-1), Value::Integer(3)),
-        (text(alloc, "z")?, Value::Integer(2)),
-    ];
+    let mut wanted = pairs_of(alloc, &[(1, 1), (2, 0), (10, 4), (-1, 3)])?;
+    wanted.push((text(alloc, "z")?, Value::Integer(2)))?;
     assert_eq!(rt; map.iter().as_slice(), wanted.as_slice());
     Ok(())
 }
@@ -416,20 +414,18 @@ fn sorts_kinds(rt: HostRuntime) -> Done {
 #[test]
 fn sorts_keys(rt: HostRuntime) -> Done {
     let alloc = rt.alloc();
-    stands_sorted(
-        &rt,
-        alloc,
-        &[
-            Value::Integer(10),
-            Value::Integer(100),
-            Value::Integer(-1),
-            text(alloc, "z")?,
-            text(alloc, "aa")?,
-            Value::Array(vec![in alloc; Value::Integer(100)]?),
-            Value::Array(vec![in alloc; Value::Integer(-1)]?),
-            Value::Bool(false),
-        ],
-    )
+    let mut list = vec![in alloc; Value::Integer(10), Value::Integer(100), Value::Integer(-1)]?;
+    list.push(text(alloc, "z")?)?;
+    list.push(text(alloc, "aa")?)?;
+    list.push(array_of(alloc, 100)?)?;
+    list.push(array_of(alloc, -1)?)?;
+    list.push(Value::Bool(false))?;
+    stands_sorted(&rt, alloc, &list)
+}
+
+/// The array of this number alone.
+fn array_of(alloc: Global, i: i128) -> Result<Value, AllocError> {
+    Ok(Value::Array(vec![in alloc; Value::Integer(i)]?))
 }
 
 #[test]

@@ -1,10 +1,7 @@
-use super::Serializer;
-use crate::rows::{Done, is_refused, is_too_far_out};
-use cbor_io::write::{IoWrite, SliceWrite};
+use crate::rows::{Done, FailingWriter, is_refused, is_too_far_out};
+use cbor_ser::{IoWrite, Serializer, SliceWrite};
 use cbor_value::Float;
 use std::alloc::Global;
-use std::io;
-use std::io::ErrorKind;
 use std::process::Abort;
 
 /// What was written is this.
@@ -154,34 +151,15 @@ fn fills_a_slice(rt: HostRuntime) -> Done {
     Ok(())
 }
 
-/// A writer that fails at the call after so many.
-#[derive(Drop)]
-struct FailingWriter {
-    left: usize,
-}
-
-impl io::Write for FailingWriter {
-    fn write(&mut self, buf: &[u8]) -> io::Result<usize> {
-        if self.left == 0 {
-            return Err(io::Error::from(ErrorKind::BrokenPipe));
-        }
-        self.left -= 1;
-        Ok(buf.len())
-    }
-
-    fn flush(&mut self) -> io::Result<()> {
-        Ok(())
-    }
-}
-
 // A text is two pieces, and its head is one.
 #[test]
 fn tells_a_writers_fault(rt: HostRuntime) -> Done {
+    let alloc = rt.alloc();
     for left in 0..2usize {
-        let mut ser = Serializer::new(rt.alloc(), IoWrite::new(FailingWriter { left }));
+        let mut ser = Serializer::new(alloc, IoWrite::new(FailingWriter::new(alloc, left)?));
         is_refused(&rt, ser.serialize_str("foobar"), "I/O error")?;
     }
-    let mut ser = Serializer::new(rt.alloc(), IoWrite::new(FailingWriter { left: 2 }));
+    let mut ser = Serializer::new(alloc, IoWrite::new(FailingWriter::new(alloc, 2)?));
     ser.serialize_str("foobar")?;
     Ok(())
 }

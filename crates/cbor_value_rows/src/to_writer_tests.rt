@@ -1,34 +1,28 @@
-use crate::rows::{Done, is_refused, is_written_up_to, tag, text, writes};
-use crate::{IoWrite, Serializer, SliceWrite, Write, to_writer};
+use crate::rows::{Done, FailingWriter, is_refused, is_written_up_to, tag, text, writes};
 use cbor_io::error;
+use cbor_ser::{IoWrite, Serializer, SliceWrite, Write, to_writer};
 use cbor_value::{Float, Map, Value};
 use std::alloc::Global;
-use std::io;
-use std::io::ErrorKind;
 use std::process::Abort;
 use std::test::Fail;
 
 /// A value with each kind of item in it, whose spelling `EACH_KIND` puts together from RFC 7049,
 /// sections 2.1 to 2.4 and appendix A.
 fn each_kind(alloc: Global) -> Result<Value, Fail> {
-    let mut items = Vec::with_capacity(alloc, 10)?;
-    push_plain(&mut items)?;
+    let mut items = plain(alloc)?;
     push_others(alloc, &mut items)?;
     Ok(Value::Array(items))
 }
 
-fn push_plain(items: &mut Vec<Value>) -> Done {
-    for value in [
+fn plain(alloc: Global) -> Result<Vec<Value>, Fail> {
+    Ok(vec![in alloc;
         Value::Null,
         Value::Bool(true),
         Value::Integer(-300),
         Value::Float(Float::Half(0x3c00)),
         Value::Float(Float::Single(0x47c35000)),
         Value::Float(Float::Double(0x3ff1_9999_9999_999a)),
-    ] {
-        items.push(value)?;
-    }
-    Ok(())
+    ]?)
 }
 
 fn push_others(alloc: Global, items: &mut Vec<Value>) -> Done {
@@ -93,7 +87,7 @@ fn fills_a_slice_of(rt: &impl Abort, alloc: Global, value: &Value, len: usize) {
     assert!(rt; count <= len);
     assert!(rt; count <= 40);
     assert_eq!(rt; &room[..count], &EACH_KIND[..count]);
-    assert!(rt; room[count..].iter().all(|byte| *byte == 0));
+    assert_eq!(rt; &room[count..], &[0; 40][count..]);
 }
 
 /// A slice of this length, of which so many bytes were written, ends the call so.
@@ -105,30 +99,9 @@ fn ends_there(rt: &impl Abort, done: error::Result<()>, len: usize, count: usize
         }
         Err(error) => {
             assert!(rt; len < 40);
-            assert!(rt; error.is_scratch_too_small(), "{len}");
+            assert!(rt; error.is_scratch_too_small());
             assert_eq!(rt; error.offset(), count as u64);
         }
-    }
-}
-
-/// A writer that takes all it is given, and fails at the call after so many.
-#[derive(Drop)]
-struct FailingWriter {
-    taken: Vec<u8>,
-    left: usize,
-}
-
-impl io::Write for FailingWriter {
-    fn write(&mut self, buf: &[u8]) -> io::Result<usize> {
-        if self.left == 0 {
-            return Err(io::Error::from(ErrorKind::BrokenPipe));
-        }
-        self.left -= 1;
-        io::Write::write(&mut self.taken, buf)
-    }
-
-    fn flush(&mut self) -> io::Result<()> {
-        Ok(())
     }
 }
 
@@ -136,11 +109,7 @@ impl io::Write for FailingWriter {
 fn tells_a_writers_fault_at_each_call(rt: HostRuntime) -> Done {
     let alloc = rt.alloc();
     let value = each_kind(alloc)?;
-    // Its memory is taken beforehand, so that no write fails for want of it.
-    let mut writer = FailingWriter {
-        taken: Vec::with_capacity(alloc, 64)?,
-        left: 0,
-    };
+    let mut writer = FailingWriter::new(alloc, 0)?;
     for left in 0..=PIECES {
         writer.taken.clear();
         writer.left = left;
@@ -157,7 +126,7 @@ fn fails_after(rt: &impl Abort, done: error::Result<()>, left: usize, count: usi
         Ok(()) => assert_eq!(rt; left, PIECES),
         Err(error) => {
             assert!(rt; left < PIECES);
-            assert!(rt; error.is_io(), "{left}");
+            assert!(rt; error.is_io());
             assert_eq!(rt; error.offset(), 0);
             assert!(rt; count < EACH_KIND.len());
         }

@@ -1,8 +1,8 @@
 ghost use Rattle.std.specs.Prelude.{◌≡◌, false, take, IfOk, IsTrue};
 ghost use Rattle.cbor_model.specs.Document.{document_bytes};
 
-use crate::{Serialize, SliceWrite, to_vec, to_writer};
 use cbor_io::error;
+use cbor_ser::{Serialize, SliceWrite, to_vec, to_writer};
 use cbor_value::Value;
 use std::alloc::Global;
 use std::test::Fail;
