@@ -9,11 +9,11 @@ mod tags;
 mod values;
 
 use serde_cbor::de::{
-    Deserialize, DeserializeOwned, IoRead, MutSliceRead, SliceRead, SliceReadFixed,
+    Deserialize, DeserializeOwned, IoRead, MutSliceRead, Offset, SliceRead, SliceReadFixed, Source,
 };
 use serde_cbor::value::Float;
 use serde_cbor::{
-    Result as Read, from_mut_slice, from_reader, from_slice, from_slice_with_scratch,
+    Deserializer, Result as Read, from_mut_slice, from_reader, from_slice, from_slice_with_scratch,
 };
 use std::alloc::Global;
 use std::fmt::Debug;
@@ -72,6 +72,45 @@ fn read_from_reader<'a, T: DeserializeOwned + Deserialize<'a, IoRead<&'a [u8]>>>
     Ok(from_reader::<T, _>(alloc, bytes)?)
 }
 
+/// The next item is read so.
+fn gives<'a, T: Deserialize<'a, SliceRead<'a>> + PartialEq + Debug>(
+    rt: &impl Abort,
+    de: &mut Deserializer<SliceRead<'a>>,
+    want: T,
+) -> Done {
+    assert_eq!(rt; T::deserialize(de)?, want);
+    Ok(())
+}
+
+/// So many bytes were taken.
+fn has_taken<R: Source + Offset>(rt: &impl Abort, de: &Deserializer<R>, want: usize) {
+    assert_eq!(rt; de.byte_offset(), want);
+}
+
+/// No level is taken.
+fn has_all_levels(rt: &impl Abort, de: &Deserializer<SliceRead<'_>>) {
+    assert_eq!(rt; de.items.levels, 127);
+}
+
+/// Nothing follows.
+fn ends_here(de: &mut Deserializer<SliceRead<'_>>) -> Done {
+    de.end()?;
+    Ok(())
+}
+
+/// The next item is refused with this text, and no level is taken afterwards.
+fn refuses<'a, T: Deserialize<'a, SliceRead<'a>>>(
+    rt: &impl Abort,
+    alloc: Global,
+    de: Deserializer<SliceRead<'a>>,
+    want: &str,
+) -> Done {
+    let mut de = de;
+    refused(rt, alloc, T::deserialize(&mut de), want)?;
+    has_all_levels(rt, &de);
+    Ok(())
+}
+
 /// The bytes are refused with this text.
 fn is_refused<'a, T: Deserialize<'a, SliceRead<'a>>>(
     rt: &impl Abort,
@@ -92,6 +131,7 @@ fn reads_whole_numbers(rt: HostRuntime) -> Done {
     is_read(&rt, alloc, b"\x39\x01\x00", -257isize)?;
     is_read(&rt, alloc, b"\x18\xff", 255usize)?;
     is_read(&rt, alloc, b"\x1a\x05\xe2\xbe\x12", 98745874u32)?;
+    is_read(&rt, alloc, b"\x1a\x00\xbc\x61\x4e", 12345678u32)?;
     is_read(&rt, alloc, b"\x39\x07\xde", -2015i64)?;
     is_read(&rt, alloc, b"\x20", -1i128)?;
     let least = b"\x3b\xff\xff\xff\xff\xff\xff\xff\xff";

@@ -4,6 +4,7 @@ use crate::value::Float;
 use crate::{Value, to_vec};
 use std::alloc::{AllocError, Global};
 use std::cmp::Ordering;
+use std::process::Abort;
 use std::test::Fail;
 
 fn text(alloc: Global, text: &str) -> Result<Value, AllocError> {
@@ -25,44 +26,50 @@ fn tagged_null(alloc: Global, tag: u64) -> Result<Value, AllocError> {
     }
 }
 
-// Each is less than the next (draft-ietf-cbor-7049bis-04, section 4.10): a longer head, another
-// major type, a longer text, more items, greater items, a greater tag, and then major type 7.
-#[test]
-fn values_and_their_bytes_stand_in_one_order(rt: HostRuntime) -> Result<(), Fail> {
-    let alloc = rt.alloc();
-    let ascending = [
-        Value::Integer(23),
-        Value::Integer(24),
-        Value::Integer(-1),
-        text(alloc, "b")?,
-        text(alloc, "aa")?,
-        array(alloc, &[100])?,
-        array(alloc, &[0, 0])?,
-        array(alloc, &[23, 0])?,
-        array(alloc, &[24, 0])?,
-        tagged_null(alloc, 1)?,
-        tagged_null(alloc, 24)?,
-        Value::Bool(false),
-        Value::Null,
-        Value::Float(Float::Half(0xffff)),
-        Value::Float(Float::Single(0)),
-    ];
+/// Each is less than the next (draft-ietf-cbor-7049bis-04, section 4.10): a longer head, another
+/// major type, a longer text, more items, greater items, a greater tag, and then major type 7.
+fn ascending(alloc: Global) -> Result<Vec<Value>, AllocError> {
+    let mut list = vec![in alloc; Value::Integer(23), Value::Integer(24), Value::Integer(-1)]?;
+    list.push(text(alloc, "b")?)?;
+    list.push(text(alloc, "aa")?)?;
+    for items in [&[100][..], &[0, 0], &[23, 0], &[24, 0]] {
+        list.push(array(alloc, items)?)?;
+    }
+    list.push(tagged_null(alloc, 1)?)?;
+    list.push(tagged_null(alloc, 24)?)?;
+    list.push(Value::Bool(false))?;
+    list.push(Value::Null)?;
+    list.push(Value::Float(Float::Half(0xffff)))?;
+    list.push(Value::Float(Float::Single(0)))?;
+    Ok(list)
+}
+
+/// The values, each beside its bytes.
+fn spelled(alloc: Global, values: Vec<Value>) -> Result<Vec<(Value, Vec<u8>)>, Fail> {
     let mut rows = Vec::new(alloc);
-    for value in ascending {
+    for value in values {
         let bytes = to_vec(alloc, &value)?;
         rows.push((value, bytes))?;
     }
-    for (i, (a, x)) in rows.iter().enumerate() {
-        for (j, (b, y)) in rows.iter().enumerate() {
-            assert_eq!(rt; a.cmp(b), i.cmp(&j), "{a:?} and {b:?}");
-            assert_eq!(rt;
-                x.as_slice().cmp(y.as_slice()),
-                i.cmp(&j),
-                "{a:?} and {b:?}"
-            );
+    Ok(rows)
+}
+
+#[test]
+fn values_and_their_bytes_stand_in_one_order(rt: HostRuntime) -> Result<(), Fail> {
+    let alloc = rt.alloc();
+    let rows = spelled(alloc, ascending(alloc)?)?;
+    for (i, a) in rows.iter().enumerate() {
+        for (j, b) in rows.iter().enumerate() {
+            compare_so(&rt, a, b, i.cmp(&j));
         }
     }
     Ok(())
+}
+
+/// The values compare so, and so do their bytes.
+fn compare_so(rt: &impl Abort, a: &(Value, Vec<u8>), b: &(Value, Vec<u8>), want: Ordering) {
+    assert_eq!(rt; a.0.cmp(&b.0), want, "{a:?} and {b:?}");
+    assert_eq!(rt; a.1.as_slice().cmp(b.1.as_slice()), want, "{a:?} and {b:?}");
 }
 
 /// How two values compare, and how their bytes do: alike, by the contract of `to_vec` alone.

@@ -31,18 +31,3 @@ fn normalises_a_map_once(rt: HostRuntime) -> Result<(), Fail> {
     assert!(rt; is_normal_after_once(rt.alloc(), bytes)?);
     Ok(())
 }
-
-// An indefinite length can be shorter than the canonical spelling, the least of definite ones.
-#[test]
-fn spells_256_items_up_to_a_break_longer(rt: HostRuntime) -> Result<(), Fail> {
-    let alloc = rt.alloc();
-    let mut open = vec![in alloc; 0x9f]?;
-    for _ in 0..256 {
-        open.push(0xf6)?;
-    }
-    open.push(0xff)?;
-    assert_eq!(rt; open.len(), 258);
-    let spelling = to_vec(alloc, &from_slice::<Value>(alloc, &open)?)?;
-    assert_eq!(rt; spelling.len(), 259);
-    Ok(())
-}

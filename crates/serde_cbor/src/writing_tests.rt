@@ -2,23 +2,59 @@
 
 use crate::ser::Serialize;
 use crate::{Serializer, to_vec};
+use std::alloc::Global;
 use std::collections::BTreeMap;
+use std::process::Abort;
 use std::test::Fail;
+
+// The checks and calls below promise nothing, so that a test of many of them carries no facts from
+// one to the next.
+
+/// These bytes are written of the value.
+fn is_written<T: Serialize>(
+    rt: &impl Abort,
+    alloc: Global,
+    value: &T,
+    bytes: &[u8],
+) -> Result<(), Fail> {
+    assert_eq!(rt; to_vec(alloc, value)?.as_slice(), bytes);
+    Ok(())
+}
+
+fn write<T: Serialize + Drop>(ser: &mut Serializer<Vec<u8>>, value: T) -> Result<(), Fail> {
+    value.serialize(ser)?;
+    Ok(())
+}
+
+fn write_list(ser: &mut Serializer<Vec<u8>>) -> Result<(), Fail> {
+    let mut items = ser.serialize_seq(None)?;
+    items.serialize_element(&1u8)?;
+    items.serialize_element(&2u8)?;
+    items.end()?;
+    Ok(())
+}
+
+fn write_empty_list(ser: &mut Serializer<Vec<u8>>) -> Result<(), Fail> {
+    ser.serialize_seq(None)?.end()?;
+    Ok(())
+}
+
+fn write_map(ser: &mut Serializer<Vec<u8>>) -> Result<(), Fail> {
+    let mut pairs = ser.serialize_map(None)?;
+    pairs.serialize_key(&"a")?;
+    pairs.serialize_value(&true)?;
+    pairs.end()?;
+    Ok(())
+}
 
 // Sequences and maps without a declared length end by a break.
 #[test]
 fn writes_indefinite_lengths(rt: HostRuntime) -> Result<(), Fail> {
     let alloc = rt.alloc();
     let mut ser = Serializer::new(alloc, Vec::new(alloc));
-    let mut items = ser.serialize_seq(None)?;
-    items.serialize_element(&1u8)?;
-    items.serialize_element(&2u8)?;
-    items.end()?;
-    ser.serialize_seq(None)?.end()?;
-    let mut pairs = ser.serialize_map(None)?;
-    pairs.serialize_key(&"a")?;
-    pairs.serialize_value(&true)?;
-    pairs.end()?;
+    write_list(&mut ser)?;
+    write_empty_list(&mut ser)?;
+    write_map(&mut ser)?;
     let bytes = ser.into_inner();
     assert_eq!(rt;
         bytes.as_slice(),
@@ -31,14 +67,14 @@ fn writes_indefinite_lengths(rt: HostRuntime) -> Result<(), Fail> {
 fn writes_numbers_of_each_width(rt: HostRuntime) -> Result<(), Fail> {
     let alloc = rt.alloc();
     let mut ser = Serializer::new(alloc, Vec::new(alloc));
-    (-256isize).serialize(&mut ser)?;
-    (-257isize).serialize(&mut ser)?;
-    255usize.serialize(&mut ser)?;
-    98745874u32.serialize(&mut ser)?;
-    12345678u32.serialize(&mut ser)?;
-    (-2015i64).serialize(&mut ser)?;
-    (-1i128).serialize(&mut ser)?;
-    '\0'.serialize(&mut ser)?;
+    write(&mut ser, -256isize)?;
+    write(&mut ser, -257isize)?;
+    write(&mut ser, 255usize)?;
+    write(&mut ser, 98745874u32)?;
+    write(&mut ser, 12345678u32)?;
+    write(&mut ser, -2015i64)?;
+    write(&mut ser, -1i128)?;
+    write(&mut ser, '\0')?;
     let bytes = ser.into_inner();
     assert_eq!(rt;
         bytes.as_slice(),
@@ -52,22 +88,15 @@ fn writes_numbers_of_each_width(rt: HostRuntime) -> Result<(), Fail> {
 #[test]
 fn writes_lists_tuples_and_options(rt: HostRuntime) -> Result<(), Fail> {
     let alloc = rt.alloc();
-    let bytes = to_vec(alloc, &(1u8, -1i8, "a", ()))?;
-    assert_eq!(rt; bytes.as_slice(), b"\x84\x01\x20\x61a\xf6".as_slice());
+    is_written(&rt, alloc, &(1u8, -1i8, "a", ()), b"\x84\x01\x20\x61a\xf6")?;
     let mut list = Vec::new(alloc);
     list.push(Some(true))?;
     list.push(None)?;
-    let bytes = to_vec(alloc, &list)?;
-    assert_eq!(rt; bytes.as_slice(), b"\x82\xf5\xf6".as_slice());
+    is_written(&rt, alloc, &list, b"\x82\xf5\xf6")?;
     let mut map: BTreeMap<u8, (bool,)> = BTreeMap::new(alloc);
     map.insert(2, (true,))?;
     map.insert(1, (false,))?;
-    let bytes = to_vec(alloc, &map)?;
-    assert_eq!(rt;
-        bytes.as_slice(),
-        b"\xa2\x01\x81\xf4\x02\x81\xf5".as_slice()
-    );
-    Ok(())
+    is_written(&rt, alloc, &map, b"\xa2\x01\x81\xf4\x02\x81\xf5")
 }
 
 // The map of the crate's front page.
@@ -81,14 +110,8 @@ fn writes_a_map_of_lists(rt: HostRuntime) -> Result<(), Fail> {
         "js",
         vec![in alloc; "lightweight", "interpreted", "object-oriented"]?,
     )?;
-    let bytes = to_vec(alloc, &languages)?;
-    assert_eq!(rt;
-        bytes.as_slice(),
-        b"\xa3\x62js\x83\x6blightweight\x6binterpreted\x6fobject-oriented\
-            \x66python\x83\x68powerful\x68friendly\x64open\
-            \x64rust\x83\x64safe\x6aconcurrent\x64fast"
-            .as_slice()
-    );
-    assert_eq!(rt; bytes.len(), 103);
-    Ok(())
+    let bytes: &[u8; 103] = b"\xa3\x62js\x83\x6blightweight\x6binterpreted\x6fobject-oriented\
+        \x66python\x83\x68powerful\x68friendly\x64open\
+        \x64rust\x83\x64safe\x6aconcurrent\x64fast";
+    is_written(&rt, alloc, &languages, bytes)
 }

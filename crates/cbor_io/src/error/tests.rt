@@ -34,9 +34,21 @@ fn is_told(rt: &impl Abort, alloc: Global, e: Error, category: Category, words: 
 fn is_of(rt: &impl Abort, e: &Error, category: Category) {
     assert_eq!(rt; e.offset(), 7);
     assert_eq!(rt; e.classify(), category);
-    assert_eq!(rt; e.is_io(), category == Category::Io);
-    assert_eq!(rt; e.is_syntax(), category == Category::Syntax);
-    assert_eq!(rt; e.is_eof(), category == Category::Eof);
+    is_io(rt, e, category == Category::Io);
+    is_syntax(rt, e, category == Category::Syntax);
+    is_eof(rt, e, category == Category::Eof);
+}
+
+fn is_io(rt: &impl Abort, e: &Error, want: bool) {
+    assert_eq!(rt; e.is_io(), want);
+}
+
+fn is_syntax(rt: &impl Abort, e: &Error, want: bool) {
+    assert_eq!(rt; e.is_syntax(), want);
+}
+
+fn is_eof(rt: &impl Abort, e: &Error, want: bool) {
+    assert_eq!(rt; e.is_eof(), want);
 }
 
 /// It prints these words and its offset, whatever layout is asked for.
@@ -48,12 +60,12 @@ fn prints_its_offset(rt: &impl Abort, alloc: Global, e: &Error, words: &str) -> 
 }
 
 /// The code at offset 7 is of an end of input.
-fn is_eof(rt: &impl Abort, alloc: Global, e: Error, words: &str) -> Done {
+fn tells_eof(rt: &impl Abort, alloc: Global, e: Error, words: &str) -> Done {
     is_told(rt, alloc, e, Category::Eof, words)
 }
 
 /// The code at offset 7 is of bytes that spell no item that is read.
-fn is_syntax(rt: &impl Abort, alloc: Global, e: Error, words: &str) -> Done {
+fn tells_syntax(rt: &impl Abort, alloc: Global, e: Error, words: &str) -> Done {
     is_told(rt, alloc, e, Category::Syntax, words)
 }
 
@@ -67,51 +79,51 @@ fn tells_too_little_room(rt: HostRuntime) -> Done {
 fn tells_too_little_input(rt: HostRuntime) -> Done {
     let alloc = rt.alloc();
     let e = Error::at(ErrorCode::EofWhileParsingValue, 7);
-    is_eof(&rt, alloc, e, "EOF while parsing a value")?;
+    tells_eof(&rt, alloc, e, "EOF while parsing a value")?;
     let e = Error::at(ErrorCode::EofWhileParsingArray, 7);
-    is_eof(&rt, alloc, e, "EOF while parsing an array")?;
+    tells_eof(&rt, alloc, e, "EOF while parsing an array")?;
     let e = Error::at(ErrorCode::EofWhileParsingMap, 7);
-    is_eof(&rt, alloc, e, "EOF while parsing a map")
+    tells_eof(&rt, alloc, e, "EOF while parsing a map")
 }
 
 #[test]
 fn tells_bytes_that_spell_nothing(rt: HostRuntime) -> Done {
     let alloc = rt.alloc();
     let e = Error::at(ErrorCode::InvalidUtf8, 7);
-    is_syntax(&rt, alloc, e, "invalid UTF-8")?;
+    tells_syntax(&rt, alloc, e, "invalid UTF-8")?;
     let e = Error::at(ErrorCode::UnassignedCode, 7);
-    is_syntax(&rt, alloc, e, "unassigned type")?;
+    tells_syntax(&rt, alloc, e, "unassigned type")?;
     let e = Error::at(ErrorCode::UnexpectedCode, 7);
-    is_syntax(&rt, alloc, e, "unexpected code")
+    tells_syntax(&rt, alloc, e, "unexpected code")
 }
 
 #[test]
 fn tells_input_that_goes_too_far(rt: HostRuntime) -> Done {
     let alloc = rt.alloc();
     let e = Error::at(ErrorCode::LengthOutOfRange, 7);
-    is_syntax(&rt, alloc, e, "length out of range")?;
+    tells_syntax(&rt, alloc, e, "length out of range")?;
     let e = Error::at(ErrorCode::TrailingData, 7);
-    is_syntax(&rt, alloc, e, "trailing data")?;
+    tells_syntax(&rt, alloc, e, "trailing data")?;
     let e = Error::at(ErrorCode::RecursionLimitExceeded, 7);
-    is_syntax(&rt, alloc, e, "recursion limit exceeded")
+    tells_syntax(&rt, alloc, e, "recursion limit exceeded")
 }
 
 #[test]
 fn tells_arrays_of_another_length(rt: HostRuntime) -> Done {
     let alloc = rt.alloc();
     let e = Error::at(ErrorCode::ArrayTooShort, 7);
-    is_syntax(&rt, alloc, e, "array too short")?;
+    tells_syntax(&rt, alloc, e, "array too short")?;
     let e = Error::at(ErrorCode::ArrayTooLong, 7);
-    is_syntax(&rt, alloc, e, "array too long")
+    tells_syntax(&rt, alloc, e, "array too long")
 }
 
 #[test]
 fn tells_items_of_another_form(rt: HostRuntime) -> Done {
     let alloc = rt.alloc();
     let e = Error::at(ErrorCode::WrongEnumFormat, 7);
-    is_syntax(&rt, alloc, e, "wrong enum format")?;
+    tells_syntax(&rt, alloc, e, "wrong enum format")?;
     let e = Error::at(ErrorCode::WrongStructFormat, 7);
-    is_syntax(&rt, alloc, e, "wrong struct format")
+    tells_syntax(&rt, alloc, e, "wrong struct format")
 }
 
 #[test]

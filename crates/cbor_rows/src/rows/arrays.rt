@@ -1,7 +1,8 @@
-use super::{Done, is_read, is_refused, read, read_from_reader, refused};
+use super::{
+    Done, ends_here, gives, has_all_levels, is_read, is_refused, read, read_from_reader, refused,
+};
 use serde_cbor::de::{Deserialize, SliceRead};
 use serde_cbor::{Deserializer, Error, Result as Read};
-use std::test::Fail;
 
 #[test]
 fn reads_vectors(rt: HostRuntime) -> Done {
@@ -17,11 +18,8 @@ fn reads_vectors(rt: HostRuntime) -> Done {
 #[test]
 fn reads_vectors_of_vectors(rt: HostRuntime) -> Done {
     let alloc = rt.alloc();
-    let rows: Vec<Vec<u8>> = read(alloc, b"\x82\x9f\x01\xff\x81\x02")?;
-    assert_eq!(rt; rows.len(), 2);
-    assert_eq!(rt; rows[0].as_slice(), [1].as_slice());
-    assert_eq!(rt; rows[1].as_slice(), [2].as_slice());
-    Ok(())
+    let want = vec![in alloc; vec![in alloc; 1u8]?, vec![in alloc; 2]?]?;
+    is_read(&rt, alloc, b"\x82\x9f\x01\xff\x81\x02", want)
 }
 
 #[test]
@@ -63,15 +61,8 @@ fn refuses_arrays_of_other_lengths(rt: HostRuntime) -> Done {
 #[test]
 fn reads_tuples(rt: HostRuntime) -> Done {
     let alloc = rt.alloc();
-    let (n,): (u8,) = read(alloc, b"\x81\x01")?;
-    assert_eq!(rt; n, 1);
-    let (n, b): (u8, bool) = read(alloc, b"\x9f\x01\xf5\xff")?;
-    assert!(rt; n == 1 && b);
-    let (n, i, m): (u8, i8, u16) = read(alloc, b"\x83\x01\x20\x03")?;
-    assert!(rt; n == 1 && i == -1 && m == 3);
-    let (n, i, m, k): (u8, i8, u16, u8) = read(alloc, b"\x84\x01\x20\x03\x04")?;
-    assert!(rt; n == 1 && i == -1 && m == 3 && k == 4);
-    Ok(())
+    is_read(&rt, alloc, b"\x81\x01", (1u8,))?;
+    is_read(&rt, alloc, b"\x9f\x01\x20\x03\xff", (1u8, -1i8, 3u16))
 }
 
 #[test]
@@ -91,14 +82,33 @@ fn refuses_tuples(rt: HostRuntime) -> Done {
 fn reads_item_by_item(rt: HostRuntime) -> Done {
     let alloc = rt.alloc();
     let mut de = Deserializer::new(alloc, SliceRead::new(alloc, b"\x82\x01\xf5"));
+    assert_eq!(rt; two_items(&mut de)?, (Some(1), Some(true)));
+    ends_here(&mut de)
+}
+
+/// The items of an array of a number and a truth value.
+fn two_items(de: &mut Deserializer<SliceRead<'_>>) -> Read<(Option<u8>, Option<bool>)> {
     let mut items = de.array()?;
-    assert_eq!(rt; items.size_hint(), Some(2));
-    assert_eq!(rt; items.next_element::<u8>()?, Some(1));
-    assert_eq!(rt; items.next_element::<bool>()?, Some(true));
-    assert_eq!(rt; items.size_hint(), Some(0));
+    let number = items.next_element::<u8>()?;
+    let truth = items.next_element::<bool>()?;
     items.end()?;
-    de.end()?;
+    Ok((number, truth))
+}
+
+#[test]
+fn tells_how_many_items_are_left(rt: HostRuntime) -> Done {
+    let alloc = rt.alloc();
+    let mut de = Deserializer::new(alloc, SliceRead::new(alloc, b"\x82\x01\xf5"));
+    assert_eq!(rt; left_behind_one(&mut de)?, (Some(2), Some(1)));
     Ok(())
+}
+
+/// How many items of an array are to come, and how many behind the first, a number.
+fn left_behind_one(de: &mut Deserializer<SliceRead<'_>>) -> Read<(Option<usize>, Option<usize>)> {
+    let mut items = de.array()?;
+    let all = items.size_hint();
+    items.next_element::<u8>()?;
+    Ok((all, items.size_hint()))
 }
 
 #[test]
@@ -106,15 +116,14 @@ fn leaves_the_levels_of_arrays(rt: HostRuntime) -> Done {
     let alloc = rt.alloc();
     let bytes = b"\x81\x01\x82\x01\xf4\x82\x01\x81\x03";
     let mut de = Deserializer::new(alloc, SliceRead::new(alloc, bytes));
-    let items: Vec<u8> = Vec::deserialize(&mut de)?;
-    assert_eq!(rt; items.len(), 1);
-    assert_eq!(rt; de.items.levels, 127);
+    gives(&rt, &mut de, vec![in alloc; 1u8]?)?;
+    has_all_levels(&rt, &de);
     let read: Read<Vec<u8>> = Vec::deserialize(&mut de);
     refused(&rt, alloc, read, "invalid type: expected an integer")?;
-    assert_eq!(rt; de.items.levels, 127);
+    has_all_levels(&rt, &de);
     let items = de.array()?;
     let e = items.refuse(Error::message(alloc, "no such item"));
     refused(&rt, alloc, Read::<()>::Err(e), "no such item")?;
-    assert_eq!(rt; de.items.levels, 127);
+    has_all_levels(&rt, &de);
     Ok(())
 }

@@ -1,5 +1,5 @@
-use super::refused;
-use serde_cbor::de::Source;
+use super::{has_taken, refused};
+use serde_cbor::de::{Offset, Source};
 use serde_cbor::{Deserializer, Error, Result};
 use std::alloc::Global;
 use std::process::Abort;
@@ -44,17 +44,25 @@ fn tells_the_byte_behind_an_item(rt: HostRuntime) -> Done {
 #[test]
 fn counts_the_bytes_taken(rt: HostRuntime) -> Done {
     let alloc = rt.alloc();
-    let mut slice = Deserializer::from_slice(alloc, b"\xf6\xf6");
-    assert_eq!(rt; slice.byte_offset(), 0);
-    refused(&rt, alloc, slice.end(), "trailing data at offset 1")?;
-    assert_eq!(rt; slice.byte_offset(), 1);
+    counts_two_bytes(&rt, alloc, Deserializer::from_slice(alloc, b"\xf6\xf6"))?;
     let mut scratch = [0; 4];
-    let mut fixed = Deserializer::from_slice_with_scratch(alloc, b"\xf6\xf6", &mut scratch);
-    refused(&rt, alloc, fixed.end(), "trailing data at offset 1")?;
-    refused(&rt, alloc, fixed.end(), "trailing data at offset 2")?;
-    assert_eq!(rt; fixed.byte_offset(), 2);
-    let mut reader = Deserializer::from_reader(alloc, b"\xf6\xf6".as_slice());
-    refused(&rt, alloc, reader.end(), "trailing data at offset 1")?;
-    assert_eq!(rt; reader.byte_offset(), 1);
+    let fixed = Deserializer::from_slice_with_scratch(alloc, b"\xf6\xf6", &mut scratch);
+    counts_two_bytes(&rt, alloc, fixed)?;
+    let reader = Deserializer::from_reader(alloc, b"\xf6\xf6".as_slice());
+    counts_two_bytes(&rt, alloc, reader)
+}
+
+/// Two bytes are to come, and each is counted once it is taken.
+fn counts_two_bytes<R: Source + Offset + Drop>(
+    rt: &impl Abort,
+    alloc: Global,
+    de: Deserializer<R>,
+) -> Done {
+    let mut de = de;
+    has_taken(rt, &de, 0);
+    refused(rt, alloc, de.end(), "trailing data at offset 1")?;
+    has_taken(rt, &de, 1);
+    refused(rt, alloc, de.end(), "trailing data at offset 2")?;
+    has_taken(rt, &de, 2);
     Ok(())
 }

@@ -1,7 +1,6 @@
-use super::{Done, is_refused, read, refused};
+use super::{Done, gives, is_refused, read, refuses};
 use serde_cbor::de::{Deserialize, IgnoredAny, SliceRead};
 use serde_cbor::{Deserializer, from_mut_slice, from_slice, from_slice_with_scratch};
-use std::test::Fail;
 
 #[test]
 fn passes_over_any_item(rt: HostRuntime) -> Done {
@@ -18,8 +17,7 @@ fn passes_over_any_item(rt: HostRuntime) -> Done {
     }
     let mut de = Deserializer::new(alloc, SliceRead::new(alloc, b"\x82\x01\xf6\x05"));
     IgnoredAny::deserialize(&mut de)?;
-    assert_eq!(rt; u8::deserialize(&mut de)?, 5);
-    Ok(())
+    gives(&rt, &mut de, 5u8)
 }
 
 #[test]
@@ -43,9 +41,8 @@ fn tells_the_fault_of_what_is_passed_over(rt: HostRuntime) -> Done {
         is_refused::<IgnoredAny>(&rt, alloc, bytes, want)?;
     }
     let source = SliceRead::new(alloc, b"\x81\xa1\x01\xa1\x60\x01");
-    let mut de = Deserializer::new(alloc, source).disable_named_format();
-    let read = IgnoredAny::deserialize(&mut de);
-    refused(&rt, alloc, read, "wrong struct format at offset 4")
+    let de = Deserializer::new(alloc, source).disable_named_format();
+    refuses::<IgnoredAny>(&rt, alloc, de, "wrong struct format at offset 4")
 }
 
 // Where no chunks are joined no memory is taken, so that no growth can be refused here.

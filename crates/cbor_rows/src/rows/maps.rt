@@ -1,4 +1,6 @@
-use super::{Done, is_refused, read, read_from_reader, refused};
+use super::{
+    Done, ends_here, has_all_levels, is_refused, read, read_from_reader, refused, refuses,
+};
 use serde_cbor::de::{Deserialize, SliceRead};
 use serde_cbor::{Deserializer, Error, Result as Read};
 use std::collections::BTreeMap;
@@ -52,31 +54,50 @@ fn refuses_maps(rt: HostRuntime) -> Done {
 fn refuses_keys_of_other_formats(rt: HostRuntime) -> Done {
     let alloc = rt.alloc();
     let source = SliceRead::new(alloc, b"\xa1\x61\x61\x01");
-    let mut de = Deserializer::new(alloc, source).disable_named_format();
-    let read: Read<BTreeMap<String, u8>> = BTreeMap::deserialize(&mut de);
-    refused(&rt, alloc, read, "wrong struct format at offset 1")?;
-    assert_eq!(rt; de.items.levels, 127);
+    let de = Deserializer::new(alloc, source).disable_named_format();
+    refuses::<BTreeMap<String, u8>>(&rt, alloc, de, "wrong struct format at offset 1")?;
     let source = SliceRead::new(alloc, b"\xa2\x20\x02\x01\x02");
-    let mut de = Deserializer::new(alloc, source).disable_packed_format();
-    let read: Read<BTreeMap<i8, u8>> = BTreeMap::deserialize(&mut de);
-    refused(&rt, alloc, read, "wrong struct format at offset 3")?;
-    Ok(())
+    let de = Deserializer::new(alloc, source).disable_packed_format();
+    refuses::<BTreeMap<i8, u8>>(&rt, alloc, de, "wrong struct format at offset 3")
 }
 
 #[test]
 fn reads_pair_by_pair(rt: HostRuntime) -> Done {
     let alloc = rt.alloc();
     let mut de = Deserializer::new(alloc, SliceRead::new(alloc, b"\xa2\x01\xf5\x61\x61\x02"));
+    assert_eq!(rt; two_pairs(&mut de)?, (1, true, "a", 2));
+    ends_here(&mut de)
+}
+
+/// The keys and values of a map of two pairs.
+fn two_pairs<'a>(de: &mut Deserializer<SliceRead<'a>>) -> Result<(u8, bool, &'a str, u8), Fail> {
     let mut pairs = de.map()?;
-    assert_eq!(rt; pairs.size_hint(), Some(2));
-    assert_eq!(rt; pairs.next_key::<u8>()?, Some(1));
-    assert!(rt; pairs.next_value::<bool>()?);
-    assert_eq!(rt; pairs.next_key::<&str>()?, Some("a"));
-    assert_eq!(rt; pairs.next_value::<u8>()?, 2);
-    assert_eq!(rt; pairs.size_hint(), Some(0));
+    let Some(number) = pairs.next_key::<u8>()? else {
+        return Err(Fail::from("no pair"));
+    };
+    let truth = pairs.next_value::<bool>()?;
+    let Some(text) = pairs.next_key::<&str>()? else {
+        return Err(Fail::from("one pair"));
+    };
+    let last = pairs.next_value::<u8>()?;
     pairs.end()?;
-    de.end()?;
+    Ok((number, truth, text, last))
+}
+
+#[test]
+fn tells_how_many_pairs_are_left(rt: HostRuntime) -> Done {
+    let alloc = rt.alloc();
+    let mut de = Deserializer::new(alloc, SliceRead::new(alloc, b"\xa2\x01\xf5\x61\x61\x02"));
+    assert_eq!(rt; left_behind_a_key(&mut de)?, (Some(2), Some(1)));
     Ok(())
+}
+
+/// How many pairs of a map are to come, and how many behind the first key, a number.
+fn left_behind_a_key(de: &mut Deserializer<SliceRead<'_>>) -> Read<(Option<usize>, Option<usize>)> {
+    let mut pairs = de.map()?;
+    let all = pairs.size_hint();
+    pairs.next_key::<u8>()?;
+    Ok((all, pairs.size_hint()))
 }
 
 #[test]
@@ -101,14 +122,14 @@ fn leaves_the_levels_of_maps(rt: HostRuntime) -> Done {
     let bytes = b"\xa1\x01\x02\xa1\x01\xf5\xa1\x01\x02";
     let mut de = Deserializer::new(alloc, SliceRead::new(alloc, bytes));
     let map: BTreeMap<u8, u8> = BTreeMap::deserialize(&mut de)?;
-    assert_eq!(rt; map.len(), 1);
-    assert_eq!(rt; de.items.levels, 127);
+    has(&rt, &map, 1, 1, 2);
+    has_all_levels(&rt, &de);
     let read: Read<BTreeMap<u8, u8>> = BTreeMap::deserialize(&mut de);
     refused(&rt, alloc, read, "invalid type: expected an integer")?;
-    assert_eq!(rt; de.items.levels, 127);
+    has_all_levels(&rt, &de);
     let pairs = de.map()?;
     let e = pairs.refuse(Error::message(alloc, "no such key"));
     refused(&rt, alloc, Read::<()>::Err(e), "no such key")?;
-    assert_eq!(rt; de.items.levels, 127);
+    has_all_levels(&rt, &de);
     Ok(())
 }

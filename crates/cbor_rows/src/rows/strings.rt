@@ -1,7 +1,8 @@
 use super::{
-    Done, is_read, is_refused, read, read_from_reader, read_in_place, read_with_scratch, refused,
+    Done, ends_here, gives, has_taken, is_read, is_refused, read, read_from_reader, read_in_place,
+    read_with_scratch, refused,
 };
-use serde_cbor::de::{Deserialize, EitherLifetime, EitherStr};
+use serde_cbor::de::{EitherLifetime, EitherStr, IoRead};
 use serde_cbor::{Deserializer, from_reader, from_slice, from_slice_with_scratch};
 use std::alloc::Global;
 use std::process::Abort;
@@ -53,13 +54,10 @@ fn joins_a_character_of_two_chunks(rt: HostRuntime) -> Done {
 fn reads_two_strings(rt: HostRuntime) -> Done {
     let alloc = rt.alloc();
     let mut de = Deserializer::from_slice(alloc, b"\x66foobar\x66foobar");
-    let read = String::deserialize(&mut de)?;
-    assert_eq!(rt; read.as_str(), "foobar");
-    assert_eq!(rt; de.byte_offset(), 7);
-    let read = String::deserialize(&mut de)?;
-    assert_eq!(rt; read.as_str(), "foobar");
-    de.end()?;
-    Ok(())
+    gives(&rt, &mut de, "foobar".to_owned(alloc)?)?;
+    has_taken(&rt, &de, 7);
+    gives(&rt, &mut de, "foobar".to_owned(alloc)?)?;
+    ends_here(&mut de)
 }
 
 /// The text of a refusal to read a string, from a slice and from a reader.
@@ -214,17 +212,29 @@ fn refuses_to_lend_other_bytes(rt: HostRuntime) -> Done {
 fn lends_from_a_reader_until_its_next_call(rt: HostRuntime) -> Done {
     let alloc = rt.alloc();
     let mut de = Deserializer::from_reader(alloc, b"\x62ab\x41c".as_slice());
+    lends_text(&rt, &mut de)?;
+    lends_byte_string(&rt, &mut de)?;
+    de.end()?;
+    Ok(())
+}
+
+/// The text "ab" is next, and is lent until the next call.
+fn lends_text(rt: &impl Abort, de: &mut Deserializer<IoRead<&[u8]>>) -> Done {
     match de.read_text() {
         Ok(EitherStr::Short(text)) => assert_eq!(rt; text, "ab"),
         Ok(EitherStr::Long(_)) => return Err(Fail::from("a reader lends nothing for long")),
         Err(why) => return Err(Fail::from(de.unread(why, "no text"))),
     }
+    Ok(())
+}
+
+/// The byte string 63 is next, and is lent until the next call.
+fn lends_byte_string(rt: &impl Abort, de: &mut Deserializer<IoRead<&[u8]>>) -> Done {
     match de.read_bytes() {
         Ok(EitherLifetime::Short(bytes)) => assert_eq!(rt; bytes, b"c".as_slice()),
         Ok(EitherLifetime::Long(_)) => return Err(Fail::from("a reader lends nothing for long")),
         Err(why) => return Err(Fail::from(de.unread(why, "no bytes"))),
     }
-    de.end()?;
     Ok(())
 }
 

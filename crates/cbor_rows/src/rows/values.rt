@@ -1,7 +1,9 @@
-use super::{Done, is_read, is_refused, read, read_from_reader, read_in_place, refused};
+use super::{
+    Done, ends_here, gives, is_read, is_refused, read, read_from_reader, read_in_place, refused,
+    refuses,
+};
 use serde_cbor::de::{Deserialize, SliceRead};
 use serde_cbor::{Deserializer, Value};
-use std::test::Fail;
 
 #[test]
 fn reads_values(rt: HostRuntime) -> Done {
@@ -50,31 +52,23 @@ fn refuses_names_as_keys(rt: HostRuntime) -> Done {
         (b"\xa1\xa1\x60\x01\x01", "wrong struct format at offset 2"),
     ] {
         let source = SliceRead::new(alloc, bytes);
-        let mut de = Deserializer::new(alloc, source).disable_named_format();
-        refused(&rt, alloc, Value::deserialize(&mut de), want)?;
+        let de = Deserializer::new(alloc, source).disable_named_format();
+        refuses::<Value>(&rt, alloc, de, want)?;
     }
     let source = SliceRead::new(alloc, b"\xa1\x01\x01");
     let mut de = Deserializer::new(alloc, source).disable_named_format();
-    Value::deserialize(&mut de)?;
-    Ok(())
+    gives(&rt, &mut de, read::<Value>(alloc, b"\xa1\x01\x01")?)
 }
 
 #[test]
 fn refuses_numbers_as_keys(rt: HostRuntime) -> Done {
     let alloc = rt.alloc();
     let source = SliceRead::new(alloc, b"\xa1\x18\x01\x01");
-    let mut de = Deserializer::new(alloc, source).disable_packed_format();
-    refused(
-        &rt,
-        alloc,
-        Value::deserialize(&mut de),
-        "wrong struct format at offset 1",
-    )?;
+    let de = Deserializer::new(alloc, source).disable_packed_format();
+    refuses::<Value>(&rt, alloc, de, "wrong struct format at offset 1")?;
     let source = SliceRead::new(alloc, b"\xa1\x20\x01");
     let mut de = Deserializer::new(alloc, source).disable_packed_format();
-    let value = Value::deserialize(&mut de)?;
-    assert!(rt; value == read::<Value>(alloc, b"\xa1\x20\x01")?);
-    Ok(())
+    gives(&rt, &mut de, read::<Value>(alloc, b"\xa1\x20\x01")?)
 }
 
 #[test]
@@ -89,10 +83,8 @@ fn goes_on_behind_a_refusal(rt: HostRuntime) -> Done {
         Value::deserialize(&mut de),
         "recursion limit exceeded at offset 128",
     )?;
-    let value = Value::deserialize(&mut de)?;
-    de.end()?;
     let mut deep = [0x81; 128];
     deep[127] = 0x00;
-    assert!(rt; value == read::<Value>(alloc, &deep)?);
-    Ok(())
+    gives(&rt, &mut de, read::<Value>(alloc, &deep)?)?;
+    ends_here(&mut de)
 }

@@ -216,11 +216,10 @@ fn take_the_rest<R: io::Read + Drop>(rt: &impl Abort, source: &mut IoRead<R>) ->
 
 /// The part is these bytes.
 fn is_part(rt: &impl Abort, part: EitherLifetime, want: &'static [u8]) {
-    let bytes = match part {
-        EitherLifetime::Short(bytes) => bytes,
-        EitherLifetime::Long(bytes) => bytes,
-    };
-    assert_eq!(rt; bytes, want);
+    match part {
+        EitherLifetime::Short(bytes) => assert_eq!(rt; bytes, want),
+        EitherLifetime::Long(bytes) => assert_eq!(rt; bytes, want),
+    }
 }
 
 #[test]
