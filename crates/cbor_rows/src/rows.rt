@@ -129,6 +129,7 @@ fn reads_whole_numbers(rt: HostRuntime) -> Done {
     is_read(&rt, alloc, b"\xc1\x05", 5u8)?;
     is_read(&rt, alloc, b"\x38\xff", -256isize)?;
     is_read(&rt, alloc, b"\x39\x01\x00", -257isize)?;
+    is_read(&rt, alloc, b"\x18\xff", 255isize)?;
     is_read(&rt, alloc, b"\x18\xff", 255usize)?;
     is_read(&rt, alloc, b"\x1a\x05\xe2\xbe\x12", 98745874u32)?;
     is_read(&rt, alloc, b"\x1a\x00\xbc\x61\x4e", 12345678u32)?;

@@ -51,7 +51,11 @@ pub fn is_too_far_out<T: Drop>(rt: &impl Abort, answer: error::Result<T>) -> Don
 
 /// The value has a number that is too far out.
 pub fn is_not_written(rt: &impl Abort, alloc: Global, value: &Value) -> Done {
-    is_too_far_out(rt, to_vec(alloc, value))
+    let answer = to_vec(alloc, value);
+    if let Err(e) = &answer {
+        assert!(rt; e.is_memory() || e.is_data());
+    }
+    is_too_far_out(rt, answer)
 }
 
 /// The value has a number that is too far out, and this is written before it.

@@ -17,6 +17,7 @@ fn spells_numbers(rt: HostRuntime) -> Done {
         &Value::Integer(most),
         b"\x1b\xff\xff\xff\xff\xff\xff\xff\xff",
     )?;
+    writes(&rt, alloc, &255isize, b"\x18\xff")?;
     writes(&rt, alloc, &Value::Integer(-5), b"\x24")?;
     writes(&rt, alloc, &Value::Integer(-300), b"\x39\x01\x2b")?;
     writes(

@@ -62,7 +62,9 @@ fn refuses_arrays_of_other_lengths(rt: HostRuntime) -> Done {
 fn reads_tuples(rt: HostRuntime) -> Done {
     let alloc = rt.alloc();
     is_read(&rt, alloc, b"\x81\x01", (1u8,))?;
-    is_read(&rt, alloc, b"\x9f\x01\x20\x03\xff", (1u8, -1i8, 3u16))
+    is_read(&rt, alloc, b"\x9f\x01\xf5\xff", (1u8, true))?;
+    is_read(&rt, alloc, b"\x83\x01\x20\x03", (1u8, -1i8, 3u16))?;
+    is_read(&rt, alloc, b"\x84\x01\x20\x03\x04", (1u8, -1i8, 3u16, 4u8))
 }
 
 #[test]
@@ -100,6 +102,8 @@ fn tells_how_many_items_are_left(rt: HostRuntime) -> Done {
     let alloc = rt.alloc();
     let mut de = Deserializer::new(alloc, SliceRead::new(alloc, b"\x82\x01\xf5"));
     assert_eq!(rt; left_behind_one(&mut de)?, (Some(2), Some(1)));
+    let mut de = Deserializer::new(alloc, SliceRead::new(alloc, b"\x81\x01"));
+    assert_eq!(rt; left_behind_one(&mut de)?, (Some(1), Some(0)));
     Ok(())
 }
 

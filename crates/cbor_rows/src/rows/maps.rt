@@ -89,6 +89,8 @@ fn tells_how_many_pairs_are_left(rt: HostRuntime) -> Done {
     let alloc = rt.alloc();
     let mut de = Deserializer::new(alloc, SliceRead::new(alloc, b"\xa2\x01\xf5\x61\x61\x02"));
     assert_eq!(rt; left_behind_a_key(&mut de)?, (Some(2), Some(1)));
+    let mut de = Deserializer::new(alloc, SliceRead::new(alloc, b"\xa1\x01\xf5"));
+    assert_eq!(rt; left_behind_a_key(&mut de)?, (Some(1), Some(0)));
     Ok(())
 }
 

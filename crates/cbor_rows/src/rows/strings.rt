@@ -47,6 +47,7 @@ fn reads_byte_strings_as_text(rt: HostRuntime) -> Done {
 fn joins_a_character_of_two_chunks(rt: HostRuntime) -> Done {
     let alloc = rt.alloc();
     all_read(&rt, alloc, b"\x7f\x61\xc3\x61\xa9\xff", "é")?;
+    all_read(&rt, alloc, b"\x7f\x61a\x61b\xff", "ab")?;
     all_read(&rt, alloc, b"\x7f\xff", "")
 }
 
