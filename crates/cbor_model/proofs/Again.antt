@@ -136,7 +136,7 @@ chunk_count-le major (c ∷ cs) =
 behind_parts : (a b c rest : List ℕ) → ((a ++ b) ++ c) ++ rest ≡ a ++ (b ++ (c ++ rest))
 behind_parts a b c rest = simp append_assoc
 
-chunk_again : (exceeds : ℕ → Bool) (major : ℕ) (c : Chunk) (rest : List ℕ) → IsChunk c → exceeds (length c.bytes) ≡ false → chunk_at exceeds major (32 * major + info c.width (length c.bytes)) (behind c.width (length c.bytes) ++ (c.bytes ++ rest)) ≡ Ok (c, rest)
+pub chunk_again : (exceeds : ℕ → Bool) (major : ℕ) (c : Chunk) (rest : List ℕ) → IsChunk c → exceeds (length c.bytes) ≡ false → chunk_at exceeds major (32 * major + info c.width (length c.bytes)) (behind c.width (length c.bytes) ++ (c.bytes ++ rest)) ≡ Ok (c, rest)
 unfolding chunk_at content_of_chunk
 chunk_again exceeds major c rest fits joins =
     let w = c.width in
@@ -162,23 +162,23 @@ chunks_again exceeds grows have major (c ∷ cs) (suc fuel) rest at_most fits jo
 
 -- ---- items
 
-item_at-inside : {Item Items Pairs : Type 0} (m : Reading Item Items Pairs) (levels : ℕ) (bs : List ℕ) → item_at m levels bs ≡ item_by m (inside m levels) bs
+pub item_at-inside : {Item Items Pairs : Type 0} (m : Reading Item Items Pairs) (levels : ℕ) (bs : List ℕ) → item_at m levels bs ≡ item_by m (inside m levels) bs
 unfolding item_at
 item_at-inside m zero bs = refl
 item_at-inside m (suc levels) bs = refl
 
 module _ {Item Items Pairs : Type 0} (m : Reading Item Items Pairs) where
   -- past a head, the reader is at the content
-  head_again : (inner : Option (List ℕ → Reads Item)) (major : ℕ) (w : HeadWidth) (n : ℕ) (bs : List ℕ) → n < limit w → item_by m inner ((32 * major + info w n) ∷ bs) ≡ content_at m inner (major_of major) (info w n) bs
+  pub head_again : (inner : Option (List ℕ → Reads Item)) (major : ℕ) (w : HeadWidth) (n : ℕ) (bs : List ℕ) → n < limit w → item_by m inner ((32 * major + info w n) ∷ bs) ≡ content_at m inner (major_of major) (info w n) bs
   unfolding item_by byte_at after_first
   head_again inner major w n bs fits =
       let small : info w n < 32 = omega (arith, info-below w n fits) in
       rw (high_of major (info w n) small, low_of major (info w n) small) refl
 
-  numbered_again : (inner : Option (List ℕ → Reads Item)) (major : ℕ) (read : HeadWidth → ℕ → List ℕ → Reads Item) (w : HeadWidth) (n : ℕ) (rest : List ℕ) → n < limit w → content_at m inner (major_of major) ≡ with_number read → item_by m inner (head major w n ++ rest) ≡ read w n rest
+  pub numbered_again : (inner : Option (List ℕ → Reads Item)) (major : ℕ) (read : HeadWidth → ℕ → List ℕ → Reads Item) (w : HeadWidth) (n : ℕ) (rest : List ℕ) → n < limit w → content_at m inner (major_of major) ≡ with_number read → item_by m inner (head major w n ++ rest) ≡ read w n rest
   numbered_again inner major read w n rest fits is = head_again inner major w n (behind w n ++ rest) fits ∙ rw (is, number_behind_again w n rest fits, width_of-info w n fits) refl
 
-  length_again : (inner : Option (List ℕ → Reads Item)) (major : ℕ) (read : HeadWidth → ℕ → List ℕ → Reads Item) (others : List ℕ → Reads Item) (w : HeadWidth) (n : ℕ) (rest : List ℕ) → n < limit w → content_at m inner (major_of major) ≡ with_length read others → item_by m inner (head major w n ++ rest) ≡ read w n rest
+  pub length_again : (inner : Option (List ℕ → Reads Item)) (major : ℕ) (read : HeadWidth → ℕ → List ℕ → Reads Item) (others : List ℕ → Reads Item) (w : HeadWidth) (n : ℕ) (rest : List ℕ) → n < limit w → content_at m inner (major_of major) ≡ with_length read others → item_by m inner (head major w n ++ rest) ≡ read w n rest
   length_again inner major read others w n rest fits is =
       let not_31 : eqb (info w n) 31 ≡ false = ne_eqb (info w n) 31 (λ same. omega (arith, info-below w n fits)) in
       head_again inner major w n (behind w n ++ rest) fits ∙ rw (is, not_31, number_behind_again w n rest fits, width_of-info w n fits) refl
@@ -233,15 +233,15 @@ module _ {Item Items Pairs : Type 0} (m : Reading Item Items Pairs) where
   unfolding tag_at
   tag_again p w n bs rest item is = rw is refl
 
-  indefinite_array_again : (p : List ℕ → Reads Item) (bs : List ℕ) → item_by m (Some p) (0x9f ∷ bs) ≡ array_at m (Some p) indefinite to_break bs
+  pub indefinite_array_again : (p : List ℕ → Reads Item) (bs : List ℕ) → item_by m (Some p) (0x9f ∷ bs) ≡ array_at m (Some p) indefinite to_break bs
   unfolding item_by byte_at after_first content_at
   indefinite_array_again p bs = refl
 
-  indefinite_map_again : (p : List ℕ → Reads Item) (bs : List ℕ) → item_by m (Some p) (0xbf ∷ bs) ≡ map_at m (Some p) indefinite to_break bs
+  pub indefinite_map_again : (p : List ℕ → Reads Item) (bs : List ℕ) → item_by m (Some p) (0xbf ∷ bs) ≡ map_at m (Some p) indefinite to_break bs
   unfolding item_by byte_at after_first content_at
   indefinite_map_again p bs = refl
 
-  pair_again : (p : List ℕ → Reads Item) (bs at_value more : List ℕ) (k v : Item) → BeginsWith m.allows bs → p bs ≡ Ok (k, at_value) → p at_value ≡ Ok (v, more) → pair_at m.allows p bs ≡ Ok ((k, v), more)
+  pub pair_again : (p : List ℕ → Reads Item) (bs at_value more : List ℕ) (k v : Item) → BeginsWith m.allows bs → p bs ≡ Ok (k, at_value) → p at_value ≡ Ok (v, more) → pair_at m.allows p bs ≡ Ok ((k, v), more)
   unfolding pair_at
   pair_again p bs at_value more k v may key val = rw (key_is m.allows p bs may, key, val) refl
 

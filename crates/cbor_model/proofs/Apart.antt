@@ -26,7 +26,7 @@ keys_begin r fits =
     (EachKey-from_each (λ k. Unit {0}) (λ k. tt) r)
 
 -- reading gives the item itself
-item_again : (r : Raw) (levels : ℕ) (rest : List ℕ) → IsWellFormed r → depth r ≤ levels → item_at raw_items levels (spell r ++ rest) ≡ Ok (r, rest)
+pub item_again : (r : Raw) (levels : ℕ) (rest : List ℕ) → IsWellFormed r → depth r ≤ levels → item_at raw_items levels (spell r ++ rest) ≡ Ok (r, rest)
 item_again r levels rest fits nests =
     again raw_items (length (spell r ++ rest)) (λ left n few within. refl) (λ a b few holds. refl) r levels rest fits nests (lets raw_items (λ a b few holds. refl) r (EachText-from_each (Passes raw_items) (λ b. refl) r) (keys_begin r fits) refl) (omega arith)
     ∙ ap (λ (i : Raw). Ok (i, rest)) (made-itself raw_items.has_room raw_items.is_text raw_items.exceeds raw_items.allows r)

@@ -20,7 +20,7 @@ head-no_break major w n at_most fits =
     let below = info-below w n fits in
     ne_eqb (32 * major + info w n) 0xff (λ same. omega arith)
 
-head_begun : (major : ℕ) (w : HeadWidth) (n : ℕ) (others : List ℕ) → major ≤ 6 → n < limit w → IsBegun ((32 * major + info w n) ∷ others)
+pub head_begun : (major : ℕ) (w : HeadWidth) (n : ℕ) (others : List ℕ) → major ≤ 6 → n < limit w → IsBegun ((32 * major + info w n) ∷ others)
 head_begun major w n others at_most fits = record { first = 32 * major + info w n; others = others; is = refl; no_break = head-no_break major w n at_most fits }
 
 simple_begun : (s : Simple) → IsBegun (simple_byte s ∷ [])

@@ -126,17 +126,17 @@ FindsInside m None levels = Unit {0}
 FindsInside m (Some p) levels = (inside : ℕ) × (suc inside ≤ levels) × Finds m p inside
 
 -- two parts, one after the other
-two_parts : (bs a more b rest : List ℕ) → bs ≡ a ++ more → more ≡ b ++ rest → bs ≡ (a ++ b) ++ rest
+pub two_parts : (bs a more b rest : List ℕ) → bs ≡ a ++ more → more ≡ b ++ rest → bs ≡ (a ++ b) ++ rest
 two_parts bs a more b rest first second = first ∙ ap (λ (t : List ℕ). a ++ t) second ∙ sym (append_assoc a b rest)
 
 -- a head and what stands behind it, which is that long
-behind_head : (major : ℕ) (w : HeadWidth) (n k : ℕ) (bs b rest : List ℕ) → bs ≡ b ++ rest → k ≡ n
+pub behind_head : (major : ℕ) (w : HeadWidth) (n k : ℕ) (bs b rest : List ℕ) → bs ≡ b ++ rest → k ≡ n
     → head major w n ++ bs ≡ (head major w k ++ b) ++ rest
 behind_head major w n k bs b rest parts long =
     two_parts (head major w n ++ bs) (head major w k) bs b rest (ap (λ (n : ℕ). head major w n ++ bs) (sym long)) parts
 
 -- a first byte, and parts up to the break
-behind_first : (first : ℕ) (bs parts rest : List ℕ) → bs ≡ parts ++ (0xff ∷ rest)
+pub behind_first : (first : ℕ) (bs parts rest : List ℕ) → bs ≡ parts ++ (0xff ∷ rest)
     → (first ∷ bs) ≡ (first ∷ (parts ++ break)) ++ rest
 behind_first first bs parts rest is = ap (λ (t : List ℕ). first ∷ t) (is ∙ sym (append_assoc parts break rest))
 
@@ -155,17 +155,17 @@ both_join exceeds a b one other =
 
 -- ---- chunks
 
-both_hold : (a b : Bool) → (a && b) ≡ true → (a ≡ true) × (b ≡ true)
+pub both_hold : (a b : Bool) → (a && b) ≡ true → (a ≡ true) × (b ≡ true)
 both_hold true b e = (refl, e)
 both_hold false b e = absurd cc
 
 -- the head of this major type, and what stands behind its first byte
-whole_head : (major low n : ℕ) (w : HeadWidth) (bs rest : List ℕ) → low ≡ info w n
+pub whole_head : (major low n : ℕ) (w : HeadWidth) (bs rest : List ℕ) → low ≡ info w n
     → bs ≡ behind w n ++ rest → ((32 * major + low) ∷ bs) ≡ head major w n ++ rest
 whole_head major low n w bs rest low_is parts =
     ap (λ (i : ℕ). (32 * major + i) ∷ bs) low_is ∙ ap (λ (t : List ℕ). (32 * major + info w n) ∷ t) parts
 
-chunk_found : (exceeds : ℕ → Bool) (major b : ℕ) (bs : List ℕ) (x : Chunk × List ℕ) → AreBytes bs
+pub chunk_found : (exceeds : ℕ → Bool) (major b : ℕ) (bs : List ℕ) (x : Chunk × List ℕ) → AreBytes bs
     → chunk_at exceeds major b bs ≡ Ok x → IsChunkOf exceeds major b bs x
 unfolding chunk_at content_of_chunk
 chunk_found exceeds major b bs x fits is =
@@ -194,7 +194,7 @@ chunk_found exceeds major b bs x fits is =
           ]
     ]
 
-chunks_found : (exceeds : ℕ → Bool) (have major fuel : ℕ) (bs : List ℕ) (x : List Chunk × List ℕ)
+pub chunks_found : (exceeds : ℕ → Bool) (have major fuel : ℕ) (bs : List ℕ) (x : List Chunk × List ℕ)
     → exceeds have ≡ false → AreBytes bs → chunks_by exceeds have major fuel bs ≡ Ok x
     → AreChunks exceeds have major bs x
 unfolding chunks_by byte_at
@@ -316,7 +316,7 @@ module _ {Item Items Pairs : Type 0} (m : Reading Item Items Pairs) (none_fits :
   }
 
   -- parts, of which so many are read, or those up to the break
-  pair_found : (p : List ℕ → Reads Item) (levels : ℕ) → Finds m p levels
+  pub pair_found : (p : List ℕ → Reads Item) (levels : ℕ) → Finds m p levels
       → (bs : List ℕ) (x : (Item × Item) × List ℕ) → AreBytes bs → pair_at m.allows p bs ≡ Ok x
       → IsPair m levels bs x
   unfolding pair_at

@@ -1,5 +1,5 @@
 -- The laws' proofs.
-use Rattle.cbor_model.specs.Laws.{ReaderFinds, ReaderAccepts, SameWithScratch, ScratchNeed, OneSpelling, ValueIsStorable, OrderIsTotal, OneFlat, CanonicalReadsBack, ValueIsCanonical, NormalisedOnce, EqualBytes, ByteOrder, LeastSpelling, ValueIsInRange}
+use Rattle.cbor_model.specs.Laws.{ReaderFinds, ReaderAccepts, SameWithScratch, ScratchNeed, OneSpelling, ValueIsStorable, OrderIsTotal, OneFlat, CanonicalReadsBack, ValueIsCanonical, NormalisedOnce, EqualBytes, ByteOrder, LeastSpelling, ValueIsInRange, FirstRefusal, NoneAllowed, OneFirstRefusal, ReadOrRefused, SpelledAllowsNone, SameFirstRefusal}
 use Rattle.cbor_model.proofs.Whole.{found_whole, read_whole}
 use Rattle.cbor_model.proofs.Scratch as scratch
 use Rattle.cbor_model.proofs.Storable.{storable}
@@ -11,6 +11,7 @@ use Rattle.cbor_model.proofs.Normal as normal
 use Rattle.cbor_model.proofs.ByteOrder as byteorder
 use Rattle.cbor_model.proofs.Least as least
 use Rattle.cbor_model.proofs.InRange as inrange
+use Rattle.cbor_model.proofs.FirstRefusal as refusal
 
 pub reader_finds : ReaderFinds
 reader_finds = found_whole
@@ -56,3 +57,21 @@ least_spelling = least.least_spelling
 
 pub value_is_in_range : ValueIsInRange
 value_is_in_range = inrange.value_is_in_range
+
+pub first_refusal : FirstRefusal
+first_refusal = refusal.first_refusal
+
+pub none_allowed : NoneAllowed
+none_allowed = refusal.none_allowed
+
+pub one_first_refusal : OneFirstRefusal
+one_first_refusal = refusal.one_first
+
+pub read_or_refused : ReadOrRefused
+read_or_refused = refusal.read_or_refused
+
+pub spelled_allows_none : SpelledAllowsNone
+spelled_allows_none = refusal.spelled_allows_none
+
+pub same_first_refusal : SameFirstRefusal
+same_first_refusal = refusal.same_first

@@ -54,7 +54,7 @@ passed_or P true x y p q = p refl
 passed_or P false x y p q = q
 
 -- the front that is found is UTF-8
-valid_front : (bs : List ℕ) (n : ℕ) → IsUtf8 (take (valid_len_up_to bs n) bs)
+pub valid_front : (bs : List ℕ) (n : ℕ) → IsUtf8 (take (valid_len_up_to bs n) bs)
 valid_front bs zero = IsUtf8-nil
 valid_front bs (suc n) =
     passed_or (λ (k : ℕ). IsUtf8 (take k bs)) (is_utf8 (take (suc n) bs)) (suc n) (valid_len_up_to bs n) (λ passed. IsUtf8-from_is_utf8 _ passed) (valid_front bs n)

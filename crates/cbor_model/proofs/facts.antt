@@ -5,3 +5,4 @@ pub mod Maps
 pub mod Order
 pub mod Reader
 pub mod Documents
+pub mod Refusals

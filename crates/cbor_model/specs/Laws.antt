@@ -1,6 +1,6 @@
 -- The laws, each of which is the contract of a public function.
-use Rattle.std.specs.Prelude.{◌≡◌, ◌⊎◌, ℕ, ◌^◌, ◌<◌, ◌≤◌, List, [], ◌++◌, length, Result, Ok}
-use Rattle.std.specs.Prelude.{IsErrAnd, Option, Some}
+use Rattle.std.specs.Prelude.{◌≡◌, ◌⊎◌, ℕ, ◌+◌, ◌^◌, ◌<◌, ◌≤◌, List, [], ◌++◌, length, Result, Ok, Err}
+use Rattle.std.specs.Prelude.{IsErrAnd, Option, Some, None}
 use Rattle.cbor_model.specs.Raw.{Raw, AreBytes, IsWellFormed, longest_joined}
 use Rattle.cbor_model.specs.Spelling.{spell}
 use Rattle.cbor_model.specs.Acceptable.{IsAcceptable, IsAcceptableWithin, FitsScratch}
@@ -12,8 +12,9 @@ use Rattle.cbor_model.specs.Order.{val_cmp}
 use Rattle.cbor_model.specs.InRange.{IsInRange}
 use Rattle.cbor_model.specs.Definite.{IsDefinite}
 use Rattle.std.specs.Cmp.{IsTotalOrder}
-use Rattle.cbor_model.specs.Refusal.{scratch_too_small}
+use Rattle.cbor_model.specs.Refusal.{Refusal, scratch_too_small}
 use Rattle.cbor_model.specs.Reader.{Fault, read_value, read_value_in}
+use Rattle.cbor_model.specs.Allowed.{Limits, limits_of, IsAllowed, IsFirstRefusal}
 
 -- the bytes spell one acceptable item, and v is its value
 pub record SpellsValue (bytes : List ℕ) (v : Val) : Type 0 where
@@ -103,3 +104,41 @@ LeastSpelling = (v : Val) (r : Raw)
 -- The value of a well-formed item, of which the bytes are fewer than 2^64, is in range.
 abbrev pub ValueIsInRange : Type 0
 ValueIsInRange = (r : Raw) → IsWellFormed r → length (spell r) < 2 ^ 64 → IsInRange (value r)
+
+-- What the reference reader refuses, with a scratch of some length or none, it refuses by the first
+-- refusal that the bytes allow: by that code, at that offset.
+abbrev pub FirstRefusal : Type 0
+FirstRefusal = (room : Option ℕ) (bytes : List ℕ) (f : Fault)
+    → AreBytes bytes → read_value_in room bytes ≡ Err f
+    → (offset : ℕ) × (offset + f.left ≡ length bytes)
+    × IsFirstRefusal (limits_of room) bytes f.why offset
+
+-- Where the reference reader reads a value, the bytes allow no refusal.
+abbrev pub NoneAllowed : Type 0
+NoneAllowed = (room : Option ℕ) (bytes : List ℕ) (v : Val)
+    → AreBytes bytes → read_value_in room bytes ≡ Ok v
+    → (why : Refusal) (place offset : ℕ) → ¬ (IsAllowed (limits_of room) bytes why place offset)
+
+-- Where the bytes spell an acceptable item, whose chunks fit the scratch, they allow no refusal.
+abbrev pub SpelledAllowsNone : Type 0
+SpelledAllowsNone = (room : Option ℕ) (bytes : List ℕ) (v : Val)
+    → length bytes < 2 ^ 64 → (spelt : SpellsValue bytes v) → FitsScratch room spelt.item
+    → (why : Refusal) (place offset : ℕ) → ¬ (IsAllowed (limits_of room) bytes why place offset)
+
+-- Bytes have one first refusal at the most, whatever the limits.
+abbrev pub OneFirstRefusal : Type 0
+OneFirstRefusal = (l : Limits) (bytes : List ℕ) (why why' : Refusal) (offset offset' : ℕ)
+    → IsFirstRefusal l bytes why offset → IsFirstRefusal l bytes why' offset'
+    → (why ≡ why') × (offset ≡ offset')
+
+-- With a scratch the first refusal is that the scratch is too small, or the first without one.
+abbrev pub SameFirstRefusal : Type 0
+SameFirstRefusal = (room : ℕ) (bytes : List ℕ) (why : Refusal) (offset : ℕ) → AreBytes bytes
+    → IsFirstRefusal (limits_of (Some room)) bytes why offset
+    → (why ≡ scratch_too_small) ⊎ IsFirstRefusal (limits_of None) bytes why offset
+
+-- Each input spells one acceptable item, whose chunks fit the scratch, or has a first refusal.
+abbrev pub ReadOrRefused : Type 0
+ReadOrRefused = (room : Option ℕ) (bytes : List ℕ) → AreBytes bytes
+    → ((v : Val) × (spelt : SpellsValue bytes v) × FitsScratch room spelt.item)
+    ⊎ ((why : Refusal) × (offset : ℕ) × IsFirstRefusal (limits_of room) bytes why offset)

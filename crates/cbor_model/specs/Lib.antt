@@ -18,3 +18,5 @@ pub mod Parts
 pub mod Formats
 pub mod Readable
 pub mod RawReader
+pub mod Wanted
+pub mod Allowed

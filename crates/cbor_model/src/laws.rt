@@ -3,6 +3,8 @@ ghost use Rattle.cbor_model.specs.Laws.{ReaderFinds, ReaderAccepts, SameWithScra
 ghost use Rattle.cbor_model.specs.Laws.{OneSpelling, ValueIsStorable, OrderIsTotal, OneFlat};
 ghost use Rattle.cbor_model.specs.Laws.{CanonicalReadsBack, ValueIsCanonical, NormalisedOnce};
 ghost use Rattle.cbor_model.specs.Laws.{EqualBytes, ByteOrder, LeastSpelling, ValueIsInRange};
+ghost use Rattle.cbor_model.specs.Laws.{FirstRefusal, NoneAllowed, OneFirstRefusal, ReadOrRefused};
+ghost use Rattle.cbor_model.specs.Laws.{SpelledAllowsNone, SameFirstRefusal};
 
 /// What the reference reader reads is the value of an acceptable item, and the bytes are its
 /// spelling.
@@ -89,4 +91,36 @@ pub fn least_spelling()
 /// below 2^64, so that the laws on bytes hold of all that is read.
 pub fn value_is_in_range()
     ensures { ValueIsInRange }
+{}
+
+/// What the reference reader refuses, it refuses by the first refusal that the bytes allow: the one
+/// of the least place, where at one place the ends of input come last.
+pub fn first_refusal()
+    ensures { FirstRefusal }
+{}
+
+/// Where the reference reader reads a value, the bytes allow no refusal.
+pub fn none_allowed()
+    ensures { NoneAllowed }
+{}
+
+/// Bytes fewer than 2^64 that spell an acceptable item, whose chunks fit the scratch, allow no
+/// refusal.
+pub fn spelled_allows_none()
+    ensures { SpelledAllowsNone }
+{}
+
+/// Bytes have one first refusal at the most: one code, at one offset.
+pub fn one_first_refusal()
+    ensures { OneFirstRefusal }
+{}
+
+/// With a scratch the first refusal is that the scratch is too small, or the first without one.
+pub fn same_first_refusal()
+    ensures { SameFirstRefusal }
+{}
+
+/// Each input spells one acceptable item, whose chunks fit the scratch, or has a first refusal.
+pub fn read_or_refused()
+    ensures { ReadOrRefused }
 {}

@@ -8,7 +8,8 @@
 mod laws;
 
 pub use laws::{
-    byte_order, canonical_reads_back, equal_bytes, least_spelling, normalised_once, one_flat,
-    one_spelling, order_is_total, reader_accepts, reader_finds, same_with_scratch, scratch_need,
-    value_is_canonical, value_is_in_range, value_is_storable,
+    byte_order, canonical_reads_back, equal_bytes, first_refusal, least_spelling, none_allowed,
+    normalised_once, one_first_refusal, one_flat, one_spelling, order_is_total, read_or_refused,
+    reader_accepts, reader_finds, same_first_refusal, same_with_scratch, scratch_need,
+    spelled_allows_none, value_is_canonical, value_is_in_range, value_is_storable,
 };

@@ -4,5 +4,7 @@
 pub use Rattle.cbor_model.proofs.Proved.{reader_finds, reader_accepts, value_is_storable, value_is_canonical}
 -- about what a scratch changes
 pub use Rattle.cbor_model.proofs.Proved.{same_with_scratch, scratch_need}
+-- about spellings
+pub use Rattle.cbor_model.proofs.Proved.{one_spelling}
 -- about canonical spellings
 pub use Rattle.cbor_model.proofs.Proved.{byte_order, equal_bytes, least_spelling, normalised_once}
