@@ -1,8 +1,8 @@
 -- What went from an input to its buffer.
 use Rattle.std.proofs.Common.{◌≡◌, ℕ, ◌+◌, ◌≤◌, List, ◌++◌, length, drop, take, Option, Some, arith}
-use Rattle.std.proofs.Common.{take-append-drop, refl, sym}
+use Rattle.std.proofs.Common.{take-append-drop, length-take-le, refl, sym, ap, ◌∙◌}
 use Rattle.std.proofs.lemmas.Grind.{common_steps}
-use Rattle.std.proofs.lemmas.List.{drop-drop}
+use Rattle.std.proofs.lemmas.List.{drop-drop, drop-take, drop-append-le}
 use Rattle.std.proofs.lemmas.Str.{utf8_valid_len-IsUtf8}
 use Rattle.std.specs.Str.{IsUtf8}
 use Rattle.std.specs.Str.Lossy.{utf8_valid_len}
@@ -25,33 +25,44 @@ appended bytes buffer after taken n end room left at within joined same =
       buffered = joined;
     }
 
--- The bytes of a slice up to `end` moved down to its front's end. None of what is to come changed.
-pub moved : (bytes after : List ℕ) (taken n joined offset end left : ℕ) (room : Option ℕ)
-    → end ≡ taken + n → end ≤ length bytes
-    → take (joined + n) after ≡ take joined bytes ++ take n (drop taken bytes)
+-- The bytes of a slice up to `end` moved down to the end of those that stand from start on. None of
+-- what is to come changed.
+pub moved : (bytes after buffer : List ℕ) (taken n start joined offset end left : ℕ)
+    (room : Option ℕ) → end ≡ taken + n → end ≤ length bytes → start + joined ≤ taken
+    → take joined (drop start bytes) ≡ buffer
+    → take (start + joined + n) after ≡ take (start + joined) bytes ++ take n (drop taken bytes)
     → drop (taken + n) after ≡ drop (taken + n) bytes → left ≡ offset + n
     → Buffered (record {
       to_come = Some (drop taken bytes);
-      buffer = take joined bytes;
+      buffer = buffer;
       offset = offset;
       room = room;
     })
     (record {
       to_come = Some (drop end after);
-      buffer = take (joined + n) after;
+      buffer = take (joined + n) (drop start after);
       offset = left;
       room = room;
     }) n
-moved bytes after taken n joined offset end left room at within front back count =
+moved bytes after buffer taken n start joined offset end left room at within order was front back
+    count =
     let rest = drop-drop n taken bytes in
     let parts = take-append-drop n (drop taken bytes) in
+    let few : start ≤ length (take (start + joined) bytes) =
+    omega (arith, length-take-le (start + joined) bytes (omega arith)) in
+    let whole : start + joined + n ≡ start + (joined + n) = omega arith in
     record {
       some = take n (drop taken bytes);
       len = grind (arith, common_steps);
       bytes = cc;
       count = count;
       room = refl;
-      buffered = front;
+      buffered =
+          sym (drop-take start (joined + n) after)
+          ∙ ap (λ m. drop start (take m after)) (sym whole)
+          ∙ ap (drop start) front
+          ∙ drop-append-le start (take (start + joined) bytes) (take n (drop taken bytes)) few
+          ∙ ap (λ l. l ++ take n (drop taken bytes)) (drop-take start joined bytes ∙ was);
     }
 
 -- The bytes of a slice up to `end` went behind other bytes, and the buffer stays.
@@ -115,7 +126,8 @@ skipped bytes buffer after taken n end offset left room at within count =
     }
 
 -- The same of a text.
-pub skipped_text : (bytes buffer after : List ℕ) (taken n end offset left valid : ℕ) (room : Option ℕ)
+pub skipped_text : (bytes buffer after : List ℕ) (taken n end offset left valid : ℕ)
+    (room : Option ℕ)
     → end ≡ taken + n → end ≤ length bytes → left ≡ offset + n
     → valid ≡ utf8_valid_len (take n (drop taken bytes))
     → SkippedText (record {

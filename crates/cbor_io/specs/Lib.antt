@@ -1,7 +1,9 @@
+pub mod Compare
 pub mod Error
 pub mod Head
 pub mod ReadError
 pub mod Reader
 pub mod Source
 pub mod Sources
+pub mod Utf8
 pub mod Write

@@ -11,9 +11,6 @@ ghost use Rattle.cbor_io.specs.declared.error.Category.TheVariants as category;
 use std::alloc::{AllocError, AllocFailed, Global};
 use std::{error, fmt, io};
 
-#[cfg(test)]
-mod tests;
-
 /// What the calls of this crate answer.
 pub type Result<T> = std::result::Result<T, Error>;
 

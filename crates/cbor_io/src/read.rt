@@ -11,13 +11,12 @@ ghost use Rattle.cbor_io.specs.Source.{RefusedByte, or_memory, NextDoes, ReadLea
 ghost use Rattle.cbor_io.specs.Source.{is_long, Skipped, SkippedText, RefusedPart};
 
 mod front;
+mod in_place;
 mod io_read;
 mod mut_slice_read;
 mod read_error;
 mod slice_read;
 mod slice_read_fixed;
-#[cfg(test)]
-mod tests;
 
 pub use io_read::IoRead;
 pub use mut_slice_read::MutSliceRead;

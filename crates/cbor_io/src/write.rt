@@ -8,9 +8,6 @@ mod slice_write;
 pub use io_write::IoWrite;
 pub use slice_write::SliceWrite;
 
-#[cfg(test)]
-mod tests;
-
 /// What takes bytes, piece by piece.
 ///
 /// A head is one piece, and so is what a string holds. Implement it for a device of your own, or

@@ -11,6 +11,7 @@ ghost use Rattle.cbor_value.specs.View.{view, views, float_view, pair_views, fla
 ghost use Rattle.cbor_value.specs.View.{flat_of_float};
 
 use super::{Float, Value};
+use cbor_io::compare::compare;
 use std::cmp::Ordering;
 
 /// Values of one major type are compared by what they hold; the others differ by their major types.
@@ -22,7 +23,7 @@ fn cmp_values(a: &Value, b: &Value) -> Ordering
     match (a, b) {
         (Value::Integer(x), Value::Integer(y)) => cmp_integers(*x, *y),
         (Value::Bytes(x), Value::Bytes(y)) => cmp_strings(x, y),
-        (Value::Text(x), Value::Text(y)) => cmp_strings(x.as_bytes(), y.as_bytes()),
+        (Value::Text(x), Value::Text(y)) => cmp_texts(x, y),
         (Value::Array(x), Value::Array(y)) => cmp_items(x, y),
         (Value::Map(x), Value::Map(y)) => cmp_pairs(&x.pairs, &y.pairs),
         (Value::Tag(n, x), Value::Tag(m, y)) => match n.cmp(m) {
@@ -83,9 +84,19 @@ fn cmp_strings(a: &[u8], b: &[u8]) -> Ordering
     ensures { result ≡ lex (length a.now ∷ a.now) (length b.now ∷ b.now) }
 {
     match a.len().cmp(&b.len()) {
-        Ordering::Equal => a.cmp(b),
+        Ordering::Equal => compare(a, b),
         other => other,
     }
+}
+
+/// The same of texts. Std's own order of short texts, by words, takes the fewest instructions.
+fn cmp_texts(a: &str, b: &str) -> Ordering
+    ensures { result ≡ lex (length a.now ∷ a.now) (length b.now ∷ b.now) }
+{
+    if a.len() < 8 && a.len() == b.len() {
+        return a.cmp(b);
+    }
+    cmp_strings(a.as_bytes(), b.as_bytes())
 }
 
 /// The shorter list first, and then item by item.

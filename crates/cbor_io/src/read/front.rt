@@ -7,6 +7,7 @@ ghost use Rattle.cbor_io.specs.Source.{first_of};
 ghost use Rattle.cbor_io.specs.declared.read.read_error.ReadErrorCode.TheVariants as refusal;
 
 use super::{ReadError, Result};
+use crate::utf8::from_utf8;
 use std::alloc::AllocError;
 
 // The next byte, where so many were taken; None at the end.
@@ -52,7 +53,7 @@ pub(super) fn append(out: &mut Vec<u8>, part: &[u8]) -> std::result::Result<(), 
 pub(super) fn valid_in(bytes: &[u8]) -> usize
     ensures { result ≡ utf8_valid_len bytes.now }
 {
-    match str::from_utf8(bytes) {
+    match from_utf8(bytes) {
         Ok(text) => text.len(),
         Err(e) => e.valid_up_to(),
     }

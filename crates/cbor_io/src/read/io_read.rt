@@ -6,9 +6,6 @@ ghost use Rattle.std.specs.Io.KnownBytes.{Keeps};
 ghost use Rattle.cbor_io.specs.Reader.{ByteRead, Filled, SomeRead, PieceTaken};
 ghost use Rattle.cbor_io.specs.Source.{with_peeked, reader_input};
 
-#[cfg(test)]
-mod tests;
-
 use super::front::valid_in;
 use super::{EitherLifetime, Offset, Read, ReadError, ReadErrorCode, Result, Source};
 use std::alloc::Global;

@@ -6,12 +6,17 @@ ghost use Rattle.cbor_io.specs.ReadError.{why, place};
 ghost use Rattle.cbor_io.specs.declared.read.read_error.ReadErrorCode.TheVariants as refusal;
 
 use super::front::{append, valid_in};
+use super::in_place::bring_down;
 use super::{EitherLifetime, Read, ReadError, Result, Source};
 use std::mem;
 
 /// The bytes of a slice that may be rewritten. All that is handed out is lent for the slice's whole
-/// life, also parts that were joined: they move down over the bytes between them. `read_to_vec`
-/// takes memory, for the vector that it fills; no other call does.
+/// life, also parts that were joined: the first stays where it is, each further one is brought down
+/// to those before it, and what lay between stands behind it then, in some order. So no byte is
+/// lost: up to the offset the slice keeps its bytes in another order, and those behind the offset
+/// stay. However many parts came before, no more than twice a part's bytes change their place.
+///
+/// `read_to_vec` takes memory, for the vector that it fills; no other call does.
 ///
 /// Its calls answer `EofWhileParsingValue` where too few bytes are to come, `read_to_vec` also
 /// `OutOfMemory`, and nothing else.
@@ -34,10 +39,13 @@ pub struct MutSliceRead<'a> {
     before: usize,
     // how many bytes of the slice were taken
     taken: usize,
-    // how many bytes at the slice's front were joined
+    // where in the slice the joined bytes begin
+    start: usize,
+    // how many they are; behind them, up to those that weren't taken, stands what was taken between
+    // them, in some order
     joined: usize,
     ghost within: { taken ≤ length slice.now },
-    ghost ordered: { joined ≤ taken },
+    ghost ordered: { start + joined ≤ taken },
     ghost fits: { before + length slice.now < 2 ^ 64 },
 }
 
@@ -53,6 +61,7 @@ impl<'a> MutSliceRead<'a> {
             slice,
             before: 0,
             taken: 0,
+            start: 0,
             joined: 0,
         }
     }
@@ -72,6 +81,19 @@ impl<'a> MutSliceRead<'a> {
         }
     }
 
+    // Where the joined bytes begin. Where there are none, the next part may stay where it is.
+    fn joined_from(&self) -> usize
+        ensures order { result + self.now.joined ≤ self.now.taken }
+        ensures same { take self.now.joined (drop result self.now.slice.now)
+            ≡ take self.now.joined (drop self.now.start self.now.slice.now) }
+    {
+        if self.joined == 0 {
+            self.taken
+        } else {
+            self.start
+        }
+    }
+
     // The bytes up to `end` that were not taken.
     fn part(&self, end: usize) -> &[u8]
         requires low { self.now.taken ≤ end }
@@ -81,16 +103,6 @@ impl<'a> MutSliceRead<'a> {
     {
         &self.slice[self.taken..end]
     }
-}
-
-// Moves n bytes down to `to`, over what lies between.
-fn move_down(bytes: &mut [u8], to: usize, from: usize, n: usize)
-    requires order { to ≤ from }
-    requires within { from + n ≤ length bytes.old }
-    ensures front { take (to + n) bytes.new ≡ take to bytes.old ++ take n (drop from bytes.old) }
-    ensures rest { drop (from + n) bytes.new ≡ drop (from + n) bytes.old }
-{
-    bytes.copy_within(from..from + n, to);
 }
 
 // Cuts the first n bytes off, for the slice's whole life.
@@ -116,9 +128,10 @@ fn cut_part<'a>(bytes: &mut &'a mut [u8], start: usize, n: usize) -> &'a [u8]
 }
 
 impl<'a> Source for MutSliceRead<'a> {
-    ghost use Rattle.std.specs.Prelude.{true};
+    ghost use Rattle.std.specs.Prelude.{true, OnOk};
     ghost use Rattle.cbor_io.specs.Source.{mut_refusals, first_of};
-    ghost use Rattle.cbor_io.specs.Sources.{input_of_mut_slice};
+    ghost use Rattle.cbor_io.specs.Source.{Buffered, FitsRoom, RefusedToBuffer};
+    ghost use Rattle.cbor_io.specs.Sources.{input_of_mut_slice, Rearranged};
 
     ghost source = { input_of_mut_slice };
 
@@ -159,24 +172,30 @@ impl<'a> Source for MutSliceRead<'a> {
     }
 
     fn clear_buffer(&mut self) {
-        let taken = self.taken;
         self.joined = 0;
-        self.taken = 0;
-        let _ = cut_front(&mut self.slice, taken);
-        self.before += taken;
     }
 
-    fn read_to_buffer(&mut self, n: usize) -> Result<()> {
+    #[tactic(auto, using(crate::proofs::Inputs::moved))]
+    fn read_to_buffer(&mut self, n: usize) -> Result<()>
+        ensures ok { OnOk result
+            (Buffered (input_of_mut_slice self.old) (input_of_mut_slice self.new) n) }
+        ensures fits { OnOk result (FitsRoom (input_of_mut_slice self.new)) }
+        ensures err { IfErr result (RefusedToBuffer mut_refusals
+            (input_of_mut_slice self.old) (input_of_mut_slice self.new) n) }
+        ensures rearranged { Rearranged self.old self.new }
+    {
         let end = self.end_of(n)?;
+        let start = self.joined_from();
         let slice = &mut *self.slice;
-        move_down(slice, self.joined, self.taken, n);
+        bring_down(slice, start + self.joined, self.taken, n);
+        self.start = start;
         self.joined += n;
         self.taken = end;
         Ok(())
     }
 
     fn buffer(&self) -> &[u8] {
-        &self.slice[..self.joined]
+        &self.slice[self.start..self.start + self.joined]
     }
 
     fn read_to_vec(&mut self, n: usize, out: &mut Vec<u8>) -> Result<()> {
@@ -219,6 +238,7 @@ impl<'a> Read<'a> for MutSliceRead<'a> {
     fn read<'b>(&'b mut self, n: usize) -> Result<EitherLifetime<'b, 'a>> {
         let end = self.end_of(n)?;
         let start = self.taken;
+        self.start = 0;
         self.joined = 0;
         self.taken = 0;
         let part = cut_part(&mut self.slice, start, n);
@@ -227,12 +247,14 @@ impl<'a> Read<'a> for MutSliceRead<'a> {
     }
 
     fn take_buffer<'b>(&'b mut self) -> EitherLifetime<'b, 'a> {
-        let joined = self.joined;
+        let start = self.start;
+        let end = start + self.joined;
         let taken = self.taken;
+        self.start = 0;
         self.joined = 0;
         self.taken = 0;
         let part = cut_front(&mut self.slice, taken);
         self.before += taken;
-        EitherLifetime::Long(&part[..joined])
+        EitherLifetime::Long(&part[start..end])
     }
 }

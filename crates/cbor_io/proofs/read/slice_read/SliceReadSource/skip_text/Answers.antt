@@ -5,5 +5,6 @@ use Rattle.cbor_io.proofs.read.slice_read.SliceReadSource.skip_text.Goals as goa
 
 pub returns-clause-ok : goal.returns-clause-ok
 returns-clause-ok c =
-    skipped_text _ _ _ _ _ _ _ _ _ _ c.in_ok-end.ensures.ok.0 c.in_ok-end.ensures.ok.1 c.in_ok-end.ensures.ok.0
+    skipped_text _ _ _ _ _ _ _ _ _ _ c.in_ok-end.ensures.ok.0 c.in_ok-end.ensures.ok.1
+    c.in_ok-end.ensures.ok.0
     (grind (arith, common_steps))

@@ -1,0 +1,8 @@
+-- A text is UTF-8 up to its end.
+use Rattle.std.proofs.Common.{◌≡◌, ℕ, List, length, sym}
+use Rattle.std.proofs.lemmas.Str.{utf8_valid_len-IsUtf8}
+use Rattle.std.specs.Str.{IsUtf8}
+use Rattle.std.specs.Str.Lossy.{utf8_valid_len}
+
+pub all_valid : (b : List ℕ) → IsUtf8 b → length b ≡ utf8_valid_len b
+all_valid b is = sym (utf8_valid_len-IsUtf8 b is)

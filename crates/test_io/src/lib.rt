@@ -1,0 +1,24 @@
+//! Tests of `cbor_io`: errors and their text, what sources hold between calls, what sinks take,
+//! readers and writers that fail, and UTF-8.
+#![tactic(auto)]
+
+#[cfg(test)]
+mod checks;
+#[cfg(test)]
+mod devices;
+#[cfg(test)]
+mod error_tests;
+#[cfg(test)]
+mod io_read_tests;
+#[cfg(test)]
+mod mut_slice_read_tests;
+#[cfg(test)]
+mod own_source_tests;
+#[cfg(test)]
+mod slice_read_fixed_tests;
+#[cfg(test)]
+mod slice_read_tests;
+#[cfg(test)]
+mod utf8_tests;
+#[cfg(test)]
+mod write_tests;
