@@ -12,6 +12,7 @@ pub mod Inside
 pub mod Texts
 pub mod Numbers
 pub mod All
+pub mod FirstRefusal
 pub mod Skipped
 pub mod SkippedStrings
 pub mod facts

@@ -1,5 +1,6 @@
 pub mod Cursor
 pub mod Deserializer
+pub mod FirstRefusal
 pub mod Gives
 pub mod Heads
 pub mod Strings

@@ -14,6 +14,7 @@ use crate::de::Deserializer;
 use crate::refusal::Done;
 use cbor_io::head::Major;
 use cbor_io::read::{ReadErrorCode, Source};
+use cbor_io::utf8::from_utf8;
 
 // How many of these bytes stand from the first on that isn't UTF-8.
 #[inline(always)]
@@ -21,7 +22,7 @@ use cbor_io::read::{ReadErrorCode, Source};
 fn bad_in(bytes: &[u8]) -> usize
     ensures { result ≡ length bytes.now - utf8_valid_len bytes.now }
 {
-    match str::from_utf8(bytes) {
+    match from_utf8(bytes) {
         Ok(_) => 0,
         Err(e) => bytes.len() - e.valid_up_to(),
     }

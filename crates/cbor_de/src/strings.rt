@@ -16,6 +16,7 @@ use crate::de::Deserializer;
 use crate::refusal::Done;
 use cbor_io::head::Major;
 use cbor_io::read::{ReadErrorCode, Source};
+use cbor_io::utf8::string_from_utf8;
 
 impl<R: Source> Deserializer<R> {
     /// Takes n bytes.
@@ -107,7 +108,7 @@ impl<R: Source> Deserializer<R> {
         ensures formats { self.new.formats ≡ self.old.formats }
     {
         let len = bytes.len();
-        match String::from_utf8(bytes) {
+        match string_from_utf8(bytes) {
             Ok(text) => Ok(text),
             Err(e) => {
                 let valid = e.utf8_error().valid_up_to();

@@ -1,6 +1,6 @@
 -- Texts of one character.
 use Rattle.std.proofs.Common.{◌≡◌, ◌∙◌, ℕ, Bool, List, [], ◌∷◌, ◌++◌, length, Result, Ok, Err, refl, sym, ap, subst, arith, length-append}
-use Rattle.std.specs.Char.{IsScalar, encode_utf8}
+use Rattle.std.specs.Char.{encode_utf8}
 use Rattle.std.proofs.lemmas.List.{append-nil}
 use Rattle.std.proofs.lemmas.Str.{encode_same, length-encode, len_utf8_bounds}
 use Rattle.cbor_model.specs.Formats.{Formats}
@@ -12,11 +12,11 @@ use Rattle.cbor_io.specs.Source.{Input, Lends}
 use Rattle.cbor_io.specs.declared.error.Error.{Error}
 use Rattle.cbor_io.specs.declared.read.read_error.ReadErrorCode.{ReadErrorCode}
 use Rattle.cbor_de.specs.Gives.{Limits}
-use Rattle.cbor_typed.specs.Strings.{IsCharacter, IsOneCharacter, IsOneOf, IsLentText, LendsText, text_bytes}
-use Rattle.cbor_typed.specs.Takes.{raws, lending, TakesItem}
-use Rattle.cbor_typed.specs.declared.lent.EitherStr.{EitherStr}
-use Rattle.cbor_typed.proofs.Contents.{same_bytes}
-use Rattle.cbor_typed.proofs.Lending.{made_read, made_none}
+use Rattle.cbor_scalars.specs.Strings.{IsCharacter, IsOneCharacter, IsOneOf, IsLentText, LendsText, text_bytes}
+use Rattle.cbor_scalars.specs.Takes.{raws, lending, TakesItem}
+use Rattle.cbor_scalars.specs.declared.lent.EitherStr.{EitherStr}
+use Rattle.cbor_scalars.proofs.facts.Strings.{same_bytes}
+use Rattle.cbor_scalars.proofs.facts.Strings.{made_read, made_none}
 
 no_more : (xs : List ℕ) → length xs ≡ 0 → xs ≡ []
 no_more [] none = refl

@@ -19,18 +19,18 @@ use Rattle.cbor_de.specs.Heads.{remaining_of}
 use Rattle.cbor_de.specs.declared.cursor.Remaining.{Remaining}
 use Rattle.cbor_de.specs.declared.formats.Formats.{Formats}
 use Rattle.cbor_de.proofs.facts.Steps.{step_then}
-use Rattle.cbor_typed.specs.Accesses.{items_at, IsEnd, IsNextItem, TakesEnd}
-use Rattle.cbor_typed.specs.Arrays.{AsArray}
-use Rattle.cbor_typed.specs.Enums.{Content, alone, one, parts, IsVariant, IsEnum, IsNothing, IsPart, AreParts, reads_names, unit, newtype, tuple, part_then, no_part}
-use Rattle.cbor_typed.specs.Identifiers.{IsIdentifier}
-use Rattle.cbor_typed.specs.Takes.{formats_of, raws, IsRead, IsNotRead, Refuses, TakesItem}
-use Rattle.cbor_typed.specs.Variants.{content_at, IsVariantHead, RefusesVariant, IsContent, IsNoContent, IsItemsOf, IsPartsHead}
-use Rattle.cbor_typed.specs.declared.variant.Form.{Form}
-use Rattle.cbor_typed.proofs.Nexts.{NoPart}
-use Rattle.cbor_typed.proofs.Refusing.{refuses_map, refuses_then}
-use Rattle.cbor_typed.proofs.Sequences.{append, append-push, SoFar, is_done, MustFollow}
-use Rattle.cbor_typed.proofs.Variants.{identifier_one, name_one}
-use Rattle.cbor_typed.proofs.WholeArrays.{NoItems, end_step, loop_begins, part_goes_on, part_lacks, end_lacks}
+use Rattle.cbor_collections.specs.Accesses.{items_at, IsEnd, IsNextItem, TakesEnd}
+use Rattle.cbor_collections.specs.Arrays.{AsArray}
+use Rattle.cbor_collections.specs.Enums.{Content, alone, one, parts, IsVariant, IsEnum, IsNothing, IsPart, AreParts, reads_names, unit, newtype, tuple, part_then, no_part}
+use Rattle.cbor_scalars.specs.Identifiers.{IsIdentifier}
+use Rattle.cbor_scalars.specs.Takes.{formats_of, raws, IsRead, IsNotRead, Refuses, TakesItem}
+use Rattle.cbor_collections.specs.Variants.{content_at, IsVariantHead, RefusesVariant, IsContent, IsNoContent, IsItemsOf, IsPartsHead}
+use Rattle.cbor_collections.specs.declared.variant.Form.{Form}
+use Rattle.cbor_collections.proofs.facts.Arrays.{NoPart}
+use Rattle.cbor_collections.proofs.facts.Refusals.{refuses_map, refuses_then}
+use Rattle.cbor_collections.proofs.facts.Arrays.{append, append-push, SoFar, is_done, MustFollow}
+use Rattle.cbor_collections.proofs.facts.Enums.{identifier_one, name_one}
+use Rattle.cbor_collections.proofs.facts.Arrays.{NoItems, end_step, loop_begins, part_goes_on, part_lacks, end_lacks}
 
 -- ---- one variant
 

@@ -1,5 +1,5 @@
 -- Where a type reads every item, each acceptable item is read.
-use Rattle.std.proofs.Common.{◌≡◌, ◌∙◌, ℕ, ◌^◌, ◌<◌, Bool, true, false, List, [], length, Option, Result, Ok, Err, IfErr, MatchResult, refl, sym, ap, subst, arith}
+use Rattle.std.proofs.Common.{◌≡◌, ◌∙◌, ℕ, ◌^◌, ◌<◌, Bool, List, [], length, Result, Ok, Err, IfErr, MatchResult, refl, sym, ap, subst, arith}
 use Rattle.std.specs.Prelude.{⊤}
 use Rattle.cbor_model.specs.Formats.{all_formats}
 use Rattle.cbor_model.specs.Plain.{Val}
@@ -20,7 +20,7 @@ use Rattle.cbor_io.specs.Error.{code_of, offset_of, IsOutOfMemory}
 use Rattle.cbor_io.specs.Source.{Input}
 use Rattle.cbor_de.specs.Gives.{FailsAs, FailsBy, Fails, FailsOrFaults, IsMemoryOrFault, IsMemoryOrFaultBy, IsScratchOrMemory, IsScratchOrMemoryBy, Tells, limits, values, whole_at}
 use Rattle.cbor_de.proofs.facts.Steps.{value_in}
-use Rattle.cbor_typed.specs.Takes.{WhereTotal, raws}
+use Rattle.cbor_scalars.specs.Takes.{WhereTotal}
 use Rattle.cbor_typed.specs.Whole.{IsWholeRead, ReadsAll}
 use Rattle.cbor_typed.proofs.Faults.{where_map}
 use Rattle.cbor_typed.proofs.Mapped.{along, value_seen}

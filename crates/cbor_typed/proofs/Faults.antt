@@ -1,16 +1,15 @@
 -- The fault that an error tells, where a type reads every item.
-use Rattle.std.proofs.Common.{◌≡◌, ◌+◌, ℕ, Bool, true, false, List, length, Option, Some, None, Result, Ok, Err, IfErr, refl, sym, ap, subst, ◌∙◌, arith}
+use Rattle.std.proofs.Common.{◌≡◌, ◌+◌, ℕ, Bool, true, false, List, length, Option, Result, Ok, Err, IfErr, refl, sym, ap, subst, ◌∙◌, arith}
 use Rattle.std.specs.Prelude.{⊤}
 use Rattle.cbor_model.specs.Formats.{Formats, all_formats}
 use Rattle.cbor_model.specs.Raw.{Raw}
 use Rattle.cbor_model.specs.Acceptable.{max_depth}
 use Rattle.cbor_model.specs.Plain.{Val}
 use Rattle.cbor_model.specs.Value.{value}
-use Rattle.cbor_model.specs.Reader.{Fault, Reads, ◌>>=◌, item_at, read_value_in}
+use Rattle.cbor_model.specs.Reader.{Fault, Reads, item_at, read_value_in}
 use Rattle.cbor_model.proofs.facts.Reader.{ok_is}
 use Rattle.cbor_io.specs.Source.{Input}
 use Rattle.cbor_io.specs.Error.{code_of, offset_of}
-use Rattle.cbor_io.specs.ReadError.{place}
 use Rattle.cbor_io.specs.declared.error.Error.{Error}
 use Rattle.cbor_io.specs.declared.error.ErrorCode.{ErrorCode}
 use Rattle.cbor_io.specs.declared.error.ErrorCode.TheVariants as code
@@ -18,14 +17,13 @@ use Rattle.cbor_io.specs.declared.read.read_error.ReadError.{ReadError}
 use Rattle.cbor_io.specs.declared.read.read_error.ReadErrorCode.{ReadErrorCode}
 use Rattle.cbor_value.specs.View.{view}
 use Rattle.cbor_value.specs.declared.Value.{Value}
-use Rattle.cbor_de.specs.Gives.{Limits, limits, values, Tells, Step, Stopped, Reports, Ends, FailsBy, Fails, FailsOrFaults, IsErrorOf, end_at, whole_at}
+use Rattle.cbor_de.specs.Gives.{limits, values, Tells, Step, Stopped, Reports, Ends, FailsBy, Fails, FailsOrFaults, IsErrorOf, end_at, whole_at}
 use Rattle.cbor_de.specs.declared.refusal.Refused.{Refused}
-use Rattle.cbor_de.specs.declared.refusal.Refused.TheVariants as refused
 use Rattle.cbor_de.specs.Heads.{passed}
 use Rattle.cbor_de.proofs.facts.Steps.{step_map, stopped_map, passed_on, fault_in, passed_was, passed_stops}
-use Rattle.cbor_typed.specs.Takes.{raws, IsRead, IsNotRead, Refuses, WhereTotal, TellsFault}
+use Rattle.cbor_scalars.specs.Takes.{raws, IsRead, IsNotRead, Refuses, WhereTotal, TellsFault}
 use Rattle.cbor_typed.specs.Whole.{TellsWhole}
-use Rattle.cbor_typed.proofs.Scalars.{refuses}
+use Rattle.cbor_scalars.proofs.facts.Refusals.{refuses}
 use Rattle.cbor_typed.proofs.Mapped.{along, value_seen}
 
 pub where_map : {P Q : Type 0} (total : Bool) → (P → Q) → WhereTotal total P → WhereTotal total Q
@@ -139,9 +137,3 @@ module _ (allowed : ReadErrorCode → Bool) (f : Formats) (levels : ℕ) (s : In
   -- what stops passing over an item stops reading it
   pub any_stops : (kept : Option ReadError) (r : Refused) → Stopped allowed (λ l bs. passed (item_at (values f l) levels bs)) s kept r → Stopped allowed (λ l. item_at (values f l) levels) s kept r
   any_stops kept r = stopped_map allowed (λ l bs. passed (item_at (values f l) levels bs)) (λ l. item_at (values f l) levels) s kept r (λ l bs d is. passed_stops (item_at (values f l) levels bs) d is)
-
--- the error of a refusal tells the fault
-pub told_by : {A : Type 0} (allowed : ReadErrorCode → Bool) (read : Limits → List ℕ → Reads A) (s : Input) (kept : Option ReadError) (r : Refused) (e : Error) → IsErrorOf kept r e → Stopped allowed read s kept r → TellsFault allowed read s e
-told_by allowed read s kept refused.OutOfMemory e is h bs tells = rw is.0 is.1
-told_by allowed read s None refused.Kept e is h bs tells = absurd h
-told_by allowed read s (Some q) refused.Kept e is h bs tells = rw (is.0, is.1) (h.told bs tells)

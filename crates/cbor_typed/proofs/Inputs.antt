@@ -15,9 +15,9 @@ use Rattle.cbor_io.specs.declared.error.ErrorCode.{ErrorCode}
 use Rattle.cbor_io.specs.declared.error.ErrorCode.TheVariants as code
 use Rattle.cbor_io.specs.declared.read.read_error.ReadErrorCode.{ReadErrorCode}
 use Rattle.cbor_de.specs.Gives.{Limits, limits, Tells, Step, Reports, Ends, end_at, IsMemoryOrFault, IsMemoryOrFaultBy}
-use Rattle.cbor_typed.specs.Takes.{raws, IsRead, IsNotRead, ExcusedBy, Refuses}
+use Rattle.cbor_scalars.specs.Takes.{raws, IsRead, IsNotRead, ExcusedBy, Refuses}
 use Rattle.cbor_typed.specs.Whole.{IsWholeRead, ReadsAll}
-use Rattle.cbor_typed.proofs.Scalars.{excused_or}
+use Rattle.cbor_scalars.proofs.facts.Refusals.{excused_or}
 
 module _ {A : Type 0} (allowed : ReadErrorCode → Bool) (f : Formats) (reads : Raw → A → Type 0) (levels : ℕ) where
   abbrev Front : Limits → List ℕ → A → List ℕ → Type 0

@@ -14,8 +14,8 @@ use Rattle.cbor_de.specs.Gives.{Limits, values}
 use Rattle.cbor_de.specs.Heads.{opening_at, behind_head}
 use Rattle.cbor_de.specs.declared.head.Head.{Head}
 use Rattle.cbor_de.specs.declared.head.Head.TheVariants as head
-use Rattle.cbor_typed.specs.Takes.{raws}
-use Rattle.cbor_typed.proofs.Opening.{item_opened}
+use Rattle.cbor_scalars.specs.Takes.{raws}
+use Rattle.cbor_scalars.proofs.facts.Items.{item_opened}
 
 -- what is read, seen by h
 abbrev pub along : {A B : Type 0} → (A → B) → Reads A → Reads B

@@ -1,14 +1,14 @@
 -- The fields of a struct that were read so far.
-use Rattle.std.proofs.Common.{◌≡◌, ◌≢◌, ◌⊎◌, inl, inr, ℕ, zero, suc, ◌+◌, ◌<◌, Bool, true, false, List, [], ◌∷◌, ◌++◌, Option, Some, None, refl, sym, ap, subst, ◌∙◌, arith}
+use Rattle.std.proofs.Common.{◌≡◌, inl, inr, ℕ, zero, suc, ◌+◌, ◌<◌, Bool, true, false, List, [], ◌∷◌, ◌++◌, Option, Some, None, refl, sym, ap, subst, ◌∙◌, arith}
 use Rattle.std.specs.Option.{is_some}
 use Rattle.cbor_model.specs.Raw as raw
 use Rattle.cbor_model.specs.Raw.{Raw, RawPairs, no_raw_pairs, raw_pair}
 use Rattle.cbor_model.specs.Readable.{untagged, IsString}
-use Rattle.cbor_typed.specs.Identifiers.{IsFirst, IsPlace, IsIdentifier}
-use Rattle.cbor_typed.specs.Structs.{IsAny, IsField, AreFields, Absent, Once, IsFieldRead, FieldOf, HasFields, AreFieldsOf, place_in}
+use Rattle.cbor_scalars.specs.Identifiers.{IsFirst, IsPlace, IsIdentifier}
+use Rattle.cbor_typed.specs.Structs.{IsAny, IsField, AreFields, Absent, Once, IsFieldRead, FieldOf, HasFields, AreFieldsOf}
 use Rattle.cbor_typed.specs.declared.structure.Field.{Field}
 use Rattle.cbor_typed.specs.declared.structure.Field.TheVariants.{Known, Unknown}
-use Rattle.cbor_typed.proofs.PairsRead.{append_pairs, PairMayFollow}
+use Rattle.cbor_collections.proofs.facts.Maps.{append_pairs, PairMayFollow}
 
 -- ---- a key names one field
 

@@ -12,16 +12,16 @@ use Rattle.cbor_de.specs.Gives.{Step}
 use Rattle.cbor_de.specs.Heads.{remaining_of}
 use Rattle.cbor_de.specs.declared.cursor.Remaining.TheVariants.{Counted}
 use Rattle.cbor_de.specs.declared.formats.Formats.{Formats}
-use Rattle.cbor_typed.specs.Accesses.{turns}
-use Rattle.cbor_typed.specs.Identifiers.{texts}
-use Rattle.cbor_typed.specs.MapAccesses.{IsKey, IsMapHead, RefusesMap, TakesMapEnd}
+use Rattle.cbor_collections.specs.Accesses.{turns}
+use Rattle.cbor_scalars.specs.Identifiers.{texts}
+use Rattle.cbor_collections.specs.MapAccesses.{IsKey, IsMapHead, RefusesMap, TakesMapEnd}
 use Rattle.cbor_typed.specs.Structs.{IsAny, IsField, FieldOf, IsStruct}
-use Rattle.cbor_typed.specs.Takes.{TakesItem, formats_of, raws, IsRead, IsNotRead, Refuses}
+use Rattle.cbor_scalars.specs.Takes.{TakesItem, formats_of, raws, IsRead, IsNotRead, Refuses}
 use Rattle.cbor_typed.specs.declared.de.Deserializer.{Deserializer}
 use Rattle.cbor_typed.specs.declared.structure.Field.{Field}
 use Rattle.cbor_typed.specs.declared.structure.Field.TheVariants.{Known, Unknown}
 use Rattle.cbor_typed.specs.declared.structure.StructAccess.{StructAccess}
-use Rattle.cbor_typed.proofs.PairsRead.{NoKey}
+use Rattle.cbor_collections.proofs.facts.Maps.{NoKey}
 use Rattle.cbor_typed.proofs.Slots.{Slots, none_yet, all_of, Has, ValueAt, reads_at, fill, IsOther}
 use Rattle.cbor_typed.proofs.Structs.{StructSoFar, NoStruct, struct_begins, no_struct, no_field_named, FieldNamed, field_named, field_once, field_not_once, other_passed, other_unread, field_missing, end_unread, struct_read}
 

@@ -4,7 +4,6 @@ use Rattle.std.specs.Option.{is_some}
 use Rattle.std.specs.Prelude.{IfSome}
 use Rattle.cbor_model.specs.Formats.{may_begin_key}
 use Rattle.cbor_model.specs.Raw.{Raw, RawPairs, no_raw_pairs, raw_pair}
-use Rattle.cbor_model.specs.Refusal.{end_in_map}
 use Rattle.cbor_model.specs.Reader.{Reads, item_at, key_at, next_at}
 use Rattle.cbor_model.specs.Reader as reader
 use Rattle.cbor_model.proofs.facts.Reader.{ok_is}
@@ -13,21 +12,20 @@ use Rattle.cbor_io.specs.Error.{code_of, offset_of}
 use Rattle.cbor_io.specs.declared.error.Error.{Error}
 use Rattle.cbor_io.specs.declared.error.ErrorCode.{ErrorCode}
 use Rattle.cbor_io.specs.declared.read.read_error.ReadErrorCode.{ReadErrorCode}
-use Rattle.cbor_de.specs.Cursor.{ended_at}
 use Rattle.cbor_de.specs.Gives.{Limits, Step}
 use Rattle.cbor_de.specs.Heads.{remaining_of}
 use Rattle.cbor_de.specs.declared.cursor.Remaining.{Remaining}
 use Rattle.cbor_de.specs.declared.cursor.Remaining.TheVariants.{Counted}
 use Rattle.cbor_de.specs.declared.formats.Formats.{Formats}
 use Rattle.cbor_de.proofs.facts.Steps.{step_then}
-use Rattle.cbor_typed.specs.MapAccesses.{pairs_at, IsMapHead, IsKey, IsNextKey, IsMapEnd, RefusesMap, TakesMapEnd}
+use Rattle.cbor_collections.specs.MapAccesses.{pairs_at, IsMapHead, IsKey, IsNextKey, IsMapEnd, RefusesMap, TakesMapEnd}
 use Rattle.cbor_typed.specs.Structs.{IsAny, IsField, AreFieldsOf, FieldOf, IsStruct}
-use Rattle.cbor_typed.specs.Takes.{formats_of, raws, IsRead, IsNotRead, Refuses}
+use Rattle.cbor_scalars.specs.Takes.{formats_of, raws, IsRead, IsNotRead, Refuses}
 use Rattle.cbor_typed.specs.declared.structure.Field.{Field}
 use Rattle.cbor_typed.specs.declared.structure.Field.TheVariants.{Known, Unknown}
-use Rattle.cbor_typed.proofs.PairsRead.{append_pairs, PairsSoFar, PairsDone, pairs_end, pairs_rest, first_pair, FirstPair, last, another, NoKey}
-use Rattle.cbor_typed.proofs.Refusing.{refuses_then, refuses_by}
-use Rattle.cbor_typed.proofs.Slots.{Slots, none_yet, all_of, Has, ValueAt, reads_at, put, fill, filled, IsOther, whole, behind, Gathered, gathered_none, gathered_set, gathered_other, gathered_twice, gathered_value, gathered_missing, gathered_all, gathered_follows}
+use Rattle.cbor_collections.proofs.facts.Maps.{append_pairs, PairsSoFar, PairsDone, pairs_end, pairs_rest, first_pair, last, another, NoKey}
+use Rattle.cbor_collections.proofs.facts.Refusals.{refuses_then, refuses_by}
+use Rattle.cbor_typed.proofs.Slots.{Slots, none_yet, all_of, Has, ValueAt, reads_at, put, fill, filled, IsOther, Gathered, gathered_none, gathered_set, gathered_other, gathered_twice, gathered_value, gathered_missing, gathered_all, gathered_follows}
 use Rattle.cbor_typed.proofs.WholeMaps.{NoPairs, map_begins, map_goes_on, key_lacks, map_takes, map_refused, map_end_refused, map_end_twice, no_map_read}
 
 -- ---- behind a key

@@ -19,12 +19,12 @@ use Rattle.cbor_de.specs.declared.cursor.Remaining.{Remaining}
 use Rattle.cbor_de.specs.declared.cursor.Remaining.TheVariants.{Counted}
 use Rattle.cbor_de.proofs.facts.Steps.{step_same, step_then}
 use Rattle.cbor_de.specs.declared.formats.Formats.{Formats}
-use Rattle.cbor_typed.specs.MapAccesses.{pairs_at, IsMapHead, IsPairs, IsKey, IsNextKey, IsMapEnd, RefusesMap, TakesMapEnd}
-use Rattle.cbor_typed.specs.Maps.{AsMap}
-use Rattle.cbor_typed.specs.Takes.{formats_of, raws, IsRead, IsNotRead, Refuses}
-use Rattle.cbor_typed.proofs.MapHeads.{map_read, map_none, none_as_map}
-use Rattle.cbor_typed.proofs.Refusing.{refuses_map, refuses_then, refuses_fault}
-use Rattle.cbor_typed.proofs.PairsRead.{append_pairs, PairsSoFar, pairs_begin, pairs_go_on, pairs_end, pairs_rest, NoKey, no_key_rest, no_value_rest, PairMayFollow}
+use Rattle.cbor_collections.specs.MapAccesses.{pairs_at, IsMapHead, IsPairs, IsKey, IsNextKey, IsMapEnd, RefusesMap, TakesMapEnd}
+use Rattle.cbor_collections.specs.Maps.{AsMap}
+use Rattle.cbor_scalars.specs.Takes.{formats_of, raws, IsRead, IsNotRead, Refuses}
+use Rattle.cbor_collections.proofs.facts.Maps.{map_read, map_none, none_as_map}
+use Rattle.cbor_collections.proofs.facts.Refusals.{refuses_map, refuses_then, refuses_fault}
+use Rattle.cbor_collections.proofs.facts.Maps.{append_pairs, PairsSoFar, pairs_begin, pairs_go_on, pairs_end, pairs_rest, NoKey, no_key_rest, no_value_rest, PairMayFollow}
 
 -- ---- the end
 

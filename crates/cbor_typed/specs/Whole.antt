@@ -9,7 +9,7 @@ use Rattle.cbor_io.specs.declared.read.read_error.ReadErrorCode.{ReadErrorCode}
 use Rattle.cbor_io.specs.Error.{code_of, offset_of}
 use Rattle.cbor_io.specs.Source.{Input}
 use Rattle.cbor_de.specs.Gives.{limits, Tells, Reports, whole_at}
-use Rattle.cbor_typed.specs.Takes.{raws, IsRead, ExcusedBy, WhereTotal, TellsFault}
+use Rattle.cbor_scalars.specs.Takes.{raws, IsRead, ExcusedBy, WhereTotal, TellsFault}
 
 -- The one item that a source has to give is read as x, where so many levels are left.
 abbrev pub IsWholeRead : {A : Type 0} → Formats → (Raw → A → Type 0) → ℕ → Input → List ℕ → A

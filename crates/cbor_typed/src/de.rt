@@ -7,7 +7,7 @@ ghost use Rattle.cbor_io.specs.Source.{slice_input, reader_input};
 ghost use Rattle.cbor_io.specs.Sources.{input_of_slice, input_of_slice_fixed, input_of_mut_slice};
 ghost use Rattle.cbor_io.specs.Sources.{input_of_reader};
 ghost use Rattle.cbor_de.specs.Gives.{Ends};
-ghost use Rattle.cbor_typed.specs.Takes.{formats_of};
+ghost use Rattle.cbor_scalars.specs.Takes.{formats_of};
 
 use cbor_de::Deserializer as Items;
 use cbor_io::error::Result;

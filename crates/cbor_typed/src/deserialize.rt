@@ -1,7 +1,7 @@
 //! Types that are read.
 
 ghost use Rattle.std.specs.Prelude.{◌≡◌, IfErr};
-ghost use Rattle.cbor_typed.specs.Takes.{TakesItem, TellsItem, context, formats_of};
+ghost use Rattle.cbor_scalars.specs.Takes.{TakesItem, TellsItem, context, formats_of};
 
 use crate::de::Deserializer;
 use cbor_io::error::Result;
@@ -183,7 +183,7 @@ pub trait DeserializeOwned: Readable {
     ghost use Rattle.cbor_model.specs.Formats.{Formats};
     ghost use Rattle.cbor_model.specs.Raw.{Raw};
     ghost use Rattle.cbor_io.specs.Source.{Lends};
-    ghost use Rattle.cbor_typed.specs.Takes.{lending};
+    ghost use Rattle.cbor_scalars.specs.Takes.{lending};
 
     ghost same: { (f : Formats) (a b : Lends) (r : Raw) (x : Self)
         → Self.reads (lending f a) r x → Self.reads (lending f b) r x };

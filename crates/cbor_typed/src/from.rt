@@ -1,7 +1,9 @@
 //! Reading a whole input as a type.
 
-ghost use Rattle.std.specs.Prelude.{◌≡◌, ◌<◌, ℕ, List, length, Some, IfOk, IfErr, MatchResult};
+ghost use Rattle.std.specs.Prelude.{◌≡◌, ◌<◌, ◌⊎◌, ℕ, List, length, Some, None};
+ghost use Rattle.std.specs.Prelude.{IfOk, IfErr, MatchResult};
 ghost use Rattle.cbor_model.specs.Acceptable.{max_depth, FitsScratch};
+ghost use Rattle.cbor_model.specs.Allowed.{limits_of};
 ghost use Rattle.cbor_model.specs.Formats.{all_formats};
 ghost use Rattle.cbor_model.specs.Laws.{SpellsValue};
 ghost use Rattle.cbor_model.specs.Plain.{Val};
@@ -9,9 +11,10 @@ ghost use Rattle.cbor_model.specs.Raw.{AreBytes, longest_joined};
 ghost use Rattle.cbor_model.specs.Readable.{SpellsAs};
 ghost use Rattle.cbor_model.specs.Reader.{read_value, read_value_in};
 ghost use Rattle.cbor_io.specs.Error.{IsOutOfMemory};
+ghost use Rattle.cbor_de.specs.FirstRefusal.{TellsFirst};
 ghost use Rattle.cbor_de.specs.Gives.{Fails, FailsOrFaults, Gave};
 ghost use Rattle.cbor_de.specs.Gives.{IsMemoryOrFault, IsScratchOrMemory};
-ghost use Rattle.cbor_typed.specs.Takes.{context, formats_of, lending, WhereTotal};
+ghost use Rattle.cbor_scalars.specs.Takes.{context, formats_of, lending, WhereTotal};
 ghost use Rattle.cbor_typed.specs.Whole.{ReadsAll, TellsWhole, from_slice_context};
 ghost use Rattle.cbor_typed.specs.Whole.{from_mut_slice_context, from_reader_context};
 
@@ -108,7 +111,10 @@ pub fn from_slice<'a, T: Deserialize<'a, SliceRead<'a>>>(
     ensures every { (v : Val) → (spelt : SpellsValue slice.now v)
         → MatchResult result (T.reads from_slice_context spelt.item)
         (λ e. WhereTotal T.total (IsOutOfMemory e)) }
-    // A refusal of it tells the fault that the reference reader meets, or that memory ran out.
+    // A refusal of it is the first that the bytes allow, or memory ran out.
+    ensures first { IfErr result (λ e. WhereTotal T.total
+        (IsOutOfMemory e ⊎ TellsFirst (limits_of None) slice.now e)) }
+    // It tells the fault that the reference reader meets, or that memory ran out.
     ensures refused { IfErr result (λ e.
         WhereTotal T.total (Fails (length slice.now) e (read_value slice.now))) }
 {
@@ -145,6 +151,8 @@ pub fn from_slice_with_scratch<'a, T: Deserialize<'a, SliceReadFixed<'a, 'a>>>(
     ensures small { (v : Val) → (spelt : SpellsValue slice.now v)
         → length scratch.old < longest_joined spelt.item
         → MatchResult result (λ x. ⊥) (λ e. WhereTotal T.total (IsScratchOrMemory e)) }
+    ensures first { IfErr result (λ e. WhereTotal T.total
+        (IsOutOfMemory e ⊎ TellsFirst (limits_of (Some (length scratch.old))) slice.now e)) }
     ensures refused { IfErr result (λ e. WhereTotal T.total (Fails (length slice.now) e
         (read_value_in (Some (length scratch.old)) slice.now))) }
 {
@@ -170,6 +178,8 @@ pub fn from_mut_slice<'a, T: Deserialize<'a, MutSliceRead<'a>>>(
     ensures every { (v : Val) → (spelt : SpellsValue slice.old v)
         → MatchResult result (T.reads from_mut_slice_context spelt.item)
         (λ e. WhereTotal T.total (IsOutOfMemory e)) }
+    ensures first { IfErr result (λ e. WhereTotal T.total
+        (IsOutOfMemory e ⊎ TellsFirst (limits_of None) slice.old e)) }
     ensures refused { IfErr result (λ e.
         WhereTotal T.total (Fails (length slice.old) e (read_value slice.old))) }
 {
@@ -204,8 +214,12 @@ pub fn from_reader<'de, T: DeserializeOwned + Deserialize<'de, IoRead<R>>, R: io
         → (v : Val) → (spelt : SpellsValue bytes v)
         → MatchResult result (T.reads from_reader_context spelt.item)
         (λ e. WhereTotal T.total (IsMemoryOrFault e)) }
-    // A refusal of it tells the fault that the reference reader meets, or that memory ran out, or
-    // the reader's.
+    // A refusal of it is the first that the bytes allow, or memory ran out, or the reader reported
+    // a fault.
+    ensures first { (bytes : List ℕ) → Gave (R.remaining reader) bytes
+        → IfErr result (λ e. WhereTotal T.total
+        (IsMemoryOrFault e ⊎ TellsFirst (limits_of None) bytes e)) }
+    // It tells the fault that the reference reader meets, with the same exceptions.
     ensures refused { (bytes : List ℕ) → Gave (R.remaining reader) bytes
         → IfErr result (λ e.
         WhereTotal T.total (FailsOrFaults (length bytes) e (read_value bytes))) }

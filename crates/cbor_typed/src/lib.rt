@@ -12,31 +12,28 @@
 mod de;
 mod deserialize;
 mod from;
-mod identifier;
-mod integer;
-mod lent;
+mod laws;
 mod map;
-mod open;
-mod optional;
-mod scalar;
+mod scalars;
 mod sequence;
-mod strings;
 mod structure;
 mod tags;
 mod types;
 mod variant;
 
+pub use cbor_collections::variant::Form;
 pub use cbor_de::{Formats, Remaining};
 pub use cbor_io::read::{
     EitherLifetime, IoRead, MutSliceRead, Offset, Read, ReadError, ReadErrorCode, SliceRead,
     SliceReadFixed, Source,
 };
+pub use cbor_scalars::lent::{EitherStr, Unread};
 pub use de::Deserializer;
 pub use deserialize::{Deserialize, DeserializeOwned, Readable};
 pub use from::{from_mut_slice, from_reader, from_slice, from_slice_with_scratch};
-pub use lent::{EitherStr, Unread};
+pub use laws::sources_agree;
 pub use map::MapAccess;
 pub use sequence::SeqAccess;
 pub use structure::{Field, StructAccess};
 pub use types::IgnoredAny;
-pub use variant::{Form, VariantAccess};
+pub use variant::VariantAccess;

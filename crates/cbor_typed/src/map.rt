@@ -1,30 +1,25 @@
 //! Maps, one pair after the other (RFC 7049, section 2.1, major type 5).
 
 ghost use Rattle.std.specs.Prelude.{◌≡◌, ◌<◌, ◌≤◌, true, false, IfOk, IfErr, MatchOption};
-ghost use Rattle.std.specs.Prelude.{OnOk, OnErr, IsSomeAnd};
 ghost use Rattle.std.specs.Option.{is_some};
 ghost use Rattle.std.specs.Borrow.{sem, RestsIfErr};
-ghost use Rattle.cbor_model.specs.Formats.{may_begin_key};
 ghost use Rattle.cbor_model.specs.Reader.{item_at};
 ghost use Rattle.cbor_de.specs.declared.cursor.Remaining.TheVariants.{Counted};
 ghost use Rattle.cbor_io.specs.Error.{code_of};
-ghost use Rattle.cbor_de.specs.Cursor.{Counts};
-ghost use Rattle.cbor_de.specs.Gives.{Gives, IsAt, IsErrorOf, Step, TellsNoForm};
-ghost use Rattle.cbor_de.specs.declared.refusal.Refused.TheVariants.{Kept};
-ghost use Rattle.cbor_io.specs.declared.read.read_error.ReadErrorCode.TheVariants as reading;
+ghost use Rattle.cbor_de.specs.Gives.{Step, TellsNoForm};
 ghost use Rattle.cbor_io.specs.declared.error.Error.{Error};
-ghost use Rattle.cbor_typed.specs.Accesses.{turns, size_of};
-ghost use Rattle.cbor_typed.specs.Cases.{Stands, key_cases};
-ghost use Rattle.cbor_typed.specs.MapAccesses.{IsMapHead, RefusesMap, TakesMapHead, TakesKey};
-ghost use Rattle.cbor_typed.specs.MapAccesses.{TakesMorePairs, TakesMapEnd, key_front};
-ghost use Rattle.cbor_typed.specs.Takes.{OnceMade, TakesItem, context, formats_of, raws};
+ghost use Rattle.cbor_collections.specs.Accesses.{turns, size_of};
+ghost use Rattle.cbor_collections.specs.MapAccesses.{IsMapHead, RefusesMap, TakesKey};
+ghost use Rattle.cbor_collections.specs.MapAccesses.{TakesMapEnd};
+ghost use Rattle.cbor_scalars.specs.Takes.{TakesItem, context, formats_of, raws};
 ghost use Rattle.cbor_typed.specs.contracts.de.Deserializer.{the_row};
 
 use crate::de::Deserializer;
 use crate::deserialize::Deserialize;
-use cbor_de::{Collection, Done, Head, Remaining};
+use cbor_collections::map::{end_map, map_head, more_pairs, no_key};
+use cbor_de::Remaining;
 use cbor_io::error::{Error, Result};
-use cbor_io::read::{Read, ReadErrorCode, Source};
+use cbor_io::read::{Read, Source};
 
 impl<R: Source> Deserializer<R> {
     /// Takes the tags and the head of a map, and goes one level in for its pairs.
@@ -50,148 +45,13 @@ impl<R: Source> Deserializer<R> {
         ensures due { IfOk result (λ m. m.value_due ≡ false) }
     {
         let outer = self.items.levels;
-        let remaining = self.map_head()?;
+        let remaining = map_head(&mut self.items)?;
         Ok(MapAccess {
             de: self,
             remaining,
             outer,
             value_due: false,
         })
-    }
-
-    // Takes the tags and the head of a map, and goes one level in.
-    pub(crate) fn map_head(&mut self) -> Result<Remaining>
-        ensures read { TakesMapHead R.refusals (formats_of self.old.items.formats)
-            self.old.items.levels (R.source self.old.items.source)
-            (R.source self.new.items.source) self.new.items.levels result }
-        ensures no_form { IfErr result (λ e. TellsNoForm (code_of e)) }
-        ensures inside { IfOk result (λ r. self.new.items.levels < self.old.items.levels) }
-        ensures outer { OnErr result (self.new.items.levels ≡ self.old.items.levels) }
-        ensures formats { self.new.items.formats ≡ self.old.items.formats }
-    {
-        let outer = self.items.levels;
-        let head = match self.open() {
-            Ok(head) => head,
-            Err(refused) => {
-                self.items.levels = outer;
-                return Err(self.items.error(refused));
-            }
-        };
-        let Head::Map(remaining) = head else {
-            self.items.levels = outer;
-            return Err(self.mismatch(head, "invalid type: expected a map"));
-        };
-        match self.items.enter() {
-            Ok(()) => Ok(remaining),
-            Err(refused) => {
-                self.items.levels = outer;
-                Err(self.items.error(refused))
-            }
-        }
-    }
-
-    // Refuses a key that may not begin as it does; its first byte stays.
-    #[inline(always)]
-    #[tactic(auto, unfolding(cbor_model::specs::Reader::key_at))]
-    pub(crate) fn key_begins(&mut self) -> Done<()>
-        ensures read { Gives R.refusals (λ u. u)
-            (λ l. key_front (formats_of self.old.items.formats))
-            (R.source self.old.items.source) (R.source self.new.items.source)
-            self.new.items.refusal result }
-        ensures levels { self.new.items.levels ≡ self.old.items.levels }
-        ensures formats { self.new.items.formats ≡ self.old.items.formats }
-    {
-        match self.items.source.ahead().first().copied() {
-            Some(first) => self.key_may_begin(first),
-            None => self.key_begins_peeked(),
-        }
-    }
-
-    // The same, where no byte is at hand.
-    #[inline(never)]
-    #[tactic(auto, unfolding(cbor_model::specs::Reader::key_at))]
-    fn key_begins_peeked(&mut self) -> Done<()>
-        ensures read { Gives R.refusals (λ u. u)
-            (λ l. key_front (formats_of self.old.items.formats))
-            (R.source self.old.items.source) (R.source self.new.items.source)
-            self.new.items.refusal result }
-        ensures levels { self.new.items.levels ≡ self.old.items.levels }
-        ensures formats { self.new.items.formats ≡ self.old.items.formats }
-    {
-        match self.items.source.peek() {
-            Ok(Some(first)) => self.key_may_begin(first),
-            Ok(None) => Err(self.items.refuse(ReadErrorCode::EofWhileParsingValue)),
-            Err(refusal) => Err(self.items.keep(refusal)),
-        }
-    }
-
-    // Refuses a key that may not begin with this byte.
-    #[inline(always)]
-    fn key_may_begin(&mut self, first: u8) -> Done<()>
-        ensures allowed { OnOk result
-            (may_begin_key (formats_of self.old.items.formats) first ≡ true) }
-        ensures refused { IfErr result (λ r. r ≡ Kept) }
-        ensures kept { OnErr result (IsSomeAnd self.new.items.refusal
-            (IsAt reading.WrongStructFormat (R.source self.old.items.source).offset)) }
-        ensures not_allowed { OnErr result
-            (may_begin_key (formats_of self.old.items.formats) first ≡ false) }
-        ensures source { self.new.items.source ≡ self.old.items.source }
-        ensures levels { self.new.items.levels ≡ self.old.items.levels }
-        ensures formats { self.new.items.formats ≡ self.old.items.formats }
-    {
-        if !self.items.formats.may_begin_key(first) {
-            return Err(self.items.refuse(ReadErrorCode::WrongStructFormat));
-        }
-        Ok(())
-    }
-
-    // Whether another pair of a map comes, of which so much remains; its first byte stays. A key
-    // that may not begin as it does is refused.
-    #[inline(always)]
-    #[tactic(auto, using(crate::proofs::Cases::made_stands, crate::proofs::Cases::key_stands))]
-    pub(crate) fn more_pairs(&mut self, remaining: &mut Remaining) -> Done<bool>
-        ensures read { OnceMade (IsErrorOf self.new.items.refusal)
-            (TakesMorePairs R.refusals (formats_of self.old.items.formats)
-            remaining.old remaining.new
-            (R.source self.old.items.source) (R.source self.new.items.source)) result }
-        ensures cases { IfErr result (λ r. (e : Error) → IsErrorOf self.new.items.refusal r e
-            → Stands (R.source self.old.items.source) e
-            (key_cases (formats_of self.old.items.formats) remaining.old)) }
-        ensures counts { IfOk result (λ more. Counts remaining.old more remaining.new) }
-        ensures levels { self.new.items.levels ≡ self.old.items.levels }
-        ensures formats { self.new.items.formats ≡ self.old.items.formats }
-    {
-        if !self.items.more(remaining, Collection::Map)? {
-            return Ok(false);
-        }
-        self.key_begins()?;
-        Ok(true)
-    }
-
-    // Takes the end of a map of which so much remains.
-    pub(crate) fn end_map(&mut self, remaining: Remaining) -> Result<()>
-        ensures read { TakesMapEnd R.refusals remaining
-            (R.source self.old.items.source) (R.source self.new.items.source) result }
-        ensures no_form { IfErr result (λ e. TellsNoForm (code_of e)) }
-        ensures levels { self.new.items.levels ≡ self.old.items.levels }
-        ensures formats { self.new.items.formats ≡ self.old.items.formats }
-    {
-        match self.items.end_of(remaining, Collection::Map) {
-            Ok(()) => Ok(()),
-            Err(refused) => Err(self.items.error(refused)),
-        }
-    }
-
-    // The error of a key that took no byte, where no count ends the map.
-    #[cold]
-    #[inline(never)]
-    pub(crate) fn no_key(&mut self) -> Error
-        ensures no_form { TellsNoForm (code_of result) }
-        ensures levels { self.new.items.levels ≡ self.old.items.levels }
-        ensures formats { self.new.items.formats ≡ self.old.items.formats }
-    {
-        let refused = self.items.refuse(ReadErrorCode::UnexpectedCode);
-        self.items.error(refused)
     }
 }
 
@@ -250,7 +110,7 @@ impl<'a, R: Source> MapAccess<'a, R> {
         ensures outer { self.new.outer ≡ self.old.outer }
         ensures formats { self.new.de.now.items.formats ≡ self.old.de.now.items.formats }
     {
-        match self.de.more_pairs(&mut self.remaining) {
+        match more_pairs(&mut self.de.items, &mut self.remaining) {
             Ok(true) => {}
             Ok(false) => return Ok(None),
             Err(refused) => {
@@ -269,7 +129,7 @@ impl<'a, R: Source> MapAccess<'a, R> {
         if let Remaining::ToBreak = self.remaining {
             if self.de.items.source.offset() <= start {
                 self.de.items.levels = self.outer;
-                return Err(self.de.no_key());
+                return Err(no_key(&mut self.de.items));
             }
         }
         self.value_due = true;
@@ -345,7 +205,7 @@ impl<'a, R: Source> MapAccess<'a, R> {
             value_due: _,
         } = self;
         de.items.levels = outer;
-        de.end_map(remaining)
+        end_map(&mut de.items, remaining)
     }
 
     /// Leaves the map for this error, which it passes on.

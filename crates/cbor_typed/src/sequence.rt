@@ -1,22 +1,22 @@
 //! Arrays, one item after the other (RFC 7049, section 2.1, major type 4).
 
-ghost use Rattle.std.specs.Prelude.{◌≡◌, ◌+◌, ◌<◌, IfOk, IfErr, MatchOption, OnErr};
+ghost use Rattle.std.specs.Prelude.{◌≡◌, ◌<◌, IfOk, IfErr, MatchOption};
 ghost use Rattle.cbor_de.specs.declared.cursor.Remaining.TheVariants.{Counted};
 ghost use Rattle.std.specs.Borrow.{sem, RestsIfErr};
 ghost use Rattle.cbor_model.specs.Reader.{item_at};
 ghost use Rattle.cbor_io.specs.Error.{code_of};
-ghost use Rattle.cbor_de.specs.Cursor.{Counts};
 ghost use Rattle.cbor_de.specs.Gives.{Step, TellsNoForm};
-ghost use Rattle.cbor_typed.specs.Accesses.{IsArrayHead, RefusesArray, TakesHead, TakesNext};
-ghost use Rattle.cbor_typed.specs.Accesses.{TakesMore, TakesPart, TakesEnd, turns, size_of};
-ghost use Rattle.cbor_typed.specs.Takes.{context, formats_of, raws};
+ghost use Rattle.cbor_collections.specs.Accesses.{IsArrayHead, RefusesArray, TakesNext};
+ghost use Rattle.cbor_collections.specs.Accesses.{TakesPart, TakesEnd, turns, size_of};
+ghost use Rattle.cbor_scalars.specs.Takes.{context, formats_of, raws};
 ghost use Rattle.cbor_typed.specs.contracts.de.Deserializer.{the_row};
 
 use crate::de::Deserializer;
 use crate::deserialize::Deserialize;
-use cbor_de::{Collection, Head, Remaining};
+use cbor_collections::array::{array_head, end_array, more_items, no_item};
+use cbor_de::Remaining;
 use cbor_io::error::{Error, Result};
-use cbor_io::read::{Read, ReadErrorCode, Source};
+use cbor_io::read::{Read, Source};
 
 impl<R: Source> Deserializer<R> {
     /// Takes the tags and the head of an array, and goes one level in for its items.
@@ -41,73 +41,12 @@ impl<R: Source> Deserializer<R> {
         ensures formats { IfOk result (λ s. s.de.now.items.formats ≡ self.old.items.formats) }
     {
         let outer = self.items.levels;
-        let remaining = self.array_head()?;
+        let remaining = array_head(&mut self.items)?;
         Ok(SeqAccess {
             de: self,
             remaining,
             outer,
         })
-    }
-
-    // Takes the tags and the head of an array, and goes one level in.
-    pub(crate) fn array_head(&mut self) -> Result<Remaining>
-        ensures read { TakesHead R.refusals (formats_of self.old.items.formats)
-            self.old.items.levels (R.source self.old.items.source) (R.source self.new.items.source)
-            self.new.items.levels result }
-        ensures no_form { IfErr result (λ e. TellsNoForm (code_of e)) }
-        ensures inside { IfOk result (λ r. self.new.items.levels < self.old.items.levels) }
-        ensures outer { OnErr result (self.new.items.levels ≡ self.old.items.levels) }
-        ensures formats { self.new.items.formats ≡ self.old.items.formats }
-    {
-        let outer = self.items.levels;
-        let head = match self.open() {
-            Ok(head) => head,
-            Err(refused) => {
-                self.items.levels = outer;
-                return Err(self.items.error(refused));
-            }
-        };
-        let Head::Array(remaining) = head else {
-            self.items.levels = outer;
-            return Err(self.mismatch(head, "invalid type: expected an array"));
-        };
-        match self.items.enter() {
-            Ok(()) => Ok(remaining),
-            Err(refused) => {
-                self.items.levels = outer;
-                Err(self.items.error(refused))
-            }
-        }
-    }
-
-    // Whether another item of an array comes, of which so much remains; its first byte stays.
-    #[inline(always)]
-    fn more_items(&mut self, remaining: &mut Remaining) -> Result<bool>
-        ensures read { TakesMore R.refusals remaining.old remaining.new
-            (R.source self.old.items.source) (R.source self.new.items.source) result }
-        ensures counts { IfOk result (λ more. Counts remaining.old more remaining.new) }
-        ensures no_form { IfErr result (λ e. TellsNoForm (code_of e)) }
-        ensures levels { self.new.items.levels ≡ self.old.items.levels }
-        ensures formats { self.new.items.formats ≡ self.old.items.formats }
-    {
-        match self.items.more(remaining, Collection::Array) {
-            Ok(more) => Ok(more),
-            Err(refused) => Err(self.items.error(refused)),
-        }
-    }
-
-    // Takes the end of an array of which so much remains.
-    pub(crate) fn end_array(&mut self, remaining: Remaining) -> Result<()>
-        ensures read { TakesEnd R.refusals remaining
-            (R.source self.old.items.source) (R.source self.new.items.source) result }
-        ensures no_form { IfErr result (λ e. TellsNoForm (code_of e)) }
-        ensures levels { self.new.items.levels ≡ self.old.items.levels }
-        ensures formats { self.new.items.formats ≡ self.old.items.formats }
-    {
-        match self.items.end_of(remaining, Collection::Array) {
-            Ok(()) => Ok(()),
-            Err(refused) => Err(self.items.error(refused)),
-        }
     }
 
     // The error of an array that has too few items.
@@ -119,18 +58,6 @@ impl<R: Source> Deserializer<R> {
             Ok(text) => Error::message(alloc, text),
             Err(e) => Error::from(e),
         }
-    }
-
-    // The error of an item that took no byte, where no count ends the array.
-    #[cold]
-    #[inline(never)]
-    fn no_item(&mut self) -> Error
-        ensures no_form { TellsNoForm (code_of result) }
-        ensures levels { self.new.items.levels ≡ self.old.items.levels }
-        ensures formats { self.new.items.formats ≡ self.old.items.formats }
-    {
-        let refused = self.items.refuse(ReadErrorCode::UnexpectedCode);
-        self.items.error(refused)
     }
 }
 
@@ -185,7 +112,7 @@ impl<'a, R: Source> SeqAccess<'a, R> {
         ensures outer { self.new.outer ≡ self.old.outer }
         ensures formats { self.new.de.now.items.formats ≡ self.old.de.now.items.formats }
     {
-        match self.de.more_items(&mut self.remaining) {
+        match more_items(&mut self.de.items, &mut self.remaining) {
             Ok(true) => {}
             Ok(false) => return Ok(None),
             Err(e) => {
@@ -204,7 +131,7 @@ impl<'a, R: Source> SeqAccess<'a, R> {
         if let Remaining::ToBreak = self.remaining {
             if self.de.items.source.offset() <= start {
                 self.de.items.levels = self.outer;
-                return Err(self.de.no_item());
+                return Err(no_item(&mut self.de.items));
             }
         }
         Ok(Some(item))
@@ -278,7 +205,7 @@ impl<'a, R: Source> SeqAccess<'a, R> {
             outer,
         } = self;
         de.items.levels = outer;
-        de.end_array(remaining)
+        end_array(&mut de.items, remaining)
     }
 
     /// Leaves the array for this error, which it passes on.

@@ -9,22 +9,23 @@ ghost use Rattle.cbor_io.specs.declared.error.Error.{Error};
 ghost use Rattle.cbor_model.specs.Reader.{item_at};
 ghost use Rattle.cbor_de.specs.declared.cursor.Remaining.TheVariants.{Counted};
 ghost use Rattle.cbor_de.specs.Gives.{Step, TellsNoForm};
-ghost use Rattle.cbor_typed.specs.Accesses.{turns, size_of};
-ghost use Rattle.cbor_typed.specs.Cases.{NamesNoKey, Stands, key_cases};
-ghost use Rattle.cbor_typed.specs.Identifiers.{IsMadeBy, texts};
-ghost use Rattle.cbor_typed.specs.MapAccesses.{IsMapHead, RefusesMap, TakesKey, TakesMapEnd};
+ghost use Rattle.cbor_collections.specs.Accesses.{turns, size_of};
+ghost use Rattle.cbor_collections.specs.Cases.{Stands, key_cases};
+ghost use Rattle.cbor_scalars.specs.Identifiers.{IsMadeBy, NamesNoKey, texts};
+ghost use Rattle.cbor_collections.specs.MapAccesses.{IsMapHead, RefusesMap, TakesKey, TakesMapEnd};
 ghost use Rattle.cbor_typed.specs.Structs.{IsAny, IsField, place_in, missing_text, duplicate_text};
-ghost use Rattle.cbor_typed.specs.Takes.{OnceMade, TakesItem, IsRead, IsNotRead, Refuses};
-ghost use Rattle.cbor_typed.specs.Takes.{context, formats_of, raws};
+ghost use Rattle.cbor_scalars.specs.Takes.{OnceMade, TakesItem, IsRead, IsNotRead, Refuses};
+ghost use Rattle.cbor_scalars.specs.Takes.{context, formats_of, raws};
 ghost use Rattle.cbor_typed.specs.contracts.de.Deserializer.{the_row};
 
 use crate::de::Deserializer;
 use crate::deserialize::Deserialize;
-use crate::identifier::{Named, Why};
 use crate::types::IgnoredAny;
+use cbor_collections::map::{end_map, map_head, more_pairs};
 use cbor_de::Remaining;
 use cbor_io::error::{Error, Result};
 use cbor_io::read::{Read, ReadErrorCode, Source};
+use cbor_scalars::identifier::{Named, Why, identifier, unnamed};
 use std::alloc::Global;
 
 /// A field that a key names.
@@ -65,7 +66,7 @@ impl<R: Source> Deserializer<R> {
         ensures names { IfOk result (λ m. texts m.names.now ≡ texts names.now) }
     {
         let outer = self.items.levels;
-        let remaining = self.map_head()?;
+        let remaining = map_head(&mut self.items)?;
         Ok(StructAccess {
             de: self,
             remaining,
@@ -89,7 +90,7 @@ impl<'de, R: Read<'de>> Deserializer<R> {
         ensures levels { self.new.items.levels ≡ self.old.items.levels }
         ensures formats { self.new.items.formats ≡ self.old.items.formats }
     {
-        match self.identifier(names)? {
+        match identifier(&mut self.items, names)? {
             Some(place) => Ok(Field::Known(place)),
             None => Ok(Field::Unknown),
         }
@@ -97,7 +98,7 @@ impl<'de, R: Read<'de>> Deserializer<R> {
 
     // Reads the field that the next key names; None where no pair remains.
     #[inline(always)]
-    #[tactic(auto, using(crate::proofs::Cases::unnamed_stands))]
+    #[tactic(auto, using(cbor_collections::proofs::facts::Places::unnamed_stands))]
     fn next_field(&mut self, remaining: &mut Remaining, names: &[&str]) -> Named<Option<Field>>
         ensures read { OnceMade (IsMadeBy self.new.items.refusal)
             (TakesKey R.refusals (formats_of self.old.items.formats) (IsField (texts names.now))
@@ -115,7 +116,7 @@ impl<'de, R: Read<'de>> Deserializer<R> {
         ensures levels { self.new.items.levels ≡ self.old.items.levels }
         ensures formats { self.new.items.formats ≡ self.old.items.formats }
     {
-        if !self.more_pairs(remaining)? {
+        if !more_pairs(&mut self.items, remaining)? {
             return Ok(None);
         }
         let start = self.items.source.offset();
@@ -207,7 +208,11 @@ impl<'a, R: Source> StructAccess<'a, R> {
             }
             Err(why) => {
                 self.de.items.levels = self.outer;
-                Err(self.de.unnamed(why, "invalid type: expected a field name"))
+                Err(unnamed(
+                    &mut self.de.items,
+                    why,
+                    "invalid type: expected a field name",
+                ))
             }
         }
     }
@@ -452,7 +457,7 @@ impl<'a, R: Source> StructAccess<'a, R> {
             names: _,
         } = self;
         de.items.levels = outer;
-        de.end_map(remaining)
+        end_map(&mut de.items, remaining)
     }
 }
 

@@ -2,26 +2,14 @@
 
 ghost use Rattle.std.specs.Prelude.{◌≡◌, ◌+◌, ◌<◌, IfOk, IfErr, IfSome};
 ghost use Rattle.cbor_io.specs.Error.{code_of};
-ghost use Rattle.cbor_de.specs.Gives.{Gives, TellsNoForm, TellsNoKey};
-ghost use Rattle.cbor_typed.specs.Tags.{begins_tag, tag_first_at, tag_head_at};
-ghost use Rattle.cbor_typed.specs.Tags.{ReadsTag, LevelsBehind, TagIs};
-ghost use Rattle.cbor_typed.specs.Takes.{formats_of};
+ghost use Rattle.cbor_de.specs.Gives.{TellsNoForm};
+ghost use Rattle.cbor_scalars.specs.Tags.{ReadsTag, LevelsBehind, TagIs};
+ghost use Rattle.cbor_scalars.specs.Takes.{formats_of};
 
 use crate::de::Deserializer;
-use cbor_de::Done;
 use cbor_io::error::Result;
 use cbor_io::read::Source;
-
-// Whether this is the first byte of a tag's head.
-#[inline(always)]
-fn begins_tag(first: u8) -> bool
-    ensures { result ≡ begins_tag first }
-{
-    match first {
-        0xc0..=0xdb => true,
-        _ => false,
-    }
-}
+use cbor_scalars::tags;
 
 impl<R: Source> Deserializer<R> {
     /// Takes a tag's head and goes one level in, to the item that the tag is of; None, which takes
@@ -40,6 +28,7 @@ impl<R: Source> Deserializer<R> {
     /// assert_eq!(rt; de.read_tag()?, None);
     /// assert_eq!(rt; u8::deserialize(&mut de)?, 5);
     /// ```
+    #[inline(always)]
     pub fn read_tag(&mut self) -> Result<Option<u64>>
         ensures read { ReadsTag R.refusals self.old.items.levels
             (R.source self.old.items.source) (R.source self.new.items.source) result }
@@ -50,10 +39,7 @@ impl<R: Source> Deserializer<R> {
         ensures levels { LevelsBehind result self.old.items.levels self.new.items.levels }
         ensures formats { self.new.items.formats ≡ self.old.items.formats }
     {
-        match self.tag() {
-            Ok(tag) => Ok(tag),
-            Err(refused) => Err(self.items.error(refused)),
-        }
+        tags::read_tag(&mut self.items)
     }
 
     /// Goes out of the tag that [`read_tag`](Deserializer::read_tag) went in to. That its level
@@ -65,46 +51,5 @@ impl<R: Source> Deserializer<R> {
         ensures formats { self.new.items.formats ≡ self.old.items.formats }
     {
         self.items.levels += 1;
-    }
-
-    // Takes a tag's head and goes one level in, if one stands at the front.
-    pub(crate) fn tag(&mut self) -> Done<Option<u64>>
-        ensures read { Gives R.refusals (λ o. o) (λ l. tag_head_at self.old.items.levels)
-            (R.source self.old.items.source) (R.source self.new.items.source)
-            self.new.items.refusal result }
-        ensures no_key { IfErr result (TellsNoKey self.new.items.refusal) }
-        ensures levels { LevelsBehind result self.old.items.levels self.new.items.levels }
-        ensures formats { self.new.items.formats ≡ self.old.items.formats }
-    {
-        let first = match self.tag_first() {
-            Ok(Some(first)) => first,
-            Ok(None) => return Ok(None),
-            Err(refused) => return Err(refused),
-        };
-        let n = self.items.argument(first % 32)?;
-        self.items.enter()?;
-        Ok(Some(n))
-    }
-
-    // Takes the first byte of a tag's head, if one stands at the front.
-    fn tag_first(&mut self) -> Done<Option<u8>>
-        ensures read { Gives R.refusals (λ o. o) (λ l. tag_first_at)
-            (R.source self.old.items.source) (R.source self.new.items.source)
-            self.new.items.refusal result }
-        ensures no_key { IfErr result (TellsNoKey self.new.items.refusal) }
-        ensures levels { self.new.items.levels ≡ self.old.items.levels }
-        ensures formats { self.new.items.formats ≡ self.old.items.formats }
-    {
-        match self.items.source.peek() {
-            Ok(Some(first)) => {
-                if !begins_tag(first) {
-                    return Ok(None);
-                }
-                self.items.source.discard();
-                Ok(Some(first))
-            }
-            Ok(None) => Ok(None),
-            Err(refusal) => Err(self.items.keep(refusal)),
-        }
     }
 }

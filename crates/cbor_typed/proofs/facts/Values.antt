@@ -7,3 +7,5 @@ pub use Rattle.cbor_typed.proofs.OfValues.{value_made, no_value}
 -- what a value stands for
 pub use Rattle.cbor_typed.proofs.OfValues.{view_null, view_bool, view_integer, view_float}
 pub use Rattle.cbor_value.proofs.facts.Views.{view_bytes, view_text, view_array, view_map, view_tag, count_views}
+-- what a call from a slice and one from a reader answer, for the law `sources_agree`
+pub use Rattle.cbor_typed.proofs.Alike.{reading, reading_of_reader}

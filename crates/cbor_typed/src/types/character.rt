@@ -1,12 +1,12 @@
 //! Characters.
 
-ghost use Rattle.cbor_typed.specs.Strings.{IsOneOf, text_bytes};
+ghost use Rattle.cbor_scalars.specs.Strings.{IsOneOf, text_bytes};
 
 use crate::de::Deserializer;
 use crate::deserialize::{Deserialize, DeserializeOwned, Readable};
-use crate::lent::EitherStr;
 use cbor_io::error::{Error, Result};
 use cbor_io::read::Read;
+use cbor_scalars::lent::EitherStr;
 use std::alloc::Global;
 
 const NO_CHARACTER: &str = "invalid type: expected a character";
@@ -39,7 +39,7 @@ fn character(text: EitherStr<'_, '_>, alloc: Global) -> Result<char>
 
 impl Readable for char {
     ghost use Rattle.cbor_model.specs.Readable.{PassesTags};
-    ghost use Rattle.cbor_typed.specs.Strings.{IsCharacter};
+    ghost use Rattle.cbor_scalars.specs.Strings.{IsCharacter};
 
     ghost reads = { λ c. PassesTags IsCharacter };
 }

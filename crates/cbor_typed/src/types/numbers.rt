@@ -4,6 +4,7 @@ use crate::de::Deserializer;
 use crate::deserialize::{Deserialize, DeserializeOwned, Readable};
 use cbor_io::error::Result;
 use cbor_io::read::Read;
+use cbor_scalars::integer::{read_from_zero, read_signed, read_u128};
 
 impl Readable for u8 {
     ghost use Rattle.std.specs.Prelude.{◌-◌, ◌^◌};
@@ -15,7 +16,11 @@ impl Readable for u8 {
 impl<'de, R: Read<'de>> Deserialize<'de, R> for u8 {
     #[inline(always)]
     fn deserialize(de: &mut Deserializer<R>) -> Result<u8> {
-        match de.read_from_zero(u8::MAX as u64, "integer out of range: expected u8") {
+        match read_from_zero(
+            &mut de.items,
+            u8::MAX as u64,
+            "integer out of range: expected u8",
+        ) {
             Ok(number) => Ok(number as u8),
             Err(e) => Err(e),
         }
@@ -36,7 +41,11 @@ impl Readable for u16 {
 impl<'de, R: Read<'de>> Deserialize<'de, R> for u16 {
     #[inline(always)]
     fn deserialize(de: &mut Deserializer<R>) -> Result<u16> {
-        match de.read_from_zero(u16::MAX as u64, "integer out of range: expected u16") {
+        match read_from_zero(
+            &mut de.items,
+            u16::MAX as u64,
+            "integer out of range: expected u16",
+        ) {
             Ok(number) => Ok(number as u16),
             Err(e) => Err(e),
         }
@@ -57,7 +66,11 @@ impl Readable for u32 {
 impl<'de, R: Read<'de>> Deserialize<'de, R> for u32 {
     #[inline(always)]
     fn deserialize(de: &mut Deserializer<R>) -> Result<u32> {
-        match de.read_from_zero(u32::MAX as u64, "integer out of range: expected u32") {
+        match read_from_zero(
+            &mut de.items,
+            u32::MAX as u64,
+            "integer out of range: expected u32",
+        ) {
             Ok(number) => Ok(number as u32),
             Err(e) => Err(e),
         }
@@ -78,7 +91,11 @@ impl Readable for u64 {
 impl<'de, R: Read<'de>> Deserialize<'de, R> for u64 {
     #[inline(always)]
     fn deserialize(de: &mut Deserializer<R>) -> Result<u64> {
-        match de.read_from_zero(u64::MAX as u64, "integer out of range: expected u64") {
+        match read_from_zero(
+            &mut de.items,
+            u64::MAX as u64,
+            "integer out of range: expected u64",
+        ) {
             Ok(number) => Ok(number as u64),
             Err(e) => Err(e),
         }
@@ -99,7 +116,11 @@ impl Readable for usize {
 impl<'de, R: Read<'de>> Deserialize<'de, R> for usize {
     #[inline(always)]
     fn deserialize(de: &mut Deserializer<R>) -> Result<usize> {
-        match de.read_from_zero(usize::MAX as u64, "integer out of range: expected usize") {
+        match read_from_zero(
+            &mut de.items,
+            usize::MAX as u64,
+            "integer out of range: expected usize",
+        ) {
             Ok(number) => Ok(number as usize),
             Err(e) => Err(e),
         }
@@ -120,7 +141,11 @@ impl Readable for i8 {
 impl<'de, R: Read<'de>> Deserialize<'de, R> for i8 {
     #[inline(always)]
     fn deserialize(de: &mut Deserializer<R>) -> Result<i8> {
-        match de.read_signed(i8::MAX as u64, "integer out of range: expected i8") {
+        match read_signed(
+            &mut de.items,
+            i8::MAX as u64,
+            "integer out of range: expected i8",
+        ) {
             Ok(number) => Ok(number as i8),
             Err(e) => Err(e),
         }
@@ -141,7 +166,11 @@ impl Readable for i16 {
 impl<'de, R: Read<'de>> Deserialize<'de, R> for i16 {
     #[inline(always)]
     fn deserialize(de: &mut Deserializer<R>) -> Result<i16> {
-        match de.read_signed(i16::MAX as u64, "integer out of range: expected i16") {
+        match read_signed(
+            &mut de.items,
+            i16::MAX as u64,
+            "integer out of range: expected i16",
+        ) {
             Ok(number) => Ok(number as i16),
             Err(e) => Err(e),
         }
@@ -162,7 +191,11 @@ impl Readable for i32 {
 impl<'de, R: Read<'de>> Deserialize<'de, R> for i32 {
     #[inline(always)]
     fn deserialize(de: &mut Deserializer<R>) -> Result<i32> {
-        match de.read_signed(i32::MAX as u64, "integer out of range: expected i32") {
+        match read_signed(
+            &mut de.items,
+            i32::MAX as u64,
+            "integer out of range: expected i32",
+        ) {
             Ok(number) => Ok(number as i32),
             Err(e) => Err(e),
         }
@@ -183,7 +216,11 @@ impl Readable for i64 {
 impl<'de, R: Read<'de>> Deserialize<'de, R> for i64 {
     #[inline(always)]
     fn deserialize(de: &mut Deserializer<R>) -> Result<i64> {
-        match de.read_signed(i64::MAX as u64, "integer out of range: expected i64") {
+        match read_signed(
+            &mut de.items,
+            i64::MAX as u64,
+            "integer out of range: expected i64",
+        ) {
             Ok(number) => Ok(number as i64),
             Err(e) => Err(e),
         }
@@ -204,7 +241,11 @@ impl Readable for isize {
 impl<'de, R: Read<'de>> Deserialize<'de, R> for isize {
     #[inline(always)]
     fn deserialize(de: &mut Deserializer<R>) -> Result<isize> {
-        match de.read_signed(isize::MAX as u64, "integer out of range: expected isize") {
+        match read_signed(
+            &mut de.items,
+            isize::MAX as u64,
+            "integer out of range: expected isize",
+        ) {
             Ok(number) => Ok(number as isize),
             Err(e) => Err(e),
         }
@@ -225,7 +266,7 @@ impl Readable for u128 {
 impl<'de, R: Read<'de>> Deserialize<'de, R> for u128 {
     #[inline(always)]
     fn deserialize(de: &mut Deserializer<R>) -> Result<u128> {
-        de.read_u128()
+        read_u128(&mut de.items)
     }
 }
 

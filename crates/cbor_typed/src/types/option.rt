@@ -4,6 +4,7 @@ use crate::de::Deserializer;
 use crate::deserialize::{Deserialize, DeserializeOwned, Readable};
 use cbor_io::error::Result;
 use cbor_io::read::Read;
+use cbor_scalars::optional::take_null;
 
 // Null is None, by its first byte alone: neither undefined nor a tagged null is.
 impl<T: Readable> Readable for Option<T> {
@@ -15,7 +16,7 @@ impl<T: Readable> Readable for Option<T> {
 impl<'de, R: Read<'de>, T: Deserialize<'de, R>> Deserialize<'de, R> for Option<T> {
     #[inline(always)]
     fn deserialize(de: &mut Deserializer<R>) -> Result<Option<T>> {
-        match de.take_null() {
+        match take_null(&mut de.items) {
             Ok(true) => return Ok(None),
             Ok(false) => {}
             Err(refused) => return Err(de.items.error(refused)),

@@ -42,7 +42,7 @@ impl DeserializeOwned for () {
 
 impl Readable for Float {
     ghost use Rattle.cbor_model.specs.Readable.{PassesTags};
-    ghost use Rattle.cbor_typed.specs.Scalars.{IsFloatItem};
+    ghost use Rattle.cbor_scalars.specs.Scalars.{IsFloatItem};
 
     ghost reads = { λ c. PassesTags IsFloatItem };
 }

@@ -2,10 +2,10 @@
 
 use crate::de::Deserializer;
 use crate::deserialize::{Deserialize, DeserializeOwned, Readable};
-use crate::lent::EitherStr;
-use crate::strings::NO_STRING;
 use cbor_io::error::{Error, Result};
 use cbor_io::read::{EitherLifetime, Read};
+use cbor_scalars::lent::EitherStr;
+use cbor_scalars::strings::{NO_STRING, read_string};
 
 impl Readable for String {
     ghost use Rattle.std.specs.String.{string_bytes};
@@ -16,7 +16,7 @@ impl Readable for String {
 
 impl<'de, R: Read<'de>> Deserialize<'de, R> for String {
     fn deserialize(de: &mut Deserializer<R>) -> Result<String> {
-        de.read_string()
+        read_string(&mut de.items)
     }
 }
 
@@ -27,7 +27,7 @@ impl DeserializeOwned for String {
 // A text is read where the source lends it for the input's life.
 impl Readable for &str {
     ghost use Rattle.cbor_model.specs.Readable.{PassesTags};
-    ghost use Rattle.cbor_typed.specs.Strings.{IsBorrowedText};
+    ghost use Rattle.cbor_scalars.specs.Strings.{IsBorrowedText};
 
     ghost reads = { λ c. PassesTags (λ r s. IsBorrowedText c r s.now) };
 }
@@ -48,7 +48,7 @@ impl<'de, R: Read<'de>> Deserialize<'de, R> for &'de str {
 // Bytes are read where the source lends them for the input's life.
 impl Readable for &[u8] {
     ghost use Rattle.cbor_model.specs.Readable.{PassesTags};
-    ghost use Rattle.cbor_typed.specs.Strings.{IsBorrowedString};
+    ghost use Rattle.cbor_scalars.specs.Strings.{IsBorrowedString};
 
     ghost reads = { λ c. PassesTags (λ r s. IsBorrowedString c r s.now) };
 }

@@ -8,7 +8,7 @@ use cbor_io::read::Read;
 /// An array of exactly one item.
 impl<A: Readable> Readable for (A,) {
     ghost use Rattle.cbor_model.specs.Readable.{PassesTags};
-    ghost use Rattle.cbor_typed.specs.Arrays.{AsArray, FirstThen, AreNone};
+    ghost use Rattle.cbor_collections.specs.Arrays.{AsArray, FirstThen, AreNone};
 
     ghost reads = { λ c. PassesTags (AsArray (λ rs t. FirstThen (A.reads c) t.0 AreNone rs)) };
 }
@@ -24,9 +24,9 @@ impl<'de, R: Read<'de>, A: Deserialize<'de, R>> Deserialize<'de, R> for (A,) {
 
 impl<A: DeserializeOwned> DeserializeOwned for (A,) {
     ghost use Rattle.cbor_model.specs.Readable.{untagged};
-    ghost use Rattle.cbor_typed.specs.Arrays.{AreNone, FirstThen};
-    ghost use Rattle.cbor_typed.specs.Arrays.{as_array_same, first_then_same};
-    ghost use Rattle.cbor_typed.specs.Takes.{lending};
+    ghost use Rattle.cbor_collections.specs.Arrays.{AreNone, FirstThen};
+    ghost use Rattle.cbor_collections.specs.Arrays.{as_array_same, first_then_same};
+    ghost use Rattle.cbor_scalars.specs.Takes.{lending};
 
     ghost same = { λ f a b r v h. as_array_same
         (λ rs t. FirstThen (A.reads (lending f a)) t.0 AreNone rs)
@@ -42,7 +42,7 @@ impl<A: DeserializeOwned> DeserializeOwned for (A,) {
 /// An array of exactly two items.
 impl<A: Readable, B: Readable> Readable for (A, B) {
     ghost use Rattle.cbor_model.specs.Readable.{PassesTags};
-    ghost use Rattle.cbor_typed.specs.Arrays.{AsArray, FirstThen, AreNone};
+    ghost use Rattle.cbor_collections.specs.Arrays.{AsArray, FirstThen, AreNone};
 
     ghost reads = { λ c. PassesTags (AsArray (λ rs t. FirstThen (A.reads c) t.0
         (FirstThen (B.reads c) t.1 AreNone) rs)) };
@@ -61,9 +61,9 @@ impl<'de, R: Read<'de>, A: Deserialize<'de, R>, B: Deserialize<'de, R>> Deserial
 
 impl<A: DeserializeOwned, B: DeserializeOwned> DeserializeOwned for (A, B) {
     ghost use Rattle.cbor_model.specs.Readable.{untagged};
-    ghost use Rattle.cbor_typed.specs.Arrays.{AreNone, FirstThen};
-    ghost use Rattle.cbor_typed.specs.Arrays.{as_array_same, first_then_same};
-    ghost use Rattle.cbor_typed.specs.Takes.{lending};
+    ghost use Rattle.cbor_collections.specs.Arrays.{AreNone, FirstThen};
+    ghost use Rattle.cbor_collections.specs.Arrays.{as_array_same, first_then_same};
+    ghost use Rattle.cbor_scalars.specs.Takes.{lending};
 
     ghost same = { λ f a b r v h. as_array_same
         (λ rs t. FirstThen (A.reads (lending f a)) t.0
@@ -85,7 +85,7 @@ impl<A: DeserializeOwned, B: DeserializeOwned> DeserializeOwned for (A, B) {
 /// An array of exactly three items.
 impl<A: Readable, B: Readable, C: Readable> Readable for (A, B, C) {
     ghost use Rattle.cbor_model.specs.Readable.{PassesTags};
-    ghost use Rattle.cbor_typed.specs.Arrays.{AsArray, FirstThen, AreNone};
+    ghost use Rattle.cbor_collections.specs.Arrays.{AsArray, FirstThen, AreNone};
 
     ghost reads = { λ c. PassesTags (AsArray (λ rs t. FirstThen (A.reads c) t.0
         (FirstThen (B.reads c) t.1
@@ -111,9 +111,9 @@ impl<
 
 impl<A: DeserializeOwned, B: DeserializeOwned, C: DeserializeOwned> DeserializeOwned for (A, B, C) {
     ghost use Rattle.cbor_model.specs.Readable.{untagged};
-    ghost use Rattle.cbor_typed.specs.Arrays.{AreNone, FirstThen};
-    ghost use Rattle.cbor_typed.specs.Arrays.{as_array_same, first_then_same};
-    ghost use Rattle.cbor_typed.specs.Takes.{lending};
+    ghost use Rattle.cbor_collections.specs.Arrays.{AreNone, FirstThen};
+    ghost use Rattle.cbor_collections.specs.Arrays.{as_array_same, first_then_same};
+    ghost use Rattle.cbor_scalars.specs.Takes.{lending};
 
     ghost same = { λ f a b r v h. as_array_same
         (λ rs t. FirstThen (A.reads (lending f a)) t.0
@@ -141,7 +141,7 @@ impl<A: DeserializeOwned, B: DeserializeOwned, C: DeserializeOwned> DeserializeO
 /// An array of exactly four items.
 impl<A: Readable, B: Readable, C: Readable, D: Readable> Readable for (A, B, C, D) {
     ghost use Rattle.cbor_model.specs.Readable.{PassesTags};
-    ghost use Rattle.cbor_typed.specs.Arrays.{AsArray, FirstThen, AreNone};
+    ghost use Rattle.cbor_collections.specs.Arrays.{AsArray, FirstThen, AreNone};
 
     ghost reads = { λ c. PassesTags (AsArray (λ rs t. FirstThen (A.reads c) t.0
         (FirstThen (B.reads c) t.1
@@ -175,9 +175,9 @@ impl<
     D: DeserializeOwned,
 > DeserializeOwned for (A, B, C, D) {
     ghost use Rattle.cbor_model.specs.Readable.{untagged};
-    ghost use Rattle.cbor_typed.specs.Arrays.{AreNone, FirstThen};
-    ghost use Rattle.cbor_typed.specs.Arrays.{as_array_same, first_then_same};
-    ghost use Rattle.cbor_typed.specs.Takes.{lending};
+    ghost use Rattle.cbor_collections.specs.Arrays.{AreNone, FirstThen};
+    ghost use Rattle.cbor_collections.specs.Arrays.{as_array_same, first_then_same};
+    ghost use Rattle.cbor_scalars.specs.Takes.{lending};
 
     ghost same = { λ f a b r v h. as_array_same
         (λ rs t. FirstThen (A.reads (lending f a)) t.0

@@ -8,6 +8,7 @@ use Rattle.cbor_typed.specs.Whole.{ReadsAll, TellsWhole, from_mut_slice_context}
 use Rattle.cbor_typed.proofs.Every.{every}
 use Rattle.cbor_typed.proofs.Faults.{fails}
 use Rattle.cbor_typed.proofs.Inputs.{found, accepted}
+use Rattle.cbor_typed.proofs.FirstRefusals.{first}
 use Rattle.cbor_typed.proofs.from.from_mut_slice.Goals as goal
 
 pub returns-clause-found : goal.returns-clause-found
@@ -47,3 +48,7 @@ returns-clause-every g c = λ v spelt.
     let reads = g.T.Readable.reads from_mut_slice_context in
     let read = subst (λ (s : Input). ReadsAll mut_refusals all_formats reads max_depth s c.read_all.result) c.new.ensures c.read_all.ensures.read in
     every g.T.Readable.total mut_refusals reads s bs tells refl (omega arith) v spelt tt c.read_all.result read (fails g.T.Readable.total mut_refusals s bs tells refl (λ device. absurd cc) c.read_all.result given)
+
+pub returns-clause-first : goal.returns-clause-first
+returns-clause-first g c =
+    first g.T.Readable.total None c.args.slice.now c.are_bytes.ensures c.read_all.result (returns-clause-refused g c)

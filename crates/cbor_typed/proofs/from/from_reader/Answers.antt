@@ -7,6 +7,7 @@ use Rattle.cbor_typed.specs.Whole.{ReadsAll, TellsWhole, from_reader_context}
 use Rattle.cbor_typed.proofs.Every.{every_or_fault}
 use Rattle.cbor_typed.proofs.Faults.{fails_or_faults}
 use Rattle.cbor_typed.proofs.Inputs.{found, accepted_or_fault}
+use Rattle.cbor_typed.proofs.FirstRefusals.{first_from_reader}
 use Rattle.cbor_typed.proofs.from.from_reader.Goals as goal
 
 pub returns-clause-found : goal.returns-clause-found
@@ -40,3 +41,7 @@ returns-clause-every g c = λ bs gave v spelt.
     let reads = g.T.Readable.reads from_reader_context in
     let read = subst (λ (s : Input). ReadsAll reader_refusals all_formats reads max_depth s c.read_all.result) c.new.ensures c.read_all.ensures.read in
     every_or_fault g.T.Readable.total reader_refusals reads s bs tells refl gave.short v spelt tt c.read_all.result read (fails_or_faults g.T.Readable.total reader_refusals s bs tells refl c.read_all.result given)
+
+pub returns-clause-first : goal.returns-clause-first
+returns-clause-first g c = λ bs gave.
+    first_from_reader g.T.Readable.total bs gave.are_bytes c.read_all.result (returns-clause-refused g c bs gave)

@@ -9,6 +9,7 @@ use Rattle.cbor_typed.proofs.Every.{every, small}
 use Rattle.cbor_model.proofs.facts.Laws.{scratch_need}
 use Rattle.cbor_typed.proofs.Faults.{fails}
 use Rattle.cbor_typed.proofs.Inputs.{found, accepted}
+use Rattle.cbor_typed.proofs.FirstRefusals.{first}
 use Rattle.cbor_typed.proofs.from.from_slice_with_scratch.Goals as goal
 
 pub returns-clause-found : goal.returns-clause-found
@@ -61,3 +62,7 @@ returns-clause-small g c = λ v spelt longer.
     let given = subst (λ (s : Input). IfErr c.read_all.result (TellsWhole g.T.Readable.total fixed_refusals all_formats max_depth s)) c.new.ensures c.read_all.ensures.fault in
     let need = scratch_need room bs v (omega arith) spelt in
     small g.T.Readable.total fixed_refusals reads s bs tells refl (need.1 longer) c.read_all.result read (fails g.T.Readable.total fixed_refusals s bs tells refl (λ device. absurd cc) c.read_all.result given)
+
+pub returns-clause-first : goal.returns-clause-first
+returns-clause-first g c =
+    first g.T.Readable.total (Some (length c.args.scratch.now)) c.args.slice.now (λ i. omega (arith, c.type_inv.slice i)) c.read_all.result (returns-clause-refused g c)

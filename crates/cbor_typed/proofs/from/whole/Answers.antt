@@ -1,4 +1,4 @@
-use Rattle.cbor_typed.specs.Takes.{context, formats_of}
+use Rattle.cbor_scalars.specs.Takes.{context, formats_of}
 use Rattle.cbor_typed.proofs.Faults.{item_whole, end_whole}
 use Rattle.cbor_typed.proofs.Inputs.{all_refused}
 use Rattle.cbor_typed.proofs.from.whole.Goals as goal

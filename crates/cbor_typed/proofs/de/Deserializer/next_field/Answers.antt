@@ -3,10 +3,10 @@ use Rattle.std.proofs.lemmas.Result.{err_from_is_err_and}
 use Rattle.cbor_io.specs.Error.{code_of, offset_of}
 use Rattle.cbor_de.specs.Heads.{remaining_of}
 use Rattle.cbor_de.specs.declared.formats.Formats.{Formats}
-use Rattle.cbor_typed.specs.Identifiers.{texts}
+use Rattle.cbor_scalars.specs.Identifiers.{texts}
 use Rattle.cbor_typed.specs.Structs.{IsField}
-use Rattle.cbor_typed.specs.Takes.{formats_of}
-use Rattle.cbor_typed.proofs.NextKeys.{none_is_key, there, key_refused, key_next, no_key_taken}
+use Rattle.cbor_scalars.specs.Takes.{formats_of}
+use Rattle.cbor_collections.proofs.facts.Maps.{none_is_key, there, key_refused, key_next, no_key_taken}
 use Rattle.cbor_typed.proofs.de.Deserializer.next_field.Goals as goal
 
 pub returns-in_err-more_pairs-clause-read : goal.returns-in_err-more_pairs-clause-read
@@ -20,7 +20,7 @@ pub returns-in_err-field-clause-read : goal.returns-in_err-field-clause-read
 returns-in_err-field-clause-read g c =
     let passed = err_from_is_err_and c.from_residual-in_err-field.result c.from_residual-in_err-field.ensures.1 in
     let old = c.args.self.now.items in
-    let now = c.more_pairs.new.self.items in
+    let now = c.more_pairs.new.items in
     let s = g.R.Source.source old.source in
     let m = g.R.Source.source now.source in
     let reads = λ (f : Formats). IsField (texts c.args.names.now) in
@@ -34,7 +34,7 @@ returns-in_err-field-clause-read g c =
 pub returns-then-offset-start-clause-read : goal.returns-then-offset-start-clause-read
 returns-then-offset-start-clause-read g c =
     let old = c.args.self.now.items in
-    let now = c.more_pairs.new.self.items in
+    let now = c.more_pairs.new.items in
     let s = g.R.Source.source old.source in
     let m = g.R.Source.source now.source in
     let t = g.R.Source.source c.field.new.self.items.source in
@@ -50,7 +50,7 @@ returns-then-offset-start-clause-read g c =
 pub returns-else-offset-start-clause-read : goal.returns-else-offset-start-clause-read
 returns-else-offset-start-clause-read g c =
     let old = c.args.self.now.items in
-    let now = c.more_pairs.new.self.items in
+    let now = c.more_pairs.new.items in
     let s = g.R.Source.source old.source in
     let m = g.R.Source.source now.source in
     let t = g.R.Source.source c.field.new.self.items.source in
@@ -65,7 +65,7 @@ returns-else-offset-start-clause-read g c =
 pub returns-in_default-clause-read : goal.returns-in_default-clause-read
 returns-in_default-clause-read g c =
     let old = c.args.self.now.items in
-    let now = c.more_pairs.new.self.items in
+    let now = c.more_pairs.new.items in
     let s = g.R.Source.source old.source in
     let m = g.R.Source.source now.source in
     let t = g.R.Source.source c.field.new.self.items.source in

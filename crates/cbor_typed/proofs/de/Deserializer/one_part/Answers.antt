@@ -1,5 +1,5 @@
-use Rattle.cbor_typed.specs.Takes.{context, formats_of}
-use Rattle.cbor_typed.proofs.VariantParts.{one_answer, untold}
+use Rattle.cbor_scalars.specs.Takes.{context, formats_of}
+use Rattle.cbor_collections.proofs.facts.Enums.{one_answer, untold}
 use Rattle.cbor_typed.proofs.de.Deserializer.one_part.Goals as goal
 
 pub returns-in-Array-clause-read : goal.returns-in-Array-clause-read

@@ -2,8 +2,8 @@ use Rattle.std.proofs.Common.{arith}
 use Rattle.cbor_io.specs.Error.{code_of, offset_of}
 use Rattle.cbor_de.specs.Heads.{remaining_of}
 use Rattle.cbor_de.specs.declared.formats.Formats.{Formats}
-use Rattle.cbor_typed.specs.Takes.{context, formats_of}
-use Rattle.cbor_typed.proofs.NextKeys.{none_is_key, there, key_refused, key_next, no_key_taken}
+use Rattle.cbor_scalars.specs.Takes.{context, formats_of}
+use Rattle.cbor_collections.proofs.facts.Maps.{none_is_key, there, key_refused, key_next, no_key_taken}
 use Rattle.cbor_typed.proofs.map.MapAccess.next_key.Goals as goal
 
 pub returns-in-Err-clause-read : goal.returns-in-Err-clause-read
@@ -16,40 +16,40 @@ returns-in-Err-clause-read g c =
 pub returns-in-Err-deserialize-clause-read : goal.returns-in-Err-deserialize-clause-read
 returns-in-Err-deserialize-clause-read g c =
     let old = c.args.self.now in
-    let now = c.more_pairs.new.self in
+    let now = c.more_pairs.new.items in
     let s = g.R.Source.source old.de.now.items.source in
-    let m = g.R.Source.source now.items.source in
+    let m = g.R.Source.source now.source in
     let reads = λ (f : Formats). g.K.Readable.reads (context f g.R.Source.lends) in
     let new = c.more_pairs.new.remaining in
     let more = c.in-Ok-true.field-0 in
     let e = c.in-Err-deserialize.e in
-    key_refused s m old.remaining new more reads old.de.now.items.formats now.items.formats old.de.now.items.levels now.items.levels c.more_pairs.ensures.formats c.more_pairs.ensures.levels
+    key_refused s m old.remaining new more reads old.de.now.items.formats now.formats old.de.now.items.levels now.levels c.more_pairs.ensures.formats c.more_pairs.ensures.levels
     g.R.Source.refusals (code_of e) (offset_of e) (there s m old.remaining new more old.de.now.items.formats c.in-Ok-true.field-0-test c.in-Ok-true.ensures.read) c.in-Err-deserialize.ensures.read
 
 pub returns-then-offset-start-clause-read : goal.returns-then-offset-start-clause-read
 returns-then-offset-start-clause-read g c =
     let old = c.args.self.now in
-    let now = c.more_pairs.new.self in
+    let now = c.more_pairs.new.items in
     let s = g.R.Source.source old.de.now.items.source in
-    let m = g.R.Source.source now.items.source in
+    let m = g.R.Source.source now.source in
     let t = g.R.Source.source c.deserialize.new.de.items.source in
     let reads = λ (f : Formats). g.K.Readable.reads (context f g.R.Source.lends) in
     let new = c.more_pairs.new.remaining in
     let more = c.in-Ok-true.field-0 in
     let e = c.no_key.result in
-    no_key_taken s m old.remaining new more reads old.de.now.items.formats now.items.formats old.de.now.items.levels now.items.levels c.more_pairs.ensures.formats c.more_pairs.ensures.levels t c.in-Ok.key
+    no_key_taken s m old.remaining new more reads old.de.now.items.formats now.formats old.de.now.items.levels now.levels c.more_pairs.ensures.formats c.more_pairs.ensures.levels t c.in-Ok.key
     g.R.Source.refusals (code_of e) (offset_of e) _ (there s m old.remaining new more old.de.now.items.formats c.in-Ok-true.field-0-test c.in-Ok-true.ensures.read) c.in-Ok.ensures.read
     (omega (arith, c.if-offset-start.true, c.offset.ensures, c.offset-start.ensures))
 
 pub returns-clause-read : goal.returns-clause-read
 returns-clause-read g c =
     let old = c.args.self.now in
-    let now = c.more_pairs.new.self in
+    let now = c.more_pairs.new.items in
     let s = g.R.Source.source old.de.now.items.source in
-    let m = g.R.Source.source now.items.source in
+    let m = g.R.Source.source now.source in
     let t = g.R.Source.source c.deserialize.new.de.items.source in
     let reads = λ (f : Formats). g.K.Readable.reads (context f g.R.Source.lends) in
     let new = c.more_pairs.new.remaining in
     let more = c.in-Ok-true.field-0 in
-    key_next s m old.remaining new more reads old.de.now.items.formats now.items.formats old.de.now.items.levels now.items.levels c.more_pairs.ensures.formats c.more_pairs.ensures.levels t c.in-Ok.key
+    key_next s m old.remaining new more reads old.de.now.items.formats now.formats old.de.now.items.levels now.levels c.more_pairs.ensures.formats c.more_pairs.ensures.levels t c.in-Ok.key
     (there s m old.remaining new more old.de.now.items.formats c.in-Ok-true.field-0-test c.in-Ok-true.ensures.read) c.in-Ok.ensures.read

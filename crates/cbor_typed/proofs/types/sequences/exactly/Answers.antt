@@ -2,10 +2,10 @@ use Rattle.std.proofs.Common.{rules, ◌≡◌, ◌<◌, List, ◌∷◌, ◌++�
 use Rattle.std.proofs.lemmas.Result.{err_from_is_err_and}
 use Rattle.cbor_io.specs.Error.{code_of, offset_of}
 use Rattle.cbor_de.specs.declared.formats.Formats.{Formats}
-use Rattle.cbor_typed.specs.Arrays.{AreExactly}
-use Rattle.cbor_typed.specs.Takes.{context, formats_of}
-use Rattle.cbor_typed.proofs.Sequences.{EachRead, each_more, each_all, each_length, rest_read, must_follow, none_of_none}
-use Rattle.cbor_typed.proofs.WholeArrays.{end_step, end_lacks, part_goes_on, part_lacks, array_takes_to, array_refused, no_array_read}
+use Rattle.cbor_collections.specs.Arrays.{AreExactly}
+use Rattle.cbor_scalars.specs.Takes.{context, formats_of}
+use Rattle.cbor_collections.proofs.facts.Arrays.{EachRead, each_more, each_all, each_length, rest_read, must_follow, none_of_none}
+use Rattle.cbor_collections.proofs.facts.Arrays.{end_step, end_lacks, part_goes_on, part_lacks, array_takes_to, array_refused, no_array_read}
 use Rattle.cbor_typed.proofs.types.sequences.exactly.Goals as goal
 
 pub returns-in_err-access-clause-read : goal.returns-in_err-access-clause-read

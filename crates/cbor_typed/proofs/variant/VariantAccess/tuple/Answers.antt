@@ -1,5 +1,5 @@
 use Rattle.std.proofs.Common.{refl}
-use Rattle.cbor_typed.proofs.VariantParts.{parts_inside}
+use Rattle.cbor_collections.proofs.facts.Enums.{parts_inside}
 use Rattle.cbor_typed.proofs.variant.VariantAccess.tuple.Goals as goal
 
 pub returns-in-Ok : goal.returns-in-Ok
@@ -13,7 +13,7 @@ returns-in-Ok g c = (
     alone = tt;
     no_form = tt;
     outer = refl;
-    inside = parts_inside c.args.self.form c.args.self.de.now.items.levels c.parts.new.self.items.levels c.args.self.outer c.requires c.in-Ok.ensures.inside;
+    inside = parts_inside c.args.self.form c.args.self.de.now.items.levels c.parts.new.items.levels c.args.self.outer c.requires c.in-Ok.ensures.inside;
     formats = c.in-Ok.ensures.formats;
   },
 )

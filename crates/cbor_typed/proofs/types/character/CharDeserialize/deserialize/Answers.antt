@@ -1,12 +1,11 @@
-use Rattle.std.proofs.Common.{List, ℕ, Err, Ok, subst}
-use Rattle.cbor_model.specs.Raw.{Raw}
+use Rattle.std.proofs.Common.{subst}
 use Rattle.cbor_model.specs.Readable.{PassesTags, IsText}
 use Rattle.cbor_model.specs.Reader.{item_at}
 use Rattle.std.specs.Char.{encode_utf8}
-use Rattle.cbor_typed.specs.Strings.{IsCharacter, LendsText}
-use Rattle.cbor_typed.specs.Takes.{raws, context, formats_of, IsNotRead}
+use Rattle.cbor_scalars.specs.Strings.{IsCharacter, LendsText}
+use Rattle.cbor_scalars.specs.Takes.{raws, context, formats_of, IsNotRead}
 use Rattle.cbor_typed.proofs.Characters.{character_takes}
-use Rattle.cbor_typed.proofs.Lending.{made_refuses, none_of}
+use Rattle.cbor_scalars.proofs.facts.Strings.{made_refuses, none_of}
 use Rattle.cbor_typed.proofs.types.character.CharDeserialize.deserialize.Goals as goal
 
 pub returns-in-Ok-clause-read : goal.returns-in-Ok-clause-read

@@ -1,6 +1,7 @@
 use Rattle.std.specs.Prelude.{⊤}
-use Rattle.cbor_typed.specs.Takes.{formats_of}
-use Rattle.cbor_typed.proofs.Faults.{any_passed, any_stops, value_refused, told_by}
+use Rattle.cbor_scalars.specs.Takes.{formats_of}
+use Rattle.cbor_typed.proofs.Faults.{any_passed, any_stops, value_refused}
+use Rattle.cbor_scalars.proofs.facts.Refusals.{told_by}
 use Rattle.cbor_model.specs.Reader.{item_at}
 use Rattle.cbor_de.specs.Gives.{values}
 use Rattle.cbor_typed.proofs.types.ignored.IgnoredAnyDeserialize.deserialize.Goals as goal

@@ -6,10 +6,10 @@ use Rattle.cbor_io.specs.Error.{code_of, offset_of}
 use Rattle.cbor_de.specs.Gives.{Step}
 use Rattle.cbor_de.specs.Heads.{remaining_of}
 use Rattle.cbor_de.specs.declared.formats.Formats.{Formats}
-use Rattle.cbor_typed.specs.MapAccesses.{IsKey}
-use Rattle.cbor_typed.specs.Maps.{AreEntries}
-use Rattle.cbor_typed.specs.Takes.{context, formats_of}
-use Rattle.cbor_typed.proofs.PairsRead.{Made, none_made, made_more, made_all, may_follow_made}
+use Rattle.cbor_collections.specs.MapAccesses.{IsKey}
+use Rattle.cbor_collections.specs.Maps.{AreEntries}
+use Rattle.cbor_scalars.specs.Takes.{context, formats_of}
+use Rattle.cbor_collections.proofs.facts.Maps.{Made, none_made, made_more, made_all, may_follow_made}
 use Rattle.cbor_typed.proofs.WholeMaps.{map_begins, map_goes_on, key_lacks, value_lacks, map_takes, map_refused, map_end_refused, map_end_twice, no_map_read}
 use Rattle.cbor_typed.proofs.types.maps.BTreeMapDeserialize.deserialize.Goals as goal
 

@@ -1,9 +1,9 @@
 use Rattle.std.proofs.Common.{◌≡◌, false}
 use Rattle.cbor_de.specs.Gives.{Step}
 use Rattle.cbor_de.specs.Heads.{remaining_of}
-use Rattle.cbor_typed.specs.Accesses.{turns}
-use Rattle.cbor_typed.specs.Takes.{context, formats_of}
-use Rattle.cbor_typed.proofs.PairsRead.{PairsSoFar, Made}
+use Rattle.cbor_collections.specs.Accesses.{turns}
+use Rattle.cbor_scalars.specs.Takes.{context, formats_of}
+use Rattle.cbor_collections.proofs.facts.Maps.{PairsSoFar, Made}
 use Rattle.cbor_typed.proofs.types.maps.BTreeMapDeserialize.deserialize.Given as goal
 
 abbrev pub invariant-pairs : goal.invariant-pairs

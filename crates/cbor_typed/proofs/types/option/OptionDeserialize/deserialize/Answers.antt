@@ -2,17 +2,17 @@ use Rattle.std.proofs.Common.{◌≡◌, ℕ, Ok, Bool, subst}
 use Rattle.cbor_model.specs.Reader.{item_at}
 use Rattle.cbor_io.specs.Error.{code_of, offset_of}
 use Rattle.cbor_de.specs.Gives.{Step}
-use Rattle.cbor_typed.specs.Options.{null_at}
-use Rattle.cbor_typed.specs.Takes.{raws, context, formats_of, IsRead, IsNotRead, Refuses}
+use Rattle.cbor_scalars.specs.Options.{null_at}
+use Rattle.cbor_scalars.specs.Takes.{raws, context, formats_of, IsRead, IsNotRead, Refuses}
 use Rattle.cbor_de.specs.declared.formats.Formats.{Formats}
-use Rattle.cbor_typed.proofs.Nulls.{option_none, option_some, option_refused}
+use Rattle.cbor_scalars.proofs.facts.Options.{option_none, option_some, option_refused}
 use Rattle.cbor_typed.proofs.types.option.OptionDeserialize.deserialize.Goals as goal
 
 pub returns-in-Ok-true-clause-read : goal.returns-in-Ok-true-clause-read
 returns-in-Ok-true-clause-read g c =
     let de = c.args.de.now in
     let s = g.R.Source.source de.items.source in
-    let t = g.R.Source.source c.take_null.new.self.items.source in
+    let t = g.R.Source.source c.take_null.new.items.source in
     let step = subst (λ (b : Bool). Step s t (λ l bs rest. null_at bs ≡ Ok (b, rest))) c.in-Ok-true.field-0-test c.in-Ok-true.ensures.read in
     option_none g.R.Source.refusals (formats_of de.items.formats) (g.T.Readable.reads (context de.items.formats g.R.Source.lends)) de.items.levels s t step
 
@@ -20,22 +20,22 @@ pub returns-in-Ok-clause-read : goal.returns-in-Ok-clause-read
 returns-in-Ok-clause-read g c =
     let de = c.args.de.now in
     let s = g.R.Source.source de.items.source in
-    let m = g.R.Source.source c.take_null.new.self.items.source in
+    let m = g.R.Source.source c.take_null.new.items.source in
     let t = g.R.Source.source c.deserialize.new.de.items.source in
     let step = subst (λ (b : Bool). Step s m (λ l bs rest. null_at bs ≡ Ok (b, rest))) c.in-Ok-false.field-0-test c.in-Ok-false.ensures.read in
     let x = c.in-Ok.value in
     let taken = subst (λ (n : ℕ). Step m t (λ l bs rest. IsRead (g.T.Readable.reads (context de.items.formats g.R.Source.lends)) (item_at (raws (formats_of de.items.formats) l) n bs) x rest)) c.in-Ok-false.ensures.levels
-    (subst (λ (k : Formats). Step m t (λ l bs rest. IsRead (g.T.Readable.reads (context k g.R.Source.lends)) (item_at (raws (formats_of k) l) c.take_null.new.self.items.levels bs) x rest)) c.in-Ok-false.ensures.formats c.in-Ok.ensures.read) in
+    (subst (λ (k : Formats). Step m t (λ l bs rest. IsRead (g.T.Readable.reads (context k g.R.Source.lends)) (item_at (raws (formats_of k) l) c.take_null.new.items.levels bs) x rest)) c.in-Ok-false.ensures.formats c.in-Ok.ensures.read) in
     option_some g.R.Source.refusals (formats_of de.items.formats) (g.T.Readable.reads (context de.items.formats g.R.Source.lends)) de.items.levels s m t x step taken
 
 pub returns-in-Err-deserialize-clause-read : goal.returns-in-Err-deserialize-clause-read
 returns-in-Err-deserialize-clause-read g c =
     let de = c.args.de.now in
     let s = g.R.Source.source de.items.source in
-    let m = g.R.Source.source c.take_null.new.self.items.source in
+    let m = g.R.Source.source c.take_null.new.items.source in
     let step = subst (λ (b : Bool). Step s m (λ l bs rest. null_at bs ≡ Ok (b, rest))) c.in-Ok-false.field-0-test c.in-Ok-false.ensures.read in
     let k = code_of c.in-Err-deserialize.e in
     let at = offset_of c.in-Err-deserialize.e in
     let stops = subst (λ (n : ℕ). Refuses g.R.Source.refusals m k at (λ l bs. IsNotRead (g.T.Readable.reads (context de.items.formats g.R.Source.lends)) (item_at (raws (formats_of de.items.formats) l) n bs))) c.in-Ok-false.ensures.levels
-    (subst (λ (f : Formats). Refuses g.R.Source.refusals m k at (λ l bs. IsNotRead (g.T.Readable.reads (context f g.R.Source.lends)) (item_at (raws (formats_of f) l) c.take_null.new.self.items.levels bs))) c.in-Ok-false.ensures.formats c.in-Err-deserialize.ensures.read) in
+    (subst (λ (f : Formats). Refuses g.R.Source.refusals m k at (λ l bs. IsNotRead (g.T.Readable.reads (context f g.R.Source.lends)) (item_at (raws (formats_of f) l) c.take_null.new.items.levels bs))) c.in-Ok-false.ensures.formats c.in-Err-deserialize.ensures.read) in
     option_refused g.R.Source.refusals (formats_of de.items.formats) (g.T.Readable.reads (context de.items.formats g.R.Source.lends)) de.items.levels s m k at step stops

@@ -5,11 +5,11 @@ use Rattle.cbor_io.specs.Error.{code_of, offset_of}
 use Rattle.cbor_de.specs.Gives.{Step}
 use Rattle.cbor_de.specs.Heads.{remaining_of}
 use Rattle.cbor_de.specs.declared.formats.Formats.{Formats}
-use Rattle.cbor_typed.specs.Accesses.{IsNext}
-use Rattle.cbor_typed.specs.Arrays.{AreRead}
-use Rattle.cbor_typed.specs.Takes.{context, formats_of}
-use Rattle.cbor_typed.proofs.Sequences.{EachRead, each_none, each_more, each_all, rest_read, may_follow}
-use Rattle.cbor_typed.proofs.WholeArrays.{end_twice, loop_begins, loop_goes_on, loop_refused, end_refused, array_takes_to, array_refused, no_array_read}
+use Rattle.cbor_collections.specs.Accesses.{IsNext}
+use Rattle.cbor_collections.specs.Arrays.{AreRead}
+use Rattle.cbor_scalars.specs.Takes.{context, formats_of}
+use Rattle.cbor_collections.proofs.facts.Arrays.{EachRead, each_none, each_more, each_all, rest_read, may_follow}
+use Rattle.cbor_collections.proofs.facts.Arrays.{end_twice, loop_begins, loop_goes_on, loop_refused, end_refused, array_takes_to, array_refused, no_array_read}
 use Rattle.cbor_typed.proofs.types.sequences.VecDeserialize.deserialize.Goals as goal
 
 pub returns-in_err-access-clause-read : goal.returns-in_err-access-clause-read

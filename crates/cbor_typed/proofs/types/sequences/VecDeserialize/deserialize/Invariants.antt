@@ -1,9 +1,9 @@
 use Rattle.std.proofs.Common.{◌≡◌}
 use Rattle.cbor_de.specs.Gives.{Step}
 use Rattle.cbor_de.specs.Heads.{remaining_of}
-use Rattle.cbor_typed.specs.Accesses.{turns}
-use Rattle.cbor_typed.specs.Takes.{context, formats_of}
-use Rattle.cbor_typed.proofs.Sequences.{SoFar, EachRead}
+use Rattle.cbor_collections.specs.Accesses.{turns}
+use Rattle.cbor_scalars.specs.Takes.{context, formats_of}
+use Rattle.cbor_collections.proofs.facts.Arrays.{SoFar, EachRead}
 use Rattle.cbor_typed.proofs.types.sequences.VecDeserialize.deserialize.Given as goal
 
 abbrev pub invariant-items : goal.invariant-items

@@ -1,10 +1,10 @@
-use Rattle.std.proofs.Common.{List, ℕ, Err, Bor, subst}
+use Rattle.std.proofs.Common.{List, ℕ, Bor, subst}
 use Rattle.cbor_model.specs.Raw.{Raw}
 use Rattle.cbor_model.specs.Readable.{PassesTags, IsText}
 use Rattle.cbor_model.specs.Reader.{item_at}
-use Rattle.cbor_typed.specs.Strings.{IsBorrowedText, LendsText}
-use Rattle.cbor_typed.specs.Takes.{raws, context, formats_of, IsNotRead}
-use Rattle.cbor_typed.proofs.Lending.{made_refuses, none_of}
+use Rattle.cbor_scalars.specs.Strings.{IsBorrowedText, LendsText}
+use Rattle.cbor_scalars.specs.Takes.{raws, context, formats_of, IsNotRead}
+use Rattle.cbor_scalars.proofs.facts.Strings.{made_refuses, none_of}
 use Rattle.cbor_typed.proofs.types.strings.RefStrDeserialize.deserialize.Goals as goal
 
 pub returns-in-Err-clause-read : goal.returns-in-Err-clause-read

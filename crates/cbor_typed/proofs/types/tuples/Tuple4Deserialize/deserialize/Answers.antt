@@ -3,11 +3,11 @@ use Rattle.std.proofs.lemmas.Result.{err_from_is_err_and}
 use Rattle.cbor_model.specs.Raw.{Raws}
 use Rattle.cbor_io.specs.Error.{code_of, offset_of}
 use Rattle.cbor_de.specs.declared.formats.Formats.{Formats}
-use Rattle.cbor_typed.specs.Arrays.{FirstThen, AreNone}
-use Rattle.cbor_typed.specs.Takes.{context, formats_of}
-use Rattle.cbor_typed.proofs.Sequences.{MustFollow}
-use Rattle.cbor_typed.proofs.Tuples.{Empty, Then, one_more, then_more, none_all, then_all, empty_rest, then_rest, first_follows}
-use Rattle.cbor_typed.proofs.WholeArrays.{end_step, end_lacks, loop_begins, part_goes_on, part_lacks, array_takes_to, array_refused, no_array_read}
+use Rattle.cbor_collections.specs.Arrays.{FirstThen, AreNone}
+use Rattle.cbor_scalars.specs.Takes.{context, formats_of}
+use Rattle.cbor_collections.proofs.facts.Arrays.{MustFollow}
+use Rattle.cbor_collections.proofs.facts.Tuples.{Empty, Then, one_more, then_more, none_all, then_all, empty_rest, then_rest, first_follows}
+use Rattle.cbor_collections.proofs.facts.Arrays.{end_step, end_lacks, loop_begins, part_goes_on, part_lacks, array_takes_to, array_refused, no_array_read}
 use Rattle.cbor_typed.proofs.types.tuples.Tuple4Deserialize.deserialize.Goals as goal
 
 pub returns-in_err-access-clause-read : goal.returns-in_err-access-clause-read

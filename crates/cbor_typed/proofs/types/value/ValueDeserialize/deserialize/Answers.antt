@@ -1,4 +1,4 @@
-use Rattle.cbor_typed.specs.Takes.{formats_of}
+use Rattle.cbor_scalars.specs.Takes.{formats_of}
 use Rattle.cbor_typed.proofs.Faults.{AsValue, value_taken, value_refused}
 use Rattle.cbor_typed.proofs.types.value.ValueDeserialize.deserialize.Goals as goal
 

@@ -1,0 +1,15 @@
+-- Published: arrays, of which one item is read after the other.
+
+-- an array as its items, and what is read as one
+pub use Rattle.cbor_collections.proofs.WholeArrays.{NoItems, array_refused, array_takes_to}
+pub use Rattle.cbor_collections.proofs.WholeArrays.{end_lacks, end_refused, end_step, end_twice}
+pub use Rattle.cbor_collections.proofs.WholeArrays.{loop_begins, loop_goes_on, loop_refused}
+pub use Rattle.cbor_collections.proofs.WholeArrays.{no_array_read, part_goes_on, part_lacks}
+-- what was read so far of its items
+pub use Rattle.cbor_collections.proofs.Sequences.{EachRead, MustFollow, SoFar, append, append-push}
+pub use Rattle.cbor_collections.proofs.Sequences.{each_all, each_length, each_more, each_none}
+pub use Rattle.cbor_collections.proofs.Sequences.{is_done, may_follow, must_follow, none_of_none}
+pub use Rattle.cbor_collections.proofs.Sequences.{rest_read}
+-- the next item
+pub use Rattle.cbor_collections.proofs.Nexts.{NoPart, comes, item_next, item_refused, nothing_taken}
+pub use Rattle.cbor_collections.proofs.Nexts.{part_missing, part_refused}

@@ -1,0 +1,4 @@
+-- Published: where an error stands that tells an array too short, or a form that isn't read.
+
+-- of the identifier of a field, and of the items of a content
+pub use Rattle.cbor_collections.proofs.Cases.{too_short_first, too_short_later, unnamed_stands}

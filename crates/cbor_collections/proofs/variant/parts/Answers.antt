@@ -1,0 +1,17 @@
+use Rattle.cbor_scalars.specs.Takes.{formats_of}
+use Rattle.cbor_collections.proofs.VariantParts.{parts_here, parts_answer, untold}
+use Rattle.cbor_collections.proofs.variant.parts.Goals as goal
+
+pub returns-in-Array-clause-read : goal.returns-in-Array-clause-read
+returns-in-Array-clause-read g c =
+    let old = c.args.items.now in
+    rw c.in-Array.is (parts_here (formats_of old.formats) old.levels c.in-Array.remaining (g.R.Source.source old.source))
+
+pub returns-in-Map-clause-read : goal.returns-in-Map-clause-read
+returns-in-Map-clause-read g c =
+    let old = c.args.items.now in
+    let new = c.array_head.new.items in
+    rw c.in-Map.is (parts_answer (formats_of old.formats) old.levels new.levels (g.R.Source.source old.source) (g.R.Source.source new.source) g.R.Source.refusals c.array_head.result c.array_head.ensures.read)
+
+pub returns-in-Map-clause-alone : goal.returns-in-Map-clause-alone
+returns-in-Map-clause-alone g c = rw c.in-Map.is (untold c.array_head.result)

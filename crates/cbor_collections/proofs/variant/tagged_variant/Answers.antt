@@ -1,0 +1,18 @@
+use Rattle.std.proofs.Common.{ap, subst}
+use Rattle.cbor_model.specs.Formats.{Formats}
+use Rattle.cbor_scalars.specs.Identifiers.{texts}
+use Rattle.cbor_scalars.specs.Takes.{formats_of}
+use Rattle.cbor_collections.specs.Variants.{TakesShaped, HasNoTag}
+use Rattle.cbor_collections.proofs.VariantShapes.{tags_then}
+use Rattle.cbor_collections.proofs.variant.tagged_variant.Goals as goal
+
+pub returns-in-Ok-clause-read : goal.returns-in-Ok-clause-read
+returns-in-Ok-clause-read g c =
+    let old = c.args.items.now in
+    let mid = c.pass_tags.new.items in
+    let new = c.untagged_variant.new.items in
+    let a = g.R.Source.source mid.source in
+    let t = g.R.Source.source new.source in
+    let names = texts c.args.names.now in
+    let read = subst (λ (f : Formats). TakesShaped HasNoTag g.R.Source.refusals f names mid.levels a t new.levels c.untagged_variant.result) (ap formats_of c.in-Ok.ensures.formats) c.untagged_variant.ensures.read in
+    tags_then (formats_of old.formats) names old.levels mid.levels (g.R.Source.source old.source) a g.R.Source.refusals c.in-Ok.ensures.read t new.levels c.untagged_variant.result read

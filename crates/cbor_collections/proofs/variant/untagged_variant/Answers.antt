@@ -1,0 +1,59 @@
+use Rattle.std.proofs.Common.{ℕ, ap, subst}
+use Rattle.std.proofs.lemmas.Result.{err_from_is_err_and}
+use Rattle.cbor_model.specs.Formats.{Formats}
+use Rattle.cbor_de.specs.Gives.{Step}
+use Rattle.cbor_scalars.specs.Identifiers.{texts}
+use Rattle.cbor_scalars.specs.Takes.{formats_of}
+use Rattle.cbor_collections.specs.Variants.{TakesShaped, HasShape, IsAlone, IsShaped}
+use Rattle.cbor_collections.specs.declared.variant.Shape.{Shape}
+use Rattle.cbor_collections.specs.declared.variant.Shape.TheVariants as shape
+use Rattle.cbor_collections.proofs.VariantShapes.{shaped_then, no_shape}
+use Rattle.cbor_collections.proofs.variant.untagged_variant.Goals as goal
+
+pub returns-in_err-enum_shape-clause-read : goal.returns-in_err-enum_shape-clause-read
+returns-in_err-enum_shape-clause-read g c =
+    let passed = err_from_is_err_and c.from_residual.result c.from_residual.ensures.1 in
+    let old = c.args.items.now in
+    rw (passed.1, passed.2) (no_shape (formats_of old.formats) (texts c.args.names.now) g.R.Source.refusals old.levels (g.R.Source.source old.source) c.in_err-enum_shape.field-0.0 c.in_err-enum_shape.ensures.read)
+
+pub returns-in-Array-clause-read : goal.returns-in-Array-clause-read
+returns-in-Array-clause-read g c =
+    let old = c.args.items.now in
+    let mid = c.enum_shape.new.items in
+    let new = c.array_variant.new.items in
+    let s = g.R.Source.source old.source in
+    let a = g.R.Source.source mid.source in
+    let t = g.R.Source.source new.source in
+    let names = texts c.args.names.now in
+    let shaped = subst (λ (x : Shape). Step s a (λ l bs rest. IsShaped x bs rest)) c.in-Array.is c.in_ok-enum_shape.ensures.read.0 in
+    let read = subst (λ (f : Formats). TakesShaped (HasShape shape.Array) g.R.Source.refusals f names mid.levels a t new.levels c.array_variant.result) (ap formats_of c.in_ok-enum_shape.ensures.formats) c.array_variant.ensures.read in
+    let here = subst (λ (n : ℕ). TakesShaped (HasShape shape.Array) g.R.Source.refusals (formats_of old.formats) names n a t new.levels c.array_variant.result) c.in_ok-enum_shape.ensures.levels read in
+    shaped_then (formats_of old.formats) names old.levels g.R.Source.refusals s a shape.Array (HasShape shape.Array) (λ bs none is. is) shaped t new.levels c.array_variant.result here
+
+pub returns-in-Map-clause-read : goal.returns-in-Map-clause-read
+returns-in-Map-clause-read g c =
+    let old = c.args.items.now in
+    let mid = c.enum_shape.new.items in
+    let new = c.map_variant.new.items in
+    let s = g.R.Source.source old.source in
+    let a = g.R.Source.source mid.source in
+    let t = g.R.Source.source new.source in
+    let names = texts c.args.names.now in
+    let shaped = subst (λ (x : Shape). Step s a (λ l bs rest. IsShaped x bs rest)) c.in-Map.is c.in_ok-enum_shape.ensures.read.0 in
+    let read = subst (λ (f : Formats). TakesShaped (HasShape shape.Map) g.R.Source.refusals f names mid.levels a t new.levels c.map_variant.result) (ap formats_of c.in_ok-enum_shape.ensures.formats) c.map_variant.ensures.read in
+    let here = subst (λ (n : ℕ). TakesShaped (HasShape shape.Map) g.R.Source.refusals (formats_of old.formats) names n a t new.levels c.map_variant.result) c.in_ok-enum_shape.ensures.levels read in
+    shaped_then (formats_of old.formats) names old.levels g.R.Source.refusals s a shape.Map (HasShape shape.Map) (λ bs none is. is) shaped t new.levels c.map_variant.result here
+
+pub returns-in-Alone-clause-read : goal.returns-in-Alone-clause-read
+returns-in-Alone-clause-read g c =
+    let old = c.args.items.now in
+    let mid = c.enum_shape.new.items in
+    let new = c.name_alone.new.items in
+    let s = g.R.Source.source old.source in
+    let a = g.R.Source.source mid.source in
+    let t = g.R.Source.source new.source in
+    let names = texts c.args.names.now in
+    let shaped = subst (λ (x : Shape). Step s a (λ l bs rest. IsShaped x bs rest)) c.in-Alone.is c.in_ok-enum_shape.ensures.read.0 in
+    let read = subst (λ (f : Formats). TakesShaped IsAlone g.R.Source.refusals f names mid.levels a t new.levels c.name_alone.result) (ap formats_of c.in_ok-enum_shape.ensures.formats) c.name_alone.ensures.read in
+    let here = subst (λ (n : ℕ). TakesShaped IsAlone g.R.Source.refusals (formats_of old.formats) names n a t new.levels c.name_alone.result) c.in_ok-enum_shape.ensures.levels read in
+    shaped_then (formats_of old.formats) names old.levels g.R.Source.refusals s a shape.Alone IsAlone (λ bs none is. (none, is)) shaped t new.levels c.name_alone.result here

@@ -1,0 +1,13 @@
+pub mod Accesses
+pub mod Arrays
+pub mod MapAccesses
+pub mod Maps
+pub mod Enums
+pub mod Variants
+pub mod Cases
+pub use Rattle.cbor_io.specs.Error
+pub use Rattle.cbor_io.specs.Source
+pub use Rattle.cbor_de.specs.Gives
+pub use Rattle.cbor_de.specs.Deserializer
+pub use Rattle.cbor_scalars.specs.Takes
+pub use Rattle.cbor_scalars.specs.Identifiers

@@ -1,0 +1,427 @@
+//! Enums, up to the content of a variant.
+
+ghost use Rattle.std.specs.Prelude.{◌≡◌, ◌⊎◌, ◌+◌, ◌<◌, codes, length, true};
+ghost use Rattle.std.specs.Prelude.{OnOk, OnErr, IfOk, IfErr};
+ghost use Rattle.cbor_model.specs.Readable.{PassesTags, IsUnit};
+ghost use Rattle.cbor_model.specs.Refusal.{end_in_array};
+ghost use Rattle.cbor_model.specs.Reader.{next_at};
+ghost use Rattle.cbor_de.specs.Heads.{remaining_of};
+ghost use Rattle.cbor_io.specs.Error.{code_of, offset_of, HasNoOffset};
+ghost use Rattle.cbor_de.specs.Gives.{Gives, TellsNoForm, TellsNoKey};
+ghost use Rattle.cbor_collections.specs.Cases.{Stands, NoItemHere, form_cases};
+ghost use Rattle.cbor_collections.specs.Cases.{untagged_cases, enum_cases, unit_cases};
+ghost use Rattle.cbor_collections.specs.Enums.{IsName, IsNothing, IsPart};
+ghost use Rattle.cbor_scalars.specs.Identifiers.{texts};
+ghost use Rattle.cbor_scalars.specs.Takes.{TakesItem, TellsFault, formats_of};
+ghost use Rattle.cbor_collections.specs.Variants.{TakesVariant};
+ghost use Rattle.cbor_collections.specs.Variants.{IsInside, IsEntered};
+ghost use Rattle.cbor_collections.specs.Variants.{TakesParts, TakesContent};
+ghost use Rattle.cbor_collections.specs.Variants.{shape_of, reads_shape};
+ghost use Rattle.cbor_collections.specs.Variants.{HasNoTag, IsAlone, HasShape};
+ghost use Rattle.cbor_collections.specs.Variants.{TakesShape, TakesShaped};
+ghost use Rattle.cbor_collections.specs.Variants.{TakesComing, ExpectsItem, pair_head_at};
+ghost use Rattle.cbor_collections.specs.Variants.{TellsAlone, alone_text};
+ghost use Rattle.cbor_collections.specs.declared.variant.Form.TheVariants.{Array};
+ghost use Rattle.cbor_collections.specs.declared.variant.Shape.TheVariants as shape;
+
+use crate::array::{array_head, end_array};
+use crate::map::key_begins;
+use cbor_de::{Deserializer, Done, Remaining};
+use cbor_io::error::{Error, ErrorCode, Result};
+use cbor_io::read::{Read, ReadErrorCode, Source};
+use cbor_scalars::identifier::{identifier, unnamed};
+use cbor_scalars::scalar::read_unit;
+use cbor_scalars::tags::pass_tags;
+
+/// How an enum is spelled.
+#[derive(Clone, Copy)]
+pub enum Form {
+    /// An array of the identifier and the parts, of which so much remains.
+    Array(Remaining),
+    /// A map of one pair, of the identifier and the content.
+    Map,
+    /// The identifier alone.
+    Alone,
+}
+
+/// The first byte of a map of one pair.
+const ONE_PAIR: u8 = 0xa1;
+
+/// The break, which ends an array of indefinite length.
+const BREAK: u8 = 0xff;
+
+// How an enum is spelled, by its first byte.
+#[derive(Clone, Copy)]
+enum Shape {
+    Array,
+    Map,
+    Alone,
+}
+
+// How an enum is spelled that begins with this byte.
+fn shape_of(first: u8) -> Shape
+    ensures { result ≡ shape_of first }
+{
+    match first {
+        0x80..=0x9f => Shape::Array,
+        ONE_PAIR => Shape::Map,
+        _ => Shape::Alone,
+    }
+}
+
+// How the enum at the front is spelled, where that is read. Its first byte stays.
+fn enum_shape<R: Source>(items: &mut Deserializer<R>) -> Result<Shape>
+    ensures read { TakesShape R.refusals (formats_of items.old.formats)
+        (R.source items.old.source) (R.source items.new.source) result }
+    ensures cases { IfErr result (λ e. Stands (R.source items.old.source) e
+        (form_cases (formats_of items.old.formats))) }
+    ensures levels { items.new.levels ≡ items.old.levels }
+    ensures formats { items.new.formats ≡ items.old.formats }
+{
+    let first = match items.source.peek() {
+        Ok(Some(first)) => first,
+        Ok(None) => {
+            let refused = items.refuse(ReadErrorCode::EofWhileParsingValue);
+            return Err(items.error(refused));
+        }
+        Err(refusal) => {
+            let refused = items.keep(refusal);
+            return Err(items.error(refused));
+        }
+    };
+    let shape = shape_of(first);
+    if reads_shape(items, shape) {
+        Ok(shape)
+    } else {
+        Err(refuse_here(items, ErrorCode::WrongEnumFormat))
+    }
+}
+
+// Whether enums that are spelled so are read.
+fn reads_shape<R: Source>(items: &Deserializer<R>, shape: Shape) -> bool
+    ensures { result ≡ reads_shape (formats_of items.now.formats) shape }
+{
+    let formats = items.formats;
+    match shape {
+        Shape::Array => formats.legacy_enums,
+        Shape::Map => formats.standard_enums,
+        Shape::Alone => formats.standard_enums || formats.legacy_enums,
+    }
+}
+
+// The error of this code, before the bytes to come.
+#[cold]
+#[inline(never)]
+fn refuse_here<R: Source>(items: &Deserializer<R>, code: ErrorCode) -> Error
+    requires { HasNoOffset code → ⊥ }
+    ensures code { code_of result ≡ code }
+    ensures offset { offset_of result ≡ (R.source items.now.source).offset }
+{
+    Error::at(code, items.source.offset())
+}
+
+// Whether another item of an array comes, of which so much remains. Nothing is taken.
+#[tactic(auto, unfolding(cbor_model::specs::Reader::next_at))]
+fn item_comes<R: Source>(items: &mut Deserializer<R>, remaining: &mut Remaining) -> Done<bool>
+    ensures read { TakesComing R.refusals remaining.old remaining.new
+        (R.source items.old.source) (R.source items.new.source)
+        items.new.refusal result }
+    ensures no_key { IfErr result (TellsNoKey items.new.refusal) }
+    ensures stays { OnOk result ((R.source items.new.source).offset
+        ≡ (R.source items.old.source).offset) }
+    ensures levels { items.new.levels ≡ items.old.levels }
+    ensures formats { items.new.formats ≡ items.old.formats }
+{
+    match remaining {
+        Remaining::Counted(0) => Ok(false),
+        Remaining::Counted(n) => {
+            *n -= 1;
+            Ok(true)
+        }
+        Remaining::ToBreak => match items.source.peek() {
+            Ok(Some(BREAK)) => Ok(false),
+            Ok(Some(_)) => Ok(true),
+            Ok(None) => Err(items.refuse(ReadErrorCode::EofWhileParsingArray)),
+            Err(refusal) => Err(items.keep(refusal)),
+        },
+    }
+}
+
+/// Refuses with this code, at the present offset, where no item of an array comes, of which so much
+/// remains. Nothing is taken of an item that comes.
+#[tactic(auto, using(crate::proofs::Cases::coming_fault))]
+pub fn expect_item<R: Source>(
+    items: &mut Deserializer<R>,
+    remaining: &mut Remaining,
+    none: ErrorCode,
+) -> Result<()>
+    requires { HasNoOffset none → ⊥ }
+    ensures read { ExpectsItem R.refusals remaining.old remaining.new
+        (R.source items.old.source) (R.source items.new.source) result }
+    ensures none { IfErr result (λ e. TellsNoForm (code_of e)
+        ⊎ NoItemHere none remaining.old (R.source items.old.source) e) }
+    ensures fault { IfErr result (λ e. TellsFault R.refusals
+        (λ l. next_at end_in_array (remaining_of remaining.old))
+        (R.source items.old.source) e
+        ⊎ NoItemHere none remaining.old (R.source items.old.source) e) }
+    ensures levels { items.new.levels ≡ items.old.levels }
+    ensures formats { items.new.formats ≡ items.old.formats }
+{
+    match item_comes(items, remaining) {
+        Ok(true) => Ok(()),
+        Ok(false) => Err(refuse_here(items, none)),
+        Err(refused) => Err(items.error(refused)),
+    }
+}
+
+// Takes the head of a map of one pair, and goes one level in, to a key that may begin so.
+fn pair_head<R: Source>(items: &mut Deserializer<R>) -> Done<()>
+    ensures read { Gives R.refusals (λ u. u)
+        (λ l. pair_head_at (formats_of items.old.formats) items.old.levels)
+        (R.source items.old.source) (R.source items.new.source)
+        items.new.refusal result }
+    ensures inside { OnOk result (items.old.levels ≡ items.new.levels + 1) }
+    ensures formats { items.new.formats ≡ items.old.formats }
+{
+    items.byte()?;
+    items.enter()?;
+    key_begins(items)
+}
+
+/// Takes the content of a variant of several parts up to the first of them.
+///
+/// An identifier alone is refused with `invalid type: unit variant, expected tuple variant`, and in
+/// a map an item that is no array as [`array_head`] refuses it.
+pub fn parts<R: Source>(items: &mut Deserializer<R>, form: Form) -> Result<Remaining>
+    ensures read { TakesParts R.refusals (formats_of items.old.formats)
+        items.old.levels form
+        (R.source items.old.source) (R.source items.new.source)
+        items.new.levels result }
+    ensures alone { IfErr result (TellsAlone (alone_text (codes "tuple")) form) }
+    ensures no_form { IfErr result (λ e. TellsNoForm (code_of e)) }
+    ensures inside { IfOk result (λ r. IsEntered form items.old.levels
+        items.new.levels) }
+    ensures formats { items.new.formats ≡ items.old.formats }
+{
+    match form {
+        Form::Array(remaining) => Ok(remaining),
+        Form::Map => array_head(items),
+        Form::Alone => Err(Error::message(
+            items.alloc,
+            "invalid type: unit variant, expected tuple variant",
+        )),
+    }
+}
+
+/// Takes an enum up to its identifier: the tags, the head of an array or of a map of one pair, and
+/// the identifier, of which it answers the place among the names. Refused, it leaves the levels
+/// that it took.
+///
+/// It is refused with `WrongEnumFormat`, before the first byte behind the tags, where that form
+/// isn't read; with `ArrayTooShort` where an array has no identifier; with `unknown variant` where
+/// no name is of the identifier, and with `invalid type: expected a variant name` where another
+/// item stands in its place.
+pub fn variant_head<'de, R: Read<'de>>(
+    items: &mut Deserializer<R>,
+    names: &[&str],
+) -> Result<(usize, Form)>
+    ensures read { TakesVariant R.refusals (formats_of items.old.formats)
+        (texts names.now) items.old.levels
+        (R.source items.old.source) (R.source items.new.source)
+        items.new.levels result }
+    ensures cases { IfErr result (λ e. Stands (R.source items.old.source) e
+        (enum_cases (formats_of items.old.formats)
+        items.old.levels)) }
+    ensures below { IfOk result (λ v. v.0 < length names.now) }
+    ensures inside { IfOk result (λ v. IsInside v.1 items.new.levels
+        items.old.levels) }
+    ensures outer { OnErr result (items.new.levels ≡ items.old.levels) }
+    ensures formats { items.new.formats ≡ items.old.formats }
+{
+    let outer = items.levels;
+    match tagged_variant(items, names) {
+        Ok(head) => Ok(head),
+        Err(e) => {
+            items.levels = outer;
+            Err(e)
+        }
+    }
+}
+
+// The same, of which levels may stay where it is refused.
+#[tactic(auto, using(crate::proofs::Cases::other_stands, crate::proofs::Cases::tagged_stand))]
+fn tagged_variant<'de, R: Read<'de>>(
+    items: &mut Deserializer<R>,
+    names: &[&str],
+) -> Result<(usize, Form)>
+    ensures read { TakesVariant R.refusals (formats_of items.old.formats)
+        (texts names.now) items.old.levels
+        (R.source items.old.source) (R.source items.new.source)
+        items.new.levels result }
+    ensures cases { IfErr result (λ e. Stands (R.source items.old.source) e
+        (enum_cases (formats_of items.old.formats)
+        items.old.levels)) }
+    ensures below { IfOk result (λ v. v.0 < length names.now) }
+    ensures inside { IfOk result (λ v. IsInside v.1 items.new.levels
+        items.old.levels) }
+    ensures formats { items.new.formats ≡ items.old.formats }
+{
+    match pass_tags(items) {
+        Ok(()) => untagged_variant(items, names),
+        Err(refused) => Err(items.error(refused)),
+    }
+}
+
+// The same of an enum within no tag.
+#[tactic(auto, using(crate::proofs::Cases::others_stand, crate::proofs::Cases::forms_stand, crate::proofs::Cases::shaped_stand))]
+fn untagged_variant<'de, R: Read<'de>>(
+    items: &mut Deserializer<R>,
+    names: &[&str],
+) -> Result<(usize, Form)>
+    ensures read { TakesShaped HasNoTag R.refusals
+        (formats_of items.old.formats) (texts names.now) items.old.levels
+        (R.source items.old.source) (R.source items.new.source)
+        items.new.levels result }
+    ensures cases { IfErr result (λ e. Stands (R.source items.old.source) e
+        (untagged_cases (formats_of items.old.formats)
+        items.old.levels)) }
+    ensures below { IfOk result (λ v. v.0 < length names.now) }
+    ensures inside { IfOk result (λ v. IsInside v.1 items.new.levels
+        items.old.levels) }
+    ensures formats { items.new.formats ≡ items.old.formats }
+{
+    match enum_shape(items)? {
+        Shape::Array => array_variant(items, names),
+        Shape::Map => map_variant(items, names),
+        Shape::Alone => name_alone(items, names),
+    }
+}
+
+// The same of an identifier alone.
+fn name_alone<'de, R: Read<'de>>(
+    items: &mut Deserializer<R>,
+    names: &[&str],
+) -> Result<(usize, Form)>
+    requires { reads_shape (formats_of items.old.formats) shape.Alone ≡ true }
+    ensures read { TakesShaped IsAlone R.refusals
+        (formats_of items.old.formats) (texts names.now) items.old.levels
+        (R.source items.old.source) (R.source items.new.source)
+        items.new.levels result }
+    ensures no_form { IfErr result (λ e. TellsNoForm (code_of e)) }
+    ensures below { IfOk result (λ v. v.0 < length names.now) }
+    ensures inside { IfOk result (λ v. IsInside v.1 items.new.levels
+        items.old.levels) }
+    ensures formats { items.new.formats ≡ items.old.formats }
+{
+    let index = variant_name(items, names)?;
+    Ok((index, Form::Alone))
+}
+
+// The same of an array.
+#[tactic(auto, using(crate::proofs::Cases::other_stands, crate::proofs::Cases::empty_stands))]
+fn array_variant<'de, R: Read<'de>>(
+    items: &mut Deserializer<R>,
+    names: &[&str],
+) -> Result<(usize, Form)>
+    requires { reads_shape (formats_of items.old.formats) shape.Array ≡ true }
+    ensures read { TakesShaped (HasShape shape.Array) R.refusals
+        (formats_of items.old.formats) (texts names.now) items.old.levels
+        (R.source items.old.source) (R.source items.new.source)
+        items.new.levels result }
+    ensures cases { IfErr result (λ e. Stands (R.source items.old.source) e
+        (untagged_cases (formats_of items.old.formats)
+        items.old.levels)) }
+    ensures below { IfOk result (λ v. v.0 < length names.now) }
+    ensures inside { IfOk result (λ v. IsInside v.1 items.new.levels
+        items.old.levels) }
+    ensures formats { items.new.formats ≡ items.old.formats }
+{
+    let mut remaining = array_head(items)?;
+    expect_item(items, &mut remaining, ErrorCode::ArrayTooShort)?;
+    let index = variant_name(items, names)?;
+    Ok((index, Form::Array(remaining)))
+}
+
+// The same of a map of one pair.
+#[tactic(auto, using(crate::proofs::Cases::other_stands, crate::proofs::Cases::pair_stands))]
+fn map_variant<'de, R: Read<'de>>(
+    items: &mut Deserializer<R>,
+    names: &[&str],
+) -> Result<(usize, Form)>
+    requires { reads_shape (formats_of items.old.formats) shape.Map ≡ true }
+    ensures read { TakesShaped (HasShape shape.Map) R.refusals
+        (formats_of items.old.formats) (texts names.now) items.old.levels
+        (R.source items.old.source) (R.source items.new.source)
+        items.new.levels result }
+    ensures cases { IfErr result (λ e. Stands (R.source items.old.source) e
+        (untagged_cases (formats_of items.old.formats)
+        items.old.levels)) }
+    ensures below { IfOk result (λ v. v.0 < length names.now) }
+    ensures inside { IfOk result (λ v. IsInside v.1 items.new.levels
+        items.old.levels) }
+    ensures formats { items.new.formats ≡ items.old.formats }
+{
+    match pair_head(items) {
+        Ok(()) => {}
+        Err(refused) => return Err(items.error(refused)),
+    }
+    let index = variant_name(items, names)?;
+    Ok((index, Form::Map))
+}
+
+// Reads a variant's identifier.
+fn variant_name<'de, R: Read<'de>>(items: &mut Deserializer<R>, names: &[&str]) -> Result<usize>
+    ensures read { TakesItem R.refusals (formats_of items.old.formats)
+        (IsName (texts names.now)) items.old.levels
+        (R.source items.old.source) (R.source items.new.source) result }
+    ensures no_form { IfErr result (λ e. TellsNoForm (code_of e)) }
+    ensures below { IfOk result (λ i. i < length names.now) }
+    ensures levels { items.new.levels ≡ items.old.levels }
+    ensures formats { items.new.formats ≡ items.old.formats }
+{
+    match identifier(items, names) {
+        Ok(Some(index)) => Ok(index),
+        Ok(None) => Err(Error::message(items.alloc, "unknown variant")),
+        Err(why) => Err(unnamed(items, why, "invalid type: expected a variant name")),
+    }
+}
+
+// Reads null or undefined, the only item of an array that remains.
+#[tactic(auto, using(crate::proofs::Cases::other_stands, crate::proofs::Cases::full_stands))]
+fn only_null<R: Source>(items: &mut Deserializer<R>, mut remaining: Remaining) -> Result<()>
+    ensures read { TakesContent R.refusals (formats_of items.old.formats)
+        (IsPart (PassesTags IsUnit))
+        items.old.levels (Array remaining)
+        (R.source items.old.source) (R.source items.new.source) result }
+    ensures cases { IfErr result (λ e. Stands (R.source items.old.source) e
+        (unit_cases (Array remaining))) }
+    ensures levels { items.new.levels ≡ items.old.levels }
+    ensures formats { items.new.formats ≡ items.old.formats }
+{
+    expect_item(items, &mut remaining, ErrorCode::ArrayTooLong)?;
+    read_unit(items)?;
+    end_array(items, remaining)?;
+    Ok(())
+}
+
+/// Reads the content of a variant of no part: nothing, or null or undefined where the enum is an
+/// array or a map.
+///
+/// An array in which nothing follows the identifier is refused with `ArrayTooLong`.
+#[tactic(auto, using(crate::proofs::Cases::others_stand))]
+pub fn no_part<R: Source>(items: &mut Deserializer<R>, form: Form) -> Result<()>
+    ensures read { TakesContent R.refusals (formats_of items.old.formats)
+        IsNothing
+        items.old.levels form
+        (R.source items.old.source) (R.source items.new.source) result }
+    ensures cases { IfErr result (λ e. Stands (R.source items.old.source) e
+        (unit_cases form)) }
+    ensures levels { items.new.levels ≡ items.old.levels }
+    ensures formats { items.new.formats ≡ items.old.formats }
+{
+    match form {
+        Form::Array(remaining) => only_null(items, remaining),
+        Form::Map => read_unit(items),
+        Form::Alone => Ok(()),
+    }
+}

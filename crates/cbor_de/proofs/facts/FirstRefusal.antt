@@ -1,0 +1,6 @@
+-- Published: the first refusal, as an error tells it.
+
+-- a fault of the reference reader is the first refusal of the whole input
+pub use Rattle.cbor_de.proofs.FirstRefusal.{first_or_memory, first_or_fault}
+-- two errors of one input, and one with a scratch
+pub use Rattle.cbor_de.proofs.FirstRefusal.{same_error, without_scratch}

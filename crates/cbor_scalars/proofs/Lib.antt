@@ -1,0 +1,11 @@
+pub mod OfKind
+pub mod Opened
+pub mod Scalars
+pub mod Numbers
+pub mod Contents
+pub mod Nulls
+pub mod Lending
+pub mod TagHeads
+pub mod PassedTags
+pub mod Identifiers
+pub mod facts

@@ -1,0 +1,4 @@
+-- Published: what is read as an option.
+
+-- null, an item that is there, or an item that isn't read
+pub use Rattle.cbor_scalars.proofs.Nulls.{option_none, option_some, option_refused}

@@ -1,0 +1,6 @@
+-- Published: what a refusal says of the reading that it stops.
+
+-- a fault that is told is excused, or was met
+pub use Rattle.cbor_scalars.proofs.Scalars.{excused_or}
+-- what a fault stops isn't read, and the error of a refusal tells the fault
+pub use Rattle.cbor_scalars.proofs.Scalars.{refuses, told_by}

@@ -1,0 +1,6 @@
+-- Published: what is made of strings that were lent.
+
+-- an item is a string of the same bytes each time
+pub use Rattle.cbor_scalars.proofs.Contents.{same_bytes}
+-- what is read as another value, or not
+pub use Rattle.cbor_scalars.proofs.Lending.{made_read, made_none, made_refuses, none_of}

@@ -1,0 +1,64 @@
+use Rattle.std.proofs.Common.{Ok, subst}
+use Rattle.std.proofs.lemmas.Result.{err_from_is_err_and}
+use Rattle.cbor_io.specs.Error.{code_of, offset_of}
+use Rattle.cbor_de.specs.declared.head.Head.{Head}
+use Rattle.cbor_scalars.specs.Identifiers.{texts, IsIdentifier}
+use Rattle.cbor_scalars.specs.Opens.{OpensItem}
+use Rattle.cbor_scalars.specs.Takes.{formats_of}
+use Rattle.cbor_scalars.proofs.Lending.{text_refuses}
+use Rattle.cbor_scalars.proofs.Identifiers.{number_names, text_names, bytes_read, other_refused}
+use Rattle.cbor_scalars.proofs.identifier.any_identifier.Goals as goal
+
+pub returns-in-Unsigned-clause-read : goal.returns-in-Unsigned-clause-read
+returns-in-Unsigned-clause-read g c =
+    let old = c.args.items.now in
+    let u = c.scalar.new.items in
+    let f = formats_of old.formats in
+    let s = g.R.Source.source old.source in
+    let m = g.R.Source.source u.source in
+    let opened = subst (λ (h : Head). OpensItem g.R.Source.refusals f old.levels s m u.refusal (Ok h)) c.in-Unsigned.is c.in_ok-head.ensures.read in
+    number_names (texts c.args.names.now) g.R.Source.refusals f g.R.Source.lends old.levels s m u.refusal c.in-Unsigned.n c.place_of_number.result c.place_of_number.ensures.place opened
+
+pub returns-in_ok-text_name-in-Text-clause-read : goal.returns-in_ok-text_name-in-Text-clause-read
+returns-in_ok-text_name-in-Text-clause-read g c =
+    let old = c.args.items.now in
+    let u = c.scalar.new.items in
+    let f = formats_of old.formats in
+    let s = g.R.Source.source old.source in
+    let m = g.R.Source.source u.source in
+    let t = g.R.Source.source c.text_name.new.items.source in
+    let opened = subst (λ (h : Head). OpensItem g.R.Source.refusals f old.levels s m u.refusal (Ok h)) c.in-Text.is c.in_ok-head.ensures.read in
+    let named = c.in_ok-text_name-in-Text.ensures.read in
+    text_names (texts c.args.names.now) g.R.Source.refusals f g.R.Source.lends old.levels s m u.refusal c.in-Text.n t named.0 c.in_ok-text_name-in-Text.field-0 named.1 named.2 opened named.3
+
+pub returns-in_err-text_name-in-Text-clause-read : goal.returns-in_err-text_name-in-Text-clause-read
+returns-in_err-text_name-in-Text-clause-read g c =
+    let passed = err_from_is_err_and c.from_residual-in_err-text_name-in-Text.result c.from_residual-in_err-text_name-in-Text.ensures.1 in
+    let old = c.args.items.now in
+    let u = c.scalar.new.items in
+    let f = formats_of old.formats in
+    let s = g.R.Source.source old.source in
+    let m = g.R.Source.source u.source in
+    let opened = subst (λ (h : Head). OpensItem g.R.Source.refusals f old.levels s m u.refusal (Ok h)) c.in-Text.is c.in_ok-head.ensures.read in
+    rw (passed.1, passed.2) (λ e made. text_refuses g.R.Source.refusals f g.R.Source.lends old.levels s m u.refusal (IsIdentifier (texts c.args.names.now)) c.in-Text.n (code_of e) (offset_of e) opened (c.in_err-text_name-in-Text.ensures.read e made))
+
+pub returns-in-Bytes-clause-read : goal.returns-in-Bytes-clause-read
+returns-in-Bytes-clause-read g c =
+    let old = c.args.items.now in
+    let u = c.scalar.new.items in
+    let new = c.bytes_name.new.items in
+    let f = formats_of old.formats in
+    let s = g.R.Source.source old.source in
+    let m = g.R.Source.source u.source in
+    let t = g.R.Source.source new.source in
+    let opened = subst (λ (h : Head). OpensItem g.R.Source.refusals f old.levels s m u.refusal (Ok h)) c.in-Bytes.is c.in_ok-head.ensures.read in
+    bytes_read (texts c.args.names.now) g.R.Source.refusals f g.R.Source.lends old.levels s m u.refusal c.in-Bytes.n t new.refusal c.bytes_name.result opened c.bytes_name.ensures.read
+
+pub returns-in_default-clause-read : goal.returns-in_default-clause-read
+returns-in_default-clause-read g c =
+    let old = c.args.items.now in
+    let u = c.scalar.new.items in
+    let f = formats_of old.formats in
+    let s = g.R.Source.source old.source in
+    let m = g.R.Source.source u.source in
+    λ e made. other_refused (texts c.args.names.now) g.R.Source.refusals f g.R.Source.lends old.levels s m u.refusal c.in_ok-head.head e c.in_default.not-Unsigned c.in_default.not-Text c.in_default.not-Bytes c.in_ok-head.ensures.read

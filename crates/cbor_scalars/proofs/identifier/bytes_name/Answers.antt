@@ -1,0 +1,14 @@
+use Rattle.std.proofs.Common.{Result, subst}
+use Rattle.cbor_io.specs.Source.{part_bytes}
+use Rattle.cbor_io.specs.declared.read.EitherLifetime.{EitherLifetime}
+use Rattle.cbor_de.specs.declared.head.Head.TheVariants as head
+use Rattle.cbor_scalars.specs.Strings.{Lent}
+use Rattle.cbor_scalars.specs.declared.lent.Unread.{Unread}
+use Rattle.cbor_scalars.proofs.identifier.bytes_name.Goals as goal
+
+pub returns-in-Ok-clause-read : goal.returns-in-Ok-clause-read
+returns-in-Ok-clause-read g c =
+    let s = g.R.Source.source c.args.items.now.source in
+    let t = g.R.Source.source c.bytes_part.follows.lender-at-none.source in
+    let lent = subst (λ (r : Result EitherLifetime Unread). Lent g.R.Source.refusals g.R.Source.lends (head.Bytes c.args.n) s t r) c.in-Ok.is c.bytes_part.follows.holds-at-none.2 in
+    (part_bytes c.in-Ok.part, c.place_of_part.ensures.place, lent.0)

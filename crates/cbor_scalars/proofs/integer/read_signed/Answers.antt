@@ -1,0 +1,22 @@
+use Rattle.std.proofs.Common.{rules, FitsSigned}
+use Rattle.std.specs.Int.{w64}
+use Rattle.std.proofs.lemmas.Int.{to_z-of_z}
+use Rattle.cbor_scalars.specs.Takes.{formats_of}
+use Rattle.cbor_model.specs.Readable.{IsSigned}
+use Rattle.cbor_scalars.proofs.Numbers.{number_read, number_none}
+use Rattle.cbor_scalars.proofs.integer.read_signed.Goals as goal
+
+pub returns-in-Some-clause-read : goal.returns-in-Some-clause-read
+returns-in-Some-clause-read g c =
+    let f = formats_of c.args.items.now.formats in
+    let s = g.R.Source.source c.args.items.now.source in
+    let u = c.scalar.new.items in
+    let n = c.in-Some.number in
+    let fits : FitsSigned w64 n = search rules in
+    rw (to_z-of_z w64 n fits) (number_read g.R.Source.refusals f (IsSigned c.args.most) c.args.items.now.levels s (g.R.Source.source u.source) u.refusal c.in-Ok.head n n (λ r is. (is, c.in-Some.ensures.1)) c.in-Some.ensures.0 c.in-Ok.ensures.read)
+
+pub returns-in-None-clause-read : goal.returns-in-None-clause-read
+returns-in-None-clause-read g c =
+    let s = g.R.Source.source c.args.items.now.source in
+    let u = c.scalar.new.items in
+    number_none g.R.Source.refusals (formats_of c.args.items.now.formats) (IsSigned c.args.most) c.args.items.now.levels s (g.R.Source.source u.source) u.refusal c.in-Ok.head c.no_number.result (λ z. z) (λ r z h. h.0) (λ r z h is. c.in-None.ensures z is h.1) c.in-Ok.ensures.read

@@ -1,0 +1,19 @@
+use Rattle.std.proofs.Common.{◌-◌, ◌^◌, pos}
+use Rattle.cbor_scalars.specs.Takes.{formats_of}
+use Rattle.cbor_model.specs.Readable.{IsFromZero}
+use Rattle.cbor_scalars.proofs.Numbers.{number_read, number_none}
+use Rattle.cbor_scalars.proofs.integer.read_u128.Goals as goal
+
+pub returns-in-Some-clause-read : goal.returns-in-Some-clause-read
+returns-in-Some-clause-read g c =
+    let f = formats_of c.args.items.now.formats in
+    let s = g.R.Source.source c.args.items.now.source in
+    let u = c.scalar.new.items in
+    let n = c.in-Some.number in
+    number_read g.R.Source.refusals f (IsFromZero (2 ^ 128 - 1)) c.args.items.now.levels s (g.R.Source.source u.source) u.refusal c.in-Ok.head (pos n) n (λ r is. (is, c.in-Some.ensures.1)) c.in-Some.ensures.0 c.in-Ok.ensures.read
+
+pub returns-in-None-clause-read : goal.returns-in-None-clause-read
+returns-in-None-clause-read g c =
+    let s = g.R.Source.source c.args.items.now.source in
+    let u = c.scalar.new.items in
+    number_none g.R.Source.refusals (formats_of c.args.items.now.formats) (IsFromZero (2 ^ 128 - 1)) c.args.items.now.levels s (g.R.Source.source u.source) u.refusal c.in-Ok.head c.no_number.result (λ n. pos n) (λ r n h. h.0) (λ r n h is. c.in-None.ensures n is) c.in-Ok.ensures.read

@@ -1,0 +1,22 @@
+use Rattle.std.proofs.Common.{Ok, subst}
+use Rattle.cbor_de.specs.declared.head.Head.{Head}
+use Rattle.cbor_model.specs.Readable.{IsBool}
+use Rattle.cbor_scalars.specs.Opens.{OpensItem}
+use Rattle.cbor_scalars.specs.Takes.{formats_of}
+use Rattle.cbor_scalars.proofs.Scalars.{none_scalar, bool_read, not_bool}
+use Rattle.cbor_scalars.proofs.scalar.read_bool.Goals as goal
+
+pub returns-in-Bool-clause-read : goal.returns-in-Bool-clause-read
+returns-in-Bool-clause-read g c =
+    let s = g.R.Source.source c.args.items.now.source in
+    let u = c.scalar.new.items in
+    let t = g.R.Source.source u.source in
+    let levels = c.args.items.now.levels in
+    let read = subst (λ (h : Head). OpensItem g.R.Source.refusals (formats_of c.args.items.now.formats) levels s t u.refusal (Ok h)) c.in-Bool.is c.in-Ok.ensures.read in
+    bool_read g.R.Source.refusals (formats_of c.args.items.now.formats) levels s t u.refusal c.in-Bool.b read
+
+pub returns-in_default-clause-read : goal.returns-in_default-clause-read
+returns-in_default-clause-read g c =
+    let s = g.R.Source.source c.args.items.now.source in
+    let u = c.scalar.new.items in
+    none_scalar g.R.Source.refusals (formats_of c.args.items.now.formats) IsBool c.args.items.now.levels s (g.R.Source.source u.source) u.refusal c.in-Ok.head c.mismatch.result (not_bool c.in-Ok.head c.in_default.not-Bool) c.in-Ok.ensures.read

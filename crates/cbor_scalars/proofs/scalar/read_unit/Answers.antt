@@ -1,0 +1,26 @@
+use Rattle.std.proofs.Common.{◌≡◌, Ok, subst, inl, inr}
+use Rattle.cbor_de.specs.declared.head.Head.{Head}
+use Rattle.cbor_de.specs.declared.head.Head.TheVariants as head
+use Rattle.cbor_model.specs.Readable.{IsUnit}
+use Rattle.cbor_scalars.specs.Opens.{OpensItem}
+use Rattle.cbor_scalars.specs.Takes.{formats_of}
+use Rattle.cbor_scalars.proofs.Scalars.{none_scalar, null_read, undefined_read, not_unit}
+use Rattle.cbor_scalars.proofs.scalar.read_unit.Goals as goal
+
+pub returns-in-Null-clause-read : goal.returns-in-Null-clause-read
+returns-in-Null-clause-read g c =
+    let s = g.R.Source.source c.args.items.now.source in
+    let u = c.scalar.new.items in
+    let t = g.R.Source.source u.source in
+    let levels = c.args.items.now.levels in
+    let taken = λ (h : Head). λ (is : c.in-Ok.head ≡ h). subst (λ (h : Head). OpensItem g.R.Source.refusals (formats_of c.args.items.now.formats) levels s t u.refusal (Ok h)) is c.in-Ok.ensures.read in
+    elim c.in-Null.is [
+      | inl is ↦ null_read g.R.Source.refusals (formats_of c.args.items.now.formats) levels s t u.refusal (taken head.Null is)
+      | inr is ↦ undefined_read g.R.Source.refusals (formats_of c.args.items.now.formats) levels s t u.refusal (taken head.Undefined is)
+    ]
+
+pub returns-in_default-clause-read : goal.returns-in_default-clause-read
+returns-in_default-clause-read g c =
+    let s = g.R.Source.source c.args.items.now.source in
+    let u = c.scalar.new.items in
+    none_scalar g.R.Source.refusals (formats_of c.args.items.now.formats) IsUnit c.args.items.now.levels s (g.R.Source.source u.source) u.refusal c.in-Ok.head c.mismatch.result (not_unit c.in-Ok.head c.in_default.not-Null c.in_default.not-Undefined) c.in-Ok.ensures.read

@@ -1,0 +1,34 @@
+use Rattle.std.proofs.Common.{◌≡◌, ℕ, Ok, ap, subst}
+use Rattle.std.proofs.lemmas.Result.{err_from_is_err_and}
+use Rattle.cbor_model.specs.Formats.{Formats}
+use Rattle.cbor_model.specs.Head.{HeadWidth}
+use Rattle.cbor_de.specs.Gives.{Step}
+use Rattle.cbor_de.specs.declared.head.Head.{Head}
+use Rattle.cbor_scalars.specs.Opens.{OpensInside}
+use Rattle.cbor_de.specs.Heads.{opening_at}
+use Rattle.cbor_scalars.specs.Takes.{formats_of}
+use Rattle.cbor_scalars.proofs.Opened.{no_tag, head_opens, head_stops, behind_tag}
+use Rattle.cbor_scalars.proofs.scalar.scalar.Goals as goal
+
+pub returns-in_err-head-clause-read : goal.returns-in_err-head-clause-read
+returns-in_err-head-clause-read g c =
+    let passed = err_from_is_err_and c.from_residual.result c.from_residual.ensures.1 in
+    rw (passed.1, passed.2) (c.args.items.now.levels, head_stops g.R.Source.refusals (formats_of c.args.items.now.formats) _ _ _ _ c.in_err-head.ensures.read)
+
+pub returns-in-Tag-clause-read : goal.returns-in-Tag-clause-read
+returns-in-Tag-clause-read g c =
+    let levels = c.args.items.now.levels in
+    let f = formats_of c.args.items.now.formats in
+    let s = g.R.Source.source c.args.items.now.source in
+    let m = g.R.Source.source c.take_head.new.items.source in
+    let u = c.scalar_inside.new.items in
+    let first = subst (λ (h : Head). Step s m (λ l bs rest. (w : HeadWidth) × (opening_at bs ≡ Ok ((w, h), rest)))) c.in-Tag.is c.in_ok-head.ensures.read in
+    let formats = ap formats_of c.in_ok-head.ensures.formats in
+    let inner = subst (λ (n : ℕ). OpensInside g.R.Source.refusals f n m (g.R.Source.source u.source) u.refusal c.scalar_inside.result) c.in_ok-head.ensures.levels
+    (subst (λ (k : Formats). OpensInside g.R.Source.refusals k c.take_head.new.items.levels m (g.R.Source.source u.source) u.refusal c.scalar_inside.result) formats c.scalar_inside.ensures.read) in
+    (inner.0, behind_tag g.R.Source.refusals f s m (g.R.Source.source u.source) levels inner.0 c.in-Tag.field-0 u.refusal c.scalar_inside.result first inner.1)
+
+pub returns-clause-read : goal.returns-clause-read
+returns-clause-read g c =
+    let levels = c.args.items.now.levels in
+    (c.take_head.new.items.levels, head_opens (formats_of c.args.items.now.formats) (g.R.Source.source c.args.items.now.source) (g.R.Source.source c.take_head.new.items.source) levels c.take_head.new.items.levels c.in_ok-head.head (no_tag c.in_ok-head.head c.in_default.not-Tag) c.in_ok-head.ensures.levels c.in_ok-head.ensures.read)

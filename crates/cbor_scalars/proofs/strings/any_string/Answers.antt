@@ -1,0 +1,87 @@
+use Rattle.std.proofs.Common.{◌≡◌, Ok, subst, sym, ap, String}
+use Rattle.std.specs.Str.{IsUtf8}
+use Rattle.std.specs.String.{string_bytes}
+use Rattle.std.specs.Global.{Global}
+use Rattle.std.proofs.lemmas.Str.{IsUtf8-string_bytes}
+use Rattle.std.proofs.lemmas.Result.{err_from_is_err_and}
+use Rattle.cbor_model.specs.Raw.{Raw}
+use Rattle.cbor_model.specs.Readable.{IsString, IsText}
+use Rattle.cbor_io.specs.Error.{code_of, offset_of}
+use Rattle.cbor_de.specs.declared.head.Head.{Head}
+use Rattle.cbor_scalars.specs.Opens.{OpensItem}
+use Rattle.cbor_scalars.specs.Takes.{formats_of}
+use Rattle.cbor_scalars.proofs.Lending.{text_refuses}
+use Rattle.cbor_scalars.proofs.Contents.{text_takes, bytes_takes, bytes_stops, bytes_bad, not_string, none_at, none_there}
+use Rattle.cbor_scalars.proofs.strings.any_string.Goals as goal
+
+-- what a String is read from
+abbrev reads : Raw → String Global → Type 0
+reads r s = IsText r (string_bytes s)
+
+pub returns-in_err-text-in-Text-clause-read : goal.returns-in_err-text-in-Text-clause-read
+returns-in_err-text-in-Text-clause-read g c =
+    let p = err_from_is_err_and c.from_residual-in_err-text-in-Text.result c.from_residual-in_err-text-in-Text.ensures.1 in
+    let u = c.scalar.new.items in
+    let levels = c.args.items.now.levels in
+    let f = formats_of c.args.items.now.formats in
+    let s = g.R.Source.source c.args.items.now.source in
+    let m = g.R.Source.source u.source in
+    let opened = subst (λ (h : Head). OpensItem g.R.Source.refusals f levels s m u.refusal (Ok h)) c.in-Text.is c.in_ok-head.ensures.read in
+    rw (p.1, p.2) (λ e is. text_refuses g.R.Source.refusals f g.R.Source.lends levels s m u.refusal reads c.in-Text.n (code_of e) (offset_of e) opened (c.in_err-text-in-Text.ensures.read e is))
+
+pub returns-in-Text-clause-read : goal.returns-in-Text-clause-read
+returns-in-Text-clause-read g c =
+    let u = c.scalar.new.items in
+    let levels = c.args.items.now.levels in
+    let f = formats_of c.args.items.now.formats in
+    let s = g.R.Source.source c.args.items.now.source in
+    let m = g.R.Source.source u.source in
+    let t = g.R.Source.source c.text_asked_for.new.items.source in
+    let x = c.in_ok-text-in-Text.text in
+    let is = c.in_ok-text-in-Text.ensures.read in
+    let opened = subst (λ (h : Head). OpensItem g.R.Source.refusals f levels s m u.refusal (Ok h)) c.in-Text.is c.in_ok-head.ensures.read in
+    text_takes g.R.Source.refusals f reads levels s m u.refusal c.in-Text.n opened t (string_bytes x) x (λ r string utf8 lent. (string, utf8)) is.1 is.0
+
+pub returns-in_err-bytes-in-Bytes-clause-read : goal.returns-in_err-bytes-in-Bytes-clause-read
+returns-in_err-bytes-in-Bytes-clause-read g c =
+    let p = err_from_is_err_and c.from_residual-in_err-bytes-in-Bytes.result c.from_residual-in_err-bytes-in-Bytes.ensures.1 in
+    let u = c.scalar.new.items in
+    let levels = c.args.items.now.levels in
+    let f = formats_of c.args.items.now.formats in
+    let s = g.R.Source.source c.args.items.now.source in
+    let m = g.R.Source.source u.source in
+    let opened = subst (λ (h : Head). OpensItem g.R.Source.refusals f levels s m u.refusal (Ok h)) c.in-Bytes.is c.in_ok-head.ensures.read in
+    rw (p.1, p.2) (λ e is. bytes_stops g.R.Source.refusals f reads levels s m u.refusal c.in-Bytes.n opened _ c.byte_string.new.items.refusal e is c.in_err-bytes-in-Bytes.ensures.read)
+
+pub returns-in-Ok-clause-read : goal.returns-in-Ok-clause-read
+returns-in-Ok-clause-read g c =
+    let u = c.scalar.new.items in
+    let levels = c.args.items.now.levels in
+    let f = formats_of c.args.items.now.formats in
+    let s = g.R.Source.source c.args.items.now.source in
+    let m = g.R.Source.source u.source in
+    let x = c.in-Ok.text in
+    let b = c.in_ok-bytes-in-Bytes.bytes.items in
+    let same : string_bytes x ≡ b = ap (λ v. v.items) c.in-Ok.ensures.ok in
+    let opened = subst (λ (h : Head). OpensItem g.R.Source.refusals f levels s m u.refusal (Ok h)) c.in-Bytes.is c.in_ok-head.ensures.read in
+    bytes_takes g.R.Source.refusals f reads levels s m u.refusal c.in-Bytes.n opened (g.R.Source.source c.byte_string.new.items.source) b x
+    (λ r is lent. (subst (IsString r) (sym same) is, IsUtf8-string_bytes x)) c.in_ok-bytes-in-Bytes.ensures.read
+
+pub returns-in-Bytes-clause-read : goal.returns-in-Bytes-clause-read
+returns-in-Bytes-clause-read g c =
+    let u = c.scalar.new.items in
+    let levels = c.args.items.now.levels in
+    let f = formats_of c.args.items.now.formats in
+    let s = g.R.Source.source c.args.items.now.source in
+    let m = g.R.Source.source u.source in
+    let b = c.in_ok-bytes-in-Bytes.bytes.items in
+    let bad : IsUtf8 b → ⊥ = λ is. cc (c.in-Err.ensures.succeeds is) in
+    let opened = subst (λ (h : Head). OpensItem g.R.Source.refusals f levels s m u.refusal (Ok h)) c.in-Bytes.is c.in_ok-head.ensures.read in
+    none_there g.R.Source.refusals s (λ k at. bytes_bad g.R.Source.refusals f reads levels s m u.refusal c.in-Bytes.n opened (g.R.Source.source c.byte_string.new.items.source) b k at (λ x. string_bytes x) (λ r x is. is) bad c.in_ok-bytes-in-Bytes.ensures.read)
+
+pub returns-clause-read : goal.returns-clause-read
+returns-clause-read g c =
+    let u = c.scalar.new.items in
+    let s = g.R.Source.source c.args.items.now.source in
+    let h = c.in_ok-head.head in
+    none_there g.R.Source.refusals s (λ k at. none_at g.R.Source.refusals (formats_of c.args.items.now.formats) reads c.args.items.now.levels s (g.R.Source.source u.source) u.refusal h k at (λ r x is. not_string h c.in_default.not-Text c.in_default.not-Bytes r (string_bytes x) is.0) c.in_ok-head.ensures.read)

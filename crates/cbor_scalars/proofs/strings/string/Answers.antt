@@ -1,0 +1,40 @@
+use Rattle.std.proofs.Common.{Some, String}
+use Rattle.std.specs.Global.{Global}
+use Rattle.std.specs.String.{string_bytes}
+use Rattle.std.proofs.lemmas.Result.{err_from_is_err_and}
+use Rattle.cbor_model.specs.Raw.{Raw}
+use Rattle.cbor_model.specs.Readable.{IsText}
+use Rattle.cbor_io.specs.Error.{code_of, offset_of}
+use Rattle.cbor_scalars.specs.Takes.{formats_of}
+use Rattle.cbor_scalars.proofs.Opened.{text_opened}
+use Rattle.cbor_scalars.proofs.Lending.{text_refuses}
+use Rattle.cbor_scalars.proofs.Contents.{text_takes}
+use Rattle.cbor_scalars.proofs.strings.string.Goals as goal
+
+-- what a String is read from
+abbrev reads : Raw → String Global → Type 0
+reads r s = IsText r (string_bytes s)
+
+pub returns-in_err-text-clause-read : goal.returns-in_err-text-clause-read
+returns-in_err-text-clause-read g c =
+    let passed = err_from_is_err_and c.from_residual.result c.from_residual.ensures.1 in
+    let old = c.args.items.now in
+    let u = c.short_text.new.self in
+    let f = formats_of old.formats in
+    let s = g.R.Source.source old.source in
+    let m = g.R.Source.source u.source in
+    let opened = text_opened g.R.Source.refusals f s m old.levels c.in-Some.n u.refusal c.in-Some.ensures.read in
+    rw (passed.1, passed.2) (λ e is. text_refuses g.R.Source.refusals f g.R.Source.lends old.levels s m u.refusal reads (Some c.in-Some.n) (code_of e) (offset_of e) opened (c.in_err-text.ensures.read e is))
+
+pub returns-in-Some-clause-read : goal.returns-in-Some-clause-read
+returns-in-Some-clause-read g c =
+    let old = c.args.items.now in
+    let u = c.short_text.new.self in
+    let f = formats_of old.formats in
+    let s = g.R.Source.source old.source in
+    let m = g.R.Source.source u.source in
+    let t = g.R.Source.source c.definite_text.new.items.source in
+    let x = c.in_ok-text.text in
+    let is = c.in_ok-text.ensures.read in
+    let opened = text_opened g.R.Source.refusals f s m old.levels c.in-Some.n u.refusal c.in-Some.ensures.read in
+    text_takes g.R.Source.refusals f reads old.levels s m u.refusal (Some c.in-Some.n) opened t (string_bytes x) x (λ r string utf8 lent. (string, utf8)) is.1 is.0

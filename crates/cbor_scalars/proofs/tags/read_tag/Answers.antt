@@ -1,0 +1,15 @@
+use Rattle.cbor_scalars.specs.Takes.{formats_of}
+use Rattle.cbor_scalars.specs.Tags.{tag_head_at}
+use Rattle.cbor_scalars.proofs.Scalars.{told_by}
+use Rattle.cbor_scalars.proofs.TagHeads.{tag_is}
+use Rattle.cbor_scalars.proofs.tags.read_tag.Goals as goal
+
+pub returns-in-Ok-clause-item : goal.returns-in-Ok-clause-item
+returns-in-Ok-clause-item g c =
+    let d = c.args.items.now in
+    tag_is (formats_of d.formats) d.levels _ _ c.in-Ok.tag c.in-Ok.ensures.read
+
+pub returns-in-Err-clause-read : goal.returns-in-Err-clause-read
+returns-in-Err-clause-read g c =
+    let d = c.args.items.now in
+    told_by g.R.Source.refusals (λ l. tag_head_at d.levels) (g.R.Source.source d.source) c.take_tag.new.items.refusal c.in-Err.refused c.error.result c.error.ensures.tells c.in-Err.ensures.read

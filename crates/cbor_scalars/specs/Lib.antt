@@ -1,0 +1,12 @@
+pub mod Kinds
+pub mod Takes
+pub mod Opens
+pub mod Scalars
+pub mod Options
+pub mod Tags
+pub mod Strings
+pub mod Identifiers
+pub use Rattle.cbor_io.specs.Error
+pub use Rattle.cbor_io.specs.Source
+pub use Rattle.cbor_de.specs.Gives
+pub use Rattle.cbor_de.specs.Deserializer

@@ -1,0 +1,169 @@
+//! Whole numbers (RFC 7049, section 2.1, major types 0 and 1).
+
+ghost use Rattle.std.specs.Prelude.{◌≡◌, ◌≤◌, ◌<◌, ◌-◌, ◌^◌, ℕ, ℤ, pos, IfOk, IfErr, MatchOption};
+ghost use Rattle.cbor_model.specs.Readable.{PassesTags, IsInteger, IsFromZero, IsSigned, IsWithin};
+ghost use Rattle.cbor_io.specs.Error.{code_of};
+ghost use Rattle.cbor_de.specs.Gives.{TellsNoForm};
+ghost use Rattle.cbor_scalars.specs.Scalars.{IsNumber};
+ghost use Rattle.cbor_scalars.specs.Takes.{TakesItem, formats_of};
+
+use crate::opening::mismatch;
+use crate::scalar::scalar;
+use cbor_de::{Deserializer, Head};
+use cbor_io::error::{Error, Result};
+use cbor_io::read::Source;
+
+// The number that a head is.
+#[inline(always)]
+fn integer(head: Head) -> Option<i128>
+    ensures { MatchOption result ((z : ℤ) → IsNumber head z → ⊥) (λ z. IsNumber head z) }
+{
+    match head {
+        Head::Unsigned(n) => Some(n as i128),
+        Head::Negative(n) => Some(-1 - n as i128),
+        _ => None,
+    }
+}
+
+// The number that a head is, from 0 to the most.
+#[inline(always)]
+fn from_zero(head: Head, most: u64) -> Option<u64>
+    ensures { MatchOption result ((n : ℕ) → IsNumber head (pos n) → n ≤ most → ⊥)
+        (λ n. IsNumber head (pos n) × (n ≤ most)) }
+{
+    match head {
+        Head::Unsigned(n) => { if n <= most { Some(n) } else { None } }
+        _ => None,
+    }
+}
+
+// The number that a head is, from 0.
+#[inline(always)]
+fn natural(head: Head) -> Option<u128>
+    ensures { MatchOption result ((n : ℕ) → IsNumber head (pos n) → ⊥)
+        (λ n. IsNumber head (pos n) × (n ≤ 2 ^ 128 - 1)) }
+{
+    match head {
+        Head::Unsigned(n) => Some(n as u128),
+        _ => None,
+    }
+}
+
+// The number that a head is, from -1 - most to the most.
+#[inline(always)]
+fn signed(head: Head, most: u64) -> Option<i64>
+    requires { most < 2 ^ 63 }
+    ensures { MatchOption result ((z : ℤ) → IsNumber head z → IsWithin most z → ⊥)
+        (λ z. IsNumber head z × IsWithin most z) }
+{
+    match head {
+        Head::Unsigned(n) => { if n <= most { Some(n as i64) } else { None } }
+        Head::Negative(n) => { if n <= most { Some(-1 - n as i64) } else { None } }
+        _ => None,
+    }
+}
+
+/// Reads a whole number.
+#[inline(always)]
+pub fn read_integer<R: Source>(items: &mut Deserializer<R>) -> Result<i128>
+    ensures read { TakesItem R.refusals (formats_of items.old.formats)
+        (PassesTags IsInteger) items.old.levels
+        (R.source items.old.source) (R.source items.new.source) result }
+    ensures no_form { IfErr result (λ e. TellsNoForm (code_of e)) }
+    ensures levels { items.new.levels ≡ items.old.levels }
+    ensures formats { items.new.formats ≡ items.old.formats }
+{
+    let head = match scalar(items) {
+        Ok(head) => head,
+        Err(refused) => return Err(items.error(refused)),
+    };
+    match integer(head) {
+        Some(number) => Ok(number),
+        None => Err(mismatch(items, head, "invalid type: expected an integer")),
+    }
+}
+
+/// Reads a number from 0 to the most; the message is for another number.
+#[inline(always)]
+pub fn read_from_zero<R: Source>(
+    items: &mut Deserializer<R>,
+    most: u64,
+    message: &'static str,
+) -> Result<u64>
+    ensures read { TakesItem R.refusals (formats_of items.old.formats)
+        (PassesTags (IsFromZero most)) items.old.levels
+        (R.source items.old.source) (R.source items.new.source) result }
+    ensures bound { IfOk result (λ n. n ≤ most) }
+    ensures no_form { IfErr result (λ e. TellsNoForm (code_of e)) }
+    ensures levels { items.new.levels ≡ items.old.levels }
+    ensures formats { items.new.formats ≡ items.old.formats }
+{
+    let head = match scalar(items) {
+        Ok(head) => head,
+        Err(refused) => return Err(items.error(refused)),
+    };
+    match from_zero(head, most) {
+        Some(number) => Ok(number),
+        None => Err(no_number(items, head, message)),
+    }
+}
+
+/// Reads a number from 0.
+#[inline(always)]
+pub fn read_u128<R: Source>(items: &mut Deserializer<R>) -> Result<u128>
+    ensures read { TakesItem R.refusals (formats_of items.old.formats)
+        (PassesTags (IsFromZero (2 ^ 128 - 1))) items.old.levels
+        (R.source items.old.source) (R.source items.new.source) result }
+    ensures no_form { IfErr result (λ e. TellsNoForm (code_of e)) }
+    ensures levels { items.new.levels ≡ items.old.levels }
+    ensures formats { items.new.formats ≡ items.old.formats }
+{
+    let head = match scalar(items) {
+        Ok(head) => head,
+        Err(refused) => return Err(items.error(refused)),
+    };
+    match natural(head) {
+        Some(number) => Ok(number),
+        None => Err(no_number(items, head, "integer out of range: expected u128")),
+    }
+}
+
+/// Reads a number from -1 - most to the most; the message is for another number.
+#[inline(always)]
+pub fn read_signed<R: Source>(
+    items: &mut Deserializer<R>,
+    most: u64,
+    message: &'static str,
+) -> Result<i64>
+    requires { most < 2 ^ 63 }
+    ensures read { TakesItem R.refusals (formats_of items.old.formats)
+        (PassesTags (IsSigned most)) items.old.levels
+        (R.source items.old.source) (R.source items.new.source) result }
+    ensures bounds { IfOk result (IsWithin most) }
+    ensures no_form { IfErr result (λ e. TellsNoForm (code_of e)) }
+    ensures levels { items.new.levels ≡ items.old.levels }
+    ensures formats { items.new.formats ≡ items.old.formats }
+{
+    let head = match scalar(items) {
+        Ok(head) => head,
+        Err(refused) => return Err(items.error(refused)),
+    };
+    match signed(head, most) {
+        Some(number) => Ok(number),
+        None => Err(no_number(items, head, message)),
+    }
+}
+
+// The error of an item that isn't a number in the range.
+#[cold]
+#[inline(never)]
+fn no_number<R: Source>(items: &mut Deserializer<R>, head: Head, message: &'static str) -> Error
+    ensures no_form { TellsNoForm (code_of result) }
+    ensures levels { items.new.levels ≡ items.old.levels }
+    ensures formats { items.new.formats ≡ items.old.formats }
+{
+    match head {
+        Head::Unsigned(_) | Head::Negative(_) => Error::message(items.alloc, message),
+        _ => mismatch(items, head, "invalid type: expected an integer"),
+    }
+}

@@ -1,0 +1,268 @@
+//! Strings that are lent.
+
+ghost use Rattle.std.specs.Prelude.{◌≡◌, ◌≤◌, length, IfErr, Ok};
+ghost use types.Logic.{sem};
+ghost use Rattle.std.specs.Io.BufRead.{Rests};
+ghost use Rattle.cbor_io.specs.Source.{part_bytes};
+ghost use Rattle.cbor_de.specs.declared.head.Head.TheVariants.{Bytes, Text};
+ghost use Rattle.cbor_io.specs.Error.{code_of};
+ghost use Rattle.cbor_de.specs.Gives.{TellsNoForm};
+ghost use Rattle.cbor_scalars.specs.Strings.{BytesOf, IsBadAt, IsKept, IsMadeOf, IsNoKey};
+ghost use Rattle.cbor_scalars.specs.Strings.{Lent, LentText, LendsString, LendsText, PartText};
+ghost use Rattle.cbor_scalars.specs.Strings.{Utf8Of};
+ghost use Rattle.cbor_scalars.specs.Takes.{context};
+ghost use Rattle.cbor_de.specs.contracts.de.Deserializer.{the_row};
+
+use crate::scalar::scalar;
+use cbor_de::{Deserializer, Head, Refused};
+use cbor_io::error::Error;
+use cbor_io::head::Major;
+use cbor_io::read::{EitherLifetime, Read, ReadError, ReadErrorCode, Source};
+use cbor_io::utf8::from_utf8;
+
+/// A text that is lent: by the source until its next call, or by the input for its whole life.
+#[derive(Debug, Drop)]
+pub enum EitherStr<'short, 'long> {
+    /// Lent by the source.
+    Short(&'short str),
+    /// Lent by the input.
+    Long(&'long str),
+}
+
+/// Why no string was lent. It owns no memory, so that it can be answered in place of what a source
+/// lends.
+#[derive(Debug, Drop)]
+pub enum Unread {
+    /// Reading stopped.
+    Stopped(ReadError),
+    /// An item of another kind is there.
+    Other,
+}
+
+impl From<ReadError> for Unread {
+    ghost use Rattle.std.specs.Prelude.{◌≡◌};
+    ghost use Rattle.cbor_scalars.specs.declared.lent.Unread.TheVariants.{Stopped};
+
+    ghost from_gives = { λ e u. u ≡ Stopped e };
+
+    fn from(e: ReadError) -> Unread {
+        Unread::Stopped(e)
+    }
+}
+
+/// What lends answers.
+type Result<T> = std::result::Result<T, Unread>;
+
+// Hands a part on.
+#[inline(always)]
+fn given<'a, 'de>(part: EitherLifetime<'a, 'de>) -> Result<EitherLifetime<'a, 'de>>
+    ensures { result ≡ Ok part.entry }
+{
+    Ok(part)
+}
+
+// The text of a part that ends at this offset.
+#[inline(always)]
+fn text_of<'a, 'de>(part: EitherLifetime<'a, 'de>, end: u64) -> Result<EitherStr<'a, 'de>>
+    requires { length (part_bytes part) ≤ end }
+    ensures { PartText part.entry end result }
+{
+    match part {
+        EitherLifetime::Short(bytes) => match from_utf8(bytes) {
+            Ok(text) => Ok(EitherStr::Short(text)),
+            Err(e) => Err(not_utf8(end, bytes.len() - e.valid_up_to())),
+        },
+        EitherLifetime::Long(bytes) => match from_utf8(bytes) {
+            Ok(text) => Ok(EitherStr::Long(text)),
+            Err(e) => Err(not_utf8(end, bytes.len() - e.valid_up_to())),
+        },
+    }
+}
+
+// The refusal of a text that isn't UTF-8, so many bytes before this offset.
+#[cold]
+#[inline(never)]
+fn not_utf8(end: u64, back: usize) -> Unread
+    requires { back ≤ end }
+    ensures { IsBadAt end back result }
+{
+    Unread::Stopped(ReadError::at(ReadErrorCode::InvalidUtf8, end - back as u64))
+}
+
+// The refusal that was kept.
+#[cold]
+#[inline(never)]
+fn stopped<R: Source>(items: &mut Deserializer<R>, refused: Refused) -> ReadError
+    ensures kept { IsKept items.old.refusal refused result }
+    ensures source { items.new.source ≡ items.old.source }
+    ensures levels { items.new.levels ≡ items.old.levels }
+    ensures formats { items.new.formats ≡ items.old.formats }
+{
+    match (refused, items.refusal.take()) {
+        (Refused::Kept, Some(refusal)) => refusal,
+        _ => ReadError::at(ReadErrorCode::OutOfMemory, 0),
+    }
+}
+
+// Takes the bytes of a byte string behind its head.
+#[inline(always)]
+pub(crate) fn bytes_part<'a, 'de, R: Read<'de>>(
+    items: &'a mut Deserializer<R>,
+    n: Option<u64>,
+) -> Result<EitherLifetime<'a, 'de>>
+    ensures* after_borrow { sem 𝓛 (Rests (the_row R.row) items.entry (λ new.
+        (new.levels ≡ items.old.levels) × (new.formats ≡ items.old.formats)
+        × Lent R.refusals R.lends (Bytes n)
+        (R.source items.old.source) (R.source new.source) result
+        × IfErr result IsNoKey)) }
+{
+    match n {
+        Some(n) => given(items.source.read(n as usize)?),
+        None => {
+            if let Err(refused) = items.join(Major::ByteString) {
+                return Err(Unread::Stopped(stopped(items, refused)));
+            }
+            given(items.source.take_buffer())
+        }
+    }
+}
+
+// Takes the bytes of a text behind its head.
+#[inline(always)]
+pub(crate) fn text_part<'a, 'de, R: Read<'de>>(
+    items: &'a mut Deserializer<R>,
+    n: Option<u64>,
+) -> Result<EitherStr<'a, 'de>>
+    ensures* after_borrow { sem 𝓛 (Rests (the_row R.row) items.entry (λ new.
+        (new.levels ≡ items.old.levels) × (new.formats ≡ items.old.formats)
+        × LentText R.refusals R.lends (Text n)
+        (R.source items.old.source) (R.source new.source) result
+        × IfErr result IsNoKey)) }
+{
+    match n {
+        Some(n) => {
+            if !items.has_room(n) {
+                let refused = items.refuse(ReadErrorCode::LengthOutOfRange);
+                return Err(Unread::Stopped(stopped(items, refused)));
+            }
+            let end = items.source.offset() + n;
+            text_of(items.source.read(n as usize)?, end)
+        }
+        None => {
+            match items.join(Major::TextString) {
+                Ok(()) => {}
+                Err(refused) => return Err(Unread::Stopped(stopped(items, refused))),
+            }
+            let end = items.source.offset();
+            text_of(items.source.take_buffer(), end)
+        }
+    }
+}
+
+// The text of a part, if it is UTF-8.
+#[inline(always)]
+fn utf8<'a, 'de>(part: EitherLifetime<'a, 'de>) -> Result<EitherStr<'a, 'de>>
+    ensures { Utf8Of part.entry result }
+{
+    match part {
+        EitherLifetime::Short(bytes) => match from_utf8(bytes) {
+            Ok(text) => Ok(EitherStr::Short(text)),
+            Err(_) => Err(Unread::Other),
+        },
+        EitherLifetime::Long(bytes) => match from_utf8(bytes) {
+            Ok(text) => Ok(EitherStr::Long(text)),
+            Err(_) => Err(Unread::Other),
+        },
+    }
+}
+
+// The bytes of a text.
+#[inline(always)]
+fn bytes_of<'a, 'de>(text: EitherStr<'a, 'de>) -> Result<EitherLifetime<'a, 'de>>
+    ensures { BytesOf text.entry result }
+{
+    match text {
+        EitherStr::Short(text) => Ok(EitherLifetime::Short(text.as_bytes())),
+        EitherStr::Long(text) => Ok(EitherLifetime::Long(text.as_bytes())),
+    }
+}
+
+// The refusal of an item of another kind, behind its head.
+#[cold]
+#[inline(never)]
+fn other<R: Source>(items: &mut Deserializer<R>, head: Head) -> Unread
+    ensures no_key { IsNoKey result }
+    ensures levels { items.new.levels ≡ items.old.levels }
+    ensures formats { items.new.formats ≡ items.old.formats }
+{
+    if let Head::Break = head {
+        let refused = items.refuse(ReadErrorCode::UnexpectedCode);
+        return Unread::Stopped(stopped(items, refused));
+    }
+    Unread::Other
+}
+
+/// The error of a string that wasn't lent; the message is for an item of another kind.
+#[cold]
+#[inline(never)]
+pub fn unread_error<R: Source>(items: &mut Deserializer<R>, why: Unread, message: &str) -> Error
+    ensures made { IsMadeOf why result }
+    ensures no_form { IsNoKey why → TellsNoForm (code_of result) }
+    ensures source { items.new.source ≡ items.old.source }
+    ensures levels { items.new.levels ≡ items.old.levels }
+    ensures formats { items.new.formats ≡ items.old.formats }
+{
+    match why {
+        Unread::Stopped(refusal) => Error::from(refusal),
+        Unread::Other => Error::message(items.alloc, message),
+    }
+}
+
+/// Lends a text, or a byte string that is UTF-8 (RFC 7049, section 2.1, major types 2 and 3).
+///
+/// Another item, as a byte string that isn't UTF-8, is [`Unread::Other`]. What isn't whole, a text
+/// that isn't UTF-8 (`InvalidUtf8`), and a break (`UnexpectedCode`) are refused, and what the
+/// source refuses.
+pub fn read_text<'a, 'de, R: Read<'de>>(
+    items: &'a mut Deserializer<R>,
+) -> Result<EitherStr<'a, 'de>>
+    ensures* after_borrow { sem 𝓛 (Rests (the_row R.row) items.entry (λ new.
+        (new.levels ≡ items.old.levels)
+        × (new.formats ≡ items.old.formats)
+        × LendsText R.refusals (context items.old.formats R.lends) items.old.levels
+        (R.source items.old.source) (R.source new.source) result
+        × IfErr result IsNoKey)) }
+{
+    let head = match scalar(items) {
+        Ok(head) => head,
+        Err(refused) => return Err(Unread::Stopped(stopped(items, refused))),
+    };
+    match head {
+        Head::Text(n) => text_part(items, n),
+        Head::Bytes(n) => utf8(bytes_part(items, n)?),
+        _ => Err(other(items, head)),
+    }
+}
+
+/// Lends the bytes of a byte string, or of a text. It refuses as [`read_text`] does, but for bytes
+/// that aren't UTF-8 in a byte string.
+pub fn read_bytes<'a, 'de, R: Read<'de>>(
+    items: &'a mut Deserializer<R>,
+) -> Result<EitherLifetime<'a, 'de>>
+    ensures* after_borrow { sem 𝓛 (Rests (the_row R.row) items.entry (λ new.
+        (new.levels ≡ items.old.levels)
+        × (new.formats ≡ items.old.formats)
+        × LendsString R.refusals (context items.old.formats R.lends) items.old.levels
+        (R.source items.old.source) (R.source new.source) result
+        × IfErr result IsNoKey)) }
+{
+    let head = match scalar(items) {
+        Ok(head) => head,
+        Err(refused) => return Err(Unread::Stopped(stopped(items, refused))),
+    };
+    match head {
+        Head::Bytes(n) => bytes_part(items, n),
+        Head::Text(n) => bytes_of(text_part(items, n)?),
+        _ => Err(other(items, head)),
+    }
+}

@@ -1,0 +1,82 @@
+//! The head of an item within its tags.
+
+ghost use Rattle.std.specs.Prelude.{◌≡◌, ◌≤◌, IfErr, OnOk};
+ghost use Rattle.cbor_model.specs.Reader.{item_at};
+ghost use Rattle.cbor_de.specs.Gives.{TellsNoForm, TellsNoKey};
+ghost use Rattle.cbor_io.specs.Error.{code_of};
+ghost use Rattle.cbor_de.specs.Heads.{HeadGives, opening_at};
+ghost use Rattle.cbor_scalars.specs.Opens.{OpensAt, item_inside};
+ghost use Rattle.cbor_scalars.specs.Takes.{formats_of, raws};
+
+use cbor_de::{Deserializer, Done, Head};
+use cbor_io::error::Error;
+use cbor_io::read::{ReadErrorCode, Source};
+
+// Takes a head.
+#[inline(always)]
+pub(crate) fn take_head<R: Source>(items: &mut Deserializer<R>) -> Done<Head>
+    ensures read { HeadGives R.refusals opening_at
+        (R.source items.old.source) (R.source items.new.source)
+        items.new.refusal result }
+    ensures no_key { IfErr result (TellsNoKey items.new.refusal) }
+    ensures levels { items.new.levels ≡ items.old.levels }
+    ensures formats { items.new.formats ≡ items.old.formats }
+{
+    let first = items.byte()?;
+    items.head(first)
+}
+
+/// Takes the tags of an item and the head behind them; each tag is a level further in.
+///
+/// It is refused with `EofWhileParsingValue` where the input ends in them, with
+/// `RecursionLimitExceeded` behind a tag's head where no level is left, with `UnassignedCode` at a
+/// first byte that is none of a head's, and as the source is.
+#[cycle(open)]
+#[inline(always)]
+pub fn open<R: Source>(items: &mut Deserializer<R>) -> Done<Head>
+    ensures read { OpensAt R.refusals (formats_of items.old.formats)
+        (λ l. item_at (raws (formats_of items.old.formats) l) items.old.levels)
+        (R.source items.old.source) (R.source items.new.source)
+        items.new.levels items.new.refusal result }
+    ensures no_key { IfErr result (TellsNoKey items.new.refusal) }
+    ensures levels { OnOk result (items.new.levels ≤ items.old.levels) }
+    ensures formats { items.new.formats ≡ items.old.formats }
+{
+    let head = take_head(items)?;
+    if let Head::Tag(_) = head {
+        return open_inside(items);
+    }
+    Ok(head)
+}
+
+// The same of the item that a tag is of.
+#[cycle(open)]
+#[inline(never)]
+pub(crate) fn open_inside<R: Source>(items: &mut Deserializer<R>) -> Done<Head>
+    ensures read { OpensAt R.refusals (formats_of items.old.formats)
+        (λ l. item_inside (formats_of items.old.formats) l items.old.levels)
+        (R.source items.old.source) (R.source items.new.source)
+        items.new.levels items.new.refusal result }
+    ensures no_key { IfErr result (TellsNoKey items.new.refusal) }
+    ensures levels { OnOk result (items.new.levels ≤ items.old.levels) }
+    ensures formats { items.new.formats ≡ items.old.formats }
+{
+    items.enter()?;
+    open(items)
+}
+
+/// The error of an item of another kind, behind its head: the message, or `UnexpectedCode` of a
+/// break.
+#[cold]
+#[inline(never)]
+pub fn mismatch<R: Source>(items: &mut Deserializer<R>, head: Head, message: &str) -> Error
+    ensures no_form { TellsNoForm (code_of result) }
+    ensures levels { items.new.levels ≡ items.old.levels }
+    ensures formats { items.new.formats ≡ items.old.formats }
+{
+    if let Head::Break = head {
+        let refused = items.refuse(ReadErrorCode::UnexpectedCode);
+        return items.error(refused);
+    }
+    Error::message(items.alloc, message)
+}

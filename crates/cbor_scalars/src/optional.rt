@@ -1,0 +1,31 @@
+//! What may be absent.
+
+ghost use Rattle.std.specs.Prelude.{◌≡◌};
+ghost use Rattle.cbor_de.specs.Gives.{Gives};
+ghost use Rattle.cbor_scalars.specs.Options.{null_at};
+
+use cbor_de::{Deserializer, Done};
+use cbor_io::read::Source;
+
+/// The first byte of null (RFC 7049, section 2.3).
+const NULL: u8 = 0xf6;
+
+/// Takes null, where the next byte is its, and answers whether it was. Nothing is taken of another
+/// item, and where the input is at its end. It is refused as the source is.
+#[inline(always)]
+pub fn take_null<R: Source>(items: &mut Deserializer<R>) -> Done<bool>
+    ensures read { Gives R.refusals (λ b. b) (λ l. null_at)
+        (R.source items.old.source) (R.source items.new.source)
+        items.new.refusal result }
+    ensures levels { items.new.levels ≡ items.old.levels }
+    ensures formats { items.new.formats ≡ items.old.formats }
+{
+    match items.source.peek() {
+        Ok(Some(NULL)) => {
+            items.source.discard();
+            Ok(true)
+        }
+        Ok(_) => Ok(false),
+        Err(refusal) => Err(items.keep(refusal)),
+    }
+}

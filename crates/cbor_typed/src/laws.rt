@@ -1,0 +1,13 @@
+//! A law about the four `from_*`, which is the contract of a function that does nothing.
+ghost use Rattle.cbor_typed.specs.Alike.{SourcesAgree};
+
+/// Two readings of one input as a `Value` answer alike, whatever their sources: the same value; or
+/// errors of one code at one offset, since there is one first refusal. Only want of memory, a
+/// reader's fault and a scratch that is too small are of a source alone.
+///
+/// A caller gives it the answers of two `from_*` of the same bytes (`IsReading`); the published
+/// fact `reading` makes that of the clauses `found` and `first` of a call from a slice, and
+/// `reading_of_reader` of those of a call from a reader.
+pub fn sources_agree()
+    ensures { SourcesAgree }
+{}

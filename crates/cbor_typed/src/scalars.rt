@@ -1,0 +1,137 @@
+//! Simple values, numbers and strings, which hold no other item, and the head of any item.
+
+ghost use Rattle.std.specs.Prelude.{◌≡◌, ◌≤◌, IfErr, OnOk};
+ghost use Rattle.std.specs.Io.BufRead.{Rests};
+ghost use types.Logic.{sem};
+ghost use Rattle.cbor_model.specs.Readable.{PassesTags, IsBool, IsInteger, IsUnit};
+ghost use Rattle.cbor_model.specs.Reader.{item_at};
+ghost use Rattle.cbor_io.specs.Error.{code_of};
+ghost use Rattle.cbor_de.specs.Gives.{TellsNoForm, TellsNoKey};
+ghost use Rattle.cbor_scalars.specs.Opens.{OpensAt};
+ghost use Rattle.cbor_scalars.specs.Scalars.{IsFloatItem};
+ghost use Rattle.cbor_scalars.specs.Strings.{IsMadeOf, IsNoKey, LendsString, LendsText};
+ghost use Rattle.cbor_scalars.specs.Takes.{TakesItem, context, formats_of, raws};
+ghost use Rattle.cbor_typed.specs.contracts.de.Deserializer.{the_row as typed_row};
+
+use crate::de::Deserializer;
+use cbor_de::{Done, Head};
+use cbor_io::error::{Error, Result};
+use cbor_io::read::{EitherLifetime, Read, Source};
+use cbor_scalars::lent::{EitherStr, Unread};
+use cbor_scalars::{integer, lent, opening, scalar};
+use cbor_value::Float;
+
+/// What lends answers.
+type Lent<T> = std::result::Result<T, Unread>;
+
+impl<R: Source> Deserializer<R> {
+    /// Takes the tags of an item and the head behind them; each tag is a level further in.
+    #[inline(always)]
+    pub fn open(&mut self) -> Done<Head>
+        ensures read { OpensAt R.refusals (formats_of self.old.items.formats)
+            (λ l. item_at (raws (formats_of self.old.items.formats) l) self.old.items.levels)
+            (R.source self.old.items.source) (R.source self.new.items.source)
+            self.new.items.levels self.new.items.refusal result }
+        ensures no_key { IfErr result (TellsNoKey self.new.items.refusal) }
+        ensures levels { OnOk result (self.new.items.levels ≤ self.old.items.levels) }
+        ensures formats { self.new.items.formats ≡ self.old.items.formats }
+    {
+        opening::open(&mut self.items)
+    }
+
+    /// Reads false or true (RFC 7049, section 2.3).
+    #[inline(always)]
+    pub fn read_bool(&mut self) -> Result<bool>
+        ensures read { TakesItem R.refusals (formats_of self.old.items.formats) (PassesTags IsBool)
+            self.old.items.levels
+            (R.source self.old.items.source) (R.source self.new.items.source)
+            result }
+        ensures no_form { IfErr result (λ e. TellsNoForm (code_of e)) }
+        ensures levels { self.new.items.levels ≡ self.old.items.levels }
+        ensures formats { self.new.items.formats ≡ self.old.items.formats }
+    {
+        scalar::read_bool(&mut self.items)
+    }
+
+    /// Reads a float of 16, 32 or 64 bits (RFC 7049, section 2.3).
+    #[inline(always)]
+    pub fn read_float(&mut self) -> Result<Float>
+        ensures read { TakesItem R.refusals (formats_of self.old.items.formats)
+            (PassesTags IsFloatItem) self.old.items.levels
+            (R.source self.old.items.source) (R.source self.new.items.source)
+            result }
+        ensures no_form { IfErr result (λ e. TellsNoForm (code_of e)) }
+        ensures levels { self.new.items.levels ≡ self.old.items.levels }
+        ensures formats { self.new.items.formats ≡ self.old.items.formats }
+    {
+        scalar::read_float(&mut self.items)
+    }
+
+    /// Reads null or undefined (RFC 7049, section 2.3).
+    #[inline(always)]
+    pub fn read_unit(&mut self) -> Result<()>
+        ensures read { TakesItem R.refusals (formats_of self.old.items.formats) (PassesTags IsUnit)
+            self.old.items.levels
+            (R.source self.old.items.source) (R.source self.new.items.source)
+            result }
+        ensures no_form { IfErr result (λ e. TellsNoForm (code_of e)) }
+        ensures levels { self.new.items.levels ≡ self.old.items.levels }
+        ensures formats { self.new.items.formats ≡ self.old.items.formats }
+    {
+        scalar::read_unit(&mut self.items)
+    }
+
+    /// Reads a whole number.
+    #[inline(always)]
+    pub fn read_integer(&mut self) -> Result<i128>
+        ensures read { TakesItem R.refusals (formats_of self.old.items.formats)
+            (PassesTags IsInteger) self.old.items.levels
+            (R.source self.old.items.source) (R.source self.new.items.source) result }
+        ensures no_form { IfErr result (λ e. TellsNoForm (code_of e)) }
+        ensures levels { self.new.items.levels ≡ self.old.items.levels }
+        ensures formats { self.new.items.formats ≡ self.old.items.formats }
+    {
+        integer::read_integer(&mut self.items)
+    }
+
+    /// The error of a string that wasn't lent; the message is for an item of another kind.
+    #[cold]
+    #[inline(never)]
+    pub fn unread(&mut self, why: Unread, message: &str) -> Error
+        ensures made { IsMadeOf why result }
+        ensures no_form { IsNoKey why → TellsNoForm (code_of result) }
+        ensures source { self.new.items.source ≡ self.old.items.source }
+        ensures levels { self.new.items.levels ≡ self.old.items.levels }
+        ensures formats { self.new.items.formats ≡ self.old.items.formats }
+    {
+        lent::unread_error(&mut self.items, why, message)
+    }
+}
+
+impl<'de, R: Read<'de>> Deserializer<R> {
+    /// Lends a text, or a byte string that is UTF-8.
+    #[inline(always)]
+    pub fn read_text<'a>(&'a mut self) -> Lent<EitherStr<'a, 'de>>
+        ensures* after_borrow { sem 𝓛 (Rests (typed_row R.row) self.entry (λ new.
+            (new.items.levels ≡ self.old.items.levels)
+            × (new.items.formats ≡ self.old.items.formats)
+            × LendsText R.refusals (context self.old.items.formats R.lends) self.old.items.levels
+            (R.source self.old.items.source) (R.source new.items.source) result
+            × IfErr result IsNoKey)) }
+    {
+        lent::read_text(&mut self.items)
+    }
+
+    /// Lends the bytes of a byte string, or of a text.
+    #[inline(always)]
+    pub fn read_bytes<'a>(&'a mut self) -> Lent<EitherLifetime<'a, 'de>>
+        ensures* after_borrow { sem 𝓛 (Rests (typed_row R.row) self.entry (λ new.
+            (new.items.levels ≡ self.old.items.levels)
+            × (new.items.formats ≡ self.old.items.formats)
+            × LendsString R.refusals (context self.old.items.formats R.lends) self.old.items.levels
+            (R.source self.old.items.source) (R.source new.items.source) result
+            × IfErr result IsNoKey)) }
+    {
+        lent::read_bytes(&mut self.items)
+    }
+}
