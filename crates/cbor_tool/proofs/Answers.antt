@@ -1,5 +1,5 @@
 -- What makes a text the answer to a line, and answers that follow others.
-use Rattle.std.proofs.Common.{◌≡◌, ℕ, ◌-◌, List, [], ◌∷◌, ◌++◌, length, Option, Result, Ok, Err}
+use Rattle.std.proofs.Common.{◌≡◌, ◌⊎◌, ℕ, List, [], ◌∷◌, ◌++◌, Option, None, Ok, Err, inl, inr}
 use Rattle.std.proofs.Common.{refl, ap, ◌∙◌, arith, append_assoc}
 use Rattle.std.specs.Prelude.{codes}
 use Rattle.std.specs.Io.KnownBytes.{Appends, Keeps}
@@ -9,7 +9,7 @@ use Rattle.hex.specs.declared.error.FromHexError.{FromHexError}
 use Rattle.cbor_model.specs.Plain.{Val}
 use Rattle.cbor_model.specs.Canonical.{canon, IsStorable}
 use Rattle.cbor_model.specs.Refusal.{Refusal, words, at_offset, end_in_value, end_in_array, end_in_map, length_out_of_range, invalid_utf8, unassigned_code, unexpected_code, trailing_data, too_deep, scratch_too_small, wrong_struct_format}
-use Rattle.cbor_model.specs.Reader.{Fault, read_value}
+use Rattle.cbor_model.specs.Allowed.{limits_of}
 use Rattle.cbor_model.specs.Value.{value}
 use Rattle.cbor_model.specs.Laws.{SpellsValue}
 use Rattle.cbor_tool.specs.Answer.{hex, IsAnswer, AreAnswers, canonical, refused, not_hexadecimal}
@@ -20,7 +20,7 @@ use Rattle.serde_cbor.specs.declared.error.ErrorCode.{ErrorCode}
 use Rattle.serde_cbor.specs.declared.error.ErrorCode.TheVariants.{Message, Io, ScratchTooSmall, EofWhileParsingValue, EofWhileParsingArray, EofWhileParsingMap, LengthOutOfRange, InvalidUtf8, UnassignedCode, UnexpectedCode, TrailingData, RecursionLimitExceeded, WrongStructFormat, OutOfMemory}
 use Rattle.serde_cbor.specs.declared.error.Error.{Error}
 use Rattle.serde_cbor.specs.Error.{code_of, offset_of, code_text, error_text, IsOutOfMemory}
-use Rattle.serde_cbor.specs.Gives.{FailsAs, FailsBy, Fails}
+use Rattle.serde_cbor.specs.FirstRefusal.{refusal_code, TellsFirst}
 use Rattle.serde_cbor.specs.Written.{IsRefusedBy, IsNotWritten}
 use Rattle.cbor_tool.specs.Run.{AppendsAnswers}
 use Rattle.cbor_tool.specs.Steps.{IsAnswerTo}
@@ -34,44 +34,27 @@ IsAnswerTo-canonical bytes text v spells is =
     λ line h. canonical spells.item spells.acceptable (rw spells.spelled h)
     (is ∙ ap (λ w. hex (canon w)) spells.valued)
 
--- the fault that an error tells, where memory did not run out
-pub record Told (code : ErrorCode) (offset total : ℕ) (read : Result Val Fault) : Type 0 where
-  pub fault : Fault
-  pub refused : read ≡ Err fault
-  pub text : code_text code ++ at_offset offset ≡ words fault.why ++ at_offset (total - fault.left)
-
-told_as : (code : ErrorCode) (why : Refusal) (total offset : ℕ) (read : Result Val Fault)
-    → code_text code ≡ words why → FailsAs why total offset read → Told code offset total read
-told_as code why total offset read same (left, sum, is) =
-    let place : offset ≡ total - left = omega arith in
-    record {
-      fault = record { why = why; left = left };
-      refused = is;
-      text = ap (λ t. t ++ at_offset offset) same ∙ ap (λ n. words why ++ at_offset n) place;
-    }
-
-told_by : (code : ErrorCode) (total offset : ℕ) (read : Result Val Fault) → FailsBy ⊥ code total offset read → (code ≡ OutOfMemory → ⊥) → Told code offset total read
-told_by EofWhileParsingValue total offset read h ne = told_as _ end_in_value total offset read refl h
-told_by EofWhileParsingArray total offset read h ne = told_as _ end_in_array total offset read refl h
-told_by EofWhileParsingMap total offset read h ne = told_as _ end_in_map total offset read refl h
-told_by LengthOutOfRange total offset read h ne = told_as _ length_out_of_range total offset read refl h
-told_by InvalidUtf8 total offset read h ne = told_as _ invalid_utf8 total offset read refl h
-told_by UnassignedCode total offset read h ne = told_as _ unassigned_code total offset read refl h
-told_by UnexpectedCode total offset read h ne = told_as _ unexpected_code total offset read refl h
-told_by TrailingData total offset read h ne = told_as _ trailing_data total offset read refl h
-told_by RecursionLimitExceeded total offset read h ne = told_as _ too_deep total offset read refl h
-told_by ScratchTooSmall total offset read h ne = told_as _ scratch_too_small total offset read refl h
-told_by WrongStructFormat total offset read h ne = told_as _ wrong_struct_format total offset read refl h
-told_by (Io fault) total offset read h ne = absurd h.0
-told_by OutOfMemory total offset read h ne = absurd (ne refl)
-told_by _ total offset read h ne = absurd h
+-- a refusal's code has its words
+words_of : (why : Refusal) → code_text (refusal_code why) ≡ words why
+words_of end_in_value = refl
+words_of end_in_array = refl
+words_of end_in_map = refl
+words_of length_out_of_range = refl
+words_of invalid_utf8 = refl
+words_of unassigned_code = refl
+words_of unexpected_code = refl
+words_of trailing_data = refl
+words_of too_deep = refl
+words_of scratch_too_small = refl
+words_of wrong_struct_format = refl
 
 pub IsAnswerTo-refused : (bytes text : List ℕ) (e : Error)
-    → Fails (length bytes) e (read_value bytes)
+    → IsOutOfMemory e ⊎ TellsFirst (limits_of None) bytes e
     → ((v : Val) → SpellsValue bytes v → IsOutOfMemory e)
     → (code_of e ≡ OutOfMemory → ⊥) → text ≡ codes "error: " ++ error_text e → IsAnswerTo bytes text
-IsAnswerTo-refused bytes text e fails accepted ne is =
-    let told = told_by (code_of e) (length bytes) (offset_of e) (read_value bytes) fails ne in
+IsAnswerTo-refused bytes text e (inl memory) accepted ne is = absurd (ne memory.0)
+IsAnswerTo-refused bytes text e (inr tells) accepted ne is =
+    let place : offset_of e ≡ tells.offset = omega (arith, tells.at) in
     λ line h. refused bytes (error_text e) h
     (λ r good spelled. ne
     (accepted (value r) (record {
@@ -80,7 +63,14 @@ IsAnswerTo-refused bytes text e fails accepted ne is =
       spelled = spelled;
       valued = refl;
     })).0)
-    (record { fault = told.fault; refused = told.refused; is = told.text })
+    (record {
+      why = tells.why;
+      offset = tells.offset;
+      first = tells.first;
+      is = ap (λ c. code_text c ++ at_offset (offset_of e)) tells.code
+          ∙ ap (λ t. t ++ at_offset (offset_of e)) (words_of tells.why)
+          ∙ ap (λ n. words tells.why ++ at_offset n) place;
+    })
     is
 
 pub IsAnswer-decoded : (line bytes text : List ℕ) → decode_of line ≡ Ok bytes

@@ -1,6 +1,6 @@
 -- Hexadecimal has one reading, and a line one answer.
-use Rattle.std.proofs.Common.{◌≡◌, ℕ, suc, ◌-◌, ◌/◌, ◌%◌, ◌<◌, List, [], ◌∷◌, ◌++◌, length, Result}
-use Rattle.std.proofs.Common.{Err, refl, sym, ap, ◌∙◌, arith}
+use Rattle.std.proofs.Common.{◌≡◌, ℕ, suc, ◌-◌, ◌/◌, ◌%◌, ◌<◌, List, [], ◌∷◌, ◌++◌, None, refl, sym}
+use Rattle.std.proofs.Common.{ap, ◌∙◌, subst, arith}
 use Rattle.std.specs.Prelude.{codes}
 use Rattle.std.proofs.lemmas.Bool.Decides.{nat_tests}
 use Rattle.std.proofs.lemmas.List.{append-nil}
@@ -9,12 +9,12 @@ use Rattle.cbor_model.specs.Spelling.{spell}
 use Rattle.cbor_model.specs.Acceptable.{IsAcceptable}
 use Rattle.cbor_model.specs.Value.{value}
 use Rattle.cbor_model.specs.Canonical.{canon}
-use Rattle.cbor_model.specs.Refusal.{words, at_offset}
-use Rattle.cbor_model.specs.Plain.{Val}
-use Rattle.cbor_model.specs.Reader.{Fault, read_value}
+use Rattle.cbor_model.specs.Refusal.{Refusal, words, at_offset}
+use Rattle.cbor_model.specs.Allowed.{limits_of, IsFirstRefusal}
 use Rattle.cbor_tool.specs.Answer.{hex_digit, hex, IsHexOf, IsRefusalText, canonical, refused}
 use Rattle.cbor_tool.specs.Answer.{not_hexadecimal, OneAnswer}
-use Rattle.cbor_model.proofs.Proved.{one_spelling}
+use Rattle.cbor_model.proofs.facts.Laws.{one_spelling}
+use Rattle.cbor_model.proofs.facts.Refusals.{one_first}
 
 -- ---- hexadecimal
 
@@ -53,21 +53,14 @@ same_item : (r s : Raw) → IsAcceptable r → IsAcceptable s → spell r ≡ sp
 same_item r s good good' same =
     (one_spelling r s [] good.fits good'.fits (append-nil (spell r) ∙ same)).0
 
-abbrev refusal : Fault → Result Val Fault
-refusal d = Err d
-
-err_is : (d e : Fault) → refusal d ≡ refusal e → d ≡ e
-err_is d e same = cc
-
--- the same bytes are refused with the same text
+-- the same bytes have one first refusal, and so one text
 refusal_unique : (bytes bytes' text text' : List ℕ) → bytes ≡ bytes' → IsRefusalText bytes text
     → IsRefusalText bytes' text' → text ≡ text'
 refusal_unique bytes bytes' text text' same one other =
-    let fault_same : one.fault ≡ other.fault =
-    err_is one.fault other.fault (sym one.refused ∙ ap read_value same ∙ other.refused) in
-    one.is ∙ ap (λ (d : Fault). words d.why ++ at_offset (length bytes - d.left)) fault_same
-    ∙ ap (λ (b : List ℕ). words other.fault.why ++ at_offset (length b - other.fault.left)) same
-    ∙ sym other.is
+    let here = subst (λ (b : List ℕ). IsFirstRefusal (limits_of None) b one.why one.offset) same one.first in
+    let first = one_first (limits_of None) bytes' one.why other.why one.offset other.offset here other.first in
+    one.is ∙ ap (λ (w : Refusal). words w ++ at_offset one.offset) first.0
+    ∙ ap (λ (n : ℕ). words other.why ++ at_offset n) first.1 ∙ sym other.is
 
 pub one_answer : OneAnswer
 one_answer line a b (canonical r good digits is) (canonical s good' digits' is') =

@@ -1,14 +1,14 @@
 -- What the program answers to the lines that it reads.
-use Rattle.std.specs.Prelude.{◌≡◌, ℕ, ◌+◌, ◌-◌, ◌/◌, ◌%◌, List, [], ◌∷◌, ◌++◌, length, map}
-use Rattle.std.specs.Prelude.{flat_map, codes, Err, nat_lt, ◌==◌, if◌then◌else◌, refl}
+use Rattle.std.specs.Prelude.{◌≡◌, ℕ, ◌+◌, ◌/◌, ◌%◌, List, [], ◌∷◌, ◌++◌, map, flat_map, codes}
+use Rattle.std.specs.Prelude.{None, nat_lt, ◌==◌, if◌then◌else◌, refl}
 use Rattle.std.specs.Char.{to_ascii_lowercase}
 use Rattle.cbor_model.specs.Raw.{Raw, AreBytes}
 use Rattle.cbor_model.specs.Spelling.{spell}
 use Rattle.cbor_model.specs.Acceptable.{IsAcceptable}
 use Rattle.cbor_model.specs.Value.{value}
 use Rattle.cbor_model.specs.Canonical.{canon}
-use Rattle.cbor_model.specs.Refusal.{words, at_offset}
-use Rattle.cbor_model.specs.Reader.{Fault, read_value}
+use Rattle.cbor_model.specs.Refusal.{Refusal, words, at_offset}
+use Rattle.cbor_model.specs.Allowed.{limits_of, IsFirstRefusal}
 
 -- ---- lines
 
@@ -38,11 +38,12 @@ pub record IsHexOf (line bytes : List ℕ) : Type 0 where
 
 -- ---- answers
 
--- The text of the refusal of these bytes, which the reference reader tells.
+-- The text of the first refusal that these bytes allow: its words, and its offset where it isn't 0.
 pub record IsRefusalText (bytes text : List ℕ) : Type 0 where
-  pub fault : Fault
-  pub refused : read_value bytes ≡ Err fault
-  pub is : text ≡ words fault.why ++ at_offset (length bytes - fault.left)
+  pub why : Refusal
+  pub offset : ℕ
+  pub first : IsFirstRefusal (limits_of None) bytes why offset
+  pub is : text ≡ words why ++ at_offset offset
 
 -- The answer to a line: the canonical spelling of the value that its bytes spell, or why there is
 -- none.

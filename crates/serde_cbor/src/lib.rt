@@ -28,18 +28,3 @@ pub use cbor_typed::{
 };
 pub use cbor_value as value;
 pub use cbor_value::Value;
-
-#[cfg(test)]
-mod byte_order_tests;
-#[cfg(test)]
-mod four_sources_tests;
-#[cfg(test)]
-mod items_tests;
-#[cfg(test)]
-mod normal_tests;
-#[cfg(test)]
-mod std_types_tests;
-#[cfg(test)]
-mod tests;
-#[cfg(test)]
-mod writing_tests;

@@ -22,7 +22,7 @@ returns-in_ok-spelling-in-Ok-clause-ok c =
 pub returns-in_ok-refusal-in-Err-clause-ok : goal.returns-in_ok-refusal-in-Err-clause-ok
 returns-in_ok-refusal-in-Err-clause-ok c =
     on_ok_weaker c.replace.result
-    (λ is. IsAnswerTo-refused _ _ c.in-Err.error c.in-Err.ensures.refused c.in-Err.ensures.every
+    (λ is. IsAnswerTo-refused _ _ c.in-Err.error c.in-Err.ensures.first c.in-Err.ensures.every
     (λ h. let f = c.if-is_memory.ensures.1 h in cc)
     (is ∙ c.as_bytes.ensures.value ∙ c.in_ok-refusal-in-Err.ensures.ok))
     c.replace.ensures.ok

@@ -1,0 +1,16 @@
+//! Answers the tables of rows in `data/`, and tells the rows that are answered otherwise than they say.
+#![tactic(auto)]
+
+use std::process::ExitCode;
+
+fn main(rt: HostRuntime) -> ExitCode {
+    match cbor_tables::run(&rt) {
+        Ok(true) => ExitCode::SUCCESS,
+        Ok(false) => ExitCode::FAILURE,
+        Err(error) => {
+            // Nothing is left to do where standard error fails as well.
+            let _ = eprintln!(rt; "cbor_rows: {error}");
+            ExitCode::FAILURE
+        }
+    }
+}

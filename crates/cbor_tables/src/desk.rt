@@ -1,0 +1,254 @@
+//! Where the steps of a row are judged.
+
+use crate::how::{How, Source};
+use crate::row::{Malformed, Row};
+use serde_cbor::de::{Deserialize, Read};
+use serde_cbor::ser::{Serialize, to_vec_packed};
+use serde_cbor::{Deserializer, Result, Serializer, to_vec};
+use std::alloc::Global;
+use std::fmt::{Debug, InlineText};
+use std::{fmt, io};
+
+/// The longest answer that is compared.
+const ANSWER: usize = 1024;
+
+/// What came of a step of a row.
+#[derive(Clone, Copy, Debug, PartialEq)]
+pub enum Outcome {
+    Right,
+    Wrong,
+    /// Memory ran out, which no row says.
+    OutOfMemory,
+}
+
+impl Outcome {
+    fn name(self) -> &'static str {
+        match self {
+            Outcome::Right => "right",
+            Outcome::Wrong => "wrong",
+            Outcome::OutOfMemory => "out of memory",
+        }
+    }
+}
+
+/// What is judged of a row.
+#[derive(Clone, Copy, Debug, PartialEq)]
+pub enum Step {
+    /// What a source reads.
+    Read(Source),
+    /// What the value is written as that a source has read.
+    Write(Source),
+}
+
+impl Step {
+    fn name(self) -> &'static str {
+        match self {
+            Step::Read(Source::Slice) => "slice",
+            Step::Read(Source::Scratch) => "scratch",
+            Step::Read(Source::InPlace) => "in place",
+            Step::Read(Source::Reader) => "reader",
+            Step::Write(_) => "written",
+        }
+    }
+
+    // What is said of a step of a row that takes no memory: that holds for what is read.
+    fn free(self) -> &'static str {
+        match self {
+            Step::Read(_) => " without memory",
+            Step::Write(_) => "",
+        }
+    }
+}
+
+/// Judges the steps of a row: what each source reads, and what is written.
+#[derive(Drop)]
+pub struct Desk<'d> {
+    pub rt: &'d HostRuntime,
+    /// Whether each step is told, as it begins and as it ends.
+    pub tells_each: bool,
+    /// The table's name.
+    pub table: &'d str,
+    /// The row's line, from 1.
+    pub line: usize,
+    /// What is judged.
+    pub step: Step,
+    /// How many steps there were.
+    pub steps: usize,
+    /// How many of them were not right.
+    pub wrong: usize,
+}
+
+impl<'d> Desk<'d> {
+    /// Judges what is read as a type, and what that is written as.
+    pub fn reads<'r, T, R>(&mut self, row: &Row<'_>, de: Deserializer<R>) -> io::Result<()>
+    where
+        T: Deserialize<'r, R> + Serialize + Debug,
+        R: Read<'r> + Drop,
+    {
+        self.begins(self.step)?;
+        let read = whole::<T, R>(de);
+        self.judges_and_writes(row, read)
+    }
+
+    /// Judges what is read as a type that isn't written.
+    pub fn reads_alone<'r, T, R>(&mut self, row: &Row<'_>, de: Deserializer<R>) -> io::Result<()>
+    where
+        T: Deserialize<'r, R> + Debug,
+        R: Read<'r> + Drop,
+    {
+        self.begins(self.step)?;
+        let read = whole::<T, R>(de);
+        self.judges(row, &read)
+    }
+
+    /// Judges what was read, and what that is written as.
+    pub fn judges_and_writes<T>(&mut self, row: &Row<'_>, read: Result<T>) -> io::Result<()>
+    where
+        T: Serialize + Debug + Drop,
+    {
+        self.judges(row, &read)?;
+        let Some(want) = &row.written else {
+            return Ok(());
+        };
+        let Ok(value) = &read else {
+            return Ok(());
+        };
+        self.begins(self.step.then_write())?;
+        let written = write(self.rt.alloc(), value, row.how);
+        self.judges_written(row, want, &written)
+    }
+
+    // Judges what was read.
+    fn judges<T: Debug>(&mut self, row: &Row<'_>, read: &Result<T>) -> io::Result<()> {
+        let said: InlineText<ANSWER> = match read {
+            Ok(value) => InlineText::of(format_args!("{value:?}")),
+            Err(e) => InlineText::of(format_args!("error: {e}")),
+        };
+        let outcome = match read {
+            Ok(_) if row.answer.is_empty() => Outcome::Right,
+            _ if said.as_str() == row.answer => Outcome::Right,
+            Err(e) if e.is_memory() => Outcome::OutOfMemory,
+            _ => Outcome::Wrong,
+        };
+        self.ends(row, outcome)?;
+        if outcome == Outcome::Wrong {
+            println!(self.rt; "  {}", said.as_str())?;
+        }
+        Ok(())
+    }
+
+    // Judges what was written.
+    fn judges_written(
+        &mut self,
+        row: &Row<'_>,
+        want: &[u8],
+        written: &Result<Vec<u8>>,
+    ) -> io::Result<()> {
+        match written {
+            Ok(bytes) if bytes.as_slice() == want => self.ends(row, Outcome::Right),
+            Err(e) if e.is_memory() => self.ends(row, Outcome::OutOfMemory),
+            Ok(bytes) => {
+                self.ends(row, Outcome::Wrong)?;
+                println!(self.rt; "  {}", Hex(bytes))
+            }
+            Err(e) => {
+                self.ends(row, Outcome::Wrong)?;
+                println!(self.rt; "  error: {e}")
+            }
+        }
+    }
+
+    /// Tells that the line is no row.
+    pub fn refuses(&mut self, malformed: Malformed) -> io::Result<()> {
+        self.wrong = self.wrong.saturating_add(1);
+        println!(self.rt; "{}:{}: {malformed}", self.table, self.line)
+    }
+
+    /// Tells that so many of the row's bytes were not refused as an end of input.
+    pub fn tells_front(&mut self, len: usize) -> io::Result<()> {
+        self.wrong = self.wrong.saturating_add(1);
+        println!(self.rt; "{}:{}: first {len} bytes: wrong", self.table, self.line)
+    }
+
+    /// Tells that a step begins. What stands between this and its end may want memory.
+    pub fn begins(&mut self, step: Step) -> io::Result<()> {
+        self.step = step;
+        if self.tells_each {
+            self.rt.print("+\n")?;
+        }
+        Ok(())
+    }
+
+    // Tells what came of a step.
+    fn ends(&mut self, row: &Row<'_>, outcome: Outcome) -> io::Result<()> {
+        if self.tells_each {
+            self.rt.print("-\n")?;
+        }
+        self.steps = self.steps.saturating_add(1);
+        if outcome != Outcome::Right {
+            self.wrong = self.wrong.saturating_add(1);
+        }
+        if self.tells_each || outcome != Outcome::Right {
+            self.tells(row, outcome)?;
+        }
+        Ok(())
+    }
+
+    fn tells(&self, row: &Row<'_>, outcome: Outcome) -> io::Result<()> {
+        let step = self.step.name();
+        let free = if row.how.no_memory {
+            self.step.free()
+        } else {
+            ""
+        };
+        let outcome = outcome.name();
+        println!(self.rt; "{}:{}: {step}{free}: {outcome}", self.table, self.line)
+    }
+}
+
+impl Step {
+    // The writing of what this step reads.
+    fn then_write(self) -> Step {
+        match self {
+            Step::Read(source) | Step::Write(source) => Step::Write(source),
+        }
+    }
+}
+
+// Reads one item, and the end behind it.
+fn whole<'r, T: Deserialize<'r, R>, R: Read<'r> + Drop>(de: Deserializer<R>) -> Result<T> {
+    let mut de = de;
+    let value = T::deserialize(&mut de)?;
+    de.end()?;
+    Ok(value)
+}
+
+// The bytes of a value, in the form that the row asks for.
+fn write<T: Serialize>(alloc: Global, value: &T, how: How) -> Result<Vec<u8>> {
+    if !how.legacy {
+        return if how.packed {
+            to_vec_packed(alloc, value)
+        } else {
+            to_vec(alloc, value)
+        };
+    }
+    let mut ser = Serializer::new(alloc, Vec::new(alloc)).legacy_enums();
+    if how.packed {
+        ser = ser.packed_format();
+    }
+    value.serialize(&mut ser)?;
+    Ok(ser.into_inner())
+}
+
+/// Bytes as hexadecimal digits.
+#[derive(Drop)]
+struct Hex<'a>(&'a [u8]);
+
+impl fmt::Display for Hex<'_> {
+    fn fmt<W: fmt::Write>(&self, f: &mut fmt::Formatter<W>) -> fmt::Result {
+        for byte in self.0 {
+            write!(f, "{byte:02x}")?;
+        }
+        Ok(())
+    }
+}

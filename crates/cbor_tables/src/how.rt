@@ -1,0 +1,130 @@
+//! How the bytes of a row are read, and in which form their value is written.
+
+ghost use Rattle.std.specs.Prelude.{◌≤◌};
+
+/// How the bytes are read, and in which form their value is written.
+#[derive(Clone, Copy, Debug, PartialEq)]
+pub struct How {
+    /// The source, where it is one alone.
+    pub source: Option<Source>,
+    /// How long the scratch is.
+    pub scratch: u8,
+    /// How many bytes a call of the reader gives at most.
+    pub piece: u8,
+    /// Which formats are read.
+    pub reads: Formats,
+    /// Fields and variants are written by their numbers.
+    pub packed: bool,
+    /// Enums are written as arrays.
+    pub legacy: bool,
+    /// The library takes no memory for it.
+    pub no_memory: bool,
+}
+
+/// A source.
+#[derive(Clone, Copy, Debug, PartialEq)]
+pub enum Source {
+    Slice,
+    Scratch,
+    InPlace,
+    Reader,
+}
+
+/// Which formats are read.
+#[derive(Clone, Copy, Debug, PartialEq)]
+pub struct Formats {
+    pub names: bool,
+    pub numbers: bool,
+    pub map_enums: bool,
+    pub array_enums: bool,
+}
+
+/// The longest scratch.
+pub const SCRATCH: u8 = 64;
+
+impl How {
+    /// By each source, the reader a byte at a time, in all formats; written by names.
+    pub fn new() -> How {
+        How {
+            source: None,
+            scratch: SCRATCH,
+            piece: 1,
+            reads: Formats {
+                names: true,
+                numbers: true,
+                map_enums: true,
+                array_enums: true,
+            },
+            packed: false,
+            legacy: false,
+            no_memory: false,
+        }
+    }
+
+    /// Reads the words of a row, with commas between them; None where one isn't known.
+    pub fn parse(text: &str) -> Option<How> {
+        let mut how = How::new();
+        if text.is_empty() {
+            return Some(how);
+        }
+        for word in text.split(',') {
+            if !how.set(word.trim()) && !how.set_number(word.trim()) {
+                return None;
+            }
+        }
+        Some(how)
+    }
+
+    /// Whether all formats are read.
+    pub fn reads_all(&self) -> bool {
+        let reads = self.reads;
+        reads.names && reads.numbers && reads.map_enums && reads.array_enums
+    }
+
+    /// How long the scratch is.
+    pub fn scratch_len(&self) -> usize
+        ensures { result ≤ 64 }
+    {
+        usize::from(self.scratch.min(SCRATCH))
+    }
+
+    // Takes a word on its own; false where it isn't known.
+    fn set(&mut self, word: &str) -> bool {
+        match word {
+            "slice" => self.source = Some(Source::Slice),
+            "in place" => self.source = Some(Source::InPlace),
+            "reader" => self.source = Some(Source::Reader),
+            "no names" => self.reads.names = false,
+            "no numbers" => self.reads.numbers = false,
+            "no map enums" => self.reads.map_enums = false,
+            "no array enums" => self.reads.array_enums = false,
+            "packed" => self.packed = true,
+            "legacy" => self.legacy = true,
+            "no memory" => self.no_memory = true,
+            _ => return false,
+        }
+        true
+    }
+
+    // Takes a word with a number behind it; false where it isn't known.
+    fn set_number(&mut self, word: &str) -> bool {
+        let Some((word, number)) = word.split_once(' ') else {
+            return false;
+        };
+        let Ok(number) = number.parse::<u8>() else {
+            return false;
+        };
+        match word {
+            "scratch" if number <= SCRATCH => {
+                self.source = Some(Source::Scratch);
+                self.scratch = number;
+            }
+            "reader" if number != 0 => {
+                self.source = Some(Source::Reader);
+                self.piece = number;
+            }
+            _ => return false,
+        }
+        true
+    }
+}

@@ -1,0 +1,60 @@
+//! Types as users write them.
+
+use crate::desk::Desk;
+use crate::row::Row;
+use cbor_samples::choice::Choice;
+use cbor_samples::enums::{Bar, Color, DataEnum, TwoVariants, Wish};
+use cbor_samples::structs::{Example, Foo, Mascot, NewtypeStruct, Person, SmallStruct, User};
+use cbor_tree::tree::Tree;
+use serde_cbor::Deserializer;
+use serde_cbor::de::Read;
+use std::io;
+
+/// Judges a row of one of these; false where the type isn't known.
+pub fn judge<'r, R: Read<'r> + Drop>(
+    desk: &mut Desk<'_>,
+    row: &Row<'_>,
+    de: Deserializer<R>,
+) -> io::Result<bool> {
+    match row.kind {
+        "User" => desk.reads::<User, R>(row, de)?,
+        "SmallStruct" => desk.reads::<SmallStruct, R>(row, de)?,
+        "NewtypeStruct" => desk.reads::<NewtypeStruct, R>(row, de)?,
+        "Mascot" => desk.reads::<Mascot, R>(row, de)?,
+        "Person" => desk.reads::<Person, R>(row, de)?,
+        "Foo" => desk.reads::<Foo, R>(row, de)?,
+        "Example" => desk.reads::<Example, R>(row, de)?,
+        "Tree" => desk.reads::<Tree, R>(row, de)?,
+        _ => return enums(desk, row, de),
+    }
+    Ok(true)
+}
+
+fn enums<'r, R: Read<'r> + Drop>(
+    desk: &mut Desk<'_>,
+    row: &Row<'_>,
+    de: Deserializer<R>,
+) -> io::Result<bool> {
+    match row.kind {
+        "Choice" => desk.reads::<Choice, R>(row, de)?,
+        "Color" => desk.reads::<Color, R>(row, de)?,
+        "Bar" => desk.reads::<Bar, R>(row, de)?,
+        "DataEnum" => desk.reads::<DataEnum, R>(row, de)?,
+        "TwoVariants" => desk.reads::<TwoVariants, R>(row, de)?,
+        _ => return lists_of_enums(desk, row, de),
+    }
+    Ok(true)
+}
+
+fn lists_of_enums<'r, R: Read<'r> + Drop>(
+    desk: &mut Desk<'_>,
+    row: &Row<'_>,
+    de: Deserializer<R>,
+) -> io::Result<bool> {
+    match row.kind {
+        "Vec<Wish>" => desk.reads::<Vec<Wish>, R>(row, de)?,
+        "Vec<DataEnum>" => desk.reads::<Vec<DataEnum>, R>(row, de)?,
+        _ => return Ok(false),
+    }
+    Ok(true)
+}

@@ -1,0 +1,94 @@
+//! Arrays, read item by item.
+
+use crate::checks::{Done, ends_here, gives, is_refused, refuses};
+use cbor_tree::tree::Tree;
+use serde_cbor::de::{IgnoredAny, SliceRead};
+use serde_cbor::{Deserializer, Error, Result as Answer, Value};
+
+#[test]
+fn reads_item_by_item(rt: HostRuntime) -> Done {
+    let alloc = rt.alloc();
+    let mut de = Deserializer::from_slice(alloc, b"\x82\x01\xf5");
+    assert_eq!(rt; two_items(&mut de)?, (Some(1), Some(true)));
+    ends_here(&mut de)
+}
+
+/// The items of an array of a number and a truth value.
+fn two_items(de: &mut Deserializer<SliceRead<'_>>) -> Answer<(Option<u8>, Option<bool>)> {
+    let mut items = de.array()?;
+    let number = items.next_element::<u8>()?;
+    let truth = items.next_element::<bool>()?;
+    items.end()?;
+    Ok((number, truth))
+}
+
+#[test]
+fn tells_how_many_items_are_left(rt: HostRuntime) -> Done {
+    let alloc = rt.alloc();
+    let mut de = Deserializer::from_slice(alloc, b"\x82\x01\xf5");
+    assert_eq!(rt; left_behind_one(&mut de)?, (Some(2), Some(1)));
+    let mut de = Deserializer::from_slice(alloc, b"\x81\x01");
+    assert_eq!(rt; left_behind_one(&mut de)?, (Some(1), Some(0)));
+    Ok(())
+}
+
+/// How many items of an array are to come, and how many behind the first, a number.
+fn left_behind_one(de: &mut Deserializer<SliceRead<'_>>) -> Answer<(Option<usize>, Option<usize>)> {
+    let mut items = de.array()?;
+    let all = items.size_hint();
+    items.next_element::<u8>()?;
+    Ok((all, items.size_hint()))
+}
+
+#[test]
+fn leaves_an_array_for_an_error(rt: HostRuntime) -> Done {
+    let alloc = rt.alloc();
+    let mut de = Deserializer::from_slice(alloc, b"\x82\x01\x81\x03");
+    let items = de.array()?;
+    let e = items.refuse(Error::message(alloc, "no such item"));
+    is_refused(&rt, Answer::<()>::Err(e), "no such item")?;
+    gives(&rt, &mut de, 1u8)
+}
+
+#[test]
+fn goes_on_behind_an_item_that_was_passed_over(rt: HostRuntime) -> Done {
+    let mut de = Deserializer::from_slice(rt.alloc(), b"\x82\x01\xf6\x05");
+    gives_any(&mut de)?;
+    gives(&rt, &mut de, 5u8)
+}
+
+fn gives_any(de: &mut Deserializer<SliceRead<'_>>) -> Done {
+    let _any = <IgnoredAny as serde_cbor::de::Deserialize<SliceRead<'_>>>::deserialize(de)?;
+    Ok(())
+}
+
+// Each refusal leaves all levels for the next item.
+#[test]
+fn goes_on_behind_a_refusal(rt: HostRuntime) -> Done {
+    let alloc = rt.alloc();
+    let mut bytes = [0x81; 256];
+    bytes[255] = 0x00;
+    let mut de = Deserializer::from_slice(alloc, &bytes);
+    refuses::<Value>(&rt, &mut de, "recursion limit exceeded at offset 128")?;
+    gives_any(&mut de)?;
+    ends_here(&mut de)
+}
+
+#[test]
+fn goes_on_behind_lists_that_are_refused(rt: HostRuntime) -> Done {
+    let mut bytes = [0x81; 131];
+    bytes[..3].copy_from_slice(b"\x82\x01\xf4");
+    bytes[130] = 0x00;
+    let mut de = Deserializer::from_slice(rt.alloc(), &bytes);
+    refuses::<Vec<u8>>(&rt, &mut de, "invalid type: expected an integer")?;
+    gives_any(&mut de)?;
+    ends_here(&mut de)
+}
+
+#[test]
+fn goes_on_behind_what_is_no_tree(rt: HostRuntime) -> Done {
+    let mut de = Deserializer::from_slice(rt.alloc(), b"\x81\xf6\x05");
+    refuses::<Tree>(&rt, &mut de, "invalid type: expected a tree")?;
+    gives(&rt, &mut de, 5u8)?;
+    ends_here(&mut de)
+}

@@ -1,0 +1,40 @@
+//! Enums, read up to their variant and then by their content.
+
+use crate::checks::{Done, ends_here, is_refused};
+use serde_cbor::de::SliceRead;
+use serde_cbor::{Deserializer, Error, Result as Answer};
+
+const NAMES: &'static [&'static str] = &["Unit", "NewType"];
+
+fn unit(de: &mut Deserializer<SliceRead<'_>>) -> Answer<usize> {
+    let access = de.variant(NAMES)?;
+    let index = access.index();
+    access.unit()?;
+    Ok(index)
+}
+
+fn newtype(de: &mut Deserializer<SliceRead<'_>>) -> Answer<(usize, i32)> {
+    let access = de.variant(NAMES)?;
+    let index = access.index();
+    let part = access.newtype::<i32>()?;
+    Ok((index, part))
+}
+
+#[test]
+fn tells_the_variant(rt: HostRuntime) -> Done {
+    let alloc = rt.alloc();
+    let mut de = Deserializer::from_slice(alloc, b"\x64Unit\x82\x01\x0a");
+    assert_eq!(rt; unit(&mut de)?, 0);
+    assert_eq!(rt; newtype(&mut de)?, (1, 10));
+    ends_here(&mut de)
+}
+
+#[test]
+fn leaves_an_enum_for_an_error(rt: HostRuntime) -> Done {
+    let alloc = rt.alloc();
+    let mut de = Deserializer::from_slice(alloc, b"\xc1\x82\x01\x18\x2a");
+    let access = de.variant(&["Empty", "Number"])?;
+    let e = access.refuse(Error::message(alloc, "no such variant"));
+    is_refused(&rt, Answer::<()>::Err(e), "no such variant")?;
+    Ok(())
+}

@@ -1,0 +1,26 @@
+//! Tests of what no row of a table shows: items, pairs and fields that are read one by one, tags
+//! that are entered and left, what follows an item, readers that fail, and sinks.
+#![tactic(auto)]
+
+#[cfg(test)]
+mod arrays;
+#[cfg(test)]
+mod checks;
+#[cfg(test)]
+mod ends;
+#[cfg(test)]
+mod enums;
+#[cfg(test)]
+mod laws;
+#[cfg(test)]
+mod maps;
+#[cfg(test)]
+mod readers;
+#[cfg(test)]
+mod sinks;
+#[cfg(test)]
+mod strings;
+#[cfg(test)]
+mod structs;
+#[cfg(test)]
+mod tags;

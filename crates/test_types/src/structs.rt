@@ -1,0 +1,90 @@
+//! Structs, read field by field.
+
+use crate::checks::{Done, ends_here, gives, is_refused};
+use serde_cbor::de::Field;
+use serde_cbor::{Deserializer, Result as Answer};
+
+#[test]
+fn reads_field_by_field(rt: HostRuntime) -> Done {
+    let mut de = Deserializer::from_slice(rt.alloc(), b"\xa2\x61b\xf5\x00\x0a");
+    let mut fields = de.structure(&["a", "b"])?;
+    assert_eq!(rt; fields.size_hint(), Some(2));
+    assert_eq!(rt; fields.next_field()?, Some(Field::Known(1)));
+    assert!(rt; fields.value::<bool>()?);
+    assert_eq!(rt; fields.next_field()?, Some(Field::Known(0)));
+    fields.skip()?;
+    assert_eq!(rt; fields.next_field()?, None);
+    fields.end()?;
+    ends_here(&mut de)
+}
+
+#[test]
+fn leaves_a_struct_for_an_error(rt: HostRuntime) -> Done {
+    let mut de = Deserializer::from_slice(rt.alloc(), b"\xa1\x00\x01");
+    let fields = de.structure(&["a"])?;
+    let e = fields.duplicate("a");
+    is_refused(&rt, Answer::<()>::Err(e), "duplicate field `a`")?;
+    Ok(())
+}
+
+#[test]
+fn ends_no_struct_before_its_fields(rt: HostRuntime) -> Done {
+    let mut de = Deserializer::from_slice(rt.alloc(), b"\xa1\x00\x01");
+    let fields = de.structure(&["a"])?;
+    is_refused(&rt, fields.end(), "trailing data at offset 1")?;
+    Ok(())
+}
+
+#[test]
+fn passes_over_a_field(rt: HostRuntime) -> Done {
+    let bytes = b"\xbf\x61\x61\x01\x61\x7a\x80\x61\x62\x9f\x02\x03\xff\xff";
+    let mut de = Deserializer::from_slice(rt.alloc(), bytes);
+    let mut fields = de.structure(&["a", "b"])?;
+    assert_eq!(rt; fields.next_field()?, Some(Field::Known(0)));
+    assert_eq!(rt; fields.value::<u8>()?, 1);
+    assert_eq!(rt; fields.next_field()?, Some(Field::Unknown));
+    fields.skip()?;
+    assert_eq!(rt; fields.next_field()?, Some(Field::Known(1)));
+    assert_eq!(rt; fields.value::<[u8; 2]>()?, [2, 3]);
+    assert_eq!(rt; fields.next_field()?, None);
+    fields.end()?;
+    ends_here(&mut de)
+}
+
+#[test]
+fn passes_over_a_field_by_the_key_rule(rt: HostRuntime) -> Done {
+    let bytes = b"\xa2\x61\x61\x01\x61\x7a\xa1\x01\x01";
+    let mut de = Deserializer::from_slice(rt.alloc(), bytes).disable_packed_format();
+    let mut fields = de.structure(&["a", "b"])?;
+    assert_eq!(rt; fields.next_field()?, Some(Field::Known(0)));
+    assert_eq!(rt; fields.value::<u8>()?, 1);
+    assert_eq!(rt; fields.next_field()?, Some(Field::Unknown));
+    is_refused(&rt, fields.skip(), "wrong struct format at offset 7")?;
+    Ok(())
+}
+
+// A slot that is full is left as it is, and one that is empty is asked for in vain.
+#[test]
+fn reads_a_field_into_its_slot_once(rt: HostRuntime) -> Done {
+    let mut de = Deserializer::from_slice(rt.alloc(), b"\xa2\x61a\x05\x00\x06");
+    let mut fields = de.structure(&["a", "b"])?;
+    let mut a: Option<u8> = None;
+    assert_eq!(rt; fields.next_field()?, Some(Field::Known(0)));
+    fields.once("a", &mut a)?;
+    assert_eq!(rt; a, Some(5));
+    assert_eq!(rt; fields.next_field()?, Some(Field::Known(0)));
+    is_refused(&rt, fields.once("a", &mut a), "duplicate field `a`")?;
+    assert_eq!(rt; a, Some(5));
+    Ok(())
+}
+
+#[test]
+fn asks_for_a_field(rt: HostRuntime) -> Done {
+    let mut de = Deserializer::from_slice(rt.alloc(), b"\xa0");
+    let mut fields = de.structure(&["a"])?;
+    assert_eq!(rt; fields.next_field()?, None);
+    assert_eq!(rt; fields.required("a", Some(5u8))?, 5);
+    let absent = fields.required::<u8>("a", None);
+    is_refused(&rt, absent, "missing field `a`")?;
+    Ok(())
+}

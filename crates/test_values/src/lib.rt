@@ -1,0 +1,15 @@
+//! Tests of values and maps, of a `Serializer` and its sinks, and of what can't be stored.
+#![tactic(auto)]
+
+#[cfg(test)]
+mod beginnings;
+#[cfg(test)]
+mod checks;
+#[cfg(test)]
+mod serializer;
+#[cfg(test)]
+mod sinks;
+#[cfg(test)]
+mod unstorable;
+#[cfg(test)]
+mod values;
