@@ -75,6 +75,9 @@ SHAPES = {
     '100,000 texts of 16 bytes': lambda: texts(100_000, 16),
     'a text of 8 MiB, ASCII': lambda: string(TEXT, b'a', 8 << 20),
     'a text of 8 MiB, two bytes a character': lambda: string(TEXT, 'é'.encode(), 8 << 20),
+    'a text of 6 MiB, three bytes a character': lambda: string(TEXT, '水'.encode(), 6 << 20),
+    'a text of 8 MiB, four bytes a character': lambda: string(TEXT, '💔'.encode(), 8 << 20),
+    'a text of 5 MiB, characters of each width': lambda: string(TEXT, 'aé水💔'.encode(), 5 << 20),
     'a byte string of 8 MiB': lambda: string(BYTES, b'a', 8 << 20),
 }
 for ORDER in ORDERS:
