@@ -1,5 +1,5 @@
 -- The fault of the reference reader that an error tells is the first refusal.
-use Rattle.std.proofs.Common.{◌≡◌, ◌⊎◌, ℕ, ◌+◌, List, length, Option, Some, None, Result, refl, subst, sym, ap}
+use Rattle.std.proofs.Common.{◌≡◌, ◌⊎◌, ℕ, ◌+◌, ◌-◌, List, length, Option, Some, None, Result, refl, subst, sym, ap}
 use Rattle.std.proofs.Common.{◌∙◌, arith, inl, inr}
 use Rattle.std.specs.Prelude.{⊤}
 use Rattle.cbor_model.specs.Raw.{AreBytes}
@@ -7,15 +7,18 @@ use Rattle.cbor_model.specs.Refusal.{Refusal, end_in_value, end_in_array, end_in
 use Rattle.cbor_model.specs.Refusal.{length_out_of_range, invalid_utf8, unassigned_code}
 use Rattle.cbor_model.specs.Refusal.{unexpected_code, trailing_data, too_deep, scratch_too_small}
 use Rattle.cbor_model.specs.Refusal.{wrong_struct_format}
-use Rattle.cbor_model.specs.Reader.{Fault, read_value_in}
+use Rattle.cbor_model.specs.Formats.{all_formats}
+use Rattle.cbor_model.specs.Reader.{Fault, item_at, read_value_in}
+use Rattle.cbor_model.specs.Allowed as model
 use Rattle.cbor_model.specs.Allowed.{Limits, IsFirstRefusal, limits_of}
-use Rattle.cbor_model.proofs.facts.Refusals.{refused_at, one_first, same_first}
+use Rattle.cbor_model.proofs.facts.Refusals.{refused_at, refused_first, one_first, same_first}
+use Rattle.cbor_read.specs.Source.{Input}
 use Rattle.cbor_io.specs.declared.error.ErrorCode.{ErrorCode}
 use Rattle.cbor_io.specs.declared.error.ErrorCode.TheVariants as code
 use Rattle.cbor_io.specs.declared.error.Error.{Error}
 use Rattle.cbor_io.specs.Error.{code_of, offset_of, IsOutOfMemory}
 use Rattle.cbor_de.specs.Gives.{FailsAs, FailsBy, Fails, FailsOrFaults, IsMemoryOrFault}
-use Rattle.cbor_de.specs.Gives.{IsMemoryOrFaultBy}
+use Rattle.cbor_de.specs.Gives.{IsMemoryOrFaultBy, limits, values}
 use Rattle.cbor_de.specs.FirstRefusal.{refusal_code, TellsFirst}
 
 -- memory ran out, or a device has a fault, or each fault that is told is met
@@ -66,6 +69,35 @@ module _ (room : Option ℕ) (bs : List ℕ) (fits : AreBytes bs) (e : Error) wh
         | inl memory ↦ inl (subst IsMemoryOrFaultBy (sym memory.0) tt, memory.1)
         | inr others ↦ elim others [ inl device ↦ inl device.1 | inr first ↦ inr first ]
       ]
+
+-- ---- one item of an input
+
+-- what bounds an item that is to come, of which so many levels are read
+abbrev pub item_limits : ℕ → Input → model.Limits
+item_limits levels s = record { start = s.offset; levels = levels; scratch = s.room }
+
+module _ (levels : ℕ) (s : Input) (bs : List ℕ) (fits : AreBytes bs) (e : Error) where
+  item_told : (why : Refusal) → code_of e ≡ refusal_code why
+      → FailsAs why (s.offset + length bs) (offset_of e) (item_at (values all_formats (limits s bs)) levels bs)
+      → TellsFirst (item_limits levels s) bs e
+  item_told why is h =
+      let total = s.offset + length bs in
+      let f : Fault = record { why = why; left = h.0 } in
+      let got = refused_first s.room total levels bs f (omega arith) fits (rw h.2 refl) in
+      let start : total - length bs ≡ s.offset = omega arith in
+      record {
+        why = why;
+        offset = got.0;
+        code = is;
+        at = omega (arith, h.1, got.1);
+        first = subst (λ (n : ℕ). IsFirstRefusal (record { start = n; levels = levels; scratch = s.room }) bs why got.0) start got.2;
+      }
+
+  -- memory ran out, or the device has a fault, or the error tells the item's first refusal
+  pub item_first : (D : Type 0) → FailsBy D (code_of e) (s.offset + length bs) (offset_of e) (item_at (values all_formats (limits s bs)) levels bs)
+      → IsOutOfMemory e ⊎ ((D × IsMemoryOrFault e) ⊎ TellsFirst (item_limits levels s) bs e)
+  item_first D h =
+      by_code e (s.offset + length bs) (item_at (values all_formats (limits s bs)) levels bs) (TellsFirst (item_limits levels s) bs e) item_told D (code_of e) refl h
 
 -- ---- two errors
 

@@ -40,8 +40,9 @@ pub record IsProperBeginning (bytes : List ℕ) : Type 0 where
 abbrev pub IsBetween : ℕ → ℕ → ℕ → Type 0
 IsBetween least most b = (least ≤ b) × (b ≤ most)
 
--- The first bytes that begin no item, but the break: additional information 28 to 30, and 31 where
--- no indefinite length is (section 2.2); simple values but the four (section 2.3).
+-- The first bytes that begin no item, but the break: those of additional information 28 to 30
+-- (section 2), of 31 where no length can be indefinite (section 2.2), and of simple values other than
+-- false, true, null and undefined (section 2.3).
 abbrev pub IsUnassigned : ℕ → Type 0
 IsUnassigned b =
     IsBetween 0x1c 0x1f b

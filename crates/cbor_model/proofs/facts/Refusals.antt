@@ -1,7 +1,7 @@
 -- Published: the first refusal that bytes allow.
 
 -- what the reference reader refuses, of a whole input and of an item of one
-pub use Rattle.cbor_model.proofs.FirstRefusal.{refused_at, item_refused_at}
+pub use Rattle.cbor_model.proofs.FirstRefusal.{refused_at, item_refused_at, refused_first}
 -- where it reads, none is allowed
 pub use Rattle.cbor_model.proofs.FirstRefusal.{none_allowed, none_refused, spelled_allows_none}
 -- with a scratch it is that the scratch is too small, or the same as without one
