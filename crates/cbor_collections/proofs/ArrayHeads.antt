@@ -8,11 +8,11 @@ use Rattle.cbor_model.specs.Readable.{untagged, PassesTags}
 use Rattle.cbor_model.specs.Refusal.{too_deep}
 use Rattle.cbor_model.specs.Reader.{Fault, Reads, array_at, item_at, inside}
 use Rattle.cbor_model.proofs.facts.Reader.{ok_is}
-use Rattle.cbor_io.specs.Source.{Input}
+use Rattle.cbor_read.specs.Source.{Input}
 use Rattle.cbor_io.specs.Error.{code_of, offset_of}
 use Rattle.cbor_io.specs.declared.error.Error.{Error}
-use Rattle.cbor_io.specs.declared.read.read_error.ReadError.{ReadError}
-use Rattle.cbor_io.specs.declared.read.read_error.ReadErrorCode.{ReadErrorCode}
+use Rattle.cbor_io.specs.declared.read_error.ReadError.{ReadError}
+use Rattle.cbor_io.specs.declared.read_error.ReadErrorCode.{ReadErrorCode}
 use Rattle.cbor_de.specs.Gives.{Limits, Step, Stopped, IsErrorOf}
 use Rattle.cbor_de.specs.Heads.{behind_head, remaining_of, length_of}
 use Rattle.cbor_de.specs.declared.cursor.Remaining.{Remaining}

@@ -5,15 +5,15 @@ use Rattle.cbor_model.specs.Formats.{Formats}
 use Rattle.cbor_model.specs.Reader.{Fault, Reads, item_at, next_at}
 use Rattle.cbor_model.specs.Reader as reader
 use Rattle.cbor_model.proofs.facts.Reader.{ok_is}
-use Rattle.cbor_io.specs.Source.{Input}
+use Rattle.cbor_read.specs.Source.{Input}
 use Rattle.cbor_io.specs.Error.{code_of, offset_of, IsMessageOf}
 use Rattle.cbor_io.specs.ReadError.{why, error_code}
-use Rattle.cbor_io.specs.declared.read.read_error.ReadErrorCode.TheVariants as reading
+use Rattle.cbor_io.specs.declared.read_error.ReadErrorCode.TheVariants as reading
 use Rattle.cbor_io.specs.declared.error.Error.{Error}
 use Rattle.cbor_io.specs.declared.error.ErrorCode.{ErrorCode}
 use Rattle.cbor_io.specs.declared.error.ErrorCode.TheVariants as code
-use Rattle.cbor_io.specs.declared.read.read_error.ReadError.{ReadError}
-use Rattle.cbor_io.specs.declared.read.read_error.ReadErrorCode.{ReadErrorCode}
+use Rattle.cbor_io.specs.declared.read_error.ReadError.{ReadError}
+use Rattle.cbor_io.specs.declared.read_error.ReadErrorCode.{ReadErrorCode}
 use Rattle.cbor_de.specs.declared.refusal.Refused.{Refused}
 use Rattle.cbor_de.specs.declared.refusal.Refused.TheVariants as refused
 use Rattle.cbor_de.specs.Gives.{FailsAs, FailsBy, IsErrorOf, Limits, limits, Reports, Step, Stopped, TellsNoForm, TellsNoKey}
@@ -40,6 +40,7 @@ other_code cases code.ArrayTooShort at h = absurd h
 other_code cases code.ArrayTooLong at h = absurd h
 other_code cases code.WrongEnumFormat at h = absurd h
 other_code cases code.WrongStructFormat at h = absurd h
+other_code cases code.NotCanonical at h = absurd h
 other_code cases (code.Message text) at h = tt
 other_code cases (code.Io fault) at h = tt
 other_code cases code.ScratchTooSmall at h = tt
@@ -63,6 +64,7 @@ of_fault D cases code.ArrayTooShort end at read on h = absurd h
 of_fault D cases code.ArrayTooLong end at read on h = absurd h
 of_fault D cases code.WrongEnumFormat end at read on h = absurd h
 of_fault D cases code.WrongStructFormat end at read on h = on h
+of_fault D cases code.NotCanonical end at read on h = absurd h
 of_fault D cases (code.Message text) end at read on h = tt
 of_fault D cases (code.Io fault) end at read on h = tt
 of_fault D cases code.ScratchTooSmall end at read on h = tt
@@ -90,6 +92,7 @@ code_stands c d code.ArrayTooShort at short long enum key h = short h
 code_stands c d code.ArrayTooLong at short long enum key h = long h
 code_stands c d code.WrongEnumFormat at short long enum key h = enum h
 code_stands c d code.WrongStructFormat at short long enum key h = key h
+code_stands c d code.NotCanonical at short long enum key h = h
 code_stands c d (code.Message text) at short long enum key h = tt
 code_stands c d (code.Io fault) at short long enum key h = tt
 code_stands c d code.ScratchTooSmall at short long enum key h = tt
@@ -259,6 +262,7 @@ unnamed_stands s cases kept unnamed.Other other e made = other_stands s e cases 
     of_message code.RecursionLimitExceeded h = absurd h
     of_message code.WrongEnumFormat h = absurd h
     of_message code.WrongStructFormat h = absurd h
+    of_message code.NotCanonical h = absurd h
 
 -- the next key may not begin as it does
 pub key_stands : (allowed : ReadErrorCode → Bool) (f g : Formats) (remaining behind : Remaining) (more : Bool) (s a : Input) (kept : Option ReadError) (r : Refused) → g ≡ f → more ≡ true

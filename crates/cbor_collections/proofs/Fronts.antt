@@ -1,6 +1,6 @@
 -- The byte at the front, of which nothing is taken.
 use Rattle.std.proofs.Common.{◌≡◌, ℕ, List, [], ◌∷◌, take, Option, Some, IfSome, MatchOption, sym, ap, subst}
-use Rattle.cbor_io.specs.Source.{Input, Stays}
+use Rattle.cbor_read.specs.Source.{Input, Stays}
 use Rattle.cbor_de.specs.Gives.{Step}
 use Rattle.cbor_de.proofs.facts.Steps.{none_step}
 

@@ -7,12 +7,12 @@ use Rattle.cbor_model.specs.Refusal.{end_in_map}
 use Rattle.cbor_model.specs.Reader.{Fault, Reads, next_at, key_at, item_at}
 use Rattle.cbor_model.specs.Reader as reader
 use Rattle.cbor_model.proofs.facts.Reader.{ok_is, taken, key_read, key_is}
-use Rattle.cbor_io.specs.Source.{Input}
+use Rattle.cbor_read.specs.Source.{Input}
 use Rattle.cbor_io.specs.Error.{code_of, offset_of}
 use Rattle.cbor_io.specs.declared.error.Error.{Error}
 use Rattle.cbor_io.specs.declared.error.ErrorCode.{ErrorCode}
-use Rattle.cbor_io.specs.declared.read.read_error.ReadError.{ReadError}
-use Rattle.cbor_io.specs.declared.read.read_error.ReadErrorCode.{ReadErrorCode}
+use Rattle.cbor_io.specs.declared.read_error.ReadError.{ReadError}
+use Rattle.cbor_io.specs.declared.read_error.ReadErrorCode.{ReadErrorCode}
 use Rattle.cbor_de.specs.Cursor.{behind_next}
 use Rattle.cbor_de.specs.Gives.{Limits, Step, Stopped, IsErrorOf}
 use Rattle.cbor_de.specs.Heads.{remaining_of}

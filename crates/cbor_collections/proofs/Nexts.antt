@@ -6,9 +6,9 @@ use Rattle.cbor_model.specs.Refusal.{end_in_array}
 use Rattle.cbor_model.specs.Reader.{next_at, item_at}
 use Rattle.cbor_model.specs.Reader as reader
 use Rattle.cbor_model.proofs.facts.Reader.{ok_is, taken}
-use Rattle.cbor_io.specs.Source.{Input}
+use Rattle.cbor_read.specs.Source.{Input}
 use Rattle.cbor_io.specs.declared.error.ErrorCode.{ErrorCode}
-use Rattle.cbor_io.specs.declared.read.read_error.ReadErrorCode.{ReadErrorCode}
+use Rattle.cbor_io.specs.declared.read_error.ReadErrorCode.{ReadErrorCode}
 use Rattle.cbor_de.specs.Cursor.{behind_next}
 use Rattle.cbor_de.specs.Gives.{Limits, Step}
 use Rattle.cbor_de.specs.Heads.{remaining_of}

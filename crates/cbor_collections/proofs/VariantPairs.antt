@@ -7,11 +7,11 @@ use Rattle.cbor_model.specs.Raw.{Raw, RawPairs, no_raw_pairs, raw_pair, definite
 use Rattle.cbor_model.specs.Readable.{untagged, PassesTags}
 use Rattle.cbor_model.specs.Reader.{Fault, Reads, ◌>>=◌, byte_at, number_behind, after_first, content_at, item_at, item_by, map_at, parts_by, pair_at, next_at, key_at}
 use Rattle.cbor_model.proofs.facts.Reader.{ok_is}
-use Rattle.cbor_io.specs.Source.{Input}
+use Rattle.cbor_read.specs.Source.{Input}
 use Rattle.cbor_io.specs.Error.{code_of, offset_of}
 use Rattle.cbor_io.specs.declared.error.Error.{Error}
-use Rattle.cbor_io.specs.declared.read.read_error.ReadError.{ReadError}
-use Rattle.cbor_io.specs.declared.read.read_error.ReadErrorCode.{ReadErrorCode}
+use Rattle.cbor_io.specs.declared.read_error.ReadError.{ReadError}
+use Rattle.cbor_io.specs.declared.read_error.ReadErrorCode.{ReadErrorCode}
 use Rattle.cbor_de.specs.Gives.{Limits, Step, Stopped, IsErrorOf}
 use Rattle.cbor_de.specs.declared.refusal.Refused.{Refused}
 use Rattle.cbor_de.proofs.facts.Steps.{step_then}

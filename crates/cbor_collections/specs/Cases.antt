@@ -9,9 +9,10 @@ use Rattle.cbor_io.specs.declared.error.Error.{Error}
 use Rattle.cbor_io.specs.declared.error.ErrorCode.{ErrorCode}
 use Rattle.cbor_io.specs.declared.error.ErrorCode.TheVariants.{ArrayTooShort, ArrayTooLong}
 use Rattle.cbor_io.specs.declared.error.ErrorCode.TheVariants.{WrongEnumFormat, WrongStructFormat}
-use Rattle.cbor_io.specs.declared.read.read_error.ReadErrorCode.{ReadErrorCode}
+use Rattle.cbor_io.specs.declared.error.ErrorCode.TheVariants.{NotCanonical}
+use Rattle.cbor_io.specs.declared.read_error.ReadErrorCode.{ReadErrorCode}
 use Rattle.cbor_io.specs.Error.{code_of, offset_of}
-use Rattle.cbor_io.specs.Source.{Input}
+use Rattle.cbor_read.specs.Source.{Input}
 use Rattle.cbor_de.specs.Gives.{FailsAs, Limits, limits, Reports, Tells}
 use Rattle.cbor_de.specs.Heads.{remaining_of}
 use Rattle.cbor_de.specs.declared.cursor.Remaining.{Remaining}
@@ -30,12 +31,14 @@ pub record Cases : Type 1 where
   pub wrong_enum : ℕ → Type 0
   pub wrong_struct : ℕ → Type 0
 
--- the case of this code stands at the offset; other codes have none
+-- The case of this code stands at the offset; other codes have none. Strict reading alone tells that a
+-- spelling isn't canonical.
 abbrev pub StandsBy : Cases → ErrorCode → ℕ → Type 0
 StandsBy cases ArrayTooShort at = cases.too_short at
 StandsBy cases ArrayTooLong at = cases.too_long at
 StandsBy cases WrongEnumFormat at = cases.wrong_enum at
 StandsBy cases WrongStructFormat at = cases.wrong_struct at
+StandsBy cases NotCanonical at = ⊥
 StandsBy cases code at = ⊤
 
 -- Where an error has one of these codes, its case stands.

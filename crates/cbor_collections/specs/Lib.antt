@@ -6,7 +6,7 @@ pub mod Enums
 pub mod Variants
 pub mod Cases
 pub use Rattle.cbor_io.specs.Error
-pub use Rattle.cbor_io.specs.Source
+pub use Rattle.cbor_read.specs.Source
 pub use Rattle.cbor_de.specs.Gives
 pub use Rattle.cbor_de.specs.Deserializer
 pub use Rattle.cbor_scalars.specs.Takes

@@ -9,9 +9,9 @@ use Rattle.cbor_model.specs.Refusal.{end_in_map}
 use Rattle.cbor_model.specs.Reader.{Reads, ◌>>=◌, next_at, key_at, parts_at, pairs_of, item_at}
 use Rattle.cbor_model.specs.Reader as reader
 use Rattle.cbor_io.specs.declared.error.Error.{Error}
-use Rattle.cbor_io.specs.declared.read.read_error.ReadErrorCode.{ReadErrorCode}
+use Rattle.cbor_io.specs.declared.read_error.ReadErrorCode.{ReadErrorCode}
 use Rattle.cbor_io.specs.Error.{code_of, offset_of}
-use Rattle.cbor_io.specs.Source.{Input}
+use Rattle.cbor_read.specs.Source.{Input}
 use Rattle.cbor_de.specs.Cursor.{ended_at}
 use Rattle.cbor_de.specs.Gives.{Limits, Tells, FailsBy, Step, Reports}
 use Rattle.cbor_de.specs.Heads.{remaining_of}

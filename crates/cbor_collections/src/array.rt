@@ -10,7 +10,7 @@ ghost use Rattle.cbor_scalars.specs.Takes.{formats_of};
 
 use cbor_de::{Collection, Deserializer, Head, Remaining};
 use cbor_io::error::{Error, Result};
-use cbor_io::read::{ReadErrorCode, Source};
+use cbor_read::{ReadErrorCode, Source};
 use cbor_scalars::opening::{mismatch, open};
 
 /// Takes the tags and the head of an array, and goes one level in.

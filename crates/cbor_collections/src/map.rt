@@ -7,7 +7,7 @@ ghost use Rattle.cbor_io.specs.Error.{code_of};
 ghost use Rattle.cbor_de.specs.Cursor.{Counts};
 ghost use Rattle.cbor_de.specs.Gives.{Gives, IsAt, IsErrorOf, TellsNoForm};
 ghost use Rattle.cbor_de.specs.declared.refusal.Refused.TheVariants.{Kept};
-ghost use Rattle.cbor_io.specs.declared.read.read_error.ReadErrorCode.TheVariants as reading;
+ghost use Rattle.cbor_io.specs.declared.read_error.ReadErrorCode.TheVariants as reading;
 ghost use Rattle.cbor_io.specs.declared.error.Error.{Error};
 ghost use Rattle.cbor_collections.specs.Cases.{Stands, key_cases};
 ghost use Rattle.cbor_collections.specs.MapAccesses.{TakesMapHead};
@@ -16,7 +16,7 @@ ghost use Rattle.cbor_scalars.specs.Takes.{OnceMade, formats_of};
 
 use cbor_de::{Collection, Deserializer, Done, Head, Remaining};
 use cbor_io::error::{Error, Result};
-use cbor_io::read::{ReadErrorCode, Source};
+use cbor_read::{ReadErrorCode, Source};
 use cbor_scalars::opening::{mismatch, open};
 
 /// Takes the tags and the head of a map, and goes one level in.

@@ -28,7 +28,7 @@ use crate::array::{array_head, end_array};
 use crate::map::key_begins;
 use cbor_de::{Deserializer, Done, Remaining};
 use cbor_io::error::{Error, ErrorCode, Result};
-use cbor_io::read::{Read, ReadErrorCode, Source};
+use cbor_read::{Read, ReadErrorCode, Source};
 use cbor_scalars::identifier::{identifier, unnamed};
 use cbor_scalars::scalar::read_unit;
 use cbor_scalars::tags::pass_tags;

@@ -8,11 +8,11 @@ use Rattle.cbor_model.specs.Acceptable.{max_depth}
 use Rattle.cbor_model.specs.Reader.{Fault, Reads, Reading, ◌>>=◌, values_in, item_at, whole, read_value_in}
 use Rattle.cbor_model.proofs.facts.Reader.{ok_is}
 use Rattle.cbor_io.specs.declared.error.Error.{Error}
-use Rattle.cbor_io.specs.declared.read.read_error.ReadError.{ReadError}
-use Rattle.cbor_io.specs.declared.read.read_error.ReadErrorCode.{ReadErrorCode}
+use Rattle.cbor_io.specs.declared.read_error.ReadError.{ReadError}
+use Rattle.cbor_io.specs.declared.read_error.ReadErrorCode.{ReadErrorCode}
 use Rattle.cbor_io.specs.Error.{code_of, offset_of}
 use Rattle.cbor_io.specs.ReadError.{why, place, error_code}
-use Rattle.cbor_io.specs.Source.{Input}
+use Rattle.cbor_read.specs.Source.{Input}
 use Rattle.cbor_de.specs.declared.refusal.Refused.{Refused}
 use Rattle.cbor_de.specs.declared.refusal.Refused.TheVariants as refused
 use Rattle.cbor_de.specs.Gives.{FailsBy, Tells, Limits, limits, values, Step, Reports, Stops, Stopped, IsErrorOf, end_at, whole_at}

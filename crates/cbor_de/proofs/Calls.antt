@@ -4,11 +4,11 @@ use Rattle.std.specs.Int.{Width, byte_len}
 use Rattle.std.proofs.lemmas.Bool.{ne_eqb, lt-ltb}
 use Rattle.cbor_model.specs.Refusal.{Refusal, trailing_data}
 use Rattle.cbor_model.specs.Reader.{Reads, byte_at, bytes_at, number_at, next_at, to_break}
-use Rattle.cbor_io.specs.declared.read.read_error.ReadError.{ReadError}
-use Rattle.cbor_io.specs.declared.read.read_error.ReadErrorCode.{ReadErrorCode}
-use Rattle.cbor_io.specs.declared.read.read_error.ReadErrorCode.TheVariants as reading
+use Rattle.cbor_io.specs.declared.read_error.ReadError.{ReadError}
+use Rattle.cbor_io.specs.declared.read_error.ReadErrorCode.{ReadErrorCode}
+use Rattle.cbor_io.specs.declared.read_error.ReadErrorCode.TheVariants as reading
 use Rattle.cbor_io.specs.ReadError.{why, place, error_code}
-use Rattle.cbor_io.specs.Source.{Input, TookKept, Stays, RefusedInto, RefusedByte, NextDoes, or_memory}
+use Rattle.cbor_read.specs.Source.{Input, TookKept, Stays, RefusedInto, RefusedByte, NextDoes, or_memory}
 use Rattle.cbor_de.specs.declared.refusal.Refused.{Refused}
 use Rattle.cbor_de.specs.declared.refusal.Refused.TheVariants as refused
 use Rattle.cbor_de.specs.Gives.{FailsAs, FailsBy, Limits, limits, Step, Reports, Stops, Stopped, IsAt, end_at}

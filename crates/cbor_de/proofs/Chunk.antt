@@ -7,11 +7,11 @@ use Rattle.cbor_model.specs.Head.{HeadWidth}
 use Rattle.cbor_model.specs.Raw.{Chunk}
 use Rattle.cbor_model.specs.Refusal.{unexpected_code, scratch_too_small}
 use Rattle.cbor_model.specs.Reader.{Fault, Reads, ended, before, number_behind, width_of, begins_chunk, content_of_chunk, chunk_at, exceeds_most}
-use Rattle.cbor_io.specs.Source.{Input, Buffered, FitsRoom, RefusedToBuffer}
+use Rattle.cbor_read.specs.Source.{Input, Buffered, FitsRoom, RefusedToBuffer}
 use Rattle.cbor_io.specs.ReadError.{why, place, error_code}
-use Rattle.cbor_io.specs.declared.read.read_error.ReadError.{ReadError}
-use Rattle.cbor_io.specs.declared.read.read_error.ReadErrorCode.{ReadErrorCode}
-use Rattle.cbor_io.specs.declared.read.read_error.ReadErrorCode.TheVariants as reading
+use Rattle.cbor_io.specs.declared.read_error.ReadError.{ReadError}
+use Rattle.cbor_io.specs.declared.read_error.ReadErrorCode.{ReadErrorCode}
+use Rattle.cbor_io.specs.declared.read_error.ReadErrorCode.TheVariants as reading
 use Rattle.cbor_de.specs.Gives.{FailsBy, Limits, limits, Step, Reports, Stops}
 use Rattle.cbor_de.specs.Strings.{content, ChunkStep}
 use Rattle.cbor_de.proofs.Steps.{stops_then, taken_step, refused_stops}

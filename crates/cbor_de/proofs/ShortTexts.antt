@@ -3,7 +3,7 @@ use Rattle.std.proofs.Common.{◌≡◌, ◌≤◌, ◌-◌, ◌/◌, ◌%◌, �
 use Rattle.std.proofs.lemmas.Bool.{lt-ltb}
 use Rattle.cbor_model.specs.Head.{HeadWidth}
 use Rattle.cbor_model.specs.Reader.{byte_at, number_behind}
-use Rattle.cbor_io.specs.Source.{Input, TookKept}
+use Rattle.cbor_read.specs.Source.{Input, TookKept}
 use Rattle.cbor_io.specs.declared.head.Major.TheVariants.{TextString}
 use Rattle.cbor_de.specs.declared.head.Head.TheVariants.{Text}
 use Rattle.cbor_de.specs.Gives.{Step}

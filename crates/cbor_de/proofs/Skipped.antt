@@ -7,9 +7,9 @@ use Rattle.cbor_model.specs.Plain.{Val, Vals, Pairs}
 use Rattle.cbor_model.specs.Refusal.{Refusal, wrong_struct_format}
 use Rattle.cbor_model.specs.Reader.{Fault, Reads, ◌>>=◌, before, ended, Remaining, next_at, Parts, parts_by, parts_at, key_at, pair_at, items_of, pairs_of, array_at, map_at, tag_at, after_first, item_at, inside}
 use Rattle.cbor_model.proofs.facts.Reader.{ok_is, taken, next_taken, pair_taken, parts_by-fuel}
-use Rattle.cbor_io.specs.declared.read.read_error.ReadError.{ReadError}
-use Rattle.cbor_io.specs.declared.read.read_error.ReadErrorCode.{ReadErrorCode}
-use Rattle.cbor_io.specs.Source.{Input}
+use Rattle.cbor_io.specs.declared.read_error.ReadError.{ReadError}
+use Rattle.cbor_io.specs.declared.read_error.ReadErrorCode.{ReadErrorCode}
+use Rattle.cbor_read.specs.Source.{Input}
 use Rattle.cbor_de.specs.declared.refusal.Refused.{Refused}
 use Rattle.cbor_de.specs.Gives.{Limits, values, Gives}
 use Rattle.cbor_de.specs.Heads.{first_at, passed}

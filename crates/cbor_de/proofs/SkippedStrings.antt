@@ -13,9 +13,9 @@ use Rattle.cbor_model.specs.Plain as plain
 use Rattle.cbor_model.specs.Refusal.{invalid_utf8, length_out_of_range}
 use Rattle.cbor_model.specs.Reader.{Fault, Reads, ended, bytes_at, chunks_at, string_at, string_chunks_at, checked_text, text_at, text_chunks_at, exceeds_most}
 use Rattle.cbor_model.proofs.facts.Reader.{ok_is}
-use Rattle.cbor_io.specs.Source.{Input, Skipped, SkippedText, RefusedPart}
-use Rattle.cbor_io.specs.declared.read.read_error.ReadError.{ReadError}
-use Rattle.cbor_io.specs.declared.read.read_error.ReadErrorCode.{ReadErrorCode}
+use Rattle.cbor_read.specs.Source.{Input, Skipped, SkippedText, RefusedPart}
+use Rattle.cbor_io.specs.declared.read_error.ReadError.{ReadError}
+use Rattle.cbor_io.specs.declared.read_error.ReadErrorCode.{ReadErrorCode}
 use Rattle.cbor_de.specs.declared.refusal.Refused.{Refused as Reason}
 use Rattle.cbor_de.specs.declared.refusal.Refused.TheVariants as refused
 use Rattle.cbor_de.specs.Gives.{Limits, limits, values, Step, Stopped, Gives}

@@ -4,11 +4,11 @@ use Rattle.std.specs.Io.KnownBytes.{Consumes, Keeps}
 use Rattle.cbor_model.specs.Reader.{Fault, Reads, ended}
 use Rattle.cbor_io.specs.declared.error.ErrorCode.{ErrorCode}
 use Rattle.cbor_io.specs.declared.error.ErrorCode.TheVariants as code
-use Rattle.cbor_io.specs.declared.read.read_error.ReadError.{ReadError}
-use Rattle.cbor_io.specs.declared.read.read_error.ReadErrorCode.{ReadErrorCode}
-use Rattle.cbor_io.specs.declared.read.read_error.ReadErrorCode.TheVariants as reading
+use Rattle.cbor_io.specs.declared.read_error.ReadError.{ReadError}
+use Rattle.cbor_io.specs.declared.read_error.ReadErrorCode.{ReadErrorCode}
+use Rattle.cbor_io.specs.declared.read_error.ReadErrorCode.TheVariants as reading
 use Rattle.cbor_io.specs.ReadError.{why, place, error_code, HasNoPlace}
-use Rattle.cbor_io.specs.Source.{Input, TookKept, TookSome, Refused, RefusedByte, TooFew, AtLimit, IsOfSource}
+use Rattle.cbor_read.specs.Source.{Input, TookKept, TookSome, Refused, RefusedByte, TooFew, AtLimit, IsOfSource}
 use Rattle.cbor_de.specs.declared.refusal.Refused.{Refused as Reason}
 use Rattle.cbor_de.specs.declared.refusal.Refused.TheVariants as refused
 use Rattle.cbor_model.specs.Head.{HeadWidth}
@@ -34,6 +34,7 @@ passed_on D code.ArrayTooLong end offset part all on h = h
 passed_on D code.RecursionLimitExceeded end offset part all on h = (h.0, h.1, on _ h.2)
 passed_on D code.WrongEnumFormat end offset part all on h = h
 passed_on D code.WrongStructFormat end offset part all on h = (h.0, h.1, on _ h.2)
+passed_on D code.NotCanonical end offset part all on h = h
 passed_on D code.OutOfMemory end offset part all on h = h
 
 -- what holds at two places holds at two others that are equal

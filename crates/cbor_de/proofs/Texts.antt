@@ -7,7 +7,7 @@ use Rattle.cbor_model.specs.Raw.{Chunk, joined}
 use Rattle.cbor_model.specs.Refusal.{length_out_of_range}
 use Rattle.cbor_model.specs.Reader.{Fault, Reads, ◌>>=◌, bytes_at, chunks_at, checked_text, text_at, text_chunks_at, exceeds_most}
 use Rattle.cbor_model.proofs.facts.Reader.{ok_is}
-use Rattle.cbor_io.specs.Source.{Input}
+use Rattle.cbor_read.specs.Source.{Input}
 use Rattle.cbor_de.specs.Gives.{Limits, limits, values}
 use Rattle.cbor_de.specs.Heads.{joined_of}
 

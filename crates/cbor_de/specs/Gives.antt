@@ -18,15 +18,16 @@ use Rattle.cbor_io.specs.declared.error.ErrorCode.TheVariants.{InvalidUtf8, Unas
 use Rattle.cbor_io.specs.declared.error.ErrorCode.TheVariants.{UnexpectedCode, TrailingData}
 use Rattle.cbor_io.specs.declared.error.ErrorCode.TheVariants.{RecursionLimitExceeded}
 use Rattle.cbor_io.specs.declared.error.ErrorCode.TheVariants.{WrongEnumFormat, WrongStructFormat}
+use Rattle.cbor_io.specs.declared.error.ErrorCode.TheVariants.{NotCanonical}
 use Rattle.cbor_io.specs.declared.error.ErrorCode.TheVariants.{OutOfMemory}
 use Rattle.cbor_io.specs.declared.error.ErrorCode.TheVariants.{ArrayTooShort, ArrayTooLong}
 use Rattle.cbor_io.specs.declared.error.Error.{Error}
 use Rattle.cbor_io.specs.Error.{code_of, offset_of, IsOutOfMemory}
-use Rattle.cbor_io.specs.declared.read.read_error.ReadError.{ReadError}
-use Rattle.cbor_io.specs.declared.read.read_error.ReadErrorCode.{ReadErrorCode}
-use Rattle.cbor_io.specs.declared.read.read_error.ReadErrorCode.TheVariants as reading
+use Rattle.cbor_io.specs.declared.read_error.ReadError.{ReadError}
+use Rattle.cbor_io.specs.declared.read_error.ReadErrorCode.{ReadErrorCode}
+use Rattle.cbor_io.specs.declared.read_error.ReadErrorCode.TheVariants as reading
 use Rattle.cbor_io.specs.ReadError.{why, place, error_code}
-use Rattle.cbor_io.specs.Source.{Input}
+use Rattle.cbor_read.specs.Source.{Input}
 use Rattle.cbor_de.specs.declared.refusal.Refused.{Refused}
 use Rattle.cbor_de.specs.declared.refusal.Refused.TheVariants as refused
 
@@ -155,12 +156,13 @@ IsErrorOf kept refused.OutOfMemory e = IsOutOfMemory e
 IsErrorOf None refused.Kept e = IsOutOfMemory e
 IsErrorOf (Some q) refused.Kept e = (code_of e ≡ error_code (why q)) × (offset_of e ≡ place q)
 
--- none of the codes that tell a wrong form: of an array, an enum or a struct
+-- none of the codes that tell a wrong form: of an array, an enum, a struct or a spelling
 abbrev pub TellsNoForm : ErrorCode → Type 0
 TellsNoForm ArrayTooShort = ⊥
 TellsNoForm ArrayTooLong = ⊥
 TellsNoForm WrongEnumFormat = ⊥
 TellsNoForm WrongStructFormat = ⊥
+TellsNoForm NotCanonical = ⊥
 TellsNoForm code = ⊤
 
 -- nothing is to come

@@ -5,6 +5,6 @@ pub mod Gives
 pub mod Heads
 pub mod Strings
 pub use Rattle.cbor_io.specs.Error
-pub use Rattle.cbor_io.specs.Source
-pub use Rattle.cbor_io.specs.Sources
+pub use Rattle.cbor_read.specs.Source
+pub use Rattle.cbor_read.specs.Sources
 pub use Rattle.cbor_value.specs.View

@@ -9,9 +9,9 @@ use Rattle.cbor_model.specs.Plain.{Val, text}
 use Rattle.cbor_model.specs.Raw.{Chunk}
 use Rattle.cbor_model.specs.Reader.{Reads, ◌>>=◌}
 use Rattle.cbor_model.specs.Refusal.{invalid_utf8}
-use Rattle.cbor_io.specs.declared.read.read_error.ReadError.{ReadError}
-use Rattle.cbor_io.specs.declared.read.read_error.ReadErrorCode.{ReadErrorCode}
-use Rattle.cbor_io.specs.Source.{Input}
+use Rattle.cbor_io.specs.declared.read_error.ReadError.{ReadError}
+use Rattle.cbor_io.specs.declared.read_error.ReadErrorCode.{ReadErrorCode}
+use Rattle.cbor_read.specs.Source.{Input}
 use Rattle.cbor_de.specs.Gives.{Limits, Step, Stopped}
 use Rattle.cbor_de.specs.declared.refusal.Refused.{Refused}
 

@@ -8,7 +8,7 @@ ghost use Rattle.cbor_de.specs.declared.cursor.Remaining.TheVariants.{ToBreak};
 
 use crate::de::Deserializer;
 use crate::refusal::Done;
-use cbor_io::read::{ReadErrorCode, Source};
+use cbor_read::{ReadErrorCode, Source};
 
 /// The byte that ends an indefinite length: of an array, a map, or a string in chunks (RFC 7049,
 /// section 2.2).

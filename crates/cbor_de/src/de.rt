@@ -2,7 +2,7 @@
 
 ghost use Rattle.std.specs.Prelude.{◌≡◌, false, ◌+◌, ◌^◌, ◌<◌, nat_lt};
 ghost use Rattle.std.specs.Prelude.{OnOk, OnErr, IfErr, IsSomeAnd};
-ghost use Rattle.cbor_io.specs.declared.read.read_error.ReadErrorCode.TheVariants.{RecursionLimitExceeded};
+ghost use Rattle.cbor_io.specs.declared.read_error.ReadErrorCode.TheVariants.{RecursionLimitExceeded};
 ghost use Rattle.cbor_model.specs.Acceptable.{max_depth};
 ghost use Rattle.cbor_model.specs.Formats.{all_formats};
 ghost use Rattle.cbor_model.specs.Reader.{byte_at};
@@ -13,7 +13,7 @@ ghost use Rattle.cbor_de.specs.declared.refusal.Refused.TheVariants.{Kept};
 use crate::formats::Formats;
 use crate::refusal::Done;
 use cbor_io::error::Result;
-use cbor_io::read::{Offset, ReadError, ReadErrorCode, Source};
+use cbor_read::{Offset, ReadError, ReadErrorCode, Source};
 use std::alloc::Global;
 
 /// How many arrays, maps and tags may stand inside one another.

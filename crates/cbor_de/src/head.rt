@@ -9,14 +9,14 @@ ghost use Rattle.cbor_io.specs.Head.{major_number};
 ghost use Rattle.cbor_de.specs.Gives.{Gives, Keeps, TellsNoKey};
 ghost use Rattle.cbor_de.specs.Heads.{HeadGives, opening_at, head_at, head_of, simple_head};
 ghost use Rattle.cbor_de.specs.declared.head.Head.TheVariants.{Text};
-ghost use Rattle.cbor_io.specs.Source.{TookKept, RefusedInto};
+ghost use Rattle.cbor_read.specs.Source.{TookKept, RefusedInto};
 ghost use Rattle.cbor_de.specs.declared.refusal.Refused.TheVariants.{Kept};
 
 use crate::cursor::Remaining;
 use crate::de::Deserializer;
 use crate::refusal::Done;
 use cbor_io::head::Major;
-use cbor_io::read::{ReadErrorCode, Source};
+use cbor_read::{ReadErrorCode, Source};
 use cbor_value::Float;
 
 // The lower five bits of the first byte of an indefinite length.

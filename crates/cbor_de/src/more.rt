@@ -10,7 +10,7 @@ ghost use Rattle.cbor_de.specs.declared.cursor.Remaining.TheVariants.{ToBreak};
 use crate::cursor::{BREAK, Collection, Remaining};
 use crate::de::Deserializer;
 use crate::refusal::Done;
-use cbor_io::read::{ReadErrorCode, Source};
+use cbor_read::{ReadErrorCode, Source};
 
 impl<R: Source> Deserializer<R> {
     /// Whether another item of an array or another pair of a map comes, of which so much remains.

@@ -8,7 +8,7 @@ ghost use Rattle.cbor_de.specs.Gives.{Gives};
 
 use crate::de::Deserializer;
 use crate::refusal::Done;
-use cbor_io::read::Source;
+use cbor_read::Source;
 use cbor_value::{Float, Value};
 
 impl<R: Source> Deserializer<R> {

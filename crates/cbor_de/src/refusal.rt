@@ -10,11 +10,11 @@ ghost use Rattle.cbor_io.specs.Error.{code_of};
 ghost use Rattle.cbor_io.specs.ReadError.{why, place, HasNoPlace};
 ghost use Rattle.cbor_de.specs.Gives.{IsAt, IsErrorOf, TellsNoForm, TellsNoKey};
 ghost use Rattle.cbor_de.specs.declared.refusal.Refused.TheVariants.{Kept};
-ghost use Rattle.cbor_io.specs.declared.read.read_error.ReadErrorCode.TheVariants.{InvalidUtf8};
+ghost use Rattle.cbor_io.specs.declared.read_error.ReadErrorCode.TheVariants.{InvalidUtf8};
 
 use crate::de::Deserializer;
 use cbor_io::error::Error;
-use cbor_io::read::{ReadError, ReadErrorCode, Source};
+use cbor_read::{ReadError, ReadErrorCode, Source};
 use std::alloc::{AllocError, AllocFailed};
 
 /// A step was refused.

@@ -13,7 +13,7 @@ use crate::cursor::{Collection, Remaining};
 use crate::de::Deserializer;
 use crate::head::Head;
 use crate::refusal::Done;
-use cbor_io::read::{ReadErrorCode, Source};
+use cbor_read::{ReadErrorCode, Source};
 
 impl<R: Source> Deserializer<R> {
     /// Passes over an item, of which nothing is kept.

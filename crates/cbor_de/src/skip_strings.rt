@@ -13,8 +13,8 @@ ghost use Rattle.cbor_de.specs.Strings.{bad_of, checked_by};
 use crate::de::Deserializer;
 use crate::refusal::Done;
 use cbor_io::head::Major;
-use cbor_io::read::{ReadErrorCode, Source};
 use cbor_io::utf8::from_utf8;
+use cbor_read::{ReadErrorCode, Source};
 
 // How many of these bytes stand from the first on that isn't UTF-8.
 #[inline(always)]

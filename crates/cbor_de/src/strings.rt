@@ -15,8 +15,8 @@ use crate::cursor::BREAK;
 use crate::de::Deserializer;
 use crate::refusal::Done;
 use cbor_io::head::Major;
-use cbor_io::read::{ReadErrorCode, Source};
 use cbor_io::utf8::string_from_utf8;
+use cbor_read::{ReadErrorCode, Source};
 
 impl<R: Source> Deserializer<R> {
     /// Takes n bytes.

@@ -15,7 +15,7 @@ use crate::cursor::{Collection, Remaining};
 use crate::de::Deserializer;
 use crate::head::Head;
 use crate::refusal::{Done, Refused};
-use cbor_io::read::{ReadErrorCode, Source};
+use cbor_read::{ReadErrorCode, Source};
 use cbor_value::{Map, Value};
 
 impl<R: Source> Deserializer<R> {

@@ -1,8 +1,5 @@
 pub mod CompareWords
 pub mod Fronts
-pub mod InPlace
-pub mod Inputs
-pub mod ReaderSteps
 pub mod Utf8Block
 pub mod Utf8Chars
 pub mod Utf8States

@@ -17,6 +17,7 @@ use Rattle.cbor_io.specs.declared.error.ErrorCode.TheVariants.{UnexpectedCode, T
 use Rattle.cbor_io.specs.declared.error.ErrorCode.TheVariants.{ArrayTooShort, ArrayTooLong}
 use Rattle.cbor_io.specs.declared.error.ErrorCode.TheVariants.{RecursionLimitExceeded}
 use Rattle.cbor_io.specs.declared.error.ErrorCode.TheVariants.{WrongEnumFormat, WrongStructFormat}
+use Rattle.cbor_io.specs.declared.error.ErrorCode.TheVariants.{NotCanonical}
 use Rattle.cbor_io.specs.declared.error.ErrorCode.TheVariants.{OutOfMemory}
 use Rattle.cbor_io.specs.declared.error.Error.{Error}
 
@@ -65,6 +66,7 @@ code_text ArrayTooLong = codes "array too long"
 code_text RecursionLimitExceeded = words too_deep
 code_text WrongEnumFormat = codes "wrong enum format"
 code_text WrongStructFormat = words wrong_struct_format
+code_text NotCanonical = codes "not canonical"
 code_text OutOfMemory = codes "out of memory"
 
 -- the words, and the offset where it isn't 0

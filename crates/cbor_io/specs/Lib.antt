@@ -2,8 +2,5 @@ pub mod Compare
 pub mod Error
 pub mod Head
 pub mod ReadError
-pub mod Reader
-pub mod Source
-pub mod Sources
 pub mod Utf8
 pub mod Write

@@ -52,6 +52,8 @@ pub enum ErrorCode {
     WrongEnumFormat,
     /// A map's key in a form that is disabled.
     WrongStructFormat,
+    /// Bytes that depart from the canonical spelling; strict reading alone answers it.
+    NotCanonical,
     /// An allocation failed.
     OutOfMemory,
 }
@@ -162,7 +164,8 @@ impl Error {
             | ErrorCode::ArrayTooLong
             | ErrorCode::RecursionLimitExceeded
             | ErrorCode::WrongEnumFormat
-            | ErrorCode::WrongStructFormat => Category::Syntax,
+            | ErrorCode::WrongStructFormat
+            | ErrorCode::NotCanonical => Category::Syntax,
         }
     }
 
@@ -263,6 +266,7 @@ impl ErrorCode {
             ErrorCode::RecursionLimitExceeded => "recursion limit exceeded",
             ErrorCode::WrongEnumFormat => "wrong enum format",
             ErrorCode::WrongStructFormat => "wrong struct format",
+            ErrorCode::NotCanonical => "not canonical",
             ErrorCode::OutOfMemory => "out of memory",
         }
     }

@@ -1,16 +1,15 @@
 //! What reading and writing CBOR share: the errors that both answer; the major types that begin each
-//! item; the sources that are read from, and the sinks that are written to; the test that bytes are
-//! UTF-8, and the order of byte strings of one length.
+//! item; the sinks that are written to; the test that bytes are UTF-8, and the order of byte strings
+//! of one length.
 //!
 //! It names the definitions of `cbor_model`, and no value. The crates above rely on the contracts
 //! of its public calls and on the words of `specs/`: `Error` and `ReadError` (an error is a code and
-//! an offset), `Head` (a major type is its number), `Source` and `Sources` (what a source is, and
-//! what each call takes of it), and `Write` (what a piece leaves in a sink).
+//! an offset), `Head` (a major type is its number), and `Write` (what a piece leaves in a sink).
 #![tactic(auto)]
 
 pub mod compare;
 pub mod error;
 pub mod head;
-pub mod read;
+pub mod read_error;
 pub mod utf8;
 pub mod write;

@@ -12,12 +12,12 @@ use Rattle.cbor_model.specs.Readable.{Context, untagged, PassesTags, IsString, I
 use Rattle.cbor_model.specs.Refusal.{invalid_utf8}
 use Rattle.cbor_model.specs.Reader.{Fault, Reads, ◌>>=◌, bytes_at, chunks_at, exceeds_most, string_at, checked_text, text_at, string_chunks_at, text_chunks_at, item_at, inside}
 use Rattle.cbor_model.proofs.facts.Reader.{ok_is, IsUtf8-from_valid_len}
-use Rattle.cbor_io.specs.Source.{Input}
+use Rattle.cbor_read.specs.Source.{Input}
 use Rattle.cbor_io.specs.Error.{code_of, offset_of}
 use Rattle.cbor_io.specs.declared.error.Error.{Error}
 use Rattle.cbor_io.specs.declared.error.ErrorCode.{ErrorCode}
-use Rattle.cbor_io.specs.declared.read.read_error.ReadError.{ReadError}
-use Rattle.cbor_io.specs.declared.read.read_error.ReadErrorCode.{ReadErrorCode}
+use Rattle.cbor_io.specs.declared.read_error.ReadError.{ReadError}
+use Rattle.cbor_io.specs.declared.read_error.ReadErrorCode.{ReadErrorCode}
 use Rattle.cbor_io.specs.declared.error.ErrorCode.TheVariants.{InvalidUtf8}
 use Rattle.cbor_de.specs.Gives.{Limits, limits, Step, Stopped, IsErrorOf, Reports, Tells}
 use Rattle.cbor_de.specs.Heads.{behind_head, joined_of}

@@ -10,18 +10,18 @@ use Rattle.cbor_model.specs.Raw.{Raw}
 use Rattle.cbor_model.specs.Readable.{Context, untagged, PassesTags, IsString, IsText}
 use Rattle.cbor_model.specs.Reader.{Reads, bytes_at, item_at, inside}
 use Rattle.cbor_model.proofs.facts.Reader.{ok_is}
-use Rattle.cbor_io.specs.Source.{Input, Lends, Took, TookKept, KeepsBytes, part_bytes, is_long}
+use Rattle.cbor_read.specs.Source.{Input, Lends, Took, TookKept, KeepsBytes, part_bytes, is_long}
 use Rattle.cbor_io.specs.ReadError.{why, place, error_code}
 use Rattle.cbor_io.specs.Error.{code_of, offset_of}
 use Rattle.cbor_io.specs.declared.error.Error.{Error}
 use Rattle.cbor_io.specs.declared.error.ErrorCode.{ErrorCode}
-use Rattle.cbor_io.specs.declared.read.EitherLifetime.{EitherLifetime}
-use Rattle.cbor_io.specs.declared.read.read_error.ReadErrorCode.{ReadErrorCode}
+use Rattle.cbor_read.specs.declared.EitherLifetime.{EitherLifetime}
+use Rattle.cbor_io.specs.declared.read_error.ReadErrorCode.{ReadErrorCode}
 use Rattle.cbor_de.specs.Gives.{Limits, limits, Step, Reports}
 use Rattle.cbor_de.specs.declared.head.Head.{Head}
 use Rattle.cbor_de.specs.declared.head.Head.TheVariants as head
 use Rattle.cbor_de.proofs.facts.Steps.{step_map, step_then, taken_step, none_step}
-use Rattle.cbor_io.specs.declared.read.read_error.ReadError.{ReadError}
+use Rattle.cbor_io.specs.declared.read_error.ReadError.{ReadError}
 use Rattle.cbor_de.specs.Heads.{behind_head}
 use Rattle.cbor_scalars.specs.Opens.{Opens, OpensItem}
 use Rattle.cbor_scalars.specs.Takes.{raws, lending, IsRead, IsNotRead, ExcusedBy, Refuses}

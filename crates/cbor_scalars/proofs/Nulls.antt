@@ -11,12 +11,12 @@ use Rattle.cbor_model.specs.Raw.{Raw, null_item}
 use Rattle.cbor_model.specs.Readable.{IsOptional}
 use Rattle.cbor_model.specs.Reader.{Fault, Reads, ◌>>=◌, byte_at, number_at, number_behind, width_of, after_first, content_at, simple_at, item_by, item_at, inside}
 use Rattle.cbor_model.proofs.facts.Reader.{ok_is, simple_number}
-use Rattle.cbor_io.specs.Source.{Input}
+use Rattle.cbor_read.specs.Source.{Input}
 use Rattle.cbor_io.specs.Error.{code_of, offset_of}
 use Rattle.cbor_io.specs.declared.error.Error.{Error}
 use Rattle.cbor_io.specs.declared.error.ErrorCode.{ErrorCode}
-use Rattle.cbor_io.specs.declared.read.read_error.ReadError.{ReadError}
-use Rattle.cbor_io.specs.declared.read.read_error.ReadErrorCode.{ReadErrorCode}
+use Rattle.cbor_io.specs.declared.read_error.ReadError.{ReadError}
+use Rattle.cbor_io.specs.declared.read_error.ReadErrorCode.{ReadErrorCode}
 use Rattle.cbor_value.specs.declared.Float.TheVariants.{Half, Single, Double}
 use Rattle.cbor_de.specs.Gives.{Limits, limits, Step, Stopped, IsErrorOf}
 use Rattle.cbor_de.specs.Heads.{opening_at, head_at, head_of, number_head, length_head, simple_head, behind_head}

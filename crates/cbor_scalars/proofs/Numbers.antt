@@ -8,11 +8,11 @@ use Rattle.cbor_model.specs.Formats.{Formats}
 use Rattle.cbor_model.specs.Readable.{untagged, PassesTags, IsInteger}
 use Rattle.cbor_model.specs.Reader.{Reads, item_at, inside}
 use Rattle.cbor_model.proofs.facts.Reader.{ok_is}
-use Rattle.cbor_io.specs.Source.{Input}
+use Rattle.cbor_read.specs.Source.{Input}
 use Rattle.cbor_io.specs.Error.{code_of, offset_of}
 use Rattle.cbor_io.specs.declared.error.Error.{Error}
-use Rattle.cbor_io.specs.declared.read.read_error.ReadError.{ReadError}
-use Rattle.cbor_io.specs.declared.read.read_error.ReadErrorCode.{ReadErrorCode}
+use Rattle.cbor_io.specs.declared.read_error.ReadError.{ReadError}
+use Rattle.cbor_io.specs.declared.read_error.ReadErrorCode.{ReadErrorCode}
 use Rattle.cbor_de.specs.Gives.{Limits, limits, Step}
 use Rattle.cbor_de.specs.Heads.{behind_head}
 use Rattle.cbor_de.specs.declared.head.Head.{Head}

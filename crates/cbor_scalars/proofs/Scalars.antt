@@ -7,14 +7,14 @@ use Rattle.cbor_model.specs.Formats.{Formats}
 use Rattle.cbor_model.specs.Readable.{untagged, PassesTags, IsBool, IsUnit}
 use Rattle.cbor_model.specs.Reader.{Fault, Reads, item_at, inside}
 use Rattle.cbor_model.proofs.facts.Reader.{ok_is}
-use Rattle.cbor_io.specs.Source.{Input}
+use Rattle.cbor_read.specs.Source.{Input}
 use Rattle.cbor_io.specs.Error.{code_of, offset_of}
 use Rattle.cbor_io.specs.declared.error.Error.{Error}
 use Rattle.cbor_io.specs.declared.error.ErrorCode.{ErrorCode}
 use Rattle.cbor_io.specs.declared.error.ErrorCode.TheVariants as code
 use Rattle.cbor_io.specs.ReadError.{place}
-use Rattle.cbor_io.specs.declared.read.read_error.ReadError.{ReadError}
-use Rattle.cbor_io.specs.declared.read.read_error.ReadErrorCode.{ReadErrorCode}
+use Rattle.cbor_io.specs.declared.read_error.ReadError.{ReadError}
+use Rattle.cbor_io.specs.declared.read_error.ReadErrorCode.{ReadErrorCode}
 use Rattle.cbor_value.specs.declared.Float.{Float}
 use Rattle.cbor_value.specs.declared.Float.TheVariants.{Half, Single, Double}
 use Rattle.cbor_de.specs.Gives.{Limits, limits, Step, Stopped, FailsBy, Reports, IsErrorOf}
@@ -51,6 +51,7 @@ excused_or D code.ArrayTooLong end at read h = absurd h
 excused_or D code.RecursionLimitExceeded end at read h = inr (_, h.2)
 excused_or D code.WrongEnumFormat end at read h = absurd h
 excused_or D code.WrongStructFormat end at read h = inr (_, h.2)
+excused_or D code.NotCanonical end at read h = absurd h
 excused_or D code.OutOfMemory end at read h = inl h
 
 pub not_both : (read : Reads Raw) (x : Raw × List ℕ) (f : Fault) → read ≡ Ok x → read ≡ Err f → ⊥

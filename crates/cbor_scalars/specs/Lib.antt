@@ -7,6 +7,6 @@ pub mod Tags
 pub mod Strings
 pub mod Identifiers
 pub use Rattle.cbor_io.specs.Error
-pub use Rattle.cbor_io.specs.Source
+pub use Rattle.cbor_read.specs.Source
 pub use Rattle.cbor_de.specs.Gives
 pub use Rattle.cbor_de.specs.Deserializer

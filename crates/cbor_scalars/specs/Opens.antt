@@ -4,9 +4,9 @@ use Rattle.cbor_model.specs.Formats.{Formats}
 use Rattle.cbor_model.specs.Head.{HeadWidth}
 use Rattle.cbor_model.specs.Raw.{Raw, tag}
 use Rattle.cbor_model.specs.Reader.{Reads, ◌>>=◌, item_at, inside, within}
-use Rattle.cbor_io.specs.declared.read.read_error.ReadError.{ReadError}
-use Rattle.cbor_io.specs.declared.read.read_error.ReadErrorCode.{ReadErrorCode}
-use Rattle.cbor_io.specs.Source.{Input}
+use Rattle.cbor_io.specs.declared.read_error.ReadError.{ReadError}
+use Rattle.cbor_io.specs.declared.read_error.ReadErrorCode.{ReadErrorCode}
+use Rattle.cbor_read.specs.Source.{Input}
 use Rattle.cbor_de.specs.Gives.{Limits, Step, Stopped}
 use Rattle.cbor_de.specs.Heads.{behind_head}
 use Rattle.cbor_de.specs.declared.head.Head.{Head}

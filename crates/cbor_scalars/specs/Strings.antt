@@ -13,15 +13,15 @@ use Rattle.cbor_model.specs.Reader.{Reads, before, bytes_at, chunks_at, exceeds_
 use Rattle.cbor_io.specs.declared.error.Error.{Error}
 use Rattle.cbor_io.specs.declared.error.ErrorCode.TheVariants.{InvalidUtf8}
 use Rattle.cbor_io.specs.Error.{code_of, offset_of}
-use Rattle.cbor_io.specs.Source.{Input, Lends, part_bytes, is_long}
-use Rattle.cbor_io.specs.declared.read.EitherLifetime.{EitherLifetime}
-use Rattle.cbor_io.specs.declared.read.read_error.ReadErrorCode.{ReadErrorCode}
+use Rattle.cbor_read.specs.Source.{Input, Lends, part_bytes, is_long}
+use Rattle.cbor_read.specs.declared.EitherLifetime.{EitherLifetime}
+use Rattle.cbor_io.specs.declared.read_error.ReadErrorCode.{ReadErrorCode}
 use Rattle.cbor_de.specs.Gives.{Limits, limits, Step, Tells, IsErrorOf}
 use Rattle.cbor_de.specs.Heads.{joined_of}
 use Rattle.cbor_io.specs.ReadError.{why, place, error_code, IsMemory}
 use Rattle.cbor_io.specs.declared.error.ErrorCode.{ErrorCode}
-use Rattle.cbor_io.specs.declared.read.read_error.ReadError.{ReadError}
-use Rattle.cbor_io.specs.declared.read.read_error.ReadErrorCode.TheVariants as reading
+use Rattle.cbor_io.specs.declared.read_error.ReadError.{ReadError}
+use Rattle.cbor_io.specs.declared.read_error.ReadErrorCode.TheVariants as reading
 use Rattle.cbor_de.specs.declared.refusal.Refused.{Refused}
 use Rattle.cbor_de.specs.declared.refusal.Refused.TheVariants as refused
 use Rattle.cbor_de.specs.declared.head.Head.{Head}

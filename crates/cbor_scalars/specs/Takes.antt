@@ -8,9 +8,9 @@ use Rattle.cbor_model.specs.Reader.{Reads, Reading, item_at}
 use Rattle.cbor_io.specs.declared.error.Error.{Error}
 use Rattle.cbor_io.specs.declared.error.ErrorCode.{ErrorCode}
 use Rattle.cbor_io.specs.declared.error.ErrorCode.TheVariants.{Io, OutOfMemory}
-use Rattle.cbor_io.specs.declared.read.read_error.ReadErrorCode.{ReadErrorCode}
+use Rattle.cbor_io.specs.declared.read_error.ReadErrorCode.{ReadErrorCode}
 use Rattle.cbor_io.specs.Error.{code_of, offset_of}
-use Rattle.cbor_io.specs.Source.{Input, Lends}
+use Rattle.cbor_read.specs.Source.{Input, Lends}
 use Rattle.cbor_de.specs.Gives.{Limits, limits, values, Tells, Step, Reports, FailsBy}
 use Rattle.cbor_de.specs.declared.formats.Formats.{Formats}
 pub use Rattle.cbor_de.specs.Deserializer.{formats_of}

@@ -3,7 +3,7 @@
 ghost use Rattle.std.specs.Prelude.{◌≡◌, ◌<◌, ◌≤◌, length, IfOk, IfErr, IfSome};
 ghost use Rattle.std.specs.Str.{IsUtf8};
 ghost use Rattle.cbor_io.specs.declared.error.Error.{Error};
-ghost use Rattle.cbor_io.specs.Source.{part_bytes};
+ghost use Rattle.cbor_read.specs.Source.{part_bytes};
 ghost use Rattle.cbor_model.specs.Readable.{PassesTags};
 ghost use Rattle.cbor_de.specs.Gives.{TellsNoForm, TellsNoKey};
 ghost use Rattle.cbor_de.specs.declared.head.Head.TheVariants.{Bytes, Text};
@@ -19,8 +19,8 @@ use crate::scalar::scalar;
 use cbor_de::{Deserializer, Done, Head, Refused};
 use cbor_io::error::Error;
 use cbor_io::head::Major;
-use cbor_io::read::{EitherLifetime, Read, ReadErrorCode, Source};
 use cbor_io::utf8::from_utf8;
+use cbor_read::{EitherLifetime, Read, ReadErrorCode, Source};
 
 /// What a step answers that may name something.
 pub type Named<T> = std::result::Result<T, Why>;

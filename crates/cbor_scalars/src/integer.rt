@@ -11,7 +11,7 @@ use crate::opening::mismatch;
 use crate::scalar::scalar;
 use cbor_de::{Deserializer, Head};
 use cbor_io::error::{Error, Result};
-use cbor_io::read::Source;
+use cbor_read::Source;
 
 // The number that a head is.
 #[inline(always)]

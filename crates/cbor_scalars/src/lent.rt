@@ -3,7 +3,7 @@
 ghost use Rattle.std.specs.Prelude.{◌≡◌, ◌≤◌, length, IfErr, Ok};
 ghost use types.Logic.{sem};
 ghost use Rattle.std.specs.Io.BufRead.{Rests};
-ghost use Rattle.cbor_io.specs.Source.{part_bytes};
+ghost use Rattle.cbor_read.specs.Source.{part_bytes};
 ghost use Rattle.cbor_de.specs.declared.head.Head.TheVariants.{Bytes, Text};
 ghost use Rattle.cbor_io.specs.Error.{code_of};
 ghost use Rattle.cbor_de.specs.Gives.{TellsNoForm};
@@ -17,8 +17,8 @@ use crate::scalar::scalar;
 use cbor_de::{Deserializer, Head, Refused};
 use cbor_io::error::Error;
 use cbor_io::head::Major;
-use cbor_io::read::{EitherLifetime, Read, ReadError, ReadErrorCode, Source};
 use cbor_io::utf8::from_utf8;
+use cbor_read::{EitherLifetime, Read, ReadError, ReadErrorCode, Source};
 
 /// A text that is lent: by the source until its next call, or by the input for its whole life.
 #[derive(Debug, Drop)]

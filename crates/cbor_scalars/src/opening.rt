@@ -10,7 +10,7 @@ ghost use Rattle.cbor_scalars.specs.Takes.{formats_of, raws};
 
 use cbor_de::{Deserializer, Done, Head};
 use cbor_io::error::Error;
-use cbor_io::read::{ReadErrorCode, Source};
+use cbor_read::{ReadErrorCode, Source};
 
 // Takes a head.
 #[inline(always)]

@@ -5,7 +5,7 @@ ghost use Rattle.cbor_de.specs.Gives.{Gives};
 ghost use Rattle.cbor_scalars.specs.Options.{null_at};
 
 use cbor_de::{Deserializer, Done};
-use cbor_io::read::Source;
+use cbor_read::Source;
 
 /// The first byte of null (RFC 7049, section 2.3).
 const NULL: u8 = 0xf6;

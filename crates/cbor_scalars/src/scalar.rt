@@ -11,7 +11,7 @@ ghost use Rattle.cbor_scalars.specs.Takes.{TakesItem, formats_of};
 use crate::opening::{mismatch, open_inside, take_head};
 use cbor_de::{Deserializer, Done, Head};
 use cbor_io::error::Result;
-use cbor_io::read::Source;
+use cbor_read::Source;
 use cbor_value::Float;
 
 // Takes the tags of an item and the head behind them. It is in the levels of before, so that

@@ -16,8 +16,8 @@ use crate::scalar::scalar;
 use cbor_de::{Deserializer, Done, Head};
 use cbor_io::error::Result;
 use cbor_io::head::Major;
-use cbor_io::read::{ReadErrorCode, Source};
 use cbor_io::utf8::{from_utf8, string_from_utf8};
+use cbor_read::{ReadErrorCode, Source};
 
 // Takes the bytes of a byte string behind its head.
 #[inline(always)]

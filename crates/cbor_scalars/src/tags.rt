@@ -9,7 +9,7 @@ ghost use Rattle.cbor_scalars.specs.Takes.{formats_of};
 
 use cbor_de::{Deserializer, Done};
 use cbor_io::error::Result;
-use cbor_io::read::Source;
+use cbor_read::Source;
 
 // Whether this is the first byte of a tag's head.
 #[inline(always)]

@@ -1,5 +1,5 @@
 use Rattle.std.proofs.Common.{ap, sym, subst}
-use Rattle.cbor_io.specs.Source.{Input}
+use Rattle.cbor_read.specs.Source.{Input}
 use Rattle.cbor_de.specs.Gives.{Step}
 use Rattle.cbor_scalars.specs.Takes.{formats_of}
 use Rattle.cbor_scalars.specs.Opens.{Opens}

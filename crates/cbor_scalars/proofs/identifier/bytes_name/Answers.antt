@@ -1,6 +1,6 @@
 use Rattle.std.proofs.Common.{Result, subst}
-use Rattle.cbor_io.specs.Source.{part_bytes}
-use Rattle.cbor_io.specs.declared.read.EitherLifetime.{EitherLifetime}
+use Rattle.cbor_read.specs.Source.{part_bytes}
+use Rattle.cbor_read.specs.declared.EitherLifetime.{EitherLifetime}
 use Rattle.cbor_de.specs.declared.head.Head.TheVariants as head
 use Rattle.cbor_scalars.specs.Strings.{Lent}
 use Rattle.cbor_scalars.specs.declared.lent.Unread.{Unread}

@@ -3,7 +3,7 @@ use Rattle.std.proofs.lemmas.Result.{err_from_is_err_and}
 use Rattle.cbor_model.specs.Formats.{Formats}
 use Rattle.cbor_model.specs.Readable.{PassesTags}
 use Rattle.cbor_io.specs.Error.{code_of, offset_of}
-use Rattle.cbor_io.specs.Source.{Input}
+use Rattle.cbor_read.specs.Source.{Input}
 use Rattle.cbor_scalars.specs.Identifiers.{texts, IsIdentifier, IsMadeBy}
 use Rattle.cbor_scalars.specs.Takes.{formats_of, OnceMade, TakesItem}
 use Rattle.cbor_scalars.proofs.Opened.{text_opened}

@@ -1,4 +1,4 @@
-use Rattle.cbor_io.specs.Source.{part_bytes}
+use Rattle.cbor_read.specs.Source.{part_bytes}
 use Rattle.cbor_scalars.proofs.Lending.{joined_step}
 use Rattle.cbor_scalars.proofs.identifier.joined_name.Goals as goal
 

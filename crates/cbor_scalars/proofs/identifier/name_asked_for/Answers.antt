@@ -1,6 +1,6 @@
 use Rattle.std.proofs.Common.{◌≡◌, ◌+◌, ◌^◌, true, ltb, sym}
 use Rattle.std.proofs.lemmas.Result.{MatchResult-at_ok}
-use Rattle.cbor_io.specs.Source.{part_bytes}
+use Rattle.cbor_read.specs.Source.{part_bytes}
 use Rattle.cbor_scalars.proofs.Lending.{text_step}
 use Rattle.cbor_scalars.proofs.identifier.name_asked_for.Goals as goal
 

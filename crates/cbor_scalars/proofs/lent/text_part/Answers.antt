@@ -1,6 +1,6 @@
 use Rattle.std.proofs.Common.{◌≡◌, ◌+◌, ◌^◌, ℕ, Option, Some, None, refl, sym, subst, ltb, true}
 use Rattle.std.proofs.lemmas.Result.{MatchResult-at_ok}
-use Rattle.cbor_io.specs.Source.{part_bytes}
+use Rattle.cbor_read.specs.Source.{part_bytes}
 use Rattle.cbor_de.specs.declared.head.Head.TheVariants as head
 use Rattle.cbor_scalars.specs.Strings.{LentText}
 use Rattle.cbor_scalars.proofs.Lending.{text_step, joined_step, text_lent, part_no_key}

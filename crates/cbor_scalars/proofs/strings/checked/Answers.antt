@@ -5,8 +5,8 @@ use Rattle.std.specs.Str.{IsUtf8}
 use Rattle.std.specs.Str.Lossy.{utf8_valid_len}
 use Rattle.std.proofs.lemmas.Str.{utf8_valid_len_le, IsUtf8-string_bytes}
 use Rattle.cbor_io.specs.declared.error.Error.{Error}
-use Rattle.cbor_io.specs.declared.read.read_error.ReadError.{ReadError}
-use Rattle.cbor_io.specs.declared.read.read_error.ReadErrorCode.TheVariants.{InvalidUtf8}
+use Rattle.cbor_io.specs.declared.read_error.ReadError.{ReadError}
+use Rattle.cbor_io.specs.declared.read_error.ReadErrorCode.TheVariants.{InvalidUtf8}
 use Rattle.cbor_io.specs.ReadError.{why, place, error_code}
 use Rattle.cbor_de.specs.Gives.{IsErrorOf}
 use Rattle.cbor_de.specs.declared.refusal.Refused.{Refused}

@@ -2,8 +2,8 @@ use Rattle.std.proofs.Common.{◌≡◌, ◌∙◌, ◌%◌, ℕ, Option, Some, 
 use Rattle.std.proofs.lemmas.Result.{err_from_is_err_and}
 use Rattle.cbor_model.specs.Refusal.{too_deep}
 use Rattle.cbor_model.specs.Reader.{before, number_behind}
-use Rattle.cbor_io.specs.Source.{Input}
-use Rattle.cbor_io.specs.declared.read.read_error.ReadErrorCode.TheVariants.{RecursionLimitExceeded}
+use Rattle.cbor_read.specs.Source.{Input}
+use Rattle.cbor_io.specs.declared.read_error.ReadErrorCode.TheVariants.{RecursionLimitExceeded}
 use Rattle.cbor_de.specs.Gives.{Step}
 use Rattle.cbor_de.proofs.facts.Steps.{step_map, step_then, stopped_map, stopped_then, fault_stops}
 use Rattle.cbor_scalars.specs.Tags.{tag_first_at, tag_head_at}

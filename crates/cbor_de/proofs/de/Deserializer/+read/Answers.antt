@@ -10,8 +10,8 @@ use Rattle.cbor_model.specs.Plain as plain
 use Rattle.cbor_model.specs.FiniteMap.{put_all}
 use Rattle.cbor_model.specs.Value.{put}
 use Rattle.cbor_model.specs.Reader.{Reads, text_at, text_chunks_at, byte_at, bytes_at, string_at, string_chunks_at, chunks_at, exceeds_most, array_at, map_at, tag_at, parts_at, items_of, pairs_of, after_first, item_at, inside}
-use Rattle.cbor_io.specs.Source.{Input}
-use Rattle.cbor_io.specs.declared.read.read_error.ReadErrorCode.TheVariants.{RecursionLimitExceeded, WrongStructFormat}
+use Rattle.cbor_read.specs.Source.{Input}
+use Rattle.cbor_io.specs.declared.read_error.ReadErrorCode.TheVariants.{RecursionLimitExceeded, WrongStructFormat}
 use Rattle.cbor_value.specs.View.{view, views, map_view, pair_views}
 use Rattle.cbor_value.proofs.facts.Views.{put_all-push, view_text, view_bytes, view_array, view_map, view_tag}
 use Rattle.cbor_value.specs.declared.Value.{Value}

@@ -6,8 +6,8 @@ use Rattle.cbor_model.specs.Raw.{indefinite}
 use Rattle.cbor_model.specs.Refusal.{end_in_array, end_in_map, too_deep, wrong_struct_format}
 use Rattle.cbor_model.specs.Plain.{Val}
 use Rattle.cbor_model.specs.Reader.{Reads, byte_at, bytes_at, string_at, string_chunks_at, chunks_at, exceeds_most, array_at, map_at, tag_at, parts_at, after_first, item_at, inside}
-use Rattle.cbor_io.specs.Source.{Input}
-use Rattle.cbor_io.specs.declared.read.read_error.ReadErrorCode.TheVariants.{RecursionLimitExceeded, WrongStructFormat}
+use Rattle.cbor_read.specs.Source.{Input}
+use Rattle.cbor_io.specs.declared.read_error.ReadErrorCode.TheVariants.{RecursionLimitExceeded, WrongStructFormat}
 use Rattle.cbor_de.specs.declared.head.Head.TheVariants as head
 use Rattle.cbor_de.specs.Deserializer.{formats_of}
 use Rattle.cbor_de.specs.Gives.{Limits, values, Step, Stopped, Gives}

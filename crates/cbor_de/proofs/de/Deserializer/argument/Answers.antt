@@ -4,7 +4,7 @@ use Rattle.std.proofs.lemmas.Bool.{lt-ltb, le-ltb, ne_eqb}
 use Rattle.std.specs.Int.{w8, w16, w32, w64}
 use Rattle.cbor_model.specs.Refusal.{unassigned_code}
 use Rattle.cbor_model.specs.Reader.{number_at, number_behind}
-use Rattle.cbor_io.specs.declared.read.read_error.ReadErrorCode.TheVariants.{UnassignedCode}
+use Rattle.cbor_io.specs.declared.read_error.ReadErrorCode.TheVariants.{UnassignedCode}
 use Rattle.cbor_de.proofs.Steps.{step_same, step_map, stopped_map, gives_map}
 use Rattle.cbor_de.proofs.Calls.{fault_stops}
 use Rattle.cbor_de.proofs.de.Deserializer.argument.Goals as goal

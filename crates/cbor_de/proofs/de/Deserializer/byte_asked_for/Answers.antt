@@ -1,7 +1,7 @@
 use Rattle.std.proofs.Common.{◌≡◌, Ok, refl}
 use Rattle.cbor_model.specs.Refusal.{end_in_value}
 use Rattle.cbor_model.specs.Reader.{byte_at}
-use Rattle.cbor_io.specs.declared.read.read_error.ReadErrorCode.TheVariants.{EofWhileParsingValue}
+use Rattle.cbor_io.specs.declared.read_error.ReadErrorCode.TheVariants.{EofWhileParsingValue}
 use Rattle.cbor_de.proofs.Calls.{next_step, next_stops, end_stops}
 use Rattle.cbor_de.proofs.de.Deserializer.byte_asked_for.Goals as goal
 

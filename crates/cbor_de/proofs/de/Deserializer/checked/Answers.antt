@@ -10,9 +10,9 @@ use Rattle.cbor_model.specs.Refusal.{invalid_utf8}
 use Rattle.cbor_model.specs.Reader.{Reads, checked_text}
 use Rattle.cbor_model.proofs.facts.Reader.{IsUtf8-from_valid_len}
 use Rattle.cbor_io.specs.ReadError.{why, place, error_code}
-use Rattle.cbor_io.specs.declared.read.read_error.ReadError.{ReadError}
-use Rattle.cbor_io.specs.declared.read.read_error.ReadErrorCode.TheVariants.{InvalidUtf8}
-use Rattle.cbor_io.specs.declared.read.read_error.ReadErrorCode.{ReadErrorCode}
+use Rattle.cbor_io.specs.declared.read_error.ReadError.{ReadError}
+use Rattle.cbor_io.specs.declared.read_error.ReadErrorCode.TheVariants.{InvalidUtf8}
+use Rattle.cbor_io.specs.declared.read_error.ReadErrorCode.{ReadErrorCode}
 use Rattle.cbor_de.specs.Gives.{FailsBy, Limits, limits, values, Reports, Stops}
 use Rattle.cbor_de.proofs.Calls.{kept_stops}
 use Rattle.cbor_de.proofs.Steps.{step_same}

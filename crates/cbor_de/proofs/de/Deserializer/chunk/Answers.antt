@@ -5,7 +5,7 @@ use Rattle.cbor_model.specs.Reader.{number_behind, chunk_at, exceeds_most}
 use Rattle.cbor_io.specs.Head.{major_number}
 use Rattle.cbor_io.specs.declared.head.Major.{Major}
 use Rattle.cbor_io.specs.declared.head.Major.TheVariants.{UnsignedInteger, NegativeInteger, ByteString, TextString, Array, Map, Tag, Simple}
-use Rattle.cbor_io.specs.declared.read.read_error.ReadErrorCode.TheVariants.{UnexpectedCode}
+use Rattle.cbor_io.specs.declared.read_error.ReadErrorCode.TheVariants.{UnexpectedCode}
 use Rattle.cbor_de.specs.Gives.{Limits}
 use Rattle.cbor_de.proofs.Steps.{stopped_map}
 use Rattle.cbor_de.proofs.Calls.{fault_stops, source_stops}

@@ -6,7 +6,7 @@ use Rattle.cbor_model.specs.Reader.{number_behind}
 use Rattle.cbor_io.specs.Head.{major_number}
 use Rattle.cbor_io.specs.declared.head.Major.{Major}
 use Rattle.cbor_io.specs.declared.head.Major.TheVariants.{UnsignedInteger, NegativeInteger, ByteString, TextString, Array, Map, Tag, Simple}
-use Rattle.cbor_io.specs.declared.read.read_error.ReadErrorCode.TheVariants.{UnassignedCode}
+use Rattle.cbor_io.specs.declared.read_error.ReadErrorCode.TheVariants.{UnassignedCode}
 use Rattle.cbor_de.specs.Heads.{head_of, simple_head}
 use Rattle.cbor_de.proofs.Steps.{step_same}
 use Rattle.cbor_de.proofs.Calls.{fault_stops}

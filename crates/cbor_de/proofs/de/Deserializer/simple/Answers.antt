@@ -6,7 +6,7 @@ use Rattle.cbor_model.specs.Head.{no_bytes}
 use Rattle.cbor_model.specs.Refusal.{unassigned_code}
 use Rattle.cbor_model.specs.Reader.{◌>>=◌, number_at}
 use Rattle.cbor_value.specs.declared.Float.TheVariants.{Half, Single, Double}
-use Rattle.cbor_io.specs.declared.read.read_error.ReadErrorCode.TheVariants.{UnassignedCode}
+use Rattle.cbor_io.specs.declared.read_error.ReadErrorCode.TheVariants.{UnassignedCode}
 use Rattle.cbor_de.specs.declared.head.Head.TheVariants.{Float}
 use Rattle.cbor_de.specs.Heads.{simple_head}
 use Rattle.cbor_de.proofs.Steps.{step_same, step_map, stopped_map}

@@ -1,9 +1,9 @@
 use Rattle.std.proofs.Common.{◌≡◌, ◌+◌, ℕ, List, length, refl, sym, subst, arith}
 use Rattle.cbor_model.specs.Reader.{Reads}
 use Rattle.cbor_io.specs.ReadError.{why, place, error_code}
-use Rattle.cbor_io.specs.declared.read.read_error.ReadError.{ReadError}
-use Rattle.cbor_io.specs.declared.read.read_error.ReadErrorCode.{ReadErrorCode}
-use Rattle.cbor_io.specs.declared.read.read_error.ReadErrorCode.TheVariants.{InvalidUtf8}
+use Rattle.cbor_io.specs.declared.read_error.ReadError.{ReadError}
+use Rattle.cbor_io.specs.declared.read_error.ReadErrorCode.{ReadErrorCode}
+use Rattle.cbor_io.specs.declared.read_error.ReadErrorCode.TheVariants.{InvalidUtf8}
 use Rattle.cbor_de.specs.Gives.{FailsBy, Limits, Reports, Stops}
 use Rattle.cbor_de.specs.Strings.{checked_by}
 use Rattle.cbor_de.proofs.Calls.{kept_stops}

@@ -4,9 +4,9 @@ use Rattle.cbor_model.specs.Formats.{all_formats}
 use Rattle.cbor_model.specs.Head.{no_bytes}
 use Rattle.cbor_model.specs.Reader.{Reads, bytes_at, text_at}
 use Rattle.cbor_io.specs.ReadError.{place, error_code}
-use Rattle.cbor_io.specs.declared.read.read_error.ReadError.{ReadError}
-use Rattle.cbor_io.specs.declared.read.read_error.ReadErrorCode.{ReadErrorCode}
-use Rattle.cbor_io.specs.declared.read.read_error.ReadErrorCode.TheVariants.{LengthOutOfRange}
+use Rattle.cbor_io.specs.declared.read_error.ReadError.{ReadError}
+use Rattle.cbor_io.specs.declared.read_error.ReadErrorCode.{ReadErrorCode}
+use Rattle.cbor_io.specs.declared.read_error.ReadErrorCode.TheVariants.{LengthOutOfRange}
 use Rattle.cbor_de.specs.Gives.{FailsBy, Limits, limits, values, Reports, Stops, IsAt}
 use Rattle.cbor_de.specs.Heads.{passed}
 use Rattle.cbor_de.specs.Strings.{bad_of, checked_by}

@@ -7,9 +7,9 @@ use Rattle.cbor_model.specs.Plain as plain
 use Rattle.cbor_model.specs.Reader.{Reads, bytes_at, checked_text, text_at}
 use Rattle.cbor_de.specs.Strings.{text_view}
 use Rattle.cbor_io.specs.ReadError.{place, error_code}
-use Rattle.cbor_io.specs.declared.read.read_error.ReadErrorCode.{ReadErrorCode}
-use Rattle.cbor_io.specs.declared.read.read_error.ReadError.{ReadError}
-use Rattle.cbor_io.specs.declared.read.read_error.ReadErrorCode.TheVariants.{LengthOutOfRange}
+use Rattle.cbor_io.specs.declared.read_error.ReadErrorCode.{ReadErrorCode}
+use Rattle.cbor_io.specs.declared.read_error.ReadError.{ReadError}
+use Rattle.cbor_io.specs.declared.read_error.ReadErrorCode.TheVariants.{LengthOutOfRange}
 use Rattle.cbor_de.specs.Gives.{FailsBy, Limits, limits, values, Reports, Stops, IsAt}
 use Rattle.cbor_de.proofs.Calls.{kept_stops}
 use Rattle.cbor_de.proofs.Steps.{stopped_at, gives_at}

@@ -1,0 +1,11 @@
+use Rattle.std.proofs.Common.{rules}
+use Rattle.cbor_read.proofs.ReaderSteps.{join_refused}
+use Rattle.cbor_read.proofs.io_read.IoRead.join.Goals as goal
+
+pub returns-in_err-left-clause-err : goal.returns-in_err-left-clause-err
+returns-in_err-left-clause-err g c =
+    search (
+      rules,
+      join_refused _ _ _ _ _ c.args.n _
+          (search rules) c.pieces.invariant.2 c.in_err-left.ensures.err,
+    )

@@ -1,0 +1,293 @@
+//! A reader of the standard library as a source.
+
+ghost use Rattle.std.specs.Prelude.{◌≡◌, ◌+◌, ◌<◌, ◌≤◌, [], length, IfSome, OnOk, IfOk, IfErr, Ok};
+ghost use Rattle.std.specs.Prelude.{Some, None};
+ghost use Rattle.std.specs.Io.KnownBytes.{Keeps};
+ghost use Rattle.cbor_read.specs.Reader.{ByteRead, Filled, SomeRead, PieceTaken};
+ghost use Rattle.cbor_read.specs.Source.{with_peeked, reader_input};
+
+use super::front::valid_in;
+use super::{EitherLifetime, Offset, Read, ReadError, ReadErrorCode, Result, Source};
+use std::alloc::Global;
+use std::{io, mem};
+
+/// The bytes that a reader of the standard library gives. What is read is lent until the next call.
+///
+/// It takes no byte of the reader that isn't asked for, but for one that is peeked. Long strings
+/// are read in pieces of some thousand bytes, and memory is taken for what came, however long a
+/// string claims to be.
+///
+/// Its calls answer
+///
+/// - `Io` where the reader reports a fault; an interrupted read is one, and isn't tried again;
+/// - `EofWhileParsingValue` where too few bytes are to come;
+/// - `LengthOutOfRange` at the offset 2^64 - 1, where another byte is there;
+/// - `OutOfMemory` where the buffer or the vector to fill can't grow, in `read`, `read_to_buffer`,
+///   `read_to_vec`, `skip` and `skip_text` alone.
+///
+/// ```rust
+/// let mut source = IoRead::new(alloc, rt.reader());
+/// if let Some(head) = source.next()? {
+///     // .. and for a string of n bytes:
+///     let text = source.read(n)?;
+/// }
+/// ```
+#[derive(Drop)]
+pub struct IoRead<R> {
+    reader: R,
+    buffer: Vec<u8>,
+    peeked: Option<u8>,
+    offset: u64,
+}
+
+impl<R: io::Read> IoRead<R> {
+    ghost use Rattle.cbor_read.specs.Source.{Buffered, RefusedToBuffer, reader_refusals};
+    ghost use Rattle.cbor_read.specs.Sources.{input_of_reader};
+
+    /// The bytes of this reader, none of them taken.
+    ///
+    /// ```rust
+    /// let mut source = IoRead::new(alloc, b"\x18\x2a".as_slice());
+    /// assert_eq!(rt; source.next()?, Some(0x18));
+    /// assert_eq!(rt; source.offset(), 1);
+    /// ```
+    pub fn new(alloc: Global, reader: R) -> IoRead<R>
+        ensures { input_of_reader R.remaining result ≡ reader_input None (R.remaining reader) [] 0 }
+    {
+        IoRead {
+            reader,
+            buffer: Vec::new(alloc),
+            peeked: None,
+            offset: 0,
+        }
+    }
+
+    // Takes some of the next bytes to the front of a piece, and answers how many. It answers 0 only
+    // at the end.
+    fn take_piece(&mut self, piece: &mut [u8]) -> Result<usize>
+        requires { 0 < length piece.old }
+        ensures { PieceTaken (input_of_reader R.remaining self.old)
+            (input_of_reader R.remaining self.new) piece.new result }
+    {
+        if self.peeked.is_some() || self.offset == u64::MAX {
+            return self.take_first(piece);
+        }
+        let most = piece.len().min((u64::MAX - self.offset) as usize);
+        let count = read_some(&mut self.reader, piece, most)?;
+        self.offset += count as u64;
+        Ok(count)
+    }
+
+    // The same, and takes one byte at most.
+    #[tactic(auto, using(crate::proofs::ReaderSteps::stays_kept, crate::proofs::ReaderSteps::stays_end))]
+    fn take_first(&mut self, piece: &mut [u8]) -> Result<usize>
+        requires { 0 < length piece.old }
+        ensures { PieceTaken (input_of_reader R.remaining self.old)
+            (input_of_reader R.remaining self.new) piece.new result }
+    {
+        match self.next()? {
+            Some(byte) => {
+                piece[0] = byte;
+                Ok(1)
+            }
+            None => Ok(0),
+        }
+    }
+
+    // Takes some of the next bytes to the buffer's end, by way of a piece, and answers how many.
+    fn join_piece(&mut self, piece: &mut [u8]) -> Result<usize>
+        requires { 0 < length piece.old }
+        ensures within { IfOk result (λ n. (0 < n) × (n ≤ length piece.old)) }
+        ensures ok { IfOk result (λ n. Buffered (input_of_reader R.remaining self.old)
+            (input_of_reader R.remaining self.new) n) }
+        ensures err { IfErr result (RefusedToBuffer reader_refusals
+            (input_of_reader R.remaining self.old) (input_of_reader R.remaining self.new)
+            (length piece.old)) }
+    {
+        let count = self.take_piece(piece)?;
+        if count == 0 {
+            return Err(ReadError::eof(self.offset));
+        }
+        self.buffer.extend_from_slice(&piece[..count])?;
+        Ok(count)
+    }
+
+    // Takes n bytes to the buffer's end, in pieces of this size at most.
+    fn join(&mut self, n: usize, piece: &mut [u8]) -> Result<()>
+        requires { 0 < length piece.old }
+        ensures ok { OnOk result (Buffered (input_of_reader R.remaining self.old)
+            (input_of_reader R.remaining self.new) n) }
+        ensures err { IfErr result (RefusedToBuffer reader_refusals
+            (input_of_reader R.remaining self.old) (input_of_reader R.remaining self.new) n) }
+    {
+        let mut left = n;
+        'pieces: while left > 0 {
+            let most = left.min(piece.len());
+            left -= self.join_piece(&mut piece[..most])?;
+        }
+        Ok(())
+    }
+}
+
+impl<R: io::Read> Source for IoRead<R> {
+    ghost use Rattle.std.specs.Prelude.{true, false};
+    ghost use Rattle.cbor_read.specs.Source.{reader_refusals};
+    ghost use Rattle.cbor_read.specs.Reader.{peeked_at};
+    ghost use Rattle.cbor_read.specs.Sources.{input_of_reader};
+
+    ghost source = { input_of_reader R.remaining };
+
+    ghost peeked = { λ s. peeked_at s.offset s.peeked };
+
+    ghost at_hand = { λ s. [] };
+
+    ghost refusals = { reader_refusals };
+
+    ghost lends = { record { whole = false; joined = false } };
+
+    fn next(&mut self) -> Result<Option<u8>> {
+        let offset = self.offset;
+        fill(&mut self.reader, &mut self.peeked)?;
+        let Some(byte) = self.peeked else {
+            return Ok(None);
+        };
+        if offset == u64::MAX {
+            return Err(ReadError::at(ReadErrorCode::LengthOutOfRange, u64::MAX));
+        }
+        self.discard();
+        Ok(Some(byte))
+    }
+
+    fn peek(&mut self) -> Result<Option<u8>> {
+        fill(&mut self.reader, &mut self.peeked)?;
+        if self.offset == u64::MAX && self.peeked.is_some() {
+            return Err(ReadError::at(ReadErrorCode::LengthOutOfRange, u64::MAX));
+        }
+        Ok(self.peeked)
+    }
+
+    // A reader is asked for each byte.
+    #[inline(always)]
+    fn ahead(&self) -> &[u8] {
+        &[]
+    }
+
+    #[inline(always)]
+    fn advance(&mut self, n: usize) {
+        self.offset += n as u64;
+    }
+
+    fn clear_buffer(&mut self) {
+        self.buffer.clear();
+    }
+
+    fn read_to_buffer(&mut self, n: usize) -> Result<()> {
+        if n <= SMALL {
+            self.join(n, &mut [0; SMALL])
+        } else {
+            self.join(n, &mut [0; LARGE])
+        }
+    }
+
+    fn buffer(&self) -> &[u8] {
+        &self.buffer
+    }
+
+    // The vector stands in the buffer's place, so that the bytes go straight behind it.
+    fn read_to_vec(&mut self, n: usize, out: &mut Vec<u8>) -> Result<()> {
+        mem::swap(&mut self.buffer, out);
+        let answer = self.read_to_buffer(n);
+        mem::swap(&mut self.buffer, out);
+        answer
+    }
+
+    fn read_into(&mut self, buf: &mut [u8]) -> Result<()> {
+        let mut filled = 0;
+        'pieces: while filled < buf.len() {
+            let count = self.take_piece(&mut buf[filled..])?;
+            if count == 0 {
+                return Err(ReadError::eof(self.offset));
+            }
+            filled += count;
+        }
+        Ok(())
+    }
+
+    // By way of the buffer.
+    fn skip(&mut self, n: usize) -> Result<()> {
+        self.buffer.clear();
+        self.read_to_buffer(n)
+    }
+
+    fn skip_text(&mut self, n: usize) -> Result<usize> {
+        self.buffer.clear();
+        self.read_to_buffer(n)?;
+        Ok(valid_in(&self.buffer))
+    }
+
+    fn discard(&mut self) {
+        self.peeked = None;
+        self.offset += 1;
+    }
+
+    fn offset(&self) -> u64 {
+        self.offset
+    }
+}
+
+impl<'de, R: io::Read> Read<'de> for IoRead<R> {
+    fn read<'a>(&'a mut self, n: usize) -> Result<EitherLifetime<'a, 'de>> {
+        self.clear_buffer();
+        self.read_to_buffer(n)?;
+        Ok(EitherLifetime::Short(&self.buffer))
+    }
+
+    fn take_buffer<'a>(&'a mut self) -> EitherLifetime<'a, 'de> {
+        EitherLifetime::Short(&self.buffer)
+    }
+}
+
+impl<R: io::Read> Offset for IoRead<R> {
+    fn byte_offset(&self) -> usize {
+        self.offset as usize
+    }
+}
+
+// A string of up to so many bytes is read by way of a small piece, which costs little to clear.
+const SMALL: usize = 64;
+
+// The most that is taken by one call of the reader.
+const LARGE: usize = 4096;
+
+// Sees to it that the next byte is peeked, if there is one.
+fn fill<R: io::Read>(reader: &mut R, peeked: &mut Option<u8>) -> Result<()>
+    ensures kept { Keeps (with_peeked peeked.old (R.remaining reader.old))
+        (with_peeked peeked.new (R.remaining reader.new)) }
+    ensures held { IfSome peeked.old (λ b. (peeked.new ≡ Some b) × (result ≡ Ok tt)) }
+    ensures filled { Filled (with_peeked peeked.old (R.remaining reader.old)) peeked.new result }
+{
+    if peeked.is_none() {
+        *peeked = read_byte(reader)?;
+    }
+    Ok(())
+}
+
+// Reads the next byte, if there is one.
+fn read_byte<R: io::Read>(reader: &mut R) -> Result<Option<u8>>
+    ensures { ByteRead (R.remaining reader.old) (R.remaining reader.new) result }
+{
+    let mut byte = [0; 1];
+    match reader.read(&mut byte)? {
+        0 => Ok(None),
+        _ => Ok(Some(byte[0])),
+    }
+}
+
+// Reads some of the next bytes to the front of a piece, and answers how many. It answers 0 only at
+// the end.
+fn read_some<R: io::Read>(reader: &mut R, piece: &mut [u8], most: usize) -> Result<usize>
+    requires { (0 < most) × (most ≤ length piece.old) }
+    ensures { SomeRead (R.remaining reader.old) (R.remaining reader.new) most piece.new result }
+{
+    Ok(reader.read(&mut piece[..most])?)
+}
