@@ -2,14 +2,12 @@
 //! of many rows carries no facts from one to the next.
 
 use cbor_io::error::Error;
-use cbor_io::read::{EitherLifetime, Read, ReadError, ReadErrorCode, Source};
 use cbor_io::write::{SliceWrite, Write};
+use cbor_read::{EitherLifetime, Read, ReadError, Source};
 use std::alloc::Global;
 use std::fmt::{Display, InlineText};
 use std::process::Abort;
-use std::test::Fail;
-
-pub type Done = Result<(), Fail>;
+use test_checks::Done;
 
 /// It prints these words, for which no memory is taken.
 pub fn prints<D: Display + Drop>(rt: &impl Abort, told: D, want: &str) {
@@ -20,14 +18,10 @@ pub fn prints<D: Display + Drop>(rt: &impl Abort, told: D, want: &str) {
 
 /// The call was refused, with these words, for which no memory is taken.
 pub fn is_refused(rt: &impl Abort, answer: Option<ReadError>, words: &str) -> Done {
-    let Some(refused) = answer else {
-        panic!(rt; "not refused");
-    };
-    if matches!(refused.code(), ReadErrorCode::OutOfMemory) {
-        return Err(Fail::from(refused));
+    match answer {
+        Some(refused) => test_checks::is_refused::<()>(Err(Error::from(refused)), words),
+        None => panic!(rt; "not refused"),
     }
-    prints(rt, Error::from(refused), words);
-    Ok(())
 }
 
 /// The bytes of this part, which the input lends.

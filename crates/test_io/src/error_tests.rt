@@ -1,10 +1,11 @@
-use crate::checks::{Done, prints};
+use crate::checks::prints;
 use cbor_io::error::{Category, Error, ErrorCode};
 use std::alloc::{AllocError, Global};
 use std::io;
 use std::io::ErrorKind;
 use std::process::Abort;
 use std::test::Fail;
+use test_checks::Done;
 
 // The checks below promise nothing, so that a test of many rows carries no facts from one to the
 // next.
@@ -116,7 +117,9 @@ fn tells_items_of_another_form(rt: HostRuntime) -> Done {
     let e = Error::at(ErrorCode::WrongEnumFormat, 7);
     tells_syntax(&rt, alloc, e, "wrong enum format")?;
     let e = Error::at(ErrorCode::WrongStructFormat, 7);
-    tells_syntax(&rt, alloc, e, "wrong struct format")
+    tells_syntax(&rt, alloc, e, "wrong struct format")?;
+    let e = Error::at(ErrorCode::NotCanonical, 7);
+    tells_syntax(&rt, alloc, e, "not canonical")
 }
 
 #[test]

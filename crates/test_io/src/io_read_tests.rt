@@ -1,13 +1,14 @@
 use crate::checks::{
-    Done, advances, ahead_is, buffer_is, extends, fills_one, is_refused, joins, next_is, offset_is,
+    advances, ahead_is, buffer_is, extends, fills_one, is_refused, joins, next_is, offset_is,
     peek_is, refuses_to_fill, refuses_to_join, skips, skips_text,
 };
 use crate::devices::PieceReader;
-use cbor_io::read::{EitherLifetime, IoRead, Offset, Read, ReadError, Source};
+use cbor_read::{EitherLifetime, IoRead, Offset, Read, ReadError, Source};
 use std::alloc::{AllocError, Global};
 use std::io;
 use std::io::ErrorKind;
 use std::process::Abort;
+use test_checks::Done;
 
 /// The part is lent by the source, and is these bytes.
 fn is_short(rt: &impl Abort, part: EitherLifetime, want: &[u8]) -> Done {

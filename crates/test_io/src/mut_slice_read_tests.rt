@@ -1,9 +1,10 @@
 use crate::checks::{
-    Done, fills_a_vector, gives_all, joins, joins_two_chunks, lent_by_input, next_is, offset_is,
+    fills_a_vector, gives_all, joins, joins_two_chunks, lent_by_input, next_is, offset_is,
     refuses_to_join, refuses_to_read, shows_its_bytes, skips_its_bytes, tells_the_end,
 };
-use cbor_io::read::{MutSliceRead, Read, Source};
+use cbor_read::{MutSliceRead, Read, Source};
 use std::process::Abort;
+use test_checks::Done;
 
 #[test]
 fn gives_the_bytes_of_a_slice(rt: HostRuntime) -> Done {

@@ -4,14 +4,15 @@ ghost use Rattle.std.specs.Prelude.{◌≡◌, ◌+◌, ◌<◌, ◌≤◌, [], 
 ghost use Rattle.std.specs.Prelude.{vec_len};
 ghost use Rattle.std.specs.Str.Lossy.{utf8_valid_len};
 ghost use Rattle.cbor_io.specs.ReadError.{why, place};
-ghost use Rattle.cbor_io.specs.declared.read.read_error.ReadErrorCode.TheVariants as refusal;
+ghost use Rattle.cbor_io.specs.declared.read_error.ReadErrorCode.TheVariants as refusal;
 
 use crate::checks::{
-    Done, fills_a_vector, gives_all, joined_by_source, joins_two_chunks, shows_its_bytes,
+    fills_a_vector, gives_all, joined_by_source, joins_two_chunks, shows_its_bytes,
     skips_its_bytes, tells_the_end,
 };
-use cbor_io::read::{EitherLifetime, Read, ReadError, Source};
+use cbor_read::{EitherLifetime, Read, ReadError, Source};
 use std::alloc::{AllocError, Global};
+use test_checks::Done;
 
 #[derive(Drop)]
 struct VecRead {
@@ -22,7 +23,7 @@ struct VecRead {
 }
 
 impl VecRead {
-    ghost use Rattle.cbor_io.specs.Source.{slice_input};
+    ghost use Rattle.cbor_read.specs.Source.{slice_input};
 
     fn new(alloc: Global, bytes: Vec<u8>) -> VecRead
         ensures { slice_input result.bytes.items result.taken result.buffer.items None
@@ -64,7 +65,7 @@ fn valid_in(bytes: &[u8]) -> usize
 
 impl Source for VecRead {
     ghost use Rattle.std.specs.Prelude.{false};
-    ghost use Rattle.cbor_io.specs.Source.{slice_input, slice_refusals, first_of};
+    ghost use Rattle.cbor_read.specs.Source.{slice_input, slice_refusals, first_of};
 
     ghost source = { λ s. slice_input s.bytes.items s.taken s.buffer.items None };
 

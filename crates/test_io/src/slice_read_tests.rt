@@ -1,8 +1,9 @@
 use crate::checks::{
-    Done, fills_a_vector, gives_all, is_refused, joined_by_source, joins, joins_two_chunks,
+    fills_a_vector, gives_all, is_refused, joined_by_source, joins, joins_two_chunks,
     lent_by_input, offset_is, peek_is, shows_its_bytes, skips_its_bytes, tells_the_end,
 };
-use cbor_io::read::{Offset, Read, SliceRead, Source};
+use cbor_read::{Offset, Read, SliceRead, Source};
+use test_checks::Done;
 
 #[test]
 fn gives_the_bytes_of_a_slice(rt: HostRuntime) -> Done {

@@ -1,7 +1,7 @@
 //! The bounds of the well-formed sequences (the Unicode Standard, table 3-7).
 
-use crate::checks::Done;
 use cbor_io::utf8::from_utf8;
+use test_checks::Done;
 
 #[test]
 fn first_and_last_characters_of_each_length(rt: HostRuntime) -> Done {

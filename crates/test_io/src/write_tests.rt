@@ -1,9 +1,10 @@
-use crate::checks::{Done, has_written, refuses, takes};
+use crate::checks::{has_written, refuses, takes};
 use crate::devices::{FailingWriter, FullWriter};
 use cbor_io::write::{IoWrite, SliceWrite};
 use std::alloc::Global;
 use std::io::ErrorKind;
 use std::process::Abort;
+use test_checks::Done;
 
 #[test]
 fn fills_a_slice(rt: HostRuntime) -> Done {

@@ -1,9 +1,10 @@
 //! Arrays, read item by item.
 
-use crate::checks::{Done, ends_here, gives, is_refused, refuses};
+use crate::checks::{ends_here, gives, refuses};
 use cbor_tree::tree::Tree;
 use serde_cbor::de::{IgnoredAny, SliceRead};
 use serde_cbor::{Deserializer, Error, Result as Answer, Value};
+use test_checks::{Done, is_refused};
 
 #[test]
 fn reads_item_by_item(rt: HostRuntime) -> Done {
@@ -46,7 +47,7 @@ fn leaves_an_array_for_an_error(rt: HostRuntime) -> Done {
     let mut de = Deserializer::from_slice(alloc, b"\x82\x01\x81\x03");
     let items = de.array()?;
     let e = items.refuse(Error::message(alloc, "no such item"));
-    is_refused(&rt, Answer::<()>::Err(e), "no such item")?;
+    is_refused(Answer::<()>::Err(e), "no such item")?;
     gives(&rt, &mut de, 1u8)
 }
 

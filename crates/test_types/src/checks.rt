@@ -1,25 +1,11 @@
 //! What a test asks. These promise nothing, so that a test of many calls carries no facts from one to
 //! the next.
 
+use serde_cbor::Deserializer;
 use serde_cbor::de::{Deserialize, Offset, SliceRead, Source};
-use serde_cbor::{Deserializer, Result as Answer};
-use std::fmt::{Debug, InlineText};
+use std::fmt::Debug;
 use std::process::Abort;
-use std::test::Fail;
-
-pub type Done = Result<(), Fail>;
-
-/// The call was refused, with these words, for which no memory is taken.
-pub fn is_refused<T: Drop>(rt: &impl Abort, answer: Answer<T>, words: &str) -> Done {
-    let Err(e) = answer else {
-        panic!(rt; "not refused");
-    };
-    if e.is_memory() {
-        return Err(Fail::from(e));
-    }
-    assert_eq!(rt; InlineText::<96>::of(e).as_str(), words);
-    Ok(())
-}
+use test_checks::{Done, is_refused};
 
 /// The next item is read so.
 pub fn gives<'a, T: Deserialize<'a, SliceRead<'a>> + PartialEq + Debug>(
@@ -37,7 +23,7 @@ pub fn refuses<'a, T: Deserialize<'a, SliceRead<'a>>>(
     de: &mut Deserializer<SliceRead<'a>>,
     words: &str,
 ) -> Done {
-    is_refused(rt, T::deserialize(de), words)
+    is_refused(T::deserialize(de), words)
 }
 
 /// So many bytes were taken.

@@ -1,14 +1,15 @@
 //! What follows an item, and how many bytes were taken.
 
-use crate::checks::{Done, has_taken, is_refused};
+use crate::checks::has_taken;
 use serde_cbor::de::{Offset, Source};
 use serde_cbor::{Deserializer, Error};
 use std::process::Abort;
 use std::test::Fail;
+use test_checks::{Done, is_refused};
 
 /// One byte is to come, and then nothing.
 fn ends_behind_a_byte<R: Source + Drop>(rt: &impl Abort, de: &mut Deserializer<R>) -> Done {
-    is_refused(rt, de.end(), "trailing data at offset 1")?;
+    is_refused(de.end(), "trailing data at offset 1")?;
     de.end().map_err(|e: Error| Fail::from(e))
 }
 
@@ -51,9 +52,9 @@ fn counts_the_bytes_taken(rt: HostRuntime) -> Done {
 fn counts_two_bytes<R: Source + Offset + Drop>(rt: &impl Abort, de: Deserializer<R>) -> Done {
     let mut de = de;
     has_taken(rt, &de, 0);
-    is_refused(rt, de.end(), "trailing data at offset 1")?;
+    is_refused(de.end(), "trailing data at offset 1")?;
     has_taken(rt, &de, 1);
-    is_refused(rt, de.end(), "trailing data at offset 2")?;
+    is_refused(de.end(), "trailing data at offset 2")?;
     has_taken(rt, &de, 2);
     Ok(())
 }

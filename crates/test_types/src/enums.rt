@@ -1,8 +1,9 @@
 //! Enums, read up to their variant and then by their content.
 
-use crate::checks::{Done, ends_here, is_refused};
+use crate::checks::ends_here;
 use serde_cbor::de::SliceRead;
 use serde_cbor::{Deserializer, Error, Result as Answer};
+use test_checks::{Done, is_refused};
 
 const NAMES: &'static [&'static str] = &["Unit", "NewType"];
 
@@ -35,6 +36,6 @@ fn leaves_an_enum_for_an_error(rt: HostRuntime) -> Done {
     let mut de = Deserializer::from_slice(alloc, b"\xc1\x82\x01\x18\x2a");
     let access = de.variant(&["Empty", "Number"])?;
     let e = access.refuse(Error::message(alloc, "no such variant"));
-    is_refused(&rt, Answer::<()>::Err(e), "no such variant")?;
+    is_refused(Answer::<()>::Err(e), "no such variant")?;
     Ok(())
 }

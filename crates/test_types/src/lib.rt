@@ -1,5 +1,5 @@
 //! Tests of what no row of a table shows: items, pairs and fields that are read one by one, tags
-//! that are entered and left, what follows an item, readers that fail, and sinks.
+//! that are entered and left, what follows an item, and readers that fail.
 #![tactic(auto)]
 
 #[cfg(test)]
@@ -16,8 +16,6 @@ mod laws;
 mod maps;
 #[cfg(test)]
 mod readers;
-#[cfg(test)]
-mod sinks;
 #[cfg(test)]
 mod strings;
 #[cfg(test)]

@@ -1,9 +1,10 @@
 //! Maps, read pair by pair.
 
-use crate::checks::{Done, ends_here, gives, is_refused};
+use crate::checks::{ends_here, gives};
 use serde_cbor::de::SliceRead;
 use serde_cbor::{Deserializer, Error, Result as Answer};
 use std::test::Fail;
+use test_checks::{Done, is_refused};
 
 #[test]
 fn reads_pair_by_pair(rt: HostRuntime) -> Done {
@@ -58,7 +59,7 @@ fn refuses_pairs_that_are_left(rt: HostRuntime) -> Done {
     ] {
         let mut de = Deserializer::from_slice(alloc, bytes);
         let pairs = de.map()?;
-        is_refused(&rt, pairs.end(), want)?;
+        is_refused(pairs.end(), want)?;
     }
     Ok(())
 }
@@ -69,6 +70,6 @@ fn leaves_a_map_for_an_error(rt: HostRuntime) -> Done {
     let mut de = Deserializer::from_slice(alloc, b"\xa1\x01\x02");
     let pairs = de.map()?;
     let e = pairs.refuse(Error::message(alloc, "no such key"));
-    is_refused(&rt, Answer::<()>::Err(e), "no such key")?;
+    is_refused(Answer::<()>::Err(e), "no such key")?;
     gives(&rt, &mut de, 1u8)
 }

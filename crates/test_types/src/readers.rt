@@ -1,9 +1,9 @@
 //! Readers that fail.
 
-use crate::checks::{Done, is_refused};
 use serde_cbor::{Value, from_reader};
 use std::io;
 use std::io::ErrorKind;
+use test_checks::{Done, is_refused};
 
 /// Gives one byte at a time, and reports a fault at this call, of which the first is 1.
 #[derive(Drop)]
@@ -48,7 +48,7 @@ fn tells_an_interrupted_read(rt: HostRuntime) -> Done {
     let mut reader = Bytewise::new(MARY);
     reader.fails_at = 1;
     reader.kind = ErrorKind::Interrupted;
-    is_refused(&rt, from_reader::<Value, _>(alloc, reader), "I/O error")
+    is_refused(from_reader::<Value, _>(alloc, reader), "I/O error")
 }
 
 #[test]
@@ -58,7 +58,7 @@ fn tells_a_fault_at_each_call(rt: HostRuntime) -> Done {
     for k in 1..41usize {
         let mut reader = Bytewise::new(MARY);
         reader.fails_at = k;
-        is_refused(&rt, from_reader::<Value, _>(alloc, reader), "I/O error")?;
+        is_refused(from_reader::<Value, _>(alloc, reader), "I/O error")?;
     }
     Ok(())
 }
@@ -78,7 +78,7 @@ impl io::Read for Endless {
 fn stops_where_a_reader_has_no_end(rt: HostRuntime) -> Done {
     let alloc = rt.alloc();
     let deep = from_reader::<Value, _>(alloc, Endless(0x81));
-    is_refused(&rt, deep, "recursion limit exceeded at offset 128")?;
+    is_refused(deep, "recursion limit exceeded at offset 128")?;
     let more = from_reader::<u8, _>(alloc, Endless(0x00));
-    is_refused(&rt, more, "trailing data at offset 2")
+    is_refused(more, "trailing data at offset 2")
 }

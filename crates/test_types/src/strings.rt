@@ -1,10 +1,11 @@
 //! Strings, one after the other, and what a reader lends.
 
-use crate::checks::{Done, ends_here, gives, has_taken};
+use crate::checks::{ends_here, gives, has_taken};
 use serde_cbor::Deserializer;
 use serde_cbor::de::{EitherLifetime, EitherStr, IoRead};
 use std::process::Abort;
 use std::test::Fail;
+use test_checks::Done;
 
 #[test]
 fn reads_two_strings(rt: HostRuntime) -> Done {

@@ -1,8 +1,9 @@
 //! Structs, read field by field.
 
-use crate::checks::{Done, ends_here, gives, is_refused};
+use crate::checks::{ends_here, gives};
 use serde_cbor::de::Field;
 use serde_cbor::{Deserializer, Result as Answer};
+use test_checks::{Done, is_refused};
 
 #[test]
 fn reads_field_by_field(rt: HostRuntime) -> Done {
@@ -23,7 +24,7 @@ fn leaves_a_struct_for_an_error(rt: HostRuntime) -> Done {
     let mut de = Deserializer::from_slice(rt.alloc(), b"\xa1\x00\x01");
     let fields = de.structure(&["a"])?;
     let e = fields.duplicate("a");
-    is_refused(&rt, Answer::<()>::Err(e), "duplicate field `a`")?;
+    is_refused(Answer::<()>::Err(e), "duplicate field `a`")?;
     Ok(())
 }
 
@@ -31,7 +32,7 @@ fn leaves_a_struct_for_an_error(rt: HostRuntime) -> Done {
 fn ends_no_struct_before_its_fields(rt: HostRuntime) -> Done {
     let mut de = Deserializer::from_slice(rt.alloc(), b"\xa1\x00\x01");
     let fields = de.structure(&["a"])?;
-    is_refused(&rt, fields.end(), "trailing data at offset 1")?;
+    is_refused(fields.end(), "trailing data at offset 1")?;
     Ok(())
 }
 
@@ -59,7 +60,7 @@ fn passes_over_a_field_by_the_key_rule(rt: HostRuntime) -> Done {
     assert_eq!(rt; fields.next_field()?, Some(Field::Known(0)));
     assert_eq!(rt; fields.value::<u8>()?, 1);
     assert_eq!(rt; fields.next_field()?, Some(Field::Unknown));
-    is_refused(&rt, fields.skip(), "wrong struct format at offset 7")?;
+    is_refused(fields.skip(), "wrong struct format at offset 7")?;
     Ok(())
 }
 
@@ -73,7 +74,7 @@ fn reads_a_field_into_its_slot_once(rt: HostRuntime) -> Done {
     fields.once("a", &mut a)?;
     assert_eq!(rt; a, Some(5));
     assert_eq!(rt; fields.next_field()?, Some(Field::Known(0)));
-    is_refused(&rt, fields.once("a", &mut a), "duplicate field `a`")?;
+    is_refused(fields.once("a", &mut a), "duplicate field `a`")?;
     assert_eq!(rt; a, Some(5));
     Ok(())
 }
@@ -85,6 +86,6 @@ fn asks_for_a_field(rt: HostRuntime) -> Done {
     assert_eq!(rt; fields.next_field()?, None);
     assert_eq!(rt; fields.required("a", Some(5u8))?, 5);
     let absent = fields.required::<u8>("a", None);
-    is_refused(&rt, absent, "missing field `a`")?;
+    is_refused(absent, "missing field `a`")?;
     Ok(())
 }

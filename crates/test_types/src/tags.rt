@@ -1,9 +1,10 @@
 //! Tags, entered and left.
 
-use crate::checks::{Done, ends_here, gives, has_taken, is_refused};
+use crate::checks::{ends_here, gives, has_taken};
 use serde_cbor::Deserializer;
 use serde_cbor::de::SliceRead;
 use std::process::Abort;
+use test_checks::{Done, is_refused};
 
 /// A tag of this number comes, and is entered; None where another item comes.
 fn enters(rt: &impl Abort, de: &mut Deserializer<SliceRead<'_>>, want: Option<u64>) -> Done {
@@ -48,7 +49,7 @@ fn refuses_a_head_cut_off(rt: HostRuntime) -> Done {
     let alloc = rt.alloc();
     let mut de = Deserializer::from_slice(alloc, b"\xd9\x01");
     let end = "EOF while parsing a value at offset 2";
-    is_refused(&rt, de.read_tag(), end)
+    is_refused(de.read_tag(), end)
 }
 
 #[test]
@@ -60,5 +61,5 @@ fn refuses_a_level_too_many(rt: HostRuntime) -> Done {
         enters(&rt, &mut de, Some(1))?;
     }
     let words = "recursion limit exceeded at offset 128";
-    is_refused(&rt, de.read_tag(), words)
+    is_refused(de.read_tag(), words)
 }

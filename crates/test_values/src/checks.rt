@@ -5,13 +5,10 @@ use cbor_io::error;
 use cbor_ser::{Serialize, SliceWrite, to_vec, to_writer};
 use cbor_value::Value;
 use std::alloc::{AllocError, Global};
-use std::fmt::InlineText;
 use std::io;
 use std::io::ErrorKind;
 use std::process::Abort;
-use std::test::Fail;
-
-pub type Done = Result<(), Fail>;
+use test_checks::{Done, is_refused};
 
 pub fn text(alloc: Global, text: &str) -> Result<Value, AllocError> {
     Ok(Value::Text(text.to_owned(alloc)?))
@@ -30,23 +27,11 @@ pub fn writes<T: Serialize>(rt: &impl Abort, alloc: Global, value: &T, want: &[u
     Ok(())
 }
 
-/// The call was refused, with these words, for which no memory is taken.
-pub fn is_refused<T: Drop>(rt: &impl Abort, answer: error::Result<T>, words: &str) -> Done {
-    let Err(e) = answer else {
-        panic!(rt; "not refused");
-    };
-    if e.is_memory() {
-        return Err(Fail::from(e));
-    }
-    assert_eq!(rt; InlineText::<96>::of(e).as_str(), words);
-    Ok(())
-}
-
 const TOO_FAR_OUT: &str = "The number can't be stored in CBOR";
 
 /// The call was refused for a number that is too far out.
 pub fn is_too_far_out<T: Drop>(rt: &impl Abort, answer: error::Result<T>) -> Done {
-    is_refused(rt, answer, TOO_FAR_OUT)
+    is_refused(answer, TOO_FAR_OUT)
 }
 
 /// The value has a number that is too far out.

@@ -1,10 +1,11 @@
 //! The calls of a serializer.
 
-use crate::checks::{Done, FailingWriter, is_refused, is_too_far_out};
+use crate::checks::{FailingWriter, is_too_far_out};
 use cbor_ser::{IoWrite, Serializer, SliceWrite};
 use cbor_value::Float;
 use std::alloc::Global;
 use std::process::Abort;
+use test_checks::{Done, is_refused};
 
 /// What was written is this.
 fn is_written(rt: &impl Abort, ser: Serializer<Vec<u8>>, bytes: &'static [u8]) {
@@ -134,7 +135,7 @@ fn stops_where_a_slice_is_full(rt: HostRuntime) -> Done {
     let mut room = [0; 3];
     let mut ser = Serializer::new(rt.alloc(), SliceWrite::new(&mut room));
     let refused = ser.serialize_str("foobar");
-    is_refused(&rt, refused, "Scratch buffer too small at offset 1")?;
+    is_refused(refused, "Scratch buffer too small at offset 1")?;
     let sink = ser.into_inner();
     assert_eq!(rt; sink.bytes_written(), 1);
     assert_eq!(rt; &*sink.into_inner(), b"\x66\0\0".as_slice());
@@ -159,7 +160,7 @@ fn tells_a_writers_fault(rt: HostRuntime) -> Done {
     let alloc = rt.alloc();
     for left in 0..2usize {
         let mut ser = Serializer::new(alloc, IoWrite::new(FailingWriter::new(alloc, left)?));
-        is_refused(&rt, ser.serialize_str("foobar"), "I/O error")?;
+        is_refused(ser.serialize_str("foobar"), "I/O error")?;
     }
     let mut ser = Serializer::new(alloc, IoWrite::new(FailingWriter::new(alloc, 2)?));
     ser.serialize_str("foobar")?;

@@ -1,12 +1,13 @@
 //! What is written to sinks of each kind.
 
-use crate::checks::{Done, FailingWriter, is_refused, is_written_up_to, tag, text, writes};
+use crate::checks::{FailingWriter, is_written_up_to, tag, text, writes};
 use cbor_io::error;
 use cbor_ser::{IoWrite, Serializer, SliceWrite, Write, to_writer};
 use cbor_value::{Float, Map, Value};
 use std::alloc::Global;
 use std::process::Abort;
 use std::test::Fail;
+use test_checks::{Done, is_refused};
 
 /// A value with each kind of item in it, whose spelling `EACH_KIND` puts together from RFC 7049,
 /// sections 2.1 to 2.4 and appendix A.
@@ -139,7 +140,7 @@ fn fails_after(rt: &impl Abort, done: error::Result<()>, left: usize, count: usi
 fn refuses_any_byte_where_there_is_no_room(rt: HostRuntime) -> Done {
     let mut room: [u8; 0] = [];
     let mut ser = Serializer::new(rt.alloc(), SliceWrite::new(&mut room));
-    is_refused(&rt, ser.serialize_unit(), "Scratch buffer too small")?;
+    is_refused(ser.serialize_unit(), "Scratch buffer too small")?;
     assert_eq!(rt; ser.into_inner().bytes_written(), 0);
     Ok(())
 }

@@ -1,7 +1,8 @@
 //! Numbers that can't be stored.
 
-use crate::checks::{Done, is_not_written, tag};
+use crate::checks::{is_not_written, tag};
 use cbor_value::Value;
+use test_checks::Done;
 
 #[test]
 fn refuses_numbers_that_are_too_far_out(rt: HostRuntime) -> Done {

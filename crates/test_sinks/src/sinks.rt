@@ -1,6 +1,5 @@
 //! Structs and collections, written to sinks of each kind.
 
-use crate::checks::Done;
 use cbor_samples::counter::Counter;
 use cbor_samples::enums::{Bar, DataEnum};
 use cbor_samples::structs::{Mascot, OptionalPerson, User};
@@ -10,6 +9,7 @@ use std::alloc::Global;
 use std::collections::BTreeMap;
 use std::process::Abort;
 use std::test::Fail;
+use test_checks::Done;
 
 // A field that is left out has a number all the same.
 #[test]

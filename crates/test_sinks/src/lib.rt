@@ -1,0 +1,5 @@
+//! Tests of structs, enums and collections that are written to sinks of each kind.
+#![tactic(auto)]
+
+#[cfg(test)]
+mod sinks;
