@@ -4,11 +4,11 @@ use Rattle.std.proofs.Common.{Err, IfOk, IfErr, refl, sym, ap, ◌∙◌, subst,
 use Rattle.std.specs.Prelude.{⊤}
 use Rattle.std.proofs.lemmas.List.{append-nil}
 use Rattle.cbor_model.specs.Allowed.{limits_of}
-use Rattle.cbor_model.specs.Formats.{all_formats}
+use Rattle.cbor_model.specs.Formats.{Formats, all_formats}
 use Rattle.cbor_model.specs.Laws.{SpellsValue}
 use Rattle.cbor_model.specs.Plain.{Val}
 use Rattle.cbor_model.specs.Raw.{Raw, AreBytes}
-use Rattle.cbor_model.specs.Readable.{SpellsAs}
+use Rattle.cbor_model.specs.Readable.{Context, SpellsAs}
 use Rattle.cbor_model.specs.Value.{value}
 use Rattle.cbor_model.proofs.facts.Laws.{one_spelling}
 use Rattle.cbor_model.proofs.facts.Refusals.{spelled_allows_none}
@@ -20,7 +20,10 @@ use Rattle.cbor_value.specs.declared.Value.{Value}
 use Rattle.cbor_de.specs.FirstRefusal.{TellsFirst}
 use Rattle.cbor_de.specs.Gives.{IsMemoryOrFault, IsMemoryOrFaultBy}
 use Rattle.cbor_de.proofs.facts.FirstRefusal.{same_error, without_scratch}
+use Rattle.cbor_read.specs.Source.{Lends}
+use Rattle.cbor_scalars.specs.Takes.{lending}
 use Rattle.cbor_typed.specs.Alike.{IsReading, IsOfSource, AreAlike, SourcesAgree}
+use Rattle.cbor_typed.specs.Alike.{IsReadingAs, IsReadAsBoth, AgreeAs, OwnedAgree}
 use Rattle.cbor_typed.proofs.Values.{spelled_value}
 
 -- ---- what the calls answer
@@ -84,3 +87,36 @@ sources_agree scratch scratch' bs (Ok v) (Ok w) fits short one other = one_value
 sources_agree scratch scratch' bs (Ok v) (Err f) fits short one other = no_first scratch' bs (view v) f fits short one other
 sources_agree scratch scratch' bs (Err e) (Ok w) fits short one other = no_first scratch bs (view w) e fits short other one
 sources_agree scratch scratch' bs (Err e) (Err f) fits short one other = two_errors scratch scratch' bs e f fits one other
+
+-- ---- as types that borrow nothing
+
+-- what one source reads of an input, another may read of it too
+lent : {A : Type 0} (reads reads' : Raw → A → Type 0) (bs : List ℕ) (x : A) → ((r : Raw) → reads r x → reads' r x)
+    → SpellsAs all_formats reads bs x → SpellsAs all_formats reads' bs x
+lent reads reads' bs x same s =
+    record { item = s.item; acceptable = s.acceptable; keys = s.keys; spelled = s.spelled; means = same s.item s.means }
+
+-- the one item that is read as each is read as both
+both : {A : Type 0} (reads : Raw → A → Type 0) (bs : List ℕ) (x y : A) → SpellsAs all_formats reads bs x
+    → SpellsAs all_formats reads bs y → SpellsAs all_formats (IsReadAsBoth reads) bs (x, y)
+both reads bs x y s t =
+    let one = one_spelling s.item t.item [] s.acceptable.fits t.acceptable.fits (append-nil _ ∙ s.spelled ∙ sym t.spelled) in
+    record {
+      item = s.item;
+      acceptable = s.acceptable;
+      keys = s.keys;
+      spelled = s.spelled;
+      means = (s.means, subst (λ (r : Raw). reads r y) (sym one.0) t.means);
+    }
+
+pub owned_agree : {A : Type 0} (reads : Context → Raw → A → Type 0)
+    → ((f : Formats) (a b : Lends) (r : Raw) (x : A) → reads (lending f a) r x → reads (lending f b) r x)
+    → OwnedAgree reads
+owned_agree reads same a b bs (Ok x) (Ok y) one other =
+    both (reads (lending all_formats a)) bs x y one
+    (lent (reads (lending all_formats b)) (reads (lending all_formats a)) bs y (λ r. same all_formats b a r y) other)
+owned_agree reads same a b bs (Ok x) (Err f) one other =
+    other x (lent (reads (lending all_formats a)) (reads (lending all_formats b)) bs x (λ r. same all_formats a b r x) one)
+owned_agree reads same a b bs (Err e) (Ok y) one other =
+    one y (lent (reads (lending all_formats b)) (reads (lending all_formats a)) bs y (λ r. same all_formats b a r y) other)
+owned_agree reads same a b bs (Err e) (Err f) one other = tt

@@ -8,9 +8,9 @@ use Rattle.cbor_model.specs.Raw.{Raw}
 use Rattle.cbor_model.specs.Readable.{PassesTags, IsText}
 use Rattle.cbor_model.specs.Reader.{Reads, item_at}
 use Rattle.cbor_io.specs.Error.{code_of, offset_of}
-use Rattle.cbor_io.specs.Source.{Input, Lends}
+use Rattle.cbor_read.specs.Source.{Input, Lends}
 use Rattle.cbor_io.specs.declared.error.Error.{Error}
-use Rattle.cbor_io.specs.declared.read.read_error.ReadErrorCode.{ReadErrorCode}
+use Rattle.cbor_io.specs.declared.read_error.ReadErrorCode.{ReadErrorCode}
 use Rattle.cbor_de.specs.Gives.{Limits}
 use Rattle.cbor_scalars.specs.Strings.{IsCharacter, IsOneCharacter, IsOneOf, IsLentText, LendsText, text_bytes}
 use Rattle.cbor_scalars.specs.Takes.{raws, lending, TakesItem}

@@ -8,13 +8,13 @@ use Rattle.cbor_model.specs.Plain.{Val}
 use Rattle.cbor_model.specs.Value.{value}
 use Rattle.cbor_model.specs.Reader.{Fault, Reads, item_at, read_value_in}
 use Rattle.cbor_model.proofs.facts.Reader.{ok_is}
-use Rattle.cbor_io.specs.Source.{Input}
+use Rattle.cbor_read.specs.Source.{Input}
 use Rattle.cbor_io.specs.Error.{code_of, offset_of}
 use Rattle.cbor_io.specs.declared.error.Error.{Error}
 use Rattle.cbor_io.specs.declared.error.ErrorCode.{ErrorCode}
 use Rattle.cbor_io.specs.declared.error.ErrorCode.TheVariants as code
-use Rattle.cbor_io.specs.declared.read.read_error.ReadError.{ReadError}
-use Rattle.cbor_io.specs.declared.read.read_error.ReadErrorCode.{ReadErrorCode}
+use Rattle.cbor_io.specs.declared.read_error.ReadError.{ReadError}
+use Rattle.cbor_io.specs.declared.read_error.ReadErrorCode.{ReadErrorCode}
 use Rattle.cbor_value.specs.View.{view}
 use Rattle.cbor_value.specs.declared.Value.{Value}
 use Rattle.cbor_de.specs.Gives.{limits, values, Tells, Step, Stopped, Reports, Ends, FailsBy, Fails, FailsOrFaults, IsErrorOf, end_at, whole_at}
@@ -71,6 +71,7 @@ fails_map D E g code.ArrayTooLong end at r h = absurd h
 fails_map D E g code.RecursionLimitExceeded end at r h = h
 fails_map D E g code.WrongEnumFormat end at r h = absurd h
 fails_map D E g code.WrongStructFormat end at r h = h
+fails_map D E g code.NotCanonical end at r h = absurd h
 fails_map D E g code.OutOfMemory end at r h = h
 
 module _ (total : Bool) (allowed : ReadErrorCode → Bool) (s : Input) (bs : List ℕ) (tells : Tells s bs) (zero : s.offset ≡ 0) where

@@ -8,12 +8,12 @@ use Rattle.cbor_model.specs.RawReader.{Begins}
 use Rattle.cbor_model.specs.Readable.{SpellsAs}
 use Rattle.cbor_model.specs.Reader.{Fault, item_at}
 use Rattle.cbor_model.proofs.facts.Reader.{ok_is, item_found, item_again}
-use Rattle.cbor_io.specs.Source.{Input}
+use Rattle.cbor_read.specs.Source.{Input}
 use Rattle.cbor_io.specs.Error.{code_of, offset_of, IsOutOfMemory}
 use Rattle.cbor_io.specs.declared.error.Error.{Error}
 use Rattle.cbor_io.specs.declared.error.ErrorCode.{ErrorCode}
 use Rattle.cbor_io.specs.declared.error.ErrorCode.TheVariants as code
-use Rattle.cbor_io.specs.declared.read.read_error.ReadErrorCode.{ReadErrorCode}
+use Rattle.cbor_io.specs.declared.read_error.ReadErrorCode.{ReadErrorCode}
 use Rattle.cbor_de.specs.Gives.{Limits, limits, Tells, Step, Reports, Ends, end_at, IsMemoryOrFault, IsMemoryOrFaultBy}
 use Rattle.cbor_scalars.specs.Takes.{raws, IsRead, IsNotRead, ExcusedBy, Refuses}
 use Rattle.cbor_typed.specs.Whole.{IsWholeRead, ReadsAll}
@@ -88,6 +88,7 @@ module _ {A : Type 0} (allowed : ReadErrorCode → Bool) (f : Formats) (reads : 
   excused_memory D none code.RecursionLimitExceeded at h = absurd h
   excused_memory D none code.WrongEnumFormat at h = absurd h
   excused_memory D none code.WrongStructFormat at h = absurd h
+  excused_memory D none code.NotCanonical at h = absurd h
   excused_memory D none code.OutOfMemory at h = (refl, h)
 
   memory_or_fault : (D : Type 0) (k : ErrorCode) (at : ℕ) → ExcusedBy D k at → IsMemoryOrFaultBy k × (at ≡ 0)
@@ -107,6 +108,7 @@ module _ {A : Type 0} (allowed : ReadErrorCode → Bool) (f : Formats) (reads : 
   memory_or_fault D code.RecursionLimitExceeded at h = absurd h
   memory_or_fault D code.WrongEnumFormat at h = absurd h
   memory_or_fault D code.WrongStructFormat at h = absurd h
+  memory_or_fault D code.NotCanonical at h = absurd h
   memory_or_fault D code.OutOfMemory at h = (tt, h)
 
   -- where the item is there, a refusal is excused

@@ -14,3 +14,4 @@ pub mod Slots
 pub mod Structs
 pub mod StructLoops
 pub mod Enums
+pub mod StreamSteps

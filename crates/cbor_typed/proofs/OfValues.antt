@@ -9,9 +9,9 @@ use Rattle.cbor_model.specs.Reader.{Fault, item_at}
 use Rattle.cbor_model.specs.Value.{value}
 use Rattle.cbor_model.proofs.facts.Reader.{ok_is}
 use Rattle.cbor_io.specs.declared.error.Error.{Error}
-use Rattle.cbor_io.specs.declared.read.read_error.ReadErrorCode.{ReadErrorCode}
+use Rattle.cbor_io.specs.declared.read_error.ReadErrorCode.{ReadErrorCode}
 use Rattle.cbor_io.specs.Error.{code_of, offset_of, IsOutOfMemory}
-use Rattle.cbor_io.specs.Source.{Input}
+use Rattle.cbor_read.specs.Source.{Input}
 use Rattle.cbor_value.specs.declared.Float.{Float}
 use Rattle.cbor_value.specs.declared.Value.{Value, Null, Integer, the_lemmas}
 use Rattle.cbor_value.specs.declared.Value.{Bool as of_bool, Float as of_float}

@@ -4,10 +4,10 @@ use Rattle.std.proofs.Common.{◌≡◌, ◌<◌, ◌≤◌, ℕ, zero, suc, ◌
 use Rattle.std.specs.Option.{is_some}
 use Rattle.std.specs.Prelude.{IfSome, IsErrAnd, MatchOption}
 use Rattle.cbor_model.specs.Reader.{item_at}
-use Rattle.cbor_io.specs.Source.{Input}
+use Rattle.cbor_read.specs.Source.{Input}
 use Rattle.cbor_io.specs.Error.{code_of, offset_of}
 use Rattle.cbor_io.specs.declared.error.Error.{Error}
-use Rattle.cbor_io.specs.declared.read.read_error.ReadErrorCode.{ReadErrorCode}
+use Rattle.cbor_io.specs.declared.read_error.ReadErrorCode.{ReadErrorCode}
 use Rattle.cbor_de.specs.Gives.{Step}
 use Rattle.cbor_de.specs.Heads.{remaining_of}
 use Rattle.cbor_de.specs.declared.cursor.Remaining.TheVariants.{Counted}

@@ -1,4 +1,5 @@
 -- What the crates above may cite of this crate's proofs, and nothing else.
+pub mod Readings
 pub mod Values
 pub mod Structs
 pub mod Enums

@@ -5,9 +5,9 @@ use Rattle.cbor_model.specs.Formats.{Formats, all_formats}
 use Rattle.cbor_model.specs.Readable.{Context}
 use Rattle.cbor_model.specs.Reader.{item_at}
 use Rattle.cbor_io.specs.declared.error.Error.{Error}
-use Rattle.cbor_io.specs.declared.read.read_error.ReadErrorCode.{ReadErrorCode}
+use Rattle.cbor_io.specs.declared.read_error.ReadErrorCode.{ReadErrorCode}
 use Rattle.cbor_io.specs.Error.{code_of, offset_of}
-use Rattle.cbor_io.specs.Source.{Input}
+use Rattle.cbor_read.specs.Source.{Input}
 use Rattle.cbor_de.specs.Gives.{limits, Tells, Reports, whole_at}
 use Rattle.cbor_scalars.specs.Takes.{raws, IsRead, ExcusedBy, WhereTotal, TellsFault}
 

@@ -1,22 +1,23 @@
 //! What reads types from a source.
 
-ghost use Rattle.std.specs.Prelude.{◌≡◌, false, [], None, Some, length};
+ghost use Rattle.std.specs.Prelude.{◌≡◌, ◌≤◌, false, [], None, Some, length};
 ghost use Rattle.cbor_model.specs.Acceptable.{max_depth};
 ghost use Rattle.cbor_model.specs.Formats.{all_formats};
-ghost use Rattle.cbor_io.specs.Source.{slice_input, reader_input};
-ghost use Rattle.cbor_io.specs.Sources.{input_of_slice, input_of_slice_fixed, input_of_mut_slice};
-ghost use Rattle.cbor_io.specs.Sources.{input_of_reader};
+ghost use Rattle.cbor_read.specs.Source.{slice_input, reader_input};
+ghost use Rattle.cbor_read.specs.Sources.{input_of_slice, input_of_slice_fixed, input_of_mut_slice};
+ghost use Rattle.cbor_read.specs.Sources.{input_of_reader};
 ghost use Rattle.cbor_de.specs.Gives.{Ends};
 ghost use Rattle.cbor_scalars.specs.Takes.{formats_of};
 
 use cbor_de::Deserializer as Items;
 use cbor_io::error::Result;
-use cbor_io::read::{IoRead, MutSliceRead, Offset, SliceRead, SliceReadFixed, Source};
+use cbor_read::{IoRead, MutSliceRead, Offset, SliceRead, SliceReadFixed, Source};
 use std::alloc::Global;
 use std::io;
 
 /// Reads types from a source: a slice, a slice with a scratch, a slice that is rewritten, any
-/// reader, or a source of the caller's own. Arrays, maps and tags may be nested 127 levels deep.
+/// reader, or a source of the caller's own. Arrays, maps and tags may be nested 127 levels deep, or as
+/// many as [`nesting_limit`](Deserializer::nesting_limit) says.
 ///
 /// ```rust
 /// let mut de = Deserializer::from_slice(alloc, b"\x18\x2a\xf5");
@@ -101,6 +102,29 @@ impl<R: Source> Deserializer<R> {
         Deserializer {
             items: Items::new(alloc, source),
         }
+    }
+
+    /// Arrays, maps and tags may be nested so many levels deep from now on, in place of 127, and at
+    /// most 254: `RecursionLimitExceeded`, behind the head of the array, map or tag that is one level
+    /// more. The chunks of a string are no level. It and the other switches may come in any order.
+    ///
+    /// That `n` is at most 254, and that no tag of [`read_tag`](Deserializer::read_tag) stands, are
+    /// the caller's conditions.
+    ///
+    /// ```rust
+    /// let mut de = Deserializer::from_slice(alloc, b"\x81\x81\x00").nesting_limit(1);
+    /// assert!(rt; Value::deserialize(&mut de).is_err());
+    /// assert_eq!(rt; de.byte_offset(), 2);
+    /// ```
+    pub fn nesting_limit(self, n: u8) -> Deserializer<R>
+        requires { n ≤ 254 }
+        ensures levels { result.items.levels ≡ n }
+        ensures source { result.items.source ≡ self.items.source }
+        ensures formats { formats_of result.items.formats ≡ formats_of self.items.formats }
+    {
+        let mut items = self.items;
+        items.levels = n;
+        Deserializer { items }
     }
 
     /// Maps with names among their keys are refused from now on: a key that is a text is

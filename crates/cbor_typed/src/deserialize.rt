@@ -5,7 +5,7 @@ ghost use Rattle.cbor_scalars.specs.Takes.{TakesItem, TellsItem, context, format
 
 use crate::de::Deserializer;
 use cbor_io::error::Result;
-use cbor_io::read::Read;
+use cbor_read::Read;
 
 /// What a type reads, whatever the source.
 ///
@@ -182,7 +182,7 @@ pub trait Deserialize<'de, R: Read<'de>>: Readable {
 pub trait DeserializeOwned: Readable {
     ghost use Rattle.cbor_model.specs.Formats.{Formats};
     ghost use Rattle.cbor_model.specs.Raw.{Raw};
-    ghost use Rattle.cbor_io.specs.Source.{Lends};
+    ghost use Rattle.cbor_read.specs.Source.{Lends};
     ghost use Rattle.cbor_scalars.specs.Takes.{lending};
 
     ghost same: { (f : Formats) (a b : Lends) (r : Raw) (x : Self)

@@ -21,7 +21,7 @@ ghost use Rattle.cbor_typed.specs.Whole.{from_mut_slice_context, from_reader_con
 use crate::de::Deserializer;
 use crate::deserialize::{Deserialize, DeserializeOwned};
 use cbor_io::error::Result;
-use cbor_io::read::{IoRead, MutSliceRead, Read, SliceRead, SliceReadFixed};
+use cbor_read::{IoRead, MutSliceRead, Read, SliceRead, SliceReadFixed};
 use std::alloc::Global;
 use std::io;
 

@@ -1,5 +1,7 @@
-//! A law about the four `from_*`, which is the contract of a function that does nothing.
-ghost use Rattle.cbor_typed.specs.Alike.{SourcesAgree};
+//! Laws about the four `from_*`, which are the contracts of functions that do nothing.
+ghost use Rattle.cbor_typed.specs.Alike.{SourcesAgree, OwnedAgree};
+
+use crate::deserialize::DeserializeOwned;
 
 /// Two readings of one input as a `Value` answer alike, whatever their sources: the same value; or
 /// errors of one code at one offset, since there is one first refusal. Only want of memory, a
@@ -10,4 +12,14 @@ ghost use Rattle.cbor_typed.specs.Alike.{SourcesAgree};
 /// `reading_of_reader` of those of a call from a reader.
 pub fn sources_agree()
     ensures { SourcesAgree }
+{}
+
+/// Two readings of one input as a type that borrows nothing agree, whatever their sources lend: one
+/// item is read as both answers, or both refuse. So a slice and one that is rewritten in place give
+/// the same, want of memory aside.
+///
+/// A caller gives it the answers of two `from_*` of the same bytes (`IsReadingAs`), which the clauses
+/// `found` and `accepted` of each say.
+pub fn owned_agree<T: DeserializeOwned>()
+    ensures { OwnedAgree T.reads }
 {}

@@ -16,6 +16,7 @@ mod laws;
 mod map;
 mod scalars;
 mod sequence;
+mod stream;
 mod structure;
 mod tags;
 mod types;
@@ -23,7 +24,7 @@ mod variant;
 
 pub use cbor_collections::variant::Form;
 pub use cbor_de::{Formats, Remaining};
-pub use cbor_io::read::{
+pub use cbor_read::{
     EitherLifetime, IoRead, MutSliceRead, Offset, Read, ReadError, ReadErrorCode, SliceRead,
     SliceReadFixed, Source,
 };
@@ -31,9 +32,10 @@ pub use cbor_scalars::lent::{EitherStr, Unread};
 pub use de::Deserializer;
 pub use deserialize::{Deserialize, DeserializeOwned, Readable};
 pub use from::{from_mut_slice, from_reader, from_slice, from_slice_with_scratch};
-pub use laws::sources_agree;
+pub use laws::{owned_agree, sources_agree};
 pub use map::MapAccess;
 pub use sequence::SeqAccess;
+pub use stream::StreamDeserializer;
 pub use structure::{Field, StructAccess};
 pub use types::IgnoredAny;
 pub use variant::VariantAccess;

@@ -19,7 +19,7 @@ use crate::deserialize::Deserialize;
 use cbor_collections::map::{end_map, map_head, more_pairs, no_key};
 use cbor_de::Remaining;
 use cbor_io::error::{Error, Result};
-use cbor_io::read::{Read, Source};
+use cbor_read::{Read, Source};
 
 impl<R: Source> Deserializer<R> {
     /// Takes the tags and the head of a map, and goes one level in for its pairs.

@@ -16,7 +16,7 @@ ghost use Rattle.cbor_typed.specs.contracts.de.Deserializer.{the_row as typed_ro
 use crate::de::Deserializer;
 use cbor_de::{Done, Head};
 use cbor_io::error::{Error, Result};
-use cbor_io::read::{EitherLifetime, Read, Source};
+use cbor_read::{EitherLifetime, Read, Source};
 use cbor_scalars::lent::{EitherStr, Unread};
 use cbor_scalars::{integer, lent, opening, scalar};
 use cbor_value::Float;

@@ -16,7 +16,7 @@ use crate::deserialize::Deserialize;
 use cbor_collections::array::{array_head, end_array, more_items, no_item};
 use cbor_de::Remaining;
 use cbor_io::error::{Error, Result};
-use cbor_io::read::{Read, Source};
+use cbor_read::{Read, Source};
 
 impl<R: Source> Deserializer<R> {
     /// Takes the tags and the head of an array, and goes one level in for its items.

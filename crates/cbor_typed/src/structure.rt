@@ -24,7 +24,7 @@ use crate::types::IgnoredAny;
 use cbor_collections::map::{end_map, map_head, more_pairs};
 use cbor_de::Remaining;
 use cbor_io::error::{Error, Result};
-use cbor_io::read::{Read, ReadErrorCode, Source};
+use cbor_read::{Read, ReadErrorCode, Source};
 use cbor_scalars::identifier::{Named, Why, identifier, unnamed};
 use std::alloc::Global;
 

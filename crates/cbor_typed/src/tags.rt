@@ -8,7 +8,7 @@ ghost use Rattle.cbor_scalars.specs.Takes.{formats_of};
 
 use crate::de::Deserializer;
 use cbor_io::error::Result;
-use cbor_io::read::Source;
+use cbor_read::Source;
 use cbor_scalars::tags;
 
 impl<R: Source> Deserializer<R> {

@@ -26,7 +26,7 @@ use cbor_collections::array::end_array;
 use cbor_collections::variant::{Form, expect_item, no_part, parts, variant_head};
 use cbor_de::Remaining;
 use cbor_io::error::{Error, ErrorCode, Result};
-use cbor_io::read::{Read, Source};
+use cbor_read::{Read, Source};
 
 impl<'de, R: Read<'de>> Deserializer<R> {
     /// Takes an enum up to its identifier: the tags, the head of an array or of a map of one pair,

@@ -5,7 +5,7 @@ ghost use Rattle.cbor_scalars.specs.Strings.{IsOneOf, text_bytes};
 use crate::de::Deserializer;
 use crate::deserialize::{Deserialize, DeserializeOwned, Readable};
 use cbor_io::error::{Error, Result};
-use cbor_io::read::Read;
+use cbor_read::Read;
 use cbor_scalars::lent::EitherStr;
 use std::alloc::Global;
 

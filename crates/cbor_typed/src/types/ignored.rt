@@ -3,7 +3,7 @@
 use crate::de::Deserializer;
 use crate::deserialize::{Deserialize, DeserializeOwned, Readable};
 use cbor_io::error::Result;
-use cbor_io::read::Read;
+use cbor_read::Read;
 
 /// Any item, of which nothing is kept: it has to be acceptable, with keys of the formats that are
 /// read.

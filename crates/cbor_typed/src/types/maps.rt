@@ -3,7 +3,7 @@
 use crate::de::Deserializer;
 use crate::deserialize::{Deserialize, DeserializeOwned, Readable};
 use cbor_io::error::{Error, Result};
-use cbor_io::read::Read;
+use cbor_read::Read;
 use std::alloc::AllocError;
 use std::collections::BTreeMap;
 

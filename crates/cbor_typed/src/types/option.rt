@@ -3,7 +3,7 @@
 use crate::de::Deserializer;
 use crate::deserialize::{Deserialize, DeserializeOwned, Readable};
 use cbor_io::error::Result;
-use cbor_io::read::Read;
+use cbor_read::Read;
 use cbor_scalars::optional::take_null;
 
 // Null is None, by its first byte alone: neither undefined nor a tagged null is.

@@ -8,7 +8,7 @@ ghost use Rattle.cbor_scalars.specs.Takes.{TakesItem, context, formats_of};
 use crate::de::Deserializer;
 use crate::deserialize::{Deserialize, DeserializeOwned, Readable};
 use cbor_io::error::{Error, Result};
-use cbor_io::read::Read;
+use cbor_read::Read;
 use std::alloc::AllocError;
 
 /// An array, item by item. Nothing is reserved by a declared count.

@@ -3,7 +3,7 @@
 use crate::de::Deserializer;
 use crate::deserialize::{Deserialize, DeserializeOwned, Readable};
 use cbor_io::error::{Error, Result};
-use cbor_io::read::{EitherLifetime, Read};
+use cbor_read::{EitherLifetime, Read};
 use cbor_scalars::lent::EitherStr;
 use cbor_scalars::strings::{NO_STRING, read_string};
 

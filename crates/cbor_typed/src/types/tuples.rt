@@ -3,7 +3,7 @@
 use crate::de::Deserializer;
 use crate::deserialize::{Deserialize, DeserializeOwned, Readable};
 use cbor_io::error::Result;
-use cbor_io::read::Read;
+use cbor_read::Read;
 
 /// An array of exactly one item.
 impl<A: Readable> Readable for (A,) {

@@ -2,7 +2,7 @@ use Rattle.std.proofs.Common.{IfErr, [], None, refl, subst, arith}
 use Rattle.cbor_model.specs.Acceptable.{max_depth}
 use Rattle.cbor_model.specs.Formats.{all_formats}
 use Rattle.cbor_model.specs.Raw.{AreBytes}
-use Rattle.cbor_io.specs.Source.{Input, slice_input, mut_refusals}
+use Rattle.cbor_read.specs.Source.{Input, slice_input, mut_refusals}
 use Rattle.cbor_de.specs.Gives.{Tells}
 use Rattle.cbor_typed.specs.Whole.{ReadsAll, TellsWhole, from_mut_slice_context}
 use Rattle.cbor_typed.proofs.Every.{every}

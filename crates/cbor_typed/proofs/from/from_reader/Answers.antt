@@ -1,7 +1,7 @@
 use Rattle.std.proofs.Common.{IfErr, [], None, refl, subst, arith}
 use Rattle.cbor_model.specs.Acceptable.{max_depth}
 use Rattle.cbor_model.specs.Formats.{all_formats}
-use Rattle.cbor_io.specs.Source.{Input, reader_input, reader_refusals}
+use Rattle.cbor_read.specs.Source.{Input, reader_input, reader_refusals}
 use Rattle.cbor_de.specs.Gives.{Tells}
 use Rattle.cbor_typed.specs.Whole.{ReadsAll, TellsWhole, from_reader_context}
 use Rattle.cbor_typed.proofs.Every.{every_or_fault}

@@ -1,0 +1,34 @@
+-- Items that stand one behind the other in the bytes: their spellings, joined.
+use Rattle.std.specs.Prelude.{◌≡◌, ◌≤◌, ℕ, List, [], ◌∷◌, ◌++◌, length, flat_map, refl}
+use Rattle.std.specs.List.{AllByRecursion}
+use Rattle.cbor_model.specs.Head.{no_bytes}
+use Rattle.cbor_model.specs.Raw.{Raw, unsigned, simple, null_item}
+use Rattle.cbor_model.specs.Spelling.{spell}
+use Rattle.cbor_model.specs.Acceptable.{IsAcceptable}
+
+-- The spellings of these acceptable items, joined, are a front of the bytes, and the rest follows.
+pub record ItemsBegin (bytes : List ℕ) (items : List Raw) (rest : List ℕ) : Type 0 where
+  pub acceptable : AllByRecursion IsAcceptable items
+  pub spelled : bytes ≡ flat_map spell items ++ rest
+
+-- Joined, they are the bytes.
+abbrev pub AreItems : List ℕ → List Raw → Type 0
+AreItems bytes items = ItemsBegin bytes items []
+
+-- No longer list of acceptable items begins the bytes.
+pub record AreMostItems (bytes : List ℕ) (items : List Raw) (rest : List ℕ) : Type 0 where
+  pub begin : ItemsBegin bytes items rest
+  pub most : (others : List Raw) (after : List ℕ) → ItemsBegin bytes others after → length others ≤ length items
+
+-- a longest list, and what follows its items
+pub record HasMostItems (bytes : List ℕ) : Type 0 where
+  pub items : List Raw
+  pub rest : List ℕ
+  pub are : AreMostItems bytes items rest
+
+-- ---- examples
+
+-- 01 f6 is 1 and null
+one_and_null : flat_map spell (unsigned no_bytes 1 ∷ simple null_item ∷ []) ≡ 0x01 ∷ 0xf6 ∷ []
+unfolding spell
+one_and_null = refl

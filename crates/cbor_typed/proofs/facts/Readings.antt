@@ -1,0 +1,6 @@
+-- Published: what a reading says of another.
+
+-- where a type reads every item, one promise for another
+pub use Rattle.cbor_typed.proofs.Faults.{where_map}
+-- what is read as a value is the value of the item that is read
+pub use Rattle.cbor_typed.proofs.Mapped.{along, value_seen}
