@@ -1,0 +1,9 @@
+pub mod Copied
+pub mod Clean
+pub mod Walked
+pub mod Fronts
+pub mod Completed
+pub mod Departed
+pub mod Strict
+pub mod Walking
+pub mod Glue

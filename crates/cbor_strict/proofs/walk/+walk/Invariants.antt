@@ -1,0 +1,30 @@
+use Rattle.std.proofs.Common.{◌≡◌, ◌≤◌, ◌-◌, ◌+◌, ◌*◌, ℕ, [], length}
+use Rattle.cbor_strict.specs.Walk.{all_walk, pairs_walk, walk}
+use Rattle.cbor_strict.specs.Walks.{last}
+use Rattle.cbor_strict.proofs.walk.+walk.Given as goal
+
+abbrev pub decreases-content : goal.decreases-content
+decreases-content l = 3 * length l.bytes.now + 2
+
+abbrev pub decreases-item : goal.decreases-item
+decreases-item l = 3 * length l.bytes.now
+
+abbrev pub decreases-items : goal.decreases-items
+decreases-items l = 3 * length l.bytes.now + 1
+
+abbrev pub decreases-pairs : goal.decreases-pairs
+decreases-pairs l = 3 * length l.bytes.now + 1
+
+abbrev pub invariant-items-loop-i : goal.invariant-items-loop-i
+invariant-items-loop-i l = record {
+  within : length l.rest ≤ length l.fn.bytes;
+  is_last : l.rest ≡ last (length l.rest) l.fn.bytes;
+  so_far : (fuel : ℕ) → length l.fn.bytes ≤ fuel → all_walk (walk fuel) l.fn.n l.fn.bytes ≡ all_walk (walk fuel) (l.fn.n - l._i) l.rest;
+}
+
+abbrev pub invariant-pairs-loop-i : goal.invariant-pairs-loop-i
+invariant-pairs-loop-i l = record {
+  within : length l.rest ≤ length l.fn.bytes;
+  is_last : l.rest ≡ last (length l.rest) l.fn.bytes;
+  so_far : (fuel : ℕ) → length l.fn.bytes ≤ fuel → pairs_walk (walk fuel) l.fn.n [] l.fn.bytes ≡ pairs_walk (walk fuel) (l.fn.n - l._i) l.before l.rest;
+}

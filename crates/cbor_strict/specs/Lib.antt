@@ -1,0 +1,5 @@
+pub mod Departure
+pub mod Walk
+pub mod Strict
+pub mod Walks
+pub mod StrictAnswers

@@ -1,0 +1,14 @@
+//! Strict reading: only the canonical spelling of a value is read.
+//!
+//! The ordinary reader reads; a walk over the same bytes then looks for the first departure from
+//! the canonical spelling, without memory.
+#![tactic(auto)]
+
+mod from;
+mod laws;
+#[cfg(test)]
+mod tests;
+mod walk;
+
+pub use from::from_slice_canonical;
+pub use laws::{first_shown_is_first, keys_compare_by_bytes, none_where_canonical};

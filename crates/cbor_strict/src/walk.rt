@@ -1,0 +1,242 @@
+//! Going through the bytes of an item up to its first departure from the canonical form.
+//!
+//! Nothing is kept of the item, so it takes no memory. It goes past definite lengths alone, since an
+//! indefinite one is a departure, and past a string in one step.
+
+ghost use Rattle.std.specs.Prelude.{◌≡◌, ◌≢◌, ◌<◌, ◌≤◌, ◌-◌, ◌/◌, ◌%◌, [], length, nat_lt, take, MatchBool};
+ghost use Rattle.std.specs.Prelude.{MatchOption};
+ghost use Rattle.std.specs.declared.cmp.Ordering.TheVariants.{Less};
+ghost use Rattle.cbor_strict.specs.Departure.{floor};
+ghost use Rattle.cbor_model.specs.Major.{major_of};
+ghost use Rattle.cbor_model.specs.Order.{lex};
+ghost use Rattle.cbor_model.specs.Reader.{number_behind, width_of};
+ghost use Rattle.cbor_strict.specs.Walk.{all_walk, content_walk, pairs_walk, past, simple_walk, walk};
+ghost use Rattle.cbor_strict.specs.Walks.{last, IsNumber, IsWithin, StopsNumber, TellsDeparture, Walks};
+
+use std::cmp::Ordering;
+
+/// What came of going on.
+#[derive(Clone, Copy)]
+pub enum Walk {
+    /// No departure, and so many bytes behind.
+    Passed(usize),
+    /// The first departure, and so many bytes behind what shows it.
+    Departed(usize),
+    /// No departure up to where no item goes on so, or the bytes end.
+    Stopped,
+}
+
+/// The offset at which the bytes show that no canonical spelling goes on so, or none where they end
+/// or are at fault before that.
+pub(crate) fn first_departure(bytes: &[u8]) -> Option<usize>
+    ensures { TellsDeparture bytes.now result }
+{
+    match item(bytes) {
+        Walk::Departed(left) => Some(bytes.len() - left),
+        _ => None,
+    }
+}
+
+/// Goes past an item.
+#[cycle(walk)]
+fn item(bytes: &[u8]) -> Walk
+    ensures walks { Walks bytes.now walk result }
+    ensures within { IsWithin (length bytes.now) result }
+{
+    match bytes.split_first() {
+        Some((first, rest)) => content(*first, rest),
+        None => Walk::Stopped,
+    }
+}
+
+/// Goes past what follows a first byte.
+#[cycle(walk)]
+#[inline(always)]
+fn content(first: u8, bytes: &[u8]) -> Walk
+    ensures walks { Walks bytes.now
+        (λ fuel. content_walk (walk fuel) (major_of (first / 32)) (first % 32)) result }
+    ensures within { IsWithin (length bytes.now) result }
+{
+    let major = first / 32;
+    let low = first % 32;
+    if major == 7 {
+        return simple(low, bytes);
+    }
+    if low == 31 {
+        if major < 2 || major == 6 {
+            return Walk::Stopped;
+        }
+        return Walk::Departed(bytes.len());
+    }
+    match number(low, bytes) {
+        Some((n, left)) => {
+            if is_long(low, n) {
+                return Walk::Departed(left);
+            }
+            if major <= 1 {
+                return Walk::Passed(left);
+            }
+            let rest = behind(bytes, left);
+            if major <= 3 {
+                past(n, rest)
+            } else if major == 4 {
+                items(n, rest)
+            } else if major == 5 {
+                pairs(n, rest)
+            } else {
+                item(rest)
+            }
+        }
+        None => Walk::Stopped,
+    }
+}
+
+/// Goes past n items.
+#[cycle(walk)]
+#[inline(never)]
+fn items(n: u64, bytes: &[u8]) -> Walk
+    ensures walks { Walks bytes.now (λ fuel. all_walk (walk fuel) n) result }
+    ensures within { IsWithin (length bytes.now) result }
+{
+    let mut rest = bytes;
+    for _i in 0..n {
+        match item(rest) {
+            Walk::Passed(left) => rest = behind(rest, left),
+            other => return other,
+        }
+    }
+    Walk::Passed(rest.len())
+}
+
+/// Goes past n pairs, whose keys' bytes ascend.
+#[cycle(walk)]
+#[inline(never)]
+fn pairs(n: u64, bytes: &[u8]) -> Walk
+    ensures walks { Walks bytes.now (λ fuel. pairs_walk (walk fuel) n []) result }
+    ensures within { IsWithin (length bytes.now) result }
+{
+    let mut rest = bytes;
+    // No key is empty, so the first is above none.
+    let mut before = &bytes[..0];
+    for _i in 0..n {
+        match item(rest) {
+            Walk::Passed(left) => {
+                let key = ahead(rest, left);
+                if !ascends(before, key) {
+                    return Walk::Departed(left);
+                }
+                before = key;
+                rest = behind(rest, left);
+            }
+            other => return other,
+        }
+        match item(rest) {
+            Walk::Passed(left) => rest = behind(rest, left),
+            other => return other,
+        }
+    }
+    Walk::Passed(rest.len())
+}
+
+/// The last so many bytes.
+#[inline(always)]
+fn behind(bytes: &[u8], left: usize) -> &[u8]
+    requires { left ≤ length bytes.now }
+    ensures { result.now ≡ last left bytes.now }
+{
+    &bytes[bytes.len() - left..]
+}
+
+/// The bytes ahead of the last so many.
+#[inline(always)]
+fn ahead(bytes: &[u8], left: usize) -> &[u8]
+    requires { left ≤ length bytes.now }
+    ensures { result.now ≡ take (length bytes.now - left) bytes.now }
+{
+    &bytes[..bytes.len() - left]
+}
+
+/// Whether a key of these bytes is above the one before it.
+#[inline(always)]
+fn ascends(before: &[u8], key: &[u8]) -> bool
+    ensures { MatchBool result (lex before.now key.now ≡ Less) (lex before.now key.now ≢ Less) }
+{
+    match before.cmp(key) {
+        Ordering::Less => true,
+        _ => false,
+    }
+}
+
+/// Goes past n bytes.
+#[inline(always)]
+fn past(n: u64, bytes: &[u8]) -> Walk
+    ensures walks { Walks bytes.now (λ fuel. past n) result }
+    ensures within { IsWithin (length bytes.now) result }
+{
+    let len = bytes.len() as u64;
+    if len < n {
+        Walk::Stopped
+    } else {
+        Walk::Passed((len - n) as usize)
+    }
+}
+
+/// Goes past what follows a first byte of major type 7.
+#[tactic(auto, using(crate::proofs::Walking::last_all), unfolding(crate::specs::Walk::simple_walk))]
+#[inline(always)]
+fn simple(low: u8, bytes: &[u8]) -> Walk
+    ensures walks { Walks bytes.now (λ fuel. simple_walk low) result }
+    ensures within { IsWithin (length bytes.now) result }
+{
+    match low {
+        20 | 21 | 22 => Walk::Passed(bytes.len()),
+        23 => Walk::Departed(bytes.len()),
+        25 => past(2, bytes),
+        26 => past(4, bytes),
+        27 => past(8, bytes),
+        _ => Walk::Stopped,
+    }
+}
+
+/// The number behind a first byte with these lower five bits, and how many bytes are behind it.
+#[tactic(auto, using(crate::proofs::Walking::last_all), unfolding(cbor_model::specs::Reader::number_behind))]
+#[inline(always)]
+fn number(low: u8, bytes: &[u8]) -> Option<(u64, usize)>
+    ensures { MatchOption result (StopsNumber low bytes.now) (IsNumber low bytes.now) }
+{
+    match low {
+        0..=23 => Some((low as u64, bytes.len())),
+        24 => {
+            let (n, rest) = bytes.split_first_chunk::<1>()?;
+            Some((n[0] as u64, rest.len()))
+        }
+        25 => {
+            let (n, rest) = bytes.split_first_chunk::<2>()?;
+            Some((u16::from_be_bytes(*n) as u64, rest.len()))
+        }
+        26 => {
+            let (n, rest) = bytes.split_first_chunk::<4>()?;
+            Some((u32::from_be_bytes(*n) as u64, rest.len()))
+        }
+        27 => {
+            let (n, rest) = bytes.split_first_chunk::<8>()?;
+            Some((u64::from_be_bytes(*n), rest.len()))
+        }
+        _ => None,
+    }
+}
+
+/// Whether a number behind such a first byte fits a narrower width.
+#[inline(always)]
+fn is_long(low: u8, n: u64) -> bool
+    requires { low < 28 }
+    ensures { result ≡ nat_lt n (floor (width_of low)) }
+{
+    match low {
+        24 => n < 24,
+        25 => n < 0x100,
+        26 => n < 0x1_0000,
+        27 => n < 0x1_0000_0000,
+        _ => false,
+    }
+}
