@@ -120,10 +120,7 @@ impl<'d> Desk<'d> {
 
     // Judges what was read.
     fn judges<T: Debug>(&mut self, row: &Row<'_>, read: &Result<T>) -> io::Result<()> {
-        let said: InlineText<ANSWER> = match read {
-            Ok(value) => InlineText::of(format_args!("{value:?}")),
-            Err(e) => InlineText::of(format_args!("error: {e}")),
-        };
+        let said = said(read);
         let outcome = match read {
             Ok(_) if row.answer.is_empty() => Outcome::Right,
             _ if said.as_str() == row.answer => Outcome::Right,
@@ -168,6 +165,12 @@ impl<'d> Desk<'d> {
     pub fn tells_front(&mut self, len: usize) -> io::Result<()> {
         self.wrong = self.wrong.saturating_add(1);
         println!(self.rt; "{}:{}: first {len} bytes: wrong", self.table, self.line)
+    }
+
+    /// Tells that what is written isn't read strictly as what it was.
+    pub fn tells_strict(&mut self) -> io::Result<()> {
+        self.wrong = self.wrong.saturating_add(1);
+        println!(self.rt; "{}:{}: strict: wrong", self.table, self.line)
     }
 
     /// Tells that a step begins. What stands between this and its end may want memory.
@@ -221,6 +224,14 @@ fn whole<'r, T: Deserialize<'r, R>, R: Read<'r> + Drop>(de: Deserializer<R>) -> 
     let value = T::deserialize(&mut de)?;
     de.end()?;
     Ok(value)
+}
+
+// An answer as a row says it.
+fn said<T: Debug>(read: &Result<T>) -> InlineText<ANSWER> {
+    match read {
+        Ok(value) => InlineText::of(format_args!("{value:?}")),
+        Err(e) => InlineText::of(format_args!("error: {e}")),
+    }
 }
 
 // The bytes of a value, in the form that the row asks for.

@@ -13,6 +13,10 @@ pub struct How {
     pub piece: u8,
     /// Which formats are read.
     pub reads: Formats,
+    /// How many levels deep an item may be nested.
+    pub limit: u8,
+    /// The canonical spelling alone is read, of a slice.
+    pub strict: bool,
     /// Fields and variants are written by their numbers.
     pub packed: bool,
     /// Enums are written as arrays.
@@ -42,6 +46,12 @@ pub struct Formats {
 /// The longest scratch.
 pub const SCRATCH: u8 = 64;
 
+/// How many levels are read where a row doesn't say.
+const LEVELS: u8 = 127;
+
+/// The most levels that a row may ask for.
+const MOST_LEVELS: u8 = 254;
+
 impl How {
     /// By each source, the reader a byte at a time, in all formats; written by names.
     pub fn new() -> How {
@@ -55,6 +65,8 @@ impl How {
                 map_enums: true,
                 array_enums: true,
             },
+            limit: LEVELS,
+            strict: false,
             packed: false,
             legacy: false,
             no_memory: false,
@@ -75,10 +87,17 @@ impl How {
         Some(how)
     }
 
-    /// Whether all formats are read.
+    /// Whether one item is read, in all formats, as deep as where nothing is said.
     pub fn reads_all(&self) -> bool {
         let reads = self.reads;
-        reads.names && reads.numbers && reads.map_enums && reads.array_enums
+        reads.names && reads.numbers && reads.map_enums && reads.array_enums && self.limit == LEVELS
+    }
+
+    /// How many levels deep an item may be nested.
+    pub fn levels(&self) -> u8
+        ensures { result ≤ 254 }
+    {
+        self.limit.min(MOST_LEVELS)
     }
 
     /// How long the scratch is.
@@ -98,6 +117,7 @@ impl How {
             "no numbers" => self.reads.numbers = false,
             "no map enums" => self.reads.map_enums = false,
             "no array enums" => self.reads.array_enums = false,
+            "strict" => self.strict = true,
             "packed" => self.packed = true,
             "legacy" => self.legacy = true,
             "no memory" => self.no_memory = true,
@@ -123,6 +143,7 @@ impl How {
                 self.source = Some(Source::Reader);
                 self.piece = number;
             }
+            "limit" if number <= MOST_LEVELS => self.limit = number,
             _ => return false,
         }
         true

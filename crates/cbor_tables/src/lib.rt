@@ -16,7 +16,7 @@
 //!   and then nothing is written.
 //!
 //! A row of a `Value` by each source, which is read, shows too that each proper front of its bytes is
-//! refused as an end of input.
+//! refused as an end of input, and that what is written of it is read strictly, and written again.
 //!
 //! [`answer`] answers the rows of a table and tells those that are answered otherwise; [`run`] does so for
 //! the tables that a program's words name.
@@ -29,6 +29,7 @@ mod how;
 mod program;
 mod row;
 mod sources;
+mod strict;
 mod table;
 pub mod types;
 

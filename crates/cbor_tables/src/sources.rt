@@ -1,9 +1,9 @@
 //! What bytes are read as, by each source that a row asks for.
 
 use crate::desk::{Desk, Step};
-use crate::how::{Formats, How, SCRATCH, Source};
+use crate::how::{How, SCRATCH, Source};
 use crate::row::Row;
-use crate::{fronts, types};
+use crate::{fronts, strict, types};
 use serde_cbor::de::Source as Bytes;
 use serde_cbor::{
     Deserializer, Value, from_mut_slice, from_reader, from_slice, from_slice_with_scratch,
@@ -38,10 +38,14 @@ impl<'a> io::Read for Pieces<'a> {
 
 /// Judges a row by each source that it asks for; false where its type isn't known.
 pub fn judge(desk: &mut Desk<'_>, row: &Row<'_>) -> io::Result<bool> {
+    if row.how.strict {
+        return strict::judge(desk, row);
+    }
     if row.kind == "Value" && row.how.reads_all() {
         values(desk, row)?;
         if row.how.source.is_none() && row.is_read() && !desk.tells_each {
             fronts::judge(desk, row)?;
+            strict::reads_back(desk, row)?;
         }
         return Ok(true);
     }
@@ -54,7 +58,7 @@ fn slice(desk: &mut Desk<'_>, row: &Row<'_>) -> io::Result<bool> {
     }
     desk.step = Step::Read(Source::Slice);
     let de = Deserializer::from_slice(desk.rt.alloc(), &row.bytes);
-    types::judge(desk, row, switched(de, row.how.reads))
+    types::judge(desk, row, switched(de, row.how))
 }
 
 fn scratch(desk: &mut Desk<'_>, row: &Row<'_>) -> io::Result<bool> {
@@ -65,7 +69,7 @@ fn scratch(desk: &mut Desk<'_>, row: &Row<'_>) -> io::Result<bool> {
     let mut room = [0; SCRATCH as usize];
     let room = &mut room[..row.how.scratch_len()];
     let de = Deserializer::from_slice_with_scratch(desk.rt.alloc(), &row.bytes, room);
-    types::judge(desk, row, switched(de, row.how.reads))
+    types::judge(desk, row, switched(de, row.how))
 }
 
 fn in_place(desk: &mut Desk<'_>, row: &Row<'_>) -> io::Result<bool> {
@@ -75,7 +79,7 @@ fn in_place(desk: &mut Desk<'_>, row: &Row<'_>) -> io::Result<bool> {
     desk.step = Step::Read(Source::InPlace);
     let mut copy = row.bytes.clone()?;
     let de = Deserializer::from_mut_slice(desk.rt.alloc(), &mut copy);
-    types::judge(desk, row, switched(de, row.how.reads))
+    types::judge(desk, row, switched(de, row.how))
 }
 
 fn reader(desk: &mut Desk<'_>, row: &Row<'_>) -> io::Result<bool> {
@@ -85,7 +89,7 @@ fn reader(desk: &mut Desk<'_>, row: &Row<'_>) -> io::Result<bool> {
     desk.step = Step::Read(Source::Reader);
     let pieces = Pieces::new(&row.bytes, row.how.piece);
     let de = Deserializer::from_reader(desk.rt.alloc(), pieces);
-    types::judge(desk, row, switched(de, row.how.reads))
+    types::judge(desk, row, switched(de, row.how))
 }
 
 // Judges a row of a value, by the calls that read a whole input.
@@ -118,8 +122,10 @@ fn values(desk: &mut Desk<'_>, row: &Row<'_>) -> io::Result<()> {
     Ok(())
 }
 
-fn switched<R: Bytes>(de: Deserializer<R>, formats: Formats) -> Deserializer<R> {
-    let mut de = de;
+// In the formats of a row, and as deep.
+fn switched<R: Bytes>(de: Deserializer<R>, how: How) -> Deserializer<R> {
+    let formats = how.reads;
+    let mut de = de.nesting_limit(how.levels());
     if !formats.names {
         de = de.disable_named_format();
     }

@@ -19,8 +19,8 @@ pub use Rattle.cbor_model.specs.Readable
 pub use Rattle.cbor_model.specs.Parts
 pub use Rattle.cbor_io.specs.Error
 pub use Rattle.cbor_io.specs.ReadError
-pub use Rattle.cbor_io.specs.Source
-pub use Rattle.cbor_io.specs.Sources
+pub use Rattle.cbor_read.specs.Source
+pub use Rattle.cbor_read.specs.Sources
 pub use Rattle.cbor_io.specs.Write
 pub use Rattle.cbor_value.specs.View
 pub use Rattle.cbor_value.specs.Search
@@ -30,6 +30,13 @@ pub use Rattle.cbor_de.specs.FirstRefusal
 pub use Rattle.cbor_scalars.specs.Takes
 pub use Rattle.cbor_typed.specs.Whole
 pub use Rattle.cbor_typed.specs.Alike
+pub use Rattle.cbor_typed.specs.Streams
+pub use Rattle.cbor_stream.specs.Items
+pub use Rattle.cbor_stream.specs.ItemLaws
+pub use Rattle.cbor_stream.specs.StreamAnswers
+pub use Rattle.cbor_strict.specs.Departure
+pub use Rattle.cbor_strict.specs.Strict
+pub use Rattle.cbor_strict.specs.StrictAnswers
 pub use Rattle.cbor_collections.specs.Accesses
 pub use Rattle.cbor_collections.specs.Arrays
 pub use Rattle.cbor_collections.specs.Maps

@@ -12,19 +12,22 @@
 //! assert_eq!(rt; bytes.as_slice(), [0xa2, 1, 0, 2, 0].as_slice());
 //! ```
 //!
-//! The items stand in crates of their own, `cbor_io`, `cbor_value`, `cbor_ser` and
-//! `cbor_typed`. This
-//! one has them all under the paths of the Rust crate, and passes on the words that their contracts
-//! use, so that a crate above names no other.
+//! The items stand in crates of their own, as `cbor_value`, `cbor_ser` and `cbor_typed`. This one has
+//! them all under the paths of the Rust crate, and passes on the words that their contracts use, so
+//! that a crate above names no other but `cbor_value`, where it handles a `Value`.
 #![tactic(auto)]
 
 pub use cbor_io::error;
 pub use cbor_io::error::{Error, Result};
 pub use cbor_ser as ser;
 pub use cbor_ser::{Serializer, to_vec, to_writer};
+pub use cbor_stream as stream;
+pub use cbor_strict as strict;
+pub use cbor_strict::from_slice_canonical;
 pub use cbor_typed as de;
 pub use cbor_typed::{
-    Deserializer, Formats, from_mut_slice, from_reader, from_slice, from_slice_with_scratch,
+    Deserializer, Formats, StreamDeserializer, from_mut_slice, from_reader, from_slice,
+    from_slice_with_scratch,
 };
 pub use cbor_value as value;
 pub use cbor_value::Value;
