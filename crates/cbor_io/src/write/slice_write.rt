@@ -57,7 +57,7 @@ impl<'a> SliceWrite<'a> {
 impl Write for SliceWrite<'_> {
     ghost use Rattle.cbor_io.specs.Write.{Wrote, IsFull, written_bytes, unwritten_bytes};
     ghost use Rattle.cbor_io.specs.Write.{slice_reference};
-    ghost use Rattle.std.specs.Prelude.{◌≡◌, ◌<◌, ◌∷◌, [], Some, drop, OnOk, OnErr, IfErr};
+    ghost use Rattle.std.specs.Prelude.{◌≡◌, ◌↔◌, ◌∷◌, [], Some, drop, OnOk, OnErr, IfErr, IsOk};
 
     ghost written = { λ s. Some (written_bytes s) };
 
@@ -73,8 +73,8 @@ impl Write for SliceWrite<'_> {
         // A piece that fits leaves the bytes behind it as they were.
         ensures behind { OnOk result
             (unwritten_bytes self.new ≡ drop (length buf.now) (unwritten_bytes self.old)) }
-        // A piece is refused where it doesn't fit, and nothing of it is taken.
-        ensures too_long { OnErr result (length (unwritten_bytes self.old) < length buf.now) }
+        // A piece is taken exactly where it fits, and of one that is refused nothing is taken.
+        ensures fits { IsOk result ↔ (length buf.now ≤ length (unwritten_bytes self.old)) }
         ensures kept { OnErr result (written_bytes self.new ≡ written_bytes self.old) }
         ensures kept_behind { OnErr result (unwritten_bytes self.new ≡ unwritten_bytes self.old) }
     {
