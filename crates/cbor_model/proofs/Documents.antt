@@ -6,7 +6,9 @@ use Rattle.cbor_model.specs.Raw.{Raw, Raws, RawPairs, raw_pair}
 use Rattle.cbor_model.specs.Spelling.{spell}
 use Rattle.cbor_model.specs.Plain.{Val, null, bool, integer, float, bytes, text, array, map, tag, Vals, no_vals, val, Pairs, no_pairs, pair, count, pair_count}
 use Rattle.cbor_model.specs.Canonical.{canonical, canonical_all, canonical_pairs, canon, IsStorable, AreStorable, ArePairsStorable}
-use Rattle.cbor_model.specs.InRange.{IsInRange, AreInRange, ArePairsInRange}
+use Rattle.cbor_model.specs.InRange.{IsInRange}
+use Rattle.cbor_model.specs.InMemory.{IsInMemory, AreInMemory, ArePairsInMemory}
+use Rattle.cbor_model.proofs.InMemory as memory
 use Rattle.cbor_model.specs.Document.{document_of, documents_of, document_pairs_of, raw_of, raws_of, raw_pairs_of, document_bytes, DocumentIsCanonical, IsStorableDocument, AreStorableDocuments, AreStorableDocumentPairs, IsDocumentInRange, AreDocumentsInRange, AreDocumentPairsInRange, doc_count, doc_pair_count}
 
 mutual
@@ -84,7 +86,7 @@ mutual
   storable_value_pairs no_pairs h = tt
   storable_value_pairs (pair k v ps) h = (storable_value k h.0, storable_value v h.1, storable_value_pairs ps h.2)
 
--- ---- a value is in range where its document is
+-- ---- a value is one in memory where its document is in range
 
 documents_counted : (vs : Vals) → doc_count (documents_of vs) ≡ count vs
 unfolding document_of
@@ -99,29 +101,32 @@ pairs_counted (pair k v ps) = ap suc (pairs_counted ps)
 mutual
   unfolding document_of
 
-  pub value_in_range : (v : Val) → IsDocumentInRange (document_of v) → IsInRange v
-  value_in_range null h = tt
-  value_in_range (bool b) h = tt
-  value_in_range (integer z) h = tt
-  value_in_range (float w bits) h = h
-  value_in_range (bytes b) h = h
-  value_in_range (text b) h = h
-  value_in_range (array vs) h = (subst (λ n. n < 2 ^ 64) (documents_counted vs) h.0, values_in_range vs h.1)
-  value_in_range (map ps) h = (subst (λ n. n < 2 ^ 64) (pairs_counted ps) h.0, value_pairs_in_range ps h.1)
-  value_in_range (tag n v) h = (h.0, value_in_range v h.1)
+  pub value_in_memory : (v : Val) → IsDocumentInRange (document_of v) → IsInMemory v
+  value_in_memory null h = tt
+  value_in_memory (bool b) h = tt
+  value_in_memory (integer z) h = tt
+  value_in_memory (float w bits) h = h
+  value_in_memory (bytes b) h = h
+  value_in_memory (text b) h = h
+  value_in_memory (array vs) h = (subst (λ n. n < 2 ^ 64) (documents_counted vs) h.0, values_in_memory vs h.1)
+  value_in_memory (map ps) h = (subst (λ n. n < 2 ^ 64) (pairs_counted ps) h.0, value_pairs_in_memory ps h.1)
+  value_in_memory (tag n v) h = (h.0, value_in_memory v h.1)
 
-  values_in_range : (vs : Vals) → AreDocumentsInRange (documents_of vs) → AreInRange vs
-  values_in_range no_vals h = tt
-  values_in_range (val v vs) h = (value_in_range v h.0, values_in_range vs h.1)
+  values_in_memory : (vs : Vals) → AreDocumentsInRange (documents_of vs) → AreInMemory vs
+  values_in_memory no_vals h = tt
+  values_in_memory (val v vs) h = (value_in_memory v h.0, values_in_memory vs h.1)
 
-  value_pairs_in_range : (ps : Pairs) → AreDocumentPairsInRange (document_pairs_of ps) → ArePairsInRange ps
-  value_pairs_in_range no_pairs h = tt
-  value_pairs_in_range (pair k v ps) h = (value_in_range k h.0, value_in_range v h.1, value_pairs_in_range ps h.2)
+  value_pairs_in_memory : (ps : Pairs) → AreDocumentPairsInRange (document_pairs_of ps) → ArePairsInMemory ps
+  value_pairs_in_memory no_pairs h = tt
+  value_pairs_in_memory (pair k v ps) h = (value_in_memory k h.0, value_in_memory v h.1, value_pairs_in_memory ps h.2)
+
+pub value_in_range : (v : Val) → IsDocumentInRange (document_of v) → IsInRange v
+value_in_range v h = memory.in_range v (value_in_memory v h)
 
 mutual
   unfolding document_of
 
-  pub document_in_range : (v : Val) → IsInRange v → IsDocumentInRange (document_of v)
+  pub document_in_range : (v : Val) → IsInMemory v → IsDocumentInRange (document_of v)
   document_in_range null h = tt
   document_in_range (bool b) h = tt
   document_in_range (integer z) h = tt
@@ -132,10 +137,10 @@ mutual
   document_in_range (map ps) h = (subst (λ n. n < 2 ^ 64) (sym (pairs_counted ps)) h.0, document_pairs_in_range ps h.1)
   document_in_range (tag n v) h = (h.0, document_in_range v h.1)
 
-  documents_in_range : (vs : Vals) → AreInRange vs → AreDocumentsInRange (documents_of vs)
+  documents_in_range : (vs : Vals) → AreInMemory vs → AreDocumentsInRange (documents_of vs)
   documents_in_range no_vals h = tt
   documents_in_range (val v vs) h = (document_in_range v h.0, documents_in_range vs h.1)
 
-  document_pairs_in_range : (ps : Pairs) → ArePairsInRange ps → AreDocumentPairsInRange (document_pairs_of ps)
+  document_pairs_in_range : (ps : Pairs) → ArePairsInMemory ps → AreDocumentPairsInRange (document_pairs_of ps)
   document_pairs_in_range no_pairs h = tt
   document_pairs_in_range (pair k v ps) h = (document_in_range k h.0, document_in_range v h.1, document_pairs_in_range ps h.2)

@@ -26,6 +26,8 @@ pub mod Heads
 pub mod ByteOrder
 pub mod Least
 pub mod InRange
+pub mod InMemory
+pub mod Room
 pub mod Documents
 pub mod Parts
 pub mod RawReader

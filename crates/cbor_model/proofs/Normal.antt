@@ -10,7 +10,7 @@ use Rattle.cbor_model.proofs.ReadsBack.{reads_back}
 use Rattle.cbor_model.proofs.Canonical.{value_is_canonical}
 
 -- the canonical item of an ordered value is one that has the value
-spells_canon : (v : Val) → IsOrdered v → IsAcceptable (canonical v) → SpellsValue (canon v) v
+pub spells_canon : (v : Val) → IsOrdered v → IsAcceptable (canonical v) → SpellsValue (canon v) v
 unfolding canon
 spells_canon v ordered good = record { item = canonical v; acceptable = good; spelled = refl; valued = sym (reads_back v ordered) }
 

@@ -1,10 +1,10 @@
 -- The bytes of a document are those of its parts.
-use Rattle.std.proofs.Common.{◌≡◌, ℕ, suc, List, [], ◌∷◌, ◌++◌, refl, sym, ap, ◌∙◌, append_assoc, append-nil, Bool, true, false, Some, None}
+use Rattle.std.proofs.Common.{◌≡◌, suc, ◌∷◌, ◌++◌, refl, sym, ap, ◌∙◌, append_assoc, append-nil, Bool, true, false, Some, None}
 use Rattle.cbor_model.specs.Head.{short}
 use Rattle.cbor_model.specs.Raw.{count, pair_count}
 use Rattle.cbor_model.specs.Spelling.{spell, spell_all, spell_pairs}
 use Rattle.cbor_model.specs.Document.{Doc, Docs, DocPairs, Fields, declared, undeclared, null, bool, integer, float, bytes, text, sequence, mapping, structure, unit_variant, newtype_variant, tuple_variant, struct_variant, tagged, no_docs, doc, no_doc_pairs, doc_pair, no_fields, field, identifier, name_of, raw_of, raws_of, raw_pairs_of, raw_fields_of, document_bytes, IsStorableDocument, AreStorableDocuments, AreStorableDocumentPairs, AreStorableFields, IsDocumentInRange, AreDocumentsInRange, AreDocumentPairsInRange, AreFieldsInRange, doc_count, doc_pair_count, field_count}
-use Rattle.cbor_model.specs.Parts.{Part, nothing, item, ending, said, parts, items, pairs, fields, part_bytes, IsStorablePart, IsPartInRange}
+use Rattle.cbor_model.specs.Parts.{Part, ending, said, parts, items, pairs, fields, part_bytes, IsStorablePart, IsPartInRange}
 
 counts : (ds : Docs) (p l : Bool) → count (raws_of ds p l) ≡ doc_count ds
 unfolding raw_of

@@ -1,5 +1,5 @@
 -- The laws' proofs.
-use Rattle.cbor_model.specs.Laws.{ReaderFinds, ReaderAccepts, SameWithScratch, ScratchNeed, OneSpelling, ValueIsStorable, OrderIsTotal, OneFlat, CanonicalReadsBack, ValueIsCanonical, NormalisedOnce, EqualBytes, ByteOrder, LeastSpelling, ValueIsInRange, FirstRefusal, NoneAllowed, OneFirstRefusal, ReadOrRefused, SpelledAllowsNone, SameFirstRefusal}
+use Rattle.cbor_model.specs.Laws.{ReaderFinds, ReaderAccepts, SameWithScratch, ScratchNeed, OneSpelling, ValueIsStorable, OrderIsTotal, OneFlat, CanonicalReadsBack, ValueIsCanonical, NormalisedOnce, EqualBytes, ByteOrder, LeastSpelling, ValueIsInRange, FirstRefusal, NoneAllowed, OneFirstRefusal, ReadOrRefused, SpelledAllowsNone, SameFirstRefusal, InMemoryIsInRange, CanonicalIsAcceptable, WrittenReadsBack, LastPairStays, PartsBytes, KeyRule, FollowingIsUnread, RefusedHoldsBeginning, AllThatFitIsHeld}
 use Rattle.cbor_model.proofs.Whole.{found_whole, read_whole}
 use Rattle.cbor_model.proofs.Scratch as scratch
 use Rattle.cbor_model.proofs.Storable.{storable}
@@ -12,6 +12,11 @@ use Rattle.cbor_model.proofs.ByteOrder as byteorder
 use Rattle.cbor_model.proofs.Least as least
 use Rattle.cbor_model.proofs.InRange as inrange
 use Rattle.cbor_model.proofs.FirstRefusal as refusal
+use Rattle.cbor_model.proofs.InMemory as inmemory
+use Rattle.cbor_model.proofs.Puts as puts
+use Rattle.cbor_model.proofs.Parts as parts
+use Rattle.cbor_model.proofs.RawReader as rawreader
+use Rattle.cbor_model.proofs.Room as room
 
 pub reader_finds : ReaderFinds
 reader_finds = found_whole
@@ -75,3 +80,30 @@ spelled_allows_none = refusal.spelled_allows_none
 
 pub same_first_refusal : SameFirstRefusal
 same_first_refusal = refusal.same_first
+
+pub in_memory_is_in_range : InMemoryIsInRange
+in_memory_is_in_range = inmemory.in_range
+
+pub canonical_is_acceptable : CanonicalIsAcceptable
+canonical_is_acceptable = inmemory.canonical_is_acceptable
+
+pub written_reads_back : WrittenReadsBack
+written_reads_back = inmemory.written_reads_back
+
+pub last_pair_stays : LastPairStays
+last_pair_stays = puts.last_pair_stays
+
+pub parts_bytes : PartsBytes
+parts_bytes = parts.parts_bytes
+
+pub key_rule : KeyRule
+key_rule = rawreader.key_rule
+
+pub following_is_unread : FollowingIsUnread
+following_is_unread = rawreader.following_is_unread
+
+pub refused_holds_beginning : RefusedHoldsBeginning
+refused_holds_beginning = room.holds_beginning
+
+pub all_that_fit_is_held : AllThatFitIsHeld
+all_that_fit_is_held = room.holds_all

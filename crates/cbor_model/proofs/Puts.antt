@@ -6,9 +6,10 @@ use Rattle.std.specs.FinMap.{find, same_map}
 use Rattle.std.specs.FinMap as finmap
 use Rattle.std.specs.FinMap.Entries as listed
 use Rattle.cbor_model.specs.Plain.{Val, Pairs, no_pairs, pair}
-use Rattle.cbor_model.specs.Value.{by_order, put}
+use Rattle.cbor_model.specs.Raw.{RawPairs, no_raw_pairs, raw_pair}
+use Rattle.cbor_model.specs.Value.{value, pairs, by_order, put}
 use Rattle.cbor_model.specs.Canonical.{IsBelow, KeysAscend}
-use Rattle.cbor_model.specs.FiniteMap.{entries, finite_map, put_all}
+use Rattle.cbor_model.specs.FiniteMap.{entries, finite_map, put_all, listed_pairs}
 use Rattle.cbor_model.specs.Order.{val_cmp}
 use Rattle.cbor_model.proofs.Same.{val_cmp_total, exact_vals}
 use Rattle.cbor_model.proofs.Pairs.{Greater-from_Less, IsBelow-trans, KeysAscend-put, get-finite_map, entries-put, entries-finite_map}
@@ -67,3 +68,25 @@ put_all-below k v (pair l w ps) before below ascend =
 pub put_all-ascending : (ps : Pairs) → KeysAscend ps → put_all ps no_pairs ≡ ps
 put_all-ascending no_pairs ascend = refl
 put_all-ascending (pair k v ps) ascend = put_all-below k v ps no_pairs ascend.0 ascend.1 ∙ ap (pair k v) (put_all-ascending ps ascend.1)
+
+-- ---- the pairs of an item
+
+abbrev pairs_listed : RawPairs → Pairs
+pairs_listed no_raw_pairs = no_pairs
+pairs_listed (raw_pair k v ps) = pair (value k) (value v) (pairs_listed ps)
+
+pairs-put_all : (ps : RawPairs) (before : Pairs) → pairs ps before ≡ put_all (pairs_listed ps) before
+unfolding value
+pairs-put_all no_raw_pairs before = refl
+pairs-put_all (raw_pair k v ps) before = pairs-put_all ps (put (value k) (value v) before)
+
+entries-pairs_listed : (ps : RawPairs) → entries (pairs_listed ps) ≡ listed_pairs ps
+entries-pairs_listed no_raw_pairs = refl
+entries-pairs_listed (raw_pair k v ps) = ap (λ (es : List (Val × Val)). (value k, value v) ∷ es) (entries-pairs_listed ps)
+
+pub last_pair_stays : (k : Val) (ps : RawPairs) → finmap.get (finite_map (pairs ps no_pairs)) k ≡ find val_cmp k (reverse (listed_pairs ps))
+last_pair_stays k ps =
+    get-finite_map k (pairs ps no_pairs)
+    ∙ ap (λ (qs : Pairs). find val_cmp k (entries qs)) (pairs-put_all ps no_pairs)
+    ∙ find-put_all k (pairs_listed ps)
+    ∙ ap (λ (es : List (Val × Val)). find val_cmp k (reverse es)) (entries-pairs_listed ps)

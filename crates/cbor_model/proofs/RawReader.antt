@@ -1,17 +1,17 @@
 -- What the reference reader reads as an item is spelled so and acceptable, and what is spelled so it
 -- reads.
-use Rattle.std.proofs.Common.{◌≡◌, ℕ, ◌^◌, ◌<◌, ◌≤◌, Bool, List, ◌++◌, length, Option, Ok, IsUtf8, refl, sym, ap, subst, ◌∙◌, arith}
+use Rattle.std.proofs.Common.{◌≡◌, ℕ, ◌^◌, ◌<◌, ◌≤◌, ◌↔◌, Bool, List, ◌++◌, length, Option, None, Ok, IsUtf8, refl, sym, ap, subst, ◌∙◌, arith}
 use Rattle.cbor_model.specs.Raw as raw
 use Rattle.cbor_model.specs.Raw.{Raw, Raws, no_raws, RawPairs, no_raw_pairs, raw_pair, AreBytes}
 use Rattle.cbor_model.specs.Spelling.{spell}
-use Rattle.cbor_model.specs.Acceptable.{FitsScratch}
-use Rattle.cbor_model.specs.Formats.{Formats, IsAllowedKey, HasAllowedKeys}
+use Rattle.cbor_model.specs.Acceptable.{FitsScratch, IsAcceptableWithin}
+use Rattle.cbor_model.specs.Formats.{Formats, all_formats, IsAllowedKey, HasAllowedKeys}
 use Rattle.cbor_model.specs.Reader.{item_at}
 use Rattle.cbor_model.specs.RawReader.{raws_where, raws_in, Begins}
 use Rattle.std.proofs.lemmas.Bool.{lt-ltb}
 use Rattle.cbor_model.proofs.Made.{made, made_all, made_pairs}
 use Rattle.cbor_model.proofs.Found.{Passes, MayBeKey, found}
-use Rattle.cbor_model.proofs.FirstBytes.{EachKey-map, key_begins, begun_allows}
+use Rattle.cbor_model.proofs.FirstBytes.{EachKey-map, key_begins, begun_allows, all_allowed}
 use Rattle.cbor_model.proofs.Again.{HasRoom, lets, again}
 use Rattle.cbor_model.proofs.Whole.{grows, fits_joins, none_fits}
 use Rattle.cbor_model.proofs.Texts.{EachText-map, IsUtf8-from_valid_len, valid_len-from_IsUtf8}
@@ -68,3 +68,17 @@ item_again f total most levels bs rest r short within fits b allowed =
     let keys = EachKey-map (IsAllowedKey f) (MayBeKey m) (key_begins f) r b.acceptable.fits allowed in
     let read = again m total (room_in f total most short) (grows most) r levels rest b.acceptable.fits b.acceptable.nests (lets m (grows most) r texts keys (fits_joins most r fits)) (omega (arith, ap length b.spelled, within)) in
     ap (item_at m levels) b.spelled ∙ read ∙ ap (λ (i : Raw). Ok (i, rest)) (made-itself m.has_room m.is_text m.exceeds m.allows r)
+
+-- ---- the laws
+
+pub key_rule : (f : Formats) (levels : ℕ) (bytes rest : List ℕ) (r : Raw) → AreBytes bytes → length bytes < 2 ^ 64
+    → (item_at (raws_in f (length bytes) None) levels bytes ≡ Ok (r, rest)) ↔ (Begins levels bytes r rest × HasAllowedKeys f r)
+key_rule f levels bytes rest r fits short = (
+  λ is. item_found f (length bytes) None levels bytes rest r fits is,
+  λ h. item_again f (length bytes) None levels bytes rest r short (omega arith) tt h.0 h.1,
+)
+
+pub following_is_unread : (levels : ℕ) (r : Raw) (rest : List ℕ) → IsAcceptableWithin levels r → length (spell r ++ rest) < 2 ^ 64
+    → item_at (raws_in all_formats (length (spell r ++ rest)) None) levels (spell r ++ rest) ≡ Ok (r, rest)
+following_is_unread levels r rest good short =
+    item_again all_formats (length (spell r ++ rest)) None levels (spell r ++ rest) rest r short (omega arith) tt (record { spelled = refl; acceptable = good }) (all_allowed r)

@@ -11,6 +11,7 @@ use Rattle.cbor_model.specs.Plain.{Val, Vals, no_vals, val, Pairs, no_pairs, pai
 use Rattle.cbor_model.specs.Canonical.{chunk_of, canonical_bool, canonical_integer, canon}
 use Rattle.cbor_model.specs.Canonical.{IsStorableInteger}
 use Rattle.cbor_model.specs.Spelling.{spell}
+use Rattle.cbor_model.specs.InMemory.{IsByteString, IsTextString}
 
 -- whether the length of a sequence or a map is declared before its items
 pub data Length : Type 0 where
@@ -92,13 +93,14 @@ abbrev pub FitsCount : Length → ℕ → Type 0
 FitsCount declared n = n < 2 ^ 64
 FitsCount undeclared n = Unit {0}
 
--- Lengths, declared counts and the numbers of tags, fields and variants are below 2^64, and a
--- float's bits fit its width. The document of what a program holds always is in range.
+-- Lengths, declared counts and the numbers of tags, fields and variants are below 2^64, a float's
+-- bits fit its width, strings hold bytes, and texts are UTF-8. The document of what a program holds
+-- always is in range.
 abbrev mutual
   pub IsDocumentInRange : Doc → Type 0
   IsDocumentInRange (float w bits) = bits < float_limit w
-  IsDocumentInRange (bytes b) = length b < 2 ^ 64
-  IsDocumentInRange (text b) = length b < 2 ^ 64
+  IsDocumentInRange (bytes b) = IsByteString b
+  IsDocumentInRange (text b) = IsTextString b
   IsDocumentInRange (sequence l ds) = FitsCount l (doc_count ds) × AreDocumentsInRange ds
   IsDocumentInRange (mapping l ps) = FitsCount l (doc_pair_count ps) × AreDocumentPairsInRange ps
   IsDocumentInRange (structure fs) = (field_count fs < 2 ^ 64) × AreFieldsInRange fs

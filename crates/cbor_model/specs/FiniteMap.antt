@@ -3,7 +3,8 @@ use Rattle.std.specs.Prelude.{List, [], ◌∷◌, Option, None, Some}
 use Rattle.std.specs.FinMap.{FinMap, from_entries}
 use Rattle.cbor_model.specs.Plain.{Val, Pairs, no_pairs, pair}
 use Rattle.cbor_model.specs.Order.{val_cmp}
-use Rattle.cbor_model.specs.Value.{by_order, put}
+use Rattle.cbor_model.specs.Raw.{RawPairs, no_raw_pairs, raw_pair}
+use Rattle.cbor_model.specs.Value.{value, by_order, put}
 
 abbrev pub entries : Pairs → List (Val × Val)
 entries no_pairs = []
@@ -21,6 +22,11 @@ without k (pair l w ps) = by_order (val_cmp k l) (pair l w ps) ps (pair l w (wit
 abbrev pub put_all : Pairs → Pairs → Pairs
 put_all no_pairs before = before
 put_all (pair k v ps) before = put_all ps (put k v before)
+
+-- the values of the pairs of an item, as they are listed
+abbrev pub listed_pairs : RawPairs → List (Val × Val)
+listed_pairs no_raw_pairs = []
+listed_pairs (raw_pair k v ps) = (value k, value v) ∷ listed_pairs ps
 
 abbrev pub first_pair : Pairs → Option (Val × Val)
 first_pair no_pairs = None

@@ -1,19 +1,29 @@
 -- The laws, each of which is the contract of a public function.
-use Rattle.std.specs.Prelude.{◌≡◌, ◌⊎◌, ℕ, ◌+◌, ◌^◌, ◌<◌, ◌≤◌, List, [], ◌++◌, length, Result, Ok, Err}
+use Rattle.std.specs.Prelude.{◌≡◌, ◌⊎◌, ◌↔◌, ℕ, ◌+◌, ◌^◌, ◌<◌, ◌≤◌, List, [], ◌++◌, length, reverse}
+use Rattle.std.specs.Prelude.{Bool, Result, Ok, Err}
 use Rattle.std.specs.Prelude.{IsErrAnd, Option, Some, None}
-use Rattle.cbor_model.specs.Raw.{Raw, AreBytes, IsWellFormed, longest_joined}
+use Rattle.std.specs.FinMap as finmap
+use Rattle.std.specs.FinMap.{find}
+use Rattle.cbor_model.specs.Raw.{Raw, RawPairs, AreBytes, IsWellFormed, depth, longest_joined}
 use Rattle.cbor_model.specs.Spelling.{spell}
-use Rattle.cbor_model.specs.Acceptable.{IsAcceptable, IsAcceptableWithin, FitsScratch}
-use Rattle.cbor_model.specs.Plain.{Val}
-use Rattle.cbor_model.specs.Value.{value}
+use Rattle.cbor_model.specs.Acceptable.{IsAcceptable, IsAcceptableWithin, FitsScratch, max_depth}
+use Rattle.cbor_model.specs.Plain.{Val, no_pairs}
+use Rattle.cbor_model.specs.Value.{value, pairs}
+use Rattle.cbor_model.specs.FiniteMap.{finite_map, listed_pairs}
 use Rattle.cbor_model.specs.Canonical.{IsStorable, IsOrdered, canonical, canon}
 use Rattle.cbor_model.specs.Order.{lex, flat}
 use Rattle.cbor_model.specs.Order.{val_cmp}
 use Rattle.cbor_model.specs.InRange.{IsInRange}
+use Rattle.cbor_model.specs.InMemory.{IsInMemory}
+use Rattle.cbor_model.specs.Document.{Doc, document_bytes}
+use Rattle.cbor_model.specs.Parts.{parts, part_bytes}
+use Rattle.cbor_model.specs.Formats.{Formats, all_formats, HasAllowedKeys}
+use Rattle.cbor_model.specs.RawReader.{raws_in, Begins}
+use Rattle.cbor_model.specs.Room.{held, whole}
 use Rattle.cbor_model.specs.Definite.{IsDefinite}
 use Rattle.std.specs.Cmp.{IsTotalOrder}
 use Rattle.cbor_model.specs.Refusal.{Refusal, scratch_too_small}
-use Rattle.cbor_model.specs.Reader.{Fault, read_value, read_value_in}
+use Rattle.cbor_model.specs.Reader.{Fault, read_value, read_value_in, item_at}
 use Rattle.cbor_model.specs.Allowed.{Limits, limits_of, IsAllowed, IsFirstRefusal}
 
 -- the bytes spell one acceptable item, and v is its value
@@ -142,3 +152,55 @@ abbrev pub ReadOrRefused : Type 0
 ReadOrRefused = (room : Option ℕ) (bytes : List ℕ) → AreBytes bytes
     → ((v : Val) × (spelt : SpellsValue bytes v) × FitsScratch room spelt.item)
     ⊎ ((why : Refusal) × (offset : ℕ) × IsFirstRefusal (limits_of room) bytes why offset)
+
+-- What a program's value stands for is in range.
+abbrev pub InMemoryIsInRange : Type 0
+InMemoryIsInRange = (v : Val) → IsInMemory v → IsInRange v
+
+-- The canonical item of a storable value in memory is acceptable within the levels that it nests.
+abbrev pub CanonicalIsAcceptable : Type 0
+CanonicalIsAcceptable = (levels : ℕ) (v : Val)
+    → IsStorable v → IsInMemory v → depth (canonical v) ≤ levels
+    → IsAcceptableWithin levels (canonical v)
+
+-- The canonical spelling of a storable ordered value in memory, which nests at most 127 levels, is
+-- read as that value.
+abbrev pub WrittenReadsBack : Type 0
+WrittenReadsBack = (v : Val)
+    → IsStorable v → IsOrdered v → IsInMemory v → depth (canonical v) ≤ max_depth
+    → SpellsValue (canon v) v
+
+-- In the value of a map each key has the value of the last pair with that key.
+abbrev pub LastPairStays : Type 0
+LastPairStays = (k : Val) (ps : RawPairs)
+    → finmap.get (finite_map (pairs ps no_pairs)) k ≡ find val_cmp k (reverse (listed_pairs ps))
+
+-- The bytes of a document's parts are the document's.
+abbrev pub PartsBytes : Type 0
+PartsBytes = (d : Doc) (packed legacy : Bool)
+    → part_bytes (parts d) packed legacy ≡ document_bytes d packed legacy
+
+-- The reference reader, where some formats of keys are read, reads the acceptable items whose keys
+-- are all of these formats, and no others.
+abbrev pub KeyRule : Type 0
+KeyRule = (f : Formats) (levels : ℕ) (bytes rest : List ℕ) (r : Raw)
+    → AreBytes bytes → length bytes < 2 ^ 64
+    → (item_at (raws_in f (length bytes) None) levels bytes ≡ Ok (r, rest))
+    ↔ (Begins levels bytes r rest × HasAllowedKeys f r)
+
+-- What follows an item is left unread.
+abbrev pub FollowingIsUnread : Type 0
+FollowingIsUnread = (levels : ℕ) (r : Raw) (rest : List ℕ)
+    → IsAcceptableWithin levels r → length (spell r ++ rest) < 2 ^ 64
+    → item_at (raws_in all_formats (length (spell r ++ rest)) None) levels (spell r ++ rest)
+    ≡ Ok (r, rest)
+
+-- A slice that takes whole pieces, up to the first that doesn't fit, holds a beginning of them all.
+abbrev pub RefusedHoldsBeginning : Type 0
+RefusedHoldsBeginning = (room : ℕ) (pieces : List (List ℕ))
+    → (rest : List ℕ) × (held room pieces ++ rest ≡ whole pieces)
+
+-- Where all pieces fit, it holds them all.
+abbrev pub AllThatFitIsHeld : Type 0
+AllThatFitIsHeld = (room : ℕ) (pieces : List (List ℕ))
+    → length (whole pieces) ≤ room → held room pieces ≡ whole pieces

@@ -11,7 +11,9 @@ pub mod FiniteMap
 pub mod Refusal
 pub mod Reader
 pub mod Laws
+pub mod Room
 pub mod InRange
+pub mod InMemory
 pub mod Definite
 pub mod Document
 pub mod Parts

@@ -4,7 +4,10 @@ ghost use Rattle.cbor_model.specs.Laws.{OneSpelling, ValueIsStorable, OrderIsTot
 ghost use Rattle.cbor_model.specs.Laws.{CanonicalReadsBack, ValueIsCanonical, NormalisedOnce};
 ghost use Rattle.cbor_model.specs.Laws.{EqualBytes, ByteOrder, LeastSpelling, ValueIsInRange};
 ghost use Rattle.cbor_model.specs.Laws.{FirstRefusal, NoneAllowed, OneFirstRefusal, ReadOrRefused};
-ghost use Rattle.cbor_model.specs.Laws.{SpelledAllowsNone, SameFirstRefusal};
+ghost use Rattle.cbor_model.specs.Laws.{SpelledAllowsNone, SameFirstRefusal, InMemoryIsInRange};
+ghost use Rattle.cbor_model.specs.Laws.{CanonicalIsAcceptable, WrittenReadsBack, LastPairStays};
+ghost use Rattle.cbor_model.specs.Laws.{PartsBytes, KeyRule, FollowingIsUnread, AllThatFitIsHeld};
+ghost use Rattle.cbor_model.specs.Laws.{RefusedHoldsBeginning};
 
 /// What the reference reader reads is the value of an acceptable item, and the bytes are its
 /// spelling.
@@ -123,4 +126,55 @@ pub fn same_first_refusal()
 /// Each input spells one acceptable item, whose chunks fit the scratch, or has a first refusal.
 pub fn read_or_refused()
     ensures { ReadOrRefused }
+{}
+
+/// What any value in a program stands for is in range, so that the laws on bytes hold of it.
+pub fn in_memory_is_in_range()
+    ensures { InMemoryIsInRange }
+{}
+
+/// The canonical item of any storable value in a program is well formed, its texts are UTF-8, and it
+/// is acceptable within the levels that it nests.
+pub fn canonical_is_acceptable()
+    ensures { CanonicalIsAcceptable }
+{}
+
+/// The canonical spelling of any storable ordered value in a program, which nests at most 127 levels,
+/// is read as that value.
+pub fn written_reads_back()
+    ensures { WrittenReadsBack }
+{}
+
+/// In the value of a map each key has the value of the last pair with that key, as keys are compared
+/// by their values.
+pub fn last_pair_stays()
+    ensures { LastPairStays }
+{}
+
+/// The bytes of a document's parts, as a serializer's calls append them one after the other, are the
+/// document's bytes.
+pub fn parts_bytes()
+    ensures { PartsBytes }
+{}
+
+/// The reference reader, where some formats of keys are read, reads exactly the acceptable items
+/// whose keys are all of these formats: it asks the first byte of each key, and the definition its
+/// kind.
+pub fn key_rule()
+    ensures { KeyRule }
+{}
+
+/// What follows an item is left unread, whatever it is.
+pub fn following_is_unread()
+    ensures { FollowingIsUnread }
+{}
+
+/// A slice that takes whole pieces, up to the first that doesn't fit, holds a beginning of them all.
+pub fn refused_holds_beginning()
+    ensures { RefusedHoldsBeginning }
+{}
+
+/// A slice that is as long as all pieces holds them all.
+pub fn all_that_fit_is_held()
+    ensures { AllThatFitIsHeld }
 {}

@@ -1,6 +1,6 @@
 -- Published: documents.
 
 -- a value's document is the value's canonical item, and is storable and in range where the value is
-pub use Rattle.cbor_model.proofs.Documents.{document_item, document_is_canonical, storable_document, storable_value, document_in_range, value_in_range}
+pub use Rattle.cbor_model.proofs.Documents.{document_item, document_is_canonical, storable_document, storable_value, document_in_range, value_in_range, value_in_memory}
 -- a document's bytes are those of its parts, and it is storable and in range where they are
 pub use Rattle.cbor_model.proofs.Parts.{parts_bytes, storable_parts, parts_storable, parts_in_range}

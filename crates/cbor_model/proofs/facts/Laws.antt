@@ -8,3 +8,5 @@ pub use Rattle.cbor_model.proofs.Proved.{same_with_scratch, scratch_need}
 pub use Rattle.cbor_model.proofs.Proved.{one_spelling}
 -- about canonical spellings
 pub use Rattle.cbor_model.proofs.Proved.{byte_order, equal_bytes, least_spelling, normalised_once}
+-- about values in memory
+pub use Rattle.cbor_model.proofs.Proved.{in_memory_is_in_range, written_reads_back}
