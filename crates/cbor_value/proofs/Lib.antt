@@ -2,4 +2,5 @@ pub mod Comparing
 pub mod Maps
 pub mod Sorting
 pub mod Views
+pub mod Walks
 pub mod facts

@@ -8,6 +8,7 @@
 
 mod clone;
 mod from;
+mod memory;
 mod order;
 mod pairs;
 

@@ -1,7 +1,7 @@
 //! Maps: their pairs stand in a list, in the order of the keys.
 
 ghost use Rattle.std.specs.Prelude.{◌≡◌, ◌+◌, ◌-◌, ◌^◌, ◌==◌, ◌<◌, ◌≤◌, length, true, ◌↔◌, IsOk};
-ghost use Rattle.std.specs.Prelude.{IfOk, OnOk, OnErr, IfErr, Some};
+ghost use Rattle.std.specs.Prelude.{IfOk, OnOk, OnErr, IfErr, Some, IsSome};
 ghost use Rattle.std.specs.List.{All};
 ghost use Rattle.std.specs.Option.{option_map};
 ghost use Rattle.std.specs.Slice.Iter.{iter_rest};
@@ -69,8 +69,8 @@ impl Map {
 
     /// Puts a pair in, and answers the value that the key had before.
     ///
-    /// The map grows only where the key is new. Where its allocation fails, the map stays as it
-    /// was, and the pair is dropped.
+    /// The map grows only where the key is new: for a key that is there it takes no memory, and
+    /// isn't refused. Where its allocation fails, the map stays as it was, and the pair is dropped.
     ///
     /// ```rust
     /// let mut map = Map::new(alloc);
@@ -87,6 +87,8 @@ impl Map {
         ensures ascending { KeysAscend (map_view self.old) → KeysAscend (map_view self.new) }
         ensures ordered { IsMapOrdered self.old → IsOrdered (view key) → IsOrdered (view value)
             → IsMapOrdered self.new }
+        ensures unrefused { KeysAscend (map_view self.old)
+            → IsSome (finmap.get (map_of self.old) (view key)) → IsOk result }
         ensures err { OnErr result (map_view self.new ≡ map_view self.old) }
         ensures memory { IfErr result IsOutOfMemory }
     {

@@ -1,4 +1,4 @@
-use Rattle.std.proofs.Common.{◌∙◌, sym, ap}
+use Rattle.std.proofs.Common.{◌≡◌, ◌∙◌, true, false, sym, ap}
 use Rattle.cbor_model.specs.Value.{put}
 use Rattle.cbor_value.specs.View.{view, map_view}
 use Rattle.cbor_value.proofs.Views.{map_view_is}
@@ -28,6 +28,14 @@ pub returns-in_ok-insert-in-Err-clause-before : goal.returns-in_ok-insert-in-Err
 returns-in_ok-insert-in-Err-clause-before c =
     λ ascend. get-BelongsAt _ c.in-Err.i (map_view c.args.self.now)
     (c.in-Err.ensures.found ascend) ascend
+
+pub returns-in_err-insert-in-Err-clause-unrefused : goal.returns-in_err-insert-in-Err-clause-unrefused
+returns-in_err-insert-in-Err-clause-unrefused c =
+    λ ascend there.
+    let missing = get-BelongsAt _ c.in-Err.i (map_view c.args.self.now)
+    (c.in-Err.ensures.found ascend) ascend in
+    let wrong : false ≡ true = rw (sym missing) at there in
+    cc
 
 pub returns-in_ok-insert-in-Err-clause-listed : goal.returns-in_ok-insert-in-Err-clause-listed
 returns-in_ok-insert-in-Err-clause-listed c =
