@@ -1,7 +1,7 @@
 -- What was written, put together from its parts.
 use Rattle.std.proofs.Common.{◌≡◌, ℕ, List, [], ◌++◌, Option, sym, ap, ◌∙◌, append_assoc, subst, None, Some}
 use Rattle.std.specs.Prelude.{Result, Ok, Err, OnOk, OnErr, IfErr, IfSome}
-use Rattle.std.specs.Result.{IsErr, IsOk}
+use Rattle.std.specs.Result.{IsErr, IsOk, IsErrAnd}
 use Rattle.std.specs.Option.{IsSomeAnd}
 use Rattle.std.specs.Io.KnownBytes.{Appends}
 use Rattle.std.proofs.KnownBytes.{Appends-nil, Appends-trans}
@@ -70,3 +70,10 @@ told_ok P Q (Ok x) kept (Ok y) err refused h = h
 told_ok P Q (Ok x) kept (Err e) err refused h = tt
 told_ok P Q (Err x) None r err refused h = absurd refused
 told_ok P Q (Err x) (Some e) r err refused h = subst (λ (z : Result (Unit {0}) Error). OnOk z Q) (sym err) tt
+
+-- what can't be was refused for its own reason
+pub told_why : {T E : Type 0} (P : Error → Type 0) (Q : Type 0) (done : Result T E) (kept : Option Error) (r : Result (Unit {0}) Error)
+    → OnErr done (IfSome kept (λ e. r ≡ Err e)) → OnOk done Q → (Q → ⊥) → IsSomeAnd kept P → IsErrAnd r P
+told_why P Q (Ok x) kept r err stored not says = absurd (not stored)
+told_why P Q (Err x) None r err stored not says = absurd says
+told_why P Q (Err x) (Some e) r err stored not says = subst (λ (z : Result (Unit {0}) Error). IsErrAnd z P) (sym err) says

@@ -50,7 +50,7 @@ newtype_named s i n is fits = record {
   same = ap (newtype_start i n s.packed) (sym is);
   storable = λ h. tt;
   unstorable = λ h. (tt, tt);
-  in_range = λ h. (fits, h.1);
+  in_range = λ h. (fits, h.1.0.0);
 }
 
 pub tuple_legacy : (s : Settings) (i : ℕ) (n : List ℕ) (len : ℕ) → s.legacy ≡ true → Same s (legacy_head (len + 1) i n) (tuple_head i n len)
@@ -69,7 +69,7 @@ tuple_named s i n len is fits fits' = record {
   same = ap (tuple_start i n len s.packed) (sym is);
   storable = λ h. tt;
   unstorable = λ h. ((tt, tt), tt);
-  in_range = λ h. (fits, h.0.1, fits');
+  in_range = λ h. (fits, h.0.1.0.0, fits');
 }
 
 pub struct_legacy : (s : Settings) (i : ℕ) (n : List ℕ) → s.legacy ≡ true → Same s (legacy_head 2 i n) (struct_head i n)

@@ -8,7 +8,7 @@ use Rattle.std.specs.Io.KnownBytes.{Appends}
 use Rattle.std.proofs.KnownBytes.{Appends-nil, Appends-trans}
 use Rattle.cbor_model.specs.Plain.{Val}
 use Rattle.cbor_model.specs.Canonical.{canon, IsStorable, IsStorableInteger}
-use Rattle.cbor_model.specs.InRange.{IsInRange}
+use Rattle.cbor_model.specs.InMemory.{IsInMemory}
 use Rattle.cbor_model.specs.Document.{Doc, document_of, document_bytes, IsStorableDocument, IsDocumentInRange}
 use Rattle.cbor_model.specs.Parts.{Part, item, both, ending, parts, part_bytes, IsStorablePart, IsPartInRange}
 use Rattle.cbor_model.proofs.facts.Documents.{parts_bytes, storable_parts, parts_storable, parts_in_range, document_is_canonical, storable_document, storable_value, document_in_range, value_in_range}
@@ -178,7 +178,7 @@ module _ {W : Type 0} {written : W → Option (List ℕ)} {refuses : W → Error
   }
 
   -- a value's canonical spelling was written, which is that of its document
-  pub serialized_value : {T : Type 0} {old new : Serializer W} (v : Val) (r : Result T Error) → new.settings ≡ old.settings → references new.writer ≡ references old.writer → OnOk r (IsStorable v) → OnOk r (IsInRange v)
+  pub serialized_value : {T : Type 0} {old new : Serializer W} (v : Val) (r : Result T Error) → new.settings ≡ old.settings → references new.writer ≡ references old.writer → OnOk r (IsStorable v) → OnOk r (IsInMemory v)
       → Wrote (written old.writer) (canon v) (written new.writer) r → IfErr r (λ e. refuses new.writer e ⊎ IsUnstorable v e) → Serialized written refuses references old (item (document_of v)) new r
   unfolding part_bytes
   serialized_value {old = old} {new = new} v (Ok x) kept same_references storable in_range w refused = record {

@@ -1,11 +1,12 @@
 -- What the bytes of a value's canonical spelling say of it, among all values that can be spelled.
 use Rattle.std.specs.Prelude.{◌≡◌, ℕ, ◌^◌, ◌<◌, ◌≤◌, ◌↔◌, List, length}
-use Rattle.cbor_model.specs.Raw.{Raw, IsWellFormed}
+use Rattle.cbor_model.specs.Raw.{Raw, IsWellFormed, depth}
+use Rattle.cbor_model.specs.Acceptable.{max_depth}
 use Rattle.cbor_model.specs.Spelling.{spell}
 use Rattle.cbor_model.specs.Plain.{Val}
 use Rattle.cbor_model.specs.Order.{lex, val_cmp}
 use Rattle.cbor_model.specs.Value.{value}
-use Rattle.cbor_model.specs.Canonical.{IsStorable, canon}
+use Rattle.cbor_model.specs.Canonical.{IsStorable, IsOrdered, canonical, canon}
 use Rattle.cbor_model.specs.InRange.{IsInRange}
 use Rattle.cbor_model.specs.Definite.{IsDefinite}
 use Rattle.cbor_model.specs.Laws.{SpellsValue}
@@ -27,6 +28,10 @@ AreLeast bytes v = (r : Raw) → IsWellFormed r → IsDefinite r → v ≡ value
 abbrev pub ReadBack : List ℕ → Val → Type 0
 ReadBack bytes v = (read : List ℕ) → length read < 2 ^ 64 → SpellsValue read v → SpellsValue bytes v
 
+-- The value is read from the bytes, where it is ordered and nests at most 127 levels.
+abbrev pub ReadAs : List ℕ → Val → Type 0
+ReadAs bytes v = IsOrdered v → depth (canonical v) ≤ max_depth → SpellsValue bytes v
+
 -- The bytes are the canonical spelling of the value, which is storable and in range, with all that
 -- they say of it.
 pub record IsCanonicalSpelling (bytes : List ℕ) (v : Val) : Type 0 where
@@ -37,6 +42,7 @@ pub record IsCanonicalSpelling (bytes : List ℕ) (v : Val) : Type 0 where
   pub in_order : CompareAs bytes v
   pub least : AreLeast bytes v
   pub read_back : ReadBack bytes v
+  pub read_as : ReadAs bytes v
 
 -- If the document is a value's, the bytes are that value's canonical spelling.
 abbrev pub SpellsValues : List ℕ → Doc → Type 0

@@ -11,7 +11,8 @@ ghost use Rattle.cbor_model.specs.Plain.{Val};
 ghost use Rattle.cbor_model.specs.Spelling.{spell_all, spell_pairs};
 ghost use Rattle.cbor_model.specs.Canonical.{canon, canonical_all, canonical_pairs, IsStorable};
 ghost use Rattle.cbor_model.specs.Canonical.{IsStorableInteger, AreStorable, ArePairsStorable};
-ghost use Rattle.cbor_model.specs.InRange.{IsInRange, AreInRange, ArePairsInRange};
+ghost use Rattle.cbor_model.specs.InMemory.{IsInMemory, AreInMemory, ArePairsInMemory};
+ghost use Rattle.cbor_model.specs.InMemory.{IsByteString};
 ghost use Rattle.cbor_io.specs.Head.{major_number};
 ghost use Rattle.cbor_io.specs.Write.{Wrote};
 ghost use Rattle.cbor_value.specs.View.{view, views, float_view, map_view, pair_views};
@@ -102,6 +103,7 @@ pub(crate) fn write_string<W: Write>(
     major: Major,
     content: &[u8],
 ) -> Done
+    ensures content { IsByteString content.now }
     ensures written { Wrote (W.written writer.old)
         (short (major_number major) (length content.now) ++ content.now)
         (W.written writer.new) result }
@@ -119,7 +121,7 @@ pub(crate) fn write_float<W: Write>(
     refusal: &mut Option<Error>,
     float: Float,
 ) -> Done
-    ensures in_range { IsInRange (float_view float) }
+    ensures in_memory { IsInMemory (float_view float) }
     ensures written { Wrote (W.written writer.old) (canon (float_view float))
         (W.written writer.new) result }
     ensures same_references { W.references writer.new ≡ W.references writer.old }
@@ -156,6 +158,7 @@ pub(crate) fn write_integer<W: Write>(
     ensures refused { OnErr result
         (IsSomeAnd refusal.new (ValueRefused W.refuses writer.new (plain.integer i))) }
     ensures kept { (IsStorableInteger i → ⊥) → writer.new ≡ writer.old }
+    ensures unstorable { (IsStorableInteger i → ⊥) → IsSomeAnd refusal.new SaysUnstorable }
 {
     if let Ok(n) = u64::try_from(i) {
         return write_head(writer, refusal, Major::UnsignedInteger, n);
@@ -177,7 +180,7 @@ pub(crate) fn write_value<W: Write>(
     value: &Value,
 ) -> Done
     ensures storable { OnOk result (IsStorable (view value.now)) }
-    ensures in_range { OnOk result (IsInRange (view value.now)) }
+    ensures in_memory { OnOk result (IsInMemory (view value.now)) }
     ensures written { Wrote (W.written writer.old) (canon (view value.now))
         (W.written writer.new) result }
     ensures same_references { W.references writer.new ≡ W.references writer.old }
@@ -206,7 +209,7 @@ fn write_tag<W: Write>(
     inner: &Value,
 ) -> Done
     ensures storable { OnOk result (IsStorable (view inner.now)) }
-    ensures in_range { OnOk result (IsInRange (plain.tag tag (view inner.now))) }
+    ensures in_memory { OnOk result (IsInMemory (plain.tag tag (view inner.now))) }
     ensures written { Wrote (W.written writer.old) (canon (plain.tag tag (view inner.now)))
         (W.written writer.new) result }
     ensures same_references { W.references writer.new ≡ W.references writer.old }
@@ -218,7 +221,7 @@ fn write_tag<W: Write>(
 }
 
 #[cycle(value)]
-#[tactic(auto, using(crate::proofs::Ranges::array_in_range))]
+#[tactic(auto, using(crate::proofs::Ranges::array_in_memory))]
 fn write_array<W: Write>(
     alloc: Global,
     writer: &mut W,
@@ -226,7 +229,7 @@ fn write_array<W: Write>(
     items: &[Value],
 ) -> Done
     ensures storable { OnOk result (AreStorable (views items.now)) }
-    ensures in_range { OnOk result (IsInRange (plain.array (views items.now))) }
+    ensures in_memory { OnOk result (IsInMemory (plain.array (views items.now))) }
     ensures written { Wrote (W.written writer.old) (canon (plain.array (views items.now)))
         (W.written writer.new) result }
     ensures same_references { W.references writer.new ≡ W.references writer.old }
@@ -248,7 +251,7 @@ fn write_items<W: Write>(
     items: &[Value],
 ) -> Done
     ensures storable { OnOk result (AreStorable (views items.now)) }
-    ensures in_range { OnOk result (AreInRange (views items.now)) }
+    ensures in_memory { OnOk result (AreInMemory (views items.now)) }
     ensures written { Wrote (W.written writer.old) (spell_all (canonical_all (views items.now)))
         (W.written writer.new) result }
     ensures same_references { W.references writer.new ≡ W.references writer.old }
@@ -270,7 +273,7 @@ fn write_map<W: Write>(
     map: &Map,
 ) -> Done
     ensures storable { OnOk result (ArePairsStorable (map_view map.now)) }
-    ensures in_range { OnOk result (IsInRange (plain.map (map_view map.now))) }
+    ensures in_memory { OnOk result (IsInMemory (plain.map (map_view map.now))) }
     ensures written { Wrote (W.written writer.old) (canon (plain.map (map_view map.now)))
         (W.written writer.new) result }
     ensures same_references { W.references writer.new ≡ W.references writer.old }
@@ -292,7 +295,7 @@ fn write_pairs<W: Write>(
     pairs: &[(Value, Value)],
 ) -> Done
     ensures storable { OnOk result (ArePairsStorable (pair_views pairs.now)) }
-    ensures in_range { OnOk result (ArePairsInRange (pair_views pairs.now)) }
+    ensures in_memory { OnOk result (ArePairsInMemory (pair_views pairs.now)) }
     ensures written { Wrote (W.written writer.old)
         (spell_pairs (canonical_pairs (pair_views pairs.now))) (W.written writer.new) result }
     ensures same_references { W.references writer.new ≡ W.references writer.old }

@@ -47,8 +47,8 @@ pub fn to_vec<T: Serialize>(alloc: Global, value: &T) -> Result<Vec<u8>>
     ensures in_range { IfOk result (λ bytes. IsDocumentInRange (T.document value.now)) }
     ensures written { IfOk result
         (λ bytes. bytes.items ≡ document_bytes (T.document value.now) false false) }
-    // Where the document is that of a `Value`, these are the value's canonical spelling, and stand
-    // for it among all values.
+    // Where the document is that of a `Value`, these are the value's canonical spelling, stand for
+    // it among all values, and are read as it, if it is ordered and nests at most 127 levels.
     ensures canonical { IfOk result (λ bytes. SpellsValues bytes.items (T.document value.now)) }
     ensures refused { IfErr result (IsNotWritten (IsStorableDocument (T.document value.now))) }
 {
@@ -58,7 +58,8 @@ pub fn to_vec<T: Serialize>(alloc: Global, value: &T) -> Result<Vec<u8>>
 }
 
 /// The bytes of a value's document as [`to_vec`] answers them, but in the packed format: fields and
-/// unit variants by their numbers in place of their names, and the keys of struct variants too.
+/// unit variants by their numbers in place of their names, and the keys of struct variants too. A
+/// [`Value`](cbor_value::Value) is written as its canonical spelling here too.
 ///
 /// It refuses what `to_vec` refuses.
 pub fn to_vec_packed<T: Serialize>(alloc: Global, value: &T) -> Result<Vec<u8>>
@@ -66,6 +67,8 @@ pub fn to_vec_packed<T: Serialize>(alloc: Global, value: &T) -> Result<Vec<u8>>
     ensures in_range { IfOk result (λ bytes. IsDocumentInRange (T.document value.now)) }
     ensures written { IfOk result
         (λ bytes. bytes.items ≡ document_bytes (T.document value.now) true false) }
+    // A `Value` has no fields: it is written as `to_vec` writes it.
+    ensures canonical { IfOk result (λ bytes. SpellsValues bytes.items (T.document value.now)) }
     ensures refused { IfErr result (IsNotWritten (IsStorableDocument (T.document value.now))) }
 {
     let mut ser = Serializer::new(alloc, Vec::new(alloc)).packed_format();

@@ -1,6 +1,7 @@
 //! Writing items one by one.
 
 ghost use Rattle.std.specs.Prelude.{◌≡◌, ◌++◌, ℕ, List, length, pos, true, false, encode_utf8};
+ghost use Rattle.std.specs.Prelude.{IsErrAnd};
 ghost use Rattle.cbor_model.specs.Head.{short};
 ghost use Rattle.cbor_model.specs.Document.{null, bool, integer, bytes, text, unit_variant};
 ghost use Rattle.cbor_model.specs.Document.{document_of};
@@ -9,6 +10,7 @@ ghost use Rattle.cbor_model.specs.Canonical.{IsStorableInteger};
 ghost use Rattle.cbor_io.specs.Head.{major_number};
 ghost use Rattle.cbor_value.specs.View.{view, float_view};
 ghost use Rattle.cbor_ser.specs.Serialized.{writer_of, settings_of, Serialized, Spells};
+ghost use Rattle.cbor_ser.specs.Written.{SaysUnstorable};
 
 use crate::items::{
     answer, not_storable, write_float, write_head, write_integer, write_string, write_value,
@@ -223,11 +225,13 @@ impl<W: Write> Serializer<W> {
     }
 
     /// Appends a whole number. Outside `-2^64..=2^64-1` it is refused with the message
-    /// `The number can't be stored in CBOR`, for which it takes memory, and nothing is appended.
+    /// `The number can't be stored in CBOR`, for which it takes memory (or with `OutOfMemory`, where
+    /// that isn't found): never by the sink, to which nothing is appended.
     pub fn serialize_i128(&mut self, v: i128) -> Result<()>
         ensures written { Serialized W.written W.refuses W.references self.old (item (integer v))
             self.new result }
         ensures kept { (IsStorableInteger v → ⊥) → self.new ≡ self.old }
+        ensures unstorable { (IsStorableInteger v → ⊥) → IsErrAnd result SaysUnstorable }
     {
         let mut refusal = None;
         let done = write_integer(self.alloc, &mut self.writer, &mut refusal, v);
@@ -239,6 +243,7 @@ impl<W: Write> Serializer<W> {
         ensures written { Serialized W.written W.refuses W.references self.old
             (item (integer (pos v))) self.new result }
         ensures kept { (IsStorableInteger (pos v) → ⊥) → self.new ≡ self.old }
+        ensures unstorable { (IsStorableInteger (pos v) → ⊥) → IsErrAnd result SaysUnstorable }
     {
         match u64::try_from(v) {
             Ok(n) => self.serialize_u64(n),

@@ -13,5 +13,5 @@ pub returns-clause-canonical : goal.returns-clause-canonical
 returns-clause-canonical g c =
     let d = g.T.Serialize.document c.args.value.now in
     let empty : c.new-ser.result.writer.items ≡ [] = search rules in
-    spells_values c.into_inner.result.items d c.in_ok-serialize.ensures.ok.storable c.in_ok-serialize.ensures.ok.in_range
+    spells_values c.into_inner.result.items d false false c.in_ok-serialize.ensures.ok.storable c.in_ok-serialize.ensures.ok.in_range
     (ap (λ v. v.items) c.into_inner.ensures ∙ vector_holds d false false empty c.new-ser.ensures.settings c.in_ok-serialize.ensures.ok)

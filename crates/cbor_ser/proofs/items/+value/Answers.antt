@@ -1,7 +1,11 @@
-use Rattle.std.proofs.Common.{◌≡◌, ◌∙◌, ◌++◌, length, sym, ap, rules}
+use Rattle.std.proofs.Common.{◌≡◌, ℕ, List, ◌∙◌, ◌++◌, length, sym, ap, subst, rules}
+use Rattle.std.specs.String.{string_bytes}
+use Rattle.std.proofs.lemmas.Str.{IsUtf8-string_bytes}
+use Rattle.cbor_model.specs.InMemory.{IsInMemory, IsByteString}
+use Rattle.cbor_ser.proofs.Ranges.{always}
 use Rattle.std.specs.Prelude.{Ok}
 use Rattle.cbor_model.specs.Plain.{Pairs}
-use Rattle.cbor_value.proofs.facts.Views.{count_views}
+use Rattle.cbor_value.proofs.facts.Views.{count_views, view_bytes, view_text}
 use Rattle.cbor_model.specs.Head.{short}
 use Rattle.cbor_model.specs.Plain as plain
 use Rattle.cbor_model.specs.Spelling.{spell_all, spell_pairs}
@@ -9,7 +13,7 @@ use Rattle.cbor_model.specs.Canonical.{canon, canonical_all, canonical_pairs}
 use Rattle.cbor_value.specs.View.{view, views, map_view, pair_views}
 use Rattle.cbor_ser.proofs.Beginnings.{and_then, stops, same_bytes, nothing}
 use Rattle.cbor_ser.proofs.Writing.{array_spelled, map_spelled, tag_spelled, item_spelled, none_spelled, pair_spelled, no_pair_spelled, storable_from, storable_at, key_storable_at, value_storable_at, pair_storable_from, refused_inside}
-use Rattle.cbor_ser.proofs.Ranges.{in_range_from, pair_in_range_from}
+use Rattle.cbor_ser.proofs.Ranges.{in_memory_from, pair_in_memory_from}
 use Rattle.cbor_ser.proofs.items.+value.Goals as goal
 
 pub write_tag-returns-in_err-write_head-clause-written : goal.write_tag-returns-in_err-write_head-clause-written
@@ -77,7 +81,7 @@ write_items-loop-item-preserved g t c =
     let item = c.item-item.result in
     record {
       storable = λ after. c.loop-item.invariant.storable (storable_from items i item c.loop-item-test.true c.item-item.is c.in_ok-write_value.ensures.storable after);
-      in_range = λ after. c.loop-item.invariant.in_range (in_range_from items i item c.loop-item-test.true c.item-item.is c.in_ok-write_value.ensures.in_range after);
+      in_memory = λ after. c.loop-item.invariant.in_memory (in_memory_from items i item c.loop-item-test.true c.item-item.is c.in_ok-write_value.ensures.in_memory after);
       written = λ new r rest. c.loop-item.invariant.written new r (same_bytes (item_spelled items i item c.loop-item-test.true c.item-item.is)
           (and_then _ _ new _ _ r c.in_ok-write_value.ensures.written.ok rest));
       same_references = c.in_ok-write_value.ensures.same_references ∙ c.loop-item.invariant.same_references;
@@ -122,9 +126,24 @@ write_pairs-loop-key-preserved g t c =
     record {
       storable = λ after. c.loop-key.invariant.storable
           (pair_storable_from pairs i pair c.loop-key-test.true c.loop-key-item.is c.in_ok-write_value.ensures.storable c.in_ok-write_value-2.ensures.storable after);
-      in_range = λ after. c.loop-key.invariant.in_range
-          (pair_in_range_from pairs i pair c.loop-key-test.true c.loop-key-item.is c.in_ok-write_value.ensures.in_range c.in_ok-write_value-2.ensures.in_range after);
+      in_memory = λ after. c.loop-key.invariant.in_memory
+          (pair_in_memory_from pairs i pair c.loop-key-test.true c.loop-key-item.is c.in_ok-write_value.ensures.in_memory c.in_ok-write_value-2.ensures.in_memory after);
       written = λ new r rest. c.loop-key.invariant.written new r (same_bytes (pair_spelled pairs i pair c.loop-key-test.true c.loop-key-item.is)
           (and_then _ _ new _ _ r c.in_ok-write_value.ensures.written.ok (and_then _ _ new _ _ r c.in_ok-write_value-2.ensures.written.ok rest)));
       same_references = c.in_ok-write_value-2.ensures.same_references ∙ (c.in_ok-write_value.ensures.same_references ∙ c.loop-key.invariant.same_references);
     }
+
+-- ---- strings
+
+pub write_value-returns-in-Bytes-clause-in_memory : goal.write_value-returns-in-Bytes-clause-in_memory
+write_value-returns-in-Bytes-clause-in_memory g t c =
+    let same : view c.args.value.now ≡ plain.bytes c.deref.result.now =
+    ap view c.in-Bytes.is ∙ view_bytes _ ∙ ap (λ (b : List ℕ). plain.bytes b) (sym c.deref.ensures.value) in
+    always c.write_string.result (subst IsInMemory (sym same) c.write_string.ensures.content)
+
+pub write_value-returns-in-Text-clause-in_memory : goal.write_value-returns-in-Text-clause-in_memory
+write_value-returns-in-Text-clause-in_memory g t c =
+    let s = c.in-Text.text in
+    let same : view c.args.value.now ≡ plain.text (string_bytes s) = ap view c.in-Text.is ∙ view_text _ in
+    let bytes : IsByteString (string_bytes s) = search (rules, c.write_string-in-Text.ensures.content) in
+    always c.write_string-in-Text.result (subst IsInMemory (sym same) (bytes, IsUtf8-string_bytes s))

@@ -2,7 +2,7 @@ use Rattle.std.proofs.Common.{◌≡◌, ℕ, ◌+◌, ◌*◌, List, Option, dr
 use Rattle.std.specs.Prelude.{Result}
 use Rattle.cbor_model.specs.Spelling.{spell_all, spell_pairs}
 use Rattle.cbor_model.specs.Canonical.{canonical_all, canonical_pairs, AreStorable, ArePairsStorable}
-use Rattle.cbor_model.specs.InRange.{AreInRange, ArePairsInRange}
+use Rattle.cbor_model.specs.InMemory.{AreInMemory, ArePairsInMemory}
 use Rattle.cbor_io.specs.Write.{Wrote}
 use Rattle.cbor_value.specs.View.{view, views, map_view, pair_views}
 use Rattle.cbor_ser.specs.declared.items.Refused.{Refused}
@@ -13,7 +13,7 @@ use Rattle.cbor_ser.proofs.items.+value.Given as goal
 abbrev pub invariant-write_items-loop-item : goal.invariant-write_items-loop-item
 invariant-write_items-loop-item g l = record {
   storable : AreStorable (views (drop l.item-index l.items)) → AreStorable (views l.items);
-  in_range : AreInRange (views (drop l.item-index l.items)) → AreInRange (views l.items);
+  in_memory : AreInMemory (views (drop l.item-index l.items)) → AreInMemory (views l.items);
   written : (new : Option (List ℕ)) (r : Result (Unit {0}) Refused)
       → Wrote (g.W.Write.written l.writer) (spell_all (canonical_all (views (drop l.item-index l.items)))) new r
       → Wrote (g.W.Write.written l.fn.writer) (spell_all (canonical_all (views l.items))) new r;
@@ -23,7 +23,7 @@ invariant-write_items-loop-item g l = record {
 abbrev pub invariant-write_pairs-loop-key : goal.invariant-write_pairs-loop-key
 invariant-write_pairs-loop-key g l = record {
   storable : ArePairsStorable (pair_views (drop l.key-index l.pairs)) → ArePairsStorable (pair_views l.pairs);
-  in_range : ArePairsInRange (pair_views (drop l.key-index l.pairs)) → ArePairsInRange (pair_views l.pairs);
+  in_memory : ArePairsInMemory (pair_views (drop l.key-index l.pairs)) → ArePairsInMemory (pair_views l.pairs);
   written : (new : Option (List ℕ)) (r : Result (Unit {0}) Refused)
       → Wrote (g.W.Write.written l.writer) (spell_pairs (canonical_pairs (pair_views (drop l.key-index l.pairs)))) new r
       → Wrote (g.W.Write.written l.fn.writer) (spell_pairs (canonical_pairs (pair_views l.pairs))) new r;

@@ -7,4 +7,4 @@ use Rattle.cbor_ser.proofs.serializer.Serializer.serialize_bytes.Goals as goal
 
 pub returns : goal.returns
 unfolding part_bytes document_bytes raw_of spell
-returns g c = c.write_string.ensures (item (document.bytes c.args.v.now)) (record { same = search rules; storable = tt; in_range = omega arith })
+returns g c = c.write_string.ensures (item (document.bytes c.args.v.now)) (record { same = search rules; storable = tt; in_range = (omega arith, λ i. (c.type_inv.v i).fits) })

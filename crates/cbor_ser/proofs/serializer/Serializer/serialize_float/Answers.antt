@@ -16,6 +16,6 @@ returns g c =
     let s = c.args.self.now.settings in
     let v = float_view c.args.v in
     serialized (item (document.document_of v)) c.answer.result
-    (record { same = document_is_canonical v s.packed s.legacy; storable = storable_document v (float_storable c.args.v); in_range = document_in_range v done.ensures.in_range }) refl done.ensures.same_references
+    (record { same = document_is_canonical v s.packed s.legacy; storable = storable_document v (float_storable c.args.v); in_range = document_in_range v done.ensures.in_memory }) refl done.ensures.same_references
     (told _ done.result _ c.answer.result c.answer.ensures.ok c.answer.ensures.err done.ensures.refused done.ensures.written)
     (told_refused _ done.result _ c.answer.result c.answer.ensures.ok c.answer.ensures.err done.ensures.refused)

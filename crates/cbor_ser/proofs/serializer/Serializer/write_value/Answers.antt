@@ -10,6 +10,6 @@ returns g c =
     let v = view c.args.v.now in
     serialized_value v c.answer.result refl done.ensures.same_references
     (told_ok _ _ done.result _ c.answer.result c.answer.ensures.err done.ensures.refused done.ensures.storable)
-    (told_ok _ _ done.result _ c.answer.result c.answer.ensures.err done.ensures.refused done.ensures.in_range)
+    (told_ok _ _ done.result _ c.answer.result c.answer.ensures.err done.ensures.refused done.ensures.in_memory)
     (told _ done.result _ c.answer.result c.answer.ensures.ok c.answer.ensures.err done.ensures.refused done.ensures.written)
     (told_refused _ done.result _ c.answer.result c.answer.ensures.ok c.answer.ensures.err done.ensures.refused)
