@@ -1,4 +1,5 @@
-ghost use Rattle.std.specs.Prelude.{◌≡◌, ◌<◌, ◌≤◌, length, IfOk};
+ghost use Rattle.std.specs.Prelude.{◌≡◌, ◌↔◌, ◌<◌, ◌≤◌, length, IfOk, IsTrue};
+ghost use Rattle.std.specs.declared.io.ErrorKind.TheVariants.{Interrupted};
 ghost use Rattle.std.specs.Io.KnownBytes.{WriteAppends};
 ghost use Rattle.cbor_io.specs.Write.{IsFault, Wrote, io_writer};
 
@@ -66,11 +67,18 @@ fn write_some<W: io::Write>(writer: &mut W, bytes: &[u8]) -> io::Result<usize>
             Ok(0) => return Err(io::Error::from(ErrorKind::WriteZero)),
             Ok(count) => return Ok(count),
             Err(fault) => {
-                if fault.kind() != ErrorKind::Interrupted {
+                if !is_tried_again(fault.kind()) {
                     return Err(fault);
                 }
             }
         }
     }
     Err(io::Error::from(ErrorKind::Interrupted))
+}
+
+// Whether a write that failed so is tried again: one that was interrupted, and no other.
+fn is_tried_again(kind: ErrorKind) -> bool
+    ensures { IsTrue result ↔ (kind ≡ Interrupted) }
+{
+    kind == ErrorKind::Interrupted
 }
