@@ -30,6 +30,7 @@ pub mod InMemory
 pub mod Room
 pub mod Documents
 pub mod Parts
+pub mod Unstored
 pub mod RawReader
 pub mod Wanted
 pub mod FaultMeaning

@@ -1,5 +1,5 @@
 -- The laws' proofs.
-use Rattle.cbor_model.specs.Laws.{ReaderFinds, ReaderAccepts, SameWithScratch, ScratchNeed, OneSpelling, ValueIsStorable, OrderIsTotal, OneFlat, CanonicalReadsBack, ValueIsCanonical, NormalisedOnce, EqualBytes, ByteOrder, LeastSpelling, ValueIsInRange, FirstRefusal, NoneAllowed, OneFirstRefusal, ReadOrRefused, SpelledAllowsNone, SameFirstRefusal, InMemoryIsInRange, CanonicalIsAcceptable, WrittenReadsBack, LastPairStays, PartsBytes, KeyRule, FollowingIsUnread, RefusedHoldsBeginning, AllThatFitIsHeld}
+use Rattle.cbor_model.specs.Laws.{ReaderFinds, ReaderAccepts, SameWithScratch, ScratchNeed, OneSpelling, ValueIsStorable, OrderIsTotal, OneFlat, CanonicalReadsBack, ValueIsCanonical, NormalisedOnce, EqualBytes, ByteOrder, LeastSpelling, ValueIsInRange, FirstRefusal, NoneAllowed, OneFirstRefusal, ReadOrRefused, SpelledAllowsNone, SameFirstRefusal, InMemoryIsInRange, CanonicalIsAcceptable, WrittenReadsBack, LastPairStays, PartsBytes, KeyRule, FollowingIsUnread, RefusedHoldsBeginning, AllThatFitIsHeld, StoredOrStops, AllIsStored}
 use Rattle.cbor_model.proofs.Whole.{found_whole, read_whole}
 use Rattle.cbor_model.proofs.Scratch as scratch
 use Rattle.cbor_model.proofs.Storable.{storable}
@@ -17,6 +17,7 @@ use Rattle.cbor_model.proofs.Puts as puts
 use Rattle.cbor_model.proofs.Parts as parts
 use Rattle.cbor_model.proofs.RawReader as rawreader
 use Rattle.cbor_model.proofs.Room as room
+use Rattle.cbor_model.proofs.Unstored as unstored
 
 pub reader_finds : ReaderFinds
 reader_finds = found_whole
@@ -107,3 +108,9 @@ refused_holds_beginning = room.holds_beginning
 
 pub all_that_fit_is_held : AllThatFitIsHeld
 all_that_fit_is_held = room.holds_all
+
+pub stored_or_stops : StoredOrStops
+stored_or_stops = unstored.stored_or_stops
+
+pub all_is_stored : AllIsStored
+all_is_stored = unstored.all_stored

@@ -15,11 +15,12 @@ use Rattle.cbor_model.specs.Order.{lex, flat}
 use Rattle.cbor_model.specs.Order.{val_cmp}
 use Rattle.cbor_model.specs.InRange.{IsInRange}
 use Rattle.cbor_model.specs.InMemory.{IsInMemory}
-use Rattle.cbor_model.specs.Document.{Doc, document_bytes}
+use Rattle.cbor_model.specs.Document.{Doc, document_bytes, IsStorableDocument}
 use Rattle.cbor_model.specs.Parts.{parts, part_bytes}
 use Rattle.cbor_model.specs.Formats.{Formats, all_formats, HasAllowedKeys}
 use Rattle.cbor_model.specs.RawReader.{raws_in, Begins}
 use Rattle.cbor_model.specs.Room.{held, whole}
+use Rattle.cbor_model.specs.Unstored.{StandsBefore}
 use Rattle.cbor_model.specs.Definite.{IsDefinite}
 use Rattle.std.specs.Cmp.{IsTotalOrder}
 use Rattle.cbor_model.specs.Refusal.{Refusal, scratch_too_small}
@@ -204,3 +205,13 @@ RefusedHoldsBeginning = (room : ℕ) (pieces : List (List ℕ))
 abbrev pub AllThatFitIsHeld : Type 0
 AllThatFitIsHeld = (room : ℕ) (pieces : List (List ℕ))
     → length (whole pieces) ≤ room → held room pieces ≡ whole pieces
+
+-- A document is storable, or has a first number that isn't stored.
+abbrev pub StoredOrStops : Type 0
+StoredOrStops = (packed legacy : Bool) (d : Doc)
+    → IsStorableDocument d ⊎ ((front : List ℕ) × StandsBefore d packed legacy front)
+
+-- Where all its numbers are stored, it has none.
+abbrev pub AllIsStored : Type 0
+AllIsStored = (d : Doc) (packed legacy : Bool) (front : List ℕ)
+    → IsStorableDocument d → ¬ (StandsBefore d packed legacy front)

@@ -17,6 +17,7 @@ pub mod InMemory
 pub mod Definite
 pub mod Document
 pub mod Parts
+pub mod Unstored
 pub mod Formats
 pub mod Readable
 pub mod RawReader

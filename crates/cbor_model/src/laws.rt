@@ -7,7 +7,7 @@ ghost use Rattle.cbor_model.specs.Laws.{FirstRefusal, NoneAllowed, OneFirstRefus
 ghost use Rattle.cbor_model.specs.Laws.{SpelledAllowsNone, SameFirstRefusal, InMemoryIsInRange};
 ghost use Rattle.cbor_model.specs.Laws.{CanonicalIsAcceptable, WrittenReadsBack, LastPairStays};
 ghost use Rattle.cbor_model.specs.Laws.{PartsBytes, KeyRule, FollowingIsUnread, AllThatFitIsHeld};
-ghost use Rattle.cbor_model.specs.Laws.{RefusedHoldsBeginning};
+ghost use Rattle.cbor_model.specs.Laws.{RefusedHoldsBeginning, StoredOrStops, AllIsStored};
 
 /// What the reference reader reads is the value of an acceptable item, and the bytes are its
 /// spelling.
@@ -177,4 +177,14 @@ pub fn refused_holds_beginning()
 /// A slice that is as long as all pieces holds them all.
 pub fn all_that_fit_is_held()
     ensures { AllThatFitIsHeld }
+{}
+
+/// A document is storable, or has a first number that isn't stored, before which some bytes stand.
+pub fn stored_or_stops()
+    ensures { StoredOrStops }
+{}
+
+/// A storable document has no number that isn't stored.
+pub fn all_is_stored()
+    ensures { AllIsStored }
 {}

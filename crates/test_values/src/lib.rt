@@ -4,6 +4,8 @@
 #[cfg(test)]
 mod beginnings;
 #[cfg(test)]
+mod byte_order;
+#[cfg(test)]
 mod checks;
 #[cfg(test)]
 mod serializer;

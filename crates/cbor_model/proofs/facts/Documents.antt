@@ -4,3 +4,5 @@
 pub use Rattle.cbor_model.proofs.Documents.{document_item, document_is_canonical, storable_document, storable_value, document_in_range, value_in_range, value_in_memory}
 -- a document's bytes are those of its parts, and it is storable and in range where they are
 pub use Rattle.cbor_model.proofs.Parts.{parts_bytes, storable_parts, parts_storable, parts_in_range}
+-- what stands before its first number that isn't stored is so in its parts, and there is none where all is stored
+pub use Rattle.cbor_model.proofs.Unstored.{before_parts, all_stored, each_stored, part_stored}
