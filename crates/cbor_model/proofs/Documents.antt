@@ -88,12 +88,12 @@ mutual
 
 -- ---- a value is one in memory where its document is in range
 
-documents_counted : (vs : Vals) → doc_count (documents_of vs) ≡ count vs
+pub documents_counted : (vs : Vals) → doc_count (documents_of vs) ≡ count vs
 unfolding document_of
 documents_counted no_vals = refl
 documents_counted (val v vs) = ap suc (documents_counted vs)
 
-pairs_counted : (ps : Pairs) → doc_pair_count (document_pairs_of ps) ≡ pair_count ps
+pub pairs_counted : (ps : Pairs) → doc_pair_count (document_pairs_of ps) ≡ pair_count ps
 unfolding document_of
 pairs_counted no_pairs = refl
 pairs_counted (pair k v ps) = ap suc (pairs_counted ps)

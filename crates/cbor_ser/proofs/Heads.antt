@@ -1,5 +1,5 @@
 -- What precedes the parts of a variant, and a field, put together from heads and identifiers.
-use Rattle.std.proofs.Common.{◌≡◌, ℕ, ◌+◌, ◌^◌, ◌<◌, Bool, List, length, ◌++◌, suc, Some, true, false, refl, sym, ap, ◌∙◌, arith}
+use Rattle.std.proofs.Common.{◌≡◌, ℕ, ◌+◌, ◌^◌, ◌<◌, Bool, List, length, ◌++◌, suc, Some, true, false, refl, sym, ap, ◌∙◌, inr, arith}
 use Rattle.cbor_model.specs.Head.{short}
 use Rattle.cbor_model.specs.Spelling.{spell}
 use Rattle.cbor_model.specs.Document.{Doc, unit_variant, raw_of, document_bytes, identifier, IsStorableDocument}
@@ -33,6 +33,7 @@ key_same s i n fits fits' = record {
   storable = λ h. tt;
   unstorable = λ h. key_storable s.packed i n fits;
   in_range = λ h. (fits, fits');
+  before = λ front h. absurd h;
 }
 
 pub newtype_legacy : (s : Settings) (i : ℕ) (n : List ℕ) → s.legacy ≡ true → Same s (legacy_head 2 i n) (newtype_head i n)
@@ -42,6 +43,7 @@ newtype_legacy s i n is = record {
   storable = λ h. tt;
   unstorable = λ h. (tt, tt);
   in_range = λ h. h.1;
+  before = λ front h. absurd h;
 }
 
 pub newtype_named : (s : Settings) (i : ℕ) (n : List ℕ) → s.legacy ≡ false → i < 2 ^ 64 → Same s (key_head false i n) (newtype_head i n)
@@ -51,6 +53,7 @@ newtype_named s i n is fits = record {
   storable = λ h. tt;
   unstorable = λ h. (tt, tt);
   in_range = λ h. (fits, h.1.0.0);
+  before = λ front h. absurd h;
 }
 
 pub tuple_legacy : (s : Settings) (i : ℕ) (n : List ℕ) (len : ℕ) → s.legacy ≡ true → Same s (legacy_head (len + 1) i n) (tuple_head i n len)
@@ -60,6 +63,7 @@ tuple_legacy s i n len is = let more : len + 1 ≡ suc len = omega arith in reco
   storable = λ h. tt;
   unstorable = λ h. (tt, tt);
   in_range = λ h. (h.1.0, h.1.1, omega (arith, h.0));
+  before = λ front h. absurd h;
 }
 
 pub tuple_named : (s : Settings) (i : ℕ) (n : List ℕ) (len : ℕ) → s.legacy ≡ false → i < 2 ^ 64 → suc len < 2 ^ 64
@@ -70,6 +74,7 @@ tuple_named s i n len is fits fits' = record {
   storable = λ h. tt;
   unstorable = λ h. ((tt, tt), tt);
   in_range = λ h. (fits, h.0.1.0.0, fits');
+  before = λ front h. absurd h;
 }
 
 pub struct_legacy : (s : Settings) (i : ℕ) (n : List ℕ) → s.legacy ≡ true → Same s (legacy_head 2 i n) (struct_head i n)
@@ -79,6 +84,7 @@ struct_legacy s i n is = record {
   storable = λ h. tt;
   unstorable = λ h. (tt, tt);
   in_range = λ h. h.1;
+  before = λ front h. absurd h;
 }
 
 pub struct_identified : (s : Settings) (i : ℕ) (n : List ℕ) → s.legacy ≡ false → i < 2 ^ 64 → length n < 2 ^ 64 → Same s (key_head s.packed i n) (struct_head i n)
@@ -88,6 +94,7 @@ struct_identified s i n is fits fits' = record {
   storable = λ h. tt;
   unstorable = λ h. (tt, key_storable s.packed i n fits);
   in_range = λ h. (fits, fits');
+  before = λ front h. absurd h;
 }
 
 pub field_same : (s : Settings) (i : ℕ) (n : List ℕ) (d : Doc) → Same s (both (item (unit_variant i n)) (item d)) (field_part i n d)
@@ -97,4 +104,5 @@ field_same s i n d = record {
   storable = λ h. h.1;
   unstorable = λ h. (tt, h);
   in_range = λ h. (h.0.0, h.0.1, h.1);
+  before = λ front h. inr (tt, h);
 }

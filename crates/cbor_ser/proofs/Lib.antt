@@ -1,5 +1,6 @@
 pub mod Writing
 pub mod Ranges
+pub mod Unstored
 pub mod Bytes
 pub mod Beginnings
 pub mod Steps

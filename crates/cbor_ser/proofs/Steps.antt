@@ -11,14 +11,15 @@ use Rattle.cbor_model.specs.Canonical.{canon, IsStorable, IsStorableInteger}
 use Rattle.cbor_model.specs.InMemory.{IsInMemory}
 use Rattle.cbor_model.specs.Document.{Doc, document_of, document_bytes, IsStorableDocument, IsDocumentInRange}
 use Rattle.cbor_model.specs.Parts.{Part, item, both, ending, parts, part_bytes, IsStorablePart, IsPartInRange}
-use Rattle.cbor_model.proofs.facts.Documents.{parts_bytes, storable_parts, parts_storable, parts_in_range, document_is_canonical, storable_document, storable_value, document_in_range, value_in_range}
+use Rattle.cbor_model.proofs.facts.Documents.{parts_bytes, storable_parts, parts_storable, parts_in_range, before_parts, part_stored, all_stored, document_is_canonical, storable_document, storable_value, document_in_range, value_in_range}
 use Rattle.cbor_value.specs.declared.Float.{Float}
 use Rattle.cbor_value.specs.declared.Float.TheVariants.{Half, Single, Double}
 use Rattle.cbor_value.specs.View.{float_view}
 use Rattle.cbor_io.specs.declared.error.Error.{Error}
 use Rattle.cbor_io.specs.Write.{AppendsBeginning, Wrote}
 use Rattle.cbor_ser.specs.Written.{IsUnstorable, DocumentRefused}
-use Rattle.cbor_ser.specs.Serialized.{Added, Stopped, Serialized, Spells, bytes_under, WroteValues}
+use Rattle.cbor_model.specs.Unstored.{StandsBefore, StandsBeforeIn}
+use Rattle.cbor_ser.specs.Serialized.{Added, Stopped, Serialized, Spells, bytes_under, WroteValues, StopsBefore, EndsBefore}
 use Rattle.cbor_ser.specs.declared.serializer.Settings.{Settings}
 use Rattle.cbor_ser.specs.declared.serializer.Serializer.{Serializer}
 use Rattle.cbor_ser.proofs.Beginnings.{began_more, began_then}
@@ -45,6 +46,7 @@ pub record Same (s : Settings) (f g : Part) : Type 0 where
   pub storable : IsStorablePart f → IsStorablePart g
   pub unstorable : IsStorablePart g → IsStorablePart f
   pub in_range : IsPartInRange f → IsPartInRange g
+  pub before : (front : List ℕ) → StandsBeforeIn g s.packed s.legacy front → StandsBeforeIn f s.packed s.legacy front
 
 -- a document is its parts
 parts_same : (s : Settings) (d : Doc) → Same s (parts d) (item d)
@@ -54,6 +56,7 @@ parts_same s d = record {
   storable = storable_parts d;
   unstorable = parts_storable d;
   in_range = parts_in_range d;
+  before = before_parts s.packed s.legacy d;
 }
 
 pub added_then : {W : Type 0} {written : W → Option (List ℕ)} {references : W → List ℕ} {old mid new : Serializer W} {f g : Part} → Added written references old f mid → Added written references mid g new → Added written references old (both f g) new
@@ -96,17 +99,35 @@ module _ {W : Type 0} {written : W → Option (List ℕ)} {refuses : W → Error
     ok = tt;
     err = record {
       appended = subst (λ bs. AppendsBeginning bs (written old.writer) (written new.writer)) (sym spells.same) w.err;
+      before = λ front h. absurd (part_stored part old.settings.packed old.settings.legacy front spells.storable h);
       settings = kept;
       same_references = same_references;
       refused = inl refused;
     };
   }
 
+  stopped_within : {old mid new : Serializer W} {f g : Part} {e : Error} → Added written references old f mid → Stopped written refuses references mid g new e → StopsBefore old.settings (both f g) (written old.writer) (written new.writer)
+  unfolding part_bytes
+  stopped_within {old = old} {mid = mid} {new = new} {f = f} {g = g} a b front h = elim h [
+    | inl x ↦ absurd (part_stored f old.settings.packed old.settings.legacy front a.storable x)
+    | inr y ↦ subst (λ bs. AppendsBeginning bs (written old.writer) (written new.writer)) (sym y.1.1)
+        (began_then (written old.writer) (written mid.writer) (written new.writer) (bytes_under old.settings f) y.1.0 a.appended
+        (b.before y.1.0 (subst (λ (s : Settings). StandsBeforeIn g s.packed s.legacy y.1.0) (sym a.settings) y.1.2)))
+  ]
+
+  stopped_earlier : {old new : Serializer W} {f : Part} (g : Part) {e : Error} → Stopped written refuses references old f new e → StopsBefore old.settings (both f g) (written old.writer) (written new.writer)
+  unfolding part_bytes
+  stopped_earlier {old = old} {new = new} g b front h = elim h [
+    | inl x ↦ b.before front x
+    | inr y ↦ subst (λ bs. AppendsBeginning bs (written old.writer) (written new.writer)) (sym y.1.1) (began_more y.1.0 b.appended)
+  ]
+
   stopped_then : {old mid new : Serializer W} {f g : Part} {e : Error} → Added written references old f mid → Stopped written refuses references mid g new e → Stopped written refuses references old (both f g) new e
   unfolding part_bytes
   stopped_then {old = old} {mid = mid} {new = new} {f = f} {g = g} a b = record {
     appended = began_then (written old.writer) (written mid.writer) (written new.writer) (bytes_under old.settings f) (bytes_under old.settings g) a.appended
         (subst (λ (s : Settings). AppendsBeginning (bytes_under s g) (written mid.writer) (written new.writer)) a.settings b.appended);
+    before = stopped_within a b;
     settings = b.settings ∙ a.settings;
     same_references = b.same_references ∙ a.same_references;
     refused = elim b.refused [ inl r ↦ inl r | inr u ↦ inr ((λ h. u.0 h.1), u.1) ];
@@ -116,6 +137,7 @@ module _ {W : Type 0} {written : W → Option (List ℕ)} {refuses : W → Error
   unfolding part_bytes
   stopped_before {old = old} g b = record {
     appended = began_more (bytes_under old.settings g) b.appended;
+    before = stopped_earlier g b;
     settings = b.settings;
     same_references = b.same_references;
     refused = elim b.refused [ inl r ↦ inl r | inr u ↦ inr ((λ h. u.0 h.0), u.1) ];
@@ -151,6 +173,7 @@ module _ {W : Type 0} {written : W → Option (List ℕ)} {refuses : W → Error
     ok = tt;
     err = record {
       appended = subst (λ bs. AppendsBeginning bs (written old.writer) (written new.writer)) is.same h.err.appended;
+      before = λ front x. h.err.before front (is.before front x);
       settings = h.err.settings;
       same_references = h.err.same_references;
       refused = elim h.err.refused [ inl r ↦ inl r | inr u ↦ inr ((λ g. u.0 (is.unstorable g)), u.1) ];
@@ -179,9 +202,9 @@ module _ {W : Type 0} {written : W → Option (List ℕ)} {refuses : W → Error
 
   -- a value's canonical spelling was written, which is that of its document
   pub serialized_value : {T : Type 0} {old new : Serializer W} (v : Val) (r : Result T Error) → new.settings ≡ old.settings → references new.writer ≡ references old.writer → OnOk r (IsStorable v) → OnOk r (IsInMemory v)
-      → Wrote (written old.writer) (canon v) (written new.writer) r → IfErr r (λ e. refuses new.writer e ⊎ IsUnstorable v e) → Serialized written refuses references old (item (document_of v)) new r
+      → Wrote (written old.writer) (canon v) (written new.writer) r → IfErr r (λ e. refuses new.writer e ⊎ IsUnstorable v e) → EndsBefore (document_of v) (written old.writer) (written new.writer) → Serialized written refuses references old (item (document_of v)) new r
   unfolding part_bytes
-  serialized_value {old = old} {new = new} v (Ok x) kept same_references storable in_range w refused = record {
+  serialized_value {old = old} {new = new} v (Ok x) kept same_references storable in_range w refused before = record {
     ok = record {
       appended = subst (λ bs. Appends (written old.writer) (written new.writer) bs) (sym (document_is_canonical v old.settings.packed old.settings.legacy)) w.ok;
       settings = kept;
@@ -191,10 +214,11 @@ module _ {W : Type 0} {written : W → Option (List ℕ)} {refuses : W → Error
     };
     err = tt;
   }
-  serialized_value {old = old} {new = new} v (Err e) kept same_references storable in_range w refused = record {
+  serialized_value {old = old} {new = new} v (Err e) kept same_references storable in_range w refused before = record {
     ok = tt;
     err = record {
       appended = subst (λ bs. AppendsBeginning bs (written old.writer) (written new.writer)) (sym (document_is_canonical v old.settings.packed old.settings.legacy)) w.err;
+      before = before old.settings.packed old.settings.legacy;
       settings = kept;
       same_references = same_references;
       refused = elim refused [ inl r ↦ inl r | inr u ↦ inr ((λ h. u.0 (storable_value v h)), u.1) ];
@@ -209,6 +233,7 @@ module _ {W : Type 0} {written : W → Option (List ℕ)} {refuses : W → Error
     storable = λ h. (h, tt);
     unstorable = λ h. h.0;
     in_range = λ h. (h, tt);
+    before = λ front h. elim h [ inl x ↦ x | inr y ↦ absurd y.1.2 ];
   }) h
 
   -- ---- a document, by the settings that its serializer began with
@@ -224,6 +249,11 @@ module _ {W : Type 0} {written : W → Option (List ℕ)} {refuses : W → Error
     ok = tt;
     err = subst (λ (s : Settings). AppendsBeginning (document_bytes d s.packed s.legacy) (written old.writer) (written new.writer)) begun h.err.appended;
   }
+
+  pub document_before : {T : Type 0} {old new : Serializer W} {d : Doc} {r : Result T Error} (p l : Bool) → old.settings ≡ record { packed = p; legacy = l }
+      → Serialized written refuses references old (item d) new r → (front : List ℕ) → StandsBefore d p l front → AppendsBeginning front (written old.writer) (written new.writer)
+  document_before {d = d} {r = Ok x} p l begun h front stands = absurd (all_stored d p l front h.ok.storable stands)
+  document_before {old = old} {d = d} {r = Err e} p l begun h front stands = h.err.before front (subst (λ (s : Settings). StandsBefore d s.packed s.legacy front) (sym begun) stands)
 
   pub document_refused : {T : Type 0} {old new : Serializer W} {d : Doc} {r : Result T Error} → Serialized written refuses references old (item d) new r → IfErr r (DocumentRefused refuses new.writer d)
   document_refused {r = Ok x} h = tt

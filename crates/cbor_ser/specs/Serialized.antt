@@ -1,13 +1,14 @@
 -- What a call of a serializer leaves: a part of a document was appended to its sink, or a beginning
 -- of that part. `written` tells a sink's bytes, `refuses` its errors, and `references` what it
 -- writes through, as `Write` has them.
-use Rattle.std.specs.Prelude.{◌≡◌, ℕ, List, Option, ◌⊎◌, Result, OnOk, IfErr}
+use Rattle.std.specs.Prelude.{◌≡◌, ℕ, List, Option, ◌⊎◌, Bool, Result, OnOk, IfErr}
 use Rattle.std.specs.Io.KnownBytes.{Appends}
 use Rattle.cbor_model.specs.Plain.{Val}
 use Rattle.cbor_model.specs.Canonical.{IsStorable, canon}
 use Rattle.cbor_model.specs.InRange.{IsInRange}
 use Rattle.cbor_model.specs.Document.{Doc, document_of}
 use Rattle.cbor_model.specs.Parts.{Part, part_bytes, IsStorablePart, IsPartInRange}
+use Rattle.cbor_model.specs.Unstored.{StandsBefore, StandsBeforeIn}
 use Rattle.cbor_io.specs.declared.error.Error.{Error}
 use Rattle.cbor_io.specs.Write.{AppendsBeginning, Wrote}
 use Rattle.cbor_ser.specs.Written.{IsUnstorable, SaysUnstorable}
@@ -24,6 +25,16 @@ settings_of s = s.settings
 abbrev pub bytes_under : Settings → Part → List ℕ
 bytes_under s part = part_bytes part s.packed s.legacy
 
+-- What was appended ends before the first number of the part that isn't stored, under these settings.
+abbrev pub StopsBefore : Settings → Part → Option (List ℕ) → Option (List ℕ) → Type 0
+StopsBefore s part old new =
+    (front : List ℕ) → StandsBeforeIn part s.packed s.legacy front → AppendsBeginning front old new
+
+-- The same of a document, whatever the settings.
+abbrev pub EndsBefore : Doc → Option (List ℕ) → Option (List ℕ) → Type 0
+EndsBefore d old new = (packed legacy : Bool) (front : List ℕ)
+    → StandsBefore d packed legacy front → AppendsBeginning front old new
+
 -- The part was appended, and all its numbers fit.
 pub record Added {W : Type 0} (written : W → Option (List ℕ)) (references : W → List ℕ)
     (old : Serializer W) (part : Part) (new : Serializer W) : Type 0 where
@@ -33,13 +44,15 @@ pub record Added {W : Type 0} (written : W → Option (List ℕ)) (references : 
   pub storable : IsStorablePart part
   pub in_range : IsPartInRange part
 
--- A beginning of the part was appended. The error is one of the sink's, or the part has a number
--- that isn't stored.
+-- A beginning of the part was appended, and where the part has a number that isn't stored, a
+-- beginning of what stands before the first. The error is one of the sink's, or the part has such a
+-- number.
 pub record Stopped {W : Type 0} (written : W → Option (List ℕ)) (refuses : W → Error → Type 0)
     (references : W → List ℕ) (old : Serializer W) (part : Part) (new : Serializer W)
     (e : Error) : Type 0 where
   pub appended : AppendsBeginning (bytes_under old.settings part)
       (written old.writer) (written new.writer)
+  pub before : StopsBefore old.settings part (written old.writer) (written new.writer)
   pub settings : new.settings ≡ old.settings
   pub same_references : references new.writer ≡ references old.writer
   pub refused : refuses new.writer e ⊎ ((IsStorablePart part → ⊥) × SaysUnstorable e)

@@ -3,7 +3,7 @@
 //! A step answers no more than whether it was refused, and leaves the error with its caller: an
 //! `Error` is large, and would be copied at each step on the way out.
 
-ghost use Rattle.std.specs.Prelude.{◌≡◌, ◌++◌, length, Err, IfSome, IsSome, IsOk, OnErr, OnOk};
+ghost use Rattle.std.specs.Prelude.{◌≡◌, ◌++◌, ℕ, List, Bool, length, Err, IfSome, IsSome, IsOk, OnErr, OnOk};
 ghost use Rattle.std.specs.Option.{IsSomeAnd};
 ghost use Rattle.cbor_model.specs.Head.{short};
 ghost use Rattle.cbor_model.specs.Plain as plain;
@@ -14,10 +14,12 @@ ghost use Rattle.cbor_model.specs.Canonical.{IsStorableInteger, AreStorable, Are
 ghost use Rattle.cbor_model.specs.InMemory.{IsInMemory, AreInMemory, ArePairsInMemory};
 ghost use Rattle.cbor_model.specs.InMemory.{IsByteString};
 ghost use Rattle.cbor_io.specs.Head.{major_number};
-ghost use Rattle.cbor_io.specs.Write.{Wrote};
+ghost use Rattle.cbor_model.specs.Document.{document_of, documents_of, document_pairs_of};
+ghost use Rattle.cbor_model.specs.Unstored.{StandsBeforeAny, StandsBeforePairs};
+ghost use Rattle.cbor_io.specs.Write.{AppendsBeginning, Wrote};
 ghost use Rattle.cbor_value.specs.View.{view, views, float_view, map_view, pair_views};
 ghost use Rattle.cbor_ser.specs.Written.{SaysUnstorable};
-ghost use Rattle.cbor_ser.specs.Serialized.{ValueRefused};
+ghost use Rattle.cbor_ser.specs.Serialized.{ValueRefused, EndsBefore};
 
 use cbor_io::error::{Error, Result};
 use cbor_io::head::Major;
@@ -172,7 +174,7 @@ pub(crate) fn write_integer<W: Write>(
 
 /// Appends a value's canonical spelling. The allocator is for the text of a refusal alone.
 #[cycle(value)]
-#[tactic(auto, unfolding(cbor_model::specs::Canonical::canon, cbor_model::specs::Canonical::canonical, cbor_model::specs::Spelling::spell))]
+#[tactic(auto, unfolding(cbor_model::specs::Canonical::canon, cbor_model::specs::Canonical::canonical, cbor_model::specs::Spelling::spell, cbor_model::specs::Document::document_of))]
 pub(crate) fn write_value<W: Write>(
     alloc: Global,
     writer: &mut W,
@@ -183,6 +185,8 @@ pub(crate) fn write_value<W: Write>(
     ensures in_memory { OnOk result (IsInMemory (view value.now)) }
     ensures written { Wrote (W.written writer.old) (canon (view value.now))
         (W.written writer.new) result }
+    ensures before { EndsBefore (document_of (view value.now))
+        (W.written writer.old) (W.written writer.new) }
     ensures same_references { W.references writer.new ≡ W.references writer.old }
     ensures refused { OnErr result
         (IsSomeAnd refusal.new (ValueRefused W.refuses writer.new (view value.now))) }
@@ -212,6 +216,8 @@ fn write_tag<W: Write>(
     ensures in_memory { OnOk result (IsInMemory (plain.tag tag (view inner.now))) }
     ensures written { Wrote (W.written writer.old) (canon (plain.tag tag (view inner.now)))
         (W.written writer.new) result }
+    ensures before { EndsBefore (document_of (plain.tag tag (view inner.now)))
+        (W.written writer.old) (W.written writer.new) }
     ensures same_references { W.references writer.new ≡ W.references writer.old }
     ensures refused { OnErr result
         (IsSomeAnd refusal.new (ValueRefused W.refuses writer.new (view inner.now))) }
@@ -232,6 +238,8 @@ fn write_array<W: Write>(
     ensures in_memory { OnOk result (IsInMemory (plain.array (views items.now))) }
     ensures written { Wrote (W.written writer.old) (canon (plain.array (views items.now)))
         (W.written writer.new) result }
+    ensures before { EndsBefore (document_of (plain.array (views items.now)))
+        (W.written writer.old) (W.written writer.new) }
     ensures same_references { W.references writer.new ≡ W.references writer.old }
     ensures refused { OnErr result
         (IsSomeAnd refusal.new
@@ -254,6 +262,9 @@ fn write_items<W: Write>(
     ensures in_memory { OnOk result (AreInMemory (views items.now)) }
     ensures written { Wrote (W.written writer.old) (spell_all (canonical_all (views items.now)))
         (W.written writer.new) result }
+    ensures before { (packed legacy : Bool) (front : List ℕ)
+        → StandsBeforeAny (documents_of (views items.now)) packed legacy front
+        → AppendsBeginning front (W.written writer.old) (W.written writer.new) }
     ensures same_references { W.references writer.new ≡ W.references writer.old }
     ensures refused { OnErr result
         (IsSomeAnd refusal.new
@@ -276,6 +287,8 @@ fn write_map<W: Write>(
     ensures in_memory { OnOk result (IsInMemory (plain.map (map_view map.now))) }
     ensures written { Wrote (W.written writer.old) (canon (plain.map (map_view map.now)))
         (W.written writer.new) result }
+    ensures before { EndsBefore (document_of (plain.map (map_view map.now)))
+        (W.written writer.old) (W.written writer.new) }
     ensures same_references { W.references writer.new ≡ W.references writer.old }
     ensures refused { OnErr result
         (IsSomeAnd refusal.new
@@ -298,6 +311,9 @@ fn write_pairs<W: Write>(
     ensures in_memory { OnOk result (ArePairsInMemory (pair_views pairs.now)) }
     ensures written { Wrote (W.written writer.old)
         (spell_pairs (canonical_pairs (pair_views pairs.now))) (W.written writer.new) result }
+    ensures before { (packed legacy : Bool) (front : List ℕ)
+        → StandsBeforePairs (document_pairs_of (pair_views pairs.now)) packed legacy front
+        → AppendsBeginning front (W.written writer.old) (W.written writer.new) }
     ensures same_references { W.references writer.new ≡ W.references writer.old }
     ensures refused { OnErr result
         (IsSomeAnd refusal.new

@@ -8,10 +8,11 @@
 //! published facts, by which a type's own `serialize` is proved.
 #![tactic(auto)]
 
-ghost use Rattle.std.specs.Prelude.{◌≡◌, false, true, IfOk, IfErr, OnOk};
+ghost use Rattle.std.specs.Prelude.{◌≡◌, ℕ, List, false, true, IfOk, IfErr, OnOk};
 ghost use Rattle.cbor_ser.specs.Serialized.{WroteValues};
 ghost use Rattle.cbor_model.specs.Document.{document_bytes, IsStorableDocument, IsDocumentInRange};
-ghost use Rattle.cbor_io.specs.Write.{Wrote};
+ghost use Rattle.cbor_model.specs.Unstored.{StandsBefore};
+ghost use Rattle.cbor_io.specs.Write.{AppendsBeginning, Wrote};
 ghost use Rattle.cbor_ser.specs.Bytes.{SpellsValues};
 ghost use Rattle.cbor_ser.specs.Written.{IsNotWritten, DocumentRefused};
 
@@ -82,7 +83,8 @@ pub fn to_vec_packed<T: Serialize>(alloc: Global, value: &T) -> Result<Vec<u8>>
 /// `The number can't be stored in CBOR`, and whatever the sink refuses. The allocator is for the
 /// text of the first refusal alone. After an Err, a sink that tells its bytes holds what it had and
 /// a beginning of the document's bytes: where a [`SliceWrite`] is too short, the bytes written are
-/// a beginning of what `to_vec` answers.
+/// a beginning of what `to_vec` answers, and where a number is refused, nothing of what follows it
+/// was written.
 ///
 /// A `Vec<u8>` grows:
 ///
@@ -118,6 +120,9 @@ pub fn to_writer<W: Write, T: Serialize>(alloc: Global, writer: &mut W, value: &
         (document_bytes (T.document value.now) false false) (W.written writer.new) result }
     ensures refused { IfErr result
         (DocumentRefused W.refuses writer.new (T.document value.now)) }
+    // Of a document that can't be stored, a beginning of what stands before its first such number.
+    ensures before { (front : List ℕ) → StandsBefore (T.document value.now) false false front
+        → AppendsBeginning front (W.written writer.old) (W.written writer.new) }
     ensures same_references { W.references writer.new ≡ W.references writer.old }
     // Where the document is that of a `Value`, the bytes are the value's canonical spelling.
     ensures canonical { WroteValues W.written W.refuses writer.old (T.document value.now)

@@ -3,7 +3,7 @@ use Rattle.std.specs.Prelude.{OnOk, IfErr}
 use Rattle.cbor_model.specs.Document.{document_bytes, IsStorableDocument, IsDocumentInRange}
 use Rattle.cbor_io.specs.Write.{Wrote}
 use Rattle.cbor_ser.specs.Written.{DocumentRefused}
-use Rattle.cbor_ser.proofs.Steps.{document_wrote, document_refused, references_stay, wrote_values}
+use Rattle.cbor_ser.proofs.Steps.{document_wrote, document_before, document_refused, references_stay, wrote_values}
 use Rattle.cbor_ser.proofs.to_writer.Goals as goal
 
 pub returns-clause-written : goal.returns-clause-written
@@ -30,3 +30,9 @@ returns-clause-canonical g c v is =
     let refused : IfErr c.serialize.result (DocumentRefused g.W.Write.refuses new d) = document_refused c.serialize.ensures in
     let value = wrote_values {written = g.W.Write.written} {refuses = g.W.Write.refuses} {old = old} {new = new} d c.serialize.result storable in_range wrote refused v is in
     search (rules, stay, value)
+
+pub returns-clause-before : goal.returns-clause-before
+returns-clause-before g c front stands =
+    let stay = references_stay c.serialize.ensures in
+    let before = document_before false false c.new-ser.ensures.settings c.serialize.ensures front stands in
+    search (rules, stay, before)

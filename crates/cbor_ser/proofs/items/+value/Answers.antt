@@ -3,13 +3,20 @@ use Rattle.std.specs.String.{string_bytes}
 use Rattle.std.proofs.lemmas.Str.{IsUtf8-string_bytes}
 use Rattle.cbor_model.specs.InMemory.{IsInMemory, IsByteString}
 use Rattle.cbor_ser.proofs.Ranges.{always}
-use Rattle.std.specs.Prelude.{Ok}
-use Rattle.cbor_model.specs.Plain.{Pairs}
-use Rattle.cbor_value.proofs.facts.Views.{count_views, view_bytes, view_text}
+use Rattle.cbor_ser.proofs.Unstored.{integer_before, head_stopped, head_then, tag_goes_on, array_goes_on, map_goes_on, passed, refused, first_item, no_items_left, first_pair, no_pairs_left}
+use Rattle.std.specs.Prelude.{Ok, FitsSigned}
+use Rattle.std.specs.Int.{w128}
+use Rattle.std.proofs.lemmas.Int.{to_z-of_z}
+use Rattle.cbor_model.specs.Plain.{Val, Pairs}
+use Rattle.cbor_value.specs.declared.Value.{Value, the_lemmas}
+use Rattle.cbor_ser.specs.Serialized.{EndsBefore}
+use Rattle.cbor_value.proofs.facts.Views.{count_views, view_bytes, view_text, view_array, view_map, view_tag}
 use Rattle.cbor_model.specs.Head.{short}
 use Rattle.cbor_model.specs.Plain as plain
 use Rattle.cbor_model.specs.Spelling.{spell_all, spell_pairs}
 use Rattle.cbor_model.specs.Canonical.{canon, canonical_all, canonical_pairs}
+use Rattle.cbor_model.specs.Document.{document_of, document_pairs_of}
+use Rattle.cbor_model.specs.Unstored.{StandsBeforePairs}
 use Rattle.cbor_value.specs.View.{view, views, map_view, pair_views}
 use Rattle.cbor_ser.proofs.Beginnings.{and_then, stops, same_bytes, nothing}
 use Rattle.cbor_ser.proofs.Writing.{array_spelled, map_spelled, tag_spelled, item_spelled, none_spelled, pair_spelled, no_pair_spelled, storable_from, storable_at, key_storable_at, value_storable_at, pair_storable_from, refused_inside}
@@ -84,6 +91,8 @@ write_items-loop-item-preserved g t c =
       in_memory = λ after. c.loop-item.invariant.in_memory (in_memory_from items i item c.loop-item-test.true c.item-item.is c.in_ok-write_value.ensures.in_memory after);
       written = λ new r rest. c.loop-item.invariant.written new r (same_bytes (item_spelled items i item c.loop-item-test.true c.item-item.is)
           (and_then _ _ new _ _ r c.in_ok-write_value.ensures.written.ok rest));
+      before = λ p l front h. passed (view item) p l _ _ _ _ front c.in_ok-write_value.ensures.storable c.in_ok-write_value.ensures.written.ok
+          (first_item items i item p l _ _ front c.loop-item-test.true c.item-item.is (c.loop-item.invariant.before p l front h));
       same_references = c.in_ok-write_value.ensures.same_references ∙ c.loop-item.invariant.same_references;
     }
 
@@ -130,6 +139,9 @@ write_pairs-loop-key-preserved g t c =
           (pair_in_memory_from pairs i pair c.loop-key-test.true c.loop-key-item.is c.in_ok-write_value.ensures.in_memory c.in_ok-write_value-2.ensures.in_memory after);
       written = λ new r rest. c.loop-key.invariant.written new r (same_bytes (pair_spelled pairs i pair c.loop-key-test.true c.loop-key-item.is)
           (and_then _ _ new _ _ r c.in_ok-write_value.ensures.written.ok (and_then _ _ new _ _ r c.in_ok-write_value-2.ensures.written.ok rest)));
+      before = λ p l front h. passed (view pair.1) p l _ _ _ _ front c.in_ok-write_value-2.ensures.storable c.in_ok-write_value-2.ensures.written.ok
+          (passed (view pair.0) p l _ _ _ _ front c.in_ok-write_value.ensures.storable c.in_ok-write_value.ensures.written.ok
+          (first_pair pairs i pair p l _ _ front c.loop-key-test.true c.loop-key-item.is (c.loop-key.invariant.before p l front h)));
       same_references = c.in_ok-write_value-2.ensures.same_references ∙ (c.in_ok-write_value.ensures.same_references ∙ c.loop-key.invariant.same_references);
     }
 
@@ -147,3 +159,93 @@ write_value-returns-in-Text-clause-in_memory g t c =
     let same : view c.args.value.now ≡ plain.text (string_bytes s) = ap view c.in-Text.is ∙ view_text _ in
     let bytes : IsByteString (string_bytes s) = search (rules, c.write_string-in-Text.ensures.content) in
     always c.write_string-in-Text.result (subst IsInMemory (sym same) (bytes, IsUtf8-string_bytes s))
+
+-- ---- before a number that isn't stored
+
+pub write_tag-returns-in_err-write_head-clause-before : goal.write_tag-returns-in_err-write_head-clause-before
+write_tag-returns-in_err-write_head-clause-before g t c p l front h =
+    let v = view c.args.inner.now in
+    head_stopped _ _ _ (short 6 c.args.tag) front c.in_err-write_head.ensures.written.err (tag_goes_on c.args.tag v p l front h)
+
+pub write_tag-returns-clause-before : goal.write_tag-returns-clause-before
+write_tag-returns-clause-before g t c p l front h =
+    let v = view c.args.inner.now in
+    head_then _ _ _ _ (short 6 c.args.tag) front c.in_ok-write_head.ensures.written.ok (c.write_value.ensures.before p l) (tag_goes_on c.args.tag v p l front h)
+
+pub write_array-returns-in_err-write_head-clause-before : goal.write_array-returns-in_err-write_head-clause-before
+write_array-returns-in_err-write_head-clause-before g t c p l front h =
+    let items = c.args.items.now in
+    head_stopped _ _ _ (short 4 (length items)) front c.in_err-write_head.ensures.written.err (array_goes_on items p l front h)
+
+pub write_array-returns-clause-before : goal.write_array-returns-clause-before
+write_array-returns-clause-before g t c p l front h =
+    let items = c.args.items.now in
+    head_then _ _ _ _ (short 4 (length items)) front c.in_ok-write_head.ensures.written.ok (c.write_items.ensures.before p l) (array_goes_on items p l front h)
+
+pub write_map-returns-in_err-write_head-clause-before : goal.write_map-returns-in_err-write_head-clause-before
+write_map-returns-in_err-write_head-clause-before g t c p l front h =
+    let pairs = map_view c.args.map.now in
+    head_stopped _ _ _ (short 5 c.len.result) front c.in_err-write_head.ensures.written.err (map_goes_on pairs c.len.result p l front c.len.ensures.listed h)
+
+pub write_map-returns-clause-before : goal.write_map-returns-clause-before
+write_map-returns-clause-before g t c p l front h =
+    let pairs = map_view c.args.map.now in
+    let listed : pair_views c.as_slice.result.now ≡ pairs = search rules in
+    head_then _ _ _ _ (short 5 c.len.result) front c.in_ok-write_head.ensures.written.ok
+    (λ back stands. c.write_pairs.ensures.before p l back (subst (λ (ps : Pairs). StandsBeforePairs (document_pairs_of ps) p l back) (sym listed) stands))
+    (map_goes_on pairs c.len.result p l front c.len.ensures.listed h)
+
+pub write_items-returns-in_err-write_value-clause-before : goal.write_items-returns-in_err-write_value-clause-before
+write_items-returns-in_err-write_value-clause-before g t c p l front h =
+    let items = c.args.items.now in
+    let item = c.item-item.result in
+    refused (view item) p l _ _ _ _ front c.in_err-write_value.ensures.before c.in_err-write_value.ensures.written.err
+    (first_item items c.loop-item.item-index item p l _ _ front c.loop-item-test.true c.item-item.is (c.loop-item.invariant.before p l front h))
+
+pub write_items-returns-clause-before : goal.write_items-returns-clause-before
+write_items-returns-clause-before g t c p l front h =
+    absurd (no_items_left c.args.items.now c.loop-item.item-index p l _ _ front c.loop-item-test.false (c.loop-item.invariant.before p l front h))
+
+pub write_pairs-returns-in_err-write_value-clause-before : goal.write_pairs-returns-in_err-write_value-clause-before
+write_pairs-returns-in_err-write_value-clause-before g t c p l front h =
+    let pairs = c.args.pairs.now in
+    let pair = c.loop-key-item.result in
+    refused (view pair.0) p l _ _ _ _ front c.in_err-write_value.ensures.before c.in_err-write_value.ensures.written.err
+    (first_pair pairs c.loop-key.key-index pair p l _ _ front c.loop-key-test.true c.loop-key-item.is (c.loop-key.invariant.before p l front h))
+
+pub write_pairs-returns-in_err-write_value-2-clause-before : goal.write_pairs-returns-in_err-write_value-2-clause-before
+write_pairs-returns-in_err-write_value-2-clause-before g t c p l front h =
+    let pairs = c.args.pairs.now in
+    let pair = c.loop-key-item.result in
+    refused (view pair.1) p l _ _ _ _ front c.in_err-write_value-2.ensures.before c.in_err-write_value-2.ensures.written.err
+    (passed (view pair.0) p l _ _ _ _ front c.in_ok-write_value.ensures.storable c.in_ok-write_value.ensures.written.ok
+    (first_pair pairs c.loop-key.key-index pair p l _ _ front c.loop-key-test.true c.loop-key-item.is (c.loop-key.invariant.before p l front h)))
+
+pub write_pairs-returns-clause-before : goal.write_pairs-returns-clause-before
+write_pairs-returns-clause-before g t c p l front h =
+    absurd (no_pairs_left c.args.pairs.now c.loop-key.key-index p l _ _ front c.loop-key-test.false (c.loop-key.invariant.before p l front h))
+
+pub write_value-returns-in-Integer-clause-before : goal.write_value-returns-in-Integer-clause-before
+write_value-returns-in-Integer-clause-before g t c =
+    let i = c.in-Integer.i in
+    let fits : FitsSigned w128 i = search rules in
+    let same : view c.args.value.now ≡ plain.integer i = ap view c.in-Integer.is ∙ search (rules, the_lemmas) in
+    subst (λ (v : Val). EndsBefore (document_of v) (g.W.Write.written c.args.writer.now) (g.W.Write.written c.write_integer.new.writer)) (sym same)
+    (integer_before g.W.Write.written i c.args.writer.now c.write_integer.new.writer (λ not. c.write_integer.ensures.kept (simp to_z-of_z not)))
+
+pub write_value-returns-in-Array-clause-before : goal.write_value-returns-in-Array-clause-before
+write_value-returns-in-Array-clause-before g t c =
+    let same : view c.args.value.now ≡ plain.array (views c.deref-in-Array.result.now) =
+    ap view c.in-Array.is ∙ view_array _ ∙ ap (λ (vs : List Value). plain.array (views vs)) (sym c.deref-in-Array.ensures.value) in
+    subst (λ (v : Val). EndsBefore (document_of v) (g.W.Write.written c.args.writer.now) (g.W.Write.written c.write_array.new.writer)) (sym same) c.write_array.ensures.before
+
+pub write_value-returns-in-Map-clause-before : goal.write_value-returns-in-Map-clause-before
+write_value-returns-in-Map-clause-before g t c =
+    let same : view c.args.value.now ≡ plain.map (map_view c.in-Map.map) = ap view c.in-Map.is ∙ view_map _ in
+    subst (λ (v : Val). EndsBefore (document_of v) (g.W.Write.written c.args.writer.now) (g.W.Write.written c.write_map.new.writer)) (sym same) c.write_map.ensures.before
+
+pub write_value-returns-in-Tag-clause-before : goal.write_value-returns-in-Tag-clause-before
+write_value-returns-in-Tag-clause-before g t c =
+    let same : view c.args.value.now ≡ plain.tag c.in-Tag.tag (view c.deref-in-Tag.result.now) =
+    ap view c.in-Tag.is ∙ view_tag _ _ ∙ ap (λ (w : Value). plain.tag c.in-Tag.tag (view w)) (sym c.deref-in-Tag.ensures) in
+    subst (λ (v : Val). EndsBefore (document_of v) (g.W.Write.written c.args.writer.now) (g.W.Write.written c.write_tag.new.writer)) (sym same) c.write_tag.ensures.before

@@ -1,4 +1,4 @@
-use Rattle.std.proofs.Common.{◌≡◌, ℕ, ◌+◌, ◌*◌, List, Option, drop}
+use Rattle.std.proofs.Common.{◌≡◌, ℕ, ◌+◌, ◌*◌, Bool, List, Option, drop}
 use Rattle.std.specs.Prelude.{Result}
 use Rattle.cbor_model.specs.Spelling.{spell_all, spell_pairs}
 use Rattle.cbor_model.specs.Canonical.{canonical_all, canonical_pairs, AreStorable, ArePairsStorable}
@@ -6,6 +6,9 @@ use Rattle.cbor_model.specs.InMemory.{AreInMemory, ArePairsInMemory}
 use Rattle.cbor_io.specs.Write.{Wrote}
 use Rattle.cbor_value.specs.View.{view, views, map_view, pair_views}
 use Rattle.cbor_ser.specs.declared.items.Refused.{Refused}
+use Rattle.cbor_model.specs.Document.{documents_of, document_pairs_of}
+use Rattle.cbor_model.specs.Unstored.{StandsBeforeAny, StandsBeforePairs}
+use Rattle.cbor_ser.proofs.Unstored.{Later}
 use Rattle.cbor_ser.proofs.Writing.{size, sizes, pair_sizes}
 use Rattle.cbor_ser.proofs.items.+value.Given as goal
 
@@ -17,6 +20,8 @@ invariant-write_items-loop-item g l = record {
   written : (new : Option (List ℕ)) (r : Result (Unit {0}) Refused)
       → Wrote (g.W.Write.written l.writer) (spell_all (canonical_all (views (drop l.item-index l.items)))) new r
       → Wrote (g.W.Write.written l.fn.writer) (spell_all (canonical_all (views l.items))) new r;
+  before : (p q : Bool) (front : List ℕ) → StandsBeforeAny (documents_of (views l.items)) p q front
+      → Later (StandsBeforeAny (documents_of (views (drop l.item-index l.items))) p q) (g.W.Write.written l.fn.writer) front (g.W.Write.written l.writer);
   same_references : g.W.Write.references l.writer ≡ g.W.Write.references l.fn.writer;
 }
 
@@ -27,6 +32,8 @@ invariant-write_pairs-loop-key g l = record {
   written : (new : Option (List ℕ)) (r : Result (Unit {0}) Refused)
       → Wrote (g.W.Write.written l.writer) (spell_pairs (canonical_pairs (pair_views (drop l.key-index l.pairs)))) new r
       → Wrote (g.W.Write.written l.fn.writer) (spell_pairs (canonical_pairs (pair_views l.pairs))) new r;
+  before : (p q : Bool) (front : List ℕ) → StandsBeforePairs (document_pairs_of (pair_views l.pairs)) p q front
+      → Later (StandsBeforePairs (document_pairs_of (pair_views (drop l.key-index l.pairs))) p q) (g.W.Write.written l.fn.writer) front (g.W.Write.written l.writer);
   same_references : g.W.Write.references l.writer ≡ g.W.Write.references l.fn.writer;
 }
 

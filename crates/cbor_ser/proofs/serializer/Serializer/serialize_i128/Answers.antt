@@ -2,6 +2,7 @@ use Rattle.std.proofs.Common.{refl}
 use Rattle.std.proofs.lemmas.Int.{to_z-of_z}
 use Rattle.cbor_ser.proofs.Beginnings.{told, told_refused, told_ok, told_why}
 use Rattle.cbor_ser.proofs.Steps.{serialized_value, always}
+use Rattle.cbor_ser.proofs.Unstored.{integer_before}
 use Rattle.cbor_model.specs.Plain as plain
 use Rattle.cbor_model.specs.Document.{document_of}
 use Rattle.cbor_ser.proofs.serializer.Serializer.serialize_i128.Goals as goal
@@ -15,6 +16,7 @@ returns-clause-written g c =
     let stored = told_ok _ _ done.result _ c.answer.result c.answer.ensures.err done.ensures.refused done.ensures.storable in
     let wrote = told _ done.result _ c.answer.result c.answer.ensures.ok c.answer.ensures.err done.ensures.refused done.ensures.written in
     serialized_value (plain.integer c.args.v) c.answer.result refl done.ensures.same_references (simp to_z-of_z at stored) (always c.answer.result) (simp to_z-of_z at wrote) (simp to_z-of_z at refused)
+    (integer_before g.W.Write.written c.args.v _ _ (λ not. done.ensures.kept (simp to_z-of_z not)))
 
 pub returns-clause-unstorable : goal.returns-clause-unstorable
 returns-clause-unstorable g c =

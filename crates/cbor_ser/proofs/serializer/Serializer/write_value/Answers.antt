@@ -13,3 +13,4 @@ returns g c =
     (told_ok _ _ done.result _ c.answer.result c.answer.ensures.err done.ensures.refused done.ensures.in_memory)
     (told _ done.result _ c.answer.result c.answer.ensures.ok c.answer.ensures.err done.ensures.refused done.ensures.written)
     (told_refused _ done.result _ c.answer.result c.answer.ensures.ok c.answer.ensures.err done.ensures.refused)
+    done.ensures.before
