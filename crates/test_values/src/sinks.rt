@@ -117,23 +117,20 @@ fn tells_a_writers_fault_at_each_call(rt: HostRuntime) -> Done {
         writer.taken.clear();
         writer.left = left;
         let done = to_writer(alloc, &mut IoWrite::new(&mut writer), &value);
-        fails_after(&rt, done, left, writer.taken.len());
+        fails_after(&rt, done, left, writer.taken.len())?;
         assert!(rt; EACH_KIND.starts_with(writer.taken.as_slice()));
     }
     Ok(())
 }
 
 /// A writer that takes so many pieces, of so many bytes, ends the call so.
-fn fails_after(rt: &impl Abort, done: error::Result<()>, left: usize, count: usize) {
-    match done {
-        Ok(()) => assert_eq!(rt; left, PIECES),
-        Err(error) => {
-            assert!(rt; left < PIECES);
-            assert!(rt; error.is_io());
-            assert_eq!(rt; error.offset(), 0);
-            assert!(rt; count < EACH_KIND.len());
-        }
+fn fails_after(rt: &impl Abort, done: error::Result<()>, left: usize, count: usize) -> Done {
+    if left == PIECES {
+        done?;
+        return Ok(());
     }
+    assert!(rt; count < EACH_KIND.len());
+    is_refused(done, "I/O error")
 }
 
 #[test]

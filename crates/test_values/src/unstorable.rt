@@ -1,8 +1,9 @@
 //! Numbers that can't be stored.
 
 use crate::checks::{is_not_written, tag};
+use cbor_ser::{Serializer, SliceWrite};
 use cbor_value::Value;
-use test_checks::Done;
+use test_checks::{Done, is_refused};
 
 #[test]
 fn refuses_numbers_that_are_too_far_out(rt: HostRuntime) -> Done {
@@ -31,4 +32,15 @@ fn refuses_such_a_number_at_any_depth(rt: HostRuntime) -> Done {
     let array = Value::Array(vec![in alloc; Value::Integer(1 << 64), Value::Null]?);
     let tagged = tag(alloc, 2, array)?;
     is_not_written(&rt, alloc, &Value::Array(vec![in alloc; tagged]?))
+}
+
+// There is no room for any byte, and the sink isn't asked.
+#[test]
+fn refuses_such_a_number_before_the_sink(rt: HostRuntime) -> Done {
+    let words = "The number can't be stored in CBOR";
+    let mut room: [u8; 0] = [];
+    let mut ser = Serializer::new(rt.alloc(), SliceWrite::new(&mut room));
+    is_refused(ser.serialize_i128(1 << 64), words)?;
+    is_refused(ser.serialize_i128(-2 - u64::MAX as i128), words)?;
+    is_refused(ser.serialize_u128(1 << 64), words)
 }
