@@ -39,7 +39,9 @@ pub enum Float {
 /// `a.cmp(&b)` is how their bytes compare, so what is sorted by value is sorted by its bytes. A
 /// proof takes this from the contract of `to_vec`: `in_order` says that the bytes of one value
 /// compare with another's as the values do, and `exact` that they are equal where these are. What
-/// both ask of the other value, its own `to_vec` gives, as `storable` and `in_range`.
+/// both ask of the other value, its own `to_vec` gives, as `storable` and `in_range`. For values
+/// that aren't written, [`in_memory`](Value::in_memory) gives the latter, and the law `byte_order`
+/// of `cbor_model` the rest.
 #[cycle(value)]
 #[derive(Debug, Drop)]
 pub enum Value {

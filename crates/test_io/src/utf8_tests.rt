@@ -16,6 +16,14 @@ fn first_and_last_characters_of_each_length(rt: HostRuntime) -> Done {
     Ok(())
 }
 
+/// How many bytes at the front are text, where not all are.
+fn valid_up_to(bytes: &[u8]) -> Option<usize> {
+    match from_utf8(bytes) {
+        Ok(_) => None,
+        Err(e) => Some(e.valid_up_to()),
+    }
+}
+
 #[test]
 fn bytes_just_outside(rt: HostRuntime) {
     let faults = [
@@ -31,16 +39,12 @@ fn bytes_just_outside(rt: HostRuntime) {
         b"\xf5\x80\x80\x80",
     ];
     for fault in faults {
-        assert!(rt; from_utf8(fault.as_slice()).is_err());
+        assert_eq!(rt; valid_up_to(fault.as_slice()), Some(0));
     }
 }
 
 #[test]
 fn the_front_that_is_text(rt: HostRuntime) {
     let cut = b"sixteen bytes at first, and then \xe2\x82";
-    let valid = match from_utf8(cut) {
-        Ok(text) => text.len(),
-        Err(e) => e.valid_up_to(),
-    };
-    assert_eq!(rt; valid, 33);
+    assert_eq!(rt; valid_up_to(cut), Some(33));
 }
