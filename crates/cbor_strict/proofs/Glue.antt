@@ -1,49 +1,79 @@
 -- Strict reading over the ordinary one.
-use Rattle.std.proofs.Common.{◌≡◌, ◌⊎◌, ℕ, suc, ◌+◌, ◌-◌, ◌^◌, ◌<◌, ◌≤◌, List, [], length, take, Result, Ok, Err, Option, Some, None, refl, sym, ap, subst, ◌∙◌, arith, inl, inr}
-use Rattle.cbor_model.specs.Raw.{Raw, AreBytes, depth, IsWellFormed}
-use Rattle.cbor_model.specs.Spelling.{spell}
-use Rattle.cbor_model.specs.Acceptable.{max_depth}
-use Rattle.cbor_model.specs.Plain.{Val}
-use Rattle.cbor_model.specs.Value.{value}
-use Rattle.cbor_model.specs.Canonical.{canonical, canon}
-use Rattle.cbor_model.specs.Laws.{SpellsValue}
-use Rattle.cbor_model.specs.Refusal.{Refusal}
-use Rattle.cbor_model.specs.Reader.{Fault, read_value}
-use Rattle.cbor_model.proofs.Bytes.{spelled_bytes}
-use Rattle.cbor_model.proofs.Canonical.{value_is_canonical}
-use Rattle.cbor_model.proofs.Whole.{read_whole}
-use Rattle.cbor_io.specs.declared.error.Error.{Error}
-use Rattle.cbor_io.specs.declared.error.ErrorCode.{ErrorCode}
-use Rattle.cbor_io.specs.declared.error.ErrorCode.TheVariants as code
-use Rattle.cbor_io.specs.Error.{code_of, offset_of, IsOutOfMemory}
-use Rattle.cbor_de.specs.Gives.{FailsAs, FailsBy, Fails}
-use Rattle.cbor_strict.specs.Departure.{departures, ShowsDeparture}
-use Rattle.cbor_strict.specs.Walk.{passed, departed, walk, walk_of}
-use Rattle.cbor_strict.specs.Strict.{SpellsCanonically, IsFirstShown, IsFirstOfBoth}
-use Rattle.cbor_strict.specs.Walks.{TellsDeparture}
-use Rattle.cbor_strict.proofs.Clean.{clean, canonical_clean}
-use Rattle.cbor_strict.proofs.Departed.{item_departs, none_departs, shown_departs, departed_shows}
-use Rattle.cbor_strict.proofs.Strict.{enough, none_listed, walk_whole, from_front, first_of_front, to_front}
-use Rattle.cbor_strict.proofs.Copied.{spells_canon}
-use Rattle.cbor_strict.proofs.Fronts.{Below, walk_fewer}
+use Rattle.std.proofs.Common.{◌≡◌, ◌⊎◌, ℕ, suc, ◌+◌, ◌-◌, ◌^◌, ◌<◌, ◌≤◌, Bool, true, false, List, [], length, take, None, refl, sym, ap, subst, ◌∙◌, arith, inl, inr}
 use Rattle.std.proofs.lemmas.Bool.{cases_lt}
 use Rattle.std.proofs.lemmas.List.{length-take}
+use Rattle.cbor_model.specs.Raw.{Raw, AreBytes, depth, IsWellFormed}
+use Rattle.cbor_model.specs.Spelling.{spell}
+use Rattle.cbor_model.specs.Acceptable.{IsAcceptable, max_depth}
+use Rattle.cbor_model.specs.Allowed.{limits_of, IsFirstRefusal}
+use Rattle.cbor_model.specs.Formats.{all_formats}
+use Rattle.cbor_model.specs.Plain.{Val}
+use Rattle.cbor_model.specs.Readable.{SpellsAs}
+use Rattle.cbor_model.specs.Value.{value}
+use Rattle.cbor_model.specs.Canonical.{IsOrdered, canonical, canon}
+use Rattle.cbor_model.specs.Laws.{SpellsValue}
+use Rattle.cbor_model.proofs.Bytes.{spelled_bytes}
+use Rattle.cbor_model.proofs.Canonical.{value_is_canonical}
+use Rattle.cbor_model.proofs.facts.Reader.{all_allowed}
+use Rattle.cbor_io.specs.declared.error.Error.{Error}
+use Rattle.cbor_io.specs.declared.error.ErrorCode.TheVariants.{NotCanonical}
+use Rattle.cbor_io.specs.Error.{code_of, offset_of, IsOutOfMemory}
+use Rattle.cbor_de.specs.FirstRefusal.{TellsFirst}
+use Rattle.cbor_scalars.specs.Takes.{WhereTotal}
+use Rattle.cbor_strict.specs.Departure.{departures, DepartsAt, IsFirstDeparture, ShowsDeparture}
+use Rattle.cbor_strict.specs.Walk.{passed, departed, walk, walk_of}
+use Rattle.cbor_strict.specs.Strict.{SpellsCanonically, SpellsCanonicallyAs, IsFirstShown}
+use Rattle.cbor_strict.specs.StrictRefusals.{ordinary, not_canonical, IsFirstStrictRefusal}
+use Rattle.cbor_strict.specs.StrictAnswers.{TellsFirstStrictly, TellsItsDeparture}
+use Rattle.cbor_strict.proofs.Clean.{clean, canonical_clean}
+use Rattle.cbor_strict.proofs.Departed.{item_departs, none_departs, shown_departs, departed_shows}
+use Rattle.cbor_strict.proofs.Strict.{enough, none_listed, listed_none, walk_whole, first_of_front, first_of_item, to_front}
+use Rattle.cbor_strict.proofs.Copied.{spells_canon}
+use Rattle.cbor_strict.proofs.Fronts.{Below, walk_fewer}
+use Rattle.cbor_strict.proofs.FirstRefusals.{departs_alone, departs_before, fault_before}
 
--- what is read and shows no departure is spelled canonically
-pub spelled_canonically : (bs : List ℕ) (v : Val) → length bs < 2 ^ 64 → SpellsValue bs v → ((j : ℕ) → ShowsDeparture bs j → ⊥) → SpellsCanonically bs v
+-- where a type reads every item, a promise that always holds
+pub where_any : {P : Type 0} (total : Bool) → P → WhereTotal total P
+where_any false p = tt
+where_any true p = p
+
+-- ---- what is read
+
+-- an item whose spelling shows no departure is the canonical one
+module _ (bs : List ℕ) (r : Raw) (short : length bs < 2 ^ 64) (good : IsAcceptable r) (spelled : spell r ≡ bs) (none : (j : ℕ) → ShowsDeparture bs j → ⊥) where
+  pub item_is : r ≡ canonical (value r)
+  item_is =
+      let fits : AreBytes bs = subst AreBytes spelled (spelled_bytes r good.fits) in
+      let nowhere = none_listed r (λ i has.
+      let d = item_departs r (enough bs r) good.fits (omega arith) i has in
+      let s = departed_shows bs d.0 fits (walk_whole bs r spelled ∙ d.1) in
+      none s.0 s.2.shows) in
+      clean 0 r good.fits nowhere
+
+  pub item_canonical : SpellsCanonically bs (value r)
+  unfolding canon
+  item_canonical =
+      let small : length (spell r) < 2 ^ 64 = omega (arith, ap length spelled, short) in
+      let made = value_is_canonical max_depth r good small in
+      record { stored = made.0; ordered = made.1; acceptable = made.2; spelled = sym (ap spell item_is) ∙ spelled }
+
+pub read_canonically : {A : Type 0} (reads : Raw → A → Type 0) (bs : List ℕ) (x : A) → length bs < 2 ^ 64 → SpellsAs all_formats reads bs x → ((j : ℕ) → ShowsDeparture bs j → ⊥) → SpellsCanonicallyAs reads bs x
+read_canonically reads bs x short spelt none = record {
+  tree = value spelt.item;
+  spelt = item_canonical bs spelt.item short spelt.acceptable spelt.spelled none;
+  means = subst (λ (r : Raw). reads r x) (item_is bs spelt.item short spelt.acceptable spelt.spelled none) spelt.means;
+}
+
+-- and the other way round
+pub spells_as : {A : Type 0} (reads : Raw → A → Type 0) (bs : List ℕ) (x : A) → SpellsCanonicallyAs reads bs x → SpellsAs all_formats reads bs x
 unfolding canon
-spelled_canonically bs v short spelt none =
-    let r = spelt.item in
-    let good = spelt.acceptable in
-    let small : length (spell r) < 2 ^ 64 = omega (arith, ap length spelt.spelled, short) in
-    let made = value_is_canonical max_depth r good small in
-    let fits : AreBytes bs = subst AreBytes spelt.spelled (spelled_bytes r good.fits) in
-    let nowhere = none_listed r (λ i has.
-    let d = item_departs r (enough bs r) good.fits (omega arith) i has in
-    let s = departed_shows bs d.0 fits (walk_whole bs r spelt.spelled ∙ d.1) in
-    none s.0 s.2.shows) in
-    let same : r ≡ canonical (value r) = clean 0 r good.fits nowhere in
-    rw spelt.valued (record { stored = made.0; ordered = made.1; acceptable = made.2; spelled = sym (ap spell same) ∙ spelt.spelled })
+spells_as reads bs x c = record {
+  item = canonical c.tree;
+  acceptable = c.spelt.acceptable;
+  keys = all_allowed (canonical c.tree);
+  spelled = c.spelt.spelled;
+  means = c.means;
+}
 
 -- a canonical spelling shows none
 pub canonical_shows_none : (bs : List ℕ) (v : Val) → SpellsCanonically bs v → (j : ℕ) → ShowsDeparture bs j → ⊥
@@ -55,89 +85,62 @@ canonical_shows_none bs v spelt j shows =
     let no : passed [] ≡ departed d.0 = sym past ∙ d.1 in
     cc
 
--- what is read meets no fault
-pub read_first : (bs : List ℕ) (v : Val) (j : ℕ) → length bs < 2 ^ 64 → SpellsValue bs v → IsFirstShown bs j → IsFirstOfBoth bs j
-read_first bs v j short spelt shown = record {
-  shown = shown;
-  before = λ g met.
-      let no : Ok v ≡ Err g = sym (read_whole None bs v short spelt tt) ∙ met in
-      absurd cc;
-}
-
--- the fault that an error tells
-pub fault_told : (bs : List ℕ) (e : Error) → Fails (length bs) e (read_value bs) → IsOutOfMemory e ⊎ ((g : Fault) × (read_value bs ≡ Err g) × (offset_of e + g.left ≡ length bs))
-fault_told bs e fails = by_code (code_of e) refl fails
-  where
-    told : (why : Refusal) → FailsAs why (length bs) (offset_of e) (read_value bs) → IsOutOfMemory e ⊎ ((g : Fault) × (read_value bs ≡ Err g) × (offset_of e + g.left ≡ length bs))
-    told why fails = inr (record { why = why; left = fails.0 }, fails.2, fails.1)
-
-    by_code : (c : ErrorCode) → code_of e ≡ c → FailsBy ⊥ c (length bs) (offset_of e) (read_value bs) → IsOutOfMemory e ⊎ ((g : Fault) × (read_value bs ≡ Err g) × (offset_of e + g.left ≡ length bs))
-    by_code code.EofWhileParsingValue is fails = told _ fails
-    by_code code.EofWhileParsingArray is fails = told _ fails
-    by_code code.EofWhileParsingMap is fails = told _ fails
-    by_code code.LengthOutOfRange is fails = told _ fails
-    by_code code.InvalidUtf8 is fails = told _ fails
-    by_code code.UnassignedCode is fails = told _ fails
-    by_code code.UnexpectedCode is fails = told _ fails
-    by_code code.TrailingData is fails = told _ fails
-    by_code code.RecursionLimitExceeded is fails = told _ fails
-    by_code code.ScratchTooSmall is fails = told _ fails
-    by_code code.WrongStructFormat is fails = told _ fails
-    by_code (code.Io fault) is fails = absurd fails.0
-    by_code code.OutOfMemory is fails = inl (is, fails)
-    by_code (code.Message text) is fails = absurd fails
-    by_code code.ArrayTooShort is fails = absurd fails
-    by_code code.ArrayTooLong is fails = absurd fails
-    by_code code.WrongEnumFormat is fails = absurd fails
-    by_code code.NotCanonical is fails = absurd fails
-
-abbrev err : Fault → Result Val Fault
-err g = Err g
-
--- a departure in the bytes before the fault comes first
-pub departs_first_of_both : (bs : List ℕ) (e : Error) (j : ℕ) → Fails (length bs) e (read_value bs) → IsFirstShown (take (offset_of e) bs) j → IsFirstOfBoth bs j
-departs_first_of_both bs e j fails shown = record {
-  shown = first_of_front (offset_of e) bs j shown;
-  before = λ g met.
-      elim (fault_told bs e fails) [
-        | inl memory ↦ absurd (nothing_shown memory)
-        | inr fault ↦
-            let same : err fault.0 ≡ err g = sym fault.1 ∙ met in
-            let equal : fault.0.left ≡ g.left = left_of fault.0 g same in
-            omega (arith, shown.shows.within, length-take (offset_of e) bs, fault.2, equal)
-      ];
-}
-  where
-    left_of : (f g : Fault) → err f ≡ err g → f.left ≡ g.left
-    left_of f g same = let is : f ≡ g = cc in ap (λ (f : Fault). f.left) is
-
-    -- nothing is shown by no bytes
-    nothing_shown : IsOutOfMemory e → ⊥
-    nothing_shown memory =
-        let d = shown_departs (take (offset_of e) bs) j shown.shows in
-        let few = walk_fewer (length (take (offset_of e) bs)) (take (offset_of e) bs) in
-        let left : d.0 < length (take (offset_of e) bs) = subst (Below (length (take (offset_of e) bs))) d.1 few in
-        omega (arith, left, length-take (offset_of e) bs, memory.1)
-
--- and none in them: the fault does
-pub fault_first : (bs : List ℕ) (e : Error) → ((j : ℕ) → ShowsDeparture (take (offset_of e) bs) j → ⊥) → (i : ℕ) → ShowsDeparture bs i → offset_of e < i
-fault_first bs e none i shows =
-    elim (cases_lt (offset_of e) i) [
-      | inl above ↦ above
-      | inr le ↦ absurd (none i (to_front (offset_of e) bs i le shows))
-    ]
-
--- a canonical spelling meets no fault but want of memory
-pub memory_only : (bs : List ℕ) (v : Val) (e : Error) → length bs < 2 ^ 64 → SpellsValue bs v → Fails (length bs) e (read_value bs) → IsOutOfMemory e
-memory_only bs v e short spelt fails =
-    elim (fault_told bs e fails) [
-      | inl memory ↦ memory
-      | inr fault ↦
-          let no : Ok v ≡ Err fault.0 = sym (read_whole None bs v short spelt tt) ∙ fault.1 in
-          absurd cc
-    ]
-
 -- it spells the value
 pub spells_value : (bs : List ℕ) (v : Val) → SpellsCanonically bs v → SpellsValue bs v
 unfolding canon
 spells_value bs v spelt = subst (λ (b : List ℕ). SpellsValue b v) spelt.spelled (spells_canon v spelt.ordered spelt.acceptable)
+
+-- what is read of any type is an item's value
+pub value_spelled : {A : Type 0} (reads : Raw → A → Type 0) (bs : List ℕ) (x : A) → (spelt : SpellsAs all_formats reads bs x) → SpellsValue bs (value spelt.item)
+value_spelled reads bs x spelt = record { item = spelt.item; acceptable = spelt.acceptable; spelled = spelt.spelled; valued = refl }
+
+-- and the canonical item departs nowhere, so that only want of memory is told of it
+pub memory_only : (v : Val) (e : Error) → IsOrdered v → TellsItsDeparture (canonical v) e → IsOutOfMemory e
+memory_only v e ordered (inl memory) = memory
+memory_only v e ordered (inr departs) = absurd (listed_none (canonical v) (canonical_clean 0 v ordered) (offset_of e) departs.1.departs)
+
+-- ---- what is refused
+
+-- nothing is shown by no bytes
+pub nothing_shown : (bs : List ℕ) (e : Error) (j : ℕ) → IsOutOfMemory e → IsFirstShown (take (offset_of e) bs) j → ⊥
+nothing_shown bs e j memory shown =
+    let d = shown_departs (take (offset_of e) bs) j shown.shows in
+    let few = walk_fewer (length (take (offset_of e) bs)) (take (offset_of e) bs) in
+    let left : d.0 < length (take (offset_of e) bs) = subst (Below (length (take (offset_of e) bs))) d.1 few in
+    omega (arith, left, length-take (offset_of e) bs, memory.1)
+
+-- none in the bytes before an offset, and each is behind it
+pub each_behind : (bs : List ℕ) (offset : ℕ) → ((j : ℕ) → ShowsDeparture (take offset bs) j → ⊥) → (i : ℕ) → ShowsDeparture bs i → offset < i
+each_behind bs offset none i shows =
+    elim (cases_lt offset i) [
+      | inl above ↦ above
+      | inr le ↦ absurd (none i (to_front offset bs i le shows))
+    ]
+
+-- of an item that is read, a departure is the first refusal
+pub read_departs : {A : Type 0} (reads : Raw → A → Type 0) (bs : List ℕ) (x : A) (e : Error) → length bs < 2 ^ 64 → SpellsAs all_formats reads bs x → code_of e ≡ NotCanonical → IsFirstShown bs (offset_of e) → TellsFirstStrictly bs e
+read_departs reads bs x e short spelt code shown = record {
+  why = not_canonical;
+  code = code;
+  first = departs_alone bs (value spelt.item) (offset_of e) short (value_spelled reads bs x spelt) shown;
+}
+
+-- a departure before the offset that ordinary reading told, or at it
+pub departs_earlier : (bs : List ℕ) (told e : Error) → TellsFirst (limits_of None) bs told → code_of e ≡ NotCanonical → IsFirstShown (take (offset_of told) bs) (offset_of e) → TellsFirstStrictly bs e
+departs_earlier bs told e tells code shown =
+    let early : offset_of e ≤ tells.offset = omega (arith, tells.at, shown.shows.within, length-take (offset_of told) bs) in
+    record {
+      why = not_canonical;
+      code = code;
+      first = departs_before bs tells.why tells.offset tells.first (offset_of e) early (first_of_front (offset_of told) bs (offset_of e) shown);
+    }
+
+-- or none
+pub fault_earlier : (bs : List ℕ) (e : Error) → AreBytes bs → TellsFirst (limits_of None) bs e → ((i : ℕ) → ShowsDeparture bs i → offset_of e < i) → TellsFirstStrictly bs e
+fault_earlier bs e fits tells none =
+    let same : tells.offset ≡ offset_of e = omega (arith, tells.at) in
+    record {
+      why = ordinary tells.why;
+      code = tells.code;
+      first = fault_before bs tells.why (offset_of e) (subst (IsFirstRefusal (limits_of None) bs tells.why) same tells.first) fits none;
+    }

@@ -5,5 +5,10 @@ pub mod Fronts
 pub mod Completed
 pub mod Departed
 pub mod Strict
+pub mod Standing
+pub mod InvalidTexts
+pub mod FirstRefusals
 pub mod Walking
 pub mod Glue
+pub mod AtValue
+pub mod facts

@@ -10,10 +10,9 @@ use Rattle.cbor_model.specs.Plain.{Val}
 use Rattle.cbor_model.specs.Value.{value}
 use Rattle.cbor_model.specs.Canonical.{IsStorable, IsOrdered, canonical, canon}
 use Rattle.cbor_strict.specs.Departure.{departures, DepartsAt, IsFirstDeparture, ShowsDeparture}
-use Rattle.cbor_model.specs.Reader.{Fault, read_value}
 use Rattle.cbor_model.specs.Laws.{SpellsValue}
 use Rattle.cbor_strict.specs.Walk.{Walk, passed, departed, stopped, walk, walk_of}
-use Rattle.cbor_strict.specs.Strict.{SpellsCanonically, IsFirstShown, IsFirstOfBoth}
+use Rattle.cbor_strict.specs.Strict.{SpellsCanonically, IsFirstShown}
 use Rattle.cbor_strict.specs.Strict as laws
 use Rattle.cbor_model.proofs.Steps.{AreBytes-take}
 use Rattle.cbor_model.proofs.Apart.{one_spelling}
@@ -36,7 +35,7 @@ none_listed r none = by_list (departures 0 r) refl
     by_list [] is = is
     by_list (j ∷ js) is = absurd (none j (first_listed r j js is).departs)
 
-listed_none : (r : Raw) → departures 0 r ≡ [] → (i : ℕ) → DepartsAt r i → ⊥
+pub listed_none : (r : Raw) → departures 0 r ≡ [] → (i : ℕ) → DepartsAt r i → ⊥
 listed_none r is i has =
     let none : Contains [] i = subst (λ (xs : List ℕ). Contains xs i) is has in
     omega (arith, none.1)

@@ -1,5 +1,5 @@
--- Strict reading: what is read, and what is refused first.
-use Rattle.std.specs.Prelude.{◌≡◌, ℕ, ◌+◌, ◌^◌, ◌<◌, ◌≤◌, List, length, Err}
+-- Strict reading: what is read, and the first departure that bytes show.
+use Rattle.std.specs.Prelude.{◌≡◌, ℕ, ◌^◌, ◌<◌, ◌≤◌, List, length}
 use Rattle.cbor_model.specs.Raw.{Raw, AreBytes, IsWellFormed}
 use Rattle.cbor_model.specs.Spelling.{spell}
 use Rattle.cbor_model.specs.Order.{lex, val_cmp}
@@ -7,7 +7,6 @@ use Rattle.cbor_model.specs.Value.{value}
 use Rattle.cbor_model.specs.Acceptable.{IsAcceptable}
 use Rattle.cbor_model.specs.Plain.{Val}
 use Rattle.cbor_model.specs.Canonical.{IsStorable, IsOrdered, canonical, canon}
-use Rattle.cbor_model.specs.Reader.{Fault, read_value}
 use Rattle.cbor_strict.specs.Departure.{DepartsAt, IsFirstDeparture, ShowsDeparture}
 
 -- The bytes are the canonical spelling of a storable ordered value, whose canonical item is
@@ -18,15 +17,17 @@ pub record SpellsCanonically (bytes : List ℕ) (v : Val) : Type 0 where
   pub acceptable : IsAcceptable (canonical v)
   pub spelled : canon v ≡ bytes
 
+-- They are, and the canonical item is read as x.
+pub record SpellsCanonicallyAs {A : Type 0} (reads : Raw → A → Type 0)
+    (bytes : List ℕ) (x : A) : Type 0 where
+  pub tree : Val
+  pub spelt : SpellsCanonically bytes tree
+  pub means : reads (canonical tree) x
+
 -- The least offset at which the bytes show a departure.
 pub record IsFirstShown (bytes : List ℕ) (j : ℕ) : Type 0 where
   pub shows : ShowsDeparture bytes j
   pub first : (i : ℕ) → ShowsDeparture bytes i → j ≤ i
-
--- and reading meets no fault of its own before it
-pub record IsFirstOfBoth (bytes : List ℕ) (j : ℕ) : Type 0 where
-  pub shown : IsFirstShown bytes j
-  pub before : (g : Fault) → read_value bytes ≡ Err g → j + g.left ≤ length bytes
 
 -- ---- the laws
 

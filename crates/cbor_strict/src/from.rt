@@ -1,19 +1,23 @@
 //! Reading a whole input that is spelled canonically.
 
-ghost use Rattle.std.specs.Prelude.{IfErr, IfOk};
-ghost use Rattle.cbor_model.specs.Plain.{Val};
-ghost use Rattle.cbor_value.specs.View.{view};
-ghost use Rattle.cbor_io.specs.Error.{IsOutOfMemory};
-ghost use Rattle.cbor_io.specs.Error.{code_of, offset_of};
-ghost use Rattle.std.specs.Prelude.{◌≡◌};
-ghost use Rattle.cbor_io.specs.declared.error.ErrorCode.TheVariants.{NotCanonical};
+ghost use Rattle.std.specs.Prelude.{◌≡◌, ◌⊎◌, IfErr, IfOk, MatchResult, take};
+ghost use Rattle.cbor_model.specs.Formats.{all_formats};
 ghost use Rattle.cbor_model.specs.Laws.{SpellsValue};
-ghost use Rattle.cbor_strict.specs.StrictAnswers.{TellsFirst, TellsItsDeparture};
-ghost use Rattle.cbor_strict.specs.Strict.{SpellsCanonically};
+ghost use Rattle.cbor_model.specs.Plain.{Val};
+ghost use Rattle.cbor_model.specs.Readable.{SpellsAs};
+ghost use Rattle.cbor_value.specs.View.{view};
+ghost use Rattle.cbor_io.specs.Error.{code_of, offset_of, IsOutOfMemory};
+ghost use Rattle.cbor_io.specs.declared.error.ErrorCode.TheVariants.{NotCanonical};
+ghost use Rattle.cbor_scalars.specs.Takes.{WhereTotal};
+ghost use Rattle.cbor_typed.specs.Whole.{from_slice_context};
+ghost use Rattle.cbor_strict.specs.Strict.{SpellsCanonically, SpellsCanonicallyAs};
+ghost use Rattle.cbor_strict.specs.StrictAnswers.{PassesNoDeparture, TellsFirstStrictly};
+ghost use Rattle.cbor_strict.specs.StrictAnswers.{TellsItsDeparture};
 
 use crate::walk::first_departure;
 use cbor_io::error::{Error, ErrorCode, Result};
-use cbor_typed::from_slice;
+use cbor_read::SliceRead;
+use cbor_typed::{Deserialize, from_slice};
 use cbor_value::Value;
 use std::alloc::Global;
 
@@ -24,9 +28,10 @@ use std::alloc::Global;
 /// each value has one spelling that it reads, which is what `to_vec` writes.
 ///
 /// The refusals are those of `from_slice`, and `NotCanonical` at the first departure from the
-/// canonical spelling, after the bytes that show it: a head that isn't the shortest, after the head;
-/// an indefinite length, after its first byte; undefined, after it; a key that isn't above the one
-/// before it, after that key. Of both it answers the one that comes first.
+/// canonical spelling, after the bytes that show it: a head that isn't the shortest, after the
+/// head; an indefinite length, after its first byte; undefined, after it; a key that isn't above
+/// the one before it, after that key. Of all it answers the one that comes first; at one place a
+/// departure comes after a text that isn't UTF-8, and before all others.
 ///
 /// ```rust
 /// let value = from_slice_canonical(alloc, &[0xa1, 0x01, 0x02])?;
@@ -41,22 +46,69 @@ pub fn from_slice_canonical(alloc: Global, slice: &[u8]) -> Result<Value>
     // An item that `from_slice` reads is refused by its first departure alone.
     ensures departs { (v : Val) → (spelt : SpellsValue slice.now v)
         → IfErr result (TellsItsDeparture spelt.item) }
-    // A refusal tells what comes first.
-    ensures refused { IfErr result (TellsFirst slice.now) }
+    // A refusal is the first that the bytes allow, or memory ran out.
+    ensures refused { IfErr result (λ e. IsOutOfMemory e ⊎ TellsFirstStrictly slice.now e) }
 {
-    match from_slice::<Value>(alloc, slice) {
+    from_slice_canonical_as(alloc, slice)
+}
+
+/// What the one item is read as whose canonical spelling the bytes are, as by
+/// [`from_slice_canonical`], of any type.
+///
+/// It reads as [`from_slice`] does, and lends what that lends. Where `from_slice` reads bytes that
+/// aren't spelled canonically, it refuses them with `NotCanonical` at the first departure; and
+/// where `from_slice` refuses them at an offset, it does so too, if a departure comes no later than
+/// that. Otherwise it refuses as `from_slice` does. It takes no memory beyond that of `from_slice`.
+///
+/// ```rust
+/// let name: &str = from_slice_canonical_as(alloc, b"\x63CID")?;
+/// assert_eq!(rt; name, "CID");
+/// let refused = from_slice_canonical_as::<&str>(alloc, b"\x78\x03CID");
+/// assert!(rt; refused.is_err());
+/// ```
+pub fn from_slice_canonical_as<'a, T: Deserialize<'a, SliceRead<'a>>>(
+    alloc: Global,
+    slice: &'a [u8],
+) -> Result<T>
+    // The bytes are the canonical spelling of an item, and it is read so.
+    ensures found { IfOk result (SpellsCanonicallyAs (T.reads from_slice_context) slice.now) }
+    // Each such item is read, unless memory runs out.
+    ensures accepted { (x : T)
+        → SpellsCanonicallyAs (T.reads from_slice_context) slice.now x
+        → IfErr result IsOutOfMemory }
+    // An item that `from_slice` reads so is refused by its first departure alone.
+    ensures departs { (x : T)
+        → (spelt : SpellsAs all_formats (T.reads from_slice_context) slice.now x)
+        → IfErr result (TellsItsDeparture spelt.item) }
+    // The acceptable item that the bytes spell is the one that is read; and where the type reads
+    // every item, it is refused by its first departure alone.
+    ensures every { (v : Val) → (spelt : SpellsValue slice.now v)
+        → MatchResult result (T.reads from_slice_context spelt.item)
+        (λ e. WhereTotal T.total (TellsItsDeparture spelt.item e)) }
+    // A refusal of it is the first that the bytes allow, or memory ran out.
+    ensures refused { IfErr result (λ e. WhereTotal T.total
+        (IsOutOfMemory e ⊎ TellsFirstStrictly slice.now e)) }
+    // Of any type: no departure stands before what is told.
+    ensures earliest { IfErr result (PassesNoDeparture slice.now) }
+{
+    match from_slice::<T>(alloc, slice) {
         Ok(value) => match first_departure(slice) {
             Some(offset) => Err(not_canonical(offset)),
             None => Ok(value),
         },
-        Err(e) => {
-            let end = e.offset() as usize;
-            match first_departure(&slice[..end]) {
-                Some(offset) => Err(not_canonical(offset)),
-                None => Err(e),
-            }
-        }
+        Err(e) => match first_departure(up_to(slice, e.offset())) {
+            Some(offset) => Err(not_canonical(offset)),
+            None => Err(e),
+        },
     }
+}
+
+// The bytes before this offset.
+fn up_to(slice: &[u8], offset: u64) -> &[u8]
+    ensures { result.now ≡ take offset slice.now }
+{
+    let end = (offset as usize).min(slice.len());
+    &slice[..end]
 }
 
 // The departure at this offset.

@@ -1,6 +1,7 @@
 //! Laws about departures, which are the contracts of functions that do nothing.
 ghost use Rattle.cbor_strict.specs.Strict.{FirstShownIsFirst, KeysCompareByBytes};
 ghost use Rattle.cbor_strict.specs.Strict.{NoneWhereCanonical};
+ghost use Rattle.cbor_strict.specs.StrictRefusals.{OneFirstStrictRefusal};
 
 /// An acceptable item departs nowhere from the canonical form exactly where its spelling is the
 /// canonical one of its value.
@@ -16,4 +17,9 @@ pub fn keys_compare_by_bytes()
 /// The first departure that an item's spelling shows is the item's first.
 pub fn first_shown_is_first()
     ensures { FirstShownIsFirst }
+{}
+
+/// No bytes have two first refusals of strict reading.
+pub fn one_first_strict_refusal()
+    ensures { OneFirstStrictRefusal }
 {}

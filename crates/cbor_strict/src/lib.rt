@@ -10,5 +10,7 @@ mod laws;
 mod tests;
 mod walk;
 
-pub use from::from_slice_canonical;
-pub use laws::{first_shown_is_first, keys_compare_by_bytes, none_where_canonical};
+pub use from::{from_slice_canonical, from_slice_canonical_as};
+pub use laws::{
+    first_shown_is_first, keys_compare_by_bytes, none_where_canonical, one_first_strict_refusal,
+};

@@ -1,6 +1,6 @@
 //! Bytes that are read strictly, or refused by what comes first.
 
-use crate::from_slice_canonical;
+use crate::{from_slice_canonical, from_slice_canonical_as};
 use cbor_io::error::{Error, ErrorCode};
 use std::alloc::Global;
 use std::process::Abort;
@@ -121,4 +121,46 @@ fn tells_a_level_too_many(rt: HostRuntime) -> Done {
     departs(&rt, alloc, &deep, 128)?;
     deep[127] = 0xf6;
     reads(alloc, &deep)
+}
+
+#[test]
+fn reads_types_from_canonical_spellings(rt: HostRuntime) -> Done {
+    let alloc = rt.alloc();
+    let number: u8 = from_slice_canonical_as(alloc, b"\x18\x2a")?;
+    assert_eq!(rt; number, 42);
+    let bytes = b"\x63CID";
+    let name: &str = from_slice_canonical_as(alloc, bytes)?;
+    assert!(rt; name == "CID");
+    let flags: Vec<bool> = from_slice_canonical_as(alloc, b"\x82\xf5\xf4")?;
+    assert!(rt; flags.as_slice() == [true, false].as_slice());
+    Ok(())
+}
+
+// The bytes aren't read as this type, for another reason than want of memory.
+fn refusal_as(alloc: Global, bytes: &[u8]) -> Result<Error, Fail> {
+    let e = from_slice_canonical_as::<u8>(alloc, bytes)
+        .err()
+        .ok_or("a number")?;
+    if e.is_memory() {
+        return Err(Fail::from(e));
+    }
+    Ok(e)
+}
+
+// 23 in a longer head, 300, 23 in a longer head before another byte, and 23 before undefined.
+#[test]
+fn refuses_types_by_the_first_departure(rt: HostRuntime) -> Done {
+    let alloc = rt.alloc();
+    let e = refusal_as(alloc, b"\x18\x17")?;
+    assert!(rt; matches!(e.code(), ErrorCode::NotCanonical));
+    assert_eq!(rt; e.offset(), 2);
+    let e = refusal_as(alloc, b"\x19\x01\x2c")?;
+    assert!(rt; matches!(e.code(), ErrorCode::Message(_)));
+    let e = refusal_as(alloc, b"\x18\x17\x00")?;
+    assert!(rt; matches!(e.code(), ErrorCode::NotCanonical));
+    assert_eq!(rt; e.offset(), 2);
+    let e = refusal_as(alloc, b"\x17\xf7")?;
+    assert!(rt; matches!(e.code(), ErrorCode::TrailingData));
+    assert_eq!(rt; e.offset(), 2);
+    Ok(())
 }

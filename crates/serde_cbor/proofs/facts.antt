@@ -1,5 +1,6 @@
 -- What the crates above may cite of the proofs below, and nothing else.
 pub mod Values
+pub mod Strict
 pub mod Serialize
 pub mod Structs
 pub mod Enums

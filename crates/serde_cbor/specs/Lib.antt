@@ -38,6 +38,7 @@ pub use Rattle.cbor_stream.specs.ItemLaws
 pub use Rattle.cbor_stream.specs.StreamAnswers
 pub use Rattle.cbor_strict.specs.Departure
 pub use Rattle.cbor_strict.specs.Strict
+pub use Rattle.cbor_strict.specs.StrictRefusals
 pub use Rattle.cbor_strict.specs.StrictAnswers
 pub use Rattle.cbor_collections.specs.Accesses
 pub use Rattle.cbor_collections.specs.Arrays
