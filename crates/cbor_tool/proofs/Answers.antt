@@ -1,6 +1,6 @@
 -- What makes a text the answer to a line, and answers that follow others.
 use Rattle.std.proofs.Common.{◌≡◌, ◌⊎◌, ℕ, List, [], ◌∷◌, ◌++◌, Option, None, Ok, Err, inl, inr}
-use Rattle.std.proofs.Common.{refl, ap, ◌∙◌, arith, append_assoc}
+use Rattle.std.proofs.Common.{refl, sym, ap, ◌∙◌, arith, append_assoc}
 use Rattle.std.specs.Prelude.{codes}
 use Rattle.std.specs.Io.KnownBytes.{Appends, Keeps}
 use Rattle.std.proofs.KnownBytes.{Appends-nil, Appends-trans, Appends-kept}
@@ -12,7 +12,8 @@ use Rattle.cbor_model.specs.Refusal.{Refusal, words, at_offset, end_in_value, en
 use Rattle.cbor_model.specs.Allowed.{limits_of}
 use Rattle.cbor_model.specs.Value.{value}
 use Rattle.cbor_model.specs.Laws.{SpellsValue}
-use Rattle.cbor_tool.specs.Answer.{hex, IsAnswer, AreAnswers, canonical, refused, not_hexadecimal}
+use Rattle.cbor_tool.specs.Answer.{hex, Answered, IsAnswered, IsAnsweredStrictly, IsAnswer, AreAnswers, strict_words}
+use Rattle.cbor_tool.specs.Answer.{canonical, refused, unchanged, not_spelled, hexadecimal, not_hexadecimal}
 use Rattle.cbor_model.specs.Document.{document_of, IsStorableDocument}
 use Rattle.cbor_model.proofs.facts.Laws.{value_is_storable}
 use Rattle.cbor_model.proofs.facts.Documents.{storable_document}
@@ -21,18 +22,17 @@ use Rattle.serde_cbor.specs.declared.error.ErrorCode.TheVariants.{Message, Io, S
 use Rattle.serde_cbor.specs.declared.error.Error.{Error}
 use Rattle.serde_cbor.specs.Error.{code_of, offset_of, code_text, error_text, IsOutOfMemory}
 use Rattle.serde_cbor.specs.FirstRefusal.{refusal_code, TellsFirst}
+use Rattle.serde_cbor.specs.Strict.{SpellsCanonically}
+use Rattle.serde_cbor.specs.StrictRefusals.{StrictRefusal, ordinary, not_canonical}
+use Rattle.serde_cbor.specs.StrictAnswers.{strict_code, TellsFirstStrictly}
 use Rattle.serde_cbor.specs.Written.{IsRefusedBy, IsNotWritten}
 use Rattle.cbor_tool.specs.Run.{AppendsAnswers}
-use Rattle.cbor_tool.specs.Steps.{IsAnswerTo}
+use Rattle.cbor_tool.specs.declared.program.Mode.{Mode}
+use Rattle.cbor_tool.specs.declared.program.Mode.TheVariants.{Lenient, Strict}
+use Rattle.cbor_tool.specs.Steps.{answered_in, SpellsIn, TellsIn}
 use Rattle.cbor_tool.proofs.Hexadecimal.{IsHexOf-decoded, decode_of-hex}
 
 -- ---- one answer
-
-pub IsAnswerTo-canonical : (bytes text : List ℕ) (v : Val) → SpellsValue bytes v
-    → text ≡ hex (canon v) → IsAnswerTo bytes text
-IsAnswerTo-canonical bytes text v spells is =
-    λ line h. canonical spells.item spells.acceptable (rw spells.spelled h)
-    (is ∙ ap (λ w. hex (canon w)) spells.valued)
 
 -- a refusal's code has its words
 words_of : (why : Refusal) → code_text (refusal_code why) ≡ words why
@@ -48,14 +48,28 @@ words_of too_deep = refl
 words_of scratch_too_small = refl
 words_of wrong_struct_format = refl
 
-pub IsAnswerTo-refused : (bytes text : List ℕ) (e : Error)
-    → IsOutOfMemory e ⊎ TellsFirst (limits_of None) bytes e
-    → ((v : Val) → SpellsValue bytes v → IsOutOfMemory e)
-    → (code_of e ≡ OutOfMemory → ⊥) → text ≡ codes "error: " ++ error_text e → IsAnswerTo bytes text
-IsAnswerTo-refused bytes text e (inl memory) accepted ne is = absurd (ne memory.0)
-IsAnswerTo-refused bytes text e (inr tells) accepted ne is =
+-- and so in strict reading
+strict_words_of : (why : StrictRefusal) → code_text (strict_code why) ≡ strict_words why
+strict_words_of (ordinary why) = words_of why
+strict_words_of not_canonical = refl
+
+-- what was read is answered with its canonical spelling
+pub answered_read : (mode : Mode) (bytes text : List ℕ) (v : Val) → SpellsIn mode bytes v
+    → text ≡ hex (canon v) → answered_in mode bytes text
+answered_read Lenient bytes text v spells is =
+    canonical spells.item spells.acceptable spells.spelled (is ∙ ap (λ w. hex (canon w)) spells.valued)
+answered_read Strict bytes text v spells is = unchanged v spells (is ∙ ap hex spells.spelled)
+
+-- and what wasn't, with the refusal
+pub answered_refused : (mode : Mode) (bytes text : List ℕ) (e : Error)
+    → IsOutOfMemory e ⊎ TellsIn mode bytes e
+    → ((v : Val) → SpellsIn mode bytes v → IsOutOfMemory e)
+    → (code_of e ≡ OutOfMemory → ⊥) → text ≡ codes "error: " ++ error_text e
+    → answered_in mode bytes text
+answered_refused mode bytes text e (inl memory) accepted ne is = absurd (ne memory.0)
+answered_refused Lenient bytes text e (inr tells) accepted ne is =
     let place : offset_of e ≡ tells.offset = omega (arith, tells.at) in
-    λ line h. refused bytes (error_text e) h
+    refused (error_text e)
     (λ r good spelled. ne
     (accepted (value r) (record {
       item = r;
@@ -72,59 +86,98 @@ IsAnswerTo-refused bytes text e (inr tells) accepted ne is =
           ∙ ap (λ n. words tells.why ++ at_offset n) place;
     })
     is
+answered_refused Strict bytes text e (inr tells) accepted ne is =
+    not_spelled (error_text e) (λ v spelt. ne (accepted v spelt).0)
+    (record {
+      why = tells.why;
+      offset = offset_of e;
+      first = tells.first;
+      is = ap (λ c. code_text c ++ at_offset (offset_of e)) tells.code
+          ∙ ap (λ t. t ++ at_offset (offset_of e)) (strict_words_of tells.why);
+    })
+    is
 
-pub IsAnswer-decoded : (line bytes text : List ℕ) → decode_of line ≡ Ok bytes
-    → IsAnswerTo bytes text → IsAnswer line text
-IsAnswer-decoded line bytes text e h = h line (IsHexOf-decoded line bytes e)
+-- want of memory is told at no offset
+no_refusal : (why : Refusal) → refusal_code why ≡ OutOfMemory → ⊥
+no_refusal end_in_value is = cc
+no_refusal end_in_array is = cc
+no_refusal end_in_map is = cc
+no_refusal length_out_of_range is = cc
+no_refusal invalid_utf8 is = cc
+no_refusal unassigned_code is = cc
+no_refusal unexpected_code is = cc
+no_refusal trailing_data is = cc
+no_refusal too_deep is = cc
+no_refusal scratch_too_small is = cc
+no_refusal wrong_struct_format is = cc
 
-pub IsAnswer-not_hexadecimal : (line text : List ℕ) (e : FromHexError) → decode_of line ≡ Err e
-    → text ≡ codes "error: not hexadecimal" → IsAnswer line text
-IsAnswer-not_hexadecimal line text e failed is =
+no_strict_refusal : (why : StrictRefusal) → strict_code why ≡ OutOfMemory → ⊥
+no_strict_refusal (ordinary why) is = no_refusal why is
+no_strict_refusal not_canonical is = cc
+
+pub memory_told : (mode : Mode) (bytes : List ℕ) (e : Error) → IsOutOfMemory e ⊎ TellsIn mode bytes e
+    → code_of e ≡ OutOfMemory → IsOutOfMemory e
+memory_told mode bytes e (inl memory) is = memory
+memory_told Lenient bytes e (inr tells) is = absurd (no_refusal tells.why (sym tells.code ∙ is))
+memory_told Strict bytes e (inr tells) is = absurd (no_strict_refusal tells.why (sym tells.code ∙ is))
+
+pub IsAnswer-decoded : (A : Answered) (line bytes text : List ℕ) → decode_of line ≡ Ok bytes
+    → A bytes text → IsAnswer A line text
+IsAnswer-decoded A line bytes text e h = hexadecimal bytes (IsHexOf-decoded line bytes e) h
+
+pub IsAnswer-not_hexadecimal : (A : Answered) (line text : List ℕ) (e : FromHexError) → decode_of line ≡ Err e
+    → text ≡ codes "error: not hexadecimal" → IsAnswer A line text
+IsAnswer-not_hexadecimal A line text e failed is =
     not_hexadecimal (λ bytes h. let read = decode_of-hex line bytes h in cc) is
 
 -- ---- a value that was read is written, unless memory runs out
+
+-- what is read in either mode is storable
+storable_in : (mode : Mode) (bytes : List ℕ) (v : Val) → SpellsIn mode bytes v → IsStorable v
+storable_in Lenient bytes v spells = rw spells.valued (value_is_storable spells.item spells.acceptable.fits)
+storable_in Strict bytes v spells = spells.stored
 
 code_of_refusal : (code : ErrorCode) (storable : Type 0) → storable → IsRefusedBy code storable → code ≡ OutOfMemory
 code_of_refusal OutOfMemory storable fits h = refl
 code_of_refusal (Message text) storable fits h = absurd (h.1 fits)
 code_of_refusal _ storable fits h = absurd h
 
-pub IsOutOfMemory-not_written : (bytes : List ℕ) (v : Val) (e : Error) → SpellsValue bytes v → IsNotWritten (IsStorableDocument (document_of v)) e → IsOutOfMemory e
-IsOutOfMemory-not_written bytes v e spells h =
-    let fits : IsStorable v = rw spells.valued (value_is_storable spells.item spells.acceptable.fits) in
-    (code_of_refusal (code_of e) (IsStorableDocument (document_of v)) (storable_document v fits) h.0, h.1)
+pub IsOutOfMemory-not_written : (mode : Mode) (bytes : List ℕ) (v : Val) (e : Error) → SpellsIn mode bytes v → IsNotWritten (IsStorableDocument (document_of v)) e → IsOutOfMemory e
+IsOutOfMemory-not_written mode bytes v e spells h =
+    (code_of_refusal (code_of e) (IsStorableDocument (document_of v)) (storable_document v (storable_in mode bytes v spells)) h.0, h.1)
 
 -- ---- answers that follow others
 
-AreAnswers-append : (first second : List (List ℕ)) (a b : List ℕ) → AreAnswers first a
-    → AreAnswers second b → AreAnswers (first ++ second) (a ++ b)
-AreAnswers-append [] second a b none h = rw none h
-AreAnswers-append (line ∷ first) second a b (answer, others, is, parts, rest) h = (
-  answer,
-  others ++ b,
-  is,
-  ap (λ l. l ++ b) parts
-      ∙ append_assoc answer (0x0a ∷ others) b,
-  AreAnswers-append first second others b rest h,
-)
+module _ (A : Answered) where
+  AreAnswers-append : (first second : List (List ℕ)) (a b : List ℕ) → AreAnswers A first a
+      → AreAnswers A second b → AreAnswers A (first ++ second) (a ++ b)
+  AreAnswers-append [] second a b none h = rw none h
+  AreAnswers-append (line ∷ first) second a b (answer, others, is, parts, rest) h = (
+    answer,
+    others ++ b,
+    is,
+    ap (λ l. l ++ b) parts
+        ∙ append_assoc answer (0x0a ∷ others) b,
+    AreAnswers-append first second others b rest h,
+  )
 
-pub AppendsAnswers-nil : (known : Option (List ℕ)) → AppendsAnswers [] known known
-AppendsAnswers-nil known = ([], refl, Appends-nil known)
+  pub AppendsAnswers-nil : (known : Option (List ℕ)) → AppendsAnswers A [] known known
+  AppendsAnswers-nil known = ([], refl, Appends-nil known)
 
-pub AppendsAnswers-append : (first second : List (List ℕ)) (a b c : Option (List ℕ))
-    → AppendsAnswers first a b → AppendsAnswers second b c → AppendsAnswers (first ++ second) a c
-AppendsAnswers-append first second a b c (some, are, grown) (more, are', grown') = (
-  some ++ more,
-  AreAnswers-append first second some more are are',
-  Appends-trans a b c some more grown grown',
-)
+  pub AppendsAnswers-append : (first second : List (List ℕ)) (a b c : Option (List ℕ))
+      → AppendsAnswers A first a b → AppendsAnswers A second b c → AppendsAnswers A (first ++ second) a c
+  AppendsAnswers-append first second a b c (some, are, grown) (more, are', grown') = (
+    some ++ more,
+    AreAnswers-append first second some more are are',
+    Appends-trans a b c some more grown grown',
+  )
 
-pub AppendsAnswers-kept : (answered : List (List ℕ)) (a b c : Option (List ℕ))
-    → AppendsAnswers answered a b → Keeps b c → AppendsAnswers answered a c
-AppendsAnswers-kept answered a b c (output, are, grown) kept =
-    (output, are, Appends-kept a b c output grown kept)
+  pub AppendsAnswers-kept : (answered : List (List ℕ)) (a b c : Option (List ℕ))
+      → AppendsAnswers A answered a b → Keeps b c → AppendsAnswers A answered a c
+  AppendsAnswers-kept answered a b c (output, are, grown) kept =
+      (output, are, Appends-kept a b c output grown kept)
 
-pub AppendsAnswers-one : (line answer : List ℕ) (a b c : Option (List ℕ)) → IsAnswer line answer
-    → Appends a b (answer ++ 0x0a ∷ []) → Keeps b c → AppendsAnswers (line ∷ []) a c
-AppendsAnswers-one line answer a b c is grown kept =
-    (answer ++ 0x0a ∷ [], (answer, [], is, refl, refl), Appends-kept a b c _ grown kept)
+  pub AppendsAnswers-one : (line answer : List ℕ) (a b c : Option (List ℕ)) → IsAnswer A line answer
+      → Appends a b (answer ++ 0x0a ∷ []) → Keeps b c → AppendsAnswers A (line ∷ []) a c
+  AppendsAnswers-one line answer a b c is grown kept =
+      (answer ++ 0x0a ∷ [], (answer, [], is, refl, refl), Appends-kept a b c _ grown kept)

@@ -11,10 +11,14 @@ use Rattle.cbor_model.specs.Value.{value}
 use Rattle.cbor_model.specs.Canonical.{canon}
 use Rattle.cbor_model.specs.Refusal.{Refusal, words, at_offset}
 use Rattle.cbor_model.specs.Allowed.{limits_of, IsFirstRefusal}
-use Rattle.cbor_tool.specs.Answer.{hex_digit, hex, IsHexOf, IsRefusalText, canonical, refused}
-use Rattle.cbor_tool.specs.Answer.{not_hexadecimal, OneAnswer}
+use Rattle.cbor_tool.specs.Answer.{hex_digit, hex, IsHexOf, IsRefusalText, IsStrictRefusalText}
+use Rattle.cbor_tool.specs.Answer.{strict_words, Answered, IsAnswered, IsAnsweredStrictly, OneAnswer}
+use Rattle.cbor_tool.specs.Answer.{canonical, refused, unchanged, not_spelled}
+use Rattle.cbor_tool.specs.Answer.{hexadecimal, not_hexadecimal}
+use Rattle.serde_cbor.specs.StrictRefusals.{StrictRefusal}
 use Rattle.cbor_model.proofs.facts.Laws.{one_spelling}
 use Rattle.cbor_model.proofs.facts.Refusals.{one_first}
+use Rattle.serde_cbor.proofs.facts.Strict.{one_first_strict}
 
 -- ---- hexadecimal
 
@@ -46,41 +50,67 @@ pub hex_unique : (line a b : List ℕ) → IsHexOf line a → IsHexOf line b →
 hex_unique line a b one other =
     bytes_unique a b one.are_bytes other.are_bytes (sym one.digits ∙ other.digits)
 
--- ---- answers
+-- ---- what bytes are answered
 
 -- items of one spelling are one
 same_item : (r s : Raw) → IsAcceptable r → IsAcceptable s → spell r ≡ spell s → r ≡ s
 same_item r s good good' same =
     (one_spelling r s [] good.fits good'.fits (append-nil (spell r) ∙ same)).0
 
--- the same bytes have one first refusal, and so one text
-refusal_unique : (bytes bytes' text text' : List ℕ) → bytes ≡ bytes' → IsRefusalText bytes text
-    → IsRefusalText bytes' text' → text ≡ text'
-refusal_unique bytes bytes' text text' same one other =
-    let here = subst (λ (b : List ℕ). IsFirstRefusal (limits_of None) b one.why one.offset) same one.first in
-    let first = one_first (limits_of None) bytes' one.why other.why one.offset other.offset here other.first in
+-- bytes have one first refusal, and so one text
+refusal_unique : (bytes text text' : List ℕ) → IsRefusalText bytes text → IsRefusalText bytes text'
+    → text ≡ text'
+refusal_unique bytes text text' one other =
+    let first = one_first (limits_of None) bytes one.why other.why one.offset other.offset one.first other.first in
     one.is ∙ ap (λ (w : Refusal). words w ++ at_offset one.offset) first.0
     ∙ ap (λ (n : ℕ). words other.why ++ at_offset n) first.1 ∙ sym other.is
 
-pub one_answer : OneAnswer
-one_answer line a b (canonical r good digits is) (canonical s good' digits' is') =
-    is ∙ ap (λ (i : Raw). hex (canon (value i)))
-    (same_item r s good good' (hex_unique line (spell r) (spell s) digits digits')) ∙ sym is'
-one_answer line a b (canonical r good digits is) (refused bytes text digits' none why is') =
-    absurd (none r good (hex_unique line (spell r) bytes digits digits'))
-one_answer line a b (canonical r good digits is) (not_hexadecimal none is') =
-    absurd (none (spell r) digits)
-one_answer line a b (refused bytes text digits none why is) (canonical s good' digits' is') =
-    absurd (none s good' (hex_unique line (spell s) bytes digits' digits))
-one_answer line a b (refused bytes text digits none why is)
-    (refused bytes' text' digits' none' why' is') =
-    is ∙ ap (λ (t : List ℕ). codes "error: " ++ t)
-    (refusal_unique bytes bytes' text text'
-    (hex_unique line bytes bytes' digits digits') why why') ∙ sym is'
-one_answer line a b (refused bytes text digits none why is) (not_hexadecimal none' is') =
-    absurd (none' bytes digits)
-one_answer line a b (not_hexadecimal none is) (canonical s good' digits' is') =
-    absurd (none (spell s) digits')
-one_answer line a b (not_hexadecimal none is) (refused bytes' text' digits' none' why' is') =
-    absurd (none bytes' digits')
-one_answer line a b (not_hexadecimal none is) (not_hexadecimal none' is') = is ∙ sym is'
+strict_refusal_unique : (bytes text text' : List ℕ) → IsStrictRefusalText bytes text
+    → IsStrictRefusalText bytes text' → text ≡ text'
+strict_refusal_unique bytes text text' one other =
+    let first = one_first_strict bytes one.why other.why one.offset other.offset one.first other.first in
+    one.is ∙ ap (λ (w : StrictRefusal). strict_words w ++ at_offset one.offset) first.0
+    ∙ ap (λ (n : ℕ). strict_words other.why ++ at_offset n) first.1 ∙ sym other.is
+
+-- bytes have no two answers
+abbrev IsUnique : Answered → Type 0
+IsUnique A = (bytes a b : List ℕ) → A bytes a → A bytes b → a ≡ b
+
+answered_unique : IsUnique IsAnswered
+answered_unique bytes a b (canonical r good spelled is) (canonical s good' spelled' is') =
+    is ∙ ap (λ (i : Raw). hex (canon (value i))) (same_item r s good good' (spelled ∙ sym spelled'))
+    ∙ sym is'
+answered_unique bytes a b (canonical r good spelled is) (refused text none why is') =
+    absurd (none r good spelled)
+answered_unique bytes a b (refused text none why is) (canonical s good spelled is') =
+    absurd (none s good spelled)
+answered_unique bytes a b (refused text none why is) (refused text' none' why' is') =
+    is ∙ ap (λ (t : List ℕ). codes "error: " ++ t) (refusal_unique bytes text text' why why') ∙ sym is'
+
+answered_strictly_unique : IsUnique IsAnsweredStrictly
+answered_strictly_unique bytes a b (unchanged v spelt is) (unchanged w spelt' is') = is ∙ sym is'
+answered_strictly_unique bytes a b (unchanged v spelt is) (not_spelled text none why is') =
+    absurd (none v spelt)
+answered_strictly_unique bytes a b (not_spelled text none why is) (unchanged w spelt is') =
+    absurd (none w spelt)
+answered_strictly_unique bytes a b (not_spelled text none why is) (not_spelled text' none' why' is') =
+    is ∙ ap (λ (t : List ℕ). codes "error: " ++ t) (strict_refusal_unique bytes text text' why why')
+    ∙ sym is'
+
+-- ---- answers to lines
+
+one_of : (A : Answered) → IsUnique A → OneAnswer A
+one_of A unique line a b (hexadecimal bytes digits is) (hexadecimal bytes' digits' is') =
+    unique bytes' a b
+    (subst (λ (c : List ℕ). A c a) (hex_unique line bytes bytes' digits digits') is) is'
+one_of A unique line a b (hexadecimal bytes digits is) (not_hexadecimal none is') =
+    absurd (none bytes digits)
+one_of A unique line a b (not_hexadecimal none is) (hexadecimal bytes digits is') =
+    absurd (none bytes digits)
+one_of A unique line a b (not_hexadecimal none is) (not_hexadecimal none' is') = is ∙ sym is'
+
+pub one_answer : OneAnswer IsAnswered
+one_answer = one_of IsAnswered answered_unique
+
+pub one_strict_answer : OneAnswer IsAnsweredStrictly
+one_strict_answer = one_of IsAnsweredStrictly answered_strictly_unique

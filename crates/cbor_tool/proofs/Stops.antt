@@ -8,7 +8,7 @@ use Rattle.std.proofs.KnownBytes.{Consumes-nil, Consumes-kept, Consumes-trans}
 use Rattle.std.proofs.lemmas.List.Elements.{All-append, All-cons, All-nil}
 use Rattle.std.proofs.lemmas.Bool.{eqb-true}
 use Rattle.std.proofs.lemmas.Bool.Decides.{nat_tests}
-use Rattle.cbor_tool.specs.Answer.{lines}
+use Rattle.cbor_tool.specs.Answer.{lines, Answered}
 use Rattle.serde_cbor.specs.declared.error.ErrorCode.{ErrorCode}
 use Rattle.serde_cbor.specs.declared.error.ErrorCode.TheVariants.{Io, OutOfMemory, LengthOutOfRange}
 use Rattle.serde_cbor.specs.declared.error.Error.{Error}
@@ -97,179 +97,180 @@ StopsReading-out_of_memory e line byte start a b c in_line ne consumed more (cod
 
 -- ---- the run
 
--- The whole lines of some bytes were taken and answered.
-pub record HasAnswered (count : ℕ) (a b w w' : Option (List ℕ)) : Type 0 where
-  pub bytes : List ℕ
-  pub whole : IsWhole bytes
-  pub counted : count ≡ length bytes
-  pub consumed : Consumes a b bytes
-  pub written : AppendsAnswers (lines bytes) w w'
+module _ (A : Answered) where
+  -- The whole lines of some bytes were taken and answered.
+  pub record HasAnswered (count : ℕ) (a b w w' : Option (List ℕ)) : Type 0 where
+    pub bytes : List ℕ
+    pub whole : IsWhole bytes
+    pub counted : count ≡ length bytes
+    pub consumed : Consumes a b bytes
+    pub written : AppendsAnswers A (lines bytes) w w'
 
-pub HasAnswered-none : (a w : Option (List ℕ)) → HasAnswered 0 a a w w
-HasAnswered-none a w =
+  pub HasAnswered-none : (a w : Option (List ℕ)) → HasAnswered 0 a a w w
+  HasAnswered-none a w =
+      record {
+        bytes = [];
+        whole = IsWhole-nil;
+        counted = refl;
+        consumed = Consumes-nil a;
+        written = AppendsAnswers-nil A w;
+      }
+
+  pub HasAnswered-line : (line : List ℕ) (count count' : ℕ) (a b c w w' w'' : Option (List ℕ))
+      → HasAnswered count a b w w'
+      → IsNextLine Newline line count count' b c → AppendsAnswers A (line ∷ []) w' w''
+      → HasAnswered count' a c w w''
+  HasAnswered-line line count count' a b c w w' w'' before (in_line, few, counted, taken) answered =
+      let bytes = before.bytes in
+      let start = before.counted in
+      record {
+        bytes = bytes ++ (line ++ 0x0a ∷ []);
+        whole = IsWhole-line bytes line before.whole in_line;
+        counted = omega (
+          arith,
+          length-append bytes (line ++ 0x0a ∷ []),
+          length-append line (0x0a ∷ []),
+        );
+        consumed = Consumes-trans a b c bytes (line ++ 0x0a ∷ []) before.consumed taken;
+        written = rw (lines-whole_line bytes line before.whole in_line)
+            (AppendsAnswers-append A (lines bytes) (line ∷ []) w w' w'' before.written answered);
+      }
+
+  begun_line : (bytes line : List ℕ) → IsWhole bytes → IsInLine line → line ≢ []
+      → lines (bytes ++ line) ≡ lines bytes ++ line ∷ []
+  begun_line bytes [] whole h ne = absurd (ne refl)
+  begun_line bytes (b ∷ line) whole h ne = whole.before (b ∷ line)
+      ∙ ap (λ l. lines bytes ++ l) (lines-last b line h)
+
+  ended_before : (bytes line : List ℕ) → IsWhole bytes → IsInLine line
+      → ended_lines (bytes ++ line) ≡ lines bytes
+  ended_before bytes line whole h = whole.ended_before line
+      ∙ ap (λ l. lines bytes ++ l) (ended_lines-last line h) ∙ append-nil (lines bytes)
+
+  -- all is answered, where the last line was
+  pub AppendsAnswers-all : (line : List ℕ) (count count' : ℕ) (a b c w w' w'' : Option (List ℕ))
+      → HasAnswered count a b w w'
+      → IsNextLine Input line count count' b c → line ≢ [] → AppendsAnswers A (line ∷ []) w' w''
+      → IfSome a (λ input. AppendsAnswers A (lines input) w w'')
+  AppendsAnswers-all line count count' a b c w w' w'' before (in_line, taken, end) ne answered =
+      IfSome-consumed a c (before.bytes ++ line) (λ input. AppendsAnswers A (lines input) w w'')
+      (Consumes-trans a b c before.bytes line before.consumed taken) end
+      (rw (begun_line before.bytes line before.whole in_line ne)
+      (AppendsAnswers-append A (lines before.bytes) (line ∷ []) w w' w'' before.written answered))
+
+  -- all is answered, where no last line was begun
+  pub AppendsAnswers-whole : (line : List ℕ) (count count' : ℕ) (a b c w w' : Option (List ℕ))
+      → HasAnswered count a b w w'
+      → IsNextLine Input line count count' b c → line ≡ []
+      → IfSome a (λ input. AppendsAnswers A (lines input) w w')
+  AppendsAnswers-whole line count count' a b c w w' before (in_line, taken, end) none =
+      IfSome-consumed a c before.bytes (λ input. AppendsAnswers A (lines input) w w')
+      (rw append-nil at (Consumes-trans a b c before.bytes [] before.consumed (rw none at taken))) end
+      before.written
+
+  stopped_reading_by : (code : ErrorCode) (offset count : ℕ) (a b c w w' : Option (List ℕ))
+      → HasAnswered count a b w w'
+      → StopsReadingBy code offset count b c → IsStoppedBy A code offset a c w w'
+  stopped_reading_by (Io fault) offset count a b c w w' before (is, s) = (
+    is,
+    inl (record {
+      taken = before.bytes ++ s.line;
+      consumed = Consumes-trans a b c before.bytes s.line before.consumed s.consumed;
+      written = rw (ended_before before.bytes s.line before.whole s.in_line) before.written;
+    }),
+  )
+  stopped_reading_by OutOfMemory offset count a b c w w' before (is, s) = (
+    is,
     record {
-      bytes = [];
-      whole = IsWhole-nil;
-      counted = refl;
-      consumed = Consumes-nil a;
-      written = AppendsAnswers-nil w;
-    }
-
-pub HasAnswered-line : (line : List ℕ) (count count' : ℕ) (a b c w w' w'' : Option (List ℕ))
-    → HasAnswered count a b w w'
-    → IsNextLine Newline line count count' b c → AppendsAnswers (line ∷ []) w' w''
-    → HasAnswered count' a c w w''
-HasAnswered-line line count count' a b c w w' w'' before (in_line, few, counted, taken) answered =
-    let bytes = before.bytes in
-    let start = before.counted in
+      taken = before.bytes ++ s.line;
+      before = lines before.bytes;
+      last = s.line;
+      begun = begun_line before.bytes s.line before.whole s.in_line s.begun;
+      consumed = Consumes-trans a b c before.bytes s.line before.consumed s.consumed;
+      written = before.written;
+    },
+  )
+  stopped_reading_by LengthOutOfRange offset count a b c w w' before (is, s) = (
+    is,
     record {
-      bytes = bytes ++ (line ++ 0x0a ∷ []);
-      whole = IsWhole-line bytes line before.whole in_line;
-      counted = omega (
-        arith,
-        length-append bytes (line ++ 0x0a ∷ []),
-        length-append line (0x0a ∷ []),
-      );
-      consumed = Consumes-trans a b c bytes (line ++ 0x0a ∷ []) before.consumed taken;
-      written = rw (lines-whole_line bytes line before.whole in_line)
-          (AppendsAnswers-append (lines bytes) (line ∷ []) w w' w'' before.written answered);
-    }
+      taken = before.bytes ++ s.line;
+      past = s.past;
+      count = length-append before.bytes s.line ∙ ap (λ n. n + length s.line) (sym before.counted)
+          ∙ s.sum;
+      consumed = rw append_assoc
+          (Consumes-trans a b c before.bytes (s.line ++ s.past ∷ []) before.consumed s.consumed);
+      written = rw (ended_before before.bytes s.line before.whole s.in_line) before.written;
+    },
+  )
+  stopped_reading_by _ offset count a b c w w' before h = absurd h
 
-begun_line : (bytes line : List ℕ) → IsWhole bytes → IsInLine line → line ≢ []
-    → lines (bytes ++ line) ≡ lines bytes ++ line ∷ []
-begun_line bytes [] whole h ne = absurd (ne refl)
-begun_line bytes (b ∷ line) whole h ne = whole.before (b ∷ line)
-    ∙ ap (λ l. lines bytes ++ l) (lines-last b line h)
+  pub IsStopped-reading : (e : Error) (count : ℕ) (a b c w w' : Option (List ℕ))
+      → HasAnswered count a b w w'
+      → StopsReading e count b c → IsStopped A e a c w w'
+  IsStopped-reading e = stopped_reading_by (code_of e) (offset_of e)
 
-ended_before : (bytes line : List ℕ) → IsWhole bytes → IsInLine line
-    → ended_lines (bytes ++ line) ≡ lines bytes
-ended_before bytes line whole h = whole.ended_before line
-    ∙ ap (λ l. lines bytes ++ l) (ended_lines-last line h) ∙ append-nil (lines bytes)
+  -- the lines before one, and that line, were taken
+  record AtLine (before : List (List ℕ)) (last : List ℕ)
+      (reader reader' : Option (List ℕ)) : Type 0 where
+    taken : List ℕ
+    begun : lines taken ≡ before ++ last ∷ []
+    ended : (ended_lines taken ≡ lines taken) ⊎ IsAtEnd reader'
+    consumed : Consumes reader reader' taken
 
--- all is answered, where the last line was
-pub AppendsAnswers-all : (line : List ℕ) (count count' : ℕ) (a b c w w' w'' : Option (List ℕ))
-    → HasAnswered count a b w w'
-    → IsNextLine Input line count count' b c → line ≢ [] → AppendsAnswers (line ∷ []) w' w''
-    → IfSome a (λ input. AppendsAnswers (lines input) w w'')
-AppendsAnswers-all line count count' a b c w w' w'' before (in_line, taken, end) ne answered =
-    IfSome-consumed a c (before.bytes ++ line) (λ input. AppendsAnswers (lines input) w w'')
-    (Consumes-trans a b c before.bytes line before.consumed taken) end
-    (rw (begun_line before.bytes line before.whole in_line ne)
-    (AppendsAnswers-append (lines before.bytes) (line ∷ []) w w' w'' before.written answered))
+  stopped_answering_by : (code : ErrorCode) (offset : ℕ) (before : List (List ℕ)) (last : List ℕ)
+      (a b w w' w'' : Option (List ℕ)) → AtLine before last a b
+      → AppendsAnswers A before w w' → StopsAnsweringBy A code offset last w' w''
+      → IsStoppedBy A code offset a b w w''
+  stopped_answering_by (Io fault) offset before last a b w w' w'' at written (is, up) = (
+    is,
+    inr (record {
+      taken = at.taken;
+      before = before;
+      last = last;
+      begun = at.begun;
+      ended = at.ended;
+      consumed = at.consumed;
+      written = AppendsUpTo-append A before last w w' w'' written up;
+    }),
+  )
+  stopped_answering_by OutOfMemory offset before last a b w w' w'' at written (is, kept) = (
+    is,
+    record {
+      taken = at.taken;
+      before = before;
+      last = last;
+      begun = at.begun;
+      consumed = at.consumed;
+      written = AppendsAnswers-kept A before w w' w'' written kept;
+    },
+  )
+  stopped_answering_by _ offset before last a b w w' w'' at written h = absurd h
 
--- all is answered, where no last line was begun
-pub AppendsAnswers-whole : (line : List ℕ) (count count' : ℕ) (a b c w w' : Option (List ℕ))
-    → HasAnswered count a b w w'
-    → IsNextLine Input line count count' b c → line ≡ []
-    → IfSome a (λ input. AppendsAnswers (lines input) w w')
-AppendsAnswers-whole line count count' a b c w w' before (in_line, taken, end) none =
-    IfSome-consumed a c before.bytes (λ input. AppendsAnswers (lines input) w w')
-    (rw append-nil at (Consumes-trans a b c before.bytes [] before.consumed (rw none at taken))) end
-    before.written
+  pub IsStopped-at_line : (e : Error) (line : List ℕ) (count count' : ℕ)
+      (a b c w w' w'' : Option (List ℕ)) → HasAnswered count a b w w'
+      → IsNextLine Newline line count count' b c → StopsAnswering A e line w' w''
+      → IsStopped A e a c w w''
+  IsStopped-at_line e line count count' a b c w w' w'' before (in_line, few, counted, taken) h =
+      let whole = IsWhole-line before.bytes line before.whole in_line in
+      let at : AtLine (lines before.bytes) line a c = record {
+        taken = before.bytes ++ (line ++ 0x0a ∷ []);
+        begun = lines-whole_line before.bytes line before.whole in_line;
+        ended = inl (ended_lines-whole (before.bytes ++ (line ++ 0x0a ∷ [])) whole);
+        consumed = Consumes-trans a b c before.bytes (line ++ 0x0a ∷ []) before.consumed taken;
+      } in
+      stopped_answering_by (code_of e) (offset_of e)
+      (lines before.bytes) line a c w w' w'' at before.written h
 
-stopped_reading_by : (code : ErrorCode) (offset count : ℕ) (a b c w w' : Option (List ℕ))
-    → HasAnswered count a b w w'
-    → StopsReadingBy code offset count b c → IsStoppedBy code offset a c w w'
-stopped_reading_by (Io fault) offset count a b c w w' before (is, s) = (
-  is,
-  inl (record {
-    taken = before.bytes ++ s.line;
-    consumed = Consumes-trans a b c before.bytes s.line before.consumed s.consumed;
-    written = rw (ended_before before.bytes s.line before.whole s.in_line) before.written;
-  }),
-)
-stopped_reading_by OutOfMemory offset count a b c w w' before (is, s) = (
-  is,
-  record {
-    taken = before.bytes ++ s.line;
-    answered = lines before.bytes;
-    last = s.line;
-    begun = begun_line before.bytes s.line before.whole s.in_line s.begun;
-    consumed = Consumes-trans a b c before.bytes s.line before.consumed s.consumed;
-    written = before.written;
-  },
-)
-stopped_reading_by LengthOutOfRange offset count a b c w w' before (is, s) = (
-  is,
-  record {
-    taken = before.bytes ++ s.line;
-    past = s.past;
-    count = length-append before.bytes s.line ∙ ap (λ n. n + length s.line) (sym before.counted)
-        ∙ s.sum;
-    consumed = rw append_assoc
-        (Consumes-trans a b c before.bytes (s.line ++ s.past ∷ []) before.consumed s.consumed);
-    written = rw (ended_before before.bytes s.line before.whole s.in_line) before.written;
-  },
-)
-stopped_reading_by _ offset count a b c w w' before h = absurd h
-
-pub IsStopped-reading : (e : Error) (count : ℕ) (a b c w w' : Option (List ℕ))
-    → HasAnswered count a b w w'
-    → StopsReading e count b c → IsStopped e a c w w'
-IsStopped-reading e = stopped_reading_by (code_of e) (offset_of e)
-
--- the lines before one, and that line, were taken
-record AtLine (before : List (List ℕ)) (last : List ℕ)
-    (reader reader' : Option (List ℕ)) : Type 0 where
-  taken : List ℕ
-  begun : lines taken ≡ before ++ last ∷ []
-  ended : (ended_lines taken ≡ lines taken) ⊎ IsAtEnd reader'
-  consumed : Consumes reader reader' taken
-
-stopped_answering_by : (code : ErrorCode) (offset : ℕ) (before : List (List ℕ)) (last : List ℕ)
-    (a b w w' w'' : Option (List ℕ)) → AtLine before last a b
-    → AppendsAnswers before w w' → StopsAnsweringBy code offset last w' w''
-    → IsStoppedBy code offset a b w w''
-stopped_answering_by (Io fault) offset before last a b w w' w'' at written (is, up) = (
-  is,
-  inr (record {
-    taken = at.taken;
-    before = before;
-    last = last;
-    begun = at.begun;
-    ended = at.ended;
-    consumed = at.consumed;
-    written = AppendsUpTo-append before last w w' w'' written up;
-  }),
-)
-stopped_answering_by OutOfMemory offset before last a b w w' w'' at written (is, kept) = (
-  is,
-  record {
-    taken = at.taken;
-    answered = before;
-    last = last;
-    begun = at.begun;
-    consumed = at.consumed;
-    written = AppendsAnswers-kept before w w' w'' written kept;
-  },
-)
-stopped_answering_by _ offset before last a b w w' w'' at written h = absurd h
-
-pub IsStopped-at_line : (e : Error) (line : List ℕ) (count count' : ℕ)
-    (a b c w w' w'' : Option (List ℕ)) → HasAnswered count a b w w'
-    → IsNextLine Newline line count count' b c → StopsAnswering e line w' w''
-    → IsStopped e a c w w''
-IsStopped-at_line e line count count' a b c w w' w'' before (in_line, few, counted, taken) h =
-    let whole = IsWhole-line before.bytes line before.whole in_line in
-    let at : AtLine (lines before.bytes) line a c = record {
-      taken = before.bytes ++ (line ++ 0x0a ∷ []);
-      begun = lines-whole_line before.bytes line before.whole in_line;
-      ended = inl (ended_lines-whole (before.bytes ++ (line ++ 0x0a ∷ [])) whole);
-      consumed = Consumes-trans a b c before.bytes (line ++ 0x0a ∷ []) before.consumed taken;
-    } in
-    stopped_answering_by (code_of e) (offset_of e)
-    (lines before.bytes) line a c w w' w'' at before.written h
-
-pub IsStopped-at_last : (e : Error) (line : List ℕ) (count count' : ℕ)
-    (a b c w w' w'' : Option (List ℕ)) → HasAnswered count a b w w'
-    → IsNextLine Input line count count' b c → line ≢ [] → StopsAnswering e line w' w''
-    → IsStopped e a c w w''
-IsStopped-at_last e line count count' a b c w w' w'' before (in_line, taken, end) ne h =
-    let at : AtLine (lines before.bytes) line a c = record {
-      taken = before.bytes ++ line;
-      begun = begun_line before.bytes line before.whole in_line ne;
-      ended = inr end;
-      consumed = Consumes-trans a b c before.bytes line before.consumed taken;
-    } in
-    stopped_answering_by (code_of e) (offset_of e)
-    (lines before.bytes) line a c w w' w'' at before.written h
+  pub IsStopped-at_last : (e : Error) (line : List ℕ) (count count' : ℕ)
+      (a b c w w' w'' : Option (List ℕ)) → HasAnswered count a b w w'
+      → IsNextLine Input line count count' b c → line ≢ [] → StopsAnswering A e line w' w''
+      → IsStopped A e a c w w''
+  IsStopped-at_last e line count count' a b c w w' w'' before (in_line, taken, end) ne h =
+      let at : AtLine (lines before.bytes) line a c = record {
+        taken = before.bytes ++ line;
+        begun = begun_line before.bytes line before.whole in_line ne;
+        ended = inr end;
+        consumed = Consumes-trans a b c before.bytes line before.consumed taken;
+      } in
+      stopped_answering_by (code_of e) (offset_of e)
+      (lines before.bytes) line a c w w' w'' at before.written h

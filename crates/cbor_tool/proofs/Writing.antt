@@ -4,7 +4,7 @@ use Rattle.std.proofs.Common.{ap, ◌∙◌, append_assoc, append-nil, length-dr
 use Rattle.std.proofs.Math.Seq.{take-length}
 use Rattle.std.specs.Io.KnownBytes.{Appends, Keeps}
 use Rattle.std.proofs.KnownBytes.{Appends-trans, Appends-kept}
-use Rattle.cbor_tool.specs.Answer.{IsAnswer}
+use Rattle.cbor_tool.specs.Answer.{Answered, IsAnswer}
 use Rattle.cbor_tool.specs.Run.{AppendsAnswers, AppendsUpTo}
 
 -- ---- bytes, front by front
@@ -35,26 +35,27 @@ WritesFront-more bytes rest count a b c before more =
 
 -- ---- a line's answer
 
-pub AppendsUpTo-whole : (line answer bytes : List ℕ) (a b c : Option (List ℕ))
-    → IsAnswer line answer → bytes ≡ answer ++ 0x0a ∷ [] → Appends a b bytes → Keeps b c
-    → AppendsUpTo [] line a c
-AppendsUpTo-whole line answer bytes a b c is parts grown kept =
-    record {
-      output = [];
-      begun = bytes;
-      answers = refl;
-      begins = record { missing = []; whole = (answer, [], is, append-nil bytes ∙ parts, refl) };
-      written = Appends-kept a b c bytes grown kept;
-    }
+module _ (A : Answered) where
+  pub AppendsUpTo-whole : (line answer bytes : List ℕ) (a b c : Option (List ℕ))
+      → IsAnswer A line answer → bytes ≡ answer ++ 0x0a ∷ [] → Appends a b bytes → Keeps b c
+      → AppendsUpTo A [] line a c
+  AppendsUpTo-whole line answer bytes a b c is parts grown kept =
+      record {
+        output = [];
+        begun = bytes;
+        answers = refl;
+        begins = record { missing = []; whole = (answer, [], is, append-nil bytes ∙ parts, refl) };
+        written = Appends-kept a b c bytes grown kept;
+      }
 
-pub AppendsUpTo-append : (before : List (List ℕ)) (last : List ℕ) (a b c : Option (List ℕ))
-    → AppendsAnswers before a b → AppendsUpTo [] last b c
-    → AppendsUpTo before last a c
-AppendsUpTo-append before last a b c (output, are, grown) up =
-    record {
-      output = output;
-      begun = up.begun;
-      answers = are;
-      begins = up.begins;
-      written = Appends-trans a b c output up.begun grown (rw up.answers at up.written);
-    }
+  pub AppendsUpTo-append : (before : List (List ℕ)) (last : List ℕ) (a b c : Option (List ℕ))
+      → AppendsAnswers A before a b → AppendsUpTo A [] last b c
+      → AppendsUpTo A before last a c
+  AppendsUpTo-append before last a b c (output, are, grown) up =
+      record {
+        output = output;
+        begun = up.begun;
+        answers = are;
+        begins = up.begins;
+        written = Appends-trans a b c output up.begun grown (rw up.answers at up.written);
+      }

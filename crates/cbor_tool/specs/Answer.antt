@@ -5,10 +5,14 @@ use Rattle.std.specs.Char.{to_ascii_lowercase}
 use Rattle.cbor_model.specs.Raw.{Raw, AreBytes}
 use Rattle.cbor_model.specs.Spelling.{spell}
 use Rattle.cbor_model.specs.Acceptable.{IsAcceptable}
+use Rattle.cbor_model.specs.Plain.{Val}
 use Rattle.cbor_model.specs.Value.{value}
 use Rattle.cbor_model.specs.Canonical.{canon}
 use Rattle.cbor_model.specs.Refusal.{Refusal, words, at_offset}
 use Rattle.cbor_model.specs.Allowed.{limits_of, IsFirstRefusal}
+use Rattle.serde_cbor.specs.Strict.{SpellsCanonically}
+use Rattle.serde_cbor.specs.StrictRefusals.{StrictRefusal, ordinary, not_canonical}
+use Rattle.serde_cbor.specs.StrictRefusals.{IsFirstStrictRefusal}
 
 -- ---- lines
 
@@ -36,7 +40,7 @@ pub record IsHexOf (line bytes : List ℕ) : Type 0 where
   pub are_bytes : AreBytes bytes
   pub digits : map to_ascii_lowercase line ≡ hex bytes
 
--- ---- answers
+-- ---- what bytes are answered
 
 -- The text of the first refusal that these bytes allow: its words, and its offset where it isn't 0.
 pub record IsRefusalText (bytes text : List ℕ) : Type 0 where
@@ -45,26 +49,58 @@ pub record IsRefusalText (bytes text : List ℕ) : Type 0 where
   pub first : IsFirstRefusal (limits_of None) bytes why offset
   pub is : text ≡ words why ++ at_offset offset
 
--- The answer to a line: the canonical spelling of the value that its bytes spell, or why there is
--- none.
-pub data IsAnswer (line answer : List ℕ) : Type 0 where
-  canonical : (r : Raw) → IsAcceptable r → IsHexOf line (spell r) → answer ≡ hex (canon (value r))
-      → IsAnswer line answer
-  refused : (bytes text : List ℕ) → IsHexOf line bytes
-      → ((r : Raw) → IsAcceptable r → spell r ≡ bytes → ⊥) → IsRefusalText bytes text
-      → answer ≡ codes "error: " ++ text → IsAnswer line answer
+-- The canonical spelling of the value that the bytes spell, or why there is none.
+pub data IsAnswered (bytes answer : List ℕ) : Type 0 where
+  canonical : (r : Raw) → IsAcceptable r → spell r ≡ bytes → answer ≡ hex (canon (value r))
+      → IsAnswered bytes answer
+  refused : (text : List ℕ) → ((r : Raw) → IsAcceptable r → spell r ≡ bytes → ⊥)
+      → IsRefusalText bytes text → answer ≡ codes "error: " ++ text → IsAnswered bytes answer
+
+-- ---- what they are answered strictly
+
+-- the words of a refusal
+abbrev pub strict_words : StrictRefusal → List ℕ
+strict_words (ordinary why) = words why
+strict_words not_canonical = codes "not canonical"
+
+-- the text of the first refusal that these bytes allow
+pub record IsStrictRefusalText (bytes text : List ℕ) : Type 0 where
+  pub why : StrictRefusal
+  pub offset : ℕ
+  pub first : IsFirstStrictRefusal bytes why offset
+  pub is : text ≡ strict_words why ++ at_offset offset
+
+-- The bytes themselves, which are a canonical spelling, or why they aren't one.
+pub data IsAnsweredStrictly (bytes answer : List ℕ) : Type 0 where
+  unchanged : (v : Val) → SpellsCanonically bytes v → answer ≡ hex bytes
+      → IsAnsweredStrictly bytes answer
+  not_spelled : (text : List ℕ) → ((v : Val) → SpellsCanonically bytes v → ⊥)
+      → IsStrictRefusalText bytes text → answer ≡ codes "error: " ++ text
+      → IsAnsweredStrictly bytes answer
+
+-- ---- answers to lines
+
+-- what bytes are answered
+abbrev pub Answered : Type 1
+Answered = List ℕ → List ℕ → Type 0
+
+-- The answer to a line is that to the bytes of which it is the hexadecimal.
+pub data IsAnswer (answered : Answered) (line answer : List ℕ) : Type 0 where
+  hexadecimal : (bytes : List ℕ) → IsHexOf line bytes → answered bytes answer
+      → IsAnswer answered line answer
   not_hexadecimal : ((bytes : List ℕ) → IsHexOf line bytes → ⊥)
-      → answer ≡ codes "error: not hexadecimal" → IsAnswer line answer
+      → answer ≡ codes "error: not hexadecimal" → IsAnswer answered line answer
 
 -- The output is one answer for each of the lines, in their order, each ended by 0a.
-abbrev pub AreAnswers : List (List ℕ) → List ℕ → Type 0
-AreAnswers [] output = output ≡ []
-AreAnswers (line ∷ lines) output = (answer others : List ℕ) × IsAnswer line answer
-    × (output ≡ answer ++ (0x0a ∷ others)) × AreAnswers lines others
+abbrev pub AreAnswers : Answered → List (List ℕ) → List ℕ → Type 0
+AreAnswers answered [] output = output ≡ []
+AreAnswers answered (line ∷ lines) output = (answer others : List ℕ) × IsAnswer answered line answer
+    × (output ≡ answer ++ (0x0a ∷ others)) × AreAnswers answered lines others
 
 -- A line has no two answers.
-abbrev pub OneAnswer : Type 0
-OneAnswer = (line a b : List ℕ) → IsAnswer line a → IsAnswer line b → a ≡ b
+abbrev pub OneAnswer : Answered → Type 0
+OneAnswer answered = (line a b : List ℕ) → IsAnswer answered line a → IsAnswer answered line b
+    → a ≡ b
 
 -- ---- examples
 

@@ -2,29 +2,30 @@
 use Rattle.std.specs.Prelude.{◌≡◌, ℕ, ◌-◌, ◌^◌, List, [], ◌∷◌, ◌++◌, length, ◌==◌, if◌then◌else◌}
 use Rattle.std.specs.Prelude.{◌⊎◌, Option, refl}
 use Rattle.std.specs.Io.KnownBytes.{Appends, Consumes, IsAtEnd}
-use Rattle.cbor_tool.specs.Answer.{lines, AreAnswers}
+use Rattle.cbor_tool.specs.Answer.{lines, Answered, AreAnswers}
 use Rattle.serde_cbor.specs.declared.error.ErrorCode.{ErrorCode}
 use Rattle.serde_cbor.specs.declared.error.ErrorCode.TheVariants.{Io, OutOfMemory, LengthOutOfRange}
 use Rattle.serde_cbor.specs.declared.error.Error.{Error}
 use Rattle.serde_cbor.specs.Error.{code_of, offset_of}
 
 -- One answer for each of the lines was written, and nothing else.
-abbrev pub AppendsAnswers : List (List ℕ) → Option (List ℕ) → Option (List ℕ) → Type 0
-AppendsAnswers lines old new = (output : List ℕ) × AreAnswers lines output × Appends old new output
+abbrev pub AppendsAnswers : Answered → List (List ℕ) → Option (List ℕ) → Option (List ℕ) → Type 0
+AppendsAnswers answered lines old new =
+    (output : List ℕ) × AreAnswers answered lines output × Appends old new output
 
 -- a beginning of the answer to the line, its 0a counted
-pub record BeginsAnswer (line begun : List ℕ) : Type 0 where
+pub record BeginsAnswer (answered : Answered) (line begun : List ℕ) : Type 0 where
   pub missing : List ℕ
-  pub whole : AreAnswers (line ∷ []) (begun ++ missing)
+  pub whole : AreAnswers answered (line ∷ []) (begun ++ missing)
 
 -- One answer for each of the lines before was written, then a beginning of the answer to the last,
 -- and nothing else.
-pub record AppendsUpTo (before : List (List ℕ)) (last : List ℕ)
+pub record AppendsUpTo (answered : Answered) (before : List (List ℕ)) (last : List ℕ)
     (old new : Option (List ℕ)) : Type 0 where
   pub output : List ℕ
   pub begun : List ℕ
-  pub answers : AreAnswers before output
-  pub begins : BeginsAnswer last begun
+  pub answers : AreAnswers answered before output
+  pub begins : BeginsAnswer answered last begun
   pub written : Appends old new (output ++ begun)
 
 -- a line's first byte, before the ended lines that follow without it
@@ -41,54 +42,60 @@ ended_lines (b ∷ bs) = if b == 0x0a then [] ∷ ended_lines bs else begin_ende
 
 -- Memory ran out. All lines that were begun but the last have been answered. A line is begun once
 -- its first byte was taken.
-pub record StopsInLine (reader reader' writer writer' : Option (List ℕ)) : Type 0 where
+pub record StopsInLine (answered : Answered)
+    (reader reader' writer writer' : Option (List ℕ)) : Type 0 where
   pub taken : List ℕ
-  pub answered : List (List ℕ)
+  pub before : List (List ℕ)
   pub last : List ℕ
-  pub begun : lines taken ≡ answered ++ last ∷ []
+  pub begun : lines taken ≡ before ++ last ∷ []
   pub consumed : Consumes reader reader' taken
-  pub written : AppendsAnswers answered writer writer'
+  pub written : AppendsAnswers answered before writer writer'
 
 -- The reader failed. The lines that had ended have been answered.
-pub record StopsAtReader (reader reader' writer writer' : Option (List ℕ)) : Type 0 where
+pub record StopsAtReader (answered : Answered)
+    (reader reader' writer writer' : Option (List ℕ)) : Type 0 where
   pub taken : List ℕ
   pub consumed : Consumes reader reader' taken
-  pub written : AppendsAnswers (ended_lines taken) writer writer'
+  pub written : AppendsAnswers answered (ended_lines taken) writer writer'
 
 -- The writer failed, on the answer to a line, of which a beginning was written. All lines before it
 -- have been answered. No byte that follows this line was taken.
-pub record StopsAtWriter (reader reader' writer writer' : Option (List ℕ)) : Type 0 where
+pub record StopsAtWriter (answered : Answered)
+    (reader reader' writer writer' : Option (List ℕ)) : Type 0 where
   pub taken : List ℕ
   pub before : List (List ℕ)
   pub last : List ℕ
   pub begun : lines taken ≡ before ++ last ∷ []
   pub ended : (ended_lines taken ≡ lines taken) ⊎ IsAtEnd reader'
   pub consumed : Consumes reader reader' taken
-  pub written : AppendsUpTo before last writer writer'
+  pub written : AppendsUpTo answered before last writer writer'
 
 -- the greatest offset, and the greatest length of an input
 abbrev pub max_offset : ℕ
 max_offset = 2 ^ 64 - 1
 
 -- A byte too many was taken. The lines that ended before it have been answered.
-pub record StopsPastMax (reader reader' writer writer' : Option (List ℕ)) : Type 0 where
+pub record StopsPastMax (answered : Answered)
+    (reader reader' writer writer' : Option (List ℕ)) : Type 0 where
   pub taken : List ℕ
   pub past : ℕ
   pub count : length taken ≡ max_offset
   pub consumed : Consumes reader reader' (taken ++ past ∷ [])
-  pub written : AppendsAnswers (ended_lines taken) writer writer'
+  pub written : AppendsAnswers answered (ended_lines taken) writer writer'
 
-abbrev pub IsStoppedBy : ErrorCode → ℕ → (reader reader' writer writer' : Option (List ℕ)) → Type 0
-IsStoppedBy (Io fault) offset reader reader' writer writer' = (offset ≡ 0)
-    × (StopsAtReader reader reader' writer writer' ⊎ StopsAtWriter reader reader' writer writer')
-IsStoppedBy OutOfMemory offset reader reader' writer writer' = (offset ≡ 0)
-    × StopsInLine reader reader' writer writer'
-IsStoppedBy LengthOutOfRange offset reader reader' writer writer' = (offset ≡ max_offset)
-    × StopsPastMax reader reader' writer writer'
-IsStoppedBy _ offset reader reader' writer writer' = ⊥
+abbrev pub IsStoppedBy : Answered → ErrorCode → ℕ
+    → (reader reader' writer writer' : Option (List ℕ)) → Type 0
+IsStoppedBy answered (Io fault) offset reader reader' writer writer' = (offset ≡ 0)
+    × (StopsAtReader answered reader reader' writer writer'
+    ⊎ StopsAtWriter answered reader reader' writer writer')
+IsStoppedBy answered OutOfMemory offset reader reader' writer writer' = (offset ≡ 0)
+    × StopsInLine answered reader reader' writer writer'
+IsStoppedBy answered LengthOutOfRange offset reader reader' writer writer' = (offset ≡ max_offset)
+    × StopsPastMax answered reader reader' writer writer'
+IsStoppedBy answered _ offset reader reader' writer writer' = ⊥
 
-abbrev pub IsStopped : Error → (reader reader' writer writer' : Option (List ℕ)) → Type 0
-IsStopped e = IsStoppedBy (code_of e) (offset_of e)
+abbrev pub IsStopped : Answered → Error → (reader reader' writer writer' : Option (List ℕ)) → Type 0
+IsStopped answered e = IsStoppedBy answered (code_of e) (offset_of e)
 
 -- ---- examples
 

@@ -1,12 +1,20 @@
 -- What the steps of a run do.
 use Rattle.std.specs.Prelude.{◌≡◌, ◌≢◌, ℕ, ◌+◌, ◌<◌, List, [], ◌∷◌, ◌++◌, length, All, Option, Some}
-use Rattle.std.specs.Prelude.{None}
+use Rattle.std.specs.Prelude.{None, codes}
 use Rattle.std.specs.Io.KnownBytes.{Consumes, Keeps, IsAtEnd}
-use Rattle.cbor_tool.specs.Answer.{IsHexOf, IsAnswer}
+use Rattle.cbor_tool.specs.Answer.{Answered, IsAnswered, IsAnsweredStrictly}
 use Rattle.serde_cbor.specs.declared.error.ErrorCode.{ErrorCode}
 use Rattle.serde_cbor.specs.declared.error.ErrorCode.TheVariants.{Io, OutOfMemory, LengthOutOfRange}
 use Rattle.serde_cbor.specs.declared.error.Error.{Error}
 use Rattle.serde_cbor.specs.Error.{code_of, offset_of}
+use Rattle.cbor_model.specs.Plain.{Val}
+use Rattle.cbor_model.specs.Allowed.{limits_of}
+use Rattle.cbor_model.specs.Laws.{SpellsValue}
+use Rattle.serde_cbor.specs.FirstRefusal.{TellsFirst}
+use Rattle.serde_cbor.specs.Strict.{SpellsCanonically}
+use Rattle.serde_cbor.specs.StrictAnswers.{TellsFirstStrictly}
+use Rattle.cbor_tool.specs.declared.program.Mode.{Mode}
+use Rattle.cbor_tool.specs.declared.program.Mode.TheVariants.{Lenient, Strict}
 use Rattle.cbor_tool.specs.declared.program.End.{End}
 use Rattle.cbor_tool.specs.declared.program.End.TheVariants.{Newline, Input}
 use Rattle.cbor_tool.specs.Run.{AppendsUpTo, max_offset}
@@ -74,16 +82,37 @@ StopsAtByte e = StopsAtByteBy (code_of e) (offset_of e)
 
 -- ---- answering
 
--- the text answers each line that is the hexadecimal of these bytes
-abbrev pub IsAnswerTo : List ℕ → List ℕ → Type 0
-IsAnswerTo bytes text = (line : List ℕ) → IsHexOf line bytes → IsAnswer line text
+-- what bytes are answered in each mode
+abbrev pub answered_in : Mode → Answered
+answered_in Lenient = IsAnswered
+answered_in Strict = IsAnsweredStrictly
 
-abbrev pub StopsAnsweringBy : ErrorCode → ℕ → List ℕ → (writer writer' : Option (List ℕ)) → Type 0
-StopsAnsweringBy (Io fault) offset line writer writer' = (offset ≡ 0)
-    × AppendsUpTo [] line writer writer'
-StopsAnsweringBy OutOfMemory offset line writer writer' = (offset ≡ 0) × Keeps writer writer'
-StopsAnsweringBy _ offset line writer writer' = ⊥
+-- the bytes spell the value, as it is read in each mode
+abbrev pub SpellsIn : Mode → List ℕ → Val → Type 0
+SpellsIn Lenient = SpellsValue
+SpellsIn Strict = SpellsCanonically
+
+-- the error tells the first refusal that the bytes allow
+abbrev pub TellsIn : Mode → List ℕ → Error → Type 0
+TellsIn Lenient = TellsFirst (limits_of None)
+TellsIn Strict = TellsFirstStrictly
+
+abbrev pub StopsAnsweringBy : Answered → ErrorCode → ℕ → List ℕ → (writer writer' : Option (List ℕ))
+    → Type 0
+StopsAnsweringBy answered (Io fault) offset line writer writer' = (offset ≡ 0)
+    × AppendsUpTo answered [] line writer writer'
+StopsAnsweringBy answered OutOfMemory offset line writer writer' = (offset ≡ 0)
+    × Keeps writer writer'
+StopsAnsweringBy answered _ offset line writer writer' = ⊥
 
 -- why the line's answer was not written whole, and how much of it was
-abbrev pub StopsAnswering : Error → List ℕ → (writer writer' : Option (List ℕ)) → Type 0
-StopsAnswering e = StopsAnsweringBy (code_of e) (offset_of e)
+abbrev pub StopsAnswering : Answered → Error → List ℕ → (writer writer' : Option (List ℕ)) → Type 0
+StopsAnswering answered e = StopsAnsweringBy answered (code_of e) (offset_of e)
+
+-- ---- the words after the program's name
+
+-- none is lenient, the one word `strict` is strict, and any others are neither
+abbrev pub Chooses : List (List ℕ) → Option Mode → Type 0
+Chooses words (Some Lenient) = words ≡ []
+Chooses words (Some Strict) = words ≡ codes "strict" ∷ []
+Chooses words None = (words ≢ []) × (words ≢ codes "strict" ∷ [])

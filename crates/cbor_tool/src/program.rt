@@ -1,18 +1,20 @@
 //! Lines of hexadecimal in, lines of answers out.
 
-ghost use Rattle.std.specs.Prelude.{◌≡◌, ◌+◌, ◌<◌, ◌≤◌, ◌∷◌, [], length};
+ghost use Rattle.std.specs.Prelude.{◌≡◌, ◌⊎◌, ◌+◌, ◌<◌, ◌≤◌, ◌∷◌, [], length};
 ghost use Rattle.std.specs.Prelude.{IfOk, IfErr, IfSome, OnOk};
 ghost use Rattle.std.specs.Io.KnownBytes.{WriteAppends, IsAtEnd};
-ghost use Rattle.cbor_tool.specs.Answer.{lines, hex, IsAnswer};
+ghost use Rattle.cbor_model.specs.Plain.{Val};
+ghost use Rattle.cbor_tool.specs.Answer.{lines, hex, IsAnswer, IsAnswered, IsAnsweredStrictly};
 ghost use Rattle.serde_cbor.specs.Error.{IsOutOfMemory};
+ghost use Rattle.serde_cbor.specs.View.{view};
 ghost use Rattle.serde_cbor.specs.Write.{Wrote};
 ghost use Rattle.cbor_tool.specs.Run.{AppendsAnswers, IsStopped};
 ghost use Rattle.cbor_tool.specs.Steps.{IsNext, IsNextLine, StopsReading, StopsAtByte};
-ghost use Rattle.cbor_tool.specs.Steps.{IsAnswerTo, StopsAnswering};
+ghost use Rattle.cbor_tool.specs.Steps.{answered_in, SpellsIn, StopsAnswering, TellsIn};
 
 use hex::FromHexError;
 use serde_cbor::error::{Error, ErrorCode};
-use serde_cbor::{Result, Value, from_slice, to_vec};
+use serde_cbor::{Result, Value, from_slice, from_slice_canonical, to_vec};
 use std::alloc::{AllocError, Global};
 use std::io;
 use std::io::ErrorKind;
@@ -24,6 +26,15 @@ enum End {
     Input,
 }
 
+/// Which bytes are read.
+#[derive(Clone, Copy)]
+pub enum Mode {
+    /// Those of any acceptable item, which is answered with its canonical spelling.
+    Lenient,
+    /// Canonical spellings alone.
+    Strict,
+}
+
 /// Answers each line that the reader gives by one line to the writer.
 ///
 /// Bytes are taken one at a time. Each answer is made whole, then written, and flushed before the
@@ -33,12 +44,49 @@ enum End {
 pub fn run<R: io::Read, W: io::Write>(alloc: Global, reader: &mut R, writer: &mut W) -> Result<()>
     // The output is one answer for each of the input's lines, and the input was read to its end.
     ensures answers { OnOk result (IfSome (R.remaining reader.old) (λ input.
-        AppendsAnswers (lines input) (W.contents writer.old) (W.contents writer.new))) }
+        AppendsAnswers IsAnswered (lines input)
+        (W.contents writer.old) (W.contents writer.new))) }
     ensures end { OnOk result (IsAtEnd (R.remaining reader.new)) }
     // Why it stopped, with what taken and what written: at a fault of the reader the answers to the
     // lines that had ended, and at a fault of the writer those to the lines before one, and a
     // beginning of the answer to that line.
-    ensures stopped { IfErr result (λ e. IsStopped e
+    ensures stopped { IfErr result (λ e. IsStopped IsAnswered e
+        (R.remaining reader.old) (R.remaining reader.new)
+        (W.contents writer.old) (W.contents writer.new)) }
+{
+    answer_lines(Mode::Lenient, alloc, reader, writer)
+}
+
+/// Answers each line as [`run`] does, but reads canonical spellings alone: such a one is answered
+/// with itself, and other bytes with the first refusal of strict reading.
+pub fn run_strict<R: io::Read, W: io::Write>(
+    alloc: Global,
+    reader: &mut R,
+    writer: &mut W,
+) -> Result<()>
+    ensures answers { OnOk result (IfSome (R.remaining reader.old) (λ input.
+        AppendsAnswers IsAnsweredStrictly (lines input)
+        (W.contents writer.old) (W.contents writer.new))) }
+    ensures end { OnOk result (IsAtEnd (R.remaining reader.new)) }
+    ensures stopped { IfErr result (λ e. IsStopped IsAnsweredStrictly e
+        (R.remaining reader.old) (R.remaining reader.new)
+        (W.contents writer.old) (W.contents writer.new)) }
+{
+    answer_lines(Mode::Strict, alloc, reader, writer)
+}
+
+// Answers each line in this mode.
+fn answer_lines<R: io::Read, W: io::Write>(
+    mode: Mode,
+    alloc: Global,
+    reader: &mut R,
+    writer: &mut W,
+) -> Result<()>
+    ensures answers { OnOk result (IfSome (R.remaining reader.old) (λ input.
+        AppendsAnswers (answered_in mode) (lines input)
+        (W.contents writer.old) (W.contents writer.new))) }
+    ensures end { OnOk result (IsAtEnd (R.remaining reader.new)) }
+    ensures stopped { IfErr result (λ e. IsStopped (answered_in mode) e
         (R.remaining reader.old) (R.remaining reader.new)
         (W.contents writer.old) (W.contents writer.new)) }
 {
@@ -46,10 +94,10 @@ pub fn run<R: io::Read, W: io::Write>(alloc: Global, reader: &mut R, writer: &mu
     let mut line = Vec::new(alloc);
     let mut text = Vec::new(alloc);
     'lines: while let End::Newline = read_line(reader, &mut taken, &mut line)? {
-        write_answer(alloc, &line, &mut text, writer)?;
+        write_answer(mode, alloc, &line, &mut text, writer)?;
     }
     if !line.is_empty() {
-        write_answer(alloc, &line, &mut text, writer)?;
+        write_answer(mode, alloc, &line, &mut text, writer)?;
     }
     Ok(())
 }
@@ -92,17 +140,18 @@ fn read_byte<R: io::Read>(reader: &mut R, taken: &mut u64) -> Result<Option<u8>>
 
 // Writes the answer to the line, which is made in `text`, and a 0a.
 fn write_answer<W: io::Write>(
+    mode: Mode,
     alloc: Global,
     line: &[u8],
     text: &mut Vec<u8>,
     writer: &mut W,
 ) -> Result<()>
-    ensures ok { OnOk result (AppendsAnswers (line.now ∷ [])
+    ensures ok { OnOk result (AppendsAnswers (answered_in mode) (line.now ∷ [])
         (W.contents writer.old) (W.contents writer.new)) }
-    ensures err { IfErr result (λ e. StopsAnswering e line.now
+    ensures err { IfErr result (λ e. StopsAnswering (answered_in mode) e line.now
         (W.contents writer.old) (W.contents writer.new)) }
 {
-    answer(alloc, line, text)?;
+    answer(mode, alloc, line, text)?;
     text.push(b'\n')?;
     write_all(writer, text)?;
     writer.flush()?;
@@ -142,12 +191,12 @@ fn write_some<W: io::Write>(writer: &mut W, bytes: &[u8]) -> io::Result<usize>
 }
 
 // Makes `text` the answer to the line.
-fn answer(alloc: Global, line: &[u8], text: &mut Vec<u8>) -> Result<()>
-    ensures ok { OnOk result (IsAnswer line.now text.new.items) }
+fn answer(mode: Mode, alloc: Global, line: &[u8], text: &mut Vec<u8>) -> Result<()>
+    ensures ok { OnOk result (IsAnswer (answered_in mode) line.now text.new.items) }
     ensures err { IfErr result IsOutOfMemory }
 {
     match hex::decode(alloc, line) {
-        Ok(bytes) => answer_bytes(alloc, &bytes, text),
+        Ok(bytes) => answer_bytes(mode, alloc, &bytes, text),
         Err(error) => match error {
             FromHexError::OutOfMemory => Err(Error::from(AllocError)),
             _ => replace(text, b"error: not hexadecimal"),
@@ -156,11 +205,11 @@ fn answer(alloc: Global, line: &[u8], text: &mut Vec<u8>) -> Result<()>
 }
 
 // Makes `text` the answer to a line that is the hexadecimal of these bytes.
-fn answer_bytes(alloc: Global, bytes: &[u8], text: &mut Vec<u8>) -> Result<()>
-    ensures ok { OnOk result (IsAnswerTo bytes.now text.new.items) }
+fn answer_bytes(mode: Mode, alloc: Global, bytes: &[u8], text: &mut Vec<u8>) -> Result<()>
+    ensures ok { OnOk result (answered_in mode bytes.now text.new.items) }
     ensures err { IfErr result IsOutOfMemory }
 {
-    match from_slice::<Value>(alloc, bytes) {
+    match read(mode, alloc, bytes) {
         Ok(value) => {
             let spelling = to_vec(alloc, &value)?;
             replace_by_hex(text, &spelling)
@@ -172,6 +221,18 @@ fn answer_bytes(alloc: Global, bytes: &[u8], text: &mut Vec<u8>) -> Result<()>
             let refusal = format!(in alloc; "error: {error}")?;
             replace(text, refusal.as_bytes())
         }
+    }
+}
+
+// Reads the bytes in this mode.
+fn read(mode: Mode, alloc: Global, bytes: &[u8]) -> Result<Value>
+    ensures found { IfOk result (λ v. SpellsIn mode bytes.now (view v)) }
+    ensures accepted { (v : Val) → SpellsIn mode bytes.now v → IfErr result IsOutOfMemory }
+    ensures refused { IfErr result (λ e. IsOutOfMemory e ⊎ TellsIn mode bytes.now e) }
+{
+    match mode {
+        Mode::Lenient => from_slice::<Value>(alloc, bytes),
+        Mode::Strict => from_slice_canonical(alloc, bytes),
     }
 }
 

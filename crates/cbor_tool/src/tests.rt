@@ -1,4 +1,5 @@
-use crate::program::run;
+use crate::program::{Mode, run, run_strict};
+use crate::words;
 use serde_cbor::Result;
 use std::alloc::Global;
 use std::io;
@@ -91,6 +92,13 @@ fn answers_to(alloc: Global, input: &[u8]) -> Result<Vec<u8>> {
     let mut reader = input;
     let mut writer = Vec::new(alloc);
     run(alloc, &mut reader, &mut writer)?;
+    Ok(writer)
+}
+
+fn strict_answers_to(alloc: Global, input: &[u8]) -> Result<Vec<u8>> {
+    let mut reader = input;
+    let mut writer = Vec::new(alloc);
+    run_strict(alloc, &mut reader, &mut writer)?;
     Ok(writer)
 }
 
@@ -244,5 +252,33 @@ fn tries_an_interrupted_write_again(rt: HostRuntime) -> Result<()> {
     };
     run(alloc, &mut reader, &mut writer)?;
     assert!(rt; writer.written.as_slice() == OUTPUT);
+    Ok(())
+}
+
+#[test]
+fn answers_each_line_strictly(rt: HostRuntime) -> Result<()> {
+    let alloc = rt.alloc();
+    let input = b"1817\n17\nF7\nF6\n";
+    let output = b"error: not canonical at offset 2\n17\nerror: not canonical at offset 1\nf6\n";
+    assert!(rt; strict_answers_to(alloc, input)?.as_slice() == output.as_slice());
+    let input = b"8\n\n1c\na2020001";
+    let output = b"error: not hexadecimal\nerror: EOF while parsing a value\n\
+        error: unassigned type at offset 1\nerror: not canonical at offset 4\n";
+    assert!(rt; strict_answers_to(alloc, input)?.as_slice() == output.as_slice());
+    Ok(())
+}
+
+#[test]
+fn chooses_the_mode_by_words(rt: HostRuntime) -> Result<()> {
+    let alloc = rt.alloc();
+    let mut words = Vec::new(alloc);
+    assert!(rt; matches!(words::mode(&words), Some(Mode::Lenient)));
+    words.push("strict".to_owned(alloc)?)?;
+    assert!(rt; matches!(words::mode(&words), Some(Mode::Strict)));
+    words.push("strict".to_owned(alloc)?)?;
+    assert!(rt; words::mode(&words).is_none());
+    words.clear();
+    words.push("Strict".to_owned(alloc)?)?;
+    assert!(rt; words::mode(&words).is_none());
     Ok(())
 }
