@@ -1,7 +1,8 @@
 //! An enum of a unit and a newtype variant.
 
 use serde_cbor::de::{Deserialize, DeserializeOwned, Read, Readable};
-use serde_cbor::ser::{Serialize, Serializer, Write};
+use serde_cbor::parts::{Newtype, OneOf2, Schema};
+use serde_cbor::ser::{PartsDocument, Serialize, Serializer, Write};
 use serde_cbor::{Deserializer, Result};
 
 /// An enum of which one variant holds a number.
@@ -11,26 +12,37 @@ pub enum Choice {
     NewType(i32),
 }
 
-impl Serialize for Choice {
-    ghost use Rattle.std.specs.Prelude.{codes};
-    ghost use Rattle.serde_cbor.specs.Document.{Doc, integer, unit_variant, newtype_variant};
-    ghost use Rattle.cbor_samples.specs.declared.choice.Choice.TheVariants as choice;
+/// The names of its variants.
+const CHOICE: &[&str] = &["Unit", "NewType"];
 
-    ghost document = { elim [
-      | choice.Unit ↦ unit_variant 0 (codes "Unit")
-      | choice.NewType n ↦ newtype_variant 1 (codes "NewType") (integer n)
+impl Schema for Choice {
+    ghost use Rattle.std.specs.Prelude.{map};
+    ghost use Rattle.serde_cbor.specs.Schemas.{newtype};
+    ghost use Rattle.serde_cbor.specs.OneOf2 as one_of;
+    ghost use Rattle.cbor_samples.specs.declared.choice.Choice.TheVariants as at;
+    ghost use Rattle.cbor_samples.specs.declared.choice.TheConstants.{CHOICE};
+
+    type Parts = OneOf2<(), Newtype<i32>>;
+
+    ghost names = { map (λ n. n.now) CHOICE.now };
+
+    ghost parts = { elim [
+      | at.Unit ↦ one_of.first tt
+      | at.NewType n ↦ one_of.second (newtype n)
     ] };
+}
+
+impl Serialize for Choice {
+    ghost document = { λ x. ⟦<<Choice as Schema>::Parts as PartsDocument>⟧.document
+        ⟦<Choice as Schema>⟧.names (⟦<Choice as Schema>⟧.parts x) };
 
     fn serialize<W: Write>(&self, ser: &mut Serializer<W>) -> Result<()> {
         match self {
-            Choice::Unit => ser.serialize_unit_variant("Choice", 0, "Unit"),
-            Choice::NewType(n) => ser.serialize_newtype_variant("Choice", 1, "NewType", n),
+            Choice::Unit => ser.serialize_variant(CHOICE, 0, &()),
+            Choice::NewType(n) => ser.serialize_variant(CHOICE, 1, &Newtype(n)),
         }
     }
 }
-
-/// The names of its variants.
-const CHOICE: &[&str] = &["Unit", "NewType"];
 
 impl Readable for Choice {
     ghost use Rattle.std.specs.Prelude.{[], ◌∷◌, map};

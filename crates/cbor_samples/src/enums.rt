@@ -1,7 +1,8 @@
 //! Enums, with variants of each kind.
 
 use serde_cbor::de::{Deserialize, DeserializeOwned, Field, Read, Readable};
-use serde_cbor::ser::{Serialize, Serializer, Write};
+use serde_cbor::parts::{FieldNames, Newtype, OneOf1, OneOf2, OneOf4, Schema, Struct, Tuple};
+use serde_cbor::ser::{NamedFields, PartsDocument, Serialize, Serializer, Write};
 use serde_cbor::{Deserializer, Result};
 
 /// An enum with variants of three kinds.
@@ -13,38 +14,41 @@ pub enum Color {
     Alpha(u64, u8),
 }
 
-impl Serialize for Color {
-    ghost use Rattle.std.specs.Prelude.{codes, pos};
-    ghost use Rattle.serde_cbor.specs.Document.{Doc, doc, no_docs, integer, unit_variant};
-    ghost use Rattle.serde_cbor.specs.Document.{newtype_variant, tuple_variant};
-    ghost use Rattle.cbor_samples.specs.declared.enums.Color.TheVariants.{Blue, Other, Yellow};
-    ghost use Rattle.cbor_samples.specs.declared.enums.Color.TheVariants.{Alpha};
+/// The names of its variants.
+const COLOR: &[&str] = &["Blue", "Other", "Yellow", "Alpha"];
 
-    ghost document = { elim [
-      | Blue ↦ unit_variant 0 (codes "Blue")
-      | Other n ↦ newtype_variant 1 (codes "Other") (integer (pos n))
-      | Yellow n ↦ newtype_variant 2 (codes "Yellow") (integer (pos n))
-      | Alpha a b ↦ tuple_variant 3 (codes "Alpha")
-          (doc (integer (pos a)) (doc (integer (pos b)) no_docs))
+impl Schema for Color {
+    ghost use Rattle.std.specs.Prelude.{map};
+    ghost use Rattle.serde_cbor.specs.Schemas.{newtype, tuple};
+    ghost use Rattle.serde_cbor.specs.OneOf4 as one_of;
+    ghost use Rattle.cbor_samples.specs.declared.enums.Color.TheVariants as at;
+    ghost use Rattle.cbor_samples.specs.declared.enums.TheConstants.{COLOR};
+
+    type Parts = OneOf4<(), Newtype<u64>, Newtype<u8>, Tuple<(u64, u8)>>;
+
+    ghost names = { map (λ n. n.now) COLOR.now };
+
+    ghost parts = { elim [
+      | at.Blue ↦ one_of.first tt
+      | at.Other n ↦ one_of.second (newtype n)
+      | at.Yellow n ↦ one_of.third (newtype n)
+      | at.Alpha a b ↦ one_of.fourth (tuple (a, b))
     ] };
+}
+
+impl Serialize for Color {
+    ghost document = { λ x. ⟦<<Color as Schema>::Parts as PartsDocument>⟧.document
+        ⟦<Color as Schema>⟧.names (⟦<Color as Schema>⟧.parts x) };
 
     fn serialize<W: Write>(&self, ser: &mut Serializer<W>) -> Result<()> {
         match self {
-            Color::Blue => ser.serialize_unit_variant("Color", 0, "Blue"),
-            Color::Other(n) => ser.serialize_newtype_variant("Color", 1, "Other", n),
-            Color::Yellow(n) => ser.serialize_newtype_variant("Color", 2, "Yellow", n),
-            Color::Alpha(a, b) => {
-                let mut parts = ser.serialize_tuple_variant("Color", 3, "Alpha", 2)?;
-                parts.serialize_element(a)?;
-                parts.serialize_element(b)?;
-                parts.end()
-            }
+            Color::Blue => ser.serialize_variant(COLOR, 0, &()),
+            Color::Other(n) => ser.serialize_variant(COLOR, 1, &Newtype(n)),
+            Color::Yellow(n) => ser.serialize_variant(COLOR, 2, &Newtype(n)),
+            Color::Alpha(a, b) => ser.serialize_variant(COLOR, 3, &Tuple((a, b))),
         }
     }
 }
-
-/// The names of its variants.
-const COLOR: &[&str] = &["Blue", "Other", "Yellow", "Alpha"];
 
 impl Readable for Color {
     ghost use Rattle.std.specs.Prelude.{[], ◌∷◌, map};
@@ -103,38 +107,54 @@ pub enum Bar {
     Point { x: i64, y: i64 },
 }
 
-impl Serialize for Bar {
-    ghost use Rattle.std.specs.Prelude.{codes, string_bytes};
-    ghost use Rattle.serde_cbor.specs.Document.{Doc, doc, no_docs, field, no_fields, bool, integer};
-    ghost use Rattle.serde_cbor.specs.Document.{text, unit_variant, newtype_variant, tuple_variant};
-    ghost use Rattle.serde_cbor.specs.Document.{struct_variant};
-    ghost use Rattle.cbor_samples.specs.declared.enums.Bar.TheVariants.{Empty, Number, Flag, Point};
+/// The names of its variants.
+const BAR: &[&str] = &["Empty", "Number", "Flag", "Point"];
 
-    ghost document = { elim [
-      | Empty ↦ unit_variant 0 (codes "Empty")
-      | Number n ↦ newtype_variant 1 (codes "Number") (integer n)
-      | Flag name on ↦ tuple_variant 2 (codes "Flag")
-          (doc (text (string_bytes name)) (doc (bool on) no_docs))
-      | Point x y ↦ struct_variant 3 (codes "Point")
-          (field 0 (codes "x") (integer x) (field 1 (codes "y") (integer y) no_fields))
+/// The named fields of its last variant.
+pub enum PointFields {}
+
+impl FieldNames for PointFields {
+    ghost use Rattle.std.specs.Prelude.{map};
+    ghost use Rattle.cbor_samples.specs.declared.enums.TheConstants.{POINT};
+
+    type Parts = (i64, i64);
+
+    ghost names = { map (λ n. n.now) POINT.now };
+
+    fn names() -> &'static [&'static str] {
+        POINT
+    }
+}
+
+impl Schema for Bar {
+    ghost use Rattle.std.specs.Prelude.{map};
+    ghost use Rattle.serde_cbor.specs.Schemas.{newtype, tuple, structure};
+    ghost use Rattle.serde_cbor.specs.OneOf4 as one_of;
+    ghost use Rattle.cbor_samples.specs.declared.enums.Bar.TheVariants as at;
+    ghost use Rattle.cbor_samples.specs.declared.enums.TheConstants.{BAR};
+
+    type Parts = OneOf4<(), Newtype<i64>, Tuple<(String, bool)>, Struct<PointFields>>;
+
+    ghost names = { map (λ n. n.now) BAR.now };
+
+    ghost parts = { elim [
+      | at.Empty ↦ one_of.first tt
+      | at.Number n ↦ one_of.second (newtype n)
+      | at.Flag a b ↦ one_of.third (tuple (a, b))
+      | at.Point x y ↦ one_of.fourth (structure (x, y))
     ] };
+}
+
+impl Serialize for Bar {
+    ghost document = { λ x. ⟦<<Bar as Schema>::Parts as PartsDocument>⟧.document
+        ⟦<Bar as Schema>⟧.names (⟦<Bar as Schema>⟧.parts x) };
 
     fn serialize<W: Write>(&self, ser: &mut Serializer<W>) -> Result<()> {
         match self {
-            Bar::Empty => ser.serialize_unit_variant("Bar", 0, "Empty"),
-            Bar::Number(n) => ser.serialize_newtype_variant("Bar", 1, "Number", n),
-            Bar::Flag(name, on) => {
-                let mut parts = ser.serialize_tuple_variant("Bar", 2, "Flag", 2)?;
-                parts.serialize_field(name)?;
-                parts.serialize_field(on)?;
-                parts.end()
-            }
-            Bar::Point { x, y } => {
-                let mut fields = ser.serialize_struct_variant("Bar", 3, "Point", 2)?;
-                fields.serialize_field("x", x)?;
-                fields.serialize_field("y", y)?;
-                fields.end()
-            }
+            Bar::Empty => ser.serialize_variant(BAR, 0, &()),
+            Bar::Number(n) => ser.serialize_variant(BAR, 1, &Newtype(n)),
+            Bar::Flag(a, b) => ser.serialize_variant(BAR, 2, &Tuple((a, b))),
+            Bar::Point { x, y } => ser.serialize_variant(BAR, 3, &NamedFields(POINT, (x, y))),
         }
     }
 }
@@ -178,9 +198,6 @@ impl<'de, R: Read<'de>> Deserialize<'de, R> for Point {
         Ok(Point { x, y })
     }
 }
-
-/// The names of its variants.
-const BAR: &[&str] = &["Empty", "Number", "Flag", "Point"];
 
 impl Readable for Bar {
     ghost use Rattle.std.specs.Prelude.{[], ◌∷◌, map};
@@ -239,32 +256,37 @@ pub enum DataEnum {
     B(bool, u8),
 }
 
-impl Serialize for DataEnum {
-    ghost use Rattle.std.specs.Prelude.{codes, pos};
-    ghost use Rattle.serde_cbor.specs.Document.{Doc, doc, no_docs, bool, integer, newtype_variant};
-    ghost use Rattle.serde_cbor.specs.Document.{tuple_variant};
-    ghost use Rattle.cbor_samples.specs.declared.enums.DataEnum.TheVariants.{A, B};
+/// The names of its variants.
+const DATA: &[&str] = &["A", "B"];
 
-    ghost document = { elim [
-      | A n ↦ newtype_variant 0 (codes "A") (integer n)
-      | B on n ↦ tuple_variant 1 (codes "B") (doc (bool on) (doc (integer (pos n)) no_docs))
+impl Schema for DataEnum {
+    ghost use Rattle.std.specs.Prelude.{map};
+    ghost use Rattle.serde_cbor.specs.Schemas.{newtype, tuple};
+    ghost use Rattle.serde_cbor.specs.OneOf2 as one_of;
+    ghost use Rattle.cbor_samples.specs.declared.enums.DataEnum.TheVariants as at;
+    ghost use Rattle.cbor_samples.specs.declared.enums.TheConstants.{DATA};
+
+    type Parts = OneOf2<Newtype<i32>, Tuple<(bool, u8)>>;
+
+    ghost names = { map (λ n. n.now) DATA.now };
+
+    ghost parts = { elim [
+      | at.A n ↦ one_of.first (newtype n)
+      | at.B a b ↦ one_of.second (tuple (a, b))
     ] };
+}
+
+impl Serialize for DataEnum {
+    ghost document = { λ x. ⟦<<DataEnum as Schema>::Parts as PartsDocument>⟧.document
+        ⟦<DataEnum as Schema>⟧.names (⟦<DataEnum as Schema>⟧.parts x) };
 
     fn serialize<W: Write>(&self, ser: &mut Serializer<W>) -> Result<()> {
         match self {
-            DataEnum::A(n) => ser.serialize_newtype_variant("DataEnum", 0, "A", n),
-            DataEnum::B(on, n) => {
-                let mut parts = ser.serialize_tuple_variant("DataEnum", 1, "B", 2)?;
-                parts.serialize_element(on)?;
-                parts.serialize_element(n)?;
-                parts.end()
-            }
+            DataEnum::A(n) => ser.serialize_variant(DATA, 0, &Newtype(n)),
+            DataEnum::B(a, b) => ser.serialize_variant(DATA, 1, &Tuple((a, b))),
         }
     }
 }
-
-/// The names of its variants.
-const DATA: &[&str] = &["A", "B"];
 
 impl Readable for DataEnum {
     ghost use Rattle.std.specs.Prelude.{[], ◌∷◌, map};
@@ -310,31 +332,37 @@ pub enum TwoVariants {
     SecondVariant(u8),
 }
 
-impl Serialize for TwoVariants {
-    ghost use Rattle.std.specs.Prelude.{codes, pos};
-    ghost use Rattle.serde_cbor.specs.Document.{Doc, integer, unit_variant, newtype_variant};
-    ghost use Rattle.cbor_samples.specs.declared.enums.TwoVariants.TheVariants.{FirstVariant};
-    ghost use Rattle.cbor_samples.specs.declared.enums.TwoVariants.TheVariants.{SecondVariant};
+/// The names of its variants.
+const TWO: &[&str] = &["FirstVariant", "SecondVariant"];
 
-    ghost document = { elim [
-      | FirstVariant ↦ unit_variant 0 (codes "FirstVariant")
-      | SecondVariant n ↦ newtype_variant 1 (codes "SecondVariant") (integer (pos n))
+impl Schema for TwoVariants {
+    ghost use Rattle.std.specs.Prelude.{map};
+    ghost use Rattle.serde_cbor.specs.Schemas.{newtype};
+    ghost use Rattle.serde_cbor.specs.OneOf2 as one_of;
+    ghost use Rattle.cbor_samples.specs.declared.enums.TwoVariants.TheVariants as at;
+    ghost use Rattle.cbor_samples.specs.declared.enums.TheConstants.{TWO};
+
+    type Parts = OneOf2<(), Newtype<u8>>;
+
+    ghost names = { map (λ n. n.now) TWO.now };
+
+    ghost parts = { elim [
+      | at.FirstVariant ↦ one_of.first tt
+      | at.SecondVariant n ↦ one_of.second (newtype n)
     ] };
+}
+
+impl Serialize for TwoVariants {
+    ghost document = { λ x. ⟦<<TwoVariants as Schema>::Parts as PartsDocument>⟧.document
+        ⟦<TwoVariants as Schema>⟧.names (⟦<TwoVariants as Schema>⟧.parts x) };
 
     fn serialize<W: Write>(&self, ser: &mut Serializer<W>) -> Result<()> {
         match self {
-            TwoVariants::FirstVariant => {
-                ser.serialize_unit_variant("TwoVariants", 0, "FirstVariant")
-            }
-            TwoVariants::SecondVariant(n) => {
-                ser.serialize_newtype_variant("TwoVariants", 1, "SecondVariant", n)
-            }
+            TwoVariants::FirstVariant => ser.serialize_variant(TWO, 0, &()),
+            TwoVariants::SecondVariant(n) => ser.serialize_variant(TWO, 1, &Newtype(n)),
         }
     }
 }
-
-/// The names of its variants.
-const TWO: &[&str] = &["FirstVariant", "SecondVariant"];
 
 impl Readable for TwoVariants {
     ghost use Rattle.std.specs.Prelude.{[], ◌∷◌, map};
@@ -375,19 +403,34 @@ pub enum Wish {
     Require,
 }
 
-impl Serialize for Wish {
-    ghost use Rattle.std.specs.Prelude.{codes};
-    ghost use Rattle.serde_cbor.specs.Document.{unit_variant};
+/// The names of its variants.
+const WISH: &[&str] = &["require"];
 
-    ghost document = { λ w. unit_variant 0 (codes "require") };
+impl Schema for Wish {
+    ghost use Rattle.std.specs.Prelude.{map};
+    ghost use Rattle.serde_cbor.specs.OneOf1 as one_of;
+    ghost use Rattle.cbor_samples.specs.declared.enums.Wish.TheVariants as at;
+    ghost use Rattle.cbor_samples.specs.declared.enums.TheConstants.{WISH};
 
-    fn serialize<W: Write>(&self, ser: &mut Serializer<W>) -> Result<()> {
-        ser.serialize_unit_variant("Wish", 0, "require")
-    }
+    type Parts = OneOf1<()>;
+
+    ghost names = { map (λ n. n.now) WISH.now };
+
+    ghost parts = { elim [
+      | at.Require ↦ one_of.first tt
+    ] };
 }
 
-/// The name of its variant.
-const WISH: &[&str] = &["require"];
+impl Serialize for Wish {
+    ghost document = { λ x. ⟦<<Wish as Schema>::Parts as PartsDocument>⟧.document
+        ⟦<Wish as Schema>⟧.names (⟦<Wish as Schema>⟧.parts x) };
+
+    fn serialize<W: Write>(&self, ser: &mut Serializer<W>) -> Result<()> {
+        match self {
+            Wish::Require => ser.serialize_variant(WISH, 0, &()),
+        }
+    }
+}
 
 impl Readable for Wish {
     ghost use Rattle.std.specs.Prelude.{[], ◌∷◌, map};

@@ -4,7 +4,8 @@ ghost use Rattle.std.specs.Prelude.{codes};
 
 use crate::enums::Color;
 use serde_cbor::de::{Deserialize, DeserializeOwned, Field, Read, Readable};
-use serde_cbor::ser::{Serialize, Serializer, Write};
+use serde_cbor::parts::Schema;
+use serde_cbor::ser::{PartsDocument, Serialize, Serializer, Write};
 use serde_cbor::{Deserializer, Result};
 
 /// A struct of two fields.
@@ -14,24 +15,28 @@ pub struct User {
     pub password_hash: [u8; 4],
 }
 
-impl Serialize for User {
-    ghost use Rattle.serde_cbor.specs.Document.{structure, field, no_fields};
-
-    ghost document = { λ u. structure
-        (field 0 (codes "user_id") (⟦<u32 as Serialize>⟧.document u.user_id)
-        (field 1 (codes "password_hash") (⟦<[u8; 4] as Serialize>⟧.document u.password_hash)
-        no_fields)) };
-
-    fn serialize<W: Write>(&self, ser: &mut Serializer<W>) -> Result<()> {
-        let mut fields = ser.serialize_struct("User", 2)?;
-        fields.serialize_field("user_id", &self.user_id)?;
-        fields.serialize_field("password_hash", &self.password_hash)?;
-        fields.end()
-    }
-}
-
 /// The names of its fields.
 const USER: &[&str] = &["user_id", "password_hash"];
+
+impl Schema for User {
+    ghost use Rattle.std.specs.Prelude.{map};
+    ghost use Rattle.cbor_samples.specs.declared.structs.TheConstants.{USER};
+
+    type Parts = (u32, [u8; 4]);
+
+    ghost names = { map (λ n. n.now) USER.now };
+
+    ghost parts = { λ u. (u.user_id, u.password_hash) };
+}
+
+impl Serialize for User {
+    ghost document = { λ x. ⟦<<User as Schema>::Parts as PartsDocument>⟧.document
+        ⟦<User as Schema>⟧.names (⟦<User as Schema>⟧.parts x) };
+
+    fn serialize<W: Write>(&self, ser: &mut Serializer<W>) -> Result<()> {
+        ser.serialize_fields(USER, &(&self.user_id, &self.password_hash))
+    }
+}
 
 impl Readable for User {
     ghost use Rattle.std.specs.Prelude.{[], ◌∷◌, map};
@@ -158,22 +163,28 @@ pub struct Foo {
     pub color: Color,
 }
 
-impl Serialize for Foo {
-    ghost use Rattle.serde_cbor.specs.Document.{structure, field, no_fields};
-
-    ghost document = { λ f. structure (field 0 (codes "x") (⟦<u8 as Serialize>⟧.document f.x)
-        (field 1 (codes "color") (⟦<Color as Serialize>⟧.document f.color) no_fields)) };
-
-    fn serialize<W: Write>(&self, ser: &mut Serializer<W>) -> Result<()> {
-        let mut fields = ser.serialize_struct("Foo", 2)?;
-        fields.serialize_field("x", &self.x)?;
-        fields.serialize_field("color", &self.color)?;
-        fields.end()
-    }
-}
-
 /// The names of its fields.
 const FOO: &[&str] = &["x", "color"];
+
+impl Schema for Foo {
+    ghost use Rattle.std.specs.Prelude.{map};
+    ghost use Rattle.cbor_samples.specs.declared.structs.TheConstants.{FOO};
+
+    type Parts = (u8, Color);
+
+    ghost names = { map (λ n. n.now) FOO.now };
+
+    ghost parts = { λ f. (f.x, f.color) };
+}
+
+impl Serialize for Foo {
+    ghost document = { λ x. ⟦<<Foo as Schema>::Parts as PartsDocument>⟧.document
+        ⟦<Foo as Schema>⟧.names (⟦<Foo as Schema>⟧.parts x) };
+
+    fn serialize<W: Write>(&self, ser: &mut Serializer<W>) -> Result<()> {
+        ser.serialize_fields(FOO, &(&self.x, &self.color))
+    }
+}
 
 impl Readable for Foo {
     ghost use Rattle.std.specs.Prelude.{[], ◌∷◌, map};
@@ -215,22 +226,28 @@ pub struct Example {
     pub payload: u8,
 }
 
-impl Serialize for Example {
-    ghost use Rattle.serde_cbor.specs.Document.{structure, field, no_fields};
-
-    ghost document = { λ e. structure (field 0 (codes "foo") (⟦<Foo as Serialize>⟧.document e.foo)
-        (field 1 (codes "payload") (⟦<u8 as Serialize>⟧.document e.payload) no_fields)) };
-
-    fn serialize<W: Write>(&self, ser: &mut Serializer<W>) -> Result<()> {
-        let mut fields = ser.serialize_struct("Example", 2)?;
-        fields.serialize_field("foo", &self.foo)?;
-        fields.serialize_field("payload", &self.payload)?;
-        fields.end()
-    }
-}
-
 /// The names of its fields.
 const EXAMPLE: &[&str] = &["foo", "payload"];
+
+impl Schema for Example {
+    ghost use Rattle.std.specs.Prelude.{map};
+    ghost use Rattle.cbor_samples.specs.declared.structs.TheConstants.{EXAMPLE};
+
+    type Parts = (Foo, u8);
+
+    ghost names = { map (λ n. n.now) EXAMPLE.now };
+
+    ghost parts = { λ e. (e.foo, e.payload) };
+}
+
+impl Serialize for Example {
+    ghost document = { λ x. ⟦<<Example as Schema>::Parts as PartsDocument>⟧.document
+        ⟦<Example as Schema>⟧.names (⟦<Example as Schema>⟧.parts x) };
+
+    fn serialize<W: Write>(&self, ser: &mut Serializer<W>) -> Result<()> {
+        ser.serialize_fields(EXAMPLE, &(&self.foo, &self.payload))
+    }
+}
 
 impl Readable for Example {
     ghost use Rattle.std.specs.Prelude.{[], ◌∷◌, map};
@@ -300,26 +317,28 @@ pub struct Mascot {
     pub year_of_birth: u32,
 }
 
-impl Serialize for Mascot {
-    ghost use Rattle.serde_cbor.specs.Document.{structure, field, no_fields};
-
-    ghost document = { λ m. structure
-        (field 0 (codes "name") (⟦<String as Serialize>⟧.document m.name)
-        (field 1 (codes "species") (⟦<String as Serialize>⟧.document m.species)
-        (field 2 (codes "year_of_birth") (⟦<u32 as Serialize>⟧.document m.year_of_birth)
-        no_fields))) };
-
-    fn serialize<W: Write>(&self, ser: &mut Serializer<W>) -> Result<()> {
-        let mut fields = ser.serialize_struct("Mascot", 3)?;
-        fields.serialize_field("name", &self.name)?;
-        fields.serialize_field("species", &self.species)?;
-        fields.serialize_field("year_of_birth", &self.year_of_birth)?;
-        fields.end()
-    }
-}
-
 /// The names of its fields.
 const MASCOT: &[&str] = &["name", "species", "year_of_birth"];
+
+impl Schema for Mascot {
+    ghost use Rattle.std.specs.Prelude.{map};
+    ghost use Rattle.cbor_samples.specs.declared.structs.TheConstants.{MASCOT};
+
+    type Parts = (String, String, u32);
+
+    ghost names = { map (λ n. n.now) MASCOT.now };
+
+    ghost parts = { λ m. (m.name, m.species, m.year_of_birth) };
+}
+
+impl Serialize for Mascot {
+    ghost document = { λ x. ⟦<<Mascot as Schema>::Parts as PartsDocument>⟧.document
+        ⟦<Mascot as Schema>⟧.names (⟦<Mascot as Schema>⟧.parts x) };
+
+    fn serialize<W: Write>(&self, ser: &mut Serializer<W>) -> Result<()> {
+        ser.serialize_fields(MASCOT, &(&self.name, &self.species, &self.year_of_birth))
+    }
+}
 
 impl Readable for Mascot {
     ghost use Rattle.std.specs.Prelude.{[], ◌∷◌, map};
@@ -370,26 +389,28 @@ pub struct Person {
     pub profession: Option<String>,
 }
 
-impl Serialize for Person {
-    ghost use Rattle.serde_cbor.specs.Document.{structure, field, no_fields};
-
-    ghost document = { λ p. structure
-        (field 0 (codes "name") (⟦<String as Serialize>⟧.document p.name)
-        (field 1 (codes "year_of_birth") (⟦<u16 as Serialize>⟧.document p.year_of_birth)
-        (field 2 (codes "profession") (⟦<Option<String> as Serialize>⟧.document p.profession)
-        no_fields))) };
-
-    fn serialize<W: Write>(&self, ser: &mut Serializer<W>) -> Result<()> {
-        let mut fields = ser.serialize_struct("Person", 3)?;
-        fields.serialize_field("name", &self.name)?;
-        fields.serialize_field("year_of_birth", &self.year_of_birth)?;
-        fields.serialize_field("profession", &self.profession)?;
-        fields.end()
-    }
-}
-
 /// The names of its fields.
 const PERSON: &[&str] = &["name", "year_of_birth", "profession"];
+
+impl Schema for Person {
+    ghost use Rattle.std.specs.Prelude.{map};
+    ghost use Rattle.cbor_samples.specs.declared.structs.TheConstants.{PERSON};
+
+    type Parts = (String, u16, Option<String>);
+
+    ghost names = { map (λ n. n.now) PERSON.now };
+
+    ghost parts = { λ p. (p.name, p.year_of_birth, p.profession) };
+}
+
+impl Serialize for Person {
+    ghost document = { λ x. ⟦<<Person as Schema>::Parts as PartsDocument>⟧.document
+        ⟦<Person as Schema>⟧.names (⟦<Person as Schema>⟧.parts x) };
+
+    fn serialize<W: Write>(&self, ser: &mut Serializer<W>) -> Result<()> {
+        ser.serialize_fields(PERSON, &(&self.name, &self.year_of_birth, &self.profession))
+    }
+}
 
 impl Readable for Person {
     ghost use Rattle.std.specs.Prelude.{[], ◌∷◌, map};

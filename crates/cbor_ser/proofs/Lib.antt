@@ -6,5 +6,6 @@ pub mod Beginnings
 pub mod Steps
 pub mod Heads
 pub mod Users
+pub mod Named
 pub mod Lists
 pub mod facts

@@ -21,12 +21,18 @@ pub use cbor_io::write::{IoWrite, SliceWrite, Write};
 use std::alloc::Global;
 
 mod collection;
+mod described;
+mod fields;
 mod impls;
 mod items;
+mod schema;
 mod serialize;
 mod serializer;
 
 pub use collection::{CollectionSerializer, StructSerializer};
+pub use described::{NamedFields, SerializeVariant};
+pub use fields::SerializeTuple;
+pub use schema::{PartsDocument, TupleDocuments, VariantDocument};
 pub use serialize::Serialize;
 pub use serializer::Serializer;
 

@@ -56,3 +56,14 @@ pub use Rattle.cbor_ser.specs.Bytes
 pub use Rattle.cbor_ser.specs.Serialized
 pub use Rattle.cbor_ser.specs.Collections
 pub use Rattle.cbor_ser.specs.Documents
+pub use Rattle.cbor_ser.specs.PartLists
+pub use Rattle.cbor_ser.specs.OneOfs
+pub use Rattle.cbor_parts.specs.Schemas
+pub use Rattle.cbor_parts.specs.OneOf1
+pub use Rattle.cbor_parts.specs.OneOf2
+pub use Rattle.cbor_parts.specs.OneOf3
+pub use Rattle.cbor_parts.specs.OneOf4
+pub use Rattle.cbor_parts.specs.OneOf5
+pub use Rattle.cbor_parts.specs.OneOf6
+pub use Rattle.cbor_parts.specs.OneOf7
+pub use Rattle.cbor_parts.specs.OneOf8

@@ -19,6 +19,7 @@
 
 pub use cbor_io::error;
 pub use cbor_io::error::{Error, Result};
+pub use cbor_parts as parts;
 pub use cbor_ser as ser;
 pub use cbor_ser::{Serializer, to_vec, to_writer};
 pub use cbor_stream as stream;

@@ -258,7 +258,7 @@ impl<W: Write> Serializer<W> {
 
     // Appends what identifies a field or a variant: its name, or its number where the format is
     // packed.
-    fn write_identifier(&mut self, index: u32, name: &str) -> Result<()>
+    pub(crate) fn write_identifier(&mut self, index: u32, name: &str) -> Result<()>
         ensures { Serialized W.written W.refuses W.references self.old
             (item (unit_variant index name.now)) self.new result }
     {
@@ -297,7 +297,7 @@ impl<W: Write> Serializer<W> {
     }
 
     // Appends what precedes the part of a newtype variant.
-    fn write_newtype_head(&mut self, index: u32, name: &str) -> Result<()>
+    pub(crate) fn write_newtype_head(&mut self, index: u32, name: &str) -> Result<()>
         ensures { Serialized W.written W.refuses W.references self.old (newtype_head index name.now)
             self.new result }
     {
@@ -309,7 +309,7 @@ impl<W: Write> Serializer<W> {
     }
 
     // Appends what precedes the parts of a tuple variant.
-    fn write_tuple_head(&mut self, index: u32, name: &str, len: usize) -> Result<()>
+    pub(crate) fn write_tuple_head(&mut self, index: u32, name: &str, len: usize) -> Result<()>
         requires { len < 2 ^ 64 - 1 }
         ensures { Serialized W.written W.refuses W.references self.old
             (tuple_head index name.now len) self.new result }
@@ -322,7 +322,7 @@ impl<W: Write> Serializer<W> {
     }
 
     // Appends what precedes the fields of a struct variant.
-    fn write_struct_head(&mut self, index: u32, name: &str, len: usize) -> Result<()>
+    pub(crate) fn write_struct_head(&mut self, index: u32, name: &str, len: usize) -> Result<()>
         ensures { Serialized W.written W.refuses W.references self.old
             (both (struct_head index name.now) (map_head (Some len))) self.new result }
     {
@@ -331,7 +331,7 @@ impl<W: Write> Serializer<W> {
     }
 
     // Appends what precedes the map of a struct variant's fields.
-    fn write_struct_key(&mut self, index: u32, name: &str) -> Result<()>
+    pub(crate) fn write_struct_key(&mut self, index: u32, name: &str) -> Result<()>
         ensures { Serialized W.written W.refuses W.references self.old (struct_head index name.now)
             self.new result }
     {

@@ -1,0 +1,9 @@
+pub mod Schemas
+pub mod OneOf1
+pub mod OneOf2
+pub mod OneOf3
+pub mod OneOf4
+pub mod OneOf5
+pub mod OneOf6
+pub mod OneOf7
+pub mod OneOf8

@@ -1,0 +1,16 @@
+-- The parts of variants, as values.
+use Rattle.cbor_parts.specs.declared.Newtype.{Newtype}
+use Rattle.cbor_parts.specs.declared.Tuple.{Tuple}
+use Rattle.cbor_parts.specs.declared.Struct.{Struct}
+
+-- the one part of a variant
+abbrev pub newtype : {A : Type 0} → A → Newtype A
+newtype x = record { 0 = x }
+
+-- the parts of a variant of several
+abbrev pub tuple : {F : Type 0} → F → Tuple F
+tuple xs = record { 0 = xs }
+
+-- the named fields of a variant
+abbrev pub structure : {N F : Type 0} → F → Struct N F
+structure xs = record { 0 = xs }

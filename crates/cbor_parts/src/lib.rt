@@ -1,0 +1,195 @@
+//! Descriptions of structs and enums, by which they are written and read.
+//!
+//! The fields of a struct are a tuple, as `(u32, String)`, and the variants of an enum one of
+//! [`OneOf1`] to [`OneOf8`], whose parts are `()`, [`Newtype`], [`Tuple`] or [`Struct`].
+#![tactic(auto)]
+
+ghost use Rattle.std.specs.Prelude.{◌≡◌, length, map};
+
+/// A variant of one part.
+#[derive(Debug, PartialEq, Drop)]
+pub struct Newtype<T>(pub T);
+
+/// A variant of several parts, as `Tuple<(u64, u8)>`.
+#[derive(Debug, PartialEq, Drop)]
+pub struct Tuple<F>(pub F);
+
+/// A variant of named fields, as `Struct<PointFields>`.
+#[derive(Drop)]
+pub struct Struct<N: FieldNames>(pub N::Parts);
+
+/// The fields of a variant, and their names.
+///
+/// ```rust
+/// impl FieldNames for PointFields {
+///     type Parts = (i64, i64);
+///
+///     ghost names = { codes "x" ∷ codes "y" ∷ [] };
+///
+///     fn names() -> &'static [&'static str] {
+///         &["x", "y"]
+///     }
+/// }
+/// ```
+pub trait FieldNames {
+    ghost use Rattle.std.specs.Prelude.{List, ℕ};
+
+    /// The fields, in the order of their numbers.
+    type Parts: Parts;
+
+    ghost names: { List (List ℕ) };
+
+    /// The names of the fields.
+    fn names() -> &'static [&'static str]
+        ensures names { map (λ n. n.now) result.now ≡ names }
+        ensures as_many { length result.now ≡ Self.Parts.count };
+}
+
+/// The fields of a struct, or the parts of a variant: a tuple.
+pub trait Parts: Sized + Drop {
+    ghost use Rattle.std.specs.Prelude.{ℕ};
+
+    // How many they are.
+    ghost count: { ℕ };
+}
+
+impl<A: Drop> Parts for (A,) {
+    ghost count = { 1 };
+}
+
+impl<A: Drop, B: Drop> Parts for (A, B) {
+    ghost count = { 2 };
+}
+
+impl<A: Drop, B: Drop, C: Drop> Parts for (A, B, C) {
+    ghost count = { 3 };
+}
+
+impl<A: Drop, B: Drop, C: Drop, D: Drop> Parts for (A, B, C, D) {
+    ghost count = { 4 };
+}
+
+impl<A: Drop, B: Drop, C: Drop, D: Drop, E: Drop> Parts for (A, B, C, D, E) {
+    ghost count = { 5 };
+}
+
+impl<A: Drop, B: Drop, C: Drop, D: Drop, E: Drop, F: Drop> Parts for (A, B, C, D, E, F) {
+    ghost count = { 6 };
+}
+
+impl<A: Drop, B: Drop, C: Drop, D: Drop, E: Drop, F: Drop, G: Drop> Parts
+    for (A, B, C, D, E, F, G) {
+    ghost count = { 7 };
+}
+
+impl<A: Drop, B: Drop, C: Drop, D: Drop, E: Drop, F: Drop, G: Drop, H: Drop> Parts
+    for (A, B, C, D, E, F, G, H) {
+    ghost count = { 8 };
+}
+
+/// A struct or an enum that is written and read by a description of its parts.
+///
+/// ```rust
+/// #[derive(Drop)]
+/// struct User {
+///     user_id: u32,
+///     admin: bool,
+/// }
+///
+/// const USER: &[&str] = &["user_id", "admin"];
+///
+/// impl Schema for User {
+///     type Parts = (u32, bool);
+///
+///     ghost names = { map (λ n. n.now) USER.now };
+///
+///     ghost parts = { λ u. (u.user_id, u.admin) };
+/// }
+/// ```
+pub trait Schema: Sized + Drop {
+    ghost use Rattle.std.specs.Prelude.{List, ℕ};
+
+    /// The fields in the order of their numbers, or the variants in that of theirs.
+    type Parts: Drop;
+
+    // The names of the fields or the variants.
+    ghost names: { List (List ℕ) };
+
+    ghost parts: { Self → Self.Parts };
+}
+
+/// The one variant of an enum, by its place.
+#[derive(Drop)]
+pub enum OneOf1<A> {
+    First(A),
+}
+
+/// One of the two variants of an enum, by their places.
+#[derive(Drop)]
+pub enum OneOf2<A, B> {
+    First(A),
+    Second(B),
+}
+
+/// One of the three variants of an enum, by their places.
+#[derive(Drop)]
+pub enum OneOf3<A, B, C> {
+    First(A),
+    Second(B),
+    Third(C),
+}
+
+/// One of the four variants of an enum, by their places.
+#[derive(Drop)]
+pub enum OneOf4<A, B, C, D> {
+    First(A),
+    Second(B),
+    Third(C),
+    Fourth(D),
+}
+
+/// One of the five variants of an enum, by their places.
+#[derive(Drop)]
+pub enum OneOf5<A, B, C, D, E> {
+    First(A),
+    Second(B),
+    Third(C),
+    Fourth(D),
+    Fifth(E),
+}
+
+/// One of the six variants of an enum, by their places.
+#[derive(Drop)]
+pub enum OneOf6<A, B, C, D, E, F> {
+    First(A),
+    Second(B),
+    Third(C),
+    Fourth(D),
+    Fifth(E),
+    Sixth(F),
+}
+
+/// One of the seven variants of an enum, by their places.
+#[derive(Drop)]
+pub enum OneOf7<A, B, C, D, E, F, G> {
+    First(A),
+    Second(B),
+    Third(C),
+    Fourth(D),
+    Fifth(E),
+    Sixth(F),
+    Seventh(G),
+}
+
+/// One of the eight variants of an enum, by their places.
+#[derive(Drop)]
+pub enum OneOf8<A, B, C, D, E, F, G, H> {
+    First(A),
+    Second(B),
+    Third(C),
+    Fourth(D),
+    Fifth(E),
+    Sixth(F),
+    Seventh(G),
+    Eighth(H),
+}

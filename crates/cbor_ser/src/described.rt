@@ -1,0 +1,144 @@
+//! Structs and enums that are written from tuples of references.
+
+ghost use Rattle.std.specs.Prelude.{◌≡◌, ◌<◌, length, map};
+ghost use Rattle.cbor_model.specs.Document.{structure, unit_variant, newtype_variant};
+ghost use Rattle.cbor_model.specs.Document.{tuple_variant, struct_variant};
+ghost use Rattle.cbor_model.specs.Parts.{item};
+ghost use Rattle.cbor_ser.specs.PartLists.{name_in};
+ghost use Rattle.cbor_ser.specs.Serialized.{Serialized};
+
+use crate::fields::SerializeTuple;
+use crate::serialize::Serialize;
+use crate::serializer::Serializer;
+use cbor_io::error::Result;
+use cbor_io::write::Write;
+use cbor_parts::{Newtype, Tuple};
+
+/// The content of a variant, to be written: `()`, [`Newtype`] of a reference, [`Tuple`] of a tuple of
+/// references, or [`NamedFields`].
+pub trait SerializeVariant {
+    ghost use Rattle.std.specs.Prelude.{List, ℕ};
+    ghost use Rattle.cbor_model.specs.Document.{Doc};
+
+    // What the variant of this number and this name is written as.
+    ghost document: { ℕ → List ℕ → Self → Doc };
+
+    // It has as many names as fields.
+    ghost is_named: { Self → Type 0 };
+
+    /// Appends the variant.
+    fn serialize_variant<W: Write>(
+        &self,
+        ser: &mut Serializer<W>,
+        number: u32,
+        name: &str,
+    ) -> Result<()>
+        requires { is_named self.now }
+        ensures { Serialized W.written W.refuses W.references ser.old
+            (item (document number name.now self.now)) ser.new result };
+}
+
+impl SerializeVariant for () {
+    ghost document = { λ i n u. unit_variant i n };
+
+    ghost is_named = { λ u. Unit {0} };
+
+    fn serialize_variant<W: Write>(
+        &self,
+        ser: &mut Serializer<W>,
+        number: u32,
+        name: &str,
+    ) -> Result<()> {
+        ser.write_identifier(number, name)
+    }
+}
+
+impl<'a, T: Serialize> SerializeVariant for Newtype<&'a T> {
+    ghost document = { λ i n v. newtype_variant i n (T.document v.0.now) };
+
+    ghost is_named = { λ u. Unit {0} };
+
+    fn serialize_variant<W: Write>(
+        &self,
+        ser: &mut Serializer<W>,
+        number: u32,
+        name: &str,
+    ) -> Result<()> {
+        ser.write_newtype_head(number, name)?;
+        self.0.serialize(ser)
+    }
+}
+
+impl<F: SerializeTuple> SerializeVariant for Tuple<F> {
+    ghost document = { λ i n v. tuple_variant i n (F.documents v.0) };
+
+    ghost is_named = { λ u. Unit {0} };
+
+    fn serialize_variant<W: Write>(
+        &self,
+        ser: &mut Serializer<W>,
+        number: u32,
+        name: &str,
+    ) -> Result<()> {
+        ser.write_tuple_head(number, name, self.0.len())?;
+        self.0.serialize_items(ser)
+    }
+}
+
+/// The content of a variant of named fields, to be written: their names, and references to them.
+#[derive(Drop)]
+pub struct NamedFields<'a, F>(pub &'a [&'a str], pub F);
+
+impl<'a, F: SerializeTuple> SerializeVariant for NamedFields<'a, F> {
+    ghost document = { λ i n v. struct_variant i n (F.fields (map (λ n. n.now) v.0.now) v.1) };
+
+    ghost is_named = { λ v. length v.0.now ≡ F.count };
+
+    fn serialize_variant<W: Write>(
+        &self,
+        ser: &mut Serializer<W>,
+        number: u32,
+        name: &str,
+    ) -> Result<()> {
+        ser.write_struct_head(number, name, self.1.len())?;
+        self.1.serialize_fields(ser, self.0)
+    }
+}
+
+impl<W: Write> Serializer<W> {
+    /// Writes a struct of these fields, by their names, or their numbers where the format is
+    /// packed.
+    ///
+    /// ```rust
+    /// ser.serialize_fields(&["x", "y"], &(&self.x, &self.y))
+    /// ```
+    pub fn serialize_fields<F: SerializeTuple>(&mut self, names: &[&str], fields: &F) -> Result<()>
+        requires { length names.now ≡ F.count }
+        ensures { Serialized W.written W.refuses W.references self.old
+            (item (structure (F.fields (map (λ n. n.now) names.now) fields.now)))
+            self.new result }
+    {
+        self.write_map_head(Some(fields.len()))?;
+        fields.serialize_fields(self, names)
+    }
+
+    /// Writes a variant of an enum of variants with these names, by its number.
+    ///
+    /// ```rust
+    /// ser.serialize_variant(&["Nothing", "Circle"], 1, &Newtype(radius))
+    /// ```
+    pub fn serialize_variant<V: SerializeVariant>(
+        &mut self,
+        names: &[&str],
+        number: u32,
+        content: &V,
+    ) -> Result<()>
+        requires numbered { number < length names.now }
+        requires named { V.is_named content.now }
+        ensures { Serialized W.written W.refuses W.references self.old
+            (item (V.document number (name_in (map (λ n. n.now) names.now) number) content.now))
+            self.new result }
+    {
+        content.serialize_variant(self, number, names[number as usize])
+    }
+}
