@@ -4,27 +4,30 @@ use Rattle.std.specs.List.{AllByRecursion}
 use Rattle.cbor_model.specs.Head.{no_bytes}
 use Rattle.cbor_model.specs.Raw.{Raw, unsigned, simple, null_item}
 use Rattle.cbor_model.specs.Spelling.{spell}
-use Rattle.cbor_model.specs.Acceptable.{IsAcceptable}
+use Rattle.cbor_model.specs.Acceptable.{IsAcceptableWithin}
 
--- The spellings of these acceptable items, joined, are a front of the bytes, and the rest follows.
-pub record ItemsBegin (bytes : List ℕ) (items : List Raw) (rest : List ℕ) : Type 0 where
-  pub acceptable : AllByRecursion IsAcceptable items
+-- The spellings of these items, each acceptable within so many levels, are joined a front of the
+-- bytes, and the rest follows.
+pub record ItemsBegin (levels : ℕ) (bytes : List ℕ) (items : List Raw) (rest : List ℕ) : Type 0 where
+  pub acceptable : AllByRecursion (IsAcceptableWithin levels) items
   pub spelled : bytes ≡ flat_map spell items ++ rest
 
 -- Joined, they are the bytes.
-abbrev pub AreItems : List ℕ → List Raw → Type 0
-AreItems bytes items = ItemsBegin bytes items []
+abbrev pub AreItems : ℕ → List ℕ → List Raw → Type 0
+AreItems levels bytes items = ItemsBegin levels bytes items []
 
--- No longer list of acceptable items begins the bytes.
-pub record AreMostItems (bytes : List ℕ) (items : List Raw) (rest : List ℕ) : Type 0 where
-  pub begin : ItemsBegin bytes items rest
-  pub most : (others : List Raw) (after : List ℕ) → ItemsBegin bytes others after → length others ≤ length items
+-- No longer list of such items begins the bytes.
+pub record AreMostItems (levels : ℕ) (bytes : List ℕ) (items : List Raw) (rest : List ℕ)
+    : Type 0 where
+  pub begin : ItemsBegin levels bytes items rest
+  pub most : (others : List Raw) (after : List ℕ) → ItemsBegin levels bytes others after
+      → length others ≤ length items
 
 -- a longest list, and what follows its items
-pub record HasMostItems (bytes : List ℕ) : Type 0 where
+pub record HasMostItems (levels : ℕ) (bytes : List ℕ) : Type 0 where
   pub items : List Raw
   pub rest : List ℕ
-  pub are : AreMostItems bytes items rest
+  pub are : AreMostItems levels bytes items rest
 
 -- ---- examples
 

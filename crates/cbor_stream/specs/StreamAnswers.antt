@@ -2,7 +2,7 @@
 use Rattle.std.specs.Prelude.{◌≡◌, ◌⊎◌, ◌+◌, ◌-◌, ⊤, ℕ, Bool, false, List, [], ◌∷◌, length, Option, Result, Ok, Err}
 use Rattle.std.specs.Iterator.{Drains}
 use Rattle.std.specs.List.{AllByRecursion}
-use Rattle.cbor_model.specs.Acceptable.{max_depth, FitsScratch}
+use Rattle.cbor_model.specs.Acceptable.{FitsScratch}
 use Rattle.cbor_model.specs.Formats.{Formats, all_formats}
 use Rattle.cbor_model.specs.Raw.{Raw, AreBytes}
 use Rattle.cbor_model.specs.Allowed.{Limits}
@@ -25,9 +25,10 @@ AreReadAs reads _ _ = ⊥
 abbrev pub IsExcused : Type 0 → Error → Type 0
 IsExcused Device e = ExcusedBy Device (code_of e) (offset_of e)
 
-module _ {A : Type 0} (reads : Raw → A → Type 0) (total : Bool) (Device : Type 0) (end : ℕ) (room : Option ℕ) where
-  -- Why an item isn't read: the type doesn't read it, which one that reads every item never does; or
-  -- the error is excused.
+module _ {A : Type 0} (reads : Raw → A → Type 0) (total : Bool) (Device : Type 0)
+    (levels end : ℕ) (room : Option ℕ) where
+  -- Why an item isn't read: the type doesn't read it, which one that reads every item never does;
+  -- or the error is excused.
   pub record Unread (r : Raw) (e : Error) : Type 0 where
     pub not : IsExcused Device e ⊎ ((x : A) → reads r x → ⊥)
     pub excused : WhereTotal total (IsExcused Device e)
@@ -35,16 +36,17 @@ module _ {A : Type 0} (reads : Raw → A → Type 0) (total : Bool) (Device : Ty
   -- what bounds an item that begins where these bytes do
   abbrev pub limits_at : List ℕ → Limits
   limits_at bytes =
-      record { start = end - length bytes; levels = max_depth; scratch = room }
+      record { start = end - length bytes; levels = levels; scratch = room }
 
-  -- What is told where no item stands at the front of bytes: by a type that reads every item the first
-  -- refusal that they allow of one.
+  -- What is told where no item stands at the front of bytes: by a type that reads every item the
+  -- first refusal that they allow of one.
   abbrev pub Faulty : List ℕ → Error → Type 0
   Faulty bytes e = WhereTotal total
       (IsOutOfMemory e ⊎ (Device × IsMemoryOrFault e) ⊎ TellsFirst (limits_at bytes) bytes e)
 
-  -- The answers to these items and to the rest behind them: what each item is read as, and then none;
-  -- or, where something is left, one error. Before that, one may tell that an item isn't read.
+  -- The answers to these items and to the rest behind them: what each item is read as, and then
+  -- none; or, where something is left, one error. Before that, one may tell that an item isn't
+  -- read.
   abbrev pub AnswersTo : List Raw → List ℕ → List (Result A Error) → Type 0
   AnswersTo (r ∷ rs) rest (Ok x ∷ answers) = reads r x × AnswersTo rs rest answers
   AnswersTo (r ∷ rs) rest (Err e ∷ []) = Unread r e
@@ -53,13 +55,14 @@ module _ {A : Type 0} (reads : Raw → A → Type 0) (total : Bool) (Device : Ty
   AnswersTo [] (b ∷ rest) (Err e ∷ []) = Faulty (b ∷ rest) e
   AnswersTo _ _ _ = ⊥
 
--- A stream, under all formats and outside all levels, over bytes that its source tells: it answers to
--- the longest list of acceptable items at their front, and to what follows those.
+-- A stream, under all formats, over bytes that its source tells: it answers to the longest list of
+-- items at their front, acceptable within its levels, and to what follows those.
 abbrev pub StreamAnswers : {A : Type 0} → (Formats → Raw → A → Type 0) → Bool → Type 0
 StreamAnswers {A} reads total = (refusals : ReadErrorCode → Bool) (s : Stream) (bytes rest : List ℕ)
     (items : List Raw) (answers : List (Result A Error))
-    → s.done ≡ false → s.levels ≡ max_depth → s.formats ≡ all_formats
+    → s.done ≡ false → s.formats ≡ all_formats
     → Tells s.input bytes → AreBytes bytes
-    → AreMostItems bytes items rest → AllByRecursion (FitsScratch s.input.room) items
+    → AreMostItems s.levels bytes items rest → AllByRecursion (FitsScratch s.input.room) items
     → Drains (StreamGives refusals reads total) s answers
-    → AnswersTo (reads all_formats) total (Reports refusals) (s.input.offset + length bytes) s.input.room items rest answers
+    → AnswersTo (reads all_formats) total (Reports refusals) s.levels
+    (s.input.offset + length bytes) s.input.room items rest answers

@@ -8,8 +8,8 @@ ghost use Rattle.cbor_stream.specs.ItemLaws.{HasLongestList};
 use cbor_typed::Readable;
 
 /// What a stream gives, over all calls of `next`: what each item is read as, of the longest list of
-/// acceptable items at the front of the bytes, and then None; or, where something follows those,
-/// one error, and then None.
+/// items at the front of the bytes that are acceptable within the stream's levels, and then None;
+/// or, where something follows those, one error, and then None.
 ///
 /// A type that reads every item, as `Value`, tells in that error the fault that stands there. A
 /// type that doesn't read one of the items answers an error at it, and then None.
@@ -17,13 +17,13 @@ pub fn stream_answers<T: Readable>()
     ensures { (l : Lends) → StreamAnswers (λ f. T.reads (lending f l)) T.total }
 {}
 
-/// The bytes are the joined spellings of one list of acceptable items at most.
+/// The bytes are the joined spellings of one list of items at most that are acceptable within so
+/// many levels.
 pub fn one_list_of_items()
     ensures { OneListOfItems }
 {}
 
-/// Of the lists of acceptable items whose joined spellings are a front of the bytes, one is the
-/// longest.
+/// Of the lists of such items whose joined spellings are a front of the bytes, one is the longest.
 pub fn one_longest_list()
     ensures { OneLongestList }
 {}

@@ -1,7 +1,8 @@
-//! Rows of bytes, and what a stream gives of them.
+//! What no row of bytes shows of a stream: levels, offsets, what is lent, and readers that fail.
 
 use crate::read_items;
-use cbor_read::{IoRead, MutSliceRead, Offset, Read, SliceRead, SliceReadFixed};
+use cbor_io::error::Error;
+use cbor_read::{IoRead, Offset, Read, SliceRead, SliceReadFixed};
 use cbor_typed::{Deserialize, Deserializer, StreamDeserializer};
 use cbor_value::Value;
 use std::alloc::Global;
@@ -20,16 +21,6 @@ fn gives<'a, R: Read<'a> + Drop>(
 ) -> Done {
     let value = stream.next().ok_or("none")??;
     assert_eq!(rt; value, Value::Integer(want));
-    Ok(())
-}
-
-/// Null is next.
-fn gives_null<'a, R: Read<'a> + Drop>(
-    rt: &impl Abort,
-    stream: &mut StreamDeserializer<'a, R, Value>,
-) -> Done {
-    let value = stream.next().ok_or("none")??;
-    assert_eq!(rt; value, Value::Null);
     Ok(())
 }
 
@@ -65,155 +56,139 @@ fn has_taken<'a, R: Offset, T>(
     assert_eq!(rt; stream.byte_offset(), want);
 }
 
-/// The rows of streams. Each has bytes, and what is asked of a stream over them, whatever its
-/// source.
-#[derive(Clone, Copy)]
-enum Row {
-    Nothing,
-    BreakBetween,
-    ArrayWithoutEnd,
-    MapWithoutValue,
-    ArrayOfTooFew,
-    TextBegun2,
-    TextBegun10,
-    TextBegun12,
-    UnassignedWithin,
-    ManyArrays,
-    TextTooShort,
-}
-
-const TEXT: [u8; 12] = [
-    0x7f, 0x65, 0x4d, 0x61, 0x72, 0x79, 0x20, 0x64, 0x48, 0x61, 0x64, 0x20,
-];
-
-impl Row {
-    fn bytes(self, alloc: Global) -> Result<Vec<u8>, Fail> {
-        let mut bytes = Vec::new(alloc);
-        match self {
-            Row::Nothing => {}
-            Row::BreakBetween => bytes.extend_from_slice(&[1, 2, 0xff, 3])?,
-            Row::ArrayWithoutEnd => bytes.extend_from_slice(&[0x9f])?,
-            Row::MapWithoutValue => bytes.extend_from_slice(&[0xbf, 1])?,
-            Row::ArrayOfTooFew => bytes.extend_from_slice(&[0x82, 1])?,
-            Row::TextBegun2 => bytes.extend_from_slice(&TEXT[..2])?,
-            Row::TextBegun10 => bytes.extend_from_slice(&TEXT[..10])?,
-            Row::TextBegun12 => bytes.extend_from_slice(&TEXT)?,
-            Row::UnassignedWithin => bytes.extend_from_slice(&[0xf6, 0x81, 0xf8])?,
-            Row::ManyArrays => {
-                for _ in 0..128 {
-                    bytes.extend_from_slice(&[0x81, 0])?;
-                }
-            }
-            Row::TextTooShort => bytes.extend_from_slice(b"\x01\x66foob")?,
-        }
-        Ok(bytes)
-    }
-
-    fn is_met<'a, R: Read<'a> + Drop>(
-        self,
-        rt: &impl Abort,
-        alloc: Global,
-        stream: &mut StreamDeserializer<'a, R, Value>,
-    ) -> Done {
-        match self {
-            Row::Nothing => {}
-            Row::BreakBetween => {
-                gives(rt, stream, 1)?;
-                gives(rt, stream, 2)?;
-                refuses(rt, alloc, stream, "unexpected code at offset 3")?;
-            }
-            Row::ArrayWithoutEnd => {
-                refuses(rt, alloc, stream, "EOF while parsing an array at offset 1")?;
-            }
-            Row::MapWithoutValue | Row::ArrayOfTooFew | Row::TextBegun2 => {
-                refuses(rt, alloc, stream, "EOF while parsing a value at offset 2")?;
-            }
-            Row::TextBegun10 => {
-                refuses(rt, alloc, stream, "EOF while parsing a value at offset 10")?;
-            }
-            Row::TextBegun12 => {
-                refuses(rt, alloc, stream, "EOF while parsing a value at offset 12")?;
-            }
-            Row::UnassignedWithin => {
-                gives_null(rt, stream)?;
-                refuses(rt, alloc, stream, "unassigned type at offset 3")?;
-            }
-            Row::ManyArrays => {
-                for _ in 0..128 {
-                    gives_array(rt, stream)?;
-                }
-            }
-            Row::TextTooShort => {
-                gives(rt, stream, 1)?;
-                refuses(rt, alloc, stream, "EOF while parsing a value at offset 6")?;
-            }
-        }
-        ends(rt, stream);
-        ends(rt, stream);
-        Ok(())
-    }
-}
-
-/// [0] is next.
-fn gives_array<'a, R: Read<'a> + Drop>(
+/// A hundred and twenty-eight times [0] is next, and then nothing for good: no level is lost.
+fn gives_arrays<'a, R: Read<'a> + Drop>(
     rt: &impl Abort,
-    stream: &mut StreamDeserializer<'a, R, Value>,
+    stream: StreamDeserializer<'a, R, Value>,
 ) -> Done {
-    let value = stream.next().ok_or("none")??;
-    let Value::Array(items) = value else {
-        return Err(Fail::from("no array"));
-    };
-    assert_eq!(rt; items.len(), 1);
-    assert_eq!(rt; items[0], Value::Integer(0));
+    let mut stream = stream;
+    for _ in 0..128 {
+        let value = stream.next().ok_or("none")??;
+        let Value::Array(items) = value else {
+            return Err(Fail::from("no array"));
+        };
+        assert_eq!(rt; items.len(), 1);
+        assert_eq!(rt; items[0], Value::Integer(0));
+    }
+    ends(rt, &mut stream);
+    ends(rt, &mut stream);
     Ok(())
 }
 
-/// The row is met by all four sources.
-fn check(rt: &impl Abort, alloc: Global, row: Row) -> Done {
-    let bytes = row.bytes(alloc)?;
+fn arrays(alloc: Global) -> Result<Vec<u8>, Fail> {
+    let mut bytes = Vec::new(alloc);
+    for _ in 0..128 {
+        bytes.extend_from_slice(&[0x81, 0])?;
+    }
+    Ok(bytes)
+}
 
-    let mut stream = StreamDeserializer::new(alloc, SliceRead::new(alloc, bytes.as_slice()));
-    row.is_met(rt, alloc, &mut stream)?;
+#[test]
+fn loses_no_level(rt: HostRuntime) -> Done {
+    let alloc = rt.alloc();
+    let mut bytes = arrays(alloc)?;
+    gives_arrays(&rt, Deserializer::from_slice(alloc, &bytes).into_iter())?;
+    let mut scratch = [0; 4];
+    let de = Deserializer::from_slice_with_scratch(alloc, &bytes, &mut scratch);
+    gives_arrays(&rt, de.into_iter())?;
+    gives_arrays(
+        &rt,
+        Deserializer::from_reader(alloc, bytes.as_slice()).into_iter(),
+    )?;
+    gives_arrays(
+        &rt,
+        Deserializer::from_mut_slice(alloc, &mut bytes).into_iter(),
+    )
+}
 
+/// An error that isn't of memory, an item or none.
+fn is_told(answer: Option<Result<Value, Error>>) -> Done {
+    match answer {
+        Some(Err(e)) => is_no_memory(e),
+        Some(Ok(_item)) => Ok(()),
+        None => Ok(()),
+    }
+}
+
+fn is_no_memory(e: Error) -> Done {
+    if e.is_memory() {
+        return Err(Fail::from(e));
+    }
+    Ok(())
+}
+
+/// So many bytes were taken behind each answer, and nothing follows.
+fn takes<'a, R: Read<'a> + Offset + Drop>(
+    rt: &impl Abort,
+    de: Deserializer<R>,
+    wants: &[usize],
+) -> Done {
+    let mut stream = de.into_iter::<Value>();
+    has_taken(rt, &stream, 0);
+    for want in wants {
+        is_told(stream.next())?;
+        has_taken(rt, &stream, *want);
+    }
+    ends(rt, &mut stream);
+    Ok(())
+}
+
+/// So many by each source that counts them.
+fn takes_by_each(rt: &impl Abort, alloc: Global, bytes: &[u8], wants: &[usize]) -> Done {
+    takes(rt, Deserializer::from_slice(alloc, bytes), wants)?;
     let mut scratch = [0; 32];
-    let source = SliceReadFixed::new(bytes.as_slice(), &mut scratch);
-    let mut stream = StreamDeserializer::new(alloc, source);
-    row.is_met(rt, alloc, &mut stream)?;
-
-    let mut stream = StreamDeserializer::new(alloc, IoRead::new(alloc, bytes.as_slice()));
-    row.is_met(rt, alloc, &mut stream)?;
-
-    let mut bytes = row.bytes(alloc)?;
-    let source = MutSliceRead::new(bytes.as_mut_slice());
-    let mut stream = StreamDeserializer::new(alloc, source);
-    row.is_met(rt, alloc, &mut stream)
+    let de = Deserializer::from_slice_with_scratch(alloc, bytes, &mut scratch);
+    takes(rt, de, wants)?;
+    takes(rt, Deserializer::from_reader(alloc, bytes), wants)
 }
 
 #[test]
-fn ends_at_the_end(rt: HostRuntime) -> Done {
-    check(&rt, rt.alloc(), Row::Nothing)?;
-    check(&rt, rt.alloc(), Row::ManyArrays)
+fn counts_behind_each_answer(rt: HostRuntime) -> Done {
+    let alloc = rt.alloc();
+    takes_by_each(&rt, alloc, b"", &[0, 0])?;
+    takes_by_each(&rt, alloc, b"\x01\x02\xff\x03", &[1, 2, 3, 3])?;
+    takes_by_each(&rt, alloc, b"\x9f", &[1, 1])?;
+    takes_by_each(&rt, alloc, b"\xbf\x01", &[2, 2])?;
+    takes_by_each(&rt, alloc, b"\x82\x01", &[2, 2])?;
+    takes_by_each(&rt, alloc, b"\x7f\x65", &[2, 2])?;
+    takes_by_each(&rt, alloc, b"\x7f\x65Mary \x64Had ", &[12, 12])?;
+    takes_by_each(&rt, alloc, b"\xf6\x81\xf8", &[1, 3, 3])?;
+    takes_by_each(&rt, alloc, b"\x81\x00\x81\x00", &[2, 4, 4])
+}
+
+/// A number, and then a text that is cut off, of which a part may be taken.
+fn counts_a_beginning<'a, R: Read<'a> + Offset + Drop>(
+    rt: &impl Abort,
+    alloc: Global,
+    de: Deserializer<R>,
+) -> Done {
+    let mut stream = de.into_iter::<Value>();
+    gives(rt, &mut stream, 1)?;
+    has_taken(rt, &stream, 1);
+    refuses(
+        rt,
+        alloc,
+        &mut stream,
+        "EOF while parsing a value at offset 6",
+    )?;
+    assert!(rt; stream.byte_offset() > 1 && stream.byte_offset() <= 6);
+    ends(rt, &mut stream);
+    Ok(())
 }
 
 #[test]
-fn stops_at_the_first_error(rt: HostRuntime) -> Done {
-    check(&rt, rt.alloc(), Row::BreakBetween)?;
-    check(&rt, rt.alloc(), Row::UnassignedWithin)
-}
-
-#[test]
-fn tells_that_an_item_is_cut_off(rt: HostRuntime) -> Done {
-    check(&rt, rt.alloc(), Row::ArrayWithoutEnd)?;
-    check(&rt, rt.alloc(), Row::MapWithoutValue)?;
-    check(&rt, rt.alloc(), Row::ArrayOfTooFew)
-}
-
-#[test]
-fn tells_that_a_text_is_cut_off(rt: HostRuntime) -> Done {
-    check(&rt, rt.alloc(), Row::TextBegun2)?;
-    check(&rt, rt.alloc(), Row::TextBegun10)?;
-    check(&rt, rt.alloc(), Row::TextBegun12)?;
-    check(&rt, rt.alloc(), Row::TextTooShort)
+fn counts_of_an_item_that_is_cut_off(rt: HostRuntime) -> Done {
+    let alloc = rt.alloc();
+    let bytes = b"\x01\x66foob";
+    counts_a_beginning(&rt, alloc, Deserializer::from_slice(alloc, bytes))?;
+    let mut scratch = [0; 4];
+    let de = Deserializer::from_slice_with_scratch(alloc, bytes, &mut scratch);
+    counts_a_beginning(&rt, alloc, de)?;
+    counts_a_beginning(
+        &rt,
+        alloc,
+        Deserializer::from_reader(alloc, bytes.as_slice()),
+    )
 }
 
 #[test]

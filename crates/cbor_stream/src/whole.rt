@@ -3,7 +3,7 @@
 ghost use Rattle.std.specs.Prelude.{◌≡◌, ◌⊎◌, ◌+◌, ◌++◌, ◌∷◌, ℕ, List, [], length, IfOk, IfErr, map};
 ghost use Rattle.std.specs.Prelude.{Ok, Err};
 ghost use Rattle.std.specs.List.{AllByRecursion};
-ghost use Rattle.cbor_model.specs.Acceptable.{FitsScratch};
+ghost use Rattle.cbor_model.specs.Acceptable.{max_depth, FitsScratch};
 ghost use Rattle.cbor_model.specs.Formats.{all_formats};
 ghost use Rattle.cbor_model.specs.Raw.{Raw, AreBytes};
 ghost use Rattle.cbor_de.specs.Gives.{Reports, Tells};
@@ -23,16 +23,18 @@ pub fn read_items<'de, T: Deserialize<'de, R>, R: Read<'de> + Drop>(
 ) -> Result<Vec<T>>
     // The bytes are the joined spellings of acceptable items, and these are read so.
     ensures found { IfOk result (λ v. (bytes rest : List ℕ) (items : List Raw)
-        → Tells (R.source source) bytes → AreBytes bytes → AreMostItems bytes items rest
+        → Tells (R.source source) bytes → AreBytes bytes
+        → AreMostItems max_depth bytes items rest
         → AllByRecursion (FitsScratch (R.source source).room) items
         → (rest ≡ []) × AreReadAs (T.reads (lending all_formats R.lends)) items v.items) }
     // An error is the answer behind some of the items, or to what follows them; or memory ran out.
     ensures refused { IfErr result (λ e. (bytes rest : List ℕ) (items : List Raw)
-        → Tells (R.source source) bytes → AreBytes bytes → AreMostItems bytes items rest
+        → Tells (R.source source) bytes → AreBytes bytes
+        → AreMostItems max_depth bytes items rest
         → AllByRecursion (FitsScratch (R.source source).room) items
         → IsExcused (Reports R.refusals) e ⊎ ((read : List T)
         × AnswersTo (T.reads (lending all_formats R.lends)) T.total (Reports R.refusals)
-        ((R.source source).offset + length bytes) (R.source source).room items rest
+        max_depth ((R.source source).offset + length bytes) (R.source source).room items rest
         (map Ok read ++ Err e ∷ []))) }
 {
     let stream = StreamDeserializer::<'de, R, T>::new(alloc, source);

@@ -2,6 +2,7 @@
 
 use crate::how::{How, Source};
 use crate::row::{Malformed, Row};
+use crate::streams;
 use serde_cbor::de::{Deserialize, Read};
 use serde_cbor::ser::{Serialize, to_vec_packed};
 use serde_cbor::{Deserializer, Result, Serializer, to_vec};
@@ -79,23 +80,29 @@ pub struct Desk<'d> {
 }
 
 impl<'d> Desk<'d> {
-    /// Judges what is read as a type, and what that is written as.
+    /// Judges what is read as a type, and what that is written as; or a stream of the type.
     pub fn reads<'r, T, R>(&mut self, row: &Row<'_>, de: Deserializer<R>) -> io::Result<()>
     where
         T: Deserialize<'r, R> + Serialize + Debug,
         R: Read<'r> + Drop,
     {
+        if row.how.stream {
+            return streams::judge::<T, R>(self, row, de);
+        }
         self.begins(self.step)?;
         let read = whole::<T, R>(de);
         self.judges_and_writes(row, read)
     }
 
-    /// Judges what is read as a type that isn't written.
+    /// Judges what is read as a type that isn't written, or a stream of the type.
     pub fn reads_alone<'r, T, R>(&mut self, row: &Row<'_>, de: Deserializer<R>) -> io::Result<()>
     where
         T: Deserialize<'r, R> + Debug,
         R: Read<'r> + Drop,
     {
+        if row.how.stream {
+            return streams::judge::<T, R>(self, row, de);
+        }
         self.begins(self.step)?;
         let read = whole::<T, R>(de);
         self.judges(row, &read)
@@ -120,16 +127,13 @@ impl<'d> Desk<'d> {
 
     // Judges what was read.
     fn judges<T: Debug>(&mut self, row: &Row<'_>, read: &Result<T>) -> io::Result<()> {
-        let said = said(read);
         let outcome = match read {
             Ok(_) if row.answer.is_empty() => Outcome::Right,
-            _ if said.as_str() == row.answer => Outcome::Right,
-            Err(e) if e.is_memory() => Outcome::OutOfMemory,
-            _ => Outcome::Wrong,
+            _ => outcome_of(read, row.answer),
         };
         self.ends(row, outcome)?;
         if outcome == Outcome::Wrong {
-            println!(self.rt; "  {}", said.as_str())?;
+            println!(self.rt; "  {}", said(read).as_str())?;
         }
         Ok(())
     }
@@ -182,8 +186,8 @@ impl<'d> Desk<'d> {
         Ok(())
     }
 
-    // Tells what came of a step.
-    fn ends(&mut self, row: &Row<'_>, outcome: Outcome) -> io::Result<()> {
+    /// Tells what came of a step.
+    pub fn ends(&mut self, row: &Row<'_>, outcome: Outcome) -> io::Result<()> {
         if self.tells_each {
             self.rt.print("-\n")?;
         }
@@ -224,6 +228,17 @@ fn whole<'r, T: Deserialize<'r, R>, R: Read<'r> + Drop>(de: Deserializer<R>) -> 
     let value = T::deserialize(&mut de)?;
     de.end()?;
     Ok(value)
+}
+
+/// What comes of an answer, where this one is wanted.
+pub fn outcome_of<T: Debug>(read: &Result<T>, want: &str) -> Outcome {
+    if said(read).as_str() == want {
+        return Outcome::Right;
+    }
+    match read {
+        Err(e) if e.is_memory() => Outcome::OutOfMemory,
+        _ => Outcome::Wrong,
+    }
 }
 
 // An answer as a row says it.

@@ -17,6 +17,8 @@ pub struct How {
     pub limit: u8,
     /// The canonical spelling alone is read, of a slice.
     pub strict: bool,
+    /// Items are read one behind the other, to the end.
+    pub stream: bool,
     /// Fields and variants are written by their numbers.
     pub packed: bool,
     /// Enums are written as arrays.
@@ -67,6 +69,7 @@ impl How {
             },
             limit: LEVELS,
             strict: false,
+            stream: false,
             packed: false,
             legacy: false,
             no_memory: false,
@@ -90,7 +93,8 @@ impl How {
     /// Whether one item is read, in all formats, as deep as where nothing is said.
     pub fn reads_all(&self) -> bool {
         let reads = self.reads;
-        reads.names && reads.numbers && reads.map_enums && reads.array_enums && self.limit == LEVELS
+        let all_formats = reads.names && reads.numbers && reads.map_enums && reads.array_enums;
+        all_formats && self.limit == LEVELS && !self.stream
     }
 
     /// How many levels deep an item may be nested.
@@ -118,6 +122,7 @@ impl How {
             "no map enums" => self.reads.map_enums = false,
             "no array enums" => self.reads.array_enums = false,
             "strict" => self.strict = true,
+            "stream" => self.stream = true,
             "packed" => self.packed = true,
             "legacy" => self.legacy = true,
             "no memory" => self.no_memory = true,

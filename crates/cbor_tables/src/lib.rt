@@ -11,15 +11,17 @@
 //!   and for a type that borrows each but the reader), formats that are not read, and the form that is written.
 //! - **bytes**: hexadecimal digits, `"text"`, and `f6*3` for three times f6 ([`bytes`]).
 //! - **answer**: the value as `{:?}` prints it, or `error: ` and the error's text. Where it is
-//!   empty, any value is right.
+//!   empty, any value is right. Of a stream the answers in turn, with semicolons between, and `None`
+//!   at the end.
 //! - **written**: the bytes that the value is written as, `=` for those that were read, or nothing,
 //!   and then nothing is written.
 //!
-//! A row of a `Value` by each source, which is read, shows too that each proper front of its bytes is
-//! refused as an end of input, and that what is written of it is read strictly, and written again.
+//! A row of a `Value` by each source, which is read, shows too that each proper front of its bytes
+//! is refused as an end of input, and that what is written of it is read strictly, and written
+//! again.
 //!
-//! [`answer`] answers the rows of a table and tells those that are answered otherwise; [`run`] does so for
-//! the tables that a program's words name.
+//! [`answer`] answers the rows of a table and tells those that are answered otherwise; [`run`] does
+//! so for the tables that a program's words name.
 #![tactic(auto)]
 
 pub mod bytes;
@@ -29,6 +31,7 @@ mod how;
 mod program;
 mod row;
 mod sources;
+mod streams;
 mod strict;
 mod table;
 pub mod types;

@@ -2,6 +2,7 @@ pub mod Structs
 pub mod Options
 pub mod Whole
 pub mod Alike
+pub mod FirstOfItem
 pub mod Streams
 pub use Rattle.cbor_io.specs.Error
 pub use Rattle.cbor_scalars.specs.Takes

@@ -1,7 +1,8 @@
-//! Laws about the four `from_*`, which are the contracts of functions that do nothing.
+//! Laws about what is read, which are the contracts of functions that do nothing.
 ghost use Rattle.cbor_typed.specs.Alike.{SourcesAgree, OwnedAgree};
+ghost use Rattle.cbor_typed.specs.FirstOfItem.{ItemRefusedFirst};
 
-use crate::deserialize::DeserializeOwned;
+use crate::deserialize::{DeserializeOwned, Readable};
 
 /// Two readings of one input as a `Value` answer alike, whatever their sources: the same value; or
 /// errors of one code at one offset, since there is one first refusal. Only want of memory, a
@@ -18,8 +19,17 @@ pub fn sources_agree()
 /// item is read as both answers, or both refuse. So a slice and one that is rewritten in place give
 /// the same, want of memory aside.
 ///
-/// A caller gives it the answers of two `from_*` of the same bytes (`IsReadingAs`), which the clauses
-/// `found` and `accepted` of each say.
+/// A caller gives it the answers of two `from_*` of the same bytes (`IsReadingAs`), which the
+/// clauses `found` and `accepted` of each say.
 pub fn owned_agree<T: DeserializeOwned>()
     ensures { OwnedAgree T.reads }
+{}
+
+/// Where a type that reads every item, as `Value`, is refused by `deserialize` in all formats, the
+/// error tells the first refusal that the bytes to come allow within the levels that are left, at
+/// whatever nesting limit; or memory ran out, or the source reported a fault.
+///
+/// A caller gives it the clause `fault` of `deserialize`.
+pub fn item_refused_first<T: Readable>()
+    ensures { ItemRefusedFirst T.total }
 {}

@@ -32,7 +32,7 @@ pub use cbor_scalars::lent::{EitherStr, Unread};
 pub use de::Deserializer;
 pub use deserialize::{Deserialize, DeserializeOwned, Readable};
 pub use from::{from_mut_slice, from_reader, from_slice, from_slice_with_scratch};
-pub use laws::{owned_agree, sources_agree};
+pub use laws::{item_refused_first, owned_agree, sources_agree};
 pub use map::MapAccess;
 pub use sequence::SeqAccess;
 pub use stream::StreamDeserializer;

@@ -15,14 +15,15 @@ use std::marker::PhantomData;
 
 /// The items of an input, one behind the other, each read as `T`.
 ///
-/// `next` looks at the next byte and reads the item that begins with it. It answers None at the end of
-/// the input. After an error it answers None for good, and the offset tells where it stopped. An item
-/// is answered before the byte behind it is asked for, so that a reader that waits for its peer isn't
+/// `next` looks at the next byte and reads the item that begins with it. It answers None at the end
+/// of the input. After an error it answers None for good: the error tells where the fault stands,
+/// and `byte_offset` how many bytes were taken, some of the refused item's among them. An item is
+/// answered before the byte behind it is asked for, so that a reader that waits for its peer isn't
 /// asked too early.
 ///
-/// An input that ends within an item is an error, an end of input: who reads from a socket keeps the
-/// bytes from the offset behind the last whole item on, and begins a stream there again when more have
-/// come.
+/// An input that ends within an item is an error, an end of input: who reads from a socket keeps
+/// the bytes from the offset behind the last whole item on (`byte_offset` before each `next`), and
+/// begins a stream there again when more have come.
 ///
 /// ```rust
 /// let mut stream = Deserializer::from_slice(alloc, b"\x01\x18\x2a").into_iter::<u8>();
@@ -51,8 +52,8 @@ impl<'de, R: Read<'de>, T: Deserialize<'de, R>> StreamDeserializer<'de, R, T> {
 }
 
 impl<R: Source> Deserializer<R> {
-    /// The items that are to come, each read as `T`, as deep and in the formats that this deserializer
-    /// reads.
+    /// The items that are to come, each read as `T`, as deep and in the formats that this
+    /// deserializer reads.
     pub fn into_iter<'de, T: Deserialize<'de, R>>(self) -> StreamDeserializer<'de, R, T>
     where
         R: Read<'de>,

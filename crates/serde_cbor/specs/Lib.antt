@@ -19,7 +19,6 @@ pub use Rattle.cbor_model.specs.Readable
 pub use Rattle.cbor_model.specs.Parts
 pub use Rattle.cbor_model.specs.Unstored
 pub use Rattle.cbor_io.specs.Error
-pub use Rattle.cbor_io.specs.Place
 pub use Rattle.cbor_io.specs.ReadError
 pub use Rattle.cbor_read.specs.Source
 pub use Rattle.cbor_read.specs.Sources
@@ -32,6 +31,7 @@ pub use Rattle.cbor_de.specs.FirstRefusal
 pub use Rattle.cbor_scalars.specs.Takes
 pub use Rattle.cbor_typed.specs.Whole
 pub use Rattle.cbor_typed.specs.Alike
+pub use Rattle.cbor_typed.specs.FirstOfItem
 pub use Rattle.cbor_typed.specs.Streams
 pub use Rattle.cbor_stream.specs.Items
 pub use Rattle.cbor_stream.specs.ItemLaws

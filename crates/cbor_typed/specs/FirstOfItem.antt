@@ -1,0 +1,25 @@
+-- The refusal of an item at the front of the bytes to come, by the definitions.
+use Rattle.std.specs.Prelude.{◌⊎◌, ℕ, Bool, List}
+use Rattle.cbor_model.specs.Allowed.{Limits}
+use Rattle.cbor_model.specs.Formats.{all_formats}
+use Rattle.cbor_model.specs.Raw.{AreBytes}
+use Rattle.cbor_io.specs.declared.error.Error.{Error}
+use Rattle.cbor_io.specs.declared.read_error.ReadErrorCode.{ReadErrorCode}
+use Rattle.cbor_io.specs.Error.{IsOutOfMemory}
+use Rattle.cbor_de.specs.FirstRefusal.{TellsFirst}
+use Rattle.cbor_de.specs.Gives.{IsMemoryOrFault, Reports, Tells}
+use Rattle.cbor_read.specs.Source.{Input}
+use Rattle.cbor_scalars.specs.Takes.{TellsItem, WhereTotal}
+
+-- what bounds the item at the front, of which so many levels are read
+abbrev pub bounds_of : ℕ → Input → Limits
+bounds_of levels s = record { start = s.offset; levels = levels; scratch = s.room }
+
+-- The error of a type that reads every item, in all formats and within so many levels, tells the
+-- first refusal that the bytes to come allow; or memory ran out, or the source reported a fault.
+abbrev pub ItemRefusedFirst : Bool → Type 0
+ItemRefusedFirst total = (refusals : ReadErrorCode → Bool) (levels : ℕ) (s : Input)
+    (bytes : List ℕ) (e : Error) → Tells s bytes → AreBytes bytes
+    → TellsItem total refusals all_formats levels s e
+    → WhereTotal total (IsOutOfMemory e ⊎ (Reports refusals × IsMemoryOrFault e)
+    ⊎ TellsFirst (bounds_of levels s) bytes e)
