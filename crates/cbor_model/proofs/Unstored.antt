@@ -38,8 +38,9 @@ mutual
   pairs_stored no_doc_pairs p l front s h = h
   pairs_stored (doc_pair k v ps) p l front s (inl x) = all_stored k p l front s.0 x
   pairs_stored (doc_pair k v ps) p l front s (inr y) = elim y.1.2 [
-      inl x ↦ all_stored v p l y.1.0 s.1 x
-    | inr z ↦ pairs_stored ps p l z.1.0 s.2 z.1.2 ]
+    | inl x ↦ all_stored v p l y.1.0 s.1 x
+    | inr z ↦ pairs_stored ps p l z.1.0 s.2 z.1.2
+  ]
 
   fields_stored : (fs : Fields) (p l : Bool) (front : List ℕ) → AreStorableFields fs → StandsBeforeFields fs p l front → ⊥
   fields_stored no_fields p l front s h = h
@@ -73,9 +74,17 @@ module _ (p l : Bool) where
   unfolding part_bytes
   before_pairs no_doc_pairs end front h = absurd h
   before_pairs (doc_pair k v ps) end front (inl x) = inl x
-  before_pairs (doc_pair k v ps) end front (inr y) = inr (y.0, (y.1.0, y.1.1, elim y.1.2 [
-      inl x ↦ inl x
-    | inr z ↦ inr (z.0, (z.1.0, z.1.1, before_pairs ps end z.1.0 z.1.2)) ]))
+  before_pairs (doc_pair k v ps) end front (inr y) = inr (
+    y.0,
+    (
+      y.1.0,
+      y.1.1,
+      elim y.1.2 [
+        | inl x ↦ inl x
+        | inr z ↦ inr (z.0, (z.1.0, z.1.1, before_pairs ps end z.1.0 z.1.2))
+      ],
+    ),
+  )
 
   before_fields : (fs : Fields) (front : List ℕ) → StandsBeforeFields fs p l front → StandsBeforeIn (fields fs) p l front
   unfolding part_bytes
@@ -138,21 +147,26 @@ module _ (p l : Bool) where
     each_or_stops : (ds : Docs) → AreStorableDocuments ds ⊎ Stops (StandsBeforeAny ds p l)
     each_or_stops no_docs = inl tt
     each_or_stops (doc d ds) = elim (stored_or_stops d) [
-        inl s ↦ elim (onward (document_bytes d p l) (each_or_stops ds)) [ inl t ↦ inl (s, t) | inr h ↦ inr (h.0, inr (s, h.1)) ]
-      | inr h ↦ inr (h.0, inl h.1) ]
+      | inl s ↦ elim (onward (document_bytes d p l) (each_or_stops ds)) [ inl t ↦ inl (s, t) | inr h ↦ inr (h.0, inr (s, h.1)) ]
+      | inr h ↦ inr (h.0, inl h.1)
+    ]
 
     pairs_or_stop : (ps : DocPairs) → AreStorableDocumentPairs ps ⊎ Stops (StandsBeforePairs ps p l)
     pairs_or_stop no_doc_pairs = inl tt
     pairs_or_stop (doc_pair k v ps) = elim (stored_or_stops k) [
-        inl s ↦ elim (stored_or_stops v) [
-            inl t ↦ elim (onward (document_bytes v p l) (pairs_or_stop ps)) [
-                inl u ↦ inl (s, t, u)
-              | inr h ↦ inr (document_bytes k p l ++ h.0, inr (s, (h.0, refl, inr (t, h.1)))) ]
-          | inr h ↦ inr (document_bytes k p l ++ h.0, inr (s, (h.0, refl, inl h.1))) ]
-      | inr h ↦ inr (h.0, inl h.1) ]
+      | inl s ↦ elim (stored_or_stops v) [
+        | inl t ↦ elim (onward (document_bytes v p l) (pairs_or_stop ps)) [
+          | inl u ↦ inl (s, t, u)
+          | inr h ↦ inr (document_bytes k p l ++ h.0, inr (s, (h.0, refl, inr (t, h.1))))
+        ]
+        | inr h ↦ inr (document_bytes k p l ++ h.0, inr (s, (h.0, refl, inl h.1)))
+      ]
+      | inr h ↦ inr (h.0, inl h.1)
+    ]
 
     fields_or_stop : (fs : Fields) → AreStorableFields fs ⊎ Stops (StandsBeforeFields fs p l)
     fields_or_stop no_fields = inl tt
     fields_or_stop (field i n d fs) = elim (onward (spell (identifier p i n)) (stored_or_stops d)) [
-        inl s ↦ elim (onward (spell (identifier p i n) ++ document_bytes d p l) (fields_or_stop fs)) [ inl t ↦ inl (s, t) | inr h ↦ inr (h.0, inr (s, h.1)) ]
-      | inr h ↦ inr (h.0, inl h.1) ]
+      | inl s ↦ elim (onward (spell (identifier p i n) ++ document_bytes d p l) (fields_or_stop fs)) [ inl t ↦ inl (s, t) | inr h ↦ inr (h.0, inr (s, h.1)) ]
+      | inr h ↦ inr (h.0, inl h.1)
+    ]

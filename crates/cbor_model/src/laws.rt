@@ -133,26 +133,26 @@ pub fn in_memory_is_in_range()
     ensures { InMemoryIsInRange }
 {}
 
-/// The canonical item of any storable value in a program is well formed, its texts are UTF-8, and it
-/// is acceptable within the levels that it nests.
+/// The canonical item of any storable value in a program is well formed, its texts are UTF-8, and
+/// it is acceptable within the levels that it nests.
 pub fn canonical_is_acceptable()
     ensures { CanonicalIsAcceptable }
 {}
 
-/// The canonical spelling of any storable ordered value in a program, which nests at most 127 levels,
-/// is read as that value.
+/// The canonical spelling of any storable ordered value in a program, which nests at most 127
+/// levels, is read as that value.
 pub fn written_reads_back()
     ensures { WrittenReadsBack }
 {}
 
-/// In the value of a map each key has the value of the last pair with that key, as keys are compared
-/// by their values.
+/// In the value of a map each key has the value of the last pair with that key, as keys are
+/// compared by their values.
 pub fn last_pair_stays()
     ensures { LastPairStays }
 {}
 
-/// The bytes of a document's parts, as a serializer's calls append them one after the other, are the
-/// document's bytes.
+/// The bytes of a document's parts, as a serializer's calls append them one after the other, are
+/// the document's bytes.
 pub fn parts_bytes()
     ensures { PartsBytes }
 {}
@@ -169,7 +169,8 @@ pub fn following_is_unread()
     ensures { FollowingIsUnread }
 {}
 
-/// A slice that takes whole pieces, up to the first that doesn't fit, holds a beginning of them all.
+/// A slice that takes whole pieces, up to the first that doesn't fit, holds a beginning of them
+/// all.
 pub fn refused_holds_beginning()
     ensures { RefusedHoldsBeginning }
 {}

@@ -35,7 +35,7 @@ use Rattle.cbor_scalars.proofs.Scalars.{refuses, opened_read, opened_none, other
 -- ---- items
 
 -- a string isn't a tag
-untagged_string : (r : Raw) (b : List ℕ) → IsString r b → untagged r ≡ r
+pub untagged_string : (r : Raw) (b : List ℕ) → IsString r b → untagged r ≡ r
 untagged_string (raw.unsigned w m) b h = absurd h
 untagged_string (raw.negative w m) b h = absurd h
 untagged_string (raw.bytes c) b h = refl
@@ -62,7 +62,8 @@ same_bytes (raw.tag w m r) a b h k = absurd h
 same_bytes (raw.simple s) a b h k = absurd h
 same_bytes (raw.float w bits) a b h k = absurd h
 
-no_bytes : (h : Head) → ((n : Option ℕ) → h ≡ head.Bytes n → ⊥) → head_kind h ≡ kind.bytes → ⊥
+-- a head that is of no byte string
+pub no_bytes : (h : Head) → ((n : Option ℕ) → h ≡ head.Bytes n → ⊥) → head_kind h ≡ kind.bytes → ⊥
 no_bytes (head.Unsigned n) other e = absurd cc
 no_bytes (head.Negative n) other e = absurd cc
 no_bytes (head.Bytes n) other e = other n refl
@@ -142,14 +143,15 @@ module _ (f : Formats) (l : Limits) (inner : Option (List ℕ → Reads Raw)) (w
     pub item : Raw
     pub is : behind h bs ≡ Ok (item, rest)
     pub string : IsString item b
+    pub kind : kind_of item ≡ head_kind h
     pub lent : (c : Context) → is_lent c item ≡ is_lent_head c h
 
   pub bytes_read : (n : Option ℕ) (bs b rest : List ℕ) → content_at l (head.Bytes n) bs ≡ Ok (b, rest) → StringRead (head.Bytes n) bs b rest
   unfolding string_at string_chunks_at
-  bytes_read (Some n) bs b rest is = record { item = raw.bytes (record { width = w; bytes = b }); is = rw is refl; string = refl; lent = λ c. refl }
+  bytes_read (Some n) bs b rest is = record { item = raw.bytes (record { width = w; bytes = b }); is = rw is refl; string = refl; kind = refl; lent = λ c. refl }
   bytes_read None bs b rest is =
       let cs = chunks_of (chunks_at (exceeds_most l.room) 0 2 bs) b rest is in
-      record { item = raw.bytes_chunks cs.all; is = ap (λ (r : Reads (List Chunk)). r >>= (λ cs. Ok (raw.bytes_chunks cs.0, cs.1))) cs.is; string = cs.bytes; lent = λ c. refl }
+      record { item = raw.bytes_chunks cs.all; is = ap (λ (r : Reads (List Chunk)). r >>= (λ cs. Ok (raw.bytes_chunks cs.0, cs.1))) cs.is; string = cs.bytes; kind = refl; lent = λ c. refl }
 
   passes : (r : Raw) (b rest : List ℕ) → IsUtf8 b → checked_text (raws f l) r b rest ≡ Ok (r, rest)
   unfolding checked_text
@@ -161,10 +163,10 @@ module _ (f : Formats) (l : Limits) (inner : Option (List ℕ → Reads Raw)) (w
   unfolding text_at text_chunks_at
   text_read (Some n) bs b rest is utf8 =
       let text = raw.text (record { width = w; bytes = b }) in
-      record { item = text; is = picked _ (bytes_at n bs) _ _ (b, rest) is ∙ passes text b rest utf8; string = refl; lent = λ c. refl }
+      record { item = text; is = picked _ (bytes_at n bs) _ _ (b, rest) is ∙ passes text b rest utf8; string = refl; kind = refl; lent = λ c. refl }
   text_read None bs b rest is utf8 =
       let cs = chunks_of (chunks_at (exceeds_most l.room) 0 3 bs) b rest is in
-      record { item = raw.text_chunks cs.all; is = ap (λ (r : Reads (List Chunk)). r >>= (λ cs. checked_text (raws f l) (raw.text_chunks cs.0) (joined cs.0) cs.1)) cs.is ∙ passes (raw.text_chunks cs.all) (joined cs.all) rest (subst IsUtf8 (sym cs.bytes) utf8); string = cs.bytes; lent = λ c. refl }
+      record { item = raw.text_chunks cs.all; is = ap (λ (r : Reads (List Chunk)). r >>= (λ cs. checked_text (raws f l) (raw.text_chunks cs.0) (joined cs.0) cs.1)) cs.is ∙ passes (raw.text_chunks cs.all) (joined cs.all) rest (subst IsUtf8 (sym cs.bytes) utf8); string = cs.bytes; kind = refl; lent = λ c. refl }
 
   -- the fault of a text that isn't UTF-8
   abbrev bad_text : List ℕ → List ℕ → Fault

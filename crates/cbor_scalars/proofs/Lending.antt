@@ -111,7 +111,8 @@ lacks_behind : (allowed : ReadErrorCode → Bool) (s m : Input) (P : Limits → 
 lacks_behind allowed s m P N N' on step (Stopped e) h = refuses_behind allowed s m (error_code (why e)) (place e) P N N' on step h
 lacks_behind allowed s m P N N' on step Other h = λ k at. refuses_behind allowed s m k at P N N' on step (h k at)
 
-lacks_all : (allowed : ReadErrorCode → Bool) (s : Input) (N : Limits → List ℕ → Type 0) → ((k : ErrorCode) (at : ℕ) → Refuses allowed s k at N) → (u : Unread) → Lacks allowed s N u
+-- what nothing is refused by is lacking
+pub lacks_all : (allowed : ReadErrorCode → Bool) (s : Input) (N : Limits → List ℕ → Type 0) → ((k : ErrorCode) (at : ℕ) → Refuses allowed s k at N) → (u : Unread) → Lacks allowed s N u
 lacks_all allowed s N h (Stopped e) = h (error_code (why e)) (place e)
 lacks_all allowed s N h Other = h
 
@@ -123,7 +124,7 @@ module _ (allowed : ReadErrorCode → Bool) (f : Formats) (l : Lends) (levels : 
   lends_text None = refl
   lends_text (Some n) = refl
 
-  lends_bytes : (n : Option ℕ) → lends_head l (head.Bytes n) ≡ is_lent_head c (head.Bytes n)
+  pub lends_bytes : (n : Option ℕ) → lends_head l (head.Bytes n) ≡ is_lent_head c (head.Bytes n)
   lends_bytes None = refl
   lends_bytes (Some n) = refl
 

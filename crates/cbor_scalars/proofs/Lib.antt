@@ -5,6 +5,7 @@ pub mod Numbers
 pub mod Contents
 pub mod Nulls
 pub mod Lending
+pub mod ByteStrings
 pub mod TagHeads
 pub mod PassedTags
 pub mod Identifiers

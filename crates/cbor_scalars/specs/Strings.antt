@@ -6,7 +6,8 @@ use Rattle.std.specs.Char.{IsScalar, encode_utf8}
 use Rattle.std.specs.Str.{IsUtf8}
 use Rattle.std.specs.Str.Lossy.{utf8_valid_len}
 use Rattle.cbor_model.specs.Formats as model
-use Rattle.cbor_model.specs.Raw.{Raw}
+use Rattle.cbor_model.specs.Raw as raw
+use Rattle.cbor_model.specs.Raw.{Raw, joined}
 use Rattle.cbor_model.specs.Readable.{Context, PassesTags, IsString, IsText, is_lent}
 use Rattle.cbor_model.specs.Refusal.{length_out_of_range, unexpected_code}
 use Rattle.cbor_model.specs.Reader.{Reads, before, bytes_at, chunks_at, exceeds_most, item_at}
@@ -199,6 +200,36 @@ IsBorrowedText c r b = IsText r b × (is_lent c r ≡ true)
 -- a string of these bytes that is lent
 abbrev pub IsBorrowedString : Context → Raw → List ℕ → Type 0
 IsBorrowedString c r b = IsString r b × (is_lent c r ≡ true)
+
+-- ---- byte strings alone
+
+-- a byte string of these bytes, definite or in chunks
+abbrev pub IsByteString : Raw → List ℕ → Type 0
+IsByteString (raw.bytes c) b = c.bytes ≡ b
+IsByteString (raw.bytes_chunks cs) b = joined cs ≡ b
+IsByteString _ b = ⊥
+
+-- a byte string of exactly n bytes
+abbrev pub IsByteArray : ℕ → Raw → List ℕ → Type 0
+IsByteArray n r b = IsByteString r b × (length b ≡ n)
+
+-- a byte string of these bytes, lent as the source lends it
+abbrev pub IsLentBytes : Context → Raw → EitherLifetime → Type 0
+IsLentBytes c r p = IsByteString r (part_bytes p) × (is_long p ≡ is_lent c r)
+
+-- a byte string of these bytes that is lent
+abbrev pub IsBorrowedBytes : Context → Raw → List ℕ → Type 0
+IsBorrowedBytes c r b = IsByteString r b × (is_lent c r ≡ true)
+
+-- The byte string at the front was taken, where so many levels are left; or none is there.
+abbrev pub LendsBytes : (ReadErrorCode → Bool) → Context → ℕ → Input → Input
+    → Result EitherLifetime Unread → Type 0
+LendsBytes refusals c levels s t (Ok p) =
+    Step s t (λ l bs rest.
+    IsRead (PassesTags (IsLentBytes c)) (item_at (raws c.formats l) levels bs) p rest)
+LendsBytes refusals c levels s t (Err u) =
+    Lacks refusals s (λ l bs.
+    IsNotRead (PassesTags IsByteString) (item_at (raws c.formats l) levels bs)) u
 
 -- ---- characters
 

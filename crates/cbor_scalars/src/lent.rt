@@ -8,7 +8,8 @@ ghost use Rattle.cbor_de.specs.declared.head.Head.TheVariants.{Bytes, Text};
 ghost use Rattle.cbor_io.specs.Error.{code_of};
 ghost use Rattle.cbor_de.specs.Gives.{TellsNoForm};
 ghost use Rattle.cbor_scalars.specs.Strings.{BytesOf, IsBadAt, IsKept, IsMadeOf, IsNoKey};
-ghost use Rattle.cbor_scalars.specs.Strings.{Lent, LentText, LendsString, LendsText, PartText};
+ghost use Rattle.cbor_scalars.specs.Strings.{Lent, LentText, LendsBytes, LendsString, LendsText};
+ghost use Rattle.cbor_scalars.specs.Strings.{PartText};
 ghost use Rattle.cbor_scalars.specs.Strings.{Utf8Of};
 ghost use Rattle.cbor_scalars.specs.Takes.{context};
 ghost use Rattle.cbor_de.specs.contracts.de.Deserializer.{the_row};
@@ -263,6 +264,27 @@ pub fn read_bytes<'a, 'de, R: Read<'de>>(
     match head {
         Head::Bytes(n) => bytes_part(items, n),
         Head::Text(n) => bytes_of(text_part(items, n)?),
+        _ => Err(other(items, head)),
+    }
+}
+
+/// Lends the bytes of a byte string; a text is another item. It refuses as [`read_bytes`] does.
+pub fn read_byte_string<'a, 'de, R: Read<'de>>(
+    items: &'a mut Deserializer<R>,
+) -> Result<EitherLifetime<'a, 'de>>
+    ensures* after_borrow { sem 𝓛 (Rests (the_row R.row) items.entry (λ new.
+        (new.levels ≡ items.old.levels)
+        × (new.formats ≡ items.old.formats)
+        × LendsBytes R.refusals (context items.old.formats R.lends) items.old.levels
+        (R.source items.old.source) (R.source new.source) result
+        × IfErr result IsNoKey)) }
+{
+    let head = match scalar(items) {
+        Ok(head) => head,
+        Err(refused) => return Err(Unread::Stopped(stopped(items, refused))),
+    };
+    match head {
+        Head::Bytes(n) => bytes_part(items, n),
         _ => Err(other(items, head)),
     }
 }

@@ -9,6 +9,7 @@
 //! Others rely on the contracts, on the words that they use, and on the published facts.
 #![tactic(auto)]
 
+pub mod byte_strings;
 pub mod identifier;
 pub mod integer;
 pub mod lent;

@@ -21,7 +21,7 @@ use cbor_read::{ReadErrorCode, Source};
 
 // Takes the bytes of a byte string behind its head.
 #[inline(always)]
-fn byte_string<R: Source>(items: &mut Deserializer<R>, n: Option<u64>) -> Done<Vec<u8>>
+pub(crate) fn byte_string<R: Source>(items: &mut Deserializer<R>, n: Option<u64>) -> Done<Vec<u8>>
     ensures read { Gives R.refusals (λ v. v.items) (λ l. content_at l (Bytes n))
         (R.source items.old.source) (R.source items.new.source)
         items.new.refusal result }

@@ -1,13 +1,15 @@
-//! The documents of the standard library's types, and of values.
+//! The documents of the standard library's types, of byte strings and of values.
 
 ghost use Rattle.std.specs.Prelude.{pos, string_bytes, encode_utf8};
-ghost use Rattle.cbor_model.specs.Document.{null, bool, integer, text, sequence, mapping, declared};
+ghost use Rattle.cbor_model.specs.Document.{null, bool, integer, bytes, text, sequence, mapping};
+ghost use Rattle.cbor_model.specs.Document.{declared};
 ghost use Rattle.cbor_model.specs.Document.{doc, no_docs, docs, doc_pairs, document_of};
 ghost use Rattle.cbor_value.specs.View.{view, float_view};
 ghost use Rattle.cbor_ser.specs.Documents.{option_document};
 
 use crate::serialize::Serialize;
 use crate::serializer::Serializer;
+use cbor_bytes::{ByteArray, ByteBuf, Bytes};
 use cbor_io::error::Result;
 use cbor_io::write::Write;
 use cbor_value::{Float, Value};
@@ -138,6 +140,30 @@ impl Serialize for &str {
 
     fn serialize<W: Write>(&self, ser: &mut Serializer<W>) -> Result<()> {
         ser.serialize_str(*self)
+    }
+}
+
+impl Serialize for Bytes<'_> {
+    ghost document = { λ b. bytes b.0.now };
+
+    fn serialize<W: Write>(&self, ser: &mut Serializer<W>) -> Result<()> {
+        ser.serialize_bytes(self.0)
+    }
+}
+
+impl Serialize for ByteBuf {
+    ghost document = { λ b. bytes b.0.items };
+
+    fn serialize<W: Write>(&self, ser: &mut Serializer<W>) -> Result<()> {
+        ser.serialize_bytes(self.0.as_slice())
+    }
+}
+
+impl<const N: usize> Serialize for ByteArray<N> {
+    ghost document = { λ b. bytes b.0 };
+
+    fn serialize<W: Write>(&self, ser: &mut Serializer<W>) -> Result<()> {
+        ser.serialize_bytes(self.0.as_slice())
     }
 }
 

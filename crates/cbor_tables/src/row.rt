@@ -99,12 +99,17 @@ impl Row<'_> {
         !self.answer.starts_with("error: ")
     }
 
+    // Whether the type borrows from its source.
+    fn borrows(&self) -> bool {
+        self.kind.contains('&') || self.kind == "Bytes"
+    }
+
     /// Whether the row asks for this source. What borrows is read from a reader only where the row
     /// says so.
     pub fn asks_for(&self, source: Source) -> bool {
         match self.how.source {
             Some(one) => one == source,
-            None => source != Source::Reader || !self.kind.contains('&'),
+            None => source != Source::Reader || !self.borrows(),
         }
     }
 }

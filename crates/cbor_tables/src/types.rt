@@ -1,5 +1,6 @@
 //! The types that a row may name.
 
+mod bytes;
 mod lists;
 mod maps;
 mod numbers;

@@ -9,6 +9,7 @@ pub mod Values
 pub mod OfValues
 pub mod facts
 pub mod Characters
+pub mod ByteStrings
 pub mod Fields
 pub mod Slots
 pub mod Structs

@@ -1,5 +1,6 @@
 pub mod Structs
 pub mod Options
+pub mod ByteStrings
 pub mod Whole
 pub mod Alike
 pub mod FirstOfItem

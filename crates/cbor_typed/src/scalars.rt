@@ -9,7 +9,7 @@ ghost use Rattle.cbor_io.specs.Error.{code_of};
 ghost use Rattle.cbor_de.specs.Gives.{TellsNoForm, TellsNoKey};
 ghost use Rattle.cbor_scalars.specs.Opens.{OpensAt};
 ghost use Rattle.cbor_scalars.specs.Scalars.{IsFloatItem};
-ghost use Rattle.cbor_scalars.specs.Strings.{IsMadeOf, IsNoKey, LendsString, LendsText};
+ghost use Rattle.cbor_scalars.specs.Strings.{IsMadeOf, IsNoKey, LendsBytes, LendsString, LendsText};
 ghost use Rattle.cbor_scalars.specs.Takes.{TakesItem, context, formats_of, raws};
 ghost use Rattle.cbor_typed.specs.contracts.de.Deserializer.{the_row as typed_row};
 
@@ -133,5 +133,18 @@ impl<'de, R: Read<'de>> Deserializer<R> {
             × IfErr result IsNoKey)) }
     {
         lent::read_bytes(&mut self.items)
+    }
+
+    /// Lends the bytes of a byte string.
+    #[inline(always)]
+    pub(crate) fn read_byte_string<'a>(&'a mut self) -> Lent<EitherLifetime<'a, 'de>>
+        ensures* after_borrow { sem 𝓛 (Rests (typed_row R.row) self.entry (λ new.
+            (new.items.levels ≡ self.old.items.levels)
+            × (new.items.formats ≡ self.old.items.formats)
+            × LendsBytes R.refusals (context self.old.items.formats R.lends) self.old.items.levels
+            (R.source self.old.items.source) (R.source new.items.source) result
+            × IfErr result IsNoKey)) }
+    {
+        lent::read_byte_string(&mut self.items)
     }
 }

@@ -1,5 +1,6 @@
-//! Types of std that are read, and those of the values.
+//! Types of std that are read, byte strings, and those of the values.
 
+mod byte_strings;
 mod character;
 mod ignored;
 mod maps;

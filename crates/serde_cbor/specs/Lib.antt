@@ -51,6 +51,7 @@ pub use Rattle.cbor_typed.specs.Structs
 pub use Rattle.cbor_collections.specs.Enums
 pub use Rattle.cbor_collections.specs.Variants
 pub use Rattle.cbor_typed.specs.Options
+pub use Rattle.cbor_typed.specs.ByteStrings
 pub use Rattle.cbor_ser.specs.Written
 pub use Rattle.cbor_ser.specs.Bytes
 pub use Rattle.cbor_ser.specs.Serialized

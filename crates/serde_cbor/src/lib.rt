@@ -17,6 +17,7 @@
 //! that a crate above names no other but `cbor_value`, where it handles a `Value`.
 #![tactic(auto)]
 
+pub use cbor_bytes as bytes;
 pub use cbor_io::error;
 pub use cbor_io::error::{Error, Result};
 pub use cbor_parts as parts;

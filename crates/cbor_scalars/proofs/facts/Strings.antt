@@ -2,5 +2,6 @@
 
 -- an item is a string of the same bytes each time
 pub use Rattle.cbor_scalars.proofs.Contents.{same_bytes}
+pub use Rattle.cbor_scalars.proofs.ByteStrings.{one_byte_string}
 -- what is read as another value, or not
 pub use Rattle.cbor_scalars.proofs.Lending.{made_read, made_none, made_refuses, none_of}

@@ -2,7 +2,7 @@
 
 use crate::desk::Desk;
 use crate::row::Row;
-use crate::types::lists;
+use crate::types::bytes;
 use serde_cbor::Deserializer;
 use serde_cbor::de::{IgnoredAny, Read};
 use std::io;
@@ -34,7 +34,7 @@ fn options<'r, R: Read<'r> + Drop>(
         "Option<u32>" => desk.reads::<Option<u32>, R>(row, de)?,
         "Option<()>" => desk.reads::<Option<()>, R>(row, de)?,
         "Option<&str>" => desk.reads::<Option<&str>, R>(row, de)?,
-        _ => return lists::judge(desk, row, de),
+        _ => return bytes::judge(desk, row, de),
     }
     Ok(true)
 }

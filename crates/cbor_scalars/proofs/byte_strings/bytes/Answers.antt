@@ -1,0 +1,44 @@
+use Rattle.std.proofs.Common.{◌≡◌, ℕ, List, Ok, Vec, subst}
+use Rattle.std.specs.Global.{Global}
+use Rattle.std.proofs.lemmas.Result.{err_from_is_err_and}
+use Rattle.cbor_model.specs.Raw.{Raw}
+use Rattle.cbor_de.specs.declared.head.Head.{Head}
+use Rattle.cbor_scalars.specs.Opens.{OpensItem}
+use Rattle.cbor_scalars.specs.Strings.{IsByteString}
+use Rattle.cbor_scalars.specs.Takes.{formats_of}
+use Rattle.cbor_scalars.proofs.Contents.{bytes_stops, none_at, none_there}
+use Rattle.cbor_scalars.proofs.ByteStrings.{byte_string_takes, not_bytes}
+use Rattle.cbor_scalars.proofs.byte_strings.bytes.Goals as goal
+
+-- what owned bytes are read from
+abbrev reads : Raw → Vec ℕ Global → Type 0
+reads r v = IsByteString r v.items
+
+pub returns-in_err-bytes-in-Bytes-clause-read : goal.returns-in_err-bytes-in-Bytes-clause-read
+returns-in_err-bytes-in-Bytes-clause-read g c =
+    let p = err_from_is_err_and c.from_residual-in_err-bytes-in-Bytes.result c.from_residual-in_err-bytes-in-Bytes.ensures.1 in
+    let u = c.scalar.new.items in
+    let levels = c.args.items.now.levels in
+    let f = formats_of c.args.items.now.formats in
+    let s = g.R.Source.source c.args.items.now.source in
+    let m = g.R.Source.source u.source in
+    let opened = subst (λ (h : Head). OpensItem g.R.Source.refusals f levels s m u.refusal (Ok h)) c.in-Bytes.is c.in_ok-head.ensures.read in
+    rw (p.1, p.2) (λ e is. bytes_stops g.R.Source.refusals f reads levels s m u.refusal c.in-Bytes.n opened _ c.byte_string.new.items.refusal e is c.in_err-bytes-in-Bytes.ensures.read)
+
+pub returns-in_ok-bytes-in-Bytes-clause-read : goal.returns-in_ok-bytes-in-Bytes-clause-read
+returns-in_ok-bytes-in-Bytes-clause-read g c =
+    let u = c.scalar.new.items in
+    let levels = c.args.items.now.levels in
+    let f = formats_of c.args.items.now.formats in
+    let s = g.R.Source.source c.args.items.now.source in
+    let m = g.R.Source.source u.source in
+    let v = c.in_ok-bytes-in-Bytes.bytes in
+    let opened = subst (λ (h : Head). OpensItem g.R.Source.refusals f levels s m u.refusal (Ok h)) c.in-Bytes.is c.in_ok-head.ensures.read in
+    byte_string_takes g.R.Source.refusals f reads levels s m u.refusal c.in-Bytes.n opened (g.R.Source.source c.byte_string.new.items.source) v.items v (λ r is lent. is) c.in_ok-bytes-in-Bytes.ensures.read
+
+pub returns-in_default-clause-read : goal.returns-in_default-clause-read
+returns-in_default-clause-read g c =
+    let u = c.scalar.new.items in
+    let s = g.R.Source.source c.args.items.now.source in
+    let h = c.in_ok-head.head in
+    none_there g.R.Source.refusals s (λ k at. none_at g.R.Source.refusals (formats_of c.args.items.now.formats) reads c.args.items.now.levels s (g.R.Source.source u.source) u.refusal h k at (λ r x is. not_bytes h c.in_default.not-Bytes r x.items is) c.in_ok-head.ensures.read)

@@ -1,0 +1,57 @@
+//! Byte strings alone (RFC 7049, section 2.1, major type 2; in chunks, section 2.2.2).
+
+ghost use Rattle.std.specs.Prelude.{◌≡◌, IfErr};
+ghost use Rattle.cbor_model.specs.Readable.{PassesTags};
+ghost use Rattle.cbor_io.specs.Error.{code_of};
+ghost use Rattle.cbor_de.specs.Gives.{TellsNoForm, TellsNoKey};
+ghost use Rattle.cbor_scalars.specs.Strings.{IsByteString, SeeksItem};
+ghost use Rattle.cbor_scalars.specs.Takes.{TakesItem, formats_of};
+
+use crate::identifier::{Why, unnamed};
+use crate::scalar::scalar;
+use crate::strings::byte_string;
+use cbor_de::{Deserializer, Done, Head};
+use cbor_io::error::Result;
+use cbor_read::{ReadErrorCode, Source};
+
+/// The message of an item that isn't a byte string.
+pub const NO_BYTES: &str = "invalid type: expected bytes";
+
+// Seeks a byte string; None where an item of another kind is there.
+#[inline(always)]
+fn bytes<R: Source>(items: &mut Deserializer<R>) -> Done<Option<Vec<u8>>>
+    ensures read { SeeksItem R.refusals (formats_of items.old.formats)
+        (PassesTags (λ r v. IsByteString r v.items)) items.old.levels
+        (R.source items.old.source) (R.source items.new.source)
+        items.new.refusal result }
+    ensures no_key { IfErr result (TellsNoKey items.new.refusal) }
+    ensures levels { items.new.levels ≡ items.old.levels }
+    ensures formats { items.new.formats ≡ items.old.formats }
+{
+    let head = scalar(items)?;
+    match head {
+        Head::Bytes(n) => {
+            let bytes = byte_string(items, n)?;
+            Ok(Some(bytes))
+        }
+        Head::Break => Err(items.refuse(ReadErrorCode::UnexpectedCode)),
+        _ => Ok(None),
+    }
+}
+
+/// Reads a byte string to memory of its own. Another item, a text too, is refused with
+/// [`NO_BYTES`].
+pub fn read_byte_string<R: Source>(items: &mut Deserializer<R>) -> Result<Vec<u8>>
+    ensures read { TakesItem R.refusals (formats_of items.old.formats)
+        (PassesTags (λ r v. IsByteString r v.items)) items.old.levels
+        (R.source items.old.source) (R.source items.new.source) result }
+    ensures no_form { IfErr result (λ e. TellsNoForm (code_of e)) }
+    ensures levels { items.new.levels ≡ items.old.levels }
+    ensures formats { items.new.formats ≡ items.old.formats }
+{
+    match bytes(items) {
+        Ok(Some(bytes)) => Ok(bytes),
+        Ok(None) => Err(unnamed(items, Why::Other, NO_BYTES)),
+        Err(refused) => Err(unnamed(items, Why::Refused(refused), NO_BYTES)),
+    }
+}

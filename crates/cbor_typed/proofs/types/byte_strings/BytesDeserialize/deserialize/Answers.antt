@@ -1,0 +1,22 @@
+use Rattle.std.proofs.Common.{subst}
+use Rattle.cbor_bytes.specs.declared.Bytes.{Bytes}
+use Rattle.cbor_model.specs.Raw.{Raw}
+use Rattle.cbor_model.specs.Readable.{PassesTags}
+use Rattle.cbor_model.specs.Reader.{item_at}
+use Rattle.cbor_scalars.specs.Strings.{IsBorrowedBytes, IsByteString, LendsBytes}
+use Rattle.cbor_scalars.specs.Takes.{raws, context, formats_of, IsNotRead}
+use Rattle.cbor_scalars.proofs.facts.Strings.{made_refuses, none_of}
+use Rattle.cbor_typed.proofs.types.byte_strings.BytesDeserialize.deserialize.Goals as goal
+
+pub returns-in-Err-clause-read : goal.returns-in-Err-clause-read
+returns-in-Err-clause-read g c =
+    let de = c.args.de.now in
+    let f = formats_of de.items.formats in
+    let levels = de.items.levels in
+    let s = g.R.Source.source de.items.source in
+    let t = g.R.Source.source c.read_byte_string.follows.lender-at-none.items.source in
+    let ctx = context de.items.formats g.R.Source.lends in
+    let reads : (Raw → Bytes → Type 0) = λ r x. IsBorrowedBytes ctx r x.0.now in
+    let lacks = subst (λ r. LendsBytes g.R.Source.refusals ctx levels s t r) c.in-Err.is c.read_byte_string.follows.holds-at-none.2 in
+    made_refuses g.R.Source.refusals s (λ l bs. IsNotRead (PassesTags IsByteString) (item_at (raws f l) levels bs)) (λ l bs. IsNotRead (PassesTags reads) (item_at (raws f l) levels bs)) c.in-Err.why c.unread.result
+    (λ l bs none. none_of reads IsByteString (λ x. x.0.now) (item_at (raws f l) levels bs) (λ r x is. is.0) none) c.unread.ensures.made lacks
