@@ -14,7 +14,7 @@ use crate::program::{Mode, run, run_strict};
 use serde_cbor::Result;
 use std::alloc::AllocError;
 use std::env;
-use std::io::BufReader;
+use std::io::{BufReader, ErrorKind};
 use std::process::ExitCode;
 
 fn main(rt: HostRuntime) -> ExitCode {
@@ -35,8 +35,14 @@ fn main(rt: HostRuntime) -> ExitCode {
 // Answers the lines of standard input on standard output, in the mode that the words after the
 // program's name choose. Where they choose none it reads nothing, and answers false.
 fn answer_input(rt: &HostRuntime) -> Result<bool> {
+    let args = match env::args(rt) {
+        Ok(args) => args,
+        Err(fault) if fault.kind() == ErrorKind::OutOfMemory => return Err(AllocError.into()),
+        // One that isn't UTF-8 is none of the words.
+        Err(_) => return Ok(false),
+    };
     let mut words = Vec::new(rt.alloc());
-    for word in env::args(rt)?.skip(1) {
+    for word in args.skip(1) {
         words.push(word)?;
     }
     let Some(mode) = words::mode(&words) else {
