@@ -3,6 +3,7 @@ pub mod Opened
 pub mod Scalars
 pub mod Numbers
 pub mod Contents
+pub mod FloatNumbers
 pub mod Nulls
 pub mod Lending
 pub mod ByteStrings

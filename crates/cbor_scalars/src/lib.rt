@@ -10,6 +10,7 @@
 #![tactic(auto)]
 
 pub mod byte_strings;
+pub mod floats;
 pub mod identifier;
 pub mod integer;
 pub mod lent;

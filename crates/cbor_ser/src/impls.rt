@@ -1,8 +1,10 @@
 //! The documents of the standard library's types, of byte strings and of values.
 
-ghost use Rattle.std.specs.Prelude.{pos, string_bytes, encode_utf8};
+ghost use Rattle.std.specs.Prelude.{pos, string_bytes, encode_utf8, to_bits};
+ghost use Rattle.std.specs.Float.{binary32, binary64};
 ghost use Rattle.cbor_model.specs.Document.{null, bool, integer, bytes, text, sequence, mapping};
-ghost use Rattle.cbor_model.specs.Document.{declared};
+ghost use Rattle.cbor_model.specs.Document.{declared, float};
+ghost use Rattle.cbor_model.specs.Raw.{single, double};
 ghost use Rattle.cbor_model.specs.Document.{doc, no_docs, docs, doc_pairs, document_of};
 ghost use Rattle.cbor_value.specs.View.{view, float_view};
 ghost use Rattle.cbor_ser.specs.Documents.{option_document};
@@ -143,6 +145,15 @@ impl Serialize for &str {
     }
 }
 
+/// As a byte string, which a `Vec<u8>` isn't: that is an array of numbers, as any `Vec`.
+impl Serialize for &[u8] {
+    ghost document = { λ b. bytes b.now };
+
+    fn serialize<W: Write>(&self, ser: &mut Serializer<W>) -> Result<()> {
+        ser.serialize_bytes(*self)
+    }
+}
+
 impl Serialize for Bytes<'_> {
     ghost document = { λ b. bytes b.0.now };
 
@@ -180,6 +191,24 @@ impl Serialize for Float {
 
     fn serialize<W: Write>(&self, ser: &mut Serializer<W>) -> Result<()> {
         ser.serialize_float(*self)
+    }
+}
+
+/// In its 32 bits. A NaN is the quiet NaN `fa7fc00000`.
+impl Serialize for f32 {
+    ghost document = { λ x. float single (to_bits binary32 x) };
+
+    fn serialize<W: Write>(&self, ser: &mut Serializer<W>) -> Result<()> {
+        ser.serialize_f32(*self)
+    }
+}
+
+/// In its 64 bits, also where fewer would hold it. A NaN is the quiet NaN `fb7ff8000000000000`.
+impl Serialize for f64 {
+    ghost document = { λ x. float double (to_bits binary64 x) };
+
+    fn serialize<W: Write>(&self, ser: &mut Serializer<W>) -> Result<()> {
+        ser.serialize_f64(*self)
     }
 }
 

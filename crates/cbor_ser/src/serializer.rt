@@ -1,10 +1,12 @@
 //! Writing items one by one.
 
 ghost use Rattle.std.specs.Prelude.{◌≡◌, ◌++◌, ℕ, List, length, pos, true, false, encode_utf8};
-ghost use Rattle.std.specs.Prelude.{IsErrAnd};
+ghost use Rattle.std.specs.Prelude.{IsErrAnd, to_bits};
+ghost use Rattle.std.specs.Float.{binary32, binary64};
 ghost use Rattle.cbor_model.specs.Head.{short};
 ghost use Rattle.cbor_model.specs.Document.{null, bool, integer, bytes, text, unit_variant};
-ghost use Rattle.cbor_model.specs.Document.{document_of};
+ghost use Rattle.cbor_model.specs.Document.{document_of, float};
+ghost use Rattle.cbor_model.specs.Raw.{single, double};
 ghost use Rattle.cbor_model.specs.Parts.{Part, item, tag_head};
 ghost use Rattle.cbor_model.specs.Canonical.{IsStorableInteger};
 ghost use Rattle.cbor_io.specs.Head.{major_number};
@@ -259,6 +261,23 @@ impl<W: Write> Serializer<W> {
         let mut refusal = None;
         let done = write_float(&mut self.writer, &mut refusal, v);
         answer(done, refusal)
+    }
+
+    /// Appends a float of 32 bits. A NaN is the quiet NaN `fa7fc00000`.
+    pub fn serialize_f32(&mut self, v: f32) -> Result<()>
+        ensures { Serialized W.written W.refuses W.references self.old
+            (item (float single (to_bits binary32 v))) self.new result }
+    {
+        self.serialize_float(Float::from(v))
+    }
+
+    /// Appends a float of 64 bits, also where fewer would hold the number. A NaN is the quiet NaN
+    /// `fb7ff8000000000000`.
+    pub fn serialize_f64(&mut self, v: f64) -> Result<()>
+        ensures { Serialized W.written W.refuses W.references self.old
+            (item (float double (to_bits binary64 v))) self.new result }
+    {
+        self.serialize_float(Float::from(v))
     }
 
     /// Appends a text: its head, and then its bytes.

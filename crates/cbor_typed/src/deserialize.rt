@@ -30,6 +30,9 @@ pub trait Readable: Sized + Drop {
 /// within the levels that are left, and with keys of the formats that are read. Exactly the item's
 /// bytes are taken then. Ok or Err, as many levels are left as before.
 ///
+/// `Vec<u8>` is an array of numbers, as any `Vec`; a byte string is `ByteBuf`, `ByteArray`, or the
+/// borrowed `Bytes`. An `f64` or an `f32` is a float of any width that it holds exactly.
+///
 /// A struct is read by a loop over its fields, in any order, by their names or their numbers:
 ///
 /// ```rust

@@ -2,6 +2,7 @@
 
 mod byte_strings;
 mod character;
+mod floats;
 mod ignored;
 mod maps;
 mod numbers;

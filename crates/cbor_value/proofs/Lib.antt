@@ -1,5 +1,6 @@
 pub mod Comparing
 pub mod Maps
+pub mod Numbers
 pub mod Sorting
 pub mod Views
 pub mod Walks

@@ -5,6 +5,7 @@ ghost use Rattle.cbor_model.specs.Plain as plain;
 ghost use Rattle.cbor_value.specs.View.{view, views, map_view, float_view};
 
 use super::{Float, Map, Value};
+use cbor_bytes::ByteBuf;
 
 /// False or true.
 impl From<bool> for Value {
@@ -102,6 +103,15 @@ impl From<Vec<u8>> for Value {
 
     fn from(bytes: Vec<u8>) -> Value {
         Value::Bytes(bytes)
+    }
+}
+
+/// A byte string, whose bytes move.
+impl From<ByteBuf> for Value {
+    ghost from_gives = { λ b v. view v ≡ plain.bytes b.0.items };
+
+    fn from(bytes: ByteBuf) -> Value {
+        Value::Bytes(bytes.0)
     }
 }
 

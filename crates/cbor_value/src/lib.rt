@@ -1,18 +1,21 @@
 //! Any value that CBOR spells, as a tree.
 //!
 //! [`Value`] and [`Map`] with their order, copies and conversions. It names the definitions of
-//! `cbor_model`, its facts on the order and on maps, and the error of `cbor_io`. The crates above
-//! rely on the contracts of its public calls, on `specs/View.antt` (the tree of the model that a
-//! value stands for), and on the facts of `proofs/facts`.
+//! `cbor_model`, its facts on the order and on maps, the byte strings of `cbor_bytes`, and the error
+//! of `cbor_io`. The crates above rely on the contracts of its public calls, on `specs/View.antt`
+//! (the tree of the model that a value stands for), on `specs/Floats.antt` (the number that a float
+//! stands for), and on the facts of `proofs/facts`.
 #![tactic(auto)]
 
 mod clone;
+mod floats;
 mod from;
 mod memory;
 mod order;
 mod pairs;
 
-/// A float as it was read: its width, and its bits by IEEE 754.
+/// A float as it was read: its width, and its bits by IEEE 754. [`to_f64`](Float::to_f64) is the
+/// number, and `Float::from` makes a float of an `f64` or an `f32`.
 ///
 /// Two floats are equal where width and bits are, so `1.0` of 16 bits isn't `1.0` of 64 bits, and a
 /// NaN equals itself. The order is that of the widths, and then that of the bits, as it is among

@@ -23,6 +23,7 @@ pub use Rattle.cbor_io.specs.ReadError
 pub use Rattle.cbor_read.specs.Source
 pub use Rattle.cbor_read.specs.Sources
 pub use Rattle.cbor_io.specs.Write
+pub use Rattle.cbor_value.specs.Floats
 pub use Rattle.cbor_value.specs.View
 pub use Rattle.cbor_value.specs.Search
 pub use Rattle.cbor_de.specs.Deserializer
@@ -44,6 +45,7 @@ pub use Rattle.cbor_collections.specs.Accesses
 pub use Rattle.cbor_collections.specs.Arrays
 pub use Rattle.cbor_collections.specs.Maps
 pub use Rattle.cbor_collections.specs.MapAccesses
+pub use Rattle.cbor_scalars.specs.Scalars
 pub use Rattle.cbor_scalars.specs.Tags
 pub use Rattle.cbor_scalars.specs.Strings
 pub use Rattle.cbor_scalars.specs.Identifiers

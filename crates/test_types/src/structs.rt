@@ -89,3 +89,15 @@ fn asks_for_a_field(rt: HostRuntime) -> Done {
     is_refused(absent, "missing field `a`")?;
     Ok(())
 }
+
+#[test]
+fn reads_floats_in_fields(rt: HostRuntime) -> Done {
+    let bytes = b"\xa2\x61b\xfa\x47\xc3\x50\0\x61a\xfb\x3f\xf1\x99\x99\x99\x99\x99\x9a";
+    let mut de = Deserializer::from_slice(rt.alloc(), bytes);
+    let mut fields = de.structure(&["a", "b"])?;
+    assert_eq!(rt; fields.next_field()?, Some(Field::Known(1)));
+    assert_eq!(rt; fields.value::<f64>()?, 100000.0);
+    assert_eq!(rt; fields.next_field()?, Some(Field::Known(0)));
+    is_refused(fields.value::<f32>(), "float out of range: expected f32")?;
+    Ok(())
+}

@@ -8,6 +8,8 @@ mod byte_order;
 #[cfg(test)]
 mod checks;
 #[cfg(test)]
+mod floats;
+#[cfg(test)]
 mod serializer;
 #[cfg(test)]
 mod sinks;

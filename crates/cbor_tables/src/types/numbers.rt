@@ -19,6 +19,21 @@ pub fn judge<'r, R: Read<'r> + Drop>(
         "bool" => desk.reads::<bool, R>(row, de)?,
         "()" => desk.reads::<(), R>(row, de)?,
         "Float" => desk.reads::<Float, R>(row, de)?,
+        _ => return floats(desk, row, de),
+    }
+    Ok(true)
+}
+
+fn floats<'r, R: Read<'r> + Drop>(
+    desk: &mut Desk<'_>,
+    row: &Row<'_>,
+    de: Deserializer<R>,
+) -> io::Result<bool> {
+    match row.kind {
+        "f32" => desk.reads::<f32, R>(row, de)?,
+        "f64" => desk.reads::<f64, R>(row, de)?,
+        "Vec<f64>" => desk.reads::<Vec<f64>, R>(row, de)?,
+        "Option<f64>" => desk.reads::<Option<f64>, R>(row, de)?,
         _ => return unsigned(desk, row, de),
     }
     Ok(true)

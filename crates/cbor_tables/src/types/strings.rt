@@ -17,7 +17,7 @@ pub fn judge<'r, R: Read<'r> + Drop>(
         "char" => desk.reads::<char, R>(row, de)?,
         "String" => desk.reads::<String, R>(row, de)?,
         "&str" => desk.reads::<&str, R>(row, de)?,
-        "&[u8]" => desk.reads_alone::<&[u8], R>(row, de)?,
+        "&[u8]" => desk.reads::<&[u8], R>(row, de)?,
         "IgnoredAny" => desk.reads_alone::<IgnoredAny, R>(row, de)?,
         _ => return options(desk, row, de),
     }

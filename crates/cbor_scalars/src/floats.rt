@@ -1,0 +1,49 @@
+//! Floats as numbers.
+
+ghost use Rattle.std.specs.Prelude.{◌≡◌, IfErr};
+ghost use Rattle.cbor_model.specs.Readable.{PassesTags};
+ghost use Rattle.cbor_io.specs.Error.{code_of};
+ghost use Rattle.cbor_de.specs.Gives.{TellsNoForm};
+ghost use Rattle.cbor_scalars.specs.Scalars.{IsFloatOf, IsSingleOf};
+ghost use Rattle.cbor_scalars.specs.Takes.{TakesItem, formats_of};
+
+use crate::scalar::read_float;
+use cbor_de::Deserializer;
+use cbor_io::error::{Error, Result};
+use cbor_read::Source;
+
+/// Reads a float of 16, 32 or 64 bits as the number that it is.
+#[inline(always)]
+pub fn read_f64<R: Source>(items: &mut Deserializer<R>) -> Result<f64>
+    ensures read { TakesItem R.refusals (formats_of items.old.formats)
+        (PassesTags IsFloatOf) items.old.levels
+        (R.source items.old.source) (R.source items.new.source) result }
+    ensures no_form { IfErr result (λ e. TellsNoForm (code_of e)) }
+    ensures levels { items.new.levels ≡ items.old.levels }
+    ensures formats { items.new.formats ≡ items.old.formats }
+{
+    match read_float(items) {
+        Ok(float) => Ok(float.to_f64()),
+        Err(e) => Err(e),
+    }
+}
+
+/// Reads a float of 16, 32 or 64 bits whose number is one of 32 bits.
+#[inline(always)]
+pub fn read_f32<R: Source>(items: &mut Deserializer<R>) -> Result<f32>
+    ensures read { TakesItem R.refusals (formats_of items.old.formats)
+        (PassesTags IsSingleOf) items.old.levels
+        (R.source items.old.source) (R.source items.new.source) result }
+    ensures no_form { IfErr result (λ e. TellsNoForm (code_of e)) }
+    ensures levels { items.new.levels ≡ items.old.levels }
+    ensures formats { items.new.formats ≡ items.old.formats }
+{
+    let float = match read_float(items) {
+        Ok(float) => float,
+        Err(e) => return Err(e),
+    };
+    match float.to_f32() {
+        Some(x) => Ok(x),
+        None => Err(Error::message(items.alloc, "float out of range: expected f32")),
+    }
+}
