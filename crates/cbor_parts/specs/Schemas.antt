@@ -1,4 +1,6 @@
--- The parts of variants, as values.
+-- The parts of structs and variants, as values.
+use Rattle.std.specs.Prelude.{Option}
+use Rattle.cbor_parts.specs.declared.Optional.{Optional}
 use Rattle.cbor_parts.specs.declared.Newtype.{Newtype}
 use Rattle.cbor_parts.specs.declared.Tuple.{Tuple}
 use Rattle.cbor_parts.specs.declared.Struct.{Struct}
@@ -14,3 +16,7 @@ tuple xs = record { 0 = xs }
 -- the named fields of a variant
 abbrev pub structure : {N F : Type 0} → F → Struct N F
 structure xs = record { 0 = xs }
+
+-- a field that may be absent
+abbrev pub optional : {A : Type 0} → Option A → Optional A
+optional x = record { 0 = x }

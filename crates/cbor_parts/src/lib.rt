@@ -45,7 +45,11 @@ pub trait FieldNames {
         ensures as_many { length result.now ≡ Self.Parts.count };
 }
 
-/// The fields of a struct, or the parts of a variant: a tuple.
+/// A field that may be absent: None where it is, and what is there else.
+#[derive(Debug, PartialEq, Drop)]
+pub struct Optional<T>(pub Option<T>);
+
+/// The parts of a struct or of a variant, a tuple, or those of an enum, one of its variants.
 pub trait Parts: Sized + Drop {
     ghost use Rattle.std.specs.Prelude.{ℕ};
 
@@ -192,4 +196,38 @@ pub enum OneOf8<A, B, C, D, E, F, G, H> {
     Sixth(F),
     Seventh(G),
     Eighth(H),
+}
+
+impl<A: Drop> Parts for OneOf1<A> {
+    ghost count = { 1 };
+}
+
+impl<A: Drop, B: Drop> Parts for OneOf2<A, B> {
+    ghost count = { 2 };
+}
+
+impl<A: Drop, B: Drop, C: Drop> Parts for OneOf3<A, B, C> {
+    ghost count = { 3 };
+}
+
+impl<A: Drop, B: Drop, C: Drop, D: Drop> Parts for OneOf4<A, B, C, D> {
+    ghost count = { 4 };
+}
+
+impl<A: Drop, B: Drop, C: Drop, D: Drop, E: Drop> Parts for OneOf5<A, B, C, D, E> {
+    ghost count = { 5 };
+}
+
+impl<A: Drop, B: Drop, C: Drop, D: Drop, E: Drop, F: Drop> Parts for OneOf6<A, B, C, D, E, F> {
+    ghost count = { 6 };
+}
+
+impl<A: Drop, B: Drop, C: Drop, D: Drop, E: Drop, F: Drop, G: Drop> Parts
+    for OneOf7<A, B, C, D, E, F, G> {
+    ghost count = { 7 };
+}
+
+impl<A: Drop, B: Drop, C: Drop, D: Drop, E: Drop, F: Drop, G: Drop, H: Drop> Parts
+    for OneOf8<A, B, C, D, E, F, G, H> {
+    ghost count = { 8 };
 }

@@ -1,6 +1,6 @@
 //! An enum of a unit and a newtype variant.
 
-use serde_cbor::de::{Deserialize, DeserializeOwned, Read, Readable};
+use serde_cbor::de::{Deserialize, DeserializeOwned, FromParts, Read, Readable, ReadableParts};
 use serde_cbor::parts::{Newtype, OneOf2, Schema};
 use serde_cbor::ser::{PartsDocument, Serialize, Serializer, Write};
 use serde_cbor::{Deserializer, Result};
@@ -44,32 +44,23 @@ impl Serialize for Choice {
     }
 }
 
-impl Readable for Choice {
-    ghost use Rattle.std.specs.Prelude.{[], ◌∷◌, map};
-    ghost use Rattle.serde_cbor.specs.Readable.{PassesTags};
-    ghost use Rattle.serde_cbor.specs.Enums.{IsEnum, variants, unit, newtype};
-    ghost use Rattle.cbor_samples.specs.declared.choice.TheConstants.{CHOICE};
-    ghost use Rattle.cbor_samples.specs.declared.choice.Choice.TheVariants as choice;
+impl FromParts for Choice {
+    fn from_parts(from: Self::Parts) -> Choice {
+        match from {
+            OneOf2::First(()) => Choice::Unit,
+            OneOf2::Second(Newtype(n)) => Choice::NewType(n),
+        }
+    }
+}
 
-    ghost reads = { λ c. PassesTags (IsEnum c.formats (map (λ n. n.now) CHOICE.now) (variants
-        (unit choice.Unit
-        ∷ newtype (⟦<i32 as Readable>⟧.reads c) choice.NewType
-        ∷ []))) };
+impl Readable for Choice {
+    ghost reads = { λ c r x. ⟦<<Choice as Schema>::Parts as ReadableParts>⟧.reads
+        ⟦<Choice as Schema>⟧.names c r (⟦<Choice as Schema>⟧.parts x) };
 }
 
 impl<'de, R: Read<'de>> Deserialize<'de, R> for Choice {
     fn deserialize(de: &mut Deserializer<R>) -> Result<Choice> {
-        let access = de.variant(CHOICE)?;
-        match access.index() {
-            0 => {
-                access.unit()?;
-                Ok(Choice::Unit)
-            }
-            _ => {
-                let number = access.newtype::<i32>()?;
-                Ok(Choice::NewType(number))
-            }
-        }
+        de.read_described(CHOICE)
     }
 }
 

@@ -1,7 +1,9 @@
 //! Enums, with variants of each kind.
 
-use serde_cbor::de::{Deserialize, DeserializeOwned, Field, Read, Readable};
-use serde_cbor::parts::{FieldNames, Newtype, OneOf1, OneOf2, OneOf4, Schema, Struct, Tuple};
+use serde_cbor::de::{Deserialize, DeserializeOwned, FromParts, Read, Readable, ReadableParts};
+use serde_cbor::parts::{
+    FieldNames, Newtype, OneOf1, OneOf2, OneOf3, OneOf4, Schema, Struct, Tuple,
+};
 use serde_cbor::ser::{NamedFields, PartsDocument, Serialize, Serializer, Write};
 use serde_cbor::{Deserializer, Result};
 
@@ -50,47 +52,28 @@ impl Serialize for Color {
     }
 }
 
-impl Readable for Color {
-    ghost use Rattle.std.specs.Prelude.{[], ◌∷◌, map};
-    ghost use Rattle.serde_cbor.specs.Readable.{PassesTags};
-    ghost use Rattle.serde_cbor.specs.Enums.{IsEnum, variants, unit, newtype, tuple};
-    ghost use Rattle.serde_cbor.specs.Enums.{part_then, no_part};
-    ghost use Rattle.cbor_samples.specs.declared.enums.TheConstants.{COLOR};
-    ghost use Rattle.cbor_samples.specs.declared.enums.Color.TheVariants as color;
+impl FromParts for Color {
+    fn from_parts(from: Self::Parts) -> Color {
+        match from {
+            OneOf4::First(()) => Color::Blue,
+            OneOf4::Second(Newtype(n)) => Color::Other(n),
+            OneOf4::Third(Newtype(n)) => Color::Yellow(n),
+            OneOf4::Fourth(Tuple(parts)) => {
+                let (a, b) = parts;
+                Color::Alpha(a, b)
+            }
+        }
+    }
+}
 
-    ghost reads = { λ c. PassesTags (IsEnum c.formats (map (λ n. n.now) COLOR.now) (variants
-        (unit color.Blue
-        ∷ newtype (⟦<u64 as Readable>⟧.reads c) color.Other
-        ∷ newtype (⟦<u8 as Readable>⟧.reads c) color.Yellow
-        ∷ tuple (part_then (⟦<u64 as Readable>⟧.reads c)
-        (part_then (⟦<u8 as Readable>⟧.reads c) no_part)) (λ y. color.Alpha y.0 y.1.0)
-        ∷ []))) };
+impl Readable for Color {
+    ghost reads = { λ c r x. ⟦<<Color as Schema>::Parts as ReadableParts>⟧.reads
+        ⟦<Color as Schema>⟧.names c r (⟦<Color as Schema>⟧.parts x) };
 }
 
 impl<'de, R: Read<'de>> Deserialize<'de, R> for Color {
     fn deserialize(de: &mut Deserializer<R>) -> Result<Color> {
-        let access = de.variant(COLOR)?;
-        match access.index() {
-            0 => {
-                access.unit()?;
-                Ok(Color::Blue)
-            }
-            1 => {
-                let number = access.newtype::<u64>()?;
-                Ok(Color::Other(number))
-            }
-            2 => {
-                let number = access.newtype::<u8>()?;
-                Ok(Color::Yellow(number))
-            }
-            _ => {
-                let mut parts = access.tuple()?;
-                let first = parts.part::<u64>(0, 2)?;
-                let second = parts.part::<u8>(1, 2)?;
-                parts.end()?;
-                Ok(Color::Alpha(first, second))
-            }
-        }
+        de.read_described(COLOR)
     }
 }
 
@@ -112,6 +95,8 @@ const BAR: &[&str] = &["Empty", "Number", "Flag", "Point"];
 
 /// The named fields of its last variant.
 pub enum PointFields {}
+
+const POINT: &[&str] = &["x", "y"];
 
 impl FieldNames for PointFields {
     ghost use Rattle.std.specs.Prelude.{map};
@@ -159,90 +144,31 @@ impl Serialize for Bar {
     }
 }
 
-/// The named fields of its last variant.
-#[derive(Drop)]
-struct Point {
-    x: i64,
-    y: i64,
-}
-
-/// The names of its fields.
-const POINT: &[&str] = &["x", "y"];
-
-impl Readable for Point {
-    ghost use Rattle.std.specs.Prelude.{[], ◌∷◌, map};
-    ghost use Rattle.serde_cbor.specs.Structs.{IsStruct, field};
-    ghost use Rattle.cbor_samples.specs.declared.enums.TheConstants.{POINT};
-
-    ghost reads = { λ c. IsStruct (map (λ n. n.now) POINT.now)
-        (field (⟦<i64 as Readable>⟧.reads c) (λ p. p.x)
-        ∷ field (⟦<i64 as Readable>⟧.reads c) (λ p. p.y)
-        ∷ []) };
-}
-
-impl<'de, R: Read<'de>> Deserialize<'de, R> for Point {
-    fn deserialize(de: &mut Deserializer<R>) -> Result<Point> {
-        let mut x: Option<i64> = None;
-        let mut y: Option<i64> = None;
-        let mut access = de.structure(POINT)?;
-        'fields: while let Some(field) = access.next_field()? {
-            match field {
-                Field::Known(0) => access.once("x", &mut x)?,
-                Field::Known(1) => access.once("y", &mut y)?,
-                _ => access.skip()?,
+impl FromParts for Bar {
+    fn from_parts(from: Self::Parts) -> Bar {
+        match from {
+            OneOf4::First(()) => Bar::Empty,
+            OneOf4::Second(Newtype(n)) => Bar::Number(n),
+            OneOf4::Third(Tuple(parts)) => {
+                let (a, b) = parts;
+                Bar::Flag(a, b)
+            }
+            OneOf4::Fourth(Struct(point)) => {
+                let (x, y) = point;
+                Bar::Point { x, y }
             }
         }
-        let x = access.required("x", x)?;
-        let y = access.required("y", y)?;
-        access.end()?;
-        Ok(Point { x, y })
     }
 }
 
 impl Readable for Bar {
-    ghost use Rattle.std.specs.Prelude.{[], ◌∷◌, map};
-    ghost use Rattle.serde_cbor.specs.Readable.{PassesTags};
-    ghost use Rattle.serde_cbor.specs.Enums.{IsEnum, variants, unit, newtype, tuple};
-    ghost use Rattle.serde_cbor.specs.Enums.{part_then, no_part};
-    ghost use Rattle.cbor_samples.specs.declared.enums.TheConstants.{BAR};
-    ghost use Rattle.cbor_samples.specs.declared.enums.Bar.TheVariants as bar;
-
-    ghost reads = { λ c. PassesTags (IsEnum c.formats (map (λ n. n.now) BAR.now) (variants
-        (unit bar.Empty
-        ∷ newtype (⟦<i64 as Readable>⟧.reads c) bar.Number
-        ∷ tuple (part_then (⟦<String as Readable>⟧.reads c)
-        (part_then (⟦<bool as Readable>⟧.reads c) no_part)) (λ y. bar.Flag y.0 y.1.0)
-        ∷ newtype (⟦<Point as Readable>⟧.reads c) (λ p. bar.Point p.x p.y)
-        ∷ []))) };
+    ghost reads = { λ c r x. ⟦<<Bar as Schema>::Parts as ReadableParts>⟧.reads
+        ⟦<Bar as Schema>⟧.names c r (⟦<Bar as Schema>⟧.parts x) };
 }
 
 impl<'de, R: Read<'de>> Deserialize<'de, R> for Bar {
     fn deserialize(de: &mut Deserializer<R>) -> Result<Bar> {
-        let access = de.variant(BAR)?;
-        match access.index() {
-            0 => {
-                access.unit()?;
-                Ok(Bar::Empty)
-            }
-            1 => {
-                let number = access.newtype::<i64>()?;
-                Ok(Bar::Number(number))
-            }
-            2 => {
-                let mut parts = access.tuple()?;
-                let name = parts.part::<String>(0, 2)?;
-                let flag = parts.part::<bool>(1, 2)?;
-                parts.end()?;
-                Ok(Bar::Flag(name, flag))
-            }
-            _ => {
-                let point = access.structure::<Point>()?;
-                Ok(Bar::Point {
-                    x: point.x,
-                    y: point.y,
-                })
-            }
-        }
+        de.read_described(BAR)
     }
 }
 
@@ -254,25 +180,43 @@ impl DeserializeOwned for Bar {
 pub enum DataEnum {
     A(i32),
     B(bool, u8),
+    C { x: u8, y: String },
 }
 
 /// The names of its variants.
-const DATA: &[&str] = &["A", "B"];
+const DATA: &[&str] = &["A", "B", "C"];
+
+/// The named fields of its last variant.
+pub enum DataFields {}
+
+impl FieldNames for DataFields {
+    ghost use Rattle.std.specs.Prelude.{map};
+    ghost use Rattle.cbor_samples.specs.declared.enums.TheConstants.{POINT};
+
+    type Parts = (u8, String);
+
+    ghost names = { map (λ n. n.now) POINT.now };
+
+    fn names() -> &'static [&'static str] {
+        POINT
+    }
+}
 
 impl Schema for DataEnum {
     ghost use Rattle.std.specs.Prelude.{map};
-    ghost use Rattle.serde_cbor.specs.Schemas.{newtype, tuple};
-    ghost use Rattle.serde_cbor.specs.OneOf2 as one_of;
+    ghost use Rattle.serde_cbor.specs.Schemas.{newtype, tuple, structure};
+    ghost use Rattle.serde_cbor.specs.OneOf3 as one_of;
     ghost use Rattle.cbor_samples.specs.declared.enums.DataEnum.TheVariants as at;
     ghost use Rattle.cbor_samples.specs.declared.enums.TheConstants.{DATA};
 
-    type Parts = OneOf2<Newtype<i32>, Tuple<(bool, u8)>>;
+    type Parts = OneOf3<Newtype<i32>, Tuple<(bool, u8)>, Struct<DataFields>>;
 
     ghost names = { map (λ n. n.now) DATA.now };
 
     ghost parts = { elim [
       | at.A n ↦ one_of.first (newtype n)
       | at.B a b ↦ one_of.second (tuple (a, b))
+      | at.C x y ↦ one_of.third (structure (x, y))
     ] };
 }
 
@@ -284,41 +228,35 @@ impl Serialize for DataEnum {
         match self {
             DataEnum::A(n) => ser.serialize_variant(DATA, 0, &Newtype(n)),
             DataEnum::B(a, b) => ser.serialize_variant(DATA, 1, &Tuple((a, b))),
+            DataEnum::C { x, y } => ser.serialize_variant(DATA, 2, &NamedFields(POINT, (x, y))),
+        }
+    }
+}
+
+impl FromParts for DataEnum {
+    fn from_parts(from: Self::Parts) -> DataEnum {
+        match from {
+            OneOf3::First(Newtype(n)) => DataEnum::A(n),
+            OneOf3::Second(Tuple(parts)) => {
+                let (a, b) = parts;
+                DataEnum::B(a, b)
+            }
+            OneOf3::Third(Struct(fields)) => {
+                let (x, y) = fields;
+                DataEnum::C { x, y }
+            }
         }
     }
 }
 
 impl Readable for DataEnum {
-    ghost use Rattle.std.specs.Prelude.{[], ◌∷◌, map};
-    ghost use Rattle.serde_cbor.specs.Readable.{PassesTags};
-    ghost use Rattle.serde_cbor.specs.Enums.{IsEnum, variants, newtype, tuple};
-    ghost use Rattle.serde_cbor.specs.Enums.{part_then, no_part};
-    ghost use Rattle.cbor_samples.specs.declared.enums.TheConstants.{DATA};
-    ghost use Rattle.cbor_samples.specs.declared.enums.DataEnum.TheVariants as data_enum;
-
-    ghost reads = { λ c. PassesTags (IsEnum c.formats (map (λ n. n.now) DATA.now) (variants
-        (newtype (⟦<i32 as Readable>⟧.reads c) data_enum.A
-        ∷ tuple (part_then (⟦<bool as Readable>⟧.reads c)
-        (part_then (⟦<u8 as Readable>⟧.reads c) no_part)) (λ y. data_enum.B y.0 y.1.0)
-        ∷ []))) };
+    ghost reads = { λ c r x. ⟦<<DataEnum as Schema>::Parts as ReadableParts>⟧.reads
+        ⟦<DataEnum as Schema>⟧.names c r (⟦<DataEnum as Schema>⟧.parts x) };
 }
 
 impl<'de, R: Read<'de>> Deserialize<'de, R> for DataEnum {
     fn deserialize(de: &mut Deserializer<R>) -> Result<DataEnum> {
-        let access = de.variant(DATA)?;
-        match access.index() {
-            0 => {
-                let number = access.newtype::<i32>()?;
-                Ok(DataEnum::A(number))
-            }
-            _ => {
-                let mut parts = access.tuple()?;
-                let on = parts.part::<bool>(0, 2)?;
-                let number = parts.part::<u8>(1, 2)?;
-                parts.end()?;
-                Ok(DataEnum::B(on, number))
-            }
-        }
+        de.read_described(DATA)
     }
 }
 
@@ -364,32 +302,23 @@ impl Serialize for TwoVariants {
     }
 }
 
-impl Readable for TwoVariants {
-    ghost use Rattle.std.specs.Prelude.{[], ◌∷◌, map};
-    ghost use Rattle.serde_cbor.specs.Readable.{PassesTags};
-    ghost use Rattle.serde_cbor.specs.Enums.{IsEnum, variants, unit, newtype};
-    ghost use Rattle.cbor_samples.specs.declared.enums.TheConstants.{TWO};
-    ghost use Rattle.cbor_samples.specs.declared.enums.TwoVariants.TheVariants as two;
+impl FromParts for TwoVariants {
+    fn from_parts(from: Self::Parts) -> TwoVariants {
+        match from {
+            OneOf2::First(()) => TwoVariants::FirstVariant,
+            OneOf2::Second(Newtype(n)) => TwoVariants::SecondVariant(n),
+        }
+    }
+}
 
-    ghost reads = { λ c. PassesTags (IsEnum c.formats (map (λ n. n.now) TWO.now) (variants
-        (unit two.FirstVariant
-        ∷ newtype (⟦<u8 as Readable>⟧.reads c) two.SecondVariant
-        ∷ []))) };
+impl Readable for TwoVariants {
+    ghost reads = { λ c r x. ⟦<<TwoVariants as Schema>::Parts as ReadableParts>⟧.reads
+        ⟦<TwoVariants as Schema>⟧.names c r (⟦<TwoVariants as Schema>⟧.parts x) };
 }
 
 impl<'de, R: Read<'de>> Deserialize<'de, R> for TwoVariants {
     fn deserialize(de: &mut Deserializer<R>) -> Result<TwoVariants> {
-        let access = de.variant(TWO)?;
-        match access.index() {
-            0 => {
-                access.unit()?;
-                Ok(TwoVariants::FirstVariant)
-            }
-            _ => {
-                let number = access.newtype::<u8>()?;
-                Ok(TwoVariants::SecondVariant(number))
-            }
-        }
+        de.read_described(TWO)
     }
 }
 
@@ -432,22 +361,22 @@ impl Serialize for Wish {
     }
 }
 
-impl Readable for Wish {
-    ghost use Rattle.std.specs.Prelude.{[], ◌∷◌, map};
-    ghost use Rattle.serde_cbor.specs.Readable.{PassesTags};
-    ghost use Rattle.serde_cbor.specs.Enums.{IsEnum, variants, unit};
-    ghost use Rattle.cbor_samples.specs.declared.enums.TheConstants.{WISH};
-    ghost use Rattle.cbor_samples.specs.declared.enums.Wish.TheVariants as wish;
+impl FromParts for Wish {
+    fn from_parts(from: Self::Parts) -> Wish {
+        match from {
+            OneOf1::First(()) => Wish::Require,
+        }
+    }
+}
 
-    ghost reads = { λ c. PassesTags (IsEnum c.formats (map (λ n. n.now) WISH.now) (variants
-        (unit wish.Require ∷ []))) };
+impl Readable for Wish {
+    ghost reads = { λ c r x. ⟦<<Wish as Schema>::Parts as ReadableParts>⟧.reads
+        ⟦<Wish as Schema>⟧.names c r (⟦<Wish as Schema>⟧.parts x) };
 }
 
 impl<'de, R: Read<'de>> Deserialize<'de, R> for Wish {
     fn deserialize(de: &mut Deserializer<R>) -> Result<Wish> {
-        let access = de.variant(WISH)?;
-        access.unit()?;
-        Ok(Wish::Require)
+        de.read_described(WISH)
     }
 }
 

@@ -1,7 +1,9 @@
-//! Types as a user of `serde_cbor` writes them, each with the proofs that it takes.
+//! Types as a user of `serde_cbor` writes them.
 #![tactic(auto)]
 
 pub mod choice;
 pub mod counter;
 pub mod enums;
+pub mod letters;
 pub mod structs;
+pub mod wraps;

@@ -3,7 +3,7 @@
 ghost use Rattle.std.specs.Prelude.{codes};
 
 use crate::enums::Color;
-use serde_cbor::de::{Deserialize, DeserializeOwned, Field, Read, Readable};
+use serde_cbor::de::{Deserialize, DeserializeOwned, FromParts, Read, Readable, ReadableParts};
 use serde_cbor::parts::Schema;
 use serde_cbor::ser::{PartsDocument, Serialize, Serializer, Write};
 use serde_cbor::{Deserializer, Result};
@@ -38,35 +38,23 @@ impl Serialize for User {
     }
 }
 
-impl Readable for User {
-    ghost use Rattle.std.specs.Prelude.{[], ◌∷◌, map};
-    ghost use Rattle.serde_cbor.specs.Structs.{IsStruct, field};
-    ghost use Rattle.cbor_samples.specs.declared.structs.TheConstants.{USER};
+impl FromParts for User {
+    fn from_parts((user_id, password_hash): Self::Parts) -> User {
+        User {
+            user_id,
+            password_hash,
+        }
+    }
+}
 
-    ghost reads = { λ c. IsStruct (map (λ n. n.now) USER.now)
-        (field (⟦<u32 as Readable>⟧.reads c) (λ u. u.user_id)
-        ∷ field (⟦<[u8; 4] as Readable>⟧.reads c) (λ u. u.password_hash) ∷ []) };
+impl Readable for User {
+    ghost reads = { λ c r x. ⟦<<User as Schema>::Parts as ReadableParts>⟧.reads
+        ⟦<User as Schema>⟧.names c r (⟦<User as Schema>⟧.parts x) };
 }
 
 impl<'de, R: Read<'de>> Deserialize<'de, R> for User {
     fn deserialize(de: &mut Deserializer<R>) -> Result<User> {
-        let mut user_id: Option<u32> = None;
-        let mut password_hash: Option<[u8; 4]> = None;
-        let mut access = de.structure(USER)?;
-        'fields: while let Some(field) = access.next_field()? {
-            match field {
-                Field::Known(0) => access.once("user_id", &mut user_id)?,
-                Field::Known(1) => access.once("password_hash", &mut password_hash)?,
-                _ => access.skip()?,
-            }
-        }
-        let user_id = access.required("user_id", user_id)?;
-        let password_hash = access.required("password_hash", password_hash)?;
-        access.end()?;
-        Ok(User {
-            user_id,
-            password_hash,
-        })
+        de.read_described(USER)
     }
 }
 
@@ -81,50 +69,43 @@ pub struct SmallStruct {
     pub eggs: u32,
 }
 
-impl Serialize for SmallStruct {
-    ghost use Rattle.serde_cbor.specs.Document.{structure, field, no_fields};
-
-    ghost document = { λ s. structure (field 0 (codes "spam") (⟦<u32 as Serialize>⟧.document s.spam)
-        (field 1 (codes "eggs") (⟦<u32 as Serialize>⟧.document s.eggs) no_fields)) };
-
-    fn serialize<W: Write>(&self, ser: &mut Serializer<W>) -> Result<()> {
-        let mut fields = ser.serialize_struct("SmallStruct", 2)?;
-        fields.serialize_field("spam", &self.spam)?;
-        fields.serialize_field("eggs", &self.eggs)?;
-        fields.end()
-    }
-}
-
 /// The names of its fields.
 const SMALL: &[&str] = &["spam", "eggs"];
 
-impl Readable for SmallStruct {
-    ghost use Rattle.std.specs.Prelude.{[], ◌∷◌, map};
-    ghost use Rattle.serde_cbor.specs.Structs.{IsStruct, field};
+impl Schema for SmallStruct {
+    ghost use Rattle.std.specs.Prelude.{map};
     ghost use Rattle.cbor_samples.specs.declared.structs.TheConstants.{SMALL};
 
-    ghost reads = { λ c. IsStruct (map (λ n. n.now) SMALL.now)
-        (field (⟦<u32 as Readable>⟧.reads c) (λ s. s.spam)
-        ∷ field (⟦<u32 as Readable>⟧.reads c) (λ s. s.eggs)
-        ∷ []) };
+    type Parts = (u32, u32);
+
+    ghost names = { map (λ n. n.now) SMALL.now };
+
+    ghost parts = { λ s. (s.spam, s.eggs) };
+}
+
+impl Serialize for SmallStruct {
+    ghost document = { λ x. ⟦<<SmallStruct as Schema>::Parts as PartsDocument>⟧.document
+        ⟦<SmallStruct as Schema>⟧.names (⟦<SmallStruct as Schema>⟧.parts x) };
+
+    fn serialize<W: Write>(&self, ser: &mut Serializer<W>) -> Result<()> {
+        ser.serialize_fields(SMALL, &(&self.spam, &self.eggs))
+    }
+}
+
+impl FromParts for SmallStruct {
+    fn from_parts((spam, eggs): Self::Parts) -> SmallStruct {
+        SmallStruct { spam, eggs }
+    }
+}
+
+impl Readable for SmallStruct {
+    ghost reads = { λ c r x. ⟦<<SmallStruct as Schema>::Parts as ReadableParts>⟧.reads
+        ⟦<SmallStruct as Schema>⟧.names c r (⟦<SmallStruct as Schema>⟧.parts x) };
 }
 
 impl<'de, R: Read<'de>> Deserialize<'de, R> for SmallStruct {
     fn deserialize(de: &mut Deserializer<R>) -> Result<SmallStruct> {
-        let mut spam: Option<u32> = None;
-        let mut eggs: Option<u32> = None;
-        let mut access = de.structure(SMALL)?;
-        'fields: while let Some(field) = access.next_field()? {
-            match field {
-                Field::Known(0) => access.once("spam", &mut spam)?,
-                Field::Known(1) => access.once("eggs", &mut eggs)?,
-                _ => access.skip()?,
-            }
-        }
-        let spam = access.required("spam", spam)?;
-        let eggs = access.required("eggs", eggs)?;
-        access.end()?;
-        Ok(SmallStruct { spam, eggs })
+        de.read_described(SMALL)
     }
 }
 
@@ -186,33 +167,20 @@ impl Serialize for Foo {
     }
 }
 
-impl Readable for Foo {
-    ghost use Rattle.std.specs.Prelude.{[], ◌∷◌, map};
-    ghost use Rattle.serde_cbor.specs.Structs.{IsStruct, field};
-    ghost use Rattle.cbor_samples.specs.declared.structs.TheConstants.{FOO};
+impl FromParts for Foo {
+    fn from_parts((x, color): Self::Parts) -> Foo {
+        Foo { x, color }
+    }
+}
 
-    ghost reads = { λ c. IsStruct (map (λ n. n.now) FOO.now)
-        (field (⟦<u8 as Readable>⟧.reads c) (λ f. f.x)
-        ∷ field (⟦<Color as Readable>⟧.reads c) (λ f. f.color)
-        ∷ []) };
+impl Readable for Foo {
+    ghost reads = { λ c r x. ⟦<<Foo as Schema>::Parts as ReadableParts>⟧.reads
+        ⟦<Foo as Schema>⟧.names c r (⟦<Foo as Schema>⟧.parts x) };
 }
 
 impl<'de, R: Read<'de>> Deserialize<'de, R> for Foo {
     fn deserialize(de: &mut Deserializer<R>) -> Result<Foo> {
-        let mut x: Option<u8> = None;
-        let mut color: Option<Color> = None;
-        let mut access = de.structure(FOO)?;
-        'fields: while let Some(field) = access.next_field()? {
-            match field {
-                Field::Known(0) => access.once("x", &mut x)?,
-                Field::Known(1) => access.once("color", &mut color)?,
-                _ => access.skip()?,
-            }
-        }
-        let x = access.required("x", x)?;
-        let color = access.required("color", color)?;
-        access.end()?;
-        Ok(Foo { x, color })
+        de.read_described(FOO)
     }
 }
 
@@ -249,33 +217,20 @@ impl Serialize for Example {
     }
 }
 
-impl Readable for Example {
-    ghost use Rattle.std.specs.Prelude.{[], ◌∷◌, map};
-    ghost use Rattle.serde_cbor.specs.Structs.{IsStruct, field};
-    ghost use Rattle.cbor_samples.specs.declared.structs.TheConstants.{EXAMPLE};
+impl FromParts for Example {
+    fn from_parts((foo, payload): Self::Parts) -> Example {
+        Example { foo, payload }
+    }
+}
 
-    ghost reads = { λ c. IsStruct (map (λ n. n.now) EXAMPLE.now)
-        (field (⟦<Foo as Readable>⟧.reads c) (λ e. e.foo)
-        ∷ field (⟦<u8 as Readable>⟧.reads c) (λ e. e.payload)
-        ∷ []) };
+impl Readable for Example {
+    ghost reads = { λ c r x. ⟦<<Example as Schema>::Parts as ReadableParts>⟧.reads
+        ⟦<Example as Schema>⟧.names c r (⟦<Example as Schema>⟧.parts x) };
 }
 
 impl<'de, R: Read<'de>> Deserialize<'de, R> for Example {
     fn deserialize(de: &mut Deserializer<R>) -> Result<Example> {
-        let mut foo: Option<Foo> = None;
-        let mut payload: Option<u8> = None;
-        let mut access = de.structure(EXAMPLE)?;
-        'fields: while let Some(field) = access.next_field()? {
-            match field {
-                Field::Known(0) => access.once("foo", &mut foo)?,
-                Field::Known(1) => access.once("payload", &mut payload)?,
-                _ => access.skip()?,
-            }
-        }
-        let foo = access.required("foo", foo)?;
-        let payload = access.required("payload", payload)?;
-        access.end()?;
-        Ok(Example { foo, payload })
+        de.read_described(EXAMPLE)
     }
 }
 
@@ -340,41 +295,24 @@ impl Serialize for Mascot {
     }
 }
 
-impl Readable for Mascot {
-    ghost use Rattle.std.specs.Prelude.{[], ◌∷◌, map};
-    ghost use Rattle.serde_cbor.specs.Structs.{IsStruct, field};
-    ghost use Rattle.cbor_samples.specs.declared.structs.TheConstants.{MASCOT};
+impl FromParts for Mascot {
+    fn from_parts((name, species, year_of_birth): Self::Parts) -> Mascot {
+        Mascot {
+            name,
+            species,
+            year_of_birth,
+        }
+    }
+}
 
-    ghost reads = { λ c. IsStruct (map (λ n. n.now) MASCOT.now)
-        (field (⟦<String as Readable>⟧.reads c) (λ m. m.name)
-        ∷ field (⟦<String as Readable>⟧.reads c) (λ m. m.species)
-        ∷ field (⟦<u32 as Readable>⟧.reads c) (λ m. m.year_of_birth)
-        ∷ []) };
+impl Readable for Mascot {
+    ghost reads = { λ c r x. ⟦<<Mascot as Schema>::Parts as ReadableParts>⟧.reads
+        ⟦<Mascot as Schema>⟧.names c r (⟦<Mascot as Schema>⟧.parts x) };
 }
 
 impl<'de, R: Read<'de>> Deserialize<'de, R> for Mascot {
     fn deserialize(de: &mut Deserializer<R>) -> Result<Mascot> {
-        let mut name: Option<String> = None;
-        let mut species: Option<String> = None;
-        let mut year_of_birth: Option<u32> = None;
-        let mut access = de.structure(MASCOT)?;
-        'fields: while let Some(field) = access.next_field()? {
-            match field {
-                Field::Known(0) => access.once("name", &mut name)?,
-                Field::Known(1) => access.once("species", &mut species)?,
-                Field::Known(2) => access.once("year_of_birth", &mut year_of_birth)?,
-                _ => access.skip()?,
-            }
-        }
-        let name = access.required("name", name)?;
-        let species = access.required("species", species)?;
-        let year_of_birth = access.required("year_of_birth", year_of_birth)?;
-        access.end()?;
-        Ok(Mascot {
-            name,
-            species,
-            year_of_birth,
-        })
+        de.read_described(MASCOT)
     }
 }
 
@@ -412,41 +350,24 @@ impl Serialize for Person {
     }
 }
 
-impl Readable for Person {
-    ghost use Rattle.std.specs.Prelude.{[], ◌∷◌, map};
-    ghost use Rattle.serde_cbor.specs.Structs.{IsStruct, field};
-    ghost use Rattle.cbor_samples.specs.declared.structs.TheConstants.{PERSON};
+impl FromParts for Person {
+    fn from_parts((name, year_of_birth, profession): Self::Parts) -> Person {
+        Person {
+            name,
+            year_of_birth,
+            profession,
+        }
+    }
+}
 
-    ghost reads = { λ c. IsStruct (map (λ n. n.now) PERSON.now)
-        (field (⟦<String as Readable>⟧.reads c) (λ p. p.name)
-        ∷ field (⟦<u16 as Readable>⟧.reads c) (λ p. p.year_of_birth)
-        ∷ field (⟦<Option<String> as Readable>⟧.reads c) (λ p. p.profession)
-        ∷ []) };
+impl Readable for Person {
+    ghost reads = { λ c r x. ⟦<<Person as Schema>::Parts as ReadableParts>⟧.reads
+        ⟦<Person as Schema>⟧.names c r (⟦<Person as Schema>⟧.parts x) };
 }
 
 impl<'de, R: Read<'de>> Deserialize<'de, R> for Person {
     fn deserialize(de: &mut Deserializer<R>) -> Result<Person> {
-        let mut name: Option<String> = None;
-        let mut year_of_birth: Option<u16> = None;
-        let mut profession: Option<Option<String>> = None;
-        let mut access = de.structure(PERSON)?;
-        'fields: while let Some(field) = access.next_field()? {
-            match field {
-                Field::Known(0) => access.once("name", &mut name)?,
-                Field::Known(1) => access.once("year_of_birth", &mut year_of_birth)?,
-                Field::Known(2) => access.once("profession", &mut profession)?,
-                _ => access.skip()?,
-            }
-        }
-        let name = access.required("name", name)?;
-        let year_of_birth = access.required("year_of_birth", year_of_birth)?;
-        let profession = access.required("profession", profession)?;
-        access.end()?;
-        Ok(Person {
-            name,
-            year_of_birth,
-            profession,
-        })
+        de.read_described(PERSON)
     }
 }
 

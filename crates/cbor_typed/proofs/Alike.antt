@@ -1,7 +1,6 @@
 -- Readings of one input answer alike.
 use Rattle.std.proofs.Common.{◌≡◌, ◌^◌, ◌<◌, ◌⊎◌, ℕ, List, [], length, Option, Some, None, Result, Ok}
-use Rattle.std.proofs.Common.{Err, IfOk, IfErr, refl, sym, ap, ◌∙◌, subst, inl, inr}
-use Rattle.std.specs.Prelude.{⊤}
+use Rattle.std.proofs.Common.{Err, IfOk, IfErr, sym, ap, ◌∙◌, subst, inl, inr}
 use Rattle.std.proofs.lemmas.List.{append-nil}
 use Rattle.cbor_model.specs.Allowed.{limits_of}
 use Rattle.cbor_model.specs.Formats.{Formats, all_formats}
@@ -13,8 +12,8 @@ use Rattle.cbor_model.specs.Value.{value}
 use Rattle.cbor_model.proofs.facts.Laws.{one_spelling}
 use Rattle.cbor_model.proofs.facts.Refusals.{spelled_allows_none}
 use Rattle.cbor_io.specs.declared.error.Error.{Error}
-use Rattle.cbor_io.specs.declared.error.ErrorCode.TheVariants.{OutOfMemory, ScratchTooSmall}
-use Rattle.cbor_io.specs.Error.{code_of, offset_of, IsOutOfMemory}
+use Rattle.cbor_io.specs.declared.error.ErrorCode.TheVariants.{ScratchTooSmall}
+use Rattle.cbor_io.specs.Error.{code_of, IsOutOfMemory}
 use Rattle.cbor_value.specs.View.{view}
 use Rattle.cbor_value.specs.declared.Value.{Value}
 use Rattle.cbor_de.specs.FirstRefusal.{TellsFirst}
@@ -23,7 +22,7 @@ use Rattle.cbor_de.proofs.facts.FirstRefusal.{same_error, without_scratch}
 use Rattle.cbor_read.specs.Source.{Lends}
 use Rattle.cbor_scalars.specs.Takes.{lending}
 use Rattle.cbor_typed.specs.Alike.{IsReading, IsOfSource, AreAlike, SourcesAgree}
-use Rattle.cbor_typed.specs.Alike.{IsReadingAs, IsReadAsBoth, AgreeAs, OwnedAgree}
+use Rattle.cbor_typed.specs.Alike.{IsReadAsBoth, OwnedAgree}
 use Rattle.cbor_typed.proofs.Values.{spelled_value}
 
 -- ---- what the calls answer

@@ -1,5 +1,5 @@
 -- What byte strings are read as.
-use Rattle.std.proofs.Common.{◌≡◌, ℕ, Bool, List, length, Result, Ok, Err, ap, sym, subst, ◌∙◌}
+use Rattle.std.proofs.Common.{ℕ, Bool, List, length, Result, Ok, Err, ap, sym, subst, ◌∙◌}
 use Rattle.cbor_bytes.specs.declared.ByteArray.{ByteArray}
 use Rattle.cbor_model.specs.Formats.{Formats}
 use Rattle.cbor_model.specs.Raw.{Raw}

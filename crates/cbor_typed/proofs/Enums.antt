@@ -123,7 +123,7 @@ module _ {A : Type 0} (items : Raws → A → Type 0) where
   array_read (raw.float w bits) rs y is h = absurd h
 
   -- the parts are its items
-  items_read : (c : Content) (rs : Raws) (y : A) → IsItemsOf c rs → AreParts items c y → items rs y
+  pub items_read : (c : Content) (rs : Raws) (y : A) → IsItemsOf c rs → AreParts items c y → items rs y
   items_read alone rs y is h = absurd h
   items_read (one r) rs y is h = array_read (untagged r) rs y is h
   items_read (parts qs) rs y is h = subst (λ (rs : Raws). items rs y) is h
@@ -141,7 +141,7 @@ module _ {A : Type 0} (items : Raws → A → Type 0) where
   array_made (raw.simple s) rs y is h = absurd is
   array_made (raw.float w bits) rs y is h = absurd is
 
-  items_made : (c : Content) (rs : Raws) (y : A) → IsItemsOf c rs → items rs y → AreParts items c y
+  pub items_made : (c : Content) (rs : Raws) (y : A) → IsItemsOf c rs → items rs y → AreParts items c y
   items_made alone rs y is h = absurd is
   items_made (one r) rs y is h = array_made (untagged r) rs y is h
   items_made (parts qs) rs y is h = subst (λ (rs : Raws). items rs y) (sym is) h

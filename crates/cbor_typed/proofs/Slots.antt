@@ -5,9 +5,11 @@ use Rattle.cbor_model.specs.Raw as raw
 use Rattle.cbor_model.specs.Raw.{Raw, RawPairs, no_raw_pairs, raw_pair}
 use Rattle.cbor_model.specs.Readable.{untagged, IsString}
 use Rattle.cbor_scalars.specs.Identifiers.{IsFirst, IsPlace, IsIdentifier}
-use Rattle.cbor_typed.specs.Structs.{IsAny, IsField, AreFields, Absent, Once, IsFieldRead, FieldOf, HasFields, AreFieldsOf}
+use Rattle.cbor_typed.specs.Structs.{IsAny, IsField, AreFields, Absent, Once, IsFieldRead, IfAbsent, refused, taken, IsFieldOr, FieldOf, HasFields, AreFieldsOf}
 use Rattle.cbor_typed.specs.declared.structure.Field.{Field}
 use Rattle.cbor_typed.specs.declared.structure.Field.TheVariants.{Known, Unknown}
+pub use Rattle.cbor_typed.specs.Fields.{Slots, none_yet, all_of, AreHeld}
+use Rattle.cbor_typed.specs.Fields.{IsHeld, Lacks}
 use Rattle.cbor_collections.proofs.facts.Maps.{append_pairs, PairMayFollow}
 
 -- ---- a key names one field
@@ -145,6 +147,22 @@ module _ (names : List (List ℕ)) where
       slot_value front a b rs None y none k h all = subst (λ (r : Raw). reads r y) (sym (its_value front a b all.0 rs h k all.1)) all.2
       slot_value front a b rs (Some x) y none k h all = absurd cc
 
+      -- a field whose key is there is read
+      is_there : (front : List (Raw × Raw)) (a b : Raw) (rs : RawPairs) (missing : IfAbsent A) (y : A) → Names a → IsFieldOr missing names i reads (behind front a b rs) y → IsFieldRead names i reads (behind front a b rs) y
+      is_there front a b rs refused y k h = h
+      is_there front a b rs (taken z) y k (inl h) = h
+      is_there front a b rs (taken z) y k (inr h) = absurd (absent_rest front a b rs k h.0)
+
+      slot_lacks : (rs : RawPairs) (missing : IfAbsent A) (o : Option A) (y : A) → Lacks missing o → Slot o rs → IsFieldOr missing names i reads rs y → ⊥
+      slot_lacks rs refused o y lacks h all = slot_missing rs o y lacks h all
+      slot_lacks rs (taken z) o y lacks h all = lacks
+
+      slot_all : (rs : RawPairs) (missing : IfAbsent A) (o : Option A) (y : A) → IsHeld o missing y → Slot o rs → IsFieldOr missing names i reads rs y
+      slot_all rs refused None y is h = absurd is
+      slot_all rs (taken z) None y is h = inr (h, is)
+      slot_all rs refused (Some x) y is h = subst (λ (y : A). IsFieldRead names i reads rs y) is h
+      slot_all rs (taken z) (Some x) y is h = inl (subst (λ (y : A). IsFieldRead names i reads rs y) is h)
+
 known_one : (i j : ℕ) → Known i ≡ Known j → i ≡ j
 known_one i j e = cc
 
@@ -176,26 +194,17 @@ module _ (names : List (List ℕ)) where
 -- ---- all fields
 
 module _ {S : Type 0} where
-  -- what is known of each field
-  abbrev pub Slots : List (FieldOf S) → Type 0
-  Slots [] = Unit {0}
-  Slots (d ∷ fields) = Option d.Value × Slots fields
-
-  -- no field was read
-  abbrev pub none_yet : (fields : List (FieldOf S)) → Slots fields
-  none_yet [] = tt
-  none_yet (d ∷ fields) = (None, none_yet fields)
-
-  -- each field was read as its part of the struct
-  abbrev pub all_of : (fields : List (FieldOf S)) → S → Slots fields
-  all_of [] x = tt
-  all_of (d ∷ fields) x = (Some (d.of x), all_of fields x)
-
   -- whether the i-th field was read
   abbrev pub Has : Bool → (fields : List (FieldOf S)) → ℕ → Slots fields → Type 0
   Has b [] i slots = ⊥
   Has b (d ∷ fields) zero slots = is_some slots.0 ≡ b
   Has b (d ∷ fields) (suc i) slots = Has b fields i slots.1
+
+  -- the i-th field wasn't read, and may not be absent
+  abbrev pub LacksAt : (fields : List (FieldOf S)) → ℕ → Slots fields → Type 0
+  LacksAt [] i slots = ⊥
+  LacksAt (d ∷ fields) zero slots = Lacks d.missing slots.0
+  LacksAt (d ∷ fields) (suc i) slots = LacksAt fields i slots.1
 
   abbrev pub ValueAt : List (FieldOf S) → ℕ → Type 0
   ValueAt [] i = ⊥
@@ -223,6 +232,14 @@ module _ {S : Type 0} where
   filled [] i v slots = refl
   filled (d ∷ fields) zero v slots = refl
   filled (d ∷ fields) (suc i) v slots = ap (λ (rest : Slots fields). (slots.0, rest)) (filled fields i v slots.1)
+
+  -- each field was read
+  read_held : (fields : List (FieldOf S)) (x : S) → AreHeld fields (all_of fields x) x
+  read_held [] x = tt
+  read_held (d ∷ fields) x = (refl, read_held fields x)
+
+  pub all_held : (fields : List (FieldOf S)) (slots : Slots fields) (x : S) → slots ≡ all_of fields x → AreHeld fields slots x
+  all_held fields slots x is = subst (λ (slots : Slots fields). AreHeld fields slots x) (sym is) (read_held fields x)
 
   -- none of the fields, from the k-th on
   abbrev pub IsOther : ℕ → List (FieldOf S) → Field → Type 0
@@ -269,7 +286,8 @@ module _ {S : Type 0} where
         hold_twice k i j [] slots at some key h all = some
         hold_twice k zero j (d ∷ fields) slots at some key h all =
             let here : j ≡ k = omega (arith, at) in
-            slot_twice names k d.reads front a b rs slots.0 (d.of x) some (subst (λ (j : ℕ). IsField names a (Known j)) here key) h.0 all.0
+            let k_here = subst (λ (j : ℕ). IsField names a (Known j)) here key in
+            slot_twice names k d.reads front a b rs slots.0 (d.of x) some k_here h.0 (is_there names k d.reads front a b rs d.missing (d.of x) k_here all.0)
         hold_twice k (suc i) j (d ∷ fields) slots at some key h all = hold_twice (suc k) i j fields slots.1 (omega (arith, at)) some key h.1 all.1
 
         hold_value : (k i j : ℕ) (fields : List (FieldOf S)) (slots : Slots fields) → j ≡ k + i → Has false fields i slots → IsField names a (Known j)
@@ -277,17 +295,18 @@ module _ {S : Type 0} where
         hold_value k i j [] slots at none key h all = absurd none
         hold_value k zero j (d ∷ fields) slots at none key h all =
             let here : j ≡ k = omega (arith, at) in
-            (d.of x, slot_value names k d.reads front a b rs slots.0 (d.of x) none (subst (λ (j : ℕ). IsField names a (Known j)) here key) h.0 all.0)
+            let k_here = subst (λ (j : ℕ). IsField names a (Known j)) here key in
+            (d.of x, slot_value names k d.reads front a b rs slots.0 (d.of x) none k_here h.0 (is_there names k d.reads front a b rs d.missing (d.of x) k_here all.0))
         hold_value k (suc i) j (d ∷ fields) slots at none key h all = hold_value (suc k) i j fields slots.1 (omega (arith, at)) none key h.1 all.1
 
-    hold_missing : (rs : RawPairs) (x : S) (k i : ℕ) (fields : List (FieldOf S)) (slots : Slots fields) → Has false fields i slots → Hold k fields slots rs → HasFields names k fields rs x → ⊥
+    hold_missing : (rs : RawPairs) (x : S) (k i : ℕ) (fields : List (FieldOf S)) (slots : Slots fields) → LacksAt fields i slots → Hold k fields slots rs → HasFields names k fields rs x → ⊥
     hold_missing rs x k i [] slots none h all = none
-    hold_missing rs x k zero (d ∷ fields) slots none h all = slot_missing names k d.reads rs slots.0 (d.of x) none h.0 all.0
+    hold_missing rs x k zero (d ∷ fields) slots none h all = slot_lacks names k d.reads rs d.missing slots.0 (d.of x) none h.0 all.0
     hold_missing rs x k (suc i) (d ∷ fields) slots none h all = hold_missing rs x (suc k) i fields slots.1 none h.1 all.1
 
-    hold_all : (rs : RawPairs) (x : S) (k : ℕ) (fields : List (FieldOf S)) → Hold k fields (all_of fields x) rs → HasFields names k fields rs x
-    hold_all rs x k [] h = tt
-    hold_all rs x k (d ∷ fields) h = (h.0, hold_all rs x (suc k) fields h.1)
+    hold_all : (rs : RawPairs) (x : S) (k : ℕ) (fields : List (FieldOf S)) (slots : Slots fields) → AreHeld fields slots x → Hold k fields slots rs → HasFields names k fields rs x
+    hold_all rs x k [] slots is h = tt
+    hold_all rs x k (d ∷ fields) slots is h = (slot_all names k d.reads rs d.missing slots.0 (d.of x) is.0 h.0, hold_all rs x (suc k) fields slots.1 is.1 h.1)
 
     -- ---- the pairs so far
 
@@ -319,13 +338,13 @@ module _ {S : Type 0} where
         pub gathered_value : (i : ℕ) (rs : RawPairs) (x : S) → Has false fields i slots → Gathered slots front → IsField names a (Known i) → AreFieldsOf names fields (behind names front a b rs) x → (v : ValueAt fields i) × reads_at fields i b v
         gathered_value i rs x none h key all = hold_value front a b rs x 0 i i fields slots (omega arith) none key h.hold all.read
 
-      pub gathered_missing : (slots : Slots fields) (front : List (Raw × Raw)) (i : ℕ) (x : S) → Has false fields i slots → Gathered slots front → AreFieldsOf names fields (whole names front) x → ⊥
+      pub gathered_missing : (slots : Slots fields) (front : List (Raw × Raw)) (i : ℕ) (x : S) → LacksAt fields i slots → Gathered slots front → AreFieldsOf names fields (whole names front) x → ⊥
       gathered_missing slots front i x none h all = hold_missing (whole names front) x 0 i fields slots none h.hold all.read
 
-      pub gathered_all : (slots : Slots fields) (front : List (Raw × Raw)) (x : S) → slots ≡ all_of fields x → Gathered slots front → AreFieldsOf names fields (whole names front) x
+      pub gathered_all : (slots : Slots fields) (front : List (Raw × Raw)) (x : S) → AreHeld fields slots x → Gathered slots front → AreFieldsOf names fields (whole names front) x
       gathered_all slots front x is h = record {
         keys = h.keys;
-        read = hold_all (whole names front) x 0 fields (subst (λ (slots : Slots fields). Hold 0 fields slots (whole names front)) is h.hold);
+        read = hold_all (whole names front) x 0 fields slots is h.hold;
       }
 
       pub gathered_follows : (slots : Slots fields) (front : List (Raw × Raw)) (more : RawPairs) (x : S) → Gathered slots front → AreFieldsOf names fields (append_pairs front more) x → PairMayFollow (IsField names) IsAny more

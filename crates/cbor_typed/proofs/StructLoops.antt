@@ -22,7 +22,7 @@ use Rattle.cbor_typed.specs.declared.structure.Field.{Field}
 use Rattle.cbor_typed.specs.declared.structure.Field.TheVariants.{Known, Unknown}
 use Rattle.cbor_typed.specs.declared.structure.StructAccess.{StructAccess}
 use Rattle.cbor_collections.proofs.facts.Maps.{NoKey}
-use Rattle.cbor_typed.proofs.Slots.{Slots, none_yet, all_of, Has, ValueAt, reads_at, fill, IsOther}
+use Rattle.cbor_typed.proofs.Slots.{Slots, none_yet, all_of, Has, LacksAt, ValueAt, reads_at, fill, IsOther}
 use Rattle.cbor_typed.proofs.Structs.{StructSoFar, NoStruct, struct_begins, no_struct, no_field_named, FieldNamed, field_named, field_once, field_not_once, other_passed, other_unread, field_missing, end_unread, struct_read}
 
 -- ---- which field is meant
@@ -214,7 +214,7 @@ module _ {S : Type 0} {R : Type 0} {names : List (List ℕ)} {fields : List (Fie
 
   module _ (d : FieldsEnded names fields source de begun now slots) where
     -- the i-th field is missing
-    pub field_absent : (i : ℕ) → Has false fields i slots → (allowed : ReadErrorCode → Bool) (e : Error)
+    pub field_absent : (i : ℕ) → LacksAt fields i slots → (allowed : ReadErrorCode → Bool) (e : Error)
         → (t : Input) (r : Result S Error) → IsErrAnd r (λ x. x ≡ e) → TakesItem allowed (formats_of de.items.formats) (IsStruct names fields) de.items.levels (source de.items.source) t r
     field_absent i missing allowed e t r err =
         not_read names fields source allowed de e t r err

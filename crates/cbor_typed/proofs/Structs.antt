@@ -25,7 +25,7 @@ use Rattle.cbor_typed.specs.declared.structure.Field.{Field}
 use Rattle.cbor_typed.specs.declared.structure.Field.TheVariants.{Known, Unknown}
 use Rattle.cbor_collections.proofs.facts.Maps.{append_pairs, PairsSoFar, PairsDone, pairs_end, pairs_rest, first_pair, last, another, NoKey}
 use Rattle.cbor_collections.proofs.facts.Refusals.{refuses_then, refuses_by}
-use Rattle.cbor_typed.proofs.Slots.{Slots, none_yet, all_of, Has, ValueAt, reads_at, put, fill, filled, IsOther, Gathered, gathered_none, gathered_set, gathered_other, gathered_twice, gathered_value, gathered_missing, gathered_all, gathered_follows}
+use Rattle.cbor_typed.proofs.Slots.{Slots, none_yet, all_of, AreHeld, all_held, Has, LacksAt, ValueAt, reads_at, put, fill, filled, IsOther, Gathered, gathered_none, gathered_set, gathered_other, gathered_twice, gathered_value, gathered_missing, gathered_all, gathered_follows}
 use Rattle.cbor_typed.proofs.WholeMaps.{NoPairs, map_begins, map_goes_on, key_lacks, map_takes, map_refused, map_end_refused, map_end_twice, no_map_read}
 
 -- ---- behind a key
@@ -248,7 +248,7 @@ module _ {S : Type 0} (names : List (List ℕ)) (fields : List (FieldOf S)) wher
       end_here = subst (λ (o : Option Field). Step t u (IsKey (IsField given) (formats_of g) levels (remaining_of r) (remaining_of new) o)) none key
 
       -- a field is missing
-      pub field_missing : (allowed : ReadErrorCode → Bool) (c : ErrorCode) (at : ℕ) (i : ℕ) → Has false fields i slots → NoStruct allowed s f outer c at
+      pub field_missing : (allowed : ReadErrorCode → Bool) (c : ErrorCode) (at : ℕ) (i : ℕ) → LacksAt fields i slots → NoStruct allowed s f outer c at
       field_missing allowed c at i missing =
           none_refused allowed c at
           (end_excluded so.first P f so.deep so.all (IsField names) r new Unknown (AreFieldsOf names fields) allowed c at t u so.so_far end_here
@@ -258,11 +258,15 @@ module _ {S : Type 0} (names : List (List ℕ)) (fields : List (FieldOf S)) wher
       pub end_unread : (allowed : ReadErrorCode → Bool) (w : Input) (e : Error) → new ≡ Counted 0 → TakesMapEnd allowed new u w (Err e) → NoStruct allowed s f outer (code_of e) (offset_of e)
       end_unread allowed w e nothing h = map_end_refused so.first P f so.deep so.all (AreFieldsOf names fields) outer s allowed t u w r new e nothing so.head so.so_far end_here h
 
-      -- all fields were read
-      pub struct_read : {w z : Input} (x : S) → slots ≡ all_of fields x → new ≡ Counted 0 → TakesMapEnd (λ c. false) new u w (Ok tt) → z ≡ w → ReadsStruct s z f outer x
-      struct_read {w} {z} x all nothing ended is =
+      -- all fields were read, or what stands for them is there
+      pub struct_held : {w z : Input} (x : S) → AreHeld fields slots x → new ≡ Counted 0 → TakesMapEnd (λ c. false) new u w (Ok tt) → z ≡ w → ReadsStruct s z f outer x
+      struct_held {w} {z} x all nothing ended is =
           map_takes so.first P f so.deep so.all (AreFieldsOf names fields) outer s t w z r x (λ front holds. gathered_all names fields slots front x all holds)
           so.head so.so_far (map_end_twice (remaining_of r) new t u w nothing end_here ended) is
+
+      -- all fields were read
+      pub struct_read : {w z : Input} (x : S) → slots ≡ all_of fields x → new ≡ Counted 0 → TakesMapEnd (λ c. false) new u w (Ok tt) → z ≡ w → ReadsStruct s z f outer x
+      struct_read x all = struct_held x (all_held fields slots x all)
 
   -- ---- fields that are read once into their slots
 

@@ -1,4 +1,6 @@
 pub mod Structs
+pub mod Fields
+pub mod OneOfs
 pub mod Options
 pub mod ByteStrings
 pub mod Whole

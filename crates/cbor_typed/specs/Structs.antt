@@ -45,23 +45,39 @@ IsFieldRead names i reads rs x = (v : Raw) × Once names i rs v × reads v x
 
 -- ---- structs
 
--- A field of the struct S: as what its value is read, and where it stands in the struct.
+-- what a field is where it is absent: no struct is read then, or it is one of these
+pub data IfAbsent (A : Type 0) : Type 1 where
+  refused : IfAbsent A
+  taken : (A → Type 0) → IfAbsent A
+
+-- A field of the struct S: as what its value is read, what it is where it is absent, and where it
+-- stands in the struct.
 pub record FieldOf (S : Type 0) : Type 1 where
   pub Value : Type 0
   pub reads : Raw → Value → Type 0
+  pub missing : IfAbsent Value
   pub of : S → Value
 
-abbrev pub field : {S A : Type 0} → (Raw → A → Type 0) → (S → A) → FieldOf S
-field {S} {A} reads of = record { Value = A; reads = reads; of = of }
+abbrev pub field_or : {S A : Type 0} → (Raw → A → Type 0) → IfAbsent A → (S → A) → FieldOf S
+field_or {S} {A} reads missing of = record { Value = A; reads = reads; missing = missing; of = of }
 
--- each field, from the i-th name on, is there once, and is read as its part of the struct
+-- one that has to be there
+abbrev pub field : {S A : Type 0} → (Raw → A → Type 0) → (S → A) → FieldOf S
+field reads of = field_or reads refused of
+
+-- the i-th field is x: it is there once and read so, or it may be absent, is, and is x then
+abbrev pub IsFieldOr : {A : Type 0} → IfAbsent A → List (List ℕ) → ℕ → (Raw → A → Type 0) → RawPairs → A → Type 0
+IsFieldOr refused names i reads rs x = IsFieldRead names i reads rs x
+IsFieldOr (taken missing) names i reads rs x = IsFieldRead names i reads rs x ⊎ (Absent names i rs × missing x)
+
+-- each field, from the i-th name on, is its part of the struct
 abbrev pub HasFields : {S : Type 0} → List (List ℕ) → ℕ → List (FieldOf S) → RawPairs → S → Type 0
 HasFields names i [] rs x = Unit {0}
 HasFields names i (d ∷ fields) rs x =
-    IsFieldRead names i d.reads rs (d.of x) × HasFields names (suc i) fields rs x
+    IsFieldOr d.missing names i d.reads rs (d.of x) × HasFields names (suc i) fields rs x
 
--- The pairs of a struct: each key is a number from 0 or a name, and each field is there once. A pair
--- of another key is passed over.
+-- The pairs of a struct: each key is a number from 0 or a name, and each field is there once, or is
+-- absent where it may be. A pair of another key is passed over.
 pub record AreFieldsOf {S : Type 0} (names : List (List ℕ)) (fields : List (FieldOf S)) (rs : RawPairs) (x : S) : Type 0 where
   pub keys : AreFields names rs
   pub read : HasFields names 0 fields rs x

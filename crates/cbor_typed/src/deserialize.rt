@@ -33,7 +33,12 @@ pub trait Readable: Sized + Drop {
 /// `Vec<u8>` is an array of numbers, as any `Vec`; a byte string is `ByteBuf`, `ByteArray`, or the
 /// borrowed `Bytes`. An `f64` or an `f32` is a float of any width that it holds exactly.
 ///
-/// A struct is read by a loop over its fields, in any order, by their names or their numbers:
+/// A struct or an enum that says what its parts are (`parts::Schema`) is read by one call,
+/// [`Deserializer::read_described`], and no proof is written for it; `docs/OWN_TYPES.md` goes
+/// through it step by step.
+///
+/// What no description can say is read part by part. A struct is read by a loop over its fields, in
+/// any order, by their names or their numbers:
 ///
 /// ```rust
 /// #[derive(Drop)]
@@ -74,8 +79,8 @@ pub trait Readable: Sized + Drop {
 /// two lemmas, of its Ok and of its Err: `fields_begin` and `no_fields` of `structure`,
 /// `field_due`, `fields_ended` and `none_named` of `next_field`, `field_taken` and `field_refused`
 /// of `once`, `other_taken` and `other_refused` of `skip`, `field_required` and `field_absent` of
-/// `required`, `fields_read` and `end_refused` of `end`. A whole proof is that of `User` in the
-/// crate `cbor_samples`: `src/structs.rt` and `proofs/structs/UserDeserialize`.
+/// `required`, `fields_read` and `end_refused` of `end`. A whole proof is that of `Point` in the
+/// crate `own_types`: `src/by_hand.rt` and `proofs/by_hand/PointDeserialize`.
 ///
 /// These lemmas are for fields that are read alike whatever formats are read. Where a field isn't,
 /// as an enum, the loop keeps `StructSoFar`, whose lemmas stand there too.
@@ -138,8 +143,8 @@ pub trait Readable: Sized + Drop {
 ///
 /// Its proof is two lines for each `?`, and one more for each part before it: `variant_is` tells
 /// the variant, and a lemma for each call what its answer says of the enum
-/// (`proofs/facts/Enums.antt`). A whole proof is that of this enum in the crate `cbor_samples`:
-/// `src/enums.rt` and `proofs/enums/BarDeserialize`.
+/// (`proofs/facts/Enums.antt`). A whole proof is that of this enum in the crate `own_types`:
+/// `src/by_hand.rt` and `proofs/by_hand/BarDeserialize`.
 ///
 /// A type that contains itself is read by way of a value, since reading its parts by their own type
 /// would lead back to where they are read. A function that calls itself makes it of the value:

@@ -52,7 +52,7 @@ impl<R: Source> Deserializer<R> {
     // The error of an array that has too few items.
     #[cold]
     #[inline(never)]
-    fn invalid_length(&self, found: usize, expected: usize) -> Error {
+    pub(crate) fn invalid_length(&self, found: usize, expected: usize) -> Error {
         let alloc = self.items.alloc;
         match format!(in alloc; "invalid length {found}, expected {expected}") {
             Ok(text) => Error::message(alloc, text),

@@ -129,6 +129,31 @@ impl<'de, R: Read<'de>> Deserializer<R> {
         }
         Ok(Some(field))
     }
+
+    // The same, with the error made.
+    #[inline(always)]
+    pub(crate) fn next_key(
+        &mut self,
+        remaining: &mut Remaining,
+        names: &[&str],
+    ) -> Result<Option<Field>>
+        ensures read { TakesKey R.refusals (formats_of self.old.items.formats)
+            (IsField (texts names.now)) self.old.items.levels remaining.old remaining.new
+            (R.source self.old.items.source) (R.source self.new.items.source) result }
+        ensures below { IfOk result (λ next. IfSome next (λ field.
+            IfSome (place_in field) (λ i. i < length names.now))) }
+        // Nothing remains behind the last pair, and a loop over the fields ends.
+        ensures remains { IfOk result (λ next. MatchOption next (remaining.new ≡ Counted 0)
+            (λ k. turns remaining.new (R.source self.new.items.source)
+            < turns remaining.old (R.source self.old.items.source))) }
+        ensures levels { self.new.items.levels ≡ self.old.items.levels }
+        ensures formats { self.new.items.formats ≡ self.old.items.formats }
+    {
+        match self.next_field(remaining, names) {
+            Ok(next) => Ok(next),
+            Err(why) => Err(unnamed(&mut self.items, why, "invalid type: expected a field name")),
+        }
+    }
 }
 
 /// The fields of a struct that are still to be read, each a key that names it and its value.
@@ -464,7 +489,7 @@ impl<'a, R: Source> StructAccess<'a, R> {
 // The error of a field that isn't there.
 #[cold]
 #[inline(never)]
-fn missing_field(alloc: Global, name: &'static str) -> Error
+pub(crate) fn missing_field(alloc: Global, name: &str) -> Error
     ensures text { IsMessageOf (Some (missing_text name.now)) (code_of result) }
 {
     match format!(in alloc; "missing field `{name}`") {
@@ -476,7 +501,7 @@ fn missing_field(alloc: Global, name: &'static str) -> Error
 // The error of a field that is there twice.
 #[cold]
 #[inline(never)]
-fn duplicate_field(alloc: Global, name: &str) -> Error
+pub(crate) fn duplicate_field(alloc: Global, name: &str) -> Error
     ensures text { IsMessageOf (Some (duplicate_text name.now)) (code_of result) }
 {
     match format!(in alloc; "duplicate field `{name}`") {

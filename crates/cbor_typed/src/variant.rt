@@ -93,7 +93,7 @@ impl<'de, R: Read<'de>> Deserializer<R> {
     }
 
     // Reads the content of a variant of one part. An identifier alone is refused with this text.
-    fn one_part<T: Deserialize<'de, R>>(&mut self, form: Form, alone: &str) -> Result<T>
+    pub(crate) fn one_part<T: Deserialize<'de, R>>(&mut self, form: Form, alone: &str) -> Result<T>
         ensures read { TakesContent R.refusals (formats_of self.old.items.formats)
             (IsPart (T.reads (context self.old.items.formats R.lends)))
             self.old.items.levels form

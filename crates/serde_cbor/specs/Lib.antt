@@ -70,3 +70,4 @@ pub use Rattle.cbor_parts.specs.OneOf5
 pub use Rattle.cbor_parts.specs.OneOf6
 pub use Rattle.cbor_parts.specs.OneOf7
 pub use Rattle.cbor_parts.specs.OneOf8
+pub use Rattle.cbor_typed.specs.Fields

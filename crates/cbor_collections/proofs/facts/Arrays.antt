@@ -7,6 +7,7 @@ pub use Rattle.cbor_collections.proofs.WholeArrays.{loop_begins, loop_goes_on, l
 pub use Rattle.cbor_collections.proofs.WholeArrays.{no_array_read, part_goes_on, part_lacks}
 -- what was read so far of its items
 pub use Rattle.cbor_collections.proofs.Sequences.{EachRead, MustFollow, SoFar, append, append-push}
+pub use Rattle.cbor_collections.proofs.Sequences.{begins, goes_on, no_part_rest, rest_of, with_front}
 pub use Rattle.cbor_collections.proofs.Sequences.{each_all, each_length, each_more, each_none}
 pub use Rattle.cbor_collections.proofs.Sequences.{is_done, may_follow, must_follow, none_of_none}
 pub use Rattle.cbor_collections.proofs.Sequences.{rest_read}

@@ -4,7 +4,9 @@ use crate::desk::Desk;
 use crate::row::Row;
 use cbor_samples::choice::Choice;
 use cbor_samples::enums::{Bar, Color, DataEnum, TwoVariants, Wish};
+use cbor_samples::letters::{EnumStruct, Letter, ReprEnumStruct};
 use cbor_samples::structs::{Example, Foo, Mascot, NewtypeStruct, Person, SmallStruct, User};
+use cbor_samples::wraps::{FloatEnum, UnitStruct};
 use cbor_tree::tree::Tree;
 use serde_cbor::Deserializer;
 use serde_cbor::de::Read;
@@ -54,6 +56,22 @@ fn lists_of_enums<'r, R: Read<'r> + Drop>(
     match row.kind {
         "Vec<Wish>" => desk.reads::<Vec<Wish>, R>(row, de)?,
         "Vec<DataEnum>" => desk.reads::<Vec<DataEnum>, R>(row, de)?,
+        _ => return small(desk, row, de),
+    }
+    Ok(true)
+}
+
+fn small<'r, R: Read<'r> + Drop>(
+    desk: &mut Desk<'_>,
+    row: &Row<'_>,
+    de: Deserializer<R>,
+) -> io::Result<bool> {
+    match row.kind {
+        "Letter" => desk.reads::<Letter, R>(row, de)?,
+        "EnumStruct" => desk.reads::<EnumStruct, R>(row, de)?,
+        "ReprEnumStruct" => desk.reads::<ReprEnumStruct, R>(row, de)?,
+        "FloatEnum" => desk.reads::<FloatEnum, R>(row, de)?,
+        "UnitStruct" => desk.reads::<UnitStruct, R>(row, de)?,
         _ => return Ok(false),
     }
     Ok(true)

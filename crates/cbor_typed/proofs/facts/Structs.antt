@@ -2,7 +2,7 @@
 -- keeps `StructSoFar`, and each call that is made in it has a lemma.
 
 -- what is known of the fields
-pub use Rattle.cbor_typed.proofs.Slots.{Slots, none_yet, all_of, Has, IsOther, not_known, not_unknown}
+pub use Rattle.cbor_typed.proofs.Slots.{Slots, none_yet, all_of, AreHeld, Has, LacksAt, IsOther, not_known, not_unknown}
 -- what is known of the struct, and that it is read or isn't
 pub use Rattle.cbor_typed.proofs.Structs.{StructSoFar, ReadsStruct, NoStruct}
 -- the map's head
@@ -14,7 +14,7 @@ pub use Rattle.cbor_typed.proofs.Structs.{FieldNamed, field_named, field_once, f
 -- what is refused in between
 pub use Rattle.cbor_typed.proofs.Structs.{no_field_named, field_twice, field_unread, other_unread}
 -- the end
-pub use Rattle.cbor_typed.proofs.Structs.{field_missing, end_unread, struct_read}
+pub use Rattle.cbor_typed.proofs.Structs.{field_missing, end_unread, struct_read, struct_held}
 -- ---- the short way
 
 -- Where fields are read by `once` and `required`, and alike whatever formats are read, a loop keeps

@@ -1,6 +1,4 @@
-use Rattle.std.specs.Prelude.{ℕ, List, length}
 use Rattle.cbor_model.specs.Formats.{all_formats}
-use Rattle.cbor_io.specs.declared.error.Error.{Error}
 use Rattle.cbor_de.specs.Gives.{Reports, values}
 use Rattle.cbor_de.proofs.facts.FirstRefusal.{item_first}
 use Rattle.cbor_model.specs.Reader.{item_at}

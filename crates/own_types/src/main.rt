@@ -1,0 +1,91 @@
+//! Types of one's own: the program of `docs/OWN_TYPES.md`.
+#![tactic(auto)]
+
+mod by_hand;
+mod records;
+mod shapes;
+
+use by_hand::Bar;
+use records::{Label, Pair, User};
+use serde_cbor::ser::to_vec_packed;
+use serde_cbor::{Result, from_reader, from_slice, to_vec};
+use shapes::Shape;
+use std::process::ExitCode;
+
+fn main(rt: HostRuntime) -> ExitCode {
+    match print_all(&rt) {
+        Ok(()) => ExitCode::SUCCESS,
+        Err(error) => {
+            let _ = eprintln!(rt; "own_types: {error}");
+            ExitCode::FAILURE
+        }
+    }
+}
+
+fn print_all(rt: &HostRuntime) -> Result<()> {
+    print_user(rt)?;
+    print_shape(rt)?;
+    print_label(rt)?;
+    print_pair(rt)?;
+    print_bar(rt)
+}
+
+fn print_user(rt: &HostRuntime) -> Result<()> {
+    let alloc = rt.alloc();
+    let user = User {
+        user_id: 10,
+        admin: true,
+    };
+    let named = to_vec(alloc, &user)?;
+    println!(rt; "{:?}", named.as_slice())?;
+    let packed = to_vec_packed(alloc, &user)?;
+    println!(rt; "{:?}", packed.as_slice())?;
+    let read: User = from_reader(alloc, packed.as_slice())?;
+    println!(rt; "{read:?}")?;
+    Ok(())
+}
+
+fn print_shape(rt: &HostRuntime) -> Result<()> {
+    let alloc = rt.alloc();
+    let square = Shape::Square {
+        side: 3,
+        filled: true,
+    };
+    let bytes = to_vec(alloc, &square)?;
+    println!(rt; "{:?}", bytes.as_slice())?;
+    let read: Shape = from_slice(alloc, bytes.as_slice())?;
+    println!(rt; "{read:?}")?;
+    let circle: Shape = from_slice(alloc, b"\x82\x01\x18\x2a")?;
+    println!(rt; "{circle:?}")?;
+    Ok(())
+}
+
+// The name is borrowed from the bytes, and so none is read from a reader.
+fn print_label(rt: &HostRuntime) -> Result<()> {
+    let label: Label = from_slice(rt.alloc(), b"\xa2\x64size\x07\x64name\x62ab")?;
+    println!(rt; "{label:?}")?;
+    Ok(())
+}
+
+fn print_pair(rt: &HostRuntime) -> Result<()> {
+    let alloc = rt.alloc();
+    let bytes = to_vec(
+        alloc,
+        &Pair {
+            first: 1u8,
+            second: 2u8,
+        },
+    )?;
+    let read: Pair<u64> = from_slice(alloc, bytes.as_slice())?;
+    println!(rt; "{read:?}")?;
+    Ok(())
+}
+
+fn print_bar(rt: &HostRuntime) -> Result<()> {
+    let alloc = rt.alloc();
+    let point: Bar = from_slice(alloc, b"\xa1\x65Point\xa2\x61y\x24\x61x\x05")?;
+    println!(rt; "{point:?}")?;
+    let flag: Bar = from_slice(alloc, b"\x83\x02\x62ab\xf5")?;
+    println!(rt; "{flag:?}")?;
+    Ok(())
+}

@@ -1,0 +1,142 @@
+//! Structs.
+
+use serde_cbor::de::{Deserialize, DeserializeOwned, FromParts, Read, Readable, ReadableParts};
+use serde_cbor::parts::Schema;
+use serde_cbor::ser::{PartsDocument, Serialize, Serializer, Write};
+use serde_cbor::{Deserializer, Result};
+
+/// Who may log in.
+#[derive(Debug, Drop)]
+pub struct User {
+    pub user_id: u32,
+    pub admin: bool,
+}
+
+/// The names of a user's fields.
+const USER: &[&str] = &["user_id", "admin"];
+
+impl Schema for User {
+    ghost use Rattle.std.specs.Prelude.{map};
+    ghost use Rattle.own_types.specs.declared.records.TheConstants.{USER};
+
+    type Parts = (u32, bool);
+
+    ghost names = { map (λ n. n.now) USER.now };
+
+    ghost parts = { λ u. (u.user_id, u.admin) };
+}
+
+impl Serialize for User {
+    ghost document = { λ u. ⟦<<User as Schema>::Parts as PartsDocument>⟧.document
+        ⟦<User as Schema>⟧.names (⟦<User as Schema>⟧.parts u) };
+
+    fn serialize<W: Write>(&self, ser: &mut Serializer<W>) -> Result<()> {
+        ser.serialize_fields(USER, &(&self.user_id, &self.admin))
+    }
+}
+
+impl FromParts for User {
+    fn from_parts((user_id, admin): Self::Parts) -> User {
+        User { user_id, admin }
+    }
+}
+
+impl Readable for User {
+    ghost reads = { λ c r u. ⟦<<User as Schema>::Parts as ReadableParts>⟧.reads
+        ⟦<User as Schema>⟧.names c r (⟦<User as Schema>⟧.parts u) };
+}
+
+impl<'de, R: Read<'de>> Deserialize<'de, R> for User {
+    fn deserialize(de: &mut Deserializer<R>) -> Result<User> {
+        de.read_described(USER)
+    }
+}
+
+impl DeserializeOwned for User {
+    ghost same = { λ f a b r u h. h };
+}
+
+/// A name that lies in the bytes that it was read from.
+#[derive(Debug, Drop)]
+pub struct Label<'a> {
+    pub name: &'a str,
+    pub size: u8,
+}
+
+/// The names of a label's fields.
+const LABEL: &[&str] = &["name", "size"];
+
+impl<'a> Schema for Label<'a> {
+    ghost use Rattle.std.specs.Prelude.{map};
+    ghost use Rattle.own_types.specs.declared.records.TheConstants.{LABEL};
+
+    type Parts = (&'a str, u8);
+
+    ghost names = { map (λ n. n.now) LABEL.now };
+
+    ghost parts = { λ l. (l.name, l.size) };
+}
+
+impl<'a> FromParts for Label<'a> {
+    fn from_parts((name, size): (&'a str, u8)) -> Label<'a> {
+        Label { name, size }
+    }
+}
+
+impl<'a> Readable for Label<'a> {
+    ghost reads = { λ c r l. ⟦<(&'a str, u8) as ReadableParts>⟧.reads
+        ⟦<Label<'a> as Schema>⟧.names c r (⟦<Label<'a> as Schema>⟧.parts l) };
+}
+
+impl<'de, R: Read<'de>> Deserialize<'de, R> for Label<'de> {
+    fn deserialize(de: &mut Deserializer<R>) -> Result<Label<'de>> {
+        de.read_described(LABEL)
+    }
+}
+
+/// Two of one type.
+#[derive(Debug, Drop)]
+pub struct Pair<T> {
+    pub first: T,
+    pub second: T,
+}
+
+/// The names of a pair's fields.
+const PAIR: &[&str] = &["first", "second"];
+
+impl<T: Drop> Schema for Pair<T> {
+    ghost use Rattle.std.specs.Prelude.{map};
+    ghost use Rattle.own_types.specs.declared.records.TheConstants.{PAIR};
+
+    type Parts = (T, T);
+
+    ghost names = { map (λ n. n.now) PAIR.now };
+
+    ghost parts = { λ p. (p.first, p.second) };
+}
+
+impl<T: Serialize + Drop> Serialize for Pair<T> {
+    ghost document = { λ p. ⟦<(T, T) as PartsDocument>⟧.document
+        ⟦<Pair<T> as Schema>⟧.names (⟦<Pair<T> as Schema>⟧.parts p) };
+
+    fn serialize<W: Write>(&self, ser: &mut Serializer<W>) -> Result<()> {
+        ser.serialize_fields(PAIR, &(&self.first, &self.second))
+    }
+}
+
+impl<T: Drop> FromParts for Pair<T> {
+    fn from_parts((first, second): (T, T)) -> Pair<T> {
+        Pair { first, second }
+    }
+}
+
+impl<T: Readable> Readable for Pair<T> {
+    ghost reads = { λ c r p. ⟦<(T, T) as ReadableParts>⟧.reads
+        ⟦<Pair<T> as Schema>⟧.names c r (⟦<Pair<T> as Schema>⟧.parts p) };
+}
+
+impl<'de, R: Read<'de>, T: Deserialize<'de, R>> Deserialize<'de, R> for Pair<T> {
+    fn deserialize(de: &mut Deserializer<R>) -> Result<Pair<T>> {
+        de.read_described(PAIR)
+    }
+}

@@ -1,0 +1,104 @@
+//! An enum with a variant of each kind.
+
+use serde_cbor::de::{Deserialize, DeserializeOwned, FromParts, Read, Readable, ReadableParts};
+use serde_cbor::parts::{FieldNames, Newtype, OneOf4, Schema, Struct, Tuple};
+use serde_cbor::ser::{NamedFields, PartsDocument, Serialize, Serializer, Write};
+use serde_cbor::{Deserializer, Result};
+
+/// What is drawn.
+#[derive(Debug, Drop)]
+pub enum Shape {
+    Nothing,
+    Circle(u32),
+    Line(u32, u32),
+    Square { side: u32, filled: bool },
+}
+
+/// The names of the variants.
+const SHAPE: &[&str] = &["Nothing", "Circle", "Line", "Square"];
+
+/// The names of a square's fields.
+const SQUARE: &[&str] = &["side", "filled"];
+
+/// The fields of a square.
+pub enum SquareFields {}
+
+impl FieldNames for SquareFields {
+    ghost use Rattle.std.specs.Prelude.{map};
+    ghost use Rattle.own_types.specs.declared.shapes.TheConstants.{SQUARE};
+
+    type Parts = (u32, bool);
+
+    ghost names = { map (λ n. n.now) SQUARE.now };
+
+    fn names() -> &'static [&'static str] {
+        SQUARE
+    }
+}
+
+impl Schema for Shape {
+    ghost use Rattle.std.specs.Prelude.{map};
+    ghost use Rattle.serde_cbor.specs.OneOf4 as one_of;
+    ghost use Rattle.serde_cbor.specs.Schemas.{newtype, structure, tuple};
+    ghost use Rattle.own_types.specs.declared.shapes.Shape.TheVariants as shape;
+    ghost use Rattle.own_types.specs.declared.shapes.TheConstants.{SHAPE};
+
+    type Parts = OneOf4<(), Newtype<u32>, Tuple<(u32, u32)>, Struct<SquareFields>>;
+
+    ghost names = { map (λ n. n.now) SHAPE.now };
+
+    ghost parts = { elim [
+      | shape.Nothing ↦ one_of.first tt
+      | shape.Circle radius ↦ one_of.second (newtype radius)
+      | shape.Line x y ↦ one_of.third (tuple (x, y))
+      | shape.Square side filled ↦ one_of.fourth (structure (side, filled))
+    ] };
+}
+
+impl Serialize for Shape {
+    ghost document = { λ s. ⟦<<Shape as Schema>::Parts as PartsDocument>⟧.document
+        ⟦<Shape as Schema>⟧.names (⟦<Shape as Schema>⟧.parts s) };
+
+    fn serialize<W: Write>(&self, ser: &mut Serializer<W>) -> Result<()> {
+        match self {
+            Shape::Nothing => ser.serialize_variant(SHAPE, 0, &()),
+            Shape::Circle(radius) => ser.serialize_variant(SHAPE, 1, &Newtype(radius)),
+            Shape::Line(x, y) => ser.serialize_variant(SHAPE, 2, &Tuple((x, y))),
+            Shape::Square { side, filled } => {
+                ser.serialize_variant(SHAPE, 3, &NamedFields(SQUARE, (side, filled)))
+            }
+        }
+    }
+}
+
+impl FromParts for Shape {
+    fn from_parts(from: Self::Parts) -> Shape {
+        match from {
+            OneOf4::First(()) => Shape::Nothing,
+            OneOf4::Second(Newtype(radius)) => Shape::Circle(radius),
+            OneOf4::Third(Tuple(parts)) => {
+                let (x, y) = parts;
+                Shape::Line(x, y)
+            }
+            OneOf4::Fourth(Struct(fields)) => {
+                let (side, filled) = fields;
+                Shape::Square { side, filled }
+            }
+        }
+    }
+}
+
+impl Readable for Shape {
+    ghost reads = { λ c r s. ⟦<<Shape as Schema>::Parts as ReadableParts>⟧.reads
+        ⟦<Shape as Schema>⟧.names c r (⟦<Shape as Schema>⟧.parts s) };
+}
+
+impl<'de, R: Read<'de>> Deserialize<'de, R> for Shape {
+    fn deserialize(de: &mut Deserializer<R>) -> Result<Shape> {
+        de.read_described(SHAPE)
+    }
+}
+
+impl DeserializeOwned for Shape {
+    ghost same = { λ f a b r s h. h };
+}
