@@ -1,23 +1,50 @@
-//! The fronts of an item, each of which ends too early.
+//! The fronts of an item, each of which ends too early, and readers that fail behind one.
 
 use crate::desk::Desk;
 use crate::row::Row;
 use crate::sources::Pieces;
-use serde_cbor::{Result, Value, from_mut_slice, from_reader, from_slice, from_slice_with_scratch};
+use serde_cbor::error::ErrorCode;
+use serde_cbor::{
+    Deserializer, Result, Value, from_mut_slice, from_reader, from_slice, from_slice_with_scratch,
+};
 use std::alloc::Global;
 use std::io;
 
-/// Has each proper front of a row's bytes refused by each source, as an end of input at the front's
-/// end: no item's encoding begins another's.
+/// Has each proper front of a row's bytes refused by each source, as an end of input at the
+/// front's end: no item's encoding begins another's. Where a reader tells a fault behind a front,
+/// and where it tells one in place of the end, it is that fault that is told.
 pub fn judge(desk: &mut Desk<'_>, row: &Row<'_>) -> io::Result<()> {
     let alloc = desk.rt.alloc();
     let mut scratch = [0; 64];
     for n in 0..row.bytes.len() {
-        if !ends_too_early(alloc, &row.bytes[..n], &mut scratch)? {
+        let front = &row.bytes[..n];
+        if !ends_too_early(alloc, front, &mut scratch)? || !tells_fault(alloc, front) {
             desk.tells_front(n)?;
         }
     }
+    if !is_fault(&from_reader::<Value, _>(alloc, Pieces::failing(&row.bytes))) {
+        desk.tells_front(row.bytes.len())?;
+    }
     Ok(())
+}
+
+// Whether a reader's fault behind a front is told, by a stream as its last answer.
+fn tells_fault(alloc: Global, front: &[u8]) -> bool {
+    let mut stream = Deserializer::from_reader(alloc, Pieces::failing(front)).into_iter::<Value>();
+    let told = match stream.next() {
+        Some(read) => is_fault(&read),
+        None => false,
+    };
+    let read = from_reader::<Value, _>(alloc, Pieces::failing(front));
+    told && stream.next().is_none() && is_fault(&read)
+}
+
+// Whether this is a fault of a reader.
+fn is_fault(read: &Result<Value>) -> bool {
+    match read {
+        Ok(_) => false,
+        Err(e) => matches!(e.code(), ErrorCode::Io(_)),
+    }
 }
 
 // Whether each source refuses a front so.

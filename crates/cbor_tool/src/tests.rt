@@ -1,9 +1,14 @@
 use crate::program::{Mode, run, run_strict};
 use crate::words;
 use serde_cbor::Result;
-use std::alloc::Global;
+use std::alloc::{AllocError, Global};
+use std::fmt::InlineText;
 use std::io;
 use std::io::{ErrorKind, Read, Write};
+use std::process::Abort;
+
+// More bytes than any answers here have.
+const ROOM: usize = 128;
 
 // A reader that fails once it has given `left` bytes.
 #[derive(Drop)]
@@ -24,7 +29,8 @@ impl Read for FailingReader<'_> {
 }
 
 // A writer that takes at most `at_once` bytes a write, fails once it has taken `writes` writes, and
-// fails once it was flushed `flushes` times.
+// fails once it was flushed `flushes` times. It has its memory from the beginning, as each writer
+// here has, so that no write fails for want of it.
 #[derive(Drop)]
 struct FailingWriter {
     written: Vec<u8>,
@@ -35,14 +41,19 @@ struct FailingWriter {
 }
 
 impl FailingWriter {
-    fn new(alloc: Global, at_once: usize, writes: usize, flushes: usize) -> FailingWriter {
-        FailingWriter {
-            written: Vec::new(alloc),
+    fn new(
+        alloc: Global,
+        at_once: usize,
+        writes: usize,
+        flushes: usize,
+    ) -> std::result::Result<FailingWriter, AllocError> {
+        Ok(FailingWriter {
+            written: Vec::with_capacity(alloc, ROOM)?,
             at_once,
             writes,
             flushes,
             flushed: 0,
-        }
+        })
     }
 }
 
@@ -90,23 +101,28 @@ impl Write for InterruptedWriter {
 
 fn answers_to(alloc: Global, input: &[u8]) -> Result<Vec<u8>> {
     let mut reader = input;
-    let mut writer = Vec::new(alloc);
+    let mut writer = Vec::with_capacity(alloc, ROOM)?;
     run(alloc, &mut reader, &mut writer)?;
     Ok(writer)
 }
 
 fn strict_answers_to(alloc: Global, input: &[u8]) -> Result<Vec<u8>> {
     let mut reader = input;
-    let mut writer = Vec::new(alloc);
+    let mut writer = Vec::with_capacity(alloc, ROOM)?;
     run_strict(alloc, &mut reader, &mut writer)?;
     Ok(writer)
 }
 
-fn is_io_error(alloc: Global, ended: &Result<()>) -> Result<bool> {
-    match ended {
-        Ok(()) => Ok(false),
-        Err(error) => Ok(error.is_io() && error.to_string(alloc)?.as_str() == "I/O error"),
+// The run ended by a fault of a device.
+fn ended_by_fault(rt: &impl Abort, ended: Result<()>) -> Result<()> {
+    let Err(error) = ended else {
+        panic!(rt; "no fault");
+    };
+    if error.is_memory() {
+        return Err(error);
     }
+    assert!(rt; InlineText::<16>::of(&error).as_str() == "I/O error");
+    Ok(())
 }
 
 #[test]
@@ -144,14 +160,13 @@ fn stops_where_the_reader_fails(rt: HostRuntime) -> Result<()> {
                 left,
                 kind,
             };
-            let mut writer = Vec::new(alloc);
-            let ended = run(alloc, &mut reader, &mut writer);
+            let mut writer = Vec::with_capacity(alloc, ROOM)?;
+            ended_by_fault(&rt, run(alloc, &mut reader, &mut writer))?;
             let output: &[u8] = match left {
                 0..3 => b"",
                 3..6 => b"17\n",
                 _ => b"17\nf6\n",
             };
-            assert!(rt; is_io_error(alloc, &ended)?);
             assert!(rt; writer.as_slice() == output);
         }
     }
@@ -176,9 +191,8 @@ fn stops_at_each_write_that_fails(rt: HostRuntime) -> Result<()> {
     let alloc = rt.alloc();
     for writes in 0..OUTPUT.len() {
         let mut reader = INPUT;
-        let mut writer = FailingWriter::new(alloc, 1, writes, 3);
-        let ended = run(alloc, &mut reader, &mut writer);
-        assert!(rt; is_io_error(alloc, &ended)?);
+        let mut writer = FailingWriter::new(alloc, 1, writes, 3)?;
+        ended_by_fault(&rt, run(alloc, &mut reader, &mut writer))?;
         assert!(rt; writer.written.as_slice() == &OUTPUT[..writes]);
         assert_eq!(rt; writer.flushed, answered(writes));
         let unread: &[u8] = match writes {
@@ -196,9 +210,8 @@ fn stops_where_whole_writes_fail(rt: HostRuntime) -> Result<()> {
     let alloc = rt.alloc();
     for writes in 0..3 {
         let mut reader = INPUT;
-        let mut writer = FailingWriter::new(alloc, 100, writes, 3);
-        let ended = run(alloc, &mut reader, &mut writer);
-        assert!(rt; is_io_error(alloc, &ended)?);
+        let mut writer = FailingWriter::new(alloc, 100, writes, 3)?;
+        ended_by_fault(&rt, run(alloc, &mut reader, &mut writer))?;
         assert!(rt; writer.written.as_slice() == &OUTPUT[..3 * writes]);
         assert_eq!(rt; writer.flushed, 3 * writes);
     }
@@ -209,9 +222,8 @@ fn stops_where_whole_writes_fail(rt: HostRuntime) -> Result<()> {
 fn stops_where_the_writer_takes_nothing(rt: HostRuntime) -> Result<()> {
     let alloc = rt.alloc();
     let mut reader = INPUT;
-    let mut writer = FailingWriter::new(alloc, 0, 5, 3);
-    let ended = run(alloc, &mut reader, &mut writer);
-    assert!(rt; is_io_error(alloc, &ended)?);
+    let mut writer = FailingWriter::new(alloc, 0, 5, 3)?;
+    ended_by_fault(&rt, run(alloc, &mut reader, &mut writer))?;
     assert_eq!(rt; writer.written.len(), 0);
     Ok(())
 }
@@ -222,9 +234,8 @@ fn stops_at_each_flush_that_fails(rt: HostRuntime) -> Result<()> {
     let outputs: [&[u8]; 3] = [&OUTPUT[..3], &OUTPUT[..6], OUTPUT];
     for (flushes, output) in outputs.into_iter().enumerate() {
         let mut reader = INPUT;
-        let mut writer = FailingWriter::new(alloc, 2, 100, flushes);
-        let ended = run(alloc, &mut reader, &mut writer);
-        assert!(rt; is_io_error(alloc, &ended)?);
+        let mut writer = FailingWriter::new(alloc, 2, 100, flushes)?;
+        ended_by_fault(&rt, run(alloc, &mut reader, &mut writer))?;
         assert!(rt; writer.written.as_slice() == output);
     }
     Ok(())
@@ -234,7 +245,7 @@ fn stops_at_each_flush_that_fails(rt: HostRuntime) -> Result<()> {
 fn flushes_each_answer(rt: HostRuntime) -> Result<()> {
     let alloc = rt.alloc();
     let mut reader = INPUT;
-    let mut writer = FailingWriter::new(alloc, 2, 100, 3);
+    let mut writer = FailingWriter::new(alloc, 2, 100, 3)?;
     run(alloc, &mut reader, &mut writer)?;
     assert!(rt; writer.written.as_slice() == OUTPUT);
     assert_eq!(rt; writer.flushes, 0);
@@ -247,12 +258,29 @@ fn tries_an_interrupted_write_again(rt: HostRuntime) -> Result<()> {
     let alloc = rt.alloc();
     let mut reader = INPUT;
     let mut writer = InterruptedWriter {
-        written: Vec::new(alloc),
+        written: Vec::with_capacity(alloc, ROOM)?,
         is_interrupted: false,
     };
     run(alloc, &mut reader, &mut writer)?;
     assert!(rt; writer.written.as_slice() == OUTPUT);
     Ok(())
+}
+
+// Where each allocation fails in turn: the lines before the last that was begun are answered, and
+// it isn't. A line is begun where a byte of it was taken, of the first three and of the last three.
+#[test]
+fn answers_the_lines_before_one_without_memory(rt: HostRuntime) -> Result<()> {
+    let alloc = rt.alloc();
+    let mut reader = b"17\nf6\n".as_slice();
+    let mut writer = Vec::with_capacity(alloc, ROOM)?;
+    let ended = run(alloc, &mut reader, &mut writer);
+    let output: &[u8] = match (&ended, reader.len()) {
+        (Ok(()), _) => b"17\nf6\n",
+        (Err(_), 0..3) => b"17\n",
+        (Err(_), _) => b"",
+    };
+    assert!(rt; writer.as_slice() == output);
+    ended
 }
 
 #[test]

@@ -50,6 +50,39 @@ impl<'a> io::Read for PieceReader<'a> {
     }
 }
 
+/// A reader that takes memory for each byte that it gives, and tells its want of it as a fault.
+#[derive(Drop)]
+pub struct HungryReader<'a> {
+    rest: &'a [u8],
+    eaten: Vec<u8>,
+    pub is_refused: bool,
+}
+
+impl<'a> HungryReader<'a> {
+    pub fn new(alloc: Global, rest: &'a [u8]) -> HungryReader<'a> {
+        HungryReader {
+            rest,
+            eaten: Vec::new(alloc),
+            is_refused: false,
+        }
+    }
+}
+
+impl<'a> io::Read for HungryReader<'a> {
+    fn read(&mut self, buf: &mut [u8]) -> io::Result<usize> {
+        let (Some(place), Some((first, rest))) = (buf.first_mut(), self.rest.split_first()) else {
+            return Ok(0);
+        };
+        if self.eaten.push(*first).is_err() {
+            self.is_refused = true;
+            return Err(io::Error::from(ErrorKind::OutOfMemory));
+        }
+        *place = *first;
+        self.rest = rest;
+        Ok(1)
+    }
+}
+
 /// A writer that takes two bytes a write, counts its calls, and fails at the write after so many.
 /// Each other write is interrupted.
 #[derive(Drop)]

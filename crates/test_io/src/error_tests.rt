@@ -1,6 +1,7 @@
 use crate::checks::prints;
 use cbor_io::error::{Category, Error, ErrorCode};
 use std::alloc::{AllocError, Global};
+use std::fmt::InlineText;
 use std::io;
 use std::io::ErrorKind;
 use std::process::Abort;
@@ -10,47 +11,41 @@ use test_checks::Done;
 // The checks below promise nothing, so that a test of many rows carries no facts from one to the
 // next.
 
-/// The text is this.
-fn is_text(rt: &impl Abort, text: Result<String, AllocError>, want: &str) -> Done {
-    assert_eq!(rt; text?.as_str(), want);
-    Ok(())
-}
-
 /// The error, which is one at offset 7, is of this category and prints these words and its offset.
 fn is_told(rt: &impl Abort, alloc: Global, e: Error, category: Category, words: &str) -> Done {
     is_of(rt, &e, category);
     prints(rt, e.code(), words);
     is_text(rt, e.code().to_string(alloc), words)?;
-    prints_its_offset(rt, alloc, &e, words)
+    prints_its_offset(rt, &e, words);
+    Ok(())
+}
+
+/// The text is this.
+fn is_text(rt: &impl Abort, text: Result<String, AllocError>, want: &str) -> Done {
+    assert!(rt; text?.as_str() == want);
+    Ok(())
 }
 
 /// The error, which is one at offset 7, is of this category.
 fn is_of(rt: &impl Abort, e: &Error, category: Category) {
-    assert_eq!(rt; e.offset(), 7);
-    assert_eq!(rt; e.classify(), category);
-    is_io(rt, e, category == Category::Io);
-    is_syntax(rt, e, category == Category::Syntax);
-    is_eof(rt, e, category == Category::Eof);
+    assert!(rt; e.offset() == 7);
+    assert!(rt; e.classify() == category);
+    is_so(rt, e.is_io(), category == Category::Io);
+    is_so(rt, e.is_syntax(), category == Category::Syntax);
+    is_so(rt, e.is_data(), category == Category::Data);
+    is_so(rt, e.is_eof(), category == Category::Eof);
 }
 
-fn is_io(rt: &impl Abort, e: &Error, want: bool) {
-    assert_eq!(rt; e.is_io(), want);
-}
-
-fn is_syntax(rt: &impl Abort, e: &Error, want: bool) {
-    assert_eq!(rt; e.is_syntax(), want);
-}
-
-fn is_eof(rt: &impl Abort, e: &Error, want: bool) {
-    assert_eq!(rt; e.is_eof(), want);
+fn is_so(rt: &impl Abort, told: bool, want: bool) {
+    assert!(rt; told == want);
 }
 
 /// It prints these words and its offset, whatever layout is asked for.
-fn prints_its_offset(rt: &impl Abort, alloc: Global, e: &Error, words: &str) -> Done {
-    let text = e.to_string(alloc)?;
-    assert_eq!(rt; text.as_str().strip_suffix(" at offset 7"), Some(words));
-    is_text(rt, format!(in alloc; "{e:#}"), text.as_str())?;
-    is_text(rt, format!(in alloc; "{e:>60}"), text.as_str())
+fn prints_its_offset(rt: &impl Abort, e: &Error, words: &str) {
+    let text = InlineText::<96>::of(e);
+    assert!(rt; text.as_str().strip_suffix(" at offset 7") == Some(words));
+    prints(rt, format_args!("{e:#}"), text.as_str());
+    prints(rt, format_args!("{e:>60}"), text.as_str());
 }
 
 /// The code at offset 7 is of an end of input.

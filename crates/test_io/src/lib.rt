@@ -9,15 +9,11 @@ mod devices;
 #[cfg(test)]
 mod error_tests;
 #[cfg(test)]
-mod io_read_tests;
+mod own_source;
 #[cfg(test)]
-mod mut_slice_read_tests;
+mod script;
 #[cfg(test)]
-mod own_source_tests;
-#[cfg(test)]
-mod slice_read_fixed_tests;
-#[cfg(test)]
-mod slice_read_tests;
+mod source_tests;
 #[cfg(test)]
 mod utf8_tests;
 #[cfg(test)]

@@ -1,9 +1,10 @@
 use crate::checks::{has_written, refuses, takes};
 use crate::devices::{FailingWriter, FullWriter};
-use cbor_io::write::{IoWrite, SliceWrite};
+use cbor_io::write::{IoWrite, SliceWrite, Write};
 use std::alloc::Global;
 use std::io::ErrorKind;
 use std::process::Abort;
+use std::test::Fail;
 use test_checks::Done;
 
 #[test]
@@ -74,6 +75,28 @@ fn appends_to_a_vector(rt: HostRuntime) -> Done {
     takes(&mut bytes, b"\x02")?;
     assert_eq!(rt; bytes.as_slice(), b"\x82\x01\x02".as_slice());
     Ok(())
+}
+
+// Where an allocation fails, it has what it had before the piece.
+#[test]
+fn keeps_what_a_vector_has_that_cannot_grow(rt: HostRuntime) -> Done {
+    let whole = b"foobarfoobarfoobarfoobarfoobar";
+    let mut sink: Vec<u8> = Vec::new(rt.alloc());
+    for n in 0..5usize {
+        grows_or_stays(&rt, &mut sink, &whole[..6 * n])?;
+    }
+    assert!(rt; sink.as_slice() == whole.as_slice());
+    Ok(())
+}
+
+/// The vector, which has these bytes, takes a piece, or has them still.
+fn grows_or_stays(rt: &impl Abort, sink: &mut Vec<u8>, before: &[u8]) -> Done {
+    let Err(e) = sink.write_all(b"foobar") else {
+        return Ok(());
+    };
+    assert!(rt; e.is_memory());
+    assert!(rt; sink.as_slice() == before);
+    Err(Fail::from(e))
 }
 
 #[test]

@@ -5,11 +5,47 @@ use cbor_samples::enums::{Bar, DataEnum};
 use cbor_samples::structs::{Mascot, OptionalPerson, User};
 use serde_cbor::ser::{IoWrite, Serialize, SliceWrite, to_vec_packed};
 use serde_cbor::{Serializer, to_vec, to_writer};
-use std::alloc::Global;
+use std::alloc::{AllocError, Global};
 use std::collections::BTreeMap;
+use std::io;
+use std::io::ErrorKind;
 use std::process::Abort;
 use std::test::Fail;
-use test_checks::Done;
+use test_checks::{Done, is_refused};
+
+/// A writer that takes so many bytes a call, and fails at the call after so many.
+#[derive(Drop)]
+struct FailingWriter {
+    taken: Vec<u8>,
+    at_once: usize,
+    left: usize,
+}
+
+impl FailingWriter {
+    /// It has its memory from the beginning: no write of up to 128 bytes fails for want of it.
+    fn new(alloc: Global, at_once: usize, left: usize) -> Result<FailingWriter, AllocError> {
+        Ok(FailingWriter {
+            taken: Vec::with_capacity(alloc, 128)?,
+            at_once,
+            left,
+        })
+    }
+}
+
+impl io::Write for FailingWriter {
+    fn write(&mut self, buf: &[u8]) -> io::Result<usize> {
+        if self.left == 0 {
+            return Err(io::Error::from(ErrorKind::BrokenPipe));
+        }
+        self.left -= 1;
+        let count = buf.len().min(self.at_once);
+        io::Write::write(&mut self.taken, &buf[..count])
+    }
+
+    fn flush(&mut self) -> io::Result<()> {
+        Ok(())
+    }
+}
 
 // A field that is left out has a number all the same.
 #[test]
@@ -24,40 +60,90 @@ fn counts_a_field_that_is_left_out(rt: HostRuntime) -> Done {
     Ok(())
 }
 
+fn user() -> User {
+    User {
+        user_id: 42,
+        password_hash: [1, 2, 3, 4],
+    }
+}
+
+const USER: &[u8] = b"\xa2\x67user_id\x18\x2a\x6dpassword_hash\x84\x01\x02\x03\x04";
+
 // Into slices that are too short: the bytes written are a beginning of the whole.
 #[test]
 fn leaves_a_beginning_of_a_struct(rt: HostRuntime) -> Done {
-    let alloc = rt.alloc();
-    let user = User {
-        user_id: 42,
-        password_hash: [1, 2, 3, 4],
-    };
-    let whole = to_vec(alloc, &user)?;
     for len in 0..30usize {
-        let count = fills_slice(&rt, alloc, &user, &whole, len);
+        let count = fills_slice(&rt, rt.alloc(), len)?;
         if len == 8 {
-            assert_eq!(rt; count, 2);
+            assert!(rt; count == 2);
         }
         if len == 29 {
-            assert_eq!(rt; count, 29);
+            assert!(rt; count == 29);
         }
     }
     Ok(())
 }
 
 /// So many bytes, a beginning of the whole, are written into a slice of this length.
-fn fills_slice(rt: &impl Abort, alloc: Global, user: &User, whole: &[u8], len: usize) -> usize {
+fn fills_slice(rt: &impl Abort, alloc: Global, len: usize) -> Result<usize, Fail> {
     let mut room = [0; 30];
     assert!(rt; len <= room.len());
     let mut sink = SliceWrite::new(&mut room[..len]);
-    let Err(error) = to_writer(alloc, &mut sink, user) else {
+    let Err(error) = to_writer(alloc, &mut sink, &user()) else {
         panic!(rt; "not refused");
     };
+    if error.is_memory() {
+        return Err(Fail::from(error));
+    }
     let count = sink.bytes_written();
     assert!(rt; error.is_scratch_too_small());
-    assert_eq!(rt; error.offset(), count as u64);
-    assert!(rt; whole.starts_with(&sink.into_inner()[..count]));
-    count
+    assert!(rt; error.offset() == count as u64);
+    assert!(rt; USER.starts_with(&sink.into_inner()[..count]));
+    Ok(count)
+}
+
+// By a head or what a string holds a call.
+#[test]
+fn tells_a_writers_fault_at_each_piece(rt: HostRuntime) -> Done {
+    let written = [0, 1, 2, 9, 11, 12, 25, 26, 27, 28, 29];
+    for (left, count) in written.into_iter().enumerate() {
+        fails_after(&rt, rt.alloc(), 30, left, count)?;
+    }
+    Ok(())
+}
+
+// By a byte a call.
+#[test]
+fn tells_a_writers_fault_at_each_byte(rt: HostRuntime) -> Done {
+    for left in 0..30usize {
+        fails_after(&rt, rt.alloc(), 1, left, left)?;
+    }
+    Ok(())
+}
+
+#[test]
+fn tells_a_writer_that_takes_nothing(rt: HostRuntime) -> Done {
+    fails_after(&rt, rt.alloc(), 0, 100, 0)
+}
+
+/// A writer that takes so many bytes a call, and fails at the call after so many, has taken these
+/// of the struct's.
+fn fails_after(rt: &impl Abort, alloc: Global, at_once: usize, left: usize, count: usize) -> Done {
+    let mut writer = FailingWriter::new(alloc, at_once, left)?;
+    let done = to_writer(alloc, &mut IoWrite::new(&mut writer), &user());
+    is_refused(done, "I/O error")?;
+    assert!(rt; writer.taken.len() == count);
+    assert!(rt; USER.starts_with(&writer.taken));
+    Ok(())
+}
+
+#[test]
+fn goes_on_by_a_byte_a_call(rt: HostRuntime) -> Done {
+    let alloc = rt.alloc();
+    let mut writer = FailingWriter::new(alloc, 1, 30)?;
+    to_writer(alloc, &mut IoWrite::new(&mut writer), &user())?;
+    assert!(rt; writer.taken.as_slice() == USER);
+    Ok(())
 }
 
 fn ferris(alloc: Global) -> Result<Mascot, Fail> {
@@ -95,13 +181,13 @@ fn writes_a_struct_to_a_slice(rt: HostRuntime) -> Done {
 fn writes_a_struct_to_a_writer(rt: HostRuntime) -> Done {
     let alloc = rt.alloc();
     let mascot = ferris(alloc)?;
-    let mut file: Vec<u8> = Vec::new(alloc);
+    let mut file = FailingWriter::new(alloc, 64, 100)?;
     {
         let mut sink = IoWrite::new(&mut file);
         to_writer(alloc, &mut sink, &mascot)?;
         to_writer(alloc, &mut sink, &mascot.year_of_birth)?;
     }
-    is_ferris_and_2015(&rt, &file);
+    is_ferris_and_2015(&rt, &file.taken);
     Ok(())
 }
 

@@ -10,7 +10,7 @@ use test_checks::{Done, is_refused};
 fn reads_item_by_item(rt: HostRuntime) -> Done {
     let alloc = rt.alloc();
     let mut de = Deserializer::from_slice(alloc, b"\x82\x01\xf5");
-    assert_eq!(rt; two_items(&mut de)?, (Some(1), Some(true)));
+    assert!(rt; two_items(&mut de)? == (Some(1), Some(true)));
     ends_here(&mut de)
 }
 
@@ -27,9 +27,9 @@ fn two_items(de: &mut Deserializer<SliceRead<'_>>) -> Answer<(Option<u8>, Option
 fn tells_how_many_items_are_left(rt: HostRuntime) -> Done {
     let alloc = rt.alloc();
     let mut de = Deserializer::from_slice(alloc, b"\x82\x01\xf5");
-    assert_eq!(rt; left_behind_one(&mut de)?, (Some(2), Some(1)));
+    assert!(rt; left_behind_one(&mut de)? == (Some(2), Some(1)));
     let mut de = Deserializer::from_slice(alloc, b"\x81\x01");
-    assert_eq!(rt; left_behind_one(&mut de)?, (Some(1), Some(0)));
+    assert!(rt; left_behind_one(&mut de)? == (Some(1), Some(0)));
     Ok(())
 }
 
@@ -49,13 +49,6 @@ fn leaves_an_array_for_an_error(rt: HostRuntime) -> Done {
     let e = items.refuse(Error::message(alloc, "no such item"));
     is_refused(Answer::<()>::Err(e), "no such item")?;
     gives(&rt, &mut de, 1u8)
-}
-
-#[test]
-fn goes_on_behind_an_item_that_was_passed_over(rt: HostRuntime) -> Done {
-    let mut de = Deserializer::from_slice(rt.alloc(), b"\x82\x01\xf6\x05");
-    gives_any(&mut de)?;
-    gives(&rt, &mut de, 5u8)
 }
 
 fn gives_any(de: &mut Deserializer<SliceRead<'_>>) -> Done {

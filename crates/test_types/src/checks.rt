@@ -3,17 +3,16 @@
 
 use serde_cbor::Deserializer;
 use serde_cbor::de::{Deserialize, Offset, SliceRead, Source};
-use std::fmt::Debug;
 use std::process::Abort;
 use test_checks::{Done, is_refused};
 
 /// The next item is read so.
-pub fn gives<'a, T: Deserialize<'a, SliceRead<'a>> + PartialEq + Debug>(
+pub fn gives<'a, T: Deserialize<'a, SliceRead<'a>> + PartialEq>(
     rt: &impl Abort,
     de: &mut Deserializer<SliceRead<'a>>,
     want: T,
 ) -> Done {
-    assert_eq!(rt; T::deserialize(de)?, want);
+    assert!(rt; T::deserialize(de)? == want);
     Ok(())
 }
 
@@ -28,7 +27,7 @@ pub fn refuses<'a, T: Deserialize<'a, SliceRead<'a>>>(
 
 /// So many bytes were taken.
 pub fn has_taken<R: Source + Offset>(rt: &impl Abort, de: &Deserializer<R>, want: usize) {
-    assert_eq!(rt; de.byte_offset(), want);
+    assert!(rt; de.byte_offset() == want);
 }
 
 /// Nothing follows.

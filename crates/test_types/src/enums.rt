@@ -25,8 +25,8 @@ fn newtype(de: &mut Deserializer<SliceRead<'_>>) -> Answer<(usize, i32)> {
 fn tells_the_variant(rt: HostRuntime) -> Done {
     let alloc = rt.alloc();
     let mut de = Deserializer::from_slice(alloc, b"\x64Unit\x82\x01\x0a");
-    assert_eq!(rt; unit(&mut de)?, 0);
-    assert_eq!(rt; newtype(&mut de)?, (1, 10));
+    assert!(rt; unit(&mut de)? == 0);
+    assert!(rt; newtype(&mut de)? == (1, 10));
     ends_here(&mut de)
 }
 

@@ -1,5 +1,5 @@
 //! Tests of what no row of a table shows: items, pairs and fields that are read one by one, tags
-//! that are entered and left, what follows an item, and readers that fail.
+//! that are entered and left, what follows an item, and a reader that has no end.
 #![tactic(auto)]
 
 #[cfg(test)]

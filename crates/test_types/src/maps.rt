@@ -10,7 +10,7 @@ use test_checks::{Done, is_refused};
 fn reads_pair_by_pair(rt: HostRuntime) -> Done {
     let alloc = rt.alloc();
     let mut de = Deserializer::from_slice(alloc, b"\xa2\x01\xf5\x61\x61\x02");
-    assert_eq!(rt; two_pairs(&mut de)?, (1, true, "a", 2));
+    assert!(rt; two_pairs(&mut de)? == (1, true, "a", 2));
     ends_here(&mut de)
 }
 
@@ -33,9 +33,9 @@ fn two_pairs<'a>(de: &mut Deserializer<SliceRead<'a>>) -> Result<(u8, bool, &'a 
 fn tells_how_many_pairs_are_left(rt: HostRuntime) -> Done {
     let alloc = rt.alloc();
     let mut de = Deserializer::from_slice(alloc, b"\xa2\x01\xf5\x61\x61\x02");
-    assert_eq!(rt; left_behind_a_key(&mut de)?, (Some(2), Some(1)));
+    assert!(rt; left_behind_a_key(&mut de)? == (Some(2), Some(1)));
     let mut de = Deserializer::from_slice(alloc, b"\xa1\x01\xf5");
-    assert_eq!(rt; left_behind_a_key(&mut de)?, (Some(1), Some(0)));
+    assert!(rt; left_behind_a_key(&mut de)? == (Some(1), Some(0)));
     Ok(())
 }
 

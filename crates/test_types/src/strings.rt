@@ -1,21 +1,10 @@
-//! Strings, one after the other, and what a reader lends.
+//! What a reader lends.
 
-use crate::checks::{ends_here, gives, has_taken};
 use serde_cbor::Deserializer;
 use serde_cbor::de::{EitherLifetime, EitherStr, IoRead};
 use std::process::Abort;
 use std::test::Fail;
 use test_checks::Done;
-
-#[test]
-fn reads_two_strings(rt: HostRuntime) -> Done {
-    let alloc = rt.alloc();
-    let mut de = Deserializer::from_slice(alloc, b"\x66foobar\x66foobar");
-    gives(&rt, &mut de, "foobar".to_owned(alloc)?)?;
-    has_taken(&rt, &de, 7);
-    gives(&rt, &mut de, "foobar".to_owned(alloc)?)?;
-    ends_here(&mut de)
-}
 
 #[test]
 fn lends_from_a_reader_until_its_next_call(rt: HostRuntime) -> Done {
@@ -30,7 +19,7 @@ fn lends_from_a_reader_until_its_next_call(rt: HostRuntime) -> Done {
 /// The text "ab" is next, and is lent until the next call.
 fn lends_text(rt: &impl Abort, de: &mut Deserializer<IoRead<&[u8]>>) -> Done {
     match de.read_text() {
-        Ok(EitherStr::Short(text)) => assert_eq!(rt; text, "ab"),
+        Ok(EitherStr::Short(text)) => assert!(rt; text == "ab"),
         Ok(EitherStr::Long(_)) => return Err(Fail::from("a reader lends nothing for long")),
         Err(why) => return Err(Fail::from(de.unread(why, "no text"))),
     }
@@ -40,7 +29,7 @@ fn lends_text(rt: &impl Abort, de: &mut Deserializer<IoRead<&[u8]>>) -> Done {
 /// The byte string 63 is next, and is lent until the next call.
 fn lends_byte_string(rt: &impl Abort, de: &mut Deserializer<IoRead<&[u8]>>) -> Done {
     match de.read_bytes() {
-        Ok(EitherLifetime::Short(bytes)) => assert_eq!(rt; bytes, b"c".as_slice()),
+        Ok(EitherLifetime::Short(bytes)) => assert!(rt; bytes == b"c".as_slice()),
         Ok(EitherLifetime::Long(_)) => return Err(Fail::from("a reader lends nothing for long")),
         Err(why) => return Err(Fail::from(de.unread(why, "no bytes"))),
     }

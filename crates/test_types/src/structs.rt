@@ -1,6 +1,6 @@
 //! Structs, read field by field.
 
-use crate::checks::{ends_here, gives};
+use crate::checks::ends_here;
 use serde_cbor::de::Field;
 use serde_cbor::{Deserializer, Result as Answer};
 use test_checks::{Done, is_refused};
@@ -9,12 +9,12 @@ use test_checks::{Done, is_refused};
 fn reads_field_by_field(rt: HostRuntime) -> Done {
     let mut de = Deserializer::from_slice(rt.alloc(), b"\xa2\x61b\xf5\x00\x0a");
     let mut fields = de.structure(&["a", "b"])?;
-    assert_eq!(rt; fields.size_hint(), Some(2));
-    assert_eq!(rt; fields.next_field()?, Some(Field::Known(1)));
+    assert!(rt; fields.size_hint() == Some(2));
+    assert!(rt; fields.next_field()? == Some(Field::Known(1)));
     assert!(rt; fields.value::<bool>()?);
-    assert_eq!(rt; fields.next_field()?, Some(Field::Known(0)));
+    assert!(rt; fields.next_field()? == Some(Field::Known(0)));
     fields.skip()?;
-    assert_eq!(rt; fields.next_field()?, None);
+    assert!(rt; fields.next_field()?.is_none());
     fields.end()?;
     ends_here(&mut de)
 }
@@ -33,34 +33,6 @@ fn ends_no_struct_before_its_fields(rt: HostRuntime) -> Done {
     let mut de = Deserializer::from_slice(rt.alloc(), b"\xa1\x00\x01");
     let fields = de.structure(&["a"])?;
     is_refused(fields.end(), "trailing data at offset 1")?;
-    Ok(())
-}
-
-#[test]
-fn passes_over_a_field(rt: HostRuntime) -> Done {
-    let bytes = b"\xbf\x61\x61\x01\x61\x7a\x80\x61\x62\x9f\x02\x03\xff\xff";
-    let mut de = Deserializer::from_slice(rt.alloc(), bytes);
-    let mut fields = de.structure(&["a", "b"])?;
-    assert_eq!(rt; fields.next_field()?, Some(Field::Known(0)));
-    assert_eq!(rt; fields.value::<u8>()?, 1);
-    assert_eq!(rt; fields.next_field()?, Some(Field::Unknown));
-    fields.skip()?;
-    assert_eq!(rt; fields.next_field()?, Some(Field::Known(1)));
-    assert_eq!(rt; fields.value::<[u8; 2]>()?, [2, 3]);
-    assert_eq!(rt; fields.next_field()?, None);
-    fields.end()?;
-    ends_here(&mut de)
-}
-
-#[test]
-fn passes_over_a_field_by_the_key_rule(rt: HostRuntime) -> Done {
-    let bytes = b"\xa2\x61\x61\x01\x61\x7a\xa1\x01\x01";
-    let mut de = Deserializer::from_slice(rt.alloc(), bytes).disable_packed_format();
-    let mut fields = de.structure(&["a", "b"])?;
-    assert_eq!(rt; fields.next_field()?, Some(Field::Known(0)));
-    assert_eq!(rt; fields.value::<u8>()?, 1);
-    assert_eq!(rt; fields.next_field()?, Some(Field::Unknown));
-    is_refused(fields.skip(), "wrong struct format at offset 7")?;
     Ok(())
 }
 

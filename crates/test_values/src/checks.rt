@@ -23,7 +23,7 @@ pub fn tag(alloc: Global, tag: u64, value: Value) -> Result<Value, AllocError> {
 
 /// The value is spelled so.
 pub fn writes<T: Serialize>(rt: &impl Abort, alloc: Global, value: &T, want: &[u8]) -> Done {
-    assert_eq!(rt; to_vec(alloc, value)?.as_slice(), want);
+    assert!(rt; to_vec(alloc, value)?.as_slice() == want);
     Ok(())
 }
 
@@ -50,7 +50,7 @@ pub fn is_written_up_to(rt: &impl Abort, alloc: Global, value: &Value, before: &
     let done = to_writer(alloc, &mut sink, value);
     let count = sink.bytes_written();
     assert!(rt; count <= 16);
-    assert_eq!(rt; &room[..count], before);
+    assert!(rt; &room[..count] == before);
     is_too_far_out(rt, done)
 }
 

@@ -10,7 +10,7 @@ use test_checks::{Done, is_refused};
 /// What was written is this.
 fn is_written(rt: &impl Abort, ser: Serializer<Vec<u8>>, bytes: &'static [u8]) {
     let written = ser.into_inner();
-    assert_eq!(rt; written.as_slice(), bytes);
+    assert!(rt; written.as_slice() == bytes);
 }
 
 fn to_vector(alloc: Global) -> Serializer<Vec<u8>> {
@@ -126,7 +126,7 @@ fn writes_head(rt: &impl Abort, alloc: Global, content: &[u8], head: &[u8]) -> D
     ser.serialize_bytes(content)?;
     let bytes = ser.into_inner();
     assert!(rt; bytes.starts_with(head));
-    assert_eq!(rt; bytes.len().checked_sub(head.len()), Some(content.len()));
+    assert!(rt; bytes.len().checked_sub(head.len()) == Some(content.len()));
     Ok(())
 }
 
@@ -137,8 +137,8 @@ fn stops_where_a_slice_is_full(rt: HostRuntime) -> Done {
     let refused = ser.serialize_str("foobar");
     is_refused(refused, "Scratch buffer too small at offset 1")?;
     let sink = ser.into_inner();
-    assert_eq!(rt; sink.bytes_written(), 1);
-    assert_eq!(rt; &*sink.into_inner(), b"\x66\0\0".as_slice());
+    assert!(rt; sink.bytes_written() == 1);
+    assert!(rt; &*sink.into_inner() == b"\x66\0\0".as_slice());
     Ok(())
 }
 
@@ -149,8 +149,8 @@ fn fills_a_slice(rt: HostRuntime) -> Done {
     ser.serialize_str("foobar")?;
     is_refused(ser.serialize_unit(), "Scratch buffer too small at offset 7")?;
     let sink = ser.into_inner();
-    assert_eq!(rt; sink.bytes_written(), 7);
-    assert_eq!(rt; &*sink.into_inner(), b"\x66foobar".as_slice());
+    assert!(rt; sink.bytes_written() == 7);
+    assert!(rt; &*sink.into_inner() == b"\x66foobar".as_slice());
     Ok(())
 }
 

@@ -6,16 +6,11 @@ ghost use Rattle.std.specs.Str.Lossy.{utf8_valid_len};
 ghost use Rattle.cbor_io.specs.ReadError.{why, place};
 ghost use Rattle.cbor_io.specs.declared.read_error.ReadErrorCode.TheVariants as refusal;
 
-use crate::checks::{
-    fills_a_vector, gives_all, joined_by_source, joins_two_chunks, shows_its_bytes,
-    skips_its_bytes, tells_the_end,
-};
 use cbor_read::{EitherLifetime, Read, ReadError, Source};
 use std::alloc::{AllocError, Global};
-use test_checks::Done;
 
 #[derive(Drop)]
-struct VecRead {
+pub struct VecRead {
     bytes: Vec<u8>,
     buffer: Vec<u8>,
     taken: usize,
@@ -165,48 +160,9 @@ impl<'de> Read<'de> for VecRead {
     }
 }
 
-fn owned(alloc: Global, bytes: &[u8]) -> Result<VecRead, AllocError> {
+/// A source of these bytes.
+pub fn owned(alloc: Global, bytes: &[u8]) -> Result<VecRead, AllocError> {
     let mut all = Vec::with_capacity(alloc, bytes.len())?;
     all.extend_from_slice(bytes)?;
     Ok(VecRead::new(alloc, all))
-}
-
-#[test]
-fn gives_its_bytes(rt: HostRuntime) -> Done {
-    let mut source = owned(rt.alloc(), b"\x63foo\x18\x2a\xf6")?;
-    gives_all(&rt, &mut source)
-}
-
-#[test]
-fn fills_a_vector_of_its_bytes(rt: HostRuntime) -> Done {
-    let mut source = owned(rt.alloc(), b"\x63foo\x18\x2a\xf6")?;
-    fills_a_vector(&rt, rt.alloc(), &mut source)
-}
-
-#[test]
-fn shows_the_bytes_to_come(rt: HostRuntime) -> Done {
-    let mut source = owned(rt.alloc(), b"\x63foo\x18\x2a\xf6")?;
-    shows_its_bytes(&rt, &mut source)
-}
-
-#[test]
-fn skips_bytes(rt: HostRuntime) -> Done {
-    let mut source = owned(rt.alloc(), b"\x01a\xc3\x28bc\xf6")?;
-    skips_its_bytes(&rt, &mut source)
-}
-
-#[test]
-fn tells_its_end(rt: HostRuntime) -> Done {
-    let mut source = owned(rt.alloc(), b"\x01\x02\x03")?;
-    tells_the_end(&rt, rt.alloc(), &mut source)
-}
-
-#[test]
-fn joins_its_chunks(rt: HostRuntime) -> Done {
-    let mut source = owned(rt.alloc(), b"aaab\xff")?;
-    joins_two_chunks(&rt, &mut source)?;
-    joined_by_source(&rt, &mut source, b"ab");
-    source.clear_buffer();
-    joined_by_source(&rt, &mut source, b"");
-    Ok(())
 }
