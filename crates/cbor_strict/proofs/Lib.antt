@@ -12,3 +12,4 @@ pub mod Walking
 pub mod Glue
 pub mod AtValue
 pub mod facts
+pub mod KeyWords

@@ -9,7 +9,7 @@ use Rattle.cbor_model.specs.Order.{lex}
 use Rattle.cbor_model.specs.Reader.{Reads, number_behind, width_of}
 use Rattle.cbor_model.specs.Value.{by_order}
 use Rattle.cbor_strict.specs.Walk as model
-use Rattle.cbor_strict.specs.Walk.{and_then, past, on_shortest, with_shortest, with_count, simple_walk, all_walk, pairs_walk, content_walk}
+use Rattle.cbor_strict.specs.Walk.{and_then, past, on_shortest, with_shortest, with_count, integer_walk, string_walk, simple_walk, all_walk, pairs_walk, content_walk}
 use Rattle.cbor_model.proofs.Majors.{each_major}
 use Rattle.cbor_strict.specs.declared.walk.Walk.{Walk}
 use Rattle.cbor_strict.specs.declared.walk.Walk.TheVariants.{Passed, Departed, Stopped}
@@ -57,23 +57,13 @@ shortest_end go low bs is = by_read (number_behind low bs) is
 counted : (go : ℕ → List ℕ → model.Walk) (low : ℕ) (bs : List ℕ) → (low ≡ 31 → ⊥) → with_count go low bs ≡ with_shortest go low bs
 counted go low bs not_31 = rw (ne_eqb low 31 not_31) refl
 
+-- a string whose head is the shortest
+pub on_bytes : (low n : ℕ) (bs rest : List ℕ) → (low ≡ 31 → ⊥) → number_behind low bs ≡ Ok (n, rest) → nat_lt n (floor (width_of low)) ≡ false → string_walk low bs ≡ past n rest
+on_bytes low n bs rest not_31 is short = counted past low bs not_31 ∙ shortest_on past low n bs rest is short
+
 module _ (p : List ℕ → model.Walk) (k low : ℕ) (bs : List ℕ) (below : k < 8) where
   module _ (n : ℕ) (rest : List ℕ) (not_31 : low ≡ 31 → ⊥) (is : number_behind low bs ≡ Ok (n, rest)) where
     module _ (short : nat_lt n (floor (width_of low)) ≡ false) where
-      pub on_number : k < 2 → content_walk p (major_of k) low bs ≡ model.passed rest
-      unfolding content_walk
-      on_number small =
-          let at = shortest_on (λ n bs. model.passed bs) low n bs rest is short in
-          each_major (λ k t. k < 2 → content_walk p t low bs ≡ model.passed rest)
-          (λ lt. at) (λ lt. at) (λ lt. absurd (omega (arith, lt))) (λ lt. absurd (omega (arith, lt))) (λ lt. absurd (omega (arith, lt))) (λ lt. absurd (omega (arith, lt))) (λ lt. absurd (omega (arith, lt))) (λ lt. absurd (omega (arith, lt))) k below small
-
-      pub on_string : 2 ≤ k → k < 4 → content_walk p (major_of k) low bs ≡ past n rest
-      unfolding content_walk
-      on_string least small =
-          let at = counted past low bs not_31 ∙ shortest_on past low n bs rest is short in
-          each_major (λ k t. 2 ≤ k → k < 4 → content_walk p t low bs ≡ past n rest)
-          (λ le lt. absurd (omega (arith, le))) (λ le lt. absurd (omega (arith, le))) (λ le lt. at) (λ le lt. at) (λ le lt. absurd (omega (arith, lt))) (λ le lt. absurd (omega (arith, lt))) (λ le lt. absurd (omega (arith, lt))) (λ le lt. absurd (omega (arith, lt))) k below least small
-
       pub on_array : k ≡ 4 → content_walk p (major_of k) low bs ≡ all_walk p n rest
       unfolding content_walk
       on_array four = rw four (counted (all_walk p) low bs not_31 ∙ shortest_on (all_walk p) low n bs rest is short)
@@ -109,12 +99,21 @@ module _ (p : List ℕ → model.Walk) (k low : ℕ) (bs : List ℕ) (below : k 
       each_major (λ k t. 2 ≤ k → k < 6 → content_walk p t low bs ≡ model.departed (length bs))
       (λ le lt. absurd (omega (arith, le))) (λ le lt. absurd (omega (arith, le))) (λ le lt. rw at refl) (λ le lt. rw at refl) (λ le lt. rw at refl) (λ le lt. rw at refl) (λ le lt. absurd (omega (arith, lt))) (λ le lt. absurd (omega (arith, lt))) k below least small
 
-  pub on_none : low ≡ 31 → (k < 2) ⊎ ((2 ≤ k) × (k ≡ 6)) → content_walk p (major_of k) low bs ≡ model.stopped
+  pub on_none : low ≡ 31 → k ≡ 6 → content_walk p (major_of k) low bs ≡ model.stopped
   unfolding content_walk number_behind
-  on_none is (inl small) =
-      each_major (λ k t. k < 2 → content_walk p t low bs ≡ model.stopped)
-      (λ lt. rw is refl) (λ lt. rw is refl) (λ lt. absurd (omega (arith, lt))) (λ lt. absurd (omega (arith, lt))) (λ lt. absurd (omega (arith, lt))) (λ lt. absurd (omega (arith, lt))) (λ lt. absurd (omega (arith, lt))) (λ lt. absurd (omega (arith, lt))) k below small
-  on_none is (inr six) = rw (six.1, is) refl
+  on_none is six = rw (six, is) refl
+
+  pub on_integer : k < 2 → content_walk p (major_of k) low bs ≡ integer_walk low bs
+  unfolding content_walk
+  on_integer small =
+      each_major (λ k t. k < 2 → content_walk p t low bs ≡ integer_walk low bs)
+      (λ lt. refl) (λ lt. refl) (λ lt. absurd (omega (arith, lt))) (λ lt. absurd (omega (arith, lt))) (λ lt. absurd (omega (arith, lt))) (λ lt. absurd (omega (arith, lt))) (λ lt. absurd (omega (arith, lt))) (λ lt. absurd (omega (arith, lt))) k below small
+
+  pub on_string : 2 ≤ k → k < 4 → content_walk p (major_of k) low bs ≡ string_walk low bs
+  unfolding content_walk
+  on_string least small =
+      each_major (λ k t. 2 ≤ k → k < 4 → content_walk p t low bs ≡ string_walk low bs)
+      (λ le lt. absurd (omega (arith, le))) (λ le lt. absurd (omega (arith, le))) (λ le lt. refl) (λ le lt. refl) (λ le lt. absurd (omega (arith, lt))) (λ le lt. absurd (omega (arith, lt))) (λ le lt. absurd (omega (arith, lt))) (λ le lt. absurd (omega (arith, lt))) k below least small
 
   pub on_simple : k ≡ 7 → content_walk p (major_of k) low bs ≡ simple_walk low bs
   unfolding content_walk
@@ -138,6 +137,16 @@ other_then Stopped bs go other = refl
 
 one_less : (n i : ℕ) → i < n → n - i ≡ suc (n - (i + 1))
 one_less n i lt = omega (arith, lt)
+
+-- past one item as past each of one
+pub one_item : (p : List ℕ → model.Walk) (n : ℕ) (bs : List ℕ) → n ≡ 1 → all_walk p n bs ≡ p bs
+unfolding all_walk
+one_item p n bs one = ap (λ (k : ℕ). all_walk p k bs) one ∙ by (p bs)
+  where
+    by : (w : model.Walk) → and_then w (all_walk p 0) ≡ w
+    by (model.passed rest) = refl
+    by (model.departed left) = refl
+    by model.stopped = refl
 
 module _ (p : List ℕ → model.Walk) (n i : ℕ) (lt : i < n) where
   pub all_step : (rest mid : List ℕ) → p rest ≡ model.passed mid → all_walk p (n - i) rest ≡ all_walk p (n - (i + 1)) mid

@@ -40,6 +40,13 @@ with_shortest go low bs = on_shortest go (width_of low) (number_behind low bs)
 abbrev pub with_count : (ℕ → List ℕ → Walk) → ℕ → List ℕ → Walk
 with_count go low bs = if low == 31 then departed (length bs) else with_shortest go low bs
 
+-- what follows a first byte of an integer, and of a string
+abbrev pub integer_walk : ℕ → List ℕ → Walk
+integer_walk = with_shortest (λ n bs. passed bs)
+
+abbrev pub string_walk : ℕ → List ℕ → Walk
+string_walk = with_count past
+
 -- what follows a first byte of major type 7
 unfoldable pub simple_walk : ℕ → List ℕ → Walk
 simple_walk low bs =
@@ -70,10 +77,10 @@ pairs_walk p (suc n) before bs = and_then (p bs) (λ at_value.
 
 -- what follows a first byte of this major type, with these lower five bits
 unfoldable pub content_walk : (List ℕ → Walk) → Major → ℕ → List ℕ → Walk
-content_walk p unsigned = with_shortest (λ n bs. passed bs)
-content_walk p negative = with_shortest (λ n bs. passed bs)
-content_walk p bytes = with_count past
-content_walk p text = with_count past
+content_walk p unsigned = integer_walk
+content_walk p negative = integer_walk
+content_walk p bytes = string_walk
+content_walk p text = string_walk
 content_walk p array = with_count (all_walk p)
 content_walk p map = with_count (λ n. pairs_walk p n [])
 content_walk p tag = with_shortest (λ n. p)

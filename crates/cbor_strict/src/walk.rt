@@ -3,16 +3,19 @@
 //! Nothing is kept of the item, so it takes no memory. It goes past definite lengths alone, since an
 //! indefinite one is a departure, and past a string in one step.
 
-ghost use Rattle.std.specs.Prelude.{◌≡◌, ◌≢◌, ◌<◌, ◌≤◌, ◌-◌, ◌/◌, ◌%◌, [], length, nat_lt, take, MatchBool};
-ghost use Rattle.std.specs.Prelude.{MatchOption};
+ghost use Rattle.std.specs.Prelude.{◌≡◌, ◌≢◌, ℕ, ◌<◌, ◌≤◌, ◌-◌, ◌/◌, ◌%◌, [], length, nat_lt};
+ghost use Rattle.std.specs.Prelude.{slice_index, take, MatchBool, MatchOption};
 ghost use Rattle.std.specs.declared.cmp.Ordering.TheVariants.{Less};
 ghost use Rattle.cbor_strict.specs.Departure.{floor};
 ghost use Rattle.cbor_model.specs.Major.{major_of};
 ghost use Rattle.cbor_model.specs.Order.{lex};
 ghost use Rattle.cbor_model.specs.Reader.{number_behind, width_of};
-ghost use Rattle.cbor_strict.specs.Walk.{all_walk, content_walk, pairs_walk, past, simple_walk, walk};
+ghost use Rattle.cbor_io.specs.Compare.{big_endian};
+ghost use Rattle.cbor_strict.specs.Walk.{all_walk, content_walk, integer_walk, pairs_walk, past};
+ghost use Rattle.cbor_strict.specs.Walk.{simple_walk, string_walk, walk};
 ghost use Rattle.cbor_strict.specs.Walks.{last, IsNumber, IsWithin, StopsNumber, TellsDeparture, Walks};
 
+use cbor_io::compare::compare;
 use std::cmp::Ordering;
 
 /// What came of going on.
@@ -39,6 +42,7 @@ pub(crate) fn first_departure(bytes: &[u8]) -> Option<usize>
 
 /// Goes past an item.
 #[cycle(walk)]
+#[inline(always)]
 fn item(bytes: &[u8]) -> Walk
     ensures walks { Walks bytes.now walk result }
     ensures within { IsWithin (length bytes.now) result }
@@ -49,7 +53,7 @@ fn item(bytes: &[u8]) -> Walk
     }
 }
 
-/// Goes past what follows a first byte.
+/// Goes past what follows a first byte. What nests no other item takes no call.
 #[cycle(walk)]
 #[inline(always)]
 fn content(first: u8, bytes: &[u8]) -> Walk
@@ -59,11 +63,28 @@ fn content(first: u8, bytes: &[u8]) -> Walk
 {
     let major = first / 32;
     let low = first % 32;
-    if major == 7 {
-        return simple(low, bytes);
+    if major <= 1 {
+        integer(low, bytes)
+    } else if major == 7 {
+        simple(low, bytes)
+    } else if major <= 3 {
+        string(low, bytes)
+    } else {
+        nested(major, low, bytes)
     }
+}
+
+/// Goes past what follows a first byte of an array, a map or a tag.
+#[cycle(walk)]
+#[inline(never)]
+fn nested(major: u8, low: u8, bytes: &[u8]) -> Walk
+    requires { (4 ≤ major) × (major ≤ 6) }
+    ensures walks { Walks bytes.now (λ fuel. content_walk (walk fuel) (major_of major) low) result }
+    ensures within { IsWithin (length bytes.now) result }
+{
     if low == 31 {
-        if major < 2 || major == 6 {
+        // No tag is of an indefinite length.
+        if major == 6 {
             return Walk::Stopped;
         }
         return Walk::Departed(bytes.len());
@@ -73,14 +94,10 @@ fn content(first: u8, bytes: &[u8]) -> Walk
             if is_long(low, n) {
                 return Walk::Departed(left);
             }
-            if major <= 1 {
-                return Walk::Passed(left);
-            }
             let rest = behind(bytes, left);
-            if major <= 3 {
-                past(n, rest)
-            } else if major == 4 {
-                items(n, rest)
+            if major == 4 {
+                // One item takes no loop.
+                if n == 1 { item(rest) } else { items(n, rest) }
             } else if major == 5 {
                 pairs(n, rest)
             } else {
@@ -156,14 +173,107 @@ fn ahead(bytes: &[u8], left: usize) -> &[u8]
     &bytes[..bytes.len() - left]
 }
 
-/// Whether a key of these bytes is above the one before it.
+/// Whether a key of these bytes is above the one before it, or the first. Of the lengths that
+/// numbers have it goes by words.
 #[inline(always)]
 fn ascends(before: &[u8], key: &[u8]) -> bool
     ensures { MatchBool result (lex before.now key.now ≡ Less) (lex before.now key.now ≢ Less) }
 {
-    match before.cmp(key) {
+    if before.len() != key.len() {
+        return before.is_empty() || is_below(before, key);
+    }
+    match key.len() {
+        1 => before[0] < key[0],
+        2 => two(before) < two(key),
+        3 => three(before) < three(key),
+        5 => five(before) < five(key),
+        _ => is_less(compare(before, key)),
+    }
+}
+
+/// Likewise of any lengths.
+#[inline(never)]
+fn is_below(before: &[u8], key: &[u8]) -> bool
+    ensures { MatchBool result (lex before.now key.now ≡ Less) (lex before.now key.now ≢ Less) }
+{
+    is_less(before.cmp(key))
+}
+
+#[inline(always)]
+fn is_less(order: Ordering) -> bool
+    ensures { MatchBool result (order ≡ Less) (order ≢ Less) }
+{
+    match order {
         Ordering::Less => true,
         _ => false,
+    }
+}
+
+/// Two bytes as a number, the first of them the highest, and likewise three and five.
+#[inline(always)]
+fn two(bytes: &[u8]) -> u64
+    requires { length bytes.now ≡ 2 }
+    ensures value { result ≡ big_endian bytes.now }
+    ensures bytes { (i : ℕ) → slice_index bytes.now i < 256 }
+{
+    u16::from_be_bytes([bytes[0], bytes[1]]) as u64
+}
+
+#[inline(always)]
+fn three(bytes: &[u8]) -> u64
+    requires { length bytes.now ≡ 3 }
+    ensures value { result ≡ big_endian bytes.now }
+    ensures bytes { (i : ℕ) → slice_index bytes.now i < 256 }
+{
+    bytes[0] as u64 * 0x1_0000 + u16::from_be_bytes([bytes[1], bytes[2]]) as u64
+}
+
+#[inline(always)]
+fn five(bytes: &[u8]) -> u64
+    requires { length bytes.now ≡ 5 }
+    ensures value { result ≡ big_endian bytes.now }
+    ensures bytes { (i : ℕ) → slice_index bytes.now i < 256 }
+{
+    let last = u32::from_be_bytes([bytes[1], bytes[2], bytes[3], bytes[4]]);
+    bytes[0] as u64 * 0x1_0000_0000 + last as u64
+}
+
+/// Goes past what follows a first byte of an integer.
+#[inline(always)]
+fn integer(low: u8, bytes: &[u8]) -> Walk
+    ensures walks { Walks bytes.now (λ fuel. integer_walk low) result }
+    ensures within { IsWithin (length bytes.now) result }
+{
+    match number(low, bytes) {
+        Some((n, left)) => {
+            if is_long(low, n) {
+                Walk::Departed(left)
+            } else {
+                Walk::Passed(left)
+            }
+        }
+        None => Walk::Stopped,
+    }
+}
+
+/// Goes past what follows a first byte of a string.
+#[inline(always)]
+fn string(low: u8, bytes: &[u8]) -> Walk
+    ensures walks { Walks bytes.now (λ fuel. string_walk low) result }
+    ensures within { IsWithin (length bytes.now) result }
+{
+    if low == 31 {
+        return Walk::Departed(bytes.len());
+    }
+    match number(low, bytes) {
+        Some((n, left)) => {
+            if is_long(low, n) {
+                Walk::Departed(left)
+            } else {
+                past(n, behind(bytes, left))
+            }
+        }
+        None => Walk::Stopped,
     }
 }
 
@@ -191,10 +301,24 @@ fn simple(low: u8, bytes: &[u8]) -> Walk
     match low {
         20 | 21 | 22 => Walk::Passed(bytes.len()),
         23 => Walk::Departed(bytes.len()),
-        25 => past(2, bytes),
-        26 => past(4, bytes),
-        27 => past(8, bytes),
+        25 => float::<2>(bytes),
+        26 => float::<4>(bytes),
+        27 => float::<8>(bytes),
         _ => Walk::Stopped,
+    }
+}
+
+/// Goes past the bits of a float of N bytes.
+#[tactic(auto, using(crate::proofs::Walking::last_all))]
+#[inline(always)]
+fn float<const N: usize>(bytes: &[u8]) -> Walk
+    requires { N ≤ 8 }
+    ensures walks { Walks bytes.now (λ fuel. past N) result }
+    ensures within { IsWithin (length bytes.now) result }
+{
+    match bytes.split_first_chunk::<N>() {
+        Some((_, rest)) => Walk::Passed(rest.len()),
+        None => Walk::Stopped,
     }
 }
 

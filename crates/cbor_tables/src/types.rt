@@ -6,6 +6,7 @@ mod maps;
 mod numbers;
 mod samples;
 mod strings;
+mod tagged;
 
 use crate::desk::Desk;
 use crate::row::Row;

@@ -26,6 +26,7 @@ pub use cbor_ser::{Serializer, to_vec, to_writer};
 pub use cbor_stream as stream;
 pub use cbor_strict as strict;
 pub use cbor_strict::{from_slice_canonical, from_slice_canonical_as};
+pub use cbor_tags as tags;
 pub use cbor_typed as de;
 pub use cbor_typed::{
     Deserializer, Formats, StreamDeserializer, from_mut_slice, from_reader, from_slice,

@@ -2,6 +2,7 @@
 
 use crate::desk::Desk;
 use crate::row::Row;
+use crate::types::tagged;
 use cbor_samples::choice::Choice;
 use cbor_samples::enums::{Bar, Color, DataEnum, TwoVariants, Wish};
 use cbor_samples::letters::{EnumStruct, Letter, ReprEnumStruct};
@@ -12,7 +13,7 @@ use serde_cbor::Deserializer;
 use serde_cbor::de::Read;
 use std::io;
 
-/// Judges a row of one of these; false where the type isn't known.
+/// Judges a row of one of these, or of another type.
 pub fn judge<'r, R: Read<'r> + Drop>(
     desk: &mut Desk<'_>,
     row: &Row<'_>,
@@ -72,7 +73,7 @@ fn small<'r, R: Read<'r> + Drop>(
         "ReprEnumStruct" => desk.reads::<ReprEnumStruct, R>(row, de)?,
         "FloatEnum" => desk.reads::<FloatEnum, R>(row, de)?,
         "UnitStruct" => desk.reads::<UnitStruct, R>(row, de)?,
-        _ => return Ok(false),
+        _ => return tagged::judge(desk, row, de),
     }
     Ok(true)
 }

@@ -3,40 +3,22 @@ use Rattle.cbor_strict.specs.Walk.{walk, departed, passed, past, content_walk, a
 use Rattle.cbor_model.specs.Major.{major_of}
 use Rattle.cbor_strict.specs.Walks.{last, walk_view, IsWithin}
 use Rattle.cbor_strict.proofs.walk.+walk.Goals as goal
-use Rattle.cbor_strict.proofs.Walking.{view-last, within-last, length-last, last-last, within_rest, on_simple, on_none, on_open, on_long, on_array, on_map, on_number, on_string, on_tag, on_end, on_first, no_first, all_step, all_other, all_end, pairs_step, pairs_departs, pairs_other, pairs_value_other, pairs_end, rest_last, next_rest, key_of, key_at}
+use Rattle.cbor_strict.proofs.Walking.{view-last, within-last, length-last, last-last, within_rest, on_integer, on_string, on_simple, on_none, on_open, on_long, on_array, on_map, on_tag, on_end, on_first, no_first, one_item, all_step, all_other, all_end, pairs_step, pairs_departs, pairs_other, pairs_value_other, pairs_end, rest_last, next_rest, key_of, key_at}
+
+pub content-returns-then-major-le1-clause-walks : goal.content-returns-then-major-le1-clause-walks
+content-returns-then-major-le1-clause-walks t c = λ fuel enough.
+    let below : c.args.first / 32 < 8 = omega (arith, c.ranges.first.fits) in
+    on_integer (walk fuel) (c.args.first / 32) (c.args.first % 32) c.args.bytes.now below (omega (arith, c.if-major-le1.true)) ∙ c.integer.ensures.walks fuel enough
+
+pub content-returns-then-major-le3-clause-walks : goal.content-returns-then-major-le3-clause-walks
+content-returns-then-major-le3-clause-walks t c = λ fuel enough.
+    let below : c.args.first / 32 < 8 = omega (arith, c.ranges.first.fits) in
+    on_string (walk fuel) (c.args.first / 32) (c.args.first % 32) c.args.bytes.now below (omega (arith, c.if-major-le1.false)) (omega (arith, c.if-major-le3.true)) ∙ c.string.ensures.walks fuel enough
 
 pub content-returns-then-major-eq7-clause-walks : goal.content-returns-then-major-eq7-clause-walks
 content-returns-then-major-eq7-clause-walks t c = λ fuel enough.
     let below : c.args.first / 32 < 8 = omega (arith, c.ranges.first.fits) in
     on_simple (walk fuel) (c.args.first / 32) (c.args.first % 32) c.args.bytes.now below c.if-major-eq7.true ∙ c.simple.ensures.walks fuel enough
-
-pub content-returns-then-major-lt2-clause-walks : goal.content-returns-then-major-lt2-clause-walks
-content-returns-then-major-lt2-clause-walks t c = λ fuel enough.
-    let below : c.args.first / 32 < 8 = omega (arith, c.ranges.first.fits) in
-    on_none (walk fuel) (c.args.first / 32) (c.args.first % 32) c.args.bytes.now below c.if-low-eq31.true c.then-major-lt2.either
-
-pub content-returns-then-low-eq31-clause-walks : goal.content-returns-then-low-eq31-clause-walks
-content-returns-then-low-eq31-clause-walks t c = λ fuel enough.
-    let below : c.args.first / 32 < 8 = omega (arith, c.ranges.first.fits) in
-    let small : c.args.first / 32 < 6 = omega (arith, below, c.if-major-eq7.false, c.if-major-eq6.false) in
-    on_open (walk fuel) (c.args.first / 32) (c.args.first % 32) c.args.bytes.now below c.if-low-eq31.true c.if-major-lt2.false small
-
-pub content-is_long-requires : goal.content-is_long-requires
-content-is_long-requires t c = let number = c.in-Some.ensures in number.0
-
-pub content-returns-then-is_long-clause-walks : goal.content-returns-then-is_long-clause-walks
-content-returns-then-is_long-clause-walks t c = λ fuel enough.
-    let below : c.args.first / 32 < 8 = omega (arith, c.ranges.first.fits) in
-    let small : c.args.first / 32 < 7 = omega (arith, below, c.if-major-eq7.false) in
-    let number = c.in-Some.ensures in
-    on_long (walk fuel) (c.args.first / 32) (c.args.first % 32) c.args.bytes.now below c.in-Some.n (last c.in-Some.left c.args.bytes.now) c.if-low-eq31.false number.1 (sym c.if-is_long.ensures) small
-    ∙ ap departed (length-last c.in-Some.left c.args.bytes.now number.2)
-
-pub content-returns-in-None-clause-walks : goal.content-returns-in-None-clause-walks
-content-returns-in-None-clause-walks t c = λ fuel enough.
-    let below : c.args.first / 32 < 8 = omega (arith, c.ranges.first.fits) in
-    let small : c.args.first / 32 < 7 = omega (arith, below, c.if-major-eq7.false) in
-    on_end (walk fuel) (c.args.first / 32) (c.args.first % 32) c.args.bytes.now below c.if-low-eq31.false c.in-None.ensures small
 
 pub item-returns-in-Some-clause-walks : goal.item-returns-in-Some-clause-walks
 item-returns-in-Some-clause-walks t c = λ fuel enough.
@@ -134,47 +116,69 @@ pairs-returns-clause-walks t c = λ fuel enough.
     let i = c.loop-i.invariant in
     i.so_far fuel enough ∙ pairs_end (walk fuel) c.args.n c.loop-i._i c.loop-i.before.now c.loop-i.rest.now c.loop-i-test.false ∙ ap passed i.is_last
 
--- ---- what follows a number
+-- ---- what follows a first byte of an array, a map or a tag
 
-pub content-returns-then-major-le1-clause-walks : goal.content-returns-then-major-le1-clause-walks
-content-returns-then-major-le1-clause-walks t c = λ fuel enough.
-    let below : c.args.first / 32 < 8 = omega (arith, c.ranges.first.fits) in
-    let number = c.in-Some.ensures in
-    on_number (walk fuel) (c.args.first / 32) (c.args.first % 32) c.args.bytes.now below c.in-Some.n (last c.in-Some.left c.args.bytes.now) c.if-low-eq31.false number.1 (sym c.if-is_long.ensures) (omega (arith, c.if-major-le1.true))
+pub nested-returns-then-major-eq6-clause-walks : goal.nested-returns-then-major-eq6-clause-walks
+nested-returns-then-major-eq6-clause-walks t c = λ fuel enough.
+    let below : c.args.major < 8 = omega (arith, c.requires) in
+    on_none (walk fuel) c.args.major c.args.low c.args.bytes.now below c.if-low-eq31.true c.if-major-eq6.true
 
-pub content-returns-then-major-le3-clause-walks : goal.content-returns-then-major-le3-clause-walks
-content-returns-then-major-le3-clause-walks t c = λ fuel enough.
-    let below : c.args.first / 32 < 8 = omega (arith, c.ranges.first.fits) in
+pub nested-returns-then-low-eq31-clause-walks : goal.nested-returns-then-low-eq31-clause-walks
+nested-returns-then-low-eq31-clause-walks t c = λ fuel enough.
+    let below : c.args.major < 8 = omega (arith, c.requires) in
+    let small : c.args.major < 6 = omega (arith, c.requires, c.if-major-eq6.false) in
+    on_open (walk fuel) c.args.major c.args.low c.args.bytes.now below c.if-low-eq31.true (omega (arith, c.requires)) small
+
+pub nested-is_long-requires : goal.nested-is_long-requires
+nested-is_long-requires t c = let number = c.in-Some.ensures in number.0
+
+pub nested-returns-then-is_long-clause-walks : goal.nested-returns-then-is_long-clause-walks
+nested-returns-then-is_long-clause-walks t c = λ fuel enough.
+    let below : c.args.major < 8 = omega (arith, c.requires) in
     let number = c.in-Some.ensures in
     let bs = c.args.bytes.now in
     let left = c.in-Some.left in
-    on_string (walk fuel) (c.args.first / 32) (c.args.first % 32) bs below c.in-Some.n (last left bs) c.if-low-eq31.false number.1 (sym c.if-is_long.ensures) (omega (arith, c.if-major-le1.false)) (omega (arith, c.if-major-le3.true))
-    ∙ rest_last c.behind-rest.result.now left bs c.past.result (past c.in-Some.n) fuel c.behind-rest.ensures number.2 enough (c.past.ensures.walks fuel) c.past.ensures.within
+    on_long (walk fuel) c.args.major c.args.low bs below c.in-Some.n (last left bs) c.if-low-eq31.false number.1 (sym c.if-is_long.ensures) (omega (arith, c.requires))
+    ∙ ap departed (length-last left bs number.2)
 
-pub content-returns-then-major-eq4-clause-walks : goal.content-returns-then-major-eq4-clause-walks
-content-returns-then-major-eq4-clause-walks t c = λ fuel enough.
-    let below : c.args.first / 32 < 8 = omega (arith, c.ranges.first.fits) in
+pub nested-returns-in-None-clause-walks : goal.nested-returns-in-None-clause-walks
+nested-returns-in-None-clause-walks t c = λ fuel enough.
+    let below : c.args.major < 8 = omega (arith, c.requires) in
+    on_end (walk fuel) c.args.major c.args.low c.args.bytes.now below c.if-low-eq31.false c.in-None.ensures (omega (arith, c.requires))
+
+pub nested-returns-then-n-eq1-clause-walks : goal.nested-returns-then-n-eq1-clause-walks
+nested-returns-then-n-eq1-clause-walks t c = λ fuel enough.
+    let below : c.args.major < 8 = omega (arith, c.requires) in
     let number = c.in-Some.ensures in
     let bs = c.args.bytes.now in
     let left = c.in-Some.left in
-    on_array (walk fuel) (c.args.first / 32) (c.args.first % 32) bs below c.in-Some.n (last left bs) c.if-low-eq31.false number.1 (sym c.if-is_long.ensures) c.if-major-eq4.true
+    on_array (walk fuel) c.args.major c.args.low bs below c.in-Some.n (last left bs) c.if-low-eq31.false number.1 (sym c.if-is_long.ensures) c.if-major-eq4.true
+    ∙ one_item (walk fuel) c.in-Some.n (last left bs) c.if-n-eq1.true
+    ∙ rest_last c.behind-rest.result.now left bs c.item.result (walk fuel) fuel c.behind-rest.ensures number.2 enough (c.item.ensures.walks fuel) c.item.ensures.within
+
+pub nested-returns-else-n-eq1-clause-walks : goal.nested-returns-else-n-eq1-clause-walks
+nested-returns-else-n-eq1-clause-walks t c = λ fuel enough.
+    let below : c.args.major < 8 = omega (arith, c.requires) in
+    let number = c.in-Some.ensures in
+    let bs = c.args.bytes.now in
+    let left = c.in-Some.left in
+    on_array (walk fuel) c.args.major c.args.low bs below c.in-Some.n (last left bs) c.if-low-eq31.false number.1 (sym c.if-is_long.ensures) c.if-major-eq4.true
     ∙ rest_last c.behind-rest.result.now left bs c.items.result (all_walk (walk fuel) c.in-Some.n) fuel c.behind-rest.ensures number.2 enough (c.items.ensures.walks fuel) c.items.ensures.within
 
-pub content-returns-then-major-eq5-clause-walks : goal.content-returns-then-major-eq5-clause-walks
-content-returns-then-major-eq5-clause-walks t c = λ fuel enough.
-    let below : c.args.first / 32 < 8 = omega (arith, c.ranges.first.fits) in
+pub nested-returns-then-major-eq5-clause-walks : goal.nested-returns-then-major-eq5-clause-walks
+nested-returns-then-major-eq5-clause-walks t c = λ fuel enough.
+    let below : c.args.major < 8 = omega (arith, c.requires) in
     let number = c.in-Some.ensures in
     let bs = c.args.bytes.now in
     let left = c.in-Some.left in
-    on_map (walk fuel) (c.args.first / 32) (c.args.first % 32) bs below c.in-Some.n (last left bs) c.if-low-eq31.false number.1 (sym c.if-is_long.ensures) c.if-major-eq5.true
+    on_map (walk fuel) c.args.major c.args.low bs below c.in-Some.n (last left bs) c.if-low-eq31.false number.1 (sym c.if-is_long.ensures) c.if-major-eq5.true
     ∙ rest_last c.behind-rest.result.now left bs c.pairs.result (pairs_walk (walk fuel) c.in-Some.n []) fuel c.behind-rest.ensures number.2 enough (c.pairs.ensures.walks fuel) c.pairs.ensures.within
 
-pub content-returns-else-major-eq5-clause-walks : goal.content-returns-else-major-eq5-clause-walks
-content-returns-else-major-eq5-clause-walks t c = λ fuel enough.
-    let below : c.args.first / 32 < 8 = omega (arith, c.ranges.first.fits) in
+pub nested-returns-else-major-eq5-clause-walks : goal.nested-returns-else-major-eq5-clause-walks
+nested-returns-else-major-eq5-clause-walks t c = λ fuel enough.
+    let below : c.args.major < 8 = omega (arith, c.requires) in
     let number = c.in-Some.ensures in
     let bs = c.args.bytes.now in
     let left = c.in-Some.left in
-    let six : c.args.first / 32 ≡ 6 = omega (arith, below, c.if-major-eq7.false, c.if-major-le3.false, c.if-major-eq4.false, c.if-major-eq5.false) in
-    on_tag (walk fuel) (c.args.first / 32) (c.args.first % 32) bs below c.in-Some.n (last left bs) c.if-low-eq31.false number.1 (sym c.if-is_long.ensures) six
-    ∙ rest_last c.behind-rest.result.now left bs c.item.result (walk fuel) fuel c.behind-rest.ensures number.2 enough (c.item.ensures.walks fuel) c.item.ensures.within
+    on_tag (walk fuel) c.args.major c.args.low bs below c.in-Some.n (last left bs) c.if-low-eq31.false number.1 (sym c.if-is_long.ensures) (omega (arith, c.requires, c.if-major-eq4.false, c.if-major-eq5.false))
+    ∙ rest_last c.behind-rest.result.now left bs c.item-else-major-eq5.result (walk fuel) fuel c.behind-rest.ensures number.2 enough (c.item-else-major-eq5.ensures.walks fuel) c.item-else-major-eq5.ensures.within

@@ -4,16 +4,19 @@ use Rattle.cbor_strict.specs.Walks.{last}
 use Rattle.cbor_strict.proofs.walk.+walk.Given as goal
 
 abbrev pub decreases-content : goal.decreases-content
-decreases-content l = 3 * length l.bytes.now + 2
+decreases-content l = 4 * length l.bytes.now + 3
 
 abbrev pub decreases-item : goal.decreases-item
-decreases-item l = 3 * length l.bytes.now
+decreases-item l = 4 * length l.bytes.now
 
 abbrev pub decreases-items : goal.decreases-items
-decreases-items l = 3 * length l.bytes.now + 1
+decreases-items l = 4 * length l.bytes.now + 1
+
+abbrev pub decreases-nested : goal.decreases-nested
+decreases-nested l = 4 * length l.bytes.now + 2
 
 abbrev pub decreases-pairs : goal.decreases-pairs
-decreases-pairs l = 3 * length l.bytes.now + 1
+decreases-pairs l = 4 * length l.bytes.now + 1
 
 abbrev pub invariant-items-loop-i : goal.invariant-items-loop-i
 invariant-items-loop-i l = record {

@@ -1,0 +1,34 @@
+//! Values with the outermost tag of their item.
+
+use crate::desk::Desk;
+use crate::row::Row;
+use serde_cbor::de::Read;
+use serde_cbor::tags::Tagged;
+use serde_cbor::{Deserializer, Value};
+use std::collections::BTreeMap;
+use std::io;
+
+/// Tags around a pair, around its parts, and around a map's keys and values.
+type Nest = Tagged<
+    (
+        Tagged<String>,
+        Tagged<BTreeMap<Tagged<String>, Tagged<String>>>,
+    ),
+>;
+
+/// Judges a row of one of these; false where the type isn't known.
+pub fn judge<'r, R: Read<'r> + Drop>(
+    desk: &mut Desk<'_>,
+    row: &Row<'_>,
+    de: Deserializer<R>,
+) -> io::Result<bool> {
+    match row.kind {
+        "Tagged<u8>" => desk.reads::<Tagged<u8>, R>(row, de)?,
+        "Tagged<i128>" => desk.reads::<Tagged<i128>, R>(row, de)?,
+        "Tagged<Value>" => desk.reads::<Tagged<Value>, R>(row, de)?,
+        "Tagged<Tagged<u8>>" => desk.reads::<Tagged<Tagged<u8>>, R>(row, de)?,
+        "Nest" => desk.reads::<Nest, R>(row, de)?,
+        _ => return Ok(false),
+    }
+    Ok(true)
+}

@@ -1,0 +1,133 @@
+-- Items with their outermost tags, as they are read.
+use Rattle.std.proofs.Common.{Bool, ◌≡◌, ◌∙◌, ◌+◌, ℕ, suc, List, Option, Some, None, Ok, Err, refl, sym, ap, subst, arith}
+use Rattle.cbor_model.specs.Formats.{Formats}
+use Rattle.cbor_model.specs.Head.{HeadWidth}
+use Rattle.cbor_model.specs.Raw as raw
+use Rattle.cbor_model.specs.Raw.{Raw}
+use Rattle.cbor_model.specs.Reader.{Fault, Reads, ◌>>=◌, item_at, inside, tag_at}
+use Rattle.cbor_model.proofs.facts.Reader.{ok_is}
+use Rattle.cbor_read.specs.Source.{Input}
+use Rattle.cbor_io.specs.declared.error.ErrorCode.{ErrorCode}
+use Rattle.cbor_io.specs.declared.read_error.ReadErrorCode.{ReadErrorCode}
+use Rattle.cbor_de.specs.Gives.{Limits, Step}
+use Rattle.cbor_de.proofs.facts.Steps.{step_then}
+use Rattle.cbor_scalars.specs.Tags.{TagIs, tag_head_at}
+use Rattle.cbor_tags.specs.Tagged.{IsTagged, BeginsNoTag, StandsNoTag}
+use Rattle.cbor_io.specs.declared.error.Error.{Error}
+use Rattle.cbor_io.specs.Error.{code_of, offset_of}
+use Rattle.cbor_scalars.specs.Takes.{TellsFault}
+use Rattle.cbor_collections.proofs.facts.Refusals.{refuses_fault, refuses_then}
+use Rattle.cbor_tags.proofs.NoTags.{no_tag_item, tag_stops}
+use Rattle.cbor_scalars.specs.Takes.{raws, IsRead, IsNotRead, Refuses}
+
+-- what is no tag is read as it is
+untagged_read : {A : Type 0} (reads : Raw → A → Type 0) (r : Raw) (x : A) → ((w : HeadWidth) (n : ℕ) (q : Raw) → r ≡ raw.tag w n q → ⊥) → reads r x → IsTagged reads r None x
+untagged_read reads (raw.unsigned w n) x other h = (refl, h)
+untagged_read reads (raw.negative w n) x other h = (refl, h)
+untagged_read reads (raw.bytes c) x other h = (refl, h)
+untagged_read reads (raw.text c) x other h = (refl, h)
+untagged_read reads (raw.bytes_chunks cs) x other h = (refl, h)
+untagged_read reads (raw.text_chunks cs) x other h = (refl, h)
+untagged_read reads (raw.array l rs) x other h = (refl, h)
+untagged_read reads (raw.map l ps) x other h = (refl, h)
+untagged_read reads (raw.tag w n q) x other h = absurd (other w n q refl)
+untagged_read reads (raw.simple s) x other h = (refl, h)
+untagged_read reads (raw.float w bits) x other h = (refl, h)
+
+-- and what is read without a tag, or within one
+read_untagged : {A : Type 0} (reads : Raw → A → Type 0) (r : Raw) (tag : Option ℕ) (x : A) → ((w : HeadWidth) (n : ℕ) (q : Raw) → r ≡ raw.tag w n q → ⊥) → IsTagged reads r tag x → reads r x
+read_untagged reads (raw.unsigned w n) tag x other h = h.1
+read_untagged reads (raw.negative w n) tag x other h = h.1
+read_untagged reads (raw.bytes c) tag x other h = h.1
+read_untagged reads (raw.text c) tag x other h = h.1
+read_untagged reads (raw.bytes_chunks cs) tag x other h = h.1
+read_untagged reads (raw.text_chunks cs) tag x other h = h.1
+read_untagged reads (raw.array l rs) tag x other h = h.1
+read_untagged reads (raw.map l ps) tag x other h = h.1
+read_untagged reads (raw.tag w n q) tag x other h = absurd (other w n q refl)
+read_untagged reads (raw.simple s) tag x other h = h.1
+read_untagged reads (raw.float w bits) tag x other h = h.1
+
+module _ (f : Formats) (levels left n : ℕ) (one : levels ≡ left + 1) where
+  abbrev within : HeadWidth → Reads Raw → Reads Raw
+  within w (Ok x) = Ok (raw.tag w n x.0, x.1)
+  within w (Err e) = Err e
+
+  -- what is read at a tag's head is the tag of what is read behind it
+  tag_within : (l : Limits) (bs mid : List ℕ) (w : HeadWidth) → item_at (raws f l) levels bs ≡ tag_at (raws f l) (inside (raws f l) levels) w n mid → item_at (raws f l) levels bs ≡ within w (item_at (raws f l) left mid)
+  unfolding tag_at
+  tag_within l bs mid w is = is ∙ ap (λ (k : ℕ). tag_at (raws f l) (inside (raws f l) k) w n mid) next ∙ by (item_at (raws f l) left mid)
+    where
+      next : levels ≡ suc left
+      next = omega (arith, one)
+
+      by : (read : Reads Raw) → (read >>= (λ x. Ok (raw.tag w n x.0, x.1))) ≡ within w read
+      by (Ok x) = refl
+      by (Err e) = refl
+
+  module _ {A T : Type 0} (reads : Raw → A → Type 0) (tag_of : T → Option ℕ) (value_of : T → A) where
+    abbrev Tags : Raw → T → Type 0
+    Tags r t = IsTagged reads r (tag_of t) (value_of t)
+
+    -- a tag, and then what is within
+    pub tag_read : (s m t : Input) (x : T) → tag_of x ≡ Some n → TagIs f levels n s m → Step m t (λ l bs rest. IsRead reads (item_at (raws f l) left bs) (value_of x) rest) → Step s t (λ l bs rest. IsRead Tags (item_at (raws f l) levels bs) x rest)
+    tag_read s m t x is one two =
+        step_then s m t (λ l bs rest. (w : HeadWidth) × (item_at (raws f l) levels bs ≡ tag_at (raws f l) (inside (raws f l) levels) w n rest)) (λ l bs rest. IsRead reads (item_at (raws f l) left bs) (value_of x) rest) (λ l bs rest. IsRead Tags (item_at (raws f l) levels bs) x rest)
+        (λ l bs mid rest tag got. record {
+          item = raw.tag tag.0 n got.item;
+          is = tag_within l bs mid tag.0 tag.1 ∙ ap (within tag.0) got.is;
+          means = (is, got.means);
+        }) one two
+
+    inner_read : (w : HeadWidth) (read : Reads Raw) (r : Raw) (t : T) (rest : List ℕ) → within w read ≡ Ok (r, rest) → Tags r t → IsRead reads read (value_of t) rest
+    inner_read w (Ok x) r t rest is means =
+        let both = ok_is (raw.tag w n x.0, x.1) (r, rest) is in
+        let here : Tags (raw.tag w n x.0) t = subst (λ (q : Raw). Tags q t) (sym (ap (λ (p : Raw × List ℕ). p.0) both)) means in
+        record { item = x.0; is = ap (λ (z : List ℕ). Ok (x.0, z)) (ap (λ (p : Raw × List ℕ). p.1) both); means = here.1 }
+    inner_read w (Err e) r t rest is means = absurd cc
+
+    -- a tag, and nothing that is read within
+    pub tag_unread : (allowed : ReadErrorCode → Bool) (s m : Input) (k : ErrorCode) (at : ℕ) → TagIs f levels n s m → Refuses allowed m k at (λ l bs. IsNotRead reads (item_at (raws f l) left bs)) → Refuses allowed s k at (λ l bs. IsNotRead Tags (item_at (raws f l) levels bs))
+    tag_unread allowed s m k at step h =
+        refuses_then allowed s k at m (λ l bs rest. (w : HeadWidth) × (item_at (raws f l) levels bs ≡ tag_at (raws f l) (inside (raws f l) levels) w n rest)) (λ l bs. IsNotRead reads (item_at (raws f l) left bs)) (λ l bs. IsNotRead Tags (item_at (raws f l) levels bs))
+        (λ l bs mid tag none t rest got. none (value_of t) rest (inner_read tag.0 (item_at (raws f l) left mid) got.item t rest (sym (tag_within l bs mid tag.0 tag.1) ∙ got.is) got.means)) step h
+
+-- ---- without a tag
+
+module _ {A T : Type 0} (reads : Raw → A → Type 0) (tag_of : T → Option ℕ) (value_of : T → A) (f : Formats) (levels : ℕ) where
+  abbrev AsTagged : Raw → T → Type 0
+  AsTagged r t = IsTagged reads r (tag_of t) (value_of t)
+
+  other_is : (l : Limits) (bs : List ℕ) (r : Raw) (rest : List ℕ) → BeginsNoTag bs → item_at (raws f l) levels bs ≡ Ok (r, rest) → (w : HeadWidth) (n : ℕ) (q : Raw) → r ≡ raw.tag w n q → ⊥
+  other_is l bs r rest none is w n q tag = no_tag_item f l levels bs rest w n q none (is ∙ ap (λ (p : Raw). Ok (p, rest)) tag)
+
+  -- what is read where no tag is
+  pub untagged_taken : (s m t : Input) (x : T) → tag_of x ≡ None → StandsNoTag s m → Step m t (λ l bs rest. IsRead reads (item_at (raws f l) levels bs) (value_of x) rest) → Step s t (λ l bs rest. IsRead AsTagged (item_at (raws f l) levels bs) x rest)
+  untagged_taken s m t x is one two =
+      step_then s m t (λ l bs rest. (rest ≡ bs) × BeginsNoTag bs) (λ l bs rest. IsRead reads (item_at (raws f l) levels bs) (value_of x) rest) (λ l bs rest. IsRead AsTagged (item_at (raws f l) levels bs) x rest)
+      (λ l bs mid rest none got.
+      let here : item_at (raws f l) levels bs ≡ Ok (got.item, rest) = ap (item_at (raws f l) levels) (sym none.0) ∙ got.is in
+      record {
+        item = got.item;
+        is = here;
+        means = subst (λ (o : Option ℕ). IsTagged reads got.item o (value_of x)) (sym is) (untagged_read reads got.item (value_of x) (other_is l bs got.item rest none.1 here) got.means);
+      }) one two
+
+  -- and nothing that is read
+  pub untagged_refused : (allowed : ReadErrorCode → Bool) (s m : Input) (k : ErrorCode) (at : ℕ) → StandsNoTag s m → Refuses allowed m k at (λ l bs. IsNotRead reads (item_at (raws f l) levels bs)) → Refuses allowed s k at (λ l bs. IsNotRead AsTagged (item_at (raws f l) levels bs))
+  untagged_refused allowed s m k at step h =
+      refuses_then allowed s k at m (λ l bs rest. (rest ≡ bs) × BeginsNoTag bs) (λ l bs. IsNotRead reads (item_at (raws f l) levels bs)) (λ l bs. IsNotRead AsTagged (item_at (raws f l) levels bs))
+      (λ l bs mid none lacks t rest got. lacks (value_of t) rest (record {
+        item = got.item;
+        is = ap (item_at (raws f l) levels) none.0 ∙ got.is;
+        means = read_untagged reads got.item (tag_of t) (value_of t) (other_is l bs got.item rest none.1 got.is) got.means;
+      })) step h
+
+  -- a tag's head that can't be read
+  pub head_refused : (allowed : ReadErrorCode → Bool) (s : Input) (e : Error) → TellsFault allowed (λ l. tag_head_at levels) s e → Refuses allowed s (code_of e) (offset_of e) (λ l bs. IsNotRead AsTagged (item_at (raws f l) levels bs))
+  head_refused allowed s e told =
+      refuses_fault allowed (λ l. tag_head_at levels) s e (λ l bs. IsNotRead AsTagged (item_at (raws f l) levels bs))
+      (λ l bs fault stops t rest got. differs (sym (tag_stops (raws f l) levels bs fault stops) ∙ got.is)) told
+    where
+      differs : {fault : Fault} {r : Raw} {rest : List ℕ} → ◌≡◌ {A = Reads Raw} (Err fault) (Ok (r, rest)) → ⊥
+      differs h = absurd cc

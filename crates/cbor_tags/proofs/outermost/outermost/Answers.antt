@@ -1,0 +1,14 @@
+use Rattle.std.proofs.Common.{ℕ, List, Option}
+use Rattle.cbor_model.specs.Reader.{Reads}
+use Rattle.cbor_de.specs.Gives.{Limits}
+use Rattle.cbor_scalars.specs.Tags.{tag_head_at}
+use Rattle.cbor_scalars.proofs.facts.Refusals.{told_by}
+use Rattle.cbor_de.proofs.facts.Steps.{source_stops, byte_refused}
+use Rattle.cbor_tags.proofs.outermost.outermost.Goals as goal
+
+pub returns-in-Err-clause-refused : goal.returns-in-Err-clause-refused
+returns-in-Err-clause-refused g c =
+    let s = g.R.Source.source c.args.de.now.items.source in
+    let read : Limits → List ℕ → Reads (Option ℕ) = λ l. tag_head_at c.args.de.now.items.levels in
+    told_by g.R.Source.refusals read s _ c.keep-refused.result c.error.result c.error.ensures.tells
+    (source_stops g.R.Source.refusals s read _ c.keep-refused.result c.in-Err.refusal c.keep-refused.ensures.refused c.keep-refused.ensures.kept (byte_refused g.R.Source.refusals s _ c.in-Err.refusal read c.in-Err.ensures.err))

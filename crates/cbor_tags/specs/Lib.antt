@@ -1,0 +1,2 @@
+-- The definitions of the contracts.
+pub mod Tagged

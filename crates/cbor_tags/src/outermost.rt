@@ -1,0 +1,33 @@
+//! The tag at the front.
+
+ghost use Rattle.std.specs.Prelude.{◌≡◌, IfOk, IfErr, IfSome, IfNone};
+ghost use Rattle.cbor_scalars.specs.Takes.{formats_of, TellsFault};
+ghost use Rattle.cbor_scalars.specs.Tags.{tag_head_at, LevelsBehind, TagIs};
+ghost use Rattle.cbor_tags.specs.Tagged.{StandsNoTag};
+
+use cbor_io::error::Result;
+use cbor_read::Source;
+use cbor_typed::Deserializer;
+
+/// Takes the head of the tag that the item at the front is within, and goes one level in, as
+/// `Deserializer::read_tag` does; None, which takes nothing, where it is within none.
+pub(crate) fn outermost<R: Source>(de: &mut Deserializer<R>) -> Result<Option<u64>>
+    ensures item { IfOk result (λ o. IfSome o (λ n.
+        TagIs (formats_of de.old.items.formats) de.old.items.levels n
+        (R.source de.old.items.source) (R.source de.new.items.source))) }
+    ensures none { IfOk result (λ o. IfNone o
+        (StandsNoTag (R.source de.old.items.source) (R.source de.new.items.source))) }
+    ensures refused { IfErr result (TellsFault R.refusals (λ l. tag_head_at de.old.items.levels)
+        (R.source de.old.items.source)) }
+    ensures levels { LevelsBehind result de.old.items.levels de.new.items.levels }
+    ensures formats { de.new.items.formats ≡ de.old.items.formats }
+{
+    match de.items.source.peek() {
+        Ok(Some(_first)) => de.read_tag(),
+        Ok(None) => Ok(None),
+        Err(refusal) => {
+            let refused = de.items.keep(refusal);
+            Err(de.items.error(refused))
+        }
+    }
+}
