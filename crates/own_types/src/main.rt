@@ -6,7 +6,8 @@ mod records;
 mod shapes;
 
 use by_hand::Bar;
-use records::{Label, Pair, User};
+use records::{Label, Pair, Reading, User};
+use serde_cbor::bytes::ByteArray;
 use serde_cbor::ser::to_vec_packed;
 use serde_cbor::{Result, from_reader, from_slice, to_vec};
 use shapes::Shape;
@@ -25,6 +26,7 @@ fn main(rt: HostRuntime) -> ExitCode {
 fn print_all(rt: &HostRuntime) -> Result<()> {
     print_user(rt)?;
     print_shape(rt)?;
+    print_reading(rt)?;
     print_label(rt)?;
     print_pair(rt)?;
     print_bar(rt)
@@ -57,6 +59,19 @@ fn print_shape(rt: &HostRuntime) -> Result<()> {
     println!(rt; "{read:?}")?;
     let circle: Shape = from_slice(alloc, b"\x82\x01\x18\x2a")?;
     println!(rt; "{circle:?}")?;
+    Ok(())
+}
+
+fn print_reading(rt: &HostRuntime) -> Result<()> {
+    let alloc = rt.alloc();
+    let reading = Reading {
+        sensor: ByteArray::new([1, 2, 3, 4]),
+        degrees: 21.5,
+    };
+    let bytes = to_vec(alloc, &reading)?;
+    println!(rt; "{:?}", bytes.as_slice())?;
+    let read: Reading = from_slice(alloc, bytes.as_slice())?;
+    println!(rt; "{read:?}")?;
     Ok(())
 }
 

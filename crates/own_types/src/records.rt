@@ -1,5 +1,6 @@
 //! Structs.
 
+use serde_cbor::bytes::ByteArray;
 use serde_cbor::de::{Deserialize, DeserializeOwned, FromParts, Read, Readable, ReadableParts};
 use serde_cbor::parts::Schema;
 use serde_cbor::ser::{PartsDocument, Serialize, Serializer, Write};
@@ -54,6 +55,53 @@ impl<'de, R: Read<'de>> Deserialize<'de, R> for User {
 
 impl DeserializeOwned for User {
     ghost same = { λ f a b r u h. h };
+}
+
+/// What a sensor told.
+#[derive(Debug, Drop)]
+pub struct Reading {
+    pub sensor: ByteArray<4>,
+    pub degrees: f64,
+}
+
+/// The names of a reading's fields.
+const READING: &[&str] = &["sensor", "degrees"];
+
+impl Schema for Reading {
+    ghost use Rattle.std.specs.Prelude.{map};
+    ghost use Rattle.own_types.specs.declared.records.TheConstants.{READING};
+
+    type Parts = (ByteArray<4>, f64);
+
+    ghost names = { map (λ n. n.now) READING.now };
+
+    ghost parts = { λ r. (r.sensor, r.degrees) };
+}
+
+impl Serialize for Reading {
+    ghost document = { λ r. ⟦<<Reading as Schema>::Parts as PartsDocument>⟧.document
+        ⟦<Reading as Schema>⟧.names (⟦<Reading as Schema>⟧.parts r) };
+
+    fn serialize<W: Write>(&self, ser: &mut Serializer<W>) -> Result<()> {
+        ser.serialize_fields(READING, &(&self.sensor, &self.degrees))
+    }
+}
+
+impl FromParts for Reading {
+    fn from_parts((sensor, degrees): Self::Parts) -> Reading {
+        Reading { sensor, degrees }
+    }
+}
+
+impl Readable for Reading {
+    ghost reads = { λ c r x. ⟦<<Reading as Schema>::Parts as ReadableParts>⟧.reads
+        ⟦<Reading as Schema>⟧.names c r (⟦<Reading as Schema>⟧.parts x) };
+}
+
+impl<'de, R: Read<'de>> Deserialize<'de, R> for Reading {
+    fn deserialize(de: &mut Deserializer<R>) -> Result<Reading> {
+        de.read_described(READING)
+    }
 }
 
 /// A name that lies in the bytes that it was read from.
