@@ -6,7 +6,7 @@ mod records;
 mod shapes;
 
 use by_hand::Bar;
-use records::{Label, Pair, Reading, User};
+use records::{Label, Pair, Reading, Settings, User};
 use serde_cbor::bytes::ByteArray;
 use serde_cbor::ser::to_vec_packed;
 use serde_cbor::{Result, from_reader, from_slice, to_vec};
@@ -27,6 +27,7 @@ fn print_all(rt: &HostRuntime) -> Result<()> {
     print_user(rt)?;
     print_shape(rt)?;
     print_reading(rt)?;
+    print_settings(rt)?;
     print_label(rt)?;
     print_pair(rt)?;
     print_bar(rt)
@@ -72,6 +73,15 @@ fn print_reading(rt: &HostRuntime) -> Result<()> {
     println!(rt; "{:?}", bytes.as_slice())?;
     let read: Reading = from_slice(alloc, bytes.as_slice())?;
     println!(rt; "{read:?}")?;
+    Ok(())
+}
+
+fn print_settings(rt: &HostRuntime) -> Result<()> {
+    let alloc = rt.alloc();
+    let given: Settings = from_slice(alloc, b"\xa2\x65limit\x09\x64port\x19\x1f\x90")?;
+    println!(rt; "{given:?}")?;
+    let absent: Settings = from_slice(alloc, b"\xa1\x64port\x19\x1f\x90")?;
+    println!(rt; "{absent:?}")?;
     Ok(())
 }
 

@@ -2,7 +2,7 @@
 
 use serde_cbor::bytes::ByteArray;
 use serde_cbor::de::{Deserialize, DeserializeOwned, FromParts, Read, Readable, ReadableParts};
-use serde_cbor::parts::Schema;
+use serde_cbor::parts::{Optional, Schema};
 use serde_cbor::ser::{PartsDocument, Serialize, Serializer, Write};
 use serde_cbor::{Deserializer, Result};
 
@@ -101,6 +101,48 @@ impl Readable for Reading {
 impl<'de, R: Read<'de>> Deserialize<'de, R> for Reading {
     fn deserialize(de: &mut Deserializer<R>) -> Result<Reading> {
         de.read_described(READING)
+    }
+}
+
+/// What a server is told, of which the limit may be absent.
+#[derive(Debug, Drop)]
+pub struct Settings {
+    pub port: u16,
+    pub limit: Option<u32>,
+}
+
+/// The names of the settings.
+const SETTINGS: &[&str] = &["port", "limit"];
+
+impl Schema for Settings {
+    ghost use Rattle.std.specs.Prelude.{map};
+    ghost use Rattle.serde_cbor.specs.Schemas.{optional};
+    ghost use Rattle.own_types.specs.declared.records.TheConstants.{SETTINGS};
+
+    type Parts = (u16, Optional<u32>);
+
+    ghost names = { map (λ n. n.now) SETTINGS.now };
+
+    ghost parts = { λ s. (s.port, optional s.limit) };
+}
+
+impl FromParts for Settings {
+    fn from_parts((port, limit): Self::Parts) -> Settings {
+        Settings {
+            port,
+            limit: limit.0,
+        }
+    }
+}
+
+impl Readable for Settings {
+    ghost reads = { λ c r s. ⟦<<Settings as Schema>::Parts as ReadableParts>⟧.reads
+        ⟦<Settings as Schema>⟧.names c r (⟦<Settings as Schema>⟧.parts s) };
+}
+
+impl<'de, R: Read<'de>> Deserialize<'de, R> for Settings {
+    fn deserialize(de: &mut Deserializer<R>) -> Result<Settings> {
+        de.read_described(SETTINGS)
     }
 }
 
