@@ -4,6 +4,7 @@ pub mod Peeked
 pub mod Ended
 pub mod Heads
 pub mod ShortTexts
+mod AtHand
 pub mod Chunk
 pub mod Chunks
 pub mod Items

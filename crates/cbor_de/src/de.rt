@@ -17,7 +17,7 @@ use cbor_read::{Offset, ReadError, ReadErrorCode, Source};
 use std::alloc::Global;
 
 /// How many arrays, maps and tags may stand inside one another.
-const MAX_DEPTH: u8 = 127;
+const MAX_DEPTH: u64 = 127;
 
 /// Reads items from a source. Arrays, maps and tags may be nested 127 levels deep.
 ///
@@ -31,7 +31,7 @@ pub struct Deserializer<R> {
     pub alloc: Global,
     pub source: R,
     // How many levels of arrays, maps and tags are left.
-    pub levels: u8,
+    pub levels: u64,
     // Which formats are read.
     pub formats: Formats,
     // Why the last step that was refused was refused.
@@ -191,7 +191,7 @@ impl<R: Source> Deserializer<R> {
     /// Goes one level in, where one is left.
     pub fn enter(&mut self) -> Done<()>
         ensures inside { OnOk result (self.old.levels ≡ self.new.levels + 1) }
-        ensures below { OnOk result (self.new.levels < 255) }
+        ensures below { OnOk result (self.new.levels + 1 < 2 ^ 64) }
         ensures none { OnErr result ((self.old.levels ≡ 0) × (self.new.levels ≡ 0)) }
         ensures refused { IfErr result (λ r. r ≡ Kept) }
         ensures kept { OnErr result (IsSomeAnd self.new.refusal

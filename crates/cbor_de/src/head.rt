@@ -7,8 +7,10 @@ ghost use Rattle.cbor_model.specs.Reader.{number_at, number_behind};
 ghost use Rattle.cbor_model.specs.Major.{major_of};
 ghost use Rattle.cbor_io.specs.Head.{major_number};
 ghost use Rattle.cbor_de.specs.Gives.{Gives, Keeps, TellsNoKey};
-ghost use Rattle.cbor_de.specs.Heads.{HeadGives, opening_at, head_at, head_of, simple_head};
-ghost use Rattle.cbor_de.specs.declared.head.Head.TheVariants.{Text};
+ghost use Rattle.cbor_de.specs.Heads.{HeadGives, NumberGives, opening_at, head_at, head_of};
+ghost use Rattle.cbor_de.specs.Heads.{simple_head};
+ghost use Rattle.cbor_de.specs.declared.head.Head.TheVariants.{Float as FloatHead, Text};
+ghost use Rattle.cbor_value.specs.declared.Float.TheVariants.{Single, Double};
 ghost use Rattle.cbor_read.specs.Source.{TookKept, RefusedInto};
 ghost use Rattle.cbor_de.specs.declared.refusal.Refused.TheVariants.{Kept};
 
@@ -67,6 +69,50 @@ impl<R: Source> Deserializer<R> {
                 Some((first - 0x60) as u64)
             }
             _ => None,
+        }
+    }
+
+    /// Takes a float of 32 bits and answers its bits. None where another head comes, or no byte is
+    /// at hand; then nothing is taken.
+    #[inline(always)]
+    pub fn single(&mut self) -> Done<Option<u32>>
+        ensures read { NumberGives (λ bits. FloatHead (Single bits)) R.refusals
+            (R.source self.old.source) (R.source self.new.source) self.new.refusal result }
+        ensures no_key { IfErr result (TellsNoKey self.new.refusal) }
+        ensures levels { self.new.levels ≡ self.old.levels }
+        ensures formats { self.new.formats ≡ self.old.formats }
+    {
+        match self.source.ahead().first().copied() {
+            Some(0xfa) => {
+                self.source.advance(1);
+                match self.number_of_4() {
+                    Ok(bits) => Ok(Some(bits)),
+                    Err(refused) => Err(refused),
+                }
+            }
+            _ => Ok(None),
+        }
+    }
+
+    /// Takes a float of 64 bits and answers its bits. None where another head comes, or no byte is
+    /// at hand; then nothing is taken.
+    #[inline(always)]
+    pub fn double(&mut self) -> Done<Option<u64>>
+        ensures read { NumberGives (λ bits. FloatHead (Double bits)) R.refusals
+            (R.source self.old.source) (R.source self.new.source) self.new.refusal result }
+        ensures no_key { IfErr result (TellsNoKey self.new.refusal) }
+        ensures levels { self.new.levels ≡ self.old.levels }
+        ensures formats { self.new.formats ≡ self.old.formats }
+    {
+        match self.source.ahead().first().copied() {
+            Some(0xfb) => {
+                self.source.advance(1);
+                match self.number_of_8() {
+                    Ok(bits) => Ok(Some(bits)),
+                    Err(refused) => Err(refused),
+                }
+            }
+            _ => Ok(None),
         }
     }
 

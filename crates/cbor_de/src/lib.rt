@@ -16,6 +16,7 @@ mod head;
 mod more;
 mod number;
 mod refusal;
+pub mod room;
 mod skip;
 mod skip_strings;
 mod strings;

@@ -15,6 +15,7 @@ use crate::cursor::{Collection, Remaining};
 use crate::de::Deserializer;
 use crate::head::Head;
 use crate::refusal::{Done, Refused};
+use crate::room::push;
 use cbor_read::{ReadErrorCode, Source};
 use cbor_value::{Map, Value};
 
@@ -116,7 +117,7 @@ impl<R: Source> Deserializer<R> {
         let mut items = Vec::new(self.alloc);
         'items: while let Some(first) = self.next(&mut remaining, Collection::Array)? {
             let item = self.value_from(first)?;
-            items.push(item)?;
+            push(&mut items, item, remaining)?;
         }
         Ok(items)
     }
@@ -157,7 +158,7 @@ impl<R: Source> Deserializer<R> {
             }
             let key = self.value_from(first)?;
             let value = self.value()?;
-            pairs.push((key, value))?;
+            push(&mut pairs, (key, value), remaining)?;
         }
         match Map::from_pairs(pairs) {
             Ok(map) => Ok(map),

@@ -34,11 +34,11 @@ mutual
 
 -- ---- well formed
 
-integer_fits : (z : ℤ) → IsStorableInteger z → IsWellFormed (canonical_integer z)
+pub integer_fits : (z : ℤ) → IsStorableInteger z → IsWellFormed (canonical_integer z)
 integer_fits (pos n) below = lt-limit-least n below
 integer_fits (negsuc n) below = lt-limit-least n below
 
-counted : (m n : ℕ) → m ≡ n → n < 2 ^ 64 → m < limit (least m)
+pub counted : (m n : ℕ) → m ≡ n → n < 2 ^ 64 → m < limit (least m)
 counted m n same below = lt-limit-least m (omega arith)
 
 mutual

@@ -54,3 +54,4 @@ pub mod TextPlaces
 pub mod FirstRefusal
 pub mod RefusalExamples
 pub mod facts
+pub mod InDocuments

@@ -6,17 +6,17 @@ use Rattle.cbor_model.specs.Spelling.{spell, spell_all, spell_pairs}
 use Rattle.cbor_model.specs.Document.{Doc, Docs, DocPairs, Fields, declared, undeclared, null, bool, integer, float, bytes, text, sequence, mapping, structure, unit_variant, newtype_variant, tuple_variant, struct_variant, tagged, no_docs, doc, no_doc_pairs, doc_pair, no_fields, field, identifier, name_of, raw_of, raws_of, raw_pairs_of, raw_fields_of, document_bytes, IsStorableDocument, AreStorableDocuments, AreStorableDocumentPairs, AreStorableFields, IsDocumentInRange, AreDocumentsInRange, AreDocumentPairsInRange, AreFieldsInRange, doc_count, doc_pair_count, field_count}
 use Rattle.cbor_model.specs.Parts.{Part, ending, said, parts, items, pairs, fields, part_bytes, IsStorablePart, IsPartInRange}
 
-counts : (ds : Docs) (p l : Bool) → count (raws_of ds p l) ≡ doc_count ds
+pub counts : (ds : Docs) (p l : Bool) → count (raws_of ds p l) ≡ doc_count ds
 unfolding raw_of
 counts no_docs p l = refl
 counts (doc d ds) p l = ap suc (counts ds p l)
 
-pair_counts : (ps : DocPairs) (p l : Bool) → pair_count (raw_pairs_of ps p l) ≡ doc_pair_count ps
+pub pair_counts : (ps : DocPairs) (p l : Bool) → pair_count (raw_pairs_of ps p l) ≡ doc_pair_count ps
 unfolding raw_of
 pair_counts no_doc_pairs p l = refl
 pair_counts (doc_pair k v ps) p l = ap suc (pair_counts ps p l)
 
-field_counts : (fs : Fields) (p l : Bool) → pair_count (raw_fields_of fs p l) ≡ field_count fs
+pub field_counts : (fs : Fields) (p l : Bool) → pair_count (raw_fields_of fs p l) ≡ field_count fs
 unfolding raw_of
 field_counts no_fields p l = refl
 field_counts (field i n d fs) p l = ap suc (field_counts fs p l)

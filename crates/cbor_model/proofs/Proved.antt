@@ -1,5 +1,5 @@
 -- The laws' proofs.
-use Rattle.cbor_model.specs.Laws.{ReaderFinds, ReaderAccepts, SameWithScratch, ScratchNeed, OneSpelling, ValueIsStorable, OrderIsTotal, OneFlat, CanonicalReadsBack, ValueIsCanonical, NormalisedOnce, EqualBytes, ByteOrder, LeastSpelling, ValueIsInRange, FirstRefusal, NoneAllowed, OneFirstRefusal, ReadOrRefused, SpelledAllowsNone, SameFirstRefusal, InMemoryIsInRange, CanonicalIsAcceptable, WrittenReadsBack, LastPairStays, PartsBytes, KeyRule, FollowingIsUnread, RefusedHoldsBeginning, AllThatFitIsHeld, StoredOrStops, AllIsStored}
+use Rattle.cbor_model.specs.Laws.{ReaderFinds, ReaderAccepts, SameWithScratch, ScratchNeed, OneSpelling, ValueIsStorable, OrderIsTotal, OneFlat, CanonicalReadsBack, ValueIsCanonical, NormalisedOnce, EqualBytes, ByteOrder, LeastSpelling, ValueIsInRange, FirstRefusal, NoneAllowed, OneFirstRefusal, ReadOrRefused, SpelledAllowsNone, SameFirstRefusal, InMemoryIsInRange, CanonicalIsAcceptable, WrittenReadsBack, DocumentIsAcceptable, DocumentReadsBack, LastPairStays, PartsBytes, KeyRule, FollowingIsUnread, RefusedHoldsBeginning, AllThatFitIsHeld, StoredOrStops, AllIsStored}
 use Rattle.cbor_model.proofs.Whole.{found_whole, read_whole}
 use Rattle.cbor_model.proofs.Scratch as scratch
 use Rattle.cbor_model.proofs.Storable.{storable}
@@ -13,6 +13,7 @@ use Rattle.cbor_model.proofs.Least as least
 use Rattle.cbor_model.proofs.InRange as inrange
 use Rattle.cbor_model.proofs.FirstRefusal as refusal
 use Rattle.cbor_model.proofs.InMemory as inmemory
+use Rattle.cbor_model.proofs.InDocuments as documents
 use Rattle.cbor_model.proofs.Puts as puts
 use Rattle.cbor_model.proofs.Parts as parts
 use Rattle.cbor_model.proofs.RawReader as rawreader
@@ -90,6 +91,12 @@ canonical_is_acceptable = inmemory.canonical_is_acceptable
 
 pub written_reads_back : WrittenReadsBack
 written_reads_back = inmemory.written_reads_back
+
+pub document_is_acceptable : DocumentIsAcceptable
+document_is_acceptable = documents.document_is_acceptable
+
+pub document_reads_back : DocumentReadsBack
+document_reads_back = documents.document_reads_back
 
 pub last_pair_stays : LastPairStays
 last_pair_stays = puts.last_pair_stays

@@ -1,12 +1,13 @@
 -- A whole input: what the reference reader reads is spelled so, and what is spelled so it reads.
-use Rattle.std.proofs.Common.{◌≡◌, ℕ, ◌-◌, ◌^◌, ◌<◌, cond, eqb, List, [], ◌++◌, length, Ok, Err}
+use Rattle.std.proofs.Common.{◌≡◌, ℕ, ◌-◌, ◌^◌, ◌<◌, ◌≤◌, cond, eqb, List, [], ◌++◌, length, Ok, Err}
 use Rattle.std.proofs.Common.{IsUtf8, sym, ap, ◌∙◌, arith, inl, inr, Option, None, Some, false}
 use Rattle.std.proofs.Common.{refl}
 use Rattle.std.proofs.lemmas.Bool.{eqb-true, lt-ltb, le-ltb, ltb-false}
 use Rattle.std.proofs.lemmas.List.{append-nil, nil_from_length}
 use Rattle.cbor_model.specs.Raw.{Raw, AreBytes, longest_joined}
 use Rattle.cbor_model.specs.Spelling.{spell}
-use Rattle.cbor_model.specs.Acceptable.{max_depth, FitsScratch}
+use Rattle.cbor_model.specs.Acceptable.{IsAcceptableWithin, max_depth, FitsScratch}
+use Rattle.cbor_model.specs.Value.{value}
 use Rattle.cbor_model.specs.Plain.{Val}
 use Rattle.cbor_model.specs.Formats.{all_formats, IsAllowedKey}
 use Rattle.cbor_model.specs.Refusal.{trailing_data}
@@ -98,3 +99,15 @@ read_whole most bs v short spelt fits =
     let whole_read : item_at m max_depth bs ≡ Ok (made m r, []) =
     ap (item_at m max_depth) (sym same) ∙ read in
     rw whole_read (ap (λ (w : Val). Ok w) (made-value all_formats (length bs) most r ∙ sym spelt.valued))
+
+-- an acceptable item in front of other bytes is read as its value
+pub value_again : (levels total : ℕ) (most : Option ℕ) (r : Raw) (rest : List ℕ) → total < 2 ^ 64
+    → length (spell r ++ rest) ≤ total → FitsScratch most r → IsAcceptableWithin levels r
+    → item_at (values_in total most) levels (spell r ++ rest) ≡ Ok (value r, rest)
+value_again levels total most r rest short within fits good =
+    let m = values_in total most in
+    let texts = EachText-map IsUtf8 (Passes m) valid_len-from_IsUtf8 r good.texts in
+    let keys = EachKey-map (IsAllowedKey all_formats) (MayBeKey m) (key_begins all_formats) r good.fits (all_allowed r) in
+    again m total (has_room total most short) (grows most) r levels rest good.fits good.nests
+    (lets m (grows most) r texts keys (fits_joins most r fits)) within
+    ∙ ap (λ (v : Val). Ok (v, rest)) (made-value all_formats total most r)

@@ -94,8 +94,8 @@ FitsCount declared n = n < 2 ^ 64
 FitsCount undeclared n = Unit {0}
 
 -- Lengths, declared counts and the numbers of tags, fields and variants are below 2^64, a float's
--- bits fit its width, strings hold bytes, and texts are UTF-8. The document of what a program holds
--- always is in range.
+-- bits fit its width, strings hold bytes, and texts and names are UTF-8. The document of what a
+-- program holds always is in range.
 abbrev mutual
   pub IsDocumentInRange : Doc → Type 0
   IsDocumentInRange (float w bits) = bits < float_limit w
@@ -104,13 +104,13 @@ abbrev mutual
   IsDocumentInRange (sequence l ds) = FitsCount l (doc_count ds) × AreDocumentsInRange ds
   IsDocumentInRange (mapping l ps) = FitsCount l (doc_pair_count ps) × AreDocumentPairsInRange ps
   IsDocumentInRange (structure fs) = (field_count fs < 2 ^ 64) × AreFieldsInRange fs
-  IsDocumentInRange (unit_variant i n) = (i < 2 ^ 64) × (length n < 2 ^ 64)
+  IsDocumentInRange (unit_variant i n) = (i < 2 ^ 64) × IsTextString n
   IsDocumentInRange (newtype_variant i n d) =
-      (i < 2 ^ 64) × (length n < 2 ^ 64) × IsDocumentInRange d
+      (i < 2 ^ 64) × IsTextString n × IsDocumentInRange d
   IsDocumentInRange (tuple_variant i n ds) =
-      (i < 2 ^ 64) × (length n < 2 ^ 64) × (suc (doc_count ds) < 2 ^ 64) × AreDocumentsInRange ds
+      (i < 2 ^ 64) × IsTextString n × (suc (doc_count ds) < 2 ^ 64) × AreDocumentsInRange ds
   IsDocumentInRange (struct_variant i n fs) =
-      (i < 2 ^ 64) × (length n < 2 ^ 64) × (field_count fs < 2 ^ 64) × AreFieldsInRange fs
+      (i < 2 ^ 64) × IsTextString n × (field_count fs < 2 ^ 64) × AreFieldsInRange fs
   IsDocumentInRange (tagged n d) = (n < 2 ^ 64) × IsDocumentInRange d
   IsDocumentInRange _ = Unit {0}
 
@@ -126,7 +126,7 @@ abbrev mutual
   pub AreFieldsInRange : Fields → Type 0
   AreFieldsInRange no_fields = Unit {0}
   AreFieldsInRange (field i n d fs) =
-      (i < 2 ^ 64) × (length n < 2 ^ 64) × IsDocumentInRange d × AreFieldsInRange fs
+      (i < 2 ^ 64) × IsTextString n × IsDocumentInRange d × AreFieldsInRange fs
 
 -- the length of an array or a map with this many items
 abbrev pub length_of : Length → ℕ → raw.Length

@@ -15,7 +15,8 @@ use Rattle.cbor_model.specs.Order.{lex, flat}
 use Rattle.cbor_model.specs.Order.{val_cmp}
 use Rattle.cbor_model.specs.InRange.{IsInRange}
 use Rattle.cbor_model.specs.InMemory.{IsInMemory}
-use Rattle.cbor_model.specs.Document.{Doc, document_bytes, IsStorableDocument}
+use Rattle.cbor_model.specs.Document.{Doc, raw_of, document_bytes, IsStorableDocument}
+use Rattle.cbor_model.specs.Document.{IsDocumentInRange}
 use Rattle.cbor_model.specs.Parts.{parts, part_bytes}
 use Rattle.cbor_model.specs.Formats.{Formats, all_formats, HasAllowedKeys}
 use Rattle.cbor_model.specs.RawReader.{raws_in, Begins}
@@ -170,6 +171,18 @@ abbrev pub WrittenReadsBack : Type 0
 WrittenReadsBack = (v : Val)
     → IsStorable v → IsOrdered v → IsInMemory v → depth (canonical v) ≤ max_depth
     → SpellsValue (canon v) v
+
+-- The item of a storable document in range is acceptable within as many levels as it nests.
+abbrev pub DocumentIsAcceptable : Type 0
+DocumentIsAcceptable = (levels : ℕ) (d : Doc) (packed legacy : Bool)
+    → IsStorableDocument d → IsDocumentInRange d → depth (raw_of d packed legacy) ≤ levels
+    → IsAcceptableWithin levels (raw_of d packed legacy)
+
+-- What is written of it, nested at most 127 levels, is read as its item's value.
+abbrev pub DocumentReadsBack : Type 0
+DocumentReadsBack = (d : Doc) (packed legacy : Bool)
+    → IsStorableDocument d → IsDocumentInRange d → depth (raw_of d packed legacy) ≤ max_depth
+    → SpellsValue (document_bytes d packed legacy) (value (raw_of d packed legacy))
 
 -- In the value of a map each key has the value of the last pair with that key.
 abbrev pub LastPairStays : Type 0

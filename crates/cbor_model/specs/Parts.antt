@@ -2,6 +2,7 @@
 use Rattle.std.specs.Prelude.{ℕ, suc, ◌^◌, ◌<◌, length, List, [], ◌∷◌, ◌++◌, Bool, true, false}
 use Rattle.std.specs.Prelude.{Option, Some, None}
 use Rattle.cbor_model.specs.Head.{short}
+use Rattle.cbor_model.specs.InMemory.{IsTextString}
 use Rattle.cbor_model.specs.Spelling.{spell, break}
 use Rattle.cbor_model.specs.Document.{Doc, Docs, DocPairs, Fields, Length, declared, undeclared}
 use Rattle.cbor_model.specs.Document.{sequence, mapping, structure, newtype_variant, tuple_variant}
@@ -73,16 +74,16 @@ IsStorablePart (field_part i n d) = IsStorableDocument d
 IsStorablePart (both p q) = IsStorablePart p × IsStorablePart q
 IsStorablePart _ = Unit {0}
 
--- The numbers that the part says fit, as those of its document do.
+-- The numbers that the part says fit, and its names are texts, as those of its document are.
 abbrev pub IsPartInRange : Part → Type 0
 IsPartInRange (item d) = IsDocumentInRange d
 IsPartInRange (array_head (Some n)) = n < 2 ^ 64
 IsPartInRange (map_head (Some n)) = n < 2 ^ 64
 IsPartInRange (tag_head n) = n < 2 ^ 64
-IsPartInRange (newtype_head i n) = (i < 2 ^ 64) × (length n < 2 ^ 64)
-IsPartInRange (tuple_head i n len) = (i < 2 ^ 64) × (length n < 2 ^ 64) × (suc len < 2 ^ 64)
-IsPartInRange (struct_head i n) = (i < 2 ^ 64) × (length n < 2 ^ 64)
-IsPartInRange (field_part i n d) = (i < 2 ^ 64) × (length n < 2 ^ 64) × IsDocumentInRange d
+IsPartInRange (newtype_head i n) = (i < 2 ^ 64) × IsTextString n
+IsPartInRange (tuple_head i n len) = (i < 2 ^ 64) × IsTextString n × (suc len < 2 ^ 64)
+IsPartInRange (struct_head i n) = (i < 2 ^ 64) × IsTextString n
+IsPartInRange (field_part i n d) = (i < 2 ^ 64) × IsTextString n × IsDocumentInRange d
 IsPartInRange (both p q) = IsPartInRange p × IsPartInRange q
 IsPartInRange _ = Unit {0}
 

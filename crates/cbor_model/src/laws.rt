@@ -8,6 +8,7 @@ ghost use Rattle.cbor_model.specs.Laws.{SpelledAllowsNone, SameFirstRefusal, InM
 ghost use Rattle.cbor_model.specs.Laws.{CanonicalIsAcceptable, WrittenReadsBack, LastPairStays};
 ghost use Rattle.cbor_model.specs.Laws.{PartsBytes, KeyRule, FollowingIsUnread, AllThatFitIsHeld};
 ghost use Rattle.cbor_model.specs.Laws.{RefusedHoldsBeginning, StoredOrStops, AllIsStored};
+ghost use Rattle.cbor_model.specs.Laws.{DocumentIsAcceptable, DocumentReadsBack};
 
 /// What the reference reader reads is the value of an acceptable item, and the bytes are its
 /// spelling.
@@ -143,6 +144,18 @@ pub fn canonical_is_acceptable()
 /// levels, is read as that value.
 pub fn written_reads_back()
     ensures { WrittenReadsBack }
+{}
+
+/// The item of a document that is storable and in range, as all that is written is, is acceptable
+/// within as many levels as it nests, in the packed and the legacy form too.
+pub fn document_is_acceptable()
+    ensures { DocumentIsAcceptable }
+{}
+
+/// What is written of such a document, where it nests at most 127 levels, is read as its item's
+/// value.
+pub fn document_reads_back()
+    ensures { DocumentReadsBack }
 {}
 
 /// In the value of a map each key has the value of the last pair with that key, as keys are

@@ -1,6 +1,7 @@
 -- The parts of structs and variants, as values.
 use Rattle.std.specs.Prelude.{Option}
 use Rattle.cbor_parts.specs.declared.Optional.{Optional}
+use Rattle.cbor_parts.specs.declared.OrDefault.{OrDefault}
 use Rattle.cbor_parts.specs.declared.Newtype.{Newtype}
 use Rattle.cbor_parts.specs.declared.Tuple.{Tuple}
 use Rattle.cbor_parts.specs.declared.Struct.{Struct}
@@ -20,3 +21,7 @@ structure xs = record { 0 = xs }
 -- a field that may be absent
 abbrev pub optional : {A : Type 0} → Option A → Optional A
 optional x = record { 0 = x }
+
+-- a field that is the default where it is absent
+abbrev pub or_default : {A : Type 0} → A → OrDefault A
+or_default x = record { 0 = x }

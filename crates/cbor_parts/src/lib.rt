@@ -49,6 +49,10 @@ pub trait FieldNames {
 #[derive(Debug, PartialEq, Drop)]
 pub struct Optional<T>(pub Option<T>);
 
+/// A field that may be absent: the default of its type where it is, and what is there else.
+#[derive(Debug, PartialEq, Drop)]
+pub struct OrDefault<T>(pub T);
+
 /// The parts of a struct or of a variant, a tuple, or those of an enum, one of its variants.
 pub trait Parts: Sized + Drop {
     ghost use Rattle.std.specs.Prelude.{ℕ};
@@ -89,6 +93,49 @@ impl<A: Drop, B: Drop, C: Drop, D: Drop, E: Drop, F: Drop, G: Drop> Parts
 impl<A: Drop, B: Drop, C: Drop, D: Drop, E: Drop, F: Drop, G: Drop, H: Drop> Parts
     for (A, B, C, D, E, F, G, H) {
     ghost count = { 8 };
+}
+
+impl<A: Drop, B: Drop, C: Drop, D: Drop, E: Drop, F: Drop, G: Drop, H: Drop, I: Drop> Parts
+    for (A, B, C, D, E, F, G, H, I) {
+    ghost count = { 9 };
+}
+
+impl<A: Drop, B: Drop, C: Drop, D: Drop, E: Drop, F: Drop, G: Drop, H: Drop, I: Drop, J: Drop> Parts
+    for (A, B, C, D, E, F, G, H, I, J) {
+    ghost count = { 10 };
+}
+
+impl<
+    A: Drop,
+    B: Drop,
+    C: Drop,
+    D: Drop,
+    E: Drop,
+    F: Drop,
+    G: Drop,
+    H: Drop,
+    I: Drop,
+    J: Drop,
+    K: Drop,
+> Parts for (A, B, C, D, E, F, G, H, I, J, K) {
+    ghost count = { 11 };
+}
+
+impl<
+    A: Drop,
+    B: Drop,
+    C: Drop,
+    D: Drop,
+    E: Drop,
+    F: Drop,
+    G: Drop,
+    H: Drop,
+    I: Drop,
+    J: Drop,
+    K: Drop,
+    L: Drop,
+> Parts for (A, B, C, D, E, F, G, H, I, J, K, L) {
+    ghost count = { 12 };
 }
 
 /// A struct or an enum that is written and read by a description of its parts.

@@ -60,7 +60,7 @@ impl Readable for Choice {
 
 impl<'de, R: Read<'de>> Deserialize<'de, R> for Choice {
     fn deserialize(de: &mut Deserializer<R>) -> Result<Choice> {
-        de.read_described(CHOICE)
+        Self::read_described(de, CHOICE)
     }
 }
 

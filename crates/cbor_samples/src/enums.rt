@@ -73,7 +73,7 @@ impl Readable for Color {
 
 impl<'de, R: Read<'de>> Deserialize<'de, R> for Color {
     fn deserialize(de: &mut Deserializer<R>) -> Result<Color> {
-        de.read_described(COLOR)
+        Self::read_described(de, COLOR)
     }
 }
 
@@ -168,7 +168,7 @@ impl Readable for Bar {
 
 impl<'de, R: Read<'de>> Deserialize<'de, R> for Bar {
     fn deserialize(de: &mut Deserializer<R>) -> Result<Bar> {
-        de.read_described(BAR)
+        Self::read_described(de, BAR)
     }
 }
 
@@ -256,7 +256,7 @@ impl Readable for DataEnum {
 
 impl<'de, R: Read<'de>> Deserialize<'de, R> for DataEnum {
     fn deserialize(de: &mut Deserializer<R>) -> Result<DataEnum> {
-        de.read_described(DATA)
+        Self::read_described(de, DATA)
     }
 }
 
@@ -318,7 +318,7 @@ impl Readable for TwoVariants {
 
 impl<'de, R: Read<'de>> Deserialize<'de, R> for TwoVariants {
     fn deserialize(de: &mut Deserializer<R>) -> Result<TwoVariants> {
-        de.read_described(TWO)
+        Self::read_described(de, TWO)
     }
 }
 
@@ -376,7 +376,7 @@ impl Readable for Wish {
 
 impl<'de, R: Read<'de>> Deserialize<'de, R> for Wish {
     fn deserialize(de: &mut Deserializer<R>) -> Result<Wish> {
-        de.read_described(WISH)
+        Self::read_described(de, WISH)
     }
 }
 

@@ -59,7 +59,7 @@ impl Readable for Letter {
 
 impl<'de, R: Read<'de>> Deserialize<'de, R> for Letter {
     fn deserialize(de: &mut Deserializer<R>) -> Result<Letter> {
-        de.read_described(LETTER)
+        Self::read_described(de, LETTER)
     }
 }
 
@@ -121,7 +121,7 @@ impl Readable for ReprEnum {
 
 impl<'de, R: Read<'de>> Deserialize<'de, R> for ReprEnum {
     fn deserialize(de: &mut Deserializer<R>) -> Result<ReprEnum> {
-        de.read_described(REPR)
+        Self::read_described(de, REPR)
     }
 }
 
@@ -171,7 +171,7 @@ impl Readable for EnumStruct {
 
 impl<'de, R: Read<'de>> Deserialize<'de, R> for EnumStruct {
     fn deserialize(de: &mut Deserializer<R>) -> Result<EnumStruct> {
-        de.read_described(ENUM_FIELD)
+        Self::read_described(de, ENUM_FIELD)
     }
 }
 
@@ -221,7 +221,7 @@ impl Readable for ReprEnumStruct {
 
 impl<'de, R: Read<'de>> Deserialize<'de, R> for ReprEnumStruct {
     fn deserialize(de: &mut Deserializer<R>) -> Result<ReprEnumStruct> {
-        de.read_described(REPR_FIELD)
+        Self::read_described(de, REPR_FIELD)
     }
 }
 

@@ -1,11 +1,9 @@
 //! Structs, each written as a map of its fields.
 
-ghost use Rattle.std.specs.Prelude.{codes};
-
 use crate::enums::Color;
 use serde_cbor::de::{Deserialize, DeserializeOwned, FromParts, Read, Readable, ReadableParts};
-use serde_cbor::parts::Schema;
-use serde_cbor::ser::{PartsDocument, Serialize, Serializer, Write};
+use serde_cbor::parts::{Optional, Schema};
+use serde_cbor::ser::{OptionalField, PartsDocument, Serialize, Serializer, Write};
 use serde_cbor::{Deserializer, Result};
 
 /// A struct of two fields.
@@ -54,7 +52,7 @@ impl Readable for User {
 
 impl<'de, R: Read<'de>> Deserialize<'de, R> for User {
     fn deserialize(de: &mut Deserializer<R>) -> Result<User> {
-        de.read_described(USER)
+        Self::read_described(de, USER)
     }
 }
 
@@ -105,7 +103,7 @@ impl Readable for SmallStruct {
 
 impl<'de, R: Read<'de>> Deserialize<'de, R> for SmallStruct {
     fn deserialize(de: &mut Deserializer<R>) -> Result<SmallStruct> {
-        de.read_described(SMALL)
+        Self::read_described(de, SMALL)
     }
 }
 
@@ -114,27 +112,65 @@ impl DeserializeOwned for SmallStruct {
 }
 
 /// A struct of which a field is left out where it isn't known.
-#[derive(Drop)]
+#[derive(Debug, PartialEq, Drop)]
 pub struct OptionalPerson {
     pub name: String,
+    pub year_of_birth: Option<u16>,
     pub profession: String,
 }
 
-impl Serialize for OptionalPerson {
-    ghost use Rattle.serde_cbor.specs.Document.{structure, field, no_fields};
+/// The names of its fields.
+const OPTIONAL_PERSON: &[&str] = &["name", "year_of_birth", "profession"];
 
-    ghost document = { λ p. structure
-        (field 0 (codes "name") (⟦<String as Serialize>⟧.document p.name)
-        (field 2 (codes "profession") (⟦<String as Serialize>⟧.document p.profession)
-        no_fields)) };
+impl Schema for OptionalPerson {
+    ghost use Rattle.std.specs.Prelude.{map};
+    ghost use Rattle.serde_cbor.specs.Schemas.{optional};
+    ghost use Rattle.cbor_samples.specs.declared.structs.TheConstants.{OPTIONAL_PERSON};
+
+    type Parts = (String, Optional<u16>, String);
+
+    ghost names = { map (λ n. n.now) OPTIONAL_PERSON.now };
+
+    ghost parts = { λ p. (p.name, optional p.year_of_birth, p.profession) };
+}
+
+impl Serialize for OptionalPerson {
+    ghost document = { λ x. ⟦<<OptionalPerson as Schema>::Parts as PartsDocument>⟧.document
+        ⟦<OptionalPerson as Schema>⟧.names (⟦<OptionalPerson as Schema>⟧.parts x) };
 
     fn serialize<W: Write>(&self, ser: &mut Serializer<W>) -> Result<()> {
-        let mut fields = ser.serialize_struct("OptionalPerson", 2)?;
-        fields.serialize_field("name", &self.name)?;
-        fields.skip_field("year_of_birth");
-        fields.serialize_field("profession", &self.profession)?;
-        fields.end()
+        let fields = (
+            &self.name,
+            OptionalField(&self.year_of_birth),
+            &self.profession,
+        );
+        ser.serialize_fields(OPTIONAL_PERSON, &fields)
     }
+}
+
+impl FromParts for OptionalPerson {
+    fn from_parts((name, year_of_birth, profession): Self::Parts) -> OptionalPerson {
+        OptionalPerson {
+            name,
+            year_of_birth: year_of_birth.0,
+            profession,
+        }
+    }
+}
+
+impl Readable for OptionalPerson {
+    ghost reads = { λ c r x. ⟦<<OptionalPerson as Schema>::Parts as ReadableParts>⟧.reads
+        ⟦<OptionalPerson as Schema>⟧.names c r (⟦<OptionalPerson as Schema>⟧.parts x) };
+}
+
+impl<'de, R: Read<'de>> Deserialize<'de, R> for OptionalPerson {
+    fn deserialize(de: &mut Deserializer<R>) -> Result<OptionalPerson> {
+        Self::read_described(de, OPTIONAL_PERSON)
+    }
+}
+
+impl DeserializeOwned for OptionalPerson {
+    ghost same = { λ f a b r v h. h };
 }
 
 /// A struct within a struct.
@@ -180,7 +216,7 @@ impl Readable for Foo {
 
 impl<'de, R: Read<'de>> Deserialize<'de, R> for Foo {
     fn deserialize(de: &mut Deserializer<R>) -> Result<Foo> {
-        de.read_described(FOO)
+        Self::read_described(de, FOO)
     }
 }
 
@@ -230,7 +266,7 @@ impl Readable for Example {
 
 impl<'de, R: Read<'de>> Deserialize<'de, R> for Example {
     fn deserialize(de: &mut Deserializer<R>) -> Result<Example> {
-        de.read_described(EXAMPLE)
+        Self::read_described(de, EXAMPLE)
     }
 }
 
@@ -312,7 +348,7 @@ impl Readable for Mascot {
 
 impl<'de, R: Read<'de>> Deserialize<'de, R> for Mascot {
     fn deserialize(de: &mut Deserializer<R>) -> Result<Mascot> {
-        de.read_described(MASCOT)
+        Self::read_described(de, MASCOT)
     }
 }
 
@@ -367,7 +403,7 @@ impl Readable for Person {
 
 impl<'de, R: Read<'de>> Deserialize<'de, R> for Person {
     fn deserialize(de: &mut Deserializer<R>) -> Result<Person> {
-        de.read_described(PERSON)
+        Self::read_described(de, PERSON)
     }
 }
 

@@ -82,7 +82,7 @@ impl Readable for FloatEnum {
 
 impl<'de, R: Read<'de>> Deserialize<'de, R> for FloatEnum {
     fn deserialize(de: &mut Deserializer<R>) -> Result<FloatEnum> {
-        de.read_described(FLOAT)
+        Self::read_described(de, FLOAT)
     }
 }
 

@@ -11,10 +11,28 @@ use crate::scalar::read_float;
 use cbor_de::Deserializer;
 use cbor_io::error::{Error, Result};
 use cbor_read::Source;
+use std::num::{f32_from_bits_with_nan, f64_from_bits_with_nan};
 
 /// Reads a float of 16, 32 or 64 bits as the number that it is.
 #[inline(always)]
 pub fn read_f64<R: Source>(items: &mut Deserializer<R>) -> Result<f64>
+    ensures read { TakesItem R.refusals (formats_of items.old.formats)
+        (PassesTags IsFloatOf) items.old.levels
+        (R.source items.old.source) (R.source items.new.source) result }
+    ensures no_form { IfErr result (λ e. TellsNoForm (code_of e)) }
+    ensures levels { items.new.levels ≡ items.old.levels }
+    ensures formats { items.new.formats ≡ items.old.formats }
+{
+    match items.double() {
+        Ok(Some(bits)) => Ok(f64_from_bits_with_nan(bits)),
+        Ok(None) => any_f64(items),
+        Err(refused) => Err(items.error(refused)),
+    }
+}
+
+// The same of a float of any width, within its tags.
+#[inline(always)]
+fn any_f64<R: Source>(items: &mut Deserializer<R>) -> Result<f64>
     ensures read { TakesItem R.refusals (formats_of items.old.formats)
         (PassesTags IsFloatOf) items.old.levels
         (R.source items.old.source) (R.source items.new.source) result }
@@ -31,6 +49,23 @@ pub fn read_f64<R: Source>(items: &mut Deserializer<R>) -> Result<f64>
 /// Reads a float of 16, 32 or 64 bits whose number is one of 32 bits.
 #[inline(always)]
 pub fn read_f32<R: Source>(items: &mut Deserializer<R>) -> Result<f32>
+    ensures read { TakesItem R.refusals (formats_of items.old.formats)
+        (PassesTags IsSingleOf) items.old.levels
+        (R.source items.old.source) (R.source items.new.source) result }
+    ensures no_form { IfErr result (λ e. TellsNoForm (code_of e)) }
+    ensures levels { items.new.levels ≡ items.old.levels }
+    ensures formats { items.new.formats ≡ items.old.formats }
+{
+    match items.single() {
+        Ok(Some(bits)) => Ok(f32_from_bits_with_nan(bits)),
+        Ok(None) => any_f32(items),
+        Err(refused) => Err(items.error(refused)),
+    }
+}
+
+// The same of a float of any width, within its tags.
+#[inline(always)]
+fn any_f32<R: Source>(items: &mut Deserializer<R>) -> Result<f32>
     ensures read { TakesItem R.refusals (formats_of items.old.formats)
         (PassesTags IsSingleOf) items.old.levels
         (R.source items.old.source) (R.source items.new.source) result }

@@ -1,6 +1,7 @@
 -- What precedes the parts of a variant, and a field, put together from heads and identifiers.
-use Rattle.std.proofs.Common.{◌≡◌, ℕ, ◌+◌, ◌^◌, ◌<◌, Bool, List, length, ◌++◌, suc, Some, true, false, refl, sym, ap, ◌∙◌, inr, arith}
+use Rattle.std.proofs.Common.{◌≡◌, ℕ, ◌+◌, ◌^◌, ◌<◌, Bool, List, ◌++◌, suc, Some, true, false, refl, sym, ap, ◌∙◌, inr, arith}
 use Rattle.cbor_model.specs.Head.{short}
+use Rattle.cbor_model.specs.InMemory.{IsTextString}
 use Rattle.cbor_model.specs.Spelling.{spell}
 use Rattle.cbor_model.specs.Document.{Doc, unit_variant, raw_of, document_bytes, identifier, IsStorableDocument}
 use Rattle.cbor_ser.specs.Documents.{key_document}
@@ -26,7 +27,7 @@ key_storable false i n fits = tt
 key_storable true i n fits = fits
 
 -- what identifies a field or a variant under these settings
-pub key_same : (s : Settings) (i : ℕ) (n : List ℕ) → i < 2 ^ 64 → length n < 2 ^ 64 → Same s (item (key_document s.packed i n)) (item (unit_variant i n))
+pub key_same : (s : Settings) (i : ℕ) (n : List ℕ) → i < 2 ^ 64 → IsTextString n → Same s (item (key_document s.packed i n)) (item (unit_variant i n))
 unfolding part_bytes document_bytes raw_of
 key_same s i n fits fits' = record {
   same = key_bytes s.packed s.legacy i n;
@@ -52,7 +53,7 @@ newtype_named s i n is fits = record {
   same = ap (newtype_start i n s.packed) (sym is);
   storable = λ h. tt;
   unstorable = λ h. (tt, tt);
-  in_range = λ h. (fits, h.1.0.0);
+  in_range = λ h. (fits, h.1);
   before = λ front h. absurd h;
 }
 
@@ -73,7 +74,7 @@ tuple_named s i n len is fits fits' = record {
   same = ap (tuple_start i n len s.packed) (sym is);
   storable = λ h. tt;
   unstorable = λ h. ((tt, tt), tt);
-  in_range = λ h. (fits, h.0.1.0.0, fits');
+  in_range = λ h. (fits, h.0.1, fits');
   before = λ front h. absurd h;
 }
 
@@ -87,7 +88,7 @@ struct_legacy s i n is = record {
   before = λ front h. absurd h;
 }
 
-pub struct_identified : (s : Settings) (i : ℕ) (n : List ℕ) → s.legacy ≡ false → i < 2 ^ 64 → length n < 2 ^ 64 → Same s (key_head s.packed i n) (struct_head i n)
+pub struct_identified : (s : Settings) (i : ℕ) (n : List ℕ) → s.legacy ≡ false → i < 2 ^ 64 → IsTextString n → Same s (key_head s.packed i n) (struct_head i n)
 unfolding part_bytes
 struct_identified s i n is fits fits' = record {
   same = ap (λ xs. short 5 1 ++ xs) (key_bytes s.packed s.legacy i n) ∙ ap (struct_start i n s.packed) (sym is);

@@ -7,9 +7,10 @@ ghost use Rattle.cbor_model.specs.Parts.{item};
 ghost use Rattle.cbor_ser.specs.PartLists.{name_in};
 ghost use Rattle.cbor_ser.specs.Serialized.{Serialized};
 
-use crate::fields::SerializeTuple;
+use crate::fields::SerializeFields;
 use crate::serialize::Serialize;
 use crate::serializer::Serializer;
+use crate::tuples::SerializeTuple;
 use cbor_io::error::Result;
 use cbor_io::write::Write;
 use cbor_parts::{Newtype, Tuple};
@@ -89,7 +90,7 @@ impl<F: SerializeTuple> SerializeVariant for Tuple<F> {
 #[derive(Drop)]
 pub struct NamedFields<'a, F>(pub &'a [&'a str], pub F);
 
-impl<'a, F: SerializeTuple> SerializeVariant for NamedFields<'a, F> {
+impl<'a, F: SerializeFields> SerializeVariant for NamedFields<'a, F> {
     ghost document = { λ i n v. struct_variant i n (F.fields (map (λ n. n.now) v.0.now) v.1) };
 
     ghost is_named = { λ v. length v.0.now ≡ F.count };
@@ -107,12 +108,12 @@ impl<'a, F: SerializeTuple> SerializeVariant for NamedFields<'a, F> {
 
 impl<W: Write> Serializer<W> {
     /// Writes a struct of these fields, by their names, or their numbers where the format is
-    /// packed.
+    /// packed. An [`OptionalField`](crate::OptionalField) that is None is left out.
     ///
     /// ```rust
     /// ser.serialize_fields(&["x", "y"], &(&self.x, &self.y))
     /// ```
-    pub fn serialize_fields<F: SerializeTuple>(&mut self, names: &[&str], fields: &F) -> Result<()>
+    pub fn serialize_fields<F: SerializeFields>(&mut self, names: &[&str], fields: &F) -> Result<()>
         requires { length names.now ≡ F.count }
         ensures { Serialized W.written W.refuses W.references self.old
             (item (structure (F.fields (map (λ n. n.now) names.now) fields.now)))

@@ -22,19 +22,26 @@ use std::alloc::Global;
 
 mod collection;
 mod described;
+mod field;
 mod fields;
 mod impls;
 mod items;
+mod part_list;
 mod schema;
 mod serialize;
 mod serializer;
+mod tuple_documents;
+mod tuples;
 
 pub use collection::{CollectionSerializer, StructSerializer};
 pub use described::{NamedFields, SerializeVariant};
-pub use fields::SerializeTuple;
-pub use schema::{PartsDocument, TupleDocuments, VariantDocument};
+pub use field::{OptionalField, SerializeField};
+pub use fields::SerializeFields;
+pub use schema::{PartsDocument, VariantDocument};
 pub use serialize::Serialize;
 pub use serializer::Serializer;
+pub use tuple_documents::{FieldDocument, FieldsDocument, TupleDocuments};
+pub use tuples::SerializeTuple;
 
 /// The bytes of a value's document: shortest heads, fields and variants by their names, and
 /// definite lengths where the document declares them. A [`Value`](cbor_value::Value) is written as

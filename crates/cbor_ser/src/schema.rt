@@ -5,198 +5,11 @@ ghost use Rattle.cbor_model.specs.Document.{unit_variant, newtype_variant, tuple
 ghost use Rattle.cbor_model.specs.Document.{struct_variant};
 
 use crate::serialize::Serialize;
+use crate::tuple_documents::{FieldsDocument, TupleDocuments};
 use cbor_parts::{
-    FieldNames, Newtype, OneOf1, OneOf2, OneOf3, OneOf4, OneOf5, OneOf6, OneOf7, OneOf8, Parts,
-    Struct, Tuple,
+    FieldNames, Newtype, OneOf1, OneOf2, OneOf3, OneOf4, OneOf5, OneOf6, OneOf7, OneOf8, Struct,
+    Tuple,
 };
-
-/// The fields of a struct, or the parts of a variant, that have documents: a tuple.
-pub trait TupleDocuments: Parts {
-    ghost use Rattle.std.specs.Prelude.{List, ℕ};
-    ghost use Rattle.cbor_model.specs.Document.{Docs, Fields};
-
-    // What the parts are written as.
-    ghost documents: { Self → Docs };
-
-    // What they are written as under these names, as fields with the numbers from 0 on.
-    ghost fields: { List (List ℕ) → Self → Fields };
-}
-
-impl<A: Serialize + Drop> TupleDocuments for (A,) {
-    ghost use Rattle.cbor_model.specs.Document.{doc, no_docs, field, no_fields};
-    ghost use Rattle.cbor_ser.specs.PartLists.{name_in};
-
-    ghost documents = { λ p. doc (A.document p.0) no_docs };
-
-    ghost fields = { λ ns p.
-        field 0 (name_in ns 0) (A.document p.0) no_fields };
-}
-
-impl<A: Serialize + Drop, B: Serialize + Drop> TupleDocuments for (A, B) {
-    ghost use Rattle.cbor_model.specs.Document.{doc, no_docs, field, no_fields};
-    ghost use Rattle.cbor_ser.specs.PartLists.{name_in};
-
-    ghost documents = { λ p. doc (A.document p.0) (doc (B.document p.1) no_docs) };
-
-    ghost fields = { λ ns p.
-        field 0 (name_in ns 0) (A.document p.0)
-        (field 1 (name_in ns 1) (B.document p.1) no_fields) };
-}
-
-impl<A: Serialize + Drop, B: Serialize + Drop, C: Serialize + Drop> TupleDocuments for (A, B, C) {
-    ghost use Rattle.cbor_model.specs.Document.{doc, no_docs, field, no_fields};
-    ghost use Rattle.cbor_ser.specs.PartLists.{name_in};
-
-    ghost documents = { λ p.
-        doc (A.document p.0)
-        (doc (B.document p.1)
-        (doc (C.document p.2) no_docs)) };
-
-    ghost fields = { λ ns p.
-        field 0 (name_in ns 0) (A.document p.0)
-        (field 1 (name_in ns 1) (B.document p.1)
-        (field 2 (name_in ns 2) (C.document p.2) no_fields)) };
-}
-
-impl<
-    A: Serialize + Drop,
-    B: Serialize + Drop,
-    C: Serialize + Drop,
-    D: Serialize + Drop,
-> TupleDocuments for (A, B, C, D) {
-    ghost use Rattle.cbor_model.specs.Document.{doc, no_docs, field, no_fields};
-    ghost use Rattle.cbor_ser.specs.PartLists.{name_in};
-
-    ghost documents = { λ p.
-        doc (A.document p.0)
-        (doc (B.document p.1)
-        (doc (C.document p.2)
-        (doc (D.document p.3) no_docs))) };
-
-    ghost fields = { λ ns p.
-        field 0 (name_in ns 0) (A.document p.0)
-        (field 1 (name_in ns 1) (B.document p.1)
-        (field 2 (name_in ns 2) (C.document p.2)
-        (field 3 (name_in ns 3) (D.document p.3) no_fields))) };
-}
-
-impl<
-    A: Serialize + Drop,
-    B: Serialize + Drop,
-    C: Serialize + Drop,
-    D: Serialize + Drop,
-    E: Serialize + Drop,
-> TupleDocuments for (A, B, C, D, E) {
-    ghost use Rattle.cbor_model.specs.Document.{doc, no_docs, field, no_fields};
-    ghost use Rattle.cbor_ser.specs.PartLists.{name_in};
-
-    ghost documents = { λ p.
-        doc (A.document p.0)
-        (doc (B.document p.1)
-        (doc (C.document p.2)
-        (doc (D.document p.3)
-        (doc (E.document p.4) no_docs)))) };
-
-    ghost fields = { λ ns p.
-        field 0 (name_in ns 0) (A.document p.0)
-        (field 1 (name_in ns 1) (B.document p.1)
-        (field 2 (name_in ns 2) (C.document p.2)
-        (field 3 (name_in ns 3) (D.document p.3)
-        (field 4 (name_in ns 4) (E.document p.4) no_fields)))) };
-}
-
-impl<
-    A: Serialize + Drop,
-    B: Serialize + Drop,
-    C: Serialize + Drop,
-    D: Serialize + Drop,
-    E: Serialize + Drop,
-    F: Serialize + Drop,
-> TupleDocuments for (A, B, C, D, E, F) {
-    ghost use Rattle.cbor_model.specs.Document.{doc, no_docs, field, no_fields};
-    ghost use Rattle.cbor_ser.specs.PartLists.{name_in};
-
-    ghost documents = { λ p.
-        doc (A.document p.0)
-        (doc (B.document p.1)
-        (doc (C.document p.2)
-        (doc (D.document p.3)
-        (doc (E.document p.4)
-        (doc (F.document p.5) no_docs))))) };
-
-    ghost fields = { λ ns p.
-        field 0 (name_in ns 0) (A.document p.0)
-        (field 1 (name_in ns 1) (B.document p.1)
-        (field 2 (name_in ns 2) (C.document p.2)
-        (field 3 (name_in ns 3) (D.document p.3)
-        (field 4 (name_in ns 4) (E.document p.4)
-        (field 5 (name_in ns 5) (F.document p.5) no_fields))))) };
-}
-
-impl<
-    A: Serialize + Drop,
-    B: Serialize + Drop,
-    C: Serialize + Drop,
-    D: Serialize + Drop,
-    E: Serialize + Drop,
-    F: Serialize + Drop,
-    G: Serialize + Drop,
-> TupleDocuments for (A, B, C, D, E, F, G) {
-    ghost use Rattle.cbor_model.specs.Document.{doc, no_docs, field, no_fields};
-    ghost use Rattle.cbor_ser.specs.PartLists.{name_in};
-
-    ghost documents = { λ p.
-        doc (A.document p.0)
-        (doc (B.document p.1)
-        (doc (C.document p.2)
-        (doc (D.document p.3)
-        (doc (E.document p.4)
-        (doc (F.document p.5)
-        (doc (G.document p.6) no_docs)))))) };
-
-    ghost fields = { λ ns p.
-        field 0 (name_in ns 0) (A.document p.0)
-        (field 1 (name_in ns 1) (B.document p.1)
-        (field 2 (name_in ns 2) (C.document p.2)
-        (field 3 (name_in ns 3) (D.document p.3)
-        (field 4 (name_in ns 4) (E.document p.4)
-        (field 5 (name_in ns 5) (F.document p.5)
-        (field 6 (name_in ns 6) (G.document p.6) no_fields)))))) };
-}
-
-impl<
-    A: Serialize + Drop,
-    B: Serialize + Drop,
-    C: Serialize + Drop,
-    D: Serialize + Drop,
-    E: Serialize + Drop,
-    F: Serialize + Drop,
-    G: Serialize + Drop,
-    H: Serialize + Drop,
-> TupleDocuments for (A, B, C, D, E, F, G, H) {
-    ghost use Rattle.cbor_model.specs.Document.{doc, no_docs, field, no_fields};
-    ghost use Rattle.cbor_ser.specs.PartLists.{name_in};
-
-    ghost documents = { λ p.
-        doc (A.document p.0)
-        (doc (B.document p.1)
-        (doc (C.document p.2)
-        (doc (D.document p.3)
-        (doc (E.document p.4)
-        (doc (F.document p.5)
-        (doc (G.document p.6)
-        (doc (H.document p.7) no_docs))))))) };
-
-    ghost fields = { λ ns p.
-        field 0 (name_in ns 0) (A.document p.0)
-        (field 1 (name_in ns 1) (B.document p.1)
-        (field 2 (name_in ns 2) (C.document p.2)
-        (field 3 (name_in ns 3) (D.document p.3)
-        (field 4 (name_in ns 4) (E.document p.4)
-        (field 5 (name_in ns 5) (F.document p.5)
-        (field 6 (name_in ns 6) (G.document p.6)
-        (field 7 (name_in ns 7) (H.document p.7) no_fields))))))) };
-}
 
 /// A variant that has a document.
 pub trait VariantDocument: Drop {
@@ -221,7 +34,7 @@ impl<F: TupleDocuments> VariantDocument for Tuple<F> {
 
 impl<N: FieldNames> VariantDocument for Struct<N>
 where
-    N::Parts: TupleDocuments,
+    N::Parts: FieldsDocument,
 {
     ghost document = { λ i n v. struct_variant i n (N.Parts.fields N.names v.0) };
 }
@@ -235,7 +48,7 @@ pub trait PartsDocument {
     ghost document: { List (List ℕ) → Self → Doc };
 }
 
-impl<F: TupleDocuments> PartsDocument for F {
+impl<F: FieldsDocument> PartsDocument for F {
     ghost document = { λ names p. structure (F.fields names p) };
 }
 

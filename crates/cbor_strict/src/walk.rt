@@ -66,7 +66,7 @@ fn content(first: u8, bytes: &[u8]) -> Walk
     if major <= 1 {
         integer(low, bytes)
     } else if major == 7 {
-        simple(low, bytes)
+        simple(first, bytes)
     } else if major <= 3 {
         string(low, bytes)
     } else {
@@ -294,11 +294,15 @@ fn past(n: u64, bytes: &[u8]) -> Walk
 /// Goes past what follows a first byte of major type 7.
 #[tactic(auto, using(crate::proofs::Walking::last_all), unfolding(crate::specs::Walk::simple_walk))]
 #[inline(always)]
-fn simple(low: u8, bytes: &[u8]) -> Walk
-    ensures walks { Walks bytes.now (λ fuel. simple_walk low) result }
+fn simple(first: u8, bytes: &[u8]) -> Walk
+    ensures walks { Walks bytes.now (λ fuel. simple_walk (first % 32)) result }
     ensures within { IsWithin (length bytes.now) result }
 {
-    match low {
+    // A float of 64 bits, as most of these are: it takes no table.
+    if first == 0xfb {
+        return float::<8>(bytes);
+    }
+    match first % 32 {
         20 | 21 | 22 => Walk::Passed(bytes.len()),
         23 => Walk::Departed(bytes.len()),
         25 => float::<2>(bytes),

@@ -2,10 +2,11 @@
 
 use crate::how::{How, Source};
 use crate::row::{Malformed, Row};
+use crate::square::closes;
 use crate::streams;
 use serde_cbor::de::{Deserialize, Read};
 use serde_cbor::ser::{Serialize, to_vec_packed};
-use serde_cbor::{Deserializer, Result, Serializer, to_vec};
+use serde_cbor::{Deserializer, Result, Serializer, to_vec, to_vec_canonical};
 use std::alloc::Global;
 use std::fmt::{Debug, InlineText};
 use std::{fmt, io};
@@ -122,7 +123,15 @@ impl<'d> Desk<'d> {
         };
         self.begins(self.step.then_write())?;
         let written = write(self.rt.alloc(), value, row.how);
-        self.judges_written(row, want, &written)
+        self.judges_written(row, want, &written)?;
+        if self.tells_each {
+            return Ok(());
+        }
+        match closes(self.rt.alloc(), value) {
+            Ok(false) => self.tells_square(),
+            // What can't be read or written is judged by the steps.
+            Ok(true) | Err(_) => Ok(()),
+        }
     }
 
     // Judges what was read.
@@ -169,6 +178,12 @@ impl<'d> Desk<'d> {
     pub fn tells_front(&mut self, len: usize) -> io::Result<()> {
         self.wrong = self.wrong.saturating_add(1);
         println!(self.rt; "{}:{}: first {len} bytes: wrong", self.table, self.line)
+    }
+
+    /// Tells that what a value stands for isn't what its bytes are read as.
+    pub fn tells_square(&mut self) -> io::Result<()> {
+        self.wrong = self.wrong.saturating_add(1);
+        println!(self.rt; "{}:{}: to_value: wrong", self.table, self.line)
     }
 
     /// Tells that what is written isn't read strictly as what it was.
@@ -251,6 +266,9 @@ fn said<T: Debug>(read: &Result<T>) -> InlineText<ANSWER> {
 
 // The bytes of a value, in the form that the row asks for.
 fn write<T: Serialize>(alloc: Global, value: &T, how: How) -> Result<Vec<u8>> {
+    if how.canonical {
+        return to_vec_canonical(alloc, value);
+    }
     if !how.legacy {
         return if how.packed {
             to_vec_packed(alloc, value)

@@ -23,6 +23,8 @@ pub struct How {
     pub packed: bool,
     /// Enums are written as arrays.
     pub legacy: bool,
+    /// The canonical spelling is written of what the value stands for.
+    pub canonical: bool,
     /// The library takes no memory for it.
     pub no_memory: bool,
 }
@@ -72,6 +74,7 @@ impl How {
             stream: false,
             packed: false,
             legacy: false,
+            canonical: false,
             no_memory: false,
         }
     }
@@ -125,6 +128,7 @@ impl How {
             "stream" => self.stream = true,
             "packed" => self.packed = true,
             "legacy" => self.legacy = true,
+            "canonical" => self.canonical = true,
             "no memory" => self.no_memory = true,
             _ => return false,
         }

@@ -31,6 +31,7 @@ mod how;
 mod program;
 mod row;
 mod sources;
+mod square;
 mod streams;
 mod strict;
 mod table;

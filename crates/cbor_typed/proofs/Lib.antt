@@ -14,8 +14,5 @@ pub mod Fields
 pub mod Slots
 pub mod Structs
 pub mod StructLoops
-pub mod FieldLists
 pub mod Enums
 pub mod StreamSteps
-pub mod OneOfs
-pub mod Makings

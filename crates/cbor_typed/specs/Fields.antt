@@ -1,30 +1,7 @@
--- Lists of fields, of which structs are read.
-use Rattle.std.specs.Prelude.{◌≡◌, ℕ, zero, suc, Bool, false, List, [], ◌∷◌, Option, Some, None, ◌⊎◌}
-use Rattle.std.specs.Prelude.{Result, Ok, Err}
+-- What was read of the fields of a struct.
+use Rattle.std.specs.Prelude.{◌≡◌, false, List, [], ◌∷◌, Option, Some, None}
 use Rattle.std.specs.Option.{is_some}
-use Rattle.cbor_model.specs.Formats.{Formats}
-use Rattle.cbor_model.specs.Reader.{item_at}
-use Rattle.cbor_io.specs.declared.error.Error.{Error}
-use Rattle.cbor_io.specs.declared.read_error.ReadErrorCode.{ReadErrorCode}
-use Rattle.cbor_io.specs.Error.{code_of, offset_of}
-use Rattle.cbor_read.specs.Source.{Input}
-use Rattle.cbor_de.specs.Gives.{Step}
-use Rattle.cbor_typed.specs.Structs.{FieldOf, IfAbsent, refused, taken, field_or, IsAny}
-use Rattle.cbor_scalars.specs.Takes.{raws, IsRead, IsNotRead, Refuses}
-
--- the fields of a T, as those of what a T is a view of
-abbrev pub over : {S T : Type 0} → (S → T) → List (FieldOf T) → List (FieldOf S)
-over view [] = []
-over view (d ∷ fields) = field_or d.reads d.missing (λ x. d.of (view x)) ∷ over view fields
-
--- ---- what was read of the fields
-
--- what a field is that is absent: one of these, where it may be absent
-abbrev pub IsMissing : {A : Type 0} → IfAbsent A → Option A → Type 0
-IsMissing refused None = Unit {0}
-IsMissing refused (Some x) = ⊥
-IsMissing (taken missing) None = ⊥
-IsMissing (taken missing) (Some x) = missing x
+use Rattle.cbor_typed.specs.Structs.{FieldOf, IfAbsent, refused, taken}
 
 -- the field is x: it was read so, or it wasn't read, and x stands for it
 abbrev pub IsHeld : {A : Type 0} → Option A → IfAbsent A → A → Type 0
@@ -57,42 +34,3 @@ module _ {S : Type 0} where
   abbrev pub AreHeld : (fields : List (FieldOf S)) → Slots fields → S → Type 0
   AreHeld [] slots x = Unit {0}
   AreHeld (d ∷ fields) slots x = IsHeld slots.0 d.missing (d.of x) × AreHeld fields slots.1 x
-
-  -- a field wasn't read, and may not be absent
-  abbrev pub IsLacking : (fields : List (FieldOf S)) → Slots fields → Type 0
-  IsLacking [] slots = ⊥
-  IsLacking (d ∷ fields) slots = Lacks d.missing slots.0 ⊎ IsLacking fields slots.1
-
--- the same, of what they are a view of
-abbrev pub slots_over : {S T : Type 0} → (view : S → T) → (fields : List (FieldOf T)) → Slots fields
-    → Slots (over view fields)
-slots_over view [] slots = slots
-slots_over view (d ∷ fields) slots = (slots.0, slots_over view fields slots.1)
-
-module _ {S : Type 0} (f : Formats) (levels : ℕ) where
-  -- The i-th field, which had no value, was read into its slot. Where the list is shorter, an item was
-  -- passed over.
-  abbrev pub FieldTaken : (fields : List (FieldOf S)) → ℕ → Slots fields → Slots fields → Input → Input
-      → Type 0
-  FieldTaken [] i old new s t =
-      Step s t (λ l bs rest. IsRead IsAny (item_at (raws f l) levels bs) tt rest)
-  FieldTaken (d ∷ fields) zero old new s t =
-      (is_some old.0 ≡ false) × (new.1 ≡ old.1)
-      × ((x : d.Value) × (new.0 ≡ Some x) × Step s t (λ l bs rest. IsRead d.reads (item_at (raws f l) levels bs) x rest))
-  FieldTaken (d ∷ fields) (suc i) old new s t =
-      (new.0 ≡ old.0) × FieldTaken fields i old.1 new.1 s t
-
-  -- The i-th field has a value, or its value isn't there.
-  abbrev pub FieldRefused : (ReadErrorCode → Bool) → (fields : List (FieldOf S)) → ℕ → Slots fields
-      → Input → Error → Type 0
-  FieldRefused refusals [] i old s e = Refuses refusals s (code_of e) (offset_of e)
-      (λ l bs. IsNotRead IsAny (item_at (raws f l) levels bs))
-  FieldRefused refusals (d ∷ fields) zero old s e =
-      is_some old.0 ≡ false → Refuses refusals s (code_of e) (offset_of e) (λ l bs. IsNotRead d.reads (item_at (raws f l) levels bs))
-  FieldRefused refusals (d ∷ fields) (suc i) old s e = FieldRefused refusals fields i old.1 s e
-
-  -- what a call gave for the value of the i-th field
-  abbrev pub TakesField : (ReadErrorCode → Bool) → (fields : List (FieldOf S)) → ℕ → Slots fields
-      → Slots fields → Input → Input → Result (Unit {0}) Error → Type 0
-  TakesField refusals fields i old new s t (Ok u) = FieldTaken fields i old new s t
-  TakesField refusals fields i old new s t (Err e) = FieldRefused refusals fields i old s e

@@ -1,7 +1,7 @@
 pub mod Structs
 pub mod Fields
-pub mod OneOfs
 pub mod Options
+pub mod FieldTypes
 pub mod ByteStrings
 pub mod Whole
 pub mod Alike

@@ -123,7 +123,7 @@ impl<R: Source> Deserializer<R> {
         ensures formats { formats_of result.items.formats ≡ formats_of self.items.formats }
     {
         let mut items = self.items;
-        items.levels = n;
+        items.levels = n as u64;
         Deserializer { items }
     }
 

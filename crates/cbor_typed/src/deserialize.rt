@@ -34,8 +34,8 @@ pub trait Readable: Sized + Drop {
 /// borrowed `Bytes`. An `f64` or an `f32` is a float of any width that it holds exactly.
 ///
 /// A struct or an enum that says what its parts are (`parts::Schema`) is read by one call,
-/// [`Deserializer::read_described`], and no proof is written for it; `docs/OWN_TYPES.md` goes
-/// through it step by step.
+/// `FromParts::read_described` of `cbor_described`, and no proof is written for it;
+/// `docs/OWN_TYPES.md` goes through it step by step.
 ///
 /// What no description can say is read part by part. A struct is read by a loop over its fields, in
 /// any order, by their names or their numbers:

@@ -11,22 +11,17 @@
 
 mod de;
 mod deserialize;
-mod field_list;
+mod field_type;
 mod from;
 mod laws;
 mod map;
-mod one_of;
-mod parts;
 mod scalars;
 mod sequence;
 mod stream;
 mod structure;
 mod tags;
-mod tuple_fields;
-mod tuple_parts;
 mod types;
 mod variant;
-mod variant_list;
 
 pub use cbor_collections::variant::Form;
 pub use cbor_de::{Formats, Remaining};
@@ -37,14 +32,12 @@ pub use cbor_read::{
 pub use cbor_scalars::lent::{EitherStr, Unread};
 pub use de::Deserializer;
 pub use deserialize::{Deserialize, DeserializeOwned, Readable};
-pub use field_list::FieldType;
+pub use field_type::FieldType;
 pub use from::{from_mut_slice, from_reader, from_slice, from_slice_with_scratch};
 pub use laws::{item_refused_first, owned_agree, sources_agree};
 pub use map::MapAccess;
-pub use parts::{FromParts, ReadParts, ReadableParts};
 pub use sequence::SeqAccess;
 pub use stream::StreamDeserializer;
-pub use structure::{Field, StructAccess};
+pub use structure::{Field, StructAccess, duplicate_field, missing_field};
 pub use types::IgnoredAny;
 pub use variant::VariantAccess;
-pub use variant_list::{ReadTuple, ReadVariant, ReadableTuple, Variant};

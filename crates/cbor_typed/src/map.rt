@@ -76,7 +76,7 @@ pub struct MapAccess<'a, R> {
     /// What remains of the map, behind the pair that was begun.
     pub remaining: Remaining,
     /// How many levels were left before the map.
-    pub outer: u8,
+    pub outer: u64,
     /// Whether a key was read whose value wasn't.
     pub value_due: bool,
 }

@@ -49,10 +49,10 @@ impl<R: Source> Deserializer<R> {
         })
     }
 
-    // The error of an array that has too few items.
+    /// The error of an array that has too few items, as `invalid length 1, expected 2`.
     #[cold]
     #[inline(never)]
-    pub(crate) fn invalid_length(&self, found: usize, expected: usize) -> Error {
+    pub fn invalid_length(&self, found: usize, expected: usize) -> Error {
         let alloc = self.items.alloc;
         match format!(in alloc; "invalid length {found}, expected {expected}") {
             Ok(text) => Error::message(alloc, text),
@@ -82,7 +82,7 @@ pub struct SeqAccess<'a, R> {
     /// What remains of the array.
     pub remaining: Remaining,
     /// How many levels were left before the array.
-    pub outer: u8,
+    pub outer: u64,
 }
 
 impl<'a, R: Source> SeqAccess<'a, R> {

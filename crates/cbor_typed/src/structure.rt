@@ -130,13 +130,10 @@ impl<'de, R: Read<'de>> Deserializer<R> {
         Ok(Some(field))
     }
 
-    // The same, with the error made.
+    /// Reads the field that the next key names, of a map of which so much remains; None where no pair
+    /// does. It refuses what [`StructAccess::next_field`] refuses.
     #[inline(always)]
-    pub(crate) fn next_key(
-        &mut self,
-        remaining: &mut Remaining,
-        names: &[&str],
-    ) -> Result<Option<Field>>
+    pub fn next_key(&mut self, remaining: &mut Remaining, names: &[&str]) -> Result<Option<Field>>
         ensures read { TakesKey R.refusals (formats_of self.old.items.formats)
             (IsField (texts names.now)) self.old.items.levels remaining.old remaining.new
             (R.source self.old.items.source) (R.source self.new.items.source) result }
@@ -180,7 +177,7 @@ pub struct StructAccess<'a, R> {
     /// What remains of the map, behind the pair that was begun.
     pub remaining: Remaining,
     /// How many levels were left before the map.
-    pub outer: u8,
+    pub outer: u64,
     /// Whether a field was named whose value wasn't read.
     pub value_due: bool,
     /// The names of the fields, in the order of their numbers.
@@ -486,10 +483,10 @@ impl<'a, R: Source> StructAccess<'a, R> {
     }
 }
 
-// The error of a field that isn't there.
+/// The error of a field that isn't there, as ``missing field `id` ``.
 #[cold]
 #[inline(never)]
-pub(crate) fn missing_field(alloc: Global, name: &str) -> Error
+pub fn missing_field(alloc: Global, name: &str) -> Error
     ensures text { IsMessageOf (Some (missing_text name.now)) (code_of result) }
 {
     match format!(in alloc; "missing field `{name}`") {
@@ -498,10 +495,10 @@ pub(crate) fn missing_field(alloc: Global, name: &str) -> Error
     }
 }
 
-// The error of a field that is there twice.
+/// The error of a field that is there twice, as ``duplicate field `id` ``.
 #[cold]
 #[inline(never)]
-pub(crate) fn duplicate_field(alloc: Global, name: &str) -> Error
+pub fn duplicate_field(alloc: Global, name: &str) -> Error
     ensures text { IsMessageOf (Some (duplicate_text name.now)) (code_of result) }
 {
     match format!(in alloc; "duplicate field `{name}`") {

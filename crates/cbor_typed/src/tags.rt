@@ -1,6 +1,6 @@
 //! Tags (RFC 7049, section 2.4).
 
-ghost use Rattle.std.specs.Prelude.{◌≡◌, ◌+◌, ◌<◌, IfOk, IfErr, IfSome};
+ghost use Rattle.std.specs.Prelude.{◌≡◌, ◌+◌, ◌^◌, ◌<◌, IfOk, IfErr, IfSome};
 ghost use Rattle.cbor_io.specs.Error.{code_of};
 ghost use Rattle.cbor_de.specs.Gives.{TellsNoForm};
 ghost use Rattle.cbor_scalars.specs.Tags.{ReadsTag, LevelsBehind, TagIs};
@@ -45,7 +45,7 @@ impl<R: Source> Deserializer<R> {
     /// Goes out of the tag that [`read_tag`](Deserializer::read_tag) went in to. That its level
     /// stands is the caller's condition.
     pub fn leave_tag(&mut self)
-        requires { self.old.items.levels < 255 }
+        requires { self.old.items.levels + 1 < 2 ^ 64 }
         ensures levels { self.new.items.levels ≡ self.old.items.levels + 1 }
         ensures source { self.new.items.source ≡ self.old.items.source }
         ensures formats { self.new.items.formats ≡ self.old.items.formats }

@@ -92,8 +92,9 @@ impl<'de, R: Read<'de>> Deserializer<R> {
         Ok(item)
     }
 
-    // Reads the content of a variant of one part. An identifier alone is refused with this text.
-    pub(crate) fn one_part<T: Deserialize<'de, R>>(&mut self, form: Form, alone: &str) -> Result<T>
+    /// Reads the content of a variant of one part, behind its identifier. An identifier alone is
+    /// refused with this text, and an array in which nothing follows it with `ArrayTooShort`.
+    pub fn one_part<T: Deserialize<'de, R>>(&mut self, form: Form, alone: &str) -> Result<T>
         ensures read { TakesContent R.refusals (formats_of self.old.items.formats)
             (IsPart (T.reads (context self.old.items.formats R.lends)))
             self.old.items.levels form
@@ -126,7 +127,7 @@ pub struct VariantAccess<'a, R> {
     /// How the enum is spelled.
     pub form: Form,
     /// How many levels were left before the enum.
-    pub outer: u8,
+    pub outer: u64,
 }
 
 impl<'a, R: Source> VariantAccess<'a, R> {

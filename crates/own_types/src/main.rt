@@ -78,10 +78,15 @@ fn print_reading(rt: &HostRuntime) -> Result<()> {
 
 fn print_settings(rt: &HostRuntime) -> Result<()> {
     let alloc = rt.alloc();
-    let given: Settings = from_slice(alloc, b"\xa2\x65limit\x09\x64port\x19\x1f\x90")?;
+    let given: Settings = from_slice(
+        alloc,
+        b"\xa3\x65limit\x09\x64port\x19\x1f\x90\x67verbose\xf5",
+    )?;
     println!(rt; "{given:?}")?;
+    println!(rt; "{:?}", to_vec_packed(alloc, &given)?.as_slice())?;
     let absent: Settings = from_slice(alloc, b"\xa1\x64port\x19\x1f\x90")?;
     println!(rt; "{absent:?}")?;
+    println!(rt; "{:?}", to_vec_packed(alloc, &absent)?.as_slice())?;
     Ok(())
 }
 

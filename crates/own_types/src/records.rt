@@ -2,8 +2,8 @@
 
 use serde_cbor::bytes::ByteArray;
 use serde_cbor::de::{Deserialize, DeserializeOwned, FromParts, Read, Readable, ReadableParts};
-use serde_cbor::parts::{Optional, Schema};
-use serde_cbor::ser::{PartsDocument, Serialize, Serializer, Write};
+use serde_cbor::parts::{Optional, OrDefault, Schema};
+use serde_cbor::ser::{OptionalField, PartsDocument, Serialize, Serializer, Write};
 use serde_cbor::{Deserializer, Result};
 
 /// Who may log in.
@@ -49,7 +49,7 @@ impl Readable for User {
 
 impl<'de, R: Read<'de>> Deserialize<'de, R> for User {
     fn deserialize(de: &mut Deserializer<R>) -> Result<User> {
-        de.read_described(USER)
+        Self::read_described(de, USER)
     }
 }
 
@@ -100,37 +100,49 @@ impl Readable for Reading {
 
 impl<'de, R: Read<'de>> Deserialize<'de, R> for Reading {
     fn deserialize(de: &mut Deserializer<R>) -> Result<Reading> {
-        de.read_described(READING)
+        Self::read_described(de, READING)
     }
 }
 
-/// What a server is told, of which the limit may be absent.
+/// What a server is told, of which only the port has to be.
 #[derive(Debug, Drop)]
 pub struct Settings {
     pub port: u16,
     pub limit: Option<u32>,
+    pub verbose: bool,
 }
 
 /// The names of the settings.
-const SETTINGS: &[&str] = &["port", "limit"];
+const SETTINGS: &[&str] = &["port", "limit", "verbose"];
 
 impl Schema for Settings {
     ghost use Rattle.std.specs.Prelude.{map};
-    ghost use Rattle.serde_cbor.specs.Schemas.{optional};
+    ghost use Rattle.serde_cbor.specs.Schemas.{optional, or_default};
     ghost use Rattle.own_types.specs.declared.records.TheConstants.{SETTINGS};
 
-    type Parts = (u16, Optional<u32>);
+    type Parts = (u16, Optional<u32>, OrDefault<bool>);
 
     ghost names = { map (λ n. n.now) SETTINGS.now };
 
-    ghost parts = { λ s. (s.port, optional s.limit) };
+    ghost parts = { λ s. (s.port, optional s.limit, or_default s.verbose) };
+}
+
+impl Serialize for Settings {
+    ghost document = { λ s. ⟦<<Settings as Schema>::Parts as PartsDocument>⟧.document
+        ⟦<Settings as Schema>⟧.names (⟦<Settings as Schema>⟧.parts s) };
+
+    fn serialize<W: Write>(&self, ser: &mut Serializer<W>) -> Result<()> {
+        let fields = (&self.port, OptionalField(&self.limit), &self.verbose);
+        ser.serialize_fields(SETTINGS, &fields)
+    }
 }
 
 impl FromParts for Settings {
-    fn from_parts((port, limit): Self::Parts) -> Settings {
+    fn from_parts((port, limit, verbose): Self::Parts) -> Settings {
         Settings {
             port,
             limit: limit.0,
+            verbose: verbose.0,
         }
     }
 }
@@ -142,7 +154,7 @@ impl Readable for Settings {
 
 impl<'de, R: Read<'de>> Deserialize<'de, R> for Settings {
     fn deserialize(de: &mut Deserializer<R>) -> Result<Settings> {
-        de.read_described(SETTINGS)
+        Self::read_described(de, SETTINGS)
     }
 }
 
@@ -180,7 +192,7 @@ impl<'a> Readable for Label<'a> {
 
 impl<'de, R: Read<'de>> Deserialize<'de, R> for Label<'de> {
     fn deserialize(de: &mut Deserializer<R>) -> Result<Label<'de>> {
-        de.read_described(LABEL)
+        Self::read_described(de, LABEL)
     }
 }
 
@@ -227,6 +239,6 @@ impl<T: Readable> Readable for Pair<T> {
 
 impl<'de, R: Read<'de>, T: Deserialize<'de, R>> Deserialize<'de, R> for Pair<T> {
     fn deserialize(de: &mut Deserializer<R>) -> Result<Pair<T>> {
-        de.read_described(PAIR)
+        Self::read_described(de, PAIR)
     }
 }

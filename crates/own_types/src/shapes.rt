@@ -95,7 +95,7 @@ impl Readable for Shape {
 
 impl<'de, R: Read<'de>> Deserialize<'de, R> for Shape {
     fn deserialize(de: &mut Deserializer<R>) -> Result<Shape> {
-        de.read_described(SHAPE)
+        Self::read_described(de, SHAPE)
     }
 }
 

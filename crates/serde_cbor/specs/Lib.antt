@@ -71,3 +71,11 @@ pub use Rattle.cbor_parts.specs.OneOf6
 pub use Rattle.cbor_parts.specs.OneOf7
 pub use Rattle.cbor_parts.specs.OneOf8
 pub use Rattle.cbor_typed.specs.Fields
+pub use Rattle.cbor_convert.specs.Meaning
+pub use Rattle.cbor_convert.specs.Builders
+pub use Rattle.cbor_typed.specs.FieldTypes
+pub use Rattle.cbor_described.specs.FieldLists
+pub use Rattle.cbor_tags.specs.Tagged
+pub use Rattle.cbor_round.specs.ReadBack
+pub use Rattle.cbor_round.specs.Keyed
+pub use Rattle.cbor_round.specs.Lists

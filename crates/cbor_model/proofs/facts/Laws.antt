@@ -7,6 +7,10 @@ pub use Rattle.cbor_model.proofs.Proved.{same_with_scratch, scratch_need}
 -- about spellings
 pub use Rattle.cbor_model.proofs.Proved.{one_spelling}
 -- about canonical spellings
-pub use Rattle.cbor_model.proofs.Proved.{byte_order, equal_bytes, least_spelling, normalised_once}
+pub use Rattle.cbor_model.proofs.Proved.{byte_order, equal_bytes, least_spelling, normalised_once, canonical_reads_back}
 -- about values in memory
 pub use Rattle.cbor_model.proofs.Proved.{in_memory_is_in_range, written_reads_back}
+-- about documents
+pub use Rattle.cbor_model.proofs.Proved.{document_is_acceptable, document_reads_back}
+-- an item has no more levels than bytes
+pub use Rattle.cbor_model.proofs.InDocuments.{depth-le}

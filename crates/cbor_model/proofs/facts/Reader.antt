@@ -21,3 +21,5 @@ pub use Rattle.cbor_model.proofs.Steps.{BeginsWith, key_read, key_is}
 pub use Rattle.cbor_model.proofs.FirstBytes.{all_allowed, all_may_begin}
 -- with all formats every key is allowed
 pub use Rattle.cbor_model.proofs.FirstBytes.{all_allowed}
+-- an acceptable item at the front of the bytes is read as its value
+pub use Rattle.cbor_model.proofs.Whole.{value_again}

@@ -3,10 +3,14 @@
 use crate::desk::Desk;
 use crate::row::Row;
 use crate::types::tagged;
+use cbor_samples::bookmark::Bookmark;
 use cbor_samples::choice::Choice;
 use cbor_samples::enums::{Bar, Color, DataEnum, TwoVariants, Wish};
 use cbor_samples::letters::{EnumStruct, Letter, ReprEnumStruct};
-use cbor_samples::structs::{Example, Foo, Mascot, NewtypeStruct, Person, SmallStruct, User};
+use cbor_samples::structs::{
+    Example, Foo, Mascot, NewtypeStruct, OptionalPerson, Person, SmallStruct, User,
+};
+use cbor_samples::weather::Weather;
 use cbor_samples::wraps::{FloatEnum, UnitStruct};
 use cbor_tree::tree::Tree;
 use serde_cbor::Deserializer;
@@ -27,6 +31,8 @@ pub fn judge<'r, R: Read<'r> + Drop>(
         "Person" => desk.reads::<Person, R>(row, de)?,
         "Foo" => desk.reads::<Foo, R>(row, de)?,
         "Example" => desk.reads::<Example, R>(row, de)?,
+        "OptionalPerson" => desk.reads::<OptionalPerson, R>(row, de)?,
+        "Weather" => desk.reads::<Weather, R>(row, de)?,
         "Tree" => desk.reads::<Tree, R>(row, de)?,
         _ => return enums(desk, row, de),
     }
@@ -72,6 +78,7 @@ fn small<'r, R: Read<'r> + Drop>(
         "EnumStruct" => desk.reads::<EnumStruct, R>(row, de)?,
         "ReprEnumStruct" => desk.reads::<ReprEnumStruct, R>(row, de)?,
         "FloatEnum" => desk.reads::<FloatEnum, R>(row, de)?,
+        "Bookmark" => desk.reads::<Bookmark, R>(row, de)?,
         "UnitStruct" => desk.reads::<UnitStruct, R>(row, de)?,
         _ => return tagged::judge(desk, row, de),
     }

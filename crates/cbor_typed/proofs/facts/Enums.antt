@@ -9,6 +9,8 @@ pub use Rattle.cbor_typed.proofs.Enums.{VariantSoFar, variant_is, variant_unread
 pub use Rattle.cbor_typed.proofs.Enums.{unit_read, unit_unread, newtype_read, newtype_unread, content_read, content_unread}
 -- a content of several parts, and what is known of them
 pub use Rattle.cbor_typed.proofs.Enums.{PartsSoFar, tuple_begins, tuple_unread}
+-- the items that remain of its array, and what they mean
+pub use Rattle.cbor_typed.proofs.Enums.{has_items, items_read, items_made}
 -- a part
 pub use Rattle.cbor_typed.proofs.Enums.{part_read, part_unread}
 -- the end

@@ -4,3 +4,5 @@
 pub use Rattle.cbor_typed.proofs.Faults.{where_map}
 -- what is read as a value is the value of the item that is read
 pub use Rattle.cbor_typed.proofs.Mapped.{along, value_seen}
+-- an item that is read whatever it is, and isn't there, is no item at all
+pub use Rattle.cbor_typed.proofs.Fields.{no_item}

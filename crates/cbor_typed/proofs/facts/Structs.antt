@@ -2,7 +2,7 @@
 -- keeps `StructSoFar`, and each call that is made in it has a lemma.
 
 -- what is known of the fields
-pub use Rattle.cbor_typed.proofs.Slots.{Slots, none_yet, all_of, AreHeld, Has, LacksAt, IsOther, not_known, not_unknown}
+pub use Rattle.cbor_typed.proofs.Slots.{Slots, none_yet, all_of, AreHeld, Has, LacksAt, ValueAt, reads_at, put, IsOther, not_known, not_unknown}
 -- what is known of the struct, and that it is read or isn't
 pub use Rattle.cbor_typed.proofs.Structs.{StructSoFar, ReadsStruct, NoStruct}
 -- the map's head

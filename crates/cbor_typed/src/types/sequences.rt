@@ -7,6 +7,7 @@ ghost use Rattle.cbor_scalars.specs.Takes.{TakesItem, context, formats_of};
 
 use crate::de::Deserializer;
 use crate::deserialize::{Deserialize, DeserializeOwned, Readable};
+use cbor_de::room::push_any;
 use cbor_io::error::{Error, Result};
 use cbor_read::Read;
 use std::alloc::AllocError;
@@ -24,7 +25,7 @@ impl<'de, R: Read<'de>, T: Deserialize<'de, R>> Deserialize<'de, R> for Vec<T> {
         let mut items = Vec::new(de.items.alloc);
         let mut access = de.array()?;
         'items: while let Some(item) = access.next_element::<T>()? {
-            if items.push(item).is_err() {
+            if push_any(&mut items, item, access.remaining).is_err() {
                 return Err(access.refuse(Error::from(AllocError)));
             }
         }

@@ -1,36 +1,36 @@
-use Rattle.std.proofs.Common.{◌≡◌, true, rules}
+use Rattle.std.proofs.Common.{◌≡◌, ℕ, true, refl, rules}
 use Rattle.std.proofs.lemmas.Float.{T_from_true}
 use Rattle.std.specs.Float.{binary32}
 use Rattle.std.specs.Float.Ieee.{fits}
-use Rattle.cbor_io.specs.Error.{code_of, offset_of}
+use Rattle.cbor_model.specs.Readable.{PassesTags}
 use Rattle.cbor_model.specs.Reader.{item_at}
+use Rattle.cbor_value.specs.declared.Float.TheVariants.{Single}
+use Rattle.cbor_de.specs.declared.head.Head.TheVariants.{Float}
+use Rattle.cbor_scalars.specs.Scalars.{IsSingleOf}
 use Rattle.cbor_scalars.specs.Takes.{formats_of, raws}
-use Rattle.cbor_scalars.proofs.FloatNumbers.{single_read, single_refused, single_out}
+use Rattle.cbor_scalars.proofs.FloatNumbers.{single_read}
+use Rattle.cbor_scalars.proofs.Opened.{head_opens, head_stops, no_tag}
+use Rattle.cbor_scalars.proofs.Scalars.{float_read, refuses}
 use Rattle.cbor_scalars.proofs.floats.read_f32.Goals as goal
+
+pub returns-in-Ok-Some-clause-read : goal.returns-in-Ok-Some-clause-read
+returns-in-Ok-Some-clause-read g c =
+    let items = c.args.items.now in
+    let f = formats_of items.formats in
+    let s = g.R.Source.source items.source in
+    let t = g.R.Source.source c.single.new.self.source in
+    let float = Single c.in-Ok-Some.bits in
+    let x = c.f32_from_bits_with_nan.result in
+    let held : fits binary32 x ≡ true = search rules in
+    let head = rw c.in-Ok-Some.field-0-is at c.in-Ok-Some.ensures.read in
+    let opens = head_opens f s t items.levels items.levels (Float float) (no_tag (Float float) (λ (n : ℕ) e. absurd cc)) refl head in
+    single_read g.R.Source.refusals (λ l bs. item_at (raws f l) items.levels bs) s t float x c.f32_from_bits_with_nan.ensures (T_from_true (fits binary32 x) held)
+    (float_read g.R.Source.refusals f items.levels s t c.single.new.self.refusal float (items.levels, opens))
 
 pub returns-in-Err-clause-read : goal.returns-in-Err-clause-read
 returns-in-Err-clause-read g c =
     let items = c.args.items.now in
-    single_refused g.R.Source.refusals
-    (λ l bs. item_at (raws (formats_of items.formats) l) items.levels bs)
-    (g.R.Source.source items.source) (code_of c.in-Err.e) (offset_of c.in-Err.e)
-    c.in-Err.ensures.read
-
-pub returns-in-Some-clause-read : goal.returns-in-Some-clause-read
-returns-in-Some-clause-read g c =
-    let items = c.args.items.now in
-    let held : fits binary32 c.in-Some.x ≡ true = search rules in
-    single_read g.R.Source.refusals
-    (λ l bs. item_at (raws (formats_of items.formats) l) items.levels bs)
-    (g.R.Source.source items.source) (g.R.Source.source c.read_float.new.items.source)
-    c.in-Ok.float c.in-Some.x c.in-Some.ensures (T_from_true (fits binary32 c.in-Some.x) held)
-    c.in-Ok.ensures.read
-
-pub returns-in-None-clause-read : goal.returns-in-None-clause-read
-returns-in-None-clause-read g c =
-    let items = c.args.items.now in
-    single_out g.R.Source.refusals
-    (λ l bs. item_at (raws (formats_of items.formats) l) items.levels bs)
-    (g.R.Source.source items.source) (g.R.Source.source c.read_float.new.items.source)
-    c.in-Ok.float (code_of c.message.result) (offset_of c.message.result)
-    c.in-None.ensures c.in-Ok.ensures.read
+    let f = formats_of items.formats in
+    let s = g.R.Source.source items.source in
+    refuses g.R.Source.refusals (PassesTags IsSingleOf) (λ l. item_at (raws f l) items.levels) s c.single.new.self.refusal c.in-Err.refused c.error.result c.error.ensures.tells
+    (head_stops g.R.Source.refusals f s items.levels c.single.new.self.refusal c.in-Err.refused c.in-Err.ensures.read)

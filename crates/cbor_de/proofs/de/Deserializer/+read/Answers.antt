@@ -14,7 +14,6 @@ use Rattle.cbor_read.specs.Source.{Input}
 use Rattle.cbor_io.specs.declared.read_error.ReadErrorCode.TheVariants.{RecursionLimitExceeded, WrongStructFormat}
 use Rattle.cbor_value.specs.View.{view, views, map_view, pair_views}
 use Rattle.cbor_value.proofs.facts.Views.{put_all-push, view_text, view_bytes, view_array, view_map, view_tag}
-use Rattle.cbor_value.specs.declared.Value.{Value}
 use Rattle.cbor_de.specs.declared.head.Head.TheVariants as head
 use Rattle.cbor_de.specs.Deserializer.{formats_of}
 use Rattle.cbor_de.specs.Gives.{Limits, values, Step, Stopped, Gives}
@@ -165,14 +164,14 @@ items-items-preserved g t c =
     let v = view c.in_ok-item.item in
     let same : c.next.new.self.levels ≡ levels = c.in_ok-first.ensures.levels ∙ c.items.invariant.levels in
     let same_formats : formats_of c.next.new.self.formats ≡ f = ap formats_of (c.in_ok-first.ensures.formats ∙ c.items.invariant.formats) in
-    let pushed : map view c.push.new.self.items ≡ front ++ v ∷ [] = rw c.in_ok-push.ensures.items (map_push _ c.items.items.items c.in_ok-item.item) in
+    let pushed : map view c.push.new.items.items ≡ front ++ v ∷ [] = rw c.in_ok-push.ensures.items (map_push _ c.items.items.items c.in_ok-item.item) in
     let first = subst (λ (o : Option ℕ). Step s t (λ l rest mid. first_at end_in_array r rest ≡ Ok (first_of_next c.next.new.remaining o, mid))) c.in-Some.is c.in_ok-first.ensures.read in
     let begun = step_then s0 s t (SoFar f levels all front r) (λ l rest mid. first_at end_in_array r rest ≡ Ok (Some (behind, b), mid)) (ItemBegun f levels all front behind b)
     (λ l bs rest mid so_far is. item_begins f levels all front r behind b l bs rest mid so_far is) c.items.invariant.so_far first in
     let u = g.R.Source.source c.value_from.new.self.source in
     let item = subst_both (λ (f : Formats) (n : ℕ). Step t u (λ l mid after. after_first (values f l) (inside (values f l) n) b mid ≡ Ok (v, after))) same_formats same c.in_ok-item.ensures.read in
     record {
-      so_far = step_then s0 t u (ItemBegun f levels all front behind b) (λ l mid after. after_first (values f l) (inside (values f l) levels) b mid ≡ Ok (v, after)) (SoFar f levels all (map view c.push.new.self.items) behind)
+      so_far = step_then s0 t u (ItemBegun f levels all front behind b) (λ l mid after. after_first (values f l) (inside (values f l) levels) b mid ≡ Ok (v, after)) (SoFar f levels all (map view c.push.new.items.items) behind)
           (λ l bs mid after h is. rw pushed (goes_on f levels all front behind b l bs mid after v h is)) begun item;
       levels = c.in_ok-item.ensures.levels ∙ same;
       formats = c.in_ok-item.ensures.formats ∙ c.in_ok-first.ensures.formats ∙ c.items.invariant.formats;
@@ -317,9 +316,9 @@ pairs-pairs-preserved g t c =
     let v = view c.in_ok-value.value in
     let w = g.R.Source.source c.value.new.self.source in
     let value = subst_both (λ (f : Formats) (n : ℕ). Step u w (λ l mid after. item_at (values f l) n mid ≡ Ok (v, after))) same_formats' same' c.in_ok-value.ensures.read in
-    let pushed : put_all (pair_views c.push.new.self.items) no_pairs ≡ put k v earlier = rw c.in_ok-push.ensures.items (put_all-push c.pairs.pairs.items c.in_ok-key.key c.in_ok-value.value no_pairs) in
+    let pushed : put_all (pair_views c.push.new.items.items) no_pairs ≡ put k v earlier = rw c.in_ok-push.ensures.items (put_all-push c.pairs.pairs.items c.in_ok-key.key c.in_ok-value.value no_pairs) in
     record {
-      so_far = step_then s0 u w (KeyRead f levels all earlier behind k) (λ l mid after. item_at (values f l) levels mid ≡ Ok (v, after)) (PairsSoFar f levels all (put_all (pair_views c.push.new.self.items) no_pairs) behind)
+      so_far = step_then s0 u w (KeyRead f levels all earlier behind k) (λ l mid after. item_at (values f l) levels mid ≡ Ok (v, after)) (PairsSoFar f levels all (put_all (pair_views c.push.new.items.items) no_pairs) behind)
           (λ l bs mid after h is. rw pushed (pairs_go_on f levels all earlier behind k v l bs mid after h is)) read value;
       levels = c.in_ok-value.ensures.levels ∙ same';
       formats = c.in_ok-value.ensures.formats ∙ c.in_ok-key.ensures.formats ∙ c.in_ok-first.ensures.formats ∙ c.pairs.invariant.formats;

@@ -6,9 +6,9 @@ use Rattle.cbor_ser.proofs.serializer.Serializer.serialize_fields.Goals as goal
 pub returns-in_err-write_map_head : goal.returns-in_err-write_map_head
 returns-in_err-write_map_head g c =
     let ns = map (λ n. n.now) c.args.names.now in
-    by_parts (same (head_of (g.F.SerializeTuple.fields ns c.args.fields.now) c.len.result (c.len.ensures.fields ns)) (stops c.from_residual.ensures.1 c.in_err-write_map_head.ensures.err))
+    by_parts (same (head_of (g.F.SerializeFields.fields ns c.args.fields.now) c.len.result (c.len.ensures ns)) (stops c.from_residual.ensures.1 c.in_err-write_map_head.ensures.err))
 
 pub returns : goal.returns
 returns g c =
     let ns = map (λ n. n.now) c.args.names.now in
-    by_parts (same (head_of (g.F.SerializeTuple.fields ns c.args.fields.now) c.len.result (c.len.ensures.fields ns)) (and_then c.in_ok-write_map_head.ensures.ok c.serialize_fields.ensures))
+    by_parts (same (head_of (g.F.SerializeFields.fields ns c.args.fields.now) c.len.result (c.len.ensures ns)) (and_then c.in_ok-write_map_head.ensures.ok c.serialize_fields.ensures))

@@ -47,7 +47,7 @@ items-preserved g c =
     let reads = λ (f : Formats). g.T.Readable.reads (context f g.R.Source.lends) in
     let xs = c.items.items.items in
     let x = c.in-Some.item in
-    let ys = c.push.new.self.items in
+    let ys = c.push_any.new.items.items in
     let pushed : ys ≡ xs ++ x ∷ [] = search rules in
     let read = subst (λ (o : Option g.row.T.Denot). Step s t (IsNext (reads now.items.formats) (formats_of now.items.formats) now.items.levels (remaining_of c.items.access.remaining) (remaining_of next.remaining) o)) c.in-Some.is c.in_ok-item.ensures.read in
     record {

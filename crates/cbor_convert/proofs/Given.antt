@@ -1,0 +1,58 @@
+-- What is read of a value's canonical spelling.
+use Rattle.std.proofs.Common.{◌≡◌, ℕ, ◌^◌, ◌<◌, ◌≤◌, List, [], length, drop, false, refl, sym, ap, ◌∙◌, subst, append-nil, arith, Some}
+use Rattle.std.specs.Prelude.{Result, Ok, Err, IfOk, IfErr, OnOk}
+use Rattle.std.specs.Result.{IsErrAnd}
+use Rattle.cbor_model.specs.Raw.{Raw, IsWellFormed, depth}
+use Rattle.cbor_model.specs.Acceptable.{IsAcceptable, IsAcceptableWithin}
+use Rattle.cbor_model.specs.Plain.{Val}
+use Rattle.cbor_model.specs.Canonical.{canonical, canon, IsStorable}
+use Rattle.cbor_model.specs.Document.{document_of, raw_of, IsStorableDocument, IsDocumentInRange}
+use Rattle.cbor_model.specs.Formats.{all_formats}
+use Rattle.cbor_model.specs.Readable.{SpellsAs}
+use Rattle.cbor_model.proofs.facts.Documents.{document_item, storable_document}
+use Rattle.cbor_model.proofs.facts.Laws.{document_is_acceptable, one_spelling}
+use Rattle.cbor_model.proofs.facts.Reader.{all_allowed}
+use Rattle.cbor_io.specs.declared.error.Error.{Error}
+use Rattle.cbor_io.specs.declared.error.ErrorCode.{ErrorCode}
+use Rattle.cbor_io.specs.declared.error.ErrorCode.TheVariants.{Message, OutOfMemory}
+use Rattle.cbor_ser.specs.Written.{IsNotWritten, IsRefusedBy}
+use Rattle.cbor_de.specs.Gives.{IsMemoryOrFault, IsMemoryOrFaultBy}
+
+-- a reader over bytes that begins at their front
+pub all_left : (n : ℕ) (xs bs : List ℕ) → n ≡ 0 → xs ≡ bs → Some (drop n xs) ≡ Some bs
+all_left n xs bs none same = ap (λ (k : ℕ). Some (drop k xs)) none ∙ ap (λ (ys : List ℕ). Some ys) same
+
+-- ---- a storable value is refused for want of memory alone
+
+memory_code : (code : ErrorCode) (S : Type 0) → S → IsRefusedBy code S → IsMemoryOrFaultBy code
+memory_code (Message text) S s h = absurd (h.1 s)
+memory_code OutOfMemory S s h = tt
+memory_code _ S s h = absurd h
+
+pub not_refused : {T : Type 0} (r : Result T Error) (v : Val) (e : Error) → IsNotWritten (IsStorableDocument (document_of v)) e → IsErrAnd r (λ x. x ≡ e) → IsStorable v → IfErr r IsMemoryOrFault
+not_refused (Ok x) v e h is stored = tt
+not_refused (Err x) v e h is stored = subst IsMemoryOrFault (sym is) (memory_code e.code (IsStorableDocument (document_of v)) (storable_document v stored) h.0, h.1)
+
+-- ---- the item that is read
+
+module _ {A : Type 0} (reads : Raw → A → Type 0) (v : Val) (bs : List ℕ) (written : bs ≡ canon v) where
+  well_formed : IsStorableDocument (document_of v) → IsDocumentInRange (document_of v) → IsWellFormed (canonical v)
+  well_formed stored fits =
+      let r = raw_of (document_of v) false false in
+      subst IsWellFormed (document_item v false false) (document_is_acceptable (depth r) (document_of v) false false stored fits (omega arith)).fits
+
+  one_item : (x : A) → IsStorableDocument (document_of v) → IsDocumentInRange (document_of v) → (h : SpellsAs all_formats reads bs x) → h.item ≡ canonical v
+  unfolding canon
+  one_item x stored fits h = (one_spelling h.item (canonical v) [] h.acceptable.fits (well_formed stored fits) (append-nil _ ∙ h.spelled ∙ written)).0
+
+  pub value_acceptable : (r : Result A Error) → IsStorableDocument (document_of v) → IsDocumentInRange (document_of v) → IfOk r (SpellsAs all_formats reads bs) → OnOk r (IsAcceptable (canonical v))
+  value_acceptable (Ok x) stored fits h = subst IsAcceptable (one_item x stored fits h) h.acceptable
+  value_acceptable (Err e) stored fits h = tt
+
+  pub value_read : (r : Result A Error) → IsStorableDocument (document_of v) → IsDocumentInRange (document_of v) → IfOk r (SpellsAs all_formats reads bs) → IfOk r (reads (canonical v))
+  value_read (Ok x) stored fits h = subst (λ (r : Raw). reads r x) (one_item x stored fits h) h.means
+  value_read (Err e) stored fits h = tt
+
+  pub spelled_so : (x : A) → IsAcceptable (canonical v) → reads (canonical v) x → SpellsAs all_formats reads bs x
+  unfolding canon
+  spelled_so x good means = record { item = canonical v; acceptable = good; keys = all_allowed (canonical v); spelled = sym written; means = means }

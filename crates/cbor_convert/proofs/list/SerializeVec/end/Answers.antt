@@ -1,0 +1,10 @@
+use Rattle.std.proofs.Common.{sym, ap, ◌∙◌}
+use Rattle.cbor_model.specs.Plain.{array}
+use Rattle.cbor_model.specs.Document.{declared}
+use Rattle.cbor_value.proofs.facts.Views.{view_array}
+use Rattle.cbor_convert.proofs.Made.{is_made}
+use Rattle.cbor_convert.proofs.Meanings.{value_sequence}
+use Rattle.cbor_convert.proofs.list.SerializeVec.end.Goals as goal
+
+pub returns : goal.returns
+returns c = λ ds h. is_made (view_array c.args.self.items ∙ ap array h.values ∙ sym (value_sequence declared ds)) h.storable

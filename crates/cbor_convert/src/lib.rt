@@ -1,0 +1,22 @@
+//! Values in a program, as `Value`s: what a value of any type that is written stands for, and what
+//! a `Value` is read as.
+//!
+//! [`to_value`] and [`from_value`] go from a type to a `Value` and back, [`to_vec_canonical`]
+//! writes the one spelling that stands for a value of any type, and the builders put a `Value`
+//! together part by part.
+#![tactic(auto)]
+
+mod canonical;
+mod list;
+mod map;
+mod pairs;
+mod reading;
+mod values;
+mod variants;
+
+pub use canonical::to_vec_canonical;
+pub use list::SerializeVec;
+pub use map::SerializeMap;
+pub use reading::from_value;
+pub use values::{ToValue, to_value};
+pub use variants::{SerializeStructVariant, SerializeTupleVariant};

@@ -1,0 +1,185 @@
+-- Lists of fields: the fields of a view, and what a call on a field adds to what is known of a struct.
+use Rattle.std.proofs.Common.{◌≡◌, ◌≤◌, ◌⊎◌, inl, inr, ℕ, zero, suc, ◌+◌, ◌++◌, Bool, true, false, List, [], ◌∷◌, length, Option, Some, None, Ok, Err, refl, sym, ap, subst, ◌∙◌, arith}
+use Rattle.std.specs.Option.{is_some}
+use Rattle.std.specs.Prelude.{Result, IsErrAnd}
+use Rattle.cbor_model.specs.Formats as model
+use Rattle.cbor_model.specs.Reader.{item_at}
+use Rattle.cbor_read.specs.Source.{Input}
+use Rattle.cbor_io.specs.Error.{code_of, offset_of}
+use Rattle.cbor_io.specs.declared.error.Error.{Error}
+use Rattle.cbor_io.specs.declared.read_error.ReadErrorCode.{ReadErrorCode}
+use Rattle.cbor_de.specs.Gives.{Step}
+use Rattle.cbor_de.specs.declared.formats.Formats.{Formats}
+use Rattle.cbor_de.specs.declared.cursor.Remaining.{Remaining}
+use Rattle.cbor_typed.specs.Fields.{Slots, none_yet, AreHeld}
+use Rattle.cbor_described.specs.FieldLists.{over, IsLacking, slots_over, FieldTaken, FieldRefused, TakesSlot, TakesField}
+use Rattle.cbor_collections.specs.MapAccesses.{IsMapHead}
+use Rattle.cbor_typed.specs.Structs.{FieldOf, IsAny, IsStruct}
+use Rattle.cbor_scalars.specs.Takes.{TakesItem, formats_of, raws, IsRead, IsNotRead, Refuses}
+use Rattle.cbor_typed.specs.declared.structure.Field.{Field}
+use Rattle.cbor_typed.specs.declared.structure.Field.TheVariants.{Known}
+use Rattle.cbor_typed.proofs.facts.Structs.{Has, LacksAt, ValueAt, reads_at, put}
+use Rattle.cbor_typed.proofs.facts.Structs.{StructSoFar, NoStruct, FieldNamed, struct_begins, field_read, field_twice, field_unread, other_passed, other_unread}
+use Rattle.cbor_typed.proofs.facts.Structs.{known_other}
+
+pair_is : {A B : Type 0} (p : A × B) (a : A) (b : B) → p.0 ≡ a → p.1 ≡ b → p ≡ (a, b)
+pair_is p a b one two = ap (λ x. (x, p.1)) one ∙ ap (λ y. (a, y)) two
+
+bool_cases : (b : Bool) → (b ≡ true) ⊎ (b ≡ false)
+bool_cases true = inl refl
+bool_cases false = inr refl
+
+-- ---- the fields of a view
+
+module _ {S T : Type 0} (view : S → T) where
+  pub length_over : (fields : List (FieldOf T)) → length (over view fields) ≡ length fields
+  length_over [] = refl
+  length_over (d ∷ fields) = ap suc (length_over fields)
+
+  pub none_over : (fields : List (FieldOf T)) → slots_over view fields (none_yet fields) ≡ none_yet (over view fields)
+  none_over [] = refl
+  none_over (d ∷ fields) = ap (λ rest. (None, rest)) (none_over fields)
+
+  pub held_over : (fields : List (FieldOf T)) (slots : Slots fields) (x : S) → AreHeld fields slots (view x) → AreHeld (over view fields) (slots_over view fields slots) x
+  held_over [] slots x h = tt
+  held_over (d ∷ fields) slots x h = (h.0, held_over fields slots.1 x h.1)
+
+  pub lacking_over : (fields : List (FieldOf T)) (slots : Slots fields) → IsLacking fields slots → IsLacking (over view fields) (slots_over view fields slots)
+  lacking_over [] slots h = h
+  lacking_over (d ∷ fields) slots (inl h) = inl h
+  lacking_over (d ∷ fields) slots (inr h) = inr (lacking_over fields slots.1 h)
+
+  module _ (f : model.Formats) (levels : ℕ) where
+    pub taken_over : (fields : List (FieldOf T)) (i : ℕ) (old new : Slots fields) (s t : Input)
+        → FieldTaken f levels fields i old new s t → FieldTaken f levels (over view fields) i (slots_over view fields old) (slots_over view fields new) s t
+    taken_over [] i old new s t h = h
+    taken_over (d ∷ fields) zero old new s t h = (h.0, ap (slots_over view fields) h.1, h.2)
+    taken_over (d ∷ fields) (suc i) old new s t h = (h.0, taken_over fields i old.1 new.1 s t h.1)
+
+    pub refused_over : (allowed : ReadErrorCode → Bool) (fields : List (FieldOf T)) (i : ℕ) (old : Slots fields) (s : Input) (e : Error)
+        → FieldRefused f levels allowed fields i old s e → FieldRefused f levels allowed (over view fields) i (slots_over view fields old) s e
+    refused_over allowed [] i old s e h = h
+    refused_over allowed (d ∷ fields) zero old s e h = h
+    refused_over allowed (d ∷ fields) (suc i) old s e h = refused_over allowed fields i old.1 s e h
+
+-- ---- the call on a field, by those in front of it
+
+-- what is known of the fields of two lists
+abbrev joined : {S : Type 0} → (front back : List (FieldOf S)) → Slots front → Slots back → Slots (front ++ back)
+joined [] back f b = b
+joined (d ∷ front) back f b = (f.0, joined front back f.1 b)
+
+module _ {S : Type 0} (f : model.Formats) (levels : ℕ) (allowed : ReadErrorCode → Bool) where
+  -- a field behind these
+  pub slot_taken : (front : List (FieldOf S)) (d : FieldOf S) (back : List (FieldOf S)) (i : ℕ) → i ≡ length front → (fs : Slots front) (o o' : Option d.Value) (bs : Slots back) (s t : Input) (r : Result (Unit {0}) Error)
+      → TakesSlot f levels allowed d.reads o o' s t r → TakesField f levels allowed (front ++ d ∷ back) i (joined front (d ∷ back) fs (o, bs)) (joined front (d ∷ back) fs (o', bs)) s t r
+  slot_taken [] d back zero is fs o o' bs s t (Ok u) h = (h.0, refl, h.1)
+  slot_taken [] d back zero is fs o o' bs s t (Err e) h = h
+  slot_taken [] d back (suc i) is fs o o' bs s t r h = absurd (omega (arith, is))
+  slot_taken (x ∷ front) d back zero is fs o o' bs s t r h = absurd (omega (arith, is))
+  slot_taken (x ∷ front) d back (suc i) is fs o o' bs s t (Ok u) h =
+      let before : i ≡ length front = omega (arith, is) in
+      (refl, slot_taken front d back i before fs.1 o o' bs s t (Ok u) h)
+  slot_taken (x ∷ front) d back (suc i) is fs o o' bs s t (Err e) h =
+      let before : i ≡ length front = omega (arith, is) in
+      slot_taken front d back i before fs.1 o o' bs s t (Err e) h
+
+  -- one of the others behind them
+  module _ {T : Type 0} (view : S → T) (fields : List (FieldOf T)) where
+    pub taken_behind : (front : List (FieldOf S)) (i j : ℕ) → i ≡ length front + j → (fs : Slots front) (old new : Slots fields) (s t : Input) (r : Result (Unit {0}) Error)
+        → TakesField f levels allowed fields j old new s t r → TakesField f levels allowed (front ++ over view fields) i (joined front (over view fields) fs (slots_over view fields old)) (joined front (over view fields) fs (slots_over view fields new)) s t r
+    taken_behind [] i j is fs old new s t (Ok u) h =
+        let same : j ≡ i = omega (arith, is) in
+        taken_over view f levels fields i old new s t (subst (λ (i : ℕ). FieldTaken f levels fields i old new s t) same h)
+    taken_behind [] i j is fs old new s t (Err e) h =
+        let same : j ≡ i = omega (arith, is) in
+        refused_over view f levels allowed fields i old s e (subst (λ (i : ℕ). FieldRefused f levels allowed fields i old s e) same h)
+    taken_behind (d ∷ front) zero j is fs old new s t r h = absurd (omega (arith, is))
+    taken_behind (d ∷ front) (suc i) j is fs old new s t (Ok u) h =
+        let before : i ≡ length front + j = omega (arith, is) in
+        (refl, taken_behind front i j before fs.1 old new s t (Ok u) h)
+    taken_behind (d ∷ front) (suc i) j is fs old new s t (Err e) h =
+        let before : i ≡ length front + j = omega (arith, is) in
+        taken_behind front i j before fs.1 old new s t (Err e) h
+
+-- ---- which field a call was for
+
+module _ {S : Type 0} (f : model.Formats) (levels : ℕ) where
+  record WasRead (fields : List (FieldOf S)) (i : ℕ) (old new : Slots fields) (s t : Input) : Type 0 where
+    x : ValueAt fields i
+    none : Has false fields i old
+    same : new ≡ put fields i x old
+    read : Step s t (λ l bs rest. IsRead (reads_at fields i) (item_at (raws f l) levels bs) x rest)
+
+  record WasPassed (fields : List (FieldOf S)) (i : ℕ) (old new : Slots fields) (s t : Input) : Type 0 where
+    beyond : length fields ≤ i
+    same : new ≡ old
+    read : Step s t (λ l bs rest. IsRead IsAny (item_at (raws f l) levels bs) tt rest)
+
+  taken_is : (fields : List (FieldOf S)) (i : ℕ) (old new : Slots fields) (s t : Input) → FieldTaken f levels fields i old new s t → WasRead fields i old new s t ⊎ WasPassed fields i old new s t
+  taken_is [] i old new s t h = inr (record { beyond = omega arith; same = refl; read = h })
+  taken_is (d ∷ fields) zero old new s t h = inl (record { x = h.2.0; none = h.0; same = pair_is new (Some h.2.0) old.1 h.2.1 h.1; read = h.2.2 })
+  taken_is (d ∷ fields) (suc i) old new s t h = elim (taken_is fields i old.1 new.1 s t h.1) [
+    | inl w ↦ inl (record { x = w.x; none = w.none; same = pair_is new old.0 (put fields i w.x old.1) h.0 w.same; read = w.read })
+    | inr w ↦ inr (record { beyond = omega (arith, w.beyond); same = pair_is new old.0 old.1 h.0 w.same; read = w.read })
+  ]
+
+  abbrev NotRead : (ReadErrorCode → Bool) → (fields : List (FieldOf S)) → ℕ → Slots fields → Input → Error → Type 0
+  NotRead allowed fields i old s e =
+      Has true fields i old
+      ⊎ ((Has false fields i old × Refuses allowed s (code_of e) (offset_of e) (λ l bs. IsNotRead (reads_at fields i) (item_at (raws f l) levels bs)))
+      ⊎ ((length fields ≤ i) × Refuses allowed s (code_of e) (offset_of e) (λ l bs. IsNotRead IsAny (item_at (raws f l) levels bs))))
+
+  refused_is : (allowed : ReadErrorCode → Bool) (fields : List (FieldOf S)) (i : ℕ) (old : Slots fields) (s : Input) (e : Error) → FieldRefused f levels allowed fields i old s e → NotRead allowed fields i old s e
+  refused_is allowed [] i old s e h = inr (inr (omega arith, h))
+  refused_is allowed (d ∷ fields) zero old s e h = elim (bool_cases (is_some old.0)) [ inl some ↦ inl some | inr none ↦ inr (inl (none, h none)) ]
+  refused_is allowed (d ∷ fields) (suc i) old s e h = elim (refused_is allowed fields i old.1 s e h) [
+    | inl some ↦ inl some
+    | inr (inl none) ↦ inr (inl none)
+    | inr (inr beyond) ↦ inr (inr (let b = beyond.0 in omega (arith, b), beyond.1))
+  ]
+
+-- of an empty list, an item was passed over
+pub passed_on : (f : model.Formats) (levels : ℕ) (allowed : ReadErrorCode → Bool) (i : ℕ) (s t : Input) (r : Result (Unit {0}) Error) → TakesItem allowed f IsAny levels s t r → TakesField {S = Unit {0}} f levels allowed [] i tt tt s t r
+passed_on f levels allowed i s t (Ok u) h = h
+passed_on f levels allowed i s t (Err e) h = h
+
+-- a field that wasn't read, and may not be absent
+pub lacking_is : {S : Type 0} (fields : List (FieldOf S)) (slots : Slots fields) → IsLacking fields slots → (i : ℕ) × LacksAt fields i slots
+lacking_is [] slots h = absurd h
+lacking_is (d ∷ fields) slots (inl h) = (0, h)
+lacking_is (d ∷ fields) slots (inr h) = let w = lacking_is fields slots.1 h in (suc w.0, w.1)
+
+-- ---- what a call adds
+
+module _ {S : Type 0} (names : List (List ℕ)) (fields : List (FieldOf S)) where
+  -- behind the head no field was read
+  pub begins_with : (slots : Slots fields) → slots ≡ none_yet fields → {s t : Input} {f g : Formats} {outer levels : ℕ} {all : Remaining}
+      → Step s t (λ l bs rest. IsMapHead (formats_of f) l (item_at (raws (formats_of f) l) outer bs) levels all rest) → g ≡ f → StructSoFar names fields slots s f outer t g levels all
+  begins_with slots none {s} {t} {f} {g} {outer} {levels} {all} head formats =
+      subst (λ (slots : Slots fields). StructSoFar names fields slots s f outer t g levels all) (sym none) (struct_begins names fields head formats)
+
+  -- an Err tells that no struct is there
+  pub unread : (allowed : ReadErrorCode → Bool) (f : Formats) (levels : ℕ) (s t : Input) (e : Error) (r : Result S Error) → IsErrAnd r (λ x. x ≡ e)
+      → NoStruct names fields allowed s f levels (code_of e) (offset_of e) → TakesItem allowed (formats_of f) (IsStruct names fields) levels s t r
+  unread allowed f levels s t e (Ok x) is none = absurd is
+  unread allowed f levels s t e (Err x) is none = subst (λ (x : Error). NoStruct names fields allowed s f levels (code_of x) (offset_of x)) (sym is) none
+
+  module _ {slots : Slots fields} {s : Input} {f : Formats} {outer : ℕ} {t : Input} {g : Formats} {levels : ℕ} {r : Remaining} {so : StructSoFar names fields slots s f outer t g levels r}
+      {field : Field} {new : Remaining} {u : Input} {h : Formats} {n : ℕ} (key : FieldNamed names fields so field new u h n) (i : ℕ) (is : field ≡ Known i) where
+    -- the value of a known field was taken
+    pub value_in : {w : Input} {last : Remaining} {k : Formats} {m : ℕ} → k ≡ h → m ≡ n → last ≡ new → (slots' : Slots fields) → FieldTaken (formats_of h) n fields i slots slots' u w → StructSoFar names fields slots' s f outer w k m last
+    value_in {w} {last} {k} {m} formats inside remaining slots' taken = elim (taken_is (formats_of h) n fields i slots slots' u w taken) [
+      | inl v ↦ subst (λ (slots : Slots fields). StructSoFar names fields slots s f outer w k m last) (sym v.same)
+          (field_read names fields so (Some field) field refl refl new key.named key.formats key.inside formats inside remaining (λ (f : Formats). reads_at fields i) v.x i is v.none v.x (λ b means. means) v.read)
+      | inr v ↦ subst (λ (slots : Slots fields). StructSoFar names fields slots s f outer w k m last) (sym v.same)
+          (other_passed names fields so (Some field) field refl refl new key.named key.formats key.inside formats inside remaining (known_other fields is v.beyond) v.read)
+    ]
+
+    -- or wasn't
+    pub value_not_in : (allowed : ReadErrorCode → Bool) (e : Error) → FieldRefused (formats_of h) n allowed fields i slots u e → NoStruct names fields allowed s f outer (code_of e) (offset_of e)
+    value_not_in allowed e refused = elim (refused_is (formats_of h) n allowed fields i slots u e refused) [
+      | inl some ↦ field_twice names fields so (Some field) field refl refl new key.named allowed (code_of e) (offset_of e) i is some
+      | inr (inl none) ↦ field_unread names fields so (Some field) field refl refl new key.named key.formats key.inside (λ (f : Formats). reads_at fields i) allowed (code_of e) (offset_of e) i is none.0 (λ b v means. (v, means)) none.1
+      | inr (inr beyond) ↦ other_unread names fields so (Some field) field refl refl new key.named key.formats key.inside allowed (code_of e) (offset_of e) beyond.1
+    ]

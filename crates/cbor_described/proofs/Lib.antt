@@ -1,0 +1,4 @@
+pub mod FieldLists
+pub mod OneOfs
+pub mod OneParts
+pub mod Makings

@@ -1,0 +1,197 @@
+-- Lists of variants: what the answers of the calls on parts, on contents and on an enum add.
+use Rattle.cbor_de.specs.Cursor.{behind_next}
+use Rattle.std.proofs.Common.{inr, ◌≡◌, ℕ, zero, suc, ◌-◌, Bool, true, List, [], ◌∷◌, Result, Ok, Err, refl, sym, ap, subst, ◌∙◌, arith}
+use Rattle.cbor_model.specs.Formats as model
+use Rattle.cbor_model.specs.Raw.{Raw, Raws, no_raws}
+use Rattle.cbor_model.specs.Reader.{Reads, ◌>>=◌, item_at, next_at}
+use Rattle.cbor_model.specs.Refusal.{end_in_array}
+use Rattle.cbor_model.proofs.facts.Reader.{ok_is}
+use Rattle.cbor_read.specs.Source.{Input}
+use Rattle.cbor_io.specs.Error.{code_of, offset_of}
+use Rattle.cbor_io.specs.declared.error.Error.{Error}
+use Rattle.cbor_io.specs.declared.read_error.ReadErrorCode.{ReadErrorCode}
+use Rattle.cbor_de.specs.Gives.{Limits, Step}
+use Rattle.cbor_de.specs.Heads.{remaining_of}
+use Rattle.cbor_de.specs.declared.cursor.Remaining.{Remaining}
+use Rattle.cbor_de.specs.declared.formats.Formats.{Formats}
+use Rattle.cbor_de.proofs.facts.Steps.{step_map, step_then}
+use Rattle.cbor_collections.specs.Accesses.{items_at, IsNextItem, TakesPart, TakesEnd, IsEnd}
+use Rattle.cbor_collections.specs.Arrays.{AreNone}
+use Rattle.cbor_collections.specs.Enums.{Content, AreParts, part_then, no_part}
+use Rattle.cbor_described.specs.OneOfs.{either, AreItems, AreNoItems, TakesItems}
+use Rattle.cbor_scalars.specs.Takes.{TakesItem, formats_of, raws, Refuses}
+use Rattle.cbor_collections.specs.Variants.{content_at, IsVariantHead, IsContent, IsNoContent, TakesContent, IsItemsOf, IsPartsHead, RefusesParts}
+use Rattle.cbor_collections.specs.declared.variant.Form.{Form}
+use Rattle.cbor_described.specs.declared.variant_list.OneOf.{OneOf}
+use Rattle.cbor_described.specs.declared.variant_list.OneOf.TheVariants.{This, Other}
+use Rattle.cbor_typed.proofs.facts.Enums.{TakesEnum, variant_is, content_read, content_unread, has_items, items_read, items_made}
+use Rattle.cbor_collections.proofs.facts.Arrays.{comes, item_next, item_refused, NoPart, part_refused}
+use Rattle.cbor_collections.proofs.facts.Refusals.{refuses_map, refuses_then}
+use Rattle.cbor_collections.proofs.facts.Arrays.{append, with_front, SoFar, is_done, goes_on, begins, rest_of, no_part_rest}
+use Rattle.cbor_collections.proofs.facts.Tuples.{Empty, Then, one_more, none_all, first_follows, empty_rest}
+use Rattle.cbor_collections.proofs.facts.Arrays.{NoItems, end_step, loop_begins, end_lacks}
+
+-- ---- the items of several parts
+
+-- one item, and those behind it
+then_made : {A B : Type 0} (reads : Raw → A → Type 0) (others : Raws → B → Type 0) (x : A) (y : B) (front : List Raw) (more : Raws) → Then reads x Empty front → others more y → part_then reads others (append front more) (x, y)
+then_made reads others x y [] more h k = absurd h
+then_made reads others x y (r ∷ []) more h k = (h.0, k)
+then_made reads others x y (r ∷ q ∷ front) more h k = absurd h.1
+
+then_needs : {A B : Type 0} (reads : Raw → A → Type 0) (others : Raws → B → Type 0) (x : A) (y : A × B) (front : List Raw) (more : Raws) → Then reads x Empty front → part_then reads others (append front more) y → others more y.1
+then_needs reads others x y [] more h k = absurd h
+then_needs reads others x y (r ∷ []) more h k = k.1
+then_needs reads others x y (r ∷ q ∷ front) more h k = absurd h.1
+
+module _ {A B : Type 0} (reads : Raw → A → Type 0) (others : Raws → B → Type 0) (f : model.Formats) (levels : ℕ) (r : Remaining) (allowed : ReadErrorCode → Bool) where
+  abbrev Items : Limits → List ℕ → Reads Raws
+  Items l bs = items_at f l levels (remaining_of r) bs
+
+  -- the first part isn't there
+  pub first_lacks : (s t : Input) (e : Error) → TakesPart allowed f reads levels r r s t (Err e) → TakesItems allowed f (part_then reads others) levels r s t (Err e)
+  first_lacks s t e = refuses_map allowed s (code_of e) (offset_of e) (NoPart reads f levels (remaining_of r)) (λ l bs. AreNoItems (part_then reads others) (Items l bs))
+      (λ l bs none x rest got. no_part_rest reads f levels (remaining_of r) l bs none got.all rest got.is (first_follows reads x.0 (λ more. others more x.1) got.all got.meaning))
+
+  module _ (new : Remaining) (s m : Input) (x : A) (first : Step s m (IsNextItem reads f levels (remaining_of r) (remaining_of new) x)) where
+    first_so : (l : Limits) (bs mid : List ℕ) → IsNextItem reads f levels (remaining_of r) (remaining_of new) x l bs mid → SoFar (Then reads x Empty) f levels (remaining_of r) (remaining_of new) l bs mid
+    first_so l bs mid n = goes_on Empty f levels (remaining_of r) reads x (Then reads x Empty) (λ front q h k. one_more reads x q k front h) (remaining_of r) (remaining_of new) l bs bs mid (begins Empty f levels (remaining_of r) l bs tt) n
+
+    -- behind it the others aren't there
+    pub others_lack : (t : Input) (e : Error) → TakesItems allowed f others levels new m t (Err e) → TakesItems allowed f (part_then reads others) levels r s t (Err e)
+    others_lack t e = refuses_then allowed s (code_of e) (offset_of e) m (IsNextItem reads f levels (remaining_of r) (remaining_of new) x) (λ l bs. AreNoItems others (items_at f l levels (remaining_of new) bs)) (λ l bs. AreNoItems (part_then reads others) (Items l bs))
+        (λ l bs mid n none y rest got.
+        let w = rest_of (Then reads x Empty) f levels (remaining_of r) (remaining_of new) l bs mid rest got.all (first_so l bs mid n) got.is in
+        let here = subst (λ (rs : Raws). part_then reads others rs y) w.same got.meaning in
+        none y.1 rest (record { all = w.more; is = w.is; meaning = then_needs reads others x y w.front w.more w.holds here })) first
+
+    -- all parts are there
+    pub parts_there : (t : Input) (y : B) → TakesItems allowed f others levels new m t (Ok y) → TakesItems allowed f (part_then reads others) levels r s t (Ok (x, y))
+    parts_there t y = step_then s m t (IsNextItem reads f levels (remaining_of r) (remaining_of new) x) (λ l bs rest. AreItems others (items_at f l levels (remaining_of new) bs) y rest) (λ l bs rest. AreItems (part_then reads others) (Items l bs) (x, y) rest)
+        (λ l bs mid rest n got.
+        let so = first_so l bs mid n in
+        record { all = append so.front got.all; is = sym so.same ∙ ap (with_front so.front) got.is; meaning = then_made reads others x y so.front got.all so.holds got.meaning }) first
+
+-- the same formats and levels
+module _ {B : Type 0} (items : Formats → Raws → B → Type 0) (f g : Formats) (levels inside : ℕ) (formats : g ≡ f) (same : inside ≡ levels) (allowed : ReadErrorCode → Bool) (r : Remaining) (s t : Input) where
+  pub same_place : (q : Result B Error) → TakesItems allowed (formats_of g) (items g) inside r s t q → TakesItems allowed (formats_of f) (items f) levels r s t q
+  same_place q h =
+      let here = subst (λ (g : Formats). TakesItems allowed (formats_of g) (items g) inside r s t q) formats h in
+      subst (λ (n : ℕ). TakesItems allowed (formats_of f) (items f) n r s t q) same here
+
+-- nothing is left
+module _ (f : Formats) (levels : ℕ) (r : Remaining) (allowed : ReadErrorCode → Bool) (s t : Input) where
+  pub none_left : (q : Result (Unit {0}) Error) → TakesEnd allowed r s t q → TakesItems allowed (formats_of f) no_part levels r s t q
+  none_left (Ok u) h = step_map s t (IsEnd (remaining_of r)) (λ l bs rest. AreItems no_part (items_at (formats_of f) l levels (remaining_of r) bs) tt rest)
+      (λ l bs rest e.
+      let d = is_done Empty (formats_of f) levels (remaining_of r) (remaining_of r) l bs bs rest (begins Empty (formats_of f) levels (remaining_of r) l bs tt) e in
+      record { all = append d.front no_raws; is = d.is; meaning = none_all d.front d.holds }) (end_step r s t h)
+  none_left (Err e) h = refuses_map allowed s (code_of e) (offset_of e) (NoItems no_part (formats_of f) levels (remaining_of r)) (λ l bs. AreNoItems no_part (items_at (formats_of f) l levels (remaining_of r) bs))
+      (λ l bs none x rest got. none got.all rest x got.is got.meaning)
+      (end_lacks s Empty f f levels levels refl refl r no_part allowed r s t e (λ front more x h k. empty_rest AreNone AreNone (λ more n. n) front more h k) (loop_begins s Empty f f levels levels refl refl r tt) h)
+
+-- a part of an array that goes on
+module _ {A : Type 0} (reads : Formats → Raw → A → Type 0) (f g : Formats) (levels inside : ℕ) (formats : g ≡ f) (same : inside ≡ levels) (s m t : Input) (old new : Remaining) (more : Bool) (is : more ≡ true) (allowed : ReadErrorCode → Bool) where
+  pub part_answer : Step s m (λ l bs rest. next_at end_in_array (remaining_of old) bs ≡ Ok (behind_next new more, rest)) → (q : Result A Error) → TakesItem allowed (formats_of g) (reads g) inside m t q → TakesPart allowed (formats_of f) (reads f) levels old new s t q
+  part_answer step (Ok x) h = item_next s m old new more reads f g levels inside formats same t x (comes s m old new more is step) h
+  part_answer step (Err e) h = part_refused allowed (reads f) (formats_of f) levels (remaining_of old) s (code_of e) (offset_of e)
+      (item_refused s m old new more reads f g levels inside formats same allowed (code_of e) (offset_of e) (comes s m old new more is step) h)
+
+-- ---- contents
+
+module _ (f : model.Formats) (left : ℕ) (form : Form) (allowed : ReadErrorCode → Bool) (s t : Input) where
+  -- what was read is read as what is made of it, and nothing else is
+  module _ {A B : Type 0} (one : Content → A → Type 0) (two : Content → B → Type 0) where
+    pub content_made : (x : A) (y : B) → ((c : Content) → one c x → two c y) → TakesContent allowed f one left form s t (Ok x) → TakesContent allowed f two left form s t (Ok y)
+    content_made x y on = step_map s t (λ l bs rest. IsContent one (content_at f l left form bs) x rest) (λ l bs rest. IsContent two (content_at f l left form bs) y rest)
+        (λ l bs rest got. record { content = got.content; is = got.is; meaning = on got.content got.meaning })
+
+    pub content_not_made : (e : Error) → ((c : Content) (y : B) → two c y → (x : A) × one c x) → TakesContent allowed f one left form s t (Err e) → TakesContent allowed f two left form s t (Err e)
+    content_not_made e back = refuses_map allowed s (code_of e) (offset_of e) (λ l bs. IsNoContent one (content_at f l left form bs)) (λ l bs. IsNoContent two (content_at f l left form bs))
+        (λ l bs none y rest got. let x = back got.content y got.meaning in none x.0 rest (record { content = got.content; is = got.is; meaning = x.1 }))
+
+  -- where nothing has a meaning
+  pub no_meaning : {A : Type 0} (e : Error) → TakesContent {A = A} allowed f (λ c x. ⊥) left form s t (Err e)
+  no_meaning e = record { told = λ bs tells. inr (λ x rest got. got.meaning) }
+
+-- the variants
+module _ {V W : Type 0} (this : Content → V → Type 0) (those : ℕ → Content → W → Type 0) where
+  needs_this : (c : Content) (y : OneOf V W) → either this those 0 c y → (x : V) × this c x
+  needs_this c (This v) h = (v, h)
+  needs_this c (Other w) h = absurd h
+
+  needs_other : (i : ℕ) (c : Content) (y : OneOf V W) → either this those (suc i) c y → (x : W) × those i c x
+  needs_other i c (This v) h = absurd h
+  needs_other i c (Other w) h = (w, h)
+
+  module _ (f : model.Formats) (left : ℕ) (form : Form) (allowed : ReadErrorCode → Bool) (s t : Input) where
+    pub this_read : (v : V) → TakesContent allowed f this left form s t (Ok v) → TakesContent allowed f (either this those 0) left form s t (Ok (This v))
+    this_read v = content_made f left form allowed s t this (either this those 0) v (This v) (λ c h. h)
+
+    pub this_unread : (e : Error) → TakesContent allowed f this left form s t (Err e) → TakesContent allowed f (either this those 0) left form s t (Err e)
+    this_unread e = content_not_made f left form allowed s t this (either this those 0) e needs_this
+
+    pub other_read : (i : ℕ) → (i ≡ 0 → ⊥) → (w : W) → TakesContent allowed f (those (i - 1)) left form s t (Ok w) → TakesContent allowed f (either this those i) left form s t (Ok (Other w))
+    other_read zero some w h = absurd (some refl)
+    other_read (suc i) some w h =
+        let before : suc i - 1 ≡ i = omega arith in
+        content_made f left form allowed s t (those i) (either this those (suc i)) w (Other w) (λ c h. h) (subst (λ (i : ℕ). TakesContent allowed f (those i) left form s t (Ok w)) before h)
+
+    pub other_unread : (i : ℕ) → (i ≡ 0 → ⊥) → (e : Error) → TakesContent allowed f (those (i - 1)) left form s t (Err e) → TakesContent allowed f (either this those i) left form s t (Err e)
+    other_unread zero some e h = absurd (some refl)
+    other_unread (suc i) some e h =
+        let before : suc i - 1 ≡ i = omega arith in
+        content_not_made f left form allowed s t (those i) (either this those (suc i)) e (needs_other i) (subst (λ (i : ℕ). TakesContent {A = W} allowed f (those i) left form s t (Err e)) before h)
+
+-- ---- several parts
+
+abbrev put : (Raws → Content) → Reads Raws → Reads Content
+put whole read = read >>= (λ rs. Ok (whole rs.0, rs.1))
+
+made_parts : (whole : Raws → Content) (read : Reads Raws) (c : Content) (rest : List ℕ) → put whole read ≡ Ok (c, rest) → (rs : Raws) × (read ≡ Ok (rs, rest)) × (c ≡ whole rs)
+made_parts whole (Ok x) c rest is =
+    let both = ok_is (whole x.0, x.1) (c, rest) is in
+    (x.0, ap (λ (p : Content × List ℕ). Ok (x.0, p.1)) both, sym (ap (λ (p : Content × List ℕ). p.0) both))
+made_parts whole (Err e) c rest is = absurd cc
+
+module _ {A : Type 0} (items : Raws → A → Type 0) (f : model.Formats) (left : ℕ) (form : Form) (allowed : ReadErrorCode → Bool) (s : Input) where
+  -- the content has no parts
+  pub no_parts : (e : Error) → RefusesParts allowed f left form s e → Refuses allowed s (code_of e) (offset_of e) (λ l bs. IsNoContent (AreParts items) (content_at f l left form bs))
+  no_parts e = refuses_map allowed s (code_of e) (offset_of e) (λ l bs. IsNoContent IsItemsOf (content_at f l left form bs)) (λ l bs. IsNoContent (AreParts items) (content_at f l left form bs))
+      (λ l bs none y rest got. let rs = has_items items got.content y got.meaning in none rs.0 rest (record { content = got.content; is = got.is; meaning = rs.1 }))
+
+  module _ (m t : Input) (inner : ℕ) (r : Remaining) (head : Step s m (λ l bs rest. IsPartsHead f l (content_at f l left form bs) inner r rest)) where
+    pub parts_meant : (y : A) → TakesItems allowed f items inner r m t (Ok y) → TakesContent allowed f (AreParts items) left form s t (Ok y)
+    parts_meant y = step_then s m t (λ l bs rest. IsPartsHead f l (content_at f l left form bs) inner r rest) (λ l bs rest. AreItems items (items_at f l inner (remaining_of r) bs) y rest) (λ l bs rest. IsContent (AreParts items) (content_at f l left form bs) y rest)
+        (λ l bs mid rest p got. record {
+          content = p.whole got.all;
+          is = p.is ∙ ap (put p.whole) got.is;
+          meaning = items_made items (p.whole got.all) got.all y (p.items got.all) got.meaning;
+        }) head
+
+    pub parts_not_meant : (e : Error) → TakesItems allowed f items inner r m t (Err e) → TakesContent allowed f (AreParts items) left form s t (Err e)
+    parts_not_meant e = refuses_then allowed s (code_of e) (offset_of e) m (λ l bs rest. IsPartsHead f l (content_at f l left form bs) inner r rest) (λ l bs. AreNoItems items (items_at f l inner (remaining_of r) bs)) (λ l bs. IsNoContent (AreParts items) (content_at f l left form bs))
+        (λ l bs mid p none y rest got.
+        let w = made_parts p.whole (items_at f l inner (remaining_of r) mid) got.content rest (sym p.is ∙ got.is) in
+        let here = subst (λ (c : Content). AreParts items c y) w.2 got.meaning in
+        none y rest (record { all = w.0; is = w.1; meaning = items_read items (p.whole w.0) w.0 y (p.items w.0) here })) head
+
+-- ---- an enum
+
+-- what the content of the variant in this place gave
+module _ {E : Type 0} (names : List (List ℕ)) (means : Formats → ℕ → Content → E → Type 0) (f : Formats) (outer : ℕ) (s a t : Input) (i left : ℕ) (form : Form) (g : Formats) (formats : g ≡ f) (allowed : ReadErrorCode → Bool) where
+  pub enum_answer : Step s a (λ l bs rest. IsVariantHead (formats_of f) names l (item_at (raws (formats_of f) l) outer bs) left i form rest) → (q : Result E Error) → TakesContent allowed (formats_of g) (means g i) left form a t q → TakesEnum names (means f) allowed f outer s t q
+  enum_answer head (Ok x) h = content_read (variant_is names (means f) i head formats refl) (λ f. means f i) x x (λ c m. m) h refl
+  enum_answer head (Err e) h = content_unread (variant_is names (means f) i head formats refl) (λ f. means f i) (λ c x m. (x, m)) t e (Err e) h refl
+
+-- ---- the items of a view
+
+-- Items that mean the parts mean what has those parts, and where none do there is nothing.
+module _ {S P : Type 0} (view : S → P) (items : Raws → P → Type 0) (f : model.Formats) (levels : ℕ) (r : Remaining) (allowed : ReadErrorCode → Bool) (s t : Input) where
+  pub items_of : (p : P) (x : S) → view x ≡ p → TakesItems allowed f items levels r s t (Ok p) → TakesItems allowed f (λ all x. items all (view x)) levels r s t (Ok x)
+  items_of p x is = step_map s t (λ l bs rest. AreItems items (items_at f l levels (remaining_of r) bs) p rest) (λ l bs rest. AreItems (λ all x. items all (view x)) (items_at f l levels (remaining_of r) bs) x rest)
+      (λ l bs rest got. record { all = got.all; is = got.is; meaning = subst (λ (p : P). items got.all p) (sym is) got.meaning })
+
+  pub no_items_of : (e : Error) → TakesItems {A = P} allowed f items levels r s t (Err e) → TakesItems {A = S} allowed f (λ all x. items all (view x)) levels r s t (Err e)
+  no_items_of e = refuses_map allowed s (code_of e) (offset_of e) (λ l bs. AreNoItems items (items_at f l levels (remaining_of r) bs)) (λ l bs. AreNoItems (λ all x. items all (view x)) (items_at f l levels (remaining_of r) bs))
+      (λ l bs none x rest got. none (view x) rest (record { all = got.all; is = got.is; meaning = got.meaning }))

@@ -1,0 +1,17 @@
+use Rattle.std.proofs.Common.{◌≡◌, ℕ, List, refl}
+use Rattle.cbor_model.specs.Readable.{PassesTags}
+use Rattle.cbor_parts.specs.declared.OneOf2.{OneOf2}
+use Rattle.cbor_scalars.specs.Identifiers.{texts}
+use Rattle.cbor_scalars.specs.Takes.{context, formats_of}
+use Rattle.cbor_collections.specs.Enums.{IsEnum}
+use Rattle.cbor_described.specs.OneOfs.{either, no_variant, list2}
+use Rattle.cbor_described.proofs.Makings.{not_made}
+use Rattle.cbor_described.proofs.one_of.OneOf2ReadParts.read_parts.Goals as goal
+
+pub returns-in-Err-clause-read : goal.returns-in-Err-clause-read
+returns-in-Err-clause-read g c =
+    let old = c.args.de.now.items in
+    let k = context old.formats g.R.Source.lends in
+    let same : texts c.args.names.now ≡ texts c.args.names.now = refl in
+    not_made (λ (x : OneOf2 g.row.A.Denot g.row.B.Denot). list2 x) (λ (names : List (List ℕ)). PassesTags (IsEnum k.formats names (either (g.A.Variant.means k) (either (g.B.Variant.means k) no_variant)))) g.R.Source.refusals (formats_of old.formats) old.levels (g.R.Source.source old.source) (g.R.Source.source c.read_variants.new.de.items.source)
+    same c.in-Err.e c.in-Err.ensures.read

@@ -1,0 +1,15 @@
+use Rattle.cbor_scalars.specs.Takes.{context, formats_of}
+use Rattle.cbor_described.proofs.OneOfs.{this_unread, other_unread}
+use Rattle.cbor_described.proofs.variant_list.OneOfReadVariants.read_variant.Goals as goal
+
+pub returns-in-Err-clause-read : goal.returns-in-Err-clause-read
+returns-in-Err-clause-read g c =
+    let old = c.args.de.now.items in
+    let k = context old.formats g.R.Source.lends in
+    other_unread (g.V.Variant.means k) (g.Vs.VariantList.means k) (formats_of old.formats) old.levels c.args.form g.R.Source.refusals (g.R.Source.source old.source) (g.R.Source.source c.read_variant.new.de.items.source) c.args.i c.if-i-ne0.true c.in-Err.e c.in-Err.ensures.read
+
+pub returns-in-Err-read_content-clause-read : goal.returns-in-Err-read_content-clause-read
+returns-in-Err-read_content-clause-read g c =
+    let old = c.args.de.now.items in
+    let k = context old.formats g.R.Source.lends in
+    rw c.if-i-ne0.false (this_unread (g.V.Variant.means k) (g.Vs.VariantList.means k) (formats_of old.formats) old.levels c.args.form g.R.Source.refusals (g.R.Source.source old.source) (g.R.Source.source c.read_content.new.de.items.source) c.in-Err-read_content.e c.in-Err-read_content.ensures.read)

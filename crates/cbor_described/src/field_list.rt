@@ -1,0 +1,314 @@
+//! Lists of fields, of which structs are read.
+
+ghost use Rattle.std.specs.Prelude.{◌≡◌, ◌≤◌, length, IfOk, IfErr};
+ghost use Rattle.cbor_model.specs.Raw.{Raw};
+ghost use Rattle.cbor_model.specs.Readable.{Context};
+ghost use Rattle.cbor_described.specs.FieldLists.{IsLacking, TakesField, TakesSlot};
+ghost use Rattle.cbor_typed.specs.Fields.{AreHeld, IsHeld, Lacks, none_yet};
+ghost use Rattle.cbor_scalars.specs.Identifiers.{texts};
+ghost use Rattle.cbor_typed.specs.Structs.{IsAny, IsStruct};
+ghost use Rattle.cbor_scalars.specs.Takes.{TakesItem, context, formats_of};
+
+use cbor_collections::map::{end_map, map_head};
+use cbor_io::error::Result;
+use cbor_typed::{
+    Deserialize, Deserializer, Field, FieldType, IgnoredAny, Read, duplicate_field, missing_field,
+};
+use std::alloc::Global;
+
+// The fields of a struct: `()`, or a field and the list of the others, as `(u32, (String, ()))`, or
+// four and the list of the others.
+pub(crate) trait FieldList: Sized + Drop {
+    ghost use Rattle.std.specs.Prelude.{List, ℕ};
+    ghost use Rattle.cbor_model.specs.Readable.{Context};
+    ghost use Rattle.cbor_typed.specs.Fields.{Slots};
+    ghost use Rattle.cbor_typed.specs.Structs.{FieldOf};
+
+    // What was read of them so far.
+    type Slots: Drop;
+
+    // How many they are.
+    ghost count: { ℕ };
+
+    // As what each field is read.
+    ghost fields: { Context → List (FieldOf Self) };
+
+    ghost slots: { (c : Context) → Self.Slots → Slots (fields c) };
+
+    // No field was read.
+    fn none() -> Self::Slots
+        ensures { (c : Context) → slots c result ≡ none_yet (fields c) };
+
+    // The fields that were read. The first one that wasn't is refused with
+    // ``missing field `id` ``, by its name.
+    fn required(alloc: Global, names: &[&str], held: Self::Slots) -> Result<Self>
+        requires { length names.now ≡ Self.count }
+        ensures all { IfOk result (λ x. (c : Context)
+            → AreHeld (fields c) (slots c held) x) }
+        ensures lacking { IfErr result (λ e. (c : Context) → IsLacking (fields c) (slots c held)) };
+}
+
+// The fields of a struct, which are read from a source.
+pub(crate) trait ReadFields<'de, R: Read<'de>>: FieldList {
+    // Reads the value of a field into its slot, the i-th, and passes over an item where there are
+    // fewer. A slot that has a value is refused with ``duplicate field `id` ``.
+    fn take(de: &mut Deserializer<R>, i: usize, name: &str, held: &mut Self::Slots) -> Result<()>
+        ensures read { let c = context de.old.items.formats R.lends in
+            TakesField (formats_of de.old.items.formats) de.old.items.levels R.refusals
+            (Self.fields c) i (Self.slots c held.old) (Self.slots c held.new)
+            (R.source de.old.items.source) (R.source de.new.items.source) result }
+        ensures forward { IfOk result (λ u. (R.source de.old.items.source).offset
+            ≤ (R.source de.new.items.source).offset) }
+        ensures levels { de.new.items.levels ≡ de.old.items.levels }
+        ensures formats { de.new.items.formats ≡ de.old.items.formats };
+}
+
+impl FieldList for () {
+    ghost use Rattle.std.specs.Prelude.{[]};
+
+    type Slots = ();
+
+    ghost count = { 0 };
+
+    ghost fields = { λ c. [] };
+
+    ghost slots = { λ c held. held };
+
+    fn none() -> () {}
+
+    fn required(_alloc: Global, _names: &[&str], _held: ()) -> Result<()> {
+        Ok(())
+    }
+}
+
+impl<'de, R: Read<'de>> ReadFields<'de, R> for () {
+    fn take(de: &mut Deserializer<R>, _i: usize, _name: &str, _held: &mut ()) -> Result<()> {
+        skip_item(de)
+    }
+}
+
+impl<A: FieldType, F: FieldList> FieldList for (A, F) {
+    ghost use Rattle.std.specs.Prelude.{◌∷◌, ◌+◌};
+    ghost use Rattle.cbor_described.specs.FieldLists.{over, slots_over};
+    ghost use Rattle.cbor_typed.specs.Structs.{field_or};
+
+    type Slots = (Option<A>, F::Slots);
+
+    ghost count = { F.count + 1 };
+
+    ghost fields = { λ c. field_or (A.reads c) A.missing (λ p. p.0)
+        ∷ over (λ p. p.1) (F.fields c) };
+
+    ghost slots = { λ c held. (held.0, slots_over (λ p. p.1) (F.fields c) (F.slots c held.1)) };
+
+    fn none() -> (Option<A>, F::Slots) {
+        (None, F::none())
+    }
+
+    fn required(alloc: Global, names: &[&str], held: (Option<A>, F::Slots)) -> Result<(A, F)> {
+        let (first, others) = held;
+        let first = required_field::<A>(alloc, names[0], first)?;
+        let others = F::required(alloc, &names[1..], others)?;
+        Ok((first, others))
+    }
+}
+
+// Four fields and the list of the others. What the check passes on of a list's bounds doubles with
+// each pair within a pair, so long lists go by fours.
+impl<A: FieldType, B: FieldType, C: FieldType, D: FieldType, F: FieldList> FieldList
+    for (A, B, C, D, F) {
+    ghost use Rattle.std.specs.Prelude.{◌∷◌, ◌+◌};
+    ghost use Rattle.cbor_described.specs.FieldLists.{over, slots_over};
+    ghost use Rattle.cbor_typed.specs.Structs.{field_or};
+
+    type Slots = (Option<A>, Option<B>, Option<C>, Option<D>, F::Slots);
+
+    ghost count = { F.count + 4 };
+
+    ghost fields = { λ c. field_or (A.reads c) A.missing (λ p. p.0)
+        ∷ field_or (B.reads c) B.missing (λ p. p.1)
+        ∷ field_or (C.reads c) C.missing (λ p. p.2)
+        ∷ field_or (D.reads c) D.missing (λ p. p.3)
+        ∷ over (λ p. p.4) (F.fields c) };
+
+    ghost slots = { λ c held. (
+      held.0,
+      (
+        held.1,
+        (
+          held.2,
+          (
+            held.3,
+            slots_over (λ p. p.4) (F.fields c) (F.slots c held.4),
+          ),
+        ),
+      ),
+    ) };
+
+    fn none() -> (Option<A>, Option<B>, Option<C>, Option<D>, F::Slots) {
+        (None, None, None, None, F::none())
+    }
+
+    fn required(
+        alloc: Global,
+        names: &[&str],
+        held: (Option<A>, Option<B>, Option<C>, Option<D>, F::Slots),
+    ) -> Result<(A, B, C, D, F)> {
+        let (a, b, c, d, others) = held;
+        let a = required_field::<A>(alloc, names[0], a)?;
+        let b = required_field::<B>(alloc, names[1], b)?;
+        let c = required_field::<C>(alloc, names[2], c)?;
+        let d = required_field::<D>(alloc, names[3], d)?;
+        let others = F::required(alloc, &names[4..], others)?;
+        Ok((a, b, c, d, others))
+    }
+}
+
+// What was read of a field, or what stands for it.
+fn required_field<A: FieldType>(alloc: Global, name: &str, held: Option<A>) -> Result<A>
+    ensures held { IfOk result (λ x. IsHeld held A.missing x) }
+    ensures lacks { IfErr result (λ e. Lacks A.missing held) }
+{
+    match held {
+        Some(value) => Ok(value),
+        None => match A::missing(alloc) {
+            Some(value) => Ok(value),
+            None => Err(missing_field(alloc, name)),
+        },
+    }
+}
+
+impl<'de, R: Read<'de>, A: FieldType, F: ReadFields<'de, R>> ReadFields<'de, R> for (A, F)
+where
+    A::Of: Deserialize<'de, R>,
+{
+    fn take(
+        de: &mut Deserializer<R>,
+        i: usize,
+        name: &str,
+        held: &mut (Option<A>, F::Slots),
+    ) -> Result<()> {
+        if i != 0 {
+            return F::take(de, i - 1, name, &mut held.1);
+        }
+        take_slot::<R, A>(de, name, &mut held.0)
+    }
+}
+
+impl<
+    'de,
+    R: Read<'de>,
+    A: FieldType,
+    B: FieldType,
+    C: FieldType,
+    D: FieldType,
+    F: ReadFields<'de, R>,
+> ReadFields<'de, R> for (A, B, C, D, F)
+where
+    A::Of: Deserialize<'de, R>,
+    B::Of: Deserialize<'de, R>,
+    C::Of: Deserialize<'de, R>,
+    D::Of: Deserialize<'de, R>,
+{
+    fn take(
+        de: &mut Deserializer<R>,
+        i: usize,
+        name: &str,
+        held: &mut (Option<A>, Option<B>, Option<C>, Option<D>, F::Slots),
+    ) -> Result<()> {
+        match i {
+            0 => take_slot::<R, A>(de, name, &mut held.0),
+            1 => take_slot::<R, B>(de, name, &mut held.1),
+            2 => take_slot::<R, C>(de, name, &mut held.2),
+            3 => take_slot::<R, D>(de, name, &mut held.3),
+            _ => F::take(de, i - 4, name, &mut held.4),
+        }
+    }
+}
+
+// Reads the value of a field into its slot. A slot that has a value is refused with
+// ``duplicate field `id` ``.
+fn take_slot<'de, R: Read<'de>, A: FieldType>(
+    de: &mut Deserializer<R>,
+    name: &str,
+    slot: &mut Option<A>,
+) -> Result<()>
+where
+    A::Of: Deserialize<'de, R>,
+    ensures read { TakesSlot (formats_of de.old.items.formats) de.old.items.levels R.refusals
+        (A.reads (context de.old.items.formats R.lends)) slot.old slot.new
+        (R.source de.old.items.source) (R.source de.new.items.source) result }
+    ensures forward { IfOk result (λ u. (R.source de.old.items.source).offset
+        ≤ (R.source de.new.items.source).offset) }
+    ensures levels { de.new.items.levels ≡ de.old.items.levels }
+    ensures formats { de.new.items.formats ≡ de.old.items.formats }
+{
+    if slot.is_some() {
+        return Err(duplicate_field(de.items.alloc, name));
+    }
+    match <A::Of as Deserialize<'de, R>>::deserialize(de) {
+        Ok(value) => {
+            *slot = Some(A::given(value));
+            Ok(())
+        }
+        Err(e) => Err(e),
+    }
+}
+
+// Passes over an item.
+fn skip_item<'de, R: Read<'de>>(de: &mut Deserializer<R>) -> Result<()>
+    ensures read { TakesItem R.refusals (formats_of de.old.items.formats) IsAny
+        de.old.items.levels (R.source de.old.items.source)
+        (R.source de.new.items.source) result }
+    ensures levels { de.new.items.levels ≡ de.old.items.levels }
+    ensures formats { de.new.items.formats ≡ de.old.items.formats }
+{
+    match IgnoredAny::deserialize(de) {
+        Ok(_) => Ok(()),
+        Err(e) => Err(e),
+    }
+}
+
+// Reads a struct of these fields, in any order, by their names or their numbers.
+pub(crate) fn read_fields<'de, R: Read<'de>, F: ReadFields<'de, R>>(
+    de: &mut Deserializer<R>,
+    names: &[&str],
+) -> Result<F>
+    requires { length names.now ≡ F.count }
+    ensures read { TakesItem R.refusals (formats_of de.old.items.formats)
+        (IsStruct (texts names.now) (F.fields (context de.old.items.formats R.lends)))
+        de.old.items.levels (R.source de.old.items.source)
+        (R.source de.new.items.source) result }
+    ensures levels { de.new.items.levels ≡ de.old.items.levels }
+    ensures formats { de.new.items.formats ≡ de.old.items.formats }
+{
+    let outer = de.items.levels;
+    let read = fields_within::<R, F>(de, names);
+    de.items.levels = outer;
+    read
+}
+
+// The same, which leaves any number of levels.
+fn fields_within<'de, R: Read<'de>, F: ReadFields<'de, R>>(
+    de: &mut Deserializer<R>,
+    names: &[&str],
+) -> Result<F>
+    requires { length names.now ≡ F.count }
+    ensures read { TakesItem R.refusals (formats_of de.old.items.formats)
+        (IsStruct (texts names.now) (F.fields (context de.old.items.formats R.lends)))
+        de.old.items.levels (R.source de.old.items.source)
+        (R.source de.new.items.source) result }
+    ensures formats { de.new.items.formats ≡ de.old.items.formats }
+{
+    let mut remaining = map_head(&mut de.items)?;
+    let mut held = F::none();
+    'fields: while let Some(field) = de.next_key(&mut remaining, names)? {
+        match field {
+            Field::Known(i) => F::take(de, i, names[i], &mut held)?,
+            Field::Unknown => skip_item(de)?,
+        }
+    }
+    let parts = F::required(de.items.alloc, names, held)?;
+    end_map(&mut de.items, remaining)?;
+    Ok(parts)
+}

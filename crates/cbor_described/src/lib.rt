@@ -1,0 +1,16 @@
+//! Reading by description: a struct or an enum that says what its parts are (`cbor_parts::Schema`)
+//! is read by that, and no proof is written for it.
+//!
+//! The fields of a struct are read as a tuple, and the variants of an enum as one of
+//! `OneOf1` to `OneOf8` ([`Variant`]). [`FromParts`] makes the type of them.
+#![tactic(auto)]
+
+mod field_list;
+mod one_of;
+mod parts;
+mod tuple_fields;
+mod tuple_parts;
+mod variant_list;
+
+pub use parts::{FromParts, ReadParts, ReadableParts};
+pub use variant_list::{ReadTuple, ReadVariant, ReadableTuple, Variant};

@@ -1,0 +1,78 @@
+//! Structs and enums that are read by a description of their parts.
+
+ghost use Rattle.std.specs.Prelude.{◌≡◌, length};
+ghost use Rattle.cbor_scalars.specs.Identifiers.{texts};
+ghost use Rattle.cbor_scalars.specs.Takes.{TakesItem, context, formats_of};
+
+use cbor_io::error::Result;
+use cbor_parts::{Parts, Schema};
+use cbor_typed::{Deserializer, Read};
+
+/// The parts of a struct, a tuple of its fields, or of an enum, one of its variants.
+pub trait ReadableParts: Parts {
+    ghost use Rattle.std.specs.Prelude.{List, ℕ};
+    ghost use Rattle.cbor_model.specs.Raw.{Raw};
+    ghost use Rattle.cbor_model.specs.Readable.{Context};
+
+    // As what an item is read, by the names of the fields or the variants.
+    ghost reads: { List (List ℕ) → Context → Raw → Self → Type 0 };
+}
+
+/// The parts of a struct or an enum, which are read from a source.
+pub trait ReadParts<'de, R: Read<'de>>: ReadableParts {
+    /// Reads the item at the front, by the names of the fields or the variants.
+    fn read_parts(de: &mut Deserializer<R>, names: &[&str]) -> Result<Self>
+        requires { length names.now ≡ Self.count }
+        ensures read { TakesItem R.refusals (formats_of de.old.items.formats)
+            (Self.reads (texts names.now) (context de.old.items.formats R.lends))
+            de.old.items.levels (R.source de.old.items.source)
+            (R.source de.new.items.source) result }
+        ensures levels { de.new.items.levels ≡ de.old.items.levels }
+        ensures formats { de.new.items.formats ≡ de.old.items.formats };
+}
+
+/// A struct or an enum that is made of its parts, and so read by its description.
+///
+/// ```rust
+/// impl FromParts for User {
+///     fn from_parts((user_id, admin): Self::Parts) -> User {
+///         User { user_id, admin }
+///     }
+/// }
+/// ```
+pub trait FromParts: Schema {
+    /// What has these parts.
+    fn from_parts(from: Self::Parts) -> Self
+        ensures { Self.parts result ≡ from };
+
+    /// Reads the item at the front by the description, and by the names that it gives.
+    ///
+    /// ```rust
+    /// impl<'de, R: Read<'de>> Deserialize<'de, R> for User {
+    ///     fn deserialize(de: &mut Deserializer<R>) -> Result<User> {
+    ///         User::read_described(de, &["user_id", "admin"])
+    ///     }
+    /// }
+    /// ```
+    final fn read_described<'de, R: Read<'de>>(
+        de: &mut Deserializer<R>,
+        names: &[&str],
+    ) -> Result<Self>
+    where
+        Self::Parts: ReadParts<'de, R>,
+        requires as_many { length names.now ≡ Self.Parts.count }
+        requires named { texts names.now ≡ Self.names }
+        ensures read { TakesItem R.refusals (formats_of de.old.items.formats)
+            (λ r x. Self.Parts.reads Self.names (context de.old.items.formats R.lends) r
+            (Self.parts x))
+            de.old.items.levels (R.source de.old.items.source)
+            (R.source de.new.items.source) result }
+        ensures levels { de.new.items.levels ≡ de.old.items.levels }
+        ensures formats { de.new.items.formats ≡ de.old.items.formats }
+    {
+        match <Self::Parts as ReadParts<'de, R>>::read_parts(de, names) {
+            Ok(parts) => Ok(Self::from_parts(parts)),
+            Err(e) => Err(e),
+        }
+    }
+}

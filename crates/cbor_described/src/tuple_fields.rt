@@ -1,0 +1,599 @@
+//! Structs that are read as tuples of their fields.
+
+use crate::field_list::read_fields;
+use crate::parts::{ReadParts, ReadableParts};
+use cbor_io::error::Result;
+use cbor_typed::{Deserialize, Deserializer, FieldType, Read};
+
+impl<A: FieldType> ReadableParts for (A,) {
+    ghost use Rattle.std.specs.Prelude.{[], ◌∷◌};
+    ghost use Rattle.cbor_typed.specs.Structs.{IsStruct, field_or};
+
+    ghost reads = { λ names c r x. IsStruct {S = A × Unit {0}} names
+        (field_or (A.reads c) A.missing (λ p. p.0) ∷ [])
+        r (x.0, tt) };
+}
+
+impl<'de, R: Read<'de>, A: FieldType> ReadParts<'de, R> for (A,)
+where
+    A::Of: Deserialize<'de, R>,
+{
+    fn read_parts(de: &mut Deserializer<R>, names: &[&str]) -> Result<(A,)> {
+        match read_fields::<R, (A, ())>(de, names) {
+            Ok(parts) => {
+                let (a, ()) = parts;
+                Ok((a,))
+            }
+            Err(e) => Err(e),
+        }
+    }
+}
+
+impl<A: FieldType, B: FieldType> ReadableParts for (A, B) {
+    ghost use Rattle.std.specs.Prelude.{[], ◌∷◌};
+    ghost use Rattle.cbor_typed.specs.Structs.{IsStruct, field_or};
+
+    ghost reads = { λ names c r x. IsStruct {S = A × (B × Unit {0})} names
+        (field_or (A.reads c) A.missing (λ p. p.0)
+        ∷ field_or (B.reads c) B.missing (λ p. p.1.0) ∷ [])
+        r (x.0, (x.1, tt)) };
+}
+
+impl<'de, R: Read<'de>, A: FieldType, B: FieldType> ReadParts<'de, R> for (A, B)
+where
+    A::Of: Deserialize<'de, R>,
+    B::Of: Deserialize<'de, R>,
+{
+    fn read_parts(de: &mut Deserializer<R>, names: &[&str]) -> Result<(A, B)> {
+        match read_fields::<R, (A, (B, ()))>(de, names) {
+            Ok(parts) => {
+                let (a, (b, ())) = parts;
+                Ok((a, b))
+            }
+            Err(e) => Err(e),
+        }
+    }
+}
+
+impl<A: FieldType, B: FieldType, C: FieldType> ReadableParts for (A, B, C) {
+    ghost use Rattle.std.specs.Prelude.{[], ◌∷◌};
+    ghost use Rattle.cbor_typed.specs.Structs.{IsStruct, field_or};
+
+    ghost reads = { λ names c r x. IsStruct {S = A × (B × (C × Unit {0}))} names
+        (field_or (A.reads c) A.missing (λ p. p.0)
+        ∷ field_or (B.reads c) B.missing (λ p. p.1.0)
+        ∷ field_or (C.reads c) C.missing (λ p. p.1.1.0) ∷ [])
+        r (x.0, (x.1, (x.2, tt))) };
+}
+
+impl<'de, R: Read<'de>, A: FieldType, B: FieldType, C: FieldType> ReadParts<'de, R> for (A, B, C)
+where
+    A::Of: Deserialize<'de, R>,
+    B::Of: Deserialize<'de, R>,
+    C::Of: Deserialize<'de, R>,
+{
+    fn read_parts(de: &mut Deserializer<R>, names: &[&str]) -> Result<(A, B, C)> {
+        match read_fields::<R, (A, (B, (C, ())))>(de, names) {
+            Ok(parts) => {
+                let (a, (b, (c, ()))) = parts;
+                Ok((a, b, c))
+            }
+            Err(e) => Err(e),
+        }
+    }
+}
+
+impl<A: FieldType, B: FieldType, C: FieldType, D: FieldType> ReadableParts for (A, B, C, D) {
+    ghost use Rattle.std.specs.Prelude.{[], ◌∷◌};
+    ghost use Rattle.cbor_typed.specs.Structs.{IsStruct, field_or};
+
+    ghost reads = { λ names c r x. IsStruct {S = A × B × C × D × Unit {0}} names
+        (field_or (A.reads c) A.missing (λ p. p.0)
+        ∷ field_or (B.reads c) B.missing (λ p. p.1)
+        ∷ field_or (C.reads c) C.missing (λ p. p.2)
+        ∷ field_or (D.reads c) D.missing (λ p. p.3) ∷ [])
+        r (x.0, x.1, x.2, x.3, tt) };
+}
+
+impl<'de, R: Read<'de>, A: FieldType, B: FieldType, C: FieldType, D: FieldType> ReadParts<'de, R>
+    for (A, B, C, D)
+where
+    A::Of: Deserialize<'de, R>,
+    B::Of: Deserialize<'de, R>,
+    C::Of: Deserialize<'de, R>,
+    D::Of: Deserialize<'de, R>,
+{
+    fn read_parts(de: &mut Deserializer<R>, names: &[&str]) -> Result<(A, B, C, D)> {
+        match read_fields::<R, (A, B, C, D, ())>(de, names) {
+            Ok(parts) => {
+                let (a, b, c, d, ()) = parts;
+                Ok((a, b, c, d))
+            }
+            Err(e) => Err(e),
+        }
+    }
+}
+
+impl<A: FieldType, B: FieldType, C: FieldType, D: FieldType, E: FieldType> ReadableParts
+    for (A, B, C, D, E) {
+    ghost use Rattle.std.specs.Prelude.{[], ◌∷◌};
+    ghost use Rattle.cbor_typed.specs.Structs.{IsStruct, field_or};
+
+    ghost reads = { λ names c r x. IsStruct {S = A × B × C × D × (E × Unit {0})} names
+        (field_or (A.reads c) A.missing (λ p. p.0)
+        ∷ field_or (B.reads c) B.missing (λ p. p.1)
+        ∷ field_or (C.reads c) C.missing (λ p. p.2)
+        ∷ field_or (D.reads c) D.missing (λ p. p.3)
+        ∷ field_or (E.reads c) E.missing (λ p. p.4.0) ∷ [])
+        r (x.0, x.1, x.2, x.3, (x.4, tt)) };
+}
+
+impl<
+    'de,
+    R: Read<'de>,
+    A: FieldType,
+    B: FieldType,
+    C: FieldType,
+    D: FieldType,
+    E: FieldType,
+> ReadParts<'de, R> for (A, B, C, D, E)
+where
+    A::Of: Deserialize<'de, R>,
+    B::Of: Deserialize<'de, R>,
+    C::Of: Deserialize<'de, R>,
+    D::Of: Deserialize<'de, R>,
+    E::Of: Deserialize<'de, R>,
+{
+    fn read_parts(de: &mut Deserializer<R>, names: &[&str]) -> Result<(A, B, C, D, E)> {
+        match read_fields::<R, (A, B, C, D, (E, ()))>(de, names) {
+            Ok(parts) => {
+                let (a, b, c, d, (e, ())) = parts;
+                Ok((a, b, c, d, e))
+            }
+            Err(e) => Err(e),
+        }
+    }
+}
+
+impl<
+    A: FieldType,
+    B: FieldType,
+    C: FieldType,
+    D: FieldType,
+    E: FieldType,
+    F: FieldType,
+> ReadableParts for (A, B, C, D, E, F) {
+    ghost use Rattle.std.specs.Prelude.{[], ◌∷◌};
+    ghost use Rattle.cbor_typed.specs.Structs.{IsStruct, field_or};
+
+    ghost reads = { λ names c r x. IsStruct {S = A × B × C × D × (E × (F × Unit {0}))} names
+        (field_or (A.reads c) A.missing (λ p. p.0)
+        ∷ field_or (B.reads c) B.missing (λ p. p.1)
+        ∷ field_or (C.reads c) C.missing (λ p. p.2)
+        ∷ field_or (D.reads c) D.missing (λ p. p.3)
+        ∷ field_or (E.reads c) E.missing (λ p. p.4.0)
+        ∷ field_or (F.reads c) F.missing (λ p. p.4.1.0) ∷ [])
+        r (x.0, x.1, x.2, x.3, (x.4, (x.5, tt))) };
+}
+
+impl<
+    'de,
+    R: Read<'de>,
+    A: FieldType,
+    B: FieldType,
+    C: FieldType,
+    D: FieldType,
+    E: FieldType,
+    F: FieldType,
+> ReadParts<'de, R> for (A, B, C, D, E, F)
+where
+    A::Of: Deserialize<'de, R>,
+    B::Of: Deserialize<'de, R>,
+    C::Of: Deserialize<'de, R>,
+    D::Of: Deserialize<'de, R>,
+    E::Of: Deserialize<'de, R>,
+    F::Of: Deserialize<'de, R>,
+{
+    fn read_parts(de: &mut Deserializer<R>, names: &[&str]) -> Result<(A, B, C, D, E, F)> {
+        match read_fields::<R, (A, B, C, D, (E, (F, ())))>(de, names) {
+            Ok(parts) => {
+                let (a, b, c, d, (e, (f, ()))) = parts;
+                Ok((a, b, c, d, e, f))
+            }
+            Err(e) => Err(e),
+        }
+    }
+}
+
+impl<
+    A: FieldType,
+    B: FieldType,
+    C: FieldType,
+    D: FieldType,
+    E: FieldType,
+    F: FieldType,
+    G: FieldType,
+> ReadableParts for (A, B, C, D, E, F, G) {
+    ghost use Rattle.std.specs.Prelude.{[], ◌∷◌};
+    ghost use Rattle.cbor_typed.specs.Structs.{IsStruct, field_or};
+
+    ghost reads = { λ names c r x. IsStruct {S = A × B × C × D × (E × (F × (G × Unit {0})))} names
+        (field_or (A.reads c) A.missing (λ p. p.0)
+        ∷ field_or (B.reads c) B.missing (λ p. p.1)
+        ∷ field_or (C.reads c) C.missing (λ p. p.2)
+        ∷ field_or (D.reads c) D.missing (λ p. p.3)
+        ∷ field_or (E.reads c) E.missing (λ p. p.4.0)
+        ∷ field_or (F.reads c) F.missing (λ p. p.4.1.0)
+        ∷ field_or (G.reads c) G.missing (λ p. p.4.1.1.0) ∷ [])
+        r (x.0, x.1, x.2, x.3, (x.4, (x.5, (x.6, tt)))) };
+}
+
+impl<
+    'de,
+    R: Read<'de>,
+    A: FieldType,
+    B: FieldType,
+    C: FieldType,
+    D: FieldType,
+    E: FieldType,
+    F: FieldType,
+    G: FieldType,
+> ReadParts<'de, R> for (A, B, C, D, E, F, G)
+where
+    A::Of: Deserialize<'de, R>,
+    B::Of: Deserialize<'de, R>,
+    C::Of: Deserialize<'de, R>,
+    D::Of: Deserialize<'de, R>,
+    E::Of: Deserialize<'de, R>,
+    F::Of: Deserialize<'de, R>,
+    G::Of: Deserialize<'de, R>,
+{
+    fn read_parts(de: &mut Deserializer<R>, names: &[&str]) -> Result<(A, B, C, D, E, F, G)> {
+        match read_fields::<R, (A, B, C, D, (E, (F, (G, ()))))>(de, names) {
+            Ok(parts) => {
+                let (a, b, c, d, (e, (f, (g, ())))) = parts;
+                Ok((a, b, c, d, e, f, g))
+            }
+            Err(e) => Err(e),
+        }
+    }
+}
+
+impl<
+    A: FieldType,
+    B: FieldType,
+    C: FieldType,
+    D: FieldType,
+    E: FieldType,
+    F: FieldType,
+    G: FieldType,
+    H: FieldType,
+> ReadableParts for (A, B, C, D, E, F, G, H) {
+    ghost use Rattle.std.specs.Prelude.{[], ◌∷◌};
+    ghost use Rattle.cbor_typed.specs.Structs.{IsStruct, field_or};
+
+    ghost reads = { λ names c r x. IsStruct {S = A × B × C × D × (E × F × G × H × Unit {0})} names
+        (field_or (A.reads c) A.missing (λ p. p.0)
+        ∷ field_or (B.reads c) B.missing (λ p. p.1)
+        ∷ field_or (C.reads c) C.missing (λ p. p.2)
+        ∷ field_or (D.reads c) D.missing (λ p. p.3)
+        ∷ field_or (E.reads c) E.missing (λ p. p.4.0)
+        ∷ field_or (F.reads c) F.missing (λ p. p.4.1)
+        ∷ field_or (G.reads c) G.missing (λ p. p.4.2)
+        ∷ field_or (H.reads c) H.missing (λ p. p.4.3) ∷ [])
+        r (x.0, x.1, x.2, x.3, (x.4, x.5, x.6, x.7, tt)) };
+}
+
+impl<
+    'de,
+    R: Read<'de>,
+    A: FieldType,
+    B: FieldType,
+    C: FieldType,
+    D: FieldType,
+    E: FieldType,
+    F: FieldType,
+    G: FieldType,
+    H: FieldType,
+> ReadParts<'de, R> for (A, B, C, D, E, F, G, H)
+where
+    A::Of: Deserialize<'de, R>,
+    B::Of: Deserialize<'de, R>,
+    C::Of: Deserialize<'de, R>,
+    D::Of: Deserialize<'de, R>,
+    E::Of: Deserialize<'de, R>,
+    F::Of: Deserialize<'de, R>,
+    G::Of: Deserialize<'de, R>,
+    H::Of: Deserialize<'de, R>,
+{
+    fn read_parts(de: &mut Deserializer<R>, names: &[&str]) -> Result<(A, B, C, D, E, F, G, H)> {
+        match read_fields::<R, (A, B, C, D, (E, F, G, H, ()))>(de, names) {
+            Ok(parts) => {
+                let (a, b, c, d, (e, f, g, h, ())) = parts;
+                Ok((a, b, c, d, e, f, g, h))
+            }
+            Err(e) => Err(e),
+        }
+    }
+}
+
+impl<
+    A: FieldType,
+    B: FieldType,
+    C: FieldType,
+    D: FieldType,
+    E: FieldType,
+    F: FieldType,
+    G: FieldType,
+    H: FieldType,
+    I: FieldType,
+> ReadableParts for (A, B, C, D, E, F, G, H, I) {
+    ghost use Rattle.std.specs.Prelude.{[], ◌∷◌};
+    ghost use Rattle.cbor_typed.specs.Structs.{IsStruct, field_or};
+
+    ghost reads = { λ names c r x. IsStruct {S = A × B × C × D × (E × F × G × H × (I × Unit {0}))} names
+        (field_or (A.reads c) A.missing (λ p. p.0)
+        ∷ field_or (B.reads c) B.missing (λ p. p.1)
+        ∷ field_or (C.reads c) C.missing (λ p. p.2)
+        ∷ field_or (D.reads c) D.missing (λ p. p.3)
+        ∷ field_or (E.reads c) E.missing (λ p. p.4.0)
+        ∷ field_or (F.reads c) F.missing (λ p. p.4.1)
+        ∷ field_or (G.reads c) G.missing (λ p. p.4.2)
+        ∷ field_or (H.reads c) H.missing (λ p. p.4.3)
+        ∷ field_or (I.reads c) I.missing (λ p. p.4.4.0) ∷ [])
+        r (x.0, x.1, x.2, x.3, (x.4, x.5, x.6, x.7, (x.8, tt))) };
+}
+
+impl<
+    'de,
+    R: Read<'de>,
+    A: FieldType,
+    B: FieldType,
+    C: FieldType,
+    D: FieldType,
+    E: FieldType,
+    F: FieldType,
+    G: FieldType,
+    H: FieldType,
+    I: FieldType,
+> ReadParts<'de, R> for (A, B, C, D, E, F, G, H, I)
+where
+    A::Of: Deserialize<'de, R>,
+    B::Of: Deserialize<'de, R>,
+    C::Of: Deserialize<'de, R>,
+    D::Of: Deserialize<'de, R>,
+    E::Of: Deserialize<'de, R>,
+    F::Of: Deserialize<'de, R>,
+    G::Of: Deserialize<'de, R>,
+    H::Of: Deserialize<'de, R>,
+    I::Of: Deserialize<'de, R>,
+{
+    fn read_parts(de: &mut Deserializer<R>, names: &[&str]) -> Result<(A, B, C, D, E, F, G, H, I)> {
+        match read_fields::<R, (A, B, C, D, (E, F, G, H, (I, ())))>(de, names) {
+            Ok(parts) => {
+                let (a, b, c, d, (e, f, g, h, (i, ()))) = parts;
+                Ok((a, b, c, d, e, f, g, h, i))
+            }
+            Err(e) => Err(e),
+        }
+    }
+}
+
+impl<
+    A: FieldType,
+    B: FieldType,
+    C: FieldType,
+    D: FieldType,
+    E: FieldType,
+    F: FieldType,
+    G: FieldType,
+    H: FieldType,
+    I: FieldType,
+    J: FieldType,
+> ReadableParts for (A, B, C, D, E, F, G, H, I, J) {
+    ghost use Rattle.std.specs.Prelude.{[], ◌∷◌};
+    ghost use Rattle.cbor_typed.specs.Structs.{IsStruct, field_or};
+
+    ghost reads = { λ names c r x. IsStruct {S = A × B × C × D × (E × F × G × H × (I × (J × Unit {0})))} names
+        (field_or (A.reads c) A.missing (λ p. p.0)
+        ∷ field_or (B.reads c) B.missing (λ p. p.1)
+        ∷ field_or (C.reads c) C.missing (λ p. p.2)
+        ∷ field_or (D.reads c) D.missing (λ p. p.3)
+        ∷ field_or (E.reads c) E.missing (λ p. p.4.0)
+        ∷ field_or (F.reads c) F.missing (λ p. p.4.1)
+        ∷ field_or (G.reads c) G.missing (λ p. p.4.2)
+        ∷ field_or (H.reads c) H.missing (λ p. p.4.3)
+        ∷ field_or (I.reads c) I.missing (λ p. p.4.4.0)
+        ∷ field_or (J.reads c) J.missing (λ p. p.4.4.1.0) ∷ [])
+        r (x.0, x.1, x.2, x.3, (x.4, x.5, x.6, x.7, (x.8, (x.9, tt)))) };
+}
+
+impl<
+    'de,
+    R: Read<'de>,
+    A: FieldType,
+    B: FieldType,
+    C: FieldType,
+    D: FieldType,
+    E: FieldType,
+    F: FieldType,
+    G: FieldType,
+    H: FieldType,
+    I: FieldType,
+    J: FieldType,
+> ReadParts<'de, R> for (A, B, C, D, E, F, G, H, I, J)
+where
+    A::Of: Deserialize<'de, R>,
+    B::Of: Deserialize<'de, R>,
+    C::Of: Deserialize<'de, R>,
+    D::Of: Deserialize<'de, R>,
+    E::Of: Deserialize<'de, R>,
+    F::Of: Deserialize<'de, R>,
+    G::Of: Deserialize<'de, R>,
+    H::Of: Deserialize<'de, R>,
+    I::Of: Deserialize<'de, R>,
+    J::Of: Deserialize<'de, R>,
+{
+    fn read_parts(
+        de: &mut Deserializer<R>,
+        names: &[&str],
+    ) -> Result<(A, B, C, D, E, F, G, H, I, J)> {
+        match read_fields::<R, (A, B, C, D, (E, F, G, H, (I, (J, ()))))>(de, names) {
+            Ok(parts) => {
+                let (a, b, c, d, (e, f, g, h, (i, (j, ())))) = parts;
+                Ok((a, b, c, d, e, f, g, h, i, j))
+            }
+            Err(e) => Err(e),
+        }
+    }
+}
+
+impl<
+    A: FieldType,
+    B: FieldType,
+    C: FieldType,
+    D: FieldType,
+    E: FieldType,
+    F: FieldType,
+    G: FieldType,
+    H: FieldType,
+    I: FieldType,
+    J: FieldType,
+    K: FieldType,
+> ReadableParts for (A, B, C, D, E, F, G, H, I, J, K) {
+    ghost use Rattle.std.specs.Prelude.{[], ◌∷◌};
+    ghost use Rattle.cbor_typed.specs.Structs.{IsStruct, field_or};
+
+    ghost reads = { λ names c r x. IsStruct {S = A × B × C × D × (E × F × G × H × (I × (J × (K × Unit {0}))))} names
+        (field_or (A.reads c) A.missing (λ p. p.0)
+        ∷ field_or (B.reads c) B.missing (λ p. p.1)
+        ∷ field_or (C.reads c) C.missing (λ p. p.2)
+        ∷ field_or (D.reads c) D.missing (λ p. p.3)
+        ∷ field_or (E.reads c) E.missing (λ p. p.4.0)
+        ∷ field_or (F.reads c) F.missing (λ p. p.4.1)
+        ∷ field_or (G.reads c) G.missing (λ p. p.4.2)
+        ∷ field_or (H.reads c) H.missing (λ p. p.4.3)
+        ∷ field_or (I.reads c) I.missing (λ p. p.4.4.0)
+        ∷ field_or (J.reads c) J.missing (λ p. p.4.4.1.0)
+        ∷ field_or (K.reads c) K.missing (λ p. p.4.4.1.1.0) ∷ [])
+        r (x.0, x.1, x.2, x.3, (x.4, x.5, x.6, x.7, (x.8, (x.9, (x.10, tt))))) };
+}
+
+impl<
+    'de,
+    R: Read<'de>,
+    A: FieldType,
+    B: FieldType,
+    C: FieldType,
+    D: FieldType,
+    E: FieldType,
+    F: FieldType,
+    G: FieldType,
+    H: FieldType,
+    I: FieldType,
+    J: FieldType,
+    K: FieldType,
+> ReadParts<'de, R> for (A, B, C, D, E, F, G, H, I, J, K)
+where
+    A::Of: Deserialize<'de, R>,
+    B::Of: Deserialize<'de, R>,
+    C::Of: Deserialize<'de, R>,
+    D::Of: Deserialize<'de, R>,
+    E::Of: Deserialize<'de, R>,
+    F::Of: Deserialize<'de, R>,
+    G::Of: Deserialize<'de, R>,
+    H::Of: Deserialize<'de, R>,
+    I::Of: Deserialize<'de, R>,
+    J::Of: Deserialize<'de, R>,
+    K::Of: Deserialize<'de, R>,
+{
+    fn read_parts(
+        de: &mut Deserializer<R>,
+        names: &[&str],
+    ) -> Result<(A, B, C, D, E, F, G, H, I, J, K)> {
+        match read_fields::<R, (A, B, C, D, (E, F, G, H, (I, (J, (K, ())))))>(de, names) {
+            Ok(parts) => {
+                let (a, b, c, d, (e, f, g, h, (i, (j, (k, ()))))) = parts;
+                Ok((a, b, c, d, e, f, g, h, i, j, k))
+            }
+            Err(e) => Err(e),
+        }
+    }
+}
+
+impl<
+    A: FieldType,
+    B: FieldType,
+    C: FieldType,
+    D: FieldType,
+    E: FieldType,
+    F: FieldType,
+    G: FieldType,
+    H: FieldType,
+    I: FieldType,
+    J: FieldType,
+    K: FieldType,
+    L: FieldType,
+> ReadableParts for (A, B, C, D, E, F, G, H, I, J, K, L) {
+    ghost use Rattle.std.specs.Prelude.{[], ◌∷◌};
+    ghost use Rattle.cbor_typed.specs.Structs.{IsStruct, field_or};
+
+    ghost reads = { λ names c r x. IsStruct {S = A × B × C × D × (E × F × G × H × (I × J × K × L × Unit {0}))} names
+        (field_or (A.reads c) A.missing (λ p. p.0)
+        ∷ field_or (B.reads c) B.missing (λ p. p.1)
+        ∷ field_or (C.reads c) C.missing (λ p. p.2)
+        ∷ field_or (D.reads c) D.missing (λ p. p.3)
+        ∷ field_or (E.reads c) E.missing (λ p. p.4.0)
+        ∷ field_or (F.reads c) F.missing (λ p. p.4.1)
+        ∷ field_or (G.reads c) G.missing (λ p. p.4.2)
+        ∷ field_or (H.reads c) H.missing (λ p. p.4.3)
+        ∷ field_or (I.reads c) I.missing (λ p. p.4.4.0)
+        ∷ field_or (J.reads c) J.missing (λ p. p.4.4.1)
+        ∷ field_or (K.reads c) K.missing (λ p. p.4.4.2)
+        ∷ field_or (L.reads c) L.missing (λ p. p.4.4.3) ∷ [])
+        r (x.0, x.1, x.2, x.3, (x.4, x.5, x.6, x.7, (x.8, x.9, x.10, x.11, tt))) };
+}
+
+impl<
+    'de,
+    R: Read<'de>,
+    A: FieldType,
+    B: FieldType,
+    C: FieldType,
+    D: FieldType,
+    E: FieldType,
+    F: FieldType,
+    G: FieldType,
+    H: FieldType,
+    I: FieldType,
+    J: FieldType,
+    K: FieldType,
+    L: FieldType,
+> ReadParts<'de, R> for (A, B, C, D, E, F, G, H, I, J, K, L)
+where
+    A::Of: Deserialize<'de, R>,
+    B::Of: Deserialize<'de, R>,
+    C::Of: Deserialize<'de, R>,
+    D::Of: Deserialize<'de, R>,
+    E::Of: Deserialize<'de, R>,
+    F::Of: Deserialize<'de, R>,
+    G::Of: Deserialize<'de, R>,
+    H::Of: Deserialize<'de, R>,
+    I::Of: Deserialize<'de, R>,
+    J::Of: Deserialize<'de, R>,
+    K::Of: Deserialize<'de, R>,
+    L::Of: Deserialize<'de, R>,
+{
+    fn read_parts(
+        de: &mut Deserializer<R>,
+        names: &[&str],
+    ) -> Result<(A, B, C, D, E, F, G, H, I, J, K, L)> {
+        match read_fields::<R, (A, B, C, D, (E, F, G, H, (I, J, K, L, ())))>(de, names) {
+            Ok(parts) => {
+                let (a, b, c, d, (e, f, g, h, (i, j, k, l, ()))) = parts;
+                Ok((a, b, c, d, e, f, g, h, i, j, k, l))
+            }
+            Err(e) => Err(e),
+        }
+    }
+}

@@ -1,0 +1,329 @@
+//! Lists of variants, of which enums are read.
+
+ghost use Rattle.std.specs.Prelude.{◌≡◌};
+ghost use Rattle.cbor_collections.specs.Accesses.{TakesPart};
+ghost use Rattle.cbor_described.specs.OneOfs.{TakesItems};
+ghost use Rattle.cbor_collections.specs.Enums.{IsEnum};
+ghost use Rattle.cbor_scalars.specs.Identifiers.{texts};
+ghost use Rattle.cbor_scalars.specs.Takes.{TakesItem, context, formats_of};
+ghost use Rattle.cbor_collections.specs.Variants.{TakesContent};
+ghost use Rattle.cbor_model.specs.Readable.{PassesTags};
+
+use crate::parts::{ReadParts, ReadableParts};
+use cbor_collections::array::{end_array, more_items};
+use cbor_collections::variant::{Form, no_part, parts, variant_head};
+use cbor_de::Remaining;
+use cbor_io::error::{Error, Result};
+use cbor_parts::{FieldNames, Newtype, Struct, Tuple};
+use cbor_typed::{Deserialize, Deserializer, Read, Readable};
+
+// ---- a variant
+
+/// A variant: `()` of no part, [`Newtype`], [`Tuple`] or [`Struct`].
+pub trait Variant: Sized + Drop {
+    ghost use Rattle.cbor_model.specs.Readable.{Context};
+    ghost use Rattle.cbor_collections.specs.Enums.{Content};
+
+    // What a variant's content means.
+    ghost means: { Context → Content → Self → Type 0 };
+}
+
+/// A variant that is read from a source.
+pub trait ReadVariant<'de, R: Read<'de>>: Variant {
+    /// Reads the content of a variant, behind its identifier. It may leave fewer levels.
+    fn read_content(de: &mut Deserializer<R>, form: Form) -> Result<Self>
+        ensures read { TakesContent R.refusals (formats_of de.old.items.formats)
+            (Self.means (context de.old.items.formats R.lends)) de.old.items.levels form
+            (R.source de.old.items.source) (R.source de.new.items.source) result }
+        ensures formats { de.new.items.formats ≡ de.old.items.formats };
+}
+
+impl Variant for () {
+    ghost use Rattle.cbor_collections.specs.Enums.{IsNothing};
+
+    ghost means = { λ c content u. IsNothing content u };
+}
+
+impl<'de, R: Read<'de>> ReadVariant<'de, R> for () {
+    fn read_content(de: &mut Deserializer<R>, form: Form) -> Result<()> {
+        no_part(&mut de.items, form)
+    }
+}
+
+impl<T: Readable> Variant for Newtype<T> {
+    ghost use Rattle.cbor_collections.specs.Enums.{IsPart};
+
+    ghost means = { λ c content y. IsPart (T.reads c) content y.0 };
+}
+
+impl<'de, R: Read<'de>, T: Deserialize<'de, R>> ReadVariant<'de, R> for Newtype<T> {
+    fn read_content(de: &mut Deserializer<R>, form: Form) -> Result<Newtype<T>> {
+        match de.one_part::<T>(form, "invalid type: unit variant, expected newtype variant") {
+            Ok(part) => Ok(Newtype(part)),
+            Err(e) => Err(e),
+        }
+    }
+}
+
+impl<F: ReadableTuple> Variant for Tuple<F> {
+    ghost use Rattle.cbor_collections.specs.Enums.{AreParts};
+
+    ghost means = { λ c content y. AreParts (F.parts c) content y.0 };
+}
+
+impl<'de, R: Read<'de>, F: ReadTuple<'de, R>> ReadVariant<'de, R> for Tuple<F> {
+    fn read_content(de: &mut Deserializer<R>, form: Form) -> Result<Tuple<F>> {
+        let remaining = parts(&mut de.items, form)?;
+        match F::read_tuple(de, remaining) {
+            Ok(parts) => Ok(Tuple(parts)),
+            Err(e) => Err(e),
+        }
+    }
+}
+
+// The named fields of a variant, as a type that is read.
+#[derive(Drop)]
+struct Named<N: FieldNames>(N::Parts);
+
+impl<N: FieldNames> Readable for Named<N>
+where
+    N::Parts: ReadableParts,
+{
+    ghost reads = { λ c r y. N.Parts.reads N.names c r y.0 };
+}
+
+impl<'de, R: Read<'de>, N: FieldNames> Deserialize<'de, R> for Named<N>
+where
+    N::Parts: ReadParts<'de, R>,
+{
+    fn deserialize(de: &mut Deserializer<R>) -> Result<Named<N>> {
+        match <N::Parts as ReadParts<'de, R>>::read_parts(de, N::names()) {
+            Ok(fields) => Ok(Named(fields)),
+            Err(e) => Err(e),
+        }
+    }
+}
+
+impl<N: FieldNames> Variant for Struct<N>
+where
+    N::Parts: ReadableParts,
+{
+    ghost use Rattle.cbor_collections.specs.Enums.{IsPart};
+
+    ghost means = { λ c content y. IsPart (N.Parts.reads N.names c) content y.0 };
+}
+
+impl<'de, R: Read<'de>, N: FieldNames> ReadVariant<'de, R> for Struct<N>
+where
+    N::Parts: ReadParts<'de, R>,
+{
+    fn read_content(de: &mut Deserializer<R>, form: Form) -> Result<Struct<N>> {
+        match de.one_part::<Named<N>>(form, "invalid type: unit variant, expected struct variant") {
+            Ok(named) => Ok(Struct(named.0)),
+            Err(e) => Err(e),
+        }
+    }
+}
+
+// ---- the parts of a variant of several
+
+/// The parts of a variant: a tuple, as `(u64, u8)`.
+pub trait ReadableTuple: Sized + Drop {
+    ghost use Rattle.cbor_model.specs.Raw.{Raws};
+    ghost use Rattle.cbor_model.specs.Readable.{Context};
+
+    // As what the items are read.
+    ghost parts: { Context → Raws → Self → Type 0 };
+}
+
+/// The parts of a variant, which are read from a source.
+pub trait ReadTuple<'de, R: Read<'de>>: ReadableTuple {
+    /// Reads the items of an array that remain, of which none was read, and its end.
+    fn read_tuple(de: &mut Deserializer<R>, remaining: Remaining) -> Result<Self>
+        ensures read { TakesItems R.refusals (formats_of de.old.items.formats)
+            (Self.parts (context de.old.items.formats R.lends)) de.old.items.levels remaining
+            (R.source de.old.items.source) (R.source de.new.items.source) result }
+        ensures formats { de.new.items.formats ≡ de.old.items.formats };
+}
+
+// The parts of a variant: `()`, or a part and the list of the others, as `(u64, (u8, ()))`.
+pub(crate) trait ItemList: Sized + Drop {
+    ghost use Rattle.cbor_model.specs.Raw.{Raws};
+    ghost use Rattle.cbor_model.specs.Readable.{Context};
+
+    // As what the items are read.
+    ghost parts: { Context → Raws → Self → Type 0 };
+}
+
+// The parts of a variant, which are read from a source.
+pub(crate) trait ReadItems<'de, R: Read<'de>>: ItemList {
+    // Reads the items of an array that remain, and its end. So many were read before them, of so
+    // many that are expected.
+    fn read_items(
+        de: &mut Deserializer<R>,
+        remaining: Remaining,
+        before: usize,
+        expected: usize,
+    ) -> Result<Self>
+        ensures read { TakesItems R.refusals (formats_of de.old.items.formats)
+            (Self.parts (context de.old.items.formats R.lends)) de.old.items.levels remaining
+            (R.source de.old.items.source) (R.source de.new.items.source) result }
+        ensures formats { de.new.items.formats ≡ de.old.items.formats };
+}
+
+impl ItemList for () {
+    ghost use Rattle.cbor_collections.specs.Enums.{no_part};
+
+    ghost parts = { λ c. no_part };
+}
+
+impl<'de, R: Read<'de>> ReadItems<'de, R> for () {
+    fn read_items(
+        de: &mut Deserializer<R>,
+        remaining: Remaining,
+        _before: usize,
+        _expected: usize,
+    ) -> Result<()> {
+        end_array(&mut de.items, remaining)
+    }
+}
+
+impl<A: Readable, F: ItemList> ItemList for (A, F) {
+    ghost use Rattle.cbor_collections.specs.Enums.{part_then};
+
+    ghost parts = { λ c. part_then (A.reads c) (F.parts c) };
+}
+
+impl<'de, R: Read<'de>, A: Deserialize<'de, R>, F: ReadItems<'de, R>> ReadItems<'de, R> for (A, F) {
+    fn read_items(
+        de: &mut Deserializer<R>,
+        mut remaining: Remaining,
+        before: usize,
+        expected: usize,
+    ) -> Result<(A, F)> {
+        let first = next_part::<R, A>(de, &mut remaining, before, expected)?;
+        let others = F::read_items(de, remaining, before.saturating_add(1), expected)?;
+        Ok((first, others))
+    }
+}
+
+// ---- the variants
+
+// The first variant of an enum, or one of the others.
+#[derive(Drop)]
+pub(crate) enum OneOf<V, Vs> {
+    This(V),
+    Other(Vs),
+}
+
+// No variant, which ends a list of variants.
+#[derive(Drop)]
+pub(crate) enum Never {}
+
+// The variants of an enum: `Never`, or `OneOf` a variant and the list of the others.
+pub(crate) trait VariantList: Sized + Drop {
+    ghost use Rattle.std.specs.Prelude.{ℕ};
+    ghost use Rattle.cbor_model.specs.Readable.{Context};
+    ghost use Rattle.cbor_collections.specs.Enums.{Content};
+
+    // What the content of the variant in this place means.
+    ghost means: { Context → ℕ → Content → Self → Type 0 };
+}
+
+// The variants of an enum, which are read from a source.
+pub(crate) trait ReadVariants<'de, R: Read<'de>>: VariantList {
+    // Reads the content of the i-th variant. It may leave fewer levels.
+    fn read_variant(de: &mut Deserializer<R>, form: Form, i: usize) -> Result<Self>
+        ensures read { TakesContent R.refusals (formats_of de.old.items.formats)
+            (Self.means (context de.old.items.formats R.lends) i) de.old.items.levels form
+            (R.source de.old.items.source) (R.source de.new.items.source) result }
+        ensures formats { de.new.items.formats ≡ de.old.items.formats };
+}
+
+impl VariantList for Never {
+    ghost means = { λ c i content x. ⊥ };
+}
+
+impl<'de, R: Read<'de>> ReadVariants<'de, R> for Never {
+    fn read_variant(de: &mut Deserializer<R>, _form: Form, _i: usize) -> Result<Never> {
+        Err(Error::message(de.items.alloc, "unknown variant"))
+    }
+}
+
+impl<V: Variant, Vs: VariantList> VariantList for OneOf<V, Vs> {
+    ghost use Rattle.cbor_described.specs.OneOfs.{either};
+
+    ghost means = { λ c. either (V.means c) (Vs.means c) };
+}
+
+impl<'de, R: Read<'de>, V: ReadVariant<'de, R>, Vs: ReadVariants<'de, R>> ReadVariants<'de, R>
+    for OneOf<V, Vs> {
+    fn read_variant(de: &mut Deserializer<R>, form: Form, i: usize) -> Result<OneOf<V, Vs>> {
+        if i != 0 {
+            return match Vs::read_variant(de, form, i - 1) {
+                Ok(other) => Ok(OneOf::Other(other)),
+                Err(e) => Err(e),
+            };
+        }
+        match V::read_content(de, form) {
+            Ok(this) => Ok(OneOf::This(this)),
+            Err(e) => Err(e),
+        }
+    }
+}
+
+// Reads the next item of an array of which so much remains.
+fn next_part<'de, R: Read<'de>, T: Deserialize<'de, R>>(
+    de: &mut Deserializer<R>,
+    remaining: &mut Remaining,
+    before: usize,
+    expected: usize,
+) -> Result<T>
+    ensures read { TakesPart R.refusals (formats_of de.old.items.formats)
+        (T.reads (context de.old.items.formats R.lends))
+        de.old.items.levels remaining.old remaining.new
+        (R.source de.old.items.source) (R.source de.new.items.source) result }
+    ensures levels { de.new.items.levels ≡ de.old.items.levels }
+    ensures formats { de.new.items.formats ≡ de.old.items.formats }
+{
+    match more_items(&mut de.items, remaining) {
+        Ok(true) => T::deserialize(de),
+        Ok(false) => Err(de.invalid_length(before, expected)),
+        Err(e) => Err(e),
+    }
+}
+
+// Reads an enum of these variants, by their names or their numbers.
+pub(crate) fn read_variants<'de, R: Read<'de>, E: ReadVariants<'de, R>>(
+    de: &mut Deserializer<R>,
+    names: &[&str],
+) -> Result<E>
+    ensures read { TakesItem R.refusals (formats_of de.old.items.formats)
+        (PassesTags (IsEnum (formats_of de.old.items.formats) (texts names.now)
+        (E.means (context de.old.items.formats R.lends))))
+        de.old.items.levels (R.source de.old.items.source)
+        (R.source de.new.items.source) result }
+    ensures levels { de.new.items.levels ≡ de.old.items.levels }
+    ensures formats { de.new.items.formats ≡ de.old.items.formats }
+{
+    let outer = de.items.levels;
+    let read = variants_within::<R, E>(de, names);
+    de.items.levels = outer;
+    read
+}
+
+// The same, which leaves any number of levels.
+fn variants_within<'de, R: Read<'de>, E: ReadVariants<'de, R>>(
+    de: &mut Deserializer<R>,
+    names: &[&str],
+) -> Result<E>
+    ensures read { TakesItem R.refusals (formats_of de.old.items.formats)
+        (PassesTags (IsEnum (formats_of de.old.items.formats) (texts names.now)
+        (E.means (context de.old.items.formats R.lends))))
+        de.old.items.levels (R.source de.old.items.source)
+        (R.source de.new.items.source) result }
+    ensures formats { de.new.items.formats ≡ de.old.items.formats }
+{
+    let (index, form) = variant_head(&mut de.items, names)?;
+    E::read_variant(de, form, index)
+}

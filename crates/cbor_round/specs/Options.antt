@@ -1,0 +1,60 @@
+-- What may be absent is read back, unless what is there is written as null.
+use Rattle.std.proofs.Common.{◌≡◌, ◌≢◌, Bool, true, false, pos, negsuc, Option, Some, None, refl, sym}
+use Rattle.cbor_model.specs.Document.{Doc, null, bool, integer, float, bytes, text, sequence, mapping, structure, unit_variant, newtype_variant, tuple_variant, struct_variant, tagged, raw_of}
+use Rattle.cbor_model.specs.Formats.{all_formats}
+use Rattle.cbor_model.specs.Raw as raw
+use Rattle.cbor_model.specs.Raw.{Raw, null_item}
+use Rattle.cbor_model.specs.Readable.{Context, IsOptional}
+use Rattle.cbor_read.specs.Source.{Lends}
+use Rattle.cbor_scalars.specs.Takes.{lending}
+use Rattle.cbor_ser.specs.Documents.{option_document}
+use Rattle.cbor_round.specs.ReadBack.{IsReadBack}
+
+-- null alone is written as null
+null_alone : (d : Doc) (p g : Bool) → raw_of d p g ≡ raw.simple null_item → d ≡ null
+unfolding raw_of
+null_alone null p g e = refl
+null_alone (bool true) p g e = absurd cc
+null_alone (bool false) p g e = absurd cc
+null_alone (integer (pos n)) p g e = absurd cc
+null_alone (integer (negsuc n)) p g e = absurd cc
+null_alone (float w bits) p g e = absurd cc
+null_alone (bytes b) p g e = absurd cc
+null_alone (text b) p g e = absurd cc
+null_alone (sequence l ds) p g e = absurd cc
+null_alone (mapping l ps) p g e = absurd cc
+null_alone (structure fs) p g e = absurd cc
+null_alone (unit_variant i n) false g e = absurd cc
+null_alone (unit_variant i n) true g e = absurd cc
+null_alone (newtype_variant i n d) p false e = absurd cc
+null_alone (newtype_variant i n d) p true e = absurd cc
+null_alone (tuple_variant i n ds) p false e = absurd cc
+null_alone (tuple_variant i n ds) p true e = absurd cc
+null_alone (struct_variant i n fs) p false e = absurd cc
+null_alone (struct_variant i n fs) p true e = absurd cc
+null_alone (tagged n d) p g e = absurd cc
+
+-- what is there fits, and isn't written as null
+abbrev pub IsAbsentOrFits : {A : Type 0} → (A → Doc) → (A → Type 0) → Option A → Type 0
+IsAbsentOrFits document fits None = Unit {0}
+IsAbsentOrFits document fits (Some x) = (document x ≢ null) × fits x
+
+module _ {A : Type 0} {document : A → Doc} {reads : Context → Raw → A → Type 0} {fits : A → Type 0} (law : IsReadBack document reads fits) where
+  option_itself : (o : Option A) → IsAbsentOrFits document fits o → (l : Lends) (p g : Bool)
+      → IsOptional (reads (lending all_formats l)) (raw_of (option_document document o) p g) o
+  unfolding raw_of
+  option_itself None fit l p g = refl
+  option_itself (Some x) fit l p g =
+      ((λ e. fit.0 (null_alone (document x) p g e)), law.itself x fit.1 l p g)
+
+  option_alone : (o q : Option A) → IsAbsentOrFits document fits o → (l : Lends) (p g : Bool)
+      → IsOptional (reads (lending all_formats l)) (raw_of (option_document document o) p g) q
+      → option_document document q ≡ option_document document o
+  unfolding raw_of
+  option_alone None None fit l p g h = refl
+  option_alone None (Some y) fit l p g h = absurd (h.0 refl)
+  option_alone (Some x) None fit l p g h = sym (null_alone (document x) p g h)
+  option_alone (Some x) (Some y) fit l p g h = law.alone x y fit.1 l p g h.1
+
+  pub option_back : IsReadBack (option_document document) (λ c. IsOptional (reads c)) (IsAbsentOrFits document fits)
+  option_back = record { itself = option_itself; alone = option_alone }

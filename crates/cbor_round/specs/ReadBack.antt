@@ -1,0 +1,56 @@
+-- What is written is read back.
+use Rattle.std.proofs.Common.{◌≡◌, ◌≤◌, ◌∙◌, Bool, sym, subst}
+use Rattle.std.specs.Prelude.{◌↔◌}
+use Rattle.cbor_model.specs.Acceptable.{max_depth}
+use Rattle.cbor_model.specs.Document.{Doc, raw_of, document_bytes, IsStorableDocument}
+use Rattle.cbor_model.specs.Document.{IsDocumentInRange}
+use Rattle.cbor_model.specs.Formats.{all_formats}
+use Rattle.cbor_model.specs.Raw.{Raw, depth}
+use Rattle.cbor_model.specs.Readable.{Context, SpellsAs}
+use Rattle.cbor_read.specs.Source.{Lends}
+use Rattle.cbor_scalars.specs.Takes.{lending}
+
+-- The item of a value's document is read as that value, and as no value of another document: under
+-- each of the writer's settings, in all formats, whatever the source lends.
+pub record IsReadBack {A : Type 0} (document : A → Doc) (reads : Context → Raw → A → Type 0) (fits : A → Type 0) : Type 0 where
+  pub itself : (x : A) → fits x → (l : Lends) (packed legacy : Bool)
+      → reads (lending all_formats l) (raw_of (document x) packed legacy) x
+  pub alone : (x y : A) → fits x → (l : Lends) (packed legacy : Bool)
+      → reads (lending all_formats l) (raw_of (document x) packed legacy) y
+      → document y ≡ document x
+
+-- The same of the bytes that are written of a value. They are read where they nest no deeper than
+-- what is read.
+pub record IsWrittenReadBack {A : Type 0} (document : A → Doc) (reads : Context → Raw → A → Type 0) (fits : A → Type 0) : Type 0 where
+  pub itself : (x : A) → fits x → (l : Lends) (packed legacy : Bool)
+      → IsStorableDocument (document x) → IsDocumentInRange (document x)
+      → depth (raw_of (document x) packed legacy) ≤ max_depth
+      → SpellsAs all_formats (reads (lending all_formats l)) (document_bytes (document x) packed legacy) x
+  pub alone : (x y : A) → fits x → (l : Lends) (packed legacy : Bool)
+      → IsStorableDocument (document x) → IsDocumentInRange (document x)
+      → SpellsAs all_formats (reads (lending all_formats l)) (document_bytes (document x) packed legacy) y
+      → document y ≡ document x
+
+-- What is written and read as a part of it is read back as the part is.
+pub by_part : {A B : Type 0} (part : B → A) {document : A → Doc} {reads : Context → Raw → A → Type 0} {fits : A → Type 0}
+    → IsReadBack document reads fits
+    → IsReadBack (λ x. document (part x)) (λ c r x. reads c r (part x)) (λ x. fits (part x))
+by_part part law = record {
+  itself = λ x fit l p g. law.itself (part x) fit l p g;
+  alone = λ x y fit l p g h. law.alone (part x) (part y) fit l p g h;
+}
+
+-- What is written and read as something that is read back is so too.
+pub as_alike : {A : Type 0} {document document' : A → Doc} {reads reads' : Context → Raw → A → Type 0} {fits : A → Type 0}
+    → ((x : A) → document x ≡ document' x)
+    → ((c : Context) (r : Raw) (x : A) → reads c r x ↔ reads' c r x)
+    → IsReadBack document' reads' fits → IsReadBack document reads fits
+as_alike {document = document} {reads' = reads'} same alike law = record {
+  itself = λ x fit l p g.
+      let c = lending all_formats l in
+      (alike c (raw_of (document x) p g) x).1 (subst (λ (d : Doc). reads' c (raw_of d p g) x) (sym (same x)) (law.itself x fit l p g));
+  alone = λ x y fit l p g h.
+      let c = lending all_formats l in
+      let told = (alike c (raw_of (document x) p g) y).0 h in
+      same y ∙ law.alone x y fit l p g (subst (λ (d : Doc). reads' c (raw_of d p g) y) (same x) told) ∙ sym (same x);
+}

@@ -1,0 +1,72 @@
+-- What is read back is so within a tag, and without one unless it has a tag of its own.
+use Rattle.std.proofs.Common.{◌≡◌, ℕ, Bool, true, false, pos, negsuc, Option, Some, None, refl, ap₂}
+use Rattle.std.specs.Prelude.{◌↔◌}
+use Rattle.cbor_model.specs.Document.{Doc, null, bool, integer, float, bytes, text, sequence, mapping, structure, unit_variant, newtype_variant, tuple_variant, struct_variant, tagged, raw_of}
+use Rattle.cbor_model.specs.Formats.{all_formats}
+use Rattle.cbor_model.specs.Raw.{Raw}
+use Rattle.cbor_model.specs.Readable.{Context}
+use Rattle.cbor_read.specs.Source.{Lends}
+use Rattle.cbor_scalars.specs.Takes.{lending}
+use Rattle.cbor_tags.specs.Tagged.{tagged_document, IsTagged}
+use Rattle.cbor_round.specs.ReadBack.{IsReadBack}
+
+-- without a tag of its own
+abbrev pub HasNoTag : Doc → Type 0
+HasNoTag (tagged n d) = ⊥
+HasNoTag d = Unit {0}
+
+-- a value that is within no tag has none of its own
+abbrev pub IsToldApart : Option ℕ → Doc → Type 0
+IsToldApart (Some n) d = Unit {0}
+IsToldApart None d = HasNoTag d
+
+module _ {A : Type 0} (reads : Raw → A → Type 0) (tag : Option ℕ) (x : A) where
+  no_tag : (d : Doc) (p g : Bool) → HasNoTag d
+      → IsTagged reads (raw_of d p g) tag x ↔ ((tag ≡ None) × reads (raw_of d p g) x)
+  unfolding raw_of
+  no_tag null p g h = ((λ is. is), (λ is. is))
+  no_tag (bool true) p g h = ((λ is. is), (λ is. is))
+  no_tag (bool false) p g h = ((λ is. is), (λ is. is))
+  no_tag (integer (pos n)) p g h = ((λ is. is), (λ is. is))
+  no_tag (integer (negsuc n)) p g h = ((λ is. is), (λ is. is))
+  no_tag (float w bits) p g h = ((λ is. is), (λ is. is))
+  no_tag (bytes b) p g h = ((λ is. is), (λ is. is))
+  no_tag (text b) p g h = ((λ is. is), (λ is. is))
+  no_tag (sequence l ds) p g h = ((λ is. is), (λ is. is))
+  no_tag (mapping l ps) p g h = ((λ is. is), (λ is. is))
+  no_tag (structure fs) p g h = ((λ is. is), (λ is. is))
+  no_tag (unit_variant i n) false g h = ((λ is. is), (λ is. is))
+  no_tag (unit_variant i n) true g h = ((λ is. is), (λ is. is))
+  no_tag (newtype_variant i n d) p false h = ((λ is. is), (λ is. is))
+  no_tag (newtype_variant i n d) p true h = ((λ is. is), (λ is. is))
+  no_tag (tuple_variant i n ds) p false h = ((λ is. is), (λ is. is))
+  no_tag (tuple_variant i n ds) p true h = ((λ is. is), (λ is. is))
+  no_tag (struct_variant i n fs) p false h = ((λ is. is), (λ is. is))
+  no_tag (struct_variant i n fs) p true h = ((λ is. is), (λ is. is))
+  no_tag (tagged n d) p g h = absurd h
+
+module _ {A : Type 0} {document : A → Doc} {reads : Context → Raw → A → Type 0} {fits : A → Type 0} (law : IsReadBack document reads fits) where
+  tagged_itself : (tag : Option ℕ) (x : A) → IsToldApart tag (document x) → fits x → (l : Lends) (p g : Bool)
+      → IsTagged (reads (lending all_formats l)) (raw_of (tagged_document tag (document x)) p g) tag x
+  unfolding raw_of
+  tagged_itself (Some n) x apart fit l p g = (refl, law.itself x fit l p g)
+  tagged_itself None x apart fit l p g =
+      (no_tag (reads (lending all_formats l)) None x (document x) p g apart).1 (refl, law.itself x fit l p g)
+
+  tagged_alone : (tag other : Option ℕ) (x y : A) → IsToldApart tag (document x) → fits x → (l : Lends) (p g : Bool)
+      → IsTagged (reads (lending all_formats l)) (raw_of (tagged_document tag (document x)) p g) other y
+      → tagged_document other (document y) ≡ tagged_document tag (document x)
+  unfolding raw_of
+  tagged_alone (Some n) other x y apart fit l p g h = ap₂ tagged_document h.0 (law.alone x y fit l p g h.1)
+  tagged_alone None other x y apart fit l p g h =
+      let is = (no_tag (reads (lending all_formats l)) other y (document x) p g apart).0 h in
+      ap₂ tagged_document is.0 (law.alone x y fit l p g is.1)
+
+  pub tagged_back : {T : Type 0} {tag : T → Option ℕ} {inner : T → A}
+      → IsReadBack (λ t. tagged_document (tag t) (document (inner t)))
+      (λ c r t. IsTagged (reads c) r (tag t) (inner t))
+      (λ t. IsToldApart (tag t) (document (inner t)) × fits (inner t))
+  tagged_back {tag = tag} {inner = inner} = record {
+    itself = λ t fit l p g. tagged_itself (tag t) (inner t) fit.0 fit.1 l p g;
+    alone = λ t u fit l p g h. tagged_alone (tag t) (tag u) (inner t) (inner u) fit.0 fit.1 l p g h;
+  }

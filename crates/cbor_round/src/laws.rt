@@ -1,0 +1,62 @@
+//! The law over what is written, and over the calls.
+
+ghost use Rattle.std.specs.Prelude.{◌≡◌, ◌≤◌, ◌<◌, ◌^◌, false, length, IfOk, IfErr};
+ghost use Rattle.cbor_model.specs.Acceptable.{max_depth};
+ghost use Rattle.cbor_model.specs.Document.{raw_of, IsStorableDocument};
+ghost use Rattle.cbor_model.specs.Raw.{AreBytes, depth};
+ghost use Rattle.cbor_de.specs.Gives.{IsMemoryOrFault};
+ghost use Rattle.cbor_round.specs.ReadBack.{IsWrittenReadBack};
+
+use crate::round_trip::RoundTrip;
+use cbor_io::error::Result;
+use cbor_read::IoRead;
+use cbor_ser::to_vec;
+use cbor_typed::{Deserialize, from_reader};
+use std::alloc::Global;
+use std::io::Cursor;
+
+/// The bytes of a value's document are read as that value, where its item nests at most 127 levels;
+/// and as no value of another document. It holds under each setting of the writer, and for each
+/// source.
+///
+/// A caller gives it what `to_vec` and `to_vec_packed` say of the document (`storable` and
+/// `in_range`), and gets what the clauses `found` and `accepted` of the four `from_*` are about.
+pub fn written_reads_back_as<T: RoundTrip>()
+    ensures { IsWrittenReadBack T.document T.reads T.fits }
+{}
+
+/// Writes a value, and reads it from its bytes again: a value of the same document, if the value
+/// keeps what the law asks of it (`fits`).
+///
+/// It refuses what [`to_vec`] refuses, an integer outside `-2^64..=2^64-1` at any depth; what is
+/// nested deeper than the 127 levels that are read; and it answers `OutOfMemory` where an
+/// allocation fails. Nothing else is refused.
+///
+/// ```rust
+/// let again: u32 = write_and_read(alloc, &500)?;
+/// assert_eq!(rt; again, 500);
+/// ```
+pub fn write_and_read<'de, T: RoundTrip + Deserialize<'de, IoRead<Cursor<Vec<u8>>>>>(
+    alloc: Global,
+    value: &T,
+) -> Result<T>
+    ensures same { T.fits value.now
+        → IfOk result (λ again. T.document again ≡ T.document value.now) }
+    // It is answered, unless memory runs out. (A reader over memory reports no fault, but its
+    // contract doesn't say so.)
+    ensures answered { T.fits value.now → IsStorableDocument (T.document value.now)
+        → depth (raw_of (T.document value.now) false false) ≤ max_depth
+        → IfErr result IsMemoryOrFault }
+{
+    let bytes = to_vec(alloc, value)?;
+    are_bytes(&bytes);
+    from_reader(alloc, Cursor::new(bytes))
+}
+
+// Tells a proof that what a vector holds is below 256, and fewer than 2^64.
+fn are_bytes(bytes: &[u8])
+    ensures bytes { AreBytes bytes.now }
+    ensures short { length bytes.now < 2 ^ 64 }
+{
+    let _ = bytes.len();
+}

@@ -1,0 +1,19 @@
+//! The law that what is written is read back.
+//!
+//! `cbor_ser` says what a type is written as, and `cbor_typed` as what it reads items; they don't
+//! know each other. A type whose values come back is [`RoundTrip`], and [`written_reads_back_as`]
+//! gives a caller the law.
+//!
+//! The crate names the definitions of `cbor_model` and its facts, and the types and traits of the
+//! crates below; it has no code but [`write_and_read`]. Others rely on `specs/ReadBack.antt`, which
+//! says what the law is, and on the laws of types in `specs/`, by which a type's own law is proved.
+#![tactic(auto)]
+
+mod laws;
+mod round_trip;
+#[cfg(test)]
+mod tests;
+mod types;
+
+pub use laws::{write_and_read, written_reads_back_as};
+pub use round_trip::{RoundTrip, RoundTripKey};

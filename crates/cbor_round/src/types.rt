@@ -1,0 +1,379 @@
+//! The types of the standard library, byte strings, floats and values.
+
+use crate::round_trip::{RoundTrip, RoundTripKey};
+use cbor_bytes::{ByteArray, ByteBuf};
+use cbor_tags::Tagged;
+use cbor_value::{Float, Value};
+use std::collections::BTreeMap;
+
+impl RoundTrip for bool {
+    ghost use Rattle.cbor_round.specs.Scalars.{bool_back};
+
+    ghost fits = { λ b. Unit {0} };
+
+    ghost back = { bool_back };
+}
+
+impl RoundTrip for () {
+    ghost use Rattle.cbor_round.specs.Scalars.{unit_back};
+
+    ghost fits = { λ u. Unit {0} };
+
+    ghost back = { unit_back };
+}
+
+impl RoundTrip for u8 {
+    ghost use Rattle.std.specs.Prelude.{◌≤◌, ◌-◌, ◌^◌};
+    ghost use Rattle.cbor_round.specs.Scalars.{from_zero_back};
+
+    ghost fits = { λ n. n ≤ 2 ^ 8 - 1 };
+
+    ghost back = { from_zero_back (2 ^ 8 - 1) };
+}
+
+impl RoundTrip for u16 {
+    ghost use Rattle.std.specs.Prelude.{◌≤◌, ◌-◌, ◌^◌};
+    ghost use Rattle.cbor_round.specs.Scalars.{from_zero_back};
+
+    ghost fits = { λ n. n ≤ 2 ^ 16 - 1 };
+
+    ghost back = { from_zero_back (2 ^ 16 - 1) };
+}
+
+impl RoundTrip for u32 {
+    ghost use Rattle.std.specs.Prelude.{◌≤◌, ◌-◌, ◌^◌};
+    ghost use Rattle.cbor_round.specs.Scalars.{from_zero_back};
+
+    ghost fits = { λ n. n ≤ 2 ^ 32 - 1 };
+
+    ghost back = { from_zero_back (2 ^ 32 - 1) };
+}
+
+impl RoundTrip for u64 {
+    ghost use Rattle.std.specs.Prelude.{◌≤◌, ◌-◌, ◌^◌};
+    ghost use Rattle.cbor_round.specs.Scalars.{from_zero_back};
+
+    ghost fits = { λ n. n ≤ 2 ^ 64 - 1 };
+
+    ghost back = { from_zero_back (2 ^ 64 - 1) };
+}
+
+impl RoundTrip for u128 {
+    ghost use Rattle.std.specs.Prelude.{◌≤◌, ◌-◌, ◌^◌};
+    ghost use Rattle.cbor_round.specs.Scalars.{from_zero_back};
+
+    ghost fits = { λ n. n ≤ 2 ^ 128 - 1 };
+
+    ghost back = { from_zero_back (2 ^ 128 - 1) };
+}
+
+impl RoundTrip for usize {
+    ghost use Rattle.std.specs.Prelude.{◌≤◌, ◌-◌, ◌^◌};
+    ghost use Rattle.cbor_round.specs.Scalars.{from_zero_back};
+
+    ghost fits = { λ n. n ≤ 2 ^ 64 - 1 };
+
+    ghost back = { from_zero_back (2 ^ 64 - 1) };
+}
+
+impl RoundTrip for i8 {
+    ghost use Rattle.std.specs.Prelude.{◌-◌, ◌^◌};
+    ghost use Rattle.cbor_model.specs.Readable.{IsWithin};
+    ghost use Rattle.cbor_round.specs.Scalars.{signed_back};
+
+    ghost fits = { IsWithin (2 ^ 7 - 1) };
+
+    ghost back = { signed_back (2 ^ 7 - 1) };
+}
+
+impl RoundTrip for i16 {
+    ghost use Rattle.std.specs.Prelude.{◌-◌, ◌^◌};
+    ghost use Rattle.cbor_model.specs.Readable.{IsWithin};
+    ghost use Rattle.cbor_round.specs.Scalars.{signed_back};
+
+    ghost fits = { IsWithin (2 ^ 15 - 1) };
+
+    ghost back = { signed_back (2 ^ 15 - 1) };
+}
+
+impl RoundTrip for i32 {
+    ghost use Rattle.std.specs.Prelude.{◌-◌, ◌^◌};
+    ghost use Rattle.cbor_model.specs.Readable.{IsWithin};
+    ghost use Rattle.cbor_round.specs.Scalars.{signed_back};
+
+    ghost fits = { IsWithin (2 ^ 31 - 1) };
+
+    ghost back = { signed_back (2 ^ 31 - 1) };
+}
+
+impl RoundTrip for i64 {
+    ghost use Rattle.std.specs.Prelude.{◌-◌, ◌^◌};
+    ghost use Rattle.cbor_model.specs.Readable.{IsWithin};
+    ghost use Rattle.cbor_round.specs.Scalars.{signed_back};
+
+    ghost fits = { IsWithin (2 ^ 63 - 1) };
+
+    ghost back = { signed_back (2 ^ 63 - 1) };
+}
+
+impl RoundTrip for isize {
+    ghost use Rattle.std.specs.Prelude.{◌-◌, ◌^◌};
+    ghost use Rattle.cbor_model.specs.Readable.{IsWithin};
+    ghost use Rattle.cbor_round.specs.Scalars.{signed_back};
+
+    ghost fits = { IsWithin (2 ^ 63 - 1) };
+
+    ghost back = { signed_back (2 ^ 63 - 1) };
+}
+
+impl RoundTrip for i128 {
+    ghost use Rattle.cbor_round.specs.Scalars.{integer_back};
+
+    ghost fits = { λ z. Unit {0} };
+
+    ghost back = { integer_back };
+}
+
+impl RoundTrip for Float {
+    ghost use Rattle.cbor_round.specs.Scalars.{float_back};
+
+    ghost fits = { λ f. Unit {0} };
+
+    ghost back = { float_back };
+}
+
+/// Each number; and a NaN as a NaN.
+impl RoundTrip for f32 {
+    ghost use Rattle.std.specs.Prelude.{T};
+    ghost use Rattle.std.specs.Float.{binary32};
+    ghost use Rattle.std.specs.Float.Ieee as ieee;
+    ghost use Rattle.cbor_round.specs.Scalars.{single_back};
+
+    ghost fits = { λ x. T (ieee.fits binary32 x) };
+
+    ghost back = { single_back };
+}
+
+/// Each number; and a NaN as a NaN.
+impl RoundTrip for f64 {
+    ghost use Rattle.std.specs.Prelude.{T};
+    ghost use Rattle.std.specs.Float.{binary64};
+    ghost use Rattle.std.specs.Float.Ieee as ieee;
+    ghost use Rattle.cbor_round.specs.Scalars.{double_back};
+
+    ghost fits = { λ x. T (ieee.fits binary64 x) };
+
+    ghost back = { double_back };
+}
+
+impl RoundTrip for char {
+    ghost use Rattle.std.specs.Char.{IsScalar};
+    ghost use Rattle.cbor_round.specs.Scalars.{char_back};
+
+    ghost fits = { IsScalar };
+
+    ghost back = { char_back };
+}
+
+impl RoundTrip for String {
+    ghost use Rattle.cbor_round.specs.Scalars.{text_back};
+
+    ghost fits = { λ s. Unit {0} };
+
+    ghost back = { text_back };
+}
+
+impl RoundTrip for ByteBuf {
+    ghost use Rattle.cbor_round.specs.Scalars.{bytes_back};
+
+    ghost fits = { λ b. Unit {0} };
+
+    ghost back = { bytes_back };
+}
+
+impl<const N: usize> RoundTrip for ByteArray<N> {
+    ghost use Rattle.std.specs.Prelude.{◌≡◌, length};
+    ghost use Rattle.cbor_round.specs.Scalars.{byte_array_back};
+
+    ghost fits = { λ b. length b.0 ≡ N };
+
+    ghost back = { byte_array_back };
+}
+
+/// Each value whose maps list their keys in order, as all maps of a program do.
+impl RoundTrip for Value {
+    ghost use Rattle.cbor_model.specs.Canonical.{IsOrdered};
+    ghost use Rattle.cbor_value.specs.View.{view};
+    ghost use Rattle.cbor_round.specs.Values.{value_back};
+
+    ghost fits = { λ v. IsOrdered (view v) };
+
+    ghost back = { value_back view };
+}
+
+/// None, and Some of a value that isn't written as null: `Some(())` and `Some(None)` are, and are
+/// read as None.
+impl<T: RoundTrip> RoundTrip for Option<T> {
+    ghost use Rattle.cbor_round.specs.Options.{IsAbsentOrFits, option_back};
+
+    ghost fits = { IsAbsentOrFits T.document T.fits };
+
+    ghost back = { option_back T.back };
+}
+
+impl<T: RoundTrip> RoundTrip for Vec<T> {
+    ghost use Rattle.std.specs.List.{AllByRecursion};
+    ghost use Rattle.cbor_round.specs.Lists.{list_back};
+
+    ghost fits = { λ v. AllByRecursion T.fits v.items };
+
+    ghost back = { list_back T.back };
+}
+
+impl<T: RoundTrip, const N: usize> RoundTrip for [T; N] {
+    ghost use Rattle.std.specs.List.{AllByRecursion};
+    ghost use Rattle.std.specs.Prelude.{◌≡◌, length};
+    ghost use Rattle.cbor_round.specs.Lists.{array_back};
+
+    ghost fits = { λ a. (length a ≡ N) × AllByRecursion T.fits a };
+
+    ghost back = { array_back T.back };
+}
+
+impl<A: RoundTrip> RoundTrip for (A,) {
+    ghost use Rattle.cbor_round.specs.Lists.{last_back, tuple_back};
+
+    ghost fits = { λ t. A.fits t.0 };
+
+    ghost back = { tuple_back (last_back A.back) };
+}
+
+impl<A: RoundTrip, B: RoundTrip> RoundTrip for (A, B) {
+    ghost use Rattle.cbor_round.specs.Lists.{last_back, part_back, tuple_back};
+
+    ghost fits = { λ t. A.fits t.0 × B.fits t.1 };
+
+    ghost back = { tuple_back (part_back A.back
+        (last_back B.back)) };
+}
+
+impl<A: RoundTrip, B: RoundTrip, C: RoundTrip> RoundTrip for (A, B, C) {
+    ghost use Rattle.cbor_round.specs.Lists.{last_back, part_back, tuple_back};
+
+    ghost fits = { λ t. A.fits t.0 × (B.fits t.1 × C.fits t.2) };
+
+    ghost back = { tuple_back (part_back A.back
+        (part_back B.back
+        (last_back C.back))) };
+}
+
+impl<A: RoundTrip, B: RoundTrip, C: RoundTrip, D: RoundTrip> RoundTrip for (A, B, C, D) {
+    ghost use Rattle.cbor_round.specs.Lists.{last_back, part_back, tuple_back};
+
+    ghost fits = { λ t. A.fits t.0 × (B.fits t.1 × (C.fits t.2 × D.fits t.3)) };
+
+    ghost back = { tuple_back (part_back A.back
+        (part_back B.back
+        (part_back C.back
+        (last_back D.back)))) };
+}
+
+/// Each map whose keys are written so that their order is told.
+impl<K: RoundTripKey, V: RoundTrip> RoundTrip for BTreeMap<K, V> {
+    ghost use Rattle.std.specs.BTreeMap.{IsOrdered};
+    ghost use Rattle.std.specs.List.{AllByRecursion};
+    ghost use Rattle.cbor_round.specs.Keyed.{map_back};
+
+    ghost fits = { λ m. IsOrdered K.cmp m
+        × AllByRecursion (λ e. K.fits e.0 × V.fits e.1) m.entries };
+
+    ghost back = { map_back K.Ord.total K.told K.back V.back };
+}
+
+/// A value within a tag; and without one, a value that has none of its own, as a `Tagged` within
+/// may.
+impl<T: RoundTrip> RoundTrip for Tagged<T> {
+    ghost use Rattle.cbor_round.specs.Tagged.{IsToldApart, tagged_back};
+
+    ghost fits = { λ t. IsToldApart t.tag (T.document t.value) × T.fits t.value };
+
+    ghost back = { tagged_back T.back };
+}
+
+impl RoundTripKey for String {
+    ghost use Rattle.cbor_round.specs.Keyed.{texts_told};
+
+    ghost told = { texts_told };
+}
+
+impl RoundTripKey for u8 {
+    ghost use Rattle.cbor_round.specs.Keyed.{naturals_told};
+
+    ghost told = { naturals_told };
+}
+
+impl RoundTripKey for u16 {
+    ghost use Rattle.cbor_round.specs.Keyed.{naturals_told};
+
+    ghost told = { naturals_told };
+}
+
+impl RoundTripKey for u32 {
+    ghost use Rattle.cbor_round.specs.Keyed.{naturals_told};
+
+    ghost told = { naturals_told };
+}
+
+impl RoundTripKey for u64 {
+    ghost use Rattle.cbor_round.specs.Keyed.{naturals_told};
+
+    ghost told = { naturals_told };
+}
+
+impl RoundTripKey for u128 {
+    ghost use Rattle.cbor_round.specs.Keyed.{naturals_told};
+
+    ghost told = { naturals_told };
+}
+
+impl RoundTripKey for usize {
+    ghost use Rattle.cbor_round.specs.Keyed.{naturals_told};
+
+    ghost told = { naturals_told };
+}
+
+impl RoundTripKey for i8 {
+    ghost use Rattle.cbor_round.specs.Keyed.{integers_told};
+
+    ghost told = { integers_told };
+}
+
+impl RoundTripKey for i16 {
+    ghost use Rattle.cbor_round.specs.Keyed.{integers_told};
+
+    ghost told = { integers_told };
+}
+
+impl RoundTripKey for i32 {
+    ghost use Rattle.cbor_round.specs.Keyed.{integers_told};
+
+    ghost told = { integers_told };
+}
+
+impl RoundTripKey for i64 {
+    ghost use Rattle.cbor_round.specs.Keyed.{integers_told};
+
+    ghost told = { integers_told };
+}
+
+impl RoundTripKey for i128 {
+    ghost use Rattle.cbor_round.specs.Keyed.{integers_told};
+
+    ghost told = { integers_told };
+}
+
+impl RoundTripKey for isize {
+    ghost use Rattle.cbor_round.specs.Keyed.{integers_told};
+
+    ghost told = { integers_told };
+}

@@ -1,0 +1,134 @@
+//! A struct of as many fields as are described.
+
+use serde_cbor::de::{Deserialize, DeserializeOwned, FromParts, Read, Readable, ReadableParts};
+use serde_cbor::parts::Schema;
+use serde_cbor::ser::{PartsDocument, Serialize, Serializer, Write};
+use serde_cbor::{Deserializer, Result};
+
+/// What a weather station saw in an hour.
+#[derive(Debug, PartialEq, Drop)]
+pub struct Weather {
+    pub station: u32,
+    pub day: u16,
+    pub hour: u8,
+    pub temperature: i16,
+    pub pressure: u16,
+    pub humidity: u8,
+    pub wind: u8,
+    pub gust: u8,
+    pub bearing: u16,
+    pub rain: u16,
+    pub cloudy: bool,
+    pub remark: String,
+}
+
+/// The names of its fields.
+const WEATHER: &[&str] = &[
+    "station",
+    "day",
+    "hour",
+    "temperature",
+    "pressure",
+    "humidity",
+    "wind",
+    "gust",
+    "bearing",
+    "rain",
+    "cloudy",
+    "remark",
+];
+
+impl Schema for Weather {
+    ghost use Rattle.std.specs.Prelude.{map};
+    ghost use Rattle.cbor_samples.specs.declared.weather.TheConstants.{WEATHER};
+
+    type Parts = (u32, u16, u8, i16, u16, u8, u8, u8, u16, u16, bool, String);
+
+    ghost names = { map (λ n. n.now) WEATHER.now };
+
+    ghost parts = { λ w. (
+      w.station,
+      w.day,
+      w.hour,
+      w.temperature,
+      w.pressure,
+      w.humidity,
+      w.wind,
+      w.gust,
+      w.bearing,
+      w.rain,
+      w.cloudy,
+      w.remark,
+    ) };
+}
+
+impl Serialize for Weather {
+    ghost document = { λ x. ⟦<<Weather as Schema>::Parts as PartsDocument>⟧.document
+        ⟦<Weather as Schema>⟧.names (⟦<Weather as Schema>⟧.parts x) };
+
+    fn serialize<W: Write>(&self, ser: &mut Serializer<W>) -> Result<()> {
+        let fields = (
+            &self.station,
+            &self.day,
+            &self.hour,
+            &self.temperature,
+            &self.pressure,
+            &self.humidity,
+            &self.wind,
+            &self.gust,
+            &self.bearing,
+            &self.rain,
+            &self.cloudy,
+            &self.remark,
+        );
+        ser.serialize_fields(WEATHER, &fields)
+    }
+}
+
+impl FromParts for Weather {
+    fn from_parts(from: Self::Parts) -> Weather {
+        let (
+            station,
+            day,
+            hour,
+            temperature,
+            pressure,
+            humidity,
+            wind,
+            gust,
+            bearing,
+            rain,
+            cloudy,
+            remark,
+        ) = from;
+        Weather {
+            station,
+            day,
+            hour,
+            temperature,
+            pressure,
+            humidity,
+            wind,
+            gust,
+            bearing,
+            rain,
+            cloudy,
+            remark,
+        }
+    }
+}
+
+impl Readable for Weather {
+    ghost reads = { λ c r x. ⟦<<Weather as Schema>::Parts as ReadableParts>⟧.reads
+        ⟦<Weather as Schema>⟧.names c r (⟦<Weather as Schema>⟧.parts x) };
+}
+
+impl<'de, R: Read<'de>> Deserialize<'de, R> for Weather {
+    fn deserialize(de: &mut Deserializer<R>) -> Result<Weather> {
+        Self::read_described(de, WEATHER)
+    }
+}
+
+impl DeserializeOwned for Weather {
+    ghost same = { λ f a b r v h. h };
+}

@@ -1,0 +1,36 @@
+use Rattle.std.proofs.Common.{◌≡◌, true, rules}
+use Rattle.std.proofs.lemmas.Float.{T_from_true}
+use Rattle.std.specs.Float.{binary32}
+use Rattle.std.specs.Float.Ieee.{fits}
+use Rattle.cbor_io.specs.Error.{code_of, offset_of}
+use Rattle.cbor_model.specs.Reader.{item_at}
+use Rattle.cbor_scalars.specs.Takes.{formats_of, raws}
+use Rattle.cbor_scalars.proofs.FloatNumbers.{single_read, single_refused, single_out}
+use Rattle.cbor_scalars.proofs.floats.any_f32.Goals as goal
+
+pub returns-in-Err-clause-read : goal.returns-in-Err-clause-read
+returns-in-Err-clause-read g c =
+    let items = c.args.items.now in
+    single_refused g.R.Source.refusals
+    (λ l bs. item_at (raws (formats_of items.formats) l) items.levels bs)
+    (g.R.Source.source items.source) (code_of c.in-Err.e) (offset_of c.in-Err.e)
+    c.in-Err.ensures.read
+
+pub returns-in-Some-clause-read : goal.returns-in-Some-clause-read
+returns-in-Some-clause-read g c =
+    let items = c.args.items.now in
+    let held : fits binary32 c.in-Some.x ≡ true = search rules in
+    single_read g.R.Source.refusals
+    (λ l bs. item_at (raws (formats_of items.formats) l) items.levels bs)
+    (g.R.Source.source items.source) (g.R.Source.source c.read_float.new.items.source)
+    c.in-Ok.float c.in-Some.x c.in-Some.ensures (T_from_true (fits binary32 c.in-Some.x) held)
+    c.in-Ok.ensures.read
+
+pub returns-in-None-clause-read : goal.returns-in-None-clause-read
+returns-in-None-clause-read g c =
+    let items = c.args.items.now in
+    single_out g.R.Source.refusals
+    (λ l bs. item_at (raws (formats_of items.formats) l) items.levels bs)
+    (g.R.Source.source items.source) (g.R.Source.source c.read_float.new.items.source)
+    c.in-Ok.float (code_of c.message.result) (offset_of c.message.result)
+    c.in-None.ensures c.in-Ok.ensures.read

@@ -1,0 +1,21 @@
+use Rattle.cbor_io.specs.Error.{code_of, offset_of}
+use Rattle.cbor_model.specs.Reader.{item_at}
+use Rattle.cbor_scalars.specs.Takes.{formats_of, raws}
+use Rattle.cbor_scalars.proofs.FloatNumbers.{double_read, double_refused}
+use Rattle.cbor_scalars.proofs.floats.any_f64.Goals as goal
+
+pub returns-in-Ok-clause-read : goal.returns-in-Ok-clause-read
+returns-in-Ok-clause-read g c =
+    let items = c.args.items.now in
+    double_read g.R.Source.refusals
+    (λ l bs. item_at (raws (formats_of items.formats) l) items.levels bs)
+    (g.R.Source.source items.source) (g.R.Source.source c.read_float.new.items.source)
+    c.in-Ok.float c.to_f64.result c.to_f64.ensures c.in-Ok.ensures.read
+
+pub returns-in-Err-clause-read : goal.returns-in-Err-clause-read
+returns-in-Err-clause-read g c =
+    let items = c.args.items.now in
+    double_refused g.R.Source.refusals
+    (λ l bs. item_at (raws (formats_of items.formats) l) items.levels bs)
+    (g.R.Source.source items.source) (code_of c.in-Err.e) (offset_of c.in-Err.e)
+    c.in-Err.ensures.read

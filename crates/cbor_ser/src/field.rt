@@ -1,0 +1,84 @@
+//! Fields of structs, to be written.
+
+ghost use Rattle.std.specs.Prelude.{◌≡◌, IfSome};
+ghost use Rattle.std.specs.Option.{is_some};
+ghost use Rattle.cbor_model.specs.Parts.{field_part};
+ghost use Rattle.cbor_ser.specs.Serialized.{Serialized};
+
+use crate::serialize::Serialize;
+use crate::serializer::Serializer;
+use cbor_io::error::Result;
+use cbor_io::write::Write;
+
+/// A field of a struct, to be written: a reference, or an [`OptionalField`].
+pub trait SerializeField {
+    ghost use Rattle.std.specs.Prelude.{Option};
+    ghost use Rattle.cbor_model.specs.Document.{Doc};
+
+    // What the field is written as; None where it is left out.
+    ghost document: { Self → Option Doc };
+
+    /// Whether the field is written.
+    fn is_written(&self) -> bool
+        ensures { result ≡ is_some (document self.now) };
+
+    /// Appends the field, by this name or this number. One that is left out isn't written.
+    fn serialize_field<W: Write>(
+        &self,
+        ser: &mut Serializer<W>,
+        number: u32,
+        name: &str,
+    ) -> Result<()>
+        ensures { IfSome (document self.now) (λ d.
+            Serialized W.written W.refuses W.references ser.old
+            (field_part number name.now d) ser.new result) };
+}
+
+impl<'a, T: Serialize> SerializeField for &'a T {
+    ghost use Rattle.std.specs.Prelude.{Some};
+
+    ghost document = { λ x. Some (T.document x.now) };
+
+    fn is_written(&self) -> bool {
+        true
+    }
+
+    fn serialize_field<W: Write>(
+        &self,
+        ser: &mut Serializer<W>,
+        number: u32,
+        name: &str,
+    ) -> Result<()> {
+        ser.write_field(number, name, *self)
+    }
+}
+
+/// A field that may be absent, to be written: it is left out where it is None.
+///
+/// ```rust
+/// ser.serialize_fields(&["port", "limit"], &(&self.port, OptionalField(&self.limit)))
+/// ```
+#[derive(Drop)]
+pub struct OptionalField<'a, T>(pub &'a Option<T>);
+
+impl<'a, T: Serialize> SerializeField for OptionalField<'a, T> {
+    ghost use Rattle.cbor_ser.specs.PartLists.{document_if};
+
+    ghost document = { λ x. document_if T.document x.0.now };
+
+    fn is_written(&self) -> bool {
+        self.0.is_some()
+    }
+
+    fn serialize_field<W: Write>(
+        &self,
+        ser: &mut Serializer<W>,
+        number: u32,
+        name: &str,
+    ) -> Result<()> {
+        match self.0 {
+            Some(value) => ser.write_field(number, name, value),
+            None => Ok(()),
+        }
+    }
+}

@@ -1,0 +1,207 @@
+//! Lists of references to the parts of structs and variants, by which tuples of them are written.
+
+ghost use Rattle.std.specs.Prelude.{◌≡◌, ◌+◌, ◌^◌, ◌<◌, ◌≤◌, ℕ, List, length, map, Some};
+ghost use Rattle.cbor_model.specs.Document.{no_docs, doc, no_fields, field_count};
+ghost use Rattle.cbor_model.specs.Parts.{items, ending};
+ghost use Rattle.cbor_model.specs.Parts as part;
+ghost use Rattle.cbor_ser.specs.PartLists.{field_if};
+ghost use Rattle.cbor_ser.specs.Serialized.{Serialized};
+
+use crate::field::SerializeField;
+use crate::serialize::Serialize;
+use crate::serializer::Serializer;
+use cbor_io::error::Result;
+use cbor_io::write::Write;
+
+// References to fields: a pair of the first and those behind it, or `()`. What the check passes on of
+// a list's bounds doubles with each pair within a pair, so long lists go by fours: four fields, and
+// those behind them.
+pub(crate) trait WriteFields {
+    ghost use Rattle.std.specs.Prelude.{List, ℕ};
+    ghost use Rattle.cbor_model.specs.Document.{Fields};
+
+    // How many they are.
+    ghost slots: { ℕ };
+
+    // What they are written as, by these names, with the numbers from this one on.
+    ghost fields_from: { ℕ → List (List ℕ) → Self → Fields };
+
+    // How many of them are written.
+    fn written(&self) -> usize
+        requires { slots < 2 ^ 32 }
+        ensures counted { (i : ℕ) (ns : List (List ℕ)) → result
+            ≡ field_count (fields_from i ns self.now) }
+        ensures few { result ≤ slots };
+
+    // Appends those that are written, with the numbers from this one on, by their names.
+    fn write_fields<W: Write>(
+        &self,
+        ser: &mut Serializer<W>,
+        number: u32,
+        names: &[&str],
+    ) -> Result<()>
+        requires as_many { length names.now ≡ slots }
+        requires numbers { number + length names.now < 2 ^ 32 }
+        ensures { Serialized W.written W.refuses W.references ser.old
+            (part.fields (fields_from number (map (λ n. n.now) names.now) self.now))
+            ser.new result };
+}
+
+impl WriteFields for () {
+    ghost slots = { 0 };
+
+    ghost fields_from = { λ i ns u. no_fields };
+
+    fn written(&self) -> usize {
+        0
+    }
+
+    fn write_fields<W: Write>(
+        &self,
+        _ser: &mut Serializer<W>,
+        _number: u32,
+        _names: &[&str],
+    ) -> Result<()> {
+        Ok(())
+    }
+}
+
+impl<'a, A: SerializeField, F: WriteFields> WriteFields for (&'a A, F) {
+    ghost use Rattle.std.specs.Prelude.{◌+◌, suc};
+    ghost use Rattle.cbor_ser.specs.PartLists.{first_name, other_names};
+
+    ghost slots = { F.slots + 1 };
+
+    ghost fields_from = { λ i ns p. field_if i (first_name ns) (A.document p.0.now)
+        (F.fields_from (suc i) (other_names ns) p.1) };
+
+    fn written(&self) -> usize {
+        let others = self.1.written();
+        if !self.0.is_written() {
+            return others;
+        }
+        others + 1
+    }
+
+    fn write_fields<W: Write>(
+        &self,
+        ser: &mut Serializer<W>,
+        number: u32,
+        names: &[&str],
+    ) -> Result<()> {
+        if !self.0.is_written() {
+            return self.1.write_fields(ser, number + 1, &names[1..]);
+        }
+        self.0.serialize_field(ser, number, names[0])?;
+        self.1.write_fields(ser, number + 1, &names[1..])
+    }
+}
+
+impl<'a, F: WriteFields> WriteFields for &'a F {
+    ghost slots = { F.slots };
+
+    ghost fields_from = { λ i ns p. F.fields_from i ns p.now };
+
+    fn written(&self) -> usize {
+        (**self).written()
+    }
+
+    fn write_fields<W: Write>(
+        &self,
+        ser: &mut Serializer<W>,
+        number: u32,
+        names: &[&str],
+    ) -> Result<()> {
+        (**self).write_fields(ser, number, names)
+    }
+}
+
+impl<
+    'a,
+    A: SerializeField,
+    B: SerializeField,
+    C: SerializeField,
+    D: SerializeField,
+    F: WriteFields,
+> WriteFields for (&'a A, &'a B, &'a C, &'a D, F) {
+    ghost use Rattle.std.specs.Prelude.{◌+◌, suc};
+    ghost use Rattle.cbor_ser.specs.PartLists.{name_in, other_names};
+
+    ghost slots = { F.slots + 1 + 1 + 1 + 1 };
+
+    ghost fields_from = { λ i ns p.
+        field_if i (name_in ns 0) (A.document p.0.now)
+        (field_if (suc i) (name_in ns 1) (B.document p.1.now)
+        (field_if (suc (suc i)) (name_in ns 2) (C.document p.2.now)
+        (field_if (suc (suc (suc i))) (name_in ns 3) (D.document p.3.now)
+        (F.fields_from (suc (suc (suc (suc i))))
+        (other_names (other_names (other_names (other_names ns)))) p.4)))) };
+
+    fn written(&self) -> usize {
+        let fields = (self.0, (self.1, (self.2, (self.3, &self.4))));
+        fields.written()
+    }
+
+    fn write_fields<W: Write>(
+        &self,
+        ser: &mut Serializer<W>,
+        number: u32,
+        names: &[&str],
+    ) -> Result<()> {
+        let fields = (self.0, (self.1, (self.2, (self.3, &self.4))));
+        fields.write_fields(ser, number, names)
+    }
+}
+
+// References to the items of an array: a pair of the first and those behind it, or `()`; or four, and
+// those behind them.
+pub(crate) trait WriteItems {
+    ghost use Rattle.cbor_model.specs.Document.{Docs};
+
+    // What they are written as.
+    ghost documents: { Self → Docs };
+
+    // Appends the items of an array, of which a count was declared, and its end.
+    fn write_items<W: Write>(&self, ser: &mut Serializer<W>) -> Result<()>
+        ensures { Serialized W.written W.refuses W.references ser.old
+            (items (documents self.now) (ending (Some 0))) ser.new result };
+}
+
+impl WriteItems for () {
+    ghost documents = { λ u. no_docs };
+
+    fn write_items<W: Write>(&self, ser: &mut Serializer<W>) -> Result<()> {
+        ser.write_end(Some(0))
+    }
+}
+
+impl<'a, A: Serialize, F: WriteItems> WriteItems for (&'a A, F) {
+    ghost documents = { λ p. doc (A.document p.0.now) (F.documents p.1) };
+
+    fn write_items<W: Write>(&self, ser: &mut Serializer<W>) -> Result<()> {
+        self.0.serialize(ser)?;
+        self.1.write_items(ser)
+    }
+}
+
+impl<'a, F: WriteItems> WriteItems for &'a F {
+    ghost documents = { λ p. F.documents p.now };
+
+    fn write_items<W: Write>(&self, ser: &mut Serializer<W>) -> Result<()> {
+        (**self).write_items(ser)
+    }
+}
+
+impl<'a, A: Serialize, B: Serialize, C: Serialize, D: Serialize, F: WriteItems> WriteItems
+    for (&'a A, &'a B, &'a C, &'a D, F) {
+    ghost documents = { λ p.
+        doc (A.document p.0.now)
+        (doc (B.document p.1.now)
+        (doc (C.document p.2.now)
+        (doc (D.document p.3.now) (F.documents p.4)))) };
+
+    fn write_items<W: Write>(&self, ser: &mut Serializer<W>) -> Result<()> {
+        let items = (self.0, (self.1, (self.2, (self.3, &self.4))));
+        items.write_items(ser)
+    }
+}

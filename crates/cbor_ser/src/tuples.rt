@@ -1,0 +1,211 @@
+//! Tuples of references, of which variants of several parts are written.
+
+ghost use Rattle.std.specs.Prelude.{◌≡◌, ◌^◌, ◌<◌, Some};
+ghost use Rattle.cbor_model.specs.Document.{doc_count, no_docs, doc};
+ghost use Rattle.cbor_model.specs.Parts.{items, ending};
+ghost use Rattle.cbor_ser.specs.Serialized.{Serialized};
+
+use crate::part_list::WriteItems;
+use crate::serialize::Serialize;
+use crate::serializer::Serializer;
+use cbor_io::error::Result;
+use cbor_io::write::Write;
+
+/// References to the parts of a variant: a tuple, as `(&self.x, &self.y)`.
+pub trait SerializeTuple {
+    ghost use Rattle.cbor_model.specs.Document.{Docs};
+
+    // What they are written as.
+    ghost documents: { Self → Docs };
+
+    /// How many they are.
+    fn len(&self) -> usize
+        ensures documents { result ≡ doc_count (documents self.now) }
+        ensures few { result < 2 ^ 32 };
+
+    /// Appends them as the items of an array of which a count was declared, and its end.
+    fn serialize_items<W: Write>(&self, ser: &mut Serializer<W>) -> Result<()>
+        ensures { Serialized W.written W.refuses W.references ser.old
+            (items (documents self.now) (ending (Some 0))) ser.new result };
+}
+
+impl<'a, A: Serialize> SerializeTuple for (&'a A,) {
+    ghost documents = { λ p.
+        doc (A.document p.0.now) no_docs };
+
+    fn len(&self) -> usize {
+        1
+    }
+
+    fn serialize_items<W: Write>(&self, ser: &mut Serializer<W>) -> Result<()> {
+        let items = (self.0, ());
+        items.write_items(ser)
+    }
+}
+
+impl<'a, A: Serialize, B: Serialize> SerializeTuple for (&'a A, &'a B) {
+    ghost documents = { λ p.
+        doc (A.document p.0.now)
+        (doc (B.document p.1.now) no_docs) };
+
+    fn len(&self) -> usize {
+        2
+    }
+
+    fn serialize_items<W: Write>(&self, ser: &mut Serializer<W>) -> Result<()> {
+        let items = (self.0, (self.1, ()));
+        items.write_items(ser)
+    }
+}
+
+impl<'a, A: Serialize, B: Serialize, C: Serialize> SerializeTuple for (&'a A, &'a B, &'a C) {
+    ghost documents = { λ p.
+        doc (A.document p.0.now)
+        (doc (B.document p.1.now)
+        (doc (C.document p.2.now) no_docs)) };
+
+    fn len(&self) -> usize {
+        3
+    }
+
+    fn serialize_items<W: Write>(&self, ser: &mut Serializer<W>) -> Result<()> {
+        let items = (self.0, (self.1, (self.2, ())));
+        items.write_items(ser)
+    }
+}
+
+impl<'a, A: Serialize, B: Serialize, C: Serialize, D: Serialize> SerializeTuple
+    for (&'a A, &'a B, &'a C, &'a D) {
+    ghost documents = { λ p.
+        doc (A.document p.0.now)
+        (doc (B.document p.1.now)
+        (doc (C.document p.2.now)
+        (doc (D.document p.3.now) no_docs))) };
+
+    fn len(&self) -> usize {
+        4
+    }
+
+    fn serialize_items<W: Write>(&self, ser: &mut Serializer<W>) -> Result<()> {
+        let items = (self.0, self.1, self.2, self.3, ());
+        items.write_items(ser)
+    }
+}
+
+impl<'a, A: Serialize, B: Serialize, C: Serialize, D: Serialize, E: Serialize> SerializeTuple
+    for (&'a A, &'a B, &'a C, &'a D, &'a E) {
+    ghost documents = { λ p.
+        doc (A.document p.0.now)
+        (doc (B.document p.1.now)
+        (doc (C.document p.2.now)
+        (doc (D.document p.3.now)
+        (doc (E.document p.4.now) no_docs)))) };
+
+    fn len(&self) -> usize {
+        5
+    }
+
+    fn serialize_items<W: Write>(&self, ser: &mut Serializer<W>) -> Result<()> {
+        let items = (self.0, self.1, self.2, self.3, (self.4, ()));
+        items.write_items(ser)
+    }
+}
+
+impl<
+    'a,
+    A: Serialize,
+    B: Serialize,
+    C: Serialize,
+    D: Serialize,
+    E: Serialize,
+    F: Serialize,
+> SerializeTuple for (&'a A, &'a B, &'a C, &'a D, &'a E, &'a F) {
+    ghost documents = { λ p.
+        doc (A.document p.0.now)
+        (doc (B.document p.1.now)
+        (doc (C.document p.2.now)
+        (doc (D.document p.3.now)
+        (doc (E.document p.4.now)
+        (doc (F.document p.5.now) no_docs))))) };
+
+    fn len(&self) -> usize {
+        6
+    }
+
+    fn serialize_items<W: Write>(&self, ser: &mut Serializer<W>) -> Result<()> {
+        let items = (self.0, self.1, self.2, self.3, (self.4, (self.5, ())));
+        items.write_items(ser)
+    }
+}
+
+impl<
+    'a,
+    A: Serialize,
+    B: Serialize,
+    C: Serialize,
+    D: Serialize,
+    E: Serialize,
+    F: Serialize,
+    G: Serialize,
+> SerializeTuple for (&'a A, &'a B, &'a C, &'a D, &'a E, &'a F, &'a G) {
+    ghost documents = { λ p.
+        doc (A.document p.0.now)
+        (doc (B.document p.1.now)
+        (doc (C.document p.2.now)
+        (doc (D.document p.3.now)
+        (doc (E.document p.4.now)
+        (doc (F.document p.5.now)
+        (doc (G.document p.6.now) no_docs)))))) };
+
+    fn len(&self) -> usize {
+        7
+    }
+
+    fn serialize_items<W: Write>(&self, ser: &mut Serializer<W>) -> Result<()> {
+        let items = (
+            self.0,
+            self.1,
+            self.2,
+            self.3,
+            (self.4, (self.5, (self.6, ()))),
+        );
+        items.write_items(ser)
+    }
+}
+
+impl<
+    'a,
+    A: Serialize,
+    B: Serialize,
+    C: Serialize,
+    D: Serialize,
+    E: Serialize,
+    F: Serialize,
+    G: Serialize,
+    H: Serialize,
+> SerializeTuple for (&'a A, &'a B, &'a C, &'a D, &'a E, &'a F, &'a G, &'a H) {
+    ghost documents = { λ p.
+        doc (A.document p.0.now)
+        (doc (B.document p.1.now)
+        (doc (C.document p.2.now)
+        (doc (D.document p.3.now)
+        (doc (E.document p.4.now)
+        (doc (F.document p.5.now)
+        (doc (G.document p.6.now)
+        (doc (H.document p.7.now) no_docs))))))) };
+
+    fn len(&self) -> usize {
+        8
+    }
+
+    fn serialize_items<W: Write>(&self, ser: &mut Serializer<W>) -> Result<()> {
+        let items = (
+            self.0,
+            self.1,
+            self.2,
+            self.3,
+            (self.4, self.5, self.6, self.7, ()),
+        );
+        items.write_items(ser)
+    }
+}

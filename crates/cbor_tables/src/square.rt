@@ -1,0 +1,16 @@
+//! A value, its bytes and its `Value`: each is made of the others.
+
+use serde_cbor::ser::Serialize;
+use serde_cbor::value::to_value;
+use serde_cbor::{Result, Value, from_slice, from_slice_canonical, to_vec, to_vec_canonical};
+use std::alloc::Global;
+
+/// Whether `to_value` makes of a value what is read of its bytes, and `to_vec_canonical` writes the
+/// canonical spelling of that.
+pub fn closes<T: Serialize>(alloc: Global, value: &T) -> Result<bool> {
+    let read: Value = from_slice(alloc, &to_vec(alloc, value)?)?;
+    let made = to_value(alloc, value)?;
+    let canonical = to_vec_canonical(alloc, value)?;
+    let again = from_slice_canonical(alloc, &canonical)?;
+    Ok(made == read && again == read && canonical.as_slice() == to_vec(alloc, &read)?.as_slice())
+}

@@ -1,7 +1,0 @@
-use Rattle.cbor_scalars.specs.Takes.{formats_of}
-use Rattle.cbor_typed.proofs.FieldLists.{passed_on}
-use Rattle.cbor_typed.proofs.field_list.UnitReadFields.take.Goals as goal
-
-pub returns-clause-read : goal.returns-clause-read
-returns-clause-read g c =
-    passed_on (formats_of c.args.de.now.items.formats) c.args.de.now.items.levels g.R.Source.refusals c.args._i (g.R.Source.source c.args.de.now.items.source) _ c.skip_item.result c.skip_item.ensures.read

@@ -1,0 +1,14 @@
+//! Reading: the four `from_*` read a whole input as a type, and a [`Deserializer`] reads types
+//! from a source, one after the other. A struct or an enum is read by its description
+//! ([`FromParts`]), or part by part ([`Deserialize`]).
+
+pub use cbor_described::{
+    FromParts, ReadParts, ReadTuple, ReadVariant, ReadableParts, ReadableTuple, Variant,
+};
+pub use cbor_typed::{
+    Deserialize, DeserializeOwned, Deserializer, EitherLifetime, EitherStr, Field, FieldType, Form,
+    Formats, IgnoredAny, IoRead, MapAccess, MutSliceRead, Offset, Read, ReadError, ReadErrorCode,
+    Readable, Remaining, SeqAccess, SliceRead, SliceReadFixed, Source, StreamDeserializer,
+    StructAccess, Unread, VariantAccess, duplicate_field, from_mut_slice, from_reader, from_slice,
+    from_slice_with_scratch, item_refused_first, missing_field, owned_agree, sources_agree,
+};
