@@ -1,4 +1,5 @@
 //! Reads a CBOR item, or reads and writes it, as many times as standard input says, to be measured.
+//! It prints what the last turn wrote, in hexadecimal, or of a long item how many bytes that were.
 #![tactic(auto)]
 
 mod record;
@@ -8,6 +9,9 @@ use crate::request::Request;
 use serde_cbor::Result;
 use std::io::Read;
 use std::process::ExitCode;
+
+/// So many bytes are printed at the most.
+const SHOWN: usize = 256;
 
 fn main(rt: HostRuntime) -> ExitCode {
     match answer_input(&rt) {
@@ -28,6 +32,21 @@ fn answer_input(rt: &HostRuntime) -> Result<bool> {
     let Some(request) = Request::parse(&input) else {
         return Ok(false);
     };
-    request.repeat(rt.alloc())?;
+    if let Some(written) = request.repeat(rt.alloc())? {
+        show(rt, &written)?;
+    }
     Ok(true)
+}
+
+// Prints these bytes, or how many they are.
+fn show(rt: &HostRuntime, bytes: &[u8]) -> Result<()> {
+    if bytes.len() > SHOWN {
+        println!(rt; "{} bytes", bytes.len())?;
+        return Ok(());
+    }
+    'bytes: for byte in bytes {
+        print!(rt; "{byte:02x}")?;
+    }
+    println!(rt)?;
+    Ok(())
 }

@@ -216,7 +216,7 @@ too_short_later allowed remaining behind s a e step = λ bs tells no.
     none_some e = absurd cc
 
 -- the error of a step that no key stopped
-no_form : (kept : Option ReadError) (r : Refused) (e : Error) → TellsNoKey kept r → IsErrorOf kept r e → TellsNoForm (code_of e)
+pub no_form : (kept : Option ReadError) (r : Refused) (e : Error) → TellsNoKey kept r → IsErrorOf kept r e → TellsNoForm (code_of e)
 no_form kept refused.OutOfMemory e other made = subst TellsNoForm (sym made.0) tt
 no_form None refused.Kept e other made = subst TellsNoForm (sym made.0) tt
 no_form (Some q) refused.Kept e other made = subst TellsNoForm (sym made.0) (of_kept (why q) other)

@@ -19,39 +19,64 @@ use Rattle.cbor_scalars.specs.Kinds as kind
 use Rattle.cbor_scalars.specs.Tags.{begins_tag}
 use Rattle.cbor_scalars.specs.Takes.{raws}
 use Rattle.cbor_collections.specs.Variants.{HasShape, shape_of}
+use Rattle.cbor_collections.specs.declared.variant.Shape.{Shape}
 use Rattle.cbor_collections.specs.declared.variant.Shape.TheVariants as shape
 use Rattle.cbor_scalars.proofs.facts.Items.{kinds}
 use Rattle.cbor_scalars.proofs.facts.Items.{item_opened}
 
 -- ---- first bytes
 
+abbrev chosen : (x y u z m : Bool) → Shape
+chosen x y u z m = cond x shape.Alone (cond y shape.Array (cond u shape.Unassigned (cond z shape.Array (cond m shape.Map shape.Alone))))
+
 array_byte : (b : ℕ) → shape_of b ≡ shape.Array → (128 ≤ b) × (b < 160)
-array_byte b is = by (ltb b 0x80) (ltb b 0xa0) (eqb b 0xa1) refl refl is
+array_byte b is = by (ltb b 0x80) (ltb b 0x9c) (ltb b 0x9f) (eqb b 0x9f) (eqb b 0xa1) refl refl refl is
   where
-    by : (x y z : Bool) → ltb b 0x80 ≡ x → ltb b 0xa0 ≡ y → cond x shape.Alone (cond y shape.Array (cond z shape.Map shape.Alone)) ≡ shape.Array → (128 ≤ b) × (b < 160)
-    by true y z low high h = absurd cc
-    by false true z low high h = (ltb-false b 0x80 low, ltb-true b 0xa0 high)
-    by false false true low high h = absurd cc
-    by false false false low high h = absurd cc
+    by : (x y u z m : Bool) → ltb b 0x80 ≡ x → ltb b 0x9c ≡ y → eqb b 0x9f ≡ z → chosen x y u z m ≡ shape.Array → (128 ≤ b) × (b < 160)
+    by true y u z m low high last h = absurd cc
+    by false true u z m low high last h = (ltb-false b 0x80 low, omega (arith, ltb-true b 0x9c high))
+    by false false true z m low high last h = absurd cc
+    by false false false true m low high last h = (ltb-false b 0x80 low, omega (arith, eqb-true b 0x9f last))
+    by false false false false true low high last h = absurd cc
+    by false false false false false low high last h = absurd cc
 
 pub map_byte : (b : ℕ) → shape_of b ≡ shape.Map → b ≡ 0xa1
-map_byte b is = by (ltb b 0x80) (ltb b 0xa0) (eqb b 0xa1) refl is
+map_byte b is = by (ltb b 0x80) (ltb b 0x9c) (ltb b 0x9f) (eqb b 0x9f) (eqb b 0xa1) refl is
   where
-    by : (x y z : Bool) → eqb b 0xa1 ≡ z → cond x shape.Alone (cond y shape.Array (cond z shape.Map shape.Alone)) ≡ shape.Map → b ≡ 0xa1
-    by true y z one h = absurd cc
-    by false true z one h = absurd cc
-    by false false true one h = eqb-true b 0xa1 one
-    by false false false one h = absurd cc
+    by : (x y u z m : Bool) → eqb b 0xa1 ≡ m → chosen x y u z m ≡ shape.Map → b ≡ 0xa1
+    by true y u z m one h = absurd cc
+    by false true u z m one h = absurd cc
+    by false false true z m one h = absurd cc
+    by false false false true m one h = absurd cc
+    by false false false false true one h = eqb-true b 0xa1 one
+    by false false false false false one h = absurd cc
 
 -- neither an array nor a map of one pair
 alone_byte : (b : ℕ) → shape_of b ≡ shape.Alone → (128 ≤ b → b < 160 → ⊥) × (b ≡ 0xa1 → ⊥)
-alone_byte b is = by (ltb b 0x80) (ltb b 0xa0) (eqb b 0xa1) refl refl refl is
+alone_byte b is = by (ltb b 0x80) (ltb b 0x9c) (ltb b 0x9f) (eqb b 0x9f) (eqb b 0xa1) refl refl refl refl is
   where
-    by : (x y z : Bool) → ltb b 0x80 ≡ x → ltb b 0xa0 ≡ y → eqb b 0xa1 ≡ z → cond x shape.Alone (cond y shape.Array (cond z shape.Map shape.Alone)) ≡ shape.Alone → (128 ≤ b → b < 160 → ⊥) × (b ≡ 0xa1 → ⊥)
-    by true y z low high one h = let l = ltb-true b 0x80 low in ((λ from to. absurd (omega (arith, l, from))), (λ e. absurd (omega (arith, l, e))))
-    by false true z low high one h = absurd cc
-    by false false true low high one h = absurd cc
-    by false false false low high one h = let m = ltb-false b 0xa0 high in ((λ from to. absurd (omega (arith, m, to))), eqb-false b 0xa1 one)
+    by : (x y u z m : Bool) → ltb b 0x80 ≡ x → ltb b 0x9f ≡ u → eqb b 0x9f ≡ z → eqb b 0xa1 ≡ m → chosen x y u z m ≡ shape.Alone → (128 ≤ b → b < 160 → ⊥) × (b ≡ 0xa1 → ⊥)
+    by true y u z m low high last one h = let l = ltb-true b 0x80 low in ((λ from to. absurd (omega (arith, l, from))), (λ e. absurd (omega (arith, l, e))))
+    by false true u z m low high last one h = absurd cc
+    by false false true z m low high last one h = absurd cc
+    by false false false true m low high last one h = absurd cc
+    by false false false false true low high last one h = absurd cc
+    by false false false false false low high last one h =
+        let least = ltb-false b 0x9f high in
+        let other = eqb-false b 0x9f last in
+        ((λ from to. other (omega (arith, least, to))), eqb-false b 0xa1 one)
+
+-- no item begins so
+unassigned_byte : (b : ℕ) → shape_of b ≡ shape.Unassigned → (0x9c ≤ b) × (b < 0x9f)
+unassigned_byte b is = by (ltb b 0x80) (ltb b 0x9c) (ltb b 0x9f) (eqb b 0x9f) (eqb b 0xa1) refl refl is
+  where
+    by : (x y u z m : Bool) → ltb b 0x9c ≡ y → ltb b 0x9f ≡ u → chosen x y u z m ≡ shape.Unassigned → (0x9c ≤ b) × (b < 0x9f)
+    by true y u z m low high h = absurd cc
+    by false true u z m low high h = absurd cc
+    by false false true z m low high h = (ltb-false b 0x9c low, ltb-true b 0x9f high)
+    by false false false true m low high h = absurd cc
+    by false false false false true low high h = absurd cc
+    by false false false false false low high h = absurd cc
 
 -- no tag's first byte
 other_byte : (b : ℕ) → begins_tag b ≡ false → 0xc0 ≤ b → b < 0xe0 → 28 ≤ b % 32
@@ -184,6 +209,22 @@ array_first f l levels b bs rest r begins is =
     let byte = array_byte b begins in
     let h = headed f l levels b bs r rest is in
     kinds f l (inside (raws f l) levels) h.width h.mid h.head r rest h.is ∙ array_kind_at b bs h.mid h.width h.head (omega (arith, byte)) h.at
+
+unassigned_head : (b : ℕ) (bs rest : List ℕ) (w : HeadWidth) (h : Head) → b / 32 ≡ 4 → 28 ≤ b % 32 → (b % 32 ≡ 31 → ⊥) → head_at b bs ≡ Ok ((w, h), rest) → ⊥
+unfolding head_at head_of
+unassigned_head b bs rest w h four least other is = by (eqb (b % 32) 31) refl (number_behind (b % 32) bs) refl (rw four at is)
+  where
+    by : (c : Bool) → eqb (b % 32) 31 ≡ c → (read : Reads ℕ) → number_behind (b % 32) bs ≡ read → cond {A = Reads (HeadWidth × Head)} c (Ok ((no_bytes, head.Array ToBreak), bs)) (read >>= (λ n. Ok ((width_of (b % 32), head.Array (Counted n.0)), n.1))) ≡ Ok ((w, h), rest) → ⊥
+    by true last read at is = other (eqb-true (b % 32) 31 last)
+    by false last (Ok n) at is = no_number (b % 32) n.0 bs n.1 least at
+    by false last (Err e) at is = absurd cc
+
+-- no item begins with such a byte
+pub unassigned_first : (f : Formats) (l : Limits) (levels b : ℕ) (bs rest : List ℕ) (r : Raw) → shape_of b ≡ shape.Unassigned → item_at (raws f l) levels (b ∷ bs) ≡ Ok (r, rest) → ⊥
+unassigned_first f l levels b bs rest r begins is =
+    let byte = unassigned_byte b begins in
+    let h = headed f l levels b bs r rest is in
+    unassigned_head b bs h.mid h.width h.head (omega (arith, byte)) (omega (arith, byte)) (λ last. omega (arith, byte, last)) h.at
 
 map_head_at : (bs : List ℕ) → head_at 0xa1 bs ≡ Ok ((no_bytes, head.Map (Counted 1)), bs)
 unfolding head_at head_of number_behind

@@ -1,22 +1,27 @@
 -- Which enums are read.
-use Rattle.std.proofs.Common.{◌≡◌, ◌∙◌, ◌||◌, ℕ, Bool, true, false, List, [], ◌∷◌, Result, Ok, Err, refl, sym, ap, subst}
+use Rattle.std.proofs.Common.{◌≡◌, ◌∙◌, ◌||◌, ℕ, Bool, true, false, List, [], ◌∷◌, Option, IsSomeAnd, Result, Ok, Err, inr, refl, sym, ap, subst}
 use Rattle.cbor_model.specs.Formats.{Formats}
 use Rattle.cbor_model.specs.Head.{HeadWidth, no_bytes, one_byte, two_bytes, four_bytes, eight_bytes}
 use Rattle.cbor_model.specs.Raw as raw
 use Rattle.cbor_model.specs.Raw.{Raw, Raws, no_raws, no_raw_pairs, raw_pair, definite, indefinite}
 use Rattle.cbor_model.specs.Readable.{untagged, PassesTags}
-use Rattle.cbor_model.specs.Reader.{Reads, ◌>>=◌, ended, byte_at, item_at}
+use Rattle.cbor_model.specs.Refusal.{unassigned_code}
+use Rattle.cbor_model.specs.Reader.{Reads, ◌>>=◌, before, ended, byte_at, item_at}
 use Rattle.cbor_read.specs.Source.{Input}
 use Rattle.cbor_io.specs.Error.{code_of, offset_of}
 use Rattle.cbor_io.specs.declared.error.Error.{Error}
 use Rattle.cbor_io.specs.declared.read_error.ReadErrorCode.{ReadErrorCode}
-use Rattle.cbor_de.specs.Gives.{Limits, Step}
-use Rattle.cbor_de.proofs.facts.Steps.{step_then}
+use Rattle.cbor_io.specs.declared.read_error.ReadError.{ReadError}
+use Rattle.cbor_io.specs.declared.read_error.ReadErrorCode.TheVariants as reading
+use Rattle.cbor_de.specs.declared.refusal.Refused.{Refused}
+use Rattle.cbor_de.specs.declared.refusal.Refused.TheVariants as refused
+use Rattle.cbor_de.specs.Gives.{Limits, limits, Step, Stopped, IsAt}
+use Rattle.cbor_de.proofs.facts.Steps.{step_then, stopped_then, fault_stops}
 use Rattle.cbor_collections.specs.Enums.{IsVariant, Content, reads_names}
 use Rattle.cbor_scalars.specs.Kinds.{kind_of}
 use Rattle.cbor_scalars.specs.Kinds as kind
 use Rattle.cbor_scalars.specs.Takes.{raws, IsNotRead, Refuses}
-use Rattle.cbor_collections.specs.Variants.{IsVariantHead, HasShape, HasNoShape, HasNoTag, IsShaped, TakesShaped, RefusesShaped, TakesVariant, shape_of, reads_shape, content_at}
+use Rattle.cbor_collections.specs.Variants.{IsVariantHead, HasShape, HasNoShape, HasNoTag, IsShaped, TakesShaped, RefusesShaped, TakesVariant, shape_of, reads_shape, unassigned_at, content_at}
 use Rattle.cbor_scalars.specs.Tags.{IsBehindTags}
 use Rattle.cbor_collections.specs.declared.variant.Form.{Form}
 use Rattle.cbor_collections.specs.declared.variant.Shape.{Shape}
@@ -24,7 +29,7 @@ use Rattle.cbor_collections.specs.declared.variant.Shape.TheVariants as shape
 use Rattle.cbor_scalars.specs.Opens.{in_tags, tagged}
 use Rattle.cbor_scalars.proofs.facts.Items.{within_tags, untagged-tagged}
 use Rattle.cbor_scalars.proofs.facts.Items.{item_opened}
-use Rattle.cbor_collections.proofs.VariantHeads.{array_first, map_first}
+use Rattle.cbor_collections.proofs.VariantHeads.{array_first, map_first, unassigned_first}
 use Rattle.cbor_collections.proofs.Refusing.{refuses_map, refuses_then}
 
 module _ (f : Formats) (names : List (List ℕ)) (levels : ℕ) (allowed : ReadErrorCode → Bool) (s a : Input) where
@@ -158,7 +163,28 @@ module _ (f : Formats) (names : List (List ℕ)) where
       by shape.Array is = rw is (array_read got.item v (array_first f l levels b bs rest got.item is got.is) got.means)
       by shape.Map is = rw is (map_read got.item v (map_first f l levels b bs rest got.item is got.is) got.means)
       by shape.Alone is = rw is (variant_read (untagged got.item) v got.means)
+      by shape.Unassigned is = rw is refl
 
   pub no_shape : (allowed : ReadErrorCode → Bool) (levels : ℕ) (s : Input) (e : Error) → Refuses allowed s (code_of e) (offset_of e) (λ l bs. HasNoShape f bs) → RefusesShaped HasNoTag allowed f names levels s e
   no_shape allowed levels s e = refuses_map allowed s (code_of e) (offset_of e) (λ l bs. HasNoShape f bs) (λ l bs. HasNoTag bs → IsNotRead (PassesTags (IsVariant f names)) (item_at (raws f l) levels bs))
       (λ l bs none _. no_shape_read l levels bs none)
+
+-- ---- where no item begins
+
+-- a byte was taken that begins no item
+pub unassigned_stops : (allowed : ReadErrorCode → Bool) (s a : Input) (b : ℕ) (kept : Option ReadError) (r : Refused) → r ≡ refused.Kept → IsSomeAnd kept (IsAt reading.UnassignedCode a.offset) → Step s a (λ l bs rest. byte_at bs ≡ Ok (b, rest)) → Stopped allowed (λ l. unassigned_at) s kept r
+unassigned_stops allowed s a b kept r is keeps step =
+    stopped_then allowed none (λ l. unassigned_at) s a kept r (λ l bs rest. byte_at bs ≡ Ok (b, rest))
+    (λ l bs mid f at stop. ap (λ (read : Reads ℕ). read >>= (λ x. Err (before unassigned_code x.1))) at ∙ stop) step
+    (fault_stops allowed a none kept r reading.UnassignedCode unassigned_code (λ at end r h. h) (λ l bs. refl) is keeps)
+  where
+    none : Limits → List ℕ → Reads (Unit {0})
+    none l bs = Err (before unassigned_code bs)
+
+module _ (f : Formats) (names : List (List ℕ)) where
+  pub unassigned_shape : (allowed : ReadErrorCode → Bool) (levels : ℕ) (s : Input) (e : Error) → RefusesShaped (HasShape shape.Unassigned) allowed f names levels s e
+  unassigned_shape allowed levels s e = record { told = λ bs tells. inr (nothing (limits s bs) bs) }
+    where
+      nothing : (l : Limits) (bs : List ℕ) → HasShape shape.Unassigned bs → IsNotRead (PassesTags (IsVariant f names)) (item_at (raws f l) levels bs)
+      nothing l [] has v rest got = has
+      nothing l (b ∷ bs) has v rest got = unassigned_first f l levels b bs rest got.item has.0 got.is

@@ -19,7 +19,7 @@ AreRead reads no_raws (x ∷ xs) = ⊥
 AreRead reads (raw.raw r rs) [] = ⊥
 AreRead reads (raw.raw r rs) (x ∷ xs) = reads r x × AreRead reads rs xs
 
--- the same, of so many items
+-- as what so many items, and no more, are read
 abbrev pub AreExactly : {A : Type 0} → (Raw → A → Type 0) → ℕ → Raws → List A → Type 0
 AreExactly reads n rs xs = AreRead reads rs xs × (length xs ≡ n)
 

@@ -4,7 +4,7 @@ use Rattle.std.specs.Prelude.{nat_lt, ◌==◌, if◌then◌else◌, codes, ◌+
 use Rattle.cbor_model.specs.Formats.{Formats}
 use Rattle.cbor_model.specs.Raw.{Raw, Raws}
 use Rattle.cbor_model.specs.Readable.{PassesTags}
-use Rattle.cbor_model.specs.Refusal.{too_deep, end_in_array}
+use Rattle.cbor_model.specs.Refusal.{too_deep, end_in_array, unassigned_code}
 use Rattle.cbor_model.specs.Reader.{Reads, ◌>>=◌, before, byte_at, item_at, next_at}
 use Rattle.cbor_model.specs.Reader as reader
 use Rattle.cbor_io.specs.declared.error.Error.{Error}
@@ -116,26 +116,34 @@ TakesParts refusals f left form s t inner (Err e) = RefusesParts refusals f left
 abbrev pub alone_text : List ℕ → List ℕ
 alone_text kind = codes "invalid type: unit variant, expected " ++ kind ++ codes " variant"
 
--- of an identifier alone the error is told by this text
+-- of an identifier alone the error is told by this text, and has no place
 abbrev pub TellsAlone : List ℕ → Form → Error → Type 0
-TellsAlone text form.Alone e = IsMessageOf (Some text) (code_of e)
+TellsAlone text form.Alone e = IsMessageOf (Some text) (code_of e) × (offset_of e ≡ 0)
 TellsAlone text _ e = Unit {0}
 
 -- ---- steps
 
--- how an enum is spelled that begins with this byte
+-- How an enum is spelled that begins with this byte: 80 to 9b and 9f begin an array, 9c to 9e no item,
+-- and a1 a map of one pair.
 abbrev pub shape_of : ℕ → Shape
 shape_of b =
     if nat_lt b 0x80 then shape.Alone
-    else (if nat_lt b 0xa0 then shape.Array
+    else (if nat_lt b 0x9c then shape.Array
+    else (if nat_lt b 0x9f then shape.Unassigned
+    else (if b == 0x9f then shape.Array
     else (if b == 0xa1 then shape.Map
-    else shape.Alone))
+    else shape.Alone))))
 
--- whether enums of this shape are read
+-- Whether enums of this shape are read; no switch decides where no item begins so.
 abbrev pub reads_shape : Formats → Shape → Bool
 reads_shape f shape.Array = f.legacy_enums
 reads_shape f shape.Map = f.standard_enums
 reads_shape f shape.Alone = reads_names f
+reads_shape f shape.Unassigned = true
+
+-- a first byte that begins no item
+abbrev pub unassigned_at : List ℕ → Reads (Unit {0})
+unassigned_at bs = byte_at bs >>= (λ b. Err (before unassigned_code b.1))
 
 -- the first byte is that of an enum of this shape
 abbrev pub HasShape : Shape → List ℕ → Type 0
@@ -163,7 +171,7 @@ abbrev pub RefusesShaped : (List ℕ → Type 0) → (ReadErrorCode → Bool) �
 RefusesShaped Where refusals f names levels s e = Refuses refusals s (code_of e) (offset_of e)
     (λ l bs. Where bs → IsNotRead (PassesTags (IsVariant f names)) (item_at (raws f l) levels bs))
 
--- The same as of an enum at any place, where the bytes at the front are such.
+-- What is taken of an enum at any place, where the bytes at the front are such.
 abbrev pub TakesShaped : (List ℕ → Type 0) → (ReadErrorCode → Bool) → Formats → List (List ℕ) → ℕ
     → Input → Input → ℕ → Result (ℕ × Form) Error → Type 0
 TakesShaped Where refusals f names levels s t left (Ok v) = Step s t

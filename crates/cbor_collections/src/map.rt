@@ -70,7 +70,7 @@ pub(crate) fn key_begins<R: Source>(items: &mut Deserializer<R>) -> Done<()>
     }
 }
 
-// The same, where no byte is at hand.
+// Refuses such a key where no byte is buffered: the source is asked to show one.
 #[inline(never)]
 #[tactic(auto, unfolding(cbor_model::specs::Reader::key_at))]
 fn key_begins_peeked<R: Source>(items: &mut Deserializer<R>) -> Done<()>

@@ -7,7 +7,7 @@ ghost use Rattle.cbor_model.specs.Refusal.{end_in_array};
 ghost use Rattle.cbor_model.specs.Reader.{next_at};
 ghost use Rattle.cbor_de.specs.Heads.{remaining_of};
 ghost use Rattle.cbor_io.specs.Error.{code_of, offset_of, HasNoOffset};
-ghost use Rattle.cbor_de.specs.Gives.{Gives, TellsNoForm, TellsNoKey};
+ghost use Rattle.cbor_de.specs.Gives.{Gives, Stopped, TellsNoForm, TellsNoKey};
 ghost use Rattle.cbor_collections.specs.Cases.{Stands, NoItemHere, form_cases};
 ghost use Rattle.cbor_collections.specs.Cases.{untagged_cases, enum_cases, unit_cases};
 ghost use Rattle.cbor_collections.specs.Enums.{IsName, IsNothing, IsPart};
@@ -20,13 +20,14 @@ ghost use Rattle.cbor_collections.specs.Variants.{shape_of, reads_shape};
 ghost use Rattle.cbor_collections.specs.Variants.{HasNoTag, IsAlone, HasShape};
 ghost use Rattle.cbor_collections.specs.Variants.{TakesShape, TakesShaped};
 ghost use Rattle.cbor_collections.specs.Variants.{TakesComing, ExpectsItem, pair_head_at};
+ghost use Rattle.cbor_collections.specs.Variants.{unassigned_at};
 ghost use Rattle.cbor_collections.specs.Variants.{TellsAlone, alone_text};
 ghost use Rattle.cbor_collections.specs.declared.variant.Form.TheVariants.{Array};
 ghost use Rattle.cbor_collections.specs.declared.variant.Shape.TheVariants as shape;
 
 use crate::array::{array_head, end_array};
 use crate::map::key_begins;
-use cbor_de::{Deserializer, Done, Remaining};
+use cbor_de::{Deserializer, Done, Refused, Remaining};
 use cbor_io::error::{Error, ErrorCode, Result};
 use cbor_read::{Read, ReadErrorCode, Source};
 use cbor_scalars::identifier::{identifier, unnamed};
@@ -56,6 +57,8 @@ enum Shape {
     Array,
     Map,
     Alone,
+    // Not at all: no item begins so.
+    Unassigned,
 }
 
 // How an enum is spelled that begins with this byte.
@@ -63,7 +66,8 @@ fn shape_of(first: u8) -> Shape
     ensures { result ≡ shape_of first }
 {
     match first {
-        0x80..=0x9f => Shape::Array,
+        0x80..=0x9b | 0x9f => Shape::Array,
+        0x9c..=0x9e => Shape::Unassigned,
         ONE_PAIR => Shape::Map,
         _ => Shape::Alone,
     }
@@ -106,6 +110,7 @@ fn reads_shape<R: Source>(items: &Deserializer<R>, shape: Shape) -> bool
         Shape::Array => formats.legacy_enums,
         Shape::Map => formats.standard_enums,
         Shape::Alone => formats.standard_enums || formats.legacy_enums,
+        Shape::Unassigned => true,
     }
 }
 
@@ -214,11 +219,12 @@ pub fn parts<R: Source>(items: &mut Deserializer<R>, form: Form) -> Result<Remai
 }
 
 /// Takes an enum up to its identifier: the tags, the head of an array or of a map of one pair, and
-/// the identifier, of which it answers the place among the names. Refused, it leaves the levels
+/// the identifier, of which it returns the place among the names. Refused, it leaves the levels
 /// that it took.
 ///
-/// It is refused with `WrongEnumFormat`, before the first byte behind the tags, where that form
-/// isn't read; with `ArrayTooShort` where an array has no identifier; with `unknown variant` where
+/// It is refused with `WrongEnumFormat`, before the first byte after the tags, where that form
+/// isn't read; with `UnassignedCode`, after that byte, where it is one of `9c` to `9e`, whatever is
+/// read; with `ArrayTooShort` where an array has no identifier; with `unknown variant` where
 /// no name is of the identifier, and with `invalid type: expected a variant name` where another
 /// item stands in its place.
 pub fn variant_head<'de, R: Read<'de>>(
@@ -248,7 +254,7 @@ pub fn variant_head<'de, R: Read<'de>>(
     }
 }
 
-// The same, of which levels may stay where it is refused.
+// As `variant_head`, but an Err doesn't restore the nesting level.
 #[tactic(auto, using(crate::proofs::Cases::other_stands, crate::proofs::Cases::tagged_stand))]
 fn tagged_variant<'de, R: Read<'de>>(
     items: &mut Deserializer<R>,
@@ -272,8 +278,8 @@ fn tagged_variant<'de, R: Read<'de>>(
     }
 }
 
-// The same of an enum within no tag.
-#[tactic(auto, using(crate::proofs::Cases::others_stand, crate::proofs::Cases::forms_stand, crate::proofs::Cases::shaped_stand))]
+// Takes an enum that has no tag up to its identifier.
+#[tactic(auto, using(crate::proofs::Cases::others_stand, crate::proofs::Cases::other_stands, crate::proofs::Cases::forms_stand, crate::proofs::Cases::shaped_stand))]
 fn untagged_variant<'de, R: Read<'de>>(
     items: &mut Deserializer<R>,
     names: &[&str],
@@ -294,10 +300,31 @@ fn untagged_variant<'de, R: Read<'de>>(
         Shape::Array => array_variant(items, names),
         Shape::Map => map_variant(items, names),
         Shape::Alone => name_alone(items, names),
+        Shape::Unassigned => {
+            let refused = unassigned_byte(items);
+            Err(items.error(refused))
+        }
     }
 }
 
-// The same of an identifier alone.
+// Takes a byte that begins no item, and refuses it.
+#[cold]
+#[inline(never)]
+#[tactic(auto, using(crate::proofs::VariantShapes::unassigned_stops))]
+fn unassigned_byte<R: Source>(items: &mut Deserializer<R>) -> Refused
+    ensures read { Stopped R.refusals (λ l. unassigned_at) (R.source items.old.source)
+        items.new.refusal result }
+    ensures no_key { TellsNoKey items.new.refusal result }
+    ensures levels { items.new.levels ≡ items.old.levels }
+    ensures formats { items.new.formats ≡ items.old.formats }
+{
+    match items.byte() {
+        Ok(_) => items.refuse(ReadErrorCode::UnassignedCode),
+        Err(refused) => refused,
+    }
+}
+
+// Takes the identifier of an enum that is an identifier alone.
 fn name_alone<'de, R: Read<'de>>(
     items: &mut Deserializer<R>,
     names: &[&str],
@@ -317,7 +344,7 @@ fn name_alone<'de, R: Read<'de>>(
     Ok((index, Form::Alone))
 }
 
-// The same of an array.
+// Takes the head and the identifier of an enum in an array.
 #[tactic(auto, using(crate::proofs::Cases::other_stands, crate::proofs::Cases::empty_stands))]
 fn array_variant<'de, R: Read<'de>>(
     items: &mut Deserializer<R>,
@@ -342,7 +369,7 @@ fn array_variant<'de, R: Read<'de>>(
     Ok((index, Form::Array(remaining)))
 }
 
-// The same of a map of one pair.
+// Takes the head and the identifier of an enum in a map of one pair.
 #[tactic(auto, using(crate::proofs::Cases::other_stands, crate::proofs::Cases::pair_stands))]
 fn map_variant<'de, R: Read<'de>>(
     items: &mut Deserializer<R>,

@@ -15,7 +15,7 @@ use Rattle.cbor_model.proofs.facts.Reader.{all_allowed}
 use Rattle.cbor_io.specs.declared.error.Error.{Error}
 use Rattle.cbor_io.specs.declared.error.ErrorCode.{ErrorCode}
 use Rattle.cbor_io.specs.declared.error.ErrorCode.TheVariants.{Message, OutOfMemory}
-use Rattle.cbor_ser.specs.Written.{IsNotWritten, IsRefusedBy}
+use Rattle.cbor_ser.specs.Written.{IsNotWritten, IsRefusedBy, IsUnstorableCode, SaysUnstorable}
 use Rattle.cbor_de.specs.Gives.{IsMemoryOrFault, IsMemoryOrFaultBy}
 
 -- a reader over bytes that begins at their front
@@ -32,6 +32,17 @@ memory_code _ S s h = absurd h
 pub not_refused : {T : Type 0} (r : Result T Error) (v : Val) (e : Error) → IsNotWritten (IsStorableDocument (document_of v)) e → IsErrAnd r (λ x. x ≡ e) → IsStorable v → IfErr r IsMemoryOrFault
 not_refused (Ok x) v e h is stored = tt
 not_refused (Err x) v e h is stored = subst IsMemoryOrFault (sym is) (memory_code e.code (IsStorableDocument (document_of v)) (storable_document v stored) h.0, h.1)
+
+-- ---- one that isn't storable is told so
+
+unstorable_code : (code : ErrorCode) (S : Type 0) → IsRefusedBy code S → IsUnstorableCode code
+unstorable_code (Message text) S h = h.0
+unstorable_code OutOfMemory S h = tt
+unstorable_code _ S h = absurd h
+
+pub told_unstorable : {T : Type 0} (r : Result T Error) (v : Val) (e : Error) → IsNotWritten (IsStorableDocument (document_of v)) e → IsErrAnd r (λ x. x ≡ e) → IfErr r SaysUnstorable
+told_unstorable (Ok x) v e h is = tt
+told_unstorable (Err x) v e h is = subst SaysUnstorable (sym is) (unstorable_code e.code (IsStorableDocument (document_of v)) h.0, h.1)
 
 -- ---- the item that is read
 

@@ -37,7 +37,7 @@ impl SerializeVec {
         }
     }
 
-    /// Puts an item behind those before it. It refuses as [`to_value`] does, and holds what it held
+    /// Puts an item after those before it. It refuses as [`to_value`] does, and holds what it held
     /// then.
     pub fn serialize_element<T: Serialize>(&mut self, item: &T) -> Result<()>
         ensures held { (ds : Docs) → HoldsItems ds self.old → MatchResult result
@@ -50,7 +50,7 @@ impl SerializeVec {
         Ok(())
     }
 
-    /// Puts a part of a tuple or a tuple struct behind those before it, as `serialize_element`
+    /// Puts a part of a tuple or a tuple struct after those before it, as `serialize_element`
     /// does.
     pub fn serialize_field<T: Serialize>(&mut self, part: &T) -> Result<()>
         ensures held { (ds : Docs) → HoldsItems ds self.old → MatchResult result

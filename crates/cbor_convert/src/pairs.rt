@@ -13,7 +13,7 @@ use cbor_ser::Serialize;
 use cbor_value::{Map, Value};
 use std::alloc::Global;
 
-/// Keys and values, one pair behind the other.
+/// Keys and values, one pair after the other.
 #[derive(Drop)]
 pub(crate) struct PairList {
     pub(crate) alloc: Global,

@@ -5,6 +5,7 @@ ghost use Rattle.cbor_model.specs.Acceptable.{IsAcceptable};
 ghost use Rattle.cbor_model.specs.Canonical.{IsStorable, canonical};
 ghost use Rattle.cbor_model.specs.Raw.{AreBytes};
 ghost use Rattle.cbor_value.specs.View.{view};
+ghost use Rattle.cbor_ser.specs.Written.{SaysUnstorable};
 ghost use Rattle.cbor_de.specs.Gives.{IsMemoryOrFault};
 ghost use Rattle.cbor_typed.specs.Whole.{from_reader_context};
 
@@ -39,6 +40,8 @@ pub fn from_value<'de, T: DeserializeOwned + Deserialize<'de, IoRead<Cursor<Vec<
     ensures accepted { (x : T) → IsStorable (view value) → IsAcceptable (canonical (view value))
         → T.reads from_reader_context (canonical (view value)) x
         → IfErr result IsMemoryOrFault }
+    // A value that can't be stored is told so by that message, unless memory runs out.
+    ensures refused { (IsStorable (view value) → ⊥) → IfErr result SaysUnstorable }
 {
     let bytes = to_vec(alloc, &value)?;
     are_bytes(&bytes);

@@ -25,7 +25,7 @@ use std::alloc::Global;
 /// The pairs of a map are put in order, and of equal keys the last value stays.
 ///
 /// It refuses an integer outside `-2^64..=2^64-1`, at any depth, with the message
-/// `The number can't be stored in CBOR`, and answers `OutOfMemory` where an allocation fails.
+/// `The number can't be stored in CBOR`, and returns `OutOfMemory` where an allocation fails.
 ///
 /// ```rust
 /// let value = to_value(alloc, &(true, 5u8))?;
@@ -59,6 +59,10 @@ fn value_in(alloc: Global, bytes: &[u8]) -> Result<Value>
 }
 
 /// The call [`to_value`](to_value()) of each type that is written.
+///
+/// ```rust
+/// assert_eq!(rt; Some(5u8).to_value(alloc)?, Value::Integer(5));
+/// ```
 pub trait ToValue: Serialize {
     ghost use Rattle.std.specs.Prelude.{◌≡◌, IfOk, IfErr, OnOk};
     ghost use Rattle.cbor_model.specs.Canonical.{IsStorable, IsOrdered};

@@ -56,7 +56,7 @@ impl SerializeTupleVariant {
         }
     }
 
-    /// Puts a part behind those before it. It refuses as [`to_value`](crate::to_value()) does, and
+    /// Puts a part after those before it. It refuses as [`to_value`](crate::to_value()) does, and
     /// holds what it held then.
     pub fn serialize_field<T: Serialize>(&mut self, part: &T) -> Result<()>
         ensures held { (n : List ℕ) (ds : Docs) → HoldsParts n ds self.old → MatchResult result

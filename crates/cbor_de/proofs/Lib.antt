@@ -4,6 +4,7 @@ pub mod Peeked
 pub mod Ended
 pub mod Heads
 pub mod ShortTexts
+pub mod AtEnd
 mod AtHand
 pub mod Chunk
 pub mod Chunks

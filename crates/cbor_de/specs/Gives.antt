@@ -60,7 +60,7 @@ FailsBy Device _ end offset read = ⊥
 abbrev pub Fails : {A : Type 0} → ℕ → Error → Result A Fault → Type 0
 Fails end e read = FailsBy ⊥ (code_of e) end (offset_of e) read
 
--- The same, or a fault of the reader.
+-- The error tells the fault, or that memory ran out, or a fault of the reader.
 abbrev pub FailsOrFaults : {A : Type 0} → ℕ → Error → Result A Fault → Type 0
 FailsOrFaults end e read = FailsBy ⊤ (code_of e) end (offset_of e) read
 

@@ -141,7 +141,7 @@ behind_head m inner w Undefined bs = Ok (m.simple undefined_item, bs)
 behind_head m inner w (Float f) bs = Ok (float_of m f, bs)
 behind_head m inner w Break bs = Err (before unexpected_code bs)
 
--- The same, read as the value of its item. A width of no bytes stands for every width, since no value
+-- A head, read as the value of its item. A width of no bytes stands for every width, since no value
 -- depends on it; all formats stand for each in strings.
 abbrev pub after_head : Formats → Limits → Option (List ℕ → Reads Val) → Head → List ℕ → Reads Val
 after_head f l inner (Unsigned n) bs = Ok (plain.integer (pos n), bs)

@@ -1,3 +1,4 @@
+pub mod AtEnd
 pub mod Cursor
 pub mod Deserializer
 pub mod FirstRefusal

@@ -66,7 +66,7 @@ impl<R: Source> Deserializer<R> {
         }
     }
 
-    // The same of an indefinite length.
+    // Takes the first byte of the next item or key, or the break that comes in its place.
     fn next_to_break(&mut self, of: Collection) -> Done<Option<u8>>
         ensures read { Gives R.refusals (first_of_next ToBreak)
             (λ l. first_at (end_of of) to_break)

@@ -6,6 +6,7 @@ ghost use Rattle.cbor_io.specs.declared.read_error.ReadErrorCode.TheVariants.{Re
 ghost use Rattle.cbor_model.specs.Acceptable.{max_depth};
 ghost use Rattle.cbor_model.specs.Formats.{all_formats};
 ghost use Rattle.cbor_model.specs.Reader.{byte_at};
+ghost use Rattle.cbor_de.specs.AtEnd.{EndTakes, EndStops};
 ghost use Rattle.cbor_de.specs.Deserializer.{source_of, levels_of, formats_of};
 ghost use Rattle.cbor_de.specs.Gives.{Gives, Ends, Onward, Keeps, IsAt, TellsNoKey, end_at};
 ghost use Rattle.cbor_de.specs.declared.refusal.Refused.TheVariants.{Kept};
@@ -121,18 +122,22 @@ impl<R: Source> Deserializer<R> {
         self
     }
 
-    /// Ok where nothing is to come.
+    /// Ok where nothing is to come; nothing is taken then.
     ///
-    /// Else it takes a byte, and refuses with `TrailingData`, after that byte; or with `Io`, where
-    /// the source is a reader that reports a fault.
+    /// Else it takes just the next byte, and refuses with `TrailingData`, after that byte. Where
+    /// the source is a reader that reports a fault, it takes nothing and returns `Io`; where the
+    /// byte would be the one at the offset 2^64 - 1, `LengthOutOfRange`.
     ///
     /// ```rust
     /// let mut de = Deserializer::new(alloc, SliceRead::new(alloc, b"\xf6"));
     /// assert_eq!(rt; de.end().unwrap_err().offset(), 1);
     /// de.end()?;
     /// ```
+    #[tactic(auto, using(crate::proofs::AtEnd::end_told))]
     pub fn end(&mut self) -> Result<()>
         ensures ends { Ends R.refusals (R.source (source_of self.old)) result }
+        ensures takes { EndTakes R.refusals (R.source (source_of self.old))
+            (R.source (source_of self.new)) result }
         ensures levels { levels_of self.new ≡ levels_of self.old }
         ensures formats { self.new.formats ≡ self.old.formats }
     {
@@ -170,7 +175,7 @@ impl<R: Source> Deserializer<R> {
         }
     }
 
-    // The same, where none is at hand.
+    // Takes one byte, of which none is buffered: the source is asked for it.
     #[inline(never)]
     fn byte_asked_for(&mut self) -> Done<u8>
         ensures read { Gives R.refusals (λ b. b) (λ l. byte_at)
@@ -212,6 +217,8 @@ impl<R: Source> Deserializer<R> {
     pub fn ended(&mut self) -> Done<()>
         ensures read { Gives R.refusals (λ u. u) (λ l. end_at)
             (R.source self.old.source) (R.source self.new.source) self.new.refusal result }
+        ensures takes { EndStops R.refusals (R.source self.old.source) (R.source self.new.source)
+            self.new.refusal result }
         ensures levels { self.new.levels ≡ self.old.levels }
         ensures formats { self.new.formats ≡ self.old.formats }
     {

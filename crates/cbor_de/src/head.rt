@@ -52,8 +52,8 @@ pub enum Head {
 }
 
 impl<R: Source> Deserializer<R> {
-    /// Takes the head of a text of up to 23 bytes, which most names are, and answers how many. None
-    /// where another head comes, or no byte is at hand; then nothing is taken.
+    /// Takes the head of a text of up to 23 bytes, which most names are, and returns how many. None
+    /// where another head comes, or no byte is available; then nothing is taken.
     #[inline(always)]
     #[tactic(auto, using(crate::proofs::ShortTexts::short_text_step))]
     pub fn short_text(&mut self) -> Option<u64>
@@ -72,8 +72,8 @@ impl<R: Source> Deserializer<R> {
         }
     }
 
-    /// Takes a float of 32 bits and answers its bits. None where another head comes, or no byte is
-    /// at hand; then nothing is taken.
+    /// Takes a float of 32 bits and returns its bits. None where another head comes, or no byte is
+    /// available; then nothing is taken.
     #[inline(always)]
     pub fn single(&mut self) -> Done<Option<u32>>
         ensures read { NumberGives (λ bits. FloatHead (Single bits)) R.refusals
@@ -94,8 +94,8 @@ impl<R: Source> Deserializer<R> {
         }
     }
 
-    /// Takes a float of 64 bits and answers its bits. None where another head comes, or no byte is
-    /// at hand; then nothing is taken.
+    /// Takes a float of 64 bits and returns its bits. None where another head comes, or no byte is
+    /// available; then nothing is taken.
     #[inline(always)]
     pub fn double(&mut self) -> Done<Option<u64>>
         ensures read { NumberGives (λ bits. FloatHead (Double bits)) R.refusals
@@ -116,7 +116,7 @@ impl<R: Source> Deserializer<R> {
         }
     }
 
-    /// Takes the rest of a head behind its first byte.
+    /// Takes the rest of a head after its first byte.
     #[inline(always)]
     pub fn head(&mut self, first: u8) -> Done<Head>
         ensures read { HeadGives R.refusals (head_at first)
@@ -190,7 +190,7 @@ impl<R: Source> Deserializer<R> {
         }
     }
 
-    /// Takes the argument behind a first byte with these lower five bits.
+    /// Takes the argument after a first byte with these lower five bits.
     #[inline(always)]
     pub fn argument(&mut self, low: u8) -> Done<u64>
         ensures read { Gives R.refusals (λ n. n) (λ l. number_behind low)
@@ -292,7 +292,7 @@ impl<R: Source> Deserializer<R> {
         self.fill_asked_for(bytes)
     }
 
-    // The same, where too few are at hand.
+    // Fills it where too few bytes are buffered: the source is asked for them.
     #[inline(never)]
     fn fill_asked_for(&mut self, bytes: &mut [u8]) -> Done<()>
         ensures ok { OnOk result

@@ -42,7 +42,7 @@ impl<R: Source> Deserializer<R> {
         }
     }
 
-    // The same of an indefinite length.
+    // Whether another item or pair comes before the break.
     fn more_to_break(&mut self, of: Collection) -> Done<bool>
         ensures read { Gives R.refusals (behind_next ToBreak) (λ l. next_at (end_of of) to_break)
             (R.source self.old.source) (R.source self.new.source) self.new.refusal result }
@@ -65,7 +65,7 @@ impl<R: Source> Deserializer<R> {
     /// indefinite.
     ///
     /// What stands in its place is refused with `TrailingData`: before it where a count was
-    /// declared, and behind its first byte where it wasn't.
+    /// declared, and after its first byte where it wasn't.
     pub fn end_of(&mut self, remaining: Remaining, of: Collection) -> Done<()>
         ensures read { Gives R.refusals (λ u. u)
             (λ l. ended_at (end_of of) (remaining_of remaining))
@@ -81,7 +81,7 @@ impl<R: Source> Deserializer<R> {
         }
     }
 
-    // The same of an indefinite length.
+    // Takes the break of an array or a map of indefinite length.
     fn end_by_break(&mut self, of: Collection) -> Done<()>
         ensures read { Gives R.refusals (λ u. u) (λ l. ended_at (end_of of) to_break)
             (R.source self.old.source) (R.source self.new.source) self.new.refusal result }

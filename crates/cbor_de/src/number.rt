@@ -12,7 +12,7 @@ use cbor_read::Source;
 use cbor_value::{Float, Value};
 
 impl<R: Source> Deserializer<R> {
-    // Reads the whole number from 0 that has this first byte (RFC 7049, section 2.1).
+    // Reads the unsigned integer that has this first byte (RFC 7049, section 2.1).
     #[inline(always)]
     pub(crate) fn unsigned_from(&mut self, first: u8) -> Done<Value>
         requires { first ≤ 0x1b }

@@ -1,6 +1,6 @@
 //! How a step of reading is refused.
 //!
-//! A step answers no more than that it was refused, and the deserializer keeps why until the call
+//! A step returns no more than that it was refused, and the deserializer keeps why until the call
 //! that the step belongs to ends: an error is large, and would be copied at each step on the way
 //! out.
 
@@ -22,11 +22,11 @@ use std::alloc::{AllocError, AllocFailed};
 pub enum Refused {
     /// An allocation failed.
     OutOfMemory,
-    /// For what the deserializer keeps.
+    /// The reason is in the deserializer's `refusal`.
     Kept,
 }
 
-/// What a step answers.
+/// What a step returns.
 pub type Done<T> = std::result::Result<T, Refused>;
 
 impl From<AllocError> for Refused {
@@ -78,7 +78,7 @@ impl<R: Source> Deserializer<R> {
         self.refuse_back(code, 0)
     }
 
-    /// Refuses so many bytes before that.
+    /// Keeps a refusal of this code, so many bytes before the offset.
     #[cold]
     pub fn refuse_back(&mut self, code: ReadErrorCode, back: usize) -> Refused
         requires code { HasNoPlace code → ⊥ }

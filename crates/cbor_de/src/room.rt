@@ -6,7 +6,7 @@ ghost use Rattle.cbor_de.specs.declared.refusal.Refused.TheVariants.{OutOfMemory
 use crate::cursor::Remaining;
 use crate::refusal::Done;
 
-/// Adds an item of up to 1,024 bytes behind the others, where so many remain behind it.
+/// Adds an item of up to 1,024 bytes after the others, where so many remain after it.
 ///
 /// `Vec` would take room for four at once. Where fewer than four come, room is taken for those
 /// alone: most arrays and maps are small, and each level of a nest holds one item.
@@ -22,7 +22,7 @@ pub fn push<T: Drop>(items: &mut Vec<T>, item: T, remaining: Remaining) -> Done<
     Ok(())
 }
 
-/// Adds an item of any size behind the others, where so many remain behind it.
+/// Adds an item of any size after the others, where so many remain after it.
 ///
 /// An array of one takes room for one. Where more remain, `Vec` decides, which takes room for one
 /// at first where an item takes more than 1,024 bytes.

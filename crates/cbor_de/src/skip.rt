@@ -75,7 +75,7 @@ impl<R: Source> Deserializer<R> {
         }
     }
 
-    // Passes over an array behind its head.
+    // Passes over an array after its head.
     #[cycle(skip)]
     fn skip_array(&mut self, remaining: Remaining) -> Done<()>
         ensures read { Gives R.refusals (λ u. u)
@@ -109,7 +109,7 @@ impl<R: Source> Deserializer<R> {
         Ok(())
     }
 
-    // Passes over a map behind its head.
+    // Passes over a map after its head.
     #[cycle(skip)]
     fn skip_map(&mut self, remaining: Remaining) -> Done<()>
         ensures read { Gives R.refusals (λ u. u)
@@ -147,7 +147,7 @@ impl<R: Source> Deserializer<R> {
         Ok(())
     }
 
-    // Passes over a tagged item behind the tag's head.
+    // Passes over a tagged item after the tag's head.
     #[cycle(skip)]
     fn skip_tagged(&mut self, tag: u64) -> Done<()>
         ensures read { Gives R.refusals (λ u. u)

@@ -82,7 +82,7 @@ impl<R: Source> Deserializer<R> {
         self.skip_checked(bad)
     }
 
-    // Takes n bytes, and answers how many of them stand from the first on that isn't UTF-8.
+    // Takes n bytes, and returns how many of them stand from the first on that isn't UTF-8.
     #[tactic(auto, using(crate::proofs::SkippedStrings::valid_within, crate::proofs::SkippedStrings::bad_within))]
     fn bad_of_next(&mut self, n: u64) -> Done<usize>
         ensures read { Gives R.refusals (λ bad. bad) (λ l bs. bad_of (bytes_at n bs))

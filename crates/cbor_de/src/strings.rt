@@ -39,7 +39,7 @@ impl<R: Source> Deserializer<R> {
         self.bytes_asked_for(n)
     }
 
-    // The same, where too few are at hand.
+    // Takes n bytes of which too few are buffered: the source is asked for them.
     #[inline(never)]
     fn bytes_asked_for(&mut self, n: u64) -> Done<Vec<u8>>
         ensures read { Gives R.refusals (λ v. v.items) (λ l. bytes_at n)

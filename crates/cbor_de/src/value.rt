@@ -85,7 +85,7 @@ impl<R: Source> Deserializer<R> {
         }
     }
 
-    /// Reads an array behind its head.
+    /// Reads an array after its head.
     #[cycle(read)]
     fn array(&mut self, remaining: Remaining) -> Done<Vec<Value>>
         ensures read { Gives R.refusals (λ v. plain.array (views v.items))
@@ -122,7 +122,7 @@ impl<R: Source> Deserializer<R> {
         Ok(items)
     }
 
-    /// Reads a map behind its head.
+    /// Reads a map after its head.
     #[cycle(read)]
     fn map(&mut self, remaining: Remaining) -> Done<Map>
         ensures read { Gives R.refusals (λ m. plain.map (map_view m))
@@ -166,7 +166,7 @@ impl<R: Source> Deserializer<R> {
         }
     }
 
-    /// Reads a tagged item behind the tag's head.
+    /// Reads a tagged item after the tag's head.
     #[cycle(read)]
     fn tagged(&mut self, tag: u64) -> Done<Box<Value>>
         ensures read { Gives R.refusals (λ b. plain.tag tag (view b.value))

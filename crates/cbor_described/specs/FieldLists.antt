@@ -25,7 +25,7 @@ module _ {S : Type 0} where
   IsLacking [] slots = ⊥
   IsLacking (d ∷ fields) slots = Lacks d.missing slots.0 ⊎ IsLacking fields slots.1
 
--- the same, of what they are a view of
+-- empty slots of fields, over what the fields are a view of
 abbrev pub slots_over : {S T : Type 0} → (view : S → T) → (fields : List (FieldOf T)) → Slots fields
     → Slots (over view fields)
 slots_over view [] slots = slots

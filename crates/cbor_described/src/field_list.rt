@@ -13,6 +13,7 @@ use cbor_collections::map::{end_map, map_head};
 use cbor_io::error::Result;
 use cbor_typed::{
     Deserialize, Deserializer, Field, FieldType, IgnoredAny, Read, duplicate_field, missing_field,
+    next_key,
 };
 use std::alloc::Global;
 
@@ -288,7 +289,7 @@ pub(crate) fn read_fields<'de, R: Read<'de>, F: ReadFields<'de, R>>(
     read
 }
 
-// The same, which leaves any number of levels.
+// Reads the fields, and leaves any number of levels.
 fn fields_within<'de, R: Read<'de>, F: ReadFields<'de, R>>(
     de: &mut Deserializer<R>,
     names: &[&str],
@@ -302,7 +303,7 @@ fn fields_within<'de, R: Read<'de>, F: ReadFields<'de, R>>(
 {
     let mut remaining = map_head(&mut de.items)?;
     let mut held = F::none();
-    'fields: while let Some(field) = de.next_key(&mut remaining, names)? {
+    'fields: while let Some(field) = next_key(de, &mut remaining, names)? {
         match field {
             Field::Known(i) => F::take(de, i, names[i], &mut held)?,
             Field::Unknown => skip_item(de)?,

@@ -13,4 +13,4 @@ mod tuple_parts;
 mod variant_list;
 
 pub use parts::{FromParts, ReadParts, ReadableParts};
-pub use variant_list::{ReadTuple, ReadVariant, ReadableTuple, Variant};
+pub use variant_list::{Never, OneOf, ReadTuple, ReadVariant, ReadableTuple, Variant};

@@ -15,7 +15,7 @@ use cbor_collections::variant::{Form, no_part, parts, variant_head};
 use cbor_de::Remaining;
 use cbor_io::error::{Error, Result};
 use cbor_parts::{FieldNames, Newtype, Struct, Tuple};
-use cbor_typed::{Deserialize, Deserializer, Read, Readable};
+use cbor_typed::{Deserialize, Deserializer, Read, Readable, invalid_length, one_part};
 
 // ---- a variant
 
@@ -30,7 +30,7 @@ pub trait Variant: Sized + Drop {
 
 /// A variant that is read from a source.
 pub trait ReadVariant<'de, R: Read<'de>>: Variant {
-    /// Reads the content of a variant, behind its identifier. It may leave fewer levels.
+    /// Reads the content of a variant, after its identifier. It may leave fewer levels.
     fn read_content(de: &mut Deserializer<R>, form: Form) -> Result<Self>
         ensures read { TakesContent R.refusals (formats_of de.old.items.formats)
             (Self.means (context de.old.items.formats R.lends)) de.old.items.levels form
@@ -58,7 +58,11 @@ impl<T: Readable> Variant for Newtype<T> {
 
 impl<'de, R: Read<'de>, T: Deserialize<'de, R>> ReadVariant<'de, R> for Newtype<T> {
     fn read_content(de: &mut Deserializer<R>, form: Form) -> Result<Newtype<T>> {
-        match de.one_part::<T>(form, "invalid type: unit variant, expected newtype variant") {
+        match one_part::<R, T>(
+            de,
+            form,
+            "invalid type: unit variant, expected newtype variant",
+        ) {
             Ok(part) => Ok(Newtype(part)),
             Err(e) => Err(e),
         }
@@ -118,7 +122,11 @@ where
     N::Parts: ReadParts<'de, R>,
 {
     fn read_content(de: &mut Deserializer<R>, form: Form) -> Result<Struct<N>> {
-        match de.one_part::<Named<N>>(form, "invalid type: unit variant, expected struct variant") {
+        match one_part::<R, Named<N>>(
+            de,
+            form,
+            "invalid type: unit variant, expected struct variant",
+        ) {
             Ok(named) => Ok(Struct(named.0)),
             Err(e) => Err(e),
         }
@@ -209,16 +217,17 @@ impl<'de, R: Read<'de>, A: Deserialize<'de, R>, F: ReadItems<'de, R>> ReadItems<
 
 // ---- the variants
 
-// The first variant of an enum, or one of the others.
+/// The first variant of an enum, or one of the others: the variants as a list, by which they are
+/// read, and by which what is said of each is said of all.
 #[derive(Drop)]
-pub(crate) enum OneOf<V, Vs> {
+pub enum OneOf<V, Vs> {
     This(V),
     Other(Vs),
 }
 
-// No variant, which ends a list of variants.
+/// No variant, which ends a list of variants.
 #[derive(Drop)]
-pub(crate) enum Never {}
+pub enum Never {}
 
 // The variants of an enum: `Never`, or `OneOf` a variant and the list of the others.
 pub(crate) trait VariantList: Sized + Drop {
@@ -288,7 +297,7 @@ fn next_part<'de, R: Read<'de>, T: Deserialize<'de, R>>(
 {
     match more_items(&mut de.items, remaining) {
         Ok(true) => T::deserialize(de),
-        Ok(false) => Err(de.invalid_length(before, expected)),
+        Ok(false) => Err(invalid_length(de.items.alloc, before, expected)),
         Err(e) => Err(e),
     }
 }
@@ -312,7 +321,7 @@ pub(crate) fn read_variants<'de, R: Read<'de>, E: ReadVariants<'de, R>>(
     read
 }
 
-// The same, which leaves any number of levels.
+// Reads the variant, and leaves any number of levels.
 fn variants_within<'de, R: Read<'de>, E: ReadVariants<'de, R>>(
     de: &mut Deserializer<R>,
     names: &[&str],

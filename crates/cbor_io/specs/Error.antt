@@ -20,6 +20,7 @@ use Rattle.cbor_io.specs.declared.error.ErrorCode.TheVariants.{WrongEnumFormat, 
 use Rattle.cbor_io.specs.declared.error.ErrorCode.TheVariants.{NotCanonical}
 use Rattle.cbor_io.specs.declared.error.ErrorCode.TheVariants.{OutOfMemory}
 use Rattle.cbor_io.specs.declared.error.Error.{Error}
+pub use Rattle.cbor_io.specs.Place.{HasNoOffset}
 
 abbrev pub code_of : Error → ErrorCode
 code_of e = e.code
@@ -30,13 +31,6 @@ offset_of e = e.offset
 -- an allocation failed
 abbrev pub IsOutOfMemory : Error → Type 0
 IsOutOfMemory e = (e.code ≡ OutOfMemory) × (e.offset ≡ 0)
-
--- a message, a fault of a device and want of memory have no place in the input
-abbrev pub HasNoOffset : ErrorCode → Type 0
-HasNoOffset (Message s) = ⊤
-HasNoOffset (Io e) = ⊤
-HasNoOffset OutOfMemory = ⊤
-HasNoOffset _ = ⊥
 
 abbrev pub category_of : ErrorCode → Category
 category_of (Message s) = category.Data
@@ -73,7 +67,7 @@ code_text OutOfMemory = codes "out of memory"
 abbrev pub error_text : Error → List ℕ
 error_text e = code_text e.code ++ at_offset e.offset
 
--- The same under the options of a hole, as `{:#}` or `{:>40}`, which it ignores. Where an offset
+-- What it prints under the options of a hole, as `{:#}` or `{:>40}`, which it ignores. Where an offset
 -- follows the words, what is printed then isn't said.
 abbrev pub styled_at : ℕ → List ℕ → Option (List ℕ)
 styled_at zero text = Some text

@@ -1,4 +1,5 @@
 pub mod Compare
+pub mod Place
 pub mod Error
 pub mod Head
 pub mod ReadError

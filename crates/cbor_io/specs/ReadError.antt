@@ -1,11 +1,9 @@
 -- Why reading stopped, and where.
 use Rattle.std.specs.Prelude.{◌≡◌, ℕ}
-use Rattle.cbor_io.specs.Error.{HasNoOffset}
-use Rattle.cbor_io.specs.declared.error.ErrorCode.{ErrorCode}
-use Rattle.cbor_io.specs.declared.error.ErrorCode.TheVariants as error
 use Rattle.cbor_io.specs.declared.read_error.ReadError.{ReadError}
 use Rattle.cbor_io.specs.declared.read_error.ReadErrorCode.{ReadErrorCode}
 use Rattle.cbor_io.specs.declared.read_error.ReadErrorCode.TheVariants as read
+pub use Rattle.cbor_io.specs.Place.{error_code, HasNoPlace}
 
 abbrev pub why : ReadError → ReadErrorCode
 why r = r.code
@@ -16,23 +14,3 @@ place r = r.offset
 -- an allocation failed
 abbrev pub IsMemory : ReadError → Type 0
 IsMemory r = (r.code ≡ read.OutOfMemory) × (r.offset ≡ 0)
-
--- the code of the error that is made of it
-abbrev pub error_code : ReadErrorCode → ErrorCode
-error_code (read.Io fault) = error.Io fault
-error_code read.ScratchTooSmall = error.ScratchTooSmall
-error_code read.EofWhileParsingValue = error.EofWhileParsingValue
-error_code read.EofWhileParsingArray = error.EofWhileParsingArray
-error_code read.EofWhileParsingMap = error.EofWhileParsingMap
-error_code read.LengthOutOfRange = error.LengthOutOfRange
-error_code read.InvalidUtf8 = error.InvalidUtf8
-error_code read.UnassignedCode = error.UnassignedCode
-error_code read.UnexpectedCode = error.UnexpectedCode
-error_code read.TrailingData = error.TrailingData
-error_code read.RecursionLimitExceeded = error.RecursionLimitExceeded
-error_code read.WrongStructFormat = error.WrongStructFormat
-error_code read.OutOfMemory = error.OutOfMemory
-
--- a fault of a device and want of memory have no place in the input
-abbrev pub HasNoPlace : ReadErrorCode → Type 0
-HasNoPlace code = HasNoOffset (error_code code)

@@ -10,7 +10,7 @@ use std::cmp::Ordering;
 // Above this length std, which compares many words at a time, is faster.
 const LONG: usize = 64;
 
-/// The order of two byte strings of one length, byte by byte from the front, as `a.cmp(b)` answers.
+/// The order of two byte strings of one length, byte by byte from the front, as `a.cmp(b)` returns.
 /// It takes fewer instructions than that where they have 8 to 64 bytes.
 ///
 /// ```rust

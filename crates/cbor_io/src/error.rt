@@ -1,8 +1,7 @@
-//! What reading and writing answer when they refuse: a code, and an offset in the input.
+//! The error of reading and writing: a code, and an offset in the input.
 
 ghost use Rattle.std.specs.Prelude.{◌≡◌, ◌↔◌, IsTrue};
-ghost use Rattle.cbor_io.specs.Error.{code_of, offset_of, category_of, code_text};
-ghost use Rattle.cbor_io.specs.Error.{IsMessageOf, HasNoOffset};
+ghost use Rattle.cbor_io.specs.Place.{HasNoOffset};
 ghost use Rattle.cbor_io.specs.declared.error.ErrorCode.TheVariants.{ScratchTooSmall};
 ghost use Rattle.cbor_io.specs.declared.error.ErrorCode.TheVariants.{EofWhileParsingValue};
 ghost use Rattle.cbor_io.specs.declared.error.ErrorCode.TheVariants.{OutOfMemory};
@@ -11,7 +10,7 @@ ghost use Rattle.cbor_io.specs.declared.error.Category.TheVariants as category;
 use std::alloc::{AllocError, AllocFailed, Global};
 use std::{error, fmt, io};
 
-/// What the calls of this crate answer.
+/// What fallible calls return.
 pub type Result<T> = std::result::Result<T, Error>;
 
 /// Why a call refused.
@@ -31,9 +30,13 @@ pub enum ErrorCode {
     EofWhileParsingArray,
     /// The input ended where a key or the break of a map of indefinite length was wanted.
     EofWhileParsingMap,
-    /// A text would end past 2^64 - 1 bytes.
+    /// A definite text string, by the length that it names, would end past byte 2^64 - 1, or a
+    /// reader gave a byte past it. (A byte string or a chunk of such a length is an end of input.)
     LengthOutOfRange,
-    /// A text isn't UTF-8. The offset is that of the first byte that isn't.
+    /// A text string isn't UTF-8. The offset is the end of the string, less its bytes from the
+    /// first bad sequence on: of a definite string that is where the bad sequence begins. The
+    /// chunks of an indefinite one are tested joined, and its end is after its break, so
+    /// `7f 61 c3 61 28 ff` is refused at offset 4.
     InvalidUtf8,
     /// A first byte that begins no item of RFC 7049, or begins a simple value other than false,
     /// true, null and undefined (`e0` to `f3`, and `f8`), which this library doesn't have.
@@ -42,9 +45,13 @@ pub enum ErrorCode {
     UnexpectedCode,
     /// Bytes follow the item.
     TrailingData,
-    /// An array has fewer elements than an enum wants.
+    /// A variant of an enum in an array form has an array with too few items: no identifier, or
+    /// nothing after it where a newtype or struct variant has its content. The offset is after
+    /// the items that were read.
     ArrayTooShort,
-    /// An array has more elements than an enum wants.
+    /// A unit variant of an enum in an array form has nothing after its identifier, where a null
+    /// is wanted. The offset is after the identifier. (Items left in such an array are
+    /// `TrailingData`.)
     ArrayTooLong,
     /// Arrays, maps and tags are nested more than 127 levels deep.
     RecursionLimitExceeded,
@@ -52,7 +59,7 @@ pub enum ErrorCode {
     WrongEnumFormat,
     /// A map's key in a form that is disabled.
     WrongStructFormat,
-    /// Bytes that depart from the canonical spelling; strict reading alone answers it.
+    /// Bytes that depart from the canonical spelling; strict reading alone returns it.
     NotCanonical,
     /// An allocation failed.
     OutOfMemory,
@@ -71,27 +78,37 @@ pub enum Category {
     Eof,
 }
 
-/// Why a call refused, and where: how many bytes of the input come before that place.
+/// Why a call refused, and where: how many bytes of the input come before that place. The offset
+/// of a code that has no place is 0.
+///
+/// ```rust
+/// let Err(error) = from_slice::<Value>(alloc, &[0x82, 0x01]) else {
+///     return Err(Fail::from("an array of one item is no array of two"));
+/// };
+/// assert_eq!(rt; error.offset(), 2);
+/// assert!(rt; error.is_eof());
+/// assert_eq!(rt; error.to_string(alloc)?.as_str(), "EOF while parsing a value at offset 2");
+/// ```
 #[derive(Debug, Drop)]
 pub struct Error {
     code: ErrorCode,
     offset: u64,
+    ghost placed: { HasNoOffset code → offset ≡ 0 },
 }
 
 impl Error {
+    ghost use Rattle.cbor_io.specs.Error.{code_of, offset_of, category_of, IsMessageOf};
+
     /// The error of this code at this offset.
     ///
     /// `Message`, `Io` and `OutOfMemory` want the offset 0.
+    ///
+    /// ```rust
+    /// let error = Error::at(ErrorCode::TrailingData, 7);
+    /// assert_eq!(rt; error.to_string(alloc)?.as_str(), "trailing data at offset 7");
+    /// ```
     pub fn at(code: ErrorCode, offset: u64) -> Error
         requires { HasNoOffset code → offset ≡ 0 }
-        ensures code { code_of result ≡ code }
-        ensures offset { offset_of result ≡ offset }
-    {
-        Error::from_parts(code, offset)
-    }
-
-    // An error of a code that may have any offset.
-    pub(crate) fn from_parts(code: ErrorCode, offset: u64) -> Error
         ensures code { code_of result ≡ code }
         ensures offset { offset_of result ≡ offset }
     {
@@ -103,7 +120,7 @@ impl Error {
         ensures code { code_of result ≡ EofWhileParsingValue }
         ensures offset { offset_of result ≡ offset }
     {
-        Error::from_parts(ErrorCode::EofWhileParsingValue, offset)
+        Error::at(ErrorCode::EofWhileParsingValue, offset)
     }
 
     /// Too little room in a scratch or a slice, at this offset.
@@ -111,7 +128,7 @@ impl Error {
         ensures code { code_of result ≡ ScratchTooSmall }
         ensures offset { offset_of result ≡ offset }
     {
-        Error::from_parts(ErrorCode::ScratchTooSmall, offset)
+        Error::at(ErrorCode::ScratchTooSmall, offset)
     }
 
     /// An error with a text of the caller's; or `OutOfMemory`, where its text finds no memory.
@@ -128,17 +145,23 @@ impl Error {
             Ok(text) => ErrorCode::Message(text),
             Err(_) => ErrorCode::OutOfMemory,
         };
-        Error::from_parts(code, 0)
+        Error::at(code, 0)
     }
 
     /// How many bytes of the input come before the place of the fault; 0 where it has none.
     pub fn offset(&self) -> u64
-        ensures { result ≡ offset_of self.now }
+        ensures value { result ≡ offset_of self.now }
+        ensures placed { HasNoOffset (code_of self.now) → result ≡ 0 }
     {
         self.offset
     }
 
     /// Why the call refused.
+    ///
+    /// ```rust
+    /// let error = Error::at(ErrorCode::RecursionLimitExceeded, 128);
+    /// assert!(rt; matches!(error.code(), ErrorCode::RecursionLimitExceeded));
+    /// ```
     pub fn code(&self) -> &ErrorCode
         ensures { result.now ≡ code_of self.now }
     {
@@ -146,6 +169,11 @@ impl Error {
     }
 
     /// The kind of the code.
+    ///
+    /// ```rust
+    /// assert_eq!(rt; Error::eof(3).classify(), Category::Eof);
+    /// assert_eq!(rt; Error::at(ErrorCode::InvalidUtf8, 4).classify(), Category::Syntax);
+    /// ```
     pub fn classify(&self) -> Category
         ensures { result ≡ category_of (code_of self.now) }
     {
@@ -198,6 +226,11 @@ impl Error {
     }
 
     /// Whether a scratch or a slice had too little room.
+    ///
+    /// ```rust
+    /// let read = from_slice_with_scratch::<Value>(alloc, b"\x7f\x62ab\x61c\xff", &mut [0; 2]);
+    /// assert!(rt; matches!(read, Err(e) if e.is_scratch_too_small()));
+    /// ```
     pub fn is_scratch_too_small(&self) -> bool
         ensures { IsTrue result ↔ (code_of self.now ≡ ScratchTooSmall) }
     {
@@ -218,7 +251,7 @@ impl From<AllocError> for Error {
     ghost from_gives = { λ _ e. IsOutOfMemory e };
 
     fn from(_error: AllocError) -> Error {
-        Error::from_parts(ErrorCode::OutOfMemory, 0)
+        Error::at(ErrorCode::OutOfMemory, 0)
     }
 }
 
@@ -240,11 +273,13 @@ impl From<io::Error> for Error {
     ghost from_gives = { λ fault e. (code_of e ≡ Io fault) × (offset_of e ≡ 0) };
 
     fn from(error: io::Error) -> Error {
-        Error::from_parts(ErrorCode::Io(error), 0)
+        Error::at(ErrorCode::Io(error), 0)
     }
 }
 
 impl ErrorCode {
+    ghost use Rattle.cbor_io.specs.Error.{code_text};
+
     // The text of a message, or the words for the code.
     fn words(&self) -> &str
         ensures { result.now ≡ code_text self.now }

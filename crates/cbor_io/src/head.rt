@@ -7,9 +7,9 @@ ghost use Rattle.cbor_io.specs.Head.{major_number};
 /// byte say.
 #[derive(Clone, Copy, Debug, PartialEq, Eq)]
 pub enum Major {
-    /// 0: a whole number from 0.
+    /// 0: an unsigned integer.
     UnsignedInteger,
-    /// 1: a whole number below 0; n stands for -1 - n.
+    /// 1: a negative integer; n stands for -1 - n.
     NegativeInteger,
     /// 2: a byte string.
     ByteString,
@@ -27,6 +27,11 @@ pub enum Major {
 
 impl Major {
     /// That of the item that begins with this byte.
+    ///
+    /// ```rust
+    /// assert_eq!(rt; Major::of(0x83), Major::Array); // 83: an array of three items
+    /// assert_eq!(rt; Major::of(0x83).number(), 4);
+    /// ```
     pub fn of(first: u8) -> Major
         ensures { major_number result ≡ first / 32 }
     {

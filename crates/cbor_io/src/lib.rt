@@ -1,4 +1,4 @@
-//! What reading and writing CBOR share: the errors that both answer; the major types that begin each
+//! What reading and writing CBOR share: the errors that both return; the major types that begin each
 //! item; the sinks that are written to; the test that bytes are UTF-8, and the order of byte strings
 //! of one length.
 //!

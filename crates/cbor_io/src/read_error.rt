@@ -1,7 +1,7 @@
 //! Why reading stopped, without a text.
 
 ghost use Rattle.std.specs.Prelude.{◌≡◌};
-ghost use Rattle.cbor_io.specs.ReadError.{why, place, HasNoPlace};
+ghost use Rattle.cbor_io.specs.Place.{HasNoPlace};
 ghost use Rattle.cbor_io.specs.declared.read_error.ReadErrorCode.TheVariants as refusal;
 
 use crate::error::{Error, ErrorCode};
@@ -23,9 +23,9 @@ pub enum ReadErrorCode {
     EofWhileParsingArray,
     /// The input ended where a key or the break of a map of indefinite length was wanted.
     EofWhileParsingMap,
-    /// A text would end past 2^64 - 1 bytes, or the input goes on past them.
+    /// A definite text string would end past byte 2^64 - 1, or the input goes on past it.
     LengthOutOfRange,
-    /// A text isn't UTF-8.
+    /// A text string isn't UTF-8.
     InvalidUtf8,
     /// A first byte that begins no item.
     UnassignedCode,
@@ -43,7 +43,7 @@ pub enum ReadErrorCode {
 
 /// Why reading stopped, and where: how many bytes of the input come before that place.
 ///
-/// It owns no memory, so that it can be answered in place of bytes that a source lends. `?` makes
+/// It owns no memory, so that it can be returned in place of bytes that a source lends. `?` makes
 /// an [`Error`] of it, of the same code and offset.
 ///
 /// ```rust
@@ -54,12 +54,20 @@ pub enum ReadErrorCode {
 pub struct ReadError {
     code: ReadErrorCode,
     offset: u64,
+    ghost placed: { HasNoPlace code → offset ≡ 0 },
 }
 
 impl ReadError {
+    ghost use Rattle.cbor_io.specs.ReadError.{why, place};
+
     /// The refusal of this code at this offset.
     ///
     /// `Io` and `OutOfMemory` want the offset 0.
+    ///
+    /// ```rust
+    /// let refused = ReadError::at(ReadErrorCode::LengthOutOfRange, u64::MAX);
+    /// assert_eq!(rt; refused.offset(), u64::MAX);
+    /// ```
     pub fn at(code: ReadErrorCode, offset: u64) -> ReadError
         requires { HasNoPlace code → offset ≡ 0 }
         ensures code { why result ≡ code }
@@ -78,7 +86,8 @@ impl ReadError {
 
     /// How many bytes of the input come before the place of the fault; 0 where it has none.
     pub fn offset(&self) -> u64
-        ensures { result ≡ place self.now }
+        ensures value { result ≡ place self.now }
+        ensures placed { HasNoPlace (why self.now) → result ≡ 0 }
     {
         self.offset
     }
@@ -124,7 +133,8 @@ impl From<ReadError> for Error {
     ghost from_gives = { λ r e. (code_of e ≡ error_code (why r)) × (offset_of e ≡ place r) };
 
     fn from(refused: ReadError) -> Error {
-        Error::from_parts(ErrorCode::from(refused.code), refused.offset)
+        let ReadError { code, offset } = refused;
+        Error::at(ErrorCode::from(code), offset)
     }
 }
 
@@ -156,9 +166,6 @@ impl From<io::Error> for ReadError {
     ghost from_gives = { λ fault r. (why r ≡ Io fault) × (place r ≡ 0) };
 
     fn from(error: io::Error) -> ReadError {
-        ReadError {
-            code: ReadErrorCode::Io(error),
-            offset: 0,
-        }
+        ReadError::at(ReadErrorCode::Io(error), 0)
     }
 }

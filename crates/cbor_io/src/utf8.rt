@@ -81,8 +81,8 @@ static ROWS: [u64; 256] = [
     NEVER, NEVER, NEVER, NEVER, NEVER,
 ];
 
-/// The bytes as text. It answers as `str::from_utf8` does, an error too, and takes fewer
-/// instructions where the text isn't ASCII.
+/// The bytes as text, or where they are no UTF-8 the error that `str::from_utf8` returns for them.
+/// It takes fewer instructions than that where the text isn't ASCII.
 ///
 /// ```rust
 /// assert_eq!(rt; utf8::from_utf8(b"\xe2\x82\xac")?, "€");
@@ -103,11 +103,12 @@ pub fn from_utf8(bytes: &[u8]) -> Result<&str, Utf8Error>
     str::from_utf8(bytes)
 }
 
-/// The same for bytes that are owned, as `String::from_utf8` answers: no memory is taken, and an
-/// error hands the bytes back.
+/// The owned bytes as a `String`, or the error that `String::from_utf8` returns for them, which
+/// hands the bytes back. No memory is taken.
 ///
 /// ```rust
-/// let text = utf8::string_from_utf8(bytes)?;
+/// let bytes = vec![in alloc; 0xe2, 0x82, 0xac]?;
+/// assert_eq!(rt; utf8::string_from_utf8(bytes)?.as_str(), "€");
 /// ```
 pub fn string_from_utf8(bytes: Vec<u8>) -> Result<String, FromUtf8Error>
     ensures ok { IfOk result (λ t. string_vec t ≡ bytes) }
@@ -149,7 +150,7 @@ fn ends_at_boundary(bytes: &[u8]) -> bool
     after_bytes(state, &bytes[at..]) == BOUNDARY
 }
 
-// Behind a boundary ASCII changes no state.
+// After a boundary ASCII changes no state.
 #[inline(always)]
 fn after_block(state: u64, block: &[u8]) -> u64
     requires { length block.now ≡ 16 }

@@ -21,7 +21,7 @@ pub use slice_write::SliceWrite;
 /// ```
 ///
 /// A sink of one's own says in `written` which bytes it was given and in `refuses` which errors it
-/// answers. One that holds a `&mut`, say in a field `to`, names it in `references`, as
+/// returns. One that holds a `&mut`, say in a field `to`, names it in `references`, as
 /// `λ s. s.to.ghost_name ∷ []`; others leave that out, as this one does:
 ///
 /// ```rust
@@ -46,14 +46,14 @@ pub trait Write {
     // The bytes that it was given; None where it doesn't tell them.
     ghost written: { Self → Option (List ℕ) };
 
-    // Which errors it answers, by what the refusal leaves.
+    // Which errors it returns, by what the refusal leaves.
     ghost refuses: { Self → Error → Type 0 };
 
     // The references that it writes through, by their ghost names. Writing changes none of them, so
     // that what a reference leads to is known once the sink is gone.
     ghost references: { Self → List ℕ } = { λ _. [] };
 
-    /// Appends a piece to the bytes written, or refuses. What a refusal has appended is a beginning
+    /// Appends a piece to the bytes written, or refuses. What a refusal has appended is a prefix
     /// of the piece, nothing and all of it included.
     fn write_all(&mut self, buf: &[u8]) -> Result<()>
         ensures written { Wrote (written self.old) buf.now (written self.new) result }
@@ -61,7 +61,7 @@ pub trait Write {
         ensures same_references { references self.new ≡ references self.old };
 }
 
-/// It grows by each piece. Where a growth is refused it answers `OutOfMemory`, and stays as it was.
+/// It grows by each piece. Where a growth is refused it returns `OutOfMemory`, and stays as it was.
 impl Write for Vec<u8> {
     ghost use Rattle.cbor_io.specs.Error.{IsOutOfMemory};
     ghost use Rattle.cbor_io.specs.Write.{Wrote};

@@ -27,7 +27,7 @@ IsAllowedKey f _ = Unit {0}
 abbrev pub HasAllowedKeys : Formats → Raw → Type 0
 HasAllowedKeys f = EachKey (IsAllowedKey f)
 
--- The same by a key's first byte: a number from 0 begins with 00 to 1b, and a text with 60 to 7b,
+-- Whether a key may be read, by its first byte: a number from 0 begins with 00 to 1b, and a text with 60 to 7b,
 -- or with 7f where it is in chunks.
 abbrev pub may_begin_key : Formats → ℕ → Bool
 may_begin_key f b =

@@ -60,7 +60,7 @@ abbrev mutual
       × GoesOn (spell (identifier packed i n) ++ document_bytes d packed legacy) front
       (StandsBeforeFields fs packed legacy))
 
--- the same of a part
+-- what stands before the first number of a part that isn't stored
 abbrev pub StandsBeforeIn : Part → Bool → Bool → List ℕ → Type 0
 StandsBeforeIn (item d) packed legacy front = StandsBefore d packed legacy front
 StandsBeforeIn (field_part i n d) packed legacy front =

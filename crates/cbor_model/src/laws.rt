@@ -21,8 +21,8 @@ pub fn reader_accepts()
     ensures { ReaderAccepts }
 {}
 
-/// With a scratch, into which the chunks of a string are joined, the reference reader answers as it
-/// does without one, value or fault, or that the scratch is too small.
+/// With a scratch, into which the chunks of a string are joined, the reference reader gives what
+/// it does without one, value or fault, or finds the scratch too small.
 pub fn same_with_scratch()
     ensures { SameWithScratch }
 {}
@@ -86,7 +86,7 @@ pub fn byte_order()
 
 /// No spelling of definite lengths is shorter than its value's canonical one, whatever its heads,
 /// the order of its pairs and the keys that it says twice. One of indefinite length can be shorter:
-/// its break takes one byte, where a count of 256 takes two behind the first.
+/// its break takes one byte, where a count of 256 takes two after the first.
 pub fn least_spelling()
     ensures { LeastSpelling }
 {}
@@ -182,7 +182,7 @@ pub fn following_is_unread()
     ensures { FollowingIsUnread }
 {}
 
-/// A slice that takes whole pieces, up to the first that doesn't fit, holds a beginning of them
+/// A slice that takes whole pieces, up to the first that doesn't fit, holds a prefix of them
 /// all.
 pub fn refused_holds_beginning()
     ensures { RefusedHoldsBeginning }

@@ -1,3 +1,5 @@
 pub mod InPlace
 pub mod Inputs
+pub mod Lengthened
 pub mod ReaderSteps
+pub mod facts

@@ -211,7 +211,7 @@ pub into_refused : (s t u : Input) (p : List ℕ) (n : ℕ) (e : ReadError) → 
     → RefusedByte reader_refusals t u e → RefusedInto reader_refusals s u n e
 into_refused s t u p n e h w = record {
   refused = byte_refused s t u n e (kept_some s t p h) w;
-  kept = w.kept ∙ h.kept;
+  kept = w.stays.kept ∙ h.kept;
   room = w.room;
 }
 

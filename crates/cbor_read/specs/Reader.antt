@@ -35,7 +35,7 @@ SomeRead old new most piece (Ok n) =
     (n ≤ most) × Consumes old new (take n piece) × (n ≡ 0 → IsAtEnd new)
 SomeRead old new most piece (Err e) = Keeps old new × IsFault e
 
--- The same of a source: these bytes were taken and counted.
+-- A source took these bytes from its reader, and counted them.
 abbrev pub PieceTaken : Input → Input → List ℕ → Result ℕ ReadError → Type 0
 PieceTaken s t piece (Ok n) =
     (n ≤ length piece) × TookKept s t (take n piece) × (n ≡ 0 → IsAtEnd s.to_come)

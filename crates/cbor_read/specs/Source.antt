@@ -51,7 +51,7 @@ pub record Took (s t : Input) (bs : List ℕ) : Type 0 where
   pub count : t.offset ≡ s.offset + length bs
   pub room : t.room ≡ s.room
 
--- the same, and the buffer stays
+-- these bytes were taken and counted, and the buffer stays
 pub record TookKept (s t : Input) (bs : List ℕ) : Type 0 where
   pub bytes : Consumes s.to_come t.to_come bs
   pub count : t.offset ≡ s.offset + length bs
@@ -109,7 +109,7 @@ pub record Skipped (s t : Input) (n : ℕ) : Type 0 where
   pub count : t.offset ≡ s.offset + n
   pub room : t.room ≡ s.room
 
--- the same, and so many of them are UTF-8, from the front
+-- the next n bytes were taken, of which so many, from the front, are UTF-8
 pub record SkippedText (s t : Input) (n valid : ℕ) : Type 0 where
   pub some : List ℕ
   pub len : length some ≡ n
@@ -160,6 +160,15 @@ pub record RefusedToBuffer (allowed : ReadErrorCode → Bool) (s t : Input) (n :
   pub refused : Refused allowed s t n e
   pub small : why e ≡ ScratchTooSmall → Stays s t × (place e ≡ s.offset) × NoRoom s n
 
+-- Some bytes were taken, and counted. What stood here stays, with a beginning of them behind it; the
+-- others are lost.
+pub record Lengthened (s t : Input) (old new : List ℕ) : Type 0 where
+  pub some : List ℕ
+  pub lost : List ℕ
+  pub bytes : Consumes s.to_come t.to_come (some ++ lost)
+  pub count : t.offset ≡ s.offset + length (some ++ lost)
+  pub behind : new ≡ old ++ some
+
 -- these codes, and that an allocation failed
 abbrev pub or_memory : (ReadErrorCode → Bool) → ReadErrorCode → Bool
 or_memory allowed OutOfMemory = true
@@ -172,12 +181,13 @@ pub record RefusedInto (allowed : ReadErrorCode → Bool) (s t : Input) (n : ℕ
   pub kept : t.buffer ≡ s.buffer
   pub room : why e ≢ ScratchTooSmall
 
--- how `next` or `peek` was refused: an end isn't refused
+-- How `next` or `peek` was refused: nothing was taken, and no memory asked for. An end isn't refused.
 pub record RefusedByte (allowed : ReadErrorCode → Bool) (s t : Input) (e : ReadError) : Type 0 where
   pub refused : Refused allowed s t 0 e
-  pub kept : t.buffer ≡ s.buffer
+  pub stays : Stays s t
   pub room : why e ≢ ScratchTooSmall
   pub ended : why e ≢ EofWhileParsingValue
+  pub memory : why e ≢ OutOfMemory
 
 -- how a call that hands on n bytes, or skips them, was refused
 abbrev pub RefusedPart : (ReadErrorCode → Bool) → Input → Input → ℕ → ReadError → Type 0

@@ -1,6 +1,7 @@
 //! What is left of a slice, where some bytes were taken from its front.
 
 ghost use Rattle.std.specs.Prelude.{◌≡◌, ◌+◌, ◌++◌, ◌<◌, ◌≤◌, length, drop, IfOk, IfErr, OnOk};
+ghost use Rattle.std.specs.Prelude.{OnErr};
 ghost use Rattle.std.specs.Str.Lossy.{utf8_valid_len};
 ghost use Rattle.cbor_io.specs.ReadError.{why, place};
 ghost use Rattle.cbor_read.specs.Source.{first_of};
@@ -38,7 +39,8 @@ pub(super) fn end_of(slice: &[u8], taken: usize, n: usize) -> Result<usize>
 // strings are whole then.
 #[inline(always)]
 pub(super) fn append(out: &mut Vec<u8>, part: &[u8]) -> std::result::Result<(), AllocError>
-    ensures { OnOk result (out.new.items ≡ out.old.items ++ part.now) }
+    ensures ok { OnOk result (out.new.items ≡ out.old.items ++ part.now) }
+    ensures err { OnErr result (out.new.items ≡ out.old.items) }
 {
     if out.capacity() == 0 {
         out.reserve_exact(part.len())?;

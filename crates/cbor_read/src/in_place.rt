@@ -3,14 +3,14 @@
 ghost use Rattle.std.specs.Prelude.{◌≡◌, ◌+◌, ◌-◌, ◌^◌, ◌++◌, ◌<◌, ◌≤◌, length, take, drop};
 ghost use Rattle.std.specs.List.Sorted.{IsPermutation};
 
-// A rotation copies the gap aside while the bytes behind it come down. The room for the copy is
+// A rotation copies the gap aside while the bytes after it come down. The room for the copy is
 // cleared at each call, so there are two sizes. For longer gaps the rotation is std's, which clears
 // 4096 bytes; for a gap of one byte too, where it clears none.
 const SMALL_GAP: usize = 32;
 
 const LARGE_GAP: usize = 1024;
 
-// Brings what stands from `gap` on to the front. The first `gap` bytes stand behind it then, in
+// Brings what stands from `gap` on to the front. The first `gap` bytes stand after it then, in
 // some order.
 //
 // No more than twice as many bytes change their place as come to the front: those that are no more
@@ -58,7 +58,7 @@ fn swap_ends(bytes: &mut [u8], gap: usize, n: usize)
     before[..n].swap_with_slice(part);
 }
 
-// Brings the n bytes from `from` on down to `to`. What lay between comes behind them, in some
+// Brings the n bytes from `from` on down to `to`. What lay between comes after them, in some
 // order.
 pub(super) fn bring_down(bytes: &mut [u8], to: usize, from: usize, n: usize)
     requires order { to ≤ from }

@@ -1,7 +1,7 @@
 //! A reader of the standard library as a source.
 
 ghost use Rattle.std.specs.Prelude.{◌≡◌, ◌+◌, ◌<◌, ◌≤◌, [], length, IfSome, OnOk, IfOk, IfErr, Ok};
-ghost use Rattle.std.specs.Prelude.{Some, None};
+ghost use Rattle.std.specs.Prelude.{OnErr, Some, None};
 ghost use Rattle.std.specs.Io.KnownBytes.{Keeps};
 ghost use Rattle.cbor_read.specs.Reader.{ByteRead, Filled, SomeRead, PieceTaken};
 ghost use Rattle.cbor_read.specs.Source.{with_peeked, reader_input};
@@ -17,7 +17,7 @@ use std::{io, mem};
 /// are read in pieces of some thousand bytes, and memory is taken for what came, however long a
 /// string claims to be.
 ///
-/// Its calls answer
+/// Its calls return
 ///
 /// - `Io` where the reader reports a fault; an interrupted read is one, and isn't tried again;
 /// - `EofWhileParsingValue` where too few bytes are to come;
@@ -26,10 +26,11 @@ use std::{io, mem};
 ///   `read_to_vec`, `skip` and `skip_text` alone.
 ///
 /// ```rust
-/// let mut source = IoRead::new(alloc, rt.reader());
-/// if let Some(head) = source.next()? {
-///     // .. and for a string of n bytes:
-///     let text = source.read(n)?;
+/// let mut source = IoRead::new(alloc, b"\x62hi\x00".as_slice());
+/// assert_eq!(rt; source.next()?, Some(0x62)); // a text string of two bytes
+/// match source.read(2)? {
+///     EitherLifetime::Short(text) => assert_eq!(rt; text, b"hi".as_slice()),
+///     EitherLifetime::Long(_) => assert!(rt; false), // a reader lends nothing for longer
 /// }
 /// ```
 #[derive(Drop)]
@@ -41,7 +42,8 @@ pub struct IoRead<R> {
 }
 
 impl<R: io::Read> IoRead<R> {
-    ghost use Rattle.cbor_read.specs.Source.{Buffered, RefusedToBuffer, reader_refusals};
+    ghost use Rattle.cbor_read.specs.Source.{Buffered, Lengthened, RefusedToBuffer};
+    ghost use Rattle.cbor_read.specs.Source.{reader_refusals};
     ghost use Rattle.cbor_read.specs.Sources.{input_of_reader};
 
     /// The bytes of this reader, none of them taken.
@@ -62,7 +64,7 @@ impl<R: io::Read> IoRead<R> {
         }
     }
 
-    // Takes some of the next bytes to the front of a piece, and answers how many. It answers 0 only
+    // Takes some of the next bytes to the front of a piece, and returns how many. It returns 0 only
     // at the end.
     fn take_piece(&mut self, piece: &mut [u8]) -> Result<usize>
         requires { 0 < length piece.old }
@@ -78,7 +80,7 @@ impl<R: io::Read> IoRead<R> {
         Ok(count)
     }
 
-    // The same, and takes one byte at most.
+    // Takes one byte at most to the front of a piece, and returns how many.
     #[tactic(auto, using(crate::proofs::ReaderSteps::stays_kept, crate::proofs::ReaderSteps::stays_end))]
     fn take_first(&mut self, piece: &mut [u8]) -> Result<usize>
         requires { 0 < length piece.old }
@@ -94,7 +96,8 @@ impl<R: io::Read> IoRead<R> {
         }
     }
 
-    // Takes some of the next bytes to the buffer's end, by way of a piece, and answers how many.
+    // Takes some of the next bytes to the buffer's end, by way of a piece, and returns how many.
+    #[tactic(auto, using(crate::proofs::Lengthened::none_came))]
     fn join_piece(&mut self, piece: &mut [u8]) -> Result<usize>
         requires { 0 < length piece.old }
         ensures within { IfOk result (λ n. (0 < n) × (n ≤ length piece.old)) }
@@ -103,6 +106,9 @@ impl<R: io::Read> IoRead<R> {
         ensures err { IfErr result (RefusedToBuffer reader_refusals
             (input_of_reader R.remaining self.old) (input_of_reader R.remaining self.new)
             (length piece.old)) }
+        ensures kept { OnErr result (Lengthened (input_of_reader R.remaining self.old)
+            (input_of_reader R.remaining self.new) (input_of_reader R.remaining self.old).buffer
+            (input_of_reader R.remaining self.new).buffer) }
     {
         let count = self.take_piece(piece)?;
         if count == 0 {
@@ -119,6 +125,9 @@ impl<R: io::Read> IoRead<R> {
             (input_of_reader R.remaining self.new) n) }
         ensures err { IfErr result (RefusedToBuffer reader_refusals
             (input_of_reader R.remaining self.old) (input_of_reader R.remaining self.new) n) }
+        ensures kept { OnErr result (Lengthened (input_of_reader R.remaining self.old)
+            (input_of_reader R.remaining self.new) (input_of_reader R.remaining self.old).buffer
+            (input_of_reader R.remaining self.new).buffer) }
     {
         let mut left = n;
         'pieces: while left > 0 {
@@ -193,7 +202,7 @@ impl<R: io::Read> Source for IoRead<R> {
         &self.buffer
     }
 
-    // The vector stands in the buffer's place, so that the bytes go straight behind it.
+    // The vector stands in the buffer's place, so that the bytes go straight after it.
     fn read_to_vec(&mut self, n: usize, out: &mut Vec<u8>) -> Result<()> {
         mem::swap(&mut self.buffer, out);
         let answer = self.read_to_buffer(n);
@@ -283,7 +292,7 @@ fn read_byte<R: io::Read>(reader: &mut R) -> Result<Option<u8>>
     }
 }
 
-// Reads some of the next bytes to the front of a piece, and answers how many. It answers 0 only at
+// Reads some of the next bytes to the front of a piece, and returns how many. It returns 0 only at
 // the end.
 fn read_some<R: io::Read>(reader: &mut R, piece: &mut [u8], most: usize) -> Result<usize>
     requires { (0 < most) × (most ≤ length piece.old) }

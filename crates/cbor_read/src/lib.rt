@@ -6,14 +6,15 @@
 #![tactic(auto)]
 
 ghost use Rattle.std.specs.Prelude.{◌≡◌, ℕ, ◌<◌, ◌≤◌, ◌^◌, Bool, List, [], ◌∷◌, length, take};
-ghost use Rattle.std.specs.Prelude.{IfOk, IfErr, OnOk, IfSome, IsSome, MatchOption, Some, Option};
+ghost use Rattle.std.specs.Prelude.{IfOk, IfErr, OnOk, OnErr, IfSome, IsSome, MatchOption};
+ghost use Rattle.std.specs.Prelude.{Some, Option};
 ghost use types.Logic.{sem};
 ghost use Rattle.std.specs.Io.BufRead.{Rests};
 ghost use Rattle.std.specs.Io.KnownBytes.{Keeps};
 ghost use Rattle.cbor_read.specs.Source.{Input, Lends, TookKept, Stays, KeepsBytes, Buffered};
 ghost use Rattle.cbor_read.specs.Source.{TookBehind, FitsRoom, RefusedToBuffer, RefusedInto};
 ghost use Rattle.cbor_read.specs.Source.{RefusedByte, or_memory, NextDoes, ReadLeaves, part_bytes};
-ghost use Rattle.cbor_read.specs.Source.{is_long, Skipped, SkippedText, RefusedPart};
+ghost use Rattle.cbor_read.specs.Source.{is_long, Skipped, SkippedText, RefusedPart, Lengthened};
 
 mod front;
 mod in_place;
@@ -58,10 +59,10 @@ pub trait Offset: Source {
 ///
 /// A source has bytes to come, a buffer, and an offset: how many bytes it handed out. `next`,
 /// `peek` and `discard` take or look at one byte, `ahead` and `advance` do so with those that are
-/// at hand (as those of a slice are), `read_into` takes as many as there is room for, `skip` and
+/// available (as those of a slice are), `read_into` takes as many as there is room for, `skip` and
 /// `skip_text` take bytes that nobody wants, and `clear_buffer` and `read_to_buffer` join parts of
 /// the input in the buffer, as the chunks of a string of indefinite length (RFC 7049, section
-/// 2.2.2). After an Err some further beginning of the bytes to come is gone, and the offset counts
+/// 2.2.2). After an Err some further prefix of the bytes to come is gone, and the offset counts
 /// it.
 ///
 /// ```rust
@@ -84,24 +85,28 @@ pub trait Offset: Source {
 ///   those. `peek` and `ahead` hand out none; the bytes that they show are those that `next`,
 ///   `discard` or `advance` takes. `ahead` shows as many as cost nothing to show: a source that has
 ///   to ask for its bytes shows none, and its `advance` takes none.
-/// - At the end `next` and `peek` answer None. A call that wants n bytes answers
+/// - `next` and `peek` that are refused take nothing, and ask for no memory.
+/// - At the end `next` and `peek` return None. A call that wants n bytes returns
 ///   `EofWhileParsingValue` only where fewer are to come, and at the offset where they end.
 /// - `read_to_buffer` appends to the buffer, and `clear_buffer` empties it. `read`, `take_buffer`,
 ///   `skip` and `skip_text` may drop it; the other calls leave it as it is. `buffer` shows it.
 /// - `read_to_vec` appends to the vector that it is given, in place of the buffer. It takes memory
 ///   only for bytes that came, however many are asked for.
+/// - Where `read_to_buffer` or `read_to_vec` is refused, what was there stays, with a prefix of
+///   the bytes that it took after it.
 /// - The offset never passes 2^64 - 1.
-/// - Where the buffer has a greatest length, that never changes. `read_to_buffer` alone answers
+/// - Where the buffer has a greatest length, that never changes. `read_to_buffer` alone returns
 ///   `ScratchTooSmall`: where the bytes are there, and joined they would be longer. Nothing has
 ///   changed then, and the error has the present offset.
-/// - `LengthOutOfRange` is for an input that goes on behind the offset 2^64 - 1. `Io` and
+/// - `LengthOutOfRange` is for an input that goes on after the offset 2^64 - 1. `Io` and
 ///   `OutOfMemory` have the offset 0.
-/// - It answers no code but those that its `refusals` names; `read_to_vec` may answer `OutOfMemory`
+/// - It returns no code but those that its `refusals` names; `read_to_vec` may return `OutOfMemory`
 ///   besides.
 /// - `read` lends for the input's whole life at each call or at none, and so does `take_buffer`:
 ///   `lends` says which.
 ///
-/// The bytes of a vector that the source owns, so that it lends none of them for longer:
+/// The bytes of a vector that the source owns, so that it lends none of them for longer. Its
+/// `proofs/OwnSource.antt` passes on `none_taken` of `proofs/facts/Sources.antt`:
 ///
 /// ```rust
 /// #[derive(Drop)]
@@ -181,6 +186,7 @@ pub trait Offset: Source {
 ///         self.buffer.clear();
 ///     }
 ///
+///     #[tactic(auto, using(crate::proofs::OwnSource::none_taken))]
 ///     fn read_to_buffer(&mut self, n: usize) -> Result<(), ReadError> {
 ///         let end = self.end_of(n)?;
 ///         self.buffer.extend_from_slice(&self.bytes[self.taken..end])?;
@@ -192,6 +198,7 @@ pub trait Offset: Source {
 ///         &self.buffer
 ///     }
 ///
+///     #[tactic(auto, using(crate::proofs::OwnSource::none_taken))]
 ///     fn read_to_vec(&mut self, n: usize, out: &mut Vec<u8>) -> Result<(), ReadError> {
 ///         let end = self.end_of(n)?;
 ///         out.extend_from_slice(&self.bytes[self.taken..end])?;
@@ -250,10 +257,10 @@ pub trait Source {
     // the byte that was peeked, which `discard` may take
     ghost peeked: { Self → Option ℕ };
 
-    // the bytes to come that are at hand, which `advance` may take
+    // the bytes to come that are available, which `advance` may take
     ghost at_hand: { Self → List ℕ };
 
-    // which codes a call may answer; `read_to_vec` may answer `OutOfMemory` besides
+    // which codes a call may return; `read_to_vec` may return `OutOfMemory` besides
     ghost refusals: { ReadErrorCode → Bool };
 
     // what of its input it lends
@@ -275,13 +282,13 @@ pub trait Source {
             (λ b. IfSome (source self.old).to_come (λ bs. take 1 bs ≡ b ∷ []))) }
         ensures err { IfErr result (RefusedByte refusals (source self.old) (source self.new)) };
 
-    /// The next bytes, as far as they are at hand, which may be none; they stay.
+    /// The next bytes, as far as they are available, which may be none; they stay.
     fn ahead(&self) -> &[u8]
         ensures bytes { result.now ≡ at_hand self.now }
         ensures front { IfSome (source self.now).to_come
             (λ bs. take (length result.now) bs ≡ result.now) };
 
-    /// Takes the next n bytes, which are at hand.
+    /// Takes the next n bytes, which are available.
     fn advance(&mut self, n: usize)
         requires { n ≤ length (at_hand self.old) }
         ensures took { TookKept (source self.old) (source self.new)
@@ -298,7 +305,9 @@ pub trait Source {
         ensures ok { OnOk result (Buffered (source self.old) (source self.new) n) }
         ensures fits { OnOk result (FitsRoom (source self.new)) }
         ensures err { IfErr result
-            (RefusedToBuffer refusals (source self.old) (source self.new) n) };
+            (RefusedToBuffer refusals (source self.old) (source self.new) n) }
+        ensures kept { OnErr result (Lengthened (source self.old) (source self.new)
+            (source self.old).buffer (source self.new).buffer) };
 
     /// What was joined in the buffer.
     fn buffer(&self) -> &[u8]
@@ -309,7 +318,9 @@ pub trait Source {
         ensures ok { OnOk result
             (TookBehind (source self.old) (source self.new) n out.old.items out.new.items) }
         ensures err { IfErr result
-            (RefusedInto (or_memory refusals) (source self.old) (source self.new) n) };
+            (RefusedInto (or_memory refusals) (source self.old) (source self.new) n) }
+        ensures kept { OnErr result (Lengthened (source self.old) (source self.new)
+            out.old.items out.new.items) };
 
     /// Takes as many bytes as `buf` has room for.
     fn read_into(&mut self, buf: &mut [u8]) -> Result<()>
@@ -322,7 +333,8 @@ pub trait Source {
         ensures ok { OnOk result (Skipped (source self.old) (source self.new) n) }
         ensures err { IfErr result (RefusedPart refusals (source self.old) (source self.new) n) };
 
-    /// The same, and answers how many of them, from the front, are UTF-8.
+    /// Takes n bytes, which are handed to nobody, and returns how many of them, from the front, are
+    /// UTF-8.
     fn skip_text(&mut self, n: usize) -> Result<usize>
         ensures ok { IfOk result (SkippedText (source self.old) (source self.new) n) }
         ensures err { IfErr result (RefusedPart refusals (source self.old) (source self.new) n) };

@@ -12,13 +12,13 @@ use std::mem;
 
 /// The bytes of a slice that may be rewritten. All that is handed out is lent for the slice's whole
 /// life, also parts that were joined: the first stays where it is, each further one is brought down
-/// to those before it, and what lay between stands behind it then, in some order. So no byte is
-/// lost: up to the offset the slice keeps its bytes in another order, and those behind the offset
+/// to those before it, and what lay between stands after it then, in some order. So no byte is
+/// lost: up to the offset the slice keeps its bytes in another order, and those after the offset
 /// stay. However many parts came before, no more than twice a part's bytes change their place.
 ///
 /// `read_to_vec` takes memory, for the vector that it fills; no other call does.
 ///
-/// Its calls answer `EofWhileParsingValue` where too few bytes are to come, `read_to_vec` also
+/// Its calls return `EofWhileParsingValue` where too few bytes are to come, `read_to_vec` also
 /// `OutOfMemory`, and nothing else.
 ///
 /// ```rust
@@ -41,7 +41,7 @@ pub struct MutSliceRead<'a> {
     taken: usize,
     // where in the slice the joined bytes begin
     start: usize,
-    // how many they are; behind them, up to those that weren't taken, stands what was taken between
+    // how many they are; after them, up to those that weren't taken, stands what was taken between
     // them, in some order
     joined: usize,
     ghost within: { taken ≤ length slice.now },
@@ -128,9 +128,9 @@ fn cut_part<'a>(bytes: &mut &'a mut [u8], start: usize, n: usize) -> &'a [u8]
 }
 
 impl<'a> Source for MutSliceRead<'a> {
-    ghost use Rattle.std.specs.Prelude.{true, OnOk};
+    ghost use Rattle.std.specs.Prelude.{true, OnOk, OnErr};
     ghost use Rattle.cbor_read.specs.Source.{mut_refusals, first_of};
-    ghost use Rattle.cbor_read.specs.Source.{Buffered, FitsRoom, RefusedToBuffer};
+    ghost use Rattle.cbor_read.specs.Source.{Buffered, FitsRoom, Lengthened, RefusedToBuffer};
     ghost use Rattle.cbor_read.specs.Sources.{input_of_mut_slice, Rearranged};
 
     ghost source = { input_of_mut_slice };
@@ -175,13 +175,16 @@ impl<'a> Source for MutSliceRead<'a> {
         self.joined = 0;
     }
 
-    #[tactic(auto, using(crate::proofs::Inputs::moved))]
+    #[tactic(auto, using(crate::proofs::Inputs::moved, crate::proofs::Lengthened::none_taken))]
     fn read_to_buffer(&mut self, n: usize) -> Result<()>
         ensures ok { OnOk result
             (Buffered (input_of_mut_slice self.old) (input_of_mut_slice self.new) n) }
         ensures fits { OnOk result (FitsRoom (input_of_mut_slice self.new)) }
         ensures err { IfErr result (RefusedToBuffer mut_refusals
             (input_of_mut_slice self.old) (input_of_mut_slice self.new) n) }
+        ensures kept { OnErr result (Lengthened
+            (input_of_mut_slice self.old) (input_of_mut_slice self.new)
+            (input_of_mut_slice self.old).buffer (input_of_mut_slice self.new).buffer) }
         ensures rearranged { Rearranged self.old self.new }
     {
         let end = self.end_of(n)?;
@@ -198,6 +201,7 @@ impl<'a> Source for MutSliceRead<'a> {
         &self.slice[self.start..self.start + self.joined]
     }
 
+    #[tactic(auto, using(crate::proofs::Lengthened::none_taken))]
     fn read_to_vec(&mut self, n: usize, out: &mut Vec<u8>) -> Result<()> {
         let end = self.end_of(n)?;
         append(out, self.part(end))?;

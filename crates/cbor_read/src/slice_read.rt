@@ -9,8 +9,8 @@ use std::alloc::Global;
 /// The bytes of a slice. What is read is lent by the slice; parts that are joined stand in a buffer
 /// that grows.
 ///
-/// Its calls answer `EofWhileParsingValue` where too few bytes are to come; `read_to_buffer` and
-/// `read_to_vec` take memory, and answer `OutOfMemory` where there is none.
+/// Its calls return `EofWhileParsingValue` where too few bytes are to come; `read_to_buffer` and
+/// `read_to_vec` take memory, and return `OutOfMemory` where there is none.
 ///
 /// ```rust
 /// let mut source = SliceRead::new(alloc, b"\x63foo");
@@ -83,6 +83,7 @@ impl<'a> Source for SliceRead<'a> {
         self.buffer.clear();
     }
 
+    #[tactic(auto, using(crate::proofs::Lengthened::none_taken))]
     fn read_to_buffer(&mut self, n: usize) -> Result<()> {
         let end = end_of(self.slice, self.taken, n)?;
         let part = &self.slice[self.taken..end];
@@ -96,6 +97,7 @@ impl<'a> Source for SliceRead<'a> {
     }
 
     #[inline(always)]
+    #[tactic(auto, using(crate::proofs::Lengthened::none_taken))]
     fn read_to_vec(&mut self, n: usize, out: &mut Vec<u8>) -> Result<()> {
         let end = end_of(self.slice, self.taken, n)?;
         append(out, &self.slice[self.taken..end])?;

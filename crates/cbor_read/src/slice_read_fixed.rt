@@ -11,9 +11,9 @@ use super::{EitherLifetime, Offset, Read, ReadError, ReadErrorCode, Result, Sour
 /// scratch that the caller lends. `read_to_vec` takes memory, for the vector that it fills; no
 /// other call does.
 ///
-/// Its calls answer `EofWhileParsingValue` where too few bytes are to come. `read_to_buffer`
-/// answers `ScratchTooSmall` where the bytes are there and what was joined would be longer than the
-/// scratch: at the present offset, with nothing taken. `read_to_vec` alone answers `OutOfMemory`.
+/// Its calls return `EofWhileParsingValue` where too few bytes are to come. `read_to_buffer`
+/// returns `ScratchTooSmall` where the bytes are there and what was joined would be longer than the
+/// scratch: at the present offset, with nothing taken. `read_to_vec` alone returns `OutOfMemory`.
 ///
 /// ```rust
 /// let mut scratch = [0; 4];
@@ -40,6 +40,14 @@ impl<'a, 'b> SliceReadFixed<'a, 'b> {
 
     /// The bytes of this slice, none of them taken, and room for as many joined bytes as the
     /// scratch is long.
+    ///
+    /// ```rust
+    /// let mut scratch = [0; 1];
+    /// let mut source = SliceReadFixed::new(b"ab", &mut scratch);
+    /// source.read_to_buffer(1)?;
+    /// assert!(rt; source.read_to_buffer(1).is_err()); // the scratch is full
+    /// assert_eq!(rt; source.offset(), 1);
+    /// ```
     pub fn new(slice: &'a [u8], scratch: &'b mut [u8]) -> SliceReadFixed<'a, 'b>
         ensures { input_of_slice_fixed result
             ≡ slice_input slice.now 0 [] (Some (length scratch.old)) }
@@ -109,6 +117,7 @@ impl<'a, 'b> Source for SliceReadFixed<'a, 'b> {
         self.joined = 0;
     }
 
+    #[tactic(auto, using(crate::proofs::Lengthened::none_taken))]
     fn read_to_buffer(&mut self, n: usize) -> Result<()> {
         let end = end_of(self.slice, self.taken, n)?;
         let scratch_end = self.scratch_end_of(n)?;
@@ -123,6 +132,7 @@ impl<'a, 'b> Source for SliceReadFixed<'a, 'b> {
         &self.scratch[..self.joined]
     }
 
+    #[tactic(auto, using(crate::proofs::Lengthened::none_taken))]
     fn read_to_vec(&mut self, n: usize, out: &mut Vec<u8>) -> Result<()> {
         let end = end_of(self.slice, self.taken, n)?;
         append(out, &self.slice[self.taken..end])?;

@@ -5,3 +5,7 @@ pub mod Options
 pub mod Keyed
 pub mod Values
 pub mod Tagged
+pub mod Names
+pub mod Fields
+pub mod Variants
+pub mod Enums

@@ -19,7 +19,7 @@ pub record IsReadBack {A : Type 0} (document : A → Doc) (reads : Context → R
       → reads (lending all_formats l) (raw_of (document x) packed legacy) y
       → document y ≡ document x
 
--- The same of the bytes that are written of a value. They are read where they nest no deeper than
+-- What the bytes are read as that are written of a value. They are read where they nest no deeper than
 -- what is read.
 pub record IsWrittenReadBack {A : Type 0} (document : A → Doc) (reads : Context → Raw → A → Type 0) (fits : A → Type 0) : Type 0 where
   pub itself : (x : A) → fits x → (l : Lends) (packed legacy : Bool)

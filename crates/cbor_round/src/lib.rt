@@ -10,10 +10,14 @@
 #![tactic(auto)]
 
 mod laws;
+mod one_of;
+mod parts;
 mod round_trip;
 #[cfg(test)]
 mod tests;
+mod tuples;
 mod types;
 
-pub use laws::{write_and_read, written_reads_back_as};
+pub use laws::{described_reads_back_as, write_and_read, written_reads_back_as};
+pub use parts::{FieldsRoundTrip, PartsRoundTrip, TupleRoundTrip, VariantRoundTrip};
 pub use round_trip::{RoundTrip, RoundTripKey};

@@ -20,7 +20,11 @@ use cbor_typed::DeserializeOwned;
 /// Floats come back as their numbers, and a NaN as a NaN. A type without a law of its own is a
 /// `&str` or another that borrows.
 ///
-/// A type of one's own names the law of the type that it is written as, by the lemmas of `specs/`:
+/// The parts of a struct or an enum by description are read back too
+/// ([`PartsRoundTrip`](crate::PartsRoundTrip)): what is generic over such a type cites their law.
+///
+/// A type of one's own names the law of the type that it is written as, by the lemmas of
+/// `specs/`:
 ///
 /// ```rust
 /// /// A distance in metres, which is written and read as its number.

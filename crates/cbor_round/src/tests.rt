@@ -37,7 +37,7 @@ fn reads_no_deeper_than_127_levels(rt: HostRuntime) -> Done {
     is_too_deep(write_and_read(alloc, &deeper))
 }
 
-/// It is refused for the level behind 127 heads.
+/// It is refused for the level after 127 heads.
 fn is_too_deep(read: Result<Value, Error>) -> Done {
     let Err(e) = read else {
         return Err(Fail::from("not refused"));

@@ -35,7 +35,7 @@ impl Readable for Uri {
 
 impl<'de, R: Read<'de>> Deserialize<'de, R> for Uri {
     fn deserialize(de: &mut Deserializer<R>) -> Result<Uri> {
-        let alloc = de.items.alloc;
+        let alloc = de.alloc();
         let text: Tagged<String> = Tagged::deserialize(de)?;
         if may_hold(text.tag) {
             Ok(Uri(text.value))

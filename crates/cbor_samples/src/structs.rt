@@ -276,29 +276,29 @@ impl DeserializeOwned for Example {
 
 /// A struct of one unnamed part.
 #[derive(Debug, PartialEq, Drop)]
-pub struct NewtypeStruct(pub bool);
+pub struct NewtypeStruct<T>(pub T);
 
-impl Serialize for NewtypeStruct {
-    ghost document = { λ n. ⟦<bool as Serialize>⟧.document n.0 };
+impl<T: Serialize> Serialize for NewtypeStruct<T> {
+    ghost document = { λ n. T.document n.0 };
 
     fn serialize<W: Write>(&self, ser: &mut Serializer<W>) -> Result<()> {
         ser.serialize_newtype_struct("NewtypeStruct", &self.0)
     }
 }
 
-impl Readable for NewtypeStruct {
-    ghost reads = { λ c r n. ⟦<bool as Readable>⟧.reads c r n.0 };
+impl<T: Readable> Readable for NewtypeStruct<T> {
+    ghost reads = { λ c r n. T.reads c r n.0 };
 }
 
-impl<'de, R: Read<'de>> Deserialize<'de, R> for NewtypeStruct {
-    fn deserialize(de: &mut Deserializer<R>) -> Result<NewtypeStruct> {
-        let on = bool::deserialize(de)?;
-        Ok(NewtypeStruct(on))
+impl<'de, R: Read<'de>, T: Deserialize<'de, R>> Deserialize<'de, R> for NewtypeStruct<T> {
+    fn deserialize(de: &mut Deserializer<R>) -> Result<NewtypeStruct<T>> {
+        let inner = T::deserialize(de)?;
+        Ok(NewtypeStruct(inner))
     }
 }
 
-impl DeserializeOwned for NewtypeStruct {
-    ghost same = { λ f a b r v h. h };
+impl<T: DeserializeOwned> DeserializeOwned for NewtypeStruct<T> {
+    ghost same = { λ f a b r v h. T.same f a b r v.0 h };
 }
 
 #[derive(Debug, PartialEq, Drop)]

@@ -286,6 +286,9 @@ undefined_read allowed f levels s t kept = takes_scalar allowed f IsUnit levels 
 
 -- the error of a refusal tells the fault
 pub told_by : {A : Type 0} (allowed : ReadErrorCode → Bool) (read : Limits → List ℕ → Reads A) (s : Input) (kept : Option ReadError) (r : Refused) (e : Error) → IsErrorOf kept r e → Stopped allowed read s kept r → TellsFault allowed read s e
-told_by allowed read s kept refused.OutOfMemory e is h bs tells = rw is.0 is.1
+told_by allowed read s kept refused.OutOfMemory e is h bs tells = subst (λ (k : ErrorCode). FailsBy (Reports allowed) k (s.offset + length bs) (offset_of e) (read (limits s bs) bs)) (sym is.0) is.1
 told_by allowed read s None refused.Kept e is h bs tells = absurd h
-told_by allowed read s (Some q) refused.Kept e is h bs tells = rw (is.0, is.1) (h.told bs tells)
+told_by allowed read s (Some q) refused.Kept e is h bs tells =
+    let D = Reports allowed in
+    let there = subst (λ (k : ErrorCode). FailsBy D k (s.offset + length bs) (place q) (read (limits s bs) bs)) (sym is.0) (h.told bs tells) in
+    subst (λ (n : ℕ). FailsBy D (code_of e) (s.offset + length bs) n (read (limits s bs) bs)) (sym is.1) there

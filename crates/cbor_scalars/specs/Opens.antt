@@ -48,7 +48,7 @@ abbrev pub OpensItem : (ReadErrorCode → Bool) → Formats → ℕ → Input �
 OpensItem refusals f levels s t kept r =
     (left : ℕ) × OpensAt refusals f (λ l. item_at (raws f l) levels) s t left kept r
 
--- The same of the item one level further in.
+-- What opens of the item one level further in.
 abbrev pub OpensInside : (ReadErrorCode → Bool) → Formats → ℕ → Input → Input → Option ReadError
     → Result Head Refused → Type 0
 OpensInside refusals f levels s t kept r =

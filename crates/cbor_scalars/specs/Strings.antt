@@ -126,7 +126,7 @@ Lent refusals l h s t (Ok p) =
 Lent refusals l h s t (Err u) =
     Lacks refusals s (λ limits bs. (b rest : List ℕ) → content_at limits h bs ≡ Ok (b, rest) → ⊥) u
 
--- The same of bytes that are UTF-8.
+-- What is lent of a string whose bytes are UTF-8.
 abbrev pub LentText : (ReadErrorCode → Bool) → Lends → Head → Input → Input
     → Result EitherStr Unread → Type 0
 LentText refusals l h s t (Ok p) =

@@ -54,7 +54,7 @@ Takes refusals reads read s t (Ok x) = Step s t (λ l bs rest. IsRead reads (rea
 Takes refusals reads read s t (Err e) =
     Refuses refusals s (code_of e) (offset_of e) (λ l bs. IsNotRead reads (read l bs))
 
--- the same of the item at the front, where so many levels are left
+-- what a call gave for the item at the front, where so many levels are left
 abbrev pub TakesItem : {A : Type 0} → (ReadErrorCode → Bool) → model.Formats → (Raw → A → Type 0)
     → ℕ → Input → Input → Result A Error → Type 0
 TakesItem refusals f reads levels s t r =

@@ -11,6 +11,7 @@ use crate::scalar::read_float;
 use cbor_de::Deserializer;
 use cbor_io::error::{Error, Result};
 use cbor_read::Source;
+use cbor_value::Float;
 use std::num::{f32_from_bits_with_nan, f64_from_bits_with_nan};
 
 /// Reads a float of 16, 32 or 64 bits as the number that it is.
@@ -25,12 +26,29 @@ pub fn read_f64<R: Source>(items: &mut Deserializer<R>) -> Result<f64>
 {
     match items.double() {
         Ok(Some(bits)) => Ok(f64_from_bits_with_nan(bits)),
+        Ok(None) => other_f64(items),
+        Err(refused) => Err(items.error(refused)),
+    }
+}
+
+// The same where no float of 64 bits stands at the front.
+#[inline(never)]
+fn other_f64<R: Source>(items: &mut Deserializer<R>) -> Result<f64>
+    ensures read { TakesItem R.refusals (formats_of items.old.formats)
+        (PassesTags IsFloatOf) items.old.levels
+        (R.source items.old.source) (R.source items.new.source) result }
+    ensures no_form { IfErr result (λ e. TellsNoForm (code_of e)) }
+    ensures levels { items.new.levels ≡ items.old.levels }
+    ensures formats { items.new.formats ≡ items.old.formats }
+{
+    match items.single() {
+        Ok(Some(bits)) => Ok(Float::Single(bits).to_f64()),
         Ok(None) => any_f64(items),
         Err(refused) => Err(items.error(refused)),
     }
 }
 
-// The same of a float of any width, within its tags.
+// Reads a float of any width, within its tags, as an `f64`.
 #[inline(always)]
 fn any_f64<R: Source>(items: &mut Deserializer<R>) -> Result<f64>
     ensures read { TakesItem R.refusals (formats_of items.old.formats)
@@ -63,7 +81,7 @@ pub fn read_f32<R: Source>(items: &mut Deserializer<R>) -> Result<f32>
     }
 }
 
-// The same of a float of any width, within its tags.
+// Reads a float of any width, within its tags, as an `f32`.
 #[inline(always)]
 fn any_f32<R: Source>(items: &mut Deserializer<R>) -> Result<f32>
     ensures read { TakesItem R.refusals (formats_of items.old.formats)

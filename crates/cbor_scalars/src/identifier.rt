@@ -22,7 +22,7 @@ use cbor_io::head::Major;
 use cbor_io::utf8::from_utf8;
 use cbor_read::{EitherLifetime, Read, ReadErrorCode, Source};
 
-/// What a step answers that may name something.
+/// The result of reading a field's or a variant's name.
 pub type Named<T> = std::result::Result<T, Why>;
 
 /// Why nothing was named. It is small: the deserializer keeps the refusal, and the call that the
@@ -105,7 +105,7 @@ fn place_of_text(names: &[&str], text: &[u8]) -> std::result::Result<Option<usiz
     }
 }
 
-// The same of a part that is a text.
+// The place of the name that a part of the input is, which is a text.
 #[inline(always)]
 fn place_of_text_part(
     names: &[&str],
@@ -137,7 +137,7 @@ fn kept<R: Source>(items: &mut Deserializer<R>, unread: Unread) -> Why
     }
 }
 
-// Why an item of another kind names nothing, behind its head.
+// Why an item of another kind names nothing, after its head.
 #[cold]
 #[inline(never)]
 fn no_name<R: Source>(items: &mut Deserializer<R>, head: Head) -> Why
@@ -167,7 +167,7 @@ pub fn unnamed<R: Source>(items: &mut Deserializer<R>, why: Why, message: &str) 
     }
 }
 
-// Reads a text of n bytes behind its head, as a name.
+// Reads a text of n bytes after its head, as a name.
 #[inline(always)]
 #[tactic(auto, using(crate::proofs::Lending::hand_step))]
 fn definite_name<'de, R: Read<'de>>(
@@ -195,7 +195,7 @@ fn definite_name<'de, R: Read<'de>>(
     name_asked_for(items, names, n)
 }
 
-// The same, where too few bytes are at hand.
+// Reads it as a name where too few bytes are buffered: the source is asked for them.
 #[inline(never)]
 fn name_asked_for<'de, R: Read<'de>>(
     items: &mut Deserializer<R>,
@@ -223,7 +223,7 @@ fn name_asked_for<'de, R: Read<'de>>(
     }
 }
 
-// Reads a text in chunks behind its head, as a name.
+// Reads a text in chunks after its head, as a name.
 #[inline(never)]
 fn joined_name<'de, R: Read<'de>>(
     items: &mut Deserializer<R>,
@@ -244,7 +244,7 @@ fn joined_name<'de, R: Read<'de>>(
     }
 }
 
-// Reads a text behind its head, as a name.
+// Reads a text after its head, as a name.
 #[inline(always)]
 fn text_name<'de, R: Read<'de>>(
     items: &mut Deserializer<R>,
@@ -265,7 +265,7 @@ fn text_name<'de, R: Read<'de>>(
     }
 }
 
-// Reads a byte string behind its head, as a name.
+// Reads a byte string after its head, as a name.
 fn bytes_name<'de, R: Read<'de>>(
     items: &mut Deserializer<R>,
     names: &[&str],
@@ -310,7 +310,7 @@ pub fn identifier<'de, R: Read<'de>>(
     }
 }
 
-// The same, whatever begins there.
+// Reads an identifier by its head, within its tags.
 #[inline(never)]
 fn any_identifier<'de, R: Read<'de>>(
     items: &mut Deserializer<R>,

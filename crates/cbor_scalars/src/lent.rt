@@ -30,7 +30,7 @@ pub enum EitherStr<'short, 'long> {
     Long(&'long str),
 }
 
-/// Why no string was lent. It owns no memory, so that it can be answered in place of what a source
+/// Why no string was lent. It owns no memory, so that it can be returned in place of what a source
 /// lends.
 #[derive(Debug, Drop)]
 pub enum Unread {
@@ -51,7 +51,7 @@ impl From<ReadError> for Unread {
     }
 }
 
-/// What lends answers.
+/// The result of a borrowing read.
 type Result<T> = std::result::Result<T, Unread>;
 
 // Hands a part on.
@@ -105,7 +105,7 @@ fn stopped<R: Source>(items: &mut Deserializer<R>, refused: Refused) -> ReadErro
     }
 }
 
-// Takes the bytes of a byte string behind its head.
+// Takes the bytes of a byte string after its head.
 #[inline(always)]
 pub(crate) fn bytes_part<'a, 'de, R: Read<'de>>(
     items: &'a mut Deserializer<R>,
@@ -128,7 +128,7 @@ pub(crate) fn bytes_part<'a, 'de, R: Read<'de>>(
     }
 }
 
-// Takes the bytes of a text behind its head.
+// Takes the bytes of a text after its head.
 #[inline(always)]
 pub(crate) fn text_part<'a, 'de, R: Read<'de>>(
     items: &'a mut Deserializer<R>,
@@ -188,7 +188,7 @@ fn bytes_of<'a, 'de>(text: EitherStr<'a, 'de>) -> Result<EitherLifetime<'a, 'de>
     }
 }
 
-// The refusal of an item of another kind, behind its head.
+// The refusal of an item of another kind, after its head.
 #[cold]
 #[inline(never)]
 fn other<R: Source>(items: &mut Deserializer<R>, head: Head) -> Unread

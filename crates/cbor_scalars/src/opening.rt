@@ -26,10 +26,10 @@ pub(crate) fn take_head<R: Source>(items: &mut Deserializer<R>) -> Done<Head>
     items.head(first)
 }
 
-/// Takes the tags of an item and the head behind them; each tag is a level further in.
+/// Takes the tags of an item and the head after them; each tag is a level further in.
 ///
 /// It is refused with `EofWhileParsingValue` where the input ends in them, with
-/// `RecursionLimitExceeded` behind a tag's head where no level is left, with `UnassignedCode` at a
+/// `RecursionLimitExceeded` after a tag's head where no level is left, with `UnassignedCode` at a
 /// first byte that is none of a head's, and as the source is.
 #[cycle(open)]
 #[inline(always)]
@@ -49,7 +49,7 @@ pub fn open<R: Source>(items: &mut Deserializer<R>) -> Done<Head>
     Ok(head)
 }
 
-// The same of the item that a tag is of.
+// Takes further tags and the head, one level further in.
 #[cycle(open)]
 #[inline(never)]
 pub(crate) fn open_inside<R: Source>(items: &mut Deserializer<R>) -> Done<Head>
@@ -65,7 +65,7 @@ pub(crate) fn open_inside<R: Source>(items: &mut Deserializer<R>) -> Done<Head>
     open(items)
 }
 
-/// The error of an item of another kind, behind its head: the message, or `UnexpectedCode` of a
+/// The error of an item of another kind, after its head: the message, or `UnexpectedCode` of a
 /// break.
 #[cold]
 #[inline(never)]

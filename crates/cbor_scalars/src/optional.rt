@@ -10,7 +10,7 @@ use cbor_read::Source;
 /// The first byte of null (RFC 7049, section 2.3).
 const NULL: u8 = 0xf6;
 
-/// Takes null, where the next byte is its, and answers whether it was. Nothing is taken of another
+/// Takes `f6` if it is next, and returns whether it was. Nothing is taken of another
 /// item, and where the input is at its end. It is refused as the source is.
 #[inline(always)]
 pub fn take_null<R: Source>(items: &mut Deserializer<R>) -> Done<bool>

@@ -14,8 +14,8 @@ use cbor_io::error::Result;
 use cbor_read::Source;
 use cbor_value::Float;
 
-// Takes the tags of an item and the head behind them. It is in the levels of before, so that
-// the item has to be whole with its head.
+// Takes the tags of an item and the head after them, and restores the nesting level: so it serves
+// only items without nested content.
 #[inline(always)]
 pub(crate) fn scalar<R: Source>(items: &mut Deserializer<R>) -> Done<Head>
     ensures read { OpensItem R.refusals (formats_of items.old.formats)
@@ -33,7 +33,7 @@ pub(crate) fn scalar<R: Source>(items: &mut Deserializer<R>) -> Done<Head>
     Ok(head)
 }
 
-// The same of the item that a tag is of.
+// Takes further tags and the head, one level further in, and restores the level.
 #[inline(never)]
 fn scalar_inside<R: Source>(items: &mut Deserializer<R>) -> Done<Head>
     ensures read { OpensInside R.refusals (formats_of items.old.formats)

@@ -19,7 +19,7 @@ use cbor_io::head::Major;
 use cbor_io::utf8::{from_utf8, string_from_utf8};
 use cbor_read::{ReadErrorCode, Source};
 
-// Takes the bytes of a byte string behind its head.
+// Takes the bytes of a byte string after its head.
 #[inline(always)]
 pub(crate) fn byte_string<R: Source>(items: &mut Deserializer<R>, n: Option<u64>) -> Done<Vec<u8>>
     ensures read { Gives R.refusals (λ v. v.items) (λ l. content_at l (Bytes n))
@@ -35,7 +35,7 @@ pub(crate) fn byte_string<R: Source>(items: &mut Deserializer<R>, n: Option<u64>
     }
 }
 
-// Takes the bytes of a text behind its head.
+// Takes the bytes of a text after its head.
 #[inline(always)]
 fn text_content<R: Source>(items: &mut Deserializer<R>, n: Option<u64>) -> Done<Vec<u8>>
     ensures read { Gives R.refusals (λ v. v.items) (λ l. content_at l (Text n))
@@ -79,7 +79,7 @@ fn checked<R: Source>(items: &mut Deserializer<R>, bytes: Vec<u8>) -> Done<Strin
     }
 }
 
-// Takes a text of n bytes behind its head. It is copied once it is known to be UTF-8.
+// Takes a text of n bytes after its head. It is copied once it is known to be UTF-8.
 #[inline(always)]
 fn definite_text<R: Source>(items: &mut Deserializer<R>, n: u64) -> Done<String>
     ensures read { TakesText R.refusals (λ s. string_bytes s) (Text (Some n))
@@ -108,7 +108,7 @@ fn definite_text<R: Source>(items: &mut Deserializer<R>, n: u64) -> Done<String>
     text_asked_for(items, Some(n))
 }
 
-// Takes a text behind its head; its bytes need not be at hand.
+// Takes a text after its head; its bytes need not be available.
 #[inline(never)]
 fn text_asked_for<R: Source>(items: &mut Deserializer<R>, n: Option<u64>) -> Done<String>
     ensures read { TakesText R.refusals (λ s. string_bytes s) (Text n)
@@ -140,7 +140,7 @@ fn string<R: Source>(items: &mut Deserializer<R>) -> Done<Option<String>>
     any_string(items)
 }
 
-// The same, whatever begins there.
+// Seeks a string by its head, within its tags.
 #[inline(always)]
 fn any_string<R: Source>(items: &mut Deserializer<R>) -> Done<Option<String>>
     ensures read { SeeksItem R.refusals (formats_of items.old.formats)
@@ -169,7 +169,7 @@ fn any_string<R: Source>(items: &mut Deserializer<R>) -> Done<Option<String>>
     }
 }
 
-// The same; an item of another kind is why there is none.
+// Reads a string; an item of another kind is `Why::Other`.
 #[inline(always)]
 fn own_string<R: Source>(items: &mut Deserializer<R>) -> Named<String>
     ensures read { OnceMade (IsMadeBy items.new.refusal)

@@ -23,11 +23,11 @@ fn begins_tag(first: u8) -> bool
 }
 
 /// Takes a tag's head and goes one level in, to the item that the tag is of; None, which takes
-/// nothing, where the next byte isn't one of c0 to db or the input is at its end. Behind that
+/// nothing, where the next byte isn't one of c0 to db or the input is at its end. After that
 /// item the caller goes back out.
 ///
 /// It is refused with `EofWhileParsingValue` where the input ends in the head, with
-/// `RecursionLimitExceeded`, behind the head, where no level is left, and as the source is. No
+/// `RecursionLimitExceeded`, after the head, where no level is left, and as the source is. No
 /// level is entered then.
 pub fn read_tag<R: Source>(items: &mut Deserializer<R>) -> Result<Option<u64>>
     ensures read { ReadsTag R.refusals items.old.levels

@@ -30,7 +30,8 @@ abbrev pub StopsBefore : Settings → Part → Option (List ℕ) → Option (Lis
 StopsBefore s part old new =
     (front : List ℕ) → StandsBeforeIn part s.packed s.legacy front → AppendsBeginning front old new
 
--- The same of a document, whatever the settings.
+-- What was appended ends before the first number of the document that isn't stored, whatever the
+-- settings.
 abbrev pub EndsBefore : Doc → Option (List ℕ) → Option (List ℕ) → Type 0
 EndsBefore d old new = (packed legacy : Bool) (front : List ℕ)
     → StandsBefore d packed legacy front → AppendsBeginning front old new

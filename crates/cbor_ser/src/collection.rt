@@ -137,6 +137,15 @@ impl<'a, W: Write> StructSerializer<'a, W> {
 
     /// Leaves a field out, which was not among those that were declared. It has its number all the
     /// same.
+    ///
+    /// ```rust
+    /// let mut ser = Serializer::new(alloc, Vec::new(alloc));
+    /// let mut fields = ser.serialize_struct("Point", 1)?;
+    /// fields.skip_field("x");
+    /// fields.serialize_field("y", &7u8)?;
+    /// fields.end()?;
+    /// assert_eq!(rt; ser.into_inner().as_slice(), b"\xa1\x61y\x07".as_slice());
+    /// ```
     pub fn skip_field(&mut self, _name: &'static str)
         requires number { self.old.next < 2 ^ 32 - 1 }
         ensures same_reference { self.new.ser.ghost_name ≡ self.old.ser.ghost_name }

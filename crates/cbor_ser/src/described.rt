@@ -111,7 +111,9 @@ impl<W: Write> Serializer<W> {
     /// packed. An [`OptionalField`](crate::OptionalField) that is None is left out.
     ///
     /// ```rust
-    /// ser.serialize_fields(&["x", "y"], &(&self.x, &self.y))
+    /// let mut ser = Serializer::new(alloc, Vec::new(alloc));
+    /// ser.serialize_fields(&["x", "y"], &(&1u8, &2u8))?;
+    /// assert_eq!(rt; ser.into_inner().as_slice(), b"\xa2\x61x\x01\x61y\x02".as_slice());
     /// ```
     pub fn serialize_fields<F: SerializeFields>(&mut self, names: &[&str], fields: &F) -> Result<()>
         requires { length names.now ≡ F.count }
@@ -126,7 +128,9 @@ impl<W: Write> Serializer<W> {
     /// Writes a variant of an enum of variants with these names, by its number.
     ///
     /// ```rust
-    /// ser.serialize_variant(&["Nothing", "Circle"], 1, &Newtype(radius))
+    /// let mut ser = Serializer::new(alloc, Vec::new(alloc));
+    /// ser.serialize_variant(&["Nothing", "Circle"], 1, &Newtype(&7u8))?;
+    /// assert_eq!(rt; ser.into_inner().as_slice(), b"\xa1\x66Circle\x07".as_slice());
     /// ```
     pub fn serialize_variant<V: SerializeVariant>(
         &mut self,

@@ -1,6 +1,6 @@
 //! Fields of structs, to be written.
 
-ghost use Rattle.std.specs.Prelude.{◌≡◌, IfSome};
+ghost use Rattle.std.specs.Prelude.{◌≡◌, IfSome, IfNone, IsOk};
 ghost use Rattle.std.specs.Option.{is_some};
 ghost use Rattle.cbor_model.specs.Parts.{field_part};
 ghost use Rattle.cbor_ser.specs.Serialized.{Serialized};
@@ -22,16 +22,18 @@ pub trait SerializeField {
     fn is_written(&self) -> bool
         ensures { result ≡ is_some (document self.now) };
 
-    /// Appends the field, by this name or this number. One that is left out isn't written.
+    /// Appends the field, by this name or this number. One that is left out isn't written, and the
+    /// serializer is left as it was.
     fn serialize_field<W: Write>(
         &self,
         ser: &mut Serializer<W>,
         number: u32,
         name: &str,
     ) -> Result<()>
-        ensures { IfSome (document self.now) (λ d.
+        ensures written { IfSome (document self.now) (λ d.
             Serialized W.written W.refuses W.references ser.old
-            (field_part number name.now d) ser.new result) };
+            (field_part number name.now d) ser.new result) }
+        ensures left_out { IfNone (document self.now) (IsOk result × (ser.new ≡ ser.old)) };
 }
 
 impl<'a, T: Serialize> SerializeField for &'a T {
@@ -56,7 +58,10 @@ impl<'a, T: Serialize> SerializeField for &'a T {
 /// A field that may be absent, to be written: it is left out where it is None.
 ///
 /// ```rust
-/// ser.serialize_fields(&["port", "limit"], &(&self.port, OptionalField(&self.limit)))
+/// let limit: Option<u32> = None;
+/// let mut ser = Serializer::new(alloc, Vec::new(alloc));
+/// ser.serialize_fields(&["port", "limit"], &(&80u16, OptionalField(&limit)))?;
+/// assert_eq!(rt; ser.into_inner().as_slice(), b"\xa1\x64port\x18\x50".as_slice());
 /// ```
 #[derive(Drop)]
 pub struct OptionalField<'a, T>(pub &'a Option<T>);

@@ -1,6 +1,6 @@
 //! Writing items to a sink, as the calls of the serializer do.
 //!
-//! A step answers no more than whether it was refused, and leaves the error with its caller: an
+//! A step returns no more than whether it was refused, and leaves the error with its caller: an
 //! `Error` is large, and would be copied at each step on the way out.
 
 ghost use Rattle.std.specs.Prelude.{◌≡◌, ◌++◌, ℕ, List, Bool, length, Err, IfSome, IsSome, IsOk, OnErr, OnOk};
@@ -31,7 +31,7 @@ use std::alloc::Global;
 #[derive(Clone, Copy)]
 pub(crate) struct Refused;
 
-/// What a step answers.
+/// What a step returns.
 pub(crate) type Done = std::result::Result<(), Refused>;
 
 /// The answer of a call whose steps left this refusal.

@@ -48,7 +48,7 @@ pub use tuples::SerializeTuple;
 /// its canonical spelling.
 ///
 /// It refuses an integer outside `-2^64..=2^64-1`, at any depth, with the message
-/// `The number can't be stored in CBOR`, and answers `OutOfMemory` where an allocation fails. A
+/// `The number can't be stored in CBOR`, and returns `OutOfMemory` where an allocation fails. A
 /// value may be nested deeper than the 127 levels that are read.
 ///
 /// ```rust
@@ -76,6 +76,10 @@ pub fn to_vec<T: Serialize>(alloc: Global, value: &T) -> Result<Vec<u8>>
 /// [`Value`](cbor_value::Value) is written as its canonical spelling here too.
 ///
 /// It refuses what `to_vec` refuses.
+///
+/// ```rust
+/// assert_eq!(rt; to_vec_packed(alloc, &Some(7u8))?.as_slice(), b"\x07".as_slice());
+/// ```
 pub fn to_vec_packed<T: Serialize>(alloc: Global, value: &T) -> Result<Vec<u8>>
     ensures storable { IfOk result (λ bytes. IsStorableDocument (T.document value.now)) }
     ensures in_range { IfOk result (λ bytes. IsDocumentInRange (T.document value.now)) }
@@ -95,8 +99,8 @@ pub fn to_vec_packed<T: Serialize>(alloc: Global, value: &T) -> Result<Vec<u8>>
 /// It refuses an integer outside `-2^64..=2^64-1`, at any depth, with the message
 /// `The number can't be stored in CBOR`, and whatever the sink refuses. The allocator is for the
 /// text of the first refusal alone. After an Err, a sink that tells its bytes holds what it had and
-/// a beginning of the document's bytes: where a [`SliceWrite`] is too short, the bytes written are
-/// a beginning of what `to_vec` answers, and where a number is refused, nothing of what follows it
+/// a prefix of the document's bytes: where a [`SliceWrite`] is too short, the bytes written are
+/// a prefix of what `to_vec` returns, and where a number is refused, nothing of what follows it
 /// was written.
 ///
 /// A `Vec<u8>` grows:
@@ -128,12 +132,12 @@ pub fn to_vec_packed<T: Serialize>(alloc: Global, value: &T) -> Result<Vec<u8>>
 pub fn to_writer<W: Write, T: Serialize>(alloc: Global, writer: &mut W, value: &T) -> Result<()>
     ensures storable { OnOk result (IsStorableDocument (T.document value.now)) }
     ensures in_range { OnOk result (IsDocumentInRange (T.document value.now)) }
-    // Ok has appended the document's bytes, and an Err a beginning of them.
+    // Ok has appended the document's bytes, and an Err a prefix of them.
     ensures written { Wrote (W.written writer.old)
         (document_bytes (T.document value.now) false false) (W.written writer.new) result }
     ensures refused { IfErr result
         (DocumentRefused W.refuses writer.new (T.document value.now)) }
-    // Of a document that can't be stored, a beginning of what stands before its first such number.
+    // Of a document that can't be stored, a prefix of what stands before its first such number.
     ensures before { (front : List ℕ) → StandsBefore (T.document value.now) false false front
         → AppendsBeginning front (W.written writer.old) (W.written writer.new) }
     ensures same_references { W.references writer.new ≡ W.references writer.old }

@@ -13,9 +13,9 @@ use crate::serializer::Serializer;
 use cbor_io::error::Result;
 use cbor_io::write::Write;
 
-// References to fields: a pair of the first and those behind it, or `()`. What the check passes on of
+// References to fields: a pair of the first and the others, or `()`. What the check passes on of
 // a list's bounds doubles with each pair within a pair, so long lists go by fours: four fields, and
-// those behind them.
+// those after them.
 pub(crate) trait WriteFields {
     ghost use Rattle.std.specs.Prelude.{List, ℕ};
     ghost use Rattle.cbor_model.specs.Document.{Fields};
@@ -153,8 +153,8 @@ impl<
     }
 }
 
-// References to the items of an array: a pair of the first and those behind it, or `()`; or four, and
-// those behind them.
+// References to the items of an array: a pair of the first and the others, or `()`; or four, and
+// those after them.
 pub(crate) trait WriteItems {
     ghost use Rattle.cbor_model.specs.Document.{Docs};
 

@@ -36,7 +36,7 @@ pub(crate) struct Settings {
 /// Writes items to a sink, one after the other.
 ///
 /// Each call appends the item's shortest spelling, a head as one piece and what a string holds as
-/// another. Where the sink refuses, it holds what it had and a beginning of the item, if it tells
+/// another. Where the sink refuses, it holds what it had and a prefix of the item, if it tells
 /// its bytes. The allocator is for the text of a refusal alone.
 ///
 /// ```rust
@@ -71,6 +71,12 @@ impl<W: Write> Serializer<W> {
     /// Fields and unit variants are written by their numbers in place of their names, and so are
     /// the keys of struct variants, and all variants of the legacy form. The names of newtype and
     /// tuple variants stay.
+    ///
+    /// ```rust
+    /// let mut ser = Serializer::new(alloc, Vec::new(alloc)).packed_format();
+    /// ser.serialize_unit_variant("Side", 1, "Right")?;
+    /// assert_eq!(rt; ser.into_inner().as_slice(), b"\x01".as_slice());
+    /// ```
     pub fn packed_format(self) -> Serializer<W>
         ensures writer { writer_of result ≡ writer_of self }
         ensures settings { settings_of result ≡ record (settings_of self) { packed = true } }
@@ -87,6 +93,12 @@ impl<W: Write> Serializer<W> {
 
     /// Variants that hold something are written as arrays of their name (or number) and their
     /// parts, in place of maps of one pair.
+    ///
+    /// ```rust
+    /// let mut ser = Serializer::new(alloc, Vec::new(alloc)).legacy_enums();
+    /// ser.serialize_newtype_variant("Shape", 0, "Dot", &7u8)?;
+    /// assert_eq!(rt; ser.into_inner().as_slice(), b"\x82\x63Dot\x07".as_slice());
+    /// ```
     pub fn legacy_enums(self) -> Serializer<W>
         ensures writer { writer_of result ≡ writer_of self }
         ensures settings { settings_of result ≡ record (settings_of self) { legacy = true } }
@@ -122,6 +134,13 @@ impl<W: Write> Serializer<W> {
     }
 
     /// Appends the head of a tag. The item that it is of is to be written next.
+    ///
+    /// ```rust
+    /// let mut ser = Serializer::new(alloc, Vec::new(alloc));
+    /// ser.serialize_tag(1)?; // RFC 7049, section 2.4.1: seconds since 1970-01-01T00:00Z
+    /// ser.serialize_u64(1_363_896_240)?;
+    /// assert_eq!(rt; ser.into_inner().as_slice(), b"\xc1\x1a\x51\x4b\x67\xb0".as_slice());
+    /// ```
     pub fn serialize_tag(&mut self, tag: u64) -> Result<()>
         ensures { Serialized W.written W.refuses W.references self.old (tag_head tag)
             self.new result }
@@ -158,7 +177,7 @@ impl<W: Write> Serializer<W> {
         self.serialize_unit()
     }
 
-    /// Appends a whole number from 0.
+    /// Appends an unsigned integer.
     pub fn serialize_u64(&mut self, v: u64) -> Result<()>
         ensures { Serialized W.written W.refuses W.references self.old (item (integer (pos v)))
             self.new result }
@@ -166,7 +185,7 @@ impl<W: Write> Serializer<W> {
         self.write_head(Major::UnsignedInteger, v)
     }
 
-    /// Appends a whole number from 0.
+    /// Appends an unsigned integer.
     pub fn serialize_u8(&mut self, v: u8) -> Result<()>
         ensures { Serialized W.written W.refuses W.references self.old (item (integer (pos v)))
             self.new result }
@@ -174,7 +193,7 @@ impl<W: Write> Serializer<W> {
         self.serialize_u64(v as u64)
     }
 
-    /// Appends a whole number from 0.
+    /// Appends an unsigned integer.
     pub fn serialize_u16(&mut self, v: u16) -> Result<()>
         ensures { Serialized W.written W.refuses W.references self.old (item (integer (pos v)))
             self.new result }
@@ -182,7 +201,7 @@ impl<W: Write> Serializer<W> {
         self.serialize_u64(v as u64)
     }
 
-    /// Appends a whole number from 0.
+    /// Appends an unsigned integer.
     pub fn serialize_u32(&mut self, v: u32) -> Result<()>
         ensures { Serialized W.written W.refuses W.references self.old (item (integer (pos v)))
             self.new result }
@@ -229,6 +248,14 @@ impl<W: Write> Serializer<W> {
     /// Appends a whole number. Outside `-2^64..=2^64-1` it is refused with the message
     /// `The number can't be stored in CBOR`, for which it takes memory (or with `OutOfMemory`, where
     /// that isn't found): never by the sink, to which nothing is appended.
+    ///
+    /// ```rust
+    /// let mut ser = Serializer::new(alloc, Vec::new(alloc));
+    /// ser.serialize_i128(-(1 << 64))?;
+    /// assert!(rt; ser.serialize_i128(1 << 64).is_err());
+    /// let bytes = ser.into_inner();
+    /// assert_eq!(rt; bytes.as_slice(), b"\x3b\xff\xff\xff\xff\xff\xff\xff\xff".as_slice());
+    /// ```
     pub fn serialize_i128(&mut self, v: i128) -> Result<()>
         ensures written { Serialized W.written W.refuses W.references self.old (item (integer v))
             self.new result }
@@ -240,7 +267,7 @@ impl<W: Write> Serializer<W> {
         answer(done, refusal)
     }
 
-    /// Appends a whole number from 0. Above `2^64-1` it is refused as by `serialize_i128`.
+    /// Appends an unsigned integer. Above `2^64-1` it is refused as by `serialize_i128`.
     pub fn serialize_u128(&mut self, v: u128) -> Result<()>
         ensures written { Serialized W.written W.refuses W.references self.old
             (item (integer (pos v))) self.new result }
@@ -273,6 +300,13 @@ impl<W: Write> Serializer<W> {
 
     /// Appends a float of 64 bits, also where fewer would hold the number. A NaN is the quiet NaN
     /// `fb7ff8000000000000`.
+    ///
+    /// ```rust
+    /// let mut ser = Serializer::new(alloc, Vec::new(alloc));
+    /// ser.serialize_f64(1.1)?;
+    /// let bytes = ser.into_inner();
+    /// assert_eq!(rt; bytes.as_slice(), b"\xfb\x3f\xf1\x99\x99\x99\x99\x99\x9a".as_slice());
+    /// ```
     pub fn serialize_f64(&mut self, v: f64) -> Result<()>
         ensures { Serialized W.written W.refuses W.references self.old
             (item (float double (to_bits binary64 v))) self.new result }
@@ -298,6 +332,12 @@ impl<W: Write> Serializer<W> {
     }
 
     /// Appends a byte string: its head, and then the bytes.
+    ///
+    /// ```rust
+    /// let mut ser = Serializer::new(alloc, Vec::new(alloc));
+    /// ser.serialize_bytes(&[1, 2, 3, 4])?;
+    /// assert_eq!(rt; ser.into_inner().as_slice(), b"\x44\x01\x02\x03\x04".as_slice());
+    /// ```
     pub fn serialize_bytes(&mut self, v: &[u8]) -> Result<()>
         ensures { Serialized W.written W.refuses W.references self.old (item (bytes v.now))
             self.new result }

@@ -12,7 +12,7 @@ use cbor_typed::Readable;
 /// or, where something follows those, one error, and then None.
 ///
 /// A type that reads every item, as `Value`, tells in that error the fault that stands there. A
-/// type that doesn't read one of the items answers an error at it, and then None.
+/// type that doesn't read one of the items gives an error at it, and then None.
 pub fn stream_answers<T: Readable>()
     ensures { (l : Lends) → StreamAnswers (λ f. T.reads (lending f l)) T.total }
 {}

@@ -1,4 +1,4 @@
-//! Streams: items that stand one behind the other, each read as the same type.
+//! Streams: items that stand one after the other, each read as the same type.
 #![tactic(auto)]
 
 mod laws;

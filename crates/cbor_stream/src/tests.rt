@@ -117,7 +117,7 @@ fn is_no_memory(e: Error) -> Done {
     Ok(())
 }
 
-/// So many bytes were taken behind each answer, and nothing follows.
+/// So many bytes were taken after each answer, and nothing follows.
 fn takes<'a, R: Read<'a> + Offset + Drop>(
     rt: &impl Abort,
     de: Deserializer<R>,
@@ -262,7 +262,7 @@ fn counts_the_bytes_taken(rt: HostRuntime) -> Done {
     counts_one_text(&rt, StreamDeserializer::new(alloc, source))
 }
 
-/// A reader of one byte a call, which fails behind its bytes.
+/// A reader of one byte a call, which fails after its bytes.
 #[derive(Drop)]
 struct Failing<'a> {
     bytes: &'a [u8],
@@ -279,7 +279,7 @@ impl io::Read for Failing<'_> {
     }
 }
 
-// What came whole is given, before the byte behind it is asked for.
+// What came whole is given, before the byte after it is asked for.
 #[test]
 fn gives_what_comes_before_a_fault(rt: HostRuntime) -> Done {
     let alloc = rt.alloc();

@@ -16,7 +16,13 @@ use cbor_read::Read;
 use cbor_typed::{Deserialize, StreamDeserializer};
 use std::alloc::{AllocError, Global};
 
-/// What all items of an input are read as, one behind the other.
+/// What all items of an input are read as, one after the other.
+///
+/// ```rust
+/// let source = SliceRead::new(alloc, b"\x01\x02");
+/// let items: Vec<u8> = read_items(alloc, source)?;
+/// assert_eq!(rt; items.as_slice(), [1, 2].as_slice());
+/// ```
 pub fn read_items<'de, T: Deserialize<'de, R>, R: Read<'de> + Drop>(
     alloc: Global,
     source: R,
@@ -27,7 +33,7 @@ pub fn read_items<'de, T: Deserialize<'de, R>, R: Read<'de> + Drop>(
         → AreMostItems max_depth bytes items rest
         → AllByRecursion (FitsScratch (R.source source).room) items
         → (rest ≡ []) × AreReadAs (T.reads (lending all_formats R.lends)) items v.items) }
-    // An error is the answer behind some of the items, or to what follows them; or memory ran out.
+    // An error is the answer after some of the items, or to what follows them; or memory ran out.
     ensures refused { IfErr result (λ e. (bytes rest : List ℕ) (items : List Raw)
         → Tells (R.source source) bytes → AreBytes bytes
         → AreMostItems max_depth bytes items rest

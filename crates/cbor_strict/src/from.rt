@@ -30,7 +30,7 @@ use std::alloc::Global;
 /// The refusals are those of `from_slice`, and `NotCanonical` at the first departure from the
 /// canonical spelling, after the bytes that show it: a head that isn't the shortest, after the
 /// head; an indefinite length, after its first byte; undefined, after it; a key that isn't above
-/// the one before it, after that key. Of all it answers the one that comes first; at one place a
+/// the one before it, after that key. Of all it returns the one that comes first; at one place a
 /// departure comes after a text that isn't UTF-8, and before all others.
 ///
 /// ```rust

@@ -9,6 +9,7 @@ mod laws;
 #[cfg(test)]
 mod tests;
 mod walk;
+mod words;
 
 pub use from::{from_slice_canonical, from_slice_canonical_as};
 pub use laws::{

@@ -69,7 +69,7 @@ fn tells_keys_out_of_order(rt: HostRuntime) -> Done {
     departs(&rt, alloc, b"\xa2\x61b\x00\x61a\x00", 6)
 }
 
-// A departure before a fault, and behind it.
+// A departure before a fault, and after it.
 #[test]
 fn tells_what_comes_first(rt: HostRuntime) -> Done {
     let alloc = rt.alloc();

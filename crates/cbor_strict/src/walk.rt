@@ -15,15 +15,16 @@ ghost use Rattle.cbor_strict.specs.Walk.{all_walk, content_walk, integer_walk, p
 ghost use Rattle.cbor_strict.specs.Walk.{simple_walk, string_walk, walk};
 ghost use Rattle.cbor_strict.specs.Walks.{last, IsNumber, IsWithin, StopsNumber, TellsDeparture, Walks};
 
+use crate::words::is_above;
 use cbor_io::compare::compare;
 use std::cmp::Ordering;
 
 /// What came of going on.
 #[derive(Clone, Copy)]
 pub enum Walk {
-    /// No departure, and so many bytes behind.
+    /// No departure, and so many bytes after.
     Passed(usize),
-    /// The first departure, and so many bytes behind what shows it.
+    /// The first departure, and so many bytes after what shows it.
     Departed(usize),
     /// No departure up to where no item goes on so, or the bytes end.
     Stopped,
@@ -187,6 +188,7 @@ fn ascends(before: &[u8], key: &[u8]) -> bool
         2 => two(before) < two(key),
         3 => three(before) < three(key),
         5 => five(before) < five(key),
+        8..=64 => is_above(before, key),
         _ => is_less(compare(before, key)),
     }
 }
@@ -326,7 +328,7 @@ fn float<const N: usize>(bytes: &[u8]) -> Walk
     }
 }
 
-/// The number behind a first byte with these lower five bits, and how many bytes are behind it.
+/// The number after a first byte with these lower five bits, and how many bytes are after it.
 #[tactic(auto, using(crate::proofs::Walking::last_all), unfolding(cbor_model::specs::Reader::number_behind))]
 #[inline(always)]
 fn number(low: u8, bytes: &[u8]) -> Option<(u64, usize)>
@@ -354,7 +356,7 @@ fn number(low: u8, bytes: &[u8]) -> Option<(u64, usize)>
     }
 }
 
-/// Whether a number behind such a first byte fits a narrower width.
+/// Whether a number after such a first byte fits a narrower width.
 #[inline(always)]
 fn is_long(low: u8, n: u64) -> bool
     requires { low < 28 }

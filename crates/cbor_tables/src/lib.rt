@@ -8,7 +8,8 @@
 //!
 //! - **type**: what the bytes are read as, as `u8` or `Vec<u8>` ([`types`]).
 //! - **how**: words with commas between, of which none need stand ([`How`]): the source (else each,
-//!   and for a type that borrows each but the reader), formats that are not read, and the form that is written.
+//!   and for a type that borrows each but the reader), formats that are not read, and the form that
+//!   is written (`canonical`: by `to_vec_canonical`).
 //! - **bytes**: hexadecimal digits, `"text"`, and `f6*3` for three times f6 ([`bytes`]).
 //! - **answer**: the value as `{:?}` prints it, or `error: ` and the error's text. Where it is
 //!   empty, any value is right. Of a stream the answers in turn, with semicolons between, and `None`
@@ -18,7 +19,8 @@
 //!
 //! A row of a `Value` by each source, which is read, shows too that each proper front of its bytes
 //! is refused as an end of input, and that what is written of it is read strictly, and written
-//! again.
+//! again. Of each row that is written, `to_value` has to give what its bytes are read as, and
+//! `to_vec_canonical` has to write that, which strict reading reads.
 //!
 //! [`answer`] answers the rows of a table and tells those that are answered otherwise; [`run`] does
 //! so for the tables that a program's words name.

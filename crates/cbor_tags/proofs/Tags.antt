@@ -1,24 +1,26 @@
 -- Items with their outermost tags, as they are read.
-use Rattle.std.proofs.Common.{Bool, ◌≡◌, ◌∙◌, ◌+◌, ℕ, suc, List, Option, Some, None, Ok, Err, refl, sym, ap, subst, arith}
+use Rattle.std.proofs.Common.{Bool, true, false, ◌≡◌, ◌∙◌, ◌+◌, ℕ, suc, List, length, Option, Some, None, Ok, Err, refl, sym, ap, ap₂, subst, arith}
 use Rattle.cbor_model.specs.Formats.{Formats}
 use Rattle.cbor_model.specs.Head.{HeadWidth}
 use Rattle.cbor_model.specs.Raw as raw
 use Rattle.cbor_model.specs.Raw.{Raw}
 use Rattle.cbor_model.specs.Reader.{Fault, Reads, ◌>>=◌, item_at, inside, tag_at}
+use Rattle.cbor_model.specs.Value.{value}
 use Rattle.cbor_model.proofs.facts.Reader.{ok_is}
 use Rattle.cbor_read.specs.Source.{Input}
 use Rattle.cbor_io.specs.declared.error.ErrorCode.{ErrorCode}
 use Rattle.cbor_io.specs.declared.read_error.ReadErrorCode.{ReadErrorCode}
-use Rattle.cbor_de.specs.Gives.{Limits, Step}
-use Rattle.cbor_de.proofs.facts.Steps.{step_then}
+use Rattle.cbor_de.specs.Gives.{FailsBy, Limits, Reports, Step, limits, values}
+use Rattle.cbor_de.proofs.facts.Steps.{passed_on, step_then}
 use Rattle.cbor_scalars.specs.Tags.{TagIs, tag_head_at}
 use Rattle.cbor_tags.specs.Tagged.{IsTagged, BeginsNoTag, StandsNoTag}
 use Rattle.cbor_io.specs.declared.error.Error.{Error}
 use Rattle.cbor_io.specs.Error.{code_of, offset_of}
-use Rattle.cbor_scalars.specs.Takes.{TellsFault}
+use Rattle.cbor_scalars.specs.Takes.{TellsFault, TellsItem, WhereTotal}
 use Rattle.cbor_collections.proofs.facts.Refusals.{refuses_fault, refuses_then}
 use Rattle.cbor_tags.proofs.NoTags.{no_tag_item, tag_stops}
 use Rattle.cbor_scalars.specs.Takes.{raws, IsRead, IsNotRead, Refuses}
+use Rattle.cbor_typed.proofs.facts.Readings.{along, value_seen}
 
 -- what is no tag is read as it is
 untagged_read : {A : Type 0} (reads : Raw → A → Type 0) (r : Raw) (x : A) → ((w : HeadWidth) (n : ℕ) (q : Raw) → r ≡ raw.tag w n q → ⊥) → reads r x → IsTagged reads r None x
@@ -131,3 +133,48 @@ module _ {A T : Type 0} (reads : Raw → A → Type 0) (tag_of : T → Option �
     where
       differs : {fault : Fault} {r : Raw} {rest : List ℕ} → ◌≡◌ {A = Reads Raw} (Err fault) (Ok (r, rest)) → ⊥
       differs h = absurd cc
+
+-- ---- the fault that is told
+
+where_total : {P Q : Type 0} (total : Bool) → (P → Q) → WhereTotal total P → WhereTotal total Q
+where_total false f h = tt
+where_total true f h = f h
+
+-- what is told behind a step is told before it, where the one fault is the other
+told_then : {A B : Type 0} (allowed : ReadErrorCode → Bool) (read : Limits → List ℕ → Reads A) (read' : Limits → List ℕ → Reads B) (s m : Input) (e : Error) (P : Limits → List ℕ → List ℕ → Type 0)
+    → ((l : Limits) (bs mid : List ℕ) (f : Fault) → P l bs mid → read l mid ≡ Err f → read' l bs ≡ Err f) → Step s m P → TellsFault allowed read m e → TellsFault allowed read' s e
+told_then allowed read read' s m e P on step tells bs is =
+    let one = step.told bs is in
+    let device = Reports allowed in
+    let code = code_of e in
+    let at = offset_of e in
+    let same : limits m one.rest ≡ limits s bs = ap₂ (λ (n : ℕ) (r : Option ℕ). record { total = n; room = r }) one.total step.room in
+    let there = subst (λ (n : ℕ). FailsBy device code n at (read (limits m one.rest) one.rest)) one.total (tells one.rest one.tells) in
+    let here = subst (λ (l : Limits). FailsBy device code (s.offset + length bs) at (read l one.rest)) same there in
+    passed_on device code (s.offset + length bs) at (read (limits s bs) one.rest) (read' (limits s bs) bs) (λ f. on (limits s bs) bs one.rest f one.holds) here
+
+module _ (total : Bool) (allowed : ReadErrorCode → Bool) (f : Formats) (levels : ℕ) (s m : Input) (e : Error) where
+  -- within a tag
+  pub tag_told : (left n : ℕ) → levels ≡ left + 1 → TagIs f levels n s m → TellsItem total allowed f left m e → TellsItem total allowed f levels s e
+  tag_told left n one step = where_total total (told_then allowed (λ l. item_at (values f l) left) (λ l. item_at (values f l) levels) s m e
+      (λ l bs rest. (w : HeadWidth) × (item_at (raws f l) levels bs ≡ tag_at (raws f l) (inside (raws f l) levels) w n rest))
+      (λ l bs mid d tag stops.
+      let inner = unseen (item_at (raws f l) left mid) d (sym (value_seen f l left mid) ∙ stops) in
+      value_seen f l levels bs ∙ ap (along value) (tag_within f levels left n one l bs mid tag.0 tag.1 ∙ ap (within f levels left n one tag.0) inner)) step)
+    where
+      unseen : (x : Reads Raw) (d : Fault) → along value x ≡ Err d → x ≡ Err d
+      unseen (Ok x) d is = absurd cc
+      unseen (Err c) d is = cc
+
+  -- where no tag is
+  pub untagged_told : StandsNoTag s m → TellsItem total allowed f levels m e → TellsItem total allowed f levels s e
+  untagged_told step = where_total total (told_then allowed (λ l. item_at (values f l) levels) (λ l. item_at (values f l) levels) s m e
+      (λ l bs rest. (rest ≡ bs) × BeginsNoTag bs)
+      (λ l bs mid d none stops. ap (item_at (values f l) levels) (sym none.0) ∙ stops) step)
+
+-- a tag's head that can't be read
+pub head_told : (total : Bool) (allowed : ReadErrorCode → Bool) (f : Formats) (levels : ℕ) (s : Input) (e : Error) → TellsFault allowed (λ l. tag_head_at levels) s e → TellsItem total allowed f levels s e
+head_told false allowed f levels s e told = tt
+head_told true allowed f levels s e told = λ bs is.
+    let l = limits s bs in
+    passed_on (Reports allowed) (code_of e) (s.offset + length bs) (offset_of e) (tag_head_at levels bs) (item_at (values f l) levels bs) (tag_stops (values f l) levels bs) (told bs is)

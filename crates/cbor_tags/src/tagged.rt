@@ -10,7 +10,7 @@ use cbor_typed::{Deserialize, DeserializeOwned, Deserializer, Readable};
 
 /// A value, and the outermost tag that its item is within, if it is within one.
 ///
-/// It reads that tag or none, and then the value from the item behind it: of further tags the
+/// It reads that tag or none, and then the value from the item after it: of further tags the
 /// value's own type decides, and each but `Value` and `Tagged` passes over them. The tag counts as
 /// a level of nesting. It writes the tag, where there is one, and then the value.
 ///
@@ -45,6 +45,13 @@ pub struct Tagged<T> {
 
 impl<T> Tagged<T> {
     /// This value, within this tag where there is one.
+    ///
+    /// ```rust
+    /// let bytes = to_vec(alloc, &Tagged::new(Some(1), 5u8))?;
+    /// assert_eq!(rt; bytes.as_slice(), b"\xc1\x05".as_slice());
+    /// let plain: Tagged<u8> = from_slice(alloc, &[5])?;
+    /// assert_eq!(rt; plain.tag, None);
+    /// ```
     pub fn new(tag: Option<u64>, value: T) -> Tagged<T>
         ensures tag { result.tag ≡ tag }
         ensures value { result.value ≡ value }
@@ -75,6 +82,8 @@ impl<T: Readable> Readable for Tagged<T> {
     ghost use Rattle.cbor_tags.specs.Tagged.{IsTagged};
 
     ghost reads = { λ c r t. IsTagged (T.reads c) r t.tag t.value };
+
+    ghost total = { T.total };
 }
 
 impl<'de, R: Read<'de>, T: Deserialize<'de, R>> Deserialize<'de, R> for Tagged<T> {

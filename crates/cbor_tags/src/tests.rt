@@ -89,7 +89,7 @@ fn refusal<'a>(mut de: Deserializer<SliceRead<'a>>) -> Result<Error, Fail> {
     Ok(e)
 }
 
-// A tag's head with nothing behind it, a head that is cut off, and a text within a tag.
+// A tag's head with nothing after it, a head that is cut off, and a text within a tag.
 #[test]
 fn refuses_what_is_no_item_of_its_type(rt: HostRuntime) -> Done {
     let alloc = rt.alloc();

@@ -1,6 +1,6 @@
 -- Why a run stops, and what it has done by then.
 use Rattle.std.proofs.Common.{◌≡◌, ◌≢◌, ℕ, ◌+◌, ◌==◌, Bool, true, false, List, [], ◌∷◌, ◌++◌}
-use Rattle.std.proofs.Common.{length, ◌⊎◌, Option, inl, inr, refl, sym, ap, ◌∙◌, arith}
+use Rattle.std.proofs.Common.{length, ◌⊎◌, Option, inl, inr, refl, sym, ap, subst, ◌∙◌, arith}
 use Rattle.std.proofs.Common.{append_assoc, append-nil, length-append}
 use Rattle.std.specs.Prelude.{IfSome, None, Some}
 use Rattle.std.specs.Io.KnownBytes.{Consumes, IsAtEnd}
@@ -85,7 +85,7 @@ pub StopsReading-out_of_memory : (e : Error) (line : List ℕ) (byte start : ℕ
     (a b c : Option (List ℕ)) → IsInLine line → byte ≢ 0x0a
     → Consumes a b line → Consumes b c (byte ∷ []) → IsOutOfMemory e → StopsReading e start a c
 StopsReading-out_of_memory e line byte start a b c in_line ne consumed more (code, offset) =
-    rw code (
+    subst (λ (k : ErrorCode). StopsReadingBy k (offset_of e) start a c) (sym code) (
       offset,
       record {
         line = line ++ byte ∷ [];

@@ -45,3 +45,7 @@ trees_lack vs i v e lt at (inr none) = inr (λ ts are.
 
 pub node_is : (vs : Vec Value Global) (ts : Vec Tree Global) → AreTrees (views vs.items) ts.items → IsTree (view (Array vs)) (Node ts)
 node_is vs ts are = rw (view_array vs) (ts, refl, are)
+
+pub node_lacks : (vs : Vec Value Global) (e : Error) → RefusesTrees (views vs.items) e → RefusesTree (view (Array vs)) e
+node_lacks vs e (inl memory) = inl memory
+node_lacks vs e (inr none) = inr (rw (view_array vs) (λ t h. none h.0.items h.2))

@@ -45,7 +45,7 @@ impl Readable for Tree {
 
 impl<'de, R: Read<'de>> Deserialize<'de, R> for Tree {
     fn deserialize(de: &mut Deserializer<R>) -> Result<Tree> {
-        let alloc = de.items.alloc;
+        let alloc = de.alloc();
         let value = Value::deserialize(de)?;
         tree_of(alloc, &value)
     }
@@ -73,7 +73,7 @@ fn trees_of(alloc: Global, items: &[Value]) -> Result<Vec<Tree>>
     ensures trees { IfOk result (λ ts. AreTrees (views items.now) ts.items) }
     ensures none { IfErr result (RefusesTrees (views items.now)) }
 {
-    let mut trees = Vec::new(alloc);
+    let mut trees = Vec::with_capacity(alloc, items.len())?;
     for item in items {
         let tree = tree_of(alloc, item)?;
         trees.push(tree)?;

@@ -1,3 +1,4 @@
+pub mod Elements
 pub mod WholeMaps
 pub mod Inputs
 pub mod Mapped

@@ -6,6 +6,7 @@ ghost use Rattle.cbor_model.specs.Formats.{all_formats};
 ghost use Rattle.cbor_read.specs.Source.{slice_input, reader_input};
 ghost use Rattle.cbor_read.specs.Sources.{input_of_slice, input_of_slice_fixed, input_of_mut_slice};
 ghost use Rattle.cbor_read.specs.Sources.{input_of_reader};
+ghost use Rattle.cbor_de.specs.AtEnd.{EndTakes};
 ghost use Rattle.cbor_de.specs.Gives.{Ends};
 ghost use Rattle.cbor_scalars.specs.Takes.{formats_of};
 
@@ -34,6 +35,13 @@ pub struct Deserializer<R> {
 
 impl<'a> Deserializer<SliceRead<'a>> {
     /// Reads from a slice. Strings in chunks are joined in memory.
+    ///
+    /// ```rust
+    /// let mut de = Deserializer::from_slice(alloc, b"\x01\x02");
+    /// assert_eq!(rt; u8::deserialize(&mut de)?, 1);
+    /// assert_eq!(rt; u8::deserialize(&mut de)?, 2);
+    /// de.end()?;
+    /// ```
     pub fn from_slice(alloc: Global, slice: &'a [u8]) -> Deserializer<SliceRead<'a>>
         ensures input { input_of_slice result.items.source ≡ slice_input slice.now 0 [] None }
         ensures levels { result.items.levels ≡ max_depth }
@@ -45,7 +53,14 @@ impl<'a> Deserializer<SliceRead<'a>> {
 
 impl<'a, 'b> Deserializer<SliceReadFixed<'a, 'b>> {
     /// Reads from a slice. Strings in chunks are joined in the scratch: where they don't fit,
-    /// `ScratchTooSmall` is answered.
+    /// `ScratchTooSmall` is returned.
+    ///
+    /// ```rust
+    /// let mut scratch = [0; 2];
+    /// let chunks = b"\x7f\x61a\x61b\xff";
+    /// let mut de = Deserializer::from_slice_with_scratch(alloc, chunks, &mut scratch);
+    /// assert_eq!(rt; String::deserialize(&mut de)?.as_str(), "ab");
+    /// ```
     pub fn from_slice_with_scratch(
         alloc: Global,
         slice: &'a [u8],
@@ -62,6 +77,12 @@ impl<'a, 'b> Deserializer<SliceReadFixed<'a, 'b>> {
 
 impl<'a> Deserializer<MutSliceRead<'a>> {
     /// Reads from a slice that is rewritten: strings in chunks are joined in place.
+    ///
+    /// ```rust
+    /// let mut input = *b"\x7f\x61a\x61b\xff";
+    /// let mut de = Deserializer::from_mut_slice(alloc, &mut input);
+    /// assert_eq!(rt; String::deserialize(&mut de)?.as_str(), "ab");
+    /// ```
     pub fn from_mut_slice(alloc: Global, slice: &'a mut [u8]) -> Deserializer<MutSliceRead<'a>>
         ensures input { input_of_mut_slice result.items.source ≡ slice_input slice.old 0 [] None }
         ensures levels { result.items.levels ≡ max_depth }
@@ -73,6 +94,12 @@ impl<'a> Deserializer<MutSliceRead<'a>> {
 
 impl<R: io::Read + Drop> Deserializer<IoRead<R>> {
     /// Reads from a reader. No byte is taken that isn't asked for.
+    ///
+    /// ```rust
+    /// let mut de = Deserializer::from_reader(alloc, b"\x01\x02".as_slice());
+    /// assert_eq!(rt; u8::deserialize(&mut de)?, 1);
+    /// assert_eq!(rt; u8::deserialize(&mut de)?, 2);
+    /// ```
     pub fn from_reader(alloc: Global, reader: R) -> Deserializer<IoRead<R>>
         ensures input { input_of_reader R.remaining result.items.source
             ≡ reader_input None (R.remaining reader) [] 0 }
@@ -85,10 +112,39 @@ impl<R: io::Read + Drop> Deserializer<IoRead<R>> {
 
 impl<R: Offset> Deserializer<R> {
     /// How many bytes of the input were taken.
+    ///
+    /// ```rust
+    /// let mut de = Deserializer::from_slice(alloc, b"\x19\x01\x00\x02");
+    /// assert_eq!(rt; u16::deserialize(&mut de)?, 256);
+    /// assert_eq!(rt; de.byte_offset(), 3);
+    /// ```
     pub fn byte_offset(&self) -> usize
         ensures { result ≡ (R.source self.now.items.source).offset }
     {
         self.items.byte_offset()
+    }
+}
+
+impl<R> Deserializer<R> {
+    /// The allocator that it was made with.
+    pub fn alloc(&self) -> Global
+        ensures { result ≡ self.now.items.alloc }
+    {
+        self.items.alloc
+    }
+
+    /// How many arrays, maps and tags may still stand inside one another at this place.
+    ///
+    /// ```rust
+    /// let mut de = Deserializer::from_slice(alloc, b"\xc1\x05");
+    /// assert_eq!(rt; de.levels_left(), 127);
+    /// assert_eq!(rt; de.read_tag()?, Some(1));
+    /// assert_eq!(rt; de.levels_left(), 126);
+    /// ```
+    pub fn levels_left(&self) -> u64
+        ensures { result ≡ self.now.items.levels }
+    {
+        self.items.levels
     }
 }
 
@@ -105,8 +161,8 @@ impl<R: Source> Deserializer<R> {
     }
 
     /// Arrays, maps and tags may be nested so many levels deep from now on, in place of 127, and at
-    /// most 254: `RecursionLimitExceeded`, behind the head of the array, map or tag that is one level
-    /// more. The chunks of a string are no level. It and the other switches may come in any order.
+    /// most 254: else `RecursionLimitExceeded`, after the head of the array, map or tag that is one
+    /// level more. The chunks of a string are no level. It and the other switches may come in any order.
     ///
     /// That `n` is at most 254, and that no tag of [`read_tag`](Deserializer::read_tag) stands, are
     /// the caller's conditions.
@@ -133,7 +189,8 @@ impl<R: Source> Deserializer<R> {
     /// ```rust
     /// let source = SliceRead::new(alloc, b"\xa1\x61a\x01");
     /// let mut de = Deserializer::new(alloc, source).disable_named_format();
-    /// assert!(rt; de.items.value().is_err());
+    /// let refused = Value::deserialize(&mut de);
+    /// assert!(rt; matches!(refused, Err(e) if e.offset() == 1));
     /// ```
     pub fn disable_named_format(self) -> Deserializer<R>
         ensures formats { formats_of result.items.formats
@@ -148,6 +205,11 @@ impl<R: Source> Deserializer<R> {
 
     /// Maps with numbers among their keys are refused from now on: a key that is a number from 0 is
     /// `WrongStructFormat`, at the key, in every map. A negative number names no field, and passes.
+    ///
+    /// ```rust
+    /// let mut de = Deserializer::from_slice(alloc, b"\xa1\x00\x01").disable_packed_format();
+    /// assert!(rt; Value::deserialize(&mut de).is_err());
+    /// ```
     pub fn disable_packed_format(self) -> Deserializer<R>
         ensures formats { formats_of result.items.formats
             ≡ record (formats_of self.items.formats) { packed = false } }
@@ -159,7 +221,13 @@ impl<R: Source> Deserializer<R> {
         }
     }
 
-    /// Enums that are a name alone, or a map of one pair, are refused from now on.
+    /// Enums that are a map of one pair are refused from now on with `WrongEnumFormat`, and, where
+    /// `disable_legacy_enums` is set too, those that are an identifier alone.
+    ///
+    /// ```rust
+    /// let mut de = Deserializer::from_slice(alloc, b"\xa1\x63Dot\x07").disable_standard_enums();
+    /// assert!(rt; de.variant(&["Dot"]).is_err());
+    /// ```
     pub fn disable_standard_enums(self) -> Deserializer<R>
         ensures formats { formats_of result.items.formats
             ≡ record (formats_of self.items.formats) { standard_enums = false } }
@@ -171,7 +239,13 @@ impl<R: Source> Deserializer<R> {
         }
     }
 
-    /// Enums that are an array are refused from now on.
+    /// Enums that are an array are refused from now on with `WrongEnumFormat`, and, where
+    /// `disable_standard_enums` is set too, those that are an identifier alone.
+    ///
+    /// ```rust
+    /// let mut de = Deserializer::from_slice(alloc, b"\x82\x63Dot\x07").disable_legacy_enums();
+    /// assert!(rt; de.variant(&["Dot"]).is_err());
+    /// ```
     pub fn disable_legacy_enums(self) -> Deserializer<R>
         ensures formats { formats_of result.items.formats
             ≡ record (formats_of self.items.formats) { legacy_enums = false } }
@@ -183,9 +257,20 @@ impl<R: Source> Deserializer<R> {
         }
     }
 
-    /// Ok where nothing is to come; else `TrailingData`, after the byte that comes.
+    /// Ok where nothing is to come, and nothing is taken.
+    ///
+    /// Else it takes just the next byte, and refuses with `TrailingData`, after that byte. Where
+    /// the source is a reader that reports a fault, it takes nothing and returns `Io`.
+    ///
+    /// ```rust
+    /// let mut de = Deserializer::from_slice(alloc, b"\x01\x02");
+    /// assert_eq!(rt; u8::deserialize(&mut de)?, 1);
+    /// assert!(rt; matches!(de.end(), Err(e) if e.offset() == 2)); // a second item
+    /// ```
     pub fn end(&mut self) -> Result<()>
         ensures read { Ends R.refusals (R.source self.old.items.source) result }
+        ensures takes { EndTakes R.refusals (R.source self.old.items.source)
+            (R.source self.new.items.source) result }
         ensures levels { self.new.items.levels ≡ self.old.items.levels }
         ensures formats { self.new.items.formats ≡ self.old.items.formats }
     {

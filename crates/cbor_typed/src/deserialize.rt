@@ -162,7 +162,7 @@ pub trait Readable: Sized + Drop {
 ///
 /// impl<'de, R: Read<'de>> Deserialize<'de, R> for Tree {
 ///     fn deserialize(de: &mut Deserializer<R>) -> Result<Tree> {
-///         let alloc = de.items.alloc;
+///         let alloc = de.alloc();
 ///         let value = Value::deserialize(de)?;
 ///         tree_of(alloc, &value)
 ///     }

@@ -83,12 +83,12 @@ fn are_bytes(slice: &[u8])
 /// - `TrailingData`: bytes follow the item, after the first of them; or items or pairs that the
 ///   type doesn't read follow those that it does;
 /// - `ArrayTooShort`, `ArrayTooLong`: an array in an enum's place has no name, or no item where
-///   the variant has a part; or it has a name alone and the variant no part; behind its last item;
+///   the variant has a part; or it has a name alone and the variant no part; after its last item;
 /// - `Message`, without an offset: an item that the type doesn't read;
 /// - `OutOfMemory`: an allocation failed. No memory is taken on the word of a head.
 ///
-/// Where several faults stand in one input, a type that reads every item, as `Value` does, answers
-/// the first; of others no clause says which is answered.
+/// Where several faults stand in one input, a type that reads every item, as `Value` does, returns
+/// the first; of others no clause says which is returned.
 ///
 /// ```rust
 /// let number: u8 = from_slice(alloc, b"\x18\x2a")?;
@@ -125,7 +125,7 @@ pub fn from_slice<'a, T: Deserialize<'a, SliceRead<'a>>>(
 /// joined in a scratch of the caller's.
 ///
 /// It refuses as `from_slice` does, and with `ScratchTooSmall` where the chunks of a string, each
-/// whole in the bytes, are longer together than the scratch: at the offset behind the head of the
+/// whole in the bytes, are longer together than the scratch: at the offset after the head of the
 /// chunk that doesn't fit. What the scratch holds afterwards isn't said.
 ///
 /// ```rust
@@ -196,6 +196,12 @@ pub fn from_mut_slice<'a, T: Deserialize<'a, MutSliceRead<'a>>>(
 /// ```rust
 /// let number: u8 = from_reader(alloc, b"\x18\x2a".as_slice())?;
 /// assert_eq!(rt; number, 42);
+/// ```
+///
+/// A type that borrows from its input isn't read from a reader, which the compiler says:
+///
+/// ```rust,compile_fail
+/// let text: &str = from_reader(alloc, b"\x61a".as_slice())?;
 /// ```
 pub fn from_reader<'de, T: DeserializeOwned + Deserialize<'de, IoRead<R>>, R: io::Read + Drop>(
     alloc: Global,

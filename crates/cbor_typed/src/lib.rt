@@ -3,12 +3,13 @@
 //!
 //! [`from_slice`] joins strings in chunks in memory, [`from_slice_with_scratch`] in a scratch of
 //! the caller's, and [`from_mut_slice`] in the slice itself; [`from_reader`] takes its bytes from
-//! any reader. All four give the same answers.
+//! any reader. All four return the same.
 //!
 //! A type says which items it reads, and as what ([`Readable`]); [`Deserialize`] reads them. A
 //! `Value` is read from any item.
 #![tactic(auto)]
 
+mod another;
 mod de;
 mod deserialize;
 mod field_type;
@@ -36,8 +37,8 @@ pub use field_type::FieldType;
 pub use from::{from_mut_slice, from_reader, from_slice, from_slice_with_scratch};
 pub use laws::{item_refused_first, owned_agree, sources_agree};
 pub use map::MapAccess;
-pub use sequence::SeqAccess;
+pub use sequence::{SeqAccess, invalid_length};
 pub use stream::StreamDeserializer;
-pub use structure::{Field, StructAccess, duplicate_field, missing_field};
+pub use structure::{Field, StructAccess, duplicate_field, missing_field, next_key};
 pub use types::IgnoredAny;
-pub use variant::VariantAccess;
+pub use variant::{VariantAccess, one_part};

@@ -26,6 +26,15 @@ impl<R: Source> Deserializer<R> {
     ///
     /// An item of another kind is refused with `invalid type: expected a map`, and a map for which
     /// no level is left with `RecursionLimitExceeded`.
+    ///
+    /// ```rust
+    /// let mut de = Deserializer::from_slice(alloc, b"\xa1\x61a\x01");
+    /// let mut pairs = de.map()?;
+    /// assert_eq!(rt; pairs.next_key::<&str>()?, Some("a"));
+    /// assert_eq!(rt; pairs.next_value::<u8>()?, 1);
+    /// assert_eq!(rt; pairs.next_key::<&str>()?, None);
+    /// pairs.end()?;
+    /// ```
     pub fn map<'a>(&'a mut self) -> Result<MapAccess<'a, R>>
         ensures* rests { sem 𝓛 (RestsIfErr (the_row R.row) self.entry (λ m. m.de.ghost_name) result
             (λ last. (last.items.levels ≡ self.old.items.levels)
@@ -58,7 +67,7 @@ impl<R: Source> Deserializer<R> {
 /// The pairs of a map that are still to be read, each a key and its value.
 ///
 /// It holds the level that the map took. [`end`](MapAccess::end), [`refuse`](MapAccess::refuse) and
-/// each call that answers Err leave that level. After an Err no call follows.
+/// each call that returns Err leave that level. After an Err no call follows.
 ///
 /// ```rust
 /// let mut de = Deserializer::new(alloc, SliceRead::new(alloc, b"\xa1\x01\xf5"));
@@ -71,14 +80,14 @@ impl<R: Source> Deserializer<R> {
 /// ```
 #[derive(Drop)]
 pub struct MapAccess<'a, R> {
-    /// What reads the keys and the values.
-    pub de: &'a mut Deserializer<R>,
-    /// What remains of the map, behind the pair that was begun.
-    pub remaining: Remaining,
-    /// How many levels were left before the map.
-    pub outer: u64,
-    /// Whether a key was read whose value wasn't.
-    pub value_due: bool,
+    // What reads the keys and the values.
+    pub(crate) de: &'a mut Deserializer<R>,
+    // What remains of the map, after the pair that was begun.
+    pub(crate) remaining: Remaining,
+    // How many levels were left before the map.
+    pub(crate) outer: u64,
+    // Whether a key was read whose value wasn't.
+    pub(crate) value_due: bool,
 }
 
 impl<'a, R: Source> MapAccess<'a, R> {
@@ -98,7 +107,7 @@ impl<'a, R: Source> MapAccess<'a, R> {
             (K.reads (context self.old.de.now.items.formats R.lends))
             self.old.de.now.items.levels self.old.remaining self.new.remaining
             (R.source self.old.de.now.items.source) (R.source self.new.de.now.items.source) result }
-        // Nothing remains behind the last pair, and a loop over the pairs ends.
+        // Nothing remains after the last pair, and a loop over the pairs ends.
         ensures remains { IfOk result (λ next. MatchOption next
             (self.new.remaining ≡ Counted 0)
             (λ k. turns self.new.remaining (R.source self.new.de.now.items.source)
@@ -186,7 +195,7 @@ impl<'a, R: Source> MapAccess<'a, R> {
     /// Takes the end of the map.
     ///
     /// Pairs that weren't read are refused with `TrailingData`: at the present offset where a count
-    /// was declared; else behind the first byte of the next key, or with `EofWhileParsingMap` where
+    /// was declared; else after the first byte of the next key, or with `EofWhileParsingMap` where
     /// there is none.
     pub fn end(self) -> Result<()>
         requires live { self.de.now.items.levels < self.outer }

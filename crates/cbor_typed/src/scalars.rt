@@ -21,24 +21,10 @@ use cbor_scalars::lent::{EitherStr, Unread};
 use cbor_scalars::{integer, lent, opening, scalar};
 use cbor_value::Float;
 
-/// What lends answers.
+/// The result of a borrowing read.
 type Lent<T> = std::result::Result<T, Unread>;
 
 impl<R: Source> Deserializer<R> {
-    /// Takes the tags of an item and the head behind them; each tag is a level further in.
-    #[inline(always)]
-    pub fn open(&mut self) -> Done<Head>
-        ensures read { OpensAt R.refusals (formats_of self.old.items.formats)
-            (λ l. item_at (raws (formats_of self.old.items.formats) l) self.old.items.levels)
-            (R.source self.old.items.source) (R.source self.new.items.source)
-            self.new.items.levels self.new.items.refusal result }
-        ensures no_key { IfErr result (TellsNoKey self.new.items.refusal) }
-        ensures levels { OnOk result (self.new.items.levels ≤ self.old.items.levels) }
-        ensures formats { self.new.items.formats ≡ self.old.items.formats }
-    {
-        opening::open(&mut self.items)
-    }
-
     /// Reads false or true (RFC 7049, section 2.3).
     #[inline(always)]
     pub fn read_bool(&mut self) -> Result<bool>
@@ -82,6 +68,11 @@ impl<R: Source> Deserializer<R> {
     }
 
     /// Reads a whole number.
+    ///
+    /// ```rust
+    /// let mut de = Deserializer::from_slice(alloc, b"\x39\x01\x2b");
+    /// assert_eq!(rt; de.read_integer()?, -300);
+    /// ```
     #[inline(always)]
     pub fn read_integer(&mut self) -> Result<i128>
         ensures read { TakesItem R.refusals (formats_of self.old.items.formats)

@@ -4,7 +4,7 @@ ghost use Rattle.std.specs.Prelude.{◌≡◌, ◌<◌, IfOk, IfErr, MatchOption
 ghost use Rattle.cbor_de.specs.declared.cursor.Remaining.TheVariants.{Counted};
 ghost use Rattle.std.specs.Borrow.{sem, RestsIfErr};
 ghost use Rattle.cbor_model.specs.Reader.{item_at};
-ghost use Rattle.cbor_io.specs.Error.{code_of};
+ghost use Rattle.cbor_io.specs.Error.{code_of, offset_of};
 ghost use Rattle.cbor_de.specs.Gives.{Step, TellsNoForm};
 ghost use Rattle.cbor_collections.specs.Accesses.{IsArrayHead, RefusesArray, TakesNext};
 ghost use Rattle.cbor_collections.specs.Accesses.{TakesPart, TakesEnd, turns, size_of};
@@ -17,12 +17,24 @@ use cbor_collections::array::{array_head, end_array, more_items, no_item};
 use cbor_de::Remaining;
 use cbor_io::error::{Error, Result};
 use cbor_read::{Read, Source};
+use std::alloc::Global;
 
 impl<R: Source> Deserializer<R> {
     /// Takes the tags and the head of an array, and goes one level in for its items.
     ///
     /// An item of another kind is refused with `invalid type: expected an array`, and an array for
     /// which no level is left with `RecursionLimitExceeded`.
+    ///
+    /// ```rust
+    /// let mut de = Deserializer::from_slice(alloc, b"\x9f\x01\x02\xff");
+    /// let mut items = de.array()?; // of indefinite length
+    /// let mut sum = 0;
+    /// while let Some(item) = items.next_element::<u8>()? {
+    ///     sum += item as u64;
+    /// }
+    /// items.end()?;
+    /// assert_eq!(rt; sum, 3);
+    /// ```
     pub fn array<'a>(&'a mut self) -> Result<SeqAccess<'a, R>>
         ensures* rests { sem 𝓛 (RestsIfErr (the_row R.row) self.entry (λ s. s.de.ghost_name) result
             (λ last. (last.items.levels ≡ self.old.items.levels)
@@ -48,23 +60,24 @@ impl<R: Source> Deserializer<R> {
             outer,
         })
     }
+}
 
-    /// The error of an array that has too few items, as `invalid length 1, expected 2`.
-    #[cold]
-    #[inline(never)]
-    pub fn invalid_length(&self, found: usize, expected: usize) -> Error {
-        let alloc = self.items.alloc;
-        match format!(in alloc; "invalid length {found}, expected {expected}") {
-            Ok(text) => Error::message(alloc, text),
-            Err(e) => Error::from(e),
-        }
+/// The error of an array that has too few items, as `invalid length 1, expected 2`.
+#[cold]
+#[inline(never)]
+pub fn invalid_length(alloc: Global, found: usize, expected: usize) -> Error
+    ensures offset { offset_of result ≡ 0 }
+{
+    match format!(in alloc; "invalid length {found}, expected {expected}") {
+        Ok(text) => Error::message(alloc, text),
+        Err(e) => Error::from(e),
     }
 }
 
 /// The items of an array that are still to be read.
 ///
 /// It holds the level that the array took. [`end`](SeqAccess::end), [`refuse`](SeqAccess::refuse)
-/// and each call that answers Err leave that level. After an Err no call follows.
+/// and each call that returns Err leave that level. After an Err no call follows.
 ///
 /// ```rust
 /// let mut de = Deserializer::new(alloc, SliceRead::new(alloc, b"\x82\x01\x02"));
@@ -77,12 +90,12 @@ impl<R: Source> Deserializer<R> {
 /// ```
 #[derive(Drop)]
 pub struct SeqAccess<'a, R> {
-    /// What reads the items.
-    pub de: &'a mut Deserializer<R>,
-    /// What remains of the array.
-    pub remaining: Remaining,
-    /// How many levels were left before the array.
-    pub outer: u64,
+    // What reads the items.
+    pub(crate) de: &'a mut Deserializer<R>,
+    // What remains of the array.
+    pub(crate) remaining: Remaining,
+    // How many levels were left before the array.
+    pub(crate) outer: u64,
 }
 
 impl<'a, R: Source> SeqAccess<'a, R> {
@@ -101,7 +114,7 @@ impl<'a, R: Source> SeqAccess<'a, R> {
             (T.reads (context self.old.de.now.items.formats R.lends))
             self.old.de.now.items.levels self.old.remaining self.new.remaining
             (R.source self.old.de.now.items.source) (R.source self.new.de.now.items.source) result }
-        // Nothing remains behind the last item, and a loop over the items ends.
+        // Nothing remains after the last item, and a loop over the items ends.
         ensures remains { IfOk result (λ next. MatchOption next
             (self.new.remaining ≡ Counted 0)
             (λ x. turns self.new.remaining (R.source self.new.de.now.items.source)
@@ -143,10 +156,13 @@ impl<'a, R: Source> SeqAccess<'a, R> {
     /// where the array's last item was read.
     ///
     /// ```rust
+    /// let mut de = Deserializer::from_slice(alloc, b"\x82\x61a\xf5");
     /// let mut items = de.array()?;
     /// let name = items.part::<String>(0, 2)?;
     /// let flag = items.part::<bool>(1, 2)?;
     /// items.end()?;
+    /// assert_eq!(rt; name.as_str(), "a");
+    /// assert!(rt; flag);
     /// ```
     #[inline(always)]
     pub fn part<'de, T: Deserialize<'de, R>>(&mut self, before: usize, expected: usize) -> Result<T>
@@ -168,7 +184,7 @@ impl<'a, R: Source> SeqAccess<'a, R> {
             Ok(Some(item)) => Ok(item),
             Ok(None) => {
                 self.de.items.levels = self.outer;
-                Err(self.de.invalid_length(before, expected))
+                Err(invalid_length(self.de.items.alloc, before, expected))
             }
             Err(e) => Err(e),
         }
@@ -188,7 +204,7 @@ impl<'a, R: Source> SeqAccess<'a, R> {
     /// Takes the end of the array.
     ///
     /// Items that weren't read are refused with `TrailingData`: at the present offset where a count
-    /// was declared; else behind the first byte of the next item, or with `EofWhileParsingArray`
+    /// was declared; else after the first byte of the next item, or with `EofWhileParsingArray`
     /// where there is none.
     pub fn end(self) -> Result<()>
         requires { self.de.now.items.levels < self.outer }

@@ -13,16 +13,16 @@ use cbor_read::{Offset, Read, Source};
 use std::alloc::Global;
 use std::marker::PhantomData;
 
-/// The items of an input, one behind the other, each read as `T`.
+/// The items of an input, one after the other, each read as `T`.
 ///
-/// `next` looks at the next byte and reads the item that begins with it. It answers None at the end
-/// of the input. After an error it answers None for good: the error tells where the fault stands,
+/// `next` looks at the next byte and reads the item that begins with it. It returns None at the end
+/// of the input. After an error it returns None for good: the error tells where the fault stands,
 /// and `byte_offset` how many bytes were taken, some of the refused item's among them. An item is
-/// answered before the byte behind it is asked for, so that a reader that waits for its peer isn't
+/// answered before the byte after it is asked for, so that a reader that waits for its peer isn't
 /// asked too early.
 ///
 /// An input that ends within an item is an error, an end of input: who reads from a socket keeps
-/// the bytes from the offset behind the last whole item on (`byte_offset` before each `next`), and
+/// the bytes from the offset after the last whole item on (`byte_offset` before each `next`), and
 /// begins a stream there again when more have come.
 ///
 /// ```rust
@@ -71,6 +71,12 @@ impl<R: Source> Deserializer<R> {
 
 impl<'de, R: Offset, T> StreamDeserializer<'de, R, T> {
     /// How many bytes of the input were taken.
+    ///
+    /// ```rust
+    /// let mut stream = Deserializer::from_slice(alloc, b"\x01\x19\x01\x00").into_iter::<u16>();
+    /// assert!(rt; matches!(stream.next(), Some(Ok(1))));
+    /// assert_eq!(rt; stream.byte_offset(), 1);
+    /// ```
     pub fn byte_offset(&self) -> usize
         ensures { result ≡ (standing R.source self.now).input.offset }
     {

@@ -43,6 +43,20 @@ impl<R: Source> Deserializer<R> {
     ///
     /// An item of another kind is refused with `invalid type: expected a map`, and a map for which
     /// no level is left with `RecursionLimitExceeded`.
+    ///
+    /// ```rust
+    /// let mut de = Deserializer::from_slice(alloc, b"\xa2\x61x\x05\x61z\x00");
+    /// let mut fields = de.structure(&["x", "y"])?;
+    /// let mut x: Option<u8> = None;
+    /// while let Some(field) = fields.next_field()? {
+    ///     match field {
+    ///         Field::Known(0) => fields.once("x", &mut x)?,
+    ///         _ => fields.skip()?,
+    ///     }
+    /// }
+    /// assert_eq!(rt; fields.required("x", x)?, 5);
+    /// fields.end()?;
+    /// ```
     pub fn structure<'a>(&'a mut self, names: &'a [&'a str]) -> Result<StructAccess<'a, R>>
         ensures* rests { sem 𝓛 (RestsIfErr (the_row R.row) self.entry
             (λ m. m.de.ghost_name) result
@@ -106,7 +120,7 @@ impl<'de, R: Read<'de>> Deserializer<R> {
             (R.source self.old.items.source) (R.source self.new.items.source)) result }
         ensures below { IfOk result (λ next. IfSome next (λ field.
             IfSome (place_in field) (λ i. i < length names.now))) }
-        // Nothing remains behind the last pair, and a loop over the fields ends.
+        // Nothing remains after the last pair, and a loop over the fields ends.
         ensures remains { IfOk result (λ next. MatchOption next (remaining.new ≡ Counted 0)
             (λ k. turns remaining.new (R.source self.new.items.source)
             < turns remaining.old (R.source self.old.items.source))) }
@@ -129,27 +143,31 @@ impl<'de, R: Read<'de>> Deserializer<R> {
         }
         Ok(Some(field))
     }
+}
 
-    /// Reads the field that the next key names, of a map of which so much remains; None where no pair
-    /// does. It refuses what [`StructAccess::next_field`] refuses.
-    #[inline(always)]
-    pub fn next_key(&mut self, remaining: &mut Remaining, names: &[&str]) -> Result<Option<Field>>
-        ensures read { TakesKey R.refusals (formats_of self.old.items.formats)
-            (IsField (texts names.now)) self.old.items.levels remaining.old remaining.new
-            (R.source self.old.items.source) (R.source self.new.items.source) result }
-        ensures below { IfOk result (λ next. IfSome next (λ field.
-            IfSome (place_in field) (λ i. i < length names.now))) }
-        // Nothing remains behind the last pair, and a loop over the fields ends.
-        ensures remains { IfOk result (λ next. MatchOption next (remaining.new ≡ Counted 0)
-            (λ k. turns remaining.new (R.source self.new.items.source)
-            < turns remaining.old (R.source self.old.items.source))) }
-        ensures levels { self.new.items.levels ≡ self.old.items.levels }
-        ensures formats { self.new.items.formats ≡ self.old.items.formats }
-    {
-        match self.next_field(remaining, names) {
-            Ok(next) => Ok(next),
-            Err(why) => Err(unnamed(&mut self.items, why, "invalid type: expected a field name")),
-        }
+/// Reads the field that the next key names, of a map of which so much remains; None where no pair
+/// does. It refuses what [`StructAccess::next_field`] refuses.
+#[inline(always)]
+pub fn next_key<'de, R: Read<'de>>(
+    de: &mut Deserializer<R>,
+    remaining: &mut Remaining,
+    names: &[&str],
+) -> Result<Option<Field>>
+    ensures read { TakesKey R.refusals (formats_of de.old.items.formats)
+        (IsField (texts names.now)) de.old.items.levels remaining.old remaining.new
+        (R.source de.old.items.source) (R.source de.new.items.source) result }
+    ensures below { IfOk result (λ next. IfSome next (λ field.
+        IfSome (place_in field) (λ i. i < length names.now))) }
+    // Nothing remains after the last pair, and a loop over the fields ends.
+    ensures remains { IfOk result (λ next. MatchOption next (remaining.new ≡ Counted 0)
+        (λ k. turns remaining.new (R.source de.new.items.source)
+        < turns remaining.old (R.source de.old.items.source))) }
+    ensures levels { de.new.items.levels ≡ de.old.items.levels }
+    ensures formats { de.new.items.formats ≡ de.old.items.formats }
+{
+    match de.next_field(remaining, names) {
+        Ok(next) => Ok(next),
+        Err(why) => Err(unnamed(&mut de.items, why, "invalid type: expected a field name")),
     }
 }
 
@@ -157,7 +175,7 @@ impl<'de, R: Read<'de>> Deserializer<R> {
 ///
 /// It holds the level that the map took. [`end`](StructAccess::end),
 /// [`missing`](StructAccess::missing), [`duplicate`](StructAccess::duplicate),
-/// [`refuse`](StructAccess::refuse) and each call that answers Err leave that level. After an Err
+/// [`refuse`](StructAccess::refuse) and each call that returns Err leave that level. After an Err
 /// no call follows.
 ///
 /// ```rust
@@ -172,16 +190,16 @@ impl<'de, R: Read<'de>> Deserializer<R> {
 /// ```
 #[derive(Drop)]
 pub struct StructAccess<'a, R> {
-    /// What reads the keys and the values.
-    pub de: &'a mut Deserializer<R>,
-    /// What remains of the map, behind the pair that was begun.
-    pub remaining: Remaining,
-    /// How many levels were left before the map.
-    pub outer: u64,
-    /// Whether a field was named whose value wasn't read.
-    pub value_due: bool,
-    /// The names of the fields, in the order of their numbers.
-    pub names: &'a [&'a str],
+    // What reads the keys and the values.
+    pub(crate) de: &'a mut Deserializer<R>,
+    // What remains of the map, after the pair that was begun.
+    pub(crate) remaining: Remaining,
+    // How many levels were left before the map.
+    pub(crate) outer: u64,
+    // Whether a field was named whose value wasn't read.
+    pub(crate) value_due: bool,
+    // The names of the fields, in the order of their numbers.
+    pub(crate) names: &'a [&'a str],
 }
 
 impl<'a, R: Source> StructAccess<'a, R> {
@@ -206,7 +224,7 @@ impl<'a, R: Source> StructAccess<'a, R> {
             (R.source self.new.de.now.items.source) result }
         ensures below { IfOk result (λ next. IfSome next (λ field.
             IfSome (place_in field) (λ i. i < length self.old.names.now))) }
-        // Nothing remains behind the last pair, and a loop over the fields ends.
+        // Nothing remains after the last pair, and a loop over the fields ends.
         ensures remains { IfOk result (λ next. MatchOption next
             (self.new.remaining ≡ Counted 0)
             (λ k. turns self.new.remaining (R.source self.new.de.now.items.source)
@@ -306,6 +324,7 @@ impl<'a, R: Source> StructAccess<'a, R> {
             self.old.de.now.items.levels bs))) }
         ensures text { IfErr result (λ e. is_some slot.old ≡ true →
             IsMessageOf (Some (duplicate_text name.now)) (code_of e)) }
+        ensures offset { IfErr result (λ e. is_some slot.old ≡ true → offset_of e ≡ 0) }
         ensures kept { IfErr result (λ e. slot.new ≡ slot.old) }
         ensures due { IfOk result (λ u. self.new.value_due ≡ false) }
         ensures inside { IfOk result (λ u.
@@ -338,7 +357,7 @@ impl<'a, R: Source> StructAccess<'a, R> {
         }
     }
 
-    /// The value of a field's slot, behind the map's last pair. A slot that has none is refused
+    /// The value of a field's slot, after the map's last pair. A slot that has none is refused
     /// with ``missing field `id` ``, which leaves the map.
     pub fn required<V: Drop>(&mut self, name: &'static str, slot: Option<V>) -> Result<V>
         requires live { self.old.de.now.items.levels < self.old.outer }
@@ -348,6 +367,7 @@ impl<'a, R: Source> StructAccess<'a, R> {
         ensures absent { IfErr result (λ e. is_some slot ≡ false) }
         ensures text { IfErr result (λ e.
             IsMessageOf (Some (missing_text name.now)) (code_of e)) }
+        ensures offset { IfErr result (λ e. offset_of e ≡ 0) }
         ensures source { self.new.de.now.items.source ≡ self.old.de.now.items.source }
         ensures inside { IfOk result (λ v.
             self.new.de.now.items.levels ≡ self.old.de.now.items.levels) }
@@ -417,6 +437,7 @@ impl<'a, R: Source> StructAccess<'a, R> {
     pub fn missing(self, name: &'static str) -> Error
         requires { self.de.now.items.levels < self.outer }
         ensures text { IsMessageOf (Some (missing_text name.now)) (code_of result) }
+        ensures offset { offset_of result ≡ 0 }
         ensures source { self.exit.0.now.items.source ≡ self.entry.de.now.items.source }
         ensures levels { self.exit.0.now.items.levels ≡ self.entry.outer }
         ensures formats { self.exit.0.now.items.formats
@@ -430,6 +451,7 @@ impl<'a, R: Source> StructAccess<'a, R> {
     pub fn duplicate(self, name: &'static str) -> Error
         requires { self.de.now.items.levels < self.outer }
         ensures text { IsMessageOf (Some (duplicate_text name.now)) (code_of result) }
+        ensures offset { offset_of result ≡ 0 }
         ensures source { self.exit.0.now.items.source ≡ self.entry.de.now.items.source }
         ensures levels { self.exit.0.now.items.levels ≡ self.entry.outer }
         ensures formats { self.exit.0.now.items.formats
@@ -488,6 +510,7 @@ impl<'a, R: Source> StructAccess<'a, R> {
 #[inline(never)]
 pub fn missing_field(alloc: Global, name: &str) -> Error
     ensures text { IsMessageOf (Some (missing_text name.now)) (code_of result) }
+    ensures offset { offset_of result ≡ 0 }
 {
     match format!(in alloc; "missing field `{name}`") {
         Ok(text) => Error::message(alloc, text),
@@ -500,6 +523,7 @@ pub fn missing_field(alloc: Global, name: &str) -> Error
 #[inline(never)]
 pub fn duplicate_field(alloc: Global, name: &str) -> Error
     ensures text { IsMessageOf (Some (duplicate_text name.now)) (code_of result) }
+    ensures offset { offset_of result ≡ 0 }
 {
     match format!(in alloc; "duplicate field `{name}`") {
         Ok(text) => Error::message(alloc, text),

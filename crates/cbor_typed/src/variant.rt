@@ -32,7 +32,7 @@ impl<'de, R: Read<'de>> Deserializer<R> {
     /// Takes an enum up to its identifier: the tags, the head of an array or of a map of one pair,
     /// and the identifier, a number or a name.
     ///
-    /// It is refused with `WrongEnumFormat`, before the first byte behind the tags, where that form
+    /// It is refused with `WrongEnumFormat`, before the first byte after the tags, where that form
     /// isn't read; with `ArrayTooShort` where an array has no identifier; with `unknown variant`
     /// where no name is of the identifier, and with `invalid type: expected a variant name` where
     /// another item stands in its place.
@@ -91,47 +91,58 @@ impl<'de, R: Read<'de>> Deserializer<R> {
         end_array(&mut self.items, remaining)?;
         Ok(item)
     }
+}
 
-    /// Reads the content of a variant of one part, behind its identifier. An identifier alone is
-    /// refused with this text, and an array in which nothing follows it with `ArrayTooShort`.
-    pub fn one_part<T: Deserialize<'de, R>>(&mut self, form: Form, alone: &str) -> Result<T>
-        ensures read { TakesContent R.refusals (formats_of self.old.items.formats)
-            (IsPart (T.reads (context self.old.items.formats R.lends)))
-            self.old.items.levels form
-            (R.source self.old.items.source) (R.source self.new.items.source) result }
-        ensures alone { IfErr result (TellsAlone alone.now form) }
-        ensures too_short { IfErr result (TellsTooShort R.refusals form
-            (R.source self.old.items.source)) }
-        ensures levels { self.new.items.levels ≡ self.old.items.levels }
-        ensures formats { self.new.items.formats ≡ self.old.items.formats }
-    {
-        match form {
-            Form::Array(remaining) => self.only_item::<T>(remaining),
-            Form::Map => T::deserialize(self),
-            Form::Alone => Err(Error::message(self.items.alloc, alone)),
-        }
+/// Reads the content of a variant of one part, after its identifier. An identifier alone is refused
+/// with this text, and an array in which nothing follows it with `ArrayTooShort`.
+pub fn one_part<'de, R: Read<'de>, T: Deserialize<'de, R>>(
+    de: &mut Deserializer<R>,
+    form: Form,
+    alone: &str,
+) -> Result<T>
+    ensures read { TakesContent R.refusals (formats_of de.old.items.formats)
+        (IsPart (T.reads (context de.old.items.formats R.lends)))
+        de.old.items.levels form
+        (R.source de.old.items.source) (R.source de.new.items.source) result }
+    ensures alone { IfErr result (TellsAlone alone.now form) }
+    ensures too_short { IfErr result (TellsTooShort R.refusals form
+        (R.source de.old.items.source)) }
+    ensures levels { de.new.items.levels ≡ de.old.items.levels }
+    ensures formats { de.new.items.formats ≡ de.old.items.formats }
+{
+    match form {
+        Form::Array(remaining) => de.only_item::<T>(remaining),
+        Form::Map => T::deserialize(de),
+        Form::Alone => Err(Error::message(de.items.alloc, alone)),
     }
 }
 
 /// An enum whose identifier was read, and whose content is still to be read.
 ///
 /// It holds the levels that the enum took. Each call on it but [`index`](VariantAccess::index) ends
-/// it and leaves those levels, Ok or Err; but [`tuple`](VariantAccess::tuple), where it answers Ok,
+/// it and leaves those levels, Ok or Err; but [`tuple`](VariantAccess::tuple), where it returns Ok,
 /// hands them on.
 #[derive(Drop)]
 pub struct VariantAccess<'a, R> {
-    /// What reads the content.
-    pub de: &'a mut Deserializer<R>,
-    /// The variant's place among the names.
-    pub index: usize,
-    /// How the enum is spelled.
-    pub form: Form,
-    /// How many levels were left before the enum.
-    pub outer: u64,
+    // What reads the content.
+    pub(crate) de: &'a mut Deserializer<R>,
+    // The variant's place among the names.
+    pub(crate) index: usize,
+    // How the enum is spelled.
+    pub(crate) form: Form,
+    // How many levels were left before the enum.
+    pub(crate) outer: u64,
 }
 
 impl<'a, R: Source> VariantAccess<'a, R> {
     /// The variant's place among the names.
+    ///
+    /// ```rust
+    /// let mut de = Deserializer::from_slice(alloc, b"\x65Right");
+    /// let variant = de.variant(&["Left", "Right"])?;
+    /// assert_eq!(rt; variant.index(), 1);
+    /// variant.unit()?;
+    /// ```
     pub fn index(&self) -> usize
         ensures { result ≡ self.now.index }
     {
@@ -171,6 +182,12 @@ impl<'a, R: Source> VariantAccess<'a, R> {
     ///
     /// An array in which nothing follows the identifier is refused with `ArrayTooShort`, and an
     /// identifier alone with `invalid type: unit variant, expected newtype variant`.
+    ///
+    /// ```rust
+    /// let mut de = Deserializer::from_slice(alloc, b"\xa1\x63Dot\x07");
+    /// let variant = de.variant(&["Dot"])?;
+    /// assert_eq!(rt; variant.newtype::<u8>()?, 7);
+    /// ```
     pub fn newtype<'de, T: Deserialize<'de, R>>(self) -> Result<T>
     where
         R: Read<'de>,
@@ -193,7 +210,8 @@ impl<'a, R: Source> VariantAccess<'a, R> {
             form,
             outer,
         } = self;
-        let read = de.one_part::<T>(form, "invalid type: unit variant, expected newtype variant");
+        let text = "invalid type: unit variant, expected newtype variant";
+        let read = one_part::<R, T>(de, form, text);
         de.items.levels = outer;
         read
     }
@@ -206,12 +224,11 @@ impl<'a, R: Source> VariantAccess<'a, R> {
     /// `invalid type: unit variant, expected struct variant`.
     ///
     /// ```rust
-    /// // of an enum with a variant `Point { x: u32, y: u32 }`, and a struct `Point` of these
-    /// let point = access.structure::<Point>()?;
-    /// Ok(Shape::Point {
-    ///     x: point.x,
-    ///     y: point.y,
-    /// })
+    /// let mut de = Deserializer::from_slice(alloc, b"\xa1\x62At\xa1\x61x\x05");
+    /// let variant = de.variant(&["At"])?;
+    /// // A type of one's own has a struct of these fields in place of the map.
+    /// let fields: BTreeMap<String, u8> = variant.structure()?;
+    /// assert_eq!(rt; fields.len(), 1);
     /// ```
     pub fn structure<'de, T: Deserialize<'de, R>>(self) -> Result<T>
     where
@@ -235,7 +252,8 @@ impl<'a, R: Source> VariantAccess<'a, R> {
             form,
             outer,
         } = self;
-        let read = de.one_part::<T>(form, "invalid type: unit variant, expected struct variant");
+        let text = "invalid type: unit variant, expected struct variant";
+        let read = one_part::<R, T>(de, form, text);
         de.items.levels = outer;
         read
     }
@@ -243,6 +261,15 @@ impl<'a, R: Source> VariantAccess<'a, R> {
     /// Goes on to the parts of a variant of several.
     ///
     /// An identifier alone is refused with `invalid type: unit variant, expected tuple variant`.
+    ///
+    /// ```rust
+    /// let mut de = Deserializer::from_slice(alloc, b"\xa1\x63Box\x82\x03\x04");
+    /// let variant = de.variant(&["Dot", "Box"])?;
+    /// let mut parts = variant.tuple()?;
+    /// assert_eq!(rt; parts.part::<u8>(0, 2)?, 3);
+    /// assert_eq!(rt; parts.part::<u8>(1, 2)?, 4);
+    /// parts.end()?;
+    /// ```
     pub fn tuple(self) -> Result<SeqAccess<'a, R>>
         // The levels are those that `variant` left.
         requires { IsInside self.form self.de.now.items.levels self.outer }

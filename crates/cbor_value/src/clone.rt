@@ -13,7 +13,9 @@ impl Value {
     /// dropped.
     ///
     /// ```rust
+    /// let value = Value::Integer(-300);
     /// let copy = value.clone(alloc)?;
+    /// assert_eq!(rt; copy, value);
     /// ```
     pub fn clone(&self, alloc: Global) -> Result<Value>
         ensures equal { IfOk result (λ v. view v ≡ view self.now) }

@@ -16,7 +16,7 @@ impl From<bool> for Value {
     }
 }
 
-/// A whole number, as `Value::from(-1i8)` is `Value::Integer(-1)`.
+/// An integer, as `Value::from(-1i8)` is `Value::Integer(-1)`.
 impl From<i8> for Value {
     ghost from_gives = { λ n v. view v ≡ plain.integer n };
 
@@ -25,7 +25,7 @@ impl From<i8> for Value {
     }
 }
 
-/// A whole number.
+/// An integer.
 impl From<i16> for Value {
     ghost from_gives = { λ n v. view v ≡ plain.integer n };
 
@@ -34,7 +34,7 @@ impl From<i16> for Value {
     }
 }
 
-/// A whole number.
+/// An integer.
 impl From<i32> for Value {
     ghost from_gives = { λ n v. view v ≡ plain.integer n };
 
@@ -43,7 +43,7 @@ impl From<i32> for Value {
     }
 }
 
-/// A whole number.
+/// An integer.
 impl From<i64> for Value {
     ghost from_gives = { λ n v. view v ≡ plain.integer n };
 
@@ -52,7 +52,7 @@ impl From<i64> for Value {
     }
 }
 
-/// A whole number.
+/// An integer.
 impl From<u8> for Value {
     ghost from_gives = { λ n v. view v ≡ plain.integer (pos n) };
 
@@ -61,7 +61,7 @@ impl From<u8> for Value {
     }
 }
 
-/// A whole number.
+/// An integer.
 impl From<u16> for Value {
     ghost from_gives = { λ n v. view v ≡ plain.integer (pos n) };
 
@@ -70,7 +70,7 @@ impl From<u16> for Value {
     }
 }
 
-/// A whole number.
+/// An integer.
 impl From<u32> for Value {
     ghost from_gives = { λ n v. view v ≡ plain.integer (pos n) };
 
@@ -79,7 +79,7 @@ impl From<u32> for Value {
     }
 }
 
-/// A whole number.
+/// An integer.
 impl From<u64> for Value {
     ghost from_gives = { λ n v. view v ≡ plain.integer (pos n) };
 
@@ -115,7 +115,7 @@ impl From<ByteBuf> for Value {
     }
 }
 
-/// A text, as `Value::from("a".to_owned(alloc)?)`.
+/// A text string, as `Value::from("a".to_owned(alloc)?)`.
 impl From<String> for Value {
     ghost from_gives = { λ text v. view v ≡ plain.text (string_bytes text) };
 

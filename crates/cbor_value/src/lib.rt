@@ -1,4 +1,4 @@
-//! Any value that CBOR spells, as a tree.
+//! Any value that CBOR encodes, as a tree.
 //!
 //! [`Value`] and [`Map`] with their order, copies and conversions. It names the definitions of
 //! `cbor_model`, its facts on the order and on maps, the byte strings of `cbor_bytes`, and the error
@@ -20,6 +20,11 @@ mod pairs;
 /// Two floats are equal where width and bits are, so `1.0` of 16 bits isn't `1.0` of 64 bits, and a
 /// NaN equals itself. The order is that of the widths, and then that of the bits, as it is among
 /// values.
+///
+/// ```rust
+/// assert_eq!(rt; Float::Half(0x3c00).to_f64(), 1.0);
+/// assert_eq!(rt; Float::from(1.0), Float::Double(0x3ff0_0000_0000_0000));
+/// ```
 #[derive(Clone, Copy, Debug)]
 pub enum Float {
     /// 16 bits.
@@ -32,9 +37,9 @@ pub enum Float {
 
 /// Any CBOR value.
 ///
-/// Values are ordered by their kind: whole numbers from 0, those below 0, byte strings, texts,
+/// Values are ordered by their kind: unsigned integers, negative ones, byte strings, text strings,
 /// arrays, maps, tags, then false, true, null and floats. Within a kind the smaller head comes
-/// first (a number nearer to 0, a shorter string or text, fewer items or pairs, a smaller tag), and
+/// first (a number nearer to 0, a shorter string, fewer items or pairs, a smaller tag), and
 /// then the content, from its front. They are equal where nothing of that differs. Comparing takes
 /// no memory.
 ///
@@ -45,6 +50,13 @@ pub enum Float {
 /// both ask of the other value, its own `to_vec` gives, as `storable` and `in_range`. For values
 /// that aren't written, [`in_memory`](Value::in_memory) gives the latter, and the law `byte_order`
 /// of `cbor_model` the rest.
+///
+/// ```rust
+/// let mut map = Map::new(alloc);
+/// map.insert(Value::Integer(1), Value::Array(Vec::new(alloc)))?;
+/// let value = Value::Tag(24, Box::new(alloc, Value::Map(map))?);
+/// assert!(rt; value > Value::Integer(-1)); // by kind: a tag comes after all integers
+/// ```
 #[cycle(value)]
 #[derive(Debug, Drop)]
 pub enum Value {
@@ -52,13 +64,13 @@ pub enum Value {
     Null,
     /// False or true.
     Bool(bool),
-    /// A whole number. CBOR stores those from -2^64 to 2^64 - 1.
+    /// An integer. CBOR stores those from -2^64 to 2^64 - 1.
     Integer(i128),
     /// A float, in the width that it was read in.
     Float(Float),
     /// A byte string.
     Bytes(Vec<u8>),
-    /// A text.
+    /// A text string.
     Text(String),
     /// An array.
     Array(Vec<Value>),
@@ -71,10 +83,18 @@ pub enum Value {
 /// A map from values to values, which lists its pairs in the order of the keys.
 ///
 /// Of n pairs, `get`, `contains_key`, `insert` and `remove` compare a key with at most as many as n
-/// has binary digits; `insert` of a key that is new, and `remove`, then move the pairs behind it.
+/// has binary digits; `insert` of a key that is new, and `remove`, then move the pairs after it.
 /// So many pairs are best put in at once: `from_pairs` compares n - 1 times where the keys ascend
 /// already, and else in the order of n log n times. The other calls take the same time whatever n
 /// is.
+///
+/// ```rust
+/// let mut map = Map::new(alloc);
+/// map.insert(Value::Integer(2), Value::Null)?;
+/// map.insert(Value::Integer(1), Value::Bool(true))?;
+/// assert_eq!(rt; map.len(), 2);
+/// assert_eq!(rt; map.first_key_value(), Some((&Value::Integer(1), &Value::Bool(true))));
+/// ```
 #[cycle(value)]
 #[derive(Debug, Drop)]
 pub struct Map {

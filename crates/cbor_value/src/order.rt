@@ -89,7 +89,8 @@ fn cmp_strings(a: &[u8], b: &[u8]) -> Ordering
     }
 }
 
-/// The same of texts. Std's own order of short texts, by words, takes the fewest instructions.
+/// The order of two texts of one length. Std's own order of short texts, by words, takes the fewest
+/// instructions.
 fn cmp_texts(a: &str, b: &str) -> Ordering
     ensures { result ≡ lex (length a.now ∷ a.now) (length b.now ∷ b.now) }
 {

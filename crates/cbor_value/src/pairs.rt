@@ -42,7 +42,7 @@ impl Map {
     /// stays.
     ///
     /// Where the keys ascend the pairs stay where they are, which takes no memory. Else they are
-    /// sorted, which can answer `OutOfMemory`: the pairs are dropped then.
+    /// sorted, which can return `OutOfMemory`: the pairs are dropped then.
     ///
     /// ```rust
     /// let (one, two) = (Value::Integer(1), Value::Integer(2));
@@ -67,7 +67,7 @@ impl Map {
         Ok(Map { pairs })
     }
 
-    /// Puts a pair in, and answers the value that the key had before.
+    /// Puts a pair in, and returns the value that the key had before.
     ///
     /// The map grows only where the key is new: for a key that is there it takes no memory, and
     /// isn't refused. Where its allocation fails, the map stays as it was, and the pair is dropped.
@@ -104,9 +104,10 @@ impl Map {
     /// The value of a key, or `None` where the map lacks the key.
     ///
     /// ```rust
-    /// if let Some(value) = map.get(&Value::Integer(1)) {
-    ///     ..
-    /// }
+    /// let mut map = Map::new(alloc);
+    /// map.insert(Value::Integer(1), Value::Bool(true))?;
+    /// assert_eq!(rt; map.get(&Value::Integer(1)), Some(&Value::Bool(true)));
+    /// assert_eq!(rt; map.get(&Value::Integer(2)), None);
     /// ```
     pub fn get(&self, key: &Value) -> Option<&Value>
         ensures { KeysAscend (map_view self.now)
@@ -116,8 +117,8 @@ impl Map {
         value
     }
 
-    /// The value of a key as by `get`, and with how many keys the search compared it: with at most
-    /// as many as the number of pairs has binary digits, and with none where there are no pairs.
+    /// The value of a key as by `get`, and how many keys the search compared it with: at most as
+    /// many as the number of pairs has binary digits.
     pub fn get_counted(&self, key: &Value) -> (Option<&Value>, u32)
         ensures found { KeysAscend (map_view self.now)
             → option_map (λ v. view v.now) result.0 ≡ finmap.get (map_of self.now) (view key.now) }
@@ -136,6 +137,13 @@ impl Map {
     }
 
     /// Whether it has the key.
+    ///
+    /// ```rust
+    /// let mut map = Map::new(alloc);
+    /// map.insert(Value::Integer(1), Value::Null)?;
+    /// assert!(rt; map.contains_key(&Value::Integer(1)));
+    /// assert!(rt; !map.contains_key(&Value::Integer(2)));
+    /// ```
     pub fn contains_key(&self, key: &Value) -> bool
         ensures { KeysAscend (map_view self.now)
             → result ≡ finmap.contains_key (map_of self.now) (view key.now) }
@@ -143,9 +151,16 @@ impl Map {
         self.get(key).is_some()
     }
 
-    /// Takes a key's pair out, and answers its value. It takes no memory.
+    /// Takes a key's pair out, and returns its value. It takes no memory.
     ///
-    /// Where the map lacks the key it stays as it was, and the answer is `None`.
+    /// Where the map lacks the key it stays as it was, and the call returns `None`.
+    ///
+    /// ```rust
+    /// let mut map = Map::new(alloc);
+    /// map.insert(Value::Integer(1), Value::Bool(true))?;
+    /// assert_eq!(rt; map.remove(&Value::Integer(1)), Some(Value::Bool(true)));
+    /// assert!(rt; map.is_empty());
+    /// ```
     pub fn remove(&mut self, key: &Value) -> Option<Value>
         ensures before { KeysAscend (map_view self.old)
             → option_map view result ≡ finmap.get (map_of self.old) (view key.now) }
@@ -181,6 +196,15 @@ impl Map {
     }
 
     /// The pair of the least key, or `None` where it has no pairs.
+    ///
+    /// ```rust
+    /// let mut map = Map::new(alloc);
+    /// map.insert(Value::Integer(-1), Value::Null)?;
+    /// map.insert(Value::Integer(7), Value::Null)?;
+    /// // A negative integer comes after all unsigned ones.
+    /// assert_eq!(rt; map.first_key_value(), Some((&Value::Integer(7), &Value::Null)));
+    /// assert_eq!(rt; map.last_key_value(), Some((&Value::Integer(-1), &Value::Null)));
+    /// ```
     pub fn first_key_value(&self) -> Option<(&Value, &Value)>
         ensures { option_map (λ p. (view p.0.now, view p.1.now)) result
             ≡ first_pair (map_view self.now) }
@@ -202,9 +226,14 @@ impl Map {
     /// Its pairs, in the order of the keys, which are the caller's to take apart.
     ///
     /// ```rust
-    /// for (key, value) in map.into_pairs() {
-    ///     ..
+    /// let mut map = Map::new(alloc);
+    /// map.insert(Value::Integer(2), Value::Null)?;
+    /// map.insert(Value::Integer(1), Value::Bool(true))?;
+    /// let mut keys: Vec<Value> = Vec::new(alloc);
+    /// for (key, _value) in map.into_pairs() {
+    ///     keys.push(key)?;
     /// }
+    /// assert!(rt; keys.as_slice() == [Value::Integer(1), Value::Integer(2)].as_slice());
     /// ```
     pub fn into_pairs(self) -> Vec<(Value, Value)>
         ensures { pair_views result.items ≡ map_view self }
@@ -216,8 +245,11 @@ impl Map {
     /// Its pairs of a key and a value, in the order of the keys.
     ///
     /// ```rust
+    /// let mut map = Map::new(alloc);
+    /// map.insert(Value::Integer(1), Value::Bool(true))?;
     /// for (key, value) in map.iter() {
-    ///     ..
+    ///     assert_eq!(rt; key, &Value::Integer(1));
+    ///     assert_eq!(rt; value, &Value::Bool(true));
     /// }
     /// ```
     pub fn iter(&self) -> Iter<'_, (Value, Value)>
@@ -259,7 +291,7 @@ impl Map {
         Err(start)
     }
 
-    /// Gives the i-th pair another value, and answers the one that it had.
+    /// Gives the i-th pair another value, and returns the one that it had.
     fn replace(&mut self, i: usize, value: Value) -> Value
         requires { i < length self.old.pairs.items }
         ensures before { (k : Val) → StandsAt k i (map_view self.old)

@@ -1,5 +1,10 @@
 //! Structs.
 
+ghost use Rattle.std.specs.Prelude.{map};
+ghost use Rattle.serde_cbor.specs.Schemas.{optional, or_default};
+ghost use Rattle.own_types.specs.declared.records.TheConstants.{LABEL, PAIR, READING, SETTINGS};
+ghost use Rattle.own_types.specs.declared.records.TheConstants.{USER};
+
 use serde_cbor::bytes::ByteArray;
 use serde_cbor::de::{Deserialize, DeserializeOwned, FromParts, Read, Readable, ReadableParts};
 use serde_cbor::parts::{Optional, OrDefault, Schema};
@@ -17,9 +22,6 @@ pub struct User {
 const USER: &[&str] = &["user_id", "admin"];
 
 impl Schema for User {
-    ghost use Rattle.std.specs.Prelude.{map};
-    ghost use Rattle.own_types.specs.declared.records.TheConstants.{USER};
-
     type Parts = (u32, bool);
 
     ghost names = { map (λ n. n.now) USER.now };
@@ -68,9 +70,6 @@ pub struct Reading {
 const READING: &[&str] = &["sensor", "degrees"];
 
 impl Schema for Reading {
-    ghost use Rattle.std.specs.Prelude.{map};
-    ghost use Rattle.own_types.specs.declared.records.TheConstants.{READING};
-
     type Parts = (ByteArray<4>, f64);
 
     ghost names = { map (λ n. n.now) READING.now };
@@ -116,10 +115,6 @@ pub struct Settings {
 const SETTINGS: &[&str] = &["port", "limit", "verbose"];
 
 impl Schema for Settings {
-    ghost use Rattle.std.specs.Prelude.{map};
-    ghost use Rattle.serde_cbor.specs.Schemas.{optional, or_default};
-    ghost use Rattle.own_types.specs.declared.records.TheConstants.{SETTINGS};
-
     type Parts = (u16, Optional<u32>, OrDefault<bool>);
 
     ghost names = { map (λ n. n.now) SETTINGS.now };
@@ -169,9 +164,6 @@ pub struct Label<'a> {
 const LABEL: &[&str] = &["name", "size"];
 
 impl<'a> Schema for Label<'a> {
-    ghost use Rattle.std.specs.Prelude.{map};
-    ghost use Rattle.own_types.specs.declared.records.TheConstants.{LABEL};
-
     type Parts = (&'a str, u8);
 
     ghost names = { map (λ n. n.now) LABEL.now };
@@ -207,9 +199,6 @@ pub struct Pair<T> {
 const PAIR: &[&str] = &["first", "second"];
 
 impl<T: Drop> Schema for Pair<T> {
-    ghost use Rattle.std.specs.Prelude.{map};
-    ghost use Rattle.own_types.specs.declared.records.TheConstants.{PAIR};
-
     type Parts = (T, T);
 
     ghost names = { map (λ n. n.now) PAIR.now };

@@ -1,5 +1,9 @@
 //! An enum with a variant of each kind.
 
+ghost use Rattle.std.specs.Prelude.{map};
+ghost use Rattle.serde_cbor.specs.Schemas.{newtype, structure, tuple};
+ghost use Rattle.own_types.specs.declared.shapes.TheConstants.{SHAPE, SQUARE};
+
 use serde_cbor::de::{Deserialize, DeserializeOwned, FromParts, Read, Readable, ReadableParts};
 use serde_cbor::parts::{FieldNames, Newtype, OneOf4, Schema, Struct, Tuple};
 use serde_cbor::ser::{NamedFields, PartsDocument, Serialize, Serializer, Write};
@@ -24,9 +28,6 @@ const SQUARE: &[&str] = &["side", "filled"];
 pub enum SquareFields {}
 
 impl FieldNames for SquareFields {
-    ghost use Rattle.std.specs.Prelude.{map};
-    ghost use Rattle.own_types.specs.declared.shapes.TheConstants.{SQUARE};
-
     type Parts = (u32, bool);
 
     ghost names = { map (λ n. n.now) SQUARE.now };
@@ -37,11 +38,8 @@ impl FieldNames for SquareFields {
 }
 
 impl Schema for Shape {
-    ghost use Rattle.std.specs.Prelude.{map};
     ghost use Rattle.serde_cbor.specs.OneOf4 as one_of;
-    ghost use Rattle.serde_cbor.specs.Schemas.{newtype, structure, tuple};
     ghost use Rattle.own_types.specs.declared.shapes.Shape.TheVariants as shape;
-    ghost use Rattle.own_types.specs.declared.shapes.TheConstants.{SHAPE};
 
     type Parts = OneOf4<(), Newtype<u32>, Tuple<(u32, u32)>, Struct<SquareFields>>;
 

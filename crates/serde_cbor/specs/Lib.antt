@@ -19,6 +19,7 @@ pub use Rattle.cbor_model.specs.Readable
 pub use Rattle.cbor_model.specs.Parts
 pub use Rattle.cbor_model.specs.Unstored
 pub use Rattle.cbor_io.specs.Error
+pub use Rattle.cbor_io.specs.Place
 pub use Rattle.cbor_io.specs.ReadError
 pub use Rattle.cbor_read.specs.Source
 pub use Rattle.cbor_read.specs.Sources

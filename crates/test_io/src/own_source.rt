@@ -100,6 +100,7 @@ impl Source for VecRead {
         self.buffer.clear();
     }
 
+    #[tactic(auto, using(crate::proofs::OwnSource::none_taken))]
     fn read_to_buffer(&mut self, n: usize) -> Result<(), ReadError> {
         let end = self.end_of(n)?;
         self.buffer.extend_from_slice(&self.bytes[self.taken..end])?;
@@ -111,6 +112,7 @@ impl Source for VecRead {
         &self.buffer
     }
 
+    #[tactic(auto, using(crate::proofs::OwnSource::none_taken))]
     fn read_to_vec(&mut self, n: usize, out: &mut Vec<u8>) -> Result<(), ReadError> {
         let end = self.end_of(n)?;
         out.extend_from_slice(&self.bytes[self.taken..end])?;

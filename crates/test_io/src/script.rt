@@ -218,9 +218,12 @@ fn extended<S: Source>(alloc: Global, source: &mut S, n: usize) -> Result<Answer
 // An empty vector, once it has so many bytes. Where it gets none it takes no memory.
 fn filled<S: Source>(alloc: Global, source: &mut S, n: usize) -> Answer {
     let mut out = Vec::new(alloc);
-    match source.read_to_vec(n, &mut out) {
-        Ok(()) => shown(&out),
-        Err(e) if out.capacity() == 0 => refusal(e),
-        Err(_) => InlineText::of("memory was taken"),
+    let Err(e) = source.read_to_vec(n, &mut out) else {
+        return shown(&out);
+    };
+    if out.capacity() == 0 {
+        refusal(e)
+    } else {
+        InlineText::of("memory was taken")
     }
 }

@@ -13,7 +13,7 @@ fn enters(rt: &impl Abort, de: &mut Deserializer<SliceRead<'_>>, want: Option<u6
 }
 
 fn leaves(rt: &impl Abort, de: &mut Deserializer<SliceRead<'_>>) {
-    assert!(rt; de.items.levels < 127);
+    assert!(rt; de.levels_left() < 127);
     de.leave_tag();
 }
 

@@ -10,7 +10,7 @@ use std::io::ErrorKind;
 
 /// A writer of the standard library as a sink.
 ///
-/// A fault of the writer is answered as an I/O error, which says nothing of how much of the piece
+/// A fault of the writer is returned as an I/O error, which says nothing of how much of the piece
 /// went out. A write that was interrupted is tried again, and one that takes nothing is a fault.
 ///
 /// ```rust
@@ -56,7 +56,7 @@ fn write_whole<W: io::Write>(writer: &mut W, bytes: &[u8]) -> io::Result<()>
     Ok(())
 }
 
-// Writes a front of the bytes, and answers how long it is. An interrupted write is tried again.
+// Writes a front of the bytes, and returns how long it is. An interrupted write is tried again.
 fn write_some<W: io::Write>(writer: &mut W, bytes: &[u8]) -> io::Result<usize>
     ensures within { IfOk result (λ n. (0 < n) × (n ≤ length bytes.now)) }
     ensures written { WriteAppends

@@ -70,7 +70,7 @@ impl Write for SliceWrite<'_> {
             (Some (written_bytes self.new)) result }
         ensures refused { IfErr result (λ e. IsFull self.new e) }
         ensures same_reference { slice_reference self.new ≡ slice_reference self.old }
-        // A piece that fits leaves the bytes behind it as they were.
+        // A piece that fits leaves the bytes after it as they were.
         ensures behind { OnOk result
             (unwritten_bytes self.new ≡ drop (length buf.now) (unwritten_bytes self.old)) }
         // A piece is taken exactly where it fits, and of one that is refused nothing is taken.

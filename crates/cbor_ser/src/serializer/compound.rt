@@ -38,6 +38,12 @@ impl<W: Write> Serializer<W> {
     }
 
     /// Appends a variant that holds nothing: its name, or its number where the format is packed.
+    ///
+    /// ```rust
+    /// let mut ser = Serializer::new(alloc, Vec::new(alloc));
+    /// ser.serialize_unit_variant("Side", 1, "Right")?;
+    /// assert_eq!(rt; ser.into_inner().as_slice(), b"\x65Right".as_slice());
+    /// ```
     pub fn serialize_unit_variant(
         &mut self,
         _name: &'static str,
@@ -52,6 +58,12 @@ impl<W: Write> Serializer<W> {
 
     /// Appends a variant of one unnamed part: the map of its name and the part, or in the legacy
     /// form the array of its name (its number where the format is packed) and the part.
+    ///
+    /// ```rust
+    /// let mut ser = Serializer::new(alloc, Vec::new(alloc));
+    /// ser.serialize_newtype_variant("Shape", 0, "Dot", &7u8)?;
+    /// assert_eq!(rt; ser.into_inner().as_slice(), b"\xa1\x63Dot\x07".as_slice());
+    /// ```
     pub fn serialize_newtype_variant<T: Serialize>(
         &mut self,
         _name: &'static str,
@@ -68,6 +80,15 @@ impl<W: Write> Serializer<W> {
 
     /// Begins a sequence of so many items, or up to a break where the length isn't declared.
     /// The items follow by [`CollectionSerializer::serialize_element`].
+    ///
+    /// ```rust
+    /// let mut ser = Serializer::new(alloc, Vec::new(alloc));
+    /// let mut items = ser.serialize_seq(None)?; // its length isn't known yet
+    /// items.serialize_element(&1u8)?;
+    /// items.serialize_element(&2u8)?;
+    /// items.end()?;
+    /// assert_eq!(rt; ser.into_inner().as_slice(), b"\x9f\x01\x02\xff".as_slice());
+    /// ```
     pub fn serialize_seq<'a>(
         &'a mut self,
         len: Option<usize>,
@@ -90,6 +111,15 @@ impl<W: Write> Serializer<W> {
 
     /// Begins a map of so many pairs, or up to a break where the length isn't declared. Keys and
     /// values follow by turns.
+    ///
+    /// ```rust
+    /// let mut ser = Serializer::new(alloc, Vec::new(alloc));
+    /// let mut pairs = ser.serialize_map(Some(1))?;
+    /// pairs.serialize_key(&"a")?;
+    /// pairs.serialize_value(&1u8)?;
+    /// pairs.end()?;
+    /// assert_eq!(rt; ser.into_inner().as_slice(), b"\xa1\x61a\x01".as_slice());
+    /// ```
     pub fn serialize_map<'a>(
         &'a mut self,
         len: Option<usize>,
@@ -111,6 +141,15 @@ impl<W: Write> Serializer<W> {
     }
 
     /// Begins a tuple, which is a sequence of so many items.
+    ///
+    /// ```rust
+    /// let mut ser = Serializer::new(alloc, Vec::new(alloc));
+    /// let mut items = ser.serialize_tuple(2)?;
+    /// items.serialize_element(&1u8)?;
+    /// items.serialize_element(&true)?;
+    /// items.end()?;
+    /// assert_eq!(rt; ser.into_inner().as_slice(), b"\x82\x01\xf5".as_slice());
+    /// ```
     pub fn serialize_tuple<'a>(&'a mut self, len: usize) -> Result<CollectionSerializer<'a, W>>
         ensures* rests { sem 𝓛 (RestsIfErr (the_row W.row) self.entry (λ s. s.ser.ghost_name) result
             (λ last. Serialized W.written W.refuses W.references self.old (array_head (Some len))
@@ -152,6 +191,15 @@ impl<W: Write> Serializer<W> {
 
     /// Begins a variant of unnamed parts: the map of its name and the array of its parts, or in the
     /// legacy form the array of its name (its number where the format is packed) and its parts.
+    ///
+    /// ```rust
+    /// let mut ser = Serializer::new(alloc, Vec::new(alloc));
+    /// let mut parts = ser.serialize_tuple_variant("Shape", 1, "Box", 2)?;
+    /// parts.serialize_field(&3u8)?;
+    /// parts.serialize_field(&4u8)?;
+    /// parts.end()?;
+    /// assert_eq!(rt; ser.into_inner().as_slice(), b"\xa1\x63Box\x82\x03\x04".as_slice());
+    /// ```
     pub fn serialize_tuple_variant<'a>(
         &'a mut self,
         _name: &'static str,
@@ -177,6 +225,15 @@ impl<W: Write> Serializer<W> {
     }
 
     /// Begins a struct: a map of its fields, of which so many are written.
+    ///
+    /// ```rust
+    /// let mut ser = Serializer::new(alloc, Vec::new(alloc));
+    /// let mut fields = ser.serialize_struct("Point", 2)?;
+    /// fields.serialize_field("x", &5u8)?;
+    /// fields.serialize_field("y", &-5i8)?;
+    /// fields.end()?;
+    /// assert_eq!(rt; ser.into_inner().as_slice(), b"\xa2\x61x\x05\x61y\x24".as_slice());
+    /// ```
     pub fn serialize_struct<'a>(
         &'a mut self,
         _name: &'static str,
@@ -200,6 +257,14 @@ impl<W: Write> Serializer<W> {
 
     /// Begins a variant of named fields: the map of its name (its number where the format is
     /// packed) and the map of its fields, or in the legacy form the array of the two.
+    ///
+    /// ```rust
+    /// let mut ser = Serializer::new(alloc, Vec::new(alloc));
+    /// let mut fields = ser.serialize_struct_variant("Shape", 2, "At", 1)?;
+    /// fields.serialize_field("x", &5u8)?;
+    /// fields.end()?;
+    /// assert_eq!(rt; ser.into_inner().as_slice(), b"\xa1\x62At\xa1\x61x\x05".as_slice());
+    /// ```
     pub fn serialize_struct_variant<'a>(
         &'a mut self,
         _name: &'static str,

@@ -3,10 +3,12 @@
 use crate::desk::Desk;
 use crate::row::Row;
 use crate::types::tagged;
+use cbor_samples::assorted::Assorted;
 use cbor_samples::bookmark::Bookmark;
 use cbor_samples::choice::Choice;
 use cbor_samples::enums::{Bar, Color, DataEnum, TwoVariants, Wish};
 use cbor_samples::letters::{EnumStruct, Letter, ReprEnumStruct};
+use cbor_samples::nested::{Message, Pair, Settings};
 use cbor_samples::structs::{
     Example, Foo, Mascot, NewtypeStruct, OptionalPerson, Person, SmallStruct, User,
 };
@@ -26,7 +28,8 @@ pub fn judge<'r, R: Read<'r> + Drop>(
     match row.kind {
         "User" => desk.reads::<User, R>(row, de)?,
         "SmallStruct" => desk.reads::<SmallStruct, R>(row, de)?,
-        "NewtypeStruct" => desk.reads::<NewtypeStruct, R>(row, de)?,
+        "NewtypeStruct<bool>" => desk.reads::<NewtypeStruct<bool>, R>(row, de)?,
+        "NewtypeStruct<u8>" => desk.reads::<NewtypeStruct<u8>, R>(row, de)?,
         "Mascot" => desk.reads::<Mascot, R>(row, de)?,
         "Person" => desk.reads::<Person, R>(row, de)?,
         "Foo" => desk.reads::<Foo, R>(row, de)?,
@@ -80,6 +83,21 @@ fn small<'r, R: Read<'r> + Drop>(
         "FloatEnum" => desk.reads::<FloatEnum, R>(row, de)?,
         "Bookmark" => desk.reads::<Bookmark, R>(row, de)?,
         "UnitStruct" => desk.reads::<UnitStruct, R>(row, de)?,
+        "Assorted" => desk.reads::<Assorted, R>(row, de)?,
+        _ => return nested(desk, row, de),
+    }
+    Ok(true)
+}
+
+fn nested<'r, R: Read<'r> + Drop>(
+    desk: &mut Desk<'_>,
+    row: &Row<'_>,
+    de: Deserializer<R>,
+) -> io::Result<bool> {
+    match row.kind {
+        "Message" => desk.reads::<Message, R>(row, de)?,
+        "Settings" => desk.reads::<Settings, R>(row, de)?,
+        "Pair<u8>" => desk.reads::<Pair<u8>, R>(row, de)?,
         _ => return tagged::judge(desk, row, de),
     }
     Ok(true)

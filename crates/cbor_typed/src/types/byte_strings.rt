@@ -5,6 +5,7 @@ ghost use Rattle.cbor_typed.specs.ByteStrings.{IsArrayOf};
 
 use crate::de::Deserializer;
 use crate::deserialize::{Deserialize, DeserializeOwned, Readable};
+use crate::sequence::invalid_length;
 use cbor_bytes::{ByteArray, ByteBuf, Bytes};
 use cbor_io::error::{Error, Result};
 use cbor_read::{EitherLifetime, Read};
@@ -72,15 +73,6 @@ fn array_from<const N: usize>(bytes: &[u8], alloc: Global) -> Result<ByteArray<N
     match <[u8; N]>::try_from(bytes) {
         Ok(array) => Ok(ByteArray(array)),
         Err(_) => Err(invalid_length(alloc, bytes.len(), N)),
-    }
-}
-
-// So many bytes were found, and others expected.
-#[cold]
-fn invalid_length(alloc: Global, found: usize, expected: usize) -> Error {
-    match format!(in alloc; "invalid length {found}, expected {expected}") {
-        Ok(text) => Error::message(alloc, text),
-        Err(e) => Error::from(e),
     }
 }
 

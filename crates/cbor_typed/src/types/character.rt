@@ -26,7 +26,7 @@ fn one_of(text: &str, alloc: Global) -> Result<char>
     }
 }
 
-// The same of a text that is lent.
+// The one character of a borrowed text.
 #[inline(always)]
 fn character(text: EitherStr<'_, '_>, alloc: Global) -> Result<char>
     ensures { IsOneOf (text_bytes text.entry) result }

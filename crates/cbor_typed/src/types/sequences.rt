@@ -7,6 +7,8 @@ ghost use Rattle.cbor_scalars.specs.Takes.{TakesItem, context, formats_of};
 
 use crate::de::Deserializer;
 use crate::deserialize::{Deserialize, DeserializeOwned, Readable};
+use cbor_collections::array::no_item;
+use cbor_de::Remaining;
 use cbor_de::room::push_any;
 use cbor_io::error::{Error, Result};
 use cbor_read::Read;
@@ -24,7 +26,24 @@ impl<'de, R: Read<'de>, T: Deserialize<'de, R>> Deserialize<'de, R> for Vec<T> {
     fn deserialize(de: &mut Deserializer<R>) -> Result<Vec<T>> {
         let mut items = Vec::new(de.items.alloc);
         let mut access = de.array()?;
-        'items: while let Some(item) = access.next_element::<T>()? {
+        // As `next_element` goes on, whose answer would be moved for each item.
+        'items: loop {
+            match access.more() {
+                Ok(true) => {}
+                Ok(false) => break,
+                Err(e) => return Err(e),
+            }
+            let start = access.de.items.source.offset();
+            let item = match T::deserialize(access.de) {
+                Ok(item) => item,
+                Err(e) => return Err(access.refuse(e)),
+            };
+            if let Remaining::ToBreak = access.remaining {
+                if access.de.items.source.offset() <= start {
+                    let e = no_item(&mut access.de.items);
+                    return Err(access.refuse(e));
+                }
+            }
             if push_any(&mut items, item, access.remaining).is_err() {
                 return Err(access.refuse(Error::from(AllocError)));
             }
@@ -89,7 +108,8 @@ impl<'de, R: Read<'de>, T: Deserialize<'de, R>, const N: usize> Deserialize<'de,
         };
         match <[T; N]>::try_from(items) {
             Ok(array) => Ok(array),
-            Err(_) => Err(Error::from(AllocError)),
+            // `exactly` returns as many.
+            Err(_) => unreachable!(),
         }
     }
 }

@@ -1,4 +1,4 @@
-use Rattle.std.proofs.Common.{ℕ, ap, subst}
+use Rattle.std.proofs.Common.{ℕ, Err, ap, subst}
 use Rattle.std.proofs.lemmas.Result.{err_from_is_err_and}
 use Rattle.cbor_model.specs.Formats.{Formats}
 use Rattle.cbor_de.specs.Gives.{Step}
@@ -7,7 +7,7 @@ use Rattle.cbor_scalars.specs.Takes.{formats_of}
 use Rattle.cbor_collections.specs.Variants.{TakesShaped, HasShape, IsAlone, IsShaped}
 use Rattle.cbor_collections.specs.declared.variant.Shape.{Shape}
 use Rattle.cbor_collections.specs.declared.variant.Shape.TheVariants as shape
-use Rattle.cbor_collections.proofs.VariantShapes.{shaped_then, no_shape}
+use Rattle.cbor_collections.proofs.VariantShapes.{shaped_then, no_shape, unassigned_shape}
 use Rattle.cbor_collections.proofs.variant.untagged_variant.Goals as goal
 
 pub returns-in_err-enum_shape-clause-read : goal.returns-in_err-enum_shape-clause-read
@@ -57,3 +57,15 @@ returns-in-Alone-clause-read g c =
     let read = subst (λ (f : Formats). TakesShaped IsAlone g.R.Source.refusals f names mid.levels a t new.levels c.name_alone.result) (ap formats_of c.in_ok-enum_shape.ensures.formats) c.name_alone.ensures.read in
     let here = subst (λ (n : ℕ). TakesShaped IsAlone g.R.Source.refusals (formats_of old.formats) names n a t new.levels c.name_alone.result) c.in_ok-enum_shape.ensures.levels read in
     shaped_then (formats_of old.formats) names old.levels g.R.Source.refusals s a shape.Alone IsAlone (λ bs none is. (none, is)) shaped t new.levels c.name_alone.result here
+
+pub returns-in-Unassigned-clause-read : goal.returns-in-Unassigned-clause-read
+returns-in-Unassigned-clause-read g c =
+    let old = c.args.items.now in
+    let new = c.error.new.self in
+    let s = g.R.Source.source old.source in
+    let a = g.R.Source.source c.enum_shape.new.items.source in
+    let t = g.R.Source.source new.source in
+    let names = texts c.args.names.now in
+    let shaped = subst (λ (x : Shape). Step s a (λ l bs rest. IsShaped x bs rest)) c.in-Unassigned.is c.in_ok-enum_shape.ensures.read.0 in
+    shaped_then (formats_of old.formats) names old.levels g.R.Source.refusals s a shape.Unassigned (HasShape shape.Unassigned) (λ bs none is. is) shaped t new.levels (Err c.error.result)
+    (unassigned_shape (formats_of old.formats) names g.R.Source.refusals old.levels a c.error.result)

@@ -3,12 +3,20 @@ use Rattle.cbor_model.specs.Raw.{AreBytes}
 use Rattle.cbor_de.specs.Gives.{Gave}
 use Rattle.cbor_typed.specs.Whole.{from_reader_context}
 use Rattle.cbor_value.specs.View.{view}
-use Rattle.cbor_convert.proofs.Given.{all_left, not_refused, value_acceptable, value_read, spelled_so}
+use Rattle.cbor_convert.proofs.Given.{all_left, not_refused, told_unstorable, value_acceptable, value_read, spelled_so}
 use Rattle.cbor_convert.proofs.reading.from_value.Goals as goal
 
 pub returns-in_err-bytes-clause-accepted : goal.returns-in_err-bytes-clause-accepted
 returns-in_err-bytes-clause-accepted g c = λ x stored good means.
     not_refused _ (view c.args.value) _ c.in_err-bytes.ensures.refused c.from_residual.ensures.1 stored
+
+pub returns-in_err-bytes-clause-refused : goal.returns-in_err-bytes-clause-refused
+returns-in_err-bytes-clause-refused g c = λ not_stored.
+    told_unstorable _ (view c.args.value) _ c.in_err-bytes.ensures.refused c.from_residual.ensures.1
+
+pub returns-clause-refused : goal.returns-clause-refused
+returns-clause-refused g c = λ not_stored.
+    absurd (not_stored (c.in_ok-bytes.ensures.canonical (view c.args.value) refl).storable)
 
 pub returns-clause-acceptable : goal.returns-clause-acceptable
 returns-clause-acceptable g c =

@@ -50,7 +50,7 @@ fields-preserved-in-Continue-branch-4 g c =
     let slots = λ (f : Formats). g.F.FieldList.slots (context f g.R.Source.lends) in
     let next = c.in_ok-field.ensures in
     let key = field_named names (fields c.args.de.now.items.formats) i.so_far c.in_ok-field.field-0 c.in-Some.field c.in-Some.is refl c.next_key.new.remaining next.read next.formats next.levels in
-    let now = c.next_key.new.self.items in
+    let now = c.next_key.new.de.items in
     let done = c.in_ok-take-in-Known.ensures in
     let taken = subst (λ (f : Formats). FieldTaken (formats_of now.formats) now.levels (fields f) c.in-Known.i (slots f c.fields.held) (slots f c.take.new.held) (g.R.Source.source now.source) (g.R.Source.source c.take.new.de.items.source)) (next.formats ∙ i.formats) done.read in
     record {
@@ -67,7 +67,7 @@ returns-in_err-take-in-Known-clause-read g c =
     let slots = λ (f : Formats). g.F.FieldList.slots (context f g.R.Source.lends) in
     let next = c.in_ok-field.ensures in
     let key = field_named names (fields old.formats) i.so_far c.in_ok-field.field-0 c.in-Some.field c.in-Some.is refl c.next_key.new.remaining next.read next.formats next.levels in
-    let now = c.next_key.new.self.items in
+    let now = c.next_key.new.de.items in
     let e = c.in_err-take-in-Known.field-0.0 in
     let refused = subst (λ (f : Formats). FieldRefused (formats_of now.formats) now.levels g.R.Source.refusals (fields f) c.in-Known.i (slots f c.fields.held) (g.R.Source.source now.source) e) (next.formats ∙ i.formats) c.in_err-take-in-Known.ensures.read in
     unread names (fields old.formats) g.R.Source.refusals old.formats old.levels (g.R.Source.source old.source) _ e c.from_residual-in_err-take-in-Known.result c.from_residual-in_err-take-in-Known.ensures.1

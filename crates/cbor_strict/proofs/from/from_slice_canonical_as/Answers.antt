@@ -54,21 +54,21 @@ pub returns-in-Some-first_departure-clause-accepted : goal.returns-in-Some-first
 returns-in-Some-first_departure-clause-accepted g c = λ x spelt.
     let bs = c.args.slice.now in
     let j = c.in-Some-first_departure.offset in
-    let shown = subst (λ (b : List ℕ). IsFirstShown b j) (c.up_to.ensures ∙ ap (λ (o : ℕ). take o c.args.slice.now) c.offset.ensures) c.in-Some-first_departure.ensures in
+    let shown = subst (λ (b : List ℕ). IsFirstShown b j) (c.up_to.ensures ∙ ap (λ (o : ℕ). take o c.args.slice.now) c.offset.ensures.value) c.in-Some-first_departure.ensures in
     absurd (canonical_shows_none bs spelt.tree spelt.spelt j (from_front (offset_of c.in-Err.e) bs j shown.shows))
 
 pub returns-in-Some-first_departure-clause-departs : goal.returns-in-Some-first_departure-clause-departs
 returns-in-Some-first_departure-clause-departs g c = λ x spelt.
     let bs = c.args.slice.now in
     let j = c.in-Some-first_departure.offset in
-    let shown = subst (λ (b : List ℕ). IsFirstShown b j) (c.up_to.ensures ∙ ap (λ (o : ℕ). take o c.args.slice.now) c.offset.ensures) c.in-Some-first_departure.ensures in
+    let shown = subst (λ (b : List ℕ). IsFirstShown b j) (c.up_to.ensures ∙ ap (λ (o : ℕ). take o c.args.slice.now) c.offset.ensures.value) c.in-Some-first_departure.ensures in
     absurd (nothing_shown bs c.in-Err.e j (c.in-Err.ensures.accepted x spelt) shown)
 
 pub returns-in-Some-first_departure-clause-every : goal.returns-in-Some-first_departure-clause-every
 returns-in-Some-first_departure-clause-every g c = λ v spelt.
     let bs = c.args.slice.now in
     let j = c.in-Some-first_departure.offset in
-    let shown = subst (λ (b : List ℕ). IsFirstShown b j) (c.up_to.ensures ∙ ap (λ (o : ℕ). take o c.args.slice.now) c.offset.ensures) c.in-Some-first_departure.ensures in
+    let shown = subst (λ (b : List ℕ). IsFirstShown b j) (c.up_to.ensures ∙ ap (λ (o : ℕ). take o c.args.slice.now) c.offset.ensures.value) c.in-Some-first_departure.ensures in
     where_map g.T.Readable.total (λ memory. absurd (nothing_shown bs c.in-Err.e j memory shown)) (c.in-Err.ensures.every v spelt)
 
 pub returns-in-Some-first_departure-clause-refused : goal.returns-in-Some-first_departure-clause-refused
@@ -77,7 +77,7 @@ returns-in-Some-first_departure-clause-refused g c =
     let o = offset_of c.in-Err.e in
     let j = c.in-Some-first_departure.offset in
     let e = c.not_canonical-in-Some-first_departure in
-    let shown = subst (λ (b : List ℕ). IsFirstShown b j) (c.up_to.ensures ∙ ap (λ (o : ℕ). take o c.args.slice.now) c.offset.ensures) c.in-Some-first_departure.ensures in
+    let shown = subst (λ (b : List ℕ). IsFirstShown b j) (c.up_to.ensures ∙ ap (λ (o : ℕ). take o c.args.slice.now) c.offset.ensures.value) c.in-Some-first_departure.ensures in
     let told = subst (IsFirstShown (take o bs)) (sym e.ensures.offset) shown in
     where_map g.T.Readable.total (λ first.
     elim first [
@@ -90,7 +90,7 @@ returns-in-Some-first_departure-clause-earliest g c =
     let bs = c.args.slice.now in
     let j = c.in-Some-first_departure.offset in
     let e = c.not_canonical-in-Some-first_departure in
-    let shown = subst (λ (b : List ℕ). IsFirstShown b j) (c.up_to.ensures ∙ ap (λ (o : ℕ). take o c.args.slice.now) c.offset.ensures) c.in-Some-first_departure.ensures in
+    let shown = subst (λ (b : List ℕ). IsFirstShown b j) (c.up_to.ensures ∙ ap (λ (o : ℕ). take o c.args.slice.now) c.offset.ensures.value) c.in-Some-first_departure.ensures in
     inl (e.ensures.code, subst (IsFirstShown bs) (sym e.ensures.offset) (first_of_front (offset_of c.in-Err.e) bs j shown))
 
 -- ---- refused, and departs nowhere before
@@ -110,7 +110,7 @@ pub returns-in-None-first_departure-clause-refused : goal.returns-in-None-first_
 returns-in-None-first_departure-clause-refused g c =
     let bs = c.args.slice.now in
     let fits : AreBytes bs = λ i. omega (arith, c.type_inv.slice i) in
-    let none = subst (λ (b : List ℕ). (j : ℕ) → ShowsDeparture b j → ⊥) (c.up_to.ensures ∙ ap (λ (o : ℕ). take o c.args.slice.now) c.offset.ensures) c.in-None-first_departure.ensures in
+    let none = subst (λ (b : List ℕ). (j : ℕ) → ShowsDeparture b j → ⊥) (c.up_to.ensures ∙ ap (λ (o : ℕ). take o c.args.slice.now) c.offset.ensures.value) c.in-None-first_departure.ensures in
     where_map g.T.Readable.total (λ first.
     elim first [
       | inl memory ↦ inl memory
@@ -119,5 +119,5 @@ returns-in-None-first_departure-clause-refused g c =
 
 pub returns-in-None-first_departure-clause-earliest : goal.returns-in-None-first_departure-clause-earliest
 returns-in-None-first_departure-clause-earliest g c =
-    let none = subst (λ (b : List ℕ). (j : ℕ) → ShowsDeparture b j → ⊥) (c.up_to.ensures ∙ ap (λ (o : ℕ). take o c.args.slice.now) c.offset.ensures) c.in-None-first_departure.ensures in
+    let none = subst (λ (b : List ℕ). (j : ℕ) → ShowsDeparture b j → ⊥) (c.up_to.ensures ∙ ap (λ (o : ℕ). take o c.args.slice.now) c.offset.ensures.value) c.in-None-first_departure.ensures in
     inr (each_behind c.args.slice.now (offset_of c.in-Err.e) none)

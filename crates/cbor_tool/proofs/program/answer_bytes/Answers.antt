@@ -9,7 +9,7 @@ use Rattle.cbor_tool.proofs.program.answer_bytes.Goals as goal
 pub returns-in_err-spelling-in-Ok-clause-err : goal.returns-in_err-spelling-in-Ok-clause-err
 returns-in_err-spelling-in-Ok-clause-err c =
     let p = err_from_is_err_and c.from_residual.result c.from_residual.ensures.1 in
-    rw (p.1, p.2) (IsOutOfMemory-not_written c.args.mode _ _ _ c.in-Ok.ensures.found
+    rw (p.1, p.2) (IsOutOfMemory-not_written c.args.mode _ _ c.in_err-spelling-in-Ok.field-0.0 c.in-Ok.ensures.found
     c.in_err-spelling-in-Ok.ensures.refused)
 
 pub returns-in_ok-spelling-in-Ok-clause-ok : goal.returns-in_ok-spelling-in-Ok-clause-ok

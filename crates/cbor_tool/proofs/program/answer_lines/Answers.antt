@@ -14,7 +14,7 @@ lines-init g c = HasAnswered-none (answered_in c.args.mode) _ _
 pub returns-in_err-read_line-clause-stopped : goal.returns-in_err-read_line-clause-stopped
 returns-in_err-read_line-clause-stopped g c =
     let p = err_from_is_err_and c.from_residual.result c.from_residual.ensures.1 in
-    rw (p.1, p.2) (IsStopped-reading (answered_in c.args.mode) _ _ _ _ _ _ _ c.lines.invariant c.in_err-read_line.ensures.err)
+    rw (p.1, p.2) (IsStopped-reading (answered_in c.args.mode) c.in_err-read_line.field-0.0 _ _ _ _ _ _ c.lines.invariant c.in_err-read_line.ensures.err)
 
 pub lines-smaller : goal.lines-smaller
 lines-smaller g c = let next = rw c.in-Newline.is at c.in_ok-read_line.ensures.ok in
@@ -31,7 +31,7 @@ returns-in_err-write_answer-clause-stopped g c =
     let next = rw c.in-Newline.is at c.in_ok-read_line.ensures.ok in
     let p = err_from_is_err_and c.from_residual-in_err-write_answer.result
     c.from_residual-in_err-write_answer.ensures.1 in
-    rw (p.1, p.2) (IsStopped-at_line (answered_in c.args.mode) _ _ _ _ _ _ _ _
+    rw (p.1, p.2) (IsStopped-at_line (answered_in c.args.mode) c.in_err-write_answer.field-0.0 _ _ _ _ _ _ _
     (g.W.Write.contents c.lines.writer) _ c.lines.invariant next
     (rw c.deref.ensures.value at c.in_err-write_answer.ensures.err))
 
@@ -42,7 +42,7 @@ returns-in_err-write_answer-2-clause-stopped g c =
     not_empty _ _ _ c.read_line.new.line.ok.0 c.is_empty.ensures c.if-not-is_empty.true in
     let p = err_from_is_err_and c.from_residual-in_err-write_answer-2.result
     c.from_residual-in_err-write_answer-2.ensures.1 in
-    rw (p.1, p.2) (IsStopped-at_last (answered_in c.args.mode) _ _ _ c.read_line.new.taken _ _ _ _
+    rw (p.1, p.2) (IsStopped-at_last (answered_in c.args.mode) c.in_err-write_answer-2.field-0.0 _ _ c.read_line.new.taken _ _ _ _
     (g.W.Write.contents c.lines.writer) _ c.lines.invariant next begun
     (rw c.deref-then-not-is_empty.ensures.value at c.in_err-write_answer-2.ensures.err))
 

@@ -7,7 +7,7 @@ pub returns-in_err-byte-clause-err : goal.returns-in_err-byte-clause-err
 returns-in_err-byte-clause-err g c =
     let before = c.bytes.invariant in
     let p = err_from_is_err_and c.from_residual.result c.from_residual.ensures.1 in
-    rw (p.1, p.2) (StopsReading-at_byte _ _ _ _ _ _ _ before.in_line before.counted before.consumed
+    rw (p.1, p.2) (StopsReading-at_byte c.in_err-byte.field-0.0 _ _ _ _ _ _ before.in_line before.counted before.consumed
     c.in_err-byte.ensures.err)
 
 pub bytes-smaller : goal.bytes-smaller

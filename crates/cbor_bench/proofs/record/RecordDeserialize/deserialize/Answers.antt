@@ -12,7 +12,7 @@ pub returns-in_err-access-clause-read : goal.returns-in_err-access-clause-read
 returns-in_err-access-clause-read g c =
     let passed = err_from_is_err_and c.from_residual.result c.from_residual.ensures.1 in
     let old = c.args.de.now.items in
-    rw (passed.1, passed.2) (no_struct names fields g.R.Source.refusals (g.R.Source.source old.source) old.formats old.levels _ c.in_err-access.ensures.refused)
+    rw (passed.1, passed.2) (no_struct names fields g.R.Source.refusals (g.R.Source.source old.source) old.formats old.levels c.in_err-access.field-0.0 c.in_err-access.ensures.refused)
 
 pub fields-init : goal.fields-init
 fields-init g c = record {

@@ -2,10 +2,10 @@ use Rattle.std.proofs.Common.{inl, inr}
 use Rattle.std.proofs.lemmas.Result.{err_from_is_err_and}
 use Rattle.cbor_samples.proofs.structs.NewtypeStructDeserialize.deserialize.Goals as goal
 
-pub returns-in_err-on-clause-read : goal.returns-in_err-on-clause-read
-returns-in_err-on-clause-read g c =
+pub returns-in_err-inner-clause-read : goal.returns-in_err-inner-clause-read
+returns-in_err-inner-clause-read g c =
     let passed = err_from_is_err_and c.from_residual.result c.from_residual.ensures.1 in
-    let unread = c.in_err-on.ensures.read in
+    let unread = c.in_err-inner.ensures.read in
     rw (passed.1, passed.2) (record {
       told = λ bs tells. elim (unread.told bs tells) [
         | inl e ↦ inl e

@@ -15,7 +15,7 @@ returns-in_err-serialize_field g c =
     let d = g.A.SerializeField.document c.args.self.now.0.now in
     let some : is_some d ≡ true = search (rules, c.is_written.ensures, c.if-not-is_written.false) in
     let w = has_document d some in
-    let wrote = rw w.1 at c.in_err-serialize_field.ensures in
+    let wrote = rw w.1 at c.in_err-serialize_field.ensures.written in
     same (written_then (λ i ns. g.F.WriteFields.fields_from i ns c.args.self.now.1) c.args.number d w.0 w.1 _ c.args.names.now g.F.WriteFields.slots c.requires.as_many) (stops c.from_residual.ensures.1 wrote.err)
 
 pub returns : goal.returns
@@ -23,5 +23,5 @@ returns g c =
     let d = g.A.SerializeField.document c.args.self.now.0.now in
     let some : is_some d ≡ true = search (rules, c.is_written.ensures, c.if-not-is_written.false) in
     let w = has_document d some in
-    let wrote = rw w.1 at c.in_ok-serialize_field.ensures in
+    let wrote = rw w.1 at c.in_ok-serialize_field.ensures.written in
     same (written_then (λ i ns. g.F.WriteFields.fields_from i ns c.args.self.now.1) c.args.number d w.0 w.1 _ c.args.names.now g.F.WriteFields.slots c.requires.as_many) (and_then wrote.ok c.write_fields-2.ensures)

@@ -6,9 +6,9 @@ use Rattle.cbor_read.specs.Source.{Input}
 use Rattle.cbor_io.specs.Error.{code_of, offset_of}
 use Rattle.cbor_de.specs.Gives.{Step}
 use Rattle.cbor_de.specs.declared.formats.Formats.{Formats}
-use Rattle.cbor_scalars.specs.Takes.{raws, context, formats_of, IsRead, IsNotRead, Refuses}
+use Rattle.cbor_scalars.specs.Takes.{raws, context, formats_of, IsRead, IsNotRead, Refuses, TellsItem}
 use Rattle.cbor_tags.specs.declared.tagged.Tagged.{Tagged}
-use Rattle.cbor_tags.proofs.Tags.{tag_read, tag_unread, untagged_taken, untagged_refused, head_refused}
+use Rattle.cbor_tags.proofs.Tags.{tag_read, tag_unread, untagged_taken, untagged_refused, head_refused, tag_told, untagged_told, head_told}
 use Rattle.cbor_tags.proofs.tagged.TaggedDeserialize.deserialize.Goals as goal
 
 pub leave_tag-requires : goal.leave_tag-requires
@@ -86,3 +86,37 @@ pub returns-in-Err-clause-read : goal.returns-in-Err-clause-read
 returns-in-Err-clause-read g c =
     let old = c.args.de.now in
     head_refused (g.T.Readable.reads (context old.items.formats g.R.Source.lends)) (λ (w : Tagged g.row.T.Denot). w.tag) (λ (w : Tagged g.row.T.Denot). w.value) (formats_of old.items.formats) old.items.levels g.R.Source.refusals (g.R.Source.source old.items.source) c.in-Err.e c.in-Err.ensures.refused
+
+pub returns-in-Err-value-clause-fault : goal.returns-in-Err-value-clause-fault
+returns-in-Err-value-clause-fault g c =
+    let old = c.args.de.now in
+    let mid = c.outermost.new.de in
+    let s = g.R.Source.source old.items.source in
+    let m = g.R.Source.source mid.items.source in
+    let f = formats_of old.items.formats in
+    let total = g.T.Readable.total in
+    let e = c.in-Err-value.e in
+    let one = rw c.in-Ok-Some.field-0-is at c.in-Ok-Some.ensures.levels in
+    let tag = rw c.in-Ok-Some.field-0-is at c.in-Ok-Some.ensures.item in
+    tag_told total g.R.Source.refusals f old.items.levels s m e mid.items.levels c.in-Ok-Some.tag one tag
+    (subst (λ (k : Formats). TellsItem total g.R.Source.refusals (formats_of k) mid.items.levels m e) c.in-Ok-Some.ensures.formats c.in-Err-value.ensures.fault)
+
+pub returns-in-Err-deserialize-clause-fault : goal.returns-in-Err-deserialize-clause-fault
+returns-in-Err-deserialize-clause-fault g c =
+    let old = c.args.de.now in
+    let mid = c.outermost.new.de in
+    let s = g.R.Source.source old.items.source in
+    let m = g.R.Source.source mid.items.source in
+    let f = formats_of old.items.formats in
+    let total = g.T.Readable.total in
+    let e = c.in-Err-deserialize.e in
+    let levels : mid.items.levels ≡ old.items.levels = rw c.in-Ok-None.field-0-is at c.in-Ok-None.ensures.levels in
+    let none : StandsNoTag s m = rw c.in-Ok-None.field-0-is at c.in-Ok-None.ensures.none in
+    let there = subst (λ (k : Formats). TellsItem total g.R.Source.refusals (formats_of k) mid.items.levels m e) c.in-Ok-None.ensures.formats c.in-Err-deserialize.ensures.fault in
+    untagged_told total g.R.Source.refusals f old.items.levels s m e none
+    (subst (λ (n : ℕ). TellsItem total g.R.Source.refusals f n m e) levels there)
+
+pub returns-in-Err-clause-fault : goal.returns-in-Err-clause-fault
+returns-in-Err-clause-fault g c =
+    let old = c.args.de.now in
+    head_told g.T.Readable.total g.R.Source.refusals (formats_of old.items.formats) old.items.levels (g.R.Source.source old.items.source) c.in-Err.e c.in-Err.ensures.refused

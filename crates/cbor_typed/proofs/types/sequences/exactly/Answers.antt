@@ -13,7 +13,7 @@ returns-in_err-access-clause-read g c =
     let passed = err_from_is_err_and c.from_residual.result c.from_residual.ensures.1 in
     let old = c.args.de.now in
     let reads = g.T.Readable.reads (context old.items.formats g.R.Source.lends) in
-    rw (passed.1, passed.2) (no_array_read (AreExactly reads c.args.n) g.R.Source.refusals (formats_of old.items.formats) old.items.levels (g.R.Source.source old.items.source) _ c.in_err-access.ensures.refused)
+    rw (passed.1, passed.2) (no_array_read (AreExactly reads c.args.n) g.R.Source.refusals (formats_of old.items.formats) old.items.levels (g.R.Source.source old.items.source) c.in_err-access.field-0.0 c.in_err-access.ensures.refused)
 
 pub items-preserved : goal.items-preserved
 items-preserved g c =

@@ -19,7 +19,7 @@ returns-in_err-access-clause-read g c =
     let old = c.args.de.now in
     let keys = g.K.Readable.reads (context old.items.formats g.R.Source.lends) in
     let values = g.V.Readable.reads (context old.items.formats g.R.Source.lends) in
-    rw (passed.1, passed.2) (no_map_read (λ (rs : RawPairs) (m : BTreeMap g.row.K.Denot g.row.V.Denot). AreEntries g.K.Ord.cmp keys values rs m.entries) g.R.Source.refusals (formats_of old.items.formats) old.items.levels (g.R.Source.source old.items.source) _ c.in_err-access.ensures.refused)
+    rw (passed.1, passed.2) (no_map_read (λ (rs : RawPairs) (m : BTreeMap g.row.K.Denot g.row.V.Denot). AreEntries g.K.Ord.cmp keys values rs m.entries) g.R.Source.refusals (formats_of old.items.formats) old.items.levels (g.R.Source.source old.items.source) c.in_err-access.field-0.0 c.in_err-access.ensures.refused)
 
 pub pairs-init : goal.pairs-init
 pairs-init g c =

@@ -1,15 +1,15 @@
-use Rattle.std.proofs.Common.{rules, ◌≡◌, List, ◌∷◌, ◌++◌, [], Option, refl, sym, subst, Vec, Global}
+use Rattle.std.proofs.Common.{rules, ◌≡◌, List, ◌∷◌, ◌++◌, [], refl, sym, subst, Vec, Global, arith}
 use Rattle.std.proofs.lemmas.Result.{err_from_is_err_and}
 use Rattle.cbor_model.specs.Raw.{Raws}
 use Rattle.cbor_io.specs.Error.{code_of, offset_of}
-use Rattle.cbor_de.specs.Gives.{Step}
 use Rattle.cbor_de.specs.Heads.{remaining_of}
 use Rattle.cbor_de.specs.declared.formats.Formats.{Formats}
-use Rattle.cbor_collections.specs.Accesses.{IsNext}
 use Rattle.cbor_collections.specs.Arrays.{AreRead}
 use Rattle.cbor_scalars.specs.Takes.{context, formats_of}
 use Rattle.cbor_collections.proofs.facts.Arrays.{EachRead, each_none, each_more, each_all, rest_read, may_follow}
+use Rattle.cbor_collections.proofs.facts.Arrays.{comes, item_next, item_refused, nothing_taken}
 use Rattle.cbor_collections.proofs.facts.Arrays.{end_twice, loop_begins, loop_goes_on, loop_refused, end_refused, array_takes_to, array_refused, no_array_read}
+use Rattle.cbor_typed.proofs.Elements.{untold_refused, comes_not, nothing_left}
 use Rattle.cbor_typed.proofs.types.sequences.VecDeserialize.deserialize.Goals as goal
 
 pub returns-in_err-access-clause-read : goal.returns-in_err-access-clause-read
@@ -17,7 +17,7 @@ returns-in_err-access-clause-read g c =
     let passed = err_from_is_err_and c.from_residual.result c.from_residual.ensures.1 in
     let old = c.args.de.now in
     let reads = g.T.Readable.reads (context old.items.formats g.R.Source.lends) in
-    rw (passed.1, passed.2) (no_array_read (λ (rs : Raws) (v : Vec g.row.T.Denot Global). AreRead reads rs v.items) g.R.Source.refusals (formats_of old.items.formats) old.items.levels (g.R.Source.source old.items.source) _ c.in_err-access.ensures.refused)
+    rw (passed.1, passed.2) (no_array_read (λ (rs : Raws) (v : Vec g.row.T.Denot Global). AreRead reads rs v.items) g.R.Source.refusals (formats_of old.items.formats) old.items.levels (g.R.Source.source old.items.source) c.in_err-access.field-0.0 c.in_err-access.ensures.refused)
 
 pub items-init : goal.items-init
 items-init g c =
@@ -40,30 +40,32 @@ items-preserved g c =
     let first = c.in_ok-access.access.de.now in
     let i = c.items.invariant in
     let now = c.items.access.de.now in
-    let next = c.next_element.new.self in
+    let mid = c.more.new.self in
+    let next = c.deserialize.new.de in
     let s0 = g.R.Source.source first.items.source in
     let s = g.R.Source.source now.items.source in
-    let t = g.R.Source.source next.de.now.items.source in
+    let m = g.R.Source.source mid.de.now.items.source in
+    let t = g.R.Source.source next.items.source in
     let reads = λ (f : Formats). g.T.Readable.reads (context f g.R.Source.lends) in
     let xs = c.items.items.items in
-    let x = c.in-Some.item in
+    let x = c.in-Ok.item in
     let ys = c.push_any.new.items.items in
     let pushed : ys ≡ xs ++ x ∷ [] = search rules in
-    let read = subst (λ (o : Option g.row.T.Denot). Step s t (IsNext (reads now.items.formats) (formats_of now.items.formats) now.items.levels (remaining_of c.items.access.remaining) (remaining_of next.remaining) o)) c.in-Some.is c.in_ok-item.ensures.read in
+    let came = comes s m c.items.access.remaining mid.remaining c.in-Ok-true.field-0 c.in-Ok-true.field-0-test c.in-Ok-true.ensures.read in
+    let read = item_next s m c.items.access.remaining mid.remaining c.in-Ok-true.field-0 reads now.items.formats mid.de.now.items.formats now.items.levels mid.de.now.items.levels c.more.ensures.formats (search rules) t x came c.in-Ok.ensures.read in
     record {
       same = search rules;
       outer = search rules;
       levels = search rules;
       formats = search rules;
       so_far = loop_goes_on s0 (EachRead (reads old.items.formats) xs) old.items.formats now.items.formats first.items.levels now.items.levels i.formats i.levels c.in_ok-access.access.remaining
-          reads c.items.access.remaining s (EachRead (reads old.items.formats) ys) next.remaining t x
+          reads c.items.access.remaining s (EachRead (reads old.items.formats) ys) mid.remaining t x
           (λ front r h k. subst (λ (zs : List g.row.T.Denot). EachRead (reads old.items.formats) zs (front ++ r ∷ [])) (sym pushed) (each_more (reads old.items.formats) xs front x r h k))
           i.so_far read;
     }
 
-pub returns-in_err-item-clause-read : goal.returns-in_err-item-clause-read
-returns-in_err-item-clause-read g c =
-    let passed = err_from_is_err_and c.from_residual-in_err-item.result c.from_residual-in_err-item.ensures.1 in
+pub returns-in-Err-clause-read : goal.returns-in-Err-clause-read
+returns-in-Err-clause-read g c =
     let old = c.args.de.now in
     let first = c.in_ok-access.access.de.now in
     let i = c.items.invariant in
@@ -72,15 +74,66 @@ returns-in_err-item-clause-read g c =
     let s = g.R.Source.source now.items.source in
     let reads = λ (f : Formats). g.T.Readable.reads (context f g.R.Source.lends) in
     let xs = c.items.items.items in
-    let e = c.in_err-item.field-0.0 in
+    let e = c.in-Err.e in
     let P = EachRead (reads old.items.formats) xs in
     let items = λ (rs : Raws) (v : Vec g.row.T.Denot Global). AreRead (reads old.items.formats) rs v.items in
-    rw (passed.1, passed.2) (array_refused s0 P old.items.formats now.items.formats first.items.levels now.items.levels i.formats i.levels c.in_ok-access.access.remaining
+    array_refused s0 P old.items.formats now.items.formats first.items.levels now.items.levels i.formats i.levels c.in_ok-access.access.remaining
     items old.items.levels (g.R.Source.source old.items.source) g.R.Source.refusals (code_of e) (offset_of e) c.in_ok-access.ensures.head
     (loop_refused s0 P old.items.formats now.items.formats first.items.levels now.items.levels i.formats i.levels c.in_ok-access.access.remaining
     reads c.items.access.remaining s items g.R.Source.refusals (code_of e) (offset_of e)
     (λ front more v h means. let w = rest_read (reads old.items.formats) front more v.items means in may_follow (reads old.items.formats) more w.0 w.1)
-    i.so_far c.in_err-item.ensures.read))
+    i.so_far (untold_refused (reads now.items.formats) (formats_of now.items.formats) now.items.levels c.items.access.remaining g.R.Source.refusals s (code_of e) (offset_of e) c.in-Err.ensures.read))
+
+pub returns-in-Err-deserialize-clause-read : goal.returns-in-Err-deserialize-clause-read
+returns-in-Err-deserialize-clause-read g c =
+    let old = c.args.de.now in
+    let first = c.in_ok-access.access.de.now in
+    let i = c.items.invariant in
+    let now = c.items.access.de.now in
+    let mid = c.more.new.self in
+    let s0 = g.R.Source.source first.items.source in
+    let s = g.R.Source.source now.items.source in
+    let m = g.R.Source.source mid.de.now.items.source in
+    let reads = λ (f : Formats). g.T.Readable.reads (context f g.R.Source.lends) in
+    let xs = c.items.items.items in
+    let e = c.in-Err-deserialize.e in
+    let P = EachRead (reads old.items.formats) xs in
+    let items = λ (rs : Raws) (v : Vec g.row.T.Denot Global). AreRead (reads old.items.formats) rs v.items in
+    let came = comes s m c.items.access.remaining mid.remaining c.in-Ok-true.field-0 c.in-Ok-true.field-0-test c.in-Ok-true.ensures.read in
+    let refused = item_refused s m c.items.access.remaining mid.remaining c.in-Ok-true.field-0 reads now.items.formats mid.de.now.items.formats now.items.levels mid.de.now.items.levels c.more.ensures.formats (search rules)
+    g.R.Source.refusals (code_of e) (offset_of e) came c.in-Err-deserialize.ensures.read in
+    rw c.refuse.ensures.error (array_refused s0 P old.items.formats now.items.formats first.items.levels now.items.levels i.formats i.levels c.in_ok-access.access.remaining
+    items old.items.levels (g.R.Source.source old.items.source) g.R.Source.refusals (code_of e) (offset_of e) c.in_ok-access.ensures.head
+    (loop_refused s0 P old.items.formats now.items.formats first.items.levels now.items.levels i.formats i.levels c.in_ok-access.access.remaining
+    reads c.items.access.remaining s items g.R.Source.refusals (code_of e) (offset_of e)
+    (λ front more v h means. let w = rest_read (reads old.items.formats) front more v.items means in may_follow (reads old.items.formats) more w.0 w.1)
+    i.so_far refused))
+
+pub returns-then-offset-start-clause-read : goal.returns-then-offset-start-clause-read
+returns-then-offset-start-clause-read g c =
+    let old = c.args.de.now in
+    let first = c.in_ok-access.access.de.now in
+    let i = c.items.invariant in
+    let now = c.items.access.de.now in
+    let mid = c.more.new.self in
+    let s0 = g.R.Source.source first.items.source in
+    let s = g.R.Source.source now.items.source in
+    let m = g.R.Source.source mid.de.now.items.source in
+    let t = g.R.Source.source c.deserialize.new.de.items.source in
+    let reads = λ (f : Formats). g.T.Readable.reads (context f g.R.Source.lends) in
+    let xs = c.items.items.items in
+    let e = c.refuse-then-offset-start.result in
+    let P = EachRead (reads old.items.formats) xs in
+    let items = λ (rs : Raws) (v : Vec g.row.T.Denot Global). AreRead (reads old.items.formats) rs v.items in
+    let came = comes s m c.items.access.remaining mid.remaining c.in-Ok-true.field-0 c.in-Ok-true.field-0-test c.in-Ok-true.ensures.read in
+    array_refused s0 P old.items.formats now.items.formats first.items.levels now.items.levels i.formats i.levels c.in_ok-access.access.remaining
+    items old.items.levels (g.R.Source.source old.items.source) g.R.Source.refusals (code_of e) (offset_of e) c.in_ok-access.ensures.head
+    (loop_refused s0 P old.items.formats now.items.formats first.items.levels now.items.levels i.formats i.levels c.in_ok-access.access.remaining
+    reads c.items.access.remaining s items g.R.Source.refusals (code_of e) (offset_of e)
+    (λ front more v h means. let w = rest_read (reads old.items.formats) front more v.items means in may_follow (reads old.items.formats) more w.0 w.1)
+    i.so_far
+    (nothing_taken s m c.items.access.remaining mid.remaining c.in-Ok-true.field-0 reads now.items.formats mid.de.now.items.formats now.items.levels mid.de.now.items.levels c.more.ensures.formats (search rules) t c.in-Ok.item
+    g.R.Source.refusals (code_of e) (offset_of e) _ came c.in-Ok.ensures.read (omega (arith, c.if-offset-start.true, c.offset.ensures, c.offset-start.ensures))))
 
 pub returns-in_err-end-clause-read : goal.returns-in_err-end-clause-read
 returns-in_err-end-clause-read g c =
@@ -89,15 +142,15 @@ returns-in_err-end-clause-read g c =
     let first = c.in_ok-access.access.de.now in
     let i = c.items.invariant in
     let now = c.items.access.de.now in
-    let next = c.next_element.new.self in
+    let next = c.more.new.self in
     let s0 = g.R.Source.source first.items.source in
     let t = g.R.Source.source now.items.source in
     let u = g.R.Source.source next.de.now.items.source in
     let w = g.R.Source.source c.end.new.self.0.items.source in
     let reads = λ (f : Formats). g.T.Readable.reads (context f g.R.Source.lends) in
     let items = λ (rs : Raws) (v : Vec g.row.T.Denot Global). AreRead (reads old.items.formats) rs v.items in
-    let end = subst (λ (o : Option g.row.T.Denot). Step t u (IsNext (reads now.items.formats) (formats_of now.items.formats) now.items.levels (remaining_of c.items.access.remaining) (remaining_of next.remaining) o)) c.in_default.is c.in_ok-item.ensures.read in
-    let none = rw c.in_default.is at c.in_ok-item.ensures.remains in
+    let end = comes_not t u c.items.access.remaining next.remaining c.in-Ok-false.field-0 c.in-Ok-false.field-0-test c.in-Ok-false.ensures.read in
+    let none = nothing_left c.items.access.remaining next.remaining c.in-Ok-false.field-0 c.in-Ok-false.field-0-test c.in-Ok-false.ensures.counts in
     rw (passed.1, passed.2) (end_refused s0 (EachRead (reads old.items.formats) c.items.items.items) old.items.formats now.items.formats first.items.levels now.items.levels i.formats i.levels c.in_ok-access.access.remaining
     items old.items.levels (g.R.Source.source old.items.source) g.R.Source.refusals t u w c.items.access.remaining next.remaining c.in_err-end.field-0.0 none c.in_ok-access.ensures.head i.so_far end c.in_err-end.ensures.read)
 
@@ -107,7 +160,7 @@ returns-clause-read g c =
     let first = c.in_ok-access.access.de.now in
     let i = c.items.invariant in
     let now = c.items.access.de.now in
-    let next = c.next_element.new.self in
+    let next = c.more.new.self in
     let s0 = g.R.Source.source first.items.source in
     let t = g.R.Source.source now.items.source in
     let u = g.R.Source.source next.de.now.items.source in
@@ -115,8 +168,8 @@ returns-clause-read g c =
     let reads = λ (f : Formats). g.T.Readable.reads (context f g.R.Source.lends) in
     let xs = c.items.items.items in
     let items = λ (rs : Raws) (v : Vec g.row.T.Denot Global). AreRead (reads old.items.formats) rs v.items in
-    let end = subst (λ (o : Option g.row.T.Denot). Step t u (IsNext (reads now.items.formats) (formats_of now.items.formats) now.items.levels (remaining_of c.items.access.remaining) (remaining_of next.remaining) o)) c.in_default.is c.in_ok-item.ensures.read in
-    let none = rw c.in_default.is at c.in_ok-item.ensures.remains in
+    let end = comes_not t u c.items.access.remaining next.remaining c.in-Ok-false.field-0 c.in-Ok-false.field-0-test c.in-Ok-false.ensures.read in
+    let none = nothing_left c.items.access.remaining next.remaining c.in-Ok-false.field-0 c.in-Ok-false.field-0-test c.in-Ok-false.ensures.counts in
     array_takes_to s0 (EachRead (reads old.items.formats) xs) old.items.formats now.items.formats first.items.levels now.items.levels i.formats i.levels c.in_ok-access.access.remaining
     items old.items.levels (g.R.Source.source old.items.source) t w _ c.items.access.remaining c.items.items (λ front h. each_all (reads old.items.formats) xs front h)
     c.in_ok-access.ensures.head i.so_far (end_twice (remaining_of c.items.access.remaining) next.remaining t u w none end c.in_ok-end.ensures.read) (search rules)

@@ -18,7 +18,7 @@ returns-in_err-access-clause-read g c =
     let rb = λ (f : Formats). g.B.Readable.reads (context f g.R.Source.lends) in
     let rc = λ (f : Formats). g.C.Readable.reads (context f g.R.Source.lends) in
     let items = λ (rs : Raws) (t : g.row.A.Denot × g.row.B.Denot × g.row.C.Denot). FirstThen (ra old.items.formats) t.0 (FirstThen (rb old.items.formats) t.1 (FirstThen (rc old.items.formats) t.2 AreNone)) rs in
-    rw (passed.1, passed.2) (no_array_read items g.R.Source.refusals (formats_of old.items.formats) old.items.levels (g.R.Source.source old.items.source) _ c.in_err-access.ensures.refused)
+    rw (passed.1, passed.2) (no_array_read items g.R.Source.refusals (formats_of old.items.formats) old.items.levels (g.R.Source.source old.items.source) c.in_err-access.field-0.0 c.in_err-access.ensures.refused)
 
 pub returns-in_err-a-clause-read : goal.returns-in_err-a-clause-read
 returns-in_err-a-clause-read g c =

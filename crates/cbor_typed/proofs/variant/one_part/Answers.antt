@@ -1,13 +1,13 @@
 use Rattle.cbor_scalars.specs.Takes.{context, formats_of}
 use Rattle.cbor_collections.proofs.facts.Enums.{one_answer, untold}
-use Rattle.cbor_typed.proofs.de.Deserializer.one_part.Goals as goal
+use Rattle.cbor_typed.proofs.variant.one_part.Goals as goal
 
 pub returns-in-Array-clause-read : goal.returns-in-Array-clause-read
 returns-in-Array-clause-read g c = rw c.in-Array.is c.only_item.ensures.read
 
 pub returns-in-Map-clause-read : goal.returns-in-Map-clause-read
 returns-in-Map-clause-read g c =
-    let old = c.args.self.now in
+    let old = c.args.de.now in
     rw c.in-Map.is (one_answer (g.T.Readable.reads (context old.items.formats g.R.Source.lends)) (formats_of old.items.formats) old.items.levels (g.R.Source.source old.items.source) (g.R.Source.source c.deserialize.new.de.items.source) g.R.Source.refusals c.deserialize.result c.deserialize.ensures.read)
 
 pub returns-in-Array-clause-alone : goal.returns-in-Array-clause-alone

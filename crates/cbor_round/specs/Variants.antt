@@ -1,0 +1,281 @@
+-- Enums are read back whose variants hold what is read back, where the names are told apart.
+use Rattle.std.proofs.Common.{◌≡◌, ◌<◌, ◌≤◌, ◌+◌, ℕ, suc, Bool, true, false, List, length, refl, ap, subst, arith}
+use Rattle.cbor_model.specs.Document.{Doc, Docs, declared, identifier, map_of, array_of, structure, Fields, raw_of, raws_of, raw_fields_of, unit_variant, newtype_variant, tuple_variant, struct_variant}
+use Rattle.cbor_model.specs.Formats.{all_formats}
+use Rattle.cbor_model.specs.Raw as raw
+use Rattle.cbor_model.specs.Raw.{Raw, Raws, raw_pair, no_raw_pairs, no_raws}
+use Rattle.cbor_model.specs.Readable.{Context, PassesTags, untagged}
+use Rattle.cbor_read.specs.Source.{Lends}
+use Rattle.cbor_scalars.specs.Takes.{lending}
+use Rattle.cbor_collections.specs.Enums.{Content, alone, one, parts, IsVariant, IsEnum, IsNothing, IsPart, AreParts}
+use Rattle.cbor_ser.specs.PartLists.{name_in}
+use Rattle.cbor_described.specs.OneOfs.{either, no_variant}
+use Rattle.cbor_described.specs.declared.variant_list.OneOf.{OneOf}
+use Rattle.cbor_described.specs.declared.variant_list.OneOf.TheVariants.{This, Other}
+use Rattle.cbor_described.specs.declared.variant_list.Never.{Never}
+use Rattle.cbor_round.specs.ReadBack.{IsReadBack, by_part, as_alike}
+use Rattle.cbor_round.specs.Names.{are_distinct, names_place, one_place}
+use Rattle.cbor_round.specs.Lists.{ArePartsReadBack}
+
+-- The item is the variant in this place with this content, and no other.
+pub record IsVariantAlone (names : List (List ℕ)) (i : ℕ) (r : Raw) (content : Content) : Type 0 where
+  pub is : IsVariant all_formats names (untagged r) (i, content)
+  pub only : (j : ℕ) (c : Content) → IsVariant all_formats names (untagged r) (j, c)
+      → (j ≡ i) × (c ≡ content)
+
+module _ (names : List (List ℕ)) (distinct : are_distinct names ≡ true) (i : ℕ) (below : i < length names) where
+  alone_is : (p : Bool) → IsVariantAlone names i (identifier p i (name_in names i)) alone
+  alone_is false = record {
+    is = (refl, names_place names distinct false i below, refl);
+    only = λ j c h. (one_place names distinct false i j below h.1, h.2);
+  }
+  alone_is true = record {
+    is = (refl, names_place names distinct true i below, refl);
+    only = λ j c h. (one_place names distinct true i j below h.1, h.2);
+  }
+
+  one_is : (p : Bool) (r : Raw)
+      → IsVariantAlone names i (map_of declared (raw_pair (identifier p i (name_in names i)) r no_raw_pairs)) (one r)
+  one_is p r = record {
+    is = (refl, names_place names distinct p i below, refl);
+    only = λ j c h. (one_place names distinct p i j below h.1, h.2);
+  }
+
+  parts_are : (p : Bool) (rs : Raws)
+      → IsVariantAlone names i (array_of declared (raw.raw (identifier p i (name_in names i)) rs)) (parts rs)
+  parts_are p rs = record {
+    is = (refl, names_place names distinct p i below, refl);
+    only = λ j c h. (one_place names distinct p i j below h.1, h.2);
+  }
+
+-- The item has one content alone, which means this value, and none of another document.
+pub record MeansAlone {V : Type 0} (names : List (List ℕ)) (i : ℕ) (r : Raw) (means : Content → V → Type 0) (document : V → Doc) (x : V) : Type 0 where
+  pub content : Content
+  pub is : IsVariantAlone names i r content
+  pub meaning : means content x
+  pub others : (y : V) → means content y → document y ≡ document x
+
+-- Each variant in a place is read back, where the names are told apart.
+pub record IsVariantReadBack {V : Type 0} (document : ℕ → List ℕ → V → Doc) (means : Context → Content → V → Type 0) (fits : V → Type 0) : Type 0 where
+  pub holds : (names : List (List ℕ)) → are_distinct names ≡ true → (i : ℕ) → i < length names
+      → (x : V) → fits x → (l : Lends) (p g : Bool)
+      → MeansAlone names i (raw_of (document i (name_in names i) x) p g) (means (lending all_formats l)) (document i (name_in names i)) x
+
+-- ---- the kinds of variants
+
+pub unit_back : IsVariantReadBack (λ i n u. unit_variant i n) (λ c content u. IsNothing content u) (λ u. Unit {0})
+unfolding raw_of
+unit_back = record {
+  holds = λ names distinct i below x fit l p g. record {
+    content = alone;
+    is = alone_is names distinct i below p;
+    meaning = tt;
+    others = λ y h. refl;
+  };
+}
+
+module _ {A V : Type 0} (part : V → A) where
+  module _ {document : A → Doc} {reads : Context → Raw → A → Type 0} {fits : A → Type 0} (law : IsReadBack document reads fits) where
+    newtype_holds : (names : List (List ℕ)) → are_distinct names ≡ true → (i : ℕ) → i < length names
+        → (x : V) → fits (part x) → (l : Lends) (p g : Bool)
+        → MeansAlone names i (raw_of (newtype_variant i (name_in names i) (document (part x))) p g)
+        (λ c y. IsPart (reads (lending all_formats l)) c (part y))
+        (λ y. newtype_variant i (name_in names i) (document (part y))) x
+    unfolding raw_of
+    newtype_holds names distinct i below x fit l p false = record {
+      content = one (raw_of (document (part x)) p false);
+      is = one_is names distinct i below false (raw_of (document (part x)) p false);
+      meaning = law.itself (part x) fit l p false;
+      others = λ y h. ap (newtype_variant i (name_in names i)) (law.alone (part x) (part y) fit l p false h);
+    }
+    newtype_holds names distinct i below x fit l p true = record {
+      content = parts (raw.raw (raw_of (document (part x)) p true) no_raws);
+      is = parts_are names distinct i below p (raw.raw (raw_of (document (part x)) p true) no_raws);
+      meaning = (law.itself (part x) fit l p true, tt);
+      others = λ y h. ap (newtype_variant i (name_in names i)) (law.alone (part x) (part y) fit l p true h.0);
+    }
+
+    pub newtype_back : IsVariantReadBack (λ i n x. newtype_variant i n (document (part x)))
+        (λ c content x. IsPart (reads c) content (part x)) (λ x. fits (part x))
+    newtype_back = record { holds = newtype_holds }
+
+  module _ {documents : A → Docs} {reads : Context → A → Raws → Type 0} {fits : A → Type 0} (law : ArePartsReadBack documents reads fits) where
+    tuple_holds : (names : List (List ℕ)) → are_distinct names ≡ true → (i : ℕ) → i < length names
+        → (x : V) → fits (part x) → (l : Lends) (p g : Bool)
+        → MeansAlone names i (raw_of (tuple_variant i (name_in names i) (documents (part x))) p g)
+        (λ c y. AreParts (λ rs a. reads (lending all_formats l) a rs) c (part y))
+        (λ y. tuple_variant i (name_in names i) (documents (part y))) x
+    unfolding raw_of
+    tuple_holds names distinct i below x fit l p false = record {
+      content = one (array_of declared (raws_of (documents (part x)) p false));
+      is = one_is names distinct i below false (array_of declared (raws_of (documents (part x)) p false));
+      meaning = law.itself (part x) fit l p false;
+      others = λ y h. ap (tuple_variant i (name_in names i)) (law.alone (part x) (part y) fit l p false h);
+    }
+    tuple_holds names distinct i below x fit l p true = record {
+      content = parts (raws_of (documents (part x)) p true);
+      is = parts_are names distinct i below p (raws_of (documents (part x)) p true);
+      meaning = law.itself (part x) fit l p true;
+      others = λ y h. ap (tuple_variant i (name_in names i)) (law.alone (part x) (part y) fit l p true h);
+    }
+
+    pub tuple_back : IsVariantReadBack (λ i n x. tuple_variant i n (documents (part x)))
+        (λ c content x. AreParts (λ rs a. reads c a rs) content (part x)) (λ x. fits (part x))
+    tuple_back = record { holds = tuple_holds }
+
+-- the fields of a struct
+abbrev fields_in : Doc → Fields → Fields
+fields_in (structure fs) gs = fs
+fields_in d gs = gs
+
+module _ {A V : Type 0} (part : V → A) (fields_of : List (List ℕ) → A → Fields) {reads : List (List ℕ) → Context → Raw → A → Type 0} {fits : A → Type 0} (field_names : List (List ℕ)) (n : ℕ)
+    (law : (names : List (List ℕ)) → length names ≡ n → are_distinct names ≡ true → IsReadBack (λ x. structure (fields_of names x)) (reads names) fits) where
+  abbrev fields : V → Fields
+  fields x = fields_of field_names (part x)
+
+  abbrev Fits : V → Type 0
+  Fits x = (length field_names ≡ n) × (are_distinct field_names ≡ true) × fits (part x)
+
+  struct_holds : (names : List (List ℕ)) → are_distinct names ≡ true → (i : ℕ) → i < length names
+      → (x : V) → Fits x → (l : Lends) (p g : Bool)
+      → MeansAlone names i (raw_of (struct_variant i (name_in names i) (fields x)) p g)
+      (λ c y. IsPart (reads field_names (lending all_formats l)) c (part y))
+      (λ y. struct_variant i (name_in names i) (fields y)) x
+  unfolding raw_of
+  struct_holds names distinct i below x fit l p false =
+      let told = law field_names fit.0 fit.1 in
+      record {
+        content = one (map_of declared (raw_fields_of (fields x) p false));
+        is = one_is names distinct i below p (map_of declared (raw_fields_of (fields x) p false));
+        meaning = told.itself (part x) fit.2 l p false;
+        others = λ y h. ap (λ (d : Doc). struct_variant i (name_in names i) (fields_in d (fields y))) (told.alone (part x) (part y) fit.2 l p false h);
+      }
+  struct_holds names distinct i below x fit l p true =
+      let told = law field_names fit.0 fit.1 in
+      record {
+        content = parts (raw.raw (map_of declared (raw_fields_of (fields x) p true)) no_raws);
+        is = parts_are names distinct i below p (raw.raw (map_of declared (raw_fields_of (fields x) p true)) no_raws);
+        meaning = (told.itself (part x) fit.2 l p true, tt);
+        others = λ y h. ap (λ (d : Doc). struct_variant i (name_in names i) (fields_in d (fields y))) (told.alone (part x) (part y) fit.2 l p true h.0);
+      }
+
+  pub struct_variant_back : IsVariantReadBack (λ i n x. struct_variant i n (fields x)) (λ c content x. IsPart (reads field_names c) content (part x)) Fits
+  struct_variant_back = record { holds = struct_holds }
+
+-- ---- enums
+
+-- the document of the first variant, or of one of the others, from the place k on
+abbrev pub either_document : {V W : Type 0} → (ℕ → List ℕ → V → Doc) → (List (List ℕ) → ℕ → W → Doc)
+    → List (List ℕ) → ℕ → OneOf V W → Doc
+either_document this those names k (This v) = this k (name_in names k) v
+either_document this those names k (Other w) = those names (suc k) w
+
+abbrev pub never_document : List (List ℕ) → ℕ → Never → Doc
+never_document names k x = elim x [ ]
+
+abbrev pub either_fits : {V W : Type 0} → (V → Type 0) → (W → Type 0) → OneOf V W → Type 0
+either_fits this those (This v) = this v
+either_fits this those (Other w) = those w
+
+abbrev pub never_fits : Never → Type 0
+never_fits x = ⊥
+
+-- The item has one place and content alone, which mean this value, and none of another document.
+pub record MeansOne {W : Type 0} (names : List (List ℕ)) (k : ℕ) (r : Raw) (means : ℕ → Content → W → Type 0) (document : W → Doc) (x : W) : Type 0 where
+  pub index : ℕ
+  pub place : ℕ
+  pub behind : index ≡ k + place
+  pub content : Content
+  pub is : IsVariantAlone names index r content
+  pub meaning : means place content x
+  pub others : (y : W) → means place content y → document y ≡ document x
+
+-- Each of so many variants from a place on is read back.
+pub record AreVariantsReadBack {W : Type 0} (n : ℕ) (document : List (List ℕ) → ℕ → W → Doc) (means : Context → ℕ → Content → W → Type 0) (fits : W → Type 0) : Type 0 where
+  pub holds : (names : List (List ℕ)) → are_distinct names ≡ true → (k : ℕ) → k + n ≤ length names
+      → (x : W) → fits x → (l : Lends) (p g : Bool)
+      → MeansOne names k (raw_of (document names k x) p g) (means (lending all_formats l)) (document names k) x
+
+pub no_variants_back : AreVariantsReadBack 0 never_document (λ c. no_variant) never_fits
+no_variants_back = record { holds = λ names distinct k within x fit l p g. absurd fit }
+
+module _ {V W : Type 0} {this_document : ℕ → List ℕ → V → Doc} {this_means : Context → Content → V → Type 0} {this_fits : V → Type 0} {n : ℕ}
+    {those_document : List (List ℕ) → ℕ → W → Doc} {those_mean : Context → ℕ → Content → W → Type 0} {those_fit : W → Type 0}
+    (this : IsVariantReadBack this_document this_means this_fits) (those : AreVariantsReadBack n those_document those_mean those_fit) where
+  abbrev Means : Lends → ℕ → Content → OneOf V W → Type 0
+  Means l = either (this_means (lending all_formats l)) (those_mean (lending all_formats l))
+
+  abbrev document : List (List ℕ) → ℕ → OneOf V W → Doc
+  document = either_document this_document those_document
+
+  this_others : (names : List (List ℕ)) (k : ℕ) (l : Lends) (c : Content) (v : V)
+      → ((y : V) → this_means (lending all_formats l) c y → this_document k (name_in names k) y ≡ this_document k (name_in names k) v)
+      → (u : OneOf V W) → Means l 0 c u → document names k u ≡ document names k (This v)
+  this_others names k l c v others (This y) h = others y h
+  this_others names k l c v others (Other w) h = absurd h
+
+  those_others : (names : List (List ℕ)) (k i : ℕ) (l : Lends) (c : Content) (w : W)
+      → ((y : W) → those_mean (lending all_formats l) i c y → those_document names (suc k) y ≡ those_document names (suc k) w)
+      → (u : OneOf V W) → Means l (suc i) c u → document names k u ≡ document names k (Other w)
+  those_others names k i l c w others (This y) h = absurd h
+  those_others names k i l c w others (Other y) h = others y h
+
+  either_holds : (names : List (List ℕ)) → are_distinct names ≡ true → (k : ℕ) → k + suc n ≤ length names
+      → (x : OneOf V W) → either_fits this_fits those_fit x → (l : Lends) (p g : Bool)
+      → MeansOne names k (raw_of (document names k x) p g) (Means l) (document names k) x
+  either_holds names distinct k within (This v) fit l p g =
+      let h = this.holds names distinct k (omega (arith, within)) v fit l p g in
+      record {
+        index = k;
+        place = 0;
+        behind = omega arith;
+        content = h.content;
+        is = h.is;
+        meaning = h.meaning;
+        others = this_others names k l h.content v h.others;
+      }
+  either_holds names distinct k within (Other w) fit l p g =
+      let h = those.holds names distinct (suc k) (omega (arith, within)) w fit l p g in
+      let behind = h.behind in
+      record {
+        index = h.index;
+        place = suc h.place;
+        behind = omega (arith, behind);
+        content = h.content;
+        is = h.is;
+        meaning = h.meaning;
+        others = those_others names k h.place l h.content w h.others;
+      }
+
+  pub variant_back : AreVariantsReadBack (suc n) document (λ c. either (this_means c) (those_mean c)) (either_fits this_fits those_fit)
+  variant_back = record { holds = either_holds }
+
+pub enum_back : {E W : Type 0} {n : ℕ} {list : E → W} {enum_document : List (List ℕ) → E → Doc} {document : List (List ℕ) → ℕ → W → Doc} {means : Context → ℕ → Content → W → Type 0} {fits : W → Type 0}
+    → AreVariantsReadBack n document means fits
+    → ((names : List (List ℕ)) (x : E) → enum_document names x ≡ document names 0 (list x))
+    → (names : List (List ℕ)) → length names ≡ n → are_distinct names ≡ true
+    → IsReadBack (enum_document names) (λ c r x. PassesTags (IsEnum c.formats names (means c)) r (list x)) (λ x. fits (list x))
+enum_back {list = list} {document = document} {means = means} {fits = fits} law same names as_many distinct =
+    as_alike (same names) (λ c r x. ((λ h. h), (λ h. h))) (by_part list of_list)
+  where
+    of_list : IsReadBack (document names 0) (λ c r x. PassesTags (IsEnum c.formats names (means c)) r x) fits
+    of_list = record {
+      itself = λ x fit l p g.
+          let h = law.holds names distinct 0 (omega (arith, as_many)) x fit l p g in
+          let behind = h.behind in
+          let at : h.index ≡ h.place = omega (arith, behind) in
+          record {
+            index = h.place;
+            content = h.content;
+            variant = subst (λ (i : ℕ). IsVariant all_formats names (untagged (raw_of (document names 0 x) p g)) (i, h.content)) at h.is.is;
+            meaning = h.meaning;
+          };
+      alone = λ x y fit l p g told.
+          let h = law.holds names distinct 0 (omega (arith, as_many)) x fit l p g in
+          let behind = h.behind in
+          let only = h.is.only told.index told.content told.variant in
+          let place = only.0 in
+          let at : told.index ≡ h.place = omega (arith, behind, place) in
+          h.others y (subst (λ (c : Content). means (lending all_formats l) h.place c y) only.1
+          (subst (λ (i : ℕ). means (lending all_formats l) i told.content y) at told.meaning));
+    }

@@ -1,0 +1,151 @@
+//! Enums, as one of their variants.
+
+use crate::parts::{PartsRoundTrip, VariantRoundTrip};
+use cbor_parts::{OneOf1, OneOf2, OneOf3, OneOf4, OneOf5, OneOf6, OneOf7, OneOf8};
+
+impl<A: VariantRoundTrip> PartsRoundTrip for OneOf1<A> {
+    ghost use Rattle.cbor_described.specs.OneOfs.{list1};
+    ghost use Rattle.cbor_round.specs.Enums.{same1};
+    ghost use Rattle.cbor_round.specs.Variants.{either_fits, never_fits};
+    ghost use Rattle.cbor_round.specs.Variants.{variant_back, no_variants_back, enum_back};
+
+    ghost fits = { λ x. either_fits A.fits never_fits (list1 x) };
+
+    ghost back = { enum_back (variant_back A.back no_variants_back) (same1 A.document) };
+}
+
+impl<A: VariantRoundTrip, B: VariantRoundTrip> PartsRoundTrip for OneOf2<A, B> {
+    ghost use Rattle.cbor_described.specs.OneOfs.{list2};
+    ghost use Rattle.cbor_round.specs.Enums.{same2};
+    ghost use Rattle.cbor_round.specs.Variants.{either_fits, never_fits};
+    ghost use Rattle.cbor_round.specs.Variants.{variant_back, no_variants_back, enum_back};
+
+    ghost fits = { λ x. either_fits A.fits (either_fits B.fits never_fits) (list2 x) };
+
+    ghost back = { enum_back (variant_back A.back (variant_back B.back no_variants_back))
+        (same2 A.document B.document) };
+}
+
+impl<A: VariantRoundTrip, B: VariantRoundTrip, C: VariantRoundTrip> PartsRoundTrip
+    for OneOf3<A, B, C> {
+    ghost use Rattle.cbor_described.specs.OneOfs.{list3};
+    ghost use Rattle.cbor_round.specs.Enums.{same3};
+    ghost use Rattle.cbor_round.specs.Variants.{either_fits, never_fits};
+    ghost use Rattle.cbor_round.specs.Variants.{variant_back, no_variants_back, enum_back};
+
+    ghost fits = { λ x. either_fits A.fits (either_fits B.fits
+        (either_fits C.fits never_fits)) (list3 x) };
+
+    ghost back = { enum_back (variant_back A.back (variant_back B.back
+        (variant_back C.back no_variants_back))) (same3 A.document B.document C.document) };
+}
+
+impl<
+    A: VariantRoundTrip,
+    B: VariantRoundTrip,
+    C: VariantRoundTrip,
+    D: VariantRoundTrip,
+> PartsRoundTrip for OneOf4<A, B, C, D> {
+    ghost use Rattle.cbor_described.specs.OneOfs.{list4};
+    ghost use Rattle.cbor_round.specs.Enums.{same4};
+    ghost use Rattle.cbor_round.specs.Variants.{either_fits, never_fits};
+    ghost use Rattle.cbor_round.specs.Variants.{variant_back, no_variants_back, enum_back};
+
+    ghost fits = { λ x. either_fits A.fits (either_fits B.fits (either_fits C.fits
+        (either_fits D.fits never_fits))) (list4 x) };
+
+    ghost back = { enum_back (variant_back A.back (variant_back B.back (variant_back C.back
+        (variant_back D.back no_variants_back))))
+        (same4 A.document B.document C.document D.document) };
+}
+
+impl<
+    A: VariantRoundTrip,
+    B: VariantRoundTrip,
+    C: VariantRoundTrip,
+    D: VariantRoundTrip,
+    E: VariantRoundTrip,
+> PartsRoundTrip for OneOf5<A, B, C, D, E> {
+    ghost use Rattle.cbor_described.specs.OneOfs.{list5};
+    ghost use Rattle.cbor_round.specs.Enums.{same5};
+    ghost use Rattle.cbor_round.specs.Variants.{either_fits, never_fits};
+    ghost use Rattle.cbor_round.specs.Variants.{variant_back, no_variants_back, enum_back};
+
+    ghost fits = { λ x. either_fits A.fits (either_fits B.fits (either_fits C.fits
+        (either_fits D.fits (either_fits E.fits never_fits)))) (list5 x) };
+
+    ghost back = { enum_back (variant_back A.back (variant_back B.back (variant_back C.back
+        (variant_back D.back (variant_back E.back no_variants_back)))))
+        (same5 A.document B.document C.document D.document E.document) };
+}
+
+impl<
+    A: VariantRoundTrip,
+    B: VariantRoundTrip,
+    C: VariantRoundTrip,
+    D: VariantRoundTrip,
+    E: VariantRoundTrip,
+    F: VariantRoundTrip,
+> PartsRoundTrip for OneOf6<A, B, C, D, E, F> {
+    ghost use Rattle.cbor_described.specs.OneOfs.{list6};
+    ghost use Rattle.cbor_round.specs.Enums.{same6};
+    ghost use Rattle.cbor_round.specs.Variants.{either_fits, never_fits};
+    ghost use Rattle.cbor_round.specs.Variants.{variant_back, no_variants_back, enum_back};
+
+    ghost fits = { λ x. either_fits A.fits (either_fits B.fits (either_fits C.fits
+        (either_fits D.fits (either_fits E.fits (either_fits F.fits never_fits))))) (list6 x) };
+
+    ghost back = { enum_back (variant_back A.back (variant_back B.back (variant_back C.back
+        (variant_back D.back (variant_back E.back (variant_back F.back no_variants_back))))))
+        (same6 A.document B.document C.document D.document E.document F.document) };
+}
+
+impl<
+    A: VariantRoundTrip,
+    B: VariantRoundTrip,
+    C: VariantRoundTrip,
+    D: VariantRoundTrip,
+    E: VariantRoundTrip,
+    F: VariantRoundTrip,
+    G: VariantRoundTrip,
+> PartsRoundTrip for OneOf7<A, B, C, D, E, F, G> {
+    ghost use Rattle.cbor_described.specs.OneOfs.{list7};
+    ghost use Rattle.cbor_round.specs.Enums.{same7};
+    ghost use Rattle.cbor_round.specs.Variants.{either_fits, never_fits};
+    ghost use Rattle.cbor_round.specs.Variants.{variant_back, no_variants_back, enum_back};
+
+    ghost fits = { λ x. either_fits A.fits (either_fits B.fits (either_fits C.fits
+        (either_fits D.fits (either_fits E.fits (either_fits F.fits
+        (either_fits G.fits never_fits)))))) (list7 x) };
+
+    ghost back = { enum_back (variant_back A.back (variant_back B.back (variant_back C.back
+        (variant_back D.back (variant_back E.back (variant_back F.back
+        (variant_back G.back no_variants_back)))))))
+        (same7 A.document B.document C.document D.document E.document F.document G.document) };
+}
+
+impl<
+    A: VariantRoundTrip,
+    B: VariantRoundTrip,
+    C: VariantRoundTrip,
+    D: VariantRoundTrip,
+    E: VariantRoundTrip,
+    F: VariantRoundTrip,
+    G: VariantRoundTrip,
+    H: VariantRoundTrip,
+> PartsRoundTrip for OneOf8<A, B, C, D, E, F, G, H> {
+    ghost use Rattle.cbor_described.specs.OneOfs.{list8};
+    ghost use Rattle.cbor_round.specs.Enums.{same8};
+    ghost use Rattle.cbor_round.specs.Variants.{either_fits, never_fits};
+    ghost use Rattle.cbor_round.specs.Variants.{variant_back, no_variants_back, enum_back};
+
+    ghost fits = { λ x. either_fits A.fits (either_fits B.fits (either_fits C.fits
+        (either_fits D.fits (either_fits E.fits (either_fits F.fits (either_fits G.fits
+        (either_fits H.fits never_fits))))))) (list8 x) };
+
+    ghost back = { enum_back (variant_back A.back (variant_back B.back (variant_back C.back
+        (variant_back D.back (variant_back E.back (variant_back F.back (variant_back G.back
+        (variant_back H.back no_variants_back))))))))
+        (same8 A.document B.document C.document D.document
+        E.document F.document G.document H.document) };
+}

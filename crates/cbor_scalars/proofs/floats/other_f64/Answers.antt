@@ -1,0 +1,31 @@
+use Rattle.std.proofs.Common.{ℕ, refl}
+use Rattle.cbor_model.specs.Readable.{PassesTags}
+use Rattle.cbor_model.specs.Reader.{item_at}
+use Rattle.cbor_value.specs.declared.Float.TheVariants.{Single}
+use Rattle.cbor_de.specs.declared.head.Head.TheVariants.{Float}
+use Rattle.cbor_scalars.specs.Scalars.{IsFloatOf}
+use Rattle.cbor_scalars.specs.Takes.{formats_of, raws}
+use Rattle.cbor_scalars.proofs.FloatNumbers.{double_read}
+use Rattle.cbor_scalars.proofs.Opened.{head_opens, head_stops, no_tag}
+use Rattle.cbor_scalars.proofs.Scalars.{float_read, refuses}
+use Rattle.cbor_scalars.proofs.floats.other_f64.Goals as goal
+
+pub returns-in-Ok-Some-clause-read : goal.returns-in-Ok-Some-clause-read
+returns-in-Ok-Some-clause-read g c =
+    let items = c.args.items.now in
+    let f = formats_of items.formats in
+    let s = g.R.Source.source items.source in
+    let t = g.R.Source.source c.single.new.self.source in
+    let float = Single c.in-Ok-Some.bits in
+    let head = rw c.in-Ok-Some.field-0-is at c.in-Ok-Some.ensures.read in
+    let opens = head_opens f s t items.levels items.levels (Float float) (no_tag (Float float) (λ (n : ℕ) e. absurd cc)) refl head in
+    double_read g.R.Source.refusals (λ l bs. item_at (raws f l) items.levels bs) s t float c.to_f64.result c.to_f64.ensures
+    (float_read g.R.Source.refusals f items.levels s t c.single.new.self.refusal float (items.levels, opens))
+
+pub returns-in-Err-clause-read : goal.returns-in-Err-clause-read
+returns-in-Err-clause-read g c =
+    let items = c.args.items.now in
+    let f = formats_of items.formats in
+    let s = g.R.Source.source items.source in
+    refuses g.R.Source.refusals (PassesTags IsFloatOf) (λ l. item_at (raws f l) items.levels) s c.single.new.self.refusal c.in-Err.refused c.error.result c.error.ensures.tells
+    (head_stops g.R.Source.refusals f s items.levels c.single.new.self.refusal c.in-Err.refused c.in-Err.ensures.read)
