@@ -1,5 +1,5 @@
 -- What a piece leaves in a sink that tells the bytes it was given.
-use Rattle.std.specs.Prelude.{◌≡◌, ℕ, List, ◌++◌, Option, Result, OnOk, OnErr, length, take, drop}
+use Rattle.std.specs.Prelude.{◌≡◌, ℕ, ◌+◌, ◌≤◌, List, ◌++◌, Option, Some, None, Result, OnOk, OnErr, IsOk, length, take, drop}
 use Rattle.std.specs.Io.KnownBytes.{Appends}
 use Rattle.cbor_io.specs.Error.{code_of, offset_of}
 use Rattle.cbor_io.specs.declared.error.Error.{Error}
@@ -20,6 +20,17 @@ pub record Wrote {T E : Type 0} (old : Option (List ℕ)) (bytes : List ℕ) (ne
     (result : Result T E) : Type 0 where
   pub ok : OnOk result (Appends old new bytes)
   pub err : OnErr result (AppendsBeginning bytes old new)
+
+-- There is room for the bytes: with those that the sink was given they are no more than its capacity.
+abbrev pub HasRoomFor : Option ℕ → Option (List ℕ) → List ℕ → Type 0
+HasRoomFor None old bytes = ⊥
+HasRoomFor (Some most) None bytes = ⊥
+HasRoomFor (Some most) (Some held) bytes = length held + length bytes ≤ most
+
+-- Bytes for which there is room are written: it is Ok.
+pub record TakesWhatFits {T E : Type 0} (capacity : Option ℕ) (old : Option (List ℕ))
+    (bytes : List ℕ) (result : Result T E) : Type 0 where
+  pub taken : HasRoomFor capacity old bytes → IsOk result
 
 -- a fault that a device reported
 abbrev pub IsFaultCode : ErrorCode → Type 0
@@ -42,6 +53,10 @@ written_bytes s = take s.count s.slice.now
 -- the rest of the slice
 abbrev pub unwritten_bytes : SliceWrite → List ℕ
 unwritten_bytes s = drop s.count s.slice.now
+
+-- how many bytes the slice has
+abbrev pub slice_capacity : SliceWrite → ℕ
+slice_capacity s = length (written_bytes s) + length (unwritten_bytes s)
 
 -- which slice it is, by the name of the reference to it
 abbrev pub slice_reference : SliceWrite → ℕ

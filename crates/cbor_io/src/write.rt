@@ -22,7 +22,8 @@ pub use slice_write::SliceWrite;
 ///
 /// A sink of one's own says in `written` which bytes it was given and in `refuses` which errors it
 /// returns. One that holds a `&mut`, say in a field `to`, names it in `references`, as
-/// `λ s. s.to.ghost_name ∷ []`; others leave that out, as this one does:
+/// `λ s. s.to.ghost_name ∷ []`; one that refuses a piece only for want of room says in `capacity`
+/// how many bytes it takes in all, as `λ s. Some s.most`. Others leave these out, as this one does:
 ///
 /// ```rust
 /// struct Counter { count: usize }
@@ -39,9 +40,9 @@ pub use slice_write::SliceWrite;
 /// }
 /// ```
 pub trait Write {
-    ghost use Rattle.cbor_io.specs.Write.{Wrote};
+    ghost use Rattle.cbor_io.specs.Write.{Wrote, TakesWhatFits};
     ghost use Rattle.cbor_io.specs.declared.error.Error.{Error};
-    ghost use Rattle.std.specs.Prelude.{◌≡◌, ℕ, List, [], Option, IfErr};
+    ghost use Rattle.std.specs.Prelude.{◌≡◌, ℕ, List, [], Option, None, IfErr};
 
     // The bytes that it was given; None where it doesn't tell them.
     ghost written: { Self → Option (List ℕ) };
@@ -53,12 +54,19 @@ pub trait Write {
     // that what a reference leads to is known once the sink is gone.
     ghost references: { Self → List ℕ } = { λ _. [] };
 
+    // How many bytes it takes in all, where it refuses none but a piece that goes beyond. A device,
+    // which may fail, and a vector, which may find no memory, have no such capacity.
+    ghost capacity: { Self → Option ℕ } = { λ _. None };
+
     /// Appends a piece to the bytes written, or refuses. What a refusal has appended is a prefix
-    /// of the piece, nothing and all of it included.
+    /// of the piece, nothing and all of it included. A sink that has a capacity refuses a piece
+    /// only where it would hold more with it.
     fn write_all(&mut self, buf: &[u8]) -> Result<()>
         ensures written { Wrote (written self.old) buf.now (written self.new) result }
         ensures refused { IfErr result (λ e. refuses self.new e) }
-        ensures same_references { references self.new ≡ references self.old };
+        ensures same_references { references self.new ≡ references self.old }
+        ensures same_capacity { capacity self.new ≡ capacity self.old }
+        ensures fits { TakesWhatFits (capacity self.old) (written self.old) buf.now result };
 }
 
 /// It grows by each piece. Where a growth is refused it returns `OutOfMemory`, and stays as it was.
@@ -89,6 +97,8 @@ impl<W: Write> Write for &mut W {
     ghost refuses = { λ w e. W.refuses w.now e };
 
     ghost references = { λ w. w.ghost_name ∷ W.references w.now };
+
+    ghost capacity = { λ w. W.capacity w.now };
 
     fn write_all(&mut self, buf: &[u8]) -> Result<()> {
         W::write_all(*self, buf)

@@ -7,7 +7,8 @@ use crate::error::{Error, Result};
 ///
 /// It takes all of a piece, or refuses it: exactly where the piece is longer than what is left of
 /// the slice, with `Scratch buffer too small` at the number of bytes written, which stay as they
-/// were. A shorter piece may still be taken afterwards.
+/// were. A shorter piece may still be taken afterwards. So a document whose numbers can be stored
+/// is written exactly where all of it fits what is left.
 ///
 /// ```rust
 /// let mut room = [0; 3];
@@ -55,8 +56,8 @@ impl<'a> SliceWrite<'a> {
 }
 
 impl Write for SliceWrite<'_> {
-    ghost use Rattle.cbor_io.specs.Write.{Wrote, IsFull, written_bytes, unwritten_bytes};
-    ghost use Rattle.cbor_io.specs.Write.{slice_reference};
+    ghost use Rattle.cbor_io.specs.Write.{Wrote, TakesWhatFits, IsFull, written_bytes};
+    ghost use Rattle.cbor_io.specs.Write.{unwritten_bytes, slice_reference, slice_capacity};
     ghost use Rattle.std.specs.Prelude.{◌≡◌, ◌↔◌, ◌∷◌, [], Some, drop, OnOk, OnErr, IfErr, IsOk};
 
     ghost written = { λ s. Some (written_bytes s) };
@@ -65,16 +66,21 @@ impl Write for SliceWrite<'_> {
 
     ghost references = { λ s. slice_reference s ∷ [] };
 
+    ghost capacity = { λ s. Some (slice_capacity s) };
+
     fn write_all(&mut self, buf: &[u8]) -> Result<()>
         ensures written { Wrote (Some (written_bytes self.old)) buf.now
             (Some (written_bytes self.new)) result }
         ensures refused { IfErr result (λ e. IsFull self.new e) }
         ensures same_reference { slice_reference self.new ≡ slice_reference self.old }
+        ensures same_capacity { slice_capacity self.new ≡ slice_capacity self.old }
         // A piece that fits leaves the bytes after it as they were.
         ensures behind { OnOk result
             (unwritten_bytes self.new ≡ drop (length buf.now) (unwritten_bytes self.old)) }
         // A piece is taken exactly where it fits, and of one that is refused nothing is taken.
         ensures fits { IsOk result ↔ (length buf.now ≤ length (unwritten_bytes self.old)) }
+        ensures taken { TakesWhatFits (Some (slice_capacity self.old))
+            (Some (written_bytes self.old)) buf.now result }
         ensures kept { OnErr result (written_bytes self.new ≡ written_bytes self.old) }
         ensures kept_behind { OnErr result (unwritten_bytes self.new ≡ unwritten_bytes self.old) }
     {
