@@ -1,12 +1,12 @@
 -- What was written, put together from its parts.
-use Rattle.std.proofs.Common.{◌≡◌, ℕ, List, [], ◌++◌, Option, sym, ap, ◌∙◌, append_assoc, subst, None, Some}
+use Rattle.std.proofs.Common.{◌≡◌, ℕ, List, [], ◌++◌, Option, refl, sym, ap, ◌∙◌, append_assoc, subst, None, Some, length, length-append, arith}
 use Rattle.std.specs.Prelude.{Result, Ok, Err, OnOk, OnErr, IfErr, IfSome}
 use Rattle.std.specs.Result.{IsErr, IsOk, IsErrAnd}
 use Rattle.std.specs.Option.{IsSomeAnd}
 use Rattle.std.specs.Io.KnownBytes.{Appends}
 use Rattle.std.proofs.KnownBytes.{Appends-nil, Appends-trans}
 use Rattle.cbor_io.specs.declared.error.Error.{Error}
-use Rattle.cbor_io.specs.Write.{AppendsBeginning, Wrote}
+use Rattle.cbor_io.specs.Write.{AppendsBeginning, Wrote, HasRoomFor, TakesWhatFits}
 
 pub began_more : {old new : Option (List ℕ)} {f : List ℕ} (g : List ℕ) → AppendsBeginning f old new → AppendsBeginning (f ++ g) old new
 began_more g h = record {
@@ -47,6 +47,51 @@ same_bytes {old = old} {new = new} {r = r} e h = subst (λ (bs : List ℕ). Wrot
 pub nothing : {E : Type 0} {sink : Option (List ℕ)} → Wrote {T = Unit {0}} {E = E} sink [] sink (Ok tt)
 nothing {sink = sink} = record { ok = Appends-nil sink; err = tt }
 
+-- ---- the room for what is written
+
+-- behind what was written there is room for the rest
+pub room_behind : (capacity : Option ℕ) (old mid : Option (List ℕ)) (f g : List ℕ) → Appends old mid f → HasRoomFor capacity old (f ++ g) → HasRoomFor capacity mid g
+room_behind None old mid f g a room = absurd room
+room_behind (Some most) None mid f g a room = absurd room
+room_behind (Some most) (Some xs) None f g a room = absurd a
+room_behind (Some most) (Some xs) (Some ys) f g a room = omega (arith, ap length a, length-append xs f, length-append f g)
+
+-- there is room for the first part of what there is room for
+pub room_first : (capacity : Option ℕ) (old : Option (List ℕ)) (f g : List ℕ) → HasRoomFor capacity old (f ++ g) → HasRoomFor capacity old f
+room_first None old f g room = absurd room
+room_first (Some most) None f g room = absurd room
+room_first (Some most) (Some xs) f g room = omega (arith, length-append f g)
+
+-- the same, at a sink that has kept its capacity
+pub room_after : (capacity now : Option ℕ) (old mid : Option (List ℕ)) (f g : List ℕ) → now ≡ capacity → Appends old mid f → HasRoomFor capacity old (f ++ g) → HasRoomFor now mid g
+room_after capacity now old mid f g same a room = subst (λ (c : Option ℕ). HasRoomFor c mid g) (sym same) (room_behind capacity old mid f g a room)
+
+-- there is room for the same bytes, put together otherwise
+pub same_room : (capacity : Option ℕ) (old : Option (List ℕ)) {f g : List ℕ} → f ≡ g → HasRoomFor capacity old f → HasRoomFor capacity old g
+same_room capacity old e room = subst (λ (bs : List ℕ). HasRoomFor capacity old bs) e room
+
+-- nothing that was refused had room
+pub refused_room : {T E : Type 0} {capacity : Option ℕ} {old : Option (List ℕ)} {f : List ℕ} (r : Result T E) → IsErr r → TakesWhatFits capacity old f r → HasRoomFor capacity old f → ⊥
+refused_room (Ok x) e fits room = cc
+refused_room (Err x) e fits room = let taken = fits.taken room in cc
+
+-- a part was written, and then the rest
+pub fits_then : {T E : Type 0} (capacity now : Option ℕ) (old mid : Option (List ℕ)) (f g : List ℕ) (r : Result T E) → now ≡ capacity → Appends old mid f → TakesWhatFits now mid g r → TakesWhatFits capacity old (f ++ g) r
+fits_then capacity now old mid f g r same a fits = record { taken = λ room. fits.taken (room_after capacity now old mid f g same a room) }
+
+-- nor had what was to follow it
+pub refused_at : {U V : Type 0} {capacity : Option ℕ} {old : Option (List ℕ)} {e : V} (f g : List ℕ) → TakesWhatFits {T = U} {E = V} capacity old f (Err e) → HasRoomFor capacity old (f ++ g) → ⊥
+refused_at {U = U} {V = V} {capacity = capacity} {old = old} {e = e} f g fits room = refused_room {T = U} {E = V} (Err e) refl fits (room_first capacity old f g room)
+
+-- the exit of a `?`, with more to come
+pub fits_stops : {T E U V : Type 0} {capacity : Option ℕ} {old : Option (List ℕ)} {f : List ℕ} {e : V} (g : List ℕ) (r : Result T E) → TakesWhatFits {T = U} {E = V} capacity old f (Err e) → TakesWhatFits capacity old (f ++ g) r
+fits_stops {U = U} {V = V} {capacity = capacity} {old = old} {f = f} {e = e} g r fits =
+    record { taken = λ room. absurd (refused_at {U = U} {V = V} f g fits room) }
+
+-- the same bytes, put together otherwise
+pub same_fits : {T E : Type 0} {capacity : Option ℕ} {old : Option (List ℕ)} {f g : List ℕ} {r : Result T E} → f ≡ g → TakesWhatFits capacity old f r → TakesWhatFits capacity old g r
+same_fits {capacity = capacity} {old = old} {r = r} e h = subst (λ (bs : List ℕ). TakesWhatFits capacity old bs r) e h
+
 -- ---- a call whose steps answered `done`, and left this refusal
 
 pub told : {T E : Type 0} {old new : Option (List ℕ)} {f : List ℕ} (P : Error → Type 0) (done : Result T E) (kept : Option Error) (r : Result (Unit {0}) Error)
@@ -77,3 +122,8 @@ pub told_why : {T E : Type 0} (P : Error → Type 0) (Q : Type 0) (done : Result
 told_why P Q (Ok x) kept r err stored not says = absurd (not stored)
 told_why P Q (Err x) None r err stored not says = absurd says
 told_why P Q (Err x) (Some e) r err stored not says = subst (λ (z : Result (Unit {0}) Error). IsErrAnd z P) (sym err) says
+
+pub told_fits : {T E : Type 0} {capacity : Option ℕ} {old : Option (List ℕ)} {f : List ℕ} (done : Result T E) (r : Result (Unit {0}) Error)
+    → OnOk done (IsOk r) → TakesWhatFits capacity old f done → TakesWhatFits capacity old f r
+told_fits (Ok x) r ok fits = record { taken = λ room. ok }
+told_fits {T = T} {E = E} (Err x) r ok fits = record { taken = λ room. absurd (refused_room {T = T} {E = E} (Err x) refl fits room) }

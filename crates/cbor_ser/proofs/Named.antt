@@ -1,9 +1,9 @@
 -- Lists of fields, with their names.
-use Rattle.std.proofs.Common.{◌≡◌, ◌+◌, ◌-◌, ◌<◌, ℕ, zero, suc, List, [], ◌∷◌, length, get_or, take, drop, refl, sym, ap, ◌∙◌, arith, add-one, Bor, Option, Some, None, Bool, true, false}
+use Rattle.std.proofs.Common.{◌≡◌, ◌+◌, ◌-◌, ◌<◌, ℕ, zero, suc, List, [], ◌∷◌, length, get_or, take, drop, refl, sym, ap, ◌∙◌, arith, add-one, Bor, Option, Some, None, true, false}
 use Rattle.std.specs.Prelude.{map}
 use Rattle.std.proofs.Math.Seq.{take-length}
 use Rattle.cbor_model.specs.Document.{Doc, Fields, field, field_count, structure, struct_variant}
-use Rattle.cbor_model.specs.Parts.{Part, both, field_part, map_head, struct_head, fields, parts}
+use Rattle.cbor_model.specs.Parts.{both, field_part, map_head, struct_head, fields, parts}
 use Rattle.std.specs.Option.{is_some}
 use Rattle.cbor_ser.specs.PartLists.{name_in, first_name, other_names, field_if}
 

@@ -1,5 +1,5 @@
 -- What the calls of a serializer leave, put together.
-use Rattle.std.proofs.Common.{◌≡◌, ℕ, List, [], ◌++◌, Option, refl, sym, ap, ◌∙◌, subst, ◌⊎◌, inl, inr, ℤ, pos, negsuc, FitsSigned, arith, append-nil, Some, Bool, false, Vec}
+use Rattle.std.proofs.Common.{◌≡◌, ℕ, List, [], ◌++◌, Option, refl, sym, ap, ◌∙◌, subst, ◌⊎◌, inl, inr, ℤ, pos, negsuc, FitsSigned, arith, append-nil, Some, None, Bool, false, Vec}
 use Rattle.std.specs.Prelude.{Result, Ok, Err, IfErr, OnOk}
 use Rattle.std.specs.Result.{IsErrAnd}
 use Rattle.std.specs.Int.{w64}
@@ -16,13 +16,13 @@ use Rattle.cbor_value.specs.declared.Float.{Float}
 use Rattle.cbor_value.specs.declared.Float.TheVariants.{Half, Single, Double}
 use Rattle.cbor_value.specs.View.{float_view}
 use Rattle.cbor_io.specs.declared.error.Error.{Error}
-use Rattle.cbor_io.specs.Write.{AppendsBeginning, Wrote}
+use Rattle.cbor_io.specs.Write.{AppendsBeginning, Wrote, HasRoomFor, TakesWhatFits}
 use Rattle.cbor_ser.specs.Written.{IsUnstorable, DocumentRefused}
 use Rattle.cbor_model.specs.Unstored.{StandsBefore, StandsBeforeIn}
 use Rattle.cbor_ser.specs.Serialized.{Added, Stopped, Serialized, Spells, bytes_under, WroteValues, StopsBefore, EndsBefore}
 use Rattle.cbor_ser.specs.declared.serializer.Settings.{Settings}
 use Rattle.cbor_ser.specs.declared.serializer.Serializer.{Serializer}
-use Rattle.cbor_ser.proofs.Beginnings.{began_more, began_then}
+use Rattle.cbor_ser.proofs.Beginnings.{began_more, began_then, room_behind, room_first, refused_room}
 
 -- ---- what is always stored
 
@@ -59,21 +59,30 @@ parts_same s d = record {
   before = before_parts s.packed s.legacy d;
 }
 
-pub added_then : {W : Type 0} {written : W → Option (List ℕ)} {references : W → List ℕ} {old mid new : Serializer W} {f g : Part} → Added written references old f mid → Added written references mid g new → Added written references old (both f g) new
+pub added_then : {W : Type 0} {written : W → Option (List ℕ)} {references : W → List ℕ} {capacity : W → Option ℕ} {old mid new : Serializer W} {f g : Part} → Added written references capacity old f mid → Added written references capacity mid g new → Added written references capacity old (both f g) new
 unfolding part_bytes
 added_then {written = written} {old = old} {mid = mid} {new = new} {f = f} {g = g} a b = record {
   appended = Appends-trans (written old.writer) (written mid.writer) (written new.writer) (bytes_under old.settings f) (bytes_under old.settings g) a.appended
       (subst (λ (s : Settings). Appends (written mid.writer) (written new.writer) (bytes_under s g)) a.settings b.appended);
   settings = b.settings ∙ a.settings;
   same_references = b.same_references ∙ a.same_references;
+  same_capacity = b.same_capacity ∙ a.same_capacity;
   storable = (a.storable, b.storable);
   in_range = (a.in_range, b.in_range);
 }
 
+-- behind a part there is room for the rest
+room_then : {W : Type 0} {written : W → Option (List ℕ)} {references : W → List ℕ} {capacity : W → Option ℕ} {old mid : Serializer W} (f g : Part) → Added written references capacity old f mid → HasRoomFor (capacity old.writer) (written old.writer) (bytes_under old.settings f ++ bytes_under old.settings g)
+    → HasRoomFor (capacity mid.writer) (written mid.writer) (bytes_under mid.settings g)
+room_then {written = written} {capacity = capacity} {old = old} {mid = mid} f g a room =
+    subst (λ (s : Settings). HasRoomFor (capacity mid.writer) (written mid.writer) (bytes_under s g)) (sym a.settings)
+    (subst (λ (c : Option ℕ). HasRoomFor c (written mid.writer) (bytes_under old.settings g)) (sym a.same_capacity)
+    (room_behind (capacity old.writer) (written old.writer) (written mid.writer) (bytes_under old.settings f) (bytes_under old.settings g) a.appended room))
+
 -- ---- a document in a vector that was empty
 
 pub vector_holds : {A : Type 0} {old new : Serializer (Vec ℕ A)} (d : Doc) (p l : Bool) → old.writer.items ≡ [] → old.settings ≡ record { packed = p; legacy = l }
-    → Added (λ v. Some v.items) (λ _. []) old (item d) new → new.writer.items ≡ document_bytes d p l
+    → Added (λ v. Some v.items) (λ _. []) (λ _. None) old (item d) new → new.writer.items ≡ document_bytes d p l
 unfolding part_bytes
 vector_holds {old = old} {new = new} d p l empty begun h =
     h.appended ∙ ap (λ xs. xs ++ document_bytes d old.settings.packed old.settings.legacy) empty
@@ -81,32 +90,36 @@ vector_holds {old = old} {new = new} d p l empty begun h =
 
 -- ---- what the calls leave
 
-module _ {W : Type 0} {written : W → Option (List ℕ)} {refuses : W → Error → Type 0} {references : W → List ℕ} where
+module _ {W : Type 0} {written : W → Option (List ℕ)} {refuses : W → Error → Type 0} {references : W → List ℕ} {capacity : W → Option ℕ} where
   -- these bytes were written, which are the part's
   pub serialized : {T : Type 0} {old new : Serializer W} {bytes : List ℕ} (part : Part) (r : Result T Error) → Spells old.settings part bytes → new.settings ≡ old.settings
-      → references new.writer ≡ references old.writer → Wrote (written old.writer) bytes (written new.writer) r → IfErr r (refuses new.writer) → Serialized written refuses references old part new r
-  serialized {old = old} {new = new} part (Ok x) spells kept same_references w refused = record {
+      → references new.writer ≡ references old.writer → capacity new.writer ≡ capacity old.writer → Wrote (written old.writer) bytes (written new.writer) r
+      → IfErr r (refuses new.writer) → TakesWhatFits (capacity old.writer) (written old.writer) bytes r → Serialized written refuses references capacity old part new r
+  serialized {old = old} {new = new} part (Ok x) spells kept same_references same_capacity w refused fits = record {
     ok = record {
       appended = subst (λ bs. Appends (written old.writer) (written new.writer) bs) (sym spells.same) w.ok;
       settings = kept;
       same_references = same_references;
+      same_capacity = same_capacity;
       storable = spells.storable;
       in_range = spells.in_range;
     };
     err = tt;
   }
-  serialized {old = old} {new = new} part (Err e) spells kept same_references w refused = record {
+  serialized {T = T} {old = old} {new = new} part (Err e) spells kept same_references same_capacity w refused fits = record {
     ok = tt;
     err = record {
       appended = subst (λ bs. AppendsBeginning bs (written old.writer) (written new.writer)) (sym spells.same) w.err;
       before = λ front h. absurd (part_stored part old.settings.packed old.settings.legacy front spells.storable h);
       settings = kept;
       same_references = same_references;
+      same_capacity = same_capacity;
       refused = inl refused;
+      no_room = λ storable room. refused_room {T = T} (Err e) refl fits (subst (λ bs. HasRoomFor (capacity old.writer) (written old.writer) bs) spells.same room);
     };
   }
 
-  stopped_within : {old mid new : Serializer W} {f g : Part} {e : Error} → Added written references old f mid → Stopped written refuses references mid g new e → StopsBefore old.settings (both f g) (written old.writer) (written new.writer)
+  stopped_within : {old mid new : Serializer W} {f g : Part} {e : Error} → Added written references capacity old f mid → Stopped written refuses references capacity mid g new e → StopsBefore old.settings (both f g) (written old.writer) (written new.writer)
   unfolding part_bytes
   stopped_within {old = old} {mid = mid} {new = new} {f = f} {g = g} a b front h = elim h [
     | inl x ↦ absurd (part_stored f old.settings.packed old.settings.legacy front a.storable x)
@@ -115,14 +128,14 @@ module _ {W : Type 0} {written : W → Option (List ℕ)} {refuses : W → Error
         (b.before y.1.0 (subst (λ (s : Settings). StandsBeforeIn g s.packed s.legacy y.1.0) (sym a.settings) y.1.2)))
   ]
 
-  stopped_earlier : {old new : Serializer W} {f : Part} (g : Part) {e : Error} → Stopped written refuses references old f new e → StopsBefore old.settings (both f g) (written old.writer) (written new.writer)
+  stopped_earlier : {old new : Serializer W} {f : Part} (g : Part) {e : Error} → Stopped written refuses references capacity old f new e → StopsBefore old.settings (both f g) (written old.writer) (written new.writer)
   unfolding part_bytes
   stopped_earlier {old = old} {new = new} g b front h = elim h [
     | inl x ↦ b.before front x
     | inr y ↦ subst (λ bs. AppendsBeginning bs (written old.writer) (written new.writer)) (sym y.1.1) (began_more y.1.0 b.appended)
   ]
 
-  stopped_then : {old mid new : Serializer W} {f g : Part} {e : Error} → Added written references old f mid → Stopped written refuses references mid g new e → Stopped written refuses references old (both f g) new e
+  stopped_then : {old mid new : Serializer W} {f g : Part} {e : Error} → Added written references capacity old f mid → Stopped written refuses references capacity mid g new e → Stopped written refuses references capacity old (both f g) new e
   unfolding part_bytes
   stopped_then {old = old} {mid = mid} {new = new} {f = f} {g = g} a b = record {
     appended = began_then (written old.writer) (written mid.writer) (written new.writer) (bytes_under old.settings f) (bytes_under old.settings g) a.appended
@@ -130,40 +143,45 @@ module _ {W : Type 0} {written : W → Option (List ℕ)} {refuses : W → Error
     before = stopped_within a b;
     settings = b.settings ∙ a.settings;
     same_references = b.same_references ∙ a.same_references;
+    same_capacity = b.same_capacity ∙ a.same_capacity;
     refused = elim b.refused [ inl r ↦ inl r | inr u ↦ inr ((λ h. u.0 h.1), u.1) ];
+    no_room = λ storable room. b.no_room storable.1 (room_then f g a room);
   }
 
-  stopped_before : {old new : Serializer W} {f : Part} (g : Part) {e : Error} → Stopped written refuses references old f new e → Stopped written refuses references old (both f g) new e
+  stopped_before : {old new : Serializer W} {f : Part} (g : Part) {e : Error} → Stopped written refuses references capacity old f new e → Stopped written refuses references capacity old (both f g) new e
   unfolding part_bytes
-  stopped_before {old = old} g b = record {
+  stopped_before {old = old} {f = f} g b = record {
     appended = began_more (bytes_under old.settings g) b.appended;
     before = stopped_earlier g b;
     settings = b.settings;
     same_references = b.same_references;
+    same_capacity = b.same_capacity;
     refused = elim b.refused [ inl r ↦ inl r | inr u ↦ inr ((λ h. u.0 h.0), u.1) ];
+    no_room = λ storable room. b.no_room storable.0 (room_first (capacity old.writer) (written old.writer) (bytes_under old.settings f) (bytes_under old.settings g) room);
   }
 
   -- a part was appended, and then the rest
-  pub and_then : {T : Type 0} {old mid new : Serializer W} {f g : Part} {r : Result T Error} → Added written references old f mid → Serialized written refuses references mid g new r → Serialized written refuses references old (both f g) new r
+  pub and_then : {T : Type 0} {old mid new : Serializer W} {f g : Part} {r : Result T Error} → Added written references capacity old f mid → Serialized written refuses references capacity mid g new r → Serialized written refuses references capacity old (both f g) new r
   and_then {r = Ok x} a h = record { ok = added_then a h.ok; err = tt }
   and_then {r = Err e} a h = record { ok = tt; err = stopped_then a h.err }
 
   -- the exit of a `?`, before more parts
-  pub stops : {T : Type 0} {old new : Serializer W} {f g : Part} {e : Error} {r : Result T Error} → IsErrAnd r (λ x. x ≡ e) → Stopped written refuses references old f new e → Serialized written refuses references old (both f g) new r
+  pub stops : {T : Type 0} {old new : Serializer W} {f g : Part} {e : Error} {r : Result T Error} → IsErrAnd r (λ x. x ≡ e) → Stopped written refuses references capacity old f new e → Serialized written refuses references capacity old (both f g) new r
   stops {r = Ok x} is h = absurd is
-  stops {old = old} {new = new} {f = f} {g = g} {r = Err x} is h = record { ok = tt; err = stopped_before g (subst (λ z. Stopped written refuses references old f new z) (sym is) h) }
+  stops {old = old} {new = new} {f = f} {g = g} {r = Err x} is h = record { ok = tt; err = stopped_before g (subst (λ z. Stopped written refuses references capacity old f new z) (sym is) h) }
 
   -- the exit of a `?` at the last part
-  pub stops_last : {T : Type 0} {old new : Serializer W} {f : Part} {e : Error} {r : Result T Error} → IsErrAnd r (λ x. x ≡ e) → Stopped written refuses references old f new e → Serialized written refuses references old f new r
+  pub stops_last : {T : Type 0} {old new : Serializer W} {f : Part} {e : Error} {r : Result T Error} → IsErrAnd r (λ x. x ≡ e) → Stopped written refuses references capacity old f new e → Serialized written refuses references capacity old f new r
   stops_last {r = Ok x} is h = absurd is
-  stops_last {old = old} {new = new} {f = f} {r = Err x} is h = record { ok = tt; err = subst (λ z. Stopped written refuses references old f new z) (sym is) h }
+  stops_last {old = old} {new = new} {f = f} {r = Err x} is h = record { ok = tt; err = subst (λ z. Stopped written refuses references capacity old f new z) (sym is) h }
 
-  pub same_part : {T : Type 0} {old new : Serializer W} {f g : Part} {r : Result T Error} → Same old.settings f g → Serialized written refuses references old f new r → Serialized written refuses references old g new r
+  pub same_part : {T : Type 0} {old new : Serializer W} {f g : Part} {r : Result T Error} → Same old.settings f g → Serialized written refuses references capacity old f new r → Serialized written refuses references capacity old g new r
   same_part {old = old} {new = new} {r = Ok x} is h = record {
     ok = record {
       appended = subst (λ bs. Appends (written old.writer) (written new.writer) bs) is.same h.ok.appended;
       settings = h.ok.settings;
       same_references = h.ok.same_references;
+      same_capacity = h.ok.same_capacity;
       storable = is.storable h.ok.storable;
       in_range = is.in_range h.ok.in_range;
     };
@@ -176,24 +194,27 @@ module _ {W : Type 0} {written : W → Option (List ℕ)} {refuses : W → Error
       before = λ front x. h.err.before front (is.before front x);
       settings = h.err.settings;
       same_references = h.err.same_references;
+      same_capacity = h.err.same_capacity;
       refused = elim h.err.refused [ inl r ↦ inl r | inr u ↦ inr ((λ g. u.0 (is.unstorable g)), u.1) ];
+      no_room = λ storable room. h.err.no_room (is.unstorable storable) (subst (λ bs. HasRoomFor (capacity old.writer) (written old.writer) bs) (sym is.same) room);
     };
   }
 
   -- a part that is the same
-  pub same : {T : Type 0} {old new : Serializer W} {f g : Part} {r : Result T Error} → f ≡ g → Serialized written refuses references old f new r → Serialized written refuses references old g new r
-  same {old = old} {new = new} {r = r} is h = subst (λ p. Serialized written refuses references old p new r) is h
+  pub same : {T : Type 0} {old new : Serializer W} {f g : Part} {r : Result T Error} → f ≡ g → Serialized written refuses references capacity old f new r → Serialized written refuses references capacity old g new r
+  same {old = old} {new = new} {r = r} is h = subst (λ p. Serialized written refuses references capacity old p new r) is h
 
-  pub by_parts : {T : Type 0} {old new : Serializer W} {d : Doc} {r : Result T Error} → Serialized written refuses references old (parts d) new r → Serialized written refuses references old (item d) new r
+  pub by_parts : {T : Type 0} {old new : Serializer W} {d : Doc} {r : Result T Error} → Serialized written refuses references capacity old (parts d) new r → Serialized written refuses references capacity old (item d) new r
   by_parts {old = old} {d = d} h = same_part (parts_same old.settings d) h
 
   -- no byte was to be written
-  pub nothing_is : {old : Serializer W} (part : Part) → bytes_under old.settings part ≡ [] → IsStorablePart part → IsPartInRange part → Serialized {T = Unit {0}} written refuses references old part old (Ok tt)
+  pub nothing_is : {old : Serializer W} (part : Part) → bytes_under old.settings part ≡ [] → IsStorablePart part → IsPartInRange part → Serialized {T = Unit {0}} written refuses references capacity old part old (Ok tt)
   nothing_is {old = old} part none storable in_range = record {
     ok = record {
       appended = subst (λ bs. Appends (written old.writer) (written old.writer) bs) (sym none) (Appends-nil (written old.writer));
       settings = refl;
       same_references = refl;
+      same_capacity = refl;
       storable = storable;
       in_range = in_range;
     };
@@ -201,32 +222,37 @@ module _ {W : Type 0} {written : W → Option (List ℕ)} {refuses : W → Error
   }
 
   -- a value's canonical spelling was written, which is that of its document
-  pub serialized_value : {T : Type 0} {old new : Serializer W} (v : Val) (r : Result T Error) → new.settings ≡ old.settings → references new.writer ≡ references old.writer → OnOk r (IsStorable v) → OnOk r (IsInMemory v)
-      → Wrote (written old.writer) (canon v) (written new.writer) r → IfErr r (λ e. refuses new.writer e ⊎ IsUnstorable v e) → EndsBefore (document_of v) (written old.writer) (written new.writer) → Serialized written refuses references old (item (document_of v)) new r
+  pub serialized_value : {T : Type 0} {old new : Serializer W} (v : Val) (r : Result T Error) → new.settings ≡ old.settings → references new.writer ≡ references old.writer → capacity new.writer ≡ capacity old.writer → OnOk r (IsStorable v) → OnOk r (IsInMemory v)
+      → Wrote (written old.writer) (canon v) (written new.writer) r → IfErr r (λ e. refuses new.writer e ⊎ IsUnstorable v e)
+      → (IsStorable v → TakesWhatFits (capacity old.writer) (written old.writer) (canon v) r) → EndsBefore (document_of v) (written old.writer) (written new.writer) → Serialized written refuses references capacity old (item (document_of v)) new r
   unfolding part_bytes
-  serialized_value {old = old} {new = new} v (Ok x) kept same_references storable in_range w refused before = record {
+  serialized_value {old = old} {new = new} v (Ok x) kept same_references same_capacity storable in_range w refused fits before = record {
     ok = record {
       appended = subst (λ bs. Appends (written old.writer) (written new.writer) bs) (sym (document_is_canonical v old.settings.packed old.settings.legacy)) w.ok;
       settings = kept;
       same_references = same_references;
+      same_capacity = same_capacity;
       storable = storable_document v storable;
       in_range = document_in_range v in_range;
     };
     err = tt;
   }
-  serialized_value {old = old} {new = new} v (Err e) kept same_references storable in_range w refused before = record {
+  serialized_value {T = T} {old = old} {new = new} v (Err e) kept same_references same_capacity storable in_range w refused fits before = record {
     ok = tt;
     err = record {
       appended = subst (λ bs. AppendsBeginning bs (written old.writer) (written new.writer)) (sym (document_is_canonical v old.settings.packed old.settings.legacy)) w.err;
       before = before old.settings.packed old.settings.legacy;
       settings = kept;
       same_references = same_references;
+      same_capacity = same_capacity;
       refused = elim refused [ inl r ↦ inl r | inr u ↦ inr ((λ h. u.0 (storable_value v h)), u.1) ];
+      no_room = λ storable room. refused_room {T = T} (Err e) refl (fits (storable_value v storable))
+          (subst (λ bs. HasRoomFor (capacity old.writer) (written old.writer) bs) (document_is_canonical v old.settings.packed old.settings.legacy) room);
     };
   }
 
   -- the last part, where a declared length needs no end
-  pub last : {T : Type 0} {old new : Serializer W} {f : Part} {r : Result T Error} → Serialized written refuses references old f new r → Serialized written refuses references old (both f (ending (Some 0))) new r
+  pub last : {T : Type 0} {old new : Serializer W} {f : Part} {r : Result T Error} → Serialized written refuses references capacity old f new r → Serialized written refuses references capacity old (both f (ending (Some 0))) new r
   unfolding part_bytes
   last {old = old} {f = f} h = same_part (record {
     same = sym (append-nil (bytes_under old.settings f));
@@ -239,7 +265,7 @@ module _ {W : Type 0} {written : W → Option (List ℕ)} {refuses : W → Error
   -- ---- a document, by the settings that its serializer began with
 
   pub document_wrote : {T : Type 0} {old new : Serializer W} {d : Doc} {r : Result T Error} (p l : Bool) → old.settings ≡ record { packed = p; legacy = l }
-      → Serialized written refuses references old (item d) new r → Wrote (written old.writer) (document_bytes d p l) (written new.writer) r
+      → Serialized written refuses references capacity old (item d) new r → Wrote (written old.writer) (document_bytes d p l) (written new.writer) r
   unfolding part_bytes
   document_wrote {old = old} {new = new} {d = d} {r = Ok x} p l begun h = record {
     ok = subst (λ (s : Settings). Appends (written old.writer) (written new.writer) (document_bytes d s.packed s.legacy)) begun h.ok.appended;
@@ -251,13 +277,21 @@ module _ {W : Type 0} {written : W → Option (List ℕ)} {refuses : W → Error
   }
 
   pub document_before : {T : Type 0} {old new : Serializer W} {d : Doc} {r : Result T Error} (p l : Bool) → old.settings ≡ record { packed = p; legacy = l }
-      → Serialized written refuses references old (item d) new r → (front : List ℕ) → StandsBefore d p l front → AppendsBeginning front (written old.writer) (written new.writer)
+      → Serialized written refuses references capacity old (item d) new r → (front : List ℕ) → StandsBefore d p l front → AppendsBeginning front (written old.writer) (written new.writer)
   document_before {d = d} {r = Ok x} p l begun h front stands = absurd (all_stored d p l front h.ok.storable stands)
   document_before {old = old} {d = d} {r = Err e} p l begun h front stands = h.err.before front (subst (λ (s : Settings). StandsBefore d s.packed s.legacy front) (sym begun) stands)
 
-  pub document_refused : {T : Type 0} {old new : Serializer W} {d : Doc} {r : Result T Error} → Serialized written refuses references old (item d) new r → IfErr r (DocumentRefused refuses new.writer d)
+  pub document_refused : {T : Type 0} {old new : Serializer W} {d : Doc} {r : Result T Error} → Serialized written refuses references capacity old (item d) new r → IfErr r (DocumentRefused refuses new.writer d)
   document_refused {r = Ok x} h = tt
   document_refused {r = Err e} h = h.err.refused
+
+  pub document_fits : {T : Type 0} {old new : Serializer W} {d : Doc} {r : Result T Error} (p l : Bool) → old.settings ≡ record { packed = p; legacy = l }
+      → Serialized written refuses references capacity old (item d) new r → IsStorableDocument d → TakesWhatFits (capacity old.writer) (written old.writer) (document_bytes d p l) r
+  unfolding part_bytes
+  document_fits {r = Ok x} p l begun h storable = record { taken = λ room. refl }
+  document_fits {old = old} {d = d} {r = Err e} p l begun h storable = record {
+    taken = λ room. absurd (h.err.no_room storable (subst (λ (s : Settings). HasRoomFor (capacity old.writer) (written old.writer) (document_bytes d s.packed s.legacy)) (sym begun) room));
+  }
 
 -- ---- a document that is a value's, written to a sink
 
@@ -282,7 +316,12 @@ wrote_values {T = T} {written = written} {old = old} {new = new} d (Err e) stora
 
 -- ---- a sink that was lent
 
-pub references_stay : {T W : Type 0} {written : W → Option (List ℕ)} {refuses : W → Error → Type 0} {references : W → List ℕ} {old new : Serializer W} {f : Part} {r : Result T Error}
-    → Serialized written refuses references old f new r → references new.writer ≡ references old.writer
+pub references_stay : {T W : Type 0} {written : W → Option (List ℕ)} {refuses : W → Error → Type 0} {references : W → List ℕ} {capacity : W → Option ℕ} {old new : Serializer W} {f : Part} {r : Result T Error}
+    → Serialized written refuses references capacity old f new r → references new.writer ≡ references old.writer
 references_stay {r = Ok x} h = h.ok.same_references
 references_stay {r = Err e} h = h.err.same_references
+
+pub capacity_stays : {T W : Type 0} {written : W → Option (List ℕ)} {refuses : W → Error → Type 0} {references : W → List ℕ} {capacity : W → Option ℕ} {old new : Serializer W} {f : Part} {r : Result T Error}
+    → Serialized written refuses references capacity old f new r → capacity new.writer ≡ capacity old.writer
+capacity_stays {r = Ok x} h = h.ok.same_capacity
+capacity_stays {r = Err e} h = h.err.same_capacity

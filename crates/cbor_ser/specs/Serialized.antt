@@ -1,6 +1,6 @@
 -- What a call of a serializer leaves: a part of a document was appended to its sink, or a beginning
--- of that part. `written` tells a sink's bytes, `refuses` its errors, and `references` what it
--- writes through, as `Write` has them.
+-- of that part. `written` tells a sink's bytes, `refuses` its errors, `references` what it writes
+-- through, and `capacity` how many bytes it takes, as `Write` has them.
 use Rattle.std.specs.Prelude.{◌≡◌, ℕ, List, Option, ◌⊎◌, Bool, Result, OnOk, IfErr}
 use Rattle.std.specs.Io.KnownBytes.{Appends}
 use Rattle.cbor_model.specs.Plain.{Val}
@@ -10,7 +10,7 @@ use Rattle.cbor_model.specs.Document.{Doc, document_of}
 use Rattle.cbor_model.specs.Parts.{Part, part_bytes, IsStorablePart, IsPartInRange}
 use Rattle.cbor_model.specs.Unstored.{StandsBefore, StandsBeforeIn}
 use Rattle.cbor_io.specs.declared.error.Error.{Error}
-use Rattle.cbor_io.specs.Write.{AppendsBeginning, Wrote}
+use Rattle.cbor_io.specs.Write.{AppendsBeginning, Wrote, HasRoomFor}
 use Rattle.cbor_ser.specs.Written.{IsUnstorable, SaysUnstorable}
 use Rattle.cbor_ser.specs.declared.serializer.Settings.{Settings}
 use Rattle.cbor_ser.specs.declared.serializer.Serializer.{Serializer}
@@ -38,31 +38,35 @@ EndsBefore d old new = (packed legacy : Bool) (front : List ℕ)
 
 -- The part was appended, and all its numbers fit.
 pub record Added {W : Type 0} (written : W → Option (List ℕ)) (references : W → List ℕ)
-    (old : Serializer W) (part : Part) (new : Serializer W) : Type 0 where
+    (capacity : W → Option ℕ) (old : Serializer W) (part : Part) (new : Serializer W) : Type 0 where
   pub appended : Appends (written old.writer) (written new.writer) (bytes_under old.settings part)
   pub settings : new.settings ≡ old.settings
   pub same_references : references new.writer ≡ references old.writer
+  pub same_capacity : capacity new.writer ≡ capacity old.writer
   pub storable : IsStorablePart part
   pub in_range : IsPartInRange part
 
 -- A beginning of the part was appended, and where the part has a number that isn't stored, a
 -- beginning of what stands before the first. The error is one of the sink's, or the part has such a
--- number.
+-- number. A part that has none is stopped only where the sink has no room for it, or no capacity.
 pub record Stopped {W : Type 0} (written : W → Option (List ℕ)) (refuses : W → Error → Type 0)
-    (references : W → List ℕ) (old : Serializer W) (part : Part) (new : Serializer W)
-    (e : Error) : Type 0 where
+    (references : W → List ℕ) (capacity : W → Option ℕ) (old : Serializer W) (part : Part)
+    (new : Serializer W) (e : Error) : Type 0 where
   pub appended : AppendsBeginning (bytes_under old.settings part)
       (written old.writer) (written new.writer)
   pub before : StopsBefore old.settings part (written old.writer) (written new.writer)
   pub settings : new.settings ≡ old.settings
   pub same_references : references new.writer ≡ references old.writer
+  pub same_capacity : capacity new.writer ≡ capacity old.writer
   pub refused : refuses new.writer e ⊎ ((IsStorablePart part → ⊥) × SaysUnstorable e)
+  pub no_room : IsStorablePart part
+      → HasRoomFor (capacity old.writer) (written old.writer) (bytes_under old.settings part) → ⊥
 
 pub record Serialized {T W : Type 0} (written : W → Option (List ℕ)) (refuses : W → Error → Type 0)
-    (references : W → List ℕ) (old : Serializer W) (part : Part) (new : Serializer W)
-    (result : Result T Error) : Type 0 where
-  pub ok : OnOk result (Added written references old part new)
-  pub err : IfErr result (Stopped written refuses references old part new)
+    (references : W → List ℕ) (capacity : W → Option ℕ) (old : Serializer W) (part : Part)
+    (new : Serializer W) (result : Result T Error) : Type 0 where
+  pub ok : OnOk result (Added written references capacity old part new)
+  pub err : IfErr result (Stopped written refuses references capacity old part new)
 
 -- under these settings the part is spelled so, and all its numbers fit
 pub record Spells (s : Settings) (part : Part) (bytes : List ℕ) : Type 0 where

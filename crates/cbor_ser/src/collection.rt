@@ -37,7 +37,7 @@ impl<'a, W: Write> CollectionSerializer<'a, W> {
         ensures same_reference { self.new.ser.ghost_name ≡ self.old.ser.ghost_name }
         ensures turn { self.new.turn ≡ Turn.Element }
         ensures left { self.new.left ≡ one_less self.old.left }
-        ensures wrote { Serialized W.written W.refuses W.references self.old.ser.now
+        ensures wrote { Serialized W.written W.refuses W.references W.capacity self.old.ser.now
             (item (T.document v.now)) self.new.ser.now result }
     {
         self.count();
@@ -51,7 +51,7 @@ impl<'a, W: Write> CollectionSerializer<'a, W> {
         ensures same_reference { self.new.ser.ghost_name ≡ self.old.ser.ghost_name }
         ensures turn { self.new.turn ≡ Turn.Element }
         ensures left { self.new.left ≡ one_less self.old.left }
-        ensures wrote { Serialized W.written W.refuses W.references self.old.ser.now
+        ensures wrote { Serialized W.written W.refuses W.references W.capacity self.old.ser.now
             (item (T.document v.now)) self.new.ser.now result }
     {
         self.serialize_element(v)
@@ -64,7 +64,7 @@ impl<'a, W: Write> CollectionSerializer<'a, W> {
         ensures same_reference { self.new.ser.ghost_name ≡ self.old.ser.ghost_name }
         ensures turn { self.new.turn ≡ Turn.Value }
         ensures left { self.new.left ≡ one_less self.old.left }
-        ensures wrote { Serialized W.written W.refuses W.references self.old.ser.now
+        ensures wrote { Serialized W.written W.refuses W.references W.capacity self.old.ser.now
             (item (T.document k.now)) self.new.ser.now result }
     {
         self.count();
@@ -78,7 +78,7 @@ impl<'a, W: Write> CollectionSerializer<'a, W> {
         ensures same_reference { self.new.ser.ghost_name ≡ self.old.ser.ghost_name }
         ensures turn { self.new.turn ≡ Turn.Key }
         ensures left { self.new.left ≡ self.old.left }
-        ensures wrote { Serialized W.written W.refuses W.references self.old.ser.now
+        ensures wrote { Serialized W.written W.refuses W.references W.capacity self.old.ser.now
             (item (T.document v.now)) self.new.ser.now result }
     {
         self.turn = Turn::Key;
@@ -89,7 +89,7 @@ impl<'a, W: Write> CollectionSerializer<'a, W> {
     pub fn end(self) -> Result<()>
         requires done { IsDone self.left }
         requires turn { self.turn ≢ Turn.Value }
-        ensures { Serialized W.written W.refuses W.references self.entry.ser.now
+        ensures { Serialized W.written W.refuses W.references W.capacity self.entry.ser.now
             (ending self.entry.left) self.exit.0.now result }
     {
         let CollectionSerializer { ser, left, turn: _ } = self;
@@ -126,7 +126,7 @@ impl<'a, W: Write> StructSerializer<'a, W> {
         ensures same_reference { self.new.ser.ghost_name ≡ self.old.ser.ghost_name }
         ensures left { self.new.left ≡ self.old.left - 1 }
         ensures next { self.new.next ≡ self.old.next + 1 }
-        ensures wrote { Serialized W.written W.refuses W.references self.old.ser.now
+        ensures wrote { Serialized W.written W.refuses W.references W.capacity self.old.ser.now
             (field_part self.old.next name.now (T.document v.now)) self.new.ser.now result }
     {
         let number = self.next;
@@ -159,7 +159,7 @@ impl<'a, W: Write> StructSerializer<'a, W> {
     /// Ends the struct.
     pub fn end(self) -> Result<()>
         requires { self.left ≡ 0 }
-        ensures { Serialized W.written W.refuses W.references self.entry.ser.now nothing
+        ensures { Serialized W.written W.refuses W.references W.capacity self.entry.ser.now nothing
             self.exit.0.now result }
     {
         let StructSerializer {

@@ -35,7 +35,7 @@ pub trait SerializeVariant {
         name: &str,
     ) -> Result<()>
         requires { is_named self.now }
-        ensures { Serialized W.written W.refuses W.references ser.old
+        ensures { Serialized W.written W.refuses W.references W.capacity ser.old
             (item (document number name.now self.now)) ser.new result };
 }
 
@@ -117,7 +117,7 @@ impl<W: Write> Serializer<W> {
     /// ```
     pub fn serialize_fields<F: SerializeFields>(&mut self, names: &[&str], fields: &F) -> Result<()>
         requires { length names.now ≡ F.count }
-        ensures { Serialized W.written W.refuses W.references self.old
+        ensures { Serialized W.written W.refuses W.references W.capacity self.old
             (item (structure (F.fields (map (λ n. n.now) names.now) fields.now)))
             self.new result }
     {
@@ -140,7 +140,7 @@ impl<W: Write> Serializer<W> {
     ) -> Result<()>
         requires numbered { number < length names.now }
         requires named { V.is_named content.now }
-        ensures { Serialized W.written W.refuses W.references self.old
+        ensures { Serialized W.written W.refuses W.references W.capacity self.old
             (item (V.document number (name_in (map (λ n. n.now) names.now) number) content.now))
             self.new result }
     {

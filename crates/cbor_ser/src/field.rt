@@ -31,7 +31,7 @@ pub trait SerializeField {
         name: &str,
     ) -> Result<()>
         ensures written { IfSome (document self.now) (λ d.
-            Serialized W.written W.refuses W.references ser.old
+            Serialized W.written W.refuses W.references W.capacity ser.old
             (field_part number name.now d) ser.new result) }
         ensures left_out { IfNone (document self.now) (IsOk result × (ser.new ≡ ser.old)) };
 }

@@ -31,7 +31,7 @@ pub trait SerializeFields {
     /// Appends those that are written, by these names or their numbers, without the map's head.
     fn serialize_fields<W: Write>(&self, ser: &mut Serializer<W>, names: &[&str]) -> Result<()>
         requires { length names.now ≡ count }
-        ensures { Serialized W.written W.refuses W.references ser.old
+        ensures { Serialized W.written W.refuses W.references W.capacity ser.old
             (part.fields (fields (map (λ n. n.now) names.now) self.now)) ser.new result };
 }
 

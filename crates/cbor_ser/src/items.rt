@@ -16,7 +16,7 @@ ghost use Rattle.cbor_model.specs.InMemory.{IsByteString};
 ghost use Rattle.cbor_io.specs.Head.{major_number};
 ghost use Rattle.cbor_model.specs.Document.{document_of, documents_of, document_pairs_of};
 ghost use Rattle.cbor_model.specs.Unstored.{StandsBeforeAny, StandsBeforePairs};
-ghost use Rattle.cbor_io.specs.Write.{AppendsBeginning, Wrote};
+ghost use Rattle.cbor_io.specs.Write.{AppendsBeginning, Wrote, TakesWhatFits};
 ghost use Rattle.cbor_value.specs.View.{view, views, float_view, map_view, pair_views};
 ghost use Rattle.cbor_ser.specs.Written.{SaysUnstorable};
 ghost use Rattle.cbor_ser.specs.Serialized.{ValueRefused, EndsBefore};
@@ -57,7 +57,10 @@ pub(crate) fn not_storable(alloc: Global) -> Error
 fn put<W: Write>(writer: &mut W, refusal: &mut Option<Error>, piece: &[u8]) -> Done
     ensures written { Wrote (W.written writer.old) piece.now (W.written writer.new) result }
     ensures same_references { W.references writer.new ≡ W.references writer.old }
+    ensures same_capacity { W.capacity writer.new ≡ W.capacity writer.old }
     ensures refused { OnErr result (IsSomeAnd refusal.new (W.refuses writer.new)) }
+    ensures fits { TakesWhatFits (W.capacity writer.old) (W.written writer.old)
+        piece.now result }
 {
     match writer.write_all(piece) {
         Ok(()) => Ok(()),
@@ -79,7 +82,10 @@ pub(crate) fn write_head<W: Write>(
     ensures written { Wrote (W.written writer.old) (short (major_number major) n)
         (W.written writer.new) result }
     ensures same_references { W.references writer.new ≡ W.references writer.old }
+    ensures same_capacity { W.capacity writer.new ≡ W.capacity writer.old }
     ensures refused { OnErr result (IsSomeAnd refusal.new (W.refuses writer.new)) }
+    ensures fits { TakesWhatFits (W.capacity writer.old) (W.written writer.old)
+        (short (major_number major) n) result }
 {
     let first = major.number() * 32;
     if n < 24 {
@@ -110,7 +116,10 @@ pub(crate) fn write_string<W: Write>(
         (short (major_number major) (length content.now) ++ content.now)
         (W.written writer.new) result }
     ensures same_references { W.references writer.new ≡ W.references writer.old }
+    ensures same_capacity { W.capacity writer.new ≡ W.capacity writer.old }
     ensures refused { OnErr result (IsSomeAnd refusal.new (W.refuses writer.new)) }
+    ensures fits { TakesWhatFits (W.capacity writer.old) (W.written writer.old)
+        (short (major_number major) (length content.now) ++ content.now) result }
 {
     write_head(writer, refusal, major, content.len() as u64)?;
     put(writer, refusal, content)
@@ -127,7 +136,10 @@ pub(crate) fn write_float<W: Write>(
     ensures written { Wrote (W.written writer.old) (canon (float_view float))
         (W.written writer.new) result }
     ensures same_references { W.references writer.new ≡ W.references writer.old }
+    ensures same_capacity { W.capacity writer.new ≡ W.capacity writer.old }
     ensures refused { OnErr result (IsSomeAnd refusal.new (W.refuses writer.new)) }
+    ensures fits { TakesWhatFits (W.capacity writer.old) (W.written writer.old)
+        (canon (float_view float)) result }
 {
     match float {
         Float::Half(bits) => {
@@ -157,8 +169,12 @@ pub(crate) fn write_integer<W: Write>(
     ensures written { Wrote (W.written writer.old) (canon (plain.integer i))
         (W.written writer.new) result }
     ensures same_references { W.references writer.new ≡ W.references writer.old }
+    ensures same_capacity { W.capacity writer.new ≡ W.capacity writer.old }
     ensures refused { OnErr result
         (IsSomeAnd refusal.new (ValueRefused W.refuses writer.new (plain.integer i))) }
+    ensures fits { IsStorableInteger i →
+        TakesWhatFits (W.capacity writer.old) (W.written writer.old)
+        (canon (plain.integer i)) result }
     ensures kept { (IsStorableInteger i → ⊥) → writer.new ≡ writer.old }
     ensures unstorable { (IsStorableInteger i → ⊥) → IsSomeAnd refusal.new SaysUnstorable }
 {
@@ -188,8 +204,12 @@ pub(crate) fn write_value<W: Write>(
     ensures before { EndsBefore (document_of (view value.now))
         (W.written writer.old) (W.written writer.new) }
     ensures same_references { W.references writer.new ≡ W.references writer.old }
+    ensures same_capacity { W.capacity writer.new ≡ W.capacity writer.old }
     ensures refused { OnErr result
         (IsSomeAnd refusal.new (ValueRefused W.refuses writer.new (view value.now))) }
+    ensures fits { IsStorable (view value.now) →
+        TakesWhatFits (W.capacity writer.old) (W.written writer.old)
+        (canon (view value.now)) result }
 {
     match value {
         Value::Null => put(writer, refusal, &[0xf6]),
@@ -219,8 +239,12 @@ fn write_tag<W: Write>(
     ensures before { EndsBefore (document_of (plain.tag tag (view inner.now)))
         (W.written writer.old) (W.written writer.new) }
     ensures same_references { W.references writer.new ≡ W.references writer.old }
+    ensures same_capacity { W.capacity writer.new ≡ W.capacity writer.old }
     ensures refused { OnErr result
         (IsSomeAnd refusal.new (ValueRefused W.refuses writer.new (view inner.now))) }
+    ensures fits { IsStorable (view inner.now) →
+        TakesWhatFits (W.capacity writer.old) (W.written writer.old)
+        (canon (plain.tag tag (view inner.now))) result }
 {
     write_head(writer, refusal, Major::Tag, tag)?;
     write_value(alloc, writer, refusal, inner)
@@ -241,9 +265,13 @@ fn write_array<W: Write>(
     ensures before { EndsBefore (document_of (plain.array (views items.now)))
         (W.written writer.old) (W.written writer.new) }
     ensures same_references { W.references writer.new ≡ W.references writer.old }
+    ensures same_capacity { W.capacity writer.new ≡ W.capacity writer.old }
     ensures refused { OnErr result
         (IsSomeAnd refusal.new
         (ValueRefused W.refuses writer.new (plain.array (views items.now)))) }
+    ensures fits { AreStorable (views items.now) →
+        TakesWhatFits (W.capacity writer.old) (W.written writer.old)
+        (canon (plain.array (views items.now))) result }
 {
     write_head(writer, refusal, Major::Array, items.len() as u64)?;
     write_items(alloc, writer, refusal, items)
@@ -266,9 +294,13 @@ fn write_items<W: Write>(
         → StandsBeforeAny (documents_of (views items.now)) packed legacy front
         → AppendsBeginning front (W.written writer.old) (W.written writer.new) }
     ensures same_references { W.references writer.new ≡ W.references writer.old }
+    ensures same_capacity { W.capacity writer.new ≡ W.capacity writer.old }
     ensures refused { OnErr result
         (IsSomeAnd refusal.new
         (ValueRefused W.refuses writer.new (plain.array (views items.now)))) }
+    ensures fits { AreStorable (views items.now) →
+        TakesWhatFits (W.capacity writer.old) (W.written writer.old)
+        (spell_all (canonical_all (views items.now))) result }
 {
     for item in items {
         write_value(alloc, writer, refusal, item)?;
@@ -290,9 +322,13 @@ fn write_map<W: Write>(
     ensures before { EndsBefore (document_of (plain.map (map_view map.now)))
         (W.written writer.old) (W.written writer.new) }
     ensures same_references { W.references writer.new ≡ W.references writer.old }
+    ensures same_capacity { W.capacity writer.new ≡ W.capacity writer.old }
     ensures refused { OnErr result
         (IsSomeAnd refusal.new
         (ValueRefused W.refuses writer.new (plain.map (map_view map.now)))) }
+    ensures fits { ArePairsStorable (map_view map.now) →
+        TakesWhatFits (W.capacity writer.old) (W.written writer.old)
+        (canon (plain.map (map_view map.now))) result }
 {
     write_head(writer, refusal, Major::Map, map.len() as u64)?;
     write_pairs(alloc, writer, refusal, map.iter().as_slice())
@@ -315,9 +351,13 @@ fn write_pairs<W: Write>(
         → StandsBeforePairs (document_pairs_of (pair_views pairs.now)) packed legacy front
         → AppendsBeginning front (W.written writer.old) (W.written writer.new) }
     ensures same_references { W.references writer.new ≡ W.references writer.old }
+    ensures same_capacity { W.capacity writer.new ≡ W.capacity writer.old }
     ensures refused { OnErr result
         (IsSomeAnd refusal.new
         (ValueRefused W.refuses writer.new (plain.map (pair_views pairs.now)))) }
+    ensures fits { ArePairsStorable (pair_views pairs.now) →
+        TakesWhatFits (W.capacity writer.old) (W.written writer.old)
+        (spell_pairs (canonical_pairs (pair_views pairs.now))) result }
 {
     for (key, value) in pairs {
         write_value(alloc, writer, refusal, key)?;

@@ -12,7 +12,7 @@ ghost use Rattle.std.specs.Prelude.{◌≡◌, ℕ, List, false, true, IfOk, IfE
 ghost use Rattle.cbor_ser.specs.Serialized.{WroteValues};
 ghost use Rattle.cbor_model.specs.Document.{document_bytes, IsStorableDocument, IsDocumentInRange};
 ghost use Rattle.cbor_model.specs.Unstored.{StandsBefore};
-ghost use Rattle.cbor_io.specs.Write.{AppendsBeginning, Wrote};
+ghost use Rattle.cbor_io.specs.Write.{AppendsBeginning, Wrote, TakesWhatFits};
 ghost use Rattle.cbor_ser.specs.Bytes.{SpellsValues};
 ghost use Rattle.cbor_ser.specs.Written.{IsNotWritten, DocumentRefused};
 
@@ -101,7 +101,8 @@ pub fn to_vec_packed<T: Serialize>(alloc: Global, value: &T) -> Result<Vec<u8>>
 /// text of the first refusal alone. After an Err, a sink that tells its bytes holds what it had and
 /// a prefix of the document's bytes: where a [`SliceWrite`] is too short, the bytes written are
 /// a prefix of what `to_vec` returns, and where a number is refused, nothing of what follows it
-/// was written.
+/// was written. A sink that has a capacity, as a [`SliceWrite`] has, refuses no document that can be
+/// stored and fits what is left of it.
 ///
 /// A `Vec<u8>` grows:
 ///
@@ -111,7 +112,7 @@ pub fn to_vec_packed<T: Serialize>(alloc: Global, value: &T) -> Result<Vec<u8>>
 /// assert_eq!(rt; bytes.as_slice(), b"\x39\x01\x2b".as_slice());
 /// ```
 ///
-/// A [`SliceWrite`] takes what fits:
+/// A [`SliceWrite`] takes what fits, and nothing else:
 ///
 /// ```rust
 /// let mut room = [0; 4];
@@ -140,7 +141,12 @@ pub fn to_writer<W: Write, T: Serialize>(alloc: Global, writer: &mut W, value: &
     // Of a document that can't be stored, a prefix of what stands before its first such number.
     ensures before { (front : List ℕ) → StandsBefore (T.document value.now) false false front
         → AppendsBeginning front (W.written writer.old) (W.written writer.new) }
+    // A document that can be stored is written where it fits what is left of the sink's capacity.
+    ensures fits { IsStorableDocument (T.document value.now) →
+        TakesWhatFits (W.capacity writer.old) (W.written writer.old)
+        (document_bytes (T.document value.now) false false) result }
     ensures same_references { W.references writer.new ≡ W.references writer.old }
+    ensures same_capacity { W.capacity writer.new ≡ W.capacity writer.old }
     // Where the document is that of a `Value`, the bytes are the value's canonical spelling.
     ensures canonical { WroteValues W.written W.refuses writer.old (T.document value.now)
         writer.new result }

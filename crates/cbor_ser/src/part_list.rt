@@ -42,7 +42,7 @@ pub(crate) trait WriteFields {
     ) -> Result<()>
         requires as_many { length names.now ≡ slots }
         requires numbers { number + length names.now < 2 ^ 32 }
-        ensures { Serialized W.written W.refuses W.references ser.old
+        ensures { Serialized W.written W.refuses W.references W.capacity ser.old
             (part.fields (fields_from number (map (λ n. n.now) names.now) self.now))
             ser.new result };
 }
@@ -163,7 +163,7 @@ pub(crate) trait WriteItems {
 
     // Appends the items of an array, of which a count was declared, and its end.
     fn write_items<W: Write>(&self, ser: &mut Serializer<W>) -> Result<()>
-        ensures { Serialized W.written W.refuses W.references ser.old
+        ensures { Serialized W.written W.refuses W.references W.capacity ser.old
             (items (documents self.now) (ending (Some 0))) ser.new result };
 }
 

@@ -103,6 +103,6 @@ pub trait Serialize {
     /// with the message `The number can't be stored in CBOR`, which only a document with such a
     /// number gets.
     fn serialize<W: Write>(&self, ser: &mut Serializer<W>) -> Result<()>
-        ensures { Serialized W.written W.refuses W.references ser.old (item (document self.now))
-            ser.new result };
+        ensures { Serialized W.written W.refuses W.references W.capacity ser.old
+            (item (document self.now)) ser.new result };
 }

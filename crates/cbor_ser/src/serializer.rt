@@ -127,7 +127,7 @@ impl<W: Write> Serializer<W> {
 
     /// Appends the tag 55799, which says that CBOR follows (RFC 7049, section 2.4.5).
     pub fn self_describe(&mut self) -> Result<()>
-        ensures { Serialized W.written W.refuses W.references self.old (tag_head 55799)
+        ensures { Serialized W.written W.refuses W.references W.capacity self.old (tag_head 55799)
             self.new result }
     {
         self.serialize_tag(55799)
@@ -142,7 +142,7 @@ impl<W: Write> Serializer<W> {
     /// assert_eq!(rt; ser.into_inner().as_slice(), b"\xc1\x1a\x51\x4b\x67\xb0".as_slice());
     /// ```
     pub fn serialize_tag(&mut self, tag: u64) -> Result<()>
-        ensures { Serialized W.written W.refuses W.references self.old (tag_head tag)
+        ensures { Serialized W.written W.refuses W.references W.capacity self.old (tag_head tag)
             self.new result }
     {
         self.write_head(Major::Tag, tag)
@@ -150,7 +150,7 @@ impl<W: Write> Serializer<W> {
 
     /// Appends `f4` or `f5`.
     pub fn serialize_bool(&mut self, v: bool) -> Result<()>
-        ensures { Serialized W.written W.refuses W.references self.old (item (bool v))
+        ensures { Serialized W.written W.refuses W.references W.capacity self.old (item (bool v))
             self.new result }
     {
         self.write_piece(&[if v { 0xf5 } else { 0xf4 }])
@@ -158,85 +158,88 @@ impl<W: Write> Serializer<W> {
 
     /// Appends `f6`.
     pub fn serialize_unit(&mut self) -> Result<()>
-        ensures { Serialized W.written W.refuses W.references self.old (item null) self.new result }
+        ensures { Serialized W.written W.refuses W.references W.capacity self.old (item null)
+            self.new result }
     {
         self.write_piece(&[0xf6])
     }
 
     /// Appends `f6`, which is what an absent value is written as.
     pub fn serialize_none(&mut self) -> Result<()>
-        ensures { Serialized W.written W.refuses W.references self.old (item null) self.new result }
+        ensures { Serialized W.written W.refuses W.references W.capacity self.old (item null)
+            self.new result }
     {
         self.serialize_unit()
     }
 
     /// Appends `f6`, whatever the struct's name.
     pub fn serialize_unit_struct(&mut self, _name: &'static str) -> Result<()>
-        ensures { Serialized W.written W.refuses W.references self.old (item null) self.new result }
+        ensures { Serialized W.written W.refuses W.references W.capacity self.old (item null)
+            self.new result }
     {
         self.serialize_unit()
     }
 
     /// Appends an unsigned integer.
     pub fn serialize_u64(&mut self, v: u64) -> Result<()>
-        ensures { Serialized W.written W.refuses W.references self.old (item (integer (pos v)))
-            self.new result }
+        ensures { Serialized W.written W.refuses W.references W.capacity self.old
+            (item (integer (pos v))) self.new result }
     {
         self.write_head(Major::UnsignedInteger, v)
     }
 
     /// Appends an unsigned integer.
     pub fn serialize_u8(&mut self, v: u8) -> Result<()>
-        ensures { Serialized W.written W.refuses W.references self.old (item (integer (pos v)))
-            self.new result }
+        ensures { Serialized W.written W.refuses W.references W.capacity self.old
+            (item (integer (pos v))) self.new result }
     {
         self.serialize_u64(v as u64)
     }
 
     /// Appends an unsigned integer.
     pub fn serialize_u16(&mut self, v: u16) -> Result<()>
-        ensures { Serialized W.written W.refuses W.references self.old (item (integer (pos v)))
-            self.new result }
+        ensures { Serialized W.written W.refuses W.references W.capacity self.old
+            (item (integer (pos v))) self.new result }
     {
         self.serialize_u64(v as u64)
     }
 
     /// Appends an unsigned integer.
     pub fn serialize_u32(&mut self, v: u32) -> Result<()>
-        ensures { Serialized W.written W.refuses W.references self.old (item (integer (pos v)))
-            self.new result }
+        ensures { Serialized W.written W.refuses W.references W.capacity self.old
+            (item (integer (pos v))) self.new result }
     {
         self.serialize_u64(v as u64)
     }
 
     /// Appends a whole number.
     pub fn serialize_i8(&mut self, v: i8) -> Result<()>
-        ensures { Serialized W.written W.refuses W.references self.old (item (integer v))
-            self.new result }
+        ensures { Serialized W.written W.refuses W.references W.capacity self.old
+            (item (integer v)) self.new result }
     {
         self.serialize_i64(v as i64)
     }
 
     /// Appends a whole number.
     pub fn serialize_i16(&mut self, v: i16) -> Result<()>
-        ensures { Serialized W.written W.refuses W.references self.old (item (integer v))
-            self.new result }
+        ensures { Serialized W.written W.refuses W.references W.capacity self.old
+            (item (integer v)) self.new result }
     {
         self.serialize_i64(v as i64)
     }
 
     /// Appends a whole number.
     pub fn serialize_i32(&mut self, v: i32) -> Result<()>
-        ensures { Serialized W.written W.refuses W.references self.old (item (integer v))
-            self.new result }
+        ensures { Serialized W.written W.refuses W.references W.capacity self.old
+            (item (integer v)) self.new result }
     {
         self.serialize_i64(v as i64)
     }
 
     /// Appends a whole number.
     pub fn serialize_i64(&mut self, v: i64) -> Result<()>
-        ensures { Serialized W.written W.refuses W.references self.old (item (integer v))
-            self.new result }
+        ensures { Serialized W.written W.refuses W.references W.capacity self.old
+            (item (integer v)) self.new result }
     {
         if v >= 0 {
             self.write_head(Major::UnsignedInteger, v as u64)
@@ -257,8 +260,8 @@ impl<W: Write> Serializer<W> {
     /// assert_eq!(rt; bytes.as_slice(), b"\x3b\xff\xff\xff\xff\xff\xff\xff\xff".as_slice());
     /// ```
     pub fn serialize_i128(&mut self, v: i128) -> Result<()>
-        ensures written { Serialized W.written W.refuses W.references self.old (item (integer v))
-            self.new result }
+        ensures written { Serialized W.written W.refuses W.references W.capacity self.old
+            (item (integer v)) self.new result }
         ensures kept { (IsStorableInteger v → ⊥) → self.new ≡ self.old }
         ensures unstorable { (IsStorableInteger v → ⊥) → IsErrAnd result SaysUnstorable }
     {
@@ -269,7 +272,7 @@ impl<W: Write> Serializer<W> {
 
     /// Appends an unsigned integer. Above `2^64-1` it is refused as by `serialize_i128`.
     pub fn serialize_u128(&mut self, v: u128) -> Result<()>
-        ensures written { Serialized W.written W.refuses W.references self.old
+        ensures written { Serialized W.written W.refuses W.references W.capacity self.old
             (item (integer (pos v))) self.new result }
         ensures kept { (IsStorableInteger (pos v) → ⊥) → self.new ≡ self.old }
         ensures unstorable { (IsStorableInteger (pos v) → ⊥) → IsErrAnd result SaysUnstorable }
@@ -282,7 +285,7 @@ impl<W: Write> Serializer<W> {
 
     /// Appends a float in its width, with its bits as they are.
     pub fn serialize_float(&mut self, v: Float) -> Result<()>
-        ensures { Serialized W.written W.refuses W.references self.old
+        ensures { Serialized W.written W.refuses W.references W.capacity self.old
             (item (document_of (float_view v))) self.new result }
     {
         let mut refusal = None;
@@ -292,7 +295,7 @@ impl<W: Write> Serializer<W> {
 
     /// Appends a float of 32 bits. A NaN is the quiet NaN `fa7fc00000`.
     pub fn serialize_f32(&mut self, v: f32) -> Result<()>
-        ensures { Serialized W.written W.refuses W.references self.old
+        ensures { Serialized W.written W.refuses W.references W.capacity self.old
             (item (float single (to_bits binary32 v))) self.new result }
     {
         self.serialize_float(Float::from(v))
@@ -308,7 +311,7 @@ impl<W: Write> Serializer<W> {
     /// assert_eq!(rt; bytes.as_slice(), b"\xfb\x3f\xf1\x99\x99\x99\x99\x99\x9a".as_slice());
     /// ```
     pub fn serialize_f64(&mut self, v: f64) -> Result<()>
-        ensures { Serialized W.written W.refuses W.references self.old
+        ensures { Serialized W.written W.refuses W.references W.capacity self.old
             (item (float double (to_bits binary64 v))) self.new result }
     {
         self.serialize_float(Float::from(v))
@@ -316,16 +319,16 @@ impl<W: Write> Serializer<W> {
 
     /// Appends a text: its head, and then its bytes.
     pub fn serialize_str(&mut self, v: &str) -> Result<()>
-        ensures { Serialized W.written W.refuses W.references self.old (item (text v.now))
-            self.new result }
+        ensures { Serialized W.written W.refuses W.references W.capacity self.old
+            (item (text v.now)) self.new result }
     {
         self.write_string(Major::TextString, v.as_bytes())
     }
 
     /// Appends a character as the text of it alone.
     pub fn serialize_char(&mut self, v: char) -> Result<()>
-        ensures { Serialized W.written W.refuses W.references self.old (item (text (encode_utf8 v)))
-            self.new result }
+        ensures { Serialized W.written W.refuses W.references W.capacity self.old
+            (item (text (encode_utf8 v))) self.new result }
     {
         let mut bytes = [0; 4];
         self.serialize_str(v.encode_utf8(&mut bytes))
@@ -339,15 +342,15 @@ impl<W: Write> Serializer<W> {
     /// assert_eq!(rt; ser.into_inner().as_slice(), b"\x44\x01\x02\x03\x04".as_slice());
     /// ```
     pub fn serialize_bytes(&mut self, v: &[u8]) -> Result<()>
-        ensures { Serialized W.written W.refuses W.references self.old (item (bytes v.now))
-            self.new result }
+        ensures { Serialized W.written W.refuses W.references W.capacity self.old
+            (item (bytes v.now)) self.new result }
     {
         self.write_string(Major::ByteString, v)
     }
 
     // Appends a value's canonical spelling.
     pub(crate) fn write_value(&mut self, v: &Value) -> Result<()>
-        ensures { Serialized W.written W.refuses W.references self.old
+        ensures { Serialized W.written W.refuses W.references W.capacity self.old
             (item (document_of (view v.now))) self.new result }
     {
         let mut refusal = None;
@@ -359,7 +362,7 @@ impl<W: Write> Serializer<W> {
     fn write_string(&mut self, major: Major, content: &[u8]) -> Result<()>
         ensures { (part : Part) → Spells self.old.settings part
             (short (major_number major) (length content.now) ++ content.now) →
-            Serialized W.written W.refuses W.references self.old part self.new result }
+            Serialized W.written W.refuses W.references W.capacity self.old part self.new result }
     {
         let mut refusal = None;
         let done = write_string(&mut self.writer, &mut refusal, major, content);
@@ -369,7 +372,7 @@ impl<W: Write> Serializer<W> {
     // Appends the shortest head of the major type with this number, as one piece.
     fn write_head(&mut self, major: Major, n: u64) -> Result<()>
         ensures { (part : Part) → Spells self.old.settings part (short (major_number major) n) →
-            Serialized W.written W.refuses W.references self.old part self.new result }
+            Serialized W.written W.refuses W.references W.capacity self.old part self.new result }
     {
         let mut refusal = None;
         let done = write_head(&mut self.writer, &mut refusal, major, n);
@@ -379,7 +382,7 @@ impl<W: Write> Serializer<W> {
     // Appends a piece.
     fn write_piece(&mut self, piece: &[u8]) -> Result<()>
         ensures { (part : Part) → Spells self.old.settings part piece.now →
-            Serialized W.written W.refuses W.references self.old part self.new result }
+            Serialized W.written W.refuses W.references W.capacity self.old part self.new result }
     {
         self.writer.write_all(piece)
     }

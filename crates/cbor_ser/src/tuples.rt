@@ -25,7 +25,7 @@ pub trait SerializeTuple {
 
     /// Appends them as the items of an array of which a count was declared, and its end.
     fn serialize_items<W: Write>(&self, ser: &mut Serializer<W>) -> Result<()>
-        ensures { Serialized W.written W.refuses W.references ser.old
+        ensures { Serialized W.written W.refuses W.references W.capacity ser.old
             (items (documents self.now) (ending (Some 0))) ser.new result };
 }
 

@@ -3,7 +3,7 @@ use Rattle.std.specs.Prelude.{OnOk, IfErr}
 use Rattle.cbor_model.specs.Document.{document_bytes, IsStorableDocument, IsDocumentInRange}
 use Rattle.cbor_io.specs.Write.{Wrote}
 use Rattle.cbor_ser.specs.Written.{DocumentRefused}
-use Rattle.cbor_ser.proofs.Steps.{document_wrote, document_before, document_refused, references_stay, wrote_values}
+use Rattle.cbor_ser.proofs.Steps.{document_wrote, document_before, document_refused, document_fits, references_stay, capacity_stays, wrote_values}
 use Rattle.cbor_ser.proofs.to_writer.Goals as goal
 
 pub returns-clause-written : goal.returns-clause-written
@@ -36,3 +36,14 @@ returns-clause-before g c front stands =
     let stay = references_stay c.serialize.ensures in
     let before = document_before false false c.new-ser.ensures.settings c.serialize.ensures front stands in
     search (rules, stay, before)
+
+pub returns-clause-fits : goal.returns-clause-fits
+returns-clause-fits g c storable =
+    let fits = document_fits false false c.new-ser.ensures.settings c.serialize.ensures storable in
+    search (rules, fits)
+
+pub returns-clause-same_capacity : goal.returns-clause-same_capacity
+returns-clause-same_capacity g c =
+    let references = references_stay c.serialize.ensures in
+    let stay = capacity_stays c.serialize.ensures in
+    search (rules, references, stay)

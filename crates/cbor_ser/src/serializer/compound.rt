@@ -19,8 +19,8 @@ use cbor_io::write::Write;
 impl<W: Write> Serializer<W> {
     /// Appends a value that is there, as it is.
     pub fn serialize_some<T: Serialize>(&mut self, v: &T) -> Result<()>
-        ensures { Serialized W.written W.refuses W.references self.old (item (T.document v.now))
-            self.new result }
+        ensures { Serialized W.written W.refuses W.references W.capacity self.old
+            (item (T.document v.now)) self.new result }
     {
         v.serialize(self)
     }
@@ -31,8 +31,8 @@ impl<W: Write> Serializer<W> {
         _name: &'static str,
         v: &T,
     ) -> Result<()>
-        ensures { Serialized W.written W.refuses W.references self.old (item (T.document v.now))
-            self.new result }
+        ensures { Serialized W.written W.refuses W.references W.capacity self.old
+            (item (T.document v.now)) self.new result }
     {
         v.serialize(self)
     }
@@ -50,7 +50,7 @@ impl<W: Write> Serializer<W> {
         index: u32,
         variant: &'static str,
     ) -> Result<()>
-        ensures { Serialized W.written W.refuses W.references self.old
+        ensures { Serialized W.written W.refuses W.references W.capacity self.old
             (item (unit_variant index variant.now)) self.new result }
     {
         self.write_identifier(index, variant)
@@ -71,7 +71,7 @@ impl<W: Write> Serializer<W> {
         variant: &'static str,
         v: &T,
     ) -> Result<()>
-        ensures { Serialized W.written W.refuses W.references self.old
+        ensures { Serialized W.written W.refuses W.references W.capacity self.old
             (item (newtype_variant index variant.now (T.document v.now))) self.new result }
     {
         self.write_newtype_head(index, variant)?;
@@ -93,12 +93,12 @@ impl<W: Write> Serializer<W> {
         &'a mut self,
         len: Option<usize>,
     ) -> Result<CollectionSerializer<'a, W>>
-        ensures* rests { sem 𝓛 (RestsIfErr (the_row W.row) self.entry (λ s. s.ser.ghost_name) result
-            (λ last. Serialized W.written W.refuses W.references self.old (array_head len)
-            last result)) }
+        ensures* rests { sem 𝓛 (RestsIfErr (the_row W.row) self.entry (λ s. s.ser.ghost_name)
+            result (λ last. Serialized W.written W.refuses W.references W.capacity self.old
+            (array_head len) last result)) }
         ensures same_reference { IfOk result (λ s. s.ser.ghost_name ≡ self.entry.ghost_name) }
-        ensures head { IfOk result (λ s. Added W.written W.references self.old (array_head len)
-            s.ser.now) }
+        ensures head { IfOk result (λ s. Added W.written W.references W.capacity self.old
+            (array_head len) s.ser.now) }
         ensures state { IfOk result (λ s. (s.left ≡ len) × (s.turn ≡ Turn.Element)) }
     {
         self.write_array_head(len)?;
@@ -124,12 +124,12 @@ impl<W: Write> Serializer<W> {
         &'a mut self,
         len: Option<usize>,
     ) -> Result<CollectionSerializer<'a, W>>
-        ensures* rests { sem 𝓛 (RestsIfErr (the_row W.row) self.entry (λ s. s.ser.ghost_name) result
-            (λ last. Serialized W.written W.refuses W.references self.old (map_head len)
-            last result)) }
+        ensures* rests { sem 𝓛 (RestsIfErr (the_row W.row) self.entry (λ s. s.ser.ghost_name)
+            result (λ last. Serialized W.written W.refuses W.references W.capacity self.old
+            (map_head len) last result)) }
         ensures same_reference { IfOk result (λ s. s.ser.ghost_name ≡ self.entry.ghost_name) }
-        ensures head { IfOk result (λ s. Added W.written W.references self.old (map_head len)
-            s.ser.now) }
+        ensures head { IfOk result (λ s. Added W.written W.references W.capacity self.old
+            (map_head len) s.ser.now) }
         ensures state { IfOk result (λ s. (s.left ≡ len) × (s.turn ≡ Turn.Key)) }
     {
         self.write_map_head(len)?;
@@ -151,11 +151,11 @@ impl<W: Write> Serializer<W> {
     /// assert_eq!(rt; ser.into_inner().as_slice(), b"\x82\x01\xf5".as_slice());
     /// ```
     pub fn serialize_tuple<'a>(&'a mut self, len: usize) -> Result<CollectionSerializer<'a, W>>
-        ensures* rests { sem 𝓛 (RestsIfErr (the_row W.row) self.entry (λ s. s.ser.ghost_name) result
-            (λ last. Serialized W.written W.refuses W.references self.old (array_head (Some len))
-            last result)) }
+        ensures* rests { sem 𝓛 (RestsIfErr (the_row W.row) self.entry (λ s. s.ser.ghost_name)
+            result (λ last. Serialized W.written W.refuses W.references W.capacity self.old
+            (array_head (Some len)) last result)) }
         ensures same_reference { IfOk result (λ s. s.ser.ghost_name ≡ self.entry.ghost_name) }
-        ensures head { IfOk result (λ s. Added W.written W.references self.old
+        ensures head { IfOk result (λ s. Added W.written W.references W.capacity self.old
             (array_head (Some len)) s.ser.now) }
         ensures state { IfOk result (λ s. (s.left ≡ Some len) × (s.turn ≡ Turn.Element)) }
     {
@@ -173,11 +173,11 @@ impl<W: Write> Serializer<W> {
         _name: &'static str,
         len: usize,
     ) -> Result<CollectionSerializer<'a, W>>
-        ensures* rests { sem 𝓛 (RestsIfErr (the_row W.row) self.entry (λ s. s.ser.ghost_name) result
-            (λ last. Serialized W.written W.refuses W.references self.old (array_head (Some len))
-            last result)) }
+        ensures* rests { sem 𝓛 (RestsIfErr (the_row W.row) self.entry (λ s. s.ser.ghost_name)
+            result (λ last. Serialized W.written W.refuses W.references W.capacity self.old
+            (array_head (Some len)) last result)) }
         ensures same_reference { IfOk result (λ s. s.ser.ghost_name ≡ self.entry.ghost_name) }
-        ensures head { IfOk result (λ s. Added W.written W.references self.old
+        ensures head { IfOk result (λ s. Added W.written W.references W.capacity self.old
             (array_head (Some len)) s.ser.now) }
         ensures state { IfOk result (λ s. (s.left ≡ Some len) × (s.turn ≡ Turn.Element)) }
     {
@@ -208,11 +208,11 @@ impl<W: Write> Serializer<W> {
         len: usize,
     ) -> Result<CollectionSerializer<'a, W>>
         requires len { len < 2 ^ 64 - 1 }
-        ensures* rests { sem 𝓛 (RestsIfErr (the_row W.row) self.entry (λ s. s.ser.ghost_name) result
-            (λ last. Serialized W.written W.refuses W.references self.old
+        ensures* rests { sem 𝓛 (RestsIfErr (the_row W.row) self.entry (λ s. s.ser.ghost_name)
+            result (λ last. Serialized W.written W.refuses W.references W.capacity self.old
             (tuple_head index variant.now len) last result)) }
         ensures same_reference { IfOk result (λ s. s.ser.ghost_name ≡ self.entry.ghost_name) }
-        ensures head { IfOk result (λ s. Added W.written W.references self.old
+        ensures head { IfOk result (λ s. Added W.written W.references W.capacity self.old
             (tuple_head index variant.now len) s.ser.now) }
         ensures state { IfOk result (λ s. (s.left ≡ Some len) × (s.turn ≡ Turn.Element)) }
     {
@@ -239,12 +239,12 @@ impl<W: Write> Serializer<W> {
         _name: &'static str,
         len: usize,
     ) -> Result<StructSerializer<'a, W>>
-        ensures* rests { sem 𝓛 (RestsIfErr (the_row W.row) self.entry (λ s. s.ser.ghost_name) result
-            (λ last. Serialized W.written W.refuses W.references self.old (map_head (Some len))
-            last result)) }
+        ensures* rests { sem 𝓛 (RestsIfErr (the_row W.row) self.entry (λ s. s.ser.ghost_name)
+            result (λ last. Serialized W.written W.refuses W.references W.capacity self.old
+            (map_head (Some len)) last result)) }
         ensures same_reference { IfOk result (λ s. s.ser.ghost_name ≡ self.entry.ghost_name) }
-        ensures head { IfOk result (λ s. Added W.written W.references self.old (map_head (Some len))
-            s.ser.now) }
+        ensures head { IfOk result (λ s. Added W.written W.references W.capacity self.old
+            (map_head (Some len)) s.ser.now) }
         ensures state { IfOk result (λ s. (s.left ≡ len) × (s.next ≡ 0)) }
     {
         self.write_map_head(Some(len))?;
@@ -272,11 +272,11 @@ impl<W: Write> Serializer<W> {
         variant: &'static str,
         len: usize,
     ) -> Result<StructSerializer<'a, W>>
-        ensures* rests { sem 𝓛 (RestsIfErr (the_row W.row) self.entry (λ s. s.ser.ghost_name) result
-            (λ last. Serialized W.written W.refuses W.references self.old
-            (both (struct_head index variant.now) (map_head (Some len))) last result)) }
+        ensures* rests { sem 𝓛 (RestsIfErr (the_row W.row) self.entry (λ s. s.ser.ghost_name)
+            result (λ last. Serialized W.written W.refuses W.references W.capacity self.old (both
+            (struct_head index variant.now) (map_head (Some len))) last result)) }
         ensures same_reference { IfOk result (λ s. s.ser.ghost_name ≡ self.entry.ghost_name) }
-        ensures head { IfOk result (λ s. Added W.written W.references self.old
+        ensures head { IfOk result (λ s. Added W.written W.references W.capacity self.old
             (both (struct_head index variant.now) (map_head (Some len))) s.ser.now) }
         ensures state { IfOk result (λ s. (s.left ≡ len) × (s.next ≡ 0)) }
     {
@@ -290,7 +290,7 @@ impl<W: Write> Serializer<W> {
 
     // Appends the head of an array, or `9f` where the length isn't declared.
     pub(crate) fn write_array_head(&mut self, len: Option<usize>) -> Result<()>
-        ensures { Serialized W.written W.refuses W.references self.old (array_head len)
+        ensures { Serialized W.written W.refuses W.references W.capacity self.old (array_head len)
             self.new result }
     {
         match len {
@@ -301,7 +301,7 @@ impl<W: Write> Serializer<W> {
 
     // Appends the head of a map, or `bf` where the length isn't declared.
     pub(crate) fn write_map_head(&mut self, len: Option<usize>) -> Result<()>
-        ensures { Serialized W.written W.refuses W.references self.old (map_head len)
+        ensures { Serialized W.written W.refuses W.references W.capacity self.old (map_head len)
             self.new result }
     {
         match len {
@@ -312,7 +312,7 @@ impl<W: Write> Serializer<W> {
 
     // Ends an array or a map: by a break where its length wasn't declared.
     pub(crate) fn write_end(&mut self, left: Option<usize>) -> Result<()>
-        ensures { Serialized W.written W.refuses W.references self.old (ending left)
+        ensures { Serialized W.written W.refuses W.references W.capacity self.old (ending left)
             self.new result }
     {
         match left {
@@ -324,7 +324,7 @@ impl<W: Write> Serializer<W> {
     // Appends what identifies a field or a variant: its name, or its number where the format is
     // packed.
     pub(crate) fn write_identifier(&mut self, index: u32, name: &str) -> Result<()>
-        ensures { Serialized W.written W.refuses W.references self.old
+        ensures { Serialized W.written W.refuses W.references W.capacity self.old
             (item (unit_variant index name.now)) self.new result }
     {
         self.write_key(self.settings.packed, index, name)
@@ -332,7 +332,7 @@ impl<W: Write> Serializer<W> {
 
     // Appends a name, or the number in its place.
     fn write_key(&mut self, by_number: bool, index: u32, name: &str) -> Result<()>
-        ensures { Serialized W.written W.refuses W.references self.old
+        ensures { Serialized W.written W.refuses W.references W.capacity self.old
             (item (key_document by_number index name.now)) self.new result }
     {
         if by_number {
@@ -344,7 +344,7 @@ impl<W: Write> Serializer<W> {
 
     // Begins an array in which the parts of a variant follow its identifier.
     fn write_legacy_head(&mut self, len: usize, index: u32, name: &str) -> Result<()>
-        ensures { Serialized W.written W.refuses W.references self.old
+        ensures { Serialized W.written W.refuses W.references W.capacity self.old
             (both (array_head (Some len)) (item (unit_variant index name.now))) self.new result }
     {
         self.write_array_head(Some(len))?;
@@ -353,7 +353,7 @@ impl<W: Write> Serializer<W> {
 
     // Begins the map of a variant's name, or of its number, and what it holds.
     fn write_map_key(&mut self, by_number: bool, index: u32, name: &str) -> Result<()>
-        ensures { Serialized W.written W.refuses W.references self.old
+        ensures { Serialized W.written W.refuses W.references W.capacity self.old
             (both (map_head (Some 1)) (item (key_document by_number index name.now)))
             self.new result }
     {
@@ -363,8 +363,8 @@ impl<W: Write> Serializer<W> {
 
     // Appends what precedes the part of a newtype variant.
     pub(crate) fn write_newtype_head(&mut self, index: u32, name: &str) -> Result<()>
-        ensures { Serialized W.written W.refuses W.references self.old (newtype_head index name.now)
-            self.new result }
+        ensures { Serialized W.written W.refuses W.references W.capacity self.old
+            (newtype_head index name.now) self.new result }
     {
         if self.settings.legacy {
             self.write_legacy_head(2, index, name)
@@ -376,7 +376,7 @@ impl<W: Write> Serializer<W> {
     // Appends what precedes the parts of a tuple variant.
     pub(crate) fn write_tuple_head(&mut self, index: u32, name: &str, len: usize) -> Result<()>
         requires { len < 2 ^ 64 - 1 }
-        ensures { Serialized W.written W.refuses W.references self.old
+        ensures { Serialized W.written W.refuses W.references W.capacity self.old
             (tuple_head index name.now len) self.new result }
     {
         if self.settings.legacy {
@@ -388,7 +388,7 @@ impl<W: Write> Serializer<W> {
 
     // Appends what precedes the fields of a struct variant.
     pub(crate) fn write_struct_head(&mut self, index: u32, name: &str, len: usize) -> Result<()>
-        ensures { Serialized W.written W.refuses W.references self.old
+        ensures { Serialized W.written W.refuses W.references W.capacity self.old
             (both (struct_head index name.now) (map_head (Some len))) self.new result }
     {
         self.write_struct_key(index, name)?;
@@ -397,8 +397,8 @@ impl<W: Write> Serializer<W> {
 
     // Appends what precedes the map of a struct variant's fields.
     pub(crate) fn write_struct_key(&mut self, index: u32, name: &str) -> Result<()>
-        ensures { Serialized W.written W.refuses W.references self.old (struct_head index name.now)
-            self.new result }
+        ensures { Serialized W.written W.refuses W.references W.capacity self.old
+            (struct_head index name.now) self.new result }
     {
         if self.settings.legacy {
             self.write_legacy_head(2, index, name)
@@ -409,7 +409,7 @@ impl<W: Write> Serializer<W> {
 
     // Appends the identifier of a field, and what it holds.
     pub(crate) fn write_field<T: Serialize>(&mut self, number: u32, name: &str, v: &T) -> Result<()>
-        ensures { Serialized W.written W.refuses W.references self.old
+        ensures { Serialized W.written W.refuses W.references W.capacity self.old
             (field_part number name.now (T.document v.now)) self.new result }
     {
         self.write_identifier(number, name)?;

@@ -14,7 +14,7 @@ use std::collections::BTreeMap;
 impl<W: Write> Serializer<W> {
     // Appends the items of a list as a sequence.
     pub(crate) fn write_sequence<T: Serialize>(&mut self, list: &[T]) -> Result<()>
-        ensures { Serialized W.written W.refuses W.references self.old
+        ensures { Serialized W.written W.refuses W.references W.capacity self.old
             (item (sequence declared (docs T.document list.now))) self.new result }
     {
         self.write_array_head(Some(list.len()))?;
@@ -23,7 +23,7 @@ impl<W: Write> Serializer<W> {
 
     // Appends the items of a list, one after the other.
     fn write_items<T: Serialize>(&mut self, list: &[T]) -> Result<()>
-        ensures { Serialized W.written W.refuses W.references self.old
+        ensures { Serialized W.written W.refuses W.references W.capacity self.old
             (items (docs T.document list.now) (ending (Some 0))) self.new result }
     {
         for one in list {
@@ -37,7 +37,7 @@ impl<W: Write> Serializer<W> {
         &mut self,
         map: &BTreeMap<K, V>,
     ) -> Result<()>
-        ensures { Serialized W.written W.refuses W.references self.old
+        ensures { Serialized W.written W.refuses W.references W.capacity self.old
             (item (mapping declared (doc_pairs K.document V.document map.now.entries)))
             self.new result }
     {
@@ -50,7 +50,7 @@ impl<W: Write> Serializer<W> {
         &mut self,
         map: &BTreeMap<K, V>,
     ) -> Result<()>
-        ensures { Serialized W.written W.refuses W.references self.old
+        ensures { Serialized W.written W.refuses W.references W.capacity self.old
             (pairs (doc_pairs K.document V.document map.now.entries) (ending (Some 0)))
             self.new result }
     {

@@ -14,11 +14,11 @@ use Rattle.cbor_value.proofs.facts.Views.{count_views, view_bytes, view_text, vi
 use Rattle.cbor_model.specs.Head.{short}
 use Rattle.cbor_model.specs.Plain as plain
 use Rattle.cbor_model.specs.Spelling.{spell_all, spell_pairs}
-use Rattle.cbor_model.specs.Canonical.{canon, canonical_all, canonical_pairs}
+use Rattle.cbor_model.specs.Canonical.{canon, canonical_all, canonical_pairs, ArePairsStorable}
 use Rattle.cbor_model.specs.Document.{document_of, document_pairs_of}
 use Rattle.cbor_model.specs.Unstored.{StandsBeforePairs}
 use Rattle.cbor_value.specs.View.{view, views, map_view, pair_views}
-use Rattle.cbor_ser.proofs.Beginnings.{and_then, stops, same_bytes, nothing}
+use Rattle.cbor_ser.proofs.Beginnings.{and_then, stops, same_bytes, nothing, same_room, room_after, refused_at, fits_then, fits_stops, same_fits}
 use Rattle.cbor_ser.proofs.Writing.{array_spelled, map_spelled, tag_spelled, item_spelled, none_spelled, pair_spelled, no_pair_spelled, storable_from, storable_at, key_storable_at, value_storable_at, pair_storable_from, refused_inside}
 use Rattle.cbor_ser.proofs.Ranges.{in_memory_from, pair_in_memory_from}
 use Rattle.cbor_ser.proofs.items.+value.Goals as goal
@@ -94,6 +94,9 @@ write_items-loop-item-preserved g t c =
       before = λ p l front h. passed (view item) p l _ _ _ _ front c.in_ok-write_value.ensures.storable c.in_ok-write_value.ensures.written.ok
           (first_item items i item p l _ _ front c.loop-item-test.true c.item-item.is (c.loop-item.invariant.before p l front h));
       same_references = c.in_ok-write_value.ensures.same_references ∙ c.loop-item.invariant.same_references;
+      same_capacity = c.in_ok-write_value.ensures.same_capacity ∙ c.loop-item.invariant.same_capacity;
+      room = λ h. room_after _ _ _ _ (canon (view item)) _ c.in_ok-write_value.ensures.same_capacity c.in_ok-write_value.ensures.written.ok
+          (same_room _ _ (sym (item_spelled items i item c.loop-item-test.true c.item-item.is)) (c.loop-item.invariant.room h));
     }
 
 pub write_pairs-returns-in_err-write_value-clause-written : goal.write_pairs-returns-in_err-write_value-clause-written
@@ -143,6 +146,10 @@ write_pairs-loop-key-preserved g t c =
           (passed (view pair.0) p l _ _ _ _ front c.in_ok-write_value.ensures.storable c.in_ok-write_value.ensures.written.ok
           (first_pair pairs i pair p l _ _ front c.loop-key-test.true c.loop-key-item.is (c.loop-key.invariant.before p l front h)));
       same_references = c.in_ok-write_value-2.ensures.same_references ∙ (c.in_ok-write_value.ensures.same_references ∙ c.loop-key.invariant.same_references);
+      same_capacity = c.in_ok-write_value-2.ensures.same_capacity ∙ (c.in_ok-write_value.ensures.same_capacity ∙ c.loop-key.invariant.same_capacity);
+      room = λ h. room_after _ _ _ _ (canon (view pair.1)) _ c.in_ok-write_value-2.ensures.same_capacity c.in_ok-write_value-2.ensures.written.ok
+          (room_after _ _ _ _ (canon (view pair.0)) _ c.in_ok-write_value.ensures.same_capacity c.in_ok-write_value.ensures.written.ok
+          (same_room _ _ (sym (pair_spelled pairs i pair c.loop-key-test.true c.loop-key-item.is)) (c.loop-key.invariant.room h)));
     }
 
 -- ---- strings
@@ -249,3 +256,73 @@ write_value-returns-in-Tag-clause-before g t c =
     let same : view c.args.value.now ≡ plain.tag c.in-Tag.tag (view c.deref-in-Tag.result.now) =
     ap view c.in-Tag.is ∙ view_tag _ _ ∙ ap (λ (w : Value). plain.tag c.in-Tag.tag (view w)) (sym c.deref-in-Tag.ensures) in
     subst (λ (v : Val). EndsBefore (document_of v) (g.W.Write.written c.args.writer.now) (g.W.Write.written c.write_tag.new.writer)) (sym same) c.write_tag.ensures.before
+
+-- ---- what fits is written
+
+pub write_tag-returns-in_err-write_head-clause-fits : goal.write_tag-returns-in_err-write_head-clause-fits
+write_tag-returns-in_err-write_head-clause-fits g t c storable =
+    let v = view c.args.inner.now in
+    same_fits (tag_spelled c.args.tag v) (fits_stops (canon v) _ c.in_err-write_head.ensures.fits)
+
+pub write_tag-returns-clause-fits : goal.write_tag-returns-clause-fits
+write_tag-returns-clause-fits g t c storable =
+    let v = view c.args.inner.now in
+    same_fits (tag_spelled c.args.tag v)
+    (fits_then _ _ _ _ (short 6 c.args.tag) (canon v) _ c.in_ok-write_head.ensures.same_capacity c.in_ok-write_head.ensures.written.ok (c.write_value.ensures.fits storable))
+
+pub write_array-returns-in_err-write_head-clause-fits : goal.write_array-returns-in_err-write_head-clause-fits
+write_array-returns-in_err-write_head-clause-fits g t c storable =
+    let items = c.args.items.now in
+    same_fits (array_spelled (views items) (length items) (sym (count_views items)))
+    (fits_stops (spell_all (canonical_all (views items))) _ c.in_err-write_head.ensures.fits)
+
+pub write_array-returns-clause-fits : goal.write_array-returns-clause-fits
+write_array-returns-clause-fits g t c storable =
+    let items = c.args.items.now in
+    same_fits (array_spelled (views items) (length items) (sym (count_views items)))
+    (fits_then _ _ _ _ (short 4 (length items)) (spell_all (canonical_all (views items))) _ c.in_ok-write_head.ensures.same_capacity c.in_ok-write_head.ensures.written.ok (c.write_items.ensures.fits storable))
+
+pub write_map-returns-in_err-write_head-clause-fits : goal.write_map-returns-in_err-write_head-clause-fits
+write_map-returns-in_err-write_head-clause-fits g t c storable =
+    let pairs = map_view c.args.map.now in
+    same_fits (map_spelled pairs c.len.result c.len.ensures.listed)
+    (fits_stops (spell_pairs (canonical_pairs pairs)) _ c.in_err-write_head.ensures.fits)
+
+pub write_map-returns-clause-fits : goal.write_map-returns-clause-fits
+write_map-returns-clause-fits g t c storable =
+    let pairs = map_view c.args.map.now in
+    let listed : pair_views c.as_slice.result.now ≡ pairs = search rules in
+    same_fits (ap (λ (ps : Pairs). short 5 c.len.result ++ spell_pairs (canonical_pairs ps)) listed ∙ map_spelled pairs c.len.result c.len.ensures.listed)
+    (fits_then _ _ _ _ (short 5 c.len.result) (spell_pairs (canonical_pairs (pair_views c.as_slice.result.now))) _ c.in_ok-write_head.ensures.same_capacity c.in_ok-write_head.ensures.written.ok
+    (c.write_pairs.ensures.fits (subst ArePairsStorable (sym listed) storable)))
+
+pub write_items-returns-in_err-write_value-clause-fits : goal.write_items-returns-in_err-write_value-clause-fits
+write_items-returns-in_err-write_value-clause-fits g t c storable =
+    let items = c.args.items.now in
+    let i = c.loop-item.item-index in
+    let item = c.item-item.result in
+    record {
+      taken = λ room. absurd (refused_at (canon (view item)) _ (c.in_err-write_value.ensures.fits (storable_at items i item c.loop-item-test.true c.item-item.is storable))
+          (same_room _ _ (sym (item_spelled items i item c.loop-item-test.true c.item-item.is)) (c.loop-item.invariant.room room)));
+    }
+
+pub write_pairs-returns-in_err-write_value-clause-fits : goal.write_pairs-returns-in_err-write_value-clause-fits
+write_pairs-returns-in_err-write_value-clause-fits g t c storable =
+    let pairs = c.args.pairs.now in
+    let i = c.loop-key.key-index in
+    let pair = c.loop-key-item.result in
+    record {
+      taken = λ room. absurd (refused_at (canon (view pair.0)) _ (c.in_err-write_value.ensures.fits (key_storable_at pairs i pair c.loop-key-test.true c.loop-key-item.is storable))
+          (same_room _ _ (sym (pair_spelled pairs i pair c.loop-key-test.true c.loop-key-item.is)) (c.loop-key.invariant.room room)));
+    }
+
+pub write_pairs-returns-in_err-write_value-2-clause-fits : goal.write_pairs-returns-in_err-write_value-2-clause-fits
+write_pairs-returns-in_err-write_value-2-clause-fits g t c storable =
+    let pairs = c.args.pairs.now in
+    let i = c.loop-key.key-index in
+    let pair = c.loop-key-item.result in
+    record {
+      taken = λ room. absurd (refused_at (canon (view pair.1)) _ (c.in_err-write_value-2.ensures.fits (value_storable_at pairs i pair c.loop-key-test.true c.loop-key-item.is storable))
+          (room_after _ _ _ _ (canon (view pair.0)) _ c.in_ok-write_value.ensures.same_capacity c.in_ok-write_value.ensures.written.ok
+          (same_room _ _ (sym (pair_spelled pairs i pair c.loop-key-test.true c.loop-key-item.is)) (c.loop-key.invariant.room room))));
+    }

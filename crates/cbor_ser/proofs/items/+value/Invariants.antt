@@ -3,7 +3,7 @@ use Rattle.std.specs.Prelude.{Result}
 use Rattle.cbor_model.specs.Spelling.{spell_all, spell_pairs}
 use Rattle.cbor_model.specs.Canonical.{canonical_all, canonical_pairs, AreStorable, ArePairsStorable}
 use Rattle.cbor_model.specs.InMemory.{AreInMemory, ArePairsInMemory}
-use Rattle.cbor_io.specs.Write.{Wrote}
+use Rattle.cbor_io.specs.Write.{Wrote, HasRoomFor}
 use Rattle.cbor_value.specs.View.{view, views, map_view, pair_views}
 use Rattle.cbor_ser.specs.declared.items.Refused.{Refused}
 use Rattle.cbor_model.specs.Document.{documents_of, document_pairs_of}
@@ -23,6 +23,9 @@ invariant-write_items-loop-item g l = record {
   before : (p q : Bool) (front : List ℕ) → StandsBeforeAny (documents_of (views l.items)) p q front
       → Later (StandsBeforeAny (documents_of (views (drop l.item-index l.items))) p q) (g.W.Write.written l.fn.writer) front (g.W.Write.written l.writer);
   same_references : g.W.Write.references l.writer ≡ g.W.Write.references l.fn.writer;
+  same_capacity : g.W.Write.capacity l.writer ≡ g.W.Write.capacity l.fn.writer;
+  room : HasRoomFor (g.W.Write.capacity l.fn.writer) (g.W.Write.written l.fn.writer) (spell_all (canonical_all (views l.items)))
+      → HasRoomFor (g.W.Write.capacity l.writer) (g.W.Write.written l.writer) (spell_all (canonical_all (views (drop l.item-index l.items))));
 }
 
 abbrev pub invariant-write_pairs-loop-key : goal.invariant-write_pairs-loop-key
@@ -35,6 +38,9 @@ invariant-write_pairs-loop-key g l = record {
   before : (p q : Bool) (front : List ℕ) → StandsBeforePairs (document_pairs_of (pair_views l.pairs)) p q front
       → Later (StandsBeforePairs (document_pairs_of (pair_views (drop l.key-index l.pairs))) p q) (g.W.Write.written l.fn.writer) front (g.W.Write.written l.writer);
   same_references : g.W.Write.references l.writer ≡ g.W.Write.references l.fn.writer;
+  same_capacity : g.W.Write.capacity l.writer ≡ g.W.Write.capacity l.fn.writer;
+  room : HasRoomFor (g.W.Write.capacity l.fn.writer) (g.W.Write.written l.fn.writer) (spell_pairs (canonical_pairs (pair_views l.pairs)))
+      → HasRoomFor (g.W.Write.capacity l.writer) (g.W.Write.written l.writer) (spell_pairs (canonical_pairs (pair_views (drop l.key-index l.pairs))));
 }
 
 abbrev pub decreases-write_value : goal.decreases-write_value

@@ -1,6 +1,6 @@
 use Rattle.std.proofs.Common.{refl}
 use Rattle.std.proofs.lemmas.Int.{to_z-of_z}
-use Rattle.cbor_ser.proofs.Beginnings.{told, told_refused, told_ok, told_why}
+use Rattle.cbor_ser.proofs.Beginnings.{told, told_refused, told_fits, told_ok, told_why}
 use Rattle.cbor_ser.proofs.Steps.{serialized_value, always}
 use Rattle.cbor_ser.proofs.Unstored.{integer_before}
 use Rattle.cbor_model.specs.Plain as plain
@@ -15,7 +15,8 @@ returns-clause-written g c =
     let refused = told_refused _ done.result _ c.answer.result c.answer.ensures.ok c.answer.ensures.err done.ensures.refused in
     let stored = told_ok _ _ done.result _ c.answer.result c.answer.ensures.err done.ensures.refused done.ensures.storable in
     let wrote = told _ done.result _ c.answer.result c.answer.ensures.ok c.answer.ensures.err done.ensures.refused done.ensures.written in
-    serialized_value (plain.integer c.args.v) c.answer.result refl done.ensures.same_references (simp to_z-of_z at stored) (always c.answer.result) (simp to_z-of_z at wrote) (simp to_z-of_z at refused)
+    serialized_value (plain.integer c.args.v) c.answer.result refl done.ensures.same_references done.ensures.same_capacity (simp to_z-of_z at stored) (always c.answer.result) (simp to_z-of_z at wrote) (simp to_z-of_z at refused)
+    (λ storable. told_fits done.result c.answer.result c.answer.ensures.ok (simp to_z-of_z at (done.ensures.fits (simp to_z-of_z storable))))
     (integer_before g.W.Write.written c.args.v _ _ (λ not. done.ensures.kept (simp to_z-of_z not)))
 
 pub returns-clause-unstorable : goal.returns-clause-unstorable

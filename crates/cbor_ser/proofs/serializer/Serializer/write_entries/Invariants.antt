@@ -10,5 +10,5 @@ use Rattle.cbor_ser.proofs.serializer.Serializer.write_entries.Given as goal
 -- What is written next, with what follows, is all of it.
 abbrev pub invariant-loop-key : goal.invariant-loop-key
 invariant-loop-key g l = (new : Serializer g.row.W.Denot) (r : Result (Unit {0}) Error)
-    → Serialized g.W.Write.written g.W.Write.refuses g.W.Write.references l.self (pairs (doc_pairs g.K.Serialize.document g.V.Serialize.document l.key-iterator) (ending (Some 0))) new r
-    → Serialized g.W.Write.written g.W.Write.refuses g.W.Write.references l.fn.self (pairs (doc_pairs g.K.Serialize.document g.V.Serialize.document l.map.entries) (ending (Some 0))) new r
+    → Serialized g.W.Write.written g.W.Write.refuses g.W.Write.references g.W.Write.capacity l.self (pairs (doc_pairs g.K.Serialize.document g.V.Serialize.document l.key-iterator) (ending (Some 0))) new r
+    → Serialized g.W.Write.written g.W.Write.refuses g.W.Write.references g.W.Write.capacity l.fn.self (pairs (doc_pairs g.K.Serialize.document g.V.Serialize.document l.map.entries) (ending (Some 0))) new r

@@ -10,5 +10,5 @@ use Rattle.cbor_ser.proofs.serializer.Serializer.write_items.Given as goal
 -- What is written next, with what follows, is all of it.
 abbrev pub invariant-loop-one : goal.invariant-loop-one
 invariant-loop-one g l = (new : Serializer g.row.W.Denot) (r : Result (Unit {0}) Error)
-    → Serialized g.W.Write.written g.W.Write.refuses g.W.Write.references l.self (items (docs g.T.Serialize.document (drop l.one-index l.list)) (ending (Some 0))) new r
-    → Serialized g.W.Write.written g.W.Write.refuses g.W.Write.references l.fn.self (items (docs g.T.Serialize.document l.list) (ending (Some 0))) new r
+    → Serialized g.W.Write.written g.W.Write.refuses g.W.Write.references g.W.Write.capacity l.self (items (docs g.T.Serialize.document (drop l.one-index l.list)) (ending (Some 0))) new r
+    → Serialized g.W.Write.written g.W.Write.refuses g.W.Write.references g.W.Write.capacity l.fn.self (items (docs g.T.Serialize.document l.list) (ending (Some 0))) new r

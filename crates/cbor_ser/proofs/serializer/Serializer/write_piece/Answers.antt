@@ -5,4 +5,4 @@ use Rattle.cbor_ser.proofs.serializer.Serializer.write_piece.Goals as goal
 pub returns : goal.returns
 returns g c part spells =
     let done = c.write_all in
-    serialized part done.result spells refl done.ensures.same_references done.ensures.written done.ensures.refused
+    serialized part done.result spells refl done.ensures.same_references done.ensures.same_capacity done.ensures.written done.ensures.refused done.ensures.fits
