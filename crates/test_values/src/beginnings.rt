@@ -1,7 +1,7 @@
 //! What a writer leaves is a beginning of the whole.
 
-ghost use Rattle.std.specs.Prelude.{◌≡◌, false, take, IfOk, IsTrue};
-ghost use Rattle.cbor_model.specs.Document.{document_bytes};
+ghost use Rattle.std.specs.Prelude.{◌≡◌, ◌↔◌, ◌≤◌, false, length, take, IfOk, IsOk, IsTrue};
+ghost use Rattle.cbor_model.specs.Document.{document_bytes, IsStorableDocument};
 
 use cbor_io::error;
 use cbor_ser::{Serialize, SliceWrite, to_vec, to_writer};
@@ -22,11 +22,13 @@ fn leaves_a_beginning(alloc: Global, room: &mut [u8], value: &Value) -> error::R
     Ok(whole.starts_with(&slice[..count]))
 }
 
-/// Writes a document to the front of a slice, and answers how long it is. The caller's own slice
-/// then holds those bytes.
+/// Writes a document to the front of a slice, and answers how long it is: exactly where it can be
+/// stored and is no longer than the slice. The caller's own slice then holds those bytes.
 fn fill_front<T: Serialize>(alloc: Global, room: &mut [u8], value: &T) -> error::Result<usize>
-    ensures { IfOk result
+    ensures written { IfOk result
         (λ n. take n room.new ≡ document_bytes (T.document value.now) false false) }
+    ensures exact { IsOk result ↔ (IsStorableDocument (T.document value.now)
+        × (length (document_bytes (T.document value.now) false false) ≤ length room.old)) }
 {
     let mut sink = SliceWrite::new(room);
     to_writer(alloc, &mut sink, value)?;
@@ -38,6 +40,8 @@ fn fills_the_front_of_a_slice(rt: HostRuntime) -> Result<(), Fail> {
     let mut room = [7; 4];
     assert_eq!(rt; fill_front(rt.alloc(), &mut room, &"ab")?, 3);
     assert_eq!(rt; room.as_slice(), b"\x62ab\x07".as_slice());
+    assert_eq!(rt; fill_front(rt.alloc(), &mut room, &"abc")?, 4);
+    assert!(rt; fill_front(rt.alloc(), &mut room, &"abcd").is_err());
     Ok(())
 }
 
