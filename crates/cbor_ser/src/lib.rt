@@ -101,8 +101,8 @@ pub fn to_vec_packed<T: Serialize>(alloc: Global, value: &T) -> Result<Vec<u8>>
 /// text of the first refusal alone. After an Err, a sink that tells its bytes holds what it had and
 /// a prefix of the document's bytes: where a [`SliceWrite`] is too short, the bytes written are
 /// a prefix of what `to_vec` returns, and where a number is refused, nothing of what follows it
-/// was written. A sink that has a capacity, as a [`SliceWrite`] has, refuses no document that can be
-/// stored and fits what is left of it.
+/// was written. A sink that has a capacity, as a [`SliceWrite`] has its length, refuses no document
+/// that can be stored and fits what is left of it.
 ///
 /// A `Vec<u8>` grows:
 ///
@@ -112,7 +112,7 @@ pub fn to_vec_packed<T: Serialize>(alloc: Global, value: &T) -> Result<Vec<u8>>
 /// assert_eq!(rt; bytes.as_slice(), b"\x39\x01\x2b".as_slice());
 /// ```
 ///
-/// A [`SliceWrite`] takes what fits, and nothing else:
+/// A [`SliceWrite`] takes what fits:
 ///
 /// ```rust
 /// let mut room = [0; 4];

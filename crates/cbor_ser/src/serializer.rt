@@ -37,7 +37,8 @@ pub(crate) struct Settings {
 ///
 /// Each call appends the item's shortest spelling, a head as one piece and what a string holds as
 /// another. Where the sink refuses, it holds what it had and a prefix of the item, if it tells
-/// its bytes. The allocator is for the text of a refusal alone.
+/// its bytes. One that has a capacity refuses no item that can be stored and fits what is left of
+/// it. The allocator is for the text of a refusal alone.
 ///
 /// ```rust
 /// let mut ser = Serializer::new(alloc, Vec::new(alloc));
