@@ -150,6 +150,12 @@ TellsNoKey kept refused.OutOfMemory = ⊤
 TellsNoKey None refused.Kept = ⊤
 TellsNoKey (Some q) refused.Kept = why q ≢ reading.WrongStructFormat
 
+-- What is kept of a refusal isn't that an allocation failed.
+abbrev pub TellsNoMemory : Option ReadError → Refused → Type 0
+TellsNoMemory kept refused.OutOfMemory = ⊥
+TellsNoMemory None refused.Kept = ⊥
+TellsNoMemory (Some q) refused.Kept = why q ≢ reading.OutOfMemory
+
 -- the error that a call makes of a refusal
 abbrev pub IsErrorOf : Option ReadError → Refused → Error → Type 0
 IsErrorOf kept refused.OutOfMemory e = IsOutOfMemory e

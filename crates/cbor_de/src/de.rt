@@ -9,6 +9,7 @@ ghost use Rattle.cbor_model.specs.Reader.{byte_at};
 ghost use Rattle.cbor_de.specs.AtEnd.{EndTakes, EndStops};
 ghost use Rattle.cbor_de.specs.Deserializer.{source_of, levels_of, formats_of};
 ghost use Rattle.cbor_de.specs.Gives.{Gives, Ends, Onward, Keeps, IsAt, TellsNoKey, end_at};
+ghost use Rattle.cbor_de.specs.Gives.{TellsNoMemory};
 ghost use Rattle.cbor_de.specs.declared.refusal.Refused.TheVariants.{Kept};
 
 use crate::formats::Formats;
@@ -163,6 +164,7 @@ impl<R: Source> Deserializer<R> {
         ensures taken { OnOk result (Onward (R.source self.old.source) (R.source self.new.source)) }
         ensures buffer { OnOk result (Keeps (R.source self.old.source) (R.source self.new.source)) }
         ensures no_key { IfErr result (TellsNoKey self.new.refusal) }
+        ensures memory { IfErr result (TellsNoMemory self.new.refusal) }
         ensures levels { self.new.levels ≡ self.old.levels }
         ensures formats { self.new.formats ≡ self.old.formats }
     {
@@ -183,6 +185,7 @@ impl<R: Source> Deserializer<R> {
         ensures taken { OnOk result (Onward (R.source self.old.source) (R.source self.new.source)) }
         ensures buffer { OnOk result (Keeps (R.source self.old.source) (R.source self.new.source)) }
         ensures no_key { IfErr result (TellsNoKey self.new.refusal) }
+        ensures memory { IfErr result (TellsNoMemory self.new.refusal) }
         ensures levels { self.new.levels ≡ self.old.levels }
         ensures formats { self.new.formats ≡ self.old.formats }
     {
@@ -202,6 +205,7 @@ impl<R: Source> Deserializer<R> {
         ensures kept { OnErr result (IsSomeAnd self.new.refusal
             (IsAt RecursionLimitExceeded (R.source self.old.source).offset)) }
         ensures no_key { IfErr result (TellsNoKey self.new.refusal) }
+        ensures memory { IfErr result (TellsNoMemory self.new.refusal) }
         ensures source { self.new.source ≡ self.old.source }
         ensures formats { self.new.formats ≡ self.old.formats }
     {

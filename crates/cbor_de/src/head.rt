@@ -6,7 +6,7 @@ ghost use Rattle.std.specs.Int.{w8, w16, w32, w64};
 ghost use Rattle.cbor_model.specs.Reader.{number_at, number_behind};
 ghost use Rattle.cbor_model.specs.Major.{major_of};
 ghost use Rattle.cbor_io.specs.Head.{major_number};
-ghost use Rattle.cbor_de.specs.Gives.{Gives, Keeps, TellsNoKey};
+ghost use Rattle.cbor_de.specs.Gives.{Gives, Keeps, TellsNoKey, TellsNoMemory};
 ghost use Rattle.cbor_de.specs.Heads.{HeadGives, NumberGives, opening_at, head_at, head_of};
 ghost use Rattle.cbor_de.specs.Heads.{simple_head};
 ghost use Rattle.cbor_de.specs.declared.head.Head.TheVariants.{Float as FloatHead, Text};
@@ -79,6 +79,7 @@ impl<R: Source> Deserializer<R> {
         ensures read { NumberGives (λ bits. FloatHead (Single bits)) R.refusals
             (R.source self.old.source) (R.source self.new.source) self.new.refusal result }
         ensures no_key { IfErr result (TellsNoKey self.new.refusal) }
+        ensures memory { IfErr result (TellsNoMemory self.new.refusal) }
         ensures levels { self.new.levels ≡ self.old.levels }
         ensures formats { self.new.formats ≡ self.old.formats }
     {
@@ -101,6 +102,7 @@ impl<R: Source> Deserializer<R> {
         ensures read { NumberGives (λ bits. FloatHead (Double bits)) R.refusals
             (R.source self.old.source) (R.source self.new.source) self.new.refusal result }
         ensures no_key { IfErr result (TellsNoKey self.new.refusal) }
+        ensures memory { IfErr result (TellsNoMemory self.new.refusal) }
         ensures levels { self.new.levels ≡ self.old.levels }
         ensures formats { self.new.formats ≡ self.old.formats }
     {
@@ -122,6 +124,7 @@ impl<R: Source> Deserializer<R> {
         ensures read { HeadGives R.refusals (head_at first)
             (R.source self.old.source) (R.source self.new.source) self.new.refusal result }
         ensures no_key { IfErr result (TellsNoKey self.new.refusal) }
+        ensures memory { IfErr result (TellsNoMemory self.new.refusal) }
         ensures levels { self.new.levels ≡ self.old.levels }
         ensures formats { self.new.formats ≡ self.old.formats }
     {
@@ -155,6 +158,7 @@ impl<R: Source> Deserializer<R> {
         ensures read { HeadGives R.refusals (simple_head low)
             (R.source self.old.source) (R.source self.new.source) self.new.refusal result }
         ensures no_key { IfErr result (TellsNoKey self.new.refusal) }
+        ensures memory { IfErr result (TellsNoMemory self.new.refusal) }
         ensures levels { self.new.levels ≡ self.old.levels }
         ensures formats { self.new.formats ≡ self.old.formats }
     {
@@ -177,6 +181,7 @@ impl<R: Source> Deserializer<R> {
         ensures read { HeadGives R.refusals (head_of (major_of (major_number major)) 31)
             (R.source self.old.source) (R.source self.new.source) self.new.refusal result }
         ensures no_key { IfErr result (TellsNoKey self.new.refusal) }
+        ensures memory { IfErr result (TellsNoMemory self.new.refusal) }
         ensures levels { self.new.levels ≡ self.old.levels }
         ensures formats { self.new.formats ≡ self.old.formats }
     {
@@ -197,6 +202,7 @@ impl<R: Source> Deserializer<R> {
             (R.source self.old.source) (R.source self.new.source) self.new.refusal result }
         ensures buffer { OnOk result (Keeps (R.source self.old.source) (R.source self.new.source)) }
         ensures no_key { IfErr result (TellsNoKey self.new.refusal) }
+        ensures memory { IfErr result (TellsNoMemory self.new.refusal) }
         ensures levels { self.new.levels ≡ self.old.levels }
         ensures formats { self.new.formats ≡ self.old.formats }
     {
@@ -217,6 +223,7 @@ impl<R: Source> Deserializer<R> {
             (R.source self.old.source) (R.source self.new.source) self.new.refusal result }
         ensures buffer { OnOk result (Keeps (R.source self.old.source) (R.source self.new.source)) }
         ensures no_key { IfErr result (TellsNoKey self.new.refusal) }
+        ensures memory { IfErr result (TellsNoMemory self.new.refusal) }
         ensures levels { self.new.levels ≡ self.old.levels }
         ensures formats { self.new.formats ≡ self.old.formats }
     {
@@ -232,6 +239,7 @@ impl<R: Source> Deserializer<R> {
             (R.source self.old.source) (R.source self.new.source) self.new.refusal result }
         ensures buffer { OnOk result (Keeps (R.source self.old.source) (R.source self.new.source)) }
         ensures no_key { IfErr result (TellsNoKey self.new.refusal) }
+        ensures memory { IfErr result (TellsNoMemory self.new.refusal) }
         ensures levels { self.new.levels ≡ self.old.levels }
         ensures formats { self.new.formats ≡ self.old.formats }
     {
@@ -247,6 +255,7 @@ impl<R: Source> Deserializer<R> {
             (R.source self.old.source) (R.source self.new.source) self.new.refusal result }
         ensures buffer { OnOk result (Keeps (R.source self.old.source) (R.source self.new.source)) }
         ensures no_key { IfErr result (TellsNoKey self.new.refusal) }
+        ensures memory { IfErr result (TellsNoMemory self.new.refusal) }
         ensures levels { self.new.levels ≡ self.old.levels }
         ensures formats { self.new.formats ≡ self.old.formats }
     {
@@ -262,6 +271,7 @@ impl<R: Source> Deserializer<R> {
             (R.source self.old.source) (R.source self.new.source) self.new.refusal result }
         ensures buffer { OnOk result (Keeps (R.source self.old.source) (R.source self.new.source)) }
         ensures no_key { IfErr result (TellsNoKey self.new.refusal) }
+        ensures memory { IfErr result (TellsNoMemory self.new.refusal) }
         ensures levels { self.new.levels ≡ self.old.levels }
         ensures formats { self.new.formats ≡ self.old.formats }
     {
@@ -279,6 +289,7 @@ impl<R: Source> Deserializer<R> {
         ensures kept { OnErr result (IsSomeAnd self.new.refusal (RefusedInto R.refusals
             (R.source self.old.source) (R.source self.new.source) (length bytes.old))) }
         ensures no_key { IfErr result (TellsNoKey self.new.refusal) }
+        ensures memory { IfErr result (TellsNoMemory self.new.refusal) }
         ensures levels { self.new.levels ≡ self.old.levels }
         ensures formats { self.new.formats ≡ self.old.formats }
     {
@@ -301,6 +312,7 @@ impl<R: Source> Deserializer<R> {
         ensures kept { OnErr result (IsSomeAnd self.new.refusal (RefusedInto R.refusals
             (R.source self.old.source) (R.source self.new.source) (length bytes.old))) }
         ensures no_key { IfErr result (TellsNoKey self.new.refusal) }
+        ensures memory { IfErr result (TellsNoMemory self.new.refusal) }
         ensures levels { self.new.levels ≡ self.old.levels }
         ensures formats { self.new.formats ≡ self.old.formats }
     {

@@ -3,7 +3,7 @@
 ghost use Rattle.std.specs.Prelude.{◌≡◌, IfOk, IfErr};
 ghost use Rattle.cbor_model.specs.Reader.{next_at, to_break};
 ghost use Rattle.cbor_de.specs.Cursor.{behind_next, Counts, ended_at};
-ghost use Rattle.cbor_de.specs.Gives.{Gives, TellsNoKey};
+ghost use Rattle.cbor_de.specs.Gives.{Gives, TellsNoKey, TellsNoMemory};
 ghost use Rattle.cbor_de.specs.Heads.{end_of, remaining_of};
 ghost use Rattle.cbor_de.specs.declared.cursor.Remaining.TheVariants.{ToBreak};
 
@@ -22,6 +22,7 @@ impl<R: Source> Deserializer<R> {
             (λ l. next_at (end_of of) (remaining_of remaining.old))
             (R.source self.old.source) (R.source self.new.source) self.new.refusal result }
         ensures no_key { IfErr result (TellsNoKey self.new.refusal) }
+        ensures memory { IfErr result (TellsNoMemory self.new.refusal) }
         ensures levels { self.new.levels ≡ self.old.levels }
         ensures formats { self.new.formats ≡ self.old.formats }
         ensures counts { IfOk result (λ more. Counts remaining.old more remaining.new) }
@@ -47,6 +48,7 @@ impl<R: Source> Deserializer<R> {
         ensures read { Gives R.refusals (behind_next ToBreak) (λ l. next_at (end_of of) to_break)
             (R.source self.old.source) (R.source self.new.source) self.new.refusal result }
         ensures no_key { IfErr result (TellsNoKey self.new.refusal) }
+        ensures memory { IfErr result (TellsNoMemory self.new.refusal) }
         ensures levels { self.new.levels ≡ self.old.levels }
         ensures formats { self.new.formats ≡ self.old.formats }
     {
@@ -71,6 +73,7 @@ impl<R: Source> Deserializer<R> {
             (λ l. ended_at (end_of of) (remaining_of remaining))
             (R.source self.old.source) (R.source self.new.source) self.new.refusal result }
         ensures no_key { IfErr result (TellsNoKey self.new.refusal) }
+        ensures memory { IfErr result (TellsNoMemory self.new.refusal) }
         ensures levels { self.new.levels ≡ self.old.levels }
         ensures formats { self.new.formats ≡ self.old.formats }
     {
@@ -86,6 +89,7 @@ impl<R: Source> Deserializer<R> {
         ensures read { Gives R.refusals (λ u. u) (λ l. ended_at (end_of of) to_break)
             (R.source self.old.source) (R.source self.new.source) self.new.refusal result }
         ensures no_key { IfErr result (TellsNoKey self.new.refusal) }
+        ensures memory { IfErr result (TellsNoMemory self.new.refusal) }
         ensures levels { self.new.levels ≡ self.old.levels }
         ensures formats { self.new.formats ≡ self.old.formats }
     {

@@ -4,11 +4,12 @@
 //! that the step belongs to ends: an error is large, and would be copied at each step on the way
 //! out.
 
-ghost use Rattle.std.specs.Prelude.{◌≡◌, ◌+◌, ◌≤◌, Some};
+ghost use Rattle.std.specs.Prelude.{◌≡◌, ◌≢◌, ◌+◌, ◌≤◌, Some};
 ghost use Rattle.std.specs.Option.{IsSomeAnd};
 ghost use Rattle.cbor_io.specs.Error.{code_of};
+ghost use Rattle.cbor_io.specs.declared.error.ErrorCode.TheVariants.{OutOfMemory};
 ghost use Rattle.cbor_io.specs.ReadError.{why, place, HasNoPlace};
-ghost use Rattle.cbor_de.specs.Gives.{IsAt, IsErrorOf, TellsNoForm, TellsNoKey};
+ghost use Rattle.cbor_de.specs.Gives.{IsAt, IsErrorOf, TellsNoForm, TellsNoKey, TellsNoMemory};
 ghost use Rattle.cbor_de.specs.declared.refusal.Refused.TheVariants.{Kept};
 ghost use Rattle.cbor_io.specs.declared.read_error.ReadErrorCode.TheVariants.{InvalidUtf8};
 
@@ -114,6 +115,7 @@ impl<R: Source> Deserializer<R> {
     pub fn error(&mut self, refused: Refused) -> Error
         ensures tells { IsErrorOf self.old.refusal refused result }
         ensures no_form { TellsNoKey self.old.refusal refused → TellsNoForm (code_of result) }
+        ensures memory { TellsNoMemory self.old.refusal refused → code_of result ≢ OutOfMemory }
         ensures source { self.new.source ≡ self.old.source }
         ensures levels { self.new.levels ≡ self.old.levels }
         ensures formats { self.new.formats ≡ self.old.formats }

@@ -5,12 +5,14 @@
 //! (the `Input` that each source of this crate is).
 #![tactic(auto)]
 
-ghost use Rattle.std.specs.Prelude.{◌≡◌, ℕ, ◌<◌, ◌≤◌, ◌^◌, Bool, List, [], ◌∷◌, length, take};
+ghost use Rattle.std.specs.Prelude.{◌≡◌, ◌≢◌, ℕ, ◌<◌, ◌≤◌, ◌^◌, Bool, List, [], ◌∷◌, length, take};
 ghost use Rattle.std.specs.Prelude.{IfOk, IfErr, OnOk, OnErr, IfSome, IsSome, MatchOption};
 ghost use Rattle.std.specs.Prelude.{Some, Option};
 ghost use types.Logic.{sem};
 ghost use Rattle.std.specs.Io.BufRead.{Rests};
 ghost use Rattle.std.specs.Io.KnownBytes.{Keeps};
+ghost use Rattle.cbor_io.specs.ReadError.{why};
+ghost use Rattle.cbor_io.specs.declared.read_error.ReadErrorCode.TheVariants.{OutOfMemory};
 ghost use Rattle.cbor_read.specs.Source.{Input, Lends, TookKept, Stays, KeepsBytes, Buffered};
 ghost use Rattle.cbor_read.specs.Source.{TookBehind, FitsRoom, RefusedToBuffer, RefusedInto};
 ghost use Rattle.cbor_read.specs.Source.{RefusedByte, or_memory, NextDoes, ReadLeaves, part_bytes};
@@ -322,11 +324,12 @@ pub trait Source {
         ensures kept { OnErr result (Lengthened (source self.old) (source self.new)
             out.old.items out.new.items) };
 
-    /// Takes as many bytes as `buf` has room for.
+    /// Takes as many bytes as `buf` has room for. No memory is asked for.
     fn read_into(&mut self, buf: &mut [u8]) -> Result<()>
         ensures ok { OnOk result (TookKept (source self.old) (source self.new) buf.new) }
         ensures err { IfErr result
-            (RefusedInto refusals (source self.old) (source self.new) (length buf.old)) };
+            (RefusedInto refusals (source self.old) (source self.new) (length buf.old)) }
+        ensures memory { IfErr result (λ e. why e ≢ OutOfMemory) };
 
     /// Takes n bytes, which are handed to nobody.
     fn skip(&mut self, n: usize) -> Result<()>
