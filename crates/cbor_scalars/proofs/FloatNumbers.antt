@@ -6,7 +6,9 @@ use Rattle.std.specs.Float.Ieee.{fits}
 use Rattle.cbor_model.specs.Raw as raw
 use Rattle.cbor_model.specs.Raw.{Raw, FloatWidth, half, single, double}
 use Rattle.cbor_model.specs.Readable.{untagged, PassesTags}
-use Rattle.cbor_model.specs.Reader.{Reads}
+use Rattle.cbor_model.specs.Formats.{Formats}
+use Rattle.cbor_model.specs.Reader.{Reads, item_at}
+use Rattle.cbor_io.specs.declared.error.Error.{Error}
 use Rattle.cbor_io.specs.declared.error.ErrorCode.{ErrorCode}
 use Rattle.cbor_io.specs.declared.read_error.ReadErrorCode.{ReadErrorCode}
 use Rattle.cbor_read.specs.Source.{Input}
@@ -15,7 +17,7 @@ use Rattle.cbor_value.specs.declared.Float.{Float}
 use Rattle.cbor_value.specs.declared.Float.TheVariants.{Half, Single, Double}
 use Rattle.cbor_de.specs.Gives.{Limits, limits, Step}
 use Rattle.cbor_scalars.specs.Scalars.{IsFloatItem, IsFloatOf, IsSingleOf, float_parts}
-use Rattle.cbor_scalars.specs.Takes.{IsRead, IsNotRead, Refuses}
+use Rattle.cbor_scalars.specs.Takes.{raws, IsRead, IsNotRead, Refuses, TakesNoMemory}
 use Rattle.cbor_scalars.proofs.Lending.{made_read, made_none}
 
 by_parts : (f : Float) → number (float_parts f).0 (float_parts f).1 ≡ number_of f
@@ -47,6 +49,19 @@ none_read reads number read also none x rest got =
     let float =
     some_float (untagged got.item) (number x) (also (untagged got.item) x got.means) in
     none float.0 rest (record { item = got.item; is = got.is; means = float.1 })
+
+-- what takes no memory as a float takes none as a number
+pub double_memory : (f : Formats) (levels : ℕ) (s : Input) (e : Error)
+    → TakesNoMemory f (PassesTags IsFloatItem) levels s e
+    → TakesNoMemory f (PassesTags IsFloatOf) levels s e
+double_memory f levels s e none is bs tells =
+    none_read IsFloatOf (λ x. x) (item_at (raws f (limits s bs)) levels bs) (λ r x is. is) (none is bs tells)
+
+pub single_memory : (f : Formats) (levels : ℕ) (s : Input) (e : Error)
+    → TakesNoMemory f (PassesTags IsFloatItem) levels s e
+    → TakesNoMemory f (PassesTags IsSingleOf) levels s e
+single_memory f levels s e none is bs tells =
+    none_read IsSingleOf (λ x. x) (item_at (raws f (limits s bs)) levels bs) (λ r x is. is.0) (none is bs tells)
 
 module _ (allowed : ReadErrorCode → Bool) (read : Limits → List ℕ → Reads Raw) (s : Input) where
   refused : {A : Type 0} (reads : Raw → A → Type 0) (number : A → ieee.Float) (k : ErrorCode)

@@ -25,8 +25,8 @@ use Rattle.cbor_de.specs.declared.head.Head.TheVariants as head
 use Rattle.cbor_de.specs.declared.cursor.Remaining.TheVariants.{Counted, ToBreak}
 use Rattle.cbor_de.specs.declared.refusal.Refused.{Refused}
 use Rattle.cbor_de.proofs.facts.Steps.{step_map, step_then, stopped_map}
-use Rattle.cbor_scalars.specs.Takes.{raws, IsRead, IsNotRead, Refuses}
-use Rattle.cbor_scalars.specs.Options.{null_at}
+use Rattle.cbor_scalars.specs.Takes.{raws, IsRead, IsNotRead, MemoryFor, Refuses}
+use Rattle.cbor_scalars.specs.Options.{UnlessNull, null_at}
 use Rattle.cbor_scalars.proofs.OfKind.{kinds}
 use Rattle.cbor_scalars.proofs.Opened.{item_opened}
 use Rattle.cbor_scalars.proofs.Scalars.{refuses, no_null}
@@ -198,6 +198,19 @@ module _ {A : Type 0} (allowed : ReadErrorCode → Bool) (f : Formats) (reads : 
 
   pub option_refused : (m : Input) (k : ErrorCode) (at : ℕ) → Step s m (Seen false) → Refuses allowed m k at (λ l bs. IsNotRead reads (item l bs)) → Refuses allowed s k at (λ l bs. IsNotRead (IsOptional reads) (item l bs))
   option_refused m k at step h = refuses_behind allowed s m k at (Seen false) (λ l bs. IsNotRead reads (item l bs)) (λ l bs. IsNotRead (IsOptional reads) (item l bs)) none_there step h
+
+  -- an option takes memory where what is there does, unless it is null
+  pub option_memory : (asks : Raw → Type 0) (m : Input) (e : Error) → Step s m (Seen false) → MemoryFor asks f reads levels m e
+      → MemoryFor (UnlessNull asks) f (IsOptional reads) levels s e
+  option_memory asks m e step h is bs tells None rest got =
+      let behind = step.told bs tells in
+      let front = seen bs behind.rest behind.holds in
+      absurd (not_null f (limits s bs) levels bs rest front.1 (got.is ∙ ap (λ (r : Raw). Ok (r, rest)) got.means))
+  option_memory asks m e step h is bs tells (Some x) rest got =
+      let behind = step.told bs tells in
+      let front = seen bs behind.rest behind.holds in
+      let same : limits m behind.rest ≡ limits s bs = ap₂ (λ (n : ℕ) (r : Option ℕ). record { total = n; room = r }) behind.total step.room in
+      (got.means.0, h is behind.rest behind.tells x rest (record { item = got.item; is = ap₂ item same front.0 ∙ got.is; means = got.means.1 }))
 
   pub option_stops : (kept : Option ReadError) (r : Refused) (e : Error) → IsErrorOf kept r e → Stopped allowed (λ l. null_at) s kept r → Refuses allowed s (code_of e) (offset_of e) (λ l bs. IsNotRead (IsOptional reads) (item l bs))
   option_stops kept r e is stopped = refuses allowed (IsOptional reads) item s kept r e is (stopped_map allowed (λ l. null_at) item s kept r (λ l bs g stops. absurd (never bs g stops)) stopped)

@@ -17,14 +17,14 @@ use Rattle.cbor_io.specs.declared.read_error.ReadError.{ReadError}
 use Rattle.cbor_io.specs.declared.read_error.ReadErrorCode.{ReadErrorCode}
 use Rattle.cbor_value.specs.declared.Float.{Float}
 use Rattle.cbor_value.specs.declared.Float.TheVariants.{Half, Single, Double}
-use Rattle.cbor_de.specs.Gives.{Limits, limits, Step, Stopped, FailsBy, Reports, IsErrorOf}
+use Rattle.cbor_de.specs.Gives.{Limits, limits, Tells, Step, Stopped, FailsBy, Reports, IsErrorOf}
 use Rattle.cbor_de.specs.Heads.{behind_head}
 use Rattle.cbor_de.specs.declared.head.Head.{Head}
 use Rattle.cbor_de.specs.declared.head.Head.TheVariants as head
 use Rattle.cbor_de.specs.declared.refusal.Refused.{Refused}
 use Rattle.cbor_de.specs.declared.refusal.Refused.TheVariants as refused
 use Rattle.cbor_de.proofs.facts.Steps.{step_map}
-use Rattle.cbor_scalars.specs.Takes.{raws, IsRead, IsNotRead, ExcusedBy, Refuses, TellsFault}
+use Rattle.cbor_scalars.specs.Takes.{raws, IsRead, IsNotRead, ExcusedBy, MemoryFor, Refuses, TellsFault}
 use Rattle.cbor_scalars.specs.Opens.{tagged, in_tags, Opens, OpensItem}
 use Rattle.cbor_scalars.specs.Kinds.{kind_of, head_kind}
 use Rattle.cbor_scalars.specs.Kinds as kind
@@ -80,6 +80,17 @@ refuses allowed reads read s (Some q) refused.Kept e is h = record {
       or_none D (code_of e) (offset_of e) reads (read (limits s bs) bs) (excused_or D (code_of e) (s.offset + length bs) (offset_of e) (read (limits s bs) bs) at);
 }
 
+-- what isn't excused holds
+pub unexcused : (allowed : ReadErrorCode → Bool) (s : Input) (N : Limits → List ℕ → Type 0) → Refuses allowed s code.TrailingData 0 N → (bs : List ℕ) → Tells s bs → N (limits s bs) bs
+unexcused allowed s N h bs tells = elim (h.told bs tells) [
+  | inl excused ↦ absurd excused
+  | inr none ↦ none
+]
+
+-- where memory didn't run out, any item may be there
+pub other_code : {A : Type 0} (asks : Raw → Type 0) (f : Formats) (reads : Raw → A → Type 0) (levels : ℕ) (s : Input) (e : Error) → (code_of e ≡ code.OutOfMemory → ⊥) → MemoryFor asks f reads levels s e
+other_code asks f reads levels s e other is = absurd (other is)
+
 -- ---- within tags
 
 pub untagged-tagged : (ts : List (HeadWidth × ℕ)) (r : Raw) → untagged (tagged ts r) ≡ untagged r
@@ -130,15 +141,19 @@ takes_scalar allowed f reads levels s t kept h x item whole means (left, step) =
     step_map s t (λ l bs rest. Opens f l (item_at (raws f l) levels bs) left h rest) (λ l bs rest. IsRead (PassesTags reads) (item_at (raws f l) levels bs) x rest)
     (λ l bs rest o. opened_read f reads l (item_at (raws f l) levels bs) left h rest o (item o.width) rest x (whole l (inside (raws f l) left) o.width rest) (means o.width)) step
 
+-- an item of another kind isn't read, whatever the error
+pub scalar_unread : {A : Type 0} (allowed : ReadErrorCode → Bool) (f : Formats) (reads : Raw → A → Type 0) (levels : ℕ) (s t : Input) (kept : Option ReadError) (h : Head)
+    → ((r : Raw) (x : A) → reads (untagged r) x → (kind_of r ≡ kind.tag → ⊥) → kind_of r ≡ head_kind h → ⊥)
+    → OpensItem allowed f levels s t kept (Ok h) → (bs : List ℕ) → Tells s bs → IsNotRead (PassesTags reads) (item_at (raws f (limits s bs)) levels bs)
+scalar_unread allowed f reads levels s t kept h other (left, step) bs tells =
+    let l = limits s bs in
+    let o = (step.told bs tells).holds in
+    other_kind f reads l (item_at (raws f l) levels bs) left h (step.told bs tells).rest o (λ r x means is. other r x means (λ tag. o.inner (sym is ∙ tag)) is)
+
 pub none_scalar : {A : Type 0} (allowed : ReadErrorCode → Bool) (f : Formats) (reads : Raw → A → Type 0) (levels : ℕ) (s t : Input) (kept : Option ReadError) (h : Head) (e : Error)
     → ((r : Raw) (x : A) → reads (untagged r) x → (kind_of r ≡ kind.tag → ⊥) → kind_of r ≡ head_kind h → ⊥)
     → OpensItem allowed f levels s t kept (Ok h) → Refuses allowed s (code_of e) (offset_of e) (λ l bs. IsNotRead (PassesTags reads) (item_at (raws f l) levels bs))
-none_scalar allowed f reads levels s t kept h e other (left, step) = record {
-  told = λ bs tells.
-      let l = limits s bs in
-      let o = (step.told bs tells).holds in
-      inr (other_kind f reads l (item_at (raws f l) levels bs) left h (step.told bs tells).rest o (λ r x means is. other r x means (λ tag. o.inner (sym is ∙ tag)) is));
-}
+none_scalar allowed f reads levels s t kept h e other opens = record { told = λ bs tells. inr (scalar_unread allowed f reads levels s t kept h other opens bs tells) }
 
 pub stops_scalar : {A : Type 0} (allowed : ReadErrorCode → Bool) (f : Formats) (reads : Raw → A → Type 0) (levels : ℕ) (s t : Input) (kept : Option ReadError) (r : Refused) (e : Error)
     → OpensItem allowed f levels s t kept (Err r) → IsErrorOf kept r e → Refuses allowed s (code_of e) (offset_of e) (λ l bs. IsNotRead reads (item_at (raws f l) levels bs))

@@ -60,6 +60,22 @@ abbrev pub TakesItem : {A : Type 0} → (ReadErrorCode → Bool) → model.Forma
 TakesItem refusals f reads levels s t r =
     Takes refusals reads (λ l. item_at (raws f l) levels) s t r
 
+-- ---- memory
+
+-- Where memory ran out, the item that is read as something is one for which memory may be asked.
+abbrev pub MemoryFor : {A : Type 0} → (Raw → Type 0) → model.Formats → (Raw → A → Type 0) → ℕ
+    → Input → Error → Type 0
+MemoryFor {A} asks f reads levels s e = code_of e ≡ OutOfMemory → (bs : List ℕ) → Tells s bs
+    → (x : A) (rest : List ℕ) → (got : IsRead reads (item_at (raws f (limits s bs)) levels bs) x rest)
+    → asks got.item
+
+-- Where memory ran out, no item that is read as something is at the front.
+abbrev pub TakesNoMemory : {A : Type 0} → model.Formats → (Raw → A → Type 0) → ℕ → Input → Error
+    → Type 0
+TakesNoMemory f reads levels s e = MemoryFor (λ r. ⊥) f reads levels s e
+
+-- ---- errors that are still to be made
+
 -- What a call gives whose error is still to be made of why it was refused.
 abbrev pub OnceMade : {A W : Type 0} → (W → Error → Type 0) → (Result A Error → Type 0)
     → Result A W → Type 0

@@ -5,7 +5,7 @@ ghost use Rattle.cbor_model.specs.Readable.{PassesTags};
 ghost use Rattle.cbor_io.specs.Error.{code_of};
 ghost use Rattle.cbor_de.specs.Gives.{TellsNoForm};
 ghost use Rattle.cbor_scalars.specs.Scalars.{IsFloatOf, IsSingleOf};
-ghost use Rattle.cbor_scalars.specs.Takes.{TakesItem, formats_of};
+ghost use Rattle.cbor_scalars.specs.Takes.{TakesItem, TakesNoMemory, formats_of};
 
 use crate::scalar::read_float;
 use cbor_de::Deserializer;
@@ -21,6 +21,8 @@ pub fn read_f64<R: Source>(items: &mut Deserializer<R>) -> Result<f64>
         (PassesTags IsFloatOf) items.old.levels
         (R.source items.old.source) (R.source items.new.source) result }
     ensures no_form { IfErr result (λ e. TellsNoForm (code_of e)) }
+    ensures memory { IfErr result (TakesNoMemory (formats_of items.old.formats)
+        (PassesTags IsFloatOf) items.old.levels (R.source items.old.source)) }
     ensures levels { items.new.levels ≡ items.old.levels }
     ensures formats { items.new.formats ≡ items.old.formats }
 {
@@ -38,6 +40,8 @@ fn other_f64<R: Source>(items: &mut Deserializer<R>) -> Result<f64>
         (PassesTags IsFloatOf) items.old.levels
         (R.source items.old.source) (R.source items.new.source) result }
     ensures no_form { IfErr result (λ e. TellsNoForm (code_of e)) }
+    ensures memory { IfErr result (TakesNoMemory (formats_of items.old.formats)
+        (PassesTags IsFloatOf) items.old.levels (R.source items.old.source)) }
     ensures levels { items.new.levels ≡ items.old.levels }
     ensures formats { items.new.formats ≡ items.old.formats }
 {
@@ -55,6 +59,8 @@ fn any_f64<R: Source>(items: &mut Deserializer<R>) -> Result<f64>
         (PassesTags IsFloatOf) items.old.levels
         (R.source items.old.source) (R.source items.new.source) result }
     ensures no_form { IfErr result (λ e. TellsNoForm (code_of e)) }
+    ensures memory { IfErr result (TakesNoMemory (formats_of items.old.formats)
+        (PassesTags IsFloatOf) items.old.levels (R.source items.old.source)) }
     ensures levels { items.new.levels ≡ items.old.levels }
     ensures formats { items.new.formats ≡ items.old.formats }
 {
@@ -71,6 +77,8 @@ pub fn read_f32<R: Source>(items: &mut Deserializer<R>) -> Result<f32>
         (PassesTags IsSingleOf) items.old.levels
         (R.source items.old.source) (R.source items.new.source) result }
     ensures no_form { IfErr result (λ e. TellsNoForm (code_of e)) }
+    ensures memory { IfErr result (TakesNoMemory (formats_of items.old.formats)
+        (PassesTags IsSingleOf) items.old.levels (R.source items.old.source)) }
     ensures levels { items.new.levels ≡ items.old.levels }
     ensures formats { items.new.formats ≡ items.old.formats }
 {
@@ -88,6 +96,8 @@ fn any_f32<R: Source>(items: &mut Deserializer<R>) -> Result<f32>
         (PassesTags IsSingleOf) items.old.levels
         (R.source items.old.source) (R.source items.new.source) result }
     ensures no_form { IfErr result (λ e. TellsNoForm (code_of e)) }
+    ensures memory { IfErr result (TakesNoMemory (formats_of items.old.formats)
+        (PassesTags IsSingleOf) items.old.levels (R.source items.old.source)) }
     ensures levels { items.new.levels ≡ items.old.levels }
     ensures formats { items.new.formats ≡ items.old.formats }
 {

@@ -5,7 +5,7 @@ ghost use Rattle.cbor_model.specs.Readable.{PassesTags, IsInteger, IsFromZero, I
 ghost use Rattle.cbor_io.specs.Error.{code_of};
 ghost use Rattle.cbor_de.specs.Gives.{TellsNoForm};
 ghost use Rattle.cbor_scalars.specs.Scalars.{IsNumber};
-ghost use Rattle.cbor_scalars.specs.Takes.{TakesItem, formats_of};
+ghost use Rattle.cbor_scalars.specs.Takes.{TakesItem, TakesNoMemory, formats_of};
 
 use crate::opening::mismatch;
 use crate::scalar::scalar;
@@ -70,6 +70,8 @@ pub fn read_integer<R: Source>(items: &mut Deserializer<R>) -> Result<i128>
         (PassesTags IsInteger) items.old.levels
         (R.source items.old.source) (R.source items.new.source) result }
     ensures no_form { IfErr result (λ e. TellsNoForm (code_of e)) }
+    ensures memory { IfErr result (TakesNoMemory (formats_of items.old.formats)
+        (PassesTags IsInteger) items.old.levels (R.source items.old.source)) }
     ensures levels { items.new.levels ≡ items.old.levels }
     ensures formats { items.new.formats ≡ items.old.formats }
 {
@@ -95,6 +97,8 @@ pub fn read_from_zero<R: Source>(
         (R.source items.old.source) (R.source items.new.source) result }
     ensures bound { IfOk result (λ n. n ≤ most) }
     ensures no_form { IfErr result (λ e. TellsNoForm (code_of e)) }
+    ensures memory { IfErr result (TakesNoMemory (formats_of items.old.formats)
+        (PassesTags (IsFromZero most)) items.old.levels (R.source items.old.source)) }
     ensures levels { items.new.levels ≡ items.old.levels }
     ensures formats { items.new.formats ≡ items.old.formats }
 {
@@ -115,6 +119,8 @@ pub fn read_u128<R: Source>(items: &mut Deserializer<R>) -> Result<u128>
         (PassesTags (IsFromZero (2 ^ 128 - 1))) items.old.levels
         (R.source items.old.source) (R.source items.new.source) result }
     ensures no_form { IfErr result (λ e. TellsNoForm (code_of e)) }
+    ensures memory { IfErr result (TakesNoMemory (formats_of items.old.formats)
+        (PassesTags (IsFromZero (2 ^ 128 - 1))) items.old.levels (R.source items.old.source)) }
     ensures levels { items.new.levels ≡ items.old.levels }
     ensures formats { items.new.formats ≡ items.old.formats }
 {
@@ -141,6 +147,8 @@ pub fn read_signed<R: Source>(
         (R.source items.old.source) (R.source items.new.source) result }
     ensures bounds { IfOk result (IsWithin most) }
     ensures no_form { IfErr result (λ e. TellsNoForm (code_of e)) }
+    ensures memory { IfErr result (TakesNoMemory (formats_of items.old.formats)
+        (PassesTags (IsSigned most)) items.old.levels (R.source items.old.source)) }
     ensures levels { items.new.levels ≡ items.old.levels }
     ensures formats { items.new.formats ≡ items.old.formats }
 {

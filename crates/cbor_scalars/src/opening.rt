@@ -2,7 +2,7 @@
 
 ghost use Rattle.std.specs.Prelude.{◌≡◌, ◌≤◌, IfErr, OnOk};
 ghost use Rattle.cbor_model.specs.Reader.{item_at};
-ghost use Rattle.cbor_de.specs.Gives.{TellsNoForm, TellsNoKey};
+ghost use Rattle.cbor_de.specs.Gives.{TellsNoForm, TellsNoKey, TellsNoMemory};
 ghost use Rattle.cbor_io.specs.Error.{code_of};
 ghost use Rattle.cbor_de.specs.Heads.{HeadGives, opening_at};
 ghost use Rattle.cbor_scalars.specs.Opens.{OpensAt, item_inside};
@@ -19,6 +19,7 @@ pub(crate) fn take_head<R: Source>(items: &mut Deserializer<R>) -> Done<Head>
         (R.source items.old.source) (R.source items.new.source)
         items.new.refusal result }
     ensures no_key { IfErr result (TellsNoKey items.new.refusal) }
+    ensures memory { IfErr result (TellsNoMemory items.new.refusal) }
     ensures levels { items.new.levels ≡ items.old.levels }
     ensures formats { items.new.formats ≡ items.old.formats }
 {
@@ -39,6 +40,7 @@ pub fn open<R: Source>(items: &mut Deserializer<R>) -> Done<Head>
         (R.source items.old.source) (R.source items.new.source)
         items.new.levels items.new.refusal result }
     ensures no_key { IfErr result (TellsNoKey items.new.refusal) }
+    ensures memory { IfErr result (TellsNoMemory items.new.refusal) }
     ensures levels { OnOk result (items.new.levels ≤ items.old.levels) }
     ensures formats { items.new.formats ≡ items.old.formats }
 {
@@ -58,6 +60,7 @@ pub(crate) fn open_inside<R: Source>(items: &mut Deserializer<R>) -> Done<Head>
         (R.source items.old.source) (R.source items.new.source)
         items.new.levels items.new.refusal result }
     ensures no_key { IfErr result (TellsNoKey items.new.refusal) }
+    ensures memory { IfErr result (TellsNoMemory items.new.refusal) }
     ensures levels { OnOk result (items.new.levels ≤ items.old.levels) }
     ensures formats { items.new.formats ≡ items.old.formats }
 {

@@ -3,10 +3,10 @@
 ghost use Rattle.std.specs.Prelude.{◌≡◌, IfErr};
 ghost use Rattle.cbor_model.specs.Readable.{PassesTags, IsBool, IsUnit};
 ghost use Rattle.cbor_io.specs.Error.{code_of};
-ghost use Rattle.cbor_de.specs.Gives.{TellsNoForm, TellsNoKey};
+ghost use Rattle.cbor_de.specs.Gives.{TellsNoForm, TellsNoKey, TellsNoMemory};
 ghost use Rattle.cbor_scalars.specs.Opens.{OpensInside, OpensItem};
 ghost use Rattle.cbor_scalars.specs.Scalars.{IsFloatItem};
-ghost use Rattle.cbor_scalars.specs.Takes.{TakesItem, formats_of};
+ghost use Rattle.cbor_scalars.specs.Takes.{TakesItem, TakesNoMemory, formats_of};
 
 use crate::opening::{mismatch, open_inside, take_head};
 use cbor_de::{Deserializer, Done, Head};
@@ -23,6 +23,7 @@ pub(crate) fn scalar<R: Source>(items: &mut Deserializer<R>) -> Done<Head>
         (R.source items.old.source) (R.source items.new.source)
         items.new.refusal result }
     ensures no_key { IfErr result (TellsNoKey items.new.refusal) }
+    ensures memory { IfErr result (TellsNoMemory items.new.refusal) }
     ensures levels { items.new.levels ≡ items.old.levels }
     ensures formats { items.new.formats ≡ items.old.formats }
 {
@@ -41,6 +42,7 @@ fn scalar_inside<R: Source>(items: &mut Deserializer<R>) -> Done<Head>
         (R.source items.old.source) (R.source items.new.source)
         items.new.refusal result }
     ensures no_key { IfErr result (TellsNoKey items.new.refusal) }
+    ensures memory { IfErr result (TellsNoMemory items.new.refusal) }
     ensures levels { items.new.levels ≡ items.old.levels }
     ensures formats { items.new.formats ≡ items.old.formats }
 {
@@ -58,6 +60,8 @@ pub fn read_bool<R: Source>(items: &mut Deserializer<R>) -> Result<bool>
         (R.source items.old.source) (R.source items.new.source)
         result }
     ensures no_form { IfErr result (λ e. TellsNoForm (code_of e)) }
+    ensures memory { IfErr result (TakesNoMemory (formats_of items.old.formats)
+        (PassesTags IsBool) items.old.levels (R.source items.old.source)) }
     ensures levels { items.new.levels ≡ items.old.levels }
     ensures formats { items.new.formats ≡ items.old.formats }
 {
@@ -79,6 +83,8 @@ pub fn read_float<R: Source>(items: &mut Deserializer<R>) -> Result<Float>
         (R.source items.old.source) (R.source items.new.source)
         result }
     ensures no_form { IfErr result (λ e. TellsNoForm (code_of e)) }
+    ensures memory { IfErr result (TakesNoMemory (formats_of items.old.formats)
+        (PassesTags IsFloatItem) items.old.levels (R.source items.old.source)) }
     ensures levels { items.new.levels ≡ items.old.levels }
     ensures formats { items.new.formats ≡ items.old.formats }
 {
@@ -100,6 +106,8 @@ pub fn read_unit<R: Source>(items: &mut Deserializer<R>) -> Result<()>
         (R.source items.old.source) (R.source items.new.source)
         result }
     ensures no_form { IfErr result (λ e. TellsNoForm (code_of e)) }
+    ensures memory { IfErr result (TakesNoMemory (formats_of items.old.formats)
+        (PassesTags IsUnit) items.old.levels (R.source items.old.source)) }
     ensures levels { items.new.levels ≡ items.old.levels }
     ensures formats { items.new.formats ≡ items.old.formats }
 {

@@ -2,3 +2,5 @@
 
 -- null, an item that is there, or an item that isn't read
 pub use Rattle.cbor_scalars.proofs.Nulls.{option_none, option_some, option_refused}
+-- where an option takes memory
+pub use Rattle.cbor_scalars.proofs.Nulls.{option_memory}

@@ -1,11 +1,17 @@
-use Rattle.std.proofs.Common.{◌≡◌, true, rules}
+use Rattle.std.proofs.Common.{◌≡◌, true, rules, ℕ, List}
 use Rattle.std.proofs.lemmas.Float.{T_from_true}
 use Rattle.std.specs.Float.{binary32}
 use Rattle.std.specs.Float.Ieee.{fits}
 use Rattle.cbor_io.specs.Error.{code_of, offset_of}
-use Rattle.cbor_model.specs.Reader.{item_at}
-use Rattle.cbor_scalars.specs.Takes.{formats_of, raws}
-use Rattle.cbor_scalars.proofs.FloatNumbers.{single_read, single_refused, single_out}
+use Rattle.cbor_io.specs.declared.error.ErrorCode.TheVariants.{TrailingData}
+use Rattle.cbor_model.specs.Readable.{PassesTags}
+use Rattle.cbor_model.specs.Raw.{Raw}
+use Rattle.cbor_model.specs.Reader.{Reads, item_at}
+use Rattle.cbor_de.specs.Gives.{Limits}
+use Rattle.cbor_scalars.specs.Scalars.{IsSingleOf}
+use Rattle.cbor_scalars.specs.Takes.{formats_of, raws, IsNotRead}
+use Rattle.cbor_scalars.proofs.FloatNumbers.{single_read, single_refused, single_out, single_memory}
+use Rattle.cbor_scalars.proofs.Scalars.{unexcused}
 use Rattle.cbor_scalars.proofs.floats.any_f32.Goals as goal
 
 pub returns-in-Err-clause-read : goal.returns-in-Err-clause-read
@@ -34,3 +40,18 @@ returns-in-None-clause-read g c =
     (g.R.Source.source items.source) (g.R.Source.source c.read_float.new.items.source)
     c.in-Ok.float (code_of c.message.result) (offset_of c.message.result)
     c.in-None.ensures c.in-Ok.ensures.read
+
+pub returns-in-Err-clause-memory : goal.returns-in-Err-clause-memory
+returns-in-Err-clause-memory g c =
+    let items = c.args.items.now in
+    single_memory (formats_of items.formats) items.levels (g.R.Source.source items.source)
+    c.in-Err.e c.in-Err.ensures.memory
+
+pub returns-in-None-clause-memory : goal.returns-in-None-clause-memory
+returns-in-None-clause-memory g c = λ is.
+    let items = c.args.items.now in
+    let read : Limits → List ℕ → Reads Raw = λ l bs. item_at (raws (formats_of items.formats) l) items.levels bs in
+    let s = g.R.Source.source items.source in
+    unexcused g.R.Source.refusals s (λ l bs. IsNotRead (PassesTags IsSingleOf) (read l bs))
+    (single_out g.R.Source.refusals read s (g.R.Source.source c.read_float.new.items.source)
+    c.in-Ok.float TrailingData 0 c.in-None.ensures c.in-Ok.ensures.read)

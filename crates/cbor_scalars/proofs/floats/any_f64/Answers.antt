@@ -1,7 +1,7 @@
 use Rattle.cbor_io.specs.Error.{code_of, offset_of}
 use Rattle.cbor_model.specs.Reader.{item_at}
 use Rattle.cbor_scalars.specs.Takes.{formats_of, raws}
-use Rattle.cbor_scalars.proofs.FloatNumbers.{double_read, double_refused}
+use Rattle.cbor_scalars.proofs.FloatNumbers.{double_read, double_refused, double_memory}
 use Rattle.cbor_scalars.proofs.floats.any_f64.Goals as goal
 
 pub returns-in-Ok-clause-read : goal.returns-in-Ok-clause-read
@@ -19,3 +19,9 @@ returns-in-Err-clause-read g c =
     (λ l bs. item_at (raws (formats_of items.formats) l) items.levels bs)
     (g.R.Source.source items.source) (code_of c.in-Err.e) (offset_of c.in-Err.e)
     c.in-Err.ensures.read
+
+pub returns-in-Err-clause-memory : goal.returns-in-Err-clause-memory
+returns-in-Err-clause-memory g c =
+    let items = c.args.items.now in
+    double_memory (formats_of items.formats) items.levels (g.R.Source.source items.source)
+    c.in-Err.e c.in-Err.ensures.memory

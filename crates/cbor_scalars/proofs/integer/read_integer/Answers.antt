@@ -3,7 +3,7 @@ use Rattle.std.specs.Int.{w128}
 use Rattle.std.proofs.lemmas.Int.{to_z-of_z}
 use Rattle.cbor_scalars.specs.Takes.{formats_of}
 use Rattle.cbor_model.specs.Readable.{IsInteger}
-use Rattle.cbor_scalars.proofs.Numbers.{number_read, number_none}
+use Rattle.cbor_scalars.proofs.Numbers.{number_read, number_none, number_unread}
 use Rattle.cbor_scalars.proofs.integer.read_integer.Goals as goal
 
 pub returns-in-Some-clause-read : goal.returns-in-Some-clause-read
@@ -20,3 +20,9 @@ returns-in-None-clause-read g c =
     let s = g.R.Source.source c.args.items.now.source in
     let u = c.scalar.new.items in
     number_none g.R.Source.refusals (formats_of c.args.items.now.formats) IsInteger c.args.items.now.levels s (g.R.Source.source u.source) u.refusal c.in-Ok.head c.mismatch.result (λ z. z) (λ r z h. h) (λ r z h is. c.in-None.ensures z is) c.in-Ok.ensures.read
+
+pub returns-in-None-clause-memory : goal.returns-in-None-clause-memory
+returns-in-None-clause-memory g c = λ e.
+    let s = g.R.Source.source c.args.items.now.source in
+    let u = c.scalar.new.items in
+    number_unread g.R.Source.refusals (formats_of c.args.items.now.formats) IsInteger c.args.items.now.levels s (g.R.Source.source u.source) u.refusal c.in-Ok.head (λ z. z) (λ r z h. h) (λ r z h is. c.in-None.ensures z is) c.in-Ok.ensures.read

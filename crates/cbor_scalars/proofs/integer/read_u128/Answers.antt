@@ -1,7 +1,7 @@
 use Rattle.std.proofs.Common.{◌-◌, ◌^◌, pos}
 use Rattle.cbor_scalars.specs.Takes.{formats_of}
 use Rattle.cbor_model.specs.Readable.{IsFromZero}
-use Rattle.cbor_scalars.proofs.Numbers.{number_read, number_none}
+use Rattle.cbor_scalars.proofs.Numbers.{number_read, number_none, number_unread}
 use Rattle.cbor_scalars.proofs.integer.read_u128.Goals as goal
 
 pub returns-in-Some-clause-read : goal.returns-in-Some-clause-read
@@ -17,3 +17,9 @@ returns-in-None-clause-read g c =
     let s = g.R.Source.source c.args.items.now.source in
     let u = c.scalar.new.items in
     number_none g.R.Source.refusals (formats_of c.args.items.now.formats) (IsFromZero (2 ^ 128 - 1)) c.args.items.now.levels s (g.R.Source.source u.source) u.refusal c.in-Ok.head c.no_number.result (λ n. pos n) (λ r n h. h.0) (λ r n h is. c.in-None.ensures n is) c.in-Ok.ensures.read
+
+pub returns-in-None-clause-memory : goal.returns-in-None-clause-memory
+returns-in-None-clause-memory g c = λ e.
+    let s = g.R.Source.source c.args.items.now.source in
+    let u = c.scalar.new.items in
+    number_unread g.R.Source.refusals (formats_of c.args.items.now.formats) (IsFromZero (2 ^ 128 - 1)) c.args.items.now.levels s (g.R.Source.source u.source) u.refusal c.in-Ok.head (λ n. pos n) (λ r n h. h.0) (λ r n h is. c.in-None.ensures n is) c.in-Ok.ensures.read

@@ -3,7 +3,7 @@ use Rattle.cbor_de.specs.declared.head.Head.{Head}
 use Rattle.cbor_model.specs.Readable.{IsBool}
 use Rattle.cbor_scalars.specs.Opens.{OpensItem}
 use Rattle.cbor_scalars.specs.Takes.{formats_of}
-use Rattle.cbor_scalars.proofs.Scalars.{none_scalar, bool_read, not_bool}
+use Rattle.cbor_scalars.proofs.Scalars.{scalar_unread, none_scalar, bool_read, not_bool}
 use Rattle.cbor_scalars.proofs.scalar.read_bool.Goals as goal
 
 pub returns-in-Bool-clause-read : goal.returns-in-Bool-clause-read
@@ -20,3 +20,9 @@ returns-in_default-clause-read g c =
     let s = g.R.Source.source c.args.items.now.source in
     let u = c.scalar.new.items in
     none_scalar g.R.Source.refusals (formats_of c.args.items.now.formats) IsBool c.args.items.now.levels s (g.R.Source.source u.source) u.refusal c.in-Ok.head c.mismatch.result (not_bool c.in-Ok.head c.in_default.not-Bool) c.in-Ok.ensures.read
+
+pub returns-in_default-clause-memory : goal.returns-in_default-clause-memory
+returns-in_default-clause-memory g c = λ is.
+    let s = g.R.Source.source c.args.items.now.source in
+    let u = c.scalar.new.items in
+    scalar_unread g.R.Source.refusals (formats_of c.args.items.now.formats) IsBool c.args.items.now.levels s (g.R.Source.source u.source) u.refusal c.in-Ok.head (not_bool c.in-Ok.head c.in_default.not-Bool) c.in-Ok.ensures.read

@@ -3,7 +3,7 @@ use Rattle.cbor_de.specs.declared.head.Head.{Head}
 use Rattle.cbor_scalars.specs.Opens.{OpensItem}
 use Rattle.cbor_scalars.specs.Takes.{formats_of}
 use Rattle.cbor_scalars.specs.Scalars.{IsFloatItem}
-use Rattle.cbor_scalars.proofs.Scalars.{none_scalar, float_read, not_float}
+use Rattle.cbor_scalars.proofs.Scalars.{scalar_unread, none_scalar, float_read, not_float}
 use Rattle.cbor_scalars.proofs.scalar.read_float.Goals as goal
 
 pub returns-in-Float-clause-read : goal.returns-in-Float-clause-read
@@ -20,3 +20,9 @@ returns-in_default-clause-read g c =
     let s = g.R.Source.source c.args.items.now.source in
     let u = c.scalar.new.items in
     none_scalar g.R.Source.refusals (formats_of c.args.items.now.formats) IsFloatItem c.args.items.now.levels s (g.R.Source.source u.source) u.refusal c.in-Ok.head c.mismatch.result (not_float c.in-Ok.head c.in_default.not-Float) c.in-Ok.ensures.read
+
+pub returns-in_default-clause-memory : goal.returns-in_default-clause-memory
+returns-in_default-clause-memory g c = λ is.
+    let s = g.R.Source.source c.args.items.now.source in
+    let u = c.scalar.new.items in
+    scalar_unread g.R.Source.refusals (formats_of c.args.items.now.formats) IsFloatItem c.args.items.now.levels s (g.R.Source.source u.source) u.refusal c.in-Ok.head (not_float c.in-Ok.head c.in_default.not-Float) c.in-Ok.ensures.read

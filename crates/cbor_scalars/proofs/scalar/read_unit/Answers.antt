@@ -4,7 +4,7 @@ use Rattle.cbor_de.specs.declared.head.Head.TheVariants as head
 use Rattle.cbor_model.specs.Readable.{IsUnit}
 use Rattle.cbor_scalars.specs.Opens.{OpensItem}
 use Rattle.cbor_scalars.specs.Takes.{formats_of}
-use Rattle.cbor_scalars.proofs.Scalars.{none_scalar, null_read, undefined_read, not_unit}
+use Rattle.cbor_scalars.proofs.Scalars.{scalar_unread, none_scalar, null_read, undefined_read, not_unit}
 use Rattle.cbor_scalars.proofs.scalar.read_unit.Goals as goal
 
 pub returns-in-Null-clause-read : goal.returns-in-Null-clause-read
@@ -24,3 +24,9 @@ returns-in_default-clause-read g c =
     let s = g.R.Source.source c.args.items.now.source in
     let u = c.scalar.new.items in
     none_scalar g.R.Source.refusals (formats_of c.args.items.now.formats) IsUnit c.args.items.now.levels s (g.R.Source.source u.source) u.refusal c.in-Ok.head c.mismatch.result (not_unit c.in-Ok.head c.in_default.not-Null c.in_default.not-Undefined) c.in-Ok.ensures.read
+
+pub returns-in_default-clause-memory : goal.returns-in_default-clause-memory
+returns-in_default-clause-memory g c = λ is.
+    let s = g.R.Source.source c.args.items.now.source in
+    let u = c.scalar.new.items in
+    scalar_unread g.R.Source.refusals (formats_of c.args.items.now.formats) IsUnit c.args.items.now.levels s (g.R.Source.source u.source) u.refusal c.in-Ok.head (not_unit c.in-Ok.head c.in_default.not-Null c.in_default.not-Undefined) c.in-Ok.ensures.read
