@@ -15,7 +15,8 @@ use Rattle.cbor_io.specs.declared.error.ErrorCode.{ErrorCode}
 use Rattle.cbor_io.specs.declared.error.ErrorCode.TheVariants as code
 use Rattle.cbor_io.specs.declared.read_error.ReadErrorCode.{ReadErrorCode}
 use Rattle.cbor_de.specs.Gives.{Limits, limits, Tells, Step, Reports, Ends, end_at, IsMemoryOrFault, IsMemoryOrFaultBy}
-use Rattle.cbor_scalars.specs.Takes.{raws, IsRead, IsNotRead, ExcusedBy, Refuses}
+use Rattle.cbor_de.specs.AtEnd.{EndTakes, EndRefused}
+use Rattle.cbor_scalars.specs.Takes.{raws, IsRead, IsNotRead, ExcusedBy, MemoryFor, Refuses}
 use Rattle.cbor_typed.specs.Whole.{IsWholeRead, ReadsAll}
 use Rattle.cbor_scalars.proofs.facts.Refusals.{excused_or}
 
@@ -51,6 +52,10 @@ module _ {A : Type 0} (allowed : ReadErrorCode → Bool) (f : Formats) (reads : 
       let got = step.told bs tells in
       or_other (Reports allowed) (code_of e) (offset_of e) (limits s bs) bs got.rest x got.holds
       (excused_or (Reports allowed) (code_of e) (t.offset + length got.rest) (offset_of e) (end_at got.rest) (ends got.rest got.tells))
+
+-- the end is refused for no want of memory
+pub end_other : (allowed : ReadErrorCode → Bool) (s t : Input) (e : Error) → EndTakes allowed s t (Err e) → code_of e ≡ code.OutOfMemory → ⊥
+end_other allowed s t e takes is = subst (λ (k : ErrorCode). EndRefused allowed k (offset_of e) s t) is takes
 
 -- ---- by the definitions
 
@@ -121,6 +126,20 @@ module _ {A : Type 0} (allowed : ReadErrorCode → Bool) (f : Formats) (reads : 
   pub accepted : (Reports allowed → ⊥) → (x : A) (spelt : SpellsAs f reads bs x) → FitsScratch s.room spelt.item → (r : Result A Error) → ReadsAll allowed f reads max_depth s r → IfErr r IsOutOfMemory
   accepted device x spelt room (Ok y) h = tt
   accepted device x spelt room (Err e) h = excused_memory (Reports allowed) device (code_of e) (offset_of e) (is_excused e x spelt room h)
+
+  -- where memory ran out for the item that is there, it may be asked for that item
+  asked_for : (asks : Raw → Type 0) (x : A) (spelt : SpellsAs f reads bs x) → FitsScratch s.room spelt.item → (e : Error) → MemoryFor asks f reads max_depth s e → code_of e ≡ code.OutOfMemory → asks spelt.item
+  unfolding is_read
+  asked_for asks x spelt room e h is = h is bs tells x [] (is_read x spelt room)
+
+  pub asked : (Reports allowed → ⊥) → (asks : Raw → Type 0) (x : A) (spelt : SpellsAs f reads bs x) → FitsScratch s.room spelt.item → (r : Result A Error) → ReadsAll allowed f reads max_depth s r → IfErr r (MemoryFor asks f reads max_depth s) → IfErr r (λ e. asks spelt.item)
+  asked device asks x spelt room (Ok y) read h = tt
+  asked device asks x spelt room (Err e) read h =
+      asked_for asks x spelt room e h (excused_memory (Reports allowed) device (code_of e) (offset_of e) (is_excused e x spelt room read)).0
+
+  pub asked_or_fault : (asks : Raw → Type 0) (x : A) (spelt : SpellsAs f reads bs x) → FitsScratch s.room spelt.item → (r : Result A Error) → IfErr r (MemoryFor asks f reads max_depth s) → IfErr r (λ e. IsOutOfMemory e → asks spelt.item)
+  asked_or_fault asks x spelt room (Ok y) h = tt
+  asked_or_fault asks x spelt room (Err e) h = λ is. asked_for asks x spelt room e h is.0
 
   pub accepted_or_fault : (x : A) (spelt : SpellsAs f reads bs x) → FitsScratch s.room spelt.item → (r : Result A Error) → ReadsAll allowed f reads max_depth s r → IfErr r IsMemoryOrFault
   accepted_or_fault x spelt room (Ok y) h = tt

@@ -1,7 +1,7 @@
 //! Types that are read.
 
 ghost use Rattle.std.specs.Prelude.{◌≡◌, IfErr};
-ghost use Rattle.cbor_scalars.specs.Takes.{TakesItem, TellsItem, context, formats_of};
+ghost use Rattle.cbor_scalars.specs.Takes.{TakesItem, TellsItem, MemoryFor, context, formats_of};
 
 use crate::de::Deserializer;
 use cbor_io::error::Result;
@@ -14,14 +14,19 @@ use cbor_read::Read;
 ///
 /// `total` says that the type reads every item, so that each refusal tells why the bytes spell
 /// none.
+///
+/// `asks_memory` says for which items memory may be asked: where another item is read, memory
+/// doesn't run out. It may be asked for any, unless a type says otherwise.
 pub trait Readable: Sized + Drop {
-    ghost use Rattle.std.specs.Prelude.{Bool, false};
+    ghost use Rattle.std.specs.Prelude.{⊤, Bool, false};
     ghost use Rattle.cbor_model.specs.Raw.{Raw};
     ghost use Rattle.cbor_model.specs.Readable.{Context};
 
     ghost reads: { Context → Raw → Self → Type 0 };
 
     ghost total: { Bool } = { false };
+
+    ghost asks_memory: { Context → Raw → Type 0 } = { λ c r. ⊤ };
 }
 
 /// A type that is read from a source.
@@ -181,6 +186,11 @@ pub trait Deserialize<'de, R: Read<'de>>: Readable {
             (R.source de.old.items.source) (R.source de.new.items.source) result }
         ensures fault { IfErr result (TellsItem Self.total R.refusals
             (formats_of de.old.items.formats) de.old.items.levels
+            (R.source de.old.items.source)) }
+        ensures memory { IfErr result
+            (MemoryFor (Self.asks_memory (context de.old.items.formats R.lends))
+            (formats_of de.old.items.formats)
+            (Self.reads (context de.old.items.formats R.lends)) de.old.items.levels
             (R.source de.old.items.source)) }
         ensures levels { de.new.items.levels ≡ de.old.items.levels }
         ensures formats { de.new.items.formats ≡ de.old.items.formats };

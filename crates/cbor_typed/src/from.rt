@@ -14,7 +14,7 @@ ghost use Rattle.cbor_io.specs.Error.{IsOutOfMemory};
 ghost use Rattle.cbor_de.specs.FirstRefusal.{TellsFirst};
 ghost use Rattle.cbor_de.specs.Gives.{Fails, FailsOrFaults, Gave};
 ghost use Rattle.cbor_de.specs.Gives.{IsMemoryOrFault, IsScratchOrMemory};
-ghost use Rattle.cbor_scalars.specs.Takes.{context, formats_of, lending, WhereTotal};
+ghost use Rattle.cbor_scalars.specs.Takes.{context, formats_of, lending, MemoryFor, WhereTotal};
 ghost use Rattle.cbor_typed.specs.Whole.{ReadsAll, TellsWhole, from_slice_context};
 ghost use Rattle.cbor_typed.specs.Whole.{from_mut_slice_context, from_reader_context};
 
@@ -31,6 +31,8 @@ fn read_all<'de, T: Deserialize<'de, R>, R: Read<'de> + Drop>(alloc: Global, sou
         max_depth (R.source source) result }
     ensures fault { IfErr result (TellsWhole T.total R.refusals all_formats max_depth
         (R.source source)) }
+    ensures memory { IfErr result (MemoryFor (T.asks_memory (lending all_formats R.lends))
+        all_formats (T.reads (lending all_formats R.lends)) max_depth (R.source source)) }
 {
     let mut de = Deserializer::new(alloc, source);
     whole(&mut de)
@@ -43,6 +45,10 @@ fn whole<'de, T: Deserialize<'de, R>, R: Read<'de>>(de: &mut Deserializer<R>) ->
         (R.source de.old.items.source) result }
     ensures fault { IfErr result (TellsWhole T.total R.refusals
         (formats_of de.old.items.formats) de.old.items.levels (R.source de.old.items.source)) }
+    ensures memory { IfErr result (MemoryFor
+        (T.asks_memory (context de.old.items.formats R.lends)) (formats_of de.old.items.formats)
+        (T.reads (context de.old.items.formats R.lends)) de.old.items.levels
+        (R.source de.old.items.source)) }
 {
     let value = match T::deserialize(de) {
         Ok(value) => value,
@@ -85,7 +91,8 @@ fn are_bytes(slice: &[u8])
 /// - `ArrayTooShort`, `ArrayTooLong`: an array in an enum's place has no name, or no item where
 ///   the variant has a part; or it has a name alone and the variant no part; after its last item;
 /// - `Message`, without an offset: an item that the type doesn't read;
-/// - `OutOfMemory`: an allocation failed. No memory is taken on the word of a head.
+/// - `OutOfMemory`: an allocation failed. No memory is taken on the word of a head, and none for a
+///   bool, a number, a float, `()` or an `Option` of these: where such an item is there, it is read.
 ///
 /// Where several faults stand in one input, a type that reads every item, as `Value` does, returns
 /// the first; of others no clause says which is returned.
@@ -106,6 +113,11 @@ pub fn from_slice<'a, T: Deserialize<'a, SliceRead<'a>>>(
     // Each such item is read, unless memory runs out.
     ensures accepted { (x : T) → SpellsAs all_formats (T.reads from_slice_context) slice.now x
         → IfErr result IsOutOfMemory }
+    // Memory runs out only for an item for which the type may ask for it: bool, numbers, floats, ()
+    // and Option of these ask for none, so that where such an item is there it is read.
+    ensures memory { (x : T)
+        → (spelt : SpellsAs all_formats (T.reads from_slice_context) slice.now x)
+        → IfErr result (λ e. T.asks_memory from_slice_context spelt.item) }
     // The acceptable item that the bytes spell is the one that is read; and where the type reads
     // every item, it is read, unless memory runs out.
     ensures every { (v : Val) → (spelt : SpellsValue slice.now v)
@@ -142,6 +154,10 @@ pub fn from_slice_with_scratch<'a, T: Deserialize<'a, SliceReadFixed<'a, 'a>>>(
     ensures accepted { (x : T)
         → (spelt : SpellsAs all_formats (T.reads from_slice_context) slice.now x)
         → FitsScratch (Some (length scratch.old)) spelt.item → IfErr result IsOutOfMemory }
+    ensures memory { (x : T)
+        → (spelt : SpellsAs all_formats (T.reads from_slice_context) slice.now x)
+        → FitsScratch (Some (length scratch.old)) spelt.item
+        → IfErr result (λ e. T.asks_memory from_slice_context spelt.item) }
     ensures every { (v : Val) → (spelt : SpellsValue slice.now v)
         → FitsScratch (Some (length scratch.old)) spelt.item
         → MatchResult result (T.reads from_slice_context spelt.item)
@@ -175,6 +191,9 @@ pub fn from_mut_slice<'a, T: Deserialize<'a, MutSliceRead<'a>>>(
     ensures accepted { (x : T)
         → SpellsAs all_formats (T.reads from_mut_slice_context) slice.old x
         → IfErr result IsOutOfMemory }
+    ensures memory { (x : T)
+        → (spelt : SpellsAs all_formats (T.reads from_mut_slice_context) slice.old x)
+        → IfErr result (λ e. T.asks_memory from_mut_slice_context spelt.item) }
     ensures every { (v : Val) → (spelt : SpellsValue slice.old v)
         → MatchResult result (T.reads from_mut_slice_context spelt.item)
         (λ e. WhereTotal T.total (IsOutOfMemory e)) }
@@ -214,6 +233,10 @@ pub fn from_reader<'de, T: DeserializeOwned + Deserialize<'de, IoRead<R>>, R: io
     ensures accepted { (bytes : List ℕ) → Gave (R.remaining reader) bytes
         → (x : T) → SpellsAs all_formats (T.reads from_reader_context) bytes x
         → IfErr result IsMemoryOrFault }
+    // Memory runs out only for an item for which the type may ask for it.
+    ensures memory { (bytes : List ℕ) → Gave (R.remaining reader) bytes
+        → (x : T) → (spelt : SpellsAs all_formats (T.reads from_reader_context) bytes x)
+        → IfErr result (λ e. IsOutOfMemory e → T.asks_memory from_reader_context spelt.item) }
     // The acceptable item that the bytes spell is the one that is read; and where the type reads
     // every item, it is read, with the same exceptions.
     ensures every { (bytes : List ℕ) → Gave (R.remaining reader) bytes

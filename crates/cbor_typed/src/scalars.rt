@@ -10,7 +10,8 @@ ghost use Rattle.cbor_de.specs.Gives.{TellsNoForm, TellsNoKey};
 ghost use Rattle.cbor_scalars.specs.Opens.{OpensAt};
 ghost use Rattle.cbor_scalars.specs.Scalars.{IsFloatItem};
 ghost use Rattle.cbor_scalars.specs.Strings.{IsMadeOf, IsNoKey, LendsBytes, LendsString, LendsText};
-ghost use Rattle.cbor_scalars.specs.Takes.{TakesItem, context, formats_of, raws};
+ghost use Rattle.cbor_scalars.specs.Takes.{TakesItem, TakesNoMemory, context, formats_of};
+ghost use Rattle.cbor_scalars.specs.Takes.{raws};
 ghost use Rattle.cbor_typed.specs.contracts.de.Deserializer.{the_row as typed_row};
 
 use crate::de::Deserializer;
@@ -33,6 +34,8 @@ impl<R: Source> Deserializer<R> {
             (R.source self.old.items.source) (R.source self.new.items.source)
             result }
         ensures no_form { IfErr result (λ e. TellsNoForm (code_of e)) }
+        ensures memory { IfErr result (TakesNoMemory (formats_of self.old.items.formats)
+            (PassesTags IsBool) self.old.items.levels (R.source self.old.items.source)) }
         ensures levels { self.new.items.levels ≡ self.old.items.levels }
         ensures formats { self.new.items.formats ≡ self.old.items.formats }
     {
@@ -47,6 +50,8 @@ impl<R: Source> Deserializer<R> {
             (R.source self.old.items.source) (R.source self.new.items.source)
             result }
         ensures no_form { IfErr result (λ e. TellsNoForm (code_of e)) }
+        ensures memory { IfErr result (TakesNoMemory (formats_of self.old.items.formats)
+            (PassesTags IsFloatItem) self.old.items.levels (R.source self.old.items.source)) }
         ensures levels { self.new.items.levels ≡ self.old.items.levels }
         ensures formats { self.new.items.formats ≡ self.old.items.formats }
     {
@@ -61,6 +66,8 @@ impl<R: Source> Deserializer<R> {
             (R.source self.old.items.source) (R.source self.new.items.source)
             result }
         ensures no_form { IfErr result (λ e. TellsNoForm (code_of e)) }
+        ensures memory { IfErr result (TakesNoMemory (formats_of self.old.items.formats)
+            (PassesTags IsUnit) self.old.items.levels (R.source self.old.items.source)) }
         ensures levels { self.new.items.levels ≡ self.old.items.levels }
         ensures formats { self.new.items.formats ≡ self.old.items.formats }
     {
@@ -79,6 +86,8 @@ impl<R: Source> Deserializer<R> {
             (PassesTags IsInteger) self.old.items.levels
             (R.source self.old.items.source) (R.source self.new.items.source) result }
         ensures no_form { IfErr result (λ e. TellsNoForm (code_of e)) }
+        ensures memory { IfErr result (TakesNoMemory (formats_of self.old.items.formats)
+            (PassesTags IsInteger) self.old.items.levels (R.source self.old.items.source)) }
         ensures levels { self.new.items.levels ≡ self.old.items.levels }
         ensures formats { self.new.items.formats ≡ self.old.items.formats }
     {

@@ -14,6 +14,8 @@ impl Readable for f32 {
     ghost use Rattle.cbor_scalars.specs.Scalars.{IsSingleOf};
 
     ghost reads = { λ c. PassesTags IsSingleOf };
+
+    ghost asks_memory = { λ c r. ⊥ };
 }
 
 impl<'de, R: Read<'de>> Deserialize<'de, R> for f32 {
@@ -35,6 +37,8 @@ impl Readable for f64 {
     ghost use Rattle.cbor_scalars.specs.Scalars.{IsFloatOf};
 
     ghost reads = { λ c. PassesTags IsFloatOf };
+
+    ghost asks_memory = { λ c r. ⊥ };
 }
 
 impl<'de, R: Read<'de>> Deserialize<'de, R> for f64 {

@@ -11,6 +11,8 @@ impl Readable for u8 {
     ghost use Rattle.cbor_model.specs.Readable.{PassesTags, IsFromZero};
 
     ghost reads = { λ c. PassesTags (IsFromZero (2 ^ 8 - 1)) };
+
+    ghost asks_memory = { λ c r. ⊥ };
 }
 
 impl<'de, R: Read<'de>> Deserialize<'de, R> for u8 {
@@ -36,6 +38,8 @@ impl Readable for u16 {
     ghost use Rattle.cbor_model.specs.Readable.{PassesTags, IsFromZero};
 
     ghost reads = { λ c. PassesTags (IsFromZero (2 ^ 16 - 1)) };
+
+    ghost asks_memory = { λ c r. ⊥ };
 }
 
 impl<'de, R: Read<'de>> Deserialize<'de, R> for u16 {
@@ -61,6 +65,8 @@ impl Readable for u32 {
     ghost use Rattle.cbor_model.specs.Readable.{PassesTags, IsFromZero};
 
     ghost reads = { λ c. PassesTags (IsFromZero (2 ^ 32 - 1)) };
+
+    ghost asks_memory = { λ c r. ⊥ };
 }
 
 impl<'de, R: Read<'de>> Deserialize<'de, R> for u32 {
@@ -86,6 +92,8 @@ impl Readable for u64 {
     ghost use Rattle.cbor_model.specs.Readable.{PassesTags, IsFromZero};
 
     ghost reads = { λ c. PassesTags (IsFromZero (2 ^ 64 - 1)) };
+
+    ghost asks_memory = { λ c r. ⊥ };
 }
 
 impl<'de, R: Read<'de>> Deserialize<'de, R> for u64 {
@@ -111,6 +119,8 @@ impl Readable for usize {
     ghost use Rattle.cbor_model.specs.Readable.{PassesTags, IsFromZero};
 
     ghost reads = { λ c. PassesTags (IsFromZero (2 ^ 64 - 1)) };
+
+    ghost asks_memory = { λ c r. ⊥ };
 }
 
 impl<'de, R: Read<'de>> Deserialize<'de, R> for usize {
@@ -136,6 +146,8 @@ impl Readable for i8 {
     ghost use Rattle.cbor_model.specs.Readable.{PassesTags, IsSigned};
 
     ghost reads = { λ c. PassesTags (IsSigned (2 ^ 7 - 1)) };
+
+    ghost asks_memory = { λ c r. ⊥ };
 }
 
 impl<'de, R: Read<'de>> Deserialize<'de, R> for i8 {
@@ -161,6 +173,8 @@ impl Readable for i16 {
     ghost use Rattle.cbor_model.specs.Readable.{PassesTags, IsSigned};
 
     ghost reads = { λ c. PassesTags (IsSigned (2 ^ 15 - 1)) };
+
+    ghost asks_memory = { λ c r. ⊥ };
 }
 
 impl<'de, R: Read<'de>> Deserialize<'de, R> for i16 {
@@ -186,6 +200,8 @@ impl Readable for i32 {
     ghost use Rattle.cbor_model.specs.Readable.{PassesTags, IsSigned};
 
     ghost reads = { λ c. PassesTags (IsSigned (2 ^ 31 - 1)) };
+
+    ghost asks_memory = { λ c r. ⊥ };
 }
 
 impl<'de, R: Read<'de>> Deserialize<'de, R> for i32 {
@@ -211,6 +227,8 @@ impl Readable for i64 {
     ghost use Rattle.cbor_model.specs.Readable.{PassesTags, IsSigned};
 
     ghost reads = { λ c. PassesTags (IsSigned (2 ^ 63 - 1)) };
+
+    ghost asks_memory = { λ c r. ⊥ };
 }
 
 impl<'de, R: Read<'de>> Deserialize<'de, R> for i64 {
@@ -236,6 +254,8 @@ impl Readable for isize {
     ghost use Rattle.cbor_model.specs.Readable.{PassesTags, IsSigned};
 
     ghost reads = { λ c. PassesTags (IsSigned (2 ^ 63 - 1)) };
+
+    ghost asks_memory = { λ c r. ⊥ };
 }
 
 impl<'de, R: Read<'de>> Deserialize<'de, R> for isize {
@@ -261,6 +281,8 @@ impl Readable for u128 {
     ghost use Rattle.cbor_model.specs.Readable.{PassesTags, IsFromZero};
 
     ghost reads = { λ c. PassesTags (IsFromZero (2 ^ 128 - 1)) };
+
+    ghost asks_memory = { λ c r. ⊥ };
 }
 
 impl<'de, R: Read<'de>> Deserialize<'de, R> for u128 {
@@ -278,6 +300,8 @@ impl Readable for i128 {
     ghost use Rattle.cbor_model.specs.Readable.{PassesTags, IsInteger};
 
     ghost reads = { λ c. PassesTags IsInteger };
+
+    ghost asks_memory = { λ c r. ⊥ };
 }
 
 impl<'de, R: Read<'de>> Deserialize<'de, R> for i128 {

@@ -9,8 +9,11 @@ use cbor_scalars::optional::take_null;
 // Null is None, by its first byte alone: neither undefined nor a tagged null is.
 impl<T: Readable> Readable for Option<T> {
     ghost use Rattle.cbor_model.specs.Readable.{IsOptional};
+    ghost use Rattle.cbor_scalars.specs.Options.{UnlessNull};
 
     ghost reads = { λ c. IsOptional (T.reads c) };
+
+    ghost asks_memory = { λ c. UnlessNull (T.asks_memory c) };
 }
 
 impl<'de, R: Read<'de>, T: Deserialize<'de, R>> Deserialize<'de, R> for Option<T> {

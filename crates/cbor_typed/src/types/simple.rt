@@ -10,6 +10,8 @@ impl Readable for bool {
     ghost use Rattle.cbor_model.specs.Readable.{PassesTags, IsBool};
 
     ghost reads = { λ c. PassesTags IsBool };
+
+    ghost asks_memory = { λ c r. ⊥ };
 }
 
 impl<'de, R: Read<'de>> Deserialize<'de, R> for bool {
@@ -27,6 +29,8 @@ impl Readable for () {
     ghost use Rattle.cbor_model.specs.Readable.{PassesTags, IsUnit};
 
     ghost reads = { λ c. PassesTags IsUnit };
+
+    ghost asks_memory = { λ c r. ⊥ };
 }
 
 impl<'de, R: Read<'de>> Deserialize<'de, R> for () {
@@ -45,6 +49,8 @@ impl Readable for Float {
     ghost use Rattle.cbor_scalars.specs.Scalars.{IsFloatItem};
 
     ghost reads = { λ c. PassesTags IsFloatItem };
+
+    ghost asks_memory = { λ c r. ⊥ };
 }
 
 impl<'de, R: Read<'de>> Deserialize<'de, R> for Float {

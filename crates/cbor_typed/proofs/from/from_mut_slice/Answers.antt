@@ -4,10 +4,11 @@ use Rattle.cbor_model.specs.Formats.{all_formats}
 use Rattle.cbor_model.specs.Raw.{AreBytes}
 use Rattle.cbor_read.specs.Source.{Input, slice_input, mut_refusals}
 use Rattle.cbor_de.specs.Gives.{Tells}
+use Rattle.cbor_scalars.specs.Takes.{MemoryFor}
 use Rattle.cbor_typed.specs.Whole.{ReadsAll, TellsWhole, from_mut_slice_context}
 use Rattle.cbor_typed.proofs.Every.{every}
 use Rattle.cbor_typed.proofs.Faults.{fails}
-use Rattle.cbor_typed.proofs.Inputs.{found, accepted}
+use Rattle.cbor_typed.proofs.Inputs.{found, accepted, asked}
 use Rattle.cbor_typed.proofs.FirstRefusals.{first}
 use Rattle.cbor_typed.proofs.from.from_mut_slice.Goals as goal
 
@@ -52,3 +53,15 @@ returns-clause-every g c = λ v spelt.
 pub returns-clause-first : goal.returns-clause-first
 returns-clause-first g c =
     first g.T.Readable.total None c.args.slice.now c.are_bytes.ensures c.read_all.result (returns-clause-refused g c)
+
+pub returns-clause-memory : goal.returns-clause-memory
+returns-clause-memory g c = λ x spelt.
+    let bs = c.args.slice.now in
+    let s = slice_input bs 0 [] None in
+    let fits : AreBytes bs = c.are_bytes.ensures in
+    let reads = g.T.Readable.reads from_mut_slice_context in
+    let asks = g.T.Readable.asks_memory from_mut_slice_context in
+    let given = subst (λ (s : Input). ReadsAll mut_refusals all_formats reads max_depth s c.read_all.result) c.new.ensures c.read_all.ensures.read in
+    let memory = subst (λ (s : Input). IfErr c.read_all.result (MemoryFor asks all_formats reads max_depth s)) c.new.ensures c.read_all.ensures.memory in
+    let tells : Tells s bs = record { is = refl; short = omega arith } in
+    asked mut_refusals all_formats reads s bs tells refl fits (λ device. absurd cc) asks x spelt tt c.read_all.result given memory

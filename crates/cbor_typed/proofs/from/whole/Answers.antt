@@ -1,6 +1,7 @@
 use Rattle.cbor_scalars.specs.Takes.{context, formats_of}
 use Rattle.cbor_typed.proofs.Faults.{item_whole, end_whole}
-use Rattle.cbor_typed.proofs.Inputs.{all_refused}
+use Rattle.cbor_typed.proofs.Inputs.{all_refused, end_other}
+use Rattle.cbor_scalars.proofs.facts.Refusals.{other_code}
 use Rattle.cbor_typed.proofs.from.whole.Goals as goal
 
 pub returns-in-Err-clause-read : goal.returns-in-Err-clause-read
@@ -17,3 +18,11 @@ returns-in-Err-end-clause-fault g c =
     let d = c.args.de.now.items in
     let reads = g.T.Readable.reads (context d.formats g.R.Source.lends) in
     end_whole g.R.Source.refusals (formats_of d.formats) d.levels (g.R.Source.source d.source) c.in-Err-end.e g.T.Readable.total reads (g.R.Source.source c.deserialize.new.de.items.source) c.in-Ok.value c.in-Ok.ensures.read c.in-Err-end.ensures.read
+
+pub returns-in-Err-end-clause-memory : goal.returns-in-Err-end-clause-memory
+returns-in-Err-end-clause-memory g c =
+    let d = c.args.de.now.items in
+    let within = context d.formats g.R.Source.lends in
+    let m = g.R.Source.source c.deserialize.new.de.items.source in
+    let t = g.R.Source.source c.end.new.self.items.source in
+    other_code (g.T.Readable.asks_memory within) (formats_of d.formats) (g.T.Readable.reads within) d.levels (g.R.Source.source d.source) c.in-Err-end.e (end_other g.R.Source.refusals m t c.in-Err-end.e c.in-Err-end.ensures.takes)

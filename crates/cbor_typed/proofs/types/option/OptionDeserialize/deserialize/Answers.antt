@@ -3,9 +3,9 @@ use Rattle.cbor_model.specs.Reader.{item_at}
 use Rattle.cbor_io.specs.Error.{code_of, offset_of}
 use Rattle.cbor_de.specs.Gives.{Step}
 use Rattle.cbor_scalars.specs.Options.{null_at}
-use Rattle.cbor_scalars.specs.Takes.{raws, context, formats_of, IsRead, IsNotRead, Refuses}
+use Rattle.cbor_scalars.specs.Takes.{raws, context, formats_of, IsRead, IsNotRead, MemoryFor, Refuses}
 use Rattle.cbor_de.specs.declared.formats.Formats.{Formats}
-use Rattle.cbor_scalars.proofs.facts.Options.{option_none, option_some, option_refused}
+use Rattle.cbor_scalars.proofs.facts.Options.{option_none, option_some, option_refused, option_memory}
 use Rattle.cbor_typed.proofs.types.option.OptionDeserialize.deserialize.Goals as goal
 
 pub returns-in-Ok-true-clause-read : goal.returns-in-Ok-true-clause-read
@@ -39,3 +39,16 @@ returns-in-Err-deserialize-clause-read g c =
     let stops = subst (λ (n : ℕ). Refuses g.R.Source.refusals m k at (λ l bs. IsNotRead (g.T.Readable.reads (context de.items.formats g.R.Source.lends)) (item_at (raws (formats_of de.items.formats) l) n bs))) c.in-Ok-false.ensures.levels
     (subst (λ (f : Formats). Refuses g.R.Source.refusals m k at (λ l bs. IsNotRead (g.T.Readable.reads (context f g.R.Source.lends)) (item_at (raws (formats_of f) l) c.take_null.new.items.levels bs))) c.in-Ok-false.ensures.formats c.in-Err-deserialize.ensures.read) in
     option_refused g.R.Source.refusals (formats_of de.items.formats) (g.T.Readable.reads (context de.items.formats g.R.Source.lends)) de.items.levels s m k at step stops
+
+pub returns-in-Err-deserialize-clause-memory : goal.returns-in-Err-deserialize-clause-memory
+returns-in-Err-deserialize-clause-memory g c =
+    let de = c.args.de.now in
+    let s = g.R.Source.source de.items.source in
+    let m = g.R.Source.source c.take_null.new.items.source in
+    let step = subst (λ (b : Bool). Step s m (λ l bs rest. null_at bs ≡ Ok (b, rest))) c.in-Ok-false.field-0-test c.in-Ok-false.ensures.read in
+    let e = c.in-Err-deserialize.e in
+    let asks = λ (f : Formats). g.T.Readable.asks_memory (context f g.R.Source.lends) in
+    let reads = λ (f : Formats). g.T.Readable.reads (context f g.R.Source.lends) in
+    let behind = subst (λ (n : ℕ). MemoryFor (asks de.items.formats) (formats_of de.items.formats) (reads de.items.formats) n m e) c.in-Ok-false.ensures.levels
+    (subst (λ (f : Formats). MemoryFor (asks f) (formats_of f) (reads f) c.take_null.new.items.levels m e) c.in-Ok-false.ensures.formats c.in-Err-deserialize.ensures.memory) in
+    option_memory g.R.Source.refusals (formats_of de.items.formats) (reads de.items.formats) de.items.levels s (asks de.items.formats) m e step behind
