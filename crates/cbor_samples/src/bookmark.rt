@@ -10,7 +10,7 @@ use serde_cbor::tags::Tagged;
 use serde_cbor::{Deserializer, Error, Result};
 
 /// A URI: the text within tag 32, or a text without a tag.
-#[derive(Debug, PartialEq, Drop)]
+#[derive(Debug, Drop)]
 pub struct Uri(pub String);
 
 /// The tag of a URI.
@@ -61,7 +61,7 @@ fn may_hold(tag: Option<u64>) -> bool
 }
 
 /// What is written of a page: its title, where it is, and when it was marked (tag 0).
-#[derive(Debug, PartialEq, Drop)]
+#[derive(Debug, Drop)]
 pub struct Bookmark {
     pub title: String,
     pub link: Uri,

@@ -6,7 +6,7 @@ use serde_cbor::ser::{PartsDocument, Serialize, Serializer, Write};
 use serde_cbor::{Deserializer, Result};
 
 /// An enum of which one variant holds a number.
-#[derive(Debug, PartialEq, Drop)]
+#[derive(Debug, Drop)]
 pub enum Choice {
     Unit,
     NewType(i32),

@@ -8,7 +8,7 @@ use serde_cbor::ser::{NamedFields, PartsDocument, Serialize, Serializer, Write};
 use serde_cbor::{Deserializer, Result};
 
 /// An enum with variants of three kinds.
-#[derive(Debug, PartialEq, Drop)]
+#[derive(Debug, Drop)]
 pub enum Color {
     Blue,
     Other(u64),
@@ -82,7 +82,7 @@ impl DeserializeOwned for Color {
 }
 
 /// An enum with variants of each kind.
-#[derive(Debug, PartialEq, Drop)]
+#[derive(Debug, Drop)]
 pub enum Bar {
     Empty,
     Number(i64),
@@ -176,7 +176,7 @@ impl DeserializeOwned for Bar {
     ghost same = { λ f a b r v h. h };
 }
 
-#[derive(Debug, PartialEq, Drop)]
+#[derive(Debug, Drop)]
 pub enum DataEnum {
     A(i32),
     B(bool, u8),
@@ -264,7 +264,7 @@ impl DeserializeOwned for DataEnum {
     ghost same = { λ f a b r v h. h };
 }
 
-#[derive(Debug, PartialEq, Drop)]
+#[derive(Debug, Drop)]
 pub enum TwoVariants {
     FirstVariant,
     SecondVariant(u8),
@@ -327,7 +327,7 @@ impl DeserializeOwned for TwoVariants {
 }
 
 /// An enum of one variant, which is written in small letters.
-#[derive(Debug, PartialEq, Drop)]
+#[derive(Debug, Drop)]
 pub enum Wish {
     Require,
 }

@@ -6,7 +6,7 @@ use serde_cbor::ser::{PartsDocument, Serialize, Serializer, Write};
 use serde_cbor::{Deserializer, Result};
 
 /// A letter.
-#[derive(Debug, PartialEq, Drop)]
+#[derive(Debug, Drop)]
 pub enum Letter {
     A,
     B,
@@ -68,7 +68,7 @@ impl DeserializeOwned for Letter {
 }
 
 /// A letter with a number of its own, which is not what it is written as.
-#[derive(Debug, PartialEq, Drop)]
+#[derive(Debug, Drop)]
 pub enum ReprEnum {
     A = 7,
     B = 9,
@@ -130,7 +130,7 @@ impl DeserializeOwned for ReprEnum {
 }
 
 /// A struct that holds an enum.
-#[derive(Debug, PartialEq, Drop)]
+#[derive(Debug, Drop)]
 pub struct EnumStruct {
     pub e: Letter,
 }
@@ -180,7 +180,7 @@ impl DeserializeOwned for EnumStruct {
 }
 
 /// A struct that holds an enum with numbers of its own.
-#[derive(Debug, PartialEq, Drop)]
+#[derive(Debug, Drop)]
 pub struct ReprEnumStruct {
     pub e: ReprEnum,
 }

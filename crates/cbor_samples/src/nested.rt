@@ -12,7 +12,7 @@ use serde_cbor::ser::{OptionalField, PartsDocument, Serialize, Serializer, Write
 use serde_cbor::{Deserializer, Result};
 
 /// What is sent.
-#[derive(Debug, PartialEq, Drop)]
+#[derive(Debug, Drop)]
 pub enum Message {
     Ping,
     Send(Example),
@@ -72,7 +72,7 @@ impl DeserializeOwned for Message {
 }
 
 /// What a server is told, of which only the port has to be.
-#[derive(Debug, PartialEq, Drop)]
+#[derive(Debug, Drop)]
 pub struct Settings {
     pub port: u16,
     pub limit: Option<u32>,
@@ -122,7 +122,7 @@ impl<'de, R: Read<'de>> Deserialize<'de, R> for Settings {
 }
 
 /// Two of one type.
-#[derive(Debug, PartialEq, Drop)]
+#[derive(Debug, Drop)]
 pub struct Pair<T> {
     pub first: T,
     pub second: T,

@@ -7,7 +7,7 @@ use serde_cbor::ser::{OptionalField, PartsDocument, Serialize, Serializer, Write
 use serde_cbor::{Deserializer, Result};
 
 /// A struct of two fields.
-#[derive(Debug, PartialEq, Drop)]
+#[derive(Debug, Drop)]
 pub struct User {
     pub user_id: u32,
     pub password_hash: [u8; 4],
@@ -61,7 +61,7 @@ impl DeserializeOwned for User {
 }
 
 /// A struct of small numbers.
-#[derive(Debug, PartialEq, Drop)]
+#[derive(Debug, Drop)]
 pub struct SmallStruct {
     pub spam: u32,
     pub eggs: u32,
@@ -112,7 +112,7 @@ impl DeserializeOwned for SmallStruct {
 }
 
 /// A struct of which a field is left out where it isn't known.
-#[derive(Debug, PartialEq, Drop)]
+#[derive(Debug, Drop)]
 pub struct OptionalPerson {
     pub name: String,
     pub year_of_birth: Option<u16>,
@@ -174,7 +174,7 @@ impl DeserializeOwned for OptionalPerson {
 }
 
 /// A struct within a struct.
-#[derive(Debug, PartialEq, Drop)]
+#[derive(Debug, Drop)]
 pub struct Foo {
     pub x: u8,
     pub color: Color,
@@ -224,7 +224,7 @@ impl DeserializeOwned for Foo {
     ghost same = { λ f a b r v h. h };
 }
 
-#[derive(Debug, PartialEq, Drop)]
+#[derive(Debug, Drop)]
 pub struct Example {
     pub foo: Foo,
     pub payload: u8,
@@ -275,7 +275,7 @@ impl DeserializeOwned for Example {
 }
 
 /// A struct of one unnamed part.
-#[derive(Debug, PartialEq, Drop)]
+#[derive(Debug, Drop)]
 pub struct NewtypeStruct<T>(pub T);
 
 impl<T: Serialize> Serialize for NewtypeStruct<T> {
@@ -301,7 +301,7 @@ impl<T: DeserializeOwned> DeserializeOwned for NewtypeStruct<T> {
     ghost same = { λ f a b r v h. T.same f a b r v.0 h };
 }
 
-#[derive(Debug, PartialEq, Drop)]
+#[derive(Debug, Drop)]
 pub struct Mascot {
     pub name: String,
     pub species: String,
@@ -356,7 +356,7 @@ impl DeserializeOwned for Mascot {
     ghost same = { λ f a b r v h. h };
 }
 
-#[derive(Debug, PartialEq, Drop)]
+#[derive(Debug, Drop)]
 pub struct Person {
     pub name: String,
     pub year_of_birth: u16,

@@ -6,7 +6,7 @@ use serde_cbor::ser::{PartsDocument, Serialize, Serializer, Write};
 use serde_cbor::{Deserializer, Result};
 
 /// What a weather station saw in an hour.
-#[derive(Debug, PartialEq, Drop)]
+#[derive(Debug, Drop)]
 pub struct Weather {
     pub station: u32,
     pub day: u16,

@@ -7,7 +7,7 @@ use serde_cbor::value::Float;
 use serde_cbor::{Deserializer, Result};
 
 /// A struct of no part.
-#[derive(Debug, PartialEq, Drop)]
+#[derive(Debug, Drop)]
 pub struct UnitStruct;
 
 impl Serialize for UnitStruct {
@@ -34,7 +34,7 @@ impl DeserializeOwned for UnitStruct {
 }
 
 /// An enum that holds a float.
-#[derive(Debug, PartialEq, Drop)]
+#[derive(Debug, Drop)]
 pub enum FloatEnum {
     Alpha(Float),
 }
