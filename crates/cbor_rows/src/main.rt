@@ -1,10 +1,15 @@
 //! Answers the tables of rows in `data/`, and tells the rows that are answered otherwise than they say.
 #![tactic(auto)]
 
+mod program;
+mod samples;
+mod sources;
+mod table;
+
 use std::process::ExitCode;
 
 fn main(rt: HostRuntime) -> ExitCode {
-    match cbor_tables::run(&rt) {
+    match program::run(&rt) {
         Ok(true) => ExitCode::SUCCESS,
         Ok(false) => ExitCode::FAILURE,
         Err(error) => {

@@ -1,8 +1,8 @@
 //! The fronts of an item, each of which ends too early, and readers that fail behind one.
 
 use crate::desk::Desk;
+use crate::pieces::Pieces;
 use crate::row::Row;
-use crate::sources::Pieces;
 use serde_cbor::error::ErrorCode;
 use serde_cbor::{
     Deserializer, Result, Value, from_mut_slice, from_reader, from_slice, from_slice_with_scratch,

@@ -1,6 +1,7 @@
-//! Tables of rows: some bytes, what they are read as or refused with, and what that is written as.
+//! Rows of tables: some bytes, what they are read as or refused with, and what that is written as;
+//! and the desk where it is judged what came of a row's steps.
 //!
-//! A table is a text. Each of its lines is a row of six columns, is empty, or begins with `#`:
+//! A row is a line of six columns:
 //!
 //! ```text
 //! type | how | bytes | answer | written | what the row shows
@@ -22,25 +23,23 @@
 //! again. Of each row that is written, `to_value` has to give what its bytes are read as, and
 //! `to_vec_canonical` has to write that, which strict reading reads.
 //!
-//! [`answer`] answers the rows of a table and tells those that are answered otherwise; [`run`] does
-//! so for the tables that a program's words name.
+//! [`Desk`] judges what is read as a type, and what that is written as. [`types`] has the types that a
+//! row may name, but for those that users write; [`values`] and [`strict`] read the rows of a `Value`.
 #![tactic(auto)]
 
 pub mod bytes;
 mod desk;
 mod fronts;
 mod how;
-mod program;
+mod pieces;
 mod row;
-mod sources;
 mod square;
 mod streams;
-mod strict;
-mod table;
+pub mod strict;
 pub mod types;
+pub mod values;
 
-pub use desk::{Desk, Outcome};
-pub use how::How;
-pub use program::run;
+pub use desk::{Desk, Outcome, Step};
+pub use how::{Formats, How, SCRATCH, Source};
+pub use pieces::Pieces;
 pub use row::{Malformed, Row};
-pub use table::{Tally, answer};

@@ -1,10 +1,9 @@
-//! The types that a row may name.
+//! The types that a row may name: std's, byte strings, values, and tags.
 
 mod bytes;
 mod lists;
 mod maps;
 mod numbers;
-mod samples;
 mod strings;
 mod tagged;
 
@@ -14,11 +13,12 @@ use serde_cbor::Deserializer;
 use serde_cbor::de::Read;
 use std::io;
 
-/// Judges what is read as the type that a row names; false where no type has that name.
+/// Judges what is read as the type that a row names; gives the deserializer back where no type of
+/// these has that name.
 pub fn judge<'r, R: Read<'r> + Drop>(
     desk: &mut Desk<'_>,
     row: &Row<'_>,
     de: Deserializer<R>,
-) -> io::Result<bool> {
+) -> io::Result<Option<Deserializer<R>>> {
     numbers::judge(desk, row, de)
 }

@@ -14,7 +14,7 @@ pub fn judge<'r, R: Read<'r> + Drop>(
     desk: &mut Desk<'_>,
     row: &Row<'_>,
     de: Deserializer<R>,
-) -> io::Result<bool> {
+) -> io::Result<Option<Deserializer<R>>> {
     match row.kind {
         "Bytes" => desk.reads::<Bytes, R>(row, de)?,
         "ByteBuf" => desk.reads::<ByteBuf, R>(row, de)?,
@@ -24,5 +24,5 @@ pub fn judge<'r, R: Read<'r> + Drop>(
         "BTreeMap<ByteBuf, u8>" => desk.reads::<BTreeMap<ByteBuf, u8>, R>(row, de)?,
         _ => return lists::judge(desk, row, de),
     }
-    Ok(true)
+    Ok(None)
 }

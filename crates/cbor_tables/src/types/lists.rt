@@ -12,7 +12,7 @@ pub fn judge<'r, R: Read<'r> + Drop>(
     desk: &mut Desk<'_>,
     row: &Row<'_>,
     de: Deserializer<R>,
-) -> io::Result<bool> {
+) -> io::Result<Option<Deserializer<R>>> {
     match row.kind {
         "Vec<u8>" => desk.reads::<Vec<u8>, R>(row, de)?,
         "Vec<Vec<u8>>" => desk.reads::<Vec<Vec<u8>>, R>(row, de)?,
@@ -22,14 +22,14 @@ pub fn judge<'r, R: Read<'r> + Drop>(
         "[u16; 2]" => desk.reads::<[u16; 2], R>(row, de)?,
         _ => return tuples(desk, row, de),
     }
-    Ok(true)
+    Ok(None)
 }
 
 fn tuples<'r, R: Read<'r> + Drop>(
     desk: &mut Desk<'_>,
     row: &Row<'_>,
     de: Deserializer<R>,
-) -> io::Result<bool> {
+) -> io::Result<Option<Deserializer<R>>> {
     match row.kind {
         "(u8,)" => desk.reads::<(u8,), R>(row, de)?,
         "(u8, bool)" => desk.reads::<(u8, bool), R>(row, de)?,
@@ -41,14 +41,14 @@ fn tuples<'r, R: Read<'r> + Drop>(
         }
         _ => return tuples_of_texts(desk, row, de),
     }
-    Ok(true)
+    Ok(None)
 }
 
 fn tuples_of_texts<'r, R: Read<'r> + Drop>(
     desk: &mut Desk<'_>,
     row: &Row<'_>,
     de: Deserializer<R>,
-) -> io::Result<bool> {
+) -> io::Result<Option<Deserializer<R>>> {
     match row.kind {
         "(String, String)" => desk.reads::<(String, String), R>(row, de)?,
         "(&str, &str)" => desk.reads::<(&str, &str), R>(row, de)?,
@@ -56,5 +56,5 @@ fn tuples_of_texts<'r, R: Read<'r> + Drop>(
         "(u8, i8, &str, ())" => desk.reads::<(u8, i8, &str, ()), R>(row, de)?,
         _ => return maps::judge(desk, row, de),
     }
-    Ok(true)
+    Ok(None)
 }

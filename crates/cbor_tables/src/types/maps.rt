@@ -2,7 +2,7 @@
 
 use crate::desk::Desk;
 use crate::row::Row;
-use crate::types::samples;
+use crate::types::tagged;
 use serde_cbor::Deserializer;
 use serde_cbor::de::Read;
 use std::collections::BTreeMap;
@@ -13,7 +13,7 @@ pub fn judge<'r, R: Read<'r> + Drop>(
     desk: &mut Desk<'_>,
     row: &Row<'_>,
     de: Deserializer<R>,
-) -> io::Result<bool> {
+) -> io::Result<Option<Deserializer<R>>> {
     match row.kind {
         "BTreeMap<u8, u8>" => desk.reads::<BTreeMap<u8, u8>, R>(row, de)?,
         "BTreeMap<i8, u8>" => desk.reads::<BTreeMap<i8, u8>, R>(row, de)?,
@@ -26,7 +26,7 @@ pub fn judge<'r, R: Read<'r> + Drop>(
         "(u8, BTreeMap<String, String>)" => {
             desk.reads::<(u8, BTreeMap<String, String>), R>(row, de)?;
         }
-        _ => return samples::judge(desk, row, de),
+        _ => return tagged::judge(desk, row, de),
     }
-    Ok(true)
+    Ok(None)
 }

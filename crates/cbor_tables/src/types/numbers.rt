@@ -13,7 +13,7 @@ pub fn judge<'r, R: Read<'r> + Drop>(
     desk: &mut Desk<'_>,
     row: &Row<'_>,
     de: Deserializer<R>,
-) -> io::Result<bool> {
+) -> io::Result<Option<Deserializer<R>>> {
     match row.kind {
         "Value" => desk.reads::<Value, R>(row, de)?,
         "bool" => desk.reads::<bool, R>(row, de)?,
@@ -21,14 +21,14 @@ pub fn judge<'r, R: Read<'r> + Drop>(
         "Float" => desk.reads::<Float, R>(row, de)?,
         _ => return floats(desk, row, de),
     }
-    Ok(true)
+    Ok(None)
 }
 
 fn floats<'r, R: Read<'r> + Drop>(
     desk: &mut Desk<'_>,
     row: &Row<'_>,
     de: Deserializer<R>,
-) -> io::Result<bool> {
+) -> io::Result<Option<Deserializer<R>>> {
     match row.kind {
         "f32" => desk.reads::<f32, R>(row, de)?,
         "f64" => desk.reads::<f64, R>(row, de)?,
@@ -36,14 +36,14 @@ fn floats<'r, R: Read<'r> + Drop>(
         "Option<f64>" => desk.reads::<Option<f64>, R>(row, de)?,
         _ => return unsigned(desk, row, de),
     }
-    Ok(true)
+    Ok(None)
 }
 
 fn unsigned<'r, R: Read<'r> + Drop>(
     desk: &mut Desk<'_>,
     row: &Row<'_>,
     de: Deserializer<R>,
-) -> io::Result<bool> {
+) -> io::Result<Option<Deserializer<R>>> {
     match row.kind {
         "u8" => desk.reads::<u8, R>(row, de)?,
         "u16" => desk.reads::<u16, R>(row, de)?,
@@ -53,14 +53,14 @@ fn unsigned<'r, R: Read<'r> + Drop>(
         "usize" => desk.reads::<usize, R>(row, de)?,
         _ => return signed(desk, row, de),
     }
-    Ok(true)
+    Ok(None)
 }
 
 fn signed<'r, R: Read<'r> + Drop>(
     desk: &mut Desk<'_>,
     row: &Row<'_>,
     de: Deserializer<R>,
-) -> io::Result<bool> {
+) -> io::Result<Option<Deserializer<R>>> {
     match row.kind {
         "i8" => desk.reads::<i8, R>(row, de)?,
         "i16" => desk.reads::<i16, R>(row, de)?,
@@ -70,5 +70,5 @@ fn signed<'r, R: Read<'r> + Drop>(
         "isize" => desk.reads::<isize, R>(row, de)?,
         _ => return strings::judge(desk, row, de),
     }
-    Ok(true)
+    Ok(None)
 }

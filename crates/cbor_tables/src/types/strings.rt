@@ -12,7 +12,7 @@ pub fn judge<'r, R: Read<'r> + Drop>(
     desk: &mut Desk<'_>,
     row: &Row<'_>,
     de: Deserializer<R>,
-) -> io::Result<bool> {
+) -> io::Result<Option<Deserializer<R>>> {
     match row.kind {
         "char" => desk.reads::<char, R>(row, de)?,
         "String" => desk.reads::<String, R>(row, de)?,
@@ -21,14 +21,14 @@ pub fn judge<'r, R: Read<'r> + Drop>(
         "IgnoredAny" => desk.reads_alone::<IgnoredAny, R>(row, de)?,
         _ => return options(desk, row, de),
     }
-    Ok(true)
+    Ok(None)
 }
 
 fn options<'r, R: Read<'r> + Drop>(
     desk: &mut Desk<'_>,
     row: &Row<'_>,
     de: Deserializer<R>,
-) -> io::Result<bool> {
+) -> io::Result<Option<Deserializer<R>>> {
     match row.kind {
         "Option<u8>" => desk.reads::<Option<u8>, R>(row, de)?,
         "Option<u32>" => desk.reads::<Option<u32>, R>(row, de)?,
@@ -36,5 +36,5 @@ fn options<'r, R: Read<'r> + Drop>(
         "Option<&str>" => desk.reads::<Option<&str>, R>(row, de)?,
         _ => return bytes::judge(desk, row, de),
     }
-    Ok(true)
+    Ok(None)
 }

@@ -16,19 +16,19 @@ type Nest = Tagged<
     ),
 >;
 
-/// Judges a row of one of these; false where the type isn't known.
+/// Judges a row of one of these; gives the deserializer back where the type is another.
 pub fn judge<'r, R: Read<'r> + Drop>(
     desk: &mut Desk<'_>,
     row: &Row<'_>,
     de: Deserializer<R>,
-) -> io::Result<bool> {
+) -> io::Result<Option<Deserializer<R>>> {
     match row.kind {
         "Tagged<u8>" => desk.reads::<Tagged<u8>, R>(row, de)?,
         "Tagged<i128>" => desk.reads::<Tagged<i128>, R>(row, de)?,
         "Tagged<Value>" => desk.reads::<Tagged<Value>, R>(row, de)?,
         "Tagged<Tagged<u8>>" => desk.reads::<Tagged<Tagged<u8>>, R>(row, de)?,
         "Nest" => desk.reads::<Nest, R>(row, de)?,
-        _ => return Ok(false),
+        _ => return Ok(Some(de)),
     }
-    Ok(true)
+    Ok(None)
 }

@@ -1,9 +1,7 @@
 //! A table, row by row.
 
-use crate::desk::{Desk, Step};
-use crate::how::Source;
-use crate::row::{Malformed, Row};
 use crate::sources;
+use cbor_tables::{Desk, Malformed, Row, Source, Step};
 use std::io;
 
 /// How many rows a table has, and how many of them are not answered rightly.

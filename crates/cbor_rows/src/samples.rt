@@ -1,8 +1,5 @@
 //! Types as users write them.
 
-use crate::desk::Desk;
-use crate::row::Row;
-use crate::types::tagged;
 use cbor_samples::assorted::Assorted;
 use cbor_samples::bookmark::Bookmark;
 use cbor_samples::choice::Choice;
@@ -14,12 +11,13 @@ use cbor_samples::structs::{
 };
 use cbor_samples::weather::Weather;
 use cbor_samples::wraps::{FloatEnum, UnitStruct};
+use cbor_tables::{Desk, Row};
 use cbor_tree::tree::Tree;
 use serde_cbor::Deserializer;
 use serde_cbor::de::Read;
 use std::io;
 
-/// Judges a row of one of these, or of another type.
+/// Judges a row of one of these; false where the type isn't known.
 pub fn judge<'r, R: Read<'r> + Drop>(
     desk: &mut Desk<'_>,
     row: &Row<'_>,
@@ -98,7 +96,7 @@ fn nested<'r, R: Read<'r> + Drop>(
         "Message" => desk.reads::<Message, R>(row, de)?,
         "Settings" => desk.reads::<Settings, R>(row, de)?,
         "Pair<u8>" => desk.reads::<Pair<u8>, R>(row, de)?,
-        _ => return tagged::judge(desk, row, de),
+        _ => return Ok(false),
     }
     Ok(true)
 }

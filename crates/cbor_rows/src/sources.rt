@@ -1,0 +1,90 @@
+//! What bytes are read as, by each source that a row asks for.
+
+use crate::samples;
+use cbor_tables::{Desk, How, Pieces, Row, SCRATCH, Source, Step, strict, types, values};
+use serde_cbor::Deserializer;
+use serde_cbor::de::{Read, Source as Bytes};
+use std::io;
+
+/// Judges a row by each source that it asks for; false where its type isn't known.
+pub fn judge(desk: &mut Desk<'_>, row: &Row<'_>) -> io::Result<bool> {
+    if row.how.strict {
+        return strict::judge(desk, row);
+    }
+    if row.kind == "Value" && row.how.reads_all() {
+        values::judge(desk, row)?;
+        return Ok(true);
+    }
+    Ok(slice(desk, row)? && scratch(desk, row)? && in_place(desk, row)? && reader(desk, row)?)
+}
+
+fn slice(desk: &mut Desk<'_>, row: &Row<'_>) -> io::Result<bool> {
+    if !row.asks_for(Source::Slice) {
+        return Ok(true);
+    }
+    desk.step = Step::Read(Source::Slice);
+    let de = Deserializer::from_slice(desk.rt.alloc(), &row.bytes);
+    typed(desk, row, switched(de, row.how))
+}
+
+fn scratch(desk: &mut Desk<'_>, row: &Row<'_>) -> io::Result<bool> {
+    if !row.asks_for(Source::Scratch) {
+        return Ok(true);
+    }
+    desk.step = Step::Read(Source::Scratch);
+    let mut room = [0; SCRATCH as usize];
+    let room = &mut room[..row.how.scratch_len()];
+    let de = Deserializer::from_slice_with_scratch(desk.rt.alloc(), &row.bytes, room);
+    typed(desk, row, switched(de, row.how))
+}
+
+fn in_place(desk: &mut Desk<'_>, row: &Row<'_>) -> io::Result<bool> {
+    if !row.asks_for(Source::InPlace) {
+        return Ok(true);
+    }
+    desk.step = Step::Read(Source::InPlace);
+    let mut copy = row.bytes.clone()?;
+    let de = Deserializer::from_mut_slice(desk.rt.alloc(), &mut copy);
+    typed(desk, row, switched(de, row.how))
+}
+
+fn reader(desk: &mut Desk<'_>, row: &Row<'_>) -> io::Result<bool> {
+    if !row.asks_for(Source::Reader) {
+        return Ok(true);
+    }
+    desk.step = Step::Read(Source::Reader);
+    let pieces = Pieces::new(&row.bytes, row.how.piece);
+    let de = Deserializer::from_reader(desk.rt.alloc(), pieces);
+    typed(desk, row, switched(de, row.how))
+}
+
+// Judges what is read as the type that a row names; false where no type has that name.
+fn typed<'r, R: Read<'r> + Drop>(
+    desk: &mut Desk<'_>,
+    row: &Row<'_>,
+    de: Deserializer<R>,
+) -> io::Result<bool> {
+    let Some(de) = types::judge(desk, row, de)? else {
+        return Ok(true);
+    };
+    samples::judge(desk, row, de)
+}
+
+// In the formats of a row, and as deep.
+fn switched<R: Bytes>(de: Deserializer<R>, how: How) -> Deserializer<R> {
+    let formats = how.reads;
+    let mut de = de.nesting_limit(how.levels());
+    if !formats.names {
+        de = de.disable_named_format();
+    }
+    if !formats.numbers {
+        de = de.disable_packed_format();
+    }
+    if !formats.map_enums {
+        de = de.disable_standard_enums();
+    }
+    if !formats.array_enums {
+        de = de.disable_legacy_enums();
+    }
+    de
+}
