@@ -46,6 +46,9 @@ pub trait FieldNames {
 }
 
 /// A field that may be absent: None where it is, and what is there else.
+///
+/// What is there is read as a `T`. So null is refused, unless `T` reads it: of
+/// `Optional<Option<u8>>` an absent field is `None`, and null `Some(None)`.
 #[derive(Debug, PartialEq, Drop)]
 pub struct Optional<T>(pub Option<T>);
 

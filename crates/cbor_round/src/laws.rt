@@ -27,8 +27,9 @@ pub fn written_reads_back_as<T: RoundTrip>()
     ensures { IsWrittenReadBack T.document T.reads T.fits }
 {}
 
-/// The same of a struct or an enum by description, of these parts: by names that are as many, no two
-/// of them the same, the bytes of its parts are read as those parts, and as none of another document.
+/// What is written of the parts of a struct or an enum by description reads back: by names that are
+/// as many, no two of them the same, the bytes of the parts are read as those parts, and as none of
+/// another document.
 ///
 /// What such a type is written and read as is, by its own lines, its parts' document and reading; so
 /// a caller has the law of `User` from `described_reads_back_as::<<User as Schema>::Parts>()`.

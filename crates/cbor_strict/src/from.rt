@@ -60,6 +60,11 @@ pub fn from_slice_canonical(alloc: Global, slice: &[u8]) -> Result<Value>
 /// where `from_slice` refuses them at an offset, it does so too, if a departure comes no later than
 /// that. Otherwise it refuses as `from_slice` does. It takes no memory beyond that of `from_slice`.
 ///
+/// An item has one canonical encoding; a record of a type may have several. A struct is read by its
+/// fields' names and by their numbers, with fields that it doesn't know and within tags, each in
+/// canonical bytes of its own. Where a record has to have one encoding, compare the bytes with
+/// `to_vec_canonical` of what was read, or with the encoding that the protocol fixes.
+///
 /// ```rust
 /// let name: &str = from_slice_canonical_as(alloc, b"\x63CID")?;
 /// assert_eq!(rt; name, "CID");

@@ -7,8 +7,8 @@ ghost use Rattle.cbor_io.specs.Compare.{big_endian};
 
 /// Whether the bytes of a key are above those of the one before it, which are as many.
 ///
-/// Words that are equal are passed over as they lie in memory; only the first that differ are
-/// turned into numbers.
+/// It goes by words of eight bytes, the last of which may overlap the one before. Only the first
+/// that differ are compared as numbers.
 #[inline(always)]
 pub(crate) fn is_above(before: &[u8], key: &[u8]) -> bool
     requires same { length before.now ≡ length key.now }

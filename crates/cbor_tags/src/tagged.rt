@@ -26,7 +26,7 @@ use cbor_typed::{Deserialize, DeserializeOwned, Deserializer, Readable};
 /// ```rust
 /// impl<'de, R: Read<'de>> Deserialize<'de, R> for Uri {
 ///     fn deserialize(de: &mut Deserializer<R>) -> Result<Uri> {
-///         let alloc = de.items.alloc;
+///         let alloc = de.alloc();
 ///         let text: Tagged<String> = Tagged::deserialize(de)?;
 ///         match text.tag {
 ///             None | Some(32) => Ok(Uri(text.value)),

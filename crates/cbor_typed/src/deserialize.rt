@@ -197,6 +197,15 @@ pub trait Deserialize<'de, R: Read<'de>>: Readable {
 }
 
 /// A type that borrows nothing: what it reads doesn't depend on what a source lends.
+///
+/// [`from_reader`](crate::from_reader) asks for it, since a reader lends nothing. The other calls
+/// read types that borrow too. A type of one's own has it in one line, where its parts do:
+///
+/// ```rust
+/// impl DeserializeOwned for User {
+///     ghost same = { λ f a b r u h. h };
+/// }
+/// ```
 pub trait DeserializeOwned: Readable {
     ghost use Rattle.cbor_model.specs.Formats.{Formats};
     ghost use Rattle.cbor_model.specs.Raw.{Raw};

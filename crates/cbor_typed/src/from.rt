@@ -83,7 +83,8 @@ fn are_bytes(slice: &[u8])
 /// - `UnassignedCode`: a first byte that the format doesn't assign, or that of another simple
 ///   value, after that byte;
 /// - `UnexpectedCode`: a break, or a byte in a chunk's place, that may not stand there, after it;
-/// - `InvalidUtf8`: a text isn't UTF-8, at its first byte that isn't;
+/// - `InvalidUtf8`: a text isn't UTF-8, where its first bad sequence begins; of chunks, the text's
+///   end less the joined bytes from that sequence on (4 of `7f 61 c3 61 28 ff`);
 /// - `LengthOutOfRange`: a text would end at 2^64 or beyond, after its head;
 /// - `RecursionLimitExceeded`: the 128th array, map or tag inside others, after its head;
 /// - `TrailingData`: bytes follow the item, after the first of them; or items or pairs that the

@@ -25,6 +25,16 @@ use std::marker::PhantomData;
 /// the bytes from the offset after the last whole item on (`byte_offset` before each `next`), and
 /// begins a stream there again when more have come.
 ///
+/// A stream sets no bound to an item: a peer may send one without end. To bound each message, read
+/// it by a deserializer of its own, over as many bytes of the reader as it may have:
+///
+/// ```rust
+/// let mut socket = b"\x01\x18\x2a".as_slice();
+/// let mut de = Deserializer::from_reader(alloc, std::io::Read::take(&mut socket, 16));
+/// assert_eq!(rt; u8::deserialize(&mut de)?, 1);
+/// assert_eq!(rt; socket, b"\x18\x2a".as_slice());
+/// ```
+///
 /// ```rust
 /// let mut stream = Deserializer::from_slice(alloc, b"\x01\x18\x2a").into_iter::<u8>();
 /// assert_eq!(rt; stream.next().ok_or("none")??, 1);

@@ -109,6 +109,15 @@ impl Map {
     /// assert_eq!(rt; map.get(&Value::Integer(1)), Some(&Value::Bool(true)));
     /// assert_eq!(rt; map.get(&Value::Integer(2)), None);
     /// ```
+    ///
+    /// A key is a value, so one that is a text is made of a `String`:
+    ///
+    /// ```rust
+    /// let mut map = Map::new(alloc);
+    /// map.insert(Value::Text("port".to_owned(alloc)?), Value::Integer(80))?;
+    /// let key = Value::Text("port".to_owned(alloc)?);
+    /// assert_eq!(rt; map.get(&key), Some(&Value::Integer(80)));
+    /// ```
     pub fn get(&self, key: &Value) -> Option<&Value>
         ensures { KeysAscend (map_view self.now)
             → option_map (λ v. view v.now) result ≡ finmap.get (map_of self.now) (view key.now) }
