@@ -17,3 +17,4 @@ pub mod Structs
 pub mod StructLoops
 pub mod Enums
 pub mod StreamSteps
+pub mod Taken

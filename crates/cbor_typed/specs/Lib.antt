@@ -6,6 +6,7 @@ pub mod ByteStrings
 pub mod Whole
 pub mod Alike
 pub mod FirstOfItem
+pub mod ItemTaken
 pub mod Streams
 pub use Rattle.cbor_io.specs.Error
 pub use Rattle.cbor_scalars.specs.Takes

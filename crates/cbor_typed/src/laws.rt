@@ -1,6 +1,7 @@
 //! Laws about what is read, which are the contracts of functions that do nothing.
 ghost use Rattle.cbor_typed.specs.Alike.{SourcesAgree, OwnedAgree};
 ghost use Rattle.cbor_typed.specs.FirstOfItem.{ItemRefusedFirst};
+ghost use Rattle.cbor_typed.specs.ItemTaken.{ItemTaken};
 
 use crate::deserialize::{DeserializeOwned, Readable};
 
@@ -32,4 +33,14 @@ pub fn owned_agree<T: DeserializeOwned>()
 /// A caller gives it the clause `fault` of `deserialize`.
 pub fn item_refused_first<T: Readable>()
     ensures { ItemRefusedFirst T.total }
+{}
+
+/// What `deserialize` takes, by the definitions alone. Ok: the bytes to come were the spelling of an
+/// item that the type reads so, acceptable within the levels that are left and with keys of the
+/// formats that are read, and then those that are still to come. Err: no such item is there whose
+/// chunks fit the buffer; or memory ran out, or the source reported a fault.
+///
+/// A caller gives it the clause `read` of `deserialize`.
+pub fn item_taken<T: Readable>()
+    ensures { ItemTaken T.reads }
 {}

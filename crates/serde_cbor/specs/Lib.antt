@@ -34,6 +34,7 @@ pub use Rattle.cbor_scalars.specs.Takes
 pub use Rattle.cbor_typed.specs.Whole
 pub use Rattle.cbor_typed.specs.Alike
 pub use Rattle.cbor_typed.specs.FirstOfItem
+pub use Rattle.cbor_typed.specs.ItemTaken
 pub use Rattle.cbor_typed.specs.Streams
 pub use Rattle.cbor_stream.specs.Items
 pub use Rattle.cbor_stream.specs.ItemLaws
