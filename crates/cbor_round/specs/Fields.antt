@@ -1,27 +1,33 @@
 -- Structs of fields that are read back are read back, where their names are told apart.
-use Rattle.std.proofs.Common.{◌≡◌, ◌<◌, ◌≤◌, ◌+◌, ℕ, suc, Bool, true, List, [], ◌∷◌, length, refl, sym, ap, ap₂, ◌∙◌, subst, arith, inl, inr}
-use Rattle.cbor_model.specs.Document.{Doc, Docs, no_docs, doc, doc_count, Fields, no_fields, field, identifier, structure, raw_of, raw_fields_of}
+use Rattle.std.proofs.Common.{◌≡◌, ◌<◌, ◌≤◌, ◌+◌, ℕ, suc, Bool, true, Option, Some, None, List, [], ◌∷◌, length, refl, sym, ap, ap₂, ◌∙◌, subst, arith, inl, inr}
+use Rattle.std.specs.Prelude.{◌⊎◌}
+use Rattle.cbor_model.specs.Document.{Doc, Fields, no_fields, identifier, structure, raw_of, raw_fields_of}
 use Rattle.cbor_model.specs.Formats.{all_formats}
 use Rattle.cbor_model.specs.Raw.{Raw, RawPairs, raw_pair, no_raw_pairs}
 use Rattle.cbor_model.specs.Readable.{Context}
 use Rattle.cbor_read.specs.Source.{Lends}
 use Rattle.cbor_scalars.specs.Takes.{lending}
-use Rattle.cbor_ser.specs.PartLists.{name_in}
-use Rattle.cbor_typed.specs.Structs.{FieldOf, field_or, refused, AreFields, Absent, Once, IsFieldRead, HasFields, IsStruct}
+use Rattle.cbor_ser.specs.PartLists.{name_in, document_if, field_if}
+use Rattle.cbor_typed.specs.FieldTypes.{IsGiven}
+use Rattle.cbor_typed.specs.Structs.{FieldOf, field_or, IfAbsent, refused, taken, AreFields, Absent, Once, IsFieldOr, HasFields, IsStruct}
 use Rattle.cbor_typed.specs.declared.structure.Field.TheVariants.{Known}
 use Rattle.cbor_round.specs.ReadBack.{IsReadBack}
 use Rattle.cbor_round.specs.Names.{are_distinct, names_place, one_place}
 
--- the fields with these documents, from the place k on
-abbrev pub fields_from : List (List ℕ) → ℕ → Docs → Fields
-fields_from names k no_docs = no_fields
-fields_from names k (doc d ds) = field k (name_in names k) d (fields_from names (suc k) ds)
+-- the fields with these documents, from the place k on; one without a document is left out
+abbrev pub fields_from : List (List ℕ) → ℕ → List (Option Doc) → Fields
+fields_from names k [] = no_fields
+fields_from names k (o ∷ os) = field_if k (name_in names k) o (fields_from names (suc k) os)
 
--- the field in each place from the i-th on is there once, and its document is this
-abbrev pub Hold : List (List ℕ) → Bool → Bool → ℕ → Docs → RawPairs → Type 0
-Hold names p g i no_docs rs = Unit {0}
-Hold names p g i (doc d ds) rs =
-    Once names i rs (raw_of d p g) × Hold names p g (suc i) ds rs
+-- the field in this place is there once, and its document is this; or it isn't there
+abbrev pub Holds : List (List ℕ) → Bool → Bool → ℕ → Option Doc → RawPairs → Type 0
+Holds names p g i None rs = Absent names i rs
+Holds names p g i (Some d) rs = Once names i rs (raw_of d p g)
+
+-- so each field from the i-th on
+abbrev pub Hold : List (List ℕ) → Bool → Bool → ℕ → List (Option Doc) → RawPairs → Type 0
+Hold names p g i [] rs = Unit {0}
+Hold names p g i (o ∷ os) rs = Holds names p g i o rs × Hold names p g (suc i) os rs
 
 -- one item alone is a field's
 one_item : (names : List (List ℕ)) (i : ℕ) (rs : RawPairs) (v w : Raw)
@@ -32,96 +38,181 @@ one_item names i (raw_pair k u rs) v w (inl one) (inr two) = absurd (two.0 one.0
 one_item names i (raw_pair k u rs) v w (inr one) (inl two) = absurd (one.0 two.0)
 one_item names i (raw_pair k u rs) v w (inr one) (inr two) = one_item names i rs v w one.1 two.1
 
+-- a field that is there isn't absent
+not_absent : (names : List (List ℕ)) (i : ℕ) (rs : RawPairs) (v : Raw)
+    → Once names i rs v → Absent names i rs → ⊥
+not_absent names i no_raw_pairs v once absent = once
+not_absent names i (raw_pair k u rs) v (inl once) absent = absent.0 once.0
+not_absent names i (raw_pair k u rs) v (inr once) absent = not_absent names i rs v once.1 absent.1
+
 module _ (names : List (List ℕ)) (distinct : are_distinct names ≡ true) (p g : Bool) where
-  abbrev pairs : ℕ → Docs → RawPairs
-  pairs k ds = raw_fields_of (fields_from names k ds) p g
+  abbrev pairs : ℕ → List (Option Doc) → RawPairs
+  pairs k os = raw_fields_of (fields_from names k os) p g
 
-  are_fields : (k : ℕ) (ds : Docs) → k + doc_count ds ≤ length names → AreFields names (pairs k ds)
+  are_fields : (k : ℕ) (os : List (Option Doc)) → k + length os ≤ length names → AreFields names (pairs k os)
   unfolding raw_fields_of
-  are_fields k no_docs within = tt
-  are_fields k (doc d ds) within =
-      ((Known k, names_place names distinct p k (omega (arith, within))), are_fields (suc k) ds (omega (arith, within)))
+  are_fields k [] within = tt
+  are_fields k (None ∷ os) within = are_fields (suc k) os (omega (arith, within))
+  are_fields k (Some d ∷ os) within =
+      ((Known k, names_place names distinct p k (omega (arith, within))), are_fields (suc k) os (omega (arith, within)))
 
-  none_behind : (i k : ℕ) (ds : Docs) → i < k → k + doc_count ds ≤ length names → Absent names i (pairs k ds)
+  none_behind : (i k : ℕ) (os : List (Option Doc)) → i < k → k + length os ≤ length names → Absent names i (pairs k os)
   unfolding raw_fields_of
-  none_behind i k no_docs before within = tt
-  none_behind i k (doc d ds) before within = (
+  none_behind i k [] before within = tt
+  none_behind i k (None ∷ os) before within = none_behind i (suc k) os (omega (arith, before)) (omega (arith, within))
+  none_behind i k (Some d ∷ os) before within = (
     (λ told. let same = one_place names distinct p k i (omega (arith, within)) told in omega (arith, before, same)),
-    none_behind i (suc k) ds (omega (arith, before)) (omega (arith, within)),
+    none_behind i (suc k) os (omega (arith, before)) (omega (arith, within)),
   )
 
-  -- behind a field's pair are those of later fields
-  hold_behind : (k i : ℕ) (ds : Docs) (v : Raw) (rs : RawPairs) → k < i → k < length names
-      → Hold names p g i ds rs → Hold names p g i ds (raw_pair (identifier p k (name_in names k)) v rs)
-  hold_behind k i no_docs v rs before within h = tt
-  hold_behind k i (doc d ds) v rs before within h = (
-    inr ((λ told. let same = one_place names distinct p k i within told in omega (arith, before, same)), h.0),
-    hold_behind k (suc i) ds v rs (omega (arith, before)) within h.1,
+  -- after a field's pair are those of later fields
+  holds_behind : (k i : ℕ) (o : Option Doc) (v : Raw) (rs : RawPairs) → k < i → k < length names
+      → Holds names p g i o rs → Holds names p g i o (raw_pair (identifier p k (name_in names k)) v rs)
+  holds_behind k i None v rs before within h =
+      ((λ told. let same = one_place names distinct p k i within told in omega (arith, before, same)), h)
+  holds_behind k i (Some d) v rs before within h =
+      inr ((λ told. let same = one_place names distinct p k i within told in omega (arith, before, same)), h)
+
+  hold_behind : (k i : ℕ) (os : List (Option Doc)) (v : Raw) (rs : RawPairs) → k < i → k < length names
+      → Hold names p g i os rs → Hold names p g i os (raw_pair (identifier p k (name_in names k)) v rs)
+  hold_behind k i [] v rs before within h = tt
+  hold_behind k i (o ∷ os) v rs before within h = (
+    holds_behind k i o v rs before within h.0,
+    hold_behind k (suc i) os v rs (omega (arith, before)) within h.1,
   )
 
-  all_hold : (k : ℕ) (ds : Docs) → k + doc_count ds ≤ length names → Hold names p g k ds (pairs k ds)
+  all_hold : (k : ℕ) (os : List (Option Doc)) → k + length os ≤ length names → Hold names p g k os (pairs k os)
   unfolding raw_fields_of
-  all_hold k no_docs within = tt
-  all_hold k (doc d ds) within = (
-    inl (names_place names distinct p k (omega (arith, within)), refl, none_behind k (suc k) ds (omega arith) (omega (arith, within))),
-    hold_behind k (suc k) ds (raw_of d p g) (pairs (suc k) ds) (omega arith) (omega (arith, within)) (all_hold (suc k) ds (omega (arith, within))),
+  all_hold k [] within = tt
+  all_hold k (None ∷ os) within =
+      (none_behind k (suc k) os (omega arith) (omega (arith, within)), all_hold (suc k) os (omega (arith, within)))
+  all_hold k (Some d ∷ os) within = (
+    inl (names_place names distinct p k (omega (arith, within)), refl, none_behind k (suc k) os (omega arith) (omega (arith, within))),
+    hold_behind k (suc k) os (raw_of d p g) (pairs (suc k) os) (omega arith) (omega (arith, within)) (all_hold (suc k) os (omega (arith, within))),
   )
+
+-- ---- one field
+
+-- Where a field holds its document, or is absent as it has none, it is read as itself, and as none of
+-- another document.
+pub record IsFieldReadBack {A : Type 0} (document : A → Option Doc) (reads : Context → Raw → A → Type 0) (missing : IfAbsent A) (fits : A → Type 0) : Type 0 where
+  pub itself : (x : A) → fits x → (l : Lends) (p g : Bool) (names : List (List ℕ)) (i : ℕ) (rs : RawPairs)
+      → Holds names p g i (document x) rs → IsFieldOr missing names i (reads (lending all_formats l)) rs x
+  pub alone : (x y : A) → fits x → (l : Lends) (p g : Bool) (names : List (List ℕ)) (i : ℕ) (rs : RawPairs)
+      → Holds names p g i (document x) rs → IsFieldOr missing names i (reads (lending all_formats l)) rs y
+      → document y ≡ document x
+
+-- what the law asks of what may be absent
+abbrev pub FitsIfThere : {A : Type 0} → (A → Type 0) → Option A → Type 0
+FitsIfThere fits None = Unit {0}
+FitsIfThere fits (Some x) = fits x
+
+module _ {A : Type 0} {document : A → Doc} {reads : Context → Raw → A → Type 0} {fits : A → Type 0} (law : IsReadBack document reads fits) where
+  -- an item that is read has the document of the one that was written
+  one_document : (x y : A) → fits x → (l : Lends) (p g : Bool) (names : List (List ℕ)) (i : ℕ) (rs : RawPairs) (v : Raw)
+      → Once names i rs (raw_of (document x) p g) → Once names i rs v → reads (lending all_formats l) v y
+      → document y ≡ document x
+  one_document x y fit l p g names i rs v once here read =
+      let same = one_item names i rs v (raw_of (document x) p g) here once in
+      law.alone x y fit l p g (subst (λ (r : Raw). reads (lending all_formats l) r y) same read)
+
+  -- a field that has to be there
+  pub required_back : IsFieldReadBack (λ x. Some (document x)) reads refused fits
+  required_back = record {
+    itself = λ x fit l p g names i rs h. (raw_of (document x) p g, h, law.itself x fit l p g);
+    alone = λ x y fit l p g names i rs h read.
+        ap (λ (d : Doc). Some d) (one_document x y fit l p g names i rs read.0 h read.1 read.2);
+  }
+
+  module _ {F : Type 0} (part : F → A) (default : F → Type 0) where
+    default_alone : (x y : F) → fits (part x) → (l : Lends) (p g : Bool) (names : List (List ℕ)) (i : ℕ) (rs : RawPairs)
+        → Once names i rs (raw_of (document (part x)) p g)
+        → IsFieldOr (taken default) names i (λ r z. reads (lending all_formats l) r (part z)) rs y
+        → document (part y) ≡ document (part x)
+    default_alone x y fit l p g names i rs h (inl read) = one_document (part x) (part y) fit l p g names i rs read.0 h read.1 read.2
+    default_alone x y fit l p g names i rs h (inr absent) = absurd (not_absent names i rs (raw_of (document (part x)) p g) h absent.0)
+
+    -- one that is always written, and a default where it isn't read
+    pub default_back : IsFieldReadBack (λ x. Some (document (part x))) (λ c r x. reads c r (part x)) (taken default) (λ x. fits (part x))
+    default_back = record {
+      itself = λ x fit l p g names i rs h. inl (raw_of (document (part x)) p g, h, law.itself (part x) fit l p g);
+      alone = λ x y fit l p g names i rs h read. ap (λ (d : Doc). Some d) (default_alone x y fit l p g names i rs h read);
+    }
+
+  module _ (l : Lends) (p g : Bool) (names : List (List ℕ)) (i : ℕ) (rs : RawPairs) where
+    -- what may be absent is this
+    abbrev IsThere : Option A → Type 0
+    IsThere o = ((v : Raw) × Once names i rs v × IsGiven (reads (lending all_formats l)) v o) ⊎ (Absent names i rs × (o ≡ None))
+
+    optional_itself : (o : Option A) → FitsIfThere fits o → Holds names p g i (document_if document o) rs → IsThere o
+    optional_itself None fit h = inr (h, refl)
+    optional_itself (Some x) fit h = inl (raw_of (document x) p g, h, law.itself x fit l p g)
+
+    optional_alone : (o q : Option A) → FitsIfThere fits o → Holds names p g i (document_if document o) rs → IsThere q
+        → document_if document q ≡ document_if document o
+    optional_alone None None fit h read = refl
+    optional_alone None (Some y) fit h (inl read) = absurd (not_absent names i rs read.0 read.1 h)
+    optional_alone None (Some y) fit h (inr absent) = let none = absent.1 in absurd cc
+    optional_alone (Some x) None fit h (inl read) = absurd read.2
+    optional_alone (Some x) None fit h (inr absent) = absurd (not_absent names i rs (raw_of (document x) p g) h absent.0)
+    optional_alone (Some x) (Some y) fit h (inl read) =
+        ap (λ (d : Doc). Some d) (one_document x y fit l p g names i rs read.0 h read.1 read.2)
+    optional_alone (Some x) (Some y) fit h (inr absent) = let none = absent.1 in absurd cc
+
+  -- one that is left out where it is None
+  pub optional_back : {F : Type 0} {part : F → Option A}
+      → IsFieldReadBack (λ x. document_if document (part x)) (λ c r x. IsGiven (reads c) r (part x)) (taken (λ x. part x ≡ None)) (λ x. FitsIfThere fits (part x))
+  optional_back {part = part} = record {
+    itself = λ x fit l p g names i rs h. optional_itself l p g names i rs (part x) fit h;
+    alone = λ x y fit l p g names i rs h read. optional_alone l p g names i rs (part x) (part y) fit h read;
+  }
 
 -- ---- the fields of a tuple
 
 -- Where the fields from the i-th on hold these documents, they are read as those of the tuple.
-pub record AreFieldsReadBack {T S : Type 0} (view : T → S) (documents : T → Docs) (fields : Context → List (FieldOf S)) (fits : T → Type 0) : Type 0 where
+pub record AreFieldsReadBack {T S : Type 0} (view : T → S) (documents : T → List (Option Doc)) (fields : Context → List (FieldOf S)) (fits : T → Type 0) : Type 0 where
   pub itself : (t : T) → fits t → (l : Lends) (p g : Bool) (names : List (List ℕ)) (i : ℕ) (rs : RawPairs)
       → Hold names p g i (documents t) rs → HasFields names i (fields (lending all_formats l)) rs (view t)
   pub alone : (t u : T) → fits t → (l : Lends) (p g : Bool) (names : List (List ℕ)) (i : ℕ) (rs : RawPairs)
       → Hold names p g i (documents t) rs → HasFields names i (fields (lending all_formats l)) rs (view u)
       → documents u ≡ documents t
 
--- a field that is read has the document of the one that was written
-one_document : {A : Type 0} {document : A → Doc} {reads : Context → Raw → A → Type 0} {fits : A → Type 0} (law : IsReadBack document reads fits)
-    (x y : A) → fits x → (l : Lends) (p g : Bool) (names : List (List ℕ)) (i : ℕ) (rs : RawPairs)
-    → Once names i rs (raw_of (document x) p g) → IsFieldRead names i (reads (lending all_formats l)) rs y → document y ≡ document x
-one_document {document = document} {reads = reads} law x y fit l p g names i rs once read =
-    let same = one_item names i rs read.0 (raw_of (document x) p g) read.1 once in
-    law.alone x y fit l p g (subst (λ (r : Raw). reads (lending all_formats l) r y) same read.2)
-
-module _ {A T S : Type 0} {view : T → S} {of : S → A} {document : A → Doc} {reads : Context → Raw → A → Type 0} {fits : A → Type 0} (law : IsReadBack document reads fits) where
-  pub last_field_back : AreFieldsReadBack view (λ t. doc (document (of (view t))) no_docs)
-      (λ c. field_or (reads c) refused of ∷ []) (λ t. fits (of (view t)))
+module _ {A T S : Type 0} {view : T → S} {of : S → A} {document : A → Option Doc} {reads : Context → Raw → A → Type 0} {missing : IfAbsent A} {fits : A → Type 0} (law : IsFieldReadBack document reads missing fits) where
+  pub last_field_back : AreFieldsReadBack view (λ t. document (of (view t)) ∷ [])
+      (λ c. field_or (reads c) missing of ∷ []) (λ t. fits (of (view t)))
   last_field_back = record {
-    itself = λ t fit l p g names i rs h.
-        ((raw_of (document (of (view t))) p g, h.0, law.itself (of (view t)) fit l p g), tt);
+    itself = λ t fit l p g names i rs h. (law.itself (of (view t)) fit l p g names i rs h.0, tt);
     alone = λ t u fit l p g names i rs h read.
-        ap (λ (d : Doc). doc d no_docs) (one_document law (of (view t)) (of (view u)) fit l p g names i rs h.0 read.0);
+        ap (λ (o : Option Doc). o ∷ []) (law.alone (of (view t)) (of (view u)) fit l p g names i rs h.0 read.0);
   }
 
-  pub field_back : {documents : T → Docs} {others : Context → List (FieldOf S)} {others_fit : T → Type 0}
+  pub field_back : {documents : T → List (Option Doc)} {others : Context → List (FieldOf S)} {others_fit : T → Type 0}
       → AreFieldsReadBack view documents others others_fit
-      → AreFieldsReadBack view (λ t. doc (document (of (view t))) (documents t))
-      (λ c. field_or (reads c) refused of ∷ others c)
+      → AreFieldsReadBack view (λ t. document (of (view t)) ∷ documents t)
+      (λ c. field_or (reads c) missing of ∷ others c)
       (λ t. fits (of (view t)) × others_fit t)
   field_back rest = record {
     itself = λ t fit l p g names i rs h. (
-      (raw_of (document (of (view t))) p g, h.0, law.itself (of (view t)) fit.0 l p g),
+      law.itself (of (view t)) fit.0 l p g names i rs h.0,
       rest.itself t fit.1 l p g names (suc i) rs h.1,
     );
     alone = λ t u fit l p g names i rs h read.
-        ap₂ doc (one_document law (of (view t)) (of (view u)) fit.0 l p g names i rs h.0 read.0)
+        ap₂ (λ (o : Option Doc) (os : List (Option Doc)). o ∷ os) (law.alone (of (view t)) (of (view u)) fit.0 l p g names i rs h.0 read.0)
         (rest.alone t u fit.1 l p g names (suc i) rs h.1 read.1);
   }
 
-pub struct_back : {T S : Type 0} {n : ℕ} {view : T → S} {documents : T → Docs} {fields : Context → List (FieldOf S)} {fits : T → Type 0}
-    → AreFieldsReadBack view documents fields fits → ((t : T) → doc_count (documents t) ≡ n)
+pub struct_back : {T S : Type 0} {n : ℕ} {view : T → S} {documents : T → List (Option Doc)} {fields : Context → List (FieldOf S)} {fits : T → Type 0}
+    → AreFieldsReadBack view documents fields fits → ((t : T) → length (documents t) ≡ n)
     → (names : List (List ℕ)) → length names ≡ n → are_distinct names ≡ true
     → IsReadBack (λ t. structure (fields_from names 0 (documents t))) (λ c r t. IsStruct names (fields c) r (view t)) fits
 unfolding raw_of
 struct_back {T = T} {documents = documents} law counted names as_many distinct =
-    let within : (t : T) → 0 + doc_count (documents t) ≤ length names = λ t. let c = counted t in omega (arith, c, as_many) in
+    let within : (t : T) → 0 + length (documents t) ≤ length names = λ t. let c = counted t in omega (arith, c, as_many) in
     record {
       itself = λ t fit l p g. record {
         keys = are_fields names distinct p g 0 (documents t) (within t);
         read = law.itself t fit l p g names 0 _ (all_hold names distinct p g 0 (documents t) (within t));
       };
-      alone = λ t u fit l p g h. ap (λ (ds : Docs). structure (fields_from names 0 ds))
+      alone = λ t u fit l p g h. ap (λ (os : List (Option Doc)). structure (fields_from names 0 os))
           (law.alone t u fit l p g names 0 _ (all_hold names distinct p g 0 (documents t) (within t)) h.read);
     }

@@ -3,8 +3,9 @@ use Rattle.std.proofs.Common.{ℤ, pos, negsuc, ◌≡◌, ℕ, List, [], ◌∷
 use Rattle.std.specs.Prelude.{String}
 use Rattle.std.specs.String.{string_bytes}
 use Rattle.std.specs.Ordering.{ordering_reverse, match_ordering, nat_cmp, int_cmp}
-use Rattle.std.specs.Cmp.{IsTotalOrder}
+use Rattle.std.specs.Cmp.{IsTotalOrder, on_total}
 use Rattle.std.specs.Cmp.Lexicographic.{slice_cmp}
+use Rattle.std.proofs.lemmas.Cmp.{nat_list_cmp_total}
 use Rattle.std.specs.BTreeMap.{insert_entry}
 use Rattle.std.specs.List.{AllByRecursion}
 use Rattle.std.specs.List.Sorted.{IsStrictlySortedBy}
@@ -154,6 +155,9 @@ size (negsuc n) = n
 
 pub texts_told : {Z : Type 0} → IsToldByDocuments (λ (s : String Z). text (string_bytes s)) (λ s t. slice_cmp nat_cmp (string_bytes s) (string_bytes t))
 texts_told a b c d one two = ap₂ (slice_cmp nat_cmp) (ap bytes_in one) (ap bytes_in two)
+
+pub texts_total : {Z : Type 0} → IsTotalOrder (λ (s t : String Z). slice_cmp nat_cmp (string_bytes s) (string_bytes t))
+texts_total = on_total string_bytes nat_list_cmp_total
 
 pub naturals_told : IsToldByDocuments (λ n. integer (pos n)) nat_cmp
 naturals_told a b c d one two = ap₂ nat_cmp (ap (λ d. size (number_in d)) one) (ap (λ d. size (number_in d)) two)

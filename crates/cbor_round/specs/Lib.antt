@@ -9,3 +9,5 @@ pub mod Names
 pub mod Fields
 pub mod Variants
 pub mod Enums
+pub mod TypeLaws
+pub mod PartsLaws

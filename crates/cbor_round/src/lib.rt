@@ -19,5 +19,7 @@ mod tuples;
 mod types;
 
 pub use laws::{described_reads_back_as, write_and_read, written_reads_back_as};
-pub use parts::{FieldsRoundTrip, PartsRoundTrip, TupleRoundTrip, VariantRoundTrip};
+pub use parts::{
+    FieldRoundTrip, FieldsRoundTrip, PartsRoundTrip, TupleRoundTrip, VariantRoundTrip,
+};
 pub use round_trip::{RoundTrip, RoundTripKey};

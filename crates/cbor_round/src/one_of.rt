@@ -8,8 +8,11 @@ impl<A: VariantRoundTrip> PartsRoundTrip for OneOf1<A> {
     ghost use Rattle.cbor_round.specs.Enums.{same1};
     ghost use Rattle.cbor_round.specs.Variants.{either_fits, never_fits};
     ghost use Rattle.cbor_round.specs.Variants.{variant_back, no_variants_back, enum_back};
+    ghost use Rattle.cbor_round.specs.PartsLaws.{enum1};
 
     ghost fits = { λ x. either_fits A.fits never_fits (list1 x) };
+
+    ghost law = { enum1 A.law };
 
     ghost back = { enum_back (variant_back A.back no_variants_back) (same1 A.document) };
 }
@@ -19,8 +22,11 @@ impl<A: VariantRoundTrip, B: VariantRoundTrip> PartsRoundTrip for OneOf2<A, B> {
     ghost use Rattle.cbor_round.specs.Enums.{same2};
     ghost use Rattle.cbor_round.specs.Variants.{either_fits, never_fits};
     ghost use Rattle.cbor_round.specs.Variants.{variant_back, no_variants_back, enum_back};
+    ghost use Rattle.cbor_round.specs.PartsLaws.{enum2};
 
     ghost fits = { λ x. either_fits A.fits (either_fits B.fits never_fits) (list2 x) };
+
+    ghost law = { enum2 A.law B.law };
 
     ghost back = { enum_back (variant_back A.back (variant_back B.back no_variants_back))
         (same2 A.document B.document) };
@@ -32,9 +38,12 @@ impl<A: VariantRoundTrip, B: VariantRoundTrip, C: VariantRoundTrip> PartsRoundTr
     ghost use Rattle.cbor_round.specs.Enums.{same3};
     ghost use Rattle.cbor_round.specs.Variants.{either_fits, never_fits};
     ghost use Rattle.cbor_round.specs.Variants.{variant_back, no_variants_back, enum_back};
+    ghost use Rattle.cbor_round.specs.PartsLaws.{enum3};
 
     ghost fits = { λ x. either_fits A.fits (either_fits B.fits
         (either_fits C.fits never_fits)) (list3 x) };
+
+    ghost law = { enum3 A.law B.law C.law };
 
     ghost back = { enum_back (variant_back A.back (variant_back B.back
         (variant_back C.back no_variants_back))) (same3 A.document B.document C.document) };
@@ -50,9 +59,12 @@ impl<
     ghost use Rattle.cbor_round.specs.Enums.{same4};
     ghost use Rattle.cbor_round.specs.Variants.{either_fits, never_fits};
     ghost use Rattle.cbor_round.specs.Variants.{variant_back, no_variants_back, enum_back};
+    ghost use Rattle.cbor_round.specs.PartsLaws.{enum4};
 
     ghost fits = { λ x. either_fits A.fits (either_fits B.fits (either_fits C.fits
         (either_fits D.fits never_fits))) (list4 x) };
+
+    ghost law = { enum4 A.law B.law C.law D.law };
 
     ghost back = { enum_back (variant_back A.back (variant_back B.back (variant_back C.back
         (variant_back D.back no_variants_back))))
@@ -70,9 +82,12 @@ impl<
     ghost use Rattle.cbor_round.specs.Enums.{same5};
     ghost use Rattle.cbor_round.specs.Variants.{either_fits, never_fits};
     ghost use Rattle.cbor_round.specs.Variants.{variant_back, no_variants_back, enum_back};
+    ghost use Rattle.cbor_round.specs.PartsLaws.{enum5};
 
     ghost fits = { λ x. either_fits A.fits (either_fits B.fits (either_fits C.fits
         (either_fits D.fits (either_fits E.fits never_fits)))) (list5 x) };
+
+    ghost law = { enum5 A.law B.law C.law D.law E.law };
 
     ghost back = { enum_back (variant_back A.back (variant_back B.back (variant_back C.back
         (variant_back D.back (variant_back E.back no_variants_back)))))
@@ -91,9 +106,12 @@ impl<
     ghost use Rattle.cbor_round.specs.Enums.{same6};
     ghost use Rattle.cbor_round.specs.Variants.{either_fits, never_fits};
     ghost use Rattle.cbor_round.specs.Variants.{variant_back, no_variants_back, enum_back};
+    ghost use Rattle.cbor_round.specs.PartsLaws.{enum6};
 
     ghost fits = { λ x. either_fits A.fits (either_fits B.fits (either_fits C.fits
         (either_fits D.fits (either_fits E.fits (either_fits F.fits never_fits))))) (list6 x) };
+
+    ghost law = { enum6 A.law B.law C.law D.law E.law F.law };
 
     ghost back = { enum_back (variant_back A.back (variant_back B.back (variant_back C.back
         (variant_back D.back (variant_back E.back (variant_back F.back no_variants_back))))))
@@ -113,10 +131,13 @@ impl<
     ghost use Rattle.cbor_round.specs.Enums.{same7};
     ghost use Rattle.cbor_round.specs.Variants.{either_fits, never_fits};
     ghost use Rattle.cbor_round.specs.Variants.{variant_back, no_variants_back, enum_back};
+    ghost use Rattle.cbor_round.specs.PartsLaws.{enum7};
 
     ghost fits = { λ x. either_fits A.fits (either_fits B.fits (either_fits C.fits
         (either_fits D.fits (either_fits E.fits (either_fits F.fits
         (either_fits G.fits never_fits)))))) (list7 x) };
+
+    ghost law = { enum7 A.law B.law C.law D.law E.law F.law G.law };
 
     ghost back = { enum_back (variant_back A.back (variant_back B.back (variant_back C.back
         (variant_back D.back (variant_back E.back (variant_back F.back
@@ -138,10 +159,13 @@ impl<
     ghost use Rattle.cbor_round.specs.Enums.{same8};
     ghost use Rattle.cbor_round.specs.Variants.{either_fits, never_fits};
     ghost use Rattle.cbor_round.specs.Variants.{variant_back, no_variants_back, enum_back};
+    ghost use Rattle.cbor_round.specs.PartsLaws.{enum8};
 
     ghost fits = { λ x. either_fits A.fits (either_fits B.fits (either_fits C.fits
         (either_fits D.fits (either_fits E.fits (either_fits F.fits (either_fits G.fits
         (either_fits H.fits never_fits))))))) (list8 x) };
+
+    ghost law = { enum8 A.law B.law C.law D.law E.law F.law G.law H.law };
 
     ghost back = { enum_back (variant_back A.back (variant_back B.back (variant_back C.back
         (variant_back D.back (variant_back E.back (variant_back F.back (variant_back G.back

@@ -2,53 +2,110 @@
 
 use crate::round_trip::RoundTrip;
 use cbor_described::{ReadableParts, ReadableTuple, Variant};
-use cbor_parts::{FieldNames, Newtype, Struct, Tuple};
-use cbor_ser::{FieldsDocument, PartsDocument, TupleDocuments, VariantDocument};
+use cbor_parts::{FieldNames, Newtype, Optional, OrDefault, Struct, Tuple};
+use cbor_ser::{FieldDocument, FieldsDocument, PartsDocument, TupleDocuments, VariantDocument};
+use cbor_typed::FieldType;
 
 /// The parts of a struct or an enum, which are read back where the names are as many, and no two of
 /// them the same.
 pub trait PartsRoundTrip: PartsDocument + ReadableParts {
-    ghost use Rattle.std.specs.Prelude.{◌≡◌, List, ℕ, length, true};
-    ghost use Rattle.cbor_round.specs.Names.{are_distinct};
-    ghost use Rattle.cbor_round.specs.ReadBack.{IsReadBack};
+    ghost use Rattle.cbor_round.specs.TypeLaws.{ByNames, PartsLaw};
 
     // What the law asks of the parts.
     ghost fits: { Self → Type 0 };
 
+    // The law as a value.
+    ghost law: { PartsLaw Self };
+
     // By such names the parts are read back.
-    ghost back: { (names : List (List ℕ)) → length names ≡ Self.count
-        → are_distinct names ≡ true
-        → IsReadBack (Self.document names) (Self.reads names) fits };
+    ghost back: { ByNames Self.count Self.document Self.reads fits };
+}
+
+/// A field of a struct that is read back: what is `RoundTrip`, or [`Optional`] or [`OrDefault`] of
+/// it.
+pub trait FieldRoundTrip: FieldDocument + FieldType {
+    ghost use Rattle.cbor_round.specs.Fields.{IsFieldReadBack};
+    ghost use Rattle.cbor_round.specs.TypeLaws.{FieldLaw};
+
+    // What the law asks of the field.
+    ghost fits: { Self → Type 0 };
+
+    // The law as a value.
+    ghost law: { FieldLaw Self };
+
+    // It is read back where it is written, and is as it was where it is left out.
+    ghost read_back: { IsFieldReadBack Self.document Self.reads Self.missing fits };
+}
+
+impl<T: RoundTrip + Drop> FieldRoundTrip for T {
+    ghost use Rattle.cbor_round.specs.Fields.{required_back};
+    ghost use Rattle.cbor_round.specs.TypeLaws.{field_law};
+
+    ghost fits = { T.fits };
+
+    ghost law = { field_law (required_back T.law.back) };
+
+    ghost read_back = { required_back T.back };
+}
+
+impl<T: RoundTrip + Drop> FieldRoundTrip for Optional<T> {
+    ghost use Rattle.cbor_round.specs.Fields.{FitsIfThere, optional_back};
+    ghost use Rattle.cbor_round.specs.TypeLaws.{field_law};
+
+    ghost fits = { λ o. FitsIfThere T.fits o.0 };
+
+    ghost law = { field_law (optional_back T.law.back {part = λ o. o.0}) };
+
+    ghost read_back = { optional_back T.back };
+}
+
+impl<T: RoundTrip + Default + Drop> FieldRoundTrip for OrDefault<T> {
+    ghost use Rattle.cbor_round.specs.Fields.{default_back};
+    ghost use Rattle.cbor_round.specs.TypeLaws.{field_law};
+
+    ghost fits = { λ o. T.fits o.0 };
+
+    ghost law = { field_law (default_back T.law.back (λ o. o.0)
+        (λ o. T.is_default o.0)) };
+
+    ghost read_back = { default_back T.back (λ o. o.0) (λ o. T.is_default o.0) };
 }
 
 /// The fields of a struct: a tuple of what is read back.
 pub trait FieldsRoundTrip: FieldsDocument + ReadableParts {
-    ghost use Rattle.std.specs.Prelude.{◌≡◌, List, ℕ, length, true};
     ghost use Rattle.cbor_model.specs.Document.{structure};
-    ghost use Rattle.cbor_round.specs.Names.{are_distinct};
-    ghost use Rattle.cbor_round.specs.ReadBack.{IsReadBack};
+    ghost use Rattle.cbor_round.specs.TypeLaws.{ByNames, FieldsLaw};
 
     // What the law asks of the parts.
     ghost fits: { Self → Type 0 };
 
+    // The law as a value.
+    ghost law: { FieldsLaw Self };
+
     // By such names the parts are read back.
-    ghost back: { (names : List (List ℕ)) → length names ≡ Self.count
-        → are_distinct names ≡ true
-        → IsReadBack (λ t. structure (Self.fields names t)) (Self.reads names) fits };
+    ghost back: { ByNames Self.count (λ names t. structure (Self.fields names t)) Self.reads fits };
 }
 
 impl<F: FieldsRoundTrip> PartsRoundTrip for F {
+    ghost use Rattle.cbor_round.specs.TypeLaws.{parts_law};
+
     ghost fits = { F.fits };
+
+    ghost law = { parts_law F.law.count F.law.back };
 
     ghost back = { F.back };
 }
 
 /// The parts of a variant: a tuple of what is read back.
 pub trait TupleRoundTrip: TupleDocuments + ReadableTuple {
+    ghost use Rattle.cbor_round.specs.TypeLaws.{TupleLaw};
     ghost use Rattle.cbor_round.specs.Lists.{ArePartsReadBack};
 
     // What the law asks of the parts.
     ghost fits: { Self → Type 0 };
+
+    // The law as a value.
+    ghost law: { TupleLaw Self };
 
     // They are read back as the items of an array.
     ghost back: { ArePartsReadBack Self.documents (λ c t rs. Self.parts c rs t) fits };
@@ -56,10 +113,14 @@ pub trait TupleRoundTrip: TupleDocuments + ReadableTuple {
 
 /// A variant that is read back, in whatever place it is.
 pub trait VariantRoundTrip: VariantDocument + Variant {
+    ghost use Rattle.cbor_round.specs.TypeLaws.{VariantLaw};
     ghost use Rattle.cbor_round.specs.Variants.{IsVariantReadBack};
 
     // What the law asks of the variant's parts.
     ghost fits: { Self → Type 0 };
+
+    // The law as a value.
+    ghost law: { VariantLaw Self };
 
     // It is read back by whatever number and name.
     ghost back: { IsVariantReadBack Self.document Self.means fits };
@@ -67,24 +128,33 @@ pub trait VariantRoundTrip: VariantDocument + Variant {
 
 impl VariantRoundTrip for () {
     ghost use Rattle.cbor_round.specs.Variants.{unit_back};
+    ghost use Rattle.cbor_round.specs.TypeLaws.{variant_law};
 
     ghost fits = { λ u. Unit {0} };
 
-    ghost back = { unit_back };
+    ghost law = { variant_law unit_back };
+
+    ghost back = { Self.law.back };
 }
 
 impl<T: RoundTrip + Drop> VariantRoundTrip for Newtype<T> {
     ghost use Rattle.cbor_round.specs.Variants.{newtype_back};
+    ghost use Rattle.cbor_round.specs.TypeLaws.{variant_law};
 
     ghost fits = { λ v. T.fits v.0 };
+
+    ghost law = { variant_law (newtype_back (λ v. v.0) T.law.back) };
 
     ghost back = { newtype_back (λ v. v.0) T.back };
 }
 
 impl<F: TupleRoundTrip> VariantRoundTrip for Tuple<F> {
     ghost use Rattle.cbor_round.specs.Variants.{tuple_back};
+    ghost use Rattle.cbor_round.specs.TypeLaws.{variant_law};
 
     ghost fits = { λ v. F.fits v.0 };
+
+    ghost law = { variant_law (tuple_back (λ v. v.0) F.law.back) };
 
     ghost back = { tuple_back (λ v. v.0) F.back };
 }
@@ -97,9 +167,13 @@ where
     ghost use Rattle.std.specs.Prelude.{◌≡◌, length, true};
     ghost use Rattle.cbor_round.specs.Names.{are_distinct};
     ghost use Rattle.cbor_round.specs.Variants.{struct_variant_back};
+    ghost use Rattle.cbor_round.specs.TypeLaws.{variant_law};
 
     ghost fits = { λ v. (length N.names ≡ N.Parts.count)
         × (are_distinct N.names ≡ true) × N.Parts.fits v.0 };
+
+    ghost law = { variant_law (struct_variant_back (λ v. v.0) N.Parts.law.fields N.names
+        N.Parts.law.count N.Parts.law.back) };
 
     ghost back = { struct_variant_back
         (λ v. v.0) N.Parts.fields N.names N.Parts.count N.Parts.back };

@@ -20,11 +20,28 @@ use cbor_typed::DeserializeOwned;
 /// Floats come back as their numbers, and a NaN as a NaN. A type without a law of its own is a
 /// `&str` or another that borrows.
 ///
-/// The parts of a struct or an enum by description are read back too
-/// ([`PartsRoundTrip`](crate::PartsRoundTrip)): what is generic over such a type cites their law.
+/// A struct or an enum by description has the law of its parts
+/// ([`PartsRoundTrip`](crate::PartsRoundTrip)), where no two of its names are the same, which the
+/// two `refl` show:
 ///
-/// A type of one's own names the law of the type that it is written as, by the lemmas of
-/// `specs/`:
+/// ```rust
+/// impl RoundTrip for User {
+///     ghost use Rattle.std.specs.Prelude.{refl};
+///     ghost use Rattle.serde_cbor.specs.TypeLaws.{by_description};
+///
+///     ghost law = { by_description ⟦<User as Schema>⟧.names ⟦<User as Schema>⟧.parts
+///         ⟦<<User as Schema>::Parts as PartsRoundTrip>⟧.law refl refl };
+///
+///     ghost fits = { λ u. ⟦<<User as Schema>::Parts as PartsRoundTrip>⟧.fits
+///         (⟦<User as Schema>⟧.parts u) };
+///
+///     ghost back = { Self.law.back };
+/// }
+/// ```
+///
+/// `law` is the law as a value, which what names one type cites, as this does that of `User`'s
+/// parts; what is generic cites `back`. So a type of one's own that is generic gives both. One that
+/// isn't gives the law of the type that it is written as, by the lemmas of `specs/`:
 ///
 /// ```rust
 /// /// A distance in metres, which is written and read as its number.
@@ -32,17 +49,18 @@ use cbor_typed::DeserializeOwned;
 /// struct Metres(u32);
 ///
 /// impl RoundTrip for Metres {
-///     ghost use Rattle.std.specs.Prelude.{◌≤◌, ◌-◌, ◌^◌};
 ///     ghost use Rattle.cbor_round.specs.ReadBack.{by_part};
-///     ghost use Rattle.cbor_round.specs.Scalars.{from_zero_back};
+///     ghost use Rattle.cbor_round.specs.TypeLaws.{law_of};
 ///
-///     ghost fits = { λ m. m.0 ≤ 2 ^ 32 - 1 };
+///     ghost law = { law_of (by_part (λ m. m.0) ⟦<u32 as RoundTrip>⟧.law.back) };
 ///
-///     ghost back = { by_part (λ m. m.0) (from_zero_back (2 ^ 32 - 1)) };
+///     ghost fits = { λ m. ⟦<u32 as RoundTrip>⟧.fits m.0 };
+///
+///     ghost back = { Self.law.back };
 /// }
 /// ```
 ///
-/// and a generic one the law of its parameter:
+/// A generic one names the law of its parameter:
 ///
 /// ```rust
 /// /// The last one in is the first, written and read as its vector.
@@ -52,18 +70,24 @@ use cbor_typed::DeserializeOwned;
 /// impl<T: RoundTrip> RoundTrip for Stack<T> {
 ///     ghost use Rattle.std.specs.List.{AllByRecursion};
 ///     ghost use Rattle.cbor_round.specs.Lists.{list_back};
-///     ghost use Rattle.cbor_round.specs.ReadBack.{by_part};
+///     ghost use Rattle.cbor_round.specs.TypeLaws.{law_of};
 ///
 ///     ghost fits = { λ s. AllByRecursion T.fits s.0.items };
 ///
-///     ghost back = { by_part (λ s. s.0) (list_back T.back) };
+///     ghost law = { law_of (list_back T.law.back {items = λ s. s.0.items}) };
+///
+///     ghost back = { list_back T.back };
 /// }
 /// ```
 pub trait RoundTrip: Serialize + DeserializeOwned {
+    ghost use Rattle.cbor_round.specs.TypeLaws.{Law};
     ghost use Rattle.cbor_round.specs.ReadBack.{IsReadBack};
 
     // What the law asks of a value.
     ghost fits: { Self → Type 0 };
+
+    // The law as a value, by which that of a type is proved that names this one as a part.
+    ghost law: { Law Self };
 
     // Each value that fits is read back.
     ghost back: { IsReadBack Self.document Self.reads fits };
@@ -73,6 +97,10 @@ pub trait RoundTrip: Serialize + DeserializeOwned {
 /// values of the same documents are.
 pub trait RoundTripKey: RoundTrip + Ord {
     ghost use Rattle.cbor_round.specs.Keyed.{IsToldByDocuments};
+    ghost use Rattle.cbor_round.specs.TypeLaws.{KeyLaw};
+
+    // The law of the keys as a value.
+    ghost key: { KeyLaw Self };
 
     // The documents tell the order.
     ghost told: { IsToldByDocuments Self.document Self.cmp };

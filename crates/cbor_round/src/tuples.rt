@@ -1,244 +1,290 @@
 //! Tuples, as the fields of a struct and as the parts of a variant.
 
-use crate::parts::{FieldsRoundTrip, TupleRoundTrip};
+use crate::parts::{FieldRoundTrip, FieldsRoundTrip, TupleRoundTrip};
 use crate::round_trip::RoundTrip;
 
-impl<A: RoundTrip + Drop> FieldsRoundTrip for (A,) {
+impl<A: FieldRoundTrip> FieldsRoundTrip for (A,) {
     ghost use Rattle.std.specs.Prelude.{refl};
     ghost use Rattle.cbor_round.specs.Fields.{last_field_back, struct_back};
+    ghost use Rattle.cbor_round.specs.TypeLaws.{fields_law};
 
     ghost fits = { λ t. A.fits t.0 };
 
-    ghost back = { struct_back (last_field_back A.back) (λ t. refl) };
+    ghost law = { fields_law 1 (struct_back
+        (last_field_back {S = A × Unit {0}} {view = λ t. (t.0, tt)} {of = λ p. p.0} A.law.back)
+        (λ t. refl)) };
+
+    ghost back = { struct_back (last_field_back A.read_back) (λ t. refl) };
 }
 
-impl<A: RoundTrip + Drop, B: RoundTrip + Drop> FieldsRoundTrip for (A, B) {
+impl<A: FieldRoundTrip, B: FieldRoundTrip> FieldsRoundTrip for (A, B) {
     ghost use Rattle.std.specs.Prelude.{refl};
     ghost use Rattle.cbor_round.specs.Fields.{field_back, last_field_back, struct_back};
+    ghost use Rattle.cbor_round.specs.PartsLaws.{fields2};
 
     ghost fits = { λ t. A.fits t.0 × B.fits t.1 };
 
-    ghost back = { struct_back (field_back A.back (last_field_back B.back)) (λ t. refl) };
+    ghost law = { fields2 A.law B.law };
+
+    ghost back = { struct_back (field_back A.read_back (last_field_back B.read_back)) (λ t. refl) };
 }
 
-impl<A: RoundTrip + Drop, B: RoundTrip + Drop, C: RoundTrip + Drop> FieldsRoundTrip for (A, B, C) {
+impl<A: FieldRoundTrip, B: FieldRoundTrip, C: FieldRoundTrip> FieldsRoundTrip for (A, B, C) {
     ghost use Rattle.std.specs.Prelude.{refl};
     ghost use Rattle.cbor_round.specs.Fields.{field_back, last_field_back, struct_back};
+    ghost use Rattle.cbor_round.specs.PartsLaws.{fields3};
 
     ghost fits = { λ t. A.fits t.0 × (B.fits t.1 × C.fits t.2) };
 
-    ghost back = { struct_back (field_back A.back (field_back B.back
-        (last_field_back C.back))) (λ t. refl) };
+    ghost law = { fields3 A.law B.law C.law };
+
+    ghost back = { struct_back (field_back A.read_back (field_back B.read_back
+        (last_field_back C.read_back))) (λ t. refl) };
 }
 
-impl<
-    A: RoundTrip + Drop,
-    B: RoundTrip + Drop,
-    C: RoundTrip + Drop,
-    D: RoundTrip + Drop,
-> FieldsRoundTrip for (A, B, C, D) {
+impl<A: FieldRoundTrip, B: FieldRoundTrip, C: FieldRoundTrip, D: FieldRoundTrip> FieldsRoundTrip
+    for (A, B, C, D) {
     ghost use Rattle.std.specs.Prelude.{refl};
     ghost use Rattle.cbor_round.specs.Fields.{field_back, last_field_back, struct_back};
+    ghost use Rattle.cbor_round.specs.PartsLaws.{fields4};
 
     ghost fits = { λ t. A.fits t.0 × (B.fits t.1 × (C.fits t.2 × D.fits t.3)) };
 
-    ghost back = { struct_back (field_back A.back (field_back B.back (field_back C.back
-        (last_field_back D.back)))) (λ t. refl) };
+    ghost law = { fields4 A.law B.law C.law D.law };
+
+    ghost back = { struct_back (field_back A.read_back (field_back B.read_back (field_back
+        C.read_back (last_field_back D.read_back)))) (λ t. refl) };
 }
 
 impl<
-    A: RoundTrip + Drop,
-    B: RoundTrip + Drop,
-    C: RoundTrip + Drop,
-    D: RoundTrip + Drop,
-    E: RoundTrip + Drop,
+    A: FieldRoundTrip,
+    B: FieldRoundTrip,
+    C: FieldRoundTrip,
+    D: FieldRoundTrip,
+    E: FieldRoundTrip,
 > FieldsRoundTrip for (A, B, C, D, E) {
     ghost use Rattle.std.specs.Prelude.{refl};
     ghost use Rattle.cbor_round.specs.Fields.{field_back, last_field_back, struct_back};
+    ghost use Rattle.cbor_round.specs.PartsLaws.{fields5};
 
     ghost fits = { λ t. A.fits t.0 × (B.fits t.1 × (C.fits t.2 × (D.fits t.3 × E.fits t.4))) };
 
-    ghost back = { struct_back (field_back A.back (field_back B.back (field_back C.back
-        (field_back D.back (last_field_back E.back))))) (λ t. refl) };
+    ghost law = { fields5 A.law B.law C.law D.law E.law };
+
+    ghost back = { struct_back (field_back A.read_back (field_back B.read_back (field_back
+        C.read_back (field_back D.read_back (last_field_back E.read_back))))) (λ t. refl) };
 }
 
 impl<
-    A: RoundTrip + Drop,
-    B: RoundTrip + Drop,
-    C: RoundTrip + Drop,
-    D: RoundTrip + Drop,
-    E: RoundTrip + Drop,
-    F: RoundTrip + Drop,
+    A: FieldRoundTrip,
+    B: FieldRoundTrip,
+    C: FieldRoundTrip,
+    D: FieldRoundTrip,
+    E: FieldRoundTrip,
+    F: FieldRoundTrip,
 > FieldsRoundTrip for (A, B, C, D, E, F) {
     ghost use Rattle.std.specs.Prelude.{refl};
     ghost use Rattle.cbor_round.specs.Fields.{field_back, last_field_back, struct_back};
+    ghost use Rattle.cbor_round.specs.PartsLaws.{fields6};
 
     ghost fits = { λ t. A.fits t.0 × (B.fits t.1 × (C.fits t.2 × (D.fits t.3 ×
         (E.fits t.4 × F.fits t.5)))) };
 
-    ghost back = { struct_back (field_back A.back (field_back B.back (field_back C.back
-        (field_back D.back (field_back E.back (last_field_back F.back)))))) (λ t. refl) };
+    ghost law = { fields6 A.law B.law C.law D.law E.law F.law };
+
+    ghost back = { struct_back (field_back A.read_back (field_back B.read_back (field_back
+        C.read_back (field_back D.read_back (field_back E.read_back (last_field_back
+        F.read_back)))))) (λ t. refl) };
 }
 
 impl<
-    A: RoundTrip + Drop,
-    B: RoundTrip + Drop,
-    C: RoundTrip + Drop,
-    D: RoundTrip + Drop,
-    E: RoundTrip + Drop,
-    F: RoundTrip + Drop,
-    G: RoundTrip + Drop,
+    A: FieldRoundTrip,
+    B: FieldRoundTrip,
+    C: FieldRoundTrip,
+    D: FieldRoundTrip,
+    E: FieldRoundTrip,
+    F: FieldRoundTrip,
+    G: FieldRoundTrip,
 > FieldsRoundTrip for (A, B, C, D, E, F, G) {
     ghost use Rattle.std.specs.Prelude.{refl};
     ghost use Rattle.cbor_round.specs.Fields.{field_back, last_field_back, struct_back};
+    ghost use Rattle.cbor_round.specs.PartsLaws.{fields7};
 
     ghost fits = { λ t. A.fits t.0 × (B.fits t.1 × (C.fits t.2 × (D.fits t.3 × (E.fits t.4 ×
         (F.fits t.5 × G.fits t.6))))) };
 
-    ghost back = { struct_back (field_back A.back (field_back B.back (field_back C.back
-        (field_back D.back (field_back E.back (field_back F.back
-        (last_field_back G.back))))))) (λ t. refl) };
+    ghost law = { fields7 A.law B.law C.law D.law E.law F.law G.law };
+
+    ghost back = { struct_back (field_back A.read_back (field_back B.read_back (field_back
+        C.read_back (field_back D.read_back (field_back E.read_back (field_back F.read_back
+        (last_field_back G.read_back))))))) (λ t. refl) };
 }
 
 impl<
-    A: RoundTrip + Drop,
-    B: RoundTrip + Drop,
-    C: RoundTrip + Drop,
-    D: RoundTrip + Drop,
-    E: RoundTrip + Drop,
-    F: RoundTrip + Drop,
-    G: RoundTrip + Drop,
-    H: RoundTrip + Drop,
+    A: FieldRoundTrip,
+    B: FieldRoundTrip,
+    C: FieldRoundTrip,
+    D: FieldRoundTrip,
+    E: FieldRoundTrip,
+    F: FieldRoundTrip,
+    G: FieldRoundTrip,
+    H: FieldRoundTrip,
 > FieldsRoundTrip for (A, B, C, D, E, F, G, H) {
     ghost use Rattle.std.specs.Prelude.{refl};
     ghost use Rattle.cbor_round.specs.Fields.{field_back, last_field_back, struct_back};
+    ghost use Rattle.cbor_round.specs.PartsLaws.{fields8};
 
     ghost fits = { λ t. A.fits t.0 × (B.fits t.1 × (C.fits t.2 × (D.fits t.3 × (E.fits t.4 ×
         (F.fits t.5 × (G.fits t.6 × H.fits t.7)))))) };
 
-    ghost back = { struct_back (field_back A.back (field_back B.back (field_back C.back
-        (field_back D.back (field_back E.back (field_back F.back (field_back G.back
-        (last_field_back H.back)))))))) (λ t. refl) };
+    ghost law = { fields8 A.law B.law C.law D.law E.law F.law G.law H.law };
+
+    ghost back = { struct_back (field_back A.read_back (field_back B.read_back (field_back
+        C.read_back (field_back D.read_back (field_back E.read_back (field_back F.read_back
+        (field_back G.read_back (last_field_back H.read_back)))))))) (λ t. refl) };
 }
 
 impl<
-    A: RoundTrip + Drop,
-    B: RoundTrip + Drop,
-    C: RoundTrip + Drop,
-    D: RoundTrip + Drop,
-    E: RoundTrip + Drop,
-    F: RoundTrip + Drop,
-    G: RoundTrip + Drop,
-    H: RoundTrip + Drop,
-    I: RoundTrip + Drop,
+    A: FieldRoundTrip,
+    B: FieldRoundTrip,
+    C: FieldRoundTrip,
+    D: FieldRoundTrip,
+    E: FieldRoundTrip,
+    F: FieldRoundTrip,
+    G: FieldRoundTrip,
+    H: FieldRoundTrip,
+    I: FieldRoundTrip,
 > FieldsRoundTrip for (A, B, C, D, E, F, G, H, I) {
     ghost use Rattle.std.specs.Prelude.{refl};
     ghost use Rattle.cbor_round.specs.Fields.{field_back, last_field_back, struct_back};
+    ghost use Rattle.cbor_round.specs.PartsLaws.{fields9};
 
     ghost fits = { λ t. A.fits t.0 × (B.fits t.1 × (C.fits t.2 × (D.fits t.3 × (E.fits t.4 ×
         (F.fits t.5 × (G.fits t.6 × (H.fits t.7 × I.fits t.8))))))) };
 
-    ghost back = { struct_back (field_back A.back (field_back B.back (field_back C.back
-        (field_back D.back (field_back E.back (field_back F.back (field_back G.back
-        (field_back H.back (last_field_back I.back))))))))) (λ t. refl) };
+    ghost law = { fields9 A.law B.law C.law D.law E.law F.law G.law H.law I.law };
+
+    ghost back = { struct_back (field_back A.read_back (field_back B.read_back (field_back
+        C.read_back (field_back D.read_back (field_back E.read_back (field_back F.read_back
+        (field_back G.read_back (field_back H.read_back (last_field_back I.read_back)))))))))
+        (λ t. refl) };
 }
 
 impl<
-    A: RoundTrip + Drop,
-    B: RoundTrip + Drop,
-    C: RoundTrip + Drop,
-    D: RoundTrip + Drop,
-    E: RoundTrip + Drop,
-    F: RoundTrip + Drop,
-    G: RoundTrip + Drop,
-    H: RoundTrip + Drop,
-    I: RoundTrip + Drop,
-    J: RoundTrip + Drop,
+    A: FieldRoundTrip,
+    B: FieldRoundTrip,
+    C: FieldRoundTrip,
+    D: FieldRoundTrip,
+    E: FieldRoundTrip,
+    F: FieldRoundTrip,
+    G: FieldRoundTrip,
+    H: FieldRoundTrip,
+    I: FieldRoundTrip,
+    J: FieldRoundTrip,
 > FieldsRoundTrip for (A, B, C, D, E, F, G, H, I, J) {
     ghost use Rattle.std.specs.Prelude.{refl};
     ghost use Rattle.cbor_round.specs.Fields.{field_back, last_field_back, struct_back};
+    ghost use Rattle.cbor_round.specs.PartsLaws.{fields10};
 
     ghost fits = { λ t. A.fits t.0 × (B.fits t.1 × (C.fits t.2 × (D.fits t.3 × (E.fits t.4 ×
         (F.fits t.5 × (G.fits t.6 × (H.fits t.7 × (I.fits t.8 × J.fits t.9)))))))) };
 
-    ghost back = { struct_back (field_back A.back (field_back B.back (field_back C.back
-        (field_back D.back (field_back E.back (field_back F.back (field_back G.back
-        (field_back H.back (field_back I.back (last_field_back J.back)))))))))) (λ t. refl) };
+    ghost law = { fields10 A.law B.law C.law D.law E.law F.law G.law H.law I.law J.law };
+
+    ghost back = { struct_back (field_back A.read_back (field_back B.read_back (field_back
+        C.read_back (field_back D.read_back (field_back E.read_back (field_back F.read_back
+        (field_back G.read_back (field_back H.read_back (field_back I.read_back (last_field_back
+        J.read_back)))))))))) (λ t. refl) };
 }
 
 impl<
-    A: RoundTrip + Drop,
-    B: RoundTrip + Drop,
-    C: RoundTrip + Drop,
-    D: RoundTrip + Drop,
-    E: RoundTrip + Drop,
-    F: RoundTrip + Drop,
-    G: RoundTrip + Drop,
-    H: RoundTrip + Drop,
-    I: RoundTrip + Drop,
-    J: RoundTrip + Drop,
-    K: RoundTrip + Drop,
+    A: FieldRoundTrip,
+    B: FieldRoundTrip,
+    C: FieldRoundTrip,
+    D: FieldRoundTrip,
+    E: FieldRoundTrip,
+    F: FieldRoundTrip,
+    G: FieldRoundTrip,
+    H: FieldRoundTrip,
+    I: FieldRoundTrip,
+    J: FieldRoundTrip,
+    K: FieldRoundTrip,
 > FieldsRoundTrip for (A, B, C, D, E, F, G, H, I, J, K) {
     ghost use Rattle.std.specs.Prelude.{refl};
     ghost use Rattle.cbor_round.specs.Fields.{field_back, last_field_back, struct_back};
+    ghost use Rattle.cbor_round.specs.PartsLaws.{fields11};
 
     ghost fits = { λ t. A.fits t.0 × (B.fits t.1 × (C.fits t.2 × (D.fits t.3 × (E.fits t.4 ×
         (F.fits t.5 × (G.fits t.6 × (H.fits t.7 × (I.fits t.8 ×
         (J.fits t.9 × K.fits t.10))))))))) };
 
-    ghost back = { struct_back (field_back A.back (field_back B.back (field_back C.back
-        (field_back D.back (field_back E.back (field_back F.back (field_back G.back
-        (field_back H.back (field_back I.back (field_back J.back
-        (last_field_back K.back))))))))))) (λ t. refl) };
+    ghost law = { fields11 A.law B.law C.law D.law E.law F.law G.law H.law I.law J.law K.law };
+
+    ghost back = { struct_back (field_back A.read_back (field_back B.read_back (field_back
+        C.read_back (field_back D.read_back (field_back E.read_back (field_back F.read_back
+        (field_back G.read_back (field_back H.read_back (field_back I.read_back (field_back
+        J.read_back (last_field_back K.read_back))))))))))) (λ t. refl) };
 }
 
 impl<
-    A: RoundTrip + Drop,
-    B: RoundTrip + Drop,
-    C: RoundTrip + Drop,
-    D: RoundTrip + Drop,
-    E: RoundTrip + Drop,
-    F: RoundTrip + Drop,
-    G: RoundTrip + Drop,
-    H: RoundTrip + Drop,
-    I: RoundTrip + Drop,
-    J: RoundTrip + Drop,
-    K: RoundTrip + Drop,
-    L: RoundTrip + Drop,
+    A: FieldRoundTrip,
+    B: FieldRoundTrip,
+    C: FieldRoundTrip,
+    D: FieldRoundTrip,
+    E: FieldRoundTrip,
+    F: FieldRoundTrip,
+    G: FieldRoundTrip,
+    H: FieldRoundTrip,
+    I: FieldRoundTrip,
+    J: FieldRoundTrip,
+    K: FieldRoundTrip,
+    L: FieldRoundTrip,
 > FieldsRoundTrip for (A, B, C, D, E, F, G, H, I, J, K, L) {
     ghost use Rattle.std.specs.Prelude.{refl};
     ghost use Rattle.cbor_round.specs.Fields.{field_back, last_field_back, struct_back};
+    ghost use Rattle.cbor_round.specs.PartsLaws.{fields12};
 
     ghost fits = { λ t. A.fits t.0 × (B.fits t.1 × (C.fits t.2 × (D.fits t.3 × (E.fits t.4 ×
         (F.fits t.5 × (G.fits t.6 × (H.fits t.7 × (I.fits t.8 × (J.fits t.9 ×
         (K.fits t.10 × L.fits t.11)))))))))) };
 
-    ghost back = { struct_back (field_back A.back (field_back B.back (field_back C.back
-        (field_back D.back (field_back E.back (field_back F.back (field_back G.back
-        (field_back H.back (field_back I.back (field_back J.back (field_back K.back
-        (last_field_back L.back)))))))))))) (λ t. refl) };
+    ghost law = { fields12 A.law B.law C.law D.law E.law F.law G.law H.law I.law J.law K.law L.law };
+
+    ghost back = { struct_back (field_back A.read_back (field_back B.read_back (field_back
+        C.read_back (field_back D.read_back (field_back E.read_back (field_back F.read_back
+        (field_back G.read_back (field_back H.read_back (field_back I.read_back (field_back
+        J.read_back (field_back K.read_back (last_field_back L.read_back)))))))))))) (λ t. refl) };
 }
 
 impl<A: RoundTrip + Drop> TupleRoundTrip for (A,) {
     ghost use Rattle.cbor_round.specs.Lists.{last_back};
+    ghost use Rattle.cbor_round.specs.TypeLaws.{tuple_law};
 
     ghost fits = { λ t. A.fits t.0 };
+
+    ghost law = { tuple_law (last_back {part = λ t. t.0} A.law.back) };
 
     ghost back = { last_back A.back };
 }
 
 impl<A: RoundTrip + Drop, B: RoundTrip + Drop> TupleRoundTrip for (A, B) {
     ghost use Rattle.cbor_round.specs.Lists.{part_back, last_back};
+    ghost use Rattle.cbor_round.specs.PartsLaws.{tuple2};
 
     ghost fits = { λ t. A.fits t.0 × B.fits t.1 };
+
+    ghost law = { tuple2 A.law B.law };
 
     ghost back = { part_back A.back (last_back B.back) };
 }
 
 impl<A: RoundTrip + Drop, B: RoundTrip + Drop, C: RoundTrip + Drop> TupleRoundTrip for (A, B, C) {
     ghost use Rattle.cbor_round.specs.Lists.{part_back, last_back};
+    ghost use Rattle.cbor_round.specs.PartsLaws.{tuple3};
 
     ghost fits = { λ t. A.fits t.0 × (B.fits t.1 × C.fits t.2) };
+
+    ghost law = { tuple3 A.law B.law C.law };
 
     ghost back = { part_back A.back (part_back B.back (last_back C.back)) };
 }
@@ -250,8 +296,11 @@ impl<
     D: RoundTrip + Drop,
 > TupleRoundTrip for (A, B, C, D) {
     ghost use Rattle.cbor_round.specs.Lists.{part_back, last_back};
+    ghost use Rattle.cbor_round.specs.PartsLaws.{tuple4};
 
     ghost fits = { λ t. A.fits t.0 × (B.fits t.1 × (C.fits t.2 × D.fits t.3)) };
+
+    ghost law = { tuple4 A.law B.law C.law D.law };
 
     ghost back = { part_back A.back (part_back B.back (part_back C.back (last_back D.back))) };
 }
@@ -264,8 +313,11 @@ impl<
     E: RoundTrip + Drop,
 > TupleRoundTrip for (A, B, C, D, E) {
     ghost use Rattle.cbor_round.specs.Lists.{part_back, last_back};
+    ghost use Rattle.cbor_round.specs.PartsLaws.{tuple5};
 
     ghost fits = { λ t. A.fits t.0 × (B.fits t.1 × (C.fits t.2 × (D.fits t.3 × E.fits t.4))) };
+
+    ghost law = { tuple5 A.law B.law C.law D.law E.law };
 
     ghost back = { part_back A.back (part_back B.back (part_back C.back (part_back D.back
         (last_back E.back)))) };
@@ -280,9 +332,12 @@ impl<
     F: RoundTrip + Drop,
 > TupleRoundTrip for (A, B, C, D, E, F) {
     ghost use Rattle.cbor_round.specs.Lists.{part_back, last_back};
+    ghost use Rattle.cbor_round.specs.PartsLaws.{tuple6};
 
     ghost fits = { λ t. A.fits t.0 × (B.fits t.1 × (C.fits t.2 × (D.fits t.3 ×
         (E.fits t.4 × F.fits t.5)))) };
+
+    ghost law = { tuple6 A.law B.law C.law D.law E.law F.law };
 
     ghost back = { part_back A.back (part_back B.back (part_back C.back (part_back D.back
         (part_back E.back (last_back F.back))))) };
@@ -298,9 +353,12 @@ impl<
     G: RoundTrip + Drop,
 > TupleRoundTrip for (A, B, C, D, E, F, G) {
     ghost use Rattle.cbor_round.specs.Lists.{part_back, last_back};
+    ghost use Rattle.cbor_round.specs.PartsLaws.{tuple7};
 
     ghost fits = { λ t. A.fits t.0 × (B.fits t.1 × (C.fits t.2 × (D.fits t.3 × (E.fits t.4 ×
         (F.fits t.5 × G.fits t.6))))) };
+
+    ghost law = { tuple7 A.law B.law C.law D.law E.law F.law G.law };
 
     ghost back = { part_back A.back (part_back B.back (part_back C.back (part_back D.back
         (part_back E.back (part_back F.back (last_back G.back)))))) };
@@ -317,9 +375,12 @@ impl<
     H: RoundTrip + Drop,
 > TupleRoundTrip for (A, B, C, D, E, F, G, H) {
     ghost use Rattle.cbor_round.specs.Lists.{part_back, last_back};
+    ghost use Rattle.cbor_round.specs.PartsLaws.{tuple8};
 
     ghost fits = { λ t. A.fits t.0 × (B.fits t.1 × (C.fits t.2 × (D.fits t.3 × (E.fits t.4 ×
         (F.fits t.5 × (G.fits t.6 × H.fits t.7)))))) };
+
+    ghost law = { tuple8 A.law B.law C.law D.law E.law F.law G.law H.law };
 
     ghost back = { part_back A.back (part_back B.back (part_back C.back (part_back D.back
         (part_back E.back (part_back F.back (part_back G.back (last_back H.back))))))) };

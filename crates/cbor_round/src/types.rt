@@ -8,138 +8,183 @@ use std::collections::BTreeMap;
 
 impl RoundTrip for bool {
     ghost use Rattle.cbor_round.specs.Scalars.{bool_back};
+    ghost use Rattle.cbor_round.specs.TypeLaws.{law_of};
 
     ghost fits = { λ b. Unit {0} };
 
-    ghost back = { bool_back };
+    ghost law = { law_of bool_back };
+
+    ghost back = { Self.law.back };
 }
 
 impl RoundTrip for () {
     ghost use Rattle.cbor_round.specs.Scalars.{unit_back};
+    ghost use Rattle.cbor_round.specs.TypeLaws.{law_of};
 
     ghost fits = { λ u. Unit {0} };
 
-    ghost back = { unit_back };
+    ghost law = { law_of unit_back };
+
+    ghost back = { Self.law.back };
 }
 
 impl RoundTrip for u8 {
     ghost use Rattle.std.specs.Prelude.{◌≤◌, ◌-◌, ◌^◌};
     ghost use Rattle.cbor_round.specs.Scalars.{from_zero_back};
+    ghost use Rattle.cbor_round.specs.TypeLaws.{law_of};
 
     ghost fits = { λ n. n ≤ 2 ^ 8 - 1 };
 
-    ghost back = { from_zero_back (2 ^ 8 - 1) };
+    ghost law = { law_of (from_zero_back (2 ^ 8 - 1)) };
+
+    ghost back = { Self.law.back };
 }
 
 impl RoundTrip for u16 {
     ghost use Rattle.std.specs.Prelude.{◌≤◌, ◌-◌, ◌^◌};
     ghost use Rattle.cbor_round.specs.Scalars.{from_zero_back};
+    ghost use Rattle.cbor_round.specs.TypeLaws.{law_of};
 
     ghost fits = { λ n. n ≤ 2 ^ 16 - 1 };
 
-    ghost back = { from_zero_back (2 ^ 16 - 1) };
+    ghost law = { law_of (from_zero_back (2 ^ 16 - 1)) };
+
+    ghost back = { Self.law.back };
 }
 
 impl RoundTrip for u32 {
     ghost use Rattle.std.specs.Prelude.{◌≤◌, ◌-◌, ◌^◌};
     ghost use Rattle.cbor_round.specs.Scalars.{from_zero_back};
+    ghost use Rattle.cbor_round.specs.TypeLaws.{law_of};
 
     ghost fits = { λ n. n ≤ 2 ^ 32 - 1 };
 
-    ghost back = { from_zero_back (2 ^ 32 - 1) };
+    ghost law = { law_of (from_zero_back (2 ^ 32 - 1)) };
+
+    ghost back = { Self.law.back };
 }
 
 impl RoundTrip for u64 {
     ghost use Rattle.std.specs.Prelude.{◌≤◌, ◌-◌, ◌^◌};
     ghost use Rattle.cbor_round.specs.Scalars.{from_zero_back};
+    ghost use Rattle.cbor_round.specs.TypeLaws.{law_of};
 
     ghost fits = { λ n. n ≤ 2 ^ 64 - 1 };
 
-    ghost back = { from_zero_back (2 ^ 64 - 1) };
+    ghost law = { law_of (from_zero_back (2 ^ 64 - 1)) };
+
+    ghost back = { Self.law.back };
 }
 
 impl RoundTrip for u128 {
     ghost use Rattle.std.specs.Prelude.{◌≤◌, ◌-◌, ◌^◌};
     ghost use Rattle.cbor_round.specs.Scalars.{from_zero_back};
+    ghost use Rattle.cbor_round.specs.TypeLaws.{law_of};
 
     ghost fits = { λ n. n ≤ 2 ^ 128 - 1 };
 
-    ghost back = { from_zero_back (2 ^ 128 - 1) };
+    ghost law = { law_of (from_zero_back (2 ^ 128 - 1)) };
+
+    ghost back = { Self.law.back };
 }
 
 impl RoundTrip for usize {
     ghost use Rattle.std.specs.Prelude.{◌≤◌, ◌-◌, ◌^◌};
     ghost use Rattle.cbor_round.specs.Scalars.{from_zero_back};
+    ghost use Rattle.cbor_round.specs.TypeLaws.{law_of};
 
     ghost fits = { λ n. n ≤ 2 ^ 64 - 1 };
 
-    ghost back = { from_zero_back (2 ^ 64 - 1) };
+    ghost law = { law_of (from_zero_back (2 ^ 64 - 1)) };
+
+    ghost back = { Self.law.back };
 }
 
 impl RoundTrip for i8 {
     ghost use Rattle.std.specs.Prelude.{◌-◌, ◌^◌};
     ghost use Rattle.cbor_model.specs.Readable.{IsWithin};
     ghost use Rattle.cbor_round.specs.Scalars.{signed_back};
+    ghost use Rattle.cbor_round.specs.TypeLaws.{law_of};
 
     ghost fits = { IsWithin (2 ^ 7 - 1) };
 
-    ghost back = { signed_back (2 ^ 7 - 1) };
+    ghost law = { law_of (signed_back (2 ^ 7 - 1)) };
+
+    ghost back = { Self.law.back };
 }
 
 impl RoundTrip for i16 {
     ghost use Rattle.std.specs.Prelude.{◌-◌, ◌^◌};
     ghost use Rattle.cbor_model.specs.Readable.{IsWithin};
     ghost use Rattle.cbor_round.specs.Scalars.{signed_back};
+    ghost use Rattle.cbor_round.specs.TypeLaws.{law_of};
 
     ghost fits = { IsWithin (2 ^ 15 - 1) };
 
-    ghost back = { signed_back (2 ^ 15 - 1) };
+    ghost law = { law_of (signed_back (2 ^ 15 - 1)) };
+
+    ghost back = { Self.law.back };
 }
 
 impl RoundTrip for i32 {
     ghost use Rattle.std.specs.Prelude.{◌-◌, ◌^◌};
     ghost use Rattle.cbor_model.specs.Readable.{IsWithin};
     ghost use Rattle.cbor_round.specs.Scalars.{signed_back};
+    ghost use Rattle.cbor_round.specs.TypeLaws.{law_of};
 
     ghost fits = { IsWithin (2 ^ 31 - 1) };
 
-    ghost back = { signed_back (2 ^ 31 - 1) };
+    ghost law = { law_of (signed_back (2 ^ 31 - 1)) };
+
+    ghost back = { Self.law.back };
 }
 
 impl RoundTrip for i64 {
     ghost use Rattle.std.specs.Prelude.{◌-◌, ◌^◌};
     ghost use Rattle.cbor_model.specs.Readable.{IsWithin};
     ghost use Rattle.cbor_round.specs.Scalars.{signed_back};
+    ghost use Rattle.cbor_round.specs.TypeLaws.{law_of};
 
     ghost fits = { IsWithin (2 ^ 63 - 1) };
 
-    ghost back = { signed_back (2 ^ 63 - 1) };
+    ghost law = { law_of (signed_back (2 ^ 63 - 1)) };
+
+    ghost back = { Self.law.back };
 }
 
 impl RoundTrip for isize {
     ghost use Rattle.std.specs.Prelude.{◌-◌, ◌^◌};
     ghost use Rattle.cbor_model.specs.Readable.{IsWithin};
     ghost use Rattle.cbor_round.specs.Scalars.{signed_back};
+    ghost use Rattle.cbor_round.specs.TypeLaws.{law_of};
 
     ghost fits = { IsWithin (2 ^ 63 - 1) };
 
-    ghost back = { signed_back (2 ^ 63 - 1) };
+    ghost law = { law_of (signed_back (2 ^ 63 - 1)) };
+
+    ghost back = { Self.law.back };
 }
 
 impl RoundTrip for i128 {
     ghost use Rattle.cbor_round.specs.Scalars.{integer_back};
+    ghost use Rattle.cbor_round.specs.TypeLaws.{law_of};
 
     ghost fits = { λ z. Unit {0} };
 
-    ghost back = { integer_back };
+    ghost law = { law_of integer_back };
+
+    ghost back = { Self.law.back };
 }
 
 impl RoundTrip for Float {
     ghost use Rattle.cbor_round.specs.Scalars.{float_back};
+    ghost use Rattle.cbor_round.specs.TypeLaws.{law_of};
 
     ghost fits = { λ f. Unit {0} };
 
-    ghost back = { float_back };
+    ghost law = { law_of float_back };
+
+    ghost back = { Self.law.back };
 }
 
 /// Each number; and a NaN as a NaN.
@@ -148,10 +193,13 @@ impl RoundTrip for f32 {
     ghost use Rattle.std.specs.Float.{binary32};
     ghost use Rattle.std.specs.Float.Ieee as ieee;
     ghost use Rattle.cbor_round.specs.Scalars.{single_back};
+    ghost use Rattle.cbor_round.specs.TypeLaws.{law_of};
 
     ghost fits = { λ x. T (ieee.fits binary32 x) };
 
-    ghost back = { single_back };
+    ghost law = { law_of single_back };
+
+    ghost back = { Self.law.back };
 }
 
 /// Each number; and a NaN as a NaN.
@@ -160,42 +208,57 @@ impl RoundTrip for f64 {
     ghost use Rattle.std.specs.Float.{binary64};
     ghost use Rattle.std.specs.Float.Ieee as ieee;
     ghost use Rattle.cbor_round.specs.Scalars.{double_back};
+    ghost use Rattle.cbor_round.specs.TypeLaws.{law_of};
 
     ghost fits = { λ x. T (ieee.fits binary64 x) };
 
-    ghost back = { double_back };
+    ghost law = { law_of double_back };
+
+    ghost back = { Self.law.back };
 }
 
 impl RoundTrip for char {
     ghost use Rattle.std.specs.Char.{IsScalar};
     ghost use Rattle.cbor_round.specs.Scalars.{char_back};
+    ghost use Rattle.cbor_round.specs.TypeLaws.{law_of};
 
     ghost fits = { IsScalar };
 
-    ghost back = { char_back };
+    ghost law = { law_of char_back };
+
+    ghost back = { Self.law.back };
 }
 
 impl RoundTrip for String {
     ghost use Rattle.cbor_round.specs.Scalars.{text_back};
+    ghost use Rattle.cbor_round.specs.TypeLaws.{law_of};
 
     ghost fits = { λ s. Unit {0} };
 
-    ghost back = { text_back };
+    ghost law = { law_of text_back };
+
+    ghost back = { Self.law.back };
 }
 
 impl RoundTrip for ByteBuf {
     ghost use Rattle.cbor_round.specs.Scalars.{bytes_back};
+    ghost use Rattle.cbor_round.specs.TypeLaws.{law_of};
 
     ghost fits = { λ b. Unit {0} };
 
-    ghost back = { bytes_back };
+    ghost law = { law_of (bytes_back {items = λ b. b.0.items}) };
+
+    ghost back = { Self.law.back };
 }
 
 impl<const N: usize> RoundTrip for ByteArray<N> {
     ghost use Rattle.std.specs.Prelude.{◌≡◌, length};
     ghost use Rattle.cbor_round.specs.Scalars.{byte_array_back};
+    ghost use Rattle.cbor_round.specs.TypeLaws.{law_of};
 
     ghost fits = { λ b. length b.0 ≡ N };
+
+    ghost law = { law_of (byte_array_back {n = N} {items = λ b. b.0}) };
 
     ghost back = { byte_array_back };
 }
@@ -205,18 +268,24 @@ impl RoundTrip for Value {
     ghost use Rattle.cbor_model.specs.Canonical.{IsOrdered};
     ghost use Rattle.cbor_value.specs.View.{view};
     ghost use Rattle.cbor_round.specs.Values.{value_back};
+    ghost use Rattle.cbor_round.specs.TypeLaws.{law_of};
 
     ghost fits = { λ v. IsOrdered (view v) };
 
-    ghost back = { value_back view };
+    ghost law = { law_of (value_back view) };
+
+    ghost back = { Self.law.back };
 }
 
 /// None, and Some of a value that isn't written as null: `Some(())` and `Some(None)` are, and are
 /// read as None.
 impl<T: RoundTrip> RoundTrip for Option<T> {
     ghost use Rattle.cbor_round.specs.Options.{IsAbsentOrFits, option_back};
+    ghost use Rattle.cbor_round.specs.TypeLaws.{law_of};
 
     ghost fits = { IsAbsentOrFits T.document T.fits };
+
+    ghost law = { law_of (option_back T.law.back) };
 
     ghost back = { option_back T.back };
 }
@@ -224,8 +293,11 @@ impl<T: RoundTrip> RoundTrip for Option<T> {
 impl<T: RoundTrip> RoundTrip for Vec<T> {
     ghost use Rattle.std.specs.List.{AllByRecursion};
     ghost use Rattle.cbor_round.specs.Lists.{list_back};
+    ghost use Rattle.cbor_round.specs.TypeLaws.{law_of};
 
     ghost fits = { λ v. AllByRecursion T.fits v.items };
+
+    ghost law = { law_of (list_back T.law.back {items = λ v. v.items}) };
 
     ghost back = { list_back T.back };
 }
@@ -234,24 +306,34 @@ impl<T: RoundTrip, const N: usize> RoundTrip for [T; N] {
     ghost use Rattle.std.specs.List.{AllByRecursion};
     ghost use Rattle.std.specs.Prelude.{◌≡◌, length};
     ghost use Rattle.cbor_round.specs.Lists.{array_back};
+    ghost use Rattle.cbor_round.specs.TypeLaws.{law_of};
 
     ghost fits = { λ a. (length a ≡ N) × AllByRecursion T.fits a };
+
+    ghost law = { law_of (array_back T.law.back {n = N}) };
 
     ghost back = { array_back T.back };
 }
 
 impl<A: RoundTrip> RoundTrip for (A,) {
     ghost use Rattle.cbor_round.specs.Lists.{last_back, tuple_back};
+    ghost use Rattle.cbor_round.specs.TypeLaws.{law_of};
 
     ghost fits = { λ t. A.fits t.0 };
+
+    ghost law = { law_of (tuple_back (last_back {part = λ t. t.0} A.law.back)) };
 
     ghost back = { tuple_back (last_back A.back) };
 }
 
 impl<A: RoundTrip, B: RoundTrip> RoundTrip for (A, B) {
     ghost use Rattle.cbor_round.specs.Lists.{last_back, part_back, tuple_back};
+    ghost use Rattle.cbor_round.specs.PartsLaws.{tuple2};
+    ghost use Rattle.cbor_round.specs.TypeLaws.{law_of};
 
     ghost fits = { λ t. A.fits t.0 × B.fits t.1 };
+
+    ghost law = { law_of (tuple_back (tuple2 A.law B.law).back) };
 
     ghost back = { tuple_back (part_back A.back
         (last_back B.back)) };
@@ -259,8 +341,12 @@ impl<A: RoundTrip, B: RoundTrip> RoundTrip for (A, B) {
 
 impl<A: RoundTrip, B: RoundTrip, C: RoundTrip> RoundTrip for (A, B, C) {
     ghost use Rattle.cbor_round.specs.Lists.{last_back, part_back, tuple_back};
+    ghost use Rattle.cbor_round.specs.PartsLaws.{tuple3};
+    ghost use Rattle.cbor_round.specs.TypeLaws.{law_of};
 
     ghost fits = { λ t. A.fits t.0 × (B.fits t.1 × C.fits t.2) };
+
+    ghost law = { law_of (tuple_back (tuple3 A.law B.law C.law).back) };
 
     ghost back = { tuple_back (part_back A.back
         (part_back B.back
@@ -269,8 +355,12 @@ impl<A: RoundTrip, B: RoundTrip, C: RoundTrip> RoundTrip for (A, B, C) {
 
 impl<A: RoundTrip, B: RoundTrip, C: RoundTrip, D: RoundTrip> RoundTrip for (A, B, C, D) {
     ghost use Rattle.cbor_round.specs.Lists.{last_back, part_back, tuple_back};
+    ghost use Rattle.cbor_round.specs.PartsLaws.{tuple4};
+    ghost use Rattle.cbor_round.specs.TypeLaws.{law_of};
 
     ghost fits = { λ t. A.fits t.0 × (B.fits t.1 × (C.fits t.2 × D.fits t.3)) };
+
+    ghost law = { law_of (tuple_back (tuple4 A.law B.law C.law D.law).back) };
 
     ghost back = { tuple_back (part_back A.back
         (part_back B.back
@@ -283,9 +373,13 @@ impl<K: RoundTripKey, V: RoundTrip> RoundTrip for BTreeMap<K, V> {
     ghost use Rattle.std.specs.BTreeMap.{IsOrdered};
     ghost use Rattle.std.specs.List.{AllByRecursion};
     ghost use Rattle.cbor_round.specs.Keyed.{map_back};
+    ghost use Rattle.cbor_round.specs.TypeLaws.{law_of};
 
     ghost fits = { λ m. IsOrdered K.cmp m
         × AllByRecursion (λ e. K.fits e.0 × V.fits e.1) m.entries };
+
+    ghost law = { law_of (map_back K.key.total K.key.told K.key.back V.law.back
+        {entries = λ m. m.entries}) };
 
     ghost back = { map_back K.Ord.total K.told K.back V.back };
 }
@@ -294,86 +388,140 @@ impl<K: RoundTripKey, V: RoundTrip> RoundTrip for BTreeMap<K, V> {
 /// may.
 impl<T: RoundTrip> RoundTrip for Tagged<T> {
     ghost use Rattle.cbor_round.specs.Tagged.{IsToldApart, tagged_back};
+    ghost use Rattle.cbor_round.specs.TypeLaws.{law_of};
 
     ghost fits = { λ t. IsToldApart t.tag (T.document t.value) × T.fits t.value };
+
+    ghost law = { law_of (tagged_back T.law.back {tag = λ t. t.tag} {inner = λ t. t.value}) };
 
     ghost back = { tagged_back T.back };
 }
 
 impl RoundTripKey for String {
-    ghost use Rattle.cbor_round.specs.Keyed.{texts_told};
+    ghost use Rattle.cbor_round.specs.Keyed.{texts_told, texts_total};
+    ghost use Rattle.cbor_round.specs.TypeLaws.{key_law};
+
+    ghost key = { key_law ⟦<String as RoundTrip>⟧.law.back texts_total texts_told };
 
     ghost told = { texts_told };
 }
 
 impl RoundTripKey for u8 {
+    ghost use Rattle.std.proofs.lemmas.Cmp.{nat_cmp_total};
     ghost use Rattle.cbor_round.specs.Keyed.{naturals_told};
+    ghost use Rattle.cbor_round.specs.TypeLaws.{key_law};
+
+    ghost key = { key_law ⟦<u8 as RoundTrip>⟧.law.back nat_cmp_total naturals_told };
 
     ghost told = { naturals_told };
 }
 
 impl RoundTripKey for u16 {
+    ghost use Rattle.std.proofs.lemmas.Cmp.{nat_cmp_total};
     ghost use Rattle.cbor_round.specs.Keyed.{naturals_told};
+    ghost use Rattle.cbor_round.specs.TypeLaws.{key_law};
+
+    ghost key = { key_law ⟦<u16 as RoundTrip>⟧.law.back nat_cmp_total naturals_told };
 
     ghost told = { naturals_told };
 }
 
 impl RoundTripKey for u32 {
+    ghost use Rattle.std.proofs.lemmas.Cmp.{nat_cmp_total};
     ghost use Rattle.cbor_round.specs.Keyed.{naturals_told};
+    ghost use Rattle.cbor_round.specs.TypeLaws.{key_law};
+
+    ghost key = { key_law ⟦<u32 as RoundTrip>⟧.law.back nat_cmp_total naturals_told };
 
     ghost told = { naturals_told };
 }
 
 impl RoundTripKey for u64 {
+    ghost use Rattle.std.proofs.lemmas.Cmp.{nat_cmp_total};
     ghost use Rattle.cbor_round.specs.Keyed.{naturals_told};
+    ghost use Rattle.cbor_round.specs.TypeLaws.{key_law};
+
+    ghost key = { key_law ⟦<u64 as RoundTrip>⟧.law.back nat_cmp_total naturals_told };
 
     ghost told = { naturals_told };
 }
 
 impl RoundTripKey for u128 {
+    ghost use Rattle.std.proofs.lemmas.Cmp.{nat_cmp_total};
     ghost use Rattle.cbor_round.specs.Keyed.{naturals_told};
+    ghost use Rattle.cbor_round.specs.TypeLaws.{key_law};
+
+    ghost key = { key_law ⟦<u128 as RoundTrip>⟧.law.back nat_cmp_total naturals_told };
 
     ghost told = { naturals_told };
 }
 
 impl RoundTripKey for usize {
+    ghost use Rattle.std.proofs.lemmas.Cmp.{nat_cmp_total};
     ghost use Rattle.cbor_round.specs.Keyed.{naturals_told};
+    ghost use Rattle.cbor_round.specs.TypeLaws.{key_law};
+
+    ghost key = { key_law ⟦<usize as RoundTrip>⟧.law.back nat_cmp_total naturals_told };
 
     ghost told = { naturals_told };
 }
 
 impl RoundTripKey for i8 {
+    ghost use Rattle.std.proofs.lemmas.Cmp.{int_cmp_total};
     ghost use Rattle.cbor_round.specs.Keyed.{integers_told};
+    ghost use Rattle.cbor_round.specs.TypeLaws.{key_law};
+
+    ghost key = { key_law ⟦<i8 as RoundTrip>⟧.law.back int_cmp_total integers_told };
 
     ghost told = { integers_told };
 }
 
 impl RoundTripKey for i16 {
+    ghost use Rattle.std.proofs.lemmas.Cmp.{int_cmp_total};
     ghost use Rattle.cbor_round.specs.Keyed.{integers_told};
+    ghost use Rattle.cbor_round.specs.TypeLaws.{key_law};
+
+    ghost key = { key_law ⟦<i16 as RoundTrip>⟧.law.back int_cmp_total integers_told };
 
     ghost told = { integers_told };
 }
 
 impl RoundTripKey for i32 {
+    ghost use Rattle.std.proofs.lemmas.Cmp.{int_cmp_total};
     ghost use Rattle.cbor_round.specs.Keyed.{integers_told};
+    ghost use Rattle.cbor_round.specs.TypeLaws.{key_law};
+
+    ghost key = { key_law ⟦<i32 as RoundTrip>⟧.law.back int_cmp_total integers_told };
 
     ghost told = { integers_told };
 }
 
 impl RoundTripKey for i64 {
+    ghost use Rattle.std.proofs.lemmas.Cmp.{int_cmp_total};
     ghost use Rattle.cbor_round.specs.Keyed.{integers_told};
+    ghost use Rattle.cbor_round.specs.TypeLaws.{key_law};
+
+    ghost key = { key_law ⟦<i64 as RoundTrip>⟧.law.back int_cmp_total integers_told };
 
     ghost told = { integers_told };
 }
 
 impl RoundTripKey for i128 {
+    ghost use Rattle.std.proofs.lemmas.Cmp.{int_cmp_total};
     ghost use Rattle.cbor_round.specs.Keyed.{integers_told};
+    ghost use Rattle.cbor_round.specs.TypeLaws.{key_law};
+
+    ghost key = { key_law ⟦<i128 as RoundTrip>⟧.law.back int_cmp_total integers_told };
 
     ghost told = { integers_told };
 }
 
 impl RoundTripKey for isize {
+    ghost use Rattle.std.proofs.lemmas.Cmp.{int_cmp_total};
     ghost use Rattle.cbor_round.specs.Keyed.{integers_told};
+    ghost use Rattle.cbor_round.specs.TypeLaws.{key_law};
+
+    ghost key = { key_law ⟦<isize as RoundTrip>⟧.law.back int_cmp_total integers_told };
 
     ghost told = { integers_told };
 }

@@ -8,8 +8,9 @@ ghost use Rattle.own_types.specs.declared.records.TheConstants.{USER};
 use serde_cbor::bytes::ByteArray;
 use serde_cbor::de::{Deserialize, DeserializeOwned, FromParts, Read, Readable, ReadableParts};
 use serde_cbor::parts::{Optional, OrDefault, Schema};
+use serde_cbor::round_trip::PartsRoundTrip;
 use serde_cbor::ser::{OptionalField, PartsDocument, Serialize, Serializer, Write};
-use serde_cbor::{Deserializer, Result};
+use serde_cbor::{Deserializer, Result, RoundTrip};
 
 /// Who may log in.
 #[derive(Debug, Drop)]
@@ -57,6 +58,19 @@ impl<'de, R: Read<'de>> Deserialize<'de, R> for User {
 
 impl DeserializeOwned for User {
     ghost same = { λ f a b r u h. h };
+}
+
+impl RoundTrip for User {
+    ghost use Rattle.std.specs.Prelude.{refl};
+    ghost use Rattle.serde_cbor.specs.TypeLaws.{by_description};
+
+    ghost law = { by_description ⟦<User as Schema>⟧.names ⟦<User as Schema>⟧.parts
+        ⟦<<User as Schema>::Parts as PartsRoundTrip>⟧.law refl refl };
+
+    ghost fits = { λ u. ⟦<<User as Schema>::Parts as PartsRoundTrip>⟧.fits
+        (⟦<User as Schema>⟧.parts u) };
+
+    ghost back = { Self.law.back };
 }
 
 /// What a sensor told.
@@ -151,6 +165,23 @@ impl<'de, R: Read<'de>> Deserialize<'de, R> for Settings {
     fn deserialize(de: &mut Deserializer<R>) -> Result<Settings> {
         Self::read_described(de, SETTINGS)
     }
+}
+
+impl DeserializeOwned for Settings {
+    ghost same = { λ f a b r s h. h };
+}
+
+impl RoundTrip for Settings {
+    ghost use Rattle.std.specs.Prelude.{refl};
+    ghost use Rattle.serde_cbor.specs.TypeLaws.{by_description};
+
+    ghost law = { by_description ⟦<Settings as Schema>⟧.names ⟦<Settings as Schema>⟧.parts
+        ⟦<<Settings as Schema>::Parts as PartsRoundTrip>⟧.law refl refl };
+
+    ghost fits = { λ s. ⟦<<Settings as Schema>::Parts as PartsRoundTrip>⟧.fits
+        (⟦<Settings as Schema>⟧.parts s) };
+
+    ghost back = { Self.law.back };
 }
 
 /// A name that lies in the bytes that it was read from.

@@ -6,8 +6,9 @@ ghost use Rattle.own_types.specs.declared.shapes.TheConstants.{SHAPE, SQUARE};
 
 use serde_cbor::de::{Deserialize, DeserializeOwned, FromParts, Read, Readable, ReadableParts};
 use serde_cbor::parts::{FieldNames, Newtype, OneOf4, Schema, Struct, Tuple};
+use serde_cbor::round_trip::PartsRoundTrip;
 use serde_cbor::ser::{NamedFields, PartsDocument, Serialize, Serializer, Write};
-use serde_cbor::{Deserializer, Result};
+use serde_cbor::{Deserializer, Result, RoundTrip};
 
 /// What is drawn.
 #[derive(Debug, Drop)]
@@ -99,4 +100,17 @@ impl<'de, R: Read<'de>> Deserialize<'de, R> for Shape {
 
 impl DeserializeOwned for Shape {
     ghost same = { λ f a b r s h. h };
+}
+
+impl RoundTrip for Shape {
+    ghost use Rattle.std.specs.Prelude.{refl};
+    ghost use Rattle.serde_cbor.specs.TypeLaws.{by_description};
+
+    ghost law = { by_description ⟦<Shape as Schema>⟧.names ⟦<Shape as Schema>⟧.parts
+        ⟦<<Shape as Schema>::Parts as PartsRoundTrip>⟧.law refl refl };
+
+    ghost fits = { λ s. ⟦<<Shape as Schema>::Parts as PartsRoundTrip>⟧.fits
+        (⟦<Shape as Schema>⟧.parts s) };
+
+    ghost back = { Self.law.back };
 }

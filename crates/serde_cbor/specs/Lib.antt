@@ -79,5 +79,6 @@ pub use Rattle.cbor_typed.specs.FieldTypes
 pub use Rattle.cbor_described.specs.FieldLists
 pub use Rattle.cbor_tags.specs.Tagged
 pub use Rattle.cbor_round.specs.ReadBack
+pub use Rattle.cbor_round.specs.TypeLaws
 pub use Rattle.cbor_round.specs.Keyed
 pub use Rattle.cbor_round.specs.Lists
