@@ -107,7 +107,7 @@ code_stands c d code.TrailingData at short long enum key h = tt
 code_stands c d code.RecursionLimitExceeded at short long enum key h = tt
 code_stands c d code.OutOfMemory at short long enum key h = tt
 
--- each case of the one, seen behind a step, is that case of the other
+-- each case of the one, seen after a step, is that case of the other
 pub record Carries (P : Limits → List ℕ → List ℕ → Type 0) (c d : Limits → List ℕ → Cases) : Type 0 where
   pub short : (l : Limits) (bs rest : List ℕ) (at : ℕ) → P l bs rest → (c l rest).too_short at → (d l bs).too_short at
   pub long : (l : Limits) (bs rest : List ℕ) (at : ℕ) → P l bs rest → (c l rest).too_long at → (d l bs).too_long at
@@ -154,7 +154,7 @@ shaped_stand f g levels n s a x (Err e) formats same step h =
       key = λ l bs rest at here h. subst (λ (b : List ℕ). IsBadPair f levels l b at) here.1 h;
     }) step there
 
--- the enum begins behind its tags
+-- the enum begins after its tags
 pub tagged_stand : {X : Type 0} (f g : Formats) (levels left : ℕ) (s a : Input) (r : Result X Error) → g ≡ f → Step s a (λ l bs rest. IsBehindTags f l (item_at (raws f l) levels bs) left rest) → IfErr r (λ e. Stands a e (untagged_cases g left)) → IfErr r (λ e. Stands s e (enum_cases f levels))
 tagged_stand f g levels left s a (Ok v) formats step h = tt
 tagged_stand f g levels left s a (Err e) formats step h =

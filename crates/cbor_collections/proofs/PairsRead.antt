@@ -35,7 +35,7 @@ regroup_pairs : (front : List (Raw × Raw)) (k v : Raw) (read : Reads RawPairs) 
 regroup_pairs front k v (Ok x) = ap (λ (rs : RawPairs). Ok (rs, x.1)) (sym (append_pushed front k v x.0))
 regroup_pairs front k v (Err f) = refl
 
--- behind the front
+-- after the front
 record BehindPairs (front : List (Raw × Raw)) (read : Reads RawPairs) (rs : RawPairs) (rest : List ℕ) : Type 0 where
   more : RawPairs
   is : read ≡ Ok (more, rest)
@@ -47,7 +47,7 @@ behind_pairs front (Ok x) rs rest is =
     record { more = x.0; is = ap (λ (p : RawPairs × List ℕ). Ok (x.0, p.1)) both; same = sym (ap (λ (p : RawPairs × List ℕ). p.0) both) }
 behind_pairs front (Err f) rs rest is = absurd cc
 
--- ---- a pair, and those behind it
+-- ---- a pair, and those after it
 
 -- what stands at the front of the pairs that are read
 pub data FirstPair (allows : ℕ → Bool) (p : List ℕ → Reads Raw) (n : Reads (Option Remaining)) (rs : RawPairs) (rest : List ℕ) : Type 0 where
@@ -179,7 +179,7 @@ module _ (P : List (Raw × Raw) → Type 0) (f : Formats) (levels : ℕ) (all : 
 abbrev pub NoKey : {K : Type 0} → (Raw → K → Type 0) → Formats → ℕ → Remaining → Limits → List ℕ → Type 0
 NoKey {K} keys f levels r l bs = (next : Option K) (after : Remaining) (rest : List ℕ) → IsKey keys f levels r after next l bs rest → ⊥
 
--- a key comes that is read, and no value behind it
+-- a key comes that is read, and no value after it
 pub record NoValue {V : Type 0} (values : Raw → V → Type 0) (f : Formats) (levels : ℕ) (r : Remaining) (l : Limits) (bs : List ℕ) : Type 0 where
   pub behind : Remaining
   pub start : List ℕ
@@ -247,7 +247,7 @@ module _ {K V : Type 0} (keys : Raw → K → Type 0) (values : Raw → V → Ty
   each_whole (y ∷ xs) [] h = absurd h
   each_whole (y ∷ xs) (q ∷ rs) h = (h.0, h.1, each_whole xs rs h.2)
 
-  -- behind some pairs the rest is read as well
+  -- after some pairs the rest is read as well
   rest_of : (front : List (Raw × Raw)) (more : RawPairs) (ys : List (K × V)) → ArePairsRead keys values (append_pairs front more) ys → (zs : List (K × V)) × ArePairsRead keys values more zs
   rest_of [] more ys h = (ys, h)
   rest_of (r ∷ front) more [] h = absurd h

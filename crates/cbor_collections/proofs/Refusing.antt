@@ -31,7 +31,7 @@ module _ (allowed : ReadErrorCode → Bool) (s : Input) (k : ErrorCode) (at : �
   pub refuses_memory : (N : Limits → List ℕ → Type 0) → k ≡ code.OutOfMemory → at ≡ 0 → Refuses allowed s k at N
   refuses_memory N is none = record { told = λ bs tells. inl (subst (λ (c : ErrorCode). ExcusedBy (Reports allowed) c at) (sym is) none) }
 
-  -- behind a step
+  -- after a step
   pub refuses_then : (t : Input) (P : Limits → List ℕ → List ℕ → Type 0) (N N' : Limits → List ℕ → Type 0) → ((l : Limits) (bs mid : List ℕ) → P l bs mid → N l mid → N' l bs) → Step s t P → Refuses allowed t k at N → Refuses allowed s k at N'
   refuses_then t P N N' on step h = record {
     told = λ bs tells.

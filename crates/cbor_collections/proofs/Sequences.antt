@@ -34,7 +34,7 @@ regroup : (front : List Raw) (r : Raw) (read : Reads Raws) → with_front front 
 regroup front r (Ok x) = ap (λ (rs : Raws). Ok (rs, x.1)) (sym (append-push front r x.0))
 regroup front r (Err f) = refl
 
--- behind the front
+-- after the front
 record Behind (front : List Raw) (read : Reads Raws) (rs : Raws) (rest : List ℕ) : Type 0 where
   more : Raws
   is : read ≡ Ok (more, rest)
@@ -46,7 +46,7 @@ behind_front front (Ok x) rs rest is =
     record { more = x.0; is = ap (λ (p : Raws × List ℕ). Ok (x.0, p.1)) both; same = sym (ap (λ (p : Raws × List ℕ). p.0) both) }
 behind_front front (Err f) rs rest is = absurd cc
 
--- ---- a part, and those behind it
+-- ---- a part, and those after it
 
 -- what stands at the front of the items that are read
 pub data First (p : List ℕ → Reads Raw) (n : Reads (Option Remaining)) (rs : Raws) (rest : List ℕ) : Type 0 where
@@ -176,7 +176,7 @@ no_part_rest {A = A} reads f levels r l bs none rs rest is follows = elim (first
       none x.0 behind after (record { start = start; next = n; item = record { item = i; is = item; means = x.1 } })
 ]
 
--- behind the end nothing is read
+-- after the end nothing is read
 pub no_end_rest : (f : Formats) (levels : ℕ) (r : Remaining) (l : Limits) (bs : List ℕ) → ((rest : List ℕ) → IsEnd r l bs rest → ⊥) → (rs : Raws) (rest : List ℕ) → items_at f l levels r bs ≡ Ok (rs, rest) → AreNone rs → ⊥
 no_end_rest f levels r l bs none rs rest is empty = elim (first_item f l levels r bs rs rest is) [
   | last n e ↦ none rest n
@@ -215,7 +215,7 @@ module _ {A : Type 0} (reads : Raw → A → Type 0) where
   each_length (y ∷ xs) [] h = absurd h
   each_length (y ∷ xs) (q ∷ rs) h = ap suc (each_length xs rs h.1)
 
-  -- behind some items the rest is read as well
+  -- after some items the rest is read as well
   pub rest_read : (front : List Raw) (more : Raws) (ys : List A) → AreRead reads (append front more) ys → (zs : List A) × AreRead reads more zs × (length ys ≡ length front + length zs)
   rest_read [] more ys h = (ys, h, omega arith)
   rest_read (r ∷ front) more [] h = absurd h

@@ -131,7 +131,7 @@ plain_number make low bs = plain_of (number_behind low bs) (width_of low) make
 plain_length : (make : ℕ → Head) (h : Head) (low : ℕ) (bs : List ℕ) → ((n : ℕ) (rest : List ℕ) → number_behind low bs ≡ Ok (n, rest) → Plain (width_of low) (make n)) → Plain no_bytes h → PlainAt (length_head make h low bs)
 plain_length make h low bs counted other = either (eqb low 31) _ _ (λ _. plain_ok no_bytes h bs other) (λ _. plain_number make low bs counted)
 
--- the number of a head that has no bytes behind it
+-- the number of a head that has no bytes after it
 least_number : (low n : ℕ) (bs rest : List ℕ) → width_of low ≡ no_bytes → number_behind low bs ≡ Ok (n, rest) → n ≡ low
 unfolding number_behind
 least_number low n bs rest width is = by (ltb low 24) (eqb low 24) (eqb low 25) (eqb low 26) width _ is
@@ -143,7 +143,7 @@ least_number low n bs rest width is = by (ltb low 24) (eqb low 24) (eqb low 25) 
     by false false false true w other is = absurd cc
     by false false false false w other is = absurd cc
 
--- no number is behind such a first byte
+-- no number is after such a first byte
 no_number : (low n : ℕ) (bs rest : List ℕ) → 28 ≤ low → number_behind low bs ≡ Ok (n, rest) → ⊥
 unfolding number_behind
 no_number low n bs rest from is = by (ltb low 24) (eqb low 24) (eqb low 25) (eqb low 26) (eqb low 27) refl refl refl refl refl _ _ _ _ _ _ is
@@ -188,7 +188,7 @@ array_kind_at b bs rest w h four is = by (eqb (b % 32) 31) (number_behind (b % 3
     by false (Ok n) is = ap (λ (p : (HeadWidth × Head) × List ℕ). head_kind p.0.1) (sym (ok_is _ ((w, h), rest) is))
     by false (Err e) is = absurd cc
 
--- what is read behind a head
+-- what is read after a head
 pub record Headed (f : Formats) (l : Limits) (levels b : ℕ) (bs : List ℕ) (r : Raw) (rest : List ℕ) : Type 0 where
   pub width : HeadWidth
   pub head : Head

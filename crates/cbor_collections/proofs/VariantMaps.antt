@@ -40,7 +40,7 @@ ok_pairs ps qs a b is = ap (λ (p : RawPairs × List ℕ). p.0) (ok_is (ps, a) (
 abbrev pub put_pair : Raw → Raw → RawPairs × List ℕ → Reads RawPairs
 put_pair k v x = Ok (raw_pair k v x.0, x.1)
 
--- the pairs that follow, behind the first
+-- the pairs that follow, after the first
 behind_first : (k v : Raw) (others : Reads RawPairs) (ps : RawPairs) (rest : List ℕ) → (others >>= put_pair k v) ≡ Ok (ps, rest) → (qs : RawPairs) × (after : List ℕ) × (others ≡ Ok (qs, after)) × (ps ≡ raw_pair k v qs)
 behind_first k v (Ok x) ps rest is = (x.0, x.1, refl, sym (ok_pairs (raw_pair k v x.0) ps x.1 rest is))
 behind_first k v (Err e) ps rest is = absurd cc
@@ -199,7 +199,7 @@ no_tag_byte b bs is = by (begins_tag b) is
     by true h = absurd (some_none (ap (λ (p : Option ℕ × List ℕ). p.0) (ok_is (Some b, bs) (None, b ∷ bs) h)))
 
 module _ (f : Formats) (names : List (List ℕ)) (l : Limits) (inner : Option (List ℕ → Reads Raw)) where
-  -- a variant behind such a head is its identifier alone
+  -- a variant after such a head is its identifier alone
   plain_name : (w : HeadWidth) (h : Head) (mid rest : List ℕ) → Plain w h → (r : Raw) (v : ℕ × Content) → behind_head (raws f l) inner w h mid ≡ Ok (r, rest) → IsVariant f names (untagged r) v → IsName names r v.0
   plain_name w h mid rest p (raw.unsigned x n) v is means = means.1
   plain_name w h mid rest p (raw.negative x n) v is means = means.1

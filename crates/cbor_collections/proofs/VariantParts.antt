@@ -76,7 +76,7 @@ one_is (Err f) c rest is = absurd cc
 
 -- ---- one item that is left of an array
 
--- the first item, and none behind it
+-- the first item, and none after it
 abbrev pub Only : {A : Type 0} → (Raw → A → Type 0) → Raws → A → Type 0
 Only reads rs x = FirstThen reads x AreNone rs
 

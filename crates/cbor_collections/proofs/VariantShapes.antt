@@ -34,7 +34,7 @@ use Rattle.cbor_collections.proofs.Refusing.{refuses_map, refuses_then}
 
 module _ (f : Formats) (names : List (List ℕ)) (levels : ℕ) (allowed : ReadErrorCode → Bool) (s a : Input) where
   module _ (x : Shape) (Where : List ℕ → Type 0) (on : (bs : List ℕ) → HasNoTag bs → HasShape x bs → Where bs) (shaped : Step s a (λ l bs rest. IsShaped x bs rest)) where
-    -- behind the look at the first byte
+    -- after the look at the first byte
     pub shaped_then : (t : Input) (left : ℕ) (r : Result (ℕ × Form) Error) → TakesShaped Where allowed f names levels a t left r → TakesShaped HasNoTag allowed f names levels s t left r
     shaped_then t left (Ok v) h =
         step_then s a t (λ l bs rest. IsShaped x bs rest) (λ l bs rest. Where bs → IsVariantHead f names l (item_at (raws f l) levels bs) left v.0 v.1 rest) (λ l bs rest. HasNoTag bs → IsVariantHead f names l (item_at (raws f l) levels bs) left v.0 v.1 rest)

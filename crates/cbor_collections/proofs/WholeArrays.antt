@@ -61,7 +61,7 @@ no_fault (reader.counted (suc n)) l bs rest f is stops = some_none (ap (λ (p : 
 no_fault reader.to_break l [] rest f is stops = absurd cc
 no_fault reader.to_break l (b ∷ bs) rest f is stops = fault_at_break (b == 255) _ f bs (b ∷ bs) rest is stops
 
--- nothing is taken behind the end
+-- nothing is taken after the end
 pub end_twice : (r : reader.Remaining) (new : Remaining) (t u w : Input) → new ≡ Counted 0 → Step t u (IsEnd r) → Step u w (λ l bs rest. ended_at end_in_array (remaining_of new) bs ≡ Ok (tt, rest)) → Step t w (IsEnd r)
 unfolding ended_at
 end_twice r new t u w is one two = step_then t u w (IsEnd r) (λ l bs rest. ended_at end_in_array (remaining_of new) bs ≡ Ok (tt, rest)) (IsEnd r)

@@ -109,7 +109,7 @@ abbrev pub size_of : Remaining → Option ℕ
 size_of (Counted n) = Some n
 size_of ToBreak = None
 
--- Whether another item comes, and what remains behind it; or that neither an item comes nor the end.
+-- Whether another item comes, and what remains after it; or that neither an item comes nor the end.
 abbrev pub TakesMore : (ReadErrorCode → Bool) → Remaining → Remaining → Input → Input
     → Result Bool Error → Type 0
 TakesMore refusals remaining behind s t (Ok more) = Step s t (λ l bs rest. next_at end_in_array (remaining_of remaining) bs ≡ Ok (behind_next behind more, rest))

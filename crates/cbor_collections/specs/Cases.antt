@@ -112,7 +112,7 @@ untagged_cases f levels l bs = record {
   wrong_struct = IsBadPair f levels l bs;
 }
 
--- what holds behind all tags of the item at the front
+-- what holds after all tags of the item at the front
 pub record BehindTags (f : Formats) (levels : ℕ) (l : Limits) (bs : List ℕ) (P : ℕ → List ℕ → Type 0) : Type 0 where
   pub left : ℕ
   pub rest : List ℕ

@@ -10,7 +10,7 @@ use Rattle.cbor_model.specs.Readable.{PassesTags, IsUnit, IsInteger}
 use Rattle.cbor_collections.specs.Arrays.{AsArray, FirstThen, AreNone}
 use Rattle.cbor_scalars.specs.Identifiers.{IsIdentifier}
 
--- What stands behind a variant's identifier: nothing, one item, or the parts of an array.
+-- What stands after a variant's identifier: nothing, one item, or the parts of an array.
 pub data Content : Type 0 where
   alone : Content
   one : Raw → Content

@@ -64,7 +64,7 @@ Comes f remaining behind false bs rest = next_at end_in_map remaining bs ≡ Ok 
 Comes f remaining behind true bs rest =
     (next_at end_in_map remaining bs ≡ Ok (Some behind, rest)) × (key_front f rest ≡ Ok (tt, rest))
 
--- Whether another pair comes, and what remains behind it; or that neither a key comes that may begin
+-- Whether another pair comes, and what remains after it; or that neither a key comes that may begin
 -- as it does nor the end.
 abbrev pub TakesMorePairs : (ReadErrorCode → Bool) → Formats → Remaining → Remaining → Input
     → Input → Result Bool Error → Type 0

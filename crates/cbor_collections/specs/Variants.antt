@@ -28,7 +28,7 @@ use Rattle.cbor_collections.specs.declared.variant.Shape.TheVariants as shape
 
 -- ---- the identifier
 
--- the content of an enum of this form, behind its identifier, where so many levels are left
+-- the content of an enum of this form, after its identifier, where so many levels are left
 abbrev pub content_at : Formats → Limits → ℕ → Form → List ℕ → Reads Content
 content_at f l left (form.Array remaining) bs =
     items_at f l left (remaining_of remaining) bs >>= (λ rs. Ok (parts rs.0, rs.1))
@@ -210,7 +210,7 @@ ExpectsItem refusals remaining behind s t (Err e) = Refuses refusals s (code_of 
     (λ l bs. (after : reader.Remaining) (rest : List ℕ)
     → next_at end_in_array (remaining_of remaining) bs ≡ Ok (Some after, rest) → ⊥)
 
--- behind a head of one byte, one level further in
+-- after a head of one byte, one level further in
 abbrev pub one_in : ℕ → List ℕ → Reads (Unit {0})
 one_in zero bs = Err (before too_deep bs)
 one_in (suc left) bs = Ok (tt, bs)

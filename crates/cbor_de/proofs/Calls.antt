@@ -100,7 +100,7 @@ end_stops {A} allowed s t o read kept r k w tells_as stops is keeps n h = kept_s
           subst (λ (c : ReadErrorCode). FailsBy (Reports allowed) (error_code c) (s.offset + length bs) (place e) r) (sym at.0) (tells_as (place e) (s.offset + length bs) r (0, end, same));
     }
 
--- a byte behind all that was wanted
+-- a byte after all that was wanted
 pub trailing_stops : (allowed : ReadErrorCode → Bool) (s t : Input) (o : Option ℕ) (b : ℕ) (kept : Option ReadError) (r : Refused)
     → r ≡ refused.Kept → IsSomeAnd kept (IsAt reading.TrailingData t.offset) → o ≡ Some b → NextDoes allowed s t (Ok o) → Stopped allowed (λ l. end_at) s kept r
 trailing_stops allowed s t o b kept r is keeps some h = kept_stops allowed s (λ l. end_at) kept r (IsAt reading.TrailingData t.offset) here is keeps
@@ -129,7 +129,7 @@ fault_stops {A} allowed s read kept r k w tells_as stops is keeps = kept_stops a
           subst (λ (c : ReadErrorCode). FailsBy (Reports allowed) (error_code c) (s.offset + length bs) (place e) r) (sym at.0) (tells_as (place e) (s.offset + length bs) r (length bs, end, stops (limits s bs) bs));
     }
 
--- a fault before the byte that was taken last, behind a step of which P holds
+-- a fault before the byte that was taken last, after a step of which P holds
 pub first_stops : {A : Type 0} (allowed : ReadErrorCode → Bool) (s t : Input) (read : Limits → List ℕ → Reads A) (kept : Option ReadError) (r : Refused) (k : ReadErrorCode) (w : Refusal)
     → ((offset end : ℕ) (r : Reads A) → FailsAs w end offset r → FailsBy (Reports allowed) (error_code k) end offset r)
     → (P : Limits → List ℕ → List ℕ → Type 0) → ((l : Limits) (bs mid : List ℕ) → P l bs mid → read l bs ≡ Err (record { why = w; left = suc (length mid) }))

@@ -1,4 +1,4 @@
--- What the first byte of an item says, and what is read behind a head.
+-- What the first byte of an item says, and what is read after a head.
 use Rattle.std.proofs.Common.{◌≡◌, ℕ, ◌/◌, ◌%◌, Bool, true, false, cond, eqb, List, Option, Some, None, Result, Ok, Err, refl, sym, ap, ◌∙◌}
 use Rattle.std.specs.Int.{w16, w32, w64}
 use Rattle.std.proofs.lemmas.Bool.{ne_eqb}
@@ -75,7 +75,7 @@ module _ (first : ℕ) (bs : List ℕ) where
       → (w : HeadWidth) × (head_at first bs ≡ Ok ((w, definite_head t n), rest))
   first_is rest n t other short major number = (width_of (first % 32), first_definite t other short major ∙ rw number refl)
 
--- ---- what is read behind a head
+-- ---- what is read after a head
 
 -- a test in the first of two steps
 bind_cond : {A B : Type 0} (c : Bool) (x y : Reads A) (f : A × List ℕ → Reads B) (x' y' : Reads B) → x' ≡ (x >>= f) → y' ≡ (y >>= f) → cond c x' y' ≡ (cond c x y >>= f)
@@ -135,7 +135,7 @@ module _ {Item Items Pairs : Type 0} (m : Reading Item Items Pairs) (inner : Opt
   content_behind major.tag = numbered_behind head.Tag
   content_behind major.simple = simple_behind
 
-  -- the item of this first byte is read behind its head
+  -- the item of this first byte is read after its head
   pub first_behind : (b : ℕ) (bs : List ℕ) → after_first m inner b bs ≡ (head_at b bs >>= behind)
   unfolding after_first head_at
   first_behind b bs = content_behind (major_of (b / 32)) (b % 32) bs
@@ -163,7 +163,7 @@ value_behind f l inner w (head.Float (Single n)) bs = refl
 value_behind f l inner w (head.Float (Double n)) bs = refl
 value_behind f l inner w head.Break bs = refl
 
--- the value of this first byte is read behind its head
+-- the value of this first byte is read after its head
 pub value_after : (f : Formats) (l : Limits) (inner : Option (List ℕ → Reads Val)) (b : ℕ) (w : HeadWidth) (h : Head) (bs rest : List ℕ) → head_at b bs ≡ Ok ((w, h), rest) → after_first (values f l) inner b bs ≡ after_head f l inner h rest
 value_after f l inner b w h bs rest is = first_behind (values f l) inner b bs ∙ rw is (value_behind f l inner w h rest)
 

@@ -100,7 +100,7 @@ module _ (f : Formats) (levels : ℕ) (all : Remaining) (front : List Val) where
       nothing (Ok x) = refl
       nothing (Err d) = refl
 
-  -- an item begins with b, behind which this remains
+  -- an item begins with b, after which this remains
   pub record ItemBegun (behind : Remaining) (b : ℕ) (l : Limits) (bs mid : List ℕ) : Type 0 where
     pub remaining : Remaining
     pub rest : List ℕ

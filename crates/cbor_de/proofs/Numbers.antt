@@ -1,4 +1,4 @@
--- Numbers behind their first byte.
+-- Numbers after their first byte.
 use Rattle.std.proofs.Common.{◌≡◌, ◌≤◌, ◌<◌, ◌/◌, ◌%◌, ℕ, List, Option, Ok, pos, ◌^◌, refl, ap, ◌∙◌, arith, rules, to_z}
 use Rattle.std.proofs.lemmas.Bool.{lt-ltb}
 use Rattle.std.specs.Int.{w8, w16, w32, w64, w128}

@@ -30,7 +30,7 @@ module _ (f : Formats) (levels : ℕ) (all : Remaining) (earlier : Pairs) where
   pub pairs_begin : (l : Limits) (bs : List ℕ) → earlier ≡ no_pairs → PairsSoFar all l bs bs
   pairs_begin l bs none = ap (λ (e : Pairs). with_earlier e (pairs_at l all bs)) none
 
-  -- a key begins with b, behind whose pair this remains
+  -- a key begins with b, after whose pair this remains
   pub record KeyBegun (behind : Remaining) (b : ℕ) (l : Limits) (bs mid : List ℕ) : Type 0 where
     pub remaining : Remaining
     pub rest : List ℕ

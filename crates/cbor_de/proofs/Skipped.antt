@@ -65,7 +65,7 @@ module _ {Part Whole : Type 0} (ps : Parts Part Whole) (takes : (bs : List ℕ) 
 abbrev pub PassedSoFar : {Part Whole : Type 0} → (Limits → Parts Part Whole) → (all remaining : Remaining) → Limits → List ℕ → List ℕ → Type 0
 PassedSoFar ps all remaining l bs rest = passed (parts_at (ps l) remaining rest) ≡ passed (parts_at (ps l) all bs)
 
--- a part begins with b, behind which this remains
+-- a part begins with b, after which this remains
 pub record PartBegun {Part Whole : Type 0} (ps : Limits → Parts Part Whole) (all behind : Remaining) (b : ℕ) (l : Limits) (bs mid : List ℕ) : Type 0 where
   pub remaining : Remaining
   pub rest : List ℕ

@@ -79,7 +79,7 @@ step_then s t u P Q W f h k = record {
       };
 }
 
--- what stops behind a step stops the whole
+-- what stops after a step stops the whole
 pub stops_then : {A B : Type 0} (allowed : ReadErrorCode → Bool) (read : Limits → List ℕ → Reads A) (read' : Limits → List ℕ → Reads B) (s t : Input) (e : ReadError) (P : Limits → List ℕ → List ℕ → Type 0)
     → ((bs mid : List ℕ) (f : Fault) → P (limits s bs) bs mid → read (limits s bs) mid ≡ Err f → read' (limits s bs) bs ≡ Err f) → Step s t P → Stops allowed read t e → Stops allowed read' s e
 stops_then allowed read read' s t e P on h k = record {
@@ -121,7 +121,7 @@ pub stopped_at : {A B : Type 0} (allowed : ReadErrorCode → Bool) (read : Limit
     → ((bs : List ℕ) (f : Fault) → read (limits s bs) bs ≡ Err f → read' (limits s bs) bs ≡ Err f) → Stopped allowed read s kept r → Stopped allowed read' s kept r
 stopped_at allowed read read' s kept r on = kept_on allowed read read' s s kept r (λ e. stops_at allowed read read' s e on)
 
--- a reading behind a step, which is the rest of another at these limits
+-- a reading after a step, which is the rest of another at these limits
 pub gives_at : {X A : Type 0} (allowed : ReadErrorCode → Bool) (view : X → A) (read read' : Limits → List ℕ → Reads A) (s t u : Input) (kept : Option ReadError) (r : Result X Reason) (P : Limits → List ℕ → List ℕ → Type 0)
     → ((bs mid : List ℕ) → P (limits s bs) bs mid → read' (limits s bs) bs ≡ read (limits s bs) mid) → Step s t P → Gives allowed view read t u kept r → Gives allowed view read' s u kept r
 gives_at allowed view read read' s t u kept (Ok x) P same h k = record {

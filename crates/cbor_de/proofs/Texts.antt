@@ -1,4 +1,4 @@
--- Texts behind their heads.
+-- Texts after their heads.
 use Rattle.std.proofs.Common.{◌≡◌, ◌+◌, ◌-◌, ◌^◌, ℕ, List, length, Ok, Err, refl, ap, subst, arith, ltb, Bool, true, false}
 use Rattle.cbor_model.specs.Formats.{all_formats}
 use Rattle.cbor_model.specs.Head.{no_bytes}

@@ -13,7 +13,7 @@ use Rattle.cbor_read.specs.Source.{Input, TookKept, Stays, AtLimit}
 use Rattle.cbor_de.specs.declared.refusal.Refused.{Refused}
 use Rattle.cbor_de.specs.declared.refusal.Refused.TheVariants as refused
 
--- just one byte was taken, and the error is behind it
+-- just one byte was taken, and the error is after it
 pub record TookByte (s t : Input) (at : ℕ) : Type 0 where
   pub byte : ℕ
   pub took : TookKept s t (byte ∷ [])

@@ -8,7 +8,7 @@ use Rattle.cbor_de.specs.Heads.{remaining_of}
 use Rattle.cbor_de.specs.declared.cursor.Remaining.{Remaining}
 use Rattle.cbor_de.specs.declared.cursor.Remaining.TheVariants.{Counted, ToBreak}
 
--- what remains behind the next part, if one comes
+-- what remains after the next part, if one comes
 abbrev pub behind_next : Remaining → Bool → Option reader.Remaining
 behind_next remaining false = None
 behind_next remaining true = Some (remaining_of remaining)

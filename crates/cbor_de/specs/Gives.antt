@@ -176,7 +176,7 @@ abbrev pub end_at : List ℕ → Reads (Unit {0})
 end_at [] = Ok (tt, [])
 end_at (b ∷ bs) = Err (record { why = trailing_data; left = length bs })
 
--- an item, and nothing behind it
+-- an item, and nothing after it
 abbrev pub whole_at : Formats → ℕ → Limits → List ℕ → Reads Val
 whole_at f levels l bs =
     item_at (values f l) levels bs >>= (λ v. end_at v.1 >>= (λ u. Ok (v.0, u.1)))

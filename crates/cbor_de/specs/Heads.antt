@@ -1,4 +1,4 @@
--- What a head says of the item behind it.
+-- What a head says of the item after it.
 use Rattle.std.specs.Prelude.{◌≡◌, ℕ, ◌/◌, ◌%◌, Bool, true, false, List, Option, Some, None, Result}
 use Rattle.std.specs.Prelude.{Ok, Err, pos, negsuc, ◌==◌, if◌then◌else◌}
 use Rattle.std.specs.Int.{w16, w32, w64}
@@ -161,7 +161,7 @@ after_head f l inner Undefined bs = Ok (plain.null, bs)
 after_head f l inner (Float x) bs = Ok (float_view x, bs)
 after_head f l inner Break bs = Err (before unexpected_code bs)
 
--- the first byte of the next part, and what remains behind that part; or none
+-- the first byte of the next part, and what remains after that part; or none
 abbrev pub first_behind : Option reader.Remaining → List ℕ → Reads (Option (reader.Remaining × ℕ))
 first_behind None bs = Ok (None, bs)
 first_behind (Some remaining) bs = byte_at bs >>= (λ b. Ok (Some (remaining, b.0), b.1))

@@ -23,7 +23,7 @@ text_view s = text (string_bytes s)
 abbrev pub content : Reads Chunk → Reads (List ℕ)
 content read = read >>= (λ c. Ok (c.0.bytes, c.1))
 
--- A chunk was read behind so many bytes of chunks, and its bytes were joined to the buffer; or why not.
+-- A chunk was read after so many bytes of chunks, and its bytes were joined to the buffer; or why not.
 pub record ChunkStep (read : Limits → ℕ → List ℕ → Reads Chunk) (s t : Input) : Type 0 where
   pub some : List ℕ
   pub buffer : t.buffer ≡ s.buffer ++ some
@@ -42,7 +42,7 @@ ChunkGives refusals read s t kept (Err r) =
 abbrev pub bad_of : Reads (List ℕ) → Reads ℕ
 bad_of read = read >>= (λ b. Ok (length b.0 - utf8_valid_len b.0, b.1))
 
--- Behind a text of which so many bytes stand from the first on that isn't UTF-8.
+-- After a text of which so many bytes stand from the first on that isn't UTF-8.
 abbrev pub checked_by : ℕ → List ℕ → Reads (Unit {0})
 checked_by bad bs =
     if bad == 0 then Ok (tt, bs)

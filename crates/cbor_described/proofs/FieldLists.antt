@@ -70,7 +70,7 @@ joined [] back f b = b
 joined (d ∷ front) back f b = (f.0, joined front back f.1 b)
 
 module _ {S : Type 0} (f : model.Formats) (levels : ℕ) (allowed : ReadErrorCode → Bool) where
-  -- a field behind these
+  -- a field after these
   pub slot_taken : (front : List (FieldOf S)) (d : FieldOf S) (back : List (FieldOf S)) (i : ℕ) → i ≡ length front → (fs : Slots front) (o o' : Option d.Value) (bs : Slots back) (s t : Input) (r : Result (Unit {0}) Error)
       → TakesSlot f levels allowed d.reads o o' s t r → TakesField f levels allowed (front ++ d ∷ back) i (joined front (d ∷ back) fs (o, bs)) (joined front (d ∷ back) fs (o', bs)) s t r
   slot_taken [] d back zero is fs o o' bs s t (Ok u) h = (h.0, refl, h.1)
@@ -84,7 +84,7 @@ module _ {S : Type 0} (f : model.Formats) (levels : ℕ) (allowed : ReadErrorCod
       let before : i ≡ length front = omega (arith, is) in
       slot_taken front d back i before fs.1 o o' bs s t (Err e) h
 
-  -- one of the others behind them
+  -- one of the others after them
   module _ {T : Type 0} (view : S → T) (fields : List (FieldOf T)) where
     pub taken_behind : (front : List (FieldOf S)) (i j : ℕ) → i ≡ length front + j → (fs : Slots front) (old new : Slots fields) (s t : Input) (r : Result (Unit {0}) Error)
         → TakesField f levels allowed fields j old new s t r → TakesField f levels allowed (front ++ over view fields) i (joined front (over view fields) fs (slots_over view fields old)) (joined front (over view fields) fs (slots_over view fields new)) s t r
@@ -153,7 +153,7 @@ lacking_is (d ∷ fields) slots (inr h) = let w = lacking_is fields slots.1 h in
 -- ---- what a call adds
 
 module _ {S : Type 0} (names : List (List ℕ)) (fields : List (FieldOf S)) where
-  -- behind the head no field was read
+  -- after the head no field was read
   pub begins_with : (slots : Slots fields) → slots ≡ none_yet fields → {s t : Input} {f g : Formats} {outer levels : ℕ} {all : Remaining}
       → Step s t (λ l bs rest. IsMapHead (formats_of f) l (item_at (raws (formats_of f) l) outer bs) levels all rest) → g ≡ f → StructSoFar names fields slots s f outer t g levels all
   begins_with slots none {s} {t} {f} {g} {outer} {levels} {all} head formats =

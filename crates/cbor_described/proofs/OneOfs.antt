@@ -33,7 +33,7 @@ use Rattle.cbor_collections.proofs.facts.Arrays.{NoItems, end_step, loop_begins,
 
 -- ---- the items of several parts
 
--- one item, and those behind it
+-- one item, and those after it
 then_made : {A B : Type 0} (reads : Raw → A → Type 0) (others : Raws → B → Type 0) (x : A) (y : B) (front : List Raw) (more : Raws) → Then reads x Empty front → others more y → part_then reads others (append front more) (x, y)
 then_made reads others x y [] more h k = absurd h
 then_made reads others x y (r ∷ []) more h k = (h.0, k)
@@ -57,7 +57,7 @@ module _ {A B : Type 0} (reads : Raw → A → Type 0) (others : Raws → B → 
     first_so : (l : Limits) (bs mid : List ℕ) → IsNextItem reads f levels (remaining_of r) (remaining_of new) x l bs mid → SoFar (Then reads x Empty) f levels (remaining_of r) (remaining_of new) l bs mid
     first_so l bs mid n = goes_on Empty f levels (remaining_of r) reads x (Then reads x Empty) (λ front q h k. one_more reads x q k front h) (remaining_of r) (remaining_of new) l bs bs mid (begins Empty f levels (remaining_of r) l bs tt) n
 
-    -- behind it the others aren't there
+    -- after it the others aren't there
     pub others_lack : (t : Input) (e : Error) → TakesItems allowed f others levels new m t (Err e) → TakesItems allowed f (part_then reads others) levels r s t (Err e)
     others_lack t e = refuses_then allowed s (code_of e) (offset_of e) m (IsNextItem reads f levels (remaining_of r) (remaining_of new) x) (λ l bs. AreNoItems others (items_at f l levels (remaining_of new) bs)) (λ l bs. AreNoItems (part_then reads others) (Items l bs))
         (λ l bs mid n none y rest got.

@@ -124,7 +124,7 @@ pub words : (xs ys : List ℕ) → length xs ≡ length ys → AreBytes xs → A
     → nat_cmp (big_endian xs) (big_endian ys) ≡ lex xs ys
 words = numbers 0 0
 
--- ---- strings that are equal up to n, by what is behind it
+-- ---- strings that are equal up to n, by what is after it
 
 room_behind : (n : ℕ) (xs ys : List ℕ) → length xs ≡ length ys
     → length (drop n xs) ≡ length (drop n ys)

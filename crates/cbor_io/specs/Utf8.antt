@@ -3,7 +3,7 @@
 use Rattle.std.specs.Prelude.{◌≡◌, refl, ℕ, if◌then◌else◌, List, [], ◌∷◌, ◌==◌}
 use Rattle.std.specs.Int.{is_in_range}
 
--- Another character, or the end; one, two or three of the bytes UTF8-tail; the second byte behind a
+-- Another character, or the end; one, two or three of the bytes UTF8-tail; the second byte after a
 -- first one that leaves less room to it; nothing, since no text begins so.
 pub data Utf8State : Type 0 where
   boundary : Utf8State
@@ -16,7 +16,7 @@ pub data Utf8State : Type 0 where
   after_f4 : Utf8State
   invalid : Utf8State
 
--- behind the first byte of a character: UTF8-1, UTF8-2, UTF8-3 and UTF8-4
+-- after the first byte of a character: UTF8-1, UTF8-2, UTF8-3 and UTF8-4
 abbrev pub after_first : ℕ → Utf8State
 after_first b =
     if is_in_range 0x00 0x7f b then boundary
@@ -30,7 +30,7 @@ after_first b =
     else if b == 0xf4 then after_f4
     else invalid
 
--- behind a byte that has to lie between these two
+-- after a byte that has to lie between these two
 abbrev pub follows : ℕ → ℕ → Utf8State → ℕ → Utf8State
 follows least most next b = if is_in_range least most b then next else invalid
 

@@ -8,14 +8,14 @@ use Rattle.cbor_io.specs.declared.write.io_write.IoWrite.{IoWrite}
 use Rattle.cbor_io.specs.declared.write.slice_write.SliceWrite.{SliceWrite}
 use Rattle.cbor_io.specs.declared.error.ErrorCode.{ErrorCode}
 
--- A beginning of the bytes was written, and the rest of them was not.
+-- A prefix of the bytes was written, and the rest of them was not.
 pub record AppendsBeginning (bytes : List ℕ) (old new : Option (List ℕ)) : Type 0 where
   pub front : List ℕ
   pub rest : List ℕ
   pub whole : front ++ rest ≡ bytes
   pub written : Appends old new front
 
--- Ok has appended the bytes, and an Err a beginning of them.
+-- Ok has appended the bytes, and an Err a prefix of them.
 pub record Wrote {T E : Type 0} (old : Option (List ℕ)) (bytes : List ℕ) (new : Option (List ℕ))
     (result : Result T E) : Type 0 where
   pub ok : OnOk result (Appends old new bytes)

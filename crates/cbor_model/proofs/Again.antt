@@ -132,7 +132,7 @@ chunk_count-le major (c ∷ cs) =
 
 -- ---- chunks
 
--- three parts behind another
+-- three parts after another
 behind_parts : (a b c rest : List ℕ) → ((a ++ b) ++ c) ++ rest ≡ a ++ (b ++ (c ++ rest))
 behind_parts a b c rest = simp append_assoc
 
@@ -204,7 +204,7 @@ module _ {Item Items Pairs : Type 0} (m : Reading Item Items Pairs) where
   unfolding text_at checked_text
   text_again c rest room passes = rw (room, bytes_again c.bytes rest, passes) refl
 
-  -- chunks behind their first byte, in a reader with this much fuel
+  -- chunks after their first byte, in a reader with this much fuel
   all_chunks_again : Grows m.exceeds → (major : ℕ) (cs : List Chunk) (rest : List ℕ) → major ≤ 6 → AllByRecursion IsChunk cs → Joins m (joined cs) → chunks_by m.exceeds 0 major (suc (length (flat_map (chunk major) cs ++ (0xff ∷ rest)))) (flat_map (chunk major) cs ++ (0xff ∷ rest)) ≡ Ok (cs, rest)
   all_chunks_again grows major cs rest at_most fits joins =
       let none : 0 + length (joined cs) ≡ length (joined cs) = omega arith in
@@ -245,15 +245,15 @@ module _ {Item Items Pairs : Type 0} (m : Reading Item Items Pairs) where
   unfolding pair_at
   pair_again p bs at_value more k v may key val = rw (key_is m.allows p bs may, key, val) refl
 
--- a key and a value, and the pairs behind them
+-- a key and a value, and the pairs after them
 pair_parts : (k v more rest : List ℕ) → (k ++ (v ++ more)) ++ rest ≡ k ++ (v ++ (more ++ rest))
 pair_parts k v more rest = simp append_assoc
 
--- a head, and parts behind it
+-- a head, and parts after it
 within_head : (a b rest : List ℕ) (total : ℕ) → length ((a ++ b) ++ rest) ≤ total → length (b ++ rest) ≤ total
 within_head a b rest total within = omega (arith, length-append (a ++ b) rest, length-append a b, length-append b rest)
 
--- a first byte, and parts behind it up to the break
+-- a first byte, and parts after it up to the break
 within_break : (first : ℕ) (parts rest : List ℕ) (total : ℕ) → length ((first ∷ (parts ++ break)) ++ rest) ≤ total → length (parts ++ (0xff ∷ rest)) ≤ total
 within_break first parts rest total within = omega (arith, ap length (append_assoc parts break rest))
 

@@ -40,7 +40,7 @@ agrees_cond : {A : Type 0} (b : Bool) (x x' y y' : Result A Fault) → Agrees x 
 agrees_cond true x x' y y' one other = one
 agrees_cond false x x' y y' one other = other
 
--- a number, or a length, and what is read behind it
+-- a number, or a length, and what is read after it
 abbrev EachAgrees : {A : Type 0} → (HeadWidth → ℕ → List ℕ → Reads A) → (HeadWidth → ℕ → List ℕ → Reads A) → Type 0
 EachAgrees read read' = (w : HeadWidth) (n : ℕ) (bs : List ℕ) → Agrees (read w n bs) (read' w n bs)
 

@@ -64,7 +64,7 @@ Alike-spelled f n m p q a b less more same =
     (λ is x y s t later.
     same is x y s t later ∙ sym (lex-front (f n) (a ++ s) (b ++ t)) ∙ ap (λ (i : ℕ). lex (f n ++ (a ++ s)) (f i ++ (b ++ t))) is ∙ sym (apart n m a b s t))
 
--- with nothing behind it
+-- with nothing after it
 Alike-bare : (p q a b : List ℕ) → Alike p q (a ++ []) (b ++ []) → Alike p q a b
 Alike-bare p q a b alike x y s t later = alike x y s t later ∙ ap₂ (λ (c d : List ℕ). lex (c ++ s) (d ++ t)) (append-nil a) (append-nil b)
 

@@ -133,7 +133,7 @@ number_cut w bound wide bs fits few =
       bytes = wide.back all long all_fit;
     }
 
--- a number behind a first byte with those lower five bits, that ends too early
+-- a number after a first byte with those lower five bits, that ends too early
 pub record IsCutBehind (low : ℕ) (bs : List ℕ) : Type 0 where
   pub width : HeadWidth
   pub n : ℕ

@@ -1,4 +1,4 @@
--- What the bytes must be where a fault is told, and that the same is told behind an opening and whole
+-- What the bytes must be where a fault is told, and that the same is told after an opening and whole
 -- items.
 use Rattle.std.proofs.Common.{◌≡◌, ◌⊎◌, ℕ, suc, ◌+◌, ◌%◌, Bool, true, false, cond, List, []}
 use Rattle.std.proofs.Common.{◌∷◌, ◌++◌, length, Option, Result, Ok, Err, refl, sym, ap, ◌∙◌}
@@ -43,7 +43,7 @@ pub record IsClosedBreak (bytes : List ℕ) (j : ℕ) : Type 0 where
   pub closed : (before ≡ []) ⊎ StandsClosed before
   pub first : AreFirst j bytes (before ++ (0xff ∷ []))
 
--- so many bytes are left behind the place
+-- so many bytes are left after the place
 abbrev pub At : ℕ → List ℕ → (ℕ → Type 0) → Type 0
 At left bytes Row = (j : ℕ) × (j + left ≡ length bytes) × Row j
 
@@ -75,7 +75,7 @@ pub Tells-cond : {A : Type 0} (l : Limits) (bytes : List ℕ) (b : Bool) (x y : 
 Tells-cond l bytes true x y one other = one refl
 Tells-cond l bytes false x y one other = other refl
 
--- ---- behind a frame
+-- ---- after a frame
 
 module _ (o : Opening) (items : Raws) (is_frame : IsFrame o items) where
   abbrev pre : List ℕ

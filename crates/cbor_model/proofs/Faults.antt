@@ -33,7 +33,7 @@ use Rattle.cbor_model.proofs.LeafFaults.{Tells-number_behind, unassigned_here, u
 use Rattle.cbor_model.proofs.LeafFaults.{Tells-string, Tells-text, Tells-string_chunks}
 use Rattle.cbor_model.proofs.LeafFaults.{Tells-text_chunks}
 
--- one more item behind those of a frame
+-- one more item after those of a frame
 abbrev pub with_last : Raws → Raw → Raws
 with_last rs r = all_of rs (raw.raw r no_raws)
 
@@ -54,7 +54,7 @@ pub frame_none : (o : Opening) (bs : List ℕ) → frame o no_raws ++ bs ≡ ope
 unfolding spell
 frame_none o bs = ap (λ (t : List ℕ). t ++ bs) (append-nil (opening o))
 
--- what is told of bytes is told of them behind a frame
+-- what is told of bytes is told of them after a frame
 tells_behind : {A : Type 0} (o : Opening) (items : Raws) (is_frame : IsFrame o items) (start levels : ℕ) (scratch : Option ℕ) (bs : List ℕ) (r : Reads A) → NoEnd o items is_frame bs
     → Tells (record { start = start + length (frame o items); levels = levels; scratch = scratch }) bs r
     → Tells (record { start = start; levels = suc levels; scratch = scratch }) (frame o items ++ bs) r
@@ -90,13 +90,13 @@ module _ {Item Items Pairs : Type 0} (m : Reading Item Items Pairs) (total : ℕ
     InnerTells (Some p) (suc inside) = TellsInside p inside × Finds m p inside
     InnerTells _ _ = ⊥
 
-    -- behind the items of an array
+    -- after the items of an array
     abbrev Follows : Opening → ℕ → Remaining → Type 0
     Follows (array_head w n) many (counted k) = many + k ≡ n
     Follows indefinite_array many to_break = Unit {0}
     Follows _ many remaining = ⊥
 
-    -- behind so many pairs of a map
+    -- after so many pairs of a map
     abbrev FollowsPairs : Opening → ℕ → Remaining → Type 0
     FollowsPairs (map_head w n) many (counted k) = many + k ≡ n
     FollowsPairs indefinite_map many to_break = Unit {0}
@@ -109,7 +109,7 @@ module _ {Item Items Pairs : Type 0} (m : Reading Item Items Pairs) (total : ℕ
       abbrev l : Limits
       l = limits start (suc inside)
 
-      -- an item behind those of a frame
+      -- an item after those of a frame
       item_tells : (o : Opening) (rs : Raws) (is_frame : IsFrame o rs) (bs : List ℕ) → NoEnd o rs is_frame bs → start + length (frame o rs ++ bs) ≡ total → AreBytes bs
           → Tells l (frame o rs ++ bs) (p bs)
       item_tells o rs is_frame bs no_end at_total fits =
@@ -159,7 +159,7 @@ module _ {Item Items Pairs : Type 0} (m : Reading Item Items Pairs) (total : ℕ
 
       -- ---- pairs
 
-      -- behind a key a value has its place, and no break
+      -- after a key a value has its place, and no break
       abbrev TakesValue : Opening → Raws → Type 0
       TakesValue o rs = (k : Raw) → raw.IsWellFormed k → IsFrame o (with_last rs k) × IsClosed o (count (with_last rs k))
 
@@ -184,7 +184,7 @@ module _ {Item Items Pairs : Type 0} (m : Reading Item Items Pairs) (total : ℕ
           (item_tells o rs' (takes key.item key.fits).0 k.1 (inl (takes key.item key.fits).1) (ap (λ (t : List ℕ). start + length t) moved ∙ at_total) key.rest_fits))
           (λ v got'. tt))
 
-      -- a pair, and those behind it
+      -- a pair, and those after it
       pairs_after : (o : Opening) (fuel : ℕ) (remaining : Remaining) (n : ℕ) (rs : Raws) (bs : List ℕ) → IsOpening o → AreWellFormed rs → count rs ≡ 2 * n → (is_frame : IsFrame o rs) → TakesValue o rs → NoEnd o rs is_frame bs → start + length (frame o rs ++ bs) ≡ total → AreBytes bs → length bs ≤ fuel
           → ((rs' : Raws) (more : List ℕ) → AreWellFormed rs' → count rs' ≡ 2 * suc n → start + length (frame o rs' ++ more) ≡ total → AreBytes more → length more < fuel → Tells l (frame o rs' ++ more) (parts_by (pairs_of m p) fuel remaining more))
           → Tells l (frame o rs ++ bs) (go_on (pairs_of m p) (parts_by (pairs_of m p) fuel) (Some remaining) bs)
@@ -310,7 +310,7 @@ module _ {Item Items Pairs : Type 0} (m : Reading Item Items Pairs) (total : ℕ
 
       -- ---- items
 
-      -- a number, and what is told behind it
+      -- a number, and what is told after it
       numbered_tells : {A : Type 0} (levels major low : ℕ) (read : HeadWidth → ℕ → List ℕ → Reads A) → major ≤ 6 → low < 32 → (2 ≤ major → major ≤ 5 → low ≡ 31 → ⊥)
           → ((w : HeadWidth) (n : ℕ) (bs : List ℕ) → n < limit w → start + length (head major w n ++ bs) ≡ total → AreBytes bs → Tells (limits start levels) (head major w n ++ bs) (read w n bs))
           → (bs : List ℕ) → start + suc (length bs) ≡ total → AreBytes bs → Tells (limits start levels) ((32 * major + low) ∷ bs) (with_number read low bs)
@@ -326,7 +326,7 @@ module _ {Item Items Pairs : Type 0} (m : Reading Item Items Pairs) (total : ℕ
           subst (λ (t : List ℕ). Tells l t (read w n.0 n.1)) (sym is)
           (each w n.0 n.1 behind.fits (omega (arith, at_total, ap length is)) behind.rest_fits))
 
-      -- a length, and what is told behind it, or behind none
+      -- a length, and what is told after it, or after none
       length_tells : {A : Type 0} (levels major low : ℕ) (read : HeadWidth → ℕ → List ℕ → Reads A) (others : List ℕ → Reads A) → major ≤ 6 → low < 32
           → ((w : HeadWidth) (n : ℕ) (bs : List ℕ) → n < limit w → start + length (head major w n ++ bs) ≡ total → AreBytes bs → Tells (limits start levels) (head major w n ++ bs) (read w n bs))
           → ((bs : List ℕ) → start + suc (length bs) ≡ total → AreBytes bs → Tells (limits start levels) ((32 * major + 31) ∷ bs) (others bs))

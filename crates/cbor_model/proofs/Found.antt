@@ -96,7 +96,7 @@ abbrev pub Ended : {Whole : Type 0} → (ℕ → List ℕ → Whole × List ℕ 
 Ended Are (counted n) bs x = Are n bs x
 Ended Are to_break bs x = (n : ℕ) × Are n bs (x.0, 0xff ∷ x.1)
 
--- what remains before a part, where this remains behind it
+-- what remains before a part, where this remains after it
 abbrev pub another : Remaining → Remaining
 another (counted n) = counted (suc n)
 another to_break = to_break
@@ -108,7 +108,7 @@ pub record IsChunkOf (exceeds : ℕ → Bool) (major b : ℕ) (bs : List ℕ) (x
   pub joins : exceeds (length x.0.bytes) ≡ false
   pub rest_fits : AreBytes x.1
 
--- chunks up to the break, which is taken too, behind so many bytes of chunks
+-- chunks up to the break, which is taken too, after so many bytes of chunks
 pub record AreChunks (exceeds : ℕ → Bool) (have major : ℕ) (bs : List ℕ) (x : List Chunk × List ℕ) : Type 0 where
   pub parts : bs ≡ flat_map (chunk major) x.0 ++ (0xff ∷ x.1)
   pub fits : AllByRecursion IsChunk x.0
@@ -129,7 +129,7 @@ FindsInside m (Some p) levels = (inside : ℕ) × (suc inside ≤ levels) × Fin
 pub two_parts : (bs a more b rest : List ℕ) → bs ≡ a ++ more → more ≡ b ++ rest → bs ≡ (a ++ b) ++ rest
 two_parts bs a more b rest first second = first ∙ ap (λ (t : List ℕ). a ++ t) second ∙ sym (append_assoc a b rest)
 
--- a head and what stands behind it, which is that long
+-- a head and what stands after it, which is that long
 pub behind_head : (major : ℕ) (w : HeadWidth) (n k : ℕ) (bs b rest : List ℕ) → bs ≡ b ++ rest → k ≡ n
     → head major w n ++ bs ≡ (head major w k ++ b) ++ rest
 behind_head major w n k bs b rest parts long =
@@ -159,7 +159,7 @@ pub both_hold : (a b : Bool) → (a && b) ≡ true → (a ≡ true) × (b ≡ tr
 both_hold true b e = (refl, e)
 both_hold false b e = absurd cc
 
--- the head of this major type, and what stands behind its first byte
+-- the head of this major type, and what stands after its first byte
 pub whole_head : (major low n : ℕ) (w : HeadWidth) (bs rest : List ℕ) → low ≡ info w n
     → bs ≡ behind w n ++ rest → ((32 * major + low) ∷ bs) ≡ head major w n ++ rest
 whole_head major low n w bs rest low_is parts =
@@ -239,7 +239,7 @@ module _ {Part Whole : Type 0} (ps : Parts Part Whole) (Is : List ℕ → Part �
     (nothing : (bs : List ℕ) → AreBytes bs → Are 0 bs (ps.none, bs))
     (added : (n : ℕ) (bs more rest : List ℕ) (first : Part) (others : Whole) → Is bs (first, more) → Are n more (others, rest) → Are (suc n) bs (ps.add first others, rest))
   where
-    -- one part, and those behind it
+    -- one part, and those after it
     one_found : (fuel : ℕ) (remaining : Remaining) (bs : List ℕ) (x : Whole × List ℕ) → AreBytes bs
         → ((more : List ℕ) (y : Whole × List ℕ) → AreBytes more → parts_by ps fuel remaining more ≡ Ok y → Ended Are remaining more y)
         → go_on ps (parts_by ps fuel) (Some remaining) bs ≡ Ok x → Ended Are (another remaining) bs x
@@ -329,7 +329,7 @@ module _ {Item Items Pairs : Type 0} (m : Reading Item Items Pairs) (none_fits :
       let val = finds a.0.1 b.0 key.rest_fits b.1 in
       read_as (IsPair m levels bs) ((a.0.0, b.0.0), b.0.1) x b.2 (record { at_value = a.0.1; key = key; allowed = allowed; value = val })
 
-  -- ---- what stands behind a head
+  -- ---- what stands after a head
 
   -- the content of an item of this head
   abbrev IsContent : ℕ → ℕ → HeadWidth → ℕ → List ℕ → Item × List ℕ → Type 0
@@ -665,7 +665,7 @@ module _ {Item Items Pairs : Type 0} (m : Reading Item Items Pairs) (none_fits :
         rest_fits = fits;
       })
 
-  -- a number, and what is found behind it
+  -- a number, and what is found after it
   numbered_found : (levels major low : ℕ) (read : HeadWidth → ℕ → List ℕ → Reads Item)
       → ((w : HeadWidth) (n : ℕ) (bs : List ℕ) (x : Item × List ℕ) → AreBytes bs → n < limit w
       → read w n bs ≡ Ok x → IsContent levels major w n bs x)
@@ -678,7 +678,7 @@ module _ {Item Items Pairs : Type 0} (m : Reading Item Items Pairs) (none_fits :
       subst (λ (t : List ℕ). IsItem m levels t x) (sym (whole_head major low step.0.0 w bs step.0.1 got.is_low got.parts))
       (each w step.0.0 step.0.1 x got.rest_fits got.fits step.2)
 
-  -- a length, and what is found behind it, or behind none
+  -- a length, and what is found after it, or after none
   length_found : (levels major low : ℕ) (read : HeadWidth → ℕ → List ℕ → Reads Item)
       (others : List ℕ → Reads Item)
       → ((w : HeadWidth) (n : ℕ) (bs : List ℕ) (x : Item × List ℕ) → AreBytes bs → n < limit w

@@ -87,7 +87,7 @@ floor eight_bytes = 2 ^ 32
 floor-least-le : (n : ℕ) → floor (least n) ≤ n
 floor-least-le n = least-cases (λ w. floor w ≤ n) n (omega arith) (λ a. a) (λ b. b) (λ c. c) (λ d. d)
 
--- behind one first byte
+-- after one first byte
 behind_less : (first k n m : ℕ) (x y : List ℕ) → n % 256 ^ k < m % 256 ^ k → lex (first ∷ (bytes_high_first k n ++ x)) (first ∷ (bytes_high_first k m ++ y)) ≡ Less
 behind_less first k n m x y less = lex-same first first (bytes_high_first k n ++ x) (bytes_high_first k m ++ y) refl ∙ bytes_less k n m x y less
 

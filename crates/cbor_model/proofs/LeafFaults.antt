@@ -161,7 +161,7 @@ module _ {Item Items Pairs : Type 0} (m : Reading Item Items Pairs) where
 
 -- ---- strings
 
--- how many bytes stand behind the first ones
+-- how many bytes stand after the first ones
 pub first-length : (j : ℕ) (bytes front : List ℕ) → (first : AreFirst j bytes front) → j + length first.rest ≡ length bytes
 first-length j bytes front first = omega (arith, first.long, ap length first.parts, length-append front first.rest)
 
@@ -347,7 +347,7 @@ module _ {Item Items Pairs : Type 0} (m : Reading Item Items Pairs) (total : ℕ
               },
             )
 
-    -- chunks, behind those that are read
+    -- chunks, after those that are read
     Tells-chunks : (l : Limits) → l.scratch ≡ scratch → (major have fuel : ℕ) (cs : List Chunk) (bs : List ℕ) → IsOfStrings major → AllByRecursion IsChunk cs → have ≡ length (joined cs) → AreBytes bs → length bs < fuel
         → Tells l (chunks_begun major cs ++ bs) (chunks_by m.exceeds have major fuel bs)
     unfolding chunks_by byte_at

@@ -107,7 +107,7 @@ raw_through k p w L bs f enough comes each =
 
 -- ---- fronts that no spelling has
 
--- bytes behind which the reader refuses the last of them, whatever follows
+-- bytes after which the reader refuses the last of them, whatever follows
 pub record IsHard (why : Refusal) (u : List ℕ) : Type 0 where
   pub levels : ℕ
   pub before : List ℕ

@@ -39,7 +39,7 @@ module _ {Item Items Pairs : Type 0} {m : Reading Item Items Pairs} {Cond : ℕ 
   abbrev pub AsksItem : Type 0 → List ℕ → Fault → Type 0
   AsksItem Comes bs f = Comes × (p bs ≡ Err f)
 
-  -- an item that is refused, behind those that are read
+  -- an item that is refused, after those that are read
   pub refused_behind : (o : Opening) (rs : Raws) (r : Raw) (rest bytes : List ℕ) (f : Fault) (n : ℕ) → IsFrame o rs → Bad l (spell r ++ rest) f (length (spell r))
       → frame o rs ++ (spell r ++ rest) ≡ bytes → length (frame o rs) + length (spell r) ≤ n → Bad (suc l) bytes f n
   refused_behind o rs r rest bytes f n is_frame bad same few =

@@ -22,7 +22,7 @@ module _ {Item Items Pairs : Type 0} {m : Reading Item Items Pairs} {Cond : ℕ 
   abbrev p : List ℕ → Reads Item
   p = item_at m l
 
-  -- an item, and those behind it
+  -- an item, and those after it
   one_through : (o : Opening) (fuel : ℕ) (remaining remaining' : Remaining) (rs : Raws) (r : Raw) (more bytes : List ℕ) (n : ℕ) (Last : Fault → Type 0) → IsFrame o rs → IsWellFormed r → Cond l (spell r ++ more)
       → frame o rs ++ (spell r ++ more) ≡ bytes → length (frame o rs) + length (spell r) ≤ n
       → parts_by (items_of m p) (suc fuel) remaining (spell r ++ more) ≡ go_on (items_of m p) (parts_by (items_of m p) fuel) (Some remaining') (spell r ++ more)

@@ -123,7 +123,7 @@ module _ {Item Items Pairs : Type 0} (m : Reading Item Items Pairs) (total : ℕ
   pub goes_through : (k : ℕ) (p : List ℕ) (w : IsWanted k p) (L : ℕ) (bs : List ℕ) → Cond L (p ++ bs) → Refuses L (p ++ bs) (length p) ⊎ Reaches k p (LastComes w bs) L bs
   goes_through = through passage
 
-  -- what is refused behind a path, and the ends where an array or a map is open
+  -- what is refused after a path, and the ends where an array or a map is open
   pub bad_path : (k : ℕ) (q : List ℕ) → IsWanted k q → (L r : ℕ) (bs : List ℕ) (f : Fault) (n : ℕ) → L ≡ k + r → Bad r bs f n → Bad L (q ++ bs) f (length q + n)
   bad_path = bad_wanted passage
 

@@ -69,7 +69,7 @@ far_text = (
   refl,
 )
 
--- 82 62 c3 28: behind the head of an array of two, a text whose first byte begins no character of UTF-8
+-- 82 62 c3 28: after the head of an array of two, a text whose first byte begins no character of UTF-8
 no_character : IsValidUpTo (0xc3 ∷ 0x28 ∷ []) 0
 unfolding is_utf8 chars lib.Utf8.encode
 no_character = record { short = omega arith; front = IsUtf8-nil; longest = longer }
@@ -238,7 +238,7 @@ row_text : IsFirstRefusal (limits_of None) (0x82 ∷ 0x62 ∷ 0xc3 ∷ 0x28 ∷ 
 unfolding read_value_in item_at item_by byte_at after_first content_at number_behind text_at checked_text array_at parts_by next_at is_utf8 chars utf8_valid_len lib.Utf8.encode
 row_text = row None _ invalid_utf8 2 2 refl refl refl
 
--- 82 62 c3 28 1c: and before the byte behind it, which begins no item
+-- 82 62 c3 28 1c: and before the byte after it, which begins no item
 row_text_first : IsFirstRefusal (limits_of None) (0x82 ∷ 0x62 ∷ 0xc3 ∷ 0x28 ∷ 0x1c ∷ []) invalid_utf8 2
 unfolding read_value_in item_at item_by byte_at after_first content_at number_behind text_at checked_text array_at parts_by next_at is_utf8 chars utf8_valid_len lib.Utf8.encode
 row_text_first = row None _ invalid_utf8 2 3 refl refl refl

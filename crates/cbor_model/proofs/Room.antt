@@ -1,4 +1,4 @@
--- A slice that refuses a piece holds a beginning of all pieces, and where all fit it holds them all.
+-- A slice that refuses a piece holds a prefix of all pieces, and where all fit it holds them all.
 use Rattle.std.proofs.Common.{◌≡◌, ℕ, ◌-◌, ◌≤◌, Bool, true, false, List, [], ◌∷◌, ◌++◌, length, cond, refl, ap, ◌∙◌, append_assoc, arith}
 use Rattle.std.specs.Prelude.{nat_lt}
 use Rattle.std.proofs.lemmas.Bool.{ltb-true}

@@ -1,4 +1,4 @@
--- Steps of reading: bytes, numbers, and the number behind a first byte.
+-- Steps of reading: bytes, numbers, and the number after a first byte.
 use Rattle.std.proofs.Common.{◌≡◌, ℕ, suc, ◌+◌, ◌*◌, ◌/◌, ◌%◌, ◌^◌, ◌<◌, ◌≤◌, Bool, true, false}
 use Rattle.std.proofs.Common.{cond, ltb, eqb, List, [], ◌∷◌, ◌++◌, length, take, drop, Result, Ok}
 use Rattle.std.proofs.Common.{Err, refl, sym, ap, subst, ◌∙◌, arith, inl, inr, ◌⊎◌}
@@ -191,9 +191,9 @@ number_again w bound wide n rest lt =
     let long : ltb (length (to_be_bytes w n ++ rest)) (byte_len w) ≡ false = le-ltb _ _ (omega (arith, length-append (to_be_bytes w n) rest)) in
     rw (long, take_at (to_be_bytes w n) rest (byte_len w) len, drop_at (to_be_bytes w n) rest (byte_len w) len, wide.again n lt) refl
 
--- ---- the number behind a first byte
+-- ---- the number after a first byte
 
--- what reading took behind the first byte, in that width
+-- what reading took after the first byte, in that width
 pub record IsBehind (w : HeadWidth) (low : ℕ) (bs : List ℕ) (x : ℕ × List ℕ) : Type 0 where
   pub is_low : low ≡ info w x.0
   pub parts : bs ≡ behind w x.0 ++ x.1

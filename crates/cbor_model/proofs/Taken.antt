@@ -41,7 +41,7 @@ number_behind_leaves low n bs few =
     (Leaves-cond n (eqb low 26) _ _ (number_leaves w32 n bs few)
     (Leaves-cond n (eqb low 27) _ _ (number_leaves w64 n bs few) tt))))
 
--- a number, or a length, and what is read behind it
+-- a number, or a length, and what is read after it
 abbrev EachLeaves : {A : Type 0} → (HeadWidth → ℕ → List ℕ → Reads A) → Type 0
 EachLeaves read = (w : HeadWidth) (k n : ℕ) (bs : List ℕ) → length bs ≤ n → Leaves n (read w k bs)
 

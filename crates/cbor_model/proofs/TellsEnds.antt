@@ -1,4 +1,4 @@
--- What the reader tells behind a whole item, and at the end of input.
+-- What the reader tells after a whole item, and at the end of input.
 use Rattle.std.proofs.Common.{◌≡◌, ◌⊎◌, ℕ, zero, suc, ◌+◌, ◌-◌, ◌<◌, ◌≤◌}
 use Rattle.std.proofs.Common.{false, cond, eqb, List, [], ◌∷◌, ◌++◌, length, Option, Ok, Err, refl}
 use Rattle.std.proofs.Common.{sym, ap, subst, ◌∙◌, append_assoc, arith, inl, inr}
@@ -80,7 +80,7 @@ module _ {Item Items Pairs : Type 0} (m : Reading Item Items Pairs) (total : ℕ
 
   -- ---- where an array or a map is open
 
-  -- what is told behind a path, at the end
+  -- what is told after a path, at the end
   end_before : (k : ℕ) (p : List ℕ) → IsWanted k p → (L l : ℕ) (here b : List ℕ) (f : Fault) (n : ℕ) (why : Refusal) → IsEnd why → L ≡ k + l → b ≡ p ++ here → n ≤ length here → item_at m L (p ++ here) ≡ Err f → Bad l here f n
       → Answers L b why (length b) (length b)
   end_before k p w L l here b f n why is_end levels parts few is bad = record {

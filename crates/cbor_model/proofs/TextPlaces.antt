@@ -139,7 +139,7 @@ within_text k p w j y z t b wanted fits is parts some more = by_result (item_at 
         let same : ((p ++ y) ++ (0x1c ∷ [])) ++ [] ≡ p ++ here = append-nil ((p ++ y) ++ (0x1c ∷ [])) ∙ append_assoc p y (0x1c ∷ []) in
         ap (item_at raw_items L) (sym same) ∙ hard_raw unassigned_code ((p ++ y) ++ (0x1c ∷ [])) h L [] (omega (arith, ap length same))
 
-    -- an item isn't wanted behind y
+    -- an item isn't wanted after y
     not_wanted : (i : ℕ) → IsWanted i y → ⊥
     not_wanted i wanted_y =
         elim (wanted_first i y wanted_y) [

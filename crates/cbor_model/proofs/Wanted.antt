@@ -110,7 +110,7 @@ pub record GoesOn (front : List ℕ) : Type 0 where
 regroup : (a b c d : List ℕ) → a ++ (b ++ (c ++ d)) ≡ ((a ++ b) ++ c) ++ d
 regroup a b c d = simp append_assoc
 
--- an item behind the frame, and others behind it
+-- an item after the frame, and others after it
 behind_items : (front : List ℕ) (items others : Raws) (r : Raw) (end : List ℕ)
     → front ++ (spell_all (all_of items (raw.raw r others)) ++ end) ≡ ((front ++ spell_all items) ++ spell r) ++ (spell_all others ++ end)
 unfolding spell
@@ -170,7 +170,7 @@ goes_on indefinite_map items r f fits =
       spelled = ap (λ (t : List ℕ). 0xbf ∷ (t ++ break)) ps.spelled ∙ behind_items (0xbf ∷ []) items others r break;
     }
 
--- what begins an item begins one behind a frame
+-- what begins an item begins one after a frame
 pub beginning_behind : (o : Opening) (items : Raws) (bs : List ℕ) → IsFrame o items → IsProperBeginning bs → IsProperBeginning (frame o items ++ bs)
 beginning_behind o items bs f b =
     let on = goes_on o items b.begins.item f b.begins.fits in

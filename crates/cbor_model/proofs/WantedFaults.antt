@@ -115,7 +115,7 @@ first_over exceeds have major fuel c rest at_most fits over =
     let one = chunk_over (λ k. exceeds (have + k)) major c rest fits over in
     ap (chunks_by exceeds have major (suc fuel)) (chunk-bytes major c rest) ∙ rw (no_break, one) refl
 
--- chunks are joined, and what follows them is read or refused behind them; or one of them is too long
+-- chunks are joined, and what follows them is read or refused after them; or one of them is too long
 pub record GoesOnTo (exceeds : ℕ → Bool) (have major fuel : ℕ) (cs : List Chunk) (tail : List ℕ) : Type 0 where
   pub refuses : (f : Fault) → chunks_by exceeds (have + length (joined cs)) major (suc (length tail)) tail ≡ Err f → chunks_by exceeds have major fuel (flat_map (chunk major) cs ++ tail) ≡ Err f
   pub reads : (ds : List Chunk) (rest : List ℕ) → chunks_by exceeds (have + length (joined cs)) major (suc (length tail)) tail ≡ Ok (ds, rest) → chunks_by exceeds have major fuel (flat_map (chunk major) cs ++ tail) ≡ Ok (cs ++ ds, rest)
@@ -219,7 +219,7 @@ module _ {Item Items Pairs : Type 0} (m : Reading Item Items Pairs) where
   unfolding content_at text_chunks_at checked_text
   text_chunks_err l cs bs rest is fails = item_first m l 0x7f bs ∙ rw (is, fails) refl
 
-  -- behind chunks, what is no chunk
+  -- after chunks, what is no chunk
   no_chunk_begins : (major byte : ℕ) → (BeginsChunk major byte → ⊥) → begins_chunk major byte ≡ false
   no_chunk_begins major byte none = both (eqb (byte / 32) major) (ltb (byte % 32) 28) refl refl
     where

@@ -155,7 +155,7 @@ pub record IsStrayBreak (bytes : List ℕ) (j : ℕ) : Type 0 where
   pub no_array : ¬ (StandsInIndefiniteArray at.before)
   pub no_map : ¬ (StandsInIndefiniteMap at.before)
 
--- `unexpected code` too: a string of indefinite length, as far as a byte behind well-formed chunks
+-- `unexpected code` too: a string of indefinite length, as far as a byte after well-formed chunks
 -- that is neither the break nor the first byte of a chunk (section 2.2.2).
 pub record IsNoChunk (bytes : List ℕ) (j : ℕ) : Type 0 where
   pub major : ℕ
@@ -168,7 +168,7 @@ pub record IsNoChunk (bytes : List ℕ) (j : ℕ) : Type 0 where
   pub at : StandsAt bytes j (chunks_begun major chunks ++ (byte ∷ []))
   pub open at use *
 
--- `trailing data`: an acceptable item's spelling, and a byte behind it.
+-- `trailing data`: an acceptable item's spelling, and a byte after it.
 pub record IsTrailingData (levels : ℕ) (bytes : List ℕ) (j : ℕ) : Type 0 where
   pub item : Raw
   pub byte : ℕ

@@ -1,8 +1,8 @@
--- The head of an item (RFC 7049, section 2): a first byte, and the bytes of a number behind it.
+-- The head of an item (RFC 7049, section 2): a first byte, and the bytes of a number after it.
 use Rattle.std.specs.Prelude.{ℕ, ◌+◌, ◌*◌, ◌^◌, List, [], ◌∷◌, nat_lt, if◌then◌else◌}
 use Rattle.std.specs.Int.{w8, w16, w32, w64, to_be_bytes}
 
--- How many bytes the number takes behind the first byte.
+-- How many bytes the number takes after the first byte.
 pub data HeadWidth : Type 0 where
   no_bytes : HeadWidth
   one_byte : HeadWidth
@@ -26,7 +26,7 @@ info two_bytes n = 25
 info four_bytes n = 26
 info eight_bytes n = 27
 
--- the bytes behind the first, the most significant first
+-- the bytes after the first, the most significant first
 abbrev pub behind : HeadWidth → ℕ → List ℕ
 behind no_bytes n = []
 behind one_byte n = to_be_bytes w8 n

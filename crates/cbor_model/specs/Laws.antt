@@ -209,7 +209,7 @@ FollowingIsUnread = (levels : ℕ) (r : Raw) (rest : List ℕ)
     → item_at (raws_in all_formats (length (spell r ++ rest)) None) levels (spell r ++ rest)
     ≡ Ok (r, rest)
 
--- A slice that takes whole pieces, up to the first that doesn't fit, holds a beginning of them all.
+-- A slice that takes whole pieces, up to the first that doesn't fit, holds a prefix of them all.
 abbrev pub RefusedHoldsBeginning : Type 0
 RefusedHoldsBeginning = (room : ℕ) (pieces : List (List ℕ))
     → (rest : List ℕ) × (held room pieces ++ rest ≡ whole pieces)

@@ -10,7 +10,7 @@ use Rattle.cbor_model.specs.Raw.{FloatWidth, half, single, double}
 use Rattle.cbor_model.specs.Plain.{Val, null, bool, integer, float, bytes, text, array, map, tag}
 use Rattle.cbor_model.specs.Plain.{Vals, no_vals, val, Pairs, no_pairs, pair, count, pair_count}
 
--- Lists of numbers by their first difference, a beginning before what continues it.
+-- Lists of numbers by their first difference, a prefix before what continues it.
 abbrev pub lex : List ℕ → List ℕ → Ordering
 lex = slice_cmp nat_cmp
 

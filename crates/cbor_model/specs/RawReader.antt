@@ -39,7 +39,7 @@ raws_in f total most =
     raws_where (λ left n. nat_lt (total - left + n) (2 ^ 64)) (λ b. utf8_valid_len b == length b)
     (exceeds_most most) (may_begin_key f)
 
--- An acceptable item stands at the front of the bytes, and these others behind it.
+-- An acceptable item stands at the front of the bytes, and these others after it.
 pub record Begins (levels : ℕ) (bytes : List ℕ) (item : Raw) (rest : List ℕ) : Type 0 where
   pub spelled : bytes ≡ spell item ++ rest
   pub acceptable : IsAcceptableWithin levels item

@@ -131,7 +131,7 @@ width_of low =
     else (if low == 26 then four_bytes
     else eight_bytes)))
 
--- the number behind a first byte with those lower five bits
+-- the number after a first byte with those lower five bits
 unfoldable pub number_behind : ℕ → List ℕ → Reads ℕ
 number_behind low bs =
     if nat_lt low 24 then Ok (low, bs)
@@ -141,7 +141,7 @@ number_behind low bs =
     else (if low == 27 then number_at w64 bs
     else Err (before unassigned_code bs)))))
 
--- such a number, and what is read behind it
+-- such a number, and what is read after it
 abbrev pub with_number : {A : Type 0} → (HeadWidth → ℕ → List ℕ → Reads A) → ℕ → List ℕ → Reads A
 with_number read low bs = number_behind low bs >>= (λ n. read (width_of low) n.0 n.1)
 
@@ -205,7 +205,7 @@ chunk_at exceeds major b bs =
     if begins_chunk major b then with_number (content_of_chunk exceeds) (b % 32) bs
     else Err (before unexpected_code bs)
 
--- chunks of the major type up to the break, behind so many bytes of chunks; they take fewer bytes
+-- chunks of the major type up to the break, after so many bytes of chunks; they take fewer bytes
 -- than fuel
 unfoldable pub chunks_by : (ℕ → Bool) → ℕ → ℕ → ℕ → List ℕ → Reads (List Chunk)
 chunks_by exceeds have major zero bs = Err ended
@@ -234,7 +234,7 @@ pub data Remaining : Type 0 where
   counted : ℕ → Remaining
   to_break : Remaining
 
--- What remains behind the next part, if one comes. A break that comes is taken; at an end of input
+-- What remains after the next part, if one comes. A break that comes is taken; at an end of input
 -- in its place the fault is why.
 unfoldable pub next_at : Refusal → Remaining → List ℕ → Reads (Option Remaining)
 next_at why (counted zero) bs = Ok (None, bs)
@@ -249,7 +249,7 @@ pub record Parts (Part Whole : Type 0) : Type 0 where
   pub none : Whole
   pub add : Part → Whole → Whole
 
--- a part and those behind it, where one comes
+-- a part and those after it, where one comes
 abbrev pub go_on : {Part Whole : Type 0} → Parts Part Whole → (Remaining → List ℕ → Reads Whole)
     → Option Remaining → List ℕ → Reads Whole
 go_on ps others None bs = Ok (ps.none, bs)

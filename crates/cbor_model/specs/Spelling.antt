@@ -26,7 +26,7 @@ float_spelling double bits = 0xfb ∷ to_be_bytes w64 bits
 abbrev pub break : List ℕ
 break = 0xff ∷ []
 
--- n items of an array or a map: their count before them, or a break behind them
+-- n items of an array or a map: their count before them, or a break after them
 abbrev pub enclosed : ℕ → Length → ℕ → List ℕ → List ℕ
 enclosed major (definite w) n items = head major w n ++ items
 enclosed major indefinite n items = (32 * major + 31) ∷ (items ++ break)

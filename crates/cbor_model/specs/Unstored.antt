@@ -12,7 +12,7 @@ use Rattle.cbor_model.specs.Parts.{Part, item, field_part, both, part_bytes, IsS
 use Rattle.cbor_model.specs.Parts.{array_start, map_start, newtype_start, tuple_start, struct_start}
 use Rattle.cbor_model.specs.Parts.{said}
 
--- the bytes go on behind this start, with bytes of this kind
+-- the bytes go on after this start, with bytes of this kind
 abbrev pub GoesOn : List ℕ → List ℕ → (List ℕ → Type 0) → Type 0
 GoesOn start front P = (back : List ℕ) × (front ≡ start ++ back) × P back
 

@@ -1,4 +1,4 @@
--- Where an item is wanted: inside arrays, maps and tags that are open, behind the whole items that
+-- Where an item is wanted: inside arrays, maps and tags that are open, after the whole items that
 -- they hold so far (RFC 7049, sections 2.1, 2.2.1 and 2.4).
 use Rattle.std.specs.Prelude.{◌≡◌, ℕ, suc, ◌*◌, ◌<◌, List, [], ◌∷◌, ◌++◌, refl}
 use Rattle.cbor_model.specs.Head.{HeadWidth, no_bytes, one_byte, limit, head}
@@ -33,7 +33,7 @@ IsOpening (tag_head w n) = n < limit w
 IsOpening indefinite_array = Unit {0}
 IsOpening indefinite_map = Unit {0}
 
--- Behind so many items there is a place for another: of n items in an array, of a key and a value
+-- After so many items there is a place for another: of n items in an array, of a key and a value
 -- for each of n pairs in a map, of one item in a tag, and of any number in an indefinite length.
 abbrev pub HasPlace : Opening → ℕ → Type 0
 HasPlace (array_head w n) items = items < n
@@ -42,8 +42,8 @@ HasPlace (tag_head w n) items = items < 1
 HasPlace indefinite_array items = Unit {0}
 HasPlace indefinite_map items = Unit {0}
 
--- An item is wanted behind these bytes, inside so many levels of nesting: at the very beginning; or
--- behind bytes where one is wanted, then an opening, then whole items that leave a place.
+-- An item is wanted after these bytes, inside so many levels of nesting: at the very beginning; or
+-- after bytes where one is wanted, then an opening, then whole items that leave a place.
 pub data IsWanted : ℕ → List ℕ → Type 0 where
   at_first : IsWanted 0 []
   inside : (levels : ℕ) (before : List ℕ) (o : Opening) (items : Raws)
@@ -89,7 +89,7 @@ pairs_so_far : 0xbf ∷ spell_pairs
 unfolding spell
 pairs_so_far = refl
 
--- behind 9f and bf another item, or another key, or the break
+-- after 9f and bf another item, or another key, or the break
 pub after_9f : StandsInIndefiniteArray (0x9f ∷ [])
 unfolding spell
 after_9f =

@@ -22,7 +22,7 @@ ends_exchanged xs ys zs =
     (subst (IsPermutation ((ys ++ zs) ++ xs)) (append_assoc zs ys xs)
     (IsPermutation-append_left xs (ys ++ zs) (zs ++ ys) (IsPermutation-append_comm ys zs)))
 
--- a list is its first n elements, those up to gap, and those behind
+-- a list is its first n elements, those up to gap, and those after
 three_parts : (bytes : List ℕ) (gap n : ℕ) → n ≤ gap
     → take n bytes ++ (drop n (take gap bytes) ++ drop gap bytes) ≡ bytes
 three_parts bytes gap n within =

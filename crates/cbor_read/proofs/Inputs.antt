@@ -65,7 +65,7 @@ moved bytes after buffer taken n start joined offset end left room at within ord
           ∙ ap (λ l. l ++ take n (drop taken bytes)) (drop-take start joined bytes ∙ was);
     }
 
--- The bytes of a slice up to `end` went behind other bytes, and the buffer stays.
+-- The bytes of a slice up to `end` went after other bytes, and the buffer stays.
 pub behind : (bytes buffer old new : List ℕ) (before taken n end : ℕ) (room : Option ℕ)
     → end ≡ taken + n → end ≤ length bytes → new ≡ old ++ take n (drop taken bytes)
     → TookBehind (record {

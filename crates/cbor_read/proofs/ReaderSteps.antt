@@ -56,7 +56,7 @@ few_after (Some xs) (Some ys) p m n at mid start h l q few =
 
 -- ---- a piece in the middle of a slice
 
--- the front of what is written behind the first a
+-- the front of what is written after the first a
 pub filled_more : (a k n : ℕ) (xs ys : List ℕ) → a ≤ length xs → n ≤ length ys
     → take (a + n) (put_mid a k xs ys) ≡ take a xs ++ take n ys
 filled_more a k n xs ys within fits =

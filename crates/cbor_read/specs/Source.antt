@@ -87,7 +87,7 @@ pub record Buffered (s t : Input) (n : ℕ) : Type 0 where
   pub room : t.room ≡ s.room
   pub buffered : t.buffer ≡ s.buffer ++ some
 
--- the next n bytes went behind these
+-- the next n bytes went after these
 pub record TookBehind (s t : Input) (n : ℕ) (old new : List ℕ) : Type 0 where
   pub some : List ℕ
   pub len : length some ≡ n
@@ -138,7 +138,7 @@ IsOfSource LengthOutOfRange = ⊤
 IsOfSource _ = ⊥
 
 -- How a call that wanted n bytes of s was refused, and left t: by one of the codes allowed, with
--- some further beginning of the bytes gone.
+-- a prefix of the bytes gone.
 pub record Refused (allowed : ReadErrorCode → Bool) (s t : Input) (n : ℕ) (e : ReadError)
     : Type 0 where
   pub code : allowed (why e) ≡ true
@@ -160,7 +160,7 @@ pub record RefusedToBuffer (allowed : ReadErrorCode → Bool) (s t : Input) (n :
   pub refused : Refused allowed s t n e
   pub small : why e ≡ ScratchTooSmall → Stays s t × (place e ≡ s.offset) × NoRoom s n
 
--- Some bytes were taken, and counted. What stood here stays, with a beginning of them behind it; the
+-- Some bytes were taken, and counted. What stood here stays, followed by a prefix of them; the
 -- others are lost.
 pub record Lengthened (s t : Input) (old new : List ℕ) : Type 0 where
   pub some : List ℕ
@@ -213,7 +213,7 @@ abbrev pub slice_input : List ℕ → ℕ → List ℕ → Option ℕ → Input
 slice_input bs taken buffer room =
     record { to_come = Some (drop taken bs); buffer = buffer; offset = taken; room = room }
 
--- the bytes that a reader has left, behind the byte that was peeked
+-- the bytes that a reader has left, after the byte that was peeked
 abbrev pub with_peeked : Option ℕ → Option (List ℕ) → Option (List ℕ)
 with_peeked None remaining = remaining
 with_peeked (Some b) remaining = prepend_known (b ∷ []) remaining

@@ -23,7 +23,7 @@ input_of_mut_slice s =
       room = None;
     }
 
--- No byte was lost: up to the offset they stand in another order, and those behind it stay.
+-- No byte was lost: up to the offset they stand in another order, and those after it stay.
 pub record Rearranged (s t : MutSliceRead) : Type 0 where
   pub before : t.before ≡ s.before
   pub same : IsPermutation (take t.taken s.slice.now) (take t.taken t.slice.now)

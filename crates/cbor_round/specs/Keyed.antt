@@ -23,7 +23,7 @@ use Rattle.cbor_round.specs.ReadBack.{IsReadBack}
 abbrev pub IsToldByDocuments : {K : Type 0} → (K → Doc) → (K → K → Ordering) → Type 0
 IsToldByDocuments {K} document cmp = (a b c d : K) → document a ≡ document c → document b ≡ document d → cmp a b ≡ cmp c d
 
--- ---- ascending entries are put one behind the other
+-- ---- ascending entries are put one after the other
 
 module _ {K V : Type 0} (cmp : K → K → Ordering) (total : IsTotalOrder cmp) where
   -- the key is above those of the entries

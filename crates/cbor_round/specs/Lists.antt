@@ -49,7 +49,7 @@ module _ {A : Type 0} {document : A → Doc} {reads : Context → Raw → A → 
 
 -- ---- tuples
 
--- The items of the parts of a tuple, or of the parts behind the first, are read as those.
+-- The items of the parts of a tuple, or of the parts after the first, are read as those.
 pub record ArePartsReadBack {T : Type 0} (documents : T → Docs) (reads : Context → T → Raws → Type 0) (fits : T → Type 0) : Type 0 where
   pub itself : (t : T) → fits t → (l : Lends) (p g : Bool)
       → reads (lending all_formats l) t (raws_of (documents t) p g)

@@ -52,7 +52,7 @@ one_byte_string (raw.tag w m r) a b h k = absurd h
 one_byte_string (raw.simple s) a b h k = absurd h
 one_byte_string (raw.float w bits) a b h k = absurd h
 
--- an item behind a head that is of no byte string isn't one
+-- an item after a head that is of no byte string isn't one
 pub not_bytes : (h : Head) → ((n : Option ℕ) → h ≡ head.Bytes n → ⊥) → (r : Raw) (b : List ℕ)
     → IsByteString (untagged r) b → (kind_of r ≡ kind.tag → ⊥) → kind_of r ≡ head_kind h → ⊥
 not_bytes h bytes (raw.unsigned w m) x is tag k = absurd is

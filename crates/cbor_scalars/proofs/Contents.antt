@@ -1,4 +1,4 @@
--- Strings behind their heads.
+-- Strings after their heads.
 use Rattle.std.proofs.Common.{◌≡◌, ◌⊎◌, inl, inr, ◌+◌, ◌-◌, ℕ, Bool, true, false, cond, eqb, List, length, Option, Some, None, Result, Ok, Err, refl, sym, ap, subst, ◌∙◌}
 use Rattle.std.specs.Str.{IsUtf8}
 use Rattle.std.specs.Str.Lossy.{utf8_valid_len}
@@ -91,7 +91,7 @@ no_text head.Undefined other e = absurd cc
 no_text (head.Float x) other e = absurd cc
 no_text head.Break other e = absurd cc
 
--- an item behind a head that is of no string isn't one
+-- an item after a head that is of no string isn't one
 pub not_string : (h : Head) → ((n : Option ℕ) → h ≡ head.Text n → ⊥) → ((n : Option ℕ) → h ≡ head.Bytes n → ⊥) → (r : Raw) (b : List ℕ) → IsString (untagged r) b → (kind_of r ≡ kind.tag → ⊥) → kind_of r ≡ head_kind h → ⊥
 not_string h t b (raw.unsigned w m) x is tag k = absurd is
 not_string h t b (raw.negative w m) x is tag k = absurd is
@@ -105,7 +105,7 @@ not_string h t b (raw.tag w m r) x is tag k = tag refl
 not_string h t b (raw.simple s) x is tag k = absurd is
 not_string h t b (raw.float w bits) x is tag k = absurd is
 
--- ---- behind a head
+-- ---- after a head
 
 -- chunks whose bytes are read
 record Chunks (read : Reads (List Chunk)) (b rest : List ℕ) : Type 0 where

@@ -105,7 +105,7 @@ bytes_no_key t (Err u) is = absurd is
 
 -- ---- items
 
--- what lacks behind a step
+-- what lacks after a step
 lacks_behind : (allowed : ReadErrorCode → Bool) (s m : Input) (P : Limits → List ℕ → List ℕ → Type 0) (N N' : Limits → List ℕ → Type 0) → ((l : Limits) (bs mid : List ℕ) → P l bs mid → N l mid → N' l bs) → Step s m P
     → (u : Unread) → Lacks allowed m N u → Lacks allowed s N' u
 lacks_behind allowed s m P N N' on step (Stopped e) h = refuses_behind allowed s m (error_code (why e)) (place e) P N N' on step h

@@ -156,7 +156,7 @@ module _ (f : Formats) (l : Limits) where
 
 -- ---- calls
 
--- a refusal behind a step
+-- a refusal after a step
 pub refuses_behind : (allowed : ReadErrorCode → Bool) (s m : Input) (k : ErrorCode) (at : ℕ) (P : Limits → List ℕ → List ℕ → Type 0) (N N' : Limits → List ℕ → Type 0)
     → ((l : Limits) (bs mid : List ℕ) → P l bs mid → N l mid → N' l bs) → Step s m P → Refuses allowed m k at N → Refuses allowed s k at N'
 refuses_behind allowed s m k at P N N' on step h = record {

@@ -1,4 +1,4 @@
--- What is read behind a head is of its kind.
+-- What is read after a head is of its kind.
 use Rattle.std.proofs.Common.{◌≡◌, ℕ, Bool, true, false, cond, List, Option, Some, None, Ok, Err, refl, sym, ap, ◌∙◌}
 use Rattle.cbor_model.specs.Formats.{Formats}
 use Rattle.cbor_model.specs.Head.{HeadWidth}

@@ -1,4 +1,4 @@
--- The item behind a head.
+-- The item after a head.
 use Rattle.std.proofs.Common.{◌≡◌, ℕ, suc, zero, ◌+◌, Bool, List, [], ◌∷◌, Option, Some, None, Result, Ok, Err, refl, sym, ap, subst, ◌∙◌, arith, length}
 use Rattle.cbor_model.specs.Formats.{Formats}
 use Rattle.cbor_model.specs.Head.{HeadWidth}
@@ -28,13 +28,13 @@ module _ {Item Items Pairs : Type 0} (m : Reading Item Items Pairs) where
   first_opened inner (Ok b) = first_behind m inner b.0 b.1
   first_opened inner (Err f) = refl
 
-  -- an item is read behind its head
+  -- an item is read after its head
   pub item_opened : (levels : ℕ) (bs : List ℕ) → item_at m levels bs ≡ (opening_at bs >>= behind (inside m levels))
   unfolding item_at item_by
   item_opened zero bs = first_opened None (byte_at bs)
   item_opened (suc levels) bs = first_opened (Some (item_at m levels)) (byte_at bs)
 
--- ---- a head, and what is behind it
+-- ---- a head, and what is after it
 
 pub untagged_same : (read : Reads Raw) → read ≡ in_tags [] read
 untagged_same (Ok r) = refl
@@ -55,7 +55,7 @@ head_opens f s t levels left h inner is step = step_map s t (λ l bs rest. (w : 
 pub head_stops : (allowed : ReadErrorCode → Bool) (f : Formats) (s : Input) (levels : ℕ) (kept : Option ReadError) (r : Refused) → Stopped allowed (λ l. opening_at) s kept r → Stopped allowed (λ l. item_at (raws f l) levels) s kept r
 head_stops allowed f s levels kept r h = stopped_map allowed (λ l. opening_at) (λ l. item_at (raws f l) levels) s kept r (λ l bs e is. item_opened (raws f l) levels bs ∙ rw is refl) h
 
--- ---- behind a tag
+-- ---- after a tag
 
 -- the item of a tag is the one inside
 tag_read : (f : Formats) (l : Limits) (levels n : ℕ) (w : HeadWidth) (bs mid : List ℕ) → opening_at bs ≡ Ok ((w, head.Tag n), mid) → item_at (raws f l) levels bs ≡ in_tags ((w, n) ∷ []) (item_inside f l levels mid)

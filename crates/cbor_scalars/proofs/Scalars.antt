@@ -113,7 +113,7 @@ module _ {A : Type 0} (f : Formats) (reads : Raw → A → Type 0) (l : Limits) 
   abbrev behind : Reads Raw
   behind = behind_head (raws f l) (inside (raws f l) left) o.width h mid
 
-  -- what is read behind the head is read of the item
+  -- what is read after the head is read of the item
   pub opened_read : (r : Raw) (rest : List ℕ) (x : A) → behind ≡ Ok (r, rest) → reads (untagged r) x → IsRead (PassesTags reads) read x rest
   opened_read r rest x is means = record {
     item = tagged o.tags r;

@@ -24,7 +24,7 @@ first_none levels bs rest is = rw is refl
 pub first_stops : (levels : ℕ) (bs : List ℕ) (e : Fault) → tag_first_at bs ≡ Err e → tag_head_at levels bs ≡ Err e
 first_stops levels bs e is = rw is refl
 
--- the number behind it
+-- the number after it
 pub record Numbered (b n : ℕ) (bs rest : List ℕ) : Type 0 where
   pub mid : List ℕ
   pub first : tag_first_at bs ≡ Ok (Some b, mid)

@@ -21,7 +21,7 @@ use Rattle.cbor_scalars.specs.Takes.{Refuses}
 use Rattle.cbor_scalars.specs.declared.identifier.Why.{Why}
 use Rattle.cbor_scalars.specs.declared.identifier.Why.TheVariants.{Refused, Other}
 
--- the texts behind references
+-- the texts that references lead to
 abbrev pub texts : List (Bor (List ℕ)) → List (List ℕ)
 texts names = prelude.map (λ n. n.now) names
 
@@ -63,11 +63,11 @@ abbrev pub NamesText : List (List ℕ) → List ℕ → Result (Option ℕ) ℕ 
 NamesText names b (Ok place) = IsUtf8 b × IsPlace names b place
 NamesText names b (Err back) = IsUtf8 b → ⊥
 
--- A string of these bytes was taken behind its head.
+-- A string of these bytes was taken after its head.
 abbrev pub Content : Head → Input → Input → List ℕ → Type 0
 Content h s t b = Step s t (λ l bs rest. content_at l h bs ≡ Ok (b, rest))
 
--- The name that a text is was taken behind its head; or no text is there.
+-- The name that a text is was taken after its head; or no text is there.
 abbrev pub TakesName : (ReadErrorCode → Bool) → List (List ℕ) → Head → Input → Input
     → Option ReadError → Result (Option ℕ) kept.Refused → Type 0
 TakesName refusals names h s t kept (Ok place) =
@@ -76,7 +76,7 @@ TakesName refusals names h s t kept (Err r) = (e : Error) → IsErrorOf kept r e
     → Refuses refusals s (code_of e) (offset_of e)
     (λ l bs. (b rest : List ℕ) → content_at l h bs ≡ Ok (b, rest) → IsUtf8 b → ⊥)
 
--- The name that a byte string is was taken behind its head; or none is there.
+-- The name that a byte string is was taken after its head; or none is there.
 abbrev pub TakesBytesName : (ReadErrorCode → Bool) → List (List ℕ) → Head → Input → Input
     → Option ReadError → Result (Option ℕ) Why → Type 0
 TakesBytesName refusals names h s t kept (Ok place) =

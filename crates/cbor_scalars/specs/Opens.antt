@@ -24,7 +24,7 @@ tagged (t ∷ ts) r = tag t.0 t.1 (tagged ts r)
 abbrev pub in_tags : List (HeadWidth × ℕ) → Reads Raw → Reads Raw
 in_tags ts read = read >>= (λ r. Ok (tagged ts r.0, r.1))
 
--- The reading goes on behind the head of the item within all tags, where so many levels are left.
+-- The reading goes on after the head of the item within all tags, where so many levels are left.
 pub record Opens (f : Formats) (l : Limits) (read : Reads Raw) (left : ℕ) (h : Head) (rest : List ℕ) : Type 0 where
   pub tags : List (HeadWidth × ℕ)
   pub width : HeadWidth

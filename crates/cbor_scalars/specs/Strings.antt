@@ -1,4 +1,4 @@
--- Strings behind their heads.
+-- Strings after their heads.
 use Rattle.std.specs.Prelude.{⊤, ◌≡◌, ◌≢◌, ℕ, ◌+◌, ◌-◌, ◌^◌, Bool, true, false, List, length, Option, Some}
 use Rattle.std.specs.Prelude.{None, Result}
 use Rattle.std.specs.Prelude.{Ok, Err, nat_lt, if◌then◌else◌}
@@ -33,7 +33,7 @@ use Rattle.cbor_scalars.specs.declared.lent.EitherStr.TheVariants.{Short, Long}
 use Rattle.cbor_scalars.specs.declared.lent.Unread.{Unread}
 use Rattle.cbor_scalars.specs.declared.lent.Unread.TheVariants.{Stopped, Other}
 
--- the bytes of a string behind its head, whatever they are
+-- the bytes of a string after its head, whatever they are
 abbrev pub content_at : Limits → Head → List ℕ → Reads (List ℕ)
 content_at l (Bytes (Some n)) bs = bytes_at n bs
 content_at l (Bytes None) bs = joined_of (chunks_at (exceeds_most l.room) 0 2 bs)
@@ -62,7 +62,7 @@ abbrev pub KeepsTextOf : {X : Type 0} → (X → List ℕ) → List ℕ → ℕ 
 KeepsTextOf view b end kept (Ok x) = (view x ≡ b) × IsUtf8 b
 KeepsTextOf view b end kept (Err r) = (e : Error) → IsErrorOf kept r e → IsNotUtf8 b end e
 
--- The text was taken behind its head; or none is there, as the error says that is made of the
+-- The text was taken after its head; or none is there, as the error says that is made of the
 -- refusal that is kept.
 abbrev pub TakesText : {X : Type 0} → (ReadErrorCode → Bool) → (X → List ℕ) → Head → Input → Input
     → Option ReadError → Result X Refused → Type 0
@@ -117,7 +117,7 @@ abbrev pub Lacks : (ReadErrorCode → Bool) → Input → (Limits → List ℕ �
 Lacks refusals s N (Stopped e) = Refuses refusals s (error_code (why e)) (place e) N
 Lacks refusals s N Other = (code : ErrorCode) (at : ℕ) → Refuses refusals s code at N
 
--- The bytes of a string were taken behind its head; or none are there.
+-- The bytes of a string were taken after its head; or none are there.
 abbrev pub Lent : (ReadErrorCode → Bool) → Lends → Head → Input → Input
     → Result EitherLifetime Unread → Type 0
 Lent refusals l h s t (Ok p) =

@@ -28,7 +28,7 @@ abbrev pub tag_first_at : List ℕ → Reads (Option ℕ)
 tag_first_at [] = Ok (None, [])
 tag_first_at (b ∷ bs) = if begins_tag b then Ok (Some b, bs) else Ok (None, b ∷ bs)
 
--- the number of a tag, behind whose head a level is left
+-- the number of a tag, after whose head a level is left
 abbrev pub entered_at : ℕ → ℕ → List ℕ → Reads (Option ℕ)
 entered_at zero n bs = Err (before too_deep bs)
 entered_at (suc left) n bs = Ok (Some n, bs)
@@ -52,13 +52,13 @@ abbrev pub TagIs : Formats → ℕ → ℕ → Input → Input → Type 0
 TagIs f levels n s t = Step s t (λ l bs rest.
     (w : HeadWidth) × (item_at (raws f l) levels bs ≡ tag_at (raws f l) (inside (raws f l) levels) w n rest))
 
--- one level fewer behind a tag's head, and as many as before else
+-- one level fewer after a tag's head, and as many as before else
 abbrev pub LevelsBehind : {E : Type 0} → Result (Option ℕ) E → ℕ → ℕ → Type 0
 LevelsBehind (Ok (Some n)) old new = old ≡ new + 1
 LevelsBehind (Ok None) old new = new ≡ old
 LevelsBehind (Err e) old new = new ≡ old
 
--- The reading goes on behind all tags, where so many levels are left.
+-- The reading goes on after all tags, where so many levels are left.
 pub record IsBehindTags (f : Formats) (l : Limits) (read : Reads Raw) (left : ℕ) (rest : List ℕ) : Type 0 where
   pub tags : List (HeadWidth × ℕ)
   pub is : read ≡ in_tags tags (item_at (raws f l) left rest)

@@ -49,7 +49,7 @@ nothing {sink = sink} = record { ok = Appends-nil sink; err = tt }
 
 -- ---- the room for what is written
 
--- behind what was written there is room for the rest
+-- after what was written there is room for the rest
 pub room_behind : (capacity : Option ℕ) (old mid : Option (List ℕ)) (f g : List ℕ) → Appends old mid f → HasRoomFor capacity old (f ++ g) → HasRoomFor capacity mid g
 room_behind None old mid f g a room = absurd room
 room_behind (Some most) None mid f g a room = absurd room

@@ -13,7 +13,7 @@ pub count_doc_pairs : {K V : Type 0} (f : K → Doc) (g : V → Doc) (es : List 
 count_doc_pairs f g [] = refl
 count_doc_pairs f g (e ∷ es) = ap suc (count_doc_pairs f g es)
 
--- the next item, and then those behind it
+-- the next item, and then those after it
 pub next_item : {A : Type 0} (f : A → Doc) (end : Part) (xs : List A) (i : ℕ) (x : A) → i < length xs → x ≡ get_or xs i x
     → both (item (f x)) (items (docs f (drop (i + 1) xs)) end) ≡ items (docs f (drop i xs)) end
 next_item f end xs i x lt is = ap (λ ys. items (docs f ys) end) (sym (cons_at xs i x lt is))

@@ -7,7 +7,7 @@ use Rattle.cbor_model.specs.Parts.{both, field_part, map_head, struct_head, fiel
 use Rattle.std.specs.Option.{is_some}
 use Rattle.cbor_ser.specs.PartLists.{name_in, first_name, other_names, field_if}
 
--- the names behind the first
+-- the names after the first
 behind_first : (n : Bor (List ℕ)) (names : List (Bor (List ℕ))) → take (length (n ∷ names) - 1) names ≡ names
 behind_first n names = ap (λ k. take k names) (let e : length (n ∷ names) - 1 ≡ length names = omega arith in e) ∙ take-length names
 
@@ -20,7 +20,7 @@ pub variant_head_of : (i : ℕ) (name : List ℕ) (fs : Fields) (n : ℕ) → n 
 variant_head_of i name fs n counted = ap (λ n. both (both (struct_head i name) (map_head (Some n))) (fields fs)) counted
 
 module _ (others : ℕ → List (List ℕ) → Fields) where
-  -- the first field, and those behind it
+  -- the first field, and those after it
   pub first_then : (i : ℕ) (d : Doc) (none : Bor (List ℕ)) (names : List (Bor (List ℕ))) (count : ℕ) → length names ≡ count + 1
       → both (field_part i (get_or names 0 none).now d) (fields (others (i + 1) (map (λ n. n.now) (take (length names - 1) (drop 1 names))))) ≡ fields (field i (first_name (map (λ n. n.now) names)) d (others (suc i) (other_names (map (λ n. n.now) names))))
   first_then i d none [] count as_many = absurd (omega (arith, as_many))

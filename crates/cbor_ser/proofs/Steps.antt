@@ -71,7 +71,7 @@ added_then {written = written} {old = old} {mid = mid} {new = new} {f = f} {g = 
   in_range = (a.in_range, b.in_range);
 }
 
--- behind a part there is room for the rest
+-- after a part there is room for the rest
 room_then : {W : Type 0} {written : W → Option (List ℕ)} {references : W → List ℕ} {capacity : W → Option ℕ} {old mid : Serializer W} (f g : Part) → Added written references capacity old f mid → HasRoomFor (capacity old.writer) (written old.writer) (bytes_under old.settings f ++ bytes_under old.settings g)
     → HasRoomFor (capacity mid.writer) (written mid.writer) (bytes_under mid.settings g)
 room_then {written = written} {capacity = capacity} {old = old} {mid = mid} f g a room =

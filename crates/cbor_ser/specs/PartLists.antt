@@ -21,7 +21,7 @@ abbrev pub document_if : {A : Type 0} → (A → Doc) → Option A → Option Do
 document_if document None = None
 document_if document (Some x) = Some (document x)
 
--- a field, where it has a document, and those behind it
+-- a field, where it has a document, and those after it
 abbrev pub field_if : ℕ → List ℕ → Option Doc → Fields → Fields
 field_if i n None others = others
 field_if i n (Some d) others = field i n d others

@@ -46,8 +46,8 @@ pub record Added {W : Type 0} (written : W → Option (List ℕ)) (references : 
   pub storable : IsStorablePart part
   pub in_range : IsPartInRange part
 
--- A beginning of the part was appended, and where the part has a number that isn't stored, a
--- beginning of what stands before the first. The error is one of the sink's, or the part has such a
+-- A prefix of the part was appended, and where the part has a number that isn't stored, a
+-- prefix of what stands before the first. The error is one of the sink's, or the part has such a
 -- number. A part that has none is stopped only where the sink has no room for it, or no capacity.
 pub record Stopped {W : Type 0} (written : W → Option (List ℕ)) (refuses : W → Error → Type 0)
     (references : W → List ℕ) (capacity : W → Option ℕ) (old : Serializer W) (part : Part)
@@ -78,7 +78,7 @@ pub record Spells (s : Settings) (part : Part) (bytes : List ℕ) : Type 0 where
 abbrev pub ValueRefused : {W : Type 0} → (W → Error → Type 0) → W → Val → Error → Type 0
 ValueRefused refuses w v e = refuses w e ⊎ IsUnstorable v e
 
--- The value's canonical spelling was appended, or a beginning of it.
+-- The value's canonical spelling was appended, or a prefix of it.
 pub record WroteValue {T W : Type 0} (written_by : W → Option (List ℕ))
     (refuses : W → Error → Type 0) (old : W) (v : Val) (new : W)
     (result : Result T Error) : Type 0 where
@@ -88,7 +88,7 @@ pub record WroteValue {T W : Type 0} (written_by : W → Option (List ℕ))
   pub refused : IfErr result (ValueRefused refuses new v)
 
 -- If the document is a value's, what was appended is that value's canonical spelling, or a
--- beginning of it.
+-- prefix of it.
 abbrev pub WroteValues : {T W : Type 0} → (W → Option (List ℕ)) → (W → Error → Type 0)
     → W → Doc → W → Result T Error → Type 0
 WroteValues written refuses old d new result =

@@ -1,4 +1,4 @@
--- Items one behind the other: what begins the same bytes is one list's front.
+-- Items one after the other: what begins the same bytes is one list's front.
 use Rattle.std.proofs.Common.{◌≡◌, ◌⊎◌, inl, inr, lit<, ℕ, zero, suc, ◌^◌, ◌<◌, ◌≤◌, List, [], ◌∷◌, ◌++◌, length, None, Ok, Err, refl, sym, ap, subst, ◌∙◌, arith, append_assoc, length-append}
 use Rattle.std.specs.Prelude.{flat_map}
 use Rattle.std.specs.List.{AllByRecursion}
@@ -73,7 +73,7 @@ module _ (levels : ℕ) where
       spelled_more [] r = sym (append-nil (spell r))
       spelled_more (s ∷ ss) r = append_assoc (spell s) (flat_map spell ss) (spell r) ∙ ap (λ (t : List ℕ). spell s ++ t) (spelled_more ss r)
 
-  -- a list behind which no item begins is longest
+  -- a list after which no item begins is longest
   pub most_before_none : (bytes : List ℕ) (items : List Raw) (rest : List ℕ) → ItemsBegin levels bytes items rest → NoItem rest → AreMostItems levels bytes items rest
   most_before_none bytes items rest begin none = record { begin = begin; most = λ others after b. at_most others after b (cases_lt (length items) (length others)) }
     where
@@ -158,7 +158,7 @@ module _ (levels : ℕ) where
 
   -- ---- one item after the other
 
-  -- behind the first item of a longest list the others are the longest
+  -- after the first item of a longest list the others are the longest
   pub most_behind : (bytes : List ℕ) (r s : Raw) (rs : List Raw) (rest after : List ℕ) → AreMostItems levels bytes (r ∷ rs) rest → Begins levels bytes s after → (r ≡ s) × AreMostItems levels after rs rest
   most_behind bytes r s rs rest after are b =
       let parts : spell r ++ (flat_map spell rs ++ rest) ≡ spell s ++ after =

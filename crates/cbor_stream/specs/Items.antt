@@ -1,4 +1,4 @@
--- Items that stand one behind the other in the bytes: their spellings, joined.
+-- Items that stand one after the other in the bytes: their spellings, joined.
 use Rattle.std.specs.Prelude.{◌≡◌, ◌≤◌, ℕ, List, [], ◌∷◌, ◌++◌, length, flat_map, refl}
 use Rattle.std.specs.List.{AllByRecursion}
 use Rattle.cbor_model.specs.Head.{no_bytes}

@@ -44,7 +44,7 @@ module _ {A : Type 0} (reads : Raw → A → Type 0) (total : Bool) (Device : Ty
   Faulty bytes e = WhereTotal total
       (IsOutOfMemory e ⊎ (Device × IsMemoryOrFault e) ⊎ TellsFirst (limits_at bytes) bytes e)
 
-  -- The answers to these items and to the rest behind them: what each item is read as, and then
+  -- The answers to these items and to the rest after them: what each item is read as, and then
   -- none; or, where something is left, one error. Before that, one may tell that an item isn't
   -- read.
   abbrev pub AnswersTo : List Raw → List ℕ → List (Result A Error) → Type 0

@@ -19,7 +19,7 @@ use Rattle.cbor_model.proofs.Majors.{each_major}
 
 -- ---- spellings of some kind
 
--- The walk departed within one: its front is here, and the rest of so many bytes behind it.
+-- The walk departed within one: its front is here, and the rest of so many bytes after it.
 record Shown (S : List ℕ → Type 0) (bs : List ℕ) (left : ℕ) : Type 0 where
   front : List ℕ
   rest : List ℕ
@@ -43,7 +43,7 @@ AreBytes-right : (a b : List ℕ) → AreBytes (a ++ b) → AreBytes b
 AreBytes-right [] b fits = fits
 AreBytes-right (x ∷ a) b fits = AreBytes-right a b (AreBytes-rest x (a ++ b) fits)
 
--- what goes on behind a whole one
+-- what goes on after a whole one
 behind_one : (T U : List ℕ → Type 0) (bs s mid : List ℕ) (u : Walk) → bs ≡ s ++ mid → Spelled T mid u → ((t : List ℕ) → T t → U (s ++ t)) → Spelled U bs u
 behind_one T U bs s mid (passed rest) is got join = record { one = s ++ got.one; is = two_parts bs s mid got.one rest is got.is; spells = join got.one got.spells }
 behind_one T U bs s mid (departed left) is got join = record {
@@ -56,7 +56,7 @@ behind_one T U bs s mid (departed left) is got join = record {
 }
 behind_one T U bs s mid stopped is got join = tt
 
--- one, and what goes on behind it, for which there is some ending
+-- one, and what goes on after it, for which there is some ending
 then_spelled : (S T U : List ℕ → Type 0) (bs : List ℕ) (w : Walk) (go : List ℕ → Walk) → AreBytes bs → Spelled S bs w → (t : List ℕ) → T t → ((mid : List ℕ) → AreBytes mid → Spelled T mid (go mid)) → ((s t : List ℕ) → S s → T t → U (s ++ t)) → Spelled U bs (and_then w go)
 then_spelled S T U bs (passed mid) go fits got t ending each join =
     behind_one T U bs got.one mid (go mid) got.is (each mid (AreBytes-right got.one mid (subst AreBytes got.is fits))) (λ t is. join got.one t got.spells is)
@@ -216,7 +216,7 @@ module _ (T : ℕ → List ℕ → Type 0) (major : ℕ) (go : ℕ → List ℕ 
         }
         by_test false is = shortest_spelled low bs fits
 
--- ---- what stands behind them
+-- ---- what stands after them
 
 nothing_spelled : (n : ℕ) (bs : List ℕ) → AreBytes bs → Spelled IsNothing bs (passed bs)
 nothing_spelled n bs fits = record { one = []; is = refl; spells = refl }
@@ -300,7 +300,7 @@ module _ (bs : List ℕ) (fits : AreBytes bs) where
       (at_low IsSpecial low 26 _ _ (special_float single w32 26 wide32 (λ n. refl))
       (at_low IsSpecial low 27 _ _ (special_float double w64 27 wide64 (λ n. refl)) tt))))))
 
--- ---- what stands behind a head, once more: the whole item
+-- ---- what stands after a head, once more: the whole item
 
 in_unsigned : (w : HeadWidth) (n : ℕ) (t : List ℕ) → n < limit w → IsNothing t → IsItem (head 0 w n ++ t)
 unfolding spell

@@ -45,7 +45,7 @@ floor-least-le n = least-cases (λ w. floor w ≤ n) n (omega arith) (λ a. a) (
 pub two_parts : (bs a more b rest : List ℕ) → bs ≡ a ++ more → more ≡ b ++ rest → bs ≡ (a ++ b) ++ rest
 two_parts bs a more b rest first second = first ∙ ap (λ (t : List ℕ). a ++ t) second ∙ sym (append_assoc a b rest)
 
--- the head of this major type, and what stands behind its first byte
+-- the head of this major type, and what stands after its first byte
 pub whole_head : (major low n : ℕ) (w : HeadWidth) (bs rest : List ℕ) → low ≡ info w n
     → bs ≡ behind w n ++ rest → ((32 * major + low) ∷ bs) ≡ head major w n ++ rest
 whole_head major low n w bs rest low_is parts =

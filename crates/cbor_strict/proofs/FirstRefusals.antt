@@ -99,9 +99,9 @@ module _ (bs : List ℕ) (why : Refusal) (offset : ℕ) (f : IsFirstRefusal (lim
 
   -- ---- a fault of ordinary reading comes first
 
-  -- where each departure is shown behind its offset
+  -- where each departure is shown after its offset
   module _ (fits : AreBytes bs) (none : (i : ℕ) → ShowsDeparture bs i → offset < i) where
-    -- it is shown behind its place, or there, if that is a text's end
+    -- it is shown after its place, or there, if that is a text's end
     shown_behind : (i : ℕ) → ShowsDeparture bs i → (f.place < i) ⊎ ((f.place ≡ i) × (why ≡ invalid_utf8))
     shown_behind i shows = by_why why refl f.allowed
       where

@@ -100,9 +100,9 @@ walk_fewer zero bs = tt
 walk_fewer (suc fuel) [] = tt
 walk_fewer (suc fuel) (b ∷ bs) = content_few (walk fuel) (walk_few fuel) (major_of (b / 32)) (b % 32) (suc (length bs)) bs (omega arith)
 
--- ---- with these bytes behind
+-- ---- with these bytes after
 
--- the same, with y behind; where the walk stopped, it may end within y
+-- the same, with y after; where the walk stopped, it may end within y
 abbrev pub Goes : List ℕ → Walk → Walk → Type 0
 Goes y (passed mid) u = u ≡ passed (mid ++ y)
 Goes y (departed left) u = u ≡ departed (left + length y)
@@ -124,7 +124,7 @@ module _ (y : List ℕ) where
   departs_local : (bs : List ℕ) → departed (length (bs ++ y)) ≡ departed (length bs + length y)
   departs_local bs = ap departed (length-append bs y)
 
-  -- where there are too few bytes, those behind are used too
+  -- where there are too few bytes, those after are used too
   past_beyond : (n : ℕ) (bs : List ℕ) → length bs < n → Below (length y) (past n (bs ++ y))
   past_beyond n bs too_few = by_test (ltb (length (bs ++ y)) n) refl
     where

@@ -109,7 +109,7 @@ nothing_shown bs e j memory shown =
     let left : d.0 < length (take (offset_of e) bs) = subst (Below (length (take (offset_of e) bs))) d.1 few in
     omega (arith, left, length-take (offset_of e) bs, memory.1)
 
--- none in the bytes before an offset, and each is behind it
+-- none in the bytes before an offset, and each is after it
 pub each_behind : (bs : List ℕ) (offset : ℕ) → ((j : ℕ) → ShowsDeparture (take offset bs) j → ⊥) → (i : ℕ) → ShowsDeparture bs i → offset < i
 each_behind bs offset none i shows =
     elim (cases_lt offset i) [

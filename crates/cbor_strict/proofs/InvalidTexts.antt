@@ -28,7 +28,7 @@ most_of low high [] i climb has = absurd (omega (arith, has.1))
 most_of low high (x ∷ xs) i climb (zero, lt, is) = omega (arith, high_of x high xs climb.1, is)
 most_of low high (x ∷ xs) i climb (suc k, lt, is) = most_of x high xs i climb.1 (k, (let lt' : k < length xs = omega arith in lt'), is)
 
--- ---- the departures before an item that stands in another, its own, and those behind it
+-- ---- the departures before an item that stands in another, its own, and those after it
 
 record Splits (xs : List ℕ) (low high k : ℕ) (t : Raw) : Type 0 where
   ahead : List ℕ
@@ -131,7 +131,7 @@ text_early k c i has =
     let le = most_of k (head_end k 3 c.width n) (long_head k 3 c.width n) i (head_climbs k 3 c.width n) has in
     omega (arith, le, length-append (head 3 c.width n) c.bytes)
 
--- one in chunks departs behind its first byte
+-- one in chunks departs after its first byte
 chunks_depart : (k : ℕ) (cs : List Chunk) → Contains (departures k (raw.text_chunks cs)) (suc k)
 unfolding departures
 chunks_depart k cs = (0, omega arith, refl)

@@ -41,7 +41,7 @@ untied m n un = elim (cases_order m n) [
   ]
 ]
 
--- two words behind a front that is the same, and their numbers
+-- two words after a front that is the same, and their numbers
 pub record WordsAt (at : ℕ) (xs ys : List ℕ) (m n : ℕ) : Type 0 where
   pub same : length xs ≡ length ys
   pub front : take at xs ≡ take at ys

@@ -54,7 +54,7 @@ paired (suc n) (raw.raw k (raw.raw v rs)) fits many =
       spelled = ap (λ (t : List ℕ). spell k ++ (spell v ++ t)) others.spelled;
     }
 
--- ---- behind an opening and whole items
+-- ---- after an opening and whole items
 
 -- An item that goes on from these bytes, with t at k of them.
 pub record Holds (x : List ℕ) (k : ℕ) (t : Raw) : Type 0 where
@@ -96,7 +96,7 @@ module _ (r : Raw) (k : ℕ) (t : Raw) (stands : (at : ℕ) → StandsIn at r (a
 regroup : (a b c d e : List ℕ) → a ++ ((b ++ ((c ++ d) ++ e))) ≡ ((a ++ b) ++ c) ++ (d ++ e)
 regroup a b c d e = simp append_assoc
 
--- what stands behind the opening
+-- what stands after the opening
 behind_items : (front x more : List ℕ) (items others : Raws) (r : Raw) (end : List ℕ) → spell r ≡ x ++ more
     → front ++ (spell_all (all_of items (raw.raw r others)) ++ end) ≡ ((front ++ spell_all items) ++ x) ++ (more ++ (spell_all others ++ end))
 unfolding spell

@@ -35,7 +35,7 @@ tells_then total (j ∷ js) ys mid rest w go one other = (one.0, one.1, ap (λ (
 tells_same : (total : ℕ) (xs rest : List ℕ) (w u : Walk) → w ≡ u → Tells total xs rest u → Tells total xs rest w
 tells_same total xs rest w u same tells = subst (λ (w : Walk). Tells total xs rest w) (sym same) tells
 
--- with nothing behind it
+-- with nothing after it
 tells_bare : (total : ℕ) (xs rest : List ℕ) (w : Walk) → Tells total (xs ++ []) rest w → Tells total xs rest w
 tells_bare total xs rest w tells = subst (λ (zs : List ℕ). Tells total zs rest w) (append-nil xs) tells
 
@@ -71,7 +71,7 @@ at_content fuel major w n bs fits =
 past_again : (b rest : List ℕ) → past (length b) (b ++ rest) ≡ passed rest
 past_again b rest = rw (le-ltb (length (b ++ rest)) (length b) (omega (arith, length-append b rest)), drop_at b rest (length b) refl) refl
 
--- a head, content and others behind it
+-- a head, content and others after it
 regrouped : (total at : ℕ) (a b rest : List ℕ) → at + length ((a ++ b) ++ rest) ≡ total → at + length (a ++ (b ++ rest)) ≡ total
 regrouped total at a b rest is = ap (λ (t : List ℕ). at + length t) (sym (append_assoc a b rest)) ∙ is
 

@@ -39,7 +39,7 @@ within-last left bs Stopped le few = tt
 
 -- ---- what follows a first byte
 
--- behind a number, whose head is the shortest or isn't
+-- after a number, whose head is the shortest or isn't
 shortest_on : (go : ℕ → List ℕ → model.Walk) (low n : ℕ) (bs rest : List ℕ) → number_behind low bs ≡ Ok (n, rest) → nat_lt n (floor (width_of low)) ≡ false → with_shortest go low bs ≡ go n rest
 shortest_on go low n bs rest is short = rw (is, short) refl
 
@@ -250,7 +250,7 @@ within_rest rest bs (Passed k) le few = omega (arith, few, le)
 within_rest rest bs (Departed k) le few = omega (arith, few, le)
 within_rest rest bs Stopped le few = tt
 
--- the rest behind a part of the rest
+-- the rest after a part of the rest
 pub next_rest : (next rest bs : List ℕ) (left : ℕ) → next ≡ last left rest → left ≤ length rest → length rest ≤ length bs → rest ≡ last (length rest) bs → (length next ≤ length bs) × (next ≡ last (length next) bs)
 next_rest next rest bs left is le within is_last =
     let long : length next ≡ left = ap length is ∙ length-last left rest le in (

@@ -1,4 +1,4 @@
--- Where an item departs from the canonical form: each departure by the offset behind the bytes that
+-- Where an item departs from the canonical form: each departure by the offset after the bytes that
 -- show it.
 use Rattle.std.specs.Prelude.{◌≡◌, ℕ, suc, ◌+◌, ◌≤◌, List, [], ◌∷◌, ◌++◌, length, take, Option, Some}
 use Rattle.std.specs.Prelude.{None, nat_lt, if◌then◌else◌, refl}
@@ -26,11 +26,11 @@ floor eight_bytes = limit four_bytes
 abbrev pub head_end : ℕ → ℕ → HeadWidth → ℕ → ℕ
 head_end at major w n = at + length (head major w n)
 
--- A head that isn't shortest: behind the head.
+-- A head that isn't shortest: after the head.
 abbrev pub long_head : ℕ → ℕ → HeadWidth → ℕ → List ℕ
 long_head at major w n = if nat_lt n (floor w) then head_end at major w n ∷ [] else []
 
--- The head of an array or a map; an indefinite length: behind its first byte.
+-- The head of an array or a map; an indefinite length: after its first byte.
 abbrev pub long_length : ℕ → ℕ → Length → ℕ → List ℕ
 long_length at major (definite w) n = long_head at major w n
 long_length at major indefinite n = suc at ∷ []
@@ -40,12 +40,12 @@ abbrev pub length_end : ℕ → ℕ → Length → ℕ → ℕ
 length_end at major (definite w) n = head_end at major w n
 length_end at major indefinite n = suc at
 
--- Undefined: behind it.
+-- Undefined: after it.
 abbrev pub undefined_at : ℕ → Simple → List ℕ
 undefined_at at undefined_item = suc at ∷ []
 undefined_at at _ = []
 
--- A key that isn't above the key before it: behind that key, which ends here.
+-- A key that isn't above the key before it: after that key, which ends here.
 abbrev pub not_above : ℕ → Option Raw → Raw → List ℕ
 not_above end None k = []
 not_above end (Some l) k = by_order (val_cmp (value l) (value k)) [] (end ∷ []) (end ∷ [])
@@ -79,7 +79,7 @@ unfoldable mutual
   all_departures at no_raws = []
   all_departures at (raw r rs) = departures at r ++ all_departures (at + length (spell r)) rs
 
-  -- of pairs behind a pair with that key, or behind none
+  -- of pairs after a pair with that key, or after none
   pub pair_departures : ℕ → Option Raw → RawPairs → List ℕ
   pair_departures at before no_raw_pairs = []
   pair_departures at before (raw_pair k v ps) =

@@ -17,7 +17,7 @@ IsAllowedStrictly bytes (ordinary why) place offset =
 IsAllowedStrictly bytes not_canonical place offset =
     ShowsDeparture bytes place × (offset ≡ place)
 
--- A refusal comes before another: its place is less. At one place a departure comes behind a text
+-- A refusal comes before another: its place is less. At one place a departure comes after a text
 -- that isn't UTF-8, and before each other refusal.
 abbrev pub IsBeforeStrictly : StrictRefusal → ℕ → StrictRefusal → ℕ → Type 0
 IsBeforeStrictly (ordinary why) place (ordinary why') place' = IsBefore why place why' place'

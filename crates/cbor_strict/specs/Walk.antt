@@ -12,9 +12,9 @@ use Rattle.cbor_model.specs.Reader.{Reads, width_of, number_behind}
 
 -- What came of it.
 pub data Walk : Type 0 where
-  -- no departure, and these bytes behind it
+  -- no departure, and these bytes after it
   passed : List ℕ → Walk
-  -- the first departure, and so many bytes behind what shows it
+  -- the first departure, and so many bytes after what shows it
   departed : ℕ → Walk
   -- no departure up to where no item goes on so, or the bytes end
   stopped : Walk
@@ -68,7 +68,7 @@ all_walk p (suc n) bs = and_then (p bs) (all_walk p n)
 abbrev pub above : List ℕ → List ℕ → ℕ → Walk → Walk
 above before key left others = by_order (lex before key) others (departed left) (departed left)
 
--- n pairs, behind a key of these bytes; without one, they are none
+-- n pairs, after a key of these bytes; without one, they are none
 unfoldable pub pairs_walk : (List ℕ → Walk) → ℕ → List ℕ → List ℕ → Walk
 pairs_walk p zero before bs = passed bs
 pairs_walk p (suc n) before bs = and_then (p bs) (λ at_value.

@@ -27,7 +27,7 @@ IsWithin n Stopped = ⊤
 abbrev pub Walks : List ℕ → (ℕ → List ℕ → model.Walk) → Walk → Type 0
 Walks bs go r = (fuel : ℕ) → length bs ≤ fuel → go fuel bs ≡ walk_view bs r
 
--- a number, and how many bytes are left behind it
+-- a number, and how many bytes are left after it
 abbrev pub IsNumber : ℕ → List ℕ → ℕ × ℕ → Type 0
 IsNumber low bs n = (low < 28) × (number_behind low bs ≡ Ok (n.0, last n.1 bs)) × (n.1 ≤ length bs)
 

@@ -19,7 +19,7 @@ pub fn parse(alloc: Global, text: &str) -> Result<Vec<u8>, Malformed> {
         }
         is_quoted = !is_quoted;
     }
-    // A last quote that isn't closed leaves the text behind it quoted.
+    // A last quote that isn't closed leaves the text after it quoted.
     if is_quoted {
         Ok(bytes)
     } else {

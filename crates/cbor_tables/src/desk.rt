@@ -237,7 +237,7 @@ impl Step {
     }
 }
 
-// Reads one item, and the end behind it.
+// Reads one item, and the end after it.
 fn whole<'r, T: Deserialize<'r, R>, R: Read<'r> + Drop>(de: Deserializer<R>) -> Result<T> {
     let mut de = de;
     let value = T::deserialize(&mut de)?;

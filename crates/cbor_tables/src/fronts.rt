@@ -1,4 +1,4 @@
-//! The fronts of an item, each of which ends too early, and readers that fail behind one.
+//! The fronts of an item, each of which ends too early, and readers that fail after one.
 
 use crate::desk::Desk;
 use crate::pieces::Pieces;
@@ -11,7 +11,7 @@ use std::alloc::Global;
 use std::io;
 
 /// Has each proper front of a row's bytes refused by each source, as an end of input at the
-/// front's end: no item's encoding begins another's. Where a reader tells a fault behind a front,
+/// front's end: no item's encoding begins another's. Where a reader tells a fault after a front,
 /// and where it tells one in place of the end, it is that fault that is told.
 pub fn judge(desk: &mut Desk<'_>, row: &Row<'_>) -> io::Result<()> {
     let alloc = desk.rt.alloc();
@@ -28,7 +28,7 @@ pub fn judge(desk: &mut Desk<'_>, row: &Row<'_>) -> io::Result<()> {
     Ok(())
 }
 
-// Whether a reader's fault behind a front is told, by a stream as its last answer.
+// Whether a reader's fault after a front is told, by a stream as its last answer.
 fn tells_fault(alloc: Global, front: &[u8]) -> bool {
     let mut stream = Deserializer::from_reader(alloc, Pieces::failing(front)).into_iter::<Value>();
     let told = match stream.next() {

@@ -17,7 +17,7 @@ pub struct How {
     pub limit: u8,
     /// The canonical spelling alone is read, of a slice.
     pub strict: bool,
-    /// Items are read one behind the other, to the end.
+    /// Items are read one after the other, to the end.
     pub stream: bool,
     /// Fields and variants are written by their numbers.
     pub packed: bool,
@@ -135,7 +135,7 @@ impl How {
         true
     }
 
-    // Takes a word with a number behind it; false where it isn't known.
+    // Takes a word with a number after it; false where it isn't known.
     fn set_number(&mut self, word: &str) -> bool {
         let Some((word, number)) = word.split_once(' ') else {
             return false;

@@ -3,7 +3,7 @@
 use std::io;
 use std::io::ErrorKind;
 
-/// A reader that gives some bytes at a call, and tells a fault or the end behind them.
+/// A reader that gives some bytes at a call, and tells a fault or the end after them.
 #[derive(Drop)]
 pub struct Pieces<'a> {
     rest: &'a [u8],

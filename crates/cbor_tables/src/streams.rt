@@ -1,4 +1,4 @@
-//! Streams: items that are read one behind the other.
+//! Streams: items that are read one after the other.
 
 use crate::desk::{Desk, Outcome, outcome_of};
 use crate::row::Row;

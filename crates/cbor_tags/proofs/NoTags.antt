@@ -57,7 +57,7 @@ number_other make low bs = made_other (number_behind low bs) (width_of low) make
 length_other : (make : ℕ → Head) (h : Head) (low : ℕ) (bs : List ℕ) → ((n : ℕ) → head_kind (make n) ≡ kind.tag → ⊥) → (head_kind h ≡ kind.tag → ⊥) → NoTagAt (length_head make h low bs)
 length_other make h low bs counted other = either (eqb low 31) _ _ (ok_other no_bytes h bs other) (number_other make low bs (λ n rest is. counted n))
 
--- no number is behind such a first byte
+-- no number is after such a first byte
 no_number : (low n : ℕ) (bs rest : List ℕ) → 28 ≤ low → number_behind low bs ≡ Ok (n, rest) → ⊥
 unfolding number_behind
 no_number low n bs rest from is = by (ltb low 24) (eqb low 24) (eqb low 25) (eqb low 26) (eqb low 27) refl refl refl refl refl _ _ _ _ _ _ is
@@ -94,7 +94,7 @@ head_other : (b : ℕ) (bs : List ℕ) → b < 256 → begins_tag b ≡ false �
 unfolding head_at
 head_other b bs byte none = major_other (b / 32) (b % 32) bs (omega (arith, byte)) (λ six. other_byte b none (omega (arith, six)) (omega (arith, six)))
 
--- what is read behind a head
+-- what is read after a head
 record Headed (f : Formats) (l : Limits) (levels b : ℕ) (bs : List ℕ) (r : Raw) (rest : List ℕ) : Type 0 where
   width : HeadWidth
   head : Head

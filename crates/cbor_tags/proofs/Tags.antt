@@ -55,7 +55,7 @@ module _ (f : Formats) (levels left n : ℕ) (one : levels ≡ left + 1) where
   within w (Ok x) = Ok (raw.tag w n x.0, x.1)
   within w (Err e) = Err e
 
-  -- what is read at a tag's head is the tag of what is read behind it
+  -- what is read at a tag's head is the tag of what is read after it
   tag_within : (l : Limits) (bs mid : List ℕ) (w : HeadWidth) → item_at (raws f l) levels bs ≡ tag_at (raws f l) (inside (raws f l) levels) w n mid → item_at (raws f l) levels bs ≡ within w (item_at (raws f l) left mid)
   unfolding tag_at
   tag_within l bs mid w is = is ∙ ap (λ (k : ℕ). tag_at (raws f l) (inside (raws f l) k) w n mid) next ∙ by (item_at (raws f l) left mid)
@@ -140,7 +140,7 @@ where_total : {P Q : Type 0} (total : Bool) → (P → Q) → WhereTotal total P
 where_total false f h = tt
 where_total true f h = f h
 
--- what is told behind a step is told before it, where the one fault is the other
+-- what is told after a step is told before it, where the one fault is the other
 told_then : {A B : Type 0} (allowed : ReadErrorCode → Bool) (read : Limits → List ℕ → Reads A) (read' : Limits → List ℕ → Reads B) (s m : Input) (e : Error) (P : Limits → List ℕ → List ℕ → Type 0)
     → ((l : Limits) (bs mid : List ℕ) (f : Fault) → P l bs mid → read l mid ≡ Err f → read' l bs ≡ Err f) → Step s m P → TellsFault allowed read m e → TellsFault allowed read' s e
 told_then allowed read read' s m e P on step tells bs is =

@@ -13,12 +13,12 @@ abbrev pub AppendsAnswers : Answered → List (List ℕ) → Option (List ℕ) �
 AppendsAnswers answered lines old new =
     (output : List ℕ) × AreAnswers answered lines output × Appends old new output
 
--- a beginning of the answer to the line, its 0a counted
+-- a prefix of the answer to the line, its 0a counted
 pub record BeginsAnswer (answered : Answered) (line begun : List ℕ) : Type 0 where
   pub missing : List ℕ
   pub whole : AreAnswers answered (line ∷ []) (begun ++ missing)
 
--- One answer for each of the lines before was written, then a beginning of the answer to the last,
+-- One answer for each of the lines before was written, then a prefix of the answer to the last,
 -- and nothing else.
 pub record AppendsUpTo (answered : Answered) (before : List (List ℕ)) (last : List ℕ)
     (old new : Option (List ℕ)) : Type 0 where

@@ -49,7 +49,7 @@ pub fn run<R: io::Read, W: io::Write>(alloc: Global, reader: &mut R, writer: &mu
     ensures end { OnOk result (IsAtEnd (R.remaining reader.new)) }
     // Why it stopped, with what taken and what written: at a fault of the reader the answers to the
     // lines that had ended, and at a fault of the writer those to the lines before one, and a
-    // beginning of the answer to that line.
+    // prefix of the answer to that line.
     ensures stopped { IfErr result (λ e. IsStopped IsAnswered e
         (R.remaining reader.old) (R.remaining reader.new)
         (W.contents writer.old) (W.contents writer.new)) }

@@ -148,7 +148,7 @@ module _ {A : Type 0} (items : Raws → A → Type 0) where
 
 -- ---- the parts so far
 
--- Behind these items others follow, of which all are made.
+-- After these items others follow, of which all are made.
 pub record Before {A B : Type 0} (items : Raws → A → Type 0) (others : Raws → B → Type 0) (all_of : B → A) (front : List Raw) : Type 0 where
   pub needs : (more : Raws) (y : A) → items (append front more) y → (z : B) × others more z
   pub makes : (more : Raws) (z : B) → others more z → items (append front more) (all_of z)
@@ -157,7 +157,7 @@ before_none : {A : Type 0} (items : Raws → A → Type 0) → Before items item
 before_none items = record { needs = λ more y h. (y, h); makes = λ more z h. h }
 
 module _ {A B C : Type 0} (items : Raws → A → Type 0) (reads : Raw → C → Type 0) (others : Raws → B → Type 0) (all_of : C × B → A) where
-  -- behind one more
+  -- after one more
   before_more : (x : C) (front : List Raw) (r : Raw) → Before items (part_then reads others) all_of front → reads r x → Before items others (λ z. all_of (x, z)) (front ++ r ∷ [])
   before_more x front r h m = record {
     needs = λ more y k.
@@ -230,7 +230,7 @@ module _ {E : Type 0} (names : List (List ℕ)) (means : ℕ → Content → E �
     pub made : IsWhole f i content read inner
     pub items : (rs : Raws) → IsItemsOf (content rs) rs
 
-  -- What is known of an enum behind its identifier, which is that of the i-th variant. Its item begins at
+  -- What is known of an enum after its identifier, which is that of the i-th variant. Its item begins at
   -- s, in these formats and with so many levels outside of it; its content begins at t.
   pub record VariantSoFar (i : ℕ) (s : Input) (f : Formats) (outer : ℕ) (t : Input) (g : Formats) (left : ℕ) (form : Form) : Type 0 where
     pub head : Step s t (λ l bs rest. IsVariantHead (formats_of f) names l (item_at (raws (formats_of f) l) outer bs) left i form rest)

@@ -77,7 +77,7 @@ module _ (names : List (List ℕ)) where
   abbrev pub pushed : List (Raw × Raw) → Raw → Raw → RawPairs
   pushed front a b = whole (front ++ (a, b) ∷ [])
 
-  -- these and those behind
+  -- these and those after
   abbrev pub behind : List (Raw × Raw) → Raw → Raw → RawPairs → RawPairs
   behind front a b rs = append_pairs front (raw_pair a b rs)
 
@@ -114,7 +114,7 @@ module _ (names : List (List ℕ)) where
     never (raw_pair k w rs) v h (inl o) = h.0 o.0
     never (raw_pair k w rs) v h (inr o) = never rs v h.1 o.1
 
-    -- the value is the one behind the key
+    -- the value is the one after the key
     its_value : (front : List (Raw × Raw)) (a b v : Raw) (rs : RawPairs) → Absent names i (whole front) → Names a → Once names i (behind front a b rs) v → b ≡ v
     its_value [] a b v rs h k (inl o) = o.1
     its_value [] a b v rs h k (inr o) = absurd (o.0 k)
@@ -122,7 +122,7 @@ module _ (names : List (List ℕ)) where
     its_value (p ∷ front) a b v rs h k (inr o) = its_value front a b v rs h.1 k o.1
 
     module _ {A : Type 0} (reads : Raw → A → Type 0) where
-      -- what is known of the field behind some pairs: it is absent, or it is there once and read as x
+      -- what is known of the field after some pairs: it is absent, or it is there once and read as x
       abbrev pub Slot : Option A → RawPairs → Type 0
       Slot None rs = Absent names i rs
       Slot (Some x) rs = IsFieldRead names i reads rs x

@@ -1,4 +1,4 @@
--- One call of a stream: a look at the next byte, and the item behind it.
+-- One call of a stream: a look at the next byte, and the item after it.
 use Rattle.std.proofs.Common.{◌≡◌, ◌≢◌, ◌∙◌, inl, inr, ◌+◌, ℕ, Bool, true, false, List, [], ◌∷◌, length, take, Option, Some, Ok, Err, IfSome, MatchOption, sym, ap, ap₂, subst}
 use Rattle.cbor_model.specs.Formats.{Formats}
 use Rattle.cbor_model.specs.Plain.{Val}
@@ -29,7 +29,7 @@ module _ (refusals : ReadErrorCode → Bool) where
   stayed : (s m : Input) → Stays s m → Step s m (λ l bs rest. bs ≡ rest)
   stayed s m h = none_step s m h.bytes h.count h.room
 
-  -- what is told behind a look is told before it
+  -- what is told after a look is told before it
   told_before : {A : Type 0} (read : Limits → List ℕ → Reads A) (s m : Input) (e : Error) → Stays s m → TellsFault refusals read m e → TellsFault refusals read s e
   told_before read s m e h tells bs is =
       let one = (stayed s m h).told bs is in
@@ -64,11 +64,11 @@ module _ (refusals : ReadErrorCode → Bool) where
     abbrev IsNot : Limits → List ℕ → Type 0
     IsNot l bs = IsNotRead reads (item_at (raws f l) levels bs)
 
-    -- an item behind a look
+    -- an item after a look
     pub item_before : (s m t : Input) (x : A) → Stays s m → TakesItem refusals f reads levels m t (Ok x) → TakesItem refusals f reads levels s t (Ok x)
     item_before s m t x h taken = step_then s m t (λ l bs rest. bs ≡ rest) (Is x) (Is x) (λ l bs mid rest same is. subst (λ (y : List ℕ). Is x l y rest) (sym same) is) (stayed s m h) taken
 
-    -- none behind it
+    -- none after it
     pub none_before : (s m t : Input) (e : Error) (b : ℕ) → Stays s m → IfSome s.to_come (λ bs. take 1 bs ≡ b ∷ []) → TakesItem refusals f reads levels m t (Err e) → Refuses refusals s (code_of e) (offset_of e) (λ l bs. (bs ≢ []) × IsNot l bs)
     none_before s m t e b h front refused = record {
       told = λ bs tells.

@@ -220,7 +220,7 @@ module _ {S : Type 0} {R : Type 0} {names : List (List ℕ)} {fields : List (Fie
         not_read names fields source allowed de e t r err
         (field_missing names fields d.was.so_far None refl d.was.named now.remaining d.next allowed (code_of e) (offset_of e) i missing)
 
-    -- behind each `required`
+    -- after each `required`
     pub field_required : {after : StructAccess R} → after.de.now.items.source ≡ now.de.now.items.source → after.remaining ≡ now.remaining → FieldsEnded names fields source de begun after slots
     field_required {after} same remaining = record {
       before = d.before;

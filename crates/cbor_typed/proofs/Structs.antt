@@ -28,9 +28,9 @@ use Rattle.cbor_collections.proofs.facts.Refusals.{refuses_then, refuses_by}
 use Rattle.cbor_typed.proofs.Slots.{Slots, none_yet, all_of, AreHeld, all_held, Has, LacksAt, ValueAt, reads_at, put, fill, filled, IsOther, Gathered, gathered_none, gathered_set, gathered_other, gathered_twice, gathered_value, gathered_missing, gathered_all, gathered_follows}
 use Rattle.cbor_typed.proofs.WholeMaps.{NoPairs, map_begins, map_goes_on, key_lacks, map_takes, map_refused, map_end_refused, map_end_twice, no_map_read}
 
--- ---- behind a key
+-- ---- after a key
 
--- a pair behind those before, of which P holds
+-- a pair after those before, of which P holds
 record PairAt (P : List (Raw × Raw) → Type 0) (key : Raw → Type 0) (value : Reads Raw) (rs : RawPairs) : Type 0 where
   front : List (Raw × Raw)
   a : Raw
@@ -49,7 +49,7 @@ no_some : (x : reader.Remaining) → Some x ≡ None → ⊥
 no_some x e = absurd cc
 
 module _ {K : Type 0} (s0 : Input) (P : List (Raw × Raw) → Type 0) (f : Formats) (levels : ℕ) (all : Remaining) (keys : Raw → K → Type 0) (r new : Remaining) (k : K) where
-  -- the key behind the pairs so far
+  -- the key after the pairs so far
   record KeyTaken (l : Limits) (bs rest : List ℕ) : Type 0 where
     mid : List ℕ
     so : PairsSoFar P (formats_of f) levels (remaining_of all) (remaining_of r) l bs mid
@@ -136,7 +136,7 @@ module _ {S : Type 0} (names : List (List ℕ)) (fields : List (FieldOf S)) wher
   abbrev pub ReadsStruct : Input → Input → Formats → ℕ → S → Type 0
   ReadsStruct s t f outer x = Step s t (λ l bs rest. IsRead (IsStruct names fields) (item_at (raws (formats_of f) l) outer bs) x rest)
 
-  -- behind the head no field was read
+  -- after the head no field was read
   pub struct_begins : {s t : Input} {f g : Formats} {outer levels : ℕ} {all : Remaining}
       → Step s t (λ l bs rest. IsMapHead (formats_of f) l (item_at (raws (formats_of f) l) outer bs) levels all rest) → g ≡ f → StructSoFar (none_yet fields) s f outer t g levels all
   struct_begins {s} {t} {f} {g} {outer} {levels} {all} head formats = record {
@@ -169,7 +169,7 @@ module _ {S : Type 0} (names : List (List ℕ)) (fields : List (FieldOf S)) wher
         (key_lacks so.first P f so.deep so.all g levels so.formats so.inside (λ (f : Formats). IsField names) (λ (f : Formats). IsAny) r t (AreFieldsOf names fields) allowed c at
         (λ front more x holds means. gathered_follows names fields slots front more x holds means) so.so_far h)
 
-    -- ---- behind a key
+    -- ---- after a key
 
     module _ (next : Option Field) (field : Field) (named : next ≡ Some field) {given : List (List ℕ)} (same : given ≡ names) {u : Input} (new : Remaining) (key : Step t u (IsKey (IsField given) (formats_of g) levels (remaining_of r) (remaining_of new) next)) where
       key_there : Step t u (IsKey (IsField names) (formats_of g) levels (remaining_of r) (remaining_of new) (Some field))

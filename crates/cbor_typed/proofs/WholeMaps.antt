@@ -28,7 +28,7 @@ use Rattle.cbor_collections.proofs.facts.Maps.{append_pairs, PairsSoFar, pairs_b
 
 -- ---- the end
 
--- nothing is taken behind the end
+-- nothing is taken after the end
 pub map_end_twice : (r : reader.Remaining) (new : Remaining) (t u w : Input) → new ≡ Counted 0 → Step t u (IsMapEnd r) → Step u w (λ l bs rest. ended_at end_in_map (remaining_of new) bs ≡ Ok (tt, rest)) → Step t w (IsMapEnd r)
 unfolding ended_at
 map_end_twice r new t u w is one two = step_then t u w (IsMapEnd r) (λ l bs rest. ended_at end_in_map (remaining_of new) bs ≡ Ok (tt, rest)) (IsMapEnd r)
@@ -74,7 +74,7 @@ module _ (s0 : Input) (P : List (Raw × Raw) → Type 0) (f : Formats) (levels :
         let h' = subst (λ (g : Formats). Step s t (IsKey (keys g) (formats_of g) inside (remaining_of r) (remaining_of new) (Some k))) formats h in
         subst (λ (n : ℕ). Step s t (IsKey (keys f) (formats_of f) n (remaining_of r) (remaining_of new) (Some k))) same h'
 
-    -- the key behind the pairs so far
+    -- the key after the pairs so far
     record KeyTaken (new : Remaining) (k : K) (l : Limits) (bs rest : List ℕ) : Type 0 where
       mid : List ℕ
       so : So P r l bs mid

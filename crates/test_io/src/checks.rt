@@ -19,7 +19,7 @@ pub fn takes<W: Write>(sink: &mut W, piece: &[u8]) -> Done {
     Ok(())
 }
 
-/// The piece isn't written, or only a beginning of it.
+/// The piece isn't written, or only a prefix of it.
 pub fn refuses<W: Write>(rt: &impl Abort, sink: &mut W, piece: &[u8], words: &str) {
     let Err(e) = sink.write_all(piece) else {
         panic!(rt; "not refused");

@@ -4,8 +4,8 @@
 //! peek = c; discard; read 3 = foo; offset = 4; next = \x18
 //! ```
 //!
-//! Calls stand with semicolons between. Behind the name of one that wants a number of bytes stands
-//! that number, and behind `=` what it answers: bytes as they are printed (`\x18` for those that
+//! Calls stand with semicolons between. After the name of one that wants a number of bytes stands
+//! that number, and after `=` what it answers: bytes as they are printed (`\x18` for those that
 //! aren't graphic), a number, `none`, the words of a refusal, or nothing.
 
 use cbor_io::error::Error;
@@ -206,7 +206,7 @@ fn placed<S: Source>(source: &mut S, n: usize) -> Answer {
     }
 }
 
-// A vector that has a byte, once so many are behind it.
+// A vector that has a byte, once so many are after it.
 fn extended<S: Source>(alloc: Global, source: &mut S, n: usize) -> Result<Answer, AllocError> {
     let mut out = Vec::from_slice(alloc, b"=")?;
     Ok(match source.read_to_vec(n, &mut out) {

@@ -218,7 +218,7 @@ fn lends_two_parts_of_what_is_rewritten(rt: HostRuntime) -> Done {
     Ok(())
 }
 
-// What was joined stays as it is while more is joined behind it.
+// What was joined stays as it is while more is joined after it.
 #[test]
 fn lends_what_was_joined(rt: HostRuntime) -> Done {
     let mut bytes = *b"aaab\xffcd62";
@@ -233,7 +233,7 @@ fn lends_what_was_joined(rt: HostRuntime) -> Done {
     Ok(())
 }
 
-// The end is told from the input's start, also behind what was lent.
+// The end is told from the input's start, also after what was lent.
 #[test]
 fn counts_what_was_lent(rt: HostRuntime) -> Done {
     in_place(

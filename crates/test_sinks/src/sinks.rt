@@ -79,7 +79,7 @@ fn user() -> User {
 
 const USER: &[u8] = b"\xa2\x67user_id\x18\x2a\x6dpassword_hash\x84\x01\x02\x03\x04";
 
-// Into slices that are too short: the bytes written are a beginning of the whole.
+// Into slices that are too short: the bytes written are a prefix of the whole.
 #[test]
 fn leaves_a_beginning_of_a_struct(rt: HostRuntime) -> Done {
     for len in 0..30usize {
@@ -94,7 +94,7 @@ fn leaves_a_beginning_of_a_struct(rt: HostRuntime) -> Done {
     Ok(())
 }
 
-/// So many bytes, a beginning of the whole, are written into a slice of this length.
+/// So many bytes, a prefix of the whole, are written into a slice of this length.
 fn fills_slice(rt: &impl Abort, alloc: Global, len: usize) -> Result<usize, Fail> {
     let mut room = [0; 30];
     assert!(rt; len <= room.len());

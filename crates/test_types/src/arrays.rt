@@ -33,7 +33,7 @@ fn tells_how_many_items_are_left(rt: HostRuntime) -> Done {
     Ok(())
 }
 
-/// How many items of an array are to come, and how many behind the first, a number.
+/// How many items of an array are to come, and how many after the first, a number.
 fn left_behind_one(de: &mut Deserializer<SliceRead<'_>>) -> Answer<(Option<usize>, Option<usize>)> {
     let mut items = de.array()?;
     let all = items.size_hint();

@@ -39,7 +39,7 @@ fn tells_how_many_pairs_are_left(rt: HostRuntime) -> Done {
     Ok(())
 }
 
-/// How many pairs of a map are to come, and how many behind the first key, a number.
+/// How many pairs of a map are to come, and how many after the first key, a number.
 fn left_behind_a_key(
     de: &mut Deserializer<SliceRead<'_>>,
 ) -> Answer<(Option<usize>, Option<usize>)> {

@@ -1,4 +1,4 @@
-//! What a writer leaves is a beginning of the whole.
+//! What a writer leaves is a prefix of the whole.
 
 ghost use Rattle.std.specs.Prelude.{◌≡◌, ◌↔◌, ◌≤◌, false, length, take, IfOk, IsOk, IsTrue};
 ghost use Rattle.cbor_model.specs.Document.{document_bytes, IsStorableDocument};
@@ -9,7 +9,7 @@ use cbor_value::Value;
 use std::alloc::Global;
 use std::test::Fail;
 
-/// Whether the bytes that `to_writer` leaves in a slice are a beginning of those that `to_vec`
+/// Whether the bytes that `to_writer` leaves in a slice are a prefix of those that `to_vec`
 /// answers: they always are, however short the slice is.
 fn leaves_a_beginning(alloc: Global, room: &mut [u8], value: &Value) -> error::Result<bool>
     ensures { IfOk result (λ is_beginning. IsTrue is_beginning) }

@@ -68,7 +68,7 @@ fn appends_each_kind(rt: HostRuntime) -> Done {
     Ok(())
 }
 
-// A slice of each length: what a refusal leaves is a beginning of the whole.
+// A slice of each length: what a refusal leaves is a prefix of the whole.
 #[test]
 fn fills_slices_of_each_length(rt: HostRuntime) -> Done {
     let alloc = rt.alloc();
@@ -79,7 +79,7 @@ fn fills_slices_of_each_length(rt: HostRuntime) -> Done {
     Ok(())
 }
 
-/// A slice of this length holds a beginning of the bytes. What is behind them is untouched.
+/// A slice of this length holds a prefix of the bytes. What is after them is untouched.
 fn fills_a_slice_of(rt: &impl Abort, alloc: Global, value: &Value, len: usize) {
     let mut room = [0; 40];
     assert!(rt; len <= room.len());
@@ -90,7 +90,7 @@ fn fills_a_slice_of(rt: &impl Abort, alloc: Global, value: &Value, len: usize) {
     holds(rt, sink.into_inner(), count);
 }
 
-/// The slice holds so many of the bytes, and nothing behind them.
+/// The slice holds so many of the bytes, and nothing after them.
 fn holds(rt: &impl Abort, slice: &[u8], count: usize) {
     assert!(rt; count <= slice.len());
     assert!(rt; EACH_KIND.starts_with(&slice[..count]));

@@ -1,4 +1,4 @@
 -- Published: heads.
 
--- an item is read behind its head
+-- an item is read after its head
 pub use Rattle.cbor_de.proofs.Heads.{first_behind}

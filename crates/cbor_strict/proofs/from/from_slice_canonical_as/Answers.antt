@@ -48,7 +48,7 @@ returns-in-None-clause-found g c =
 pub returns-in-None-clause-every : goal.returns-in-None-clause-every
 returns-in-None-clause-every g c = λ v spelt. c.in-Ok.ensures.every v spelt
 
--- ---- refused, behind a departure
+-- ---- refused, after a departure
 
 pub returns-in-Some-first_departure-clause-accepted : goal.returns-in-Some-first_departure-clause-accepted
 returns-in-Some-first_departure-clause-accepted g c = λ x spelt.

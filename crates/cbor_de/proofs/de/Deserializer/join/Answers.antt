@@ -12,7 +12,7 @@ use Rattle.cbor_de.proofs.de.Deserializer.join.Goals as goal
 abbrev all : ℕ → Limits → List ℕ → Reads (List ℕ)
 all major l bs = joined_of (chunks_at (exceeds_most l.room) 0 major bs)
 
--- the bytes so far, and the first byte behind them
+-- the bytes so far, and the first byte after them
 record Behind (major : ℕ) (front : List ℕ) (b : ℕ) (l : Limits) (bs mid : List ℕ) : Type 0 where
   rest : List ℕ
   so_far : BytesSoFar (exceeds_most l.room) major front bs rest
