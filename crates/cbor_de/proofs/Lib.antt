@@ -1,3 +1,4 @@
+pub mod Memory
 pub mod Steps
 pub mod Calls
 pub mod Peeked

@@ -44,7 +44,7 @@ subst_both P {a' = a'} {b = b} p q h = subst (P a') q (subst (λ x. P x b) p h)
 -- ---- steps
 
 -- a step changes nothing of the limits
-same_limits : (s t : Input) (bs rest : List ℕ) → t.room ≡ s.room → t.offset + length rest ≡ s.offset + length bs → limits t rest ≡ limits s bs
+pub same_limits : (s t : Input) (bs rest : List ℕ) → t.room ≡ s.room → t.offset + length rest ≡ s.offset + length bs → limits t rest ≡ limits s bs
 same_limits s t bs rest room total = ap₂ (λ (n : ℕ) (r : Option ℕ). record { total = n; room = r }) total room
 
 pub step_same : (s : Input) (P : Limits → List ℕ → List ℕ → Type 0) → ((l : Limits) (bs : List ℕ) → P l bs bs) → Step s s P

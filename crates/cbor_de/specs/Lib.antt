@@ -3,6 +3,7 @@ pub mod Cursor
 pub mod Deserializer
 pub mod FirstRefusal
 pub mod Gives
+pub mod Memory
 pub mod Heads
 pub mod Strings
 pub use Rattle.cbor_io.specs.Error

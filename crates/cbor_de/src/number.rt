@@ -1,10 +1,10 @@
 //! Numbers, as values.
 
-ghost use Rattle.std.specs.Prelude.{◌≡◌, ◌≤◌};
+ghost use Rattle.std.specs.Prelude.{◌≡◌, ◌≤◌, IfErr};
 ghost use Rattle.cbor_model.specs.Reader.{after_first, inside};
 ghost use Rattle.cbor_value.specs.View.{view};
 ghost use Rattle.cbor_de.specs.Deserializer.{values_by};
-ghost use Rattle.cbor_de.specs.Gives.{Gives};
+ghost use Rattle.cbor_de.specs.Gives.{Gives, TellsNoMemory};
 
 use crate::de::Deserializer;
 use crate::refusal::Done;
@@ -19,6 +19,7 @@ impl<R: Source> Deserializer<R> {
         ensures read { Gives R.refusals view (λ l. after_first (values_by self.old.formats l)
             (inside (values_by self.old.formats l) self.old.levels) first)
             (R.source self.old.source) (R.source self.new.source) self.new.refusal result }
+        ensures memory { IfErr result (TellsNoMemory self.new.refusal) }
         ensures levels { self.new.levels ≡ self.old.levels }
         ensures formats { self.new.formats ≡ self.old.formats }
     {
@@ -39,6 +40,7 @@ impl<R: Source> Deserializer<R> {
         ensures read { Gives R.refusals view (λ l. after_first (values_by self.old.formats l)
             (inside (values_by self.old.formats l) self.old.levels) first)
             (R.source self.old.source) (R.source self.new.source) self.new.refusal result }
+        ensures memory { IfErr result (TellsNoMemory self.new.refusal) }
         ensures levels { self.new.levels ≡ self.old.levels }
         ensures formats { self.new.formats ≡ self.old.formats }
     {

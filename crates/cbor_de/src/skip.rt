@@ -1,12 +1,13 @@
 //! Passing over the item at the front of a source.
 
-ghost use Rattle.std.specs.Prelude.{◌≡◌, OnOk};
+ghost use Rattle.std.specs.Prelude.{◌≡◌, IfErr, OnOk};
 ghost use Rattle.cbor_model.specs.Head.{no_bytes};
 ghost use Rattle.cbor_model.specs.Raw.{indefinite};
 ghost use Rattle.cbor_model.specs.Reader.{inside, parts_at, items_of, pairs_of, array_at, map_at};
 ghost use Rattle.cbor_model.specs.Reader.{tag_at, after_first, item_at};
 ghost use Rattle.cbor_de.specs.Deserializer.{formats_of, values_by};
 ghost use Rattle.cbor_de.specs.Gives.{Gives, Onward};
+ghost use Rattle.cbor_de.specs.Memory.{AsksToSkip, MemoryOnly};
 ghost use Rattle.cbor_de.specs.Heads.{after_head, remaining_of, passed};
 
 use crate::cursor::{Collection, Remaining};
@@ -21,10 +22,13 @@ impl<R: Source> Deserializer<R> {
     /// A slice takes no memory for it, but where chunks of a string are joined in a buffer that
     /// grows.
     #[cycle(skip)]
+    #[tactic(auto, using(crate::proofs::Memory::none_asked))]
     pub fn skip(&mut self) -> Done<()>
         ensures read { Gives R.refusals (λ u. u)
             (λ l bs. passed (item_at (values_by self.old.formats l) self.old.levels bs))
             (R.source self.old.source) (R.source self.new.source) self.new.refusal result }
+        ensures memory { IfErr result (MemoryOnly (AsksToSkip R.refusals R.lends)
+            self.new.refusal) }
         ensures levels { self.new.levels ≡ self.old.levels }
         ensures formats { self.new.formats ≡ self.old.formats }
         ensures taken { OnOk result (Onward (R.source self.old.source) (R.source self.new.source)) }
@@ -35,11 +39,14 @@ impl<R: Source> Deserializer<R> {
 
     // Passes over what follows a first byte.
     #[cycle(skip)]
+    #[tactic(auto, using(crate::proofs::Memory::none_asked))]
     fn skip_from(&mut self, first: u8) -> Done<()>
         ensures read { Gives R.refusals (λ u. u)
             (λ l bs. passed (after_first (values_by self.old.formats l)
             (inside (values_by self.old.formats l) self.old.levels) first bs))
             (R.source self.old.source) (R.source self.new.source) self.new.refusal result }
+        ensures memory { IfErr result (MemoryOnly (AsksToSkip R.refusals R.lends)
+            self.new.refusal) }
         ensures levels { self.new.levels ≡ self.old.levels }
         ensures formats { self.new.formats ≡ self.old.formats }
     {
@@ -54,6 +61,8 @@ impl<R: Source> Deserializer<R> {
             (λ l bs. passed (after_head (formats_of self.old.formats) l
             (inside (values_by self.old.formats l) self.old.levels) head bs))
             (R.source self.old.source) (R.source self.new.source) self.new.refusal result }
+        ensures memory { IfErr result (MemoryOnly (AsksToSkip R.refusals R.lends)
+            self.new.refusal) }
         ensures levels { self.new.levels ≡ self.old.levels }
         ensures formats { self.new.formats ≡ self.old.formats }
     {
@@ -77,12 +86,15 @@ impl<R: Source> Deserializer<R> {
 
     // Passes over an array after its head.
     #[cycle(skip)]
+    #[tactic(auto, using(crate::proofs::Memory::none_asked))]
     fn skip_array(&mut self, remaining: Remaining) -> Done<()>
         ensures read { Gives R.refusals (λ u. u)
             (λ l bs. passed (array_at (values_by self.old.formats l)
             (inside (values_by self.old.formats l) self.old.levels) indefinite
             (remaining_of remaining) bs))
             (R.source self.old.source) (R.source self.new.source) self.new.refusal result }
+        ensures memory { IfErr result (MemoryOnly (AsksToSkip R.refusals R.lends)
+            self.new.refusal) }
         ensures levels { self.new.levels ≡ self.old.levels }
         ensures formats { self.new.formats ≡ self.old.formats }
     {
@@ -95,11 +107,14 @@ impl<R: Source> Deserializer<R> {
     // Passes over the items that remain.
     #[cycle(skip)]
     #[inline(never)]
+    #[tactic(auto, using(crate::proofs::Memory::none_asked))]
     fn skip_items(&mut self, mut remaining: Remaining) -> Done<()>
         ensures read { Gives R.refusals (λ u. u)
             (λ l bs. passed (parts_at (items_of (values_by self.old.formats l)
             (item_at (values_by self.old.formats l) self.old.levels)) (remaining_of remaining) bs))
             (R.source self.old.source) (R.source self.new.source) self.new.refusal result }
+        ensures memory { IfErr result (MemoryOnly (AsksToSkip R.refusals R.lends)
+            self.new.refusal) }
         ensures levels { self.new.levels ≡ self.old.levels }
         ensures formats { self.new.formats ≡ self.old.formats }
     {
@@ -111,12 +126,15 @@ impl<R: Source> Deserializer<R> {
 
     // Passes over a map after its head.
     #[cycle(skip)]
+    #[tactic(auto, using(crate::proofs::Memory::none_asked))]
     fn skip_map(&mut self, remaining: Remaining) -> Done<()>
         ensures read { Gives R.refusals (λ u. u)
             (λ l bs. passed (map_at (values_by self.old.formats l)
             (inside (values_by self.old.formats l) self.old.levels) indefinite
             (remaining_of remaining) bs))
             (R.source self.old.source) (R.source self.new.source) self.new.refusal result }
+        ensures memory { IfErr result (MemoryOnly (AsksToSkip R.refusals R.lends)
+            self.new.refusal) }
         ensures levels { self.new.levels ≡ self.old.levels }
         ensures formats { self.new.formats ≡ self.old.formats }
     {
@@ -129,11 +147,14 @@ impl<R: Source> Deserializer<R> {
     // Passes over the pairs that remain.
     #[cycle(skip)]
     #[inline(never)]
+    #[tactic(auto, using(crate::proofs::Memory::none_asked))]
     fn skip_pairs(&mut self, mut remaining: Remaining) -> Done<()>
         ensures read { Gives R.refusals (λ u. u)
             (λ l bs. passed (parts_at (pairs_of (values_by self.old.formats l)
             (item_at (values_by self.old.formats l) self.old.levels)) (remaining_of remaining) bs))
             (R.source self.old.source) (R.source self.new.source) self.new.refusal result }
+        ensures memory { IfErr result (MemoryOnly (AsksToSkip R.refusals R.lends)
+            self.new.refusal) }
         ensures levels { self.new.levels ≡ self.old.levels }
         ensures formats { self.new.formats ≡ self.old.formats }
     {
@@ -149,11 +170,14 @@ impl<R: Source> Deserializer<R> {
 
     // Passes over a tagged item after the tag's head.
     #[cycle(skip)]
+    #[tactic(auto, using(crate::proofs::Memory::none_asked))]
     fn skip_tagged(&mut self, tag: u64) -> Done<()>
         ensures read { Gives R.refusals (λ u. u)
             (λ l bs. passed (tag_at (values_by self.old.formats l)
             (inside (values_by self.old.formats l) self.old.levels) no_bytes tag bs))
             (R.source self.old.source) (R.source self.new.source) self.new.refusal result }
+        ensures memory { IfErr result (MemoryOnly (AsksToSkip R.refusals R.lends)
+            self.new.refusal) }
         ensures levels { self.new.levels ≡ self.old.levels }
         ensures formats { self.new.formats ≡ self.old.formats }
     {

@@ -8,6 +8,7 @@ ghost use Rattle.cbor_model.specs.Reader.{checked_text, text_at, text_chunks_at,
 ghost use Rattle.cbor_model.specs.Plain as plain;
 ghost use Rattle.cbor_io.specs.Head.{major_number};
 ghost use Rattle.cbor_de.specs.Gives.{Gives, TellsNoKey, values};
+ghost use Rattle.cbor_de.specs.Memory.{AsksToJoin, MemoryOnly};
 ghost use Rattle.cbor_de.specs.Heads.{joined_of};
 ghost use Rattle.cbor_de.specs.Strings.{ChunkGives, text_view};
 
@@ -135,6 +136,7 @@ impl<R: Source> Deserializer<R> {
 
     /// Takes chunks of the major type up to the break, and joins them in the source's buffer.
     #[inline(never)]
+    #[tactic(auto, using(crate::proofs::Memory::none_asked))]
     pub fn join(&mut self, major: Major) -> Done<()>
         ensures read { Gives R.refusals (λ u. (R.source self.new.source).buffer)
             (λ l bs. joined_of (chunks_at (exceeds_most l.room) 0 (major_number major) bs))
@@ -142,6 +144,8 @@ impl<R: Source> Deserializer<R> {
         ensures counted { OnOk result
             (length (R.source self.new.source).buffer ≤ (R.source self.new.source).offset) }
         ensures no_key { IfErr result (TellsNoKey self.new.refusal) }
+        ensures memory { IfErr result (MemoryOnly (AsksToJoin R.refusals R.lends)
+            self.new.refusal) }
         ensures levels { self.new.levels ≡ self.old.levels }
         ensures formats { self.new.formats ≡ self.old.formats }
     {
@@ -157,11 +161,14 @@ impl<R: Source> Deserializer<R> {
 
     // Takes the chunk of this first byte, which has to be one of the major type, to the buffer's
     // end.
+    #[tactic(auto, using(crate::proofs::Memory::none_asked, crate::proofs::Memory::kept_asked))]
     fn chunk(&mut self, major: Major, first: u8) -> Done<()>
         ensures read { ChunkGives R.refusals
             (λ l have. chunk_at (λ n. exceeds_most l.room (have + n)) (major_number major) first)
             (R.source self.old.source) (R.source self.new.source) self.new.refusal result }
         ensures no_key { IfErr result (TellsNoKey self.new.refusal) }
+        ensures memory { IfErr result (MemoryOnly (AsksToJoin R.refusals R.lends)
+            self.new.refusal) }
         ensures levels { self.new.levels ≡ self.old.levels }
         ensures formats { self.new.formats ≡ self.old.formats }
     {

@@ -1,6 +1,6 @@
 //! The item at the front of a source, as a value.
 
-ghost use Rattle.std.specs.Prelude.{◌≡◌, OnOk};
+ghost use Rattle.std.specs.Prelude.{◌≡◌, IfErr, OnOk};
 ghost use Rattle.cbor_model.specs.Head.{no_bytes};
 ghost use Rattle.cbor_model.specs.Plain as plain;
 ghost use Rattle.cbor_model.specs.Raw.{indefinite};
@@ -10,6 +10,7 @@ ghost use Rattle.cbor_value.specs.View.{view, views, map_view};
 ghost use Rattle.cbor_de.specs.Gives.{Gives, Onward};
 ghost use Rattle.cbor_de.specs.Deserializer.{formats_of, values_by};
 ghost use Rattle.cbor_de.specs.Heads.{after_head, remaining_of, made_of};
+ghost use Rattle.cbor_de.specs.Memory.{IsStoredHead, MemoryOnly, ReadsStored};
 
 use crate::cursor::{Collection, Remaining};
 use crate::de::Deserializer;
@@ -23,11 +24,15 @@ impl<R: Source> Deserializer<R> {
     /// Reads an item.
     #[cycle(read)]
     #[inline(always)]
+    #[tactic(auto, using(crate::proofs::Memory::none_asked))]
     pub fn value(&mut self) -> Done<Value>
         ensures read { Gives R.refusals view
             (λ l. item_at (values_by self.old.formats l) self.old.levels)
             (R.source self.old.source) (R.source self.new.source) self.new.refusal result }
         ensures taken { OnOk result (Onward (R.source self.old.source) (R.source self.new.source)) }
+        ensures memory { IfErr result (MemoryOnly (ReadsStored
+            (λ l. item_at (values_by self.old.formats l) self.old.levels)
+            (R.source self.old.source)) self.new.refusal) }
         ensures levels { self.new.levels ≡ self.old.levels }
         ensures formats { self.new.formats ≡ self.old.formats }
     {
@@ -38,11 +43,16 @@ impl<R: Source> Deserializer<R> {
     /// Reads what follows a first byte.
     #[cycle(read)]
     #[inline(always)]
+    #[tactic(auto, using(crate::proofs::Memory::none_asked))]
     fn value_from(&mut self, first: u8) -> Done<Value>
         ensures read { Gives R.refusals view
             (λ l. after_first (values_by self.old.formats l)
             (inside (values_by self.old.formats l) self.old.levels) first)
             (R.source self.old.source) (R.source self.new.source) self.new.refusal result }
+        ensures memory { IfErr result (MemoryOnly (ReadsStored
+            (λ l. after_first (values_by self.old.formats l)
+            (inside (values_by self.old.formats l) self.old.levels) first)
+            (R.source self.old.source)) self.new.refusal) }
         ensures levels { self.new.levels ≡ self.old.levels }
         ensures formats { self.new.formats ≡ self.old.formats }
     {
@@ -60,11 +70,13 @@ impl<R: Source> Deserializer<R> {
     /// Reads what follows a head.
     #[cycle(read)]
     #[inline(always)]
+    #[tactic(auto, using(crate::proofs::Memory::none_asked))]
     fn value_of(&mut self, head: Head) -> Done<Value>
         ensures read { Gives R.refusals view
             (λ l. after_head (formats_of self.old.formats) l
             (inside (values_by self.old.formats l) self.old.levels) head)
             (R.source self.old.source) (R.source self.new.source) self.new.refusal result }
+        ensures memory { IfErr result (MemoryOnly (IsStoredHead head) self.new.refusal) }
         ensures levels { self.new.levels ≡ self.old.levels }
         ensures formats { self.new.formats ≡ self.old.formats }
     {

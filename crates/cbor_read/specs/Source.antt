@@ -28,6 +28,12 @@ pub record Lends : Type 0 where
   pub whole : Bool
   pub joined : Bool
 
+-- For what a source may ask for memory: to hand out or skip the next bytes, and to join some in its
+-- buffer.
+pub record Asks : Type 0 where
+  pub whole : Bool
+  pub joined : Bool
+
 -- ---- parts of the input
 
 abbrev pub part_bytes : EitherLifetime → List ℕ
@@ -205,6 +211,24 @@ abbrev pub ReadLeaves : (ReadErrorCode → Bool) → Input → Input → ℕ →
 ReadLeaves allowed s t n r =
     MatchResult r (λ p. Took s t (part_bytes p))
     (RefusedPart allowed s t n)
+
+-- ---- memory
+
+abbrev pub asks_part : Bool → Bool → Bool
+asks_part refuses true = false
+asks_part refuses false = refuses
+
+-- none is asked for what is lent for the input's life, nor by a source that has no such refusal
+abbrev pub asks_for : (ReadErrorCode → Bool) → Lends → Asks
+asks_for refusals lends =
+    record {
+      whole = asks_part (refusals OutOfMemory) lends.whole;
+      joined = asks_part (refusals OutOfMemory) lends.joined;
+    }
+
+-- memory ran out only where it may be asked for
+abbrev pub MemoryWhere : Bool → ReadError → Type 0
+MemoryWhere asked e = why e ≡ OutOfMemory → asked ≡ true
 
 -- ---- the sources
 

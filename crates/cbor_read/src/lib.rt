@@ -17,6 +17,7 @@ ghost use Rattle.cbor_read.specs.Source.{Input, Lends, TookKept, Stays, KeepsByt
 ghost use Rattle.cbor_read.specs.Source.{TookBehind, FitsRoom, RefusedToBuffer, RefusedInto};
 ghost use Rattle.cbor_read.specs.Source.{RefusedByte, or_memory, NextDoes, ReadLeaves, part_bytes};
 ghost use Rattle.cbor_read.specs.Source.{is_long, Skipped, SkippedText, RefusedPart, Lengthened};
+ghost use Rattle.cbor_read.specs.Source.{MemoryWhere, asks_for};
 
 mod front;
 mod in_place;
@@ -309,7 +310,8 @@ pub trait Source {
         ensures err { IfErr result
             (RefusedToBuffer refusals (source self.old) (source self.new) n) }
         ensures kept { OnErr result (Lengthened (source self.old) (source self.new)
-            (source self.old).buffer (source self.new).buffer) };
+            (source self.old).buffer (source self.new).buffer) }
+        ensures memory { IfErr result (MemoryWhere (asks_for refusals lends).joined) };
 
     /// What was joined in the buffer.
     fn buffer(&self) -> &[u8]
@@ -334,13 +336,15 @@ pub trait Source {
     /// Takes n bytes, which are handed to nobody.
     fn skip(&mut self, n: usize) -> Result<()>
         ensures ok { OnOk result (Skipped (source self.old) (source self.new) n) }
-        ensures err { IfErr result (RefusedPart refusals (source self.old) (source self.new) n) };
+        ensures err { IfErr result (RefusedPart refusals (source self.old) (source self.new) n) }
+        ensures memory { IfErr result (MemoryWhere (asks_for refusals lends).whole) };
 
     /// Takes n bytes, which are handed to nobody, and returns how many of them, from the front, are
     /// UTF-8.
     fn skip_text(&mut self, n: usize) -> Result<usize>
         ensures ok { IfOk result (SkippedText (source self.old) (source self.new) n) }
-        ensures err { IfErr result (RefusedPart refusals (source self.old) (source self.new) n) };
+        ensures err { IfErr result (RefusedPart refusals (source self.old) (source self.new) n) }
+        ensures memory { IfErr result (MemoryWhere (asks_for refusals lends).whole) };
 
     /// Takes the byte that was peeked.
     fn discard(&mut self)
@@ -375,6 +379,7 @@ pub trait Read<'de>: Source {
         ensures front { IfOk result
             (λ p. IfSome (Self.source self.old).to_come (λ bs. part_bytes p ≡ take n bs)) }
         ensures long { IfOk result (λ p. is_long p ≡ Self.lends.whole) }
+        ensures memory { IfErr result (MemoryWhere (asks_for Self.refusals Self.lends).whole) }
         ensures* after_borrow { sem 𝓛 (Rests Self.row self.entry (λ new.
             ReadLeaves Self.refusals (Self.source self.old) (Self.source new) n result)) };
 

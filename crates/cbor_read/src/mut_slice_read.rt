@@ -128,8 +128,8 @@ fn cut_part<'a>(bytes: &mut &'a mut [u8], start: usize, n: usize) -> &'a [u8]
 }
 
 impl<'a> Source for MutSliceRead<'a> {
-    ghost use Rattle.std.specs.Prelude.{true, OnOk, OnErr};
-    ghost use Rattle.cbor_read.specs.Source.{mut_refusals, first_of};
+    ghost use Rattle.std.specs.Prelude.{true, false, OnOk, OnErr};
+    ghost use Rattle.cbor_read.specs.Source.{mut_refusals, first_of, MemoryWhere};
     ghost use Rattle.cbor_read.specs.Source.{Buffered, FitsRoom, Lengthened, RefusedToBuffer};
     ghost use Rattle.cbor_read.specs.Sources.{input_of_mut_slice, Rearranged};
 
@@ -185,6 +185,7 @@ impl<'a> Source for MutSliceRead<'a> {
         ensures kept { OnErr result (Lengthened
             (input_of_mut_slice self.old) (input_of_mut_slice self.new)
             (input_of_mut_slice self.old).buffer (input_of_mut_slice self.new).buffer) }
+        ensures memory { IfErr result (MemoryWhere false) }
         ensures rearranged { Rearranged self.old self.new }
     {
         let end = self.end_of(n)?;

@@ -1,4 +1,4 @@
-use Rattle.std.proofs.Common.{◌≡◌, ◌∙◌, ◌++◌, ◌∷◌, ℕ, List, [], map, Option, Some, None, Ok, true, false, refl, sym, ap, subst, arith, rules}
+use Rattle.std.proofs.Common.{◌≡◌, IfErr, ◌∙◌, ◌++◌, ◌∷◌, ℕ, List, [], map, Option, Some, None, Ok, true, false, refl, sym, ap, subst, arith, rules}
 use Rattle.std.proofs.lemmas.Result.{err_from_is_err_and}
 use Rattle.std.proofs.lemmas.List.{map_push}
 use Rattle.cbor_model.specs.Formats.{Formats, all_formats, may_begin_key}
@@ -25,6 +25,8 @@ use Rattle.cbor_de.proofs.Heads.{value_after, value_stops_at}
 use Rattle.cbor_de.proofs.Items.{SoFar, items_begin, ItemBegun, item_begins, goes_on, faulted, cut, is_done}
 use Rattle.cbor_de.proofs.Pairs.{PairsSoFar, pairs_begin, KeyBegun, key_begins, KeyRead, key_ends, pairs_go_on, key_refused, key_faulted, value_faulted, pairs_cut, pairs_done}
 use Rattle.cbor_de.proofs.Inside.{array_too_deep, map_too_deep, tag_too_deep, array_inside, map_inside, tag_inside, array_stops, map_stops, tag_stops, value_first, value_stops, bytes_read, bytes_stop, chunks_read, chunks_stop}
+use Rattle.cbor_de.specs.Memory.{IsStoredHead, MemoryOnly, ReadsStored}
+use Rattle.cbor_de.proofs.Memory.{stored, on_err, head_stored, first_stored}
 use Rattle.cbor_de.proofs.de.Deserializer.+read.Goals as goal
 
 -- ---- array
@@ -461,3 +463,70 @@ value_of-returns-in_ok-tagged-in-Tag-clause-read g t c =
     let v = c.in_ok-tagged-in-Tag.field-0 in
     let is_head : c.args.head ≡ head.Tag c.in-Tag.tag = search rules in
     step_map _ _ (λ l bs rest. tag_at (values f l) (inside (values f l) c.args.self.now.levels) no_bytes c.in-Tag.tag bs ≡ Ok (plain.tag c.in-Tag.tag (view v.value), rest)) _ (λ l bs rest is. rw is_head (is ∙ ap (λ (x : Val). Ok (x, rest)) (sym (view_tag c.in-Tag.tag v)))) c.in_ok-tagged-in-Tag.ensures.read
+
+-- ---- memory
+
+pub value-returns-clause-memory : goal.value-returns-clause-memory
+value-returns-clause-memory g t c =
+    let f = formats_of c.args.self.now.formats in
+    let levels = c.args.self.now.levels in
+    let b = c.in_ok-first.first in
+    let s = g.R.Source.source c.args.self.now.source in
+    let m = g.R.Source.source c.byte.new.self.source in
+    let kept = c.value_from.new.self.refusal in
+    let given = subst_both (λ (f : Formats) (n : ℕ). IfErr c.value_from.result (MemoryOnly (ReadsStored (λ l. after_first (values f l) (inside (values f l) n) b) m) kept)) (ap formats_of c.in_ok-first.ensures.formats) c.in_ok-first.ensures.levels c.value_from.ensures.memory in
+    on_err c.value_from.result (MemoryOnly (ReadsStored (λ l. after_first (values f l) (inside (values f l) levels) b) m) kept) (MemoryOnly (ReadsStored (λ l. item_at (values f l) levels) s) kept)
+    (λ e. first_stored f levels b s m kept e c.in_ok-first.ensures.read) given
+
+pub value_from-returns-in_ok-head-in_default-clause-memory : goal.value_from-returns-in_ok-head-in_default-clause-memory
+value_from-returns-in_ok-head-in_default-clause-memory g t c =
+    let f = formats_of c.args.self.now.formats in
+    let levels = c.args.self.now.levels in
+    let h = c.in_ok-head-in_default.head in
+    let s = g.R.Source.source c.args.self.now.source in
+    let m = g.R.Source.source c.head.new.self.source in
+    let kept = c.value_of.new.self.refusal in
+    on_err c.value_of.result (MemoryOnly (IsStoredHead h) kept) (MemoryOnly (ReadsStored (λ l. after_first (values f l) (inside (values f l) levels) c.args.first) s) kept)
+    (λ e. head_stored f levels c.args.first s m h kept e c.in_ok-head-in_default.ensures.read) c.value_of.ensures.memory
+
+pub value_of-returns-in_err-bytes-in-Bytes-Some-clause-memory : goal.value_of-returns-in_err-bytes-in-Bytes-Some-clause-memory
+value_of-returns-in_err-bytes-in-Bytes-Some-clause-memory g t c =
+    let passed = err_from_is_err_and c.from_residual.result c.from_residual.ensures.1 in
+    let is_head : c.args.head ≡ head.Bytes (Some c.in-Bytes-Some.n) = search rules in
+    rw (passed.1, passed.2, is_head) (stored _ _ _ tt)
+
+pub value_of-returns-in_err-byte_chunks-in-Bytes-None-clause-memory : goal.value_of-returns-in_err-byte_chunks-in-Bytes-None-clause-memory
+value_of-returns-in_err-byte_chunks-in-Bytes-None-clause-memory g t c =
+    let passed = err_from_is_err_and c.from_residual-in_err-byte_chunks-in-Bytes-None.result c.from_residual-in_err-byte_chunks-in-Bytes-None.ensures.1 in
+    let is_head : c.args.head ≡ head.Bytes None = search rules in
+    rw (passed.1, passed.2, is_head) (stored _ _ _ tt)
+
+pub value_of-returns-in_err-text-in-Text-Some-clause-memory : goal.value_of-returns-in_err-text-in-Text-Some-clause-memory
+value_of-returns-in_err-text-in-Text-Some-clause-memory g t c =
+    let passed = err_from_is_err_and c.from_residual-in_err-text-in-Text-Some.result c.from_residual-in_err-text-in-Text-Some.ensures.1 in
+    let is_head : c.args.head ≡ head.Text (Some c.in-Text-Some.n) = search rules in
+    rw (passed.1, passed.2, is_head) (stored _ _ _ tt)
+
+pub value_of-returns-in_err-text_chunks-in-Text-None-clause-memory : goal.value_of-returns-in_err-text_chunks-in-Text-None-clause-memory
+value_of-returns-in_err-text_chunks-in-Text-None-clause-memory g t c =
+    let passed = err_from_is_err_and c.from_residual-in_err-text_chunks-in-Text-None.result c.from_residual-in_err-text_chunks-in-Text-None.ensures.1 in
+    let is_head : c.args.head ≡ head.Text None = search rules in
+    rw (passed.1, passed.2, is_head) (stored _ _ _ tt)
+
+pub value_of-returns-in_err-array-in-Array-clause-memory : goal.value_of-returns-in_err-array-in-Array-clause-memory
+value_of-returns-in_err-array-in-Array-clause-memory g t c =
+    let passed = err_from_is_err_and c.from_residual-in_err-array-in-Array.result c.from_residual-in_err-array-in-Array.ensures.1 in
+    let is_head : c.args.head ≡ head.Array c.in-Array.remaining = search rules in
+    rw (passed.1, passed.2, is_head) (stored _ _ _ tt)
+
+pub value_of-returns-in_err-map-in-Map-clause-memory : goal.value_of-returns-in_err-map-in-Map-clause-memory
+value_of-returns-in_err-map-in-Map-clause-memory g t c =
+    let passed = err_from_is_err_and c.from_residual-in_err-map-in-Map.result c.from_residual-in_err-map-in-Map.ensures.1 in
+    let is_head : c.args.head ≡ head.Map c.in-Map.remaining = search rules in
+    rw (passed.1, passed.2, is_head) (stored _ _ _ tt)
+
+pub value_of-returns-in_err-tagged-in-Tag-clause-memory : goal.value_of-returns-in_err-tagged-in-Tag-clause-memory
+value_of-returns-in_err-tagged-in-Tag-clause-memory g t c =
+    let passed = err_from_is_err_and c.from_residual-in_err-tagged-in-Tag.result c.from_residual-in_err-tagged-in-Tag.ensures.1 in
+    let is_head : c.args.head ≡ head.Tag c.in-Tag.tag = search rules in
+    rw (passed.1, passed.2, is_head) (stored _ _ _ tt)
