@@ -5,6 +5,7 @@ pub mod Numbers
 pub mod Contents
 pub mod FloatNumbers
 pub mod Nulls
+pub mod Memory
 pub mod Lending
 pub mod ByteStrings
 pub mod TagHeads

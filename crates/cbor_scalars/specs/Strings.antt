@@ -8,13 +8,13 @@ use Rattle.std.specs.Str.Lossy.{utf8_valid_len}
 use Rattle.cbor_model.specs.Formats as model
 use Rattle.cbor_model.specs.Raw as raw
 use Rattle.cbor_model.specs.Raw.{Raw, joined}
-use Rattle.cbor_model.specs.Readable.{Context, PassesTags, IsString, IsText, is_lent}
+use Rattle.cbor_model.specs.Readable.{Context, PassesTags, IsString, IsText, is_lent, untagged}
 use Rattle.cbor_model.specs.Refusal.{length_out_of_range, unexpected_code}
 use Rattle.cbor_model.specs.Reader.{Reads, before, bytes_at, chunks_at, exceeds_most, item_at}
 use Rattle.cbor_io.specs.declared.error.Error.{Error}
 use Rattle.cbor_io.specs.declared.error.ErrorCode.TheVariants.{InvalidUtf8}
 use Rattle.cbor_io.specs.Error.{code_of, offset_of}
-use Rattle.cbor_read.specs.Source.{Input, Lends, part_bytes, is_long}
+use Rattle.cbor_read.specs.Source.{Input, Lends, Asks, part_bytes, is_long}
 use Rattle.cbor_read.specs.declared.EitherLifetime.{EitherLifetime}
 use Rattle.cbor_io.specs.declared.read_error.ReadErrorCode.{ReadErrorCode}
 use Rattle.cbor_de.specs.Gives.{Limits, limits, Step, Tells, IsErrorOf}
@@ -153,6 +153,26 @@ LendsString refusals c levels s t (Ok p) =
     IsRead (PassesTags (IsLentString c)) (item_at (raws c.formats l) levels bs) p rest)
 LendsString refusals c levels s t (Err u) =
     Lacks refusals s (λ l bs. IsNotRead (PassesTags IsString) (item_at (raws c.formats l) levels bs)) u
+
+-- Where memory ran out, P holds.
+abbrev pub UnreadOnly : Type 0 → Unread → Type 0
+UnreadOnly P (Stopped q) = why q ≡ reading.OutOfMemory → P
+UnreadOnly P Other = ⊤
+
+-- whether a source may ask for memory to lend a string, or one with this head
+abbrev pub asks_string : Asks → Raw → Bool
+asks_string a (raw.bytes_chunks cs) = a.joined
+asks_string a (raw.text_chunks cs) = a.joined
+asks_string a r = a.whole
+
+abbrev pub asks_head : Asks → Head → Bool
+asks_head a (Bytes None) = a.joined
+asks_head a (Text None) = a.joined
+asks_head a h = a.whole
+
+-- it may ask for memory to lend the string within these tags
+abbrev pub AsksForString : Asks → Raw → Type 0
+AsksForString a r = asks_string a (untagged r) ≡ true
 
 -- a refusal that isn't the key rule's
 abbrev pub IsNoKey : Unread → Type 0

@@ -74,6 +74,10 @@ abbrev pub TakesNoMemory : {A : Type 0} → model.Formats → (Raw → A → Typ
     → Type 0
 TakesNoMemory f reads levels s e = MemoryFor (λ r. ⊥) f reads levels s e
 
+-- Of the item at the front, if one is there, P holds.
+abbrev pub OfItem : (Raw → Type 0) → model.Formats → ℕ → Input → Type 0
+OfItem P f levels s = (bs : List ℕ) → Tells s bs → (r : Raw) (rest : List ℕ) → item_at (raws f (limits s bs)) levels bs ≡ Ok (r, rest) → P r
+
 -- ---- errors that are still to be made
 
 -- What a call gives whose error is still to be made of why it was refused.

@@ -1,17 +1,17 @@
 //! Strings that are lent.
 
-ghost use Rattle.std.specs.Prelude.{◌≡◌, ◌≤◌, length, IfErr, Ok};
+ghost use Rattle.std.specs.Prelude.{◌≡◌, ◌≤◌, length, true, IfErr, Ok};
 ghost use types.Logic.{sem};
 ghost use Rattle.std.specs.Io.BufRead.{Rests};
-ghost use Rattle.cbor_read.specs.Source.{part_bytes};
+ghost use Rattle.cbor_read.specs.Source.{asks_for, part_bytes};
 ghost use Rattle.cbor_de.specs.declared.head.Head.TheVariants.{Bytes, Text};
 ghost use Rattle.cbor_io.specs.Error.{code_of};
 ghost use Rattle.cbor_de.specs.Gives.{TellsNoForm};
 ghost use Rattle.cbor_scalars.specs.Strings.{BytesOf, IsBadAt, IsKept, IsMadeOf, IsNoKey};
 ghost use Rattle.cbor_scalars.specs.Strings.{Lent, LentText, LendsBytes, LendsString, LendsText};
-ghost use Rattle.cbor_scalars.specs.Strings.{PartText};
+ghost use Rattle.cbor_scalars.specs.Strings.{AsksForString, PartText, UnreadOnly, asks_head};
 ghost use Rattle.cbor_scalars.specs.Strings.{Utf8Of};
-ghost use Rattle.cbor_scalars.specs.Takes.{context};
+ghost use Rattle.cbor_scalars.specs.Takes.{OfItem, context, formats_of};
 ghost use Rattle.cbor_de.specs.contracts.de.Deserializer.{the_row};
 
 use crate::scalar::scalar;
@@ -107,6 +107,7 @@ fn stopped<R: Source>(items: &mut Deserializer<R>, refused: Refused) -> ReadErro
 
 // Takes the bytes of a byte string after its head.
 #[inline(always)]
+#[tactic(auto, using(crate::proofs::Memory::kept_only))]
 pub(crate) fn bytes_part<'a, 'de, R: Read<'de>>(
     items: &'a mut Deserializer<R>,
     n: Option<u64>,
@@ -115,7 +116,8 @@ pub(crate) fn bytes_part<'a, 'de, R: Read<'de>>(
         (new.levels ≡ items.old.levels) × (new.formats ≡ items.old.formats)
         × Lent R.refusals R.lends (Bytes n)
         (R.source items.old.source) (R.source new.source) result
-        × IfErr result IsNoKey)) }
+        × IfErr result IsNoKey
+        × IfErr result (UnreadOnly (asks_head (asks_for R.refusals R.lends) (Bytes n) ≡ true)))) }
 {
     match n {
         Some(n) => given(items.source.read(n as usize)?),
@@ -130,6 +132,7 @@ pub(crate) fn bytes_part<'a, 'de, R: Read<'de>>(
 
 // Takes the bytes of a text after its head.
 #[inline(always)]
+#[tactic(auto, using(crate::proofs::Memory::kept_only, crate::proofs::Memory::kept_at))]
 pub(crate) fn text_part<'a, 'de, R: Read<'de>>(
     items: &'a mut Deserializer<R>,
     n: Option<u64>,
@@ -138,7 +141,8 @@ pub(crate) fn text_part<'a, 'de, R: Read<'de>>(
         (new.levels ≡ items.old.levels) × (new.formats ≡ items.old.formats)
         × LentText R.refusals R.lends (Text n)
         (R.source items.old.source) (R.source new.source) result
-        × IfErr result IsNoKey)) }
+        × IfErr result IsNoKey
+        × IfErr result (UnreadOnly (asks_head (asks_for R.refusals R.lends) (Text n) ≡ true)))) }
 {
     match n {
         Some(n) => {
@@ -191,8 +195,10 @@ fn bytes_of<'a, 'de>(text: EitherStr<'a, 'de>) -> Result<EitherLifetime<'a, 'de>
 // The refusal of an item of another kind, after its head.
 #[cold]
 #[inline(never)]
+#[tactic(auto, using(crate::proofs::Memory::kept_at))]
 fn other<R: Source>(items: &mut Deserializer<R>, head: Head) -> Unread
     ensures no_key { IsNoKey result }
+    ensures memory { UnreadOnly ⊥ result }
     ensures levels { items.new.levels ≡ items.old.levels }
     ensures formats { items.new.formats ≡ items.old.formats }
 {
@@ -224,6 +230,7 @@ pub fn unread_error<R: Source>(items: &mut Deserializer<R>, why: Unread, message
 /// Another item, as a byte string that isn't UTF-8, is [`Unread::Other`]. What isn't whole, a text
 /// that isn't UTF-8 (`InvalidUtf8`), and a break (`UnexpectedCode`) are refused, and what the
 /// source refuses.
+#[tactic(auto, using(crate::proofs::Memory::kept_none))]
 pub fn read_text<'a, 'de, R: Read<'de>>(
     items: &'a mut Deserializer<R>,
 ) -> Result<EitherStr<'a, 'de>>
@@ -232,7 +239,9 @@ pub fn read_text<'a, 'de, R: Read<'de>>(
         × (new.formats ≡ items.old.formats)
         × LendsText R.refusals (context items.old.formats R.lends) items.old.levels
         (R.source items.old.source) (R.source new.source) result
-        × IfErr result IsNoKey)) }
+        × IfErr result IsNoKey
+        × IfErr result (UnreadOnly (OfItem (AsksForString (asks_for R.refusals R.lends))
+        (formats_of items.old.formats) items.old.levels (R.source items.old.source))))) }
 {
     let head = match scalar(items) {
         Ok(head) => head,
@@ -247,6 +256,7 @@ pub fn read_text<'a, 'de, R: Read<'de>>(
 
 /// Lends the bytes of a byte string, or of a text. It refuses as [`read_text`] does, but for bytes
 /// that aren't UTF-8 in a byte string.
+#[tactic(auto, using(crate::proofs::Memory::kept_none))]
 pub fn read_bytes<'a, 'de, R: Read<'de>>(
     items: &'a mut Deserializer<R>,
 ) -> Result<EitherLifetime<'a, 'de>>
@@ -255,7 +265,9 @@ pub fn read_bytes<'a, 'de, R: Read<'de>>(
         × (new.formats ≡ items.old.formats)
         × LendsString R.refusals (context items.old.formats R.lends) items.old.levels
         (R.source items.old.source) (R.source new.source) result
-        × IfErr result IsNoKey)) }
+        × IfErr result IsNoKey
+        × IfErr result (UnreadOnly (OfItem (AsksForString (asks_for R.refusals R.lends))
+        (formats_of items.old.formats) items.old.levels (R.source items.old.source))))) }
 {
     let head = match scalar(items) {
         Ok(head) => head,
@@ -269,6 +281,7 @@ pub fn read_bytes<'a, 'de, R: Read<'de>>(
 }
 
 /// Lends the bytes of a byte string; a text is another item. It refuses as [`read_bytes`] does.
+#[tactic(auto, using(crate::proofs::Memory::kept_none))]
 pub fn read_byte_string<'a, 'de, R: Read<'de>>(
     items: &'a mut Deserializer<R>,
 ) -> Result<EitherLifetime<'a, 'de>>
@@ -277,7 +290,9 @@ pub fn read_byte_string<'a, 'de, R: Read<'de>>(
         × (new.formats ≡ items.old.formats)
         × LendsBytes R.refusals (context items.old.formats R.lends) items.old.levels
         (R.source items.old.source) (R.source new.source) result
-        × IfErr result IsNoKey)) }
+        × IfErr result IsNoKey
+        × IfErr result (UnreadOnly (OfItem (AsksForString (asks_for R.refusals R.lends))
+        (formats_of items.old.formats) items.old.levels (R.source items.old.source))))) }
 {
     let head = match scalar(items) {
         Ok(head) => head,

@@ -1,5 +1,5 @@
 -- Texts of one character.
-use Rattle.std.proofs.Common.{◌≡◌, ◌∙◌, ℕ, Bool, List, [], ◌∷◌, ◌++◌, length, Result, Ok, Err, refl, sym, ap, subst, arith, length-append}
+use Rattle.std.proofs.Common.{◌≡◌, ◌∙◌, ℕ, Bool, List, [], ◌∷◌, ◌++◌, length, Result, Ok, Err, IfErr, refl, sym, ap, subst, arith, length-append}
 use Rattle.std.specs.Char.{encode_utf8}
 use Rattle.std.proofs.lemmas.List.{append-nil}
 use Rattle.std.proofs.lemmas.Str.{encode_same, length-encode, len_utf8_bounds}
@@ -13,10 +13,11 @@ use Rattle.cbor_io.specs.declared.error.Error.{Error}
 use Rattle.cbor_io.specs.declared.read_error.ReadErrorCode.{ReadErrorCode}
 use Rattle.cbor_de.specs.Gives.{Limits}
 use Rattle.cbor_scalars.specs.Strings.{IsCharacter, IsOneCharacter, IsOneOf, IsLentText, LendsText, text_bytes}
-use Rattle.cbor_scalars.specs.Takes.{raws, lending, TakesItem}
+use Rattle.cbor_scalars.specs.Takes.{raws, lending, MemoryFor, TakesItem}
 use Rattle.cbor_scalars.specs.declared.lent.EitherStr.{EitherStr}
 use Rattle.cbor_scalars.proofs.facts.Strings.{same_bytes}
 use Rattle.cbor_scalars.proofs.facts.Strings.{made_read, made_none}
+use Rattle.cbor_typed.proofs.Memory.{unread_memory}
 
 no_more : (xs : List ℕ) → length xs ≡ 0 → xs ≡ []
 no_more [] none = refl
@@ -51,3 +52,11 @@ module _ (allowed : ReadErrorCode → Bool) (f : Formats) (l : Lends) (levels : 
   character_takes (Err e) step none =
       made_none allowed IsCharacter lent read s t (code_of e) (offset_of e) p
       (λ r c here other. none c (other.0, same_bytes r (encode_utf8 c) (text_bytes p) other.1.0 here.0.0)) step
+
+  -- where it isn't one, none is read
+  pub character_memory : (asks : Raw → Type 0) (r : Result ℕ Error) → LendsText allowed (lending f l) levels s t (Ok p) → IsOneOf (text_bytes p) r → IfErr r (MemoryFor asks f (PassesTags IsCharacter) levels s)
+  character_memory asks (Ok c) step is = tt
+  character_memory asks (Err e) step none =
+      unread_memory allowed f (PassesTags IsCharacter) levels s asks e
+      (λ k at. made_none allowed IsCharacter lent read s t k at p
+      (λ r c here other. none c (other.0, same_bytes r (encode_utf8 c) (text_bytes p) other.1.0 here.0.0)) step)

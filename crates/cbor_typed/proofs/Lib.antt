@@ -9,6 +9,7 @@ pub mod Every
 pub mod Values
 pub mod OfValues
 pub mod facts
+pub mod Memory
 pub mod Characters
 pub mod ByteStrings
 pub mod Fields

@@ -7,7 +7,7 @@ use Rattle.cbor_model.specs.Reader.{item_at}
 use Rattle.cbor_io.specs.declared.error.Error.{Error}
 use Rattle.cbor_io.specs.declared.read_error.ReadErrorCode.{ReadErrorCode}
 use Rattle.cbor_io.specs.Error.{code_of, offset_of}
-use Rattle.cbor_read.specs.Source.{Input}
+use Rattle.cbor_read.specs.Source.{Input, Asks}
 use Rattle.cbor_de.specs.Gives.{limits, Tells, Reports, whole_at}
 use Rattle.cbor_scalars.specs.Takes.{raws, IsRead, ExcusedBy, WhereTotal, TellsFault}
 
@@ -41,3 +41,15 @@ from_mut_slice_context =
 -- A reader lends nothing.
 abbrev pub from_reader_context : Context
 from_reader_context = record { formats = all_formats; lends_definite = false; lends_joined = false }
+
+-- A slice asks for memory to join chunks alone.
+abbrev pub from_slice_asks : Asks
+from_slice_asks = record { whole = false; joined = true }
+
+-- One with a scratch, and one that is rewritten, ask for none.
+abbrev pub asks_none : Asks
+asks_none = record { whole = false; joined = false }
+
+-- A reader asks for memory for each string.
+abbrev pub from_reader_asks : Asks
+from_reader_asks = record { whole = true; joined = true }

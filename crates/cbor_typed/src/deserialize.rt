@@ -1,6 +1,7 @@
 //! Types that are read.
 
 ghost use Rattle.std.specs.Prelude.{◌≡◌, IfErr};
+ghost use Rattle.cbor_read.specs.Source.{asks_for};
 ghost use Rattle.cbor_scalars.specs.Takes.{TakesItem, TellsItem, MemoryFor, context, formats_of};
 
 use crate::de::Deserializer;
@@ -15,18 +16,20 @@ use cbor_read::Read;
 /// `total` says that the type reads every item, so that each refusal tells why the bytes spell
 /// none.
 ///
-/// `asks_memory` says for which items memory may be asked: where another item is read, memory
-/// doesn't run out. It may be asked for any, unless a type says otherwise.
+/// `asks_memory` says for which items memory may be asked, where a source asks for it to hand out
+/// bytes or to join chunks: where another item is read, memory doesn't run out. It may be asked for
+/// any, unless a type says otherwise.
 pub trait Readable: Sized + Drop {
     ghost use Rattle.std.specs.Prelude.{⊤, Bool, false};
     ghost use Rattle.cbor_model.specs.Raw.{Raw};
     ghost use Rattle.cbor_model.specs.Readable.{Context};
+    ghost use Rattle.cbor_read.specs.Source.{Asks};
 
     ghost reads: { Context → Raw → Self → Type 0 };
 
     ghost total: { Bool } = { false };
 
-    ghost asks_memory: { Context → Raw → Type 0 } = { λ c r. ⊤ };
+    ghost asks_memory: { Asks → Raw → Type 0 } = { λ a r. ⊤ };
 }
 
 /// A type that is read from a source.
@@ -188,7 +191,7 @@ pub trait Deserialize<'de, R: Read<'de>>: Readable {
             (formats_of de.old.items.formats) de.old.items.levels
             (R.source de.old.items.source)) }
         ensures memory { IfErr result
-            (MemoryFor (Self.asks_memory (context de.old.items.formats R.lends))
+            (MemoryFor (Self.asks_memory (asks_for R.refusals R.lends))
             (formats_of de.old.items.formats)
             (Self.reads (context de.old.items.formats R.lends)) de.old.items.levels
             (R.source de.old.items.source)) }

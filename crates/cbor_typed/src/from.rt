@@ -14,9 +14,11 @@ ghost use Rattle.cbor_io.specs.Error.{IsOutOfMemory};
 ghost use Rattle.cbor_de.specs.FirstRefusal.{TellsFirst};
 ghost use Rattle.cbor_de.specs.Gives.{Fails, FailsOrFaults, Gave};
 ghost use Rattle.cbor_de.specs.Gives.{IsMemoryOrFault, IsScratchOrMemory};
+ghost use Rattle.cbor_read.specs.Source.{asks_for};
 ghost use Rattle.cbor_scalars.specs.Takes.{context, formats_of, lending, MemoryFor, WhereTotal};
 ghost use Rattle.cbor_typed.specs.Whole.{ReadsAll, TellsWhole, from_slice_context};
 ghost use Rattle.cbor_typed.specs.Whole.{from_mut_slice_context, from_reader_context};
+ghost use Rattle.cbor_typed.specs.Whole.{asks_none, from_reader_asks, from_slice_asks};
 
 use crate::de::Deserializer;
 use crate::deserialize::{Deserialize, DeserializeOwned};
@@ -31,7 +33,7 @@ fn read_all<'de, T: Deserialize<'de, R>, R: Read<'de> + Drop>(alloc: Global, sou
         max_depth (R.source source) result }
     ensures fault { IfErr result (TellsWhole T.total R.refusals all_formats max_depth
         (R.source source)) }
-    ensures memory { IfErr result (MemoryFor (T.asks_memory (lending all_formats R.lends))
+    ensures memory { IfErr result (MemoryFor (T.asks_memory (asks_for R.refusals R.lends))
         all_formats (T.reads (lending all_formats R.lends)) max_depth (R.source source)) }
 {
     let mut de = Deserializer::new(alloc, source);
@@ -46,7 +48,7 @@ fn whole<'de, T: Deserialize<'de, R>, R: Read<'de>>(de: &mut Deserializer<R>) ->
     ensures fault { IfErr result (TellsWhole T.total R.refusals
         (formats_of de.old.items.formats) de.old.items.levels (R.source de.old.items.source)) }
     ensures memory { IfErr result (MemoryFor
-        (T.asks_memory (context de.old.items.formats R.lends)) (formats_of de.old.items.formats)
+        (T.asks_memory (asks_for R.refusals R.lends)) (formats_of de.old.items.formats)
         (T.reads (context de.old.items.formats R.lends)) de.old.items.levels
         (R.source de.old.items.source)) }
 {
@@ -118,7 +120,7 @@ pub fn from_slice<'a, T: Deserialize<'a, SliceRead<'a>>>(
     // and Option of these ask for none, so that where such an item is there it is read.
     ensures memory { (x : T)
         → (spelt : SpellsAs all_formats (T.reads from_slice_context) slice.now x)
-        → IfErr result (λ e. T.asks_memory from_slice_context spelt.item) }
+        → IfErr result (λ e. T.asks_memory from_slice_asks spelt.item) }
     // The acceptable item that the bytes spell is the one that is read; and where the type reads
     // every item, it is read, unless memory runs out.
     ensures every { (v : Val) → (spelt : SpellsValue slice.now v)
@@ -158,7 +160,7 @@ pub fn from_slice_with_scratch<'a, T: Deserialize<'a, SliceReadFixed<'a, 'a>>>(
     ensures memory { (x : T)
         → (spelt : SpellsAs all_formats (T.reads from_slice_context) slice.now x)
         → FitsScratch (Some (length scratch.old)) spelt.item
-        → IfErr result (λ e. T.asks_memory from_slice_context spelt.item) }
+        → IfErr result (λ e. T.asks_memory asks_none spelt.item) }
     ensures every { (v : Val) → (spelt : SpellsValue slice.now v)
         → FitsScratch (Some (length scratch.old)) spelt.item
         → MatchResult result (T.reads from_slice_context spelt.item)
@@ -194,7 +196,7 @@ pub fn from_mut_slice<'a, T: Deserialize<'a, MutSliceRead<'a>>>(
         → IfErr result IsOutOfMemory }
     ensures memory { (x : T)
         → (spelt : SpellsAs all_formats (T.reads from_mut_slice_context) slice.old x)
-        → IfErr result (λ e. T.asks_memory from_mut_slice_context spelt.item) }
+        → IfErr result (λ e. T.asks_memory asks_none spelt.item) }
     ensures every { (v : Val) → (spelt : SpellsValue slice.old v)
         → MatchResult result (T.reads from_mut_slice_context spelt.item)
         (λ e. WhereTotal T.total (IsOutOfMemory e)) }
@@ -237,7 +239,7 @@ pub fn from_reader<'de, T: DeserializeOwned + Deserialize<'de, IoRead<R>>, R: io
     // Memory runs out only for an item for which the type may ask for it.
     ensures memory { (bytes : List ℕ) → Gave (R.remaining reader) bytes
         → (x : T) → (spelt : SpellsAs all_formats (T.reads from_reader_context) bytes x)
-        → IfErr result (λ e. IsOutOfMemory e → T.asks_memory from_reader_context spelt.item) }
+        → IfErr result (λ e. IsOutOfMemory e → T.asks_memory from_reader_asks spelt.item) }
     // The acceptable item that the bytes spell is the one that is read; and where the type reads
     // every item, it is read, with the same exceptions.
     ensures every { (bytes : List ℕ) → Gave (R.remaining reader) bytes

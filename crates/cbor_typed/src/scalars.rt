@@ -11,7 +11,9 @@ ghost use Rattle.cbor_scalars.specs.Opens.{OpensAt};
 ghost use Rattle.cbor_scalars.specs.Scalars.{IsFloatItem};
 ghost use Rattle.cbor_scalars.specs.Strings.{IsMadeOf, IsNoKey, LendsBytes, LendsString, LendsText};
 ghost use Rattle.cbor_scalars.specs.Takes.{TakesItem, TakesNoMemory, context, formats_of};
-ghost use Rattle.cbor_scalars.specs.Takes.{raws};
+ghost use Rattle.cbor_read.specs.Source.{asks_for};
+ghost use Rattle.cbor_scalars.specs.Strings.{AsksForString, UnreadOnly};
+ghost use Rattle.cbor_scalars.specs.Takes.{OfItem, raws};
 ghost use Rattle.cbor_typed.specs.contracts.de.Deserializer.{the_row as typed_row};
 
 use crate::de::Deserializer;
@@ -117,7 +119,10 @@ impl<'de, R: Read<'de>> Deserializer<R> {
             × (new.items.formats ≡ self.old.items.formats)
             × LendsText R.refusals (context self.old.items.formats R.lends) self.old.items.levels
             (R.source self.old.items.source) (R.source new.items.source) result
-            × IfErr result IsNoKey)) }
+            × IfErr result IsNoKey
+            × IfErr result (UnreadOnly (OfItem (AsksForString (asks_for R.refusals R.lends))
+            (formats_of self.old.items.formats) self.old.items.levels
+            (R.source self.old.items.source))))) }
     {
         lent::read_text(&mut self.items)
     }
@@ -130,7 +135,10 @@ impl<'de, R: Read<'de>> Deserializer<R> {
             × (new.items.formats ≡ self.old.items.formats)
             × LendsString R.refusals (context self.old.items.formats R.lends) self.old.items.levels
             (R.source self.old.items.source) (R.source new.items.source) result
-            × IfErr result IsNoKey)) }
+            × IfErr result IsNoKey
+            × IfErr result (UnreadOnly (OfItem (AsksForString (asks_for R.refusals R.lends))
+            (formats_of self.old.items.formats) self.old.items.levels
+            (R.source self.old.items.source))))) }
     {
         lent::read_bytes(&mut self.items)
     }
@@ -143,7 +151,10 @@ impl<'de, R: Read<'de>> Deserializer<R> {
             × (new.items.formats ≡ self.old.items.formats)
             × LendsBytes R.refusals (context self.old.items.formats R.lends) self.old.items.levels
             (R.source self.old.items.source) (R.source new.items.source) result
-            × IfErr result IsNoKey)) }
+            × IfErr result IsNoKey
+            × IfErr result (UnreadOnly (OfItem (AsksForString (asks_for R.refusals R.lends))
+            (formats_of self.old.items.formats) self.old.items.levels
+            (R.source self.old.items.source))))) }
     {
         lent::read_byte_string(&mut self.items)
     }

@@ -6,3 +6,5 @@ pub use Rattle.cbor_scalars.proofs.Scalars.{excused_or}
 pub use Rattle.cbor_scalars.proofs.Scalars.{refuses, told_by}
 -- an error that isn't want of memory says nothing of items that take some
 pub use Rattle.cbor_scalars.proofs.Scalars.{other_code}
+-- where memory ran out, what the refusal says of it holds
+pub use Rattle.cbor_scalars.proofs.Memory.{error_only}

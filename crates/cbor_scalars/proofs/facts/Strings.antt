@@ -5,3 +5,5 @@ pub use Rattle.cbor_scalars.proofs.Contents.{same_bytes}
 pub use Rattle.cbor_scalars.proofs.ByteStrings.{one_byte_string}
 -- what is read as another value, or not
 pub use Rattle.cbor_scalars.proofs.Lending.{made_read, made_none, made_refuses, none_of}
+-- where memory ran out for a string, and for none that is lent for the input's life
+pub use Rattle.cbor_scalars.proofs.Memory.{made_memory, lent_unasked}

@@ -37,9 +37,11 @@ impl DeserializeOwned for ByteBuf {
 /// `invalid length n, expected N`.
 impl<const N: usize> Readable for ByteArray<N> {
     ghost use Rattle.cbor_model.specs.Readable.{PassesTags};
-    ghost use Rattle.cbor_scalars.specs.Strings.{IsByteArray};
+    ghost use Rattle.cbor_scalars.specs.Strings.{AsksForString, IsByteArray};
 
     ghost reads = { λ c. PassesTags (λ r b. IsByteArray N r b.0) };
+
+    ghost asks_memory = { AsksForString };
 }
 
 impl<'de, R: Read<'de>, const N: usize> Deserialize<'de, R> for ByteArray<N> {
@@ -82,6 +84,8 @@ impl Readable for Bytes<'_> {
     ghost use Rattle.cbor_scalars.specs.Strings.{IsBorrowedBytes};
 
     ghost reads = { λ c. PassesTags (λ r b. IsBorrowedBytes c r b.0.now) };
+
+    ghost asks_memory = { λ a r. ⊥ };
 }
 
 impl<'de, R: Read<'de>> Deserialize<'de, R> for Bytes<'de> {

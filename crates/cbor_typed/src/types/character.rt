@@ -39,9 +39,11 @@ fn character(text: EitherStr<'_, '_>, alloc: Global) -> Result<char>
 
 impl Readable for char {
     ghost use Rattle.cbor_model.specs.Readable.{PassesTags};
-    ghost use Rattle.cbor_scalars.specs.Strings.{IsCharacter};
+    ghost use Rattle.cbor_scalars.specs.Strings.{AsksForString, IsCharacter};
 
     ghost reads = { λ c. PassesTags IsCharacter };
+
+    ghost asks_memory = { AsksForString };
 }
 
 impl<'de, R: Read<'de>> Deserialize<'de, R> for char {

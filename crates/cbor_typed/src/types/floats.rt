@@ -15,7 +15,7 @@ impl Readable for f32 {
 
     ghost reads = { λ c. PassesTags IsSingleOf };
 
-    ghost asks_memory = { λ c r. ⊥ };
+    ghost asks_memory = { λ a r. ⊥ };
 }
 
 impl<'de, R: Read<'de>> Deserialize<'de, R> for f32 {
@@ -38,7 +38,7 @@ impl Readable for f64 {
 
     ghost reads = { λ c. PassesTags IsFloatOf };
 
-    ghost asks_memory = { λ c r. ⊥ };
+    ghost asks_memory = { λ a r. ⊥ };
 }
 
 impl<'de, R: Read<'de>> Deserialize<'de, R> for f64 {

@@ -18,10 +18,13 @@ pub struct IgnoredAny;
 
 impl Readable for IgnoredAny {
     ghost use Rattle.std.specs.Prelude.{⊤, true};
+    ghost use Rattle.cbor_de.specs.Memory.{AsksAtAll};
 
     ghost reads = { λ c r x. ⊤ };
 
     ghost total = { true };
+
+    ghost asks_memory = { λ a r. AsksAtAll a };
 }
 
 impl<'de, R: Read<'de>> Deserialize<'de, R> for IgnoredAny {

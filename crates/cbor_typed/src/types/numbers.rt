@@ -12,7 +12,7 @@ impl Readable for u8 {
 
     ghost reads = { λ c. PassesTags (IsFromZero (2 ^ 8 - 1)) };
 
-    ghost asks_memory = { λ c r. ⊥ };
+    ghost asks_memory = { λ a r. ⊥ };
 }
 
 impl<'de, R: Read<'de>> Deserialize<'de, R> for u8 {
@@ -39,7 +39,7 @@ impl Readable for u16 {
 
     ghost reads = { λ c. PassesTags (IsFromZero (2 ^ 16 - 1)) };
 
-    ghost asks_memory = { λ c r. ⊥ };
+    ghost asks_memory = { λ a r. ⊥ };
 }
 
 impl<'de, R: Read<'de>> Deserialize<'de, R> for u16 {
@@ -66,7 +66,7 @@ impl Readable for u32 {
 
     ghost reads = { λ c. PassesTags (IsFromZero (2 ^ 32 - 1)) };
 
-    ghost asks_memory = { λ c r. ⊥ };
+    ghost asks_memory = { λ a r. ⊥ };
 }
 
 impl<'de, R: Read<'de>> Deserialize<'de, R> for u32 {
@@ -93,7 +93,7 @@ impl Readable for u64 {
 
     ghost reads = { λ c. PassesTags (IsFromZero (2 ^ 64 - 1)) };
 
-    ghost asks_memory = { λ c r. ⊥ };
+    ghost asks_memory = { λ a r. ⊥ };
 }
 
 impl<'de, R: Read<'de>> Deserialize<'de, R> for u64 {
@@ -120,7 +120,7 @@ impl Readable for usize {
 
     ghost reads = { λ c. PassesTags (IsFromZero (2 ^ 64 - 1)) };
 
-    ghost asks_memory = { λ c r. ⊥ };
+    ghost asks_memory = { λ a r. ⊥ };
 }
 
 impl<'de, R: Read<'de>> Deserialize<'de, R> for usize {
@@ -147,7 +147,7 @@ impl Readable for i8 {
 
     ghost reads = { λ c. PassesTags (IsSigned (2 ^ 7 - 1)) };
 
-    ghost asks_memory = { λ c r. ⊥ };
+    ghost asks_memory = { λ a r. ⊥ };
 }
 
 impl<'de, R: Read<'de>> Deserialize<'de, R> for i8 {
@@ -174,7 +174,7 @@ impl Readable for i16 {
 
     ghost reads = { λ c. PassesTags (IsSigned (2 ^ 15 - 1)) };
 
-    ghost asks_memory = { λ c r. ⊥ };
+    ghost asks_memory = { λ a r. ⊥ };
 }
 
 impl<'de, R: Read<'de>> Deserialize<'de, R> for i16 {
@@ -201,7 +201,7 @@ impl Readable for i32 {
 
     ghost reads = { λ c. PassesTags (IsSigned (2 ^ 31 - 1)) };
 
-    ghost asks_memory = { λ c r. ⊥ };
+    ghost asks_memory = { λ a r. ⊥ };
 }
 
 impl<'de, R: Read<'de>> Deserialize<'de, R> for i32 {
@@ -228,7 +228,7 @@ impl Readable for i64 {
 
     ghost reads = { λ c. PassesTags (IsSigned (2 ^ 63 - 1)) };
 
-    ghost asks_memory = { λ c r. ⊥ };
+    ghost asks_memory = { λ a r. ⊥ };
 }
 
 impl<'de, R: Read<'de>> Deserialize<'de, R> for i64 {
@@ -255,7 +255,7 @@ impl Readable for isize {
 
     ghost reads = { λ c. PassesTags (IsSigned (2 ^ 63 - 1)) };
 
-    ghost asks_memory = { λ c r. ⊥ };
+    ghost asks_memory = { λ a r. ⊥ };
 }
 
 impl<'de, R: Read<'de>> Deserialize<'de, R> for isize {
@@ -282,7 +282,7 @@ impl Readable for u128 {
 
     ghost reads = { λ c. PassesTags (IsFromZero (2 ^ 128 - 1)) };
 
-    ghost asks_memory = { λ c r. ⊥ };
+    ghost asks_memory = { λ a r. ⊥ };
 }
 
 impl<'de, R: Read<'de>> Deserialize<'de, R> for u128 {
@@ -301,7 +301,7 @@ impl Readable for i128 {
 
     ghost reads = { λ c. PassesTags IsInteger };
 
-    ghost asks_memory = { λ c r. ⊥ };
+    ghost asks_memory = { λ a r. ⊥ };
 }
 
 impl<'de, R: Read<'de>> Deserialize<'de, R> for i128 {

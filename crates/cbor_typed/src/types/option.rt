@@ -13,7 +13,7 @@ impl<T: Readable> Readable for Option<T> {
 
     ghost reads = { λ c. IsOptional (T.reads c) };
 
-    ghost asks_memory = { λ c. UnlessNull (T.asks_memory c) };
+    ghost asks_memory = { λ a. UnlessNull (T.asks_memory a) };
 }
 
 impl<'de, R: Read<'de>, T: Deserialize<'de, R>> Deserialize<'de, R> for Option<T> {

@@ -11,7 +11,7 @@ impl Readable for bool {
 
     ghost reads = { λ c. PassesTags IsBool };
 
-    ghost asks_memory = { λ c r. ⊥ };
+    ghost asks_memory = { λ a r. ⊥ };
 }
 
 impl<'de, R: Read<'de>> Deserialize<'de, R> for bool {
@@ -30,7 +30,7 @@ impl Readable for () {
 
     ghost reads = { λ c. PassesTags IsUnit };
 
-    ghost asks_memory = { λ c r. ⊥ };
+    ghost asks_memory = { λ a r. ⊥ };
 }
 
 impl<'de, R: Read<'de>> Deserialize<'de, R> for () {
@@ -50,7 +50,7 @@ impl Readable for Float {
 
     ghost reads = { λ c. PassesTags IsFloatItem };
 
-    ghost asks_memory = { λ c r. ⊥ };
+    ghost asks_memory = { λ a r. ⊥ };
 }
 
 impl<'de, R: Read<'de>> Deserialize<'de, R> for Float {

@@ -30,6 +30,8 @@ impl Readable for &str {
     ghost use Rattle.cbor_scalars.specs.Strings.{IsBorrowedText};
 
     ghost reads = { λ c. PassesTags (λ r s. IsBorrowedText c r s.now) };
+
+    ghost asks_memory = { λ a r. ⊥ };
 }
 
 impl<'de, R: Read<'de>> Deserialize<'de, R> for &'de str {
@@ -51,6 +53,8 @@ impl Readable for &[u8] {
     ghost use Rattle.cbor_scalars.specs.Strings.{IsBorrowedString};
 
     ghost reads = { λ c. PassesTags (λ r s. IsBorrowedString c r s.now) };
+
+    ghost asks_memory = { λ a r. ⊥ };
 }
 
 impl<'de, R: Read<'de>> Deserialize<'de, R> for &'de [u8] {

@@ -10,10 +10,13 @@ impl Readable for Value {
     ghost use Rattle.std.specs.Prelude.{◌≡◌, true};
     ghost use Rattle.cbor_model.specs.Value.{value};
     ghost use Rattle.cbor_value.specs.View.{view};
+    ghost use Rattle.cbor_de.specs.Memory.{IsStored};
 
     ghost reads = { λ c r v. view v ≡ value r };
 
     ghost total = { true };
+
+    ghost asks_memory = { λ a r. IsStored (value r) };
 }
 
 impl<'de, R: Read<'de>> Deserialize<'de, R> for Value {

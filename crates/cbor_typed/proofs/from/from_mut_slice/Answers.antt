@@ -5,7 +5,7 @@ use Rattle.cbor_model.specs.Raw.{AreBytes}
 use Rattle.cbor_read.specs.Source.{Input, slice_input, mut_refusals}
 use Rattle.cbor_de.specs.Gives.{Tells}
 use Rattle.cbor_scalars.specs.Takes.{MemoryFor}
-use Rattle.cbor_typed.specs.Whole.{ReadsAll, TellsWhole, from_mut_slice_context}
+use Rattle.cbor_typed.specs.Whole.{ReadsAll, TellsWhole, from_mut_slice_context, asks_none}
 use Rattle.cbor_typed.proofs.Every.{every}
 use Rattle.cbor_typed.proofs.Faults.{fails}
 use Rattle.cbor_typed.proofs.Inputs.{found, accepted, asked}
@@ -60,7 +60,7 @@ returns-clause-memory g c = λ x spelt.
     let s = slice_input bs 0 [] None in
     let fits : AreBytes bs = c.are_bytes.ensures in
     let reads = g.T.Readable.reads from_mut_slice_context in
-    let asks = g.T.Readable.asks_memory from_mut_slice_context in
+    let asks = g.T.Readable.asks_memory asks_none in
     let given = subst (λ (s : Input). ReadsAll mut_refusals all_formats reads max_depth s c.read_all.result) c.new.ensures c.read_all.ensures.read in
     let memory = subst (λ (s : Input). IfErr c.read_all.result (MemoryFor asks all_formats reads max_depth s)) c.new.ensures c.read_all.ensures.memory in
     let tells : Tells s bs = record { is = refl; short = omega arith } in

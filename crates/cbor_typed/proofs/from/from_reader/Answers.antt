@@ -4,7 +4,7 @@ use Rattle.cbor_model.specs.Formats.{all_formats}
 use Rattle.cbor_read.specs.Source.{Input, reader_input, reader_refusals}
 use Rattle.cbor_de.specs.Gives.{Tells}
 use Rattle.cbor_scalars.specs.Takes.{MemoryFor}
-use Rattle.cbor_typed.specs.Whole.{ReadsAll, TellsWhole, from_reader_context}
+use Rattle.cbor_typed.specs.Whole.{ReadsAll, TellsWhole, from_reader_context, from_reader_asks}
 use Rattle.cbor_typed.proofs.Every.{every_or_fault}
 use Rattle.cbor_typed.proofs.Faults.{fails_or_faults}
 use Rattle.cbor_typed.proofs.Inputs.{found, accepted_or_fault, asked_or_fault}
@@ -51,7 +51,7 @@ pub returns-clause-memory : goal.returns-clause-memory
 returns-clause-memory g c = λ bs gave x spelt.
     let s = reader_input None (g.R.Read.remaining c.args.reader) [] 0 in
     let reads = g.T.Readable.reads from_reader_context in
-    let asks = g.T.Readable.asks_memory from_reader_context in
+    let asks = g.T.Readable.asks_memory from_reader_asks in
     let memory = subst (λ (s : Input). IfErr c.read_all.result (MemoryFor asks all_formats reads max_depth s)) c.new.ensures c.read_all.ensures.memory in
     let tells : Tells s bs = record { is = gave.told; short = omega (arith, gave.short) } in
     asked_or_fault reader_refusals all_formats reads s bs tells refl gave.are_bytes asks x spelt tt c.read_all.result memory

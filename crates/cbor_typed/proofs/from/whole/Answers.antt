@@ -1,3 +1,4 @@
+use Rattle.cbor_read.specs.Source.{asks_for}
 use Rattle.cbor_scalars.specs.Takes.{context, formats_of}
 use Rattle.cbor_typed.proofs.Faults.{item_whole, end_whole}
 use Rattle.cbor_typed.proofs.Inputs.{all_refused, end_other}
@@ -25,4 +26,4 @@ returns-in-Err-end-clause-memory g c =
     let within = context d.formats g.R.Source.lends in
     let m = g.R.Source.source c.deserialize.new.de.items.source in
     let t = g.R.Source.source c.end.new.self.items.source in
-    other_code (g.T.Readable.asks_memory within) (formats_of d.formats) (g.T.Readable.reads within) d.levels (g.R.Source.source d.source) c.in-Err-end.e (end_other g.R.Source.refusals m t c.in-Err-end.e c.in-Err-end.ensures.takes)
+    other_code (g.T.Readable.asks_memory (asks_for g.R.Source.refusals g.R.Source.lends)) (formats_of d.formats) (g.T.Readable.reads within) d.levels (g.R.Source.source d.source) c.in-Err-end.e (end_other g.R.Source.refusals m t c.in-Err-end.e c.in-Err-end.ensures.takes)

@@ -1,7 +1,9 @@
 use Rattle.std.specs.Prelude.{⊤}
 use Rattle.cbor_scalars.specs.Takes.{formats_of}
 use Rattle.cbor_typed.proofs.Faults.{any_passed, any_stops, value_refused}
-use Rattle.cbor_scalars.proofs.facts.Refusals.{told_by}
+use Rattle.cbor_read.specs.Source.{asks_for}
+use Rattle.cbor_de.specs.Memory.{AsksAtAll}
+use Rattle.cbor_scalars.proofs.facts.Refusals.{error_only, told_by}
 use Rattle.cbor_model.specs.Reader.{item_at}
 use Rattle.cbor_de.specs.Gives.{values}
 use Rattle.cbor_typed.proofs.types.ignored.IgnoredAnyDeserialize.deserialize.Goals as goal
@@ -26,3 +28,7 @@ returns-in-Err-clause-fault g c =
     let f = formats_of d.formats in
     told_by g.R.Source.refusals (λ l. item_at (values f l) d.levels) s c.skip.new.self.refusal c.in-Err.refused c.error.result c.error.ensures.tells
     (any_stops g.R.Source.refusals f d.levels s c.skip.new.self.refusal c.in-Err.refused c.in-Err.ensures.read)
+
+pub returns-in-Err-clause-memory : goal.returns-in-Err-clause-memory
+returns-in-Err-clause-memory g c = λ is bs tells x rest got.
+    error_only (AsksAtAll (asks_for g.R.Source.refusals g.R.Source.lends)) c.skip.new.self.refusal c.in-Err.refused c.error.result c.error.ensures.tells c.in-Err.ensures.memory is

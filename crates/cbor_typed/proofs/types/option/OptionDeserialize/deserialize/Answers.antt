@@ -2,6 +2,7 @@ use Rattle.std.proofs.Common.{◌≡◌, ℕ, Ok, Bool, subst}
 use Rattle.cbor_model.specs.Reader.{item_at}
 use Rattle.cbor_io.specs.Error.{code_of, offset_of}
 use Rattle.cbor_de.specs.Gives.{Step}
+use Rattle.cbor_read.specs.Source.{asks_for}
 use Rattle.cbor_scalars.specs.Options.{null_at}
 use Rattle.cbor_scalars.specs.Takes.{raws, context, formats_of, IsRead, IsNotRead, MemoryFor, Refuses}
 use Rattle.cbor_de.specs.declared.formats.Formats.{Formats}
@@ -47,8 +48,8 @@ returns-in-Err-deserialize-clause-memory g c =
     let m = g.R.Source.source c.take_null.new.items.source in
     let step = subst (λ (b : Bool). Step s m (λ l bs rest. null_at bs ≡ Ok (b, rest))) c.in-Ok-false.field-0-test c.in-Ok-false.ensures.read in
     let e = c.in-Err-deserialize.e in
-    let asks = λ (f : Formats). g.T.Readable.asks_memory (context f g.R.Source.lends) in
+    let asks = g.T.Readable.asks_memory (asks_for g.R.Source.refusals g.R.Source.lends) in
     let reads = λ (f : Formats). g.T.Readable.reads (context f g.R.Source.lends) in
-    let behind = subst (λ (n : ℕ). MemoryFor (asks de.items.formats) (formats_of de.items.formats) (reads de.items.formats) n m e) c.in-Ok-false.ensures.levels
-    (subst (λ (f : Formats). MemoryFor (asks f) (formats_of f) (reads f) c.take_null.new.items.levels m e) c.in-Ok-false.ensures.formats c.in-Err-deserialize.ensures.memory) in
-    option_memory g.R.Source.refusals (formats_of de.items.formats) (reads de.items.formats) de.items.levels s (asks de.items.formats) m e step behind
+    let behind = subst (λ (n : ℕ). MemoryFor asks (formats_of de.items.formats) (reads de.items.formats) n m e) c.in-Ok-false.ensures.levels
+    (subst (λ (f : Formats). MemoryFor asks (formats_of f) (reads f) c.take_null.new.items.levels m e) c.in-Ok-false.ensures.formats c.in-Err-deserialize.ensures.memory) in
+    option_memory g.R.Source.refusals (formats_of de.items.formats) (reads de.items.formats) de.items.levels s asks m e step behind

@@ -1,4 +1,11 @@
+use Rattle.std.proofs.Common.{◌∙◌, ap}
+use Rattle.cbor_model.specs.Reader.{item_at}
+use Rattle.cbor_model.specs.Value.{value}
+use Rattle.cbor_de.specs.Gives.{limits, values}
+use Rattle.cbor_de.specs.Memory.{ReadsStored}
+use Rattle.cbor_scalars.proofs.facts.Refusals.{error_only}
 use Rattle.cbor_scalars.specs.Takes.{formats_of}
+use Rattle.cbor_typed.proofs.Mapped.{along, value_seen}
 use Rattle.cbor_typed.proofs.Faults.{AsValue, value_taken, value_refused}
 use Rattle.cbor_typed.proofs.types.value.ValueDeserialize.deserialize.Goals as goal
 
@@ -11,3 +18,11 @@ pub returns-in-Err-clause-read : goal.returns-in-Err-clause-read
 returns-in-Err-clause-read g c =
     let d = c.args.de.now.items in
     value_refused g.R.Source.refusals (formats_of d.formats) d.levels (g.R.Source.source d.source) AsValue c.value.new.self.refusal c.in-Err.refused c.error.result c.error.ensures.tells c.in-Err.ensures.read
+
+pub returns-in-Err-clause-memory : goal.returns-in-Err-clause-memory
+returns-in-Err-clause-memory g c = λ is bs tells x rest got.
+    let d = c.args.de.now.items in
+    let f = formats_of d.formats in
+    let s = g.R.Source.source d.source in
+    let stores = error_only (ReadsStored (λ l. item_at (values f l) d.levels) s) c.value.new.self.refusal c.in-Err.refused c.error.result c.error.ensures.tells c.in-Err.ensures.memory is in
+    stores bs tells (value got.item) rest (value_seen f (limits s bs) d.levels bs ∙ ap (along value) got.is)
