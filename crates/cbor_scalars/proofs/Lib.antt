@@ -1,5 +1,6 @@
 pub mod OfKind
 pub mod Opened
+pub mod Openings
 pub mod Scalars
 pub mod Numbers
 pub mod Contents

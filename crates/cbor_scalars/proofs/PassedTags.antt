@@ -2,15 +2,16 @@
 use Rattle.std.proofs.Common.{◌≡◌, ◌∙◌, ◌+◌, ◌/◌, ◌%◌, ◌<◌, ℕ, zero, suc, Bool, true, false, cond, List, [], ◌∷◌, Option, Some, None, Result, Ok, Err, refl, sym, ap, arith}
 use Rattle.cbor_model.specs.Formats.{Formats}
 use Rattle.cbor_model.specs.Head.{HeadWidth}
-use Rattle.cbor_model.specs.Reader.{Fault, Reads, Reading, ◌>>=◌, number_behind, width_of, item_at, inside, after_first, content_at, tag_at}
+use Rattle.cbor_model.specs.Refusal.{too_deep}
+use Rattle.cbor_model.specs.Reader.{before, Fault, Reads, Reading, ◌>>=◌, number_behind, width_of, item_at, inside, after_first, content_at, tag_at}
 use Rattle.cbor_read.specs.Source.{Input}
 use Rattle.cbor_io.specs.declared.read_error.ReadError.{ReadError}
 use Rattle.cbor_io.specs.declared.read_error.ReadErrorCode.{ReadErrorCode}
-use Rattle.cbor_de.specs.Gives.{Limits, Step, Stopped}
+use Rattle.cbor_de.specs.Gives.{Limits, Step, Stopped, Gives}
 use Rattle.cbor_de.specs.declared.refusal.Refused.{Refused}
 use Rattle.cbor_de.proofs.facts.Steps.{step_map, step_then, stopped_map, stopped_then}
 use Rattle.cbor_scalars.specs.Opens.{in_tags}
-use Rattle.cbor_scalars.specs.Tags.{begins_tag, entered_at, tag_behind, tag_head_at}
+use Rattle.cbor_scalars.specs.Tags.{begins_tag, entered_at, tag_behind, tag_head_at, passed_by, passed_from, passed_at}
 use Rattle.cbor_scalars.specs.Takes.{raws}
 use Rattle.cbor_scalars.specs.Tags.{IsBehindTags, PassesAll}
 use Rattle.cbor_scalars.proofs.Opened.{one_more}
@@ -84,3 +85,41 @@ module _ (f : Formats) (levels left n : ℕ) (one : levels ≡ left + 1) where
   tags_more allowed s t u inner kept (Err r) step h =
       stopped_then allowed (λ l. item_at (raws f l) left) (λ l. item_at (raws f l) levels) s t kept r IsTag
       (λ l bs mid e t stops. t.1 ∙ rw stops refl) (tag_step s t step) h
+
+-- ---- all tags, whatever follows them
+
+-- what is read one level further in
+abbrev passing : ℕ → List ℕ → Reads ℕ
+passing zero bs = Err (before too_deep bs)
+passing (suc left) bs = passed_at left bs
+
+abbrev after : ℕ → Reads (Option ℕ) → Reads ℕ
+after levels read = read >>= (λ o. passed_by levels (passing levels) o.0 o.1)
+
+passed_is : (levels : ℕ) (bs : List ℕ) → passed_at levels bs ≡ passed_from levels (passing levels) bs
+unfolding passed_at
+passed_is zero bs = refl
+passed_is (suc left) bs = refl
+
+one_passed : (levels left : ℕ) (mid : List ℕ) → levels ≡ left + 1 → passing levels mid ≡ passed_at left mid
+one_passed levels left mid one = ap (λ (k : ℕ). passing k mid) next
+  where
+    next : levels ≡ suc left
+    next = omega (arith, one)
+
+-- no tag is at the front
+pub pass_none : (s t : Input) (levels left : ℕ) → left ≡ levels → Step s t (λ l bs rest. tag_head_at levels bs ≡ Ok (None, rest)) → Step s t (λ l bs rest. passed_at levels bs ≡ Ok (left, rest))
+pass_none s t levels left is = step_map s t (λ l bs rest. tag_head_at levels bs ≡ Ok (None, rest)) (λ l bs rest. passed_at levels bs ≡ Ok (left, rest))
+    (λ l bs rest none. passed_is levels bs ∙ ap (after levels) none ∙ ap (λ (k : ℕ). Ok (k, rest)) (sym is))
+
+pub pass_stopped : (allowed : ReadErrorCode → Bool) (s : Input) (levels : ℕ) (kept : Option ReadError) (r : Refused) → Stopped allowed (λ l. tag_head_at levels) s kept r → Stopped allowed (λ l. passed_at levels) s kept r
+pass_stopped allowed s levels kept r = stopped_map allowed (λ l. tag_head_at levels) (λ l. passed_at levels) s kept r (λ l bs e is. passed_is levels bs ∙ ap (after levels) is)
+
+pub pass_more : (allowed : ReadErrorCode → Bool) (s t u : Input) (levels left n inner : ℕ) (kept : Option ReadError) (r : Result (Unit {0}) Refused) → levels ≡ left + 1
+    → Step s t (λ l bs rest. tag_head_at levels bs ≡ Ok (Some n, rest)) → Gives {X = Unit {0}} {A = ℕ} allowed (λ x. inner) (λ l. passed_at left) t u kept r → Gives {X = Unit {0}} {A = ℕ} allowed (λ x. inner) (λ l. passed_at levels) s u kept r
+pass_more allowed s t u levels left n inner kept (Ok x) one step h =
+    step_then s t u (λ l bs rest. tag_head_at levels bs ≡ Ok (Some n, rest)) (λ l bs rest. passed_at left bs ≡ Ok (inner, rest)) (λ l bs rest. passed_at levels bs ≡ Ok (inner, rest))
+    (λ l bs mid rest tag is. passed_is levels bs ∙ ap (after levels) tag ∙ one_passed levels left mid one ∙ is) step h
+pass_more allowed s t u levels left n inner kept (Err r) one step h =
+    stopped_then allowed (λ l. passed_at left) (λ l. passed_at levels) s t kept r (λ l bs rest. tag_head_at levels bs ≡ Ok (Some n, rest))
+    (λ l bs mid e tag is. passed_is levels bs ∙ ap (after levels) tag ∙ one_passed levels left mid one ∙ is) step h

@@ -1,15 +1,20 @@
 -- The head of an item within its tags.
-use Rattle.std.specs.Prelude.{◌≡◌, ℕ, List, [], ◌∷◌, Option, Bool, Result, Ok, Err}
+use Rattle.std.specs.Prelude.{◌≡◌, ℕ, zero, suc, List, [], ◌∷◌, Option, Some, None, Bool, Result}
+use Rattle.std.specs.Prelude.{Ok, Err, refl}
 use Rattle.cbor_model.specs.Formats.{Formats}
 use Rattle.cbor_model.specs.Head.{HeadWidth}
 use Rattle.cbor_model.specs.Raw.{Raw, tag}
-use Rattle.cbor_model.specs.Reader.{Reads, ◌>>=◌, item_at, inside, within}
+use Rattle.cbor_model.specs.Refusal.{too_deep, unassigned_code}
+use Rattle.cbor_model.specs.Reader.{Reads, ◌>>=◌, before, item_at, inside, within, byte_at}
+use Rattle.cbor_model.specs.Reader.{number_behind}
 use Rattle.cbor_io.specs.declared.read_error.ReadError.{ReadError}
 use Rattle.cbor_io.specs.declared.read_error.ReadErrorCode.{ReadErrorCode}
 use Rattle.cbor_read.specs.Source.{Input}
 use Rattle.cbor_de.specs.Gives.{Limits, Step, Stopped}
-use Rattle.cbor_de.specs.Heads.{behind_head}
+use Rattle.cbor_de.specs.Heads.{opening_at, head_at, head_of, behind_head}
+use Rattle.cbor_de.specs.declared.cursor.Remaining.TheVariants.{Counted}
 use Rattle.cbor_de.specs.declared.head.Head.{Head}
+use Rattle.cbor_de.specs.declared.head.Head.TheVariants.{Array, Tag}
 use Rattle.cbor_de.specs.declared.refusal.Refused.{Refused}
 use Rattle.cbor_scalars.specs.Kinds.{head_kind}
 use Rattle.cbor_scalars.specs.Kinds as kind
@@ -53,3 +58,46 @@ abbrev pub OpensInside : (ReadErrorCode → Bool) → Formats → ℕ → Input 
     → Result Head Refused → Type 0
 OpensInside refusals f levels s t kept r =
     (left : ℕ) × OpensAt refusals f (λ l. item_inside f l levels) s t left kept r
+
+-- ---- the head alone, whatever follows it
+
+-- After a tag's head the head one level further in, if a level is left; no other head is a tag's.
+abbrev pub opened_by : ℕ → Option (List ℕ → Reads (ℕ × Head)) → Head → List ℕ → Reads (ℕ × Head)
+opened_by levels inner (Tag n) bs = within inner bs (λ p. p bs)
+opened_by levels inner h bs = Ok ((levels, h), bs)
+
+abbrev pub opened_from : ℕ → Option (List ℕ → Reads (ℕ × Head)) → List ℕ → Reads (ℕ × Head)
+opened_from levels inner bs = opening_at bs >>= (λ h. opened_by levels inner h.0.1 h.1)
+
+-- The first head that is no tag's, after the heads of tags, each a level further in; and how many
+-- levels are left there, of so many.
+unfoldable pub opened_at : ℕ → List ℕ → Reads (ℕ × Head)
+opened_at zero = opened_from zero None
+opened_at (suc left) = opened_from (suc left) (Some (opened_at left))
+
+-- that head one level further in, if a level is left
+abbrev pub opened_inside : ℕ → List ℕ → Reads (ℕ × Head)
+opened_inside zero bs = Err (before too_deep bs)
+opened_inside (suc left) bs = opened_at left bs
+
+-- ---- examples
+
+-- 82 01: an array of two items, of which the first is there
+cut_off : opened_at 127 (0x82 ∷ 0x01 ∷ []) ≡ Ok ((127, Array (Counted 2)), 0x01 ∷ [])
+unfolding opened_at byte_at head_at head_of number_behind
+cut_off = refl
+
+-- c1 82 01: the same within a tag
+in_a_tag : opened_at 127 (0xc1 ∷ 0x82 ∷ 0x01 ∷ []) ≡ Ok ((126, Array (Counted 2)), 0x01 ∷ [])
+unfolding opened_at byte_at head_at head_of number_behind
+in_a_tag = refl
+
+-- c1 82: no level is left for what the tag is of
+tag_too_deep : opened_at 0 (0xc1 ∷ 0x82 ∷ []) ≡ Err (record { why = too_deep; left = 1 })
+unfolding opened_at byte_at head_at head_of number_behind
+tag_too_deep = refl
+
+-- 1c is no head
+no_head : opened_at 127 (0x1c ∷ []) ≡ Err (record { why = unassigned_code; left = 0 })
+unfolding opened_at byte_at head_at head_of number_behind
+no_head = refl

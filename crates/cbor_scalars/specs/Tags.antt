@@ -72,6 +72,22 @@ PassesAll refusals f levels s t left kept (Ok u) = Step s t
 PassesAll refusals f levels s t left kept (Err r) =
     Stopped refusals (λ l. item_at (raws f l) levels) s kept r
 
+-- ---- all tags, whatever follows them
+
+-- after a tag's head what is read one level further in; without one no more
+abbrev pub passed_by : ℕ → (List ℕ → Reads ℕ) → Option ℕ → List ℕ → Reads ℕ
+passed_by levels inner None bs = Ok (levels, bs)
+passed_by levels inner (Some n) bs = inner bs
+
+abbrev pub passed_from : ℕ → (List ℕ → Reads ℕ) → List ℕ → Reads ℕ
+passed_from levels inner bs = tag_head_at levels bs >>= (λ o. passed_by levels inner o.0 o.1)
+
+-- After the heads of all tags at the front, each a level further in: how many levels are left, of so
+-- many.
+unfoldable pub passed_at : ℕ → List ℕ → Reads ℕ
+passed_at zero = passed_from zero (λ bs. Err (before too_deep bs))
+passed_at (suc left) = passed_from (suc left) (passed_at left)
+
 -- ---- examples
 
 -- d8 18 41: tag 24, of a byte string
@@ -82,3 +98,8 @@ tag_of_bytes = refl
 -- dc is no tag's head
 no_tag : tag_head_at 127 (0xdc ∷ []) ≡ Ok (None, 0xdc ∷ [])
 no_tag = refl
+
+-- c1 d8 18 82: two tags, and the first byte after them stays
+two_tags : passed_at 127 (0xc1 ∷ 0xd8 ∷ 0x18 ∷ 0x82 ∷ []) ≡ Ok (125, 0x82 ∷ [])
+unfolding passed_at number_behind
+two_tags = refl

@@ -2,10 +2,10 @@
 
 ghost use Rattle.std.specs.Prelude.{◌≡◌, ◌≤◌, IfErr, OnOk};
 ghost use Rattle.cbor_model.specs.Reader.{item_at};
-ghost use Rattle.cbor_de.specs.Gives.{TellsNoForm, TellsNoKey, TellsNoMemory};
+ghost use Rattle.cbor_de.specs.Gives.{Gives, TellsNoForm, TellsNoKey, TellsNoMemory};
 ghost use Rattle.cbor_io.specs.Error.{code_of};
 ghost use Rattle.cbor_de.specs.Heads.{HeadGives, opening_at};
-ghost use Rattle.cbor_scalars.specs.Opens.{OpensAt, item_inside};
+ghost use Rattle.cbor_scalars.specs.Opens.{OpensAt, item_inside, opened_at, opened_inside};
 ghost use Rattle.cbor_scalars.specs.Takes.{formats_of, raws};
 
 use cbor_de::{Deserializer, Done, Head};
@@ -39,6 +39,10 @@ pub fn open<R: Source>(items: &mut Deserializer<R>) -> Done<Head>
         (λ l. item_at (raws (formats_of items.old.formats) l) items.old.levels)
         (R.source items.old.source) (R.source items.new.source)
         items.new.levels items.new.refusal result }
+    ensures opened { Gives R.refusals (λ head. (items.new.levels, head))
+        (λ l. opened_at items.old.levels)
+        (R.source items.old.source) (R.source items.new.source)
+        items.new.refusal result }
     ensures no_key { IfErr result (TellsNoKey items.new.refusal) }
     ensures memory { IfErr result (TellsNoMemory items.new.refusal) }
     ensures levels { OnOk result (items.new.levels ≤ items.old.levels) }
@@ -59,6 +63,10 @@ pub(crate) fn open_inside<R: Source>(items: &mut Deserializer<R>) -> Done<Head>
         (λ l. item_inside (formats_of items.old.formats) l items.old.levels)
         (R.source items.old.source) (R.source items.new.source)
         items.new.levels items.new.refusal result }
+    ensures opened { Gives R.refusals (λ head. (items.new.levels, head))
+        (λ l. opened_inside items.old.levels)
+        (R.source items.old.source) (R.source items.new.source)
+        items.new.refusal result }
     ensures no_key { IfErr result (TellsNoKey items.new.refusal) }
     ensures memory { IfErr result (TellsNoMemory items.new.refusal) }
     ensures levels { OnOk result (items.new.levels ≤ items.old.levels) }

@@ -4,7 +4,7 @@ ghost use Rattle.std.specs.Prelude.{◌≡◌, ◌≤◌, IfOk, IfErr, IfSome, O
 ghost use Rattle.cbor_io.specs.Error.{code_of};
 ghost use Rattle.cbor_de.specs.Gives.{Gives, TellsNoForm, TellsNoKey};
 ghost use Rattle.cbor_scalars.specs.Tags.{begins_tag, tag_first_at, tag_head_at};
-ghost use Rattle.cbor_scalars.specs.Tags.{ReadsTag, LevelsBehind, PassesAll, TagIs};
+ghost use Rattle.cbor_scalars.specs.Tags.{ReadsTag, LevelsBehind, PassesAll, TagIs, passed_at};
 ghost use Rattle.cbor_scalars.specs.Takes.{formats_of};
 
 use cbor_de::{Deserializer, Done};
@@ -93,6 +93,10 @@ pub fn pass_tags<R: Source>(items: &mut Deserializer<R>) -> Done<()>
         items.old.levels
         (R.source items.old.source) (R.source items.new.source)
         items.new.levels items.new.refusal result }
+    ensures passed { Gives R.refusals (λ u. items.new.levels)
+        (λ l. passed_at items.old.levels)
+        (R.source items.old.source) (R.source items.new.source)
+        items.new.refusal result }
     ensures no_key { IfErr result (TellsNoKey items.new.refusal) }
     ensures levels { OnOk result (items.new.levels ≤ items.old.levels) }
     ensures formats { items.new.formats ≡ items.old.formats }
