@@ -1,4 +1,5 @@
 pub mod ArrayHeads
+pub mod Begins
 pub mod MapHeads
 pub mod NextKeys
 pub mod PairsRead
@@ -12,6 +13,7 @@ pub mod VariantHeads
 pub mod VariantShapes
 pub mod VariantPairs
 pub mod VariantMaps
+pub mod VariantForms
 pub mod Cases
 pub mod Refusing
 pub mod Fronts

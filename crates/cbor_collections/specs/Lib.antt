@@ -1,10 +1,12 @@
 pub mod Accesses
+pub mod Begins
 pub mod Arrays
 pub mod MapAccesses
 pub mod Maps
 pub mod Enums
 pub mod Variants
 pub mod Cases
+pub mod BeginsEnum
 pub use Rattle.cbor_io.specs.Error
 pub use Rattle.cbor_read.specs.Source
 pub use Rattle.cbor_de.specs.Gives

@@ -5,6 +5,8 @@ ghost use Rattle.cbor_io.specs.Error.{code_of};
 ghost use Rattle.cbor_de.specs.Cursor.{Counts};
 ghost use Rattle.cbor_de.specs.Gives.{TellsNoForm};
 ghost use Rattle.cbor_collections.specs.Accesses.{TakesHead};
+ghost use Rattle.cbor_collections.specs.Begins.{TakesBeginning};
+ghost use Rattle.cbor_de.specs.declared.head.Head.TheVariants as kind;
 ghost use Rattle.cbor_collections.specs.Accesses.{TakesMore, TakesEnd};
 ghost use Rattle.cbor_scalars.specs.Takes.{formats_of};
 
@@ -20,6 +22,9 @@ use cbor_scalars::opening::{mismatch, open};
 pub fn array_head<R: Source>(items: &mut Deserializer<R>) -> Result<Remaining>
     ensures read { TakesHead R.refusals (formats_of items.old.formats)
         items.old.levels (R.source items.old.source) (R.source items.new.source)
+        items.new.levels result }
+    ensures opened { TakesBeginning kind.Array R.refusals items.old.levels
+        (R.source items.old.source) (R.source items.new.source)
         items.new.levels result }
     ensures no_form { IfErr result (λ e. TellsNoForm (code_of e)) }
     ensures inside { IfOk result (λ r. items.new.levels < items.old.levels) }

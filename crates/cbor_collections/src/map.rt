@@ -11,6 +11,8 @@ ghost use Rattle.cbor_io.specs.declared.read_error.ReadErrorCode.TheVariants as 
 ghost use Rattle.cbor_io.specs.declared.error.Error.{Error};
 ghost use Rattle.cbor_collections.specs.Cases.{Stands, key_cases};
 ghost use Rattle.cbor_collections.specs.MapAccesses.{TakesMapHead};
+ghost use Rattle.cbor_collections.specs.Begins.{TakesBeginning};
+ghost use Rattle.cbor_de.specs.declared.head.Head.TheVariants as kind;
 ghost use Rattle.cbor_collections.specs.MapAccesses.{TakesMorePairs, TakesMapEnd, key_front};
 ghost use Rattle.cbor_scalars.specs.Takes.{OnceMade, formats_of};
 
@@ -27,6 +29,9 @@ pub fn map_head<R: Source>(items: &mut Deserializer<R>) -> Result<Remaining>
     ensures read { TakesMapHead R.refusals (formats_of items.old.formats)
         items.old.levels (R.source items.old.source)
         (R.source items.new.source) items.new.levels result }
+    ensures opened { TakesBeginning kind.Map R.refusals items.old.levels
+        (R.source items.old.source) (R.source items.new.source)
+        items.new.levels result }
     ensures no_form { IfErr result (λ e. TellsNoForm (code_of e)) }
     ensures inside { IfOk result (λ r. items.new.levels < items.old.levels) }
     ensures outer { OnErr result (items.new.levels ≡ items.old.levels) }

@@ -13,6 +13,8 @@ ghost use Rattle.cbor_collections.specs.Cases.{untagged_cases, enum_cases, unit_
 ghost use Rattle.cbor_collections.specs.Enums.{IsName, IsNothing, IsPart};
 ghost use Rattle.cbor_scalars.specs.Identifiers.{texts};
 ghost use Rattle.cbor_scalars.specs.Takes.{TakesItem, TellsFault, formats_of};
+ghost use Rattle.cbor_collections.specs.BeginsEnum.{TakesVariantHead, TakesForm, TakesFormOf};
+ghost use Rattle.cbor_collections.specs.BeginsEnum.{TakesPartsHead};
 ghost use Rattle.cbor_collections.specs.Variants.{TakesVariant};
 ghost use Rattle.cbor_collections.specs.Variants.{IsInside, IsEntered};
 ghost use Rattle.cbor_collections.specs.Variants.{TakesParts, TakesContent};
@@ -202,6 +204,9 @@ pub fn parts<R: Source>(items: &mut Deserializer<R>, form: Form) -> Result<Remai
         items.old.levels form
         (R.source items.old.source) (R.source items.new.source)
         items.new.levels result }
+    ensures opened { TakesPartsHead R.refusals items.old.levels form
+        (R.source items.old.source) (R.source items.new.source)
+        items.new.levels result }
     ensures alone { IfErr result (TellsAlone (alone_text (codes "tuple")) form) }
     ensures no_form { IfErr result (λ e. TellsNoForm (code_of e)) }
     ensures inside { IfOk result (λ r. IsEntered form items.old.levels
@@ -235,6 +240,10 @@ pub fn variant_head<'de, R: Read<'de>>(
         (texts names.now) items.old.levels
         (R.source items.old.source) (R.source items.new.source)
         items.new.levels result }
+    ensures opened { TakesVariantHead R.refusals
+        (formats_of items.old.formats) (texts names.now) items.old.levels
+        (R.source items.old.source) (R.source items.new.source)
+        items.new.levels result }
     ensures cases { IfErr result (λ e. Stands (R.source items.old.source) e
         (enum_cases (formats_of items.old.formats)
         items.old.levels)) }
@@ -264,6 +273,10 @@ fn tagged_variant<'de, R: Read<'de>>(
         (texts names.now) items.old.levels
         (R.source items.old.source) (R.source items.new.source)
         items.new.levels result }
+    ensures opened { TakesVariantHead R.refusals
+        (formats_of items.old.formats) (texts names.now) items.old.levels
+        (R.source items.old.source) (R.source items.new.source)
+        items.new.levels result }
     ensures cases { IfErr result (λ e. Stands (R.source items.old.source) e
         (enum_cases (formats_of items.old.formats)
         items.old.levels)) }
@@ -285,6 +298,10 @@ fn untagged_variant<'de, R: Read<'de>>(
     names: &[&str],
 ) -> Result<(usize, Form)>
     ensures read { TakesShaped HasNoTag R.refusals
+        (formats_of items.old.formats) (texts names.now) items.old.levels
+        (R.source items.old.source) (R.source items.new.source)
+        items.new.levels result }
+    ensures opened { TakesForm R.refusals
         (formats_of items.old.formats) (texts names.now) items.old.levels
         (R.source items.old.source) (R.source items.new.source)
         items.new.levels result }
@@ -334,6 +351,10 @@ fn name_alone<'de, R: Read<'de>>(
         (formats_of items.old.formats) (texts names.now) items.old.levels
         (R.source items.old.source) (R.source items.new.source)
         items.new.levels result }
+    ensures opened { TakesFormOf shape.Alone R.refusals
+        (formats_of items.old.formats) (texts names.now) items.old.levels
+        (R.source items.old.source) (R.source items.new.source)
+        items.new.levels result }
     ensures no_form { IfErr result (λ e. TellsNoForm (code_of e)) }
     ensures below { IfOk result (λ v. v.0 < length names.now) }
     ensures inside { IfOk result (λ v. IsInside v.1 items.new.levels
@@ -352,6 +373,10 @@ fn array_variant<'de, R: Read<'de>>(
 ) -> Result<(usize, Form)>
     requires { reads_shape (formats_of items.old.formats) shape.Array ≡ true }
     ensures read { TakesShaped (HasShape shape.Array) R.refusals
+        (formats_of items.old.formats) (texts names.now) items.old.levels
+        (R.source items.old.source) (R.source items.new.source)
+        items.new.levels result }
+    ensures opened { TakesFormOf shape.Array R.refusals
         (formats_of items.old.formats) (texts names.now) items.old.levels
         (R.source items.old.source) (R.source items.new.source)
         items.new.levels result }
@@ -377,6 +402,10 @@ fn map_variant<'de, R: Read<'de>>(
 ) -> Result<(usize, Form)>
     requires { reads_shape (formats_of items.old.formats) shape.Map ≡ true }
     ensures read { TakesShaped (HasShape shape.Map) R.refusals
+        (formats_of items.old.formats) (texts names.now) items.old.levels
+        (R.source items.old.source) (R.source items.new.source)
+        items.new.levels result }
+    ensures opened { TakesFormOf shape.Map R.refusals
         (formats_of items.old.formats) (texts names.now) items.old.levels
         (R.source items.old.source) (R.source items.new.source)
         items.new.levels result }

@@ -16,6 +16,8 @@ pub use Rattle.cbor_scalars.specs.Strings
 pub use Rattle.cbor_scalars.specs.Tags
 pub use Rattle.cbor_scalars.specs.Identifiers
 pub use Rattle.cbor_collections.specs.Accesses
+pub use Rattle.cbor_collections.specs.Begins
+pub use Rattle.cbor_collections.specs.BeginsEnum
 pub use Rattle.cbor_collections.specs.Arrays
 pub use Rattle.cbor_collections.specs.MapAccesses
 pub use Rattle.cbor_collections.specs.Maps

@@ -8,6 +8,8 @@ ghost use Rattle.cbor_de.specs.declared.cursor.Remaining.TheVariants.{Counted};
 ghost use Rattle.cbor_io.specs.Error.{code_of};
 ghost use Rattle.cbor_de.specs.Gives.{Step, TellsNoForm};
 ghost use Rattle.cbor_io.specs.declared.error.Error.{Error};
+ghost use Rattle.cbor_collections.specs.Begins.{Begins, RefusesBeginning};
+ghost use Rattle.cbor_de.specs.declared.head.Head.TheVariants as kind;
 ghost use Rattle.cbor_collections.specs.Accesses.{turns, size_of};
 ghost use Rattle.cbor_collections.specs.MapAccesses.{IsMapHead, RefusesMap, TakesKey};
 ghost use Rattle.cbor_collections.specs.MapAccesses.{TakesMapEnd};
@@ -25,7 +27,8 @@ impl<R: Source> Deserializer<R> {
     /// Takes the tags and the head of a map, and goes one level in for its pairs.
     ///
     /// An item of another kind is refused with `invalid type: expected a map`, and a map for which
-    /// no level is left with `RecursionLimitExceeded`.
+    /// no level is left with `RecursionLimitExceeded`. What follows the head isn't looked at: it is
+    /// for the calls of the access to refuse.
     ///
     /// ```rust
     /// let mut de = Deserializer::from_slice(alloc, b"\xa1\x61a\x01");
@@ -46,6 +49,13 @@ impl<R: Source> Deserializer<R> {
             (item_at (raws (formats_of self.old.items.formats) l) self.old.items.levels bs)
             m.de.now.items.levels m.remaining rest)) }
         ensures refused { IfErr result (RefusesMap R.refusals (formats_of self.old.items.formats)
+            self.old.items.levels (R.source self.old.items.source)) }
+        // The head alone, whatever follows it.
+        ensures opened { IfOk result (λ m. Step (R.source self.old.items.source)
+            (R.source m.de.now.items.source)
+            (λ l bs rest. Begins kind.Map self.old.items.levels m.de.now.items.levels m.remaining
+            bs rest)) }
+        ensures unopened { IfErr result (RefusesBeginning kind.Map R.refusals
             self.old.items.levels (R.source self.old.items.source)) }
         ensures no_form { IfErr result (λ e. TellsNoForm (code_of e)) }
         ensures outer { IfOk result (λ m. m.outer ≡ self.old.items.levels) }

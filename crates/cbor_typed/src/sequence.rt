@@ -6,6 +6,8 @@ ghost use Rattle.std.specs.Borrow.{sem, RestsIfErr};
 ghost use Rattle.cbor_model.specs.Reader.{item_at};
 ghost use Rattle.cbor_io.specs.Error.{code_of, offset_of};
 ghost use Rattle.cbor_de.specs.Gives.{Step, TellsNoForm};
+ghost use Rattle.cbor_collections.specs.Begins.{Begins, RefusesBeginning};
+ghost use Rattle.cbor_de.specs.declared.head.Head.TheVariants as kind;
 ghost use Rattle.cbor_collections.specs.Accesses.{IsArrayHead, RefusesArray, TakesNext};
 ghost use Rattle.cbor_collections.specs.Accesses.{TakesPart, TakesEnd, turns, size_of};
 ghost use Rattle.cbor_scalars.specs.Takes.{context, formats_of, raws};
@@ -23,7 +25,8 @@ impl<R: Source> Deserializer<R> {
     /// Takes the tags and the head of an array, and goes one level in for its items.
     ///
     /// An item of another kind is refused with `invalid type: expected an array`, and an array for
-    /// which no level is left with `RecursionLimitExceeded`.
+    /// which no level is left with `RecursionLimitExceeded`. What follows the head isn't looked at:
+    /// it is for the calls of the access to refuse.
     ///
     /// ```rust
     /// let mut de = Deserializer::from_slice(alloc, b"\x9f\x01\x02\xff");
@@ -46,6 +49,13 @@ impl<R: Source> Deserializer<R> {
             (item_at (raws (formats_of self.old.items.formats) l) self.old.items.levels bs)
             s.de.now.items.levels s.remaining rest)) }
         ensures refused { IfErr result (RefusesArray R.refusals (formats_of self.old.items.formats)
+            self.old.items.levels (R.source self.old.items.source)) }
+        // The head alone, whatever follows it.
+        ensures opened { IfOk result (λ s. Step (R.source self.old.items.source)
+            (R.source s.de.now.items.source)
+            (λ l bs rest. Begins kind.Array self.old.items.levels s.de.now.items.levels s.remaining
+            bs rest)) }
+        ensures unopened { IfErr result (RefusesBeginning kind.Array R.refusals
             self.old.items.levels (R.source self.old.items.source)) }
         ensures no_form { IfErr result (λ e. TellsNoForm (code_of e)) }
         ensures outer { IfOk result (λ s. s.outer ≡ self.old.items.levels) }

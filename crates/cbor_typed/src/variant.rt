@@ -8,6 +8,8 @@ ghost use Rattle.cbor_io.specs.Error.{code_of};
 ghost use Rattle.cbor_de.specs.Gives.{Step, TellsNoForm};
 ghost use Rattle.cbor_collections.specs.Cases.{Stands};
 ghost use Rattle.cbor_collections.specs.Cases.{enum_cases, unit_cases, TellsTooShort};
+ghost use Rattle.cbor_collections.specs.BeginsEnum.{BeginsVariant, RefusesVariantHead};
+ghost use Rattle.cbor_collections.specs.BeginsEnum.{BeginsParts, RefusesPartsHead};
 ghost use Rattle.cbor_collections.specs.Enums.{IsNothing, IsPart};
 ghost use Rattle.cbor_scalars.specs.Identifiers.{texts};
 ghost use Rattle.cbor_scalars.specs.Takes.{context, formats_of, raws};
@@ -35,7 +37,8 @@ impl<'de, R: Read<'de>> Deserializer<R> {
     /// It is refused with `WrongEnumFormat`, before the first byte after the tags, where that form
     /// isn't read; with `ArrayTooShort` where an array has no identifier; with `unknown variant`
     /// where no name is of the identifier, and with `invalid type: expected a variant name` where
-    /// another item stands in its place.
+    /// another item stands in its place. What follows the identifier isn't looked at: it is for the
+    /// call that ends the access to refuse.
     ///
     /// ```rust
     /// let mut de = Deserializer::from_slice(alloc, b"\xa1\x66Number\x18\x2a");
@@ -54,6 +57,14 @@ impl<'de, R: Read<'de>> Deserializer<R> {
             (item_at (raws (formats_of self.old.items.formats) l) self.old.items.levels bs)
             v.de.now.items.levels v.index v.form rest)) }
         ensures refused { IfErr result (RefusesVariant R.refusals
+            (formats_of self.old.items.formats) (texts names.now) self.old.items.levels
+            (R.source self.old.items.source)) }
+        // The enum up to its identifier, whatever follows it.
+        ensures opened { IfOk result (λ v. Step (R.source self.old.items.source)
+            (R.source v.de.now.items.source)
+            (λ l bs rest. BeginsVariant (formats_of self.old.items.formats) (texts names.now) l
+            self.old.items.levels v.de.now.items.levels v.index v.form bs rest)) }
+        ensures unopened { IfErr result (RefusesVariantHead R.refusals
             (formats_of self.old.items.formats) (texts names.now) self.old.items.levels
             (R.source self.old.items.source)) }
         ensures cases { IfErr result (λ e. Stands (R.source self.old.items.source) e
@@ -286,6 +297,14 @@ impl<'a, R: Source> VariantAccess<'a, R> {
         ensures refused { IfErr result (RefusesParts R.refusals
             (formats_of self.entry.de.now.items.formats) self.entry.de.now.items.levels
             self.entry.form (R.source self.entry.de.now.items.source)) }
+        // Up to the parts, whatever follows.
+        ensures opened { IfOk result (λ s. Step (R.source self.entry.de.now.items.source)
+            (R.source s.de.now.items.source)
+            (λ l bs rest. BeginsParts self.entry.de.now.items.levels self.entry.form
+            s.de.now.items.levels s.remaining bs rest)) }
+        ensures unopened { IfErr result (RefusesPartsHead R.refusals
+            self.entry.de.now.items.levels self.entry.form
+            (R.source self.entry.de.now.items.source)) }
         ensures alone { IfErr result
             (TellsAlone (alone_text (codes "tuple")) self.entry.form) }
         ensures no_form { IfErr result (λ e. TellsNoForm (code_of e)) }

@@ -44,9 +44,12 @@ pub use Rattle.cbor_strict.specs.Strict
 pub use Rattle.cbor_strict.specs.StrictRefusals
 pub use Rattle.cbor_strict.specs.StrictAnswers
 pub use Rattle.cbor_collections.specs.Accesses
+pub use Rattle.cbor_collections.specs.Begins
+pub use Rattle.cbor_collections.specs.BeginsEnum
 pub use Rattle.cbor_collections.specs.Arrays
 pub use Rattle.cbor_collections.specs.Maps
 pub use Rattle.cbor_collections.specs.MapAccesses
+pub use Rattle.cbor_scalars.specs.Opens
 pub use Rattle.cbor_scalars.specs.Scalars
 pub use Rattle.cbor_scalars.specs.Tags
 pub use Rattle.cbor_scalars.specs.Strings

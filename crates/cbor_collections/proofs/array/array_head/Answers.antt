@@ -1,9 +1,11 @@
-use Rattle.std.proofs.Common.{ap, sym, subst}
+use Rattle.std.proofs.Common.{◌≡◌, Ok, ap, sym, subst}
 use Rattle.cbor_read.specs.Source.{Input}
 use Rattle.cbor_de.specs.Gives.{Step}
 use Rattle.cbor_scalars.specs.Takes.{formats_of}
-use Rattle.cbor_scalars.specs.Opens.{Opens}
+use Rattle.cbor_de.specs.declared.head.Head.TheVariants as head
+use Rattle.cbor_scalars.specs.Opens.{Opens, opened_at}
 use Rattle.cbor_collections.proofs.ArrayHeads.{whole, head_taken, other_head, too_deep_head}
+use Rattle.cbor_collections.proofs.Begins.{begins, begins_stopped, begins_other, begins_too_deep}
 use Rattle.cbor_collections.proofs.array.array_head.Goals as goal
 
 pub returns-in_default-clause-read : goal.returns-in_default-clause-read
@@ -29,3 +31,32 @@ returns-in-Err-enter-clause-read g c =
     let old = c.args.items.now in
     let u = c.open.new.items in
     too_deep_head g.R.Source.refusals (formats_of old.formats) old.levels (g.R.Source.source old.source) (g.R.Source.source u.source) u.levels c.in-Ok.head c.in-Array.remaining c.error-in-Err-enter.result c.in-Array.is c.in-Err-enter.ensures.none.0 c.in-Ok.ensures.read
+
+-- ---- whatever follows the head
+
+pub returns-in-Err-clause-opened : goal.returns-in-Err-clause-opened
+returns-in-Err-clause-opened g c =
+    let old = c.args.items.now in
+    let u = c.open.new.items in
+    begins_stopped head.Array g.R.Source.refusals old.levels (g.R.Source.source old.source) (g.R.Source.source u.source) u.refusal c.in-Err.refused c.error.result c.error.ensures.tells c.in-Err.ensures.opened
+
+pub returns-in_default-clause-opened : goal.returns-in_default-clause-opened
+returns-in_default-clause-opened g c =
+    let old = c.args.items.now in
+    let u = c.open.new.items in
+    begins_other head.Array g.R.Source.refusals old.levels (g.R.Source.source old.source) (g.R.Source.source u.source) u.levels c.in-Ok.head c.mismatch.result c.in_default.not-Array c.in-Ok.ensures.opened
+
+pub returns-in-Ok-enter-clause-opened : goal.returns-in-Ok-enter-clause-opened
+returns-in-Ok-enter-clause-opened g c =
+    let old = c.args.items.now in
+    let u = c.open.new.items in
+    let s = g.R.Source.source old.source in
+    let t = g.R.Source.source c.enter.new.self.source in
+    let read = subst (λ (t : Input). Step s t (λ l bs rest. opened_at old.levels bs ≡ Ok ((u.levels, c.in-Ok.head), rest))) (sym (ap g.R.Source.source c.enter.ensures.source)) c.in-Ok.ensures.opened in
+    begins head.Array g.R.Source.refusals old.levels s t u.levels c.enter.new.self.levels c.in-Ok.head c.in-Array.remaining c.in-Array.is c.in-Ok-enter.ensures.inside read
+
+pub returns-in-Err-enter-clause-opened : goal.returns-in-Err-enter-clause-opened
+returns-in-Err-enter-clause-opened g c =
+    let old = c.args.items.now in
+    let u = c.open.new.items in
+    begins_too_deep head.Array g.R.Source.refusals old.levels (g.R.Source.source old.source) (g.R.Source.source u.source) u.levels c.in-Ok.head c.error-in-Err-enter.result c.in-Err-enter.ensures.none.0 c.in-Ok.ensures.opened
