@@ -60,8 +60,23 @@ module _ (at : ℕ) (xs ys : List ℕ) (m n : ℕ) (w : WordsAt at xs ys m n) wh
   pub first_unequal : m ≢ n → MatchBool (nat_lt m n) (lex xs ys ≡ Less) (lex xs ys ≢ Less)
   first_unequal un = by_order m n (lex xs ys) (settled at xs ys (nat_cmp m n) w.same w.front numbers (untied m n un))
 
-  pub equal_words : m ≡ n → take (at + 8) xs ≡ take (at + 8) ys
+  equal_words : m ≡ n → take (at + 8) xs ≡ take (at + 8) ys
   equal_words e = equal_on at xs ys w.same w.front (sym numbers ∙ tied m n e)
+
+-- two words that are the same, `wide` bytes each, lengthen the front
+pub longer_front : (at wide to : ℕ) (xs ys : List ℕ) (m n : ℕ) → wide ≡ 8 → to ≡ at + 8 → length xs ≡ length ys → take at xs ≡ take at ys
+    → m ≡ big_endian (take wide (drop at xs)) → n ≡ big_endian (take wide (drop at ys)) → AreBytes (take wide (drop at xs)) → AreBytes (take wide (drop at ys))
+    → m ≡ n → take to xs ≡ take to ys
+longer_front at wide to xs ys m n is_8 is_to same front m_is n_is X Y e =
+    let w : WordsAt at xs ys m n = record {
+      same = same;
+      front = front;
+      left = rw is_8 at m_is;
+      right = rw is_8 at n_is;
+      left_bytes = rw is_8 at X;
+      right_bytes = rw is_8 at Y;
+    } in
+    rw is_to (equal_words at xs ys m n w e)
 
 -- the last word, where all before `at`, which isn't before its beginning, is the same
 pub last_above : (last at : ℕ) (xs ys us vs : List ℕ) (m n : ℕ) → length xs ≡ length ys → us ≡ drop last xs → vs ≡ drop last ys

@@ -66,10 +66,10 @@ fn content(first: u8, bytes: &[u8]) -> Walk
     let low = first % 32;
     if major <= 1 {
         integer(low, bytes)
-    } else if major == 7 {
-        simple(first, bytes)
     } else if major <= 3 {
         string(low, bytes)
+    } else if first >= 0xe0 {
+        simple(first, bytes)
     } else {
         nested(major, low, bytes)
     }
@@ -261,6 +261,29 @@ fn integer(low: u8, bytes: &[u8]) -> Walk
 /// Goes past what follows a first byte of a string.
 #[inline(always)]
 fn string(low: u8, bytes: &[u8]) -> Walk
+    ensures walks { Walks bytes.now (λ fuel. string_walk low) result }
+    ensures within { IsWithin (length bytes.now) result }
+{
+    // Most are shorter than 256 bytes, and take two tests where those of any length take a table.
+    if low <= 24 {
+        any_string(low, bytes)
+    } else {
+        long_string(low, bytes)
+    }
+}
+
+/// Goes past what follows a first byte of a string whose length takes more than one byte.
+#[inline(never)]
+fn long_string(low: u8, bytes: &[u8]) -> Walk
+    ensures walks { Walks bytes.now (λ fuel. string_walk low) result }
+    ensures within { IsWithin (length bytes.now) result }
+{
+    any_string(low, bytes)
+}
+
+/// Goes past what follows a first byte of a string of any length.
+#[inline(always)]
+fn any_string(low: u8, bytes: &[u8]) -> Walk
     ensures walks { Walks bytes.now (λ fuel. string_walk low) result }
     ensures within { IsWithin (length bytes.now) result }
 {

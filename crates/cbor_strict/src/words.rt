@@ -1,6 +1,7 @@
 //! Whether a key is above the one before it, eight bytes at a time.
 
-ghost use Rattle.std.specs.Prelude.{◌≡◌, ◌≢◌, ℕ, ◌<◌, ◌≤◌, length, slice_index, MatchBool};
+ghost use Rattle.std.specs.Prelude.{◌≡◌, ◌≢◌, ℕ, ◌+◌, ◌<◌, ◌≤◌, length, slice_index, take};
+ghost use Rattle.std.specs.Prelude.{IsTrue, MatchBool};
 ghost use Rattle.std.specs.declared.cmp.Ordering.TheVariants.{Less};
 ghost use Rattle.cbor_model.specs.Order.{lex};
 ghost use Rattle.cbor_io.specs.Compare.{big_endian};
@@ -16,7 +17,7 @@ pub(crate) fn is_above(before: &[u8], key: &[u8]) -> bool
     ensures { MatchBool result (lex before.now key.now ≡ Less) (lex before.now key.now ≢ Less) }
 {
     let last = key.len() - 8;
-    let mut at = 0;
+    let mut at = same_front(before, key);
     'words: while at < last {
         let one = word(&before[at..at + 8]);
         let other = word(&key[at..at + 8]);
@@ -27,6 +28,35 @@ pub(crate) fn is_above(before: &[u8], key: &[u8]) -> bool
     }
     // These words may overlap those before, which are equal.
     word(&before[last..]) < word(&key[last..])
+}
+
+/// How many bytes from the front are found to be the same in both: 48, 32 or none. Keys beside one
+/// another often share a long front, and so it is passed over without a loop.
+#[inline(always)]
+fn same_front(before: &[u8], key: &[u8]) -> usize
+    requires { length before.now ≡ length key.now }
+    ensures within { result ≤ length key.now }
+    ensures front { take result before.now ≡ take result key.now }
+{
+    if key.len() < 32 || !same_pair(before, key, 0) || !same_pair(before, key, 16) {
+        return 0;
+    }
+    if key.len() < 48 || !same_pair(before, key, 32) {
+        return 32;
+    }
+    48
+}
+
+/// Whether the two words at an offset are the same in both, where all bytes before them are.
+#[inline(always)]
+fn same_pair(before: &[u8], key: &[u8], at: usize) -> bool
+    requires same { length before.now ≡ length key.now }
+    requires within { at + 16 ≤ length key.now }
+    requires front { take at before.now ≡ take at key.now }
+    ensures { IsTrue result → take (at + 16) before.now ≡ take (at + 16) key.now }
+{
+    word(&before[at..at + 8]) == word(&key[at..at + 8])
+        && word(&before[at + 8..at + 16]) == word(&key[at + 8..at + 16])
 }
 
 #[inline(always)]

@@ -15,10 +15,10 @@ content-returns-then-major-le3-clause-walks t c = λ fuel enough.
     let below : c.args.first / 32 < 8 = omega (arith, c.ranges.first.fits) in
     on_string (walk fuel) (c.args.first / 32) (c.args.first % 32) c.args.bytes.now below (omega (arith, c.if-major-le1.false)) (omega (arith, c.if-major-le3.true)) ∙ c.string.ensures.walks fuel enough
 
-pub content-returns-then-major-eq7-clause-walks : goal.content-returns-then-major-eq7-clause-walks
-content-returns-then-major-eq7-clause-walks t c = λ fuel enough.
+pub content-returns-then-first-ge224-clause-walks : goal.content-returns-then-first-ge224-clause-walks
+content-returns-then-first-ge224-clause-walks t c = λ fuel enough.
     let below : c.args.first / 32 < 8 = omega (arith, c.ranges.first.fits) in
-    on_simple (walk fuel) (c.args.first / 32) (c.args.first % 32) c.args.bytes.now below c.if-major-eq7.true ∙ c.simple.ensures.walks fuel enough
+    on_simple (walk fuel) (c.args.first / 32) (c.args.first % 32) c.args.bytes.now below (omega (arith, c.if-first-ge224.true, below)) ∙ c.simple.ensures.walks fuel enough
 
 pub item-returns-in-Some-clause-walks : goal.item-returns-in-Some-clause-walks
 item-returns-in-Some-clause-walks t c = λ fuel enough.

@@ -1,6 +1,6 @@
 use Rattle.std.proofs.Common.{◌≡◌, ◌+◌, ◌-◌, length, arith}
 use Rattle.std.proofs.lemmas.List.{take_rest}
-use Rattle.cbor_strict.proofs.KeyWords.{WordsAt, first_unequal, equal_words, last_above}
+use Rattle.cbor_strict.proofs.KeyWords.{WordsAt, first_unequal, longer_front, last_above}
 use Rattle.cbor_strict.proofs.words.is_above.Goals as goal
 
 pub returns-then-one-other : goal.returns-then-one-other
@@ -20,16 +20,11 @@ returns-then-one-other c =
 pub words-preserved : goal.words-preserved
 words-preserved c =
     let at = c.words.at in
-    let wide : at + 8 - at ≡ 8 = omega arith in
-    let w : WordsAt at c.args.before.now c.args.key.now c.word-one.result c.word-other.result = record {
-      same = c.requires.same;
-      front = c.words.invariant.1;
-      left = rw wide at c.word-one.ensures.value;
-      right = rw wide at c.word-other.ensures.value;
-      left_bytes = rw wide at c.word-one.ensures.bytes;
-      right_bytes = rw wide at c.word-other.ensures.bytes;
-    } in
-    (omega (arith, c.words-test.true), equal_words at c.args.before.now c.args.key.now c.word-one.result c.word-other.result w c.if-one-other.false)
+    let one = c.word-one.ensures in
+    let other = c.word-other.ensures in (
+      omega (arith, c.words-test.true),
+      longer_front at (at + 8 - at) (at + 8) c.args.before.now c.args.key.now c.word-one.result c.word-other.result (omega arith) (omega arith) c.requires.same c.words.invariant.1 one.value other.value one.bytes other.bytes c.if-one-other.false,
+    )
 
 pub returns : goal.returns
 returns c =

@@ -2,7 +2,7 @@ use Rattle.std.proofs.Common.{◌∙◌, sym}
 use Rattle.cbor_strict.specs.Walk.{past}
 use Rattle.cbor_strict.specs.Walks.{last}
 use Rattle.cbor_strict.proofs.Walking.{on_bytes, rest_last}
-use Rattle.cbor_strict.proofs.walk.string.Goals as goal
+use Rattle.cbor_strict.proofs.walk.any_string.Goals as goal
 
 pub returns-else-is_long-clause-walks : goal.returns-else-is_long-clause-walks
 returns-else-is_long-clause-walks c = λ fuel enough.
