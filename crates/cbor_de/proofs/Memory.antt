@@ -1,7 +1,7 @@
 -- Where memory ran out.
-use Rattle.std.proofs.Common.{◌≡◌, inl, inr, ℕ, Bool, true, false, cond, List, Option, Some, None, IsSomeAnd, Result, Ok, Err, IfErr, refl, sym, ◌∙◌, ap, subst}
+use Rattle.std.proofs.Common.{◌≡◌, inl, inr, ℕ, Bool, true, false, cond, List, Option, Some, None, IsSomeAnd, Result, Ok, Err, IfErr, sym, ◌∙◌, ap, subst}
 use Rattle.cbor_model.specs.Formats.{Formats, all_formats}
-use Rattle.cbor_model.specs.Head.{HeadWidth, no_bytes}
+use Rattle.cbor_model.specs.Head.{HeadWidth}
 use Rattle.cbor_model.specs.Plain.{Val}
 use Rattle.cbor_model.specs.Plain as plain
 use Rattle.cbor_model.specs.Reader.{Fault, Reads, ◌>>=◌, byte_at, bytes_at, chunks_at, string_at, checked_text, text_at, string_chunks_at, text_chunks_at, array_at, map_at, tag_at, after_first, item_at, inside}
@@ -10,7 +10,7 @@ use Rattle.cbor_io.specs.ReadError.{why}
 use Rattle.cbor_io.specs.declared.read_error.ReadError.{ReadError}
 use Rattle.cbor_io.specs.declared.read_error.ReadErrorCode.TheVariants.{OutOfMemory}
 use Rattle.cbor_read.specs.Source.{Input, Asks, MemoryWhere}
-use Rattle.cbor_de.specs.Gives.{Limits, limits, values, Tells, Step, TellsNoMemory}
+use Rattle.cbor_de.specs.Gives.{Limits, limits, values, Step, TellsNoMemory}
 use Rattle.cbor_de.specs.Heads.{after_head, head_at}
 use Rattle.cbor_de.specs.Memory.{MemoryOnly, AsksAtAll, IsStored, IsStoredHead, ReadsStored}
 use Rattle.cbor_de.specs.declared.head.Head.{Head}

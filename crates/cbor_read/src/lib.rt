@@ -107,6 +107,8 @@ pub trait Offset: Source {
 ///   besides.
 /// - `read` lends for the input's whole life at each call or at none, and so does `take_buffer`:
 ///   `lends` says which.
+/// - `read`, `skip` and `skip_text` ask for no memory where `read` lends for the input's life, nor
+///   does `read_to_buffer` where `take_buffer` does.
 ///
 /// The bytes of a vector that the source owns, so that it lends none of them for longer. Its
 /// `proofs/OwnSource.antt` passes on `none_taken` of `proofs/facts/Sources.antt`:

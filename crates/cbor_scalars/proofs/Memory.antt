@@ -9,23 +9,23 @@ use Rattle.cbor_model.specs.Reader.{Fault, Reads, ◌>>=◌, bytes_at, chunks_at
 use Rattle.cbor_model.proofs.facts.Reader.{ok_is}
 use Rattle.cbor_read.specs.Source.{Input, Lends, Asks, asks_part, asks_for}
 use Rattle.cbor_read.specs.declared.EitherLifetime.{EitherLifetime}
-use Rattle.cbor_io.specs.ReadError.{why, error_code, IsMemory}
+use Rattle.cbor_io.specs.ReadError.{why, error_code}
 use Rattle.cbor_io.specs.Error.{code_of}
 use Rattle.cbor_io.specs.declared.error.Error.{Error}
 use Rattle.cbor_io.specs.declared.error.ErrorCode.TheVariants as code
 use Rattle.cbor_io.specs.declared.read_error.ReadError.{ReadError}
 use Rattle.cbor_io.specs.declared.read_error.ReadErrorCode.{ReadErrorCode}
 use Rattle.cbor_io.specs.declared.read_error.ReadErrorCode.TheVariants as reading
-use Rattle.cbor_de.specs.Gives.{IsErrorOf, Limits, limits, Tells, Step, TellsNoMemory}
+use Rattle.cbor_de.specs.Gives.{IsErrorOf, Limits, limits, TellsNoMemory}
 use Rattle.cbor_de.specs.Heads.{behind_head}
 use Rattle.cbor_de.specs.Memory.{MemoryOnly}
 use Rattle.cbor_de.specs.declared.head.Head.{Head}
 use Rattle.cbor_de.specs.declared.head.Head.TheVariants as head
 use Rattle.cbor_de.specs.declared.refusal.Refused.{Refused}
 use Rattle.cbor_de.specs.declared.refusal.Refused.TheVariants as refused
-use Rattle.cbor_scalars.specs.Opens.{tagged, Opens, OpensItem}
-use Rattle.cbor_scalars.specs.Takes.{raws, lending, IsRead, IsNotRead, MemoryFor, OfItem}
-use Rattle.cbor_scalars.specs.Strings.{AsksForString, BytesOf, IsBadAt, IsKept, IsMadeOf, Lacks, PartText, UnreadOnly, Utf8Of, asks_head, asks_string}
+use Rattle.cbor_scalars.specs.Opens.{OpensItem}
+use Rattle.cbor_scalars.specs.Takes.{raws, lending, IsNotRead, MemoryFor, OfItem}
+use Rattle.cbor_scalars.specs.Strings.{AsksForString, BytesOf, IsKept, IsMadeOf, Lacks, PartText, UnreadOnly, Utf8Of, asks_head, asks_string}
 use Rattle.cbor_scalars.specs.declared.lent.EitherStr.{EitherStr}
 use Rattle.cbor_scalars.specs.declared.lent.Unread.{Unread}
 use Rattle.cbor_scalars.specs.declared.lent.Unread.TheVariants.{Stopped, Other}

@@ -1,5 +1,5 @@
 -- Where memory ran out for an item that isn't read.
-use Rattle.std.proofs.Common.{◌≡◌, inl, inr, ℕ, Bool, List}
+use Rattle.std.proofs.Common.{inl, inr, ℕ, Bool}
 use Rattle.cbor_model.specs.Formats.{Formats}
 use Rattle.cbor_model.specs.Raw.{Raw}
 use Rattle.cbor_model.specs.Reader.{item_at}

@@ -94,8 +94,10 @@ fn are_bytes(slice: &[u8])
 /// - `ArrayTooShort`, `ArrayTooLong`: an array in an enum's place has no name, or no item where
 ///   the variant has a part; or it has a name alone and the variant no part; after its last item;
 /// - `Message`, without an offset: an item that the type doesn't read;
-/// - `OutOfMemory`: an allocation failed. No memory is taken on the word of a head, and none for a
-///   bool, a number, a float, `()` or an `Option` of these: where such an item is there, it is read.
+/// - `OutOfMemory`: an allocation failed. No memory is taken on the word of a head. None is taken
+///   for a bool, a number, a float, `()` and a borrowed string; for a `char` and a `ByteArray` that
+///   aren't in chunks; for a `Value` that is a bool, a number, a float or null; and for an `Option`
+///   of these: where such an item is there, it is read.
 ///
 /// Where several faults stand in one input, a type that reads every item, as `Value` does, returns
 /// the first; of others no clause says which is returned.
@@ -143,6 +145,9 @@ pub fn from_slice<'a, T: Deserialize<'a, SliceRead<'a>>>(
 /// whole in the bytes, are longer together than the scratch: at the offset after the head of the
 /// chunk that doesn't fit. What the scratch holds afterwards isn't said.
 ///
+/// Beside what `from_slice` takes no memory for, none is taken for a `char` and a `ByteArray` in
+/// chunks that fit the scratch, and for an `IgnoredAny`.
+///
 /// ```rust
 /// let flag: bool = from_slice_with_scratch(alloc, b"\xf5", &mut [])?;
 /// assert!(rt; flag);
@@ -180,6 +185,9 @@ pub fn from_slice_with_scratch<'a, T: Deserialize<'a, SliceReadFixed<'a, 'a>>>(
 
 /// What the one item that the bytes spell is read as, as by [`from_slice`]. The slice is rewritten:
 /// strings in chunks are joined in place. What it holds afterwards isn't said.
+///
+/// Beside what `from_slice` takes no memory for, none is taken for a borrowed string, a `char` and a
+/// `ByteArray` in chunks, and for an `IgnoredAny`.
 ///
 /// ```rust
 /// let number: i64 = from_mut_slice(alloc, &mut [0x38, 0x7f])?;
