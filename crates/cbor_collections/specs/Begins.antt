@@ -14,8 +14,9 @@ use Rattle.cbor_de.specs.declared.head.Head.TheVariants.{Array, Map}
 use Rattle.cbor_scalars.specs.Opens.{opened_at}
 use Rattle.cbor_scalars.specs.Takes.{Refuses}
 
--- The heads of some tags, each a level further in, and then a head of this kind stand before the rest:
--- an array's or a map's, of which so much remains. Of so many levels so many are left for its parts.
+-- The heads of some tags, each a level further in, and then a head of this kind stand before the
+-- rest: an array's or a map's, of which so much remains. Of so many levels so many are left for its
+-- parts.
 abbrev pub Begins : (Remaining → Head) → ℕ → ℕ → Remaining → List ℕ → List ℕ → Type 0
 Begins kind levels left remaining bs rest =
     opened_at levels bs ≡ Ok ((left + 1, kind remaining), rest)
@@ -25,7 +26,8 @@ abbrev pub NoneBegins : (Remaining → Head) → ℕ → List ℕ → Type 0
 NoneBegins kind levels bs = (left : ℕ) (remaining : Remaining) (rest : List ℕ)
     → Begins kind levels left remaining bs rest → ⊥
 
-abbrev pub RefusesBeginning : (Remaining → Head) → (ReadErrorCode → Bool) → ℕ → Input → Error → Type 0
+abbrev pub RefusesBeginning : (Remaining → Head) → (ReadErrorCode → Bool) → ℕ → Input → Error
+    → Type 0
 RefusesBeginning kind refusals levels s e =
     Refuses refusals s (code_of e) (offset_of e) (λ l bs. NoneBegins kind levels bs)
 

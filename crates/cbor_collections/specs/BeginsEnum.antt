@@ -28,18 +28,21 @@ use Rattle.cbor_collections.specs.declared.variant.Shape.{Shape}
 use Rattle.cbor_collections.specs.declared.variant.Shape.TheVariants as shape
 
 -- An array, whose first item tells this place among the names.
-pub record BeginsInArray (f : Formats) (names : List (List ℕ)) (l : Limits) (levels left index : ℕ) (remaining : Remaining) (bs rest : List ℕ) : Type 0 where
+pub record BeginsInArray (f : Formats) (names : List (List ℕ)) (l : Limits) (levels left index : ℕ)
+    (remaining : Remaining) (bs rest : List ℕ) : Type 0 where
   pub read : f.legacy_enums ≡ true
   pub shape : HasShape shape.Array bs
   pub all : Remaining
   pub items : List ℕ
   pub head : Begins Array levels left all bs items
   pub first : List ℕ
-  pub next : next_at end_in_array (remaining_of all) items ≡ Ok (Some (remaining_of remaining), first)
+  pub next : next_at end_in_array (remaining_of all) items
+      ≡ Ok (Some (remaining_of remaining), first)
   pub name : IsRead (IsName names) (item_at (raws f l) left first) index rest
 
 -- A map of one pair, whose key tells it.
-pub record BeginsInMap (f : Formats) (names : List (List ℕ)) (l : Limits) (levels left index : ℕ) (bs rest : List ℕ) : Type 0 where
+pub record BeginsInMap (f : Formats) (names : List (List ℕ)) (l : Limits) (levels left index : ℕ)
+    (bs rest : List ℕ) : Type 0 where
   pub read : f.standard_enums ≡ true
   pub shape : HasShape shape.Map bs
   pub level : levels ≡ left + 1
@@ -48,14 +51,16 @@ pub record BeginsInMap (f : Formats) (names : List (List ℕ)) (l : Limits) (lev
   pub name : IsRead (IsName names) (item_at (raws f l) left key) index rest
 
 -- An item that tells it alone.
-pub record BeginsAlone (f : Formats) (names : List (List ℕ)) (l : Limits) (levels left index : ℕ) (bs rest : List ℕ) : Type 0 where
+pub record BeginsAlone (f : Formats) (names : List (List ℕ)) (l : Limits) (levels left index : ℕ)
+    (bs rest : List ℕ) : Type 0 where
   pub read : reads_names f ≡ true
   pub shape : HasShape shape.Alone bs
   pub level : left ≡ levels
   pub name : IsRead (IsName names) (item_at (raws f l) levels bs) index rest
 
 -- An enum that has no tag begins in this form, which is that of the first byte.
-abbrev pub BeginsForm : Formats → List (List ℕ) → Limits → ℕ → ℕ → ℕ → Form → List ℕ → List ℕ → Type 0
+abbrev pub BeginsForm : Formats → List (List ℕ) → Limits → ℕ → ℕ → ℕ → Form → List ℕ → List ℕ
+    → Type 0
 BeginsForm f names l levels left index (form.Array remaining) bs rest =
     BeginsInArray f names l levels left index remaining bs rest
 BeginsForm f names l levels left index form.Map bs rest =
@@ -65,7 +70,8 @@ BeginsForm f names l levels left index form.Alone bs rest =
 
 -- After all tags, each a level further in, an enum begins in this form, with the identifier of the
 -- variant in this place; the rest follows it. Of so many levels so many are left.
-pub record BeginsVariant (f : Formats) (names : List (List ℕ)) (l : Limits) (levels left index : ℕ) (form : Form) (bs rest : List ℕ) : Type 0 where
+pub record BeginsVariant (f : Formats) (names : List (List ℕ)) (l : Limits) (levels left index : ℕ)
+    (form : Form) (bs rest : List ℕ) : Type 0 where
   pub inner : ℕ
   pub start : List ℕ
   pub tags : passed_at levels bs ≡ Ok (inner, start)
@@ -91,7 +97,8 @@ TakesVariantHead refusals f names levels s t left (Err e) =
 
 -- ---- the parts of a variant
 
--- After the identifier the parts begin: those that remain of the enum's array, or an array's in its map.
+-- After the identifier the parts begin: those that remain of the enum's array, or an array's in its
+-- map.
 abbrev pub BeginsParts : ℕ → Form → ℕ → Remaining → List ℕ → List ℕ → Type 0
 BeginsParts levels (form.Array all) left remaining bs rest =
     (remaining ≡ all) × (left ≡ levels) × (rest ≡ bs)
@@ -129,8 +136,8 @@ TakesForm refusals f names levels s t left (Err e) =
     Refuses refusals s (code_of e) (offset_of e) (λ l bs. NoForm f names l levels bs)
 
 -- where the first byte is of this shape
-abbrev pub TakesFormOf : Shape → (ReadErrorCode → Bool) → Formats → List (List ℕ) → ℕ → Input → Input
-    → ℕ → Result (ℕ × Form) Error → Type 0
+abbrev pub TakesFormOf : Shape → (ReadErrorCode → Bool) → Formats → List (List ℕ) → ℕ → Input
+    → Input → ℕ → Result (ℕ × Form) Error → Type 0
 TakesFormOf x refusals f names levels s t left (Ok v) =
     Step s t (λ l bs rest. HasShape x bs → BeginsForm f names l levels left v.0 v.1 bs rest)
 TakesFormOf x refusals f names levels s t left (Err e) =
@@ -141,7 +148,8 @@ TakesFormOf x refusals f names levels s t left (Err e) =
 
 -- 82 01: the second of two variants, of whose array one item remains, though it isn't there
 cut_off : (l : Limits)
-    → BeginsVariant all_formats ((0x61 ∷ []) ∷ (0x62 ∷ []) ∷ []) l 127 126 1 (form.Array (Counted 1)) (0x82 ∷ 0x01 ∷ []) []
+    → BeginsVariant all_formats ((0x61 ∷ []) ∷ (0x62 ∷ []) ∷ []) l 127 126 1
+    (form.Array (Counted 1)) (0x82 ∷ 0x01 ∷ []) []
 unfolding passed_at opened_at byte_at head_at head_of number_behind next_at item_at item_by after_first content_at
 cut_off l = record {
   inner = 127;

@@ -46,13 +46,13 @@ tag_by : (levels n : ℕ) (bs : List ℕ) → opened_by levels (inner levels) (h
 tag_by zero n bs = refl
 tag_by (suc left) n bs = refl
 
-opened_here : (levels : ℕ) (bs rest : List ℕ) (w : HeadWidth) (h : Head) → (head_kind h ≡ kind.tag → ⊥) → opening_at bs ≡ Ok ((w, h), rest) → opened_at levels bs ≡ Ok ((levels, h), rest)
+pub opened_here : (levels : ℕ) (bs rest : List ℕ) (w : HeadWidth) (h : Head) → (head_kind h ≡ kind.tag → ⊥) → opening_at bs ≡ Ok ((w, h), rest) → opened_at levels bs ≡ Ok ((levels, h), rest)
 opened_here levels bs rest w h other is = opened_is levels bs ∙ rw is (other_by levels h rest other)
 
-opened_stops : (levels : ℕ) (bs : List ℕ) (e : Fault) → opening_at bs ≡ Err e → opened_at levels bs ≡ Err e
+pub opened_stops : (levels : ℕ) (bs : List ℕ) (e : Fault) → opening_at bs ≡ Err e → opened_at levels bs ≡ Err e
 opened_stops levels bs e is = opened_is levels bs ∙ rw is refl
 
-opened_in_tag : (levels n : ℕ) (bs mid : List ℕ) (w : HeadWidth) → opening_at bs ≡ Ok ((w, head.Tag n), mid) → opened_at levels bs ≡ opened_inside levels mid
+pub opened_in_tag : (levels n : ℕ) (bs mid : List ℕ) (w : HeadWidth) → opening_at bs ≡ Ok ((w, head.Tag n), mid) → opened_at levels bs ≡ opened_inside levels mid
 opened_in_tag levels n bs mid w is = opened_is levels bs ∙ rw is (tag_by levels n mid)
 
 pub no_level_inside : (levels : ℕ) (bs : List ℕ) → levels ≡ 0 → opened_inside levels bs ≡ Err (record { why = too_deep; left = length bs })

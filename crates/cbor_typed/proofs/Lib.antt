@@ -19,3 +19,4 @@ pub mod StructLoops
 pub mod Enums
 pub mod StreamSteps
 pub mod Taken
+pub mod HeadsTaken

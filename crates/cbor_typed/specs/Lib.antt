@@ -7,6 +7,7 @@ pub mod Whole
 pub mod Alike
 pub mod FirstOfItem
 pub mod ItemTaken
+pub mod HeadsTaken
 pub mod Streams
 pub use Rattle.cbor_io.specs.Error
 pub use Rattle.cbor_scalars.specs.Takes

@@ -2,6 +2,8 @@
 ghost use Rattle.cbor_typed.specs.Alike.{SourcesAgree, OwnedAgree};
 ghost use Rattle.cbor_typed.specs.FirstOfItem.{ItemRefusedFirst};
 ghost use Rattle.cbor_typed.specs.ItemTaken.{ItemTaken};
+ghost use Rattle.cbor_typed.specs.HeadsTaken.{HeadsTaken};
+ghost use Rattle.cbor_de.specs.declared.head.Head.TheVariants.{Array, Map};
 
 use crate::deserialize::{DeserializeOwned, Readable};
 
@@ -43,4 +45,15 @@ pub fn item_refused_first<T: Readable>()
 /// A caller gives it the clause `read` of `deserialize`.
 pub fn item_taken<T: Readable>()
     ensures { ItemTaken T.reads }
+{}
+
+/// What `array`, `map` and `structure` take, by the definitions alone. Ok: the bytes to come were
+/// the heads of some tags, the head of an array (major type 4) or of a map (major type 5), and then
+/// those that are still to come, whatever they are; each head took a level. Err: no such heads are
+/// there for which the levels suffice; or memory ran out, or the source reported a fault.
+///
+/// A caller gives it the clauses `opened` and `unopened` of the call.
+pub fn heads_taken()
+    ensures arrays { HeadsTaken Array 4 }
+    ensures maps { HeadsTaken Map 5 }
 {}

@@ -35,7 +35,7 @@ pub use de::Deserializer;
 pub use deserialize::{Deserialize, DeserializeOwned, Readable};
 pub use field_type::FieldType;
 pub use from::{from_mut_slice, from_reader, from_slice, from_slice_with_scratch};
-pub use laws::{item_refused_first, item_taken, owned_agree, sources_agree};
+pub use laws::{heads_taken, item_refused_first, item_taken, owned_agree, sources_agree};
 pub use map::MapAccess;
 pub use sequence::{SeqAccess, invalid_length};
 pub use stream::StreamDeserializer;

@@ -35,6 +35,7 @@ pub use Rattle.cbor_typed.specs.Whole
 pub use Rattle.cbor_typed.specs.Alike
 pub use Rattle.cbor_typed.specs.FirstOfItem
 pub use Rattle.cbor_typed.specs.ItemTaken
+pub use Rattle.cbor_typed.specs.HeadsTaken
 pub use Rattle.cbor_typed.specs.Streams
 pub use Rattle.cbor_stream.specs.Items
 pub use Rattle.cbor_stream.specs.ItemLaws

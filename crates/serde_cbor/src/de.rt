@@ -10,6 +10,6 @@ pub use cbor_typed::{
     Formats, IgnoredAny, IoRead, MapAccess, MutSliceRead, Offset, Read, ReadError, ReadErrorCode,
     Readable, Remaining, SeqAccess, SliceRead, SliceReadFixed, Source, StreamDeserializer,
     StructAccess, Unread, VariantAccess, duplicate_field, from_mut_slice, from_reader, from_slice,
-    from_slice_with_scratch, item_refused_first, item_taken, missing_field, owned_agree,
-    sources_agree,
+    from_slice_with_scratch, heads_taken, item_refused_first, item_taken, missing_field,
+    owned_agree, sources_agree,
 };
