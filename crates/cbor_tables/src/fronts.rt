@@ -3,10 +3,9 @@
 use crate::desk::Desk;
 use crate::pieces::Pieces;
 use crate::row::Row;
-use serde_cbor::error::ErrorCode;
-use serde_cbor::{
-    Deserializer, Result, Value, from_mut_slice, from_reader, from_slice, from_slice_with_scratch,
-};
+use cbor_io::error::{ErrorCode, Result};
+use cbor_typed::{Deserializer, from_mut_slice, from_reader, from_slice, from_slice_with_scratch};
+use cbor_value::Value;
 use std::alloc::Global;
 use std::io;
 

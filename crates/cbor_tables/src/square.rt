@@ -1,8 +1,11 @@
 //! A value, its bytes and its `Value`: each is made of the others.
 
-use serde_cbor::ser::Serialize;
-use serde_cbor::value::to_value;
-use serde_cbor::{Result, Value, from_slice, from_slice_canonical, to_vec, to_vec_canonical};
+use cbor_convert::{to_value, to_vec_canonical};
+use cbor_io::error::Result;
+use cbor_ser::{Serialize, to_vec};
+use cbor_strict::from_slice_canonical;
+use cbor_typed::from_slice;
+use cbor_value::Value;
 use std::alloc::Global;
 
 /// Whether `to_value` makes of a value what is read of its bytes, and `to_vec_canonical` writes the

@@ -2,8 +2,8 @@
 
 use crate::desk::{Desk, Outcome, outcome_of};
 use crate::row::Row;
-use serde_cbor::Deserializer;
-use serde_cbor::de::{Deserialize, Read};
+use cbor_read::Read;
+use cbor_typed::{Deserialize, Deserializer};
 use std::fmt::Debug;
 use std::io;
 

@@ -3,7 +3,11 @@
 use crate::desk::{Desk, Step};
 use crate::how::Source;
 use crate::row::Row;
-use serde_cbor::{Result, Value, from_slice, from_slice_canonical, to_vec};
+use cbor_io::error::Result;
+use cbor_ser::to_vec;
+use cbor_strict::from_slice_canonical;
+use cbor_typed::from_slice;
+use cbor_value::Value;
 use std::alloc::Global;
 use std::io;
 

@@ -5,7 +5,8 @@ use crate::how::{SCRATCH, Source};
 use crate::pieces::Pieces;
 use crate::row::Row;
 use crate::{fronts, strict};
-use serde_cbor::{Value, from_mut_slice, from_reader, from_slice, from_slice_with_scratch};
+use cbor_typed::{from_mut_slice, from_reader, from_slice, from_slice_with_scratch};
+use cbor_value::Value;
 use std::io;
 
 /// Judges a row of a value that is read in all formats. One that is read, by each source, shows too

@@ -3,9 +3,9 @@
 use crate::desk::Desk;
 use crate::row::Row;
 use crate::types::lists;
-use serde_cbor::Deserializer;
-use serde_cbor::bytes::{ByteArray, ByteBuf, Bytes};
-use serde_cbor::de::Read;
+use cbor_bytes::{ByteArray, ByteBuf, Bytes};
+use cbor_read::Read;
+use cbor_typed::Deserializer;
 use std::collections::BTreeMap;
 use std::io;
 

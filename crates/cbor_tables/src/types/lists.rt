@@ -3,8 +3,9 @@
 use crate::desk::Desk;
 use crate::row::Row;
 use crate::types::maps;
-use serde_cbor::de::Read;
-use serde_cbor::{Deserializer, Value};
+use cbor_read::Read;
+use cbor_typed::Deserializer;
+use cbor_value::Value;
 use std::io;
 
 /// Judges a row of one of these, or of another type.

@@ -3,8 +3,8 @@
 use crate::desk::Desk;
 use crate::row::Row;
 use crate::types::tagged;
-use serde_cbor::Deserializer;
-use serde_cbor::de::Read;
+use cbor_read::Read;
+use cbor_typed::Deserializer;
 use std::collections::BTreeMap;
 use std::io;
 

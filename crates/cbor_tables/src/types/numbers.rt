@@ -3,9 +3,9 @@
 use crate::desk::Desk;
 use crate::row::Row;
 use crate::types::strings;
-use serde_cbor::de::Read;
-use serde_cbor::value::Float;
-use serde_cbor::{Deserializer, Value};
+use cbor_read::Read;
+use cbor_typed::Deserializer;
+use cbor_value::{Float, Value};
 use std::io;
 
 /// Judges a row of one of these, or of another type.

@@ -3,8 +3,8 @@
 use crate::desk::Desk;
 use crate::row::Row;
 use crate::types::bytes;
-use serde_cbor::Deserializer;
-use serde_cbor::de::{IgnoredAny, Read};
+use cbor_read::Read;
+use cbor_typed::{Deserializer, IgnoredAny};
 use std::io;
 
 /// Judges a row of one of these, or of another type.

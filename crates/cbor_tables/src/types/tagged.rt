@@ -2,9 +2,10 @@
 
 use crate::desk::Desk;
 use crate::row::Row;
-use serde_cbor::de::Read;
-use serde_cbor::tags::Tagged;
-use serde_cbor::{Deserializer, Value};
+use cbor_read::Read;
+use cbor_tags::Tagged;
+use cbor_typed::Deserializer;
+use cbor_value::Value;
 use std::collections::BTreeMap;
 use std::io;
 
