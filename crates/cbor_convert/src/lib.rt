@@ -7,6 +7,7 @@
 #![tactic(auto)]
 
 mod canonical;
+mod laws;
 mod list;
 mod map;
 mod pairs;
@@ -15,6 +16,7 @@ mod values;
 mod variants;
 
 pub use canonical::to_vec_canonical;
+pub use laws::same_value_same_bytes;
 pub use list::SerializeVec;
 pub use map::SerializeMap;
 pub use reading::from_value;

@@ -2,6 +2,6 @@
 
 pub use cbor_convert::{
     SerializeMap, SerializeStructVariant, SerializeTupleVariant, SerializeVec, ToValue, from_value,
-    to_value,
+    same_value_same_bytes, to_value,
 };
 pub use cbor_value::{Float, Map, Value};
