@@ -73,6 +73,11 @@ module _ {K V : Type 0} (cmp : K → K → Ordering) (total : IsTotalOrder cmp) 
   put_sorted : (fs : List (K × V)) → IsStrictlySortedBy cmp (keys_of fs) → fs ≡ put_all cmp [] fs
   put_sorted fs up = sym (put_ascending [] fs (below_none fs) up)
 
+-- the keys ascend, and what is asked of keys and of values holds
+abbrev pub AreFit : {K V : Type 0} → (K → K → Ordering) → (K → Type 0) → (V → Type 0) → List (K × V) → Type 0
+AreFit cmp key_fits value_fits es =
+    IsStrictlySortedBy cmp (keys_of es) × AllByRecursion (λ e. key_fits e.0 × value_fits e.1) es
+
 -- ---- the pairs of a document
 
 module _ {K V : Type 0} {cmp : K → K → Ordering} {key_doc : K → Doc} {value_doc : V → Doc} {keys : Context → Raw → K → Type 0} {values : Context → Raw → V → Type 0} {key_fits : K → Type 0} {value_fits : V → Type 0}
@@ -125,7 +130,7 @@ module _ {K V : Type 0} {cmp : K → K → Ordering} {key_doc : K → Doc} {valu
   pub map_back : {M : Type 0} {entries : M → List (K × V)}
       → IsReadBack (λ m. mapping declared (doc_pairs key_doc value_doc (entries m)))
       (λ c. PassesTags (AsMap (λ rs m. AreEntries cmp (keys c) (values c) rs (entries m))))
-      (λ m. IsStrictlySortedBy cmp (keys_of (entries m)) × AllByRecursion (λ e. key_fits e.0 × value_fits e.1) (entries m))
+      (λ m. AreFit cmp key_fits value_fits (entries m))
   unfolding raw_of
   map_back {entries = entries} = record {
     itself = λ m fit l p g. record {

@@ -40,6 +40,14 @@ by_part part law = record {
   alone = λ x y fit l p g h. law.alone (part x) (part y) fit l p g h;
 }
 
+-- Where more is asked of a value, it is read back too.
+pub asking_more : {A : Type 0} {document : A → Doc} {reads : Context → Raw → A → Type 0} {fits more : A → Type 0}
+    → ((x : A) → more x → fits x) → IsReadBack document reads fits → IsReadBack document reads more
+asking_more less law = record {
+  itself = λ x fit l p g. law.itself x (less x fit) l p g;
+  alone = λ x y fit l p g h. law.alone x y (less x fit) l p g h;
+}
+
 -- What is written and read as something that is read back is so too.
 pub as_alike : {A : Type 0} {document document' : A → Doc} {reads reads' : Context → Raw → A → Type 0} {fits : A → Type 0}
     → ((x : A) → document x ≡ document' x)

@@ -8,7 +8,7 @@ use Rattle.cbor_model.specs.Readable.{Context}
 use Rattle.cbor_collections.specs.Enums.{Content}
 use Rattle.cbor_typed.specs.Structs.{IfAbsent}
 use Rattle.cbor_round.specs.Fields.{IsFieldReadBack}
-use Rattle.cbor_round.specs.ReadBack.{IsReadBack, by_part}
+use Rattle.cbor_round.specs.ReadBack.{IsReadBack, asking_more, by_part}
 use Rattle.cbor_round.specs.Names.{are_distinct}
 use Rattle.cbor_round.specs.Keyed.{IsToldByDocuments}
 use Rattle.cbor_round.specs.Lists.{ArePartsReadBack}
@@ -28,6 +28,12 @@ abbrev pub law_of : {A : Type 0} {document : A → Doc} {reads : Context → Raw
     → IsReadBack document reads fits → Law A
 law_of {document = document} {reads = reads} {fits = fits} back =
     record { document = document; reads = reads; fits = fits; back = back }
+
+-- What is asked by the words of a part's law as a value is asked by those of the part itself too: of a
+-- part that is named the two are one.
+abbrev pub law_asking : {A : Type 0} {document : A → Doc} {reads : Context → Raw → A → Type 0} {fits : A → Type 0}
+    (too : A → Type 0) → IsReadBack document reads fits → Law A
+law_asking {fits = fits} too back = law_of (asking_more {more = λ x. fits x × too x} (λ x fit. fit.0) back)
 
 -- the law of a key's type, whose order its documents tell
 pub record KeyLaw (A : Type 0) : Type 1 where

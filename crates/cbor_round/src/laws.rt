@@ -1,14 +1,12 @@
 //! The law over what is written, and over the calls.
 
-ghost use Rattle.std.specs.Prelude.{◌≡◌, ◌≤◌, ◌<◌, ◌^◌, ℕ, List, true, false, length, IfOk, IfErr};
+ghost use Rattle.std.specs.Prelude.{◌≡◌, ◌≤◌, ◌<◌, ◌^◌, false, length, IfOk, IfErr};
 ghost use Rattle.cbor_model.specs.Acceptable.{max_depth};
 ghost use Rattle.cbor_model.specs.Document.{raw_of, IsStorableDocument};
 ghost use Rattle.cbor_model.specs.Raw.{AreBytes, depth};
 ghost use Rattle.cbor_de.specs.Gives.{IsMemoryOrFault};
-ghost use Rattle.cbor_round.specs.Names.{are_distinct};
 ghost use Rattle.cbor_round.specs.ReadBack.{IsWrittenReadBack};
 
-use crate::parts::PartsRoundTrip;
 use crate::round_trip::RoundTrip;
 use cbor_io::error::Result;
 use cbor_read::IoRead;
@@ -24,22 +22,11 @@ use std::io::Cursor;
 /// A caller gives it what `to_vec` and `to_vec_packed` say of the document (`storable` and
 /// `in_range`), and gets what the clauses `found` and `accepted` of the four `from_*` are about.
 pub fn written_reads_back_as<T: RoundTrip>()
-    ensures { IsWrittenReadBack T.document T.reads T.fits }
-{}
-
-/// What is written of the parts of a struct or an enum by description reads back: by names that are
-/// as many, no two of them the same, the bytes of the parts are read as those parts, and as none of
-/// another document.
-///
-/// What such a type is written and read as is, by its own lines, its parts' document and reading; so
-/// a caller has the law of `User` from `described_reads_back_as::<<User as Schema>::Parts>()`.
-pub fn described_reads_back_as<P: PartsRoundTrip>()
-    ensures { (names : List (List ℕ)) → length names ≡ P.count → are_distinct names ≡ true
-        → IsWrittenReadBack (P.document names) (P.reads names) P.fits }
+    ensures { IsWrittenReadBack T.document T.reads T.law.fits }
 {}
 
 /// Writes a value, and reads it from its bytes again: a value of the same document, if the value
-/// keeps what the law asks of it (`fits`).
+/// keeps what the law asks of it (`law.fits`).
 ///
 /// It refuses what [`to_vec`] refuses, an integer outside `-2^64..=2^64-1` at any depth; what is
 /// nested deeper than the 127 levels that are read; and it returns `OutOfMemory` where an
@@ -53,11 +40,11 @@ pub fn write_and_read<'de, T: RoundTrip + Deserialize<'de, IoRead<Cursor<Vec<u8>
     alloc: Global,
     value: &T,
 ) -> Result<T>
-    ensures same { T.fits value.now
+    ensures same { T.law.fits value.now
         → IfOk result (λ again. T.document again ≡ T.document value.now) }
     // It is returned, unless memory runs out. (A reader over memory reports no fault, but its
     // contract doesn't say so.)
-    ensures answered { T.fits value.now → IsStorableDocument (T.document value.now)
+    ensures answered { T.law.fits value.now → IsStorableDocument (T.document value.now)
         → depth (raw_of (T.document value.now) false false) ≤ max_depth
         → IfErr result IsMemoryOrFault }
 {

@@ -18,7 +18,7 @@ mod tests;
 mod tuples;
 mod types;
 
-pub use laws::{described_reads_back_as, write_and_read, written_reads_back_as};
+pub use laws::{write_and_read, written_reads_back_as};
 pub use parts::{
     FieldRoundTrip, FieldsRoundTrip, PartsRoundTrip, TupleRoundTrip, VariantRoundTrip,
 };

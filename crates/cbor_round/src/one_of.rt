@@ -4,13 +4,9 @@ use crate::parts::{PartsRoundTrip, VariantRoundTrip};
 use cbor_parts::{OneOf1, OneOf2, OneOf3, OneOf4, OneOf5, OneOf6, OneOf7, OneOf8};
 
 impl<A: VariantRoundTrip> PartsRoundTrip for OneOf1<A> {
-    ghost use Rattle.cbor_described.specs.OneOfs.{list1};
     ghost use Rattle.cbor_round.specs.Enums.{same1};
-    ghost use Rattle.cbor_round.specs.Variants.{either_fits, never_fits};
     ghost use Rattle.cbor_round.specs.Variants.{variant_back, no_variants_back, enum_back};
     ghost use Rattle.cbor_round.specs.PartsLaws.{enum1};
-
-    ghost fits = { λ x. either_fits A.fits never_fits (list1 x) };
 
     ghost law = { enum1 A.law };
 
@@ -18,13 +14,9 @@ impl<A: VariantRoundTrip> PartsRoundTrip for OneOf1<A> {
 }
 
 impl<A: VariantRoundTrip, B: VariantRoundTrip> PartsRoundTrip for OneOf2<A, B> {
-    ghost use Rattle.cbor_described.specs.OneOfs.{list2};
     ghost use Rattle.cbor_round.specs.Enums.{same2};
-    ghost use Rattle.cbor_round.specs.Variants.{either_fits, never_fits};
     ghost use Rattle.cbor_round.specs.Variants.{variant_back, no_variants_back, enum_back};
     ghost use Rattle.cbor_round.specs.PartsLaws.{enum2};
-
-    ghost fits = { λ x. either_fits A.fits (either_fits B.fits never_fits) (list2 x) };
 
     ghost law = { enum2 A.law B.law };
 
@@ -34,14 +26,9 @@ impl<A: VariantRoundTrip, B: VariantRoundTrip> PartsRoundTrip for OneOf2<A, B> {
 
 impl<A: VariantRoundTrip, B: VariantRoundTrip, C: VariantRoundTrip> PartsRoundTrip
     for OneOf3<A, B, C> {
-    ghost use Rattle.cbor_described.specs.OneOfs.{list3};
     ghost use Rattle.cbor_round.specs.Enums.{same3};
-    ghost use Rattle.cbor_round.specs.Variants.{either_fits, never_fits};
     ghost use Rattle.cbor_round.specs.Variants.{variant_back, no_variants_back, enum_back};
     ghost use Rattle.cbor_round.specs.PartsLaws.{enum3};
-
-    ghost fits = { λ x. either_fits A.fits (either_fits B.fits
-        (either_fits C.fits never_fits)) (list3 x) };
 
     ghost law = { enum3 A.law B.law C.law };
 
@@ -55,14 +42,9 @@ impl<
     C: VariantRoundTrip,
     D: VariantRoundTrip,
 > PartsRoundTrip for OneOf4<A, B, C, D> {
-    ghost use Rattle.cbor_described.specs.OneOfs.{list4};
     ghost use Rattle.cbor_round.specs.Enums.{same4};
-    ghost use Rattle.cbor_round.specs.Variants.{either_fits, never_fits};
     ghost use Rattle.cbor_round.specs.Variants.{variant_back, no_variants_back, enum_back};
     ghost use Rattle.cbor_round.specs.PartsLaws.{enum4};
-
-    ghost fits = { λ x. either_fits A.fits (either_fits B.fits (either_fits C.fits
-        (either_fits D.fits never_fits))) (list4 x) };
 
     ghost law = { enum4 A.law B.law C.law D.law };
 
@@ -78,14 +60,9 @@ impl<
     D: VariantRoundTrip,
     E: VariantRoundTrip,
 > PartsRoundTrip for OneOf5<A, B, C, D, E> {
-    ghost use Rattle.cbor_described.specs.OneOfs.{list5};
     ghost use Rattle.cbor_round.specs.Enums.{same5};
-    ghost use Rattle.cbor_round.specs.Variants.{either_fits, never_fits};
     ghost use Rattle.cbor_round.specs.Variants.{variant_back, no_variants_back, enum_back};
     ghost use Rattle.cbor_round.specs.PartsLaws.{enum5};
-
-    ghost fits = { λ x. either_fits A.fits (either_fits B.fits (either_fits C.fits
-        (either_fits D.fits (either_fits E.fits never_fits)))) (list5 x) };
 
     ghost law = { enum5 A.law B.law C.law D.law E.law };
 
@@ -102,14 +79,9 @@ impl<
     E: VariantRoundTrip,
     F: VariantRoundTrip,
 > PartsRoundTrip for OneOf6<A, B, C, D, E, F> {
-    ghost use Rattle.cbor_described.specs.OneOfs.{list6};
     ghost use Rattle.cbor_round.specs.Enums.{same6};
-    ghost use Rattle.cbor_round.specs.Variants.{either_fits, never_fits};
     ghost use Rattle.cbor_round.specs.Variants.{variant_back, no_variants_back, enum_back};
     ghost use Rattle.cbor_round.specs.PartsLaws.{enum6};
-
-    ghost fits = { λ x. either_fits A.fits (either_fits B.fits (either_fits C.fits
-        (either_fits D.fits (either_fits E.fits (either_fits F.fits never_fits))))) (list6 x) };
 
     ghost law = { enum6 A.law B.law C.law D.law E.law F.law };
 
@@ -127,15 +99,9 @@ impl<
     F: VariantRoundTrip,
     G: VariantRoundTrip,
 > PartsRoundTrip for OneOf7<A, B, C, D, E, F, G> {
-    ghost use Rattle.cbor_described.specs.OneOfs.{list7};
     ghost use Rattle.cbor_round.specs.Enums.{same7};
-    ghost use Rattle.cbor_round.specs.Variants.{either_fits, never_fits};
     ghost use Rattle.cbor_round.specs.Variants.{variant_back, no_variants_back, enum_back};
     ghost use Rattle.cbor_round.specs.PartsLaws.{enum7};
-
-    ghost fits = { λ x. either_fits A.fits (either_fits B.fits (either_fits C.fits
-        (either_fits D.fits (either_fits E.fits (either_fits F.fits
-        (either_fits G.fits never_fits)))))) (list7 x) };
 
     ghost law = { enum7 A.law B.law C.law D.law E.law F.law G.law };
 
@@ -155,15 +121,9 @@ impl<
     G: VariantRoundTrip,
     H: VariantRoundTrip,
 > PartsRoundTrip for OneOf8<A, B, C, D, E, F, G, H> {
-    ghost use Rattle.cbor_described.specs.OneOfs.{list8};
     ghost use Rattle.cbor_round.specs.Enums.{same8};
-    ghost use Rattle.cbor_round.specs.Variants.{either_fits, never_fits};
     ghost use Rattle.cbor_round.specs.Variants.{variant_back, no_variants_back, enum_back};
     ghost use Rattle.cbor_round.specs.PartsLaws.{enum8};
-
-    ghost fits = { λ x. either_fits A.fits (either_fits B.fits (either_fits C.fits
-        (either_fits D.fits (either_fits E.fits (either_fits F.fits (either_fits G.fits
-        (either_fits H.fits never_fits))))))) (list8 x) };
 
     ghost law = { enum8 A.law B.law C.law D.law E.law F.law G.law H.law };
 

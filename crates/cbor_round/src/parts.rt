@@ -11,14 +11,11 @@ use cbor_typed::FieldType;
 pub trait PartsRoundTrip: PartsDocument + ReadableParts {
     ghost use Rattle.cbor_round.specs.TypeLaws.{ByNames, PartsLaw};
 
-    // What the law asks of the parts.
-    ghost fits: { Self → Type 0 };
-
-    // The law as a value.
+    // The law as a value, with what it asks of a value (`fits`).
     ghost law: { PartsLaw Self };
 
     // By such names the parts are read back.
-    ghost back: { ByNames Self.count Self.document Self.reads fits };
+    ghost back: { ByNames law.count Self.document Self.reads law.fits };
 }
 
 /// A field of a struct that is read back: what is `RoundTrip`, or [`Optional`] or [`OrDefault`] of
@@ -27,21 +24,16 @@ pub trait FieldRoundTrip: FieldDocument + FieldType {
     ghost use Rattle.cbor_round.specs.Fields.{IsFieldReadBack};
     ghost use Rattle.cbor_round.specs.TypeLaws.{FieldLaw};
 
-    // What the law asks of the field.
-    ghost fits: { Self → Type 0 };
-
-    // The law as a value.
+    // The law as a value, with what it asks of a value (`fits`).
     ghost law: { FieldLaw Self };
 
     // It is read back where it is written, and is as it was where it is left out.
-    ghost read_back: { IsFieldReadBack Self.document Self.reads Self.missing fits };
+    ghost read_back: { IsFieldReadBack Self.document Self.reads Self.missing law.fits };
 }
 
 impl<T: RoundTrip + Drop> FieldRoundTrip for T {
     ghost use Rattle.cbor_round.specs.Fields.{required_back};
     ghost use Rattle.cbor_round.specs.TypeLaws.{field_law};
-
-    ghost fits = { T.fits };
 
     ghost law = { field_law (required_back T.law.back) };
 
@@ -49,10 +41,8 @@ impl<T: RoundTrip + Drop> FieldRoundTrip for T {
 }
 
 impl<T: RoundTrip + Drop> FieldRoundTrip for Optional<T> {
-    ghost use Rattle.cbor_round.specs.Fields.{FitsIfThere, optional_back};
+    ghost use Rattle.cbor_round.specs.Fields.{optional_back};
     ghost use Rattle.cbor_round.specs.TypeLaws.{field_law};
-
-    ghost fits = { λ o. FitsIfThere T.fits o.0 };
 
     ghost law = { field_law (optional_back T.law.back {part = λ o. o.0}) };
 
@@ -62,8 +52,6 @@ impl<T: RoundTrip + Drop> FieldRoundTrip for Optional<T> {
 impl<T: RoundTrip + Default + Drop> FieldRoundTrip for OrDefault<T> {
     ghost use Rattle.cbor_round.specs.Fields.{default_back};
     ghost use Rattle.cbor_round.specs.TypeLaws.{field_law};
-
-    ghost fits = { λ o. T.fits o.0 };
 
     ghost law = { field_law (default_back T.law.back (λ o. o.0)
         (λ o. T.is_default o.0)) };
@@ -76,24 +64,29 @@ pub trait FieldsRoundTrip: FieldsDocument + ReadableParts {
     ghost use Rattle.cbor_model.specs.Document.{structure};
     ghost use Rattle.cbor_round.specs.TypeLaws.{ByNames, FieldsLaw};
 
-    // What the law asks of the parts.
-    ghost fits: { Self → Type 0 };
-
-    // The law as a value.
+    // The law as a value, with what it asks of a value (`fits`).
     ghost law: { FieldsLaw Self };
 
     // By such names the parts are read back.
-    ghost back: { ByNames Self.count (λ names t. structure (Self.fields names t)) Self.reads fits };
+    ghost back: { ByNames law.count (λ names t. structure (Self.fields names t)) Self.reads
+        law.fits };
 }
 
 impl<F: FieldsRoundTrip> PartsRoundTrip for F {
     ghost use Rattle.cbor_round.specs.TypeLaws.{parts_law};
 
-    ghost fits = { F.fits };
-
     ghost law = { parts_law F.law.count F.law.back };
 
     ghost back = { F.back };
+}
+
+impl<T: RoundTrip + Drop> PartsRoundTrip for Newtype<T> {
+    ghost use Rattle.cbor_round.specs.ReadBack.{by_part};
+    ghost use Rattle.cbor_round.specs.TypeLaws.{parts_law};
+
+    ghost law = { parts_law 0 (λ names as_many distinct. by_part (λ p. p.0) T.law.back) };
+
+    ghost back = { λ names as_many distinct. by_part (λ p. p.0) T.back };
 }
 
 /// The parts of a variant: a tuple of what is read back.
@@ -101,14 +94,11 @@ pub trait TupleRoundTrip: TupleDocuments + ReadableTuple {
     ghost use Rattle.cbor_round.specs.TypeLaws.{TupleLaw};
     ghost use Rattle.cbor_round.specs.Lists.{ArePartsReadBack};
 
-    // What the law asks of the parts.
-    ghost fits: { Self → Type 0 };
-
-    // The law as a value.
+    // The law as a value, with what it asks of a value (`fits`).
     ghost law: { TupleLaw Self };
 
     // They are read back as the items of an array.
-    ghost back: { ArePartsReadBack Self.documents (λ c t rs. Self.parts c rs t) fits };
+    ghost back: { ArePartsReadBack Self.documents (λ c t rs. Self.parts c rs t) law.fits };
 }
 
 /// A variant that is read back, in whatever place it is.
@@ -116,21 +106,16 @@ pub trait VariantRoundTrip: VariantDocument + Variant {
     ghost use Rattle.cbor_round.specs.TypeLaws.{VariantLaw};
     ghost use Rattle.cbor_round.specs.Variants.{IsVariantReadBack};
 
-    // What the law asks of the variant's parts.
-    ghost fits: { Self → Type 0 };
-
-    // The law as a value.
+    // The law as a value, with what it asks of a value (`fits`).
     ghost law: { VariantLaw Self };
 
     // It is read back by whatever number and name.
-    ghost back: { IsVariantReadBack Self.document Self.means fits };
+    ghost back: { IsVariantReadBack Self.document Self.means law.fits };
 }
 
 impl VariantRoundTrip for () {
     ghost use Rattle.cbor_round.specs.Variants.{unit_back};
     ghost use Rattle.cbor_round.specs.TypeLaws.{variant_law};
-
-    ghost fits = { λ u. Unit {0} };
 
     ghost law = { variant_law unit_back };
 
@@ -141,8 +126,6 @@ impl<T: RoundTrip + Drop> VariantRoundTrip for Newtype<T> {
     ghost use Rattle.cbor_round.specs.Variants.{newtype_back};
     ghost use Rattle.cbor_round.specs.TypeLaws.{variant_law};
 
-    ghost fits = { λ v. T.fits v.0 };
-
     ghost law = { variant_law (newtype_back (λ v. v.0) T.law.back) };
 
     ghost back = { newtype_back (λ v. v.0) T.back };
@@ -151,8 +134,6 @@ impl<T: RoundTrip + Drop> VariantRoundTrip for Newtype<T> {
 impl<F: TupleRoundTrip> VariantRoundTrip for Tuple<F> {
     ghost use Rattle.cbor_round.specs.Variants.{tuple_back};
     ghost use Rattle.cbor_round.specs.TypeLaws.{variant_law};
-
-    ghost fits = { λ v. F.fits v.0 };
 
     ghost law = { variant_law (tuple_back (λ v. v.0) F.law.back) };
 
@@ -164,17 +145,12 @@ impl<N: FieldNames> VariantRoundTrip for Struct<N>
 where
     N::Parts: FieldsRoundTrip,
 {
-    ghost use Rattle.std.specs.Prelude.{◌≡◌, length, true};
-    ghost use Rattle.cbor_round.specs.Names.{are_distinct};
     ghost use Rattle.cbor_round.specs.Variants.{struct_variant_back};
     ghost use Rattle.cbor_round.specs.TypeLaws.{variant_law};
-
-    ghost fits = { λ v. (length N.names ≡ N.Parts.count)
-        × (are_distinct N.names ≡ true) × N.Parts.fits v.0 };
 
     ghost law = { variant_law (struct_variant_back (λ v. v.0) N.Parts.law.fields N.names
         N.Parts.law.count N.Parts.law.back) };
 
     ghost back = { struct_variant_back
-        (λ v. v.0) N.Parts.fields N.names N.Parts.count N.Parts.back };
+        (λ v. v.0) N.Parts.fields N.names N.Parts.law.count N.Parts.back };
 }

@@ -9,9 +9,9 @@ use cbor_typed::DeserializeOwned;
 /// another document. It holds under each setting of the writer, packed or not and in both forms of
 /// enums, with the switches of reading as they are at first, and whatever the source lends.
 ///
-/// `fits` says what the law asks of a value, and each value in a program keeps it: a number lies in
-/// its type's range, an array has its length, and the keys of a map ascend. Three types ask more,
-/// since what they write doesn't tell all:
+/// `law` is the law as a value. Its `fits` says what the law asks of a value, and each value in a
+/// program keeps it: a number lies in its type's range, an array has its length, and the keys of a
+/// map ascend. Three types ask more, since what they write doesn't tell all:
 ///
 /// - `Option`: the value of a `Some` isn't written as null, as `Some(())` and `Some(None)` are;
 /// - `Tagged`: a value within no tag has none of its own;
@@ -32,16 +32,13 @@ use cbor_typed::DeserializeOwned;
 ///     ghost law = { by_description ⟦<User as Schema>⟧.names ⟦<User as Schema>⟧.parts
 ///         ⟦<<User as Schema>::Parts as PartsRoundTrip>⟧.law refl refl };
 ///
-///     ghost fits = { λ u. ⟦<<User as Schema>::Parts as PartsRoundTrip>⟧.fits
-///         (⟦<User as Schema>⟧.parts u) };
-///
 ///     ghost back = { Self.law.back };
 /// }
 /// ```
 ///
-/// `law` is the law as a value, which what names one type cites, as this does that of `User`'s
-/// parts; what is generic cites `back`. So a type of one's own that is generic gives both. One that
-/// isn't gives the law of the type that it is written as, by the lemmas of `specs/`:
+/// What names one type cites its `law`, as this does that of `User`'s parts; what is generic cites
+/// `back` too. A type that isn't described gives the law of the type that it is written as, by the
+/// lemmas of `specs/`:
 ///
 /// ```rust
 /// /// A distance in metres, which is written and read as its number.
@@ -53,8 +50,6 @@ use cbor_typed::DeserializeOwned;
 ///     ghost use Rattle.cbor_round.specs.TypeLaws.{law_of};
 ///
 ///     ghost law = { law_of (by_part (λ m. m.0) ⟦<u32 as RoundTrip>⟧.law.back) };
-///
-///     ghost fits = { λ m. ⟦<u32 as RoundTrip>⟧.fits m.0 };
 ///
 ///     ghost back = { Self.law.back };
 /// }
@@ -68,11 +63,8 @@ use cbor_typed::DeserializeOwned;
 /// struct Stack<T>(Vec<T>);
 ///
 /// impl<T: RoundTrip> RoundTrip for Stack<T> {
-///     ghost use Rattle.std.specs.List.{AllByRecursion};
 ///     ghost use Rattle.cbor_round.specs.Lists.{list_back};
 ///     ghost use Rattle.cbor_round.specs.TypeLaws.{law_of};
-///
-///     ghost fits = { λ s. AllByRecursion T.fits s.0.items };
 ///
 ///     ghost law = { law_of (list_back T.law.back {items = λ s. s.0.items}) };
 ///
@@ -83,14 +75,11 @@ pub trait RoundTrip: Serialize + DeserializeOwned {
     ghost use Rattle.cbor_round.specs.TypeLaws.{Law};
     ghost use Rattle.cbor_round.specs.ReadBack.{IsReadBack};
 
-    // What the law asks of a value.
-    ghost fits: { Self → Type 0 };
-
-    // The law as a value, by which that of a type is proved that names this one as a part.
+    // The law as a value, with what it asks of a value (`fits`).
     ghost law: { Law Self };
 
     // Each value that fits is read back.
-    ghost back: { IsReadBack Self.document Self.reads fits };
+    ghost back: { IsReadBack Self.document Self.reads law.fits };
 }
 
 /// A type that may be the key of a map that is read back: one value is below another exactly where

@@ -8,8 +8,6 @@ impl<A: FieldRoundTrip> FieldsRoundTrip for (A,) {
     ghost use Rattle.cbor_round.specs.Fields.{last_field_back, struct_back};
     ghost use Rattle.cbor_round.specs.TypeLaws.{fields_law};
 
-    ghost fits = { λ t. A.fits t.0 };
-
     ghost law = { fields_law 1 (struct_back
         (last_field_back {S = A × Unit {0}} {view = λ t. (t.0, tt)} {of = λ p. p.0} A.law.back)
         (λ t. refl)) };
@@ -22,8 +20,6 @@ impl<A: FieldRoundTrip, B: FieldRoundTrip> FieldsRoundTrip for (A, B) {
     ghost use Rattle.cbor_round.specs.Fields.{field_back, last_field_back, struct_back};
     ghost use Rattle.cbor_round.specs.PartsLaws.{fields2};
 
-    ghost fits = { λ t. A.fits t.0 × B.fits t.1 };
-
     ghost law = { fields2 A.law B.law };
 
     ghost back = { struct_back (field_back A.read_back (last_field_back B.read_back)) (λ t. refl) };
@@ -33,8 +29,6 @@ impl<A: FieldRoundTrip, B: FieldRoundTrip, C: FieldRoundTrip> FieldsRoundTrip fo
     ghost use Rattle.std.specs.Prelude.{refl};
     ghost use Rattle.cbor_round.specs.Fields.{field_back, last_field_back, struct_back};
     ghost use Rattle.cbor_round.specs.PartsLaws.{fields3};
-
-    ghost fits = { λ t. A.fits t.0 × (B.fits t.1 × C.fits t.2) };
 
     ghost law = { fields3 A.law B.law C.law };
 
@@ -47,8 +41,6 @@ impl<A: FieldRoundTrip, B: FieldRoundTrip, C: FieldRoundTrip, D: FieldRoundTrip>
     ghost use Rattle.std.specs.Prelude.{refl};
     ghost use Rattle.cbor_round.specs.Fields.{field_back, last_field_back, struct_back};
     ghost use Rattle.cbor_round.specs.PartsLaws.{fields4};
-
-    ghost fits = { λ t. A.fits t.0 × (B.fits t.1 × (C.fits t.2 × D.fits t.3)) };
 
     ghost law = { fields4 A.law B.law C.law D.law };
 
@@ -67,8 +59,6 @@ impl<
     ghost use Rattle.cbor_round.specs.Fields.{field_back, last_field_back, struct_back};
     ghost use Rattle.cbor_round.specs.PartsLaws.{fields5};
 
-    ghost fits = { λ t. A.fits t.0 × (B.fits t.1 × (C.fits t.2 × (D.fits t.3 × E.fits t.4))) };
-
     ghost law = { fields5 A.law B.law C.law D.law E.law };
 
     ghost back = { struct_back (field_back A.read_back (field_back B.read_back (field_back
@@ -86,9 +76,6 @@ impl<
     ghost use Rattle.std.specs.Prelude.{refl};
     ghost use Rattle.cbor_round.specs.Fields.{field_back, last_field_back, struct_back};
     ghost use Rattle.cbor_round.specs.PartsLaws.{fields6};
-
-    ghost fits = { λ t. A.fits t.0 × (B.fits t.1 × (C.fits t.2 × (D.fits t.3 ×
-        (E.fits t.4 × F.fits t.5)))) };
 
     ghost law = { fields6 A.law B.law C.law D.law E.law F.law };
 
@@ -109,9 +96,6 @@ impl<
     ghost use Rattle.std.specs.Prelude.{refl};
     ghost use Rattle.cbor_round.specs.Fields.{field_back, last_field_back, struct_back};
     ghost use Rattle.cbor_round.specs.PartsLaws.{fields7};
-
-    ghost fits = { λ t. A.fits t.0 × (B.fits t.1 × (C.fits t.2 × (D.fits t.3 × (E.fits t.4 ×
-        (F.fits t.5 × G.fits t.6))))) };
 
     ghost law = { fields7 A.law B.law C.law D.law E.law F.law G.law };
 
@@ -134,9 +118,6 @@ impl<
     ghost use Rattle.cbor_round.specs.Fields.{field_back, last_field_back, struct_back};
     ghost use Rattle.cbor_round.specs.PartsLaws.{fields8};
 
-    ghost fits = { λ t. A.fits t.0 × (B.fits t.1 × (C.fits t.2 × (D.fits t.3 × (E.fits t.4 ×
-        (F.fits t.5 × (G.fits t.6 × H.fits t.7)))))) };
-
     ghost law = { fields8 A.law B.law C.law D.law E.law F.law G.law H.law };
 
     ghost back = { struct_back (field_back A.read_back (field_back B.read_back (field_back
@@ -158,9 +139,6 @@ impl<
     ghost use Rattle.std.specs.Prelude.{refl};
     ghost use Rattle.cbor_round.specs.Fields.{field_back, last_field_back, struct_back};
     ghost use Rattle.cbor_round.specs.PartsLaws.{fields9};
-
-    ghost fits = { λ t. A.fits t.0 × (B.fits t.1 × (C.fits t.2 × (D.fits t.3 × (E.fits t.4 ×
-        (F.fits t.5 × (G.fits t.6 × (H.fits t.7 × I.fits t.8))))))) };
 
     ghost law = { fields9 A.law B.law C.law D.law E.law F.law G.law H.law I.law };
 
@@ -186,9 +164,6 @@ impl<
     ghost use Rattle.cbor_round.specs.Fields.{field_back, last_field_back, struct_back};
     ghost use Rattle.cbor_round.specs.PartsLaws.{fields10};
 
-    ghost fits = { λ t. A.fits t.0 × (B.fits t.1 × (C.fits t.2 × (D.fits t.3 × (E.fits t.4 ×
-        (F.fits t.5 × (G.fits t.6 × (H.fits t.7 × (I.fits t.8 × J.fits t.9)))))))) };
-
     ghost law = { fields10 A.law B.law C.law D.law E.law F.law G.law H.law I.law J.law };
 
     ghost back = { struct_back (field_back A.read_back (field_back B.read_back (field_back
@@ -213,10 +188,6 @@ impl<
     ghost use Rattle.std.specs.Prelude.{refl};
     ghost use Rattle.cbor_round.specs.Fields.{field_back, last_field_back, struct_back};
     ghost use Rattle.cbor_round.specs.PartsLaws.{fields11};
-
-    ghost fits = { λ t. A.fits t.0 × (B.fits t.1 × (C.fits t.2 × (D.fits t.3 × (E.fits t.4 ×
-        (F.fits t.5 × (G.fits t.6 × (H.fits t.7 × (I.fits t.8 ×
-        (J.fits t.9 × K.fits t.10))))))))) };
 
     ghost law = { fields11 A.law B.law C.law D.law E.law F.law G.law H.law I.law J.law K.law };
 
@@ -244,10 +215,6 @@ impl<
     ghost use Rattle.cbor_round.specs.Fields.{field_back, last_field_back, struct_back};
     ghost use Rattle.cbor_round.specs.PartsLaws.{fields12};
 
-    ghost fits = { λ t. A.fits t.0 × (B.fits t.1 × (C.fits t.2 × (D.fits t.3 × (E.fits t.4 ×
-        (F.fits t.5 × (G.fits t.6 × (H.fits t.7 × (I.fits t.8 × (J.fits t.9 ×
-        (K.fits t.10 × L.fits t.11)))))))))) };
-
     ghost law = { fields12 A.law B.law C.law D.law E.law F.law G.law H.law I.law J.law K.law L.law };
 
     ghost back = { struct_back (field_back A.read_back (field_back B.read_back (field_back
@@ -260,8 +227,6 @@ impl<A: RoundTrip + Drop> TupleRoundTrip for (A,) {
     ghost use Rattle.cbor_round.specs.Lists.{last_back};
     ghost use Rattle.cbor_round.specs.TypeLaws.{tuple_law};
 
-    ghost fits = { λ t. A.fits t.0 };
-
     ghost law = { tuple_law (last_back {part = λ t. t.0} A.law.back) };
 
     ghost back = { last_back A.back };
@@ -271,8 +236,6 @@ impl<A: RoundTrip + Drop, B: RoundTrip + Drop> TupleRoundTrip for (A, B) {
     ghost use Rattle.cbor_round.specs.Lists.{part_back, last_back};
     ghost use Rattle.cbor_round.specs.PartsLaws.{tuple2};
 
-    ghost fits = { λ t. A.fits t.0 × B.fits t.1 };
-
     ghost law = { tuple2 A.law B.law };
 
     ghost back = { part_back A.back (last_back B.back) };
@@ -281,8 +244,6 @@ impl<A: RoundTrip + Drop, B: RoundTrip + Drop> TupleRoundTrip for (A, B) {
 impl<A: RoundTrip + Drop, B: RoundTrip + Drop, C: RoundTrip + Drop> TupleRoundTrip for (A, B, C) {
     ghost use Rattle.cbor_round.specs.Lists.{part_back, last_back};
     ghost use Rattle.cbor_round.specs.PartsLaws.{tuple3};
-
-    ghost fits = { λ t. A.fits t.0 × (B.fits t.1 × C.fits t.2) };
 
     ghost law = { tuple3 A.law B.law C.law };
 
@@ -298,8 +259,6 @@ impl<
     ghost use Rattle.cbor_round.specs.Lists.{part_back, last_back};
     ghost use Rattle.cbor_round.specs.PartsLaws.{tuple4};
 
-    ghost fits = { λ t. A.fits t.0 × (B.fits t.1 × (C.fits t.2 × D.fits t.3)) };
-
     ghost law = { tuple4 A.law B.law C.law D.law };
 
     ghost back = { part_back A.back (part_back B.back (part_back C.back (last_back D.back))) };
@@ -314,8 +273,6 @@ impl<
 > TupleRoundTrip for (A, B, C, D, E) {
     ghost use Rattle.cbor_round.specs.Lists.{part_back, last_back};
     ghost use Rattle.cbor_round.specs.PartsLaws.{tuple5};
-
-    ghost fits = { λ t. A.fits t.0 × (B.fits t.1 × (C.fits t.2 × (D.fits t.3 × E.fits t.4))) };
 
     ghost law = { tuple5 A.law B.law C.law D.law E.law };
 
@@ -333,9 +290,6 @@ impl<
 > TupleRoundTrip for (A, B, C, D, E, F) {
     ghost use Rattle.cbor_round.specs.Lists.{part_back, last_back};
     ghost use Rattle.cbor_round.specs.PartsLaws.{tuple6};
-
-    ghost fits = { λ t. A.fits t.0 × (B.fits t.1 × (C.fits t.2 × (D.fits t.3 ×
-        (E.fits t.4 × F.fits t.5)))) };
 
     ghost law = { tuple6 A.law B.law C.law D.law E.law F.law };
 
@@ -355,9 +309,6 @@ impl<
     ghost use Rattle.cbor_round.specs.Lists.{part_back, last_back};
     ghost use Rattle.cbor_round.specs.PartsLaws.{tuple7};
 
-    ghost fits = { λ t. A.fits t.0 × (B.fits t.1 × (C.fits t.2 × (D.fits t.3 × (E.fits t.4 ×
-        (F.fits t.5 × G.fits t.6))))) };
-
     ghost law = { tuple7 A.law B.law C.law D.law E.law F.law G.law };
 
     ghost back = { part_back A.back (part_back B.back (part_back C.back (part_back D.back
@@ -376,9 +327,6 @@ impl<
 > TupleRoundTrip for (A, B, C, D, E, F, G, H) {
     ghost use Rattle.cbor_round.specs.Lists.{part_back, last_back};
     ghost use Rattle.cbor_round.specs.PartsLaws.{tuple8};
-
-    ghost fits = { λ t. A.fits t.0 × (B.fits t.1 × (C.fits t.2 × (D.fits t.3 × (E.fits t.4 ×
-        (F.fits t.5 × (G.fits t.6 × H.fits t.7)))))) };
 
     ghost law = { tuple8 A.law B.law C.law D.law E.law F.law G.law H.law };
 

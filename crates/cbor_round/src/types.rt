@@ -10,8 +10,6 @@ impl RoundTrip for bool {
     ghost use Rattle.cbor_round.specs.Scalars.{bool_back};
     ghost use Rattle.cbor_round.specs.TypeLaws.{law_of};
 
-    ghost fits = { λ b. Unit {0} };
-
     ghost law = { law_of bool_back };
 
     ghost back = { Self.law.back };
@@ -21,19 +19,15 @@ impl RoundTrip for () {
     ghost use Rattle.cbor_round.specs.Scalars.{unit_back};
     ghost use Rattle.cbor_round.specs.TypeLaws.{law_of};
 
-    ghost fits = { λ u. Unit {0} };
-
     ghost law = { law_of unit_back };
 
     ghost back = { Self.law.back };
 }
 
 impl RoundTrip for u8 {
-    ghost use Rattle.std.specs.Prelude.{◌≤◌, ◌-◌, ◌^◌};
+    ghost use Rattle.std.specs.Prelude.{◌-◌, ◌^◌};
     ghost use Rattle.cbor_round.specs.Scalars.{from_zero_back};
     ghost use Rattle.cbor_round.specs.TypeLaws.{law_of};
-
-    ghost fits = { λ n. n ≤ 2 ^ 8 - 1 };
 
     ghost law = { law_of (from_zero_back (2 ^ 8 - 1)) };
 
@@ -41,11 +35,9 @@ impl RoundTrip for u8 {
 }
 
 impl RoundTrip for u16 {
-    ghost use Rattle.std.specs.Prelude.{◌≤◌, ◌-◌, ◌^◌};
+    ghost use Rattle.std.specs.Prelude.{◌-◌, ◌^◌};
     ghost use Rattle.cbor_round.specs.Scalars.{from_zero_back};
     ghost use Rattle.cbor_round.specs.TypeLaws.{law_of};
-
-    ghost fits = { λ n. n ≤ 2 ^ 16 - 1 };
 
     ghost law = { law_of (from_zero_back (2 ^ 16 - 1)) };
 
@@ -53,11 +45,9 @@ impl RoundTrip for u16 {
 }
 
 impl RoundTrip for u32 {
-    ghost use Rattle.std.specs.Prelude.{◌≤◌, ◌-◌, ◌^◌};
+    ghost use Rattle.std.specs.Prelude.{◌-◌, ◌^◌};
     ghost use Rattle.cbor_round.specs.Scalars.{from_zero_back};
     ghost use Rattle.cbor_round.specs.TypeLaws.{law_of};
-
-    ghost fits = { λ n. n ≤ 2 ^ 32 - 1 };
 
     ghost law = { law_of (from_zero_back (2 ^ 32 - 1)) };
 
@@ -65,11 +55,9 @@ impl RoundTrip for u32 {
 }
 
 impl RoundTrip for u64 {
-    ghost use Rattle.std.specs.Prelude.{◌≤◌, ◌-◌, ◌^◌};
+    ghost use Rattle.std.specs.Prelude.{◌-◌, ◌^◌};
     ghost use Rattle.cbor_round.specs.Scalars.{from_zero_back};
     ghost use Rattle.cbor_round.specs.TypeLaws.{law_of};
-
-    ghost fits = { λ n. n ≤ 2 ^ 64 - 1 };
 
     ghost law = { law_of (from_zero_back (2 ^ 64 - 1)) };
 
@@ -77,11 +65,9 @@ impl RoundTrip for u64 {
 }
 
 impl RoundTrip for u128 {
-    ghost use Rattle.std.specs.Prelude.{◌≤◌, ◌-◌, ◌^◌};
+    ghost use Rattle.std.specs.Prelude.{◌-◌, ◌^◌};
     ghost use Rattle.cbor_round.specs.Scalars.{from_zero_back};
     ghost use Rattle.cbor_round.specs.TypeLaws.{law_of};
-
-    ghost fits = { λ n. n ≤ 2 ^ 128 - 1 };
 
     ghost law = { law_of (from_zero_back (2 ^ 128 - 1)) };
 
@@ -89,11 +75,9 @@ impl RoundTrip for u128 {
 }
 
 impl RoundTrip for usize {
-    ghost use Rattle.std.specs.Prelude.{◌≤◌, ◌-◌, ◌^◌};
+    ghost use Rattle.std.specs.Prelude.{◌-◌, ◌^◌};
     ghost use Rattle.cbor_round.specs.Scalars.{from_zero_back};
     ghost use Rattle.cbor_round.specs.TypeLaws.{law_of};
-
-    ghost fits = { λ n. n ≤ 2 ^ 64 - 1 };
 
     ghost law = { law_of (from_zero_back (2 ^ 64 - 1)) };
 
@@ -102,11 +86,8 @@ impl RoundTrip for usize {
 
 impl RoundTrip for i8 {
     ghost use Rattle.std.specs.Prelude.{◌-◌, ◌^◌};
-    ghost use Rattle.cbor_model.specs.Readable.{IsWithin};
     ghost use Rattle.cbor_round.specs.Scalars.{signed_back};
     ghost use Rattle.cbor_round.specs.TypeLaws.{law_of};
-
-    ghost fits = { IsWithin (2 ^ 7 - 1) };
 
     ghost law = { law_of (signed_back (2 ^ 7 - 1)) };
 
@@ -115,11 +96,8 @@ impl RoundTrip for i8 {
 
 impl RoundTrip for i16 {
     ghost use Rattle.std.specs.Prelude.{◌-◌, ◌^◌};
-    ghost use Rattle.cbor_model.specs.Readable.{IsWithin};
     ghost use Rattle.cbor_round.specs.Scalars.{signed_back};
     ghost use Rattle.cbor_round.specs.TypeLaws.{law_of};
-
-    ghost fits = { IsWithin (2 ^ 15 - 1) };
 
     ghost law = { law_of (signed_back (2 ^ 15 - 1)) };
 
@@ -128,11 +106,8 @@ impl RoundTrip for i16 {
 
 impl RoundTrip for i32 {
     ghost use Rattle.std.specs.Prelude.{◌-◌, ◌^◌};
-    ghost use Rattle.cbor_model.specs.Readable.{IsWithin};
     ghost use Rattle.cbor_round.specs.Scalars.{signed_back};
     ghost use Rattle.cbor_round.specs.TypeLaws.{law_of};
-
-    ghost fits = { IsWithin (2 ^ 31 - 1) };
 
     ghost law = { law_of (signed_back (2 ^ 31 - 1)) };
 
@@ -141,11 +116,8 @@ impl RoundTrip for i32 {
 
 impl RoundTrip for i64 {
     ghost use Rattle.std.specs.Prelude.{◌-◌, ◌^◌};
-    ghost use Rattle.cbor_model.specs.Readable.{IsWithin};
     ghost use Rattle.cbor_round.specs.Scalars.{signed_back};
     ghost use Rattle.cbor_round.specs.TypeLaws.{law_of};
-
-    ghost fits = { IsWithin (2 ^ 63 - 1) };
 
     ghost law = { law_of (signed_back (2 ^ 63 - 1)) };
 
@@ -154,11 +126,8 @@ impl RoundTrip for i64 {
 
 impl RoundTrip for isize {
     ghost use Rattle.std.specs.Prelude.{◌-◌, ◌^◌};
-    ghost use Rattle.cbor_model.specs.Readable.{IsWithin};
     ghost use Rattle.cbor_round.specs.Scalars.{signed_back};
     ghost use Rattle.cbor_round.specs.TypeLaws.{law_of};
-
-    ghost fits = { IsWithin (2 ^ 63 - 1) };
 
     ghost law = { law_of (signed_back (2 ^ 63 - 1)) };
 
@@ -169,8 +138,6 @@ impl RoundTrip for i128 {
     ghost use Rattle.cbor_round.specs.Scalars.{integer_back};
     ghost use Rattle.cbor_round.specs.TypeLaws.{law_of};
 
-    ghost fits = { λ z. Unit {0} };
-
     ghost law = { law_of integer_back };
 
     ghost back = { Self.law.back };
@@ -180,8 +147,6 @@ impl RoundTrip for Float {
     ghost use Rattle.cbor_round.specs.Scalars.{float_back};
     ghost use Rattle.cbor_round.specs.TypeLaws.{law_of};
 
-    ghost fits = { λ f. Unit {0} };
-
     ghost law = { law_of float_back };
 
     ghost back = { Self.law.back };
@@ -189,13 +154,8 @@ impl RoundTrip for Float {
 
 /// Each number; and a NaN as a NaN.
 impl RoundTrip for f32 {
-    ghost use Rattle.std.specs.Prelude.{T};
-    ghost use Rattle.std.specs.Float.{binary32};
-    ghost use Rattle.std.specs.Float.Ieee as ieee;
     ghost use Rattle.cbor_round.specs.Scalars.{single_back};
     ghost use Rattle.cbor_round.specs.TypeLaws.{law_of};
-
-    ghost fits = { λ x. T (ieee.fits binary32 x) };
 
     ghost law = { law_of single_back };
 
@@ -204,13 +164,8 @@ impl RoundTrip for f32 {
 
 /// Each number; and a NaN as a NaN.
 impl RoundTrip for f64 {
-    ghost use Rattle.std.specs.Prelude.{T};
-    ghost use Rattle.std.specs.Float.{binary64};
-    ghost use Rattle.std.specs.Float.Ieee as ieee;
     ghost use Rattle.cbor_round.specs.Scalars.{double_back};
     ghost use Rattle.cbor_round.specs.TypeLaws.{law_of};
-
-    ghost fits = { λ x. T (ieee.fits binary64 x) };
 
     ghost law = { law_of double_back };
 
@@ -218,11 +173,8 @@ impl RoundTrip for f64 {
 }
 
 impl RoundTrip for char {
-    ghost use Rattle.std.specs.Char.{IsScalar};
     ghost use Rattle.cbor_round.specs.Scalars.{char_back};
     ghost use Rattle.cbor_round.specs.TypeLaws.{law_of};
-
-    ghost fits = { IsScalar };
 
     ghost law = { law_of char_back };
 
@@ -233,8 +185,6 @@ impl RoundTrip for String {
     ghost use Rattle.cbor_round.specs.Scalars.{text_back};
     ghost use Rattle.cbor_round.specs.TypeLaws.{law_of};
 
-    ghost fits = { λ s. Unit {0} };
-
     ghost law = { law_of text_back };
 
     ghost back = { Self.law.back };
@@ -244,19 +194,14 @@ impl RoundTrip for ByteBuf {
     ghost use Rattle.cbor_round.specs.Scalars.{bytes_back};
     ghost use Rattle.cbor_round.specs.TypeLaws.{law_of};
 
-    ghost fits = { λ b. Unit {0} };
-
     ghost law = { law_of (bytes_back {items = λ b. b.0.items}) };
 
     ghost back = { Self.law.back };
 }
 
 impl<const N: usize> RoundTrip for ByteArray<N> {
-    ghost use Rattle.std.specs.Prelude.{◌≡◌, length};
     ghost use Rattle.cbor_round.specs.Scalars.{byte_array_back};
     ghost use Rattle.cbor_round.specs.TypeLaws.{law_of};
-
-    ghost fits = { λ b. length b.0 ≡ N };
 
     ghost law = { law_of (byte_array_back {n = N} {items = λ b. b.0}) };
 
@@ -265,12 +210,9 @@ impl<const N: usize> RoundTrip for ByteArray<N> {
 
 /// Each value whose maps list their keys in order, as all maps of a program do.
 impl RoundTrip for Value {
-    ghost use Rattle.cbor_model.specs.Canonical.{IsOrdered};
     ghost use Rattle.cbor_value.specs.View.{view};
     ghost use Rattle.cbor_round.specs.Values.{value_back};
     ghost use Rattle.cbor_round.specs.TypeLaws.{law_of};
-
-    ghost fits = { λ v. IsOrdered (view v) };
 
     ghost law = { law_of (value_back view) };
 
@@ -281,21 +223,17 @@ impl RoundTrip for Value {
 /// read as None.
 impl<T: RoundTrip> RoundTrip for Option<T> {
     ghost use Rattle.cbor_round.specs.Options.{IsAbsentOrFits, option_back};
-    ghost use Rattle.cbor_round.specs.TypeLaws.{law_of};
+    ghost use Rattle.cbor_round.specs.ReadBack.{asking_more};
+    ghost use Rattle.cbor_round.specs.TypeLaws.{law_asking};
 
-    ghost fits = { IsAbsentOrFits T.document T.fits };
+    ghost law = { law_asking (IsAbsentOrFits T.document T.law.fits) (option_back T.law.back) };
 
-    ghost law = { law_of (option_back T.law.back) };
-
-    ghost back = { option_back T.back };
+    ghost back = { asking_more (λ o fit. fit.1) (option_back T.back) };
 }
 
 impl<T: RoundTrip> RoundTrip for Vec<T> {
-    ghost use Rattle.std.specs.List.{AllByRecursion};
     ghost use Rattle.cbor_round.specs.Lists.{list_back};
     ghost use Rattle.cbor_round.specs.TypeLaws.{law_of};
-
-    ghost fits = { λ v. AllByRecursion T.fits v.items };
 
     ghost law = { law_of (list_back T.law.back {items = λ v. v.items}) };
 
@@ -303,12 +241,8 @@ impl<T: RoundTrip> RoundTrip for Vec<T> {
 }
 
 impl<T: RoundTrip, const N: usize> RoundTrip for [T; N] {
-    ghost use Rattle.std.specs.List.{AllByRecursion};
-    ghost use Rattle.std.specs.Prelude.{◌≡◌, length};
     ghost use Rattle.cbor_round.specs.Lists.{array_back};
     ghost use Rattle.cbor_round.specs.TypeLaws.{law_of};
-
-    ghost fits = { λ a. (length a ≡ N) × AllByRecursion T.fits a };
 
     ghost law = { law_of (array_back T.law.back {n = N}) };
 
@@ -318,8 +252,6 @@ impl<T: RoundTrip, const N: usize> RoundTrip for [T; N] {
 impl<A: RoundTrip> RoundTrip for (A,) {
     ghost use Rattle.cbor_round.specs.Lists.{last_back, tuple_back};
     ghost use Rattle.cbor_round.specs.TypeLaws.{law_of};
-
-    ghost fits = { λ t. A.fits t.0 };
 
     ghost law = { law_of (tuple_back (last_back {part = λ t. t.0} A.law.back)) };
 
@@ -331,8 +263,6 @@ impl<A: RoundTrip, B: RoundTrip> RoundTrip for (A, B) {
     ghost use Rattle.cbor_round.specs.PartsLaws.{tuple2};
     ghost use Rattle.cbor_round.specs.TypeLaws.{law_of};
 
-    ghost fits = { λ t. A.fits t.0 × B.fits t.1 };
-
     ghost law = { law_of (tuple_back (tuple2 A.law B.law).back) };
 
     ghost back = { tuple_back (part_back A.back
@@ -343,8 +273,6 @@ impl<A: RoundTrip, B: RoundTrip, C: RoundTrip> RoundTrip for (A, B, C) {
     ghost use Rattle.cbor_round.specs.Lists.{last_back, part_back, tuple_back};
     ghost use Rattle.cbor_round.specs.PartsLaws.{tuple3};
     ghost use Rattle.cbor_round.specs.TypeLaws.{law_of};
-
-    ghost fits = { λ t. A.fits t.0 × (B.fits t.1 × C.fits t.2) };
 
     ghost law = { law_of (tuple_back (tuple3 A.law B.law C.law).back) };
 
@@ -358,8 +286,6 @@ impl<A: RoundTrip, B: RoundTrip, C: RoundTrip, D: RoundTrip> RoundTrip for (A, B
     ghost use Rattle.cbor_round.specs.PartsLaws.{tuple4};
     ghost use Rattle.cbor_round.specs.TypeLaws.{law_of};
 
-    ghost fits = { λ t. A.fits t.0 × (B.fits t.1 × (C.fits t.2 × D.fits t.3)) };
-
     ghost law = { law_of (tuple_back (tuple4 A.law B.law C.law D.law).back) };
 
     ghost back = { tuple_back (part_back A.back
@@ -370,31 +296,27 @@ impl<A: RoundTrip, B: RoundTrip, C: RoundTrip, D: RoundTrip> RoundTrip for (A, B
 
 /// Each map whose keys are written so that their order is told.
 impl<K: RoundTripKey, V: RoundTrip> RoundTrip for BTreeMap<K, V> {
-    ghost use Rattle.std.specs.BTreeMap.{IsOrdered};
-    ghost use Rattle.std.specs.List.{AllByRecursion};
-    ghost use Rattle.cbor_round.specs.Keyed.{map_back};
-    ghost use Rattle.cbor_round.specs.TypeLaws.{law_of};
+    ghost use Rattle.cbor_round.specs.Keyed.{AreFit, map_back};
+    ghost use Rattle.cbor_round.specs.ReadBack.{asking_more};
+    ghost use Rattle.cbor_round.specs.TypeLaws.{law_asking};
 
-    ghost fits = { λ m. IsOrdered K.cmp m
-        × AllByRecursion (λ e. K.fits e.0 × V.fits e.1) m.entries };
+    ghost law = { law_asking (λ m. AreFit K.cmp K.law.fits V.law.fits m.entries)
+        (map_back K.key.total K.key.told K.key.back V.law.back {entries = λ m. m.entries}) };
 
-    ghost law = { law_of (map_back K.key.total K.key.told K.key.back V.law.back
-        {entries = λ m. m.entries}) };
-
-    ghost back = { map_back K.Ord.total K.told K.back V.back };
+    ghost back = { asking_more (λ m fit. fit.1) (map_back K.Ord.total K.told K.back V.back) };
 }
 
 /// A value within a tag; and without one, a value that has none of its own, as a `Tagged` within
 /// may.
 impl<T: RoundTrip> RoundTrip for Tagged<T> {
+    ghost use Rattle.cbor_round.specs.ReadBack.{asking_more};
     ghost use Rattle.cbor_round.specs.Tagged.{IsToldApart, tagged_back};
-    ghost use Rattle.cbor_round.specs.TypeLaws.{law_of};
+    ghost use Rattle.cbor_round.specs.TypeLaws.{law_asking};
 
-    ghost fits = { λ t. IsToldApart t.tag (T.document t.value) × T.fits t.value };
+    ghost law = { law_asking (λ t. IsToldApart t.tag (T.document t.value) × T.law.fits t.value)
+        (tagged_back T.law.back {tag = λ t. t.tag} {inner = λ t. t.value}) };
 
-    ghost law = { law_of (tagged_back T.law.back {tag = λ t. t.tag} {inner = λ t. t.value}) };
-
-    ghost back = { tagged_back T.back };
+    ghost back = { asking_more (λ t fit. fit.1) (tagged_back T.back) };
 }
 
 impl RoundTripKey for String {

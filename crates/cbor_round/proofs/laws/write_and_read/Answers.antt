@@ -15,7 +15,7 @@ returns-clause-same g c = λ fit.
     let bytes : AreBytes bs = subst AreBytes c.deref.ensures.value c.are_bytes.ensures.bytes in
     let short : length bs < 2 ^ 64 = subst (λ (xs : List ℕ). length xs < 2 ^ 64) c.deref.ensures.value c.are_bytes.ensures.short in
     let gave : Gave (Some (drop c.new.result.pos c.new.result.inner.items)) bs = gave_all c.new.result.pos c.new.result.inner.items bs c.new.ensures.position (ap (λ (v : _). v.items) c.new.ensures.inner) bytes short in
-    same_again g.T.Serialize.document g.T.Readable.reads g.T.RoundTrip.fits g.met.T.RoundTrip.back c.args.value.now bs w.storable w.in_range w.written
+    same_again g.T.Serialize.document g.T.Readable.reads g.T.RoundTrip.law.fits g.met.T.RoundTrip.back c.args.value.now bs w.storable w.in_range w.written
     c.from_reader.result fit (c.from_reader.ensures.found bs gave)
 
 pub returns-clause-answered : goal.returns-clause-answered
@@ -26,4 +26,4 @@ returns-clause-answered g c = λ fit stored nests.
     let short : length bs < 2 ^ 64 = subst (λ (xs : List ℕ). length xs < 2 ^ 64) c.deref.ensures.value c.are_bytes.ensures.short in
     let gave : Gave (Some (drop c.new.result.pos c.new.result.inner.items)) bs = gave_all c.new.result.pos c.new.result.inner.items bs c.new.ensures.position (ap (λ (v : _). v.items) c.new.ensures.inner) bytes short in
     c.from_reader.ensures.accepted bs gave c.args.value.now
-    (spelled_again g.T.Serialize.document g.T.Readable.reads g.T.RoundTrip.fits g.met.T.RoundTrip.back c.args.value.now bs w.storable w.in_range w.written fit nests)
+    (spelled_again g.T.Serialize.document g.T.Readable.reads g.T.RoundTrip.law.fits g.met.T.RoundTrip.back c.args.value.now bs w.storable w.in_range w.written fit nests)
