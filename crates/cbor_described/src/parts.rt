@@ -5,10 +5,11 @@ ghost use Rattle.cbor_scalars.specs.Identifiers.{texts};
 ghost use Rattle.cbor_scalars.specs.Takes.{TakesItem, context, formats_of};
 
 use cbor_io::error::Result;
-use cbor_parts::{Parts, Schema};
-use cbor_typed::{Deserializer, Read};
+use cbor_parts::{Newtype, Parts, Schema};
+use cbor_typed::{Deserialize, Deserializer, Read, Readable};
 
-/// The parts of a struct, a tuple of its fields, or of an enum, one of its variants.
+/// The parts of a struct, a tuple of its fields or a [`Newtype`] of its one part, or of an enum, one
+/// of its variants.
 pub trait ReadableParts: Parts {
     ghost use Rattle.std.specs.Prelude.{List, ℕ};
     ghost use Rattle.cbor_model.specs.Raw.{Raw};
@@ -29,6 +30,21 @@ pub trait ReadParts<'de, R: Read<'de>>: ReadableParts {
             (R.source de.new.items.source) result }
         ensures levels { de.new.items.levels ≡ de.old.items.levels }
         ensures formats { de.new.items.formats ≡ de.old.items.formats };
+}
+
+/// A struct is read as its one part.
+impl<T: Readable> ReadableParts for Newtype<T> {
+    ghost reads = { λ names c r p. T.reads c r p.0 };
+}
+
+impl<'de, R: Read<'de>, T: Deserialize<'de, R>> ReadParts<'de, R> for Newtype<T> {
+    fn read_parts(de: &mut Deserializer<R>, names: &[&str]) -> Result<Newtype<T>> {
+        let _ = names;
+        match T::deserialize(de) {
+            Ok(part) => Ok(Newtype(part)),
+            Err(e) => Err(e),
+        }
+    }
 }
 
 /// A struct or an enum that is made of its parts, and so read by its description.

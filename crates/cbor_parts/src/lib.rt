@@ -1,14 +1,20 @@
 //! Descriptions of structs and enums, by which they are written and read.
 //!
 //! The fields of a struct are a tuple, as `(u32, String)`, and the variants of an enum one of
-//! [`OneOf1`] to [`OneOf8`], whose parts are `()`, [`Newtype`], [`Tuple`] or [`Struct`].
+//! [`OneOf1`] to [`OneOf8`], whose parts are `()`, [`Newtype`], [`Tuple`] or [`Struct`]. A struct
+//! that is written and read as its one part, without a name, is a [`Newtype`] of it.
 #![tactic(auto)]
 
 ghost use Rattle.std.specs.Prelude.{◌≡◌, length, map};
 
-/// A variant of one part.
+/// A variant of one part; or the one part of a struct that is written and read as that part.
 #[derive(Debug, PartialEq, Drop)]
 pub struct Newtype<T>(pub T);
+
+/// It has no names.
+impl<T: Drop> Parts for Newtype<T> {
+    ghost count = { 0 };
+}
 
 /// A variant of several parts, as `Tuple<(u64, u8)>`.
 #[derive(Debug, PartialEq, Drop)]

@@ -2,7 +2,7 @@
 
 use crate::enums::Color;
 use serde_cbor::de::{Deserialize, DeserializeOwned, FromParts, Read, Readable, ReadableParts};
-use serde_cbor::parts::{Optional, Schema};
+use serde_cbor::parts::{Newtype, Optional, Schema};
 use serde_cbor::ser::{OptionalField, PartsDocument, Serialize, Serializer, Write};
 use serde_cbor::{Deserializer, Result};
 
@@ -278,11 +278,28 @@ impl DeserializeOwned for Example {
 #[derive(Debug, Drop)]
 pub struct NewtypeStruct<T>(pub T);
 
-impl<T: Serialize> Serialize for NewtypeStruct<T> {
+impl<T: Drop> Schema for NewtypeStruct<T> {
+    ghost use Rattle.std.specs.Prelude.{[]};
+    ghost use Rattle.serde_cbor.specs.Schemas.{newtype};
+
+    type Parts = Newtype<T>;
+
+    ghost names = { [] };
+
+    ghost parts = { λ n. newtype n.0 };
+}
+
+impl<T: Serialize + Drop> Serialize for NewtypeStruct<T> {
     ghost document = { λ n. T.document n.0 };
 
     fn serialize<W: Write>(&self, ser: &mut Serializer<W>) -> Result<()> {
         ser.serialize_newtype_struct("NewtypeStruct", &self.0)
+    }
+}
+
+impl<T: Drop> FromParts for NewtypeStruct<T> {
+    fn from_parts(Newtype(part): Newtype<T>) -> NewtypeStruct<T> {
+        NewtypeStruct(part)
     }
 }
 
@@ -292,8 +309,7 @@ impl<T: Readable> Readable for NewtypeStruct<T> {
 
 impl<'de, R: Read<'de>, T: Deserialize<'de, R>> Deserialize<'de, R> for NewtypeStruct<T> {
     fn deserialize(de: &mut Deserializer<R>) -> Result<NewtypeStruct<T>> {
-        let inner = T::deserialize(de)?;
-        Ok(NewtypeStruct(inner))
+        Self::read_described(de, &[])
     }
 }
 

@@ -10,11 +10,28 @@ use serde_cbor::{Deserializer, Result};
 #[derive(Debug, Drop)]
 pub struct UnitStruct;
 
+impl Schema for UnitStruct {
+    ghost use Rattle.std.specs.Prelude.{[]};
+    ghost use Rattle.serde_cbor.specs.Schemas.{newtype};
+
+    type Parts = Newtype<()>;
+
+    ghost names = { [] };
+
+    ghost parts = { λ _. newtype tt };
+}
+
 impl Serialize for UnitStruct {
     ghost document = { λ _. ⟦<() as Serialize>⟧.document tt };
 
     fn serialize<W: Write>(&self, ser: &mut Serializer<W>) -> Result<()> {
         ser.serialize_unit_struct("UnitStruct")
+    }
+}
+
+impl FromParts for UnitStruct {
+    fn from_parts(Newtype(()): Self::Parts) -> UnitStruct {
+        UnitStruct
     }
 }
 
@@ -24,8 +41,7 @@ impl Readable for UnitStruct {
 
 impl<'de, R: Read<'de>> Deserialize<'de, R> for UnitStruct {
     fn deserialize(de: &mut Deserializer<R>) -> Result<UnitStruct> {
-        <()>::deserialize(de)?;
-        Ok(UnitStruct)
+        Self::read_described(de, &[])
     }
 }
 

@@ -52,6 +52,11 @@ impl<F: FieldsDocument> PartsDocument for F {
     ghost document = { λ names p. structure (F.fields names p) };
 }
 
+/// A struct is written as its one part.
+impl<T: Serialize + Drop> PartsDocument for Newtype<T> {
+    ghost document = { λ names p. T.document p.0 };
+}
+
 impl<A: VariantDocument> PartsDocument for OneOf1<A> {
     ghost use Rattle.cbor_ser.specs.OneOfs.{document1};
 

@@ -6,7 +6,7 @@ mod records;
 mod shapes;
 
 use by_hand::Bar;
-use records::{Label, Pair, Reading, Settings, User};
+use records::{Label, Metres, Pair, Reading, Settings, User};
 use serde_cbor::bytes::ByteArray;
 use serde_cbor::ser::to_vec_packed;
 use serde_cbor::{Result, from_reader, from_slice, to_vec};
@@ -30,6 +30,7 @@ fn print_all(rt: &HostRuntime) -> Result<()> {
     print_settings(rt)?;
     print_label(rt)?;
     print_pair(rt)?;
+    print_metres(rt)?;
     print_bar(rt)
 }
 
@@ -107,6 +108,15 @@ fn print_pair(rt: &HostRuntime) -> Result<()> {
         },
     )?;
     let read: Pair<u64> = from_slice(alloc, bytes.as_slice())?;
+    println!(rt; "{read:?}")?;
+    Ok(())
+}
+
+fn print_metres(rt: &HostRuntime) -> Result<()> {
+    let alloc = rt.alloc();
+    let bytes = to_vec(alloc, &Metres(500))?;
+    println!(rt; "{:?}", bytes.as_slice())?;
+    let read: Metres = from_slice(alloc, bytes.as_slice())?;
     println!(rt; "{read:?}")?;
     Ok(())
 }

@@ -1,13 +1,13 @@
 //! Structs.
 
-ghost use Rattle.std.specs.Prelude.{map};
-ghost use Rattle.serde_cbor.specs.Schemas.{optional, or_default};
+ghost use Rattle.std.specs.Prelude.{[], map};
+ghost use Rattle.serde_cbor.specs.Schemas.{newtype, optional, or_default};
 ghost use Rattle.own_types.specs.declared.records.TheConstants.{LABEL, PAIR, READING, SETTINGS};
 ghost use Rattle.own_types.specs.declared.records.TheConstants.{USER};
 
 use serde_cbor::bytes::ByteArray;
 use serde_cbor::de::{Deserialize, DeserializeOwned, FromParts, Read, Readable, ReadableParts};
-use serde_cbor::parts::{Optional, OrDefault, Schema};
+use serde_cbor::parts::{Newtype, Optional, OrDefault, Schema};
 use serde_cbor::round_trip::PartsRoundTrip;
 use serde_cbor::ser::{OptionalField, PartsDocument, Serialize, Serializer, Write};
 use serde_cbor::{Deserializer, Result, RoundTrip};
@@ -66,9 +66,6 @@ impl RoundTrip for User {
 
     ghost law = { by_description ⟦<User as Schema>⟧.names ⟦<User as Schema>⟧.parts
         ⟦<<User as Schema>::Parts as PartsRoundTrip>⟧.law refl refl };
-
-    ghost fits = { λ u. ⟦<<User as Schema>::Parts as PartsRoundTrip>⟧.fits
-        (⟦<User as Schema>⟧.parts u) };
 
     ghost back = { Self.law.back };
 }
@@ -178,9 +175,6 @@ impl RoundTrip for Settings {
     ghost law = { by_description ⟦<Settings as Schema>⟧.names ⟦<Settings as Schema>⟧.parts
         ⟦<<Settings as Schema>::Parts as PartsRoundTrip>⟧.law refl refl };
 
-    ghost fits = { λ s. ⟦<<Settings as Schema>::Parts as PartsRoundTrip>⟧.fits
-        (⟦<Settings as Schema>⟧.parts s) };
-
     ghost back = { Self.law.back };
 }
 
@@ -261,4 +255,56 @@ impl<'de, R: Read<'de>, T: Deserialize<'de, R>> Deserialize<'de, R> for Pair<T> 
     fn deserialize(de: &mut Deserializer<R>) -> Result<Pair<T>> {
         Self::read_described(de, PAIR)
     }
+}
+
+/// A distance, which is written and read as its number.
+#[derive(Debug, Drop)]
+pub struct Metres(pub u32);
+
+impl Schema for Metres {
+    type Parts = Newtype<u32>;
+
+    ghost names = { [] };
+
+    ghost parts = { λ m. newtype m.0 };
+}
+
+impl Serialize for Metres {
+    ghost document = { λ m. ⟦<<Metres as Schema>::Parts as PartsDocument>⟧.document
+        ⟦<Metres as Schema>⟧.names (⟦<Metres as Schema>⟧.parts m) };
+
+    fn serialize<W: Write>(&self, ser: &mut Serializer<W>) -> Result<()> {
+        ser.serialize_newtype_struct("Metres", &self.0)
+    }
+}
+
+impl FromParts for Metres {
+    fn from_parts(Newtype(metres): Self::Parts) -> Metres {
+        Metres(metres)
+    }
+}
+
+impl Readable for Metres {
+    ghost reads = { λ c r m. ⟦<<Metres as Schema>::Parts as ReadableParts>⟧.reads
+        ⟦<Metres as Schema>⟧.names c r (⟦<Metres as Schema>⟧.parts m) };
+}
+
+impl<'de, R: Read<'de>> Deserialize<'de, R> for Metres {
+    fn deserialize(de: &mut Deserializer<R>) -> Result<Metres> {
+        Self::read_described(de, &[])
+    }
+}
+
+impl DeserializeOwned for Metres {
+    ghost same = { λ f a b r m h. h };
+}
+
+impl RoundTrip for Metres {
+    ghost use Rattle.std.specs.Prelude.{refl};
+    ghost use Rattle.serde_cbor.specs.TypeLaws.{by_description};
+
+    ghost law = { by_description ⟦<Metres as Schema>⟧.names ⟦<Metres as Schema>⟧.parts
+        ⟦<<Metres as Schema>::Parts as PartsRoundTrip>⟧.law refl refl };
+
+    ghost back = { Self.law.back };
 }

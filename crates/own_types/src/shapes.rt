@@ -109,8 +109,5 @@ impl RoundTrip for Shape {
     ghost law = { by_description ⟦<Shape as Schema>⟧.names ⟦<Shape as Schema>⟧.parts
         ⟦<<Shape as Schema>::Parts as PartsRoundTrip>⟧.law refl refl };
 
-    ghost fits = { λ s. ⟦<<Shape as Schema>::Parts as PartsRoundTrip>⟧.fits
-        (⟦<Shape as Schema>⟧.parts s) };
-
     ghost back = { Self.law.back };
 }
