@@ -218,7 +218,7 @@ pub fn from_mut_slice<'a, T: Deserialize<'a, MutSliceRead<'a>>>(
 }
 
 /// What the one item that the reader's bytes spell is read as, as by [`from_slice`]. It reads to
-/// the reader's end, and takes memory for what came alone.
+/// the reader's end, and takes memory for what came alone, also for a `char` and a `ByteArray`.
 ///
 /// It refuses as `from_slice` does, with `Io` where the reader reports a fault (an interrupted read
 /// is one), and with `LengthOutOfRange` where it gives 2^64 bytes and more.
