@@ -9,8 +9,8 @@ ghost use Rattle.cbor_scalars.specs.Identifiers.{texts};
 ghost use Rattle.cbor_typed.specs.Structs.{IsAny, IsStruct};
 ghost use Rattle.cbor_scalars.specs.Takes.{TakesItem, context, formats_of};
 
-use cbor_collections::map::{end_map, map_head};
 use cbor_io::error::Result;
+use cbor_typed::inner::{end_map, leave_to, map_head};
 use cbor_typed::{
     Deserialize, Deserializer, Field, FieldType, IgnoredAny, Read, duplicate_field, missing_field,
     next_key,
@@ -245,7 +245,7 @@ where
     ensures formats { de.new.items.formats ≡ de.old.items.formats }
 {
     if slot.is_some() {
-        return Err(duplicate_field(de.items.alloc, name));
+        return Err(duplicate_field(de.alloc(), name));
     }
     match <A::Of as Deserialize<'de, R>>::deserialize(de) {
         Ok(value) => {
@@ -283,9 +283,9 @@ pub(crate) fn read_fields<'de, R: Read<'de>, F: ReadFields<'de, R>>(
     ensures levels { de.new.items.levels ≡ de.old.items.levels }
     ensures formats { de.new.items.formats ≡ de.old.items.formats }
 {
-    let outer = de.items.levels;
+    let outer = de.levels_left();
     let read = fields_within::<R, F>(de, names);
-    de.items.levels = outer;
+    leave_to(de, outer);
     read
 }
 
@@ -301,7 +301,7 @@ fn fields_within<'de, R: Read<'de>, F: ReadFields<'de, R>>(
         (R.source de.new.items.source) result }
     ensures formats { de.new.items.formats ≡ de.old.items.formats }
 {
-    let mut remaining = map_head(&mut de.items)?;
+    let mut remaining = map_head(de)?;
     let mut held = F::none();
     'fields: while let Some(field) = next_key(de, &mut remaining, names)? {
         match field {
@@ -309,7 +309,7 @@ fn fields_within<'de, R: Read<'de>, F: ReadFields<'de, R>>(
             Field::Unknown => skip_item(de)?,
         }
     }
-    let parts = F::required(de.items.alloc, names, held)?;
-    end_map(&mut de.items, remaining)?;
+    let parts = F::required(de.alloc(), names, held)?;
+    end_map(de, remaining)?;
     Ok(parts)
 }

@@ -10,12 +10,11 @@ ghost use Rattle.cbor_collections.specs.Variants.{TakesContent};
 ghost use Rattle.cbor_model.specs.Readable.{PassesTags};
 
 use crate::parts::{ReadParts, ReadableParts};
-use cbor_collections::array::{end_array, more_items};
-use cbor_collections::variant::{Form, no_part, parts, variant_head};
 use cbor_de::Remaining;
 use cbor_io::error::{Error, Result};
 use cbor_parts::{FieldNames, Newtype, Struct, Tuple};
-use cbor_typed::{Deserialize, Deserializer, Read, Readable, invalid_length, one_part};
+use cbor_typed::inner::{end_array, leave_to, more_items, no_part, parts, variant_head};
+use cbor_typed::{Deserialize, Deserializer, Form, Read, Readable, invalid_length, one_part};
 
 // ---- a variant
 
@@ -46,7 +45,7 @@ impl Variant for () {
 
 impl<'de, R: Read<'de>> ReadVariant<'de, R> for () {
     fn read_content(de: &mut Deserializer<R>, form: Form) -> Result<()> {
-        no_part(&mut de.items, form)
+        no_part(de, form)
     }
 }
 
@@ -77,7 +76,7 @@ impl<F: ReadableTuple> Variant for Tuple<F> {
 
 impl<'de, R: Read<'de>, F: ReadTuple<'de, R>> ReadVariant<'de, R> for Tuple<F> {
     fn read_content(de: &mut Deserializer<R>, form: Form) -> Result<Tuple<F>> {
-        let remaining = parts(&mut de.items, form)?;
+        let remaining = parts(de, form)?;
         match F::read_tuple(de, remaining) {
             Ok(parts) => Ok(Tuple(parts)),
             Err(e) => Err(e),
@@ -192,7 +191,7 @@ impl<'de, R: Read<'de>> ReadItems<'de, R> for () {
         _before: usize,
         _expected: usize,
     ) -> Result<()> {
-        end_array(&mut de.items, remaining)
+        end_array(de, remaining)
     }
 }
 
@@ -255,7 +254,7 @@ impl VariantList for Never {
 
 impl<'de, R: Read<'de>> ReadVariants<'de, R> for Never {
     fn read_variant(de: &mut Deserializer<R>, _form: Form, _i: usize) -> Result<Never> {
-        Err(Error::message(de.items.alloc, "unknown variant"))
+        Err(Error::message(de.alloc(), "unknown variant"))
     }
 }
 
@@ -295,9 +294,9 @@ fn next_part<'de, R: Read<'de>, T: Deserialize<'de, R>>(
     ensures levels { de.new.items.levels ≡ de.old.items.levels }
     ensures formats { de.new.items.formats ≡ de.old.items.formats }
 {
-    match more_items(&mut de.items, remaining) {
+    match more_items(de, remaining) {
         Ok(true) => T::deserialize(de),
-        Ok(false) => Err(invalid_length(de.items.alloc, before, expected)),
+        Ok(false) => Err(invalid_length(de.alloc(), before, expected)),
         Err(e) => Err(e),
     }
 }
@@ -315,9 +314,9 @@ pub(crate) fn read_variants<'de, R: Read<'de>, E: ReadVariants<'de, R>>(
     ensures levels { de.new.items.levels ≡ de.old.items.levels }
     ensures formats { de.new.items.formats ≡ de.old.items.formats }
 {
-    let outer = de.items.levels;
+    let outer = de.levels_left();
     let read = variants_within::<R, E>(de, names);
-    de.items.levels = outer;
+    leave_to(de, outer);
     read
 }
 
@@ -333,6 +332,6 @@ fn variants_within<'de, R: Read<'de>, E: ReadVariants<'de, R>>(
         (R.source de.new.items.source) result }
     ensures formats { de.new.items.formats ≡ de.old.items.formats }
 {
-    let (index, form) = variant_head(&mut de.items, names)?;
+    let (index, form) = variant_head(de, names)?;
     E::read_variant(de, form, index)
 }

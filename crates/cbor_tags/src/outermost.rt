@@ -8,6 +8,7 @@ ghost use Rattle.cbor_tags.specs.Tagged.{StandsNoTag};
 use cbor_io::error::Result;
 use cbor_read::Source;
 use cbor_typed::Deserializer;
+use cbor_typed::inner::{error_of, peek};
 
 /// Takes the head of the tag that the item at the front is within, and goes one level in, as
 /// `Deserializer::read_tag` does; None, which takes nothing, where it is within none.
@@ -22,12 +23,9 @@ pub(crate) fn outermost<R: Source>(de: &mut Deserializer<R>) -> Result<Option<u6
     ensures levels { LevelsBehind result de.old.items.levels de.new.items.levels }
     ensures formats { de.new.items.formats ≡ de.old.items.formats }
 {
-    match de.items.source.peek() {
+    match peek(de) {
         Ok(Some(_first)) => de.read_tag(),
         Ok(None) => Ok(None),
-        Err(refusal) => {
-            let refused = de.items.keep(refusal);
-            Err(de.items.error(refused))
-        }
+        Err(refusal) => Err(error_of(de, refusal)),
     }
 }

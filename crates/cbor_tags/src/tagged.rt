@@ -88,7 +88,7 @@ impl<T: Readable> Readable for Tagged<T> {
 
 impl<'de, R: Read<'de>, T: Deserialize<'de, R>> Deserialize<'de, R> for Tagged<T> {
     fn deserialize(de: &mut Deserializer<R>) -> Result<Tagged<T>> {
-        let _levels = de.items.levels;
+        let _levels = de.levels_left();
         match outermost(de) {
             Ok(Some(tag)) => {
                 let value = T::deserialize(de);

@@ -29,8 +29,8 @@ use std::io;
 /// ```
 #[derive(Drop)]
 pub struct Deserializer<R> {
-    /// What reads items.
-    pub items: Items<R>,
+    // What reads items.
+    pub(crate) items: Items<R>,
 }
 
 impl<'a> Deserializer<SliceRead<'a>> {

@@ -14,6 +14,7 @@ mod de;
 mod deserialize;
 mod field_type;
 mod from;
+pub mod inner;
 mod laws;
 mod map;
 mod scalars;

@@ -116,7 +116,7 @@ returns-in_err-end_map-clause-read g c =
     let e = c.in_err-end_map.field-0.0 in
     let nothing = rw c.in_default.is at c.in_ok-field.ensures.remains in
     unread names fields g.R.Source.refusals old.formats old.levels (g.R.Source.source old.source) _ e c.from_residual-in_err-end_map.result c.from_residual-in_err-end_map.ensures.1
-    (end_unread names fields c.fields.invariant.so_far c.in_ok-field.field-0 c.in_default.is refl c.next_key.new.remaining c.in_ok-field.ensures.read g.R.Source.refusals (g.R.Source.source c.end_map.new.items.source) e nothing c.in_err-end_map.ensures.read)
+    (end_unread names fields c.fields.invariant.so_far c.in_ok-field.field-0 c.in_default.is refl c.next_key.new.remaining c.in_ok-field.ensures.read g.R.Source.refusals (g.R.Source.source c.end_map.new.de.items.source) e nothing c.in_err-end_map.ensures.read)
 
 pub returns-clause-read : goal.returns-clause-read
 returns-clause-read g c =

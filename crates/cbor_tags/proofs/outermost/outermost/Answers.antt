@@ -1,6 +1,7 @@
-use Rattle.std.proofs.Common.{ℕ, List, Option}
+use Rattle.std.proofs.Common.{ℕ, List, Option, Some, refl}
 use Rattle.cbor_model.specs.Reader.{Reads}
 use Rattle.cbor_de.specs.Gives.{Limits}
+use Rattle.cbor_de.specs.declared.refusal.Refused.TheVariants.{Kept}
 use Rattle.cbor_scalars.specs.Tags.{tag_head_at}
 use Rattle.cbor_scalars.proofs.facts.Refusals.{told_by}
 use Rattle.cbor_de.proofs.facts.Steps.{source_stops, byte_refused}
@@ -10,5 +11,6 @@ pub returns-in-Err-clause-refused : goal.returns-in-Err-clause-refused
 returns-in-Err-clause-refused g c =
     let s = g.R.Source.source c.args.de.now.items.source in
     let read : Limits → List ℕ → Reads (Option ℕ) = λ l. tag_head_at c.args.de.now.items.levels in
-    told_by g.R.Source.refusals read s _ c.keep-refused.result c.error.result c.error.ensures.tells
-    (source_stops g.R.Source.refusals s read _ c.keep-refused.result c.in-Err.refusal c.keep-refused.ensures.refused c.keep-refused.ensures.kept (byte_refused g.R.Source.refusals s _ c.in-Err.refusal read c.in-Err.ensures.err))
+    let e = c.in-Err.refusal in
+    told_by g.R.Source.refusals read s (Some e) Kept c.error_of.result c.error_of.ensures.tells
+    (source_stops g.R.Source.refusals s read (Some e) Kept e refl refl (byte_refused g.R.Source.refusals s _ e read c.in-Err.ensures.err))

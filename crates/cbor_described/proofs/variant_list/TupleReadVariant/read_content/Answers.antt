@@ -13,7 +13,7 @@ returns-in_err-remaining-clause-read g c =
     let old = c.args.de.now.items in
     let items = g.F.ReadableTuple.parts (context old.formats g.R.Source.lends) in
     let s = g.R.Source.source old.source in
-    let t = g.R.Source.source c.parts.new.items.source in
+    let t = g.R.Source.source c.parts.new.de.items.source in
     let e = c.in_err-remaining.field-0.0 in
     rw (passed.1, passed.2) (content_not_made (formats_of old.formats) old.levels c.args.form g.R.Source.refusals s t (AreParts items) (λ content y. AreParts items content y.0) e (λ content y h. (y.0, h))
     (no_parts items (formats_of old.formats) old.levels c.args.form g.R.Source.refusals s e c.in_err-remaining.ensures.read))
@@ -21,7 +21,7 @@ returns-in_err-remaining-clause-read g c =
 pub returns-in-Ok-clause-read : goal.returns-in-Ok-clause-read
 returns-in-Ok-clause-read g c =
     let old = c.args.de.now.items in
-    let mid = c.parts.new.items in
+    let mid = c.parts.new.de.items in
     let items = λ (f : Formats). g.F.ReadableTuple.parts (context f g.R.Source.lends) in
     let s = g.R.Source.source old.source in
     let m = g.R.Source.source mid.source in
@@ -34,7 +34,7 @@ returns-in-Ok-clause-read g c =
 pub returns-in-Err-clause-read : goal.returns-in-Err-clause-read
 returns-in-Err-clause-read g c =
     let old = c.args.de.now.items in
-    let mid = c.parts.new.items in
+    let mid = c.parts.new.de.items in
     let items = λ (f : Formats). g.F.ReadableTuple.parts (context f g.R.Source.lends) in
     let s = g.R.Source.source old.source in
     let m = g.R.Source.source mid.source in

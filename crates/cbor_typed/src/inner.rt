@@ -1,0 +1,201 @@
+//! Steps of reading, for the crates above that read structs, enums and tags. Users have
+//! [`MapAccess`](crate::MapAccess), [`SeqAccess`](crate::SeqAccess) and
+//! [`VariantAccess`](crate::VariantAccess), which keep count of the levels.
+
+ghost use Rattle.std.specs.Prelude.{◌≡◌, ◌<◌, [], ◌∷◌, Some, codes, length, take};
+ghost use Rattle.std.specs.Prelude.{IfOk, IfErr, IfSome, MatchOption, OnOk, OnErr};
+ghost use Rattle.cbor_io.specs.Error.{code_of};
+ghost use Rattle.cbor_read.specs.Source.{RefusedByte, Stays};
+ghost use Rattle.cbor_de.specs.Cursor.{Counts};
+ghost use Rattle.cbor_de.specs.Gives.{IsErrorOf, TellsNoForm};
+ghost use Rattle.cbor_de.specs.declared.head.Head.TheVariants as kind;
+ghost use Rattle.cbor_de.specs.declared.refusal.Refused.TheVariants.{Kept};
+ghost use Rattle.cbor_scalars.specs.Identifiers.{texts};
+ghost use Rattle.cbor_scalars.specs.Takes.{formats_of};
+ghost use Rattle.cbor_collections.specs.Accesses.{TakesMore, TakesEnd};
+ghost use Rattle.cbor_collections.specs.Begins.{TakesBeginning};
+ghost use Rattle.cbor_collections.specs.BeginsEnum.{TakesPartsHead, TakesVariantHead};
+ghost use Rattle.cbor_collections.specs.Cases.{Stands, enum_cases, unit_cases};
+ghost use Rattle.cbor_collections.specs.Enums.{IsNothing};
+ghost use Rattle.cbor_collections.specs.MapAccesses.{TakesMapEnd, TakesMapHead};
+ghost use Rattle.cbor_collections.specs.Variants.{IsEntered, IsInside, TakesContent, TakesParts};
+ghost use Rattle.cbor_collections.specs.Variants.{TakesVariant, TellsAlone, alone_text};
+
+use crate::de::Deserializer;
+use cbor_collections::variant::Form;
+use cbor_de::Remaining;
+use cbor_io::error::{Error, Result};
+use cbor_read::{Read, ReadError, Source};
+
+// ---- one byte
+
+/// The next byte, which stays; None at the end.
+#[inline(always)]
+pub fn peek<R: Source>(de: &mut Deserializer<R>) -> std::result::Result<Option<u8>, ReadError>
+    ensures stays { OnOk result (Stays (R.source de.old.items.source)
+        (R.source de.new.items.source)) }
+    ensures front { IfOk result (λ o. MatchOption o
+        (IfSome (R.source de.old.items.source).to_come (λ bs. bs ≡ []))
+        (λ b. IfSome (R.source de.old.items.source).to_come (λ bs. take 1 bs ≡ b ∷ []))) }
+    ensures err { IfErr result (RefusedByte R.refusals (R.source de.old.items.source)
+        (R.source de.new.items.source)) }
+    ensures levels { de.new.items.levels ≡ de.old.items.levels }
+    ensures formats { de.new.items.formats ≡ de.old.items.formats }
+{
+    de.items.source.peek()
+}
+
+/// The error of a call whose source refused.
+#[cold]
+#[inline(never)]
+pub fn error_of<R: Source>(de: &mut Deserializer<R>, refusal: ReadError) -> Error
+    ensures tells { IsErrorOf (Some refusal) Kept result }
+    ensures source { de.new.items.source ≡ de.old.items.source }
+    ensures levels { de.new.items.levels ≡ de.old.items.levels }
+    ensures formats { de.new.items.formats ≡ de.old.items.formats }
+{
+    let refused = de.items.keep(refusal);
+    de.items.error(refused)
+}
+
+// ---- levels
+
+/// Leaves arrays, maps and tags, up to where so many levels were left.
+#[inline(always)]
+pub fn leave_to<R>(de: &mut Deserializer<R>, outer: u64)
+    ensures levels { de.new.items.levels ≡ outer }
+    ensures source { de.new.items.source ≡ de.old.items.source }
+    ensures formats { de.new.items.formats ≡ de.old.items.formats }
+{
+    de.items.levels = outer;
+}
+
+// ---- maps
+
+/// Takes the tags and the head of a map, and goes one level in, as [`Deserializer::map`] does.
+#[inline(always)]
+pub fn map_head<R: Source>(de: &mut Deserializer<R>) -> Result<Remaining>
+    ensures read { TakesMapHead R.refusals (formats_of de.old.items.formats)
+        de.old.items.levels (R.source de.old.items.source)
+        (R.source de.new.items.source) de.new.items.levels result }
+    ensures opened { TakesBeginning kind.Map R.refusals de.old.items.levels
+        (R.source de.old.items.source) (R.source de.new.items.source)
+        de.new.items.levels result }
+    ensures no_form { IfErr result (λ e. TellsNoForm (code_of e)) }
+    ensures inside { IfOk result (λ r. de.new.items.levels < de.old.items.levels) }
+    ensures outer { OnErr result (de.new.items.levels ≡ de.old.items.levels) }
+    ensures formats { de.new.items.formats ≡ de.old.items.formats }
+{
+    cbor_collections::map::map_head(&mut de.items)
+}
+
+/// Takes the end of a map of which so much remains. Pairs that weren't read are refused with
+/// `TrailingData`.
+#[inline(always)]
+pub fn end_map<R: Source>(de: &mut Deserializer<R>, remaining: Remaining) -> Result<()>
+    ensures read { TakesMapEnd R.refusals remaining
+        (R.source de.old.items.source) (R.source de.new.items.source) result }
+    ensures no_form { IfErr result (λ e. TellsNoForm (code_of e)) }
+    ensures levels { de.new.items.levels ≡ de.old.items.levels }
+    ensures formats { de.new.items.formats ≡ de.old.items.formats }
+{
+    cbor_collections::map::end_map(&mut de.items, remaining)
+}
+
+// ---- arrays
+
+/// Whether another item of an array comes, of which so much remains; its first byte stays. An array
+/// of indefinite length that has no end is refused with `EofWhileParsingArray`.
+#[inline(always)]
+pub fn more_items<R: Source>(de: &mut Deserializer<R>, remaining: &mut Remaining) -> Result<bool>
+    ensures read { TakesMore R.refusals remaining.old remaining.new
+        (R.source de.old.items.source) (R.source de.new.items.source) result }
+    ensures counts { IfOk result (λ more. Counts remaining.old more remaining.new) }
+    ensures no_form { IfErr result (λ e. TellsNoForm (code_of e)) }
+    ensures levels { de.new.items.levels ≡ de.old.items.levels }
+    ensures formats { de.new.items.formats ≡ de.old.items.formats }
+{
+    cbor_collections::array::more_items(&mut de.items, remaining)
+}
+
+/// Takes the end of an array of which so much remains. Items that weren't read are refused with
+/// `TrailingData`.
+#[inline(always)]
+pub fn end_array<R: Source>(de: &mut Deserializer<R>, remaining: Remaining) -> Result<()>
+    ensures read { TakesEnd R.refusals remaining
+        (R.source de.old.items.source) (R.source de.new.items.source) result }
+    ensures no_form { IfErr result (λ e. TellsNoForm (code_of e)) }
+    ensures levels { de.new.items.levels ≡ de.old.items.levels }
+    ensures formats { de.new.items.formats ≡ de.old.items.formats }
+{
+    cbor_collections::array::end_array(&mut de.items, remaining)
+}
+
+// ---- enums
+
+/// Takes an enum up to its identifier, of which it returns the place among the names. It refuses
+/// what [`Deserializer::variant`] refuses, and leaves the levels then that it took.
+#[inline(always)]
+pub fn variant_head<'de, R: Read<'de>>(
+    de: &mut Deserializer<R>,
+    names: &[&str],
+) -> Result<(usize, Form)>
+    ensures read { TakesVariant R.refusals (formats_of de.old.items.formats)
+        (texts names.now) de.old.items.levels
+        (R.source de.old.items.source) (R.source de.new.items.source)
+        de.new.items.levels result }
+    ensures opened { TakesVariantHead R.refusals
+        (formats_of de.old.items.formats) (texts names.now) de.old.items.levels
+        (R.source de.old.items.source) (R.source de.new.items.source)
+        de.new.items.levels result }
+    ensures cases { IfErr result (λ e. Stands (R.source de.old.items.source) e
+        (enum_cases (formats_of de.old.items.formats)
+        de.old.items.levels)) }
+    ensures below { IfOk result (λ v. v.0 < length names.now) }
+    ensures inside { IfOk result (λ v. IsInside v.1 de.new.items.levels
+        de.old.items.levels) }
+    ensures outer { OnErr result (de.new.items.levels ≡ de.old.items.levels) }
+    ensures formats { de.new.items.formats ≡ de.old.items.formats }
+{
+    cbor_collections::variant::variant_head(&mut de.items, names)
+}
+
+/// Takes the content of a variant of several parts up to the first of them.
+///
+/// An identifier alone is refused with `invalid type: unit variant, expected tuple variant`, and in
+/// a map an item that is no array as [`Deserializer::array`] refuses it.
+#[inline(always)]
+pub fn parts<R: Source>(de: &mut Deserializer<R>, form: Form) -> Result<Remaining>
+    ensures read { TakesParts R.refusals (formats_of de.old.items.formats)
+        de.old.items.levels form
+        (R.source de.old.items.source) (R.source de.new.items.source)
+        de.new.items.levels result }
+    ensures opened { TakesPartsHead R.refusals de.old.items.levels form
+        (R.source de.old.items.source) (R.source de.new.items.source)
+        de.new.items.levels result }
+    ensures alone { IfErr result (TellsAlone (alone_text (codes "tuple")) form) }
+    ensures no_form { IfErr result (λ e. TellsNoForm (code_of e)) }
+    ensures inside { IfOk result (λ r. IsEntered form de.old.items.levels
+        de.new.items.levels) }
+    ensures formats { de.new.items.formats ≡ de.old.items.formats }
+{
+    cbor_collections::variant::parts(&mut de.items, form)
+}
+
+/// Reads the content of a variant of no part: nothing, or null or undefined where the enum is an
+/// array or a map.
+///
+/// An array in which nothing follows the identifier is refused with `ArrayTooLong`.
+#[inline(always)]
+pub fn no_part<R: Source>(de: &mut Deserializer<R>, form: Form) -> Result<()>
+    ensures read { TakesContent R.refusals (formats_of de.old.items.formats)
+        IsNothing
+        de.old.items.levels form
+        (R.source de.old.items.source) (R.source de.new.items.source) result }
+    ensures cases { IfErr result (λ e. Stands (R.source de.old.items.source) e
+        (unit_cases form)) }
+    ensures levels { de.new.items.levels ≡ de.old.items.levels }
+    ensures formats { de.new.items.formats ≡ de.old.items.formats }
+{
+    cbor_collections::variant::no_part(&mut de.items, form)
+}
