@@ -10,6 +10,7 @@ pub mod Values
 pub mod OfValues
 pub mod facts
 pub mod Memory
+pub mod Forms
 pub mod Characters
 pub mod ByteStrings
 pub mod Fields

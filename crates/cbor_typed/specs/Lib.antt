@@ -4,6 +4,7 @@ pub mod Options
 pub mod FieldTypes
 pub mod ByteStrings
 pub mod Whole
+pub mod Forms
 pub mod Alike
 pub mod FirstOfItem
 pub mod ItemTaken

@@ -1,7 +1,9 @@
 //! Whether another item of an array comes.
 
 ghost use Rattle.std.specs.Prelude.{◌≡◌, ◌<◌, IfOk, IfErr};
+ghost use Rattle.cbor_io.specs.Error.{code_of};
 ghost use Rattle.cbor_de.specs.Cursor.{Counts};
+ghost use Rattle.cbor_de.specs.Gives.{TellsNoForm};
 ghost use Rattle.cbor_collections.specs.Accesses.{TakesMore};
 
 use crate::sequence::SeqAccess;
@@ -19,6 +21,7 @@ impl<'a, R: Source> SeqAccess<'a, R> {
         ensures read { TakesMore R.refusals self.old.remaining self.new.remaining
             (R.source self.old.de.now.items.source) (R.source self.new.de.now.items.source) result }
         ensures counts { IfOk result (λ more. Counts self.old.remaining more self.new.remaining) }
+        ensures no_form { IfErr result (λ e. TellsNoForm (code_of e)) }
         ensures inside { IfOk result (λ more.
             self.new.de.now.items.levels ≡ self.old.de.now.items.levels) }
         ensures left { IfErr result (λ e. self.new.de.now.items.levels ≡ self.old.outer) }

@@ -2,7 +2,9 @@
 
 ghost use Rattle.std.specs.Prelude.{◌≡◌, IfErr};
 ghost use Rattle.cbor_read.specs.Source.{asks_for};
+ghost use Rattle.cbor_io.specs.Error.{code_of};
 ghost use Rattle.cbor_scalars.specs.Takes.{TakesItem, TellsItem, MemoryFor, context, formats_of};
+ghost use Rattle.cbor_typed.specs.Forms.{FormOnlyIf};
 
 use crate::de::Deserializer;
 use cbor_io::error::Result;
@@ -19,8 +21,12 @@ use cbor_read::Read;
 /// `asks_memory` says for which items memory may be asked, where a source asks for it to hand out
 /// bytes or to join chunks: where another item is read, memory doesn't run out. It may be asked for
 /// any, unless a type says otherwise.
+///
+/// `tells_form` says whether the type may refuse an item for its form: only then is a refusal
+/// `ArrayTooShort`, `ArrayTooLong`, `WrongEnumFormat` or `WrongStructFormat`. A type may, unless it
+/// says otherwise.
 pub trait Readable: Sized + Drop {
-    ghost use Rattle.std.specs.Prelude.{⊤, Bool, false};
+    ghost use Rattle.std.specs.Prelude.{⊤, Bool, true, false};
     ghost use Rattle.cbor_model.specs.Raw.{Raw};
     ghost use Rattle.cbor_model.specs.Readable.{Context};
     ghost use Rattle.cbor_read.specs.Source.{Asks};
@@ -30,6 +36,8 @@ pub trait Readable: Sized + Drop {
     ghost total: { Bool } = { false };
 
     ghost asks_memory: { Asks → Raw → Type 0 } = { λ a r. ⊤ };
+
+    ghost tells_form: { Bool } = { true };
 }
 
 /// A type that is read from a source.
@@ -195,6 +203,7 @@ pub trait Deserialize<'de, R: Read<'de>>: Readable {
             (formats_of de.old.items.formats)
             (Self.reads (context de.old.items.formats R.lends)) de.old.items.levels
             (R.source de.old.items.source)) }
+        ensures form { IfErr result (λ e. FormOnlyIf Self.tells_form (code_of e)) }
         ensures levels { de.new.items.levels ≡ de.old.items.levels }
         ensures formats { de.new.items.formats ≡ de.old.items.formats };
 }

@@ -10,12 +10,13 @@ ghost use Rattle.cbor_model.specs.Plain.{Val};
 ghost use Rattle.cbor_model.specs.Raw.{AreBytes, longest_joined};
 ghost use Rattle.cbor_model.specs.Readable.{SpellsAs};
 ghost use Rattle.cbor_model.specs.Reader.{read_value, read_value_in};
-ghost use Rattle.cbor_io.specs.Error.{IsOutOfMemory};
+ghost use Rattle.cbor_io.specs.Error.{code_of, IsOutOfMemory};
 ghost use Rattle.cbor_de.specs.FirstRefusal.{TellsFirst};
 ghost use Rattle.cbor_de.specs.Gives.{Fails, FailsOrFaults, Gave};
 ghost use Rattle.cbor_de.specs.Gives.{IsMemoryOrFault, IsScratchOrMemory};
 ghost use Rattle.cbor_read.specs.Source.{asks_for};
 ghost use Rattle.cbor_scalars.specs.Takes.{context, formats_of, lending, MemoryFor, WhereTotal};
+ghost use Rattle.cbor_typed.specs.Forms.{FormOnlyIf};
 ghost use Rattle.cbor_typed.specs.Whole.{ReadsAll, TellsWhole, from_slice_context};
 ghost use Rattle.cbor_typed.specs.Whole.{from_mut_slice_context, from_reader_context};
 ghost use Rattle.cbor_typed.specs.Whole.{asks_none, from_reader_asks, from_slice_asks};
@@ -35,6 +36,7 @@ fn read_all<'de, T: Deserialize<'de, R>, R: Read<'de> + Drop>(alloc: Global, sou
         (R.source source)) }
     ensures memory { IfErr result (MemoryFor (T.asks_memory (asks_for R.refusals R.lends))
         all_formats (T.reads (lending all_formats R.lends)) max_depth (R.source source)) }
+    ensures form { IfErr result (λ e. FormOnlyIf T.tells_form (code_of e)) }
 {
     let mut de = Deserializer::new(alloc, source);
     whole(&mut de)
@@ -51,6 +53,7 @@ fn whole<'de, T: Deserialize<'de, R>, R: Read<'de>>(de: &mut Deserializer<R>) ->
         (T.asks_memory (asks_for R.refusals R.lends)) (formats_of de.old.items.formats)
         (T.reads (context de.old.items.formats R.lends)) de.old.items.levels
         (R.source de.old.items.source)) }
+    ensures form { IfErr result (λ e. FormOnlyIf T.tells_form (code_of e)) }
 {
     let value = match T::deserialize(de) {
         Ok(value) => value,
@@ -100,7 +103,9 @@ fn are_bytes(slice: &[u8])
 ///   of these: where such an item is there, it is read.
 ///
 /// Where several faults stand in one input, a type that reads every item, as `Value` does, returns
-/// the first; of others no clause says which is returned.
+/// the first; of others no clause says which is returned. But a bool, a number, a `char`, `()`, a
+/// string, and an `Option`, a vector, an array or a tuple of these, never refuse an item for its
+/// form, by `ArrayTooShort`, `ArrayTooLong`, `WrongEnumFormat` or `WrongStructFormat`.
 ///
 /// ```rust
 /// let number: u8 = from_slice(alloc, b"\x18\x2a")?;
@@ -134,6 +139,8 @@ pub fn from_slice<'a, T: Deserialize<'a, SliceRead<'a>>>(
     // It tells the fault that the reference reader meets, or that memory ran out.
     ensures refused { IfErr result (λ e.
         WhereTotal T.total (Fails (length slice.now) e (read_value slice.now))) }
+    // Only a type that may refuse an item for its form answers a code that tells a wrong one.
+    ensures form { IfErr result (λ e. FormOnlyIf T.tells_form (code_of e)) }
 {
     read_all(alloc, SliceRead::new(alloc, slice))
 }
@@ -179,6 +186,7 @@ pub fn from_slice_with_scratch<'a, T: Deserialize<'a, SliceReadFixed<'a, 'a>>>(
         (IsOutOfMemory e ⊎ TellsFirst (limits_of (Some (length scratch.old))) slice.now e)) }
     ensures refused { IfErr result (λ e. WhereTotal T.total (Fails (length slice.now) e
         (read_value_in (Some (length scratch.old)) slice.now))) }
+    ensures form { IfErr result (λ e. FormOnlyIf T.tells_form (code_of e)) }
 {
     read_all(alloc, SliceReadFixed::new(slice, scratch))
 }
@@ -212,6 +220,7 @@ pub fn from_mut_slice<'a, T: Deserialize<'a, MutSliceRead<'a>>>(
         (IsOutOfMemory e ⊎ TellsFirst (limits_of None) slice.old e)) }
     ensures refused { IfErr result (λ e.
         WhereTotal T.total (Fails (length slice.old) e (read_value slice.old))) }
+    ensures form { IfErr result (λ e. FormOnlyIf T.tells_form (code_of e)) }
 {
     are_bytes(slice);
     read_all(alloc, MutSliceRead::new(slice))
@@ -263,6 +272,7 @@ pub fn from_reader<'de, T: DeserializeOwned + Deserialize<'de, IoRead<R>>, R: io
     ensures refused { (bytes : List ℕ) → Gave (R.remaining reader) bytes
         → IfErr result (λ e.
         WhereTotal T.total (FailsOrFaults (length bytes) e (read_value bytes))) }
+    ensures form { IfErr result (λ e. FormOnlyIf T.tells_form (code_of e)) }
 {
     read_all(alloc, IoRead::new(alloc, reader))
 }

@@ -14,6 +14,7 @@ ghost use Rattle.cbor_collections.specs.Accesses.{turns, size_of};
 ghost use Rattle.cbor_collections.specs.MapAccesses.{IsMapHead, RefusesMap, TakesKey};
 ghost use Rattle.cbor_collections.specs.MapAccesses.{TakesMapEnd};
 ghost use Rattle.cbor_scalars.specs.Takes.{TakesItem, context, formats_of, raws};
+ghost use Rattle.cbor_typed.specs.Forms.{FormOnlyIf};
 ghost use Rattle.cbor_typed.specs.contracts.de.Deserializer.{the_row};
 
 use crate::de::Deserializer;
@@ -167,6 +168,7 @@ impl<'a, R: Source> MapAccess<'a, R> {
             (V.reads (context self.old.de.now.items.formats R.lends))
             self.old.de.now.items.levels
             (R.source self.old.de.now.items.source) (R.source self.new.de.now.items.source) result }
+        ensures form { IfErr result (λ e. FormOnlyIf V.tells_form (code_of e)) }
         ensures due { IfOk result (λ v. self.new.value_due ≡ false) }
         ensures inside { IfOk result (λ v.
             self.new.de.now.items.levels ≡ self.old.de.now.items.levels) }

@@ -11,6 +11,7 @@ ghost use Rattle.cbor_de.specs.declared.head.Head.TheVariants as kind;
 ghost use Rattle.cbor_collections.specs.Accesses.{IsArrayHead, RefusesArray, TakesNext};
 ghost use Rattle.cbor_collections.specs.Accesses.{TakesPart, TakesEnd, turns, size_of};
 ghost use Rattle.cbor_scalars.specs.Takes.{context, formats_of, raws};
+ghost use Rattle.cbor_typed.specs.Forms.{FormOnlyIf};
 ghost use Rattle.cbor_typed.specs.contracts.de.Deserializer.{the_row};
 
 use crate::de::Deserializer;
@@ -75,8 +76,10 @@ impl<R: Source> Deserializer<R> {
 /// The error of an array that has too few items, as `invalid length 1, expected 2`.
 #[cold]
 #[inline(never)]
+#[tactic(auto, using(crate::proofs::Forms::message_form))]
 pub fn invalid_length(alloc: Global, found: usize, expected: usize) -> Error
     ensures offset { offset_of result ≡ 0 }
+    ensures no_form { TellsNoForm (code_of result) }
 {
     match format!(in alloc; "invalid length {found}, expected {expected}") {
         Ok(text) => Error::message(alloc, text),
@@ -114,6 +117,7 @@ impl<'a, R: Source> SeqAccess<'a, R> {
     /// It refuses as the reading of `T` does, and with `EofWhileParsingArray` where an array of
     /// indefinite length has no end.
     #[inline(always)]
+    #[tactic(auto, using(crate::proofs::Forms::plain))]
     pub fn next_element<'de, T: Deserialize<'de, R>>(&mut self) -> Result<Option<T>>
     where
         R: Read<'de>,
@@ -124,6 +128,7 @@ impl<'a, R: Source> SeqAccess<'a, R> {
             (T.reads (context self.old.de.now.items.formats R.lends))
             self.old.de.now.items.levels self.old.remaining self.new.remaining
             (R.source self.old.de.now.items.source) (R.source self.new.de.now.items.source) result }
+        ensures form { IfErr result (λ e. FormOnlyIf T.tells_form (code_of e)) }
         // Nothing remains after the last item, and a loop over the items ends.
         ensures remains { IfOk result (λ next. MatchOption next
             (self.new.remaining ≡ Counted 0)
@@ -175,6 +180,7 @@ impl<'a, R: Source> SeqAccess<'a, R> {
     /// assert!(rt; flag);
     /// ```
     #[inline(always)]
+    #[tactic(auto, using(crate::proofs::Forms::plain))]
     pub fn part<'de, T: Deserialize<'de, R>>(&mut self, before: usize, expected: usize) -> Result<T>
     where
         R: Read<'de>,
@@ -184,6 +190,7 @@ impl<'a, R: Source> SeqAccess<'a, R> {
             (T.reads (context self.old.de.now.items.formats R.lends))
             self.old.de.now.items.levels self.old.remaining self.new.remaining
             (R.source self.old.de.now.items.source) (R.source self.new.de.now.items.source) result }
+        ensures form { IfErr result (λ e. FormOnlyIf T.tells_form (code_of e)) }
         ensures inside { IfOk result (λ x.
             self.new.de.now.items.levels ≡ self.old.de.now.items.levels) }
         ensures left { IfErr result (λ e. self.new.de.now.items.levels ≡ self.old.outer) }

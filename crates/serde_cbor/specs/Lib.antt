@@ -32,6 +32,7 @@ pub use Rattle.cbor_de.specs.Gives
 pub use Rattle.cbor_de.specs.FirstRefusal
 pub use Rattle.cbor_scalars.specs.Takes
 pub use Rattle.cbor_typed.specs.Whole
+pub use Rattle.cbor_typed.specs.Forms
 pub use Rattle.cbor_typed.specs.Alike
 pub use Rattle.cbor_typed.specs.FirstOfItem
 pub use Rattle.cbor_typed.specs.ItemTaken

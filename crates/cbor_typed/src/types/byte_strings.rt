@@ -1,6 +1,9 @@
 //! Byte strings.
 
+ghost use Rattle.std.specs.Prelude.{IfErr};
+ghost use Rattle.cbor_io.specs.Error.{code_of};
 ghost use Rattle.cbor_read.specs.Source.{part_bytes};
+ghost use Rattle.cbor_de.specs.Gives.{TellsNoForm};
 ghost use Rattle.cbor_typed.specs.ByteStrings.{IsArrayOf};
 
 use crate::de::Deserializer;
@@ -14,10 +17,13 @@ use std::alloc::Global;
 
 /// A byte string. A text isn't one.
 impl Readable for ByteBuf {
+    ghost use Rattle.std.specs.Prelude.{false};
     ghost use Rattle.cbor_model.specs.Readable.{PassesTags};
     ghost use Rattle.cbor_scalars.specs.Strings.{IsByteString};
 
     ghost reads = { λ c. PassesTags (λ r b. IsByteString r b.0.items) };
+
+    ghost tells_form = { false };
 }
 
 impl<'de, R: Read<'de>> Deserialize<'de, R> for ByteBuf {
@@ -36,12 +42,15 @@ impl DeserializeOwned for ByteBuf {
 /// A byte string of exactly `N` bytes. One of another length is refused with
 /// `invalid length n, expected N`.
 impl<const N: usize> Readable for ByteArray<N> {
+    ghost use Rattle.std.specs.Prelude.{false};
     ghost use Rattle.cbor_model.specs.Readable.{PassesTags};
     ghost use Rattle.cbor_scalars.specs.Strings.{AsksForString, IsByteArray};
 
     ghost reads = { λ c. PassesTags (λ r b. IsByteArray N r b.0) };
 
     ghost asks_memory = { AsksForString };
+
+    ghost tells_form = { false };
 }
 
 impl<'de, R: Read<'de>, const N: usize> Deserialize<'de, R> for ByteArray<N> {
@@ -61,7 +70,8 @@ impl<const N: usize> DeserializeOwned for ByteArray<N> {
 // The array that a part is.
 #[inline(always)]
 fn array_of<const N: usize>(part: EitherLifetime<'_, '_>, alloc: Global) -> Result<ByteArray<N>>
-    ensures { IsArrayOf N (part_bytes part.entry) result }
+    ensures read { IsArrayOf N (part_bytes part.entry) result }
+    ensures no_form { IfErr result (λ e. TellsNoForm (code_of e)) }
 {
     match part {
         EitherLifetime::Short(bytes) => array_from(bytes, alloc),
@@ -70,7 +80,8 @@ fn array_of<const N: usize>(part: EitherLifetime<'_, '_>, alloc: Global) -> Resu
 }
 
 fn array_from<const N: usize>(bytes: &[u8], alloc: Global) -> Result<ByteArray<N>>
-    ensures { IsArrayOf N bytes.now result }
+    ensures read { IsArrayOf N bytes.now result }
+    ensures no_form { IfErr result (λ e. TellsNoForm (code_of e)) }
 {
     match <[u8; N]>::try_from(bytes) {
         Ok(array) => Ok(ByteArray(array)),
@@ -80,12 +91,15 @@ fn array_from<const N: usize>(bytes: &[u8], alloc: Global) -> Result<ByteArray<N
 
 /// A byte string, where the source lends it for the input's life.
 impl Readable for Bytes<'_> {
+    ghost use Rattle.std.specs.Prelude.{false};
     ghost use Rattle.cbor_model.specs.Readable.{PassesTags};
     ghost use Rattle.cbor_scalars.specs.Strings.{IsBorrowedBytes};
 
     ghost reads = { λ c. PassesTags (λ r b. IsBorrowedBytes c r b.0.now) };
 
     ghost asks_memory = { λ a r. ⊥ };
+
+    ghost tells_form = { false };
 }
 
 impl<'de, R: Read<'de>> Deserialize<'de, R> for Bytes<'de> {

@@ -1,5 +1,8 @@
 //! Characters.
 
+ghost use Rattle.std.specs.Prelude.{IfErr};
+ghost use Rattle.cbor_io.specs.Error.{code_of};
+ghost use Rattle.cbor_de.specs.Gives.{TellsNoForm};
 ghost use Rattle.cbor_scalars.specs.Strings.{IsOneOf, text_bytes};
 
 use crate::de::Deserializer;
@@ -12,8 +15,10 @@ use std::alloc::Global;
 const NO_CHARACTER: &str = "invalid type: expected a character";
 
 // The one character that a text is.
+#[tactic(auto, using(crate::proofs::Forms::message_form))]
 fn one_of(text: &str, alloc: Global) -> Result<char>
-    ensures { IsOneOf text.now result }
+    ensures read { IsOneOf text.now result }
+    ensures no_form { IfErr result (λ e. TellsNoForm (code_of e)) }
 {
     match text.chars().next() {
         Some(first) => {
@@ -29,7 +34,8 @@ fn one_of(text: &str, alloc: Global) -> Result<char>
 // The one character of a borrowed text.
 #[inline(always)]
 fn character(text: EitherStr<'_, '_>, alloc: Global) -> Result<char>
-    ensures { IsOneOf (text_bytes text.entry) result }
+    ensures read { IsOneOf (text_bytes text.entry) result }
+    ensures no_form { IfErr result (λ e. TellsNoForm (code_of e)) }
 {
     match text {
         EitherStr::Short(text) => one_of(text, alloc),
@@ -38,12 +44,15 @@ fn character(text: EitherStr<'_, '_>, alloc: Global) -> Result<char>
 }
 
 impl Readable for char {
+    ghost use Rattle.std.specs.Prelude.{false};
     ghost use Rattle.cbor_model.specs.Readable.{PassesTags};
     ghost use Rattle.cbor_scalars.specs.Strings.{AsksForString, IsCharacter};
 
     ghost reads = { λ c. PassesTags IsCharacter };
 
     ghost asks_memory = { AsksForString };
+
+    ghost tells_form = { false };
 }
 
 impl<'de, R: Read<'de>> Deserialize<'de, R> for char {

@@ -7,12 +7,14 @@ use cbor_read::Read;
 use cbor_scalars::integer::{read_from_zero, read_signed, read_u128};
 
 impl Readable for u8 {
-    ghost use Rattle.std.specs.Prelude.{◌-◌, ◌^◌};
+    ghost use Rattle.std.specs.Prelude.{◌-◌, ◌^◌, false};
     ghost use Rattle.cbor_model.specs.Readable.{PassesTags, IsFromZero};
 
     ghost reads = { λ c. PassesTags (IsFromZero (2 ^ 8 - 1)) };
 
     ghost asks_memory = { λ a r. ⊥ };
+
+    ghost tells_form = { false };
 }
 
 impl<'de, R: Read<'de>> Deserialize<'de, R> for u8 {
@@ -34,12 +36,14 @@ impl DeserializeOwned for u8 {
 }
 
 impl Readable for u16 {
-    ghost use Rattle.std.specs.Prelude.{◌-◌, ◌^◌};
+    ghost use Rattle.std.specs.Prelude.{◌-◌, ◌^◌, false};
     ghost use Rattle.cbor_model.specs.Readable.{PassesTags, IsFromZero};
 
     ghost reads = { λ c. PassesTags (IsFromZero (2 ^ 16 - 1)) };
 
     ghost asks_memory = { λ a r. ⊥ };
+
+    ghost tells_form = { false };
 }
 
 impl<'de, R: Read<'de>> Deserialize<'de, R> for u16 {
@@ -61,12 +65,14 @@ impl DeserializeOwned for u16 {
 }
 
 impl Readable for u32 {
-    ghost use Rattle.std.specs.Prelude.{◌-◌, ◌^◌};
+    ghost use Rattle.std.specs.Prelude.{◌-◌, ◌^◌, false};
     ghost use Rattle.cbor_model.specs.Readable.{PassesTags, IsFromZero};
 
     ghost reads = { λ c. PassesTags (IsFromZero (2 ^ 32 - 1)) };
 
     ghost asks_memory = { λ a r. ⊥ };
+
+    ghost tells_form = { false };
 }
 
 impl<'de, R: Read<'de>> Deserialize<'de, R> for u32 {
@@ -88,12 +94,14 @@ impl DeserializeOwned for u32 {
 }
 
 impl Readable for u64 {
-    ghost use Rattle.std.specs.Prelude.{◌-◌, ◌^◌};
+    ghost use Rattle.std.specs.Prelude.{◌-◌, ◌^◌, false};
     ghost use Rattle.cbor_model.specs.Readable.{PassesTags, IsFromZero};
 
     ghost reads = { λ c. PassesTags (IsFromZero (2 ^ 64 - 1)) };
 
     ghost asks_memory = { λ a r. ⊥ };
+
+    ghost tells_form = { false };
 }
 
 impl<'de, R: Read<'de>> Deserialize<'de, R> for u64 {
@@ -115,12 +123,14 @@ impl DeserializeOwned for u64 {
 }
 
 impl Readable for usize {
-    ghost use Rattle.std.specs.Prelude.{◌-◌, ◌^◌};
+    ghost use Rattle.std.specs.Prelude.{◌-◌, ◌^◌, false};
     ghost use Rattle.cbor_model.specs.Readable.{PassesTags, IsFromZero};
 
     ghost reads = { λ c. PassesTags (IsFromZero (2 ^ 64 - 1)) };
 
     ghost asks_memory = { λ a r. ⊥ };
+
+    ghost tells_form = { false };
 }
 
 impl<'de, R: Read<'de>> Deserialize<'de, R> for usize {
@@ -142,12 +152,14 @@ impl DeserializeOwned for usize {
 }
 
 impl Readable for i8 {
-    ghost use Rattle.std.specs.Prelude.{◌-◌, ◌^◌};
+    ghost use Rattle.std.specs.Prelude.{◌-◌, ◌^◌, false};
     ghost use Rattle.cbor_model.specs.Readable.{PassesTags, IsSigned};
 
     ghost reads = { λ c. PassesTags (IsSigned (2 ^ 7 - 1)) };
 
     ghost asks_memory = { λ a r. ⊥ };
+
+    ghost tells_form = { false };
 }
 
 impl<'de, R: Read<'de>> Deserialize<'de, R> for i8 {
@@ -169,12 +181,14 @@ impl DeserializeOwned for i8 {
 }
 
 impl Readable for i16 {
-    ghost use Rattle.std.specs.Prelude.{◌-◌, ◌^◌};
+    ghost use Rattle.std.specs.Prelude.{◌-◌, ◌^◌, false};
     ghost use Rattle.cbor_model.specs.Readable.{PassesTags, IsSigned};
 
     ghost reads = { λ c. PassesTags (IsSigned (2 ^ 15 - 1)) };
 
     ghost asks_memory = { λ a r. ⊥ };
+
+    ghost tells_form = { false };
 }
 
 impl<'de, R: Read<'de>> Deserialize<'de, R> for i16 {
@@ -196,12 +210,14 @@ impl DeserializeOwned for i16 {
 }
 
 impl Readable for i32 {
-    ghost use Rattle.std.specs.Prelude.{◌-◌, ◌^◌};
+    ghost use Rattle.std.specs.Prelude.{◌-◌, ◌^◌, false};
     ghost use Rattle.cbor_model.specs.Readable.{PassesTags, IsSigned};
 
     ghost reads = { λ c. PassesTags (IsSigned (2 ^ 31 - 1)) };
 
     ghost asks_memory = { λ a r. ⊥ };
+
+    ghost tells_form = { false };
 }
 
 impl<'de, R: Read<'de>> Deserialize<'de, R> for i32 {
@@ -223,12 +239,14 @@ impl DeserializeOwned for i32 {
 }
 
 impl Readable for i64 {
-    ghost use Rattle.std.specs.Prelude.{◌-◌, ◌^◌};
+    ghost use Rattle.std.specs.Prelude.{◌-◌, ◌^◌, false};
     ghost use Rattle.cbor_model.specs.Readable.{PassesTags, IsSigned};
 
     ghost reads = { λ c. PassesTags (IsSigned (2 ^ 63 - 1)) };
 
     ghost asks_memory = { λ a r. ⊥ };
+
+    ghost tells_form = { false };
 }
 
 impl<'de, R: Read<'de>> Deserialize<'de, R> for i64 {
@@ -250,12 +268,14 @@ impl DeserializeOwned for i64 {
 }
 
 impl Readable for isize {
-    ghost use Rattle.std.specs.Prelude.{◌-◌, ◌^◌};
+    ghost use Rattle.std.specs.Prelude.{◌-◌, ◌^◌, false};
     ghost use Rattle.cbor_model.specs.Readable.{PassesTags, IsSigned};
 
     ghost reads = { λ c. PassesTags (IsSigned (2 ^ 63 - 1)) };
 
     ghost asks_memory = { λ a r. ⊥ };
+
+    ghost tells_form = { false };
 }
 
 impl<'de, R: Read<'de>> Deserialize<'de, R> for isize {
@@ -277,12 +297,14 @@ impl DeserializeOwned for isize {
 }
 
 impl Readable for u128 {
-    ghost use Rattle.std.specs.Prelude.{◌-◌, ◌^◌};
+    ghost use Rattle.std.specs.Prelude.{◌-◌, ◌^◌, false};
     ghost use Rattle.cbor_model.specs.Readable.{PassesTags, IsFromZero};
 
     ghost reads = { λ c. PassesTags (IsFromZero (2 ^ 128 - 1)) };
 
     ghost asks_memory = { λ a r. ⊥ };
+
+    ghost tells_form = { false };
 }
 
 impl<'de, R: Read<'de>> Deserialize<'de, R> for u128 {
@@ -297,11 +319,14 @@ impl DeserializeOwned for u128 {
 }
 
 impl Readable for i128 {
+    ghost use Rattle.std.specs.Prelude.{false};
     ghost use Rattle.cbor_model.specs.Readable.{PassesTags, IsInteger};
 
     ghost reads = { λ c. PassesTags IsInteger };
 
     ghost asks_memory = { λ a r. ⊥ };
+
+    ghost tells_form = { false };
 }
 
 impl<'de, R: Read<'de>> Deserialize<'de, R> for i128 {

@@ -14,10 +14,13 @@ impl<T: Readable> Readable for Option<T> {
     ghost reads = { λ c. IsOptional (T.reads c) };
 
     ghost asks_memory = { λ a. UnlessNull (T.asks_memory a) };
+
+    ghost tells_form = { T.tells_form };
 }
 
 impl<'de, R: Read<'de>, T: Deserialize<'de, R>> Deserialize<'de, R> for Option<T> {
     #[inline(always)]
+    #[tactic(auto, using(crate::proofs::Forms::plain))]
     fn deserialize(de: &mut Deserializer<R>) -> Result<Option<T>> {
         match take_null(&mut de.items) {
             Ok(true) => return Ok(None),

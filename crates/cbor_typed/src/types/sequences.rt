@@ -1,9 +1,11 @@
 //! Vectors and arrays, which are read from arrays.
 
-ghost use Rattle.std.specs.Prelude.{◌≡◌, IfOk, vec_len};
+ghost use Rattle.std.specs.Prelude.{◌≡◌, IfOk, IfErr, vec_len};
+ghost use Rattle.cbor_io.specs.Error.{code_of};
 ghost use Rattle.cbor_model.specs.Readable.{PassesTags};
 ghost use Rattle.cbor_collections.specs.Arrays.{AsArray, AreExactly, items_in};
 ghost use Rattle.cbor_scalars.specs.Takes.{TakesItem, context, formats_of};
+ghost use Rattle.cbor_typed.specs.Forms.{FormOnlyIf};
 
 use crate::de::Deserializer;
 use crate::deserialize::{Deserialize, DeserializeOwned, Readable};
@@ -20,9 +22,12 @@ impl<T: Readable> Readable for Vec<T> {
     ghost use Rattle.cbor_collections.specs.Arrays.{AsArray, AreRead};
 
     ghost reads = { λ c. PassesTags (AsArray (λ rs v. AreRead (T.reads c) rs v.items)) };
+
+    ghost tells_form = { T.tells_form };
 }
 
 impl<'de, R: Read<'de>, T: Deserialize<'de, R>> Deserialize<'de, R> for Vec<T> {
+    #[tactic(auto, using(crate::proofs::Forms::plain))]
     fn deserialize(de: &mut Deserializer<R>) -> Result<Vec<T>> {
         let mut items = Vec::new(de.items.alloc);
         let mut access = de.array()?;
@@ -67,6 +72,7 @@ impl<T: DeserializeOwned> DeserializeOwned for Vec<T> {
 }
 
 // The items of an array of exactly n.
+#[tactic(auto, using(crate::proofs::Forms::plain))]
 fn exactly<'de, T: Deserialize<'de, R>, R: Read<'de>>(
     de: &mut Deserializer<R>,
     n: usize,
@@ -75,6 +81,7 @@ fn exactly<'de, T: Deserialize<'de, R>, R: Read<'de>>(
         (PassesTags (AsArray (AreExactly (T.reads (context de.old.items.formats R.lends)) n)))
         de.old.items.levels (R.source de.old.items.source) (R.source de.new.items.source)
         (items_in result) }
+    ensures form { IfErr result (λ e. FormOnlyIf T.tells_form (code_of e)) }
     ensures count { IfOk result (λ v. vec_len v ≡ n) }
     ensures levels { de.new.items.levels ≡ de.old.items.levels }
     ensures formats { de.new.items.formats ≡ de.old.items.formats }
@@ -98,6 +105,8 @@ impl<T: Readable, const N: usize> Readable for [T; N] {
     ghost use Rattle.cbor_collections.specs.Arrays.{AsArray, AreExactly};
 
     ghost reads = { λ c. PassesTags (AsArray (AreExactly (T.reads c) N)) };
+
+    ghost tells_form = { T.tells_form };
 }
 
 impl<'de, R: Read<'de>, T: Deserialize<'de, R>, const N: usize> Deserialize<'de, R> for [T; N] {

@@ -7,11 +7,14 @@ use cbor_read::Read;
 use cbor_value::Float;
 
 impl Readable for bool {
+    ghost use Rattle.std.specs.Prelude.{false};
     ghost use Rattle.cbor_model.specs.Readable.{PassesTags, IsBool};
 
     ghost reads = { λ c. PassesTags IsBool };
 
     ghost asks_memory = { λ a r. ⊥ };
+
+    ghost tells_form = { false };
 }
 
 impl<'de, R: Read<'de>> Deserialize<'de, R> for bool {
@@ -26,11 +29,14 @@ impl DeserializeOwned for bool {
 }
 
 impl Readable for () {
+    ghost use Rattle.std.specs.Prelude.{false};
     ghost use Rattle.cbor_model.specs.Readable.{PassesTags, IsUnit};
 
     ghost reads = { λ c. PassesTags IsUnit };
 
     ghost asks_memory = { λ a r. ⊥ };
+
+    ghost tells_form = { false };
 }
 
 impl<'de, R: Read<'de>> Deserialize<'de, R> for () {
@@ -45,12 +51,15 @@ impl DeserializeOwned for () {
 }
 
 impl Readable for Float {
+    ghost use Rattle.std.specs.Prelude.{false};
     ghost use Rattle.cbor_model.specs.Readable.{PassesTags};
     ghost use Rattle.cbor_scalars.specs.Scalars.{IsFloatItem};
 
     ghost reads = { λ c. PassesTags IsFloatItem };
 
     ghost asks_memory = { λ a r. ⊥ };
+
+    ghost tells_form = { false };
 }
 
 impl<'de, R: Read<'de>> Deserialize<'de, R> for Float {

@@ -11,6 +11,8 @@ impl<A: Readable> Readable for (A,) {
     ghost use Rattle.cbor_collections.specs.Arrays.{AsArray, FirstThen, AreNone};
 
     ghost reads = { λ c. PassesTags (AsArray (λ rs t. FirstThen (A.reads c) t.0 AreNone rs)) };
+
+    ghost tells_form = { A.tells_form };
 }
 
 impl<'de, R: Read<'de>, A: Deserialize<'de, R>> Deserialize<'de, R> for (A,) {
@@ -41,11 +43,14 @@ impl<A: DeserializeOwned> DeserializeOwned for (A,) {
 
 /// An array of exactly two items.
 impl<A: Readable, B: Readable> Readable for (A, B) {
+    ghost use Rattle.std.specs.Prelude.{◌||◌};
     ghost use Rattle.cbor_model.specs.Readable.{PassesTags};
     ghost use Rattle.cbor_collections.specs.Arrays.{AsArray, FirstThen, AreNone};
 
     ghost reads = { λ c. PassesTags (AsArray (λ rs t. FirstThen (A.reads c) t.0
         (FirstThen (B.reads c) t.1 AreNone) rs)) };
+
+    ghost tells_form = { A.tells_form || B.tells_form };
 }
 
 impl<'de, R: Read<'de>, A: Deserialize<'de, R>, B: Deserialize<'de, R>> Deserialize<'de, R>
@@ -84,12 +89,15 @@ impl<A: DeserializeOwned, B: DeserializeOwned> DeserializeOwned for (A, B) {
 
 /// An array of exactly three items.
 impl<A: Readable, B: Readable, C: Readable> Readable for (A, B, C) {
+    ghost use Rattle.std.specs.Prelude.{◌||◌};
     ghost use Rattle.cbor_model.specs.Readable.{PassesTags};
     ghost use Rattle.cbor_collections.specs.Arrays.{AsArray, FirstThen, AreNone};
 
     ghost reads = { λ c. PassesTags (AsArray (λ rs t. FirstThen (A.reads c) t.0
         (FirstThen (B.reads c) t.1
         (FirstThen (C.reads c) t.2 AreNone)) rs)) };
+
+    ghost tells_form = { A.tells_form || (B.tells_form || C.tells_form) };
 }
 
 impl<
@@ -140,6 +148,7 @@ impl<A: DeserializeOwned, B: DeserializeOwned, C: DeserializeOwned> DeserializeO
 
 /// An array of exactly four items.
 impl<A: Readable, B: Readable, C: Readable, D: Readable> Readable for (A, B, C, D) {
+    ghost use Rattle.std.specs.Prelude.{◌||◌};
     ghost use Rattle.cbor_model.specs.Readable.{PassesTags};
     ghost use Rattle.cbor_collections.specs.Arrays.{AsArray, FirstThen, AreNone};
 
@@ -147,6 +156,8 @@ impl<A: Readable, B: Readable, C: Readable, D: Readable> Readable for (A, B, C, 
         (FirstThen (B.reads c) t.1
         (FirstThen (C.reads c) t.2
         (FirstThen (D.reads c) t.3 AreNone))) rs)) };
+
+    ghost tells_form = { A.tells_form || (B.tells_form || (C.tells_form || D.tells_form)) };
 }
 
 impl<

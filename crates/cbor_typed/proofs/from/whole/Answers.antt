@@ -1,5 +1,7 @@
 use Rattle.cbor_read.specs.Source.{asks_for}
 use Rattle.cbor_scalars.specs.Takes.{context, formats_of}
+use Rattle.cbor_io.specs.Error.{code_of, offset_of}
+use Rattle.cbor_typed.proofs.Forms.{end_form, plain}
 use Rattle.cbor_typed.proofs.Faults.{item_whole, end_whole}
 use Rattle.cbor_typed.proofs.Inputs.{all_refused, end_other}
 use Rattle.cbor_scalars.proofs.facts.Refusals.{other_code}
@@ -27,3 +29,8 @@ returns-in-Err-end-clause-memory g c =
     let m = g.R.Source.source c.deserialize.new.de.items.source in
     let t = g.R.Source.source c.end.new.self.items.source in
     other_code (g.T.Readable.asks_memory (asks_for g.R.Source.refusals g.R.Source.lends)) (formats_of d.formats) (g.T.Readable.reads within) d.levels (g.R.Source.source d.source) c.in-Err-end.e (end_other g.R.Source.refusals m t c.in-Err-end.e c.in-Err-end.ensures.takes)
+
+pub returns-in-Err-end-clause-form : goal.returns-in-Err-end-clause-form
+returns-in-Err-end-clause-form g c =
+    let e = c.in-Err-end.e in
+    plain g.T.Readable.tells_form (code_of e) (end_form g.R.Source.refusals (code_of e) (offset_of e) (g.R.Source.source c.deserialize.new.de.items.source) (g.R.Source.source c.end.new.self.items.source) c.in-Err-end.ensures.takes)

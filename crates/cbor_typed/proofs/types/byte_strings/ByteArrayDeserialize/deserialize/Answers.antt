@@ -4,7 +4,7 @@ use Rattle.cbor_model.specs.Raw.{Raw}
 use Rattle.cbor_model.specs.Readable.{PassesTags}
 use Rattle.cbor_model.specs.Reader.{item_at}
 use Rattle.cbor_read.specs.Source.{asks_for}
-use Rattle.cbor_scalars.specs.Strings.{AsksForString, UnreadOnly, IsByteArray, IsByteString, LendsBytes}
+use Rattle.cbor_scalars.specs.Strings.{AsksForString, IsByteArray, IsByteString, IsNoKey, LendsBytes, UnreadOnly}
 use Rattle.cbor_scalars.specs.Takes.{OfItem, raws, context, formats_of, IsNotRead}
 use Rattle.cbor_scalars.proofs.facts.Strings.{made_memory, made_refuses, none_of}
 use Rattle.cbor_typed.proofs.ByteStrings.{array_memory, array_takes}
@@ -19,7 +19,7 @@ returns-in-Ok-clause-read g c =
     let t = g.R.Source.source c.read_byte_string.follows.lender-at-none.items.source in
     let ctx = context de.items.formats g.R.Source.lends in
     let lent = subst (λ r. LendsBytes g.R.Source.refusals ctx levels s t r) c.in-Ok.is c.read_byte_string.follows.holds-at-none.2 in
-    array_takes g.R.Source.refusals f g.R.Source.lends levels s t c.in-Ok.part g.row.N c.array_of.result lent c.array_of.ensures
+    array_takes g.R.Source.refusals f g.R.Source.lends levels s t c.in-Ok.part g.row.N c.array_of.result lent c.array_of.ensures.read
 
 pub returns-in-Err-clause-read : goal.returns-in-Err-clause-read
 returns-in-Err-clause-read g c =
@@ -57,4 +57,8 @@ returns-in-Ok-clause-memory g c =
     let t = g.R.Source.source c.read_byte_string.follows.lender-at-none.items.source in
     let ctx = context de.items.formats g.R.Source.lends in
     let lent = subst (λ r. LendsBytes g.R.Source.refusals ctx levels s t r) c.in-Ok.is c.read_byte_string.follows.holds-at-none.2 in
-    array_memory g.R.Source.refusals f g.R.Source.lends levels s t c.in-Ok.part g.row.N (AsksForString (asks_for g.R.Source.refusals g.R.Source.lends)) c.array_of.result lent c.array_of.ensures
+    array_memory g.R.Source.refusals f g.R.Source.lends levels s t c.in-Ok.part g.row.N (AsksForString (asks_for g.R.Source.refusals g.R.Source.lends)) c.array_of.result lent c.array_of.ensures.read
+
+pub returns-in-Err-clause-form : goal.returns-in-Err-clause-form
+returns-in-Err-clause-form g c =
+    c.unread.ensures.no_form (subst (λ r. IfErr r IsNoKey) c.in-Err.is c.read_byte_string.follows.holds-at-none.3)

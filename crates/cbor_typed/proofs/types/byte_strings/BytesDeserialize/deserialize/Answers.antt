@@ -4,7 +4,7 @@ use Rattle.cbor_model.specs.Raw.{Raw}
 use Rattle.cbor_read.specs.Source.{asks_for}
 use Rattle.cbor_model.specs.Readable.{untagged, PassesTags}
 use Rattle.cbor_model.specs.Reader.{item_at}
-use Rattle.cbor_scalars.specs.Strings.{AsksForString, UnreadOnly, IsBorrowedBytes, IsByteString, LendsBytes}
+use Rattle.cbor_scalars.specs.Strings.{AsksForString, IsBorrowedBytes, IsByteString, IsNoKey, LendsBytes, UnreadOnly}
 use Rattle.cbor_scalars.specs.Takes.{OfItem, raws, context, formats_of, IsNotRead}
 use Rattle.cbor_scalars.proofs.facts.Strings.{lent_unasked, made_memory, made_refuses, none_of}
 use Rattle.cbor_typed.proofs.types.byte_strings.BytesDeserialize.deserialize.Goals as goal
@@ -36,3 +36,7 @@ returns-in-Err-clause-memory g c =
     let only = subst (λ r. IfErr r (UnreadOnly (OfItem asks f levels s))) c.in-Err.is c.read_byte_string.follows.holds-at-none.4 in
     made_memory g.R.Source.refusals f reads IsByteString (λ x. x.0.now) levels s asks (λ r. ⊥) c.in-Err.why c.unread.result (λ r x is. is.0)
     (λ r x is asks. lent_unasked g.R.Source.refusals f g.R.Source.lends (untagged r) is.1 asks) c.unread.ensures.made only lacks
+
+pub returns-in-Err-clause-form : goal.returns-in-Err-clause-form
+returns-in-Err-clause-form g c =
+    c.unread.ensures.no_form (subst (λ r. IfErr r IsNoKey) c.in-Err.is c.read_byte_string.follows.holds-at-none.3)

@@ -3,7 +3,7 @@ use Rattle.cbor_model.specs.Readable.{PassesTags, IsText}
 use Rattle.cbor_model.specs.Reader.{item_at}
 use Rattle.cbor_read.specs.Source.{asks_for}
 use Rattle.std.specs.Char.{encode_utf8}
-use Rattle.cbor_scalars.specs.Strings.{AsksForString, UnreadOnly, IsCharacter, LendsText}
+use Rattle.cbor_scalars.specs.Strings.{AsksForString, IsCharacter, IsNoKey, LendsText, UnreadOnly}
 use Rattle.cbor_scalars.specs.Takes.{OfItem, raws, context, formats_of, IsNotRead}
 use Rattle.cbor_typed.proofs.Characters.{character_memory, character_takes}
 use Rattle.cbor_scalars.proofs.facts.Strings.{made_memory, made_refuses, none_of}
@@ -18,7 +18,7 @@ returns-in-Ok-clause-read g c =
     let t = g.R.Source.source c.read_text.follows.lender-at-none.items.source in
     let ctx = context de.items.formats g.R.Source.lends in
     let lent = subst (λ r. LendsText g.R.Source.refusals ctx levels s t r) c.in-Ok.is c.read_text.follows.holds-at-none.2 in
-    character_takes g.R.Source.refusals f g.R.Source.lends levels s t c.in-Ok.text c.character.result lent c.character.ensures
+    character_takes g.R.Source.refusals f g.R.Source.lends levels s t c.in-Ok.text c.character.result lent c.character.ensures.read
 
 pub returns-in-Err-clause-read : goal.returns-in-Err-clause-read
 returns-in-Err-clause-read g c =
@@ -54,4 +54,8 @@ returns-in-Ok-clause-memory g c =
     let t = g.R.Source.source c.read_text.follows.lender-at-none.items.source in
     let ctx = context de.items.formats g.R.Source.lends in
     let lent = subst (λ r. LendsText g.R.Source.refusals ctx levels s t r) c.in-Ok.is c.read_text.follows.holds-at-none.2 in
-    character_memory g.R.Source.refusals f g.R.Source.lends levels s t c.in-Ok.text (AsksForString (asks_for g.R.Source.refusals g.R.Source.lends)) c.character.result lent c.character.ensures
+    character_memory g.R.Source.refusals f g.R.Source.lends levels s t c.in-Ok.text (AsksForString (asks_for g.R.Source.refusals g.R.Source.lends)) c.character.result lent c.character.ensures.read
+
+pub returns-in-Err-clause-form : goal.returns-in-Err-clause-form
+returns-in-Err-clause-form g c =
+    c.unread.ensures.no_form (subst (λ r. IfErr r IsNoKey) c.in-Err.is c.read_text.follows.holds-at-none.3)

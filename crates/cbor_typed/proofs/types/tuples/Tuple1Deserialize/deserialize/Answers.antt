@@ -8,6 +8,7 @@ use Rattle.cbor_scalars.specs.Takes.{context, formats_of}
 use Rattle.cbor_collections.proofs.facts.Arrays.{MustFollow}
 use Rattle.cbor_collections.proofs.facts.Tuples.{Empty, Then, one_more, none_all, then_all, empty_rest, then_rest, first_follows}
 use Rattle.cbor_collections.proofs.facts.Arrays.{end_step, end_lacks, loop_begins, part_goes_on, part_lacks, array_takes_to, array_refused, no_array_read}
+use Rattle.cbor_typed.proofs.Forms.{plain}
 use Rattle.cbor_typed.proofs.types.tuples.Tuple1Deserialize.deserialize.Goals as goal
 
 pub returns-in_err-access-clause-read : goal.returns-in_err-access-clause-read
@@ -74,3 +75,18 @@ returns-clause-read g c =
     array_takes_to s0 read old.items.formats first.items.formats first.items.levels first.items.levels c.in_ok-access.ensures.formats refl all items old.items.levels start s1 w _ c.part.new.self.remaining (record { 0 = c.in_ok-a.a })
     (λ front h. then_all (ra old.items.formats) c.in_ok-a.a Empty AreNone none_all front h)
     c.in_ok-access.ensures.head so1 (end_step c.part.new.self.remaining s1 w c.in_ok-end.ensures.read) (search rules)
+
+pub returns-in_err-access-clause-form : goal.returns-in_err-access-clause-form
+returns-in_err-access-clause-form g c =
+    let passed = err_from_is_err_and c.from_residual.result c.from_residual.ensures.1 in
+    rw (passed.1, passed.2) (plain (g.A.Readable.tells_form) _ c.in_err-access.ensures.no_form)
+
+pub returns-in_err-a-clause-form : goal.returns-in_err-a-clause-form
+returns-in_err-a-clause-form g c =
+    let passed = err_from_is_err_and c.from_residual-in_err-a.result c.from_residual-in_err-a.ensures.1 in
+    rw (passed.1, passed.2) (c.in_err-a.ensures.form)
+
+pub returns-in_err-end-clause-form : goal.returns-in_err-end-clause-form
+returns-in_err-end-clause-form g c =
+    let passed = err_from_is_err_and c.from_residual-in_err-end.result c.from_residual-in_err-end.ensures.1 in
+    rw (passed.1, passed.2) (plain (g.A.Readable.tells_form) _ c.in_err-end.ensures.no_form)

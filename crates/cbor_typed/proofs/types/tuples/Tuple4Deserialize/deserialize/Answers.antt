@@ -1,4 +1,4 @@
-use Rattle.std.proofs.Common.{rules, refl, ◌∙◌}
+use Rattle.std.proofs.Common.{rules, refl, ◌∙◌, ◌||◌}
 use Rattle.std.proofs.lemmas.Result.{err_from_is_err_and}
 use Rattle.cbor_model.specs.Raw.{Raws}
 use Rattle.cbor_io.specs.Error.{code_of, offset_of}
@@ -8,6 +8,7 @@ use Rattle.cbor_scalars.specs.Takes.{context, formats_of}
 use Rattle.cbor_collections.proofs.facts.Arrays.{MustFollow}
 use Rattle.cbor_collections.proofs.facts.Tuples.{Empty, Then, one_more, then_more, none_all, then_all, empty_rest, then_rest, first_follows}
 use Rattle.cbor_collections.proofs.facts.Arrays.{end_step, end_lacks, loop_begins, part_goes_on, part_lacks, array_takes_to, array_refused, no_array_read}
+use Rattle.cbor_typed.proofs.Forms.{of_left, of_right, plain}
 use Rattle.cbor_typed.proofs.types.tuples.Tuple4Deserialize.deserialize.Goals as goal
 
 pub returns-in_err-access-clause-read : goal.returns-in_err-access-clause-read
@@ -175,3 +176,33 @@ returns-clause-read g c =
     let w = g.R.Source.source c.end.new.self.0.items.source in
     array_takes_to s0 (Then (ra old.items.formats) c.in_ok-a.a (Then (rb old.items.formats) c.in_ok-b.b (Then (rc old.items.formats) c.in_ok-c.c (Then (rd old.items.formats) c.in_ok-d.d Empty)))) old.items.formats c.part-4.new.self.de.now.items.formats first.items.levels c.part-4.new.self.de.now.items.levels (c.part-4.ensures.formats ∙ (c.part-3.ensures.formats ∙ (c.part-2.ensures.formats ∙ (c.part.ensures.formats ∙ c.in_ok-access.ensures.formats)))) (c.in_ok-d.ensures.inside ∙ (c.in_ok-c.ensures.inside ∙ (c.in_ok-b.ensures.inside ∙ c.in_ok-a.ensures.inside))) all items old.items.levels start t w _ c.part-4.new.self.remaining (c.in_ok-a.a, c.in_ok-b.b, c.in_ok-c.c, c.in_ok-d.d) (λ front h. (then_all (ra old.items.formats) c.in_ok-a.a (Then (rb old.items.formats) c.in_ok-b.b (Then (rc old.items.formats) c.in_ok-c.c (Then (rd old.items.formats) c.in_ok-d.d Empty))) (FirstThen (rb old.items.formats) c.in_ok-b.b (FirstThen (rc old.items.formats) c.in_ok-c.c (FirstThen (rd old.items.formats) c.in_ok-d.d AreNone))) (then_all (rb old.items.formats) c.in_ok-b.b (Then (rc old.items.formats) c.in_ok-c.c (Then (rd old.items.formats) c.in_ok-d.d Empty)) (FirstThen (rc old.items.formats) c.in_ok-c.c (FirstThen (rd old.items.formats) c.in_ok-d.d AreNone)) (then_all (rc old.items.formats) c.in_ok-c.c (Then (rd old.items.formats) c.in_ok-d.d Empty) (FirstThen (rd old.items.formats) c.in_ok-d.d AreNone) (then_all (rd old.items.formats) c.in_ok-d.d Empty AreNone none_all)))) front h)
     c.in_ok-access.ensures.head so4 (end_step c.part-4.new.self.remaining t w c.in_ok-end.ensures.read) (search rules)
+
+pub returns-in_err-access-clause-form : goal.returns-in_err-access-clause-form
+returns-in_err-access-clause-form g c =
+    let passed = err_from_is_err_and c.from_residual.result c.from_residual.ensures.1 in
+    rw (passed.1, passed.2) (plain (g.A.Readable.tells_form || (g.B.Readable.tells_form || (g.C.Readable.tells_form || g.D.Readable.tells_form))) _ c.in_err-access.ensures.no_form)
+
+pub returns-in_err-a-clause-form : goal.returns-in_err-a-clause-form
+returns-in_err-a-clause-form g c =
+    let passed = err_from_is_err_and c.from_residual-in_err-a.result c.from_residual-in_err-a.ensures.1 in
+    rw (passed.1, passed.2) (of_left (g.A.Readable.tells_form) (g.B.Readable.tells_form || (g.C.Readable.tells_form || g.D.Readable.tells_form)) _ c.in_err-a.ensures.form)
+
+pub returns-in_err-b-clause-form : goal.returns-in_err-b-clause-form
+returns-in_err-b-clause-form g c =
+    let passed = err_from_is_err_and c.from_residual-in_err-b.result c.from_residual-in_err-b.ensures.1 in
+    rw (passed.1, passed.2) (of_right (g.A.Readable.tells_form) (g.B.Readable.tells_form || (g.C.Readable.tells_form || g.D.Readable.tells_form)) _ (of_left (g.B.Readable.tells_form) (g.C.Readable.tells_form || g.D.Readable.tells_form) _ c.in_err-b.ensures.form))
+
+pub returns-in_err-c-clause-form : goal.returns-in_err-c-clause-form
+returns-in_err-c-clause-form g c =
+    let passed = err_from_is_err_and c.from_residual-in_err-c.result c.from_residual-in_err-c.ensures.1 in
+    rw (passed.1, passed.2) (of_right (g.A.Readable.tells_form) (g.B.Readable.tells_form || (g.C.Readable.tells_form || g.D.Readable.tells_form)) _ (of_right (g.B.Readable.tells_form) (g.C.Readable.tells_form || g.D.Readable.tells_form) _ (of_left (g.C.Readable.tells_form) (g.D.Readable.tells_form) _ c.in_err-c.ensures.form)))
+
+pub returns-in_err-d-clause-form : goal.returns-in_err-d-clause-form
+returns-in_err-d-clause-form g c =
+    let passed = err_from_is_err_and c.from_residual-in_err-d.result c.from_residual-in_err-d.ensures.1 in
+    rw (passed.1, passed.2) (of_right (g.A.Readable.tells_form) (g.B.Readable.tells_form || (g.C.Readable.tells_form || g.D.Readable.tells_form)) _ (of_right (g.B.Readable.tells_form) (g.C.Readable.tells_form || g.D.Readable.tells_form) _ (of_right (g.C.Readable.tells_form) (g.D.Readable.tells_form) _ c.in_err-d.ensures.form)))
+
+pub returns-in_err-end-clause-form : goal.returns-in_err-end-clause-form
+returns-in_err-end-clause-form g c =
+    let passed = err_from_is_err_and c.from_residual-in_err-end.result c.from_residual-in_err-end.ensures.1 in
+    rw (passed.1, passed.2) (plain (g.A.Readable.tells_form || (g.B.Readable.tells_form || (g.C.Readable.tells_form || g.D.Readable.tells_form))) _ c.in_err-end.ensures.no_form)
