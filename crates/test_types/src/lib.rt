@@ -1,5 +1,6 @@
 //! Tests of what no row of a table shows: items, pairs and fields that are read one by one, tags
-//! that are entered and left, what follows an item, and a reader that has no end.
+//! that are entered and left, what follows an item, and a reader that has no end. And a function that
+//! says by the public contracts alone what it finds in a map (`lookup`).
 #![tactic(auto)]
 
 #[cfg(test)]
@@ -12,6 +13,7 @@ mod ends;
 mod enums;
 #[cfg(test)]
 mod laws;
+pub mod lookup;
 #[cfg(test)]
 mod maps;
 #[cfg(test)]
