@@ -1,2 +1,3 @@
 pub mod NoTags
 pub mod Tags
+pub mod Peeked

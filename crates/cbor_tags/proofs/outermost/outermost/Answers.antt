@@ -5,7 +5,15 @@ use Rattle.cbor_de.specs.declared.refusal.Refused.TheVariants.{Kept}
 use Rattle.cbor_scalars.specs.Tags.{tag_head_at}
 use Rattle.cbor_scalars.proofs.facts.Refusals.{told_by}
 use Rattle.cbor_de.proofs.facts.Steps.{source_stops, byte_refused}
+use Rattle.cbor_tags.proofs.Peeked.{tag_peeked}
 use Rattle.cbor_tags.proofs.outermost.outermost.Goals as goal
+
+pub returns-in-Ok-Some-clause-item : goal.returns-in-Ok-Some-clause-item
+returns-in-Ok-Some-clause-item g c =
+    let old = c.args.de.now.items in
+    let mid = c.peek.new.de.items in
+    tag_peeked (g.R.Source.source old.source) (g.R.Source.source mid.source) (g.R.Source.source c.read_tag.new.self.items.source) c.in-Ok-Some.ensures.stays
+    old.formats mid.formats c.peek.ensures.formats old.levels mid.levels c.peek.ensures.levels c.read_tag.result c.read_tag.ensures.item
 
 pub returns-in-Err-clause-refused : goal.returns-in-Err-clause-refused
 returns-in-Err-clause-refused g c =
