@@ -1,8 +1,9 @@
 //! Reading by description: a struct or an enum that says what its parts are (`cbor_parts::Schema`)
 //! is read by that, and no proof is written for it.
 //!
-//! The fields of a struct are read as a tuple, and the variants of an enum as one of
-//! `OneOf1` to `OneOf8` ([`Variant`]). [`FromParts`] makes the type of them.
+//! The fields of a struct are read as a tuple, or its one unnamed part as a `Newtype` of it, and
+//! the variants of an enum as one of `OneOf1` to `OneOf8` ([`Variant`]). [`FromParts`] makes the
+//! type of them.
 #![tactic(auto)]
 
 mod field_list;

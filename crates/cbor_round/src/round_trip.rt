@@ -41,15 +41,15 @@ use cbor_typed::DeserializeOwned;
 /// lemmas of `specs/`:
 ///
 /// ```rust
-/// /// A distance in metres, which is written and read as its number.
+/// /// The seconds since an instant, which are written and read as their number.
 /// #[derive(Drop)]
-/// struct Metres(u32);
+/// struct Seconds(u32);
 ///
-/// impl RoundTrip for Metres {
-///     ghost use Rattle.cbor_round.specs.ReadBack.{by_part};
-///     ghost use Rattle.cbor_round.specs.TypeLaws.{law_of};
+/// impl RoundTrip for Seconds {
+///     ghost use Rattle.serde_cbor.specs.ReadBack.{by_part};
+///     ghost use Rattle.serde_cbor.specs.TypeLaws.{law_of};
 ///
-///     ghost law = { law_of (by_part (λ m. m.0) ⟦<u32 as RoundTrip>⟧.law.back) };
+///     ghost law = { law_of (by_part (λ s. s.0) ⟦<u32 as RoundTrip>⟧.law.back) };
 ///
 ///     ghost back = { Self.law.back };
 /// }
@@ -63,8 +63,8 @@ use cbor_typed::DeserializeOwned;
 /// struct Stack<T>(Vec<T>);
 ///
 /// impl<T: RoundTrip> RoundTrip for Stack<T> {
-///     ghost use Rattle.cbor_round.specs.Lists.{list_back};
-///     ghost use Rattle.cbor_round.specs.TypeLaws.{law_of};
+///     ghost use Rattle.serde_cbor.specs.Lists.{list_back};
+///     ghost use Rattle.serde_cbor.specs.TypeLaws.{law_of};
 ///
 ///     ghost law = { law_of (list_back T.law.back {items = λ s. s.0.items}) };
 ///

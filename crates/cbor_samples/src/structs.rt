@@ -1,4 +1,4 @@
-//! Structs, each written as a map of its fields.
+//! Structs, written as maps of their fields, and one of an unnamed part.
 
 use crate::enums::Color;
 use serde_cbor::de::{Deserialize, DeserializeOwned, FromParts, Read, Readable, ReadableParts};

@@ -1,4 +1,4 @@
-//! A struct of no part, a struct of one, and an enum that holds a float.
+//! A struct of no part, and an enum that holds a float.
 
 use serde_cbor::de::{Deserialize, DeserializeOwned, FromParts, Read, Readable, ReadableParts};
 use serde_cbor::parts::{Newtype, OneOf1, Schema};

@@ -174,8 +174,8 @@ fn ahead(bytes: &[u8], left: usize) -> &[u8]
     &bytes[..bytes.len() - left]
 }
 
-/// Whether a key of these bytes is above the one before it, or the first. Of the lengths that
-/// numbers have it goes by words.
+/// Whether a key of these bytes is above the one before it, or the first. Keys of the lengths that
+/// numbers have are compared as numbers, and those of 8 to 64 bytes by words.
 #[inline(always)]
 fn ascends(before: &[u8], key: &[u8]) -> bool
     ensures { MatchBool result (lex before.now key.now ≡ Less) (lex before.now key.now ≢ Less) }

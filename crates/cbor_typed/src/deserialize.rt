@@ -23,8 +23,8 @@ use cbor_read::Read;
 /// any, unless a type says otherwise.
 ///
 /// `tells_form` says whether the type may refuse an item for its form: only then is a refusal
-/// `ArrayTooShort`, `ArrayTooLong`, `WrongEnumFormat` or `WrongStructFormat`. A type may, unless it
-/// says otherwise.
+/// `ArrayTooShort`, `ArrayTooLong`, `WrongEnumFormat` or `WrongStructFormat` (or `NotCanonical`,
+/// which strict reading alone answers). A type may, unless it says otherwise.
 pub trait Readable: Sized + Drop {
     ghost use Rattle.std.specs.Prelude.{⊤, Bool, true, false};
     ghost use Rattle.cbor_model.specs.Raw.{Raw};

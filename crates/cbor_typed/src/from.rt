@@ -123,8 +123,9 @@ pub fn from_slice<'a, T: Deserialize<'a, SliceRead<'a>>>(
     // Each such item is read, unless memory runs out.
     ensures accepted { (x : T) → SpellsAs all_formats (T.reads from_slice_context) slice.now x
         → IfErr result IsOutOfMemory }
-    // Memory runs out only for an item for which the type may ask for it: bool, numbers, floats, ()
-    // and Option of these ask for none, so that where such an item is there it is read.
+    // Memory runs out only for an item for which the type may ask for it: bool, numbers, floats, (),
+    // borrowed strings, Option of these, and a Value that is a number, a bool, a float or null ask
+    // for none, so that where such an item is there it is read.
     ensures memory { (x : T)
         → (spelt : SpellsAs all_formats (T.reads from_slice_context) slice.now x)
         → IfErr result (λ e. T.asks_memory from_slice_asks spelt.item) }

@@ -1,6 +1,7 @@
 //! Steps of reading, for the crates above that read structs, enums and tags. Users have
-//! [`MapAccess`](crate::MapAccess), [`SeqAccess`](crate::SeqAccess) and
-//! [`VariantAccess`](crate::VariantAccess), which keep count of the levels.
+//! [`MapAccess`](crate::MapAccess), [`StructAccess`](crate::StructAccess),
+//! [`SeqAccess`](crate::SeqAccess) and [`VariantAccess`](crate::VariantAccess), which keep count of
+//! the levels.
 
 ghost use Rattle.std.specs.Prelude.{◌≡◌, ◌<◌, [], ◌∷◌, Some, codes, length, take};
 ghost use Rattle.std.specs.Prelude.{IfOk, IfErr, IfSome, MatchOption, OnOk, OnErr};

@@ -7,6 +7,8 @@ pub use Rattle.cbor_model.specs.Plain
 pub use Rattle.cbor_model.specs.Order
 pub use Rattle.cbor_model.specs.Value
 pub use Rattle.cbor_model.specs.Canonical
+pub use Rattle.cbor_model.specs.InRange
+pub use Rattle.cbor_model.specs.InMemory
 pub use Rattle.cbor_model.specs.FiniteMap
 pub use Rattle.cbor_model.specs.Refusal
 pub use Rattle.cbor_model.specs.Reader
@@ -29,6 +31,8 @@ pub use Rattle.cbor_value.specs.View
 pub use Rattle.cbor_value.specs.Search
 pub use Rattle.cbor_de.specs.Deserializer
 pub use Rattle.cbor_de.specs.Gives
+pub use Rattle.cbor_de.specs.AtEnd
+pub use Rattle.cbor_de.specs.Memory
 pub use Rattle.cbor_de.specs.FirstRefusal
 pub use Rattle.cbor_scalars.specs.Takes
 pub use Rattle.cbor_typed.specs.Whole
@@ -48,6 +52,7 @@ pub use Rattle.cbor_strict.specs.StrictAnswers
 pub use Rattle.cbor_collections.specs.Accesses
 pub use Rattle.cbor_collections.specs.Begins
 pub use Rattle.cbor_collections.specs.BeginsEnum
+pub use Rattle.cbor_collections.specs.Cases
 pub use Rattle.cbor_collections.specs.Arrays
 pub use Rattle.cbor_collections.specs.Maps
 pub use Rattle.cbor_collections.specs.MapAccesses
