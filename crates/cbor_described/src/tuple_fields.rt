@@ -1,6 +1,6 @@
 //! Structs that are read as tuples of their fields.
 
-use crate::field_list::read_fields;
+use crate::field_list::{ReadFields, read_fields};
 use crate::parts::{ReadParts, ReadableParts};
 use cbor_io::error::Result;
 use cbor_typed::{Deserialize, Deserializer, FieldType, Read};
@@ -503,9 +503,8 @@ where
     F::Of: Deserialize<'de, R>,
     G::Of: Deserialize<'de, R>,
     H::Of: Deserialize<'de, R>,
-    I::Of: Deserialize<'de, R>,
-    J::Of: Deserialize<'de, R>,
-    K::Of: Deserialize<'de, R>,
+    // By their list: one by one they would take more steps than one check may.
+    (I, (J, (K, ()))): ReadFields<'de, R, Slots = (Option<I>, (Option<J>, (Option<K>, ())))>,
 {
     fn read_parts(
         de: &mut Deserializer<R>,
