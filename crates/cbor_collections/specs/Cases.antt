@@ -63,6 +63,13 @@ key_cases f remaining l bs = record {
   wrong_struct = IsBadKey f (remaining_of remaining) l bs;
 }
 
+-- Where the next key may not begin as it does, that is told, at the key.
+abbrev pub TellsBadKey : (ReadErrorCode → Bool) → Formats → Remaining → Input → Error → Type 0
+TellsBadKey refusals f remaining s e = (bs : List ℕ) → Tells s bs → (at : ℕ)
+    → IsBadKey f (remaining_of remaining) (limits s bs) bs at
+    → ExcusedBy (Reports refusals) (code_of e) (offset_of e)
+    ⊎ ((code_of e ≡ WrongStructFormat) × (offset_of e ≡ at))
+
 -- ---- enums
 
 -- no item comes of an array of which so much remains

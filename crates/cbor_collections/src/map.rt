@@ -9,7 +9,7 @@ ghost use Rattle.cbor_de.specs.Gives.{Gives, IsAt, IsErrorOf, TellsNoForm};
 ghost use Rattle.cbor_de.specs.declared.refusal.Refused.TheVariants.{Kept};
 ghost use Rattle.cbor_io.specs.declared.read_error.ReadErrorCode.TheVariants as reading;
 ghost use Rattle.cbor_io.specs.declared.error.Error.{Error};
-ghost use Rattle.cbor_collections.specs.Cases.{Stands, key_cases};
+ghost use Rattle.cbor_collections.specs.Cases.{Stands, TellsBadKey, key_cases};
 ghost use Rattle.cbor_collections.specs.MapAccesses.{TakesMapHead};
 ghost use Rattle.cbor_collections.specs.Begins.{TakesBeginning};
 ghost use Rattle.cbor_de.specs.declared.head.Head.TheVariants as kind;
@@ -117,7 +117,7 @@ fn key_may_begin<R: Source>(items: &mut Deserializer<R>, first: u8) -> Done<()>
 /// may not begin as it does is refused with `WrongStructFormat`, and a map of indefinite length
 /// that has no end with `EofWhileParsingMap`.
 #[inline(always)]
-#[tactic(auto, using(crate::proofs::Cases::made_stands, crate::proofs::Cases::key_stands))]
+#[tactic(auto, using(crate::proofs::Cases::made_stands, crate::proofs::Cases::key_stands, crate::proofs::BadKeys::bad_key_first, crate::proofs::BadKeys::bad_key_told))]
 pub fn more_pairs<R: Source>(items: &mut Deserializer<R>, remaining: &mut Remaining) -> Done<bool>
     ensures read { OnceMade (IsErrorOf items.new.refusal)
         (TakesMorePairs R.refusals (formats_of items.old.formats)
@@ -126,6 +126,9 @@ pub fn more_pairs<R: Source>(items: &mut Deserializer<R>, remaining: &mut Remain
     ensures cases { IfErr result (λ r. (e : Error) → IsErrorOf items.new.refusal r e
         → Stands (R.source items.old.source) e
         (key_cases (formats_of items.old.formats) remaining.old)) }
+    ensures bad_key { IfErr result (λ r. (e : Error) → IsErrorOf items.new.refusal r e
+        → TellsBadKey R.refusals (formats_of items.old.formats) remaining.old
+        (R.source items.old.source) e) }
     ensures counts { IfOk result (λ more. Counts remaining.old more remaining.new) }
     ensures levels { items.new.levels ≡ items.old.levels }
     ensures formats { items.new.formats ≡ items.old.formats }

@@ -11,6 +11,7 @@ ghost use Rattle.cbor_io.specs.declared.error.Error.{Error};
 ghost use Rattle.cbor_collections.specs.Begins.{Begins, RefusesBeginning};
 ghost use Rattle.cbor_de.specs.declared.head.Head.TheVariants as kind;
 ghost use Rattle.cbor_collections.specs.Accesses.{turns, size_of};
+ghost use Rattle.cbor_collections.specs.Cases.{TellsBadKey};
 ghost use Rattle.cbor_collections.specs.MapAccesses.{IsMapHead, RefusesMap, TakesKey};
 ghost use Rattle.cbor_collections.specs.MapAccesses.{TakesMapEnd};
 ghost use Rattle.cbor_scalars.specs.Takes.{TakesItem, context, formats_of, raws};
@@ -123,6 +124,10 @@ impl<'a, R: Source> MapAccess<'a, R> {
             (self.new.remaining ≡ Counted 0)
             (λ k. turns self.new.remaining (R.source self.new.de.now.items.source)
             < turns self.old.remaining (R.source self.old.de.now.items.source))) }
+        // Of a key that may begin as it does, it is the reading of `K` that refuses.
+        ensures bad_key { IfErr result (TellsBadKey R.refusals
+            (formats_of self.old.de.now.items.formats) self.old.remaining
+            (R.source self.old.de.now.items.source)) }
         ensures due { IfOk result (λ next. self.new.value_due ≡ is_some next) }
         ensures inside { IfOk result (λ k.
             self.new.de.now.items.levels ≡ self.old.de.now.items.levels) }

@@ -12,7 +12,7 @@ ghost use Rattle.cbor_de.specs.Gives.{Step, TellsNoForm};
 ghost use Rattle.cbor_collections.specs.Begins.{Begins, RefusesBeginning};
 ghost use Rattle.cbor_de.specs.declared.head.Head.TheVariants as kind;
 ghost use Rattle.cbor_collections.specs.Accesses.{turns, size_of};
-ghost use Rattle.cbor_collections.specs.Cases.{Stands, key_cases};
+ghost use Rattle.cbor_collections.specs.Cases.{Stands, TellsBadKey, key_cases};
 ghost use Rattle.cbor_scalars.specs.Identifiers.{IsMadeBy, NamesNoKey, texts};
 ghost use Rattle.cbor_collections.specs.MapAccesses.{IsMapHead, RefusesMap, TakesKey, TakesMapEnd};
 ghost use Rattle.cbor_typed.specs.Structs.{IsAny, IsField, place_in, missing_text, duplicate_text};
@@ -137,6 +137,9 @@ impl<'de, R: Read<'de>> Deserializer<R> {
         ensures cases { IfErr result (λ w. (e : Error) → IsMadeBy self.new.items.refusal w e
             → Stands (R.source self.old.items.source) e
             (key_cases (formats_of self.old.items.formats) remaining.old)) }
+        ensures bad_key { IfErr result (λ w. (e : Error) → IsMadeBy self.new.items.refusal w e
+            → TellsBadKey R.refusals (formats_of self.old.items.formats) remaining.old
+            (R.source self.old.items.source) e) }
         ensures levels { self.new.items.levels ≡ self.old.items.levels }
         ensures formats { self.new.items.formats ≡ self.old.items.formats }
     {
@@ -241,6 +244,10 @@ impl<'a, R: Source> StructAccess<'a, R> {
             < turns self.old.remaining (R.source self.old.de.now.items.source))) }
         ensures cases { IfErr result (λ e. Stands (R.source self.old.de.now.items.source) e
             (key_cases (formats_of self.old.de.now.items.formats) self.old.remaining)) }
+        // The other way: that key is told.
+        ensures bad_key { IfErr result (TellsBadKey R.refusals
+            (formats_of self.old.de.now.items.formats) self.old.remaining
+            (R.source self.old.de.now.items.source)) }
         ensures due { IfOk result (λ next. self.new.value_due ≡ is_some next) }
         ensures inside { IfOk result (λ k.
             self.new.de.now.items.levels ≡ self.old.de.now.items.levels) }

@@ -6,6 +6,7 @@ use Rattle.cbor_de.specs.declared.formats.Formats.{Formats}
 use Rattle.cbor_scalars.specs.Identifiers.{texts}
 use Rattle.cbor_typed.specs.Structs.{IsField}
 use Rattle.cbor_scalars.specs.Takes.{formats_of}
+use Rattle.cbor_collections.proofs.facts.Places.{bad_key_later}
 use Rattle.cbor_collections.proofs.facts.Maps.{none_is_key, there, key_refused, key_next, no_key_taken}
 use Rattle.cbor_typed.proofs.de.Deserializer.next_field.Goals as goal
 
@@ -76,3 +77,35 @@ returns-in_default-clause-read g c =
     let comes : more ≡ true = search rules in
     key_next s m remaining new more reads old.formats now.formats old.levels now.levels c.more_pairs.ensures.formats c.more_pairs.ensures.levels t c.in_ok-field.field
     (there s m remaining new more old.formats comes c.in_ok-more_pairs.ensures.read) c.in_ok-field.ensures.read
+
+-- ---- a key that may not begin as it does
+
+pub returns-in_err-more_pairs-clause-bad_key : goal.returns-in_err-more_pairs-clause-bad_key
+returns-in_err-more_pairs-clause-bad_key g c =
+    let passed = err_from_is_err_and c.from_residual.result c.from_residual.ensures.1 in
+    rw (passed.1, passed.2) (λ e made. c.in_err-more_pairs.ensures.bad_key e made)
+
+pub returns-in_err-field-clause-bad_key : goal.returns-in_err-field-clause-bad_key
+returns-in_err-field-clause-bad_key g c =
+    let passed = err_from_is_err_and c.from_residual-in_err-field.result c.from_residual-in_err-field.ensures.1 in
+    let old = c.args.self.now.items in
+    let s = g.R.Source.source old.source in
+    let m = g.R.Source.source c.more_pairs.new.items.source in
+    let remaining = c.args.remaining.now in
+    let new = c.more_pairs.new.remaining in
+    let more = c.in_ok-more_pairs.field-0 in
+    let comes : more ≡ true = search rules in
+    rw (passed.1, passed.2) (λ e made. bad_key_later g.R.Source.refusals (formats_of old.formats) remaining s new m e
+    (there s m remaining new more old.formats comes c.in_ok-more_pairs.ensures.read))
+
+pub returns-then-offset-start-clause-bad_key : goal.returns-then-offset-start-clause-bad_key
+returns-then-offset-start-clause-bad_key g c =
+    let old = c.args.self.now.items in
+    let s = g.R.Source.source old.source in
+    let m = g.R.Source.source c.more_pairs.new.items.source in
+    let remaining = c.args.remaining.now in
+    let new = c.more_pairs.new.remaining in
+    let more = c.in_ok-more_pairs.field-0 in
+    let comes : more ≡ true = search rules in
+    λ e made. bad_key_later g.R.Source.refusals (formats_of old.formats) remaining s new m e
+    (there s m remaining new more old.formats comes c.in_ok-more_pairs.ensures.read)

@@ -3,6 +3,7 @@ use Rattle.cbor_io.specs.Error.{code_of, offset_of}
 use Rattle.cbor_de.specs.Heads.{remaining_of}
 use Rattle.cbor_de.specs.declared.formats.Formats.{Formats}
 use Rattle.cbor_scalars.specs.Takes.{context, formats_of}
+use Rattle.cbor_collections.proofs.facts.Places.{bad_key_later}
 use Rattle.cbor_collections.proofs.facts.Maps.{none_is_key, there, key_refused, key_next, no_key_taken}
 use Rattle.cbor_typed.proofs.map.MapAccess.next_key.Goals as goal
 
@@ -53,3 +54,26 @@ returns-clause-read g c =
     let more = c.in-Ok-true.field-0 in
     key_next s m old.remaining new more reads old.de.now.items.formats now.formats old.de.now.items.levels now.levels c.more_pairs.ensures.formats c.more_pairs.ensures.levels t c.in-Ok.key
     (there s m old.remaining new more old.de.now.items.formats c.in-Ok-true.field-0-test c.in-Ok-true.ensures.read) c.in-Ok.ensures.read
+
+-- ---- a key that may not begin as it does
+
+pub returns-in-Err-clause-bad_key : goal.returns-in-Err-clause-bad_key
+returns-in-Err-clause-bad_key g c = c.in-Err.ensures.bad_key c.error.result c.error.ensures.tells
+
+pub returns-in-Err-deserialize-clause-bad_key : goal.returns-in-Err-deserialize-clause-bad_key
+returns-in-Err-deserialize-clause-bad_key g c =
+    let old = c.args.self.now in
+    let s = g.R.Source.source old.de.now.items.source in
+    let m = g.R.Source.source c.more_pairs.new.items.source in
+    let new = c.more_pairs.new.remaining in
+    bad_key_later g.R.Source.refusals (formats_of old.de.now.items.formats) old.remaining s new m c.in-Err-deserialize.e
+    (there s m old.remaining new c.in-Ok-true.field-0 old.de.now.items.formats c.in-Ok-true.field-0-test c.in-Ok-true.ensures.read)
+
+pub returns-then-offset-start-clause-bad_key : goal.returns-then-offset-start-clause-bad_key
+returns-then-offset-start-clause-bad_key g c =
+    let old = c.args.self.now in
+    let s = g.R.Source.source old.de.now.items.source in
+    let m = g.R.Source.source c.more_pairs.new.items.source in
+    let new = c.more_pairs.new.remaining in
+    bad_key_later g.R.Source.refusals (formats_of old.de.now.items.formats) old.remaining s new m c.no_key.result
+    (there s m old.remaining new c.in-Ok-true.field-0 old.de.now.items.formats c.in-Ok-true.field-0-test c.in-Ok-true.ensures.read)
