@@ -1,4 +1,5 @@
 pub mod Memory
+pub mod Asked
 pub mod Steps
 pub mod Calls
 pub mod Peeked
@@ -16,6 +17,8 @@ pub mod Texts
 pub mod Numbers
 pub mod All
 pub mod FirstRefusal
+pub mod Mapped
+pub mod SkippedChunks
 pub mod Skipped
 pub mod SkippedStrings
 pub mod facts

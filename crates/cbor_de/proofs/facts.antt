@@ -1,4 +1,6 @@
 -- What the crates above may cite of this crate's proofs, and nothing else.
 pub mod FirstRefusal
 pub mod Heads
+pub mod Memory
+pub mod Readings
 pub mod Steps

@@ -3,6 +3,7 @@ pub mod Cursor
 pub mod Deserializer
 pub mod FirstRefusal
 pub mod Gives
+pub mod HasChunks
 pub mod Memory
 pub mod Heads
 pub mod Strings

@@ -1,14 +1,17 @@
 //! Passing over the item at the front of a source.
 
 ghost use Rattle.std.specs.Prelude.{◌≡◌, IfErr, OnOk};
-ghost use Rattle.cbor_model.specs.Head.{no_bytes};
-ghost use Rattle.cbor_model.specs.Raw.{indefinite};
+ghost use Rattle.cbor_model.specs.Head.{HeadWidth, no_bytes};
+ghost use Rattle.cbor_model.specs.Raw.{Length, indefinite};
 ghost use Rattle.cbor_model.specs.Reader.{inside, parts_at, items_of, pairs_of, array_at, map_at};
 ghost use Rattle.cbor_model.specs.Reader.{tag_at, after_first, item_at};
 ghost use Rattle.cbor_de.specs.Deserializer.{formats_of, values_by};
 ghost use Rattle.cbor_de.specs.Gives.{Gives, Onward};
-ghost use Rattle.cbor_de.specs.Memory.{AsksToSkip, MemoryOnly};
-ghost use Rattle.cbor_de.specs.Heads.{after_head, remaining_of, passed};
+ghost use Rattle.cbor_read.specs.Source.{asks_for};
+ghost use Rattle.cbor_de.specs.HasChunks.{AllRead, AsksToSkip, AsksWhere, raws_by};
+ghost use Rattle.cbor_de.specs.HasChunks.{HasChunks, SomeHasChunks, SomePairHasChunks};
+ghost use Rattle.cbor_de.specs.Memory.{MemoryOnly};
+ghost use Rattle.cbor_de.specs.Heads.{after_head, behind_head, remaining_of, passed};
 
 use crate::cursor::{Collection, Remaining};
 use crate::de::Deserializer;
@@ -19,16 +22,17 @@ use cbor_read::{ReadErrorCode, Source};
 impl<R: Source> Deserializer<R> {
     /// Passes over an item, of which nothing is kept.
     ///
-    /// A slice takes no memory for it, but where chunks of a string are joined in a buffer that
-    /// grows.
+    /// A slice takes no memory for it, but where chunks of a string that it has are joined in a
+    /// buffer that grows.
     #[cycle(skip)]
     #[tactic(auto, using(crate::proofs::Memory::none_asked))]
     pub fn skip(&mut self) -> Done<()>
         ensures read { Gives R.refusals (λ u. u)
             (λ l bs. passed (item_at (values_by self.old.formats l) self.old.levels bs))
             (R.source self.old.source) (R.source self.new.source) self.new.refusal result }
-        ensures memory { IfErr result (MemoryOnly (AsksToSkip R.refusals R.lends)
-            self.new.refusal) }
+        ensures memory { IfErr result (MemoryOnly (AsksToSkip R.refusals R.lends HasChunks
+            (λ l. item_at (raws_by self.old.formats l) self.old.levels)
+            (R.source self.old.source)) self.new.refusal) }
         ensures levels { self.new.levels ≡ self.old.levels }
         ensures formats { self.new.formats ≡ self.old.formats }
         ensures taken { OnOk result (Onward (R.source self.old.source) (R.source self.new.source)) }
@@ -45,8 +49,10 @@ impl<R: Source> Deserializer<R> {
             (λ l bs. passed (after_first (values_by self.old.formats l)
             (inside (values_by self.old.formats l) self.old.levels) first bs))
             (R.source self.old.source) (R.source self.new.source) self.new.refusal result }
-        ensures memory { IfErr result (MemoryOnly (AsksToSkip R.refusals R.lends)
-            self.new.refusal) }
+        ensures memory { IfErr result (MemoryOnly (AsksToSkip R.refusals R.lends HasChunks
+            (λ l. after_first (raws_by self.old.formats l)
+            (inside (raws_by self.old.formats l) self.old.levels) first)
+            (R.source self.old.source)) self.new.refusal) }
         ensures levels { self.new.levels ≡ self.old.levels }
         ensures formats { self.new.formats ≡ self.old.formats }
     {
@@ -61,8 +67,10 @@ impl<R: Source> Deserializer<R> {
             (λ l bs. passed (after_head (formats_of self.old.formats) l
             (inside (values_by self.old.formats l) self.old.levels) head bs))
             (R.source self.old.source) (R.source self.new.source) self.new.refusal result }
-        ensures memory { IfErr result (MemoryOnly (AsksToSkip R.refusals R.lends)
-            self.new.refusal) }
+        ensures memory { IfErr result (MemoryOnly (AsksWhere (asks_for R.refusals R.lends)
+            ((w : HeadWidth) → AllRead HasChunks (λ l. behind_head (raws_by self.old.formats l)
+            (inside (raws_by self.old.formats l) self.old.levels) w head)
+            (R.source self.old.source))) self.new.refusal) }
         ensures levels { self.new.levels ≡ self.old.levels }
         ensures formats { self.new.formats ≡ self.old.formats }
     {
@@ -93,8 +101,10 @@ impl<R: Source> Deserializer<R> {
             (inside (values_by self.old.formats l) self.old.levels) indefinite
             (remaining_of remaining) bs))
             (R.source self.old.source) (R.source self.new.source) self.new.refusal result }
-        ensures memory { IfErr result (MemoryOnly (AsksToSkip R.refusals R.lends)
-            self.new.refusal) }
+        ensures memory { IfErr result (MemoryOnly (AsksWhere (asks_for R.refusals R.lends)
+            ((n : Length) → AllRead HasChunks (λ l. array_at (raws_by self.old.formats l)
+            (inside (raws_by self.old.formats l) self.old.levels) n (remaining_of remaining))
+            (R.source self.old.source))) self.new.refusal) }
         ensures levels { self.new.levels ≡ self.old.levels }
         ensures formats { self.new.formats ≡ self.old.formats }
     {
@@ -113,8 +123,10 @@ impl<R: Source> Deserializer<R> {
             (λ l bs. passed (parts_at (items_of (values_by self.old.formats l)
             (item_at (values_by self.old.formats l) self.old.levels)) (remaining_of remaining) bs))
             (R.source self.old.source) (R.source self.new.source) self.new.refusal result }
-        ensures memory { IfErr result (MemoryOnly (AsksToSkip R.refusals R.lends)
-            self.new.refusal) }
+        ensures memory { IfErr result (MemoryOnly (AsksToSkip R.refusals R.lends SomeHasChunks
+            (λ l. parts_at (items_of (raws_by self.old.formats l)
+            (item_at (raws_by self.old.formats l) self.old.levels)) (remaining_of remaining))
+            (R.source self.old.source)) self.new.refusal) }
         ensures levels { self.new.levels ≡ self.old.levels }
         ensures formats { self.new.formats ≡ self.old.formats }
     {
@@ -133,8 +145,10 @@ impl<R: Source> Deserializer<R> {
             (inside (values_by self.old.formats l) self.old.levels) indefinite
             (remaining_of remaining) bs))
             (R.source self.old.source) (R.source self.new.source) self.new.refusal result }
-        ensures memory { IfErr result (MemoryOnly (AsksToSkip R.refusals R.lends)
-            self.new.refusal) }
+        ensures memory { IfErr result (MemoryOnly (AsksWhere (asks_for R.refusals R.lends)
+            ((n : Length) → AllRead HasChunks (λ l. map_at (raws_by self.old.formats l)
+            (inside (raws_by self.old.formats l) self.old.levels) n (remaining_of remaining))
+            (R.source self.old.source))) self.new.refusal) }
         ensures levels { self.new.levels ≡ self.old.levels }
         ensures formats { self.new.formats ≡ self.old.formats }
     {
@@ -153,8 +167,10 @@ impl<R: Source> Deserializer<R> {
             (λ l bs. passed (parts_at (pairs_of (values_by self.old.formats l)
             (item_at (values_by self.old.formats l) self.old.levels)) (remaining_of remaining) bs))
             (R.source self.old.source) (R.source self.new.source) self.new.refusal result }
-        ensures memory { IfErr result (MemoryOnly (AsksToSkip R.refusals R.lends)
-            self.new.refusal) }
+        ensures memory { IfErr result (MemoryOnly (AsksToSkip R.refusals R.lends SomePairHasChunks
+            (λ l. parts_at (pairs_of (raws_by self.old.formats l)
+            (item_at (raws_by self.old.formats l) self.old.levels)) (remaining_of remaining))
+            (R.source self.old.source)) self.new.refusal) }
         ensures levels { self.new.levels ≡ self.old.levels }
         ensures formats { self.new.formats ≡ self.old.formats }
     {
@@ -176,8 +192,10 @@ impl<R: Source> Deserializer<R> {
             (λ l bs. passed (tag_at (values_by self.old.formats l)
             (inside (values_by self.old.formats l) self.old.levels) no_bytes tag bs))
             (R.source self.old.source) (R.source self.new.source) self.new.refusal result }
-        ensures memory { IfErr result (MemoryOnly (AsksToSkip R.refusals R.lends)
-            self.new.refusal) }
+        ensures memory { IfErr result (MemoryOnly (AsksWhere (asks_for R.refusals R.lends)
+            ((w : HeadWidth) → AllRead HasChunks (λ l. tag_at (raws_by self.old.formats l)
+            (inside (raws_by self.old.formats l) self.old.levels) w tag)
+            (R.source self.old.source))) self.new.refusal) }
         ensures levels { self.new.levels ≡ self.old.levels }
         ensures formats { self.new.formats ≡ self.old.formats }
     {

@@ -6,8 +6,9 @@ ghost use Rattle.cbor_model.specs.Formats.{all_formats};
 ghost use Rattle.cbor_model.specs.Head.{no_bytes};
 ghost use Rattle.cbor_model.specs.Reader.{bytes_at, string_at, string_chunks_at};
 ghost use Rattle.cbor_model.specs.Reader.{text_at, text_chunks_at};
-ghost use Rattle.cbor_de.specs.Gives.{Gives, values};
-ghost use Rattle.cbor_de.specs.Memory.{AsksToSkip, MemoryOnly};
+ghost use Rattle.cbor_de.specs.Gives.{Gives, TellsNoMemory, values};
+ghost use Rattle.cbor_de.specs.HasChunks.{AsksForWhole};
+ghost use Rattle.cbor_de.specs.Memory.{AsksToJoin, MemoryOnly};
 ghost use Rattle.cbor_de.specs.Heads.{passed};
 ghost use Rattle.cbor_de.specs.Strings.{bad_of, checked_by};
 
@@ -31,12 +32,12 @@ fn bad_in(bytes: &[u8]) -> usize
 
 impl<R: Source> Deserializer<R> {
     /// Passes over n bytes.
-    #[tactic(auto, using(crate::proofs::Memory::whole_at_all))]
+    #[tactic(auto, using(crate::proofs::Asked::whole_asked))]
     pub fn skip_bytes(&mut self, n: u64) -> Done<()>
         ensures read { Gives R.refusals (λ u. u)
             (λ l bs. passed (string_at (values all_formats l) no_bytes n bs))
             (R.source self.old.source) (R.source self.new.source) self.new.refusal result }
-        ensures memory { IfErr result (MemoryOnly (AsksToSkip R.refusals R.lends)
+        ensures memory { IfErr result (MemoryOnly (AsksForWhole R.refusals R.lends)
             self.new.refusal) }
         ensures levels { self.new.levels ≡ self.old.levels }
         ensures formats { self.new.formats ≡ self.old.formats }
@@ -48,11 +49,12 @@ impl<R: Source> Deserializer<R> {
     }
 
     /// Passes over a text of n bytes.
+    #[tactic(auto, using(crate::proofs::Memory::none_asked, crate::proofs::Asked::none_asked_all))]
     pub fn skip_text(&mut self, n: u64) -> Done<()>
         ensures read { Gives R.refusals (λ u. u)
             (λ l bs. passed (text_at (values all_formats l) no_bytes n bs))
             (R.source self.old.source) (R.source self.new.source) self.new.refusal result }
-        ensures memory { IfErr result (MemoryOnly (AsksToSkip R.refusals R.lends)
+        ensures memory { IfErr result (MemoryOnly (AsksForWhole R.refusals R.lends)
             self.new.refusal) }
         ensures levels { self.new.levels ≡ self.old.levels }
         ensures formats { self.new.formats ≡ self.old.formats }
@@ -65,12 +67,11 @@ impl<R: Source> Deserializer<R> {
     }
 
     /// Passes over a byte string in chunks.
-    #[tactic(auto, using(crate::proofs::Memory::joined_at_all))]
     pub fn skip_byte_chunks(&mut self) -> Done<()>
         ensures read { Gives R.refusals (λ u. u)
             (λ l bs. passed (string_chunks_at (values all_formats l) bs))
             (R.source self.old.source) (R.source self.new.source) self.new.refusal result }
-        ensures memory { IfErr result (MemoryOnly (AsksToSkip R.refusals R.lends)
+        ensures memory { IfErr result (MemoryOnly (AsksToJoin R.refusals R.lends)
             self.new.refusal) }
         ensures levels { self.new.levels ≡ self.old.levels }
         ensures formats { self.new.formats ≡ self.old.formats }
@@ -79,12 +80,12 @@ impl<R: Source> Deserializer<R> {
     }
 
     /// Passes over a text in chunks.
-    #[tactic(auto, using(crate::proofs::Memory::joined_at_all))]
+    #[tactic(auto, using(crate::proofs::Memory::none_asked, crate::proofs::Asked::none_asked_all))]
     pub fn skip_text_chunks(&mut self) -> Done<()>
         ensures read { Gives R.refusals (λ u. u)
             (λ l bs. passed (text_chunks_at (values all_formats l) bs))
             (R.source self.old.source) (R.source self.new.source) self.new.refusal result }
-        ensures memory { IfErr result (MemoryOnly (AsksToSkip R.refusals R.lends)
+        ensures memory { IfErr result (MemoryOnly (AsksToJoin R.refusals R.lends)
             self.new.refusal) }
         ensures levels { self.new.levels ≡ self.old.levels }
         ensures formats { self.new.formats ≡ self.old.formats }
@@ -95,12 +96,12 @@ impl<R: Source> Deserializer<R> {
     }
 
     // Takes n bytes, and returns how many of them stand from the first on that isn't UTF-8.
-    #[tactic(auto, using(crate::proofs::SkippedStrings::valid_within, crate::proofs::SkippedStrings::bad_within, crate::proofs::Memory::whole_at_all))]
+    #[tactic(auto, using(crate::proofs::SkippedStrings::valid_within, crate::proofs::SkippedStrings::bad_within, crate::proofs::Asked::whole_asked))]
     fn bad_of_next(&mut self, n: u64) -> Done<usize>
         ensures read { Gives R.refusals (λ bad. bad) (λ l bs. bad_of (bytes_at n bs))
             (R.source self.old.source) (R.source self.new.source) self.new.refusal result }
         ensures counted { IfOk result (λ bad. bad ≤ (R.source self.new.source).offset) }
-        ensures memory { IfErr result (MemoryOnly (AsksToSkip R.refusals R.lends)
+        ensures memory { IfErr result (MemoryOnly (AsksForWhole R.refusals R.lends)
             self.new.refusal) }
         ensures levels { self.new.levels ≡ self.old.levels }
         ensures formats { self.new.formats ≡ self.old.formats }
@@ -117,8 +118,7 @@ impl<R: Source> Deserializer<R> {
         requires taken { bad ≤ (R.source self.old.source).offset }
         ensures read { Gives R.refusals (λ u. u) (λ l. checked_by bad)
             (R.source self.old.source) (R.source self.new.source) self.new.refusal result }
-        ensures memory { IfErr result (MemoryOnly (AsksToSkip R.refusals R.lends)
-            self.new.refusal) }
+        ensures memory { IfErr result (TellsNoMemory self.new.refusal) }
         ensures levels { self.new.levels ≡ self.old.levels }
         ensures formats { self.new.formats ≡ self.old.formats }
     {

@@ -23,7 +23,7 @@ use Rattle.cbor_de.proofs.facts.Steps.{value_in}
 use Rattle.cbor_scalars.specs.Takes.{WhereTotal}
 use Rattle.cbor_typed.specs.Whole.{IsWholeRead, ReadsAll}
 use Rattle.cbor_typed.proofs.Faults.{where_map}
-use Rattle.cbor_typed.proofs.Mapped.{along, value_seen}
+use Rattle.cbor_de.proofs.facts.Readings.{along, value_seen}
 use Rattle.cbor_io.specs.declared.read_error.ReadErrorCode.{ReadErrorCode}
 
 -- where reading gives a value, only memory fails

@@ -24,7 +24,7 @@ use Rattle.cbor_de.proofs.facts.Steps.{step_map, stopped_map, passed_on, fault_i
 use Rattle.cbor_scalars.specs.Takes.{raws, IsRead, IsNotRead, Refuses, WhereTotal, TellsFault}
 use Rattle.cbor_typed.specs.Whole.{TellsWhole}
 use Rattle.cbor_scalars.proofs.facts.Refusals.{refuses}
-use Rattle.cbor_typed.proofs.Mapped.{along, value_seen}
+use Rattle.cbor_de.proofs.facts.Readings.{along, value_seen}
 
 pub where_map : {P Q : Type 0} (total : Bool) → (P → Q) → WhereTotal total P → WhereTotal total Q
 where_map false f h = tt

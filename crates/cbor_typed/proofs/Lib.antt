@@ -1,7 +1,6 @@
 pub mod Elements
 pub mod WholeMaps
 pub mod Inputs
-pub mod Mapped
 pub mod Faults
 pub mod FirstRefusals
 pub mod Alike

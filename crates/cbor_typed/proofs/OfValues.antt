@@ -20,7 +20,7 @@ use Rattle.cbor_de.specs.Gives.{Limits, values}
 use Rattle.cbor_de.proofs.facts.Steps.{step_map}
 use Rattle.cbor_scalars.specs.Takes.{raws, IsRead, IsNotRead, Refuses, TakesItem, TellsItem}
 use Rattle.cbor_typed.proofs.Faults.{AsValue}
-use Rattle.cbor_typed.proofs.Mapped.{along, value_seen}
+use Rattle.cbor_de.proofs.facts.Readings.{along, value_seen}
 use Rattle.cbor_collections.proofs.facts.Refusals.{refuses_memory, refuses_by, refuses_fault}
 
 -- ---- what a value stands for that holds no other

@@ -99,8 +99,9 @@ fn are_bytes(slice: &[u8])
 /// - `Message`, without an offset: an item that the type doesn't read;
 /// - `OutOfMemory`: an allocation failed. No memory is taken on the word of a head. None is taken
 ///   for a bool, a number, a float, `()` and a borrowed string; for a `char` and a `ByteArray` that
-///   aren't in chunks; for a `Value` that is a bool, a number, a float or null; and for an `Option`
-///   of these: where such an item is there, it is read.
+///   aren't in chunks; for an `IgnoredAny` of an item that has no string in chunks; for a `Value`
+///   that is a bool, a number, a float or null; and for an `Option` of these: where such an item is
+///   there, it is read.
 ///
 /// Where several faults stand in one input, a type that reads every item, as `Value` does, returns
 /// the first; of others no clause says which is returned. But a bool, a number, a `char`, `()`, a

@@ -6,7 +6,8 @@ use cbor_io::error::Result;
 use cbor_read::Read;
 
 /// Any item, of which nothing is kept: it has to be acceptable, with keys of the formats that are
-/// read.
+/// read. From a slice that is only read, memory may be asked for where the item has a string in
+/// chunks, and for no other item.
 ///
 /// ```rust
 /// let mut de = Deserializer::new(alloc, SliceRead::new(alloc, b"\x82\x01\xf6\x05"));
@@ -18,13 +19,13 @@ pub struct IgnoredAny;
 
 impl Readable for IgnoredAny {
     ghost use Rattle.std.specs.Prelude.{⊤, true};
-    ghost use Rattle.cbor_de.specs.Memory.{AsksAtAll};
+    ghost use Rattle.cbor_de.specs.HasChunks.{AsksWhere, HasChunks};
 
     ghost reads = { λ c r x. ⊤ };
 
     ghost total = { true };
 
-    ghost asks_memory = { λ a r. AsksAtAll a };
+    ghost asks_memory = { λ a r. AsksWhere a (HasChunks r) };
 }
 
 impl<'de, R: Read<'de>> Deserialize<'de, R> for IgnoredAny {

@@ -2,7 +2,9 @@ use Rattle.std.proofs.Common.{◌≡◌, ◌+◌, ◌-◌, ◌*◌, ◌^◌}
 use Rattle.cbor_de.specs.Deserializer.{formats_of}
 use Rattle.cbor_de.specs.Gives.{Step}
 use Rattle.cbor_de.specs.Heads.{remaining_of}
+use Rattle.cbor_de.specs.HasChunks.{SomeHasChunks, SomePairHasChunks}
 use Rattle.cbor_de.proofs.Skipped.{ItemsSoFar, PairsSoFar}
+use Rattle.cbor_de.proofs.SkippedChunks.{Leads, items, pairs}
 use Rattle.cbor_de.proofs.de.Deserializer.+skip.Given as goal
 
 abbrev pub decreases-skip : goal.decreases-skip
@@ -32,6 +34,7 @@ decreases-skip_pairs g l = 8 * l.self.now.levels + 8
 abbrev pub invariant-skip_items-items : goal.invariant-skip_items-items
 invariant-skip_items-items g l = record {
   so_far : Step (g.R.Source.source l.fn.self.source) (g.R.Source.source l.self.source) (ItemsSoFar (formats_of l.fn.self.formats) l.fn.self.levels (remaining_of l.fn.remaining) (remaining_of l.remaining));
+  leads : Step (g.R.Source.source l.fn.self.source) (g.R.Source.source l.self.source) (Leads SomeHasChunks (items (formats_of l.fn.self.formats) l.fn.self.levels (remaining_of l.fn.remaining)) SomeHasChunks (items (formats_of l.fn.self.formats) l.fn.self.levels (remaining_of l.remaining)));
   levels : l.self.levels ≡ l.fn.self.levels;
   formats : l.self.formats ≡ l.fn.self.formats;
 }
@@ -42,6 +45,7 @@ decreases-skip_items-items g l = 2 ^ 64 - (g.R.Source.source l.self.source).offs
 abbrev pub invariant-skip_pairs-pairs : goal.invariant-skip_pairs-pairs
 invariant-skip_pairs-pairs g l = record {
   so_far : Step (g.R.Source.source l.fn.self.source) (g.R.Source.source l.self.source) (PairsSoFar (formats_of l.fn.self.formats) l.fn.self.levels (remaining_of l.fn.remaining) (remaining_of l.remaining));
+  leads : Step (g.R.Source.source l.fn.self.source) (g.R.Source.source l.self.source) (Leads SomePairHasChunks (pairs (formats_of l.fn.self.formats) l.fn.self.levels (remaining_of l.fn.remaining)) SomePairHasChunks (pairs (formats_of l.fn.self.formats) l.fn.self.levels (remaining_of l.remaining)));
   levels : l.self.levels ≡ l.fn.self.levels;
   formats : l.self.formats ≡ l.fn.self.formats;
 }

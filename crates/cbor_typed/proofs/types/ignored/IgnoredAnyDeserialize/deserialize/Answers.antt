@@ -2,10 +2,11 @@ use Rattle.std.specs.Prelude.{⊤}
 use Rattle.cbor_scalars.specs.Takes.{formats_of}
 use Rattle.cbor_typed.proofs.Faults.{any_passed, any_stops, value_refused}
 use Rattle.cbor_read.specs.Source.{asks_for}
-use Rattle.cbor_de.specs.Memory.{AsksAtAll}
+use Rattle.cbor_de.specs.HasChunks.{AllRead, AsksWhere, HasChunks, raws}
+use Rattle.cbor_de.proofs.facts.Memory.{asks_on}
 use Rattle.cbor_scalars.proofs.facts.Refusals.{error_only, told_by}
 use Rattle.cbor_model.specs.Reader.{item_at}
-use Rattle.cbor_de.specs.Gives.{values}
+use Rattle.cbor_de.specs.Gives.{Limits, values}
 use Rattle.cbor_typed.proofs.types.ignored.IgnoredAnyDeserialize.deserialize.Goals as goal
 
 pub returns-in-Ok-clause-read : goal.returns-in-Ok-clause-read
@@ -31,4 +32,9 @@ returns-in-Err-clause-fault g c =
 
 pub returns-in-Err-clause-memory : goal.returns-in-Err-clause-memory
 returns-in-Err-clause-memory g c = λ is bs tells x rest got.
-    error_only (AsksAtAll (asks_for g.R.Source.refusals g.R.Source.lends)) c.skip.new.self.refusal c.in-Err.refused c.error.result c.error.ensures.tells c.in-Err.ensures.memory is
+    let d = c.args.de.now.items in
+    let s = g.R.Source.source d.source in
+    let asks = asks_for g.R.Source.refusals g.R.Source.lends in
+    let read = λ (l : Limits). item_at (raws (formats_of d.formats) l) d.levels in
+    let asked = error_only (AsksWhere asks (AllRead HasChunks read s)) c.skip.new.self.refusal c.in-Err.refused c.error.result c.error.ensures.tells c.in-Err.ensures.memory is in
+    asks_on asks (AllRead HasChunks read s) (HasChunks got.item) (λ all. all bs tells got.item rest got.is) asked

@@ -5,7 +5,7 @@ use Rattle.cbor_de.specs.Gives.{limits, values}
 use Rattle.cbor_de.specs.Memory.{ReadsStored}
 use Rattle.cbor_scalars.proofs.facts.Refusals.{error_only}
 use Rattle.cbor_scalars.specs.Takes.{formats_of}
-use Rattle.cbor_typed.proofs.Mapped.{along, value_seen}
+use Rattle.cbor_de.proofs.facts.Readings.{along, value_seen}
 use Rattle.cbor_typed.proofs.Faults.{AsValue, value_taken, value_refused}
 use Rattle.cbor_typed.proofs.types.value.ValueDeserialize.deserialize.Goals as goal
 

@@ -8,14 +8,14 @@ use Rattle.cbor_model.specs.Plain as plain
 use Rattle.cbor_model.specs.Plain.{Val, Pairs}
 use Rattle.cbor_model.specs.Value as model
 use Rattle.cbor_model.specs.Value.{value}
-use Rattle.cbor_model.specs.Reader.{Reads, ◌>>=◌, Parts, Remaining, go_on, next_at, parts_by, parts_at, key_at, pair_at, items_of, pairs_of, bytes_at, chunks_at, string_at, checked_text, text_at, string_chunks_at, text_chunks_at, array_at, map_at, tag_at, item_at, inside}
+use Rattle.cbor_model.specs.Reader.{Reads, Reading, ◌>>=◌, byte_at, after_first, item_by, Parts, Remaining, go_on, next_at, parts_by, parts_at, key_at, pair_at, items_of, pairs_of, bytes_at, chunks_at, string_at, checked_text, text_at, string_chunks_at, text_chunks_at, array_at, map_at, tag_at, item_at, inside}
 use Rattle.cbor_value.specs.declared.Float.TheVariants.{Half, Single, Double}
 use Rattle.cbor_de.specs.Gives.{Limits, values}
-use Rattle.cbor_de.specs.Heads.{opening_at, behind_head}
+use Rattle.cbor_de.specs.Heads.{opening_at, head_at, behind_head}
 use Rattle.cbor_de.specs.declared.head.Head.{Head}
 use Rattle.cbor_de.specs.declared.head.Head.TheVariants as head
-use Rattle.cbor_scalars.specs.Takes.{raws}
-use Rattle.cbor_scalars.proofs.facts.Items.{item_opened}
+use Rattle.cbor_de.specs.HasChunks.{raws}
+use Rattle.cbor_de.proofs.Heads.{first_behind}
 
 -- what is read, seen by h
 abbrev pub along : {A B : Type 0} → (A → B) → Reads A → Reads B
@@ -28,6 +28,22 @@ along_cond h false x y x' y' a b = b
 along_bind : {A B X : Type 0} (h : A → B) (r : Reads X) (f : X × List ℕ → Reads B) (g : X × List ℕ → Reads A) → ((x : X × List ℕ) → f x ≡ along h (g x)) → (r >>= f) ≡ along h (r >>= g)
 along_bind h (Ok x) f g same = same x
 along_bind h (Err e) f g same = refl
+
+-- ---- heads
+
+module _ {Item Items Pairs : Type 0} (m : Reading Item Items Pairs) where
+  abbrev behind : Option (List ℕ → Reads Item) → (HeadWidth × Head) × List ℕ → Reads Item
+  behind inner h = behind_head m inner h.0.0 h.0.1 h.1
+
+  first_opened : (inner : Option (List ℕ → Reads Item)) (r : Reads ℕ) → (r >>= (λ b. after_first m inner b.0 b.1)) ≡ ((r >>= (λ b. head_at b.0 b.1)) >>= behind inner)
+  first_opened inner (Ok b) = first_behind m inner b.0 b.1
+  first_opened inner (Err f) = refl
+
+  -- an item is read after its head
+  pub item_opened : (levels : ℕ) (bs : List ℕ) → item_at m levels bs ≡ (opening_at bs >>= behind (inside m levels))
+  unfolding item_at item_by
+  item_opened zero bs = first_opened None (byte_at bs)
+  item_opened (suc levels) bs = first_opened (Some (item_at m levels)) (byte_at bs)
 
 -- ---- parts
 
