@@ -1,5 +1,5 @@
 -- Where memory ran out.
-use Rattle.std.proofs.Common.{◌≡◌, inl, inr, ℕ, Bool, true, false, cond, List, Option, Some, None, IsSomeAnd, Result, Ok, Err, IfErr, sym, ◌∙◌, ap, subst}
+use Rattle.std.proofs.Common.{◌≡◌, ℕ, Bool, true, false, cond, List, Option, Some, None, IsSomeAnd, Result, Ok, Err, IfErr, sym, ◌∙◌, ap, subst}
 use Rattle.cbor_model.specs.Formats.{Formats, all_formats}
 use Rattle.cbor_model.specs.Head.{HeadWidth}
 use Rattle.cbor_model.specs.Plain.{Val}
@@ -9,10 +9,10 @@ use Rattle.cbor_model.proofs.facts.Reader.{ok_is}
 use Rattle.cbor_io.specs.ReadError.{why}
 use Rattle.cbor_io.specs.declared.read_error.ReadError.{ReadError}
 use Rattle.cbor_io.specs.declared.read_error.ReadErrorCode.TheVariants.{OutOfMemory}
-use Rattle.cbor_read.specs.Source.{Input, Asks, MemoryWhere}
+use Rattle.cbor_read.specs.Source.{Input}
 use Rattle.cbor_de.specs.Gives.{Limits, limits, values, Step, TellsNoMemory}
 use Rattle.cbor_de.specs.Heads.{after_head, head_at}
-use Rattle.cbor_de.specs.Memory.{MemoryOnly, AsksAtAll, IsStored, IsStoredHead, ReadsStored}
+use Rattle.cbor_de.specs.Memory.{MemoryOnly, IsStored, IsStoredHead, ReadsStored}
 use Rattle.cbor_de.specs.declared.head.Head.{Head}
 use Rattle.cbor_de.specs.declared.head.Head.TheVariants as head
 use Rattle.cbor_de.specs.declared.refusal.Refused.{Refused}
@@ -47,14 +47,6 @@ pub kept_other : (P : Type 0) (kept : Option ReadError) (r : Refused) (Q : ReadE
 kept_other P kept refused.OutOfMemory Q other is h = absurd cc
 kept_other P None refused.Kept Q other is h = absurd h
 kept_other P (Some q) refused.Kept Q other is h = λ why_is. absurd (other q h why_is)
-
--- a refusal of the source to skip
-pub whole_at_all : (asks : Asks) (kept : Option ReadError) (r : Refused) (e : ReadError) → r ≡ refused.Kept → kept ≡ Some e → MemoryWhere asks.whole e → MemoryOnly (AsksAtAll asks) kept r
-whole_at_all asks kept r e is keeps h = kept_asked (AsksAtAll asks) kept r e is keeps (λ why_is. inl (h why_is))
-
--- who joins chunks skips too
-pub joined_at_all : (asks : Asks) (kept : Option ReadError) (r : Refused) → MemoryOnly (asks.joined ≡ true) kept r → MemoryOnly (AsksAtAll asks) kept r
-joined_at_all asks kept r h = asked_on (asks.joined ≡ true) (AsksAtAll asks) kept r (λ is. inr is) h
 
 -- what holds holds where memory ran out
 pub stored : (P : Type 0) (kept : Option ReadError) (r : Refused) → P → MemoryOnly P kept r

@@ -1,9 +1,9 @@
 -- That an item which is passed over has a string in chunks, by what is read of its parts.
-use Rattle.std.proofs.Common.{◌≡◌, ◌∙◌, ◌⊎◌, inl, inr, ℕ, zero, suc, ◌+◌, ◌<◌, Bool, true, false, cond, List, [], ◌∷◌, length, Option, Some, None, Ok, Err, refl, sym, ap, subst, arith}
+use Rattle.std.proofs.Common.{◌≡◌, ◌∙◌, ◌⊎◌, inl, inr, ℕ, zero, suc, ◌<◌, Bool, true, false, cond, List, ◌∷◌, length, Option, Some, None, Ok, Err, refl, sym, ap, subst, arith}
 use Rattle.cbor_model.specs.Formats.{Formats, may_begin_key}
 use Rattle.cbor_model.specs.Head.{HeadWidth}
 use Rattle.cbor_model.specs.Raw as raw
-use Rattle.cbor_model.specs.Raw.{Raw, Raws, RawPairs, raw_pair, Length, joined}
+use Rattle.cbor_model.specs.Raw.{Raw, Raws, RawPairs, Length, joined}
 use Rattle.cbor_model.specs.Refusal.{end_in_array, end_in_map}
 use Rattle.cbor_model.specs.Reader.{Fault, Reads, Reading, ◌>>=◌, byte_at, Remaining, next_at, Parts, go_on, parts_by, parts_at, key_at, pair_at, items_of, pairs_of, chunks_at, string_chunks_at, checked_text, text_chunks_at, array_at, map_at, tag_at, after_first, item_by, item_at, inside}
 use Rattle.cbor_model.specs.Value.{value}

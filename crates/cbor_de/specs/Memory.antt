@@ -1,12 +1,12 @@
 -- Where memory may run out.
-use Rattle.std.specs.Prelude.{⊤, ◌≡◌, ℕ, Bool, true, List, Option, Some, None, Ok, ◌⊎◌}
+use Rattle.std.specs.Prelude.{⊤, ◌≡◌, ℕ, Bool, true, List, Option, Some, None, Ok}
 use Rattle.cbor_model.specs.Plain.{Val, bytes, text, array, map, tag}
 use Rattle.cbor_model.specs.Reader.{Reads}
 use Rattle.cbor_io.specs.ReadError.{why}
 use Rattle.cbor_io.specs.declared.read_error.ReadError.{ReadError}
 use Rattle.cbor_io.specs.declared.read_error.ReadErrorCode.{ReadErrorCode}
 use Rattle.cbor_io.specs.declared.read_error.ReadErrorCode.TheVariants as reading
-use Rattle.cbor_read.specs.Source.{Input, Lends, Asks, asks_for}
+use Rattle.cbor_read.specs.Source.{Input, Lends, asks_for}
 use Rattle.cbor_de.specs.Gives.{Limits, limits, Tells}
 use Rattle.cbor_de.specs.declared.head.Head.{Head}
 use Rattle.cbor_de.specs.declared.head.Head.TheVariants as head
@@ -24,13 +24,6 @@ MemoryOnly P (Some q) refused.Kept = why q ≡ reading.OutOfMemory → P
 -- memory may be asked for to join chunks
 abbrev pub AsksToJoin : (ReadErrorCode → Bool) → Lends → Type 0
 AsksToJoin refusals lends = (asks_for refusals lends).joined ≡ true
-
--- memory may be asked for to hand out or skip bytes, or to join chunks
-abbrev pub AsksAtAll : Asks → Type 0
-AsksAtAll asks = (asks.whole ≡ true) ⊎ (asks.joined ≡ true)
-
-abbrev pub AsksToSkip : (ReadErrorCode → Bool) → Lends → Type 0
-AsksToSkip refusals lends = AsksAtAll (asks_for refusals lends)
 
 -- ---- by the item
 
