@@ -63,6 +63,8 @@ pub struct Optional<T>(pub Option<T>);
 pub struct OrDefault<T>(pub T);
 
 /// The parts of a struct or of a variant, a tuple, or those of an enum, one of its variants.
+///
+/// Those of a struct whose one part has no name are a `Newtype` of that part.
 pub trait Parts: Sized + Drop {
     ghost use Rattle.std.specs.Prelude.{ℕ};
 
@@ -169,7 +171,8 @@ impl<
 pub trait Schema: Sized + Drop {
     ghost use Rattle.std.specs.Prelude.{List, ℕ};
 
-    /// The fields in the order of their numbers, or the variants in that of theirs.
+    /// The fields in the order of their numbers, or the variants in that of theirs; or a
+    /// `Newtype` of the one part of a struct, where that has no name.
     type Parts: Drop;
 
     // The names of the fields or the variants.
