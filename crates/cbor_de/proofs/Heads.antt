@@ -143,7 +143,7 @@ module _ {Item Items Pairs : Type 0} (m : Reading Item Items Pairs) (inner : Opt
 -- ---- values
 
 -- of no width is a value's own
-value_behind : (f : Formats) (l : Limits) (inner : Option (List ℕ → Reads Val)) (w : HeadWidth) (h : Head) (bs : List ℕ) → behind_head (values f l) inner w h bs ≡ after_head f l inner h bs
+pub value_behind : (f : Formats) (l : Limits) (inner : Option (List ℕ → Reads Val)) (w : HeadWidth) (h : Head) (bs : List ℕ) → behind_head (values f l) inner w h bs ≡ after_head f l inner h bs
 unfolding string_at string_chunks_at text_at text_chunks_at checked_text array_at map_at tag_at
 value_behind f l inner w (head.Unsigned n) bs = refl
 value_behind f l inner w (head.Negative n) bs = refl

@@ -1,7 +1,7 @@
 //! What remains of an array or a map.
 
 ghost use Rattle.std.specs.Prelude.{◌≡◌, ◌<◌, IfErr, IfOk, IfSome};
-ghost use Rattle.cbor_de.specs.Gives.{Gives, Onward, TellsNoMemory};
+ghost use Rattle.cbor_de.specs.Gives.{Gives, Onward, TellsNoKey, TellsNoMemory};
 ghost use Rattle.cbor_de.specs.Heads.{first_at, end_of, end_code, remaining_of, first_of_next};
 ghost use Rattle.cbor_model.specs.Reader.{to_break};
 ghost use Rattle.cbor_de.specs.declared.cursor.Remaining.TheVariants.{ToBreak};
@@ -53,6 +53,7 @@ impl<R: Source> Deserializer<R> {
         ensures taken { IfOk result
             (λ o. IfSome o (λ b. Onward (R.source self.old.source) (R.source self.new.source))) }
         ensures memory { IfErr result (TellsNoMemory self.new.refusal) }
+        ensures no_key { IfErr result (TellsNoKey self.new.refusal) }
         ensures levels { self.new.levels ≡ self.old.levels }
         ensures formats { self.new.formats ≡ self.old.formats }
     {
@@ -75,6 +76,7 @@ impl<R: Source> Deserializer<R> {
         ensures taken { IfOk result
             (λ o. IfSome o (λ b. Onward (R.source self.old.source) (R.source self.new.source))) }
         ensures memory { IfErr result (TellsNoMemory self.new.refusal) }
+        ensures no_key { IfErr result (TellsNoKey self.new.refusal) }
         ensures levels { self.new.levels ≡ self.old.levels }
         ensures formats { self.new.formats ≡ self.old.formats }
     {

@@ -1,12 +1,13 @@
 //! Passing over the item at the front of a source.
 
 ghost use Rattle.std.specs.Prelude.{◌≡◌, IfErr, OnOk};
+ghost use Rattle.cbor_model.specs.Formats.{all_formats};
 ghost use Rattle.cbor_model.specs.Head.{HeadWidth, no_bytes};
 ghost use Rattle.cbor_model.specs.Raw.{Length, indefinite};
 ghost use Rattle.cbor_model.specs.Reader.{inside, parts_at, items_of, pairs_of, array_at, map_at};
 ghost use Rattle.cbor_model.specs.Reader.{tag_at, after_first, item_at};
 ghost use Rattle.cbor_de.specs.Deserializer.{formats_of, values_by};
-ghost use Rattle.cbor_de.specs.Gives.{Gives, Onward};
+ghost use Rattle.cbor_de.specs.Gives.{Gives, Onward, TellsNoKey};
 ghost use Rattle.cbor_read.specs.Source.{asks_for};
 ghost use Rattle.cbor_de.specs.HasChunks.{AllRead, AsksToSkip, AsksWhere, raws_by};
 ghost use Rattle.cbor_de.specs.HasChunks.{HasChunks, SomeHasChunks, SomePairHasChunks};
@@ -33,6 +34,8 @@ impl<R: Source> Deserializer<R> {
         ensures memory { IfErr result (MemoryOnly (AsksToSkip R.refusals R.lends HasChunks
             (λ l. item_at (raws_by self.old.formats l) self.old.levels)
             (R.source self.old.source)) self.new.refusal) }
+        ensures no_key { formats_of self.old.formats ≡ all_formats
+            → IfErr result (TellsNoKey self.new.refusal) }
         ensures levels { self.new.levels ≡ self.old.levels }
         ensures formats { self.new.formats ≡ self.old.formats }
         ensures taken { OnOk result (Onward (R.source self.old.source) (R.source self.new.source)) }
@@ -53,6 +56,8 @@ impl<R: Source> Deserializer<R> {
             (λ l. after_first (raws_by self.old.formats l)
             (inside (raws_by self.old.formats l) self.old.levels) first)
             (R.source self.old.source)) self.new.refusal) }
+        ensures no_key { formats_of self.old.formats ≡ all_formats
+            → IfErr result (TellsNoKey self.new.refusal) }
         ensures levels { self.new.levels ≡ self.old.levels }
         ensures formats { self.new.formats ≡ self.old.formats }
     {
@@ -60,9 +65,9 @@ impl<R: Source> Deserializer<R> {
         self.skip_of(head)
     }
 
-    // Passes over what follows a head.
+    /// Passes over what follows a head, as [`skip`](Deserializer::skip) over an item.
     #[cycle(skip)]
-    fn skip_of(&mut self, head: Head) -> Done<()>
+    pub fn skip_of(&mut self, head: Head) -> Done<()>
         ensures read { Gives R.refusals (λ u. u)
             (λ l bs. passed (after_head (formats_of self.old.formats) l
             (inside (values_by self.old.formats l) self.old.levels) head bs))
@@ -71,6 +76,8 @@ impl<R: Source> Deserializer<R> {
             ((w : HeadWidth) → AllRead HasChunks (λ l. behind_head (raws_by self.old.formats l)
             (inside (raws_by self.old.formats l) self.old.levels) w head)
             (R.source self.old.source))) self.new.refusal) }
+        ensures no_key { formats_of self.old.formats ≡ all_formats
+            → IfErr result (TellsNoKey self.new.refusal) }
         ensures levels { self.new.levels ≡ self.old.levels }
         ensures formats { self.new.formats ≡ self.old.formats }
     {
@@ -105,6 +112,8 @@ impl<R: Source> Deserializer<R> {
             ((n : Length) → AllRead HasChunks (λ l. array_at (raws_by self.old.formats l)
             (inside (raws_by self.old.formats l) self.old.levels) n (remaining_of remaining))
             (R.source self.old.source))) self.new.refusal) }
+        ensures no_key { formats_of self.old.formats ≡ all_formats
+            → IfErr result (TellsNoKey self.new.refusal) }
         ensures levels { self.new.levels ≡ self.old.levels }
         ensures formats { self.new.formats ≡ self.old.formats }
     {
@@ -127,6 +136,8 @@ impl<R: Source> Deserializer<R> {
             (λ l. parts_at (items_of (raws_by self.old.formats l)
             (item_at (raws_by self.old.formats l) self.old.levels)) (remaining_of remaining))
             (R.source self.old.source)) self.new.refusal) }
+        ensures no_key { formats_of self.old.formats ≡ all_formats
+            → IfErr result (TellsNoKey self.new.refusal) }
         ensures levels { self.new.levels ≡ self.old.levels }
         ensures formats { self.new.formats ≡ self.old.formats }
     {
@@ -149,6 +160,8 @@ impl<R: Source> Deserializer<R> {
             ((n : Length) → AllRead HasChunks (λ l. map_at (raws_by self.old.formats l)
             (inside (raws_by self.old.formats l) self.old.levels) n (remaining_of remaining))
             (R.source self.old.source))) self.new.refusal) }
+        ensures no_key { formats_of self.old.formats ≡ all_formats
+            → IfErr result (TellsNoKey self.new.refusal) }
         ensures levels { self.new.levels ≡ self.old.levels }
         ensures formats { self.new.formats ≡ self.old.formats }
     {
@@ -171,6 +184,8 @@ impl<R: Source> Deserializer<R> {
             (λ l. parts_at (pairs_of (raws_by self.old.formats l)
             (item_at (raws_by self.old.formats l) self.old.levels)) (remaining_of remaining))
             (R.source self.old.source)) self.new.refusal) }
+        ensures no_key { formats_of self.old.formats ≡ all_formats
+            → IfErr result (TellsNoKey self.new.refusal) }
         ensures levels { self.new.levels ≡ self.old.levels }
         ensures formats { self.new.formats ≡ self.old.formats }
     {
@@ -196,6 +211,8 @@ impl<R: Source> Deserializer<R> {
             ((w : HeadWidth) → AllRead HasChunks (λ l. tag_at (raws_by self.old.formats l)
             (inside (raws_by self.old.formats l) self.old.levels) w tag)
             (R.source self.old.source))) self.new.refusal) }
+        ensures no_key { formats_of self.old.formats ≡ all_formats
+            → IfErr result (TellsNoKey self.new.refusal) }
         ensures levels { self.new.levels ≡ self.old.levels }
         ensures formats { self.new.formats ≡ self.old.formats }
     {

@@ -6,7 +6,7 @@ ghost use Rattle.cbor_model.specs.Formats.{all_formats};
 ghost use Rattle.cbor_model.specs.Head.{no_bytes};
 ghost use Rattle.cbor_model.specs.Reader.{bytes_at, string_at, string_chunks_at};
 ghost use Rattle.cbor_model.specs.Reader.{text_at, text_chunks_at};
-ghost use Rattle.cbor_de.specs.Gives.{Gives, TellsNoMemory, values};
+ghost use Rattle.cbor_de.specs.Gives.{Gives, TellsNoKey, TellsNoMemory, values};
 ghost use Rattle.cbor_de.specs.HasChunks.{AsksForWhole};
 ghost use Rattle.cbor_de.specs.Memory.{AsksToJoin, MemoryOnly};
 ghost use Rattle.cbor_de.specs.Heads.{passed};
@@ -39,6 +39,7 @@ impl<R: Source> Deserializer<R> {
             (R.source self.old.source) (R.source self.new.source) self.new.refusal result }
         ensures memory { IfErr result (MemoryOnly (AsksForWhole R.refusals R.lends)
             self.new.refusal) }
+        ensures no_key { IfErr result (TellsNoKey self.new.refusal) }
         ensures levels { self.new.levels ≡ self.old.levels }
         ensures formats { self.new.formats ≡ self.old.formats }
     {
@@ -56,6 +57,7 @@ impl<R: Source> Deserializer<R> {
             (R.source self.old.source) (R.source self.new.source) self.new.refusal result }
         ensures memory { IfErr result (MemoryOnly (AsksForWhole R.refusals R.lends)
             self.new.refusal) }
+        ensures no_key { IfErr result (TellsNoKey self.new.refusal) }
         ensures levels { self.new.levels ≡ self.old.levels }
         ensures formats { self.new.formats ≡ self.old.formats }
     {
@@ -73,6 +75,7 @@ impl<R: Source> Deserializer<R> {
             (R.source self.old.source) (R.source self.new.source) self.new.refusal result }
         ensures memory { IfErr result (MemoryOnly (AsksToJoin R.refusals R.lends)
             self.new.refusal) }
+        ensures no_key { IfErr result (TellsNoKey self.new.refusal) }
         ensures levels { self.new.levels ≡ self.old.levels }
         ensures formats { self.new.formats ≡ self.old.formats }
     {
@@ -87,6 +90,7 @@ impl<R: Source> Deserializer<R> {
             (R.source self.old.source) (R.source self.new.source) self.new.refusal result }
         ensures memory { IfErr result (MemoryOnly (AsksToJoin R.refusals R.lends)
             self.new.refusal) }
+        ensures no_key { IfErr result (TellsNoKey self.new.refusal) }
         ensures levels { self.new.levels ≡ self.old.levels }
         ensures formats { self.new.formats ≡ self.old.formats }
     {
@@ -103,6 +107,7 @@ impl<R: Source> Deserializer<R> {
         ensures counted { IfOk result (λ bad. bad ≤ (R.source self.new.source).offset) }
         ensures memory { IfErr result (MemoryOnly (AsksForWhole R.refusals R.lends)
             self.new.refusal) }
+        ensures no_key { IfErr result (TellsNoKey self.new.refusal) }
         ensures levels { self.new.levels ≡ self.old.levels }
         ensures formats { self.new.formats ≡ self.old.formats }
     {
@@ -119,6 +124,7 @@ impl<R: Source> Deserializer<R> {
         ensures read { Gives R.refusals (λ u. u) (λ l. checked_by bad)
             (R.source self.old.source) (R.source self.new.source) self.new.refusal result }
         ensures memory { IfErr result (TellsNoMemory self.new.refusal) }
+        ensures no_key { IfErr result (TellsNoKey self.new.refusal) }
         ensures levels { self.new.levels ≡ self.old.levels }
         ensures formats { self.new.formats ≡ self.old.formats }
     {

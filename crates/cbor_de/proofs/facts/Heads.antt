@@ -2,3 +2,5 @@
 
 -- an item is read after its head
 pub use Rattle.cbor_de.proofs.Heads.{first_behind}
+-- and a value whatever the width of its head
+pub use Rattle.cbor_de.proofs.Heads.{value_behind}
