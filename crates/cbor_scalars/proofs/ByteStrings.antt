@@ -3,21 +3,20 @@ use Rattle.std.proofs.Common.{◌≡◌, ◌∙◌, ℕ, Bool, List, Option, Res
 use Rattle.cbor_model.specs.Formats.{Formats}
 use Rattle.cbor_model.specs.Raw as raw
 use Rattle.cbor_model.specs.Raw.{Raw}
-use Rattle.cbor_model.specs.Reader.{Reads, item_at, inside}
+use Rattle.cbor_model.specs.Reader.{item_at, inside}
 use Rattle.cbor_model.specs.Readable.{Context, untagged, PassesTags, IsString, is_lent}
-use Rattle.cbor_io.specs.declared.error.ErrorCode.{ErrorCode}
 use Rattle.cbor_io.specs.declared.read_error.ReadError.{ReadError}
 use Rattle.cbor_io.specs.declared.read_error.ReadErrorCode.{ReadErrorCode}
 use Rattle.cbor_read.specs.Source.{Input, Lends, part_bytes}
 use Rattle.cbor_read.specs.declared.EitherLifetime.{EitherLifetime}
-use Rattle.cbor_de.specs.Gives.{Limits, Step}
+use Rattle.cbor_de.specs.Gives.{Step}
 use Rattle.cbor_de.specs.declared.head.Head.{Head}
 use Rattle.cbor_de.specs.declared.head.Head.TheVariants as head
 use Rattle.cbor_de.proofs.facts.Steps.{step_then}
 use Rattle.cbor_scalars.specs.Kinds.{kind_of, head_kind}
 use Rattle.cbor_scalars.specs.Kinds as kind
 use Rattle.cbor_scalars.specs.Opens.{Opens, OpensItem}
-use Rattle.cbor_scalars.specs.Takes.{raws, lending, IsRead, IsNotRead, Refuses}
+use Rattle.cbor_scalars.specs.Takes.{raws, lending, IsRead, IsNotRead}
 use Rattle.cbor_scalars.specs.Strings.{content_at, is_lent_head, IsByteString, IsLentBytes, Lent, LendsBytes}
 use Rattle.cbor_scalars.specs.declared.lent.Unread.{Unread}
 use Rattle.cbor_scalars.proofs.Scalars.{opened_read}

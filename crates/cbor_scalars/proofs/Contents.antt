@@ -10,7 +10,7 @@ use Rattle.cbor_model.specs.Raw as raw
 use Rattle.cbor_model.specs.Raw.{Raw, Chunk, joined, false_item, true_item, null_item, undefined_item}
 use Rattle.cbor_model.specs.Readable.{Context, untagged, PassesTags, IsString, IsText, is_lent}
 use Rattle.cbor_model.specs.Refusal.{invalid_utf8}
-use Rattle.cbor_model.specs.Reader.{Fault, Reads, ◌>>=◌, bytes_at, chunks_at, exceeds_most, string_at, checked_text, text_at, string_chunks_at, text_chunks_at, item_at, inside}
+use Rattle.cbor_model.specs.Reader.{Fault, Reading, Reads, ◌>>=◌, bytes_at, chunks_at, exceeds_most, string_at, checked_text, text_at, string_chunks_at, text_chunks_at, item_at, inside}
 use Rattle.cbor_model.proofs.facts.Reader.{ok_is, IsUtf8-from_valid_len}
 use Rattle.cbor_read.specs.Source.{Input}
 use Rattle.cbor_io.specs.Error.{code_of, offset_of}
@@ -108,31 +108,50 @@ not_string h t b (raw.float w bits) x is tag k = absurd is
 -- ---- after a head
 
 -- chunks whose bytes are read
-record Chunks (read : Reads (List Chunk)) (b rest : List ℕ) : Type 0 where
-  all : List Chunk
-  is : read ≡ Ok (all, rest)
-  bytes : joined all ≡ b
+pub record Chunks (read : Reads (List Chunk)) (b rest : List ℕ) : Type 0 where
+  pub all : List Chunk
+  pub is : read ≡ Ok (all, rest)
+  pub bytes : joined all ≡ b
 
-chunks_of : (read : Reads (List Chunk)) (b rest : List ℕ) → joined_of read ≡ Ok (b, rest) → Chunks read b rest
+pub chunks_of : (read : Reads (List Chunk)) (b rest : List ℕ) → joined_of read ≡ Ok (b, rest) → Chunks read b rest
 chunks_of (Ok cs) b rest is =
     let both = ok_is (joined cs.0, cs.1) (b, rest) is in
     record { all = cs.0; is = ap (λ (p : List ℕ × List ℕ). Ok (cs.0, p.1)) both; bytes = ap (λ (p : List ℕ × List ℕ). p.0) both }
 chunks_of (Err e) b rest is = absurd cc
 
-no_chunks : (read : Reads (List Chunk)) (e : Fault) → joined_of read ≡ Err e → read ≡ Err e
+pub no_chunks : (read : Reads (List Chunk)) (e : Fault) → joined_of read ≡ Err e → read ≡ Err e
 no_chunks (Ok cs) e is = absurd cc
 no_chunks (Err g) e is = cc
 
 -- what is done with what was read where a test holds
-picked : {A B : Type 0} (c : Bool) (read : Reads A) (g : Fault) (then : A × List ℕ → Reads B) (x : A × List ℕ) → cond c read (Err g) ≡ Ok x → cond c (read >>= then) (Err g) ≡ then x
+pub picked : {A B : Type 0} (c : Bool) (read : Reads A) (g : Fault) (then : A × List ℕ → Reads B) (x : A × List ℕ) → cond c read (Err g) ≡ Ok x → cond c (read >>= then) (Err g) ≡ then x
 picked true (Ok y) g then x is = ap then (ok_is y x is)
 picked true (Err e) g then x is = absurd cc
 picked false read g then x is = absurd cc
 
-none_picked : {A B : Type 0} (c : Bool) (read : Reads A) (g : Fault) (then : A × List ℕ → Reads B) (e : Fault) → cond c read (Err g) ≡ Err e → cond c (read >>= then) (Err g) ≡ Err e
+pub none_picked : {A B : Type 0} (c : Bool) (read : Reads A) (g : Fault) (then : A × List ℕ → Reads B) (e : Fault) → cond c read (Err g) ≡ Err e → cond c (read >>= then) (Err g) ≡ Err e
 none_picked true (Ok y) g then e is = absurd cc
 none_picked true (Err d) g then e is = cc
 none_picked false read g then e is = cc
+
+-- ---- texts
+
+-- the fault of a text that isn't UTF-8
+abbrev pub bad_text : List ℕ → List ℕ → Fault
+bad_text b rest = record { why = invalid_utf8; left = length rest + (length b - utf8_valid_len b) }
+
+module _ {Item Items Pairs : Type 0} (m : Reading Item Items Pairs) (tests : (b : List ℕ) → m.is_text b ≡ eqb (utf8_valid_len b) (length b)) where
+  pub passes : (i : Item) (b rest : List ℕ) → IsUtf8 b → checked_text m i b rest ≡ Ok (i, rest)
+  unfolding checked_text
+  passes i b rest is =
+      let all : m.is_text b ≡ true = tests b ∙ eq-eqb _ _ (utf8_valid_len-IsUtf8 b is) in
+      rw all refl
+
+  pub stops_at : (i : Item) (b rest : List ℕ) → (IsUtf8 b → ⊥) → checked_text m i b rest ≡ Err (bad_text b rest)
+  unfolding checked_text
+  stops_at i b rest bad =
+      let some : m.is_text b ≡ false = tests b ∙ ne_eqb _ _ (λ same. bad (IsUtf8-from_valid_len b (eq-eqb _ _ same))) in
+      rw some refl
 
 module _ (f : Formats) (l : Limits) (inner : Option (List ℕ → Reads Raw)) (w : HeadWidth) where
   abbrev behind : Head → List ℕ → Reads Raw
@@ -153,37 +172,21 @@ module _ (f : Formats) (l : Limits) (inner : Option (List ℕ → Reads Raw)) (w
       let cs = chunks_of (chunks_at (exceeds_most l.room) 0 2 bs) b rest is in
       record { item = raw.bytes_chunks cs.all; is = ap (λ (r : Reads (List Chunk)). r >>= (λ cs. Ok (raw.bytes_chunks cs.0, cs.1))) cs.is; string = cs.bytes; kind = refl; lent = λ c. refl }
 
-  passes : (r : Raw) (b rest : List ℕ) → IsUtf8 b → checked_text (raws f l) r b rest ≡ Ok (r, rest)
-  unfolding checked_text
-  passes r b rest is =
-      let all : eqb (utf8_valid_len b) (length b) ≡ true = eq-eqb _ _ (utf8_valid_len-IsUtf8 b is) in
-      rw all refl
-
   pub text_read : (n : Option ℕ) (bs b rest : List ℕ) → content_at l (head.Text n) bs ≡ Ok (b, rest) → IsUtf8 b → StringRead (head.Text n) bs b rest
   unfolding text_at text_chunks_at
   text_read (Some n) bs b rest is utf8 =
       let text = raw.text (record { width = w; bytes = b }) in
-      record { item = text; is = picked _ (bytes_at n bs) _ _ (b, rest) is ∙ passes text b rest utf8; string = refl; kind = refl; lent = λ c. refl }
+      record { item = text; is = picked _ (bytes_at n bs) _ _ (b, rest) is ∙ passes (raws f l) (λ b. refl) text b rest utf8; string = refl; kind = refl; lent = λ c. refl }
   text_read None bs b rest is utf8 =
       let cs = chunks_of (chunks_at (exceeds_most l.room) 0 3 bs) b rest is in
-      record { item = raw.text_chunks cs.all; is = ap (λ (r : Reads (List Chunk)). r >>= (λ cs. checked_text (raws f l) (raw.text_chunks cs.0) (joined cs.0) cs.1)) cs.is ∙ passes (raw.text_chunks cs.all) (joined cs.all) rest (subst IsUtf8 (sym cs.bytes) utf8); string = cs.bytes; kind = refl; lent = λ c. refl }
-
-  -- the fault of a text that isn't UTF-8
-  abbrev bad_text : List ℕ → List ℕ → Fault
-  bad_text b rest = record { why = invalid_utf8; left = length rest + (length b - utf8_valid_len b) }
-
-  stops_at : (r : Raw) (b rest : List ℕ) → (IsUtf8 b → ⊥) → checked_text (raws f l) r b rest ≡ Err (bad_text b rest)
-  unfolding checked_text
-  stops_at r b rest bad =
-      let some : eqb (utf8_valid_len b) (length b) ≡ false = ne_eqb _ _ (λ same. bad (IsUtf8-from_valid_len b (eq-eqb _ _ same))) in
-      rw some refl
+      record { item = raw.text_chunks cs.all; is = ap (λ (r : Reads (List Chunk)). r >>= (λ cs. checked_text (raws f l) (raw.text_chunks cs.0) (joined cs.0) cs.1)) cs.is ∙ passes (raws f l) (λ b. refl) (raw.text_chunks cs.all) (joined cs.all) rest (subst IsUtf8 (sym cs.bytes) utf8); string = cs.bytes; kind = refl; lent = λ c. refl }
 
   pub text_bad : (n : Option ℕ) (bs b rest : List ℕ) → content_at l (head.Text n) bs ≡ Ok (b, rest) → (IsUtf8 b → ⊥) → behind (head.Text n) bs ≡ Err (bad_text b rest)
   unfolding text_at text_chunks_at
-  text_bad (Some n) bs b rest is bad = picked _ (bytes_at n bs) _ _ (b, rest) is ∙ stops_at (raw.text (record { width = w; bytes = b })) b rest bad
+  text_bad (Some n) bs b rest is bad = picked _ (bytes_at n bs) _ _ (b, rest) is ∙ stops_at (raws f l) (λ b. refl) (raw.text (record { width = w; bytes = b })) b rest bad
   text_bad None bs b rest is bad =
       let cs = chunks_of (chunks_at (exceeds_most l.room) 0 3 bs) b rest is in
-      rw (cs.is, cs.bytes) (stops_at (raw.text_chunks cs.all) b rest bad)
+      rw (cs.is, cs.bytes) (stops_at (raws f l) (λ b. refl) (raw.text_chunks cs.all) b rest bad)
 
   pub bytes_stop : (n : Option ℕ) (bs : List ℕ) (e : Fault) → content_at l (head.Bytes n) bs ≡ Err e → behind (head.Bytes n) bs ≡ Err e
   unfolding string_at string_chunks_at

@@ -44,12 +44,12 @@ front p rest =
 front_of : (n : ℕ) (p bs rest : List ℕ) → length p ≡ n → bs ≡ p ++ rest → bytes_at n bs ≡ Ok (p, rest)
 front_of n p bs rest len is = rw is (subst (λ (k : ℕ). bytes_at k (p ++ rest) ≡ Ok (p, rest)) len (front p rest))
 
-read_step : (s t : Input) (n : ℕ) (p : List ℕ) → length p ≡ n → Took s t p → Step s t (λ l bs rest. bytes_at n bs ≡ Ok (p, rest))
+pub read_step : (s t : Input) (n : ℕ) (p : List ℕ) → length p ≡ n → Took s t p → Step s t (λ l bs rest. bytes_at n bs ≡ Ok (p, rest))
 read_step s t n p len took =
     step_map s t (λ l bs rest. bs ≡ p ++ rest) (λ l bs rest. bytes_at n bs ≡ Ok (p, rest)) (λ l bs rest is. front_of n p bs rest len is) (taken_step s t p took.bytes took.count took.room)
 
 -- a text for which there is room
-ends_at : (s : Input) (bs : List ℕ) (n : ℕ) → ltb (s.offset + n) (2 ^ 64) ≡ true → ltb ((limits s bs).total - length bs + n) (2 ^ 64) ≡ true
+pub ends_at : (s : Input) (bs : List ℕ) (n : ℕ) → ltb (s.offset + n) (2 ^ 64) ≡ true → ltb ((limits s bs).total - length bs + n) (2 ^ 64) ≡ true
 ends_at s bs n h = subst (λ (k : ℕ). ltb (k + n) (2 ^ 64) ≡ true) (omega arith) h
 
 pub text_step : (s t : Input) (n : ℕ) (p : List ℕ) → ltb (s.offset + n) (2 ^ 64) ≡ true → length p ≡ n → Took s t p → Step s t (λ l bs rest. content_at l (head.Text (Some n)) bs ≡ Ok (p, rest))

@@ -2,6 +2,9 @@ pub mod OfKind
 pub mod Opened
 pub mod Openings
 pub mod Scalars
+pub mod PassedOver
+pub mod PassedStrings
+pub mod PassedLent
 pub mod Numbers
 pub mod Contents
 pub mod FloatNumbers

@@ -4,7 +4,7 @@ use Rattle.cbor_model.specs.Formats.{Formats}
 use Rattle.cbor_model.specs.Head.{HeadWidth}
 use Rattle.cbor_model.specs.Raw as raw
 use Rattle.cbor_model.specs.Raw.{Raw}
-use Rattle.cbor_model.specs.Readable.{untagged, PassesTags, is_lent}
+use Rattle.cbor_model.specs.Readable.{untagged, IsString, PassesTags, is_lent}
 use Rattle.cbor_model.specs.Reader.{Fault, Reads, ◌>>=◌, bytes_at, chunks_at, string_at, checked_text, text_at, string_chunks_at, text_chunks_at, item_at, inside}
 use Rattle.cbor_model.proofs.facts.Reader.{ok_is}
 use Rattle.cbor_read.specs.Source.{Input, Lends, Asks, asks_part, asks_for}
@@ -25,12 +25,13 @@ use Rattle.cbor_de.specs.declared.refusal.Refused.{Refused}
 use Rattle.cbor_de.specs.declared.refusal.Refused.TheVariants as refused
 use Rattle.cbor_scalars.specs.Opens.{OpensItem}
 use Rattle.cbor_scalars.specs.Takes.{raws, lending, IsNotRead, MemoryFor, OfItem}
-use Rattle.cbor_scalars.specs.Strings.{AsksForString, BytesOf, IsKept, IsMadeOf, Lacks, PartText, UnreadOnly, Utf8Of, asks_head, asks_string}
+use Rattle.cbor_scalars.specs.Strings.{AsksForBytes, AsksForString, BytesOf, IsByteString, IsKept, IsMadeOf, Lacks, PartText, UnreadOnly, Utf8Of, asks_head, asks_string}
 use Rattle.cbor_scalars.specs.declared.lent.EitherStr.{EitherStr}
 use Rattle.cbor_scalars.specs.declared.lent.Unread.{Unread}
 use Rattle.cbor_scalars.specs.declared.lent.Unread.TheVariants.{Stopped, Other}
-use Rattle.cbor_scalars.proofs.Contents.{none_there}
-use Rattle.cbor_scalars.proofs.Scalars.{untagged-tagged, within_tags}
+use Rattle.cbor_scalars.proofs.ByteStrings.{not_bytes}
+use Rattle.cbor_scalars.proofs.Contents.{none_there, not_string}
+use Rattle.cbor_scalars.proofs.Scalars.{scalar_unread, untagged-tagged, within_tags}
 
 -- ---- refusals
 
@@ -55,6 +56,10 @@ kept_at P (Some q) refused.Kept e Q other keeps h is = λ why_is. absurd (other 
 pub unread_on : (P Q : Type 0) (u : Unread) → (P → Q) → UnreadOnly P u → UnreadOnly Q u
 unread_on P Q (Stopped e) on h = λ is. on (h is)
 unread_on P Q Other on h = tt
+
+unread_any : (P : Type 0) (u : Unread) → P → UnreadOnly P u
+unread_any P (Stopped e) h = λ is. h
+unread_any P Other h = tt
 
 pub unread_err : {X : Type 0} (P Q : Type 0) (r : Result X Unread) → (P → Q) → IfErr r (UnreadOnly P) → IfErr r (UnreadOnly Q)
 unread_err P Q (Ok x) on h = tt
@@ -110,9 +115,12 @@ module _ (a : Asks) (f : Formats) (l : Limits) (inner : Option (List ℕ → Rea
   bytes_asks None = bind_asks a a.joined (chunks_at (raws f l).exceeds 0 2 bs) _ (λ x. ok_asks a a.joined (raw.bytes_chunks x.0) x.1 refl)
 
 module _ (allowed : ReadErrorCode → Bool) (a : Asks) (f : Formats) (levels : ℕ) (s m : Input) (kept : Option ReadError) where
+  abbrev Asked : Raw → Type 0
+  Asked r = asks_string a (untagged r) ≡ true
+
   -- the item after a head
   of_head : (h : Head) → ((l : Limits) (inner : Option (List ℕ → Reads Raw)) (w : HeadWidth) (bs : List ℕ) → AllAsk a (asks_head a h) (behind_head (raws f l) inner w h bs))
-      → OpensItem allowed f levels s m kept (Ok h) → asks_head a h ≡ true → OfItem (AsksForString a) f levels s
+      → OpensItem allowed f levels s m kept (Ok h) → asks_head a h ≡ true → OfItem Asked f levels s
   of_head h all (left, step) asks bs tells r rest is =
       let l = limits s bs in
       let o = (step.told bs tells).holds in
@@ -122,10 +130,25 @@ module _ (allowed : ReadErrorCode → Bool) (a : Asks) (f : Formats) (levels : �
       ap (asks_string a) same ∙ all l (inside (raws f l) left) o.width mid item.item rest item.is ∙ asks
 
   pub of_text : {X : Type 0} (n : Option ℕ) (r : Result X Unread) → OpensItem allowed f levels s m kept (Ok (head.Text n)) → IfErr r (UnreadOnly (asks_head a (head.Text n) ≡ true)) → IfErr r (UnreadOnly (OfItem (AsksForString a) f levels s))
-  of_text n r opened h = unread_err (asks_head a (head.Text n) ≡ true) (OfItem (AsksForString a) f levels s) r (of_head (head.Text n) (λ l inner w bs. text_asks a f l inner w bs n) opened) h
+  of_text n r opened h = unread_err (asks_head a (head.Text n) ≡ true) (OfItem (AsksForString a) f levels s) r (λ asks bs tells i rest is b string. of_head (head.Text n) (λ l inner w bs. text_asks a f l inner w bs n) opened asks bs tells i rest is) h
+
+  of_bytes_head : (n : Option ℕ) → OpensItem allowed f levels s m kept (Ok (head.Bytes n)) → asks_head a (head.Bytes n) ≡ true → OfItem Asked f levels s
+  of_bytes_head n = of_head (head.Bytes n) (λ l inner w bs. bytes_asks a f l inner w bs n)
 
   pub of_bytes : {X : Type 0} (n : Option ℕ) (r : Result X Unread) → OpensItem allowed f levels s m kept (Ok (head.Bytes n)) → IfErr r (UnreadOnly (asks_head a (head.Bytes n) ≡ true)) → IfErr r (UnreadOnly (OfItem (AsksForString a) f levels s))
-  of_bytes n r opened h = unread_err (asks_head a (head.Bytes n) ≡ true) (OfItem (AsksForString a) f levels s) r (of_head (head.Bytes n) (λ l inner w bs. bytes_asks a f l inner w bs n) opened) h
+  of_bytes n r opened h = unread_err (asks_head a (head.Bytes n) ≡ true) (OfItem (AsksForString a) f levels s) r (λ asks bs tells i rest is b string. of_bytes_head n opened asks bs tells i rest is) h
+
+  pub of_byte_string : {X : Type 0} (n : Option ℕ) (r : Result X Unread) → OpensItem allowed f levels s m kept (Ok (head.Bytes n)) → IfErr r (UnreadOnly (asks_head a (head.Bytes n) ≡ true)) → IfErr r (UnreadOnly (OfItem (AsksForBytes a) f levels s))
+  of_byte_string n r opened h = unread_err (asks_head a (head.Bytes n) ≡ true) (OfItem (AsksForBytes a) f levels s) r (λ asks bs tells i rest is b string. of_bytes_head n opened asks bs tells i rest is) h
+
+  -- an item of another kind is no string, whatever it asks for
+  pub of_other : (h : Head) (u : Unread) → ((n : Option ℕ) → h ≡ head.Text n → ⊥) → ((n : Option ℕ) → h ≡ head.Bytes n → ⊥) → OpensItem allowed f levels s m kept (Ok h) → UnreadOnly (OfItem (AsksForString a) f levels s) u
+  of_other h u text bytes opened = unread_any (OfItem (AsksForString a) f levels s) u
+      (λ bs tells r rest is b string. absurd (scalar_unread allowed f IsString levels s m kept h (λ r b means tag is. not_string h text bytes r b means tag is) opened bs tells b rest (record { item = r; is = is; means = string })))
+
+  pub of_no_bytes : (h : Head) (u : Unread) → ((n : Option ℕ) → h ≡ head.Bytes n → ⊥) → OpensItem allowed f levels s m kept (Ok h) → UnreadOnly (OfItem (AsksForBytes a) f levels s) u
+  of_no_bytes h u bytes opened = unread_any (OfItem (AsksForBytes a) f levels s) u
+      (λ bs tells r rest is b string. absurd (scalar_unread allowed f IsByteString levels s m kept h (λ r b means tag is. not_bytes h bytes r b means tag is) opened bs tells b rest (record { item = r; is = is; means = string })))
 
 -- ---- types
 

@@ -19,11 +19,11 @@ use Rattle.cbor_scalars.specs.Opens.{opened_by, opened_from, opened_at, opened_i
 -- ---- lists of bytes
 
 -- what reads the head one level further in
-abbrev inner : ℕ → Option (List ℕ → Reads (ℕ × Head))
+abbrev pub inner : ℕ → Option (List ℕ → Reads (ℕ × Head))
 inner zero = None
 inner (suc left) = Some (opened_at left)
 
-opened_is : (levels : ℕ) (bs : List ℕ) → opened_at levels bs ≡ opened_from levels (inner levels) bs
+pub opened_is : (levels : ℕ) (bs : List ℕ) → opened_at levels bs ≡ opened_from levels (inner levels) bs
 unfolding opened_at
 opened_is zero bs = refl
 opened_is (suc left) bs = refl
@@ -76,14 +76,18 @@ pub head_unopened : (allowed : ReadErrorCode → Bool) (s : Input) (levels : ℕ
 head_unopened allowed s levels kept r = stopped_map allowed (λ l. opening_at) (λ l. opened_at levels) s kept r (λ l bs e is. opened_stops levels bs e is)
 
 -- after a tag's head
-pub tag_opened : (allowed : ReadErrorCode → Bool) (s t u : Input) (levels left n : ℕ) (kept : Option ReadError) (r : Result Head Refused)
-    → Step s t (λ l bs rest. (w : HeadWidth) × (opening_at bs ≡ Ok ((w, head.Tag n), rest))) → Gives {X = Head} {A = ℕ × Head} allowed (λ h. (left, h)) (λ l. opened_inside levels) t u kept r → Gives {X = Head} {A = ℕ × Head} allowed (λ h. (left, h)) (λ l. opened_at levels) s u kept r
-tag_opened allowed s t u levels left n kept (Ok h) one two =
-    step_then s t u (λ l bs rest. (w : HeadWidth) × (opening_at bs ≡ Ok ((w, head.Tag n), rest))) (λ l bs rest. opened_inside levels bs ≡ Ok ((left, h), rest)) (λ l bs rest. opened_at levels bs ≡ Ok ((left, h), rest))
+pub tag_found : {X : Type 0} (view : X → ℕ × Head) (allowed : ReadErrorCode → Bool) (s t u : Input) (levels n : ℕ) (kept : Option ReadError) (r : Result X Refused)
+    → Step s t (λ l bs rest. (w : HeadWidth) × (opening_at bs ≡ Ok ((w, head.Tag n), rest))) → Gives {X = X} {A = ℕ × Head} allowed view (λ l. opened_inside levels) t u kept r → Gives {X = X} {A = ℕ × Head} allowed view (λ l. opened_at levels) s u kept r
+tag_found view allowed s t u levels n kept (Ok x) one two =
+    step_then s t u (λ l bs rest. (w : HeadWidth) × (opening_at bs ≡ Ok ((w, head.Tag n), rest))) (λ l bs rest. opened_inside levels bs ≡ Ok (view x, rest)) (λ l bs rest. opened_at levels bs ≡ Ok (view x, rest))
     (λ l bs mid rest p is. opened_in_tag levels n bs mid p.0 p.1 ∙ is) one two
-tag_opened allowed s t u levels left n kept (Err r) one two =
+tag_found view allowed s t u levels n kept (Err r) one two =
     stopped_then allowed (λ l. opened_inside levels) (λ l. opened_at levels) s t kept r (λ l bs rest. (w : HeadWidth) × (opening_at bs ≡ Ok ((w, head.Tag n), rest)))
     (λ l bs mid e p is. opened_in_tag levels n bs mid p.0 p.1 ∙ is) one two
+
+pub tag_opened : (allowed : ReadErrorCode → Bool) (s t u : Input) (levels left n : ℕ) (kept : Option ReadError) (r : Result Head Refused)
+    → Step s t (λ l bs rest. (w : HeadWidth) × (opening_at bs ≡ Ok ((w, head.Tag n), rest))) → Gives {X = Head} {A = ℕ × Head} allowed (λ h. (left, h)) (λ l. opened_inside levels) t u kept r → Gives {X = Head} {A = ℕ × Head} allowed (λ h. (left, h)) (λ l. opened_at levels) s u kept r
+tag_opened allowed s t u levels left n kept r one two = tag_found (λ (h : Head). (left, h)) allowed s t u levels n kept r one two
 
 -- one level further in
 pub inside_opened : (allowed : ReadErrorCode → Bool) (s t u : Input) (levels next left : ℕ) (kept : Option ReadError) (r : Result Head Refused) → levels ≡ next + 1 → t ≡ s

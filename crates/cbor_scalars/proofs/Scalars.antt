@@ -59,7 +59,7 @@ not_both (Ok y) x f is other = absurd cc
 not_both (Err g) x f is other = absurd cc
 
 -- what a fault stops is not read
-not_read : {A : Type 0} (reads : Raw → A → Type 0) (read : Reads Raw) (fault : Fault) → read ≡ Err fault → IsNotRead reads read
+pub not_read : {A : Type 0} (reads : Raw → A → Type 0) (read : Reads Raw) (fault : Fault) → read ≡ Err fault → IsNotRead reads read
 not_read reads read fault is x rest got = not_both read (got.item, rest) fault got.is is
 
 or_none : {A : Type 0} (D : Type 0) (k : ErrorCode) (at : ℕ) (reads : Raw → A → Type 0) (read : Reads Raw) → ExcusedBy D k at ⊎ ((fault : Fault) × (read ≡ Err fault)) → ExcusedBy D k at ⊎ IsNotRead reads read

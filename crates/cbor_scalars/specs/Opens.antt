@@ -1,24 +1,29 @@
 -- The head of an item within its tags.
 use Rattle.std.specs.Prelude.{◌≡◌, ℕ, zero, suc, List, [], ◌∷◌, Option, Some, None, Bool, Result}
 use Rattle.std.specs.Prelude.{Ok, Err, refl}
-use Rattle.cbor_model.specs.Formats.{Formats}
+use Rattle.std.specs.Prelude.{◌+◌, length}
+use Rattle.cbor_model.specs.Formats.{Formats, all_formats}
 use Rattle.cbor_model.specs.Head.{HeadWidth}
+use Rattle.cbor_model.specs.Plain.{Val}
 use Rattle.cbor_model.specs.Raw.{Raw, tag}
 use Rattle.cbor_model.specs.Refusal.{too_deep, unassigned_code}
 use Rattle.cbor_model.specs.Reader.{Reads, ◌>>=◌, before, item_at, inside, within, byte_at}
 use Rattle.cbor_model.specs.Reader.{number_behind}
 use Rattle.cbor_io.specs.declared.read_error.ReadError.{ReadError}
 use Rattle.cbor_io.specs.declared.read_error.ReadErrorCode.{ReadErrorCode}
+use Rattle.cbor_io.specs.Error.{code_of, offset_of}
+use Rattle.cbor_io.specs.declared.error.Error.{Error}
 use Rattle.cbor_read.specs.Source.{Input}
-use Rattle.cbor_de.specs.Gives.{Limits, Step, Stopped}
-use Rattle.cbor_de.specs.Heads.{opening_at, head_at, head_of, behind_head}
+use Rattle.cbor_de.specs.Gives.{Limits, limits, values, Reports, Step, Stopped, Tells}
+use Rattle.cbor_de.specs.Heads.{opening_at, head_at, head_of, after_head, behind_head}
 use Rattle.cbor_de.specs.declared.cursor.Remaining.TheVariants.{Counted}
 use Rattle.cbor_de.specs.declared.head.Head.{Head}
 use Rattle.cbor_de.specs.declared.head.Head.TheVariants.{Array, Tag}
 use Rattle.cbor_de.specs.declared.refusal.Refused.{Refused}
 use Rattle.cbor_scalars.specs.Kinds.{head_kind}
 use Rattle.cbor_scalars.specs.Kinds as kind
-use Rattle.cbor_scalars.specs.Takes.{raws}
+use Rattle.cbor_scalars.specs.Takes.{FaultOrMessage, raws}
+use Rattle.cbor_scalars.specs.declared.opening.Found.{Found}
 
 -- an item within these tags
 abbrev pub tagged : List (HeadWidth × ℕ) → Raw → Raw
@@ -59,6 +64,11 @@ abbrev pub OpensInside : (ReadErrorCode → Bool) → Formats → ℕ → Input 
 OpensInside refusals f levels s t kept r =
     (left : ℕ) × OpensAt refusals f (λ l. item_inside f l levels) s t left kept r
 
+-- what was found, as its head
+abbrev pub found_head : Result Found Refused → Result Head Refused
+found_head (Ok found) = Ok found.head
+found_head (Err r) = Err r
+
 -- ---- the head alone, whatever follows it
 
 -- After a tag's head the head one level further in, if a level is left; no other head is a tag's.
@@ -79,6 +89,20 @@ opened_at (suc left) = opened_from (suc left) (Some (opened_at left))
 abbrev pub opened_inside : ℕ → List ℕ → Reads (ℕ × Head)
 opened_inside zero bs = Err (before too_deep bs)
 opened_inside (suc left) bs = opened_at left bs
+
+-- ---- what follows it
+
+-- what follows a head, with keys of any formats, where so many levels are left
+abbrev pub behind_any : ℕ → Head → Limits → List ℕ → Reads Val
+behind_any left h l = after_head all_formats l (inside (values all_formats l) left) h
+
+-- A refusal after a head tells the fault of what follows it; of an item that is whole it is a message.
+abbrev pub RefusesBehind : (ReadErrorCode → Bool) → Found → Input → Error → Type 0
+RefusesBehind refusals found s e = (bs : List ℕ) → Tells s bs → FaultOrMessage (Reports refusals) (code_of e) (s.offset + length bs) (offset_of e) (behind_any found.levels found.head (limits s bs) bs)
+
+-- what follows the head is whole
+abbrev pub StandsBehind : Found → Input → Type 0
+StandsBehind found s = (bs : List ℕ) → Tells s bs → (v : Val) × (rest : List ℕ) × (behind_any found.levels found.head (limits s bs) bs ≡ Ok (v, rest))
 
 -- ---- examples
 

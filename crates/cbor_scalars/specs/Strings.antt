@@ -6,6 +6,7 @@ use Rattle.std.specs.Char.{IsScalar, encode_utf8}
 use Rattle.std.specs.Str.{IsUtf8}
 use Rattle.std.specs.Str.Lossy.{utf8_valid_len}
 use Rattle.cbor_model.specs.Formats as model
+use Rattle.cbor_model.specs.Plain.{Val}
 use Rattle.cbor_model.specs.Raw as raw
 use Rattle.cbor_model.specs.Raw.{Raw, joined}
 use Rattle.cbor_model.specs.Readable.{Context, PassesTags, IsString, IsText, is_lent, untagged}
@@ -13,11 +14,11 @@ use Rattle.cbor_model.specs.Refusal.{length_out_of_range, unexpected_code}
 use Rattle.cbor_model.specs.Reader.{Reads, before, bytes_at, chunks_at, exceeds_most, item_at}
 use Rattle.cbor_io.specs.declared.error.Error.{Error}
 use Rattle.cbor_io.specs.declared.error.ErrorCode.TheVariants.{InvalidUtf8}
-use Rattle.cbor_io.specs.Error.{code_of, offset_of}
+use Rattle.cbor_io.specs.Error.{code_of, offset_of, IsMessageOf}
 use Rattle.cbor_read.specs.Source.{Input, Lends, Asks, part_bytes, is_long}
 use Rattle.cbor_read.specs.declared.EitherLifetime.{EitherLifetime}
 use Rattle.cbor_io.specs.declared.read_error.ReadErrorCode.{ReadErrorCode}
-use Rattle.cbor_de.specs.Gives.{Limits, limits, Step, Tells, IsErrorOf}
+use Rattle.cbor_de.specs.Gives.{Limits, limits, Step, Stops, Tells, IsErrorOf}
 use Rattle.cbor_de.specs.Heads.{joined_of}
 use Rattle.cbor_io.specs.ReadError.{why, place, error_code, IsMemory}
 use Rattle.cbor_io.specs.declared.error.ErrorCode.{ErrorCode}
@@ -27,7 +28,10 @@ use Rattle.cbor_de.specs.declared.refusal.Refused.{Refused}
 use Rattle.cbor_de.specs.declared.refusal.Refused.TheVariants as refused
 use Rattle.cbor_de.specs.declared.head.Head.{Head}
 use Rattle.cbor_de.specs.declared.head.Head.TheVariants.{Bytes, Text}
-use Rattle.cbor_scalars.specs.Takes.{raws, IsRead, IsNotRead, Refuses}
+use Rattle.cbor_scalars.specs.Opens.{StandsBehind, behind_any}
+use Rattle.cbor_scalars.specs.Takes.{raws, IsRead, IsNotRead, Refuses, RefusesWhole}
+use Rattle.cbor_scalars.specs.Takes.{Stands, TellsFault, any_item}
+use Rattle.cbor_scalars.specs.declared.opening.Found.{Found}
 use Rattle.cbor_scalars.specs.declared.lent.EitherStr.{EitherStr}
 use Rattle.cbor_scalars.specs.declared.lent.EitherStr.TheVariants.{Short, Long}
 use Rattle.cbor_scalars.specs.declared.lent.Unread.{Unread}
@@ -81,6 +85,24 @@ SeeksItem refusals f reads levels s t kept (Ok (Some x)) =
     Step s t (λ l bs rest. IsRead reads (item_at (raws f l) levels bs) x rest)
 SeeksItem refusals f reads levels s t kept (Ok None) = (bs : List ℕ) → Tells s bs → IsNotRead reads (item_at (raws f (limits s bs)) levels bs)
 SeeksItem refusals f reads levels s t kept (Err r) = (e : Error) → IsErrorOf kept r e → Refuses refusals s (code_of e) (offset_of e) (λ l bs. IsNotRead reads (item_at (raws f l) levels bs))
+
+-- Where nothing was found of what was sought, an item of another kind stands at the front, or the error
+-- that is made of the refusal that is kept is one of what stands there.
+abbrev pub SeeksWhole : {A : Type 0} → (ReadErrorCode → Bool) → ℕ → Input → Option ReadError
+    → Result (Option A) Refused → Type 0
+SeeksWhole refusals levels s kept (Ok (Some x)) = Unit {0}
+SeeksWhole refusals levels s kept (Ok None) = Stands levels s
+SeeksWhole refusals levels s kept (Err r) = (e : Error) → IsErrorOf kept r e → RefusesWhole refusals levels s e
+
+-- ---- the fault of a string
+
+-- what follows the head of a string, which holds no levels
+abbrev pub behind_string : Head → Limits → List ℕ → Reads Val
+behind_string = behind_any 0
+
+-- The error that is made of the refusal that is kept tells the fault of what follows the head.
+abbrev pub TellsString : (ReadErrorCode → Bool) → Head → Input → Option ReadError → Refused → Type 0
+TellsString refusals h s kept r = (e : Error) → IsErrorOf kept r e → TellsFault refusals (behind_string h) s e
 
 -- ---- what is lent
 
@@ -154,6 +176,26 @@ LendsString refusals c levels s t (Ok p) =
 LendsString refusals c levels s t (Err u) =
     Lacks refusals s (λ l bs. IsNotRead (PassesTags IsString) (item_at (raws c.formats l) levels bs)) u
 
+-- A refusal tells the fault of this reading, and there is no item of another kind.
+abbrev pub UnreadBy : (ReadErrorCode → Bool) → (Limits → List ℕ → Reads Val) → Input → Unread → Type 0
+UnreadBy refusals read s (Stopped q) = Stops refusals read s q
+UnreadBy refusals read s Other = ⊥
+
+-- A refusal after a head tells the fault of what follows it; or an item of another kind is whole.
+abbrev pub UnreadBehind : (ReadErrorCode → Bool) → Found → Input → Unread → Type 0
+UnreadBehind refusals found s (Stopped q) = Stops refusals (behind_any found.levels found.head) s q
+UnreadBehind refusals found s Other = StandsBehind found s
+
+-- A refusal tells the fault of the item at the front; or an item of another kind stands there.
+abbrev pub UnreadWhole : (ReadErrorCode → Bool) → ℕ → Input → Unread → Type 0
+UnreadWhole refusals levels s (Stopped q) = Stops refusals (any_item levels) s q
+UnreadWhole refusals levels s Other = Stands levels s
+
+-- an item stands at the front, or nothing was lent of what stands there
+abbrev pub LendsWhole : {A : Type 0} → (ReadErrorCode → Bool) → ℕ → Input → Result A Unread → Type 0
+LendsWhole refusals levels s (Ok p) = Stands levels s
+LendsWhole refusals levels s (Err u) = UnreadWhole refusals levels s u
+
 -- Where memory ran out, P holds.
 abbrev pub UnreadOnly : Type 0 → Unread → Type 0
 UnreadOnly P (Stopped q) = why q ≡ reading.OutOfMemory → P
@@ -170,9 +212,10 @@ asks_head a (Bytes None) = a.joined
 asks_head a (Text None) = a.joined
 asks_head a h = a.whole
 
--- it may ask for memory to lend the string within these tags
+-- Where a string is within these tags, it may ask for memory to lend it. An item of another kind, which
+-- is passed over, may have strings in chunks.
 abbrev pub AsksForString : Asks → Raw → Type 0
-AsksForString a r = asks_string a (untagged r) ≡ true
+AsksForString a r = (b : List ℕ) → IsString (untagged r) b → asks_string a (untagged r) ≡ true
 
 -- a refusal that isn't the key rule's
 abbrev pub IsNoKey : Unread → Type 0
@@ -182,7 +225,7 @@ IsNoKey Other = ⊤
 -- the error that is made of a refusal
 abbrev pub IsMadeOf : Unread → Error → Type 0
 IsMadeOf (Stopped q) e = (code_of e ≡ error_code (why q)) × (offset_of e ≡ place q)
-IsMadeOf Other e = Unit {0}
+IsMadeOf Other e = IsMessageOf None (code_of e) × (offset_of e ≡ 0)
 
 -- a part as text, if it is UTF-8
 abbrev pub Utf8Of : EitherLifetime → Result EitherStr Unread → Type 0
@@ -228,6 +271,10 @@ abbrev pub IsByteString : Raw → List ℕ → Type 0
 IsByteString (raw.bytes c) b = c.bytes ≡ b
 IsByteString (raw.bytes_chunks cs) b = joined cs ≡ b
 IsByteString _ b = ⊥
+
+-- It may ask for memory to lend the byte string within these tags, where one is.
+abbrev pub AsksForBytes : Asks → Raw → Type 0
+AsksForBytes a r = (b : List ℕ) → IsByteString (untagged r) b → asks_string a (untagged r) ≡ true
 
 -- a byte string of exactly n bytes
 abbrev pub IsByteArray : ℕ → Raw → List ℕ → Type 0

@@ -1,13 +1,19 @@
 -- What a call takes of its source that reads a type.
-use Rattle.std.specs.Prelude.{◌≡◌, ◌+◌, ℕ, Bool, true, false, List, length, Result, Ok, Err, ◌⊎◌}
+use Rattle.std.specs.Prelude.{◌≡◌, ◌+◌, ℕ, Bool, true, false, List, [], ◌∷◌, length, None, Result, Ok}
+use Rattle.std.specs.Prelude.{Err, ◌⊎◌, String, refl}
+use Rattle.std.specs.Global.{Global}
 use Rattle.cbor_model.specs.Raw.{Raw, Raws, RawPairs}
 use Rattle.cbor_model.specs.Formats as model
+use Rattle.cbor_model.specs.Formats.{all_formats}
+use Rattle.cbor_model.specs.Plain.{Val}
 use Rattle.cbor_model.specs.Readable.{Context}
 use Rattle.cbor_model.specs.RawReader.{raws_in}
-use Rattle.cbor_model.specs.Reader.{Reads, Reading, item_at}
+use Rattle.cbor_model.specs.Reader.{Fault, Reads, Reading, item_at, item_by, byte_at, after_first}
+use Rattle.cbor_model.specs.Reader.{content_at, number_behind, text_at}
 use Rattle.cbor_io.specs.declared.error.Error.{Error}
 use Rattle.cbor_io.specs.declared.error.ErrorCode.{ErrorCode}
-use Rattle.cbor_io.specs.declared.error.ErrorCode.TheVariants.{Io, OutOfMemory}
+use Rattle.cbor_io.specs.declared.error.ErrorCode.TheVariants.{EofWhileParsingValue, Io, Message}
+use Rattle.cbor_io.specs.declared.error.ErrorCode.TheVariants.{OutOfMemory}
 use Rattle.cbor_io.specs.declared.read_error.ReadErrorCode.{ReadErrorCode}
 use Rattle.cbor_io.specs.Error.{code_of, offset_of}
 use Rattle.cbor_read.specs.Source.{Input, Lends}
@@ -102,3 +108,46 @@ TellsFault refusals read s e = (bs : List ℕ) → Tells s bs → FailsBy (Repor
 abbrev pub TellsItem : Bool → (ReadErrorCode → Bool) → model.Formats → ℕ → Input → Error → Type 0
 TellsItem total refusals f levels s e =
     WhereTotal total (TellsFault refusals (λ l. item_at (values f l) levels) s e)
+
+-- ---- the fault, or a message for the item that is there
+
+-- a message, or excused
+abbrev pub IsMessageBy : Type 0 → ErrorCode → ℕ → Type 0
+IsMessageBy Device (Message s) at = Unit {0}
+IsMessageBy Device code at = ExcusedBy Device code at
+
+-- The code and the offset tell the fault that a reading meets; of what it reads they are a message.
+abbrev pub FaultOrMessage : {A : Type 0} → Type 0 → ErrorCode → ℕ → ℕ → Result A Fault → Type 0
+FaultOrMessage {A = A} Device code end at (Ok x) = IsMessageBy Device code at
+FaultOrMessage {A = A} Device code end at (Err f) = FailsBy {A = A} Device code end at (Err f)
+
+-- the item at the front, whatever formats its keys are of
+abbrev pub any_item : ℕ → Limits → List ℕ → Reads Val
+any_item levels l = item_at (values all_formats l) levels
+
+-- A refusal tells the fault of the item at the front, where so many levels are left; and it is a
+-- message exactly where an item stands there. Want of memory and a device's fault may come in place of
+-- either.
+abbrev pub RefusesWhole : (ReadErrorCode → Bool) → ℕ → Input → Error → Type 0
+RefusesWhole refusals levels s e = (bs : List ℕ) → Tells s bs → FaultOrMessage (Reports refusals) (code_of e) (s.offset + length bs) (offset_of e) (any_item levels (limits s bs) bs)
+
+-- an item stands at the front, where so many levels are left
+abbrev pub Stands : ℕ → Input → Type 0
+Stands levels s = (bs : List ℕ) → Tells s bs → (v : Val) × (rest : List ℕ) × (any_item levels (limits s bs) bs ≡ Ok (v, rest))
+
+-- an item stands at the front, or the refusal is one of what stands there
+abbrev pub ReadsWhole : {A : Type 0} → (ReadErrorCode → Bool) → ℕ → Input → Result A Error → Type 0
+ReadsWhole refusals levels s (Ok x) = Stands levels s
+ReadsWhole refusals levels s (Err e) = RefusesWhole refusals levels s e
+
+-- ---- examples
+
+-- 61 as a number: the text is cut off
+cut_off : FaultOrMessage ⊥ EofWhileParsingValue 1 1 (any_item 127 (record { total = 1; room = None }) (0x61 ∷ []))
+unfolding item_at item_by byte_at after_first content_at number_behind text_at
+cut_off = (0, refl, refl)
+
+-- 01 as a text: a message, which has no place
+another_kind : (m : String Global) → FaultOrMessage ⊥ (Message m) 1 0 (any_item 127 (record { total = 1; room = None }) (0x01 ∷ []))
+unfolding item_at item_by byte_at after_first content_at number_behind
+another_kind m = tt

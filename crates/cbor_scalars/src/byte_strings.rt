@@ -4,15 +4,16 @@ ghost use Rattle.std.specs.Prelude.{◌≡◌, IfErr};
 ghost use Rattle.cbor_model.specs.Readable.{PassesTags};
 ghost use Rattle.cbor_io.specs.Error.{code_of};
 ghost use Rattle.cbor_de.specs.Gives.{TellsNoForm, TellsNoKey};
-ghost use Rattle.cbor_scalars.specs.Strings.{IsByteString, SeeksItem};
-ghost use Rattle.cbor_scalars.specs.Takes.{TakesItem, formats_of};
+ghost use Rattle.cbor_scalars.specs.Strings.{IsByteString, SeeksItem, SeeksWhole};
+ghost use Rattle.cbor_scalars.specs.Takes.{RefusesWhole, TakesItem, formats_of};
 
 use crate::identifier::{Why, unnamed};
+use crate::opening::pass_over;
 use crate::scalar::scalar;
 use crate::strings::byte_string;
 use cbor_de::{Deserializer, Done, Head};
 use cbor_io::error::Result;
-use cbor_read::{ReadErrorCode, Source};
+use cbor_read::Source;
 
 /// The message of an item that isn't a byte string.
 pub const NO_BYTES: &str = "invalid type: expected bytes";
@@ -24,27 +25,33 @@ fn bytes<R: Source>(items: &mut Deserializer<R>) -> Done<Option<Vec<u8>>>
         (PassesTags (λ r v. IsByteString r v.items)) items.old.levels
         (R.source items.old.source) (R.source items.new.source)
         items.new.refusal result }
+    ensures fault { SeeksWhole R.refusals items.old.levels (R.source items.old.source)
+        items.new.refusal result }
     ensures no_key { IfErr result (TellsNoKey items.new.refusal) }
     ensures levels { items.new.levels ≡ items.old.levels }
     ensures formats { items.new.formats ≡ items.old.formats }
 {
-    let head = scalar(items)?;
-    match head {
+    let found = scalar(items)?;
+    match found.head {
         Head::Bytes(n) => {
             let bytes = byte_string(items, n)?;
             Ok(Some(bytes))
         }
-        Head::Break => Err(items.refuse(ReadErrorCode::UnexpectedCode)),
-        _ => Ok(None),
+        _ => match pass_over(items, found) {
+            Ok(()) => Ok(None),
+            Err(refused) => Err(refused),
+        },
     }
 }
 
 /// Reads a byte string to memory of its own. Another item, a text too, is refused with
-/// [`NO_BYTES`].
+/// [`NO_BYTES`], and what isn't whole, of any kind, by its fault.
 pub fn read_byte_string<R: Source>(items: &mut Deserializer<R>) -> Result<Vec<u8>>
     ensures read { TakesItem R.refusals (formats_of items.old.formats)
         (PassesTags (λ r v. IsByteString r v.items)) items.old.levels
         (R.source items.old.source) (R.source items.new.source) result }
+    ensures fault { IfErr result (RefusesWhole R.refusals items.old.levels
+        (R.source items.old.source)) }
     ensures no_form { IfErr result (λ e. TellsNoForm (code_of e)) }
     ensures levels { items.new.levels ≡ items.old.levels }
     ensures formats { items.new.formats ≡ items.old.formats }

@@ -5,7 +5,7 @@ ghost use Rattle.cbor_model.specs.Readable.{PassesTags};
 ghost use Rattle.cbor_io.specs.Error.{code_of};
 ghost use Rattle.cbor_de.specs.Gives.{TellsNoForm};
 ghost use Rattle.cbor_scalars.specs.Scalars.{IsFloatOf, IsSingleOf};
-ghost use Rattle.cbor_scalars.specs.Takes.{TakesItem, TakesNoMemory, formats_of};
+ghost use Rattle.cbor_scalars.specs.Takes.{RefusesWhole, TakesItem, TakesNoMemory, formats_of};
 
 use crate::scalar::read_float;
 use cbor_de::Deserializer;
@@ -14,12 +14,15 @@ use cbor_read::Source;
 use cbor_value::Float;
 use std::num::{f32_from_bits_with_nan, f64_from_bits_with_nan};
 
-/// Reads a float of 16, 32 or 64 bits as the number that it is.
+/// Reads a float of 16, 32 or 64 bits as the number that it is. What isn't whole is refused by its
+/// fault, and another item by a message.
 #[inline(always)]
 pub fn read_f64<R: Source>(items: &mut Deserializer<R>) -> Result<f64>
     ensures read { TakesItem R.refusals (formats_of items.old.formats)
         (PassesTags IsFloatOf) items.old.levels
         (R.source items.old.source) (R.source items.new.source) result }
+    ensures fault { IfErr result (RefusesWhole R.refusals items.old.levels
+        (R.source items.old.source)) }
     ensures no_form { IfErr result (λ e. TellsNoForm (code_of e)) }
     ensures memory { IfErr result (TakesNoMemory (formats_of items.old.formats)
         (PassesTags IsFloatOf) items.old.levels (R.source items.old.source)) }
@@ -39,6 +42,8 @@ fn other_f64<R: Source>(items: &mut Deserializer<R>) -> Result<f64>
     ensures read { TakesItem R.refusals (formats_of items.old.formats)
         (PassesTags IsFloatOf) items.old.levels
         (R.source items.old.source) (R.source items.new.source) result }
+    ensures fault { IfErr result (RefusesWhole R.refusals items.old.levels
+        (R.source items.old.source)) }
     ensures no_form { IfErr result (λ e. TellsNoForm (code_of e)) }
     ensures memory { IfErr result (TakesNoMemory (formats_of items.old.formats)
         (PassesTags IsFloatOf) items.old.levels (R.source items.old.source)) }
@@ -58,6 +63,8 @@ fn any_f64<R: Source>(items: &mut Deserializer<R>) -> Result<f64>
     ensures read { TakesItem R.refusals (formats_of items.old.formats)
         (PassesTags IsFloatOf) items.old.levels
         (R.source items.old.source) (R.source items.new.source) result }
+    ensures fault { IfErr result (RefusesWhole R.refusals items.old.levels
+        (R.source items.old.source)) }
     ensures no_form { IfErr result (λ e. TellsNoForm (code_of e)) }
     ensures memory { IfErr result (TakesNoMemory (formats_of items.old.formats)
         (PassesTags IsFloatOf) items.old.levels (R.source items.old.source)) }
@@ -70,12 +77,15 @@ fn any_f64<R: Source>(items: &mut Deserializer<R>) -> Result<f64>
     }
 }
 
-/// Reads a float of 16, 32 or 64 bits whose number is one of 32 bits.
+/// Reads a float of 16, 32 or 64 bits whose number is one of 32 bits. It refuses as [`read_f64`]
+/// does.
 #[inline(always)]
 pub fn read_f32<R: Source>(items: &mut Deserializer<R>) -> Result<f32>
     ensures read { TakesItem R.refusals (formats_of items.old.formats)
         (PassesTags IsSingleOf) items.old.levels
         (R.source items.old.source) (R.source items.new.source) result }
+    ensures fault { IfErr result (RefusesWhole R.refusals items.old.levels
+        (R.source items.old.source)) }
     ensures no_form { IfErr result (λ e. TellsNoForm (code_of e)) }
     ensures memory { IfErr result (TakesNoMemory (formats_of items.old.formats)
         (PassesTags IsSingleOf) items.old.levels (R.source items.old.source)) }
@@ -95,6 +105,8 @@ fn any_f32<R: Source>(items: &mut Deserializer<R>) -> Result<f32>
     ensures read { TakesItem R.refusals (formats_of items.old.formats)
         (PassesTags IsSingleOf) items.old.levels
         (R.source items.old.source) (R.source items.new.source) result }
+    ensures fault { IfErr result (RefusesWhole R.refusals items.old.levels
+        (R.source items.old.source)) }
     ensures no_form { IfErr result (λ e. TellsNoForm (code_of e)) }
     ensures memory { IfErr result (TakesNoMemory (formats_of items.old.formats)
         (PassesTags IsSingleOf) items.old.levels (R.source items.old.source)) }

@@ -325,11 +325,11 @@ fn any_identifier<'de, R: Read<'de>>(
     ensures levels { items.new.levels ≡ items.old.levels }
     ensures formats { items.new.formats ≡ items.old.formats }
 {
-    let head = scalar(items)?;
-    match head {
+    let found = scalar(items)?;
+    match found.head {
         Head::Unsigned(n) => Ok(place_of_number(names, n)),
         Head::Text(n) => Ok(text_name(items, names, n)?),
         Head::Bytes(n) => bytes_name(items, names, n),
-        _ => Err(no_name(items, head)),
+        _ => Err(no_name(items, found.head)),
     }
 }

@@ -4,10 +4,11 @@ ghost use Rattle.std.specs.Prelude.{◌≡◌, ◌≤◌, ◌<◌, ◌-◌, ◌^
 ghost use Rattle.cbor_model.specs.Readable.{PassesTags, IsInteger, IsFromZero, IsSigned, IsWithin};
 ghost use Rattle.cbor_io.specs.Error.{code_of};
 ghost use Rattle.cbor_de.specs.Gives.{TellsNoForm};
+ghost use Rattle.cbor_scalars.specs.Opens.{RefusesBehind};
 ghost use Rattle.cbor_scalars.specs.Scalars.{IsNumber};
-ghost use Rattle.cbor_scalars.specs.Takes.{TakesItem, TakesNoMemory, formats_of};
+ghost use Rattle.cbor_scalars.specs.Takes.{RefusesWhole, TakesItem, TakesNoMemory, formats_of};
 
-use crate::opening::mismatch;
+use crate::opening::{Found, unread};
 use crate::scalar::scalar;
 use cbor_de::{Deserializer, Head};
 use cbor_io::error::{Error, Result};
@@ -63,29 +64,32 @@ fn signed(head: Head, most: u64) -> Option<i64>
     }
 }
 
-/// Reads a whole number.
+/// Reads a whole number. What isn't whole is refused by its fault, and another item by a message.
 #[inline(always)]
 pub fn read_integer<R: Source>(items: &mut Deserializer<R>) -> Result<i128>
     ensures read { TakesItem R.refusals (formats_of items.old.formats)
         (PassesTags IsInteger) items.old.levels
         (R.source items.old.source) (R.source items.new.source) result }
+    ensures fault { IfErr result (RefusesWhole R.refusals items.old.levels
+        (R.source items.old.source)) }
     ensures no_form { IfErr result (λ e. TellsNoForm (code_of e)) }
     ensures memory { IfErr result (TakesNoMemory (formats_of items.old.formats)
         (PassesTags IsInteger) items.old.levels (R.source items.old.source)) }
     ensures levels { items.new.levels ≡ items.old.levels }
     ensures formats { items.new.formats ≡ items.old.formats }
 {
-    let head = match scalar(items) {
-        Ok(head) => head,
+    let found = match scalar(items) {
+        Ok(found) => found,
         Err(refused) => return Err(items.error(refused)),
     };
-    match integer(head) {
+    match integer(found.head) {
         Some(number) => Ok(number),
-        None => Err(mismatch(items, head, "invalid type: expected an integer")),
+        None => Err(unread(items, found, "invalid type: expected an integer")),
     }
 }
 
-/// Reads a number from 0 to the most; the message is for another number.
+/// Reads a number from 0 to the most; the message is for another number. It refuses as
+/// [`read_integer`] does.
 #[inline(always)]
 pub fn read_from_zero<R: Source>(
     items: &mut Deserializer<R>,
@@ -96,45 +100,50 @@ pub fn read_from_zero<R: Source>(
         (PassesTags (IsFromZero most)) items.old.levels
         (R.source items.old.source) (R.source items.new.source) result }
     ensures bound { IfOk result (λ n. n ≤ most) }
+    ensures fault { IfErr result (RefusesWhole R.refusals items.old.levels
+        (R.source items.old.source)) }
     ensures no_form { IfErr result (λ e. TellsNoForm (code_of e)) }
     ensures memory { IfErr result (TakesNoMemory (formats_of items.old.formats)
         (PassesTags (IsFromZero most)) items.old.levels (R.source items.old.source)) }
     ensures levels { items.new.levels ≡ items.old.levels }
     ensures formats { items.new.formats ≡ items.old.formats }
 {
-    let head = match scalar(items) {
-        Ok(head) => head,
+    let found = match scalar(items) {
+        Ok(found) => found,
         Err(refused) => return Err(items.error(refused)),
     };
-    match from_zero(head, most) {
+    match from_zero(found.head, most) {
         Some(number) => Ok(number),
-        None => Err(no_number(items, head, message)),
+        None => Err(no_number(items, found, message)),
     }
 }
 
-/// Reads a number from 0.
+/// Reads a number from 0. It refuses as [`read_integer`] does.
 #[inline(always)]
 pub fn read_u128<R: Source>(items: &mut Deserializer<R>) -> Result<u128>
     ensures read { TakesItem R.refusals (formats_of items.old.formats)
         (PassesTags (IsFromZero (2 ^ 128 - 1))) items.old.levels
         (R.source items.old.source) (R.source items.new.source) result }
+    ensures fault { IfErr result (RefusesWhole R.refusals items.old.levels
+        (R.source items.old.source)) }
     ensures no_form { IfErr result (λ e. TellsNoForm (code_of e)) }
     ensures memory { IfErr result (TakesNoMemory (formats_of items.old.formats)
         (PassesTags (IsFromZero (2 ^ 128 - 1))) items.old.levels (R.source items.old.source)) }
     ensures levels { items.new.levels ≡ items.old.levels }
     ensures formats { items.new.formats ≡ items.old.formats }
 {
-    let head = match scalar(items) {
-        Ok(head) => head,
+    let found = match scalar(items) {
+        Ok(found) => found,
         Err(refused) => return Err(items.error(refused)),
     };
-    match natural(head) {
+    match natural(found.head) {
         Some(number) => Ok(number),
-        None => Err(no_number(items, head, "integer out of range: expected u128")),
+        None => Err(no_number(items, found, "integer out of range: expected u128")),
     }
 }
 
-/// Reads a number from -1 - most to the most; the message is for another number.
+/// Reads a number from -1 - most to the most; the message is for another number. It refuses as
+/// [`read_integer`] does.
 #[inline(always)]
 pub fn read_signed<R: Source>(
     items: &mut Deserializer<R>,
@@ -146,32 +155,35 @@ pub fn read_signed<R: Source>(
         (PassesTags (IsSigned most)) items.old.levels
         (R.source items.old.source) (R.source items.new.source) result }
     ensures bounds { IfOk result (IsWithin most) }
+    ensures fault { IfErr result (RefusesWhole R.refusals items.old.levels
+        (R.source items.old.source)) }
     ensures no_form { IfErr result (λ e. TellsNoForm (code_of e)) }
     ensures memory { IfErr result (TakesNoMemory (formats_of items.old.formats)
         (PassesTags (IsSigned most)) items.old.levels (R.source items.old.source)) }
     ensures levels { items.new.levels ≡ items.old.levels }
     ensures formats { items.new.formats ≡ items.old.formats }
 {
-    let head = match scalar(items) {
-        Ok(head) => head,
+    let found = match scalar(items) {
+        Ok(found) => found,
         Err(refused) => return Err(items.error(refused)),
     };
-    match signed(head, most) {
+    match signed(found.head, most) {
         Some(number) => Ok(number),
-        None => Err(no_number(items, head, message)),
+        None => Err(no_number(items, found, message)),
     }
 }
 
 // The error of an item that isn't a number in the range.
 #[cold]
 #[inline(never)]
-fn no_number<R: Source>(items: &mut Deserializer<R>, head: Head, message: &'static str) -> Error
+fn no_number<R: Source>(items: &mut Deserializer<R>, found: Found, message: &'static str) -> Error
+    ensures fault { RefusesBehind R.refusals found (R.source items.old.source) result }
     ensures no_form { TellsNoForm (code_of result) }
     ensures levels { items.new.levels ≡ items.old.levels }
     ensures formats { items.new.formats ≡ items.old.formats }
 {
-    match head {
+    match found.head {
         Head::Unsigned(_) | Head::Negative(_) => Error::message(items.alloc, message),
-        _ => mismatch(items, head, "invalid type: expected an integer"),
+        _ => unread(items, found, "invalid type: expected an integer"),
     }
 }

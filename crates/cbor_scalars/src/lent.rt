@@ -10,10 +10,12 @@ ghost use Rattle.cbor_de.specs.Gives.{TellsNoForm};
 ghost use Rattle.cbor_scalars.specs.Strings.{BytesOf, IsBadAt, IsKept, IsMadeOf, IsNoKey};
 ghost use Rattle.cbor_scalars.specs.Strings.{Lent, LentText, LendsBytes, LendsString, LendsText};
 ghost use Rattle.cbor_scalars.specs.Strings.{AsksForString, PartText, UnreadOnly, asks_head};
-ghost use Rattle.cbor_scalars.specs.Strings.{Utf8Of};
+ghost use Rattle.cbor_scalars.specs.Strings.{AsksForBytes, LendsWhole, UnreadBehind, UnreadBy};
+ghost use Rattle.cbor_scalars.specs.Strings.{Utf8Of, behind_string};
 ghost use Rattle.cbor_scalars.specs.Takes.{OfItem, context, formats_of};
 ghost use Rattle.cbor_de.specs.contracts.de.Deserializer.{the_row};
 
+use crate::opening::{Found, pass_over};
 use crate::scalar::scalar;
 use cbor_de::{Deserializer, Head, Refused};
 use cbor_io::error::Error;
@@ -117,10 +119,14 @@ pub(crate) fn bytes_part<'a, 'de, R: Read<'de>>(
         × Lent R.refusals R.lends (Bytes n)
         (R.source items.old.source) (R.source new.source) result
         × IfErr result IsNoKey
-        × IfErr result (UnreadOnly (asks_head (asks_for R.refusals R.lends) (Bytes n) ≡ true)))) }
+        × IfErr result (UnreadOnly (asks_head (asks_for R.refusals R.lends) (Bytes n) ≡ true))
+        × IfErr result (UnreadBy R.refusals (behind_string (Bytes n)) (R.source items.old.source)))) }
 {
     match n {
-        Some(n) => given(items.source.read(n as usize)?),
+        Some(n) => match items.source.read(n as usize) {
+            Ok(part) => given(part),
+            Err(refusal) => Err(Unread::Stopped(refusal)),
+        },
         None => {
             if let Err(refused) = items.join(Major::ByteString) {
                 return Err(Unread::Stopped(stopped(items, refused)));
@@ -142,7 +148,8 @@ pub(crate) fn text_part<'a, 'de, R: Read<'de>>(
         × LentText R.refusals R.lends (Text n)
         (R.source items.old.source) (R.source new.source) result
         × IfErr result IsNoKey
-        × IfErr result (UnreadOnly (asks_head (asks_for R.refusals R.lends) (Text n) ≡ true)))) }
+        × IfErr result (UnreadOnly (asks_head (asks_for R.refusals R.lends) (Text n) ≡ true))
+        × IfErr result (UnreadBy R.refusals (behind_string (Text n)) (R.source items.old.source)))) }
 {
     match n {
         Some(n) => {
@@ -151,7 +158,10 @@ pub(crate) fn text_part<'a, 'de, R: Read<'de>>(
                 return Err(Unread::Stopped(stopped(items, refused)));
             }
             let end = items.source.offset() + n;
-            text_of(items.source.read(n as usize)?, end)
+            match items.source.read(n as usize) {
+                Ok(part) => text_of(part, end),
+                Err(refusal) => Err(Unread::Stopped(refusal)),
+            }
         }
         None => {
             match items.join(Major::TextString) {
@@ -192,21 +202,19 @@ fn bytes_of<'a, 'de>(text: EitherStr<'a, 'de>) -> Result<EitherLifetime<'a, 'de>
     }
 }
 
-// The refusal of an item of another kind, after its head.
+// The refusal of an item of another kind, after its head: the fault of what follows, if it has one.
 #[cold]
 #[inline(never)]
-#[tactic(auto, using(crate::proofs::Memory::kept_at))]
-fn other<R: Source>(items: &mut Deserializer<R>, head: Head) -> Unread
+fn other<R: Source>(items: &mut Deserializer<R>, found: Found) -> Unread
+    ensures fault { UnreadBehind R.refusals found (R.source items.old.source) result }
     ensures no_key { IsNoKey result }
-    ensures memory { UnreadOnly ⊥ result }
     ensures levels { items.new.levels ≡ items.old.levels }
     ensures formats { items.new.formats ≡ items.old.formats }
 {
-    if let Head::Break = head {
-        let refused = items.refuse(ReadErrorCode::UnexpectedCode);
-        return Unread::Stopped(stopped(items, refused));
+    match pass_over(items, found) {
+        Ok(()) => Unread::Other,
+        Err(refused) => Unread::Stopped(stopped(items, refused)),
     }
-    Unread::Other
 }
 
 /// The error of a string that wasn't lent; the message is for an item of another kind.
@@ -227,9 +235,9 @@ pub fn unread_error<R: Source>(items: &mut Deserializer<R>, why: Unread, message
 
 /// Lends a text, or a byte string that is UTF-8 (RFC 7049, section 2.1, major types 2 and 3).
 ///
-/// Another item, as a byte string that isn't UTF-8, is [`Unread::Other`]. What isn't whole, a text
-/// that isn't UTF-8 (`InvalidUtf8`), and a break (`UnexpectedCode`) are refused, and what the
-/// source refuses.
+/// Another item, as a byte string that isn't UTF-8, is [`Unread::Other`], and was passed over. What
+/// isn't whole, of any kind, a text that isn't UTF-8 (`InvalidUtf8`), and a break (`UnexpectedCode`)
+/// are refused, and what the source refuses.
 #[tactic(auto, using(crate::proofs::Memory::kept_none))]
 pub fn read_text<'a, 'de, R: Read<'de>>(
     items: &'a mut Deserializer<R>,
@@ -241,16 +249,17 @@ pub fn read_text<'a, 'de, R: Read<'de>>(
         (R.source items.old.source) (R.source new.source) result
         × IfErr result IsNoKey
         × IfErr result (UnreadOnly (OfItem (AsksForString (asks_for R.refusals R.lends))
-        (formats_of items.old.formats) items.old.levels (R.source items.old.source))))) }
+        (formats_of items.old.formats) items.old.levels (R.source items.old.source)))
+        × LendsWhole R.refusals items.old.levels (R.source items.old.source) result)) }
 {
-    let head = match scalar(items) {
-        Ok(head) => head,
+    let found = match scalar(items) {
+        Ok(found) => found,
         Err(refused) => return Err(Unread::Stopped(stopped(items, refused))),
     };
-    match head {
+    match found.head {
         Head::Text(n) => text_part(items, n),
         Head::Bytes(n) => utf8(bytes_part(items, n)?),
-        _ => Err(other(items, head)),
+        _ => Err(other(items, found)),
     }
 }
 
@@ -267,16 +276,17 @@ pub fn read_bytes<'a, 'de, R: Read<'de>>(
         (R.source items.old.source) (R.source new.source) result
         × IfErr result IsNoKey
         × IfErr result (UnreadOnly (OfItem (AsksForString (asks_for R.refusals R.lends))
-        (formats_of items.old.formats) items.old.levels (R.source items.old.source))))) }
+        (formats_of items.old.formats) items.old.levels (R.source items.old.source)))
+        × LendsWhole R.refusals items.old.levels (R.source items.old.source) result)) }
 {
-    let head = match scalar(items) {
-        Ok(head) => head,
+    let found = match scalar(items) {
+        Ok(found) => found,
         Err(refused) => return Err(Unread::Stopped(stopped(items, refused))),
     };
-    match head {
+    match found.head {
         Head::Bytes(n) => bytes_part(items, n),
         Head::Text(n) => bytes_of(text_part(items, n)?),
-        _ => Err(other(items, head)),
+        _ => Err(other(items, found)),
     }
 }
 
@@ -291,15 +301,16 @@ pub fn read_byte_string<'a, 'de, R: Read<'de>>(
         × LendsBytes R.refusals (context items.old.formats R.lends) items.old.levels
         (R.source items.old.source) (R.source new.source) result
         × IfErr result IsNoKey
-        × IfErr result (UnreadOnly (OfItem (AsksForString (asks_for R.refusals R.lends))
-        (formats_of items.old.formats) items.old.levels (R.source items.old.source))))) }
+        × IfErr result (UnreadOnly (OfItem (AsksForBytes (asks_for R.refusals R.lends))
+        (formats_of items.old.formats) items.old.levels (R.source items.old.source)))
+        × LendsWhole R.refusals items.old.levels (R.source items.old.source) result)) }
 {
-    let head = match scalar(items) {
-        Ok(head) => head,
+    let found = match scalar(items) {
+        Ok(found) => found,
         Err(refused) => return Err(Unread::Stopped(stopped(items, refused))),
     };
-    match head {
+    match found.head {
         Head::Bytes(n) => bytes_part(items, n),
-        _ => Err(other(items, head)),
+        _ => Err(other(items, found)),
     }
 }

@@ -5,12 +5,21 @@ ghost use Rattle.cbor_model.specs.Reader.{item_at};
 ghost use Rattle.cbor_de.specs.Gives.{Gives, TellsNoForm, TellsNoKey, TellsNoMemory};
 ghost use Rattle.cbor_io.specs.Error.{code_of};
 ghost use Rattle.cbor_de.specs.Heads.{HeadGives, opening_at};
+ghost use Rattle.cbor_de.specs.Heads.{passed};
 ghost use Rattle.cbor_scalars.specs.Opens.{OpensAt, item_inside, opened_at, opened_inside};
+ghost use Rattle.cbor_scalars.specs.Opens.{RefusesBehind, behind_any};
 ghost use Rattle.cbor_scalars.specs.Takes.{formats_of, raws};
 
-use cbor_de::{Deserializer, Done, Head};
+use cbor_de::{Deserializer, Done, Formats, Head};
 use cbor_io::error::Error;
 use cbor_read::{ReadErrorCode, Source};
+
+/// The head of an item within its tags, which is taken, and how many levels are left there.
+#[derive(Clone, Copy)]
+pub(crate) struct Found {
+    pub(crate) head: Head,
+    pub(crate) levels: u64,
+}
 
 // Takes a head.
 #[inline(always)]
@@ -90,4 +99,41 @@ pub fn mismatch<R: Source>(items: &mut Deserializer<R>, head: Head, message: &st
         return items.error(refused);
     }
     Error::message(items.alloc, message)
+}
+
+// Passes over what follows a head, with keys of any formats: which of them are read is no matter of
+// what holds no keys.
+#[cold]
+#[inline(never)]
+pub(crate) fn pass_over<R: Source>(items: &mut Deserializer<R>, found: Found) -> Done<()>
+    ensures read { Gives R.refusals (λ u. u)
+        (λ l bs. passed (behind_any found.levels found.head l bs))
+        (R.source items.old.source) (R.source items.new.source) items.new.refusal result }
+    ensures no_key { IfErr result (TellsNoKey items.new.refusal) }
+    ensures levels { items.new.levels ≡ items.old.levels }
+    ensures formats { items.new.formats ≡ items.old.formats }
+{
+    let levels = items.levels;
+    let formats = items.formats;
+    items.levels = found.levels;
+    items.formats = Formats::ALL;
+    let passed = items.skip_of(found.head);
+    items.levels = levels;
+    items.formats = formats;
+    passed
+}
+
+// The error of an item that isn't read, after its head: the fault of what follows, or the message.
+#[cold]
+#[inline(never)]
+pub(crate) fn unread<R: Source>(items: &mut Deserializer<R>, found: Found, message: &str) -> Error
+    ensures fault { RefusesBehind R.refusals found (R.source items.old.source) result }
+    ensures no_form { TellsNoForm (code_of result) }
+    ensures levels { items.new.levels ≡ items.old.levels }
+    ensures formats { items.new.formats ≡ items.old.formats }
+{
+    match pass_over(items, found) {
+        Ok(()) => Error::message(items.alloc, message),
+        Err(refused) => items.error(refused),
+    }
 }

@@ -6,12 +6,14 @@ ghost use Rattle.std.specs.String.{string_bytes};
 ghost use Rattle.cbor_model.specs.Readable.{PassesTags, IsText};
 ghost use Rattle.cbor_io.specs.Error.{code_of};
 ghost use Rattle.cbor_de.specs.Gives.{Gives, TellsNoForm, TellsNoKey};
-ghost use Rattle.cbor_scalars.specs.Identifiers.{IsMadeBy, NamesNoKey};
+ghost use Rattle.cbor_scalars.specs.Identifiers.{IsMadeBy, NamesNoKey, NamesWhole};
 ghost use Rattle.cbor_de.specs.declared.head.Head.TheVariants.{Bytes, Text};
 ghost use Rattle.cbor_scalars.specs.Strings.{content_at, KeepsTextOf, SeeksItem, TakesText};
-ghost use Rattle.cbor_scalars.specs.Takes.{OnceMade, TakesItem, formats_of};
+ghost use Rattle.cbor_scalars.specs.Strings.{SeeksWhole, TellsString};
+ghost use Rattle.cbor_scalars.specs.Takes.{OnceMade, RefusesWhole, TakesItem, formats_of};
 
 use crate::identifier::{Named, Why, unnamed};
+use crate::opening::pass_over;
 use crate::scalar::scalar;
 use cbor_de::{Deserializer, Done, Head};
 use cbor_io::error::Result;
@@ -85,6 +87,8 @@ fn definite_text<R: Source>(items: &mut Deserializer<R>, n: u64) -> Done<String>
     ensures read { TakesText R.refusals (λ s. string_bytes s) (Text (Some n))
         (R.source items.old.source) (R.source items.new.source)
         items.new.refusal result }
+    ensures fault { IfErr result (TellsString R.refusals (Text (Some n))
+        (R.source items.old.source) items.new.refusal) }
     ensures no_key { IfErr result (TellsNoKey items.new.refusal) }
     ensures levels { items.new.levels ≡ items.old.levels }
     ensures formats { items.new.formats ≡ items.old.formats }
@@ -114,6 +118,8 @@ fn text_asked_for<R: Source>(items: &mut Deserializer<R>, n: Option<u64>) -> Don
     ensures read { TakesText R.refusals (λ s. string_bytes s) (Text n)
         (R.source items.old.source) (R.source items.new.source)
         items.new.refusal result }
+    ensures fault { IfErr result (TellsString R.refusals (Text n)
+        (R.source items.old.source) items.new.refusal) }
     ensures no_key { IfErr result (TellsNoKey items.new.refusal) }
     ensures levels { items.new.levels ≡ items.old.levels }
     ensures formats { items.new.formats ≡ items.old.formats }
@@ -128,6 +134,8 @@ fn string<R: Source>(items: &mut Deserializer<R>) -> Done<Option<String>>
     ensures read { SeeksItem R.refusals (formats_of items.old.formats)
         (PassesTags (λ r s. IsText r (string_bytes s))) items.old.levels
         (R.source items.old.source) (R.source items.new.source)
+        items.new.refusal result }
+    ensures fault { SeeksWhole R.refusals items.old.levels (R.source items.old.source)
         items.new.refusal result }
     ensures no_key { IfErr result (TellsNoKey items.new.refusal) }
     ensures levels { items.new.levels ≡ items.old.levels }
@@ -147,12 +155,14 @@ fn any_string<R: Source>(items: &mut Deserializer<R>) -> Done<Option<String>>
         (PassesTags (λ r s. IsText r (string_bytes s))) items.old.levels
         (R.source items.old.source) (R.source items.new.source)
         items.new.refusal result }
+    ensures fault { SeeksWhole R.refusals items.old.levels (R.source items.old.source)
+        items.new.refusal result }
     ensures no_key { IfErr result (TellsNoKey items.new.refusal) }
     ensures levels { items.new.levels ≡ items.old.levels }
     ensures formats { items.new.formats ≡ items.old.formats }
 {
-    let head = scalar(items)?;
-    match head {
+    let found = scalar(items)?;
+    match found.head {
         Head::Text(n) => {
             let text = text_asked_for(items, n)?;
             Ok(Some(text))
@@ -164,8 +174,10 @@ fn any_string<R: Source>(items: &mut Deserializer<R>) -> Done<Option<String>>
                 Err(_) => Ok(None),
             }
         }
-        Head::Break => Err(items.refuse(ReadErrorCode::UnexpectedCode)),
-        _ => Ok(None),
+        _ => match pass_over(items, found) {
+            Ok(()) => Ok(None),
+            Err(refused) => Err(refused),
+        },
     }
 }
 
@@ -176,6 +188,8 @@ fn own_string<R: Source>(items: &mut Deserializer<R>) -> Named<String>
         (TakesItem R.refusals (formats_of items.old.formats)
         (PassesTags (λ r s. IsText r (string_bytes s))) items.old.levels
         (R.source items.old.source) (R.source items.new.source)) result }
+    ensures fault { IfErr result (NamesWhole R.refusals items.old.levels
+        (R.source items.old.source) items.new.refusal) }
     ensures no_key { IfErr result (NamesNoKey items.new.refusal) }
     ensures levels { items.new.levels ≡ items.old.levels }
     ensures formats { items.new.formats ≡ items.old.formats }
@@ -190,11 +204,13 @@ fn own_string<R: Source>(items: &mut Deserializer<R>) -> Named<String>
 /// Reads a text, or a byte string that is UTF-8, to memory of its own.
 ///
 /// Another item, as a byte string that isn't UTF-8, is refused with [`NO_STRING`]; a text that
-/// isn't UTF-8 with `InvalidUtf8`.
+/// isn't UTF-8 with `InvalidUtf8`, and what isn't whole, of any kind, by its fault.
 pub fn read_string<R: Source>(items: &mut Deserializer<R>) -> Result<String>
     ensures read { TakesItem R.refusals (formats_of items.old.formats)
         (PassesTags (λ r s. IsText r (string_bytes s))) items.old.levels
         (R.source items.old.source) (R.source items.new.source) result }
+    ensures fault { IfErr result (RefusesWhole R.refusals items.old.levels
+        (R.source items.old.source)) }
     ensures no_form { IfErr result (λ e. TellsNoForm (code_of e)) }
     ensures levels { items.new.levels ≡ items.old.levels }
     ensures formats { items.new.formats ≡ items.old.formats }

@@ -8,3 +8,5 @@ pub use Rattle.cbor_scalars.proofs.Scalars.{refuses, told_by}
 pub use Rattle.cbor_scalars.proofs.Scalars.{other_code}
 -- where memory ran out, what the refusal says of it holds
 pub use Rattle.cbor_scalars.proofs.Memory.{error_only}
+-- a refusal of the item at the front: by its fault, or by a message where one stands there
+pub use Rattle.cbor_scalars.proofs.PassedOver.{excused_whole, stands_whole, told_whole}

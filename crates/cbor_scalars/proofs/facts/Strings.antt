@@ -7,3 +7,5 @@ pub use Rattle.cbor_scalars.proofs.ByteStrings.{one_byte_string}
 pub use Rattle.cbor_scalars.proofs.Lending.{made_read, made_none, made_refuses, none_of}
 -- where memory ran out for a string, and for none that is lent for the input's life
 pub use Rattle.cbor_scalars.proofs.Memory.{made_memory, lent_unasked}
+-- the error that is made of what wasn't lent is one of the item at the front
+pub use Rattle.cbor_scalars.proofs.PassedLent.{made_whole}

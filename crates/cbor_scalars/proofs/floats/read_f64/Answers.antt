@@ -8,6 +8,7 @@ use Rattle.cbor_scalars.specs.Takes.{formats_of, raws}
 use Rattle.cbor_scalars.proofs.FloatNumbers.{double_read}
 use Rattle.cbor_scalars.proofs.Opened.{head_opens, head_stops, no_tag}
 use Rattle.cbor_scalars.proofs.Scalars.{float_read, refuses}
+use Rattle.cbor_scalars.proofs.PassedOver.{headless_whole}
 use Rattle.cbor_scalars.proofs.floats.read_f64.Goals as goal
 
 pub returns-in-Ok-Some-clause-read : goal.returns-in-Ok-Some-clause-read
@@ -29,3 +30,8 @@ returns-in-Err-clause-read g c =
     let s = g.R.Source.source items.source in
     refuses g.R.Source.refusals (PassesTags IsFloatOf) (λ l. item_at (raws f l) items.levels) s c.double.new.self.refusal c.in-Err.refused c.error.result c.error.ensures.tells
     (head_stops g.R.Source.refusals f s items.levels c.double.new.self.refusal c.in-Err.refused c.in-Err.ensures.read)
+
+pub returns-in-Err-clause-fault : goal.returns-in-Err-clause-fault
+returns-in-Err-clause-fault g c =
+    let items = c.args.items.now in
+    headless_whole g.R.Source.refusals items.levels (g.R.Source.source items.source) c.double.new.self.refusal c.in-Err.refused c.error.result c.in-Err.ensures.read c.error.ensures.tells

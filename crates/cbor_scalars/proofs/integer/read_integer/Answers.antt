@@ -4,6 +4,7 @@ use Rattle.std.proofs.lemmas.Int.{to_z-of_z}
 use Rattle.cbor_scalars.specs.Takes.{formats_of}
 use Rattle.cbor_model.specs.Readable.{IsInteger}
 use Rattle.cbor_scalars.proofs.Numbers.{number_read, number_none, number_unread}
+use Rattle.cbor_scalars.proofs.PassedOver.{behind_whole, unopened_whole}
 use Rattle.cbor_scalars.proofs.integer.read_integer.Goals as goal
 
 pub returns-in-Some-clause-read : goal.returns-in-Some-clause-read
@@ -13,16 +14,27 @@ returns-in-Some-clause-read g c =
     let u = c.scalar.new.items in
     let n = c.in-Some.number in
     let fits : FitsSigned w128 n = search rules in
-    rw (to_z-of_z w128 n fits) (number_read g.R.Source.refusals f IsInteger c.args.items.now.levels s (g.R.Source.source u.source) u.refusal c.in-Ok.head n n (λ r is. is) c.in-Some.ensures c.in-Ok.ensures.read)
+    rw (to_z-of_z w128 n fits) (number_read g.R.Source.refusals f IsInteger c.args.items.now.levels s (g.R.Source.source u.source) u.refusal c.in-Ok.found.head n n (λ r is. is) c.in-Some.ensures c.in-Ok.ensures.read)
 
 pub returns-in-None-clause-read : goal.returns-in-None-clause-read
 returns-in-None-clause-read g c =
     let s = g.R.Source.source c.args.items.now.source in
     let u = c.scalar.new.items in
-    number_none g.R.Source.refusals (formats_of c.args.items.now.formats) IsInteger c.args.items.now.levels s (g.R.Source.source u.source) u.refusal c.in-Ok.head c.mismatch.result (λ z. z) (λ r z h. h) (λ r z h is. c.in-None.ensures z is) c.in-Ok.ensures.read
+    number_none g.R.Source.refusals (formats_of c.args.items.now.formats) IsInteger c.args.items.now.levels s (g.R.Source.source u.source) u.refusal c.in-Ok.found.head c.unread.result (λ z. z) (λ r z h. h) (λ r z h is. c.in-None.ensures z is) c.in-Ok.ensures.read
 
 pub returns-in-None-clause-memory : goal.returns-in-None-clause-memory
 returns-in-None-clause-memory g c = λ e.
     let s = g.R.Source.source c.args.items.now.source in
     let u = c.scalar.new.items in
-    number_unread g.R.Source.refusals (formats_of c.args.items.now.formats) IsInteger c.args.items.now.levels s (g.R.Source.source u.source) u.refusal c.in-Ok.head (λ z. z) (λ r z h. h) (λ r z h is. c.in-None.ensures z is) c.in-Ok.ensures.read
+    number_unread g.R.Source.refusals (formats_of c.args.items.now.formats) IsInteger c.args.items.now.levels s (g.R.Source.source u.source) u.refusal c.in-Ok.found.head (λ z. z) (λ r z h. h) (λ r z h is. c.in-None.ensures z is) c.in-Ok.ensures.read
+
+pub returns-in-Err-clause-fault : goal.returns-in-Err-clause-fault
+returns-in-Err-clause-fault g c =
+    let u = c.scalar.new.items in
+    unopened_whole g.R.Source.refusals c.args.items.now.levels (g.R.Source.source c.args.items.now.source) u.refusal c.in-Err.refused c.error.result c.in-Err.ensures.opened c.error.ensures.tells
+
+pub returns-in-None-clause-fault : goal.returns-in-None-clause-fault
+returns-in-None-clause-fault g c =
+    let s = g.R.Source.source c.args.items.now.source in
+    let m = g.R.Source.source c.scalar.new.items.source in
+    behind_whole g.R.Source.refusals c.in-Ok.found c.args.items.now.levels s m c.unread.result c.in-Ok.ensures.opened c.unread.ensures.fault

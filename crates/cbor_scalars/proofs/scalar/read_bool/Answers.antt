@@ -4,6 +4,7 @@ use Rattle.cbor_model.specs.Readable.{IsBool}
 use Rattle.cbor_scalars.specs.Opens.{OpensItem}
 use Rattle.cbor_scalars.specs.Takes.{formats_of}
 use Rattle.cbor_scalars.proofs.Scalars.{scalar_unread, none_scalar, bool_read, not_bool}
+use Rattle.cbor_scalars.proofs.PassedOver.{behind_whole, unopened_whole}
 use Rattle.cbor_scalars.proofs.scalar.read_bool.Goals as goal
 
 pub returns-in-Bool-clause-read : goal.returns-in-Bool-clause-read
@@ -19,10 +20,21 @@ pub returns-in_default-clause-read : goal.returns-in_default-clause-read
 returns-in_default-clause-read g c =
     let s = g.R.Source.source c.args.items.now.source in
     let u = c.scalar.new.items in
-    none_scalar g.R.Source.refusals (formats_of c.args.items.now.formats) IsBool c.args.items.now.levels s (g.R.Source.source u.source) u.refusal c.in-Ok.head c.mismatch.result (not_bool c.in-Ok.head c.in_default.not-Bool) c.in-Ok.ensures.read
+    none_scalar g.R.Source.refusals (formats_of c.args.items.now.formats) IsBool c.args.items.now.levels s (g.R.Source.source u.source) u.refusal c.in-Ok.found.head c.unread.result (not_bool c.in-Ok.found.head c.in_default.not-Bool) c.in-Ok.ensures.read
 
 pub returns-in_default-clause-memory : goal.returns-in_default-clause-memory
 returns-in_default-clause-memory g c = λ is.
     let s = g.R.Source.source c.args.items.now.source in
     let u = c.scalar.new.items in
-    scalar_unread g.R.Source.refusals (formats_of c.args.items.now.formats) IsBool c.args.items.now.levels s (g.R.Source.source u.source) u.refusal c.in-Ok.head (not_bool c.in-Ok.head c.in_default.not-Bool) c.in-Ok.ensures.read
+    scalar_unread g.R.Source.refusals (formats_of c.args.items.now.formats) IsBool c.args.items.now.levels s (g.R.Source.source u.source) u.refusal c.in-Ok.found.head (not_bool c.in-Ok.found.head c.in_default.not-Bool) c.in-Ok.ensures.read
+
+pub returns-in-Err-clause-fault : goal.returns-in-Err-clause-fault
+returns-in-Err-clause-fault g c =
+    let u = c.scalar.new.items in
+    unopened_whole g.R.Source.refusals c.args.items.now.levels (g.R.Source.source c.args.items.now.source) u.refusal c.in-Err.refused c.error.result c.in-Err.ensures.opened c.error.ensures.tells
+
+pub returns-in_default-clause-fault : goal.returns-in_default-clause-fault
+returns-in_default-clause-fault g c =
+    let s = g.R.Source.source c.args.items.now.source in
+    let m = g.R.Source.source c.scalar.new.items.source in
+    behind_whole g.R.Source.refusals c.in-Ok.found c.args.items.now.levels s m c.unread.result c.in-Ok.ensures.opened c.unread.ensures.fault

@@ -4,6 +4,7 @@ use Rattle.cbor_scalars.specs.Opens.{OpensItem}
 use Rattle.cbor_scalars.specs.Takes.{formats_of}
 use Rattle.cbor_scalars.specs.Scalars.{IsFloatItem}
 use Rattle.cbor_scalars.proofs.Scalars.{scalar_unread, none_scalar, float_read, not_float}
+use Rattle.cbor_scalars.proofs.PassedOver.{behind_whole, float_stands, unopened_whole}
 use Rattle.cbor_scalars.proofs.scalar.read_float.Goals as goal
 
 pub returns-in-Float-clause-read : goal.returns-in-Float-clause-read
@@ -19,10 +20,27 @@ pub returns-in_default-clause-read : goal.returns-in_default-clause-read
 returns-in_default-clause-read g c =
     let s = g.R.Source.source c.args.items.now.source in
     let u = c.scalar.new.items in
-    none_scalar g.R.Source.refusals (formats_of c.args.items.now.formats) IsFloatItem c.args.items.now.levels s (g.R.Source.source u.source) u.refusal c.in-Ok.head c.mismatch.result (not_float c.in-Ok.head c.in_default.not-Float) c.in-Ok.ensures.read
+    none_scalar g.R.Source.refusals (formats_of c.args.items.now.formats) IsFloatItem c.args.items.now.levels s (g.R.Source.source u.source) u.refusal c.in-Ok.found.head c.unread.result (not_float c.in-Ok.found.head c.in_default.not-Float) c.in-Ok.ensures.read
 
 pub returns-in_default-clause-memory : goal.returns-in_default-clause-memory
 returns-in_default-clause-memory g c = λ is.
     let s = g.R.Source.source c.args.items.now.source in
     let u = c.scalar.new.items in
-    scalar_unread g.R.Source.refusals (formats_of c.args.items.now.formats) IsFloatItem c.args.items.now.levels s (g.R.Source.source u.source) u.refusal c.in-Ok.head (not_float c.in-Ok.head c.in_default.not-Float) c.in-Ok.ensures.read
+    scalar_unread g.R.Source.refusals (formats_of c.args.items.now.formats) IsFloatItem c.args.items.now.levels s (g.R.Source.source u.source) u.refusal c.in-Ok.found.head (not_float c.in-Ok.found.head c.in_default.not-Float) c.in-Ok.ensures.read
+
+pub returns-in-Float-clause-fault : goal.returns-in-Float-clause-fault
+returns-in-Float-clause-fault g c =
+    let s = g.R.Source.source c.args.items.now.source in
+    let m = g.R.Source.source c.scalar.new.items.source in
+    float_stands g.R.Source.refusals c.in-Ok.found c.args.items.now.levels s m c.in-Float.float c.in-Float.is c.in-Ok.ensures.opened
+
+pub returns-in-Err-clause-fault : goal.returns-in-Err-clause-fault
+returns-in-Err-clause-fault g c =
+    let u = c.scalar.new.items in
+    unopened_whole g.R.Source.refusals c.args.items.now.levels (g.R.Source.source c.args.items.now.source) u.refusal c.in-Err.refused c.error.result c.in-Err.ensures.opened c.error.ensures.tells
+
+pub returns-in_default-clause-fault : goal.returns-in_default-clause-fault
+returns-in_default-clause-fault g c =
+    let s = g.R.Source.source c.args.items.now.source in
+    let m = g.R.Source.source c.scalar.new.items.source in
+    behind_whole g.R.Source.refusals c.in-Ok.found c.args.items.now.levels s m c.unread.result c.in-Ok.ensures.opened c.unread.ensures.fault

@@ -12,6 +12,8 @@ use Rattle.cbor_scalars.specs.Opens.{OpensItem}
 use Rattle.cbor_scalars.specs.Takes.{formats_of}
 use Rattle.cbor_scalars.proofs.Lending.{text_refuses}
 use Rattle.cbor_scalars.proofs.Contents.{text_takes, bytes_takes, bytes_stops, bytes_bad, not_string, none_at, none_there}
+use Rattle.cbor_scalars.proofs.PassedOver.{behind_stands, behind_stopped, behind_whole, unopened_whole}
+use Rattle.cbor_scalars.proofs.PassedStrings.{bytes_stand, bytes_whole, text_whole}
 use Rattle.cbor_scalars.proofs.strings.any_string.Goals as goal
 
 -- what a String is read from
@@ -26,7 +28,7 @@ returns-in_err-text-in-Text-clause-read g c =
     let f = formats_of c.args.items.now.formats in
     let s = g.R.Source.source c.args.items.now.source in
     let m = g.R.Source.source u.source in
-    let opened = subst (λ (h : Head). OpensItem g.R.Source.refusals f levels s m u.refusal (Ok h)) c.in-Text.is c.in_ok-head.ensures.read in
+    let opened = subst (λ (h : Head). OpensItem g.R.Source.refusals f levels s m u.refusal (Ok h)) c.in-Text.is c.in_ok-found.ensures.read in
     rw (p.1, p.2) (λ e is. text_refuses g.R.Source.refusals f g.R.Source.lends levels s m u.refusal reads c.in-Text.n (code_of e) (offset_of e) opened (c.in_err-text-in-Text.ensures.read e is))
 
 pub returns-in-Text-clause-read : goal.returns-in-Text-clause-read
@@ -39,7 +41,7 @@ returns-in-Text-clause-read g c =
     let t = g.R.Source.source c.text_asked_for.new.items.source in
     let x = c.in_ok-text-in-Text.text in
     let is = c.in_ok-text-in-Text.ensures.read in
-    let opened = subst (λ (h : Head). OpensItem g.R.Source.refusals f levels s m u.refusal (Ok h)) c.in-Text.is c.in_ok-head.ensures.read in
+    let opened = subst (λ (h : Head). OpensItem g.R.Source.refusals f levels s m u.refusal (Ok h)) c.in-Text.is c.in_ok-found.ensures.read in
     text_takes g.R.Source.refusals f reads levels s m u.refusal c.in-Text.n opened t (string_bytes x) x (λ r string utf8 lent. (string, utf8)) is.1 is.0
 
 pub returns-in_err-bytes-in-Bytes-clause-read : goal.returns-in_err-bytes-in-Bytes-clause-read
@@ -50,7 +52,7 @@ returns-in_err-bytes-in-Bytes-clause-read g c =
     let f = formats_of c.args.items.now.formats in
     let s = g.R.Source.source c.args.items.now.source in
     let m = g.R.Source.source u.source in
-    let opened = subst (λ (h : Head). OpensItem g.R.Source.refusals f levels s m u.refusal (Ok h)) c.in-Bytes.is c.in_ok-head.ensures.read in
+    let opened = subst (λ (h : Head). OpensItem g.R.Source.refusals f levels s m u.refusal (Ok h)) c.in-Bytes.is c.in_ok-found.ensures.read in
     rw (p.1, p.2) (λ e is. bytes_stops g.R.Source.refusals f reads levels s m u.refusal c.in-Bytes.n opened _ c.byte_string.new.items.refusal e is c.in_err-bytes-in-Bytes.ensures.read)
 
 pub returns-in-Ok-clause-read : goal.returns-in-Ok-clause-read
@@ -63,7 +65,7 @@ returns-in-Ok-clause-read g c =
     let x = c.in-Ok.text in
     let b = c.in_ok-bytes-in-Bytes.bytes.items in
     let same : string_bytes x ≡ b = ap (λ v. v.items) c.in-Ok.ensures.ok in
-    let opened = subst (λ (h : Head). OpensItem g.R.Source.refusals f levels s m u.refusal (Ok h)) c.in-Bytes.is c.in_ok-head.ensures.read in
+    let opened = subst (λ (h : Head). OpensItem g.R.Source.refusals f levels s m u.refusal (Ok h)) c.in-Bytes.is c.in_ok-found.ensures.read in
     bytes_takes g.R.Source.refusals f reads levels s m u.refusal c.in-Bytes.n opened (g.R.Source.source c.byte_string.new.items.source) b x
     (λ r is lent. (subst (IsString r) (sym same) is, IsUtf8-string_bytes x)) c.in_ok-bytes-in-Bytes.ensures.read
 
@@ -76,12 +78,69 @@ returns-in-Bytes-clause-read g c =
     let m = g.R.Source.source u.source in
     let b = c.in_ok-bytes-in-Bytes.bytes.items in
     let bad : IsUtf8 b → ⊥ = λ is. cc (c.in-Err.ensures.succeeds is) in
-    let opened = subst (λ (h : Head). OpensItem g.R.Source.refusals f levels s m u.refusal (Ok h)) c.in-Bytes.is c.in_ok-head.ensures.read in
+    let opened = subst (λ (h : Head). OpensItem g.R.Source.refusals f levels s m u.refusal (Ok h)) c.in-Bytes.is c.in_ok-found.ensures.read in
     none_there g.R.Source.refusals s (λ k at. bytes_bad g.R.Source.refusals f reads levels s m u.refusal c.in-Bytes.n opened (g.R.Source.source c.byte_string.new.items.source) b k at (λ x. string_bytes x) (λ r x is. is) bad c.in_ok-bytes-in-Bytes.ensures.read)
+
+pub returns-in-Ok-pass_over-clause-read : goal.returns-in-Ok-pass_over-clause-read
+returns-in-Ok-pass_over-clause-read g c =
+    let u = c.scalar.new.items in
+    let s = g.R.Source.source c.args.items.now.source in
+    let h = c.in_ok-found.found.head in
+    none_there g.R.Source.refusals s (λ k at. none_at g.R.Source.refusals (formats_of c.args.items.now.formats) reads c.args.items.now.levels s (g.R.Source.source u.source) u.refusal h k at (λ r x is. not_string h c.in_default.not-Text c.in_default.not-Bytes r (string_bytes x) is.0) c.in_ok-found.ensures.read)
+
+-- ---- the fault
+
+pub returns-in_err-found-clause-fault : goal.returns-in_err-found-clause-fault
+returns-in_err-found-clause-fault g c =
+    let p = err_from_is_err_and c.from_residual.result c.from_residual.ensures.1 in
+    let s = g.R.Source.source c.args.items.now.source in
+    rw (p.1, p.2) (λ e is. unopened_whole g.R.Source.refusals c.args.items.now.levels s _ _ e c.in_err-found.ensures.opened is)
+
+pub returns-in_err-text-in-Text-clause-fault : goal.returns-in_err-text-in-Text-clause-fault
+returns-in_err-text-in-Text-clause-fault g c =
+    let p = err_from_is_err_and c.from_residual-in_err-text-in-Text.result c.from_residual-in_err-text-in-Text.ensures.1 in
+    let u = c.scalar.new.items in
+    let levels = c.args.items.now.levels in
+    let s = g.R.Source.source c.args.items.now.source in
+    let m = g.R.Source.source u.source in
+    rw (p.1, p.2) (λ e is. text_whole g.R.Source.refusals c.in_ok-found.found levels s m c.in_ok-found.ensures.opened c.in-Text.n e c.in-Text.is (c.in_err-text-in-Text.ensures.fault e is))
+
+pub returns-in_err-bytes-in-Bytes-clause-fault : goal.returns-in_err-bytes-in-Bytes-clause-fault
+returns-in_err-bytes-in-Bytes-clause-fault g c =
+    let p = err_from_is_err_and c.from_residual-in_err-bytes-in-Bytes.result c.from_residual-in_err-bytes-in-Bytes.ensures.1 in
+    let u = c.scalar.new.items in
+    let levels = c.args.items.now.levels in
+    let s = g.R.Source.source c.args.items.now.source in
+    let m = g.R.Source.source u.source in
+    rw (p.1, p.2) (λ e is. bytes_whole g.R.Source.refusals c.in_ok-found.found levels s m c.in_ok-found.ensures.opened c.in-Bytes.n _ _ e c.in-Bytes.is c.in_err-bytes-in-Bytes.ensures.read is)
+
+pub returns-in-Bytes-clause-fault : goal.returns-in-Bytes-clause-fault
+returns-in-Bytes-clause-fault g c =
+    let u = c.scalar.new.items in
+    let levels = c.args.items.now.levels in
+    let s = g.R.Source.source c.args.items.now.source in
+    let m = g.R.Source.source u.source in
+    let t = g.R.Source.source c.byte_string.new.items.source in
+    bytes_stand g.R.Source.refusals c.in_ok-found.found levels s m c.in_ok-found.ensures.opened c.in-Bytes.n t c.in_ok-bytes-in-Bytes.bytes.items c.in-Bytes.is c.in_ok-bytes-in-Bytes.ensures.read
+
+pub returns-in-Ok-pass_over-clause-fault : goal.returns-in-Ok-pass_over-clause-fault
+returns-in-Ok-pass_over-clause-fault g c =
+    let s = g.R.Source.source c.args.items.now.source in
+    let m = g.R.Source.source c.scalar.new.items.source in
+    let t = g.R.Source.source c.pass_over.new.items.source in
+    behind_stands g.R.Source.refusals c.in_ok-found.found c.args.items.now.levels s m t c.in_ok-found.ensures.opened c.in-Ok-pass_over.ensures.read
 
 pub returns-clause-read : goal.returns-clause-read
 returns-clause-read g c =
     let u = c.scalar.new.items in
     let s = g.R.Source.source c.args.items.now.source in
-    let h = c.in_ok-head.head in
-    none_there g.R.Source.refusals s (λ k at. none_at g.R.Source.refusals (formats_of c.args.items.now.formats) reads c.args.items.now.levels s (g.R.Source.source u.source) u.refusal h k at (λ r x is. not_string h c.in_default.not-Text c.in_default.not-Bytes r (string_bytes x) is.0) c.in_ok-head.ensures.read)
+    let h = c.in_ok-found.found.head in
+    λ e is. none_at g.R.Source.refusals (formats_of c.args.items.now.formats) reads c.args.items.now.levels s (g.R.Source.source u.source) u.refusal h (code_of e) (offset_of e) (λ r x is. not_string h c.in_default.not-Text c.in_default.not-Bytes r (string_bytes x) is.0) c.in_ok-found.ensures.read
+
+pub returns-clause-fault : goal.returns-clause-fault
+returns-clause-fault g c =
+    let s = g.R.Source.source c.args.items.now.source in
+    let m = g.R.Source.source c.scalar.new.items.source in
+    let found = c.in_ok-found.found in
+    λ e is. behind_whole g.R.Source.refusals found c.args.items.now.levels s m e c.in_ok-found.ensures.opened
+    (behind_stopped g.R.Source.refusals found m _ _ e c.in-Err-pass_over.ensures.read is)

@@ -1,4 +1,4 @@
-use Rattle.std.proofs.Common.{Some, String}
+use Rattle.std.proofs.Common.{Some, String, refl}
 use Rattle.std.specs.Global.{Global}
 use Rattle.std.specs.String.{string_bytes}
 use Rattle.std.proofs.lemmas.Result.{err_from_is_err_and}
@@ -9,6 +9,10 @@ use Rattle.cbor_scalars.specs.Takes.{formats_of}
 use Rattle.cbor_scalars.proofs.Opened.{text_opened}
 use Rattle.cbor_scalars.proofs.Lending.{text_refuses}
 use Rattle.cbor_scalars.proofs.Contents.{text_takes}
+use Rattle.cbor_de.specs.declared.head.Head.TheVariants.{Text}
+use Rattle.cbor_scalars.specs.declared.opening.Found.{Found}
+use Rattle.cbor_scalars.proofs.Openings.{head_opened}
+use Rattle.cbor_scalars.proofs.PassedStrings.{text_whole}
 use Rattle.cbor_scalars.proofs.strings.string.Goals as goal
 
 -- what a String is read from
@@ -38,3 +42,13 @@ returns-in-Some-clause-read g c =
     let is = c.in_ok-text.ensures.read in
     let opened = text_opened g.R.Source.refusals f s m old.levels c.in-Some.n u.refusal c.in-Some.ensures.read in
     text_takes g.R.Source.refusals f reads old.levels s m u.refusal (Some c.in-Some.n) opened t (string_bytes x) x (λ r string utf8 lent. (string, utf8)) is.1 is.0
+
+pub returns-in_err-text-clause-fault : goal.returns-in_err-text-clause-fault
+returns-in_err-text-clause-fault g c =
+    let passed = err_from_is_err_and c.from_residual.result c.from_residual.ensures.1 in
+    let old = c.args.items.now in
+    let s = g.R.Source.source old.source in
+    let m = g.R.Source.source c.short_text.new.self.source in
+    let found : Found = record { head = Text (Some c.in-Some.n); levels = old.levels } in
+    let opens = head_opened s m old.levels old.levels (Text (Some c.in-Some.n)) (λ e. absurd cc) refl c.in-Some.ensures.read in
+    rw (passed.1, passed.2) (λ e is. text_whole g.R.Source.refusals found old.levels s m opens (Some c.in-Some.n) e refl (c.in_err-text.ensures.fault e is))
