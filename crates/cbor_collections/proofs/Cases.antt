@@ -242,7 +242,7 @@ made_stands s cases kept r other e made = other_stands s e cases (no_form kept r
 -- the error of what named nothing, where no key stopped it
 pub unnamed_stands : (s : Input) (cases : Limits → List ℕ → Cases) (kept : Option ReadError) (w : Why) → NamesNoKey kept w → (e : Error) → IsMadeBy kept w e → Stands s e cases
 unnamed_stands s cases kept (unnamed.Refused r) other e made = made_stands s cases kept r other e made
-unnamed_stands s cases kept unnamed.Other other e made = other_stands s e cases (of_message (code_of e) made)
+unnamed_stands s cases kept unnamed.Other other e made = other_stands s e cases (of_message (code_of e) made.0)
   where
     of_message : (k : ErrorCode) → IsMessageOf None k → TellsNoForm k
     of_message (code.Message text) h = tt

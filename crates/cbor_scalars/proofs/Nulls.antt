@@ -1,5 +1,5 @@
 -- Null, by its first byte.
-use Rattle.std.proofs.Common.{ap₂, ◌≡◌, ◌/◌, ◌%◌, ℕ, zero, suc, Bool, true, false, cond, eqb, List, [], ◌∷◌, Option, Some, None, Ok, Err, refl, sym, ap, subst, ◌∙◌, arith, inl, inr}
+use Rattle.std.proofs.Common.{ap₂, ◌≡◌, ◌/◌, ◌%◌, ℕ, zero, suc, Bool, true, false, cond, eqb, List, [], ◌∷◌, length, ◌+◌, Option, Some, None, Ok, Err, refl, sym, ap, subst, ◌∙◌, arith, inl, inr}
 use Rattle.std.proofs.lemmas.Bool.{eqb-true, eqb-false}
 use Rattle.std.specs.Int.{w16, w32, w64}
 use Rattle.cbor_model.specs.Formats.{Formats}
@@ -18,13 +18,16 @@ use Rattle.cbor_io.specs.declared.error.ErrorCode.{ErrorCode}
 use Rattle.cbor_io.specs.declared.read_error.ReadError.{ReadError}
 use Rattle.cbor_io.specs.declared.read_error.ReadErrorCode.{ReadErrorCode}
 use Rattle.cbor_value.specs.declared.Float.TheVariants.{Half, Single, Double}
-use Rattle.cbor_de.specs.Gives.{Limits, limits, Step, Stopped, IsErrorOf}
+use Rattle.cbor_de.specs.Gives.{Limits, limits, Reports, Step, Stopped, IsErrorOf}
 use Rattle.cbor_de.specs.Heads.{opening_at, head_at, head_of, number_head, length_head, simple_head, behind_head}
 use Rattle.cbor_de.specs.declared.head.Head.{Head}
 use Rattle.cbor_de.specs.declared.head.Head.TheVariants as head
 use Rattle.cbor_de.specs.declared.cursor.Remaining.TheVariants.{Counted, ToBreak}
 use Rattle.cbor_de.specs.declared.refusal.Refused.{Refused}
 use Rattle.cbor_de.proofs.facts.Steps.{step_map, step_then, stopped_map}
+use Rattle.cbor_scalars.specs.Takes.{FaultOrMessage, RefusesWhole, any_item}
+use Rattle.cbor_scalars.proofs.PassedOver.{stopped_whole}
+use Rattle.cbor_model.specs.Plain.{Val}
 use Rattle.cbor_scalars.specs.Takes.{raws, IsRead, IsNotRead, MemoryFor, Refuses}
 use Rattle.cbor_scalars.specs.Options.{UnlessNull, null_at}
 use Rattle.cbor_scalars.proofs.OfKind.{kinds}
@@ -214,3 +217,21 @@ module _ {A : Type 0} (allowed : ReadErrorCode → Bool) (f : Formats) (reads : 
 
   pub option_stops : (kept : Option ReadError) (r : Refused) (e : Error) → IsErrorOf kept r e → Stopped allowed (λ l. null_at) s kept r → Refuses allowed s (code_of e) (offset_of e) (λ l bs. IsNotRead (IsOptional reads) (item l bs))
   option_stops kept r e is stopped = refuses allowed (IsOptional reads) item s kept r e is (stopped_map allowed (λ l. null_at) item s kept r (λ l bs g stops. absurd (never bs g stops)) stopped)
+
+-- ---- the fault
+
+module _ (allowed : ReadErrorCode → Bool) (levels : ℕ) (s : Input) where
+  -- a refusal of what is there
+  pub option_whole : (m : Input) (e : Error) → Step s m (λ l bs rest. null_at bs ≡ Ok (false, rest)) → RefusesWhole allowed levels m e → RefusesWhole allowed levels s e
+  option_whole m e step h bs tells =
+      let behind = step.told bs tells in
+      let D = Reports allowed in
+      let k = code_of e in
+      let at = offset_of e in
+      let same : limits m behind.rest ≡ limits s bs = ap₂ (λ (n : ℕ) (r : Option ℕ). record { total = n; room = r }) behind.total step.room in
+      let here = subst (λ (n : ℕ). FaultOrMessage D k n at (any_item levels (limits m behind.rest) behind.rest)) behind.total (h behind.rest behind.tells) in
+      subst (λ (r : Reads Val). FaultOrMessage D k (s.offset + length bs) at r) (ap₂ (any_item levels) same (seen bs behind.rest behind.holds).0) here
+
+  -- the source refused
+  pub unseen_whole : (kept : Option ReadError) (r : Refused) (e : Error) → Stopped allowed (λ l. null_at) s kept r → IsErrorOf kept r e → RefusesWhole allowed levels s e
+  unseen_whole kept r e h is = stopped_whole allowed levels s kept r e (stopped_map allowed (λ l. null_at) (any_item levels) s kept r (λ l bs g stops. absurd (never bs g stops)) h) is

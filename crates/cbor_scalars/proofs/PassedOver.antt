@@ -1,9 +1,9 @@
 -- Items that are passed over after their heads.
-use Rattle.std.proofs.Common.{◌≡◌, ◌+◌, ◌⊎◌, inl, inr, ℕ, zero, suc, Bool, List, length, Option, Some, None, Result, Ok, Err, refl, sym, ap, ap₂, subst, ◌∙◌}
-use Rattle.cbor_model.specs.Formats.{all_formats}
+use Rattle.std.proofs.Common.{◌≡◌, ◌+◌, ◌⊎◌, inl, inr, ℕ, zero, suc, Bool, true, false, List, length, Option, Some, None, Result, Ok, Err, IfErr, refl, sym, ap, ap₂, subst, ◌∙◌}
+use Rattle.cbor_model.specs.Formats.{Formats, all_formats}
 use Rattle.cbor_model.specs.Head.{HeadWidth}
 use Rattle.cbor_model.specs.Plain.{Val}
-use Rattle.cbor_model.specs.Reader.{Fault, Reads, ◌>>=◌, inside, tag_at}
+use Rattle.cbor_model.specs.Reader.{Fault, Reads, ◌>>=◌, inside, item_at, tag_at}
 use Rattle.cbor_read.specs.Source.{Input}
 use Rattle.cbor_io.specs.Error.{code_of, offset_of, IsMessageOf}
 use Rattle.cbor_io.specs.declared.error.Error.{Error}
@@ -21,7 +21,7 @@ use Rattle.cbor_de.specs.declared.refusal.Refused.{Refused}
 use Rattle.cbor_de.proofs.facts.Heads.{value_behind}
 use Rattle.cbor_de.proofs.facts.Steps.{passed_on, passed_was, passed_stops, step_then, stopped_map, stopped_then}
 use Rattle.cbor_scalars.specs.Opens.{opened_by, opened_at, behind_any, RefusesBehind, StandsBehind}
-use Rattle.cbor_scalars.specs.Takes.{ExcusedBy, FaultOrMessage, IsMessageBy, RefusesWhole, Stands, TellsFault, any_item}
+use Rattle.cbor_scalars.specs.Takes.{ExcusedBy, FaultOrMessage, IsMessage, TellsItem, TellsOf, WhereTotal, IsMessageBy, RefusesWhole, Stands, TellsFault, any_item}
 use Rattle.cbor_scalars.specs.declared.opening.Found.{Found}
 use Rattle.cbor_scalars.proofs.Opened.{item_opened}
 use Rattle.cbor_scalars.proofs.Openings.{inner, opened_is}
@@ -141,6 +141,10 @@ stands_whole allowed levels s e text is none stands bs tells =
     let item = stands bs tells in
     message_of D (code_of e) (s.offset + length bs) (offset_of e) (any_item levels (limits s bs) bs) (item.0, item.1) item.2 (message_by D text (code_of e) (offset_of e) is none)
 
+pub stands_err : {X : Type 0} (allowed : ReadErrorCode → Bool) (levels : ℕ) (s : Input) (r : Result X Error) → IfErr r IsMessage → Stands levels s → IfErr r (RefusesWhole allowed levels s)
+stands_err allowed levels s (Ok x) is stands = tt
+stands_err allowed levels s (Err e) is stands = stands_whole allowed levels s e None is.0 is.1 stands
+
 -- ---- what follows a head
 
 module _ (allowed : ReadErrorCode → Bool) (found : Found) where
@@ -224,3 +228,49 @@ number_message allowed found s e text n is none which bs tells =
 pub float_stands : (allowed : ReadErrorCode → Bool) (found : Found) (levels : ℕ) (s m : Input) (x : Float) → found.head ≡ head.Float x → Step s m (λ l bs rest. opened_at levels bs ≡ Ok ((found.levels, found.head), rest)) → Stands levels s
 float_stands allowed found levels s m x is step =
     stood_stands allowed found levels s m step (λ bs tells. (float_view x, bs, ap (λ (h : Head). behind_any found.levels h (limits m bs) bs) is))
+
+-- ---- what a type's refusal tells
+
+pub passes_told : (P Q : Type 0) (passes_over total : Bool) → TellsOf passes_over total P Q → WhereTotal passes_over Q
+passes_told P Q false total h = tt
+passes_told P Q true false h = h
+passes_told P Q true true h = h.1
+
+pub total_told : (P Q : Type 0) (passes_over total : Bool) → TellsOf passes_over total P Q → WhereTotal total P
+total_told P Q false total h = h
+total_told P Q true false h = tt
+total_told P Q true true h = h.0
+
+-- of a type that doesn't read every item
+only_passes : (P Q : Type 0) (passes_over : Bool) → WhereTotal passes_over Q → TellsOf passes_over false P Q
+only_passes P Q false h = tt
+only_passes P Q true h = h
+
+pub tells_map : {P P' Q Q' : Type 0} (passes_over total : Bool) → (P → P') → (Q → Q') → TellsOf passes_over total P Q → TellsOf passes_over total P' Q'
+tells_map false false f g h = tt
+tells_map false true f g h = f h
+tells_map true false f g h = g h
+tells_map true true f g h = (f h.0, g h.1)
+
+pub tells_both : {P Q : Type 0} (passes_over total : Bool) → P → Q → TellsOf passes_over total P Q
+tells_both false false p q = tt
+tells_both false true p q = p
+tells_both true false p q = q
+tells_both true true p q = (p, q)
+
+module _ (passes_over total : Bool) (allowed : ReadErrorCode → Bool) (f : Formats) (levels : ℕ) (s : Input) (e : Error) where
+  abbrev TotalTells : Type 0
+  TotalTells = TellsFault allowed (λ l. item_at (values f l) levels) s e
+
+  pub item_passes : TellsItem passes_over total allowed f levels s e → WhereTotal passes_over (RefusesWhole allowed levels s e)
+  item_passes = passes_told TotalTells (RefusesWhole allowed levels s e) passes_over total
+
+  pub item_total : TellsItem passes_over total allowed f levels s e → TellsItem false total allowed f levels s e
+  item_total = total_told TotalTells (RefusesWhole allowed levels s e) passes_over total
+
+  pub item_only : WhereTotal passes_over (RefusesWhole allowed levels s e) → TellsItem passes_over false allowed f levels s e
+  item_only = only_passes TotalTells (RefusesWhole allowed levels s e) passes_over
+
+pub always : {P : Type 0} (b : Bool) → P → WhereTotal b P
+always false p = tt
+always true p = p

@@ -11,13 +11,13 @@ use Rattle.cbor_model.specs.Readable.{IsString}
 use Rattle.cbor_io.specs.declared.error.Error.{Error}
 use Rattle.cbor_io.specs.declared.read_error.ReadError.{ReadError}
 use Rattle.cbor_io.specs.declared.read_error.ReadErrorCode.{ReadErrorCode}
-use Rattle.cbor_io.specs.Error.{code_of, offset_of, IsMessageOf}
+use Rattle.cbor_io.specs.Error.{code_of, offset_of}
 use Rattle.cbor_read.specs.Source.{Input}
 use Rattle.cbor_de.specs.Gives.{Step, IsErrorOf, TellsNoKey}
 use Rattle.cbor_de.specs.declared.head.Head.{Head}
 use Rattle.cbor_de.specs.declared.refusal.Refused as kept
 use Rattle.cbor_scalars.specs.Strings.{content_at}
-use Rattle.cbor_scalars.specs.Takes.{Refuses, RefusesWhole}
+use Rattle.cbor_scalars.specs.Takes.{IsMessage, Refuses, RefusesWhole}
 use Rattle.cbor_scalars.specs.declared.identifier.Why.{Why}
 use Rattle.cbor_scalars.specs.declared.identifier.Why.TheVariants.{Refused, Other}
 
@@ -51,7 +51,7 @@ IsIdentifier names r place = (b : List ℕ) × IsString r b × IsPlace names b p
 -- the error that is made of why nothing was named, by what the deserializer keeps
 abbrev pub IsMadeBy : Option ReadError → Why → Error → Type 0
 IsMadeBy kept (Refused r) e = IsErrorOf kept r e
-IsMadeBy kept Other e = IsMessageOf None (code_of e) × (offset_of e ≡ 0)
+IsMadeBy kept Other e = IsMessage e
 
 -- the error that is made of why nothing was named is one of the item at the front
 abbrev pub NamesWhole : (ReadErrorCode → Bool) → ℕ → Input → Option ReadError → Why → Type 0

@@ -14,7 +14,7 @@ use Rattle.cbor_model.specs.Refusal.{length_out_of_range, unexpected_code}
 use Rattle.cbor_model.specs.Reader.{Reads, before, bytes_at, chunks_at, exceeds_most, item_at}
 use Rattle.cbor_io.specs.declared.error.Error.{Error}
 use Rattle.cbor_io.specs.declared.error.ErrorCode.TheVariants.{InvalidUtf8}
-use Rattle.cbor_io.specs.Error.{code_of, offset_of, IsMessageOf}
+use Rattle.cbor_io.specs.Error.{code_of, offset_of}
 use Rattle.cbor_read.specs.Source.{Input, Lends, Asks, part_bytes, is_long}
 use Rattle.cbor_read.specs.declared.EitherLifetime.{EitherLifetime}
 use Rattle.cbor_io.specs.declared.read_error.ReadErrorCode.{ReadErrorCode}
@@ -30,7 +30,7 @@ use Rattle.cbor_de.specs.declared.head.Head.{Head}
 use Rattle.cbor_de.specs.declared.head.Head.TheVariants.{Bytes, Text}
 use Rattle.cbor_scalars.specs.Opens.{StandsBehind, behind_any}
 use Rattle.cbor_scalars.specs.Takes.{raws, IsRead, IsNotRead, Refuses, RefusesWhole}
-use Rattle.cbor_scalars.specs.Takes.{Stands, TellsFault, any_item}
+use Rattle.cbor_scalars.specs.Takes.{IsMessage, Stands, TellsFault, any_item}
 use Rattle.cbor_scalars.specs.declared.opening.Found.{Found}
 use Rattle.cbor_scalars.specs.declared.lent.EitherStr.{EitherStr}
 use Rattle.cbor_scalars.specs.declared.lent.EitherStr.TheVariants.{Short, Long}
@@ -225,7 +225,7 @@ IsNoKey Other = ⊤
 -- the error that is made of a refusal
 abbrev pub IsMadeOf : Unread → Error → Type 0
 IsMadeOf (Stopped q) e = (code_of e ≡ error_code (why q)) × (offset_of e ≡ place q)
-IsMadeOf Other e = IsMessageOf None (code_of e) × (offset_of e ≡ 0)
+IsMadeOf Other e = IsMessage e
 
 -- a part as text, if it is UTF-8
 abbrev pub Utf8Of : EitherLifetime → Result EitherStr Unread → Type 0

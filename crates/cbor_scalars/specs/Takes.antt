@@ -15,7 +15,7 @@ use Rattle.cbor_io.specs.declared.error.ErrorCode.{ErrorCode}
 use Rattle.cbor_io.specs.declared.error.ErrorCode.TheVariants.{EofWhileParsingValue, Io, Message}
 use Rattle.cbor_io.specs.declared.error.ErrorCode.TheVariants.{OutOfMemory}
 use Rattle.cbor_io.specs.declared.read_error.ReadErrorCode.{ReadErrorCode}
-use Rattle.cbor_io.specs.Error.{code_of, offset_of}
+use Rattle.cbor_io.specs.Error.{code_of, offset_of, IsMessageOf}
 use Rattle.cbor_read.specs.Source.{Input, Lends}
 use Rattle.cbor_de.specs.Gives.{Limits, limits, values, Tells, Step, Reports, FailsBy}
 use Rattle.cbor_de.specs.declared.formats.Formats.{Formats}
@@ -104,11 +104,6 @@ abbrev pub TellsFault : {A : Type 0} → (ReadErrorCode → Bool) → (Limits �
     → Error → Type 0
 TellsFault refusals read s e = (bs : List ℕ) → Tells s bs → FailsBy (Reports refusals) (code_of e) (s.offset + length bs) (offset_of e) (read (limits s bs) bs)
 
--- Where a type reads every item, a refusal tells the fault of the item at the front.
-abbrev pub TellsItem : Bool → (ReadErrorCode → Bool) → model.Formats → ℕ → Input → Error → Type 0
-TellsItem total refusals f levels s e =
-    WhereTotal total (TellsFault refusals (λ l. item_at (values f l) levels) s e)
-
 -- ---- the fault, or a message for the item that is there
 
 -- a message, or excused
@@ -139,6 +134,24 @@ Stands levels s = (bs : List ℕ) → Tells s bs → (v : Val) × (rest : List �
 abbrev pub ReadsWhole : {A : Type 0} → (ReadErrorCode → Bool) → ℕ → Input → Result A Error → Type 0
 ReadsWhole refusals levels s (Ok x) = Stands levels s
 ReadsWhole refusals levels s (Err e) = RefusesWhole refusals levels s e
+
+-- a message, or memory ran out for it
+abbrev pub IsMessage : Error → Type 0
+IsMessage e = IsMessageOf None (code_of e) × (offset_of e ≡ 0)
+
+-- ---- what a type's refusal tells
+
+-- P is claimed where a type reads every item, and Q where it passes over those that it doesn't read.
+abbrev pub TellsOf : Bool → Bool → Type 0 → Type 0 → Type 0
+TellsOf false total P Q = WhereTotal total P
+TellsOf true false P Q = Q
+TellsOf true true P Q = P × Q
+
+-- Where a type reads every item, a refusal tells the fault of the item at the front; and where it passes
+-- over an item that it doesn't read, a refusal tells that fault too, and of an item it is a message.
+abbrev pub TellsItem : Bool → Bool → (ReadErrorCode → Bool) → model.Formats → ℕ → Input → Error → Type 0
+TellsItem passes_over total refusals f levels s e =
+    TellsOf passes_over total (TellsFault refusals (λ l. item_at (values f l) levels) s e) (RefusesWhole refusals levels s e)
 
 -- ---- examples
 

@@ -155,7 +155,7 @@ told_then allowed read read' s m e P on step tells bs is =
 
 module _ (total : Bool) (allowed : ReadErrorCode → Bool) (f : Formats) (levels : ℕ) (s m : Input) (e : Error) where
   -- within a tag
-  pub tag_told : (left n : ℕ) → levels ≡ left + 1 → TagIs f levels n s m → TellsItem total allowed f left m e → TellsItem total allowed f levels s e
+  pub tag_told : (left n : ℕ) → levels ≡ left + 1 → TagIs f levels n s m → TellsItem false total allowed f left m e → TellsItem false total allowed f levels s e
   tag_told left n one step = where_total total (told_then allowed (λ l. item_at (values f l) left) (λ l. item_at (values f l) levels) s m e
       (λ l bs rest. (w : HeadWidth) × (item_at (raws f l) levels bs ≡ tag_at (raws f l) (inside (raws f l) levels) w n rest))
       (λ l bs mid d tag stops.
@@ -167,13 +167,13 @@ module _ (total : Bool) (allowed : ReadErrorCode → Bool) (f : Formats) (levels
       unseen (Err c) d is = cc
 
   -- where no tag is
-  pub untagged_told : StandsNoTag s m → TellsItem total allowed f levels m e → TellsItem total allowed f levels s e
+  pub untagged_told : StandsNoTag s m → TellsItem false total allowed f levels m e → TellsItem false total allowed f levels s e
   untagged_told step = where_total total (told_then allowed (λ l. item_at (values f l) levels) (λ l. item_at (values f l) levels) s m e
       (λ l bs rest. (rest ≡ bs) × BeginsNoTag bs)
       (λ l bs mid d none stops. ap (item_at (values f l) levels) (sym none.0) ∙ stops) step)
 
 -- a tag's head that can't be read
-pub head_told : (total : Bool) (allowed : ReadErrorCode → Bool) (f : Formats) (levels : ℕ) (s : Input) (e : Error) → TellsFault allowed (λ l. tag_head_at levels) s e → TellsItem total allowed f levels s e
+pub head_told : (total : Bool) (allowed : ReadErrorCode → Bool) (f : Formats) (levels : ℕ) (s : Input) (e : Error) → TellsFault allowed (λ l. tag_head_at levels) s e → TellsItem false total allowed f levels s e
 head_told false allowed f levels s e told = tt
 head_told true allowed f levels s e told = λ bs is.
     let l = limits s bs in

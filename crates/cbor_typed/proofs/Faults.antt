@@ -1,5 +1,5 @@
 -- The fault that an error tells, where a type reads every item.
-use Rattle.std.proofs.Common.{◌≡◌, ◌+◌, ℕ, Bool, true, false, List, length, Option, Result, Ok, Err, IfErr, refl, sym, ap, subst, ◌∙◌, arith}
+use Rattle.std.proofs.Common.{inl, inr, ◌≡◌, ◌+◌, ℕ, Bool, true, false, List, length, Option, Result, Ok, Err, IfErr, refl, sym, ap, subst, ◌∙◌, arith}
 use Rattle.std.specs.Prelude.{⊤}
 use Rattle.cbor_model.specs.Formats.{Formats, all_formats}
 use Rattle.cbor_model.specs.Raw.{Raw}
@@ -17,13 +17,13 @@ use Rattle.cbor_io.specs.declared.read_error.ReadError.{ReadError}
 use Rattle.cbor_io.specs.declared.read_error.ReadErrorCode.{ReadErrorCode}
 use Rattle.cbor_value.specs.View.{view}
 use Rattle.cbor_value.specs.declared.Value.{Value}
-use Rattle.cbor_de.specs.Gives.{limits, values, Tells, Step, Stopped, Reports, Ends, FailsBy, Fails, FailsOrFaults, IsErrorOf, end_at, whole_at}
+use Rattle.cbor_de.specs.Gives.{Limits, limits, values, Tells, Step, Stopped, Reports, Ends, FailsBy, Fails, FailsOrFaults, IsErrorOf, end_at, whole_at}
 use Rattle.cbor_de.specs.declared.refusal.Refused.{Refused}
 use Rattle.cbor_de.specs.Heads.{passed}
 use Rattle.cbor_de.proofs.facts.Steps.{step_map, stopped_map, passed_on, fault_in, passed_was, passed_stops}
-use Rattle.cbor_scalars.specs.Takes.{raws, IsRead, IsNotRead, Refuses, WhereTotal, TellsFault}
-use Rattle.cbor_typed.specs.Whole.{TellsWhole}
-use Rattle.cbor_scalars.proofs.facts.Refusals.{refuses}
+use Rattle.cbor_scalars.specs.Takes.{raws, FaultOrMessage, IsMessageBy, IsRead, IsNotRead, Refuses, TellsItem, WhereTotal, TellsFault, any_item}
+use Rattle.cbor_typed.specs.Whole.{RefusesAll, RefusesBytes, TellsWhole, front_in}
+use Rattle.cbor_scalars.proofs.facts.Refusals.{passes_told, refuses, tells_both, tells_map, total_told}
 use Rattle.cbor_de.proofs.facts.Readings.{along, value_seen}
 
 pub where_map : {P Q : Type 0} (total : Bool) → (P → Q) → WhereTotal total P → WhereTotal total Q
@@ -33,10 +33,11 @@ where_map true f h = f h
 -- ---- an item, and then the end
 
 module _ (allowed : ReadErrorCode → Bool) (f : Formats) (levels : ℕ) (s : Input) (e : Error) where
-  pub item_whole : (total : Bool) → WhereTotal total (TellsFault allowed (λ l. item_at (values f l) levels) s e) → WhereTotal total (TellsFault allowed (whole_at f levels) s e)
-  item_whole total = where_map total (λ h bs tells.
+  pub item_whole : (passes_over total : Bool) → TellsItem passes_over total allowed f levels s e → TellsWhole passes_over total allowed f levels s e
+  item_whole passes_over total = tells_map passes_over total (λ h bs tells.
       let l = limits s bs in
       passed_on (Reports allowed) (code_of e) (s.offset + length bs) (offset_of e) (item_at (values f l) levels bs) (whole_at f levels l bs) (λ d is. rw is refl) (h bs tells))
+      (λ h bs tells. inl (h bs tells))
 
   tells_end : {A : Type 0} (reads : Raw → A → Type 0) (t : Input) (x : A) → Step s t (λ l bs rest. IsRead reads (item_at (raws f l) levels bs) x rest) → Ends allowed t (Err e) → TellsFault allowed (whole_at f levels) s e
   tells_end reads t x step ends bs tells =
@@ -47,9 +48,8 @@ module _ (allowed : ReadErrorCode → Bool) (f : Formats) (levels : ℕ) (s : In
       let end = subst (λ (n : ℕ). FailsBy D (code_of e) n (offset_of e) (end_at got.rest)) got.total (ends got.rest got.tells) in
       passed_on D (code_of e) (s.offset + length bs) (offset_of e) (end_at got.rest) (whole_at f levels l bs) (λ d stops. rw (is, stops) refl) end
 
-  pub end_whole : {A : Type 0} (total : Bool) (reads : Raw → A → Type 0) (t : Input) (x : A) → Step s t (λ l bs rest. IsRead reads (item_at (raws f l) levels bs) x rest) → Ends allowed t (Err e) → TellsWhole total allowed f levels s e
-  end_whole false reads t x step ends = tt
-  end_whole true reads t x step ends = tells_end reads t x step ends
+  pub end_whole : {A : Type 0} (passes_over total : Bool) (reads : Raw → A → Type 0) (t : Input) (x : A) → Step s t (λ l bs rest. IsRead reads (item_at (raws f l) levels bs) x rest) → Ends allowed t (Err e) → TellsWhole passes_over total allowed f levels s e
+  end_whole passes_over total reads t x step ends = tells_both passes_over total (tells_end reads t x step ends) (λ bs tells. inr (tells_end reads t x step ends bs tells))
 
 -- ---- all of an input
 
@@ -74,21 +74,54 @@ fails_map D E g code.WrongStructFormat end at r h = h
 fails_map D E g code.NotCanonical end at r h = absurd h
 fails_map D E g code.OutOfMemory end at r h = h
 
-module _ (total : Bool) (allowed : ReadErrorCode → Bool) (s : Input) (bs : List ℕ) (tells : Tells s bs) (zero : s.offset ≡ 0) where
-  told : (E : Type 0) → (Reports allowed → E) → (e : Error) → TellsWhole total allowed all_formats max_depth s e → WhereTotal total (FailsBy E (code_of e) (length bs) (offset_of e) (read_value_in s.room bs))
-  told E g e = where_map total (λ h.
+message_map : (D E : Type 0) → (D → E) → (k : ErrorCode) (at : ℕ) → IsMessageBy D k at → IsMessageBy E k at
+message_map D E g (code.Message m) at h = tt
+message_map D E g (code.Io e) at h = (g h.0, h.1)
+message_map D E g code.OutOfMemory at h = h
+message_map D E g k at h = absurd h
+
+fault_map : {A : Type 0} (D E : Type 0) → (D → E) → (k : ErrorCode) (end at : ℕ) (r : Result A Fault) → FaultOrMessage D k end at r → FaultOrMessage E k end at r
+fault_map D E g k end at (Ok x) h = message_map D E g k at h
+fault_map D E g k end at (Err f) h = fails_map D E g k end at (Err f) h
+
+module _ (passes_over total : Bool) (allowed : ReadErrorCode → Bool) (s : Input) (bs : List ℕ) (tells : Tells s bs) (zero : s.offset ≡ 0) where
+  told : (E : Type 0) → (Reports allowed → E) → (e : Error) → TellsWhole passes_over total allowed all_formats max_depth s e → WhereTotal total (FailsBy E (code_of e) (length bs) (offset_of e) (read_value_in s.room bs))
+  told E g e whole = where_map total (λ h.
       let l = limits s bs in
       let all = subst (λ (n : ℕ). FailsBy (Reports allowed) (code_of e) n (offset_of e) (whole_at all_formats max_depth l bs)) (omega (arith, zero)) (h bs tells) in
       fails_map (Reports allowed) E g (code_of e) (length bs) (offset_of e) (read_value_in s.room bs)
-      (passed_on (Reports allowed) (code_of e) (length bs) (offset_of e) (whole_at all_formats max_depth l bs) (read_value_in s.room bs) (λ d is. fault_in s bs zero d is) all))
+      (passed_on (Reports allowed) (code_of e) (length bs) (offset_of e) (whole_at all_formats max_depth l bs) (read_value_in s.room bs) (λ d is. fault_in s bs zero d is) all)) (total_told (TellsFault allowed (whole_at all_formats max_depth) s e) (RefusesAll allowed all_formats max_depth s e) passes_over total whole)
 
-  pub fails : {A : Type 0} → (Reports allowed → ⊥) → (r : Result A Error) → IfErr r (TellsWhole total allowed all_formats max_depth s) → IfErr r (λ e. WhereTotal total (Fails (length bs) e (read_value_in s.room bs)))
+  pub fails : {A : Type 0} → (Reports allowed → ⊥) → (r : Result A Error) → IfErr r (TellsWhole passes_over total allowed all_formats max_depth s) → IfErr r (λ e. WhereTotal total (Fails (length bs) e (read_value_in s.room bs)))
   fails none (Ok x) h = tt
   fails none (Err e) h = told ⊥ none e h
 
-  pub fails_or_faults : {A : Type 0} (r : Result A Error) → IfErr r (TellsWhole total allowed all_formats max_depth s) → IfErr r (λ e. WhereTotal total (FailsOrFaults (length bs) e (read_value_in s.room bs)))
+  pub fails_or_faults : {A : Type 0} (r : Result A Error) → IfErr r (TellsWhole passes_over total allowed all_formats max_depth s) → IfErr r (λ e. WhereTotal total (FailsOrFaults (length bs) e (read_value_in s.room bs)))
   fails_or_faults (Ok x) h = tt
   fails_or_faults (Err e) h = told ⊤ (λ d. tt) e h
+
+  refuses_bytes : (E : Type 0) → (Reports allowed → E) → (e : Error) → RefusesAll allowed all_formats max_depth s e → RefusesBytes E s.room bs e
+  refuses_bytes E g e h =
+      let D = Reports allowed in
+      let k = code_of e in
+      let at = offset_of e in
+      let l = limits s bs in
+      let end : s.offset + length bs ≡ length bs = omega (arith, zero) in
+      let same : l ≡ record { total = length bs; room = s.room } = ap (λ (n : ℕ). record { total = n; room = s.room }) end in
+      elim (h bs tells) [
+        | inl item ↦
+            let here = subst (λ (n : ℕ). FaultOrMessage D k n at (any_item max_depth l bs)) end item in
+            let there = subst (λ (i : Limits). FaultOrMessage D k (length bs) at (any_item max_depth i bs)) same here in
+            inl (fault_map D E g k (length bs) at (front_in s.room bs) there)
+        | inr all ↦
+            let here = subst (λ (n : ℕ). FailsBy D k n at (whole_at all_formats max_depth l bs)) end all in
+            inr (fails_map D E g k (length bs) at (read_value_in s.room bs)
+            (passed_on D k (length bs) at (whole_at all_formats max_depth l bs) (read_value_in s.room bs) (λ d is. fault_in s bs zero d is) here))
+      ]
+
+  pub kinds : {A : Type 0} (E : Type 0) → (Reports allowed → E) → (r : Result A Error) → IfErr r (TellsWhole passes_over total allowed all_formats max_depth s) → IfErr r (λ e. WhereTotal passes_over (RefusesBytes E s.room bs e))
+  kinds E g (Ok x) h = tt
+  kinds E g (Err e) h = where_map passes_over (refuses_bytes E g e) (passes_told (TellsFault allowed (whole_at all_formats max_depth) s e) (RefusesAll allowed all_formats max_depth s e) passes_over total h)
 
 -- ---- values
 

@@ -1,5 +1,5 @@
 -- A type that is made of a value: an item is read as what its value means.
-use Rattle.std.proofs.Common.{◌≡◌, ◌∙◌, ℕ, Bool, true, List, Result, Ok, Err, IsErrAnd, ◌⊎◌, inl, inr, rules, sym, ap, subst}
+use Rattle.std.proofs.Common.{◌≡◌, ◌∙◌, ℕ, Bool, false, true, List, Result, Ok, Err, IsErrAnd, ◌⊎◌, inl, inr, rules, sym, ap, subst}
 use Rattle.std.specs.Prelude.{ℤ, IfOk, IfErr}
 use Rattle.cbor_model.specs.Formats.{Formats}
 use Rattle.cbor_model.specs.Plain as plain
@@ -57,7 +57,7 @@ module _ {A : Type 0} (means : Val → A → Type 0) (allowed : ReadErrorCode �
   Valued v l bs rest = IsRead AsValue (item_at (raws f l) levels bs) v rest
 
   -- no item is there
-  pub no_value : (t : Input) (e : Error) (r : Result A Error) → TellsItem true allowed f levels s e → IsErrAnd r (λ x. x ≡ e) → TakesItem allowed f reads levels s t r
+  pub no_value : (t : Input) (e : Error) (r : Result A Error) → TellsItem false true allowed f levels s e → IsErrAnd r (λ x. x ≡ e) → TakesItem allowed f reads levels s t r
   no_value t e (Ok x) told given = absurd given
   no_value t e (Err x) told given = subst (λ (y : Error). Refuses allowed s (code_of y) (offset_of y) None) (sym given)
       (refuses_fault allowed (λ l. item_at (values f l) levels) s e None (λ l bs d fails x rest got. no_fault f levels l bs rest got.item d fails got.is) told)

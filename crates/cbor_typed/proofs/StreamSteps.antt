@@ -40,7 +40,7 @@ module _ (refusals : ReadErrorCode → Bool) where
       let within = subst (λ (l : Limits). FailsBy Device k (s.offset + length bs) at (read l one.rest)) (same_there s m bs one.rest h.room one.total) here in
       subst (λ (x : List ℕ). FailsBy Device k (s.offset + length bs) at (read (limits s bs) x)) (sym one.holds) within
 
-  pub fault_before : (total : Bool) (f : Formats) (levels : ℕ) (s m : Input) (e : Error) → Stays s m → TellsItem total refusals f levels m e → TellsItem total refusals f levels s e
+  pub fault_before : (total : Bool) (f : Formats) (levels : ℕ) (s m : Input) (e : Error) → Stays s m → TellsItem false total refusals f levels m e → TellsItem false total refusals f levels s e
   fault_before total f levels s m e h = where_map total (told_before (λ l. item_at (values f l) levels) s m e h)
 
   -- what a look that saw a byte tells
@@ -98,7 +98,7 @@ module _ (refusals : ReadErrorCode → Bool) where
         inl (subst (λ (c : ErrorCode). ExcusedBy Device c (offset_of e)) (sym code) (subst (λ (n : ℕ). ExcusedBy Device k n) (sym at) by));
   }
 
-  pub look_fault : (total : Bool) (f : Formats) (levels : ℕ) (s m : Input) (q : ReadError) (e : Error) → code_of e ≡ error_code (why q) → offset_of e ≡ place q → RefusedByte refusals s m q → TellsItem total refusals f levels s e
+  pub look_fault : (total : Bool) (f : Formats) (levels : ℕ) (s m : Input) (q : ReadError) (e : Error) → code_of e ≡ error_code (why q) → offset_of e ≡ place q → RefusedByte refusals s m q → TellsItem false total refusals f levels s e
   look_fault false f levels s m q e code at h = tt
   look_fault true f levels s m q e code at h = λ bs tells.
       let read : Limits → List ℕ → Reads Val = λ l. item_at (values f l) levels in

@@ -1,5 +1,5 @@
 -- The refusal of an item at the front of the bytes to come, by the definitions.
-use Rattle.std.specs.Prelude.{◌⊎◌, ℕ, Bool, List}
+use Rattle.std.specs.Prelude.{false, ◌⊎◌, ℕ, Bool, List}
 use Rattle.cbor_model.specs.Allowed.{Limits}
 use Rattle.cbor_model.specs.Formats.{all_formats}
 use Rattle.cbor_model.specs.Raw.{AreBytes}
@@ -20,6 +20,6 @@ bounds_of levels s = record { start = s.offset; levels = levels; scratch = s.roo
 abbrev pub ItemRefusedFirst : Bool → Type 0
 ItemRefusedFirst total = (refusals : ReadErrorCode → Bool) (levels : ℕ) (s : Input)
     (bytes : List ℕ) (e : Error) → Tells s bytes → AreBytes bytes
-    → TellsItem total refusals all_formats levels s e
+    → TellsItem false total refusals all_formats levels s e
     → WhereTotal total (IsOutOfMemory e ⊎ (Reports refusals × IsMemoryOrFault e)
     ⊎ TellsFirst (bounds_of levels s) bytes e)

@@ -54,7 +54,7 @@ pub record GivesError {A : Type 0} (refusals : ReadErrorCode → Bool) (reads : 
   pub going : s.done ≡ false
   pub refused : Refuses refusals s.input (code_of e) (offset_of e) (λ l bs.
       (bs ≢ []) × IsNotRead (reads s.formats) (item_at (raws s.formats l) s.levels bs))
-  pub fault : TellsItem total refusals s.formats s.levels s.input e
+  pub fault : TellsItem false total refusals s.formats s.levels s.input e
   pub done : t.done ≡ true
   pub levels : t.levels ≡ s.levels
   pub formats : t.formats ≡ s.formats

@@ -25,6 +25,11 @@ use cbor_read::Read;
 /// `tells_form` says whether the type may refuse an item for its form: only then is a refusal
 /// `ArrayTooShort`, `ArrayTooLong`, `WrongEnumFormat` or `WrongStructFormat` (or `NotCanonical`,
 /// which strict reading alone answers). A type may, unless it says otherwise.
+///
+/// `passes_over` says that the type passes over an item that it doesn't read before it refuses it:
+/// so what isn't whole is refused by its fault, and an item, of keys of any formats, by a message. A
+/// type needn't, unless it says so: one that is read part by part stops at the part that it doesn't
+/// read.
 pub trait Readable: Sized + Drop {
     ghost use Rattle.std.specs.Prelude.{⊤, Bool, true, false};
     ghost use Rattle.cbor_model.specs.Raw.{Raw};
@@ -38,6 +43,8 @@ pub trait Readable: Sized + Drop {
     ghost asks_memory: { Asks → Raw → Type 0 } = { λ a r. ⊤ };
 
     ghost tells_form: { Bool } = { true };
+
+    ghost passes_over: { Bool } = { false };
 }
 
 /// A type that is read from a source.
@@ -195,7 +202,7 @@ pub trait Deserialize<'de, R: Read<'de>>: Readable {
         ensures read { TakesItem R.refusals (formats_of de.old.items.formats)
             (Self.reads (context de.old.items.formats R.lends)) de.old.items.levels
             (R.source de.old.items.source) (R.source de.new.items.source) result }
-        ensures fault { IfErr result (TellsItem Self.total R.refusals
+        ensures fault { IfErr result (TellsItem Self.passes_over Self.total R.refusals
             (formats_of de.old.items.formats) de.old.items.levels
             (R.source de.old.items.source)) }
         ensures memory { IfErr result

@@ -1,6 +1,6 @@
 //! Reading a whole input as a type.
 
-ghost use Rattle.std.specs.Prelude.{◌≡◌, ◌<◌, ◌⊎◌, ℕ, List, length, Some, None};
+ghost use Rattle.std.specs.Prelude.{⊤, ◌≡◌, ◌<◌, ◌⊎◌, ℕ, List, length, Some, None};
 ghost use Rattle.std.specs.Prelude.{IfOk, IfErr, MatchResult};
 ghost use Rattle.cbor_model.specs.Acceptable.{max_depth, FitsScratch};
 ghost use Rattle.cbor_model.specs.Allowed.{limits_of};
@@ -17,7 +17,7 @@ ghost use Rattle.cbor_de.specs.Gives.{IsMemoryOrFault, IsScratchOrMemory};
 ghost use Rattle.cbor_read.specs.Source.{asks_for};
 ghost use Rattle.cbor_scalars.specs.Takes.{context, formats_of, lending, MemoryFor, WhereTotal};
 ghost use Rattle.cbor_typed.specs.Forms.{FormOnlyIf};
-ghost use Rattle.cbor_typed.specs.Whole.{ReadsAll, TellsWhole, from_slice_context};
+ghost use Rattle.cbor_typed.specs.Whole.{ReadsAll, RefusesBytes, TellsWhole, from_slice_context};
 ghost use Rattle.cbor_typed.specs.Whole.{from_mut_slice_context, from_reader_context};
 ghost use Rattle.cbor_typed.specs.Whole.{asks_none, from_reader_asks, from_slice_asks};
 
@@ -32,7 +32,7 @@ use std::io;
 fn read_all<'de, T: Deserialize<'de, R>, R: Read<'de> + Drop>(alloc: Global, source: R) -> Result<T>
     ensures read { ReadsAll R.refusals all_formats (T.reads (lending all_formats R.lends))
         max_depth (R.source source) result }
-    ensures fault { IfErr result (TellsWhole T.total R.refusals all_formats max_depth
+    ensures fault { IfErr result (TellsWhole T.passes_over T.total R.refusals all_formats max_depth
         (R.source source)) }
     ensures memory { IfErr result (MemoryFor (T.asks_memory (asks_for R.refusals R.lends))
         all_formats (T.reads (lending all_formats R.lends)) max_depth (R.source source)) }
@@ -47,7 +47,7 @@ fn whole<'de, T: Deserialize<'de, R>, R: Read<'de>>(de: &mut Deserializer<R>) ->
     ensures read { ReadsAll R.refusals (formats_of de.old.items.formats)
         (T.reads (context de.old.items.formats R.lends)) de.old.items.levels
         (R.source de.old.items.source) result }
-    ensures fault { IfErr result (TellsWhole T.total R.refusals
+    ensures fault { IfErr result (TellsWhole T.passes_over T.total R.refusals
         (formats_of de.old.items.formats) de.old.items.levels (R.source de.old.items.source)) }
     ensures memory { IfErr result (MemoryFor
         (T.asks_memory (asks_for R.refusals R.lends)) (formats_of de.old.items.formats)
@@ -141,6 +141,11 @@ pub fn from_slice<'a, T: Deserialize<'a, SliceRead<'a>>>(
     // It tells the fault that the reference reader meets, or that memory ran out.
     ensures refused { IfErr result (λ e.
         WhereTotal T.total (Fails (length slice.now) e (read_value slice.now))) }
+    // Where the type passes over an item that it doesn't read, a refusal tells the fault of what the
+    // bytes begin with, or that more follows it; and it is a message exactly where an item stands
+    // there that isn't read.
+    ensures kind { IfErr result (λ e.
+        WhereTotal T.passes_over (RefusesBytes ⊥ None slice.now e)) }
     // Only a type that may refuse an item for its form answers a code that tells a wrong one.
     ensures form { IfErr result (λ e. FormOnlyIf T.tells_form (code_of e)) }
 {
@@ -188,6 +193,8 @@ pub fn from_slice_with_scratch<'a, T: Deserialize<'a, SliceReadFixed<'a, 'a>>>(
         (IsOutOfMemory e ⊎ TellsFirst (limits_of (Some (length scratch.old))) slice.now e)) }
     ensures refused { IfErr result (λ e. WhereTotal T.total (Fails (length slice.now) e
         (read_value_in (Some (length scratch.old)) slice.now))) }
+    ensures kind { IfErr result (λ e.
+        WhereTotal T.passes_over (RefusesBytes ⊥ (Some (length scratch.old)) slice.now e)) }
     ensures form { IfErr result (λ e. FormOnlyIf T.tells_form (code_of e)) }
 {
     read_all(alloc, SliceReadFixed::new(slice, scratch))
@@ -222,6 +229,8 @@ pub fn from_mut_slice<'a, T: Deserialize<'a, MutSliceRead<'a>>>(
         (IsOutOfMemory e ⊎ TellsFirst (limits_of None) slice.old e)) }
     ensures refused { IfErr result (λ e.
         WhereTotal T.total (Fails (length slice.old) e (read_value slice.old))) }
+    ensures kind { IfErr result (λ e.
+        WhereTotal T.passes_over (RefusesBytes ⊥ None slice.old e)) }
     ensures form { IfErr result (λ e. FormOnlyIf T.tells_form (code_of e)) }
 {
     are_bytes(slice);
@@ -274,6 +283,9 @@ pub fn from_reader<'de, T: DeserializeOwned + Deserialize<'de, IoRead<R>>, R: io
     ensures refused { (bytes : List ℕ) → Gave (R.remaining reader) bytes
         → IfErr result (λ e.
         WhereTotal T.total (FailsOrFaults (length bytes) e (read_value bytes))) }
+    // Of a type that passes over what it doesn't read, with the same exceptions:
+    ensures kind { (bytes : List ℕ) → Gave (R.remaining reader) bytes
+        → IfErr result (λ e. WhereTotal T.passes_over (RefusesBytes ⊤ None bytes e)) }
     ensures form { IfErr result (λ e. FormOnlyIf T.tells_form (code_of e)) }
 {
     read_all(alloc, IoRead::new(alloc, reader))

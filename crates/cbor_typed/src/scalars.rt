@@ -12,8 +12,8 @@ ghost use Rattle.cbor_scalars.specs.Scalars.{IsFloatItem};
 ghost use Rattle.cbor_scalars.specs.Strings.{IsMadeOf, IsNoKey, LendsBytes, LendsString, LendsText};
 ghost use Rattle.cbor_scalars.specs.Takes.{TakesItem, TakesNoMemory, context, formats_of};
 ghost use Rattle.cbor_read.specs.Source.{asks_for};
-ghost use Rattle.cbor_scalars.specs.Strings.{AsksForString, UnreadOnly};
-ghost use Rattle.cbor_scalars.specs.Takes.{OfItem, raws};
+ghost use Rattle.cbor_scalars.specs.Strings.{AsksForBytes, AsksForString, LendsWhole, UnreadOnly};
+ghost use Rattle.cbor_scalars.specs.Takes.{OfItem, ReadsWhole, RefusesWhole, raws};
 ghost use Rattle.cbor_typed.specs.contracts.de.Deserializer.{the_row as typed_row};
 
 use crate::de::Deserializer;
@@ -29,12 +29,16 @@ type Lent<T> = std::result::Result<T, Unread>;
 
 impl<R: Source> Deserializer<R> {
     /// Reads false or true (RFC 7049, section 2.3).
+    ///
+    /// What isn't whole is refused by its fault, and another item by a message.
     #[inline(always)]
     pub fn read_bool(&mut self) -> Result<bool>
         ensures read { TakesItem R.refusals (formats_of self.old.items.formats) (PassesTags IsBool)
             self.old.items.levels
             (R.source self.old.items.source) (R.source self.new.items.source)
             result }
+        ensures fault { IfErr result (RefusesWhole R.refusals self.old.items.levels
+            (R.source self.old.items.source)) }
         ensures no_form { IfErr result (λ e. TellsNoForm (code_of e)) }
         ensures memory { IfErr result (TakesNoMemory (formats_of self.old.items.formats)
             (PassesTags IsBool) self.old.items.levels (R.source self.old.items.source)) }
@@ -45,12 +49,16 @@ impl<R: Source> Deserializer<R> {
     }
 
     /// Reads a float of 16, 32 or 64 bits (RFC 7049, section 2.3).
+    ///
+    /// What isn't whole is refused by its fault, and another item by a message.
     #[inline(always)]
     pub fn read_float(&mut self) -> Result<Float>
         ensures read { TakesItem R.refusals (formats_of self.old.items.formats)
             (PassesTags IsFloatItem) self.old.items.levels
             (R.source self.old.items.source) (R.source self.new.items.source)
             result }
+        ensures fault { ReadsWhole R.refusals self.old.items.levels
+            (R.source self.old.items.source) result }
         ensures no_form { IfErr result (λ e. TellsNoForm (code_of e)) }
         ensures memory { IfErr result (TakesNoMemory (formats_of self.old.items.formats)
             (PassesTags IsFloatItem) self.old.items.levels (R.source self.old.items.source)) }
@@ -61,12 +69,16 @@ impl<R: Source> Deserializer<R> {
     }
 
     /// Reads null or undefined (RFC 7049, section 2.3).
+    ///
+    /// What isn't whole is refused by its fault, and another item by a message.
     #[inline(always)]
     pub fn read_unit(&mut self) -> Result<()>
         ensures read { TakesItem R.refusals (formats_of self.old.items.formats) (PassesTags IsUnit)
             self.old.items.levels
             (R.source self.old.items.source) (R.source self.new.items.source)
             result }
+        ensures fault { IfErr result (RefusesWhole R.refusals self.old.items.levels
+            (R.source self.old.items.source)) }
         ensures no_form { IfErr result (λ e. TellsNoForm (code_of e)) }
         ensures memory { IfErr result (TakesNoMemory (formats_of self.old.items.formats)
             (PassesTags IsUnit) self.old.items.levels (R.source self.old.items.source)) }
@@ -76,7 +88,7 @@ impl<R: Source> Deserializer<R> {
         scalar::read_unit(&mut self.items)
     }
 
-    /// Reads a whole number.
+    /// Reads a whole number. What isn't whole is refused by its fault, and another item by a message.
     ///
     /// ```rust
     /// let mut de = Deserializer::from_slice(alloc, b"\x39\x01\x2b");
@@ -87,6 +99,8 @@ impl<R: Source> Deserializer<R> {
         ensures read { TakesItem R.refusals (formats_of self.old.items.formats)
             (PassesTags IsInteger) self.old.items.levels
             (R.source self.old.items.source) (R.source self.new.items.source) result }
+        ensures fault { IfErr result (RefusesWhole R.refusals self.old.items.levels
+            (R.source self.old.items.source)) }
         ensures no_form { IfErr result (λ e. TellsNoForm (code_of e)) }
         ensures memory { IfErr result (TakesNoMemory (formats_of self.old.items.formats)
             (PassesTags IsInteger) self.old.items.levels (R.source self.old.items.source)) }
@@ -122,7 +136,8 @@ impl<'de, R: Read<'de>> Deserializer<R> {
             × IfErr result IsNoKey
             × IfErr result (UnreadOnly (OfItem (AsksForString (asks_for R.refusals R.lends))
             (formats_of self.old.items.formats) self.old.items.levels
-            (R.source self.old.items.source))))) }
+            (R.source self.old.items.source)))
+            × LendsWhole R.refusals self.old.items.levels (R.source self.old.items.source) result)) }
     {
         lent::read_text(&mut self.items)
     }
@@ -138,7 +153,8 @@ impl<'de, R: Read<'de>> Deserializer<R> {
             × IfErr result IsNoKey
             × IfErr result (UnreadOnly (OfItem (AsksForString (asks_for R.refusals R.lends))
             (formats_of self.old.items.formats) self.old.items.levels
-            (R.source self.old.items.source))))) }
+            (R.source self.old.items.source)))
+            × LendsWhole R.refusals self.old.items.levels (R.source self.old.items.source) result)) }
     {
         lent::read_bytes(&mut self.items)
     }
@@ -152,9 +168,10 @@ impl<'de, R: Read<'de>> Deserializer<R> {
             × LendsBytes R.refusals (context self.old.items.formats R.lends) self.old.items.levels
             (R.source self.old.items.source) (R.source new.items.source) result
             × IfErr result IsNoKey
-            × IfErr result (UnreadOnly (OfItem (AsksForString (asks_for R.refusals R.lends))
+            × IfErr result (UnreadOnly (OfItem (AsksForBytes (asks_for R.refusals R.lends))
             (formats_of self.old.items.formats) self.old.items.levels
-            (R.source self.old.items.source))))) }
+            (R.source self.old.items.source)))
+            × LendsWhole R.refusals self.old.items.levels (R.source self.old.items.source) result)) }
     {
         lent::read_byte_string(&mut self.items)
     }

@@ -10,7 +10,7 @@ ghost use Rattle.cbor_collections.specs.Begins.{Begins, RefusesBeginning};
 ghost use Rattle.cbor_de.specs.declared.head.Head.TheVariants as kind;
 ghost use Rattle.cbor_collections.specs.Accesses.{IsArrayHead, RefusesArray, TakesNext};
 ghost use Rattle.cbor_collections.specs.Accesses.{TakesPart, TakesEnd, turns, size_of};
-ghost use Rattle.cbor_scalars.specs.Takes.{context, formats_of, raws};
+ghost use Rattle.cbor_scalars.specs.Takes.{IsMessage, context, formats_of, raws};
 ghost use Rattle.cbor_typed.specs.Forms.{FormOnlyIf};
 ghost use Rattle.cbor_typed.specs.contracts.de.Deserializer.{the_row};
 
@@ -78,6 +78,7 @@ impl<R: Source> Deserializer<R> {
 #[inline(never)]
 #[tactic(auto, using(crate::proofs::Forms::message_form))]
 pub fn invalid_length(alloc: Global, found: usize, expected: usize) -> Error
+    ensures message { IsMessage result }
     ensures offset { offset_of result ≡ 0 }
     ensures no_form { TellsNoForm (code_of result) }
 {

@@ -4,3 +4,5 @@
 pub use Rattle.cbor_scalars.proofs.Nulls.{option_none, option_some, option_refused}
 -- where an option takes memory
 pub use Rattle.cbor_scalars.proofs.Nulls.{option_memory}
+-- a refusal of what is there, or of the source
+pub use Rattle.cbor_scalars.proofs.Nulls.{option_whole, unseen_whole}

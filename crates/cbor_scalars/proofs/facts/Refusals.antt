@@ -9,4 +9,6 @@ pub use Rattle.cbor_scalars.proofs.Scalars.{other_code}
 -- where memory ran out, what the refusal says of it holds
 pub use Rattle.cbor_scalars.proofs.Memory.{error_only}
 -- a refusal of the item at the front: by its fault, or by a message where one stands there
-pub use Rattle.cbor_scalars.proofs.PassedOver.{excused_whole, stands_whole, told_whole}
+pub use Rattle.cbor_scalars.proofs.PassedOver.{excused_whole, stands_err, stands_whole, told_whole}
+-- what a type's refusal tells, by what is said of the type
+pub use Rattle.cbor_scalars.proofs.PassedOver.{always, item_only, item_passes, item_total, passes_told, tells_both, tells_map, total_told}

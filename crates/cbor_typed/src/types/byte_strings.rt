@@ -4,6 +4,7 @@ ghost use Rattle.std.specs.Prelude.{IfErr};
 ghost use Rattle.cbor_io.specs.Error.{code_of};
 ghost use Rattle.cbor_read.specs.Source.{part_bytes};
 ghost use Rattle.cbor_de.specs.Gives.{TellsNoForm};
+ghost use Rattle.cbor_scalars.specs.Takes.{IsMessage};
 ghost use Rattle.cbor_typed.specs.ByteStrings.{IsArrayOf};
 
 use crate::de::Deserializer;
@@ -17,13 +18,15 @@ use std::alloc::Global;
 
 /// A byte string. A text isn't one.
 impl Readable for ByteBuf {
-    ghost use Rattle.std.specs.Prelude.{false};
+    ghost use Rattle.std.specs.Prelude.{false, true};
     ghost use Rattle.cbor_model.specs.Readable.{PassesTags};
     ghost use Rattle.cbor_scalars.specs.Strings.{IsByteString};
 
     ghost reads = { λ c. PassesTags (λ r b. IsByteString r b.0.items) };
 
     ghost tells_form = { false };
+
+    ghost passes_over = { true };
 }
 
 impl<'de, R: Read<'de>> Deserialize<'de, R> for ByteBuf {
@@ -42,7 +45,7 @@ impl DeserializeOwned for ByteBuf {
 /// A byte string of exactly `N` bytes. One of another length is refused with
 /// `invalid length n, expected N`.
 impl<const N: usize> Readable for ByteArray<N> {
-    ghost use Rattle.std.specs.Prelude.{false};
+    ghost use Rattle.std.specs.Prelude.{false, true};
     ghost use Rattle.cbor_model.specs.Readable.{PassesTags};
     ghost use Rattle.cbor_scalars.specs.Strings.{AsksForString, IsByteArray};
 
@@ -51,6 +54,8 @@ impl<const N: usize> Readable for ByteArray<N> {
     ghost asks_memory = { AsksForString };
 
     ghost tells_form = { false };
+
+    ghost passes_over = { true };
 }
 
 impl<'de, R: Read<'de>, const N: usize> Deserialize<'de, R> for ByteArray<N> {
@@ -71,6 +76,7 @@ impl<const N: usize> DeserializeOwned for ByteArray<N> {
 #[inline(always)]
 fn array_of<const N: usize>(part: EitherLifetime<'_, '_>, alloc: Global) -> Result<ByteArray<N>>
     ensures read { IsArrayOf N (part_bytes part.entry) result }
+    ensures message { IfErr result IsMessage }
     ensures no_form { IfErr result (λ e. TellsNoForm (code_of e)) }
 {
     match part {
@@ -81,6 +87,7 @@ fn array_of<const N: usize>(part: EitherLifetime<'_, '_>, alloc: Global) -> Resu
 
 fn array_from<const N: usize>(bytes: &[u8], alloc: Global) -> Result<ByteArray<N>>
     ensures read { IsArrayOf N bytes.now result }
+    ensures message { IfErr result IsMessage }
     ensures no_form { IfErr result (λ e. TellsNoForm (code_of e)) }
 {
     match <[u8; N]>::try_from(bytes) {
@@ -91,7 +98,7 @@ fn array_from<const N: usize>(bytes: &[u8], alloc: Global) -> Result<ByteArray<N
 
 /// A byte string, where the source lends it for the input's life.
 impl Readable for Bytes<'_> {
-    ghost use Rattle.std.specs.Prelude.{false};
+    ghost use Rattle.std.specs.Prelude.{false, true};
     ghost use Rattle.cbor_model.specs.Readable.{PassesTags};
     ghost use Rattle.cbor_scalars.specs.Strings.{IsBorrowedBytes};
 
@@ -100,6 +107,8 @@ impl Readable for Bytes<'_> {
     ghost asks_memory = { λ a r. ⊥ };
 
     ghost tells_form = { false };
+
+    ghost passes_over = { true };
 }
 
 impl<'de, R: Read<'de>> Deserialize<'de, R> for Bytes<'de> {

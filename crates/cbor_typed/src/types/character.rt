@@ -4,6 +4,7 @@ ghost use Rattle.std.specs.Prelude.{IfErr};
 ghost use Rattle.cbor_io.specs.Error.{code_of};
 ghost use Rattle.cbor_de.specs.Gives.{TellsNoForm};
 ghost use Rattle.cbor_scalars.specs.Strings.{IsOneOf, text_bytes};
+ghost use Rattle.cbor_scalars.specs.Takes.{IsMessage};
 
 use crate::de::Deserializer;
 use crate::deserialize::{Deserialize, DeserializeOwned, Readable};
@@ -18,6 +19,7 @@ const NO_CHARACTER: &str = "invalid type: expected a character";
 #[tactic(auto, using(crate::proofs::Forms::message_form))]
 fn one_of(text: &str, alloc: Global) -> Result<char>
     ensures read { IsOneOf text.now result }
+    ensures message { IfErr result IsMessage }
     ensures no_form { IfErr result (λ e. TellsNoForm (code_of e)) }
 {
     match text.chars().next() {
@@ -35,6 +37,7 @@ fn one_of(text: &str, alloc: Global) -> Result<char>
 #[inline(always)]
 fn character(text: EitherStr<'_, '_>, alloc: Global) -> Result<char>
     ensures read { IsOneOf (text_bytes text.entry) result }
+    ensures message { IfErr result IsMessage }
     ensures no_form { IfErr result (λ e. TellsNoForm (code_of e)) }
 {
     match text {
@@ -44,7 +47,7 @@ fn character(text: EitherStr<'_, '_>, alloc: Global) -> Result<char>
 }
 
 impl Readable for char {
-    ghost use Rattle.std.specs.Prelude.{false};
+    ghost use Rattle.std.specs.Prelude.{false, true};
     ghost use Rattle.cbor_model.specs.Readable.{PassesTags};
     ghost use Rattle.cbor_scalars.specs.Strings.{AsksForString, IsCharacter};
 
@@ -53,6 +56,8 @@ impl Readable for char {
     ghost asks_memory = { AsksForString };
 
     ghost tells_form = { false };
+
+    ghost passes_over = { true };
 }
 
 impl<'de, R: Read<'de>> Deserialize<'de, R> for char {

@@ -10,7 +10,7 @@ use cbor_scalars::floats::{read_f32, read_f64};
 /// `float out of range: expected f32`, and a whole number with `invalid type: expected a float`. A
 /// NaN is read as a NaN, of no particular sign or payload.
 impl Readable for f32 {
-    ghost use Rattle.std.specs.Prelude.{false};
+    ghost use Rattle.std.specs.Prelude.{false, true};
     ghost use Rattle.cbor_model.specs.Readable.{PassesTags};
     ghost use Rattle.cbor_scalars.specs.Scalars.{IsSingleOf};
 
@@ -19,6 +19,8 @@ impl Readable for f32 {
     ghost asks_memory = { λ a r. ⊥ };
 
     ghost tells_form = { false };
+
+    ghost passes_over = { true };
 }
 
 impl<'de, R: Read<'de>> Deserialize<'de, R> for f32 {
@@ -36,7 +38,7 @@ impl DeserializeOwned for f32 {
 /// refused with `invalid type: expected a float`. A NaN is read as a NaN, of no particular sign or
 /// payload.
 impl Readable for f64 {
-    ghost use Rattle.std.specs.Prelude.{false};
+    ghost use Rattle.std.specs.Prelude.{false, true};
     ghost use Rattle.cbor_model.specs.Readable.{PassesTags};
     ghost use Rattle.cbor_scalars.specs.Scalars.{IsFloatOf};
 
@@ -45,6 +47,8 @@ impl Readable for f64 {
     ghost asks_memory = { λ a r. ⊥ };
 
     ghost tells_form = { false };
+
+    ghost passes_over = { true };
 }
 
 impl<'de, R: Read<'de>> Deserialize<'de, R> for f64 {

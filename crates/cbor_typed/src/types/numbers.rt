@@ -7,7 +7,7 @@ use cbor_read::Read;
 use cbor_scalars::integer::{read_from_zero, read_signed, read_u128};
 
 impl Readable for u8 {
-    ghost use Rattle.std.specs.Prelude.{◌-◌, ◌^◌, false};
+    ghost use Rattle.std.specs.Prelude.{◌-◌, ◌^◌, false, true};
     ghost use Rattle.cbor_model.specs.Readable.{PassesTags, IsFromZero};
 
     ghost reads = { λ c. PassesTags (IsFromZero (2 ^ 8 - 1)) };
@@ -15,6 +15,8 @@ impl Readable for u8 {
     ghost asks_memory = { λ a r. ⊥ };
 
     ghost tells_form = { false };
+
+    ghost passes_over = { true };
 }
 
 impl<'de, R: Read<'de>> Deserialize<'de, R> for u8 {
@@ -36,7 +38,7 @@ impl DeserializeOwned for u8 {
 }
 
 impl Readable for u16 {
-    ghost use Rattle.std.specs.Prelude.{◌-◌, ◌^◌, false};
+    ghost use Rattle.std.specs.Prelude.{◌-◌, ◌^◌, false, true};
     ghost use Rattle.cbor_model.specs.Readable.{PassesTags, IsFromZero};
 
     ghost reads = { λ c. PassesTags (IsFromZero (2 ^ 16 - 1)) };
@@ -44,6 +46,8 @@ impl Readable for u16 {
     ghost asks_memory = { λ a r. ⊥ };
 
     ghost tells_form = { false };
+
+    ghost passes_over = { true };
 }
 
 impl<'de, R: Read<'de>> Deserialize<'de, R> for u16 {
@@ -65,7 +69,7 @@ impl DeserializeOwned for u16 {
 }
 
 impl Readable for u32 {
-    ghost use Rattle.std.specs.Prelude.{◌-◌, ◌^◌, false};
+    ghost use Rattle.std.specs.Prelude.{◌-◌, ◌^◌, false, true};
     ghost use Rattle.cbor_model.specs.Readable.{PassesTags, IsFromZero};
 
     ghost reads = { λ c. PassesTags (IsFromZero (2 ^ 32 - 1)) };
@@ -73,6 +77,8 @@ impl Readable for u32 {
     ghost asks_memory = { λ a r. ⊥ };
 
     ghost tells_form = { false };
+
+    ghost passes_over = { true };
 }
 
 impl<'de, R: Read<'de>> Deserialize<'de, R> for u32 {
@@ -94,7 +100,7 @@ impl DeserializeOwned for u32 {
 }
 
 impl Readable for u64 {
-    ghost use Rattle.std.specs.Prelude.{◌-◌, ◌^◌, false};
+    ghost use Rattle.std.specs.Prelude.{◌-◌, ◌^◌, false, true};
     ghost use Rattle.cbor_model.specs.Readable.{PassesTags, IsFromZero};
 
     ghost reads = { λ c. PassesTags (IsFromZero (2 ^ 64 - 1)) };
@@ -102,6 +108,8 @@ impl Readable for u64 {
     ghost asks_memory = { λ a r. ⊥ };
 
     ghost tells_form = { false };
+
+    ghost passes_over = { true };
 }
 
 impl<'de, R: Read<'de>> Deserialize<'de, R> for u64 {
@@ -123,7 +131,7 @@ impl DeserializeOwned for u64 {
 }
 
 impl Readable for usize {
-    ghost use Rattle.std.specs.Prelude.{◌-◌, ◌^◌, false};
+    ghost use Rattle.std.specs.Prelude.{◌-◌, ◌^◌, false, true};
     ghost use Rattle.cbor_model.specs.Readable.{PassesTags, IsFromZero};
 
     ghost reads = { λ c. PassesTags (IsFromZero (2 ^ 64 - 1)) };
@@ -131,6 +139,8 @@ impl Readable for usize {
     ghost asks_memory = { λ a r. ⊥ };
 
     ghost tells_form = { false };
+
+    ghost passes_over = { true };
 }
 
 impl<'de, R: Read<'de>> Deserialize<'de, R> for usize {
@@ -152,7 +162,7 @@ impl DeserializeOwned for usize {
 }
 
 impl Readable for i8 {
-    ghost use Rattle.std.specs.Prelude.{◌-◌, ◌^◌, false};
+    ghost use Rattle.std.specs.Prelude.{◌-◌, ◌^◌, false, true};
     ghost use Rattle.cbor_model.specs.Readable.{PassesTags, IsSigned};
 
     ghost reads = { λ c. PassesTags (IsSigned (2 ^ 7 - 1)) };
@@ -160,6 +170,8 @@ impl Readable for i8 {
     ghost asks_memory = { λ a r. ⊥ };
 
     ghost tells_form = { false };
+
+    ghost passes_over = { true };
 }
 
 impl<'de, R: Read<'de>> Deserialize<'de, R> for i8 {
@@ -181,7 +193,7 @@ impl DeserializeOwned for i8 {
 }
 
 impl Readable for i16 {
-    ghost use Rattle.std.specs.Prelude.{◌-◌, ◌^◌, false};
+    ghost use Rattle.std.specs.Prelude.{◌-◌, ◌^◌, false, true};
     ghost use Rattle.cbor_model.specs.Readable.{PassesTags, IsSigned};
 
     ghost reads = { λ c. PassesTags (IsSigned (2 ^ 15 - 1)) };
@@ -189,6 +201,8 @@ impl Readable for i16 {
     ghost asks_memory = { λ a r. ⊥ };
 
     ghost tells_form = { false };
+
+    ghost passes_over = { true };
 }
 
 impl<'de, R: Read<'de>> Deserialize<'de, R> for i16 {
@@ -210,7 +224,7 @@ impl DeserializeOwned for i16 {
 }
 
 impl Readable for i32 {
-    ghost use Rattle.std.specs.Prelude.{◌-◌, ◌^◌, false};
+    ghost use Rattle.std.specs.Prelude.{◌-◌, ◌^◌, false, true};
     ghost use Rattle.cbor_model.specs.Readable.{PassesTags, IsSigned};
 
     ghost reads = { λ c. PassesTags (IsSigned (2 ^ 31 - 1)) };
@@ -218,6 +232,8 @@ impl Readable for i32 {
     ghost asks_memory = { λ a r. ⊥ };
 
     ghost tells_form = { false };
+
+    ghost passes_over = { true };
 }
 
 impl<'de, R: Read<'de>> Deserialize<'de, R> for i32 {
@@ -239,7 +255,7 @@ impl DeserializeOwned for i32 {
 }
 
 impl Readable for i64 {
-    ghost use Rattle.std.specs.Prelude.{◌-◌, ◌^◌, false};
+    ghost use Rattle.std.specs.Prelude.{◌-◌, ◌^◌, false, true};
     ghost use Rattle.cbor_model.specs.Readable.{PassesTags, IsSigned};
 
     ghost reads = { λ c. PassesTags (IsSigned (2 ^ 63 - 1)) };
@@ -247,6 +263,8 @@ impl Readable for i64 {
     ghost asks_memory = { λ a r. ⊥ };
 
     ghost tells_form = { false };
+
+    ghost passes_over = { true };
 }
 
 impl<'de, R: Read<'de>> Deserialize<'de, R> for i64 {
@@ -268,7 +286,7 @@ impl DeserializeOwned for i64 {
 }
 
 impl Readable for isize {
-    ghost use Rattle.std.specs.Prelude.{◌-◌, ◌^◌, false};
+    ghost use Rattle.std.specs.Prelude.{◌-◌, ◌^◌, false, true};
     ghost use Rattle.cbor_model.specs.Readable.{PassesTags, IsSigned};
 
     ghost reads = { λ c. PassesTags (IsSigned (2 ^ 63 - 1)) };
@@ -276,6 +294,8 @@ impl Readable for isize {
     ghost asks_memory = { λ a r. ⊥ };
 
     ghost tells_form = { false };
+
+    ghost passes_over = { true };
 }
 
 impl<'de, R: Read<'de>> Deserialize<'de, R> for isize {
@@ -297,7 +317,7 @@ impl DeserializeOwned for isize {
 }
 
 impl Readable for u128 {
-    ghost use Rattle.std.specs.Prelude.{◌-◌, ◌^◌, false};
+    ghost use Rattle.std.specs.Prelude.{◌-◌, ◌^◌, false, true};
     ghost use Rattle.cbor_model.specs.Readable.{PassesTags, IsFromZero};
 
     ghost reads = { λ c. PassesTags (IsFromZero (2 ^ 128 - 1)) };
@@ -305,6 +325,8 @@ impl Readable for u128 {
     ghost asks_memory = { λ a r. ⊥ };
 
     ghost tells_form = { false };
+
+    ghost passes_over = { true };
 }
 
 impl<'de, R: Read<'de>> Deserialize<'de, R> for u128 {
@@ -319,7 +341,7 @@ impl DeserializeOwned for u128 {
 }
 
 impl Readable for i128 {
-    ghost use Rattle.std.specs.Prelude.{false};
+    ghost use Rattle.std.specs.Prelude.{false, true};
     ghost use Rattle.cbor_model.specs.Readable.{PassesTags, IsInteger};
 
     ghost reads = { λ c. PassesTags IsInteger };
@@ -327,6 +349,8 @@ impl Readable for i128 {
     ghost asks_memory = { λ a r. ⊥ };
 
     ghost tells_form = { false };
+
+    ghost passes_over = { true };
 }
 
 impl<'de, R: Read<'de>> Deserialize<'de, R> for i128 {

@@ -16,6 +16,8 @@ impl<T: Readable> Readable for Option<T> {
     ghost asks_memory = { λ a. UnlessNull (T.asks_memory a) };
 
     ghost tells_form = { T.tells_form };
+
+    ghost passes_over = { T.passes_over };
 }
 
 impl<'de, R: Read<'de>, T: Deserialize<'de, R>> Deserialize<'de, R> for Option<T> {

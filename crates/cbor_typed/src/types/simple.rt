@@ -7,7 +7,7 @@ use cbor_read::Read;
 use cbor_value::Float;
 
 impl Readable for bool {
-    ghost use Rattle.std.specs.Prelude.{false};
+    ghost use Rattle.std.specs.Prelude.{false, true};
     ghost use Rattle.cbor_model.specs.Readable.{PassesTags, IsBool};
 
     ghost reads = { λ c. PassesTags IsBool };
@@ -15,6 +15,8 @@ impl Readable for bool {
     ghost asks_memory = { λ a r. ⊥ };
 
     ghost tells_form = { false };
+
+    ghost passes_over = { true };
 }
 
 impl<'de, R: Read<'de>> Deserialize<'de, R> for bool {
@@ -29,7 +31,7 @@ impl DeserializeOwned for bool {
 }
 
 impl Readable for () {
-    ghost use Rattle.std.specs.Prelude.{false};
+    ghost use Rattle.std.specs.Prelude.{false, true};
     ghost use Rattle.cbor_model.specs.Readable.{PassesTags, IsUnit};
 
     ghost reads = { λ c. PassesTags IsUnit };
@@ -37,6 +39,8 @@ impl Readable for () {
     ghost asks_memory = { λ a r. ⊥ };
 
     ghost tells_form = { false };
+
+    ghost passes_over = { true };
 }
 
 impl<'de, R: Read<'de>> Deserialize<'de, R> for () {
@@ -51,7 +55,7 @@ impl DeserializeOwned for () {
 }
 
 impl Readable for Float {
-    ghost use Rattle.std.specs.Prelude.{false};
+    ghost use Rattle.std.specs.Prelude.{false, true};
     ghost use Rattle.cbor_model.specs.Readable.{PassesTags};
     ghost use Rattle.cbor_scalars.specs.Scalars.{IsFloatItem};
 
@@ -60,6 +64,8 @@ impl Readable for Float {
     ghost asks_memory = { λ a r. ⊥ };
 
     ghost tells_form = { false };
+
+    ghost passes_over = { true };
 }
 
 impl<'de, R: Read<'de>> Deserialize<'de, R> for Float {

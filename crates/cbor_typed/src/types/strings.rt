@@ -8,13 +8,15 @@ use cbor_scalars::lent::EitherStr;
 use cbor_scalars::strings::{NO_STRING, read_string};
 
 impl Readable for String {
-    ghost use Rattle.std.specs.Prelude.{false};
+    ghost use Rattle.std.specs.Prelude.{false, true};
     ghost use Rattle.std.specs.String.{string_bytes};
     ghost use Rattle.cbor_model.specs.Readable.{PassesTags, IsText};
 
     ghost reads = { λ c. PassesTags (λ r s. IsText r (string_bytes s)) };
 
     ghost tells_form = { false };
+
+    ghost passes_over = { true };
 }
 
 impl<'de, R: Read<'de>> Deserialize<'de, R> for String {
@@ -29,7 +31,7 @@ impl DeserializeOwned for String {
 
 // A text is read where the source lends it for the input's life.
 impl Readable for &str {
-    ghost use Rattle.std.specs.Prelude.{false};
+    ghost use Rattle.std.specs.Prelude.{false, true};
     ghost use Rattle.cbor_model.specs.Readable.{PassesTags};
     ghost use Rattle.cbor_scalars.specs.Strings.{IsBorrowedText};
 
@@ -38,6 +40,8 @@ impl Readable for &str {
     ghost asks_memory = { λ a r. ⊥ };
 
     ghost tells_form = { false };
+
+    ghost passes_over = { true };
 }
 
 impl<'de, R: Read<'de>> Deserialize<'de, R> for &'de str {
@@ -55,7 +59,7 @@ impl<'de, R: Read<'de>> Deserialize<'de, R> for &'de str {
 
 // Bytes are read where the source lends them for the input's life.
 impl Readable for &[u8] {
-    ghost use Rattle.std.specs.Prelude.{false};
+    ghost use Rattle.std.specs.Prelude.{false, true};
     ghost use Rattle.cbor_model.specs.Readable.{PassesTags};
     ghost use Rattle.cbor_scalars.specs.Strings.{IsBorrowedString};
 
@@ -64,6 +68,8 @@ impl Readable for &[u8] {
     ghost asks_memory = { λ a r. ⊥ };
 
     ghost tells_form = { false };
+
+    ghost passes_over = { true };
 }
 
 impl<'de, R: Read<'de>> Deserialize<'de, R> for &'de [u8] {

@@ -1,4 +1,5 @@
 use Rattle.std.proofs.Common.{IfErr, [], None, refl, subst, arith}
+use Rattle.std.specs.Prelude.{⊤}
 use Rattle.cbor_model.specs.Acceptable.{max_depth}
 use Rattle.cbor_model.specs.Formats.{all_formats}
 use Rattle.cbor_read.specs.Source.{Input, reader_input, reader_refusals}
@@ -6,7 +7,7 @@ use Rattle.cbor_de.specs.Gives.{Tells}
 use Rattle.cbor_scalars.specs.Takes.{MemoryFor}
 use Rattle.cbor_typed.specs.Whole.{ReadsAll, TellsWhole, from_reader_context, from_reader_asks}
 use Rattle.cbor_typed.proofs.Every.{every_or_fault}
-use Rattle.cbor_typed.proofs.Faults.{fails_or_faults}
+use Rattle.cbor_typed.proofs.Faults.{fails_or_faults, kinds}
 use Rattle.cbor_typed.proofs.Inputs.{found, accepted_or_fault, asked_or_fault}
 use Rattle.cbor_typed.proofs.FirstRefusals.{first_from_reader}
 use Rattle.cbor_typed.proofs.from.from_reader.Goals as goal
@@ -31,17 +32,24 @@ pub returns-clause-refused : goal.returns-clause-refused
 returns-clause-refused g c = λ bs gave.
     let s = reader_input None (g.R.Read.remaining c.args.reader) [] 0 in
     let tells : Tells s bs = record { is = gave.told; short = omega (arith, gave.short) } in
-    let given = subst (λ (s : Input). IfErr c.read_all.result (TellsWhole g.T.Readable.total reader_refusals all_formats max_depth s)) c.new.ensures c.read_all.ensures.fault in
-    fails_or_faults g.T.Readable.total reader_refusals s bs tells refl c.read_all.result given
+    let given = subst (λ (s : Input). IfErr c.read_all.result (TellsWhole g.T.Readable.passes_over g.T.Readable.total reader_refusals all_formats max_depth s)) c.new.ensures c.read_all.ensures.fault in
+    fails_or_faults g.T.Readable.passes_over g.T.Readable.total reader_refusals s bs tells refl c.read_all.result given
+
+pub returns-clause-kind : goal.returns-clause-kind
+returns-clause-kind g c = λ bs gave.
+    let s = reader_input None (g.R.Read.remaining c.args.reader) [] 0 in
+    let tells : Tells s bs = record { is = gave.told; short = omega (arith, gave.short) } in
+    let given = subst (λ (s : Input). IfErr c.read_all.result (TellsWhole g.T.Readable.passes_over g.T.Readable.total reader_refusals all_formats max_depth s)) c.new.ensures c.read_all.ensures.fault in
+    kinds g.T.Readable.passes_over g.T.Readable.total reader_refusals s bs tells refl ⊤ (λ device. tt) c.read_all.result given
 
 pub returns-clause-every : goal.returns-clause-every
 returns-clause-every g c = λ bs gave v spelt.
     let s = reader_input None (g.R.Read.remaining c.args.reader) [] 0 in
     let tells : Tells s bs = record { is = gave.told; short = omega (arith, gave.short) } in
-    let given = subst (λ (s : Input). IfErr c.read_all.result (TellsWhole g.T.Readable.total reader_refusals all_formats max_depth s)) c.new.ensures c.read_all.ensures.fault in
+    let given = subst (λ (s : Input). IfErr c.read_all.result (TellsWhole g.T.Readable.passes_over g.T.Readable.total reader_refusals all_formats max_depth s)) c.new.ensures c.read_all.ensures.fault in
     let reads = g.T.Readable.reads from_reader_context in
     let read = subst (λ (s : Input). ReadsAll reader_refusals all_formats reads max_depth s c.read_all.result) c.new.ensures c.read_all.ensures.read in
-    every_or_fault g.T.Readable.total reader_refusals reads s bs tells refl gave.short v spelt tt c.read_all.result read (fails_or_faults g.T.Readable.total reader_refusals s bs tells refl c.read_all.result given)
+    every_or_fault g.T.Readable.total reader_refusals reads s bs tells refl gave.short v spelt tt c.read_all.result read (fails_or_faults g.T.Readable.passes_over g.T.Readable.total reader_refusals s bs tells refl c.read_all.result given)
 
 pub returns-clause-first : goal.returns-clause-first
 returns-clause-first g c = λ bs gave.

@@ -14,13 +14,13 @@ returns-in-Err-clause-read g c =
 
 pub returns-in-Err-clause-fault : goal.returns-in-Err-clause-fault
 returns-in-Err-clause-fault g c =
-    item_whole g.R.Source.refusals (formats_of c.args.de.now.items.formats) c.args.de.now.items.levels (g.R.Source.source c.args.de.now.items.source) c.in-Err.e g.T.Readable.total c.in-Err.ensures.fault
+    item_whole g.R.Source.refusals (formats_of c.args.de.now.items.formats) c.args.de.now.items.levels (g.R.Source.source c.args.de.now.items.source) c.in-Err.e g.T.Readable.passes_over g.T.Readable.total c.in-Err.ensures.fault
 
 pub returns-in-Err-end-clause-fault : goal.returns-in-Err-end-clause-fault
 returns-in-Err-end-clause-fault g c =
     let d = c.args.de.now.items in
     let reads = g.T.Readable.reads (context d.formats g.R.Source.lends) in
-    end_whole g.R.Source.refusals (formats_of d.formats) d.levels (g.R.Source.source d.source) c.in-Err-end.e g.T.Readable.total reads (g.R.Source.source c.deserialize.new.de.items.source) c.in-Ok.value c.in-Ok.ensures.read c.in-Err-end.ensures.read
+    end_whole g.R.Source.refusals (formats_of d.formats) d.levels (g.R.Source.source d.source) c.in-Err-end.e g.T.Readable.passes_over g.T.Readable.total reads (g.R.Source.source c.deserialize.new.de.items.source) c.in-Ok.value c.in-Ok.ensures.read c.in-Err-end.ensures.read
 
 pub returns-in-Err-end-clause-memory : goal.returns-in-Err-end-clause-memory
 returns-in-Err-end-clause-memory g c =

@@ -1,4 +1,4 @@
-use Rattle.std.proofs.Common.{◌≡◌, ℕ, Some, None, refl, sym, ap, subst, arith}
+use Rattle.std.proofs.Common.{false, ◌≡◌, ℕ, Some, None, refl, sym, ap, subst, arith}
 use Rattle.cbor_model.specs.Raw.{Raw}
 use Rattle.cbor_model.specs.Reader.{item_at}
 use Rattle.cbor_tags.specs.Tagged.{IsTagged, StandsNoTag}
@@ -9,6 +9,7 @@ use Rattle.cbor_de.specs.declared.formats.Formats.{Formats}
 use Rattle.cbor_scalars.specs.Takes.{raws, context, formats_of, IsRead, IsNotRead, Refuses, TellsItem}
 use Rattle.cbor_tags.specs.declared.tagged.Tagged.{Tagged}
 use Rattle.cbor_tags.proofs.Tags.{tag_read, tag_unread, untagged_taken, untagged_refused, head_refused, tag_told, untagged_told, head_told}
+use Rattle.cbor_scalars.proofs.facts.Refusals.{item_total}
 use Rattle.cbor_tags.proofs.tagged.TaggedDeserialize.deserialize.Goals as goal
 
 pub leave_tag-requires : goal.leave_tag-requires
@@ -99,7 +100,7 @@ returns-in-Err-value-clause-fault g c =
     let one = rw c.in-Ok-Some.field-0-is at c.in-Ok-Some.ensures.levels in
     let tag = rw c.in-Ok-Some.field-0-is at c.in-Ok-Some.ensures.item in
     tag_told total g.R.Source.refusals f old.items.levels s m e mid.items.levels c.in-Ok-Some.tag one tag
-    (subst (λ (k : Formats). TellsItem total g.R.Source.refusals (formats_of k) mid.items.levels m e) c.in-Ok-Some.ensures.formats c.in-Err-value.ensures.fault)
+    (subst (λ (k : Formats). TellsItem false total g.R.Source.refusals (formats_of k) mid.items.levels m e) c.in-Ok-Some.ensures.formats (item_total g.T.Readable.passes_over total g.R.Source.refusals (formats_of mid.items.formats) mid.items.levels m e c.in-Err-value.ensures.fault))
 
 pub returns-in-Err-deserialize-clause-fault : goal.returns-in-Err-deserialize-clause-fault
 returns-in-Err-deserialize-clause-fault g c =
@@ -112,9 +113,9 @@ returns-in-Err-deserialize-clause-fault g c =
     let e = c.in-Err-deserialize.e in
     let levels : mid.items.levels ≡ old.items.levels = rw c.in-Ok-None.field-0-is at c.in-Ok-None.ensures.levels in
     let none : StandsNoTag s m = rw c.in-Ok-None.field-0-is at c.in-Ok-None.ensures.none in
-    let there = subst (λ (k : Formats). TellsItem total g.R.Source.refusals (formats_of k) mid.items.levels m e) c.in-Ok-None.ensures.formats c.in-Err-deserialize.ensures.fault in
+    let there = subst (λ (k : Formats). TellsItem false total g.R.Source.refusals (formats_of k) mid.items.levels m e) c.in-Ok-None.ensures.formats (item_total g.T.Readable.passes_over total g.R.Source.refusals (formats_of mid.items.formats) mid.items.levels m e c.in-Err-deserialize.ensures.fault) in
     untagged_told total g.R.Source.refusals f old.items.levels s m e none
-    (subst (λ (n : ℕ). TellsItem total g.R.Source.refusals f n m e) levels there)
+    (subst (λ (n : ℕ). TellsItem false total g.R.Source.refusals f n m e) levels there)
 
 pub returns-in-Err-clause-fault : goal.returns-in-Err-clause-fault
 returns-in-Err-clause-fault g c =

@@ -1,5 +1,6 @@
 use Rattle.std.proofs.Common.{refl, ap}
 use Rattle.cbor_scalars.specs.Takes.{context, formats_of}
+use Rattle.cbor_scalars.proofs.facts.Refusals.{item_total}
 use Rattle.cbor_typed.proofs.StreamSteps.{none_before, fault_before, front_is}
 use Rattle.cbor_typed.proofs.stream.StreamDeserializerIterator.next.Goals as goal
 
@@ -18,7 +19,7 @@ returns-in-Err-deserialize-clause-steps g c =
     record {
       going = c.if-self.false;
       refused = none_before g.R.Source.refusals f (g.T.Readable.reads (context d.formats g.R.Source.lends)) d.levels s m t e b stays front h.read;
-      fault = fault_before g.R.Source.refusals g.T.Readable.total f d.levels s m e stays h.fault;
+      fault = fault_before g.R.Source.refusals g.T.Readable.total f d.levels s m e stays (item_total g.T.Readable.passes_over g.T.Readable.total g.R.Source.refusals f d.levels m e h.fault);
       done = refl;
       levels = h.levels;
       formats = ap formats_of h.formats;

@@ -7,6 +7,9 @@ use Rattle.cbor_scalars.specs.Strings.{AsksForString, IsCharacter, IsNoKey, Lend
 use Rattle.cbor_scalars.specs.Takes.{OfItem, raws, context, formats_of, IsNotRead}
 use Rattle.cbor_typed.proofs.Characters.{character_memory, character_takes}
 use Rattle.cbor_scalars.proofs.facts.Strings.{made_memory, made_refuses, none_of}
+use Rattle.cbor_scalars.specs.Strings.{LendsWhole}
+use Rattle.cbor_scalars.proofs.facts.Strings.{made_whole}
+use Rattle.cbor_scalars.proofs.facts.Refusals.{stands_err}
 use Rattle.cbor_typed.proofs.types.character.CharDeserialize.deserialize.Goals as goal
 
 pub returns-in-Ok-clause-read : goal.returns-in-Ok-clause-read
@@ -59,3 +62,19 @@ returns-in-Ok-clause-memory g c =
 pub returns-in-Err-clause-form : goal.returns-in-Err-clause-form
 returns-in-Err-clause-form g c =
     c.unread.ensures.no_form (subst (λ r. IfErr r IsNoKey) c.in-Err.is c.read_text.follows.holds-at-none.3)
+
+pub returns-in-Err-clause-fault : goal.returns-in-Err-clause-fault
+returns-in-Err-clause-fault g c =
+    let de = c.args.de.now in
+    let levels = de.items.levels in
+    let s = g.R.Source.source de.items.source in
+    let whole = subst (λ r. LendsWhole g.R.Source.refusals levels s r) c.in-Err.is c.read_text.follows.holds-at-none.5 in
+    made_whole g.R.Source.refusals levels s c.in-Err.why c.unread.result c.unread.ensures.made whole
+
+pub returns-in-Ok-clause-fault : goal.returns-in-Ok-clause-fault
+returns-in-Ok-clause-fault g c =
+    let de = c.args.de.now in
+    let levels = de.items.levels in
+    let s = g.R.Source.source de.items.source in
+    let stands = subst (λ r. LendsWhole g.R.Source.refusals levels s r) c.in-Ok.is c.read_text.follows.holds-at-none.5 in
+    stands_err g.R.Source.refusals levels s c.character.result c.character.ensures.message stands

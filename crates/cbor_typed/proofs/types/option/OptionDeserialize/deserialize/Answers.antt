@@ -1,12 +1,14 @@
-use Rattle.std.proofs.Common.{◌≡◌, ℕ, Ok, Bool, subst}
+use Rattle.std.proofs.Common.{◌≡◌, ℕ, Ok, Bool, false, subst}
 use Rattle.cbor_model.specs.Reader.{item_at}
 use Rattle.cbor_io.specs.Error.{code_of, offset_of}
 use Rattle.cbor_de.specs.Gives.{Step}
 use Rattle.cbor_read.specs.Source.{asks_for}
 use Rattle.cbor_scalars.specs.Options.{null_at}
-use Rattle.cbor_scalars.specs.Takes.{raws, context, formats_of, IsRead, IsNotRead, MemoryFor, Refuses}
+use Rattle.cbor_scalars.specs.Takes.{raws, context, formats_of, IsRead, IsNotRead, MemoryFor, Refuses, RefusesWhole, WhereTotal}
 use Rattle.cbor_de.specs.declared.formats.Formats.{Formats}
-use Rattle.cbor_scalars.proofs.facts.Options.{option_none, option_some, option_refused, option_memory}
+use Rattle.cbor_scalars.proofs.facts.Options.{option_none, option_some, option_refused, option_memory, option_whole, unseen_whole}
+use Rattle.cbor_scalars.proofs.facts.Refusals.{always, item_only, item_passes}
+use Rattle.cbor_typed.proofs.Faults.{where_map}
 use Rattle.cbor_typed.proofs.types.option.OptionDeserialize.deserialize.Goals as goal
 
 pub returns-in-Ok-true-clause-read : goal.returns-in-Ok-true-clause-read
@@ -53,3 +55,28 @@ returns-in-Err-deserialize-clause-memory g c =
     let behind = subst (λ (n : ℕ). MemoryFor asks (formats_of de.items.formats) (reads de.items.formats) n m e) c.in-Ok-false.ensures.levels
     (subst (λ (f : Formats). MemoryFor asks (formats_of f) (reads f) c.take_null.new.items.levels m e) c.in-Ok-false.ensures.formats c.in-Err-deserialize.ensures.memory) in
     option_memory g.R.Source.refusals (formats_of de.items.formats) (reads de.items.formats) de.items.levels s asks m e step behind
+
+pub returns-in-Err-clause-fault : goal.returns-in-Err-clause-fault
+returns-in-Err-clause-fault g c =
+    let de = c.args.de.now in
+    let levels = de.items.levels in
+    let s = g.R.Source.source de.items.source in
+    let f = formats_of de.items.formats in
+    let e = c.error.result in
+    let whole = unseen_whole g.R.Source.refusals levels s c.take_null.new.items.refusal c.in-Err.refused e c.in-Err.ensures.read c.error.ensures.tells in
+    item_only g.T.Readable.passes_over false g.R.Source.refusals f levels s e (always g.T.Readable.passes_over whole)
+
+pub returns-in-Err-deserialize-clause-fault : goal.returns-in-Err-deserialize-clause-fault
+returns-in-Err-deserialize-clause-fault g c =
+    let de = c.args.de.now in
+    let levels = de.items.levels in
+    let s = g.R.Source.source de.items.source in
+    let f = formats_of de.items.formats in
+    let mid = c.take_null.new.items in
+    let m = g.R.Source.source mid.source in
+    let step = subst (λ (b : Bool). Step s m (λ l bs rest. null_at bs ≡ Ok (b, rest))) c.in-Ok-false.field-0-test c.in-Ok-false.ensures.read in
+    let e = c.in-Err-deserialize.e in
+    let passes = g.T.Readable.passes_over in
+    let there = item_passes passes g.T.Readable.total g.R.Source.refusals (formats_of mid.formats) mid.levels m e c.in-Err-deserialize.ensures.fault in
+    let here = subst (λ (n : ℕ). WhereTotal passes (RefusesWhole g.R.Source.refusals n m e)) c.in-Ok-false.ensures.levels there in
+    item_only passes false g.R.Source.refusals f levels s e (where_map passes (option_whole g.R.Source.refusals levels s m e step) here)

@@ -6,6 +6,8 @@ use Rattle.cbor_model.specs.Reader.{item_at}
 use Rattle.cbor_scalars.specs.Strings.{AsksForString, IsBorrowedText, IsNoKey, LendsText, UnreadOnly}
 use Rattle.cbor_scalars.specs.Takes.{OfItem, raws, context, formats_of, IsNotRead}
 use Rattle.cbor_scalars.proofs.facts.Strings.{lent_unasked, made_memory, made_refuses, none_of}
+use Rattle.cbor_scalars.specs.Strings.{LendsWhole}
+use Rattle.cbor_scalars.proofs.facts.Strings.{made_whole}
 use Rattle.cbor_typed.proofs.types.strings.RefStrDeserialize.deserialize.Goals as goal
 
 pub returns-in-Err-clause-read : goal.returns-in-Err-clause-read
@@ -34,8 +36,16 @@ returns-in-Err-clause-memory g c =
     let lacks = subst (λ r. LendsText g.R.Source.refusals ctx levels s t r) c.in-Err.is c.read_text.follows.holds-at-none.2 in
     let only = subst (λ r. IfErr r (UnreadOnly (OfItem asks f levels s))) c.in-Err.is c.read_text.follows.holds-at-none.4 in
     made_memory g.R.Source.refusals f reads IsText (λ x. x.now) levels s asks (λ r. ⊥) c.in-Err.why c.unread.result (λ r x is. is.0)
-    (λ r x is asks. lent_unasked g.R.Source.refusals f g.R.Source.lends (untagged r) is.1 asks) c.unread.ensures.made only lacks
+    (λ r x is asks. lent_unasked g.R.Source.refusals f g.R.Source.lends (untagged r) is.1 (asks x.now is.0.0)) c.unread.ensures.made only lacks
 
 pub returns-in-Err-clause-form : goal.returns-in-Err-clause-form
 returns-in-Err-clause-form g c =
     c.unread.ensures.no_form (subst (λ r. IfErr r IsNoKey) c.in-Err.is c.read_text.follows.holds-at-none.3)
+
+pub returns-in-Err-clause-fault : goal.returns-in-Err-clause-fault
+returns-in-Err-clause-fault g c =
+    let de = c.args.de.now in
+    let levels = de.items.levels in
+    let s = g.R.Source.source de.items.source in
+    let whole = subst (λ r. LendsWhole g.R.Source.refusals levels s r) c.in-Err.is c.read_text.follows.holds-at-none.5 in
+    made_whole g.R.Source.refusals levels s c.in-Err.why c.unread.result c.unread.ensures.made whole
