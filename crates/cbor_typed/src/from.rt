@@ -104,9 +104,11 @@ fn are_bytes(slice: &[u8])
 ///   there, it is read.
 ///
 /// Where several faults stand in one input, a type that reads every item, as `Value` does, returns
-/// the first; of others no clause says which is returned. But a bool, a number, a `char`, `()`, a
-/// string, and an `Option`, a vector, an array or a tuple of these, never refuse an item for its
-/// form, by `ArrayTooShort`, `ArrayTooLong`, `WrongEnumFormat` or `WrongStructFormat`.
+/// the first. A bool, a number, a `char`, `()`, a string, and an `Option` of these return the first
+/// of the item that the bytes begin with, and `Message` exactly where an acceptable item stands
+/// there that they don't read. Of other types no clause says which fault is returned. But those, and
+/// a vector, an array or a tuple of them, never refuse an item for its form, by `ArrayTooShort`,
+/// `ArrayTooLong`, `WrongEnumFormat` or `WrongStructFormat`.
 ///
 /// ```rust
 /// let number: u8 = from_slice(alloc, b"\x18\x2a")?;
@@ -144,7 +146,7 @@ pub fn from_slice<'a, T: Deserialize<'a, SliceRead<'a>>>(
     // Where the type passes over an item that it doesn't read, a refusal tells the fault of what the
     // bytes begin with, or that more follows it; and it is a message exactly where an item stands
     // there that isn't read.
-    ensures kind { IfErr result (λ e.
+    ensures fault { IfErr result (λ e.
         WhereTotal T.passes_over (RefusesBytes ⊥ None slice.now e)) }
     // Only a type that may refuse an item for its form answers a code that tells a wrong one.
     ensures form { IfErr result (λ e. FormOnlyIf T.tells_form (code_of e)) }
@@ -193,7 +195,7 @@ pub fn from_slice_with_scratch<'a, T: Deserialize<'a, SliceReadFixed<'a, 'a>>>(
         (IsOutOfMemory e ⊎ TellsFirst (limits_of (Some (length scratch.old))) slice.now e)) }
     ensures refused { IfErr result (λ e. WhereTotal T.total (Fails (length slice.now) e
         (read_value_in (Some (length scratch.old)) slice.now))) }
-    ensures kind { IfErr result (λ e.
+    ensures fault { IfErr result (λ e.
         WhereTotal T.passes_over (RefusesBytes ⊥ (Some (length scratch.old)) slice.now e)) }
     ensures form { IfErr result (λ e. FormOnlyIf T.tells_form (code_of e)) }
 {
@@ -229,7 +231,7 @@ pub fn from_mut_slice<'a, T: Deserialize<'a, MutSliceRead<'a>>>(
         (IsOutOfMemory e ⊎ TellsFirst (limits_of None) slice.old e)) }
     ensures refused { IfErr result (λ e.
         WhereTotal T.total (Fails (length slice.old) e (read_value slice.old))) }
-    ensures kind { IfErr result (λ e.
+    ensures fault { IfErr result (λ e.
         WhereTotal T.passes_over (RefusesBytes ⊥ None slice.old e)) }
     ensures form { IfErr result (λ e. FormOnlyIf T.tells_form (code_of e)) }
 {
@@ -284,7 +286,7 @@ pub fn from_reader<'de, T: DeserializeOwned + Deserialize<'de, IoRead<R>>, R: io
         → IfErr result (λ e.
         WhereTotal T.total (FailsOrFaults (length bytes) e (read_value bytes))) }
     // Of a type that passes over what it doesn't read, with the same exceptions:
-    ensures kind { (bytes : List ℕ) → Gave (R.remaining reader) bytes
+    ensures fault { (bytes : List ℕ) → Gave (R.remaining reader) bytes
         → IfErr result (λ e. WhereTotal T.passes_over (RefusesBytes ⊤ None bytes e)) }
     ensures form { IfErr result (λ e. FormOnlyIf T.tells_form (code_of e)) }
 {

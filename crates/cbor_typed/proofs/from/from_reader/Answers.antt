@@ -35,8 +35,8 @@ returns-clause-refused g c = λ bs gave.
     let given = subst (λ (s : Input). IfErr c.read_all.result (TellsWhole g.T.Readable.passes_over g.T.Readable.total reader_refusals all_formats max_depth s)) c.new.ensures c.read_all.ensures.fault in
     fails_or_faults g.T.Readable.passes_over g.T.Readable.total reader_refusals s bs tells refl c.read_all.result given
 
-pub returns-clause-kind : goal.returns-clause-kind
-returns-clause-kind g c = λ bs gave.
+pub returns-clause-fault : goal.returns-clause-fault
+returns-clause-fault g c = λ bs gave.
     let s = reader_input None (g.R.Read.remaining c.args.reader) [] 0 in
     let tells : Tells s bs = record { is = gave.told; short = omega (arith, gave.short) } in
     let given = subst (λ (s : Input). IfErr c.read_all.result (TellsWhole g.T.Readable.passes_over g.T.Readable.total reader_refusals all_formats max_depth s)) c.new.ensures c.read_all.ensures.fault in

@@ -40,8 +40,8 @@ returns-clause-refused g c =
     let given = subst (λ (s : Input). IfErr c.read_all.result (TellsWhole g.T.Readable.passes_over g.T.Readable.total slice_refusals all_formats max_depth s)) c.new.ensures c.read_all.ensures.fault in
     fails g.T.Readable.passes_over g.T.Readable.total slice_refusals s bs tells refl (λ device. absurd cc) c.read_all.result given
 
-pub returns-clause-kind : goal.returns-clause-kind
-returns-clause-kind g c =
+pub returns-clause-fault : goal.returns-clause-fault
+returns-clause-fault g c =
     let bs = c.args.slice.now in
     let s = slice_input bs 0 [] None in
     let tells : Tells s bs = record { is = refl; short = omega arith } in
