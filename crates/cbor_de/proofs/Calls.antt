@@ -8,14 +8,15 @@ use Rattle.cbor_io.specs.declared.read_error.ReadError.{ReadError}
 use Rattle.cbor_io.specs.declared.read_error.ReadErrorCode.{ReadErrorCode}
 use Rattle.cbor_io.specs.declared.read_error.ReadErrorCode.TheVariants as reading
 use Rattle.cbor_io.specs.ReadError.{why, place, error_code}
-use Rattle.cbor_read.specs.Source.{Input, TookKept, Stays, RefusedInto, RefusedByte, NextDoes, or_memory}
+use Rattle.cbor_read.specs.Source.{Input, TookKept, TookSome, Stays, RefusedInto, RefusedByte, NextDoes, or_memory}
+use Rattle.cbor_read.proofs.facts.Sources.{kept_some}
 use Rattle.cbor_de.specs.declared.refusal.Refused.{Refused}
 use Rattle.cbor_de.specs.declared.refusal.Refused.TheVariants as refused
-use Rattle.cbor_de.specs.Gives.{FailsAs, FailsBy, Limits, limits, Step, Reports, Stops, Stopped, IsAt, end_at}
+use Rattle.cbor_de.specs.Gives.{FailsAs, FailsBy, Limits, limits, Step, Reports, Stops, TellsWhy, Stopped, IsAt, end_at}
 use Rattle.cbor_de.specs.Heads.{first_at, end_of, end_code}
 use Rattle.cbor_de.specs.declared.cursor.Collection.{Collection}
 use Rattle.cbor_de.specs.declared.cursor.Collection.TheVariants.{Array, Map}
-use Rattle.cbor_de.proofs.Steps.{step_map, kept_step, none_step, refused_stops, byte_refused, at_end}
+use Rattle.cbor_de.proofs.Steps.{took_none, took_stays, step_map, kept_step, none_step, refused_stops, byte_refused, at_end}
 
 -- ---- one byte
 
@@ -25,6 +26,9 @@ next_some allowed s t (Some c) b e h = subst (λ (n : ℕ). TookKept s t (n ∷ 
   where
     some_is : (x y : ℕ) → Some x ≡ Some y → x ≡ y
     some_is x y e = cc
+
+pub next_took : (allowed : ReadErrorCode → Bool) (s t : Input) (o : Option ℕ) (b : ℕ) → o ≡ Some b → NextDoes allowed s t (Ok o) → TookSome s t
+next_took allowed s t o b is h = kept_some s t (b ∷ []) (next_some allowed s t o b is h)
 
 next_none : (allowed : ReadErrorCode → Bool) (s t : Input) (o : Option ℕ) → o ≡ None → NextDoes allowed s t (Ok o) → Stays s t × IfSome s.to_come (λ bs. bs ≡ [])
 next_none allowed s t None e h = h
@@ -52,8 +56,7 @@ end_step allowed s t o P holds e h =
     let none = next_none allowed s t o e h in
     let step = none_step s t none.0.bytes none.0.count none.0.room in
     record {
-      room = step.room;
-      forward = step.forward;
+      took = step.took;
       told = λ bs tells.
           let got = step.told bs tells in
           let empty = at_end s bs tells none.1 in
@@ -63,31 +66,29 @@ end_step allowed s t o P holds e h =
 -- ---- refusals
 
 -- what is kept stops a reading
-pub kept_stops : {A : Type 0} (allowed : ReadErrorCode → Bool) (s : Input) (read : Limits → List ℕ → Reads A) (kept : Option ReadError) (r : Refused) (P : ReadError → Type 0)
-    → ((e : ReadError) → P e → Stops allowed read s e) → r ≡ refused.Kept → IsSomeAnd kept P → Stopped allowed read s kept r
-kept_stops allowed s read kept refused.OutOfMemory P on is h = absurd cc
-kept_stops allowed s read None refused.Kept P on is h = absurd h
-kept_stops allowed s read (Some e) refused.Kept P on is h = on e h
+pub kept_stops : {A : Type 0} {t : Input} (allowed : ReadErrorCode → Bool) (s : Input) (read : Limits → List ℕ → Reads A) (kept : Option ReadError) (r : Refused) (P : ReadError → Type 0)
+    → ((e : ReadError) → P e → Stops allowed read s e) → TookSome s t → r ≡ refused.Kept → IsSomeAnd kept P → Stopped allowed read s t kept r
+kept_stops {A = A} allowed s read kept r P on took is keeps = record { took = took; told = by_kept kept r is keeps }
+  where
+    by_kept : (kept : Option ReadError) (r : Refused) → r ≡ refused.Kept → IsSomeAnd kept P → TellsWhy allowed read s kept r
+    by_kept kept refused.OutOfMemory is h = absurd cc
+    by_kept None refused.Kept is h = absurd h
+    by_kept (Some e) refused.Kept is h = on e h
 
 -- so does a refusal of the source that is kept
-pub source_stops : {A : Type 0} (allowed : ReadErrorCode → Bool) (s : Input) (read : Limits → List ℕ → Reads A) (kept : Option ReadError) (r : Refused) (e : ReadError)
-    → r ≡ refused.Kept → kept ≡ Some e → Stops allowed read s e → Stopped allowed read s kept r
-source_stops allowed s read kept refused.OutOfMemory e is keeps h = absurd cc
-source_stops allowed s read None refused.Kept e is keeps h = absurd cc
-source_stops allowed s read (Some q) refused.Kept e is keeps h = subst (Stops allowed read s) (some_is e q (sym keeps)) h
-  where
-    some_is : (x y : ReadError) → Some x ≡ Some y → x ≡ y
-    some_is x y e = cc
+pub source_stops : {A : Type 0} {t : Input} (allowed : ReadErrorCode → Bool) (s : Input) (read : Limits → List ℕ → Reads A) (kept : Option ReadError) (r : Refused) (e : ReadError)
+    → r ≡ refused.Kept → kept ≡ Some e → TookSome s t → Stops allowed read s e → Stopped allowed read s t kept r
+source_stops allowed s read kept r e is keeps took h = kept_stops allowed s read kept r (Stops allowed read s) (λ e h. h) took is (subst (λ (o : Option ReadError). IsSomeAnd o (Stops allowed read s)) (sym keeps) h)
 
 pub next_stops : {A : Type 0} (allowed : ReadErrorCode → Bool) (s t : Input) (read : Limits → List ℕ → Reads A) (kept : Option ReadError) (r : Refused) (e : ReadError)
-    → r ≡ refused.Kept → kept ≡ Some e → RefusedByte allowed s t e → Stopped allowed read s kept r
-next_stops allowed s t read kept r e is keeps h = source_stops allowed s read kept r e is keeps (byte_refused allowed s t e read h)
+    → r ≡ refused.Kept → kept ≡ Some e → RefusedByte allowed s t e → Stopped allowed read s t kept r
+next_stops allowed s t read kept r e is keeps h = source_stops allowed s read kept r e is keeps h.refused.moved (byte_refused allowed s t e read h)
 
 -- a fault at the end of input
 pub end_stops : {A : Type 0} (allowed : ReadErrorCode → Bool) (s t : Input) (o : Option ℕ) (read : Limits → List ℕ → Reads A) (kept : Option ReadError) (r : Refused) (k : ReadErrorCode) (w : Refusal)
     → ((offset end : ℕ) (r : Reads A) → FailsAs w end offset r → FailsBy (Reports allowed) (error_code k) end offset r)
-    → ((l : Limits) → read l [] ≡ Err (record { why = w; left = 0 })) → r ≡ refused.Kept → IsSomeAnd kept (IsAt k t.offset) → o ≡ None → NextDoes allowed s t (Ok o) → Stopped allowed read s kept r
-end_stops {A} allowed s t o read kept r k w tells_as stops is keeps n h = kept_stops allowed s read kept r (IsAt k t.offset) here is keeps
+    → ((l : Limits) → read l [] ≡ Err (record { why = w; left = 0 })) → r ≡ refused.Kept → IsSomeAnd kept (IsAt k t.offset) → o ≡ None → NextDoes allowed s t (Ok o) → Stopped allowed read s t kept r
+end_stops {A} allowed s t o read kept r k w tells_as stops is keeps n h = kept_stops allowed s read kept r (IsAt k t.offset) here (took_stays s t (next_none allowed s t o n h).0) is keeps
   where
     here : (e : ReadError) → IsAt k t.offset e → Stops allowed read s e
     here e at = record {
@@ -102,8 +103,8 @@ end_stops {A} allowed s t o read kept r k w tells_as stops is keeps n h = kept_s
 
 -- a byte after all that was wanted
 pub trailing_stops : (allowed : ReadErrorCode → Bool) (s t : Input) (o : Option ℕ) (b : ℕ) (kept : Option ReadError) (r : Refused)
-    → r ≡ refused.Kept → IsSomeAnd kept (IsAt reading.TrailingData t.offset) → o ≡ Some b → NextDoes allowed s t (Ok o) → Stopped allowed (λ l. end_at) s kept r
-trailing_stops allowed s t o b kept r is keeps some h = kept_stops allowed s (λ l. end_at) kept r (IsAt reading.TrailingData t.offset) here is keeps
+    → r ≡ refused.Kept → IsSomeAnd kept (IsAt reading.TrailingData t.offset) → o ≡ Some b → NextDoes allowed s t (Ok o) → Stopped allowed (λ l. end_at) s t kept r
+trailing_stops allowed s t o b kept r is keeps some h = kept_stops allowed s (λ l. end_at) kept r (IsAt reading.TrailingData t.offset) here (next_took allowed s t o b some h) is keeps
   where
     here : (e : ReadError) → IsAt reading.TrailingData t.offset e → Stops allowed (λ l. end_at) s e
     here e at = record {
@@ -118,8 +119,8 @@ trailing_stops allowed s t o b kept r is keeps some h = kept_stops allowed s (λ
 -- a fault before the bytes to come
 pub fault_stops : {A : Type 0} (allowed : ReadErrorCode → Bool) (s : Input) (read : Limits → List ℕ → Reads A) (kept : Option ReadError) (r : Refused) (k : ReadErrorCode) (w : Refusal)
     → ((offset end : ℕ) (r : Reads A) → FailsAs w end offset r → FailsBy (Reports allowed) (error_code k) end offset r)
-    → ((l : Limits) (bs : List ℕ) → read l bs ≡ Err (record { why = w; left = length bs })) → r ≡ refused.Kept → IsSomeAnd kept (IsAt k s.offset) → Stopped allowed read s kept r
-fault_stops {A} allowed s read kept r k w tells_as stops is keeps = kept_stops allowed s read kept r (IsAt k s.offset) here is keeps
+    → ((l : Limits) (bs : List ℕ) → read l bs ≡ Err (record { why = w; left = length bs })) → r ≡ refused.Kept → IsSomeAnd kept (IsAt k s.offset) → Stopped allowed read s s kept r
+fault_stops {A} allowed s read kept r k w tells_as stops is keeps = kept_stops allowed s read kept r (IsAt k s.offset) here (took_none s) is keeps
   where
     here : (e : ReadError) → IsAt k s.offset e → Stops allowed read s e
     here e at = record {
@@ -133,8 +134,8 @@ fault_stops {A} allowed s read kept r k w tells_as stops is keeps = kept_stops a
 pub first_stops : {A : Type 0} (allowed : ReadErrorCode → Bool) (s t : Input) (read : Limits → List ℕ → Reads A) (kept : Option ReadError) (r : Refused) (k : ReadErrorCode) (w : Refusal)
     → ((offset end : ℕ) (r : Reads A) → FailsAs w end offset r → FailsBy (Reports allowed) (error_code k) end offset r)
     → (P : Limits → List ℕ → List ℕ → Type 0) → ((l : Limits) (bs mid : List ℕ) → P l bs mid → read l bs ≡ Err (record { why = w; left = suc (length mid) }))
-    → Step s t P → r ≡ refused.Kept → IsSomeAnd kept (λ e. (why e ≡ k) × (place e + 1 ≡ t.offset)) → Stopped allowed read s kept r
-first_stops {A} allowed s t read kept r k w tells_as P stops step is keeps = kept_stops allowed s read kept r (λ e. (why e ≡ k) × (place e + 1 ≡ t.offset)) here is keeps
+    → Step s t P → r ≡ refused.Kept → IsSomeAnd kept (λ e. (why e ≡ k) × (place e + 1 ≡ t.offset)) → Stopped allowed read s t kept r
+first_stops {A} allowed s t read kept r k w tells_as P stops step is keeps = kept_stops allowed s read kept r (λ e. (why e ≡ k) × (place e + 1 ≡ t.offset)) here step.took is keeps
   where
     here : (e : ReadError) → (why e ≡ k) × (place e + 1 ≡ t.offset) → Stops allowed read s e
     here e at = record {
@@ -151,14 +152,18 @@ number_refused : (allowed : ReadErrorCode → Bool) (s t : Input) (w : Width) (e
 number_refused allowed s t w e h = refused_stops allowed s t (byte_len w) e (λ l. number_at w) (λ l bs short. rw (lt-ltb (length bs) (byte_len w) short) refl) h.room h.refused
 
 -- no number could be taken
-pub number_stops : (allowed : ReadErrorCode → Bool) (s t : Input) (w : Width) (kept : Option ReadError) (r : Refused) → r ≡ refused.Kept → IsSomeAnd kept (RefusedInto allowed s t (byte_len w)) → Stopped allowed (λ l. number_at w) s kept r
-number_stops allowed s t w kept r is h = kept_stops allowed s (λ l. number_at w) kept r (RefusedInto allowed s t (byte_len w)) (λ e. number_refused allowed s t w e) is h
+pub number_stops : (allowed : ReadErrorCode → Bool) (s t : Input) (w : Width) (kept : Option ReadError) (r : Refused) → r ≡ refused.Kept → IsSomeAnd kept (RefusedInto allowed s t (byte_len w)) → Stopped allowed (λ l. number_at w) s t kept r
+number_stops allowed s t w kept r is h = kept_stops allowed s (λ l. number_at w) kept r (RefusedInto allowed s t (byte_len w)) (λ e. number_refused allowed s t w e) (moved kept h) is h
+  where
+    moved : (kept : Option ReadError) → IsSomeAnd kept (RefusedInto allowed s t (byte_len w)) → TookSome s t
+    moved None h = absurd h
+    moved (Some e) h = h.refused.moved
 
 -- not so many bytes could be taken
-pub bytes_stop : (allowed : ReadErrorCode → Bool) (s t : Input) (n : ℕ) (kept : Option ReadError) (r : Refused) (e : ReadError) → r ≡ refused.Kept → kept ≡ Some e → RefusedInto (or_memory allowed) s t n e → Stopped allowed (λ l. bytes_at n) s kept r
+pub bytes_stop : (allowed : ReadErrorCode → Bool) (s t : Input) (n : ℕ) (kept : Option ReadError) (r : Refused) (e : ReadError) → r ≡ refused.Kept → kept ≡ Some e → RefusedInto (or_memory allowed) s t n e → Stopped allowed (λ l. bytes_at n) s t kept r
 bytes_stop allowed s t n kept r e is keeps h =
     let stops = refused_stops (or_memory allowed) s t n e (λ l. bytes_at n) (λ l bs short. rw (lt-ltb (length bs) n short) refl) h.room h.refused in
-    source_stops allowed s (λ l. bytes_at n) kept r e is keeps (record { told = stops.told })
+    source_stops allowed s (λ l. bytes_at n) kept r e is keeps h.refused.moved (record { told = stops.told })
 
 -- ---- the next part
 
@@ -184,7 +189,7 @@ tells_end D Map at end r h = h
 
 -- no break came, nor another part
 pub no_break : (allowed : ReadErrorCode → Bool) (s t : Input) (o : Option ℕ) (of : Collection) (w : Refusal) (k : ReadErrorCode) (kept : Option ReadError) (r : Refused)
-    → k ≡ end_code of → w ≡ end_of of → r ≡ refused.Kept → IsSomeAnd kept (IsAt k t.offset) → o ≡ None → NextDoes allowed s t (Ok o) → Stopped allowed (λ l. first_at w to_break) s kept r
+    → k ≡ end_code of → w ≡ end_of of → r ≡ refused.Kept → IsSomeAnd kept (IsAt k t.offset) → o ≡ None → NextDoes allowed s t (Ok o) → Stopped allowed (λ l. first_at w to_break) s t kept r
 unfolding next_at
 no_break allowed s t o of w k kept r is ends refused keeps none h =
     end_stops allowed s t o (λ l. first_at w to_break) kept r k w (λ at end r h. rw is (tells_end _ of at end r (subst (λ (v : Refusal). FailsAs v end at r) ends h))) (λ l. refl) refused keeps none h

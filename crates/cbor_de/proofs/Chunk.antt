@@ -8,6 +8,7 @@ use Rattle.cbor_model.specs.Raw.{Chunk}
 use Rattle.cbor_model.specs.Refusal.{unexpected_code, scratch_too_small}
 use Rattle.cbor_model.specs.Reader.{Fault, Reads, ended, before, number_behind, width_of, begins_chunk, content_of_chunk, chunk_at, exceeds_most}
 use Rattle.cbor_read.specs.Source.{Input, Buffered, FitsRoom, RefusedToBuffer}
+use Rattle.cbor_read.proofs.facts.Sources.{some_then}
 use Rattle.cbor_io.specs.ReadError.{why, place, error_code}
 use Rattle.cbor_io.specs.declared.read_error.ReadError.{ReadError}
 use Rattle.cbor_io.specs.declared.read_error.ReadErrorCode.{ReadErrorCode}
@@ -96,13 +97,12 @@ module _ (allowed : ReadErrorCode → Bool) (major first n : ℕ) (s t u : Input
       let took = taken_step t u h.some h.bytes (omega (arith, h.count, h.len)) h.room in
       let ex = λ (n : ℕ). exceeds_most s.room (length s.buffer + n) in
       let long : length s.buffer + n ≤ length u.buffer = omega (arith, ap length h.buffered, ap length kept, length-append t.buffer h.some, h.len) in
-      let fits : ex n ≡ false = joins s.room (length s.buffer + n) (length u.buffer) long (subst (λ (o : Option ℕ). MatchOption o ⊤ (λ most. length u.buffer ≤ most)) (h.room ∙ number.room) room_fits) in
+      let fits : ex n ≡ false = joins s.room (length s.buffer + n) (length u.buffer) long (subst (λ (o : Option ℕ). MatchOption o ⊤ (λ most. length u.buffer ≤ most)) (h.room ∙ number.took.room) room_fits) in
       record {
         some = h.some;
         buffer = h.buffered ∙ ap (λ (b : List ℕ). b ++ h.some) kept;
         step = record {
-          room = h.room ∙ number.room;
-          forward = omega (arith, number.forward, took.forward);
+          took = some_then s t u number.took took.took;
           told = λ bs tells.
               let one = number.told bs tells in
               let two = took.told one.rest one.tells in
@@ -113,7 +113,7 @@ module _ (allowed : ReadErrorCode → Bool) (major first n : ℕ) (s t u : Input
                 holds = ap content (chunk_behind ex major first bs n one.rest is small one.holds ∙ ap (content_of_chunk ex (width_of (first % 32)) n) two.holds) ∙ content_read ex (width_of (first % 32)) n h.some two.rest h.len fits;
               };
         };
-        counted = omega (arith, number.forward, h.count, h.len);
+        counted = omega (arith, number.took.count, h.count, h.len);
       }
 
   pub chunk_refused : (e : ReadError) → RefusedToBuffer allowed t u n e → Stops allowed (λ l. read l (length s.buffer)) s e
@@ -124,7 +124,7 @@ module _ (allowed : ReadErrorCode → Bool) (major first n : ℕ) (s t u : Input
           let ex = λ (n : ℕ). exceeds_most s.room (length s.buffer + n) in
           let w = width_of (first % 32) in
           let small_is = h.small is_small in
-          let room : MatchOption s.room ⊥ (λ most. most < length s.buffer + n) = subst (λ (o : Option ℕ). MatchOption o ⊥ (λ most. most < length s.buffer + n)) number.room (subst (λ (b : List ℕ). MatchOption t.room ⊥ (λ most. most < length b + n)) kept small_is.2.0) in
+          let room : MatchOption s.room ⊥ (λ most. most < length s.buffer + n) = subst (λ (o : Option ℕ). MatchOption o ⊥ (λ most. most < length s.buffer + n)) number.took.room (subst (λ (b : List ℕ). MatchOption t.room ⊥ (λ most. most < length b + n)) kept small_is.2.0) in
           let same : chunk_at ex major first bs ≡ content_of_chunk ex w n one.rest = chunk_behind ex major first bs n one.rest is small one.holds in
           let stops = same ∙ content_too_long ex w n one.rest (enough_there t.to_come one.rest n one.tells.is small_is.2.1) (too_long s.room (length s.buffer + n) room) in
           let at : place e + length one.rest ≡ s.offset + length bs = omega (arith, small_is.1, one.total) in

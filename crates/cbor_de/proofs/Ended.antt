@@ -17,7 +17,7 @@ use Rattle.cbor_de.specs.Cursor.{ended_at}
 use Rattle.cbor_de.specs.Gives.{FailsBy, Limits, limits, Step, Reports, Stops, Stopped, IsAt}
 use Rattle.cbor_de.specs.Heads.{end_of, end_code, remaining_of}
 use Rattle.cbor_de.proofs.Steps.{step_same}
-use Rattle.cbor_de.proofs.Calls.{next_step, kept_stops, end_stops, fault_stops, tells_end}
+use Rattle.cbor_de.proofs.Calls.{next_took, next_step, kept_stops, end_stops, fault_stops, tells_end}
 
 -- ---- a declared count
 
@@ -34,7 +34,7 @@ some_left w r zero bs is some = absurd (some refl)
 some_left w r (suc n) bs is some = rw is refl
 
 pub count_stops : (allowed : ReadErrorCode → Bool) (s : Input) (w : Refusal) (r : Remaining) (n : ℕ) (kept : Option ReadError) (why : Refused)
-    → r ≡ Counted n → (n ≡ 0 → ⊥) → why ≡ refused.Kept → IsSomeAnd kept (IsAt reading.TrailingData s.offset) → Stopped allowed (λ l. ended_at w (remaining_of r)) s kept why
+    → r ≡ Counted n → (n ≡ 0 → ⊥) → why ≡ refused.Kept → IsSomeAnd kept (IsAt reading.TrailingData s.offset) → Stopped allowed (λ l. ended_at w (remaining_of r)) s s kept why
 count_stops allowed s w r n kept why is some refused keeps =
     fault_stops allowed s (λ l. ended_at w (remaining_of r)) kept why reading.TrailingData trailing_data (λ at end r h. h) (λ l bs. some_left w r n bs is some) refused keeps
 
@@ -52,8 +52,8 @@ unfolding ended_at
 other_here w b bs rest other is = rw (is, ne_eqb b 255 other) refl
 
 pub other_stops : (allowed : ReadErrorCode → Bool) (s t : Input) (o : Option ℕ) (b : ℕ) (w : Refusal) (kept : Option ReadError) (r : Refused)
-    → (b ≡ 255 → ⊥) → r ≡ refused.Kept → IsSomeAnd kept (IsAt reading.TrailingData t.offset) → o ≡ Some b → NextDoes allowed s t (Ok o) → Stopped allowed (λ l. ended_at w to_break) s kept r
-other_stops allowed s t o b w kept r other is keeps some h = kept_stops allowed s (λ l. ended_at w to_break) kept r (IsAt reading.TrailingData t.offset) here is keeps
+    → (b ≡ 255 → ⊥) → r ≡ refused.Kept → IsSomeAnd kept (IsAt reading.TrailingData t.offset) → o ≡ Some b → NextDoes allowed s t (Ok o) → Stopped allowed (λ l. ended_at w to_break) s t kept r
+other_stops allowed s t o b w kept r other is keeps some h = kept_stops allowed s (λ l. ended_at w to_break) kept r (IsAt reading.TrailingData t.offset) here (next_took allowed s t o b some h) is keeps
   where
     here : (e : ReadError) → IsAt reading.TrailingData t.offset e → Stops allowed (λ l. ended_at w to_break) s e
     here e at = record {
@@ -65,7 +65,7 @@ other_stops allowed s t o b w kept r other is keeps some h = kept_stops allowed 
     }
 
 pub no_break_stops : (allowed : ReadErrorCode → Bool) (s t : Input) (o : Option ℕ) (of : Collection) (k : ReadErrorCode) (kept : Option ReadError) (r : Refused)
-    → k ≡ end_code of → r ≡ refused.Kept → IsSomeAnd kept (IsAt k t.offset) → o ≡ None → NextDoes allowed s t (Ok o) → Stopped allowed (λ l. ended_at (end_of of) to_break) s kept r
+    → k ≡ end_code of → r ≡ refused.Kept → IsSomeAnd kept (IsAt k t.offset) → o ≡ None → NextDoes allowed s t (Ok o) → Stopped allowed (λ l. ended_at (end_of of) to_break) s t kept r
 unfolding ended_at
 no_break_stops allowed s t o of k kept r is refused keeps none h =
     end_stops allowed s t o (λ l. ended_at (end_of of) to_break) kept r k (end_of of) (λ at end r h. rw is (tells_end _ of at end r h)) (λ l. refl) refused keeps none h

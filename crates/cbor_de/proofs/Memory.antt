@@ -117,6 +117,6 @@ first_stored f levels first s t kept r step =
     asked_on (ReadsStored (λ l. after_first (values f l) (inside (values f l) levels) first) t) (ReadsStored (λ l. item_at (values f l) levels) s) kept r (λ stores bs tells v rest read.
     let l = limits s bs in
     let one = step.told bs tells in
-    let same = same_limits s t bs one.rest step.room one.total in
+    let same = same_limits s t bs one.rest step.took.room one.total in
     let here : after_first (values f l) (inside (values f l) levels) first one.rest ≡ Ok (v, rest) = sym (value_first f l levels first bs one.rest one.holds) ∙ read in
     stores one.rest one.tells v rest (subst (λ (l : Limits). after_first (values f l) (inside (values f l) levels) first one.rest ≡ Ok (v, rest)) (sym same) here))

@@ -54,8 +54,7 @@ pub part_stands : (s t : Input) (o : Option ℕ) (b : ℕ) (w : Refusal) → (b 
 part_stands s t o b w other some stays front =
     let step = stays_step s t stays in
     record {
-      room = step.room;
-      forward = step.forward;
+      took = step.took;
       told = λ bs tells.
           let got = step.told bs tells in
           let here = other_here w b bs other (front_is s o b bs some tells.is front) in
@@ -68,7 +67,7 @@ none_does : (allowed : ReadErrorCode → Bool) (s t : Input) (o : Option ℕ) �
 none_does allowed s t o none stays front = (stays, subst (Front s) none front)
 
 pub no_part : (allowed : ReadErrorCode → Bool) (s t : Input) (o : Option ℕ) (of : Collection) (k : ReadErrorCode) (kept : Option ReadError) (r : Refused)
-    → k ≡ end_code of → r ≡ refused.Kept → IsSomeAnd kept (IsAt k t.offset) → o ≡ None → Stays s t → Front s o → Stopped allowed (λ l. next_at (end_of of) to_break) s kept r
+    → k ≡ end_code of → r ≡ refused.Kept → IsSomeAnd kept (IsAt k t.offset) → o ≡ None → Stays s t → Front s o → Stopped allowed (λ l. next_at (end_of of) to_break) s t kept r
 unfolding next_at
 no_part allowed s t o of k kept r is refused keeps none stays front =
     end_stops allowed s t None (λ l. next_at (end_of of) to_break) kept r k (end_of of) (λ at end r h. rw is (tells_end _ of at end r h)) (λ l. refl) refused keeps refl (none_does allowed s t o none stays front)

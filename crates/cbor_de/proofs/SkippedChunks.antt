@@ -46,7 +46,7 @@ leads_then has read has' read' has'' read'' l bs mid rest one two x after is =
 pub all_then : {A B : Type 0} (has : A → Type 0) (read : Limits → List ℕ → Reads A) (has' : B → Type 0) (read' : Limits → List ℕ → Reads B) (s t : Input) → Step s t (Leads has read has' read') → AllRead has' read' t → AllRead has read s
 all_then has read has' read' s t step all = λ bs tells x rest is.
     let one = step.told bs tells in
-    let same = same_limits s t bs one.rest step.room one.total in
+    let same = same_limits s t bs one.rest step.took.room one.total in
     let w = one.holds x rest is in
     w.on (all one.rest one.tells w.part w.rest (subst (λ (l : Limits). read' l one.rest ≡ Ok (w.part, w.rest)) (sym same) w.is))
 
@@ -313,7 +313,7 @@ module _ (f : Formats) (levels : ℕ) where
   first_has s t b h step all = λ bs tells x rest is.
       let l = limits s bs in
       let one = step.told bs tells in
-      let same = same_limits s t bs one.rest step.room one.total in
+      let same = same_limits s t bs one.rest step.took.room one.total in
       let inner = inside (raws f l) levels in
       let here : behind_first b l bs ≡ behind_head (raws f l) inner one.holds.0 h one.rest = first_behind (raws f l) inner b bs ∙ rw one.holds.1 refl in
       all one.holds.0 one.rest one.tells x rest (subst (λ (l : Limits). behind_head (raws f l) (inside (raws f l) levels) one.holds.0 h one.rest ≡ Ok (x, rest)) (sym same) (sym here ∙ is))

@@ -62,12 +62,12 @@ too_few : (n : ℕ) (bs : List ℕ) → length bs < n → bytes_at n bs ≡ Err 
 too_few n bs short = rw (lt-ltb (length bs) n short) refl
 
 module _ (allowed : ReadErrorCode → Bool) (s t : Input) (n : ℕ) (kept : Option ReadError) (r : Reason) (e : ReadError) (is : r ≡ refused.Kept) (keeps : kept ≡ Some e) (h : RefusedPart allowed s t n e) where
-  pub bytes_cut : Stopped allowed (λ l bs. passed (string_at (values all_formats l) no_bytes n bs)) s kept r
-  bytes_cut = source_stops allowed s (λ l bs. passed (string_at (values all_formats l) no_bytes n bs)) kept r e is keeps
+  pub bytes_cut : Stopped allowed (λ l bs. passed (string_at (values all_formats l) no_bytes n bs)) s t kept r
+  bytes_cut = source_stops allowed s (λ l bs. passed (string_at (values all_formats l) no_bytes n bs)) kept r e is keeps h.0.moved
       (refused_stops allowed s t n e (λ l bs. passed (string_at (values all_formats l) no_bytes n bs)) (λ l bs short. ap (λ r. passed r) (bytes_stop l n bs ended (too_few n bs short))) h.1 h.0)
 
-  pub bad_cut : Stopped allowed (λ l bs. bad_of (bytes_at n bs)) s kept r
-  bad_cut = source_stops allowed s (λ l bs. bad_of (bytes_at n bs)) kept r e is keeps
+  pub bad_cut : Stopped allowed (λ l bs. bad_of (bytes_at n bs)) s t kept r
+  bad_cut = source_stops allowed s (λ l bs. bad_of (bytes_at n bs)) kept r e is keeps h.0.moved
       (refused_stops allowed s t n e (λ l bs. bad_of (bytes_at n bs)) (λ l bs short. ap (λ r. bad_of r) (too_few n bs short)) h.1 h.0)
 
 -- ---- what is UTF-8

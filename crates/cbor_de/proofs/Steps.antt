@@ -8,13 +8,14 @@ use Rattle.cbor_io.specs.declared.read_error.ReadError.{ReadError}
 use Rattle.cbor_io.specs.declared.read_error.ReadErrorCode.{ReadErrorCode}
 use Rattle.cbor_io.specs.declared.read_error.ReadErrorCode.TheVariants as reading
 use Rattle.cbor_io.specs.ReadError.{why, place, error_code, HasNoPlace}
-use Rattle.cbor_read.specs.Source.{Input, TookKept, TookSome, Refused, RefusedByte, TooFew, AtLimit, IsOfSource}
+use Rattle.cbor_read.specs.Source.{Input, TookKept, TookSome, Stays, Refused, RefusedByte, TooFew, AtLimit, IsOfSource}
+use Rattle.cbor_read.proofs.facts.Sources.{kept_none, kept_some, some_then}
 use Rattle.cbor_de.specs.declared.refusal.Refused.{Refused as Reason}
 use Rattle.cbor_de.specs.declared.refusal.Refused.TheVariants as refused
 use Rattle.cbor_model.specs.Head.{HeadWidth}
 use Rattle.cbor_de.specs.declared.head.Head.{Head}
 use Rattle.cbor_de.specs.Heads.{HeadGives}
-use Rattle.cbor_de.specs.Gives.{FailsBy, Tells, Limits, limits, Step, Reports, Stops, Stopped, Gives}
+use Rattle.cbor_de.specs.Gives.{FailsBy, Tells, Limits, limits, Step, Reports, Stops, TellsWhy, Stopped, Gives}
 
 -- an error of one reading is one of another with the same fault
 pub passed_on : {A B : Type 0} (D : Type 0) (k : ErrorCode) (end offset : ℕ) (part : Result A Fault) (all : Result B Fault) → ((f : Fault) → part ≡ Err f → all ≡ Err f) → FailsBy D k end offset part → FailsBy D k end offset all
@@ -41,6 +42,20 @@ passed_on D code.OutOfMemory end offset part all on h = h
 pub subst_both : {A B : Type 0} (P : A → B → Type 0) {a a' : A} {b b' : B} → a ≡ a' → b ≡ b' → P a b → P a' b'
 subst_both P {a' = a'} {b = b} p q h = subst (P a') q (subst (λ x. P x b) p h)
 
+-- ---- what was taken
+
+consumes_none : (a b : Option (List ℕ)) → Keeps a b → Consumes a b []
+consumes_none None b h = tt
+consumes_none (Some xs) None h = absurd h
+consumes_none (Some xs) (Some ys) h = sym h
+
+pub took_none : (s : Input) → TookSome s s
+took_none s = kept_some s s [] (kept_none s)
+
+-- where nothing was taken
+pub took_stays : (s t : Input) → Stays s t → TookSome s t
+took_stays s t h = record { some = []; bytes = consumes_none s.to_come t.to_come h.bytes; count = omega (arith, h.count); room = h.room }
+
 -- ---- steps
 
 -- a step changes nothing of the limits
@@ -49,15 +64,13 @@ same_limits s t bs rest room total = ap₂ (λ (n : ℕ) (r : Option ℕ). recor
 
 pub step_same : (s : Input) (P : Limits → List ℕ → List ℕ → Type 0) → ((l : Limits) (bs : List ℕ) → P l bs bs) → Step s s P
 step_same s P holds = record {
-  room = refl;
-  forward = omega arith;
+  took = took_none s;
   told = λ bs tells. record { rest = bs; tells = tells; total = refl; holds = holds (limits s bs) bs };
 }
 
 pub step_map : (s t : Input) (P Q : Limits → List ℕ → List ℕ → Type 0) → ((l : Limits) (bs rest : List ℕ) → P l bs rest → Q l bs rest) → Step s t P → Step s t Q
 step_map s t P Q f h = record {
-  room = h.room;
-  forward = h.forward;
+  took = h.took;
   told = λ bs tells.
       let one = h.told bs tells in
       record { rest = one.rest; tells = one.tells; total = one.total; holds = f (limits s bs) bs one.rest one.holds };
@@ -65,12 +78,11 @@ step_map s t P Q f h = record {
 
 pub step_then : (s t u : Input) (P Q W : Limits → List ℕ → List ℕ → Type 0) → ((l : Limits) (bs mid rest : List ℕ) → P l bs mid → Q l mid rest → W l bs rest) → Step s t P → Step t u Q → Step s u W
 step_then s t u P Q W f h k = record {
-  room = k.room ∙ h.room;
-  forward = omega (arith, h.forward, k.forward);
+  took = some_then s t u h.took k.took;
   told = λ bs tells.
       let one = h.told bs tells in
       let two = k.told one.rest one.tells in
-      let same = same_limits s t bs one.rest h.room one.total in
+      let same = same_limits s t bs one.rest h.took.room one.total in
       record {
         rest = two.rest;
         tells = two.tells;
@@ -85,7 +97,7 @@ pub stops_then : {A B : Type 0} (allowed : ReadErrorCode → Bool) (read : Limit
 stops_then allowed read read' s t e P on h k = record {
   told = λ bs tells.
       let one = h.told bs tells in
-      let same = same_limits s t bs one.rest h.room one.total in
+      let same = same_limits s t bs one.rest h.took.room one.total in
       let D = Reports allowed in
       let c = error_code (why e) in
       let fails = k.told one.rest one.tells in
@@ -103,34 +115,45 @@ stops_at allowed read read' s e on h = record {
 
 -- what is kept is kept on the way out
 kept_on : {A B : Type 0} (allowed : ReadErrorCode → Bool) (read : Limits → List ℕ → Reads A) (read' : Limits → List ℕ → Reads B) (s t : Input) (kept : Option ReadError) (r : Reason)
-    → ((e : ReadError) → Stops allowed read t e → Stops allowed read' s e) → Stopped allowed read t kept r → Stopped allowed read' s kept r
+    → ((e : ReadError) → Stops allowed read t e → Stops allowed read' s e) → TellsWhy allowed read t kept r → TellsWhy allowed read' s kept r
 kept_on allowed read read' s t kept refused.OutOfMemory on h = tt
 kept_on allowed read read' s t None refused.Kept on h = absurd h
 kept_on allowed read read' s t (Some e) refused.Kept on h = on e h
 
-pub stopped_then : {A B : Type 0} (allowed : ReadErrorCode → Bool) (read : Limits → List ℕ → Reads A) (read' : Limits → List ℕ → Reads B) (s t : Input) (kept : Option ReadError) (r : Reason) (P : Limits → List ℕ → List ℕ → Type 0)
-    → ((l : Limits) (bs mid : List ℕ) (f : Fault) → P l bs mid → read l mid ≡ Err f → read' l bs ≡ Err f) → Step s t P → Stopped allowed read t kept r → Stopped allowed read' s kept r
-stopped_then allowed read read' s t kept r P on h = kept_on allowed read read' s t kept r (λ e. stops_then allowed read read' s t e P (λ bs. on (limits s bs) bs) h)
+pub stopped_then : {A B : Type 0} {u : Input} (allowed : ReadErrorCode → Bool) (read : Limits → List ℕ → Reads A) (read' : Limits → List ℕ → Reads B) (s t : Input) (kept : Option ReadError) (r : Reason) (P : Limits → List ℕ → List ℕ → Type 0)
+    → ((l : Limits) (bs mid : List ℕ) (f : Fault) → P l bs mid → read l mid ≡ Err f → read' l bs ≡ Err f) → Step s t P → Stopped allowed read t u kept r → Stopped allowed read' s u kept r
+stopped_then {u = u} allowed read read' s t kept r P on step h = record {
+  took = some_then s t u step.took h.took;
+  told = kept_on allowed read read' s t kept r (λ e. stops_then allowed read read' s t e P (λ bs. on (limits s bs) bs) step) h.told;
+}
 
-pub stopped_map : {A B : Type 0} (allowed : ReadErrorCode → Bool) (read : Limits → List ℕ → Reads A) (read' : Limits → List ℕ → Reads B) (s : Input) (kept : Option ReadError) (r : Reason)
-    → ((l : Limits) (bs : List ℕ) (f : Fault) → read l bs ≡ Err f → read' l bs ≡ Err f) → Stopped allowed read s kept r → Stopped allowed read' s kept r
-stopped_map allowed read read' s kept r on = kept_on allowed read read' s s kept r (λ e. stops_at allowed read read' s e (λ bs. on (limits s bs) bs))
+-- readings that are compared at these limits alone
+pub stopped_at : {A B : Type 0} {t : Input} (allowed : ReadErrorCode → Bool) (read : Limits → List ℕ → Reads A) (read' : Limits → List ℕ → Reads B) (s : Input) (kept : Option ReadError) (r : Reason)
+    → ((bs : List ℕ) (f : Fault) → read (limits s bs) bs ≡ Err f → read' (limits s bs) bs ≡ Err f) → Stopped allowed read s t kept r → Stopped allowed read' s t kept r
+stopped_at allowed read read' s kept r on h = record {
+  took = h.took;
+  told = kept_on allowed read read' s s kept r (λ e. stops_at allowed read read' s e on) h.told;
+}
 
--- the same, of readings that are compared at these limits alone
-pub stopped_at : {A B : Type 0} (allowed : ReadErrorCode → Bool) (read : Limits → List ℕ → Reads A) (read' : Limits → List ℕ → Reads B) (s : Input) (kept : Option ReadError) (r : Reason)
-    → ((bs : List ℕ) (f : Fault) → read (limits s bs) bs ≡ Err f → read' (limits s bs) bs ≡ Err f) → Stopped allowed read s kept r → Stopped allowed read' s kept r
-stopped_at allowed read read' s kept r on = kept_on allowed read read' s s kept r (λ e. stops_at allowed read read' s e on)
+-- the same at all limits
+pub stopped_map : {A B : Type 0} {t : Input} (allowed : ReadErrorCode → Bool) (read : Limits → List ℕ → Reads A) (read' : Limits → List ℕ → Reads B) (s : Input) (kept : Option ReadError) (r : Reason)
+    → ((l : Limits) (bs : List ℕ) (f : Fault) → read l bs ≡ Err f → read' l bs ≡ Err f) → Stopped allowed read s t kept r → Stopped allowed read' s t kept r
+stopped_map allowed read read' s kept r on = stopped_at allowed read read' s kept r (λ bs. on (limits s bs) bs)
+
+-- memory ran out after some bytes
+pub memory_stops : {A : Type 0} {allowed : ReadErrorCode → Bool} {read : Limits → List ℕ → Reads A} {s t : Input} {kept : Option ReadError} (r : Reason) → r ≡ refused.OutOfMemory → TookSome s t → Stopped allowed read s t kept r
+memory_stops refused.OutOfMemory is took = record { took = took; told = tt }
+memory_stops refused.Kept is took = absurd cc
 
 -- a reading after a step, which is the rest of another at these limits
 pub gives_at : {X A : Type 0} (allowed : ReadErrorCode → Bool) (view : X → A) (read read' : Limits → List ℕ → Reads A) (s t u : Input) (kept : Option ReadError) (r : Result X Reason) (P : Limits → List ℕ → List ℕ → Type 0)
     → ((bs mid : List ℕ) → P (limits s bs) bs mid → read' (limits s bs) bs ≡ read (limits s bs) mid) → Step s t P → Gives allowed view read t u kept r → Gives allowed view read' s u kept r
 gives_at allowed view read read' s t u kept (Ok x) P same h k = record {
-  room = k.room ∙ h.room;
-  forward = omega (arith, h.forward, k.forward);
+  took = some_then s t u h.took k.took;
   told = λ bs tells.
       let one = h.told bs tells in
       let two = k.told one.rest one.tells in
-      let limits_same = same_limits s t bs one.rest h.room one.total in
+      let limits_same = same_limits s t bs one.rest h.took.room one.total in
       record {
         rest = two.rest;
         tells = two.tells;
@@ -138,8 +161,10 @@ gives_at allowed view read read' s t u kept (Ok x) P same h k = record {
         holds = same bs one.rest one.holds ∙ subst (λ (l : Limits). read l one.rest ≡ Ok (view x, two.rest)) limits_same two.holds;
       };
 }
-gives_at allowed view read read' s t u kept (Err r) P same h k =
-    kept_on allowed read read' s t kept r (λ e. stops_then allowed read read' s t e P (λ bs mid f p is. same bs mid p ∙ is) h) k
+gives_at allowed view read read' s t u kept (Err r) P same h k = record {
+  took = some_then s t u h.took k.took;
+  told = kept_on allowed read read' s t kept r (λ e. stops_then allowed read read' s t e P (λ bs mid f p is. same bs mid p ∙ is) h) k.told;
+}
 
 -- the same at all limits
 pub gives_then : {X A : Type 0} (allowed : ReadErrorCode → Bool) (view : X → A) (read read' : Limits → List ℕ → Reads A) (s t u : Input) (kept : Option ReadError) (r : Result X Reason) (P : Limits → List ℕ → List ℕ → Type 0)
@@ -174,17 +199,10 @@ taken (Some xs) (Some ys) p bs e h = record { rest = ys; is = refl; parts = some
     some_is : (x y : List ℕ) → Some x ≡ Some y → x ≡ y
     some_is x y e = cc
 
--- nothing was taken
-consumes_none : (a b : Option (List ℕ)) → Keeps a b → Consumes a b []
-consumes_none None b h = tt
-consumes_none (Some xs) None h = absurd h
-consumes_none (Some xs) (Some ys) h = sym h
-
 -- what was taken, seen as a step
 pub taken_step : (s t : Input) (p : List ℕ) → Consumes s.to_come t.to_come p → t.offset ≡ s.offset + length p → t.room ≡ s.room → Step s t (λ l bs rest. bs ≡ p ++ rest)
 taken_step s t p h count room = record {
-  room = room;
-  forward = omega (arith, count);
+  took = record { some = p; bytes = h; count = count; room = room };
   told = λ bs tells.
       let got = taken s.to_come t.to_come p bs tells.is h in
       let total : t.offset + length got.rest ≡ s.offset + length bs = omega (arith, count, ap length got.parts, length-append p got.rest) in

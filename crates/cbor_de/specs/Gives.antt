@@ -27,7 +27,7 @@ use Rattle.cbor_io.specs.declared.read_error.ReadError.{ReadError}
 use Rattle.cbor_io.specs.declared.read_error.ReadErrorCode.{ReadErrorCode}
 use Rattle.cbor_io.specs.declared.read_error.ReadErrorCode.TheVariants as reading
 use Rattle.cbor_io.specs.ReadError.{why, place, error_code}
-use Rattle.cbor_read.specs.Source.{Input}
+use Rattle.cbor_read.specs.Source.{Input, TookSome}
 use Rattle.cbor_de.specs.declared.refusal.Refused.{Refused}
 use Rattle.cbor_de.specs.declared.refusal.Refused.TheVariants as refused
 
@@ -114,10 +114,10 @@ pub record Leaves (s t : Input) (bs : List ℕ) (P : List ℕ → Type 0) : Type
   pub total : t.offset + length rest ≡ s.offset + length bs
   pub holds : P rest
 
--- A step from s to t, of which P holds: of the limits, the bytes before and those after.
+-- A step from s to t took some bytes, and P holds of it: of the limits, the bytes before and those
+-- after.
 pub record Step (s t : Input) (P : Limits → List ℕ → List ℕ → Type 0) : Type 0 where
-  pub room : t.room ≡ s.room
-  pub forward : s.offset ≤ t.offset
+  pub took : TookSome s t
   pub told : (bs : List ℕ) → Tells s bs → Leaves s t bs (P (limits s bs) bs)
 
 -- whether a source can report a fault of a device
@@ -128,17 +128,22 @@ Reports refusals = (fault : _) × (refusals (reading.Io fault) ≡ true)
 pub record Stops {A : Type 0} (refusals : ReadErrorCode → Bool) (read : Limits → List ℕ → Reads A) (s : Input) (e : ReadError) : Type 0 where
   pub told : (bs : List ℕ) → Tells s bs → FailsBy (Reports refusals) (error_code (why e)) (s.offset + length bs) (place e) (read (limits s bs) bs)
 
--- A step was refused, and what the deserializer keeps tells the fault of a reading from s.
-abbrev pub Stopped : {A : Type 0} → (ReadErrorCode → Bool) → (Limits → List ℕ → Reads A) → Input
+-- What the deserializer keeps tells the fault of a reading from s; or memory ran out.
+abbrev pub TellsWhy : {A : Type 0} → (ReadErrorCode → Bool) → (Limits → List ℕ → Reads A) → Input
     → Option ReadError → Refused → Type 0
-Stopped refusals read s kept refused.OutOfMemory = ⊤
-Stopped refusals read s kept refused.Kept = IsSomeAnd kept (Stops refusals read s)
+TellsWhy refusals read s kept refused.OutOfMemory = ⊤
+TellsWhy refusals read s kept refused.Kept = IsSomeAnd kept (Stops refusals read s)
 
--- What was read, seen by view, and the bytes to come after it; or why not.
+-- A step from s was refused, and left t: some bytes were taken, and it is told why.
+pub record Stopped {A : Type 0} (refusals : ReadErrorCode → Bool) (read : Limits → List ℕ → Reads A) (s t : Input) (kept : Option ReadError) (r : Refused) : Type 0 where
+  pub took : TookSome s t
+  pub told : TellsWhy refusals read s kept r
+
+-- What was read, seen by view, and the bytes to come after it; or why not, and some bytes were taken.
 abbrev pub Gives : {X A : Type 0} → (ReadErrorCode → Bool) → (X → A) → (Limits → List ℕ → Reads A)
     → Input → Input → Option ReadError → Result X Refused → Type 0
 Gives refusals view read s t kept (Ok x) = Step s t (λ l bs rest. read l bs ≡ Ok (view x, rest))
-Gives refusals view read s t kept (Err r) = Stopped refusals read s kept r
+Gives refusals view read s t kept (Err r) = Stopped refusals read s t kept r
 
 -- a refusal by this code, at this offset
 abbrev pub IsAt : ReadErrorCode → ℕ → ReadError → Type 0

@@ -98,7 +98,7 @@ abbrev pub HeadGives : (ReadErrorCode → Bool) → (List ℕ → Reads (HeadWid
     → Option ReadError → Result Head Refused → Type 0
 HeadGives refusals read s t kept (Ok h) =
     Step s t (λ l bs rest. (w : HeadWidth) × (read bs ≡ Ok ((w, h), rest)))
-HeadGives refusals read s t kept (Err r) = Stopped refusals (λ l. read) s kept r
+HeadGives refusals read s t kept (Err r) = Stopped refusals (λ l. read) s t kept r
 
 -- the head that says a number in this way was read; or none was, and nothing was taken; or why not
 abbrev pub NumberGives : (ℕ → Head) → (ReadErrorCode → Bool) → Input → Input → Option ReadError

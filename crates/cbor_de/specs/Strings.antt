@@ -34,7 +34,7 @@ abbrev pub ChunkGives : (ReadErrorCode → Bool) → (Limits → ℕ → List �
     → Input → Option ReadError → Result (Unit {0}) Refused → Type 0
 ChunkGives refusals read s t kept (Ok u) = ChunkStep read s t
 ChunkGives refusals read s t kept (Err r) =
-    Stopped refusals (λ l. read l (length s.buffer)) s kept r
+    Stopped refusals (λ l. read l (length s.buffer)) s t kept r
 
 -- ---- texts of which nothing is kept
 

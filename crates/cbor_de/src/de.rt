@@ -157,7 +157,6 @@ impl<R: Source> Deserializer<R> {
 
     /// Takes one byte.
     #[inline(always)]
-    #[tactic(auto, using(crate::proofs::Calls::hand_step))]
     pub fn byte(&mut self) -> Done<u8>
         ensures read { Gives R.refusals (λ b. b) (λ l. byte_at)
             (R.source self.old.source) (R.source self.new.source) self.new.refusal result }

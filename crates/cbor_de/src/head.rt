@@ -55,7 +55,6 @@ impl<R: Source> Deserializer<R> {
     /// Takes the head of a text of up to 23 bytes, which most names are, and returns how many. None
     /// where another head comes, or no byte is available; then nothing is taken.
     #[inline(always)]
-    #[tactic(auto, using(crate::proofs::ShortTexts::short_text_step))]
     pub fn short_text(&mut self) -> Option<u64>
         ensures read { MatchOption result (R.source self.new.source ≡ R.source self.old.source)
             (λ n. HeadGives R.refusals opening_at (R.source self.old.source)

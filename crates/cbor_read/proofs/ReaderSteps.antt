@@ -87,7 +87,7 @@ stays_end s e = told_end s.to_come e
 
 -- ---- what was taken, and then more
 
-kept_some : (s t : Input) (p : List ℕ) → TookKept s t p → TookSome s t
+pub kept_some : (s t : Input) (p : List ℕ) → TookKept s t p → TookSome s t
 kept_some s t p h = record { some = p; bytes = h.bytes; count = h.count; room = h.room }
 
 buffered_some : (s t : Input) (n : ℕ) → Buffered s t n → TookSome s t
@@ -99,7 +99,7 @@ buffered_some s t n h =
       room = h.room;
     }
 
-some_then : (s t u : Input) → TookSome s t → TookSome t u → TookSome s u
+pub some_then : (s t u : Input) → TookSome s t → TookSome t u → TookSome s u
 some_then s t u h w = record {
   some = h.some ++ w.some;
   bytes = Consumes-trans s.to_come t.to_come u.to_come h.some w.some h.bytes w.bytes;

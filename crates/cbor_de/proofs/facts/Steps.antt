@@ -1,9 +1,14 @@
 -- Published: one step of reading after another.
 
+-- some bytes were taken, or none, and then more
+pub use Rattle.cbor_read.proofs.facts.Sources.{kept_some, some_then}
+pub use Rattle.cbor_de.proofs.Steps.{took_none, took_stays}
 -- steps
 pub use Rattle.cbor_de.proofs.Steps.{step_same, step_map, step_then}
 -- what stops a part stops the whole
 pub use Rattle.cbor_de.proofs.Steps.{stopped_then, stopped_map, stopped_at}
+-- so does want of memory
+pub use Rattle.cbor_de.proofs.Steps.{memory_stops}
 -- a fault before the bytes to come
 pub use Rattle.cbor_de.proofs.Calls.{fault_stops}
 -- what is kept, where it tells a fault

@@ -11,6 +11,7 @@ use Rattle.cbor_model.specs.FiniteMap.{put_all}
 use Rattle.cbor_model.specs.Value.{put}
 use Rattle.cbor_model.specs.Reader.{Reads, text_at, text_chunks_at, byte_at, bytes_at, string_at, string_chunks_at, chunks_at, exceeds_most, array_at, map_at, tag_at, parts_at, items_of, pairs_of, after_first, item_at, inside}
 use Rattle.cbor_read.specs.Source.{Input}
+use Rattle.cbor_read.proofs.facts.Sources.{some_then}
 use Rattle.cbor_io.specs.declared.read_error.ReadErrorCode.TheVariants.{RecursionLimitExceeded, WrongStructFormat}
 use Rattle.cbor_value.specs.View.{view, views, map_view, pair_views}
 use Rattle.cbor_value.proofs.facts.Views.{put_all-push, view_text, view_bytes, view_array, view_map, view_tag}
@@ -19,7 +20,7 @@ use Rattle.cbor_de.specs.Deserializer.{formats_of}
 use Rattle.cbor_de.specs.Gives.{Limits, values, Step, Stopped, Gives}
 use Rattle.cbor_de.specs.Heads.{after_head, head_at, remaining_of, made_of, joined_of, first_at, first_of_next}
 use Rattle.cbor_de.specs.Strings.{text_view}
-use Rattle.cbor_de.proofs.Steps.{subst_both, gives_seen, step_same, step_map, step_then, stopped_map, stopped_then, gives_then}
+use Rattle.cbor_de.proofs.Steps.{subst_both, gives_seen, step_same, step_map, step_then, stopped_map, stopped_then, memory_stops, gives_then}
 use Rattle.cbor_de.proofs.Calls.{fault_stops, first_stops}
 use Rattle.cbor_de.proofs.Heads.{value_after, value_stops_at}
 use Rattle.cbor_de.proofs.Items.{SoFar, items_begin, ItemBegun, item_begins, goes_on, faulted, cut, is_done}
@@ -36,7 +37,7 @@ array-returns-in_err-enter-clause-read g t c =
     let f = formats_of c.args.self.now.formats in
     let passed = err_from_is_err_and c.from_residual.result c.from_residual.ensures.1 in
     let e = c.in_err-enter.ensures in
-    rw (passed.1, passed.2) (fault_stops g.R.Source.refusals (g.R.Source.source c.args.self.now.source) (λ l. array_at (values f l) (inside (values f l) c.args.self.now.levels) indefinite (remaining_of c.args.remaining)) _ _ RecursionLimitExceeded too_deep (λ at end r h. h)
+    rw (passed.1, passed.2, e.source) (fault_stops g.R.Source.refusals (g.R.Source.source c.args.self.now.source) (λ l. array_at (values f l) (inside (values f l) c.args.self.now.levels) indefinite (remaining_of c.args.remaining)) _ _ RecursionLimitExceeded too_deep (λ at end r h. h)
     (λ l bs. array_too_deep f l c.args.self.now.levels (remaining_of c.args.remaining) bs e.none.0) e.refused e.kept)
 
 -- ---- map
@@ -46,7 +47,7 @@ map-returns-in_err-enter-clause-read g t c =
     let f = formats_of c.args.self.now.formats in
     let passed = err_from_is_err_and c.from_residual.result c.from_residual.ensures.1 in
     let e = c.in_err-enter.ensures in
-    rw (passed.1, passed.2) (fault_stops g.R.Source.refusals (g.R.Source.source c.args.self.now.source) (λ l. map_at (values f l) (inside (values f l) c.args.self.now.levels) indefinite (remaining_of c.args.remaining)) _ _ RecursionLimitExceeded too_deep (λ at end r h. h)
+    rw (passed.1, passed.2, e.source) (fault_stops g.R.Source.refusals (g.R.Source.source c.args.self.now.source) (λ l. map_at (values f l) (inside (values f l) c.args.self.now.levels) indefinite (remaining_of c.args.remaining)) _ _ RecursionLimitExceeded too_deep (λ at end r h. h)
     (λ l bs. map_too_deep f l c.args.self.now.levels (remaining_of c.args.remaining) bs e.none.0) e.refused e.kept)
 
 -- ---- tagged
@@ -56,7 +57,7 @@ tagged-returns-in_err-enter-clause-read g t c =
     let f = formats_of c.args.self.now.formats in
     let passed = err_from_is_err_and c.from_residual.result c.from_residual.ensures.1 in
     let e = c.in_err-enter.ensures in
-    rw (passed.1, passed.2) (fault_stops g.R.Source.refusals (g.R.Source.source c.args.self.now.source) (λ l. tag_at (values f l) (inside (values f l) c.args.self.now.levels) no_bytes c.args.tag) _ _ RecursionLimitExceeded too_deep (λ at end r h. h)
+    rw (passed.1, passed.2, e.source) (fault_stops g.R.Source.refusals (g.R.Source.source c.args.self.now.source) (λ l. tag_at (values f l) (inside (values f l) c.args.self.now.levels) no_bytes c.args.tag) _ _ RecursionLimitExceeded too_deep (λ at end r h. h)
     (λ l bs. tag_too_deep f l c.args.self.now.levels c.args.tag bs e.none.0) e.refused e.kept)
 
 pub array-returns-clause-read : goal.array-returns-clause-read
@@ -147,7 +148,7 @@ items-returns-in_err-item-clause-read g t c =
     let first = subst (λ (o : Option ℕ). Step s t (λ l rest mid. first_at end_in_array r rest ≡ Ok (first_of_next c.next.new.remaining o, mid))) c.in-Some.is c.in_ok-first.ensures.read in
     let begun = step_then s0 s t (SoFar f levels all front r) (λ l rest mid. first_at end_in_array r rest ≡ Ok (Some (behind, b), mid)) (ItemBegun f levels all front behind b)
     (λ l bs rest mid so_far is. item_begins f levels all front r behind b l bs rest mid so_far is) c.items.invariant.so_far first in
-    let stops = subst_both (λ (f : Formats) (n : ℕ). Stopped g.R.Source.refusals (λ l. after_first (values f l) (inside (values f l) n) b) t c.value_from.new.self.refusal c.in_err-item.field-0.0) same_formats same c.in_err-item.ensures.read in
+    let stops = subst_both (λ (f : Formats) (n : ℕ). Stopped g.R.Source.refusals (λ l. after_first (values f l) (inside (values f l) n) b) t (g.R.Source.source c.value_from.new.self.source) c.value_from.new.self.refusal c.in_err-item.field-0.0) same_formats same c.in_err-item.ensures.read in
     rw (passed.1, passed.2) (stopped_then g.R.Source.refusals (λ l. after_first (values f l) (inside (values f l) levels) b) (λ l. parts_at (items_of (values f l) (item_at (values f l) levels)) all) s0 t c.value_from.new.self.refusal c.in_err-item.field-0.0 (ItemBegun f levels all front behind b)
     (λ l bs mid d h is. faulted f levels all front behind b l bs mid d h is) begun stops)
 
@@ -178,6 +179,12 @@ items-items-preserved g t c =
       levels = c.in_ok-item.ensures.levels ∙ same;
       formats = c.in_ok-item.ensures.formats ∙ c.in_ok-first.ensures.formats ∙ c.items.invariant.formats;
     }
+
+pub items-returns-in_err-push-clause-read : goal.items-returns-in_err-push-clause-read
+items-returns-in_err-push-clause-read g t c =
+    let passed = err_from_is_err_and c.from_residual-in_err-push.result c.from_residual-in_err-push.ensures.1 in
+    let begun = some_then _ _ _ c.items.invariant.so_far.took c.in_ok-first.ensures.read.took in
+    rw (passed.1, passed.2) (memory_stops _ c.in_err-push.ensures.refused (some_then _ _ _ begun c.in_ok-item.ensures.read.took))
 
 pub items-returns-clause-read : goal.items-returns-clause-read
 items-returns-clause-read g t c =
@@ -235,7 +242,7 @@ pairs-returns-in_err-key-clause-read g t c =
     let first = subst (λ (o : Option ℕ). Step s t (λ l rest mid. first_at end_in_map r rest ≡ Ok (first_of_next c.next.new.remaining o, mid))) c.in-Some.is c.in_ok-first.ensures.read in
     let begun = step_then s0 s t (PairsSoFar f levels all earlier r) (λ l rest mid. first_at end_in_map r rest ≡ Ok (Some (behind, b), mid)) (KeyBegun f levels all earlier behind b)
     (λ l bs rest mid so_far is. key_begins f levels all earlier r behind b l bs rest mid so_far is) c.pairs.invariant.so_far first in
-    let stops = subst_both (λ (f : Formats) (n : ℕ). Stopped g.R.Source.refusals (λ l. after_first (values f l) (inside (values f l) n) b) t c.value_from.new.self.refusal c.in_err-key.field-0.0) same_formats same c.in_err-key.ensures.read in
+    let stops = subst_both (λ (f : Formats) (n : ℕ). Stopped g.R.Source.refusals (λ l. after_first (values f l) (inside (values f l) n) b) t (g.R.Source.source c.value_from.new.self.source) c.value_from.new.self.refusal c.in_err-key.field-0.0) same_formats same c.in_err-key.ensures.read in
     rw (passed.1, passed.2) (stopped_then g.R.Source.refusals (λ l. after_first (values f l) (inside (values f l) levels) b) (λ l bs. made_of (parts_at (pairs_of (values f l) (item_at (values f l) levels)) all bs)) s0 t c.value_from.new.self.refusal c.in_err-key.field-0.0 (KeyBegun f levels all earlier behind b)
     (λ l bs mid d h is. key_faulted f levels all earlier behind b l bs mid d h may is) begun stops)
 
@@ -257,8 +264,8 @@ pairs-returns-then-not-may_begin_key-clause-read g t c =
     let begun = step_then s0 s t (PairsSoFar f levels all earlier r) (λ l rest mid. first_at end_in_map r rest ≡ Ok (Some (behind, b), mid)) (KeyBegun f levels all earlier behind b)
     (λ l bs rest mid so_far is. key_begins f levels all earlier r behind b l bs rest mid so_far is) c.pairs.invariant.so_far first in
     let other : may_begin_key f b ≡ false = sym (c.if-not-may_begin_key.ensures ∙ ap (λ (f : Formats). may_begin_key f b) same_formats) in
-    first_stops g.R.Source.refusals s0 t (λ l bs. made_of (parts_at (pairs_of (values f l) (item_at (values f l) levels)) all bs)) _ _ WrongStructFormat wrong_struct_format (λ at end r h. h) (KeyBegun f levels all earlier behind b)
-    (λ l bs mid h. key_refused f levels all earlier behind b l bs mid h other) begun c.refuse_back.ensures.refused c.refuse_back.ensures.kept
+    rw c.refuse_back.ensures.source (first_stops g.R.Source.refusals s0 t (λ l bs. made_of (parts_at (pairs_of (values f l) (item_at (values f l) levels)) all bs)) _ _ WrongStructFormat wrong_struct_format (λ at end r h. h) (KeyBegun f levels all earlier behind b)
+    (λ l bs mid h. key_refused f levels all earlier behind b l bs mid h other) begun c.refuse_back.ensures.refused c.refuse_back.ensures.kept)
 
 pub pairs-returns-in_err-value-clause-read : goal.pairs-returns-in_err-value-clause-read
 pairs-returns-in_err-value-clause-read g t c =
@@ -286,7 +293,7 @@ pairs-returns-in_err-value-clause-read g t c =
     (λ l bs mid after h is. key_ends f levels all earlier behind b k l bs mid after h may is) begun key in
     let same' : c.value_from.new.self.levels ≡ levels = c.in_ok-key.ensures.levels ∙ same in
     let same_formats' : formats_of c.value_from.new.self.formats ≡ f = ap formats_of c.in_ok-key.ensures.formats ∙ same_formats in
-    let stops = subst_both (λ (f : Formats) (n : ℕ). Stopped g.R.Source.refusals (λ l. item_at (values f l) n) u c.value.new.self.refusal c.in_err-value.field-0.0) same_formats' same' c.in_err-value.ensures.read in
+    let stops = subst_both (λ (f : Formats) (n : ℕ). Stopped g.R.Source.refusals (λ l. item_at (values f l) n) u (g.R.Source.source c.value.new.self.source) c.value.new.self.refusal c.in_err-value.field-0.0) same_formats' same' c.in_err-value.ensures.read in
     rw (passed.1, passed.2) (stopped_then g.R.Source.refusals (λ l. item_at (values f l) levels) (λ l bs. made_of (parts_at (pairs_of (values f l) (item_at (values f l) levels)) all bs)) s0 u c.value.new.self.refusal c.in_err-value.field-0.0 (KeyRead f levels all earlier behind k)
     (λ l bs mid d h is. value_faulted f levels all earlier behind k l bs mid d h is) read stops)
 
@@ -325,6 +332,16 @@ pairs-pairs-preserved g t c =
       levels = c.in_ok-value.ensures.levels ∙ same';
       formats = c.in_ok-value.ensures.formats ∙ c.in_ok-key.ensures.formats ∙ c.in_ok-first.ensures.formats ∙ c.pairs.invariant.formats;
     }
+
+pub pairs-returns-in_err-push-clause-read : goal.pairs-returns-in_err-push-clause-read
+pairs-returns-in_err-push-clause-read g t c =
+    let passed = err_from_is_err_and c.from_residual-in_err-push.result c.from_residual-in_err-push.ensures.1 in
+    let begun = some_then _ _ _ c.pairs.invariant.so_far.took c.in_ok-first.ensures.read.took in
+    let key = some_then _ _ _ begun c.in_ok-key.ensures.read.took in
+    rw (passed.1, passed.2) (memory_stops _ c.in_err-push.ensures.refused (some_then _ _ _ key c.in_ok-value.ensures.read.took))
+
+pub pairs-returns-clause-read : goal.pairs-returns-clause-read
+pairs-returns-clause-read g t c = memory_stops _ refl (some_then _ _ _ c.pairs.invariant.so_far.took c.in_ok-first.ensures.read.took)
 
 pub pairs-returns-in-Ok-clause-read : goal.pairs-returns-in-Ok-clause-read
 pairs-returns-in-Ok-clause-read g t c =

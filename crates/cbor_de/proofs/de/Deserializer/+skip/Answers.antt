@@ -69,7 +69,7 @@ skip_array-returns-in_err-enter-clause-read g t c =
     let r = remaining_of c.args.remaining in
     let is_err = err_from_is_err_and c.from_residual.result c.from_residual.ensures.1 in
     let e = c.in_err-enter.ensures in
-    rw (is_err.1, is_err.2) (fault_stops g.R.Source.refusals (g.R.Source.source c.args.self.now.source) (λ l bs. passed (array_at (values f l) (inside (values f l) levels) indefinite r bs)) _ _ RecursionLimitExceeded too_deep (λ at end r h. h)
+    rw (is_err.1, is_err.2, e.source) (fault_stops g.R.Source.refusals (g.R.Source.source c.args.self.now.source) (λ l bs. passed (array_at (values f l) (inside (values f l) levels) indefinite r bs)) _ _ RecursionLimitExceeded too_deep (λ at end r h. h)
     (λ l bs. ap (λ r. passed r) (array_too_deep f l levels r bs e.none.0)) e.refused e.kept)
 
 pub skip_map-returns-in_err-enter-clause-read : goal.skip_map-returns-in_err-enter-clause-read
@@ -79,7 +79,7 @@ skip_map-returns-in_err-enter-clause-read g t c =
     let r = remaining_of c.args.remaining in
     let is_err = err_from_is_err_and c.from_residual.result c.from_residual.ensures.1 in
     let e = c.in_err-enter.ensures in
-    rw (is_err.1, is_err.2) (fault_stops g.R.Source.refusals (g.R.Source.source c.args.self.now.source) (λ l bs. passed (map_at (values f l) (inside (values f l) levels) indefinite r bs)) _ _ RecursionLimitExceeded too_deep (λ at end r h. h)
+    rw (is_err.1, is_err.2, e.source) (fault_stops g.R.Source.refusals (g.R.Source.source c.args.self.now.source) (λ l bs. passed (map_at (values f l) (inside (values f l) levels) indefinite r bs)) _ _ RecursionLimitExceeded too_deep (λ at end r h. h)
     (λ l bs. ap (λ r. passed r) (map_too_deep f l levels r bs e.none.0)) e.refused e.kept)
 
 pub skip_tagged-returns-in_err-enter-clause-read : goal.skip_tagged-returns-in_err-enter-clause-read
@@ -88,7 +88,7 @@ skip_tagged-returns-in_err-enter-clause-read g t c =
     let levels = c.args.self.now.levels in
     let is_err = err_from_is_err_and c.from_residual.result c.from_residual.ensures.1 in
     let e = c.in_err-enter.ensures in
-    rw (is_err.1, is_err.2) (fault_stops g.R.Source.refusals (g.R.Source.source c.args.self.now.source) (λ l bs. passed (tag_at (values f l) (inside (values f l) levels) no_bytes c.args.tag bs)) _ _ RecursionLimitExceeded too_deep (λ at end r h. h)
+    rw (is_err.1, is_err.2, e.source) (fault_stops g.R.Source.refusals (g.R.Source.source c.args.self.now.source) (λ l bs. passed (tag_at (values f l) (inside (values f l) levels) no_bytes c.args.tag bs)) _ _ RecursionLimitExceeded too_deep (λ at end r h. h)
     (λ l bs. ap (λ r. passed r) (tag_too_deep f l levels c.args.tag bs e.none.0)) e.refused e.kept)
 
 pub skip_array-returns-clause-read : goal.skip_array-returns-clause-read
@@ -169,7 +169,7 @@ skip_items-returns-in_err-skip_from-clause-read g t c =
     let first = subst (λ (o : Option ℕ). Step s t (λ l rest mid. first_at end_in_array r rest ≡ Ok (first_of_next c.next.new.remaining o, mid))) c.in-Some.is c.in_ok-first.ensures.read in
     let begun = step_then s0 s t (ItemsSoFar f levels all r) (λ l rest mid. first_at end_in_array r rest ≡ Ok (Some (behind, b), mid)) (PartBegun (items f levels all) all behind b)
     (λ l bs rest mid so_far is. part_begins (items f levels all) all r behind b l bs rest mid so_far is) c.items.invariant.so_far first in
-    let stops = subst_both (λ (f : Formats) (n : ℕ). Stopped g.R.Source.refusals (λ l bs. passed (after_first (values f l) (inside (values f l) n) b bs)) t c.skip_from.new.self.refusal c.in_err-skip_from.field-0.0) same_formats same c.in_err-skip_from.ensures.read in
+    let stops = subst_both (λ (f : Formats) (n : ℕ). Stopped g.R.Source.refusals (λ l bs. passed (after_first (values f l) (inside (values f l) n) b bs)) t (g.R.Source.source c.skip_from.new.self.source) c.skip_from.new.self.refusal c.in_err-skip_from.field-0.0) same_formats same c.in_err-skip_from.ensures.read in
     rw (is_err.1, is_err.2) (stopped_then g.R.Source.refusals (λ l bs. passed (after_first (values f l) (inside (values f l) levels) b bs)) (λ l bs. passed (parts_at (items f levels all l) all bs)) s0 t c.skip_from.new.self.refusal c.in_err-skip_from.field-0.0 (PartBegun (items f levels all) all behind b)
     (λ l bs mid d h is. item_stops f levels all behind b l bs mid d h is) begun stops)
 
@@ -253,8 +253,8 @@ skip_pairs-returns-then-not-may_begin_key-clause-read g t c =
     let begun = step_then s0 s t (PairsSoFar f levels all r) (λ l rest mid. first_at end_in_map r rest ≡ Ok (Some (behind, b), mid)) (PartBegun (pairs f levels all) all behind b)
     (λ l bs rest mid so_far is. part_begins (pairs f levels all) all r behind b l bs rest mid so_far is) c.pairs.invariant.so_far first in
     let other : may_begin_key f b ≡ false = sym (c.if-not-may_begin_key.ensures ∙ ap (λ (f : Formats). may_begin_key f b) same_formats) in
-    first_stops g.R.Source.refusals s0 t (λ l bs. passed (parts_at (pairs f levels all l) all bs)) _ _ WrongStructFormat wrong_struct_format (λ at end r h. h) (PartBegun (pairs f levels all) all behind b)
-    (λ l bs mid h. key_refused f levels all behind b l bs mid h other) begun c.refuse_back.ensures.refused c.refuse_back.ensures.kept
+    rw c.refuse_back.ensures.source (first_stops g.R.Source.refusals s0 t (λ l bs. passed (parts_at (pairs f levels all l) all bs)) _ _ WrongStructFormat wrong_struct_format (λ at end r h. h) (PartBegun (pairs f levels all) all behind b)
+    (λ l bs mid h. key_refused f levels all behind b l bs mid h other) begun c.refuse_back.ensures.refused c.refuse_back.ensures.kept)
 
 pub skip_pairs-returns-in_err-skip_from-clause-read : goal.skip_pairs-returns-in_err-skip_from-clause-read
 skip_pairs-returns-in_err-skip_from-clause-read g t c =
@@ -274,7 +274,7 @@ skip_pairs-returns-in_err-skip_from-clause-read g t c =
     let begun = step_then s0 s t (PairsSoFar f levels all r) (λ l rest mid. first_at end_in_map r rest ≡ Ok (Some (behind, b), mid)) (PartBegun (pairs f levels all) all behind b)
     (λ l bs rest mid so_far is. part_begins (pairs f levels all) all r behind b l bs rest mid so_far is) c.pairs.invariant.so_far first in
     let may : may_begin_key f b ≡ true = sym (c.if-not-may_begin_key.ensures ∙ ap (λ (f : Formats). may_begin_key f b) same_formats) in
-    let stops = subst_both (λ (f : Formats) (n : ℕ). Stopped g.R.Source.refusals (λ l bs. passed (after_first (values f l) (inside (values f l) n) b bs)) t c.skip_from.new.self.refusal c.in_err-skip_from.field-0.0) same_formats same c.in_err-skip_from.ensures.read in
+    let stops = subst_both (λ (f : Formats) (n : ℕ). Stopped g.R.Source.refusals (λ l bs. passed (after_first (values f l) (inside (values f l) n) b bs)) t (g.R.Source.source c.skip_from.new.self.source) c.skip_from.new.self.refusal c.in_err-skip_from.field-0.0) same_formats same c.in_err-skip_from.ensures.read in
     rw (is_err.1, is_err.2) (stopped_then g.R.Source.refusals (λ l bs. passed (after_first (values f l) (inside (values f l) levels) b bs)) (λ l bs. passed (parts_at (pairs f levels all l) all bs)) s0 t c.skip_from.new.self.refusal c.in_err-skip_from.field-0.0 (PartBegun (pairs f levels all) all behind b)
     (λ l bs mid d h is. key_stops f levels all behind b l bs mid d h may is) begun stops)
 
@@ -302,7 +302,7 @@ skip_pairs-returns-in_err-skip-clause-read g t c =
     (λ l bs mid after h is. key_passed f levels all behind b l bs mid after h may is) begun key in
     let same' : c.skip_from.new.self.levels ≡ levels = c.in_ok-skip_from.ensures.levels ∙ same in
     let same_formats' : formats_of c.skip_from.new.self.formats ≡ f = ap formats_of c.in_ok-skip_from.ensures.formats ∙ same_formats in
-    let stops = subst_both (λ (f : Formats) (n : ℕ). Stopped g.R.Source.refusals (λ l bs. passed (item_at (values f l) n bs)) u c.skip.new.self.refusal c.in_err-skip.field-0.0) same_formats' same' c.in_err-skip.ensures.read in
+    let stops = subst_both (λ (f : Formats) (n : ℕ). Stopped g.R.Source.refusals (λ l bs. passed (item_at (values f l) n bs)) u (g.R.Source.source c.skip.new.self.source) c.skip.new.self.refusal c.in_err-skip.field-0.0) same_formats' same' c.in_err-skip.ensures.read in
     rw (is_err.1, is_err.2) (stopped_then g.R.Source.refusals (λ l bs. passed (item_at (values f l) levels bs)) (λ l bs. passed (parts_at (pairs f levels all l) all bs)) s0 u c.skip.new.self.refusal c.in_err-skip.field-0.0 (KeyPassed f levels all behind)
     (λ l bs mid d h is. skipped.value_stops f levels all behind l bs mid d h is) read stops)
 

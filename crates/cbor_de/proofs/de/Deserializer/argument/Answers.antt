@@ -73,5 +73,5 @@ returns-in_default-clause-read g c =
     let d : (c.args.low ≡ 25 → ⊥) = search rules in
     let e : (c.args.low ≡ 26 → ⊥) = search rules in
     let f : (c.args.low ≡ 27 → ⊥) = search rules in
-    fault_stops g.R.Source.refusals (g.R.Source.source c.args.self.now.source) (λ l. number_behind c.args.low) _ _ UnassignedCode unassigned_code (λ at end r h. h)
-    (λ l bs. none_left c.args.low bs a b d e f) c.refuse.ensures.refused c.refuse.ensures.kept
+    rw c.refuse.ensures.source (fault_stops g.R.Source.refusals (g.R.Source.source c.args.self.now.source) (λ l. number_behind c.args.low) _ _ UnassignedCode unassigned_code (λ at end r h. h)
+    (λ l bs. none_left c.args.low bs a b d e f) c.refuse.ensures.refused c.refuse.ensures.kept)

@@ -13,8 +13,8 @@ returns-in-Ok-Some-clause-read g c =
 pub returns-in-Ok-None-clause-read : goal.returns-in-Ok-None-clause-read
 unfolding byte_at
 returns-in-Ok-None-clause-read g c =
-    end_stops g.R.Source.refusals _ _ _ (λ l. byte_at) _ _ EofWhileParsingValue end_in_value (λ at end r h. h) (λ l. refl) c.refuse.ensures.refused c.refuse.ensures.kept c.in-Ok-None.field-0-is c.in-Ok-None.ensures.does
+    rw c.refuse.ensures.source (end_stops g.R.Source.refusals _ _ _ (λ l. byte_at) _ _ EofWhileParsingValue end_in_value (λ at end r h. h) (λ l. refl) c.refuse.ensures.refused c.refuse.ensures.kept c.in-Ok-None.field-0-is c.in-Ok-None.ensures.does)
 
 pub returns-in-Err-clause-read : goal.returns-in-Err-clause-read
 returns-in-Err-clause-read g c =
-    next_stops g.R.Source.refusals _ _ (λ l. byte_at) _ _ c.in-Err.refusal c.keep.ensures.refused c.keep.ensures.kept c.in-Err.ensures.does
+    rw c.keep.ensures.source (next_stops g.R.Source.refusals _ _ (λ l. byte_at) _ _ c.in-Err.refusal c.keep.ensures.refused c.keep.ensures.kept c.in-Err.ensures.does)

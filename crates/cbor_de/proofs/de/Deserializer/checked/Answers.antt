@@ -15,7 +15,7 @@ use Rattle.cbor_io.specs.declared.read_error.ReadErrorCode.TheVariants.{InvalidU
 use Rattle.cbor_io.specs.declared.read_error.ReadErrorCode.{ReadErrorCode}
 use Rattle.cbor_de.specs.Gives.{FailsBy, Limits, limits, values, Reports, Stops}
 use Rattle.cbor_de.proofs.Calls.{kept_stops}
-use Rattle.cbor_de.proofs.Steps.{step_same}
+use Rattle.cbor_de.proofs.Steps.{took_none, step_same}
 use Rattle.cbor_de.proofs.de.Deserializer.checked.Goals as goal
 
 -- a text that is UTF-8
@@ -62,4 +62,4 @@ returns-in-Err-clause-read g c =
           let at : place e + left ≡ s.offset + length bs = omega (arith, h.1, long, valid, utf8_valid_len_le b) in
           subst (λ (k : ReadErrorCode). FailsBy (Reports g.R.Source.refusals) (error_code k) (s.offset + length bs) (place e) r) (sym h.0) (left, at, not_utf8 (limits s bs) b bs bad);
     } in
-    kept_stops g.R.Source.refusals s read _ _ P stops c.refuse_back.ensures.refused c.refuse_back.ensures.kept
+    rw c.refuse_back.ensures.source (kept_stops g.R.Source.refusals s read _ _ P stops (took_none s) c.refuse_back.ensures.refused c.refuse_back.ensures.kept)

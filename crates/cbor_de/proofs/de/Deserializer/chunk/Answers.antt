@@ -7,6 +7,7 @@ use Rattle.cbor_io.specs.declared.head.Major.{Major}
 use Rattle.cbor_io.specs.declared.head.Major.TheVariants.{UnsignedInteger, NegativeInteger, ByteString, TextString, Array, Map, Tag, Simple}
 use Rattle.cbor_io.specs.declared.read_error.ReadErrorCode.TheVariants.{UnexpectedCode}
 use Rattle.cbor_de.specs.Gives.{Limits}
+use Rattle.cbor_read.proofs.facts.Sources.{some_then}
 use Rattle.cbor_de.proofs.Steps.{stopped_map}
 use Rattle.cbor_de.proofs.Calls.{fault_stops, source_stops}
 use Rattle.cbor_de.proofs.Chunk.{no_chunk, chunk_number, chunk_joined, chunk_refused}
@@ -36,7 +37,7 @@ returns-then-ne-clause-read g c =
           λ l bs. no_chunk (joins l) major first bs (λ is chunk. other (major_is c.of.result c.args.major (c.of.ensures ∙ is)))
       | then-ne-via-else-ne+then-low-ge28 w ↦ λ l bs. no_chunk (joins l) major first bs (λ is chunk. absurd (omega (arith, chunk, w.if-low-ge28.true)))
     ] in
-    fault_stops g.R.Source.refusals s (λ l. chunk_at (joins l) major first) _ _ UnexpectedCode unexpected_code (λ at end r h. h) stops c.refuse.ensures.refused c.refuse.ensures.kept
+    rw c.refuse.ensures.source (fault_stops g.R.Source.refusals s (λ l. chunk_at (joins l) major first) _ _ UnexpectedCode unexpected_code (λ at end r h. h) stops c.refuse.ensures.refused c.refuse.ensures.kept)
 
 pub returns-in_err-n-clause-read : goal.returns-in_err-n-clause-read
 returns-in_err-n-clause-read g c =
@@ -58,4 +59,4 @@ returns-in-Err-clause-read g c =
     let same : c.of.result ≡ c.args.major = search rules in
     let major : c.args.first / 32 ≡ major_number c.args.major = sym c.of.ensures ∙ ap major_number same in
     let stops = chunk_refused g.R.Source.refusals (major_number c.args.major) c.args.first c.in_ok-n.n _ _ _ major (omega (arith, c.if-low-ge28.false)) c.in_ok-n.ensures.buffer c.in_ok-n.ensures.read c.in-Err.refusal c.in-Err.ensures.err in
-    source_stops g.R.Source.refusals _ _ _ _ c.in-Err.refusal c.keep.ensures.refused c.keep.ensures.kept stops
+    rw c.keep.ensures.source (source_stops g.R.Source.refusals _ _ _ _ c.in-Err.refusal c.keep.ensures.refused c.keep.ensures.kept (some_then _ _ _ c.in_ok-n.ensures.read.took c.in-Err.ensures.err.refused.moved) stops)

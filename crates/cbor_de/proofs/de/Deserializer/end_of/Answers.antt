@@ -8,4 +8,4 @@ returns-in-Counted-eq0-clause-read g c =
 
 pub returns-in-Counted-clause-read : goal.returns-in-Counted-clause-read
 returns-in-Counted-clause-read g c =
-    count_stops g.R.Source.refusals (g.R.Source.source c.args.self.now.source) (end_of c.args.of) c.args.remaining c.in-Counted.field-0 _ _ c.in-Counted.is (λ none. c.in-Counted.field-0-test.1 (search (none, c.in-Counted.field-0-is))) c.refuse.ensures.refused c.refuse.ensures.kept
+    rw c.refuse.ensures.source (count_stops g.R.Source.refusals (g.R.Source.source c.args.self.now.source) (end_of c.args.of) c.args.remaining c.in-Counted.field-0 _ _ c.in-Counted.is (λ none. c.in-Counted.field-0-test.1 (search (none, c.in-Counted.field-0-is))) c.refuse.ensures.refused c.refuse.ensures.kept)

@@ -12,7 +12,7 @@ returns-in-Ok-None-clause-read g c =
 
 pub returns-in-Err-clause-read : goal.returns-in-Err-clause-read
 returns-in-Err-clause-read g c =
-    next_stops g.R.Source.refusals _ _ (λ l. end_at) _ _ c.in-Err.refusal c.keep.ensures.refused c.keep.ensures.kept c.in-Err.ensures.does
+    rw c.keep.ensures.source (next_stops g.R.Source.refusals _ _ (λ l. end_at) _ _ c.in-Err.refusal c.keep.ensures.refused c.keep.ensures.kept c.in-Err.ensures.does)
 
 pub returns-in-Ok-Some-clause-takes : goal.returns-in-Ok-Some-clause-takes
 returns-in-Ok-Some-clause-takes g c =

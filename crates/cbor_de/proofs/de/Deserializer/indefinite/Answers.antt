@@ -48,4 +48,4 @@ pub returns-in_default-clause-read : goal.returns-in_default-clause-read
 returns-in_default-clause-read g c =
     let d = c.in_default in
     let stops = fault_stops g.R.Source.refusals (g.R.Source.source c.args.self.now.source) (λ l. head_of (major_of (major_number c.args.major)) 31) _ _ UnassignedCode unassigned_code (λ at end r h. h) in
-    stops (λ l bs. none_left c.args.major d.not-ByteString d.not-TextString d.not-Array d.not-Map d.not-Simple bs) c.refuse.ensures.refused c.refuse.ensures.kept
+    rw c.refuse.ensures.source (stops (λ l bs. none_left c.args.major d.not-ByteString d.not-TextString d.not-Array d.not-Map d.not-Simple bs) c.refuse.ensures.refused c.refuse.ensures.kept)

@@ -15,4 +15,4 @@ returns-in-Ok-Some-clause-read g c =
 pub returns-in-Ok-None-clause-read : goal.returns-in-Ok-None-clause-read
 returns-in-Ok-None-clause-read g c =
     let h = c.in-Ok-None in
-    no_part g.R.Source.refusals _ _ h.field-0 c.args.of c.end.result _ _ c.end.ensures c.refuse.ensures.refused c.refuse.ensures.kept h.field-0-is h.ensures.stays h.ensures.front
+    rw c.refuse.ensures.source (no_part g.R.Source.refusals _ _ h.field-0 c.args.of c.end.result _ _ c.end.ensures c.refuse.ensures.refused c.refuse.ensures.kept h.field-0-is h.ensures.stays h.ensures.front)

@@ -14,8 +14,8 @@ returns-in-Ok-Some-clause-read g c =
 
 pub returns-in-Ok-None-clause-read : goal.returns-in-Ok-None-clause-read
 returns-in-Ok-None-clause-read g c =
-    no_break g.R.Source.refusals _ _ _ c.args.of (end_of c.args.of) c.end.result _ _ c.end.ensures refl c.refuse.ensures.refused c.refuse.ensures.kept c.in-Ok-None.field-0-is c.in-Ok-None.ensures.does
+    rw c.refuse.ensures.source (no_break g.R.Source.refusals _ _ _ c.args.of (end_of c.args.of) c.end.result _ _ c.end.ensures refl c.refuse.ensures.refused c.refuse.ensures.kept c.in-Ok-None.field-0-is c.in-Ok-None.ensures.does)
 
 pub returns-in-Err-clause-read : goal.returns-in-Err-clause-read
 returns-in-Err-clause-read g c =
-    next_stops g.R.Source.refusals _ _ (λ l. first_at (end_of c.args.of) to_break) _ _ c.in-Err.refusal c.keep.ensures.refused c.keep.ensures.kept c.in-Err.ensures.does
+    rw c.keep.ensures.source (next_stops g.R.Source.refusals _ _ (λ l. first_at (end_of c.args.of) to_break) _ _ c.in-Err.refusal c.keep.ensures.refused c.keep.ensures.kept c.in-Err.ensures.does)

@@ -85,5 +85,5 @@ returns-in_default-clause-read g c =
     let h : (low ≡ 26 → ⊥) = search rules in
     let i : (low ≡ 27 → ⊥) = search rules in
     let j : (low ≡ 31 → ⊥) = search rules in
-    fault_stops g.R.Source.refusals (g.R.Source.source c.args.self.now.source) (λ l. simple_head low) _ _ UnassignedCode unassigned_code (λ at end r h. h)
-    (λ l bs. none_left low bs a b d e f h i j) c.refuse.ensures.refused c.refuse.ensures.kept
+    rw c.refuse.ensures.source (fault_stops g.R.Source.refusals (g.R.Source.source c.args.self.now.source) (λ l. simple_head low) _ _ UnassignedCode unassigned_code (λ at end r h. h)
+    (λ l bs. none_left low bs a b d e f h i j) c.refuse.ensures.refused c.refuse.ensures.kept)

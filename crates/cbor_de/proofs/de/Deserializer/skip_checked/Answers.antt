@@ -8,7 +8,7 @@ use Rattle.cbor_de.specs.Gives.{FailsBy, Limits, Reports, Stops}
 use Rattle.cbor_de.specs.Strings.{checked_by}
 use Rattle.cbor_de.proofs.Calls.{kept_stops}
 use Rattle.cbor_de.proofs.SkippedStrings.{checked_bad}
-use Rattle.cbor_de.proofs.Steps.{step_same}
+use Rattle.cbor_de.proofs.Steps.{took_none, step_same}
 use Rattle.cbor_de.proofs.de.Deserializer.skip_checked.Goals as goal
 
 pub returns-then-bad-eq0-clause-read : goal.returns-then-bad-eq0-clause-read
@@ -26,4 +26,4 @@ returns-clause-read g c =
           let at : place e + left ≡ s.offset + length bs = omega (arith, h.1) in
           subst (λ (k : ReadErrorCode). FailsBy (Reports g.R.Source.refusals) (error_code k) (s.offset + length bs) (place e) (checked_by bad bs)) (sym h.0) (left, at, checked_bad bad bs c.if-bad-eq0.false);
     } in
-    kept_stops g.R.Source.refusals s read _ _ P stops c.refuse_back.ensures.refused c.refuse_back.ensures.kept
+    rw c.refuse_back.ensures.source (kept_stops g.R.Source.refusals s read _ _ P stops (took_none s) c.refuse_back.ensures.refused c.refuse_back.ensures.kept)

@@ -12,7 +12,7 @@ use Rattle.cbor_de.specs.Heads.{passed}
 use Rattle.cbor_de.specs.Strings.{bad_of, checked_by}
 use Rattle.cbor_de.proofs.Calls.{kept_stops}
 use Rattle.cbor_de.proofs.SkippedStrings.{text_skipped, text_cut, text_too_long}
-use Rattle.cbor_de.proofs.Steps.{stopped_at, gives_at}
+use Rattle.cbor_de.proofs.Steps.{took_none, stopped_at, gives_at}
 use Rattle.cbor_de.proofs.de.Deserializer.skip_text.Goals as goal
 
 pub returns-then-not-has_room-clause-read : goal.returns-then-not-has_room-clause-read
@@ -25,7 +25,7 @@ returns-then-not-has_room-clause-read g c =
           let here : place e + length bs ≡ s.offset + length bs = omega (arith, at.1) in
           subst (λ (k : ReadErrorCode). FailsBy (Reports g.R.Source.refusals) (error_code k) (s.offset + length bs) (place e) r) (sym at.0) (length bs, here, text_too_long s c.args.n bs (sym c.if-not-has_room.ensures));
     } in
-    kept_stops g.R.Source.refusals s read _ _ (IsAt LengthOutOfRange s.offset) stops c.refuse.ensures.refused c.refuse.ensures.kept
+    rw c.refuse.ensures.source (kept_stops g.R.Source.refusals s read _ _ (IsAt LengthOutOfRange s.offset) stops (took_none s) c.refuse.ensures.refused c.refuse.ensures.kept)
 
 pub returns-in_err-bad-clause-read : goal.returns-in_err-bad-clause-read
 returns-in_err-bad-clause-read g c =

@@ -12,7 +12,7 @@ use Rattle.cbor_io.specs.declared.read_error.ReadError.{ReadError}
 use Rattle.cbor_io.specs.declared.read_error.ReadErrorCode.TheVariants.{LengthOutOfRange}
 use Rattle.cbor_de.specs.Gives.{FailsBy, Limits, limits, values, Reports, Stops, IsAt}
 use Rattle.cbor_de.proofs.Calls.{kept_stops}
-use Rattle.cbor_de.proofs.Steps.{stopped_at, gives_at}
+use Rattle.cbor_de.proofs.Steps.{took_none, stopped_at, gives_at}
 use Rattle.cbor_de.proofs.Texts.{no_room, has_room, text_stop}
 use Rattle.cbor_de.proofs.de.Deserializer.text.Goals as goal
 
@@ -26,7 +26,7 @@ returns-then-not-has_room-clause-read g c =
           let here : place e + length bs ≡ s.offset + length bs = omega (arith, at.1) in
           subst (λ (k : ReadErrorCode). FailsBy (Reports g.R.Source.refusals) (error_code k) (s.offset + length bs) (place e) r) (sym at.0) (length bs, here, no_room s bs c.args.n (sym c.if-not-has_room.ensures));
     } in
-    kept_stops g.R.Source.refusals s read _ _ (IsAt LengthOutOfRange s.offset) stops c.refuse.ensures.refused c.refuse.ensures.kept
+    rw c.refuse.ensures.source (kept_stops g.R.Source.refusals s read _ _ (IsAt LengthOutOfRange s.offset) stops (took_none s) c.refuse.ensures.refused c.refuse.ensures.kept)
 
 pub returns-in_err-bytes-clause-read : goal.returns-in_err-bytes-clause-read
 returns-in_err-bytes-clause-read g c =
