@@ -65,15 +65,17 @@ end_step allowed s t o P holds e h =
 
 -- ---- refusals
 
+-- what is kept tells of a reading
+pub kept_tells : {A : Type 0} (allowed : ReadErrorCode → Bool) (s : Input) (read : Limits → List ℕ → Reads A) (kept : Option ReadError) (r : Refused) (P : ReadError → Type 0)
+    → ((e : ReadError) → P e → Stops allowed read s e) → r ≡ refused.Kept → IsSomeAnd kept P → TellsWhy allowed read s kept r
+kept_tells allowed s read kept refused.OutOfMemory P on is h = absurd cc
+kept_tells allowed s read None refused.Kept P on is h = absurd h
+kept_tells allowed s read (Some e) refused.Kept P on is h = on e h
+
 -- what is kept stops a reading
 pub kept_stops : {A : Type 0} {t : Input} (allowed : ReadErrorCode → Bool) (s : Input) (read : Limits → List ℕ → Reads A) (kept : Option ReadError) (r : Refused) (P : ReadError → Type 0)
     → ((e : ReadError) → P e → Stops allowed read s e) → TookSome s t → r ≡ refused.Kept → IsSomeAnd kept P → Stopped allowed read s t kept r
-kept_stops {A = A} allowed s read kept r P on took is keeps = record { took = took; told = by_kept kept r is keeps }
-  where
-    by_kept : (kept : Option ReadError) (r : Refused) → r ≡ refused.Kept → IsSomeAnd kept P → TellsWhy allowed read s kept r
-    by_kept kept refused.OutOfMemory is h = absurd cc
-    by_kept None refused.Kept is h = absurd h
-    by_kept (Some e) refused.Kept is h = on e h
+kept_stops allowed s read kept r P on took is keeps = record { took = took; told = kept_tells allowed s read kept r P on is keeps }
 
 -- so does a refusal of the source that is kept
 pub source_stops : {A : Type 0} {t : Input} (allowed : ReadErrorCode → Bool) (s : Input) (read : Limits → List ℕ → Reads A) (kept : Option ReadError) (r : Refused) (e : ReadError)

@@ -21,19 +21,24 @@ Front s o = MatchOption o (IfSome s.to_come (λ bs. bs ≡ [])) (λ b. IfSome s.
 stays_step : (s t : Input) → Stays s t → Step s t (λ l bs rest. bs ≡ rest)
 stays_step s t h = none_step s t h.bytes h.count h.room
 
--- ---- the break
-
 discarded : (t u : Input) (p o : Option ℕ) (b : ℕ) → p ≡ o → o ≡ Some b → IfSome p (λ b. TookKept t u (b ∷ [])) → TookKept t u (b ∷ [])
 discarded t u p o b is some h = subst (λ (x : Option ℕ). IfSome x (λ b. TookKept t u (b ∷ []))) (is ∙ some) h
 
-break_here : (w : Refusal) (b : ℕ) (bs mid rest : List ℕ) → b ≡ 255 → bs ≡ mid → mid ≡ (b ∷ []) ++ rest → next_at w to_break bs ≡ Ok (None, rest)
+-- the byte at the front was seen, and then taken
+pub peeked_step : (s t u : Input) (p o : Option ℕ) (b : ℕ) (P : Limits → List ℕ → List ℕ → Type 0) → ((l : Limits) (rest : List ℕ) → P l (b ∷ rest) rest) → p ≡ o → o ≡ Some b → Stays s t → IfSome p (λ b. TookKept t u (b ∷ [])) → Step s u P
+peeked_step s t u p o b P holds peeked some stays took =
+    step_then s t u (λ l bs rest. bs ≡ rest) (λ l bs rest. bs ≡ (b ∷ []) ++ rest) P
+    (λ l bs mid rest same front. subst (λ (x : List ℕ). P l x rest) (sym (same ∙ front)) (holds l rest)) (stays_step s t stays) (kept_step t u (b ∷ []) (discarded t u p o b peeked some took))
+
+-- ---- the break
+
+break_here : (w : Refusal) (b : ℕ) (rest : List ℕ) → b ≡ 255 → next_at w to_break (b ∷ rest) ≡ Ok (None, rest)
 unfolding next_at
-break_here w b bs mid rest is same front = rw (same, front, is) refl
+break_here w b rest is = rw is refl
 
 pub break_taken : (s t u : Input) (p o : Option ℕ) (b : ℕ) (w : Refusal) → b ≡ 255 → p ≡ o → o ≡ Some b → Stays s t → IfSome p (λ b. TookKept t u (b ∷ [])) → Step s u (λ l bs rest. next_at w to_break bs ≡ Ok (None, rest))
-break_taken s t u p o b w is peeked some stays took =
-    step_then s t u (λ l bs rest. bs ≡ rest) (λ l bs rest. bs ≡ (b ∷ []) ++ rest) (λ l bs rest. next_at w to_break bs ≡ Ok (None, rest))
-    (λ l bs mid rest. break_here w b bs mid rest is) (stays_step s t stays) (kept_step t u (b ∷ []) (discarded t u p o b peeked some took))
+break_taken s t u p o b w is =
+    peeked_step s t u p o b (λ l bs rest. next_at w to_break bs ≡ Ok (None, rest)) (λ l rest. break_here w b rest is)
 
 -- ---- another part
 

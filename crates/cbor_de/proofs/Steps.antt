@@ -52,6 +52,9 @@ consumes_none (Some xs) (Some ys) h = sym h
 pub took_none : (s : Input) → TookSome s s
 took_none s = kept_some s s [] (kept_none s)
 
+pub took_same : {s t : Input} → t ≡ s → TookSome s t
+took_same {s = s} is = subst (TookSome s) (sym is) (took_none s)
+
 -- where nothing was taken
 pub took_stays : (s t : Input) → Stays s t → TookSome s t
 took_stays s t h = record { some = []; bytes = consumes_none s.to_come t.to_come h.bytes; count = omega (arith, h.count); room = h.room }
@@ -120,11 +123,20 @@ kept_on allowed read read' s t kept refused.OutOfMemory on h = tt
 kept_on allowed read read' s t None refused.Kept on h = absurd h
 kept_on allowed read read' s t (Some e) refused.Kept on h = on e h
 
+-- what is told of a part is told of the whole
+pub why_then : {A B : Type 0} (allowed : ReadErrorCode → Bool) (read : Limits → List ℕ → Reads A) (read' : Limits → List ℕ → Reads B) (s t : Input) (kept : Option ReadError) (r : Reason) (P : Limits → List ℕ → List ℕ → Type 0)
+    → ((l : Limits) (bs mid : List ℕ) (f : Fault) → P l bs mid → read l mid ≡ Err f → read' l bs ≡ Err f) → Step s t P → TellsWhy allowed read t kept r → TellsWhy allowed read' s kept r
+why_then allowed read read' s t kept r P on step = kept_on allowed read read' s t kept r (λ e. stops_then allowed read read' s t e P (λ bs. on (limits s bs) bs) step)
+
+pub why_map : {A B : Type 0} (allowed : ReadErrorCode → Bool) (read : Limits → List ℕ → Reads A) (read' : Limits → List ℕ → Reads B) (s : Input) (kept : Option ReadError) (r : Reason)
+    → ((l : Limits) (bs : List ℕ) (f : Fault) → read l bs ≡ Err f → read' l bs ≡ Err f) → TellsWhy allowed read s kept r → TellsWhy allowed read' s kept r
+why_map allowed read read' s kept r on = kept_on allowed read read' s s kept r (λ e. stops_at allowed read read' s e (λ bs. on (limits s bs) bs))
+
 pub stopped_then : {A B : Type 0} {u : Input} (allowed : ReadErrorCode → Bool) (read : Limits → List ℕ → Reads A) (read' : Limits → List ℕ → Reads B) (s t : Input) (kept : Option ReadError) (r : Reason) (P : Limits → List ℕ → List ℕ → Type 0)
     → ((l : Limits) (bs mid : List ℕ) (f : Fault) → P l bs mid → read l mid ≡ Err f → read' l bs ≡ Err f) → Step s t P → Stopped allowed read t u kept r → Stopped allowed read' s u kept r
 stopped_then {u = u} allowed read read' s t kept r P on step h = record {
   took = some_then s t u step.took h.took;
-  told = kept_on allowed read read' s t kept r (λ e. stops_then allowed read read' s t e P (λ bs. on (limits s bs) bs) step) h.told;
+  told = why_then allowed read read' s t kept r P on step h.told;
 }
 
 -- readings that are compared at these limits alone

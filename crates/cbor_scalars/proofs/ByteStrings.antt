@@ -7,7 +7,7 @@ use Rattle.cbor_model.specs.Reader.{item_at, inside}
 use Rattle.cbor_model.specs.Readable.{Context, untagged, PassesTags, IsString, is_lent}
 use Rattle.cbor_io.specs.declared.read_error.ReadError.{ReadError}
 use Rattle.cbor_io.specs.declared.read_error.ReadErrorCode.{ReadErrorCode}
-use Rattle.cbor_read.specs.Source.{Input, Lends, part_bytes}
+use Rattle.cbor_read.specs.Source.{Input, Lends, TookSome, part_bytes}
 use Rattle.cbor_read.specs.declared.EitherLifetime.{EitherLifetime}
 use Rattle.cbor_de.specs.Gives.{Step}
 use Rattle.cbor_de.specs.declared.head.Head.{Head}
@@ -19,7 +19,7 @@ use Rattle.cbor_scalars.specs.Opens.{Opens, OpensItem}
 use Rattle.cbor_scalars.specs.Takes.{raws, lending, IsRead, IsNotRead}
 use Rattle.cbor_scalars.specs.Strings.{content_at, is_lent_head, IsByteString, IsLentBytes, Lent, LendsBytes}
 use Rattle.cbor_scalars.specs.declared.lent.Unread.{Unread}
-use Rattle.cbor_scalars.proofs.Scalars.{opened_read}
+use Rattle.cbor_scalars.proofs.Scalars.{refuses_on, opened_read}
 use Rattle.cbor_scalars.proofs.Contents.{untagged_string, no_bytes, bytes_read, none_at}
 use Rattle.cbor_scalars.proofs.Lending.{lends_bytes, lacks_all, bytes_lacks}
 
@@ -89,6 +89,6 @@ module _ (allowed : ReadErrorCode → Bool) (f : Formats) (l : Lends) (levels : 
   bytes_lent n t (Err u) opened is = bytes_lacks allowed f l levels s m kept IsByteString n t u opened is
 
   -- an item of another kind is no byte string
-  pub other_bytes : (h : Head) (u : Unread) (t : Input) → ((n : Option ℕ) → h ≡ head.Bytes n → ⊥) → OpensItem allowed f levels s m kept (Ok h) → LendsBytes allowed c levels s t (Err u)
-  other_bytes h u t bytes opened =
-      lacks_all allowed s (λ limits bs. IsNotRead (PassesTags IsByteString) (item_at (raws f limits) levels bs)) (λ k at. none_at allowed f IsByteString levels s m kept h k at (λ r b is. not_bytes h bytes r b is) opened) u
+  pub other_bytes : (h : Head) (u : Unread) (t : Input) → ((n : Option ℕ) → h ≡ head.Bytes n → ⊥) → OpensItem allowed f levels s m kept (Ok h) → TookSome m t → LendsBytes allowed c levels s t (Err u)
+  other_bytes h u t bytes opened more =
+      lacks_all allowed s (λ limits bs. IsNotRead (PassesTags IsByteString) (item_at (raws f limits) levels bs)) (λ k at. refuses_on (none_at allowed f IsByteString levels s m kept h k at (λ r b is. not_bytes h bytes r b is) opened) more) u

@@ -201,8 +201,8 @@ module _ (f : Formats) (l : Limits) (inner : Option (List ℕ → Reads Raw)) (w
 -- ---- calls
 
 -- what is known to be no such item
-pub step_refuses : (allowed : ReadErrorCode → Bool) (s t : Input) (k : ErrorCode) (at : ℕ) (N : Limits → List ℕ → Type 0) → Step s t (λ l bs rest. N l bs) → Refuses allowed s k at N
-step_refuses allowed s t k at N step = record { told = λ bs tells. inr (step.told bs tells).holds }
+pub step_refuses : (allowed : ReadErrorCode → Bool) (s t : Input) (k : ErrorCode) (at : ℕ) (N : Limits → List ℕ → Type 0) → Step s t (λ l bs rest. N l bs) → Refuses allowed s t k at N
+step_refuses allowed s t k at N step = record { took = step.took; told = λ bs tells. inr (step.told bs tells).holds }
 
 module _ {A : Type 0} (allowed : ReadErrorCode → Bool) (f : Formats) (reads : Raw → A → Type 0) (levels : ℕ) (s m : Input) (kept : Option ReadError) (h : Head) (opened : OpensItem allowed f levels s m kept (Ok h)) where
   abbrev item : Limits → List ℕ → Reads Raw
@@ -227,19 +227,18 @@ module _ {A : Type 0} (allowed : ReadErrorCode → Bool) (f : Formats) (reads : 
       opened_read f reads l (item l bs) opened.0 h mid o r.item rest x r.is (subst (λ (i : Raw). reads i x) (sym (untagged_string r.item b r.string)) (means r.item r.string r.lent))) opened.1 taken
 
   -- its content couldn't be
-  string_stops : (r : Refused) (later : Option ReadError) (e : Error) → ((l : Limits) (w : HeadWidth) (bs : List ℕ) (g : Fault) → content_at l h bs ≡ Err g → behind_head (raws f l) (inner l) w h bs ≡ Err g)
-      → IsErrorOf later r e → Stopped allowed (λ l. content_at l h) m later r → Refuses allowed s (code_of e) (offset_of e) (λ l bs. IsNotRead (PassesTags reads) (item l bs))
+  string_stops : {u : Input} (r : Refused) (later : Option ReadError) (e : Error) → ((l : Limits) (w : HeadWidth) (bs : List ℕ) (g : Fault) → content_at l h bs ≡ Err g → behind_head (raws f l) (inner l) w h bs ≡ Err g)
+      → IsErrorOf later r e → Stopped allowed (λ l. content_at l h) m u later r → Refuses allowed s u (code_of e) (offset_of e) (λ l bs. IsNotRead (PassesTags reads) (item l bs))
   string_stops r later e stop is stopped =
       refuses allowed (PassesTags reads) item s later r e is
       (stopped_then allowed (λ l. content_at l h) item s m later r Opened (λ l bs mid g o stops. o.is ∙ ap (in_tags o.tags) (stop l o.width mid g stops)) opened.1 stopped)
 
   -- it isn't what the type reads
-  string_none : (t : Input) (b : List ℕ) (k : ErrorCode) (at : ℕ) → ((l : Limits) (w : HeadWidth) (bs rest after : List ℕ) (r : Raw) (x : A) → Taken b l bs rest → behind_head (raws f l) (inner l) w h bs ≡ Ok (r, after) → reads (untagged r) x → ⊥)
-      → Step m t (Taken b) → Refuses allowed s k at (λ l bs. IsNotRead (PassesTags reads) (item l bs))
-  string_none t b k at none taken =
-      step_refuses allowed s t k at (λ l bs. IsNotRead (PassesTags reads) (item l bs))
-      (step_then s m t Opened (Taken b) (λ l bs rest. IsNotRead (PassesTags reads) (item l bs))
-      (λ l bs mid rest o is. opened_none f reads l (item l bs) opened.0 h mid o (λ r after x read means. none l o.width mid rest after r x is read means)) opened.1 taken)
+  string_none : (t : Input) (b : List ℕ) → ((l : Limits) (w : HeadWidth) (bs rest after : List ℕ) (r : Raw) (x : A) → Taken b l bs rest → behind_head (raws f l) (inner l) w h bs ≡ Ok (r, after) → reads (untagged r) x → ⊥)
+      → Step m t (Taken b) → Step s t (λ l bs rest. IsNotRead (PassesTags reads) (item l bs))
+  string_none t b none taken =
+      step_then s m t Opened (Taken b) (λ l bs rest. IsNotRead (PassesTags reads) (item l bs))
+      (λ l bs mid rest o is. opened_none f reads l (item l bs) opened.0 h mid o (λ r after x read means. none l o.width mid rest after r x is read means)) opened.1 taken
 
 module _ {A : Type 0} (allowed : ReadErrorCode → Bool) (f : Formats) (reads : Raw → A → Type 0) (levels : ℕ) (s m : Input) (kept : Option ReadError) (n : Option ℕ) where
   abbrev OpensText : Type 0
@@ -248,7 +247,7 @@ module _ {A : Type 0} (allowed : ReadErrorCode → Bool) (f : Formats) (reads : 
   abbrev OpensBytes : Type 0
   OpensBytes = OpensItem allowed f levels s m kept (Ok (head.Bytes n))
 
-  pub bytes_stops : OpensBytes → (r : Refused) (later : Option ReadError) (e : Error) → IsErrorOf later r e → Stopped allowed (λ l. content_at l (head.Bytes n)) m later r → Refuses allowed s (code_of e) (offset_of e) (λ l bs. IsNotRead (PassesTags reads) (item_at (raws f l) levels bs))
+  pub bytes_stops : {u : Input} → OpensBytes → (r : Refused) (later : Option ReadError) (e : Error) → IsErrorOf later r e → Stopped allowed (λ l. content_at l (head.Bytes n)) m u later r → Refuses allowed s u (code_of e) (offset_of e) (λ l bs. IsNotRead (PassesTags reads) (item_at (raws f l) levels bs))
   bytes_stops opened r later e is stopped = string_stops allowed f reads levels s m kept (head.Bytes n) opened r later e (λ l w bs g stops. bytes_stop f l (inside (raws f l) opened.0) w n bs g stops) is stopped
 
   pub bytes_takes : OpensBytes → (t : Input) (b : List ℕ) (x : A) → ((r : Raw) → IsString r b → ((c : Context) → is_lent c r ≡ is_lent_head c (head.Bytes n)) → reads r x)
@@ -256,9 +255,9 @@ module _ {A : Type 0} (allowed : ReadErrorCode → Bool) (f : Formats) (reads : 
   bytes_takes opened t b x means taken = string_takes allowed f reads levels s m kept (head.Bytes n) opened t b x (λ l w bs rest is. bytes_read f l (inside (raws f l) opened.0) w n bs b rest is) means taken
 
   -- a byte string that isn't UTF-8 is no text
-  pub bytes_bad : OpensBytes → (t : Input) (b : List ℕ) (k : ErrorCode) (at : ℕ) (view : A → List ℕ) → ((r : Raw) (x : A) → reads r x → IsText r (view x)) → (IsUtf8 b → ⊥)
-      → Step m t (λ l bs rest. content_at l (head.Bytes n) bs ≡ Ok (b, rest)) → Refuses allowed s k at (λ l bs. IsNotRead (PassesTags reads) (item_at (raws f l) levels bs))
-  bytes_bad opened t b k at view text bad taken = string_none allowed f reads levels s m kept (head.Bytes n) opened t b k at
+  pub bad_bytes : OpensBytes → (t : Input) (b : List ℕ) (view : A → List ℕ) → ((r : Raw) (x : A) → reads r x → IsText r (view x)) → (IsUtf8 b → ⊥)
+      → Step m t (λ l bs rest. content_at l (head.Bytes n) bs ≡ Ok (b, rest)) → Step s t (λ l bs rest. IsNotRead (PassesTags reads) (item_at (raws f l) levels bs))
+  bad_bytes opened t b view text bad taken = string_none allowed f reads levels s m kept (head.Bytes n) opened t b
       (λ l w bs rest after r x is read means.
       let here = bytes_read f l (inside (raws f l) opened.0) w n bs b rest is in
       let same : here.item ≡ r = ap (λ (p : Raw × List ℕ). p.0) (ok_is (here.item, rest) (r, after) (sym here.is ∙ read)) in
@@ -266,6 +265,11 @@ module _ {A : Type 0} (allowed : ReadErrorCode → Bool) (f : Formats) (reads : 
       let means' : reads r x = subst (λ (i : Raw). reads i x) (untagged_string r b string) means in
       let found = text r x means' in
       bad (subst IsUtf8 (same_bytes r b (view x) string found.0) found.1)) taken
+
+  pub bytes_bad : OpensBytes → (t : Input) (b : List ℕ) (k : ErrorCode) (at : ℕ) (view : A → List ℕ) → ((r : Raw) (x : A) → reads r x → IsText r (view x)) → (IsUtf8 b → ⊥)
+      → Step m t (λ l bs rest. content_at l (head.Bytes n) bs ≡ Ok (b, rest)) → Refuses allowed s t k at (λ l bs. IsNotRead (PassesTags reads) (item_at (raws f l) levels bs))
+  bytes_bad opened t b k at view text bad taken =
+      step_refuses allowed s t k at (λ l bs. IsNotRead (PassesTags reads) (item_at (raws f l) levels bs)) (bad_bytes opened t b view text bad taken)
 
   -- a text was taken
   pub text_takes : OpensText → (t : Input) (b : List ℕ) (x : A) → ((r : Raw) → IsString r b → IsUtf8 b → ((c : Context) → is_lent c r ≡ is_lent_head c (head.Text n)) → reads r x) → IsUtf8 b
@@ -287,16 +291,25 @@ text_checked allowed view h s t b end kept (Err r) step is = λ e made.
     (λ l bs rest here c after there utf8. (is e made).bad (subst IsUtf8 (ap (λ (q : List ℕ × List ℕ). q.0) (ok_is (c, after) (b, rest) (sym there ∙ here))) utf8)) step)
 
 -- an item of another kind
+pub other_step : {A : Type 0} (allowed : ReadErrorCode → Bool) (f : Formats) (reads : Raw → A → Type 0) (levels : ℕ) (s t : Input) (kept : Option ReadError) (h : Head)
+    → ((r : Raw) (x : A) → reads (untagged r) x → (kind_of r ≡ kind.tag → ⊥) → kind_of r ≡ head_kind h → ⊥)
+    → OpensItem allowed f levels s t kept (Ok h) → Step s t (λ l bs rest. IsNotRead (PassesTags reads) (item_at (raws f l) levels bs))
+other_step allowed f reads levels s t kept h none opened =
+    step_map s t (λ l bs rest. Opens f l (item_at (raws f l) levels bs) opened.0 h rest) (λ l bs rest. IsNotRead (PassesTags reads) (item_at (raws f l) levels bs))
+    (λ l bs rest o. other_kind f reads l (item_at (raws f l) levels bs) opened.0 h rest o (λ r x means is. none r x means (λ tag. o.inner (sym is ∙ tag)) is)) opened.1
+
+-- what follows is passed over
+pub step_over : {N : Limits → List ℕ → Type 0} {P : Limits → List ℕ → List ℕ → Type 0} {s m t : Input} → Step s m (λ l bs rest. N l bs) → Step m t P → Step s t (λ l bs rest. N l bs)
+step_over {N = N} {P = P} {s = s} {m = m} {t = t} none over = step_then s m t (λ l bs rest. N l bs) P (λ l bs rest. N l bs) (λ l bs mid rest h k. h) none over
+
 pub none_at : {A : Type 0} (allowed : ReadErrorCode → Bool) (f : Formats) (reads : Raw → A → Type 0) (levels : ℕ) (s t : Input) (kept : Option ReadError) (h : Head) (k : ErrorCode) (at : ℕ)
     → ((r : Raw) (x : A) → reads (untagged r) x → (kind_of r ≡ kind.tag → ⊥) → kind_of r ≡ head_kind h → ⊥)
-    → OpensItem allowed f levels s t kept (Ok h) → Refuses allowed s k at (λ l bs. IsNotRead (PassesTags reads) (item_at (raws f l) levels bs))
+    → OpensItem allowed f levels s t kept (Ok h) → Refuses allowed s t k at (λ l bs. IsNotRead (PassesTags reads) (item_at (raws f l) levels bs))
 none_at allowed f reads levels s t kept h k at none opened =
-    step_refuses allowed s t k at (λ l bs. IsNotRead (PassesTags reads) (item_at (raws f l) levels bs))
-    (step_map s t (λ l bs rest. Opens f l (item_at (raws f l) levels bs) opened.0 h rest) (λ l bs rest. IsNotRead (PassesTags reads) (item_at (raws f l) levels bs))
-    (λ l bs rest o. other_kind f reads l (item_at (raws f l) levels bs) opened.0 h rest o (λ r x means is. none r x means (λ tag. o.inner (sym is ∙ tag)) is)) opened.1)
+    step_refuses allowed s t k at (λ l bs. IsNotRead (PassesTags reads) (item_at (raws f l) levels bs)) (other_step allowed f reads levels s t kept h none opened)
 
 -- What is refused by any code isn't there.
-pub none_there : {N : Limits → List ℕ → Type 0} (allowed : ReadErrorCode → Bool) (s : Input) → ((k : ErrorCode) (at : ℕ) → Refuses allowed s k at N) → (bs : List ℕ) → Tells s bs → N (limits s bs) bs
+pub none_there : {N : Limits → List ℕ → Type 0} {t : Input} (allowed : ReadErrorCode → Bool) (s : Input) → ((k : ErrorCode) (at : ℕ) → Refuses allowed s t k at N) → (bs : List ℕ) → Tells s bs → N (limits s bs) bs
 none_there {N} allowed s refused bs tells = unexcused ((refused InvalidUtf8 0).told bs tells)
   where
     unexcused : ExcusedBy (Reports allowed) InvalidUtf8 0 ⊎ N (limits s bs) bs → N (limits s bs) bs

@@ -64,25 +64,26 @@ single_memory f levels s e none is bs tells =
     none_read IsSingleOf (λ x. x) (item_at (raws f (limits s bs)) levels bs) (λ r x is. is.0) (none is bs tells)
 
 module _ (allowed : ReadErrorCode → Bool) (read : Limits → List ℕ → Reads Raw) (s : Input) where
-  refused : {A : Type 0} (reads : Raw → A → Type 0) (number : A → ieee.Float) (k : ErrorCode)
+  refused : {A : Type 0} {t : Input} (reads : Raw → A → Type 0) (number : A → ieee.Float) (k : ErrorCode)
       (at : ℕ) → ((r : Raw) (x : A) → reads r x → IsFloatOf r (number x))
-      → Refuses allowed s k at (λ l bs. IsNotRead (PassesTags IsFloatItem) (read l bs))
-      → Refuses allowed s k at (λ l bs. IsNotRead (PassesTags reads) (read l bs))
+      → Refuses allowed s t k at (λ l bs. IsNotRead (PassesTags IsFloatItem) (read l bs))
+      → Refuses allowed s t k at (λ l bs. IsNotRead (PassesTags reads) (read l bs))
   refused reads number k at also none = record {
+    took = none.took;
     told = λ bs tells. elim (none.told bs tells) [
       | inl excused ↦ inl excused
       | inr absent ↦ inr (none_read reads number (read (limits s bs) bs) also absent)
     ];
   }
 
-  pub double_refused : (k : ErrorCode) (at : ℕ)
-      → Refuses allowed s k at (λ l bs. IsNotRead (PassesTags IsFloatItem) (read l bs))
-      → Refuses allowed s k at (λ l bs. IsNotRead (PassesTags IsFloatOf) (read l bs))
+  pub double_refused : {t : Input} (k : ErrorCode) (at : ℕ)
+      → Refuses allowed s t k at (λ l bs. IsNotRead (PassesTags IsFloatItem) (read l bs))
+      → Refuses allowed s t k at (λ l bs. IsNotRead (PassesTags IsFloatOf) (read l bs))
   double_refused k at none = refused IsFloatOf (λ x. x) k at (λ r x is. is) none
 
-  pub single_refused : (k : ErrorCode) (at : ℕ)
-      → Refuses allowed s k at (λ l bs. IsNotRead (PassesTags IsFloatItem) (read l bs))
-      → Refuses allowed s k at (λ l bs. IsNotRead (PassesTags IsSingleOf) (read l bs))
+  pub single_refused : {t : Input} (k : ErrorCode) (at : ℕ)
+      → Refuses allowed s t k at (λ l bs. IsNotRead (PassesTags IsFloatItem) (read l bs))
+      → Refuses allowed s t k at (λ l bs. IsNotRead (PassesTags IsSingleOf) (read l bs))
   single_refused k at none = refused IsSingleOf (λ x. x) k at (λ r x is. is.0) none
 
   pub double_read : (t : Input) (f : Float) (x : ieee.Float) → x ≡ number_of f
@@ -104,7 +105,7 @@ module _ (allowed : ReadErrorCode → Bool) (read : Limits → List ℕ → Read
   pub single_out : (t : Input) (f : Float) (k : ErrorCode) (at : ℕ)
       → (T (fits binary32 (number_of f)) → ⊥)
       → Step s t (λ l bs rest. IsRead (PassesTags IsFloatItem) (read l bs) f rest)
-      → Refuses allowed s k at (λ l bs. IsNotRead (PassesTags IsSingleOf) (read l bs))
+      → Refuses allowed s t k at (λ l bs. IsNotRead (PassesTags IsSingleOf) (read l bs))
   single_out t f k at out step =
       made_none allowed IsSingleOf IsFloatItem read s t k at f
       (λ r x is held.

@@ -115,8 +115,8 @@ module _ (names : List (List ℕ)) where
   not_identifier h u t b (raw.float w bits) place is tag k = is.1
 
   module _ (allowed : ReadErrorCode → Bool) (f : Formats) (l : Lends) (levels : ℕ) (s m : Input) (kept : Option ReadError) where
-    abbrev Refused : Error → Type 0
-    Refused e = Refuses allowed s (code_of e) (offset_of e) (λ limits bs. IsNotRead (PassesTags (IsIdentifier names)) (item_at (raws f limits) levels bs))
+    abbrev Refused : Input → Error → Type 0
+    Refused t e = Refuses allowed s t (code_of e) (offset_of e) (λ limits bs. IsNotRead (PassesTags (IsIdentifier names)) (item_at (raws f limits) levels bs))
 
     abbrev Reads : Input → Option ℕ → Type 0
     Reads t place = Step s t (λ limits bs rest. IsRead (PassesTags (IsIdentifier names)) (item_at (raws f limits) levels bs) place rest)
@@ -133,8 +133,8 @@ module _ (names : List (List ℕ)) where
     bytes_name n t b place at opened taken =
         bytes_takes allowed f (IsIdentifier names) levels s m kept n opened t b place (λ r string lent. string_names r b place string at) taken
 
-    bytes_refused : (n : Option ℕ) (e : Error) → OpensItem allowed f levels s m kept (Ok (head.Bytes n))
-        → Refuses allowed m (code_of e) (offset_of e) (λ limits bs. (b rest : List ℕ) → content_at limits (head.Bytes n) bs ≡ Ok (b, rest) → ⊥) → Refused e
+    bytes_refused : {t : Input} (n : Option ℕ) (e : Error) → OpensItem allowed f levels s m kept (Ok (head.Bytes n))
+        → Refuses allowed m t (code_of e) (offset_of e) (λ limits bs. (b rest : List ℕ) → content_at limits (head.Bytes n) bs ≡ Ok (b, rest) → ⊥) → Refused t e
     bytes_refused n e opened none =
         refuses_behind allowed s m (code_of e) (offset_of e) (λ limits bs rest. Opens f limits (item_at (raws f limits) levels bs) opened.0 (head.Bytes n) rest) _ (λ limits bs. IsNotRead (PassesTags (IsIdentifier names)) (item_at (raws f limits) levels bs))
         (λ limits bs mid o none. opened_none f (IsIdentifier names) limits (item_at (raws f limits) levels bs) opened.0 (head.Bytes n) mid o (λ r rest x read is. no_bytes allowed f l levels s m kept limits (inside (raws f limits) opened.0) o.width n mid _ refl none (r, rest) read)) opened.1 none
@@ -144,5 +144,5 @@ module _ (names : List (List ℕ)) where
     bytes_read n t later (Ok place) opened is = bytes_name n t is.0 place is.1 opened is.2
     bytes_read n t later (Err why) opened is = λ e made. bytes_refused n e opened (is e made)
 
-    pub other_refused : (h : Head) (e : Error) → ((n : ℕ) → h ≡ head.Unsigned n → ⊥) → ((n : Option ℕ) → h ≡ head.Text n → ⊥) → ((n : Option ℕ) → h ≡ head.Bytes n → ⊥) → OpensItem allowed f levels s m kept (Ok h) → Refused e
+    pub other_refused : (h : Head) (e : Error) → ((n : ℕ) → h ≡ head.Unsigned n → ⊥) → ((n : Option ℕ) → h ≡ head.Text n → ⊥) → ((n : Option ℕ) → h ≡ head.Bytes n → ⊥) → OpensItem allowed f levels s m kept (Ok h) → Refused m e
     other_refused h e u t b opened = none_at allowed f (IsIdentifier names) levels s m kept h (code_of e) (offset_of e) (not_identifier h u t b) opened

@@ -10,7 +10,7 @@ use Rattle.cbor_model.specs.Raw.{Raw}
 use Rattle.cbor_model.specs.Readable.{Context, untagged, PassesTags, IsString, IsText}
 use Rattle.cbor_model.specs.Reader.{Reads, bytes_at, item_at, inside}
 use Rattle.cbor_model.proofs.facts.Reader.{ok_is}
-use Rattle.cbor_read.specs.Source.{Input, Lends, Took, TookKept, KeepsBytes, part_bytes, is_long}
+use Rattle.cbor_read.specs.Source.{Input, Lends, Took, TookSome, TookKept, KeepsBytes, part_bytes, is_long}
 use Rattle.cbor_io.specs.ReadError.{why, place, error_code}
 use Rattle.cbor_io.specs.Error.{code_of, offset_of}
 use Rattle.cbor_io.specs.declared.error.Error.{Error}
@@ -29,7 +29,7 @@ use Rattle.cbor_scalars.specs.Strings.{IsNoKey, content_at, is_lent_head, lends_
 use Rattle.cbor_scalars.specs.declared.lent.EitherStr.{EitherStr}
 use Rattle.cbor_scalars.specs.declared.lent.Unread.{Unread}
 use Rattle.cbor_scalars.specs.declared.lent.Unread.TheVariants.{Stopped, Other}
-use Rattle.cbor_scalars.proofs.Scalars.{not_both, opened_none}
+use Rattle.cbor_scalars.proofs.Scalars.{not_both, refuses_on, opened_none}
 use Rattle.cbor_scalars.proofs.Nulls.{refuses_behind}
 use Rattle.cbor_scalars.proofs.Contents.{step_refuses, string_takes, bytes_takes, bytes_bad, bytes_stop, text_read, text_bad, text_stop, not_string, none_at}
 
@@ -56,8 +56,7 @@ pub text_step : (s t : Input) (n : ℕ) (p : List ℕ) → ltb (s.offset + n) (2
 text_step s t n p room len took =
     let step = read_step s t n p len took in
     record {
-      room = step.room;
-      forward = step.forward;
+      took = step.took;
       told = λ bs tells.
           let one = step.told bs tells in
           record { rest = one.rest; tells = one.tells; total = one.total; holds = rw (ends_at s bs n room) one.holds };
@@ -106,13 +105,13 @@ bytes_no_key t (Err u) is = absurd is
 -- ---- items
 
 -- what lacks after a step
-lacks_behind : (allowed : ReadErrorCode → Bool) (s m : Input) (P : Limits → List ℕ → List ℕ → Type 0) (N N' : Limits → List ℕ → Type 0) → ((l : Limits) (bs mid : List ℕ) → P l bs mid → N l mid → N' l bs) → Step s m P
-    → (u : Unread) → Lacks allowed m N u → Lacks allowed s N' u
-lacks_behind allowed s m P N N' on step (Stopped e) h = refuses_behind allowed s m (error_code (why e)) (place e) P N N' on step h
-lacks_behind allowed s m P N N' on step Other h = λ k at. refuses_behind allowed s m k at P N N' on step (h k at)
+lacks_behind : (allowed : ReadErrorCode → Bool) (s m t : Input) (P : Limits → List ℕ → List ℕ → Type 0) (N N' : Limits → List ℕ → Type 0) → ((l : Limits) (bs mid : List ℕ) → P l bs mid → N l mid → N' l bs) → Step s m P
+    → (u : Unread) → Lacks allowed m t N u → Lacks allowed s t N' u
+lacks_behind allowed s m t P N N' on step (Stopped e) h = refuses_behind allowed s m (error_code (why e)) (place e) P N N' on step h
+lacks_behind allowed s m t P N N' on step Other h = λ k at. refuses_behind allowed s m k at P N N' on step (h k at)
 
 -- what nothing is refused by is lacking
-pub lacks_all : (allowed : ReadErrorCode → Bool) (s : Input) (N : Limits → List ℕ → Type 0) → ((k : ErrorCode) (at : ℕ) → Refuses allowed s k at N) → (u : Unread) → Lacks allowed s N u
+pub lacks_all : {t : Input} (allowed : ReadErrorCode → Bool) (s : Input) (N : Limits → List ℕ → Type 0) → ((k : ErrorCode) (at : ℕ) → Refuses allowed s t k at N) → (u : Unread) → Lacks allowed s t N u
 lacks_all allowed s N h (Stopped e) = h (error_code (why e)) (place e)
 lacks_all allowed s N h Other = h
 
@@ -140,18 +139,18 @@ module _ (allowed : ReadErrorCode → Bool) (f : Formats) (l : Lends) (levels : 
   no_bytes limits inner w n bs (Err g) is none r read = not_both (behind_head (raws f limits) inner w (head.Bytes n) bs) r g read (bytes_stop f limits inner w n bs g is)
 
   -- nothing is read of a string whose content isn't there
-  pub text_lacks : {X : Type 0} (reads : Raw → X → Type 0) (n : Option ℕ) (t : Input) (u : Unread) → OpensItem allowed f levels s m kept (Ok (head.Text n)) → LentText allowed l (head.Text n) m t (Err u) → Lacks allowed s (λ limits bs. IsNotRead (PassesTags reads) (item_at (raws f limits) levels bs)) u
+  pub text_lacks : {X : Type 0} (reads : Raw → X → Type 0) (n : Option ℕ) (t : Input) (u : Unread) → OpensItem allowed f levels s m kept (Ok (head.Text n)) → LentText allowed l (head.Text n) m t (Err u) → Lacks allowed s t (λ limits bs. IsNotRead (PassesTags reads) (item_at (raws f limits) levels bs)) u
   text_lacks reads n t u opened is =
-      lacks_behind allowed s m (λ limits bs rest. Opens f limits (item_at (raws f limits) levels bs) opened.0 (head.Text n) rest) _ (λ limits bs. IsNotRead (PassesTags reads) (item_at (raws f limits) levels bs))
+      lacks_behind allowed s m t (λ limits bs rest. Opens f limits (item_at (raws f limits) levels bs) opened.0 (head.Text n) rest) _ (λ limits bs. IsNotRead (PassesTags reads) (item_at (raws f limits) levels bs))
       (λ limits bs mid o none. opened_none f reads limits (item_at (raws f limits) levels bs) opened.0 (head.Text n) mid o (λ r rest x read text. no_text limits (inside (raws f limits) opened.0) o.width n mid _ refl none (r, rest) read)) opened.1 u is
 
-  pub bytes_lacks : {X : Type 0} (reads : Raw → X → Type 0) (n : Option ℕ) (t : Input) (u : Unread) → OpensItem allowed f levels s m kept (Ok (head.Bytes n)) → Lent allowed l (head.Bytes n) m t (Err u) → Lacks allowed s (λ limits bs. IsNotRead (PassesTags reads) (item_at (raws f limits) levels bs)) u
+  pub bytes_lacks : {X : Type 0} (reads : Raw → X → Type 0) (n : Option ℕ) (t : Input) (u : Unread) → OpensItem allowed f levels s m kept (Ok (head.Bytes n)) → Lent allowed l (head.Bytes n) m t (Err u) → Lacks allowed s t (λ limits bs. IsNotRead (PassesTags reads) (item_at (raws f limits) levels bs)) u
   bytes_lacks reads n t u opened is =
-      lacks_behind allowed s m (λ limits bs rest. Opens f limits (item_at (raws f limits) levels bs) opened.0 (head.Bytes n) rest) _ (λ limits bs. IsNotRead (PassesTags reads) (item_at (raws f limits) levels bs))
+      lacks_behind allowed s m t (λ limits bs rest. Opens f limits (item_at (raws f limits) levels bs) opened.0 (head.Bytes n) rest) _ (λ limits bs. IsNotRead (PassesTags reads) (item_at (raws f limits) levels bs))
       (λ limits bs mid o none. opened_none f reads limits (item_at (raws f limits) levels bs) opened.0 (head.Bytes n) mid o (λ r rest x read text. no_bytes limits (inside (raws f limits) opened.0) o.width n mid _ refl none (r, rest) read)) opened.1 u is
 
-  pub text_refuses : {X : Type 0} (reads : Raw → X → Type 0) (n : Option ℕ) (k : ErrorCode) (at : ℕ) → OpensItem allowed f levels s m kept (Ok (head.Text n)) → Refuses allowed m k at (λ limits bs. (b rest : List ℕ) → content_at limits (head.Text n) bs ≡ Ok (b, rest) → IsUtf8 b → ⊥)
-      → Refuses allowed s k at (λ limits bs. IsNotRead (PassesTags reads) (item_at (raws f limits) levels bs))
+  pub text_refuses : {X : Type 0} {t : Input} (reads : Raw → X → Type 0) (n : Option ℕ) (k : ErrorCode) (at : ℕ) → OpensItem allowed f levels s m kept (Ok (head.Text n)) → Refuses allowed m t k at (λ limits bs. (b rest : List ℕ) → content_at limits (head.Text n) bs ≡ Ok (b, rest) → IsUtf8 b → ⊥)
+      → Refuses allowed s t k at (λ limits bs. IsNotRead (PassesTags reads) (item_at (raws f limits) levels bs))
   text_refuses reads n k at opened none =
       refuses_behind allowed s m k at (λ limits bs rest. Opens f limits (item_at (raws f limits) levels bs) opened.0 (head.Text n) rest) _ (λ limits bs. IsNotRead (PassesTags reads) (item_at (raws f limits) levels bs))
       (λ limits bs mid o none. opened_none f reads limits (item_at (raws f limits) levels bs) opened.0 (head.Text n) mid o (λ r rest x read text. no_text limits (inside (raws f limits) opened.0) o.width n mid _ refl none (r, rest) read)) opened.1 none
@@ -173,9 +172,9 @@ module _ (allowed : ReadErrorCode → Bool) (f : Formats) (l : Lends) (levels : 
       lacks_all allowed s (λ limits bs. IsNotRead (PassesTags IsText) (item_at (raws f limits) levels bs)) (λ k at. bytes_bad allowed f IsText levels s m kept n opened t (part_bytes p) k at (λ b. b) (λ r b is. is) text.0 is.0) u
 
   -- an item of another kind is no text
-  pub other_item : (h : Head) (u : Unread) (t : Input) → ((n : Option ℕ) → h ≡ head.Text n → ⊥) → ((n : Option ℕ) → h ≡ head.Bytes n → ⊥) → OpensItem allowed f levels s m kept (Ok h) → LendsText allowed c levels s t (Err u)
-  other_item h u t text bytes opened =
-      lacks_all allowed s (λ limits bs. IsNotRead (PassesTags IsText) (item_at (raws f limits) levels bs)) (λ k at. none_at allowed f IsText levels s m kept h k at (λ r b is. not_string h text bytes r b is.0) opened) u
+  pub other_item : (h : Head) (u : Unread) (t : Input) → ((n : Option ℕ) → h ≡ head.Text n → ⊥) → ((n : Option ℕ) → h ≡ head.Bytes n → ⊥) → OpensItem allowed f levels s m kept (Ok h) → TookSome m t → LendsText allowed c levels s t (Err u)
+  other_item h u t text bytes opened more =
+      lacks_all allowed s (λ limits bs. IsNotRead (PassesTags IsText) (item_at (raws f limits) levels bs)) (λ k at. refuses_on (none_at allowed f IsText levels s m kept h k at (λ r b is. not_string h text bytes r b is.0) opened) more) u
 
   -- ---- strings
 
@@ -193,9 +192,9 @@ module _ (allowed : ReadErrorCode → Bool) (f : Formats) (l : Lends) (levels : 
   pub text_stopped : (n : Option ℕ) (t : Input) (u : Unread) → OpensItem allowed f levels s m kept (Ok (head.Text n)) → LentText allowed l (head.Text n) m t (Err u) → LendsString allowed c levels s t (Err u)
   text_stopped n t u opened is = text_lacks IsString n t u opened is
 
-  pub other_string : (h : Head) (u : Unread) (t : Input) → ((n : Option ℕ) → h ≡ head.Text n → ⊥) → ((n : Option ℕ) → h ≡ head.Bytes n → ⊥) → OpensItem allowed f levels s m kept (Ok h) → LendsString allowed c levels s t (Err u)
-  other_string h u t text bytes opened =
-      lacks_all allowed s (λ limits bs. IsNotRead (PassesTags IsString) (item_at (raws f limits) levels bs)) (λ k at. none_at allowed f IsString levels s m kept h k at (λ r b is. not_string h text bytes r b is) opened) u
+  pub other_string : (h : Head) (u : Unread) (t : Input) → ((n : Option ℕ) → h ≡ head.Text n → ⊥) → ((n : Option ℕ) → h ≡ head.Bytes n → ⊥) → OpensItem allowed f levels s m kept (Ok h) → TookSome m t → LendsString allowed c levels s t (Err u)
+  other_string h u t text bytes opened more =
+      lacks_all allowed s (λ limits bs. IsNotRead (PassesTags IsString) (item_at (raws f limits) levels bs)) (λ k at. refuses_on (none_at allowed f IsString levels s m kept h k at (λ r b is. not_string h text bytes r b is) opened) more) u
 
 -- ---- types
 
@@ -206,7 +205,7 @@ module _ {A B : Type 0} (allowed : ReadErrorCode → Bool) (reads : Raw → A �
       (λ l bs rest got. record { item = got.item; is = got.is; means = means (untagged got.item) got.means }) step
 
   -- what is read as y is nothing of the type
-  pub made_none : (t : Input) (k : ErrorCode) (at : ℕ) (y : B) → ((r : Raw) (x : A) → lent r y → reads r x → ⊥) → Step s t (λ l bs rest. IsRead (PassesTags lent) (read l bs) y rest) → Refuses allowed s k at (λ l bs. IsNotRead (PassesTags reads) (read l bs))
+  pub made_none : (t : Input) (k : ErrorCode) (at : ℕ) (y : B) → ((r : Raw) (x : A) → lent r y → reads r x → ⊥) → Step s t (λ l bs rest. IsRead (PassesTags lent) (read l bs) y rest) → Refuses allowed s t k at (λ l bs. IsNotRead (PassesTags reads) (read l bs))
   made_none t k at y none step =
       step_refuses allowed s t k at (λ l bs. IsNotRead (PassesTags reads) (read l bs))
       (step_map s t (λ l bs rest. IsRead (PassesTags lent) (read l bs) y rest) (λ l bs rest. IsNotRead (PassesTags reads) (read l bs))
@@ -215,14 +214,16 @@ module _ {A B : Type 0} (allowed : ReadErrorCode → Bool) (reads : Raw → A �
       none (untagged got.item) x got.means (subst (λ (r : Raw). reads (untagged r) x) same other.means)) step)
 
 -- the error of what lacks
-pub made_refuses : (allowed : ReadErrorCode → Bool) (s : Input) (N N' : Limits → List ℕ → Type 0) (u : Unread) (e : Error) → ((l : Limits) (bs : List ℕ) → N l bs → N' l bs) → IsMadeOf u e → Lacks allowed s N u → Refuses allowed s (code_of e) (offset_of e) N'
+pub made_refuses : {t : Input} (allowed : ReadErrorCode → Bool) (s : Input) (N N' : Limits → List ℕ → Type 0) (u : Unread) (e : Error) → ((l : Limits) (bs : List ℕ) → N l bs → N' l bs) → IsMadeOf u e → Lacks allowed s t N u → Refuses allowed s t (code_of e) (offset_of e) N'
 made_refuses allowed s N N' (Stopped q) e on made h = record {
+  took = h.took;
   told = λ bs tells. elim (h.told bs tells) [
     | inl excused ↦ inl (subst (λ (at : ℕ). ExcusedBy (Reports allowed) (code_of e) at) (sym made.1) (subst (λ (k : ErrorCode). ExcusedBy (Reports allowed) k (place q)) (sym made.0) excused))
     | inr none ↦ inr (on (limits s bs) bs none)
   ];
 }
 made_refuses allowed s N N' Other e on made h = record {
+  took = (h (code_of e) (offset_of e)).took;
   told = λ bs tells. elim ((h (code_of e) (offset_of e)).told bs tells) [
     | inl excused ↦ inl excused
     | inr none ↦ inr (on (limits s bs) bs none)

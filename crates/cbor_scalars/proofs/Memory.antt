@@ -174,12 +174,12 @@ error_only P None refused.Kept e made h is = h
 error_only P (Some q) refused.Kept e made h is = h (memory_code (why q) (sym made.0 ∙ is))
 
 -- the error of what lacks, where memory ran out
-pub made_memory : {A B : Type 0} (allowed : ReadErrorCode → Bool) (f : Formats) (reads : Raw → A → Type 0) (other : Raw → B → Type 0) (view : A → B) (levels : ℕ) (s : Input) (asks asked : Raw → Type 0) (u : Unread) (e : Error)
+pub made_memory : {A B : Type 0} (allowed : ReadErrorCode → Bool) (f : Formats) (reads : Raw → A → Type 0) (other : Raw → B → Type 0) (view : A → B) (levels : ℕ) (s t : Input) (asks asked : Raw → Type 0) (u : Unread) (e : Error)
     → ((r : Raw) (x : A) → reads r x → other r (view x)) → ((r : Raw) (x : A) → PassesTags reads r x → asks r → asked r) → IsMadeOf u e → UnreadOnly (OfItem asks f levels s) u
-    → Lacks allowed s (λ l bs. IsNotRead (PassesTags other) (item_at (raws f l) levels bs)) u → MemoryFor asked f (PassesTags reads) levels s e
-made_memory allowed f reads other view levels s asks asked (Stopped q) e on more made h lacks is bs tells x rest got =
+    → Lacks allowed s t (λ l bs. IsNotRead (PassesTags other) (item_at (raws f l) levels bs)) u → MemoryFor asked f (PassesTags reads) levels s e
+made_memory allowed f reads other view levels s t asks asked (Stopped q) e on more made h lacks is bs tells x rest got =
     more got.item x got.means (h (memory_code (why q) (sym made.0 ∙ is)) bs tells got.item rest got.is)
-made_memory allowed f reads other view levels s asks asked Other e on more made h lacks is bs tells x rest got =
+made_memory allowed f reads other view levels s t asks asked Other e on more made h lacks is bs tells x rest got =
     absurd (none_there allowed s lacks bs tells (view x) rest (record { item = got.item; is = got.is; means = on (untagged got.item) x got.means }))
 
 -- no memory is asked for what is lent for the input's life

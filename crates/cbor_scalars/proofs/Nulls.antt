@@ -24,14 +24,14 @@ use Rattle.cbor_de.specs.declared.head.Head.{Head}
 use Rattle.cbor_de.specs.declared.head.Head.TheVariants as head
 use Rattle.cbor_de.specs.declared.cursor.Remaining.TheVariants.{Counted, ToBreak}
 use Rattle.cbor_de.specs.declared.refusal.Refused.{Refused}
-use Rattle.cbor_de.proofs.facts.Steps.{step_map, step_then, stopped_map}
+use Rattle.cbor_de.proofs.facts.Steps.{some_then, step_map, step_then, stopped_map, why_map}
 use Rattle.cbor_scalars.specs.Takes.{FaultOrMessage, RefusesWhole, any_item}
 use Rattle.cbor_scalars.proofs.PassedOver.{stopped_whole}
 use Rattle.cbor_model.specs.Plain.{Val}
 use Rattle.cbor_scalars.specs.Takes.{raws, IsRead, IsNotRead, MemoryFor, Refuses}
 use Rattle.cbor_scalars.specs.Options.{UnlessNull, null_at}
 use Rattle.cbor_scalars.proofs.OfKind.{kinds}
-use Rattle.cbor_scalars.proofs.Opened.{item_opened}
+use Rattle.cbor_de.proofs.facts.Heads.{item_opened}
 use Rattle.cbor_scalars.proofs.Scalars.{refuses, no_null}
 
 -- ---- a head that isn't null's
@@ -160,12 +160,13 @@ module _ (f : Formats) (l : Limits) where
 -- ---- calls
 
 -- a refusal after a step
-pub refuses_behind : (allowed : ReadErrorCode → Bool) (s m : Input) (k : ErrorCode) (at : ℕ) (P : Limits → List ℕ → List ℕ → Type 0) (N N' : Limits → List ℕ → Type 0)
-    → ((l : Limits) (bs mid : List ℕ) → P l bs mid → N l mid → N' l bs) → Step s m P → Refuses allowed m k at N → Refuses allowed s k at N'
-refuses_behind allowed s m k at P N N' on step h = record {
+pub refuses_behind : {t : Input} (allowed : ReadErrorCode → Bool) (s m : Input) (k : ErrorCode) (at : ℕ) (P : Limits → List ℕ → List ℕ → Type 0) (N N' : Limits → List ℕ → Type 0)
+    → ((l : Limits) (bs mid : List ℕ) → P l bs mid → N l mid → N' l bs) → Step s m P → Refuses allowed m t k at N → Refuses allowed s t k at N'
+refuses_behind {t = t} allowed s m k at P N N' on step h = record {
+  took = some_then s m t step.took h.took;
   told = λ bs tells.
       let got = step.told bs tells in
-      let same : limits m got.rest ≡ limits s bs = ap₂ (λ (n : ℕ) (r : Option ℕ). record { total = n; room = r }) got.total step.room in
+      let same : limits m got.rest ≡ limits s bs = ap₂ (λ (n : ℕ) (r : Option ℕ). record { total = n; room = r }) got.total step.took.room in
       elim (h.told got.rest got.tells) [
         | inl excused ↦ inl excused
         | inr none ↦ inr (on (limits s bs) bs got.rest got.holds (subst (λ (l : Limits). N l got.rest) same none))
@@ -199,7 +200,7 @@ module _ {A : Type 0} (allowed : ReadErrorCode → Bool) (f : Formats) (reads : 
       let front = seen bs mid is in
       none x rest (record { item = got.item; is = ap (item l) front.0 ∙ got.is; means = got.means.1 })
 
-  pub option_refused : (m : Input) (k : ErrorCode) (at : ℕ) → Step s m (Seen false) → Refuses allowed m k at (λ l bs. IsNotRead reads (item l bs)) → Refuses allowed s k at (λ l bs. IsNotRead (IsOptional reads) (item l bs))
+  pub option_refused : {t : Input} (m : Input) (k : ErrorCode) (at : ℕ) → Step s m (Seen false) → Refuses allowed m t k at (λ l bs. IsNotRead reads (item l bs)) → Refuses allowed s t k at (λ l bs. IsNotRead (IsOptional reads) (item l bs))
   option_refused m k at step h = refuses_behind allowed s m k at (Seen false) (λ l bs. IsNotRead reads (item l bs)) (λ l bs. IsNotRead (IsOptional reads) (item l bs)) none_there step h
 
   -- an option takes memory where what is there does, unless it is null
@@ -212,10 +213,10 @@ module _ {A : Type 0} (allowed : ReadErrorCode → Bool) (f : Formats) (reads : 
   option_memory asks m e step h is bs tells (Some x) rest got =
       let behind = step.told bs tells in
       let front = seen bs behind.rest behind.holds in
-      let same : limits m behind.rest ≡ limits s bs = ap₂ (λ (n : ℕ) (r : Option ℕ). record { total = n; room = r }) behind.total step.room in
+      let same : limits m behind.rest ≡ limits s bs = ap₂ (λ (n : ℕ) (r : Option ℕ). record { total = n; room = r }) behind.total step.took.room in
       (got.means.0, h is behind.rest behind.tells x rest (record { item = got.item; is = ap₂ item same front.0 ∙ got.is; means = got.means.1 }))
 
-  pub option_stops : (kept : Option ReadError) (r : Refused) (e : Error) → IsErrorOf kept r e → Stopped allowed (λ l. null_at) s kept r → Refuses allowed s (code_of e) (offset_of e) (λ l bs. IsNotRead (IsOptional reads) (item l bs))
+  pub option_stops : {t : Input} (kept : Option ReadError) (r : Refused) (e : Error) → IsErrorOf kept r e → Stopped allowed (λ l. null_at) s t kept r → Refuses allowed s t (code_of e) (offset_of e) (λ l bs. IsNotRead (IsOptional reads) (item l bs))
   option_stops kept r e is stopped = refuses allowed (IsOptional reads) item s kept r e is (stopped_map allowed (λ l. null_at) item s kept r (λ l bs g stops. absurd (never bs g stops)) stopped)
 
 -- ---- the fault
@@ -228,10 +229,10 @@ module _ (allowed : ReadErrorCode → Bool) (levels : ℕ) (s : Input) where
       let D = Reports allowed in
       let k = code_of e in
       let at = offset_of e in
-      let same : limits m behind.rest ≡ limits s bs = ap₂ (λ (n : ℕ) (r : Option ℕ). record { total = n; room = r }) behind.total step.room in
+      let same : limits m behind.rest ≡ limits s bs = ap₂ (λ (n : ℕ) (r : Option ℕ). record { total = n; room = r }) behind.total step.took.room in
       let here = subst (λ (n : ℕ). FaultOrMessage D k n at (any_item levels (limits m behind.rest) behind.rest)) behind.total (h behind.rest behind.tells) in
       subst (λ (r : Reads Val). FaultOrMessage D k (s.offset + length bs) at r) (ap₂ (any_item levels) same (seen bs behind.rest behind.holds).0) here
 
   -- the source refused
-  pub unseen_whole : (kept : Option ReadError) (r : Refused) (e : Error) → Stopped allowed (λ l. null_at) s kept r → IsErrorOf kept r e → RefusesWhole allowed levels s e
-  unseen_whole kept r e h is = stopped_whole allowed levels s kept r e (stopped_map allowed (λ l. null_at) (any_item levels) s kept r (λ l bs g stops. absurd (never bs g stops)) h) is
+  pub unseen_whole : {t : Input} (kept : Option ReadError) (r : Refused) (e : Error) → Stopped allowed (λ l. null_at) s t kept r → IsErrorOf kept r e → RefusesWhole allowed levels s e
+  unseen_whole kept r e h is = stopped_whole allowed levels s kept r e (why_map allowed (λ l. null_at) (any_item levels) s kept r (λ l bs g stops. absurd (never bs g stops)) h.told) is

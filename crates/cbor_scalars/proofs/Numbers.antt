@@ -90,5 +90,5 @@ number_unread allowed f reads levels s t kept h number is none (left, step) bs t
     opened_none f reads l (item_at (raws f l) levels bs) left h got.rest o (λ r rest x read means. none (untagged r) x means (number_head f l (inside (raws f l) left) o.width h got.rest rest r (number x) read o.inner (is (untagged r) x means)))
 
 pub number_none : {X : Type 0} (allowed : ReadErrorCode → Bool) (f : Formats) (reads : Raw → X → Type 0) (levels : ℕ) (s t : Input) (kept : Option ReadError) (h : Head) (e : Error) (number : X → ℤ) → ((r : Raw) (x : X) → reads r x → IsInteger r (number x)) → ((r : Raw) (x : X) → reads r x → IsNumber h (number x) → ⊥)
-    → OpensItem allowed f levels s t kept (Ok h) → Refuses allowed s (code_of e) (offset_of e) (λ l bs. IsNotRead (PassesTags reads) (item_at (raws f l) levels bs))
-number_none allowed f reads levels s t kept h e number is none opens = record { told = λ bs tells. inr (number_unread allowed f reads levels s t kept h number is none opens bs tells) }
+    → OpensItem allowed f levels s t kept (Ok h) → Refuses allowed s t (code_of e) (offset_of e) (λ l bs. IsNotRead (PassesTags reads) (item_at (raws f l) levels bs))
+number_none allowed f reads levels s t kept h e number is none opens = record { took = opens.1.took; told = λ bs tells. inr (number_unread allowed f reads levels s t kept h number is none opens bs tells) }

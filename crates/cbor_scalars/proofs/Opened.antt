@@ -9,30 +9,16 @@ use Rattle.cbor_read.specs.Source.{Input}
 use Rattle.cbor_io.specs.declared.read_error.ReadError.{ReadError}
 use Rattle.cbor_io.specs.declared.read_error.ReadErrorCode.{ReadErrorCode}
 use Rattle.cbor_de.specs.Gives.{Limits, Step, Stopped}
-use Rattle.cbor_de.specs.Heads.{opening_at, head_at, behind_head}
+use Rattle.cbor_de.specs.Heads.{HeadGives, opening_at, head_at, behind_head}
 use Rattle.cbor_de.specs.declared.head.Head.{Head}
 use Rattle.cbor_de.specs.declared.head.Head.TheVariants as head
 use Rattle.cbor_de.specs.declared.refusal.Refused.{Refused}
-use Rattle.cbor_de.proofs.facts.Heads.{first_behind}
+use Rattle.cbor_de.proofs.facts.Heads.{item_opened}
 use Rattle.cbor_de.proofs.facts.Steps.{step_map, step_then, stopped_map, stopped_then}
 use Rattle.cbor_scalars.specs.Kinds.{head_kind}
 use Rattle.cbor_scalars.specs.Kinds as kind
 use Rattle.cbor_scalars.specs.Takes.{raws}
 use Rattle.cbor_scalars.specs.Opens.{in_tags, Opens, item_inside, OpensAt, OpensItem}
-
-module _ {Item Items Pairs : Type 0} (m : Reading Item Items Pairs) where
-  abbrev behind : Option (List ℕ → Reads Item) → (HeadWidth × Head) × List ℕ → Reads Item
-  behind inner h = behind_head m inner h.0.0 h.0.1 h.1
-
-  first_opened : (inner : Option (List ℕ → Reads Item)) (r : Reads ℕ) → (r >>= (λ b. after_first m inner b.0 b.1)) ≡ ((r >>= (λ b. head_at b.0 b.1)) >>= behind inner)
-  first_opened inner (Ok b) = first_behind m inner b.0 b.1
-  first_opened inner (Err f) = refl
-
-  -- an item is read after its head
-  pub item_opened : (levels : ℕ) (bs : List ℕ) → item_at m levels bs ≡ (opening_at bs >>= behind (inside m levels))
-  unfolding item_at item_by
-  item_opened zero bs = first_opened None (byte_at bs)
-  item_opened (suc levels) bs = first_opened (Some (item_at m levels)) (byte_at bs)
 
 -- ---- a head, and what is after it
 
@@ -52,8 +38,16 @@ pub head_opens : (f : Formats) (s t : Input) (levels left : ℕ) (h : Head) → 
 head_opens f s t levels left h inner is step = step_map s t (λ l bs rest. (w : HeadWidth) × (opening_at bs ≡ Ok ((w, h), rest))) (λ l bs rest. Opens f l (item_at (raws f l) levels bs) left h rest)
     (λ l bs rest p. subst (λ (n : ℕ). Opens f l (item_at (raws f l) levels bs) n h rest) (sym is) (opens_here f l levels bs rest p.0 h inner p.1)) step
 
-pub head_stops : (allowed : ReadErrorCode → Bool) (f : Formats) (s : Input) (levels : ℕ) (kept : Option ReadError) (r : Refused) → Stopped allowed (λ l. opening_at) s kept r → Stopped allowed (λ l. item_at (raws f l) levels) s kept r
+pub head_stops : {t : Input} (allowed : ReadErrorCode → Bool) (f : Formats) (s : Input) (levels : ℕ) (kept : Option ReadError) (r : Refused) → Stopped allowed (λ l. opening_at) s t kept r → Stopped allowed (λ l. item_at (raws f l) levels) s t kept r
 head_stops allowed f s levels kept r h = stopped_map allowed (λ l. opening_at) (λ l. item_at (raws f l) levels) s kept r (λ l bs e is. item_opened (raws f l) levels bs ∙ rw is refl) h
+
+-- the first byte of a head, and the rest of it
+pub head_taken : (allowed : ReadErrorCode → Bool) (s t u : Input) (b : ℕ) (kept : Option ReadError) (r : Result Head Refused) → Step s t (λ l bs rest. byte_at bs ≡ Ok (b, rest)) → HeadGives allowed (head_at b) t u kept r → HeadGives allowed opening_at s u kept r
+head_taken allowed s t u b kept (Ok h) first given =
+    step_then s t u (λ l bs rest. byte_at bs ≡ Ok (b, rest)) (λ l bs rest. (w : HeadWidth) × (head_at b bs ≡ Ok ((w, h), rest))) (λ l bs rest. (w : HeadWidth) × (opening_at bs ≡ Ok ((w, h), rest)))
+    (λ l bs mid rest here is. (is.0, rw here is.1)) first given
+head_taken allowed s t u b kept (Err r) first given =
+    stopped_then allowed (λ l. head_at b) (λ l. opening_at) s t kept r (λ l bs rest. byte_at bs ≡ Ok (b, rest)) (λ l bs mid f here is. rw here is) first given
 
 -- ---- after a tag
 
@@ -103,7 +97,7 @@ inside_opens allowed f s t u levels inner left kept (Ok h) is at step =
     step_map s u (λ l bs rest. Opens f l (item_at (raws f l) inner bs) left h rest) (λ l bs rest. Opens f l (item_inside f l levels bs) left h rest)
     (λ l bs rest o. subst (λ (read : Reads Raw). Opens f l read left h rest) (sym (inside_is f l levels inner bs is)) o) (subst (λ (x : Input). Step x u (λ l bs rest. Opens f l (item_at (raws f l) inner bs) left h rest)) at step)
 inside_opens allowed f s t u levels inner left kept (Err r) is at stops =
-    stopped_map allowed (λ l. item_at (raws f l) inner) (λ l. item_inside f l levels) s kept r (λ l bs e stops. inside_is f l levels inner bs is ∙ stops) (subst (λ (x : Input). Stopped allowed (λ l. item_at (raws f l) inner) x kept r) at stops)
+    stopped_map allowed (λ l. item_at (raws f l) inner) (λ l. item_inside f l levels) s kept r (λ l bs e stops. inside_is f l levels inner bs is ∙ stops) (subst (λ (x : Input). Stopped allowed (λ l. item_at (raws f l) inner) x u kept r) at stops)
 
 -- ---- kinds
 

@@ -72,7 +72,7 @@ head_opened s t levels left h other is = step_map s t (λ l bs rest. (w : HeadWi
     (λ l bs rest p. subst (λ (n : ℕ). opened_at levels bs ≡ Ok ((n, h), rest)) (sym is) (opened_here levels bs rest p.0 h other p.1))
 
 -- no head
-pub head_unopened : (allowed : ReadErrorCode → Bool) (s : Input) (levels : ℕ) (kept : Option ReadError) (r : Refused) → Stopped allowed (λ l. opening_at) s kept r → Stopped allowed (λ l. opened_at levels) s kept r
+pub head_unopened : {t : Input} (allowed : ReadErrorCode → Bool) (s : Input) (levels : ℕ) (kept : Option ReadError) (r : Refused) → Stopped allowed (λ l. opening_at) s t kept r → Stopped allowed (λ l. opened_at levels) s t kept r
 head_unopened allowed s levels kept r = stopped_map allowed (λ l. opening_at) (λ l. opened_at levels) s kept r (λ l bs e is. opened_stops levels bs e is)
 
 -- after a tag's head
@@ -96,4 +96,4 @@ inside_opened allowed s t u levels next left kept (Ok h) is at step =
     step_map s u (λ l bs rest. opened_at next bs ≡ Ok ((left, h), rest)) (λ l bs rest. opened_inside levels bs ≡ Ok ((left, h), rest))
     (λ l bs rest o. one_level_inside levels next bs is ∙ o) (subst (λ (x : Input). Step x u (λ l bs rest. opened_at next bs ≡ Ok ((left, h), rest))) at step)
 inside_opened allowed s t u levels next left kept (Err r) is at stops =
-    stopped_map allowed (λ l. opened_at next) (λ l. opened_inside levels) s kept r (λ l bs e o. one_level_inside levels next bs is ∙ o) (subst (λ (x : Input). Stopped allowed (λ l. opened_at next) x kept r) at stops)
+    stopped_map allowed (λ l. opened_at next) (λ l. opened_inside levels) s kept r (λ l bs e o. one_level_inside levels next bs is ∙ o) (subst (λ (x : Input). Stopped allowed (λ l. opened_at next) x u kept r) at stops)

@@ -4,7 +4,7 @@ use Rattle.std.specs.Str.{IsUtf8}
 use Rattle.std.proofs.lemmas.Bool.{lt-ltb}
 use Rattle.cbor_model.specs.Refusal.{length_out_of_range}
 use Rattle.cbor_model.specs.Reader.{Fault, Reads, before, bytes_at, ended}
-use Rattle.cbor_read.specs.Source.{Input, IsOfSource, Lends, RefusedPart, part_bytes}
+use Rattle.cbor_read.specs.Source.{Input, IsOfSource, Lends, RefusedPart, TookSome, part_bytes}
 use Rattle.cbor_read.specs.declared.EitherLifetime.{EitherLifetime}
 use Rattle.cbor_io.specs.Error.{code_of, offset_of}
 use Rattle.cbor_io.specs.ReadError.{why, place, error_code, IsMemory}
@@ -13,13 +13,13 @@ use Rattle.cbor_io.specs.declared.error.ErrorCode.{ErrorCode}
 use Rattle.cbor_io.specs.declared.read_error.ReadError.{ReadError}
 use Rattle.cbor_io.specs.declared.read_error.ReadErrorCode.{ReadErrorCode}
 use Rattle.cbor_io.specs.declared.read_error.ReadErrorCode.TheVariants as reading
-use Rattle.cbor_de.specs.Gives.{FailsBy, IsAt, Limits, limits, Reports, Step, Stopped, Stops, TellsNoKey}
+use Rattle.cbor_de.specs.Gives.{FailsBy, IsAt, Limits, limits, Reports, Step, TellsWhy, Stops, TellsNoKey}
 use Rattle.cbor_de.specs.Heads.{passed}
 use Rattle.cbor_de.specs.declared.head.Head.{Head}
 use Rattle.cbor_de.specs.declared.head.Head.TheVariants as head
 use Rattle.cbor_de.specs.declared.refusal.Refused.{Refused}
 use Rattle.cbor_de.specs.declared.refusal.Refused.TheVariants as refused
-use Rattle.cbor_de.proofs.facts.Steps.{kept_stops, passed_on, refused_stops}
+use Rattle.cbor_de.proofs.facts.Steps.{kept_tells, passed_on, refused_stops}
 use Rattle.cbor_scalars.specs.Opens.{opened_at, behind_any}
 use Rattle.cbor_scalars.specs.Strings.{BytesOf, IsKept, IsNoKey, IsMadeOf, Lent, LentText, LendsWhole, PartText, UnreadBehind, UnreadBy, UnreadWhole, Utf8Of, behind_string, content_at, text_bytes}
 use Rattle.cbor_scalars.specs.Takes.{Refuses, RefusesWhole, any_item}
@@ -48,7 +48,7 @@ memory_stop allowed read s q is = record {
 }
 
 -- the refusal that was kept
-pub kept_stop : {A : Type 0} (allowed : ReadErrorCode → Bool) (read : Limits → List ℕ → Reads A) (s : Input) (kept : Option ReadError) (r : Refused) (q : ReadError) → IsKept kept r q → Stopped allowed read s kept r → Stops allowed read s q
+pub kept_stop : {A : Type 0} (allowed : ReadErrorCode → Bool) (read : Limits → List ℕ → Reads A) (s : Input) (kept : Option ReadError) (r : Refused) (q : ReadError) → IsKept kept r q → TellsWhy allowed read s kept r → Stops allowed read s q
 kept_stop allowed read s None refused.OutOfMemory q is h = memory_stop allowed read s q is
 kept_stop allowed read s (Some e) refused.OutOfMemory q is h = memory_stop allowed read s q is
 kept_stop allowed read s None refused.Kept q is h = memory_stop allowed read s q is
@@ -69,9 +69,10 @@ kept_no_key None refused.Kept q is h = λ key. let memory = is.0 in absurd cc
 kept_no_key (Some e) refused.Kept q is h = λ key. h (ap why (sym is) ∙ key)
 
 -- what stops a reading leaves nothing that is read
-pub stops_refuses : {A : Type 0} (allowed : ReadErrorCode → Bool) (read : Limits → List ℕ → Reads A) (s : Input) (q : ReadError) (N : Limits → List ℕ → Type 0) → ((l : Limits) (bs : List ℕ) (f : Fault) → read l bs ≡ Err f → N l bs) → Stops allowed read s q
-    → Refuses allowed s (error_code (why q)) (place q) N
-stops_refuses allowed read s q N none h = record {
+pub stops_refuses : {A : Type 0} {t : Input} (allowed : ReadErrorCode → Bool) (read : Limits → List ℕ → Reads A) (s : Input) (q : ReadError) (N : Limits → List ℕ → Type 0) → ((l : Limits) (bs : List ℕ) (f : Fault) → read l bs ≡ Err f → N l bs) → Stops allowed read s q
+    → TookSome s t → Refuses allowed s t (error_code (why q)) (place q) N
+stops_refuses allowed read s q N none h took = record {
+  took = took;
   told = λ bs tells.
       let l = limits s bs in
       elim (excused_or (Reports allowed) (error_code (why q)) (s.offset + length bs) (place q) (read l bs) (h.told bs tells)) [
@@ -86,10 +87,10 @@ NoContent h l bs = (b rest : List ℕ) → content_at l h bs ≡ Ok (b, rest) �
 abbrev NoText : Head → Limits → List ℕ → Type 0
 NoText h l bs = (b rest : List ℕ) → content_at l h bs ≡ Ok (b, rest) → IsUtf8 b → ⊥
 
-pub content_refuses : (allowed : ReadErrorCode → Bool) (h : Head) (s : Input) (q : ReadError) → Stops allowed (λ l. content_at l h) s q → Refuses allowed s (error_code (why q)) (place q) (NoContent h)
+pub content_refuses : {t : Input} (allowed : ReadErrorCode → Bool) (h : Head) (s : Input) (q : ReadError) → Stops allowed (λ l. content_at l h) s q → TookSome s t → Refuses allowed s t (error_code (why q)) (place q) (NoContent h)
 content_refuses allowed h s q = stops_refuses allowed (λ l. content_at l h) s q (NoContent h) (λ l bs f stops b rest is. absurd (let both = sym is ∙ stops in cc))
 
-pub content_refuses_text : (allowed : ReadErrorCode → Bool) (h : Head) (s : Input) (q : ReadError) → Stops allowed (λ l. content_at l h) s q → Refuses allowed s (error_code (why q)) (place q) (NoText h)
+pub content_refuses_text : {t : Input} (allowed : ReadErrorCode → Bool) (h : Head) (s : Input) (q : ReadError) → Stops allowed (λ l. content_at l h) s q → TookSome s t → Refuses allowed s t (error_code (why q)) (place q) (NoText h)
 content_refuses_text allowed h s q = stops_refuses allowed (λ l. content_at l h) s q (NoText h) (λ l bs f stops b rest is utf8. absurd (let both = sym is ∙ stops in cc))
 
 -- n bytes that aren't there
@@ -105,8 +106,8 @@ text_cut allowed s t n q room h =
           subst (λ (r : Reads (List ℕ)). FailsBy (Reports allowed) (error_code (why q)) (s.offset + length bs) (place q) r) same (bytes.told bs tells);
     }
 
-pub text_too_long : (allowed : ReadErrorCode → Bool) (s : Input) (n : ℕ) (kept : Option ReadError) (r : Refused) → ltb (s.offset + n) (2 ^ 64) ≡ false → r ≡ refused.Kept → IsSomeAnd kept (IsAt reading.LengthOutOfRange s.offset) → Stopped allowed (λ l. content_at l (head.Text (Some n))) s kept r
-text_too_long allowed s n kept r room is keeps = kept_stops allowed s (λ l. content_at l (head.Text (Some n))) kept r (IsAt reading.LengthOutOfRange s.offset) here is keeps
+pub text_too_long : (allowed : ReadErrorCode → Bool) (s : Input) (n : ℕ) (kept : Option ReadError) (r : Refused) → ltb (s.offset + n) (2 ^ 64) ≡ false → r ≡ refused.Kept → IsSomeAnd kept (IsAt reading.LengthOutOfRange s.offset) → TellsWhy allowed (λ l. content_at l (head.Text (Some n))) s kept r
+text_too_long allowed s n kept r room is keeps = kept_tells allowed s (λ l. content_at l (head.Text (Some n))) kept r (IsAt reading.LengthOutOfRange s.offset) here is keeps
   where
     here : (e : ReadError) → IsAt reading.LengthOutOfRange s.offset e → Stops allowed (λ l. content_at l (head.Text (Some n))) s e
     here e at = record {
@@ -166,7 +167,7 @@ module _ (allowed : ReadErrorCode → Bool) (found : Found) (levels : ℕ) (s m 
   other_lends (Halted q) h = behind_stops allowed found levels s m (Some q) refused.Kept opens (passes_stop allowed (behind_any found.levels found.head) m q h)
   other_lends Other h = stood_stands allowed found levels s m opens h
 
-pub unopened_lends : (allowed : ReadErrorCode → Bool) (levels : ℕ) (s : Input) (kept : Option ReadError) (r : Refused) (q : ReadError) → Stopped allowed (λ l. opened_at levels) s kept r → IsKept kept r q → Stops allowed (any_item levels) s q
+pub unopened_lends : (allowed : ReadErrorCode → Bool) (levels : ℕ) (s : Input) (kept : Option ReadError) (r : Refused) (q : ReadError) → TellsWhy allowed (λ l. opened_at levels) s kept r → IsKept kept r q → Stops allowed (any_item levels) s q
 unopened_lends allowed levels s kept r q h is = kept_stop allowed (any_item levels) s kept r q is (unopened_stops allowed levels s kept r h)
 
 -- ---- errors

@@ -13,19 +13,18 @@ use Rattle.cbor_io.specs.declared.read_error.ReadError.{ReadError}
 use Rattle.cbor_io.specs.declared.read_error.ReadErrorCode.{ReadErrorCode}
 use Rattle.cbor_value.specs.View.{float_view}
 use Rattle.cbor_value.specs.declared.Float.{Float}
-use Rattle.cbor_de.specs.Gives.{Limits, limits, values, Tells, Step, Stopped, FailsBy, Reports, IsErrorOf}
+use Rattle.cbor_de.specs.Gives.{Limits, limits, values, Tells, Step, TellsWhy, FailsBy, Reports, IsErrorOf}
 use Rattle.cbor_de.specs.Heads.{opening_at, behind_head, passed}
 use Rattle.cbor_de.specs.declared.head.Head.{Head}
 use Rattle.cbor_de.specs.declared.head.Head.TheVariants as head
 use Rattle.cbor_de.specs.declared.refusal.Refused.{Refused}
-use Rattle.cbor_de.proofs.facts.Heads.{value_behind}
-use Rattle.cbor_de.proofs.facts.Steps.{passed_on, passed_was, passed_stops, step_then, stopped_map, stopped_then}
+use Rattle.cbor_de.proofs.facts.Heads.{item_opened, value_behind}
+use Rattle.cbor_de.proofs.facts.Steps.{passed_on, passed_was, passed_stops, step_then, why_map, why_then}
 use Rattle.cbor_scalars.specs.Opens.{opened_by, opened_at, behind_any, RefusesBehind, StandsBehind}
 use Rattle.cbor_scalars.specs.Takes.{ExcusedBy, FaultOrMessage, IsMessage, TellsItem, TellsOf, WhereTotal, IsMessageBy, RefusesWhole, Stands, TellsFault, any_item}
 use Rattle.cbor_scalars.specs.declared.opening.Found.{Found}
-use Rattle.cbor_scalars.proofs.Opened.{item_opened}
 use Rattle.cbor_scalars.proofs.Openings.{inner, opened_is}
-use Rattle.cbor_scalars.proofs.Scalars.{excused_or, told_by}
+use Rattle.cbor_scalars.proofs.Scalars.{excused_or, told_why}
 
 -- ---- after the head of an item within its tags
 
@@ -116,20 +115,20 @@ message_of D k end at (Err f) x is h = absurd cc
 pub told_whole : (allowed : ReadErrorCode → Bool) (levels : ℕ) (s : Input) (e : Error) → TellsFault allowed (any_item levels) s e → RefusesWhole allowed levels s e
 told_whole allowed levels s e h bs tells = told_or_excused (Reports allowed) (code_of e) (s.offset + length bs) (offset_of e) (any_item levels (limits s bs) bs) (h bs tells)
 
-pub stopped_whole : (allowed : ReadErrorCode → Bool) (levels : ℕ) (s : Input) (kept : Option ReadError) (r : Refused) (e : Error) → Stopped allowed (any_item levels) s kept r → IsErrorOf kept r e → RefusesWhole allowed levels s e
-stopped_whole allowed levels s kept r e h is = told_whole allowed levels s e (told_by allowed (any_item levels) s kept r e is h)
+pub stopped_whole : (allowed : ReadErrorCode → Bool) (levels : ℕ) (s : Input) (kept : Option ReadError) (r : Refused) (e : Error) → TellsWhy allowed (any_item levels) s kept r → IsErrorOf kept r e → RefusesWhole allowed levels s e
+stopped_whole allowed levels s kept r e h is = told_whole allowed levels s e (told_why allowed (any_item levels) s kept r e is h)
 
 -- no head within all tags
-pub unopened_stops : (allowed : ReadErrorCode → Bool) (levels : ℕ) (s : Input) (kept : Option ReadError) (r : Refused) → Stopped allowed (λ l. opened_at levels) s kept r → Stopped allowed (any_item levels) s kept r
-unopened_stops allowed levels s kept r h = stopped_map allowed (λ l. opened_at levels) (any_item levels) s kept r (λ l bs f is. found_stops l levels bs f is) h
+pub unopened_stops : (allowed : ReadErrorCode → Bool) (levels : ℕ) (s : Input) (kept : Option ReadError) (r : Refused) → TellsWhy allowed (λ l. opened_at levels) s kept r → TellsWhy allowed (any_item levels) s kept r
+unopened_stops allowed levels s kept r h = why_map allowed (λ l. opened_at levels) (any_item levels) s kept r (λ l bs f is. found_stops l levels bs f is) h
 
-pub unopened_whole : (allowed : ReadErrorCode → Bool) (levels : ℕ) (s : Input) (kept : Option ReadError) (r : Refused) (e : Error) → Stopped allowed (λ l. opened_at levels) s kept r → IsErrorOf kept r e → RefusesWhole allowed levels s e
+pub unopened_whole : (allowed : ReadErrorCode → Bool) (levels : ℕ) (s : Input) (kept : Option ReadError) (r : Refused) (e : Error) → TellsWhy allowed (λ l. opened_at levels) s kept r → IsErrorOf kept r e → RefusesWhole allowed levels s e
 unopened_whole allowed levels s kept r e h is = stopped_whole allowed levels s kept r e (unopened_stops allowed levels s kept r h) is
 
 -- no head at the front
-pub headless_whole : (allowed : ReadErrorCode → Bool) (levels : ℕ) (s : Input) (kept : Option ReadError) (r : Refused) (e : Error) → Stopped allowed (λ l. opening_at) s kept r → IsErrorOf kept r e → RefusesWhole allowed levels s e
+pub headless_whole : (allowed : ReadErrorCode → Bool) (levels : ℕ) (s : Input) (kept : Option ReadError) (r : Refused) (e : Error) → TellsWhy allowed (λ l. opening_at) s kept r → IsErrorOf kept r e → RefusesWhole allowed levels s e
 headless_whole allowed levels s kept r e h is =
-    stopped_whole allowed levels s kept r e (stopped_map allowed (λ l. opening_at) (any_item levels) s kept r (λ l bs f none. head_stops_any l levels bs f none) h) is
+    stopped_whole allowed levels s kept r e (why_map allowed (λ l. opening_at) (any_item levels) s kept r (λ l bs f none. head_stops_any l levels bs f none) h) is
 
 pub excused_whole : (allowed : ReadErrorCode → Bool) (levels : ℕ) (s : Input) (e : Error) → ((bs : List ℕ) → Tells s bs → ExcusedBy (Reports allowed) (code_of e) (offset_of e)) → RefusesWhole allowed levels s e
 excused_whole allowed levels s e h bs tells = excused_fault (Reports allowed) (code_of e) (s.offset + length bs) (offset_of e) (any_item levels (limits s bs) bs) (h bs tells)
@@ -154,12 +153,12 @@ module _ (allowed : ReadErrorCode → Bool) (found : Found) where
   abbrev passes : Limits → List ℕ → Reads (Unit {0})
   passes l bs = passed (behind l bs)
 
-  pub behind_stopped : (s : Input) (kept : Option ReadError) (r : Refused) (e : Error) → Stopped allowed passes s kept r → IsErrorOf kept r e → RefusesBehind allowed found s e
+  pub behind_stopped : (s : Input) (kept : Option ReadError) (r : Refused) (e : Error) → TellsWhy allowed passes s kept r → IsErrorOf kept r e → RefusesBehind allowed found s e
   behind_stopped s kept r e h is bs tells =
       let l = limits s bs in
       let D = Reports allowed in
       let end = s.offset + length bs in
-      let told = told_or_excused D (code_of e) end (offset_of e) (passes l bs) (told_by allowed passes s kept r e is h bs tells) in
+      let told = told_or_excused D (code_of e) end (offset_of e) (passes l bs) (told_why allowed passes s kept r e is h bs tells) in
       fault_alike D (code_of e) end (offset_of e) (passes l bs) (behind l bs) (passed_made (behind l bs) (λ (v : Val). tt)) told
 
   pub behind_message : (s t : Input) (e : Error) (text : Option (List ℕ)) → IsMessageOf text (code_of e) → offset_of e ≡ 0 → Step s t (λ l bs rest. passes l bs ≡ Ok (tt, rest)) → RefusesBehind allowed found s e
@@ -187,7 +186,7 @@ module _ (allowed : ReadErrorCode → Bool) (found : Found) where
       let D = Reports allowed in
       let k = code_of e in
       let at = offset_of e in
-      let same : limits m one.rest ≡ l = ap₂ (λ (n : ℕ) (r : Option ℕ). record { total = n; room = r }) one.total step.room in
+      let same : limits m one.rest ≡ l = ap₂ (λ (n : ℕ) (r : Option ℕ). record { total = n; room = r }) one.total step.took.room in
       let here = subst (λ (n : ℕ). FaultOrMessage D k n at (behind (limits m one.rest) one.rest)) one.total (h one.rest one.tells) in
       let there = subst (λ (i : Limits). FaultOrMessage D k (s.offset + length bs) at (behind i one.rest)) same here in
       fault_alike D k (s.offset + length bs) at (behind l one.rest) (any_item levels l bs) (sym (found_is l levels found.levels found.head bs one.rest one.holds)) there
@@ -205,13 +204,13 @@ module _ (allowed : ReadErrorCode → Bool) (found : Found) where
       let l = limits s bs in
       let one = step.told bs tells in
       let item = stood one.rest one.tells in
-      let same : limits m one.rest ≡ l = ap₂ (λ (n : ℕ) (r : Option ℕ). record { total = n; room = r }) one.total step.room in
+      let same : limits m one.rest ≡ l = ap₂ (λ (n : ℕ) (r : Option ℕ). record { total = n; room = r }) one.total step.took.room in
       let here = subst (λ (i : Limits). behind i one.rest ≡ Ok (item.0, item.1)) same item.2 in
       let was = passed_was (any_item levels l bs) item.1 (found_is l levels found.levels found.head bs one.rest one.holds ∙ ap (λ (r : Reads Val). passed r) here) in
       (was.0, item.1, was.1)
 
-  pub behind_stops : (levels : ℕ) (s m : Input) (kept : Option ReadError) (r : Refused) → Step s m (Follows levels) → Stopped allowed passes m kept r → Stopped allowed (any_item levels) s kept r
-  behind_stops levels s m kept r step h = stopped_then allowed passes (any_item levels) s m kept r (Follows levels) (λ l bs mid f is stops. passed_stops (any_item levels l bs) f (found_is l levels found.levels found.head bs mid is ∙ stops)) step h
+  pub behind_stops : (levels : ℕ) (s m : Input) (kept : Option ReadError) (r : Refused) → Step s m (Follows levels) → TellsWhy allowed passes m kept r → TellsWhy allowed (any_item levels) s kept r
+  behind_stops levels s m kept r step h = why_then allowed passes (any_item levels) s m kept r (Follows levels) (λ l bs mid f is stops. passed_stops (any_item levels l bs) f (found_is l levels found.levels found.head bs mid is ∙ stops)) step h
 
 -- a number is whole with its head
 pub number_message : (allowed : ReadErrorCode → Bool) (found : Found) (s : Input) (e : Error) (text : Option (List ℕ)) (n : ℕ) → IsMessageOf text (code_of e) → offset_of e ≡ 0 → (found.head ≡ head.Unsigned n) ⊎ (found.head ≡ head.Negative n) → RefusesBehind allowed found s e

@@ -15,20 +15,20 @@ use Rattle.cbor_io.specs.declared.error.ErrorCode.TheVariants as code
 use Rattle.cbor_io.specs.declared.read_error.ReadError.{ReadError}
 use Rattle.cbor_io.specs.declared.read_error.ReadErrorCode.{ReadErrorCode}
 use Rattle.cbor_io.specs.declared.read_error.ReadErrorCode.TheVariants as reading
-use Rattle.cbor_de.specs.Gives.{FailsBy, IsErrorOf, Limits, limits, Reports, Step, Stopped, Tells, values}
+use Rattle.cbor_de.specs.Gives.{FailsBy, IsErrorOf, Limits, limits, Reports, Step, TellsWhy, Tells, values}
 use Rattle.cbor_de.specs.Heads.{passed}
 use Rattle.cbor_de.specs.declared.head.Head.{Head}
 use Rattle.cbor_de.specs.declared.head.Head.TheVariants as head
 use Rattle.cbor_de.specs.declared.refusal.Refused.{Refused}
 use Rattle.cbor_de.specs.declared.refusal.Refused.TheVariants as refused
-use Rattle.cbor_de.proofs.facts.Steps.{step_map, stopped_map}
+use Rattle.cbor_de.proofs.facts.Steps.{step_map, why_map}
 use Rattle.cbor_scalars.specs.Opens.{RefusesBehind, behind_any, opened_at}
 use Rattle.cbor_scalars.specs.Strings.{IsNotUtf8, KeepsTextOf, TellsString, behind_string, content_at}
 use Rattle.cbor_scalars.specs.Takes.{FaultOrMessage, RefusesWhole, Stands, TellsFault, any_item}
 use Rattle.cbor_scalars.specs.declared.opening.Found.{Found}
 use Rattle.cbor_scalars.proofs.Contents.{bad_text, chunks_of, no_chunks, none_picked, passes, picked, stops_at}
 use Rattle.cbor_scalars.proofs.PassedOver.{behind_stands, behind_stops, behind_whole, told_or_excused}
-use Rattle.cbor_scalars.proofs.Scalars.{told_by}
+use Rattle.cbor_scalars.proofs.Scalars.{told_why}
 
 -- ---- after a head
 
@@ -102,14 +102,14 @@ pub checked_told : {X : Type 0} (view : X → List ℕ) (allowed : ReadErrorCode
 checked_told view allowed s t n b kept (Ok x) step is = tt
 checked_told view allowed s t n b kept (Err r) step is = λ e made. text_told allowed s t n b e step (is e made)
 
-pub text_unread : (allowed : ReadErrorCode → Bool) (s : Input) (n : Option ℕ) (kept : Option ReadError) (r : Refused) → Stopped allowed (λ l. content_at l (head.Text n)) s kept r → Stopped allowed (behind_string (head.Text n)) s kept r
-text_unread allowed s n kept r h = stopped_map allowed (λ l. content_at l (head.Text n)) (behind_string (head.Text n)) s kept r (λ l bs f is. text_fails l 0 n bs f is) h
+pub text_unread : (allowed : ReadErrorCode → Bool) (s : Input) (n : Option ℕ) (kept : Option ReadError) (r : Refused) → TellsWhy allowed (λ l. content_at l (head.Text n)) s kept r → TellsWhy allowed (behind_string (head.Text n)) s kept r
+text_unread allowed s n kept r h = why_map allowed (λ l. content_at l (head.Text n)) (behind_string (head.Text n)) s kept r (λ l bs f is. text_fails l 0 n bs f is) h
 
-pub bytes_unread : (allowed : ReadErrorCode → Bool) (s : Input) (n : Option ℕ) (kept : Option ReadError) (r : Refused) → Stopped allowed (λ l. content_at l (head.Bytes n)) s kept r → Stopped allowed (behind_string (head.Bytes n)) s kept r
-bytes_unread allowed s n kept r h = stopped_map allowed (λ l. content_at l (head.Bytes n)) (behind_string (head.Bytes n)) s kept r (λ l bs f is. bytes_fail l 0 n bs f is) h
+pub bytes_unread : (allowed : ReadErrorCode → Bool) (s : Input) (n : Option ℕ) (kept : Option ReadError) (r : Refused) → TellsWhy allowed (λ l. content_at l (head.Bytes n)) s kept r → TellsWhy allowed (behind_string (head.Bytes n)) s kept r
+bytes_unread allowed s n kept r h = why_map allowed (λ l. content_at l (head.Bytes n)) (behind_string (head.Bytes n)) s kept r (λ l bs f is. bytes_fail l 0 n bs f is) h
 
-pub text_tells : (allowed : ReadErrorCode → Bool) (s : Input) (n : Option ℕ) (kept : Option ReadError) (r : Refused) → Stopped allowed (λ l. content_at l (head.Text n)) s kept r → TellsString allowed (head.Text n) s kept r
-text_tells allowed s n kept r h e is = told_by allowed (behind_string (head.Text n)) s kept r e is (text_unread allowed s n kept r h)
+pub text_tells : (allowed : ReadErrorCode → Bool) (s : Input) (n : Option ℕ) (kept : Option ReadError) (r : Refused) → TellsWhy allowed (λ l. content_at l (head.Text n)) s kept r → TellsString allowed (head.Text n) s kept r
+text_tells allowed s n kept r h e is = told_why allowed (behind_string (head.Text n)) s kept r e is (text_unread allowed s n kept r h)
 
 -- ---- the item at the front
 
@@ -129,8 +129,8 @@ module _ (allowed : ReadErrorCode → Bool) (found : Found) (levels : ℕ) (s m 
   pub text_whole : (n : Option ℕ) (e : Error) → found.head ≡ head.Text n → TellsFault allowed (behind_string (head.Text n)) m e → RefusesWhole allowed levels s e
   text_whole n e is = string_whole (head.Text n) e is (λ l bs. text_level l found.levels n bs)
 
-  pub bytes_whole : (n : Option ℕ) (kept : Option ReadError) (r : Refused) (e : Error) → found.head ≡ head.Bytes n → Stopped allowed (λ l. content_at l (head.Bytes n)) m kept r → IsErrorOf kept r e → RefusesWhole allowed levels s e
-  bytes_whole n kept r e is h made = string_whole (head.Bytes n) e is (λ l bs. bytes_level l found.levels n bs) (told_by allowed (behind_string (head.Bytes n)) m kept r e made (bytes_unread allowed m n kept r h))
+  pub bytes_whole : (n : Option ℕ) (kept : Option ReadError) (r : Refused) (e : Error) → found.head ≡ head.Bytes n → TellsWhy allowed (λ l. content_at l (head.Bytes n)) m kept r → IsErrorOf kept r e → RefusesWhole allowed levels s e
+  bytes_whole n kept r e is h made = string_whole (head.Bytes n) e is (λ l bs. bytes_level l found.levels n bs) (told_why allowed (behind_string (head.Bytes n)) m kept r e made (bytes_unread allowed m n kept r h))
 
   pub bytes_stand : (n : Option ℕ) (t : Input) (b : List ℕ) → found.head ≡ head.Bytes n → Step m t (λ l bs rest. content_at l (head.Bytes n) bs ≡ Ok (b, rest)) → Stands levels s
   bytes_stand n t b is step =
@@ -145,14 +145,14 @@ module _ (allowed : ReadErrorCode → Bool) (found : Found) (levels : ℕ) (s m 
       (λ l bs rest here. ap (λ (h : Head). passed (behind_any found.levels h l bs)) is ∙ text_passed l found.levels n bs b rest here utf8) step)
 
   -- what follows the head stops the item
-  string_stops : (h : Head) (kept : Option ReadError) (r : Refused) → found.head ≡ h → ((l : Limits) (bs : List ℕ) → behind_string h l bs ≡ behind_any found.levels h l bs) → Stopped allowed (behind_string h) m kept r → Stopped allowed (any_item levels) s kept r
+  string_stops : (h : Head) (kept : Option ReadError) (r : Refused) → found.head ≡ h → ((l : Limits) (bs : List ℕ) → behind_string h l bs ≡ behind_any found.levels h l bs) → TellsWhy allowed (behind_string h) m kept r → TellsWhy allowed (any_item levels) s kept r
   string_stops h kept r is level stopped =
       behind_stops allowed found levels s m kept r opens
-      (stopped_map allowed (behind_string h) (λ l bs. passed (behind_any found.levels found.head l bs)) m kept r
+      (why_map allowed (behind_string h) (λ l bs. passed (behind_any found.levels found.head l bs)) m kept r
       (λ l bs f here. ap (λ (r : Reads Val). passed r) (ap (λ (h : Head). behind_any found.levels h l bs) is ∙ sym (level l bs) ∙ here)) stopped)
 
-  pub text_stops : (n : Option ℕ) (kept : Option ReadError) (r : Refused) → found.head ≡ head.Text n → Stopped allowed (behind_string (head.Text n)) m kept r → Stopped allowed (any_item levels) s kept r
+  pub text_stops : (n : Option ℕ) (kept : Option ReadError) (r : Refused) → found.head ≡ head.Text n → TellsWhy allowed (behind_string (head.Text n)) m kept r → TellsWhy allowed (any_item levels) s kept r
   text_stops n kept r is = string_stops (head.Text n) kept r is (λ l bs. text_level l found.levels n bs)
 
-  pub bytes_stop_item : (n : Option ℕ) (kept : Option ReadError) (r : Refused) → found.head ≡ head.Bytes n → Stopped allowed (behind_string (head.Bytes n)) m kept r → Stopped allowed (any_item levels) s kept r
+  pub bytes_stop_item : (n : Option ℕ) (kept : Option ReadError) (r : Refused) → found.head ≡ head.Bytes n → TellsWhy allowed (behind_string (head.Bytes n)) m kept r → TellsWhy allowed (any_item levels) s kept r
   bytes_stop_item n kept r is = string_stops (head.Bytes n) kept r is (λ l bs. bytes_level l found.levels n bs)

@@ -7,7 +7,7 @@ use Rattle.cbor_model.specs.Formats.{Formats}
 use Rattle.cbor_model.specs.Readable.{untagged, PassesTags, IsBool, IsUnit}
 use Rattle.cbor_model.specs.Reader.{Fault, Reads, item_at, inside}
 use Rattle.cbor_model.proofs.facts.Reader.{ok_is}
-use Rattle.cbor_read.specs.Source.{Input}
+use Rattle.cbor_read.specs.Source.{Input, TookSome}
 use Rattle.cbor_io.specs.Error.{code_of, offset_of}
 use Rattle.cbor_io.specs.declared.error.Error.{Error}
 use Rattle.cbor_io.specs.declared.error.ErrorCode.{ErrorCode}
@@ -17,13 +17,13 @@ use Rattle.cbor_io.specs.declared.read_error.ReadError.{ReadError}
 use Rattle.cbor_io.specs.declared.read_error.ReadErrorCode.{ReadErrorCode}
 use Rattle.cbor_value.specs.declared.Float.{Float}
 use Rattle.cbor_value.specs.declared.Float.TheVariants.{Half, Single, Double}
-use Rattle.cbor_de.specs.Gives.{Limits, limits, Tells, Step, Stopped, FailsBy, Reports, IsErrorOf}
+use Rattle.cbor_de.specs.Gives.{Limits, limits, Tells, Step, TellsWhy, Stopped, FailsBy, Reports, IsErrorOf}
 use Rattle.cbor_de.specs.Heads.{behind_head}
 use Rattle.cbor_de.specs.declared.head.Head.{Head}
 use Rattle.cbor_de.specs.declared.head.Head.TheVariants as head
 use Rattle.cbor_de.specs.declared.refusal.Refused.{Refused}
 use Rattle.cbor_de.specs.declared.refusal.Refused.TheVariants as refused
-use Rattle.cbor_de.proofs.facts.Steps.{step_map}
+use Rattle.cbor_de.proofs.facts.Steps.{some_then, step_map}
 use Rattle.cbor_scalars.specs.Takes.{raws, IsRead, IsNotRead, ExcusedBy, MemoryFor, Refuses, TellsFault}
 use Rattle.cbor_scalars.specs.Opens.{tagged, in_tags, Opens, OpensItem}
 use Rattle.cbor_scalars.specs.Kinds.{kind_of, head_kind}
@@ -66,22 +66,32 @@ or_none : {A : Type 0} (D : Type 0) (k : ErrorCode) (at : ℕ) (reads : Raw → 
 or_none D k at reads read (inl e) = inl e
 or_none D k at reads read (inr h) = inr (not_read reads read h.0 h.1)
 
+-- the error of a refusal tells the fault
+pub told_why : {A : Type 0} (allowed : ReadErrorCode → Bool) (read : Limits → List ℕ → Reads A) (s : Input) (kept : Option ReadError) (r : Refused) (e : Error) → IsErrorOf kept r e → TellsWhy allowed read s kept r → TellsFault allowed read s e
+told_why allowed read s kept refused.OutOfMemory e is h bs tells = subst (λ (k : ErrorCode). FailsBy (Reports allowed) k (s.offset + length bs) (offset_of e) (read (limits s bs) bs)) (sym is.0) is.1
+told_why allowed read s None refused.Kept e is h bs tells = absurd h
+told_why allowed read s (Some q) refused.Kept e is h bs tells =
+    let D = Reports allowed in
+    let there = subst (λ (k : ErrorCode). FailsBy D k (s.offset + length bs) (place q) (read (limits s bs) bs)) (sym is.0) (h.told bs tells) in
+    subst (λ (n : ℕ). FailsBy D (code_of e) (s.offset + length bs) n (read (limits s bs) bs)) (sym is.1) there
+
+pub told_by : {A : Type 0} {t : Input} (allowed : ReadErrorCode → Bool) (read : Limits → List ℕ → Reads A) (s : Input) (kept : Option ReadError) (r : Refused) (e : Error) → IsErrorOf kept r e → Stopped allowed read s t kept r → TellsFault allowed read s e
+told_by allowed read s kept r e is h = told_why allowed read s kept r e is h.told
+
 -- an error that is made of a refusal
-pub refuses : {A : Type 0} (allowed : ReadErrorCode → Bool) (reads : Raw → A → Type 0) (read : Limits → List ℕ → Reads Raw) (s : Input) (kept : Option ReadError) (r : Refused) (e : Error)
-    → IsErrorOf kept r e → Stopped allowed read s kept r → Refuses allowed s (code_of e) (offset_of e) (λ l bs. IsNotRead reads (read l bs))
-refuses allowed reads read s kept refused.OutOfMemory e is h = record { told = λ bs tells. inl (subst (λ (k : ErrorCode). ExcusedBy (Reports allowed) k (offset_of e)) (sym is.0) is.1) }
-refuses allowed reads read s None refused.Kept e is h = absurd h
-refuses allowed reads read s (Some q) refused.Kept e is h = record {
-  told = λ bs tells.
-      let D = Reports allowed in
-      let here = h.told bs tells in
-      let there = subst (λ (k : ErrorCode). FailsBy D k (s.offset + length bs) (place q) (read (limits s bs) bs)) (sym is.0) here in
-      let at = subst (λ (n : ℕ). FailsBy D (code_of e) (s.offset + length bs) n (read (limits s bs) bs)) (sym is.1) there in
-      or_none D (code_of e) (offset_of e) reads (read (limits s bs) bs) (excused_or D (code_of e) (s.offset + length bs) (offset_of e) (read (limits s bs) bs) at);
+pub refuses : {A : Type 0} {t : Input} (allowed : ReadErrorCode → Bool) (reads : Raw → A → Type 0) (read : Limits → List ℕ → Reads Raw) (s : Input) (kept : Option ReadError) (r : Refused) (e : Error)
+    → IsErrorOf kept r e → Stopped allowed read s t kept r → Refuses allowed s t (code_of e) (offset_of e) (λ l bs. IsNotRead reads (read l bs))
+refuses allowed reads read s kept r e is h = record {
+  took = h.took;
+  told = λ bs tells. or_none (Reports allowed) (code_of e) (offset_of e) reads (read (limits s bs) bs) (excused_or (Reports allowed) (code_of e) (s.offset + length bs) (offset_of e) (read (limits s bs) bs) (told_by allowed read s kept r e is h bs tells));
 }
 
+-- further bytes were taken
+pub refuses_on : {allowed : ReadErrorCode → Bool} {s t u : Input} {k : ErrorCode} {at : ℕ} {N : Limits → List ℕ → Type 0} → Refuses allowed s t k at N → TookSome t u → Refuses allowed s u k at N
+refuses_on {s = s} {t = t} {u = u} h more = record { took = some_then s t u h.took more; told = h.told }
+
 -- what isn't excused holds
-pub unexcused : (allowed : ReadErrorCode → Bool) (s : Input) (N : Limits → List ℕ → Type 0) → Refuses allowed s code.TrailingData 0 N → (bs : List ℕ) → Tells s bs → N (limits s bs) bs
+pub unexcused : {t : Input} (allowed : ReadErrorCode → Bool) (s : Input) (N : Limits → List ℕ → Type 0) → Refuses allowed s t code.TrailingData 0 N → (bs : List ℕ) → Tells s bs → N (limits s bs) bs
 unexcused allowed s N h bs tells = elim (h.told bs tells) [
   | inl excused ↦ absurd excused
   | inr none ↦ none
@@ -152,11 +162,11 @@ scalar_unread allowed f reads levels s t kept h other (left, step) bs tells =
 
 pub none_scalar : {A : Type 0} (allowed : ReadErrorCode → Bool) (f : Formats) (reads : Raw → A → Type 0) (levels : ℕ) (s t : Input) (kept : Option ReadError) (h : Head) (e : Error)
     → ((r : Raw) (x : A) → reads (untagged r) x → (kind_of r ≡ kind.tag → ⊥) → kind_of r ≡ head_kind h → ⊥)
-    → OpensItem allowed f levels s t kept (Ok h) → Refuses allowed s (code_of e) (offset_of e) (λ l bs. IsNotRead (PassesTags reads) (item_at (raws f l) levels bs))
-none_scalar allowed f reads levels s t kept h e other opens = record { told = λ bs tells. inr (scalar_unread allowed f reads levels s t kept h other opens bs tells) }
+    → OpensItem allowed f levels s t kept (Ok h) → Refuses allowed s t (code_of e) (offset_of e) (λ l bs. IsNotRead (PassesTags reads) (item_at (raws f l) levels bs))
+none_scalar allowed f reads levels s t kept h e other opens = record { took = opens.1.took; told = λ bs tells. inr (scalar_unread allowed f reads levels s t kept h other opens bs tells) }
 
 pub stops_scalar : {A : Type 0} (allowed : ReadErrorCode → Bool) (f : Formats) (reads : Raw → A → Type 0) (levels : ℕ) (s t : Input) (kept : Option ReadError) (r : Refused) (e : Error)
-    → OpensItem allowed f levels s t kept (Err r) → IsErrorOf kept r e → Refuses allowed s (code_of e) (offset_of e) (λ l bs. IsNotRead reads (item_at (raws f l) levels bs))
+    → OpensItem allowed f levels s t kept (Err r) → IsErrorOf kept r e → Refuses allowed s t (code_of e) (offset_of e) (λ l bs. IsNotRead reads (item_at (raws f l) levels bs))
 stops_scalar allowed f reads levels s t kept r e (left, stops) is = refuses allowed reads (λ l. item_at (raws f l) levels) s kept r e is stops
 
 -- ---- kinds
@@ -298,12 +308,3 @@ null_read allowed f levels s t kept = takes_scalar allowed f IsUnit levels s t k
 
 pub undefined_read : (allowed : ReadErrorCode → Bool) (f : Formats) (levels : ℕ) (s t : Input) (kept : Option ReadError) → OpensItem allowed f levels s t kept (Ok head.Undefined) → Step s t (λ l bs rest. IsRead (PassesTags IsUnit) (item_at (raws f l) levels bs) tt rest)
 undefined_read allowed f levels s t kept = takes_scalar allowed f IsUnit levels s t kept head.Undefined tt (λ w. raw.simple undefined_item) (λ l inner w mid. refl) (λ w. tt)
-
--- the error of a refusal tells the fault
-pub told_by : {A : Type 0} (allowed : ReadErrorCode → Bool) (read : Limits → List ℕ → Reads A) (s : Input) (kept : Option ReadError) (r : Refused) (e : Error) → IsErrorOf kept r e → Stopped allowed read s kept r → TellsFault allowed read s e
-told_by allowed read s kept refused.OutOfMemory e is h bs tells = subst (λ (k : ErrorCode). FailsBy (Reports allowed) k (s.offset + length bs) (offset_of e) (read (limits s bs) bs)) (sym is.0) is.1
-told_by allowed read s None refused.Kept e is h bs tells = absurd h
-told_by allowed read s (Some q) refused.Kept e is h bs tells =
-    let D = Reports allowed in
-    let there = subst (λ (k : ErrorCode). FailsBy D k (s.offset + length bs) (place q) (read (limits s bs) bs)) (sym is.0) (h.told bs tells) in
-    subst (λ (n : ℕ). FailsBy D (code_of e) (s.offset + length bs) n (read (limits s bs) bs)) (sym is.1) there

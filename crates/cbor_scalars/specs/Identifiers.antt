@@ -77,7 +77,7 @@ abbrev pub TakesName : (ReadErrorCode → Bool) → List (List ℕ) → Head →
 TakesName refusals names h s t kept (Ok place) =
     (b : List ℕ) × IsUtf8 b × IsPlace names b place × Content h s t b
 TakesName refusals names h s t kept (Err r) = (e : Error) → IsErrorOf kept r e
-    → Refuses refusals s (code_of e) (offset_of e)
+    → Refuses refusals s t (code_of e) (offset_of e)
     (λ l bs. (b rest : List ℕ) → content_at l h bs ≡ Ok (b, rest) → IsUtf8 b → ⊥)
 
 -- The name that a byte string is was taken after its head; or none is there.
@@ -86,7 +86,7 @@ abbrev pub TakesBytesName : (ReadErrorCode → Bool) → List (List ℕ) → Hea
 TakesBytesName refusals names h s t kept (Ok place) =
     (b : List ℕ) × IsPlace names b place × Content h s t b
 TakesBytesName refusals names h s t kept (Err why) = (e : Error) → IsMadeBy kept why e
-    → Refuses refusals s (code_of e) (offset_of e)
+    → Refuses refusals s t (code_of e) (offset_of e)
     (λ l bs. (b rest : List ℕ) → content_at l h bs ≡ Ok (b, rest) → ⊥)
 
 -- ---- examples

@@ -50,7 +50,7 @@ abbrev pub OpensAt : (ReadErrorCode → Bool) → Formats → (Limits → List �
     → Input → ℕ → Option ReadError → Result Head Refused → Type 0
 OpensAt refusals f read s t left kept (Ok h) =
     Step s t (λ l bs rest. Opens f l (read l bs) left h rest)
-OpensAt refusals f read s t left kept (Err r) = Stopped refusals read s kept r
+OpensAt refusals f read s t left kept (Err r) = Stopped refusals read s t kept r
 
 -- The head of the item at the front was taken, where so many levels are left; or why not.
 abbrev pub OpensItem : (ReadErrorCode → Bool) → Formats → ℕ → Input → Input → Option ReadError

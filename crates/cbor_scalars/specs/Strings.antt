@@ -73,18 +73,19 @@ abbrev pub TakesText : {X : Type 0} → (ReadErrorCode → Bool) → (X → List
 TakesText refusals view h s t kept (Ok x) =
     Step s t (λ l bs rest. content_at l h bs ≡ Ok (view x, rest)) × IsUtf8 (view x)
 TakesText refusals view h s t kept (Err r) = (e : Error) → IsErrorOf kept r e
-    → Refuses refusals s (code_of e) (offset_of e)
+    → Refuses refusals s t (code_of e) (offset_of e)
     (λ l bs. (b rest : List ℕ) → content_at l h bs ≡ Ok (b, rest) → IsUtf8 b → ⊥)
 
 -- What was sought at the front, where so many levels are left: it was taken; an item of another kind
--- is there, which isn't read; or reading stopped, as the error says that is made of the refusal that
+-- is there, of which some bytes were taken; or reading stopped, as the error says that is made of the refusal that
 -- is kept.
 abbrev pub SeeksItem : {A : Type 0} → (ReadErrorCode → Bool) → model.Formats → (Raw → A → Type 0) → ℕ
     → Input → Input → Option ReadError → Result (Option A) Refused → Type 0
 SeeksItem refusals f reads levels s t kept (Ok (Some x)) =
     Step s t (λ l bs rest. IsRead reads (item_at (raws f l) levels bs) x rest)
-SeeksItem refusals f reads levels s t kept (Ok None) = (bs : List ℕ) → Tells s bs → IsNotRead reads (item_at (raws f (limits s bs)) levels bs)
-SeeksItem refusals f reads levels s t kept (Err r) = (e : Error) → IsErrorOf kept r e → Refuses refusals s (code_of e) (offset_of e) (λ l bs. IsNotRead reads (item_at (raws f l) levels bs))
+SeeksItem refusals f reads levels s t kept (Ok None) =
+    Step s t (λ l bs rest. IsNotRead reads (item_at (raws f l) levels bs))
+SeeksItem refusals f reads levels s t kept (Err r) = (e : Error) → IsErrorOf kept r e → Refuses refusals s t (code_of e) (offset_of e) (λ l bs. IsNotRead reads (item_at (raws f l) levels bs))
 
 -- Where nothing was found of what was sought, an item of another kind stands at the front, or the error
 -- that is made of the refusal that is kept is one of what stands there.
@@ -134,10 +135,11 @@ IsKept (Some q) refused.Kept e = e ≡ q
 IsKept _ refused.OutOfMemory e = IsMemory e
 
 -- Why nothing was lent that N says isn't there. Where it is an item of another kind, each error says
--- so.
-abbrev pub Lacks : (ReadErrorCode → Bool) → Input → (Limits → List ℕ → Type 0) → Unread → Type 0
-Lacks refusals s N (Stopped e) = Refuses refusals s (error_code (why e)) (place e) N
-Lacks refusals s N Other = (code : ErrorCode) (at : ℕ) → Refuses refusals s code at N
+-- so. Some bytes were taken.
+abbrev pub Lacks : (ReadErrorCode → Bool) → Input → Input → (Limits → List ℕ → Type 0) → Unread
+    → Type 0
+Lacks refusals s t N (Stopped e) = Refuses refusals s t (error_code (why e)) (place e) N
+Lacks refusals s t N Other = (code : ErrorCode) (at : ℕ) → Refuses refusals s t code at N
 
 -- The bytes of a string were taken after its head; or none are there.
 abbrev pub Lent : (ReadErrorCode → Bool) → Lends → Head → Input → Input
@@ -146,7 +148,7 @@ Lent refusals l h s t (Ok p) =
     Step s t (λ limits bs rest. content_at limits h bs ≡ Ok (part_bytes p, rest))
     × (is_long p ≡ lends_head l h)
 Lent refusals l h s t (Err u) =
-    Lacks refusals s (λ limits bs. (b rest : List ℕ) → content_at limits h bs ≡ Ok (b, rest) → ⊥) u
+    Lacks refusals s t (λ limits bs. (b rest : List ℕ) → content_at limits h bs ≡ Ok (b, rest) → ⊥) u
 
 -- What is lent of a string whose bytes are UTF-8.
 abbrev pub LentText : (ReadErrorCode → Bool) → Lends → Head → Input → Input
@@ -155,7 +157,7 @@ LentText refusals l h s t (Ok p) =
     Step s t (λ limits bs rest. content_at limits h bs ≡ Ok (text_bytes p, rest))
     × IsUtf8 (text_bytes p) × (is_long_text p ≡ lends_head l h)
 LentText refusals l h s t (Err u) =
-    Lacks refusals s (λ limits bs.
+    Lacks refusals s t (λ limits bs.
     (b rest : List ℕ) → content_at limits h bs ≡ Ok (b, rest) → IsUtf8 b → ⊥) u
 
 -- The text at the front was taken, where so many levels are left; or none is there.
@@ -165,7 +167,7 @@ LendsText refusals c levels s t (Ok p) =
     Step s t (λ l bs rest.
     IsRead (PassesTags (IsLentText c)) (item_at (raws c.formats l) levels bs) p rest)
 LendsText refusals c levels s t (Err u) =
-    Lacks refusals s (λ l bs. IsNotRead (PassesTags IsText) (item_at (raws c.formats l) levels bs)) u
+    Lacks refusals s t (λ l bs. IsNotRead (PassesTags IsText) (item_at (raws c.formats l) levels bs)) u
 
 -- The string at the front was taken, where so many levels are left; or none is there.
 abbrev pub LendsString : (ReadErrorCode → Bool) → Context → ℕ → Input → Input
@@ -174,7 +176,7 @@ LendsString refusals c levels s t (Ok p) =
     Step s t (λ l bs rest.
     IsRead (PassesTags (IsLentString c)) (item_at (raws c.formats l) levels bs) p rest)
 LendsString refusals c levels s t (Err u) =
-    Lacks refusals s (λ l bs. IsNotRead (PassesTags IsString) (item_at (raws c.formats l) levels bs)) u
+    Lacks refusals s t (λ l bs. IsNotRead (PassesTags IsString) (item_at (raws c.formats l) levels bs)) u
 
 -- A refusal tells the fault of this reading, and there is no item of another kind.
 abbrev pub UnreadBy : (ReadErrorCode → Bool) → (Limits → List ℕ → Reads Val) → Input → Unread → Type 0
@@ -295,7 +297,7 @@ LendsBytes refusals c levels s t (Ok p) =
     Step s t (λ l bs rest.
     IsRead (PassesTags (IsLentBytes c)) (item_at (raws c.formats l) levels bs) p rest)
 LendsBytes refusals c levels s t (Err u) =
-    Lacks refusals s (λ l bs.
+    Lacks refusals s t (λ l bs.
     IsNotRead (PassesTags IsByteString) (item_at (raws c.formats l) levels bs)) u
 
 -- ---- characters

@@ -8,7 +8,7 @@ use Rattle.cbor_model.specs.Refusal.{too_deep}
 use Rattle.cbor_model.specs.Reader.{Reads, ◌>>=◌, before, number_behind, item_at, inside, tag_at}
 use Rattle.cbor_io.specs.declared.error.Error.{Error}
 use Rattle.cbor_io.specs.declared.read_error.ReadErrorCode.{ReadErrorCode}
-use Rattle.cbor_read.specs.Source.{Input}
+use Rattle.cbor_read.specs.Source.{Input, TookSome}
 use Rattle.cbor_de.specs.Gives.{Limits, Step, Stopped}
 use Rattle.cbor_de.specs.declared.refusal.Refused.{Refused}
 use Rattle.cbor_model.specs.Raw.{Raw}
@@ -42,10 +42,11 @@ tag_behind levels (Some b) bs = number_behind (b % 32) bs >>= (λ n. entered_at 
 abbrev pub tag_head_at : ℕ → List ℕ → Reads (Option ℕ)
 tag_head_at levels bs = tag_first_at bs >>= (λ o. tag_behind levels o.0 o.1)
 
--- what a call gave for the tag at the front, or the fault that it tells
+-- What a call gave for the tag at the front; or the fault that it tells, and some bytes were taken.
 abbrev pub ReadsTag : (ReadErrorCode → Bool) → ℕ → Input → Input → Result (Option ℕ) Error → Type 0
 ReadsTag refusals levels s t (Ok o) = Step s t (λ l bs rest. tag_head_at levels bs ≡ Ok (o, rest))
-ReadsTag refusals levels s t (Err e) = TellsFault refusals (λ l. tag_head_at levels) s e
+ReadsTag refusals levels s t (Err e) =
+    TookSome s t × TellsFault refusals (λ l. tag_head_at levels) s e
 
 -- the item at the front is the tag of this number, of the item that follows its head
 abbrev pub TagIs : Formats → ℕ → ℕ → Input → Input → Type 0
@@ -70,7 +71,7 @@ abbrev pub PassesAll : (ReadErrorCode → Bool) → Formats → ℕ → Input �
 PassesAll refusals f levels s t left kept (Ok u) = Step s t
     (λ l bs rest. IsBehindTags f l (item_at (raws f l) levels bs) left rest)
 PassesAll refusals f levels s t left kept (Err r) =
-    Stopped refusals (λ l. item_at (raws f l) levels) s kept r
+    Stopped refusals (λ l. item_at (raws f l) levels) s t kept r
 
 -- ---- all tags, whatever follows them
 

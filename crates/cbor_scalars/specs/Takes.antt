@@ -2,13 +2,12 @@
 use Rattle.std.specs.Prelude.{◌≡◌, ◌+◌, ℕ, Bool, true, false, List, [], ◌∷◌, length, None, Result, Ok}
 use Rattle.std.specs.Prelude.{Err, ◌⊎◌, String, refl}
 use Rattle.std.specs.Global.{Global}
-use Rattle.cbor_model.specs.Raw.{Raw, Raws, RawPairs}
+use Rattle.cbor_model.specs.Raw.{Raw}
 use Rattle.cbor_model.specs.Formats as model
 use Rattle.cbor_model.specs.Formats.{all_formats}
 use Rattle.cbor_model.specs.Plain.{Val}
 use Rattle.cbor_model.specs.Readable.{Context}
-use Rattle.cbor_model.specs.RawReader.{raws_in}
-use Rattle.cbor_model.specs.Reader.{Fault, Reads, Reading, item_at, item_by, byte_at, after_first}
+use Rattle.cbor_model.specs.Reader.{Fault, Reads, item_at, item_by, byte_at, after_first}
 use Rattle.cbor_model.specs.Reader.{content_at, number_behind, text_at}
 use Rattle.cbor_io.specs.declared.error.Error.{Error}
 use Rattle.cbor_io.specs.declared.error.ErrorCode.{ErrorCode}
@@ -16,10 +15,11 @@ use Rattle.cbor_io.specs.declared.error.ErrorCode.TheVariants.{EofWhileParsingVa
 use Rattle.cbor_io.specs.declared.error.ErrorCode.TheVariants.{OutOfMemory}
 use Rattle.cbor_io.specs.declared.read_error.ReadErrorCode.{ReadErrorCode}
 use Rattle.cbor_io.specs.Error.{code_of, offset_of, IsMessageOf}
-use Rattle.cbor_read.specs.Source.{Input, Lends}
+use Rattle.cbor_read.specs.Source.{Input, Lends, TookSome}
 use Rattle.cbor_de.specs.Gives.{Limits, limits, values, Tells, Step, Reports, FailsBy}
 use Rattle.cbor_de.specs.declared.formats.Formats.{Formats}
 pub use Rattle.cbor_de.specs.Deserializer.{formats_of}
+pub use Rattle.cbor_de.specs.HasChunks.{raws}
 
 -- these formats are read, and so much is lent
 abbrev pub lending : model.Formats → Lends → Context
@@ -27,10 +27,6 @@ lending f l = record { formats = f; lends_definite = l.whole; lends_joined = l.j
 
 abbrev pub context : Formats → Lends → Context
 context f l = lending (formats_of f) l
-
--- the reading of items as they are spelled, within these limits
-abbrev pub raws : model.Formats → Limits → Reading Raw Raws RawPairs
-raws f l = raws_in f l.total l.room
 
 -- The item that the reference reader reads is read as x, and the rest follows it.
 pub record IsRead {A : Type 0} (reads : Raw → A → Type 0) (read : Reads Raw) (x : A) (rest : List ℕ) : Type 0 where
@@ -48,17 +44,19 @@ ExcusedBy Device OutOfMemory at = at ≡ 0
 ExcusedBy Device (Io fault) at = Device × (at ≡ 0)
 ExcusedBy Device _ at = ⊥
 
--- A refusal is by want of memory or a fault of the device, or N holds of the bytes to come.
-pub record Refuses (refusals : ReadErrorCode → Bool) (s : Input) (code : ErrorCode) (at : ℕ) (N : Limits → List ℕ → Type 0) : Type 0 where
+-- A call was refused, and left t: some of the bytes to come were taken from their front, and counted;
+-- and it was by want of memory or a fault of the device, or N holds of the bytes that were to come.
+pub record Refuses (refusals : ReadErrorCode → Bool) (s t : Input) (code : ErrorCode) (at : ℕ) (N : Limits → List ℕ → Type 0) : Type 0 where
+  pub took : TookSome s t
   pub told : (bs : List ℕ) → Tells s bs → ExcusedBy (Reports refusals) code at ⊎ N (limits s bs) bs
 
 -- What a call gave for the item at the front, and the bytes to come after it; or that no such item is
--- there.
+-- there. Refused, some of the bytes to come were taken from their front, and counted.
 abbrev pub Takes : {A : Type 0} → (ReadErrorCode → Bool) → (Raw → A → Type 0)
     → (Limits → List ℕ → Reads Raw) → Input → Input → Result A Error → Type 0
 Takes refusals reads read s t (Ok x) = Step s t (λ l bs rest. IsRead reads (read l bs) x rest)
 Takes refusals reads read s t (Err e) =
-    Refuses refusals s (code_of e) (offset_of e) (λ l bs. IsNotRead reads (read l bs))
+    Refuses refusals s t (code_of e) (offset_of e) (λ l bs. IsNotRead reads (read l bs))
 
 -- what a call gave for the item at the front, where so many levels are left
 abbrev pub TakesItem : {A : Type 0} → (ReadErrorCode → Bool) → model.Formats → (Raw → A → Type 0)

@@ -142,6 +142,7 @@ fn kept<R: Source>(items: &mut Deserializer<R>, unread: Unread) -> Why
 #[inline(never)]
 fn no_name<R: Source>(items: &mut Deserializer<R>, head: Head) -> Why
     ensures no_key { NamesNoKey items.new.refusal result }
+    ensures source { items.new.source ≡ items.old.source }
     ensures levels { items.new.levels ≡ items.old.levels }
     ensures formats { items.new.formats ≡ items.old.formats }
 {

@@ -4,6 +4,7 @@ ghost use Rattle.std.specs.Prelude.{◌≡◌, ◌≤◌, ◌<◌, ◌-◌, ◌^
 ghost use Rattle.cbor_model.specs.Readable.{PassesTags, IsInteger, IsFromZero, IsSigned, IsWithin};
 ghost use Rattle.cbor_io.specs.Error.{code_of};
 ghost use Rattle.cbor_de.specs.Gives.{TellsNoForm};
+ghost use Rattle.cbor_read.specs.Source.{TookSome};
 ghost use Rattle.cbor_scalars.specs.Opens.{RefusesBehind};
 ghost use Rattle.cbor_scalars.specs.Scalars.{IsNumber};
 ghost use Rattle.cbor_scalars.specs.Takes.{RefusesWhole, TakesItem, TakesNoMemory, formats_of};
@@ -179,6 +180,7 @@ pub fn read_signed<R: Source>(
 fn no_number<R: Source>(items: &mut Deserializer<R>, found: Found, message: &'static str) -> Error
     ensures fault { RefusesBehind R.refusals found (R.source items.old.source) result }
     ensures no_form { TellsNoForm (code_of result) }
+    ensures took { TookSome (R.source items.old.source) (R.source items.new.source) }
     ensures levels { items.new.levels ≡ items.old.levels }
     ensures formats { items.new.formats ≡ items.old.formats }
 {

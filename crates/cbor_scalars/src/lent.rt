@@ -3,7 +3,7 @@
 ghost use Rattle.std.specs.Prelude.{◌≡◌, ◌≤◌, length, true, IfErr, Ok};
 ghost use types.Logic.{sem};
 ghost use Rattle.std.specs.Io.BufRead.{Rests};
-ghost use Rattle.cbor_read.specs.Source.{asks_for, part_bytes};
+ghost use Rattle.cbor_read.specs.Source.{TookSome, asks_for, part_bytes};
 ghost use Rattle.cbor_de.specs.declared.head.Head.TheVariants.{Bytes, Text};
 ghost use Rattle.cbor_io.specs.Error.{code_of};
 ghost use Rattle.cbor_de.specs.Gives.{TellsNoForm};
@@ -207,6 +207,7 @@ fn bytes_of<'a, 'de>(text: EitherStr<'a, 'de>) -> Result<EitherLifetime<'a, 'de>
 #[inline(never)]
 fn other<R: Source>(items: &mut Deserializer<R>, found: Found) -> Unread
     ensures fault { UnreadBehind R.refusals found (R.source items.old.source) result }
+    ensures took { TookSome (R.source items.old.source) (R.source items.new.source) }
     ensures no_key { IsNoKey result }
     ensures levels { items.new.levels ≡ items.old.levels }
     ensures formats { items.new.formats ≡ items.old.formats }

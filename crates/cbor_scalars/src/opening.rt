@@ -6,6 +6,7 @@ ghost use Rattle.cbor_de.specs.Gives.{Gives, TellsNoForm, TellsNoKey, TellsNoMem
 ghost use Rattle.cbor_io.specs.Error.{code_of};
 ghost use Rattle.cbor_de.specs.Heads.{HeadGives, opening_at};
 ghost use Rattle.cbor_de.specs.Heads.{passed};
+ghost use Rattle.cbor_read.specs.Source.{TookSome};
 ghost use Rattle.cbor_scalars.specs.Opens.{OpensAt, item_inside, opened_at, opened_inside};
 ghost use Rattle.cbor_scalars.specs.Opens.{RefusesBehind, behind_any};
 ghost use Rattle.cbor_scalars.specs.Takes.{formats_of, raws};
@@ -91,6 +92,7 @@ pub(crate) fn open_inside<R: Source>(items: &mut Deserializer<R>) -> Done<Head>
 #[inline(never)]
 pub fn mismatch<R: Source>(items: &mut Deserializer<R>, head: Head, message: &str) -> Error
     ensures no_form { TellsNoForm (code_of result) }
+    ensures source { items.new.source ≡ items.old.source }
     ensures levels { items.new.levels ≡ items.old.levels }
     ensures formats { items.new.formats ≡ items.old.formats }
 {
@@ -128,6 +130,7 @@ pub(crate) fn pass_over<R: Source>(items: &mut Deserializer<R>, found: Found) ->
 #[inline(never)]
 pub(crate) fn unread<R: Source>(items: &mut Deserializer<R>, found: Found, message: &str) -> Error
     ensures fault { RefusesBehind R.refusals found (R.source items.old.source) result }
+    ensures took { TookSome (R.source items.old.source) (R.source items.new.source) }
     ensures no_form { TellsNoForm (code_of result) }
     ensures levels { items.new.levels ≡ items.old.levels }
     ensures formats { items.new.formats ≡ items.old.formats }

@@ -4,6 +4,8 @@
 pub use Rattle.cbor_scalars.proofs.Scalars.{excused_or}
 -- what a fault stops isn't read, and the error of a refusal tells the fault
 pub use Rattle.cbor_scalars.proofs.Scalars.{refuses, told_by}
+-- further bytes were taken
+pub use Rattle.cbor_scalars.proofs.Scalars.{refuses_on}
 -- an error that isn't want of memory says nothing of items that take some
 pub use Rattle.cbor_scalars.proofs.Scalars.{other_code}
 -- where memory ran out, what the refusal says of it holds

@@ -6,11 +6,14 @@ use Rattle.cbor_io.specs.Error.{code_of, offset_of}
 use Rattle.cbor_de.specs.declared.head.Head.{Head}
 use Rattle.cbor_scalars.specs.Opens.{OpensItem}
 use Rattle.cbor_scalars.specs.Strings.{IsByteString}
-use Rattle.cbor_scalars.specs.Takes.{formats_of}
-use Rattle.cbor_scalars.proofs.Contents.{bytes_stops, none_at, none_there}
+use Rattle.cbor_scalars.specs.Takes.{formats_of, raws}
+use Rattle.cbor_scalars.proofs.Contents.{bytes_stops, other_step, step_over, none_at}
 use Rattle.cbor_scalars.proofs.ByteStrings.{byte_string_takes, not_bytes}
 use Rattle.cbor_scalars.proofs.PassedOver.{behind_stands, behind_stopped, behind_whole, unopened_whole}
 use Rattle.cbor_scalars.proofs.PassedStrings.{bytes_whole}
+use Rattle.cbor_scalars.proofs.Scalars.{refuses_on, refuses}
+use Rattle.cbor_model.specs.Readable.{PassesTags}
+use Rattle.cbor_model.specs.Reader.{item_at}
 use Rattle.cbor_scalars.proofs.byte_strings.bytes.Goals as goal
 
 -- what owned bytes are read from
@@ -44,7 +47,7 @@ returns-in-Ok-clause-read g c =
     let u = c.scalar.new.items in
     let s = g.R.Source.source c.args.items.now.source in
     let h = c.in_ok-found.found.head in
-    none_there g.R.Source.refusals s (λ k at. none_at g.R.Source.refusals (formats_of c.args.items.now.formats) reads c.args.items.now.levels s (g.R.Source.source u.source) u.refusal h k at (λ r x is. not_bytes h c.in_default.not-Bytes r x.items is) c.in_ok-found.ensures.read)
+    step_over (other_step g.R.Source.refusals (formats_of c.args.items.now.formats) reads c.args.items.now.levels s (g.R.Source.source u.source) u.refusal h (λ r x is. not_bytes h c.in_default.not-Bytes r x.items is) c.in_ok-found.ensures.read) c.in-Ok.ensures.read
 
 -- ---- the fault
 
@@ -52,7 +55,7 @@ pub returns-in_err-found-clause-fault : goal.returns-in_err-found-clause-fault
 returns-in_err-found-clause-fault g c =
     let p = err_from_is_err_and c.from_residual.result c.from_residual.ensures.1 in
     let s = g.R.Source.source c.args.items.now.source in
-    rw (p.1, p.2) (λ e is. unopened_whole g.R.Source.refusals c.args.items.now.levels s _ _ e c.in_err-found.ensures.opened is)
+    rw (p.1, p.2) (λ e is. unopened_whole g.R.Source.refusals c.args.items.now.levels s _ _ e c.in_err-found.ensures.opened.told is)
 
 pub returns-in_err-bytes-in-Bytes-clause-fault : goal.returns-in_err-bytes-in-Bytes-clause-fault
 returns-in_err-bytes-in-Bytes-clause-fault g c =
@@ -61,7 +64,7 @@ returns-in_err-bytes-in-Bytes-clause-fault g c =
     let levels = c.args.items.now.levels in
     let s = g.R.Source.source c.args.items.now.source in
     let m = g.R.Source.source u.source in
-    rw (p.1, p.2) (λ e is. bytes_whole g.R.Source.refusals c.in_ok-found.found levels s m c.in_ok-found.ensures.opened c.in-Bytes.n _ _ e c.in-Bytes.is c.in_err-bytes-in-Bytes.ensures.read is)
+    rw (p.1, p.2) (λ e is. bytes_whole g.R.Source.refusals c.in_ok-found.found levels s m c.in_ok-found.ensures.opened c.in-Bytes.n _ _ e c.in-Bytes.is c.in_err-bytes-in-Bytes.ensures.read.told is)
 
 pub returns-in-Ok-clause-fault : goal.returns-in-Ok-clause-fault
 returns-in-Ok-clause-fault g c =
@@ -75,7 +78,7 @@ returns-in-Err-clause-read g c =
     let u = c.scalar.new.items in
     let s = g.R.Source.source c.args.items.now.source in
     let h = c.in_ok-found.found.head in
-    λ e is. none_at g.R.Source.refusals (formats_of c.args.items.now.formats) reads c.args.items.now.levels s (g.R.Source.source u.source) u.refusal h (code_of e) (offset_of e) (λ r x is. not_bytes h c.in_default.not-Bytes r x.items is) c.in_ok-found.ensures.read
+    λ e is. refuses_on (none_at g.R.Source.refusals (formats_of c.args.items.now.formats) reads c.args.items.now.levels s (g.R.Source.source u.source) u.refusal h (code_of e) (offset_of e) (λ r x is. not_bytes h c.in_default.not-Bytes r x.items is) c.in_ok-found.ensures.read) c.in-Err.ensures.read.took
 
 pub returns-in-Err-clause-fault : goal.returns-in-Err-clause-fault
 returns-in-Err-clause-fault g c =
@@ -83,4 +86,12 @@ returns-in-Err-clause-fault g c =
     let m = g.R.Source.source c.scalar.new.items.source in
     let found = c.in_ok-found.found in
     λ e is. behind_whole g.R.Source.refusals found c.args.items.now.levels s m e c.in_ok-found.ensures.opened
-    (behind_stopped g.R.Source.refusals found m _ _ e c.in-Err.ensures.read is)
+    (behind_stopped g.R.Source.refusals found m _ _ e c.in-Err.ensures.read.told is)
+
+pub returns-in_err-found-clause-read : goal.returns-in_err-found-clause-read
+returns-in_err-found-clause-read g c =
+    let p = err_from_is_err_and c.from_residual.result c.from_residual.ensures.1 in
+    let old = c.args.items.now in
+    let f = formats_of old.formats in
+    let s = g.R.Source.source old.source in
+    rw (p.1, p.2) (λ e is. refuses g.R.Source.refusals (PassesTags reads) (λ l. item_at (raws f l) old.levels) s c.scalar.new.items.refusal c.in_err-found.field-0.0 e is c.in_err-found.ensures.read.1)

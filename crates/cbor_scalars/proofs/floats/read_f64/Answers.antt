@@ -28,10 +28,10 @@ returns-in-Err-clause-read g c =
     let items = c.args.items.now in
     let f = formats_of items.formats in
     let s = g.R.Source.source items.source in
-    refuses g.R.Source.refusals (PassesTags IsFloatOf) (λ l. item_at (raws f l) items.levels) s c.double.new.self.refusal c.in-Err.refused c.error.result c.error.ensures.tells
-    (head_stops g.R.Source.refusals f s items.levels c.double.new.self.refusal c.in-Err.refused c.in-Err.ensures.read)
+    rw c.error.ensures.source (refuses g.R.Source.refusals (PassesTags IsFloatOf) (λ l. item_at (raws f l) items.levels) s c.double.new.self.refusal c.in-Err.refused c.error.result c.error.ensures.tells
+    (head_stops g.R.Source.refusals f s items.levels c.double.new.self.refusal c.in-Err.refused c.in-Err.ensures.read))
 
 pub returns-in-Err-clause-fault : goal.returns-in-Err-clause-fault
 returns-in-Err-clause-fault g c =
     let items = c.args.items.now in
-    headless_whole g.R.Source.refusals items.levels (g.R.Source.source items.source) c.double.new.self.refusal c.in-Err.refused c.error.result c.in-Err.ensures.read c.error.ensures.tells
+    headless_whole g.R.Source.refusals items.levels (g.R.Source.source items.source) c.double.new.self.refusal c.in-Err.refused c.error.result c.in-Err.ensures.read.told c.error.ensures.tells

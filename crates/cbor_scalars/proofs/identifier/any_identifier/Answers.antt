@@ -1,10 +1,14 @@
-use Rattle.std.proofs.Common.{Ok, subst}
+use Rattle.std.proofs.Common.{Ok, ap, subst}
 use Rattle.std.proofs.lemmas.Result.{err_from_is_err_and}
+use Rattle.cbor_model.specs.Readable.{PassesTags}
+use Rattle.cbor_model.specs.Reader.{item_at}
 use Rattle.cbor_io.specs.Error.{code_of, offset_of}
 use Rattle.cbor_de.specs.declared.head.Head.{Head}
+use Rattle.cbor_de.proofs.facts.Steps.{took_same}
 use Rattle.cbor_scalars.specs.Identifiers.{texts, IsIdentifier}
 use Rattle.cbor_scalars.specs.Opens.{OpensItem}
-use Rattle.cbor_scalars.specs.Takes.{formats_of}
+use Rattle.cbor_scalars.specs.Takes.{formats_of, raws}
+use Rattle.cbor_scalars.proofs.Scalars.{refuses, refuses_on}
 use Rattle.cbor_scalars.proofs.Lending.{text_refuses}
 use Rattle.cbor_scalars.proofs.Identifiers.{number_names, text_names, bytes_read, other_refused}
 use Rattle.cbor_scalars.proofs.identifier.any_identifier.Goals as goal
@@ -61,4 +65,12 @@ returns-in_default-clause-read g c =
     let f = formats_of old.formats in
     let s = g.R.Source.source old.source in
     let m = g.R.Source.source u.source in
-    λ e made. other_refused (texts c.args.names.now) g.R.Source.refusals f g.R.Source.lends old.levels s m u.refusal c.in_ok-found.found.head e c.in_default.not-Unsigned c.in_default.not-Text c.in_default.not-Bytes c.in_ok-found.ensures.read
+    λ e made. refuses_on (other_refused (texts c.args.names.now) g.R.Source.refusals f g.R.Source.lends old.levels s m u.refusal c.in_ok-found.found.head e c.in_default.not-Unsigned c.in_default.not-Text c.in_default.not-Bytes c.in_ok-found.ensures.read) (took_same (ap g.R.Source.source c.no_name.ensures.source))
+
+pub returns-in_err-found-clause-read : goal.returns-in_err-found-clause-read
+returns-in_err-found-clause-read g c =
+    let passed = err_from_is_err_and c.from_residual.result c.from_residual.ensures.1 in
+    let old = c.args.items.now in
+    let f = formats_of old.formats in
+    let s = g.R.Source.source old.source in
+    rw (passed.1, passed.2) (λ e made. refuses g.R.Source.refusals (PassesTags (IsIdentifier (texts c.args.names.now))) (λ l. item_at (raws f l) old.levels) s c.scalar.new.items.refusal c.in_err-found.field-0.0 e made c.in_err-found.ensures.read.1)

@@ -3,6 +3,7 @@ use Rattle.cbor_scalars.specs.Takes.{formats_of}
 use Rattle.cbor_model.specs.Readable.{IsFromZero}
 use Rattle.cbor_scalars.proofs.Numbers.{number_read, number_none, number_unread}
 use Rattle.cbor_scalars.proofs.PassedOver.{behind_whole, unopened_whole}
+use Rattle.cbor_scalars.proofs.Scalars.{refuses_on}
 use Rattle.cbor_scalars.proofs.integer.read_from_zero.Goals as goal
 
 pub returns-in-Some-clause-read : goal.returns-in-Some-clause-read
@@ -17,7 +18,7 @@ pub returns-in-None-clause-read : goal.returns-in-None-clause-read
 returns-in-None-clause-read g c =
     let s = g.R.Source.source c.args.items.now.source in
     let u = c.scalar.new.items in
-    number_none g.R.Source.refusals (formats_of c.args.items.now.formats) (IsFromZero c.args.most) c.args.items.now.levels s (g.R.Source.source u.source) u.refusal c.in-Ok.found.head c.no_number.result (λ n. pos n) (λ r n h. h.0) (λ r n h is. c.in-None.ensures n is h.1) c.in-Ok.ensures.read
+    refuses_on (number_none g.R.Source.refusals (formats_of c.args.items.now.formats) (IsFromZero c.args.most) c.args.items.now.levels s (g.R.Source.source u.source) u.refusal c.in-Ok.found.head c.no_number.result (λ n. pos n) (λ r n h. h.0) (λ r n h is. c.in-None.ensures n is h.1) c.in-Ok.ensures.read) c.no_number.ensures.took
 
 pub returns-in-None-clause-memory : goal.returns-in-None-clause-memory
 returns-in-None-clause-memory g c = λ e.
@@ -28,7 +29,7 @@ returns-in-None-clause-memory g c = λ e.
 pub returns-in-Err-clause-fault : goal.returns-in-Err-clause-fault
 returns-in-Err-clause-fault g c =
     let u = c.scalar.new.items in
-    unopened_whole g.R.Source.refusals c.args.items.now.levels (g.R.Source.source c.args.items.now.source) u.refusal c.in-Err.refused c.error.result c.in-Err.ensures.opened c.error.ensures.tells
+    unopened_whole g.R.Source.refusals c.args.items.now.levels (g.R.Source.source c.args.items.now.source) u.refusal c.in-Err.refused c.error.result c.in-Err.ensures.opened.told c.error.ensures.tells
 
 pub returns-in-None-clause-fault : goal.returns-in-None-clause-fault
 returns-in-None-clause-fault g c =

@@ -1,5 +1,6 @@
-use Rattle.std.proofs.Common.{◌∙◌, Ok, refl, subst}
+use Rattle.std.proofs.Common.{◌∙◌, Ok, refl, subst, ap}
 use Rattle.cbor_de.specs.declared.head.Head.{Head}
+use Rattle.cbor_de.proofs.facts.Steps.{took_same, some_then}
 use Rattle.cbor_scalars.specs.Opens.{OpensItem}
 use Rattle.cbor_scalars.specs.Takes.{IsNotRead, formats_of, raws}
 use Rattle.cbor_scalars.proofs.ByteStrings.{bytes_lent, other_bytes}
@@ -30,7 +31,7 @@ returns-in_default g c =
     let s = g.R.Source.source c.args.items.now.source in
     let f = formats_of c.args.items.now.formats in
     let t = g.R.Source.source c.other.new.items.source in
-    ((refl, λ _. tt, (c.other.ensures.levels ∙ c.in-Ok.ensures.levels, c.other.ensures.formats ∙ c.in-Ok.ensures.formats, other_bytes g.R.Source.refusals f g.R.Source.lends c.args.items.now.levels s (g.R.Source.source u.source) u.refusal c.in-Ok.found.head c.other.result t c.in_default.not-Bytes c.in-Ok.ensures.read, c.other.ensures.no_key, of_no_bytes g.R.Source.refusals (asks_for g.R.Source.refusals g.R.Source.lends) f c.args.items.now.levels s (g.R.Source.source u.source) u.refusal c.in-Ok.found.head c.other.result c.in_default.not-Bytes c.in-Ok.ensures.read, other_lends g.R.Source.refusals c.in-Ok.found c.args.items.now.levels s (g.R.Source.source u.source) c.in-Ok.ensures.opened c.other.result c.other.ensures.fault)), record { after_borrow = tt })
+    ((refl, λ _. tt, (c.other.ensures.levels ∙ c.in-Ok.ensures.levels, c.other.ensures.formats ∙ c.in-Ok.ensures.formats, other_bytes g.R.Source.refusals f g.R.Source.lends c.args.items.now.levels s (g.R.Source.source u.source) u.refusal c.in-Ok.found.head c.other.result t c.in_default.not-Bytes c.in-Ok.ensures.read c.other.ensures.took, c.other.ensures.no_key, of_no_bytes g.R.Source.refusals (asks_for g.R.Source.refusals g.R.Source.lends) f c.args.items.now.levels s (g.R.Source.source u.source) u.refusal c.in-Ok.found.head c.other.result c.in_default.not-Bytes c.in-Ok.ensures.read, other_lends g.R.Source.refusals c.in-Ok.found c.args.items.now.levels s (g.R.Source.source u.source) c.in-Ok.ensures.opened c.other.result c.other.ensures.fault)), record { after_borrow = tt })
 
 pub returns-in-Err : goal.returns-in-Err
 returns-in-Err g c =
@@ -41,6 +42,6 @@ returns-in-Err g c =
     let q = c.stopped.result in
     let e = c.in-Err.ensures in
     let kept = c.stopped.ensures.kept in
-    let raw = kept_stop g.R.Source.refusals (λ l. item_at (raws f l) levels) s u.refusal c.in-Err.refused q kept e.read.1 in
-    let none = stops_refuses g.R.Source.refusals (λ l. item_at (raws f l) levels) s q (λ l bs. IsNotRead (PassesTags IsByteString) (item_at (raws f l) levels bs)) (λ l bs d is. not_read (PassesTags IsByteString) (item_at (raws f l) levels bs) d is) raw in
-    ((refl, λ _. tt, (c.stopped.ensures.levels ∙ e.levels, c.stopped.ensures.formats ∙ e.formats, none, kept_no_key u.refusal c.in-Err.refused q kept e.no_key, kept_none _ u.refusal c.in-Err.refused q kept e.memory, unopened_lends g.R.Source.refusals levels s u.refusal c.in-Err.refused q e.opened kept)), record { after_borrow = tt })
+    let raw = kept_stop g.R.Source.refusals (λ l. item_at (raws f l) levels) s u.refusal c.in-Err.refused q kept e.read.1.told in
+    let none = stops_refuses g.R.Source.refusals (λ l. item_at (raws f l) levels) s q (λ l bs. IsNotRead (PassesTags IsByteString) (item_at (raws f l) levels bs)) (λ l bs d is. not_read (PassesTags IsByteString) (item_at (raws f l) levels bs) d is) raw (some_then _ _ _ e.read.1.took (took_same (ap g.R.Source.source c.stopped.ensures.source))) in
+    ((refl, λ _. tt, (c.stopped.ensures.levels ∙ e.levels, c.stopped.ensures.formats ∙ e.formats, none, kept_no_key u.refusal c.in-Err.refused q kept e.no_key, kept_none _ u.refusal c.in-Err.refused q kept e.memory, unopened_lends g.R.Source.refusals levels s u.refusal c.in-Err.refused q e.opened.told kept)), record { after_borrow = tt })

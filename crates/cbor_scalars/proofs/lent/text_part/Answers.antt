@@ -1,4 +1,4 @@
-use Rattle.std.proofs.Common.{◌≡◌, ◌+◌, ◌^◌, ℕ, Option, Some, None, Err, IfErr, ◌∙◌, arith, refl, sym, subst, ltb, true}
+use Rattle.std.proofs.Common.{◌≡◌, ◌+◌, ◌^◌, ℕ, Option, Some, None, Err, IfErr, ◌∙◌, arith, refl, sym, subst, ltb, true, ap}
 use Rattle.std.proofs.lemmas.Result.{MatchResult-at_err, MatchResult-at_ok}
 use Rattle.cbor_read.specs.Source.{asks_for, part_bytes}
 use Rattle.cbor_de.specs.declared.head.Head.TheVariants as head
@@ -9,6 +9,7 @@ use Rattle.cbor_scalars.proofs.PassedLent.{content_refuses_text, kept_is, kept_n
 use Rattle.cbor_io.specs.declared.read_error.ReadErrorCode.TheVariants.{LengthOutOfRange}
 use Rattle.cbor_de.specs.Gives.{IsAt}
 use Rattle.cbor_scalars.specs.declared.lent.Unread.TheVariants.{Stopped}
+use Rattle.cbor_de.proofs.facts.Steps.{some_then, took_same}
 use Rattle.cbor_scalars.proofs.lent.text_part.Goals as goal
 
 pub returns-in-Ok : goal.returns-in-Ok
@@ -50,7 +51,7 @@ returns-then-not-has_room g c =
     let stops = kept_stop g.R.Source.refusals (λ l. content_at l (head.Text (Some n))) s kept r q is (text_too_long g.R.Source.refusals s n kept r (sym c.if-not-has_room.ensures) e.refused e.kept) in
     let no_key : IsNoKey (Stopped q) = λ key. (let code = at.0 in cc) in
     let memory : UnreadOnly (asks_head asks (head.Text (Some n)) ≡ true) (Stopped q) = λ memory. absurd (let code = at.0 in cc) in
-    ((refl, λ _. tt, (c.stopped.ensures.levels ∙ e.levels, c.stopped.ensures.formats ∙ e.formats, subst (λ (k : Option ℕ). LentText g.R.Source.refusals g.R.Source.lends (head.Text k) s t (Err (Stopped q))) (sym c.in-Some.is) (content_refuses_text g.R.Source.refusals (head.Text (Some n)) s q stops), no_key, subst (λ (k : Option ℕ). UnreadOnly (asks_head asks (head.Text k) ≡ true) (Stopped q)) (sym c.in-Some.is) memory, subst (λ (k : Option ℕ). UnreadBy g.R.Source.refusals (behind_string (head.Text k)) s (Stopped q)) (sym c.in-Some.is) (text_by g.R.Source.refusals s (Some n) q stops))), record { after_borrow = tt })
+    ((refl, λ _. tt, (c.stopped.ensures.levels ∙ e.levels, c.stopped.ensures.formats ∙ e.formats, subst (λ (k : Option ℕ). LentText g.R.Source.refusals g.R.Source.lends (head.Text k) s t (Err (Stopped q))) (sym c.in-Some.is) (content_refuses_text g.R.Source.refusals (head.Text (Some n)) s q stops (took_same (ap g.R.Source.source (c.stopped.ensures.source ∙ e.source)))), no_key, subst (λ (k : Option ℕ). UnreadOnly (asks_head asks (head.Text k) ≡ true) (Stopped q)) (sym c.in-Some.is) memory, subst (λ (k : Option ℕ). UnreadBy g.R.Source.refusals (behind_string (head.Text k)) s (Stopped q)) (sym c.in-Some.is) (text_by g.R.Source.refusals s (Some n) q stops))), record { after_borrow = tt })
 
 pub returns-in-Err : goal.returns-in-Err
 returns-in-Err g c =
@@ -62,7 +63,7 @@ returns-in-Err g c =
     let refused = MatchResult-at_err _ _ q c.in-Err.is c.read.follows.holds-at-none in
     let room : ltb (s.offset + n) (2 ^ 64) ≡ true = sym c.if-not-has_room.ensures in
     let stops = text_cut g.R.Source.refusals s t n q room refused in
-    ((refl, λ _. tt, (refl, refl, subst (λ (k : Option ℕ). LentText g.R.Source.refusals g.R.Source.lends (head.Text k) s t (Err (Stopped q))) (sym c.in-Some.is) (content_refuses_text g.R.Source.refusals (head.Text (Some n)) s q stops), source_no_key q refused.0.kind, subst (λ (k : Option ℕ). UnreadOnly (asks_head asks (head.Text k) ≡ true) (Stopped q)) (sym c.in-Some.is) c.in-Err.ensures.memory, subst (λ (k : Option ℕ). UnreadBy g.R.Source.refusals (behind_string (head.Text k)) s (Stopped q)) (sym c.in-Some.is) (text_by g.R.Source.refusals s (Some n) q stops))), record { after_borrow = tt })
+    ((refl, λ _. tt, (refl, refl, subst (λ (k : Option ℕ). LentText g.R.Source.refusals g.R.Source.lends (head.Text k) s t (Err (Stopped q))) (sym c.in-Some.is) (content_refuses_text g.R.Source.refusals (head.Text (Some n)) s q stops refused.0.moved), source_no_key q refused.0.kind, subst (λ (k : Option ℕ). UnreadOnly (asks_head asks (head.Text k) ≡ true) (Stopped q)) (sym c.in-Some.is) c.in-Err.ensures.memory, subst (λ (k : Option ℕ). UnreadBy g.R.Source.refusals (behind_string (head.Text k)) s (Stopped q)) (sym c.in-Some.is) (text_by g.R.Source.refusals s (Some n) q stops))), record { after_borrow = tt })
 
 pub returns-in-Err-join : goal.returns-in-Err-join
 returns-in-Err-join g c =
@@ -74,5 +75,5 @@ returns-in-Err-join g c =
     let is = c.stopped-in-Err-join.ensures.kept in
     let e = c.in-Err-join.ensures in
     let asks = asks_for g.R.Source.refusals g.R.Source.lends in
-    let stops = kept_stop g.R.Source.refusals (λ l. content_at l (head.Text None)) s kept r q is e.read in
-    ((refl, λ _. tt, (c.stopped-in-Err-join.ensures.levels ∙ e.levels, c.stopped-in-Err-join.ensures.formats ∙ e.formats, subst (λ (k : Option ℕ). LentText g.R.Source.refusals g.R.Source.lends (head.Text k) s t (Err (Stopped q))) (sym c.in-None.is) (content_refuses_text g.R.Source.refusals (head.Text None) s q stops), kept_no_key kept r q is e.no_key, subst (λ (k : Option ℕ). UnreadOnly (asks_head asks (head.Text k) ≡ true) (Stopped q)) (sym c.in-None.is) (kept_only (asks.joined ≡ true) kept r q is e.memory), subst (λ (k : Option ℕ). UnreadBy g.R.Source.refusals (behind_string (head.Text k)) s (Stopped q)) (sym c.in-None.is) (text_by g.R.Source.refusals s None q stops))), record { after_borrow = tt })
+    let stops = kept_stop g.R.Source.refusals (λ l. content_at l (head.Text None)) s kept r q is e.read.told in
+    ((refl, λ _. tt, (c.stopped-in-Err-join.ensures.levels ∙ e.levels, c.stopped-in-Err-join.ensures.formats ∙ e.formats, subst (λ (k : Option ℕ). LentText g.R.Source.refusals g.R.Source.lends (head.Text k) s t (Err (Stopped q))) (sym c.in-None.is) (content_refuses_text g.R.Source.refusals (head.Text None) s q stops (some_then _ _ _ e.read.took (took_same (ap g.R.Source.source c.stopped-in-Err-join.ensures.source)))), kept_no_key kept r q is e.no_key, subst (λ (k : Option ℕ). UnreadOnly (asks_head asks (head.Text k) ≡ true) (Stopped q)) (sym c.in-None.is) (kept_only (asks.joined ≡ true) kept r q is e.memory), subst (λ (k : Option ℕ). UnreadBy g.R.Source.refusals (behind_string (head.Text k)) s (Stopped q)) (sym c.in-None.is) (text_by g.R.Source.refusals s None q stops))), record { after_borrow = tt })

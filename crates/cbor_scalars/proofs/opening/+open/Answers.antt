@@ -41,7 +41,7 @@ pub open_inside-returns-in_err-enter-clause-read : goal.open_inside-returns-in_e
 open_inside-returns-in_err-enter-clause-read g t c =
     let passed = err_from_is_err_and c.from_residual.result c.from_residual.ensures.1 in
     let e = c.in_err-enter.ensures in
-    rw (passed.1, passed.2) (fault_stops g.R.Source.refusals (g.R.Source.source c.args.items.now.source) (λ l. item_inside (formats_of c.args.items.now.formats) l c.args.items.now.levels) _ _ RecursionLimitExceeded too_deep (λ at end r h. h)
+    rw (passed.1, passed.2, e.source) (fault_stops g.R.Source.refusals (g.R.Source.source c.args.items.now.source) (λ l. item_inside (formats_of c.args.items.now.formats) l c.args.items.now.levels) _ _ RecursionLimitExceeded too_deep (λ at end r h. h)
     (λ l bs. inside_too_deep (formats_of c.args.items.now.formats) l c.args.items.now.levels bs e.none.0) e.refused e.kept)
 
 pub open_inside-returns-clause-read : goal.open_inside-returns-clause-read
@@ -79,7 +79,7 @@ pub open_inside-returns-in_err-enter-clause-opened : goal.open_inside-returns-in
 open_inside-returns-in_err-enter-clause-opened g t c =
     let passed = err_from_is_err_and c.from_residual.result c.from_residual.ensures.1 in
     let e = c.in_err-enter.ensures in
-    rw (passed.1, passed.2) (fault_stops g.R.Source.refusals (g.R.Source.source c.args.items.now.source) (λ l. opened_inside c.args.items.now.levels) _ _ RecursionLimitExceeded too_deep (λ at end r h. h)
+    rw (passed.1, passed.2, e.source) (fault_stops g.R.Source.refusals (g.R.Source.source c.args.items.now.source) (λ l. opened_inside c.args.items.now.levels) _ _ RecursionLimitExceeded too_deep (λ at end r h. h)
     (λ l bs. no_level_inside c.args.items.now.levels bs e.none.0) e.refused e.kept)
 
 pub open_inside-returns-clause-opened : goal.open_inside-returns-clause-opened

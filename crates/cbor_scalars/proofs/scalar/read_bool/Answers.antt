@@ -3,7 +3,7 @@ use Rattle.cbor_de.specs.declared.head.Head.{Head}
 use Rattle.cbor_model.specs.Readable.{IsBool}
 use Rattle.cbor_scalars.specs.Opens.{OpensItem}
 use Rattle.cbor_scalars.specs.Takes.{formats_of}
-use Rattle.cbor_scalars.proofs.Scalars.{scalar_unread, none_scalar, bool_read, not_bool}
+use Rattle.cbor_scalars.proofs.Scalars.{scalar_unread, none_scalar, bool_read, not_bool, refuses_on}
 use Rattle.cbor_scalars.proofs.PassedOver.{behind_whole, unopened_whole}
 use Rattle.cbor_scalars.proofs.scalar.read_bool.Goals as goal
 
@@ -20,7 +20,7 @@ pub returns-in_default-clause-read : goal.returns-in_default-clause-read
 returns-in_default-clause-read g c =
     let s = g.R.Source.source c.args.items.now.source in
     let u = c.scalar.new.items in
-    none_scalar g.R.Source.refusals (formats_of c.args.items.now.formats) IsBool c.args.items.now.levels s (g.R.Source.source u.source) u.refusal c.in-Ok.found.head c.unread.result (not_bool c.in-Ok.found.head c.in_default.not-Bool) c.in-Ok.ensures.read
+    refuses_on (none_scalar g.R.Source.refusals (formats_of c.args.items.now.formats) IsBool c.args.items.now.levels s (g.R.Source.source u.source) u.refusal c.in-Ok.found.head c.unread.result (not_bool c.in-Ok.found.head c.in_default.not-Bool) c.in-Ok.ensures.read) c.unread.ensures.took
 
 pub returns-in_default-clause-memory : goal.returns-in_default-clause-memory
 returns-in_default-clause-memory g c = λ is.
@@ -31,7 +31,7 @@ returns-in_default-clause-memory g c = λ is.
 pub returns-in-Err-clause-fault : goal.returns-in-Err-clause-fault
 returns-in-Err-clause-fault g c =
     let u = c.scalar.new.items in
-    unopened_whole g.R.Source.refusals c.args.items.now.levels (g.R.Source.source c.args.items.now.source) u.refusal c.in-Err.refused c.error.result c.in-Err.ensures.opened c.error.ensures.tells
+    unopened_whole g.R.Source.refusals c.args.items.now.levels (g.R.Source.source c.args.items.now.source) u.refusal c.in-Err.refused c.error.result c.in-Err.ensures.opened.told c.error.ensures.tells
 
 pub returns-in_default-clause-fault : goal.returns-in_default-clause-fault
 returns-in_default-clause-fault g c =

@@ -5,15 +5,17 @@ use Rattle.std.specs.Global.{Global}
 use Rattle.std.proofs.lemmas.Str.{IsUtf8-string_bytes}
 use Rattle.std.proofs.lemmas.Result.{err_from_is_err_and}
 use Rattle.cbor_model.specs.Raw.{Raw}
-use Rattle.cbor_model.specs.Readable.{IsString, IsText}
+use Rattle.cbor_model.specs.Readable.{IsString, IsText, PassesTags}
 use Rattle.cbor_io.specs.Error.{code_of, offset_of}
 use Rattle.cbor_de.specs.declared.head.Head.{Head}
 use Rattle.cbor_scalars.specs.Opens.{OpensItem}
-use Rattle.cbor_scalars.specs.Takes.{formats_of}
+use Rattle.cbor_scalars.specs.Takes.{formats_of, raws}
 use Rattle.cbor_scalars.proofs.Lending.{text_refuses}
-use Rattle.cbor_scalars.proofs.Contents.{text_takes, bytes_takes, bytes_stops, bytes_bad, not_string, none_at, none_there}
+use Rattle.cbor_scalars.proofs.Contents.{text_takes, bytes_takes, bytes_stops, not_string, none_at, other_step, step_over, bad_bytes}
 use Rattle.cbor_scalars.proofs.PassedOver.{behind_stands, behind_stopped, behind_whole, unopened_whole}
 use Rattle.cbor_scalars.proofs.PassedStrings.{bytes_stand, bytes_whole, text_whole}
+use Rattle.cbor_scalars.proofs.Scalars.{refuses_on, refuses}
+use Rattle.cbor_model.specs.Reader.{item_at}
 use Rattle.cbor_scalars.proofs.strings.any_string.Goals as goal
 
 -- what a String is read from
@@ -79,14 +81,14 @@ returns-in-Bytes-clause-read g c =
     let b = c.in_ok-bytes-in-Bytes.bytes.items in
     let bad : IsUtf8 b → ⊥ = λ is. cc (c.in-Err.ensures.succeeds is) in
     let opened = subst (λ (h : Head). OpensItem g.R.Source.refusals f levels s m u.refusal (Ok h)) c.in-Bytes.is c.in_ok-found.ensures.read in
-    none_there g.R.Source.refusals s (λ k at. bytes_bad g.R.Source.refusals f reads levels s m u.refusal c.in-Bytes.n opened (g.R.Source.source c.byte_string.new.items.source) b k at (λ x. string_bytes x) (λ r x is. is) bad c.in_ok-bytes-in-Bytes.ensures.read)
+    bad_bytes g.R.Source.refusals f reads levels s m u.refusal c.in-Bytes.n opened (g.R.Source.source c.byte_string.new.items.source) b (λ x. string_bytes x) (λ r x is. is) bad c.in_ok-bytes-in-Bytes.ensures.read
 
 pub returns-in-Ok-pass_over-clause-read : goal.returns-in-Ok-pass_over-clause-read
 returns-in-Ok-pass_over-clause-read g c =
     let u = c.scalar.new.items in
     let s = g.R.Source.source c.args.items.now.source in
     let h = c.in_ok-found.found.head in
-    none_there g.R.Source.refusals s (λ k at. none_at g.R.Source.refusals (formats_of c.args.items.now.formats) reads c.args.items.now.levels s (g.R.Source.source u.source) u.refusal h k at (λ r x is. not_string h c.in_default.not-Text c.in_default.not-Bytes r (string_bytes x) is.0) c.in_ok-found.ensures.read)
+    step_over (other_step g.R.Source.refusals (formats_of c.args.items.now.formats) reads c.args.items.now.levels s (g.R.Source.source u.source) u.refusal h (λ r x is. not_string h c.in_default.not-Text c.in_default.not-Bytes r (string_bytes x) is.0) c.in_ok-found.ensures.read) c.in-Ok-pass_over.ensures.read
 
 -- ---- the fault
 
@@ -94,7 +96,7 @@ pub returns-in_err-found-clause-fault : goal.returns-in_err-found-clause-fault
 returns-in_err-found-clause-fault g c =
     let p = err_from_is_err_and c.from_residual.result c.from_residual.ensures.1 in
     let s = g.R.Source.source c.args.items.now.source in
-    rw (p.1, p.2) (λ e is. unopened_whole g.R.Source.refusals c.args.items.now.levels s _ _ e c.in_err-found.ensures.opened is)
+    rw (p.1, p.2) (λ e is. unopened_whole g.R.Source.refusals c.args.items.now.levels s _ _ e c.in_err-found.ensures.opened.told is)
 
 pub returns-in_err-text-in-Text-clause-fault : goal.returns-in_err-text-in-Text-clause-fault
 returns-in_err-text-in-Text-clause-fault g c =
@@ -112,7 +114,7 @@ returns-in_err-bytes-in-Bytes-clause-fault g c =
     let levels = c.args.items.now.levels in
     let s = g.R.Source.source c.args.items.now.source in
     let m = g.R.Source.source u.source in
-    rw (p.1, p.2) (λ e is. bytes_whole g.R.Source.refusals c.in_ok-found.found levels s m c.in_ok-found.ensures.opened c.in-Bytes.n _ _ e c.in-Bytes.is c.in_err-bytes-in-Bytes.ensures.read is)
+    rw (p.1, p.2) (λ e is. bytes_whole g.R.Source.refusals c.in_ok-found.found levels s m c.in_ok-found.ensures.opened c.in-Bytes.n _ _ e c.in-Bytes.is c.in_err-bytes-in-Bytes.ensures.read.told is)
 
 pub returns-in-Bytes-clause-fault : goal.returns-in-Bytes-clause-fault
 returns-in-Bytes-clause-fault g c =
@@ -135,7 +137,7 @@ returns-clause-read g c =
     let u = c.scalar.new.items in
     let s = g.R.Source.source c.args.items.now.source in
     let h = c.in_ok-found.found.head in
-    λ e is. none_at g.R.Source.refusals (formats_of c.args.items.now.formats) reads c.args.items.now.levels s (g.R.Source.source u.source) u.refusal h (code_of e) (offset_of e) (λ r x is. not_string h c.in_default.not-Text c.in_default.not-Bytes r (string_bytes x) is.0) c.in_ok-found.ensures.read
+    λ e is. refuses_on (none_at g.R.Source.refusals (formats_of c.args.items.now.formats) reads c.args.items.now.levels s (g.R.Source.source u.source) u.refusal h (code_of e) (offset_of e) (λ r x is. not_string h c.in_default.not-Text c.in_default.not-Bytes r (string_bytes x) is.0) c.in_ok-found.ensures.read) c.in-Err-pass_over.ensures.read.took
 
 pub returns-clause-fault : goal.returns-clause-fault
 returns-clause-fault g c =
@@ -143,4 +145,12 @@ returns-clause-fault g c =
     let m = g.R.Source.source c.scalar.new.items.source in
     let found = c.in_ok-found.found in
     λ e is. behind_whole g.R.Source.refusals found c.args.items.now.levels s m e c.in_ok-found.ensures.opened
-    (behind_stopped g.R.Source.refusals found m _ _ e c.in-Err-pass_over.ensures.read is)
+    (behind_stopped g.R.Source.refusals found m _ _ e c.in-Err-pass_over.ensures.read.told is)
+
+pub returns-in_err-found-clause-read : goal.returns-in_err-found-clause-read
+returns-in_err-found-clause-read g c =
+    let p = err_from_is_err_and c.from_residual.result c.from_residual.ensures.1 in
+    let old = c.args.items.now in
+    let f = formats_of old.formats in
+    let s = g.R.Source.source old.source in
+    rw (p.1, p.2) (λ e is. refuses g.R.Source.refusals (PassesTags reads) (λ l. item_at (raws f l) old.levels) s c.scalar.new.items.refusal c.in_err-found.field-0.0 e is c.in_err-found.ensures.read.1)

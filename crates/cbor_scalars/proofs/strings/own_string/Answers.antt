@@ -1,9 +1,10 @@
-use Rattle.std.proofs.Common.{Ok, Option, inr, subst, String}
+use Rattle.std.proofs.Common.{Ok, Option, subst, String}
 use Rattle.std.specs.String.{string_bytes}
 use Rattle.std.specs.Global.{Global}
 use Rattle.cbor_model.specs.Readable.{IsText, PassesTags}
 use Rattle.cbor_scalars.specs.Strings.{SeeksItem}
 use Rattle.cbor_scalars.specs.Takes.{formats_of}
+use Rattle.cbor_scalars.proofs.Contents.{step_refuses}
 use Rattle.cbor_scalars.proofs.strings.own_string.Goals as goal
 
 pub returns-in-Ok-None-clause-read : goal.returns-in-Ok-None-clause-read
@@ -11,4 +12,4 @@ returns-in-Ok-None-clause-read g c =
     let s = g.R.Source.source c.args.items.now.source in
     let u = c.string.new.items in
     let none = subst (λ (o : Option (String Global)). SeeksItem g.R.Source.refusals (formats_of c.args.items.now.formats) (PassesTags (λ r x. IsText r (string_bytes x))) c.args.items.now.levels s (g.R.Source.source u.source) u.refusal (Ok o)) c.in-Ok-None.field-0-is c.in-Ok-None.ensures.read in
-    λ e made. record { told = λ bs tells. inr (none bs tells) }
+    λ e made. step_refuses g.R.Source.refusals s (g.R.Source.source u.source) _ _ _ none

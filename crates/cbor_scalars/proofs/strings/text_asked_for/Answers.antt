@@ -15,7 +15,7 @@ pub returns-in_err-bytes-clause-fault : goal.returns-in_err-bytes-clause-fault
 returns-in_err-bytes-clause-fault g c =
     let is_err = err_from_is_err_and c.from_residual.result c.from_residual.ensures.1 in
     let s = g.R.Source.source c.args.items.now.source in
-    rw (is_err.1, is_err.2) (text_tells g.R.Source.refusals s c.args.n _ _ c.in_err-bytes.ensures.read)
+    rw (is_err.1, is_err.2) (text_tells g.R.Source.refusals s c.args.n _ _ c.in_err-bytes.ensures.read.told)
 
 pub returns-clause-fault : goal.returns-clause-fault
 returns-clause-fault g c =

@@ -12,4 +12,4 @@ returns-in-Ok-clause-item g c =
 pub returns-in-Err-clause-read : goal.returns-in-Err-clause-read
 returns-in-Err-clause-read g c =
     let d = c.args.items.now in
-    told_by g.R.Source.refusals (λ l. tag_head_at d.levels) (g.R.Source.source d.source) c.take_tag.new.items.refusal c.in-Err.refused c.error.result c.error.ensures.tells c.in-Err.ensures.read
+    rw c.error.ensures.source (c.in-Err.ensures.read.took, told_by g.R.Source.refusals (λ l. tag_head_at d.levels) (g.R.Source.source d.source) c.take_tag.new.items.refusal c.in-Err.refused c.error.result c.error.ensures.tells c.in-Err.ensures.read)

@@ -53,7 +53,7 @@ returns-in_err-enter-clause-read g c =
     let e = c.in_err-enter.ensures in
     let none : levels ≡ 0 = sym (c.in_ok-n.ensures.levels ∙ h.ensures.levels) ∙ e.none.0 in
     let stops = fault_stops g.R.Source.refusals u (λ l bs. Err (before too_deep bs)) _ _ RecursionLimitExceeded too_deep (λ at end r h. h) (λ l bs. refl) e.refused e.kept in
-    rw (is_err.1, is_err.2) (stopped_then g.R.Source.refusals (λ l bs. Err (before too_deep bs)) (λ l. tag_head_at levels) s u _ _ (λ l bs rest. Numbered b n bs rest)
+    rw (is_err.1, is_err.2, e.source) (stopped_then g.R.Source.refusals (λ l bs. Err (before too_deep bs)) (λ l. tag_head_at levels) s u _ _ (λ l bs rest. Numbered b n bs rest)
     (λ l bs rest d here is. no_level levels b n bs rest none here ∙ is) numbered stops)
 
 pub returns-clause-read : goal.returns-clause-read
