@@ -81,10 +81,10 @@ module _ (allowed : ReadErrorCode → Bool) (f : Formats) (levels : ℕ) (s t : 
   head_taken left inner h r is one = step_map s t (λ l bs rest. Opens f l (whole l bs) left h rest) (λ l bs rest. IsArrayHead f l (whole l bs) inner r rest)
       (λ l bs rest o. head_here l (whole l bs) left inner r rest one (subst (λ (h : Head). Opens f l (whole l bs) left h rest) is o))
 
-  pub head_stops : (kept : Option ReadError) (r : Refused) (e : Error) → IsErrorOf kept r e → Stopped allowed whole s kept r → RefusesArray allowed f levels s e
+  pub head_stops : {w : Input} (kept : Option ReadError) (r : Refused) (e : Error) → IsErrorOf kept r e → Stopped allowed whole s w kept r → RefusesArray allowed f levels s w e
   head_stops kept r e = refuses allowed (PassesTags IsItems) whole s kept r e
 
-  pub other_head : (left : ℕ) (h : Head) (e : Error) → ((r : Remaining) → h ≡ head.Array r → ⊥) → Step s t (λ l bs rest. Opens f l (whole l bs) left h rest) → RefusesArray allowed f levels s e
+  pub other_head : (left : ℕ) (h : Head) (e : Error) → ((r : Remaining) → h ≡ head.Array r → ⊥) → Step s t (λ l bs rest. Opens f l (whole l bs) left h rest) → RefusesArray allowed f levels s t e
   other_head left h e other = refuses_by allowed s (code_of e) (offset_of e) t (λ l bs rest. Opens f l (whole l bs) left h rest) (λ l bs. IsNotRead (PassesTags IsItems) (whole l bs))
       (λ l bs rest o. other_kind f IsItems l (whole l bs) left h rest o
       (λ r x means is. no_array h other (sym (array_kind (λ rs items. rs ≡ items) r x means (λ tag. o.inner (sym is ∙ tag))) ∙ is)))
@@ -99,7 +99,7 @@ module _ (allowed : ReadErrorCode → Bool) (f : Formats) (levels : ℕ) (s t : 
       both (Ok y) x g is other = absurd cc
       both (Err g') x g is other = absurd cc
 
-  pub too_deep_head : (left : ℕ) (h : Head) (r : Remaining) (e : Error) → h ≡ head.Array r → left ≡ 0 → Step s t (λ l bs rest. Opens f l (whole l bs) left h rest) → RefusesArray allowed f levels s e
+  pub too_deep_head : (left : ℕ) (h : Head) (r : Remaining) (e : Error) → h ≡ head.Array r → left ≡ 0 → Step s t (λ l bs rest. Opens f l (whole l bs) left h rest) → RefusesArray allowed f levels s t e
   too_deep_head left h r e is none = refuses_by allowed s (code_of e) (offset_of e) t (λ l bs rest. Opens f l (whole l bs) left h rest) (λ l bs. IsNotRead (PassesTags IsItems) (whole l bs))
       (λ l bs rest o.
       let o' = subst (λ (h : Head). Opens f l (whole l bs) left h rest) is o in

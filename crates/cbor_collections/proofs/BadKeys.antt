@@ -20,8 +20,7 @@ use Rattle.cbor_de.specs.Cursor.{behind_next}
 use Rattle.cbor_collections.specs.Cases.{TellsBadKey}
 use Rattle.cbor_collections.specs.MapAccesses.{Comes, key_front}
 use Rattle.cbor_scalars.specs.Takes.{ExcusedBy}
-use Rattle.cbor_collections.proofs.Refusing.{fails_by}
-use Rattle.cbor_scalars.proofs.facts.Refusals.{excused_or}
+use Rattle.cbor_scalars.proofs.facts.Refusals.{excused_or, told_by}
 
 -- ---- faults
 
@@ -66,21 +65,21 @@ rule_told D code.OutOfMemory end at left read is h = inl h
 
 module _ (allowed : ReadErrorCode → Bool) (f : Formats) (remaining : Remaining) (s : Input) where
   -- it couldn't be told whether a pair comes
-  pub bad_key_first : (kept : Option ReadError) (r : Refused) → Stopped allowed (λ l. next_at end_in_map (remaining_of remaining)) s kept r → (e : Error) → IsErrorOf kept r e → TellsBadKey allowed f remaining s e
+  pub bad_key_first : {w : Input} (kept : Option ReadError) (r : Refused) → Stopped allowed (λ l. next_at end_in_map (remaining_of remaining)) s w kept r → (e : Error) → IsErrorOf kept r e → TellsBadKey allowed f remaining s e
   bad_key_first kept r h e made = λ bs tells at bad.
-      elim (excused_or (Reports allowed) (code_of e) (s.offset + length bs) (offset_of e) (next_at end_in_map (remaining_of remaining) bs) (fails_by allowed (λ l. next_at end_in_map (remaining_of remaining)) s kept r e made h bs tells)) [
+      elim (excused_or (Reports allowed) (code_of e) (s.offset + length bs) (offset_of e) (next_at end_in_map (remaining_of remaining) bs) (told_by allowed (λ l. next_at end_in_map (remaining_of remaining)) s kept r e made h bs tells)) [
         | inl excused ↦ inl excused
         | inr failed ↦ absurd (not_both (Some bad.behind, bad.key) failed.0 (sym bad.comes ∙ failed.1))
       ]
 
   module _ (behind : Remaining) (a : Input) where
     -- a pair came whose key may not begin as it does
-    bad_key_here : Step s a (λ l bs rest. next_at end_in_map (remaining_of remaining) bs ≡ Ok (Some (remaining_of behind), rest)) → (kept : Option ReadError) (r : Refused) → Stopped allowed (λ l. key_front f) a kept r → (e : Error) → IsErrorOf kept r e → TellsBadKey allowed f remaining s e
+    bad_key_here : {w : Input} → Step s a (λ l bs rest. next_at end_in_map (remaining_of remaining) bs ≡ Ok (Some (remaining_of behind), rest)) → (kept : Option ReadError) (r : Refused) → Stopped allowed (λ l. key_front f) a w kept r → (e : Error) → IsErrorOf kept r e → TellsBadKey allowed f remaining s e
     bad_key_here step kept r h e made = λ bs tells at bad.
         let one = step.told bs tells in
         let same : bad.key ≡ one.rest = ap (λ (p : Option reader.Remaining × List ℕ). p.1) (ok_is (Some bad.behind, bad.key) (Some (remaining_of behind), one.rest) (sym bad.comes ∙ one.holds)) in
         let rule = subst (λ (bs : List ℕ). BreaksRule bad.refused.0 (key_front f bs)) same bad.refused.2 in
-        elim (rule_told (Reports allowed) (code_of e) (a.offset + length one.rest) (offset_of e) bad.refused.0 (key_front f one.rest) rule (fails_by allowed (λ l. key_front f) a kept r e made h one.rest one.tells)) [
+        elim (rule_told (Reports allowed) (code_of e) (a.offset + length one.rest) (offset_of e) bad.refused.0 (key_front f one.rest) rule (told_by allowed (λ l. key_front f) a kept r e made h one.rest one.tells)) [
           | inl excused ↦ inl excused
           | inr told ↦ inr (told.0, omega (arith, told.1, one.total, bad.refused.1))
         ]
@@ -94,8 +93,8 @@ module _ (allowed : ReadErrorCode → Bool) (f : Formats) (remaining : Remaining
         absurd (not_both (tt, one.rest) (record { why = wrong_struct_format; left = bad.refused.0 }) (sym one.holds.1 ∙ rule))
 
 -- the key's first byte was looked at
-pub bad_key_told : (allowed : ReadErrorCode → Bool) (f g : Formats) (remaining behind : Remaining) (more : Bool) (s a : Input) (kept : Option ReadError) (r : Refused) → g ≡ f → more ≡ true
-    → Step s a (λ l bs rest. next_at end_in_map (remaining_of remaining) bs ≡ Ok (behind_next behind more, rest)) → Stopped allowed (λ l. key_front g) a kept r → (e : Error) → IsErrorOf kept r e → TellsBadKey allowed f remaining s e
+pub bad_key_told : {w : Input} (allowed : ReadErrorCode → Bool) (f g : Formats) (remaining behind : Remaining) (more : Bool) (s a : Input) (kept : Option ReadError) (r : Refused) → g ≡ f → more ≡ true
+    → Step s a (λ l bs rest. next_at end_in_map (remaining_of remaining) bs ≡ Ok (behind_next behind more, rest)) → Stopped allowed (λ l. key_front g) a w kept r → (e : Error) → IsErrorOf kept r e → TellsBadKey allowed f remaining s e
 bad_key_told allowed f g remaining behind false s a kept r same comes step h e made = absurd cc
-bad_key_told allowed f g remaining behind true s a kept r same comes step h e made =
-    bad_key_here allowed f remaining s behind a step kept r (subst (λ (k : Formats). Stopped allowed (λ l. key_front k) a kept r) same h) e made
+bad_key_told {w = w} allowed f g remaining behind true s a kept r same comes step h e made =
+    bad_key_here allowed f remaining s behind a step kept r (subst (λ (k : Formats). Stopped allowed (λ l. key_front k) a w kept r) same h) e made

@@ -39,15 +39,15 @@ module _ (kind : Remaining → Head) (allowed : ReadErrorCode → Bool) (levels 
   begins left deep h r is one = step_map s t (Taken left h) (λ l bs rest. Begins kind levels deep r bs rest)
       (λ l bs rest taken. taken ∙ ap₂ (λ (n : ℕ) (x : Head). Ok ((n, x), rest)) one is)
 
-  pub begins_stopped : (kept : Option ReadError) (r : Refused) (e : Error) → IsErrorOf kept r e → Stopped allowed (λ l. opened_at levels) s kept r → RefusesBeginning kind allowed levels s e
+  pub begins_stopped : {w : Input} (kept : Option ReadError) (r : Refused) (e : Error) → IsErrorOf kept r e → Stopped allowed (λ l. opened_at levels) s w kept r → RefusesBeginning kind allowed levels s w e
   begins_stopped kept r e = refuses_stopped allowed (λ l. opened_at levels) s kept r e (λ l bs. NoneBegins kind levels bs)
       (λ l bs f stops left r' rest is. fault_read (opened_at levels bs) ((left + 1, kind r'), rest) f stops is)
 
-  pub begins_other : (left : ℕ) (h : Head) (e : Error) → ((r : Remaining) → h ≡ kind r → ⊥) → Step s t (Taken left h) → RefusesBeginning kind allowed levels s e
+  pub begins_other : (left : ℕ) (h : Head) (e : Error) → ((r : Remaining) → h ≡ kind r → ⊥) → Step s t (Taken left h) → RefusesBeginning kind allowed levels s t e
   begins_other left h e other = refuses_by allowed s (code_of e) (offset_of e) t (Taken left h) (λ l bs. NoneBegins kind levels bs)
       (λ l bs rest taken more r rest' is. other r (same_head levels bs rest rest' left (more + 1) h (kind r) taken is))
 
-  pub begins_too_deep : (left : ℕ) (h : Head) (e : Error) → left ≡ 0 → Step s t (Taken left h) → RefusesBeginning kind allowed levels s e
+  pub begins_too_deep : (left : ℕ) (h : Head) (e : Error) → left ≡ 0 → Step s t (Taken left h) → RefusesBeginning kind allowed levels s t e
   begins_too_deep left h e none = refuses_by allowed s (code_of e) (offset_of e) t (Taken left h) (λ l bs. NoneBegins kind levels bs)
       (λ l bs rest taken more r rest' is. none_left more (sym none ∙ same_left levels bs rest rest' left (more + 1) h (kind r) taken is))
     where

@@ -31,8 +31,7 @@ use Rattle.cbor_collections.specs.Variants.{IsShaped, TakesComing, pair_head_at}
 use Rattle.cbor_scalars.specs.Tags.{IsBehindTags}
 use Rattle.cbor_collections.specs.declared.variant.Form.TheVariants as form
 use Rattle.cbor_collections.specs.declared.variant.Shape.{Shape}
-use Rattle.cbor_collections.proofs.Refusing.{fails_by}
-use Rattle.cbor_scalars.proofs.facts.Refusals.{excused_or}
+use Rattle.cbor_scalars.proofs.facts.Refusals.{excused_or, told_by}
 
 -- no case is asked of another code
 other_code : (cases : Cases) (k : ErrorCode) (at : ℕ) → TellsNoForm k → StandsBy cases k at
@@ -79,11 +78,11 @@ of_fault D cases code.TrailingData end at read on h = tt
 of_fault D cases code.RecursionLimitExceeded end at read on h = tt
 of_fault D cases code.OutOfMemory end at read on h = tt
 
-pub stopped_stands : {A : Type 0} (allowed : ReadErrorCode → Bool) (read : Limits → List ℕ → Reads A) (s : Input) (kept : Option ReadError) (r : Refused) (e : Error) (cases : Limits → List ℕ → Cases)
-    → ((l : Limits) (bs : List ℕ) (at : ℕ) → FailsAs wrong_struct_format l.total at (read l bs) → (cases l bs).wrong_struct at) → IsErrorOf kept r e → Stopped allowed read s kept r → Stands s e cases
+pub stopped_stands : {A : Type 0} {w : Input} (allowed : ReadErrorCode → Bool) (read : Limits → List ℕ → Reads A) (s : Input) (kept : Option ReadError) (r : Refused) (e : Error) (cases : Limits → List ℕ → Cases)
+    → ((l : Limits) (bs : List ℕ) (at : ℕ) → FailsAs wrong_struct_format l.total at (read l bs) → (cases l bs).wrong_struct at) → IsErrorOf kept r e → Stopped allowed read s w kept r → Stands s e cases
 stopped_stands allowed read s kept r e cases on made h = record {
   told = λ bs tells.
-      of_fault (Reports allowed) (cases (limits s bs) bs) (code_of e) (s.offset + length bs) (offset_of e) (read (limits s bs) bs) (on (limits s bs) bs (offset_of e)) (fails_by allowed read s kept r e made h bs tells);
+      of_fault (Reports allowed) (cases (limits s bs) bs) (code_of e) (s.offset + length bs) (offset_of e) (read (limits s bs) bs) (on (limits s bs) bs (offset_of e)) (told_by allowed read s kept r e made h bs tells);
 }
 
 -- one case for another
@@ -118,7 +117,7 @@ pub stands_then : (s t : Input) (e : Error) (P : Limits → List ℕ → List �
 stands_then s t e P c d on step h = record {
   told = λ bs tells.
       let one = step.told bs tells in
-      let same : limits t one.rest ≡ limits s bs = ap₂ (λ (n : ℕ) (r : Option ℕ). record { total = n; room = r }) one.total step.room in
+      let same : limits t one.rest ≡ limits s bs = ap₂ (λ (n : ℕ) (r : Option ℕ). record { total = n; room = r }) one.total step.took.room in
       let l = limits s bs in
       let there = subst (λ (l : Limits). StandsBy (c l one.rest) (code_of e) (offset_of e)) same (h.told one.rest one.tells) in
       code_stands (c l one.rest) (d l bs) (code_of e) (offset_of e)
@@ -177,7 +176,7 @@ empty_stands f levels left remaining s a e step (inr none) = record {
 }
 
 -- the key of a map of one pair may not begin as it does
-pub pair_stands : (allowed : ReadErrorCode → Bool) (f : Formats) (levels : ℕ) (s : Input) (kept : Option ReadError) (r : Refused) (e : Error) → IsErrorOf kept r e → Stopped allowed (λ l. pair_head_at f levels) s kept r → Stands s e (untagged_cases f levels)
+pub pair_stands : {w : Input} (allowed : ReadErrorCode → Bool) (f : Formats) (levels : ℕ) (s : Input) (kept : Option ReadError) (r : Refused) (e : Error) → IsErrorOf kept r e → Stopped allowed (λ l. pair_head_at f levels) s w kept r → Stands s e (untagged_cases f levels)
 pair_stands allowed f levels s kept r e made h = stopped_stands allowed (λ l. pair_head_at f levels) s kept r e (untagged_cases f levels) (λ l bs at h. h) made h
 
 -- an array ends where an item was wanted
@@ -191,7 +190,7 @@ full_stands remaining s e (inr none) = record {
 
 -- why it couldn't be told whether an item comes
 pub coming_fault : (allowed : ReadErrorCode → Bool) (remaining behind : Remaining) (s t : Input) (kept : Option ReadError) (r : Refused) (e : Error) → IsErrorOf kept r e → TakesComing allowed remaining behind s t kept (Err r) → TellsFault allowed (λ l. next_at end_in_array (remaining_of remaining)) s e
-coming_fault allowed remaining behind s t kept r e made h = fails_by allowed (λ l. next_at end_in_array (remaining_of remaining)) s kept r e made h
+coming_fault allowed remaining behind s t kept r e made h = told_by allowed (λ l. next_at end_in_array (remaining_of remaining)) s kept r e made h
 
 -- where no item comes, either that is told or the error is excused
 pub too_short_first : (allowed : ReadErrorCode → Bool) (remaining : Remaining) (s : Input) (e : Error)
@@ -265,16 +264,16 @@ unnamed_stands s cases kept unnamed.Other other e made = other_stands s e cases 
     of_message code.NotCanonical h = absurd h
 
 -- the next key may not begin as it does
-pub key_stands : (allowed : ReadErrorCode → Bool) (f g : Formats) (remaining behind : Remaining) (more : Bool) (s a : Input) (kept : Option ReadError) (r : Refused) → g ≡ f → more ≡ true
-    → Step s a (λ l bs rest. next_at end_in_map (remaining_of remaining) bs ≡ Ok (behind_next behind more, rest)) → Stopped allowed (λ l. key_front g) a kept r → (e : Error) → IsErrorOf kept r e → Stands s e (key_cases f remaining)
+pub key_stands : {w : Input} (allowed : ReadErrorCode → Bool) (f g : Formats) (remaining behind : Remaining) (more : Bool) (s a : Input) (kept : Option ReadError) (r : Refused) → g ≡ f → more ≡ true
+    → Step s a (λ l bs rest. next_at end_in_map (remaining_of remaining) bs ≡ Ok (behind_next behind more, rest)) → Stopped allowed (λ l. key_front g) a w kept r → (e : Error) → IsErrorOf kept r e → Stands s e (key_cases f remaining)
 key_stands allowed f g remaining behind false s a kept r same comes step h e made = absurd cc
-key_stands allowed f g remaining behind true s a kept r same comes step h e made =
+key_stands {w = w} allowed f g remaining behind true s a kept r same comes step h e made =
     stands_then s a e (λ l bs rest. next_at end_in_map (remaining_of remaining) bs ≡ Ok (Some (remaining_of behind), rest)) front_cases (key_cases f remaining) (record {
       short = λ l bs rest at comes h. h;
       long = λ l bs rest at comes h. h;
       enum = λ l bs rest at comes h. h;
       key = λ l bs rest at comes h. record { behind = remaining_of behind; key = rest; comes = comes; refused = h };
-    }) step (stopped_stands allowed (λ l. key_front f) a kept r e front_cases (λ l bs at h. h) made (subst (λ (k : Formats). Stopped allowed (λ l. key_front k) a kept r) same h))
+    }) step (stopped_stands allowed (λ l. key_front f) a kept r e front_cases (λ l bs at h. h) made (subst (λ (k : Formats). Stopped allowed (λ l. key_front k) a w kept r) same h))
   where
     front_cases : Limits → List ℕ → Cases
     front_cases l bs = record { too_short = λ at. ⊥; too_long = λ at. ⊥; wrong_enum = λ at. ⊥; wrong_struct = λ at. FailsAs wrong_struct_format l.total at (key_front f bs) }

@@ -30,8 +30,7 @@ pub front_step : (s t : Input) (o : Option ℕ) (b : ℕ) → o ≡ Some b → S
 front_step s t o b some h front =
     let step = none_step s t h.bytes h.count h.room in
     record {
-      room = step.room;
-      forward = step.forward;
+      took = step.took;
       told = λ bs tells.
           let got = step.told bs tells in
           record { rest = got.rest; tells = got.tells; total = got.total; holds = stands b bs got.rest (front_is s o b bs some tells.is front) got.holds };

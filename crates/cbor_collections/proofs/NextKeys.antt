@@ -18,7 +18,7 @@ use Rattle.cbor_de.specs.Gives.{Limits, Step, Stopped, IsErrorOf}
 use Rattle.cbor_de.specs.Heads.{remaining_of}
 use Rattle.cbor_de.specs.declared.cursor.Remaining.{Remaining}
 use Rattle.cbor_de.specs.declared.refusal.Refused.{Refused}
-use Rattle.cbor_de.proofs.facts.Steps.{step_map, step_then}
+use Rattle.cbor_de.proofs.facts.Steps.{some_then, step_map, step_then}
 use Rattle.cbor_de.specs.declared.formats.Formats.{Formats}
 use Rattle.cbor_collections.specs.MapAccesses.{Comes, key_front, IsKey}
 use Rattle.cbor_scalars.specs.Takes.{formats_of, raws, IsRead, IsNotRead, Refuses}
@@ -78,15 +78,15 @@ module _ (s m : Input) (f : model.Formats) (old new : Remaining) where
         let at = ap (λ (p : Option reader.Remaining × List ℕ). p.1) (ok_is (Some after, rest) (Some (remaining_of new), mid) (sym comes.0 ∙ next')) in
         none rest (subst (λ (bs : List ℕ). key_front f bs ≡ Ok (tt, rest)) at comes.1)
 
-    pub front_refused : (allowed : ReadErrorCode → Bool) (kept : Option ReadError) (r : Refused) (e : Error) → more ≡ true → Step s m (Next more)
-        → IsErrorOf kept r e → Stopped allowed (λ l. key_front f) m kept r → Refuses allowed s (code_of e) (offset_of e) (NonePairs f (remaining_of old))
+    pub front_refused : {w : Input} (allowed : ReadErrorCode → Bool) (kept : Option ReadError) (r : Refused) (e : Error) → more ≡ true → Step s m (Next more)
+        → IsErrorOf kept r e → Stopped allowed (λ l. key_front f) m w kept r → Refuses allowed s w (code_of e) (offset_of e) (NonePairs f (remaining_of old))
     front_refused allowed kept r e is step tells stops =
         refuses_then allowed s (code_of e) (offset_of e) m (Next more) (λ l bs. (rest : List ℕ) → key_front f bs ≡ Ok (tt, rest) → ⊥) (NonePairs f (remaining_of old))
         (λ l bs mid next none. not_front l bs mid is next none) step
         (refuses_stopped allowed (λ l. key_front f) m kept r e (λ l bs. (rest : List ℕ) → key_front f bs ≡ Ok (tt, rest) → ⊥) (λ l bs fault stops rest front. not_both (key_front f bs) (tt, rest) fault front stops) tells stops)
 
-  pub next_refused : (allowed : ReadErrorCode → Bool) (kept : Option ReadError) (r : Refused) (e : Error)
-      → IsErrorOf kept r e → Stopped allowed (λ l. next_at end_in_map (remaining_of old)) s kept r → Refuses allowed s (code_of e) (offset_of e) (NonePairs f (remaining_of old))
+  pub next_refused : {w : Input} (allowed : ReadErrorCode → Bool) (kept : Option ReadError) (r : Refused) (e : Error)
+      → IsErrorOf kept r e → Stopped allowed (λ l. next_at end_in_map (remaining_of old)) s w kept r → Refuses allowed s w (code_of e) (offset_of e) (NonePairs f (remaining_of old))
   next_refused allowed kept r e tells stops =
       refuses_stopped allowed (λ l. next_at end_in_map (remaining_of old)) s kept r e (NonePairs f (remaining_of old)) none tells stops
     where
@@ -117,10 +117,10 @@ module _ (s m : Input) (old new : Remaining) (more : Bool) where
         let at = ap (λ (p : Option reader.Remaining × List ℕ). p.1) both in
         none x rest (record { item = h.key.item; is = subst (λ (bs : List ℕ). p bs ≡ Ok (h.key.item, rest)) at read; means = h.key.means })
 
-    pub key_refused : (allowed : ReadErrorCode → Bool) (k : ErrorCode) (at : ℕ) → Step s m (There f) → Refuses allowed m k at (λ l bs. IsNotRead (reads g) (item_at (raws (formats_of g) l) inside bs)) → Refuses allowed s k at (NoKey (reads f) (formats_of f) levels (remaining_of old))
-    key_refused allowed k at step h =
-        let h' : Refuses allowed m k at (λ l bs. IsNotRead (reads f) (item_at (raws (formats_of f) l) inside bs)) = subst (λ (g : Formats). Refuses allowed m k at (λ l bs. IsNotRead (reads g) (item_at (raws (formats_of g) l) inside bs))) formats h in
-        let here : Refuses allowed m k at (λ l bs. IsNotRead (reads f) (item_at (raws (formats_of f) l) levels bs)) = subst (λ (n : ℕ). Refuses allowed m k at (λ l bs. IsNotRead (reads f) (item_at (raws (formats_of f) l) n bs))) same h' in
+    pub key_refused : {w : Input} (allowed : ReadErrorCode → Bool) (k : ErrorCode) (at : ℕ) → Step s m (There f) → Refuses allowed m w k at (λ l bs. IsNotRead (reads g) (item_at (raws (formats_of g) l) inside bs)) → Refuses allowed s w k at (NoKey (reads f) (formats_of f) levels (remaining_of old))
+    key_refused {w = w} allowed k at step h =
+        let h' : Refuses allowed m w k at (λ l bs. IsNotRead (reads f) (item_at (raws (formats_of f) l) inside bs)) = subst (λ (g : Formats). Refuses allowed m w k at (λ l bs. IsNotRead (reads g) (item_at (raws (formats_of g) l) inside bs))) formats h in
+        let here : Refuses allowed m w k at (λ l bs. IsNotRead (reads f) (item_at (raws (formats_of f) l) levels bs)) = subst (λ (n : ℕ). Refuses allowed m w k at (λ l bs. IsNotRead (reads f) (item_at (raws (formats_of f) l) n bs))) same h' in
         refuses_then allowed s k at m (There f) (λ l bs. IsNotRead (reads f) (item_at (raws (formats_of f) l) levels bs)) (NoKey (reads f) (formats_of f) levels (remaining_of old))
         (λ l bs mid is none. not_key l bs mid is none) step here
 
@@ -138,8 +138,9 @@ module _ (s m : Input) (old new : Remaining) (more : Bool) where
           }) one two
 
       -- what takes no byte is no key
-      pub no_key_taken : (allowed : ReadErrorCode → Bool) (k : ErrorCode) (at : ℕ) (N : Limits → List ℕ → Type 0) → Step s m (There f) → Step m t (λ l bs rest. IsRead (reads g) (item_at (raws (formats_of g) l) inside bs) x rest) → t.offset ≤ m.offset → Refuses allowed s k at N
+      pub no_key_taken : (allowed : ReadErrorCode → Bool) (k : ErrorCode) (at : ℕ) (N : Limits → List ℕ → Type 0) → Step s m (There f) → Step m t (λ l bs rest. IsRead (reads g) (item_at (raws (formats_of g) l) inside bs) x rest) → t.offset ≤ m.offset → Refuses allowed s t k at N
       no_key_taken allowed k at N one two few = record {
+        took = some_then s m t one.took two.took;
         told = λ bs tells.
             let first = one.told bs tells in
             let second = two.told first.rest first.tells in
@@ -148,8 +149,8 @@ module _ (s m : Input) (old new : Remaining) (more : Bool) where
       }
 
 -- no key comes that may begin so
-pub none_is_key : {K : Type 0} (reads : Raw → K → Type 0) (f : model.Formats) (levels : ℕ) (r : reader.Remaining) (allowed : ReadErrorCode → Bool) (s : Input) (k : ErrorCode) (at : ℕ)
-    → Refuses allowed s k at (NonePairs f r) → Refuses allowed s k at (NoKey reads f levels r)
+pub none_is_key : {K : Type 0} {w : Input} (reads : Raw → K → Type 0) (f : model.Formats) (levels : ℕ) (r : reader.Remaining) (allowed : ReadErrorCode → Bool) (s : Input) (k : ErrorCode) (at : ℕ)
+    → Refuses allowed s w k at (NonePairs f r) → Refuses allowed s w k at (NoKey reads f levels r)
 none_is_key {K} reads f levels r allowed s k at = refuses_map allowed s k at (NonePairs f r) (NoKey reads f levels r) on
   where
     on : (l : Limits) (bs : List ℕ) → NonePairs f r l bs → NoKey reads f levels r l bs

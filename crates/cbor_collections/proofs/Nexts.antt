@@ -13,7 +13,7 @@ use Rattle.cbor_de.specs.Cursor.{behind_next}
 use Rattle.cbor_de.specs.Gives.{Limits, Step}
 use Rattle.cbor_de.specs.Heads.{remaining_of}
 use Rattle.cbor_de.specs.declared.cursor.Remaining.{Remaining}
-use Rattle.cbor_de.proofs.facts.Steps.{step_map, step_then}
+use Rattle.cbor_de.proofs.facts.Steps.{some_then, step_map, step_then}
 use Rattle.cbor_de.specs.declared.formats.Formats.{Formats}
 use Rattle.cbor_collections.specs.Accesses.{IsNext, IsNextItem, IsEnd}
 use Rattle.cbor_scalars.specs.Takes.{formats_of, raws, IsRead, IsNotRead, Refuses}
@@ -44,10 +44,10 @@ module _ (s m : Input) (old new : Remaining) (more : Bool) where
         let both = ok_is (Some after, h.start) (Some (remaining_of new), mid) (sym h.next ∙ is) in
         none x rest (subst (λ (bs : List ℕ). IsRead (reads f) (item_at (raws (formats_of f) l) levels bs) x rest) (ap (λ (p : Option reader.Remaining × List ℕ). p.1) both) h.item)
 
-    pub item_refused : (allowed : ReadErrorCode → Bool) (k : ErrorCode) (at : ℕ) → Step s m Comes → Refuses allowed m k at (λ l bs. IsNotRead (reads g) (item_at (raws (formats_of g) l) inside bs)) → Refuses allowed s k at (NoNext (reads f) (formats_of f) levels (remaining_of old))
-    item_refused allowed k at step h =
-        let h' : Refuses allowed m k at (λ l bs. IsNotRead (reads f) (item_at (raws (formats_of f) l) inside bs)) = subst (λ (g : Formats). Refuses allowed m k at (λ l bs. IsNotRead (reads g) (item_at (raws (formats_of g) l) inside bs))) formats h in
-        let here : Refuses allowed m k at (λ l bs. IsNotRead (reads f) (item_at (raws (formats_of f) l) levels bs)) = subst (λ (n : ℕ). Refuses allowed m k at (λ l bs. IsNotRead (reads f) (item_at (raws (formats_of f) l) n bs))) same h' in
+    pub item_refused : {w : Input} (allowed : ReadErrorCode → Bool) (k : ErrorCode) (at : ℕ) → Step s m Comes → Refuses allowed m w k at (λ l bs. IsNotRead (reads g) (item_at (raws (formats_of g) l) inside bs)) → Refuses allowed s w k at (NoNext (reads f) (formats_of f) levels (remaining_of old))
+    item_refused {w = w} allowed k at step h =
+        let h' : Refuses allowed m w k at (λ l bs. IsNotRead (reads f) (item_at (raws (formats_of f) l) inside bs)) = subst (λ (g : Formats). Refuses allowed m w k at (λ l bs. IsNotRead (reads g) (item_at (raws (formats_of g) l) inside bs))) formats h in
+        let here : Refuses allowed m w k at (λ l bs. IsNotRead (reads f) (item_at (raws (formats_of f) l) levels bs)) = subst (λ (n : ℕ). Refuses allowed m w k at (λ l bs. IsNotRead (reads f) (item_at (raws (formats_of f) l) n bs))) same h' in
         refuses_then allowed s k at m Comes (λ l bs. IsNotRead (reads f) (item_at (raws (formats_of f) l) levels bs)) (NoNext (reads f) (formats_of f) levels (remaining_of old))
         (λ l bs mid is none. not_next l bs mid is none) step here
 
@@ -64,8 +64,9 @@ module _ (s m : Input) (old new : Remaining) (more : Bool) where
           }) one two
 
       -- what takes no byte is no item
-      pub nothing_taken : (allowed : ReadErrorCode → Bool) (k : ErrorCode) (at : ℕ) (N : Limits → List ℕ → Type 0) → Step s m Comes → Step m t (λ l bs rest. IsRead (reads g) (item_at (raws (formats_of g) l) inside bs) x rest) → t.offset ≤ m.offset → Refuses allowed s k at N
+      pub nothing_taken : (allowed : ReadErrorCode → Bool) (k : ErrorCode) (at : ℕ) (N : Limits → List ℕ → Type 0) → Step s m Comes → Step m t (λ l bs rest. IsRead (reads g) (item_at (raws (formats_of g) l) inside bs) x rest) → t.offset ≤ m.offset → Refuses allowed s t k at N
       nothing_taken allowed k at N one two few = record {
+        took = some_then s m t one.took two.took;
         told = λ bs tells.
             let first = one.told bs tells in
             let second = two.told first.rest first.tells in
@@ -81,9 +82,9 @@ NoPart {A} reads f levels r l bs = (x : A) (after : reader.Remaining) (rest : Li
 
 module _ {A : Type 0} (allowed : ReadErrorCode → Bool) (reads : Raw → A → Type 0) (f : model.Formats) (levels : ℕ) (r : reader.Remaining) (s : Input) (k : ErrorCode) (at : ℕ) where
   -- none is left
-  pub part_missing : (t : Input) → Step s t (IsEnd r) → Refuses allowed s k at (NoPart reads f levels r)
+  pub part_missing : (t : Input) → Step s t (IsEnd r) → Refuses allowed s t k at (NoPart reads f levels r)
   part_missing t end = refuses_by allowed s k at t (IsEnd r) (NoPart reads f levels r)
       (λ l bs mid e x after rest h. no_some after (ap (λ (p : Option reader.Remaining × List ℕ). p.0) (ok_is (None, mid) (Some after, h.start) (sym e ∙ h.next)))) end
 
-  pub part_refused : Refuses allowed s k at (NoNext reads f levels r) → Refuses allowed s k at (NoPart reads f levels r)
+  pub part_refused : {w : Input} → Refuses allowed s w k at (NoNext reads f levels r) → Refuses allowed s w k at (NoPart reads f levels r)
   part_refused h = refuses_map allowed s k at (NoNext reads f levels r) (NoPart reads f levels r) (λ l bs none x after rest n. none (Some x) after rest n) h

@@ -1,7 +1,7 @@
 -- Refusals of one reading after another.
 use Rattle.std.proofs.Common.{◌≡◌, ◌+◌, length, inl, inr, ℕ, Bool, List, Option, Some, None, Err, sym, ap₂, subst}
 use Rattle.cbor_model.specs.Reader.{Fault, Reads}
-use Rattle.cbor_read.specs.Source.{Input}
+use Rattle.cbor_read.specs.Source.{Input, TookSome}
 use Rattle.cbor_io.specs.Error.{code_of, offset_of}
 use Rattle.cbor_io.specs.declared.error.Error.{Error}
 use Rattle.cbor_io.specs.declared.error.ErrorCode.{ErrorCode}
@@ -12,15 +12,17 @@ use Rattle.cbor_io.specs.declared.read_error.ReadErrorCode.{ReadErrorCode}
 use Rattle.cbor_de.specs.declared.refusal.Refused.{Refused}
 use Rattle.cbor_de.specs.declared.refusal.Refused.TheVariants as refused
 use Rattle.cbor_de.specs.Gives.{Limits, limits, Tells, Step, Stopped, FailsBy, Reports, IsErrorOf}
-use Rattle.cbor_scalars.specs.Takes.{ExcusedBy, Refuses}
-use Rattle.cbor_scalars.proofs.facts.Refusals.{excused_or}
+use Rattle.cbor_scalars.specs.Takes.{ExcusedBy, Refuses, TellsFault}
+use Rattle.cbor_de.proofs.facts.Steps.{some_then}
+use Rattle.cbor_scalars.proofs.facts.Refusals.{excused_or, told_by}
 
 -- ---- refusals
 
 -- N is said, or the error is excused
 module _ (allowed : ReadErrorCode → Bool) (s : Input) (k : ErrorCode) (at : ℕ) where
-  pub refuses_map : (N N' : Limits → List ℕ → Type 0) → ((l : Limits) (bs : List ℕ) → N l bs → N' l bs) → Refuses allowed s k at N → Refuses allowed s k at N'
+  pub refuses_map : {w : Input} (N N' : Limits → List ℕ → Type 0) → ((l : Limits) (bs : List ℕ) → N l bs → N' l bs) → Refuses allowed s w k at N → Refuses allowed s w k at N'
   refuses_map N N' on h = record {
+    took = h.took;
     told = λ bs tells. elim (h.told bs tells) [
       | inl e ↦ inl e
       | inr n ↦ inr (on (limits s bs) bs n)
@@ -28,15 +30,16 @@ module _ (allowed : ReadErrorCode → Bool) (s : Input) (k : ErrorCode) (at : �
   }
 
   -- whatever N is, where an allocation failed
-  pub refuses_memory : (N : Limits → List ℕ → Type 0) → k ≡ code.OutOfMemory → at ≡ 0 → Refuses allowed s k at N
-  refuses_memory N is none = record { told = λ bs tells. inl (subst (λ (c : ErrorCode). ExcusedBy (Reports allowed) c at) (sym is) none) }
+  pub refuses_memory : {t : Input} (N : Limits → List ℕ → Type 0) → k ≡ code.OutOfMemory → at ≡ 0 → TookSome s t → Refuses allowed s t k at N
+  refuses_memory N is none took = record { took = took; told = λ bs tells. inl (subst (λ (c : ErrorCode). ExcusedBy (Reports allowed) c at) (sym is) none) }
 
   -- after a step
-  pub refuses_then : (t : Input) (P : Limits → List ℕ → List ℕ → Type 0) (N N' : Limits → List ℕ → Type 0) → ((l : Limits) (bs mid : List ℕ) → P l bs mid → N l mid → N' l bs) → Step s t P → Refuses allowed t k at N → Refuses allowed s k at N'
-  refuses_then t P N N' on step h = record {
+  pub refuses_then : {w : Input} (t : Input) (P : Limits → List ℕ → List ℕ → Type 0) (N N' : Limits → List ℕ → Type 0) → ((l : Limits) (bs mid : List ℕ) → P l bs mid → N l mid → N' l bs) → Step s t P → Refuses allowed t w k at N → Refuses allowed s w k at N'
+  refuses_then {w = w} t P N N' on step h = record {
+    took = some_then s t w step.took h.took;
     told = λ bs tells.
         let one = step.told bs tells in
-        let same : limits t one.rest ≡ limits s bs = ap₂ (λ (n : ℕ) (r : Option ℕ). record { total = n; room = r }) one.total step.room in
+        let same : limits t one.rest ≡ limits s bs = ap₂ (λ (n : ℕ) (r : Option ℕ). record { total = n; room = r }) one.total step.took.room in
         elim (h.told one.rest one.tells) [
           | inl e ↦ inl e
           | inr n ↦ inr (on (limits s bs) bs one.rest one.holds (subst (λ (l : Limits). N l one.rest) same n))
@@ -44,32 +47,23 @@ module _ (allowed : ReadErrorCode → Bool) (s : Input) (k : ErrorCode) (at : �
   }
 
   -- N is said of what a step tells
-  pub refuses_by : (t : Input) (P : Limits → List ℕ → List ℕ → Type 0) (N : Limits → List ℕ → Type 0) → ((l : Limits) (bs rest : List ℕ) → P l bs rest → N l bs) → Step s t P → Refuses allowed s k at N
-  refuses_by t P N on step = record { told = λ bs tells. inr (on (limits s bs) bs (step.told bs tells).rest (step.told bs tells).holds) }
+  pub refuses_by : (t : Input) (P : Limits → List ℕ → List ℕ → Type 0) (N : Limits → List ℕ → Type 0) → ((l : Limits) (bs rest : List ℕ) → P l bs rest → N l bs) → Step s t P → Refuses allowed s t k at N
+  refuses_by t P N on step = record { took = step.took; told = λ bs tells. inr (on (limits s bs) bs (step.told bs tells).rest (step.told bs tells).holds) }
 
 -- ---- errors that tell a fault
 
--- the error of a refused step tells its fault
-pub fails_by : {A : Type 0} (allowed : ReadErrorCode → Bool) (read : Limits → List ℕ → Reads A) (s : Input) (kept : Option ReadError) (r : Refused) (e : Error)
-    → IsErrorOf kept r e → Stopped allowed read s kept r → (bs : List ℕ) → Tells s bs → FailsBy (Reports allowed) (code_of e) (s.offset + length bs) (offset_of e) (read (limits s bs) bs)
-fails_by allowed read s kept refused.OutOfMemory e is h bs tells = subst (λ (k : ErrorCode). FailsBy (Reports allowed) k (s.offset + length bs) (offset_of e) (read (limits s bs) bs)) (sym is.0) is.1
-fails_by allowed read s None refused.Kept e is h bs tells = absurd h
-fails_by allowed read s (Some q) refused.Kept e is h bs tells =
-    let D = Reports allowed in
-    let there = subst (λ (k : ErrorCode). FailsBy D k (s.offset + length bs) (place q) (read (limits s bs) bs)) (sym is.0) (h.told bs tells) in
-    subst (λ (n : ℕ). FailsBy D (code_of e) (s.offset + length bs) n (read (limits s bs) bs)) (sym is.1) there
-
 -- what a fault stops can't be read
-pub refuses_fault : {A : Type 0} (allowed : ReadErrorCode → Bool) (read : Limits → List ℕ → Reads A) (s : Input) (e : Error) (N : Limits → List ℕ → Type 0)
+pub refuses_fault : {A : Type 0} {t : Input} (allowed : ReadErrorCode → Bool) (read : Limits → List ℕ → Reads A) (s : Input) (e : Error) (N : Limits → List ℕ → Type 0)
     → ((l : Limits) (bs : List ℕ) (f : Fault) → read l bs ≡ Err f → N l bs)
-    → ((bs : List ℕ) → Tells s bs → FailsBy (Reports allowed) (code_of e) (s.offset + length bs) (offset_of e) (read (limits s bs) bs)) → Refuses allowed s (code_of e) (offset_of e) N
-refuses_fault allowed read s e N on fails = record {
+    → TookSome s t → TellsFault allowed read s e → Refuses allowed s t (code_of e) (offset_of e) N
+refuses_fault allowed read s e N on took fails = record {
+  took = took;
   told = λ bs tells. elim (excused_or (Reports allowed) (code_of e) (s.offset + length bs) (offset_of e) (read (limits s bs) bs) (fails bs tells)) [
     | inl x ↦ inl x
     | inr h ↦ inr (on (limits s bs) bs h.0 h.1)
   ];
 }
 
-pub refuses_stopped : {A : Type 0} (allowed : ReadErrorCode → Bool) (read : Limits → List ℕ → Reads A) (s : Input) (kept : Option ReadError) (r : Refused) (e : Error) (N : Limits → List ℕ → Type 0)
-    → ((l : Limits) (bs : List ℕ) (f : Fault) → read l bs ≡ Err f → N l bs) → IsErrorOf kept r e → Stopped allowed read s kept r → Refuses allowed s (code_of e) (offset_of e) N
-refuses_stopped allowed read s kept r e N on is h = refuses_fault allowed read s e N on (fails_by allowed read s kept r e is h)
+pub refuses_stopped : {A : Type 0} {w : Input} (allowed : ReadErrorCode → Bool) (read : Limits → List ℕ → Reads A) (s : Input) (kept : Option ReadError) (r : Refused) (e : Error) (N : Limits → List ℕ → Type 0)
+    → ((l : Limits) (bs : List ℕ) (f : Fault) → read l bs ≡ Err f → N l bs) → IsErrorOf kept r e → Stopped allowed read s w kept r → Refuses allowed s w (code_of e) (offset_of e) N
+refuses_stopped allowed read s kept r e N on is h = refuses_fault allowed read s e N on h.took (told_by allowed read s kept r e is h)

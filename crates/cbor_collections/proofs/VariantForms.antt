@@ -5,7 +5,7 @@ use Rattle.cbor_model.specs.Refusal.{end_in_array}
 use Rattle.cbor_model.specs.Reader.{next_at, item_at}
 use Rattle.cbor_model.specs.Reader as reader
 use Rattle.cbor_model.proofs.facts.Reader.{ok_is}
-use Rattle.cbor_read.specs.Source.{Input}
+use Rattle.cbor_read.specs.Source.{Input, TookSome}
 use Rattle.cbor_io.specs.Error.{code_of, offset_of}
 use Rattle.cbor_io.specs.declared.error.Error.{Error}
 use Rattle.cbor_io.specs.declared.read_error.ReadError.{ReadError}
@@ -95,12 +95,12 @@ module _ (f : Formats) (names : List (List ℕ)) (levels : ℕ) (s : Input) wher
   abbrev NoArray : Limits → List ℕ → Type 0
   NoArray l bs = HasShape shape.Array bs → NoForm f names l levels bs
 
-  pub array_refused : (allowed : ReadErrorCode → Bool) (e : Error) → RefusesBeginning Array allowed levels s e → Refuses allowed s (code_of e) (offset_of e) NoArray
+  pub array_refused : {w : Input} (allowed : ReadErrorCode → Bool) (e : Error) → RefusesBeginning Array allowed levels s w e → Refuses allowed s w (code_of e) (offset_of e) NoArray
   array_refused allowed e = refuses_map allowed s (code_of e) (offset_of e) (λ l bs. NoneBegins Array levels bs) NoArray
       (λ l bs none shaped. array_only f names l levels bs shaped (λ left i r rest h. none left h.all h.items h.head))
 
   module _ (a : Input) (left : ℕ) (all : Remaining) (head : Step s a (λ l bs rest. Begins Array levels left all bs rest)) where
-    pub empty_refused : (allowed : ReadErrorCode → Bool) (e : Error) → Refuses allowed a (code_of e) (offset_of e) (λ l bs. (behind : reader.Remaining) (rest : List ℕ) → NextAt all bs behind rest → ⊥) → Refuses allowed s (code_of e) (offset_of e) NoArray
+    pub empty_refused : {w : Input} (allowed : ReadErrorCode → Bool) (e : Error) → Refuses allowed a w (code_of e) (offset_of e) (λ l bs. (behind : reader.Remaining) (rest : List ℕ) → NextAt all bs behind rest → ⊥) → Refuses allowed s w (code_of e) (offset_of e) NoArray
     empty_refused allowed e = refuses_then allowed s (code_of e) (offset_of e) a (λ l bs rest. Begins Array levels left all bs rest) (λ l bs. (behind : reader.Remaining) (rest : List ℕ) → NextAt all bs behind rest → ⊥) NoArray
         (λ l bs mid head none shaped. array_only f names l levels bs shaped (λ more i r rest h.
         let next = subst (λ (x : Remaining). NextAt x h.items (remaining_of r) h.first) (sym (same_all levels left more all h.all bs mid h.items head h.head)) h.next in
@@ -125,7 +125,7 @@ module _ (f : Formats) (names : List (List ℕ)) (levels : ℕ) (s : Input) wher
           let name = subst (λ (n : ℕ). IsRead (IsName names) (item_at (raws f l) n h.first) i rest) (sym (same_left levels left more all h.all bs at.items h.items at.begins h.head)) h.name in
           none i rest (subst (λ (x : List ℕ). IsRead (IsName names) (item_at (raws f l) left x) i rest) (sym first) name))
 
-      pub unnamed_refused : (allowed : ReadErrorCode → Bool) (e : Error) → Refuses allowed b (code_of e) (offset_of e) (λ l bs. IsNotRead (IsName names) (item_at (raws f l) left bs)) → Refuses allowed s (code_of e) (offset_of e) NoArray
+      pub unnamed_refused : {w : Input} (allowed : ReadErrorCode → Bool) (e : Error) → Refuses allowed b w (code_of e) (offset_of e) (λ l bs. IsNotRead (IsName names) (item_at (raws f l) left bs)) → Refuses allowed s w (code_of e) (offset_of e) NoArray
       unnamed_refused allowed e = refuses_then allowed s (code_of e) (offset_of e) b (First behind) (λ l bs. IsNotRead (IsName names) (item_at (raws f l) left bs)) NoArray
           (λ l bs mid at none. unnamed_here l bs mid at none) to_first
 
@@ -142,7 +142,7 @@ module _ (f : Formats) (names : List (List ℕ)) (levels : ℕ) (s : Input) wher
   abbrev NoMap : Limits → List ℕ → Type 0
   NoMap l bs = HasShape shape.Map bs → NoForm f names l levels bs
 
-  pub pair_refused : (allowed : ReadErrorCode → Bool) (kept : Option ReadError) (r : Refused) (e : Error) → IsErrorOf kept r e → Stopped allowed (λ l. pair_head_at f levels) s kept r → Refuses allowed s (code_of e) (offset_of e) NoMap
+  pub pair_refused : {w : Input} (allowed : ReadErrorCode → Bool) (kept : Option ReadError) (r : Refused) (e : Error) → IsErrorOf kept r e → Stopped allowed (λ l. pair_head_at f levels) s w kept r → Refuses allowed s w (code_of e) (offset_of e) NoMap
   pair_refused allowed kept r e = refuses_stopped allowed (λ l. pair_head_at f levels) s kept r e NoMap
       (λ l bs fault stops shaped. map_only f names l levels bs shaped (λ left i rest h. fault_read (pair_head_at f levels bs) (tt, h.key) fault stops h.head))
 
@@ -154,7 +154,7 @@ module _ (f : Formats) (names : List (List ℕ)) (levels : ℕ) (s : Input) wher
         let name = subst (λ (n : ℕ). IsRead (IsName names) (item_at (raws f l) n h.key) i rest) level h.name in
         none i rest (subst (λ (x : List ℕ). IsRead (IsName names) (item_at (raws f l) left x) i rest) (sym key) name))
 
-    pub key_refused : (allowed : ReadErrorCode → Bool) (e : Error) → Refuses allowed a (code_of e) (offset_of e) (λ l bs. IsNotRead (IsName names) (item_at (raws f l) left bs)) → Refuses allowed s (code_of e) (offset_of e) NoMap
+    pub key_refused : {w : Input} (allowed : ReadErrorCode → Bool) (e : Error) → Refuses allowed a w (code_of e) (offset_of e) (λ l bs. IsNotRead (IsName names) (item_at (raws f l) left bs)) → Refuses allowed s w (code_of e) (offset_of e) NoMap
     key_refused allowed e = refuses_then allowed s (code_of e) (offset_of e) a (λ l bs rest. pair_head_at f levels bs ≡ Ok (tt, rest)) (λ l bs. IsNotRead (IsName names) (item_at (raws f l) left bs)) NoMap
         (λ l bs mid at none. key_here l bs mid at none) head
 
@@ -165,7 +165,7 @@ module _ (f : Formats) (names : List (List ℕ)) (levels : ℕ) (s : Input) wher
         (λ l bs mid rest at name shaped. subst (λ (n : ℕ). BeginsInMap f names l levels n i bs rest) (sym same)
         (record { read = standard; shape = shaped; level = one; key = mid; head = at; name = name })) head name
 
-  pub alone_refused : (allowed : ReadErrorCode → Bool) (e : Error) → Refuses allowed s (code_of e) (offset_of e) (λ l bs. IsNotRead (IsName names) (item_at (raws f l) levels bs)) → Refuses allowed s (code_of e) (offset_of e) (λ l bs. HasShape shape.Alone bs → NoForm f names l levels bs)
+  pub alone_refused : {w : Input} (allowed : ReadErrorCode → Bool) (e : Error) → Refuses allowed s w (code_of e) (offset_of e) (λ l bs. IsNotRead (IsName names) (item_at (raws f l) levels bs)) → Refuses allowed s w (code_of e) (offset_of e) (λ l bs. HasShape shape.Alone bs → NoForm f names l levels bs)
   alone_refused allowed e = refuses_map allowed s (code_of e) (offset_of e) (λ l bs. IsNotRead (IsName names) (item_at (raws f l) levels bs)) (λ l bs. HasShape shape.Alone bs → NoForm f names l levels bs)
       (λ l bs none shaped. alone_only f names l levels bs shaped (λ left i rest h. none i rest h.name))
 
@@ -177,7 +177,7 @@ module _ (f : Formats) (names : List (List ℕ)) (levels : ℕ) (s : Input) wher
 -- ---- the shape, and the tags before it
 
 module _ (allowed : ReadErrorCode → Bool) (f : Formats) (names : List (List ℕ)) (levels : ℕ) (s a : Input) where
-  pub form_refused : (e : Error) → Refuses allowed s (code_of e) (offset_of e) (λ l bs. HasNoShape f bs) → TakesForm allowed f names levels s a levels (Err e)
+  pub form_refused : (e : Error) → Refuses allowed s a (code_of e) (offset_of e) (λ l bs. HasNoShape f bs) → TakesForm allowed f names levels s a levels (Err e)
   form_refused e = refuses_map allowed s (code_of e) (offset_of e) (λ l bs. HasNoShape f bs) (λ l bs. NoForm f names l levels bs) (λ l bs none. no_form f names l levels bs none)
 
   pub form_then : (x : Shape) → Step s a (λ l bs rest. IsShaped x bs rest) → (t : Input) (left : ℕ) (r : Result (ℕ × Form) Error) → TakesFormOf x allowed f names levels a t left r → TakesForm allowed f names levels s t left r
@@ -188,10 +188,10 @@ module _ (allowed : ReadErrorCode → Bool) (f : Formats) (names : List (List �
       refuses_then allowed s (code_of e) (offset_of e) a (λ l bs rest. IsShaped x bs rest) (λ l bs. HasShape x bs → NoForm f names l levels bs) (λ l bs. NoForm f names l levels bs)
       (λ l bs mid is h. subst (NoForm f names l levels) is.1 (h (subst (HasShape x) (sym is.1) is.0))) shaped h
 
-  pub unassigned_form : (left : ℕ) (e : Error) → TakesFormOf shape.Unassigned allowed f names levels s a left (Err e)
-  unassigned_form left e = record { told = λ bs tells. inr (none_unassigned f names (limits s bs) levels bs) }
+  pub unassigned_form : (left : ℕ) (e : Error) → TookSome s a → TakesFormOf shape.Unassigned allowed f names levels s a left (Err e)
+  unassigned_form left e took = record { took = took; told = λ bs tells. inr (none_unassigned f names (limits s bs) levels bs) }
 
-  pub tags_refused : (kept : Option ReadError) (r : Refused) (e : Error) → IsErrorOf kept r e → Stopped allowed (λ l. passed_at levels) s kept r → RefusesVariantHead allowed f names levels s e
+  pub tags_refused : {w : Input} (kept : Option ReadError) (r : Refused) (e : Error) → IsErrorOf kept r e → Stopped allowed (λ l. passed_at levels) s w kept r → RefusesVariantHead allowed f names levels s w e
   tags_refused kept r e = refuses_stopped allowed (λ l. passed_at levels) s kept r e (λ l bs. NoVariant f names l levels bs)
       (λ l bs fault stops left i form rest h. fault_read (passed_at levels bs) (h.inner, h.start) fault stops h.tags)
 
@@ -216,5 +216,5 @@ pub parts_in_map : (allowed : ReadErrorCode → Bool) (levels left : ℕ) (s t :
 parts_in_map allowed levels left s t (Ok remaining) h = h
 parts_in_map allowed levels left s t (Err e) h = h
 
-pub alone_has_none : (allowed : ReadErrorCode → Bool) (levels : ℕ) (s t : Input) (left : ℕ) (e : Error) → TakesPartsHead allowed levels form.Alone s t left (Err e)
-alone_has_none allowed levels s t left e = record { told = λ bs tells. inr (λ left r rest h. h) }
+pub alone_has_none : (allowed : ReadErrorCode → Bool) (levels : ℕ) (s t : Input) (left : ℕ) (e : Error) → TookSome s t → TakesPartsHead allowed levels form.Alone s t left (Err e)
+alone_has_none allowed levels s t left e took = record { took = took; told = λ bs tells. inr (λ left r rest h. h) }

@@ -97,7 +97,7 @@ pair_headed allowed f s a m t levels left b kept (Ok u) in_one same byte key =
 pair_headed allowed f s a m t levels left b kept (Err r) in_one same byte key =
     let next : levels ≡ suc left = omega (arith, in_one) in
     stopped_then allowed (λ l. key_front f) (λ l. pair_head_at f levels) s a kept r (λ l bs rest. byte_at bs ≡ Ok (b, rest))
-    (λ l bs mid e is stops. pair_key f levels left b bs mid next is ∙ stops) byte (subst (λ (x : Input). Stopped allowed (λ l. key_front f) x kept r) same key)
+    (λ l bs mid e is stops. pair_key f levels left b bs mid next is ∙ stops) byte (subst (λ (x : Input). Stopped allowed (λ l. key_front f) x t kept r) same key)
 
 -- ---- an enum that is neither an array nor a map of one pair
 
@@ -227,6 +227,6 @@ alone_name f names l levels (b ∷ bs) rest r v here is means =
     let p = alone_head b bs here.1.1 here.1.0 (no_tag_byte b bs here.0) h.width h.head h.mid h.at in
     plain_name f names l (inside (raws f l) levels) h.width h.head h.mid rest p r v h.is means
 
-pub none_alone : (f : Formats) (names : List (List ℕ)) (allowed : ReadErrorCode → Bool) (levels : ℕ) (s : Input) (e : Error) → Refuses allowed s (code_of e) (offset_of e) (λ l bs. IsNotRead (IsName names) (item_at (raws f l) levels bs)) → RefusesShaped IsAlone allowed f names levels s e
+pub none_alone : {w : Input} (f : Formats) (names : List (List ℕ)) (allowed : ReadErrorCode → Bool) (levels : ℕ) (s : Input) (e : Error) → Refuses allowed s w (code_of e) (offset_of e) (λ l bs. IsNotRead (IsName names) (item_at (raws f l) levels bs)) → RefusesShaped IsAlone allowed f names levels s w e
 none_alone f names allowed levels s e = refuses_map allowed s (code_of e) (offset_of e) (λ l bs. IsNotRead (IsName names) (item_at (raws f l) levels bs)) (λ l bs. IsAlone bs → IsNotRead (PassesTags (IsVariant f names)) (item_at (raws f l) levels bs))
     (λ l bs none here v rest got. none v.0 rest (record { item = got.item; is = got.is; means = alone_name f names l levels bs rest got.item v here got.is got.means }))

@@ -145,7 +145,7 @@ module _ (f : Formats) (names : List (List ℕ)) (levels left : ℕ) (entered : 
       step_then s a t (λ l bs rest. pair_head_at f levels bs ≡ Ok (tt, rest)) (λ l bs rest. IsRead (IsName names) (item_at (raws f l) left bs) i rest) (λ l bs rest. HasShape shape.Map bs → IsVariantHead f names l (item_at (raws f l) levels bs) outer i form.Map rest)
       (λ l bs mid rest h name shaped. subst (λ (k : ℕ). IsVariantHead f names l (item_at (raws f l) levels bs) k i form.Map rest) (sym same) (map_here l bs mid rest i standard shaped h name)) head name
 
-  pub map_not_named : (allowed : ReadErrorCode → Bool) (e : Error) → Refuses allowed a (code_of e) (offset_of e) (λ l bs. IsNotRead (IsName names) (item_at (raws f l) left bs)) → RefusesShaped (HasShape shape.Map) allowed f names levels s e
+  pub map_not_named : {w : Input} (allowed : ReadErrorCode → Bool) (e : Error) → Refuses allowed a w (code_of e) (offset_of e) (λ l bs. IsNotRead (IsName names) (item_at (raws f l) left bs)) → RefusesShaped (HasShape shape.Map) allowed f names levels s w e
   map_not_named allowed e none = refuses_then allowed s (code_of e) (offset_of e) a (λ l bs rest. pair_head_at f levels bs ≡ Ok (tt, rest)) (λ l bs. IsNotRead (IsName names) (item_at (raws f l) left bs)) (λ l bs. HasShape shape.Map bs → IsNotRead (PassesTags (IsVariant f names)) (item_at (raws f l) levels bs))
       (λ l bs mid h none shaped. map_none l bs mid shaped h none) head none
 
@@ -178,6 +178,6 @@ module _ (f : Formats) (l : Limits) where
   shaped_none names levels [] e stops shaped v rest got = shaped
   shaped_none names levels (b ∷ bs) e stops shaped v rest got = head_none levels b bs e got.item rest (map_byte b shaped.0) stops got.is
 
-pub map_head_refused : (f : Formats) (names : List (List ℕ)) (levels : ℕ) (s : Input) (allowed : ReadErrorCode → Bool) (kept : Option ReadError) (r : Refused) (e : Error) → IsErrorOf kept r e → Stopped allowed (λ l. pair_head_at f levels) s kept r → RefusesShaped (HasShape shape.Map) allowed f names levels s e
+pub map_head_refused : {w : Input} (f : Formats) (names : List (List ℕ)) (levels : ℕ) (s : Input) (allowed : ReadErrorCode → Bool) (kept : Option ReadError) (r : Refused) (e : Error) → IsErrorOf kept r e → Stopped allowed (λ l. pair_head_at f levels) s w kept r → RefusesShaped (HasShape shape.Map) allowed f names levels s w e
 map_head_refused f names levels s allowed kept r e is h = refuses_stopped allowed (λ l. pair_head_at f levels) s kept r e (λ l bs. HasShape shape.Map bs → IsNotRead (PassesTags (IsVariant f names)) (item_at (raws f l) levels bs))
     (λ l bs fault stops. shaped_none f l names levels bs fault stops) is h

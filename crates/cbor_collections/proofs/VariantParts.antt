@@ -121,14 +121,14 @@ module _ {A : Type 0} (reads : Raw → A → Type 0) (f : model.Formats) (levels
       (λ l bs mid rest n end. only_here reads f levels all behind x l bs n.start mid rest n.next n.item end) (item_next s a b x first second) (end_step behind b t third)
 
   module _ (allowed : ReadErrorCode → Bool) (s : Input) (e : Error) where
-    abbrev pub RefusesOnly : Type 0
-    RefusesOnly = Refuses allowed s (code_of e) (offset_of e) (λ l bs. IsNoContent (IsPart reads) (content_at f l levels (form.Array all) bs))
+    abbrev pub RefusesOnly : Input → Type 0
+    RefusesOnly t = Refuses allowed s t (code_of e) (offset_of e) (λ l bs. IsNoContent (IsPart reads) (content_at f l levels (form.Array all) bs))
 
     -- no item is there
     no_part : (l : Limits) (bs : List ℕ) → NoPart reads f levels (remaining_of all) l bs → NoItems (Only reads) f levels (remaining_of all) l bs
     no_part l bs none rs rest x is means = no_part_rest reads f levels (remaining_of all) l bs none rs rest is (first_follows reads x AreNone rs means)
 
-    pub none_comes : Refuses allowed s (code_of e) (offset_of e) (λ l bs. (after : reader.Remaining) (rest : List ℕ) → next_at end_in_array (remaining_of all) bs ≡ Ok (Some after, rest) → ⊥) → RefusesOnly
+    pub none_comes : {w : Input} → Refuses allowed s w (code_of e) (offset_of e) (λ l bs. (after : reader.Remaining) (rest : List ℕ) → next_at end_in_array (remaining_of all) bs ≡ Ok (Some after, rest) → ⊥) → RefusesOnly w
     none_comes h = refuses_map allowed s (code_of e) (offset_of e) (λ l bs. (after : reader.Remaining) (rest : List ℕ) → next_at end_in_array (remaining_of all) bs ≡ Ok (Some after, rest) → ⊥) (λ l bs. IsNoContent (IsPart reads) (content_at f l levels (form.Array all) bs))
         (λ l bs none. no_only reads f levels all l bs (no_part l bs (λ x after rest n. none after n.start n.next))) h
 
@@ -138,14 +138,14 @@ module _ {A : Type 0} (reads : Raw → A → Type 0) (f : model.Formats) (levels
         let at = ap (λ (p : Option reader.Remaining × List ℕ). p.1) both in
         none x rest (subst (λ (start : List ℕ). IsRead reads (item_at (raws f l) levels start) x rest) at n.item)
 
-    pub item_lacks : (a : Input) → Step s a Next → Refuses allowed a (code_of e) (offset_of e) (λ l bs. IsNotRead reads (item_at (raws f l) levels bs)) → RefusesOnly
+    pub item_lacks : {w : Input} (a : Input) → Step s a Next → Refuses allowed a w (code_of e) (offset_of e) (λ l bs. IsNotRead reads (item_at (raws f l) levels bs)) → RefusesOnly w
     item_lacks a first h = refuses_then allowed s (code_of e) (offset_of e) a Next (λ l bs. IsNotRead reads (item_at (raws f l) levels bs)) (λ l bs. IsNoContent (IsPart reads) (content_at f l levels (form.Array all) bs))
         (λ l bs mid next none. no_only reads f levels all l bs (no_part l bs (none_read l bs mid next none))) first h
 
 -- items are left where the end is due
 pub end_left : {A : Type 0} (reads : Raw → A → Type 0) (f : Formats) (levels : ℕ) (all behind : Remaining) (allowed : ReadErrorCode → Bool) (s a b t : Input) (x : A) (e : Error)
     → Step s a (Next reads (formats_of f) levels all behind) → Step a b (Item reads (formats_of f) levels all behind x) → TakesEnd allowed behind b t (Err e)
-    → Refuses allowed s (code_of e) (offset_of e) (λ l bs. IsNoContent (IsPart reads) (content_at (formats_of f) l levels (form.Array all) bs))
+    → Refuses allowed s t (code_of e) (offset_of e) (λ l bs. IsNoContent (IsPart reads) (content_at (formats_of f) l levels (form.Array all) bs))
 end_left reads f levels all behind allowed s a b t x e first second third =
     let so = loop_begins s Empty f f levels levels refl refl all tt in
     let next = step_then s a b (Next reads (formats_of f) levels all behind) (Item reads (formats_of f) levels all behind x) (IsNextItem reads (formats_of f) levels (remaining_of all) (remaining_of behind) x)
@@ -163,8 +163,8 @@ pub one_taken : {A : Type 0} (reads : Raw → A → Type 0) (f : model.Formats) 
 one_taken reads f levels s t x = step_map s t (λ l bs rest. IsRead reads (item_at (raws f l) levels bs) x rest) (λ l bs rest. IsContent (IsPart reads) (content_at f l levels form.Map bs) x rest)
     (λ l bs rest h. record { content = one h.item; is = ap as_one h.is; meaning = h.means })
 
-pub one_refused : {A : Type 0} (reads : Raw → A → Type 0) (f : model.Formats) (levels : ℕ) (s : Input) (allowed : ReadErrorCode → Bool) (e : Error)
-    → Refuses allowed s (code_of e) (offset_of e) (λ l bs. IsNotRead reads (item_at (raws f l) levels bs)) → Refuses allowed s (code_of e) (offset_of e) (λ l bs. IsNoContent (IsPart reads) (content_at f l levels form.Map bs))
+pub one_refused : {A : Type 0} {w : Input} (reads : Raw → A → Type 0) (f : model.Formats) (levels : ℕ) (s : Input) (allowed : ReadErrorCode → Bool) (e : Error)
+    → Refuses allowed s w (code_of e) (offset_of e) (λ l bs. IsNotRead reads (item_at (raws f l) levels bs)) → Refuses allowed s w (code_of e) (offset_of e) (λ l bs. IsNoContent (IsPart reads) (content_at f l levels form.Map bs))
 one_refused reads f levels s allowed e = refuses_map allowed s (code_of e) (offset_of e) (λ l bs. IsNotRead reads (item_at (raws f l) levels bs)) (λ l bs. IsNoContent (IsPart reads) (content_at f l levels form.Map bs))
     (λ l bs none x rest got.
     let o = one_is (item_at (raws f l) levels bs) got.content rest got.is in
@@ -190,8 +190,8 @@ module _ (f : model.Formats) (levels : ℕ) (s t : Input) (allowed : ReadErrorCo
   nothing_taken k u = step_map s t (λ l bs rest. IsContent (IsPart Null) (content_at f l levels k bs) u rest) (λ l bs rest. IsContent IsNothing (content_at f l levels k bs) u rest)
       (λ l bs rest h. record { content = h.content; is = h.is; meaning = nothing h.content u h.meaning })
 
-  nothing_refused : (k : Form) (e : Error) → ((l : Limits) (bs rest : List ℕ) (c : Content) (u : Unit {0}) → content_at f l levels k bs ≡ Ok (c, rest) → IsNothing c u → IsPart Null c u)
-      → Refuses allowed s (code_of e) (offset_of e) (λ l bs. IsNoContent (IsPart Null) (content_at f l levels k bs)) → Refuses allowed s (code_of e) (offset_of e) (λ l bs. IsNoContent IsNothing (content_at f l levels k bs))
+  nothing_refused : {w : Input} (k : Form) (e : Error) → ((l : Limits) (bs rest : List ℕ) (c : Content) (u : Unit {0}) → content_at f l levels k bs ≡ Ok (c, rest) → IsNothing c u → IsPart Null c u)
+      → Refuses allowed s w (code_of e) (offset_of e) (λ l bs. IsNoContent (IsPart Null) (content_at f l levels k bs)) → Refuses allowed s w (code_of e) (offset_of e) (λ l bs. IsNoContent IsNothing (content_at f l levels k bs))
   nothing_refused k e back = refuses_map allowed s (code_of e) (offset_of e) (λ l bs. IsNoContent (IsPart Null) (content_at f l levels k bs)) (λ l bs. IsNoContent IsNothing (content_at f l levels k bs))
       (λ l bs none u rest got. none u rest (record { content = got.content; is = got.is; meaning = back l bs rest got.content u got.is got.meaning }))
 
@@ -236,7 +236,7 @@ array_here f levels inner remaining s t = step_map s t (λ l bs rest. IsArrayHea
       items = λ rs. subst (λ (i : Raw). AsArray (λ rs items. rs ≡ items) i rs) (sym (untagged-tagged h.tags (raw.array h.len rs))) refl;
     })
 
-pub no_array_here : (f : model.Formats) (levels : ℕ) (s : Input) (allowed : ReadErrorCode → Bool) (e : Error) → RefusesArray allowed f levels s e → RefusesParts allowed f levels form.Map s e
+pub no_array_here : {w : Input} (f : model.Formats) (levels : ℕ) (s : Input) (allowed : ReadErrorCode → Bool) (e : Error) → RefusesArray allowed f levels s w e → RefusesParts allowed f levels form.Map s w e
 no_array_here f levels s allowed e = refuses_map allowed s (code_of e) (offset_of e) (λ l bs. IsNotRead (PassesTags IsItems) (item_at (raws f l) levels bs)) (λ l bs. IsNoContent IsItemsOf (content_at f l levels form.Map bs))
     (λ l bs none rs rest got.
     let o = one_is (item_at (raws f l) levels bs) got.content rest got.is in

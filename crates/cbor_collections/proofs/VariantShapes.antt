@@ -7,7 +7,7 @@ use Rattle.cbor_model.specs.Raw.{Raw, Raws, no_raws, no_raw_pairs, raw_pair, def
 use Rattle.cbor_model.specs.Readable.{untagged, PassesTags}
 use Rattle.cbor_model.specs.Refusal.{unassigned_code}
 use Rattle.cbor_model.specs.Reader.{Reads, ◌>>=◌, before, ended, byte_at, item_at}
-use Rattle.cbor_read.specs.Source.{Input}
+use Rattle.cbor_read.specs.Source.{Input, TookSome}
 use Rattle.cbor_io.specs.Error.{code_of, offset_of}
 use Rattle.cbor_io.specs.declared.error.Error.{Error}
 use Rattle.cbor_io.specs.declared.read_error.ReadErrorCode.{ReadErrorCode}
@@ -165,14 +165,14 @@ module _ (f : Formats) (names : List (List ℕ)) where
       by shape.Alone is = rw is (variant_read (untagged got.item) v got.means)
       by shape.Unassigned is = rw is refl
 
-  pub no_shape : (allowed : ReadErrorCode → Bool) (levels : ℕ) (s : Input) (e : Error) → Refuses allowed s (code_of e) (offset_of e) (λ l bs. HasNoShape f bs) → RefusesShaped HasNoTag allowed f names levels s e
+  pub no_shape : {w : Input} (allowed : ReadErrorCode → Bool) (levels : ℕ) (s : Input) (e : Error) → Refuses allowed s w (code_of e) (offset_of e) (λ l bs. HasNoShape f bs) → RefusesShaped HasNoTag allowed f names levels s w e
   no_shape allowed levels s e = refuses_map allowed s (code_of e) (offset_of e) (λ l bs. HasNoShape f bs) (λ l bs. HasNoTag bs → IsNotRead (PassesTags (IsVariant f names)) (item_at (raws f l) levels bs))
       (λ l bs none _. no_shape_read l levels bs none)
 
 -- ---- where no item begins
 
 -- a byte was taken that begins no item
-pub unassigned_stops : (allowed : ReadErrorCode → Bool) (s a : Input) (b : ℕ) (kept : Option ReadError) (r : Refused) → r ≡ refused.Kept → IsSomeAnd kept (IsAt reading.UnassignedCode a.offset) → Step s a (λ l bs rest. byte_at bs ≡ Ok (b, rest)) → Stopped allowed (λ l. unassigned_at) s kept r
+pub unassigned_stops : (allowed : ReadErrorCode → Bool) (s a : Input) (b : ℕ) (kept : Option ReadError) (r : Refused) → r ≡ refused.Kept → IsSomeAnd kept (IsAt reading.UnassignedCode a.offset) → Step s a (λ l bs rest. byte_at bs ≡ Ok (b, rest)) → Stopped allowed (λ l. unassigned_at) s a kept r
 unassigned_stops allowed s a b kept r is keeps step =
     stopped_then allowed none (λ l. unassigned_at) s a kept r (λ l bs rest. byte_at bs ≡ Ok (b, rest))
     (λ l bs mid f at stop. ap (λ (read : Reads ℕ). read >>= (λ x. Err (before unassigned_code x.1))) at ∙ stop) step
@@ -182,8 +182,8 @@ unassigned_stops allowed s a b kept r is keeps step =
     none l bs = Err (before unassigned_code bs)
 
 module _ (f : Formats) (names : List (List ℕ)) where
-  pub unassigned_shape : (allowed : ReadErrorCode → Bool) (levels : ℕ) (s : Input) (e : Error) → RefusesShaped (HasShape shape.Unassigned) allowed f names levels s e
-  unassigned_shape allowed levels s e = record { told = λ bs tells. inr (nothing (limits s bs) bs) }
+  pub unassigned_shape : (allowed : ReadErrorCode → Bool) (levels : ℕ) (s t : Input) (e : Error) → TookSome s t → RefusesShaped (HasShape shape.Unassigned) allowed f names levels s t e
+  unassigned_shape allowed levels s t e took = record { took = took; told = λ bs tells. inr (nothing (limits s bs) bs) }
     where
       nothing : (l : Limits) (bs : List ℕ) → HasShape shape.Unassigned bs → IsNotRead (PassesTags (IsVariant f names)) (item_at (raws f l) levels bs)
       nothing l [] has v rest got = has

@@ -97,8 +97,8 @@ module _ (names : List (List ℕ)) where
       let name = subst (λ (r : Raw). IsName names r i) (sym (ap (λ (p : Raw × List ℕ). p.0) both)) got.means in
       some_none i (identifier_one (untagged h.item) (Some i) None name h.means)
 
-  pub none_named : (allowed : ReadErrorCode → Bool) (f : Formats) (levels : ℕ) (s : Input) (e : Error) → Refuses allowed s (code_of e) (offset_of e) (λ l bs. IsNotRead (PassesTags (IsIdentifier names)) (item_at (raws f l) levels bs))
-      → Refuses allowed s (code_of e) (offset_of e) (λ l bs. IsNotRead (IsName names) (item_at (raws f l) levels bs))
+  pub none_named : {w : Input} (allowed : ReadErrorCode → Bool) (f : Formats) (levels : ℕ) (s : Input) (e : Error) → Refuses allowed s w (code_of e) (offset_of e) (λ l bs. IsNotRead (PassesTags (IsIdentifier names)) (item_at (raws f l) levels bs))
+      → Refuses allowed s w (code_of e) (offset_of e) (λ l bs. IsNotRead (IsName names) (item_at (raws f l) levels bs))
   none_named allowed f levels s e = refuses_map allowed s (code_of e) (offset_of e) (λ l bs. IsNotRead (PassesTags (IsIdentifier names)) (item_at (raws f l) levels bs)) (λ l bs. IsNotRead (IsName names) (item_at (raws f l) levels bs))
       (λ l bs none i rest got. none (Some i) rest (record { item = got.item; is = got.is; means = got.means }))
 
@@ -216,7 +216,7 @@ module _ (f : Formats) (names : List (List ℕ)) where
     abbrev Nothing : Limits → List ℕ → Type 0
     Nothing l bs = HasShape shape.Array bs → IsNotRead (PassesTags (IsVariant f names)) (item_at (raws f l) levels bs)
 
-    pub no_array : RefusesArray allowed f levels s e → RefusesShaped (HasShape shape.Array) allowed f names levels s e
+    pub no_array : {w : Input} → RefusesArray allowed f levels s w e → RefusesShaped (HasShape shape.Array) allowed f names levels s w e
     no_array = refuses_map allowed s (code_of e) (offset_of e) (λ l bs. IsNotRead (PassesTags IsItems) (item_at (raws f l) levels bs)) Nothing
         (λ l bs none begins v rest got.
         let i = array_items got.item (array_begins f l levels bs rest got.item begins got.is) in
@@ -227,12 +227,12 @@ module _ (f : Formats) (names : List (List ℕ)) where
       Head l bs rest = IsArrayHead f l (item_at (raws f l) levels bs) left all rest
 
       -- no item comes
-      pub no_first : Refuses allowed a (code_of e) (offset_of e) (λ l bs. (after : reader.Remaining) (rest : List ℕ) → next_at end_in_array (remaining_of all) bs ≡ Ok (Some after, rest) → ⊥) → RefusesShaped (HasShape shape.Array) allowed f names levels s e
+      pub no_first : {w : Input} → Refuses allowed a w (code_of e) (offset_of e) (λ l bs. (after : reader.Remaining) (rest : List ℕ) → next_at end_in_array (remaining_of all) bs ≡ Ok (Some after, rest) → ⊥) → RefusesShaped (HasShape shape.Array) allowed f names levels s w e
       no_first = refuses_then allowed s (code_of e) (offset_of e) a Head (λ l bs. (after : reader.Remaining) (rest : List ℕ) → next_at end_in_array (remaining_of all) bs ≡ Ok (Some after, rest) → ⊥) Nothing
           (λ l bs mid h none _. no_array_variant l (item_at (raws f l) levels bs) left all mid h (λ x after rest n. none after n.start n.next)) head
 
       -- one comes that is no identifier
-      pub no_first_name : (b : Input) (behind : Remaining) → Step a b (Next (IsName names) f left all behind) → Refuses allowed b (code_of e) (offset_of e) (λ l bs. IsNotRead (IsName names) (item_at (raws f l) left bs)) → RefusesShaped (HasShape shape.Array) allowed f names levels s e
+      pub no_first_name : {w : Input} (b : Input) (behind : Remaining) → Step a b (Next (IsName names) f left all behind) → Refuses allowed b w (code_of e) (offset_of e) (λ l bs. IsNotRead (IsName names) (item_at (raws f l) left bs)) → RefusesShaped (HasShape shape.Array) allowed f names levels s w e
       no_first_name b behind next none =
           refuses_then allowed s (code_of e) (offset_of e) a Head (NoPart (IsName names) f left (remaining_of all)) Nothing
           (λ l bs mid h none _. no_array_variant l (item_at (raws f l) levels bs) left all mid h none) head

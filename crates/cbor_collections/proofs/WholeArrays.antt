@@ -76,10 +76,10 @@ none_remains new bs f is e =
     let here : ended_at end_in_array (reader.counted 0) bs ≡ Err f = subst (λ (r : Remaining). ended_at end_in_array (remaining_of r) bs ≡ Err f) is e in
     absurd cc
 
-pub no_end_refused : (allowed : ReadErrorCode → Bool) (s u w : Input) (new : Remaining) (e : Error) (P : Limits → List ℕ → List ℕ → Type 0) (N : Limits → List ℕ → Type 0) → new ≡ Counted 0 → Step s u P → TakesEnd allowed new u w (Err e) → Refuses allowed s (code_of e) (offset_of e) N
+pub no_end_refused : (allowed : ReadErrorCode → Bool) (s u w : Input) (new : Remaining) (e : Error) (P : Limits → List ℕ → List ℕ → Type 0) (N : Limits → List ℕ → Type 0) → new ≡ Counted 0 → Step s u P → TakesEnd allowed new u w (Err e) → Refuses allowed s w (code_of e) (offset_of e) N
 no_end_refused allowed s u w new e P N is step h =
     refuses_then allowed s (code_of e) (offset_of e) u P (λ l bs. ⊥) N (λ l bs mid p none. absurd none) step
-    (refuses_fault allowed (λ l. ended_at end_in_array (remaining_of new)) u e (λ l bs. ⊥) (λ l bs f stops. none_remains new bs f is stops) h)
+    (refuses_fault allowed (λ l. ended_at end_in_array (remaining_of new)) u e (λ l bs. ⊥) (λ l bs f stops. none_remains new bs f is stops) h.0 h.1)
 
 -- ---- the items
 
@@ -104,8 +104,8 @@ module _ (s0 : Input) (P : List Raw → Type 0) (f g : Formats) (levels inside :
         let n'' = subst (λ (k : ℕ). IsNext (reads f) (formats_of f) k (remaining_of r) (remaining_of new) (Some x) l mid rest) same n' in
         goes_on P (formats_of f) levels (remaining_of all) (reads f) x Q on (remaining_of r) (remaining_of new) l bs mid rest h n'') one two
 
-    pub loop_refused : {B : Type 0} (items : Raws → B → Type 0) (allowed : ReadErrorCode → Bool) (k : ErrorCode) (at : ℕ) → ((front : List Raw) (more : Raws) (x : B) → P front → items (append front more) x → MayFollow (reads f) more)
-        → Step s0 s (So P r) → Refuses allowed s k at (NoNext (reads g) (formats_of g) inside (remaining_of r)) → Refuses allowed s0 k at (NoItems items (formats_of f) levels (remaining_of all))
+    pub loop_refused : {B : Type 0} {w : Input} (items : Raws → B → Type 0) (allowed : ReadErrorCode → Bool) (k : ErrorCode) (at : ℕ) → ((front : List Raw) (more : Raws) (x : B) → P front → items (append front more) x → MayFollow (reads f) more)
+        → Step s0 s (So P r) → Refuses allowed s w k at (NoNext (reads g) (formats_of g) inside (remaining_of r)) → Refuses allowed s0 w k at (NoItems items (formats_of f) levels (remaining_of all))
     loop_refused items allowed k at follows one two =
         refuses_then allowed s0 k at s (So P r) (NoNext (reads g) (formats_of g) inside (remaining_of r)) (NoItems items (formats_of f) levels (remaining_of all))
         (λ l bs mid h none rs rest x is means.
@@ -118,8 +118,8 @@ module _ (s0 : Input) (P : List Raw → Type 0) (f g : Formats) (levels inside :
         → Step s0 s (So P r) → Step s t (IsNextItem (reads g) (formats_of g) inside (remaining_of r) (remaining_of new) x) → Step s0 t (So Q new)
     part_goes_on Q new t x on one two = loop_goes_on Q new t x on one two
 
-    pub part_lacks : {B : Type 0} (items : Raws → B → Type 0) (allowed : ReadErrorCode → Bool) (k : ErrorCode) (at : ℕ) → ((front : List Raw) (more : Raws) (x : B) → P front → items (append front more) x → MustFollow (reads f) more)
-        → Step s0 s (So P r) → Refuses allowed s k at (NoPart (reads g) (formats_of g) inside (remaining_of r)) → Refuses allowed s0 k at (NoItems items (formats_of f) levels (remaining_of all))
+    pub part_lacks : {B : Type 0} {w : Input} (items : Raws → B → Type 0) (allowed : ReadErrorCode → Bool) (k : ErrorCode) (at : ℕ) → ((front : List Raw) (more : Raws) (x : B) → P front → items (append front more) x → MustFollow (reads f) more)
+        → Step s0 s (So P r) → Refuses allowed s w k at (NoPart (reads g) (formats_of g) inside (remaining_of r)) → Refuses allowed s0 w k at (NoItems items (formats_of f) levels (remaining_of all))
     part_lacks items allowed k at follows one two =
         refuses_then allowed s0 k at s (So P r) (NoPart (reads g) (formats_of g) inside (remaining_of r)) (NoItems items (formats_of f) levels (remaining_of all))
         (λ l bs mid h none rs rest x is means.
@@ -130,13 +130,13 @@ module _ (s0 : Input) (P : List Raw → Type 0) (f g : Formats) (levels inside :
 
   -- items are left where the end is due
   pub end_lacks : {B : Type 0} (items : Raws → B → Type 0) (allowed : ReadErrorCode → Bool) (r : Remaining) (s t : Input) (e : Error) → ((front : List Raw) (more : Raws) (x : B) → P front → items (append front more) x → AreNone more)
-      → Step s0 s (So P r) → TakesEnd allowed r s t (Err e) → Refuses allowed s0 (code_of e) (offset_of e) (NoItems items (formats_of f) levels (remaining_of all))
+      → Step s0 s (So P r) → TakesEnd allowed r s t (Err e) → Refuses allowed s0 t (code_of e) (offset_of e) (NoItems items (formats_of f) levels (remaining_of all))
   end_lacks items allowed r s t e follows one two =
       refuses_then allowed s0 (code_of e) (offset_of e) s (So P r) (λ l bs. (rest : List ℕ) → IsEnd (remaining_of r) l bs rest → ⊥) (NoItems items (formats_of f) levels (remaining_of all))
       (λ l bs mid h none rs rest x is means.
       let w = rest_of P (formats_of f) levels (remaining_of all) (remaining_of r) l bs mid rest rs h is in
       no_end_rest (formats_of f) levels (remaining_of r) l mid none w.more rest w.is (follows w.front w.more x w.holds (subst (λ (rs : Raws). items rs x) w.same means)))
-      one (refuses_fault allowed (λ l. ended_at end_in_array (remaining_of r)) s e (λ l bs. (rest : List ℕ) → IsEnd (remaining_of r) l bs rest → ⊥) (λ l bs fault stops rest end. no_fault (remaining_of r) l bs rest fault end stops) two)
+      one (refuses_fault allowed (λ l. ended_at end_in_array (remaining_of r)) s e (λ l bs. (rest : List ℕ) → IsEnd (remaining_of r) l bs rest → ⊥) (λ l bs fault stops rest end. no_fault (remaining_of r) l bs rest fault end stops) two.0 two.1)
 
   -- ---- the array
 
@@ -160,19 +160,19 @@ module _ (s0 : Input) (P : List Raw → Type 0) (f g : Formats) (levels inside :
     array_takes_to t u w r x on head so end is =
         subst (λ (w : Input). Step s w (λ l bs rest. IsRead (PassesTags (AsArray items)) (item_at (raws (formats_of f) l) outer bs) x rest)) (sym is) (array_takes t u r x on head so end)
 
-    pub array_refused : (allowed : ReadErrorCode → Bool) (k : ErrorCode) (at : ℕ) → Step s s0 Head → Refuses allowed s0 k at (NoItems items (formats_of f) levels (remaining_of all))
-        → Refuses allowed s k at (λ l bs. IsNotRead (PassesTags (AsArray items)) (item_at (raws (formats_of f) l) outer bs))
+    pub array_refused : {w : Input} (allowed : ReadErrorCode → Bool) (k : ErrorCode) (at : ℕ) → Step s s0 Head → Refuses allowed s0 w k at (NoItems items (formats_of f) levels (remaining_of all))
+        → Refuses allowed s w k at (λ l bs. IsNotRead (PassesTags (AsArray items)) (item_at (raws (formats_of f) l) outer bs))
     array_refused allowed k at head none = refuses_then allowed s k at s0 Head (NoItems items (formats_of f) levels (remaining_of all)) (λ l bs. IsNotRead (PassesTags (AsArray items)) (item_at (raws (formats_of f) l) outer bs))
         (λ l bs mid h n. array_none items (formats_of f) l (item_at (raws (formats_of f) l) outer bs) levels all mid h n) head none
 
     -- nothing remains, so that the end can't be refused
     pub end_refused : (allowed : ReadErrorCode → Bool) (t u w : Input) (r new : Remaining) (e : Error) → new ≡ Counted 0
-        → Step s s0 Head → Step s0 t (So P r) → Step t u (IsEnd (remaining_of r)) → TakesEnd allowed new u w (Err e) → Refuses allowed s (code_of e) (offset_of e) (λ l bs. IsNotRead (PassesTags (AsArray items)) (item_at (raws (formats_of f) l) outer bs))
+        → Step s s0 Head → Step s0 t (So P r) → Step t u (IsEnd (remaining_of r)) → TakesEnd allowed new u w (Err e) → Refuses allowed s w (code_of e) (offset_of e) (λ l bs. IsNotRead (PassesTags (AsArray items)) (item_at (raws (formats_of f) l) outer bs))
     end_refused allowed t u w r new e none head so end h =
         let one = step_then s s0 t Head (So P r) (λ l bs rest. Unit {0}) (λ l bs mid rest a b. tt) head so in
         let two = step_then s t u (λ l bs rest. Unit {0}) (IsEnd (remaining_of r)) (λ l bs rest. Unit {0}) (λ l bs mid rest a b. tt) one end in
         no_end_refused allowed s u w new e (λ l bs rest. Unit {0}) (λ l bs. IsNotRead (PassesTags (AsArray items)) (item_at (raws (formats_of f) l) outer bs)) none two h
 
 -- no array is there
-pub no_array_read : {B : Type 0} (items : Raws → B → Type 0) (allowed : ReadErrorCode → Bool) (f : model.Formats) (levels : ℕ) (s : Input) (e : Error) → RefusesArray allowed f levels s e → Refuses allowed s (code_of e) (offset_of e) (λ l bs. IsNotRead (PassesTags (AsArray items)) (item_at (raws f l) levels bs))
+pub no_array_read : {B : Type 0} {w : Input} (items : Raws → B → Type 0) (allowed : ReadErrorCode → Bool) (f : model.Formats) (levels : ℕ) (s : Input) (e : Error) → RefusesArray allowed f levels s w e → Refuses allowed s w (code_of e) (offset_of e) (λ l bs. IsNotRead (PassesTags (AsArray items)) (item_at (raws f l) levels bs))
 no_array_read items allowed f levels s e h = refuses_map allowed s (code_of e) (offset_of e) (λ l bs. IsNotRead (PassesTags IsItems) (item_at (raws f l) levels bs)) (λ l bs. IsNotRead (PassesTags (AsArray items)) (item_at (raws f l) levels bs)) (λ l bs none. none_as_array items (item_at (raws f l) levels bs) none) h

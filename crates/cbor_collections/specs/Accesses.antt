@@ -11,15 +11,15 @@ use Rattle.cbor_model.specs.Reader as reader
 use Rattle.cbor_io.specs.declared.error.Error.{Error}
 use Rattle.cbor_io.specs.declared.read_error.ReadErrorCode.{ReadErrorCode}
 use Rattle.cbor_io.specs.Error.{code_of, offset_of}
-use Rattle.cbor_read.specs.Source.{Input}
+use Rattle.cbor_read.specs.Source.{Input, TookSome}
 use Rattle.cbor_de.specs.Cursor.{behind_next, ended_at}
-use Rattle.cbor_de.specs.Gives.{Limits, Tells, FailsBy, Step, Reports}
+use Rattle.cbor_de.specs.Gives.{Limits, Step}
 use Rattle.cbor_de.specs.Heads.{remaining_of}
 use Rattle.cbor_de.specs.declared.cursor.Remaining.{Remaining}
 use Rattle.cbor_de.specs.declared.cursor.Remaining.TheVariants.{Counted, ToBreak}
 use Rattle.cbor_collections.specs.Arrays.{AsArray}
 use Rattle.cbor_scalars.specs.Opens.{in_tags}
-use Rattle.cbor_scalars.specs.Takes.{raws, IsRead, IsNotRead, Refuses}
+use Rattle.cbor_scalars.specs.Takes.{raws, IsRead, IsNotRead, Refuses, TellsFault}
 
 -- the items of an array that remain, where so many levels are left for each
 abbrev pub items_at : Formats → Limits → ℕ → reader.Remaining → List ℕ → Reads Raws
@@ -42,8 +42,8 @@ abbrev pub IsItems : Raw → Raws → Type 0
 IsItems = AsArray (λ rs items. rs ≡ items)
 
 -- no array is at the front
-abbrev pub RefusesArray : (ReadErrorCode → Bool) → Formats → ℕ → Input → Error → Type 0
-RefusesArray refusals f levels s e = Refuses refusals s (code_of e) (offset_of e)
+abbrev pub RefusesArray : (ReadErrorCode → Bool) → Formats → ℕ → Input → Input → Error → Type 0
+RefusesArray refusals f levels s t e = Refuses refusals s t (code_of e) (offset_of e)
     (λ l bs. IsNotRead (PassesTags IsItems) (item_at (raws f l) levels bs))
 
 -- The head of the array at the front was taken; or no array is there.
@@ -51,7 +51,7 @@ abbrev pub TakesHead : (ReadErrorCode → Bool) → Formats → ℕ → Input �
     → Result Remaining Error → Type 0
 TakesHead refusals f levels s t left (Ok remaining) = Step s t
     (λ l bs rest. IsArrayHead f l (item_at (raws f l) levels bs) left remaining rest)
-TakesHead refusals f levels s t left (Err e) = RefusesArray refusals f levels s e
+TakesHead refusals f levels s t left (Err e) = RefusesArray refusals f levels s t e
 
 -- ---- one item after the other
 
@@ -79,7 +79,7 @@ abbrev pub TakesNext : {A : Type 0} → (ReadErrorCode → Bool) → Formats →
 TakesNext refusals f reads levels remaining behind s t (Ok next) = Step s t
     (IsNext reads f levels (remaining_of remaining) (remaining_of behind) next)
 TakesNext {A} refusals f reads levels remaining behind s t (Err e) =
-    Refuses refusals s (code_of e) (offset_of e)
+    Refuses refusals s t (code_of e) (offset_of e)
     (λ l bs. (next : Option A) (after : reader.Remaining) (rest : List ℕ) → IsNext reads f levels (remaining_of remaining) after next l bs rest → ⊥)
 
 -- The next item was read as x; or no item comes that is read as something.
@@ -88,7 +88,7 @@ abbrev pub TakesPart : {A : Type 0} → (ReadErrorCode → Bool) → Formats →
 TakesPart refusals f reads levels remaining behind s t (Ok x) = Step s t
     (IsNextItem reads f levels (remaining_of remaining) (remaining_of behind) x)
 TakesPart {A} refusals f reads levels remaining behind s t (Err e) =
-    Refuses refusals s (code_of e) (offset_of e)
+    Refuses refusals s t (code_of e) (offset_of e)
     (λ l bs. (x : A) (after : reader.Remaining) (rest : List ℕ) → IsNextItem reads f levels (remaining_of remaining) after x l bs rest → ⊥)
 
 -- how many more items can follow: a loop over them ends
@@ -96,13 +96,13 @@ abbrev pub turns : Remaining → Input → ℕ
 turns (Counted n) s = n
 turns ToBreak s = 2 ^ 64 - s.offset
 
--- The array's end was taken; or the error tells why not.
+-- The array's end was taken; or the error tells why not, and some bytes were taken.
 abbrev pub TakesEnd : (ReadErrorCode → Bool) → Remaining → Input → Input → Result (Unit {0}) Error
     → Type 0
 TakesEnd refusals remaining s t (Ok u) =
     Step s t (λ l bs rest. ended_at end_in_array (remaining_of remaining) bs ≡ Ok (tt, rest))
-TakesEnd refusals remaining s t (Err e) = (bs : List ℕ) → Tells s bs
-    → FailsBy (Reports refusals) (code_of e) (s.offset + length bs) (offset_of e) (ended_at end_in_array (remaining_of remaining) bs)
+TakesEnd refusals remaining s t (Err e) =
+    TookSome s t × TellsFault refusals (λ l. ended_at end_in_array (remaining_of remaining)) s e
 
 -- what is left of a declared count
 abbrev pub size_of : Remaining → Option ℕ
@@ -113,5 +113,5 @@ size_of ToBreak = None
 abbrev pub TakesMore : (ReadErrorCode → Bool) → Remaining → Remaining → Input → Input
     → Result Bool Error → Type 0
 TakesMore refusals remaining behind s t (Ok more) = Step s t (λ l bs rest. next_at end_in_array (remaining_of remaining) bs ≡ Ok (behind_next behind more, rest))
-TakesMore refusals remaining behind s t (Err e) = Refuses refusals s (code_of e) (offset_of e)
+TakesMore refusals remaining behind s t (Err e) = Refuses refusals s t (code_of e) (offset_of e)
     (λ l bs. (next : Option reader.Remaining) (rest : List ℕ) → next_at end_in_array (remaining_of remaining) bs ≡ Ok (next, rest) → ⊥)

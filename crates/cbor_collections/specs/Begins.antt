@@ -26,17 +26,17 @@ abbrev pub NoneBegins : (Remaining → Head) → ℕ → List ℕ → Type 0
 NoneBegins kind levels bs = (left : ℕ) (remaining : Remaining) (rest : List ℕ)
     → Begins kind levels left remaining bs rest → ⊥
 
-abbrev pub RefusesBeginning : (Remaining → Head) → (ReadErrorCode → Bool) → ℕ → Input → Error
-    → Type 0
-RefusesBeginning kind refusals levels s e =
-    Refuses refusals s (code_of e) (offset_of e) (λ l bs. NoneBegins kind levels bs)
+abbrev pub RefusesBeginning : (Remaining → Head) → (ReadErrorCode → Bool) → ℕ → Input → Input
+    → Error → Type 0
+RefusesBeginning kind refusals levels s t e =
+    Refuses refusals s t (code_of e) (offset_of e) (λ l bs. NoneBegins kind levels bs)
 
 -- The head of this kind was taken; or none is there.
 abbrev pub TakesBeginning : (Remaining → Head) → (ReadErrorCode → Bool) → ℕ → Input → Input → ℕ
     → Result Remaining Error → Type 0
 TakesBeginning kind refusals levels s t left (Ok remaining) =
     Step s t (λ l bs rest. Begins kind levels left remaining bs rest)
-TakesBeginning kind refusals levels s t left (Err e) = RefusesBeginning kind refusals levels s e
+TakesBeginning kind refusals levels s t left (Err e) = RefusesBeginning kind refusals levels s t e
 
 -- ---- examples
 

@@ -82,10 +82,10 @@ abbrev pub NoVariant : Formats → List (List ℕ) → Limits → ℕ → List �
 NoVariant f names l levels bs = (left index : ℕ) (form : Form) (rest : List ℕ)
     → BeginsVariant f names l levels left index form bs rest → ⊥
 
-abbrev pub RefusesVariantHead : (ReadErrorCode → Bool) → Formats → List (List ℕ) → ℕ → Input → Error
-    → Type 0
-RefusesVariantHead refusals f names levels s e =
-    Refuses refusals s (code_of e) (offset_of e) (λ l bs. NoVariant f names l levels bs)
+abbrev pub RefusesVariantHead : (ReadErrorCode → Bool) → Formats → List (List ℕ) → ℕ → Input → Input
+    → Error → Type 0
+RefusesVariantHead refusals f names levels s t e =
+    Refuses refusals s t (code_of e) (offset_of e) (λ l bs. NoVariant f names l levels bs)
 
 -- An enum was taken up to its identifier; or none begins there.
 abbrev pub TakesVariantHead : (ReadErrorCode → Bool) → Formats → List (List ℕ) → ℕ → Input → Input
@@ -93,7 +93,7 @@ abbrev pub TakesVariantHead : (ReadErrorCode → Bool) → Formats → List (Lis
 TakesVariantHead refusals f names levels s t left (Ok v) =
     Step s t (λ l bs rest. BeginsVariant f names l levels left v.0 v.1 bs rest)
 TakesVariantHead refusals f names levels s t left (Err e) =
-    RefusesVariantHead refusals f names levels s e
+    RefusesVariantHead refusals f names levels s t e
 
 -- ---- the parts of a variant
 
@@ -110,16 +110,16 @@ NoParts levels form bs = (left : ℕ) (remaining : Remaining) (rest : List ℕ)
     → BeginsParts levels form left remaining bs rest → ⊥
 
 -- no parts begin there
-abbrev pub RefusesPartsHead : (ReadErrorCode → Bool) → ℕ → Form → Input → Error → Type 0
-RefusesPartsHead refusals levels form s e =
-    Refuses refusals s (code_of e) (offset_of e) (λ l bs. NoParts levels form bs)
+abbrev pub RefusesPartsHead : (ReadErrorCode → Bool) → ℕ → Form → Input → Input → Error → Type 0
+RefusesPartsHead refusals levels form s t e =
+    Refuses refusals s t (code_of e) (offset_of e) (λ l bs. NoParts levels form bs)
 
 -- The content was taken up to its parts; or none begin there.
 abbrev pub TakesPartsHead : (ReadErrorCode → Bool) → ℕ → Form → Input → Input → ℕ
     → Result Remaining Error → Type 0
 TakesPartsHead refusals levels form s t left (Ok remaining) =
     Step s t (λ l bs rest. BeginsParts levels form left remaining bs rest)
-TakesPartsHead refusals levels form s t left (Err e) = RefusesPartsHead refusals levels form s e
+TakesPartsHead refusals levels form s t left (Err e) = RefusesPartsHead refusals levels form s t e
 
 -- ---- steps
 
@@ -133,7 +133,7 @@ abbrev pub TakesForm : (ReadErrorCode → Bool) → Formats → List (List ℕ) 
 TakesForm refusals f names levels s t left (Ok v) =
     Step s t (λ l bs rest. BeginsForm f names l levels left v.0 v.1 bs rest)
 TakesForm refusals f names levels s t left (Err e) =
-    Refuses refusals s (code_of e) (offset_of e) (λ l bs. NoForm f names l levels bs)
+    Refuses refusals s t (code_of e) (offset_of e) (λ l bs. NoForm f names l levels bs)
 
 -- where the first byte is of this shape
 abbrev pub TakesFormOf : Shape → (ReadErrorCode → Bool) → Formats → List (List ℕ) → ℕ → Input
@@ -141,7 +141,7 @@ abbrev pub TakesFormOf : Shape → (ReadErrorCode → Bool) → Formats → List
 TakesFormOf x refusals f names levels s t left (Ok v) =
     Step s t (λ l bs rest. HasShape x bs → BeginsForm f names l levels left v.0 v.1 bs rest)
 TakesFormOf x refusals f names levels s t left (Err e) =
-    Refuses refusals s (code_of e) (offset_of e)
+    Refuses refusals s t (code_of e) (offset_of e)
     (λ l bs. HasShape x bs → NoForm f names l levels bs)
 
 -- ---- examples

@@ -11,14 +11,14 @@ use Rattle.cbor_model.specs.Reader as reader
 use Rattle.cbor_io.specs.declared.error.Error.{Error}
 use Rattle.cbor_io.specs.declared.read_error.ReadErrorCode.{ReadErrorCode}
 use Rattle.cbor_io.specs.Error.{code_of, offset_of}
-use Rattle.cbor_read.specs.Source.{Input}
+use Rattle.cbor_read.specs.Source.{Input, TookSome}
 use Rattle.cbor_de.specs.Cursor.{ended_at}
-use Rattle.cbor_de.specs.Gives.{Limits, Tells, FailsBy, Step, Reports}
+use Rattle.cbor_de.specs.Gives.{Limits, Step}
 use Rattle.cbor_de.specs.Heads.{remaining_of}
 use Rattle.cbor_de.specs.declared.cursor.Remaining.{Remaining}
 use Rattle.cbor_collections.specs.Maps.{AsMap}
 use Rattle.cbor_scalars.specs.Opens.{in_tags}
-use Rattle.cbor_scalars.specs.Takes.{raws, IsRead, IsNotRead, Refuses}
+use Rattle.cbor_scalars.specs.Takes.{raws, IsRead, IsNotRead, Refuses, TellsFault}
 
 -- the pairs of a map that remain, where so many levels are left for each key and each value
 abbrev pub pairs_at : Formats → Limits → ℕ → reader.Remaining → List ℕ → Reads RawPairs
@@ -41,8 +41,8 @@ abbrev pub IsPairs : Raw → RawPairs → Type 0
 IsPairs = AsMap (λ rs pairs. rs ≡ pairs)
 
 -- no map is at the front
-abbrev pub RefusesMap : (ReadErrorCode → Bool) → Formats → ℕ → Input → Error → Type 0
-RefusesMap refusals f levels s e = Refuses refusals s (code_of e) (offset_of e)
+abbrev pub RefusesMap : (ReadErrorCode → Bool) → Formats → ℕ → Input → Input → Error → Type 0
+RefusesMap refusals f levels s t e = Refuses refusals s t (code_of e) (offset_of e)
     (λ l bs. IsNotRead (PassesTags IsPairs) (item_at (raws f l) levels bs))
 
 -- The head of the map at the front was taken; or no map is there.
@@ -50,7 +50,7 @@ abbrev pub TakesMapHead : (ReadErrorCode → Bool) → Formats → ℕ → Input
     → Result Remaining Error → Type 0
 TakesMapHead refusals f levels s t left (Ok remaining) = Step s t
     (λ l bs rest. IsMapHead f l (item_at (raws f l) levels bs) left remaining rest)
-TakesMapHead refusals f levels s t left (Err e) = RefusesMap refusals f levels s e
+TakesMapHead refusals f levels s t left (Err e) = RefusesMap refusals f levels s t e
 
 -- ---- one pair after the other
 
@@ -71,7 +71,7 @@ abbrev pub TakesMorePairs : (ReadErrorCode → Bool) → Formats → Remaining �
 TakesMorePairs refusals f remaining behind s t (Ok more) = Step s t
     (λ l bs rest. Comes f (remaining_of remaining) (remaining_of behind) more bs rest)
 TakesMorePairs refusals f remaining behind s t (Err e) =
-    Refuses refusals s (code_of e) (offset_of e)
+    Refuses refusals s t (code_of e) (offset_of e)
     (λ l bs. (more : Bool) (after : reader.Remaining) (rest : List ℕ)
     → Comes f (remaining_of remaining) after more bs rest → ⊥)
 
@@ -99,15 +99,14 @@ abbrev pub TakesKey : {K : Type 0} → (ReadErrorCode → Bool) → Formats → 
 TakesKey refusals f reads levels remaining behind s t (Ok next) = Step s t
     (IsKey reads f levels (remaining_of remaining) (remaining_of behind) next)
 TakesKey {K} refusals f reads levels remaining behind s t (Err e) =
-    Refuses refusals s (code_of e) (offset_of e)
+    Refuses refusals s t (code_of e) (offset_of e)
     (λ l bs. (next : Option K) (after : reader.Remaining) (rest : List ℕ)
     → IsKey reads f levels (remaining_of remaining) after next l bs rest → ⊥)
 
--- The map's end was taken; or the error tells why not.
+-- The map's end was taken; or the error tells why not, and some bytes were taken.
 abbrev pub TakesMapEnd : (ReadErrorCode → Bool) → Remaining → Input → Input
     → Result (Unit {0}) Error → Type 0
 TakesMapEnd refusals remaining s t (Ok u) =
     Step s t (λ l bs rest. ended_at end_in_map (remaining_of remaining) bs ≡ Ok (tt, rest))
-TakesMapEnd refusals remaining s t (Err e) = (bs : List ℕ) → Tells s bs
-    → FailsBy (Reports refusals) (code_of e) (s.offset + length bs) (offset_of e)
-    (ended_at end_in_map (remaining_of remaining) bs)
+TakesMapEnd refusals remaining s t (Err e) =
+    TookSome s t × TellsFault refusals (λ l. ended_at end_in_map (remaining_of remaining)) s e

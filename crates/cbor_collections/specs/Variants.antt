@@ -44,9 +44,9 @@ pub record IsVariantHead (f : Formats) (names : List (List ℕ)) (l : Limits) (r
       → PassesTags (IsVariant f names) (whole c) (index, c)
 
 -- no variant is at the front
-abbrev pub RefusesVariant : (ReadErrorCode → Bool) → Formats → List (List ℕ) → ℕ → Input → Error
-    → Type 0
-RefusesVariant refusals f names levels s e = Refuses refusals s (code_of e) (offset_of e)
+abbrev pub RefusesVariant : (ReadErrorCode → Bool) → Formats → List (List ℕ) → ℕ → Input → Input
+    → Error → Type 0
+RefusesVariant refusals f names levels s t e = Refuses refusals s t (code_of e) (offset_of e)
     (λ l bs. IsNotRead (PassesTags (IsVariant f names)) (item_at (raws f l) levels bs))
 
 -- An enum was taken up to its identifier; or no variant is there.
@@ -54,7 +54,7 @@ abbrev pub TakesVariant : (ReadErrorCode → Bool) → Formats → List (List �
     → Result (ℕ × Form) Error → Type 0
 TakesVariant refusals f names levels s t left (Ok v) = Step s t
     (λ l bs rest. IsVariantHead f names l (item_at (raws f l) levels bs) left v.0 v.1 rest)
-TakesVariant refusals f names levels s t left (Err e) = RefusesVariant refusals f names levels s e
+TakesVariant refusals f names levels s t left (Err e) = RefusesVariant refusals f names levels s t e
 
 -- the levels that are left of so many, where an array or a map was entered
 abbrev pub IsInside : Form → ℕ → ℕ → Type 0
@@ -87,7 +87,7 @@ abbrev pub TakesContent : {A : Type 0} → (ReadErrorCode → Bool) → Formats 
 TakesContent refusals f means left form s t (Ok x) = Step s t
     (λ l bs rest. IsContent means (content_at f l left form bs) x rest)
 TakesContent refusals f means left form s t (Err e) =
-    Refuses refusals s (code_of e) (offset_of e)
+    Refuses refusals s t (code_of e) (offset_of e)
     (λ l bs. IsNoContent means (content_at f l left form bs))
 
 -- the items of a content
@@ -101,8 +101,8 @@ pub record IsPartsHead (f : Formats) (l : Limits) (read : Reads Content) (left :
   pub items : (rs : Raws) → IsItemsOf (whole rs) rs
 
 -- no content of items is at the front
-abbrev pub RefusesParts : (ReadErrorCode → Bool) → Formats → ℕ → Form → Input → Error → Type 0
-RefusesParts refusals f left form s e = Refuses refusals s (code_of e) (offset_of e)
+abbrev pub RefusesParts : (ReadErrorCode → Bool) → Formats → ℕ → Form → Input → Input → Error → Type 0
+RefusesParts refusals f left form s t e = Refuses refusals s t (code_of e) (offset_of e)
     (λ l bs. IsNoContent IsItemsOf (content_at f l left form bs))
 
 -- The content was taken up to its items; or it has none.
@@ -110,7 +110,7 @@ abbrev pub TakesParts : (ReadErrorCode → Bool) → Formats → ℕ → Form �
     → Result Remaining Error → Type 0
 TakesParts refusals f left form s t inner (Ok remaining) = Step s t
     (λ l bs rest. IsPartsHead f l (content_at f l left form bs) inner remaining rest)
-TakesParts refusals f left form s t inner (Err e) = RefusesParts refusals f left form s e
+TakesParts refusals f left form s t inner (Err e) = RefusesParts refusals f left form s t e
 
 -- the text of the error of an identifier alone, where the variant has content of this kind
 abbrev pub alone_text : List ℕ → List ℕ
@@ -162,13 +162,13 @@ HasNoShape f (b ∷ bs) = reads_shape f (shape_of b) ≡ true → ⊥
 -- the shape of the enum at the front, which is read; or that no shape is there that is read
 abbrev pub TakesShape : (ReadErrorCode → Bool) → Formats → Input → Input → Result Shape Error → Type 0
 TakesShape refusals f s t (Ok x) = Step s t (λ l bs rest. IsShaped x bs rest) × (reads_shape f x ≡ true)
-TakesShape refusals f s t (Err e) = Refuses refusals s (code_of e) (offset_of e)
+TakesShape refusals f s t (Err e) = Refuses refusals s t (code_of e) (offset_of e)
     (λ l bs. HasNoShape f bs)
 
 -- Where the bytes at the front are of this shape, no variant is there.
 abbrev pub RefusesShaped : (List ℕ → Type 0) → (ReadErrorCode → Bool) → Formats → List (List ℕ) → ℕ
-    → Input → Error → Type 0
-RefusesShaped Where refusals f names levels s e = Refuses refusals s (code_of e) (offset_of e)
+    → Input → Input → Error → Type 0
+RefusesShaped Where refusals f names levels s t e = Refuses refusals s t (code_of e) (offset_of e)
     (λ l bs. Where bs → IsNotRead (PassesTags (IsVariant f names)) (item_at (raws f l) levels bs))
 
 -- What is taken of an enum at any place, where the bytes at the front are such.
@@ -177,7 +177,7 @@ abbrev pub TakesShaped : (List ℕ → Type 0) → (ReadErrorCode → Bool) → 
 TakesShaped Where refusals f names levels s t left (Ok v) = Step s t
     (λ l bs rest. Where bs → IsVariantHead f names l (item_at (raws f l) levels bs) left v.0 v.1 rest)
 TakesShaped Where refusals f names levels s t left (Err e) =
-    RefusesShaped Where refusals f names levels s e
+    RefusesShaped Where refusals f names levels s t e
 
 -- no tag is at the front
 abbrev pub HasNoTag : List ℕ → Type 0
@@ -199,14 +199,14 @@ abbrev pub TakesComing : (ReadErrorCode → Bool) → Remaining → Remaining �
 TakesComing refusals remaining behind s t kept (Ok comes) = Step s t
     (λ l bs rest. Coming (remaining_of remaining) (remaining_of behind) comes bs rest)
 TakesComing refusals remaining behind s t kept (Err r) =
-    Stopped refusals (λ l. next_at end_in_array (remaining_of remaining)) s kept r
+    Stopped refusals (λ l. next_at end_in_array (remaining_of remaining)) s t kept r
 
 -- Another item comes; or that none does.
 abbrev pub ExpectsItem : (ReadErrorCode → Bool) → Remaining → Remaining → Input → Input
     → Result (Unit {0}) Error → Type 0
 ExpectsItem refusals remaining behind s t (Ok u) = Step s t
     (λ l bs rest. next_at end_in_array (remaining_of remaining) bs ≡ Ok (Some (remaining_of behind), rest))
-ExpectsItem refusals remaining behind s t (Err e) = Refuses refusals s (code_of e) (offset_of e)
+ExpectsItem refusals remaining behind s t (Err e) = Refuses refusals s t (code_of e) (offset_of e)
     (λ l bs. (after : reader.Remaining) (rest : List ℕ)
     → next_at end_in_array (remaining_of remaining) bs ≡ Ok (Some after, rest) → ⊥)
 

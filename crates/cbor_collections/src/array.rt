@@ -89,6 +89,7 @@ pub fn end_array<R: Source>(items: &mut Deserializer<R>, remaining: Remaining) -
 #[inline(never)]
 pub fn no_item<R: Source>(items: &mut Deserializer<R>) -> Error
     ensures no_form { TellsNoForm (code_of result) }
+    ensures source { items.new.source ≡ items.old.source }
     ensures levels { items.new.levels ≡ items.old.levels }
     ensures formats { items.new.formats ≡ items.old.formats }
 {

@@ -330,7 +330,7 @@ fn untagged_variant<'de, R: Read<'de>>(
 #[tactic(auto, using(crate::proofs::VariantShapes::unassigned_stops))]
 fn unassigned_byte<R: Source>(items: &mut Deserializer<R>) -> Refused
     ensures read { Stopped R.refusals (λ l. unassigned_at) (R.source items.old.source)
-        items.new.refusal result }
+        (R.source items.new.source) items.new.refusal result }
     ensures no_key { TellsNoKey items.new.refusal result }
     ensures levels { items.new.levels ≡ items.old.levels }
     ensures formats { items.new.formats ≡ items.old.formats }
@@ -366,7 +366,7 @@ fn name_alone<'de, R: Read<'de>>(
 }
 
 // Takes the head and the identifier of an enum in an array.
-#[tactic(auto, using(crate::proofs::Cases::other_stands, crate::proofs::Cases::empty_stands))]
+#[tactic(auto, using(crate::proofs::Cases::other_stands))]
 fn array_variant<'de, R: Read<'de>>(
     items: &mut Deserializer<R>,
     names: &[&str],

@@ -12,7 +12,7 @@ pub returns-in_default-clause-read : goal.returns-in_default-clause-read
 returns-in_default-clause-read g c =
     let old = c.args.items.now in
     let u = c.open.new.items in
-    other_head g.R.Source.refusals (formats_of old.formats) old.levels (g.R.Source.source old.source) (g.R.Source.source u.source) u.levels c.in-Ok.head c.mismatch.result c.in_default.not-Array c.in-Ok.ensures.read
+    rw c.mismatch.ensures.source (other_head g.R.Source.refusals (formats_of old.formats) old.levels (g.R.Source.source old.source) (g.R.Source.source u.source) u.levels c.in-Ok.head c.mismatch.result c.in_default.not-Array c.in-Ok.ensures.read)
 
 pub returns-in-Ok-enter-clause-read : goal.returns-in-Ok-enter-clause-read
 returns-in-Ok-enter-clause-read g c =
@@ -30,7 +30,7 @@ pub returns-in-Err-enter-clause-read : goal.returns-in-Err-enter-clause-read
 returns-in-Err-enter-clause-read g c =
     let old = c.args.items.now in
     let u = c.open.new.items in
-    too_deep_head g.R.Source.refusals (formats_of old.formats) old.levels (g.R.Source.source old.source) (g.R.Source.source u.source) u.levels c.in-Ok.head c.in-Array.remaining c.error-in-Err-enter.result c.in-Array.is c.in-Err-enter.ensures.none.0 c.in-Ok.ensures.read
+    rw (c.error-in-Err-enter.ensures.source, c.enter.ensures.source) (too_deep_head g.R.Source.refusals (formats_of old.formats) old.levels (g.R.Source.source old.source) (g.R.Source.source u.source) u.levels c.in-Ok.head c.in-Array.remaining c.error-in-Err-enter.result c.in-Array.is c.in-Err-enter.ensures.none.0 c.in-Ok.ensures.read)
 
 -- ---- whatever follows the head
 
@@ -38,13 +38,13 @@ pub returns-in-Err-clause-opened : goal.returns-in-Err-clause-opened
 returns-in-Err-clause-opened g c =
     let old = c.args.items.now in
     let u = c.open.new.items in
-    begins_stopped head.Array g.R.Source.refusals old.levels (g.R.Source.source old.source) (g.R.Source.source u.source) u.refusal c.in-Err.refused c.error.result c.error.ensures.tells c.in-Err.ensures.opened
+    rw c.error.ensures.source (begins_stopped head.Array g.R.Source.refusals old.levels (g.R.Source.source old.source) (g.R.Source.source u.source) u.refusal c.in-Err.refused c.error.result c.error.ensures.tells c.in-Err.ensures.opened)
 
 pub returns-in_default-clause-opened : goal.returns-in_default-clause-opened
 returns-in_default-clause-opened g c =
     let old = c.args.items.now in
     let u = c.open.new.items in
-    begins_other head.Array g.R.Source.refusals old.levels (g.R.Source.source old.source) (g.R.Source.source u.source) u.levels c.in-Ok.head c.mismatch.result c.in_default.not-Array c.in-Ok.ensures.opened
+    rw c.mismatch.ensures.source (begins_other head.Array g.R.Source.refusals old.levels (g.R.Source.source old.source) (g.R.Source.source u.source) u.levels c.in-Ok.head c.mismatch.result c.in_default.not-Array c.in-Ok.ensures.opened)
 
 pub returns-in-Ok-enter-clause-opened : goal.returns-in-Ok-enter-clause-opened
 returns-in-Ok-enter-clause-opened g c =
@@ -59,4 +59,4 @@ pub returns-in-Err-enter-clause-opened : goal.returns-in-Err-enter-clause-opened
 returns-in-Err-enter-clause-opened g c =
     let old = c.args.items.now in
     let u = c.open.new.items in
-    begins_too_deep head.Array g.R.Source.refusals old.levels (g.R.Source.source old.source) (g.R.Source.source u.source) u.levels c.in-Ok.head c.error-in-Err-enter.result c.in-Err-enter.ensures.none.0 c.in-Ok.ensures.opened
+    rw (c.error-in-Err-enter.ensures.source, c.enter.ensures.source) (begins_too_deep head.Array g.R.Source.refusals old.levels (g.R.Source.source old.source) (g.R.Source.source u.source) u.levels c.in-Ok.head c.error-in-Err-enter.result c.in-Err-enter.ensures.none.0 c.in-Ok.ensures.opened)

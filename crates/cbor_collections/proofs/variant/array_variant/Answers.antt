@@ -6,6 +6,7 @@ use Rattle.cbor_scalars.specs.Identifiers.{texts}
 use Rattle.cbor_scalars.specs.Takes.{formats_of, TakesItem}
 use Rattle.cbor_collections.proofs.Variants.{no_array, no_first, no_first_name, array_variant_taken}
 use Rattle.cbor_collections.proofs.VariantForms.{array_refused, empty_refused, unnamed_refused, array_begun}
+use Rattle.cbor_collections.proofs.Cases.{empty_stands}
 use Rattle.cbor_collections.proofs.variant.array_variant.Goals as goal
 
 pub returns-in_err-remaining-clause-read : goal.returns-in_err-remaining-clause-read
@@ -20,6 +21,13 @@ returns-in_err-expect_item-clause-read g c =
     let old = c.args.items.now in
     let inner = c.array_head.new.items in
     rw (passed.1, passed.2) (no_first (formats_of old.formats) (texts c.args.names.now) g.R.Source.refusals old.levels (g.R.Source.source old.source) c.in_err-expect_item.field-0.0 (g.R.Source.source inner.source) inner.levels c.in_ok-remaining.remaining c.in_ok-remaining.ensures.read c.in_err-expect_item.ensures.read)
+
+pub returns-in_err-expect_item-clause-cases : goal.returns-in_err-expect_item-clause-cases
+returns-in_err-expect_item-clause-cases g c =
+    let passed = err_from_is_err_and c.from_residual-in_err-expect_item.result c.from_residual-in_err-expect_item.ensures.1 in
+    let old = c.args.items.now in
+    let inner = c.array_head.new.items in
+    rw (passed.1, passed.2) (empty_stands (formats_of old.formats) old.levels inner.levels c.in_ok-remaining.remaining (g.R.Source.source old.source) (g.R.Source.source inner.source) c.in_err-expect_item.field-0.0 c.in_ok-remaining.ensures.read c.in_err-expect_item.ensures.none)
 
 pub returns-in_err-index-clause-read : goal.returns-in_err-index-clause-read
 returns-in_err-index-clause-read g c =

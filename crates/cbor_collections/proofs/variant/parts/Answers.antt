@@ -1,3 +1,4 @@
+use Rattle.cbor_de.proofs.facts.Steps.{took_none}
 use Rattle.cbor_scalars.specs.Takes.{formats_of}
 use Rattle.cbor_collections.proofs.VariantParts.{parts_here, parts_answer, untold}
 use Rattle.cbor_collections.proofs.VariantForms.{parts_begun, parts_in_map, alone_has_none}
@@ -34,4 +35,4 @@ pub returns-in-Alone-clause-opened : goal.returns-in-Alone-clause-opened
 returns-in-Alone-clause-opened g c =
     let old = c.args.items.now in
     let s = g.R.Source.source old.source in
-    rw c.in-Alone.is (alone_has_none g.R.Source.refusals old.levels s s old.levels c.message.result)
+    rw c.in-Alone.is (alone_has_none g.R.Source.refusals old.levels s s old.levels c.message.result (took_none s))

@@ -2,6 +2,7 @@ use Rattle.std.proofs.Common.{ℕ, Err, ap, subst}
 use Rattle.std.proofs.lemmas.Result.{err_from_is_err_and}
 use Rattle.cbor_model.specs.Formats.{Formats}
 use Rattle.cbor_de.specs.Gives.{Step}
+use Rattle.cbor_de.proofs.facts.Steps.{took_same, some_then}
 use Rattle.cbor_scalars.specs.Identifiers.{texts}
 use Rattle.cbor_scalars.specs.Takes.{formats_of}
 use Rattle.cbor_collections.specs.Variants.{TakesShaped, HasShape, IsAlone, IsShaped}
@@ -68,9 +69,10 @@ returns-in-Unassigned-clause-read g c =
     let a = g.R.Source.source c.enum_shape.new.items.source in
     let t = g.R.Source.source new.source in
     let names = texts c.args.names.now in
+    let took = some_then _ _ _ c.unassigned_byte-refused.ensures.read.took (took_same (ap g.R.Source.source c.error.ensures.source)) in
     let shaped = subst (λ (x : Shape). Step s a (λ l bs rest. IsShaped x bs rest)) c.in-Unassigned.is c.in_ok-enum_shape.ensures.read.0 in
     shaped_then (formats_of old.formats) names old.levels g.R.Source.refusals s a shape.Unassigned (HasShape shape.Unassigned) (λ bs none is. is) shaped t new.levels (Err c.error.result)
-    (unassigned_shape (formats_of old.formats) names g.R.Source.refusals old.levels a c.error.result)
+    (unassigned_shape (formats_of old.formats) names g.R.Source.refusals old.levels a t c.error.result took)
 
 -- ---- whatever follows
 
@@ -79,7 +81,7 @@ returns-in_err-enum_shape-clause-opened g c =
     let passed = err_from_is_err_and c.from_residual.result c.from_residual.ensures.1 in
     let old = c.args.items.now in
     let s = g.R.Source.source old.source in
-    rw (passed.1, passed.2) (form_refused g.R.Source.refusals (formats_of old.formats) (texts c.args.names.now) old.levels s s c.in_err-enum_shape.field-0.0 c.in_err-enum_shape.ensures.read)
+    rw (passed.1, passed.2) (form_refused g.R.Source.refusals (formats_of old.formats) (texts c.args.names.now) old.levels s (g.R.Source.source c.enum_shape.new.items.source) c.in_err-enum_shape.field-0.0 c.in_err-enum_shape.ensures.read)
 
 pub returns-in-Array-clause-opened : goal.returns-in-Array-clause-opened
 returns-in-Array-clause-opened g c =
@@ -132,5 +134,6 @@ returns-in-Unassigned-clause-opened g c =
     let t = g.R.Source.source new.source in
     let f = formats_of old.formats in
     let names = texts c.args.names.now in
+    let took = some_then _ _ _ c.unassigned_byte-refused.ensures.read.took (took_same (ap g.R.Source.source c.error.ensures.source)) in
     let shaped = subst (λ (x : Shape). Step s a (λ l bs rest. IsShaped x bs rest)) c.in-Unassigned.is c.in_ok-enum_shape.ensures.read.0 in
-    form_then g.R.Source.refusals f names old.levels s a shape.Unassigned shaped t new.levels (Err c.error.result) (unassigned_form g.R.Source.refusals f names old.levels a t new.levels c.error.result)
+    form_then g.R.Source.refusals f names old.levels s a shape.Unassigned shaped t new.levels (Err c.error.result) (unassigned_form g.R.Source.refusals f names old.levels a t new.levels c.error.result took)
