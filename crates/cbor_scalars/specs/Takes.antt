@@ -50,6 +50,10 @@ pub record Refuses (refusals : ReadErrorCode → Bool) (s t : Input) (code : Err
   pub took : TookSome s t
   pub told : (bs : List ℕ) → Tells s bs → ExcusedBy (Reports refusals) code at ⊎ N (limits s bs) bs
 
+-- the refusal, whatever was taken of the input
+abbrev pub WhateverTaken : Input → (Input → Error → Type 0) → Error → Type 0
+WhateverTaken s refused e = (t : Input) → TookSome s t → refused t e
+
 -- What a call gave for the item at the front, and the bytes to come after it; or that no such item is
 -- there. Refused, some of the bytes to come were taken from their front, and counted.
 abbrev pub Takes : {A : Type 0} → (ReadErrorCode → Bool) → (Raw → A → Type 0)

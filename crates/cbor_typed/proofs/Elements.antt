@@ -30,7 +30,7 @@ untold_next : {A : Type 0} (reads : Raw → A → Type 0) (f : Formats) (levels 
 untold_next reads f levels old l bs none None after rest h = none None rest h
 untold_next reads f levels old l bs none (Some x) after rest h = none (Some after) h.start h.next
 
-pub untold_refused : {A : Type 0} (reads : Raw → A → Type 0) (f : Formats) (levels : ℕ) (old : Remaining) (allowed : ReadErrorCode → Bool) (s : Input) (k : ErrorCode) (at : ℕ) → Refuses allowed s k at (Untold old) → Refuses allowed s k at (NoneNext reads f levels old)
+pub untold_refused : {A : Type 0} {w : Input} (reads : Raw → A → Type 0) (f : Formats) (levels : ℕ) (old : Remaining) (allowed : ReadErrorCode → Bool) (s : Input) (k : ErrorCode) (at : ℕ) → Refuses allowed s w k at (Untold old) → Refuses allowed s w k at (NoneNext reads f levels old)
 untold_refused reads f levels old allowed s k at h = refuses_map allowed s k at (Untold old) (NoneNext reads f levels old) (untold_next reads f levels old) h
 
 pub comes_not : (s t : Input) (old new : Remaining) (more : Bool) → more ≡ false → Step s t (λ l bs rest. next_at end_in_array (remaining_of old) bs ≡ Ok (behind_next new more, rest)) → Step s t (IsEnd (remaining_of old))

@@ -8,7 +8,7 @@ use Rattle.cbor_model.specs.Readable.{PassesTags, untagged}
 use Rattle.cbor_model.specs.Refusal.{end_in_array}
 use Rattle.cbor_model.specs.Reader.{Reads, ◌>>=◌, item_at}
 use Rattle.cbor_model.proofs.facts.Reader.{ok_is}
-use Rattle.cbor_read.specs.Source.{Input}
+use Rattle.cbor_read.specs.Source.{Input, TookSome}
 use Rattle.cbor_io.specs.Error.{code_of, offset_of}
 use Rattle.cbor_io.specs.declared.error.Error.{Error}
 use Rattle.cbor_io.specs.declared.error.ErrorCode.{ErrorCode}
@@ -23,8 +23,8 @@ use Rattle.cbor_collections.specs.Accesses.{items_at, IsEnd, IsNextItem, TakesEn
 use Rattle.cbor_collections.specs.Arrays.{AsArray}
 use Rattle.cbor_collections.specs.Enums.{Content, alone, one, parts, IsVariant, IsEnum, IsNothing, IsPart, AreParts, reads_names, unit, newtype, tuple, part_then, no_part}
 use Rattle.cbor_scalars.specs.Identifiers.{IsIdentifier}
-use Rattle.cbor_scalars.specs.Takes.{formats_of, raws, IsRead, IsNotRead, Refuses, TakesItem}
-use Rattle.cbor_collections.specs.Variants.{content_at, IsVariantHead, RefusesVariant, IsContent, IsNoContent, IsItemsOf, IsPartsHead}
+use Rattle.cbor_scalars.specs.Takes.{formats_of, raws, IsRead, IsNotRead, Refuses, TakesItem, WhateverTaken}
+use Rattle.cbor_collections.specs.Variants.{content_at, IsVariantHead, RefusesVariant, RefusesParts, IsContent, IsNoContent, IsItemsOf, IsPartsHead}
 use Rattle.cbor_collections.specs.declared.variant.Form.{Form}
 use Rattle.cbor_collections.proofs.facts.Arrays.{NoPart}
 use Rattle.cbor_collections.proofs.facts.Refusals.{refuses_map, refuses_then}
@@ -183,19 +183,20 @@ module _ {E : Type 0} (names : List (List ℕ)) (means : ℕ → Content → E �
   ReadsEnum s t f outer x = Step s t (λ l bs rest. IsRead (PassesTags (IsEnum (formats_of f) names means)) (item_at (raws (formats_of f) l) outer bs) x rest)
 
   -- No enum is at s.
-  abbrev pub NoEnum : (ReadErrorCode → Bool) → Input → Formats → ℕ → ErrorCode → ℕ → Type 0
-  NoEnum allowed s f outer k at = Refuses allowed s k at (λ l bs. IsNotRead (PassesTags (IsEnum (formats_of f) names means)) (item_at (raws (formats_of f) l) outer bs))
+  abbrev pub NoEnum : (ReadErrorCode → Bool) → Input → Input → Formats → ℕ → ErrorCode → ℕ → Type 0
+  NoEnum allowed s t f outer k at = Refuses allowed s t k at (λ l bs. IsNotRead (PassesTags (IsEnum (formats_of f) names means)) (item_at (raws (formats_of f) l) outer bs))
 
   -- the exit of a `?` where none is
-  pub enum_stops : (allowed : ReadErrorCode → Bool) (f : Formats) (outer : ℕ) (s t : Input) (e : Error) (r : Result E Error) → NoEnum allowed s f outer (code_of e) (offset_of e) → IsErrAnd r (λ x. x ≡ e) → TakesEnum allowed f outer s t r
-  enum_stops allowed f outer s t e (Ok x) h given = absurd given
-  enum_stops allowed f outer s t e (Err x) h given = subst (λ (e : Error). NoEnum allowed s f outer (code_of e) (offset_of e)) (sym given) h
+  pub enum_stops : {w : Input} (allowed : ReadErrorCode → Bool) (f : Formats) (outer : ℕ) (s t : Input) (e : Error) (r : Result E Error) → NoEnum allowed s w f outer (code_of e) (offset_of e) → IsErrAnd r (λ x. x ≡ e) → t ≡ w → TakesEnum allowed f outer s t r
+  enum_stops allowed f outer s t e (Ok x) h given same = absurd given
+  enum_stops {w} allowed f outer s t e (Err x) h given same =
+      subst (λ (t : Input). NoEnum allowed s t f outer (code_of x) (offset_of x)) (sym same) (subst (λ (e : Error). NoEnum allowed s w f outer (code_of e) (offset_of e)) (sym given) h)
 
   -- no variant is there
-  pub variant_unread : {allowed : ReadErrorCode → Bool} (f : Formats) (outer : ℕ) {s : Input} (t : Input) (e : Error) (r : Result E Error) → RefusesVariant allowed (formats_of f) names outer s e → IsErrAnd r (λ x. x ≡ e) → TakesEnum allowed f outer s t r
-  variant_unread {allowed} f outer {s} t e r h = enum_stops allowed f outer s t e r
+  pub variant_unread : {allowed : ReadErrorCode → Bool} (f : Formats) (outer : ℕ) {s : Input} (t : Input) (e : Error) (r : Result E Error) → WhateverTaken s (RefusesVariant allowed (formats_of f) names outer s) e → IsErrAnd r (λ x. x ≡ e) → TookSome s t → TakesEnum allowed f outer s t r
+  variant_unread {allowed} f outer {s} t e r h given took = enum_stops allowed f outer s t e r
       (refuses_map allowed s (code_of e) (offset_of e) (λ l bs. IsNotRead (PassesTags (IsVariant (formats_of f) names)) (item_at (raws (formats_of f) l) outer bs)) (λ l bs. IsNotRead (PassesTags (IsEnum (formats_of f) names means)) (item_at (raws (formats_of f) l) outer bs))
-      (λ l bs none x rest got. none (got.means.index, got.means.content) rest (record { item = got.item; is = got.is; means = got.means.variant })) h)
+      (λ l bs none x rest got. none (got.means.index, got.means.content) rest (record { item = got.item; is = got.is; means = got.means.variant })) (h t took)) given refl
 
   -- What is read makes an item, which is the variant in this place.
   pub record IsWhole {C : Type 0} (f : model.Formats) (i : ℕ) (content : C → Content) (read : Reads Raw) (inner : Reads C) : Type 0 where
@@ -284,8 +285,8 @@ module _ {E : Type 0} {names : List (List ℕ)} {means : ℕ → Content → E �
         subst (λ (t : Input). ReadsEnum names means s t f outer x) (sym same) all
 
     -- the content isn't read that this variant needs
-    pub content_unread : ((c : Content) (x : E) → means i c x → (y : A) × of f c y) → {allowed : ReadErrorCode → Bool} (t : Input) (e : Error) (r : Result E Error)
-        → Refuses allowed a (code_of e) (offset_of e) (λ l bs. IsNoContent (of g) (content_at (formats_of g) l left form bs)) → IsErrAnd r (λ x. x ≡ e) → TakesEnum names means allowed f outer s t r
+    pub content_unread : {w : Input} → ((c : Content) (x : E) → means i c x → (y : A) × of f c y) → {allowed : ReadErrorCode → Bool} (t : Input) (e : Error) (r : Result E Error)
+        → Refuses allowed a w (code_of e) (offset_of e) (λ l bs. IsNoContent (of g) (content_at (formats_of g) l left form bs)) → IsErrAnd r (λ x. x ≡ e) → t ≡ w → TakesEnum names means allowed f outer s t r
     content_unread needs {allowed} t e r none =
         enum_stops names means allowed f outer s t e r
         (refuses_then allowed s (code_of e) (offset_of e) a Head (λ l bs. IsNoContent (of g) (content_at (formats_of g) l left form bs)) (λ l bs. IsNotRead (PassesTags (IsEnum (formats_of f) names means)) (item_at (raws (formats_of f) l) outer bs))
@@ -299,8 +300,8 @@ module _ {E : Type 0} {names : List (List ℕ)} {means : ℕ → Content → E �
   pub unit_read : (x : E) → means i ≡ unit x → {b t : Input} → Step a b (λ l bs rest. IsContent IsNothing (content_at (formats_of g) l left form bs) tt rest) → t ≡ b → ReadsEnum names means s t f outer x
   unit_read x same = content_read (λ f. IsNothing) tt x (λ c h. means_so (unit x) same c x (h, refl))
 
-  pub unit_unread : (x : E) → means i ≡ unit x → {allowed : ReadErrorCode → Bool} (t : Input) (e : Error) (r : Result E Error)
-      → Refuses allowed a (code_of e) (offset_of e) (λ l bs. IsNoContent IsNothing (content_at (formats_of g) l left form bs)) → IsErrAnd r (λ x. x ≡ e) → TakesEnum names means allowed f outer s t r
+  pub unit_unread : {w : Input} (x : E) → means i ≡ unit x → {allowed : ReadErrorCode → Bool} (t : Input) (e : Error) (r : Result E Error)
+      → Refuses allowed a w (code_of e) (offset_of e) (λ l bs. IsNoContent IsNothing (content_at (formats_of g) l left form bs)) → IsErrAnd r (λ x. x ≡ e) → t ≡ w → TakesEnum names means allowed f outer s t r
   unit_unread x same = content_unread (λ f. IsNothing) (λ c y h. (tt, (meant (unit x) same c y h).0))
 
   module _ {A : Type 0} (reads : Formats → Raw → A → Type 0) (make : A → E) (same : means i ≡ newtype (reads f) make) where
@@ -308,15 +309,15 @@ module _ {E : Type 0} {names : List (List ℕ)} {means : ℕ → Content → E �
     pub newtype_read : (y : A) {b t : Input} → Step a b (λ l bs rest. IsContent (IsPart (reads g)) (content_at (formats_of g) l left form bs) y rest) → t ≡ b → ReadsEnum names means s t f outer (make y)
     newtype_read y = content_read (λ f. IsPart (reads f)) y (make y) (λ c h. means_so (newtype (reads f) make) same c (make y) (y, h, refl))
 
-    pub newtype_unread : {allowed : ReadErrorCode → Bool} (t : Input) (e : Error) (r : Result E Error)
-        → Refuses allowed a (code_of e) (offset_of e) (λ l bs. IsNoContent (IsPart (reads g)) (content_at (formats_of g) l left form bs)) → IsErrAnd r (λ x. x ≡ e) → TakesEnum names means allowed f outer s t r
+    pub newtype_unread : {w : Input} {allowed : ReadErrorCode → Bool} (t : Input) (e : Error) (r : Result E Error)
+        → Refuses allowed a w (code_of e) (offset_of e) (λ l bs. IsNoContent (IsPart (reads g)) (content_at (formats_of g) l left form bs)) → IsErrAnd r (λ x. x ≡ e) → t ≡ w → TakesEnum names means allowed f outer s t r
     newtype_unread = content_unread (λ f. IsPart (reads f)) (λ c x h. let m = meant (newtype (reads f) make) same c x h in (m.0, m.1))
 
   module _ {A : Type 0} (items : Raws → A → Type 0) (make : A → E) (same : means i ≡ tuple items make) where
     -- the content has no parts
     pub tuple_unread : {allowed : ReadErrorCode → Bool} (t : Input) (e : Error) (r : Result E Error)
-        → Refuses allowed a (code_of e) (offset_of e) (λ l bs. IsNoContent IsItemsOf (content_at (formats_of g) l left form bs)) → IsErrAnd r (λ x. x ≡ e) → TakesEnum names means allowed f outer s t r
-    tuple_unread = content_unread (λ f. IsItemsOf) (λ c x h. let p = meant (tuple items make) same c x h in has_items items c p.0 p.1)
+        → WhateverTaken a (RefusesParts allowed (formats_of g) left form a) e → IsErrAnd r (λ x. x ≡ e) → TookSome a t → TakesEnum names means allowed f outer s t r
+    tuple_unread t e r h given took = content_unread (λ f. IsItemsOf) (λ c x h. let p = meant (tuple items make) same c x h in has_items items c p.0 p.1) t e r (h t took) given refl
 
     parts_whole : (l : Limits) (bs mid rest : List ℕ) (inner : ℕ) (all : Remaining) → Head l bs mid → IsPartsHead (formats_of f) l (content_at (formats_of f) l left form mid) inner all rest
         → ArePartsOf names means (formats_of f) i (item_at (raws (formats_of f) l) outer bs) (items_at (formats_of f) l inner (remaining_of all) rest)
@@ -352,7 +353,7 @@ module _ {E : Type 0} {names : List (List ℕ)} {means : ℕ → Content → E �
 module _ {E : Type 0} {names : List (List ℕ)} {means : ℕ → Content → E → Type 0} where
   module _ {A B : Type 0} {items : Raws → A → Type 0} {make : A → E} {others : Raws → B → Type 0} {all_of : B → A} {i : ℕ} {s : Input} {f : Formats} {outer : ℕ} {t : Input} {g : Formats} {levels : ℕ} {r : Remaining} (so : PartsSoFar names means items make others all_of i s f outer t g levels r) where
     -- the exit of a `?` where the items are no parts of the variant
-    parts_stop : (allowed : ReadErrorCode → Bool) (u : Input) (e : Error) (q : Result E Error) → Refuses allowed so.first (code_of e) (offset_of e) (NoItems items (formats_of f) so.deep (remaining_of so.all)) → IsErrAnd q (λ x. x ≡ e) → TakesEnum names means allowed f outer s u q
+    parts_stop : {w : Input} (allowed : ReadErrorCode → Bool) (u : Input) (e : Error) (q : Result E Error) → Refuses allowed so.first w (code_of e) (offset_of e) (NoItems items (formats_of f) so.deep (remaining_of so.all)) → IsErrAnd q (λ x. x ≡ e) → u ≡ w → TakesEnum names means allowed f outer s u q
     parts_stop allowed u e q none =
         enum_stops names means allowed f outer s u e q
         (refuses_then allowed s (code_of e) (offset_of e) so.first (λ l bs rest. ArePartsOf names means (formats_of f) i (item_at (raws (formats_of f) l) outer bs) (items_at (formats_of f) l so.deep (remaining_of so.all) rest)) (NoItems items (formats_of f) so.deep (remaining_of so.all)) (λ l bs. IsNotRead (PassesTags (IsEnum (formats_of f) names means)) (item_at (raws (formats_of f) l) outer bs))
@@ -377,7 +378,7 @@ module _ {E : Type 0} {names : List (List ℕ)} {means : ℕ → Content → E �
     }
 
     -- the next part isn't read
-    pub part_unread : {allowed : ReadErrorCode → Bool} (u : Input) (e : Error) (q : Result E Error) → Refuses allowed t (code_of e) (offset_of e) (NoPart (reads g) (formats_of g) levels (remaining_of r)) → IsErrAnd q (λ x. x ≡ e) → TakesEnum names means allowed f outer s u q
+    pub part_unread : {w : Input} {allowed : ReadErrorCode → Bool} (u : Input) (e : Error) (q : Result E Error) → Refuses allowed t w (code_of e) (offset_of e) (NoPart (reads g) (formats_of g) levels (remaining_of r)) → IsErrAnd q (λ x. x ≡ e) → u ≡ w → TakesEnum names means allowed f outer s u q
     part_unread {allowed} u e q none =
         parts_stop so allowed u e q
         (part_lacks so.first (Before items (part_then (reads f) others) all_of) f g so.deep levels so.formats so.inside so.all reads r t items allowed (code_of e) (offset_of e)
@@ -385,10 +386,10 @@ module _ {E : Type 0} {names : List (List ℕ)} {means : ℕ → Content → E �
 
   module _ {A : Type 0} {items : Raws → A → Type 0} {make : A → E} {all_of : Unit {0} → A} {i : ℕ} {s : Input} {f : Formats} {outer : ℕ} {t : Input} {g : Formats} {levels : ℕ} {r : Remaining} (so : PartsSoFar names means items make no_part all_of i s f outer t g levels r) where
     -- items are left where the end is due
-    pub parts_left : (allowed : ReadErrorCode → Bool) (u : Input) (e : Error) (q : Result E Error) → TakesEnd allowed r t u (Err e) → IsErrAnd q (λ x. x ≡ e) → TakesEnum names means allowed f outer s u q
-    parts_left allowed u e q h =
+    pub parts_left : {w : Input} (allowed : ReadErrorCode → Bool) (u : Input) (e : Error) (q : Result E Error) → TakesEnd allowed r t w (Err e) → IsErrAnd q (λ x. x ≡ e) → u ≡ w → TakesEnum names means allowed f outer s u q
+    parts_left {w} allowed u e q h =
         parts_stop so allowed u e q
-        (end_lacks so.first (Before items no_part all_of) f g so.deep levels so.formats so.inside so.all items allowed r t u e (λ front more y h means. (h.needs more y means).1) so.so_far h)
+        (end_lacks so.first (Before items no_part all_of) f g so.deep levels so.formats so.inside so.all items allowed r t w e (λ front more y h means. (h.needs more y means).1) so.so_far h)
 
     -- all parts were read
     pub parts_read : {u w : Input} → Step t u (λ l bs rest. ended_at end_in_array (remaining_of r) bs ≡ Ok (tt, rest)) → w ≡ u → ReadsEnum names means s w f outer (make (all_of tt))

@@ -24,7 +24,7 @@ module _ {A : Type 0} (allowed : ReadErrorCode → Bool) (f : Formats) (reads : 
   abbrev Front : Limits → List ℕ → A → List ℕ → Type 0
   Front l bs x rest = IsRead reads (item_at (raws f l) levels bs) x rest
 
-  pub all_refused : (s : Input) (e : Error) → Refuses allowed s (code_of e) (offset_of e) (λ l bs. IsNotRead reads (item_at (raws f l) levels bs)) → ReadsAll allowed f reads levels s (Err e)
+  pub all_refused : {t : Input} (s : Input) (e : Error) → Refuses allowed s t (code_of e) (offset_of e) (λ l bs. IsNotRead reads (item_at (raws f l) levels bs)) → ReadsAll allowed f reads levels s (Err e)
   all_refused s e h bs tells = elim (h.told bs tells) [
     | inl excused ↦ inl excused
     | inr none ↦ inr (λ x got. none x [] got)

@@ -1,6 +1,7 @@
 pub mod Elements
 pub mod WholeMaps
 pub mod Inputs
+pub mod Left
 pub mod Faults
 pub mod FirstRefusals
 pub mod Alike

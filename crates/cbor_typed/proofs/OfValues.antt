@@ -11,7 +11,7 @@ use Rattle.cbor_model.proofs.facts.Reader.{ok_is}
 use Rattle.cbor_io.specs.declared.error.Error.{Error}
 use Rattle.cbor_io.specs.declared.read_error.ReadErrorCode.{ReadErrorCode}
 use Rattle.cbor_io.specs.Error.{code_of, offset_of, IsOutOfMemory}
-use Rattle.cbor_read.specs.Source.{Input}
+use Rattle.cbor_read.specs.Source.{Input, TookSome}
 use Rattle.cbor_value.specs.declared.Float.{Float}
 use Rattle.cbor_value.specs.declared.Value.{Value, Null, Integer, the_lemmas}
 use Rattle.cbor_value.specs.declared.Value.{Bool as of_bool, Float as of_float}
@@ -57,10 +57,10 @@ module _ {A : Type 0} (means : Val → A → Type 0) (allowed : ReadErrorCode �
   Valued v l bs rest = IsRead AsValue (item_at (raws f l) levels bs) v rest
 
   -- no item is there
-  pub no_value : (t : Input) (e : Error) (r : Result A Error) → TellsItem false true allowed f levels s e → IsErrAnd r (λ x. x ≡ e) → TakesItem allowed f reads levels s t r
-  no_value t e (Ok x) told given = absurd given
-  no_value t e (Err x) told given = subst (λ (y : Error). Refuses allowed s (code_of y) (offset_of y) None) (sym given)
-      (refuses_fault allowed (λ l. item_at (values f l) levels) s e None (λ l bs d fails x rest got. no_fault f levels l bs rest got.item d fails got.is) told)
+  pub no_value : (t : Input) (e : Error) (r : Result A Error) → TellsItem false true allowed f levels s e → IsErrAnd r (λ x. x ≡ e) → TookSome s t → TakesItem allowed f reads levels s t r
+  no_value t e (Ok x) told given took = absurd given
+  no_value t e (Err x) told given took = subst (λ (y : Error). Refuses allowed s t (code_of y) (offset_of y) None) (sym given)
+      (refuses_fault allowed (λ l. item_at (values f l) levels) s e None (λ l bs d fails x rest got. no_fault f levels l bs rest got.item d fails got.is) took told)
 
   -- an item that means something means it of the value that was read
   same_meaning : (v : Value) (l : Limits) (bs rest after : List ℕ) (x : A) → Valued v l bs rest → IsRead reads (item_at (raws f l) levels bs) x after → means (view v) x
@@ -73,6 +73,6 @@ module _ {A : Type 0} (means : Val → A → Type 0) (allowed : ReadErrorCode �
       → IfOk r (means (view v)) → IfErr r (λ e. IsOutOfMemory e ⊎ ((x : A) → means (view v) x → ⊥)) → TakesItem allowed f reads levels s t r
   value_made t v (Ok x) step is none = step_map s t (Valued v) (λ l bs rest. IsRead reads (item_at (raws f l) levels bs) x rest)
       (λ l bs rest got. record { item = got.item; is = got.is; means = subst (λ (w : Val). means w x) got.means is }) step
-  value_made t v (Err e) step is (inl memory) = refuses_memory allowed s (code_of e) (offset_of e) None memory.0 memory.1
+  value_made t v (Err e) step is (inl memory) = refuses_memory allowed s (code_of e) (offset_of e) None memory.0 memory.1 step.took
   value_made t v (Err e) step is (inr none) = refuses_by allowed s (code_of e) (offset_of e) t (Valued v) None
       (λ l bs rest got x after read. none x (same_meaning v l bs rest after x got read)) step

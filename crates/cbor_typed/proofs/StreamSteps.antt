@@ -12,7 +12,7 @@ use Rattle.cbor_io.specs.Error.{code_of, offset_of}
 use Rattle.cbor_io.specs.ReadError.{why, place, error_code}
 use Rattle.cbor_read.specs.Source.{Input, Stays, RefusedByte}
 use Rattle.cbor_de.specs.Gives.{Limits, limits, Tells, Step, Reports, FailsBy, values}
-use Rattle.cbor_de.proofs.facts.Steps.{step_then, none_step, byte_refused}
+use Rattle.cbor_de.proofs.facts.Steps.{some_then, took_stays, step_then, none_step, byte_refused}
 use Rattle.cbor_scalars.specs.Takes.{raws, IsRead, IsNotRead, ExcusedBy, Refuses, TakesItem, TellsItem, TellsFault}
 use Rattle.cbor_typed.proofs.Faults.{where_map}
 use Rattle.cbor_scalars.proofs.facts.Refusals.{excused_or}
@@ -69,8 +69,9 @@ module _ (refusals : ReadErrorCode → Bool) where
     item_before s m t x h taken = step_then s m t (λ l bs rest. bs ≡ rest) (Is x) (Is x) (λ l bs mid rest same is. subst (λ (y : List ℕ). Is x l y rest) (sym same) is) (stayed s m h) taken
 
     -- none after it
-    pub none_before : (s m t : Input) (e : Error) (b : ℕ) → Stays s m → IfSome s.to_come (λ bs. take 1 bs ≡ b ∷ []) → TakesItem refusals f reads levels m t (Err e) → Refuses refusals s (code_of e) (offset_of e) (λ l bs. (bs ≢ []) × IsNot l bs)
+    pub none_before : (s m t : Input) (e : Error) (b : ℕ) → Stays s m → IfSome s.to_come (λ bs. take 1 bs ≡ b ∷ []) → TakesItem refusals f reads levels m t (Err e) → Refuses refusals s t (code_of e) (offset_of e) (λ l bs. (bs ≢ []) × IsNot l bs)
     none_before s m t e b h front refused = record {
+      took = some_then s m t (took_stays s m h) refused.took;
       told = λ bs tells.
           let one = (stayed s m h).told bs tells in
           elim (refused.told one.rest one.tells) [
@@ -85,8 +86,9 @@ module _ (refusals : ReadErrorCode → Bool) where
   -- ---- a look that was refused
 
   -- it is excused
-  pub look_excused : (s m : Input) (q : ReadError) (e : Error) (N : Limits → List ℕ → Type 0) → code_of e ≡ error_code (why q) → offset_of e ≡ place q → RefusedByte refusals s m q → Refuses refusals s (code_of e) (offset_of e) N
+  pub look_excused : (s m : Input) (q : ReadError) (e : Error) (N : Limits → List ℕ → Type 0) → code_of e ≡ error_code (why q) → offset_of e ≡ place q → RefusedByte refusals s m q → Refuses refusals s m (code_of e) (offset_of e) N
   look_excused s m q e N code at h = record {
+    took = h.refused.moved;
     told = λ bs tells.
         let read : Limits → List ℕ → Reads (Unit {0}) = λ l x. Ok (tt, x) in
         let fails = (byte_refused refusals s m q read h).told bs tells in

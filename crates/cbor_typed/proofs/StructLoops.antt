@@ -4,7 +4,7 @@ use Rattle.std.proofs.Common.{◌≡◌, ◌<◌, ◌≤◌, ℕ, zero, suc, ◌
 use Rattle.std.specs.Option.{is_some}
 use Rattle.std.specs.Prelude.{IfSome, IsErrAnd, MatchOption}
 use Rattle.cbor_model.specs.Reader.{item_at}
-use Rattle.cbor_read.specs.Source.{Input}
+use Rattle.cbor_read.specs.Source.{Input, TookSome}
 use Rattle.cbor_io.specs.Error.{code_of, offset_of}
 use Rattle.cbor_io.specs.declared.error.Error.{Error}
 use Rattle.cbor_io.specs.declared.read_error.ReadErrorCode.{ReadErrorCode}
@@ -16,12 +16,13 @@ use Rattle.cbor_collections.specs.Accesses.{turns}
 use Rattle.cbor_scalars.specs.Identifiers.{texts}
 use Rattle.cbor_collections.specs.MapAccesses.{IsKey, IsMapHead, RefusesMap, TakesMapEnd}
 use Rattle.cbor_typed.specs.Structs.{IsAny, IsField, FieldOf, IsStruct}
-use Rattle.cbor_scalars.specs.Takes.{TakesItem, formats_of, raws, IsRead, IsNotRead, Refuses}
+use Rattle.cbor_scalars.specs.Takes.{TakesItem, formats_of, raws, IsRead, IsNotRead, Refuses, WhateverTaken}
 use Rattle.cbor_typed.specs.declared.de.Deserializer.{Deserializer}
 use Rattle.cbor_typed.specs.declared.structure.Field.{Field}
 use Rattle.cbor_typed.specs.declared.structure.Field.TheVariants.{Known, Unknown}
 use Rattle.cbor_typed.specs.declared.structure.StructAccess.{StructAccess}
 use Rattle.cbor_collections.proofs.facts.Maps.{NoKey}
+use Rattle.cbor_collections.proofs.facts.Refusals.{refuses_map}
 use Rattle.cbor_typed.proofs.Slots.{Slots, none_yet, all_of, Has, LacksAt, ValueAt, reads_at, fill, IsOther}
 use Rattle.cbor_typed.proofs.Structs.{StructSoFar, NoStruct, struct_begins, no_struct, no_field_named, FieldNamed, field_named, field_once, field_not_once, other_passed, other_unread, field_missing, end_unread, struct_read}
 
@@ -96,19 +97,20 @@ module _ {S : Type 0} {R : Type 0} (names : List (List ℕ)) (fields : List (Fie
     pub nothing : now.remaining ≡ Counted 0
 
   -- what an Err has to say
-  not_read : (allowed : ReadErrorCode → Bool) (de : Deserializer R) (e : Error) (t : Input) (r : Result S Error) → IsErrAnd r (λ x. x ≡ e)
-      → NoStruct names fields allowed (source de.items.source) de.items.formats de.items.levels (code_of e) (offset_of e)
+  not_read : {w : Input} (allowed : ReadErrorCode → Bool) (de : Deserializer R) (e : Error) (t : Input) (r : Result S Error) → IsErrAnd r (λ x. x ≡ e) → t ≡ w
+      → NoStruct names fields allowed (source de.items.source) w de.items.formats de.items.levels (code_of e) (offset_of e)
       → TakesItem allowed (formats_of de.items.formats) (IsStruct names fields) de.items.levels (source de.items.source) t r
-  not_read allowed de e t (Ok x) is none = absurd is
-  not_read allowed de e t (Err x) is none =
-      subst (λ (x : Error). NoStruct names fields allowed (source de.items.source) de.items.formats de.items.levels (code_of x) (offset_of x)) (sym is) none
+  not_read allowed de e t (Ok x) is same none = absurd is
+  not_read {w} allowed de e t (Err x) is same none =
+      subst (λ (t : Input). NoStruct names fields allowed (source de.items.source) t de.items.formats de.items.levels (code_of x) (offset_of x)) (sym same)
+      (subst (λ (x : Error). NoStruct names fields allowed (source de.items.source) w de.items.formats de.items.levels (code_of x) (offset_of x)) (sym is) none)
 
   -- ---- the map's head
 
   -- no map is there
-  pub no_fields : (de : Deserializer R) (allowed : ReadErrorCode → Bool) (e : Error) → RefusesMap allowed (formats_of de.items.formats) de.items.levels (source de.items.source) e
-      → (t : Input) (r : Result S Error) → IsErrAnd r (λ x. x ≡ e) → TakesItem allowed (formats_of de.items.formats) (IsStruct names fields) de.items.levels (source de.items.source) t r
-  no_fields de allowed e none t r is = not_read allowed de e t r is (no_struct names fields allowed (source de.items.source) de.items.formats de.items.levels e none)
+  pub no_fields : (de : Deserializer R) (allowed : ReadErrorCode → Bool) (e : Error) → WhateverTaken (source de.items.source) (RefusesMap allowed (formats_of de.items.formats) de.items.levels (source de.items.source)) e
+      → (t : Input) (r : Result S Error) → IsErrAnd r (λ x. x ≡ e) → TookSome (source de.items.source) t → TakesItem allowed (formats_of de.items.formats) (IsStruct names fields) de.items.levels (source de.items.source) t r
+  no_fields de allowed e none t r is took = not_read allowed de e t r is refl (no_struct names fields allowed (source de.items.source) de.items.formats de.items.levels e (none t took))
 
   pub fields_begin : {de : Deserializer R} {begun : StructAccess R}
       → Step (source de.items.source) (source begun.de.now.items.source)
@@ -129,11 +131,11 @@ module _ {S : Type 0} {R : Type 0} {names : List (List ℕ)} {fields : List (Fie
 
   module _ (i : FieldsSoFar names fields source de begun now slots) where
     -- no key is there that names a field or none, nor the end
-    pub none_named : (allowed : ReadErrorCode → Bool) (e : Error)
-        → Refuses allowed (source now.de.now.items.source) (code_of e) (offset_of e) (NoKey (IsField (texts now.names.now)) (formats_of now.de.now.items.formats) now.de.now.items.levels (remaining_of now.remaining))
-        → (t : Input) (r : Result S Error) → IsErrAnd r (λ x. x ≡ e) → TakesItem allowed (formats_of de.items.formats) (IsStruct names fields) de.items.levels (source de.items.source) t r
-    none_named allowed e none t r is =
-        not_read names fields source allowed de e t r is (no_field_named names fields i.so_far i.named allowed (code_of e) (offset_of e) none)
+    pub none_named : {w : Input} (allowed : ReadErrorCode → Bool) (e : Error)
+        → Refuses allowed (source now.de.now.items.source) w (code_of e) (offset_of e) (NoKey (IsField (texts now.names.now)) (formats_of now.de.now.items.formats) now.de.now.items.levels (remaining_of now.remaining))
+        → (t : Input) (r : Result S Error) → IsErrAnd r (λ x. x ≡ e) → t ≡ w → TakesItem allowed (formats_of de.items.formats) (IsStruct names fields) de.items.levels (source de.items.source) t r
+    none_named allowed e none t r is same =
+        not_read names fields source allowed de e t r is same (no_field_named names fields i.so_far i.named allowed (code_of e) (offset_of e) none)
 
     module _ {next : Option Field} (new : StructAccess R) (key : Step (source now.de.now.items.source) (source new.de.now.items.source)
         (IsKey (IsField (texts now.names.now)) (formats_of now.de.now.items.formats) now.de.now.items.levels (remaining_of now.remaining) (remaining_of new.remaining) next)) where
@@ -162,22 +164,22 @@ module _ {S : Type 0} {R : Type 0} {names : List (List ℕ)} {fields : List (Fie
 
   module _ {field : Field} (d : FieldDue names fields source de begun now slots field) where
     -- The value isn't read of the i-th field, or the field is there again.
-    pub field_refused : (i : ℕ) → HasField fields i → field ≡ Known i → (allowed : ReadErrorCode → Bool) (e : Error)
-        → (Has false fields i slots → Refuses allowed (source now.de.now.items.source) (code_of e) (offset_of e)
-        (λ l bs. IsNotRead (reads_at fields i) (item_at (raws (formats_of now.de.now.items.formats) l) now.de.now.items.levels bs)))
-        → (t : Input) (r : Result S Error) → IsErrAnd r (λ x. x ≡ e) → TakesItem allowed (formats_of de.items.formats) (IsStruct names fields) de.items.levels (source de.items.source) t r
-    field_refused i h is allowed e none t r err =
-        not_read names fields source allowed de e t r err
+    pub field_refused : {w : Input} (i : ℕ) → HasField fields i → field ≡ Known i → (allowed : ReadErrorCode → Bool) (e : Error)
+        → Refuses allowed (source now.de.now.items.source) w (code_of e) (offset_of e)
+        (λ l bs. Has false fields i slots → IsNotRead (reads_at fields i) (item_at (raws (formats_of now.de.now.items.formats) l) now.de.now.items.levels bs))
+        → (t : Input) (r : Result S Error) → IsErrAnd r (λ x. x ≡ e) → t ≡ w → TakesItem allowed (formats_of de.items.formats) (IsStruct names fields) de.items.levels (source de.items.source) t r
+    field_refused i h is allowed e none t r err same =
+        not_read names fields source allowed de e t r err same
         (field_not_once names fields d.key i is (λ (f : Formats). reads_at fields i) allowed (code_of e) (offset_of e) (slot_at fields i slots) (λ b is. has_at fields i slots b h is)
-        (λ b v means. means) (λ is. none (has_at fields i slots false h is)))
+        (λ b v means. means) (refuses_map allowed _ (code_of e) (offset_of e) _ _ (λ l bs none is. none (has_at fields i slots false h is)) none))
 
     -- Nor is the value there of another key.
-    pub other_refused : (allowed : ReadErrorCode → Bool) (e : Error)
-        → Refuses allowed (source now.de.now.items.source) (code_of e) (offset_of e)
+    pub other_refused : {w : Input} (allowed : ReadErrorCode → Bool) (e : Error)
+        → Refuses allowed (source now.de.now.items.source) w (code_of e) (offset_of e)
         (λ l bs. IsNotRead IsAny (item_at (raws (formats_of now.de.now.items.formats) l) now.de.now.items.levels bs))
-        → (t : Input) (r : Result S Error) → IsErrAnd r (λ x. x ≡ e) → TakesItem allowed (formats_of de.items.formats) (IsStruct names fields) de.items.levels (source de.items.source) t r
-    other_refused allowed e none t r err =
-        not_read names fields source allowed de e t r err
+        → (t : Input) (r : Result S Error) → IsErrAnd r (λ x. x ≡ e) → t ≡ w → TakesItem allowed (formats_of de.items.formats) (IsStruct names fields) de.items.levels (source de.items.source) t r
+    other_refused allowed e none t r err same =
+        not_read names fields source allowed de e t r err same
         (other_unread names fields d.was.so_far (Some field) field refl refl now.remaining d.key.named d.key.formats d.key.inside allowed (code_of e) (offset_of e) none)
 
     module _ {after : StructAccess R} (same : after.de.ghost_name ≡ now.de.ghost_name) (outer : after.outer ≡ now.outer) (listed : after.names ≡ now.names) (due : after.value_due ≡ false)
@@ -215,9 +217,9 @@ module _ {S : Type 0} {R : Type 0} {names : List (List ℕ)} {fields : List (Fie
   module _ (d : FieldsEnded names fields source de begun now slots) where
     -- the i-th field is missing
     pub field_absent : (i : ℕ) → LacksAt fields i slots → (allowed : ReadErrorCode → Bool) (e : Error)
-        → (t : Input) (r : Result S Error) → IsErrAnd r (λ x. x ≡ e) → TakesItem allowed (formats_of de.items.formats) (IsStruct names fields) de.items.levels (source de.items.source) t r
-    field_absent i missing allowed e t r err =
-        not_read names fields source allowed de e t r err
+        → (t : Input) (r : Result S Error) → IsErrAnd r (λ x. x ≡ e) → t ≡ source now.de.now.items.source → TakesItem allowed (formats_of de.items.formats) (IsStruct names fields) de.items.levels (source de.items.source) t r
+    field_absent i missing allowed e t r err same =
+        not_read names fields source allowed de e t r err same
         (field_missing names fields d.was.so_far None refl d.was.named now.remaining d.next allowed (code_of e) (offset_of e) i missing)
 
     -- after each `required`
@@ -230,11 +232,11 @@ module _ {S : Type 0} {R : Type 0} {names : List (List ℕ)} {fields : List (Fie
     }
 
     -- the end isn't there, which can't be
-    pub end_refused : (allowed : ReadErrorCode → Bool) (e : Error) → TakesMapEnd allowed now.remaining (source now.de.now.items.source) (source now.de.now.items.source) (Err e)
-        → (t : Input) (r : Result S Error) → IsErrAnd r (λ x. x ≡ e) → TakesItem allowed (formats_of de.items.formats) (IsStruct names fields) de.items.levels (source de.items.source) t r
-    end_refused allowed e h t r err =
-        not_read names fields source allowed de e t r err
-        (end_unread names fields d.was.so_far None refl d.was.named now.remaining d.next allowed (source now.de.now.items.source) e d.nothing h)
+    pub end_refused : {w : Input} (allowed : ReadErrorCode → Bool) (e : Error) → TakesMapEnd allowed now.remaining (source now.de.now.items.source) w (Err e)
+        → (t : Input) (r : Result S Error) → IsErrAnd r (λ x. x ≡ e) → t ≡ w → TakesItem allowed (formats_of de.items.formats) (IsStruct names fields) de.items.levels (source de.items.source) t r
+    end_refused {w} allowed e h t r err same =
+        not_read names fields source allowed de e t r err same
+        (end_unread names fields d.was.so_far None refl d.was.named now.remaining d.next allowed w e d.nothing h)
 
     -- all fields were read
     pub fields_read : {w z : Input} (x : S) → slots ≡ all_of fields x → TakesMapEnd (λ c. false) now.remaining (source now.de.now.items.source) w (Ok tt) → z ≡ w

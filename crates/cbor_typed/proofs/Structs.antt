@@ -24,7 +24,8 @@ use Rattle.cbor_scalars.specs.Takes.{formats_of, raws, IsRead, IsNotRead, Refuse
 use Rattle.cbor_typed.specs.declared.structure.Field.{Field}
 use Rattle.cbor_typed.specs.declared.structure.Field.TheVariants.{Known, Unknown}
 use Rattle.cbor_collections.proofs.facts.Maps.{append_pairs, PairsSoFar, PairsDone, pairs_end, pairs_rest, first_pair, last, another, NoKey}
-use Rattle.cbor_collections.proofs.facts.Refusals.{refuses_then, refuses_by}
+use Rattle.cbor_collections.proofs.facts.Refusals.{refuses_map, refuses_then, refuses_by}
+use Rattle.cbor_scalars.proofs.facts.Refusals.{refuses_on}
 use Rattle.cbor_typed.proofs.Slots.{Slots, none_yet, all_of, AreHeld, all_held, Has, LacksAt, ValueAt, reads_at, put, fill, filled, IsOther, Gathered, gathered_none, gathered_set, gathered_other, gathered_twice, gathered_value, gathered_missing, gathered_all, gathered_follows}
 use Rattle.cbor_typed.proofs.WholeMaps.{NoPairs, map_begins, map_goes_on, key_lacks, map_takes, map_refused, map_end_refused, map_end_twice, no_map_read}
 
@@ -88,8 +89,8 @@ module _ {K : Type 0} (s0 : Input) (P : List (Raw × Raw) → Type 0) (f : Forma
       None_read = NoPairs pairs (formats_of f) levels (remaining_of all)
 
       -- no pairs are read where the value isn't that they need
-      key_unread : {V : Type 0} (values : Raw → V → Type 0) → ((front : List (Raw × Raw)) (a b : Raw) (more : RawPairs) (x : A) → P front → keys a k → pairs (append_pairs front (raw_pair a b more)) x → (v : V) × values b v)
-          → Refuses allowed t c at (λ l bs. IsNotRead values (item_at (raws (formats_of f) l) levels bs)) → Refuses allowed s0 c at None_read
+      key_unread : {V : Type 0} {w : Input} (values : Raw → V → Type 0) → ((front : List (Raw × Raw)) (a b : Raw) (more : RawPairs) (x : A) → P front → keys a k → pairs (append_pairs front (raw_pair a b more)) x → (v : V) × values b v)
+          → Refuses allowed t w c at (λ l bs. IsNotRead values (item_at (raws (formats_of f) l) levels bs)) → Refuses allowed s0 w c at None_read
       key_unread values needs none = refuses_then allowed s0 c at t KeyTaken (λ l bs. IsNotRead values (item_at (raws (formats_of f) l) levels bs)) None_read
           (λ l bs mid key n rs rest x is means.
           let p = pair_at_key l bs mid rest rs key is in
@@ -97,7 +98,7 @@ module _ {K : Type 0} (s0 : Input) (P : List (Raw × Raw) → Type 0) (f : Forma
           n v.0 p.after (record { item = p.b; is = p.is; means = v.1 })) key_taken none
 
       -- nor where they exclude the key
-      key_excluded : ((front : List (Raw × Raw)) (a b : Raw) (more : RawPairs) (x : A) → P front → keys a k → pairs (append_pairs front (raw_pair a b more)) x → ⊥) → Refuses allowed s0 c at None_read
+      key_excluded : ((front : List (Raw × Raw)) (a b : Raw) (more : RawPairs) (x : A) → P front → keys a k → pairs (append_pairs front (raw_pair a b more)) x → ⊥) → Refuses allowed s0 t c at None_read
       key_excluded excludes = refuses_by allowed s0 c at t KeyTaken None_read
           (λ l bs mid key rs rest x is means.
           let p = pair_at_key l bs mid rest rs key is in
@@ -106,7 +107,7 @@ module _ {K : Type 0} (s0 : Input) (P : List (Raw × Raw) → Type 0) (f : Forma
   -- nor where they exclude the end
   end_excluded : {A : Type 0} (pairs : RawPairs → A → Type 0) (allowed : ReadErrorCode → Bool) (c : ErrorCode) (at : ℕ) (s t : Input)
       → Step s0 s (PairsSoFar P (formats_of f) levels (remaining_of all) (remaining_of r)) → Step s t (IsMapEnd (remaining_of r))
-      → ((front : List (Raw × Raw)) (x : A) → P front → pairs (append_pairs front no_raw_pairs) x → ⊥) → Refuses allowed s0 c at (NoPairs pairs (formats_of f) levels (remaining_of all))
+      → ((front : List (Raw × Raw)) (x : A) → P front → pairs (append_pairs front no_raw_pairs) x → ⊥) → Refuses allowed s0 t c at (NoPairs pairs (formats_of f) levels (remaining_of all))
   end_excluded pairs allowed c at s t one two excludes = refuses_by allowed s0 c at t (PairsDone P (formats_of f) levels (remaining_of all)) (NoPairs pairs (formats_of f) levels (remaining_of all))
       (λ l bs rest d rs after x is means.
       let same = ap (λ (q : RawPairs × List ℕ). q.0) (ok_is (rs, after) (append_pairs d.front no_raw_pairs, rest) (sym is ∙ d.is)) in
@@ -129,8 +130,8 @@ module _ {S : Type 0} (names : List (List ℕ)) (fields : List (FieldOf S)) wher
     pub inside : levels ≡ deep
 
   -- No struct is at s.
-  abbrev pub NoStruct : (ReadErrorCode → Bool) → Input → Formats → ℕ → ErrorCode → ℕ → Type 0
-  NoStruct allowed s f outer c at = Refuses allowed s c at (λ l bs. IsNotRead (IsStruct names fields) (item_at (raws (formats_of f) l) outer bs))
+  abbrev pub NoStruct : (ReadErrorCode → Bool) → Input → Input → Formats → ℕ → ErrorCode → ℕ → Type 0
+  NoStruct allowed s t f outer c at = Refuses allowed s t c at (λ l bs. IsNotRead (IsStruct names fields) (item_at (raws (formats_of f) l) outer bs))
 
   -- A struct is at s, and is read as x.
   abbrev pub ReadsStruct : Input → Input → Formats → ℕ → S → Type 0
@@ -150,7 +151,7 @@ module _ {S : Type 0} (names : List (List ℕ)) (fields : List (FieldOf S)) wher
   }
 
   -- no map is there
-  pub no_struct : (allowed : ReadErrorCode → Bool) (s : Input) (f : Formats) (outer : ℕ) (e : Error) → RefusesMap allowed (formats_of f) outer s e → NoStruct allowed s f outer (code_of e) (offset_of e)
+  pub no_struct : {w : Input} (allowed : ReadErrorCode → Bool) (s : Input) (f : Formats) (outer : ℕ) (e : Error) → RefusesMap allowed (formats_of f) outer s w e → NoStruct allowed s w f outer (code_of e) (offset_of e)
   no_struct allowed s f outer e = no_map_read (AreFieldsOf names fields) allowed (formats_of f) outer s e
 
   module _ {slots : Slots fields} {s : Input} {f : Formats} {outer : ℕ} {t : Input} {g : Formats} {levels : ℕ} {r : Remaining} (so : StructSoFar slots s f outer t g levels r) where
@@ -158,13 +159,13 @@ module _ {S : Type 0} (names : List (List ℕ)) (fields : List (FieldOf S)) wher
     P = Gathered names fields slots
 
     -- the fields are no struct's
-    none_refused : (allowed : ReadErrorCode → Bool) (c : ErrorCode) (at : ℕ) → Refuses allowed so.first c at (NoPairs (AreFieldsOf names fields) (formats_of f) so.deep (remaining_of so.all)) → NoStruct allowed s f outer c at
+    none_refused : {w : Input} (allowed : ReadErrorCode → Bool) (c : ErrorCode) (at : ℕ) → Refuses allowed so.first w c at (NoPairs (AreFieldsOf names fields) (formats_of f) so.deep (remaining_of so.all)) → NoStruct allowed s w f outer c at
     none_refused allowed c at = map_refused so.first P f so.deep so.all (AreFieldsOf names fields) outer s allowed c at so.head
 
     -- no key is there that names a field or none, nor the end
-    pub no_field_named : {given : List (List ℕ)} → given ≡ names → (allowed : ReadErrorCode → Bool) (c : ErrorCode) (at : ℕ) → Refuses allowed t c at (NoKey (IsField given) (formats_of g) levels (remaining_of r)) → NoStruct allowed s f outer c at
-    no_field_named same allowed c at none =
-        let h = subst (λ (names : List (List ℕ)). Refuses allowed t c at (NoKey (IsField names) (formats_of g) levels (remaining_of r))) same none in
+    pub no_field_named : {given : List (List ℕ)} {w : Input} → given ≡ names → (allowed : ReadErrorCode → Bool) (c : ErrorCode) (at : ℕ) → Refuses allowed t w c at (NoKey (IsField given) (formats_of g) levels (remaining_of r)) → NoStruct allowed s w f outer c at
+    no_field_named {w = w} same allowed c at none =
+        let h = subst (λ (names : List (List ℕ)). Refuses allowed t w c at (NoKey (IsField names) (formats_of g) levels (remaining_of r))) same none in
         none_refused allowed c at
         (key_lacks so.first P f so.deep so.all g levels so.formats so.inside (λ (f : Formats). IsField names) (λ (f : Formats). IsAny) r t (AreFieldsOf names fields) allowed c at
         (λ front more x holds means. gathered_follows names fields slots front more x holds means) so.so_far h)
@@ -183,7 +184,7 @@ module _ {S : Type 0} (names : List (List ℕ)) (fields : List (FieldOf S)) wher
           subst (λ (n : ℕ). Step t u (IsKey (IsField names) (formats_of f) n (remaining_of r) (remaining_of new) (Some field))) so.inside there
 
       -- a field that was read is there again
-      pub field_twice : (allowed : ReadErrorCode → Bool) (c : ErrorCode) (at : ℕ) (i : ℕ) → field ≡ Known i → Has true fields i slots → NoStruct allowed s f outer c at
+      pub field_twice : (allowed : ReadErrorCode → Bool) (c : ErrorCode) (at : ℕ) (i : ℕ) → field ≡ Known i → Has true fields i slots → NoStruct allowed s u f outer c at
       field_twice allowed c at i is some =
           none_refused allowed c at
           (key_excluded so.first P f so.deep so.all (IsField names) r new field t u so.so_far key_here (AreFieldsOf names fields) allowed c at
@@ -191,18 +192,18 @@ module _ {S : Type 0} (names : List (List ℕ)) (fields : List (FieldOf S)) wher
 
       module _ {h : Formats} {n : ℕ} (formats : h ≡ g) (inside : n ≡ levels) where
         -- the value isn't read that the struct needs there
-        value_unread : {V : Type 0} (values : Formats → Raw → V → Type 0) (allowed : ReadErrorCode → Bool) (c : ErrorCode) (at : ℕ)
+        value_unread : {V : Type 0} {w : Input} (values : Formats → Raw → V → Type 0) (allowed : ReadErrorCode → Bool) (c : ErrorCode) (at : ℕ)
             → ((front : List (Raw × Raw)) (a b : Raw) (more : RawPairs) (x : S) → P front → IsField names a field → AreFieldsOf names fields (append_pairs front (raw_pair a b more)) x → (v : V) × values f b v)
-            → Refuses allowed u c at (λ l bs. IsNotRead (values h) (item_at (raws (formats_of h) l) n bs)) → NoStruct allowed s f outer c at
-        value_unread values allowed c at needs none =
-            let one = subst (λ (h : Formats). Refuses allowed u c at (λ l bs. IsNotRead (values h) (item_at (raws (formats_of h) l) n bs))) (formats ∙ so.formats) none in
-            let two = subst (λ (n : ℕ). Refuses allowed u c at (λ l bs. IsNotRead (values f) (item_at (raws (formats_of f) l) n bs))) (inside ∙ so.inside) one in
+            → Refuses allowed u w c at (λ l bs. IsNotRead (values h) (item_at (raws (formats_of h) l) n bs)) → NoStruct allowed s w f outer c at
+        value_unread {w = w} values allowed c at needs none =
+            let one = subst (λ (h : Formats). Refuses allowed u w c at (λ l bs. IsNotRead (values h) (item_at (raws (formats_of h) l) n bs))) (formats ∙ so.formats) none in
+            let two = subst (λ (n : ℕ). Refuses allowed u w c at (λ l bs. IsNotRead (values f) (item_at (raws (formats_of f) l) n bs))) (inside ∙ so.inside) one in
             none_refused allowed c at (key_unread so.first P f so.deep so.all (IsField names) r new field t u so.so_far key_here (AreFieldsOf names fields) allowed c at (values f) needs two)
 
         -- the value of a field isn't read
-        pub field_unread : {V : Type 0} (values : Formats → Raw → V → Type 0) (allowed : ReadErrorCode → Bool) (c : ErrorCode) (at : ℕ) (i : ℕ) → field ≡ Known i → Has false fields i slots
+        pub field_unread : {V : Type 0} {w : Input} (values : Formats → Raw → V → Type 0) (allowed : ReadErrorCode → Bool) (c : ErrorCode) (at : ℕ) (i : ℕ) → field ≡ Known i → Has false fields i slots
             → ((b : Raw) (v : ValueAt fields i) → reads_at fields i b v → (v : V) × values f b v)
-            → Refuses allowed u c at (λ l bs. IsNotRead (values h) (item_at (raws (formats_of h) l) n bs)) → NoStruct allowed s f outer c at
+            → Refuses allowed u w c at (λ l bs. IsNotRead (values h) (item_at (raws (formats_of h) l) n bs)) → NoStruct allowed s w f outer c at
         field_unread values allowed c at i is missing means_so =
             value_unread values allowed c at
             (λ front a b more x holds key means.
@@ -210,7 +211,7 @@ module _ {S : Type 0} (names : List (List ℕ)) (fields : List (FieldOf S)) wher
             means_so b v.0 v.1)
 
         -- the value of another key isn't there
-        pub other_unread : (allowed : ReadErrorCode → Bool) (c : ErrorCode) (at : ℕ) → Refuses allowed u c at (λ l bs. IsNotRead IsAny (item_at (raws (formats_of h) l) n bs)) → NoStruct allowed s f outer c at
+        pub other_unread : {w : Input} (allowed : ReadErrorCode → Bool) (c : ErrorCode) (at : ℕ) → Refuses allowed u w c at (λ l bs. IsNotRead IsAny (item_at (raws (formats_of h) l) n bs)) → NoStruct allowed s w f outer c at
         other_unread allowed c at = value_unread (λ (f : Formats). IsAny) allowed c at (λ front a b more x holds key means. (tt, tt))
 
         module _ {w : Input} {last : Remaining} {k : Formats} {m : ℕ} (formats' : k ≡ h) (inside' : m ≡ n) (remaining : last ≡ new) where
@@ -248,14 +249,14 @@ module _ {S : Type 0} (names : List (List ℕ)) (fields : List (FieldOf S)) wher
       end_here = subst (λ (o : Option Field). Step t u (IsKey (IsField given) (formats_of g) levels (remaining_of r) (remaining_of new) o)) none key
 
       -- a field is missing
-      pub field_missing : (allowed : ReadErrorCode → Bool) (c : ErrorCode) (at : ℕ) (i : ℕ) → LacksAt fields i slots → NoStruct allowed s f outer c at
+      pub field_missing : (allowed : ReadErrorCode → Bool) (c : ErrorCode) (at : ℕ) (i : ℕ) → LacksAt fields i slots → NoStruct allowed s u f outer c at
       field_missing allowed c at i missing =
           none_refused allowed c at
           (end_excluded so.first P f so.deep so.all (IsField names) r new Unknown (AreFieldsOf names fields) allowed c at t u so.so_far end_here
           (λ front x holds means. gathered_missing names fields slots front i x missing holds means))
 
       -- the end isn't there, which can't be
-      pub end_unread : (allowed : ReadErrorCode → Bool) (w : Input) (e : Error) → new ≡ Counted 0 → TakesMapEnd allowed new u w (Err e) → NoStruct allowed s f outer (code_of e) (offset_of e)
+      pub end_unread : (allowed : ReadErrorCode → Bool) (w : Input) (e : Error) → new ≡ Counted 0 → TakesMapEnd allowed new u w (Err e) → NoStruct allowed s w f outer (code_of e) (offset_of e)
       end_unread allowed w e nothing h = map_end_refused so.first P f so.deep so.all (AreFieldsOf names fields) outer s allowed t u w r new e nothing so.head so.so_far end_here h
 
       -- all fields were read, or what stands for them is there
@@ -284,14 +285,14 @@ module _ {S : Type 0} (names : List (List ℕ)) (fields : List (FieldOf S)) wher
     module _ {so : StructSoFar slots s f outer t g levels r} {field : Field} {new : Remaining} {u : Input} {h : Formats} {n : ℕ} (key : FieldNamed so field new u h n) where
       module _ (i : ℕ) (is : field ≡ Known i) (values : Formats → Raw → ValueAt fields i → Type 0) where
         -- a field isn't read into its slot: it is there again, or its value isn't read
-        pub field_not_once : (allowed : ReadErrorCode → Bool) (c : ErrorCode) (at : ℕ)
+        pub field_not_once : {w : Input} (allowed : ReadErrorCode → Bool) (c : ErrorCode) (at : ℕ)
             → {A : Type 0} (slot : Option A) → ((b : Bool) → is_some slot ≡ b → Has b fields i slots)
             → ((b : Raw) (v : ValueAt fields i) → reads_at fields i b v → values f b v)
-            → (is_some slot ≡ false → Refuses allowed u c at (λ l bs. IsNotRead (values h) (item_at (raws (formats_of h) l) n bs))) → NoStruct allowed s f outer c at
+            → Refuses allowed u w c at (λ l bs. is_some slot ≡ false → IsNotRead (values h) (item_at (raws (formats_of h) l) n bs)) → NoStruct allowed s w f outer c at
         field_not_once allowed c at None has means_so none =
-            field_unread so (Some field) field refl refl new key.named key.formats key.inside values allowed c at i is (has false refl) (λ b v means. (v, means_so b v means)) (none refl)
+            field_unread so (Some field) field refl refl new key.named key.formats key.inside values allowed c at i is (has false refl) (λ b v means. (v, means_so b v means)) (refuses_map allowed u c at _ _ (λ l bs none. none refl) none)
         field_not_once allowed c at (Some x) has means_so none =
-            field_twice so (Some field) field refl refl new key.named allowed c at i is (has true refl)
+            refuses_on (field_twice so (Some field) field refl refl new key.named allowed c at i is (has true refl)) none.took
 
         -- a field is read into its slot
         pub field_once : {w : Input} {last : Remaining} {k : Formats} {m : ℕ} → k ≡ h → m ≡ n → last ≡ new → Has false fields i slots → (slot : Option (ValueAt fields i)) → is_some slot ≡ true

@@ -43,10 +43,10 @@ none_remains new bs f is e =
     let here : ended_at end_in_map (reader.counted 0) bs ≡ Err f = subst (λ (r : Remaining). ended_at end_in_map (remaining_of r) bs ≡ Err f) is e in
     absurd cc
 
-no_end_refused : (allowed : ReadErrorCode → Bool) (s u w : Input) (new : Remaining) (e : Error) (P : Limits → List ℕ → List ℕ → Type 0) (N : Limits → List ℕ → Type 0) → new ≡ Counted 0 → Step s u P → TakesMapEnd allowed new u w (Err e) → Refuses allowed s (code_of e) (offset_of e) N
+no_end_refused : (allowed : ReadErrorCode → Bool) (s u w : Input) (new : Remaining) (e : Error) (P : Limits → List ℕ → List ℕ → Type 0) (N : Limits → List ℕ → Type 0) → new ≡ Counted 0 → Step s u P → TakesMapEnd allowed new u w (Err e) → Refuses allowed s w (code_of e) (offset_of e) N
 no_end_refused allowed s u w new e P N is step h =
     refuses_then allowed s (code_of e) (offset_of e) u P (λ l bs. ⊥) N (λ l bs mid p none. absurd none) step
-    (refuses_fault allowed (λ l. ended_at end_in_map (remaining_of new)) u e (λ l bs. ⊥) (λ l bs f stops. none_remains new bs f is stops) h)
+    (refuses_fault allowed (λ l. ended_at end_in_map (remaining_of new)) u e (λ l bs. ⊥) (λ l bs f stops. none_remains new bs f is stops) h.0 h.1)
 
 -- ---- the pairs
 
@@ -94,11 +94,11 @@ module _ (s0 : Input) (P : List (Raw × Raw) → Type 0) (f : Formats) (levels :
           pairs_go_on P (formats_of f) levels (remaining_of all) (keys f) (values f) k v Q on (remaining_of r) (remaining_of new) l bs key.mid rest key.so
           (record { mid = mid; key = key.key; value = value })) (key_taken new t k one two) value
 
-      pub value_lacks : {A : Type 0} (pairs : RawPairs → A → Type 0) (allowed : ReadErrorCode → Bool) (c : ErrorCode) (at : ℕ) → Follows P (keys f) (values f) pairs
-          → Step s0 s (So P r) → Step s t (IsKey (keys g) (formats_of g) inside (remaining_of r) (remaining_of new) (Some k)) → Refuses allowed t c at (λ l bs. IsNotRead (values h) (item_at (raws (formats_of h) l) deep bs)) → Refuses allowed s0 c at (NoPairs pairs (formats_of f) levels (remaining_of all))
-      value_lacks pairs allowed c at follows one two three =
-          let three' = subst (λ (h : Formats). Refuses allowed t c at (λ l bs. IsNotRead (values h) (item_at (raws (formats_of h) l) deep bs))) formats' three in
-          let value = subst (λ (n : ℕ). Refuses allowed t c at (λ l bs. IsNotRead (values f) (item_at (raws (formats_of f) l) n bs))) same' three' in
+      pub value_lacks : {A : Type 0} {w : Input} (pairs : RawPairs → A → Type 0) (allowed : ReadErrorCode → Bool) (c : ErrorCode) (at : ℕ) → Follows P (keys f) (values f) pairs
+          → Step s0 s (So P r) → Step s t (IsKey (keys g) (formats_of g) inside (remaining_of r) (remaining_of new) (Some k)) → Refuses allowed t w c at (λ l bs. IsNotRead (values h) (item_at (raws (formats_of h) l) deep bs)) → Refuses allowed s0 w c at (NoPairs pairs (formats_of f) levels (remaining_of all))
+      value_lacks {w = w} pairs allowed c at follows one two three =
+          let three' = subst (λ (h : Formats). Refuses allowed t w c at (λ l bs. IsNotRead (values h) (item_at (raws (formats_of h) l) deep bs))) formats' three in
+          let value = subst (λ (n : ℕ). Refuses allowed t w c at (λ l bs. IsNotRead (values f) (item_at (raws (formats_of f) l) n bs))) same' three' in
           refuses_then allowed s0 c at t (KeyTaken new k) (λ l bs. IsNotRead (values f) (item_at (raws (formats_of f) l) levels bs)) (NoPairs pairs (formats_of f) levels (remaining_of all))
           (λ l bs mid key none rs rest x is means.
           let w = pairs_rest P (formats_of f) levels (remaining_of all) (remaining_of r) l bs key.mid rest rs key.so is in
@@ -106,11 +106,11 @@ module _ (s0 : Input) (P : List (Raw × Raw) → Type 0) (f : Formats) (levels :
           (record { behind = remaining_of new; start = key.key.start; key = key.key.key.item; mid = mid; next = key.key.next; is = key.key.key.is; none = none })
           w.more rest w.is (follows w.front w.more x w.holds (subst (λ (rs : RawPairs). pairs rs x) w.same means))) (key_taken new t k one two) value
 
-    pub key_lacks : {A : Type 0} (pairs : RawPairs → A → Type 0) (allowed : ReadErrorCode → Bool) (c : ErrorCode) (at : ℕ) → Follows P (keys f) (values f) pairs
-        → Step s0 s (So P r) → Refuses allowed s c at (NoKey (keys g) (formats_of g) inside (remaining_of r)) → Refuses allowed s0 c at (NoPairs pairs (formats_of f) levels (remaining_of all))
-    key_lacks pairs allowed c at follows one two =
-        let two' = subst (λ (g : Formats). Refuses allowed s c at (NoKey (keys g) (formats_of g) inside (remaining_of r))) formats two in
-        let key = subst (λ (n : ℕ). Refuses allowed s c at (NoKey (keys f) (formats_of f) n (remaining_of r))) same two' in
+    pub key_lacks : {A : Type 0} {w : Input} (pairs : RawPairs → A → Type 0) (allowed : ReadErrorCode → Bool) (c : ErrorCode) (at : ℕ) → Follows P (keys f) (values f) pairs
+        → Step s0 s (So P r) → Refuses allowed s w c at (NoKey (keys g) (formats_of g) inside (remaining_of r)) → Refuses allowed s0 w c at (NoPairs pairs (formats_of f) levels (remaining_of all))
+    key_lacks {w = w} pairs allowed c at follows one two =
+        let two' = subst (λ (g : Formats). Refuses allowed s w c at (NoKey (keys g) (formats_of g) inside (remaining_of r))) formats two in
+        let key = subst (λ (n : ℕ). Refuses allowed s w c at (NoKey (keys f) (formats_of f) n (remaining_of r))) same two' in
         refuses_then allowed s0 c at s (So P r) (NoKey (keys f) (formats_of f) levels (remaining_of r)) (NoPairs pairs (formats_of f) levels (remaining_of all))
         (λ l bs mid so none rs rest x is means.
         let w = pairs_rest P (formats_of f) levels (remaining_of all) (remaining_of r) l bs mid rest rs so is in
@@ -139,19 +139,19 @@ module _ (s0 : Input) (P : List (Raw × Raw) → Type 0) (f : Formats) (levels :
         (λ l bs mid rest h d. map_read pairs (formats_of f) l (item_at (raws (formats_of f) l) outer bs) levels all mid h d.0 rest x d.1 d.2) head both in
         subst (λ (w : Input). Step s w (IsMapRead x)) (sym is) all_read
 
-    pub map_refused : (allowed : ReadErrorCode → Bool) (k : ErrorCode) (at : ℕ) → Step s s0 Head → Refuses allowed s0 k at (NoPairs pairs (formats_of f) levels (remaining_of all))
-        → Refuses allowed s k at (λ l bs. IsNotRead (PassesTags (AsMap pairs)) (item_at (raws (formats_of f) l) outer bs))
+    pub map_refused : {w : Input} (allowed : ReadErrorCode → Bool) (k : ErrorCode) (at : ℕ) → Step s s0 Head → Refuses allowed s0 w k at (NoPairs pairs (formats_of f) levels (remaining_of all))
+        → Refuses allowed s w k at (λ l bs. IsNotRead (PassesTags (AsMap pairs)) (item_at (raws (formats_of f) l) outer bs))
     map_refused allowed k at head none = refuses_then allowed s k at s0 Head (NoPairs pairs (formats_of f) levels (remaining_of all)) (λ l bs. IsNotRead (PassesTags (AsMap pairs)) (item_at (raws (formats_of f) l) outer bs))
         (λ l bs mid h n. map_none pairs (formats_of f) l (item_at (raws (formats_of f) l) outer bs) levels all mid h n) head none
 
     -- nothing remains, so that the end can't be refused
     pub map_end_refused : (allowed : ReadErrorCode → Bool) (t u w : Input) (r new : Remaining) (e : Error) → new ≡ Counted 0
-        → Step s s0 Head → Step s0 t (So P r) → Step t u (IsMapEnd (remaining_of r)) → TakesMapEnd allowed new u w (Err e) → Refuses allowed s (code_of e) (offset_of e) (λ l bs. IsNotRead (PassesTags (AsMap pairs)) (item_at (raws (formats_of f) l) outer bs))
+        → Step s s0 Head → Step s0 t (So P r) → Step t u (IsMapEnd (remaining_of r)) → TakesMapEnd allowed new u w (Err e) → Refuses allowed s w (code_of e) (offset_of e) (λ l bs. IsNotRead (PassesTags (AsMap pairs)) (item_at (raws (formats_of f) l) outer bs))
     map_end_refused allowed t u w r new e none head so end h =
         let one = step_then s s0 t Head (So P r) (λ l bs rest. Unit {0}) (λ l bs mid rest a b. tt) head so in
         let two = step_then s t u (λ l bs rest. Unit {0}) (IsMapEnd (remaining_of r)) (λ l bs rest. Unit {0}) (λ l bs mid rest a b. tt) one end in
         no_end_refused allowed s u w new e (λ l bs rest. Unit {0}) (λ l bs. IsNotRead (PassesTags (AsMap pairs)) (item_at (raws (formats_of f) l) outer bs)) none two h
 
 -- no map is there
-pub no_map_read : {A : Type 0} (pairs : RawPairs → A → Type 0) (allowed : ReadErrorCode → Bool) (f : model.Formats) (levels : ℕ) (s : Input) (e : Error) → RefusesMap allowed f levels s e → Refuses allowed s (code_of e) (offset_of e) (λ l bs. IsNotRead (PassesTags (AsMap pairs)) (item_at (raws f l) levels bs))
+pub no_map_read : {A : Type 0} {w : Input} (pairs : RawPairs → A → Type 0) (allowed : ReadErrorCode → Bool) (f : model.Formats) (levels : ℕ) (s : Input) (e : Error) → RefusesMap allowed f levels s w e → Refuses allowed s w (code_of e) (offset_of e) (λ l bs. IsNotRead (PassesTags (AsMap pairs)) (item_at (raws f l) levels bs))
 no_map_read pairs allowed f levels s e h = refuses_map allowed s (code_of e) (offset_of e) (λ l bs. IsNotRead (PassesTags IsPairs) (item_at (raws f l) levels bs)) (λ l bs. IsNotRead (PassesTags (AsMap pairs)) (item_at (raws f l) levels bs)) (λ l bs none. none_as_map pairs (item_at (raws f l) levels bs) none) h

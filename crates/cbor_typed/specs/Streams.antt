@@ -52,7 +52,7 @@ pub record GivesItem {A : Type 0} (refusals : ReadErrorCode → Bool) (reads : F
 -- An error: something is to come, and no such item; or it is excused. No more is given.
 pub record GivesError {A : Type 0} (refusals : ReadErrorCode → Bool) (reads : Formats → Raw → A → Type 0) (total : Bool) (e : Error) (s t : Stream) : Type 0 where
   pub going : s.done ≡ false
-  pub refused : Refuses refusals s.input (code_of e) (offset_of e) (λ l bs.
+  pub refused : Refuses refusals s.input t.input (code_of e) (offset_of e) (λ l bs.
       (bs ≢ []) × IsNotRead (reads s.formats) (item_at (raws s.formats l) s.levels bs))
   pub fault : TellsItem false total refusals s.formats s.levels s.input e
   pub done : t.done ≡ true

@@ -51,7 +51,8 @@ pub trait Readable: Sized + Drop {
 ///
 /// Ok where the bytes to come begin with the spelling of an item that the type reads: acceptable
 /// within the levels that are left, and with keys of the formats that are read. Exactly the item's
-/// bytes are taken then. Ok or Err, as many levels are left as before.
+/// bytes are taken then. Refused, some of the bytes to come were taken from their front, and
+/// counted. Ok or Err, as many levels are left as before.
 ///
 /// `Vec<u8>` is an array of numbers, as any `Vec`; a byte string is `ByteBuf`, `ByteArray`, or the
 /// borrowed `Bytes`. An `f64` or an `f32` is a float of any width that it holds exactly.

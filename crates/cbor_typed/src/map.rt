@@ -14,7 +14,8 @@ ghost use Rattle.cbor_collections.specs.Accesses.{turns, size_of};
 ghost use Rattle.cbor_collections.specs.Cases.{TellsBadKey};
 ghost use Rattle.cbor_collections.specs.MapAccesses.{IsMapHead, RefusesMap, TakesKey};
 ghost use Rattle.cbor_collections.specs.MapAccesses.{TakesMapEnd};
-ghost use Rattle.cbor_scalars.specs.Takes.{TakesItem, context, formats_of, raws};
+ghost use Rattle.cbor_read.specs.Source.{TookSome};
+ghost use Rattle.cbor_scalars.specs.Takes.{TakesItem, WhateverTaken, context, formats_of, raws};
 ghost use Rattle.cbor_typed.specs.Forms.{FormOnlyIf};
 ghost use Rattle.cbor_typed.specs.contracts.de.Deserializer.{the_row};
 
@@ -43,22 +44,25 @@ impl<R: Source> Deserializer<R> {
     pub fn map<'a>(&'a mut self) -> Result<MapAccess<'a, R>>
         ensures* rests { sem 𝓛 (RestsIfErr (the_row R.row) self.entry (λ m. m.de.ghost_name) result
             (λ last. (last.items.levels ≡ self.old.items.levels)
-            × (last.items.formats ≡ self.old.items.formats))) }
+            × (last.items.formats ≡ self.old.items.formats)
+            × TookSome (R.source self.old.items.source) (R.source last.items.source))) }
         ensures same_reference { IfOk result (λ m. m.de.ghost_name ≡ self.entry.ghost_name) }
         ensures head { IfOk result (λ m. Step (R.source self.old.items.source)
             (R.source m.de.now.items.source)
             (λ l bs rest. IsMapHead (formats_of self.old.items.formats) l
             (item_at (raws (formats_of self.old.items.formats) l) self.old.items.levels bs)
             m.de.now.items.levels m.remaining rest)) }
-        ensures refused { IfErr result (RefusesMap R.refusals (formats_of self.old.items.formats)
-            self.old.items.levels (R.source self.old.items.source)) }
+        ensures refused { IfErr result (WhateverTaken (R.source self.old.items.source)
+            (RefusesMap R.refusals (formats_of self.old.items.formats)
+            self.old.items.levels (R.source self.old.items.source))) }
         // The head alone, whatever follows it.
         ensures opened { IfOk result (λ m. Step (R.source self.old.items.source)
             (R.source m.de.now.items.source)
             (λ l bs rest. Begins kind.Map self.old.items.levels m.de.now.items.levels m.remaining
             bs rest)) }
-        ensures unopened { IfErr result (RefusesBeginning kind.Map R.refusals
-            self.old.items.levels (R.source self.old.items.source)) }
+        ensures unopened { IfErr result (WhateverTaken (R.source self.old.items.source)
+            (RefusesBeginning kind.Map R.refusals
+            self.old.items.levels (R.source self.old.items.source))) }
         ensures no_form { IfErr result (λ e. TellsNoForm (code_of e)) }
         ensures outer { IfOk result (λ m. m.outer ≡ self.old.items.levels) }
         ensures inside { IfOk result (λ m. m.de.now.items.levels < m.outer) }

@@ -10,7 +10,8 @@ ghost use Rattle.cbor_collections.specs.Begins.{Begins, RefusesBeginning};
 ghost use Rattle.cbor_de.specs.declared.head.Head.TheVariants as kind;
 ghost use Rattle.cbor_collections.specs.Accesses.{IsArrayHead, RefusesArray, TakesNext};
 ghost use Rattle.cbor_collections.specs.Accesses.{TakesPart, TakesEnd, turns, size_of};
-ghost use Rattle.cbor_scalars.specs.Takes.{IsMessage, context, formats_of, raws};
+ghost use Rattle.cbor_read.specs.Source.{TookSome};
+ghost use Rattle.cbor_scalars.specs.Takes.{IsMessage, WhateverTaken, context, formats_of, raws};
 ghost use Rattle.cbor_typed.specs.Forms.{FormOnlyIf};
 ghost use Rattle.cbor_typed.specs.contracts.de.Deserializer.{the_row};
 
@@ -42,22 +43,25 @@ impl<R: Source> Deserializer<R> {
     pub fn array<'a>(&'a mut self) -> Result<SeqAccess<'a, R>>
         ensures* rests { sem 𝓛 (RestsIfErr (the_row R.row) self.entry (λ s. s.de.ghost_name) result
             (λ last. (last.items.levels ≡ self.old.items.levels)
-            × (last.items.formats ≡ self.old.items.formats))) }
+            × (last.items.formats ≡ self.old.items.formats)
+            × TookSome (R.source self.old.items.source) (R.source last.items.source))) }
         ensures same_reference { IfOk result (λ s. s.de.ghost_name ≡ self.entry.ghost_name) }
         ensures head { IfOk result (λ s. Step (R.source self.old.items.source)
             (R.source s.de.now.items.source)
             (λ l bs rest. IsArrayHead (formats_of self.old.items.formats) l
             (item_at (raws (formats_of self.old.items.formats) l) self.old.items.levels bs)
             s.de.now.items.levels s.remaining rest)) }
-        ensures refused { IfErr result (RefusesArray R.refusals (formats_of self.old.items.formats)
-            self.old.items.levels (R.source self.old.items.source)) }
+        ensures refused { IfErr result (WhateverTaken (R.source self.old.items.source)
+            (RefusesArray R.refusals (formats_of self.old.items.formats)
+            self.old.items.levels (R.source self.old.items.source))) }
         // The head alone, whatever follows it.
         ensures opened { IfOk result (λ s. Step (R.source self.old.items.source)
             (R.source s.de.now.items.source)
             (λ l bs rest. Begins kind.Array self.old.items.levels s.de.now.items.levels s.remaining
             bs rest)) }
-        ensures unopened { IfErr result (RefusesBeginning kind.Array R.refusals
-            self.old.items.levels (R.source self.old.items.source)) }
+        ensures unopened { IfErr result (WhateverTaken (R.source self.old.items.source)
+            (RefusesBeginning kind.Array R.refusals
+            self.old.items.levels (R.source self.old.items.source))) }
         ensures no_form { IfErr result (λ e. TellsNoForm (code_of e)) }
         ensures outer { IfOk result (λ s. s.outer ≡ self.old.items.levels) }
         ensures inside { IfOk result (λ s. s.de.now.items.levels < s.outer) }

@@ -17,7 +17,8 @@ ghost use Rattle.cbor_scalars.specs.Identifiers.{IsMadeBy, NamesNoKey, texts};
 ghost use Rattle.cbor_collections.specs.MapAccesses.{IsMapHead, RefusesMap, TakesKey, TakesMapEnd};
 ghost use Rattle.cbor_typed.specs.Structs.{IsAny, IsField, place_in, missing_text, duplicate_text};
 ghost use Rattle.cbor_scalars.specs.Takes.{OnceMade, TakesItem, IsRead, IsNotRead, Refuses};
-ghost use Rattle.cbor_scalars.specs.Takes.{context, formats_of, raws};
+ghost use Rattle.cbor_scalars.specs.Takes.{WhateverTaken, context, formats_of, raws};
+ghost use Rattle.cbor_read.specs.Source.{TookSome};
 ghost use Rattle.cbor_typed.specs.contracts.de.Deserializer.{the_row};
 
 use crate::de::Deserializer;
@@ -64,7 +65,8 @@ impl<R: Source> Deserializer<R> {
         ensures* rests { sem 𝓛 (RestsIfErr (the_row R.row) self.entry
             (λ m. m.de.ghost_name) result
             (λ last. (last.items.levels ≡ self.old.items.levels)
-            × (last.items.formats ≡ self.old.items.formats))) }
+            × (last.items.formats ≡ self.old.items.formats)
+            × TookSome (R.source self.old.items.source) (R.source last.items.source))) }
         ensures same_reference { IfOk result (λ m.
             m.de.ghost_name ≡ self.entry.ghost_name) }
         ensures head { IfOk result (λ m. Step (R.source self.old.items.source)
@@ -72,15 +74,17 @@ impl<R: Source> Deserializer<R> {
             (λ l bs rest. IsMapHead (formats_of self.old.items.formats) l
             (item_at (raws (formats_of self.old.items.formats) l) self.old.items.levels bs)
             m.de.now.items.levels m.remaining rest)) }
-        ensures refused { IfErr result (RefusesMap R.refusals (formats_of self.old.items.formats)
-            self.old.items.levels (R.source self.old.items.source)) }
+        ensures refused { IfErr result (WhateverTaken (R.source self.old.items.source)
+            (RefusesMap R.refusals (formats_of self.old.items.formats)
+            self.old.items.levels (R.source self.old.items.source))) }
         // The head alone, whatever follows it.
         ensures opened { IfOk result (λ m. Step (R.source self.old.items.source)
             (R.source m.de.now.items.source)
             (λ l bs rest. Begins kind.Map self.old.items.levels m.de.now.items.levels m.remaining
             bs rest)) }
-        ensures unopened { IfErr result (RefusesBeginning kind.Map R.refusals
-            self.old.items.levels (R.source self.old.items.source)) }
+        ensures unopened { IfErr result (WhateverTaken (R.source self.old.items.source)
+            (RefusesBeginning kind.Map R.refusals
+            self.old.items.levels (R.source self.old.items.source))) }
         ensures no_form { IfErr result (λ e. TellsNoForm (code_of e)) }
         ensures outer { IfOk result (λ m. m.outer ≡ self.old.items.levels) }
         ensures inside { IfOk result (λ m. m.de.now.items.levels < m.outer) }
@@ -334,9 +338,11 @@ impl<'a, R: Source> StructAccess<'a, R> {
             (λ l bs rest. IsRead (V.reads (context self.old.de.now.items.formats R.lends))
             (item_at (raws (formats_of self.old.de.now.items.formats) l)
             self.old.de.now.items.levels bs) v rest))) }
-        ensures refused { IfErr result (λ e. is_some slot.old ≡ false →
-            Refuses R.refusals (R.source self.old.de.now.items.source) (code_of e) (offset_of e)
-            (λ l bs. IsNotRead (V.reads (context self.old.de.now.items.formats R.lends))
+        ensures refused { IfErr result (λ e. Refuses R.refusals
+            (R.source self.old.de.now.items.source) (R.source self.new.de.now.items.source)
+            (code_of e) (offset_of e)
+            (λ l bs. is_some slot.old ≡ false
+            → IsNotRead (V.reads (context self.old.de.now.items.formats R.lends))
             (item_at (raws (formats_of self.old.de.now.items.formats) l)
             self.old.de.now.items.levels bs))) }
         ensures text { IfErr result (λ e. is_some slot.old ≡ true →

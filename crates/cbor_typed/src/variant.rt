@@ -12,7 +12,8 @@ ghost use Rattle.cbor_collections.specs.BeginsEnum.{BeginsVariant, RefusesVarian
 ghost use Rattle.cbor_collections.specs.BeginsEnum.{BeginsParts, RefusesPartsHead};
 ghost use Rattle.cbor_collections.specs.Enums.{IsNothing, IsPart};
 ghost use Rattle.cbor_scalars.specs.Identifiers.{texts};
-ghost use Rattle.cbor_scalars.specs.Takes.{context, formats_of, raws};
+ghost use Rattle.cbor_read.specs.Source.{TookSome};
+ghost use Rattle.cbor_scalars.specs.Takes.{WhateverTaken, context, formats_of, raws};
 ghost use Rattle.cbor_collections.specs.Variants.{IsVariantHead, RefusesVariant};
 ghost use Rattle.cbor_collections.specs.Variants.{IsInside};
 ghost use Rattle.cbor_collections.specs.Variants.{IsPartsHead, RefusesParts, TakesContent};
@@ -50,24 +51,27 @@ impl<'de, R: Read<'de>> Deserializer<R> {
     pub fn variant<'a>(&'a mut self, names: &[&str]) -> Result<VariantAccess<'a, R>>
         ensures* rests { sem 𝓛 (RestsIfErr (the_row R.row) self.entry (λ v. v.de.ghost_name) result
             (λ last. (last.items.levels ≡ self.old.items.levels)
-            × (last.items.formats ≡ self.old.items.formats))) }
+            × (last.items.formats ≡ self.old.items.formats)
+            × TookSome (R.source self.old.items.source) (R.source last.items.source))) }
         ensures same_reference { IfOk result (λ v. v.de.ghost_name ≡ self.entry.ghost_name) }
         ensures head { IfOk result (λ v. Step (R.source self.old.items.source)
             (R.source v.de.now.items.source)
             (λ l bs rest. IsVariantHead (formats_of self.old.items.formats) (texts names.now) l
             (item_at (raws (formats_of self.old.items.formats) l) self.old.items.levels bs)
             v.de.now.items.levels v.index v.form rest)) }
-        ensures refused { IfErr result (RefusesVariant R.refusals
+        ensures refused { IfErr result (WhateverTaken (R.source self.old.items.source)
+            (RefusesVariant R.refusals
             (formats_of self.old.items.formats) (texts names.now) self.old.items.levels
-            (R.source self.old.items.source)) }
+            (R.source self.old.items.source))) }
         // The enum up to its identifier, whatever follows it.
         ensures opened { IfOk result (λ v. Step (R.source self.old.items.source)
             (R.source v.de.now.items.source)
             (λ l bs rest. BeginsVariant (formats_of self.old.items.formats) (texts names.now) l
             self.old.items.levels v.de.now.items.levels v.index v.form bs rest)) }
-        ensures unopened { IfErr result (RefusesVariantHead R.refusals
+        ensures unopened { IfErr result (WhateverTaken (R.source self.old.items.source)
+            (RefusesVariantHead R.refusals
             (formats_of self.old.items.formats) (texts names.now) self.old.items.levels
-            (R.source self.old.items.source)) }
+            (R.source self.old.items.source))) }
         ensures cases { IfErr result (λ e. Stands (R.source self.old.items.source) e
             (enum_cases (formats_of self.old.items.formats)
             self.old.items.levels)) }
@@ -287,7 +291,8 @@ impl<'a, R: Source> VariantAccess<'a, R> {
         requires { IsInside self.form self.de.now.items.levels self.outer }
         ensures* rests { sem 𝓛 (RestsIfErr (the_row R.row) self.entry.de (λ s. s.de.ghost_name)
             result (λ last. (last.items.levels ≡ self.entry.outer)
-            × (last.items.formats ≡ self.entry.de.now.items.formats))) }
+            × (last.items.formats ≡ self.entry.de.now.items.formats)
+            × TookSome (R.source self.entry.de.now.items.source) (R.source last.items.source))) }
         ensures same_reference { IfOk result (λ s. s.de.ghost_name ≡ self.entry.de.ghost_name) }
         ensures head { IfOk result (λ s. Step (R.source self.entry.de.now.items.source)
             (R.source s.de.now.items.source)
@@ -295,17 +300,19 @@ impl<'a, R: Source> VariantAccess<'a, R> {
             (content_at (formats_of self.entry.de.now.items.formats) l
             self.entry.de.now.items.levels self.entry.form bs)
             s.de.now.items.levels s.remaining rest)) }
-        ensures refused { IfErr result (RefusesParts R.refusals
+        ensures refused { IfErr result (WhateverTaken (R.source self.entry.de.now.items.source)
+            (RefusesParts R.refusals
             (formats_of self.entry.de.now.items.formats) self.entry.de.now.items.levels
-            self.entry.form (R.source self.entry.de.now.items.source)) }
+            self.entry.form (R.source self.entry.de.now.items.source))) }
         // Up to the parts, whatever follows.
         ensures opened { IfOk result (λ s. Step (R.source self.entry.de.now.items.source)
             (R.source s.de.now.items.source)
             (λ l bs rest. BeginsParts self.entry.de.now.items.levels self.entry.form
             s.de.now.items.levels s.remaining bs rest)) }
-        ensures unopened { IfErr result (RefusesPartsHead R.refusals
+        ensures unopened { IfErr result (WhateverTaken (R.source self.entry.de.now.items.source)
+            (RefusesPartsHead R.refusals
             self.entry.de.now.items.levels self.entry.form
-            (R.source self.entry.de.now.items.source)) }
+            (R.source self.entry.de.now.items.source))) }
         ensures alone { IfErr result
             (TellsAlone (alone_text (codes "tuple")) self.entry.form) }
         ensures no_form { IfErr result (λ e. TellsNoForm (code_of e)) }

@@ -44,9 +44,9 @@ returns-then-offset-start-clause-read g c =
     let new = c.more_pairs.new.remaining in
     let more = c.in_ok-more_pairs.field-0 in
     let comes : more ≡ true = search rules in
-    λ e made. no_key_taken s m remaining new more reads old.formats now.formats old.levels now.levels c.more_pairs.ensures.formats c.more_pairs.ensures.levels t c.in_ok-field.field
+    rw c.refuse-refused.ensures.source (λ e made. no_key_taken s m remaining new more reads old.formats now.formats old.levels now.levels c.more_pairs.ensures.formats c.more_pairs.ensures.levels t c.in_ok-field.field
     g.R.Source.refusals (code_of e) (offset_of e) _ (there s m remaining new more old.formats comes c.in_ok-more_pairs.ensures.read) c.in_ok-field.ensures.read
-    (omega (arith, c.if-offset-start.true, c.offset.ensures, c.offset-start.ensures))
+    (omega (arith, c.if-offset-start.true, c.offset.ensures, c.offset-start.ensures)))
 
 pub returns-else-offset-start-clause-read : goal.returns-else-offset-start-clause-read
 returns-else-offset-start-clause-read g c =

@@ -11,8 +11,8 @@ pub returns-in-Err-clause-read : goal.returns-in-Err-clause-read
 returns-in-Err-clause-read g c =
     let old = c.args.self.now in
     let e = c.error.result in
-    none_is_key (g.K.Readable.reads (context old.de.now.items.formats g.R.Source.lends)) (formats_of old.de.now.items.formats) old.de.now.items.levels (remaining_of old.remaining)
-    g.R.Source.refusals (g.R.Source.source old.de.now.items.source) (code_of e) (offset_of e) (c.in-Err.ensures.read e c.error.ensures.tells)
+    rw c.error.ensures.source (none_is_key (g.K.Readable.reads (context old.de.now.items.formats g.R.Source.lends)) (formats_of old.de.now.items.formats) old.de.now.items.levels (remaining_of old.remaining)
+    g.R.Source.refusals (g.R.Source.source old.de.now.items.source) (code_of e) (offset_of e) (c.in-Err.ensures.read e c.error.ensures.tells))
 
 pub returns-in-Err-deserialize-clause-read : goal.returns-in-Err-deserialize-clause-read
 returns-in-Err-deserialize-clause-read g c =
@@ -38,9 +38,9 @@ returns-then-offset-start-clause-read g c =
     let new = c.more_pairs.new.remaining in
     let more = c.in-Ok-true.field-0 in
     let e = c.no_key.result in
-    no_key_taken s m old.remaining new more reads old.de.now.items.formats now.formats old.de.now.items.levels now.levels c.more_pairs.ensures.formats c.more_pairs.ensures.levels t c.in-Ok.key
+    rw c.no_key.ensures.source (no_key_taken s m old.remaining new more reads old.de.now.items.formats now.formats old.de.now.items.levels now.levels c.more_pairs.ensures.formats c.more_pairs.ensures.levels t c.in-Ok.key
     g.R.Source.refusals (code_of e) (offset_of e) _ (there s m old.remaining new more old.de.now.items.formats c.in-Ok-true.field-0-test c.in-Ok-true.ensures.read) c.in-Ok.ensures.read
-    (omega (arith, c.if-offset-start.true, c.offset.ensures, c.offset-start.ensures))
+    (omega (arith, c.if-offset-start.true, c.offset.ensures, c.offset-start.ensures)))
 
 pub returns-clause-read : goal.returns-clause-read
 returns-clause-read g c =

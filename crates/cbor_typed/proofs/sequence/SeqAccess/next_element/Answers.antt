@@ -29,9 +29,9 @@ returns-then-offset-start-clause-read g c =
     let new = c.more_items.new.remaining in
     let more = c.in-Ok-true.field-0 in
     let e = c.no_item.result in
-    nothing_taken s m old.remaining new more reads old.de.now.items.formats now.formats old.de.now.items.levels now.levels c.more_items.ensures.formats c.more_items.ensures.levels t c.in-Ok.item
+    rw c.no_item.ensures.source (nothing_taken s m old.remaining new more reads old.de.now.items.formats now.formats old.de.now.items.levels now.levels c.more_items.ensures.formats c.more_items.ensures.levels t c.in-Ok.item
     g.R.Source.refusals (code_of e) (offset_of e) _ (comes s m old.remaining new more c.in-Ok-true.field-0-test c.in-Ok-true.ensures.read) c.in-Ok.ensures.read
-    (omega (arith, c.if-offset-start.true, c.offset.ensures, c.offset-start.ensures))
+    (omega (arith, c.if-offset-start.true, c.offset.ensures, c.offset-start.ensures)))
 
 pub returns-clause-read : goal.returns-clause-read
 returns-clause-read g c =

@@ -1,7 +1,7 @@
 use Rattle.cbor_typed.proofs.structure.StructAccess.next_field.Goals as goal
 
 pub returns-in-Err-clause-read : goal.returns-in-Err-clause-read
-returns-in-Err-clause-read g c = c.in-Err.ensures.read c.unnamed.result c.unnamed.ensures.made
+returns-in-Err-clause-read g c = rw c.unnamed.ensures.source (c.in-Err.ensures.read c.unnamed.result c.unnamed.ensures.made)
 
 pub returns-in-Err-clause-bad_key : goal.returns-in-Err-clause-bad_key
 returns-in-Err-clause-bad_key g c = c.in-Err.ensures.bad_key c.unnamed.result c.unnamed.ensures.made

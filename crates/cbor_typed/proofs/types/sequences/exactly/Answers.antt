@@ -1,11 +1,14 @@
 use Rattle.std.proofs.Common.{rules, ◌≡◌, ◌<◌, List, ◌∷◌, ◌++◌, [], length, sym, subst, arith}
 use Rattle.std.proofs.lemmas.Result.{err_from_is_err_and}
-use Rattle.cbor_io.specs.Error.{code_of, offset_of}
+use Rattle.cbor_io.specs.Error.{code_of, offset_of, IsOutOfMemory}
 use Rattle.cbor_de.specs.declared.formats.Formats.{Formats}
 use Rattle.cbor_collections.specs.Arrays.{AreExactly}
 use Rattle.cbor_scalars.specs.Takes.{context, formats_of}
 use Rattle.cbor_collections.proofs.facts.Arrays.{EachRead, each_more, each_all, each_length, rest_read, must_follow, none_of_none}
 use Rattle.cbor_collections.proofs.facts.Arrays.{end_step, end_lacks, part_goes_on, part_lacks, array_takes_to, array_refused, no_array_read}
+use Rattle.cbor_scalars.proofs.facts.Refusals.{refuses_on}
+use Rattle.cbor_de.proofs.facts.Steps.{took_same, some_then}
+use Rattle.cbor_collections.proofs.facts.Refusals.{refuses_memory}
 use Rattle.cbor_typed.proofs.types.sequences.exactly.Goals as goal
 
 pub returns-in_err-access-clause-read : goal.returns-in_err-access-clause-read
@@ -13,7 +16,7 @@ returns-in_err-access-clause-read g c =
     let passed = err_from_is_err_and c.from_residual.result c.from_residual.ensures.1 in
     let old = c.args.de.now in
     let reads = g.T.Readable.reads (context old.items.formats g.R.Source.lends) in
-    rw (passed.1, passed.2) (no_array_read (AreExactly reads c.args.n) g.R.Source.refusals (formats_of old.items.formats) old.items.levels (g.R.Source.source old.items.source) c.in_err-access.field-0.0 c.in_err-access.ensures.refused)
+    rw (passed.1, passed.2) (no_array_read (AreExactly reads c.args.n) g.R.Source.refusals (formats_of old.items.formats) old.items.levels (g.R.Source.source old.items.source) c.in_err-access.field-0.0 (c.in_err-access.ensures.refused _ (search rules)))
 
 pub items-preserved : goal.items-preserved
 items-preserved g c =
@@ -57,14 +60,14 @@ returns-in_err-item-clause-read g c =
     let e = c.in_err-item.field-0.0 in
     let P = EachRead (reads old.items.formats) xs in
     let items = AreExactly (reads old.items.formats) c.args.n in
-    rw (passed.1, passed.2) (array_refused s0 P old.items.formats now.items.formats first.items.levels now.items.levels i.formats i.levels c.in_ok-access.access.remaining
+    rw (passed.1, passed.2) (refuses_on (array_refused s0 P old.items.formats now.items.formats first.items.levels now.items.levels i.formats i.levels c.in_ok-access.access.remaining
     items old.items.levels (g.R.Source.source old.items.source) g.R.Source.refusals (code_of e) (offset_of e) c.in_ok-access.ensures.head
     (part_lacks s0 P old.items.formats now.items.formats first.items.levels now.items.levels i.formats i.levels c.in_ok-access.access.remaining
     reads c.items.access.remaining s items g.R.Source.refusals (code_of e) (offset_of e)
     (λ front more v h means.
     let w = rest_read (reads old.items.formats) front more v means.0 in
     must_follow (reads old.items.formats) more w.0 w.1 (omega (arith, w.2, means.1, each_length (reads old.items.formats) xs front h, fewer)))
-    i.so_far c.in_err-item.ensures.read))
+    i.so_far c.in_err-item.ensures.read)) (took_same (search rules)))
 
 pub returns-in_err-end-clause-read : goal.returns-in_err-end-clause-read
 returns-in_err-end-clause-read g c =
@@ -82,14 +85,14 @@ returns-in_err-end-clause-read g c =
     let e = c.in_err-end.field-0.0 in
     let P = EachRead (reads old.items.formats) xs in
     let items = AreExactly (reads old.items.formats) c.args.n in
-    rw (passed.1, passed.2) (array_refused s0 P old.items.formats now.items.formats first.items.levels now.items.levels i.formats i.levels c.in_ok-access.access.remaining
+    rw (passed.1, passed.2) (refuses_on (array_refused s0 P old.items.formats now.items.formats first.items.levels now.items.levels i.formats i.levels c.in_ok-access.access.remaining
     items old.items.levels (g.R.Source.source old.items.source) g.R.Source.refusals (code_of e) (offset_of e) c.in_ok-access.ensures.head
     (end_lacks s0 P old.items.formats now.items.formats first.items.levels now.items.levels i.formats i.levels c.in_ok-access.access.remaining
     items g.R.Source.refusals c.items.access.remaining s w e
     (λ front more v h means.
     let z = rest_read (reads old.items.formats) front more v means.0 in
     none_of_none (reads old.items.formats) more z.0 z.1 (omega (arith, z.2, means.1, each_length (reads old.items.formats) xs front h, all)))
-    i.so_far c.in_err-end.ensures.read))
+    i.so_far c.in_err-end.ensures.read)) (took_same (search rules)))
 
 pub returns-clause-read : goal.returns-clause-read
 returns-clause-read g c =
@@ -107,3 +110,11 @@ returns-clause-read g c =
     array_takes_to s0 (EachRead (reads old.items.formats) xs) old.items.formats now.items.formats first.items.levels now.items.levels i.formats i.levels c.in_ok-access.access.remaining
     items old.items.levels (g.R.Source.source old.items.source) t w _ c.items.access.remaining xs (λ front h. (each_all (reads old.items.formats) xs front h, all))
     c.in_ok-access.ensures.head i.so_far (end_step c.items.access.remaining t w c.in_ok-end.ensures.read) (search rules)
+
+pub returns-then-is_err-clause-read : goal.returns-then-is_err-clause-read
+returns-then-is_err-clause-read g c =
+    let old = c.args.de.now in
+    let e = c.from.result in
+    let memory : IsOutOfMemory e = search rules in
+    rw c.refuse.ensures.error (refuses_memory g.R.Source.refusals (g.R.Source.source old.items.source) (code_of e) (offset_of e) _ memory.0 memory.1
+    (some_then _ _ _ c.in_ok-access.ensures.head.took (some_then _ _ _ c.items.invariant.so_far.took (some_then _ _ _ c.in_ok-item.ensures.read.took (took_same (search rules))))))

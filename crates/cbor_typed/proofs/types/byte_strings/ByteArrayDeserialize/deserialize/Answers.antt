@@ -34,8 +34,8 @@ returns-in-Err-clause-read g c =
     let ctx = context de.items.formats g.R.Source.lends in
     let reads : (Raw → ByteArray g.row.N → Type 0) = λ r x. IsByteArray g.row.N r x.0 in
     let lacks = subst (λ r. LendsBytes g.R.Source.refusals ctx levels s t r) c.in-Err.is c.read_byte_string.follows.holds-at-none.2 in
-    made_refuses g.R.Source.refusals s (λ l bs. IsNotRead (PassesTags IsByteString) (item_at (raws f l) levels bs)) (λ l bs. IsNotRead (PassesTags reads) (item_at (raws f l) levels bs)) c.in-Err.why c.unread.result
-    (λ l bs none. none_of reads IsByteString (λ x. x.0) (item_at (raws f l) levels bs) (λ r x is. is.0) none) c.unread.ensures.made lacks
+    rw c.unread.ensures.source (made_refuses g.R.Source.refusals s (λ l bs. IsNotRead (PassesTags IsByteString) (item_at (raws f l) levels bs)) (λ l bs. IsNotRead (PassesTags reads) (item_at (raws f l) levels bs)) c.in-Err.why c.unread.result
+    (λ l bs none. none_of reads IsByteString (λ x. x.0) (item_at (raws f l) levels bs) (λ r x is. is.0) none) c.unread.ensures.made lacks)
 
 pub returns-in-Err-clause-memory : goal.returns-in-Err-clause-memory
 returns-in-Err-clause-memory g c =
@@ -49,7 +49,7 @@ returns-in-Err-clause-memory g c =
     let asks = AsksForBytes (asks_for g.R.Source.refusals g.R.Source.lends) in
     let lacks = subst (λ r. LendsBytes g.R.Source.refusals ctx levels s t r) c.in-Err.is c.read_byte_string.follows.holds-at-none.2 in
     let only = subst (λ r. IfErr r (UnreadOnly (OfItem asks f levels s))) c.in-Err.is c.read_byte_string.follows.holds-at-none.4 in
-    made_memory g.R.Source.refusals f reads IsByteString (λ x. x.0) levels s asks (AsksForString (asks_for g.R.Source.refusals g.R.Source.lends)) c.in-Err.why c.unread.result (λ r x is. is.0) (λ r x is asks b string. asks x.0 is.0) c.unread.ensures.made only lacks
+    made_memory g.R.Source.refusals f reads IsByteString (λ x. x.0) levels s t asks (AsksForString (asks_for g.R.Source.refusals g.R.Source.lends)) c.in-Err.why c.unread.result (λ r x is. is.0) (λ r x is asks b string. asks x.0 is.0) c.unread.ensures.made only lacks
 
 pub returns-in-Ok-clause-memory : goal.returns-in-Ok-clause-memory
 returns-in-Ok-clause-memory g c =

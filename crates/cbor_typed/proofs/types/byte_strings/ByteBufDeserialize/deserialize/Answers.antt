@@ -16,6 +16,7 @@ returns-in-Err-clause-read g c =
     let reads : (Raw → ByteBuf → Type 0) = λ r b. IsByteString r b.0.items in
     let other : (Raw → Vec ℕ Global → Type 0) = λ r v. IsByteString r v.items in
     record {
+      took = c.in-Err.ensures.read.took;
       told = λ bs tells. elim (c.in-Err.ensures.read.told bs tells) [
         | inl excused ↦ inl excused
         | inr none ↦ inr (none_of reads other (λ b. b.0) (item_at (raws (formats_of de.items.formats) (limits s bs)) de.items.levels bs) (λ r b is. is) none)

@@ -32,8 +32,8 @@ returns-in-Err-clause-read g c =
     let t = g.R.Source.source c.read_text.follows.lender-at-none.items.source in
     let ctx = context de.items.formats g.R.Source.lends in
     let lacks = subst (λ r. LendsText g.R.Source.refusals ctx levels s t r) c.in-Err.is c.read_text.follows.holds-at-none.2 in
-    made_refuses g.R.Source.refusals s (λ l bs. IsNotRead (PassesTags IsText) (item_at (raws f l) levels bs)) (λ l bs. IsNotRead (PassesTags IsCharacter) (item_at (raws f l) levels bs)) c.in-Err.why c.unread.result
-    (λ l bs none. none_of IsCharacter IsText (λ x. encode_utf8 x) (item_at (raws f l) levels bs) (λ r x is. is.1) none) c.unread.ensures.made lacks
+    rw c.unread.ensures.source (made_refuses g.R.Source.refusals s (λ l bs. IsNotRead (PassesTags IsText) (item_at (raws f l) levels bs)) (λ l bs. IsNotRead (PassesTags IsCharacter) (item_at (raws f l) levels bs)) c.in-Err.why c.unread.result
+    (λ l bs none. none_of IsCharacter IsText (λ x. encode_utf8 x) (item_at (raws f l) levels bs) (λ r x is. is.1) none) c.unread.ensures.made lacks)
 
 pub returns-in-Err-clause-memory : goal.returns-in-Err-clause-memory
 returns-in-Err-clause-memory g c =
@@ -46,7 +46,7 @@ returns-in-Err-clause-memory g c =
     let asks = AsksForString (asks_for g.R.Source.refusals g.R.Source.lends) in
     let lacks = subst (λ r. LendsText g.R.Source.refusals ctx levels s t r) c.in-Err.is c.read_text.follows.holds-at-none.2 in
     let only = subst (λ r. IfErr r (UnreadOnly (OfItem asks f levels s))) c.in-Err.is c.read_text.follows.holds-at-none.4 in
-    made_memory g.R.Source.refusals f IsCharacter IsText (λ x. encode_utf8 x) levels s asks asks c.in-Err.why c.unread.result (λ r x is. is.1) (λ r x is asks. asks) c.unread.ensures.made only lacks
+    made_memory g.R.Source.refusals f IsCharacter IsText (λ x. encode_utf8 x) levels s t asks asks c.in-Err.why c.unread.result (λ r x is. is.1) (λ r x is asks. asks) c.unread.ensures.made only lacks
 
 pub returns-in-Ok-clause-memory : goal.returns-in-Ok-clause-memory
 returns-in-Ok-clause-memory g c =

@@ -19,8 +19,8 @@ returns-in-Err-clause-read g c =
     let d = c.args.de.now.items in
     let s = g.R.Source.source d.source in
     let f = formats_of d.formats in
-    value_refused g.R.Source.refusals f d.levels s (λ r y. ⊤) c.skip.new.self.refusal c.in-Err.refused c.error.result c.error.ensures.tells
-    (any_stops g.R.Source.refusals f d.levels s c.skip.new.self.refusal c.in-Err.refused c.in-Err.ensures.read)
+    rw c.error.ensures.source (value_refused g.R.Source.refusals f d.levels s (λ r y. ⊤) c.skip.new.self.refusal c.in-Err.refused c.error.result c.error.ensures.tells
+    (any_stops g.R.Source.refusals f d.levels s c.skip.new.self.refusal c.in-Err.refused c.in-Err.ensures.read))
 
 pub returns-in-Err-clause-fault : goal.returns-in-Err-clause-fault
 returns-in-Err-clause-fault g c =

@@ -2,7 +2,7 @@ use Rattle.std.proofs.Common.{rules, ◌≡◌, Option, refl, subst, ◌∙◌}
 use Rattle.std.proofs.lemmas.Result.{err_from_is_err_and}
 use Rattle.std.specs.BTreeMap.{BTreeMap, insert_entry}
 use Rattle.cbor_model.specs.Raw.{RawPairs}
-use Rattle.cbor_io.specs.Error.{code_of, offset_of}
+use Rattle.cbor_io.specs.Error.{code_of, offset_of, IsOutOfMemory}
 use Rattle.cbor_de.specs.Gives.{Step}
 use Rattle.cbor_de.specs.Heads.{remaining_of}
 use Rattle.cbor_de.specs.declared.formats.Formats.{Formats}
@@ -11,6 +11,9 @@ use Rattle.cbor_collections.specs.Maps.{AreEntries}
 use Rattle.cbor_scalars.specs.Takes.{context, formats_of}
 use Rattle.cbor_collections.proofs.facts.Maps.{Made, none_made, made_more, made_all, may_follow_made}
 use Rattle.cbor_typed.proofs.WholeMaps.{map_begins, map_goes_on, key_lacks, value_lacks, map_takes, map_refused, map_end_refused, map_end_twice, no_map_read}
+use Rattle.cbor_scalars.proofs.facts.Refusals.{refuses_on}
+use Rattle.cbor_de.proofs.facts.Steps.{took_same, some_then}
+use Rattle.cbor_collections.proofs.facts.Refusals.{refuses_memory}
 use Rattle.cbor_typed.proofs.types.maps.BTreeMapDeserialize.deserialize.Goals as goal
 
 pub returns-in_err-access-clause-read : goal.returns-in_err-access-clause-read
@@ -19,7 +22,7 @@ returns-in_err-access-clause-read g c =
     let old = c.args.de.now in
     let keys = g.K.Readable.reads (context old.items.formats g.R.Source.lends) in
     let values = g.V.Readable.reads (context old.items.formats g.R.Source.lends) in
-    rw (passed.1, passed.2) (no_map_read (λ (rs : RawPairs) (m : BTreeMap g.row.K.Denot g.row.V.Denot). AreEntries g.K.Ord.cmp keys values rs m.entries) g.R.Source.refusals (formats_of old.items.formats) old.items.levels (g.R.Source.source old.items.source) c.in_err-access.field-0.0 c.in_err-access.ensures.refused)
+    rw (passed.1, passed.2) (no_map_read (λ (rs : RawPairs) (m : BTreeMap g.row.K.Denot g.row.V.Denot). AreEntries g.K.Ord.cmp keys values rs m.entries) g.R.Source.refusals (formats_of old.items.formats) old.items.levels (g.R.Source.source old.items.source) c.in_err-access.field-0.0 (c.in_err-access.ensures.refused _ (search rules)))
 
 pub pairs-init : goal.pairs-init
 pairs-init g c =
@@ -90,13 +93,13 @@ returns-in_err-key-clause-read g c =
     let e = c.in_err-key.field-0.0 in
     let P = Made (keys old.items.formats) (values old.items.formats) g.K.Ord.cmp es in
     let pairs = λ (rs : RawPairs) (m : BTreeMap g.row.K.Denot g.row.V.Denot). AreEntries g.K.Ord.cmp (keys old.items.formats) (values old.items.formats) rs m.entries in
-    rw (passed.1, passed.2) (map_refused s0 P old.items.formats first.items.levels c.in_ok-access.access.remaining
+    rw (passed.1, passed.2) (refuses_on (map_refused s0 P old.items.formats first.items.levels c.in_ok-access.access.remaining
     pairs old.items.levels (g.R.Source.source old.items.source) g.R.Source.refusals (code_of e) (offset_of e) c.in_ok-access.ensures.head
     (key_lacks s0 P old.items.formats first.items.levels c.in_ok-access.access.remaining
     now.items.formats now.items.levels i.formats i.levels keys values c.pairs.access.remaining s
     pairs g.R.Source.refusals (code_of e) (offset_of e)
     (λ front more m h means. may_follow_made (keys old.items.formats) (values old.items.formats) g.K.Ord.cmp front more m.entries means)
-    i.so_far c.in_err-key.ensures.read))
+    i.so_far c.in_err-key.ensures.read)) (took_same (search rules)))
 
 pub returns-in_err-value-clause-read : goal.returns-in_err-value-clause-read
 returns-in_err-value-clause-read g c =
@@ -119,14 +122,14 @@ returns-in_err-value-clause-read g c =
     let read = subst (λ (o : Option g.row.K.Denot). Step s t (IsKey (keys now.items.formats) (formats_of now.items.formats) now.items.levels (remaining_of c.pairs.access.remaining) (remaining_of next.remaining) o)) c.in-Some.is c.in_ok-key.ensures.read in
     let formats : next.de.now.items.formats ≡ old.items.formats = c.in_ok-key.ensures.formats ∙ i.formats in
     let levels : next.de.now.items.levels ≡ first.items.levels = c.in_ok-key.ensures.inside ∙ i.levels in
-    rw (passed.1, passed.2) (map_refused s0 P old.items.formats first.items.levels c.in_ok-access.access.remaining
+    rw (passed.1, passed.2) (refuses_on (map_refused s0 P old.items.formats first.items.levels c.in_ok-access.access.remaining
     pairs old.items.levels (g.R.Source.source old.items.source) g.R.Source.refusals (code_of e) (offset_of e) c.in_ok-access.ensures.head
     (value_lacks s0 P old.items.formats first.items.levels c.in_ok-access.access.remaining
     now.items.formats now.items.levels i.formats i.levels keys values c.pairs.access.remaining s
     next.remaining t k next.de.now.items.formats next.de.now.items.levels formats levels
     pairs g.R.Source.refusals (code_of e) (offset_of e)
     (λ front more m h means. may_follow_made (keys old.items.formats) (values old.items.formats) g.K.Ord.cmp front more m.entries means)
-    i.so_far read c.in_err-value.ensures.read))
+    i.so_far read c.in_err-value.ensures.read)) (took_same (search rules)))
 
 pub returns-in_err-end-clause-read : goal.returns-in_err-end-clause-read
 returns-in_err-end-clause-read g c =
@@ -146,8 +149,8 @@ returns-in_err-end-clause-read g c =
     let pairs = λ (rs : RawPairs) (m : BTreeMap g.row.K.Denot g.row.V.Denot). AreEntries g.K.Ord.cmp (keys old.items.formats) (values old.items.formats) rs m.entries in
     let end = subst (λ (o : Option g.row.K.Denot). Step t u (IsKey (keys now.items.formats) (formats_of now.items.formats) now.items.levels (remaining_of c.pairs.access.remaining) (remaining_of next.remaining) o)) c.in_default.is c.in_ok-key.ensures.read in
     let none = rw c.in_default.is at c.in_ok-key.ensures.remains in
-    rw (passed.1, passed.2) (map_end_refused s0 P old.items.formats first.items.levels c.in_ok-access.access.remaining
-    pairs old.items.levels (g.R.Source.source old.items.source) g.R.Source.refusals t u w c.pairs.access.remaining next.remaining c.in_err-end.field-0.0 none c.in_ok-access.ensures.head i.so_far end c.in_err-end.ensures.read)
+    rw (passed.1, passed.2) (refuses_on (map_end_refused s0 P old.items.formats first.items.levels c.in_ok-access.access.remaining
+    pairs old.items.levels (g.R.Source.source old.items.source) g.R.Source.refusals t u w c.pairs.access.remaining next.remaining c.in_err-end.field-0.0 none c.in_ok-access.ensures.head i.so_far end c.in_err-end.ensures.read) (took_same (search rules)))
 
 pub returns-clause-read : goal.returns-clause-read
 returns-clause-read g c =
@@ -170,3 +173,11 @@ returns-clause-read g c =
     map_takes s0 P old.items.formats first.items.levels c.in_ok-access.access.remaining
     pairs old.items.levels (g.R.Source.source old.items.source) t w _ c.pairs.access.remaining c.pairs.map (λ front h. made_all (keys old.items.formats) (values old.items.formats) g.K.Ord.cmp es front h)
     c.in_ok-access.ensures.head i.so_far (map_end_twice (remaining_of c.pairs.access.remaining) next.remaining t u w none end c.in_ok-end.ensures.read) (search rules)
+
+pub returns-then-is_err-clause-read : goal.returns-then-is_err-clause-read
+returns-then-is_err-clause-read g c =
+    let old = c.args.de.now in
+    let e = c.from.result in
+    let memory : IsOutOfMemory e = search rules in
+    rw c.refuse.ensures.error (refuses_memory g.R.Source.refusals (g.R.Source.source old.items.source) (code_of e) (offset_of e) _ memory.0 memory.1
+    (some_then _ _ _ c.in_ok-access.ensures.head.took (some_then _ _ _ c.pairs.invariant.so_far.took (some_then _ _ _ c.in_ok-key.ensures.read.took (some_then _ _ _ c.in_ok-value.ensures.read.took (took_same (search rules)))))))

@@ -36,11 +36,12 @@ returns-in-Err-deserialize-clause-read g c =
     let de = c.args.de.now in
     let s = g.R.Source.source de.items.source in
     let m = g.R.Source.source c.take_null.new.items.source in
+    let t = g.R.Source.source c.deserialize.new.de.items.source in
     let step = subst (λ (b : Bool). Step s m (λ l bs rest. null_at bs ≡ Ok (b, rest))) c.in-Ok-false.field-0-test c.in-Ok-false.ensures.read in
     let k = code_of c.in-Err-deserialize.e in
     let at = offset_of c.in-Err-deserialize.e in
-    let stops = subst (λ (n : ℕ). Refuses g.R.Source.refusals m k at (λ l bs. IsNotRead (g.T.Readable.reads (context de.items.formats g.R.Source.lends)) (item_at (raws (formats_of de.items.formats) l) n bs))) c.in-Ok-false.ensures.levels
-    (subst (λ (f : Formats). Refuses g.R.Source.refusals m k at (λ l bs. IsNotRead (g.T.Readable.reads (context f g.R.Source.lends)) (item_at (raws (formats_of f) l) c.take_null.new.items.levels bs))) c.in-Ok-false.ensures.formats c.in-Err-deserialize.ensures.read) in
+    let stops = subst (λ (n : ℕ). Refuses g.R.Source.refusals m t k at (λ l bs. IsNotRead (g.T.Readable.reads (context de.items.formats g.R.Source.lends)) (item_at (raws (formats_of de.items.formats) l) n bs))) c.in-Ok-false.ensures.levels
+    (subst (λ (f : Formats). Refuses g.R.Source.refusals m t k at (λ l bs. IsNotRead (g.T.Readable.reads (context f g.R.Source.lends)) (item_at (raws (formats_of f) l) c.take_null.new.items.levels bs))) c.in-Ok-false.ensures.formats c.in-Err-deserialize.ensures.read) in
     option_refused g.R.Source.refusals (formats_of de.items.formats) (g.T.Readable.reads (context de.items.formats g.R.Source.lends)) de.items.levels s m k at step stops
 
 pub returns-in-Err-deserialize-clause-memory : goal.returns-in-Err-deserialize-clause-memory

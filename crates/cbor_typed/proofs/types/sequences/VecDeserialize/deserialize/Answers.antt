@@ -1,7 +1,7 @@
 use Rattle.std.proofs.Common.{rules, ◌≡◌, List, ◌∷◌, ◌++◌, [], refl, sym, subst, Vec, Global, arith}
 use Rattle.std.proofs.lemmas.Result.{err_from_is_err_and}
 use Rattle.cbor_model.specs.Raw.{Raws}
-use Rattle.cbor_io.specs.Error.{code_of, offset_of}
+use Rattle.cbor_io.specs.Error.{code_of, offset_of, IsOutOfMemory}
 use Rattle.cbor_de.specs.Heads.{remaining_of}
 use Rattle.cbor_de.specs.declared.formats.Formats.{Formats}
 use Rattle.cbor_collections.specs.Arrays.{AreRead}
@@ -10,6 +10,9 @@ use Rattle.cbor_collections.proofs.facts.Arrays.{EachRead, each_none, each_more,
 use Rattle.cbor_collections.proofs.facts.Arrays.{comes, item_next, item_refused, nothing_taken}
 use Rattle.cbor_collections.proofs.facts.Arrays.{end_twice, loop_begins, loop_goes_on, loop_refused, end_refused, array_takes_to, array_refused, no_array_read}
 use Rattle.cbor_typed.proofs.Elements.{untold_refused, comes_not, nothing_left}
+use Rattle.cbor_scalars.proofs.facts.Refusals.{refuses_on}
+use Rattle.cbor_de.proofs.facts.Steps.{took_same, some_then}
+use Rattle.cbor_collections.proofs.facts.Refusals.{refuses_memory}
 use Rattle.cbor_typed.proofs.types.sequences.VecDeserialize.deserialize.Goals as goal
 
 pub returns-in_err-access-clause-read : goal.returns-in_err-access-clause-read
@@ -17,7 +20,7 @@ returns-in_err-access-clause-read g c =
     let passed = err_from_is_err_and c.from_residual.result c.from_residual.ensures.1 in
     let old = c.args.de.now in
     let reads = g.T.Readable.reads (context old.items.formats g.R.Source.lends) in
-    rw (passed.1, passed.2) (no_array_read (λ (rs : Raws) (v : Vec g.row.T.Denot Global). AreRead reads rs v.items) g.R.Source.refusals (formats_of old.items.formats) old.items.levels (g.R.Source.source old.items.source) c.in_err-access.field-0.0 c.in_err-access.ensures.refused)
+    rw (passed.1, passed.2) (no_array_read (λ (rs : Raws) (v : Vec g.row.T.Denot Global). AreRead reads rs v.items) g.R.Source.refusals (formats_of old.items.formats) old.items.levels (g.R.Source.source old.items.source) c.in_err-access.field-0.0 (c.in_err-access.ensures.refused _ (search rules)))
 
 pub items-init : goal.items-init
 items-init g c =
@@ -77,12 +80,12 @@ returns-in-Err-clause-read g c =
     let e = c.in-Err.e in
     let P = EachRead (reads old.items.formats) xs in
     let items = λ (rs : Raws) (v : Vec g.row.T.Denot Global). AreRead (reads old.items.formats) rs v.items in
-    array_refused s0 P old.items.formats now.items.formats first.items.levels now.items.levels i.formats i.levels c.in_ok-access.access.remaining
+    refuses_on (array_refused s0 P old.items.formats now.items.formats first.items.levels now.items.levels i.formats i.levels c.in_ok-access.access.remaining
     items old.items.levels (g.R.Source.source old.items.source) g.R.Source.refusals (code_of e) (offset_of e) c.in_ok-access.ensures.head
     (loop_refused s0 P old.items.formats now.items.formats first.items.levels now.items.levels i.formats i.levels c.in_ok-access.access.remaining
     reads c.items.access.remaining s items g.R.Source.refusals (code_of e) (offset_of e)
     (λ front more v h means. let w = rest_read (reads old.items.formats) front more v.items means in may_follow (reads old.items.formats) more w.0 w.1)
-    i.so_far (untold_refused (reads now.items.formats) (formats_of now.items.formats) now.items.levels c.items.access.remaining g.R.Source.refusals s (code_of e) (offset_of e) c.in-Err.ensures.read))
+    i.so_far (untold_refused (reads now.items.formats) (formats_of now.items.formats) now.items.levels c.items.access.remaining g.R.Source.refusals s (code_of e) (offset_of e) c.in-Err.ensures.read))) (took_same (search rules))
 
 pub returns-in-Err-deserialize-clause-read : goal.returns-in-Err-deserialize-clause-read
 returns-in-Err-deserialize-clause-read g c =
@@ -102,12 +105,12 @@ returns-in-Err-deserialize-clause-read g c =
     let came = comes s m c.items.access.remaining mid.remaining c.in-Ok-true.field-0 c.in-Ok-true.field-0-test c.in-Ok-true.ensures.read in
     let refused = item_refused s m c.items.access.remaining mid.remaining c.in-Ok-true.field-0 reads now.items.formats mid.de.now.items.formats now.items.levels mid.de.now.items.levels c.more.ensures.formats (search rules)
     g.R.Source.refusals (code_of e) (offset_of e) came c.in-Err-deserialize.ensures.read in
-    rw c.refuse.ensures.error (array_refused s0 P old.items.formats now.items.formats first.items.levels now.items.levels i.formats i.levels c.in_ok-access.access.remaining
+    rw c.refuse.ensures.error (refuses_on (array_refused s0 P old.items.formats now.items.formats first.items.levels now.items.levels i.formats i.levels c.in_ok-access.access.remaining
     items old.items.levels (g.R.Source.source old.items.source) g.R.Source.refusals (code_of e) (offset_of e) c.in_ok-access.ensures.head
     (loop_refused s0 P old.items.formats now.items.formats first.items.levels now.items.levels i.formats i.levels c.in_ok-access.access.remaining
     reads c.items.access.remaining s items g.R.Source.refusals (code_of e) (offset_of e)
     (λ front more v h means. let w = rest_read (reads old.items.formats) front more v.items means in may_follow (reads old.items.formats) more w.0 w.1)
-    i.so_far refused))
+    i.so_far refused)) (took_same (search rules)))
 
 pub returns-then-offset-start-clause-read : goal.returns-then-offset-start-clause-read
 returns-then-offset-start-clause-read g c =
@@ -126,14 +129,14 @@ returns-then-offset-start-clause-read g c =
     let P = EachRead (reads old.items.formats) xs in
     let items = λ (rs : Raws) (v : Vec g.row.T.Denot Global). AreRead (reads old.items.formats) rs v.items in
     let came = comes s m c.items.access.remaining mid.remaining c.in-Ok-true.field-0 c.in-Ok-true.field-0-test c.in-Ok-true.ensures.read in
-    array_refused s0 P old.items.formats now.items.formats first.items.levels now.items.levels i.formats i.levels c.in_ok-access.access.remaining
+    refuses_on (array_refused s0 P old.items.formats now.items.formats first.items.levels now.items.levels i.formats i.levels c.in_ok-access.access.remaining
     items old.items.levels (g.R.Source.source old.items.source) g.R.Source.refusals (code_of e) (offset_of e) c.in_ok-access.ensures.head
     (loop_refused s0 P old.items.formats now.items.formats first.items.levels now.items.levels i.formats i.levels c.in_ok-access.access.remaining
     reads c.items.access.remaining s items g.R.Source.refusals (code_of e) (offset_of e)
     (λ front more v h means. let w = rest_read (reads old.items.formats) front more v.items means in may_follow (reads old.items.formats) more w.0 w.1)
     i.so_far
     (nothing_taken s m c.items.access.remaining mid.remaining c.in-Ok-true.field-0 reads now.items.formats mid.de.now.items.formats now.items.levels mid.de.now.items.levels c.more.ensures.formats (search rules) t c.in-Ok.item
-    g.R.Source.refusals (code_of e) (offset_of e) _ came c.in-Ok.ensures.read (omega (arith, c.if-offset-start.true, c.offset.ensures, c.offset-start.ensures))))
+    g.R.Source.refusals (code_of e) (offset_of e) _ came c.in-Ok.ensures.read (omega (arith, c.if-offset-start.true, c.offset.ensures, c.offset-start.ensures))))) (took_same (search rules))
 
 pub returns-in_err-end-clause-read : goal.returns-in_err-end-clause-read
 returns-in_err-end-clause-read g c =
@@ -151,8 +154,8 @@ returns-in_err-end-clause-read g c =
     let items = λ (rs : Raws) (v : Vec g.row.T.Denot Global). AreRead (reads old.items.formats) rs v.items in
     let end = comes_not t u c.items.access.remaining next.remaining c.in-Ok-false.field-0 c.in-Ok-false.field-0-test c.in-Ok-false.ensures.read in
     let none = nothing_left c.items.access.remaining next.remaining c.in-Ok-false.field-0 c.in-Ok-false.field-0-test c.in-Ok-false.ensures.counts in
-    rw (passed.1, passed.2) (end_refused s0 (EachRead (reads old.items.formats) c.items.items.items) old.items.formats now.items.formats first.items.levels now.items.levels i.formats i.levels c.in_ok-access.access.remaining
-    items old.items.levels (g.R.Source.source old.items.source) g.R.Source.refusals t u w c.items.access.remaining next.remaining c.in_err-end.field-0.0 none c.in_ok-access.ensures.head i.so_far end c.in_err-end.ensures.read)
+    rw (passed.1, passed.2) (refuses_on (end_refused s0 (EachRead (reads old.items.formats) c.items.items.items) old.items.formats now.items.formats first.items.levels now.items.levels i.formats i.levels c.in_ok-access.access.remaining
+    items old.items.levels (g.R.Source.source old.items.source) g.R.Source.refusals t u w c.items.access.remaining next.remaining c.in_err-end.field-0.0 none c.in_ok-access.ensures.head i.so_far end c.in_err-end.ensures.read) (took_same (search rules)))
 
 pub returns-clause-read : goal.returns-clause-read
 returns-clause-read g c =
@@ -173,3 +176,11 @@ returns-clause-read g c =
     array_takes_to s0 (EachRead (reads old.items.formats) xs) old.items.formats now.items.formats first.items.levels now.items.levels i.formats i.levels c.in_ok-access.access.remaining
     items old.items.levels (g.R.Source.source old.items.source) t w _ c.items.access.remaining c.items.items (λ front h. each_all (reads old.items.formats) xs front h)
     c.in_ok-access.ensures.head i.so_far (end_twice (remaining_of c.items.access.remaining) next.remaining t u w none end c.in_ok-end.ensures.read) (search rules)
+
+pub returns-then-is_err-clause-read : goal.returns-then-is_err-clause-read
+returns-then-is_err-clause-read g c =
+    let old = c.args.de.now in
+    let e = c.from.result in
+    let memory : IsOutOfMemory e = search rules in
+    rw c.refuse-then-is_err.ensures.error (refuses_memory g.R.Source.refusals (g.R.Source.source old.items.source) (code_of e) (offset_of e) _ memory.0 memory.1
+    (some_then _ _ _ c.in_ok-access.ensures.head.took (some_then _ _ _ c.items.invariant.so_far.took (some_then _ _ _ c.in-Ok-true.ensures.read.took (some_then _ _ _ c.in-Ok.ensures.read.took (took_same (search rules)))))))

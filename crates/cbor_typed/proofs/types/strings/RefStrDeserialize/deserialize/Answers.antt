@@ -20,8 +20,8 @@ returns-in-Err-clause-read g c =
     let ctx = context de.items.formats g.R.Source.lends in
     let reads : (Raw → Bor (List ℕ) → Type 0) = λ r x. IsBorrowedText ctx r x.now in
     let lacks = subst (λ r. LendsText g.R.Source.refusals ctx levels s t r) c.in-Err.is c.read_text.follows.holds-at-none.2 in
-    made_refuses g.R.Source.refusals s (λ l bs. IsNotRead (PassesTags IsText) (item_at (raws f l) levels bs)) (λ l bs. IsNotRead (PassesTags reads) (item_at (raws f l) levels bs)) c.in-Err.why c.unread.result
-    (λ l bs none. none_of reads IsText (λ x. x.now) (item_at (raws f l) levels bs) (λ r x is. is.0) none) c.unread.ensures.made lacks
+    rw c.unread.ensures.source (made_refuses g.R.Source.refusals s (λ l bs. IsNotRead (PassesTags IsText) (item_at (raws f l) levels bs)) (λ l bs. IsNotRead (PassesTags reads) (item_at (raws f l) levels bs)) c.in-Err.why c.unread.result
+    (λ l bs none. none_of reads IsText (λ x. x.now) (item_at (raws f l) levels bs) (λ r x is. is.0) none) c.unread.ensures.made lacks)
 
 pub returns-in-Err-clause-memory : goal.returns-in-Err-clause-memory
 returns-in-Err-clause-memory g c =
@@ -35,7 +35,7 @@ returns-in-Err-clause-memory g c =
     let asks = AsksForString (asks_for g.R.Source.refusals g.R.Source.lends) in
     let lacks = subst (λ r. LendsText g.R.Source.refusals ctx levels s t r) c.in-Err.is c.read_text.follows.holds-at-none.2 in
     let only = subst (λ r. IfErr r (UnreadOnly (OfItem asks f levels s))) c.in-Err.is c.read_text.follows.holds-at-none.4 in
-    made_memory g.R.Source.refusals f reads IsText (λ x. x.now) levels s asks (λ r. ⊥) c.in-Err.why c.unread.result (λ r x is. is.0)
+    made_memory g.R.Source.refusals f reads IsText (λ x. x.now) levels s t asks (λ r. ⊥) c.in-Err.why c.unread.result (λ r x is. is.0)
     (λ r x is asks. lent_unasked g.R.Source.refusals f g.R.Source.lends (untagged r) is.1 (asks x.now is.0.0)) c.unread.ensures.made only lacks
 
 pub returns-in-Err-clause-form : goal.returns-in-Err-clause-form

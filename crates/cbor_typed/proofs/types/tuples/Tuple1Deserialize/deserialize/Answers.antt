@@ -9,6 +9,8 @@ use Rattle.cbor_collections.proofs.facts.Arrays.{MustFollow}
 use Rattle.cbor_collections.proofs.facts.Tuples.{Empty, Then, one_more, none_all, then_all, empty_rest, then_rest, first_follows}
 use Rattle.cbor_collections.proofs.facts.Arrays.{end_step, end_lacks, loop_begins, part_goes_on, part_lacks, array_takes_to, array_refused, no_array_read}
 use Rattle.cbor_typed.proofs.Forms.{plain}
+use Rattle.cbor_scalars.proofs.facts.Refusals.{refuses_on}
+use Rattle.cbor_de.proofs.facts.Steps.{took_same}
 use Rattle.cbor_typed.proofs.types.tuples.Tuple1Deserialize.deserialize.Goals as goal
 
 pub returns-in_err-access-clause-read : goal.returns-in_err-access-clause-read
@@ -17,7 +19,7 @@ returns-in_err-access-clause-read g c =
     let old = c.args.de.now in
     let ra = λ (f : Formats). g.A.Readable.reads (context f g.R.Source.lends) in
     let items = λ (rs : Raws) (t : record { 0 : g.row.A.Denot }). FirstThen (ra old.items.formats) t.0 AreNone rs in
-    rw (passed.1, passed.2) (no_array_read items g.R.Source.refusals (formats_of old.items.formats) old.items.levels (g.R.Source.source old.items.source) c.in_err-access.field-0.0 c.in_err-access.ensures.refused)
+    rw (passed.1, passed.2) (no_array_read items g.R.Source.refusals (formats_of old.items.formats) old.items.levels (g.R.Source.source old.items.source) c.in_err-access.field-0.0 (c.in_err-access.ensures.refused _ (search rules)))
 
 pub returns-in_err-a-clause-read : goal.returns-in_err-a-clause-read
 returns-in_err-a-clause-read g c =
@@ -31,9 +33,9 @@ returns-in_err-a-clause-read g c =
     let items = λ (rs : Raws) (t : record { 0 : g.row.A.Denot }). FirstThen (ra old.items.formats) t.0 AreNone rs in
     let so0 = loop_begins s0 Empty old.items.formats old.items.formats first.items.levels first.items.levels refl refl all tt in
     let e = c.in_err-a.field-0.0 in
-    rw (passed.1, passed.2) (array_refused s0 Empty old.items.formats first.items.formats first.items.levels first.items.levels c.in_ok-access.ensures.formats refl all items old.items.levels start g.R.Source.refusals (code_of e) (offset_of e) c.in_ok-access.ensures.head
+    rw (passed.1, passed.2) (refuses_on (array_refused s0 Empty old.items.formats first.items.formats first.items.levels first.items.levels c.in_ok-access.ensures.formats refl all items old.items.levels start g.R.Source.refusals (code_of e) (offset_of e) c.in_ok-access.ensures.head
     (part_lacks s0 Empty old.items.formats first.items.formats first.items.levels first.items.levels c.in_ok-access.ensures.formats refl all ra all s0 items g.R.Source.refusals (code_of e) (offset_of e)
-    (λ front more t h means. empty_rest (MustFollow (ra old.items.formats)) (FirstThen (ra old.items.formats) t.0 AreNone) (λ more means. first_follows (ra old.items.formats) t.0 AreNone more means) front more h means) so0 c.in_err-a.ensures.read))
+    (λ front more t h means. empty_rest (MustFollow (ra old.items.formats)) (FirstThen (ra old.items.formats) t.0 AreNone) (λ more means. first_follows (ra old.items.formats) t.0 AreNone more means) front more h means) so0 c.in_err-a.ensures.read)) (took_same (search rules)))
 
 pub returns-in_err-end-clause-read : goal.returns-in_err-end-clause-read
 returns-in_err-end-clause-read g c =
@@ -52,9 +54,9 @@ returns-in_err-end-clause-read g c =
     let so1 = part_goes_on s0 Empty old.items.formats first.items.formats first.items.levels first.items.levels c.in_ok-access.ensures.formats refl all
     ra all s0 read c.part.new.self.remaining s1 c.in_ok-a.a (λ front r h m. one_more (ra old.items.formats) c.in_ok-a.a r m front h) so0 c.in_ok-a.ensures.read in
     let e = c.in_err-end.field-0.0 in
-    rw (passed.1, passed.2) (array_refused s0 read old.items.formats first.items.formats first.items.levels first.items.levels c.in_ok-access.ensures.formats refl all items old.items.levels start g.R.Source.refusals (code_of e) (offset_of e) c.in_ok-access.ensures.head
+    rw (passed.1, passed.2) (refuses_on (array_refused s0 read old.items.formats first.items.formats first.items.levels first.items.levels c.in_ok-access.ensures.formats refl all items old.items.levels start g.R.Source.refusals (code_of e) (offset_of e) c.in_ok-access.ensures.head
     (end_lacks s0 read old.items.formats first.items.formats first.items.levels first.items.levels c.in_ok-access.ensures.formats refl all items g.R.Source.refusals c.part.new.self.remaining s1 (g.R.Source.source c.end.new.self.0.items.source) e
-    (λ front more t h means. then_rest (ra old.items.formats) c.in_ok-a.a t.0 Empty AreNone AreNone (empty_rest AreNone AreNone (λ more means. means)) front more h means) so1 c.in_err-end.ensures.read))
+    (λ front more t h means. then_rest (ra old.items.formats) c.in_ok-a.a t.0 Empty AreNone AreNone (empty_rest AreNone AreNone (λ more means. means)) front more h means) so1 c.in_err-end.ensures.read)) (took_same (search rules)))
 
 pub returns-clause-read : goal.returns-clause-read
 returns-clause-read g c =

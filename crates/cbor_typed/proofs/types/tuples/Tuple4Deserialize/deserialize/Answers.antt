@@ -9,6 +9,8 @@ use Rattle.cbor_collections.proofs.facts.Arrays.{MustFollow}
 use Rattle.cbor_collections.proofs.facts.Tuples.{Empty, Then, one_more, then_more, none_all, then_all, empty_rest, then_rest, first_follows}
 use Rattle.cbor_collections.proofs.facts.Arrays.{end_step, end_lacks, loop_begins, part_goes_on, part_lacks, array_takes_to, array_refused, no_array_read}
 use Rattle.cbor_typed.proofs.Forms.{of_left, of_right, plain}
+use Rattle.cbor_scalars.proofs.facts.Refusals.{refuses_on}
+use Rattle.cbor_de.proofs.facts.Steps.{took_same}
 use Rattle.cbor_typed.proofs.types.tuples.Tuple4Deserialize.deserialize.Goals as goal
 
 pub returns-in_err-access-clause-read : goal.returns-in_err-access-clause-read
@@ -20,7 +22,7 @@ returns-in_err-access-clause-read g c =
     let rc = λ (f : Formats). g.C.Readable.reads (context f g.R.Source.lends) in
     let rd = λ (f : Formats). g.D.Readable.reads (context f g.R.Source.lends) in
     let items = λ (rs : Raws) (t : g.row.A.Denot × g.row.B.Denot × g.row.C.Denot × g.row.D.Denot). FirstThen (ra old.items.formats) t.0 (FirstThen (rb old.items.formats) t.1 (FirstThen (rc old.items.formats) t.2 (FirstThen (rd old.items.formats) t.3 AreNone))) rs in
-    rw (passed.1, passed.2) (no_array_read items g.R.Source.refusals (formats_of old.items.formats) old.items.levels (g.R.Source.source old.items.source) c.in_err-access.field-0.0 c.in_err-access.ensures.refused)
+    rw (passed.1, passed.2) (no_array_read items g.R.Source.refusals (formats_of old.items.formats) old.items.levels (g.R.Source.source old.items.source) c.in_err-access.field-0.0 (c.in_err-access.ensures.refused _ (search rules)))
 
 pub returns-in_err-a-clause-read : goal.returns-in_err-a-clause-read
 returns-in_err-a-clause-read g c =
@@ -37,9 +39,9 @@ returns-in_err-a-clause-read g c =
     let items = λ (rs : Raws) (t : g.row.A.Denot × g.row.B.Denot × g.row.C.Denot × g.row.D.Denot). FirstThen (ra old.items.formats) t.0 (FirstThen (rb old.items.formats) t.1 (FirstThen (rc old.items.formats) t.2 (FirstThen (rd old.items.formats) t.3 AreNone))) rs in
     let so0 = loop_begins s0 Empty old.items.formats old.items.formats first.items.levels first.items.levels refl refl all tt in
     let e = c.in_err-a.field-0.0 in
-    rw (passed.1, passed.2) (array_refused s0 Empty old.items.formats c.in_ok-access.access.de.now.items.formats first.items.levels c.in_ok-access.access.de.now.items.levels c.in_ok-access.ensures.formats refl all items old.items.levels start g.R.Source.refusals (code_of e) (offset_of e) c.in_ok-access.ensures.head
+    rw (passed.1, passed.2) (refuses_on (array_refused s0 Empty old.items.formats c.in_ok-access.access.de.now.items.formats first.items.levels c.in_ok-access.access.de.now.items.levels c.in_ok-access.ensures.formats refl all items old.items.levels start g.R.Source.refusals (code_of e) (offset_of e) c.in_ok-access.ensures.head
     (part_lacks s0 Empty old.items.formats c.in_ok-access.access.de.now.items.formats first.items.levels c.in_ok-access.access.de.now.items.levels c.in_ok-access.ensures.formats refl all ra c.in_ok-access.access.remaining (g.R.Source.source c.in_ok-access.access.de.now.items.source) items g.R.Source.refusals (code_of e) (offset_of e)
-    (λ front more t h means. (empty_rest (MustFollow (ra old.items.formats)) (FirstThen (ra old.items.formats) t.0 (FirstThen (rb old.items.formats) t.1 (FirstThen (rc old.items.formats) t.2 (FirstThen (rd old.items.formats) t.3 AreNone)))) (λ more means. first_follows (ra old.items.formats) t.0 (FirstThen (rb old.items.formats) t.1 (FirstThen (rc old.items.formats) t.2 (FirstThen (rd old.items.formats) t.3 AreNone))) more means)) front more h means) so0 c.in_err-a.ensures.read))
+    (λ front more t h means. (empty_rest (MustFollow (ra old.items.formats)) (FirstThen (ra old.items.formats) t.0 (FirstThen (rb old.items.formats) t.1 (FirstThen (rc old.items.formats) t.2 (FirstThen (rd old.items.formats) t.3 AreNone)))) (λ more means. first_follows (ra old.items.formats) t.0 (FirstThen (rb old.items.formats) t.1 (FirstThen (rc old.items.formats) t.2 (FirstThen (rd old.items.formats) t.3 AreNone))) more means)) front more h means) so0 c.in_err-a.ensures.read)) (took_same (search rules)))
 
 pub returns-in_err-b-clause-read : goal.returns-in_err-b-clause-read
 returns-in_err-b-clause-read g c =
@@ -59,9 +61,9 @@ returns-in_err-b-clause-read g c =
     ra c.in_ok-access.access.remaining (g.R.Source.source c.in_ok-access.access.de.now.items.source) (Then (ra old.items.formats) c.in_ok-a.a Empty) c.part.new.self.remaining (g.R.Source.source c.part.new.self.de.now.items.source) c.in_ok-a.a
     (λ front r h m. (one_more (ra old.items.formats) c.in_ok-a.a r m) front h) so0 c.in_ok-a.ensures.read in
     let e = c.in_err-b.field-0.0 in
-    rw (passed.1, passed.2) (array_refused s0 (Then (ra old.items.formats) c.in_ok-a.a Empty) old.items.formats c.part.new.self.de.now.items.formats first.items.levels c.part.new.self.de.now.items.levels (c.part.ensures.formats ∙ c.in_ok-access.ensures.formats) c.in_ok-a.ensures.inside all items old.items.levels start g.R.Source.refusals (code_of e) (offset_of e) c.in_ok-access.ensures.head
+    rw (passed.1, passed.2) (refuses_on (array_refused s0 (Then (ra old.items.formats) c.in_ok-a.a Empty) old.items.formats c.part.new.self.de.now.items.formats first.items.levels c.part.new.self.de.now.items.levels (c.part.ensures.formats ∙ c.in_ok-access.ensures.formats) c.in_ok-a.ensures.inside all items old.items.levels start g.R.Source.refusals (code_of e) (offset_of e) c.in_ok-access.ensures.head
     (part_lacks s0 (Then (ra old.items.formats) c.in_ok-a.a Empty) old.items.formats c.part.new.self.de.now.items.formats first.items.levels c.part.new.self.de.now.items.levels (c.part.ensures.formats ∙ c.in_ok-access.ensures.formats) c.in_ok-a.ensures.inside all rb c.part.new.self.remaining (g.R.Source.source c.part.new.self.de.now.items.source) items g.R.Source.refusals (code_of e) (offset_of e)
-    (λ front more t h means. (then_rest (ra old.items.formats) c.in_ok-a.a t.0 Empty (FirstThen (rb old.items.formats) t.1 (FirstThen (rc old.items.formats) t.2 (FirstThen (rd old.items.formats) t.3 AreNone))) (MustFollow (rb old.items.formats)) (empty_rest (MustFollow (rb old.items.formats)) (FirstThen (rb old.items.formats) t.1 (FirstThen (rc old.items.formats) t.2 (FirstThen (rd old.items.formats) t.3 AreNone))) (λ more means. first_follows (rb old.items.formats) t.1 (FirstThen (rc old.items.formats) t.2 (FirstThen (rd old.items.formats) t.3 AreNone)) more means))) front more h means) so1 c.in_err-b.ensures.read))
+    (λ front more t h means. (then_rest (ra old.items.formats) c.in_ok-a.a t.0 Empty (FirstThen (rb old.items.formats) t.1 (FirstThen (rc old.items.formats) t.2 (FirstThen (rd old.items.formats) t.3 AreNone))) (MustFollow (rb old.items.formats)) (empty_rest (MustFollow (rb old.items.formats)) (FirstThen (rb old.items.formats) t.1 (FirstThen (rc old.items.formats) t.2 (FirstThen (rd old.items.formats) t.3 AreNone))) (λ more means. first_follows (rb old.items.formats) t.1 (FirstThen (rc old.items.formats) t.2 (FirstThen (rd old.items.formats) t.3 AreNone)) more means))) front more h means) so1 c.in_err-b.ensures.read)) (took_same (search rules)))
 
 pub returns-in_err-c-clause-read : goal.returns-in_err-c-clause-read
 returns-in_err-c-clause-read g c =
@@ -84,9 +86,9 @@ returns-in_err-c-clause-read g c =
     rb c.part.new.self.remaining (g.R.Source.source c.part.new.self.de.now.items.source) (Then (ra old.items.formats) c.in_ok-a.a (Then (rb old.items.formats) c.in_ok-b.b Empty)) c.part-2.new.self.remaining (g.R.Source.source c.part-2.new.self.de.now.items.source) c.in_ok-b.b
     (λ front r h m. (then_more (ra old.items.formats) c.in_ok-a.a Empty (Then (rb old.items.formats) c.in_ok-b.b Empty) r (one_more (rb old.items.formats) c.in_ok-b.b r m)) front h) so1 c.in_ok-b.ensures.read in
     let e = c.in_err-c.field-0.0 in
-    rw (passed.1, passed.2) (array_refused s0 (Then (ra old.items.formats) c.in_ok-a.a (Then (rb old.items.formats) c.in_ok-b.b Empty)) old.items.formats c.part-2.new.self.de.now.items.formats first.items.levels c.part-2.new.self.de.now.items.levels (c.part-2.ensures.formats ∙ (c.part.ensures.formats ∙ c.in_ok-access.ensures.formats)) (c.in_ok-b.ensures.inside ∙ c.in_ok-a.ensures.inside) all items old.items.levels start g.R.Source.refusals (code_of e) (offset_of e) c.in_ok-access.ensures.head
+    rw (passed.1, passed.2) (refuses_on (array_refused s0 (Then (ra old.items.formats) c.in_ok-a.a (Then (rb old.items.formats) c.in_ok-b.b Empty)) old.items.formats c.part-2.new.self.de.now.items.formats first.items.levels c.part-2.new.self.de.now.items.levels (c.part-2.ensures.formats ∙ (c.part.ensures.formats ∙ c.in_ok-access.ensures.formats)) (c.in_ok-b.ensures.inside ∙ c.in_ok-a.ensures.inside) all items old.items.levels start g.R.Source.refusals (code_of e) (offset_of e) c.in_ok-access.ensures.head
     (part_lacks s0 (Then (ra old.items.formats) c.in_ok-a.a (Then (rb old.items.formats) c.in_ok-b.b Empty)) old.items.formats c.part-2.new.self.de.now.items.formats first.items.levels c.part-2.new.self.de.now.items.levels (c.part-2.ensures.formats ∙ (c.part.ensures.formats ∙ c.in_ok-access.ensures.formats)) (c.in_ok-b.ensures.inside ∙ c.in_ok-a.ensures.inside) all rc c.part-2.new.self.remaining (g.R.Source.source c.part-2.new.self.de.now.items.source) items g.R.Source.refusals (code_of e) (offset_of e)
-    (λ front more t h means. (then_rest (ra old.items.formats) c.in_ok-a.a t.0 (Then (rb old.items.formats) c.in_ok-b.b Empty) (FirstThen (rb old.items.formats) t.1 (FirstThen (rc old.items.formats) t.2 (FirstThen (rd old.items.formats) t.3 AreNone))) (MustFollow (rc old.items.formats)) (then_rest (rb old.items.formats) c.in_ok-b.b t.1 Empty (FirstThen (rc old.items.formats) t.2 (FirstThen (rd old.items.formats) t.3 AreNone)) (MustFollow (rc old.items.formats)) (empty_rest (MustFollow (rc old.items.formats)) (FirstThen (rc old.items.formats) t.2 (FirstThen (rd old.items.formats) t.3 AreNone)) (λ more means. first_follows (rc old.items.formats) t.2 (FirstThen (rd old.items.formats) t.3 AreNone) more means)))) front more h means) so2 c.in_err-c.ensures.read))
+    (λ front more t h means. (then_rest (ra old.items.formats) c.in_ok-a.a t.0 (Then (rb old.items.formats) c.in_ok-b.b Empty) (FirstThen (rb old.items.formats) t.1 (FirstThen (rc old.items.formats) t.2 (FirstThen (rd old.items.formats) t.3 AreNone))) (MustFollow (rc old.items.formats)) (then_rest (rb old.items.formats) c.in_ok-b.b t.1 Empty (FirstThen (rc old.items.formats) t.2 (FirstThen (rd old.items.formats) t.3 AreNone)) (MustFollow (rc old.items.formats)) (empty_rest (MustFollow (rc old.items.formats)) (FirstThen (rc old.items.formats) t.2 (FirstThen (rd old.items.formats) t.3 AreNone)) (λ more means. first_follows (rc old.items.formats) t.2 (FirstThen (rd old.items.formats) t.3 AreNone) more means)))) front more h means) so2 c.in_err-c.ensures.read)) (took_same (search rules)))
 
 pub returns-in_err-d-clause-read : goal.returns-in_err-d-clause-read
 returns-in_err-d-clause-read g c =
@@ -112,9 +114,9 @@ returns-in_err-d-clause-read g c =
     rc c.part-2.new.self.remaining (g.R.Source.source c.part-2.new.self.de.now.items.source) (Then (ra old.items.formats) c.in_ok-a.a (Then (rb old.items.formats) c.in_ok-b.b (Then (rc old.items.formats) c.in_ok-c.c Empty))) c.part-3.new.self.remaining (g.R.Source.source c.part-3.new.self.de.now.items.source) c.in_ok-c.c
     (λ front r h m. (then_more (ra old.items.formats) c.in_ok-a.a (Then (rb old.items.formats) c.in_ok-b.b Empty) (Then (rb old.items.formats) c.in_ok-b.b (Then (rc old.items.formats) c.in_ok-c.c Empty)) r (then_more (rb old.items.formats) c.in_ok-b.b Empty (Then (rc old.items.formats) c.in_ok-c.c Empty) r (one_more (rc old.items.formats) c.in_ok-c.c r m))) front h) so2 c.in_ok-c.ensures.read in
     let e = c.in_err-d.field-0.0 in
-    rw (passed.1, passed.2) (array_refused s0 (Then (ra old.items.formats) c.in_ok-a.a (Then (rb old.items.formats) c.in_ok-b.b (Then (rc old.items.formats) c.in_ok-c.c Empty))) old.items.formats c.part-3.new.self.de.now.items.formats first.items.levels c.part-3.new.self.de.now.items.levels (c.part-3.ensures.formats ∙ (c.part-2.ensures.formats ∙ (c.part.ensures.formats ∙ c.in_ok-access.ensures.formats))) (c.in_ok-c.ensures.inside ∙ (c.in_ok-b.ensures.inside ∙ c.in_ok-a.ensures.inside)) all items old.items.levels start g.R.Source.refusals (code_of e) (offset_of e) c.in_ok-access.ensures.head
+    rw (passed.1, passed.2) (refuses_on (array_refused s0 (Then (ra old.items.formats) c.in_ok-a.a (Then (rb old.items.formats) c.in_ok-b.b (Then (rc old.items.formats) c.in_ok-c.c Empty))) old.items.formats c.part-3.new.self.de.now.items.formats first.items.levels c.part-3.new.self.de.now.items.levels (c.part-3.ensures.formats ∙ (c.part-2.ensures.formats ∙ (c.part.ensures.formats ∙ c.in_ok-access.ensures.formats))) (c.in_ok-c.ensures.inside ∙ (c.in_ok-b.ensures.inside ∙ c.in_ok-a.ensures.inside)) all items old.items.levels start g.R.Source.refusals (code_of e) (offset_of e) c.in_ok-access.ensures.head
     (part_lacks s0 (Then (ra old.items.formats) c.in_ok-a.a (Then (rb old.items.formats) c.in_ok-b.b (Then (rc old.items.formats) c.in_ok-c.c Empty))) old.items.formats c.part-3.new.self.de.now.items.formats first.items.levels c.part-3.new.self.de.now.items.levels (c.part-3.ensures.formats ∙ (c.part-2.ensures.formats ∙ (c.part.ensures.formats ∙ c.in_ok-access.ensures.formats))) (c.in_ok-c.ensures.inside ∙ (c.in_ok-b.ensures.inside ∙ c.in_ok-a.ensures.inside)) all rd c.part-3.new.self.remaining (g.R.Source.source c.part-3.new.self.de.now.items.source) items g.R.Source.refusals (code_of e) (offset_of e)
-    (λ front more t h means. (then_rest (ra old.items.formats) c.in_ok-a.a t.0 (Then (rb old.items.formats) c.in_ok-b.b (Then (rc old.items.formats) c.in_ok-c.c Empty)) (FirstThen (rb old.items.formats) t.1 (FirstThen (rc old.items.formats) t.2 (FirstThen (rd old.items.formats) t.3 AreNone))) (MustFollow (rd old.items.formats)) (then_rest (rb old.items.formats) c.in_ok-b.b t.1 (Then (rc old.items.formats) c.in_ok-c.c Empty) (FirstThen (rc old.items.formats) t.2 (FirstThen (rd old.items.formats) t.3 AreNone)) (MustFollow (rd old.items.formats)) (then_rest (rc old.items.formats) c.in_ok-c.c t.2 Empty (FirstThen (rd old.items.formats) t.3 AreNone) (MustFollow (rd old.items.formats)) (empty_rest (MustFollow (rd old.items.formats)) (FirstThen (rd old.items.formats) t.3 AreNone) (λ more means. first_follows (rd old.items.formats) t.3 AreNone more means))))) front more h means) so3 c.in_err-d.ensures.read))
+    (λ front more t h means. (then_rest (ra old.items.formats) c.in_ok-a.a t.0 (Then (rb old.items.formats) c.in_ok-b.b (Then (rc old.items.formats) c.in_ok-c.c Empty)) (FirstThen (rb old.items.formats) t.1 (FirstThen (rc old.items.formats) t.2 (FirstThen (rd old.items.formats) t.3 AreNone))) (MustFollow (rd old.items.formats)) (then_rest (rb old.items.formats) c.in_ok-b.b t.1 (Then (rc old.items.formats) c.in_ok-c.c Empty) (FirstThen (rc old.items.formats) t.2 (FirstThen (rd old.items.formats) t.3 AreNone)) (MustFollow (rd old.items.formats)) (then_rest (rc old.items.formats) c.in_ok-c.c t.2 Empty (FirstThen (rd old.items.formats) t.3 AreNone) (MustFollow (rd old.items.formats)) (empty_rest (MustFollow (rd old.items.formats)) (FirstThen (rd old.items.formats) t.3 AreNone) (λ more means. first_follows (rd old.items.formats) t.3 AreNone more means))))) front more h means) so3 c.in_err-d.ensures.read)) (took_same (search rules)))
 
 pub returns-in_err-end-clause-read : goal.returns-in_err-end-clause-read
 returns-in_err-end-clause-read g c =
@@ -143,9 +145,9 @@ returns-in_err-end-clause-read g c =
     rd c.part-3.new.self.remaining (g.R.Source.source c.part-3.new.self.de.now.items.source) (Then (ra old.items.formats) c.in_ok-a.a (Then (rb old.items.formats) c.in_ok-b.b (Then (rc old.items.formats) c.in_ok-c.c (Then (rd old.items.formats) c.in_ok-d.d Empty)))) c.part-4.new.self.remaining (g.R.Source.source c.part-4.new.self.de.now.items.source) c.in_ok-d.d
     (λ front r h m. (then_more (ra old.items.formats) c.in_ok-a.a (Then (rb old.items.formats) c.in_ok-b.b (Then (rc old.items.formats) c.in_ok-c.c Empty)) (Then (rb old.items.formats) c.in_ok-b.b (Then (rc old.items.formats) c.in_ok-c.c (Then (rd old.items.formats) c.in_ok-d.d Empty))) r (then_more (rb old.items.formats) c.in_ok-b.b (Then (rc old.items.formats) c.in_ok-c.c Empty) (Then (rc old.items.formats) c.in_ok-c.c (Then (rd old.items.formats) c.in_ok-d.d Empty)) r (then_more (rc old.items.formats) c.in_ok-c.c Empty (Then (rd old.items.formats) c.in_ok-d.d Empty) r (one_more (rd old.items.formats) c.in_ok-d.d r m)))) front h) so3 c.in_ok-d.ensures.read in
     let e = c.in_err-end.field-0.0 in
-    rw (passed.1, passed.2) (array_refused s0 (Then (ra old.items.formats) c.in_ok-a.a (Then (rb old.items.formats) c.in_ok-b.b (Then (rc old.items.formats) c.in_ok-c.c (Then (rd old.items.formats) c.in_ok-d.d Empty)))) old.items.formats c.part-4.new.self.de.now.items.formats first.items.levels c.part-4.new.self.de.now.items.levels (c.part-4.ensures.formats ∙ (c.part-3.ensures.formats ∙ (c.part-2.ensures.formats ∙ (c.part.ensures.formats ∙ c.in_ok-access.ensures.formats)))) (c.in_ok-d.ensures.inside ∙ (c.in_ok-c.ensures.inside ∙ (c.in_ok-b.ensures.inside ∙ c.in_ok-a.ensures.inside))) all items old.items.levels start g.R.Source.refusals (code_of e) (offset_of e) c.in_ok-access.ensures.head
+    rw (passed.1, passed.2) (refuses_on (array_refused s0 (Then (ra old.items.formats) c.in_ok-a.a (Then (rb old.items.formats) c.in_ok-b.b (Then (rc old.items.formats) c.in_ok-c.c (Then (rd old.items.formats) c.in_ok-d.d Empty)))) old.items.formats c.part-4.new.self.de.now.items.formats first.items.levels c.part-4.new.self.de.now.items.levels (c.part-4.ensures.formats ∙ (c.part-3.ensures.formats ∙ (c.part-2.ensures.formats ∙ (c.part.ensures.formats ∙ c.in_ok-access.ensures.formats)))) (c.in_ok-d.ensures.inside ∙ (c.in_ok-c.ensures.inside ∙ (c.in_ok-b.ensures.inside ∙ c.in_ok-a.ensures.inside))) all items old.items.levels start g.R.Source.refusals (code_of e) (offset_of e) c.in_ok-access.ensures.head
     (end_lacks s0 (Then (ra old.items.formats) c.in_ok-a.a (Then (rb old.items.formats) c.in_ok-b.b (Then (rc old.items.formats) c.in_ok-c.c (Then (rd old.items.formats) c.in_ok-d.d Empty)))) old.items.formats c.part-4.new.self.de.now.items.formats first.items.levels c.part-4.new.self.de.now.items.levels (c.part-4.ensures.formats ∙ (c.part-3.ensures.formats ∙ (c.part-2.ensures.formats ∙ (c.part.ensures.formats ∙ c.in_ok-access.ensures.formats)))) (c.in_ok-d.ensures.inside ∙ (c.in_ok-c.ensures.inside ∙ (c.in_ok-b.ensures.inside ∙ c.in_ok-a.ensures.inside))) all items g.R.Source.refusals c.part-4.new.self.remaining (g.R.Source.source c.part-4.new.self.de.now.items.source) (g.R.Source.source c.end.new.self.0.items.source) e
-    (λ front more t h means. (then_rest (ra old.items.formats) c.in_ok-a.a t.0 (Then (rb old.items.formats) c.in_ok-b.b (Then (rc old.items.formats) c.in_ok-c.c (Then (rd old.items.formats) c.in_ok-d.d Empty))) (FirstThen (rb old.items.formats) t.1 (FirstThen (rc old.items.formats) t.2 (FirstThen (rd old.items.formats) t.3 AreNone))) AreNone (then_rest (rb old.items.formats) c.in_ok-b.b t.1 (Then (rc old.items.formats) c.in_ok-c.c (Then (rd old.items.formats) c.in_ok-d.d Empty)) (FirstThen (rc old.items.formats) t.2 (FirstThen (rd old.items.formats) t.3 AreNone)) AreNone (then_rest (rc old.items.formats) c.in_ok-c.c t.2 (Then (rd old.items.formats) c.in_ok-d.d Empty) (FirstThen (rd old.items.formats) t.3 AreNone) AreNone (then_rest (rd old.items.formats) c.in_ok-d.d t.3 Empty AreNone AreNone (empty_rest AreNone AreNone (λ more means. means)))))) front more h means) so4 c.in_err-end.ensures.read))
+    (λ front more t h means. (then_rest (ra old.items.formats) c.in_ok-a.a t.0 (Then (rb old.items.formats) c.in_ok-b.b (Then (rc old.items.formats) c.in_ok-c.c (Then (rd old.items.formats) c.in_ok-d.d Empty))) (FirstThen (rb old.items.formats) t.1 (FirstThen (rc old.items.formats) t.2 (FirstThen (rd old.items.formats) t.3 AreNone))) AreNone (then_rest (rb old.items.formats) c.in_ok-b.b t.1 (Then (rc old.items.formats) c.in_ok-c.c (Then (rd old.items.formats) c.in_ok-d.d Empty)) (FirstThen (rc old.items.formats) t.2 (FirstThen (rd old.items.formats) t.3 AreNone)) AreNone (then_rest (rc old.items.formats) c.in_ok-c.c t.2 (Then (rd old.items.formats) c.in_ok-d.d Empty) (FirstThen (rd old.items.formats) t.3 AreNone) AreNone (then_rest (rd old.items.formats) c.in_ok-d.d t.3 Empty AreNone AreNone (empty_rest AreNone AreNone (λ more means. means)))))) front more h means) so4 c.in_err-end.ensures.read)) (took_same (search rules)))
 
 pub returns-clause-read : goal.returns-clause-read
 returns-clause-read g c =

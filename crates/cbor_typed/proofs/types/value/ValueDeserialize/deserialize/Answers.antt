@@ -17,7 +17,7 @@ returns-in-Ok-clause-read g c =
 pub returns-in-Err-clause-read : goal.returns-in-Err-clause-read
 returns-in-Err-clause-read g c =
     let d = c.args.de.now.items in
-    value_refused g.R.Source.refusals (formats_of d.formats) d.levels (g.R.Source.source d.source) AsValue c.value.new.self.refusal c.in-Err.refused c.error.result c.error.ensures.tells c.in-Err.ensures.read
+    rw c.error.ensures.source (value_refused g.R.Source.refusals (formats_of d.formats) d.levels (g.R.Source.source d.source) AsValue c.value.new.self.refusal c.in-Err.refused c.error.result c.error.ensures.tells c.in-Err.ensures.read)
 
 pub returns-in-Err-clause-memory : goal.returns-in-Err-clause-memory
 returns-in-Err-clause-memory g c = λ is bs tells x rest got.
