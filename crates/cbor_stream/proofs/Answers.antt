@@ -107,7 +107,7 @@ module _ {A : Type 0} (reads : Formats → Raw → A → Type 0) (total : Bool) 
           tells = got.tells;
           bytes = behind_bytes (spell r) got.rest (subst AreBytes here.spelled o.bytes);
           end_is = got.total ∙ o.end_is;
-          room_is = item.room ∙ o.room_is;
+          room_is = item.took.room ∙ o.room_is;
         };
       }
 

@@ -1,14 +1,16 @@
 -- A tag before which a byte was looked at.
-use Rattle.std.proofs.Common.{◌≡◌, ℕ, List, Option, Some, None, Result, Ok, Err, IfOk, IfSome, sym, subst}
+use Rattle.std.proofs.Common.{◌≡◌, ℕ, Bool, List, Option, Some, None, Result, Ok, Err, IfErr, IfOk, IfSome, sym, subst}
 use Rattle.cbor_model.specs.Head.{HeadWidth}
 use Rattle.cbor_model.specs.Reader.{item_at, inside, tag_at}
 use Rattle.cbor_io.specs.declared.error.Error.{Error}
-use Rattle.cbor_read.specs.Source.{Input, Stays}
+use Rattle.cbor_io.specs.declared.read_error.ReadErrorCode.{ReadErrorCode}
+use Rattle.cbor_read.specs.Source.{Input, Stays, TookSome}
 use Rattle.cbor_de.specs.Gives.{Limits}
 use Rattle.cbor_de.specs.declared.formats.Formats.{Formats}
-use Rattle.cbor_de.proofs.facts.Steps.{none_step, step_then}
-use Rattle.cbor_scalars.specs.Tags.{TagIs}
-use Rattle.cbor_scalars.specs.Takes.{formats_of, raws}
+use Rattle.cbor_de.proofs.facts.Steps.{none_step, some_then, step_then, took_stays}
+use Rattle.cbor_scalars.specs.Tags.{ReadsTag, TagIs, tag_head_at}
+use Rattle.cbor_scalars.specs.Takes.{TellsFault, formats_of, raws}
+use Rattle.cbor_tags.proofs.Tags.{told_then}
 
 -- it stood there before, where as many levels were left and the same formats were read
 pub tag_peeked : (s m t : Input) → Stays s m → (f g : Formats) → g ≡ f → (levels left : ℕ) → left ≡ levels → (r : Result (Option ℕ) Error)
@@ -20,3 +22,16 @@ tag_peeked s m t stays f g same levels left as_many (Ok (Some n)) tag =
     step_then s m t (λ l bs rest. bs ≡ rest) P P (λ l bs mid rest there is. subst (λ (q : List ℕ). P l q rest) (sym there) is) (none_step s m stays.bytes stays.count stays.room) here
 tag_peeked s m t stays f g same levels left as_many (Ok None) tag = tt
 tag_peeked s m t stays f g same levels left as_many (Err e) tag = tt
+
+-- or couldn't be read
+pub untold_peeked : (allowed : ReadErrorCode → Bool) (s m t : Input) → Stays s m → (levels left : ℕ) → left ≡ levels → (r : Result (Option ℕ) Error)
+    → ReadsTag allowed left m t r → IfErr r (TellsFault allowed (λ l. tag_head_at levels) s)
+untold_peeked allowed s m t stays levels left as_many (Ok o) h = tt
+untold_peeked allowed s m t stays levels left as_many (Err e) h =
+    let here = subst (λ (k : ℕ). TellsFault allowed (λ l. tag_head_at k) m e) as_many h.1 in
+    told_then allowed (λ l. tag_head_at levels) (λ l. tag_head_at levels) s m e (λ l bs rest. bs ≡ rest)
+    (λ l bs mid f same stops. subst (λ (q : List ℕ). tag_head_at levels q ≡ Err f) (sym same) stops) (none_step s m stays.bytes stays.count stays.room) here
+
+pub took_peeked : (allowed : ReadErrorCode → Bool) (s m t : Input) → Stays s m → (levels : ℕ) (r : Result (Option ℕ) Error) → ReadsTag allowed levels m t r → IfErr r (λ e. TookSome s t)
+took_peeked allowed s m t stays levels (Ok o) h = tt
+took_peeked allowed s m t stays levels (Err e) h = some_then s m t (took_stays s m stays) h.0

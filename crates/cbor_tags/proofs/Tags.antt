@@ -7,7 +7,7 @@ use Rattle.cbor_model.specs.Raw.{Raw}
 use Rattle.cbor_model.specs.Reader.{Fault, Reads, ◌>>=◌, item_at, inside, tag_at}
 use Rattle.cbor_model.specs.Value.{value}
 use Rattle.cbor_model.proofs.facts.Reader.{ok_is}
-use Rattle.cbor_read.specs.Source.{Input}
+use Rattle.cbor_read.specs.Source.{Input, TookSome}
 use Rattle.cbor_io.specs.declared.error.ErrorCode.{ErrorCode}
 use Rattle.cbor_io.specs.declared.read_error.ReadErrorCode.{ReadErrorCode}
 use Rattle.cbor_de.specs.Gives.{FailsBy, Limits, Reports, Step, limits, values}
@@ -89,7 +89,7 @@ module _ (f : Formats) (levels left n : ℕ) (one : levels ≡ left + 1) where
     inner_read w (Err e) r t rest is means = absurd cc
 
     -- a tag, and nothing that is read within
-    pub tag_unread : (allowed : ReadErrorCode → Bool) (s m : Input) (k : ErrorCode) (at : ℕ) → TagIs f levels n s m → Refuses allowed m k at (λ l bs. IsNotRead reads (item_at (raws f l) left bs)) → Refuses allowed s k at (λ l bs. IsNotRead Tags (item_at (raws f l) levels bs))
+    pub tag_unread : {t : Input} (allowed : ReadErrorCode → Bool) (s m : Input) (k : ErrorCode) (at : ℕ) → TagIs f levels n s m → Refuses allowed m t k at (λ l bs. IsNotRead reads (item_at (raws f l) left bs)) → Refuses allowed s t k at (λ l bs. IsNotRead Tags (item_at (raws f l) levels bs))
     tag_unread allowed s m k at step h =
         refuses_then allowed s k at m (λ l bs rest. (w : HeadWidth) × (item_at (raws f l) levels bs ≡ tag_at (raws f l) (inside (raws f l) levels) w n rest)) (λ l bs. IsNotRead reads (item_at (raws f l) left bs)) (λ l bs. IsNotRead Tags (item_at (raws f l) levels bs))
         (λ l bs mid tag none t rest got. none (value_of t) rest (inner_read tag.0 (item_at (raws f l) left mid) got.item t rest (sym (tag_within l bs mid tag.0 tag.1) ∙ got.is) got.means)) step h
@@ -116,7 +116,7 @@ module _ {A T : Type 0} (reads : Raw → A → Type 0) (tag_of : T → Option �
       }) one two
 
   -- and nothing that is read
-  pub untagged_refused : (allowed : ReadErrorCode → Bool) (s m : Input) (k : ErrorCode) (at : ℕ) → StandsNoTag s m → Refuses allowed m k at (λ l bs. IsNotRead reads (item_at (raws f l) levels bs)) → Refuses allowed s k at (λ l bs. IsNotRead AsTagged (item_at (raws f l) levels bs))
+  pub untagged_refused : {t : Input} (allowed : ReadErrorCode → Bool) (s m : Input) (k : ErrorCode) (at : ℕ) → StandsNoTag s m → Refuses allowed m t k at (λ l bs. IsNotRead reads (item_at (raws f l) levels bs)) → Refuses allowed s t k at (λ l bs. IsNotRead AsTagged (item_at (raws f l) levels bs))
   untagged_refused allowed s m k at step h =
       refuses_then allowed s k at m (λ l bs rest. (rest ≡ bs) × BeginsNoTag bs) (λ l bs. IsNotRead reads (item_at (raws f l) levels bs)) (λ l bs. IsNotRead AsTagged (item_at (raws f l) levels bs))
       (λ l bs mid none lacks t rest got. lacks (value_of t) rest (record {
@@ -126,10 +126,10 @@ module _ {A T : Type 0} (reads : Raw → A → Type 0) (tag_of : T → Option �
       })) step h
 
   -- a tag's head that can't be read
-  pub head_refused : (allowed : ReadErrorCode → Bool) (s : Input) (e : Error) → TellsFault allowed (λ l. tag_head_at levels) s e → Refuses allowed s (code_of e) (offset_of e) (λ l bs. IsNotRead AsTagged (item_at (raws f l) levels bs))
-  head_refused allowed s e told =
+  pub head_refused : {t : Input} (allowed : ReadErrorCode → Bool) (s : Input) (e : Error) → TookSome s t → TellsFault allowed (λ l. tag_head_at levels) s e → Refuses allowed s t (code_of e) (offset_of e) (λ l bs. IsNotRead AsTagged (item_at (raws f l) levels bs))
+  head_refused allowed s e took told =
       refuses_fault allowed (λ l. tag_head_at levels) s e (λ l bs. IsNotRead AsTagged (item_at (raws f l) levels bs))
-      (λ l bs fault stops t rest got. differs (sym (tag_stops (raws f l) levels bs fault stops) ∙ got.is)) told
+      (λ l bs fault stops t rest got. differs (sym (tag_stops (raws f l) levels bs fault stops) ∙ got.is)) took told
     where
       differs : {fault : Fault} {r : Raw} {rest : List ℕ} → ◌≡◌ {A = Reads Raw} (Err fault) (Ok (r, rest)) → ⊥
       differs h = absurd cc
@@ -141,14 +141,14 @@ where_total false f h = tt
 where_total true f h = f h
 
 -- what is told after a step is told before it, where the one fault is the other
-told_then : {A B : Type 0} (allowed : ReadErrorCode → Bool) (read : Limits → List ℕ → Reads A) (read' : Limits → List ℕ → Reads B) (s m : Input) (e : Error) (P : Limits → List ℕ → List ℕ → Type 0)
+pub told_then : {A B : Type 0} (allowed : ReadErrorCode → Bool) (read : Limits → List ℕ → Reads A) (read' : Limits → List ℕ → Reads B) (s m : Input) (e : Error) (P : Limits → List ℕ → List ℕ → Type 0)
     → ((l : Limits) (bs mid : List ℕ) (f : Fault) → P l bs mid → read l mid ≡ Err f → read' l bs ≡ Err f) → Step s m P → TellsFault allowed read m e → TellsFault allowed read' s e
 told_then allowed read read' s m e P on step tells bs is =
     let one = step.told bs is in
     let device = Reports allowed in
     let code = code_of e in
     let at = offset_of e in
-    let same : limits m one.rest ≡ limits s bs = ap₂ (λ (n : ℕ) (r : Option ℕ). record { total = n; room = r }) one.total step.room in
+    let same : limits m one.rest ≡ limits s bs = ap₂ (λ (n : ℕ) (r : Option ℕ). record { total = n; room = r }) one.total step.took.room in
     let there = subst (λ (n : ℕ). FailsBy device code n at (read (limits m one.rest) one.rest)) one.total (tells one.rest one.tells) in
     let here = subst (λ (l : Limits). FailsBy device code (s.offset + length bs) at (read l one.rest)) same there in
     passed_on device code (s.offset + length bs) at (read (limits s bs) one.rest) (read' (limits s bs) bs) (λ f. on (limits s bs) bs one.rest f one.holds) here

@@ -1,6 +1,7 @@
 //! The tag at the front.
 
 ghost use Rattle.std.specs.Prelude.{◌≡◌, IfOk, IfErr, IfSome, IfNone};
+ghost use Rattle.cbor_read.specs.Source.{TookSome};
 ghost use Rattle.cbor_scalars.specs.Takes.{formats_of, TellsFault};
 ghost use Rattle.cbor_scalars.specs.Tags.{tag_head_at, LevelsBehind, TagIs};
 ghost use Rattle.cbor_tags.specs.Tagged.{StandsNoTag};
@@ -20,6 +21,8 @@ pub(crate) fn outermost<R: Source>(de: &mut Deserializer<R>) -> Result<Option<u6
         (StandsNoTag (R.source de.old.items.source) (R.source de.new.items.source))) }
     ensures refused { IfErr result (TellsFault R.refusals (λ l. tag_head_at de.old.items.levels)
         (R.source de.old.items.source)) }
+    ensures took { IfErr result (λ e. TookSome (R.source de.old.items.source)
+        (R.source de.new.items.source)) }
     ensures levels { LevelsBehind result de.old.items.levels de.new.items.levels }
     ensures formats { de.new.items.formats ≡ de.old.items.formats }
 {

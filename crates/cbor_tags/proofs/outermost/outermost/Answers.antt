@@ -5,7 +5,7 @@ use Rattle.cbor_de.specs.declared.refusal.Refused.TheVariants.{Kept}
 use Rattle.cbor_scalars.specs.Tags.{tag_head_at}
 use Rattle.cbor_scalars.proofs.facts.Refusals.{told_by}
 use Rattle.cbor_de.proofs.facts.Steps.{source_stops, byte_refused}
-use Rattle.cbor_tags.proofs.Peeked.{tag_peeked}
+use Rattle.cbor_tags.proofs.Peeked.{tag_peeked, took_peeked, untold_peeked}
 use Rattle.cbor_tags.proofs.outermost.outermost.Goals as goal
 
 pub returns-in-Ok-Some-clause-item : goal.returns-in-Ok-Some-clause-item
@@ -21,4 +21,21 @@ returns-in-Err-clause-refused g c =
     let read : Limits → List ℕ → Reads (Option ℕ) = λ l. tag_head_at c.args.de.now.items.levels in
     let e = c.in-Err.refusal in
     told_by g.R.Source.refusals read s (Some e) Kept c.error_of.result c.error_of.ensures.tells
-    (source_stops g.R.Source.refusals s read (Some e) Kept e refl refl (byte_refused g.R.Source.refusals s _ e read c.in-Err.ensures.err))
+    (source_stops g.R.Source.refusals s read (Some e) Kept e refl refl c.in-Err.ensures.err.refused.moved (byte_refused g.R.Source.refusals s _ e read c.in-Err.ensures.err))
+
+pub returns-in-Err-clause-took : goal.returns-in-Err-clause-took
+returns-in-Err-clause-took g c = rw c.error_of.ensures.source c.in-Err.ensures.err.refused.moved
+
+pub returns-in-Ok-Some-clause-refused : goal.returns-in-Ok-Some-clause-refused
+returns-in-Ok-Some-clause-refused g c =
+    let old = c.args.de.now.items in
+    let mid = c.peek.new.de.items in
+    untold_peeked g.R.Source.refusals (g.R.Source.source old.source) (g.R.Source.source mid.source) (g.R.Source.source c.read_tag.new.self.items.source) c.in-Ok-Some.ensures.stays
+    old.levels mid.levels c.peek.ensures.levels c.read_tag.result c.read_tag.ensures.read
+
+pub returns-in-Ok-Some-clause-took : goal.returns-in-Ok-Some-clause-took
+returns-in-Ok-Some-clause-took g c =
+    let old = c.args.de.now.items in
+    let mid = c.peek.new.de.items in
+    took_peeked g.R.Source.refusals (g.R.Source.source old.source) (g.R.Source.source mid.source) (g.R.Source.source c.read_tag.new.self.items.source) c.in-Ok-Some.ensures.stays
+    mid.levels c.read_tag.result c.read_tag.ensures.read

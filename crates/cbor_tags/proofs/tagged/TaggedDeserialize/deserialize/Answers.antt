@@ -9,7 +9,8 @@ use Rattle.cbor_de.specs.declared.formats.Formats.{Formats}
 use Rattle.cbor_scalars.specs.Takes.{raws, context, formats_of, IsRead, IsNotRead, Refuses, TellsItem}
 use Rattle.cbor_tags.specs.declared.tagged.Tagged.{Tagged}
 use Rattle.cbor_tags.proofs.Tags.{tag_read, tag_unread, untagged_taken, untagged_refused, head_refused, tag_told, untagged_told, head_told}
-use Rattle.cbor_scalars.proofs.facts.Refusals.{item_total}
+use Rattle.cbor_de.proofs.facts.Steps.{took_same}
+use Rattle.cbor_scalars.proofs.facts.Refusals.{item_total, refuses_on}
 use Rattle.cbor_tags.proofs.tagged.TaggedDeserialize.deserialize.Goals as goal
 
 pub leave_tag-requires : goal.leave_tag-requires
@@ -43,12 +44,14 @@ returns-in-Err-value-clause-read g c =
     let m = g.R.Source.source mid.items.source in
     let f = formats_of old.items.formats in
     let reads = g.T.Readable.reads (context old.items.formats g.R.Source.lends) in
+    let t = g.R.Source.source c.deserialize-value.new.de.items.source in
     let k = code_of c.in-Err-value.e in
     let at = offset_of c.in-Err-value.e in
     let one = rw c.in-Ok-Some.field-0-is at c.in-Ok-Some.ensures.levels in
     let tag = rw c.in-Ok-Some.field-0-is at c.in-Ok-Some.ensures.item in
-    let stops = subst (λ (q : Formats). Refuses g.R.Source.refusals m k at (λ l bs. IsNotRead (g.T.Readable.reads (context q g.R.Source.lends)) (item_at (raws (formats_of q) l) mid.items.levels bs))) c.in-Ok-Some.ensures.formats c.in-Err-value.ensures.read in
-    tag_unread f old.items.levels mid.items.levels c.in-Ok-Some.tag one reads (λ (w : Tagged g.row.T.Denot). w.tag) (λ (w : Tagged g.row.T.Denot). w.value) g.R.Source.refusals s m k at tag stops
+    let stops = subst (λ (q : Formats). Refuses g.R.Source.refusals m t k at (λ l bs. IsNotRead (g.T.Readable.reads (context q g.R.Source.lends)) (item_at (raws (formats_of q) l) mid.items.levels bs))) c.in-Ok-Some.ensures.formats c.in-Err-value.ensures.read in
+    refuses_on (tag_unread f old.items.levels mid.items.levels c.in-Ok-Some.tag one reads (λ (w : Tagged g.row.T.Denot). w.tag) (λ (w : Tagged g.row.T.Denot). w.value) g.R.Source.refusals s m k at tag stops)
+    (took_same (ap g.R.Source.source c.leave_tag.ensures.source))
 
 pub returns-in-Ok-deserialize-clause-read : goal.returns-in-Ok-deserialize-clause-read
 returns-in-Ok-deserialize-clause-read g c =
@@ -77,16 +80,17 @@ returns-in-Err-deserialize-clause-read g c =
     let reads = g.T.Readable.reads (context old.items.formats g.R.Source.lends) in
     let levels : mid.items.levels ≡ old.items.levels = rw c.in-Ok-None.field-0-is at c.in-Ok-None.ensures.levels in
     let none : StandsNoTag s m = rw c.in-Ok-None.field-0-is at c.in-Ok-None.ensures.none in
+    let t = g.R.Source.source c.deserialize.new.de.items.source in
     let k = code_of c.in-Err-deserialize.e in
     let at = offset_of c.in-Err-deserialize.e in
-    let stops = subst (λ (n : ℕ). Refuses g.R.Source.refusals m k at (λ l bs. IsNotRead reads (item_at (raws f l) n bs))) levels
-    (subst (λ (q : Formats). Refuses g.R.Source.refusals m k at (λ l bs. IsNotRead (g.T.Readable.reads (context q g.R.Source.lends)) (item_at (raws (formats_of q) l) mid.items.levels bs))) c.in-Ok-None.ensures.formats c.in-Err-deserialize.ensures.read) in
+    let stops = subst (λ (n : ℕ). Refuses g.R.Source.refusals m t k at (λ l bs. IsNotRead reads (item_at (raws f l) n bs))) levels
+    (subst (λ (q : Formats). Refuses g.R.Source.refusals m t k at (λ l bs. IsNotRead (g.T.Readable.reads (context q g.R.Source.lends)) (item_at (raws (formats_of q) l) mid.items.levels bs))) c.in-Ok-None.ensures.formats c.in-Err-deserialize.ensures.read) in
     untagged_refused reads (λ (w : Tagged g.row.T.Denot). w.tag) (λ (w : Tagged g.row.T.Denot). w.value) f old.items.levels g.R.Source.refusals s m k at none stops
 
 pub returns-in-Err-clause-read : goal.returns-in-Err-clause-read
 returns-in-Err-clause-read g c =
     let old = c.args.de.now in
-    head_refused (g.T.Readable.reads (context old.items.formats g.R.Source.lends)) (λ (w : Tagged g.row.T.Denot). w.tag) (λ (w : Tagged g.row.T.Denot). w.value) (formats_of old.items.formats) old.items.levels g.R.Source.refusals (g.R.Source.source old.items.source) c.in-Err.e c.in-Err.ensures.refused
+    head_refused (g.T.Readable.reads (context old.items.formats g.R.Source.lends)) (λ (w : Tagged g.row.T.Denot). w.tag) (λ (w : Tagged g.row.T.Denot). w.value) (formats_of old.items.formats) old.items.levels g.R.Source.refusals (g.R.Source.source old.items.source) c.in-Err.e c.in-Err.ensures.took c.in-Err.ensures.refused
 
 pub returns-in-Err-value-clause-fault : goal.returns-in-Err-value-clause-fault
 returns-in-Err-value-clause-fault g c =
