@@ -4,7 +4,7 @@ use Rattle.std.specs.Option.{is_some}
 use Rattle.std.specs.Prelude.{Result, IsErrAnd}
 use Rattle.cbor_model.specs.Formats as model
 use Rattle.cbor_model.specs.Reader.{item_at}
-use Rattle.cbor_read.specs.Source.{Input}
+use Rattle.cbor_read.specs.Source.{Input, TookSome}
 use Rattle.cbor_io.specs.Error.{code_of, offset_of}
 use Rattle.cbor_io.specs.declared.error.Error.{Error}
 use Rattle.cbor_io.specs.declared.read_error.ReadErrorCode.{ReadErrorCode}
@@ -16,6 +16,8 @@ use Rattle.cbor_described.specs.FieldLists.{over, IsLacking, slots_over, FieldTa
 use Rattle.cbor_collections.specs.MapAccesses.{IsMapHead}
 use Rattle.cbor_typed.specs.Structs.{FieldOf, IsAny, IsStruct}
 use Rattle.cbor_scalars.specs.Takes.{TakesItem, formats_of, raws, IsRead, IsNotRead, Refuses}
+use Rattle.cbor_scalars.proofs.facts.Refusals.{refuses_on}
+use Rattle.cbor_collections.proofs.facts.Refusals.{refuses_map}
 use Rattle.cbor_typed.specs.declared.structure.Field.{Field}
 use Rattle.cbor_typed.specs.declared.structure.Field.TheVariants.{Known}
 use Rattle.cbor_typed.proofs.facts.Structs.{Has, LacksAt, ValueAt, reads_at, put}
@@ -56,11 +58,11 @@ module _ {S T : Type 0} (view : S → T) where
     taken_over (d ∷ fields) zero old new s t h = (h.0, ap (slots_over view fields) h.1, h.2)
     taken_over (d ∷ fields) (suc i) old new s t h = (h.0, taken_over fields i old.1 new.1 s t h.1)
 
-    pub refused_over : (allowed : ReadErrorCode → Bool) (fields : List (FieldOf T)) (i : ℕ) (old : Slots fields) (s : Input) (e : Error)
-        → FieldRefused f levels allowed fields i old s e → FieldRefused f levels allowed (over view fields) i (slots_over view fields old) s e
-    refused_over allowed [] i old s e h = h
-    refused_over allowed (d ∷ fields) zero old s e h = h
-    refused_over allowed (d ∷ fields) (suc i) old s e h = refused_over allowed fields i old.1 s e h
+    pub refused_over : (allowed : ReadErrorCode → Bool) (fields : List (FieldOf T)) (i : ℕ) (old : Slots fields) (s t : Input) (e : Error)
+        → FieldRefused f levels allowed fields i old s t e → FieldRefused f levels allowed (over view fields) i (slots_over view fields old) s t e
+    refused_over allowed [] i old s t e h = h
+    refused_over allowed (d ∷ fields) zero old s t e h = h
+    refused_over allowed (d ∷ fields) (suc i) old s t e h = refused_over allowed fields i old.1 s t e h
 
 -- ---- the call on a field, by those in front of it
 
@@ -93,7 +95,7 @@ module _ {S : Type 0} (f : model.Formats) (levels : ℕ) (allowed : ReadErrorCod
         taken_over view f levels fields i old new s t (subst (λ (i : ℕ). FieldTaken f levels fields i old new s t) same h)
     taken_behind [] i j is fs old new s t (Err e) h =
         let same : j ≡ i = omega (arith, is) in
-        refused_over view f levels allowed fields i old s e (subst (λ (i : ℕ). FieldRefused f levels allowed fields i old s e) same h)
+        refused_over view f levels allowed fields i old s t e (subst (λ (i : ℕ). FieldRefused f levels allowed fields i old s t e) same h)
     taken_behind (d ∷ front) zero j is fs old new s t r h = absurd (omega (arith, is))
     taken_behind (d ∷ front) (suc i) j is fs old new s t (Ok u) h =
         let before : i ≡ length front + j = omega (arith, is) in
@@ -124,16 +126,19 @@ module _ {S : Type 0} (f : model.Formats) (levels : ℕ) where
     | inr w ↦ inr (record { beyond = omega (arith, w.beyond); same = pair_is new old.0 old.1 h.0 w.same; read = w.read })
   ]
 
-  abbrev NotRead : (ReadErrorCode → Bool) → (fields : List (FieldOf S)) → ℕ → Slots fields → Input → Error → Type 0
-  NotRead allowed fields i old s e =
-      Has true fields i old
-      ⊎ ((Has false fields i old × Refuses allowed s (code_of e) (offset_of e) (λ l bs. IsNotRead (reads_at fields i) (item_at (raws f l) levels bs)))
-      ⊎ ((length fields ≤ i) × Refuses allowed s (code_of e) (offset_of e) (λ l bs. IsNotRead IsAny (item_at (raws f l) levels bs))))
+  abbrev NotRead : (ReadErrorCode → Bool) → (fields : List (FieldOf S)) → ℕ → Slots fields → Input → Input → Error → Type 0
+  NotRead allowed fields i old s t e =
+      (Has true fields i old × TookSome s t)
+      ⊎ ((Has false fields i old × Refuses allowed s t (code_of e) (offset_of e) (λ l bs. IsNotRead (reads_at fields i) (item_at (raws f l) levels bs)))
+      ⊎ ((length fields ≤ i) × Refuses allowed s t (code_of e) (offset_of e) (λ l bs. IsNotRead IsAny (item_at (raws f l) levels bs))))
 
-  refused_is : (allowed : ReadErrorCode → Bool) (fields : List (FieldOf S)) (i : ℕ) (old : Slots fields) (s : Input) (e : Error) → FieldRefused f levels allowed fields i old s e → NotRead allowed fields i old s e
-  refused_is allowed [] i old s e h = inr (inr (omega arith, h))
-  refused_is allowed (d ∷ fields) zero old s e h = elim (bool_cases (is_some old.0)) [ inl some ↦ inl some | inr none ↦ inr (inl (none, h none)) ]
-  refused_is allowed (d ∷ fields) (suc i) old s e h = elim (refused_is allowed fields i old.1 s e h) [
+  refused_is : (allowed : ReadErrorCode → Bool) (fields : List (FieldOf S)) (i : ℕ) (old : Slots fields) (s t : Input) (e : Error) → FieldRefused f levels allowed fields i old s t e → NotRead allowed fields i old s t e
+  refused_is allowed [] i old s t e h = inr (inr (omega arith, h))
+  refused_is allowed (d ∷ fields) zero old s t e h = elim (bool_cases (is_some old.0)) [
+    | inl some ↦ inl (some, h.took)
+    | inr none ↦ inr (inl (none, refuses_map allowed s (code_of e) (offset_of e) (λ l bs. is_some old.0 ≡ false → IsNotRead d.reads (item_at (raws f l) levels bs)) (λ l bs. IsNotRead d.reads (item_at (raws f l) levels bs)) (λ l bs unread. unread none) h))
+  ]
+  refused_is allowed (d ∷ fields) (suc i) old s t e h = elim (refused_is allowed fields i old.1 s t e h) [
     | inl some ↦ inl some
     | inr (inl none) ↦ inr (inl none)
     | inr (inr beyond) ↦ inr (inr (let b = beyond.0 in omega (arith, b), beyond.1))
@@ -160,10 +165,12 @@ module _ {S : Type 0} (names : List (List ℕ)) (fields : List (FieldOf S)) wher
       subst (λ (slots : Slots fields). StructSoFar names fields slots s f outer t g levels all) (sym none) (struct_begins names fields head formats)
 
   -- an Err tells that no struct is there
-  pub unread : (allowed : ReadErrorCode → Bool) (f : Formats) (levels : ℕ) (s t : Input) (e : Error) (r : Result S Error) → IsErrAnd r (λ x. x ≡ e)
-      → NoStruct names fields allowed s f levels (code_of e) (offset_of e) → TakesItem allowed (formats_of f) (IsStruct names fields) levels s t r
-  unread allowed f levels s t e (Ok x) is none = absurd is
-  unread allowed f levels s t e (Err x) is none = subst (λ (x : Error). NoStruct names fields allowed s f levels (code_of x) (offset_of x)) (sym is) none
+  pub unread : {w : Input} (allowed : ReadErrorCode → Bool) (f : Formats) (levels : ℕ) (s t : Input) (e : Error) (r : Result S Error) → IsErrAnd r (λ x. x ≡ e)
+      → NoStruct names fields allowed s w f levels (code_of e) (offset_of e) → t ≡ w → TakesItem allowed (formats_of f) (IsStruct names fields) levels s t r
+  unread allowed f levels s t e (Ok x) is none same = absurd is
+  unread {w} allowed f levels s t e (Err x) is none same =
+      subst (λ (t : Input). NoStruct names fields allowed s t f levels (code_of x) (offset_of x)) (sym same)
+      (subst (λ (x : Error). NoStruct names fields allowed s w f levels (code_of x) (offset_of x)) (sym is) none)
 
   module _ {slots : Slots fields} {s : Input} {f : Formats} {outer : ℕ} {t : Input} {g : Formats} {levels : ℕ} {r : Remaining} {so : StructSoFar names fields slots s f outer t g levels r}
       {field : Field} {new : Remaining} {u : Input} {h : Formats} {n : ℕ} (key : FieldNamed names fields so field new u h n) (i : ℕ) (is : field ≡ Known i) where
@@ -177,9 +184,9 @@ module _ {S : Type 0} (names : List (List ℕ)) (fields : List (FieldOf S)) wher
     ]
 
     -- or wasn't
-    pub value_not_in : (allowed : ReadErrorCode → Bool) (e : Error) → FieldRefused (formats_of h) n allowed fields i slots u e → NoStruct names fields allowed s f outer (code_of e) (offset_of e)
-    value_not_in allowed e refused = elim (refused_is (formats_of h) n allowed fields i slots u e refused) [
-      | inl some ↦ field_twice names fields so (Some field) field refl refl new key.named allowed (code_of e) (offset_of e) i is some
+    pub value_not_in : {w : Input} (allowed : ReadErrorCode → Bool) (e : Error) → FieldRefused (formats_of h) n allowed fields i slots u w e → NoStruct names fields allowed s w f outer (code_of e) (offset_of e)
+    value_not_in {w} allowed e refused = elim (refused_is (formats_of h) n allowed fields i slots u w e refused) [
+      | inl some ↦ refuses_on (field_twice names fields so (Some field) field refl refl new key.named allowed (code_of e) (offset_of e) i is some.0) some.1
       | inr (inl none) ↦ field_unread names fields so (Some field) field refl refl new key.named key.formats key.inside (λ (f : Formats). reads_at fields i) allowed (code_of e) (offset_of e) i is none.0 (λ b v means. (v, means)) none.1
       | inr (inr beyond) ↦ other_unread names fields so (Some field) field refl refl new key.named key.formats key.inside allowed (code_of e) (offset_of e) beyond.1
     ]

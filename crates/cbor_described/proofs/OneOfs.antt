@@ -6,7 +6,7 @@ use Rattle.cbor_model.specs.Raw.{Raw, Raws, no_raws}
 use Rattle.cbor_model.specs.Reader.{Reads, ◌>>=◌, item_at, next_at}
 use Rattle.cbor_model.specs.Refusal.{end_in_array}
 use Rattle.cbor_model.proofs.facts.Reader.{ok_is}
-use Rattle.cbor_read.specs.Source.{Input}
+use Rattle.cbor_read.specs.Source.{Input, TookSome}
 use Rattle.cbor_io.specs.Error.{code_of, offset_of}
 use Rattle.cbor_io.specs.declared.error.Error.{Error}
 use Rattle.cbor_io.specs.declared.read_error.ReadErrorCode.{ReadErrorCode}
@@ -111,8 +111,8 @@ module _ (f : model.Formats) (left : ℕ) (form : Form) (allowed : ReadErrorCode
         (λ l bs none y rest got. let x = back got.content y got.meaning in none x.0 rest (record { content = got.content; is = got.is; meaning = x.1 }))
 
   -- where nothing has a meaning
-  pub no_meaning : {A : Type 0} (e : Error) → TakesContent {A = A} allowed f (λ c x. ⊥) left form s t (Err e)
-  no_meaning e = record { told = λ bs tells. inr (λ x rest got. got.meaning) }
+  pub no_meaning : {A : Type 0} (e : Error) → TookSome s t → TakesContent {A = A} allowed f (λ c x. ⊥) left form s t (Err e)
+  no_meaning e took = record { took = took; told = λ bs tells. inr (λ x rest got. got.meaning) }
 
 -- the variants
 module _ {V W : Type 0} (this : Content → V → Type 0) (those : ℕ → Content → W → Type 0) where
@@ -156,7 +156,7 @@ made_parts whole (Err e) c rest is = absurd cc
 
 module _ {A : Type 0} (items : Raws → A → Type 0) (f : model.Formats) (left : ℕ) (form : Form) (allowed : ReadErrorCode → Bool) (s : Input) where
   -- the content has no parts
-  pub no_parts : (e : Error) → RefusesParts allowed f left form s e → Refuses allowed s (code_of e) (offset_of e) (λ l bs. IsNoContent (AreParts items) (content_at f l left form bs))
+  pub no_parts : {w : Input} (e : Error) → RefusesParts allowed f left form s w e → Refuses allowed s w (code_of e) (offset_of e) (λ l bs. IsNoContent (AreParts items) (content_at f l left form bs))
   no_parts e = refuses_map allowed s (code_of e) (offset_of e) (λ l bs. IsNoContent IsItemsOf (content_at f l left form bs)) (λ l bs. IsNoContent (AreParts items) (content_at f l left form bs))
       (λ l bs none y rest got. let rs = has_items items got.content y got.meaning in none rs.0 rest (record { content = got.content; is = got.is; meaning = rs.1 }))
 
@@ -182,7 +182,7 @@ module _ {A : Type 0} (items : Raws → A → Type 0) (f : model.Formats) (left 
 module _ {E : Type 0} (names : List (List ℕ)) (means : Formats → ℕ → Content → E → Type 0) (f : Formats) (outer : ℕ) (s a t : Input) (i left : ℕ) (form : Form) (g : Formats) (formats : g ≡ f) (allowed : ReadErrorCode → Bool) where
   pub enum_answer : Step s a (λ l bs rest. IsVariantHead (formats_of f) names l (item_at (raws (formats_of f) l) outer bs) left i form rest) → (q : Result E Error) → TakesContent allowed (formats_of g) (means g i) left form a t q → TakesEnum names (means f) allowed f outer s t q
   enum_answer head (Ok x) h = content_read (variant_is names (means f) i head formats refl) (λ f. means f i) x x (λ c m. m) h refl
-  enum_answer head (Err e) h = content_unread (variant_is names (means f) i head formats refl) (λ f. means f i) (λ c x m. (x, m)) t e (Err e) h refl
+  enum_answer head (Err e) h = content_unread (variant_is names (means f) i head formats refl) (λ f. means f i) (λ c x m. (x, m)) t e (Err e) h refl refl
 
 -- ---- the items of a view
 

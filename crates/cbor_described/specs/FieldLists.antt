@@ -39,7 +39,7 @@ TakesSlot {A} f levels refusals reads old new s t (Ok u) =
     (is_some old ≡ false)
     × ((x : A) × (new ≡ Some x) × Step s t (λ l bs rest. IsRead reads (item_at (raws f l) levels bs) x rest))
 TakesSlot f levels refusals reads old new s t (Err e) =
-    is_some old ≡ false → Refuses refusals s (code_of e) (offset_of e) (λ l bs. IsNotRead reads (item_at (raws f l) levels bs))
+    Refuses refusals s t (code_of e) (offset_of e) (λ l bs. is_some old ≡ false → IsNotRead reads (item_at (raws f l) levels bs))
 
 module _ {S : Type 0} (f : Formats) (levels : ℕ) where
   -- The i-th field, which had no value, was read into its slot. Where the list is shorter, an item was
@@ -56,15 +56,15 @@ module _ {S : Type 0} (f : Formats) (levels : ℕ) where
 
   -- The i-th field has a value, or its value isn't there.
   abbrev pub FieldRefused : (ReadErrorCode → Bool) → (fields : List (FieldOf S)) → ℕ → Slots fields
-      → Input → Error → Type 0
-  FieldRefused refusals [] i old s e = Refuses refusals s (code_of e) (offset_of e)
+      → Input → Input → Error → Type 0
+  FieldRefused refusals [] i old s t e = Refuses refusals s t (code_of e) (offset_of e)
       (λ l bs. IsNotRead IsAny (item_at (raws f l) levels bs))
-  FieldRefused refusals (d ∷ fields) zero old s e =
-      is_some old.0 ≡ false → Refuses refusals s (code_of e) (offset_of e) (λ l bs. IsNotRead d.reads (item_at (raws f l) levels bs))
-  FieldRefused refusals (d ∷ fields) (suc i) old s e = FieldRefused refusals fields i old.1 s e
+  FieldRefused refusals (d ∷ fields) zero old s t e = Refuses refusals s t (code_of e) (offset_of e)
+      (λ l bs. is_some old.0 ≡ false → IsNotRead d.reads (item_at (raws f l) levels bs))
+  FieldRefused refusals (d ∷ fields) (suc i) old s t e = FieldRefused refusals fields i old.1 s t e
 
   -- what a call gave for the value of the i-th field
   abbrev pub TakesField : (ReadErrorCode → Bool) → (fields : List (FieldOf S)) → ℕ → Slots fields
       → Slots fields → Input → Input → Result (Unit {0}) Error → Type 0
   TakesField refusals fields i old new s t (Ok u) = FieldTaken fields i old new s t
-  TakesField refusals fields i old new s t (Err e) = FieldRefused refusals fields i old s e
+  TakesField refusals fields i old new s t (Err e) = FieldRefused refusals fields i old s t e

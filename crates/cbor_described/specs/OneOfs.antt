@@ -122,5 +122,5 @@ abbrev pub TakesItems : {A : Type 0} → (ReadErrorCode → Bool) → Formats �
 TakesItems refusals f items levels remaining s t (Ok x) =
     Step s t (λ l bs rest. AreItems items (items_at f l levels (remaining_of remaining) bs) x rest)
 TakesItems refusals f items levels remaining s t (Err e) =
-    Refuses refusals s (code_of e) (offset_of e)
+    Refuses refusals s t (code_of e) (offset_of e)
     (λ l bs. AreNoItems items (items_at f l levels (remaining_of remaining) bs))

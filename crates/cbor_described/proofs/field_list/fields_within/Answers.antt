@@ -4,7 +4,7 @@ use Rattle.cbor_de.specs.declared.formats.Formats.{Formats}
 use Rattle.cbor_described.specs.FieldLists.{FieldTaken, FieldRefused}
 use Rattle.cbor_scalars.specs.Identifiers.{texts}
 use Rattle.cbor_scalars.specs.Takes.{context, formats_of}
-use Rattle.std.proofs.Common.{subst}
+use Rattle.std.proofs.Common.{rules, subst}
 use Rattle.cbor_typed.proofs.facts.Structs.{no_struct, no_field_named, field_named, other_passed, other_unread, field_missing, end_unread, struct_held}
 use Rattle.cbor_typed.proofs.facts.Structs.{unknown_other}
 use Rattle.cbor_described.proofs.FieldLists.{unread, begins_with, value_in, value_not_in, lacking_is}
@@ -19,7 +19,7 @@ returns-in_err-remaining-clause-read g c =
     let fields = g.F.FieldList.fields (context old.formats g.R.Source.lends) in
     let e = c.in_err-remaining.field-0.0 in
     unread names fields g.R.Source.refusals old.formats old.levels (g.R.Source.source old.source) _ e c.from_residual.result c.from_residual.ensures.1
-    (no_struct names fields g.R.Source.refusals (g.R.Source.source old.source) old.formats old.levels e c.in_err-remaining.ensures.read)
+    (no_struct names fields g.R.Source.refusals (g.R.Source.source old.source) old.formats old.levels e c.in_err-remaining.ensures.read) (search rules)
 
 pub fields-init : goal.fields-init
 fields-init g c =
@@ -38,7 +38,7 @@ returns-in_err-field-clause-read g c =
     let fields = g.F.FieldList.fields (context old.formats g.R.Source.lends) in
     let e = c.in_err-field.field-0.0 in
     unread names fields g.R.Source.refusals old.formats old.levels (g.R.Source.source old.source) _ e c.from_residual-in_err-field.result c.from_residual-in_err-field.ensures.1
-    (no_field_named names fields c.fields.invariant.so_far refl g.R.Source.refusals (code_of e) (offset_of e) c.in_err-field.ensures.read)
+    (no_field_named names fields c.fields.invariant.so_far refl g.R.Source.refusals (code_of e) (offset_of e) c.in_err-field.ensures.read) (search rules)
 
 -- ---- its value
 
@@ -69,9 +69,9 @@ returns-in_err-take-in-Known-clause-read g c =
     let key = field_named names (fields old.formats) i.so_far c.in_ok-field.field-0 c.in-Some.field c.in-Some.is refl c.next_key.new.remaining next.read next.formats next.levels in
     let now = c.next_key.new.de.items in
     let e = c.in_err-take-in-Known.field-0.0 in
-    let refused = subst (λ (f : Formats). FieldRefused (formats_of now.formats) now.levels g.R.Source.refusals (fields f) c.in-Known.i (slots f c.fields.held) (g.R.Source.source now.source) e) (next.formats ∙ i.formats) c.in_err-take-in-Known.ensures.read in
+    let refused = subst (λ (f : Formats). FieldRefused (formats_of now.formats) now.levels g.R.Source.refusals (fields f) c.in-Known.i (slots f c.fields.held) (g.R.Source.source now.source) (g.R.Source.source c.take.new.de.items.source) e) (next.formats ∙ i.formats) c.in_err-take-in-Known.ensures.read in
     unread names (fields old.formats) g.R.Source.refusals old.formats old.levels (g.R.Source.source old.source) _ e c.from_residual-in_err-take-in-Known.result c.from_residual-in_err-take-in-Known.ensures.1
-    (value_not_in names (fields old.formats) key c.in-Known.i c.in-Known.is g.R.Source.refusals e refused)
+    (value_not_in names (fields old.formats) key c.in-Known.i c.in-Known.is g.R.Source.refusals e refused) (search rules)
 
 pub fields-preserved : goal.fields-preserved
 fields-preserved g c =
@@ -93,7 +93,7 @@ returns-in_err-skip_item-in-Unknown-clause-read g c =
     let next = c.in_ok-field.ensures in
     let e = c.in_err-skip_item-in-Unknown.field-0.0 in
     unread names fields g.R.Source.refusals old.formats old.levels (g.R.Source.source old.source) _ e c.from_residual-in_err-skip_item-in-Unknown.result c.from_residual-in_err-skip_item-in-Unknown.ensures.1
-    (other_unread names fields c.fields.invariant.so_far c.in_ok-field.field-0 c.in-Some.field c.in-Some.is refl c.next_key.new.remaining next.read next.formats next.levels g.R.Source.refusals (code_of e) (offset_of e) c.in_err-skip_item-in-Unknown.ensures.read)
+    (other_unread names fields c.fields.invariant.so_far c.in_ok-field.field-0 c.in-Some.field c.in-Some.is refl c.next_key.new.remaining next.read next.formats next.levels g.R.Source.refusals (code_of e) (offset_of e) c.in_err-skip_item-in-Unknown.ensures.read) (search rules)
 
 -- ---- the end
 
@@ -106,7 +106,7 @@ returns-in_err-parts-clause-read g c =
     let e = c.in_err-parts.field-0.0 in
     let lacking = lacking_is fields (g.F.FieldList.slots k c.fields.held) (c.in_err-parts.ensures.lacking k) in
     unread names fields g.R.Source.refusals old.formats old.levels (g.R.Source.source old.source) _ e c.from_residual-in_err-parts.result c.from_residual-in_err-parts.ensures.1
-    (field_missing names fields c.fields.invariant.so_far c.in_ok-field.field-0 c.in_default.is refl c.next_key.new.remaining c.in_ok-field.ensures.read g.R.Source.refusals (code_of e) (offset_of e) lacking.0 lacking.1)
+    (field_missing names fields c.fields.invariant.so_far c.in_ok-field.field-0 c.in_default.is refl c.next_key.new.remaining c.in_ok-field.ensures.read g.R.Source.refusals (code_of e) (offset_of e) lacking.0 lacking.1) (search rules)
 
 pub returns-in_err-end_map-clause-read : goal.returns-in_err-end_map-clause-read
 returns-in_err-end_map-clause-read g c =
@@ -116,7 +116,7 @@ returns-in_err-end_map-clause-read g c =
     let e = c.in_err-end_map.field-0.0 in
     let nothing = rw c.in_default.is at c.in_ok-field.ensures.remains in
     unread names fields g.R.Source.refusals old.formats old.levels (g.R.Source.source old.source) _ e c.from_residual-in_err-end_map.result c.from_residual-in_err-end_map.ensures.1
-    (end_unread names fields c.fields.invariant.so_far c.in_ok-field.field-0 c.in_default.is refl c.next_key.new.remaining c.in_ok-field.ensures.read g.R.Source.refusals (g.R.Source.source c.end_map.new.de.items.source) e nothing c.in_err-end_map.ensures.read)
+    (end_unread names fields c.fields.invariant.so_far c.in_ok-field.field-0 c.in_default.is refl c.next_key.new.remaining c.in_ok-field.ensures.read g.R.Source.refusals (g.R.Source.source c.end_map.new.de.items.source) e nothing c.in_err-end_map.ensures.read) (search rules)
 
 pub returns-clause-read : goal.returns-clause-read
 returns-clause-read g c =

@@ -1,10 +1,20 @@
-use Rattle.cbor_scalars.specs.Takes.{context, formats_of}
+use Rattle.std.proofs.Common.{◌≡◌, false}
+use Rattle.std.specs.Option.{is_some}
+use Rattle.cbor_model.specs.Reader.{item_at}
+use Rattle.cbor_io.specs.Error.{code_of, offset_of}
+use Rattle.cbor_scalars.specs.Takes.{IsNotRead, context, formats_of, raws}
+use Rattle.cbor_collections.proofs.facts.Refusals.{refuses_map}
 use Rattle.cbor_described.proofs.Makings.{not_read_as}
 use Rattle.cbor_described.proofs.field_list.take_slot.Goals as goal
 
 pub returns-in-Err-clause-read : goal.returns-in-Err-clause-read
-returns-in-Err-clause-read g c none =
+returns-in-Err-clause-read g c =
     let old = c.args.de.now.items in
     let k = context old.formats g.R.Source.lends in
-    not_read_as (g.A.Of.Readable.reads k) (g.A.FieldType.reads k) g.R.Source.refusals (formats_of old.formats) old.levels (g.R.Source.source old.source) (g.R.Source.source c.deserialize.new.de.items.source)
-    c.in-Err.e (λ r y h. g.met.A.FieldType.back k r y h) c.in-Err.ensures.read
+    let f = formats_of old.formats in
+    let reads = g.A.FieldType.reads k in
+    let s = g.R.Source.source old.source in
+    let e = c.in-Err.e in
+    refuses_map g.R.Source.refusals s (code_of e) (offset_of e) (λ l bs. IsNotRead reads (item_at (raws f l) old.levels bs)) (λ l bs. is_some c.args.slot.now ≡ false → IsNotRead reads (item_at (raws f l) old.levels bs)) (λ l bs unread none. unread)
+    (not_read_as (g.A.Of.Readable.reads k) reads g.R.Source.refusals f old.levels s (g.R.Source.source c.deserialize.new.de.items.source)
+    e (λ r y h. g.met.A.FieldType.back k r y h) c.in-Err.ensures.read)

@@ -8,7 +8,8 @@ use Rattle.cbor_described.proofs.variant_list.variants_within.Goals as goal
 pub returns-in_err-index-clause-read : goal.returns-in_err-index-clause-read
 returns-in_err-index-clause-read g c =
     let old = c.args.de.now.items in
-    variant_unread (texts c.args.names.now) (g.E.VariantList.means (context old.formats g.R.Source.lends)) old.formats old.levels (g.R.Source.source c.variant_head.new.de.items.source) c.in_err-index.field-0.0 c.from_residual.result c.in_err-index.ensures.read c.from_residual.ensures.1
+    variant_unread (texts c.args.names.now) (g.E.VariantList.means (context old.formats g.R.Source.lends)) old.formats old.levels (g.R.Source.source c.variant_head.new.de.items.source) c.in_err-index.field-0.0 c.from_residual.result
+    (λ t took. record { took = took; told = c.in_err-index.ensures.read.told }) c.from_residual.ensures.1 c.in_err-index.ensures.read.took
 
 pub returns-clause-read : goal.returns-clause-read
 returns-clause-read g c =
