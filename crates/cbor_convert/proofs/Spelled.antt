@@ -103,11 +103,11 @@ module _ (bs : List ℕ) (r : Raw) (good : IsAcceptableWithin (length bs) r) (sp
   stopped_memory t kept refused.OutOfMemory e h is = is
   stopped_memory t None refused.Kept e h is = is
   stopped_memory t (Some q) refused.Kept e h is =
-      let m = fails_memory (error_code (why q)) (source.offset + length bs) (place q) _ (value r, []) read_as (h.told bs tells) in
+      let m = fails_memory (error_code (why q)) (source.offset + length bs) (place q) _ (value r, []) read_as (h.told.told bs tells) in
       (is.0 ∙ m.0, is.1 ∙ m.1)
 
-  pub memory_alone : (f : Formats) (levels : ℕ) (s : Input) (kept : Option ReadError) (why : Refused) (e : Error) → f ≡ all_formats → levels ≡ length bs → s ≡ source → Reads f levels s s kept (Err why) → IsErrorOf kept why e → IsOutOfMemory e
-  memory_alone f levels s kept why e all deep front given = stopped_memory s kept why e (from_front f levels s s kept (Err why) all deep front given)
+  pub memory_alone : {t : Input} (f : Formats) (levels : ℕ) (s : Input) (kept : Option ReadError) (why : Refused) (e : Error) → f ≡ all_formats → levels ≡ length bs → s ≡ source → Reads f levels s t kept (Err why) → IsErrorOf kept why e → IsOutOfMemory e
+  memory_alone {t} f levels s kept why e all deep front given = stopped_memory t kept why e (from_front f levels s t kept (Err why) all deep front given)
 
 -- ---- what `to_value` answers
 

@@ -5,3 +5,4 @@ pub mod Serialize
 pub mod Structs
 pub mod Enums
 pub mod Sources
+pub mod Refusals
