@@ -3,7 +3,7 @@ use Rattle.std.proofs.Common.{◌≡◌, ℕ, zero, suc, ◌<◌, List, [], ◌�
 use Rattle.cbor_model.specs.Formats.{Formats}
 use Rattle.cbor_model.specs.Plain.{Val, Vals, no_vals, val}
 use Rattle.cbor_model.specs.Refusal.{Refusal, end_in_array}
-use Rattle.cbor_model.specs.Reader.{Fault, Reads, ◌>>=◌, ended, byte_at, Remaining, next_at, parts_by, parts_at, items_of, after_first, item_by, item_at, inside}
+use Rattle.cbor_model.specs.Reader.{Fault, Reads, ◌>>=◌, ended, byte_at, Remaining, next_at, parts_by, parts_at, items_of, counted, after_first, item_by, item_at, inside}
 use Rattle.cbor_model.proofs.facts.Reader.{ok_is, taken, next_taken, parts_by-fuel}
 use Rattle.cbor_value.specs.View.{vals_of}
 use Rattle.cbor_de.specs.Gives.{Limits, values}
@@ -83,6 +83,21 @@ with_front front read = read >>= λ x. Ok (append front x.0, x.1)
 regroup : (front : List Val) (v : Val) (read : Reads Vals) → with_front front (read >>= λ x. Ok (val v x.0, x.1)) ≡ with_front (front ++ v ∷ []) read
 regroup front v (Ok x) = ap (λ (vs : Vals). Ok (vs, x.1)) (sym (append-push front v x.0))
 regroup front v (Err f) = refl
+
+-- ---- an item alone
+
+ended_is_ok : (r : Reads Val) (x : Val × List ℕ) → r ≡ Err ended → r ≡ Ok x → ⊥
+ended_is_ok r x none is = absurd cc
+
+module _ (f : Formats) (l : Limits) (levels : ℕ) where
+  pub one_read : (bs rest : List ℕ) (v : Val) → item_at (values f l) levels bs ≡ Ok (v, rest) → parts_at (items_of (values f l) (item_at (values f l) levels)) (counted 1) bs ≡ Ok (val v no_vals, rest)
+  unfolding next_at parts_by
+  one_read [] rest v is = absurd (ended_is_ok (item_at (values f l) levels []) (v, rest) (item_none f l levels) is)
+  one_read (b ∷ bs) rest v is = rw is refl
+
+  pub one_stops : (bs : List ℕ) (d : Fault) → item_at (values f l) levels bs ≡ Err d → parts_at (items_of (values f l) (item_at (values f l) levels)) (counted 1) bs ≡ Err d
+  unfolding next_at parts_by
+  one_stops bs d is = rw is refl
 
 module _ (f : Formats) (levels : ℕ) (all : Remaining) (front : List Val) where
   -- the items that remain

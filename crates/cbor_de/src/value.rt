@@ -5,7 +5,7 @@ ghost use Rattle.cbor_model.specs.Head.{no_bytes};
 ghost use Rattle.cbor_model.specs.Plain as plain;
 ghost use Rattle.cbor_model.specs.Raw.{indefinite};
 ghost use Rattle.cbor_model.specs.Reader.{inside, parts_at, items_of, pairs_of, array_at, map_at};
-ghost use Rattle.cbor_model.specs.Reader.{tag_at, after_first, item_at};
+ghost use Rattle.cbor_model.specs.Reader.{tag_at, after_first, item_at, counted};
 ghost use Rattle.cbor_value.specs.View.{view, views, map_view};
 ghost use Rattle.cbor_de.specs.Gives.{Gives, Onward};
 ghost use Rattle.cbor_de.specs.Deserializer.{formats_of, values_by};
@@ -99,6 +99,7 @@ impl<R: Source> Deserializer<R> {
 
     /// Reads an array after its head.
     #[cycle(read)]
+    #[inline(never)]
     fn array(&mut self, remaining: Remaining) -> Done<Vec<Value>>
         ensures read { Gives R.refusals (λ v. plain.array (views v.items))
             (λ l. array_at (values_by self.old.formats l)
@@ -109,9 +110,45 @@ impl<R: Source> Deserializer<R> {
         ensures formats { self.new.formats ≡ self.old.formats }
     {
         self.enter()?;
-        let items = self.items(remaining);
+        let items = self.all_items(remaining);
         self.levels += 1;
         items
+    }
+
+    /// Reads the items that remain. One alone, as a level of a nest holds it, takes no loop.
+    #[cycle(read)]
+    #[inline(always)]
+    fn all_items(&mut self, remaining: Remaining) -> Done<Vec<Value>>
+        ensures read { Gives R.refusals (λ v. views v.items)
+            (λ l. parts_at (items_of (values_by self.old.formats l)
+            (item_at (values_by self.old.formats l) self.old.levels))
+            (remaining_of remaining))
+            (R.source self.old.source) (R.source self.new.source) self.new.refusal result }
+        ensures levels { self.new.levels ≡ self.old.levels }
+        ensures formats { self.new.formats ≡ self.old.formats }
+    {
+        match remaining {
+            Remaining::Counted(1) => self.one_item(),
+            _ => self.items(remaining),
+        }
+    }
+
+    /// Reads the one item that remains.
+    #[cycle(read)]
+    #[inline(always)]
+    fn one_item(&mut self) -> Done<Vec<Value>>
+        ensures read { Gives R.refusals (λ v. views v.items)
+            (λ l. parts_at (items_of (values_by self.old.formats l)
+            (item_at (values_by self.old.formats l) self.old.levels)) (counted 1))
+            (R.source self.old.source) (R.source self.new.source) self.new.refusal result }
+        ensures levels { self.new.levels ≡ self.old.levels }
+        ensures formats { self.new.formats ≡ self.old.formats }
+    {
+        let item = self.value()?;
+        let mut items = Vec::new(self.alloc);
+        items.reserve_exact(1)?;
+        items.push_reserved(item);
+        Ok(items)
     }
 
     /// Reads the items that remain.

@@ -9,7 +9,7 @@ use Rattle.cbor_model.specs.Plain.{Val, Vals, Pairs, no_pairs}
 use Rattle.cbor_model.specs.Plain as plain
 use Rattle.cbor_model.specs.FiniteMap.{put_all}
 use Rattle.cbor_model.specs.Value.{put}
-use Rattle.cbor_model.specs.Reader.{Reads, text_at, text_chunks_at, byte_at, bytes_at, string_at, string_chunks_at, chunks_at, exceeds_most, array_at, map_at, tag_at, parts_at, items_of, pairs_of, after_first, item_at, inside}
+use Rattle.cbor_model.specs.Reader.{Reads, text_at, text_chunks_at, byte_at, bytes_at, string_at, string_chunks_at, chunks_at, exceeds_most, counted, array_at, map_at, tag_at, parts_at, items_of, pairs_of, after_first, item_at, inside}
 use Rattle.cbor_read.specs.Source.{Input}
 use Rattle.cbor_read.proofs.facts.Sources.{some_then}
 use Rattle.cbor_io.specs.declared.read_error.ReadErrorCode.TheVariants.{RecursionLimitExceeded, WrongStructFormat}
@@ -23,7 +23,7 @@ use Rattle.cbor_de.specs.Strings.{text_view}
 use Rattle.cbor_de.proofs.Steps.{subst_both, gives_seen, step_same, step_map, step_then, stopped_map, stopped_then, memory_stops, gives_then}
 use Rattle.cbor_de.proofs.Calls.{fault_stops, first_stops}
 use Rattle.cbor_de.proofs.Heads.{value_after, value_stops_at}
-use Rattle.cbor_de.proofs.Items.{SoFar, items_begin, ItemBegun, item_begins, goes_on, faulted, cut, is_done}
+use Rattle.cbor_de.proofs.Items.{SoFar, one_read, one_stops, items_begin, ItemBegun, item_begins, goes_on, faulted, cut, is_done}
 use Rattle.cbor_de.proofs.Pairs.{PairsSoFar, pairs_begin, KeyBegun, key_begins, KeyRead, key_ends, pairs_go_on, key_refused, key_faulted, value_faulted, pairs_cut, pairs_done}
 use Rattle.cbor_de.proofs.Inside.{array_too_deep, map_too_deep, tag_too_deep, array_inside, map_inside, tag_inside, array_stops, map_stops, tag_stops, value_first, value_stops, bytes_read, bytes_stop, chunks_read, chunks_stop}
 use Rattle.cbor_de.specs.Memory.{IsStoredHead, MemoryOnly, ReadsStored}
@@ -67,7 +67,7 @@ array-returns-clause-read g t c =
     let left = c.enter.new.self.levels in
     let r = remaining_of c.args.remaining in
     let read : (Limits → List ℕ → Reads Vals) = λ l. parts_at (items_of (values f l) (item_at (values f l) left)) r in
-    let given = subst_both (λ (f : Formats) (s : Input). Gives g.R.Source.refusals (λ v. views v.items) (λ l. parts_at (items_of (values f l) (item_at (values f l) left)) r) s (g.R.Source.source c.items-items.new.self.source) c.items-items.new.self.refusal c.items-items.result) (ap formats_of c.in_ok-enter.ensures.formats) (ap g.R.Source.source c.in_ok-enter.ensures.source) c.items-items.ensures.read in
+    let given = subst_both (λ (f : Formats) (s : Input). Gives g.R.Source.refusals (λ v. views v.items) (λ l. parts_at (items_of (values f l) (item_at (values f l) left)) r) s (g.R.Source.source c.all_items-items.new.self.source) c.all_items-items.new.self.refusal c.all_items-items.result) (ap formats_of c.in_ok-enter.ensures.formats) (ap g.R.Source.source c.in_ok-enter.ensures.source) c.all_items-items.ensures.read in
     gives_seen g.R.Source.refusals (λ v. views v.items) (λ v. plain.array (views v.items)) read (λ l. array_at (values f l) (inside (values f l) levels) indefinite r) _ _ _ _
     (λ l bs rest v is. array_inside f l levels left r bs rest (views v.items) c.in_ok-enter.ensures.inside is) (λ l bs d is. array_stops f l levels left r bs d c.in_ok-enter.ensures.inside is) given
 
@@ -102,13 +102,34 @@ boxed-returns-clause-read g t c =
 -- ---- a level is given back
 
 pub array-overflow_add-self : goal.array-overflow_add-self
-array-overflow_add-self g t c = omega (arith, c.items-items.ensures.levels, c.in_ok-enter.ensures.below)
+array-overflow_add-self g t c = omega (arith, c.all_items-items.ensures.levels, c.in_ok-enter.ensures.below)
 
 pub map-overflow_add-self : goal.map-overflow_add-self
 map-overflow_add-self g t c = omega (arith, c.pairs-map.ensures.levels, c.in_ok-enter.ensures.below)
 
 pub tagged-overflow_add-self : goal.tagged-overflow_add-self
 tagged-overflow_add-self g t c = omega (arith, c.boxed-value.ensures.levels, c.in_ok-enter.ensures.below)
+
+-- ---- an item alone
+
+pub one_item-returns-in_err-item-clause-read : goal.one_item-returns-in_err-item-clause-read
+one_item-returns-in_err-item-clause-read g t c =
+    let f = formats_of c.args.self.now.formats in
+    let levels = c.args.self.now.levels in
+    let passed = err_from_is_err_and c.from_residual.result c.from_residual.ensures.1 in
+    rw (passed.1, passed.2) (stopped_map g.R.Source.refusals (λ l. item_at (values f l) levels) (λ l. parts_at (items_of (values f l) (item_at (values f l) levels)) (counted 1)) _ _ _ (λ l bs d is. one_stops f l levels bs d is) c.in_err-item.ensures.read)
+
+pub one_item-returns-clause-read : goal.one_item-returns-clause-read
+one_item-returns-clause-read g t c =
+    let f = formats_of c.args.self.now.formats in
+    let levels = c.args.self.now.levels in
+    let v = view c.in_ok-item.item in
+    let items = c.push_reserved.new.self.items in
+    let one : plain.val v plain.no_vals ≡ views items = rw (c.push_reserved.ensures.items, c.reserve_exact.ensures.items, c.new-items.ensures.items) refl in
+    let s = g.R.Source.source c.args.self.now.source in
+    let t = g.R.Source.source c.value.new.self.source in
+    step_map s t (λ l bs rest. item_at (values f l) levels bs ≡ Ok (v, rest)) (λ l bs rest. parts_at (items_of (values f l) (item_at (values f l) levels)) (counted 1) bs ≡ Ok (views items, rest))
+    (λ l bs rest is. one_read f l levels bs rest v is ∙ ap (λ (vs : Vals). Ok (vs, rest)) one) c.in_ok-item.ensures.read
 
 -- ---- items
 

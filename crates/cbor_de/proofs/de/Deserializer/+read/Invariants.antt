@@ -30,6 +30,12 @@ decreases-tagged g l = 8 * l.self.now.levels + 4
 abbrev pub decreases-boxed : goal.decreases-boxed
 decreases-boxed g l = 8 * l.self.now.levels + 8
 
+abbrev pub decreases-all_items : goal.decreases-all_items
+decreases-all_items g l = 8 * l.self.now.levels + 9
+
+abbrev pub decreases-one_item : goal.decreases-one_item
+decreases-one_item g l = 8 * l.self.now.levels + 8
+
 abbrev pub decreases-items : goal.decreases-items
 decreases-items g l = 8 * l.self.now.levels + 8
 
