@@ -85,7 +85,14 @@ pub fn read_integer<R: Source>(items: &mut Deserializer<R>) -> Result<i128>
     };
     match integer(found.head) {
         Some(number) => Ok(number),
-        None => Err(unread(items, found, "invalid type: expected an integer")),
+        None => Err(unread(
+            items,
+            Found {
+                head: found.head,
+                levels: found.levels,
+            },
+            "invalid type: expected an integer",
+        )),
     }
 }
 
@@ -115,7 +122,14 @@ pub fn read_from_zero<R: Source>(
     };
     match from_zero(found.head, most) {
         Some(number) => Ok(number),
-        None => Err(no_number(items, found, message)),
+        None => Err(no_number(
+            items,
+            Found {
+                head: found.head,
+                levels: found.levels,
+            },
+            message,
+        )),
     }
 }
 
@@ -139,7 +153,14 @@ pub fn read_u128<R: Source>(items: &mut Deserializer<R>) -> Result<u128>
     };
     match natural(found.head) {
         Some(number) => Ok(number),
-        None => Err(no_number(items, found, "integer out of range: expected u128")),
+        None => Err(no_number(
+            items,
+            Found {
+                head: found.head,
+                levels: found.levels,
+            },
+            "integer out of range: expected u128",
+        )),
     }
 }
 
@@ -170,7 +191,14 @@ pub fn read_signed<R: Source>(
     };
     match signed(found.head, most) {
         Some(number) => Ok(number),
-        None => Err(no_number(items, found, message)),
+        None => Err(no_number(
+            items,
+            Found {
+                head: found.head,
+                levels: found.levels,
+            },
+            message,
+        )),
     }
 }
 
@@ -186,6 +214,13 @@ fn no_number<R: Source>(items: &mut Deserializer<R>, found: Found, message: &'st
 {
     match found.head {
         Head::Unsigned(_) | Head::Negative(_) => Error::message(items.alloc, message),
-        _ => unread(items, found, "invalid type: expected an integer"),
+        _ => unread(
+            items,
+            Found {
+                head: found.head,
+                levels: found.levels,
+            },
+            "invalid type: expected an integer",
+        ),
     }
 }

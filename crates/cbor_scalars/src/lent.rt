@@ -260,7 +260,13 @@ pub fn read_text<'a, 'de, R: Read<'de>>(
     match found.head {
         Head::Text(n) => text_part(items, n),
         Head::Bytes(n) => utf8(bytes_part(items, n)?),
-        _ => Err(other(items, found)),
+        _ => Err(other(
+            items,
+            Found {
+                head: found.head,
+                levels: found.levels,
+            },
+        )),
     }
 }
 
@@ -287,7 +293,13 @@ pub fn read_bytes<'a, 'de, R: Read<'de>>(
     match found.head {
         Head::Bytes(n) => bytes_part(items, n),
         Head::Text(n) => bytes_of(text_part(items, n)?),
-        _ => Err(other(items, found)),
+        _ => Err(other(
+            items,
+            Found {
+                head: found.head,
+                levels: found.levels,
+            },
+        )),
     }
 }
 
@@ -312,6 +324,12 @@ pub fn read_byte_string<'a, 'de, R: Read<'de>>(
     };
     match found.head {
         Head::Bytes(n) => bytes_part(items, n),
-        _ => Err(other(items, found)),
+        _ => Err(other(
+            items,
+            Found {
+                head: found.head,
+                levels: found.levels,
+            },
+        )),
     }
 }

@@ -16,6 +16,8 @@ use cbor_io::error::Error;
 use cbor_read::{ReadErrorCode, Source};
 
 /// The head of an item within its tags, which is taken, and how many levels are left there.
+///
+/// A cold call is given a copy that is made for it: what was found stays in registers until then.
 #[derive(Clone, Copy)]
 pub(crate) struct Found {
     pub(crate) head: Head,

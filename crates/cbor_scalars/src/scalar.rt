@@ -44,7 +44,7 @@ pub(crate) fn scalar<R: Source>(items: &mut Deserializer<R>) -> Done<Found>
 }
 
 // Takes further tags and the head, one level further in, and restores the level.
-#[inline(never)]
+#[inline(always)]
 fn scalar_inside<R: Source>(items: &mut Deserializer<R>) -> Done<Found>
     ensures read { OpensInside R.refusals (formats_of items.old.formats)
         items.old.levels
@@ -92,7 +92,14 @@ pub fn read_bool<R: Source>(items: &mut Deserializer<R>) -> Result<bool>
     };
     match found.head {
         Head::Bool(b) => Ok(b),
-        _ => Err(unread(items, found, "invalid type: expected a boolean")),
+        _ => Err(unread(
+            items,
+            Found {
+                head: found.head,
+                levels: found.levels,
+            },
+            "invalid type: expected a boolean",
+        )),
     }
 }
 
@@ -118,7 +125,14 @@ pub fn read_float<R: Source>(items: &mut Deserializer<R>) -> Result<Float>
     };
     match found.head {
         Head::Float(float) => Ok(float),
-        _ => Err(unread(items, found, "invalid type: expected a float")),
+        _ => Err(unread(
+            items,
+            Found {
+                head: found.head,
+                levels: found.levels,
+            },
+            "invalid type: expected a float",
+        )),
     }
 }
 
@@ -145,6 +159,13 @@ pub fn read_unit<R: Source>(items: &mut Deserializer<R>) -> Result<()>
     };
     match found.head {
         Head::Null | Head::Undefined => Ok(()),
-        _ => Err(unread(items, found, "invalid type: expected unit")),
+        _ => Err(unread(
+            items,
+            Found {
+                head: found.head,
+                levels: found.levels,
+            },
+            "invalid type: expected unit",
+        )),
     }
 }
