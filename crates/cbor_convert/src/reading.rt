@@ -4,9 +4,11 @@ ghost use Rattle.std.specs.Prelude.{◌^◌, ◌<◌, IfOk, IfErr, OnOk, length}
 ghost use Rattle.cbor_model.specs.Acceptable.{IsAcceptable};
 ghost use Rattle.cbor_model.specs.Canonical.{IsStorable, canonical};
 ghost use Rattle.cbor_model.specs.Raw.{AreBytes};
+ghost use Rattle.cbor_io.specs.Error.{code_of};
 ghost use Rattle.cbor_value.specs.View.{view};
 ghost use Rattle.cbor_ser.specs.Written.{SaysUnstorable};
 ghost use Rattle.cbor_de.specs.Gives.{IsMemoryOrFault};
+ghost use Rattle.cbor_typed.specs.Forms.{FormOnlyIf};
 ghost use Rattle.cbor_typed.specs.Whole.{from_reader_context};
 
 use cbor_io::error::Result;
@@ -42,6 +44,8 @@ pub fn from_value<'de, T: DeserializeOwned + Deserialize<'de, IoRead<Cursor<Vec<
         → IfErr result IsMemoryOrFault }
     // A value that can't be stored is told so by that message, unless memory runs out.
     ensures refused { (IsStorable (view value) → ⊥) → IfErr result SaysUnstorable }
+    // A wrong form is told only by a type that may refuse an item for one.
+    ensures form { IfErr result (λ e. FormOnlyIf T.tells_form (code_of e)) }
 {
     let bytes = to_vec(alloc, &value)?;
     are_bytes(&bytes);

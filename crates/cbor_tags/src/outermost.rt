@@ -2,6 +2,8 @@
 
 ghost use Rattle.std.specs.Prelude.{◌≡◌, IfOk, IfErr, IfSome, IfNone};
 ghost use Rattle.cbor_read.specs.Source.{TookSome};
+ghost use Rattle.cbor_io.specs.Error.{code_of};
+ghost use Rattle.cbor_de.specs.Gives.{TellsNoForm};
 ghost use Rattle.cbor_scalars.specs.Takes.{formats_of, TellsFault};
 ghost use Rattle.cbor_scalars.specs.Tags.{tag_head_at, LevelsBehind, TagIs};
 ghost use Rattle.cbor_tags.specs.Tagged.{StandsNoTag};
@@ -23,6 +25,7 @@ pub(crate) fn outermost<R: Source>(de: &mut Deserializer<R>) -> Result<Option<u6
         (R.source de.old.items.source)) }
     ensures took { IfErr result (λ e. TookSome (R.source de.old.items.source)
         (R.source de.new.items.source)) }
+    ensures no_form { IfErr result (λ e. TellsNoForm (code_of e)) }
     ensures levels { LevelsBehind result de.old.items.levels de.new.items.levels }
     ensures formats { de.new.items.formats ≡ de.old.items.formats }
 {

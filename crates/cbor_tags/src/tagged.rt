@@ -84,6 +84,8 @@ impl<T: Readable> Readable for Tagged<T> {
     ghost reads = { λ c r t. IsTagged (T.reads c) r t.tag t.value };
 
     ghost total = { T.total };
+
+    ghost tells_form = { T.tells_form };
 }
 
 impl<'de, R: Read<'de>, T: Deserialize<'de, R>> Deserialize<'de, R> for Tagged<T> {
