@@ -120,7 +120,8 @@ pub(crate) fn bytes_part<'a, 'de, R: Read<'de>>(
         (R.source items.old.source) (R.source new.source) result
         × IfErr result IsNoKey
         × IfErr result (UnreadOnly (asks_head (asks_for R.refusals R.lends) (Bytes n) ≡ true))
-        × IfErr result (UnreadBy R.refusals (behind_string (Bytes n)) (R.source items.old.source)))) }
+        × IfErr result (UnreadBy R.refusals (behind_string (Bytes n))
+        (R.source items.old.source)))) }
 {
     match n {
         Some(n) => match items.source.read(n as usize) {
@@ -149,7 +150,8 @@ pub(crate) fn text_part<'a, 'de, R: Read<'de>>(
         (R.source items.old.source) (R.source new.source) result
         × IfErr result IsNoKey
         × IfErr result (UnreadOnly (asks_head (asks_for R.refusals R.lends) (Text n) ≡ true))
-        × IfErr result (UnreadBy R.refusals (behind_string (Text n)) (R.source items.old.source)))) }
+        × IfErr result (UnreadBy R.refusals (behind_string (Text n))
+        (R.source items.old.source)))) }
 {
     match n {
         Some(n) => {
@@ -237,8 +239,8 @@ pub fn unread_error<R: Source>(items: &mut Deserializer<R>, why: Unread, message
 /// Lends a text, or a byte string that is UTF-8 (RFC 7049, section 2.1, major types 2 and 3).
 ///
 /// Another item, as a byte string that isn't UTF-8, is [`Unread::Other`], and was passed over. What
-/// isn't whole, of any kind, a text that isn't UTF-8 (`InvalidUtf8`), and a break (`UnexpectedCode`)
-/// are refused, and what the source refuses.
+/// isn't whole, of any kind, a text that isn't UTF-8 (`InvalidUtf8`), and a break
+/// (`UnexpectedCode`) are refused, and what the source refuses.
 #[tactic(auto, using(crate::proofs::Memory::kept_none))]
 pub fn read_text<'a, 'de, R: Read<'de>>(
     items: &'a mut Deserializer<R>,

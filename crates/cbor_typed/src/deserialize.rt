@@ -27,9 +27,9 @@ use cbor_read::Read;
 /// which strict reading alone answers). A type may, unless it says otherwise.
 ///
 /// `passes_over` says that the type passes over an item that it doesn't read before it refuses it:
-/// so what isn't whole is refused by its fault, and an item, of keys of any formats, by a message. A
-/// type needn't, unless it says so: one that is read part by part stops at the part that it doesn't
-/// read.
+/// so what isn't whole is refused by its fault, and an item, of keys of any formats, by a message.
+/// A type needn't, unless it says so: one that is read part by part stops at the part that it
+/// doesn't read.
 pub trait Readable: Sized + Drop {
     ghost use Rattle.std.specs.Prelude.{⊤, Bool, true, false};
     ghost use Rattle.cbor_model.specs.Raw.{Raw};

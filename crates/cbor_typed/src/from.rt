@@ -106,9 +106,9 @@ fn are_bytes(slice: &[u8])
 /// Where several faults stand in one input, a type that reads every item, as `Value` does, returns
 /// the first. A bool, a number, a `char`, `()`, a string, and an `Option` of these return the first
 /// of the item that the bytes begin with, and `Message` exactly where an acceptable item stands
-/// there that they don't read. Of other types no clause says which fault is returned. But those, and
-/// a vector, an array or a tuple of them, never refuse an item for its form, by `ArrayTooShort`,
-/// `ArrayTooLong`, `WrongEnumFormat` or `WrongStructFormat`.
+/// there that they don't read. Of other types no clause says which fault is returned. But those,
+/// and a vector, an array or a tuple of them, never refuse an item for its form, by
+/// `ArrayTooShort`, `ArrayTooLong`, `WrongEnumFormat` or `WrongStructFormat`.
 ///
 /// ```rust
 /// let number: u8 = from_slice(alloc, b"\x18\x2a")?;
@@ -143,9 +143,9 @@ pub fn from_slice<'a, T: Deserialize<'a, SliceRead<'a>>>(
     // It tells the fault that the reference reader meets, or that memory ran out.
     ensures refused { IfErr result (λ e.
         WhereTotal T.total (Fails (length slice.now) e (read_value slice.now))) }
-    // Where the type passes over an item that it doesn't read, a refusal tells the fault of what the
-    // bytes begin with, or that more follows it; and it is a message exactly where an item stands
-    // there that isn't read.
+    // Where the type passes over an item that it doesn't read, a refusal tells the fault of what
+    // the bytes begin with, or that more follows it; and it is a message exactly where an item
+    // stands there that isn't read.
     ensures fault { IfErr result (λ e.
         WhereTotal T.passes_over (RefusesBytes ⊥ None slice.now e)) }
     // Only a type that may refuse an item for its form answers a code that tells a wrong one.

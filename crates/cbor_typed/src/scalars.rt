@@ -88,7 +88,8 @@ impl<R: Source> Deserializer<R> {
         scalar::read_unit(&mut self.items)
     }
 
-    /// Reads a whole number. What isn't whole is refused by its fault, and another item by a message.
+    /// Reads a whole number. What isn't whole is refused by its fault, and another item by a
+    /// message.
     ///
     /// ```rust
     /// let mut de = Deserializer::from_slice(alloc, b"\x39\x01\x2b");
@@ -125,7 +126,8 @@ impl<R: Source> Deserializer<R> {
 }
 
 impl<'de, R: Read<'de>> Deserializer<R> {
-    /// Lends a text, or a byte string that is UTF-8.
+    /// Lends a text, or a byte string that is UTF-8. Another item is [`Unread::Other`], and was
+    /// passed over; what isn't whole, of any kind, is refused by its fault.
     #[inline(always)]
     pub fn read_text<'a>(&'a mut self) -> Lent<EitherStr<'a, 'de>>
         ensures* after_borrow { sem 𝓛 (Rests (typed_row R.row) self.entry (λ new.
@@ -137,12 +139,14 @@ impl<'de, R: Read<'de>> Deserializer<R> {
             × IfErr result (UnreadOnly (OfItem (AsksForString (asks_for R.refusals R.lends))
             (formats_of self.old.items.formats) self.old.items.levels
             (R.source self.old.items.source)))
-            × LendsWhole R.refusals self.old.items.levels (R.source self.old.items.source) result)) }
+            × LendsWhole R.refusals self.old.items.levels
+            (R.source self.old.items.source) result)) }
     {
         lent::read_text(&mut self.items)
     }
 
-    /// Lends the bytes of a byte string, or of a text.
+    /// Lends the bytes of a byte string, or of a text. It refuses as
+    /// [`read_text`](Deserializer::read_text) does.
     #[inline(always)]
     pub fn read_bytes<'a>(&'a mut self) -> Lent<EitherLifetime<'a, 'de>>
         ensures* after_borrow { sem 𝓛 (Rests (typed_row R.row) self.entry (λ new.
@@ -154,7 +158,8 @@ impl<'de, R: Read<'de>> Deserializer<R> {
             × IfErr result (UnreadOnly (OfItem (AsksForString (asks_for R.refusals R.lends))
             (formats_of self.old.items.formats) self.old.items.levels
             (R.source self.old.items.source)))
-            × LendsWhole R.refusals self.old.items.levels (R.source self.old.items.source) result)) }
+            × LendsWhole R.refusals self.old.items.levels
+            (R.source self.old.items.source) result)) }
     {
         lent::read_bytes(&mut self.items)
     }
@@ -171,7 +176,8 @@ impl<'de, R: Read<'de>> Deserializer<R> {
             × IfErr result (UnreadOnly (OfItem (AsksForBytes (asks_for R.refusals R.lends))
             (formats_of self.old.items.formats) self.old.items.levels
             (R.source self.old.items.source)))
-            × LendsWhole R.refusals self.old.items.levels (R.source self.old.items.source) result)) }
+            × LendsWhole R.refusals self.old.items.levels
+            (R.source self.old.items.source) result)) }
     {
         lent::read_byte_string(&mut self.items)
     }
