@@ -33,12 +33,12 @@ abbrev means : ℕ → Content → Bar → Type 0
 means = variants (unit bar.Empty ∷ newtype number bar.Number ∷ tuple (part_then text (part_then flag no_part)) (λ y. bar.Flag y.0 y.1.0) ∷ newtype point (λ p. bar.Point p.x p.y) ∷ [])
 
 pub returns-in_err-access-clause-read : goal.returns-in_err-access-clause-read
-returns-in_err-access-clause-read g c = variant_unread names means c.args.de.now.items.formats _ _ _ _ c.in_err-access.ensures.refused c.from_residual.ensures.1
+returns-in_err-access-clause-read g c = variant_unread names means c.args.de.now.items.formats _ _ _ _ c.in_err-access.ensures.refused c.from_residual.ensures.1 (search rules)
 
 pub returns-in_err-unit-in-0-clause-read : goal.returns-in_err-unit-in-0-clause-read
 returns-in_err-unit-in-0-clause-read g c =
     let so = variant_is names means 0 c.in_ok-access.ensures.head c.in_ok-access.ensures.formats (search rules) in
-    unit_unread so bar.Empty refl _ _ _ c.in_err-unit-in-0.ensures.read c.from_residual-in_err-unit-in-0.ensures.1
+    unit_unread so bar.Empty refl _ _ _ c.in_err-unit-in-0.ensures.read c.from_residual-in_err-unit-in-0.ensures.1 (search rules)
 
 pub returns-in_ok-unit-in-0-clause-read : goal.returns-in_ok-unit-in-0-clause-read
 returns-in_ok-unit-in-0-clause-read g c =
@@ -48,7 +48,7 @@ returns-in_ok-unit-in-0-clause-read g c =
 pub returns-in_err-number-in-1-clause-read : goal.returns-in_err-number-in-1-clause-read
 returns-in_err-number-in-1-clause-read g c =
     let so = variant_is names means 1 c.in_ok-access.ensures.head c.in_ok-access.ensures.formats (search rules) in
-    newtype_unread so (λ f. number) _ refl _ _ _ c.in_err-number-in-1.ensures.read c.from_residual-in_err-number-in-1.ensures.1
+    newtype_unread so (λ f. number) _ refl _ _ _ c.in_err-number-in-1.ensures.read c.from_residual-in_err-number-in-1.ensures.1 (search rules)
 
 pub returns-in_ok-number-in-1-clause-read : goal.returns-in_ok-number-in-1-clause-read
 returns-in_ok-number-in-1-clause-read g c =
@@ -59,20 +59,20 @@ returns-in_ok-number-in-1-clause-read g c =
 pub returns-in_err-parts-in-2-clause-read : goal.returns-in_err-parts-in-2-clause-read
 returns-in_err-parts-in-2-clause-read g c =
     let so = variant_is names means 2 c.in_ok-access.ensures.head c.in_ok-access.ensures.formats (search rules) in
-    tuple_unread so _ _ refl _ _ _ c.in_err-parts-in-2.ensures.refused c.from_residual-in_err-parts-in-2.ensures.1
+    tuple_unread so _ _ refl _ _ _ c.in_err-parts-in-2.ensures.refused c.from_residual-in_err-parts-in-2.ensures.1 (search rules)
 
 pub returns-in_err-name-in-2-clause-read : goal.returns-in_err-name-in-2-clause-read
 returns-in_err-name-in-2-clause-read g c =
     let so = variant_is names means 2 c.in_ok-access.ensures.head c.in_ok-access.ensures.formats (search rules) in
     let parts = tuple_begins so _ _ refl c.in_ok-parts-in-2.ensures.head c.in_ok-parts-in-2.ensures.formats in
-    part_unread (λ f. text) _ parts _ _ _ c.in_err-name-in-2.ensures.read c.from_residual-in_err-name-in-2.ensures.1
+    part_unread (λ f. text) _ parts _ _ _ c.in_err-name-in-2.ensures.read c.from_residual-in_err-name-in-2.ensures.1 (search rules)
 
 pub returns-in_err-flag-in-2-clause-read : goal.returns-in_err-flag-in-2-clause-read
 returns-in_err-flag-in-2-clause-read g c =
     let so = variant_is names means 2 c.in_ok-access.ensures.head c.in_ok-access.ensures.formats (search rules) in
     let parts = tuple_begins so _ _ refl c.in_ok-parts-in-2.ensures.head c.in_ok-parts-in-2.ensures.formats in
     let part0 = part_read (λ f. text) _ parts _ c.in_ok-name-in-2.ensures.read c.in_ok-name-in-2.ensures.formats c.in_ok-name-in-2.ensures.inside in
-    part_unread (λ f. flag) _ part0 _ _ _ c.in_err-flag-in-2.ensures.read c.from_residual-in_err-flag-in-2.ensures.1
+    part_unread (λ f. flag) _ part0 _ _ _ c.in_err-flag-in-2.ensures.read c.from_residual-in_err-flag-in-2.ensures.1 (search rules)
 
 pub returns-in_err-end-in-2-clause-read : goal.returns-in_err-end-in-2-clause-read
 returns-in_err-end-in-2-clause-read g c =
@@ -80,7 +80,7 @@ returns-in_err-end-in-2-clause-read g c =
     let parts = tuple_begins so _ _ refl c.in_ok-parts-in-2.ensures.head c.in_ok-parts-in-2.ensures.formats in
     let part0 = part_read (λ f. text) _ parts _ c.in_ok-name-in-2.ensures.read c.in_ok-name-in-2.ensures.formats c.in_ok-name-in-2.ensures.inside in
     let part1 = part_read (λ f. flag) _ part0 _ c.in_ok-flag-in-2.ensures.read c.in_ok-flag-in-2.ensures.formats c.in_ok-flag-in-2.ensures.inside in
-    parts_left part1 g.R.Source.refusals _ _ _ c.in_err-end-in-2.ensures.read c.from_residual-in_err-end-in-2.ensures.1
+    parts_left part1 g.R.Source.refusals _ _ _ c.in_err-end-in-2.ensures.read c.from_residual-in_err-end-in-2.ensures.1 (search rules)
 
 pub returns-in_ok-end-in-2-clause-read : goal.returns-in_ok-end-in-2-clause-read
 returns-in_ok-end-in-2-clause-read g c =
@@ -93,7 +93,7 @@ returns-in_ok-end-in-2-clause-read g c =
 pub returns-in_err-point-in_default-clause-read : goal.returns-in_err-point-in_default-clause-read
 returns-in_err-point-in_default-clause-read g c =
     let so = variant_is names means 3 c.in_ok-access.ensures.head c.in_ok-access.ensures.formats (omega (arith, c.in_default, c.index.ensures, c.in_ok-access.ensures.below)) in
-    newtype_unread so (λ f. point) (λ p. bar.Point p.x p.y) refl _ _ _ c.in_err-point-in_default.ensures.read c.from_residual-in_err-point-in_default.ensures.1
+    newtype_unread so (λ f. point) (λ p. bar.Point p.x p.y) refl _ _ _ c.in_err-point-in_default.ensures.read c.from_residual-in_err-point-in_default.ensures.1 (search rules)
 
 pub returns-in_ok-point-in_default-clause-read : goal.returns-in_ok-point-in_default-clause-read
 returns-in_ok-point-in_default-clause-read g c =

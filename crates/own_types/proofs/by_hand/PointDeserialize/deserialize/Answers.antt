@@ -9,7 +9,7 @@ use Rattle.own_types.proofs.by_hand.PointDeserialize.deserialize.Goals.{In-Some,
 
 pub returns-in_err-access-clause-read : goal.returns-in_err-access-clause-read
 returns-in_err-access-clause-read g c =
-    no_fields names fields g.R.Source.source c.args.de.now _ _ c.in_err-access.ensures.refused _ _ c.from_residual.ensures.1
+    no_fields names fields g.R.Source.source c.args.de.now _ _ c.in_err-access.ensures.refused _ _ c.from_residual.ensures.1 (search rules)
 
 pub fields-init : goal.fields-init
 fields-init g c =
@@ -20,7 +20,7 @@ fields-init g c =
 
 pub returns-in_err-field-clause-read : goal.returns-in_err-field-clause-read
 returns-in_err-field-clause-read g c =
-    none_named c.fields.invariant _ _ c.in_err-field.ensures.read _ _ c.from_residual-in_err-field.ensures.1
+    none_named c.fields.invariant _ _ c.in_err-field.ensures.read _ _ c.from_residual-in_err-field.ensures.1 (search rules)
 
 due : (g : Over) (c : In-Some g) → FieldDue names fields g.R.Source.source c.args.de.now c.in_ok-access.access c.next_field.new.self (c.fields.x, (c.fields.y, tt)) c.in-Some.field
 due g c =
@@ -41,7 +41,7 @@ fields-preserved-in-0-1 g c =
 
 pub returns-in_err-once-in-Known-eq0-clause-read : goal.returns-in_err-once-in-Known-eq0-clause-read
 returns-in_err-once-in-Known-eq0-clause-read g c =
-    field_refused (due g (goal.at.returns-in_err-once-in-Known-eq0-clause-read g c).In-Some) 0 tt (cc) _ _ c.in_err-once-in-Known-eq0.ensures.refused _ _ c.from_residual-in_err-once-in-Known-eq0.ensures.1
+    field_refused (due g (goal.at.returns-in_err-once-in-Known-eq0-clause-read g c).In-Some) 0 tt (cc) _ _ c.in_err-once-in-Known-eq0.ensures.refused _ _ c.from_residual-in_err-once-in-Known-eq0.ensures.1 (search rules)
 
 pub fields-preserved-in-1-1 : goal.fields-preserved-in-1-1
 fields-preserved-in-1-1 g c =
@@ -50,7 +50,7 @@ fields-preserved-in-1-1 g c =
 
 pub returns-in_err-once-in-Known-eq1-clause-read : goal.returns-in_err-once-in-Known-eq1-clause-read
 returns-in_err-once-in-Known-eq1-clause-read g c =
-    field_refused (due g (goal.at.returns-in_err-once-in-Known-eq1-clause-read g c).In-Some) 1 tt (cc) _ _ c.in_err-once-in-Known-eq1.ensures.refused _ _ c.from_residual-in_err-once-in-Known-eq1.ensures.1
+    field_refused (due g (goal.at.returns-in_err-once-in-Known-eq1-clause-read g c).In-Some) 1 tt (cc) _ _ c.in_err-once-in-Known-eq1.ensures.refused _ _ c.from_residual-in_err-once-in-Known-eq1.ensures.1 (search rules)
 
 -- ---- skip
 
@@ -65,24 +65,24 @@ fields-preserved g c =
 
 pub returns-in_err-skip-in_default-field-clause-read : goal.returns-in_err-skip-in_default-field-clause-read
 returns-in_err-skip-in_default-field-clause-read g c =
-    other_refused (due g (goal.at.returns-in_err-skip-in_default-field-clause-read g c).In-Some) _ _ c.in_err-skip-in_default-field.ensures.read _ _ c.from_residual-in_err-skip-in_default-field.ensures.1
+    other_refused (due g (goal.at.returns-in_err-skip-in_default-field-clause-read g c).In-Some) _ _ c.in_err-skip-in_default-field.ensures.read _ _ c.from_residual-in_err-skip-in_default-field.ensures.1 (search rules)
 
 -- ---- required
 
 pub returns-in_err-x-clause-read : goal.returns-in_err-x-clause-read
 returns-in_err-x-clause-read g c =
-    field_absent (ended g (goal.at.returns-in_err-x-clause-read g c).In_default) 0 c.in_err-x.ensures.absent _ _ _ _ c.from_residual-in_err-x.ensures.1
+    field_absent (ended g (goal.at.returns-in_err-x-clause-read g c).In_default) 0 c.in_err-x.ensures.absent _ _ _ _ c.from_residual-in_err-x.ensures.1 (search rules)
 
 pub returns-in_err-y-clause-read : goal.returns-in_err-y-clause-read
 returns-in_err-y-clause-read g c =
-    field_absent (ended g (goal.at.returns-in_err-y-clause-read g c).In_default) 1 c.in_err-y.ensures.absent _ _ _ _ c.from_residual-in_err-y.ensures.1
+    field_absent (ended g (goal.at.returns-in_err-y-clause-read g c).In_default) 1 c.in_err-y.ensures.absent _ _ _ _ c.from_residual-in_err-y.ensures.1 (search rules)
 
 -- ---- end
 
 pub returns-in_err-end-clause-read : goal.returns-in_err-end-clause-read
 returns-in_err-end-clause-read g c =
     let last = field_required (ended g (goal.at.returns-in_err-end-clause-read g c).In_default) {after = c.required-2.new.self} (cc) (cc) in
-    end_refused last _ _ c.in_err-end.ensures.read _ _ c.from_residual-in_err-end.ensures.1
+    end_refused last _ _ c.in_err-end.ensures.read _ _ c.from_residual-in_err-end.ensures.1 (search rules)
 
 pub returns-clause-read : goal.returns-clause-read
 returns-clause-read g c =
