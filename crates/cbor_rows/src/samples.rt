@@ -1,18 +1,19 @@
 //! Types as users write them.
 
-use cbor_samples::assorted::Assorted;
-use cbor_samples::bookmark::Bookmark;
-use cbor_samples::choice::Choice;
-use cbor_samples::enums::{Bar, Color, DataEnum, TwoVariants, Wish};
-use cbor_samples::letters::{EnumStruct, Letter, ReprEnumStruct};
-use cbor_samples::nested::{Message, Pair, Settings};
-use cbor_samples::structs::{
-    Example, Foo, Mascot, NewtypeStruct, OptionalPerson, Person, SmallStruct, User,
-};
-use cbor_samples::weather::Weather;
-use cbor_samples::wraps::{FloatEnum, UnitStruct};
 use cbor_tables::{Desk, Row};
 use cbor_tree::tree::Tree;
+use sample_enums::choice::Choice;
+use sample_enums::enums::{Bar, Color, DataEnum, TwoVariants, Wish};
+use sample_enums::floats::FloatEnum;
+use sample_enums::letters::{EnumStruct, Letter, ReprEnumStruct};
+use sample_enums::nested::{Example, Foo, Message};
+use sample_structs::assorted::Assorted;
+use sample_structs::bookmark::Bookmark;
+use sample_structs::optional::{Pair, Settings};
+use sample_structs::structs::{
+    Mascot, NewtypeStruct, OptionalPerson, Person, SmallStruct, UnitStruct, User,
+};
+use sample_structs::weather::Weather;
 use serde_cbor::Deserializer;
 use serde_cbor::de::Read;
 use std::io;

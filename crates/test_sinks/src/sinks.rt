@@ -1,8 +1,8 @@
 //! Structs and collections, written to sinks of each kind.
 
-use cbor_samples::counter::Counter;
-use cbor_samples::enums::{Bar, DataEnum};
-use cbor_samples::structs::{Mascot, User};
+use sample_enums::enums::{Bar, DataEnum};
+use sample_structs::counter::Counter;
+use sample_structs::structs::{Mascot, User};
 use serde_cbor::ser::{IoWrite, Serialize, SliceWrite, to_vec_packed};
 use serde_cbor::{Serializer, to_vec, to_writer};
 use std::alloc::{AllocError, Global};

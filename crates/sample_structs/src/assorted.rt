@@ -1,6 +1,6 @@
 //! A struct of fields of many kinds.
 
-use crate::wraps::UnitStruct;
+use crate::structs::UnitStruct;
 use serde_cbor::bytes::ByteBuf;
 use serde_cbor::de::{Deserialize, DeserializeOwned, FromParts, Read, Readable, ReadableParts};
 use serde_cbor::parts::Schema;
@@ -32,7 +32,7 @@ const ASSORTED: &[&str] = &[
 
 impl Schema for Assorted {
     ghost use Rattle.std.specs.Prelude.{map};
-    ghost use Rattle.cbor_samples.specs.declared.assorted.TheConstants.{ASSORTED};
+    ghost use Rattle.sample_structs.specs.declared.assorted.TheConstants.{ASSORTED};
 
     type Parts = (
         (String, i32, u64),

@@ -1,6 +1,5 @@
-//! Structs, written as maps of their fields, and one of an unnamed part.
+//! Structs, written as maps of their fields, one of an unnamed part, and one of none.
 
-use crate::enums::Color;
 use serde_cbor::de::{Deserialize, DeserializeOwned, FromParts, Read, Readable, ReadableParts};
 use serde_cbor::parts::{Newtype, Optional, Schema};
 use serde_cbor::ser::{OptionalField, PartsDocument, Serialize, Serializer, Write};
@@ -18,7 +17,7 @@ const USER: &[&str] = &["user_id", "password_hash"];
 
 impl Schema for User {
     ghost use Rattle.std.specs.Prelude.{map};
-    ghost use Rattle.cbor_samples.specs.declared.structs.TheConstants.{USER};
+    ghost use Rattle.sample_structs.specs.declared.structs.TheConstants.{USER};
 
     type Parts = (u32, [u8; 4]);
 
@@ -72,7 +71,7 @@ const SMALL: &[&str] = &["spam", "eggs"];
 
 impl Schema for SmallStruct {
     ghost use Rattle.std.specs.Prelude.{map};
-    ghost use Rattle.cbor_samples.specs.declared.structs.TheConstants.{SMALL};
+    ghost use Rattle.sample_structs.specs.declared.structs.TheConstants.{SMALL};
 
     type Parts = (u32, u32);
 
@@ -125,7 +124,7 @@ const OPTIONAL_PERSON: &[&str] = &["name", "year_of_birth", "profession"];
 impl Schema for OptionalPerson {
     ghost use Rattle.std.specs.Prelude.{map};
     ghost use Rattle.serde_cbor.specs.Schemas.{optional};
-    ghost use Rattle.cbor_samples.specs.declared.structs.TheConstants.{OPTIONAL_PERSON};
+    ghost use Rattle.sample_structs.specs.declared.structs.TheConstants.{OPTIONAL_PERSON};
 
     type Parts = (String, Optional<u16>, String);
 
@@ -170,107 +169,6 @@ impl<'de, R: Read<'de>> Deserialize<'de, R> for OptionalPerson {
 }
 
 impl DeserializeOwned for OptionalPerson {
-    ghost same = { λ f a b r v h. h };
-}
-
-/// A struct within a struct.
-#[derive(Debug, Drop)]
-pub struct Foo {
-    pub x: u8,
-    pub color: Color,
-}
-
-/// The names of its fields.
-const FOO: &[&str] = &["x", "color"];
-
-impl Schema for Foo {
-    ghost use Rattle.std.specs.Prelude.{map};
-    ghost use Rattle.cbor_samples.specs.declared.structs.TheConstants.{FOO};
-
-    type Parts = (u8, Color);
-
-    ghost names = { map (λ n. n.now) FOO.now };
-
-    ghost parts = { λ f. (f.x, f.color) };
-}
-
-impl Serialize for Foo {
-    ghost document = { λ x. ⟦<<Foo as Schema>::Parts as PartsDocument>⟧.document
-        ⟦<Foo as Schema>⟧.names (⟦<Foo as Schema>⟧.parts x) };
-
-    fn serialize<W: Write>(&self, ser: &mut Serializer<W>) -> Result<()> {
-        ser.serialize_fields(FOO, &(&self.x, &self.color))
-    }
-}
-
-impl FromParts for Foo {
-    fn from_parts((x, color): Self::Parts) -> Foo {
-        Foo { x, color }
-    }
-}
-
-impl Readable for Foo {
-    ghost reads = { λ c r x. ⟦<<Foo as Schema>::Parts as ReadableParts>⟧.reads
-        ⟦<Foo as Schema>⟧.names c r (⟦<Foo as Schema>⟧.parts x) };
-}
-
-impl<'de, R: Read<'de>> Deserialize<'de, R> for Foo {
-    fn deserialize(de: &mut Deserializer<R>) -> Result<Foo> {
-        Self::read_described(de, FOO)
-    }
-}
-
-impl DeserializeOwned for Foo {
-    ghost same = { λ f a b r v h. h };
-}
-
-#[derive(Debug, Drop)]
-pub struct Example {
-    pub foo: Foo,
-    pub payload: u8,
-}
-
-/// The names of its fields.
-const EXAMPLE: &[&str] = &["foo", "payload"];
-
-impl Schema for Example {
-    ghost use Rattle.std.specs.Prelude.{map};
-    ghost use Rattle.cbor_samples.specs.declared.structs.TheConstants.{EXAMPLE};
-
-    type Parts = (Foo, u8);
-
-    ghost names = { map (λ n. n.now) EXAMPLE.now };
-
-    ghost parts = { λ e. (e.foo, e.payload) };
-}
-
-impl Serialize for Example {
-    ghost document = { λ x. ⟦<<Example as Schema>::Parts as PartsDocument>⟧.document
-        ⟦<Example as Schema>⟧.names (⟦<Example as Schema>⟧.parts x) };
-
-    fn serialize<W: Write>(&self, ser: &mut Serializer<W>) -> Result<()> {
-        ser.serialize_fields(EXAMPLE, &(&self.foo, &self.payload))
-    }
-}
-
-impl FromParts for Example {
-    fn from_parts((foo, payload): Self::Parts) -> Example {
-        Example { foo, payload }
-    }
-}
-
-impl Readable for Example {
-    ghost reads = { λ c r x. ⟦<<Example as Schema>::Parts as ReadableParts>⟧.reads
-        ⟦<Example as Schema>⟧.names c r (⟦<Example as Schema>⟧.parts x) };
-}
-
-impl<'de, R: Read<'de>> Deserialize<'de, R> for Example {
-    fn deserialize(de: &mut Deserializer<R>) -> Result<Example> {
-        Self::read_described(de, EXAMPLE)
-    }
-}
-
-impl DeserializeOwned for Example {
     ghost same = { λ f a b r v h. h };
 }
 
@@ -329,7 +227,7 @@ const MASCOT: &[&str] = &["name", "species", "year_of_birth"];
 
 impl Schema for Mascot {
     ghost use Rattle.std.specs.Prelude.{map};
-    ghost use Rattle.cbor_samples.specs.declared.structs.TheConstants.{MASCOT};
+    ghost use Rattle.sample_structs.specs.declared.structs.TheConstants.{MASCOT};
 
     type Parts = (String, String, u32);
 
@@ -384,7 +282,7 @@ const PERSON: &[&str] = &["name", "year_of_birth", "profession"];
 
 impl Schema for Person {
     ghost use Rattle.std.specs.Prelude.{map};
-    ghost use Rattle.cbor_samples.specs.declared.structs.TheConstants.{PERSON};
+    ghost use Rattle.sample_structs.specs.declared.structs.TheConstants.{PERSON};
 
     type Parts = (String, u16, Option<String>);
 
@@ -424,5 +322,48 @@ impl<'de, R: Read<'de>> Deserialize<'de, R> for Person {
 }
 
 impl DeserializeOwned for Person {
+    ghost same = { λ f a b r v h. h };
+}
+
+/// A struct of no part.
+#[derive(Debug, Drop)]
+pub struct UnitStruct;
+
+impl Schema for UnitStruct {
+    ghost use Rattle.std.specs.Prelude.{[]};
+    ghost use Rattle.serde_cbor.specs.Schemas.{newtype};
+
+    type Parts = Newtype<()>;
+
+    ghost names = { [] };
+
+    ghost parts = { λ _. newtype tt };
+}
+
+impl Serialize for UnitStruct {
+    ghost document = { λ _. ⟦<() as Serialize>⟧.document tt };
+
+    fn serialize<W: Write>(&self, ser: &mut Serializer<W>) -> Result<()> {
+        ser.serialize_unit_struct("UnitStruct")
+    }
+}
+
+impl FromParts for UnitStruct {
+    fn from_parts(Newtype(()): Self::Parts) -> UnitStruct {
+        UnitStruct
+    }
+}
+
+impl Readable for UnitStruct {
+    ghost reads = { λ c r _. ⟦<() as Readable>⟧.reads c r tt };
+}
+
+impl<'de, R: Read<'de>> Deserialize<'de, R> for UnitStruct {
+    fn deserialize(de: &mut Deserializer<R>) -> Result<UnitStruct> {
+        Self::read_described(de, &[])
+    }
+}
+
+impl DeserializeOwned for UnitStruct {
     ghost same = { λ f a b r v h. h };
 }

@@ -23,8 +23,8 @@ impl Schema for Color {
     ghost use Rattle.std.specs.Prelude.{map};
     ghost use Rattle.serde_cbor.specs.Schemas.{newtype, tuple};
     ghost use Rattle.serde_cbor.specs.OneOf4 as one_of;
-    ghost use Rattle.cbor_samples.specs.declared.enums.Color.TheVariants as at;
-    ghost use Rattle.cbor_samples.specs.declared.enums.TheConstants.{COLOR};
+    ghost use Rattle.sample_enums.specs.declared.enums.Color.TheVariants as at;
+    ghost use Rattle.sample_enums.specs.declared.enums.TheConstants.{COLOR};
 
     type Parts = OneOf4<(), Newtype<u64>, Newtype<u8>, Tuple<(u64, u8)>>;
 
@@ -100,7 +100,7 @@ const POINT: &[&str] = &["x", "y"];
 
 impl FieldNames for PointFields {
     ghost use Rattle.std.specs.Prelude.{map};
-    ghost use Rattle.cbor_samples.specs.declared.enums.TheConstants.{POINT};
+    ghost use Rattle.sample_enums.specs.declared.enums.TheConstants.{POINT};
 
     type Parts = (i64, i64);
 
@@ -115,8 +115,8 @@ impl Schema for Bar {
     ghost use Rattle.std.specs.Prelude.{map};
     ghost use Rattle.serde_cbor.specs.Schemas.{newtype, tuple, structure};
     ghost use Rattle.serde_cbor.specs.OneOf4 as one_of;
-    ghost use Rattle.cbor_samples.specs.declared.enums.Bar.TheVariants as at;
-    ghost use Rattle.cbor_samples.specs.declared.enums.TheConstants.{BAR};
+    ghost use Rattle.sample_enums.specs.declared.enums.Bar.TheVariants as at;
+    ghost use Rattle.sample_enums.specs.declared.enums.TheConstants.{BAR};
 
     type Parts = OneOf4<(), Newtype<i64>, Tuple<(String, bool)>, Struct<PointFields>>;
 
@@ -191,7 +191,7 @@ pub enum DataFields {}
 
 impl FieldNames for DataFields {
     ghost use Rattle.std.specs.Prelude.{map};
-    ghost use Rattle.cbor_samples.specs.declared.enums.TheConstants.{POINT};
+    ghost use Rattle.sample_enums.specs.declared.enums.TheConstants.{POINT};
 
     type Parts = (u8, String);
 
@@ -206,8 +206,8 @@ impl Schema for DataEnum {
     ghost use Rattle.std.specs.Prelude.{map};
     ghost use Rattle.serde_cbor.specs.Schemas.{newtype, tuple, structure};
     ghost use Rattle.serde_cbor.specs.OneOf3 as one_of;
-    ghost use Rattle.cbor_samples.specs.declared.enums.DataEnum.TheVariants as at;
-    ghost use Rattle.cbor_samples.specs.declared.enums.TheConstants.{DATA};
+    ghost use Rattle.sample_enums.specs.declared.enums.DataEnum.TheVariants as at;
+    ghost use Rattle.sample_enums.specs.declared.enums.TheConstants.{DATA};
 
     type Parts = OneOf3<Newtype<i32>, Tuple<(bool, u8)>, Struct<DataFields>>;
 
@@ -277,8 +277,8 @@ impl Schema for TwoVariants {
     ghost use Rattle.std.specs.Prelude.{map};
     ghost use Rattle.serde_cbor.specs.Schemas.{newtype};
     ghost use Rattle.serde_cbor.specs.OneOf2 as one_of;
-    ghost use Rattle.cbor_samples.specs.declared.enums.TwoVariants.TheVariants as at;
-    ghost use Rattle.cbor_samples.specs.declared.enums.TheConstants.{TWO};
+    ghost use Rattle.sample_enums.specs.declared.enums.TwoVariants.TheVariants as at;
+    ghost use Rattle.sample_enums.specs.declared.enums.TheConstants.{TWO};
 
     type Parts = OneOf2<(), Newtype<u8>>;
 
@@ -338,8 +338,8 @@ const WISH: &[&str] = &["require"];
 impl Schema for Wish {
     ghost use Rattle.std.specs.Prelude.{map};
     ghost use Rattle.serde_cbor.specs.OneOf1 as one_of;
-    ghost use Rattle.cbor_samples.specs.declared.enums.Wish.TheVariants as at;
-    ghost use Rattle.cbor_samples.specs.declared.enums.TheConstants.{WISH};
+    ghost use Rattle.sample_enums.specs.declared.enums.Wish.TheVariants as at;
+    ghost use Rattle.sample_enums.specs.declared.enums.TheConstants.{WISH};
 
     type Parts = OneOf1<()>;
 

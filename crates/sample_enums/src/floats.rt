@@ -1,53 +1,10 @@
-//! A struct of no part, and an enum that holds a float.
+//! An enum that holds a float.
 
 use serde_cbor::de::{Deserialize, DeserializeOwned, FromParts, Read, Readable, ReadableParts};
 use serde_cbor::parts::{Newtype, OneOf1, Schema};
 use serde_cbor::ser::{PartsDocument, Serialize, Serializer, Write};
 use serde_cbor::value::Float;
 use serde_cbor::{Deserializer, Result};
-
-/// A struct of no part.
-#[derive(Debug, Drop)]
-pub struct UnitStruct;
-
-impl Schema for UnitStruct {
-    ghost use Rattle.std.specs.Prelude.{[]};
-    ghost use Rattle.serde_cbor.specs.Schemas.{newtype};
-
-    type Parts = Newtype<()>;
-
-    ghost names = { [] };
-
-    ghost parts = { λ _. newtype tt };
-}
-
-impl Serialize for UnitStruct {
-    ghost document = { λ _. ⟦<() as Serialize>⟧.document tt };
-
-    fn serialize<W: Write>(&self, ser: &mut Serializer<W>) -> Result<()> {
-        ser.serialize_unit_struct("UnitStruct")
-    }
-}
-
-impl FromParts for UnitStruct {
-    fn from_parts(Newtype(()): Self::Parts) -> UnitStruct {
-        UnitStruct
-    }
-}
-
-impl Readable for UnitStruct {
-    ghost reads = { λ c r _. ⟦<() as Readable>⟧.reads c r tt };
-}
-
-impl<'de, R: Read<'de>> Deserialize<'de, R> for UnitStruct {
-    fn deserialize(de: &mut Deserializer<R>) -> Result<UnitStruct> {
-        Self::read_described(de, &[])
-    }
-}
-
-impl DeserializeOwned for UnitStruct {
-    ghost same = { λ f a b r v h. h };
-}
 
 /// An enum that holds a float.
 #[derive(Debug, Drop)]
@@ -62,8 +19,8 @@ impl Schema for FloatEnum {
     ghost use Rattle.std.specs.Prelude.{map};
     ghost use Rattle.serde_cbor.specs.OneOf1 as one_of;
     ghost use Rattle.serde_cbor.specs.Schemas.{newtype};
-    ghost use Rattle.cbor_samples.specs.declared.wraps.FloatEnum.TheVariants as at;
-    ghost use Rattle.cbor_samples.specs.declared.wraps.TheConstants.{FLOAT};
+    ghost use Rattle.sample_enums.specs.declared.floats.FloatEnum.TheVariants as at;
+    ghost use Rattle.sample_enums.specs.declared.floats.TheConstants.{FLOAT};
 
     type Parts = OneOf1<Newtype<Float>>;
 

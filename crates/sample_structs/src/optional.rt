@@ -1,75 +1,13 @@
-//! An enum that holds a struct of a struct of an enum, a struct of fields that may be absent, and a
-//! generic struct.
+//! A struct of fields that may be absent, and a generic struct.
 
 ghost use Rattle.std.specs.Prelude.{map};
-ghost use Rattle.serde_cbor.specs.Schemas.{newtype, optional, or_default};
-ghost use Rattle.cbor_samples.specs.declared.nested.TheConstants.{MESSAGE, PAIR, SETTINGS};
+ghost use Rattle.serde_cbor.specs.Schemas.{optional, or_default};
+ghost use Rattle.sample_structs.specs.declared.optional.TheConstants.{PAIR, SETTINGS};
 
-use crate::structs::Example;
 use serde_cbor::de::{Deserialize, DeserializeOwned, FromParts, Read, Readable, ReadableParts};
-use serde_cbor::parts::{Newtype, OneOf2, Optional, OrDefault, Schema};
+use serde_cbor::parts::{Optional, OrDefault, Schema};
 use serde_cbor::ser::{OptionalField, PartsDocument, Serialize, Serializer, Write};
 use serde_cbor::{Deserializer, Result};
-
-/// What is sent.
-#[derive(Debug, Drop)]
-pub enum Message {
-    Ping,
-    Send(Example),
-}
-
-/// The names of its variants.
-const MESSAGE: &[&str] = &["Ping", "Send"];
-
-impl Schema for Message {
-    ghost use Rattle.serde_cbor.specs.OneOf2 as one_of;
-    ghost use Rattle.cbor_samples.specs.declared.nested.Message.TheVariants as at;
-
-    type Parts = OneOf2<(), Newtype<Example>>;
-
-    ghost names = { map (λ n. n.now) MESSAGE.now };
-
-    ghost parts = { elim [
-      | at.Ping ↦ one_of.first tt
-      | at.Send x ↦ one_of.second (newtype x)
-    ] };
-}
-
-impl Serialize for Message {
-    ghost document = { λ x. ⟦<<Message as Schema>::Parts as PartsDocument>⟧.document
-        ⟦<Message as Schema>⟧.names (⟦<Message as Schema>⟧.parts x) };
-
-    fn serialize<W: Write>(&self, ser: &mut Serializer<W>) -> Result<()> {
-        match self {
-            Message::Ping => ser.serialize_variant(MESSAGE, 0, &()),
-            Message::Send(x) => ser.serialize_variant(MESSAGE, 1, &Newtype(x)),
-        }
-    }
-}
-
-impl FromParts for Message {
-    fn from_parts(from: Self::Parts) -> Message {
-        match from {
-            OneOf2::First(()) => Message::Ping,
-            OneOf2::Second(Newtype(x)) => Message::Send(x),
-        }
-    }
-}
-
-impl Readable for Message {
-    ghost reads = { λ c r x. ⟦<<Message as Schema>::Parts as ReadableParts>⟧.reads
-        ⟦<Message as Schema>⟧.names c r (⟦<Message as Schema>⟧.parts x) };
-}
-
-impl<'de, R: Read<'de>> Deserialize<'de, R> for Message {
-    fn deserialize(de: &mut Deserializer<R>) -> Result<Message> {
-        Self::read_described(de, MESSAGE)
-    }
-}
-
-impl DeserializeOwned for Message {
-    ghost same = { λ f a b r v h. h };
-}
 
 /// What a server is told, of which only the port has to be.
 #[derive(Debug, Drop)]
