@@ -9,6 +9,7 @@ pub mod Numbers
 pub mod Contents
 pub mod FloatNumbers
 pub mod Nulls
+pub mod PassedMemory
 pub mod Memory
 pub mod Lending
 pub mod ByteStrings

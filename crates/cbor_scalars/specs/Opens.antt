@@ -13,8 +13,9 @@ use Rattle.cbor_io.specs.declared.read_error.ReadError.{ReadError}
 use Rattle.cbor_io.specs.declared.read_error.ReadErrorCode.{ReadErrorCode}
 use Rattle.cbor_io.specs.Error.{code_of, offset_of}
 use Rattle.cbor_io.specs.declared.error.Error.{Error}
-use Rattle.cbor_read.specs.Source.{Input}
+use Rattle.cbor_read.specs.Source.{Asks, Input}
 use Rattle.cbor_de.specs.Gives.{Limits, limits, values, Reports, Step, Stopped, Tells}
+use Rattle.cbor_de.specs.HasChunks.{AllRead, AsksWhere, HasChunks}
 use Rattle.cbor_de.specs.Heads.{opening_at, head_at, head_of, after_head, behind_head}
 use Rattle.cbor_de.specs.declared.cursor.Remaining.TheVariants.{Counted}
 use Rattle.cbor_de.specs.declared.head.Head.{Head}
@@ -95,6 +96,12 @@ opened_inside (suc left) bs = opened_at left bs
 -- what follows a head, with keys of any formats, where so many levels are left
 abbrev pub behind_any : ℕ → Head → Limits → List ℕ → Reads Val
 behind_any left h l = after_head all_formats l (inside (values all_formats l) left) h
+
+-- It may ask for memory to pass over what follows the head: for whole parts, or where all that may be
+-- read there as it is spelled has a string in chunks.
+abbrev pub AsksBehind : Asks → Found → Input → Type 0
+AsksBehind a found s = AsksWhere a ((w : HeadWidth) → AllRead HasChunks
+    (λ l. behind_head (raws all_formats l) (inside (raws all_formats l) found.levels) w found.head) s)
 
 -- A refusal after a head tells the fault of what follows it; of an item that is whole it is a message.
 abbrev pub RefusesBehind : (ReadErrorCode → Bool) → Found → Input → Error → Type 0

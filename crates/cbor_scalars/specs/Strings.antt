@@ -18,8 +18,9 @@ use Rattle.cbor_io.specs.Error.{code_of, offset_of}
 use Rattle.cbor_read.specs.Source.{Input, Lends, Asks, part_bytes, is_long}
 use Rattle.cbor_read.specs.declared.EitherLifetime.{EitherLifetime}
 use Rattle.cbor_io.specs.declared.read_error.ReadErrorCode.{ReadErrorCode}
-use Rattle.cbor_de.specs.Gives.{Limits, limits, Step, Stops, Tells, IsErrorOf}
+use Rattle.cbor_de.specs.Gives.{Limits, Step, Stops, IsErrorOf}
 use Rattle.cbor_de.specs.Heads.{joined_of}
+use Rattle.cbor_de.specs.HasChunks.{AsksWhere, HasChunks}
 use Rattle.cbor_io.specs.ReadError.{why, place, error_code, IsMemory}
 use Rattle.cbor_io.specs.declared.error.ErrorCode.{ErrorCode}
 use Rattle.cbor_io.specs.declared.read_error.ReadError.{ReadError}
@@ -30,7 +31,7 @@ use Rattle.cbor_de.specs.declared.head.Head.{Head}
 use Rattle.cbor_de.specs.declared.head.Head.TheVariants.{Bytes, Text}
 use Rattle.cbor_scalars.specs.Opens.{StandsBehind, behind_any}
 use Rattle.cbor_scalars.specs.Takes.{raws, IsRead, IsNotRead, Refuses, RefusesWhole}
-use Rattle.cbor_scalars.specs.Takes.{IsMessage, Stands, TellsFault, any_item}
+use Rattle.cbor_scalars.specs.Takes.{IsMessage, OfItem, Stands, TellsFault, any_item}
 use Rattle.cbor_scalars.specs.declared.opening.Found.{Found}
 use Rattle.cbor_scalars.specs.declared.lent.EitherStr.{EitherStr}
 use Rattle.cbor_scalars.specs.declared.lent.EitherStr.TheVariants.{Short, Long}
@@ -77,8 +78,8 @@ TakesText refusals view h s t kept (Err r) = (e : Error) → IsErrorOf kept r e
     (λ l bs. (b rest : List ℕ) → content_at l h bs ≡ Ok (b, rest) → IsUtf8 b → ⊥)
 
 -- What was sought at the front, where so many levels are left: it was taken; an item of another kind
--- is there, of which some bytes were taken; or reading stopped, as the error says that is made of the refusal that
--- is kept.
+-- is there, of which some bytes were taken; or reading stopped, as the error says that is made of the
+-- refusal that is kept.
 abbrev pub SeeksItem : {A : Type 0} → (ReadErrorCode → Bool) → model.Formats → (Raw → A → Type 0) → ℕ
     → Input → Input → Option ReadError → Result (Option A) Refused → Type 0
 SeeksItem refusals f reads levels s t kept (Ok (Some x)) =
@@ -214,10 +215,16 @@ asks_head a (Bytes None) = a.joined
 asks_head a (Text None) = a.joined
 asks_head a h = a.whole
 
--- Where a string is within these tags, it may ask for memory to lend it. An item of another kind, which
--- is passed over, may have strings in chunks.
+-- Where a string is within these tags, it may ask for memory to lend it.
 abbrev pub AsksForString : Asks → Raw → Type 0
 AsksForString a r = (b : List ℕ) → IsString (untagged r) b → asks_string a (untagged r) ≡ true
+
+-- It may ask for memory as P says of the item at the front, where that is read in these formats; and of
+-- an item of any kind, whatever formats its keys are of, only as it may be passed over: for whole parts,
+-- or where it has a string in chunks.
+abbrev pub AsksToLend : (Asks → Raw → Type 0) → Asks → model.Formats → ℕ → Input → Type 0
+AsksToLend P a f levels s =
+    OfItem (P a) f levels s × OfItem (λ r. AsksWhere a (HasChunks r)) model.all_formats levels s
 
 -- a refusal that isn't the key rule's
 abbrev pub IsNoKey : Unread → Type 0

@@ -9,10 +9,12 @@ ghost use Rattle.cbor_io.specs.Error.{code_of};
 ghost use Rattle.cbor_de.specs.Gives.{TellsNoForm};
 ghost use Rattle.cbor_scalars.specs.Strings.{BytesOf, IsBadAt, IsKept, IsMadeOf, IsNoKey};
 ghost use Rattle.cbor_scalars.specs.Strings.{Lent, LentText, LendsBytes, LendsString, LendsText};
+ghost use Rattle.cbor_scalars.specs.Opens.{AsksBehind};
 ghost use Rattle.cbor_scalars.specs.Strings.{AsksForString, PartText, UnreadOnly, asks_head};
-ghost use Rattle.cbor_scalars.specs.Strings.{AsksForBytes, LendsWhole, UnreadBehind, UnreadBy};
+ghost use Rattle.cbor_scalars.specs.Strings.{AsksForBytes, AsksToLend, LendsWhole};
+ghost use Rattle.cbor_scalars.specs.Strings.{UnreadBehind, UnreadBy};
 ghost use Rattle.cbor_scalars.specs.Strings.{Utf8Of, behind_string};
-ghost use Rattle.cbor_scalars.specs.Takes.{OfItem, context, formats_of};
+ghost use Rattle.cbor_scalars.specs.Takes.{context, formats_of};
 ghost use Rattle.cbor_de.specs.contracts.de.Deserializer.{the_row};
 
 use crate::opening::{Found, pass_over};
@@ -207,8 +209,11 @@ fn bytes_of<'a, 'de>(text: EitherStr<'a, 'de>) -> Result<EitherLifetime<'a, 'de>
 // The refusal of an item of another kind, after its head: the fault of what follows, if it has one.
 #[cold]
 #[inline(never)]
+#[tactic(auto, using(crate::proofs::Memory::kept_only))]
 fn other<R: Source>(items: &mut Deserializer<R>, found: Found) -> Unread
     ensures fault { UnreadBehind R.refusals found (R.source items.old.source) result }
+    ensures memory { UnreadOnly (AsksBehind (asks_for R.refusals R.lends) found
+        (R.source items.old.source)) result }
     ensures took { TookSome (R.source items.old.source) (R.source items.new.source) }
     ensures no_key { IsNoKey result }
     ensures levels { items.new.levels ≡ items.old.levels }
@@ -251,7 +256,7 @@ pub fn read_text<'a, 'de, R: Read<'de>>(
         × LendsText R.refusals (context items.old.formats R.lends) items.old.levels
         (R.source items.old.source) (R.source new.source) result
         × IfErr result IsNoKey
-        × IfErr result (UnreadOnly (OfItem (AsksForString (asks_for R.refusals R.lends))
+        × IfErr result (UnreadOnly (AsksToLend AsksForString (asks_for R.refusals R.lends)
         (formats_of items.old.formats) items.old.levels (R.source items.old.source)))
         × LendsWhole R.refusals items.old.levels (R.source items.old.source) result)) }
 {
@@ -284,7 +289,7 @@ pub fn read_bytes<'a, 'de, R: Read<'de>>(
         × LendsString R.refusals (context items.old.formats R.lends) items.old.levels
         (R.source items.old.source) (R.source new.source) result
         × IfErr result IsNoKey
-        × IfErr result (UnreadOnly (OfItem (AsksForString (asks_for R.refusals R.lends))
+        × IfErr result (UnreadOnly (AsksToLend AsksForString (asks_for R.refusals R.lends)
         (formats_of items.old.formats) items.old.levels (R.source items.old.source)))
         × LendsWhole R.refusals items.old.levels (R.source items.old.source) result)) }
 {
@@ -316,7 +321,7 @@ pub fn read_byte_string<'a, 'de, R: Read<'de>>(
         × LendsBytes R.refusals (context items.old.formats R.lends) items.old.levels
         (R.source items.old.source) (R.source new.source) result
         × IfErr result IsNoKey
-        × IfErr result (UnreadOnly (OfItem (AsksForBytes (asks_for R.refusals R.lends))
+        × IfErr result (UnreadOnly (AsksToLend AsksForBytes (asks_for R.refusals R.lends)
         (formats_of items.old.formats) items.old.levels (R.source items.old.source)))
         × LendsWhole R.refusals items.old.levels (R.source items.old.source) result)) }
 {

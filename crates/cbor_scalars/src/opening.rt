@@ -6,8 +6,10 @@ ghost use Rattle.cbor_de.specs.Gives.{Gives, TellsNoForm, TellsNoKey, TellsNoMem
 ghost use Rattle.cbor_io.specs.Error.{code_of};
 ghost use Rattle.cbor_de.specs.Heads.{HeadGives, opening_at};
 ghost use Rattle.cbor_de.specs.Heads.{passed};
-ghost use Rattle.cbor_read.specs.Source.{TookSome};
-ghost use Rattle.cbor_scalars.specs.Opens.{OpensAt, item_inside, opened_at, opened_inside};
+ghost use Rattle.cbor_de.specs.Memory.{MemoryOnly};
+ghost use Rattle.cbor_read.specs.Source.{TookSome, asks_for};
+ghost use Rattle.cbor_scalars.specs.Opens.{AsksBehind, OpensAt};
+ghost use Rattle.cbor_scalars.specs.Opens.{item_inside, opened_at, opened_inside};
 ghost use Rattle.cbor_scalars.specs.Opens.{RefusesBehind, behind_any};
 ghost use Rattle.cbor_scalars.specs.Takes.{formats_of, raws};
 
@@ -113,6 +115,8 @@ pub(crate) fn pass_over<R: Source>(items: &mut Deserializer<R>, found: Found) ->
     ensures read { Gives R.refusals (λ u. u)
         (λ l bs. passed (behind_any found.levels found.head l bs))
         (R.source items.old.source) (R.source items.new.source) items.new.refusal result }
+    ensures memory { IfErr result (MemoryOnly (AsksBehind (asks_for R.refusals R.lends) found
+        (R.source items.old.source)) items.new.refusal) }
     ensures no_key { IfErr result (TellsNoKey items.new.refusal) }
     ensures levels { items.new.levels ≡ items.old.levels }
     ensures formats { items.new.formats ≡ items.old.formats }

@@ -12,8 +12,9 @@ ghost use Rattle.cbor_scalars.specs.Scalars.{IsFloatItem};
 ghost use Rattle.cbor_scalars.specs.Strings.{IsMadeOf, IsNoKey, LendsBytes, LendsString, LendsText};
 ghost use Rattle.cbor_scalars.specs.Takes.{TakesItem, TakesNoMemory, context, formats_of};
 ghost use Rattle.cbor_read.specs.Source.{asks_for};
-ghost use Rattle.cbor_scalars.specs.Strings.{AsksForBytes, AsksForString, LendsWhole, UnreadOnly};
-ghost use Rattle.cbor_scalars.specs.Takes.{OfItem, ReadsWhole, RefusesWhole, raws};
+ghost use Rattle.cbor_scalars.specs.Strings.{AsksForBytes, AsksForString, AsksToLend};
+ghost use Rattle.cbor_scalars.specs.Strings.{LendsWhole, UnreadOnly};
+ghost use Rattle.cbor_scalars.specs.Takes.{ReadsWhole, RefusesWhole, raws};
 ghost use Rattle.cbor_typed.specs.contracts.de.Deserializer.{the_row as typed_row};
 
 use crate::de::Deserializer;
@@ -136,7 +137,7 @@ impl<'de, R: Read<'de>> Deserializer<R> {
             × LendsText R.refusals (context self.old.items.formats R.lends) self.old.items.levels
             (R.source self.old.items.source) (R.source new.items.source) result
             × IfErr result IsNoKey
-            × IfErr result (UnreadOnly (OfItem (AsksForString (asks_for R.refusals R.lends))
+            × IfErr result (UnreadOnly (AsksToLend AsksForString (asks_for R.refusals R.lends)
             (formats_of self.old.items.formats) self.old.items.levels
             (R.source self.old.items.source)))
             × LendsWhole R.refusals self.old.items.levels
@@ -155,7 +156,7 @@ impl<'de, R: Read<'de>> Deserializer<R> {
             × LendsString R.refusals (context self.old.items.formats R.lends) self.old.items.levels
             (R.source self.old.items.source) (R.source new.items.source) result
             × IfErr result IsNoKey
-            × IfErr result (UnreadOnly (OfItem (AsksForString (asks_for R.refusals R.lends))
+            × IfErr result (UnreadOnly (AsksToLend AsksForString (asks_for R.refusals R.lends)
             (formats_of self.old.items.formats) self.old.items.levels
             (R.source self.old.items.source)))
             × LendsWhole R.refusals self.old.items.levels
@@ -173,7 +174,7 @@ impl<'de, R: Read<'de>> Deserializer<R> {
             × LendsBytes R.refusals (context self.old.items.formats R.lends) self.old.items.levels
             (R.source self.old.items.source) (R.source new.items.source) result
             × IfErr result IsNoKey
-            × IfErr result (UnreadOnly (OfItem (AsksForBytes (asks_for R.refusals R.lends))
+            × IfErr result (UnreadOnly (AsksToLend AsksForBytes (asks_for R.refusals R.lends)
             (formats_of self.old.items.formats) self.old.items.levels
             (R.source self.old.items.source)))
             × LendsWhole R.refusals self.old.items.levels

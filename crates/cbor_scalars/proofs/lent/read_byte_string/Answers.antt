@@ -23,7 +23,7 @@ returns-in-Bytes g c =
     let t = g.R.Source.source c.bytes_part.follows.lender-at-none.source in
     let opened = subst (λ (h : Head). OpensItem g.R.Source.refusals f levels s m u.refusal (Ok h)) c.in-Bytes.is c.in-Ok.ensures.read in
     let after = c.bytes_part.follows.holds-at-none in
-    ((refl, λ _. tt, (after.0 ∙ c.in-Ok.ensures.levels, after.1 ∙ c.in-Ok.ensures.formats, bytes_lent g.R.Source.refusals f g.R.Source.lends levels s m u.refusal c.in-Bytes.n t c.bytes_part.result opened after.2, after.3, of_byte_string g.R.Source.refusals (asks_for g.R.Source.refusals g.R.Source.lends) f levels s m u.refusal c.in-Bytes.n c.bytes_part.result opened after.4, bytes_lends g.R.Source.refusals c.in-Ok.found levels s m c.in-Ok.ensures.opened g.R.Source.lends c.in-Bytes.n t c.bytes_part.result c.in-Bytes.is after.2 after.5)), record { after_borrow = tt })
+    ((refl, λ _. tt, (after.0 ∙ c.in-Ok.ensures.levels, after.1 ∙ c.in-Ok.ensures.formats, bytes_lent g.R.Source.refusals f g.R.Source.lends levels s m u.refusal c.in-Bytes.n t c.bytes_part.result opened after.2, after.3, of_byte_string g.R.Source.refusals (asks_for g.R.Source.refusals g.R.Source.lends) f levels s m u.refusal c.in-Ok.found c.in-Ok.ensures.opened c.in-Bytes.n c.bytes_part.result c.in-Bytes.is opened after.4, bytes_lends g.R.Source.refusals c.in-Ok.found levels s m c.in-Ok.ensures.opened g.R.Source.lends c.in-Bytes.n t c.bytes_part.result c.in-Bytes.is after.2 after.5)), record { after_borrow = tt })
 
 pub returns-in_default : goal.returns-in_default
 returns-in_default g c =
@@ -31,7 +31,7 @@ returns-in_default g c =
     let s = g.R.Source.source c.args.items.now.source in
     let f = formats_of c.args.items.now.formats in
     let t = g.R.Source.source c.other.new.items.source in
-    ((refl, λ _. tt, (c.other.ensures.levels ∙ c.in-Ok.ensures.levels, c.other.ensures.formats ∙ c.in-Ok.ensures.formats, other_bytes g.R.Source.refusals f g.R.Source.lends c.args.items.now.levels s (g.R.Source.source u.source) u.refusal c.in-Ok.found.head c.other.result t c.in_default.not-Bytes c.in-Ok.ensures.read c.other.ensures.took, c.other.ensures.no_key, of_no_bytes g.R.Source.refusals (asks_for g.R.Source.refusals g.R.Source.lends) f c.args.items.now.levels s (g.R.Source.source u.source) u.refusal c.in-Ok.found.head c.other.result c.in_default.not-Bytes c.in-Ok.ensures.read, other_lends g.R.Source.refusals c.in-Ok.found c.args.items.now.levels s (g.R.Source.source u.source) c.in-Ok.ensures.opened c.other.result c.other.ensures.fault)), record { after_borrow = tt })
+    ((refl, λ _. tt, (c.other.ensures.levels ∙ c.in-Ok.ensures.levels, c.other.ensures.formats ∙ c.in-Ok.ensures.formats, other_bytes g.R.Source.refusals f g.R.Source.lends c.args.items.now.levels s (g.R.Source.source u.source) u.refusal c.in-Ok.found.head c.other.result t c.in_default.not-Bytes c.in-Ok.ensures.read c.other.ensures.took, c.other.ensures.no_key, of_no_bytes g.R.Source.refusals (asks_for g.R.Source.refusals g.R.Source.lends) f c.args.items.now.levels s (g.R.Source.source u.source) u.refusal c.in-Ok.found c.in-Ok.ensures.opened c.other.result c.in_default.not-Bytes c.in-Ok.ensures.read c.other.ensures.memory, other_lends g.R.Source.refusals c.in-Ok.found c.args.items.now.levels s (g.R.Source.source u.source) c.in-Ok.ensures.opened c.other.result c.other.ensures.fault)), record { after_borrow = tt })
 
 pub returns-in-Err : goal.returns-in-Err
 returns-in-Err g c =

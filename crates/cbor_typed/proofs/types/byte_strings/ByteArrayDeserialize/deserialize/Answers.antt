@@ -4,8 +4,8 @@ use Rattle.cbor_model.specs.Raw.{Raw}
 use Rattle.cbor_model.specs.Readable.{PassesTags}
 use Rattle.cbor_model.specs.Reader.{item_at}
 use Rattle.cbor_read.specs.Source.{asks_for}
-use Rattle.cbor_scalars.specs.Strings.{AsksForBytes, AsksForString, IsByteArray, IsByteString, IsNoKey, LendsBytes, UnreadOnly}
-use Rattle.cbor_scalars.specs.Takes.{OfItem, raws, context, formats_of, IsNotRead}
+use Rattle.cbor_scalars.specs.Strings.{AsksForBytes, AsksForString, AsksToLend, IsByteArray, IsByteString, IsNoKey, LendsBytes, UnreadOnly}
+use Rattle.cbor_scalars.specs.Takes.{raws, context, formats_of, IsNotRead}
 use Rattle.cbor_scalars.proofs.facts.Strings.{made_memory, made_refuses, none_of}
 use Rattle.cbor_typed.proofs.ByteStrings.{array_memory, array_takes}
 use Rattle.cbor_scalars.specs.Strings.{LendsWhole}
@@ -46,10 +46,10 @@ returns-in-Err-clause-memory g c =
     let t = g.R.Source.source c.read_byte_string.follows.lender-at-none.items.source in
     let ctx = context de.items.formats g.R.Source.lends in
     let reads : (Raw → ByteArray g.row.N → Type 0) = λ r x. IsByteArray g.row.N r x.0 in
-    let asks = AsksForBytes (asks_for g.R.Source.refusals g.R.Source.lends) in
+    let asks = asks_for g.R.Source.refusals g.R.Source.lends in
     let lacks = subst (λ r. LendsBytes g.R.Source.refusals ctx levels s t r) c.in-Err.is c.read_byte_string.follows.holds-at-none.2 in
-    let only = subst (λ r. IfErr r (UnreadOnly (OfItem asks f levels s))) c.in-Err.is c.read_byte_string.follows.holds-at-none.4 in
-    made_memory g.R.Source.refusals f reads IsByteString (λ x. x.0) levels s t asks (AsksForString (asks_for g.R.Source.refusals g.R.Source.lends)) c.in-Err.why c.unread.result (λ r x is. is.0) (λ r x is asks b string. asks x.0 is.0) c.unread.ensures.made only lacks
+    let only = subst (λ r. IfErr r (UnreadOnly (AsksToLend AsksForBytes asks f levels s))) c.in-Err.is c.read_byte_string.follows.holds-at-none.4 in
+    made_memory g.R.Source.refusals f reads IsByteString (λ x. x.0) levels s t AsksForBytes asks (AsksForString asks) c.in-Err.why c.unread.result (λ r x is. is.0) (λ r x is asks b string. asks x.0 is.0) c.unread.ensures.made only lacks
 
 pub returns-in-Ok-clause-memory : goal.returns-in-Ok-clause-memory
 returns-in-Ok-clause-memory g c =

@@ -3,8 +3,8 @@ use Rattle.cbor_model.specs.Readable.{PassesTags, IsText}
 use Rattle.cbor_model.specs.Reader.{item_at}
 use Rattle.cbor_read.specs.Source.{asks_for}
 use Rattle.std.specs.Char.{encode_utf8}
-use Rattle.cbor_scalars.specs.Strings.{AsksForString, IsCharacter, IsNoKey, LendsText, UnreadOnly}
-use Rattle.cbor_scalars.specs.Takes.{OfItem, raws, context, formats_of, IsNotRead}
+use Rattle.cbor_scalars.specs.Strings.{AsksForString, AsksToLend, IsCharacter, IsNoKey, LendsText, UnreadOnly}
+use Rattle.cbor_scalars.specs.Takes.{raws, context, formats_of, IsNotRead}
 use Rattle.cbor_typed.proofs.Characters.{character_memory, character_takes}
 use Rattle.cbor_scalars.proofs.facts.Strings.{made_memory, made_refuses, none_of}
 use Rattle.cbor_scalars.specs.Strings.{LendsWhole}
@@ -43,10 +43,10 @@ returns-in-Err-clause-memory g c =
     let s = g.R.Source.source de.items.source in
     let t = g.R.Source.source c.read_text.follows.lender-at-none.items.source in
     let ctx = context de.items.formats g.R.Source.lends in
-    let asks = AsksForString (asks_for g.R.Source.refusals g.R.Source.lends) in
+    let asks = asks_for g.R.Source.refusals g.R.Source.lends in
     let lacks = subst (λ r. LendsText g.R.Source.refusals ctx levels s t r) c.in-Err.is c.read_text.follows.holds-at-none.2 in
-    let only = subst (λ r. IfErr r (UnreadOnly (OfItem asks f levels s))) c.in-Err.is c.read_text.follows.holds-at-none.4 in
-    made_memory g.R.Source.refusals f IsCharacter IsText (λ x. encode_utf8 x) levels s t asks asks c.in-Err.why c.unread.result (λ r x is. is.1) (λ r x is asks. asks) c.unread.ensures.made only lacks
+    let only = subst (λ r. IfErr r (UnreadOnly (AsksToLend AsksForString asks f levels s))) c.in-Err.is c.read_text.follows.holds-at-none.4 in
+    made_memory g.R.Source.refusals f IsCharacter IsText (λ x. encode_utf8 x) levels s t AsksForString asks (AsksForString asks) c.in-Err.why c.unread.result (λ r x is. is.1) (λ r x is asks. asks) c.unread.ensures.made only lacks
 
 pub returns-in-Ok-clause-memory : goal.returns-in-Ok-clause-memory
 returns-in-Ok-clause-memory g c =

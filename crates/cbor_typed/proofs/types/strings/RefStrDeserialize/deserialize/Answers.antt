@@ -3,8 +3,8 @@ use Rattle.cbor_model.specs.Raw.{Raw}
 use Rattle.cbor_read.specs.Source.{asks_for}
 use Rattle.cbor_model.specs.Readable.{untagged, PassesTags, IsText}
 use Rattle.cbor_model.specs.Reader.{item_at}
-use Rattle.cbor_scalars.specs.Strings.{AsksForString, IsBorrowedText, IsNoKey, LendsText, UnreadOnly}
-use Rattle.cbor_scalars.specs.Takes.{OfItem, raws, context, formats_of, IsNotRead}
+use Rattle.cbor_scalars.specs.Strings.{AsksForString, AsksToLend, IsBorrowedText, IsNoKey, LendsText, UnreadOnly}
+use Rattle.cbor_scalars.specs.Takes.{raws, context, formats_of, IsNotRead}
 use Rattle.cbor_scalars.proofs.facts.Strings.{lent_unasked, made_memory, made_refuses, none_of}
 use Rattle.cbor_scalars.specs.Strings.{LendsWhole}
 use Rattle.cbor_scalars.proofs.facts.Strings.{made_whole}
@@ -32,10 +32,10 @@ returns-in-Err-clause-memory g c =
     let t = g.R.Source.source c.read_text.follows.lender-at-none.items.source in
     let ctx = context de.items.formats g.R.Source.lends in
     let reads : (Raw → Bor (List ℕ) → Type 0) = λ r x. IsBorrowedText ctx r x.now in
-    let asks = AsksForString (asks_for g.R.Source.refusals g.R.Source.lends) in
+    let asks = asks_for g.R.Source.refusals g.R.Source.lends in
     let lacks = subst (λ r. LendsText g.R.Source.refusals ctx levels s t r) c.in-Err.is c.read_text.follows.holds-at-none.2 in
-    let only = subst (λ r. IfErr r (UnreadOnly (OfItem asks f levels s))) c.in-Err.is c.read_text.follows.holds-at-none.4 in
-    made_memory g.R.Source.refusals f reads IsText (λ x. x.now) levels s t asks (λ r. ⊥) c.in-Err.why c.unread.result (λ r x is. is.0)
+    let only = subst (λ r. IfErr r (UnreadOnly (AsksToLend AsksForString asks f levels s))) c.in-Err.is c.read_text.follows.holds-at-none.4 in
+    made_memory g.R.Source.refusals f reads IsText (λ x. x.now) levels s t AsksForString asks (λ r. ⊥) c.in-Err.why c.unread.result (λ r x is. is.0)
     (λ r x is asks. lent_unasked g.R.Source.refusals f g.R.Source.lends (untagged r) is.1 (asks x.now is.0.0)) c.unread.ensures.made only lacks
 
 pub returns-in-Err-clause-form : goal.returns-in-Err-clause-form
