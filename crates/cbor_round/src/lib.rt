@@ -13,8 +13,6 @@ mod laws;
 mod one_of;
 mod parts;
 mod round_trip;
-#[cfg(test)]
-mod tests;
 mod tuples;
 mod types;
 

@@ -8,6 +8,3 @@ pub use laws::{
     all_are_most, has_longest_list, one_list_of_items, one_longest_list, stream_answers,
 };
 pub use whole::read_items;
-
-#[cfg(test)]
-mod tests;

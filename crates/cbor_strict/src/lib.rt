@@ -6,8 +6,6 @@
 
 mod from;
 mod laws;
-#[cfg(test)]
-mod tests;
 mod walk;
 mod words;
 

@@ -3,7 +3,5 @@
 
 mod outermost;
 mod tagged;
-#[cfg(test)]
-mod tests;
 
 pub use tagged::Tagged;

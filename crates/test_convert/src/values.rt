@@ -1,9 +1,12 @@
-//! What values of types stand for, and what values are read as.
+//! What values of types stand for and are written as, and what values are read as.
 
+use serde_cbor::round_trip::write_and_read;
+use serde_cbor::ser::Serialize;
 use serde_cbor::tags::Tagged;
 use serde_cbor::value::{Map, ToValue, from_value, to_value};
 use serde_cbor::{Value, to_vec};
 use std::alloc::{AllocError, Global};
+use std::process::Abort;
 use std::test::Fail;
 use test_checks::is_refused;
 
@@ -22,6 +25,29 @@ fn keeps_a_tag(rt: HostRuntime) -> Done {
     let again: Tagged<u8> = from_value(alloc, tagged)?;
     assert_eq!(rt; again.tag, Some(1));
     assert_eq!(rt; again.value, 5);
+    Ok(())
+}
+
+/// The value is written as these bytes.
+fn writes<T: Serialize>(rt: &impl Abort, alloc: Global, value: &T, want: &[u8]) -> Done {
+    let bytes = to_vec(alloc, value)?;
+    assert!(rt; bytes.as_slice() == want);
+    Ok(())
+}
+
+#[test]
+fn makes_a_value_within_a_tag(rt: HostRuntime) -> Done {
+    let alloc = rt.alloc();
+    writes(&rt, alloc, &Tagged::new(Some(24), 5u8), b"\xd8\x18\x05")?;
+    writes(&rt, alloc, &Tagged::new(None, 5u8), b"\x05")
+}
+
+#[test]
+fn reads_again_what_it_wrote(rt: HostRuntime) -> Done {
+    let alloc = rt.alloc();
+    let again: (u32, Option<bool>) = write_and_read(alloc, &(500u32, Some(true)))?;
+    assert_eq!(rt; again.0, 500);
+    assert_eq!(rt; again.1, Some(true));
     Ok(())
 }
 

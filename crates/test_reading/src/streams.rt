@@ -1,17 +1,17 @@
-//! What no row of bytes shows of a stream: levels, offsets, what is lent, and readers that fail.
+//! What a stream holds between calls: levels, offsets and what is lent; and readers that fail.
 
-use crate::read_items;
 use cbor_io::error::Error;
-use cbor_read::{IoRead, Offset, Read, SliceRead, SliceReadFixed};
-use cbor_typed::{Deserialize, Deserializer, StreamDeserializer};
+use cbor_stream::read_items;
+use cbor_typed::{
+    Deserialize, Deserializer, IoRead, Offset, Read, SliceRead, SliceReadFixed, StreamDeserializer,
+};
 use cbor_value::Value;
 use std::alloc::Global;
 use std::io;
 use std::io::ErrorKind;
 use std::process::Abort;
 use std::test::Fail;
-
-type Done = Result<(), Fail>;
+use test_checks::{Done, is_refused};
 
 /// A number is next.
 fn gives<'a, R: Read<'a> + Drop>(
@@ -24,19 +24,12 @@ fn gives<'a, R: Read<'a> + Drop>(
     Ok(())
 }
 
-/// An error of this text is next.
+/// A refusal with these words is next.
 fn refuses<'a, R: Read<'a> + Drop, T: Deserialize<'a, R>>(
-    rt: &impl Abort,
-    alloc: Global,
     stream: &mut StreamDeserializer<'a, R, T>,
-    want: &str,
+    words: &str,
 ) -> Done {
-    let e = stream.next().ok_or("none")?.err().ok_or("an item")?;
-    if e.is_memory() {
-        return Err(Fail::from(e));
-    }
-    assert_eq!(rt; e.to_string(alloc)?.as_str(), want);
-    Ok(())
+    is_refused(stream.next().ok_or("none")?, words)
 }
 
 /// Nothing is next.
@@ -159,18 +152,12 @@ fn counts_behind_each_answer(rt: HostRuntime) -> Done {
 /// A number, and then a text that is cut off, of which a part may be taken.
 fn counts_a_beginning<'a, R: Read<'a> + Offset + Drop>(
     rt: &impl Abort,
-    alloc: Global,
     de: Deserializer<R>,
 ) -> Done {
     let mut stream = de.into_iter::<Value>();
     gives(rt, &mut stream, 1)?;
     has_taken(rt, &stream, 1);
-    refuses(
-        rt,
-        alloc,
-        &mut stream,
-        "EOF while parsing a value at offset 6",
-    )?;
+    refuses(&mut stream, "EOF while parsing a value at offset 6")?;
     assert!(rt; stream.byte_offset() > 1 && stream.byte_offset() <= 6);
     ends(rt, &mut stream);
     Ok(())
@@ -180,15 +167,11 @@ fn counts_a_beginning<'a, R: Read<'a> + Offset + Drop>(
 fn counts_of_an_item_that_is_cut_off(rt: HostRuntime) -> Done {
     let alloc = rt.alloc();
     let bytes = b"\x01\x66foob";
-    counts_a_beginning(&rt, alloc, Deserializer::from_slice(alloc, bytes))?;
+    counts_a_beginning(&rt, Deserializer::from_slice(alloc, bytes))?;
     let mut scratch = [0; 4];
     let de = Deserializer::from_slice_with_scratch(alloc, bytes, &mut scratch);
-    counts_a_beginning(&rt, alloc, de)?;
-    counts_a_beginning(
-        &rt,
-        alloc,
-        Deserializer::from_reader(alloc, bytes.as_slice()),
-    )
+    counts_a_beginning(&rt, de)?;
+    counts_a_beginning(&rt, Deserializer::from_reader(alloc, bytes.as_slice()))
 }
 
 #[test]
@@ -198,7 +181,7 @@ fn gives_texts_that_the_slice_lends(rt: HostRuntime) -> Done {
     let mut stream = StreamDeserializer::<SliceRead, &str>::new(alloc, source);
     let first = stream.next().ok_or("none")??;
     let second = stream.next().ok_or("none")??;
-    refuses(&rt, alloc, &mut stream, "invalid type: expected a string")?;
+    refuses(&mut stream, "invalid type: expected a string")?;
     ends(&rt, &mut stream);
     assert_eq!(rt; first, "a");
     assert_eq!(rt; second, "b");
@@ -291,7 +274,7 @@ fn gives_what_comes_before_a_fault(rt: HostRuntime) -> Done {
     has_taken(&rt, &stream, 1);
     assert_eq!(rt; stream.next().ok_or("none")??, 42);
     has_taken(&rt, &stream, 3);
-    refuses(&rt, alloc, &mut stream, "I/O error")?;
+    refuses(&mut stream, "I/O error")?;
     ends(&rt, &mut stream);
     Ok(())
 }
@@ -303,7 +286,7 @@ fn ends_by_a_fault_within_an_item(rt: HostRuntime) -> Done {
     let reader = Failing { bytes: b"\x01\x18" };
     let mut stream = Deserializer::from_reader(alloc, reader).into_iter::<u8>();
     assert_eq!(rt; stream.next().ok_or("none")??, 1);
-    refuses(&rt, alloc, &mut stream, "I/O error")?;
+    refuses(&mut stream, "I/O error")?;
     ends(&rt, &mut stream);
     ends(&rt, &mut stream);
     Ok(())

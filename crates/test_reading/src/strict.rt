@@ -1,0 +1,33 @@
+//! Types that are read strictly, or refused by what comes first.
+
+use cbor_strict::from_slice_canonical_as;
+use std::alloc::Global;
+use test_checks::{Done, is_refused};
+
+#[test]
+fn reads_types_from_canonical_spellings(rt: HostRuntime) -> Done {
+    let alloc = rt.alloc();
+    let number: u8 = from_slice_canonical_as(alloc, b"\x18\x2a")?;
+    assert_eq!(rt; number, 42);
+    let bytes = b"\x63CID";
+    let name: &str = from_slice_canonical_as(alloc, bytes)?;
+    assert!(rt; name == "CID");
+    let flags: Vec<bool> = from_slice_canonical_as(alloc, b"\x82\xf5\xf4")?;
+    assert!(rt; flags.as_slice() == [true, false].as_slice());
+    Ok(())
+}
+
+/// The bytes are refused as a `u8`, with these words.
+fn refuses(alloc: Global, bytes: &[u8], words: &str) -> Done {
+    is_refused(from_slice_canonical_as::<u8>(alloc, bytes), words)
+}
+
+// 23 in a longer head, 300, 23 in a longer head before another byte, and 23 before undefined.
+#[test]
+fn refuses_types_by_the_first_departure(rt: HostRuntime) -> Done {
+    let alloc = rt.alloc();
+    refuses(alloc, b"\x18\x17", "not canonical at offset 2")?;
+    refuses(alloc, b"\x19\x01\x2c", "integer out of range: expected u8")?;
+    refuses(alloc, b"\x18\x17\x00", "not canonical at offset 2")?;
+    refuses(alloc, b"\x17\xf7", "trailing data at offset 2")
+}
