@@ -46,8 +46,7 @@ fn makes_a_value_within_a_tag(rt: HostRuntime) -> Done {
 fn reads_again_what_it_wrote(rt: HostRuntime) -> Done {
     let alloc = rt.alloc();
     let again: (u32, Option<bool>) = write_and_read(alloc, &(500u32, Some(true)))?;
-    assert_eq!(rt; again.0, 500);
-    assert_eq!(rt; again.1, Some(true));
+    assert!(rt; again == (500, Some(true)));
     Ok(())
 }
 

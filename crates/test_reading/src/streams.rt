@@ -20,7 +20,7 @@ fn gives<'a, R: Read<'a> + Drop>(
     want: i128,
 ) -> Done {
     let value = stream.next().ok_or("none")??;
-    assert_eq!(rt; value, Value::Integer(want));
+    assert!(rt; value == Value::Integer(want));
     Ok(())
 }
 
@@ -46,7 +46,7 @@ fn has_taken<'a, R: Offset, T>(
     stream: &StreamDeserializer<'a, R, T>,
     want: usize,
 ) {
-    assert_eq!(rt; stream.byte_offset(), want);
+    assert!(rt; stream.byte_offset() == want);
 }
 
 /// A hundred and twenty-eight times [0] is next, and then nothing for good: no level is lost.
@@ -60,8 +60,8 @@ fn gives_arrays<'a, R: Read<'a> + Drop>(
         let Value::Array(items) = value else {
             return Err(Fail::from("no array"));
         };
-        assert_eq!(rt; items.len(), 1);
-        assert_eq!(rt; items[0], Value::Integer(0));
+        assert!(rt; items.len() == 1);
+        assert!(rt; items[0] == Value::Integer(0));
     }
     ends(rt, &mut stream);
     ends(rt, &mut stream);
@@ -183,8 +183,8 @@ fn gives_texts_that_the_slice_lends(rt: HostRuntime) -> Done {
     let second = stream.next().ok_or("none")??;
     refuses(&mut stream, "invalid type: expected a string")?;
     ends(&rt, &mut stream);
-    assert_eq!(rt; first, "a");
-    assert_eq!(rt; second, "b");
+    assert!(rt; first == "a");
+    assert!(rt; second == "b");
     Ok(())
 }
 
@@ -194,9 +194,9 @@ fn goes_on_behind_an_item(rt: HostRuntime) -> Done {
     let mut de = Deserializer::from_slice(alloc, b"\xf5\x18\x2a\x07");
     assert!(rt; bool::deserialize(&mut de)?);
     let mut stream = de.into_iter::<u8>();
-    assert_eq!(rt; stream.next().ok_or("none")??, 42);
+    assert!(rt; stream.next().ok_or("none")?? == 42);
     has_taken(&rt, &stream, 3);
-    assert_eq!(rt; stream.next().ok_or("none")??, 7);
+    assert!(rt; stream.next().ok_or("none")?? == 7);
     ends(&rt, &mut stream);
     Ok(())
 }
@@ -205,17 +205,17 @@ fn goes_on_behind_an_item(rt: HostRuntime) -> Done {
 fn reads_all_items(rt: HostRuntime) -> Done {
     let alloc = rt.alloc();
     let numbers = read_items::<u8, SliceRead>(alloc, SliceRead::new(alloc, b"\x01\x18\x2a"))?;
-    assert_eq!(rt; numbers.as_slice(), [1, 42].as_slice());
+    assert!(rt; numbers.as_slice() == [1, 42].as_slice());
     let mut sum = 0u64;
     let source = SliceRead::new(alloc, b"\x01\x18\x2a");
     for number in StreamDeserializer::<SliceRead, u8>::new(alloc, source).take(2) {
         sum = sum.wrapping_add(u64::from(number?));
     }
-    assert_eq!(rt; sum, 43);
+    assert!(rt; sum == 43);
     let source = SliceRead::new(alloc, b"\x01\x18\x2a");
     let stream = StreamDeserializer::<SliceRead, u8>::new(alloc, source);
     let all: Vec<u8> = stream.try_collect(alloc)?;
-    assert_eq!(rt; all.len(), 2);
+    assert!(rt; all.len() == 2);
     Ok(())
 }
 
@@ -227,7 +227,7 @@ fn counts_one_text<'a, R: Read<'a> + Offset + Drop>(
     let mut stream = stream;
     has_taken(rt, &stream, 0);
     let text = stream.next().ok_or("none")??;
-    assert_eq!(rt; text.as_str(), "foobar");
+    assert!(rt; text.as_str() == "foobar");
     has_taken(rt, &stream, 7);
     Ok(())
 }
@@ -270,9 +270,9 @@ fn gives_what_comes_before_a_fault(rt: HostRuntime) -> Done {
         bytes: b"\x01\x18\x2a",
     };
     let mut stream = Deserializer::from_reader(alloc, reader).into_iter::<u8>();
-    assert_eq!(rt; stream.next().ok_or("none")??, 1);
+    assert!(rt; stream.next().ok_or("none")?? == 1);
     has_taken(&rt, &stream, 1);
-    assert_eq!(rt; stream.next().ok_or("none")??, 42);
+    assert!(rt; stream.next().ok_or("none")?? == 42);
     has_taken(&rt, &stream, 3);
     refuses(&mut stream, "I/O error")?;
     ends(&rt, &mut stream);
@@ -285,7 +285,7 @@ fn ends_by_a_fault_within_an_item(rt: HostRuntime) -> Done {
     let alloc = rt.alloc();
     let reader = Failing { bytes: b"\x01\x18" };
     let mut stream = Deserializer::from_reader(alloc, reader).into_iter::<u8>();
-    assert_eq!(rt; stream.next().ok_or("none")??, 1);
+    assert!(rt; stream.next().ok_or("none")?? == 1);
     refuses(&mut stream, "I/O error")?;
     ends(&rt, &mut stream);
     ends(&rt, &mut stream);

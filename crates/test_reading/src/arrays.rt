@@ -1,9 +1,9 @@
 //! Arrays, read item by item.
 
 use crate::checks::{ends_here, gives, refuses};
-use cbor_tree::tree::Tree;
-use serde_cbor::de::{IgnoredAny, SliceRead};
-use serde_cbor::{Deserializer, Error, Result as Answer, Value};
+use cbor_io::error::{Error, Result as Answer};
+use cbor_typed::{Deserialize, Deserializer, IgnoredAny, SliceRead};
+use cbor_value::Value;
 use test_checks::{Done, is_refused};
 
 #[test]
@@ -52,7 +52,7 @@ fn leaves_an_array_for_an_error(rt: HostRuntime) -> Done {
 }
 
 fn gives_any(de: &mut Deserializer<SliceRead<'_>>) -> Done {
-    let _any = <IgnoredAny as serde_cbor::de::Deserialize<SliceRead<'_>>>::deserialize(de)?;
+    let _any = <IgnoredAny as Deserialize<SliceRead<'_>>>::deserialize(de)?;
     Ok(())
 }
 
@@ -76,13 +76,5 @@ fn goes_on_behind_lists_that_are_refused(rt: HostRuntime) -> Done {
     let mut de = Deserializer::from_slice(rt.alloc(), &bytes);
     refuses::<Vec<u8>>(&rt, &mut de, "invalid type: expected an integer")?;
     gives_any(&mut de)?;
-    ends_here(&mut de)
-}
-
-#[test]
-fn goes_on_behind_what_is_no_tree(rt: HostRuntime) -> Done {
-    let mut de = Deserializer::from_slice(rt.alloc(), b"\x81\xf6\x05");
-    refuses::<Tree>(&rt, &mut de, "invalid type: expected a tree")?;
-    gives(&rt, &mut de, 5u8)?;
     ends_here(&mut de)
 }

@@ -1,6 +1,7 @@
 //! A reader that has no end.
 
-use serde_cbor::{Value, from_reader};
+use cbor_typed::from_reader;
+use cbor_value::Value;
 use std::io;
 use test_checks::{Done, is_refused};
 

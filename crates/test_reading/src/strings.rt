@@ -1,7 +1,6 @@
 //! What a reader lends.
 
-use serde_cbor::Deserializer;
-use serde_cbor::de::{EitherLifetime, EitherStr, IoRead};
+use cbor_typed::{Deserializer, EitherLifetime, EitherStr, IoRead};
 use std::process::Abort;
 use std::test::Fail;
 use test_checks::Done;

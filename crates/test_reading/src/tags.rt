@@ -1,8 +1,7 @@
 //! Tags, entered and left.
 
 use crate::checks::{ends_here, gives, has_taken};
-use serde_cbor::Deserializer;
-use serde_cbor::de::SliceRead;
+use cbor_typed::{Deserializer, SliceRead};
 use std::process::Abort;
 use test_checks::{Done, is_refused};
 

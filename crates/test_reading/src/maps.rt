@@ -1,8 +1,8 @@
 //! Maps, read pair by pair.
 
 use crate::checks::{ends_here, gives};
-use serde_cbor::de::SliceRead;
-use serde_cbor::{Deserializer, Error, Result as Answer};
+use cbor_io::error::{Error, Result as Answer};
+use cbor_typed::{Deserializer, SliceRead};
 use std::test::Fail;
 use test_checks::{Done, is_refused};
 

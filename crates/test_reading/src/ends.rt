@@ -1,8 +1,8 @@
 //! What follows an item, and how many bytes were taken.
 
 use crate::checks::has_taken;
-use serde_cbor::de::{Offset, Source};
-use serde_cbor::{Deserializer, Error};
+use cbor_io::error::Error;
+use cbor_typed::{Deserializer, Offset, Source};
 use std::process::Abort;
 use std::test::Fail;
 use test_checks::{Done, is_refused};

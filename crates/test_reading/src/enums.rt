@@ -1,8 +1,8 @@
 //! Enums, read up to their variant and then by their content.
 
 use crate::checks::ends_here;
-use serde_cbor::de::SliceRead;
-use serde_cbor::{Deserializer, Error, Result as Answer};
+use cbor_io::error::{Error, Result as Answer};
+use cbor_typed::{Deserializer, SliceRead};
 use test_checks::{Done, is_refused};
 
 const NAMES: &'static [&'static str] = &["Unit", "NewType"];
