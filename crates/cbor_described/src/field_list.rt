@@ -64,6 +64,30 @@ pub(crate) trait ReadFields<'de, R: Read<'de>>: FieldList {
         ensures formats { de.new.items.formats ≡ de.old.items.formats };
 }
 
+// A field of a struct, which is read from a source. What has several fields asks for this of each: of a
+// type's own promises only those that a field needs are passed on then.
+pub(crate) trait ReadField<'de, R: Read<'de>>: FieldType {
+    // Reads the value of the field into its slot. A slot that has a value is refused with
+    // ``duplicate field `id` ``.
+    fn take_slot(de: &mut Deserializer<R>, name: &str, slot: &mut Option<Self>) -> Result<()>
+        ensures read { TakesSlot (formats_of de.old.items.formats) de.old.items.levels R.refusals
+            (Self.reads (context de.old.items.formats R.lends)) slot.old slot.new
+            (R.source de.old.items.source) (R.source de.new.items.source) result }
+        ensures forward { IfOk result (λ u. (R.source de.old.items.source).offset
+            ≤ (R.source de.new.items.source).offset) }
+        ensures levels { de.new.items.levels ≡ de.old.items.levels }
+        ensures formats { de.new.items.formats ≡ de.old.items.formats };
+}
+
+impl<'de, R: Read<'de>, A: FieldType> ReadField<'de, R> for A
+where
+    A::Of: Deserialize<'de, R>,
+{
+    fn take_slot(de: &mut Deserializer<R>, name: &str, slot: &mut Option<A>) -> Result<()> {
+        fill_slot::<R, A>(de, name, slot)
+    }
+}
+
 impl FieldList for () {
     ghost use Rattle.std.specs.Prelude.{[]};
 
@@ -179,10 +203,7 @@ fn required_field<A: FieldType>(alloc: Global, name: &str, held: Option<A>) -> R
     }
 }
 
-impl<'de, R: Read<'de>, A: FieldType, F: ReadFields<'de, R>> ReadFields<'de, R> for (A, F)
-where
-    A::Of: Deserialize<'de, R>,
-{
+impl<'de, R: Read<'de>, A: ReadField<'de, R>, F: ReadFields<'de, R>> ReadFields<'de, R> for (A, F) {
     fn take(
         de: &mut Deserializer<R>,
         i: usize,
@@ -192,25 +213,19 @@ where
         if i != 0 {
             return F::take(de, i - 1, name, &mut held.1);
         }
-        take_slot::<R, A>(de, name, &mut held.0)
+        A::take_slot(de, name, &mut held.0)
     }
 }
 
 impl<
     'de,
     R: Read<'de>,
-    A: FieldType,
-    B: FieldType,
-    C: FieldType,
-    D: FieldType,
+    A: ReadField<'de, R>,
+    B: ReadField<'de, R>,
+    C: ReadField<'de, R>,
+    D: ReadField<'de, R>,
     F: ReadFields<'de, R>,
-> ReadFields<'de, R> for (A, B, C, D, F)
-where
-    A::Of: Deserialize<'de, R>,
-    B::Of: Deserialize<'de, R>,
-    C::Of: Deserialize<'de, R>,
-    D::Of: Deserialize<'de, R>,
-{
+> ReadFields<'de, R> for (A, B, C, D, F) {
     fn take(
         de: &mut Deserializer<R>,
         i: usize,
@@ -218,10 +233,10 @@ where
         held: &mut (Option<A>, Option<B>, Option<C>, Option<D>, F::Slots),
     ) -> Result<()> {
         match i {
-            0 => take_slot::<R, A>(de, name, &mut held.0),
-            1 => take_slot::<R, B>(de, name, &mut held.1),
-            2 => take_slot::<R, C>(de, name, &mut held.2),
-            3 => take_slot::<R, D>(de, name, &mut held.3),
+            0 => A::take_slot(de, name, &mut held.0),
+            1 => B::take_slot(de, name, &mut held.1),
+            2 => C::take_slot(de, name, &mut held.2),
+            3 => D::take_slot(de, name, &mut held.3),
             _ => F::take(de, i - 4, name, &mut held.4),
         }
     }
@@ -229,7 +244,7 @@ where
 
 // Reads the value of a field into its slot. A slot that has a value is refused with
 // ``duplicate field `id` ``.
-fn take_slot<'de, R: Read<'de>, A: FieldType>(
+fn fill_slot<'de, R: Read<'de>, A: FieldType>(
     de: &mut Deserializer<R>,
     name: &str,
     slot: &mut Option<A>,

@@ -1,9 +1,9 @@
 //! Structs that are read as tuples of their fields.
 
-use crate::field_list::{ReadFields, read_fields};
+use crate::field_list::{ReadField, ReadFields, read_fields};
 use crate::parts::{ReadParts, ReadableParts};
 use cbor_io::error::Result;
-use cbor_typed::{Deserialize, Deserializer, FieldType, Read};
+use cbor_typed::{Deserializer, FieldType, Read};
 
 impl<A: FieldType> ReadableParts for (A,) {
     ghost use Rattle.std.specs.Prelude.{[], ◌∷◌};
@@ -14,10 +14,7 @@ impl<A: FieldType> ReadableParts for (A,) {
         r (x.0, tt) };
 }
 
-impl<'de, R: Read<'de>, A: FieldType> ReadParts<'de, R> for (A,)
-where
-    A::Of: Deserialize<'de, R>,
-{
+impl<'de, R: Read<'de>, A: ReadField<'de, R>> ReadParts<'de, R> for (A,) {
     fn read_parts(de: &mut Deserializer<R>, names: &[&str]) -> Result<(A,)> {
         match read_fields::<R, (A, ())>(de, names) {
             Ok(parts) => {
@@ -39,11 +36,7 @@ impl<A: FieldType, B: FieldType> ReadableParts for (A, B) {
         r (x.0, (x.1, tt)) };
 }
 
-impl<'de, R: Read<'de>, A: FieldType, B: FieldType> ReadParts<'de, R> for (A, B)
-where
-    A::Of: Deserialize<'de, R>,
-    B::Of: Deserialize<'de, R>,
-{
+impl<'de, R: Read<'de>, A: ReadField<'de, R>, B: ReadField<'de, R>> ReadParts<'de, R> for (A, B) {
     fn read_parts(de: &mut Deserializer<R>, names: &[&str]) -> Result<(A, B)> {
         match read_fields::<R, (A, (B, ()))>(de, names) {
             Ok(parts) => {
@@ -66,12 +59,10 @@ impl<A: FieldType, B: FieldType, C: FieldType> ReadableParts for (A, B, C) {
         r (x.0, (x.1, (x.2, tt))) };
 }
 
-impl<'de, R: Read<'de>, A: FieldType, B: FieldType, C: FieldType> ReadParts<'de, R> for (A, B, C)
-where
-    A::Of: Deserialize<'de, R>,
-    B::Of: Deserialize<'de, R>,
-    C::Of: Deserialize<'de, R>,
-{
+impl<'de, R: Read<'de>, A: ReadField<'de, R>, B: ReadField<'de, R>, C: ReadField<'de, R>> ReadParts<
+    'de,
+    R,
+> for (A, B, C) {
     fn read_parts(de: &mut Deserializer<R>, names: &[&str]) -> Result<(A, B, C)> {
         match read_fields::<R, (A, (B, (C, ())))>(de, names) {
             Ok(parts) => {
@@ -95,14 +86,14 @@ impl<A: FieldType, B: FieldType, C: FieldType, D: FieldType> ReadableParts for (
         r (x.0, x.1, x.2, x.3, tt) };
 }
 
-impl<'de, R: Read<'de>, A: FieldType, B: FieldType, C: FieldType, D: FieldType> ReadParts<'de, R>
-    for (A, B, C, D)
-where
-    A::Of: Deserialize<'de, R>,
-    B::Of: Deserialize<'de, R>,
-    C::Of: Deserialize<'de, R>,
-    D::Of: Deserialize<'de, R>,
-{
+impl<
+    'de,
+    R: Read<'de>,
+    A: ReadField<'de, R>,
+    B: ReadField<'de, R>,
+    C: ReadField<'de, R>,
+    D: ReadField<'de, R>,
+> ReadParts<'de, R> for (A, B, C, D) {
     fn read_parts(de: &mut Deserializer<R>, names: &[&str]) -> Result<(A, B, C, D)> {
         match read_fields::<R, (A, B, C, D, ())>(de, names) {
             Ok(parts) => {
@@ -131,18 +122,14 @@ impl<A: FieldType, B: FieldType, C: FieldType, D: FieldType, E: FieldType> Reada
 impl<
     'de,
     R: Read<'de>,
-    A: FieldType,
-    B: FieldType,
-    C: FieldType,
-    D: FieldType,
+    A: ReadField<'de, R>,
+    B: ReadField<'de, R>,
+    C: ReadField<'de, R>,
+    D: ReadField<'de, R>,
     E: FieldType,
 > ReadParts<'de, R> for (A, B, C, D, E)
 where
-    A::Of: Deserialize<'de, R>,
-    B::Of: Deserialize<'de, R>,
-    C::Of: Deserialize<'de, R>,
-    D::Of: Deserialize<'de, R>,
-    E::Of: Deserialize<'de, R>,
+    (E, ()): ReadFields<'de, R, Slots = (Option<E>, ())>,
 {
     fn read_parts(de: &mut Deserializer<R>, names: &[&str]) -> Result<(A, B, C, D, E)> {
         match read_fields::<R, (A, B, C, D, (E, ()))>(de, names) {
@@ -179,20 +166,15 @@ impl<
 impl<
     'de,
     R: Read<'de>,
-    A: FieldType,
-    B: FieldType,
-    C: FieldType,
-    D: FieldType,
+    A: ReadField<'de, R>,
+    B: ReadField<'de, R>,
+    C: ReadField<'de, R>,
+    D: ReadField<'de, R>,
     E: FieldType,
     F: FieldType,
 > ReadParts<'de, R> for (A, B, C, D, E, F)
 where
-    A::Of: Deserialize<'de, R>,
-    B::Of: Deserialize<'de, R>,
-    C::Of: Deserialize<'de, R>,
-    D::Of: Deserialize<'de, R>,
-    E::Of: Deserialize<'de, R>,
-    F::Of: Deserialize<'de, R>,
+    (E, (F, ())): ReadFields<'de, R, Slots = (Option<E>, (Option<F>, ()))>,
 {
     fn read_parts(de: &mut Deserializer<R>, names: &[&str]) -> Result<(A, B, C, D, E, F)> {
         match read_fields::<R, (A, B, C, D, (E, (F, ())))>(de, names) {
@@ -231,22 +213,16 @@ impl<
 impl<
     'de,
     R: Read<'de>,
-    A: FieldType,
-    B: FieldType,
-    C: FieldType,
-    D: FieldType,
+    A: ReadField<'de, R>,
+    B: ReadField<'de, R>,
+    C: ReadField<'de, R>,
+    D: ReadField<'de, R>,
     E: FieldType,
     F: FieldType,
     G: FieldType,
 > ReadParts<'de, R> for (A, B, C, D, E, F, G)
 where
-    A::Of: Deserialize<'de, R>,
-    B::Of: Deserialize<'de, R>,
-    C::Of: Deserialize<'de, R>,
-    D::Of: Deserialize<'de, R>,
-    E::Of: Deserialize<'de, R>,
-    F::Of: Deserialize<'de, R>,
-    G::Of: Deserialize<'de, R>,
+    (E, (F, (G, ()))): ReadFields<'de, R, Slots = (Option<E>, (Option<F>, (Option<G>, ())))>,
 {
     fn read_parts(de: &mut Deserializer<R>, names: &[&str]) -> Result<(A, B, C, D, E, F, G)> {
         match read_fields::<R, (A, B, C, D, (E, (F, (G, ()))))>(de, names) {
@@ -287,24 +263,17 @@ impl<
 impl<
     'de,
     R: Read<'de>,
-    A: FieldType,
-    B: FieldType,
-    C: FieldType,
-    D: FieldType,
+    A: ReadField<'de, R>,
+    B: ReadField<'de, R>,
+    C: ReadField<'de, R>,
+    D: ReadField<'de, R>,
     E: FieldType,
     F: FieldType,
     G: FieldType,
     H: FieldType,
 > ReadParts<'de, R> for (A, B, C, D, E, F, G, H)
 where
-    A::Of: Deserialize<'de, R>,
-    B::Of: Deserialize<'de, R>,
-    C::Of: Deserialize<'de, R>,
-    D::Of: Deserialize<'de, R>,
-    E::Of: Deserialize<'de, R>,
-    F::Of: Deserialize<'de, R>,
-    G::Of: Deserialize<'de, R>,
-    H::Of: Deserialize<'de, R>,
+    (E, F, G, H, ()): ReadFields<'de, R, Slots = (Option<E>, Option<F>, Option<G>, Option<H>, ())>,
 {
     fn read_parts(de: &mut Deserializer<R>, names: &[&str]) -> Result<(A, B, C, D, E, F, G, H)> {
         match read_fields::<R, (A, B, C, D, (E, F, G, H, ()))>(de, names) {
@@ -347,10 +316,10 @@ impl<
 impl<
     'de,
     R: Read<'de>,
-    A: FieldType,
-    B: FieldType,
-    C: FieldType,
-    D: FieldType,
+    A: ReadField<'de, R>,
+    B: ReadField<'de, R>,
+    C: ReadField<'de, R>,
+    D: ReadField<'de, R>,
     E: FieldType,
     F: FieldType,
     G: FieldType,
@@ -358,15 +327,11 @@ impl<
     I: FieldType,
 > ReadParts<'de, R> for (A, B, C, D, E, F, G, H, I)
 where
-    A::Of: Deserialize<'de, R>,
-    B::Of: Deserialize<'de, R>,
-    C::Of: Deserialize<'de, R>,
-    D::Of: Deserialize<'de, R>,
-    E::Of: Deserialize<'de, R>,
-    F::Of: Deserialize<'de, R>,
-    G::Of: Deserialize<'de, R>,
-    H::Of: Deserialize<'de, R>,
-    I::Of: Deserialize<'de, R>,
+    (E, F, G, H, (I, ())): ReadFields<
+        'de,
+        R,
+        Slots = (Option<E>, Option<F>, Option<G>, Option<H>, (Option<I>, ())),
+    >,
 {
     fn read_parts(de: &mut Deserializer<R>, names: &[&str]) -> Result<(A, B, C, D, E, F, G, H, I)> {
         match read_fields::<R, (A, B, C, D, (E, F, G, H, (I, ())))>(de, names) {
@@ -411,10 +376,10 @@ impl<
 impl<
     'de,
     R: Read<'de>,
-    A: FieldType,
-    B: FieldType,
-    C: FieldType,
-    D: FieldType,
+    A: ReadField<'de, R>,
+    B: ReadField<'de, R>,
+    C: ReadField<'de, R>,
+    D: ReadField<'de, R>,
     E: FieldType,
     F: FieldType,
     G: FieldType,
@@ -423,16 +388,17 @@ impl<
     J: FieldType,
 > ReadParts<'de, R> for (A, B, C, D, E, F, G, H, I, J)
 where
-    A::Of: Deserialize<'de, R>,
-    B::Of: Deserialize<'de, R>,
-    C::Of: Deserialize<'de, R>,
-    D::Of: Deserialize<'de, R>,
-    E::Of: Deserialize<'de, R>,
-    F::Of: Deserialize<'de, R>,
-    G::Of: Deserialize<'de, R>,
-    H::Of: Deserialize<'de, R>,
-    I::Of: Deserialize<'de, R>,
-    J::Of: Deserialize<'de, R>,
+    (E, F, G, H, (I, (J, ()))): ReadFields<
+        'de,
+        R,
+        Slots = (
+            Option<E>,
+            Option<F>,
+            Option<G>,
+            Option<H>,
+            (Option<I>, (Option<J>, ())),
+        ),
+    >,
 {
     fn read_parts(
         de: &mut Deserializer<R>,
@@ -482,10 +448,10 @@ impl<
 impl<
     'de,
     R: Read<'de>,
-    A: FieldType,
-    B: FieldType,
-    C: FieldType,
-    D: FieldType,
+    A: ReadField<'de, R>,
+    B: ReadField<'de, R>,
+    C: ReadField<'de, R>,
+    D: ReadField<'de, R>,
     E: FieldType,
     F: FieldType,
     G: FieldType,
@@ -495,16 +461,17 @@ impl<
     K: FieldType,
 > ReadParts<'de, R> for (A, B, C, D, E, F, G, H, I, J, K)
 where
-    A::Of: Deserialize<'de, R>,
-    B::Of: Deserialize<'de, R>,
-    C::Of: Deserialize<'de, R>,
-    D::Of: Deserialize<'de, R>,
-    E::Of: Deserialize<'de, R>,
-    F::Of: Deserialize<'de, R>,
-    G::Of: Deserialize<'de, R>,
-    H::Of: Deserialize<'de, R>,
-    // By their list: one by one they would take more steps than one check may.
-    (I, (J, (K, ()))): ReadFields<'de, R, Slots = (Option<I>, (Option<J>, (Option<K>, ())))>,
+    (E, F, G, H, (I, (J, (K, ())))): ReadFields<
+        'de,
+        R,
+        Slots = (
+            Option<E>,
+            Option<F>,
+            Option<G>,
+            Option<H>,
+            (Option<I>, (Option<J>, (Option<K>, ()))),
+        ),
+    >,
 {
     fn read_parts(
         de: &mut Deserializer<R>,
@@ -556,10 +523,10 @@ impl<
 impl<
     'de,
     R: Read<'de>,
-    A: FieldType,
-    B: FieldType,
-    C: FieldType,
-    D: FieldType,
+    A: ReadField<'de, R>,
+    B: ReadField<'de, R>,
+    C: ReadField<'de, R>,
+    D: ReadField<'de, R>,
     E: FieldType,
     F: FieldType,
     G: FieldType,
@@ -570,18 +537,17 @@ impl<
     L: FieldType,
 > ReadParts<'de, R> for (A, B, C, D, E, F, G, H, I, J, K, L)
 where
-    A::Of: Deserialize<'de, R>,
-    B::Of: Deserialize<'de, R>,
-    C::Of: Deserialize<'de, R>,
-    D::Of: Deserialize<'de, R>,
-    E::Of: Deserialize<'de, R>,
-    F::Of: Deserialize<'de, R>,
-    G::Of: Deserialize<'de, R>,
-    H::Of: Deserialize<'de, R>,
-    I::Of: Deserialize<'de, R>,
-    J::Of: Deserialize<'de, R>,
-    K::Of: Deserialize<'de, R>,
-    L::Of: Deserialize<'de, R>,
+    (E, F, G, H, (I, J, K, L, ())): ReadFields<
+        'de,
+        R,
+        Slots = (
+            Option<E>,
+            Option<F>,
+            Option<G>,
+            Option<H>,
+            (Option<I>, Option<J>, Option<K>, Option<L>, ()),
+        ),
+    >,
 {
     fn read_parts(
         de: &mut Deserializer<R>,

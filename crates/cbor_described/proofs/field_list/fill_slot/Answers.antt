@@ -5,7 +5,7 @@ use Rattle.cbor_io.specs.Error.{code_of, offset_of}
 use Rattle.cbor_scalars.specs.Takes.{IsNotRead, context, formats_of, raws}
 use Rattle.cbor_collections.proofs.facts.Refusals.{refuses_map}
 use Rattle.cbor_described.proofs.Makings.{not_read_as}
-use Rattle.cbor_described.proofs.field_list.take_slot.Goals as goal
+use Rattle.cbor_described.proofs.field_list.fill_slot.Goals as goal
 
 pub returns-in-Err-clause-read : goal.returns-in-Err-clause-read
 returns-in-Err-clause-read g c =
