@@ -1,5 +1,5 @@
 -- Records, what they are read from, and what is written of them.
-use Rattle.std.specs.Prelude.{◌≡◌, ℕ, false, List, [], ◌∷◌, String, Vec, map, codes, pos}
+use Rattle.std.specs.Prelude.{◌≡◌, ℕ, Bool, false, List, [], ◌∷◌, String, Vec, map, codes, pos}
 use Rattle.std.specs.String.{string_bytes}
 use Rattle.std.specs.declared.alloc.Global.{Global}
 use Rattle.serde_cbor.specs.Arrays.{AsArray, AreRead}
@@ -28,20 +28,27 @@ IsWord = PassesTags (λ r s. IsText r (string_bytes s))
 abbrev pub AreWords : Raw → Vec (String Global) Global → Type 0
 AreWords = PassesTags (AsArray (λ rs v. AreRead IsWord rs v.items))
 
--- as what the fields are read, and where they stand in the record
-abbrev pub fields : List (FieldOf Record)
+-- the values of a record's fields, in the order of their names: four, and the two after them
+abbrev pub Values : Type 0
+Values = ℕ × String Global × String Global × ℕ × (Vec (String Global) Global × (Bool × Unit {0}))
+
+abbrev pub values : Record → Values
+values r = (r.id, r.name, r.email, r.created, (r.tags, (r.active, tt)))
+
+-- as what each of them is read
+abbrev pub fields : List (FieldOf Values)
 fields =
-    field IsNumber (λ r. r.id) ∷
-    field IsWord (λ r. r.name) ∷
-    field IsWord (λ r. r.email) ∷
-    field IsNumber (λ r. r.created) ∷
-    field AreWords (λ r. r.tags) ∷
-    field (PassesTags IsBool) (λ r. r.active) ∷
+    field IsNumber (λ v. v.0) ∷
+    field IsWord (λ v. v.1) ∷
+    field IsWord (λ v. v.2) ∷
+    field IsNumber (λ v. v.3) ∷
+    field AreWords (λ v. v.4.0) ∷
+    field (PassesTags IsBool) (λ v. v.4.1.0) ∷
     []
 
--- a map of these fields, in any order
+-- a map of these fields, in any order, which have the record's values
 abbrev pub IsRecord : Raw → Record → Type 0
-IsRecord = IsStruct names fields
+IsRecord r x = IsStruct names fields r (values x)
 
 -- an array of records
 abbrev pub AreRecords : Raw → Vec Record Global → Type 0
