@@ -1,18 +1,6 @@
 -- Enums that are read by their variants.
-use Rattle.std.specs.Prelude.{◌≡◌, ℕ, zero, suc, Bool, List, Result, Ok, Err}
-use Rattle.cbor_model.specs.Formats.{Formats}
-use Rattle.cbor_model.specs.Raw.{Raws}
-use Rattle.cbor_model.specs.Reader.{Reads}
-use Rattle.cbor_io.specs.declared.error.Error.{Error}
-use Rattle.cbor_io.specs.declared.read_error.ReadErrorCode.{ReadErrorCode}
-use Rattle.cbor_io.specs.Error.{code_of, offset_of}
-use Rattle.cbor_read.specs.Source.{Input}
-use Rattle.cbor_de.specs.Gives.{Step}
-use Rattle.cbor_de.specs.Heads.{remaining_of}
-use Rattle.cbor_de.specs.declared.cursor.Remaining.{Remaining}
-use Rattle.cbor_collections.specs.Accesses.{items_at}
+use Rattle.std.specs.Prelude.{ℕ, zero, suc}
 use Rattle.cbor_collections.specs.Enums.{Content}
-use Rattle.cbor_scalars.specs.Takes.{Refuses}
 use Rattle.cbor_described.specs.declared.variant_list.OneOf.{OneOf}
 use Rattle.cbor_described.specs.declared.variant_list.OneOf.TheVariants.{This, Other}
 use Rattle.cbor_described.specs.declared.variant_list.Never.{Never}
@@ -105,22 +93,3 @@ list8 (one_of8.Fifth x) = Other (Other (Other (Other (This x))))
 list8 (one_of8.Sixth x) = Other (Other (Other (Other (Other (This x)))))
 list8 (one_of8.Seventh x) = Other (Other (Other (Other (Other (Other (This x))))))
 list8 (one_of8.Eighth x) = Other (Other (Other (Other (Other (Other (Other (This x)))))))
-
--- The items that are read mean x, and the rest follows them.
-pub record AreItems {A : Type 0} (items : Raws → A → Type 0) (read : Reads Raws) (x : A) (rest : List ℕ) : Type 0 where
-  pub all : Raws
-  pub is : read ≡ Ok (all, rest)
-  pub meaning : items all x
-
--- no items that mean something are at the front
-abbrev pub AreNoItems : {A : Type 0} → (Raws → A → Type 0) → Reads Raws → Type 0
-AreNoItems {A} items read = (x : A) (rest : List ℕ) → AreItems items read x rest → ⊥
-
--- What the items mean that remain of an array; or that no such items are there.
-abbrev pub TakesItems : {A : Type 0} → (ReadErrorCode → Bool) → Formats → (Raws → A → Type 0) → ℕ
-    → Remaining → Input → Input → Result A Error → Type 0
-TakesItems refusals f items levels remaining s t (Ok x) =
-    Step s t (λ l bs rest. AreItems items (items_at f l levels (remaining_of remaining) bs) x rest)
-TakesItems refusals f items levels remaining s t (Err e) =
-    Refuses refusals s t (code_of e) (offset_of e)
-    (λ l bs. AreNoItems items (items_at f l levels (remaining_of remaining) bs))

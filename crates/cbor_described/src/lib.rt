@@ -10,8 +10,8 @@ mod field_list;
 mod one_of;
 mod parts;
 mod tuple_fields;
-mod tuple_parts;
 mod variant_list;
 
+pub use cbor_typed::{ReadTuple, ReadableTuple};
 pub use parts::{FromParts, ReadParts, ReadableParts};
-pub use variant_list::{Never, OneOf, ReadTuple, ReadVariant, ReadableTuple, Variant};
+pub use variant_list::{Never, OneOf, ReadVariant, Variant};

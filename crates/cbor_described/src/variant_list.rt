@@ -1,8 +1,6 @@
 //! Lists of variants, of which enums are read.
 
 ghost use Rattle.std.specs.Prelude.{◌≡◌};
-ghost use Rattle.cbor_collections.specs.Accesses.{TakesPart};
-ghost use Rattle.cbor_described.specs.OneOfs.{TakesItems};
 ghost use Rattle.cbor_collections.specs.Enums.{IsEnum};
 ghost use Rattle.cbor_scalars.specs.Identifiers.{texts};
 ghost use Rattle.cbor_scalars.specs.Takes.{TakesItem, context, formats_of};
@@ -10,11 +8,12 @@ ghost use Rattle.cbor_collections.specs.Variants.{TakesContent};
 ghost use Rattle.cbor_model.specs.Readable.{PassesTags};
 
 use crate::parts::{ReadParts, ReadableParts};
-use cbor_de::Remaining;
 use cbor_io::error::{Error, Result};
 use cbor_parts::{FieldNames, Newtype, Struct, Tuple};
-use cbor_typed::inner::{end_array, leave_to, more_items, no_part, parts, variant_head};
-use cbor_typed::{Deserialize, Deserializer, Form, Read, Readable, invalid_length, one_part};
+use cbor_typed::inner::{leave_to, no_part, parts, variant_head};
+use cbor_typed::{
+    Deserialize, Deserializer, Form, Read, ReadTuple, Readable, ReadableTuple, one_part,
+};
 
 // ---- a variant
 
@@ -132,88 +131,6 @@ where
     }
 }
 
-// ---- the parts of a variant of several
-
-/// The parts of a variant: a tuple, as `(u64, u8)`.
-pub trait ReadableTuple: Sized + Drop {
-    ghost use Rattle.cbor_model.specs.Raw.{Raws};
-    ghost use Rattle.cbor_model.specs.Readable.{Context};
-
-    // As what the items are read.
-    ghost parts: { Context → Raws → Self → Type 0 };
-}
-
-/// The parts of a variant, which are read from a source.
-pub trait ReadTuple<'de, R: Read<'de>>: ReadableTuple {
-    /// Reads the items of an array that remain, of which none was read, and its end.
-    fn read_tuple(de: &mut Deserializer<R>, remaining: Remaining) -> Result<Self>
-        ensures read { TakesItems R.refusals (formats_of de.old.items.formats)
-            (Self.parts (context de.old.items.formats R.lends)) de.old.items.levels remaining
-            (R.source de.old.items.source) (R.source de.new.items.source) result }
-        ensures formats { de.new.items.formats ≡ de.old.items.formats };
-}
-
-// The parts of a variant: `()`, or a part and the list of the others, as `(u64, (u8, ()))`.
-pub(crate) trait ItemList: Sized + Drop {
-    ghost use Rattle.cbor_model.specs.Raw.{Raws};
-    ghost use Rattle.cbor_model.specs.Readable.{Context};
-
-    // As what the items are read.
-    ghost parts: { Context → Raws → Self → Type 0 };
-}
-
-// The parts of a variant, which are read from a source.
-pub(crate) trait ReadItems<'de, R: Read<'de>>: ItemList {
-    // Reads the items of an array that remain, and its end. So many were read before them, of so
-    // many that are expected.
-    fn read_items(
-        de: &mut Deserializer<R>,
-        remaining: Remaining,
-        before: usize,
-        expected: usize,
-    ) -> Result<Self>
-        ensures read { TakesItems R.refusals (formats_of de.old.items.formats)
-            (Self.parts (context de.old.items.formats R.lends)) de.old.items.levels remaining
-            (R.source de.old.items.source) (R.source de.new.items.source) result }
-        ensures formats { de.new.items.formats ≡ de.old.items.formats };
-}
-
-impl ItemList for () {
-    ghost use Rattle.cbor_collections.specs.Enums.{no_part};
-
-    ghost parts = { λ c. no_part };
-}
-
-impl<'de, R: Read<'de>> ReadItems<'de, R> for () {
-    fn read_items(
-        de: &mut Deserializer<R>,
-        remaining: Remaining,
-        _before: usize,
-        _expected: usize,
-    ) -> Result<()> {
-        end_array(de, remaining)
-    }
-}
-
-impl<A: Readable, F: ItemList> ItemList for (A, F) {
-    ghost use Rattle.cbor_collections.specs.Enums.{part_then};
-
-    ghost parts = { λ c. part_then (A.reads c) (F.parts c) };
-}
-
-impl<'de, R: Read<'de>, A: Deserialize<'de, R>, F: ReadItems<'de, R>> ReadItems<'de, R> for (A, F) {
-    fn read_items(
-        de: &mut Deserializer<R>,
-        mut remaining: Remaining,
-        before: usize,
-        expected: usize,
-    ) -> Result<(A, F)> {
-        let first = next_part::<R, A>(de, &mut remaining, before, expected)?;
-        let others = F::read_items(de, remaining, before.saturating_add(1), expected)?;
-        Ok((first, others))
-    }
-}
-
 // ---- the variants
 
 /// The first variant of an enum, or one of the others: the variants as a list, by which they are
@@ -277,27 +194,6 @@ impl<'de, R: Read<'de>, V: ReadVariant<'de, R>, Vs: ReadVariants<'de, R>> ReadVa
             Ok(this) => Ok(OneOf::This(this)),
             Err(e) => Err(e),
         }
-    }
-}
-
-// Reads the next item of an array of which so much remains.
-fn next_part<'de, R: Read<'de>, T: Deserialize<'de, R>>(
-    de: &mut Deserializer<R>,
-    remaining: &mut Remaining,
-    before: usize,
-    expected: usize,
-) -> Result<T>
-    ensures read { TakesPart R.refusals (formats_of de.old.items.formats)
-        (T.reads (context de.old.items.formats R.lends))
-        de.old.items.levels remaining.old remaining.new
-        (R.source de.old.items.source) (R.source de.new.items.source) result }
-    ensures levels { de.new.items.levels ≡ de.old.items.levels }
-    ensures formats { de.new.items.formats ≡ de.old.items.formats }
-{
-    match more_items(de, remaining) {
-        Ok(true) => T::deserialize(de),
-        Ok(false) => Err(invalid_length(de.alloc(), before, expected)),
-        Err(e) => Err(e),
     }
 }
 

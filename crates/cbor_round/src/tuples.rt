@@ -1,7 +1,112 @@
-//! Tuples, as the fields of a struct and as the parts of a variant.
+//! Tuples, as types, as the fields of a struct and as the parts of a variant.
 
 use crate::parts::{FieldRoundTrip, FieldsRoundTrip, TupleRoundTrip};
 use crate::round_trip::RoundTrip;
+
+impl<A: RoundTrip> RoundTrip for (A,) {
+    ghost use Rattle.cbor_round.specs.Lists.{last_back, tuple_back};
+    ghost use Rattle.cbor_round.specs.TypeLaws.{law_of};
+
+    ghost law = { law_of (tuple_back (last_back {part = λ t. t.0} A.law.back)) };
+
+    ghost back = { tuple_back (last_back A.back) };
+}
+
+impl<A: RoundTrip, B: RoundTrip> RoundTrip for (A, B) {
+    ghost use Rattle.cbor_round.specs.Lists.{last_back, part_back, tuple_back};
+    ghost use Rattle.cbor_round.specs.PartsLaws.{tuple2};
+    ghost use Rattle.cbor_round.specs.TypeLaws.{law_of};
+
+    ghost law = { law_of (tuple_back (tuple2 A.law B.law).back) };
+
+    ghost back = { tuple_back (part_back A.back (last_back B.back)) };
+}
+
+impl<A: RoundTrip, B: RoundTrip, C: RoundTrip> RoundTrip for (A, B, C) {
+    ghost use Rattle.cbor_round.specs.Lists.{last_back, part_back, tuple_back};
+    ghost use Rattle.cbor_round.specs.PartsLaws.{tuple3};
+    ghost use Rattle.cbor_round.specs.TypeLaws.{law_of};
+
+    ghost law = { law_of (tuple_back (tuple3 A.law B.law C.law).back) };
+
+    ghost back = { tuple_back (part_back A.back (part_back B.back (last_back C.back))) };
+}
+
+impl<A: RoundTrip, B: RoundTrip, C: RoundTrip, D: RoundTrip> RoundTrip for (A, B, C, D) {
+    ghost use Rattle.cbor_round.specs.Lists.{last_back, part_back, tuple_back};
+    ghost use Rattle.cbor_round.specs.PartsLaws.{tuple4};
+    ghost use Rattle.cbor_round.specs.TypeLaws.{law_of};
+
+    ghost law = { law_of (tuple_back (tuple4 A.law B.law C.law D.law).back) };
+
+    ghost back = { tuple_back (part_back A.back (part_back B.back (part_back C.back
+        (last_back D.back)))) };
+}
+
+impl<A: RoundTrip, B: RoundTrip, C: RoundTrip, D: RoundTrip, E: RoundTrip> RoundTrip
+    for (A, B, C, D, E) {
+    ghost use Rattle.cbor_round.specs.Lists.{last_back, part_back, tuple_back};
+    ghost use Rattle.cbor_round.specs.PartsLaws.{tuple5};
+    ghost use Rattle.cbor_round.specs.TypeLaws.{law_of};
+
+    ghost law = { law_of (tuple_back (tuple5 A.law B.law C.law D.law E.law).back) };
+
+    ghost back = { tuple_back (part_back A.back (part_back B.back (part_back C.back
+        (part_back D.back (last_back E.back))))) };
+}
+
+impl<A: RoundTrip, B: RoundTrip, C: RoundTrip, D: RoundTrip, E: RoundTrip, F: RoundTrip> RoundTrip
+    for (A, B, C, D, E, F) {
+    ghost use Rattle.cbor_round.specs.Lists.{last_back, part_back, tuple_back};
+    ghost use Rattle.cbor_round.specs.PartsLaws.{tuple6};
+    ghost use Rattle.cbor_round.specs.TypeLaws.{law_of};
+
+    ghost law = { law_of (tuple_back (tuple6 A.law B.law C.law D.law E.law F.law).back) };
+
+    ghost back = { tuple_back (part_back A.back (part_back B.back (part_back C.back
+        (part_back D.back (part_back E.back (last_back F.back)))))) };
+}
+
+impl<
+    A: RoundTrip,
+    B: RoundTrip,
+    C: RoundTrip,
+    D: RoundTrip,
+    E: RoundTrip,
+    F: RoundTrip,
+    G: RoundTrip,
+> RoundTrip for (A, B, C, D, E, F, G) {
+    ghost use Rattle.cbor_round.specs.Lists.{last_back, part_back, tuple_back};
+    ghost use Rattle.cbor_round.specs.PartsLaws.{tuple7};
+    ghost use Rattle.cbor_round.specs.TypeLaws.{law_of};
+
+    ghost law = { law_of (tuple_back (tuple7 A.law B.law C.law D.law E.law F.law G.law).back) };
+
+    ghost back = { tuple_back (part_back A.back (part_back B.back (part_back C.back
+        (part_back D.back (part_back E.back (part_back F.back (last_back G.back))))))) };
+}
+
+impl<
+    A: RoundTrip,
+    B: RoundTrip,
+    C: RoundTrip,
+    D: RoundTrip,
+    E: RoundTrip,
+    F: RoundTrip,
+    G: RoundTrip,
+    H: RoundTrip,
+> RoundTrip for (A, B, C, D, E, F, G, H) {
+    ghost use Rattle.cbor_round.specs.Lists.{last_back, part_back, tuple_back};
+    ghost use Rattle.cbor_round.specs.PartsLaws.{tuple8};
+    ghost use Rattle.cbor_round.specs.TypeLaws.{law_of};
+
+    ghost law = { law_of (tuple_back
+        (tuple8 A.law B.law C.law D.law E.law F.law G.law H.law).back) };
+
+    ghost back = { tuple_back (part_back A.back (part_back B.back (part_back C.back
+        (part_back D.back (part_back E.back (part_back F.back (part_back G.back
+        (last_back H.back)))))))) };
+}
 
 impl<A: FieldRoundTrip> FieldsRoundTrip for (A,) {
     ghost use Rattle.std.specs.Prelude.{refl};

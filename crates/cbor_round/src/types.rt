@@ -1,4 +1,4 @@
-//! The types of the standard library, byte strings, floats and values.
+//! The types of the standard library but its tuples, byte strings, floats and values.
 
 use crate::round_trip::{RoundTrip, RoundTripKey};
 use cbor_bytes::{ByteArray, ByteBuf};
@@ -247,51 +247,6 @@ impl<T: RoundTrip, const N: usize> RoundTrip for [T; N] {
     ghost law = { law_of (array_back T.law.back {n = N}) };
 
     ghost back = { array_back T.back };
-}
-
-impl<A: RoundTrip> RoundTrip for (A,) {
-    ghost use Rattle.cbor_round.specs.Lists.{last_back, tuple_back};
-    ghost use Rattle.cbor_round.specs.TypeLaws.{law_of};
-
-    ghost law = { law_of (tuple_back (last_back {part = λ t. t.0} A.law.back)) };
-
-    ghost back = { tuple_back (last_back A.back) };
-}
-
-impl<A: RoundTrip, B: RoundTrip> RoundTrip for (A, B) {
-    ghost use Rattle.cbor_round.specs.Lists.{last_back, part_back, tuple_back};
-    ghost use Rattle.cbor_round.specs.PartsLaws.{tuple2};
-    ghost use Rattle.cbor_round.specs.TypeLaws.{law_of};
-
-    ghost law = { law_of (tuple_back (tuple2 A.law B.law).back) };
-
-    ghost back = { tuple_back (part_back A.back
-        (last_back B.back)) };
-}
-
-impl<A: RoundTrip, B: RoundTrip, C: RoundTrip> RoundTrip for (A, B, C) {
-    ghost use Rattle.cbor_round.specs.Lists.{last_back, part_back, tuple_back};
-    ghost use Rattle.cbor_round.specs.PartsLaws.{tuple3};
-    ghost use Rattle.cbor_round.specs.TypeLaws.{law_of};
-
-    ghost law = { law_of (tuple_back (tuple3 A.law B.law C.law).back) };
-
-    ghost back = { tuple_back (part_back A.back
-        (part_back B.back
-        (last_back C.back))) };
-}
-
-impl<A: RoundTrip, B: RoundTrip, C: RoundTrip, D: RoundTrip> RoundTrip for (A, B, C, D) {
-    ghost use Rattle.cbor_round.specs.Lists.{last_back, part_back, tuple_back};
-    ghost use Rattle.cbor_round.specs.PartsLaws.{tuple4};
-    ghost use Rattle.cbor_round.specs.TypeLaws.{law_of};
-
-    ghost law = { law_of (tuple_back (tuple4 A.law B.law C.law D.law).back) };
-
-    ghost back = { tuple_back (part_back A.back
-        (part_back B.back
-        (part_back C.back
-        (last_back D.back)))) };
 }
 
 /// Each map whose keys are written so that their order is told.

@@ -1,11 +1,11 @@
-//! The documents of the standard library's types, of byte strings and of values.
+//! The documents of the standard library's types but its tuples, of byte strings and of values.
 
 ghost use Rattle.std.specs.Prelude.{pos, string_bytes, encode_utf8, to_bits};
 ghost use Rattle.std.specs.Float.{binary32, binary64};
 ghost use Rattle.cbor_model.specs.Document.{null, bool, integer, bytes, text, sequence, mapping};
 ghost use Rattle.cbor_model.specs.Document.{declared, float};
 ghost use Rattle.cbor_model.specs.Raw.{single, double};
-ghost use Rattle.cbor_model.specs.Document.{doc, no_docs, docs, doc_pairs, document_of};
+ghost use Rattle.cbor_model.specs.Document.{docs, doc_pairs, document_of};
 ghost use Rattle.cbor_value.specs.View.{view, float_view};
 ghost use Rattle.cbor_ser.specs.Documents.{option_document};
 
@@ -254,53 +254,5 @@ impl<K: Serialize + Ord, V: Serialize> Serialize for BTreeMap<K, V> {
 
     fn serialize<W: Write>(&self, ser: &mut Serializer<W>) -> Result<()> {
         ser.write_mapping(self)
-    }
-}
-
-impl<A: Serialize> Serialize for (A,) {
-    ghost document = { λ t. sequence declared (doc (A.document t.0) no_docs) };
-
-    fn serialize<W: Write>(&self, ser: &mut Serializer<W>) -> Result<()> {
-        ser.write_array_head(Some(1))?;
-        self.0.serialize(ser)
-    }
-}
-
-impl<A: Serialize, B: Serialize> Serialize for (A, B) {
-    ghost document = { λ t. sequence declared (doc (A.document t.0)
-        (doc (B.document t.1) no_docs)) };
-
-    fn serialize<W: Write>(&self, ser: &mut Serializer<W>) -> Result<()> {
-        ser.write_array_head(Some(2))?;
-        self.0.serialize(ser)?;
-        self.1.serialize(ser)
-    }
-}
-
-impl<A: Serialize, B: Serialize, C: Serialize> Serialize for (A, B, C) {
-    ghost document = { λ t. sequence declared (doc (A.document t.0)
-        (doc (B.document t.1)
-        (doc (C.document t.2) no_docs))) };
-
-    fn serialize<W: Write>(&self, ser: &mut Serializer<W>) -> Result<()> {
-        ser.write_array_head(Some(3))?;
-        self.0.serialize(ser)?;
-        self.1.serialize(ser)?;
-        self.2.serialize(ser)
-    }
-}
-
-impl<A: Serialize, B: Serialize, C: Serialize, D: Serialize> Serialize for (A, B, C, D) {
-    ghost document = { λ t. sequence declared (doc (A.document t.0)
-        (doc (B.document t.1)
-        (doc (C.document t.2)
-        (doc (D.document t.3) no_docs)))) };
-
-    fn serialize<W: Write>(&self, ser: &mut Serializer<W>) -> Result<()> {
-        ser.write_array_head(Some(4))?;
-        self.0.serialize(ser)?;
-        self.1.serialize(ser)?;
-        self.2.serialize(ser)?;
-        self.3.serialize(ser)
     }
 }

@@ -1,4 +1,5 @@
-//! Lists of references to the parts of structs and variants, by which tuples of them are written.
+//! Lists of references to the parts of structs, variants and tuples, by which tuples of them are
+//! written.
 
 ghost use Rattle.std.specs.Prelude.{◌≡◌, ◌+◌, ◌^◌, ◌<◌, ◌≤◌, ℕ, List, length, map, Some};
 ghost use Rattle.cbor_model.specs.Document.{no_docs, doc, no_fields, field_count};
@@ -170,6 +171,7 @@ pub(crate) trait WriteItems {
 impl WriteItems for () {
     ghost documents = { λ u. no_docs };
 
+    #[inline(always)]
     fn write_items<W: Write>(&self, ser: &mut Serializer<W>) -> Result<()> {
         ser.write_end(Some(0))
     }
@@ -178,6 +180,7 @@ impl WriteItems for () {
 impl<'a, A: Serialize, F: WriteItems> WriteItems for (&'a A, F) {
     ghost documents = { λ p. doc (A.document p.0.now) (F.documents p.1) };
 
+    #[inline(always)]
     fn write_items<W: Write>(&self, ser: &mut Serializer<W>) -> Result<()> {
         self.0.serialize(ser)?;
         self.1.write_items(ser)
@@ -187,6 +190,7 @@ impl<'a, A: Serialize, F: WriteItems> WriteItems for (&'a A, F) {
 impl<'a, F: WriteItems> WriteItems for &'a F {
     ghost documents = { λ p. F.documents p.now };
 
+    #[inline(always)]
     fn write_items<W: Write>(&self, ser: &mut Serializer<W>) -> Result<()> {
         (**self).write_items(ser)
     }
@@ -200,6 +204,7 @@ impl<'a, A: Serialize, B: Serialize, C: Serialize, D: Serialize, F: WriteItems> 
         (doc (C.document p.2.now)
         (doc (D.document p.3.now) (F.documents p.4)))) };
 
+    #[inline(always)]
     fn write_items<W: Write>(&self, ser: &mut Serializer<W>) -> Result<()> {
         let items = (self.0, (self.1, (self.2, (self.3, &self.4))));
         items.write_items(ser)

@@ -1,8 +1,9 @@
-//! Tuples of references, of which variants of several parts are written.
+//! Tuples: those of references, by which variants of several parts are written, and the standard
+//! library's, which are written by the same recursion.
 
 ghost use Rattle.std.specs.Prelude.{◌≡◌, ◌^◌, ◌<◌, Some};
-ghost use Rattle.cbor_model.specs.Document.{doc_count, no_docs, doc};
-ghost use Rattle.cbor_model.specs.Parts.{items, ending};
+ghost use Rattle.cbor_model.specs.Document.{declared, doc_count, no_docs, doc, sequence};
+ghost use Rattle.cbor_model.specs.Parts.{item, items, ending};
 ghost use Rattle.cbor_ser.specs.Serialized.{Serialized};
 
 use crate::part_list::WriteItems;
@@ -37,6 +38,7 @@ impl<'a, A: Serialize> SerializeTuple for (&'a A,) {
         1
     }
 
+    #[inline(always)]
     fn serialize_items<W: Write>(&self, ser: &mut Serializer<W>) -> Result<()> {
         let items = (self.0, ());
         items.write_items(ser)
@@ -52,6 +54,7 @@ impl<'a, A: Serialize, B: Serialize> SerializeTuple for (&'a A, &'a B) {
         2
     }
 
+    #[inline(always)]
     fn serialize_items<W: Write>(&self, ser: &mut Serializer<W>) -> Result<()> {
         let items = (self.0, (self.1, ()));
         items.write_items(ser)
@@ -68,6 +71,7 @@ impl<'a, A: Serialize, B: Serialize, C: Serialize> SerializeTuple for (&'a A, &'
         3
     }
 
+    #[inline(always)]
     fn serialize_items<W: Write>(&self, ser: &mut Serializer<W>) -> Result<()> {
         let items = (self.0, (self.1, (self.2, ())));
         items.write_items(ser)
@@ -86,6 +90,7 @@ impl<'a, A: Serialize, B: Serialize, C: Serialize, D: Serialize> SerializeTuple
         4
     }
 
+    #[inline(always)]
     fn serialize_items<W: Write>(&self, ser: &mut Serializer<W>) -> Result<()> {
         let items = (self.0, self.1, self.2, self.3, ());
         items.write_items(ser)
@@ -105,6 +110,7 @@ impl<'a, A: Serialize, B: Serialize, C: Serialize, D: Serialize, E: Serialize> S
         5
     }
 
+    #[inline(always)]
     fn serialize_items<W: Write>(&self, ser: &mut Serializer<W>) -> Result<()> {
         let items = (self.0, self.1, self.2, self.3, (self.4, ()));
         items.write_items(ser)
@@ -132,6 +138,7 @@ impl<
         6
     }
 
+    #[inline(always)]
     fn serialize_items<W: Write>(&self, ser: &mut Serializer<W>) -> Result<()> {
         let items = (self.0, self.1, self.2, self.3, (self.4, (self.5, ())));
         items.write_items(ser)
@@ -161,6 +168,7 @@ impl<
         7
     }
 
+    #[inline(always)]
     fn serialize_items<W: Write>(&self, ser: &mut Serializer<W>) -> Result<()> {
         let items = (
             self.0,
@@ -198,6 +206,7 @@ impl<
         8
     }
 
+    #[inline(always)]
     fn serialize_items<W: Write>(&self, ser: &mut Serializer<W>) -> Result<()> {
         let items = (
             self.0,
@@ -207,5 +216,141 @@ impl<
             (self.4, self.5, self.6, self.7, ()),
         );
         items.write_items(ser)
+    }
+}
+
+// ---- the standard library's tuples
+
+impl<W: Write> Serializer<W> {
+    // Appends these parts as a sequence.
+    #[inline(always)]
+    fn write_tuple<F: SerializeTuple>(&mut self, parts: &F) -> Result<()>
+        ensures { Serialized W.written W.refuses W.references W.capacity self.old
+            (item (sequence declared (F.documents parts.now))) self.new result }
+    {
+        self.write_array_head(Some(parts.len()))?;
+        parts.serialize_items(self)
+    }
+}
+
+impl<A: Serialize> Serialize for (A,) {
+    ghost document = { λ t. sequence declared (doc (A.document t.0) no_docs) };
+
+    fn serialize<W: Write>(&self, ser: &mut Serializer<W>) -> Result<()> {
+        ser.write_tuple(&(&self.0,))
+    }
+}
+
+impl<A: Serialize, B: Serialize> Serialize for (A, B) {
+    ghost document = { λ t. sequence declared (doc (A.document t.0)
+        (doc (B.document t.1) no_docs)) };
+
+    fn serialize<W: Write>(&self, ser: &mut Serializer<W>) -> Result<()> {
+        ser.write_tuple(&(&self.0, &self.1))
+    }
+}
+
+impl<A: Serialize, B: Serialize, C: Serialize> Serialize for (A, B, C) {
+    ghost document = { λ t. sequence declared (doc (A.document t.0)
+        (doc (B.document t.1)
+        (doc (C.document t.2) no_docs))) };
+
+    fn serialize<W: Write>(&self, ser: &mut Serializer<W>) -> Result<()> {
+        ser.write_tuple(&(&self.0, &self.1, &self.2))
+    }
+}
+
+impl<A: Serialize, B: Serialize, C: Serialize, D: Serialize> Serialize for (A, B, C, D) {
+    ghost document = { λ t. sequence declared (doc (A.document t.0)
+        (doc (B.document t.1)
+        (doc (C.document t.2)
+        (doc (D.document t.3) no_docs)))) };
+
+    fn serialize<W: Write>(&self, ser: &mut Serializer<W>) -> Result<()> {
+        ser.write_tuple(&(&self.0, &self.1, &self.2, &self.3))
+    }
+}
+
+impl<
+    A: Serialize,
+    B: Serialize,
+    C: Serialize,
+    D: Serialize,
+    E: Serialize,
+> Serialize for (A, B, C, D, E) {
+    ghost document = { λ t. sequence declared (doc (A.document t.0)
+        (doc (B.document t.1)
+        (doc (C.document t.2)
+        (doc (D.document t.3)
+        (doc (E.document t.4) no_docs))))) };
+
+    fn serialize<W: Write>(&self, ser: &mut Serializer<W>) -> Result<()> {
+        ser.write_tuple(&(&self.0, &self.1, &self.2, &self.3, &self.4))
+    }
+}
+
+impl<
+    A: Serialize,
+    B: Serialize,
+    C: Serialize,
+    D: Serialize,
+    E: Serialize,
+    F: Serialize,
+> Serialize for (A, B, C, D, E, F) {
+    ghost document = { λ t. sequence declared (doc (A.document t.0)
+        (doc (B.document t.1)
+        (doc (C.document t.2)
+        (doc (D.document t.3)
+        (doc (E.document t.4)
+        (doc (F.document t.5) no_docs)))))) };
+
+    fn serialize<W: Write>(&self, ser: &mut Serializer<W>) -> Result<()> {
+        ser.write_tuple(&(&self.0, &self.1, &self.2, &self.3, &self.4, &self.5))
+    }
+}
+
+impl<
+    A: Serialize,
+    B: Serialize,
+    C: Serialize,
+    D: Serialize,
+    E: Serialize,
+    F: Serialize,
+    G: Serialize,
+> Serialize for (A, B, C, D, E, F, G) {
+    ghost document = { λ t. sequence declared (doc (A.document t.0)
+        (doc (B.document t.1)
+        (doc (C.document t.2)
+        (doc (D.document t.3)
+        (doc (E.document t.4)
+        (doc (F.document t.5)
+        (doc (G.document t.6) no_docs))))))) };
+
+    fn serialize<W: Write>(&self, ser: &mut Serializer<W>) -> Result<()> {
+        ser.write_tuple(&(&self.0, &self.1, &self.2, &self.3, &self.4, &self.5, &self.6))
+    }
+}
+
+impl<
+    A: Serialize,
+    B: Serialize,
+    C: Serialize,
+    D: Serialize,
+    E: Serialize,
+    F: Serialize,
+    G: Serialize,
+    H: Serialize,
+> Serialize for (A, B, C, D, E, F, G, H) {
+    ghost document = { λ t. sequence declared (doc (A.document t.0)
+        (doc (B.document t.1)
+        (doc (C.document t.2)
+        (doc (D.document t.3)
+        (doc (E.document t.4)
+        (doc (F.document t.5)
+        (doc (G.document t.6)
+        (doc (H.document t.7) no_docs)))))))) };
+
+    fn serialize<W: Write>(&self, ser: &mut Serializer<W>) -> Result<()> {
+        ser.write_tuple(&(&self.0, &self.1, &self.2, &self.3, &self.4, &self.5, &self.6, &self.7))
     }
 }

@@ -18,6 +18,7 @@ pub mod Slots
 pub mod Structs
 pub mod StructLoops
 pub mod Enums
+pub mod ItemLists
 pub mod StreamSteps
 pub mod Taken
 pub mod HeadsTaken

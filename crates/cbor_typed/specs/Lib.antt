@@ -1,6 +1,7 @@
 pub mod Structs
 pub mod Fields
 pub mod Options
+pub mod ItemLists
 pub mod FieldTypes
 pub mod ByteStrings
 pub mod Whole

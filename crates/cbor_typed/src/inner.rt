@@ -7,13 +7,11 @@ ghost use Rattle.std.specs.Prelude.{◌≡◌, ◌<◌, [], ◌∷◌, Some, cod
 ghost use Rattle.std.specs.Prelude.{IfOk, IfErr, IfSome, MatchOption, OnOk, OnErr};
 ghost use Rattle.cbor_io.specs.Error.{code_of};
 ghost use Rattle.cbor_read.specs.Source.{RefusedByte, Stays};
-ghost use Rattle.cbor_de.specs.Cursor.{Counts};
 ghost use Rattle.cbor_de.specs.Gives.{IsErrorOf, TellsNoForm};
 ghost use Rattle.cbor_de.specs.declared.head.Head.TheVariants as kind;
 ghost use Rattle.cbor_de.specs.declared.refusal.Refused.TheVariants.{Kept};
 ghost use Rattle.cbor_scalars.specs.Identifiers.{texts};
 ghost use Rattle.cbor_scalars.specs.Takes.{formats_of};
-ghost use Rattle.cbor_collections.specs.Accesses.{TakesMore, TakesEnd};
 ghost use Rattle.cbor_collections.specs.Begins.{TakesBeginning};
 ghost use Rattle.cbor_collections.specs.BeginsEnum.{TakesPartsHead, TakesVariantHead};
 ghost use Rattle.cbor_collections.specs.Cases.{Stands, enum_cases, unit_cases};
@@ -101,35 +99,6 @@ pub fn end_map<R: Source>(de: &mut Deserializer<R>, remaining: Remaining) -> Res
     ensures formats { de.new.items.formats ≡ de.old.items.formats }
 {
     cbor_collections::map::end_map(&mut de.items, remaining)
-}
-
-// ---- arrays
-
-/// Whether another item of an array comes, of which so much remains; its first byte stays. An array
-/// of indefinite length that has no end is refused with `EofWhileParsingArray`.
-#[inline(always)]
-pub fn more_items<R: Source>(de: &mut Deserializer<R>, remaining: &mut Remaining) -> Result<bool>
-    ensures read { TakesMore R.refusals remaining.old remaining.new
-        (R.source de.old.items.source) (R.source de.new.items.source) result }
-    ensures counts { IfOk result (λ more. Counts remaining.old more remaining.new) }
-    ensures no_form { IfErr result (λ e. TellsNoForm (code_of e)) }
-    ensures levels { de.new.items.levels ≡ de.old.items.levels }
-    ensures formats { de.new.items.formats ≡ de.old.items.formats }
-{
-    cbor_collections::array::more_items(&mut de.items, remaining)
-}
-
-/// Takes the end of an array of which so much remains. Items that weren't read are refused with
-/// `TrailingData`.
-#[inline(always)]
-pub fn end_array<R: Source>(de: &mut Deserializer<R>, remaining: Remaining) -> Result<()>
-    ensures read { TakesEnd R.refusals remaining
-        (R.source de.old.items.source) (R.source de.new.items.source) result }
-    ensures no_form { IfErr result (λ e. TellsNoForm (code_of e)) }
-    ensures levels { de.new.items.levels ≡ de.old.items.levels }
-    ensures formats { de.new.items.formats ≡ de.old.items.formats }
-{
-    cbor_collections::array::end_array(&mut de.items, remaining)
 }
 
 // ---- enums

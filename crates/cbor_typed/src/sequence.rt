@@ -81,7 +81,7 @@ impl<R: Source> Deserializer<R> {
 #[cold]
 #[inline(never)]
 #[tactic(auto, using(crate::proofs::Forms::message_form))]
-pub fn invalid_length(alloc: Global, found: usize, expected: usize) -> Error
+pub(crate) fn invalid_length(alloc: Global, found: usize, expected: usize) -> Error
     ensures message { IsMessage result }
     ensures offset { offset_of result ≡ 0 }
     ensures no_form { TellsNoForm (code_of result) }

@@ -1,6 +1,7 @@
 -- Published: arrays, of which one item is read after the other.
 
 -- an array as its items, and what is read as one
+pub use Rattle.cbor_collections.proofs.ArrayHeads.{array_read}
 pub use Rattle.cbor_collections.proofs.WholeArrays.{NoItems, array_refused, array_takes_to}
 pub use Rattle.cbor_collections.proofs.WholeArrays.{end_lacks, end_refused, end_step, end_twice}
 pub use Rattle.cbor_collections.proofs.WholeArrays.{loop_begins, loop_goes_on, loop_refused}

@@ -1,0 +1,57 @@
+-- The items that remain of an array, as a tuple.
+use Rattle.std.specs.Prelude.{◌≡◌, ℕ, Bool, List, Result, Ok, Err}
+use Rattle.cbor_model.specs.Formats.{Formats}
+use Rattle.cbor_model.specs.Raw.{Raw, Raws}
+use Rattle.cbor_model.specs.Reader.{Reads}
+use Rattle.cbor_io.specs.declared.error.Error.{Error}
+use Rattle.cbor_io.specs.declared.read_error.ReadErrorCode.{ReadErrorCode}
+use Rattle.cbor_io.specs.Error.{code_of, offset_of}
+use Rattle.cbor_read.specs.Source.{Input}
+use Rattle.cbor_de.specs.Gives.{Step}
+use Rattle.cbor_de.specs.Heads.{remaining_of}
+use Rattle.cbor_de.specs.declared.cursor.Remaining.{Remaining}
+use Rattle.cbor_collections.specs.Accesses.{items_at}
+use Rattle.cbor_collections.specs.Arrays.{AsArray, as_array_same, first_then_same}
+use Rattle.cbor_collections.specs.Enums.{part_then, no_part}
+use Rattle.cbor_scalars.specs.Takes.{Refuses}
+
+-- The items that are read mean x, and the rest follows them.
+pub record AreItems {A : Type 0} (items : Raws → A → Type 0) (read : Reads Raws) (x : A) (rest : List ℕ) : Type 0 where
+  pub all : Raws
+  pub is : read ≡ Ok (all, rest)
+  pub meaning : items all x
+
+-- no items that mean something are at the front
+abbrev pub AreNoItems : {A : Type 0} → (Raws → A → Type 0) → Reads Raws → Type 0
+AreNoItems {A} items read = (x : A) (rest : List ℕ) → AreItems items read x rest → ⊥
+
+-- What the items mean that remain of an array; or that no such items are there.
+abbrev pub TakesItems : {A : Type 0} → (ReadErrorCode → Bool) → Formats → (Raws → A → Type 0) → ℕ
+    → Remaining → Input → Input → Result A Error → Type 0
+TakesItems refusals f items levels remaining s t (Ok x) =
+    Step s t (λ l bs rest. AreItems items (items_at f l levels (remaining_of remaining) bs) x rest)
+TakesItems refusals f items levels remaining s t (Err e) =
+    Refuses refusals s t (code_of e) (offset_of e)
+    (λ l bs. AreNoItems items (items_at f l levels (remaining_of remaining) bs))
+
+-- ---- laws
+
+-- what items are read as by one list, they are read as by the other
+abbrev pub AreSame : {A : Type 0} → (one two : Raws → A → Type 0) → Type 0
+AreSame {A} one two = (rs : Raws) (x : A) → one rs x → two rs x
+
+pub none_same : AreSame no_part no_part
+none_same rs u h = h
+
+pub then_same : {A B : Type 0} {one two : Raw → A → Type 0} {some others : Raws → B → Type 0}
+    → ((r : Raw) (x : A) → one r x → two r x) → AreSame some others
+    → AreSame (part_then one some) (part_then two others)
+then_same {one = one} {two = two} {some = some} {others = others} on rest rs y h =
+    first_then_same one two y.0 (λ more. some more y.1) (λ more. others more y.1) (λ r. on r y.0)
+    (λ more. rest more y.1) rs h
+
+-- and so is an array of them, as a tuple whose parts they are
+pub tuple_same : {T A : Type 0} {one two : Raws → A → Type 0} (parts : T → A) → AreSame one two
+    → (r : Raw) (t : T) → AsArray (λ rs t. one rs (parts t)) r t → AsArray (λ rs t. two rs (parts t)) r t
+tuple_same {one = one} {two = two} parts on r t h =
+    as_array_same (λ rs t. one rs (parts t)) (λ rs t. two rs (parts t)) (λ rs t. on rs (parts t)) r t h

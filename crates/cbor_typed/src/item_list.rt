@@ -1,0 +1,168 @@
+//! Tuples, which are read by one recursion over the list of their parts: the tuples of the standard
+//! library, and those that are the parts of an enum's variant.
+
+ghost use Rattle.std.specs.Prelude.{◌≡◌, IfErr};
+ghost use Rattle.cbor_model.specs.Readable.{PassesTags};
+ghost use Rattle.cbor_io.specs.Error.{code_of};
+ghost use Rattle.cbor_collections.specs.Accesses.{TakesPart};
+ghost use Rattle.cbor_collections.specs.Arrays.{AsArray};
+ghost use Rattle.cbor_scalars.specs.Takes.{TakesItem, context, formats_of};
+ghost use Rattle.cbor_typed.specs.Forms.{FormOnlyIf};
+ghost use Rattle.cbor_typed.specs.ItemLists.{TakesItems};
+
+use crate::de::Deserializer;
+use crate::deserialize::{Deserialize, Readable};
+use crate::sequence::invalid_length;
+use cbor_collections::array::{array_head, end_array, more_items};
+use cbor_de::Remaining;
+use cbor_io::error::Result;
+use cbor_read::Read;
+
+// ---- tuples
+
+/// The items of an array that are read as a tuple, as `(u64, u8)`.
+pub trait ReadableTuple: Sized + Drop {
+    ghost use Rattle.std.specs.Prelude.{Bool};
+    ghost use Rattle.cbor_model.specs.Raw.{Raws};
+    ghost use Rattle.cbor_model.specs.Readable.{Context};
+
+    // As what the items are read.
+    ghost parts: { Context → Raws → Self → Type 0 };
+
+    // Whether one of them may be refused for its form.
+    ghost tells_form: { Bool };
+}
+
+/// A tuple that is read from a source.
+pub trait ReadTuple<'de, R: Read<'de>>: ReadableTuple {
+    /// Reads the items of an array that remain, of which none was read, and its end.
+    fn read_tuple(de: &mut Deserializer<R>, remaining: Remaining) -> Result<Self>
+        ensures read { TakesItems R.refusals (formats_of de.old.items.formats)
+            (Self.parts (context de.old.items.formats R.lends)) de.old.items.levels remaining
+            (R.source de.old.items.source) (R.source de.new.items.source) result }
+        ensures form { IfErr result (λ e. FormOnlyIf Self.tells_form (code_of e)) }
+        ensures formats { de.new.items.formats ≡ de.old.items.formats };
+}
+
+// Reads an array of exactly these items.
+#[inline(always)]
+pub(crate) fn read_array<'de, R: Read<'de>, T: ReadTuple<'de, R>>(
+    de: &mut Deserializer<R>,
+) -> Result<T>
+    ensures read { TakesItem R.refusals (formats_of de.old.items.formats)
+        (PassesTags (AsArray (T.parts (context de.old.items.formats R.lends))))
+        de.old.items.levels (R.source de.old.items.source)
+        (R.source de.new.items.source) result }
+    ensures form { IfErr result (λ e. FormOnlyIf T.tells_form (code_of e)) }
+    ensures levels { de.new.items.levels ≡ de.old.items.levels }
+    ensures formats { de.new.items.formats ≡ de.old.items.formats }
+{
+    let outer = de.items.levels;
+    let remaining = match array_head(&mut de.items) {
+        Ok(remaining) => remaining,
+        Err(e) => return Err(e),
+    };
+    let read = T::read_tuple(de, remaining);
+    de.items.levels = outer;
+    read
+}
+
+// ---- lists
+
+// The parts of a tuple: `()`, or a part and the list of the others, as `(u64, (u8, ()))`.
+pub(crate) trait ItemList: Sized + Drop {
+    ghost use Rattle.std.specs.Prelude.{Bool};
+    ghost use Rattle.cbor_model.specs.Raw.{Raws};
+    ghost use Rattle.cbor_model.specs.Readable.{Context};
+
+    // As what the items are read.
+    ghost parts: { Context → Raws → Self → Type 0 };
+
+    // Whether one of them may be refused for its form.
+    ghost tells_form: { Bool };
+}
+
+// The parts of a tuple, which are read from a source.
+pub(crate) trait ReadItems<'de, R: Read<'de>>: ItemList {
+    // Reads the items of an array that remain, and its end. So many were read before them, of so
+    // many that are expected.
+    fn read_items(
+        de: &mut Deserializer<R>,
+        remaining: Remaining,
+        before: usize,
+        expected: usize,
+    ) -> Result<Self>
+        ensures read { TakesItems R.refusals (formats_of de.old.items.formats)
+            (Self.parts (context de.old.items.formats R.lends)) de.old.items.levels remaining
+            (R.source de.old.items.source) (R.source de.new.items.source) result }
+        ensures form { IfErr result (λ e. FormOnlyIf Self.tells_form (code_of e)) }
+        ensures formats { de.new.items.formats ≡ de.old.items.formats };
+}
+
+impl ItemList for () {
+    ghost use Rattle.std.specs.Prelude.{false};
+    ghost use Rattle.cbor_collections.specs.Enums.{no_part};
+
+    ghost parts = { λ c. no_part };
+
+    ghost tells_form = { false };
+}
+
+impl<'de, R: Read<'de>> ReadItems<'de, R> for () {
+    #[inline(always)]
+    fn read_items(
+        de: &mut Deserializer<R>,
+        remaining: Remaining,
+        _before: usize,
+        _expected: usize,
+    ) -> Result<()> {
+        end_array(&mut de.items, remaining)
+    }
+}
+
+impl<A: Readable, F: ItemList> ItemList for (A, F) {
+    ghost use Rattle.std.specs.Prelude.{◌||◌};
+    ghost use Rattle.cbor_collections.specs.Enums.{part_then};
+
+    ghost parts = { λ c. part_then (A.reads c) (F.parts c) };
+
+    ghost tells_form = { A.tells_form || F.tells_form };
+}
+
+impl<'de, R: Read<'de>, A: Deserialize<'de, R>, F: ReadItems<'de, R>> ReadItems<'de, R> for (A, F) {
+    #[inline(always)]
+    fn read_items(
+        de: &mut Deserializer<R>,
+        mut remaining: Remaining,
+        before: usize,
+        expected: usize,
+    ) -> Result<(A, F)> {
+        let first = next_part::<R, A>(de, &mut remaining, before, expected)?;
+        let others = F::read_items(de, remaining, before.saturating_add(1), expected)?;
+        Ok((first, others))
+    }
+}
+
+// Reads the next item of an array of which so much remains.
+#[inline(always)]
+#[tactic(auto, using(crate::proofs::Forms::plain))]
+fn next_part<'de, R: Read<'de>, T: Deserialize<'de, R>>(
+    de: &mut Deserializer<R>,
+    remaining: &mut Remaining,
+    before: usize,
+    expected: usize,
+) -> Result<T>
+    ensures read { TakesPart R.refusals (formats_of de.old.items.formats)
+        (T.reads (context de.old.items.formats R.lends))
+        de.old.items.levels remaining.old remaining.new
+        (R.source de.old.items.source) (R.source de.new.items.source) result }
+    ensures form { IfErr result (λ e. FormOnlyIf T.tells_form (code_of e)) }
+    ensures levels { de.new.items.levels ≡ de.old.items.levels }
+    ensures formats { de.new.items.formats ≡ de.old.items.formats }
+{
+    match more_items(&mut de.items, remaining) {
+        Ok(true) => T::deserialize(de),
+        Ok(false) => Err(invalid_length(de.items.alloc, before, expected)),
+        Err(e) => Err(e),
+    }
+}
