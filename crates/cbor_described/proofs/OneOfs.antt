@@ -1,36 +1,29 @@
 -- Lists of variants: what the answers of the calls on parts, on contents and on an enum add.
-use Rattle.cbor_de.specs.Cursor.{behind_next}
-use Rattle.std.proofs.Common.{inr, ◌≡◌, ℕ, zero, suc, ◌-◌, Bool, true, List, [], ◌∷◌, Result, Ok, Err, refl, sym, ap, subst, ◌∙◌, arith}
+use Rattle.std.proofs.Common.{inr, ◌≡◌, ℕ, zero, suc, ◌-◌, Bool, List, Result, Ok, Err, refl, sym, ap, subst, ◌∙◌, arith}
 use Rattle.cbor_model.specs.Formats as model
-use Rattle.cbor_model.specs.Raw.{Raw, Raws, no_raws}
-use Rattle.cbor_model.specs.Reader.{Reads, ◌>>=◌, item_at, next_at}
-use Rattle.cbor_model.specs.Refusal.{end_in_array}
+use Rattle.cbor_model.specs.Raw.{Raws}
+use Rattle.cbor_model.specs.Reader.{Reads, ◌>>=◌, item_at}
 use Rattle.cbor_model.proofs.facts.Reader.{ok_is}
 use Rattle.cbor_read.specs.Source.{Input, TookSome}
 use Rattle.cbor_io.specs.Error.{code_of, offset_of}
 use Rattle.cbor_io.specs.declared.error.Error.{Error}
 use Rattle.cbor_io.specs.declared.read_error.ReadErrorCode.{ReadErrorCode}
-use Rattle.cbor_de.specs.Gives.{Limits, Step}
+use Rattle.cbor_de.specs.Gives.{Step}
 use Rattle.cbor_de.specs.Heads.{remaining_of}
 use Rattle.cbor_de.specs.declared.cursor.Remaining.{Remaining}
 use Rattle.cbor_de.specs.declared.formats.Formats.{Formats}
 use Rattle.cbor_de.proofs.facts.Steps.{step_map, step_then}
-use Rattle.cbor_collections.specs.Accesses.{items_at, IsNextItem, TakesPart, TakesEnd, IsEnd}
-use Rattle.cbor_collections.specs.Arrays.{AreNone}
-use Rattle.cbor_collections.specs.Enums.{Content, AreParts, part_then, no_part}
+use Rattle.cbor_collections.specs.Accesses.{items_at}
+use Rattle.cbor_collections.specs.Enums.{Content, AreParts}
 use Rattle.cbor_described.specs.OneOfs.{either}
 use Rattle.cbor_typed.specs.ItemLists.{AreItems, AreNoItems, TakesItems}
-use Rattle.cbor_scalars.specs.Takes.{TakesItem, formats_of, raws, Refuses}
+use Rattle.cbor_scalars.specs.Takes.{formats_of, raws, Refuses}
 use Rattle.cbor_collections.specs.Variants.{content_at, IsVariantHead, IsContent, IsNoContent, TakesContent, IsItemsOf, IsPartsHead, RefusesParts}
 use Rattle.cbor_collections.specs.declared.variant.Form.{Form}
 use Rattle.cbor_described.specs.declared.variant_list.OneOf.{OneOf}
 use Rattle.cbor_described.specs.declared.variant_list.OneOf.TheVariants.{This, Other}
 use Rattle.cbor_typed.proofs.facts.Enums.{TakesEnum, variant_is, content_read, content_unread, has_items, items_read, items_made}
-use Rattle.cbor_collections.proofs.facts.Arrays.{comes, item_next, item_refused, NoPart, part_refused}
 use Rattle.cbor_collections.proofs.facts.Refusals.{refuses_map, refuses_then}
-use Rattle.cbor_collections.proofs.facts.Arrays.{append, with_front, SoFar, is_done, goes_on, begins, rest_of, no_part_rest}
-use Rattle.cbor_collections.proofs.facts.Tuples.{Empty, Then, one_more, none_all, first_follows, empty_rest}
-use Rattle.cbor_collections.proofs.facts.Arrays.{NoItems, end_step, loop_begins, end_lacks}
 
 -- ---- contents
 

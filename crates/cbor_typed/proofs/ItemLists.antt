@@ -19,7 +19,7 @@ use Rattle.cbor_de.proofs.facts.Steps.{step_map, step_then}
 use Rattle.cbor_collections.specs.Accesses.{items_at, IsArrayHead, IsNextItem, TakesPart, TakesEnd, IsEnd}
 use Rattle.cbor_collections.specs.Arrays.{AreNone, AsArray}
 use Rattle.cbor_collections.specs.Enums.{part_then, no_part}
-use Rattle.cbor_scalars.specs.Takes.{TakesItem, IsRead, IsNotRead, Refuses, formats_of, raws}
+use Rattle.cbor_scalars.specs.Takes.{TakesItem, IsRead, formats_of, raws}
 use Rattle.cbor_typed.specs.ItemLists.{AreItems, AreNoItems, TakesItems}
 use Rattle.cbor_collections.proofs.facts.Arrays.{comes, item_next, item_refused, NoPart, part_refused}
 use Rattle.cbor_collections.proofs.facts.Arrays.{append, with_front, SoFar, is_done, goes_on, begins, rest_of, no_part_rest}
