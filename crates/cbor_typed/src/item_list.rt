@@ -46,6 +46,7 @@ pub trait ReadTuple<'de, R: Read<'de>>: ReadableTuple {
 
 // Reads an array of exactly these items.
 #[inline(always)]
+#[tactic(auto, using(crate::proofs::Forms::plain))]
 pub(crate) fn read_array<'de, R: Read<'de>, T: ReadTuple<'de, R>>(
     de: &mut Deserializer<R>,
 ) -> Result<T>
