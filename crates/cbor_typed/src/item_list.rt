@@ -138,9 +138,14 @@ impl<'de, R: Read<'de>, A: Deserialize<'de, R>, F: ReadItems<'de, R>> ReadItems<
         before: usize,
         expected: usize,
     ) -> Result<(A, F)> {
-        let first = next_part::<R, A>(de, &mut remaining, before, expected)?;
-        let others = F::read_items(de, remaining, before.saturating_add(1), expected)?;
-        Ok((first, others))
+        let first = match next_part::<R, A>(de, &mut remaining, before, expected) {
+            Ok(first) => first,
+            Err(e) => return Err(e),
+        };
+        match F::read_items(de, remaining, before.saturating_add(1), expected) {
+            Ok(others) => Ok((first, others)),
+            Err(e) => Err(e),
+        }
     }
 }
 
