@@ -63,9 +63,17 @@ pub(crate) fn read_array<'de, R: Read<'de>, T: ReadTuple<'de, R>>(
         Ok(remaining) => remaining,
         Err(e) => return Err(e),
     };
-    let read = T::read_tuple(de, remaining);
-    de.items.levels = outer;
-    read
+    // A result that is kept while the levels are set would be moved whole.
+    match T::read_tuple(de, remaining) {
+        Ok(tuple) => {
+            de.items.levels = outer;
+            Ok(tuple)
+        }
+        Err(e) => {
+            de.items.levels = outer;
+            Err(e)
+        }
+    }
 }
 
 // ---- lists
