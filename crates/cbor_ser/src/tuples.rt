@@ -271,13 +271,8 @@ impl<A: Serialize, B: Serialize, C: Serialize, D: Serialize> Serialize for (A, B
     }
 }
 
-impl<
-    A: Serialize,
-    B: Serialize,
-    C: Serialize,
-    D: Serialize,
-    E: Serialize,
-> Serialize for (A, B, C, D, E) {
+impl<A: Serialize, B: Serialize, C: Serialize, D: Serialize, E: Serialize> Serialize
+    for (A, B, C, D, E) {
     ghost document = { λ t. sequence declared (doc (A.document t.0)
         (doc (B.document t.1)
         (doc (C.document t.2)
@@ -289,14 +284,8 @@ impl<
     }
 }
 
-impl<
-    A: Serialize,
-    B: Serialize,
-    C: Serialize,
-    D: Serialize,
-    E: Serialize,
-    F: Serialize,
-> Serialize for (A, B, C, D, E, F) {
+impl<A: Serialize, B: Serialize, C: Serialize, D: Serialize, E: Serialize, F: Serialize> Serialize
+    for (A, B, C, D, E, F) {
     ghost document = { λ t. sequence declared (doc (A.document t.0)
         (doc (B.document t.1)
         (doc (C.document t.2)
@@ -327,7 +316,9 @@ impl<
         (doc (G.document t.6) no_docs))))))) };
 
     fn serialize<W: Write>(&self, ser: &mut Serializer<W>) -> Result<()> {
-        ser.write_tuple(&(&self.0, &self.1, &self.2, &self.3, &self.4, &self.5, &self.6))
+        ser.write_tuple(&(
+            &self.0, &self.1, &self.2, &self.3, &self.4, &self.5, &self.6,
+        ))
     }
 }
 
@@ -351,6 +342,8 @@ impl<
         (doc (H.document t.7) no_docs)))))))) };
 
     fn serialize<W: Write>(&self, ser: &mut Serializer<W>) -> Result<()> {
-        ser.write_tuple(&(&self.0, &self.1, &self.2, &self.3, &self.4, &self.5, &self.6, &self.7))
+        ser.write_tuple(&(
+            &self.0, &self.1, &self.2, &self.3, &self.4, &self.5, &self.6, &self.7,
+        ))
     }
 }
