@@ -50,6 +50,17 @@ fn reads_again_what_it_wrote(rt: HostRuntime) -> Done {
     Ok(())
 }
 
+#[test]
+fn reads_again_eight_parts(rt: HostRuntime) -> Done {
+    let alloc = rt.alloc();
+    let parts = (1u8, true, 300u16, 'a', -5i8, (), 70_000u32, Some(2u8));
+    let again: (u8, bool, u16, char, i8, (), u32, Option<u8>) = write_and_read(alloc, &parts)?;
+    assert!(rt; again.1);
+    assert!(rt; (again.0, again.2, again.6) == (1, 300, 70_000));
+    assert!(rt; (again.3, again.4, again.7) == ('a', -5, Some(2)));
+    Ok(())
+}
+
 // 2^64 as each type that holds it.
 #[test]
 fn refuses_a_number_that_is_not_stored(rt: HostRuntime) -> Done {
