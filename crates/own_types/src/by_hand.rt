@@ -1,7 +1,8 @@
-//! An enum and a struct whose parts are read one by one, as types are that no description fits, with
-//! the proofs that it takes.
+//! An enum and a struct whose parts are read one by one, and the struct's written so, as types are
+//! that no description fits, with the proofs that it takes.
 
 use serde_cbor::de::{Deserialize, DeserializeOwned, Field, Read, Readable};
+use serde_cbor::ser::{Serialize, Serializer, Write};
 use serde_cbor::{Deserializer, Result};
 
 /// An enum with a variant of each kind.
@@ -18,13 +19,30 @@ const BAR: &[&str] = &["Empty", "Number", "Flag", "Point"];
 
 /// The fields of its last variant.
 #[derive(Drop)]
-struct Point {
-    x: i64,
-    y: i64,
+pub struct Point {
+    pub x: i64,
+    pub y: i64,
 }
 
 /// The names of its fields.
 const POINT: &[&str] = &["x", "y"];
+
+impl Serialize for Point {
+    ghost use Rattle.std.specs.Prelude.{codes};
+    ghost use Rattle.serde_cbor.specs.Document.{structure, field, no_fields};
+
+    ghost document = { λ p. structure
+        (field 0 (codes "x") (⟦<i64 as Serialize>⟧.document p.x)
+        (field 1 (codes "y") (⟦<i64 as Serialize>⟧.document p.y)
+        no_fields)) };
+
+    fn serialize<W: Write>(&self, ser: &mut Serializer<W>) -> Result<()> {
+        let mut fields = ser.serialize_struct("Point", 2)?;
+        fields.serialize_field("x", &self.x)?;
+        fields.serialize_field("y", &self.y)?;
+        fields.end()
+    }
+}
 
 impl Readable for Point {
     ghost use Rattle.std.specs.Prelude.{[], ◌∷◌, map};

@@ -5,7 +5,7 @@ mod by_hand;
 mod records;
 mod shapes;
 
-use by_hand::Bar;
+use by_hand::{Bar, Point};
 use records::{Label, Metres, Pair, Reading, Settings, User};
 use serde_cbor::bytes::ByteArray;
 use serde_cbor::ser::to_vec_packed;
@@ -127,5 +127,7 @@ fn print_bar(rt: &HostRuntime) -> Result<()> {
     println!(rt; "{point:?}")?;
     let flag: Bar = from_slice(alloc, b"\x83\x02\x62ab\xf5")?;
     println!(rt; "{flag:?}")?;
+    let written = to_vec(alloc, &Point { x: 5, y: -5 })?;
+    println!(rt; "{:?}", written.as_slice())?;
     Ok(())
 }
