@@ -81,7 +81,7 @@ module _ (allowed : ReadErrorCode → Bool) (f : Formats) (levels : ℕ) (s t : 
   head_taken left inner h r is one = step_map s t (λ l bs rest. Opens f l (whole l bs) left h rest) (λ l bs rest. IsArrayHead f l (whole l bs) inner r rest)
       (λ l bs rest o. head_here l (whole l bs) left inner r rest one (subst (λ (h : Head). Opens f l (whole l bs) left h rest) is o))
 
-  pub head_stops : {w : Input} (kept : Option ReadError) (r : Refused) (e : Error) → IsErrorOf kept r e → Stopped allowed whole s w kept r → RefusesArray allowed f levels s w e
+  pub head_stops : {w : Input} (kept : ReadError) (r : Refused) (e : Error) → IsErrorOf kept r e → Stopped allowed whole s w kept r → RefusesArray allowed f levels s w e
   head_stops kept r e = refuses allowed (PassesTags IsItems) whole s kept r e
 
   pub other_head : (left : ℕ) (h : Head) (e : Error) → ((r : Remaining) → h ≡ head.Array r → ⊥) → Step s t (λ l bs rest. Opens f l (whole l bs) left h rest) → RefusesArray allowed f levels s t e

@@ -65,7 +65,7 @@ rule_told D code.OutOfMemory end at left read is h = inl h
 
 module _ (allowed : ReadErrorCode → Bool) (f : Formats) (remaining : Remaining) (s : Input) where
   -- it couldn't be told whether a pair comes
-  pub bad_key_first : {w : Input} (kept : Option ReadError) (r : Refused) → Stopped allowed (λ l. next_at end_in_map (remaining_of remaining)) s w kept r → (e : Error) → IsErrorOf kept r e → TellsBadKey allowed f remaining s e
+  pub bad_key_first : {w : Input} (kept : ReadError) (r : Refused) → Stopped allowed (λ l. next_at end_in_map (remaining_of remaining)) s w kept r → (e : Error) → IsErrorOf kept r e → TellsBadKey allowed f remaining s e
   bad_key_first kept r h e made = λ bs tells at bad.
       elim (excused_or (Reports allowed) (code_of e) (s.offset + length bs) (offset_of e) (next_at end_in_map (remaining_of remaining) bs) (told_by allowed (λ l. next_at end_in_map (remaining_of remaining)) s kept r e made h bs tells)) [
         | inl excused ↦ inl excused
@@ -74,7 +74,7 @@ module _ (allowed : ReadErrorCode → Bool) (f : Formats) (remaining : Remaining
 
   module _ (behind : Remaining) (a : Input) where
     -- a pair came whose key may not begin as it does
-    bad_key_here : {w : Input} → Step s a (λ l bs rest. next_at end_in_map (remaining_of remaining) bs ≡ Ok (Some (remaining_of behind), rest)) → (kept : Option ReadError) (r : Refused) → Stopped allowed (λ l. key_front f) a w kept r → (e : Error) → IsErrorOf kept r e → TellsBadKey allowed f remaining s e
+    bad_key_here : {w : Input} → Step s a (λ l bs rest. next_at end_in_map (remaining_of remaining) bs ≡ Ok (Some (remaining_of behind), rest)) → (kept : ReadError) (r : Refused) → Stopped allowed (λ l. key_front f) a w kept r → (e : Error) → IsErrorOf kept r e → TellsBadKey allowed f remaining s e
     bad_key_here step kept r h e made = λ bs tells at bad.
         let one = step.told bs tells in
         let same : bad.key ≡ one.rest = ap (λ (p : Option reader.Remaining × List ℕ). p.1) (ok_is (Some bad.behind, bad.key) (Some (remaining_of behind), one.rest) (sym bad.comes ∙ one.holds)) in
@@ -93,7 +93,7 @@ module _ (allowed : ReadErrorCode → Bool) (f : Formats) (remaining : Remaining
         absurd (not_both (tt, one.rest) (record { why = wrong_struct_format; left = bad.refused.0 }) (sym one.holds.1 ∙ rule))
 
 -- the key's first byte was looked at
-pub bad_key_told : {w : Input} (allowed : ReadErrorCode → Bool) (f g : Formats) (remaining behind : Remaining) (more : Bool) (s a : Input) (kept : Option ReadError) (r : Refused) → g ≡ f → more ≡ true
+pub bad_key_told : {w : Input} (allowed : ReadErrorCode → Bool) (f g : Formats) (remaining behind : Remaining) (more : Bool) (s a : Input) (kept : ReadError) (r : Refused) → g ≡ f → more ≡ true
     → Step s a (λ l bs rest. next_at end_in_map (remaining_of remaining) bs ≡ Ok (behind_next behind more, rest)) → Stopped allowed (λ l. key_front g) a w kept r → (e : Error) → IsErrorOf kept r e → TellsBadKey allowed f remaining s e
 bad_key_told allowed f g remaining behind false s a kept r same comes step h e made = absurd cc
 bad_key_told {w = w} allowed f g remaining behind true s a kept r same comes step h e made =

@@ -39,7 +39,7 @@ module _ (kind : Remaining → Head) (allowed : ReadErrorCode → Bool) (levels 
   begins left deep h r is one = step_map s t (Taken left h) (λ l bs rest. Begins kind levels deep r bs rest)
       (λ l bs rest taken. taken ∙ ap₂ (λ (n : ℕ) (x : Head). Ok ((n, x), rest)) one is)
 
-  pub begins_stopped : {w : Input} (kept : Option ReadError) (r : Refused) (e : Error) → IsErrorOf kept r e → Stopped allowed (λ l. opened_at levels) s w kept r → RefusesBeginning kind allowed levels s w e
+  pub begins_stopped : {w : Input} (kept : ReadError) (r : Refused) (e : Error) → IsErrorOf kept r e → Stopped allowed (λ l. opened_at levels) s w kept r → RefusesBeginning kind allowed levels s w e
   begins_stopped kept r e = refuses_stopped allowed (λ l. opened_at levels) s kept r e (λ l bs. NoneBegins kind levels bs)
       (λ l bs f stops left r' rest is. fault_read (opened_at levels bs) ((left + 1, kind r'), rest) f stops is)
 

@@ -78,7 +78,7 @@ of_fault D cases code.TrailingData end at read on h = tt
 of_fault D cases code.RecursionLimitExceeded end at read on h = tt
 of_fault D cases code.OutOfMemory end at read on h = tt
 
-pub stopped_stands : {A : Type 0} {w : Input} (allowed : ReadErrorCode → Bool) (read : Limits → List ℕ → Reads A) (s : Input) (kept : Option ReadError) (r : Refused) (e : Error) (cases : Limits → List ℕ → Cases)
+pub stopped_stands : {A : Type 0} {w : Input} (allowed : ReadErrorCode → Bool) (read : Limits → List ℕ → Reads A) (s : Input) (kept : ReadError) (r : Refused) (e : Error) (cases : Limits → List ℕ → Cases)
     → ((l : Limits) (bs : List ℕ) (at : ℕ) → FailsAs wrong_struct_format l.total at (read l bs) → (cases l bs).wrong_struct at) → IsErrorOf kept r e → Stopped allowed read s w kept r → Stands s e cases
 stopped_stands allowed read s kept r e cases on made h = record {
   told = λ bs tells.
@@ -176,7 +176,7 @@ empty_stands f levels left remaining s a e step (inr none) = record {
 }
 
 -- the key of a map of one pair may not begin as it does
-pub pair_stands : {w : Input} (allowed : ReadErrorCode → Bool) (f : Formats) (levels : ℕ) (s : Input) (kept : Option ReadError) (r : Refused) (e : Error) → IsErrorOf kept r e → Stopped allowed (λ l. pair_head_at f levels) s w kept r → Stands s e (untagged_cases f levels)
+pub pair_stands : {w : Input} (allowed : ReadErrorCode → Bool) (f : Formats) (levels : ℕ) (s : Input) (kept : ReadError) (r : Refused) (e : Error) → IsErrorOf kept r e → Stopped allowed (λ l. pair_head_at f levels) s w kept r → Stands s e (untagged_cases f levels)
 pair_stands allowed f levels s kept r e made h = stopped_stands allowed (λ l. pair_head_at f levels) s kept r e (untagged_cases f levels) (λ l bs at h. h) made h
 
 -- an array ends where an item was wanted
@@ -189,7 +189,7 @@ full_stands remaining s e (inr none) = record {
 }
 
 -- why it couldn't be told whether an item comes
-pub coming_fault : (allowed : ReadErrorCode → Bool) (remaining behind : Remaining) (s t : Input) (kept : Option ReadError) (r : Refused) (e : Error) → IsErrorOf kept r e → TakesComing allowed remaining behind s t kept (Err r) → TellsFault allowed (λ l. next_at end_in_array (remaining_of remaining)) s e
+pub coming_fault : (allowed : ReadErrorCode → Bool) (remaining behind : Remaining) (s t : Input) (kept : ReadError) (r : Refused) (e : Error) → IsErrorOf kept r e → TakesComing allowed remaining behind s t kept (Err r) → TellsFault allowed (λ l. next_at end_in_array (remaining_of remaining)) s e
 coming_fault allowed remaining behind s t kept r e made h = told_by allowed (λ l. next_at end_in_array (remaining_of remaining)) s kept r e made h
 
 -- where no item comes, either that is told or the error is excused
@@ -215,10 +215,9 @@ too_short_later allowed remaining behind s a e step = λ bs tells no.
     none_some e = absurd cc
 
 -- the error of a step that no key stopped
-pub no_form : (kept : Option ReadError) (r : Refused) (e : Error) → TellsNoKey kept r → IsErrorOf kept r e → TellsNoForm (code_of e)
+pub no_form : (kept : ReadError) (r : Refused) (e : Error) → TellsNoKey kept r → IsErrorOf kept r e → TellsNoForm (code_of e)
 no_form kept refused.OutOfMemory e other made = subst TellsNoForm (sym made.0) tt
-no_form None refused.Kept e other made = subst TellsNoForm (sym made.0) tt
-no_form (Some q) refused.Kept e other made = subst TellsNoForm (sym made.0) (of_kept (why q) other)
+no_form kept refused.Kept e other made = subst TellsNoForm (sym made.0) (of_kept (why kept) other)
   where
     of_kept : (k : ReadErrorCode) → k ≢ reading.WrongStructFormat → TellsNoForm (error_code k)
     of_kept reading.WrongStructFormat other = absurd (other refl)
@@ -235,11 +234,11 @@ no_form (Some q) refused.Kept e other made = subst TellsNoForm (sym made.0) (of_
     of_kept reading.RecursionLimitExceeded other = tt
     of_kept reading.OutOfMemory other = tt
 
-pub made_stands : (s : Input) (cases : Limits → List ℕ → Cases) (kept : Option ReadError) (r : Refused) → TellsNoKey kept r → (e : Error) → IsErrorOf kept r e → Stands s e cases
+pub made_stands : (s : Input) (cases : Limits → List ℕ → Cases) (kept : ReadError) (r : Refused) → TellsNoKey kept r → (e : Error) → IsErrorOf kept r e → Stands s e cases
 made_stands s cases kept r other e made = other_stands s e cases (no_form kept r e other made)
 
 -- the error of what named nothing, where no key stopped it
-pub unnamed_stands : (s : Input) (cases : Limits → List ℕ → Cases) (kept : Option ReadError) (w : Why) → NamesNoKey kept w → (e : Error) → IsMadeBy kept w e → Stands s e cases
+pub unnamed_stands : (s : Input) (cases : Limits → List ℕ → Cases) (kept : ReadError) (w : Why) → NamesNoKey kept w → (e : Error) → IsMadeBy kept w e → Stands s e cases
 unnamed_stands s cases kept (unnamed.Refused r) other e made = made_stands s cases kept r other e made
 unnamed_stands s cases kept unnamed.Other other e made = other_stands s e cases (of_message (code_of e) made.0)
   where
@@ -264,7 +263,7 @@ unnamed_stands s cases kept unnamed.Other other e made = other_stands s e cases 
     of_message code.NotCanonical h = absurd h
 
 -- the next key may not begin as it does
-pub key_stands : {w : Input} (allowed : ReadErrorCode → Bool) (f g : Formats) (remaining behind : Remaining) (more : Bool) (s a : Input) (kept : Option ReadError) (r : Refused) → g ≡ f → more ≡ true
+pub key_stands : {w : Input} (allowed : ReadErrorCode → Bool) (f g : Formats) (remaining behind : Remaining) (more : Bool) (s a : Input) (kept : ReadError) (r : Refused) → g ≡ f → more ≡ true
     → Step s a (λ l bs rest. next_at end_in_map (remaining_of remaining) bs ≡ Ok (behind_next behind more, rest)) → Stopped allowed (λ l. key_front g) a w kept r → (e : Error) → IsErrorOf kept r e → Stands s e (key_cases f remaining)
 key_stands allowed f g remaining behind false s a kept r same comes step h e made = absurd cc
 key_stands {w = w} allowed f g remaining behind true s a kept r same comes step h e made =

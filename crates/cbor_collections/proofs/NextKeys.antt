@@ -78,14 +78,14 @@ module _ (s m : Input) (f : model.Formats) (old new : Remaining) where
         let at = ap (λ (p : Option reader.Remaining × List ℕ). p.1) (ok_is (Some after, rest) (Some (remaining_of new), mid) (sym comes.0 ∙ next')) in
         none rest (subst (λ (bs : List ℕ). key_front f bs ≡ Ok (tt, rest)) at comes.1)
 
-    pub front_refused : {w : Input} (allowed : ReadErrorCode → Bool) (kept : Option ReadError) (r : Refused) (e : Error) → more ≡ true → Step s m (Next more)
+    pub front_refused : {w : Input} (allowed : ReadErrorCode → Bool) (kept : ReadError) (r : Refused) (e : Error) → more ≡ true → Step s m (Next more)
         → IsErrorOf kept r e → Stopped allowed (λ l. key_front f) m w kept r → Refuses allowed s w (code_of e) (offset_of e) (NonePairs f (remaining_of old))
     front_refused allowed kept r e is step tells stops =
         refuses_then allowed s (code_of e) (offset_of e) m (Next more) (λ l bs. (rest : List ℕ) → key_front f bs ≡ Ok (tt, rest) → ⊥) (NonePairs f (remaining_of old))
         (λ l bs mid next none. not_front l bs mid is next none) step
         (refuses_stopped allowed (λ l. key_front f) m kept r e (λ l bs. (rest : List ℕ) → key_front f bs ≡ Ok (tt, rest) → ⊥) (λ l bs fault stops rest front. not_both (key_front f bs) (tt, rest) fault front stops) tells stops)
 
-  pub next_refused : {w : Input} (allowed : ReadErrorCode → Bool) (kept : Option ReadError) (r : Refused) (e : Error)
+  pub next_refused : {w : Input} (allowed : ReadErrorCode → Bool) (kept : ReadError) (r : Refused) (e : Error)
       → IsErrorOf kept r e → Stopped allowed (λ l. next_at end_in_map (remaining_of old)) s w kept r → Refuses allowed s w (code_of e) (offset_of e) (NonePairs f (remaining_of old))
   next_refused allowed kept r e tells stops =
       refuses_stopped allowed (λ l. next_at end_in_map (remaining_of old)) s kept r e (NonePairs f (remaining_of old)) none tells stops

@@ -64,6 +64,6 @@ refuses_fault allowed read s e N on took fails = record {
   ];
 }
 
-pub refuses_stopped : {A : Type 0} {w : Input} (allowed : ReadErrorCode → Bool) (read : Limits → List ℕ → Reads A) (s : Input) (kept : Option ReadError) (r : Refused) (e : Error) (N : Limits → List ℕ → Type 0)
+pub refuses_stopped : {A : Type 0} {w : Input} (allowed : ReadErrorCode → Bool) (read : Limits → List ℕ → Reads A) (s : Input) (kept : ReadError) (r : Refused) (e : Error) (N : Limits → List ℕ → Type 0)
     → ((l : Limits) (bs : List ℕ) (f : Fault) → read l bs ≡ Err f → N l bs) → IsErrorOf kept r e → Stopped allowed read s w kept r → Refuses allowed s w (code_of e) (offset_of e) N
 refuses_stopped allowed read s kept r e N on is h = refuses_fault allowed read s e N on h.took (told_by allowed read s kept r e is h)

@@ -142,7 +142,7 @@ module _ (f : Formats) (names : List (List ℕ)) (levels : ℕ) (s : Input) wher
   abbrev NoMap : Limits → List ℕ → Type 0
   NoMap l bs = HasShape shape.Map bs → NoForm f names l levels bs
 
-  pub pair_refused : {w : Input} (allowed : ReadErrorCode → Bool) (kept : Option ReadError) (r : Refused) (e : Error) → IsErrorOf kept r e → Stopped allowed (λ l. pair_head_at f levels) s w kept r → Refuses allowed s w (code_of e) (offset_of e) NoMap
+  pub pair_refused : {w : Input} (allowed : ReadErrorCode → Bool) (kept : ReadError) (r : Refused) (e : Error) → IsErrorOf kept r e → Stopped allowed (λ l. pair_head_at f levels) s w kept r → Refuses allowed s w (code_of e) (offset_of e) NoMap
   pair_refused allowed kept r e = refuses_stopped allowed (λ l. pair_head_at f levels) s kept r e NoMap
       (λ l bs fault stops shaped. map_only f names l levels bs shaped (λ left i rest h. fault_read (pair_head_at f levels bs) (tt, h.key) fault stops h.head))
 
@@ -191,7 +191,7 @@ module _ (allowed : ReadErrorCode → Bool) (f : Formats) (names : List (List �
   pub unassigned_form : (left : ℕ) (e : Error) → TookSome s a → TakesFormOf shape.Unassigned allowed f names levels s a left (Err e)
   unassigned_form left e took = record { took = took; told = λ bs tells. inr (none_unassigned f names (limits s bs) levels bs) }
 
-  pub tags_refused : {w : Input} (kept : Option ReadError) (r : Refused) (e : Error) → IsErrorOf kept r e → Stopped allowed (λ l. passed_at levels) s w kept r → RefusesVariantHead allowed f names levels s w e
+  pub tags_refused : {w : Input} (kept : ReadError) (r : Refused) (e : Error) → IsErrorOf kept r e → Stopped allowed (λ l. passed_at levels) s w kept r → RefusesVariantHead allowed f names levels s w e
   tags_refused kept r e = refuses_stopped allowed (λ l. passed_at levels) s kept r e (λ l bs. NoVariant f names l levels bs)
       (λ l bs fault stops left i form rest h. fault_read (passed_at levels bs) (h.inner, h.start) fault stops h.tags)
 

@@ -88,7 +88,7 @@ module _ (f : Formats) (l : Limits) (inner : List ℕ → Reads Raw) where
 pair_key : (f : Formats) (levels left b : ℕ) (bs mid : List ℕ) → levels ≡ suc left → byte_at bs ≡ Ok (b, mid) → pair_head_at f levels bs ≡ key_front f mid
 pair_key f levels left b bs mid in_one is = rw (in_one, is) refl
 
-pub pair_headed : (allowed : ReadErrorCode → Bool) (f : Formats) (s a m t : Input) (levels left b : ℕ) (kept : Option ReadError) (r : Result (Unit {0}) Refused) → levels ≡ left + 1 → m ≡ a
+pub pair_headed : (allowed : ReadErrorCode → Bool) (f : Formats) (s a m t : Input) (levels left b : ℕ) (kept : ReadError) (r : Result (Unit {0}) Refused) → levels ≡ left + 1 → m ≡ a
     → Step s a (λ l bs rest. byte_at bs ≡ Ok (b, rest)) → Gives {X = Unit {0}} {A = Unit {0}} allowed (λ u. u) (λ l. key_front f) m t kept r → Gives {X = Unit {0}} {A = Unit {0}} allowed (λ u. u) (λ l. pair_head_at f levels) s t kept r
 pair_headed allowed f s a m t levels left b kept (Ok u) in_one same byte key =
     let next : levels ≡ suc left = omega (arith, in_one) in

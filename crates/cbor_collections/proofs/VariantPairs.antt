@@ -178,6 +178,6 @@ module _ (f : Formats) (l : Limits) where
   shaped_none names levels [] e stops shaped v rest got = shaped
   shaped_none names levels (b ∷ bs) e stops shaped v rest got = head_none levels b bs e got.item rest (map_byte b shaped.0) stops got.is
 
-pub map_head_refused : {w : Input} (f : Formats) (names : List (List ℕ)) (levels : ℕ) (s : Input) (allowed : ReadErrorCode → Bool) (kept : Option ReadError) (r : Refused) (e : Error) → IsErrorOf kept r e → Stopped allowed (λ l. pair_head_at f levels) s w kept r → RefusesShaped (HasShape shape.Map) allowed f names levels s w e
+pub map_head_refused : {w : Input} (f : Formats) (names : List (List ℕ)) (levels : ℕ) (s : Input) (allowed : ReadErrorCode → Bool) (kept : ReadError) (r : Refused) (e : Error) → IsErrorOf kept r e → Stopped allowed (λ l. pair_head_at f levels) s w kept r → RefusesShaped (HasShape shape.Map) allowed f names levels s w e
 map_head_refused f names levels s allowed kept r e is h = refuses_stopped allowed (λ l. pair_head_at f levels) s kept r e (λ l bs. HasShape shape.Map bs → IsNotRead (PassesTags (IsVariant f names)) (item_at (raws f l) levels bs))
     (λ l bs fault stops. shaped_none f l names levels bs fault stops) is h

@@ -1,5 +1,5 @@
 -- Which enums are read.
-use Rattle.std.proofs.Common.{◌≡◌, ◌∙◌, ◌||◌, ℕ, Bool, true, false, List, [], ◌∷◌, Option, IsSomeAnd, Result, Ok, Err, inr, refl, sym, ap, subst}
+use Rattle.std.proofs.Common.{◌≡◌, ◌∙◌, ◌||◌, ℕ, Bool, true, false, List, [], ◌∷◌, Option, Result, Ok, Err, inr, refl, sym, ap, subst}
 use Rattle.cbor_model.specs.Formats.{Formats}
 use Rattle.cbor_model.specs.Head.{HeadWidth, no_bytes, one_byte, two_bytes, four_bytes, eight_bytes}
 use Rattle.cbor_model.specs.Raw as raw
@@ -172,7 +172,7 @@ module _ (f : Formats) (names : List (List ℕ)) where
 -- ---- where no item begins
 
 -- a byte was taken that begins no item
-pub unassigned_stops : (allowed : ReadErrorCode → Bool) (s a : Input) (b : ℕ) (kept : Option ReadError) (r : Refused) → r ≡ refused.Kept → IsSomeAnd kept (IsAt reading.UnassignedCode a.offset) → Step s a (λ l bs rest. byte_at bs ≡ Ok (b, rest)) → Stopped allowed (λ l. unassigned_at) s a kept r
+pub unassigned_stops : (allowed : ReadErrorCode → Bool) (s a : Input) (b : ℕ) (kept : ReadError) (r : Refused) → r ≡ refused.Kept → IsAt reading.UnassignedCode a.offset kept → Step s a (λ l bs rest. byte_at bs ≡ Ok (b, rest)) → Stopped allowed (λ l. unassigned_at) s a kept r
 unassigned_stops allowed s a b kept r is keeps step =
     stopped_then allowed none (λ l. unassigned_at) s a kept r (λ l bs rest. byte_at bs ≡ Ok (b, rest))
     (λ l bs mid f at stop. ap (λ (read : Reads ℕ). read >>= (λ x. Err (before unassigned_code x.1))) at ∙ stop) step

@@ -195,7 +195,7 @@ Coming remaining behind false bs rest =
 
 -- whether another item comes, or the fault in its place
 abbrev pub TakesComing : (ReadErrorCode → Bool) → Remaining → Remaining → Input → Input
-    → Option ReadError → Result Bool Refused → Type 0
+    → ReadError → Result Bool Refused → Type 0
 TakesComing refusals remaining behind s t kept (Ok comes) = Step s t
     (λ l bs rest. Coming (remaining_of remaining) (remaining_of behind) comes bs rest)
 TakesComing refusals remaining behind s t kept (Err r) =

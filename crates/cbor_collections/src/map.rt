@@ -1,7 +1,7 @@
 //! Maps around their keys and values (RFC 7049, section 2.1, major type 5).
 
 ghost use Rattle.std.specs.Prelude.{◌≡◌, ◌<◌, true, false, IfOk, IfErr};
-ghost use Rattle.std.specs.Prelude.{OnOk, OnErr, IsSomeAnd};
+ghost use Rattle.std.specs.Prelude.{OnOk, OnErr};
 ghost use Rattle.cbor_model.specs.Formats.{may_begin_key};
 ghost use Rattle.cbor_io.specs.Error.{code_of};
 ghost use Rattle.cbor_de.specs.Cursor.{Counts};
@@ -99,8 +99,8 @@ fn key_may_begin<R: Source>(items: &mut Deserializer<R>, first: u8) -> Done<()>
     ensures allowed { OnOk result
         (may_begin_key (formats_of items.old.formats) first ≡ true) }
     ensures refused { IfErr result (λ r. r ≡ Kept) }
-    ensures kept { OnErr result (IsSomeAnd items.new.refusal
-        (IsAt reading.WrongStructFormat (R.source items.old.source).offset)) }
+    ensures kept { OnErr result
+        (IsAt reading.WrongStructFormat (R.source items.old.source).offset items.new.refusal) }
     ensures not_allowed { OnErr result
         (may_begin_key (formats_of items.old.formats) first ≡ false) }
     ensures source { items.new.source ≡ items.old.source }

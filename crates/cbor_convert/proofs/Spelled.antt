@@ -1,6 +1,6 @@
 -- What is read of the bytes that were written.
 use Rattle.std.proofs.Common.{◌≡◌, ℕ, ◌+◌, ◌^◌, ◌<◌, ◌≤◌, ◌++◌, List, [], length, Bool, false, append-nil, refl, sym, ap, ◌∙◌, subst, arith, Option, None, Some}
-use Rattle.std.specs.Prelude.{Result, Ok, Err, IfOk, IfErr, MatchResult, IsSomeAnd}
+use Rattle.std.specs.Prelude.{Result, Ok, Err, IfOk, IfErr, MatchResult}
 use Rattle.cbor_model.specs.Raw.{Raw, depth}
 use Rattle.cbor_model.specs.Spelling.{spell}
 use Rattle.cbor_model.specs.Acceptable.{IsAcceptableWithin}
@@ -85,28 +85,27 @@ module _ (bs : List ℕ) (r : Raw) (good : IsAcceptableWithin (length bs) r) (sp
       (value_again (length bs) (limits source bs).total None r [] (omega (arith, short)) (omega (arith, ap length same)) tt good)
 
   -- what a deserializer of these formats and levels answers, which begins at s and ends at t
-  abbrev Reads : Formats → ℕ → Input → Input → Option ReadError → Result Value Refused → Type 0
+  abbrev Reads : Formats → ℕ → Input → Input → ReadError → Result Value Refused → Type 0
   Reads f levels s t kept answer = Gives slice_refusals view (λ l. item_at (values f l) levels) s t kept answer
 
-  from_front : (f : Formats) (levels : ℕ) (s t : Input) (kept : Option ReadError) (answer : Result Value Refused) → f ≡ all_formats → levels ≡ length bs → s ≡ source → Reads f levels s t kept answer → Reads all_formats (length bs) source t kept answer
+  from_front : (f : Formats) (levels : ℕ) (s t : Input) (kept : ReadError) (answer : Result Value Refused) → f ≡ all_formats → levels ≡ length bs → s ≡ source → Reads f levels s t kept answer → Reads all_formats (length bs) source t kept answer
   from_front f levels s t kept answer all deep front given =
       subst (λ (f : Formats). Reads f (length bs) source t kept answer) all
       (subst (λ (levels : ℕ). Reads f levels source t kept answer) deep
       (subst (λ (s : Input). Reads f levels s t kept answer) front given))
 
-  pub is_value : (f : Formats) (levels : ℕ) (s t : Input) (v : Value) → f ≡ all_formats → levels ≡ length bs → s ≡ source → Reads f levels s t None (Ok v) → view v ≡ value r
-  is_value f levels s t v all deep front given =
-      let got = (from_front f levels s t None (Ok v) all deep front given).told bs tells in
+  pub is_value : (f : Formats) (levels : ℕ) (s t : Input) (kept : ReadError) (v : Value) → f ≡ all_formats → levels ≡ length bs → s ≡ source → Reads f levels s t kept (Ok v) → view v ≡ value r
+  is_value f levels s t kept v all deep front given =
+      let got = (from_front f levels s t kept (Ok v) all deep front given).told bs tells in
       ap (λ (p : Val × List ℕ). p.0) (ok_is _ _ (sym got.holds ∙ read_as))
 
-  stopped_memory : (t : Input) (kept : Option ReadError) (why : Refused) (e : Error) → Reads all_formats (length bs) source t kept (Err why) → IsErrorOf kept why e → IsOutOfMemory e
+  stopped_memory : (t : Input) (kept : ReadError) (why : Refused) (e : Error) → Reads all_formats (length bs) source t kept (Err why) → IsErrorOf kept why e → IsOutOfMemory e
   stopped_memory t kept refused.OutOfMemory e h is = is
-  stopped_memory t None refused.Kept e h is = is
-  stopped_memory t (Some q) refused.Kept e h is =
-      let m = fails_memory (error_code (why q)) (source.offset + length bs) (place q) _ (value r, []) read_as (h.told.told bs tells) in
+  stopped_memory t kept refused.Kept e h is =
+      let m = fails_memory (error_code (why kept)) (source.offset + length bs) (place kept) _ (value r, []) read_as (h.told.told bs tells) in
       (is.0 ∙ m.0, is.1 ∙ m.1)
 
-  pub memory_alone : {t : Input} (f : Formats) (levels : ℕ) (s : Input) (kept : Option ReadError) (why : Refused) (e : Error) → f ≡ all_formats → levels ≡ length bs → s ≡ source → Reads f levels s t kept (Err why) → IsErrorOf kept why e → IsOutOfMemory e
+  pub memory_alone : {t : Input} (f : Formats) (levels : ℕ) (s : Input) (kept : ReadError) (why : Refused) (e : Error) → f ≡ all_formats → levels ≡ length bs → s ≡ source → Reads f levels s t kept (Err why) → IsErrorOf kept why e → IsOutOfMemory e
   memory_alone {t} f levels s kept why e all deep front given = stopped_memory t kept why e (from_front f levels s t kept (Err why) all deep front given)
 
 -- ---- what `to_value` answers

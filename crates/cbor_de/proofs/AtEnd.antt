@@ -1,6 +1,6 @@
 -- What looking for the end of the input takes, as the calls of a source say it.
 use Rattle.std.proofs.Common.{◌≡◌, ◌≢◌, ℕ, Bool, true, List, [], ◌∷◌, Option, Some, None, Ok, Err}
-use Rattle.std.proofs.Common.{IsSomeAnd, sym, subst, refl}
+use Rattle.std.proofs.Common.{sym, subst, refl}
 use Rattle.cbor_io.specs.declared.error.Error.{Error}
 use Rattle.cbor_io.specs.declared.read_error.ReadError.{ReadError}
 use Rattle.cbor_io.specs.declared.read_error.ReadErrorCode.{ReadErrorCode}
@@ -26,11 +26,10 @@ byte_took allowed s t (Some c) b is h = subst (λ n. TookKept s t (n ∷ [])) (s
     some_is x y e = cc
 
 -- a byte stands in the place of the end
-pub trailing_takes : (allowed : ReadErrorCode → Bool) (s t : Input) (o : Option ℕ) (b : ℕ) (kept : Option ReadError) (r : Refused) → r ≡ refused.Kept → IsSomeAnd kept (IsAt reading.TrailingData t.offset) → o ≡ Some b → NextDoes allowed s t (Ok o) → EndStops allowed s t kept (Err r)
+pub trailing_takes : (allowed : ReadErrorCode → Bool) (s t : Input) (o : Option ℕ) (b : ℕ) (kept : ReadError) (r : Refused) → r ≡ refused.Kept → IsAt reading.TrailingData t.offset kept → o ≡ Some b → NextDoes allowed s t (Ok o) → EndStops allowed s t kept (Err r)
 trailing_takes allowed s t o b kept refused.OutOfMemory is keeps some h = absurd cc
-trailing_takes allowed s t o b None refused.Kept is keeps some h = absurd keeps
-trailing_takes allowed s t o b (Some q) refused.Kept is keeps some h =
-    subst (λ k. EndRefused allowed (error_code k) (place q) s t) (sym keeps.0)
+trailing_takes allowed s t o b kept refused.Kept is keeps some h =
+    subst (λ k. EndRefused allowed (error_code k) (place kept) s t) (sym keeps.0)
     (record { byte = b; took = byte_took allowed s t o b some h; behind = keeps.1 })
 
 -- the source refused by this code
@@ -49,19 +48,14 @@ by_code allowed s t reading.RecursionLimitExceeded at ok kind room ended memory 
 by_code allowed s t reading.WrongStructFormat at ok kind room ended memory nowhere limit stays = absurd kind
 by_code allowed s t reading.OutOfMemory at ok kind room ended memory nowhere limit stays = absurd (memory refl)
 
-pub source_takes : (allowed : ReadErrorCode → Bool) (s t : Input) (kept : Option ReadError) (r : Refused) (e : ReadError) → r ≡ refused.Kept → kept ≡ Some e → RefusedByte allowed s t e → EndStops allowed s t kept (Err r)
+pub source_takes : (allowed : ReadErrorCode → Bool) (s t : Input) (kept : ReadError) (r : Refused) (e : ReadError) → r ≡ refused.Kept → kept ≡ e → RefusedByte allowed s t e → EndStops allowed s t kept (Err r)
 source_takes allowed s t kept refused.OutOfMemory e is keeps h = absurd cc
-source_takes allowed s t None refused.Kept e is keeps h = absurd cc
-source_takes allowed s t (Some q) refused.Kept e is keeps h =
-    subst (λ x. EndRefused allowed (error_code (why x)) (place x) s t) (some_is e q (sym keeps))
+source_takes allowed s t kept refused.Kept e is keeps h =
+    subst (λ x. EndRefused allowed (error_code (why x)) (place x) s t) (sym keeps)
     (by_code allowed s t (why e) (place e) h.refused.code h.refused.kind h.room h.ended h.memory h.refused.nowhere h.refused.limit h.stays)
-  where
-    some_is : (x y : ReadError) → Some x ≡ Some y → x ≡ y
-    some_is x y e = cc
 
 -- the error of the call tells why its step was refused
-pub end_told : (allowed : ReadErrorCode → Bool) (s t : Input) (kept : Option ReadError) (r : Refused) (e : Error) → EndStops allowed s t kept (Err r) → IsErrorOf kept r e → EndTakes allowed s t (Err e)
+pub end_told : (allowed : ReadErrorCode → Bool) (s t : Input) (kept : ReadError) (r : Refused) (e : Error) → EndStops allowed s t kept (Err r) → IsErrorOf kept r e → EndTakes allowed s t (Err e)
 end_told allowed s t kept refused.OutOfMemory e h tells = absurd h
-end_told allowed s t None refused.Kept e h tells = absurd h
-end_told allowed s t (Some q) refused.Kept e h tells =
+end_told allowed s t kept refused.Kept e h tells =
     subst_both (λ k at. EndRefused allowed k at s t) (sym tells.0) (sym tells.1) h

@@ -38,7 +38,7 @@ module _ (first : ℕ) (w : Width) (says : ℕ → Head) (begins : Begins first 
       step_then s m t (λ l bs rest. byte_at bs ≡ Ok (first, rest)) (λ l bs rest. number_at w bs ≡ Ok (n, rest)) (λ l bs rest. (v : HeadWidth) × (opening_at bs ≡ Ok ((v, says n), rest)))
       (λ l bs mid rest here there. (no_bytes, rw (here, begins mid, there) refl)) taken number
 
-  pub number_stops : {t : Input} (allowed : ReadErrorCode → Bool) (kept : Option ReadError) (r : Refused) → Stopped allowed (λ l. number_at w) m t kept r → Stopped allowed (λ l. opening_at) s t kept r
+  pub number_stops : {t : Input} (allowed : ReadErrorCode → Bool) (kept : ReadError) (r : Refused) → Stopped allowed (λ l. number_at w) m t kept r → Stopped allowed (λ l. opening_at) s t kept r
   number_stops allowed kept r stopped =
       stopped_then allowed (λ l. number_at w) (λ l. opening_at) s m kept r (λ l bs rest. byte_at bs ≡ Ok (first, rest))
       (λ l bs mid f here fault. rw (here, begins mid, fault) refl) taken stopped

@@ -1,5 +1,5 @@
 -- What the calls of a source are in the reference reader.
-use Rattle.std.proofs.Common.{◌≡◌, ℕ, suc, ◌+◌, Bool, List, [], ◌∷◌, ◌++◌, length, take, slice_get, Option, Some, None, Ok, Err, IfSome, IsSomeAnd, sym, ap, subst, ◌∙◌, refl, arith}
+use Rattle.std.proofs.Common.{◌≡◌, ℕ, suc, ◌+◌, Bool, List, [], ◌∷◌, ◌++◌, length, take, slice_get, Option, Some, None, Ok, Err, IfSome, sym, ap, subst, ◌∙◌, refl, arith}
 use Rattle.std.specs.Int.{Width, byte_len}
 use Rattle.std.proofs.lemmas.Bool.{ne_eqb, lt-ltb}
 use Rattle.cbor_model.specs.Refusal.{Refusal, trailing_data}
@@ -66,30 +66,29 @@ end_step allowed s t o P holds e h =
 -- ---- refusals
 
 -- what is kept tells of a reading
-pub kept_tells : {A : Type 0} (allowed : ReadErrorCode → Bool) (s : Input) (read : Limits → List ℕ → Reads A) (kept : Option ReadError) (r : Refused) (P : ReadError → Type 0)
-    → ((e : ReadError) → P e → Stops allowed read s e) → r ≡ refused.Kept → IsSomeAnd kept P → TellsWhy allowed read s kept r
+pub kept_tells : {A : Type 0} (allowed : ReadErrorCode → Bool) (s : Input) (read : Limits → List ℕ → Reads A) (kept : ReadError) (r : Refused) (P : ReadError → Type 0)
+    → ((e : ReadError) → P e → Stops allowed read s e) → r ≡ refused.Kept → P kept → TellsWhy allowed read s kept r
 kept_tells allowed s read kept refused.OutOfMemory P on is h = absurd cc
-kept_tells allowed s read None refused.Kept P on is h = absurd h
-kept_tells allowed s read (Some e) refused.Kept P on is h = on e h
+kept_tells allowed s read kept refused.Kept P on is h = on kept h
 
 -- what is kept stops a reading
-pub kept_stops : {A : Type 0} {t : Input} (allowed : ReadErrorCode → Bool) (s : Input) (read : Limits → List ℕ → Reads A) (kept : Option ReadError) (r : Refused) (P : ReadError → Type 0)
-    → ((e : ReadError) → P e → Stops allowed read s e) → TookSome s t → r ≡ refused.Kept → IsSomeAnd kept P → Stopped allowed read s t kept r
+pub kept_stops : {A : Type 0} {t : Input} (allowed : ReadErrorCode → Bool) (s : Input) (read : Limits → List ℕ → Reads A) (kept : ReadError) (r : Refused) (P : ReadError → Type 0)
+    → ((e : ReadError) → P e → Stops allowed read s e) → TookSome s t → r ≡ refused.Kept → P kept → Stopped allowed read s t kept r
 kept_stops allowed s read kept r P on took is keeps = record { took = took; told = kept_tells allowed s read kept r P on is keeps }
 
 -- so does a refusal of the source that is kept
-pub source_stops : {A : Type 0} {t : Input} (allowed : ReadErrorCode → Bool) (s : Input) (read : Limits → List ℕ → Reads A) (kept : Option ReadError) (r : Refused) (e : ReadError)
-    → r ≡ refused.Kept → kept ≡ Some e → TookSome s t → Stops allowed read s e → Stopped allowed read s t kept r
-source_stops allowed s read kept r e is keeps took h = kept_stops allowed s read kept r (Stops allowed read s) (λ e h. h) took is (subst (λ (o : Option ReadError). IsSomeAnd o (Stops allowed read s)) (sym keeps) h)
+pub source_stops : {A : Type 0} {t : Input} (allowed : ReadErrorCode → Bool) (s : Input) (read : Limits → List ℕ → Reads A) (kept : ReadError) (r : Refused) (e : ReadError)
+    → r ≡ refused.Kept → kept ≡ e → TookSome s t → Stops allowed read s e → Stopped allowed read s t kept r
+source_stops allowed s read kept r e is keeps took h = kept_stops allowed s read kept r (Stops allowed read s) (λ e h. h) took is (subst (Stops allowed read s) (sym keeps) h)
 
-pub next_stops : {A : Type 0} (allowed : ReadErrorCode → Bool) (s t : Input) (read : Limits → List ℕ → Reads A) (kept : Option ReadError) (r : Refused) (e : ReadError)
-    → r ≡ refused.Kept → kept ≡ Some e → RefusedByte allowed s t e → Stopped allowed read s t kept r
+pub next_stops : {A : Type 0} (allowed : ReadErrorCode → Bool) (s t : Input) (read : Limits → List ℕ → Reads A) (kept : ReadError) (r : Refused) (e : ReadError)
+    → r ≡ refused.Kept → kept ≡ e → RefusedByte allowed s t e → Stopped allowed read s t kept r
 next_stops allowed s t read kept r e is keeps h = source_stops allowed s read kept r e is keeps h.refused.moved (byte_refused allowed s t e read h)
 
 -- a fault at the end of input
-pub end_stops : {A : Type 0} (allowed : ReadErrorCode → Bool) (s t : Input) (o : Option ℕ) (read : Limits → List ℕ → Reads A) (kept : Option ReadError) (r : Refused) (k : ReadErrorCode) (w : Refusal)
+pub end_stops : {A : Type 0} (allowed : ReadErrorCode → Bool) (s t : Input) (o : Option ℕ) (read : Limits → List ℕ → Reads A) (kept : ReadError) (r : Refused) (k : ReadErrorCode) (w : Refusal)
     → ((offset end : ℕ) (r : Reads A) → FailsAs w end offset r → FailsBy (Reports allowed) (error_code k) end offset r)
-    → ((l : Limits) → read l [] ≡ Err (record { why = w; left = 0 })) → r ≡ refused.Kept → IsSomeAnd kept (IsAt k t.offset) → o ≡ None → NextDoes allowed s t (Ok o) → Stopped allowed read s t kept r
+    → ((l : Limits) → read l [] ≡ Err (record { why = w; left = 0 })) → r ≡ refused.Kept → IsAt k t.offset kept → o ≡ None → NextDoes allowed s t (Ok o) → Stopped allowed read s t kept r
 end_stops {A} allowed s t o read kept r k w tells_as stops is keeps n h = kept_stops allowed s read kept r (IsAt k t.offset) here (took_stays s t (next_none allowed s t o n h).0) is keeps
   where
     here : (e : ReadError) → IsAt k t.offset e → Stops allowed read s e
@@ -104,8 +103,8 @@ end_stops {A} allowed s t o read kept r k w tells_as stops is keeps n h = kept_s
     }
 
 -- a byte after all that was wanted
-pub trailing_stops : (allowed : ReadErrorCode → Bool) (s t : Input) (o : Option ℕ) (b : ℕ) (kept : Option ReadError) (r : Refused)
-    → r ≡ refused.Kept → IsSomeAnd kept (IsAt reading.TrailingData t.offset) → o ≡ Some b → NextDoes allowed s t (Ok o) → Stopped allowed (λ l. end_at) s t kept r
+pub trailing_stops : (allowed : ReadErrorCode → Bool) (s t : Input) (o : Option ℕ) (b : ℕ) (kept : ReadError) (r : Refused)
+    → r ≡ refused.Kept → IsAt reading.TrailingData t.offset kept → o ≡ Some b → NextDoes allowed s t (Ok o) → Stopped allowed (λ l. end_at) s t kept r
 trailing_stops allowed s t o b kept r is keeps some h = kept_stops allowed s (λ l. end_at) kept r (IsAt reading.TrailingData t.offset) here (next_took allowed s t o b some h) is keeps
   where
     here : (e : ReadError) → IsAt reading.TrailingData t.offset e → Stops allowed (λ l. end_at) s e
@@ -119,9 +118,9 @@ trailing_stops allowed s t o b kept r is keeps some h = kept_stops allowed s (λ
     }
 
 -- a fault before the bytes to come
-pub fault_stops : {A : Type 0} (allowed : ReadErrorCode → Bool) (s : Input) (read : Limits → List ℕ → Reads A) (kept : Option ReadError) (r : Refused) (k : ReadErrorCode) (w : Refusal)
+pub fault_stops : {A : Type 0} (allowed : ReadErrorCode → Bool) (s : Input) (read : Limits → List ℕ → Reads A) (kept : ReadError) (r : Refused) (k : ReadErrorCode) (w : Refusal)
     → ((offset end : ℕ) (r : Reads A) → FailsAs w end offset r → FailsBy (Reports allowed) (error_code k) end offset r)
-    → ((l : Limits) (bs : List ℕ) → read l bs ≡ Err (record { why = w; left = length bs })) → r ≡ refused.Kept → IsSomeAnd kept (IsAt k s.offset) → Stopped allowed read s s kept r
+    → ((l : Limits) (bs : List ℕ) → read l bs ≡ Err (record { why = w; left = length bs })) → r ≡ refused.Kept → IsAt k s.offset kept → Stopped allowed read s s kept r
 fault_stops {A} allowed s read kept r k w tells_as stops is keeps = kept_stops allowed s read kept r (IsAt k s.offset) here (took_none s) is keeps
   where
     here : (e : ReadError) → IsAt k s.offset e → Stops allowed read s e
@@ -133,10 +132,10 @@ fault_stops {A} allowed s read kept r k w tells_as stops is keeps = kept_stops a
     }
 
 -- a fault before the byte that was taken last, after a step of which P holds
-pub first_stops : {A : Type 0} (allowed : ReadErrorCode → Bool) (s t : Input) (read : Limits → List ℕ → Reads A) (kept : Option ReadError) (r : Refused) (k : ReadErrorCode) (w : Refusal)
+pub first_stops : {A : Type 0} (allowed : ReadErrorCode → Bool) (s t : Input) (read : Limits → List ℕ → Reads A) (kept : ReadError) (r : Refused) (k : ReadErrorCode) (w : Refusal)
     → ((offset end : ℕ) (r : Reads A) → FailsAs w end offset r → FailsBy (Reports allowed) (error_code k) end offset r)
     → (P : Limits → List ℕ → List ℕ → Type 0) → ((l : Limits) (bs mid : List ℕ) → P l bs mid → read l bs ≡ Err (record { why = w; left = suc (length mid) }))
-    → Step s t P → r ≡ refused.Kept → IsSomeAnd kept (λ e. (why e ≡ k) × (place e + 1 ≡ t.offset)) → Stopped allowed read s t kept r
+    → Step s t P → r ≡ refused.Kept → (why kept ≡ k) × (place kept + 1 ≡ t.offset) → Stopped allowed read s t kept r
 first_stops {A} allowed s t read kept r k w tells_as P stops step is keeps = kept_stops allowed s read kept r (λ e. (why e ≡ k) × (place e + 1 ≡ t.offset)) here step.took is keeps
   where
     here : (e : ReadError) → (why e ≡ k) × (place e + 1 ≡ t.offset) → Stops allowed read s e
@@ -154,15 +153,11 @@ number_refused : (allowed : ReadErrorCode → Bool) (s t : Input) (w : Width) (e
 number_refused allowed s t w e h = refused_stops allowed s t (byte_len w) e (λ l. number_at w) (λ l bs short. rw (lt-ltb (length bs) (byte_len w) short) refl) h.room h.refused
 
 -- no number could be taken
-pub number_stops : (allowed : ReadErrorCode → Bool) (s t : Input) (w : Width) (kept : Option ReadError) (r : Refused) → r ≡ refused.Kept → IsSomeAnd kept (RefusedInto allowed s t (byte_len w)) → Stopped allowed (λ l. number_at w) s t kept r
-number_stops allowed s t w kept r is h = kept_stops allowed s (λ l. number_at w) kept r (RefusedInto allowed s t (byte_len w)) (λ e. number_refused allowed s t w e) (moved kept h) is h
-  where
-    moved : (kept : Option ReadError) → IsSomeAnd kept (RefusedInto allowed s t (byte_len w)) → TookSome s t
-    moved None h = absurd h
-    moved (Some e) h = h.refused.moved
+pub number_stops : (allowed : ReadErrorCode → Bool) (s t : Input) (w : Width) (kept : ReadError) (r : Refused) → r ≡ refused.Kept → RefusedInto allowed s t (byte_len w) kept → Stopped allowed (λ l. number_at w) s t kept r
+number_stops allowed s t w kept r is h = kept_stops allowed s (λ l. number_at w) kept r (RefusedInto allowed s t (byte_len w)) (λ e. number_refused allowed s t w e) h.refused.moved is h
 
 -- not so many bytes could be taken
-pub bytes_stop : (allowed : ReadErrorCode → Bool) (s t : Input) (n : ℕ) (kept : Option ReadError) (r : Refused) (e : ReadError) → r ≡ refused.Kept → kept ≡ Some e → RefusedInto (or_memory allowed) s t n e → Stopped allowed (λ l. bytes_at n) s t kept r
+pub bytes_stop : (allowed : ReadErrorCode → Bool) (s t : Input) (n : ℕ) (kept : ReadError) (r : Refused) (e : ReadError) → r ≡ refused.Kept → kept ≡ e → RefusedInto (or_memory allowed) s t n e → Stopped allowed (λ l. bytes_at n) s t kept r
 bytes_stop allowed s t n kept r e is keeps h =
     let stops = refused_stops (or_memory allowed) s t n e (λ l. bytes_at n) (λ l bs short. rw (lt-ltb (length bs) n short) refl) h.room h.refused in
     source_stops allowed s (λ l. bytes_at n) kept r e is keeps h.refused.moved (record { told = stops.told })
@@ -190,8 +185,8 @@ tells_end D Array at end r h = h
 tells_end D Map at end r h = h
 
 -- no break came, nor another part
-pub no_break : (allowed : ReadErrorCode → Bool) (s t : Input) (o : Option ℕ) (of : Collection) (w : Refusal) (k : ReadErrorCode) (kept : Option ReadError) (r : Refused)
-    → k ≡ end_code of → w ≡ end_of of → r ≡ refused.Kept → IsSomeAnd kept (IsAt k t.offset) → o ≡ None → NextDoes allowed s t (Ok o) → Stopped allowed (λ l. first_at w to_break) s t kept r
+pub no_break : (allowed : ReadErrorCode → Bool) (s t : Input) (o : Option ℕ) (of : Collection) (w : Refusal) (k : ReadErrorCode) (kept : ReadError) (r : Refused)
+    → k ≡ end_code of → w ≡ end_of of → r ≡ refused.Kept → IsAt k t.offset kept → o ≡ None → NextDoes allowed s t (Ok o) → Stopped allowed (λ l. first_at w to_break) s t kept r
 unfolding next_at
 no_break allowed s t o of w k kept r is ends refused keeps none h =
     end_stops allowed s t o (λ l. first_at w to_break) kept r k w (λ at end r h. rw is (tells_end _ of at end r (subst (λ (v : Refusal). FailsAs v end at r) ends h))) (λ l. refl) refused keeps none h

@@ -1,5 +1,5 @@
 -- The end of an array or a map.
-use Rattle.std.proofs.Common.{◌≡◌, ℕ, zero, suc, ◌+◌, Bool, List, [], ◌∷◌, length, Option, Some, None, Ok, Err, IfSome, IsSomeAnd, sym, subst, refl, arith}
+use Rattle.std.proofs.Common.{◌≡◌, ℕ, zero, suc, ◌+◌, Bool, List, [], ◌∷◌, length, Option, Some, None, Ok, Err, IfSome, sym, subst, refl, arith}
 use Rattle.std.proofs.lemmas.Bool.{ne_eqb}
 use Rattle.cbor_model.specs.Refusal.{Refusal, trailing_data}
 use Rattle.cbor_model.specs.Reader.{Reads, before, to_break}
@@ -33,8 +33,8 @@ unfolding ended_at
 some_left w r zero bs is some = absurd (some refl)
 some_left w r (suc n) bs is some = rw is refl
 
-pub count_stops : (allowed : ReadErrorCode → Bool) (s : Input) (w : Refusal) (r : Remaining) (n : ℕ) (kept : Option ReadError) (why : Refused)
-    → r ≡ Counted n → (n ≡ 0 → ⊥) → why ≡ refused.Kept → IsSomeAnd kept (IsAt reading.TrailingData s.offset) → Stopped allowed (λ l. ended_at w (remaining_of r)) s s kept why
+pub count_stops : (allowed : ReadErrorCode → Bool) (s : Input) (w : Refusal) (r : Remaining) (n : ℕ) (kept : ReadError) (why : Refused)
+    → r ≡ Counted n → (n ≡ 0 → ⊥) → why ≡ refused.Kept → IsAt reading.TrailingData s.offset kept → Stopped allowed (λ l. ended_at w (remaining_of r)) s s kept why
 count_stops allowed s w r n kept why is some refused keeps =
     fault_stops allowed s (λ l. ended_at w (remaining_of r)) kept why reading.TrailingData trailing_data (λ at end r h. h) (λ l bs. some_left w r n bs is some) refused keeps
 
@@ -51,8 +51,8 @@ other_here : (w : Refusal) (b : ℕ) (bs rest : List ℕ) → (b ≡ 255 → ⊥
 unfolding ended_at
 other_here w b bs rest other is = rw (is, ne_eqb b 255 other) refl
 
-pub other_stops : (allowed : ReadErrorCode → Bool) (s t : Input) (o : Option ℕ) (b : ℕ) (w : Refusal) (kept : Option ReadError) (r : Refused)
-    → (b ≡ 255 → ⊥) → r ≡ refused.Kept → IsSomeAnd kept (IsAt reading.TrailingData t.offset) → o ≡ Some b → NextDoes allowed s t (Ok o) → Stopped allowed (λ l. ended_at w to_break) s t kept r
+pub other_stops : (allowed : ReadErrorCode → Bool) (s t : Input) (o : Option ℕ) (b : ℕ) (w : Refusal) (kept : ReadError) (r : Refused)
+    → (b ≡ 255 → ⊥) → r ≡ refused.Kept → IsAt reading.TrailingData t.offset kept → o ≡ Some b → NextDoes allowed s t (Ok o) → Stopped allowed (λ l. ended_at w to_break) s t kept r
 other_stops allowed s t o b w kept r other is keeps some h = kept_stops allowed s (λ l. ended_at w to_break) kept r (IsAt reading.TrailingData t.offset) here (next_took allowed s t o b some h) is keeps
   where
     here : (e : ReadError) → IsAt reading.TrailingData t.offset e → Stops allowed (λ l. ended_at w to_break) s e
@@ -64,8 +64,8 @@ other_stops allowed s t o b w kept r other is keeps some h = kept_stops allowed 
           subst (λ (c : ReadErrorCode). FailsBy (Reports allowed) (error_code c) (s.offset + length bs) (place e) (ended_at w to_break bs)) (sym at.0) (length got.rest, end, other_here w b bs got.rest other got.holds);
     }
 
-pub no_break_stops : (allowed : ReadErrorCode → Bool) (s t : Input) (o : Option ℕ) (of : Collection) (k : ReadErrorCode) (kept : Option ReadError) (r : Refused)
-    → k ≡ end_code of → r ≡ refused.Kept → IsSomeAnd kept (IsAt k t.offset) → o ≡ None → NextDoes allowed s t (Ok o) → Stopped allowed (λ l. ended_at (end_of of) to_break) s t kept r
+pub no_break_stops : (allowed : ReadErrorCode → Bool) (s t : Input) (o : Option ℕ) (of : Collection) (k : ReadErrorCode) (kept : ReadError) (r : Refused)
+    → k ≡ end_code of → r ≡ refused.Kept → IsAt k t.offset kept → o ≡ None → NextDoes allowed s t (Ok o) → Stopped allowed (λ l. ended_at (end_of of) to_break) s t kept r
 unfolding ended_at
 no_break_stops allowed s t o of k kept r is refused keeps none h =
     end_stops allowed s t o (λ l. ended_at (end_of of) to_break) kept r k (end_of of) (λ at end r h. rw is (tells_end _ of at end r h)) (λ l. refl) refused keeps none h

@@ -1,5 +1,5 @@
 -- Where memory ran out.
-use Rattle.std.proofs.Common.{◌≡◌, ℕ, Bool, true, false, cond, List, Option, Some, None, IsSomeAnd, Result, Ok, Err, IfErr, sym, ◌∙◌, ap, subst}
+use Rattle.std.proofs.Common.{◌≡◌, ℕ, Bool, true, false, cond, List, Option, Some, None, Result, Ok, Err, IfErr, sym, ◌∙◌, ap, subst}
 use Rattle.cbor_model.specs.Formats.{Formats, all_formats}
 use Rattle.cbor_model.specs.Head.{HeadWidth}
 use Rattle.cbor_model.specs.Plain.{Val}
@@ -22,37 +22,29 @@ use Rattle.cbor_de.proofs.Heads.{value_after}
 use Rattle.cbor_de.proofs.Inside.{value_first}
 
 -- a refusal that isn't for want of memory
-pub none_asked : (P : Type 0) (kept : Option ReadError) (r : Refused) → TellsNoMemory kept r → MemoryOnly P kept r
+pub none_asked : (P : Type 0) (kept : ReadError) (r : Refused) → TellsNoMemory kept r → MemoryOnly P kept r
 none_asked P kept refused.OutOfMemory h = absurd h
-none_asked P None refused.Kept h = absurd h
-none_asked P (Some q) refused.Kept h = λ is. absurd (h is)
+none_asked P kept refused.Kept h = λ is. absurd (h is)
 
 -- what follows from what holds where memory ran out
-pub asked_on : (P Q : Type 0) (kept : Option ReadError) (r : Refused) → (P → Q) → MemoryOnly P kept r → MemoryOnly Q kept r
+pub asked_on : (P Q : Type 0) (kept : ReadError) (r : Refused) → (P → Q) → MemoryOnly P kept r → MemoryOnly Q kept r
 asked_on P Q kept refused.OutOfMemory on h = on h
-asked_on P Q None refused.Kept on h = on h
-asked_on P Q (Some q) refused.Kept on h = λ is. on (h is)
+asked_on P Q kept refused.Kept on h = λ is. on (h is)
 
 -- a refusal of the source that is kept
-pub kept_asked : (P : Type 0) (kept : Option ReadError) (r : Refused) (e : ReadError) → r ≡ refused.Kept → kept ≡ Some e → (why e ≡ OutOfMemory → P) → MemoryOnly P kept r
+pub kept_asked : (P : Type 0) (kept : ReadError) (r : Refused) (e : ReadError) → r ≡ refused.Kept → kept ≡ e → (why e ≡ OutOfMemory → P) → MemoryOnly P kept r
 kept_asked P kept refused.OutOfMemory e is keeps h = absurd cc
-kept_asked P None refused.Kept e is keeps h = absurd cc
-kept_asked P (Some q) refused.Kept e is keeps h = λ why_is. h (ap why (some_is e q (sym keeps)) ∙ why_is)
-  where
-    some_is : (x y : ReadError) → Some x ≡ Some y → x ≡ y
-    some_is x y e = cc
+kept_asked P kept refused.Kept e is keeps h = λ why_is. h (ap why (sym keeps) ∙ why_is)
 
 -- another refusal
-pub kept_other : (P : Type 0) (kept : Option ReadError) (r : Refused) (Q : ReadError → Type 0) → ((e : ReadError) → Q e → why e ≡ OutOfMemory → ⊥) → r ≡ refused.Kept → IsSomeAnd kept Q → MemoryOnly P kept r
+pub kept_other : (P : Type 0) (kept : ReadError) (r : Refused) (Q : ReadError → Type 0) → ((e : ReadError) → Q e → why e ≡ OutOfMemory → ⊥) → r ≡ refused.Kept → Q kept → MemoryOnly P kept r
 kept_other P kept refused.OutOfMemory Q other is h = absurd cc
-kept_other P None refused.Kept Q other is h = absurd h
-kept_other P (Some q) refused.Kept Q other is h = λ why_is. absurd (other q h why_is)
+kept_other P kept refused.Kept Q other is h = λ why_is. absurd (other kept h why_is)
 
 -- what holds holds where memory ran out
-pub stored : (P : Type 0) (kept : Option ReadError) (r : Refused) → P → MemoryOnly P kept r
+pub stored : (P : Type 0) (kept : ReadError) (r : Refused) → P → MemoryOnly P kept r
 stored P kept refused.OutOfMemory h = h
-stored P None refused.Kept h = h
-stored P (Some q) refused.Kept h = λ is. h
+stored P kept refused.Kept h = λ is. h
 
 -- what is said of a refusal says more of it
 pub on_err : {X : Type 0} (r : Result X Refused) (P Q : Refused → Type 0) → ((e : Refused) → P e → Q e) → IfErr r P → IfErr r Q
@@ -101,7 +93,7 @@ after_stored f l inner (head.Float x) bs h = absurd h
 after_stored f l inner head.Break bs h = absurd h
 
 -- a value whose head is one of what is kept in memory of its own
-pub head_stored : (f : Formats) (levels first : ℕ) (s t : Input) (h : Head) (kept : Option ReadError) (r : Refused) → Step s t (λ l bs rest. (w : HeadWidth) × (head_at first bs ≡ Ok ((w, h), rest)))
+pub head_stored : (f : Formats) (levels first : ℕ) (s t : Input) (h : Head) (kept : ReadError) (r : Refused) → Step s t (λ l bs rest. (w : HeadWidth) × (head_at first bs ≡ Ok ((w, h), rest)))
     → MemoryOnly (IsStoredHead h) kept r → MemoryOnly (ReadsStored (λ l. after_first (values f l) (inside (values f l) levels) first) s) kept r
 head_stored f levels first s t h kept r step =
     asked_on (IsStoredHead h) (ReadsStored (λ l. after_first (values f l) (inside (values f l) levels) first) s) kept r (λ is bs tells v rest read.
@@ -111,7 +103,7 @@ head_stored f levels first s t h kept r step =
     after_stored f l (inside (values f l) levels) h one.rest is v rest (sym same ∙ read))
 
 -- a value after its first byte
-pub first_stored : (f : Formats) (levels first : ℕ) (s t : Input) (kept : Option ReadError) (r : Refused) → Step s t (λ l bs mid. byte_at bs ≡ Ok (first, mid))
+pub first_stored : (f : Formats) (levels first : ℕ) (s t : Input) (kept : ReadError) (r : Refused) → Step s t (λ l bs mid. byte_at bs ≡ Ok (first, mid))
     → MemoryOnly (ReadsStored (λ l. after_first (values f l) (inside (values f l) levels) first) t) kept r → MemoryOnly (ReadsStored (λ l. item_at (values f l) levels) s) kept r
 first_stored f levels first s t kept r step =
     asked_on (ReadsStored (λ l. after_first (values f l) (inside (values f l) levels) first) t) (ReadsStored (λ l. item_at (values f l) levels) s) kept r (λ stores bs tells v rest read.

@@ -1,5 +1,5 @@
 -- Whether another part comes, by the byte that is peeked.
-use Rattle.std.proofs.Common.{◌≡◌, ℕ, Bool, List, [], ◌∷◌, ◌++◌, take, Option, Some, None, Ok, Err, IfSome, IsSomeAnd, MatchOption, sym, ap, subst, ◌∙◌, refl}
+use Rattle.std.proofs.Common.{◌≡◌, ℕ, Bool, List, [], ◌∷◌, ◌++◌, take, Option, Some, None, Ok, Err, IfSome, MatchOption, sym, ap, subst, ◌∙◌, refl}
 use Rattle.std.proofs.lemmas.Bool.{ne_eqb}
 use Rattle.cbor_model.specs.Refusal.{Refusal}
 use Rattle.cbor_model.specs.Reader.{Reads, Remaining, next_at, to_break}
@@ -71,8 +71,8 @@ part_stands s t o b w other some stays front =
 none_does : (allowed : ReadErrorCode → Bool) (s t : Input) (o : Option ℕ) → o ≡ None → Stays s t → Front s o → NextDoes allowed s t (Ok None)
 none_does allowed s t o none stays front = (stays, subst (Front s) none front)
 
-pub no_part : (allowed : ReadErrorCode → Bool) (s t : Input) (o : Option ℕ) (of : Collection) (k : ReadErrorCode) (kept : Option ReadError) (r : Refused)
-    → k ≡ end_code of → r ≡ refused.Kept → IsSomeAnd kept (IsAt k t.offset) → o ≡ None → Stays s t → Front s o → Stopped allowed (λ l. next_at (end_of of) to_break) s t kept r
+pub no_part : (allowed : ReadErrorCode → Bool) (s t : Input) (o : Option ℕ) (of : Collection) (k : ReadErrorCode) (kept : ReadError) (r : Refused)
+    → k ≡ end_code of → r ≡ refused.Kept → IsAt k t.offset kept → o ≡ None → Stays s t → Front s o → Stopped allowed (λ l. next_at (end_of of) to_break) s t kept r
 unfolding next_at
 no_part allowed s t o of k kept r is refused keeps none stays front =
     end_stops allowed s t None (λ l. next_at (end_of of) to_break) kept r k (end_of of) (λ at end r h. rw is (tells_end _ of at end r h)) (λ l. refl) refused keeps refl (none_does allowed s t o none stays front)

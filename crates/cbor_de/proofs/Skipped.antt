@@ -17,7 +17,7 @@ use Rattle.cbor_de.proofs.Steps.{step_map, stopped_map}
 use Rattle.cbor_de.proofs.Items.{item_from, item_none, first_some, first_none, first_err}
 
 -- one reading gives what another gives
-pub gives_same : {X A : Type 0} (allowed : ReadErrorCode → Bool) (view : X → A) (read read' : Limits → List ℕ → Reads A) (s t : Input) (kept : Option ReadError) (r : Result X Refused)
+pub gives_same : {X A : Type 0} (allowed : ReadErrorCode → Bool) (view : X → A) (read read' : Limits → List ℕ → Reads A) (s t : Input) (kept : ReadError) (r : Result X Refused)
     → ((l : Limits) (bs : List ℕ) → read' l bs ≡ read l bs) → Gives allowed view read s t kept r → Gives allowed view read' s t kept r
 gives_same allowed view read read' s t kept (Ok x) same given = step_map s t (λ l bs rest. read l bs ≡ Ok (view x, rest)) (λ l bs rest. read' l bs ≡ Ok (view x, rest)) (λ l bs rest is. same l bs ∙ is) given
 gives_same allowed view read read' s t kept (Err r) same given = stopped_map allowed read read' s kept r (λ l bs d is. same l bs ∙ is) given

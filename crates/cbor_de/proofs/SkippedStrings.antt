@@ -61,7 +61,7 @@ bad_within s t n valid h = omega (arith, h.count)
 too_few : (n : ℕ) (bs : List ℕ) → length bs < n → bytes_at n bs ≡ Err ended
 too_few n bs short = rw (lt-ltb (length bs) n short) refl
 
-module _ (allowed : ReadErrorCode → Bool) (s t : Input) (n : ℕ) (kept : Option ReadError) (r : Reason) (e : ReadError) (is : r ≡ refused.Kept) (keeps : kept ≡ Some e) (h : RefusedPart allowed s t n e) where
+module _ (allowed : ReadErrorCode → Bool) (s t : Input) (n : ℕ) (kept : ReadError) (r : Reason) (e : ReadError) (is : r ≡ refused.Kept) (keeps : kept ≡ e) (h : RefusedPart allowed s t n e) where
   pub bytes_cut : Stopped allowed (λ l bs. passed (string_at (values all_formats l) no_bytes n bs)) s t kept r
   bytes_cut = source_stops allowed s (λ l bs. passed (string_at (values all_formats l) no_bytes n bs)) kept r e is keeps h.0.moved
       (refused_stops allowed s t n e (λ l bs. passed (string_at (values all_formats l) no_bytes n bs)) (λ l bs short. ap (λ r. passed r) (bytes_stop l n bs ended (too_few n bs short))) h.1 h.0)
@@ -132,7 +132,7 @@ text_chunks_skipped l bs b mid is = ap (λ r. passed r) (text_joined l bs b mid 
 pub text_chunks_cut : (l : Limits) (bs : List ℕ) (f : Fault) → joined_of (chunks_at (exceeds_most l.room) 0 3 bs) ≡ Err f → passed (text_chunks_at (values all_formats l) bs) ≡ Err f
 text_chunks_cut l bs f is = ap (λ r. passed r) (text_fault l bs f is)
 
-pub byte_chunks_skipped : (allowed : ReadErrorCode → Bool) (view : Unit {0} → List ℕ) (s t : Input) (kept : Option ReadError) (r : Result (Unit {0}) Reason) → Gives allowed view (λ l bs. joined_of (chunks_at (exceeds_most l.room) 0 2 bs)) s t kept r
+pub byte_chunks_skipped : (allowed : ReadErrorCode → Bool) (view : Unit {0} → List ℕ) (s t : Input) (kept : ReadError) (r : Result (Unit {0}) Reason) → Gives allowed view (λ l bs. joined_of (chunks_at (exceeds_most l.room) 0 2 bs)) s t kept r
     → Gives allowed (λ u. u) (λ l bs. passed (string_chunks_at (values all_formats l) bs)) s t kept r
 byte_chunks_skipped allowed view s t kept r =
     gives_seen allowed view (λ u. u) (λ l bs. joined_of (chunks_at (exceeds_most l.room) 0 2 bs)) (λ l bs. passed (string_chunks_at (values all_formats l) bs)) s t kept r

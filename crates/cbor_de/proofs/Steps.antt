@@ -117,22 +117,21 @@ stops_at allowed read read' s e on h = record {
 }
 
 -- what is kept is kept on the way out
-kept_on : {A B : Type 0} (allowed : ReadErrorCode → Bool) (read : Limits → List ℕ → Reads A) (read' : Limits → List ℕ → Reads B) (s t : Input) (kept : Option ReadError) (r : Reason)
+kept_on : {A B : Type 0} (allowed : ReadErrorCode → Bool) (read : Limits → List ℕ → Reads A) (read' : Limits → List ℕ → Reads B) (s t : Input) (kept : ReadError) (r : Reason)
     → ((e : ReadError) → Stops allowed read t e → Stops allowed read' s e) → TellsWhy allowed read t kept r → TellsWhy allowed read' s kept r
 kept_on allowed read read' s t kept refused.OutOfMemory on h = tt
-kept_on allowed read read' s t None refused.Kept on h = absurd h
-kept_on allowed read read' s t (Some e) refused.Kept on h = on e h
+kept_on allowed read read' s t kept refused.Kept on h = on kept h
 
 -- what is told of a part is told of the whole
-pub why_then : {A B : Type 0} (allowed : ReadErrorCode → Bool) (read : Limits → List ℕ → Reads A) (read' : Limits → List ℕ → Reads B) (s t : Input) (kept : Option ReadError) (r : Reason) (P : Limits → List ℕ → List ℕ → Type 0)
+pub why_then : {A B : Type 0} (allowed : ReadErrorCode → Bool) (read : Limits → List ℕ → Reads A) (read' : Limits → List ℕ → Reads B) (s t : Input) (kept : ReadError) (r : Reason) (P : Limits → List ℕ → List ℕ → Type 0)
     → ((l : Limits) (bs mid : List ℕ) (f : Fault) → P l bs mid → read l mid ≡ Err f → read' l bs ≡ Err f) → Step s t P → TellsWhy allowed read t kept r → TellsWhy allowed read' s kept r
 why_then allowed read read' s t kept r P on step = kept_on allowed read read' s t kept r (λ e. stops_then allowed read read' s t e P (λ bs. on (limits s bs) bs) step)
 
-pub why_map : {A B : Type 0} (allowed : ReadErrorCode → Bool) (read : Limits → List ℕ → Reads A) (read' : Limits → List ℕ → Reads B) (s : Input) (kept : Option ReadError) (r : Reason)
+pub why_map : {A B : Type 0} (allowed : ReadErrorCode → Bool) (read : Limits → List ℕ → Reads A) (read' : Limits → List ℕ → Reads B) (s : Input) (kept : ReadError) (r : Reason)
     → ((l : Limits) (bs : List ℕ) (f : Fault) → read l bs ≡ Err f → read' l bs ≡ Err f) → TellsWhy allowed read s kept r → TellsWhy allowed read' s kept r
 why_map allowed read read' s kept r on = kept_on allowed read read' s s kept r (λ e. stops_at allowed read read' s e (λ bs. on (limits s bs) bs))
 
-pub stopped_then : {A B : Type 0} {u : Input} (allowed : ReadErrorCode → Bool) (read : Limits → List ℕ → Reads A) (read' : Limits → List ℕ → Reads B) (s t : Input) (kept : Option ReadError) (r : Reason) (P : Limits → List ℕ → List ℕ → Type 0)
+pub stopped_then : {A B : Type 0} {u : Input} (allowed : ReadErrorCode → Bool) (read : Limits → List ℕ → Reads A) (read' : Limits → List ℕ → Reads B) (s t : Input) (kept : ReadError) (r : Reason) (P : Limits → List ℕ → List ℕ → Type 0)
     → ((l : Limits) (bs mid : List ℕ) (f : Fault) → P l bs mid → read l mid ≡ Err f → read' l bs ≡ Err f) → Step s t P → Stopped allowed read t u kept r → Stopped allowed read' s u kept r
 stopped_then {u = u} allowed read read' s t kept r P on step h = record {
   took = some_then s t u step.took h.took;
@@ -140,7 +139,7 @@ stopped_then {u = u} allowed read read' s t kept r P on step h = record {
 }
 
 -- readings that are compared at these limits alone
-pub stopped_at : {A B : Type 0} {t : Input} (allowed : ReadErrorCode → Bool) (read : Limits → List ℕ → Reads A) (read' : Limits → List ℕ → Reads B) (s : Input) (kept : Option ReadError) (r : Reason)
+pub stopped_at : {A B : Type 0} {t : Input} (allowed : ReadErrorCode → Bool) (read : Limits → List ℕ → Reads A) (read' : Limits → List ℕ → Reads B) (s : Input) (kept : ReadError) (r : Reason)
     → ((bs : List ℕ) (f : Fault) → read (limits s bs) bs ≡ Err f → read' (limits s bs) bs ≡ Err f) → Stopped allowed read s t kept r → Stopped allowed read' s t kept r
 stopped_at allowed read read' s kept r on h = record {
   took = h.took;
@@ -148,17 +147,17 @@ stopped_at allowed read read' s kept r on h = record {
 }
 
 -- the same at all limits
-pub stopped_map : {A B : Type 0} {t : Input} (allowed : ReadErrorCode → Bool) (read : Limits → List ℕ → Reads A) (read' : Limits → List ℕ → Reads B) (s : Input) (kept : Option ReadError) (r : Reason)
+pub stopped_map : {A B : Type 0} {t : Input} (allowed : ReadErrorCode → Bool) (read : Limits → List ℕ → Reads A) (read' : Limits → List ℕ → Reads B) (s : Input) (kept : ReadError) (r : Reason)
     → ((l : Limits) (bs : List ℕ) (f : Fault) → read l bs ≡ Err f → read' l bs ≡ Err f) → Stopped allowed read s t kept r → Stopped allowed read' s t kept r
 stopped_map allowed read read' s kept r on = stopped_at allowed read read' s kept r (λ bs. on (limits s bs) bs)
 
 -- memory ran out after some bytes
-pub memory_stops : {A : Type 0} {allowed : ReadErrorCode → Bool} {read : Limits → List ℕ → Reads A} {s t : Input} {kept : Option ReadError} (r : Reason) → r ≡ refused.OutOfMemory → TookSome s t → Stopped allowed read s t kept r
+pub memory_stops : {A : Type 0} {allowed : ReadErrorCode → Bool} {read : Limits → List ℕ → Reads A} {s t : Input} {kept : ReadError} (r : Reason) → r ≡ refused.OutOfMemory → TookSome s t → Stopped allowed read s t kept r
 memory_stops refused.OutOfMemory is took = record { took = took; told = tt }
 memory_stops refused.Kept is took = absurd cc
 
 -- a reading after a step, which is the rest of another at these limits
-pub gives_at : {X A : Type 0} (allowed : ReadErrorCode → Bool) (view : X → A) (read read' : Limits → List ℕ → Reads A) (s t u : Input) (kept : Option ReadError) (r : Result X Reason) (P : Limits → List ℕ → List ℕ → Type 0)
+pub gives_at : {X A : Type 0} (allowed : ReadErrorCode → Bool) (view : X → A) (read read' : Limits → List ℕ → Reads A) (s t u : Input) (kept : ReadError) (r : Result X Reason) (P : Limits → List ℕ → List ℕ → Type 0)
     → ((bs mid : List ℕ) → P (limits s bs) bs mid → read' (limits s bs) bs ≡ read (limits s bs) mid) → Step s t P → Gives allowed view read t u kept r → Gives allowed view read' s u kept r
 gives_at allowed view read read' s t u kept (Ok x) P same h k = record {
   took = some_then s t u h.took k.took;
@@ -179,17 +178,17 @@ gives_at allowed view read read' s t u kept (Err r) P same h k = record {
 }
 
 -- the same at all limits
-pub gives_then : {X A : Type 0} (allowed : ReadErrorCode → Bool) (view : X → A) (read read' : Limits → List ℕ → Reads A) (s t u : Input) (kept : Option ReadError) (r : Result X Reason) (P : Limits → List ℕ → List ℕ → Type 0)
+pub gives_then : {X A : Type 0} (allowed : ReadErrorCode → Bool) (view : X → A) (read read' : Limits → List ℕ → Reads A) (s t u : Input) (kept : ReadError) (r : Result X Reason) (P : Limits → List ℕ → List ℕ → Type 0)
     → ((l : Limits) (bs mid : List ℕ) → P l bs mid → read' l bs ≡ read l mid) → Step s t P → Gives allowed view read t u kept r → Gives allowed view read' s u kept r
 gives_then allowed view read read' s t u kept r P same h k = gives_at allowed view read read' s t u kept r P (λ bs. same (limits s bs) bs) h k
 
-pub gives_map : {X A : Type 0} (allowed : ReadErrorCode → Bool) (view : X → A) (read read' : Limits → List ℕ → Reads A) (s t : Input) (kept : Option ReadError) (r : Result X Reason)
+pub gives_map : {X A : Type 0} (allowed : ReadErrorCode → Bool) (view : X → A) (read read' : Limits → List ℕ → Reads A) (s t : Input) (kept : ReadError) (r : Result X Reason)
     → ((l : Limits) (bs : List ℕ) → read' l bs ≡ read l bs) → Gives allowed view read s t kept r → Gives allowed view read' s t kept r
 gives_map allowed view read read' s t kept (Ok x) same h = step_map s t (λ l bs rest. read l bs ≡ Ok (view x, rest)) (λ l bs rest. read' l bs ≡ Ok (view x, rest)) (λ l bs rest is. same l bs ∙ is) h
 gives_map allowed view read read' s t kept (Err r) same h = stopped_map allowed read read' s kept r (λ l bs f is. same l bs ∙ is) h
 
 -- what is read is seen otherwise
-pub gives_seen : {X A B : Type 0} (allowed : ReadErrorCode → Bool) (view : X → A) (view' : X → B) (read : Limits → List ℕ → Reads A) (read' : Limits → List ℕ → Reads B) (s t : Input) (kept : Option ReadError) (r : Result X Reason)
+pub gives_seen : {X A B : Type 0} (allowed : ReadErrorCode → Bool) (view : X → A) (view' : X → B) (read : Limits → List ℕ → Reads A) (read' : Limits → List ℕ → Reads B) (s t : Input) (kept : ReadError) (r : Result X Reason)
     → ((l : Limits) (bs rest : List ℕ) (x : X) → read l bs ≡ Ok (view x, rest) → read' l bs ≡ Ok (view' x, rest)) → ((l : Limits) (bs : List ℕ) (f : Fault) → read l bs ≡ Err f → read' l bs ≡ Err f)
     → Gives allowed view read s t kept r → Gives allowed view' read' s t kept r
 gives_seen allowed view view' read read' s t kept (Ok x) seen on h = step_map s t (λ l bs rest. read l bs ≡ Ok (view x, rest)) (λ l bs rest. read' l bs ≡ Ok (view' x, rest)) (λ l bs rest. seen l bs rest x) h
@@ -276,7 +275,7 @@ pub at_end : (s : Input) (bs : List ℕ) → Tells s bs → IfSome s.to_come (λ
 at_end s bs tells h = subst (λ (o : Option (List ℕ)). IfSome o (λ bs. bs ≡ [])) tells.is h
 
 -- a head that is read as another is
-pub head_map : (allowed : ReadErrorCode → Bool) (read read' : List ℕ → Reads (HeadWidth × Head)) (s t : Input) (kept : Option ReadError) (r : Result Head Reason)
+pub head_map : (allowed : ReadErrorCode → Bool) (read read' : List ℕ → Reads (HeadWidth × Head)) (s t : Input) (kept : ReadError) (r : Result Head Reason)
     → ((bs : List ℕ) → read' bs ≡ read bs) → HeadGives allowed read s t kept r → HeadGives allowed read' s t kept r
 head_map allowed read read' s t kept (Ok h) same given = step_map s t (λ l bs rest. (w : HeadWidth) × (read bs ≡ Ok ((w, h), rest))) (λ l bs rest. (w : HeadWidth) × (read' bs ≡ Ok ((w, h), rest))) (λ l bs rest is. (is.0, same bs ∙ is.1)) given
 head_map allowed read read' s t kept (Err r) same given = stopped_map allowed (λ l. read) (λ l. read') s kept r (λ l bs f is. same bs ∙ is) given

@@ -1,5 +1,5 @@
 -- What looking for the end of the input takes.
-use Rattle.std.specs.Prelude.{◌≡◌, ℕ, Bool, true, List, [], ◌∷◌, Option, Some, None, IsSomeAnd}
+use Rattle.std.specs.Prelude.{◌≡◌, ℕ, Bool, true, List, [], ◌∷◌}
 use Rattle.std.specs.Prelude.{Result, Ok, Err}
 use Rattle.cbor_io.specs.declared.error.ErrorCode.{ErrorCode}
 use Rattle.cbor_io.specs.declared.error.ErrorCode.TheVariants.{Io, LengthOutOfRange, TrailingData}
@@ -35,9 +35,9 @@ EndTakes refusals s t (Ok u) = Stays s t
 EndTakes refusals s t (Err e) = EndRefused refusals (code_of e) (offset_of e) s t
 
 -- What a refused step took that looked for the end, of which the deserializer keeps why.
-abbrev pub EndStops : (ReadErrorCode → Bool) → Input → Input → Option ReadError
+abbrev pub EndStops : (ReadErrorCode → Bool) → Input → Input → ReadError
     → Result (Unit {0}) Refused → Type 0
 EndStops refusals s t kept (Ok u) = Stays s t
 EndStops refusals s t kept (Err refused.Kept) =
-    IsSomeAnd kept (λ q. EndRefused refusals (error_code (why q)) (place q) s t)
+    EndRefused refusals (error_code (why kept)) (place kept) s t
 EndStops refusals s t kept (Err refused.OutOfMemory) = ⊥

@@ -1,6 +1,6 @@
 -- What a reader of the code answers, beside what the reference reader answers.
 use Rattle.std.specs.Prelude.{⊤, ◌≡◌, ◌≢◌, ◌+◌, ◌^◌, ◌<◌, ◌≤◌, ℕ, Bool, true, List, [], ◌∷◌, length}
-use Rattle.std.specs.Prelude.{Option, Some, None, IsSomeAnd, Result, Ok, Err}
+use Rattle.std.specs.Prelude.{Option, Some, Result, Ok, Err}
 use Rattle.cbor_model.specs.Refusal.{Refusal, end_in_value, end_in_array, end_in_map}
 use Rattle.cbor_model.specs.Refusal.{length_out_of_range, invalid_utf8, unassigned_code}
 use Rattle.cbor_model.specs.Refusal.{unexpected_code, trailing_data, too_deep, scratch_too_small}
@@ -130,18 +130,18 @@ pub record Stops {A : Type 0} (refusals : ReadErrorCode → Bool) (read : Limits
 
 -- What the deserializer keeps tells the fault of a reading from s; or memory ran out.
 abbrev pub TellsWhy : {A : Type 0} → (ReadErrorCode → Bool) → (Limits → List ℕ → Reads A) → Input
-    → Option ReadError → Refused → Type 0
+    → ReadError → Refused → Type 0
 TellsWhy refusals read s kept refused.OutOfMemory = ⊤
-TellsWhy refusals read s kept refused.Kept = IsSomeAnd kept (Stops refusals read s)
+TellsWhy refusals read s kept refused.Kept = Stops refusals read s kept
 
 -- A step from s was refused, and left t: some bytes were taken, and it is told why.
-pub record Stopped {A : Type 0} (refusals : ReadErrorCode → Bool) (read : Limits → List ℕ → Reads A) (s t : Input) (kept : Option ReadError) (r : Refused) : Type 0 where
+pub record Stopped {A : Type 0} (refusals : ReadErrorCode → Bool) (read : Limits → List ℕ → Reads A) (s t : Input) (kept : ReadError) (r : Refused) : Type 0 where
   pub took : TookSome s t
   pub told : TellsWhy refusals read s kept r
 
 -- What was read, seen by view, and the bytes to come after it; or why not, and some bytes were taken.
 abbrev pub Gives : {X A : Type 0} → (ReadErrorCode → Bool) → (X → A) → (Limits → List ℕ → Reads A)
-    → Input → Input → Option ReadError → Result X Refused → Type 0
+    → Input → Input → ReadError → Result X Refused → Type 0
 Gives refusals view read s t kept (Ok x) = Step s t (λ l bs rest. read l bs ≡ Ok (view x, rest))
 Gives refusals view read s t kept (Err r) = Stopped refusals read s t kept r
 
@@ -150,22 +150,20 @@ abbrev pub IsAt : ReadErrorCode → ℕ → ReadError → Type 0
 IsAt code offset e = (why e ≡ code) × (place e ≡ offset)
 
 -- What is kept of a refusal isn't the key rule's: that a key may not begin as it does.
-abbrev pub TellsNoKey : Option ReadError → Refused → Type 0
+abbrev pub TellsNoKey : ReadError → Refused → Type 0
 TellsNoKey kept refused.OutOfMemory = ⊤
-TellsNoKey None refused.Kept = ⊤
-TellsNoKey (Some q) refused.Kept = why q ≢ reading.WrongStructFormat
+TellsNoKey kept refused.Kept = why kept ≢ reading.WrongStructFormat
 
 -- What is kept of a refusal isn't that an allocation failed.
-abbrev pub TellsNoMemory : Option ReadError → Refused → Type 0
+abbrev pub TellsNoMemory : ReadError → Refused → Type 0
 TellsNoMemory kept refused.OutOfMemory = ⊥
-TellsNoMemory None refused.Kept = ⊥
-TellsNoMemory (Some q) refused.Kept = why q ≢ reading.OutOfMemory
+TellsNoMemory kept refused.Kept = why kept ≢ reading.OutOfMemory
 
 -- the error that a call makes of a refusal
-abbrev pub IsErrorOf : Option ReadError → Refused → Error → Type 0
+abbrev pub IsErrorOf : ReadError → Refused → Error → Type 0
 IsErrorOf kept refused.OutOfMemory e = IsOutOfMemory e
-IsErrorOf None refused.Kept e = IsOutOfMemory e
-IsErrorOf (Some q) refused.Kept e = (code_of e ≡ error_code (why q)) × (offset_of e ≡ place q)
+IsErrorOf kept refused.Kept e =
+    (code_of e ≡ error_code (why kept)) × (offset_of e ≡ place kept)
 
 -- none of the codes that tell a wrong form: of an array, an enum, a struct or a spelling
 abbrev pub TellsNoForm : ErrorCode → Type 0

@@ -95,13 +95,13 @@ opening_at bs = byte_at bs >>= (λ b. head_at b.0 b.1)
 
 -- a head was read, of some width; or why not
 abbrev pub HeadGives : (ReadErrorCode → Bool) → (List ℕ → Reads (HeadWidth × Head)) → Input → Input
-    → Option ReadError → Result Head Refused → Type 0
+    → ReadError → Result Head Refused → Type 0
 HeadGives refusals read s t kept (Ok h) =
     Step s t (λ l bs rest. (w : HeadWidth) × (read bs ≡ Ok ((w, h), rest)))
 HeadGives refusals read s t kept (Err r) = Stopped refusals (λ l. read) s t kept r
 
 -- the head that says a number in this way was read; or none was, and nothing was taken; or why not
-abbrev pub NumberGives : (ℕ → Head) → (ReadErrorCode → Bool) → Input → Input → Option ReadError
+abbrev pub NumberGives : (ℕ → Head) → (ReadErrorCode → Bool) → Input → Input → ReadError
     → Result (Option ℕ) Refused → Type 0
 NumberGives says refusals s t kept (Ok (Some n)) =
     HeadGives refusals opening_at s t kept (Ok (says n))

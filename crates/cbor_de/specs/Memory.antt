@@ -1,5 +1,5 @@
 -- Where memory may run out.
-use Rattle.std.specs.Prelude.{⊤, ◌≡◌, ℕ, Bool, true, List, Option, Some, None, Ok}
+use Rattle.std.specs.Prelude.{⊤, ◌≡◌, ℕ, Bool, true, List, Ok}
 use Rattle.cbor_model.specs.Plain.{Val, bytes, text, array, map, tag}
 use Rattle.cbor_model.specs.Reader.{Reads}
 use Rattle.cbor_io.specs.ReadError.{why}
@@ -14,10 +14,9 @@ use Rattle.cbor_de.specs.declared.refusal.Refused.{Refused}
 use Rattle.cbor_de.specs.declared.refusal.Refused.TheVariants as refused
 
 -- Where memory ran out, P holds.
-abbrev pub MemoryOnly : Type 0 → Option ReadError → Refused → Type 0
+abbrev pub MemoryOnly : Type 0 → ReadError → Refused → Type 0
 MemoryOnly P kept refused.OutOfMemory = P
-MemoryOnly P None refused.Kept = P
-MemoryOnly P (Some q) refused.Kept = why q ≡ reading.OutOfMemory → P
+MemoryOnly P kept refused.Kept = why kept ≡ reading.OutOfMemory → P
 
 -- ---- by the source
 

@@ -31,7 +31,7 @@ pub record ChunkStep (read : Limits → ℕ → List ℕ → Reads Chunk) (s t :
   pub counted : s.offset + length some ≤ t.offset
 
 abbrev pub ChunkGives : (ReadErrorCode → Bool) → (Limits → ℕ → List ℕ → Reads Chunk) → Input
-    → Input → Option ReadError → Result (Unit {0}) Refused → Type 0
+    → Input → ReadError → Result (Unit {0}) Refused → Type 0
 ChunkGives refusals read s t kept (Ok u) = ChunkStep read s t
 ChunkGives refusals read s t kept (Err r) =
     Stopped refusals (λ l. read l (length s.buffer)) s t kept r

@@ -1,7 +1,7 @@
 //! What reads items from a source.
 
 ghost use Rattle.std.specs.Prelude.{◌≡◌, false, ◌+◌, ◌^◌, ◌<◌, nat_lt};
-ghost use Rattle.std.specs.Prelude.{OnOk, OnErr, IfErr, IsSomeAnd};
+ghost use Rattle.std.specs.Prelude.{OnOk, OnErr, IfErr};
 ghost use Rattle.cbor_io.specs.declared.read_error.ReadErrorCode.TheVariants.{RecursionLimitExceeded};
 ghost use Rattle.cbor_model.specs.Acceptable.{max_depth};
 ghost use Rattle.cbor_model.specs.Formats.{all_formats};
@@ -36,8 +36,8 @@ pub struct Deserializer<R> {
     pub levels: u64,
     // Which formats are read.
     pub formats: Formats,
-    // Why the last step that was refused was refused.
-    pub refusal: Option<ReadError>,
+    // Why the last step that was refused was refused; an end of input at 0 until one is.
+    pub refusal: ReadError,
 }
 
 impl<R: Offset> Deserializer<R> {
@@ -67,7 +67,7 @@ impl<R: Source> Deserializer<R> {
             source,
             levels: MAX_DEPTH,
             formats: Formats::ALL,
-            refusal: None,
+            refusal: ReadError::eof(0),
         }
     }
 
@@ -201,8 +201,8 @@ impl<R: Source> Deserializer<R> {
         ensures below { OnOk result (self.new.levels + 1 < 2 ^ 64) }
         ensures none { OnErr result ((self.old.levels ≡ 0) × (self.new.levels ≡ 0)) }
         ensures refused { IfErr result (λ r. r ≡ Kept) }
-        ensures kept { OnErr result (IsSomeAnd self.new.refusal
-            (IsAt RecursionLimitExceeded (R.source self.old.source).offset)) }
+        ensures kept { OnErr result
+            (IsAt RecursionLimitExceeded (R.source self.old.source).offset self.new.refusal) }
         ensures no_key { IfErr result (TellsNoKey self.new.refusal) }
         ensures memory { IfErr result (TellsNoMemory self.new.refusal) }
         ensures source { self.new.source ≡ self.old.source }

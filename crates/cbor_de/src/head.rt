@@ -1,6 +1,6 @@
 //! Heads: what an item's first bytes say of it (RFC 7049, section 2).
 
-ghost use Rattle.std.specs.Prelude.{◌≡◌, length, IfErr, IsSomeAnd, MatchOption, OnErr, OnOk};
+ghost use Rattle.std.specs.Prelude.{◌≡◌, length, IfErr, MatchOption, OnErr, OnOk};
 ghost use Rattle.std.specs.Prelude.{Ok, Some};
 ghost use Rattle.std.specs.Int.{w8, w16, w32, w64};
 ghost use Rattle.cbor_model.specs.Reader.{number_at, number_behind};
@@ -285,8 +285,9 @@ impl<R: Source> Deserializer<R> {
         ensures ok { OnOk result
             (TookKept (R.source self.old.source) (R.source self.new.source) bytes.new) }
         ensures refused { IfErr result (λ r. r ≡ Kept) }
-        ensures kept { OnErr result (IsSomeAnd self.new.refusal (RefusedInto R.refusals
-            (R.source self.old.source) (R.source self.new.source) (length bytes.old))) }
+        ensures kept { OnErr result (RefusedInto R.refusals
+            (R.source self.old.source) (R.source self.new.source) (length bytes.old)
+            self.new.refusal) }
         ensures no_key { IfErr result (TellsNoKey self.new.refusal) }
         ensures memory { IfErr result (TellsNoMemory self.new.refusal) }
         ensures levels { self.new.levels ≡ self.old.levels }
@@ -308,8 +309,9 @@ impl<R: Source> Deserializer<R> {
         ensures ok { OnOk result
             (TookKept (R.source self.old.source) (R.source self.new.source) bytes.new) }
         ensures refused { IfErr result (λ r. r ≡ Kept) }
-        ensures kept { OnErr result (IsSomeAnd self.new.refusal (RefusedInto R.refusals
-            (R.source self.old.source) (R.source self.new.source) (length bytes.old))) }
+        ensures kept { OnErr result (RefusedInto R.refusals
+            (R.source self.old.source) (R.source self.new.source) (length bytes.old)
+            self.new.refusal) }
         ensures no_key { IfErr result (TellsNoKey self.new.refusal) }
         ensures memory { IfErr result (TellsNoMemory self.new.refusal) }
         ensures levels { self.new.levels ≡ self.old.levels }

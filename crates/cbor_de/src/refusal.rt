@@ -4,8 +4,7 @@
 //! that the step belongs to ends: an error is large, and would be copied at each step on the way
 //! out.
 
-ghost use Rattle.std.specs.Prelude.{◌≡◌, ◌≢◌, ◌+◌, ◌≤◌, Some};
-ghost use Rattle.std.specs.Option.{IsSomeAnd};
+ghost use Rattle.std.specs.Prelude.{◌≡◌, ◌≢◌, ◌+◌, ◌≤◌};
 ghost use Rattle.cbor_io.specs.Error.{code_of};
 ghost use Rattle.cbor_io.specs.declared.error.ErrorCode.TheVariants.{OutOfMemory};
 ghost use Rattle.cbor_io.specs.ReadError.{why, place, HasNoPlace};
@@ -17,6 +16,7 @@ use crate::de::Deserializer;
 use cbor_io::error::Error;
 use cbor_read::{ReadError, ReadErrorCode, Source};
 use std::alloc::{AllocError, AllocFailed};
+use std::mem;
 
 /// A step was refused.
 #[derive(Clone, Copy)]
@@ -57,12 +57,12 @@ impl<R: Source> Deserializer<R> {
     #[cold]
     pub fn keep(&mut self, refusal: ReadError) -> Refused
         ensures refused { result ≡ Kept }
-        ensures kept { self.new.refusal ≡ Some refusal }
+        ensures kept { self.new.refusal ≡ refusal }
         ensures source { self.new.source ≡ self.old.source }
         ensures levels { self.new.levels ≡ self.old.levels }
         ensures formats { self.new.formats ≡ self.old.formats }
     {
-        self.refusal = Some(refusal);
+        self.refusal = refusal;
         Refused::Kept
     }
 
@@ -71,7 +71,7 @@ impl<R: Source> Deserializer<R> {
     pub fn refuse(&mut self, code: ReadErrorCode) -> Refused
         requires { HasNoPlace code → ⊥ }
         ensures refused { result ≡ Kept }
-        ensures kept { IsSomeAnd self.new.refusal (IsAt code (R.source self.old.source).offset) }
+        ensures kept { IsAt code (R.source self.old.source).offset self.new.refusal }
         ensures source { self.new.source ≡ self.old.source }
         ensures levels { self.new.levels ≡ self.old.levels }
         ensures formats { self.new.formats ≡ self.old.formats }
@@ -85,14 +85,14 @@ impl<R: Source> Deserializer<R> {
         requires code { HasNoPlace code → ⊥ }
         requires taken { back ≤ (R.source self.old.source).offset }
         ensures refused { result ≡ Kept }
-        ensures kept { IsSomeAnd self.new.refusal
-            (λ e. (why e ≡ code) × (place e + back ≡ (R.source self.old.source).offset)) }
+        ensures kept { (why self.new.refusal ≡ code)
+            × (place self.new.refusal + back ≡ (R.source self.old.source).offset) }
         ensures source { self.new.source ≡ self.old.source }
         ensures levels { self.new.levels ≡ self.old.levels }
         ensures formats { self.new.formats ≡ self.old.formats }
     {
         let place = self.source.offset() - back as u64;
-        self.refusal = Some(ReadError::at(code, place));
+        self.refusal = ReadError::at(code, place);
         Refused::Kept
     }
 
@@ -102,13 +102,23 @@ impl<R: Source> Deserializer<R> {
     pub fn refuse_text(&mut self, back: usize) -> Refused
         requires taken { back ≤ (R.source self.old.source).offset }
         ensures refused { result ≡ Kept }
-        ensures kept { IsSomeAnd self.new.refusal
-            (λ e. (why e ≡ InvalidUtf8) × (place e + back ≡ (R.source self.old.source).offset)) }
+        ensures kept { (why self.new.refusal ≡ InvalidUtf8)
+            × (place self.new.refusal + back ≡ (R.source self.old.source).offset) }
         ensures source { self.new.source ≡ self.old.source }
         ensures levels { self.new.levels ≡ self.old.levels }
         ensures formats { self.new.formats ≡ self.old.formats }
     {
         self.refuse_back(ReadErrorCode::InvalidUtf8, back)
+    }
+
+    /// Takes the refusal that is kept.
+    pub fn take_refusal(&mut self) -> ReadError
+        ensures kept { result ≡ self.old.refusal }
+        ensures source { self.new.source ≡ self.old.source }
+        ensures levels { self.new.levels ≡ self.old.levels }
+        ensures formats { self.new.formats ≡ self.old.formats }
+    {
+        mem::replace(&mut self.refusal, ReadError::eof(0))
     }
 
     /// The error of a call whose step was refused.
@@ -120,9 +130,9 @@ impl<R: Source> Deserializer<R> {
         ensures levels { self.new.levels ≡ self.old.levels }
         ensures formats { self.new.formats ≡ self.old.formats }
     {
-        match (refused, self.refusal.take()) {
-            (Refused::Kept, Some(refusal)) => Error::from(refusal),
-            _ => Error::from(AllocError),
+        match refused {
+            Refused::OutOfMemory => Error::from(AllocError),
+            Refused::Kept => Error::from(self.take_refusal()),
         }
     }
 }

@@ -66,7 +66,7 @@ not_bytes h bytes (raw.tag w m r) x is tag k = tag refl
 not_bytes h bytes (raw.simple s) x is tag k = absurd is
 not_bytes h bytes (raw.float w bits) x is tag k = absurd is
 
-module _ {A : Type 0} (allowed : ReadErrorCode → Bool) (f : Formats) (reads : Raw → A → Type 0) (levels : ℕ) (s m : Input) (kept : Option ReadError) where
+module _ {A : Type 0} (allowed : ReadErrorCode → Bool) (f : Formats) (reads : Raw → A → Type 0) (levels : ℕ) (s m : Input) (kept : ReadError) where
   -- a byte string was taken
   pub byte_string_takes : (n : Option ℕ) → (opened : OpensItem allowed f levels s m kept (Ok (head.Bytes n))) → (t : Input) (b : List ℕ) (x : A)
       → ((r : Raw) → IsByteString r b → ((c : Context) → is_lent c r ≡ is_lent_head c (head.Bytes n)) → reads r x)
@@ -78,7 +78,7 @@ module _ {A : Type 0} (allowed : ReadErrorCode → Bool) (f : Formats) (reads : 
       let bytes : IsByteString r.item b = of_kind r.item b r.string r.kind in
       opened_read f reads l (item_at (raws f l) levels bs) opened.0 (head.Bytes n) mid o r.item rest x r.is (subst (λ (i : Raw). reads i x) (sym (untagged_string r.item b r.string)) (means r.item bytes r.lent))) opened.1 taken
 
-module _ (allowed : ReadErrorCode → Bool) (f : Formats) (l : Lends) (levels : ℕ) (s m : Input) (kept : Option ReadError) where
+module _ (allowed : ReadErrorCode → Bool) (f : Formats) (l : Lends) (levels : ℕ) (s m : Input) (kept : ReadError) where
   abbrev c : Context
   c = lending f l
 

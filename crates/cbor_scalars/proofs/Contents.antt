@@ -204,7 +204,7 @@ module _ (f : Formats) (l : Limits) (inner : Option (List ℕ → Reads Raw)) (w
 pub step_refuses : (allowed : ReadErrorCode → Bool) (s t : Input) (k : ErrorCode) (at : ℕ) (N : Limits → List ℕ → Type 0) → Step s t (λ l bs rest. N l bs) → Refuses allowed s t k at N
 step_refuses allowed s t k at N step = record { took = step.took; told = λ bs tells. inr (step.told bs tells).holds }
 
-module _ {A : Type 0} (allowed : ReadErrorCode → Bool) (f : Formats) (reads : Raw → A → Type 0) (levels : ℕ) (s m : Input) (kept : Option ReadError) (h : Head) (opened : OpensItem allowed f levels s m kept (Ok h)) where
+module _ {A : Type 0} (allowed : ReadErrorCode → Bool) (f : Formats) (reads : Raw → A → Type 0) (levels : ℕ) (s m : Input) (kept : ReadError) (h : Head) (opened : OpensItem allowed f levels s m kept (Ok h)) where
   abbrev item : Limits → List ℕ → Reads Raw
   item l bs = item_at (raws f l) levels bs
 
@@ -227,7 +227,7 @@ module _ {A : Type 0} (allowed : ReadErrorCode → Bool) (f : Formats) (reads : 
       opened_read f reads l (item l bs) opened.0 h mid o r.item rest x r.is (subst (λ (i : Raw). reads i x) (sym (untagged_string r.item b r.string)) (means r.item r.string r.lent))) opened.1 taken
 
   -- its content couldn't be
-  string_stops : {u : Input} (r : Refused) (later : Option ReadError) (e : Error) → ((l : Limits) (w : HeadWidth) (bs : List ℕ) (g : Fault) → content_at l h bs ≡ Err g → behind_head (raws f l) (inner l) w h bs ≡ Err g)
+  string_stops : {u : Input} (r : Refused) (later : ReadError) (e : Error) → ((l : Limits) (w : HeadWidth) (bs : List ℕ) (g : Fault) → content_at l h bs ≡ Err g → behind_head (raws f l) (inner l) w h bs ≡ Err g)
       → IsErrorOf later r e → Stopped allowed (λ l. content_at l h) m u later r → Refuses allowed s u (code_of e) (offset_of e) (λ l bs. IsNotRead (PassesTags reads) (item l bs))
   string_stops r later e stop is stopped =
       refuses allowed (PassesTags reads) item s later r e is
@@ -240,14 +240,14 @@ module _ {A : Type 0} (allowed : ReadErrorCode → Bool) (f : Formats) (reads : 
       step_then s m t Opened (Taken b) (λ l bs rest. IsNotRead (PassesTags reads) (item l bs))
       (λ l bs mid rest o is. opened_none f reads l (item l bs) opened.0 h mid o (λ r after x read means. none l o.width mid rest after r x is read means)) opened.1 taken
 
-module _ {A : Type 0} (allowed : ReadErrorCode → Bool) (f : Formats) (reads : Raw → A → Type 0) (levels : ℕ) (s m : Input) (kept : Option ReadError) (n : Option ℕ) where
+module _ {A : Type 0} (allowed : ReadErrorCode → Bool) (f : Formats) (reads : Raw → A → Type 0) (levels : ℕ) (s m : Input) (kept : ReadError) (n : Option ℕ) where
   abbrev OpensText : Type 0
   OpensText = OpensItem allowed f levels s m kept (Ok (head.Text n))
 
   abbrev OpensBytes : Type 0
   OpensBytes = OpensItem allowed f levels s m kept (Ok (head.Bytes n))
 
-  pub bytes_stops : {u : Input} → OpensBytes → (r : Refused) (later : Option ReadError) (e : Error) → IsErrorOf later r e → Stopped allowed (λ l. content_at l (head.Bytes n)) m u later r → Refuses allowed s u (code_of e) (offset_of e) (λ l bs. IsNotRead (PassesTags reads) (item_at (raws f l) levels bs))
+  pub bytes_stops : {u : Input} → OpensBytes → (r : Refused) (later : ReadError) (e : Error) → IsErrorOf later r e → Stopped allowed (λ l. content_at l (head.Bytes n)) m u later r → Refuses allowed s u (code_of e) (offset_of e) (λ l bs. IsNotRead (PassesTags reads) (item_at (raws f l) levels bs))
   bytes_stops opened r later e is stopped = string_stops allowed f reads levels s m kept (head.Bytes n) opened r later e (λ l w bs g stops. bytes_stop f l (inside (raws f l) opened.0) w n bs g stops) is stopped
 
   pub bytes_takes : OpensBytes → (t : Input) (b : List ℕ) (x : A) → ((r : Raw) → IsString r b → ((c : Context) → is_lent c r ≡ is_lent_head c (head.Bytes n)) → reads r x)
@@ -279,7 +279,7 @@ module _ {A : Type 0} (allowed : ReadErrorCode → Bool) (f : Formats) (reads : 
       (λ r string lent. means r string utf8 lent) taken
 
 -- bytes that were taken, as a text if they are UTF-8
-pub text_checked : {X : Type 0} (allowed : ReadErrorCode → Bool) (view : X → List ℕ) (h : Head) (s t : Input) (b : List ℕ) (end : ℕ) (kept : Option ReadError) (r : Result X Refused) → Step s t (λ l bs rest. content_at l h bs ≡ Ok (b, rest))
+pub text_checked : {X : Type 0} (allowed : ReadErrorCode → Bool) (view : X → List ℕ) (h : Head) (s t : Input) (b : List ℕ) (end : ℕ) (kept : ReadError) (r : Result X Refused) → Step s t (λ l bs rest. content_at l h bs ≡ Ok (b, rest))
     → KeepsTextOf view b end kept r → TakesText allowed view h s t kept r
 text_checked allowed view h s t b end kept (Ok x) step is = (
   subst (λ (q : List ℕ). Step s t (λ l bs rest. content_at l h bs ≡ Ok (q, rest))) (sym is.0) step,
@@ -291,7 +291,7 @@ text_checked allowed view h s t b end kept (Err r) step is = λ e made.
     (λ l bs rest here c after there utf8. (is e made).bad (subst IsUtf8 (ap (λ (q : List ℕ × List ℕ). q.0) (ok_is (c, after) (b, rest) (sym there ∙ here))) utf8)) step)
 
 -- an item of another kind
-pub other_step : {A : Type 0} (allowed : ReadErrorCode → Bool) (f : Formats) (reads : Raw → A → Type 0) (levels : ℕ) (s t : Input) (kept : Option ReadError) (h : Head)
+pub other_step : {A : Type 0} (allowed : ReadErrorCode → Bool) (f : Formats) (reads : Raw → A → Type 0) (levels : ℕ) (s t : Input) (kept : ReadError) (h : Head)
     → ((r : Raw) (x : A) → reads (untagged r) x → (kind_of r ≡ kind.tag → ⊥) → kind_of r ≡ head_kind h → ⊥)
     → OpensItem allowed f levels s t kept (Ok h) → Step s t (λ l bs rest. IsNotRead (PassesTags reads) (item_at (raws f l) levels bs))
 other_step allowed f reads levels s t kept h none opened =
@@ -302,7 +302,7 @@ other_step allowed f reads levels s t kept h none opened =
 pub step_over : {N : Limits → List ℕ → Type 0} {P : Limits → List ℕ → List ℕ → Type 0} {s m t : Input} → Step s m (λ l bs rest. N l bs) → Step m t P → Step s t (λ l bs rest. N l bs)
 step_over {N = N} {P = P} {s = s} {m = m} {t = t} none over = step_then s m t (λ l bs rest. N l bs) P (λ l bs rest. N l bs) (λ l bs mid rest h k. h) none over
 
-pub none_at : {A : Type 0} (allowed : ReadErrorCode → Bool) (f : Formats) (reads : Raw → A → Type 0) (levels : ℕ) (s t : Input) (kept : Option ReadError) (h : Head) (k : ErrorCode) (at : ℕ)
+pub none_at : {A : Type 0} (allowed : ReadErrorCode → Bool) (f : Formats) (reads : Raw → A → Type 0) (levels : ℕ) (s t : Input) (kept : ReadError) (h : Head) (k : ErrorCode) (at : ℕ)
     → ((r : Raw) (x : A) → reads (untagged r) x → (kind_of r ≡ kind.tag → ⊥) → kind_of r ≡ head_kind h → ⊥)
     → OpensItem allowed f levels s t kept (Ok h) → Refuses allowed s t k at (λ l bs. IsNotRead (PassesTags reads) (item_at (raws f l) levels bs))
 none_at allowed f reads levels s t kept h k at none opened =

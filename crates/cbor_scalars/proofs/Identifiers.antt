@@ -114,7 +114,7 @@ module _ (names : List (List ℕ)) where
   not_identifier h u t b (raw.simple x) place is tag k = is.1
   not_identifier h u t b (raw.float w bits) place is tag k = is.1
 
-  module _ (allowed : ReadErrorCode → Bool) (f : Formats) (l : Lends) (levels : ℕ) (s m : Input) (kept : Option ReadError) where
+  module _ (allowed : ReadErrorCode → Bool) (f : Formats) (l : Lends) (levels : ℕ) (s m : Input) (kept : ReadError) where
     abbrev Refused : Input → Error → Type 0
     Refused t e = Refuses allowed s t (code_of e) (offset_of e) (λ limits bs. IsNotRead (PassesTags (IsIdentifier names)) (item_at (raws f limits) levels bs))
 
@@ -139,7 +139,7 @@ module _ (names : List (List ℕ)) where
         refuses_behind allowed s m (code_of e) (offset_of e) (λ limits bs rest. Opens f limits (item_at (raws f limits) levels bs) opened.0 (head.Bytes n) rest) _ (λ limits bs. IsNotRead (PassesTags (IsIdentifier names)) (item_at (raws f limits) levels bs))
         (λ limits bs mid o none. opened_none f (IsIdentifier names) limits (item_at (raws f limits) levels bs) opened.0 (head.Bytes n) mid o (λ r rest x read is. no_bytes allowed f l levels s m kept limits (inside (raws f limits) opened.0) o.width n mid _ refl none (r, rest) read)) opened.1 none
 
-    pub bytes_read : (n : Option ℕ) (t : Input) (later : Option ReadError) (r : Result (Option ℕ) Why) → OpensItem allowed f levels s m kept (Ok (head.Bytes n)) → TakesBytesName allowed names (head.Bytes n) m t later r
+    pub bytes_read : (n : Option ℕ) (t : Input) (later : ReadError) (r : Result (Option ℕ) Why) → OpensItem allowed f levels s m kept (Ok (head.Bytes n)) → TakesBytesName allowed names (head.Bytes n) m t later r
         → OnceMade (IsMadeBy later) (TakesItem allowed f (PassesTags (IsIdentifier names)) levels s t) r
     bytes_read n t later (Ok place) opened is = bytes_name n t is.0 place is.1 opened is.2
     bytes_read n t later (Err why) opened is = λ e made. bytes_refused n e opened (is e made)

@@ -115,7 +115,7 @@ pub lacks_all : {t : Input} (allowed : ReadErrorCode → Bool) (s : Input) (N : 
 lacks_all allowed s N h (Stopped e) = h (error_code (why e)) (place e)
 lacks_all allowed s N h Other = h
 
-module _ (allowed : ReadErrorCode → Bool) (f : Formats) (l : Lends) (levels : ℕ) (s m : Input) (kept : Option ReadError) where
+module _ (allowed : ReadErrorCode → Bool) (f : Formats) (l : Lends) (levels : ℕ) (s m : Input) (kept : ReadError) where
   abbrev c : Context
   c = lending f l
 

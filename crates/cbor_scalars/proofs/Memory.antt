@@ -1,5 +1,5 @@
 -- Where memory ran out.
-use Rattle.std.proofs.Common.{◌≡◌, inr, inl, ℕ, Bool, true, false, cond, List, Option, Some, None, IsSomeAnd, Result, Ok, Err, IfErr, refl, sym, ap, subst, ◌∙◌}
+use Rattle.std.proofs.Common.{◌≡◌, inr, inl, ℕ, Bool, true, false, cond, List, Option, Some, None, Result, Ok, Err, IfErr, refl, sym, ap, subst, ◌∙◌}
 use Rattle.cbor_model.specs.Formats.{Formats, all_formats}
 use Rattle.cbor_model.specs.Head.{HeadWidth}
 use Rattle.cbor_model.specs.Raw as raw
@@ -39,22 +39,19 @@ use Rattle.cbor_scalars.proofs.Scalars.{scalar_unread, untagged-tagged, within_t
 -- ---- refusals
 
 -- the refusal that was kept
-pub kept_only : (P : Type 0) (kept : Option ReadError) (r : Refused) (e : ReadError) → IsKept kept r e → MemoryOnly P kept r → UnreadOnly P (Stopped e)
+pub kept_only : (P : Type 0) (kept : ReadError) (r : Refused) (e : ReadError) → IsKept kept r e → MemoryOnly P kept r → UnreadOnly P (Stopped e)
 kept_only P kept refused.OutOfMemory e is h = λ why_is. h
-kept_only P None refused.Kept e is h = λ why_is. h
-kept_only P (Some q) refused.Kept e is h = λ why_is. h (ap why (sym is) ∙ why_is)
+kept_only P kept refused.Kept e is h = λ why_is. h (ap why (sym is) ∙ why_is)
 
 -- one that isn't for want of memory
-pub kept_none : (P : Type 0) (kept : Option ReadError) (r : Refused) (e : ReadError) → IsKept kept r e → TellsNoMemory kept r → UnreadOnly P (Stopped e)
+pub kept_none : (P : Type 0) (kept : ReadError) (r : Refused) (e : ReadError) → IsKept kept r e → TellsNoMemory kept r → UnreadOnly P (Stopped e)
 kept_none P kept refused.OutOfMemory e is h = absurd h
-kept_none P None refused.Kept e is h = absurd h
-kept_none P (Some q) refused.Kept e is h = λ why_is. absurd (h (ap why (sym is) ∙ why_is))
+kept_none P kept refused.Kept e is h = λ why_is. absurd (h (ap why (sym is) ∙ why_is))
 
 -- one of another code
-pub kept_at : (P : Type 0) (kept : Option ReadError) (r : Refused) (e : ReadError) (Q : ReadError → Type 0) → ((q : ReadError) → Q q → why q ≡ reading.OutOfMemory → ⊥) → r ≡ refused.Kept → IsSomeAnd kept Q → IsKept kept r e → UnreadOnly P (Stopped e)
+pub kept_at : (P : Type 0) (kept : ReadError) (r : Refused) (e : ReadError) (Q : ReadError → Type 0) → ((q : ReadError) → Q q → why q ≡ reading.OutOfMemory → ⊥) → r ≡ refused.Kept → Q kept → IsKept kept r e → UnreadOnly P (Stopped e)
 kept_at P kept refused.OutOfMemory e Q other keeps h is = absurd cc
-kept_at P None refused.Kept e Q other keeps h is = absurd h
-kept_at P (Some q) refused.Kept e Q other keeps h is = λ why_is. absurd (other q h (ap why (sym is) ∙ why_is))
+kept_at P kept refused.Kept e Q other keeps h is = λ why_is. absurd (other kept h (ap why (sym is) ∙ why_is))
 
 pub unread_on : (P Q : Type 0) (u : Unread) → (P → Q) → UnreadOnly P u → UnreadOnly Q u
 unread_on P Q (Stopped e) on h = λ is. on (h is)
@@ -134,7 +131,7 @@ module _ (a : Asks) (f : Formats) (l : Limits) (inner : Option (List ℕ → Rea
   bytes_ask (Some n) = bytes_always (λ r. asks_string a (untagged r) ≡ a.whole) f l inner w bs (λ c. refl) n
   bytes_ask None = bytes_chunks_always (λ r. asks_string a (untagged r) ≡ a.joined) f l inner w bs (λ cs. refl)
 
-module _ (allowed : ReadErrorCode → Bool) (a : Asks) (f : Formats) (levels : ℕ) (s m : Input) (kept : Option ReadError)
+module _ (allowed : ReadErrorCode → Bool) (a : Asks) (f : Formats) (levels : ℕ) (s m : Input) (kept : ReadError)
     (found : Found) (opens : Step s m (λ l bs rest. opened_at levels bs ≡ Ok ((found.levels, found.head), rest))) where
   abbrev Asked : Raw → Type 0
   Asked r = asks_string a (untagged r) ≡ true
@@ -213,10 +210,9 @@ memory_code reading.WrongStructFormat e = absurd cc
 memory_code reading.OutOfMemory e = refl
 
 -- the error of a refusal
-pub error_only : (P : Type 0) (kept : Option ReadError) (r : Refused) (e : Error) → IsErrorOf kept r e → MemoryOnly P kept r → code_of e ≡ code.OutOfMemory → P
+pub error_only : (P : Type 0) (kept : ReadError) (r : Refused) (e : Error) → IsErrorOf kept r e → MemoryOnly P kept r → code_of e ≡ code.OutOfMemory → P
 error_only P kept refused.OutOfMemory e made h is = h
-error_only P None refused.Kept e made h is = h
-error_only P (Some q) refused.Kept e made h is = h (memory_code (why q) (sym made.0 ∙ is))
+error_only P kept refused.Kept e made h is = h (memory_code (why kept) (sym made.0 ∙ is))
 
 -- the error of what lacks, where memory ran out
 pub made_memory : {A B : Type 0} (allowed : ReadErrorCode → Bool) (f : Formats) (reads : Raw → A → Type 0) (other : Raw → B → Type 0) (view : A → B) (levels : ℕ) (s t : Input) (asks : Asks → Raw → Type 0) (a : Asks) (asked : Raw → Type 0) (u : Unread) (e : Error)

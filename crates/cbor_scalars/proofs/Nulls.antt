@@ -216,7 +216,7 @@ module _ {A : Type 0} (allowed : ReadErrorCode → Bool) (f : Formats) (reads : 
       let same : limits m behind.rest ≡ limits s bs = ap₂ (λ (n : ℕ) (r : Option ℕ). record { total = n; room = r }) behind.total step.took.room in
       (got.means.0, h is behind.rest behind.tells x rest (record { item = got.item; is = ap₂ item same front.0 ∙ got.is; means = got.means.1 }))
 
-  pub option_stops : {t : Input} (kept : Option ReadError) (r : Refused) (e : Error) → IsErrorOf kept r e → Stopped allowed (λ l. null_at) s t kept r → Refuses allowed s t (code_of e) (offset_of e) (λ l bs. IsNotRead (IsOptional reads) (item l bs))
+  pub option_stops : {t : Input} (kept : ReadError) (r : Refused) (e : Error) → IsErrorOf kept r e → Stopped allowed (λ l. null_at) s t kept r → Refuses allowed s t (code_of e) (offset_of e) (λ l bs. IsNotRead (IsOptional reads) (item l bs))
   option_stops kept r e is stopped = refuses allowed (IsOptional reads) item s kept r e is (stopped_map allowed (λ l. null_at) item s kept r (λ l bs g stops. absurd (never bs g stops)) stopped)
 
 -- ---- the fault
@@ -234,5 +234,5 @@ module _ (allowed : ReadErrorCode → Bool) (levels : ℕ) (s : Input) where
       subst (λ (r : Reads Val). FaultOrMessage D k (s.offset + length bs) at r) (ap₂ (any_item levels) same (seen bs behind.rest behind.holds).0) here
 
   -- the source refused
-  pub unseen_whole : {t : Input} (kept : Option ReadError) (r : Refused) (e : Error) → Stopped allowed (λ l. null_at) s t kept r → IsErrorOf kept r e → RefusesWhole allowed levels s e
+  pub unseen_whole : {t : Input} (kept : ReadError) (r : Refused) (e : Error) → Stopped allowed (λ l. null_at) s t kept r → IsErrorOf kept r e → RefusesWhole allowed levels s e
   unseen_whole kept r e h is = stopped_whole allowed levels s kept r e (why_map allowed (λ l. null_at) (any_item levels) s kept r (λ l bs g stops. absurd (never bs g stops)) h.told) is

@@ -38,11 +38,11 @@ pub head_opens : (f : Formats) (s t : Input) (levels left : ℕ) (h : Head) → 
 head_opens f s t levels left h inner is step = step_map s t (λ l bs rest. (w : HeadWidth) × (opening_at bs ≡ Ok ((w, h), rest))) (λ l bs rest. Opens f l (item_at (raws f l) levels bs) left h rest)
     (λ l bs rest p. subst (λ (n : ℕ). Opens f l (item_at (raws f l) levels bs) n h rest) (sym is) (opens_here f l levels bs rest p.0 h inner p.1)) step
 
-pub head_stops : {t : Input} (allowed : ReadErrorCode → Bool) (f : Formats) (s : Input) (levels : ℕ) (kept : Option ReadError) (r : Refused) → Stopped allowed (λ l. opening_at) s t kept r → Stopped allowed (λ l. item_at (raws f l) levels) s t kept r
+pub head_stops : {t : Input} (allowed : ReadErrorCode → Bool) (f : Formats) (s : Input) (levels : ℕ) (kept : ReadError) (r : Refused) → Stopped allowed (λ l. opening_at) s t kept r → Stopped allowed (λ l. item_at (raws f l) levels) s t kept r
 head_stops allowed f s levels kept r h = stopped_map allowed (λ l. opening_at) (λ l. item_at (raws f l) levels) s kept r (λ l bs e is. item_opened (raws f l) levels bs ∙ rw is refl) h
 
 -- the first byte of a head, and the rest of it
-pub head_taken : (allowed : ReadErrorCode → Bool) (s t u : Input) (b : ℕ) (kept : Option ReadError) (r : Result Head Refused) → Step s t (λ l bs rest. byte_at bs ≡ Ok (b, rest)) → HeadGives allowed (head_at b) t u kept r → HeadGives allowed opening_at s u kept r
+pub head_taken : (allowed : ReadErrorCode → Bool) (s t u : Input) (b : ℕ) (kept : ReadError) (r : Result Head Refused) → Step s t (λ l bs rest. byte_at bs ≡ Ok (b, rest)) → HeadGives allowed (head_at b) t u kept r → HeadGives allowed opening_at s u kept r
 head_taken allowed s t u b kept (Ok h) first given =
     step_then s t u (λ l bs rest. byte_at bs ≡ Ok (b, rest)) (λ l bs rest. (w : HeadWidth) × (head_at b bs ≡ Ok ((w, h), rest))) (λ l bs rest. (w : HeadWidth) × (opening_at bs ≡ Ok ((w, h), rest)))
     (λ l bs mid rest here is. (is.0, rw here is.1)) first given
@@ -71,7 +71,7 @@ tag_opens f l levels left n w h bs mid rest is o = record {
 tag_stops : (f : Formats) (l : Limits) (levels n : ℕ) (w : HeadWidth) (bs mid : List ℕ) (e : Fault) → opening_at bs ≡ Ok ((w, head.Tag n), mid) → item_inside f l levels mid ≡ Err e → item_at (raws f l) levels bs ≡ Err e
 tag_stops f l levels n w bs mid e is stops = tag_read f l levels n w bs mid is ∙ rw stops refl
 
-pub behind_tag : (allowed : ReadErrorCode → Bool) (f : Formats) (s t u : Input) (levels left n : ℕ) (kept : Option ReadError) (r : Result Head Refused)
+pub behind_tag : (allowed : ReadErrorCode → Bool) (f : Formats) (s t u : Input) (levels left n : ℕ) (kept : ReadError) (r : Result Head Refused)
     → Step s t (λ l bs rest. (w : HeadWidth) × (opening_at bs ≡ Ok ((w, head.Tag n), rest))) → OpensAt allowed f (λ l. item_inside f l levels) t u left kept r → OpensAt allowed f (λ l. item_at (raws f l) levels) s u left kept r
 behind_tag allowed f s t u levels left n kept (Ok h) one two =
     step_then s t u (λ l bs rest. (w : HeadWidth) × (opening_at bs ≡ Ok ((w, head.Tag n), rest))) (λ l bs rest. Opens f l (item_inside f l levels bs) left h rest) (λ l bs rest. Opens f l (item_at (raws f l) levels bs) left h rest)
@@ -91,7 +91,7 @@ inside_is f l levels left bs is = ap (λ (n : ℕ). item_inside f l n bs) next
 pub inside_too_deep : (f : Formats) (l : Limits) (levels : ℕ) (bs : List ℕ) → levels ≡ 0 → item_inside f l levels bs ≡ Err (record { why = too_deep; left = length bs })
 inside_too_deep f l levels bs none = rw none refl
 
-pub inside_opens : (allowed : ReadErrorCode → Bool) (f : Formats) (s t u : Input) (levels inner left : ℕ) (kept : Option ReadError) (r : Result Head Refused) → levels ≡ inner + 1 → t ≡ s
+pub inside_opens : (allowed : ReadErrorCode → Bool) (f : Formats) (s t u : Input) (levels inner left : ℕ) (kept : ReadError) (r : Result Head Refused) → levels ≡ inner + 1 → t ≡ s
     → OpensAt allowed f (λ l. item_at (raws f l) inner) t u left kept r → OpensAt allowed f (λ l. item_inside f l levels) s u left kept r
 inside_opens allowed f s t u levels inner left kept (Ok h) is at step =
     step_map s u (λ l bs rest. Opens f l (item_at (raws f l) inner bs) left h rest) (λ l bs rest. Opens f l (item_inside f l levels bs) left h rest)
@@ -103,7 +103,7 @@ inside_opens allowed f s t u levels inner left kept (Err r) is at stops =
 
 -- a head that is no tag
 -- a short text is within no tag
-pub text_opened : (allowed : ReadErrorCode → Bool) (f : Formats) (s t : Input) (levels n : ℕ) (kept : Option ReadError) → Step s t (λ l bs rest. (w : HeadWidth) × (opening_at bs ≡ Ok ((w, head.Text (Some n)), rest))) → OpensItem allowed f levels s t kept (Ok (head.Text (Some n)))
+pub text_opened : (allowed : ReadErrorCode → Bool) (f : Formats) (s t : Input) (levels n : ℕ) (kept : ReadError) → Step s t (λ l bs rest. (w : HeadWidth) × (opening_at bs ≡ Ok ((w, head.Text (Some n)), rest))) → OpensItem allowed f levels s t kept (Ok (head.Text (Some n)))
 text_opened allowed f s t levels n kept step = (levels, head_opens f s t levels levels (head.Text (Some n)) (λ e. absurd cc) refl step)
 
 pub no_tag : (h : Head) → ((n : ℕ) → h ≡ head.Tag n → ⊥) → head_kind h ≡ kind.tag → ⊥

@@ -72,11 +72,11 @@ head_opened s t levels left h other is = step_map s t (λ l bs rest. (w : HeadWi
     (λ l bs rest p. subst (λ (n : ℕ). opened_at levels bs ≡ Ok ((n, h), rest)) (sym is) (opened_here levels bs rest p.0 h other p.1))
 
 -- no head
-pub head_unopened : {t : Input} (allowed : ReadErrorCode → Bool) (s : Input) (levels : ℕ) (kept : Option ReadError) (r : Refused) → Stopped allowed (λ l. opening_at) s t kept r → Stopped allowed (λ l. opened_at levels) s t kept r
+pub head_unopened : {t : Input} (allowed : ReadErrorCode → Bool) (s : Input) (levels : ℕ) (kept : ReadError) (r : Refused) → Stopped allowed (λ l. opening_at) s t kept r → Stopped allowed (λ l. opened_at levels) s t kept r
 head_unopened allowed s levels kept r = stopped_map allowed (λ l. opening_at) (λ l. opened_at levels) s kept r (λ l bs e is. opened_stops levels bs e is)
 
 -- after a tag's head
-pub tag_found : {X : Type 0} (view : X → ℕ × Head) (allowed : ReadErrorCode → Bool) (s t u : Input) (levels n : ℕ) (kept : Option ReadError) (r : Result X Refused)
+pub tag_found : {X : Type 0} (view : X → ℕ × Head) (allowed : ReadErrorCode → Bool) (s t u : Input) (levels n : ℕ) (kept : ReadError) (r : Result X Refused)
     → Step s t (λ l bs rest. (w : HeadWidth) × (opening_at bs ≡ Ok ((w, head.Tag n), rest))) → Gives {X = X} {A = ℕ × Head} allowed view (λ l. opened_inside levels) t u kept r → Gives {X = X} {A = ℕ × Head} allowed view (λ l. opened_at levels) s u kept r
 tag_found view allowed s t u levels n kept (Ok x) one two =
     step_then s t u (λ l bs rest. (w : HeadWidth) × (opening_at bs ≡ Ok ((w, head.Tag n), rest))) (λ l bs rest. opened_inside levels bs ≡ Ok (view x, rest)) (λ l bs rest. opened_at levels bs ≡ Ok (view x, rest))
@@ -85,12 +85,12 @@ tag_found view allowed s t u levels n kept (Err r) one two =
     stopped_then allowed (λ l. opened_inside levels) (λ l. opened_at levels) s t kept r (λ l bs rest. (w : HeadWidth) × (opening_at bs ≡ Ok ((w, head.Tag n), rest)))
     (λ l bs mid e p is. opened_in_tag levels n bs mid p.0 p.1 ∙ is) one two
 
-pub tag_opened : (allowed : ReadErrorCode → Bool) (s t u : Input) (levels left n : ℕ) (kept : Option ReadError) (r : Result Head Refused)
+pub tag_opened : (allowed : ReadErrorCode → Bool) (s t u : Input) (levels left n : ℕ) (kept : ReadError) (r : Result Head Refused)
     → Step s t (λ l bs rest. (w : HeadWidth) × (opening_at bs ≡ Ok ((w, head.Tag n), rest))) → Gives {X = Head} {A = ℕ × Head} allowed (λ h. (left, h)) (λ l. opened_inside levels) t u kept r → Gives {X = Head} {A = ℕ × Head} allowed (λ h. (left, h)) (λ l. opened_at levels) s u kept r
 tag_opened allowed s t u levels left n kept r one two = tag_found (λ (h : Head). (left, h)) allowed s t u levels n kept r one two
 
 -- one level further in
-pub inside_opened : (allowed : ReadErrorCode → Bool) (s t u : Input) (levels next left : ℕ) (kept : Option ReadError) (r : Result Head Refused) → levels ≡ next + 1 → t ≡ s
+pub inside_opened : (allowed : ReadErrorCode → Bool) (s t u : Input) (levels next left : ℕ) (kept : ReadError) (r : Result Head Refused) → levels ≡ next + 1 → t ≡ s
     → Gives {X = Head} {A = ℕ × Head} allowed (λ h. (left, h)) (λ l. opened_at next) t u kept r → Gives {X = Head} {A = ℕ × Head} allowed (λ h. (left, h)) (λ l. opened_inside levels) s u kept r
 inside_opened allowed s t u levels next left kept (Ok h) is at step =
     step_map s u (λ l bs rest. opened_at next bs ≡ Ok ((left, h), rest)) (λ l bs rest. opened_inside levels bs ≡ Ok ((left, h), rest))

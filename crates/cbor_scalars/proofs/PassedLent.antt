@@ -1,5 +1,5 @@
 -- Strings that are lent, and items of other kinds that are passed over.
-use Rattle.std.proofs.Common.{◌≡◌, inl, inr, ◌+◌, ◌-◌, ◌^◌, ◌<◌, ℕ, Bool, true, false, ltb, IsSomeAnd, List, length, Option, Some, None, Result, Ok, Err, IfErr, refl, sym, ap, subst, ◌∙◌, arith}
+use Rattle.std.proofs.Common.{◌≡◌, inl, inr, ◌+◌, ◌-◌, ◌^◌, ◌<◌, ℕ, Bool, true, false, ltb, List, length, Option, Some, None, Result, Ok, Err, IfErr, refl, sym, ap, subst, ◌∙◌, arith}
 use Rattle.std.specs.Str.{IsUtf8}
 use Rattle.std.proofs.lemmas.Bool.{lt-ltb}
 use Rattle.cbor_model.specs.Refusal.{length_out_of_range}
@@ -48,25 +48,20 @@ memory_stop allowed read s q is = record {
 }
 
 -- the refusal that was kept
-pub kept_stop : {A : Type 0} (allowed : ReadErrorCode → Bool) (read : Limits → List ℕ → Reads A) (s : Input) (kept : Option ReadError) (r : Refused) (q : ReadError) → IsKept kept r q → TellsWhy allowed read s kept r → Stops allowed read s q
-kept_stop allowed read s None refused.OutOfMemory q is h = memory_stop allowed read s q is
-kept_stop allowed read s (Some e) refused.OutOfMemory q is h = memory_stop allowed read s q is
-kept_stop allowed read s None refused.Kept q is h = memory_stop allowed read s q is
-kept_stop allowed read s (Some e) refused.Kept q is h = subst (Stops allowed read s) (sym is) h
+pub kept_stop : {A : Type 0} (allowed : ReadErrorCode → Bool) (read : Limits → List ℕ → Reads A) (s : Input) (kept : ReadError) (r : Refused) (q : ReadError) → IsKept kept r q → TellsWhy allowed read s kept r → Stops allowed read s q
+kept_stop allowed read s kept refused.OutOfMemory q is h = memory_stop allowed read s q is
+kept_stop allowed read s kept refused.Kept q is h = subst (Stops allowed read s) (sym is) h
 
-pub kept_is : (kept : Option ReadError) (r : Refused) (q : ReadError) (Q : ReadError → Type 0) → r ≡ refused.Kept → IsSomeAnd kept Q → IsKept kept r q → Q q
+pub kept_is : (kept : ReadError) (r : Refused) (q : ReadError) (Q : ReadError → Type 0) → r ≡ refused.Kept → Q kept → IsKept kept r q → Q q
 kept_is kept refused.OutOfMemory q Q keeps h is = absurd cc
-kept_is None refused.Kept q Q keeps h is = absurd h
-kept_is (Some e) refused.Kept q Q keeps h is = subst Q (sym is) h
+kept_is kept refused.Kept q Q keeps h is = subst Q (sym is) h
 
 pub source_no_key : (q : ReadError) → IsOfSource (why q) → IsNoKey (Halted q)
 source_no_key q kind = λ key. absurd (subst IsOfSource key kind)
 
-pub kept_no_key : (kept : Option ReadError) (r : Refused) (q : ReadError) → IsKept kept r q → TellsNoKey kept r → IsNoKey (Halted q)
-kept_no_key None refused.OutOfMemory q is h = λ key. let memory = is.0 in absurd cc
-kept_no_key (Some e) refused.OutOfMemory q is h = λ key. let memory = is.0 in absurd cc
-kept_no_key None refused.Kept q is h = λ key. let memory = is.0 in absurd cc
-kept_no_key (Some e) refused.Kept q is h = λ key. h (ap why (sym is) ∙ key)
+pub kept_no_key : (kept : ReadError) (r : Refused) (q : ReadError) → IsKept kept r q → TellsNoKey kept r → IsNoKey (Halted q)
+kept_no_key kept refused.OutOfMemory q is h = λ key. let memory = is.0 in absurd cc
+kept_no_key kept refused.Kept q is h = λ key. h (ap why (sym is) ∙ key)
 
 -- what stops a reading leaves nothing that is read
 pub stops_refuses : {A : Type 0} {t : Input} (allowed : ReadErrorCode → Bool) (read : Limits → List ℕ → Reads A) (s : Input) (q : ReadError) (N : Limits → List ℕ → Type 0) → ((l : Limits) (bs : List ℕ) (f : Fault) → read l bs ≡ Err f → N l bs) → Stops allowed read s q
@@ -106,7 +101,7 @@ text_cut allowed s t n q room h =
           subst (λ (r : Reads (List ℕ)). FailsBy (Reports allowed) (error_code (why q)) (s.offset + length bs) (place q) r) same (bytes.told bs tells);
     }
 
-pub text_too_long : (allowed : ReadErrorCode → Bool) (s : Input) (n : ℕ) (kept : Option ReadError) (r : Refused) → ltb (s.offset + n) (2 ^ 64) ≡ false → r ≡ refused.Kept → IsSomeAnd kept (IsAt reading.LengthOutOfRange s.offset) → TellsWhy allowed (λ l. content_at l (head.Text (Some n))) s kept r
+pub text_too_long : (allowed : ReadErrorCode → Bool) (s : Input) (n : ℕ) (kept : ReadError) (r : Refused) → ltb (s.offset + n) (2 ^ 64) ≡ false → r ≡ refused.Kept → IsAt reading.LengthOutOfRange s.offset kept → TellsWhy allowed (λ l. content_at l (head.Text (Some n))) s kept r
 text_too_long allowed s n kept r room is keeps = kept_tells allowed s (λ l. content_at l (head.Text (Some n))) kept r (IsAt reading.LengthOutOfRange s.offset) here is keeps
   where
     here : (e : ReadError) → IsAt reading.LengthOutOfRange s.offset e → Stops allowed (λ l. content_at l (head.Text (Some n))) s e
@@ -120,10 +115,10 @@ text_too_long allowed s n kept r room is keeps = kept_tells allowed s (λ l. con
 
 -- a string whose content stops
 pub bytes_by : (allowed : ReadErrorCode → Bool) (s : Input) (n : Option ℕ) (q : ReadError) → Stops allowed (λ l. content_at l (head.Bytes n)) s q → UnreadBy allowed (behind_string (head.Bytes n)) s (Halted q)
-bytes_by allowed s n q h = bytes_unread allowed s n (Some q) refused.Kept h
+bytes_by allowed s n q h = bytes_unread allowed s n q refused.Kept h
 
 pub text_by : (allowed : ReadErrorCode → Bool) (s : Input) (n : Option ℕ) (q : ReadError) → Stops allowed (λ l. content_at l (head.Text n)) s q → UnreadBy allowed (behind_string (head.Text n)) s (Halted q)
-text_by allowed s n q h = text_unread allowed s n (Some q) refused.Kept h
+text_by allowed s n q h = text_unread allowed s n q refused.Kept h
 
 -- what stops a reading stops passing over it
 passes_stop : {A : Type 0} (allowed : ReadErrorCode → Bool) (read : Limits → List ℕ → Reads A) (s : Input) (q : ReadError) → Stops allowed read s q → Stops allowed (λ l bs. passed (read l bs)) s q
@@ -147,12 +142,12 @@ part_told allowed s t n p end (Err Other) step same is = absurd is
 module _ (allowed : ReadErrorCode → Bool) (found : Found) (levels : ℕ) (s m : Input) (opens : Step s m (λ l bs rest. opened_at levels bs ≡ Ok ((found.levels, found.head), rest))) where
   pub text_lends : (lends : Lends) (n : Option ℕ) (t : Input) (r : Result EitherStr Unread) → found.head ≡ head.Text n → LentText allowed lends (head.Text n) m t r → IfErr r (UnreadBy allowed (behind_string (head.Text n)) m) → LendsWhole allowed levels s r
   text_lends lends n t (Ok x) is lent by = text_stands allowed found levels s m opens n t (text_bytes x) is lent.1 lent.0
-  text_lends lends n t (Err (Halted q)) is lent by = text_stops allowed found levels s m opens n (Some q) refused.Kept is by
+  text_lends lends n t (Err (Halted q)) is lent by = text_stops allowed found levels s m opens n q refused.Kept is by
   text_lends lends n t (Err Other) is lent by = absurd by
 
   pub bytes_lends : (lends : Lends) (n : Option ℕ) (t : Input) (r : Result EitherLifetime Unread) → found.head ≡ head.Bytes n → Lent allowed lends (head.Bytes n) m t r → IfErr r (UnreadBy allowed (behind_string (head.Bytes n)) m) → LendsWhole allowed levels s r
   bytes_lends lends n t (Ok p) is lent by = bytes_stand allowed found levels s m opens n t (part_bytes p) is lent.0
-  bytes_lends lends n t (Err (Halted q)) is lent by = bytes_stop_item allowed found levels s m opens n (Some q) refused.Kept is by
+  bytes_lends lends n t (Err (Halted q)) is lent by = bytes_stop_item allowed found levels s m opens n q refused.Kept is by
   bytes_lends lends n t (Err Other) is lent by = absurd by
 
   pub utf8_lends : (lends : Lends) (n : Option ℕ) (t : Input) (p : EitherLifetime) (r : Result EitherStr Unread) → found.head ≡ head.Bytes n → Lent allowed lends (head.Bytes n) m t (Ok p) → Utf8Of p r → LendsWhole allowed levels s r
@@ -164,10 +159,10 @@ module _ (allowed : ReadErrorCode → Bool) (found : Found) (levels : ℕ) (s m 
   bytes_of_lends lends n t x (Err u) is lent of = absurd of
 
   pub other_lends : (u : Unread) → UnreadBehind allowed found m u → UnreadWhole allowed levels s u
-  other_lends (Halted q) h = behind_stops allowed found levels s m (Some q) refused.Kept opens (passes_stop allowed (behind_any found.levels found.head) m q h)
+  other_lends (Halted q) h = behind_stops allowed found levels s m q refused.Kept opens (passes_stop allowed (behind_any found.levels found.head) m q h)
   other_lends Other h = stood_stands allowed found levels s m opens h
 
-pub unopened_lends : (allowed : ReadErrorCode → Bool) (levels : ℕ) (s : Input) (kept : Option ReadError) (r : Refused) (q : ReadError) → TellsWhy allowed (λ l. opened_at levels) s kept r → IsKept kept r q → Stops allowed (any_item levels) s q
+pub unopened_lends : (allowed : ReadErrorCode → Bool) (levels : ℕ) (s : Input) (kept : ReadError) (r : Refused) (q : ReadError) → TellsWhy allowed (λ l. opened_at levels) s kept r → IsKept kept r q → Stops allowed (any_item levels) s q
 unopened_lends allowed levels s kept r q h is = kept_stop allowed (any_item levels) s kept r q is (unopened_stops allowed levels s kept r h)
 
 -- ---- errors

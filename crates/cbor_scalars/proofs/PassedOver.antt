@@ -115,18 +115,18 @@ message_of D k end at (Err f) x is h = absurd cc
 pub told_whole : (allowed : ReadErrorCode → Bool) (levels : ℕ) (s : Input) (e : Error) → TellsFault allowed (any_item levels) s e → RefusesWhole allowed levels s e
 told_whole allowed levels s e h bs tells = told_or_excused (Reports allowed) (code_of e) (s.offset + length bs) (offset_of e) (any_item levels (limits s bs) bs) (h bs tells)
 
-pub stopped_whole : (allowed : ReadErrorCode → Bool) (levels : ℕ) (s : Input) (kept : Option ReadError) (r : Refused) (e : Error) → TellsWhy allowed (any_item levels) s kept r → IsErrorOf kept r e → RefusesWhole allowed levels s e
+pub stopped_whole : (allowed : ReadErrorCode → Bool) (levels : ℕ) (s : Input) (kept : ReadError) (r : Refused) (e : Error) → TellsWhy allowed (any_item levels) s kept r → IsErrorOf kept r e → RefusesWhole allowed levels s e
 stopped_whole allowed levels s kept r e h is = told_whole allowed levels s e (told_why allowed (any_item levels) s kept r e is h)
 
 -- no head within all tags
-pub unopened_stops : (allowed : ReadErrorCode → Bool) (levels : ℕ) (s : Input) (kept : Option ReadError) (r : Refused) → TellsWhy allowed (λ l. opened_at levels) s kept r → TellsWhy allowed (any_item levels) s kept r
+pub unopened_stops : (allowed : ReadErrorCode → Bool) (levels : ℕ) (s : Input) (kept : ReadError) (r : Refused) → TellsWhy allowed (λ l. opened_at levels) s kept r → TellsWhy allowed (any_item levels) s kept r
 unopened_stops allowed levels s kept r h = why_map allowed (λ l. opened_at levels) (any_item levels) s kept r (λ l bs f is. found_stops l levels bs f is) h
 
-pub unopened_whole : (allowed : ReadErrorCode → Bool) (levels : ℕ) (s : Input) (kept : Option ReadError) (r : Refused) (e : Error) → TellsWhy allowed (λ l. opened_at levels) s kept r → IsErrorOf kept r e → RefusesWhole allowed levels s e
+pub unopened_whole : (allowed : ReadErrorCode → Bool) (levels : ℕ) (s : Input) (kept : ReadError) (r : Refused) (e : Error) → TellsWhy allowed (λ l. opened_at levels) s kept r → IsErrorOf kept r e → RefusesWhole allowed levels s e
 unopened_whole allowed levels s kept r e h is = stopped_whole allowed levels s kept r e (unopened_stops allowed levels s kept r h) is
 
 -- no head at the front
-pub headless_whole : (allowed : ReadErrorCode → Bool) (levels : ℕ) (s : Input) (kept : Option ReadError) (r : Refused) (e : Error) → TellsWhy allowed (λ l. opening_at) s kept r → IsErrorOf kept r e → RefusesWhole allowed levels s e
+pub headless_whole : (allowed : ReadErrorCode → Bool) (levels : ℕ) (s : Input) (kept : ReadError) (r : Refused) (e : Error) → TellsWhy allowed (λ l. opening_at) s kept r → IsErrorOf kept r e → RefusesWhole allowed levels s e
 headless_whole allowed levels s kept r e h is =
     stopped_whole allowed levels s kept r e (why_map allowed (λ l. opening_at) (any_item levels) s kept r (λ l bs f none. head_stops_any l levels bs f none) h) is
 
@@ -153,7 +153,7 @@ module _ (allowed : ReadErrorCode → Bool) (found : Found) where
   abbrev passes : Limits → List ℕ → Reads (Unit {0})
   passes l bs = passed (behind l bs)
 
-  pub behind_stopped : (s : Input) (kept : Option ReadError) (r : Refused) (e : Error) → TellsWhy allowed passes s kept r → IsErrorOf kept r e → RefusesBehind allowed found s e
+  pub behind_stopped : (s : Input) (kept : ReadError) (r : Refused) (e : Error) → TellsWhy allowed passes s kept r → IsErrorOf kept r e → RefusesBehind allowed found s e
   behind_stopped s kept r e h is bs tells =
       let l = limits s bs in
       let D = Reports allowed in
@@ -209,7 +209,7 @@ module _ (allowed : ReadErrorCode → Bool) (found : Found) where
       let was = passed_was (any_item levels l bs) item.1 (found_is l levels found.levels found.head bs one.rest one.holds ∙ ap (λ (r : Reads Val). passed r) here) in
       (was.0, item.1, was.1)
 
-  pub behind_stops : (levels : ℕ) (s m : Input) (kept : Option ReadError) (r : Refused) → Step s m (Follows levels) → TellsWhy allowed passes m kept r → TellsWhy allowed (any_item levels) s kept r
+  pub behind_stops : (levels : ℕ) (s m : Input) (kept : ReadError) (r : Refused) → Step s m (Follows levels) → TellsWhy allowed passes m kept r → TellsWhy allowed (any_item levels) s kept r
   behind_stops levels s m kept r step h = why_then allowed passes (any_item levels) s m kept r (Follows levels) (λ l bs mid f is stops. passed_stops (any_item levels l bs) f (found_is l levels found.levels found.head bs mid is ∙ stops)) step h
 
 -- a number is whole with its head

@@ -1,5 +1,5 @@
 -- Strings that are passed over after their heads.
-use Rattle.std.proofs.Common.{◌≡◌, ◌+◌, ◌-◌, ℕ, Bool, List, length, Option, Some, None, IsSomeAnd, Result, Ok, Err, IfErr, refl, sym, ap, subst, ◌∙◌, arith}
+use Rattle.std.proofs.Common.{◌≡◌, ◌+◌, ◌-◌, ℕ, Bool, List, length, Option, Some, None, Result, Ok, Err, IfErr, refl, sym, ap, subst, ◌∙◌, arith}
 use Rattle.std.specs.Str.{IsUtf8}
 use Rattle.std.specs.Str.Lossy.{utf8_valid_len}
 use Rattle.cbor_model.specs.Formats.{all_formats}
@@ -74,13 +74,12 @@ module _ (l : Limits) (left : ℕ) where
 -- ---- errors
 
 -- the error of a kept refusal of bytes that aren't UTF-8
-pub kept_bad : (kept : Option ReadError) (b : List ℕ) (end back : ℕ) (e : Error) → (IsUtf8 b → ⊥) → back ≡ length b - utf8_valid_len b
-    → IsSomeAnd kept (λ q. (why q ≡ reading.InvalidUtf8) × (place q + back ≡ end)) → IsErrorOf kept refused.Kept e → IsNotUtf8 b end e
-kept_bad None b end back e bad long kept is = absurd kept
-kept_bad (Some q) b end back e bad long kept is = record {
+pub kept_bad : (kept : ReadError) (b : List ℕ) (end back : ℕ) (e : Error) → (IsUtf8 b → ⊥) → back ≡ length b - utf8_valid_len b
+    → (why kept ≡ reading.InvalidUtf8) × (place kept + back ≡ end) → IsErrorOf kept refused.Kept e → IsNotUtf8 b end e
+kept_bad kept b end back e bad long at is = record {
   bad = bad;
-  code = is.0 ∙ ap error_code kept.0;
-  place = ap (λ (n : ℕ). n + (length b - utf8_valid_len b)) is.1 ∙ ap (λ (n : ℕ). place q + n) (sym long) ∙ kept.1;
+  code = is.0 ∙ ap error_code at.0;
+  place = ap (λ (n : ℕ). n + (length b - utf8_valid_len b)) is.1 ∙ ap (λ (n : ℕ). place kept + n) (sym long) ∙ at.1;
 }
 
 -- of bytes that aren't UTF-8
@@ -97,18 +96,18 @@ text_told allowed s t n b e step is bs tells =
     subst (λ (k : ErrorCode). FailsBy (Reports allowed) k (s.offset + length bs) (offset_of e) (behind_string (head.Text n) (limits s bs) bs)) (sym is.code)
     (bad_fails allowed s t n b (offset_of e) step is.bad is.place bs tells)
 
-pub checked_told : {X : Type 0} (view : X → List ℕ) (allowed : ReadErrorCode → Bool) (s t : Input) (n : Option ℕ) (b : List ℕ) (kept : Option ReadError) (r : Result X Refused) → Step s t (λ l bs rest. content_at l (head.Text n) bs ≡ Ok (b, rest)) → KeepsTextOf view b t.offset kept r
+pub checked_told : {X : Type 0} (view : X → List ℕ) (allowed : ReadErrorCode → Bool) (s t : Input) (n : Option ℕ) (b : List ℕ) (kept : ReadError) (r : Result X Refused) → Step s t (λ l bs rest. content_at l (head.Text n) bs ≡ Ok (b, rest)) → KeepsTextOf view b t.offset kept r
     → IfErr r (TellsString allowed (head.Text n) s kept)
 checked_told view allowed s t n b kept (Ok x) step is = tt
 checked_told view allowed s t n b kept (Err r) step is = λ e made. text_told allowed s t n b e step (is e made)
 
-pub text_unread : (allowed : ReadErrorCode → Bool) (s : Input) (n : Option ℕ) (kept : Option ReadError) (r : Refused) → TellsWhy allowed (λ l. content_at l (head.Text n)) s kept r → TellsWhy allowed (behind_string (head.Text n)) s kept r
+pub text_unread : (allowed : ReadErrorCode → Bool) (s : Input) (n : Option ℕ) (kept : ReadError) (r : Refused) → TellsWhy allowed (λ l. content_at l (head.Text n)) s kept r → TellsWhy allowed (behind_string (head.Text n)) s kept r
 text_unread allowed s n kept r h = why_map allowed (λ l. content_at l (head.Text n)) (behind_string (head.Text n)) s kept r (λ l bs f is. text_fails l 0 n bs f is) h
 
-pub bytes_unread : (allowed : ReadErrorCode → Bool) (s : Input) (n : Option ℕ) (kept : Option ReadError) (r : Refused) → TellsWhy allowed (λ l. content_at l (head.Bytes n)) s kept r → TellsWhy allowed (behind_string (head.Bytes n)) s kept r
+pub bytes_unread : (allowed : ReadErrorCode → Bool) (s : Input) (n : Option ℕ) (kept : ReadError) (r : Refused) → TellsWhy allowed (λ l. content_at l (head.Bytes n)) s kept r → TellsWhy allowed (behind_string (head.Bytes n)) s kept r
 bytes_unread allowed s n kept r h = why_map allowed (λ l. content_at l (head.Bytes n)) (behind_string (head.Bytes n)) s kept r (λ l bs f is. bytes_fail l 0 n bs f is) h
 
-pub text_tells : (allowed : ReadErrorCode → Bool) (s : Input) (n : Option ℕ) (kept : Option ReadError) (r : Refused) → TellsWhy allowed (λ l. content_at l (head.Text n)) s kept r → TellsString allowed (head.Text n) s kept r
+pub text_tells : (allowed : ReadErrorCode → Bool) (s : Input) (n : Option ℕ) (kept : ReadError) (r : Refused) → TellsWhy allowed (λ l. content_at l (head.Text n)) s kept r → TellsString allowed (head.Text n) s kept r
 text_tells allowed s n kept r h e is = told_why allowed (behind_string (head.Text n)) s kept r e is (text_unread allowed s n kept r h)
 
 -- ---- the item at the front
@@ -129,7 +128,7 @@ module _ (allowed : ReadErrorCode → Bool) (found : Found) (levels : ℕ) (s m 
   pub text_whole : (n : Option ℕ) (e : Error) → found.head ≡ head.Text n → TellsFault allowed (behind_string (head.Text n)) m e → RefusesWhole allowed levels s e
   text_whole n e is = string_whole (head.Text n) e is (λ l bs. text_level l found.levels n bs)
 
-  pub bytes_whole : (n : Option ℕ) (kept : Option ReadError) (r : Refused) (e : Error) → found.head ≡ head.Bytes n → TellsWhy allowed (λ l. content_at l (head.Bytes n)) m kept r → IsErrorOf kept r e → RefusesWhole allowed levels s e
+  pub bytes_whole : (n : Option ℕ) (kept : ReadError) (r : Refused) (e : Error) → found.head ≡ head.Bytes n → TellsWhy allowed (λ l. content_at l (head.Bytes n)) m kept r → IsErrorOf kept r e → RefusesWhole allowed levels s e
   bytes_whole n kept r e is h made = string_whole (head.Bytes n) e is (λ l bs. bytes_level l found.levels n bs) (told_why allowed (behind_string (head.Bytes n)) m kept r e made (bytes_unread allowed m n kept r h))
 
   pub bytes_stand : (n : Option ℕ) (t : Input) (b : List ℕ) → found.head ≡ head.Bytes n → Step m t (λ l bs rest. content_at l (head.Bytes n) bs ≡ Ok (b, rest)) → Stands levels s
@@ -145,14 +144,14 @@ module _ (allowed : ReadErrorCode → Bool) (found : Found) (levels : ℕ) (s m 
       (λ l bs rest here. ap (λ (h : Head). passed (behind_any found.levels h l bs)) is ∙ text_passed l found.levels n bs b rest here utf8) step)
 
   -- what follows the head stops the item
-  string_stops : (h : Head) (kept : Option ReadError) (r : Refused) → found.head ≡ h → ((l : Limits) (bs : List ℕ) → behind_string h l bs ≡ behind_any found.levels h l bs) → TellsWhy allowed (behind_string h) m kept r → TellsWhy allowed (any_item levels) s kept r
+  string_stops : (h : Head) (kept : ReadError) (r : Refused) → found.head ≡ h → ((l : Limits) (bs : List ℕ) → behind_string h l bs ≡ behind_any found.levels h l bs) → TellsWhy allowed (behind_string h) m kept r → TellsWhy allowed (any_item levels) s kept r
   string_stops h kept r is level stopped =
       behind_stops allowed found levels s m kept r opens
       (why_map allowed (behind_string h) (λ l bs. passed (behind_any found.levels found.head l bs)) m kept r
       (λ l bs f here. ap (λ (r : Reads Val). passed r) (ap (λ (h : Head). behind_any found.levels h l bs) is ∙ sym (level l bs) ∙ here)) stopped)
 
-  pub text_stops : (n : Option ℕ) (kept : Option ReadError) (r : Refused) → found.head ≡ head.Text n → TellsWhy allowed (behind_string (head.Text n)) m kept r → TellsWhy allowed (any_item levels) s kept r
+  pub text_stops : (n : Option ℕ) (kept : ReadError) (r : Refused) → found.head ≡ head.Text n → TellsWhy allowed (behind_string (head.Text n)) m kept r → TellsWhy allowed (any_item levels) s kept r
   text_stops n kept r is = string_stops (head.Text n) kept r is (λ l bs. text_level l found.levels n bs)
 
-  pub bytes_stop_item : (n : Option ℕ) (kept : Option ReadError) (r : Refused) → found.head ≡ head.Bytes n → TellsWhy allowed (behind_string (head.Bytes n)) m kept r → TellsWhy allowed (any_item levels) s kept r
+  pub bytes_stop_item : (n : Option ℕ) (kept : ReadError) (r : Refused) → found.head ≡ head.Bytes n → TellsWhy allowed (behind_string (head.Bytes n)) m kept r → TellsWhy allowed (any_item levels) s kept r
   bytes_stop_item n kept r is = string_stops (head.Bytes n) kept r is (λ l bs. bytes_level l found.levels n bs)

@@ -50,7 +50,7 @@ module _ {Item Items Pairs : Type 0} (m : Reading Item Items Pairs) where
           item_first m levels b mid ∙ tag_first (inside m levels) b mid byte.0 byte.1 ∙ not_entered levels (width_of (b % 32)) (number_behind (b % 32) mid) e h
       by false begins h = absurd cc
 
-pub tag_refused : {t : Input} (allowed : ReadErrorCode → Bool) (f : Formats) (s : Input) (levels : ℕ) (kept : Option ReadError) (r : Refused) → Stopped allowed (λ l. tag_head_at levels) s t kept r → Stopped allowed (λ l. item_at (raws f l) levels) s t kept r
+pub tag_refused : {t : Input} (allowed : ReadErrorCode → Bool) (f : Formats) (s : Input) (levels : ℕ) (kept : ReadError) (r : Refused) → Stopped allowed (λ l. tag_head_at levels) s t kept r → Stopped allowed (λ l. item_at (raws f l) levels) s t kept r
 tag_refused allowed f s levels kept r = stopped_map allowed (λ l. tag_head_at levels) (λ l. item_at (raws f l) levels) s kept r (λ l bs e is. tag_stops (raws f l) levels bs e is)
 
 -- ---- a tag, and those within
@@ -77,7 +77,7 @@ module _ (f : Formats) (levels left n : ℕ) (one : levels ≡ left + 1) where
     none = h.none;
   }
 
-  pub tags_more : (allowed : ReadErrorCode → Bool) (s t u : Input) (inner : ℕ) (kept : Option ReadError) (r : Result (Unit {0}) Refused)
+  pub tags_more : (allowed : ReadErrorCode → Bool) (s t u : Input) (inner : ℕ) (kept : ReadError) (r : Result (Unit {0}) Refused)
       → Step s t (λ l bs rest. tag_head_at levels bs ≡ Ok (Some n, rest)) → PassesAll allowed f left t u inner kept r → PassesAll allowed f levels s u inner kept r
   tags_more allowed s t u inner kept (Ok x) step h =
       step_then s t u IsTag (λ l bs rest. IsBehindTags f l (item_at (raws f l) left bs) inner rest) (λ l bs rest. IsBehindTags f l (item_at (raws f l) levels bs) inner rest)
@@ -112,10 +112,10 @@ pub pass_none : (s t : Input) (levels left : ℕ) → left ≡ levels → Step s
 pass_none s t levels left is = step_map s t (λ l bs rest. tag_head_at levels bs ≡ Ok (None, rest)) (λ l bs rest. passed_at levels bs ≡ Ok (left, rest))
     (λ l bs rest none. passed_is levels bs ∙ ap (after levels) none ∙ ap (λ (k : ℕ). Ok (k, rest)) (sym is))
 
-pub pass_stopped : {t : Input} (allowed : ReadErrorCode → Bool) (s : Input) (levels : ℕ) (kept : Option ReadError) (r : Refused) → Stopped allowed (λ l. tag_head_at levels) s t kept r → Stopped allowed (λ l. passed_at levels) s t kept r
+pub pass_stopped : {t : Input} (allowed : ReadErrorCode → Bool) (s : Input) (levels : ℕ) (kept : ReadError) (r : Refused) → Stopped allowed (λ l. tag_head_at levels) s t kept r → Stopped allowed (λ l. passed_at levels) s t kept r
 pass_stopped allowed s levels kept r = stopped_map allowed (λ l. tag_head_at levels) (λ l. passed_at levels) s kept r (λ l bs e is. passed_is levels bs ∙ ap (after levels) is)
 
-pub pass_more : (allowed : ReadErrorCode → Bool) (s t u : Input) (levels left n inner : ℕ) (kept : Option ReadError) (r : Result (Unit {0}) Refused) → levels ≡ left + 1
+pub pass_more : (allowed : ReadErrorCode → Bool) (s t u : Input) (levels left n inner : ℕ) (kept : ReadError) (r : Result (Unit {0}) Refused) → levels ≡ left + 1
     → Step s t (λ l bs rest. tag_head_at levels bs ≡ Ok (Some n, rest)) → Gives {X = Unit {0}} {A = ℕ} allowed (λ x. inner) (λ l. passed_at left) t u kept r → Gives {X = Unit {0}} {A = ℕ} allowed (λ x. inner) (λ l. passed_at levels) s u kept r
 pass_more allowed s t u levels left n inner kept (Ok x) one step h =
     step_then s t u (λ l bs rest. tag_head_at levels bs ≡ Ok (Some n, rest)) (λ l bs rest. passed_at left bs ≡ Ok (inner, rest)) (λ l bs rest. passed_at levels bs ≡ Ok (inner, rest))

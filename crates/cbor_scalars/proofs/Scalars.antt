@@ -67,19 +67,18 @@ or_none D k at reads read (inl e) = inl e
 or_none D k at reads read (inr h) = inr (not_read reads read h.0 h.1)
 
 -- the error of a refusal tells the fault
-pub told_why : {A : Type 0} (allowed : ReadErrorCode → Bool) (read : Limits → List ℕ → Reads A) (s : Input) (kept : Option ReadError) (r : Refused) (e : Error) → IsErrorOf kept r e → TellsWhy allowed read s kept r → TellsFault allowed read s e
+pub told_why : {A : Type 0} (allowed : ReadErrorCode → Bool) (read : Limits → List ℕ → Reads A) (s : Input) (kept : ReadError) (r : Refused) (e : Error) → IsErrorOf kept r e → TellsWhy allowed read s kept r → TellsFault allowed read s e
 told_why allowed read s kept refused.OutOfMemory e is h bs tells = subst (λ (k : ErrorCode). FailsBy (Reports allowed) k (s.offset + length bs) (offset_of e) (read (limits s bs) bs)) (sym is.0) is.1
-told_why allowed read s None refused.Kept e is h bs tells = absurd h
-told_why allowed read s (Some q) refused.Kept e is h bs tells =
+told_why allowed read s kept refused.Kept e is h bs tells =
     let D = Reports allowed in
-    let there = subst (λ (k : ErrorCode). FailsBy D k (s.offset + length bs) (place q) (read (limits s bs) bs)) (sym is.0) (h.told bs tells) in
+    let there = subst (λ (k : ErrorCode). FailsBy D k (s.offset + length bs) (place kept) (read (limits s bs) bs)) (sym is.0) (h.told bs tells) in
     subst (λ (n : ℕ). FailsBy D (code_of e) (s.offset + length bs) n (read (limits s bs) bs)) (sym is.1) there
 
-pub told_by : {A : Type 0} {t : Input} (allowed : ReadErrorCode → Bool) (read : Limits → List ℕ → Reads A) (s : Input) (kept : Option ReadError) (r : Refused) (e : Error) → IsErrorOf kept r e → Stopped allowed read s t kept r → TellsFault allowed read s e
+pub told_by : {A : Type 0} {t : Input} (allowed : ReadErrorCode → Bool) (read : Limits → List ℕ → Reads A) (s : Input) (kept : ReadError) (r : Refused) (e : Error) → IsErrorOf kept r e → Stopped allowed read s t kept r → TellsFault allowed read s e
 told_by allowed read s kept r e is h = told_why allowed read s kept r e is h.told
 
 -- an error that is made of a refusal
-pub refuses : {A : Type 0} {t : Input} (allowed : ReadErrorCode → Bool) (reads : Raw → A → Type 0) (read : Limits → List ℕ → Reads Raw) (s : Input) (kept : Option ReadError) (r : Refused) (e : Error)
+pub refuses : {A : Type 0} {t : Input} (allowed : ReadErrorCode → Bool) (reads : Raw → A → Type 0) (read : Limits → List ℕ → Reads Raw) (s : Input) (kept : ReadError) (r : Refused) (e : Error)
     → IsErrorOf kept r e → Stopped allowed read s t kept r → Refuses allowed s t (code_of e) (offset_of e) (λ l bs. IsNotRead reads (read l bs))
 refuses allowed reads read s kept r e is h = record {
   took = h.took;
@@ -144,7 +143,7 @@ module _ {A : Type 0} (f : Formats) (reads : Raw → A → Type 0) (l : Limits) 
 
 -- ---- calls
 
-pub takes_scalar : {A : Type 0} (allowed : ReadErrorCode → Bool) (f : Formats) (reads : Raw → A → Type 0) (levels : ℕ) (s t : Input) (kept : Option ReadError) (h : Head) (x : A) (item : HeadWidth → Raw)
+pub takes_scalar : {A : Type 0} (allowed : ReadErrorCode → Bool) (f : Formats) (reads : Raw → A → Type 0) (levels : ℕ) (s t : Input) (kept : ReadError) (h : Head) (x : A) (item : HeadWidth → Raw)
     → ((l : Limits) (inner : Option (List ℕ → Reads Raw)) (w : HeadWidth) (mid : List ℕ) → behind_head (raws f l) inner w h mid ≡ Ok (item w, mid)) → ((w : HeadWidth) → reads (untagged (item w)) x)
     → OpensItem allowed f levels s t kept (Ok h) → Step s t (λ l bs rest. IsRead (PassesTags reads) (item_at (raws f l) levels bs) x rest)
 takes_scalar allowed f reads levels s t kept h x item whole means (left, step) =
@@ -152,7 +151,7 @@ takes_scalar allowed f reads levels s t kept h x item whole means (left, step) =
     (λ l bs rest o. opened_read f reads l (item_at (raws f l) levels bs) left h rest o (item o.width) rest x (whole l (inside (raws f l) left) o.width rest) (means o.width)) step
 
 -- an item of another kind isn't read, whatever the error
-pub scalar_unread : {A : Type 0} (allowed : ReadErrorCode → Bool) (f : Formats) (reads : Raw → A → Type 0) (levels : ℕ) (s t : Input) (kept : Option ReadError) (h : Head)
+pub scalar_unread : {A : Type 0} (allowed : ReadErrorCode → Bool) (f : Formats) (reads : Raw → A → Type 0) (levels : ℕ) (s t : Input) (kept : ReadError) (h : Head)
     → ((r : Raw) (x : A) → reads (untagged r) x → (kind_of r ≡ kind.tag → ⊥) → kind_of r ≡ head_kind h → ⊥)
     → OpensItem allowed f levels s t kept (Ok h) → (bs : List ℕ) → Tells s bs → IsNotRead (PassesTags reads) (item_at (raws f (limits s bs)) levels bs)
 scalar_unread allowed f reads levels s t kept h other (left, step) bs tells =
@@ -160,12 +159,12 @@ scalar_unread allowed f reads levels s t kept h other (left, step) bs tells =
     let o = (step.told bs tells).holds in
     other_kind f reads l (item_at (raws f l) levels bs) left h (step.told bs tells).rest o (λ r x means is. other r x means (λ tag. o.inner (sym is ∙ tag)) is)
 
-pub none_scalar : {A : Type 0} (allowed : ReadErrorCode → Bool) (f : Formats) (reads : Raw → A → Type 0) (levels : ℕ) (s t : Input) (kept : Option ReadError) (h : Head) (e : Error)
+pub none_scalar : {A : Type 0} (allowed : ReadErrorCode → Bool) (f : Formats) (reads : Raw → A → Type 0) (levels : ℕ) (s t : Input) (kept : ReadError) (h : Head) (e : Error)
     → ((r : Raw) (x : A) → reads (untagged r) x → (kind_of r ≡ kind.tag → ⊥) → kind_of r ≡ head_kind h → ⊥)
     → OpensItem allowed f levels s t kept (Ok h) → Refuses allowed s t (code_of e) (offset_of e) (λ l bs. IsNotRead (PassesTags reads) (item_at (raws f l) levels bs))
 none_scalar allowed f reads levels s t kept h e other opens = record { took = opens.1.took; told = λ bs tells. inr (scalar_unread allowed f reads levels s t kept h other opens bs tells) }
 
-pub stops_scalar : {A : Type 0} (allowed : ReadErrorCode → Bool) (f : Formats) (reads : Raw → A → Type 0) (levels : ℕ) (s t : Input) (kept : Option ReadError) (r : Refused) (e : Error)
+pub stops_scalar : {A : Type 0} (allowed : ReadErrorCode → Bool) (f : Formats) (reads : Raw → A → Type 0) (levels : ℕ) (s t : Input) (kept : ReadError) (r : Refused) (e : Error)
     → OpensItem allowed f levels s t kept (Err r) → IsErrorOf kept r e → Refuses allowed s t (code_of e) (offset_of e) (λ l bs. IsNotRead reads (item_at (raws f l) levels bs))
 stops_scalar allowed f reads levels s t kept r e (left, stops) is = refuses allowed reads (λ l. item_at (raws f l) levels) s kept r e is stops
 
@@ -294,17 +293,17 @@ abbrev pub bool_item : Bool → Simple
 bool_item false = false_item
 bool_item true = true_item
 
-pub bool_read : (allowed : ReadErrorCode → Bool) (f : Formats) (levels : ℕ) (s t : Input) (kept : Option ReadError) (b : Bool) → OpensItem allowed f levels s t kept (Ok (head.Bool b)) → Step s t (λ l bs rest. IsRead (PassesTags IsBool) (item_at (raws f l) levels bs) b rest)
+pub bool_read : (allowed : ReadErrorCode → Bool) (f : Formats) (levels : ℕ) (s t : Input) (kept : ReadError) (b : Bool) → OpensItem allowed f levels s t kept (Ok (head.Bool b)) → Step s t (λ l bs rest. IsRead (PassesTags IsBool) (item_at (raws f l) levels bs) b rest)
 bool_read allowed f levels s t kept false = takes_scalar allowed f IsBool levels s t kept (head.Bool false) false (λ w. raw.simple false_item) (λ l inner w mid. refl) (λ w. refl)
 bool_read allowed f levels s t kept true = takes_scalar allowed f IsBool levels s t kept (head.Bool true) true (λ w. raw.simple true_item) (λ l inner w mid. refl) (λ w. refl)
 
-pub float_read : (allowed : ReadErrorCode → Bool) (f : Formats) (levels : ℕ) (s t : Input) (kept : Option ReadError) (x : Float) → OpensItem allowed f levels s t kept (Ok (head.Float x)) → Step s t (λ l bs rest. IsRead (PassesTags IsFloatItem) (item_at (raws f l) levels bs) x rest)
+pub float_read : (allowed : ReadErrorCode → Bool) (f : Formats) (levels : ℕ) (s t : Input) (kept : ReadError) (x : Float) → OpensItem allowed f levels s t kept (Ok (head.Float x)) → Step s t (λ l bs rest. IsRead (PassesTags IsFloatItem) (item_at (raws f l) levels bs) x rest)
 float_read allowed f levels s t kept (Half n) = takes_scalar allowed f IsFloatItem levels s t kept (head.Float (Half n)) (Half n) (λ w. raw.float raw.half n) (λ l inner w mid. refl) (λ w. refl)
 float_read allowed f levels s t kept (Single n) = takes_scalar allowed f IsFloatItem levels s t kept (head.Float (Single n)) (Single n) (λ w. raw.float raw.single n) (λ l inner w mid. refl) (λ w. refl)
 float_read allowed f levels s t kept (Double n) = takes_scalar allowed f IsFloatItem levels s t kept (head.Float (Double n)) (Double n) (λ w. raw.float raw.double n) (λ l inner w mid. refl) (λ w. refl)
 
-pub null_read : (allowed : ReadErrorCode → Bool) (f : Formats) (levels : ℕ) (s t : Input) (kept : Option ReadError) → OpensItem allowed f levels s t kept (Ok head.Null) → Step s t (λ l bs rest. IsRead (PassesTags IsUnit) (item_at (raws f l) levels bs) tt rest)
+pub null_read : (allowed : ReadErrorCode → Bool) (f : Formats) (levels : ℕ) (s t : Input) (kept : ReadError) → OpensItem allowed f levels s t kept (Ok head.Null) → Step s t (λ l bs rest. IsRead (PassesTags IsUnit) (item_at (raws f l) levels bs) tt rest)
 null_read allowed f levels s t kept = takes_scalar allowed f IsUnit levels s t kept head.Null tt (λ w. raw.simple null_item) (λ l inner w mid. refl) (λ w. tt)
 
-pub undefined_read : (allowed : ReadErrorCode → Bool) (f : Formats) (levels : ℕ) (s t : Input) (kept : Option ReadError) → OpensItem allowed f levels s t kept (Ok head.Undefined) → Step s t (λ l bs rest. IsRead (PassesTags IsUnit) (item_at (raws f l) levels bs) tt rest)
+pub undefined_read : (allowed : ReadErrorCode → Bool) (f : Formats) (levels : ℕ) (s t : Input) (kept : ReadError) → OpensItem allowed f levels s t kept (Ok head.Undefined) → Step s t (λ l bs rest. IsRead (PassesTags IsUnit) (item_at (raws f l) levels bs) tt rest)
 undefined_read allowed f levels s t kept = takes_scalar allowed f IsUnit levels s t kept head.Undefined tt (λ w. raw.simple undefined_item) (λ l inner w mid. refl) (λ w. tt)

@@ -49,16 +49,16 @@ IsIdentifier names r place = (b : List ℕ) × IsString r b × IsPlace names b p
 -- ---- calls
 
 -- the error that is made of why nothing was named, by what the deserializer keeps
-abbrev pub IsMadeBy : Option ReadError → Why → Error → Type 0
+abbrev pub IsMadeBy : ReadError → Why → Error → Type 0
 IsMadeBy kept (Refused r) e = IsErrorOf kept r e
 IsMadeBy kept Other e = IsMessage e
 
 -- the error that is made of why nothing was named is one of the item at the front
-abbrev pub NamesWhole : (ReadErrorCode → Bool) → ℕ → Input → Option ReadError → Why → Type 0
+abbrev pub NamesWhole : (ReadErrorCode → Bool) → ℕ → Input → ReadError → Why → Type 0
 NamesWhole refusals levels s kept w = (e : Error) → IsMadeBy kept w e → RefusesWhole refusals levels s e
 
 -- what is kept of why nothing was named isn't the key rule's
-abbrev pub NamesNoKey : Option ReadError → Why → Type 0
+abbrev pub NamesNoKey : ReadError → Why → Type 0
 NamesNoKey kept (Refused r) = TellsNoKey kept r
 NamesNoKey kept Other = ⊤
 
@@ -73,7 +73,7 @@ Content h s t b = Step s t (λ l bs rest. content_at l h bs ≡ Ok (b, rest))
 
 -- The name that a text is was taken after its head; or no text is there.
 abbrev pub TakesName : (ReadErrorCode → Bool) → List (List ℕ) → Head → Input → Input
-    → Option ReadError → Result (Option ℕ) kept.Refused → Type 0
+    → ReadError → Result (Option ℕ) kept.Refused → Type 0
 TakesName refusals names h s t kept (Ok place) =
     (b : List ℕ) × IsUtf8 b × IsPlace names b place × Content h s t b
 TakesName refusals names h s t kept (Err r) = (e : Error) → IsErrorOf kept r e
@@ -82,7 +82,7 @@ TakesName refusals names h s t kept (Err r) = (e : Error) → IsErrorOf kept r e
 
 -- The name that a byte string is was taken after its head; or none is there.
 abbrev pub TakesBytesName : (ReadErrorCode → Bool) → List (List ℕ) → Head → Input → Input
-    → Option ReadError → Result (Option ℕ) Why → Type 0
+    → ReadError → Result (Option ℕ) Why → Type 0
 TakesBytesName refusals names h s t kept (Ok place) =
     (b : List ℕ) × IsPlace names b place × Content h s t b
 TakesBytesName refusals names h s t kept (Err why) = (e : Error) → IsMadeBy kept why e

@@ -48,19 +48,19 @@ item_inside f l levels bs = within (inside (raws f l) levels) bs (λ p. p bs)
 
 -- The head of the item that is read was taken, and so many levels are left; or why not.
 abbrev pub OpensAt : (ReadErrorCode → Bool) → Formats → (Limits → List ℕ → Reads Raw) → Input
-    → Input → ℕ → Option ReadError → Result Head Refused → Type 0
+    → Input → ℕ → ReadError → Result Head Refused → Type 0
 OpensAt refusals f read s t left kept (Ok h) =
     Step s t (λ l bs rest. Opens f l (read l bs) left h rest)
 OpensAt refusals f read s t left kept (Err r) = Stopped refusals read s t kept r
 
 -- The head of the item at the front was taken, where so many levels are left; or why not.
-abbrev pub OpensItem : (ReadErrorCode → Bool) → Formats → ℕ → Input → Input → Option ReadError
+abbrev pub OpensItem : (ReadErrorCode → Bool) → Formats → ℕ → Input → Input → ReadError
     → Result Head Refused → Type 0
 OpensItem refusals f levels s t kept r =
     (left : ℕ) × OpensAt refusals f (λ l. item_at (raws f l) levels) s t left kept r
 
 -- What opens of the item one level further in.
-abbrev pub OpensInside : (ReadErrorCode → Bool) → Formats → ℕ → Input → Input → Option ReadError
+abbrev pub OpensInside : (ReadErrorCode → Bool) → Formats → ℕ → Input → Input → ReadError
     → Result Head Refused → Type 0
 OpensInside refusals f levels s t kept r =
     (left : ℕ) × OpensAt refusals f (λ l. item_inside f l levels) s t left kept r

@@ -62,7 +62,7 @@ pub record IsNotUtf8 (b : List ℕ) (end : ℕ) (e : Error) : Type 0 where
 
 -- The text of these bytes, which end at this offset; or where they aren't UTF-8, as the error says
 -- that is made of the refusal that is kept.
-abbrev pub KeepsTextOf : {X : Type 0} → (X → List ℕ) → List ℕ → ℕ → Option ReadError → Result X Refused
+abbrev pub KeepsTextOf : {X : Type 0} → (X → List ℕ) → List ℕ → ℕ → ReadError → Result X Refused
     → Type 0
 KeepsTextOf view b end kept (Ok x) = (view x ≡ b) × IsUtf8 b
 KeepsTextOf view b end kept (Err r) = (e : Error) → IsErrorOf kept r e → IsNotUtf8 b end e
@@ -70,7 +70,7 @@ KeepsTextOf view b end kept (Err r) = (e : Error) → IsErrorOf kept r e → IsN
 -- The text was taken after its head; or none is there, as the error says that is made of the
 -- refusal that is kept.
 abbrev pub TakesText : {X : Type 0} → (ReadErrorCode → Bool) → (X → List ℕ) → Head → Input → Input
-    → Option ReadError → Result X Refused → Type 0
+    → ReadError → Result X Refused → Type 0
 TakesText refusals view h s t kept (Ok x) =
     Step s t (λ l bs rest. content_at l h bs ≡ Ok (view x, rest)) × IsUtf8 (view x)
 TakesText refusals view h s t kept (Err r) = (e : Error) → IsErrorOf kept r e
@@ -81,7 +81,7 @@ TakesText refusals view h s t kept (Err r) = (e : Error) → IsErrorOf kept r e
 -- is there, of which some bytes were taken; or reading stopped, as the error says that is made of the
 -- refusal that is kept.
 abbrev pub SeeksItem : {A : Type 0} → (ReadErrorCode → Bool) → model.Formats → (Raw → A → Type 0) → ℕ
-    → Input → Input → Option ReadError → Result (Option A) Refused → Type 0
+    → Input → Input → ReadError → Result (Option A) Refused → Type 0
 SeeksItem refusals f reads levels s t kept (Ok (Some x)) =
     Step s t (λ l bs rest. IsRead reads (item_at (raws f l) levels bs) x rest)
 SeeksItem refusals f reads levels s t kept (Ok None) =
@@ -90,7 +90,7 @@ SeeksItem refusals f reads levels s t kept (Err r) = (e : Error) → IsErrorOf k
 
 -- Where nothing was found of what was sought, an item of another kind stands at the front, or the error
 -- that is made of the refusal that is kept is one of what stands there.
-abbrev pub SeeksWhole : {A : Type 0} → (ReadErrorCode → Bool) → ℕ → Input → Option ReadError
+abbrev pub SeeksWhole : {A : Type 0} → (ReadErrorCode → Bool) → ℕ → Input → ReadError
     → Result (Option A) Refused → Type 0
 SeeksWhole refusals levels s kept (Ok (Some x)) = Unit {0}
 SeeksWhole refusals levels s kept (Ok None) = Stands levels s
@@ -103,7 +103,7 @@ abbrev pub behind_string : Head → Limits → List ℕ → Reads Val
 behind_string = behind_any 0
 
 -- The error that is made of the refusal that is kept tells the fault of what follows the head.
-abbrev pub TellsString : (ReadErrorCode → Bool) → Head → Input → Option ReadError → Refused → Type 0
+abbrev pub TellsString : (ReadErrorCode → Bool) → Head → Input → ReadError → Refused → Type 0
 TellsString refusals h s kept r = (e : Error) → IsErrorOf kept r e → TellsFault refusals (behind_string h) s e
 
 -- ---- what is lent
@@ -130,10 +130,9 @@ lends_head l (Text None) = l.joined
 lends_head l h = l.whole
 
 -- the refusal that is made of one that was kept
-abbrev pub IsKept : Option ReadError → Refused → ReadError → Type 0
-IsKept None refused.Kept e = IsMemory e
-IsKept (Some q) refused.Kept e = e ≡ q
-IsKept _ refused.OutOfMemory e = IsMemory e
+abbrev pub IsKept : ReadError → Refused → ReadError → Type 0
+IsKept kept refused.OutOfMemory e = IsMemory e
+IsKept kept refused.Kept e = e ≡ kept
 
 -- Why nothing was lent that N says isn't there. Where it is an item of another kind, each error says
 -- so. Some bytes were taken.

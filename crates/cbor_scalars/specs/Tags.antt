@@ -66,7 +66,7 @@ pub record IsBehindTags (f : Formats) (l : Limits) (read : Reads Raw) (left : �
   pub none : tag_first_at rest ≡ Ok (None, rest)
 
 -- all tags were taken, or why not
-abbrev pub PassesAll : (ReadErrorCode → Bool) → Formats → ℕ → Input → Input → ℕ → Option ReadError
+abbrev pub PassesAll : (ReadErrorCode → Bool) → Formats → ℕ → Input → Input → ℕ → ReadError
     → Result (Unit {0}) Refused → Type 0
 PassesAll refusals f levels s t left kept (Ok u) = Step s t
     (λ l bs rest. IsBehindTags f l (item_at (raws f l) levels bs) left rest)

@@ -24,6 +24,7 @@ use cbor_io::error::Error;
 use cbor_io::head::Major;
 use cbor_io::utf8::from_utf8;
 use cbor_read::{EitherLifetime, Read, ReadError, ReadErrorCode, Source};
+use std::alloc::AllocError;
 
 /// A text that is lent: by the source until its next call, or by the input for its whole life.
 #[derive(Debug, Drop)]
@@ -94,7 +95,7 @@ fn not_utf8(end: u64, back: usize) -> Unread
     Unread::Stopped(ReadError::at(ReadErrorCode::InvalidUtf8, end - back as u64))
 }
 
-// The refusal that was kept.
+// Why a step was refused.
 #[cold]
 #[inline(never)]
 fn stopped<R: Source>(items: &mut Deserializer<R>, refused: Refused) -> ReadError
@@ -103,9 +104,9 @@ fn stopped<R: Source>(items: &mut Deserializer<R>, refused: Refused) -> ReadErro
     ensures levels { items.new.levels ≡ items.old.levels }
     ensures formats { items.new.formats ≡ items.old.formats }
 {
-    match (refused, items.refusal.take()) {
-        (Refused::Kept, Some(refusal)) => refusal,
-        _ => ReadError::at(ReadErrorCode::OutOfMemory, 0),
+    match refused {
+        Refused::OutOfMemory => ReadError::from(AllocError),
+        Refused::Kept => items.take_refusal(),
     }
 }
 

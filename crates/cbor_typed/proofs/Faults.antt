@@ -152,7 +152,7 @@ module _ (allowed : ReadErrorCode → Bool) (f : Formats) (levels : ℕ) (s : In
       let w = seen_of (item_at (raws f l) levels bs) (view v) rest (sym (value_seen f l levels bs) ∙ is) in
       record { item = w.item; is = w.is; means = w.valued }) step
 
-  pub value_refused : {A : Type 0} {w : Input} (reads : Raw → A → Type 0) (kept : Option ReadError) (r : Refused) (e : Error) → IsErrorOf kept r e → Stopped allowed (λ l. item_at (values f l) levels) s w kept r
+  pub value_refused : {A : Type 0} {w : Input} (reads : Raw → A → Type 0) (kept : ReadError) (r : Refused) (e : Error) → IsErrorOf kept r e → Stopped allowed (λ l. item_at (values f l) levels) s w kept r
       → Refuses allowed s w (code_of e) (offset_of e) (λ l bs. IsNotRead reads (item_at (raws f l) levels bs))
   value_refused reads kept r e is stops =
       refuses allowed reads (λ l. item_at (raws f l) levels) s kept r e is
@@ -169,5 +169,5 @@ module _ (allowed : ReadErrorCode → Bool) (f : Formats) (levels : ℕ) (s : In
       record { item = w.item; is = w.is; means = tt }) step
 
   -- what stops passing over an item stops reading it
-  pub any_stops : {w : Input} (kept : Option ReadError) (r : Refused) → Stopped allowed (λ l bs. passed (item_at (values f l) levels bs)) s w kept r → Stopped allowed (λ l. item_at (values f l) levels) s w kept r
+  pub any_stops : {w : Input} (kept : ReadError) (r : Refused) → Stopped allowed (λ l bs. passed (item_at (values f l) levels bs)) s w kept r → Stopped allowed (λ l. item_at (values f l) levels) s w kept r
   any_stops kept r = stopped_map allowed (λ l bs. passed (item_at (values f l) levels bs)) (λ l. item_at (values f l) levels) s kept r (λ l bs d is. passed_stops (item_at (values f l) levels bs) d is)

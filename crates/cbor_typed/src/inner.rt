@@ -48,7 +48,7 @@ pub fn peek<R: Source>(de: &mut Deserializer<R>) -> std::result::Result<Option<u
 #[cold]
 #[inline(never)]
 pub fn error_of<R: Source>(de: &mut Deserializer<R>, refusal: ReadError) -> Error
-    ensures tells { IsErrorOf (Some refusal) Kept result }
+    ensures tells { IsErrorOf refusal Kept result }
     ensures source { de.new.items.source ≡ de.old.items.source }
     ensures levels { de.new.items.levels ≡ de.old.items.levels }
     ensures formats { de.new.items.formats ≡ de.old.items.formats }

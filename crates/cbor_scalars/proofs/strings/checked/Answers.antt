@@ -26,4 +26,4 @@ returns-in-Err-clause-read g c =
     let long : c.len-len.result ≡ length b = search rules in
     let valid : c.valid_up_to-valid.result ≡ utf8_valid_len b = rw (c.valid_up_to-valid.ensures, c.utf8_error.ensures) c.in-Err.ensures.valid_len in
     let bad : IsUtf8 b → ⊥ = λ is. cc (c.in-Err.ensures.succeeds is) in
-    λ e is. kept_bad _ b _ (c.len-len.result - c.valid_up_to-valid.result) e bad (ap (λ (n : ℕ). n - c.valid_up_to-valid.result) long ∙ ap (λ (n : ℕ). length b - n) valid) c.refuse_back.ensures.kept (subst (λ (r : Refused). IsErrorOf c.refuse_back.new.self.refusal r e) c.refuse_back.ensures.refused is)
+    λ e is. kept_bad c.refuse_back.new.self.refusal b _ (c.len-len.result - c.valid_up_to-valid.result) e bad (ap (λ (n : ℕ). n - c.valid_up_to-valid.result) long ∙ ap (λ (n : ℕ). length b - n) valid) c.refuse_back.ensures.kept (subst (λ (r : Refused). IsErrorOf c.refuse_back.new.self.refusal r e) c.refuse_back.ensures.refused is)

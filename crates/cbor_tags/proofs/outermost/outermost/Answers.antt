@@ -20,8 +20,8 @@ returns-in-Err-clause-refused g c =
     let s = g.R.Source.source c.args.de.now.items.source in
     let read : Limits → List ℕ → Reads (Option ℕ) = λ l. tag_head_at c.args.de.now.items.levels in
     let e = c.in-Err.refusal in
-    told_by g.R.Source.refusals read s (Some e) Kept c.error_of.result c.error_of.ensures.tells
-    (source_stops g.R.Source.refusals s read (Some e) Kept e refl refl c.in-Err.ensures.err.refused.moved (byte_refused g.R.Source.refusals s _ e read c.in-Err.ensures.err))
+    told_by g.R.Source.refusals read s e Kept c.error_of.result c.error_of.ensures.tells
+    (source_stops g.R.Source.refusals s read e Kept e refl refl c.in-Err.ensures.err.refused.moved (byte_refused g.R.Source.refusals s _ e read c.in-Err.ensures.err))
 
 pub returns-in-Err-clause-took : goal.returns-in-Err-clause-took
 returns-in-Err-clause-took g c = rw c.error_of.ensures.source c.in-Err.ensures.err.refused.moved

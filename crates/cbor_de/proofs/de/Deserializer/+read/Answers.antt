@@ -531,40 +531,40 @@ pub value_of-returns-in_err-bytes-in-Bytes-Some-clause-memory : goal.value_of-re
 value_of-returns-in_err-bytes-in-Bytes-Some-clause-memory g t c =
     let passed = err_from_is_err_and c.from_residual.result c.from_residual.ensures.1 in
     let is_head : c.args.head ≡ head.Bytes (Some c.in-Bytes-Some.n) = search rules in
-    rw (passed.1, passed.2, is_head) (stored _ _ _ tt)
+    rw (passed.1, passed.2, is_head) (stored _ c.bytes.new.self.refusal _ tt)
 
 pub value_of-returns-in_err-byte_chunks-in-Bytes-None-clause-memory : goal.value_of-returns-in_err-byte_chunks-in-Bytes-None-clause-memory
 value_of-returns-in_err-byte_chunks-in-Bytes-None-clause-memory g t c =
     let passed = err_from_is_err_and c.from_residual-in_err-byte_chunks-in-Bytes-None.result c.from_residual-in_err-byte_chunks-in-Bytes-None.ensures.1 in
     let is_head : c.args.head ≡ head.Bytes None = search rules in
-    rw (passed.1, passed.2, is_head) (stored _ _ _ tt)
+    rw (passed.1, passed.2, is_head) (stored _ c.byte_chunks.new.self.refusal _ tt)
 
 pub value_of-returns-in_err-text-in-Text-Some-clause-memory : goal.value_of-returns-in_err-text-in-Text-Some-clause-memory
 value_of-returns-in_err-text-in-Text-Some-clause-memory g t c =
     let passed = err_from_is_err_and c.from_residual-in_err-text-in-Text-Some.result c.from_residual-in_err-text-in-Text-Some.ensures.1 in
     let is_head : c.args.head ≡ head.Text (Some c.in-Text-Some.n) = search rules in
-    rw (passed.1, passed.2, is_head) (stored _ _ _ tt)
+    rw (passed.1, passed.2, is_head) (stored _ c.text.new.self.refusal _ tt)
 
 pub value_of-returns-in_err-text_chunks-in-Text-None-clause-memory : goal.value_of-returns-in_err-text_chunks-in-Text-None-clause-memory
 value_of-returns-in_err-text_chunks-in-Text-None-clause-memory g t c =
     let passed = err_from_is_err_and c.from_residual-in_err-text_chunks-in-Text-None.result c.from_residual-in_err-text_chunks-in-Text-None.ensures.1 in
     let is_head : c.args.head ≡ head.Text None = search rules in
-    rw (passed.1, passed.2, is_head) (stored _ _ _ tt)
+    rw (passed.1, passed.2, is_head) (stored _ c.text_chunks.new.self.refusal _ tt)
 
 pub value_of-returns-in_err-array-in-Array-clause-memory : goal.value_of-returns-in_err-array-in-Array-clause-memory
 value_of-returns-in_err-array-in-Array-clause-memory g t c =
     let passed = err_from_is_err_and c.from_residual-in_err-array-in-Array.result c.from_residual-in_err-array-in-Array.ensures.1 in
     let is_head : c.args.head ≡ head.Array c.in-Array.remaining = search rules in
-    rw (passed.1, passed.2, is_head) (stored _ _ _ tt)
+    rw (passed.1, passed.2, is_head) (stored _ c.array.new.self.refusal _ tt)
 
 pub value_of-returns-in_err-map-in-Map-clause-memory : goal.value_of-returns-in_err-map-in-Map-clause-memory
 value_of-returns-in_err-map-in-Map-clause-memory g t c =
     let passed = err_from_is_err_and c.from_residual-in_err-map-in-Map.result c.from_residual-in_err-map-in-Map.ensures.1 in
     let is_head : c.args.head ≡ head.Map c.in-Map.remaining = search rules in
-    rw (passed.1, passed.2, is_head) (stored _ _ _ tt)
+    rw (passed.1, passed.2, is_head) (stored _ c.map.new.self.refusal _ tt)
 
 pub value_of-returns-in_err-tagged-in-Tag-clause-memory : goal.value_of-returns-in_err-tagged-in-Tag-clause-memory
 value_of-returns-in_err-tagged-in-Tag-clause-memory g t c =
     let passed = err_from_is_err_and c.from_residual-in_err-tagged-in-Tag.result c.from_residual-in_err-tagged-in-Tag.ensures.1 in
     let is_head : c.args.head ≡ head.Tag c.in-Tag.tag = search rules in
-    rw (passed.1, passed.2, is_head) (stored _ _ _ tt)
+    rw (passed.1, passed.2, is_head) (stored _ c.tagged.new.self.refusal _ tt)

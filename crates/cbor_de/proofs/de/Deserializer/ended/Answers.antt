@@ -17,7 +17,7 @@ returns-in-Err-clause-read g c =
 pub returns-in-Ok-Some-clause-takes : goal.returns-in-Ok-Some-clause-takes
 returns-in-Ok-Some-clause-takes g c =
     subst (λ (t : Input). EndStops g.R.Source.refusals (g.R.Source.source c.args.self.now.source) t c.refuse.new.self.refusal (Err c.refuse.result)) (ap g.R.Source.source (sym c.refuse.ensures.source))
-    (trailing_takes g.R.Source.refusals _ _ _ _ _ _ c.refuse.ensures.refused c.refuse.ensures.kept c.in-Ok-Some.field-0-is c.in-Ok-Some.ensures.does)
+    (trailing_takes g.R.Source.refusals _ _ _ _ c.refuse.new.self.refusal _ c.refuse.ensures.refused c.refuse.ensures.kept c.in-Ok-Some.field-0-is c.in-Ok-Some.ensures.does)
 
 pub returns-in-Ok-None-clause-takes : goal.returns-in-Ok-None-clause-takes
 returns-in-Ok-None-clause-takes g c =
