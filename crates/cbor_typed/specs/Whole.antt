@@ -5,13 +5,14 @@ use Rattle.cbor_model.specs.Formats.{Formats, all_formats}
 use Rattle.cbor_model.specs.Readable.{Context}
 use Rattle.cbor_model.specs.Acceptable.{max_depth}
 use Rattle.cbor_model.specs.Plain.{Val}
-use Rattle.cbor_model.specs.Reader.{Reads, item_at, read_value_in}
+use Rattle.cbor_model.specs.Reader.{Fault, Reads, item_at, read_value_in}
 use Rattle.cbor_io.specs.declared.error.Error.{Error}
+use Rattle.cbor_io.specs.declared.error.ErrorCode.{ErrorCode}
 use Rattle.cbor_io.specs.declared.read_error.ReadErrorCode.{ReadErrorCode}
 use Rattle.cbor_io.specs.Error.{code_of, offset_of}
 use Rattle.cbor_read.specs.Source.{Input, Asks}
 use Rattle.cbor_de.specs.Gives.{FailsBy, limits, Tells, Reports, whole_at}
-use Rattle.cbor_scalars.specs.Takes.{raws, IsRead, ExcusedBy, TellsFault}
+use Rattle.cbor_scalars.specs.Takes.{raws, IsRead, IsNotRead, ExcusedBy, TellsFault}
 use Rattle.cbor_scalars.specs.Takes.{FaultOrMessage, TellsOf, any_item}
 
 -- The one item that a source has to give is read as x, where so many levels are left.
@@ -26,30 +27,57 @@ ReadsAll refusals f reads levels s (Ok x) =
     (bs : List ℕ) → Tells s bs → IsWholeRead f reads levels s bs x
 ReadsAll {A} refusals f reads levels s (Err e) = (bs : List ℕ) → Tells s bs → ExcusedBy (Reports refusals) (code_of e) (offset_of e) ⊎ ((x : A) → IsWholeRead f reads levels s bs x → ⊥)
 
--- A refusal tells the fault of the item that a source has to give, or that more follows it; or it is a
--- message, exactly where an item stands there that isn't read.
-abbrev pub RefusesAll : (ReadErrorCode → Bool) → Formats → ℕ → Input → Error → Type 0
-RefusesAll refusals f levels s e = (bs : List ℕ) → Tells s bs →
-    FaultOrMessage (Reports refusals) (code_of e) (s.offset + length bs) (offset_of e) (any_item levels (limits s bs) bs)
-    ⊎ FailsBy (Reports refusals) (code_of e) (s.offset + length bs) (offset_of e) (whole_at f levels (limits s bs) bs)
+-- Some item that the reference reader reads is read as something, whatever follows it.
+pub record IsSomeRead {A : Type 0} (reads : Raw → A → Type 0) (read : Reads Raw) : Type 0 where
+  pub value : A
+  pub rest : List ℕ
+  pub is : IsRead reads read value rest
+
+-- Nothing that is read stands at the front, and a refusal tells the fault of what does, or is a message
+-- where an item does.
+abbrev pub RefusesFront : {A : Type 0} → Type 0 → ErrorCode → ℕ → ℕ → (Raw → A → Type 0) → Reads Raw
+    → Reads Val → Type 0
+RefusesFront Device code end at reads spelt front =
+    FaultOrMessage Device code end at front × (ExcusedBy Device code at ⊎ IsNotRead reads spelt)
+
+-- An item that is read stands at the front, and a refusal tells that more follows it.
+abbrev pub RefusesRest : {A B : Type 0} → Type 0 → ErrorCode → ℕ → ℕ → (Raw → A → Type 0) → Reads Raw
+    → Result B Fault → Type 0
+RefusesRest Device code end at reads spelt whole =
+    FailsBy Device code end at whole × IsSomeRead reads spelt
+
+-- A refusal of all that a source has to give tells the fault of what stands at its front, or is a message
+-- where an item does that isn't read; or it tells that more follows an item that is read.
+abbrev pub RefusesAll : {A : Type 0} → (ReadErrorCode → Bool) → Formats → (Raw → A → Type 0) → ℕ
+    → Input → Error → Type 0
+RefusesAll refusals f reads levels s e = (bs : List ℕ) → Tells s bs →
+    RefusesFront (Reports refusals) (code_of e) (s.offset + length bs) (offset_of e) reads (item_at (raws f (limits s bs)) levels bs) (any_item levels (limits s bs) bs)
+    ⊎ RefusesRest (Reports refusals) (code_of e) (s.offset + length bs) (offset_of e) reads (item_at (raws f (limits s bs)) levels bs) (whole_at f levels (limits s bs) bs)
 
 -- Where a type reads every item, a refusal tells the fault of the one item that a source has to give,
 -- or that more follows it; and where it passes over what it doesn't read, it is one of these.
-abbrev pub TellsWhole : Bool → Bool → (ReadErrorCode → Bool) → Formats → ℕ → Input → Error → Type 0
-TellsWhole passes_over total refusals f levels s e =
-    TellsOf passes_over total (TellsFault refusals (whole_at f levels) s e) (RefusesAll refusals f levels s e)
+abbrev pub TellsWhole : {A : Type 0} → Bool → Bool → (ReadErrorCode → Bool) → Formats
+    → (Raw → A → Type 0) → ℕ → Input → Error → Type 0
+TellsWhole passes_over total refusals f reads levels s e =
+    TellsOf passes_over total (TellsFault refusals (whole_at f levels) s e) (RefusesAll refusals f reads levels s e)
 
 -- the item that these bytes begin with, where so many bytes of chunks can be joined
 abbrev pub front_in : Option ℕ → List ℕ → Reads Val
 front_in room bs = any_item max_depth (record { total = length bs; room = room }) bs
 
--- The error tells the fault of the item that the bytes begin with, or that more follows it; or it is a
--- message, exactly where an acceptable item stands there that isn't read. Want of memory and a device's
--- fault may come in place of either.
-abbrev pub RefusesBytes : Type 0 → Option ℕ → List ℕ → Error → Type 0
-RefusesBytes Device room bs e =
-    FaultOrMessage Device (code_of e) (length bs) (offset_of e) (front_in room bs)
-    ⊎ FailsBy Device (code_of e) (length bs) (offset_of e) (read_value_in room bs)
+-- the same item as it is spelled
+abbrev pub spelt_front_in : Option ℕ → List ℕ → Reads Raw
+spelt_front_in room bs =
+    item_at (raws all_formats (record { total = length bs; room = room })) max_depth bs
+
+-- The bytes begin with nothing that is read, and the error tells the fault of what they begin with, or
+-- is a message exactly where that is an acceptable item; or they begin with an item that is read, and it
+-- tells that more follows. Want of memory and a device's fault may come in place of either.
+abbrev pub RefusesBytes : {A : Type 0} → Type 0 → (Raw → A → Type 0) → Option ℕ → List ℕ → Error
+    → Type 0
+RefusesBytes Device reads room bs e =
+    RefusesFront Device (code_of e) (length bs) (offset_of e) reads (spelt_front_in room bs) (front_in room bs)
+    ⊎ RefusesRest Device (code_of e) (length bs) (offset_of e) reads (spelt_front_in room bs) (read_value_in room bs)
 
 -- What a slice lends: definite strings, for its whole life.
 abbrev pub from_slice_context : Context

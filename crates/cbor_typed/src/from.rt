@@ -32,8 +32,8 @@ use std::io;
 fn read_all<'de, T: Deserialize<'de, R>, R: Read<'de> + Drop>(alloc: Global, source: R) -> Result<T>
     ensures read { ReadsAll R.refusals all_formats (T.reads (lending all_formats R.lends))
         max_depth (R.source source) result }
-    ensures fault { IfErr result (TellsWhole T.passes_over T.total R.refusals all_formats max_depth
-        (R.source source)) }
+    ensures fault { IfErr result (TellsWhole T.passes_over T.total R.refusals all_formats
+        (T.reads (lending all_formats R.lends)) max_depth (R.source source)) }
     ensures memory { IfErr result (MemoryFor (T.asks_memory (asks_for R.refusals R.lends))
         all_formats (T.reads (lending all_formats R.lends)) max_depth (R.source source)) }
     ensures form { IfErr result (λ e. FormOnlyIf T.tells_form (code_of e)) }
@@ -48,7 +48,8 @@ fn whole<'de, T: Deserialize<'de, R>, R: Read<'de>>(de: &mut Deserializer<R>) ->
         (T.reads (context de.old.items.formats R.lends)) de.old.items.levels
         (R.source de.old.items.source) result }
     ensures fault { IfErr result (TellsWhole T.passes_over T.total R.refusals
-        (formats_of de.old.items.formats) de.old.items.levels (R.source de.old.items.source)) }
+        (formats_of de.old.items.formats) (T.reads (context de.old.items.formats R.lends))
+        de.old.items.levels (R.source de.old.items.source)) }
     ensures memory { IfErr result (MemoryFor
         (T.asks_memory (asks_for R.refusals R.lends)) (formats_of de.old.items.formats)
         (T.reads (context de.old.items.formats R.lends)) de.old.items.levels
@@ -144,10 +145,10 @@ pub fn from_slice<'a, T: Deserialize<'a, SliceRead<'a>>>(
     ensures refused { IfErr result (λ e.
         WhereTotal T.total (Fails (length slice.now) e (read_value slice.now))) }
     // Where the type passes over an item that it doesn't read, a refusal tells the fault of what
-    // the bytes begin with, or that more follows it; and it is a message exactly where an item
-    // stands there that isn't read.
-    ensures fault { IfErr result (λ e.
-        WhereTotal T.passes_over (RefusesBytes ⊥ None slice.now e)) }
+    // the bytes begin with, and is a message exactly where an item stands there that isn't read;
+    // of one that is read, it tells that more follows.
+    ensures fault { IfErr result (λ e. WhereTotal T.passes_over
+        (RefusesBytes ⊥ (T.reads from_slice_context) None slice.now e)) }
     // Only a type that may refuse an item for its form answers a code that tells a wrong one.
     ensures form { IfErr result (λ e. FormOnlyIf T.tells_form (code_of e)) }
 {
@@ -195,8 +196,8 @@ pub fn from_slice_with_scratch<'a, T: Deserialize<'a, SliceReadFixed<'a, 'a>>>(
         (IsOutOfMemory e ⊎ TellsFirst (limits_of (Some (length scratch.old))) slice.now e)) }
     ensures refused { IfErr result (λ e. WhereTotal T.total (Fails (length slice.now) e
         (read_value_in (Some (length scratch.old)) slice.now))) }
-    ensures fault { IfErr result (λ e.
-        WhereTotal T.passes_over (RefusesBytes ⊥ (Some (length scratch.old)) slice.now e)) }
+    ensures fault { IfErr result (λ e. WhereTotal T.passes_over (RefusesBytes ⊥
+        (T.reads from_slice_context) (Some (length scratch.old)) slice.now e)) }
     ensures form { IfErr result (λ e. FormOnlyIf T.tells_form (code_of e)) }
 {
     read_all(alloc, SliceReadFixed::new(slice, scratch))
@@ -231,8 +232,8 @@ pub fn from_mut_slice<'a, T: Deserialize<'a, MutSliceRead<'a>>>(
         (IsOutOfMemory e ⊎ TellsFirst (limits_of None) slice.old e)) }
     ensures refused { IfErr result (λ e.
         WhereTotal T.total (Fails (length slice.old) e (read_value slice.old))) }
-    ensures fault { IfErr result (λ e.
-        WhereTotal T.passes_over (RefusesBytes ⊥ None slice.old e)) }
+    ensures fault { IfErr result (λ e. WhereTotal T.passes_over
+        (RefusesBytes ⊥ (T.reads from_mut_slice_context) None slice.old e)) }
     ensures form { IfErr result (λ e. FormOnlyIf T.tells_form (code_of e)) }
 {
     are_bytes(slice);
@@ -287,7 +288,8 @@ pub fn from_reader<'de, T: DeserializeOwned + Deserialize<'de, IoRead<R>>, R: io
         WhereTotal T.total (FailsOrFaults (length bytes) e (read_value bytes))) }
     // Of a type that passes over what it doesn't read, with the same exceptions:
     ensures fault { (bytes : List ℕ) → Gave (R.remaining reader) bytes
-        → IfErr result (λ e. WhereTotal T.passes_over (RefusesBytes ⊤ None bytes e)) }
+        → IfErr result (λ e. WhereTotal T.passes_over
+        (RefusesBytes ⊤ (T.reads from_reader_context) None bytes e)) }
     ensures form { IfErr result (λ e. FormOnlyIf T.tells_form (code_of e)) }
 {
     read_all(alloc, IoRead::new(alloc, reader))

@@ -37,26 +37,26 @@ returns-clause-refused g c =
     let bs = c.args.slice.now in
     let s = slice_input bs 0 [] None in
     let tells : Tells s bs = record { is = refl; short = omega arith } in
-    let given = subst (λ (s : Input). IfErr c.read_all.result (TellsWhole g.T.Readable.passes_over g.T.Readable.total mut_refusals all_formats max_depth s)) c.new.ensures c.read_all.ensures.fault in
-    fails g.T.Readable.passes_over g.T.Readable.total mut_refusals s bs tells refl (λ device. absurd cc) c.read_all.result given
+    let given = subst (λ (s : Input). IfErr c.read_all.result (TellsWhole g.T.Readable.passes_over g.T.Readable.total mut_refusals all_formats (g.T.Readable.reads from_mut_slice_context) max_depth s)) c.new.ensures c.read_all.ensures.fault in
+    fails g.T.Readable.passes_over g.T.Readable.total mut_refusals (g.T.Readable.reads from_mut_slice_context) s bs tells refl (λ device. absurd cc) c.read_all.result given
 
 pub returns-clause-fault : goal.returns-clause-fault
 returns-clause-fault g c =
     let bs = c.args.slice.now in
     let s = slice_input bs 0 [] None in
     let tells : Tells s bs = record { is = refl; short = omega arith } in
-    let given = subst (λ (s : Input). IfErr c.read_all.result (TellsWhole g.T.Readable.passes_over g.T.Readable.total mut_refusals all_formats max_depth s)) c.new.ensures c.read_all.ensures.fault in
-    kinds g.T.Readable.passes_over g.T.Readable.total mut_refusals s bs tells refl ⊥ (λ device. absurd cc) c.read_all.result given
+    let given = subst (λ (s : Input). IfErr c.read_all.result (TellsWhole g.T.Readable.passes_over g.T.Readable.total mut_refusals all_formats (g.T.Readable.reads from_mut_slice_context) max_depth s)) c.new.ensures c.read_all.ensures.fault in
+    kinds g.T.Readable.passes_over g.T.Readable.total mut_refusals (g.T.Readable.reads from_mut_slice_context) s bs tells refl ⊥ (λ device. absurd cc) c.read_all.result given
 
 pub returns-clause-every : goal.returns-clause-every
 returns-clause-every g c = λ v spelt.
     let bs = c.args.slice.now in
     let s = slice_input bs 0 [] None in
     let tells : Tells s bs = record { is = refl; short = omega arith } in
-    let given = subst (λ (s : Input). IfErr c.read_all.result (TellsWhole g.T.Readable.passes_over g.T.Readable.total mut_refusals all_formats max_depth s)) c.new.ensures c.read_all.ensures.fault in
+    let given = subst (λ (s : Input). IfErr c.read_all.result (TellsWhole g.T.Readable.passes_over g.T.Readable.total mut_refusals all_formats (g.T.Readable.reads from_mut_slice_context) max_depth s)) c.new.ensures c.read_all.ensures.fault in
     let reads = g.T.Readable.reads from_mut_slice_context in
     let read = subst (λ (s : Input). ReadsAll mut_refusals all_formats reads max_depth s c.read_all.result) c.new.ensures c.read_all.ensures.read in
-    every g.T.Readable.total mut_refusals reads s bs tells refl (omega arith) v spelt tt c.read_all.result read (fails g.T.Readable.passes_over g.T.Readable.total mut_refusals s bs tells refl (λ device. absurd cc) c.read_all.result given)
+    every g.T.Readable.total mut_refusals reads s bs tells refl (omega arith) v spelt tt c.read_all.result read (fails g.T.Readable.passes_over g.T.Readable.total mut_refusals (g.T.Readable.reads from_mut_slice_context) s bs tells refl (λ device. absurd cc) c.read_all.result given)
 
 pub returns-clause-first : goal.returns-clause-first
 returns-clause-first g c =

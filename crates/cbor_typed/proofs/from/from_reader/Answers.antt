@@ -32,24 +32,24 @@ pub returns-clause-refused : goal.returns-clause-refused
 returns-clause-refused g c = λ bs gave.
     let s = reader_input None (g.R.Read.remaining c.args.reader) [] 0 in
     let tells : Tells s bs = record { is = gave.told; short = omega (arith, gave.short) } in
-    let given = subst (λ (s : Input). IfErr c.read_all.result (TellsWhole g.T.Readable.passes_over g.T.Readable.total reader_refusals all_formats max_depth s)) c.new.ensures c.read_all.ensures.fault in
-    fails_or_faults g.T.Readable.passes_over g.T.Readable.total reader_refusals s bs tells refl c.read_all.result given
+    let given = subst (λ (s : Input). IfErr c.read_all.result (TellsWhole g.T.Readable.passes_over g.T.Readable.total reader_refusals all_formats (g.T.Readable.reads from_reader_context) max_depth s)) c.new.ensures c.read_all.ensures.fault in
+    fails_or_faults g.T.Readable.passes_over g.T.Readable.total reader_refusals (g.T.Readable.reads from_reader_context) s bs tells refl c.read_all.result given
 
 pub returns-clause-fault : goal.returns-clause-fault
 returns-clause-fault g c = λ bs gave.
     let s = reader_input None (g.R.Read.remaining c.args.reader) [] 0 in
     let tells : Tells s bs = record { is = gave.told; short = omega (arith, gave.short) } in
-    let given = subst (λ (s : Input). IfErr c.read_all.result (TellsWhole g.T.Readable.passes_over g.T.Readable.total reader_refusals all_formats max_depth s)) c.new.ensures c.read_all.ensures.fault in
-    kinds g.T.Readable.passes_over g.T.Readable.total reader_refusals s bs tells refl ⊤ (λ device. tt) c.read_all.result given
+    let given = subst (λ (s : Input). IfErr c.read_all.result (TellsWhole g.T.Readable.passes_over g.T.Readable.total reader_refusals all_formats (g.T.Readable.reads from_reader_context) max_depth s)) c.new.ensures c.read_all.ensures.fault in
+    kinds g.T.Readable.passes_over g.T.Readable.total reader_refusals (g.T.Readable.reads from_reader_context) s bs tells refl ⊤ (λ device. tt) c.read_all.result given
 
 pub returns-clause-every : goal.returns-clause-every
 returns-clause-every g c = λ bs gave v spelt.
     let s = reader_input None (g.R.Read.remaining c.args.reader) [] 0 in
     let tells : Tells s bs = record { is = gave.told; short = omega (arith, gave.short) } in
-    let given = subst (λ (s : Input). IfErr c.read_all.result (TellsWhole g.T.Readable.passes_over g.T.Readable.total reader_refusals all_formats max_depth s)) c.new.ensures c.read_all.ensures.fault in
+    let given = subst (λ (s : Input). IfErr c.read_all.result (TellsWhole g.T.Readable.passes_over g.T.Readable.total reader_refusals all_formats (g.T.Readable.reads from_reader_context) max_depth s)) c.new.ensures c.read_all.ensures.fault in
     let reads = g.T.Readable.reads from_reader_context in
     let read = subst (λ (s : Input). ReadsAll reader_refusals all_formats reads max_depth s c.read_all.result) c.new.ensures c.read_all.ensures.read in
-    every_or_fault g.T.Readable.total reader_refusals reads s bs tells refl gave.short v spelt tt c.read_all.result read (fails_or_faults g.T.Readable.passes_over g.T.Readable.total reader_refusals s bs tells refl c.read_all.result given)
+    every_or_fault g.T.Readable.total reader_refusals reads s bs tells refl gave.short v spelt tt c.read_all.result read (fails_or_faults g.T.Readable.passes_over g.T.Readable.total reader_refusals (g.T.Readable.reads from_reader_context) s bs tells refl c.read_all.result given)
 
 pub returns-clause-first : goal.returns-clause-first
 returns-clause-first g c = λ bs gave.

@@ -38,16 +38,16 @@ returns-clause-refused g c =
     let bs = c.args.slice.now in
     let s = slice_input bs 0 [] (Some (length c.args.scratch.now)) in
     let tells : Tells s bs = record { is = refl; short = omega arith } in
-    let given = subst (λ (s : Input). IfErr c.read_all.result (TellsWhole g.T.Readable.passes_over g.T.Readable.total fixed_refusals all_formats max_depth s)) c.new.ensures c.read_all.ensures.fault in
-    fails g.T.Readable.passes_over g.T.Readable.total fixed_refusals s bs tells refl (λ device. absurd cc) c.read_all.result given
+    let given = subst (λ (s : Input). IfErr c.read_all.result (TellsWhole g.T.Readable.passes_over g.T.Readable.total fixed_refusals all_formats (g.T.Readable.reads from_slice_context) max_depth s)) c.new.ensures c.read_all.ensures.fault in
+    fails g.T.Readable.passes_over g.T.Readable.total fixed_refusals (g.T.Readable.reads from_slice_context) s bs tells refl (λ device. absurd cc) c.read_all.result given
 
 pub returns-clause-fault : goal.returns-clause-fault
 returns-clause-fault g c =
     let bs = c.args.slice.now in
     let s = slice_input bs 0 [] (Some (length c.args.scratch.now)) in
     let tells : Tells s bs = record { is = refl; short = omega arith } in
-    let given = subst (λ (s : Input). IfErr c.read_all.result (TellsWhole g.T.Readable.passes_over g.T.Readable.total fixed_refusals all_formats max_depth s)) c.new.ensures c.read_all.ensures.fault in
-    kinds g.T.Readable.passes_over g.T.Readable.total fixed_refusals s bs tells refl ⊥ (λ device. absurd cc) c.read_all.result given
+    let given = subst (λ (s : Input). IfErr c.read_all.result (TellsWhole g.T.Readable.passes_over g.T.Readable.total fixed_refusals all_formats (g.T.Readable.reads from_slice_context) max_depth s)) c.new.ensures c.read_all.ensures.fault in
+    kinds g.T.Readable.passes_over g.T.Readable.total fixed_refusals (g.T.Readable.reads from_slice_context) s bs tells refl ⊥ (λ device. absurd cc) c.read_all.result given
 
 pub returns-clause-every : goal.returns-clause-every
 returns-clause-every g c = λ v spelt room.
@@ -55,10 +55,10 @@ returns-clause-every g c = λ v spelt room.
     let most = Some (length c.args.scratch.now) in
     let s = slice_input bs 0 [] most in
     let tells : Tells s bs = record { is = refl; short = omega arith } in
-    let given = subst (λ (s : Input). IfErr c.read_all.result (TellsWhole g.T.Readable.passes_over g.T.Readable.total fixed_refusals all_formats max_depth s)) c.new.ensures c.read_all.ensures.fault in
+    let given = subst (λ (s : Input). IfErr c.read_all.result (TellsWhole g.T.Readable.passes_over g.T.Readable.total fixed_refusals all_formats (g.T.Readable.reads from_slice_context) max_depth s)) c.new.ensures c.read_all.ensures.fault in
     let reads = g.T.Readable.reads from_slice_context in
     let read = subst (λ (s : Input). ReadsAll fixed_refusals all_formats reads max_depth s c.read_all.result) c.new.ensures c.read_all.ensures.read in
-    every g.T.Readable.total fixed_refusals reads s bs tells refl (omega arith) v spelt room c.read_all.result read (fails g.T.Readable.passes_over g.T.Readable.total fixed_refusals s bs tells refl (λ device. absurd cc) c.read_all.result given)
+    every g.T.Readable.total fixed_refusals reads s bs tells refl (omega arith) v spelt room c.read_all.result read (fails g.T.Readable.passes_over g.T.Readable.total fixed_refusals (g.T.Readable.reads from_slice_context) s bs tells refl (λ device. absurd cc) c.read_all.result given)
 
 pub returns-clause-small : goal.returns-clause-small
 returns-clause-small g c = λ v spelt longer.
@@ -68,9 +68,9 @@ returns-clause-small g c = λ v spelt longer.
     let tells : Tells s bs = record { is = refl; short = omega arith } in
     let reads = g.T.Readable.reads from_slice_context in
     let read = subst (λ (s : Input). ReadsAll fixed_refusals all_formats reads max_depth s c.read_all.result) c.new.ensures c.read_all.ensures.read in
-    let given = subst (λ (s : Input). IfErr c.read_all.result (TellsWhole g.T.Readable.passes_over g.T.Readable.total fixed_refusals all_formats max_depth s)) c.new.ensures c.read_all.ensures.fault in
+    let given = subst (λ (s : Input). IfErr c.read_all.result (TellsWhole g.T.Readable.passes_over g.T.Readable.total fixed_refusals all_formats (g.T.Readable.reads from_slice_context) max_depth s)) c.new.ensures c.read_all.ensures.fault in
     let need = scratch_need room bs v (omega arith) spelt in
-    small g.T.Readable.total fixed_refusals reads s bs tells refl (need.1 longer) c.read_all.result read (fails g.T.Readable.passes_over g.T.Readable.total fixed_refusals s bs tells refl (λ device. absurd cc) c.read_all.result given)
+    small g.T.Readable.total fixed_refusals reads s bs tells refl (need.1 longer) c.read_all.result read (fails g.T.Readable.passes_over g.T.Readable.total fixed_refusals (g.T.Readable.reads from_slice_context) s bs tells refl (λ device. absurd cc) c.read_all.result given)
 
 pub returns-clause-first : goal.returns-clause-first
 returns-clause-first g c =

@@ -14,7 +14,8 @@ returns-in-Err-clause-read g c =
 
 pub returns-in-Err-clause-fault : goal.returns-in-Err-clause-fault
 returns-in-Err-clause-fault g c =
-    item_whole g.R.Source.refusals (formats_of c.args.de.now.items.formats) c.args.de.now.items.levels (g.R.Source.source c.args.de.now.items.source) c.in-Err.e g.T.Readable.passes_over g.T.Readable.total c.in-Err.ensures.fault
+    item_whole g.R.Source.refusals (formats_of c.args.de.now.items.formats) c.args.de.now.items.levels (g.R.Source.source c.args.de.now.items.source) c.in-Err.e g.T.Readable.passes_over g.T.Readable.total
+    (g.T.Readable.reads (context c.args.de.now.items.formats g.R.Source.lends)) (g.R.Source.source c.deserialize.new.de.items.source) c.in-Err.ensures.read c.in-Err.ensures.fault
 
 pub returns-in-Err-end-clause-fault : goal.returns-in-Err-end-clause-fault
 returns-in-Err-end-clause-fault g c =
