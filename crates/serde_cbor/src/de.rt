@@ -2,14 +2,12 @@
 //! from a source, one after the other. A struct or an enum is read by its description
 //! ([`FromParts`]), or part by part ([`Deserialize`]).
 
-pub use cbor_described::{
-    FromParts, ReadParts, ReadTuple, ReadVariant, ReadableParts, ReadableTuple, Variant,
-};
+pub use cbor_described::{FromParts, ReadParts, ReadableParts, ReadableTuple, Variant};
 pub use cbor_typed::{
-    Deserialize, DeserializeOwned, Deserializer, EitherLifetime, EitherStr, Field, FieldType, Form,
+    Deserialize, DeserializeOwned, Deserializer, EitherLifetime, EitherStr, Field, FieldType,
     Formats, IgnoredAny, IoRead, MapAccess, MutSliceRead, Offset, Read, ReadError, ReadErrorCode,
-    Readable, Remaining, SeqAccess, SliceRead, SliceReadFixed, Source, StreamDeserializer,
-    StructAccess, Unread, VariantAccess, duplicate_field, from_mut_slice, from_reader, from_slice,
+    Readable, SeqAccess, SliceRead, SliceReadFixed, Source, StreamDeserializer, StructAccess,
+    Unread, VariantAccess, duplicate_field, from_mut_slice, from_reader, from_slice,
     from_slice_with_scratch, heads_taken, item_refused_first, item_taken, missing_field,
     owned_agree, sources_agree,
 };
