@@ -1,12 +1,12 @@
 //! Heads: what an item's first bytes say of it (RFC 7049, section 2).
 
-ghost use Rattle.std.specs.Prelude.{◌≡◌, length, IfErr, MatchOption, OnErr, OnOk};
+ghost use Rattle.std.specs.Prelude.{◌≡◌, length, IfErr, MatchOption, OnErr, OnOk, OnSome};
 ghost use Rattle.std.specs.Prelude.{Ok, Some};
 ghost use Rattle.std.specs.Int.{w8, w16, w32, w64};
 ghost use Rattle.cbor_model.specs.Reader.{number_at, number_behind};
 ghost use Rattle.cbor_model.specs.Major.{major_of};
 ghost use Rattle.cbor_io.specs.Head.{major_number};
-ghost use Rattle.cbor_de.specs.Gives.{Gives, Keeps, TellsNoKey, TellsNoMemory};
+ghost use Rattle.cbor_de.specs.Gives.{Gives, Keeps, Onward, TellsNoKey, TellsNoMemory};
 ghost use Rattle.cbor_de.specs.Heads.{HeadGives, NumberGives, opening_at, head_at, head_of};
 ghost use Rattle.cbor_de.specs.Heads.{simple_head};
 ghost use Rattle.cbor_de.specs.declared.head.Head.TheVariants.{Float as FloatHead, Text};
@@ -59,6 +59,7 @@ impl<R: Source> Deserializer<R> {
         ensures read { MatchOption result (R.source self.new.source ≡ R.source self.old.source)
             (λ n. HeadGives R.refusals opening_at (R.source self.old.source)
             (R.source self.new.source) self.new.refusal (Ok (Text (Some n)))) }
+        ensures taken { OnSome result (Onward (R.source self.old.source) (R.source self.new.source)) }
         ensures levels { self.new.levels ≡ self.old.levels }
         ensures formats { self.new.formats ≡ self.old.formats }
     {

@@ -1,11 +1,11 @@
 //! What names a field of a struct, or a variant of an enum.
 
-ghost use Rattle.std.specs.Prelude.{◌≡◌, ◌<◌, ◌≤◌, length, IfOk, IfErr, IfSome};
+ghost use Rattle.std.specs.Prelude.{◌≡◌, ◌<◌, ◌≤◌, length, IfOk, IfErr, IfSome, OnOk};
 ghost use Rattle.std.specs.Str.{IsUtf8};
 ghost use Rattle.cbor_io.specs.declared.error.Error.{Error};
 ghost use Rattle.cbor_read.specs.Source.{part_bytes};
 ghost use Rattle.cbor_model.specs.Readable.{PassesTags};
-ghost use Rattle.cbor_de.specs.Gives.{TellsNoForm, TellsNoKey};
+ghost use Rattle.cbor_de.specs.Gives.{Onward, TellsNoForm, TellsNoKey};
 ghost use Rattle.cbor_de.specs.declared.head.Head.TheVariants.{Bytes, Text};
 ghost use Rattle.cbor_io.specs.Error.{code_of};
 ghost use Rattle.cbor_scalars.specs.Identifiers.{IsIdentifier, IsPlace, place_of, texts};
@@ -300,6 +300,7 @@ pub fn identifier<'de, R: Read<'de>>(
         (TakesItem R.refusals (formats_of items.old.formats)
         (PassesTags (IsIdentifier (texts names.now))) items.old.levels
         (R.source items.old.source) (R.source items.new.source)) result }
+    ensures taken { OnOk result (Onward (R.source items.old.source) (R.source items.new.source)) }
     ensures below { IfOk result (λ place. IfSome place (λ i. i < length names.now)) }
     ensures no_key { IfErr result (NamesNoKey items.new.refusal) }
     ensures levels { items.new.levels ≡ items.old.levels }
@@ -321,6 +322,7 @@ fn any_identifier<'de, R: Read<'de>>(
         (TakesItem R.refusals (formats_of items.old.formats)
         (PassesTags (IsIdentifier (texts names.now))) items.old.levels
         (R.source items.old.source) (R.source items.new.source)) result }
+    ensures taken { OnOk result (Onward (R.source items.old.source) (R.source items.new.source)) }
     ensures below { IfOk result (λ place. IfSome place (λ i. i < length names.now)) }
     ensures no_key { IfErr result (NamesNoKey items.new.refusal) }
     ensures levels { items.new.levels ≡ items.old.levels }

@@ -2,7 +2,7 @@
 
 ghost use Rattle.std.specs.Prelude.{◌≡◌, ◌≤◌, IfErr, OnOk};
 ghost use Rattle.cbor_model.specs.Reader.{item_at};
-ghost use Rattle.cbor_de.specs.Gives.{Gives, TellsNoForm, TellsNoKey, TellsNoMemory};
+ghost use Rattle.cbor_de.specs.Gives.{Gives, Onward, TellsNoForm, TellsNoKey, TellsNoMemory};
 ghost use Rattle.cbor_io.specs.Error.{code_of};
 ghost use Rattle.cbor_de.specs.Heads.{HeadGives, opening_at};
 ghost use Rattle.cbor_de.specs.Heads.{passed};
@@ -32,6 +32,7 @@ pub(crate) fn take_head<R: Source>(items: &mut Deserializer<R>) -> Done<Head>
     ensures read { HeadGives R.refusals opening_at
         (R.source items.old.source) (R.source items.new.source)
         items.new.refusal result }
+    ensures taken { OnOk result (Onward (R.source items.old.source) (R.source items.new.source)) }
     ensures no_key { IfErr result (TellsNoKey items.new.refusal) }
     ensures memory { IfErr result (TellsNoMemory items.new.refusal) }
     ensures levels { items.new.levels ≡ items.old.levels }
@@ -57,6 +58,7 @@ pub fn open<R: Source>(items: &mut Deserializer<R>) -> Done<Head>
         (λ l. opened_at items.old.levels)
         (R.source items.old.source) (R.source items.new.source)
         items.new.refusal result }
+    ensures taken { OnOk result (Onward (R.source items.old.source) (R.source items.new.source)) }
     ensures no_key { IfErr result (TellsNoKey items.new.refusal) }
     ensures memory { IfErr result (TellsNoMemory items.new.refusal) }
     ensures levels { OnOk result (items.new.levels ≤ items.old.levels) }
@@ -81,6 +83,7 @@ pub(crate) fn open_inside<R: Source>(items: &mut Deserializer<R>) -> Done<Head>
         (λ l. opened_inside items.old.levels)
         (R.source items.old.source) (R.source items.new.source)
         items.new.refusal result }
+    ensures taken { OnOk result (Onward (R.source items.old.source) (R.source items.new.source)) }
     ensures no_key { IfErr result (TellsNoKey items.new.refusal) }
     ensures memory { IfErr result (TellsNoMemory items.new.refusal) }
     ensures levels { OnOk result (items.new.levels ≤ items.old.levels) }

@@ -1,9 +1,9 @@
 //! Simple values and numbers.
 
-ghost use Rattle.std.specs.Prelude.{◌≡◌, IfErr};
+ghost use Rattle.std.specs.Prelude.{◌≡◌, IfErr, OnOk};
 ghost use Rattle.cbor_model.specs.Readable.{PassesTags, IsBool, IsUnit};
 ghost use Rattle.cbor_io.specs.Error.{code_of};
-ghost use Rattle.cbor_de.specs.Gives.{Gives, TellsNoForm, TellsNoKey, TellsNoMemory};
+ghost use Rattle.cbor_de.specs.Gives.{Gives, Onward, TellsNoForm, TellsNoKey, TellsNoMemory};
 ghost use Rattle.cbor_scalars.specs.Opens.{OpensInside, OpensItem, found_head};
 ghost use Rattle.cbor_scalars.specs.Opens.{opened_at, opened_inside};
 ghost use Rattle.cbor_scalars.specs.Scalars.{IsFloatItem};
@@ -28,6 +28,7 @@ pub(crate) fn scalar<R: Source>(items: &mut Deserializer<R>) -> Done<Found>
         (λ l. opened_at items.old.levels)
         (R.source items.old.source) (R.source items.new.source)
         items.new.refusal result }
+    ensures taken { OnOk result (Onward (R.source items.old.source) (R.source items.new.source)) }
     ensures no_key { IfErr result (TellsNoKey items.new.refusal) }
     ensures memory { IfErr result (TellsNoMemory items.new.refusal) }
     ensures levels { items.new.levels ≡ items.old.levels }
@@ -54,6 +55,7 @@ fn scalar_inside<R: Source>(items: &mut Deserializer<R>) -> Done<Found>
         (λ l. opened_inside items.old.levels)
         (R.source items.old.source) (R.source items.new.source)
         items.new.refusal result }
+    ensures taken { OnOk result (Onward (R.source items.old.source) (R.source items.new.source)) }
     ensures no_key { IfErr result (TellsNoKey items.new.refusal) }
     ensures memory { IfErr result (TellsNoMemory items.new.refusal) }
     ensures levels { items.new.levels ≡ items.old.levels }

@@ -1,14 +1,14 @@
 //! Structs of named fields, which are read from maps (RFC 7049, section 2.1, major type 5).
 
 ghost use Rattle.std.specs.Prelude.{◌≡◌, ◌<◌, ◌≤◌, true, false, length, IfOk, IfErr, IfSome};
-ghost use Rattle.std.specs.Prelude.{MatchOption, Some};
+ghost use Rattle.std.specs.Prelude.{MatchOption, OnOk, Some};
 ghost use Rattle.std.specs.Option.{is_some};
 ghost use Rattle.std.specs.Borrow.{sem, RestsIfErr};
 ghost use Rattle.cbor_io.specs.Error.{code_of, offset_of, IsMessageOf};
 ghost use Rattle.cbor_io.specs.declared.error.Error.{Error};
 ghost use Rattle.cbor_model.specs.Reader.{item_at};
 ghost use Rattle.cbor_de.specs.declared.cursor.Remaining.TheVariants.{Counted};
-ghost use Rattle.cbor_de.specs.Gives.{Step, TellsNoForm};
+ghost use Rattle.cbor_de.specs.Gives.{Onward, Step, TellsNoForm};
 ghost use Rattle.cbor_collections.specs.Begins.{Begins, RefusesBeginning};
 ghost use Rattle.cbor_de.specs.declared.head.Head.TheVariants as kind;
 ghost use Rattle.cbor_collections.specs.Accesses.{turns, size_of};
@@ -27,7 +27,7 @@ use crate::types::IgnoredAny;
 use cbor_collections::map::{end_map, map_head, more_pairs};
 use cbor_de::Remaining;
 use cbor_io::error::{Error, Result};
-use cbor_read::{Read, ReadErrorCode, Source};
+use cbor_read::{Read, Source};
 use cbor_scalars::identifier::{Named, Why, identifier, unnamed};
 use std::alloc::Global;
 
@@ -113,6 +113,8 @@ impl<'de, R: Read<'de>> Deserializer<R> {
             (TakesItem R.refusals (formats_of self.old.items.formats)
             (IsField (texts names.now)) self.old.items.levels
             (R.source self.old.items.source) (R.source self.new.items.source)) result }
+        ensures taken { OnOk result
+            (Onward (R.source self.old.items.source) (R.source self.new.items.source)) }
         ensures below { IfOk result (λ field. IfSome (place_in field) (λ i. i < length names.now)) }
         ensures no_key { IfErr result (NamesNoKey self.new.items.refusal) }
         ensures levels { self.new.items.levels ≡ self.old.items.levels }
@@ -150,14 +152,7 @@ impl<'de, R: Read<'de>> Deserializer<R> {
         if !more_pairs(&mut self.items, remaining)? {
             return Ok(None);
         }
-        let start = self.items.source.offset();
         let field = self.field(names)?;
-        if let Remaining::ToBreak = remaining {
-            if self.items.source.offset() <= start {
-                let refused = self.items.refuse(ReadErrorCode::UnexpectedCode);
-                return Err(Why::Refused(refused));
-            }
-        }
         Ok(Some(field))
     }
 }

@@ -1,17 +1,18 @@
-use Rattle.std.proofs.Common.{◌≡◌, ℕ, Ok, ap, subst}
+use Rattle.std.proofs.Common.{◌≡◌, ℕ, Ok, OnOk, ap, subst}
 use Rattle.std.proofs.lemmas.Result.{err_from_is_err_and}
 use Rattle.cbor_model.specs.Head.{HeadWidth}
 use Rattle.cbor_model.specs.Refusal.{too_deep}
 use Rattle.cbor_io.specs.declared.read_error.ReadErrorCode.TheVariants.{RecursionLimitExceeded}
-use Rattle.cbor_de.specs.Gives.{Step, Gives}
+use Rattle.cbor_de.specs.Gives.{Step, Gives, Onward}
 use Rattle.cbor_de.specs.declared.head.Head.{Head}
+use Rattle.cbor_read.specs.Source.{Input}
 use Rattle.cbor_de.proofs.facts.Steps.{fault_stops}
 use Rattle.cbor_scalars.specs.Takes.{formats_of, raws}
 use Rattle.cbor_model.specs.Reader.{item_at}
 use Rattle.cbor_model.specs.Formats.{Formats}
 use Rattle.cbor_scalars.specs.Opens.{OpensAt, item_inside, opened_inside}
 use Rattle.cbor_de.specs.Heads.{opening_at}
-use Rattle.cbor_scalars.proofs.Opened.{no_tag, head_opens, head_stops, behind_tag, inside_too_deep, inside_opens}
+use Rattle.cbor_scalars.proofs.Opened.{no_tag, head_opens, head_stops, behind_tag, inside_too_deep, inside_opens, onward_on}
 use Rattle.cbor_scalars.proofs.Openings.{head_opened, head_unopened, tag_opened, inside_opened, no_level_inside}
 use Rattle.cbor_scalars.proofs.opening.+open.Goals as goal
 
@@ -88,3 +89,12 @@ open_inside-returns-clause-opened g t c =
     let m = g.R.Source.source c.enter.new.self.source in
     let u = c.open.new.items in
     inside_opened g.R.Source.refusals s m (g.R.Source.source u.source) c.args.items.now.levels c.enter.new.self.levels u.levels u.refusal c.open.result c.in_ok-enter.ensures.inside (ap g.R.Source.source c.enter.ensures.source) c.open.ensures.opened
+
+-- ---- a byte at the least
+
+pub open-returns-in-Tag-clause-taken : goal.open-returns-in-Tag-clause-taken
+open-returns-in-Tag-clause-taken g t c = onward_on _ _ _ c.open_inside.result c.in_ok-head.ensures.taken c.open_inside.ensures.taken
+
+pub open_inside-returns-clause-taken : goal.open_inside-returns-clause-taken
+open_inside-returns-clause-taken g t c =
+    subst (λ (x : Input). OnOk c.open.result (Onward x (g.R.Source.source c.open.new.items.source))) (ap g.R.Source.source c.enter.ensures.source) c.open.ensures.taken

@@ -7,7 +7,7 @@ use Rattle.cbor_de.specs.declared.head.Head.{Head}
 use Rattle.cbor_scalars.specs.Opens.{OpensInside, found_head, opened_inside}
 use Rattle.cbor_de.specs.Heads.{opening_at}
 use Rattle.cbor_scalars.specs.Takes.{formats_of}
-use Rattle.cbor_scalars.proofs.Opened.{no_tag, head_opens, head_stops, behind_tag}
+use Rattle.cbor_scalars.proofs.Opened.{no_tag, head_opens, head_stops, behind_tag, onward_on}
 use Rattle.cbor_scalars.specs.declared.opening.Found.{Found}
 use Rattle.cbor_scalars.proofs.Openings.{head_opened, head_unopened, tag_found}
 use Rattle.cbor_scalars.proofs.scalar.scalar.Goals as goal
@@ -55,3 +55,8 @@ returns-in-Tag-clause-opened g c =
 pub returns-clause-opened : goal.returns-clause-opened
 returns-clause-opened g c =
     head_opened (g.R.Source.source c.args.items.now.source) (g.R.Source.source c.take_head.new.items.source) c.args.items.now.levels c.take_head.new.items.levels c.in_ok-head.head (no_tag c.in_ok-head.head c.in_default.not-Tag) c.in_ok-head.ensures.levels c.in_ok-head.ensures.read
+
+-- ---- a byte at the least
+
+pub returns-in-Tag-clause-taken : goal.returns-in-Tag-clause-taken
+returns-in-Tag-clause-taken g c = onward_on _ _ _ c.scalar_inside.result c.in_ok-head.ensures.taken c.scalar_inside.ensures.taken

@@ -1,4 +1,4 @@
-use Rattle.std.proofs.Common.{rules, ◌≡◌, true, arith}
+use Rattle.std.proofs.Common.{rules, ◌≡◌, true}
 use Rattle.std.proofs.lemmas.Result.{err_from_is_err_and}
 use Rattle.cbor_io.specs.Error.{code_of, offset_of}
 use Rattle.cbor_de.specs.Heads.{remaining_of}
@@ -7,7 +7,7 @@ use Rattle.cbor_scalars.specs.Identifiers.{texts}
 use Rattle.cbor_typed.specs.Structs.{IsField}
 use Rattle.cbor_scalars.specs.Takes.{formats_of}
 use Rattle.cbor_collections.proofs.facts.Places.{bad_key_later}
-use Rattle.cbor_collections.proofs.facts.Maps.{none_is_key, there, key_refused, key_next, no_key_taken}
+use Rattle.cbor_collections.proofs.facts.Maps.{none_is_key, there, key_refused, key_next}
 use Rattle.cbor_typed.proofs.de.Deserializer.next_field.Goals as goal
 
 pub returns-in_err-more_pairs-clause-read : goal.returns-in_err-more_pairs-clause-read
@@ -32,39 +32,8 @@ returns-in_err-field-clause-read g c =
     rw (passed.1, passed.2) (λ e made. key_refused s m remaining new more reads old.formats now.formats old.levels now.levels c.more_pairs.ensures.formats c.more_pairs.ensures.levels
     g.R.Source.refusals (code_of e) (offset_of e) (there s m remaining new more old.formats comes c.in_ok-more_pairs.ensures.read) (c.in_err-field.ensures.read e made))
 
-pub returns-then-offset-start-clause-read : goal.returns-then-offset-start-clause-read
-returns-then-offset-start-clause-read g c =
-    let old = c.args.self.now.items in
-    let now = c.more_pairs.new.items in
-    let s = g.R.Source.source old.source in
-    let m = g.R.Source.source now.source in
-    let t = g.R.Source.source c.field.new.self.items.source in
-    let reads = λ (f : Formats). IsField (texts c.args.names.now) in
-    let remaining = c.args.remaining.now in
-    let new = c.more_pairs.new.remaining in
-    let more = c.in_ok-more_pairs.field-0 in
-    let comes : more ≡ true = search rules in
-    rw c.refuse-refused.ensures.source (λ e made. no_key_taken s m remaining new more reads old.formats now.formats old.levels now.levels c.more_pairs.ensures.formats c.more_pairs.ensures.levels t c.in_ok-field.field
-    g.R.Source.refusals (code_of e) (offset_of e) _ (there s m remaining new more old.formats comes c.in_ok-more_pairs.ensures.read) c.in_ok-field.ensures.read
-    (omega (arith, c.if-offset-start.true, c.offset.ensures, c.offset-start.ensures)))
-
-pub returns-else-offset-start-clause-read : goal.returns-else-offset-start-clause-read
-returns-else-offset-start-clause-read g c =
-    let old = c.args.self.now.items in
-    let now = c.more_pairs.new.items in
-    let s = g.R.Source.source old.source in
-    let m = g.R.Source.source now.source in
-    let t = g.R.Source.source c.field.new.self.items.source in
-    let reads = λ (f : Formats). IsField (texts c.args.names.now) in
-    let remaining = c.args.remaining.now in
-    let new = c.more_pairs.new.remaining in
-    let more = c.in_ok-more_pairs.field-0 in
-    let comes : more ≡ true = search rules in
-    key_next s m remaining new more reads old.formats now.formats old.levels now.levels c.more_pairs.ensures.formats c.more_pairs.ensures.levels t c.in_ok-field.field
-    (there s m remaining new more old.formats comes c.in_ok-more_pairs.ensures.read) c.in_ok-field.ensures.read
-
-pub returns-in_default-clause-read : goal.returns-in_default-clause-read
-returns-in_default-clause-read g c =
+pub returns-clause-read : goal.returns-clause-read
+returns-clause-read g c =
     let old = c.args.self.now.items in
     let now = c.more_pairs.new.items in
     let s = g.R.Source.source old.source in
@@ -97,15 +66,3 @@ returns-in_err-field-clause-bad_key g c =
     let comes : more ≡ true = search rules in
     rw (passed.1, passed.2) (λ e made. bad_key_later g.R.Source.refusals (formats_of old.formats) remaining s new m e
     (there s m remaining new more old.formats comes c.in_ok-more_pairs.ensures.read))
-
-pub returns-then-offset-start-clause-bad_key : goal.returns-then-offset-start-clause-bad_key
-returns-then-offset-start-clause-bad_key g c =
-    let old = c.args.self.now.items in
-    let s = g.R.Source.source old.source in
-    let m = g.R.Source.source c.more_pairs.new.items.source in
-    let remaining = c.args.remaining.now in
-    let new = c.more_pairs.new.remaining in
-    let more = c.in_ok-more_pairs.field-0 in
-    let comes : more ≡ true = search rules in
-    λ e made. bad_key_later g.R.Source.refusals (formats_of old.formats) remaining s new m e
-    (there s m remaining new more old.formats comes c.in_ok-more_pairs.ensures.read)
