@@ -74,11 +74,11 @@ module _ (l : Limits) where
 -- ---- the fault, or a message
 
 excused_message : (D : Type 0) (k : ErrorCode) (at : ℕ) → ExcusedBy D k at → IsMessageBy D k at
-excused_message D (code.Message s) at h = tt
+excused_message D (code.Message s) at h = absurd h
 excused_message D k at h = h
 
 pub message_by : (D : Type 0) (text : Option (List ℕ)) (k : ErrorCode) (at : ℕ) → IsMessageOf text k → at ≡ 0 → IsMessageBy D k at
-message_by D text (code.Message s) at is none = tt
+message_by D text (code.Message s) at is none = none
 message_by D text code.OutOfMemory at is none = none
 message_by D None k at is none = absurd is
 message_by D (Some t) k at is none = absurd is

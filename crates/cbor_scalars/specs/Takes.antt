@@ -108,9 +108,9 @@ TellsFault refusals read s e = (bs : List ℕ) → Tells s bs → FailsBy (Repor
 
 -- ---- the fault, or a message for the item that is there
 
--- a message, or excused
+-- a message, which has no place, or excused
 abbrev pub IsMessageBy : Type 0 → ErrorCode → ℕ → Type 0
-IsMessageBy Device (Message s) at = Unit {0}
+IsMessageBy Device (Message s) at = at ≡ 0
 IsMessageBy Device code at = ExcusedBy Device code at
 
 -- The code and the offset tell the fault that a reading meets; of what it reads they are a message.
@@ -165,4 +165,4 @@ cut_off = (0, refl, refl)
 -- 01 as a text: a message, which has no place
 another_kind : (m : String Global) → FaultOrMessage ⊥ (Message m) 1 0 (any_item 127 (record { total = 1; room = None }) (0x01 ∷ []))
 unfolding item_at item_by byte_at after_first content_at number_behind
-another_kind m = tt
+another_kind m = refl

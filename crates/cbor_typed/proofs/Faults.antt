@@ -78,7 +78,7 @@ fails_map D E g code.NotCanonical end at r h = absurd h
 fails_map D E g code.OutOfMemory end at r h = h
 
 message_map : (D E : Type 0) → (D → E) → (k : ErrorCode) (at : ℕ) → IsMessageBy D k at → IsMessageBy E k at
-message_map D E g (code.Message m) at h = tt
+message_map D E g (code.Message m) at h = h
 message_map D E g (code.Io e) at h = (g h.0, h.1)
 message_map D E g code.OutOfMemory at h = h
 message_map D E g k at h = absurd h
