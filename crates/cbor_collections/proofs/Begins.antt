@@ -1,5 +1,5 @@
 -- The head of an array or a map, whatever follows it.
-use Rattle.std.proofs.Common.{◌≡◌, ℕ, ◌+◌, Bool, List, Option, Ok, Err, sym, ap, ap₂, ◌∙◌, arith}
+use Rattle.std.proofs.Common.{◌≡◌, ℕ, ◌+◌, Bool, List, Ok, Err, sym, ap, ap₂, ◌∙◌, arith}
 use Rattle.cbor_model.specs.Reader.{Fault, Reads}
 use Rattle.cbor_model.proofs.facts.Reader.{ok_is}
 use Rattle.cbor_read.specs.Source.{Input}

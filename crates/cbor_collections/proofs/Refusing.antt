@@ -1,17 +1,15 @@
 -- Refusals of one reading after another.
-use Rattle.std.proofs.Common.{◌≡◌, ◌+◌, length, inl, inr, ℕ, Bool, List, Option, Some, None, Err, sym, ap₂, subst}
+use Rattle.std.proofs.Common.{◌≡◌, ◌+◌, length, inl, inr, ℕ, Bool, List, Option, Err, sym, ap₂, subst}
 use Rattle.cbor_model.specs.Reader.{Fault, Reads}
 use Rattle.cbor_read.specs.Source.{Input, TookSome}
 use Rattle.cbor_io.specs.Error.{code_of, offset_of}
 use Rattle.cbor_io.specs.declared.error.Error.{Error}
 use Rattle.cbor_io.specs.declared.error.ErrorCode.{ErrorCode}
 use Rattle.cbor_io.specs.declared.error.ErrorCode.TheVariants as code
-use Rattle.cbor_io.specs.ReadError.{place}
 use Rattle.cbor_io.specs.declared.read_error.ReadError.{ReadError}
 use Rattle.cbor_io.specs.declared.read_error.ReadErrorCode.{ReadErrorCode}
 use Rattle.cbor_de.specs.declared.refusal.Refused.{Refused}
-use Rattle.cbor_de.specs.declared.refusal.Refused.TheVariants as refused
-use Rattle.cbor_de.specs.Gives.{Limits, limits, Tells, Step, Stopped, FailsBy, Reports, IsErrorOf}
+use Rattle.cbor_de.specs.Gives.{Limits, limits, Step, Stopped, Reports, IsErrorOf}
 use Rattle.cbor_scalars.specs.Takes.{ExcusedBy, Refuses, TellsFault}
 use Rattle.cbor_de.proofs.facts.Steps.{some_then}
 use Rattle.cbor_scalars.proofs.facts.Refusals.{excused_or, told_by}

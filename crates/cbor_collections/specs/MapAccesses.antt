@@ -1,5 +1,5 @@
 -- What the calls of an access to a map take of its source.
-use Rattle.std.specs.Prelude.{◌≡◌, ℕ, ◌+◌, Bool, true, false, List, length, Option, Some, None}
+use Rattle.std.specs.Prelude.{◌≡◌, ℕ, Bool, true, false, List, Option, Some, None}
 use Rattle.std.specs.Prelude.{Result, Ok, Err}
 use Rattle.cbor_model.specs.Formats.{Formats, may_begin_key}
 use Rattle.cbor_model.specs.Head.{HeadWidth}

@@ -1,22 +1,14 @@
 -- Reading all that a source has to give.
-use Rattle.std.proofs.Common.{◌≡◌, ◌∙◌, ℕ, Bool, List, [], ◌∷◌, length, Option, Some, None, Ok, Err, refl, sym, ap, subst, arith, eqb, false}
+use Rattle.std.proofs.Common.{◌≡◌, ◌∙◌, ℕ, List, [], ◌∷◌, length, Ok, Err, sym, ap, arith, eqb, false}
 use Rattle.std.proofs.lemmas.Bool.{ne_eqb}
-use Rattle.cbor_model.specs.Formats.{Formats, all_formats}
+use Rattle.cbor_model.specs.Formats.{all_formats}
 use Rattle.cbor_model.specs.Plain.{Val, Vals, Pairs}
 use Rattle.cbor_model.specs.Refusal.{trailing_data}
 use Rattle.cbor_model.specs.Acceptable.{max_depth}
 use Rattle.cbor_model.specs.Reader.{Fault, Reads, Reading, ◌>>=◌, values_in, item_at, whole, read_value_in}
 use Rattle.cbor_model.proofs.facts.Reader.{ok_is}
-use Rattle.cbor_io.specs.declared.error.Error.{Error}
-use Rattle.cbor_io.specs.declared.read_error.ReadError.{ReadError}
-use Rattle.cbor_io.specs.declared.read_error.ReadErrorCode.{ReadErrorCode}
-use Rattle.cbor_io.specs.Error.{code_of, offset_of}
-use Rattle.cbor_io.specs.ReadError.{why, place, error_code}
 use Rattle.cbor_read.specs.Source.{Input}
-use Rattle.cbor_de.specs.declared.refusal.Refused.{Refused}
-use Rattle.cbor_de.specs.declared.refusal.Refused.TheVariants as refused
-use Rattle.cbor_de.specs.Gives.{FailsBy, Tells, Limits, limits, values, Step, Reports, Stops, Stopped, IsErrorOf, end_at, whole_at}
-use Rattle.cbor_de.proofs.Steps.{passed_on}
+use Rattle.cbor_de.specs.Gives.{limits, values, end_at, whole_at}
 
 -- what the limits are where nothing was taken
 from_start : (s : Input) (bs : List ℕ) → s.offset ≡ 0 → values all_formats (limits s bs) ≡ values_in (length bs) s.room

@@ -1,5 +1,5 @@
 -- Where memory may be asked for.
-use Rattle.std.proofs.Common.{◌≡◌, inl, inr, true, Option, Some, Result, Ok, Err, IfErr}
+use Rattle.std.proofs.Common.{◌≡◌, inl, inr, true, Result, Ok, Err, IfErr}
 use Rattle.cbor_io.specs.declared.read_error.ReadError.{ReadError}
 use Rattle.cbor_read.specs.Source.{Asks, MemoryWhere}
 use Rattle.cbor_de.specs.Gives.{TellsNoMemory}

@@ -1,13 +1,13 @@
 -- Floats whose first byte is at hand: of 32 bits (250), and of 64 (251).
-use Rattle.std.proofs.Common.{◌≡◌, ◌∙◌, ℕ, Bool, List, Option, Some, Result, Ok, Err, take, slice_get, refl}
+use Rattle.std.proofs.Common.{◌≡◌, ◌∙◌, ℕ, Bool, List, Some, Ok, take, slice_get, refl}
 use Rattle.std.specs.Int.{Width, w32, w64}
 use Rattle.cbor_model.specs.Head.{HeadWidth, no_bytes}
-use Rattle.cbor_model.specs.Reader.{Fault, Reads, ◌>>=◌, byte_at, number_at}
+use Rattle.cbor_model.specs.Reader.{◌>>=◌, byte_at, number_at}
 use Rattle.cbor_value.specs.declared.Float.TheVariants.{Single, Double}
 use Rattle.cbor_io.specs.declared.read_error.ReadError.{ReadError}
 use Rattle.cbor_io.specs.declared.read_error.ReadErrorCode.{ReadErrorCode}
 use Rattle.cbor_read.specs.Source.{Input, TookKept}
-use Rattle.cbor_de.specs.Gives.{Limits, Step, Stopped}
+use Rattle.cbor_de.specs.Gives.{Step, Stopped}
 use Rattle.cbor_de.specs.Heads.{head_at, opening_at, simple_head}
 use Rattle.cbor_de.specs.declared.head.Head.{Head}
 use Rattle.cbor_de.specs.declared.head.Head.TheVariants.{Float}

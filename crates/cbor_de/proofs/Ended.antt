@@ -1,8 +1,8 @@
 -- The end of an array or a map.
-use Rattle.std.proofs.Common.{◌≡◌, ℕ, zero, suc, ◌+◌, Bool, List, [], ◌∷◌, length, Option, Some, None, Ok, Err, IfSome, sym, subst, refl, arith}
+use Rattle.std.proofs.Common.{◌≡◌, ℕ, zero, suc, ◌+◌, Bool, List, ◌∷◌, length, Option, Some, None, Ok, Err, sym, subst, refl, arith}
 use Rattle.std.proofs.lemmas.Bool.{ne_eqb}
 use Rattle.cbor_model.specs.Refusal.{Refusal, trailing_data}
-use Rattle.cbor_model.specs.Reader.{Reads, before, to_break}
+use Rattle.cbor_model.specs.Reader.{before, to_break}
 use Rattle.cbor_io.specs.declared.read_error.ReadError.{ReadError}
 use Rattle.cbor_io.specs.declared.read_error.ReadErrorCode.{ReadErrorCode}
 use Rattle.cbor_io.specs.declared.read_error.ReadErrorCode.TheVariants as reading
@@ -14,7 +14,7 @@ use Rattle.cbor_de.specs.declared.cursor.Collection.{Collection}
 use Rattle.cbor_de.specs.declared.cursor.Remaining.{Remaining}
 use Rattle.cbor_de.specs.declared.cursor.Remaining.TheVariants.{Counted}
 use Rattle.cbor_de.specs.Cursor.{ended_at}
-use Rattle.cbor_de.specs.Gives.{FailsBy, Limits, limits, Step, Reports, Stops, Stopped, IsAt}
+use Rattle.cbor_de.specs.Gives.{FailsBy, Step, Reports, Stops, Stopped, IsAt}
 use Rattle.cbor_de.specs.Heads.{end_of, end_code, remaining_of}
 use Rattle.cbor_de.proofs.Steps.{step_same}
 use Rattle.cbor_de.proofs.Calls.{next_took, next_step, kept_stops, end_stops, fault_stops, tells_end}

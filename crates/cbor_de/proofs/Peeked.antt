@@ -1,15 +1,15 @@
 -- Whether another part comes, by the byte that is peeked.
-use Rattle.std.proofs.Common.{◌≡◌, ℕ, Bool, List, [], ◌∷◌, ◌++◌, take, Option, Some, None, Ok, Err, IfSome, MatchOption, sym, ap, subst, ◌∙◌, refl}
+use Rattle.std.proofs.Common.{◌≡◌, ℕ, Bool, List, [], ◌∷◌, ◌++◌, take, Option, Some, None, Ok, IfSome, MatchOption, sym, ap, subst, ◌∙◌, refl}
 use Rattle.std.proofs.lemmas.Bool.{ne_eqb}
 use Rattle.cbor_model.specs.Refusal.{Refusal}
-use Rattle.cbor_model.specs.Reader.{Reads, Remaining, next_at, to_break}
+use Rattle.cbor_model.specs.Reader.{next_at, to_break}
 use Rattle.cbor_io.specs.declared.read_error.ReadError.{ReadError}
 use Rattle.cbor_io.specs.declared.read_error.ReadErrorCode.{ReadErrorCode}
 use Rattle.cbor_read.specs.Source.{Input, TookKept, Stays, NextDoes}
 use Rattle.cbor_de.specs.declared.refusal.Refused.{Refused}
 use Rattle.cbor_de.specs.declared.refusal.Refused.TheVariants as refused
 use Rattle.cbor_de.specs.declared.cursor.Collection.{Collection}
-use Rattle.cbor_de.specs.Gives.{FailsAs, Limits, limits, Tells, Step, Stopped, IsAt}
+use Rattle.cbor_de.specs.Gives.{Limits, Step, Stopped, IsAt}
 use Rattle.cbor_de.specs.Heads.{end_of, end_code}
 use Rattle.cbor_de.proofs.Steps.{step_then, kept_step, none_step}
 use Rattle.cbor_de.proofs.Calls.{end_stops, tells_end}

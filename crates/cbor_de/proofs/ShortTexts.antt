@@ -1,5 +1,5 @@
 -- The head of a text of up to 23 bytes, which is its first byte.
-use Rattle.std.proofs.Common.{◌≡◌, ◌≤◌, ◌-◌, ◌/◌, ◌%◌, ℕ, List, Some, Ok, take, slice_get, sym, ap, arith, ltb, true}
+use Rattle.std.proofs.Common.{◌≡◌, ◌≤◌, ◌-◌, ◌/◌, ◌%◌, ℕ, List, Some, Ok, take, slice_get, ap, arith, ltb, true}
 use Rattle.std.proofs.lemmas.Bool.{lt-ltb}
 use Rattle.cbor_model.specs.Head.{HeadWidth}
 use Rattle.cbor_model.specs.Reader.{byte_at, number_behind}

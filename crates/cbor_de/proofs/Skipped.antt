@@ -1,10 +1,10 @@
 -- Passing over items and pairs one after the other, as a loop does.
-use Rattle.std.proofs.Common.{◌≡◌, ℕ, zero, suc, ◌<◌, true, false, List, [], ◌∷◌, length, Option, Some, None, Result, Ok, Err, Bool, refl, sym, ap, ◌∙◌, arith, inl, inr}
+use Rattle.std.proofs.Common.{◌≡◌, ℕ, suc, ◌<◌, true, false, List, [], ◌∷◌, length, Some, None, Result, Ok, Err, Bool, refl, sym, ap, ◌∙◌, arith, inl, inr}
 use Rattle.cbor_model.specs.Formats.{Formats, may_begin_key}
 use Rattle.cbor_model.specs.Head.{no_bytes}
 use Rattle.cbor_model.specs.Raw.{indefinite}
 use Rattle.cbor_model.specs.Plain.{Val, Vals, Pairs}
-use Rattle.cbor_model.specs.Refusal.{Refusal, wrong_struct_format}
+use Rattle.cbor_model.specs.Refusal.{wrong_struct_format}
 use Rattle.cbor_model.specs.Reader.{Fault, Reads, ◌>>=◌, before, ended, Remaining, next_at, Parts, parts_by, parts_at, key_at, pair_at, items_of, pairs_of, array_at, map_at, tag_at, after_first, item_at, inside}
 use Rattle.cbor_model.proofs.facts.Reader.{ok_is, taken, next_taken, pair_taken, parts_by-fuel}
 use Rattle.cbor_io.specs.declared.read_error.ReadError.{ReadError}

@@ -1,5 +1,5 @@
 -- Passing over strings.
-use Rattle.std.proofs.Common.{◌≡◌, ◌∙◌, ◌+◌, ◌-◌, ◌^◌, ◌<◌, ◌≤◌, ℕ, Bool, true, false, eqb, ltb, List, length, take, drop, ◌++◌, Option, Some, Result, Ok, Err, refl, sym, ap, subst, arith, length-append}
+use Rattle.std.proofs.Common.{◌≡◌, ◌∙◌, ◌+◌, ◌-◌, ◌^◌, ◌<◌, ◌≤◌, ℕ, Bool, true, false, eqb, ltb, List, length, take, drop, ◌++◌, Result, Ok, Err, refl, sym, ap, arith, length-append}
 use Rattle.std.specs.Io.KnownBytes.{Consumes}
 use Rattle.std.specs.Str.{IsUtf8}
 use Rattle.std.specs.Str.Lossy.{utf8_valid_len}

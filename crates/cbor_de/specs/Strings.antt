@@ -1,5 +1,5 @@
 -- Chunks that are joined in the buffer of a source.
-use Rattle.std.specs.Prelude.{◌≡◌, ℕ, Bool, List, ◌++◌, length, Option, Result, Ok, Err, ◌+◌, ◌-◌}
+use Rattle.std.specs.Prelude.{◌≡◌, ℕ, Bool, List, ◌++◌, length, Result, Ok, Err, ◌+◌, ◌-◌}
 use Rattle.std.specs.Prelude.{◌≤◌}
 use Rattle.std.specs.Prelude.{String, ◌==◌, if◌then◌else◌}
 use Rattle.std.specs.Global.{Global}

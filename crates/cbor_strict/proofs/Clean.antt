@@ -1,15 +1,15 @@
 -- An item without departures is the canonical item of its value.
-use Rattle.std.proofs.Common.{pos, negsuc, ◌≡◌, ℕ, suc, ◌+◌, ◌^◌, ◌<◌, ◌≤◌, Bool, true, false, cond, ltb, List, [], ◌∷◌, ◌++◌, length, Option, Some, None, Ordering, Less, Equal, Greater, refl, sym, ap, ap₂, subst, ◌∙◌, arith}
-use Rattle.std.proofs.lemmas.Bool.{lt-ltb, le-ltb, ltb-false, ltb-true}
+use Rattle.std.proofs.Common.{pos, negsuc, ◌≡◌, ℕ, ◌+◌, ◌^◌, ◌<◌, ◌≤◌, Bool, true, false, cond, ltb, List, [], ◌∷◌, ◌++◌, length, Option, Some, None, Ordering, Less, Equal, Greater, refl, sym, ap, ap₂, subst, ◌∙◌, arith}
+use Rattle.std.proofs.lemmas.Bool.{lt-ltb, le-ltb, ltb-false}
 use Rattle.cbor_model.specs.Head.{HeadWidth, no_bytes, one_byte, two_bytes, four_bytes, eight_bytes, limit, least}
 use Rattle.cbor_model.specs.Raw as raw
 use Rattle.cbor_model.specs.Raw.{Length, definite, indefinite, Raw, Raws, no_raws, RawPairs, no_raw_pairs, raw_pair, Chunk, false_item, true_item, null_item, undefined_item, IsWellFormed, AreWellFormed, ArePairsWellFormed}
 use Rattle.cbor_model.specs.Spelling.{spell}
 use Rattle.cbor_model.specs.Plain.{Val, null, bool, integer, float, bytes, text, array, map, tag, Vals, no_vals, val, Pairs, no_pairs, pair}
 use Rattle.cbor_model.specs.Order.{val_cmp}
-use Rattle.cbor_model.specs.Value.{value, values, pairs, put, by_order}
+use Rattle.cbor_model.specs.Value.{value, values, pairs, by_order}
 use Rattle.cbor_model.specs.Canonical.{canonical_bool, canonical, canonical_all, canonical_pairs, IsBelow, KeysAscend, IsOrdered, AreOrdered, ArePairsOrdered}
-use Rattle.cbor_strict.specs.Departure.{floor, head_end, long_head, long_length, length_end, undefined_at, not_above, departures, all_departures, pair_departures}
+use Rattle.cbor_strict.specs.Departure.{floor, head_end, long_head, undefined_at, not_above, departures, all_departures, pair_departures}
 use Rattle.cbor_model.proofs.ReadsBack.{followed_by, reads_back}
 use Rattle.cbor_strict.proofs.Copied.{followed_by-none, followed_by_assoc, put-last, floor-least-le}
 

@@ -1,19 +1,19 @@
 -- The bytes that a walk went over begin a spelling.
-use Rattle.std.proofs.Common.{◌≡◌, ℕ, zero, suc, ◌+◌, ◌-◌, ◌*◌, ◌/◌, ◌%◌, ◌<◌, ◌≤◌, Bool, true, false, cond, ltb, eqb, List, [], ◌∷◌, ◌++◌, length, take, drop, Ok, Err, Result, Less, Equal, Greater, Ordering, refl, sym, ap, ap₂, subst, ◌∙◌, append_assoc, arith, inl, inr}
+use Rattle.std.proofs.Common.{◌≡◌, ℕ, zero, suc, ◌+◌, ◌-◌, ◌*◌, ◌/◌, ◌%◌, ◌<◌, Bool, true, false, cond, ltb, eqb, List, [], ◌∷◌, ◌++◌, length, take, drop, Ok, Err, Less, Equal, Greater, Ordering, refl, sym, ap, ap₂, subst, ◌∙◌, append_assoc, arith}
 use Rattle.std.specs.Int.{Width, w16, w32, w64, byte_len, to_be_bytes, from_be_bytes}
 use Rattle.std.proofs.lemmas.Bool.{eqb-true}
 use Rattle.std.proofs.lemmas.List.{append-nil}
-use Rattle.cbor_model.specs.Head.{HeadWidth, no_bytes, limit, head, behind}
-use Rattle.cbor_model.specs.Major.{Major, major_of}
+use Rattle.cbor_model.specs.Head.{HeadWidth, no_bytes, limit, head}
+use Rattle.cbor_model.specs.Major.{major_of}
 use Rattle.cbor_model.specs.Raw as raw
 use Rattle.cbor_model.specs.Raw.{Length, definite, indefinite, Raw, Raws, no_raws, RawPairs, no_raw_pairs, raw_pair, Simple, false_item, true_item, null_item, undefined_item, FloatWidth, half, single, double, float_limit, AreBytes, count, pair_count, IsWellFormed, AreWellFormed, ArePairsWellFormed}
 use Rattle.cbor_model.specs.Spelling.{spell, spell_all, spell_pairs, break, simple_byte, float_spelling, BeginsSpelling}
 use Rattle.cbor_model.specs.Order.{lex}
 use Rattle.cbor_model.specs.Value.{by_order}
-use Rattle.cbor_model.specs.Reader.{Fault, Reads, ended, number_at, number_behind, width_of, bytes_at}
+use Rattle.cbor_model.specs.Reader.{Reads, number_behind, width_of}
 use Rattle.cbor_strict.specs.Departure.{floor}
-use Rattle.cbor_strict.specs.Walk.{Walk, passed, departed, stopped, and_then, past, on_shortest, with_shortest, with_count, simple_walk, all_walk, above, pairs_walk, content_walk, walk}
-use Rattle.cbor_model.proofs.Steps.{AreBytes-rest, bytes_found, IsWide, wide16, wide32, wide64, number_found, number_behind_found, first_is, not_ok}
+use Rattle.cbor_strict.specs.Walk.{Walk, passed, departed, stopped, and_then, past, on_shortest, with_shortest, with_count, simple_walk, all_walk, pairs_walk, content_walk, walk}
+use Rattle.cbor_model.proofs.Steps.{AreBytes-rest, bytes_found, IsWide, wide16, wide32, wide64, number_behind_found, first_is}
 use Rattle.cbor_strict.proofs.Copied.{two_parts, whole_head}
 use Rattle.cbor_model.proofs.Majors.{each_major}
 

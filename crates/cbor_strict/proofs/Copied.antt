@@ -1,21 +1,21 @@
 -- Copies of lemmas that are private below.
-use Rattle.std.proofs.Common.{◌≡◌, ℕ, zero, suc, ◌+◌, ◌*◌, ◌<◌, ◌≤◌, Bool, true, false, cond, eqb, ltb, List, [], ◌∷◌, ◌++◌, length, refl, sym, ap, subst, ◌∙◌, append_assoc, arith, Ordering}
+use Rattle.std.proofs.Common.{◌≡◌, ℕ, ◌+◌, ◌*◌, ◌≤◌, Bool, true, false, cond, eqb, ltb, List, ◌∷◌, ◌++◌, length, refl, sym, ap, ◌∙◌, append_assoc, arith, Ordering}
 use Rattle.std.specs.Int.{Width, w8, w16, w32, w64, byte_len}
 use Rattle.std.proofs.lemmas.List.{length-drop}
-use Rattle.cbor_model.specs.Head.{HeadWidth, limit, info, head, behind, least}
+use Rattle.cbor_model.specs.Head.{HeadWidth, info, head, behind, least}
 use Rattle.cbor_model.specs.Acceptable.{IsAcceptable}
 use Rattle.cbor_model.specs.Canonical.{KeysAscend, IsOrdered, canonical, canon}
 use Rattle.cbor_model.specs.Laws.{SpellsValue}
 use Rattle.cbor_model.specs.Order.{val_cmp}
 use Rattle.cbor_model.specs.Plain.{Val, Pairs, no_pairs, pair}
-use Rattle.cbor_model.specs.Reader.{Reads, ◌>>=◌, number_at, number_behind}
+use Rattle.cbor_model.specs.Reader.{Reads, number_at, number_behind}
 use Rattle.cbor_model.specs.Value.{put, by_order}
 use Rattle.cbor_model.proofs.Heads.{least-cases}
 use Rattle.cbor_model.proofs.Pairs.{Less-trans, Greater-from_Less}
 use Rattle.cbor_model.proofs.ReadsBack.{followed_by, reads_back}
 use Rattle.cbor_model.proofs.Taken.{Leaves}
 use Rattle.cbor_strict.specs.Departure.{floor}
-use Rattle.std.specs.declared.cmp.Ordering.TheVariants.{Less, Equal, Greater}
+use Rattle.std.specs.declared.cmp.Ordering.TheVariants.{Less}
 
 pub followed_by-none : (ps : Pairs) → followed_by ps no_pairs ≡ ps
 followed_by-none no_pairs = refl

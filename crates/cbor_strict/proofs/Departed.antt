@@ -1,8 +1,7 @@
 -- What a walk answers is the first departure, by the definitions.
-use Rattle.std.proofs.Common.{◌≡◌, ℕ, zero, suc, ◌+◌, ◌-◌, ◌^◌, ◌<◌, ◌≤◌, Bool, true, false, cond, ltb, List, [], ◌∷◌, ◌++◌, length, take, drop, Option, Some, None, Ordering, Less, Equal, Greater, Ok, Err, refl, sym, ap, ap₂, subst, ◌∙◌, arith, inl, inr}
+use Rattle.std.proofs.Common.{◌≡◌, ℕ, zero, suc, ◌+◌, ◌<◌, ◌≤◌, Bool, true, false, cond, List, [], ◌∷◌, ◌++◌, length, take, drop, Option, Some, None, Ordering, Less, Equal, Greater, refl, sym, ap, subst, ◌∙◌, arith}
 use Rattle.std.specs.List.{Contains}
-use Rattle.std.proofs.lemmas.Bool.{cases_lt}
-use Rattle.std.proofs.lemmas.List.{append-nil, length-append, length-take, length-drop, take_at, take-take, take-append-drop}
+use Rattle.std.proofs.lemmas.List.{append-nil, length-append, length-take, length-drop, take_at, take-append-drop}
 use Rattle.cbor_model.specs.Head.{HeadWidth, head}
 use Rattle.cbor_model.specs.Raw as raw
 use Rattle.cbor_model.specs.Raw.{Length, definite, indefinite, Raw, Raws, no_raws, RawPairs, no_raw_pairs, raw_pair, Chunk, Simple, false_item, true_item, null_item, undefined_item, AreBytes, count, pair_count, depth, IsWellFormed}
@@ -14,7 +13,7 @@ use Rattle.cbor_strict.specs.Walk.{Walk, passed, departed, stopped, walk, walk_o
 use Rattle.cbor_strict.specs.Strict.{IsFirstShown}
 use Rattle.cbor_strict.proofs.Walked.{Tells, walked}
 use Rattle.cbor_strict.proofs.Fronts.{Below, Goes, walk_local, walk_fuel}
-use Rattle.cbor_strict.proofs.Completed.{Begins, walk_begins}
+use Rattle.cbor_strict.proofs.Completed.{walk_begins}
 use Rattle.std.specs.Prelude.{flat_map, nat_lt}
 
 -- ---- departures are listed in the order of the bytes

@@ -1,9 +1,9 @@
 -- The first refusal of strict reading: that of ordinary reading, or the first departure.
-use Rattle.std.proofs.Common.{◌≡◌, ◌⊎◌, ℕ, ◌+◌, ◌-◌, ◌^◌, ◌<◌, ◌≤◌, List, length, take, None, refl, sym, ap, subst, ◌∙◌, arith, inl, inr}
+use Rattle.std.proofs.Common.{◌≡◌, ◌⊎◌, ℕ, ◌^◌, ◌<◌, ◌≤◌, List, length, None, refl, sym, ap, subst, ◌∙◌, arith, inl, inr}
 use Rattle.std.proofs.lemmas.Bool.{cases_lt}
 use Rattle.cbor_model.specs.Raw.{AreBytes}
 use Rattle.cbor_model.specs.Refusal.{Refusal, end_in_value, end_in_array, end_in_map, length_out_of_range, invalid_utf8, unassigned_code, unexpected_code, trailing_data, too_deep, scratch_too_small, wrong_struct_format}
-use Rattle.cbor_model.specs.Allowed.{Limits, limits_of, IsAllowed, IsEnd, IsBefore, IsFirstRefusal}
+use Rattle.cbor_model.specs.Allowed.{Limits, limits_of, IsAllowed, IsEnd, IsFirstRefusal}
 use Rattle.cbor_model.specs.Laws.{SpellsValue}
 use Rattle.cbor_model.specs.Plain.{Val}
 use Rattle.cbor_model.proofs.facts.Refusals.{spelled_allows_none}

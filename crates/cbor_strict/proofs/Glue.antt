@@ -1,8 +1,8 @@
 -- Strict reading over the ordinary one.
-use Rattle.std.proofs.Common.{◌≡◌, ◌⊎◌, ℕ, suc, ◌+◌, ◌-◌, ◌^◌, ◌<◌, ◌≤◌, Bool, true, false, List, [], length, take, None, refl, sym, ap, subst, ◌∙◌, arith, inl, inr}
+use Rattle.std.proofs.Common.{◌≡◌, ℕ, ◌^◌, ◌<◌, ◌≤◌, Bool, true, false, List, [], length, take, None, refl, sym, ap, subst, ◌∙◌, arith, inl, inr}
 use Rattle.std.proofs.lemmas.Bool.{cases_lt}
 use Rattle.std.proofs.lemmas.List.{length-take}
-use Rattle.cbor_model.specs.Raw.{Raw, AreBytes, depth, IsWellFormed}
+use Rattle.cbor_model.specs.Raw.{Raw, AreBytes}
 use Rattle.cbor_model.specs.Spelling.{spell}
 use Rattle.cbor_model.specs.Acceptable.{IsAcceptable, max_depth}
 use Rattle.cbor_model.specs.Allowed.{limits_of, IsFirstRefusal}
@@ -20,14 +20,14 @@ use Rattle.cbor_io.specs.declared.error.ErrorCode.TheVariants.{NotCanonical}
 use Rattle.cbor_io.specs.Error.{code_of, offset_of, IsOutOfMemory}
 use Rattle.cbor_de.specs.FirstRefusal.{TellsFirst}
 use Rattle.cbor_scalars.specs.Takes.{WhereTotal}
-use Rattle.cbor_strict.specs.Departure.{departures, DepartsAt, IsFirstDeparture, ShowsDeparture}
-use Rattle.cbor_strict.specs.Walk.{passed, departed, walk, walk_of}
+use Rattle.cbor_strict.specs.Departure.{ShowsDeparture}
+use Rattle.cbor_strict.specs.Walk.{passed, departed, walk_of}
 use Rattle.cbor_strict.specs.Strict.{SpellsCanonically, SpellsCanonicallyAs, IsFirstShown}
-use Rattle.cbor_strict.specs.StrictRefusals.{ordinary, not_canonical, IsFirstStrictRefusal}
+use Rattle.cbor_strict.specs.StrictRefusals.{ordinary, not_canonical}
 use Rattle.cbor_strict.specs.StrictAnswers.{TellsFirstStrictly, TellsItsDeparture}
 use Rattle.cbor_strict.proofs.Clean.{clean, canonical_clean}
 use Rattle.cbor_strict.proofs.Departed.{item_departs, none_departs, shown_departs, departed_shows}
-use Rattle.cbor_strict.proofs.Strict.{enough, none_listed, listed_none, walk_whole, first_of_front, first_of_item, to_front}
+use Rattle.cbor_strict.proofs.Strict.{enough, none_listed, listed_none, walk_whole, first_of_front, to_front}
 use Rattle.cbor_strict.proofs.Copied.{spells_canon}
 use Rattle.cbor_strict.proofs.Fronts.{Below, walk_fewer}
 use Rattle.cbor_strict.proofs.FirstRefusals.{departs_alone, departs_before, fault_before}

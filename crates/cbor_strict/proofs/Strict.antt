@@ -1,29 +1,23 @@
 -- Strict reading.
-use Rattle.std.proofs.Common.{◌≡◌, ◌⊎◌, ℕ, zero, suc, ◌+◌, ◌-◌, ◌^◌, ◌<◌, ◌≤◌, List, [], ◌∷◌, ◌++◌, length, take, drop, Result, Ok, Err, Option, None, Some, refl, sym, ap, ap₂, subst, ◌∙◌, arith, inl, inr}
+use Rattle.std.proofs.Common.{◌≡◌, ℕ, suc, ◌+◌, ◌^◌, ◌<◌, ◌≤◌, List, [], ◌∷◌, length, take, refl, sym, ap, subst, ◌∙◌, arith, inl, inr}
 use Rattle.std.specs.List.{Contains}
 use Rattle.std.proofs.lemmas.Bool.{cases_lt}
-use Rattle.std.proofs.lemmas.List.{append-nil, length-append, length-take, take-take}
-use Rattle.cbor_model.specs.Raw.{Raw, AreBytes, depth, IsWellFormed}
+use Rattle.std.proofs.lemmas.List.{append-nil, length-take, take-take}
+use Rattle.cbor_model.specs.Raw.{Raw, depth}
 use Rattle.cbor_model.specs.Spelling.{spell, BeginsSpelling}
 use Rattle.cbor_model.specs.Acceptable.{IsAcceptable, max_depth}
-use Rattle.cbor_model.specs.Plain.{Val}
 use Rattle.cbor_model.specs.Value.{value}
-use Rattle.cbor_model.specs.Canonical.{IsStorable, IsOrdered, canonical, canon}
+use Rattle.cbor_model.specs.Canonical.{canonical, canon}
 use Rattle.cbor_strict.specs.Departure.{departures, DepartsAt, IsFirstDeparture, ShowsDeparture}
-use Rattle.cbor_model.specs.Laws.{SpellsValue}
-use Rattle.cbor_strict.specs.Walk.{Walk, passed, departed, stopped, walk, walk_of}
+use Rattle.cbor_strict.specs.Walk.{departed, walk, walk_of}
 use Rattle.cbor_strict.specs.Strict.{SpellsCanonically, IsFirstShown}
 use Rattle.cbor_strict.specs.Strict as laws
-use Rattle.cbor_model.proofs.Steps.{AreBytes-take}
 use Rattle.cbor_model.proofs.Apart.{one_spelling}
-use Rattle.cbor_strict.proofs.Copied.{spells_canon}
 use Rattle.cbor_model.proofs.Canonical.{value_is_canonical}
-use Rattle.cbor_model.proofs.ReadsBack.{reads_back}
-use Rattle.cbor_model.proofs.Whole.{found_whole, read_whole}
 use Rattle.cbor_strict.proofs.Clean.{clean, canonical_clean}
 use Rattle.cbor_strict.proofs.Walked.{clean_key, keys_compare}
-use Rattle.cbor_strict.proofs.Fronts.{Below, walk_fewer, walk_fuel}
-use Rattle.cbor_strict.proofs.Departed.{first_listed, departs_first, item_departs, none_departs, shown_departs, departed_shows}
+use Rattle.cbor_strict.proofs.Fronts.{walk_fuel}
+use Rattle.cbor_strict.proofs.Departed.{first_listed, departs_first, shown_departs, departed_shows}
 
 -- ---- departures of an item
 

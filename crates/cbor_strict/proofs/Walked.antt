@@ -1,5 +1,5 @@
 -- A walk over a spelling answers the first of the item's departures, or else goes past it.
-use Rattle.std.proofs.Common.{◌≡◌, ℕ, zero, suc, ◌+◌, ◌-◌, ◌*◌, ◌^◌, ◌<◌, ◌≤◌, Bool, true, false, cond, ltb, eqb, List, [], ◌∷◌, ◌++◌, length, take, drop, Option, Some, None, Ordering, Less, Equal, Greater, refl, sym, ap, ap₂, subst, ◌∙◌, append_assoc, arith}
+use Rattle.std.proofs.Common.{◌≡◌, ℕ, zero, suc, ◌+◌, ◌-◌, ◌<◌, Bool, true, false, cond, ltb, eqb, List, [], ◌∷◌, ◌++◌, length, take, Option, Some, None, Ordering, Less, Equal, Greater, refl, sym, ap, ap₂, subst, ◌∙◌, append_assoc, arith}
 use Rattle.std.specs.Int.{w16, w32, w64, to_be_bytes}
 use Rattle.std.proofs.lemmas.Bool.{le-ltb, ne_eqb}
 use Rattle.std.proofs.lemmas.List.{append-nil, length-append, take_at, drop_at}
@@ -10,10 +10,10 @@ use Rattle.cbor_model.specs.Raw.{Length, definite, indefinite, Raw, Raws, no_raw
 use Rattle.cbor_model.specs.Spelling.{spell, spell_all, spell_pairs}
 use Rattle.cbor_model.specs.Order.{lex, val_cmp}
 use Rattle.cbor_model.specs.Value.{value, by_order}
-use Rattle.cbor_model.specs.Canonical.{IsStorable, canonical, canon}
+use Rattle.cbor_model.specs.Canonical.{IsStorable, canon}
 use Rattle.cbor_model.specs.InRange.{IsInRange}
-use Rattle.cbor_strict.specs.Departure.{floor, head_end, long_head, long_length, length_end, undefined_at, not_above, departures, all_departures, pair_departures}
-use Rattle.cbor_strict.specs.Walk.{Walk, passed, departed, stopped, and_then, past, on_shortest, with_shortest, with_count, simple_walk, all_walk, above, pairs_walk, content_walk, walk}
+use Rattle.cbor_strict.specs.Departure.{floor, head_end, long_head, not_above, departures, all_departures, pair_departures}
+use Rattle.cbor_strict.specs.Walk.{Walk, passed, departed, and_then, past, with_shortest, with_count, simple_walk, all_walk, above, pairs_walk, content_walk, walk}
 use Rattle.cbor_model.proofs.Steps.{info-below, width_of-info, number_behind_again, high_of, low_of}
 use Rattle.cbor_model.proofs.FirstBytes.{IsBegun, begun}
 use Rattle.cbor_model.proofs.Storable.{storable}

@@ -6,8 +6,8 @@ use Rattle.std.specs.List.{Contains}
 use Rattle.cbor_model.specs.Head.{HeadWidth, no_bytes, one_byte, two_bytes, four_bytes, eight_bytes}
 use Rattle.cbor_model.specs.Head.{limit, head}
 use Rattle.cbor_model.specs.Raw.{Length, definite, indefinite, Raw, Raws, no_raws, raw, RawPairs}
-use Rattle.cbor_model.specs.Raw.{no_raw_pairs, raw_pair, Chunk, Simple, false_item, true_item}
-use Rattle.cbor_model.specs.Raw.{null_item, undefined_item, half, unsigned, negative, bytes, text}
+use Rattle.cbor_model.specs.Raw.{no_raw_pairs, raw_pair, Chunk, Simple}
+use Rattle.cbor_model.specs.Raw.{undefined_item, half, unsigned, negative, bytes, text}
 use Rattle.cbor_model.specs.Raw.{bytes_chunks, text_chunks, array, map, tag, simple, float, count}
 use Rattle.cbor_model.specs.Raw.{pair_count}
 use Rattle.cbor_model.specs.Spelling.{chunk, spell, BeginsSpelling}

@@ -1,11 +1,11 @@
 -- Going through the bytes of an item up to its first departure, without memory. It is no definition
 -- of the format: laws tie it to the departures of items.
-use Rattle.std.specs.Prelude.{◌≡◌, ℕ, zero, suc, ◌+◌, ◌-◌, ◌/◌, ◌%◌, List, [], ◌∷◌, length, take, drop}
-use Rattle.std.specs.Prelude.{pos, Result, Ok, Err, nat_lt, ◌==◌, if◌then◌else◌, refl}
+use Rattle.std.specs.Prelude.{ℕ, zero, suc, ◌-◌, ◌/◌, ◌%◌, List, [], ◌∷◌, length, take, drop}
+use Rattle.std.specs.Prelude.{Ok, Err, nat_lt, ◌==◌, if◌then◌else◌}
 use Rattle.cbor_model.specs.Head.{HeadWidth}
 use Rattle.cbor_model.specs.Major.{Major, unsigned, negative, bytes, text, array, map, tag, simple}
 use Rattle.cbor_model.specs.Major.{major_of}
-use Rattle.cbor_model.specs.Order.{lex, flat}
+use Rattle.cbor_model.specs.Order.{lex}
 use Rattle.cbor_model.specs.Value.{by_order}
 use Rattle.cbor_strict.specs.Departure.{floor}
 use Rattle.cbor_model.specs.Reader.{Reads, width_of, number_behind}

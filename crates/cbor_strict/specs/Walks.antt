@@ -1,7 +1,7 @@
 -- What going through bytes answers.
-use Rattle.std.specs.Prelude.{⊤, ◌≡◌, ◌+◌, ◌-◌, ◌<◌, ◌≤◌, ℕ, List, length, drop, Option, Some, None, Ok}
-use Rattle.std.specs.Prelude.{Result, IsErr}
-use Rattle.cbor_model.specs.Reader.{Reads, number_behind}
+use Rattle.std.specs.Prelude.{⊤, ◌≡◌, ◌-◌, ◌<◌, ◌≤◌, ℕ, List, length, drop, Option, Some, None, Ok}
+use Rattle.std.specs.Prelude.{IsErr}
+use Rattle.cbor_model.specs.Reader.{number_behind}
 use Rattle.cbor_strict.specs.Departure.{ShowsDeparture}
 use Rattle.cbor_strict.specs.Strict.{IsFirstShown}
 use Rattle.cbor_strict.specs.Walk as model

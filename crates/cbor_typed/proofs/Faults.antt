@@ -1,5 +1,5 @@
 -- The fault that an error tells, where a type reads every item.
-use Rattle.std.proofs.Common.{inl, inr, ◌⊎◌, ◌≡◌, ◌+◌, ℕ, Bool, true, false, List, length, Option, Result, Ok, Err, IfErr, refl, sym, ap, subst, ◌∙◌, arith}
+use Rattle.std.proofs.Common.{inl, inr, ◌⊎◌, ◌≡◌, ◌+◌, ℕ, Bool, true, false, List, length, Result, Ok, Err, IfErr, refl, sym, ap, subst, ◌∙◌, arith}
 use Rattle.std.specs.Prelude.{⊤}
 use Rattle.cbor_model.specs.Formats.{Formats, all_formats}
 use Rattle.cbor_model.specs.Raw.{Raw}
@@ -124,7 +124,7 @@ module _ {T : Type 0} (passes_over total : Bool) (allowed : ReadErrorCode → Bo
         | inr all ↦
             let here = subst (λ (n : ℕ). FailsBy D k n at (whole_at all_formats max_depth l bs)) end all.0 in
             let fails = fails_map D E g k (length bs) at (read_value_in s.room bs)
-                (passed_on D k (length bs) at (whole_at all_formats max_depth l bs) (read_value_in s.room bs) (λ d is. fault_in s bs zero d is) here) in
+            (passed_on D k (length bs) at (whole_at all_formats max_depth l bs) (read_value_in s.room bs) (λ d is. fault_in s bs zero d is) here) in
             inr (fails, subst (λ (i : Limits). IsSomeRead reads (item_at (raws all_formats i) max_depth bs)) same all.1)
       ]
     where

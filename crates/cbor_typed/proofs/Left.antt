@@ -5,7 +5,7 @@ use Rattle.cbor_model.specs.Formats.{Formats}
 use Rattle.cbor_model.specs.Raw.{Raw}
 use Rattle.cbor_io.specs.declared.error.Error.{Error}
 use Rattle.cbor_io.specs.declared.read_error.ReadErrorCode.{ReadErrorCode}
-use Rattle.cbor_read.specs.Source.{Input, TookSome}
+use Rattle.cbor_read.specs.Source.{Input}
 use Rattle.cbor_scalars.specs.Takes.{TakesItem}
 
 some_is : (x y : List ℕ) → Some x ≡ Some y → x ≡ y

@@ -1,10 +1,15 @@
 //! What a caller knows by the contracts alone: that reading and writing twice changes nothing more,
-//! that values stand in the order of their bytes, and that two sources answer alike.
+//! that values stand in the order of their bytes, that two sources answer alike, and what was taken
+//! of the bytes.
 
-ghost use Rattle.std.specs.Prelude.{◌≡◌, IfOk, IsTrue};
+ghost use Rattle.std.specs.Prelude.{◌≡◌, ◌-◌, ◌^◌, ℕ, List, IfOk, IsTrue};
+ghost use Rattle.cbor_model.specs.Acceptable.{max_depth};
+ghost use Rattle.cbor_model.specs.Formats.{all_formats};
+ghost use Rattle.cbor_model.specs.Readable.{PassesTags, IsFromZero};
+ghost use Rattle.serde_cbor.specs.ItemTaken.{BeginsAs};
 ghost use Rattle.serde_cbor.specs.Alike.{AreAlike};
 
-use serde_cbor::de::sources_agree;
+use serde_cbor::de::{Deserialize, Deserializer, item_taken, sources_agree};
 use serde_cbor::value::Float;
 use serde_cbor::{Value, from_slice, from_slice_with_scratch, to_vec};
 use std::alloc::{AllocError, Global};
@@ -145,4 +150,22 @@ fn two_sources_answer_alike(rt: HostRuntime) -> Result<(), Fail> {
     let (one, other) = read_twice(alloc, b"\x82\x62\xc3\x28", &mut []);
     is_refused(one, "invalid UTF-8 at offset 2")?;
     is_refused(other, "invalid UTF-8 at offset 2")
+}
+
+/// The number that the bytes begin with: they are the spelling of an item that is such a number,
+/// within any tags, and other bytes.
+fn first_number(alloc: Global, bytes: &[u8]) -> serde_cbor::Result<u8>
+    ensures { IfOk result (λ n. (rest : List ℕ)
+        × BeginsAs all_formats max_depth (PassesTags (IsFromZero (2 ^ 8 - 1))) bytes.now n rest) }
+{
+    item_taken::<u8>();
+    let mut de = Deserializer::from_slice(alloc, bytes);
+    u8::deserialize(&mut de)
+}
+
+// 42 within a tag, in a longer head than it needs, and a break behind it.
+#[test]
+fn reads_the_number_in_front(rt: HostRuntime) -> Result<(), Fail> {
+    assert!(rt; first_number(rt.alloc(), b"\xc1\x19\x00\x2a\xff")? == 42);
+    Ok(())
 }

@@ -1,4 +1,4 @@
-use Rattle.std.proofs.Common.{◌≡◌, subst, Some, sym, ap, Result, inr}
+use Rattle.std.proofs.Common.{◌≡◌, subst, Some, sym, Result, inr}
 use Rattle.cbor_model.specs.Acceptable.{max_depth}
 use Rattle.cbor_model.specs.Formats.{Formats, all_formats}
 use Rattle.cbor_io.specs.declared.error.Error.{Error}

@@ -1,4 +1,3 @@
-use Rattle.std.proofs.Common.{◌≡◌, sym, ap, subst, ◌∙◌, inl, inr, IfOk, IfErr, Ok, Err, Result}
 use Rattle.cbor_strict.proofs.AtValue.{found, accepted, departs}
 use Rattle.cbor_strict.proofs.from.from_slice_canonical.Goals as goal
 

@@ -1,4 +1,4 @@
-use Rattle.std.proofs.Common.{◌≡◌, ◌^◌, ◌<◌, ℕ, List, length, take, sym, ap, subst, ◌∙◌, arith, inl, inr}
+use Rattle.std.proofs.Common.{ℕ, List, take, sym, ap, subst, ◌∙◌, arith, inl, inr}
 use Rattle.cbor_model.specs.Raw.{AreBytes}
 use Rattle.cbor_io.specs.Error.{offset_of}
 use Rattle.cbor_typed.specs.Whole.{from_slice_context}

@@ -1,9 +1,8 @@
-use Rattle.std.proofs.Common.{◌≡◌, ◌<◌, ◌≤◌, ◌-◌, ◌+◌, ◌/◌, ◌%◌, ◌∙◌, ℕ, List, [], length, refl, sym, ap, subst, arith}
-use Rattle.cbor_strict.specs.Walk.{walk, departed, passed, past, content_walk, all_walk, pairs_walk}
-use Rattle.cbor_model.specs.Major.{major_of}
-use Rattle.cbor_strict.specs.Walks.{last, walk_view, IsWithin}
+use Rattle.std.proofs.Common.{◌<◌, ◌≤◌, ◌/◌, ◌%◌, ◌∙◌, [], length, sym, ap, arith}
+use Rattle.cbor_strict.specs.Walk.{walk, departed, passed, all_walk, pairs_walk}
+use Rattle.cbor_strict.specs.Walks.{last}
 use Rattle.cbor_strict.proofs.walk.+walk.Goals as goal
-use Rattle.cbor_strict.proofs.Walking.{view-last, within-last, length-last, last-last, within_rest, on_integer, on_string, on_simple, on_none, on_open, on_long, on_array, on_map, on_tag, on_end, on_first, no_first, one_item, all_step, all_other, all_end, pairs_step, pairs_departs, pairs_other, pairs_value_other, pairs_end, rest_last, next_rest, key_of, key_at}
+use Rattle.cbor_strict.proofs.Walking.{length-last, within_rest, on_integer, on_string, on_simple, on_none, on_open, on_long, on_array, on_map, on_tag, on_end, on_first, no_first, one_item, all_step, all_other, all_end, pairs_step, pairs_departs, pairs_other, pairs_value_other, pairs_end, rest_last, next_rest, key_of, key_at}
 
 pub content-returns-then-major-le1-clause-walks : goal.content-returns-then-major-le1-clause-walks
 content-returns-then-major-le1-clause-walks t c = λ fuel enough.

@@ -1,4 +1,4 @@
-use Rattle.std.proofs.Common.{◌≡◌, ◌-◌, ◌∙◌, length, sym, ap, subst, arith}
+use Rattle.std.proofs.Common.{◌≡◌, ◌-◌, ◌∙◌, length, sym, subst, arith}
 use Rattle.cbor_strict.proofs.Departed.{departed_shows, shown_departs}
 use Rattle.cbor_strict.specs.Strict.{IsFirstShown}
 use Rattle.cbor_strict.proofs.Walking.{undeparted}

@@ -1,18 +1,17 @@
-use Rattle.std.proofs.Common.{◌≡◌, ◌∙◌, ℕ, List, Option, Some, None, Ok, IfErr, true, false, refl, sym, ap, subst, arith, rules}
+use Rattle.std.proofs.Common.{◌≡◌, ◌∙◌, ℕ, Option, Some, None, Ok, IfErr, true, false, refl, sym, ap, subst, arith, rules}
 use Rattle.std.proofs.lemmas.Result.{err_from_is_err_and}
-use Rattle.cbor_model.specs.Formats.{Formats, all_formats, may_begin_key}
+use Rattle.cbor_model.specs.Formats.{Formats, may_begin_key}
 use Rattle.cbor_model.specs.Head.{HeadWidth, no_bytes}
 use Rattle.cbor_model.specs.Raw.{Length, indefinite}
 use Rattle.cbor_model.specs.Refusal.{end_in_array, end_in_map, too_deep, wrong_struct_format}
-use Rattle.cbor_model.specs.Plain.{Val}
-use Rattle.cbor_model.specs.Reader.{Reads, byte_at, bytes_at, string_at, string_chunks_at, chunks_at, exceeds_most, array_at, map_at, tag_at, parts_at, after_first, item_at, inside}
+use Rattle.cbor_model.specs.Reader.{byte_at, array_at, map_at, tag_at, parts_at, after_first, item_at, inside}
 use Rattle.cbor_read.specs.Source.{Input}
 use Rattle.cbor_io.specs.declared.read_error.ReadErrorCode.TheVariants.{RecursionLimitExceeded, WrongStructFormat}
 use Rattle.cbor_de.specs.declared.head.Head.TheVariants as head
 use Rattle.cbor_de.specs.Deserializer.{formats_of}
-use Rattle.cbor_de.specs.Gives.{Limits, values, Step, Stopped, Gives}
-use Rattle.cbor_de.specs.Heads.{after_head, length_of, head_at, remaining_of, first_at, first_of_next, passed, joined_of}
-use Rattle.cbor_de.proofs.Steps.{subst_both, step_same, step_map, step_then, stopped_map, stopped_then, gives_then}
+use Rattle.cbor_de.specs.Gives.{values, Step, Stopped, Gives}
+use Rattle.cbor_de.specs.Heads.{after_head, length_of, head_at, remaining_of, first_at, first_of_next, passed}
+use Rattle.cbor_de.proofs.Steps.{subst_both, step_same, step_then, stopped_map, stopped_then, gives_then}
 use Rattle.cbor_de.proofs.Calls.{fault_stops, first_stops}
 use Rattle.cbor_de.proofs.Heads.{value_after, value_stops_at}
 use Rattle.cbor_de.proofs.Inside.{array_too_deep, map_too_deep, tag_too_deep, value_first, value_stops}

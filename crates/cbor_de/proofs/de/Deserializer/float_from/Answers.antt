@@ -1,4 +1,4 @@
-use Rattle.std.proofs.Common.{◌≡◌, ◌∙◌, ◌≤◌, ℕ, Ok, refl, sym, ap, arith, rules}
+use Rattle.std.proofs.Common.{◌≡◌, ◌∙◌, Ok, refl, sym, ap, rules}
 use Rattle.std.proofs.lemmas.Result.{err_from_is_err_and}
 use Rattle.std.specs.Int.{w16, w32, w64}
 use Rattle.cbor_model.specs.Plain.{Val}
@@ -6,7 +6,7 @@ use Rattle.cbor_model.specs.Reader.{number_at, after_first, inside}
 use Rattle.cbor_value.specs.declared.Float.TheVariants.{Half, Single, Double}
 use Rattle.cbor_de.specs.Deserializer.{formats_of}
 use Rattle.cbor_de.specs.Gives.{values}
-use Rattle.cbor_de.proofs.Steps.{step_same, step_map, stopped_map}
+use Rattle.cbor_de.proofs.Steps.{step_map, stopped_map}
 use Rattle.cbor_de.proofs.Numbers.{float_of_2, float_of_4, float_of_8, view_float}
 use Rattle.cbor_de.proofs.de.Deserializer.float_from.Goals as goal
 
