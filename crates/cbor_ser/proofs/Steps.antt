@@ -1,6 +1,7 @@
 -- What the calls of a serializer leave, put together.
 use Rattle.std.proofs.Common.{◌≡◌, ℕ, List, [], ◌++◌, Option, refl, sym, ap, ◌∙◌, subst, ◌⊎◌, inl, inr, ℤ, pos, negsuc, FitsSigned, arith, append-nil, Some, None, Bool, false, Vec}
-use Rattle.std.specs.Prelude.{Result, Ok, Err, IfErr, OnOk}
+use Rattle.std.specs.Prelude.{Result, Ok, Err, IfErr, OnOk, OnErr}
+use Rattle.std.specs.Option.{IsSomeAnd}
 use Rattle.std.specs.Result.{IsErrAnd}
 use Rattle.std.specs.Int.{w64}
 use Rattle.std.proofs.lemmas.Int.{ints}
@@ -38,6 +39,12 @@ integer_storable (negsuc n) fits = omega (arith, ints, fits)
 pub always : {T E : Type 0} (r : Result T E) → OnOk r (Unit {0})
 always (Ok x) = tt
 always (Err e) = tt
+
+-- what follows from what a step's refusal is
+pub if_refused : {T E A : Type 0} {P Q : A → Type 0} (r : Result T E) (o : Option A) → ((a : A) → P a → Q a) → OnErr r (IsSomeAnd o P) → OnErr r (IsSomeAnd o Q)
+if_refused (Ok x) o f h = tt
+if_refused (Err e) (Some a) f h = f a h
+if_refused (Err e) None f h = h
 
 -- ---- the same part, put otherwise
 
@@ -135,7 +142,7 @@ module _ {W : Type 0} {written : W → Option (List ℕ)} {refuses : W → Error
     | inr y ↦ subst (λ bs. AppendsBeginning bs (written old.writer) (written new.writer)) (sym y.1.1) (began_more y.1.0 b.appended)
   ]
 
-  stopped_then : {old mid new : Serializer W} {f g : Part} {e : Error} → Added written references capacity old f mid → Stopped written refuses references capacity mid g new e → Stopped written refuses references capacity old (both f g) new e
+  pub stopped_then : {old mid new : Serializer W} {f g : Part} {e : Error} → Added written references capacity old f mid → Stopped written refuses references capacity mid g new e → Stopped written refuses references capacity old (both f g) new e
   unfolding part_bytes
   stopped_then {old = old} {mid = mid} {new = new} {f = f} {g = g} a b = record {
     appended = began_then (written old.writer) (written mid.writer) (written new.writer) (bytes_under old.settings f) (bytes_under old.settings g) a.appended
@@ -148,7 +155,7 @@ module _ {W : Type 0} {written : W → Option (List ℕ)} {refuses : W → Error
     no_room = λ storable room. b.no_room storable.1 (room_then f g a room);
   }
 
-  stopped_before : {old new : Serializer W} {f : Part} (g : Part) {e : Error} → Stopped written refuses references capacity old f new e → Stopped written refuses references capacity old (both f g) new e
+  pub stopped_before : {old new : Serializer W} {f : Part} (g : Part) {e : Error} → Stopped written refuses references capacity old f new e → Stopped written refuses references capacity old (both f g) new e
   unfolding part_bytes
   stopped_before {old = old} {f = f} g b = record {
     appended = began_more (bytes_under old.settings g) b.appended;

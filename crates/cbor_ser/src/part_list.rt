@@ -1,17 +1,19 @@
 //! Lists of references to the parts of structs, variants and tuples, by which tuples of them are
 //! written.
 
-ghost use Rattle.std.specs.Prelude.{◌≡◌, ◌+◌, ◌^◌, ◌<◌, ◌≤◌, ℕ, List, length, map, Some};
+ghost use Rattle.std.specs.Prelude.{◌≡◌, ◌+◌, ◌^◌, ◌<◌, ◌≤◌, ℕ, List, length, map, Some, OnErr, OnOk};
+ghost use Rattle.std.specs.Option.{IsSomeAnd};
 ghost use Rattle.cbor_model.specs.Document.{no_docs, doc, no_fields, field_count};
 ghost use Rattle.cbor_model.specs.Parts.{items, ending};
 ghost use Rattle.cbor_model.specs.Parts as part;
 ghost use Rattle.cbor_ser.specs.PartLists.{field_if};
-ghost use Rattle.cbor_ser.specs.Serialized.{Serialized};
+ghost use Rattle.cbor_ser.specs.Serialized.{Serialized, Stopped};
 
 use crate::field::SerializeField;
+use crate::items::{Done, Refused, answer};
 use crate::serialize::Serialize;
 use crate::serializer::Serializer;
-use cbor_io::error::Result;
+use cbor_io::error::{Error, Result};
 use cbor_io::write::Write;
 
 // References to fields: a pair of the first and the others, or `()`. What the check passes on of
@@ -154,36 +156,77 @@ impl<
     }
 }
 
-// References to the items of an array: a pair of the first and the others, or `()`; or four, and
-// those after them.
+// References to the items of an array but the last: a pair of the first and the others, or `()`; or
+// four, and those after them.
 pub(crate) trait WriteItems {
+    ghost use Rattle.std.specs.Prelude.{Result};
+    ghost use Rattle.cbor_io.specs.declared.error.Error.{Error};
     ghost use Rattle.cbor_model.specs.Document.{Docs};
+    ghost use Rattle.cbor_ser.specs.declared.serializer.Serializer.{Serializer};
 
-    // What they are written as.
-    ghost documents: { Self → Docs };
+    // What they are written as, before these documents.
+    ghost documents: { Self → Docs → Docs };
 
-    // Appends the items of an array, of which a count was declared, and its end.
-    fn write_items<W: Write>(&self, ser: &mut Serializer<W>) -> Result<()>
-        ensures { Serialized W.written W.refuses W.references W.capacity ser.old
-            (items (documents self.now) (ending (Some 0))) ser.new result };
+    // Appends them. What refuses one of them is left in `refusal`: an `Error` is large, and a `Result`
+    // with one would be copied at each item.
+    fn write_items<W: Write>(&self, ser: &mut Serializer<W>, refusal: &mut Option<Error>) -> Done
+        // Where the others are written next, all are.
+        ensures ok { OnOk result ((ds : Docs) (last : Serializer W) (r : Result (Unit {0}) Error)
+            → Serialized W.written W.refuses W.references W.capacity ser.new
+            (items ds (ending (Some 0))) last r
+            → Serialized W.written W.refuses W.references W.capacity ser.old
+            (items (documents self.now ds) (ending (Some 0))) last r) }
+        ensures err { OnErr result (IsSomeAnd refusal.new (λ e. (ds : Docs)
+            → Stopped W.written W.refuses W.references W.capacity ser.old
+            (items (documents self.now ds) (ending (Some 0))) ser.new e)) };
+}
+
+impl<W: Write> Serializer<W> {
+    // Appends the items of an array of which a count was declared, and its end: the first ones, and
+    // the last.
+    #[inline(always)]
+    pub(crate) fn write_parts<F: WriteItems, L: Serialize>(
+        &mut self,
+        first: &F,
+        last: &L,
+    ) -> Result<()>
+        ensures { Serialized W.written W.refuses W.references W.capacity self.old
+            (items (F.documents first.now (doc (L.document last.now) no_docs)) (ending (Some 0)))
+            self.new result }
+    {
+        let mut refusal = None;
+        match first.write_items(self, &mut refusal) {
+            Ok(()) => last.serialize(self),
+            Err(Refused) => answer(Err(Refused), refusal),
+        }
+    }
 }
 
 impl WriteItems for () {
-    ghost documents = { λ u. no_docs };
+    ghost documents = { λ u ds. ds };
 
     #[inline(always)]
-    fn write_items<W: Write>(&self, ser: &mut Serializer<W>) -> Result<()> {
-        ser.write_end(Some(0))
+    fn write_items<W: Write>(
+        &self,
+        _ser: &mut Serializer<W>,
+        _refusal: &mut Option<Error>,
+    ) -> Done {
+        Ok(())
     }
 }
 
 impl<'a, A: Serialize, F: WriteItems> WriteItems for (&'a A, F) {
-    ghost documents = { λ p. doc (A.document p.0.now) (F.documents p.1) };
+    ghost documents = { λ p ds. doc (A.document p.0.now) (F.documents p.1 ds) };
 
     #[inline(always)]
-    fn write_items<W: Write>(&self, ser: &mut Serializer<W>) -> Result<()> {
-        self.0.serialize(ser)?;
-        self.1.write_items(ser)
+    fn write_items<W: Write>(&self, ser: &mut Serializer<W>, refusal: &mut Option<Error>) -> Done {
+        match self.0.serialize(ser) {
+            Ok(()) => self.1.write_items(ser, refusal),
+            Err(error) => {
+                *refusal = Some(error);
+                Err(Refused)
+            }
+        }
     }
 }
 
@@ -191,22 +234,22 @@ impl<'a, F: WriteItems> WriteItems for &'a F {
     ghost documents = { λ p. F.documents p.now };
 
     #[inline(always)]
-    fn write_items<W: Write>(&self, ser: &mut Serializer<W>) -> Result<()> {
-        (**self).write_items(ser)
+    fn write_items<W: Write>(&self, ser: &mut Serializer<W>, refusal: &mut Option<Error>) -> Done {
+        (**self).write_items(ser, refusal)
     }
 }
 
 impl<'a, A: Serialize, B: Serialize, C: Serialize, D: Serialize, F: WriteItems> WriteItems
     for (&'a A, &'a B, &'a C, &'a D, F) {
-    ghost documents = { λ p.
+    ghost documents = { λ p ds.
         doc (A.document p.0.now)
         (doc (B.document p.1.now)
         (doc (C.document p.2.now)
-        (doc (D.document p.3.now) (F.documents p.4)))) };
+        (doc (D.document p.3.now) (F.documents p.4 ds)))) };
 
     #[inline(always)]
-    fn write_items<W: Write>(&self, ser: &mut Serializer<W>) -> Result<()> {
+    fn write_items<W: Write>(&self, ser: &mut Serializer<W>, refusal: &mut Option<Error>) -> Done {
         let items = (self.0, (self.1, (self.2, (self.3, &self.4))));
-        items.write_items(ser)
+        items.write_items(ser, refusal)
     }
 }

@@ -1,12 +1,11 @@
 //! Tuples: those of references, by which variants of several parts are written, and the standard
-//! library's, of which those of five parts and more are written by the same recursion.
+//! library's, which are written by the same recursion.
 
 ghost use Rattle.std.specs.Prelude.{◌≡◌, ◌^◌, ◌<◌, Some};
 ghost use Rattle.cbor_model.specs.Document.{declared, doc_count, no_docs, doc, sequence};
 ghost use Rattle.cbor_model.specs.Parts.{item, items, ending};
 ghost use Rattle.cbor_ser.specs.Serialized.{Serialized};
 
-use crate::part_list::WriteItems;
 use crate::serialize::Serialize;
 use crate::serializer::Serializer;
 use cbor_io::error::Result;
@@ -40,8 +39,7 @@ impl<'a, A: Serialize> SerializeTuple for (&'a A,) {
 
     #[inline(always)]
     fn serialize_items<W: Write>(&self, ser: &mut Serializer<W>) -> Result<()> {
-        let items = (self.0, ());
-        items.write_items(ser)
+        ser.write_parts(&(), self.0)
     }
 }
 
@@ -56,8 +54,8 @@ impl<'a, A: Serialize, B: Serialize> SerializeTuple for (&'a A, &'a B) {
 
     #[inline(always)]
     fn serialize_items<W: Write>(&self, ser: &mut Serializer<W>) -> Result<()> {
-        let items = (self.0, (self.1, ()));
-        items.write_items(ser)
+        let first = (self.0, ());
+        ser.write_parts(&first, self.1)
     }
 }
 
@@ -73,8 +71,8 @@ impl<'a, A: Serialize, B: Serialize, C: Serialize> SerializeTuple for (&'a A, &'
 
     #[inline(always)]
     fn serialize_items<W: Write>(&self, ser: &mut Serializer<W>) -> Result<()> {
-        let items = (self.0, (self.1, (self.2, ())));
-        items.write_items(ser)
+        let first = (self.0, (self.1, ()));
+        ser.write_parts(&first, self.2)
     }
 }
 
@@ -92,8 +90,8 @@ impl<'a, A: Serialize, B: Serialize, C: Serialize, D: Serialize> SerializeTuple
 
     #[inline(always)]
     fn serialize_items<W: Write>(&self, ser: &mut Serializer<W>) -> Result<()> {
-        let items = (self.0, self.1, self.2, self.3, ());
-        items.write_items(ser)
+        let first = (self.0, (self.1, (self.2, ())));
+        ser.write_parts(&first, self.3)
     }
 }
 
@@ -112,8 +110,8 @@ impl<'a, A: Serialize, B: Serialize, C: Serialize, D: Serialize, E: Serialize> S
 
     #[inline(always)]
     fn serialize_items<W: Write>(&self, ser: &mut Serializer<W>) -> Result<()> {
-        let items = (self.0, self.1, self.2, self.3, (self.4, ()));
-        items.write_items(ser)
+        let first = (self.0, self.1, self.2, self.3, ());
+        ser.write_parts(&first, self.4)
     }
 }
 
@@ -140,8 +138,8 @@ impl<
 
     #[inline(always)]
     fn serialize_items<W: Write>(&self, ser: &mut Serializer<W>) -> Result<()> {
-        let items = (self.0, self.1, self.2, self.3, (self.4, (self.5, ())));
-        items.write_items(ser)
+        let first = (self.0, self.1, self.2, self.3, (self.4, ()));
+        ser.write_parts(&first, self.5)
     }
 }
 
@@ -170,14 +168,8 @@ impl<
 
     #[inline(always)]
     fn serialize_items<W: Write>(&self, ser: &mut Serializer<W>) -> Result<()> {
-        let items = (
-            self.0,
-            self.1,
-            self.2,
-            self.3,
-            (self.4, (self.5, (self.6, ()))),
-        );
-        items.write_items(ser)
+        let first = (self.0, self.1, self.2, self.3, (self.4, (self.5, ())));
+        ser.write_parts(&first, self.6)
     }
 }
 
@@ -208,21 +200,18 @@ impl<
 
     #[inline(always)]
     fn serialize_items<W: Write>(&self, ser: &mut Serializer<W>) -> Result<()> {
-        let items = (
+        let first = (
             self.0,
             self.1,
             self.2,
             self.3,
-            (self.4, self.5, self.6, self.7, ()),
+            (self.4, (self.5, (self.6, ()))),
         );
-        items.write_items(ser)
+        ser.write_parts(&first, self.7)
     }
 }
 
 // ---- the standard library's tuples
-
-// Up to four parts are written one by one: by the recursion they take up to 17 percent more
-// instructions.
 
 impl<W: Write> Serializer<W> {
     // Appends these parts as a sequence.
@@ -240,8 +229,7 @@ impl<A: Serialize> Serialize for (A,) {
     ghost document = { λ t. sequence declared (doc (A.document t.0) no_docs) };
 
     fn serialize<W: Write>(&self, ser: &mut Serializer<W>) -> Result<()> {
-        ser.write_array_head(Some(1))?;
-        self.0.serialize(ser)
+        ser.write_tuple(&(&self.0,))
     }
 }
 
@@ -250,9 +238,7 @@ impl<A: Serialize, B: Serialize> Serialize for (A, B) {
         (doc (B.document t.1) no_docs)) };
 
     fn serialize<W: Write>(&self, ser: &mut Serializer<W>) -> Result<()> {
-        ser.write_array_head(Some(2))?;
-        self.0.serialize(ser)?;
-        self.1.serialize(ser)
+        ser.write_tuple(&(&self.0, &self.1))
     }
 }
 
@@ -262,10 +248,7 @@ impl<A: Serialize, B: Serialize, C: Serialize> Serialize for (A, B, C) {
         (doc (C.document t.2) no_docs))) };
 
     fn serialize<W: Write>(&self, ser: &mut Serializer<W>) -> Result<()> {
-        ser.write_array_head(Some(3))?;
-        self.0.serialize(ser)?;
-        self.1.serialize(ser)?;
-        self.2.serialize(ser)
+        ser.write_tuple(&(&self.0, &self.1, &self.2))
     }
 }
 
@@ -276,11 +259,7 @@ impl<A: Serialize, B: Serialize, C: Serialize, D: Serialize> Serialize for (A, B
         (doc (D.document t.3) no_docs)))) };
 
     fn serialize<W: Write>(&self, ser: &mut Serializer<W>) -> Result<()> {
-        ser.write_array_head(Some(4))?;
-        self.0.serialize(ser)?;
-        self.1.serialize(ser)?;
-        self.2.serialize(ser)?;
-        self.3.serialize(ser)
+        ser.write_tuple(&(&self.0, &self.1, &self.2, &self.3))
     }
 }
 
