@@ -2,9 +2,9 @@
 #![tactic(auto)]
 
 mod program;
-mod samples;
 mod sources;
 mod table;
+mod user_types;
 
 use std::process::ExitCode;
 

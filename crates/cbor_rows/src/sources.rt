@@ -1,6 +1,6 @@
 //! What bytes are read as, by each source that a row asks for.
 
-use crate::samples;
+use crate::user_types;
 use cbor_tables::{Desk, How, Pieces, Row, SCRATCH, Source, Step, strict, types, values};
 use serde_cbor::Deserializer;
 use serde_cbor::de::{Read, Source as Bytes};
@@ -67,7 +67,7 @@ fn typed<'r, R: Read<'r> + Drop>(
     let Some(de) = types::judge(desk, row, de)? else {
         return Ok(true);
     };
-    samples::judge(desk, row, de)
+    user_types::judge(desk, row, de)
 }
 
 // In the formats of a row, and as deep.

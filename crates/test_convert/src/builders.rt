@@ -1,6 +1,6 @@
 //! What builders make, by what `to_value` makes of the whole; and what they hold after a refusal.
 
-use sample_enums::enums::Bar;
+use samples::enums::Bar;
 use serde_cbor::value::{
     SerializeMap, SerializeStructVariant, SerializeTupleVariant, SerializeVec, to_value,
 };

@@ -1,8 +1,9 @@
 //! Structs and collections, written to sinks of each kind.
 
-use sample_enums::enums::{Bar, DataEnum};
-use sample_structs::counter::Counter;
-use sample_structs::structs::{Mascot, User};
+use crate::counter::Counter;
+use row_types::enums::DataEnum;
+use samples::enums::Bar;
+use samples::structs::{Mascot, User};
 use serde_cbor::ser::{IoWrite, Serialize, SliceWrite, to_vec_packed};
 use serde_cbor::{Serializer, to_vec, to_writer};
 use std::alloc::{AllocError, Global};

@@ -1,6 +1,6 @@
 use Rattle.std.proofs.Common.{rules, refl}
 use Rattle.serde_cbor.proofs.facts.Serialize.{by_parts, and_then, stops}
-use Rattle.sample_structs.proofs.bookmark.UriSerialize.serialize.Goals as goal
+use Rattle.row_types.proofs.bookmark.UriSerialize.serialize.Goals as goal
 
 pub returns-in_err-serialize_tag : goal.returns-in_err-serialize_tag
 returns-in_err-serialize_tag g c = by_parts (stops c.in_err-serialize_tag.ensures.err refl c.from_residual.ensures.1 (search rules))

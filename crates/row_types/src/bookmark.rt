@@ -1,7 +1,7 @@
 //! A bookmark: a text, and two texts within tags (RFC 7049, sections 2.4.1 and 2.4.4.3).
 
 ghost use Rattle.std.specs.Prelude.{IsTrue, IsFalse};
-ghost use Rattle.sample_structs.specs.Uris.{IsKnown};
+ghost use Rattle.row_types.specs.Uris.{IsKnown};
 
 use serde_cbor::de::{Deserialize, DeserializeOwned, FromParts, Read, Readable, ReadableParts};
 use serde_cbor::parts::Schema;
@@ -28,7 +28,7 @@ impl Serialize for Uri {
 }
 
 impl Readable for Uri {
-    ghost use Rattle.sample_structs.specs.Uris.{IsUri};
+    ghost use Rattle.row_types.specs.Uris.{IsUri};
 
     ghost reads = { λ c. IsUri (⟦<String as Readable>⟧.reads c) };
 }
@@ -73,7 +73,7 @@ const BOOKMARK: &[&str] = &["title", "link", "created"];
 
 impl Schema for Bookmark {
     ghost use Rattle.std.specs.Prelude.{map};
-    ghost use Rattle.sample_structs.specs.declared.bookmark.TheConstants.{BOOKMARK};
+    ghost use Rattle.row_types.specs.declared.bookmark.TheConstants.{BOOKMARK};
 
     type Parts = (String, Uri, Tagged<String>);
 

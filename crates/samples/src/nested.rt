@@ -2,7 +2,7 @@
 
 ghost use Rattle.std.specs.Prelude.{map};
 ghost use Rattle.serde_cbor.specs.Schemas.{newtype};
-ghost use Rattle.sample_enums.specs.declared.nested.TheConstants.{MESSAGE};
+ghost use Rattle.samples.specs.declared.nested.TheConstants.{MESSAGE};
 
 use crate::enums::Color;
 use serde_cbor::de::{Deserialize, DeserializeOwned, FromParts, Read, Readable, ReadableParts};
@@ -22,7 +22,7 @@ const FOO: &[&str] = &["x", "color"];
 
 impl Schema for Foo {
     ghost use Rattle.std.specs.Prelude.{map};
-    ghost use Rattle.sample_enums.specs.declared.nested.TheConstants.{FOO};
+    ghost use Rattle.samples.specs.declared.nested.TheConstants.{FOO};
 
     type Parts = (u8, Color);
 
@@ -73,7 +73,7 @@ const EXAMPLE: &[&str] = &["foo", "payload"];
 
 impl Schema for Example {
     ghost use Rattle.std.specs.Prelude.{map};
-    ghost use Rattle.sample_enums.specs.declared.nested.TheConstants.{EXAMPLE};
+    ghost use Rattle.samples.specs.declared.nested.TheConstants.{EXAMPLE};
 
     type Parts = (Foo, u8);
 
@@ -124,7 +124,7 @@ const MESSAGE: &[&str] = &["Ping", "Send"];
 
 impl Schema for Message {
     ghost use Rattle.serde_cbor.specs.OneOf2 as one_of;
-    ghost use Rattle.sample_enums.specs.declared.nested.Message.TheVariants as at;
+    ghost use Rattle.samples.specs.declared.nested.Message.TheVariants as at;
 
     type Parts = OneOf2<(), Newtype<Example>>;
 

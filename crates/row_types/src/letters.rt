@@ -18,8 +18,8 @@ const LETTER: &[&str] = &["A", "B"];
 impl Schema for Letter {
     ghost use Rattle.std.specs.Prelude.{map};
     ghost use Rattle.serde_cbor.specs.OneOf2 as one_of;
-    ghost use Rattle.sample_enums.specs.declared.letters.Letter.TheVariants as at;
-    ghost use Rattle.sample_enums.specs.declared.letters.TheConstants.{LETTER};
+    ghost use Rattle.row_types.specs.declared.letters.Letter.TheVariants as at;
+    ghost use Rattle.row_types.specs.declared.letters.TheConstants.{LETTER};
 
     type Parts = OneOf2<(), ()>;
 
@@ -80,8 +80,8 @@ const REPR: &[&str] = &["A", "B"];
 impl Schema for ReprEnum {
     ghost use Rattle.std.specs.Prelude.{map};
     ghost use Rattle.serde_cbor.specs.OneOf2 as one_of;
-    ghost use Rattle.sample_enums.specs.declared.letters.ReprEnum.TheVariants as at;
-    ghost use Rattle.sample_enums.specs.declared.letters.TheConstants.{REPR};
+    ghost use Rattle.row_types.specs.declared.letters.ReprEnum.TheVariants as at;
+    ghost use Rattle.row_types.specs.declared.letters.TheConstants.{REPR};
 
     type Parts = OneOf2<(), ()>;
 
@@ -140,7 +140,7 @@ const ENUM_FIELD: &[&str] = &["e"];
 
 impl Schema for EnumStruct {
     ghost use Rattle.std.specs.Prelude.{map};
-    ghost use Rattle.sample_enums.specs.declared.letters.TheConstants.{ENUM_FIELD};
+    ghost use Rattle.row_types.specs.declared.letters.TheConstants.{ENUM_FIELD};
 
     type Parts = (Letter,);
 
@@ -190,7 +190,7 @@ const REPR_FIELD: &[&str] = &["e"];
 
 impl Schema for ReprEnumStruct {
     ghost use Rattle.std.specs.Prelude.{map};
-    ghost use Rattle.sample_enums.specs.declared.letters.TheConstants.{REPR_FIELD};
+    ghost use Rattle.row_types.specs.declared.letters.TheConstants.{REPR_FIELD};
 
     type Parts = (ReprEnum,);
 

@@ -2,18 +2,18 @@
 
 use cbor_tables::{Desk, Row};
 use cbor_tree::tree::Tree;
-use sample_enums::choice::Choice;
-use sample_enums::enums::{Bar, Color, DataEnum, TwoVariants, Wish};
-use sample_enums::floats::FloatEnum;
-use sample_enums::letters::{EnumStruct, Letter, ReprEnumStruct};
-use sample_enums::nested::{Example, Foo, Message};
-use sample_structs::assorted::Assorted;
-use sample_structs::bookmark::Bookmark;
-use sample_structs::optional::{Pair, Settings};
-use sample_structs::structs::{
-    Mascot, NewtypeStruct, OptionalPerson, Person, SmallStruct, UnitStruct, User,
-};
-use sample_structs::weather::Weather;
+use row_types::assorted::Assorted;
+use row_types::bookmark::Bookmark;
+use row_types::choice::Choice;
+use row_types::enums::{DataEnum, TwoVariants, Wish};
+use row_types::floats::FloatEnum;
+use row_types::letters::{EnumStruct, Letter, ReprEnumStruct};
+use row_types::optional::{Pair, Settings};
+use row_types::structs::{NewtypeStruct, OptionalPerson, UnitStruct};
+use row_types::weather::Weather;
+use samples::enums::{Bar, Color};
+use samples::nested::{Example, Foo, Message};
+use samples::structs::{Mascot, Person, SmallStruct, User};
 use serde_cbor::Deserializer;
 use serde_cbor::de::Read;
 use std::io;

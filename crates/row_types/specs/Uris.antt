@@ -3,7 +3,7 @@ use Rattle.std.specs.Prelude.{◌≡◌, ℕ, Option, None, Some, String}
 use Rattle.std.specs.Global.{Global}
 use Rattle.serde_cbor.specs.Raw.{Raw}
 use Rattle.serde_cbor.specs.Tagged.{IsTagged}
-use Rattle.sample_structs.specs.declared.bookmark.Uri.{Uri}
+use Rattle.row_types.specs.declared.bookmark.Uri.{Uri}
 
 -- no tag, or that of a URI (RFC 7049, section 2.4.4.3)
 abbrev pub IsKnown : Option ℕ → Type 0

@@ -40,7 +40,7 @@ const WEATHER: &[&str] = &[
 
 impl Schema for Weather {
     ghost use Rattle.std.specs.Prelude.{map};
-    ghost use Rattle.sample_structs.specs.declared.weather.TheConstants.{WEATHER};
+    ghost use Rattle.row_types.specs.declared.weather.TheConstants.{WEATHER};
 
     type Parts = (u32, u16, u8, i16, u16, u8, u8, u8, u16, u16, bool, String);
 

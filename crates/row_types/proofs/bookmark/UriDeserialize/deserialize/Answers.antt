@@ -1,6 +1,6 @@
 use Rattle.std.proofs.Common.{inl, inr}
 use Rattle.std.proofs.lemmas.Result.{err_from_is_err_and}
-use Rattle.sample_structs.proofs.bookmark.UriDeserialize.deserialize.Goals as goal
+use Rattle.row_types.proofs.bookmark.UriDeserialize.deserialize.Goals as goal
 
 pub returns-in_err-text-clause-read : goal.returns-in_err-text-clause-read
 returns-in_err-text-clause-read g c =

@@ -2,7 +2,7 @@
 
 ghost use Rattle.std.specs.Prelude.{map};
 ghost use Rattle.serde_cbor.specs.Schemas.{optional, or_default};
-ghost use Rattle.sample_structs.specs.declared.optional.TheConstants.{PAIR, SETTINGS};
+ghost use Rattle.row_types.specs.declared.optional.TheConstants.{PAIR, SETTINGS};
 
 use serde_cbor::de::{Deserialize, DeserializeOwned, FromParts, Read, Readable, ReadableParts};
 use serde_cbor::parts::{Optional, OrDefault, Schema};

@@ -19,8 +19,8 @@ impl Schema for Choice {
     ghost use Rattle.std.specs.Prelude.{map};
     ghost use Rattle.serde_cbor.specs.Schemas.{newtype};
     ghost use Rattle.serde_cbor.specs.OneOf2 as one_of;
-    ghost use Rattle.sample_enums.specs.declared.choice.Choice.TheVariants as at;
-    ghost use Rattle.sample_enums.specs.declared.choice.TheConstants.{CHOICE};
+    ghost use Rattle.row_types.specs.declared.choice.Choice.TheVariants as at;
+    ghost use Rattle.row_types.specs.declared.choice.TheConstants.{CHOICE};
 
     type Parts = OneOf2<(), Newtype<i32>>;
 

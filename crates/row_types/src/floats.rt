@@ -19,8 +19,8 @@ impl Schema for FloatEnum {
     ghost use Rattle.std.specs.Prelude.{map};
     ghost use Rattle.serde_cbor.specs.OneOf1 as one_of;
     ghost use Rattle.serde_cbor.specs.Schemas.{newtype};
-    ghost use Rattle.sample_enums.specs.declared.floats.FloatEnum.TheVariants as at;
-    ghost use Rattle.sample_enums.specs.declared.floats.TheConstants.{FLOAT};
+    ghost use Rattle.row_types.specs.declared.floats.FloatEnum.TheVariants as at;
+    ghost use Rattle.row_types.specs.declared.floats.TheConstants.{FLOAT};
 
     type Parts = OneOf1<Newtype<Float>>;
 

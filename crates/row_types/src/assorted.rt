@@ -32,7 +32,7 @@ const ASSORTED: &[&str] = &[
 
 impl Schema for Assorted {
     ghost use Rattle.std.specs.Prelude.{map};
-    ghost use Rattle.sample_structs.specs.declared.assorted.TheConstants.{ASSORTED};
+    ghost use Rattle.row_types.specs.declared.assorted.TheConstants.{ASSORTED};
 
     type Parts = (
         (String, i32, u64),

@@ -1,0 +1,154 @@
+//! A struct of a field that may be absent, one of an unnamed part, and one of none.
+
+use serde_cbor::de::{Deserialize, DeserializeOwned, FromParts, Read, Readable, ReadableParts};
+use serde_cbor::parts::{Newtype, Optional, Schema};
+use serde_cbor::ser::{OptionalField, PartsDocument, Serialize, Serializer, Write};
+use serde_cbor::{Deserializer, Result};
+
+/// A struct of which a field is left out where it isn't known.
+#[derive(Debug, Drop)]
+pub struct OptionalPerson {
+    pub name: String,
+    pub year_of_birth: Option<u16>,
+    pub profession: String,
+}
+
+/// The names of its fields.
+const OPTIONAL_PERSON: &[&str] = &["name", "year_of_birth", "profession"];
+
+impl Schema for OptionalPerson {
+    ghost use Rattle.std.specs.Prelude.{map};
+    ghost use Rattle.serde_cbor.specs.Schemas.{optional};
+    ghost use Rattle.row_types.specs.declared.structs.TheConstants.{OPTIONAL_PERSON};
+
+    type Parts = (String, Optional<u16>, String);
+
+    ghost names = { map (λ n. n.now) OPTIONAL_PERSON.now };
+
+    ghost parts = { λ p. (p.name, optional p.year_of_birth, p.profession) };
+}
+
+impl Serialize for OptionalPerson {
+    ghost document = { λ x. ⟦<<OptionalPerson as Schema>::Parts as PartsDocument>⟧.document
+        ⟦<OptionalPerson as Schema>⟧.names (⟦<OptionalPerson as Schema>⟧.parts x) };
+
+    fn serialize<W: Write>(&self, ser: &mut Serializer<W>) -> Result<()> {
+        let fields = (
+            &self.name,
+            OptionalField(&self.year_of_birth),
+            &self.profession,
+        );
+        ser.serialize_fields(OPTIONAL_PERSON, &fields)
+    }
+}
+
+impl FromParts for OptionalPerson {
+    fn from_parts((name, year_of_birth, profession): Self::Parts) -> OptionalPerson {
+        OptionalPerson {
+            name,
+            year_of_birth: year_of_birth.0,
+            profession,
+        }
+    }
+}
+
+impl Readable for OptionalPerson {
+    ghost reads = { λ c r x. ⟦<<OptionalPerson as Schema>::Parts as ReadableParts>⟧.reads
+        ⟦<OptionalPerson as Schema>⟧.names c r (⟦<OptionalPerson as Schema>⟧.parts x) };
+}
+
+impl<'de, R: Read<'de>> Deserialize<'de, R> for OptionalPerson {
+    fn deserialize(de: &mut Deserializer<R>) -> Result<OptionalPerson> {
+        Self::read_described(de, OPTIONAL_PERSON)
+    }
+}
+
+impl DeserializeOwned for OptionalPerson {
+    ghost same = { λ f a b r v h. h };
+}
+
+/// A struct of one unnamed part.
+#[derive(Debug, Drop)]
+pub struct NewtypeStruct<T>(pub T);
+
+impl<T: Drop> Schema for NewtypeStruct<T> {
+    ghost use Rattle.std.specs.Prelude.{[]};
+    ghost use Rattle.serde_cbor.specs.Schemas.{newtype};
+
+    type Parts = Newtype<T>;
+
+    ghost names = { [] };
+
+    ghost parts = { λ n. newtype n.0 };
+}
+
+impl<T: Serialize + Drop> Serialize for NewtypeStruct<T> {
+    ghost document = { λ n. T.document n.0 };
+
+    fn serialize<W: Write>(&self, ser: &mut Serializer<W>) -> Result<()> {
+        ser.serialize_newtype_struct("NewtypeStruct", &self.0)
+    }
+}
+
+impl<T: Drop> FromParts for NewtypeStruct<T> {
+    fn from_parts(Newtype(part): Newtype<T>) -> NewtypeStruct<T> {
+        NewtypeStruct(part)
+    }
+}
+
+impl<T: Readable> Readable for NewtypeStruct<T> {
+    ghost reads = { λ c r n. T.reads c r n.0 };
+}
+
+impl<'de, R: Read<'de>, T: Deserialize<'de, R>> Deserialize<'de, R> for NewtypeStruct<T> {
+    fn deserialize(de: &mut Deserializer<R>) -> Result<NewtypeStruct<T>> {
+        Self::read_described(de, &[])
+    }
+}
+
+impl<T: DeserializeOwned> DeserializeOwned for NewtypeStruct<T> {
+    ghost same = { λ f a b r v h. T.same f a b r v.0 h };
+}
+
+/// A struct of no part.
+#[derive(Debug, Drop)]
+pub struct UnitStruct;
+
+impl Schema for UnitStruct {
+    ghost use Rattle.std.specs.Prelude.{[]};
+    ghost use Rattle.serde_cbor.specs.Schemas.{newtype};
+
+    type Parts = Newtype<()>;
+
+    ghost names = { [] };
+
+    ghost parts = { λ _. newtype tt };
+}
+
+impl Serialize for UnitStruct {
+    ghost document = { λ _. ⟦<() as Serialize>⟧.document tt };
+
+    fn serialize<W: Write>(&self, ser: &mut Serializer<W>) -> Result<()> {
+        ser.serialize_unit_struct("UnitStruct")
+    }
+}
+
+impl FromParts for UnitStruct {
+    fn from_parts(Newtype(()): Self::Parts) -> UnitStruct {
+        UnitStruct
+    }
+}
+
+impl Readable for UnitStruct {
+    ghost reads = { λ c r _. ⟦<() as Readable>⟧.reads c r tt };
+}
+
+impl<'de, R: Read<'de>> Deserialize<'de, R> for UnitStruct {
+    fn deserialize(de: &mut Deserializer<R>) -> Result<UnitStruct> {
+        Self::read_described(de, &[])
+    }
+}
+
+impl DeserializeOwned for UnitStruct {
+    ghost same = { λ f a b r v h. h };
+}
