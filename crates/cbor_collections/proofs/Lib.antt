@@ -15,6 +15,7 @@ pub mod VariantPairs
 pub mod VariantMaps
 pub mod VariantForms
 pub mod Cases
+pub mod Codes
 pub mod BadKeys
 pub mod Refusing
 pub mod Fronts

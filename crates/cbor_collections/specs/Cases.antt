@@ -13,7 +13,7 @@ use Rattle.cbor_io.specs.declared.error.ErrorCode.TheVariants.{NotCanonical}
 use Rattle.cbor_io.specs.declared.read_error.ReadErrorCode.{ReadErrorCode}
 use Rattle.cbor_io.specs.Error.{code_of, offset_of}
 use Rattle.cbor_read.specs.Source.{Input}
-use Rattle.cbor_de.specs.Gives.{FailsAs, Limits, limits, Reports, Tells}
+use Rattle.cbor_de.specs.Gives.{FailsAs, Limits, limits, Reports, Tells, TellsNoForm}
 use Rattle.cbor_de.specs.Heads.{remaining_of}
 use Rattle.cbor_de.specs.declared.cursor.Remaining.{Remaining}
 use Rattle.cbor_collections.specs.Accesses.{IsArrayHead}
@@ -44,6 +44,10 @@ StandsBy cases code at = ⊤
 -- Where an error has one of these codes, its case stands.
 pub record Stands (s : Input) (e : Error) (cases : Limits → List ℕ → Cases) : Type 0 where
   pub told : (bs : List ℕ) → Tells s bs → StandsBy (cases (limits s bs) bs) (code_of e) (offset_of e)
+
+-- Of the codes that tell a wrong form, this alone.
+abbrev pub FormAlone : ErrorCode → ErrorCode → Type 0
+FormAlone one code = TellsNoForm code ⊎ (code ≡ one)
 
 -- ---- the key rule
 
@@ -109,6 +113,12 @@ form_cases f l bs = record {
 -- at this offset the key stands of a map of one pair, and may not begin as it does
 abbrev pub IsBadPair : Formats → ℕ → Limits → List ℕ → ℕ → Type 0
 IsBadPair f levels l bs at = FailsAs wrong_struct_format l.total at (pair_head_at f levels bs)
+
+-- Of the codes that tell a wrong form, those of an enum up to its identifier.
+abbrev pub IsEnumCode : ErrorCode → Type 0
+IsEnumCode ArrayTooLong = ⊥
+IsEnumCode NotCanonical = ⊥
+IsEnumCode code = ⊤
 
 -- of an enum within no tag
 abbrev pub untagged_cases : Formats → ℕ → Limits → List ℕ → Cases

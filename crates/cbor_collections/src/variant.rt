@@ -8,7 +8,9 @@ ghost use Rattle.cbor_model.specs.Reader.{next_at};
 ghost use Rattle.cbor_de.specs.Heads.{remaining_of};
 ghost use Rattle.cbor_io.specs.Error.{code_of, offset_of, HasNoOffset};
 ghost use Rattle.cbor_de.specs.Gives.{Gives, Stopped, TellsNoForm, TellsNoKey};
-ghost use Rattle.cbor_collections.specs.Cases.{Stands, NoItemHere, form_cases};
+ghost use Rattle.cbor_io.specs.declared.error.ErrorCode.TheVariants.{ArrayTooLong};
+ghost use Rattle.cbor_collections.specs.Cases.{FormAlone, IsEnumCode, NoItemHere};
+ghost use Rattle.cbor_collections.specs.Cases.{Stands, form_cases};
 ghost use Rattle.cbor_collections.specs.Cases.{untagged_cases, enum_cases, unit_cases};
 ghost use Rattle.cbor_collections.specs.Enums.{IsName, IsNothing, IsPart};
 ghost use Rattle.cbor_scalars.specs.Identifiers.{texts};
@@ -76,11 +78,13 @@ fn shape_of(first: u8) -> Shape
 }
 
 // How the enum at the front is spelled, where that is read. Its first byte stays.
+#[tactic(auto, using(crate::proofs::Codes::kept_enum, crate::proofs::Codes::other_enum))]
 fn enum_shape<R: Source>(items: &mut Deserializer<R>) -> Result<Shape>
     ensures read { TakesShape R.refusals (formats_of items.old.formats)
         (R.source items.old.source) (R.source items.new.source) result }
     ensures cases { IfErr result (λ e. Stands (R.source items.old.source) e
         (form_cases (formats_of items.old.formats))) }
+    ensures code { IfErr result (λ e. IsEnumCode (code_of e)) }
     ensures levels { items.new.levels ≡ items.old.levels }
     ensures formats { items.new.formats ≡ items.old.formats }
 {
@@ -247,6 +251,7 @@ pub fn variant_head<'de, R: Read<'de>>(
     ensures cases { IfErr result (λ e. Stands (R.source items.old.source) e
         (enum_cases (formats_of items.old.formats)
         items.old.levels)) }
+    ensures code { IfErr result (λ e. IsEnumCode (code_of e)) }
     ensures below { IfOk result (λ v. v.0 < length names.now) }
     ensures inside { IfOk result (λ v. IsInside v.1 items.new.levels
         items.old.levels) }
@@ -264,7 +269,7 @@ pub fn variant_head<'de, R: Read<'de>>(
 }
 
 // As `variant_head`, but an Err doesn't restore the nesting level.
-#[tactic(auto, using(crate::proofs::Cases::other_stands, crate::proofs::Cases::tagged_stand))]
+#[tactic(auto, using(crate::proofs::Cases::other_stands, crate::proofs::Cases::tagged_stand, crate::proofs::Codes::kept_enum))]
 fn tagged_variant<'de, R: Read<'de>>(
     items: &mut Deserializer<R>,
     names: &[&str],
@@ -280,6 +285,7 @@ fn tagged_variant<'de, R: Read<'de>>(
     ensures cases { IfErr result (λ e. Stands (R.source items.old.source) e
         (enum_cases (formats_of items.old.formats)
         items.old.levels)) }
+    ensures code { IfErr result (λ e. IsEnumCode (code_of e)) }
     ensures below { IfOk result (λ v. v.0 < length names.now) }
     ensures inside { IfOk result (λ v. IsInside v.1 items.new.levels
         items.old.levels) }
@@ -292,7 +298,7 @@ fn tagged_variant<'de, R: Read<'de>>(
 }
 
 // Takes an enum that has no tag up to its identifier.
-#[tactic(auto, using(crate::proofs::Cases::others_stand, crate::proofs::Cases::other_stands, crate::proofs::Cases::forms_stand, crate::proofs::Cases::shaped_stand))]
+#[tactic(auto, using(crate::proofs::Cases::others_stand, crate::proofs::Cases::other_stands, crate::proofs::Cases::forms_stand, crate::proofs::Cases::shaped_stand, crate::proofs::Codes::kept_enum, crate::proofs::Codes::plain_enums))]
 fn untagged_variant<'de, R: Read<'de>>(
     items: &mut Deserializer<R>,
     names: &[&str],
@@ -308,6 +314,7 @@ fn untagged_variant<'de, R: Read<'de>>(
     ensures cases { IfErr result (λ e. Stands (R.source items.old.source) e
         (untagged_cases (formats_of items.old.formats)
         items.old.levels)) }
+    ensures code { IfErr result (λ e. IsEnumCode (code_of e)) }
     ensures below { IfOk result (λ v. v.0 < length names.now) }
     ensures inside { IfOk result (λ v. IsInside v.1 items.new.levels
         items.old.levels) }
@@ -366,7 +373,7 @@ fn name_alone<'de, R: Read<'de>>(
 }
 
 // Takes the head and the identifier of an enum in an array.
-#[tactic(auto, using(crate::proofs::Cases::other_stands))]
+#[tactic(auto, using(crate::proofs::Cases::other_stands, crate::proofs::Codes::plain_enum, crate::proofs::Codes::none_enum))]
 fn array_variant<'de, R: Read<'de>>(
     items: &mut Deserializer<R>,
     names: &[&str],
@@ -383,6 +390,7 @@ fn array_variant<'de, R: Read<'de>>(
     ensures cases { IfErr result (λ e. Stands (R.source items.old.source) e
         (untagged_cases (formats_of items.old.formats)
         items.old.levels)) }
+    ensures code { IfErr result (λ e. IsEnumCode (code_of e)) }
     ensures below { IfOk result (λ v. v.0 < length names.now) }
     ensures inside { IfOk result (λ v. IsInside v.1 items.new.levels
         items.old.levels) }
@@ -395,7 +403,7 @@ fn array_variant<'de, R: Read<'de>>(
 }
 
 // Takes the head and the identifier of an enum in a map of one pair.
-#[tactic(auto, using(crate::proofs::Cases::other_stands, crate::proofs::Cases::pair_stands))]
+#[tactic(auto, using(crate::proofs::Cases::other_stands, crate::proofs::Cases::pair_stands, crate::proofs::Codes::plain_enum, crate::proofs::Codes::kept_enum))]
 fn map_variant<'de, R: Read<'de>>(
     items: &mut Deserializer<R>,
     names: &[&str],
@@ -412,6 +420,7 @@ fn map_variant<'de, R: Read<'de>>(
     ensures cases { IfErr result (λ e. Stands (R.source items.old.source) e
         (untagged_cases (formats_of items.old.formats)
         items.old.levels)) }
+    ensures code { IfErr result (λ e. IsEnumCode (code_of e)) }
     ensures below { IfOk result (λ v. v.0 < length names.now) }
     ensures inside { IfOk result (λ v. IsInside v.1 items.new.levels
         items.old.levels) }
@@ -443,7 +452,7 @@ fn variant_name<'de, R: Read<'de>>(items: &mut Deserializer<R>, names: &[&str]) 
 }
 
 // Reads null or undefined, the only item of an array that remains.
-#[tactic(auto, using(crate::proofs::Cases::other_stands, crate::proofs::Cases::full_stands))]
+#[tactic(auto, using(crate::proofs::Cases::other_stands, crate::proofs::Cases::full_stands, crate::proofs::Codes::none_alone, crate::proofs::Codes::plain_alone))]
 fn only_null<R: Source>(items: &mut Deserializer<R>, mut remaining: Remaining) -> Result<()>
     ensures read { TakesContent R.refusals (formats_of items.old.formats)
         (IsPart (PassesTags IsUnit))
@@ -451,6 +460,7 @@ fn only_null<R: Source>(items: &mut Deserializer<R>, mut remaining: Remaining) -
         (R.source items.old.source) (R.source items.new.source) result }
     ensures cases { IfErr result (λ e. Stands (R.source items.old.source) e
         (unit_cases (Array remaining))) }
+    ensures code { IfErr result (λ e. FormAlone ArrayTooLong (code_of e)) }
     ensures levels { items.new.levels ≡ items.old.levels }
     ensures formats { items.new.formats ≡ items.old.formats }
 {
@@ -464,7 +474,7 @@ fn only_null<R: Source>(items: &mut Deserializer<R>, mut remaining: Remaining) -
 /// array or a map.
 ///
 /// An array in which nothing follows the identifier is refused with `ArrayTooLong`.
-#[tactic(auto, using(crate::proofs::Cases::others_stand))]
+#[tactic(auto, using(crate::proofs::Cases::others_stand, crate::proofs::Codes::plain_alones))]
 pub fn no_part<R: Source>(items: &mut Deserializer<R>, form: Form) -> Result<()>
     ensures read { TakesContent R.refusals (formats_of items.old.formats)
         IsNothing
@@ -472,6 +482,7 @@ pub fn no_part<R: Source>(items: &mut Deserializer<R>, form: Form) -> Result<()>
         (R.source items.old.source) (R.source items.new.source) result }
     ensures cases { IfErr result (λ e. Stands (R.source items.old.source) e
         (unit_cases form)) }
+    ensures code { IfErr result (λ e. FormAlone ArrayTooLong (code_of e)) }
     ensures levels { items.new.levels ≡ items.old.levels }
     ensures formats { items.new.formats ≡ items.old.formats }
 {

@@ -8,7 +8,7 @@ ghost use Rattle.cbor_io.specs.Error.{code_of};
 ghost use Rattle.cbor_value.specs.View.{view};
 ghost use Rattle.cbor_ser.specs.Written.{SaysUnstorable};
 ghost use Rattle.cbor_de.specs.Gives.{IsMemoryOrFault};
-ghost use Rattle.cbor_typed.specs.Forms.{FormOnlyIf};
+ghost use Rattle.cbor_typed.specs.Forms.{FormOnlyIf, may_tell};
 ghost use Rattle.cbor_typed.specs.Whole.{from_reader_context};
 
 use cbor_io::error::Result;
@@ -45,7 +45,7 @@ pub fn from_value<'de, T: DeserializeOwned + Deserialize<'de, IoRead<Cursor<Vec<
     // A value that can't be stored is told so by that message, unless memory runs out.
     ensures refused { (IsStorable (view value) → ⊥) → IfErr result SaysUnstorable }
     // A wrong form is told only by a type that may refuse an item for one.
-    ensures form { IfErr result (λ e. FormOnlyIf T.tells_form (code_of e)) }
+    ensures form { IfErr result (λ e. FormOnlyIf (may_tell T.wrong_forms) (code_of e)) }
 {
     let bytes = to_vec(alloc, &value)?;
     are_bytes(&bytes);

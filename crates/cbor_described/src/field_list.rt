@@ -7,7 +7,10 @@ ghost use Rattle.cbor_described.specs.FieldLists.{IsLacking, TakesField, TakesSl
 ghost use Rattle.cbor_typed.specs.Fields.{AreHeld, IsHeld, Lacks, none_yet};
 ghost use Rattle.cbor_scalars.specs.Identifiers.{texts};
 ghost use Rattle.cbor_typed.specs.Structs.{IsAny, IsStruct};
+ghost use Rattle.cbor_io.specs.Error.{code_of};
+ghost use Rattle.cbor_de.specs.Gives.{TellsNoForm};
 ghost use Rattle.cbor_scalars.specs.Takes.{TakesItem, context, formats_of};
+ghost use Rattle.cbor_typed.specs.Forms.{MayTell, both, item_form, struct_form};
 
 use cbor_io::error::Result;
 use cbor_typed::inner::{end_map, leave_to, map_head};
@@ -23,6 +26,7 @@ pub(crate) trait FieldList: Sized + Drop {
     ghost use Rattle.std.specs.Prelude.{List, ℕ};
     ghost use Rattle.cbor_model.specs.Readable.{Context};
     ghost use Rattle.cbor_typed.specs.Fields.{Slots};
+    ghost use Rattle.cbor_typed.specs.Forms.{WrongForms};
     ghost use Rattle.cbor_typed.specs.Structs.{FieldOf};
 
     // What was read of them so far.
@@ -36,6 +40,9 @@ pub(crate) trait FieldList: Sized + Drop {
 
     ghost slots: { (c : Context) → Self.Slots → Slots (fields c) };
 
+    // By which codes the value of one of them may be refused for its form, and where.
+    ghost wrong_forms: { WrongForms };
+
     // No field was read.
     fn none() -> Self::Slots
         ensures { (c : Context) → slots c result ≡ none_yet (fields c) };
@@ -46,7 +53,8 @@ pub(crate) trait FieldList: Sized + Drop {
         requires { length names.now ≡ Self.count }
         ensures all { IfOk result (λ x. (c : Context)
             → AreHeld (fields c) (slots c held) x) }
-        ensures lacking { IfErr result (λ e. (c : Context) → IsLacking (fields c) (slots c held)) };
+        ensures lacking { IfErr result (λ e. (c : Context) → IsLacking (fields c) (slots c held)) }
+        ensures no_form { IfErr result (λ e. TellsNoForm (code_of e)) };
 }
 
 // The fields of a struct, which are read from a source.
@@ -58,6 +66,8 @@ pub(crate) trait ReadFields<'de, R: Read<'de>>: FieldList {
             TakesField (formats_of de.old.items.formats) de.old.items.levels R.refusals
             (Self.fields c) i (Self.slots c held.old) (Self.slots c held.new)
             (R.source de.old.items.source) (R.source de.new.items.source) result }
+        ensures form { IfErr result (MayTell (both item_form Self.wrong_forms)
+            (formats_of de.old.items.formats) (R.source de.old.items.source)) }
         ensures forward { IfOk result (λ u. (R.source de.old.items.source).offset
             ≤ (R.source de.new.items.source).offset) }
         ensures levels { de.new.items.levels ≡ de.old.items.levels }
@@ -73,6 +83,8 @@ pub(crate) trait ReadField<'de, R: Read<'de>>: FieldType {
         ensures read { TakesSlot (formats_of de.old.items.formats) de.old.items.levels R.refusals
             (Self.reads (context de.old.items.formats R.lends)) slot.old slot.new
             (R.source de.old.items.source) (R.source de.new.items.source) result }
+        ensures form { IfErr result (MayTell Self.Of.wrong_forms
+            (formats_of de.old.items.formats) (R.source de.old.items.source)) }
         ensures forward { IfOk result (λ u. (R.source de.old.items.source).offset
             ≤ (R.source de.new.items.source).offset) }
         ensures levels { de.new.items.levels ≡ de.old.items.levels }
@@ -90,6 +102,7 @@ where
 
 impl FieldList for () {
     ghost use Rattle.std.specs.Prelude.{[]};
+    ghost use Rattle.cbor_typed.specs.Forms.{never};
 
     type Slots = ();
 
@@ -98,6 +111,8 @@ impl FieldList for () {
     ghost fields = { λ c. [] };
 
     ghost slots = { λ c held. held };
+
+    ghost wrong_forms = { never };
 
     fn none() -> () {}
 
@@ -114,6 +129,7 @@ impl<'de, R: Read<'de>> ReadFields<'de, R> for () {
 
 impl<A: FieldType, F: FieldList> FieldList for (A, F) {
     ghost use Rattle.std.specs.Prelude.{◌∷◌, ◌+◌};
+    ghost use Rattle.cbor_typed.specs.Forms.{both};
     ghost use Rattle.cbor_described.specs.FieldLists.{over, slots_over};
     ghost use Rattle.cbor_typed.specs.Structs.{field_or};
 
@@ -125,6 +141,8 @@ impl<A: FieldType, F: FieldList> FieldList for (A, F) {
         ∷ over (λ p. p.1) (F.fields c) };
 
     ghost slots = { λ c held. (held.0, slots_over (λ p. p.1) (F.fields c) (F.slots c held.1)) };
+
+    ghost wrong_forms = { both A.Of.wrong_forms F.wrong_forms };
 
     fn none() -> (Option<A>, F::Slots) {
         (None, F::none())
@@ -143,6 +161,7 @@ impl<A: FieldType, F: FieldList> FieldList for (A, F) {
 impl<A: FieldType, B: FieldType, C: FieldType, D: FieldType, F: FieldList> FieldList
     for (A, B, C, D, F) {
     ghost use Rattle.std.specs.Prelude.{◌∷◌, ◌+◌};
+    ghost use Rattle.cbor_typed.specs.Forms.{both};
     ghost use Rattle.cbor_described.specs.FieldLists.{over, slots_over};
     ghost use Rattle.cbor_typed.specs.Structs.{field_or};
 
@@ -170,6 +189,9 @@ impl<A: FieldType, B: FieldType, C: FieldType, D: FieldType, F: FieldList> Field
       ),
     ) };
 
+    ghost wrong_forms = { both A.Of.wrong_forms (both B.Of.wrong_forms (both C.Of.wrong_forms
+        (both D.Of.wrong_forms F.wrong_forms))) };
+
     fn none() -> (Option<A>, Option<B>, Option<C>, Option<D>, F::Slots) {
         (None, None, None, None, F::none())
     }
@@ -193,6 +215,7 @@ impl<A: FieldType, B: FieldType, C: FieldType, D: FieldType, F: FieldList> Field
 fn required_field<A: FieldType>(alloc: Global, name: &str, held: Option<A>) -> Result<A>
     ensures held { IfOk result (λ x. IsHeld held A.missing x) }
     ensures lacks { IfErr result (λ e. Lacks A.missing held) }
+    ensures no_form { IfErr result (λ e. TellsNoForm (code_of e)) }
 {
     match held {
         Some(value) => Ok(value),
@@ -244,6 +267,7 @@ impl<
 
 // Reads the value of a field into its slot. A slot that has a value is refused with
 // ``duplicate field `id` ``.
+#[tactic(auto, using(cbor_typed::proofs::facts::Forms::plain))]
 fn fill_slot<'de, R: Read<'de>, A: FieldType>(
     de: &mut Deserializer<R>,
     name: &str,
@@ -254,6 +278,8 @@ where
     ensures read { TakesSlot (formats_of de.old.items.formats) de.old.items.levels R.refusals
         (A.reads (context de.old.items.formats R.lends)) slot.old slot.new
         (R.source de.old.items.source) (R.source de.new.items.source) result }
+    ensures form { IfErr result (MayTell A.Of.wrong_forms
+        (formats_of de.old.items.formats) (R.source de.old.items.source)) }
     ensures forward { IfOk result (λ u. (R.source de.old.items.source).offset
         ≤ (R.source de.new.items.source).offset) }
     ensures levels { de.new.items.levels ≡ de.old.items.levels }
@@ -276,6 +302,8 @@ fn skip_item<'de, R: Read<'de>>(de: &mut Deserializer<R>) -> Result<()>
     ensures read { TakesItem R.refusals (formats_of de.old.items.formats) IsAny
         de.old.items.levels (R.source de.old.items.source)
         (R.source de.new.items.source) result }
+    ensures form { IfErr result (MayTell item_form
+        (formats_of de.old.items.formats) (R.source de.old.items.source)) }
     ensures levels { de.new.items.levels ≡ de.old.items.levels }
     ensures formats { de.new.items.formats ≡ de.old.items.formats }
 {
@@ -295,6 +323,8 @@ pub(crate) fn read_fields<'de, R: Read<'de>, F: ReadFields<'de, R>>(
         (IsStruct (texts names.now) (F.fields (context de.old.items.formats R.lends)))
         de.old.items.levels (R.source de.old.items.source)
         (R.source de.new.items.source) result }
+    ensures form { IfErr result (MayTell (both struct_form F.wrong_forms)
+        (formats_of de.old.items.formats) (R.source de.old.items.source)) }
     ensures levels { de.new.items.levels ≡ de.old.items.levels }
     ensures formats { de.new.items.formats ≡ de.old.items.formats }
 {
@@ -305,6 +335,7 @@ pub(crate) fn read_fields<'de, R: Read<'de>, F: ReadFields<'de, R>>(
 }
 
 // Reads the fields, and leaves any number of levels.
+#[tactic(auto, using(cbor_typed::proofs::facts::Forms::plain))]
 fn fields_within<'de, R: Read<'de>, F: ReadFields<'de, R>>(
     de: &mut Deserializer<R>,
     names: &[&str],
@@ -314,6 +345,8 @@ fn fields_within<'de, R: Read<'de>, F: ReadFields<'de, R>>(
         (IsStruct (texts names.now) (F.fields (context de.old.items.formats R.lends)))
         de.old.items.levels (R.source de.old.items.source)
         (R.source de.new.items.source) result }
+    ensures form { IfErr result (MayTell (both struct_form F.wrong_forms)
+        (formats_of de.old.items.formats) (R.source de.old.items.source)) }
     ensures formats { de.new.items.formats ≡ de.old.items.formats }
 {
     let mut remaining = map_head(de)?;

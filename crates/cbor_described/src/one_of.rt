@@ -12,10 +12,13 @@ use cbor_typed::{Deserializer, Read};
 impl<A: Variant> ReadableParts for OneOf1<A> {
     ghost use Rattle.cbor_model.specs.Readable.{PassesTags};
     ghost use Rattle.cbor_collections.specs.Enums.{IsEnum};
+    ghost use Rattle.cbor_typed.specs.Forms.{both, enum_form, never};
     ghost use Rattle.cbor_described.specs.OneOfs.{either, no_variant, list1};
 
     ghost reads = { λ names c r x. PassesTags
         (IsEnum c.formats names (either (A.means c) no_variant)) r (list1 x) };
+
+    ghost wrong_forms = { both enum_form (both A.wrong_forms never) };
 }
 
 impl<'de, R: Read<'de>, A: ReadVariant<'de, R>> ReadParts<'de, R> for OneOf1<A> {
@@ -39,10 +42,13 @@ fn one_of1<A: Drop>(list: OneOf<A, Never>) -> OneOf1<A>
 impl<A: Variant, B: Variant> ReadableParts for OneOf2<A, B> {
     ghost use Rattle.cbor_model.specs.Readable.{PassesTags};
     ghost use Rattle.cbor_collections.specs.Enums.{IsEnum};
+    ghost use Rattle.cbor_typed.specs.Forms.{both, enum_form, never};
     ghost use Rattle.cbor_described.specs.OneOfs.{either, no_variant, list2};
 
     ghost reads = { λ names c r x. PassesTags
         (IsEnum c.formats names (either (A.means c) (either (B.means c) no_variant))) r (list2 x) };
+
+    ghost wrong_forms = { both enum_form (both A.wrong_forms (both B.wrong_forms never)) };
 }
 
 impl<'de, R: Read<'de>, A: ReadVariant<'de, R>, B: ReadVariant<'de, R>> ReadParts<'de, R>
@@ -68,6 +74,7 @@ fn one_of2<A: Drop, B: Drop>(list: OneOf<A, OneOf<B, Never>>) -> OneOf2<A, B>
 impl<A: Variant, B: Variant, C: Variant> ReadableParts for OneOf3<A, B, C> {
     ghost use Rattle.cbor_model.specs.Readable.{PassesTags};
     ghost use Rattle.cbor_collections.specs.Enums.{IsEnum};
+    ghost use Rattle.cbor_typed.specs.Forms.{both, enum_form, never};
     ghost use Rattle.cbor_described.specs.OneOfs.{either, no_variant, list3};
 
     ghost reads = { λ names c r x. PassesTags
@@ -75,6 +82,8 @@ impl<A: Variant, B: Variant, C: Variant> ReadableParts for OneOf3<A, B, C> {
         (either (B.means c)
         (either (C.means c) no_variant))))
         r (list3 x) };
+
+    ghost wrong_forms = { both enum_form (both A.wrong_forms (both B.wrong_forms (both C.wrong_forms never))) };
 }
 
 impl<
@@ -106,6 +115,7 @@ fn one_of3<A: Drop, B: Drop, C: Drop>(list: OneOf<A, OneOf<B, OneOf<C, Never>>>)
 impl<A: Variant, B: Variant, C: Variant, D: Variant> ReadableParts for OneOf4<A, B, C, D> {
     ghost use Rattle.cbor_model.specs.Readable.{PassesTags};
     ghost use Rattle.cbor_collections.specs.Enums.{IsEnum};
+    ghost use Rattle.cbor_typed.specs.Forms.{both, enum_form, never};
     ghost use Rattle.cbor_described.specs.OneOfs.{either, no_variant, list4};
 
     ghost reads = { λ names c r x. PassesTags
@@ -114,6 +124,8 @@ impl<A: Variant, B: Variant, C: Variant, D: Variant> ReadableParts for OneOf4<A,
         (either (C.means c)
         (either (D.means c) no_variant)))))
         r (list4 x) };
+
+    ghost wrong_forms = { both enum_form (both A.wrong_forms (both B.wrong_forms (both C.wrong_forms (both D.wrong_forms never)))) };
 }
 
 impl<
@@ -150,6 +162,7 @@ impl<A: Variant, B: Variant, C: Variant, D: Variant, E: Variant> ReadableParts
     for OneOf5<A, B, C, D, E> {
     ghost use Rattle.cbor_model.specs.Readable.{PassesTags};
     ghost use Rattle.cbor_collections.specs.Enums.{IsEnum};
+    ghost use Rattle.cbor_typed.specs.Forms.{both, enum_form, never};
     ghost use Rattle.cbor_described.specs.OneOfs.{either, no_variant, list5};
 
     ghost reads = { λ names c r x. PassesTags
@@ -159,6 +172,8 @@ impl<A: Variant, B: Variant, C: Variant, D: Variant, E: Variant> ReadableParts
         (either (D.means c)
         (either (E.means c) no_variant))))))
         r (list5 x) };
+
+    ghost wrong_forms = { both enum_form (both A.wrong_forms (both B.wrong_forms (both C.wrong_forms (both D.wrong_forms (both E.wrong_forms never))))) };
 }
 
 impl<
@@ -199,6 +214,7 @@ impl<A: Variant, B: Variant, C: Variant, D: Variant, E: Variant, F: Variant> Rea
     for OneOf6<A, B, C, D, E, F> {
     ghost use Rattle.cbor_model.specs.Readable.{PassesTags};
     ghost use Rattle.cbor_collections.specs.Enums.{IsEnum};
+    ghost use Rattle.cbor_typed.specs.Forms.{both, enum_form, never};
     ghost use Rattle.cbor_described.specs.OneOfs.{either, no_variant, list6};
 
     ghost reads = { λ names c r x. PassesTags
@@ -209,6 +225,8 @@ impl<A: Variant, B: Variant, C: Variant, D: Variant, E: Variant, F: Variant> Rea
         (either (E.means c)
         (either (F.means c) no_variant)))))))
         r (list6 x) };
+
+    ghost wrong_forms = { both enum_form (both A.wrong_forms (both B.wrong_forms (both C.wrong_forms (both D.wrong_forms (both E.wrong_forms (both F.wrong_forms never)))))) };
 }
 
 impl<
@@ -259,6 +277,7 @@ impl<
 > ReadableParts for OneOf7<A, B, C, D, E, F, G> {
     ghost use Rattle.cbor_model.specs.Readable.{PassesTags};
     ghost use Rattle.cbor_collections.specs.Enums.{IsEnum};
+    ghost use Rattle.cbor_typed.specs.Forms.{both, enum_form, never};
     ghost use Rattle.cbor_described.specs.OneOfs.{either, no_variant, list7};
 
     ghost reads = { λ names c r x. PassesTags
@@ -270,6 +289,8 @@ impl<
         (either (F.means c)
         (either (G.means c) no_variant))))))))
         r (list7 x) };
+
+    ghost wrong_forms = { both enum_form (both A.wrong_forms (both B.wrong_forms (both C.wrong_forms (both D.wrong_forms (both E.wrong_forms (both F.wrong_forms (both G.wrong_forms never))))))) };
 }
 
 impl<
@@ -327,6 +348,7 @@ impl<
 > ReadableParts for OneOf8<A, B, C, D, E, F, G, H> {
     ghost use Rattle.cbor_model.specs.Readable.{PassesTags};
     ghost use Rattle.cbor_collections.specs.Enums.{IsEnum};
+    ghost use Rattle.cbor_typed.specs.Forms.{both, enum_form, never};
     ghost use Rattle.cbor_described.specs.OneOfs.{either, no_variant, list8};
 
     ghost reads = { λ names c r x. PassesTags
@@ -339,6 +361,8 @@ impl<
         (either (G.means c)
         (either (H.means c) no_variant)))))))))
         r (list8 x) };
+
+    ghost wrong_forms = { both enum_form (both A.wrong_forms (both B.wrong_forms (both C.wrong_forms (both D.wrong_forms (both E.wrong_forms (both F.wrong_forms (both G.wrong_forms (both H.wrong_forms never)))))))) };
 }
 
 impl<

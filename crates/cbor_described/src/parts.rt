@@ -1,8 +1,9 @@
 //! Structs and enums that are read by a description of their parts.
 
-ghost use Rattle.std.specs.Prelude.{◌≡◌, length};
+ghost use Rattle.std.specs.Prelude.{◌≡◌, IfErr, length};
 ghost use Rattle.cbor_scalars.specs.Identifiers.{texts};
 ghost use Rattle.cbor_scalars.specs.Takes.{TakesItem, context, formats_of};
+ghost use Rattle.cbor_typed.specs.Forms.{MayTell};
 
 use cbor_io::error::Result;
 use cbor_parts::{Newtype, Parts, Schema};
@@ -14,9 +15,13 @@ pub trait ReadableParts: Parts {
     ghost use Rattle.std.specs.Prelude.{List, ℕ};
     ghost use Rattle.cbor_model.specs.Raw.{Raw};
     ghost use Rattle.cbor_model.specs.Readable.{Context};
+    ghost use Rattle.cbor_typed.specs.Forms.{WrongForms};
 
     // As what an item is read, by the names of the fields or the variants.
     ghost reads: { List (List ℕ) → Context → Raw → Self → Type 0 };
+
+    // By which codes an item may be refused for its form, and where.
+    ghost wrong_forms: { WrongForms };
 }
 
 /// The parts of a struct or an enum, which are read from a source.
@@ -28,6 +33,8 @@ pub trait ReadParts<'de, R: Read<'de>>: ReadableParts {
             (Self.reads (texts names.now) (context de.old.items.formats R.lends))
             de.old.items.levels (R.source de.old.items.source)
             (R.source de.new.items.source) result }
+        ensures form { IfErr result (MayTell Self.wrong_forms
+            (formats_of de.old.items.formats) (R.source de.old.items.source)) }
         ensures levels { de.new.items.levels ≡ de.old.items.levels }
         ensures formats { de.new.items.formats ≡ de.old.items.formats };
 }
@@ -35,6 +42,8 @@ pub trait ReadParts<'de, R: Read<'de>>: ReadableParts {
 /// A struct is read as its one part.
 impl<T: Readable> ReadableParts for Newtype<T> {
     ghost reads = { λ names c r p. T.reads c r p.0 };
+
+    ghost wrong_forms = { T.wrong_forms };
 }
 
 impl<'de, R: Read<'de>, T: Deserialize<'de, R>> ReadParts<'de, R> for Newtype<T> {
@@ -83,6 +92,8 @@ pub trait FromParts: Schema {
             (Self.parts x))
             de.old.items.levels (R.source de.old.items.source)
             (R.source de.new.items.source) result }
+        ensures form { IfErr result (MayTell Self.Parts.wrong_forms
+            (formats_of de.old.items.formats) (R.source de.old.items.source)) }
         ensures levels { de.new.items.levels ≡ de.old.items.levels }
         ensures formats { de.new.items.formats ≡ de.old.items.formats }
     {

@@ -7,11 +7,14 @@ use cbor_typed::{Deserializer, FieldType, Read};
 
 impl<A: FieldType> ReadableParts for (A,) {
     ghost use Rattle.std.specs.Prelude.{[], ◌∷◌};
+    ghost use Rattle.cbor_typed.specs.Forms.{both, never, struct_form};
     ghost use Rattle.cbor_typed.specs.Structs.{IsStruct, field_or};
 
     ghost reads = { λ names c r x. IsStruct {S = A × Unit {0}} names
         (field_or (A.reads c) A.missing (λ p. p.0) ∷ [])
         r (x.0, tt) };
+
+    ghost wrong_forms = { both struct_form (both A.Of.wrong_forms never) };
 }
 
 impl<'de, R: Read<'de>, A: ReadField<'de, R>> ReadParts<'de, R> for (A,) {
@@ -28,12 +31,15 @@ impl<'de, R: Read<'de>, A: ReadField<'de, R>> ReadParts<'de, R> for (A,) {
 
 impl<A: FieldType, B: FieldType> ReadableParts for (A, B) {
     ghost use Rattle.std.specs.Prelude.{[], ◌∷◌};
+    ghost use Rattle.cbor_typed.specs.Forms.{both, never, struct_form};
     ghost use Rattle.cbor_typed.specs.Structs.{IsStruct, field_or};
 
     ghost reads = { λ names c r x. IsStruct {S = A × (B × Unit {0})} names
         (field_or (A.reads c) A.missing (λ p. p.0)
         ∷ field_or (B.reads c) B.missing (λ p. p.1.0) ∷ [])
         r (x.0, (x.1, tt)) };
+
+    ghost wrong_forms = { both struct_form (both A.Of.wrong_forms (both B.Of.wrong_forms never)) };
 }
 
 impl<'de, R: Read<'de>, A: ReadField<'de, R>, B: ReadField<'de, R>> ReadParts<'de, R> for (A, B) {
@@ -50,6 +56,7 @@ impl<'de, R: Read<'de>, A: ReadField<'de, R>, B: ReadField<'de, R>> ReadParts<'d
 
 impl<A: FieldType, B: FieldType, C: FieldType> ReadableParts for (A, B, C) {
     ghost use Rattle.std.specs.Prelude.{[], ◌∷◌};
+    ghost use Rattle.cbor_typed.specs.Forms.{both, never, struct_form};
     ghost use Rattle.cbor_typed.specs.Structs.{IsStruct, field_or};
 
     ghost reads = { λ names c r x. IsStruct {S = A × (B × (C × Unit {0}))} names
@@ -57,6 +64,8 @@ impl<A: FieldType, B: FieldType, C: FieldType> ReadableParts for (A, B, C) {
         ∷ field_or (B.reads c) B.missing (λ p. p.1.0)
         ∷ field_or (C.reads c) C.missing (λ p. p.1.1.0) ∷ [])
         r (x.0, (x.1, (x.2, tt))) };
+
+    ghost wrong_forms = { both struct_form (both A.Of.wrong_forms (both B.Of.wrong_forms (both C.Of.wrong_forms never))) };
 }
 
 impl<'de, R: Read<'de>, A: ReadField<'de, R>, B: ReadField<'de, R>, C: ReadField<'de, R>> ReadParts<
@@ -76,6 +85,7 @@ impl<'de, R: Read<'de>, A: ReadField<'de, R>, B: ReadField<'de, R>, C: ReadField
 
 impl<A: FieldType, B: FieldType, C: FieldType, D: FieldType> ReadableParts for (A, B, C, D) {
     ghost use Rattle.std.specs.Prelude.{[], ◌∷◌};
+    ghost use Rattle.cbor_typed.specs.Forms.{both, never, struct_form};
     ghost use Rattle.cbor_typed.specs.Structs.{IsStruct, field_or};
 
     ghost reads = { λ names c r x. IsStruct {S = A × B × C × D × Unit {0}} names
@@ -84,6 +94,8 @@ impl<A: FieldType, B: FieldType, C: FieldType, D: FieldType> ReadableParts for (
         ∷ field_or (C.reads c) C.missing (λ p. p.2)
         ∷ field_or (D.reads c) D.missing (λ p. p.3) ∷ [])
         r (x.0, x.1, x.2, x.3, tt) };
+
+    ghost wrong_forms = { both struct_form (both A.Of.wrong_forms (both B.Of.wrong_forms (both C.Of.wrong_forms (both D.Of.wrong_forms never)))) };
 }
 
 impl<
@@ -108,6 +120,7 @@ impl<
 impl<A: FieldType, B: FieldType, C: FieldType, D: FieldType, E: FieldType> ReadableParts
     for (A, B, C, D, E) {
     ghost use Rattle.std.specs.Prelude.{[], ◌∷◌};
+    ghost use Rattle.cbor_typed.specs.Forms.{both, never, struct_form};
     ghost use Rattle.cbor_typed.specs.Structs.{IsStruct, field_or};
 
     ghost reads = { λ names c r x. IsStruct {S = A × B × C × D × (E × Unit {0})} names
@@ -117,6 +130,8 @@ impl<A: FieldType, B: FieldType, C: FieldType, D: FieldType, E: FieldType> Reada
         ∷ field_or (D.reads c) D.missing (λ p. p.3)
         ∷ field_or (E.reads c) E.missing (λ p. p.4.0) ∷ [])
         r (x.0, x.1, x.2, x.3, (x.4, tt)) };
+
+    ghost wrong_forms = { both struct_form (both A.Of.wrong_forms (both B.Of.wrong_forms (both C.Of.wrong_forms (both D.Of.wrong_forms (both E.Of.wrong_forms never))))) };
 }
 
 impl<
@@ -151,6 +166,7 @@ impl<
     F: FieldType,
 > ReadableParts for (A, B, C, D, E, F) {
     ghost use Rattle.std.specs.Prelude.{[], ◌∷◌};
+    ghost use Rattle.cbor_typed.specs.Forms.{both, never, struct_form};
     ghost use Rattle.cbor_typed.specs.Structs.{IsStruct, field_or};
 
     ghost reads = { λ names c r x. IsStruct {S = A × B × C × D × (E × (F × Unit {0}))} names
@@ -161,6 +177,8 @@ impl<
         ∷ field_or (E.reads c) E.missing (λ p. p.4.0)
         ∷ field_or (F.reads c) F.missing (λ p. p.4.1.0) ∷ [])
         r (x.0, x.1, x.2, x.3, (x.4, (x.5, tt))) };
+
+    ghost wrong_forms = { both struct_form (both A.Of.wrong_forms (both B.Of.wrong_forms (both C.Of.wrong_forms (both D.Of.wrong_forms (both E.Of.wrong_forms (both F.Of.wrong_forms never)))))) };
 }
 
 impl<
@@ -197,6 +215,7 @@ impl<
     G: FieldType,
 > ReadableParts for (A, B, C, D, E, F, G) {
     ghost use Rattle.std.specs.Prelude.{[], ◌∷◌};
+    ghost use Rattle.cbor_typed.specs.Forms.{both, never, struct_form};
     ghost use Rattle.cbor_typed.specs.Structs.{IsStruct, field_or};
 
     ghost reads = { λ names c r x. IsStruct {S = A × B × C × D × (E × (F × (G × Unit {0})))} names
@@ -208,6 +227,8 @@ impl<
         ∷ field_or (F.reads c) F.missing (λ p. p.4.1.0)
         ∷ field_or (G.reads c) G.missing (λ p. p.4.1.1.0) ∷ [])
         r (x.0, x.1, x.2, x.3, (x.4, (x.5, (x.6, tt)))) };
+
+    ghost wrong_forms = { both struct_form (both A.Of.wrong_forms (both B.Of.wrong_forms (both C.Of.wrong_forms (both D.Of.wrong_forms (both E.Of.wrong_forms (both F.Of.wrong_forms (both G.Of.wrong_forms never))))))) };
 }
 
 impl<
@@ -246,6 +267,7 @@ impl<
     H: FieldType,
 > ReadableParts for (A, B, C, D, E, F, G, H) {
     ghost use Rattle.std.specs.Prelude.{[], ◌∷◌};
+    ghost use Rattle.cbor_typed.specs.Forms.{both, never, struct_form};
     ghost use Rattle.cbor_typed.specs.Structs.{IsStruct, field_or};
 
     ghost reads = { λ names c r x. IsStruct {S = A × B × C × D × (E × F × G × H × Unit {0})} names
@@ -258,6 +280,8 @@ impl<
         ∷ field_or (G.reads c) G.missing (λ p. p.4.2)
         ∷ field_or (H.reads c) H.missing (λ p. p.4.3) ∷ [])
         r (x.0, x.1, x.2, x.3, (x.4, x.5, x.6, x.7, tt)) };
+
+    ghost wrong_forms = { both struct_form (both A.Of.wrong_forms (both B.Of.wrong_forms (both C.Of.wrong_forms (both D.Of.wrong_forms (both E.Of.wrong_forms (both F.Of.wrong_forms (both G.Of.wrong_forms (both H.Of.wrong_forms never)))))))) };
 }
 
 impl<
@@ -298,6 +322,7 @@ impl<
     I: FieldType,
 > ReadableParts for (A, B, C, D, E, F, G, H, I) {
     ghost use Rattle.std.specs.Prelude.{[], ◌∷◌};
+    ghost use Rattle.cbor_typed.specs.Forms.{both, never, struct_form};
     ghost use Rattle.cbor_typed.specs.Structs.{IsStruct, field_or};
 
     ghost reads = { λ names c r x. IsStruct {S = A × B × C × D × (E × F × G × H × (I × Unit {0}))} names
@@ -311,6 +336,8 @@ impl<
         ∷ field_or (H.reads c) H.missing (λ p. p.4.3)
         ∷ field_or (I.reads c) I.missing (λ p. p.4.4.0) ∷ [])
         r (x.0, x.1, x.2, x.3, (x.4, x.5, x.6, x.7, (x.8, tt))) };
+
+    ghost wrong_forms = { both struct_form (both A.Of.wrong_forms (both B.Of.wrong_forms (both C.Of.wrong_forms (both D.Of.wrong_forms (both E.Of.wrong_forms (both F.Of.wrong_forms (both G.Of.wrong_forms (both H.Of.wrong_forms (both I.Of.wrong_forms never))))))))) };
 }
 
 impl<
@@ -357,6 +384,7 @@ impl<
     J: FieldType,
 > ReadableParts for (A, B, C, D, E, F, G, H, I, J) {
     ghost use Rattle.std.specs.Prelude.{[], ◌∷◌};
+    ghost use Rattle.cbor_typed.specs.Forms.{both, never, struct_form};
     ghost use Rattle.cbor_typed.specs.Structs.{IsStruct, field_or};
 
     ghost reads = { λ names c r x. IsStruct {S = A × B × C × D × (E × F × G × H × (I × (J × Unit {0})))} names
@@ -371,6 +399,8 @@ impl<
         ∷ field_or (I.reads c) I.missing (λ p. p.4.4.0)
         ∷ field_or (J.reads c) J.missing (λ p. p.4.4.1.0) ∷ [])
         r (x.0, x.1, x.2, x.3, (x.4, x.5, x.6, x.7, (x.8, (x.9, tt)))) };
+
+    ghost wrong_forms = { both struct_form (both A.Of.wrong_forms (both B.Of.wrong_forms (both C.Of.wrong_forms (both D.Of.wrong_forms (both E.Of.wrong_forms (both F.Of.wrong_forms (both G.Of.wrong_forms (both H.Of.wrong_forms (both I.Of.wrong_forms (both J.Of.wrong_forms never)))))))))) };
 }
 
 impl<
@@ -428,6 +458,7 @@ impl<
     K: FieldType,
 > ReadableParts for (A, B, C, D, E, F, G, H, I, J, K) {
     ghost use Rattle.std.specs.Prelude.{[], ◌∷◌};
+    ghost use Rattle.cbor_typed.specs.Forms.{both, never, struct_form};
     ghost use Rattle.cbor_typed.specs.Structs.{IsStruct, field_or};
 
     ghost reads = { λ names c r x. IsStruct {S = A × B × C × D × (E × F × G × H × (I × (J × (K × Unit {0}))))} names
@@ -443,6 +474,8 @@ impl<
         ∷ field_or (J.reads c) J.missing (λ p. p.4.4.1.0)
         ∷ field_or (K.reads c) K.missing (λ p. p.4.4.1.1.0) ∷ [])
         r (x.0, x.1, x.2, x.3, (x.4, x.5, x.6, x.7, (x.8, (x.9, (x.10, tt))))) };
+
+    ghost wrong_forms = { both struct_form (both A.Of.wrong_forms (both B.Of.wrong_forms (both C.Of.wrong_forms (both D.Of.wrong_forms (both E.Of.wrong_forms (both F.Of.wrong_forms (both G.Of.wrong_forms (both H.Of.wrong_forms (both I.Of.wrong_forms (both J.Of.wrong_forms (both K.Of.wrong_forms never))))))))))) };
 }
 
 impl<
@@ -502,6 +535,7 @@ impl<
     L: FieldType,
 > ReadableParts for (A, B, C, D, E, F, G, H, I, J, K, L) {
     ghost use Rattle.std.specs.Prelude.{[], ◌∷◌};
+    ghost use Rattle.cbor_typed.specs.Forms.{both, never, struct_form};
     ghost use Rattle.cbor_typed.specs.Structs.{IsStruct, field_or};
 
     ghost reads = { λ names c r x. IsStruct {S = A × B × C × D × (E × F × G × H × (I × J × K × L × Unit {0}))} names
@@ -518,6 +552,8 @@ impl<
         ∷ field_or (K.reads c) K.missing (λ p. p.4.4.2)
         ∷ field_or (L.reads c) L.missing (λ p. p.4.4.3) ∷ [])
         r (x.0, x.1, x.2, x.3, (x.4, x.5, x.6, x.7, (x.8, x.9, x.10, x.11, tt))) };
+
+    ghost wrong_forms = { both struct_form (both A.Of.wrong_forms (both B.Of.wrong_forms (both C.Of.wrong_forms (both D.Of.wrong_forms (both E.Of.wrong_forms (both F.Of.wrong_forms (both G.Of.wrong_forms (both H.Of.wrong_forms (both I.Of.wrong_forms (both J.Of.wrong_forms (both K.Of.wrong_forms (both L.Of.wrong_forms never)))))))))))) };
 }
 
 impl<

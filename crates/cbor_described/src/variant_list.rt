@@ -1,11 +1,12 @@
 //! Lists of variants, of which enums are read.
 
-ghost use Rattle.std.specs.Prelude.{◌≡◌};
+ghost use Rattle.std.specs.Prelude.{◌≡◌, IfErr};
 ghost use Rattle.cbor_collections.specs.Enums.{IsEnum};
 ghost use Rattle.cbor_scalars.specs.Identifiers.{texts};
 ghost use Rattle.cbor_scalars.specs.Takes.{TakesItem, context, formats_of};
 ghost use Rattle.cbor_collections.specs.Variants.{TakesContent};
 ghost use Rattle.cbor_model.specs.Readable.{PassesTags};
+ghost use Rattle.cbor_typed.specs.Forms.{MayTell, both, enum_form};
 
 use crate::parts::{ReadParts, ReadableParts};
 use cbor_io::error::{Error, Result};
@@ -21,9 +22,13 @@ use cbor_typed::{
 pub trait Variant: Sized + Drop {
     ghost use Rattle.cbor_model.specs.Readable.{Context};
     ghost use Rattle.cbor_collections.specs.Enums.{Content};
+    ghost use Rattle.cbor_typed.specs.Forms.{WrongForms};
 
     // What a variant's content means.
     ghost means: { Context → Content → Self → Type 0 };
+
+    // By which codes a content may be refused for its form, and where.
+    ghost wrong_forms: { WrongForms };
 }
 
 /// A variant that is read from a source.
@@ -33,13 +38,18 @@ pub trait ReadVariant<'de, R: Read<'de>>: Variant {
         ensures read { TakesContent R.refusals (formats_of de.old.items.formats)
             (Self.means (context de.old.items.formats R.lends)) de.old.items.levels form
             (R.source de.old.items.source) (R.source de.new.items.source) result }
+        ensures form { IfErr result (MayTell Self.wrong_forms
+            (formats_of de.old.items.formats) (R.source de.old.items.source)) }
         ensures formats { de.new.items.formats ≡ de.old.items.formats };
 }
 
 impl Variant for () {
     ghost use Rattle.cbor_collections.specs.Enums.{IsNothing};
+    ghost use Rattle.cbor_typed.specs.Forms.{unit_form};
 
     ghost means = { λ c content u. IsNothing content u };
+
+    ghost wrong_forms = { unit_form };
 }
 
 impl<'de, R: Read<'de>> ReadVariant<'de, R> for () {
@@ -50,8 +60,11 @@ impl<'de, R: Read<'de>> ReadVariant<'de, R> for () {
 
 impl<T: Readable> Variant for Newtype<T> {
     ghost use Rattle.cbor_collections.specs.Enums.{IsPart};
+    ghost use Rattle.cbor_typed.specs.Forms.{both, part_form};
 
     ghost means = { λ c content y. IsPart (T.reads c) content y.0 };
+
+    ghost wrong_forms = { both part_form T.wrong_forms };
 }
 
 impl<'de, R: Read<'de>, T: Deserialize<'de, R>> ReadVariant<'de, R> for Newtype<T> {
@@ -71,9 +84,12 @@ impl<F: ReadableTuple> Variant for Tuple<F> {
     ghost use Rattle.cbor_collections.specs.Enums.{AreParts};
 
     ghost means = { λ c content y. AreParts (F.parts c) content y.0 };
+
+    ghost wrong_forms = { F.wrong_forms };
 }
 
 impl<'de, R: Read<'de>, F: ReadTuple<'de, R>> ReadVariant<'de, R> for Tuple<F> {
+    #[tactic(auto, using(cbor_typed::proofs::facts::Forms::plain))]
     fn read_content(de: &mut Deserializer<R>, form: Form) -> Result<Tuple<F>> {
         let remaining = parts(de, form)?;
         match F::read_tuple(de, remaining) {
@@ -92,6 +108,8 @@ where
     N::Parts: ReadableParts,
 {
     ghost reads = { λ c r y. N.Parts.reads N.names c r y.0 };
+
+    ghost wrong_forms = { N.Parts.wrong_forms };
 }
 
 impl<'de, R: Read<'de>, N: FieldNames> Deserialize<'de, R> for Named<N>
@@ -111,8 +129,11 @@ where
     N::Parts: ReadableParts,
 {
     ghost use Rattle.cbor_collections.specs.Enums.{IsPart};
+    ghost use Rattle.cbor_typed.specs.Forms.{both, part_form};
 
     ghost means = { λ c content y. IsPart (N.Parts.reads N.names c) content y.0 };
+
+    ghost wrong_forms = { both part_form N.Parts.wrong_forms };
 }
 
 impl<'de, R: Read<'de>, N: FieldNames> ReadVariant<'de, R> for Struct<N>
@@ -150,9 +171,13 @@ pub(crate) trait VariantList: Sized + Drop {
     ghost use Rattle.std.specs.Prelude.{ℕ};
     ghost use Rattle.cbor_model.specs.Readable.{Context};
     ghost use Rattle.cbor_collections.specs.Enums.{Content};
+    ghost use Rattle.cbor_typed.specs.Forms.{WrongForms};
 
     // What the content of the variant in this place means.
     ghost means: { Context → ℕ → Content → Self → Type 0 };
+
+    // By which codes the content of one of them may be refused for its form, and where.
+    ghost wrong_forms: { WrongForms };
 }
 
 // The variants of an enum, which are read from a source.
@@ -162,11 +187,17 @@ pub(crate) trait ReadVariants<'de, R: Read<'de>>: VariantList {
         ensures read { TakesContent R.refusals (formats_of de.old.items.formats)
             (Self.means (context de.old.items.formats R.lends) i) de.old.items.levels form
             (R.source de.old.items.source) (R.source de.new.items.source) result }
+        ensures form { IfErr result (MayTell Self.wrong_forms
+            (formats_of de.old.items.formats) (R.source de.old.items.source)) }
         ensures formats { de.new.items.formats ≡ de.old.items.formats };
 }
 
 impl VariantList for Never {
+    ghost use Rattle.cbor_typed.specs.Forms.{never};
+
     ghost means = { λ c i content x. ⊥ };
+
+    ghost wrong_forms = { never };
 }
 
 impl<'de, R: Read<'de>> ReadVariants<'de, R> for Never {
@@ -176,9 +207,12 @@ impl<'de, R: Read<'de>> ReadVariants<'de, R> for Never {
 }
 
 impl<V: Variant, Vs: VariantList> VariantList for OneOf<V, Vs> {
+    ghost use Rattle.cbor_typed.specs.Forms.{both};
     ghost use Rattle.cbor_described.specs.OneOfs.{either};
 
     ghost means = { λ c. either (V.means c) (Vs.means c) };
+
+    ghost wrong_forms = { both V.wrong_forms Vs.wrong_forms };
 }
 
 impl<'de, R: Read<'de>, V: ReadVariant<'de, R>, Vs: ReadVariants<'de, R>> ReadVariants<'de, R>
@@ -207,6 +241,8 @@ pub(crate) fn read_variants<'de, R: Read<'de>, E: ReadVariants<'de, R>>(
         (E.means (context de.old.items.formats R.lends))))
         de.old.items.levels (R.source de.old.items.source)
         (R.source de.new.items.source) result }
+    ensures form { IfErr result (MayTell (both enum_form E.wrong_forms)
+        (formats_of de.old.items.formats) (R.source de.old.items.source)) }
     ensures levels { de.new.items.levels ≡ de.old.items.levels }
     ensures formats { de.new.items.formats ≡ de.old.items.formats }
 {
@@ -226,6 +262,8 @@ fn variants_within<'de, R: Read<'de>, E: ReadVariants<'de, R>>(
         (E.means (context de.old.items.formats R.lends))))
         de.old.items.levels (R.source de.old.items.source)
         (R.source de.new.items.source) result }
+    ensures form { IfErr result (MayTell (both enum_form E.wrong_forms)
+        (formats_of de.old.items.formats) (R.source de.old.items.source)) }
     ensures formats { de.new.items.formats ≡ de.old.items.formats }
 {
     let (index, form) = variant_head(de, names)?;

@@ -1,12 +1,14 @@
 -- What strict reading answers where it refuses.
-use Rattle.std.specs.Prelude.{⊤, ◌≡◌, ◌⊎◌, ℕ, ◌<◌, Bool, List}
+use Rattle.std.specs.Prelude.{◌≡◌, ◌⊎◌, ℕ, ◌<◌, List, [], None}
+use Rattle.cbor_model.specs.Formats.{all_formats}
 use Rattle.cbor_model.specs.Raw.{Raw}
 use Rattle.cbor_io.specs.declared.error.Error.{Error}
 use Rattle.cbor_io.specs.declared.error.ErrorCode.{ErrorCode}
 use Rattle.cbor_io.specs.declared.error.ErrorCode.TheVariants.{NotCanonical}
 use Rattle.cbor_io.specs.Error.{code_of, offset_of, IsOutOfMemory}
+use Rattle.cbor_read.specs.Source.{slice_input}
 use Rattle.cbor_de.specs.FirstRefusal.{refusal_code}
-use Rattle.cbor_typed.specs.Forms.{FormOnlyIf}
+use Rattle.cbor_typed.specs.Forms.{WrongForms, MayTell}
 use Rattle.cbor_strict.specs.Departure.{IsFirstDeparture, ShowsDeparture}
 use Rattle.cbor_strict.specs.Strict.{IsFirstShown}
 use Rattle.cbor_strict.specs.StrictRefusals.{StrictRefusal, ordinary, not_canonical}
@@ -34,7 +36,7 @@ PassesNoDeparture bytes e =
     ((code_of e ≡ NotCanonical) × IsFirstShown bytes (offset_of e))
     ⊎ ((i : ℕ) → ShowsDeparture bytes i → offset_of e < i)
 
--- The code tells a departure; or another wrong form, where the type may refuse an item for one.
-abbrev pub DepartureOrFormOnlyIf : Bool → ErrorCode → Type 0
-DepartureOrFormOnlyIf tells NotCanonical = ⊤
-DepartureOrFormOnlyIf tells code = FormOnlyIf tells code
+-- A departure is told; or no wrong form but one that the type may tell.
+abbrev pub DepartureOrForm : WrongForms → List ℕ → Error → Type 0
+DepartureOrForm forms bytes e =
+    (code_of e ≡ NotCanonical) ⊎ MayTell forms all_formats (slice_input bytes 0 [] None) e

@@ -12,7 +12,7 @@ ghost use Rattle.cbor_scalars.specs.Takes.{WhereTotal};
 ghost use Rattle.cbor_typed.specs.Whole.{from_slice_context};
 ghost use Rattle.cbor_strict.specs.Strict.{SpellsCanonically, SpellsCanonicallyAs};
 ghost use Rattle.cbor_strict.specs.StrictAnswers.{PassesNoDeparture, TellsFirstStrictly};
-ghost use Rattle.cbor_strict.specs.StrictAnswers.{TellsItsDeparture, DepartureOrFormOnlyIf};
+ghost use Rattle.cbor_strict.specs.StrictAnswers.{TellsItsDeparture, DepartureOrForm};
 
 use crate::walk::first_departure;
 use cbor_io::error::{Error, ErrorCode, Result};
@@ -95,8 +95,8 @@ pub fn from_slice_canonical_as<'a, T: Deserialize<'a, SliceRead<'a>>>(
         (IsOutOfMemory e ⊎ TellsFirstStrictly slice.now e)) }
     // Of any type: no departure stands before what is told.
     ensures earliest { IfErr result (PassesNoDeparture slice.now) }
-    // Another wrong form is told only by a type that may refuse an item for one.
-    ensures form { IfErr result (λ e. DepartureOrFormOnlyIf T.tells_form (code_of e)) }
+    // Another wrong form is told by a code, and at a place, that the type may tell it by and at.
+    ensures form { IfErr result (DepartureOrForm T.wrong_forms slice.now) }
 {
     match from_slice::<T>(alloc, slice) {
         Ok(value) => match first_departure(slice) {

@@ -85,10 +85,11 @@ impl<T: Readable> Readable for Tagged<T> {
 
     ghost total = { T.total };
 
-    ghost tells_form = { T.tells_form };
+    ghost wrong_forms = { T.wrong_forms };
 }
 
 impl<'de, R: Read<'de>, T: Deserialize<'de, R>> Deserialize<'de, R> for Tagged<T> {
+    #[tactic(auto, using(cbor_typed::proofs::facts::Forms::plain))]
     fn deserialize(de: &mut Deserializer<R>) -> Result<Tagged<T>> {
         let _levels = de.levels_left();
         match outermost(de) {

@@ -4,3 +4,4 @@ pub mod Refusals
 pub mod Values
 pub mod Structs
 pub mod Enums
+pub mod Forms

@@ -2,9 +2,8 @@
 
 ghost use Rattle.std.specs.Prelude.{◌≡◌, IfErr};
 ghost use Rattle.cbor_read.specs.Source.{asks_for};
-ghost use Rattle.cbor_io.specs.Error.{code_of};
 ghost use Rattle.cbor_scalars.specs.Takes.{TakesItem, TellsItem, MemoryFor, context, formats_of};
-ghost use Rattle.cbor_typed.specs.Forms.{FormOnlyIf};
+ghost use Rattle.cbor_typed.specs.Forms.{MayTell};
 
 use crate::de::Deserializer;
 use cbor_io::error::Result;
@@ -22,19 +21,21 @@ use cbor_read::Read;
 /// bytes or to join chunks: where another item is read, memory doesn't run out. It may be asked for
 /// any, unless a type says otherwise.
 ///
-/// `tells_form` says whether the type may refuse an item for its form: only then is a refusal
-/// `ArrayTooShort`, `ArrayTooLong`, `WrongEnumFormat` or `WrongStructFormat` (or `NotCanonical`,
-/// which strict reading alone answers). A type may, unless it says otherwise.
+/// `wrong_forms` says by which of the codes `ArrayTooShort`, `ArrayTooLong`, `WrongEnumFormat` and
+/// `WrongStructFormat` the type may refuse an item for its form, and where (or by `NotCanonical`,
+/// which strict reading alone answers): by any, anywhere, unless it says otherwise. Most types
+/// never do; what is made of parts does where a part does.
 ///
 /// `passes_over` says that the type passes over an item that it doesn't read before it refuses it:
 /// so what isn't whole is refused by its fault, and an item, of keys of any formats, by a message.
 /// A type needn't, unless it says so: one that is read part by part stops at the part that it
 /// doesn't read.
 pub trait Readable: Sized + Drop {
-    ghost use Rattle.std.specs.Prelude.{⊤, Bool, true, false};
+    ghost use Rattle.std.specs.Prelude.{⊤, Bool, false};
     ghost use Rattle.cbor_model.specs.Raw.{Raw};
     ghost use Rattle.cbor_model.specs.Readable.{Context};
     ghost use Rattle.cbor_read.specs.Source.{Asks};
+    ghost use Rattle.cbor_typed.specs.Forms.{WrongForms, any_form};
 
     ghost reads: { Context → Raw → Self → Type 0 };
 
@@ -42,7 +43,7 @@ pub trait Readable: Sized + Drop {
 
     ghost asks_memory: { Asks → Raw → Type 0 } = { λ a r. ⊤ };
 
-    ghost tells_form: { Bool } = { true };
+    ghost wrong_forms: { WrongForms } = { any_form };
 
     ghost passes_over: { Bool } = { false };
 }
@@ -211,7 +212,8 @@ pub trait Deserialize<'de, R: Read<'de>>: Readable {
             (formats_of de.old.items.formats)
             (Self.reads (context de.old.items.formats R.lends)) de.old.items.levels
             (R.source de.old.items.source)) }
-        ensures form { IfErr result (λ e. FormOnlyIf Self.tells_form (code_of e)) }
+        ensures form { IfErr result (MayTell Self.wrong_forms
+            (formats_of de.old.items.formats) (R.source de.old.items.source)) }
         ensures levels { de.new.items.levels ≡ de.old.items.levels }
         ensures formats { de.new.items.formats ≡ de.old.items.formats };
 }

@@ -1,6 +1,6 @@
 //! Reading a whole input as a type.
 
-ghost use Rattle.std.specs.Prelude.{⊤, ◌≡◌, ◌<◌, ◌⊎◌, ℕ, List, length, Some, None};
+ghost use Rattle.std.specs.Prelude.{⊤, ◌≡◌, ◌<◌, ◌⊎◌, ℕ, List, [], length, Some, None};
 ghost use Rattle.std.specs.Prelude.{IfOk, IfErr, MatchResult};
 ghost use Rattle.cbor_model.specs.Acceptable.{max_depth, FitsScratch};
 ghost use Rattle.cbor_model.specs.Allowed.{limits_of};
@@ -10,13 +10,13 @@ ghost use Rattle.cbor_model.specs.Plain.{Val};
 ghost use Rattle.cbor_model.specs.Raw.{AreBytes, longest_joined};
 ghost use Rattle.cbor_model.specs.Readable.{SpellsAs};
 ghost use Rattle.cbor_model.specs.Reader.{read_value, read_value_in};
-ghost use Rattle.cbor_io.specs.Error.{code_of, IsOutOfMemory};
+ghost use Rattle.cbor_io.specs.Error.{IsOutOfMemory};
 ghost use Rattle.cbor_de.specs.FirstRefusal.{TellsFirst};
 ghost use Rattle.cbor_de.specs.Gives.{Fails, FailsOrFaults, Gave};
 ghost use Rattle.cbor_de.specs.Gives.{IsMemoryOrFault, IsScratchOrMemory};
-ghost use Rattle.cbor_read.specs.Source.{asks_for};
+ghost use Rattle.cbor_read.specs.Source.{asks_for, reader_input, slice_input};
 ghost use Rattle.cbor_scalars.specs.Takes.{context, formats_of, lending, MemoryFor, WhereTotal};
-ghost use Rattle.cbor_typed.specs.Forms.{FormOnlyIf};
+ghost use Rattle.cbor_typed.specs.Forms.{MayTell};
 ghost use Rattle.cbor_typed.specs.Whole.{ReadsAll, RefusesBytes, TellsWhole, from_slice_context};
 ghost use Rattle.cbor_typed.specs.Whole.{from_mut_slice_context, from_reader_context};
 ghost use Rattle.cbor_typed.specs.Whole.{asks_none, from_reader_asks, from_slice_asks};
@@ -36,7 +36,7 @@ fn read_all<'de, T: Deserialize<'de, R>, R: Read<'de> + Drop>(alloc: Global, sou
         (T.reads (lending all_formats R.lends)) max_depth (R.source source)) }
     ensures memory { IfErr result (MemoryFor (T.asks_memory (asks_for R.refusals R.lends))
         all_formats (T.reads (lending all_formats R.lends)) max_depth (R.source source)) }
-    ensures form { IfErr result (λ e. FormOnlyIf T.tells_form (code_of e)) }
+    ensures form { IfErr result (MayTell T.wrong_forms all_formats (R.source source)) }
 {
     let mut de = Deserializer::new(alloc, source);
     whole(&mut de)
@@ -54,7 +54,8 @@ fn whole<'de, T: Deserialize<'de, R>, R: Read<'de>>(de: &mut Deserializer<R>) ->
         (T.asks_memory (asks_for R.refusals R.lends)) (formats_of de.old.items.formats)
         (T.reads (context de.old.items.formats R.lends)) de.old.items.levels
         (R.source de.old.items.source)) }
-    ensures form { IfErr result (λ e. FormOnlyIf T.tells_form (code_of e)) }
+    ensures form { IfErr result (MayTell T.wrong_forms (formats_of de.old.items.formats)
+        (R.source de.old.items.source)) }
 {
     let value = match T::deserialize(de) {
         Ok(value) => value,
@@ -109,7 +110,8 @@ fn are_bytes(slice: &[u8])
 /// of the item that the bytes begin with, and `Message` exactly where an acceptable item stands
 /// there that they don't read. Of other types no clause says which fault is returned. But those,
 /// and a vector, an array or a tuple of them, never refuse an item for its form, by
-/// `ArrayTooShort`, `ArrayTooLong`, `WrongEnumFormat` or `WrongStructFormat`.
+/// `ArrayTooShort`, `ArrayTooLong`, `WrongEnumFormat` or `WrongStructFormat`; and any other by the
+/// codes, and at the places, that it says (`Readable::wrong_forms`).
 ///
 /// ```rust
 /// let number: u8 = from_slice(alloc, b"\x18\x2a")?;
@@ -149,8 +151,9 @@ pub fn from_slice<'a, T: Deserialize<'a, SliceRead<'a>>>(
     // of one that is read, it tells that more follows.
     ensures fault { IfErr result (λ e. WhereTotal T.passes_over
         (RefusesBytes ⊥ (T.reads from_slice_context) None slice.now e)) }
-    // Only a type that may refuse an item for its form answers a code that tells a wrong one.
-    ensures form { IfErr result (λ e. FormOnlyIf T.tells_form (code_of e)) }
+    // A wrong form is told by a code, and at a place, that the type may tell it by and at.
+    ensures form { IfErr result (MayTell T.wrong_forms all_formats
+        (slice_input slice.now 0 [] None)) }
 {
     read_all(alloc, SliceRead::new(alloc, slice))
 }
@@ -198,7 +201,8 @@ pub fn from_slice_with_scratch<'a, T: Deserialize<'a, SliceReadFixed<'a, 'a>>>(
         (read_value_in (Some (length scratch.old)) slice.now))) }
     ensures fault { IfErr result (λ e. WhereTotal T.passes_over (RefusesBytes ⊥
         (T.reads from_slice_context) (Some (length scratch.old)) slice.now e)) }
-    ensures form { IfErr result (λ e. FormOnlyIf T.tells_form (code_of e)) }
+    ensures form { IfErr result (MayTell T.wrong_forms all_formats
+        (slice_input slice.now 0 [] (Some (length scratch.old)))) }
 {
     read_all(alloc, SliceReadFixed::new(slice, scratch))
 }
@@ -234,7 +238,8 @@ pub fn from_mut_slice<'a, T: Deserialize<'a, MutSliceRead<'a>>>(
         WhereTotal T.total (Fails (length slice.old) e (read_value slice.old))) }
     ensures fault { IfErr result (λ e. WhereTotal T.passes_over
         (RefusesBytes ⊥ (T.reads from_mut_slice_context) None slice.old e)) }
-    ensures form { IfErr result (λ e. FormOnlyIf T.tells_form (code_of e)) }
+    ensures form { IfErr result (MayTell T.wrong_forms all_formats
+        (slice_input slice.old 0 [] None)) }
 {
     are_bytes(slice);
     read_all(alloc, MutSliceRead::new(slice))
@@ -290,7 +295,8 @@ pub fn from_reader<'de, T: DeserializeOwned + Deserialize<'de, IoRead<R>>, R: io
     ensures fault { (bytes : List ℕ) → Gave (R.remaining reader) bytes
         → IfErr result (λ e. WhereTotal T.passes_over
         (RefusesBytes ⊤ (T.reads from_reader_context) None bytes e)) }
-    ensures form { IfErr result (λ e. FormOnlyIf T.tells_form (code_of e)) }
+    ensures form { IfErr result (MayTell T.wrong_forms all_formats
+        (reader_input None (R.remaining reader) [] 0)) }
 {
     read_all(alloc, IoRead::new(alloc, reader))
 }

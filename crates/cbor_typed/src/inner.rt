@@ -14,7 +14,9 @@ ghost use Rattle.cbor_scalars.specs.Identifiers.{texts};
 ghost use Rattle.cbor_scalars.specs.Takes.{formats_of};
 ghost use Rattle.cbor_collections.specs.Begins.{TakesBeginning};
 ghost use Rattle.cbor_collections.specs.BeginsEnum.{TakesPartsHead, TakesVariantHead};
-ghost use Rattle.cbor_collections.specs.Cases.{Stands, enum_cases, unit_cases};
+ghost use Rattle.cbor_io.specs.declared.error.ErrorCode.TheVariants.{ArrayTooLong};
+ghost use Rattle.cbor_collections.specs.Cases.{FormAlone, IsEnumCode, Stands};
+ghost use Rattle.cbor_collections.specs.Cases.{enum_cases, unit_cases};
 ghost use Rattle.cbor_collections.specs.Enums.{IsNothing};
 ghost use Rattle.cbor_collections.specs.MapAccesses.{TakesMapEnd, TakesMapHead};
 ghost use Rattle.cbor_collections.specs.Variants.{IsEntered, IsInside, TakesContent, TakesParts};
@@ -121,6 +123,7 @@ pub fn variant_head<'de, R: Read<'de>>(
     ensures cases { IfErr result (λ e. Stands (R.source de.old.items.source) e
         (enum_cases (formats_of de.old.items.formats)
         de.old.items.levels)) }
+    ensures code { IfErr result (λ e. IsEnumCode (code_of e)) }
     ensures below { IfOk result (λ v. v.0 < length names.now) }
     ensures inside { IfOk result (λ v. IsInside v.1 de.new.items.levels
         de.old.items.levels) }
@@ -164,6 +167,7 @@ pub fn no_part<R: Source>(de: &mut Deserializer<R>, form: Form) -> Result<()>
         (R.source de.old.items.source) (R.source de.new.items.source) result }
     ensures cases { IfErr result (λ e. Stands (R.source de.old.items.source) e
         (unit_cases form)) }
+    ensures code { IfErr result (λ e. FormAlone ArrayTooLong (code_of e)) }
     ensures levels { de.new.items.levels ≡ de.old.items.levels }
     ensures formats { de.new.items.formats ≡ de.old.items.formats }
 {

@@ -3,11 +3,10 @@
 
 ghost use Rattle.std.specs.Prelude.{◌≡◌, IfErr};
 ghost use Rattle.cbor_model.specs.Readable.{PassesTags};
-ghost use Rattle.cbor_io.specs.Error.{code_of};
 ghost use Rattle.cbor_collections.specs.Accesses.{TakesPart};
 ghost use Rattle.cbor_collections.specs.Arrays.{AsArray};
 ghost use Rattle.cbor_scalars.specs.Takes.{TakesItem, context, formats_of};
-ghost use Rattle.cbor_typed.specs.Forms.{FormOnlyIf};
+ghost use Rattle.cbor_typed.specs.Forms.{MayTell};
 ghost use Rattle.cbor_typed.specs.ItemLists.{TakesItems};
 
 use crate::de::Deserializer;
@@ -22,15 +21,15 @@ use cbor_read::Read;
 
 /// The items of an array that are read as a tuple, as `(u64, u8)`.
 pub trait ReadableTuple: Sized + Drop {
-    ghost use Rattle.std.specs.Prelude.{Bool};
     ghost use Rattle.cbor_model.specs.Raw.{Raws};
     ghost use Rattle.cbor_model.specs.Readable.{Context};
+    ghost use Rattle.cbor_typed.specs.Forms.{WrongForms};
 
     // As what the items are read.
     ghost parts: { Context → Raws → Self → Type 0 };
 
-    // Whether one of them may be refused for its form.
-    ghost tells_form: { Bool };
+    // By which codes one of them may be refused for its form, and where.
+    ghost wrong_forms: { WrongForms };
 }
 
 /// A tuple that is read from a source.
@@ -40,7 +39,8 @@ pub trait ReadTuple<'de, R: Read<'de>>: ReadableTuple {
         ensures read { TakesItems R.refusals (formats_of de.old.items.formats)
             (Self.parts (context de.old.items.formats R.lends)) de.old.items.levels remaining
             (R.source de.old.items.source) (R.source de.new.items.source) result }
-        ensures form { IfErr result (λ e. FormOnlyIf Self.tells_form (code_of e)) }
+        ensures form { IfErr result (MayTell Self.wrong_forms
+            (formats_of de.old.items.formats) (R.source de.old.items.source)) }
         ensures formats { de.new.items.formats ≡ de.old.items.formats };
 }
 
@@ -54,7 +54,8 @@ pub(crate) fn read_array<'de, R: Read<'de>, T: ReadTuple<'de, R>>(
         (PassesTags (AsArray (T.parts (context de.old.items.formats R.lends))))
         de.old.items.levels (R.source de.old.items.source)
         (R.source de.new.items.source) result }
-    ensures form { IfErr result (λ e. FormOnlyIf T.tells_form (code_of e)) }
+    ensures form { IfErr result (MayTell T.wrong_forms
+        (formats_of de.old.items.formats) (R.source de.old.items.source)) }
     ensures levels { de.new.items.levels ≡ de.old.items.levels }
     ensures formats { de.new.items.formats ≡ de.old.items.formats }
 {
@@ -80,15 +81,15 @@ pub(crate) fn read_array<'de, R: Read<'de>, T: ReadTuple<'de, R>>(
 
 // The parts of a tuple: `()`, or a part and the list of the others, as `(u64, (u8, ()))`.
 pub(crate) trait ItemList: Sized + Drop {
-    ghost use Rattle.std.specs.Prelude.{Bool};
     ghost use Rattle.cbor_model.specs.Raw.{Raws};
     ghost use Rattle.cbor_model.specs.Readable.{Context};
+    ghost use Rattle.cbor_typed.specs.Forms.{WrongForms};
 
     // As what the items are read.
     ghost parts: { Context → Raws → Self → Type 0 };
 
-    // Whether one of them may be refused for its form.
-    ghost tells_form: { Bool };
+    // By which codes one of them may be refused for its form, and where.
+    ghost wrong_forms: { WrongForms };
 }
 
 // The parts of a tuple, which are read from a source.
@@ -104,17 +105,18 @@ pub(crate) trait ReadItems<'de, R: Read<'de>>: ItemList {
         ensures read { TakesItems R.refusals (formats_of de.old.items.formats)
             (Self.parts (context de.old.items.formats R.lends)) de.old.items.levels remaining
             (R.source de.old.items.source) (R.source de.new.items.source) result }
-        ensures form { IfErr result (λ e. FormOnlyIf Self.tells_form (code_of e)) }
+        ensures form { IfErr result (MayTell Self.wrong_forms
+            (formats_of de.old.items.formats) (R.source de.old.items.source)) }
         ensures formats { de.new.items.formats ≡ de.old.items.formats };
 }
 
 impl ItemList for () {
-    ghost use Rattle.std.specs.Prelude.{false};
     ghost use Rattle.cbor_collections.specs.Enums.{no_part};
+    ghost use Rattle.cbor_typed.specs.Forms.{never};
 
     ghost parts = { λ c. no_part };
 
-    ghost tells_form = { false };
+    ghost wrong_forms = { never };
 }
 
 impl<'de, R: Read<'de>> ReadItems<'de, R> for () {
@@ -130,12 +132,12 @@ impl<'de, R: Read<'de>> ReadItems<'de, R> for () {
 }
 
 impl<A: Readable, F: ItemList> ItemList for (A, F) {
-    ghost use Rattle.std.specs.Prelude.{◌||◌};
+    ghost use Rattle.cbor_typed.specs.Forms.{both};
     ghost use Rattle.cbor_collections.specs.Enums.{part_then};
 
     ghost parts = { λ c. part_then (A.reads c) (F.parts c) };
 
-    ghost tells_form = { A.tells_form || F.tells_form };
+    ghost wrong_forms = { both A.wrong_forms F.wrong_forms };
 }
 
 impl<'de, R: Read<'de>, A: Deserialize<'de, R>, F: ReadItems<'de, R>> ReadItems<'de, R> for (A, F) {
@@ -170,7 +172,8 @@ fn next_part<'de, R: Read<'de>, T: Deserialize<'de, R>>(
         (T.reads (context de.old.items.formats R.lends))
         de.old.items.levels remaining.old remaining.new
         (R.source de.old.items.source) (R.source de.new.items.source) result }
-    ensures form { IfErr result (λ e. FormOnlyIf T.tells_form (code_of e)) }
+    ensures form { IfErr result (MayTell T.wrong_forms
+        (formats_of de.old.items.formats) (R.source de.old.items.source)) }
     ensures levels { de.new.items.levels ≡ de.old.items.levels }
     ensures formats { de.new.items.formats ≡ de.old.items.formats }
 {

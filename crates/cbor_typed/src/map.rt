@@ -16,7 +16,7 @@ ghost use Rattle.cbor_collections.specs.MapAccesses.{IsMapHead, RefusesMap, Take
 ghost use Rattle.cbor_collections.specs.MapAccesses.{TakesMapEnd};
 ghost use Rattle.cbor_read.specs.Source.{TookSome};
 ghost use Rattle.cbor_scalars.specs.Takes.{TakesItem, WhateverTaken, context, formats_of, raws};
-ghost use Rattle.cbor_typed.specs.Forms.{FormOnlyIf};
+ghost use Rattle.cbor_typed.specs.Forms.{MayTell, both, key_form};
 ghost use Rattle.cbor_typed.specs.contracts.de.Deserializer.{the_row};
 
 use crate::de::Deserializer;
@@ -112,6 +112,7 @@ impl<'a, R: Source> MapAccess<'a, R> {
     /// It refuses as the reading of `K` does, with `WrongStructFormat` before a key of a format
     /// that isn't read, and with `EofWhileParsingMap` where a map of indefinite length has no end.
     #[inline(always)]
+    #[tactic(auto, using(crate::proofs::Forms::plain))]
     pub fn next_key<'de, K: Deserialize<'de, R>>(&mut self) -> Result<Option<K>>
     where
         R: Read<'de>,
@@ -128,6 +129,9 @@ impl<'a, R: Source> MapAccess<'a, R> {
             (self.new.remaining ≡ Counted 0)
             (λ k. turns self.new.remaining (R.source self.new.de.now.items.source)
             < turns self.old.remaining (R.source self.old.de.now.items.source))) }
+        ensures form { IfErr result (MayTell (both key_form K.wrong_forms)
+            (formats_of self.old.de.now.items.formats)
+            (R.source self.old.de.now.items.source)) }
         // Of a key that may begin as it does, it is the reading of `K` that refuses.
         ensures bad_key { IfErr result (TellsBadKey R.refusals
             (formats_of self.old.de.now.items.formats) self.old.remaining
@@ -177,7 +181,9 @@ impl<'a, R: Source> MapAccess<'a, R> {
             (V.reads (context self.old.de.now.items.formats R.lends))
             self.old.de.now.items.levels
             (R.source self.old.de.now.items.source) (R.source self.new.de.now.items.source) result }
-        ensures form { IfErr result (λ e. FormOnlyIf V.tells_form (code_of e)) }
+        ensures form { IfErr result (MayTell V.wrong_forms
+            (formats_of self.old.de.now.items.formats)
+            (R.source self.old.de.now.items.source)) }
         ensures due { IfOk result (λ v. self.new.value_due ≡ false) }
         ensures inside { IfOk result (λ v.
             self.new.de.now.items.levels ≡ self.old.de.now.items.levels) }

@@ -12,7 +12,7 @@ ghost use Rattle.cbor_collections.specs.Accesses.{IsArrayHead, RefusesArray, Tak
 ghost use Rattle.cbor_collections.specs.Accesses.{TakesPart, TakesEnd, turns, size_of};
 ghost use Rattle.cbor_read.specs.Source.{TookSome};
 ghost use Rattle.cbor_scalars.specs.Takes.{IsMessage, WhateverTaken, context, formats_of, raws};
-ghost use Rattle.cbor_typed.specs.Forms.{FormOnlyIf};
+ghost use Rattle.cbor_typed.specs.Forms.{MayTell};
 ghost use Rattle.cbor_typed.specs.contracts.de.Deserializer.{the_row};
 
 use crate::de::Deserializer;
@@ -133,7 +133,9 @@ impl<'a, R: Source> SeqAccess<'a, R> {
             (T.reads (context self.old.de.now.items.formats R.lends))
             self.old.de.now.items.levels self.old.remaining self.new.remaining
             (R.source self.old.de.now.items.source) (R.source self.new.de.now.items.source) result }
-        ensures form { IfErr result (λ e. FormOnlyIf T.tells_form (code_of e)) }
+        ensures form { IfErr result (MayTell T.wrong_forms
+            (formats_of self.old.de.now.items.formats)
+            (R.source self.old.de.now.items.source)) }
         // Nothing remains after the last item, and a loop over the items ends.
         ensures remains { IfOk result (λ next. MatchOption next
             (self.new.remaining ≡ Counted 0)
@@ -195,7 +197,9 @@ impl<'a, R: Source> SeqAccess<'a, R> {
             (T.reads (context self.old.de.now.items.formats R.lends))
             self.old.de.now.items.levels self.old.remaining self.new.remaining
             (R.source self.old.de.now.items.source) (R.source self.new.de.now.items.source) result }
-        ensures form { IfErr result (λ e. FormOnlyIf T.tells_form (code_of e)) }
+        ensures form { IfErr result (MayTell T.wrong_forms
+            (formats_of self.old.de.now.items.formats)
+            (R.source self.old.de.now.items.source)) }
         ensures inside { IfOk result (λ x.
             self.new.de.now.items.levels ≡ self.old.de.now.items.levels) }
         ensures left { IfErr result (λ e. self.new.de.now.items.levels ≡ self.old.outer) }

@@ -12,13 +12,15 @@ ghost use Rattle.cbor_de.specs.Gives.{Onward, Step, TellsNoForm};
 ghost use Rattle.cbor_collections.specs.Begins.{Begins, RefusesBeginning};
 ghost use Rattle.cbor_de.specs.declared.head.Head.TheVariants as kind;
 ghost use Rattle.cbor_collections.specs.Accesses.{turns, size_of};
-ghost use Rattle.cbor_collections.specs.Cases.{Stands, TellsBadKey, key_cases};
+ghost use Rattle.cbor_io.specs.declared.error.ErrorCode.TheVariants.{WrongStructFormat};
+ghost use Rattle.cbor_collections.specs.Cases.{FormAlone, Stands, TellsBadKey, key_cases};
 ghost use Rattle.cbor_scalars.specs.Identifiers.{IsMadeBy, NamesNoKey, texts};
 ghost use Rattle.cbor_collections.specs.MapAccesses.{IsMapHead, RefusesMap, TakesKey, TakesMapEnd};
 ghost use Rattle.cbor_typed.specs.Structs.{IsAny, IsField, place_in, missing_text, duplicate_text};
 ghost use Rattle.cbor_scalars.specs.Takes.{OnceMade, TakesItem, IsRead, IsNotRead, Refuses};
 ghost use Rattle.cbor_scalars.specs.Takes.{WhateverTaken, context, formats_of, raws};
 ghost use Rattle.cbor_read.specs.Source.{TookSome};
+ghost use Rattle.cbor_typed.specs.Forms.{MayTell, item_form, key_form};
 ghost use Rattle.cbor_typed.specs.contracts.de.Deserializer.{the_row};
 
 use crate::de::Deserializer;
@@ -174,6 +176,8 @@ pub fn next_key<'de, R: Read<'de>>(
     ensures remains { IfOk result (λ next. MatchOption next (remaining.new ≡ Counted 0)
         (λ k. turns remaining.new (R.source de.new.items.source)
         < turns remaining.old (R.source de.old.items.source))) }
+    ensures form { IfErr result (MayTell key_form (formats_of de.old.items.formats)
+        (R.source de.old.items.source)) }
     ensures levels { de.new.items.levels ≡ de.old.items.levels }
     ensures formats { de.new.items.formats ≡ de.old.items.formats }
 {
@@ -243,6 +247,7 @@ impl<'a, R: Source> StructAccess<'a, R> {
             < turns self.old.remaining (R.source self.old.de.now.items.source))) }
         ensures cases { IfErr result (λ e. Stands (R.source self.old.de.now.items.source) e
             (key_cases (formats_of self.old.de.now.items.formats) self.old.remaining)) }
+        ensures code { IfErr result (λ e. FormAlone WrongStructFormat (code_of e)) }
         // The other way: that key is told.
         ensures bad_key { IfErr result (TellsBadKey R.refusals
             (formats_of self.old.de.now.items.formats) self.old.remaining
@@ -286,6 +291,9 @@ impl<'a, R: Source> StructAccess<'a, R> {
             self.old.de.now.items.levels
             (R.source self.old.de.now.items.source)
             (R.source self.new.de.now.items.source) result }
+        ensures form { IfErr result (MayTell V.wrong_forms
+            (formats_of self.old.de.now.items.formats)
+            (R.source self.old.de.now.items.source)) }
         ensures due { IfOk result (λ v. self.new.value_due ≡ false) }
         ensures inside { IfOk result (λ v.
             self.new.de.now.items.levels ≡ self.old.de.now.items.levels) }
@@ -315,6 +323,7 @@ impl<'a, R: Source> StructAccess<'a, R> {
 
     /// Reads the value of the field that was named last into its slot. A slot that has a value is
     /// refused with ``duplicate field `id` ``, and keeps it.
+    #[tactic(auto, using(crate::proofs::Forms::plain))]
     pub fn once<'de, V: Deserialize<'de, R>>(
         &mut self,
         name: &str,
@@ -340,6 +349,9 @@ impl<'a, R: Source> StructAccess<'a, R> {
             → IsNotRead (V.reads (context self.old.de.now.items.formats R.lends))
             (item_at (raws (formats_of self.old.de.now.items.formats) l)
             self.old.de.now.items.levels bs))) }
+        ensures form { IfErr result (MayTell V.wrong_forms
+            (formats_of self.old.de.now.items.formats)
+            (R.source self.old.de.now.items.source)) }
         ensures text { IfErr result (λ e. is_some slot.old ≡ true →
             IsMessageOf (Some (duplicate_text name.now)) (code_of e)) }
         ensures offset { IfErr result (λ e. is_some slot.old ≡ true → offset_of e ≡ 0) }
@@ -420,6 +432,9 @@ impl<'a, R: Source> StructAccess<'a, R> {
             IsAny self.old.de.now.items.levels
             (R.source self.old.de.now.items.source)
             (R.source self.new.de.now.items.source) result }
+        ensures form { IfErr result (MayTell item_form
+            (formats_of self.old.de.now.items.formats)
+            (R.source self.old.de.now.items.source)) }
         ensures due { IfOk result (λ u. self.new.value_due ≡ false) }
         ensures inside { IfOk result (λ u.
             self.new.de.now.items.levels ≡ self.old.de.now.items.levels) }
@@ -526,9 +541,11 @@ impl<'a, R: Source> StructAccess<'a, R> {
 /// The error of a field that isn't there, as ``missing field `id` ``.
 #[cold]
 #[inline(never)]
+#[tactic(auto, using(crate::proofs::Forms::message_form))]
 pub fn missing_field(alloc: Global, name: &str) -> Error
     ensures text { IsMessageOf (Some (missing_text name.now)) (code_of result) }
     ensures offset { offset_of result ≡ 0 }
+    ensures no_form { TellsNoForm (code_of result) }
 {
     match format!(in alloc; "missing field `{name}`") {
         Ok(text) => Error::message(alloc, text),
@@ -539,9 +556,11 @@ pub fn missing_field(alloc: Global, name: &str) -> Error
 /// The error of a field that is there twice, as ``duplicate field `id` ``.
 #[cold]
 #[inline(never)]
+#[tactic(auto, using(crate::proofs::Forms::message_form))]
 pub fn duplicate_field(alloc: Global, name: &str) -> Error
     ensures text { IsMessageOf (Some (duplicate_text name.now)) (code_of result) }
     ensures offset { offset_of result ≡ 0 }
+    ensures no_form { TellsNoForm (code_of result) }
 {
     match format!(in alloc; "duplicate field `{name}`") {
         Ok(text) => Error::message(alloc, text),

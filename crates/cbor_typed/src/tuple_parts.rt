@@ -8,12 +8,12 @@ use cbor_io::error::Result;
 use cbor_read::Read;
 
 impl<A: Readable> ReadableTuple for (A,) {
-    ghost use Rattle.std.specs.Prelude.{◌||◌, false};
+    ghost use Rattle.cbor_typed.specs.Forms.{both, never};
     ghost use Rattle.cbor_collections.specs.Enums.{part_then, no_part};
 
     ghost parts = { λ c all x. part_then (A.reads c) no_part all (x.0, tt) };
 
-    ghost tells_form = { A.tells_form || false };
+    ghost wrong_forms = { both A.wrong_forms never };
 }
 
 impl<'de, R: Read<'de>, A: Deserialize<'de, R>> ReadTuple<'de, R> for (A,) {
@@ -30,14 +30,14 @@ impl<'de, R: Read<'de>, A: Deserialize<'de, R>> ReadTuple<'de, R> for (A,) {
 }
 
 impl<A: Readable, B: Readable> ReadableTuple for (A, B) {
-    ghost use Rattle.std.specs.Prelude.{◌||◌, false};
+    ghost use Rattle.cbor_typed.specs.Forms.{both, never};
     ghost use Rattle.cbor_collections.specs.Enums.{part_then, no_part};
 
     ghost parts = { λ c all x. part_then (A.reads c)
         (part_then (B.reads c) no_part)
         all (x.0, (x.1, tt)) };
 
-    ghost tells_form = { A.tells_form || (B.tells_form || false) };
+    ghost wrong_forms = { both A.wrong_forms (both B.wrong_forms never) };
 }
 
 impl<'de, R: Read<'de>, A: Deserialize<'de, R>, B: Deserialize<'de, R>> ReadTuple<'de, R>
@@ -55,7 +55,7 @@ impl<'de, R: Read<'de>, A: Deserialize<'de, R>, B: Deserialize<'de, R>> ReadTupl
 }
 
 impl<A: Readable, B: Readable, C: Readable> ReadableTuple for (A, B, C) {
-    ghost use Rattle.std.specs.Prelude.{◌||◌, false};
+    ghost use Rattle.cbor_typed.specs.Forms.{both, never};
     ghost use Rattle.cbor_collections.specs.Enums.{part_then, no_part};
 
     ghost parts = { λ c all x. part_then (A.reads c)
@@ -63,7 +63,7 @@ impl<A: Readable, B: Readable, C: Readable> ReadableTuple for (A, B, C) {
         (part_then (C.reads c) no_part))
         all (x.0, (x.1, (x.2, tt))) };
 
-    ghost tells_form = { A.tells_form || (B.tells_form || (C.tells_form || false)) };
+    ghost wrong_forms = { both A.wrong_forms (both B.wrong_forms (both C.wrong_forms never)) };
 }
 
 impl<
@@ -86,7 +86,7 @@ impl<
 }
 
 impl<A: Readable, B: Readable, C: Readable, D: Readable> ReadableTuple for (A, B, C, D) {
-    ghost use Rattle.std.specs.Prelude.{◌||◌, false};
+    ghost use Rattle.cbor_typed.specs.Forms.{both, never};
     ghost use Rattle.cbor_collections.specs.Enums.{part_then, no_part};
 
     ghost parts = { λ c all x. part_then (A.reads c)
@@ -95,8 +95,7 @@ impl<A: Readable, B: Readable, C: Readable, D: Readable> ReadableTuple for (A, B
         (part_then (D.reads c) no_part)))
         all (x.0, (x.1, (x.2, (x.3, tt)))) };
 
-    ghost tells_form = { A.tells_form || (B.tells_form || (C.tells_form
-        || (D.tells_form || false))) };
+    ghost wrong_forms = { both A.wrong_forms (both B.wrong_forms (both C.wrong_forms (both D.wrong_forms never))) };
 }
 
 impl<
@@ -121,7 +120,7 @@ impl<
 
 impl<A: Readable, B: Readable, C: Readable, D: Readable, E: Readable> ReadableTuple
     for (A, B, C, D, E) {
-    ghost use Rattle.std.specs.Prelude.{◌||◌, false};
+    ghost use Rattle.cbor_typed.specs.Forms.{both, never};
     ghost use Rattle.cbor_collections.specs.Enums.{part_then, no_part};
 
     ghost parts = { λ c all x. part_then (A.reads c)
@@ -131,8 +130,7 @@ impl<A: Readable, B: Readable, C: Readable, D: Readable, E: Readable> ReadableTu
         (part_then (E.reads c) no_part))))
         all (x.0, (x.1, (x.2, (x.3, (x.4, tt))))) };
 
-    ghost tells_form = { A.tells_form || (B.tells_form || (C.tells_form || (D.tells_form
-        || (E.tells_form || false)))) };
+    ghost wrong_forms = { both A.wrong_forms (both B.wrong_forms (both C.wrong_forms (both D.wrong_forms (both E.wrong_forms never)))) };
 }
 
 impl<
@@ -158,7 +156,7 @@ impl<
 
 impl<A: Readable, B: Readable, C: Readable, D: Readable, E: Readable, F: Readable> ReadableTuple
     for (A, B, C, D, E, F) {
-    ghost use Rattle.std.specs.Prelude.{◌||◌, false};
+    ghost use Rattle.cbor_typed.specs.Forms.{both, never};
     ghost use Rattle.cbor_collections.specs.Enums.{part_then, no_part};
 
     ghost parts = { λ c all x. part_then (A.reads c)
@@ -169,8 +167,7 @@ impl<A: Readable, B: Readable, C: Readable, D: Readable, E: Readable, F: Readabl
         (part_then (F.reads c) no_part)))))
         all (x.0, (x.1, (x.2, (x.3, (x.4, (x.5, tt)))))) };
 
-    ghost tells_form = { A.tells_form || (B.tells_form || (C.tells_form || (D.tells_form
-        || (E.tells_form || (F.tells_form || false))))) };
+    ghost wrong_forms = { both A.wrong_forms (both B.wrong_forms (both C.wrong_forms (both D.wrong_forms (both E.wrong_forms (both F.wrong_forms never))))) };
 }
 
 impl<
@@ -206,7 +203,7 @@ impl<
     F: Readable,
     G: Readable,
 > ReadableTuple for (A, B, C, D, E, F, G) {
-    ghost use Rattle.std.specs.Prelude.{◌||◌, false};
+    ghost use Rattle.cbor_typed.specs.Forms.{both, never};
     ghost use Rattle.cbor_collections.specs.Enums.{part_then, no_part};
 
     ghost parts = { λ c all x. part_then (A.reads c)
@@ -218,8 +215,7 @@ impl<
         (part_then (G.reads c) no_part))))))
         all (x.0, (x.1, (x.2, (x.3, (x.4, (x.5, (x.6, tt))))))) };
 
-    ghost tells_form = { A.tells_form || (B.tells_form || (C.tells_form || (D.tells_form
-        || (E.tells_form || (F.tells_form || (G.tells_form || false)))))) };
+    ghost wrong_forms = { both A.wrong_forms (both B.wrong_forms (both C.wrong_forms (both D.wrong_forms (both E.wrong_forms (both F.wrong_forms (both G.wrong_forms never)))))) };
 }
 
 impl<
@@ -257,7 +253,7 @@ impl<
     G: Readable,
     H: Readable,
 > ReadableTuple for (A, B, C, D, E, F, G, H) {
-    ghost use Rattle.std.specs.Prelude.{◌||◌, false};
+    ghost use Rattle.cbor_typed.specs.Forms.{both, never};
     ghost use Rattle.cbor_collections.specs.Enums.{part_then, no_part};
 
     ghost parts = { λ c all x. part_then (A.reads c)
@@ -270,8 +266,7 @@ impl<
         (part_then (H.reads c) no_part)))))))
         all (x.0, (x.1, (x.2, (x.3, (x.4, (x.5, (x.6, (x.7, tt)))))))) };
 
-    ghost tells_form = { A.tells_form || (B.tells_form || (C.tells_form || (D.tells_form
-        || (E.tells_form || (F.tells_form || (G.tells_form || (H.tells_form || false))))))) };
+    ghost wrong_forms = { both A.wrong_forms (both B.wrong_forms (both C.wrong_forms (both D.wrong_forms (both E.wrong_forms (both F.wrong_forms (both G.wrong_forms (both H.wrong_forms never))))))) };
 }
 
 impl<

@@ -6,7 +6,8 @@ ghost use Rattle.std.specs.Borrow.{sem, RestsIfErr};
 ghost use Rattle.cbor_model.specs.Reader.{item_at};
 ghost use Rattle.cbor_io.specs.Error.{code_of};
 ghost use Rattle.cbor_de.specs.Gives.{Step, TellsNoForm};
-ghost use Rattle.cbor_collections.specs.Cases.{Stands};
+ghost use Rattle.cbor_io.specs.declared.error.ErrorCode.TheVariants.{ArrayTooLong};
+ghost use Rattle.cbor_collections.specs.Cases.{FormAlone, IsEnumCode, Stands};
 ghost use Rattle.cbor_collections.specs.Cases.{enum_cases, unit_cases, TellsTooShort};
 ghost use Rattle.cbor_collections.specs.BeginsEnum.{BeginsVariant, RefusesVariantHead};
 ghost use Rattle.cbor_collections.specs.BeginsEnum.{BeginsParts, RefusesPartsHead};
@@ -20,6 +21,7 @@ ghost use Rattle.cbor_collections.specs.Variants.{IsPartsHead, RefusesParts, Tak
 ghost use Rattle.cbor_collections.specs.Variants.{content_at};
 ghost use Rattle.cbor_collections.specs.Variants.{TellsAlone, alone_text};
 ghost use Rattle.cbor_collections.specs.declared.variant.Form.TheVariants.{Array};
+ghost use Rattle.cbor_typed.specs.Forms.{MayTell, both, part_form};
 ghost use Rattle.cbor_typed.specs.contracts.de.Deserializer.{the_row};
 
 use crate::de::Deserializer;
@@ -75,6 +77,7 @@ impl<'de, R: Read<'de>> Deserializer<R> {
         ensures cases { IfErr result (λ e. Stands (R.source self.old.items.source) e
             (enum_cases (formats_of self.old.items.formats)
             self.old.items.levels)) }
+        ensures code { IfErr result (λ e. IsEnumCode (code_of e)) }
         ensures below { IfOk result (λ v. v.index < length names.now) }
         ensures outer { IfOk result (λ v. v.outer ≡ self.old.items.levels) }
         ensures inside { IfOk result (λ v. IsInside v.form v.de.now.items.levels v.outer) }
@@ -91,12 +94,14 @@ impl<'de, R: Read<'de>> Deserializer<R> {
     }
 
     // Reads the only item of an array that remains.
-    #[tactic(auto, using(cbor_collections::proofs::facts::Places::too_short_first, cbor_collections::proofs::facts::Places::too_short_later))]
+    #[tactic(auto, using(cbor_collections::proofs::facts::Places::too_short_first, cbor_collections::proofs::facts::Places::too_short_later, crate::proofs::Forms::plain))]
     fn only_item<T: Deserialize<'de, R>>(&mut self, mut remaining: Remaining) -> Result<T>
         ensures read { TakesContent R.refusals (formats_of self.old.items.formats)
             (IsPart (T.reads (context self.old.items.formats R.lends)))
             self.old.items.levels (Array remaining)
             (R.source self.old.items.source) (R.source self.new.items.source) result }
+        ensures form { IfErr result (MayTell (both part_form T.wrong_forms)
+            (formats_of self.old.items.formats) (R.source self.old.items.source)) }
         ensures too_short { IfErr result (TellsTooShort R.refusals (Array remaining)
             (R.source self.old.items.source)) }
         ensures levels { self.new.items.levels ≡ self.old.items.levels }
@@ -121,6 +126,8 @@ pub fn one_part<'de, R: Read<'de>, T: Deserialize<'de, R>>(
         de.old.items.levels form
         (R.source de.old.items.source) (R.source de.new.items.source) result }
     ensures alone { IfErr result (TellsAlone alone.now form) }
+    ensures form { IfErr result (MayTell (both part_form T.wrong_forms)
+        (formats_of de.old.items.formats) (R.source de.old.items.source)) }
     ensures too_short { IfErr result (TellsTooShort R.refusals form
         (R.source de.old.items.source)) }
     ensures levels { de.new.items.levels ≡ de.old.items.levels }
@@ -180,6 +187,7 @@ impl<'a, R: Source> VariantAccess<'a, R> {
             result }
         ensures cases { IfErr result (λ e. Stands (R.source self.entry.de.now.items.source) e
             (unit_cases self.entry.form)) }
+        ensures code { IfErr result (λ e. FormAlone ArrayTooLong (code_of e)) }
         ensures levels { self.exit.0.now.items.levels ≡ self.entry.outer }
         ensures formats { self.exit.0.now.items.formats ≡ self.entry.de.now.items.formats }
     {
@@ -215,6 +223,9 @@ impl<'a, R: Source> VariantAccess<'a, R> {
             result }
         ensures alone { IfErr result
             (TellsAlone (alone_text (codes "newtype")) self.entry.form) }
+        ensures form { IfErr result (MayTell (both part_form T.wrong_forms)
+            (formats_of self.entry.de.now.items.formats)
+            (R.source self.entry.de.now.items.source)) }
         ensures too_short { IfErr result (TellsTooShort R.refusals self.entry.form
             (R.source self.entry.de.now.items.source)) }
         ensures levels { self.exit.0.now.items.levels ≡ self.entry.outer }
@@ -257,6 +268,9 @@ impl<'a, R: Source> VariantAccess<'a, R> {
             result }
         ensures alone { IfErr result
             (TellsAlone (alone_text (codes "struct")) self.entry.form) }
+        ensures form { IfErr result (MayTell (both part_form T.wrong_forms)
+            (formats_of self.entry.de.now.items.formats)
+            (R.source self.entry.de.now.items.source)) }
         ensures too_short { IfErr result (TellsTooShort R.refusals self.entry.form
             (R.source self.entry.de.now.items.source)) }
         ensures levels { self.exit.0.now.items.levels ≡ self.entry.outer }

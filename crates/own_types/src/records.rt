@@ -156,6 +156,8 @@ impl FromParts for Settings {
 impl Readable for Settings {
     ghost reads = { λ c r s. ⟦<<Settings as Schema>::Parts as ReadableParts>⟧.reads
         ⟦<Settings as Schema>⟧.names c r (⟦<Settings as Schema>⟧.parts s) };
+
+    ghost wrong_forms = { ⟦<<Settings as Schema>::Parts as ReadableParts>⟧.wrong_forms };
 }
 
 impl<'de, R: Read<'de>> Deserialize<'de, R> for Settings {

@@ -18,13 +18,14 @@ use std::alloc::Global;
 
 /// A byte string. A text isn't one.
 impl Readable for ByteBuf {
-    ghost use Rattle.std.specs.Prelude.{false, true};
+    ghost use Rattle.std.specs.Prelude.{true};
     ghost use Rattle.cbor_model.specs.Readable.{PassesTags};
     ghost use Rattle.cbor_scalars.specs.Strings.{IsByteString};
+    ghost use Rattle.cbor_typed.specs.Forms.{never};
 
     ghost reads = { λ c. PassesTags (λ r b. IsByteString r b.0.items) };
 
-    ghost tells_form = { false };
+    ghost wrong_forms = { never };
 
     ghost passes_over = { true };
 }
@@ -45,15 +46,16 @@ impl DeserializeOwned for ByteBuf {
 /// A byte string of exactly `N` bytes. One of another length is refused with
 /// `invalid length n, expected N`.
 impl<const N: usize> Readable for ByteArray<N> {
-    ghost use Rattle.std.specs.Prelude.{false, true};
+    ghost use Rattle.std.specs.Prelude.{true};
     ghost use Rattle.cbor_model.specs.Readable.{PassesTags};
     ghost use Rattle.cbor_scalars.specs.Strings.{AsksForString, IsByteArray};
+    ghost use Rattle.cbor_typed.specs.Forms.{never};
 
     ghost reads = { λ c. PassesTags (λ r b. IsByteArray N r b.0) };
 
     ghost asks_memory = { AsksForString };
 
-    ghost tells_form = { false };
+    ghost wrong_forms = { never };
 
     ghost passes_over = { true };
 }
@@ -98,15 +100,16 @@ fn array_from<const N: usize>(bytes: &[u8], alloc: Global) -> Result<ByteArray<N
 
 /// A byte string, where the source lends it for the input's life.
 impl Readable for Bytes<'_> {
-    ghost use Rattle.std.specs.Prelude.{false, true};
+    ghost use Rattle.std.specs.Prelude.{true};
     ghost use Rattle.cbor_model.specs.Readable.{PassesTags};
     ghost use Rattle.cbor_scalars.specs.Strings.{IsBorrowedBytes};
+    ghost use Rattle.cbor_typed.specs.Forms.{never};
 
     ghost reads = { λ c. PassesTags (λ r b. IsBorrowedBytes c r b.0.now) };
 
     ghost asks_memory = { λ a r. ⊥ };
 
-    ghost tells_form = { false };
+    ghost wrong_forms = { never };
 
     ghost passes_over = { true };
 }

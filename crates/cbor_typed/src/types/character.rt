@@ -47,15 +47,16 @@ fn character(text: EitherStr<'_, '_>, alloc: Global) -> Result<char>
 }
 
 impl Readable for char {
-    ghost use Rattle.std.specs.Prelude.{false, true};
+    ghost use Rattle.std.specs.Prelude.{true};
     ghost use Rattle.cbor_model.specs.Readable.{PassesTags};
     ghost use Rattle.cbor_scalars.specs.Strings.{AsksForString, IsCharacter};
+    ghost use Rattle.cbor_typed.specs.Forms.{never};
 
     ghost reads = { λ c. PassesTags IsCharacter };
 
     ghost asks_memory = { AsksForString };
 
-    ghost tells_form = { false };
+    ghost wrong_forms = { never };
 
     ghost passes_over = { true };
 }

@@ -10,15 +10,16 @@ use cbor_scalars::floats::{read_f32, read_f64};
 /// `float out of range: expected f32`, and a whole number with `invalid type: expected a float`. A
 /// NaN is read as a NaN, of no particular sign or payload.
 impl Readable for f32 {
-    ghost use Rattle.std.specs.Prelude.{false, true};
+    ghost use Rattle.std.specs.Prelude.{true};
     ghost use Rattle.cbor_model.specs.Readable.{PassesTags};
     ghost use Rattle.cbor_scalars.specs.Scalars.{IsSingleOf};
+    ghost use Rattle.cbor_typed.specs.Forms.{never};
 
     ghost reads = { λ c. PassesTags IsSingleOf };
 
     ghost asks_memory = { λ a r. ⊥ };
 
-    ghost tells_form = { false };
+    ghost wrong_forms = { never };
 
     ghost passes_over = { true };
 }
@@ -38,15 +39,16 @@ impl DeserializeOwned for f32 {
 /// refused with `invalid type: expected a float`. A NaN is read as a NaN, of no particular sign or
 /// payload.
 impl Readable for f64 {
-    ghost use Rattle.std.specs.Prelude.{false, true};
+    ghost use Rattle.std.specs.Prelude.{true};
     ghost use Rattle.cbor_model.specs.Readable.{PassesTags};
     ghost use Rattle.cbor_scalars.specs.Scalars.{IsFloatOf};
+    ghost use Rattle.cbor_typed.specs.Forms.{never};
 
     ghost reads = { λ c. PassesTags IsFloatOf };
 
     ghost asks_memory = { λ a r. ⊥ };
 
-    ghost tells_form = { false };
+    ghost wrong_forms = { never };
 
     ghost passes_over = { true };
 }

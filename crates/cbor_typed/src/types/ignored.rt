@@ -20,12 +20,15 @@ pub struct IgnoredAny;
 impl Readable for IgnoredAny {
     ghost use Rattle.std.specs.Prelude.{⊤, true};
     ghost use Rattle.cbor_de.specs.HasChunks.{AsksWhere, HasChunks};
+    ghost use Rattle.cbor_typed.specs.Forms.{item_form};
 
     ghost reads = { λ c r x. ⊤ };
 
     ghost total = { true };
 
     ghost asks_memory = { λ a r. AsksWhere a (HasChunks r) };
+
+    ghost wrong_forms = { item_form };
 }
 
 impl<'de, R: Read<'de>> Deserialize<'de, R> for IgnoredAny {

@@ -11,13 +11,17 @@ use std::collections::BTreeMap;
 impl<K: Readable + Ord, V: Readable> Readable for BTreeMap<K, V> {
     ghost use Rattle.cbor_model.specs.Readable.{PassesTags};
     ghost use Rattle.cbor_collections.specs.Maps.{AsMap, AreEntries};
+    ghost use Rattle.cbor_typed.specs.Forms.{both, key_form};
 
     ghost reads = { λ c. PassesTags (AsMap
         (λ rs m. AreEntries K.cmp (K.reads c) (V.reads c) rs m.entries)) };
+
+    ghost wrong_forms = { both (both key_form K.wrong_forms) V.wrong_forms };
 }
 
 impl<'de, R: Read<'de>, K: Deserialize<'de, R> + Ord, V: Deserialize<'de, R>> Deserialize<'de, R>
     for BTreeMap<K, V> {
+    #[tactic(auto, using(crate::proofs::Forms::plain))]
     fn deserialize(de: &mut Deserializer<R>) -> Result<BTreeMap<K, V>> {
         let mut map = BTreeMap::new(de.items.alloc);
         let mut access = de.map()?;

@@ -7,14 +7,15 @@ use cbor_read::Read;
 use cbor_scalars::integer::{read_from_zero, read_signed, read_u128};
 
 impl Readable for u8 {
-    ghost use Rattle.std.specs.Prelude.{◌-◌, ◌^◌, false, true};
+    ghost use Rattle.std.specs.Prelude.{◌-◌, ◌^◌, true};
     ghost use Rattle.cbor_model.specs.Readable.{PassesTags, IsFromZero};
+    ghost use Rattle.cbor_typed.specs.Forms.{never};
 
     ghost reads = { λ c. PassesTags (IsFromZero (2 ^ 8 - 1)) };
 
     ghost asks_memory = { λ a r. ⊥ };
 
-    ghost tells_form = { false };
+    ghost wrong_forms = { never };
 
     ghost passes_over = { true };
 }
@@ -38,14 +39,15 @@ impl DeserializeOwned for u8 {
 }
 
 impl Readable for u16 {
-    ghost use Rattle.std.specs.Prelude.{◌-◌, ◌^◌, false, true};
+    ghost use Rattle.std.specs.Prelude.{◌-◌, ◌^◌, true};
     ghost use Rattle.cbor_model.specs.Readable.{PassesTags, IsFromZero};
+    ghost use Rattle.cbor_typed.specs.Forms.{never};
 
     ghost reads = { λ c. PassesTags (IsFromZero (2 ^ 16 - 1)) };
 
     ghost asks_memory = { λ a r. ⊥ };
 
-    ghost tells_form = { false };
+    ghost wrong_forms = { never };
 
     ghost passes_over = { true };
 }
@@ -69,14 +71,15 @@ impl DeserializeOwned for u16 {
 }
 
 impl Readable for u32 {
-    ghost use Rattle.std.specs.Prelude.{◌-◌, ◌^◌, false, true};
+    ghost use Rattle.std.specs.Prelude.{◌-◌, ◌^◌, true};
     ghost use Rattle.cbor_model.specs.Readable.{PassesTags, IsFromZero};
+    ghost use Rattle.cbor_typed.specs.Forms.{never};
 
     ghost reads = { λ c. PassesTags (IsFromZero (2 ^ 32 - 1)) };
 
     ghost asks_memory = { λ a r. ⊥ };
 
-    ghost tells_form = { false };
+    ghost wrong_forms = { never };
 
     ghost passes_over = { true };
 }
@@ -100,14 +103,15 @@ impl DeserializeOwned for u32 {
 }
 
 impl Readable for u64 {
-    ghost use Rattle.std.specs.Prelude.{◌-◌, ◌^◌, false, true};
+    ghost use Rattle.std.specs.Prelude.{◌-◌, ◌^◌, true};
     ghost use Rattle.cbor_model.specs.Readable.{PassesTags, IsFromZero};
+    ghost use Rattle.cbor_typed.specs.Forms.{never};
 
     ghost reads = { λ c. PassesTags (IsFromZero (2 ^ 64 - 1)) };
 
     ghost asks_memory = { λ a r. ⊥ };
 
-    ghost tells_form = { false };
+    ghost wrong_forms = { never };
 
     ghost passes_over = { true };
 }
@@ -131,14 +135,15 @@ impl DeserializeOwned for u64 {
 }
 
 impl Readable for usize {
-    ghost use Rattle.std.specs.Prelude.{◌-◌, ◌^◌, false, true};
+    ghost use Rattle.std.specs.Prelude.{◌-◌, ◌^◌, true};
     ghost use Rattle.cbor_model.specs.Readable.{PassesTags, IsFromZero};
+    ghost use Rattle.cbor_typed.specs.Forms.{never};
 
     ghost reads = { λ c. PassesTags (IsFromZero (2 ^ 64 - 1)) };
 
     ghost asks_memory = { λ a r. ⊥ };
 
-    ghost tells_form = { false };
+    ghost wrong_forms = { never };
 
     ghost passes_over = { true };
 }
@@ -162,14 +167,15 @@ impl DeserializeOwned for usize {
 }
 
 impl Readable for i8 {
-    ghost use Rattle.std.specs.Prelude.{◌-◌, ◌^◌, false, true};
+    ghost use Rattle.std.specs.Prelude.{◌-◌, ◌^◌, true};
     ghost use Rattle.cbor_model.specs.Readable.{PassesTags, IsSigned};
+    ghost use Rattle.cbor_typed.specs.Forms.{never};
 
     ghost reads = { λ c. PassesTags (IsSigned (2 ^ 7 - 1)) };
 
     ghost asks_memory = { λ a r. ⊥ };
 
-    ghost tells_form = { false };
+    ghost wrong_forms = { never };
 
     ghost passes_over = { true };
 }
@@ -193,14 +199,15 @@ impl DeserializeOwned for i8 {
 }
 
 impl Readable for i16 {
-    ghost use Rattle.std.specs.Prelude.{◌-◌, ◌^◌, false, true};
+    ghost use Rattle.std.specs.Prelude.{◌-◌, ◌^◌, true};
     ghost use Rattle.cbor_model.specs.Readable.{PassesTags, IsSigned};
+    ghost use Rattle.cbor_typed.specs.Forms.{never};
 
     ghost reads = { λ c. PassesTags (IsSigned (2 ^ 15 - 1)) };
 
     ghost asks_memory = { λ a r. ⊥ };
 
-    ghost tells_form = { false };
+    ghost wrong_forms = { never };
 
     ghost passes_over = { true };
 }
@@ -224,14 +231,15 @@ impl DeserializeOwned for i16 {
 }
 
 impl Readable for i32 {
-    ghost use Rattle.std.specs.Prelude.{◌-◌, ◌^◌, false, true};
+    ghost use Rattle.std.specs.Prelude.{◌-◌, ◌^◌, true};
     ghost use Rattle.cbor_model.specs.Readable.{PassesTags, IsSigned};
+    ghost use Rattle.cbor_typed.specs.Forms.{never};
 
     ghost reads = { λ c. PassesTags (IsSigned (2 ^ 31 - 1)) };
 
     ghost asks_memory = { λ a r. ⊥ };
 
-    ghost tells_form = { false };
+    ghost wrong_forms = { never };
 
     ghost passes_over = { true };
 }
@@ -255,14 +263,15 @@ impl DeserializeOwned for i32 {
 }
 
 impl Readable for i64 {
-    ghost use Rattle.std.specs.Prelude.{◌-◌, ◌^◌, false, true};
+    ghost use Rattle.std.specs.Prelude.{◌-◌, ◌^◌, true};
     ghost use Rattle.cbor_model.specs.Readable.{PassesTags, IsSigned};
+    ghost use Rattle.cbor_typed.specs.Forms.{never};
 
     ghost reads = { λ c. PassesTags (IsSigned (2 ^ 63 - 1)) };
 
     ghost asks_memory = { λ a r. ⊥ };
 
-    ghost tells_form = { false };
+    ghost wrong_forms = { never };
 
     ghost passes_over = { true };
 }
@@ -286,14 +295,15 @@ impl DeserializeOwned for i64 {
 }
 
 impl Readable for isize {
-    ghost use Rattle.std.specs.Prelude.{◌-◌, ◌^◌, false, true};
+    ghost use Rattle.std.specs.Prelude.{◌-◌, ◌^◌, true};
     ghost use Rattle.cbor_model.specs.Readable.{PassesTags, IsSigned};
+    ghost use Rattle.cbor_typed.specs.Forms.{never};
 
     ghost reads = { λ c. PassesTags (IsSigned (2 ^ 63 - 1)) };
 
     ghost asks_memory = { λ a r. ⊥ };
 
-    ghost tells_form = { false };
+    ghost wrong_forms = { never };
 
     ghost passes_over = { true };
 }
@@ -317,14 +327,15 @@ impl DeserializeOwned for isize {
 }
 
 impl Readable for u128 {
-    ghost use Rattle.std.specs.Prelude.{◌-◌, ◌^◌, false, true};
+    ghost use Rattle.std.specs.Prelude.{◌-◌, ◌^◌, true};
     ghost use Rattle.cbor_model.specs.Readable.{PassesTags, IsFromZero};
+    ghost use Rattle.cbor_typed.specs.Forms.{never};
 
     ghost reads = { λ c. PassesTags (IsFromZero (2 ^ 128 - 1)) };
 
     ghost asks_memory = { λ a r. ⊥ };
 
-    ghost tells_form = { false };
+    ghost wrong_forms = { never };
 
     ghost passes_over = { true };
 }
@@ -341,14 +352,15 @@ impl DeserializeOwned for u128 {
 }
 
 impl Readable for i128 {
-    ghost use Rattle.std.specs.Prelude.{false, true};
+    ghost use Rattle.std.specs.Prelude.{true};
     ghost use Rattle.cbor_model.specs.Readable.{PassesTags, IsInteger};
+    ghost use Rattle.cbor_typed.specs.Forms.{never};
 
     ghost reads = { λ c. PassesTags IsInteger };
 
     ghost asks_memory = { λ a r. ⊥ };
 
-    ghost tells_form = { false };
+    ghost wrong_forms = { never };
 
     ghost passes_over = { true };
 }

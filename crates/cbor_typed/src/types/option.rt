@@ -15,7 +15,7 @@ impl<T: Readable> Readable for Option<T> {
 
     ghost asks_memory = { λ a. UnlessNull (T.asks_memory a) };
 
-    ghost tells_form = { T.tells_form };
+    ghost wrong_forms = { T.wrong_forms };
 
     ghost passes_over = { T.passes_over };
 }

@@ -5,7 +5,7 @@ ghost use Rattle.cbor_io.specs.Error.{code_of};
 ghost use Rattle.cbor_model.specs.Readable.{PassesTags};
 ghost use Rattle.cbor_collections.specs.Arrays.{AsArray, AreExactly, items_in};
 ghost use Rattle.cbor_scalars.specs.Takes.{TakesItem, context, formats_of};
-ghost use Rattle.cbor_typed.specs.Forms.{FormOnlyIf};
+ghost use Rattle.cbor_typed.specs.Forms.{MayTell};
 
 use crate::de::Deserializer;
 use crate::deserialize::{Deserialize, DeserializeOwned, Readable};
@@ -23,7 +23,7 @@ impl<T: Readable> Readable for Vec<T> {
 
     ghost reads = { λ c. PassesTags (AsArray (λ rs v. AreRead (T.reads c) rs v.items)) };
 
-    ghost tells_form = { T.tells_form };
+    ghost wrong_forms = { T.wrong_forms };
 }
 
 impl<'de, R: Read<'de>, T: Deserialize<'de, R>> Deserialize<'de, R> for Vec<T> {
@@ -81,7 +81,8 @@ fn exactly<'de, T: Deserialize<'de, R>, R: Read<'de>>(
         (PassesTags (AsArray (AreExactly (T.reads (context de.old.items.formats R.lends)) n)))
         de.old.items.levels (R.source de.old.items.source) (R.source de.new.items.source)
         (items_in result) }
-    ensures form { IfErr result (λ e. FormOnlyIf T.tells_form (code_of e)) }
+    ensures form { IfErr result (MayTell T.wrong_forms
+        (formats_of de.old.items.formats) (R.source de.old.items.source)) }
     ensures count { IfOk result (λ v. vec_len v ≡ n) }
     ensures levels { de.new.items.levels ≡ de.old.items.levels }
     ensures formats { de.new.items.formats ≡ de.old.items.formats }
@@ -106,7 +107,7 @@ impl<T: Readable, const N: usize> Readable for [T; N] {
 
     ghost reads = { λ c. PassesTags (AsArray (AreExactly (T.reads c) N)) };
 
-    ghost tells_form = { T.tells_form };
+    ghost wrong_forms = { T.wrong_forms };
 }
 
 impl<'de, R: Read<'de>, T: Deserialize<'de, R>, const N: usize> Deserialize<'de, R> for [T; N] {

@@ -7,14 +7,15 @@ use cbor_read::Read;
 use cbor_value::Float;
 
 impl Readable for bool {
-    ghost use Rattle.std.specs.Prelude.{false, true};
+    ghost use Rattle.std.specs.Prelude.{true};
     ghost use Rattle.cbor_model.specs.Readable.{PassesTags, IsBool};
+    ghost use Rattle.cbor_typed.specs.Forms.{never};
 
     ghost reads = { λ c. PassesTags IsBool };
 
     ghost asks_memory = { λ a r. ⊥ };
 
-    ghost tells_form = { false };
+    ghost wrong_forms = { never };
 
     ghost passes_over = { true };
 }
@@ -31,14 +32,15 @@ impl DeserializeOwned for bool {
 }
 
 impl Readable for () {
-    ghost use Rattle.std.specs.Prelude.{false, true};
+    ghost use Rattle.std.specs.Prelude.{true};
     ghost use Rattle.cbor_model.specs.Readable.{PassesTags, IsUnit};
+    ghost use Rattle.cbor_typed.specs.Forms.{never};
 
     ghost reads = { λ c. PassesTags IsUnit };
 
     ghost asks_memory = { λ a r. ⊥ };
 
-    ghost tells_form = { false };
+    ghost wrong_forms = { never };
 
     ghost passes_over = { true };
 }
@@ -55,15 +57,16 @@ impl DeserializeOwned for () {
 }
 
 impl Readable for Float {
-    ghost use Rattle.std.specs.Prelude.{false, true};
+    ghost use Rattle.std.specs.Prelude.{true};
     ghost use Rattle.cbor_model.specs.Readable.{PassesTags};
     ghost use Rattle.cbor_scalars.specs.Scalars.{IsFloatItem};
+    ghost use Rattle.cbor_typed.specs.Forms.{never};
 
     ghost reads = { λ c. PassesTags IsFloatItem };
 
     ghost asks_memory = { λ a r. ⊥ };
 
-    ghost tells_form = { false };
+    ghost wrong_forms = { never };
 
     ghost passes_over = { true };
 }

@@ -8,13 +8,14 @@ use cbor_scalars::lent::EitherStr;
 use cbor_scalars::strings::{NO_STRING, read_string};
 
 impl Readable for String {
-    ghost use Rattle.std.specs.Prelude.{false, true};
+    ghost use Rattle.std.specs.Prelude.{true};
     ghost use Rattle.std.specs.String.{string_bytes};
     ghost use Rattle.cbor_model.specs.Readable.{PassesTags, IsText};
+    ghost use Rattle.cbor_typed.specs.Forms.{never};
 
     ghost reads = { λ c. PassesTags (λ r s. IsText r (string_bytes s)) };
 
-    ghost tells_form = { false };
+    ghost wrong_forms = { never };
 
     ghost passes_over = { true };
 }
@@ -31,15 +32,16 @@ impl DeserializeOwned for String {
 
 // A text is read where the source lends it for the input's life.
 impl Readable for &str {
-    ghost use Rattle.std.specs.Prelude.{false, true};
+    ghost use Rattle.std.specs.Prelude.{true};
     ghost use Rattle.cbor_model.specs.Readable.{PassesTags};
     ghost use Rattle.cbor_scalars.specs.Strings.{IsBorrowedText};
+    ghost use Rattle.cbor_typed.specs.Forms.{never};
 
     ghost reads = { λ c. PassesTags (λ r s. IsBorrowedText c r s.now) };
 
     ghost asks_memory = { λ a r. ⊥ };
 
-    ghost tells_form = { false };
+    ghost wrong_forms = { never };
 
     ghost passes_over = { true };
 }
@@ -59,15 +61,16 @@ impl<'de, R: Read<'de>> Deserialize<'de, R> for &'de str {
 
 // Bytes are read where the source lends them for the input's life.
 impl Readable for &[u8] {
-    ghost use Rattle.std.specs.Prelude.{false, true};
+    ghost use Rattle.std.specs.Prelude.{true};
     ghost use Rattle.cbor_model.specs.Readable.{PassesTags};
     ghost use Rattle.cbor_scalars.specs.Strings.{IsBorrowedString};
+    ghost use Rattle.cbor_typed.specs.Forms.{never};
 
     ghost reads = { λ c. PassesTags (λ r s. IsBorrowedString c r s.now) };
 
     ghost asks_memory = { λ a r. ⊥ };
 
-    ghost tells_form = { false };
+    ghost wrong_forms = { never };
 
     ghost passes_over = { true };
 }

@@ -8,13 +8,13 @@ use cbor_read::Read;
 
 /// An array of exactly one item.
 impl<A: Readable> Readable for (A,) {
-    ghost use Rattle.std.specs.Prelude.{◌||◌, false};
+    ghost use Rattle.cbor_typed.specs.Forms.{both, never};
     ghost use Rattle.cbor_model.specs.Readable.{PassesTags};
     ghost use Rattle.cbor_collections.specs.Arrays.{AsArray, FirstThen, AreNone};
 
     ghost reads = { λ c. PassesTags (AsArray (λ rs t. FirstThen (A.reads c) t.0 AreNone rs)) };
 
-    ghost tells_form = { A.tells_form || false };
+    ghost wrong_forms = { both A.wrong_forms never };
 }
 
 impl<'de, R: Read<'de>, A: Deserialize<'de, R>> Deserialize<'de, R> for (A,) {
@@ -34,14 +34,14 @@ impl<A: DeserializeOwned> DeserializeOwned for (A,) {
 
 /// An array of exactly two items.
 impl<A: Readable, B: Readable> Readable for (A, B) {
-    ghost use Rattle.std.specs.Prelude.{◌||◌, false};
+    ghost use Rattle.cbor_typed.specs.Forms.{both, never};
     ghost use Rattle.cbor_model.specs.Readable.{PassesTags};
     ghost use Rattle.cbor_collections.specs.Arrays.{AsArray, FirstThen, AreNone};
 
     ghost reads = { λ c. PassesTags (AsArray (λ rs t. FirstThen (A.reads c) t.0
         (FirstThen (B.reads c) t.1 AreNone) rs)) };
 
-    ghost tells_form = { A.tells_form || (B.tells_form || false) };
+    ghost wrong_forms = { both A.wrong_forms (both B.wrong_forms never) };
 }
 
 impl<'de, R: Read<'de>, A: Deserialize<'de, R>, B: Deserialize<'de, R>> Deserialize<'de, R>
@@ -63,7 +63,7 @@ impl<A: DeserializeOwned, B: DeserializeOwned> DeserializeOwned for (A, B) {
 
 /// An array of exactly three items.
 impl<A: Readable, B: Readable, C: Readable> Readable for (A, B, C) {
-    ghost use Rattle.std.specs.Prelude.{◌||◌, false};
+    ghost use Rattle.cbor_typed.specs.Forms.{both, never};
     ghost use Rattle.cbor_model.specs.Readable.{PassesTags};
     ghost use Rattle.cbor_collections.specs.Arrays.{AsArray, FirstThen, AreNone};
 
@@ -71,7 +71,7 @@ impl<A: Readable, B: Readable, C: Readable> Readable for (A, B, C) {
         (FirstThen (B.reads c) t.1
         (FirstThen (C.reads c) t.2 AreNone)) rs)) };
 
-    ghost tells_form = { A.tells_form || (B.tells_form || (C.tells_form || false)) };
+    ghost wrong_forms = { both A.wrong_forms (both B.wrong_forms (both C.wrong_forms never)) };
 }
 
 impl<
@@ -99,7 +99,7 @@ impl<A: DeserializeOwned, B: DeserializeOwned, C: DeserializeOwned> DeserializeO
 
 /// An array of exactly four items.
 impl<A: Readable, B: Readable, C: Readable, D: Readable> Readable for (A, B, C, D) {
-    ghost use Rattle.std.specs.Prelude.{◌||◌, false};
+    ghost use Rattle.cbor_typed.specs.Forms.{both, never};
     ghost use Rattle.cbor_model.specs.Readable.{PassesTags};
     ghost use Rattle.cbor_collections.specs.Arrays.{AsArray, FirstThen, AreNone};
 
@@ -108,8 +108,7 @@ impl<A: Readable, B: Readable, C: Readable, D: Readable> Readable for (A, B, C, 
         (FirstThen (C.reads c) t.2
         (FirstThen (D.reads c) t.3 AreNone))) rs)) };
 
-    ghost tells_form = { A.tells_form || (B.tells_form || (C.tells_form
-        || (D.tells_form || false))) };
+    ghost wrong_forms = { both A.wrong_forms (both B.wrong_forms (both C.wrong_forms (both D.wrong_forms never))) };
 }
 
 impl<
@@ -144,7 +143,7 @@ impl<
 
 /// An array of exactly five items.
 impl<A: Readable, B: Readable, C: Readable, D: Readable, E: Readable> Readable for (A, B, C, D, E) {
-    ghost use Rattle.std.specs.Prelude.{◌||◌, false};
+    ghost use Rattle.cbor_typed.specs.Forms.{both, never};
     ghost use Rattle.cbor_model.specs.Readable.{PassesTags};
     ghost use Rattle.cbor_collections.specs.Arrays.{AsArray, FirstThen, AreNone};
 
@@ -154,8 +153,7 @@ impl<A: Readable, B: Readable, C: Readable, D: Readable, E: Readable> Readable f
         (FirstThen (D.reads c) t.3
         (FirstThen (E.reads c) t.4 AreNone)))) rs)) };
 
-    ghost tells_form = { A.tells_form || (B.tells_form || (C.tells_form || (D.tells_form
-        || (E.tells_form || false)))) };
+    ghost wrong_forms = { both A.wrong_forms (both B.wrong_forms (both C.wrong_forms (both D.wrong_forms (both E.wrong_forms never)))) };
 }
 
 impl<
@@ -194,7 +192,7 @@ impl<
 /// An array of exactly six items.
 impl<A: Readable, B: Readable, C: Readable, D: Readable, E: Readable, F: Readable> Readable
     for (A, B, C, D, E, F) {
-    ghost use Rattle.std.specs.Prelude.{◌||◌, false};
+    ghost use Rattle.cbor_typed.specs.Forms.{both, never};
     ghost use Rattle.cbor_model.specs.Readable.{PassesTags};
     ghost use Rattle.cbor_collections.specs.Arrays.{AsArray, FirstThen, AreNone};
 
@@ -205,8 +203,7 @@ impl<A: Readable, B: Readable, C: Readable, D: Readable, E: Readable, F: Readabl
         (FirstThen (E.reads c) t.4
         (FirstThen (F.reads c) t.5 AreNone))))) rs)) };
 
-    ghost tells_form = { A.tells_form || (B.tells_form || (C.tells_form || (D.tells_form
-        || (E.tells_form || (F.tells_form || false))))) };
+    ghost wrong_forms = { both A.wrong_forms (both B.wrong_forms (both C.wrong_forms (both D.wrong_forms (both E.wrong_forms (both F.wrong_forms never))))) };
 }
 
 impl<
@@ -255,7 +252,7 @@ impl<
     F: Readable,
     G: Readable,
 > Readable for (A, B, C, D, E, F, G) {
-    ghost use Rattle.std.specs.Prelude.{◌||◌, false};
+    ghost use Rattle.cbor_typed.specs.Forms.{both, never};
     ghost use Rattle.cbor_model.specs.Readable.{PassesTags};
     ghost use Rattle.cbor_collections.specs.Arrays.{AsArray, FirstThen, AreNone};
 
@@ -267,8 +264,7 @@ impl<
         (FirstThen (F.reads c) t.5
         (FirstThen (G.reads c) t.6 AreNone)))))) rs)) };
 
-    ghost tells_form = { A.tells_form || (B.tells_form || (C.tells_form || (D.tells_form
-        || (E.tells_form || (F.tells_form || (G.tells_form || false)))))) };
+    ghost wrong_forms = { both A.wrong_forms (both B.wrong_forms (both C.wrong_forms (both D.wrong_forms (both E.wrong_forms (both F.wrong_forms (both G.wrong_forms never)))))) };
 }
 
 impl<
@@ -321,7 +317,7 @@ impl<
     G: Readable,
     H: Readable,
 > Readable for (A, B, C, D, E, F, G, H) {
-    ghost use Rattle.std.specs.Prelude.{◌||◌, false};
+    ghost use Rattle.cbor_typed.specs.Forms.{both, never};
     ghost use Rattle.cbor_model.specs.Readable.{PassesTags};
     ghost use Rattle.cbor_collections.specs.Arrays.{AsArray, FirstThen, AreNone};
 
@@ -334,8 +330,7 @@ impl<
         (FirstThen (G.reads c) t.6
         (FirstThen (H.reads c) t.7 AreNone))))))) rs)) };
 
-    ghost tells_form = { A.tells_form || (B.tells_form || (C.tells_form || (D.tells_form
-        || (E.tells_form || (F.tells_form || (G.tells_form || (H.tells_form || false))))))) };
+    ghost wrong_forms = { both A.wrong_forms (both B.wrong_forms (both C.wrong_forms (both D.wrong_forms (both E.wrong_forms (both F.wrong_forms (both G.wrong_forms (both H.wrong_forms never))))))) };
 }
 
 impl<

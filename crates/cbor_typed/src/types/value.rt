@@ -11,12 +11,15 @@ impl Readable for Value {
     ghost use Rattle.cbor_model.specs.Value.{value};
     ghost use Rattle.cbor_value.specs.View.{view};
     ghost use Rattle.cbor_de.specs.Memory.{IsStored};
+    ghost use Rattle.cbor_typed.specs.Forms.{item_form};
 
     ghost reads = { λ c r v. view v ≡ value r };
 
     ghost total = { true };
 
     ghost asks_memory = { λ a r. IsStored (value r) };
+
+    ghost wrong_forms = { item_form };
 }
 
 impl<'de, R: Read<'de>> Deserialize<'de, R> for Value {

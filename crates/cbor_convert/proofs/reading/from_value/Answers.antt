@@ -4,6 +4,7 @@ use Rattle.cbor_de.specs.Gives.{Gave}
 use Rattle.cbor_typed.specs.Whole.{from_reader_context}
 use Rattle.cbor_value.specs.View.{view}
 use Rattle.cbor_convert.proofs.Given.{all_left, not_refused, told_unstorable, value_acceptable, value_read, spelled_so}
+use Rattle.cbor_typed.proofs.facts.Forms.{only_err}
 use Rattle.cbor_convert.proofs.reading.from_value.Goals as goal
 
 pub returns-in_err-bytes-clause-accepted : goal.returns-in_err-bytes-clause-accepted
@@ -44,3 +45,6 @@ returns-clause-accepted g c = λ x stored good means.
     let bytes : AreBytes bs = subst AreBytes c.deref.ensures.value c.are_bytes.ensures.bytes in
     let gave : Gave (Some (drop c.new.result.pos c.new.result.inner.items)) bs = record { told = all_left c.new.result.pos c.new.result.inner.items bs c.new.ensures.position (ap (λ (v : _). v.items) c.new.ensures.inner); are_bytes = bytes; short = subst (λ (xs : List ℕ). length xs < 2 ^ 64) c.deref.ensures.value c.are_bytes.ensures.short } in
     c.from_reader.ensures.accepted bs gave x (spelled_so (g.T.Readable.reads from_reader_context) v bs (w.canonical v refl).written x good means)
+
+pub returns-clause-form : goal.returns-clause-form
+returns-clause-form g c = only_err g.T.Readable.wrong_forms _ _ c.from_reader.result c.from_reader.ensures.form

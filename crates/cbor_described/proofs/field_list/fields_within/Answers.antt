@@ -5,9 +5,13 @@ use Rattle.cbor_described.specs.FieldLists.{FieldTaken, FieldRefused}
 use Rattle.cbor_scalars.specs.Identifiers.{texts}
 use Rattle.cbor_scalars.specs.Takes.{context, formats_of}
 use Rattle.std.proofs.Common.{rules, subst}
+use Rattle.std.proofs.lemmas.Result.{err_from_is_err_and}
 use Rattle.cbor_typed.proofs.facts.Structs.{no_struct, no_field_named, field_named, other_passed, other_unread, field_missing, end_unread, struct_held}
 use Rattle.cbor_typed.proofs.facts.Structs.{unknown_other}
 use Rattle.cbor_described.proofs.FieldLists.{unread, begins_with, value_in, value_not_in, lacking_is}
+use Rattle.cbor_typed.specs.Forms.{both, item_form, struct_form, key_form}
+use Rattle.cbor_typed.proofs.facts.Forms.{later_in, of_left, of_right, took_then}
+use Rattle.cbor_described.proofs.FieldForms.{of_fields}
 use Rattle.cbor_described.proofs.field_list.fields_within.Goals as goal
 
 -- ---- the map's head
@@ -124,3 +128,31 @@ returns-clause-read g c =
     let nothing = rw c.in_default.is at c.in_ok-field.ensures.remains in
     struct_held (texts c.args.names.now) (g.F.FieldList.fields k) c.fields.invariant.so_far c.in_ok-field.field-0 c.in_default.is refl c.next_key.new.remaining c.in_ok-field.ensures.read
     c.in_ok-parts.parts (c.in_ok-parts.ensures.all k) nothing c.in_ok-end_map.ensures.read refl
+
+-- ---- a wrong form
+
+pub returns-in_err-field-clause-form : goal.returns-in_err-field-clause-form
+returns-in_err-field-clause-form g c =
+    let passed = err_from_is_err_and c.from_residual-in_err-field.result c.from_residual-in_err-field.ensures.1 in
+    let i = c.fields.invariant in
+    let e = c.in_err-field.field-0.0 in
+    let took = took_then i.so_far.head.took i.so_far.so_far.took in
+    rw (passed.1, passed.2) (of_left struct_form g.F.FieldList.wrong_forms _ _ e (of_left key_form item_form _ _ e (later_in key_form c.args.de.now.items.formats c.fields.de.items.formats _ _ e i.formats took c.in_err-field.ensures.form)))
+
+pub returns-in_err-take-in-Known-clause-form : goal.returns-in_err-take-in-Known-clause-form
+returns-in_err-take-in-Known-clause-form g c =
+    let passed = err_from_is_err_and c.from_residual-in_err-take-in-Known.result c.from_residual-in_err-take-in-Known.ensures.1 in
+    let i = c.fields.invariant in
+    let e = c.in_err-take-in-Known.field-0.0 in
+    let next = c.in_ok-field.ensures in
+    let took = took_then (took_then i.so_far.head.took i.so_far.so_far.took) next.read.took in
+    rw (passed.1, passed.2) (of_fields g.F.FieldList.wrong_forms _ _ e (later_in (both item_form g.F.FieldList.wrong_forms) c.args.de.now.items.formats c.next_key.new.de.items.formats _ _ e (next.formats ∙ i.formats) took c.in_err-take-in-Known.ensures.form))
+
+pub returns-in_err-skip_item-in-Unknown-clause-form : goal.returns-in_err-skip_item-in-Unknown-clause-form
+returns-in_err-skip_item-in-Unknown-clause-form g c =
+    let passed = err_from_is_err_and c.from_residual-in_err-skip_item-in-Unknown.result c.from_residual-in_err-skip_item-in-Unknown.ensures.1 in
+    let i = c.fields.invariant in
+    let e = c.in_err-skip_item-in-Unknown.field-0.0 in
+    let next = c.in_ok-field.ensures in
+    let took = took_then (took_then i.so_far.head.took i.so_far.so_far.took) next.read.took in
+    rw (passed.1, passed.2) (of_left struct_form g.F.FieldList.wrong_forms _ _ e (of_right key_form item_form _ _ e (later_in item_form c.args.de.now.items.formats c.next_key.new.de.items.formats _ _ e (next.formats ∙ i.formats) took c.in_err-skip_item-in-Unknown.ensures.form)))

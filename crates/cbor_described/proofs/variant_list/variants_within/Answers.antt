@@ -1,8 +1,11 @@
 use Rattle.cbor_de.specs.declared.formats.Formats.{Formats}
 use Rattle.cbor_scalars.specs.Identifiers.{texts}
-use Rattle.cbor_scalars.specs.Takes.{context}
+use Rattle.cbor_scalars.specs.Takes.{context, formats_of}
 use Rattle.cbor_typed.proofs.facts.Enums.{variant_unread}
 use Rattle.cbor_described.proofs.OneOfs.{enum_answer}
+use Rattle.cbor_typed.specs.Forms.{enum_form}
+use Rattle.cbor_typed.proofs.facts.Forms.{enum_told, later_err, of_left, right_err}
+use Rattle.std.proofs.lemmas.Result.{err_from_is_err_and}
 use Rattle.cbor_described.proofs.variant_list.variants_within.Goals as goal
 
 pub returns-in_err-index-clause-read : goal.returns-in_err-index-clause-read
@@ -18,3 +21,16 @@ returns-clause-read g c =
     enum_answer (texts c.args.names.now) (λ (f : Formats). g.E.VariantList.means (context f g.R.Source.lends)) old.formats old.levels
     (g.R.Source.source old.source) (g.R.Source.source mid.source) (g.R.Source.source c.read_variant.new.de.items.source) c.in_ok-index.index mid.levels c.in_ok-index.form mid.formats c.in_ok-index.ensures.formats g.R.Source.refusals
     c.in_ok-index.ensures.read c.read_variant.result c.read_variant.ensures.read
+
+-- ---- a wrong form
+
+pub returns-in_err-index-clause-form : goal.returns-in_err-index-clause-form
+returns-in_err-index-clause-form g c =
+    let passed = err_from_is_err_and c.from_residual.result c.from_residual.ensures.1 in
+    let e = c.in_err-index.field-0.0 in
+    rw (passed.1, passed.2) (of_left enum_form g.E.VariantList.wrong_forms _ _ e (enum_told (formats_of c.args.de.now.items.formats) c.args.de.now.items.levels (g.R.Source.source c.args.de.now.items.source) e c.in_err-index.ensures.code c.in_err-index.ensures.cases))
+
+pub returns-clause-form : goal.returns-clause-form
+returns-clause-form g c =
+    let r = c.read_variant.result in
+    right_err enum_form g.E.VariantList.wrong_forms _ _ r (later_err g.E.VariantList.wrong_forms c.args.de.now.items.formats c.variant_head.new.de.items.formats _ _ r c.in_ok-index.ensures.formats c.in_ok-index.ensures.read.took c.read_variant.ensures.form)

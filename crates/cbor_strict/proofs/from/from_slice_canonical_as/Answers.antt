@@ -121,3 +121,14 @@ pub returns-in-None-first_departure-clause-earliest : goal.returns-in-None-first
 returns-in-None-first_departure-clause-earliest g c =
     let none = subst (λ (b : List ℕ). (j : ℕ) → ShowsDeparture b j → ⊥) (c.up_to.ensures ∙ ap (λ (o : ℕ). take o c.args.slice.now) c.offset.ensures.value) c.in-None-first_departure.ensures in
     inr (each_behind c.args.slice.now (offset_of c.in-Err.e) none)
+
+-- ---- a wrong form
+
+pub returns-in-Some-clause-form : goal.returns-in-Some-clause-form
+returns-in-Some-clause-form g c = inl c.not_canonical.ensures.code
+
+pub returns-in-Some-first_departure-clause-form : goal.returns-in-Some-first_departure-clause-form
+returns-in-Some-first_departure-clause-form g c = inl c.not_canonical-in-Some-first_departure.ensures.code
+
+pub returns-in-None-first_departure-clause-form : goal.returns-in-None-first_departure-clause-form
+returns-in-None-first_departure-clause-form g c = inr c.in-Err.ensures.form

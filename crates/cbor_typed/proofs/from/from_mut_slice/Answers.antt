@@ -10,6 +10,7 @@ use Rattle.cbor_typed.proofs.Every.{every}
 use Rattle.cbor_typed.proofs.Faults.{fails, kinds}
 use Rattle.cbor_typed.proofs.Inputs.{found, accepted, asked}
 use Rattle.cbor_typed.proofs.FirstRefusals.{first}
+use Rattle.cbor_typed.specs.Forms.{MayTell}
 use Rattle.cbor_typed.proofs.from.from_mut_slice.Goals as goal
 
 pub returns-clause-found : goal.returns-clause-found
@@ -73,3 +74,7 @@ returns-clause-memory g c = λ x spelt.
     let memory = subst (λ (s : Input). IfErr c.read_all.result (MemoryFor asks all_formats reads max_depth s)) c.new.ensures c.read_all.ensures.memory in
     let tells : Tells s bs = record { is = refl; short = omega arith } in
     asked mut_refusals all_formats reads s bs tells refl fits (λ device. absurd cc) asks x spelt tt c.read_all.result given memory
+
+pub returns-clause-form : goal.returns-clause-form
+returns-clause-form g c =
+    subst (λ (s : Input). IfErr c.read_all.result (MayTell g.T.Readable.wrong_forms all_formats s)) c.new.ensures c.read_all.ensures.form

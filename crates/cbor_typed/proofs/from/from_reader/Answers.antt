@@ -10,6 +10,7 @@ use Rattle.cbor_typed.proofs.Every.{every_or_fault}
 use Rattle.cbor_typed.proofs.Faults.{fails_or_faults, kinds}
 use Rattle.cbor_typed.proofs.Inputs.{found, accepted_or_fault, asked_or_fault}
 use Rattle.cbor_typed.proofs.FirstRefusals.{first_from_reader}
+use Rattle.cbor_typed.specs.Forms.{MayTell}
 use Rattle.cbor_typed.proofs.from.from_reader.Goals as goal
 
 pub returns-clause-found : goal.returns-clause-found
@@ -63,3 +64,7 @@ returns-clause-memory g c = λ bs gave x spelt.
     let memory = subst (λ (s : Input). IfErr c.read_all.result (MemoryFor asks all_formats reads max_depth s)) c.new.ensures c.read_all.ensures.memory in
     let tells : Tells s bs = record { is = gave.told; short = omega (arith, gave.short) } in
     asked_or_fault reader_refusals all_formats reads s bs tells refl gave.are_bytes asks x spelt tt c.read_all.result memory
+
+pub returns-clause-form : goal.returns-clause-form
+returns-clause-form g c =
+    subst (λ (s : Input). IfErr c.read_all.result (MayTell g.T.Readable.wrong_forms all_formats s)) c.new.ensures c.read_all.ensures.form

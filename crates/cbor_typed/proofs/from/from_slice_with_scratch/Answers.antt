@@ -11,6 +11,7 @@ use Rattle.cbor_model.proofs.facts.Laws.{scratch_need}
 use Rattle.cbor_typed.proofs.Faults.{fails, kinds}
 use Rattle.cbor_typed.proofs.Inputs.{found, accepted, asked}
 use Rattle.cbor_typed.proofs.FirstRefusals.{first}
+use Rattle.cbor_typed.specs.Forms.{MayTell}
 use Rattle.cbor_typed.proofs.from.from_slice_with_scratch.Goals as goal
 
 pub returns-clause-found : goal.returns-clause-found
@@ -87,3 +88,7 @@ returns-clause-memory g c = λ x spelt room.
     let memory = subst (λ (s : Input). IfErr c.read_all.result (MemoryFor asks all_formats reads max_depth s)) c.new.ensures c.read_all.ensures.memory in
     let tells : Tells s bs = record { is = refl; short = omega arith } in
     asked fixed_refusals all_formats reads s bs tells refl fits (λ device. absurd cc) asks x spelt room c.read_all.result given memory
+
+pub returns-clause-form : goal.returns-clause-form
+returns-clause-form g c =
+    subst (λ (s : Input). IfErr c.read_all.result (MayTell g.T.Readable.wrong_forms all_formats s)) c.new.ensures c.read_all.ensures.form

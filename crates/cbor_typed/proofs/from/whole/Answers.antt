@@ -34,4 +34,4 @@ returns-in-Err-end-clause-memory g c =
 pub returns-in-Err-end-clause-form : goal.returns-in-Err-end-clause-form
 returns-in-Err-end-clause-form g c =
     let e = c.in-Err-end.e in
-    plain g.T.Readable.tells_form (code_of e) (end_form g.R.Source.refusals (code_of e) (offset_of e) (g.R.Source.source c.deserialize.new.de.items.source) (g.R.Source.source c.end.new.self.items.source) c.in-Err-end.ensures.takes)
+    plain g.T.Readable.wrong_forms (formats_of c.args.de.now.items.formats) (g.R.Source.source c.args.de.now.items.source) e (end_form g.R.Source.refusals (code_of e) (offset_of e) (g.R.Source.source c.deserialize.new.de.items.source) (g.R.Source.source c.end.new.self.items.source) c.in-Err-end.ensures.takes)

@@ -3,6 +3,7 @@ use Rattle.cbor_de.specs.declared.formats.Formats.{Formats}
 use Rattle.cbor_scalars.specs.Takes.{context, formats_of}
 use Rattle.cbor_collections.proofs.facts.Arrays.{no_array_read}
 use Rattle.cbor_typed.proofs.ItemLists.{array_answer}
+use Rattle.cbor_typed.proofs.Forms.{later_in}
 use Rattle.cbor_typed.proofs.item_list.read_array.Goals as goal
 
 pub returns-in-Err-clause-read : goal.returns-in-Err-clause-read
@@ -27,3 +28,7 @@ returns-in-Err-read_tuple-clause-read g c =
     let m = g.R.Source.source mid.source in
     let t = g.R.Source.source c.read_tuple.new.de.items.source in
     array_answer (λ (f : Formats). g.T.ReadableTuple.parts (context f g.R.Source.lends)) old.formats mid.formats c.array_head.ensures.formats old.levels mid.levels c.in-Ok.remaining g.R.Source.refusals s m t c.in-Ok.ensures.read (Err c.in-Err-read_tuple.e) c.in-Err-read_tuple.ensures.read
+
+pub returns-in-Err-read_tuple-clause-form : goal.returns-in-Err-read_tuple-clause-form
+returns-in-Err-read_tuple-clause-form g c =
+    later_in g.T.ReadableTuple.wrong_forms c.args.de.now.items.formats c.array_head.new.items.formats _ _ c.in-Err-read_tuple.e c.array_head.ensures.formats c.in-Ok.ensures.read.took c.in-Err-read_tuple.ensures.form

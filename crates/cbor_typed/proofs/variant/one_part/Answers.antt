@@ -1,5 +1,7 @@
 use Rattle.cbor_scalars.specs.Takes.{context, formats_of}
 use Rattle.cbor_collections.proofs.facts.Enums.{one_answer, untold}
+use Rattle.cbor_typed.proofs.Forms.{right_err}
+use Rattle.cbor_typed.specs.Forms.{part_form}
 use Rattle.cbor_typed.proofs.variant.one_part.Goals as goal
 
 pub returns-in-Array-clause-read : goal.returns-in-Array-clause-read
@@ -15,3 +17,6 @@ returns-in-Array-clause-alone g c = rw c.in-Array.is (untold c.only_item.result)
 
 pub returns-in-Map-clause-alone : goal.returns-in-Map-clause-alone
 returns-in-Map-clause-alone g c = rw c.in-Map.is (untold c.deserialize.result)
+
+pub returns-in-Map-clause-form : goal.returns-in-Map-clause-form
+returns-in-Map-clause-form g c = right_err part_form g.T.Readable.wrong_forms _ _ c.deserialize.result c.deserialize.ensures.form

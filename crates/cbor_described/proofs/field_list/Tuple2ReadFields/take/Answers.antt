@@ -3,6 +3,8 @@ use Rattle.cbor_typed.specs.Structs.{field_or}
 use Rattle.cbor_scalars.specs.Takes.{context, formats_of}
 use Rattle.cbor_described.specs.FieldLists.{over, slots_over}
 use Rattle.cbor_described.proofs.FieldLists.{slot_taken, taken_behind}
+use Rattle.cbor_typed.specs.Forms.{item_form}
+use Rattle.cbor_described.proofs.FieldForms.{of_first, of_others}
 use Rattle.cbor_described.proofs.field_list.Tuple2ReadFields.take.Goals as goal
 
 pub returns-then-i-ne0-clause-read : goal.returns-then-i-ne0-clause-read
@@ -20,3 +22,9 @@ returns-clause-read g c =
     let k = context old.formats g.R.Source.lends in
     slot_taken (formats_of old.formats) old.levels g.R.Source.refusals [] (field_or (g.A.FieldType.reads k) g.A.FieldType.missing (λ p. p.0)) (over (λ p. p.1) (g.F.FieldList.fields k)) c.args.i c.if-i-ne0.false tt
     c.args.held.now.0 _ (slots_over (λ p. p.1) (g.F.FieldList.fields k) (g.F.FieldList.slots k c.args.held.now.1)) (g.R.Source.source old.source) _ c.take_slot.result c.take_slot.ensures.read
+
+pub returns-then-i-ne0-clause-form : goal.returns-then-i-ne0-clause-form
+returns-then-i-ne0-clause-form g c = of_others item_form g.A.Of.Readable.wrong_forms g.F.FieldList.wrong_forms _ _ c.take.result c.take.ensures.form
+
+pub returns-clause-form : goal.returns-clause-form
+returns-clause-form g c = of_first item_form g.A.Of.Readable.wrong_forms g.F.FieldList.wrong_forms _ _ c.take_slot.result c.take_slot.ensures.form

@@ -3,6 +3,8 @@ use Rattle.cbor_typed.specs.Structs.{field_or}
 use Rattle.cbor_scalars.specs.Takes.{context, formats_of}
 use Rattle.cbor_described.specs.FieldLists.{over, slots_over}
 use Rattle.cbor_described.proofs.FieldLists.{slot_taken, taken_behind}
+use Rattle.cbor_typed.specs.Forms.{both, item_form}
+use Rattle.cbor_described.proofs.FieldForms.{of_first, of_others}
 use Rattle.cbor_described.proofs.field_list.Tuple5ReadFields.take.Goals as goal
 
 pub returns-in-0-clause-read : goal.returns-in-0-clause-read
@@ -46,3 +48,31 @@ returns-in_default-clause-read g c =
     let place : i ≡ 4 + (i - 4) = omega (arith, c.in_default) in
     taken_behind (formats_of old.formats) old.levels g.R.Source.refusals (λ p. p.4) (g.F.FieldList.fields k) (field_or (g.A.FieldType.reads k) g.A.FieldType.missing (λ p. p.0) ∷ field_or (g.B.FieldType.reads k) g.B.FieldType.missing (λ p. p.1) ∷ field_or (g.C.FieldType.reads k) g.C.FieldType.missing (λ p. p.2) ∷ field_or (g.D.FieldType.reads k) g.D.FieldType.missing (λ p. p.3) ∷ []) i (i - 4) place (held.0, (held.1, (held.2, (held.3, tt))))
     (g.F.FieldList.slots k held.4) _ (g.R.Source.source old.source) _ c.take.result c.take.ensures.read
+
+-- ---- a wrong form
+
+pub returns-in-0-clause-form : goal.returns-in-0-clause-form
+returns-in-0-clause-form g c = of_first item_form g.A.Of.Readable.wrong_forms (both g.B.Of.Readable.wrong_forms (both g.C.Of.Readable.wrong_forms (both g.D.Of.Readable.wrong_forms g.F.FieldList.wrong_forms))) _ _ c.take_slot.result c.take_slot.ensures.form
+
+pub returns-in-1-clause-form : goal.returns-in-1-clause-form
+returns-in-1-clause-form g c =
+    let r = c.take_slot-in-1.result in
+    of_others item_form g.A.Of.Readable.wrong_forms (both g.B.Of.Readable.wrong_forms (both g.C.Of.Readable.wrong_forms (both g.D.Of.Readable.wrong_forms g.F.FieldList.wrong_forms))) _ _ r (of_first item_form g.B.Of.Readable.wrong_forms (both g.C.Of.Readable.wrong_forms (both g.D.Of.Readable.wrong_forms g.F.FieldList.wrong_forms)) _ _ r c.take_slot-in-1.ensures.form)
+
+pub returns-in-2-clause-form : goal.returns-in-2-clause-form
+returns-in-2-clause-form g c =
+    let r = c.take_slot-in-2.result in
+    of_others item_form g.A.Of.Readable.wrong_forms (both g.B.Of.Readable.wrong_forms (both g.C.Of.Readable.wrong_forms (both g.D.Of.Readable.wrong_forms g.F.FieldList.wrong_forms))) _ _ r (of_others item_form g.B.Of.Readable.wrong_forms (both g.C.Of.Readable.wrong_forms (both g.D.Of.Readable.wrong_forms g.F.FieldList.wrong_forms)) _ _ r
+    (of_first item_form g.C.Of.Readable.wrong_forms (both g.D.Of.Readable.wrong_forms g.F.FieldList.wrong_forms) _ _ r c.take_slot-in-2.ensures.form))
+
+pub returns-in-3-clause-form : goal.returns-in-3-clause-form
+returns-in-3-clause-form g c =
+    let r = c.take_slot-in-3.result in
+    of_others item_form g.A.Of.Readable.wrong_forms (both g.B.Of.Readable.wrong_forms (both g.C.Of.Readable.wrong_forms (both g.D.Of.Readable.wrong_forms g.F.FieldList.wrong_forms))) _ _ r (of_others item_form g.B.Of.Readable.wrong_forms (both g.C.Of.Readable.wrong_forms (both g.D.Of.Readable.wrong_forms g.F.FieldList.wrong_forms)) _ _ r
+    (of_others item_form g.C.Of.Readable.wrong_forms (both g.D.Of.Readable.wrong_forms g.F.FieldList.wrong_forms) _ _ r (of_first item_form g.D.Of.Readable.wrong_forms g.F.FieldList.wrong_forms _ _ r c.take_slot-in-3.ensures.form)))
+
+pub returns-in_default-clause-form : goal.returns-in_default-clause-form
+returns-in_default-clause-form g c =
+    let r = c.take.result in
+    of_others item_form g.A.Of.Readable.wrong_forms (both g.B.Of.Readable.wrong_forms (both g.C.Of.Readable.wrong_forms (both g.D.Of.Readable.wrong_forms g.F.FieldList.wrong_forms))) _ _ r (of_others item_form g.B.Of.Readable.wrong_forms (both g.C.Of.Readable.wrong_forms (both g.D.Of.Readable.wrong_forms g.F.FieldList.wrong_forms)) _ _ r
+    (of_others item_form g.C.Of.Readable.wrong_forms (both g.D.Of.Readable.wrong_forms g.F.FieldList.wrong_forms) _ _ r (of_others item_form g.D.Of.Readable.wrong_forms g.F.FieldList.wrong_forms _ _ r c.take.ensures.form)))

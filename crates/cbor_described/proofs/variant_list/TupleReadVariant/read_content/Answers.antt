@@ -5,6 +5,7 @@ use Rattle.cbor_collections.specs.Enums.{AreParts}
 use Rattle.cbor_typed.specs.ItemLists.{TakesItems}
 use Rattle.cbor_scalars.specs.Takes.{context, formats_of}
 use Rattle.cbor_described.proofs.OneOfs.{content_made, content_not_made, no_parts, parts_meant, parts_not_meant}
+use Rattle.cbor_typed.proofs.facts.Forms.{later_in}
 use Rattle.cbor_described.proofs.variant_list.TupleReadVariant.read_content.Goals as goal
 
 pub returns-in_err-remaining-clause-read : goal.returns-in_err-remaining-clause-read
@@ -43,3 +44,7 @@ returns-in-Err-clause-read g c =
     let read = subst (λ (f : Formats). TakesItems g.R.Source.refusals (formats_of f) (items f) mid.levels c.in_ok-remaining.remaining m t (Err e)) c.in_ok-remaining.ensures.formats c.in-Err.ensures.read in
     content_not_made (formats_of old.formats) old.levels c.args.form g.R.Source.refusals s t (AreParts (items old.formats)) (λ content y. AreParts (items old.formats) content y.0) e (λ content y h. (y.0, h))
     (parts_not_meant (items old.formats) (formats_of old.formats) old.levels c.args.form g.R.Source.refusals s m t mid.levels c.in_ok-remaining.remaining c.in_ok-remaining.ensures.read e read)
+
+pub returns-in-Err-clause-form : goal.returns-in-Err-clause-form
+returns-in-Err-clause-form g c =
+    later_in g.F.ReadableTuple.wrong_forms c.args.de.now.items.formats c.parts.new.de.items.formats _ _ c.in-Err.e c.in_ok-remaining.ensures.formats c.in_ok-remaining.ensures.read.took c.in-Err.ensures.form

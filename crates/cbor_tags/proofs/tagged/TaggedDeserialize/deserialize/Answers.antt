@@ -11,6 +11,7 @@ use Rattle.cbor_tags.specs.declared.tagged.Tagged.{Tagged}
 use Rattle.cbor_tags.proofs.Tags.{tag_read, tag_unread, untagged_taken, untagged_refused, head_refused, tag_told, untagged_told, head_told}
 use Rattle.cbor_de.proofs.facts.Steps.{took_same}
 use Rattle.cbor_scalars.proofs.facts.Refusals.{item_total, refuses_on}
+use Rattle.cbor_typed.proofs.facts.Forms.{later_in}
 use Rattle.cbor_tags.proofs.tagged.TaggedDeserialize.deserialize.Goals as goal
 
 pub leave_tag-requires : goal.leave_tag-requires
@@ -125,3 +126,17 @@ pub returns-in-Err-clause-fault : goal.returns-in-Err-clause-fault
 returns-in-Err-clause-fault g c =
     let old = c.args.de.now in
     head_told g.T.Readable.total g.R.Source.refusals (formats_of old.items.formats) old.items.levels (g.R.Source.source old.items.source) c.in-Err.e c.in-Err.ensures.refused
+
+-- ---- a wrong form
+
+pub returns-in-Err-value-clause-form : goal.returns-in-Err-value-clause-form
+returns-in-Err-value-clause-form g c =
+    let tag = rw c.in-Ok-Some.field-0-is at c.in-Ok-Some.ensures.item in
+    later_in g.T.Readable.wrong_forms c.args.de.now.items.formats c.outermost.new.de.items.formats _ _ c.in-Err-value.e c.in-Ok-Some.ensures.formats tag.took c.in-Err-value.ensures.form
+
+pub returns-in-Err-deserialize-clause-form : goal.returns-in-Err-deserialize-clause-form
+returns-in-Err-deserialize-clause-form g c =
+    let old = c.args.de.now in
+    let mid = c.outermost.new.de in
+    let none : StandsNoTag (g.R.Source.source old.items.source) (g.R.Source.source mid.items.source) = rw c.in-Ok-None.field-0-is at c.in-Ok-None.ensures.none in
+    later_in g.T.Readable.wrong_forms old.items.formats mid.items.formats _ _ c.in-Err-deserialize.e c.in-Ok-None.ensures.formats none.took c.in-Err-deserialize.ensures.form

@@ -3,6 +3,8 @@ use Rattle.std.proofs.lemmas.Result.{err_from_is_err_and}
 use Rattle.cbor_de.specs.declared.formats.Formats.{Formats}
 use Rattle.cbor_scalars.specs.Takes.{context, formats_of, TakesItem}
 use Rattle.cbor_collections.proofs.facts.Enums.{none_comes, item_lacks, end_left, only_taken}
+use Rattle.cbor_typed.proofs.Forms.{later_in, none_told, of_left, of_right}
+use Rattle.cbor_typed.specs.Forms.{part_form}
 use Rattle.cbor_typed.proofs.de.Deserializer.only_item.Goals as goal
 
 pub returns-in_err-expect_item-clause-read : goal.returns-in_err-expect_item-clause-read
@@ -51,3 +53,17 @@ returns-clause-read g c =
     let at = subst (λ (f : Formats). TakesItem g.R.Source.refusals (formats_of f) (reads f) mid.levels a b (Ok x)) c.in_ok-expect_item.ensures.formats c.in_ok-item.ensures.read in
     let here = subst (λ (n : ℕ). TakesItem g.R.Source.refusals (formats_of old.items.formats) (reads old.items.formats) n a b (Ok x)) c.in_ok-expect_item.ensures.levels at in
     only_taken (reads old.items.formats) (formats_of old.items.formats) old.items.levels c.args.remaining c.expect_item.new.remaining s a b (g.R.Source.source c.end_array.new.items.source) x c.in_ok-expect_item.ensures.read here c.in_ok-end_array.ensures.read
+
+-- ---- a wrong form
+
+pub returns-in_err-expect_item-clause-form : goal.returns-in_err-expect_item-clause-form
+returns-in_err-expect_item-clause-form g c =
+    let passed = err_from_is_err_and c.from_residual.result c.from_residual.ensures.1 in
+    let e = c.in_err-expect_item.field-0.0 in
+    rw (passed.1, passed.2) (of_left part_form g.T.Readable.wrong_forms _ _ e (none_told (formats_of c.args.self.now.items.formats) c.args.remaining (g.R.Source.source c.args.self.now.items.source) e c.in_err-expect_item.ensures.none))
+
+pub returns-in_err-item-clause-form : goal.returns-in_err-item-clause-form
+returns-in_err-item-clause-form g c =
+    let passed = err_from_is_err_and c.from_residual-in_err-item.result c.from_residual-in_err-item.ensures.1 in
+    let e = c.in_err-item.field-0.0 in
+    rw (passed.1, passed.2) (of_right part_form g.T.Readable.wrong_forms _ _ e (later_in g.T.Readable.wrong_forms c.args.self.now.items.formats c.expect_item.new.items.formats _ _ e c.in_ok-expect_item.ensures.formats c.in_ok-expect_item.ensures.read.took c.in_err-item.ensures.form))

@@ -2,7 +2,7 @@ use Rattle.std.proofs.Common.{Ok, Err}
 use Rattle.cbor_de.specs.declared.formats.Formats.{Formats}
 use Rattle.cbor_scalars.specs.Takes.{context, formats_of}
 use Rattle.cbor_typed.proofs.ItemLists.{first_lacks, others_lack, parts_there, same_place}
-use Rattle.cbor_typed.proofs.Forms.{of_left, of_right}
+use Rattle.cbor_typed.proofs.Forms.{later_in, of_left, of_right}
 use Rattle.cbor_typed.proofs.item_list.Tuple2ReadItems.read_items.Goals as goal
 
 pub returns-in-Err-clause-read : goal.returns-in-Err-clause-read
@@ -12,7 +12,7 @@ returns-in-Err-clause-read g c =
     first_lacks (g.A.Readable.reads k) (g.F.ItemList.parts k) (formats_of old.formats) old.levels c.args.remaining g.R.Source.refusals (g.R.Source.source old.source) (g.R.Source.source c.next_part.new.de.items.source) c.in-Err.e c.in-Err.ensures.read
 
 pub returns-in-Err-clause-form : goal.returns-in-Err-clause-form
-returns-in-Err-clause-form g c = of_left g.A.Readable.tells_form g.F.ItemList.tells_form _ c.in-Err.ensures.form
+returns-in-Err-clause-form g c = of_left g.A.Readable.wrong_forms g.F.ItemList.wrong_forms _ _ _ c.in-Err.ensures.form
 
 pub returns-in-Err-read_items-clause-read : goal.returns-in-Err-read_items-clause-read
 returns-in-Err-read_items-clause-read g c =
@@ -27,7 +27,9 @@ returns-in-Err-read_items-clause-read g c =
     others_lack (g.A.Readable.reads k) (g.F.ItemList.parts k) (formats_of old.formats) old.levels c.args.remaining g.R.Source.refusals c.next_part.new.remaining s m c.in-Ok.first c.in-Ok.ensures.read t e read
 
 pub returns-in-Err-read_items-clause-form : goal.returns-in-Err-read_items-clause-form
-returns-in-Err-read_items-clause-form g c = of_right g.A.Readable.tells_form g.F.ItemList.tells_form _ c.in-Err-read_items.ensures.form
+returns-in-Err-read_items-clause-form g c =
+    let behind = later_in g.F.ItemList.wrong_forms c.args.de.now.items.formats c.next_part.new.de.items.formats _ _ c.in-Err-read_items.e c.next_part.ensures.formats c.in-Ok.ensures.read.took c.in-Err-read_items.ensures.form in
+    of_right g.A.Readable.wrong_forms g.F.ItemList.wrong_forms _ _ _ behind
 
 pub returns-in-Ok-read_items-clause-read : goal.returns-in-Ok-read_items-clause-read
 returns-in-Ok-read_items-clause-read g c =

@@ -3,8 +3,10 @@ use Rattle.cbor_io.specs.Error.{code_of, offset_of}
 use Rattle.cbor_de.specs.Heads.{remaining_of}
 use Rattle.cbor_de.specs.declared.formats.Formats.{Formats}
 use Rattle.cbor_scalars.specs.Takes.{context, formats_of}
-use Rattle.cbor_collections.proofs.facts.Places.{bad_key_later}
+use Rattle.cbor_collections.proofs.facts.Places.{bad_key_later, kept_alone}
 use Rattle.cbor_collections.proofs.facts.Maps.{none_is_key, there, key_refused, key_next, no_key_taken}
+use Rattle.cbor_typed.proofs.Forms.{key_told, later_in, of_left, of_right}
+use Rattle.cbor_typed.specs.Forms.{key_form}
 use Rattle.cbor_typed.proofs.map.MapAccess.next_key.Goals as goal
 
 pub returns-in-Err-clause-read : goal.returns-in-Err-clause-read
@@ -77,3 +79,16 @@ returns-then-offset-start-clause-bad_key g c =
     let new = c.more_pairs.new.remaining in
     bad_key_later g.R.Source.refusals (formats_of old.de.now.items.formats) old.remaining s new m c.no_key.result
     (there s m old.remaining new c.in-Ok-true.field-0 old.de.now.items.formats c.in-Ok-true.field-0-test c.in-Ok-true.ensures.read)
+
+-- ---- a wrong form
+
+pub returns-in-Err-clause-form : goal.returns-in-Err-clause-form
+returns-in-Err-clause-form g c =
+    let old = c.args.self.now in
+    let e = c.error.result in
+    of_left key_form g.K.Readable.wrong_forms _ _ e (key_told (formats_of old.de.now.items.formats) old.remaining (g.R.Source.source old.de.now.items.source) e (kept_alone c.more_pairs.new.items.refusal c.in-Err.refused e c.error.ensures.tells) (c.in-Err.ensures.cases e c.error.ensures.tells))
+
+pub returns-in-Err-deserialize-clause-form : goal.returns-in-Err-deserialize-clause-form
+returns-in-Err-deserialize-clause-form g c =
+    let e = c.in-Err-deserialize.e in
+    of_right key_form g.K.Readable.wrong_forms _ _ e (later_in g.K.Readable.wrong_forms c.args.self.now.de.now.items.formats c.more_pairs.new.items.formats _ _ e c.more_pairs.ensures.formats c.in-Ok-true.ensures.read.took c.in-Err-deserialize.ensures.form)

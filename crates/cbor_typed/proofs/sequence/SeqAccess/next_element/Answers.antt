@@ -3,6 +3,7 @@ use Rattle.cbor_io.specs.Error.{code_of, offset_of}
 use Rattle.cbor_de.specs.declared.formats.Formats.{Formats}
 use Rattle.cbor_scalars.specs.Takes.{context}
 use Rattle.cbor_collections.proofs.facts.Arrays.{comes, item_refused, item_next, nothing_taken}
+use Rattle.cbor_typed.proofs.Forms.{later_in}
 use Rattle.cbor_typed.proofs.sequence.SeqAccess.next_element.Goals as goal
 
 pub returns-in-Err-deserialize-clause-read : goal.returns-in-Err-deserialize-clause-read
@@ -45,3 +46,7 @@ returns-clause-read g c =
     let more = c.in-Ok-true.field-0 in
     item_next s m old.remaining new more reads old.de.now.items.formats now.formats old.de.now.items.levels now.levels c.more_items.ensures.formats c.more_items.ensures.levels t c.in-Ok.item
     (comes s m old.remaining new more c.in-Ok-true.field-0-test c.in-Ok-true.ensures.read) c.in-Ok.ensures.read
+
+pub returns-in-Err-deserialize-clause-form : goal.returns-in-Err-deserialize-clause-form
+returns-in-Err-deserialize-clause-form g c =
+    later_in g.T.Readable.wrong_forms c.args.self.now.de.now.items.formats c.more_items.new.items.formats _ _ c.in-Err-deserialize.e c.more_items.ensures.formats c.in-Ok-true.ensures.read.took c.in-Err-deserialize.ensures.form

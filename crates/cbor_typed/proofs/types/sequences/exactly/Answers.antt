@@ -9,6 +9,7 @@ use Rattle.cbor_collections.proofs.facts.Arrays.{end_step, end_lacks, part_goes_
 use Rattle.cbor_scalars.proofs.facts.Refusals.{refuses_on}
 use Rattle.cbor_de.proofs.facts.Steps.{took_same, some_then}
 use Rattle.cbor_collections.proofs.facts.Refusals.{refuses_memory}
+use Rattle.cbor_typed.proofs.Forms.{later_in}
 use Rattle.cbor_typed.proofs.types.sequences.exactly.Goals as goal
 
 pub returns-in_err-access-clause-read : goal.returns-in_err-access-clause-read
@@ -118,3 +119,9 @@ returns-then-is_err-clause-read g c =
     let memory : IsOutOfMemory e = search rules in
     rw c.refuse.ensures.error (refuses_memory g.R.Source.refusals (g.R.Source.source old.items.source) (code_of e) (offset_of e) _ memory.0 memory.1
     (some_then _ _ _ c.in_ok-access.ensures.head.took (some_then _ _ _ c.items.invariant.so_far.took (some_then _ _ _ c.in_ok-item.ensures.read.took (took_same (search rules))))))
+
+pub returns-in_err-item-clause-form : goal.returns-in_err-item-clause-form
+returns-in_err-item-clause-form g c =
+    let passed = err_from_is_err_and c.from_residual-in_err-item.result c.from_residual-in_err-item.ensures.1 in
+    let i = c.items.invariant in
+    rw (passed.1, passed.2) (later_in g.T.Readable.wrong_forms c.args.de.now.items.formats c.items.access.de.now.items.formats _ _ c.in_err-item.field-0.0 i.formats (some_then _ _ _ c.in_ok-access.ensures.head.took i.so_far.took) c.in_err-item.ensures.form)

@@ -7,6 +7,8 @@ use Rattle.cbor_de.proofs.facts.Memory.{asks_on}
 use Rattle.cbor_scalars.proofs.facts.Refusals.{error_only, told_by}
 use Rattle.cbor_model.specs.Reader.{item_at}
 use Rattle.cbor_de.specs.Gives.{Limits, values}
+use Rattle.cbor_collections.proofs.facts.Places.{kept_alone}
+use Rattle.cbor_typed.proofs.Forms.{item_told}
 use Rattle.cbor_typed.proofs.types.ignored.IgnoredAnyDeserialize.deserialize.Goals as goal
 
 pub returns-in-Ok-clause-read : goal.returns-in-Ok-clause-read
@@ -38,3 +40,8 @@ returns-in-Err-clause-memory g c = λ is bs tells x rest got.
     let read = λ (l : Limits). item_at (raws (formats_of d.formats) l) d.levels in
     let asked = error_only (AsksWhere asks (AllRead HasChunks read s)) c.skip.new.self.refusal c.in-Err.refused c.error.result c.error.ensures.tells c.in-Err.ensures.memory is in
     asks_on asks (AllRead HasChunks read s) (HasChunks got.item) (λ all. all bs tells got.item rest got.is) asked
+
+pub returns-in-Err-clause-form : goal.returns-in-Err-clause-form
+returns-in-Err-clause-form g c =
+    let d = c.args.de.now.items in
+    item_told g.R.Source.refusals (formats_of d.formats) d.levels (g.R.Source.source d.source) c.error.result (kept_alone c.skip.new.self.refusal c.in-Err.refused c.error.result c.error.ensures.tells) (returns-in-Err-clause-fault g c)

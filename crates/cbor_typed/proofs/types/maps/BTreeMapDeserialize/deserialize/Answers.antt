@@ -14,6 +14,8 @@ use Rattle.cbor_typed.proofs.WholeMaps.{map_begins, map_goes_on, key_lacks, valu
 use Rattle.cbor_scalars.proofs.facts.Refusals.{refuses_on}
 use Rattle.cbor_de.proofs.facts.Steps.{took_same, some_then}
 use Rattle.cbor_collections.proofs.facts.Refusals.{refuses_memory}
+use Rattle.cbor_typed.proofs.Forms.{later_in, of_left, of_right}
+use Rattle.cbor_typed.specs.Forms.{both, key_form}
 use Rattle.cbor_typed.proofs.types.maps.BTreeMapDeserialize.deserialize.Goals as goal
 
 pub returns-in_err-access-clause-read : goal.returns-in_err-access-clause-read
@@ -181,3 +183,21 @@ returns-then-is_err-clause-read g c =
     let memory : IsOutOfMemory e = search rules in
     rw c.refuse.ensures.error (refuses_memory g.R.Source.refusals (g.R.Source.source old.items.source) (code_of e) (offset_of e) _ memory.0 memory.1
     (some_then _ _ _ c.in_ok-access.ensures.head.took (some_then _ _ _ c.pairs.invariant.so_far.took (some_then _ _ _ c.in_ok-key.ensures.read.took (some_then _ _ _ c.in_ok-value.ensures.read.took (took_same (search rules)))))))
+
+-- ---- a wrong form
+
+pub returns-in_err-key-clause-form : goal.returns-in_err-key-clause-form
+returns-in_err-key-clause-form g c =
+    let passed = err_from_is_err_and c.from_residual-in_err-key.result c.from_residual-in_err-key.ensures.1 in
+    let i = c.pairs.invariant in
+    let e = c.in_err-key.field-0.0 in
+    let keys = both key_form g.K.Readable.wrong_forms in
+    rw (passed.1, passed.2) (of_left keys g.V.Readable.wrong_forms _ _ e (later_in keys c.args.de.now.items.formats c.pairs.access.de.now.items.formats _ _ e i.formats (some_then _ _ _ c.in_ok-access.ensures.head.took i.so_far.took) c.in_err-key.ensures.form))
+
+pub returns-in_err-value-clause-form : goal.returns-in_err-value-clause-form
+returns-in_err-value-clause-form g c =
+    let passed = err_from_is_err_and c.from_residual-in_err-value.result c.from_residual-in_err-value.ensures.1 in
+    let i = c.pairs.invariant in
+    let e = c.in_err-value.field-0.0 in
+    let took = some_then _ _ _ c.in_ok-access.ensures.head.took (some_then _ _ _ i.so_far.took c.in_ok-key.ensures.read.took) in
+    rw (passed.1, passed.2) (of_right (both key_form g.K.Readable.wrong_forms) g.V.Readable.wrong_forms _ _ e (later_in g.V.Readable.wrong_forms c.args.de.now.items.formats c.next_key.new.self.de.now.items.formats _ _ e (c.in_ok-key.ensures.formats ∙ i.formats) took c.in_err-value.ensures.form))

@@ -9,6 +9,7 @@ use Rattle.cbor_de.specs.declared.formats.Formats.{Formats}
 use Rattle.cbor_scalars.proofs.facts.Options.{option_none, option_some, option_refused, option_memory, option_whole, unseen_whole}
 use Rattle.cbor_scalars.proofs.facts.Refusals.{always, item_only, item_passes}
 use Rattle.cbor_typed.proofs.Faults.{where_map}
+use Rattle.cbor_typed.proofs.Forms.{later_in}
 use Rattle.cbor_typed.proofs.types.option.OptionDeserialize.deserialize.Goals as goal
 
 pub returns-in-Ok-true-clause-read : goal.returns-in-Ok-true-clause-read
@@ -81,3 +82,7 @@ returns-in-Err-deserialize-clause-fault g c =
     let there = item_passes passes g.T.Readable.total g.R.Source.refusals (formats_of mid.formats) mid.levels m e c.in-Err-deserialize.ensures.fault in
     let here = subst (λ (n : ℕ). WhereTotal passes (RefusesWhole g.R.Source.refusals n m e)) c.in-Ok-false.ensures.levels there in
     item_only passes false g.R.Source.refusals f levels s e (where_map passes (option_whole g.R.Source.refusals levels s m e step) here)
+
+pub returns-in-Err-deserialize-clause-form : goal.returns-in-Err-deserialize-clause-form
+returns-in-Err-deserialize-clause-form g c =
+    later_in g.T.Readable.wrong_forms c.args.de.now.items.formats c.take_null.new.items.formats _ _ c.in-Err-deserialize.e c.in-Ok-false.ensures.formats c.in-Ok-false.ensures.read.took c.in-Err-deserialize.ensures.form

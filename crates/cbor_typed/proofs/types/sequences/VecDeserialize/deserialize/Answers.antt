@@ -1,4 +1,4 @@
-use Rattle.std.proofs.Common.{rules, ◌≡◌, List, ◌∷◌, ◌++◌, [], refl, sym, subst, Vec, Global, arith}
+use Rattle.std.proofs.Common.{◌∙◌, rules, ◌≡◌, List, ◌∷◌, ◌++◌, [], refl, sym, subst, Vec, Global, arith}
 use Rattle.std.proofs.lemmas.Result.{err_from_is_err_and}
 use Rattle.cbor_model.specs.Raw.{Raws}
 use Rattle.cbor_io.specs.Error.{code_of, offset_of, IsOutOfMemory}
@@ -13,6 +13,7 @@ use Rattle.cbor_typed.proofs.Elements.{untold_refused, comes_not, nothing_left}
 use Rattle.cbor_scalars.proofs.facts.Refusals.{refuses_on}
 use Rattle.cbor_de.proofs.facts.Steps.{took_same, some_then}
 use Rattle.cbor_collections.proofs.facts.Refusals.{refuses_memory}
+use Rattle.cbor_typed.proofs.Forms.{later_in}
 use Rattle.cbor_typed.proofs.types.sequences.VecDeserialize.deserialize.Goals as goal
 
 pub returns-in_err-access-clause-read : goal.returns-in_err-access-clause-read
@@ -184,3 +185,9 @@ returns-then-is_err-clause-read g c =
     let memory : IsOutOfMemory e = search rules in
     rw c.refuse-then-is_err.ensures.error (refuses_memory g.R.Source.refusals (g.R.Source.source old.items.source) (code_of e) (offset_of e) _ memory.0 memory.1
     (some_then _ _ _ c.in_ok-access.ensures.head.took (some_then _ _ _ c.items.invariant.so_far.took (some_then _ _ _ c.in-Ok-true.ensures.read.took (some_then _ _ _ c.in-Ok.ensures.read.took (took_same (search rules)))))))
+
+pub returns-in-Err-deserialize-clause-form : goal.returns-in-Err-deserialize-clause-form
+returns-in-Err-deserialize-clause-form g c =
+    let i = c.items.invariant in
+    let took = some_then _ _ _ c.in_ok-access.ensures.head.took (some_then _ _ _ i.so_far.took c.in-Ok-true.ensures.read.took) in
+    rw c.refuse.ensures.error (later_in g.T.Readable.wrong_forms c.args.de.now.items.formats c.more.new.self.de.now.items.formats _ _ c.in-Err-deserialize.e (c.more.ensures.formats ∙ i.formats) took c.in-Err-deserialize.ensures.form)
