@@ -1,9 +1,9 @@
 //! Arrays around their items (RFC 7049, section 2.1, major type 4).
 
-ghost use Rattle.std.specs.Prelude.{◌≡◌, ◌<◌, IfOk, IfErr, OnErr};
+ghost use Rattle.std.specs.Prelude.{◌≡◌, ◌<◌, IfOk, IfErr, OnOk, OnErr};
 ghost use Rattle.cbor_io.specs.Error.{code_of};
 ghost use Rattle.cbor_de.specs.Cursor.{Counts};
-ghost use Rattle.cbor_de.specs.Gives.{TellsNoForm};
+ghost use Rattle.cbor_de.specs.Gives.{Onward, TellsNoForm};
 ghost use Rattle.cbor_collections.specs.Accesses.{TakesHead};
 ghost use Rattle.cbor_collections.specs.Begins.{TakesBeginning};
 ghost use Rattle.cbor_de.specs.declared.head.Head.TheVariants as kind;
@@ -12,7 +12,7 @@ ghost use Rattle.cbor_scalars.specs.Takes.{formats_of};
 
 use cbor_de::{Collection, Deserializer, Head, Remaining};
 use cbor_io::error::{Error, Result};
-use cbor_read::{ReadErrorCode, Source};
+use cbor_read::Source;
 use cbor_scalars::opening::{mismatch, open};
 
 /// Takes the tags and the head of an array, and goes one level in.
@@ -26,6 +26,7 @@ pub fn array_head<R: Source>(items: &mut Deserializer<R>) -> Result<Remaining>
     ensures opened { TakesBeginning kind.Array R.refusals items.old.levels
         (R.source items.old.source) (R.source items.new.source)
         items.new.levels result }
+    ensures taken { OnOk result (Onward (R.source items.old.source) (R.source items.new.source)) }
     ensures no_form { IfErr result (λ e. TellsNoForm (code_of e)) }
     ensures inside { IfOk result (λ r. items.new.levels < items.old.levels) }
     ensures outer { OnErr result (items.new.levels ≡ items.old.levels) }
@@ -82,17 +83,4 @@ pub fn end_array<R: Source>(items: &mut Deserializer<R>, remaining: Remaining) -
         Ok(()) => Ok(()),
         Err(refused) => Err(items.error(refused)),
     }
-}
-
-/// The error of an item that took no byte, where no count ends the array: `UnexpectedCode`.
-#[cold]
-#[inline(never)]
-pub fn no_item<R: Source>(items: &mut Deserializer<R>) -> Error
-    ensures no_form { TellsNoForm (code_of result) }
-    ensures source { items.new.source ≡ items.old.source }
-    ensures levels { items.new.levels ≡ items.old.levels }
-    ensures formats { items.new.formats ≡ items.old.formats }
-{
-    let refused = items.refuse(ReadErrorCode::UnexpectedCode);
-    items.error(refused)
 }

@@ -5,7 +5,7 @@ ghost use Rattle.std.specs.Prelude.{OnOk, OnErr};
 ghost use Rattle.cbor_model.specs.Formats.{may_begin_key};
 ghost use Rattle.cbor_io.specs.Error.{code_of};
 ghost use Rattle.cbor_de.specs.Cursor.{Counts};
-ghost use Rattle.cbor_de.specs.Gives.{Gives, IsAt, IsErrorOf, TellsNoForm};
+ghost use Rattle.cbor_de.specs.Gives.{Gives, IsAt, IsErrorOf, Onward, TellsNoForm};
 ghost use Rattle.cbor_de.specs.declared.refusal.Refused.TheVariants.{Kept};
 ghost use Rattle.cbor_io.specs.declared.read_error.ReadErrorCode.TheVariants as reading;
 ghost use Rattle.cbor_io.specs.declared.error.Error.{Error};
@@ -32,6 +32,7 @@ pub fn map_head<R: Source>(items: &mut Deserializer<R>) -> Result<Remaining>
     ensures opened { TakesBeginning kind.Map R.refusals items.old.levels
         (R.source items.old.source) (R.source items.new.source)
         items.new.levels result }
+    ensures taken { OnOk result (Onward (R.source items.old.source) (R.source items.new.source)) }
     ensures no_form { IfErr result (λ e. TellsNoForm (code_of e)) }
     ensures inside { IfOk result (λ r. items.new.levels < items.old.levels) }
     ensures outer { OnErr result (items.new.levels ≡ items.old.levels) }
@@ -153,17 +154,4 @@ pub fn end_map<R: Source>(items: &mut Deserializer<R>, remaining: Remaining) -> 
         Ok(()) => Ok(()),
         Err(refused) => Err(items.error(refused)),
     }
-}
-
-/// The error of a key that took no byte, where no count ends the map: `UnexpectedCode`.
-#[cold]
-#[inline(never)]
-pub fn no_key<R: Source>(items: &mut Deserializer<R>) -> Error
-    ensures no_form { TellsNoForm (code_of result) }
-    ensures source { items.new.source ≡ items.old.source }
-    ensures levels { items.new.levels ≡ items.old.levels }
-    ensures formats { items.new.formats ≡ items.old.formats }
-{
-    let refused = items.refuse(ReadErrorCode::UnexpectedCode);
-    items.error(refused)
 }

@@ -7,7 +7,7 @@ ghost use Rattle.cbor_model.specs.Refusal.{end_in_array};
 ghost use Rattle.cbor_model.specs.Reader.{next_at};
 ghost use Rattle.cbor_de.specs.Heads.{remaining_of};
 ghost use Rattle.cbor_io.specs.Error.{code_of, offset_of, HasNoOffset};
-ghost use Rattle.cbor_de.specs.Gives.{Gives, Stopped, TellsNoForm, TellsNoKey};
+ghost use Rattle.cbor_de.specs.Gives.{Gives, Onward, Stopped, TellsNoForm, TellsNoKey};
 ghost use Rattle.cbor_io.specs.declared.error.ErrorCode.TheVariants.{ArrayTooLong};
 ghost use Rattle.cbor_collections.specs.Cases.{FormAlone, IsEnumCode, NoItemHere};
 ghost use Rattle.cbor_collections.specs.Cases.{Stands, form_cases};
@@ -248,6 +248,7 @@ pub fn variant_head<'de, R: Read<'de>>(
         (formats_of items.old.formats) (texts names.now) items.old.levels
         (R.source items.old.source) (R.source items.new.source)
         items.new.levels result }
+    ensures taken { OnOk result (Onward (R.source items.old.source) (R.source items.new.source)) }
     ensures cases { IfErr result (λ e. Stands (R.source items.old.source) e
         (enum_cases (formats_of items.old.formats)
         items.old.levels)) }
@@ -282,6 +283,7 @@ fn tagged_variant<'de, R: Read<'de>>(
         (formats_of items.old.formats) (texts names.now) items.old.levels
         (R.source items.old.source) (R.source items.new.source)
         items.new.levels result }
+    ensures taken { OnOk result (Onward (R.source items.old.source) (R.source items.new.source)) }
     ensures cases { IfErr result (λ e. Stands (R.source items.old.source) e
         (enum_cases (formats_of items.old.formats)
         items.old.levels)) }
@@ -311,6 +313,7 @@ fn untagged_variant<'de, R: Read<'de>>(
         (formats_of items.old.formats) (texts names.now) items.old.levels
         (R.source items.old.source) (R.source items.new.source)
         items.new.levels result }
+    ensures taken { OnOk result (Onward (R.source items.old.source) (R.source items.new.source)) }
     ensures cases { IfErr result (λ e. Stands (R.source items.old.source) e
         (untagged_cases (formats_of items.old.formats)
         items.old.levels)) }
@@ -362,6 +365,7 @@ fn name_alone<'de, R: Read<'de>>(
         (formats_of items.old.formats) (texts names.now) items.old.levels
         (R.source items.old.source) (R.source items.new.source)
         items.new.levels result }
+    ensures taken { OnOk result (Onward (R.source items.old.source) (R.source items.new.source)) }
     ensures no_form { IfErr result (λ e. TellsNoForm (code_of e)) }
     ensures below { IfOk result (λ v. v.0 < length names.now) }
     ensures inside { IfOk result (λ v. IsInside v.1 items.new.levels
@@ -387,6 +391,7 @@ fn array_variant<'de, R: Read<'de>>(
         (formats_of items.old.formats) (texts names.now) items.old.levels
         (R.source items.old.source) (R.source items.new.source)
         items.new.levels result }
+    ensures taken { OnOk result (Onward (R.source items.old.source) (R.source items.new.source)) }
     ensures cases { IfErr result (λ e. Stands (R.source items.old.source) e
         (untagged_cases (formats_of items.old.formats)
         items.old.levels)) }
@@ -417,6 +422,7 @@ fn map_variant<'de, R: Read<'de>>(
         (formats_of items.old.formats) (texts names.now) items.old.levels
         (R.source items.old.source) (R.source items.new.source)
         items.new.levels result }
+    ensures taken { OnOk result (Onward (R.source items.old.source) (R.source items.new.source)) }
     ensures cases { IfErr result (λ e. Stands (R.source items.old.source) e
         (untagged_cases (formats_of items.old.formats)
         items.old.levels)) }
@@ -439,6 +445,7 @@ fn variant_name<'de, R: Read<'de>>(items: &mut Deserializer<R>, names: &[&str]) 
     ensures read { TakesItem R.refusals (formats_of items.old.formats)
         (IsName (texts names.now)) items.old.levels
         (R.source items.old.source) (R.source items.new.source) result }
+    ensures taken { OnOk result (Onward (R.source items.old.source) (R.source items.new.source)) }
     ensures no_form { IfErr result (λ e. TellsNoForm (code_of e)) }
     ensures below { IfOk result (λ i. i < length names.now) }
     ensures levels { items.new.levels ≡ items.old.levels }

@@ -1,7 +1,7 @@
 //! Heads: what an item's first bytes say of it (RFC 7049, section 2).
 
-ghost use Rattle.std.specs.Prelude.{◌≡◌, length, IfErr, MatchOption, OnErr, OnOk, OnSome};
-ghost use Rattle.std.specs.Prelude.{Ok, Some};
+ghost use Rattle.std.specs.Prelude.{◌≡◌, length, IfErr, IfOk, MatchOption, OnErr, OnOk};
+ghost use Rattle.std.specs.Prelude.{OnSome, Ok, Some};
 ghost use Rattle.std.specs.Int.{w8, w16, w32, w64};
 ghost use Rattle.cbor_model.specs.Reader.{number_at, number_behind};
 ghost use Rattle.cbor_model.specs.Major.{major_of};
@@ -78,6 +78,8 @@ impl<R: Source> Deserializer<R> {
     pub fn single(&mut self) -> Done<Option<u32>>
         ensures read { NumberGives (λ bits. FloatHead (Single bits)) R.refusals
             (R.source self.old.source) (R.source self.new.source) self.new.refusal result }
+        ensures taken { IfOk result (λ bits. OnSome bits
+            (Onward (R.source self.old.source) (R.source self.new.source))) }
         ensures no_key { IfErr result (TellsNoKey self.new.refusal) }
         ensures memory { IfErr result (TellsNoMemory self.new.refusal) }
         ensures levels { self.new.levels ≡ self.old.levels }
@@ -101,6 +103,8 @@ impl<R: Source> Deserializer<R> {
     pub fn double(&mut self) -> Done<Option<u64>>
         ensures read { NumberGives (λ bits. FloatHead (Double bits)) R.refusals
             (R.source self.old.source) (R.source self.new.source) self.new.refusal result }
+        ensures taken { IfOk result (λ bits. OnSome bits
+            (Onward (R.source self.old.source) (R.source self.new.source))) }
         ensures no_key { IfErr result (TellsNoKey self.new.refusal) }
         ensures memory { IfErr result (TellsNoMemory self.new.refusal) }
         ensures levels { self.new.levels ≡ self.old.levels }

@@ -1,6 +1,6 @@
 //! Lists of fields, of which structs are read.
 
-ghost use Rattle.std.specs.Prelude.{◌≡◌, ◌≤◌, length, IfOk, IfErr};
+ghost use Rattle.std.specs.Prelude.{◌≡◌, ◌≤◌, length, IfOk, IfErr, OnOk};
 ghost use Rattle.cbor_model.specs.Raw.{Raw};
 ghost use Rattle.cbor_model.specs.Readable.{Context};
 ghost use Rattle.cbor_described.specs.FieldLists.{IsLacking, TakesField, TakesSlot};
@@ -8,7 +8,7 @@ ghost use Rattle.cbor_typed.specs.Fields.{AreHeld, IsHeld, Lacks, none_yet};
 ghost use Rattle.cbor_scalars.specs.Identifiers.{texts};
 ghost use Rattle.cbor_typed.specs.Structs.{IsAny, IsStruct};
 ghost use Rattle.cbor_io.specs.Error.{code_of};
-ghost use Rattle.cbor_de.specs.Gives.{TellsNoForm};
+ghost use Rattle.cbor_de.specs.Gives.{Onward, TellsNoForm};
 ghost use Rattle.cbor_scalars.specs.Takes.{TakesItem, context, formats_of};
 ghost use Rattle.cbor_typed.specs.Forms.{MayTell, both, item_form, struct_form};
 
@@ -323,6 +323,8 @@ pub(crate) fn read_fields<'de, R: Read<'de>, F: ReadFields<'de, R>>(
         (IsStruct (texts names.now) (F.fields (context de.old.items.formats R.lends)))
         de.old.items.levels (R.source de.old.items.source)
         (R.source de.new.items.source) result }
+    ensures taken { OnOk result (Onward (R.source de.old.items.source)
+        (R.source de.new.items.source)) }
     ensures form { IfErr result (MayTell (both struct_form F.wrong_forms)
         (formats_of de.old.items.formats) (R.source de.old.items.source)) }
     ensures levels { de.new.items.levels ≡ de.old.items.levels }
@@ -345,6 +347,8 @@ fn fields_within<'de, R: Read<'de>, F: ReadFields<'de, R>>(
         (IsStruct (texts names.now) (F.fields (context de.old.items.formats R.lends)))
         de.old.items.levels (R.source de.old.items.source)
         (R.source de.new.items.source) result }
+    ensures taken { OnOk result (Onward (R.source de.old.items.source)
+        (R.source de.new.items.source)) }
     ensures form { IfErr result (MayTell (both struct_form F.wrong_forms)
         (formats_of de.old.items.formats) (R.source de.old.items.source)) }
     ensures formats { de.new.items.formats ≡ de.old.items.formats }

@@ -1,6 +1,7 @@
 //! Structs and enums that are read by a description of their parts.
 
-ghost use Rattle.std.specs.Prelude.{◌≡◌, IfErr, length};
+ghost use Rattle.std.specs.Prelude.{◌≡◌, IfErr, OnOk, length};
+ghost use Rattle.cbor_de.specs.Gives.{Onward};
 ghost use Rattle.cbor_scalars.specs.Identifiers.{texts};
 ghost use Rattle.cbor_scalars.specs.Takes.{TakesItem, context, formats_of};
 ghost use Rattle.cbor_typed.specs.Forms.{MayTell};
@@ -33,6 +34,8 @@ pub trait ReadParts<'de, R: Read<'de>>: ReadableParts {
             (Self.reads (texts names.now) (context de.old.items.formats R.lends))
             de.old.items.levels (R.source de.old.items.source)
             (R.source de.new.items.source) result }
+        ensures taken { OnOk result (Onward (R.source de.old.items.source)
+            (R.source de.new.items.source)) }
         ensures form { IfErr result (MayTell Self.wrong_forms
             (formats_of de.old.items.formats) (R.source de.old.items.source)) }
         ensures levels { de.new.items.levels ≡ de.old.items.levels }
@@ -92,6 +95,8 @@ pub trait FromParts: Schema {
             (Self.parts x))
             de.old.items.levels (R.source de.old.items.source)
             (R.source de.new.items.source) result }
+        ensures taken { OnOk result (Onward (R.source de.old.items.source)
+            (R.source de.new.items.source)) }
         ensures form { IfErr result (MayTell Self.Parts.wrong_forms
             (formats_of de.old.items.formats) (R.source de.old.items.source)) }
         ensures levels { de.new.items.levels ≡ de.old.items.levels }

@@ -1,6 +1,7 @@
 //! Lists of variants, of which enums are read.
 
-ghost use Rattle.std.specs.Prelude.{◌≡◌, IfErr};
+ghost use Rattle.std.specs.Prelude.{◌≡◌, IfErr, OnOk};
+ghost use Rattle.cbor_de.specs.Gives.{Onward};
 ghost use Rattle.cbor_collections.specs.Enums.{IsEnum};
 ghost use Rattle.cbor_scalars.specs.Identifiers.{texts};
 ghost use Rattle.cbor_scalars.specs.Takes.{TakesItem, context, formats_of};
@@ -241,6 +242,8 @@ pub(crate) fn read_variants<'de, R: Read<'de>, E: ReadVariants<'de, R>>(
         (E.means (context de.old.items.formats R.lends))))
         de.old.items.levels (R.source de.old.items.source)
         (R.source de.new.items.source) result }
+    ensures taken { OnOk result (Onward (R.source de.old.items.source)
+        (R.source de.new.items.source)) }
     ensures form { IfErr result (MayTell (both enum_form E.wrong_forms)
         (formats_of de.old.items.formats) (R.source de.old.items.source)) }
     ensures levels { de.new.items.levels ≡ de.old.items.levels }
@@ -262,6 +265,8 @@ fn variants_within<'de, R: Read<'de>, E: ReadVariants<'de, R>>(
         (E.means (context de.old.items.formats R.lends))))
         de.old.items.levels (R.source de.old.items.source)
         (R.source de.new.items.source) result }
+    ensures taken { OnOk result (Onward (R.source de.old.items.source)
+        (R.source de.new.items.source)) }
     ensures form { IfErr result (MayTell (both enum_form E.wrong_forms)
         (formats_of de.old.items.formats) (R.source de.old.items.source)) }
     ensures formats { de.new.items.formats ≡ de.old.items.formats }

@@ -1,5 +1,5 @@
 -- Strings that are lent.
-use Rattle.std.proofs.Common.{◌≡◌, inl, inr, ◌+◌, ◌-◌, ◌^◌, ◌<◌, ◌≤◌, ℕ, Bool, true, false, ltb, List, ◌++◌, length, take, Option, Some, None, Result, Ok, Err, IfErr, refl, sym, ap, subst, ◌∙◌, arith, length-append}
+use Rattle.std.proofs.Common.{◌≡◌, inl, inr, ◌+◌, ◌-◌, ◌^◌, ◌<◌, ◌≤◌, ℕ, Bool, true, false, ltb, List, ◌++◌, length, take, Option, Some, None, Result, Ok, Err, IfErr, OnOk, refl, sym, ap, subst, ◌∙◌, arith, length-append}
 use Rattle.std.proofs.Math.Seq.{take-append_seam, drop-append_seam}
 use Rattle.std.proofs.lemmas.Bool.{le-ltb, lt-ltb}
 use Rattle.std.proofs.lemmas.List.{length-take-le}
@@ -17,10 +17,10 @@ use Rattle.cbor_io.specs.declared.error.Error.{Error}
 use Rattle.cbor_io.specs.declared.error.ErrorCode.{ErrorCode}
 use Rattle.cbor_read.specs.declared.EitherLifetime.{EitherLifetime}
 use Rattle.cbor_io.specs.declared.read_error.ReadErrorCode.{ReadErrorCode}
-use Rattle.cbor_de.specs.Gives.{Limits, limits, Step, Reports}
+use Rattle.cbor_de.specs.Gives.{Limits, limits, Onward, Step, Reports}
 use Rattle.cbor_de.specs.declared.head.Head.{Head}
 use Rattle.cbor_de.specs.declared.head.Head.TheVariants as head
-use Rattle.cbor_de.proofs.facts.Steps.{step_map, step_then, taken_step, none_step}
+use Rattle.cbor_de.proofs.facts.Steps.{onward_some, step_map, step_then, taken_step, none_step}
 use Rattle.cbor_io.specs.declared.read_error.ReadError.{ReadError}
 use Rattle.cbor_de.specs.Heads.{behind_head}
 use Rattle.cbor_scalars.specs.Opens.{Opens, OpensItem}
@@ -101,6 +101,20 @@ utf8_no_key p (Err u) is = subst IsNoKey (sym is.1) tt
 pub bytes_no_key : (t : EitherStr) (r : Result EitherLifetime Unread) → BytesOf t r → IfErr r IsNoKey
 bytes_no_key t (Ok p) is = tt
 bytes_no_key t (Err u) is = absurd is
+
+-- ---- a byte at the least
+
+pub any_ok : {X W P : Type 0} (r : Result X W) → P → OnOk r P
+any_ok (Ok x) h = h
+any_ok (Err u) h = tt
+
+pub lent_onward : (allowed : ReadErrorCode → Bool) (l : Lends) (h : Head) (s m t : Input) (r : Result EitherLifetime Unread) → Onward s m → Lent allowed l h m t r → OnOk r (Onward s t)
+lent_onward allowed l h s m t (Ok p) first lent = onward_some s m t first lent.0.took
+lent_onward allowed l h s m t (Err u) first lent = tt
+
+pub text_onward : (allowed : ReadErrorCode → Bool) (l : Lends) (h : Head) (s m t : Input) (r : Result EitherStr Unread) → Onward s m → LentText allowed l h m t r → OnOk r (Onward s t)
+text_onward allowed l h s m t (Ok p) first lent = onward_some s m t first lent.0.took
+text_onward allowed l h s m t (Err u) first lent = tt
 
 -- ---- items
 

@@ -1,9 +1,9 @@
 //! Byte strings alone (RFC 7049, section 2.1, major type 2; in chunks, section 2.2.2).
 
-ghost use Rattle.std.specs.Prelude.{◌≡◌, IfErr};
+ghost use Rattle.std.specs.Prelude.{◌≡◌, IfErr, OnOk};
 ghost use Rattle.cbor_model.specs.Readable.{PassesTags};
 ghost use Rattle.cbor_io.specs.Error.{code_of};
-ghost use Rattle.cbor_de.specs.Gives.{TellsNoForm, TellsNoKey};
+ghost use Rattle.cbor_de.specs.Gives.{Onward, TellsNoForm, TellsNoKey};
 ghost use Rattle.cbor_scalars.specs.Strings.{IsByteString, SeeksItem, SeeksWhole};
 ghost use Rattle.cbor_scalars.specs.Takes.{RefusesWhole, TakesItem, formats_of};
 
@@ -25,6 +25,7 @@ fn bytes<R: Source>(items: &mut Deserializer<R>) -> Done<Option<Vec<u8>>>
         (PassesTags (λ r v. IsByteString r v.items)) items.old.levels
         (R.source items.old.source) (R.source items.new.source)
         items.new.refusal result }
+    ensures taken { OnOk result (Onward (R.source items.old.source) (R.source items.new.source)) }
     ensures fault { SeeksWhole R.refusals items.old.levels (R.source items.old.source)
         items.new.refusal result }
     ensures no_key { IfErr result (TellsNoKey items.new.refusal) }
@@ -50,6 +51,7 @@ pub fn read_byte_string<R: Source>(items: &mut Deserializer<R>) -> Result<Vec<u8
     ensures read { TakesItem R.refusals (formats_of items.old.formats)
         (PassesTags (λ r v. IsByteString r v.items)) items.old.levels
         (R.source items.old.source) (R.source items.new.source) result }
+    ensures taken { OnOk result (Onward (R.source items.old.source) (R.source items.new.source)) }
     ensures fault { IfErr result (RefusesWhole R.refusals items.old.levels
         (R.source items.old.source)) }
     ensures no_form { IfErr result (λ e. TellsNoForm (code_of e)) }

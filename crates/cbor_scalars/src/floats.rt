@@ -1,9 +1,9 @@
 //! Floats as numbers.
 
-ghost use Rattle.std.specs.Prelude.{◌≡◌, IfErr};
+ghost use Rattle.std.specs.Prelude.{◌≡◌, IfErr, OnOk};
 ghost use Rattle.cbor_model.specs.Readable.{PassesTags};
 ghost use Rattle.cbor_io.specs.Error.{code_of};
-ghost use Rattle.cbor_de.specs.Gives.{TellsNoForm};
+ghost use Rattle.cbor_de.specs.Gives.{Onward, TellsNoForm};
 ghost use Rattle.cbor_scalars.specs.Scalars.{IsFloatOf, IsSingleOf};
 ghost use Rattle.cbor_scalars.specs.Takes.{RefusesWhole, TakesItem, TakesNoMemory, formats_of};
 
@@ -21,6 +21,7 @@ pub fn read_f64<R: Source>(items: &mut Deserializer<R>) -> Result<f64>
     ensures read { TakesItem R.refusals (formats_of items.old.formats)
         (PassesTags IsFloatOf) items.old.levels
         (R.source items.old.source) (R.source items.new.source) result }
+    ensures taken { OnOk result (Onward (R.source items.old.source) (R.source items.new.source)) }
     ensures fault { IfErr result (RefusesWhole R.refusals items.old.levels
         (R.source items.old.source)) }
     ensures no_form { IfErr result (λ e. TellsNoForm (code_of e)) }
@@ -42,6 +43,7 @@ fn other_f64<R: Source>(items: &mut Deserializer<R>) -> Result<f64>
     ensures read { TakesItem R.refusals (formats_of items.old.formats)
         (PassesTags IsFloatOf) items.old.levels
         (R.source items.old.source) (R.source items.new.source) result }
+    ensures taken { OnOk result (Onward (R.source items.old.source) (R.source items.new.source)) }
     ensures fault { IfErr result (RefusesWhole R.refusals items.old.levels
         (R.source items.old.source)) }
     ensures no_form { IfErr result (λ e. TellsNoForm (code_of e)) }
@@ -63,6 +65,7 @@ fn any_f64<R: Source>(items: &mut Deserializer<R>) -> Result<f64>
     ensures read { TakesItem R.refusals (formats_of items.old.formats)
         (PassesTags IsFloatOf) items.old.levels
         (R.source items.old.source) (R.source items.new.source) result }
+    ensures taken { OnOk result (Onward (R.source items.old.source) (R.source items.new.source)) }
     ensures fault { IfErr result (RefusesWhole R.refusals items.old.levels
         (R.source items.old.source)) }
     ensures no_form { IfErr result (λ e. TellsNoForm (code_of e)) }
@@ -84,6 +87,7 @@ pub fn read_f32<R: Source>(items: &mut Deserializer<R>) -> Result<f32>
     ensures read { TakesItem R.refusals (formats_of items.old.formats)
         (PassesTags IsSingleOf) items.old.levels
         (R.source items.old.source) (R.source items.new.source) result }
+    ensures taken { OnOk result (Onward (R.source items.old.source) (R.source items.new.source)) }
     ensures fault { IfErr result (RefusesWhole R.refusals items.old.levels
         (R.source items.old.source)) }
     ensures no_form { IfErr result (λ e. TellsNoForm (code_of e)) }
@@ -105,6 +109,7 @@ fn any_f32<R: Source>(items: &mut Deserializer<R>) -> Result<f32>
     ensures read { TakesItem R.refusals (formats_of items.old.formats)
         (PassesTags IsSingleOf) items.old.levels
         (R.source items.old.source) (R.source items.new.source) result }
+    ensures taken { OnOk result (Onward (R.source items.old.source) (R.source items.new.source)) }
     ensures fault { IfErr result (RefusesWhole R.refusals items.old.levels
         (R.source items.old.source)) }
     ensures no_form { IfErr result (λ e. TellsNoForm (code_of e)) }

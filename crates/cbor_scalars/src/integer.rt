@@ -1,9 +1,10 @@
 //! Whole numbers (RFC 7049, section 2.1, major types 0 and 1).
 
-ghost use Rattle.std.specs.Prelude.{◌≡◌, ◌≤◌, ◌<◌, ◌-◌, ◌^◌, ℕ, ℤ, pos, IfOk, IfErr, MatchOption};
+ghost use Rattle.std.specs.Prelude.{◌≡◌, ◌≤◌, ◌<◌, ◌-◌, ◌^◌, ℕ, ℤ, pos, IfOk, IfErr};
+ghost use Rattle.std.specs.Prelude.{MatchOption, OnOk};
 ghost use Rattle.cbor_model.specs.Readable.{PassesTags, IsInteger, IsFromZero, IsSigned, IsWithin};
 ghost use Rattle.cbor_io.specs.Error.{code_of};
-ghost use Rattle.cbor_de.specs.Gives.{TellsNoForm};
+ghost use Rattle.cbor_de.specs.Gives.{Onward, TellsNoForm};
 ghost use Rattle.cbor_read.specs.Source.{TookSome};
 ghost use Rattle.cbor_scalars.specs.Opens.{RefusesBehind};
 ghost use Rattle.cbor_scalars.specs.Scalars.{IsNumber};
@@ -71,6 +72,7 @@ pub fn read_integer<R: Source>(items: &mut Deserializer<R>) -> Result<i128>
     ensures read { TakesItem R.refusals (formats_of items.old.formats)
         (PassesTags IsInteger) items.old.levels
         (R.source items.old.source) (R.source items.new.source) result }
+    ensures taken { OnOk result (Onward (R.source items.old.source) (R.source items.new.source)) }
     ensures fault { IfErr result (RefusesWhole R.refusals items.old.levels
         (R.source items.old.source)) }
     ensures no_form { IfErr result (λ e. TellsNoForm (code_of e)) }
@@ -107,6 +109,7 @@ pub fn read_from_zero<R: Source>(
     ensures read { TakesItem R.refusals (formats_of items.old.formats)
         (PassesTags (IsFromZero most)) items.old.levels
         (R.source items.old.source) (R.source items.new.source) result }
+    ensures taken { OnOk result (Onward (R.source items.old.source) (R.source items.new.source)) }
     ensures bound { IfOk result (λ n. n ≤ most) }
     ensures fault { IfErr result (RefusesWhole R.refusals items.old.levels
         (R.source items.old.source)) }
@@ -139,6 +142,7 @@ pub fn read_u128<R: Source>(items: &mut Deserializer<R>) -> Result<u128>
     ensures read { TakesItem R.refusals (formats_of items.old.formats)
         (PassesTags (IsFromZero (2 ^ 128 - 1))) items.old.levels
         (R.source items.old.source) (R.source items.new.source) result }
+    ensures taken { OnOk result (Onward (R.source items.old.source) (R.source items.new.source)) }
     ensures fault { IfErr result (RefusesWhole R.refusals items.old.levels
         (R.source items.old.source)) }
     ensures no_form { IfErr result (λ e. TellsNoForm (code_of e)) }
@@ -176,6 +180,7 @@ pub fn read_signed<R: Source>(
     ensures read { TakesItem R.refusals (formats_of items.old.formats)
         (PassesTags (IsSigned most)) items.old.levels
         (R.source items.old.source) (R.source items.new.source) result }
+    ensures taken { OnOk result (Onward (R.source items.old.source) (R.source items.new.source)) }
     ensures bounds { IfOk result (IsWithin most) }
     ensures fault { IfErr result (RefusesWhole R.refusals items.old.levels
         (R.source items.old.source)) }

@@ -1,12 +1,12 @@
 //! Strings that are lent.
 
-ghost use Rattle.std.specs.Prelude.{◌≡◌, ◌≤◌, length, true, IfErr, Ok};
+ghost use Rattle.std.specs.Prelude.{◌≡◌, ◌≤◌, length, true, IfErr, Ok, OnOk};
 ghost use types.Logic.{sem};
 ghost use Rattle.std.specs.Io.BufRead.{Rests};
 ghost use Rattle.cbor_read.specs.Source.{TookSome, asks_for, part_bytes};
 ghost use Rattle.cbor_de.specs.declared.head.Head.TheVariants.{Bytes, Text};
 ghost use Rattle.cbor_io.specs.Error.{code_of};
-ghost use Rattle.cbor_de.specs.Gives.{TellsNoForm};
+ghost use Rattle.cbor_de.specs.Gives.{Onward, TellsNoForm};
 ghost use Rattle.cbor_scalars.specs.Strings.{BytesOf, IsBadAt, IsKept, IsMadeOf, IsNoKey};
 ghost use Rattle.cbor_scalars.specs.Strings.{Lent, LentText, LendsBytes, LendsString, LendsText};
 ghost use Rattle.cbor_scalars.specs.Opens.{AsksBehind};
@@ -259,7 +259,8 @@ pub fn read_text<'a, 'de, R: Read<'de>>(
         × IfErr result IsNoKey
         × IfErr result (UnreadOnly (AsksToLend AsksForString (asks_for R.refusals R.lends)
         (formats_of items.old.formats) items.old.levels (R.source items.old.source)))
-        × LendsWhole R.refusals items.old.levels (R.source items.old.source) result)) }
+        × LendsWhole R.refusals items.old.levels (R.source items.old.source) result
+        × OnOk result (Onward (R.source items.old.source) (R.source new.source)))) }
 {
     let found = match scalar(items) {
         Ok(found) => found,
@@ -292,7 +293,8 @@ pub fn read_bytes<'a, 'de, R: Read<'de>>(
         × IfErr result IsNoKey
         × IfErr result (UnreadOnly (AsksToLend AsksForString (asks_for R.refusals R.lends)
         (formats_of items.old.formats) items.old.levels (R.source items.old.source)))
-        × LendsWhole R.refusals items.old.levels (R.source items.old.source) result)) }
+        × LendsWhole R.refusals items.old.levels (R.source items.old.source) result
+        × OnOk result (Onward (R.source items.old.source) (R.source new.source)))) }
 {
     let found = match scalar(items) {
         Ok(found) => found,
@@ -324,7 +326,8 @@ pub fn read_byte_string<'a, 'de, R: Read<'de>>(
         × IfErr result IsNoKey
         × IfErr result (UnreadOnly (AsksToLend AsksForBytes (asks_for R.refusals R.lends)
         (formats_of items.old.formats) items.old.levels (R.source items.old.source)))
-        × LendsWhole R.refusals items.old.levels (R.source items.old.source) result)) }
+        × LendsWhole R.refusals items.old.levels (R.source items.old.source) result
+        × OnOk result (Onward (R.source items.old.source) (R.source new.source)))) }
 {
     let found = match scalar(items) {
         Ok(found) => found,

@@ -1,7 +1,7 @@
 //! What may be absent.
 
-ghost use Rattle.std.specs.Prelude.{◌≡◌, IfErr};
-ghost use Rattle.cbor_de.specs.Gives.{Gives, TellsNoKey, TellsNoMemory};
+ghost use Rattle.std.specs.Prelude.{◌≡◌, true, IfErr, IfOk};
+ghost use Rattle.cbor_de.specs.Gives.{Gives, Onward, TellsNoKey, TellsNoMemory};
 ghost use Rattle.cbor_scalars.specs.Options.{null_at};
 
 use cbor_de::{Deserializer, Done};
@@ -17,6 +17,8 @@ pub fn take_null<R: Source>(items: &mut Deserializer<R>) -> Done<bool>
     ensures read { Gives R.refusals (λ b. b) (λ l. null_at)
         (R.source items.old.source) (R.source items.new.source)
         items.new.refusal result }
+    ensures taken { IfOk result (λ null. null ≡ true
+        → Onward (R.source items.old.source) (R.source items.new.source)) }
     ensures no_key { IfErr result (TellsNoKey items.new.refusal) }
     ensures memory { IfErr result (TellsNoMemory items.new.refusal) }
     ensures levels { items.new.levels ≡ items.old.levels }
@@ -24,6 +26,8 @@ pub fn take_null<R: Source>(items: &mut Deserializer<R>) -> Done<bool>
 {
     match items.source.peek() {
         Ok(Some(NULL)) => {
+            // An offset that was read is known to be below 2^64.
+            let _before = items.source.offset();
             items.source.discard();
             Ok(true)
         }

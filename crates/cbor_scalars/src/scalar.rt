@@ -80,6 +80,7 @@ pub fn read_bool<R: Source>(items: &mut Deserializer<R>) -> Result<bool>
         items.old.levels
         (R.source items.old.source) (R.source items.new.source)
         result }
+    ensures taken { OnOk result (Onward (R.source items.old.source) (R.source items.new.source)) }
     ensures fault { IfErr result (RefusesWhole R.refusals items.old.levels
         (R.source items.old.source)) }
     ensures no_form { IfErr result (λ e. TellsNoForm (code_of e)) }
@@ -114,6 +115,7 @@ pub fn read_float<R: Source>(items: &mut Deserializer<R>) -> Result<Float>
         (PassesTags IsFloatItem) items.old.levels
         (R.source items.old.source) (R.source items.new.source)
         result }
+    ensures taken { OnOk result (Onward (R.source items.old.source) (R.source items.new.source)) }
     ensures fault { ReadsWhole R.refusals items.old.levels (R.source items.old.source) result }
     ensures no_form { IfErr result (λ e. TellsNoForm (code_of e)) }
     ensures memory { IfErr result (TakesNoMemory (formats_of items.old.formats)
@@ -147,6 +149,7 @@ pub fn read_unit<R: Source>(items: &mut Deserializer<R>) -> Result<()>
         items.old.levels
         (R.source items.old.source) (R.source items.new.source)
         result }
+    ensures taken { OnOk result (Onward (R.source items.old.source) (R.source items.new.source)) }
     ensures fault { IfErr result (RefusesWhole R.refusals items.old.levels
         (R.source items.old.source)) }
     ensures no_form { IfErr result (λ e. TellsNoForm (code_of e)) }

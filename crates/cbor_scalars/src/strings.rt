@@ -1,11 +1,11 @@
 //! Strings: texts, and byte strings (RFC 7049, section 2.1, major types 2 and 3; in chunks, section
 //! 2.2.2).
 
-ghost use Rattle.std.specs.Prelude.{◌≡◌, ◌≤◌, length, IfOk, IfErr};
+ghost use Rattle.std.specs.Prelude.{◌≡◌, ◌≤◌, length, IfOk, IfErr, OnOk};
 ghost use Rattle.std.specs.String.{string_bytes};
 ghost use Rattle.cbor_model.specs.Readable.{PassesTags, IsText};
 ghost use Rattle.cbor_io.specs.Error.{code_of};
-ghost use Rattle.cbor_de.specs.Gives.{Gives, TellsNoForm, TellsNoKey};
+ghost use Rattle.cbor_de.specs.Gives.{Gives, Onward, TellsNoForm, TellsNoKey};
 ghost use Rattle.cbor_scalars.specs.Identifiers.{IsMadeBy, NamesNoKey, NamesWhole};
 ghost use Rattle.cbor_de.specs.declared.head.Head.TheVariants.{Bytes, Text};
 ghost use Rattle.cbor_scalars.specs.Strings.{content_at, KeepsTextOf, SeeksItem, TakesText};
@@ -135,6 +135,7 @@ fn string<R: Source>(items: &mut Deserializer<R>) -> Done<Option<String>>
         (PassesTags (λ r s. IsText r (string_bytes s))) items.old.levels
         (R.source items.old.source) (R.source items.new.source)
         items.new.refusal result }
+    ensures taken { OnOk result (Onward (R.source items.old.source) (R.source items.new.source)) }
     ensures fault { SeeksWhole R.refusals items.old.levels (R.source items.old.source)
         items.new.refusal result }
     ensures no_key { IfErr result (TellsNoKey items.new.refusal) }
@@ -155,6 +156,7 @@ fn any_string<R: Source>(items: &mut Deserializer<R>) -> Done<Option<String>>
         (PassesTags (λ r s. IsText r (string_bytes s))) items.old.levels
         (R.source items.old.source) (R.source items.new.source)
         items.new.refusal result }
+    ensures taken { OnOk result (Onward (R.source items.old.source) (R.source items.new.source)) }
     ensures fault { SeeksWhole R.refusals items.old.levels (R.source items.old.source)
         items.new.refusal result }
     ensures no_key { IfErr result (TellsNoKey items.new.refusal) }
@@ -188,6 +190,7 @@ fn own_string<R: Source>(items: &mut Deserializer<R>) -> Named<String>
         (TakesItem R.refusals (formats_of items.old.formats)
         (PassesTags (λ r s. IsText r (string_bytes s))) items.old.levels
         (R.source items.old.source) (R.source items.new.source)) result }
+    ensures taken { OnOk result (Onward (R.source items.old.source) (R.source items.new.source)) }
     ensures fault { IfErr result (NamesWhole R.refusals items.old.levels
         (R.source items.old.source) items.new.refusal) }
     ensures no_key { IfErr result (NamesNoKey items.new.refusal) }
@@ -209,6 +212,7 @@ pub fn read_string<R: Source>(items: &mut Deserializer<R>) -> Result<String>
     ensures read { TakesItem R.refusals (formats_of items.old.formats)
         (PassesTags (λ r s. IsText r (string_bytes s))) items.old.levels
         (R.source items.old.source) (R.source items.new.source) result }
+    ensures taken { OnOk result (Onward (R.source items.old.source) (R.source items.new.source)) }
     ensures fault { IfErr result (RefusesWhole R.refusals items.old.levels
         (R.source items.old.source)) }
     ensures no_form { IfErr result (λ e. TellsNoForm (code_of e)) }

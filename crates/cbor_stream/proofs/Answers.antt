@@ -1,5 +1,5 @@
 -- What a stream gives, from its steps.
-use Rattle.std.proofs.Common.{◌≡◌, ◌∙◌, inl, inr, ◌⊎◌, ◌+◌, ◌-◌, ◌<◌, ℕ, Bool, true, false, List, [], ◌∷◌, ◌++◌, map, length, Option, Result, Ok, Err, IfSome, refl, sym, ap, ap₂, subst, arith}
+use Rattle.std.proofs.Common.{◌≡◌, ◌∙◌, inl, inr, ◌⊎◌, ◌+◌, ◌-◌, ℕ, Bool, true, false, List, [], ◌∷◌, ◌++◌, map, length, Option, Result, Ok, Err, IfSome, refl, sym, ap, ap₂, subst, arith}
 use Rattle.std.specs.Prelude.{flat_map}
 use Rattle.std.specs.Iterator.{Yields}
 use Rattle.std.specs.List.{AllByRecursion}
@@ -12,7 +12,7 @@ use Rattle.cbor_model.specs.RawReader.{Begins}
 use Rattle.cbor_model.specs.Reader.{Fault, Reads, item_at}
 use Rattle.cbor_model.specs.Spelling.{spell}
 use Rattle.cbor_model.specs.Value.{value}
-use Rattle.cbor_model.proofs.facts.Reader.{taken, item_found, item_again, all_allowed}
+use Rattle.cbor_model.proofs.facts.Reader.{item_found, item_again, all_allowed}
 use Rattle.cbor_io.specs.declared.error.Error.{Error}
 use Rattle.cbor_io.specs.declared.read_error.ReadErrorCode.{ReadErrorCode}
 use Rattle.cbor_io.specs.Error.{code_of, offset_of, IsOutOfMemory}
@@ -92,8 +92,6 @@ module _ {A : Type 0} (reads : Formats → Raw → A → Type 0) (total : Bool) 
       let got = item.told bs o.tells in
       let r = got.holds.item in
       let read : item_at (raws all_formats Here) levels bs ≡ Ok (r, got.rest) = sym (raw_here s bs o) ∙ got.holds.is in
-      let m = raws all_formats Here in
-      let less : length got.rest < length bs = taken m levels bs (r, got.rest) read in
       let here = (item_found all_formats end room levels bs got.rest r o.bytes read).0 in
       record {
         item = r;
@@ -101,7 +99,7 @@ module _ {A : Type 0} (reads : Formats → Raw → A → Type 0) (total : Bool) 
         begins = here;
         means = subst (λ (f : Formats). reads f r x) o.formats got.holds.means;
         over = record {
-          going = not_done t.done (λ is. absurd (omega (arith, h.done is, got.total, less)));
+          going = h.done;
           levels_is = h.levels ∙ o.levels_is;
           formats = h.formats ∙ o.formats;
           tells = got.tells;

@@ -8,7 +8,8 @@ use Rattle.cbor_read.specs.Source.{Input, TookSome}
 use Rattle.cbor_io.specs.Error.{code_of, offset_of}
 use Rattle.cbor_io.specs.declared.error.Error.{Error}
 use Rattle.cbor_io.specs.declared.read_error.ReadErrorCode.{ReadErrorCode}
-use Rattle.cbor_de.specs.Gives.{Step}
+use Rattle.cbor_de.specs.Gives.{Limits, Onward, Step}
+use Rattle.cbor_de.proofs.facts.Steps.{onward_some}
 use Rattle.cbor_de.specs.Heads.{remaining_of}
 use Rattle.cbor_de.specs.declared.cursor.Remaining.TheVariants.{Counted}
 use Rattle.cbor_de.specs.declared.formats.Formats.{Formats}
@@ -64,6 +65,11 @@ module _ {S : Type 0} where
   pub unknown_other : (fields : List (FieldOf S)) {field : Field} → field ≡ Unknown → IsOther 0 fields field
   unknown_other fields {field} is = unknown 0 fields field is
 
+-- what was taken for a slot's value
+slot_took : {A : Type 0} {s t : Input} (P : A → Limits → List ℕ → List ℕ → Type 0) (slot : Option A) → is_some slot ≡ true → IfSome slot (λ v. Step s t (P v)) → TookSome s t
+slot_took P None some read = absurd cc
+slot_took P (Some v) some read = read.took
+
 -- ---- what is known
 
 module _ {S : Type 0} {R : Type 0} (names : List (List ℕ)) (fields : List (FieldOf S)) (source : R → Input) where
@@ -76,6 +82,7 @@ module _ {S : Type 0} {R : Type 0} (names : List (List ℕ)) (fields : List (Fie
     pub formats : now.de.now.items.formats ≡ de.items.formats
     pub named : texts now.names.now ≡ names
     pub due : now.value_due ≡ false
+    pub onward : Onward (source de.items.source) (source now.de.now.items.source)
     pub so_far : StructSoFar names fields slots (source de.items.source) de.items.formats de.items.levels
         (source now.de.now.items.source) now.de.now.items.formats now.de.now.items.levels now.remaining
 
@@ -115,14 +122,15 @@ module _ {S : Type 0} {R : Type 0} (names : List (List ℕ)) (fields : List (Fie
   pub fields_begin : {de : Deserializer R} {begun : StructAccess R}
       → Step (source de.items.source) (source begun.de.now.items.source)
       (λ l bs rest. IsMapHead (formats_of de.items.formats) l (item_at (raws (formats_of de.items.formats) l) de.items.levels bs) begun.de.now.items.levels begun.remaining rest)
-      → begun.de.now.items.formats ≡ de.items.formats → texts begun.names.now ≡ names → begun.value_due ≡ false → FieldsSoFar de begun begun (none_yet fields)
-  fields_begin head formats named due = record {
+      → begun.de.now.items.formats ≡ de.items.formats → texts begun.names.now ≡ names → begun.value_due ≡ false → Onward (source de.items.source) (source begun.de.now.items.source) → FieldsSoFar de begun begun (none_yet fields)
+  fields_begin head formats named due onward = record {
     same = refl;
     outer = refl;
     levels = refl;
     formats = formats;
     named = named;
     due = due;
+    onward = onward;
     so_far = struct_begins names fields head formats;
   }
 
@@ -186,14 +194,15 @@ module _ {S : Type 0} {R : Type 0} {names : List (List ℕ)} {fields : List (Fie
         (formats : after.de.now.items.formats ≡ now.de.now.items.formats) (inside : after.de.now.items.levels ≡ now.de.now.items.levels) (remaining : after.remaining ≡ now.remaining) where
       goes_on : {slots' : Slots fields}
           → StructSoFar names fields slots' (source de.items.source) de.items.formats de.items.levels (source after.de.now.items.source) after.de.now.items.formats after.de.now.items.levels after.remaining
-          → FieldsSoFar names fields source de begun after slots'
-      goes_on so = record {
+          → TookSome (source now.de.now.items.source) (source after.de.now.items.source) → FieldsSoFar names fields source de begun after slots'
+      goes_on so took = record {
         same = same ∙ d.same ∙ d.was.same;
         outer = outer ∙ d.outer ∙ d.was.outer;
         levels = inside ∙ d.key.inside ∙ d.was.levels;
         formats = formats ∙ d.key.formats ∙ d.was.formats;
         named = ap (λ names. texts names.now) (listed ∙ d.listed) ∙ d.was.named;
         due = due;
+        onward = onward_some _ _ _ (onward_some _ _ _ d.was.onward d.key.named.took) took;
         so_far = so;
       }
 
@@ -203,14 +212,14 @@ module _ {S : Type 0} {R : Type 0} {names : List (List ℕ)} {fields : List (Fie
           (λ l bs rest. IsRead (reads_at fields i) (item_at (raws (formats_of now.de.now.items.formats) l) now.de.now.items.levels bs) v rest))
           → FieldsSoFar names fields source de begun after (fill fields i slot slots)
       field_taken i is missing slot some read =
-          goes_on (field_once names fields d.key i is (λ (f : Formats). reads_at fields i) formats inside remaining missing slot some (λ b v means. means) read)
+          goes_on (field_once names fields d.key i is (λ (f : Formats). reads_at fields i) formats inside remaining missing slot some (λ b v means. means) read) (slot_took (λ v l bs rest. IsRead (reads_at fields i) (item_at (raws (formats_of now.de.now.items.formats) l) now.de.now.items.levels bs) v rest) slot some read)
 
       -- the value of another key was passed over
       pub other_taken : IsOther 0 fields field → Step (source now.de.now.items.source) (source after.de.now.items.source)
           (λ l bs rest. IsRead IsAny (item_at (raws (formats_of now.de.now.items.formats) l) now.de.now.items.levels bs) tt rest)
           → FieldsSoFar names fields source de begun after slots
       other_taken other read =
-          goes_on (other_passed names fields d.was.so_far (Some field) field refl refl now.remaining d.key.named d.key.formats d.key.inside formats inside remaining other read)
+          goes_on (other_passed names fields d.was.so_far (Some field) field refl refl now.remaining d.key.named d.key.formats d.key.inside formats inside remaining other read) read.took
 
   -- ---- the end
 
@@ -242,3 +251,7 @@ module _ {S : Type 0} {R : Type 0} {names : List (List ℕ)} {fields : List (Fie
     pub fields_read : {w z : Input} (x : S) → slots ≡ all_of fields x → TakesMapEnd (λ c. false) now.remaining (source now.de.now.items.source) w (Ok tt) → z ≡ w
         → Step (source de.items.source) z (λ l bs rest. IsRead (IsStruct names fields) (item_at (raws (formats_of de.items.formats) l) de.items.levels bs) x rest)
     fields_read x all end is = struct_read names fields d.was.so_far None refl d.was.named now.remaining d.next x all d.nothing end is
+
+    -- a byte was taken
+    pub fields_onward : {w z : Input} → TakesMapEnd (λ c. false) now.remaining (source now.de.now.items.source) w (Ok tt) → z ≡ w → Onward (source de.items.source) z
+    fields_onward end is = rw is (onward_some _ _ _ (onward_some _ _ _ d.was.onward d.next.took) end.took)

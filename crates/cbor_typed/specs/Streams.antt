@@ -1,5 +1,5 @@
 -- What a stream gives, one call after the other.
-use Rattle.std.specs.Prelude.{◌≡◌, ◌≢◌, ◌⊎◌, ◌≤◌, ◌+◌, ◌-◌, ◌^◌, min, length, ℕ, Bool, true, false, List, [], Option, Some, None, Result, Ok, Err, IfSome, if◌then◌else◌}
+use Rattle.std.specs.Prelude.{◌≡◌, ◌≢◌, ◌⊎◌, ◌+◌, ◌-◌, ◌^◌, min, length, ℕ, Bool, true, false, List, [], Option, Some, None, Result, Ok, Err, IfSome, if◌then◌else◌}
 use Rattle.std.specs.Iterator.{Count, at_most}
 use Rattle.cbor_model.specs.Raw.{Raw}
 use Rattle.cbor_model.specs.Formats.{Formats}
@@ -8,6 +8,7 @@ use Rattle.cbor_io.specs.declared.error.Error.{Error}
 use Rattle.cbor_io.specs.declared.read_error.ReadErrorCode.{ReadErrorCode}
 use Rattle.cbor_io.specs.Error.{code_of, offset_of}
 use Rattle.cbor_read.specs.Source.{Input, Stays}
+use Rattle.cbor_de.specs.Gives.{Onward}
 use Rattle.cbor_scalars.specs.Takes.{formats_of, raws, IsNotRead, Refuses, TakesItem, TellsItem}
 use Rattle.cbor_typed.specs.declared.stream.StreamDeserializer.{StreamDeserializer}
 
@@ -40,12 +41,12 @@ pub record GivesNone (s t : Stream) : Type 0 where
   pub levels : t.levels ≡ s.levels
   pub formats : t.formats ≡ s.formats
 
--- The item at the front, read as x. No more is given only where the type took nothing, which a source
--- that tells its bytes rules out.
+-- The item at the front, read as x, of which a byte at the least was taken.
 pub record GivesItem {A : Type 0} (refusals : ReadErrorCode → Bool) (reads : Formats → Raw → A → Type 0) (x : A) (s t : Stream) : Type 0 where
   pub going : s.done ≡ false
   pub item : TakesItem refusals s.formats (reads s.formats) s.levels s.input t.input (Ok x)
-  pub done : t.done ≡ true → t.input.offset ≤ s.input.offset
+  pub taken : Onward s.input t.input
+  pub done : t.done ≡ false
   pub levels : t.levels ≡ s.levels
   pub formats : t.formats ≡ s.formats
 

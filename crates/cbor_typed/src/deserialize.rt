@@ -1,7 +1,8 @@
 //! Types that are read.
 
-ghost use Rattle.std.specs.Prelude.{◌≡◌, IfErr};
+ghost use Rattle.std.specs.Prelude.{◌≡◌, IfErr, OnOk};
 ghost use Rattle.cbor_read.specs.Source.{asks_for};
+ghost use Rattle.cbor_de.specs.Gives.{Onward};
 ghost use Rattle.cbor_scalars.specs.Takes.{TakesItem, TellsItem, MemoryFor, context, formats_of};
 ghost use Rattle.cbor_typed.specs.Forms.{MayTell};
 
@@ -204,6 +205,9 @@ pub trait Deserialize<'de, R: Read<'de>>: Readable {
         ensures read { TakesItem R.refusals (formats_of de.old.items.formats)
             (Self.reads (context de.old.items.formats R.lends)) de.old.items.levels
             (R.source de.old.items.source) (R.source de.new.items.source) result }
+        // A byte at the least, also of a source that doesn't tell its bytes.
+        ensures taken { OnOk result (Onward (R.source de.old.items.source)
+            (R.source de.new.items.source)) }
         ensures fault { IfErr result (TellsItem Self.passes_over Self.total R.refusals
             (formats_of de.old.items.formats) de.old.items.levels
             (R.source de.old.items.source)) }

@@ -7,7 +7,7 @@ ghost use Rattle.std.specs.Prelude.{◌≡◌, ◌<◌, [], ◌∷◌, Some, cod
 ghost use Rattle.std.specs.Prelude.{IfOk, IfErr, IfSome, MatchOption, OnOk, OnErr};
 ghost use Rattle.cbor_io.specs.Error.{code_of};
 ghost use Rattle.cbor_read.specs.Source.{RefusedByte, Stays};
-ghost use Rattle.cbor_de.specs.Gives.{IsErrorOf, TellsNoForm};
+ghost use Rattle.cbor_de.specs.Gives.{IsErrorOf, Onward, TellsNoForm};
 ghost use Rattle.cbor_de.specs.declared.head.Head.TheVariants as kind;
 ghost use Rattle.cbor_de.specs.declared.refusal.Refused.TheVariants.{Kept};
 ghost use Rattle.cbor_scalars.specs.Identifiers.{texts};
@@ -79,6 +79,8 @@ pub fn map_head<R: Source>(de: &mut Deserializer<R>) -> Result<Remaining>
     ensures read { TakesMapHead R.refusals (formats_of de.old.items.formats)
         de.old.items.levels (R.source de.old.items.source)
         (R.source de.new.items.source) de.new.items.levels result }
+    ensures taken { OnOk result (Onward (R.source de.old.items.source)
+        (R.source de.new.items.source)) }
     ensures opened { TakesBeginning kind.Map R.refusals de.old.items.levels
         (R.source de.old.items.source) (R.source de.new.items.source)
         de.new.items.levels result }
@@ -116,6 +118,8 @@ pub fn variant_head<'de, R: Read<'de>>(
         (texts names.now) de.old.items.levels
         (R.source de.old.items.source) (R.source de.new.items.source)
         de.new.items.levels result }
+    ensures taken { OnOk result (Onward (R.source de.old.items.source)
+        (R.source de.new.items.source)) }
     ensures opened { TakesVariantHead R.refusals
         (formats_of de.old.items.formats) (texts names.now) de.old.items.levels
         (R.source de.old.items.source) (R.source de.new.items.source)

@@ -1,8 +1,9 @@
 //! Tuples, which are read by one recursion over the list of their parts: the tuples of the standard
 //! library, and those that are the parts of an enum's variant.
 
-ghost use Rattle.std.specs.Prelude.{◌≡◌, IfErr};
+ghost use Rattle.std.specs.Prelude.{◌≡◌, IfErr, OnOk};
 ghost use Rattle.cbor_model.specs.Readable.{PassesTags};
+ghost use Rattle.cbor_de.specs.Gives.{Onward};
 ghost use Rattle.cbor_collections.specs.Accesses.{TakesPart};
 ghost use Rattle.cbor_collections.specs.Arrays.{AsArray};
 ghost use Rattle.cbor_scalars.specs.Takes.{TakesItem, context, formats_of};
@@ -54,6 +55,8 @@ pub(crate) fn read_array<'de, R: Read<'de>, T: ReadTuple<'de, R>>(
         (PassesTags (AsArray (T.parts (context de.old.items.formats R.lends))))
         de.old.items.levels (R.source de.old.items.source)
         (R.source de.new.items.source) result }
+    ensures taken { OnOk result (Onward (R.source de.old.items.source)
+        (R.source de.new.items.source)) }
     ensures form { IfErr result (MayTell T.wrong_forms
         (formats_of de.old.items.formats) (R.source de.old.items.source)) }
     ensures levels { de.new.items.levels ≡ de.old.items.levels }

@@ -6,7 +6,7 @@ ghost use Rattle.std.specs.Borrow.{sem, RestsIfErr};
 ghost use Rattle.cbor_model.specs.Reader.{item_at};
 ghost use Rattle.cbor_de.specs.declared.cursor.Remaining.TheVariants.{Counted};
 ghost use Rattle.cbor_io.specs.Error.{code_of};
-ghost use Rattle.cbor_de.specs.Gives.{Step, TellsNoForm};
+ghost use Rattle.cbor_de.specs.Gives.{Onward, Step, TellsNoForm};
 ghost use Rattle.cbor_io.specs.declared.error.Error.{Error};
 ghost use Rattle.cbor_collections.specs.Begins.{Begins, RefusesBeginning};
 ghost use Rattle.cbor_de.specs.declared.head.Head.TheVariants as kind;
@@ -21,7 +21,7 @@ ghost use Rattle.cbor_typed.specs.contracts.de.Deserializer.{the_row};
 
 use crate::de::Deserializer;
 use crate::deserialize::Deserialize;
-use cbor_collections::map::{end_map, map_head, more_pairs, no_key};
+use cbor_collections::map::{end_map, map_head, more_pairs};
 use cbor_de::Remaining;
 use cbor_io::error::{Error, Result};
 use cbor_read::{Read, Source};
@@ -64,6 +64,8 @@ impl<R: Source> Deserializer<R> {
             (RefusesBeginning kind.Map R.refusals
             self.old.items.levels (R.source self.old.items.source))) }
         ensures no_form { IfErr result (λ e. TellsNoForm (code_of e)) }
+        ensures taken { IfOk result (λ m. Onward (R.source self.old.items.source)
+            (R.source m.de.now.items.source)) }
         ensures outer { IfOk result (λ m. m.outer ≡ self.old.items.levels) }
         ensures inside { IfOk result (λ m. m.de.now.items.levels < m.outer) }
         ensures formats { IfOk result (λ m. m.de.now.items.formats ≡ self.old.items.formats) }
@@ -151,22 +153,16 @@ impl<'a, R: Source> MapAccess<'a, R> {
                 return Err(self.de.items.error(refused));
             }
         }
-        let start = self.de.items.source.offset();
-        let key = match K::deserialize(self.de) {
-            Ok(key) => key,
+        match K::deserialize(self.de) {
+            Ok(key) => {
+                self.value_due = true;
+                Ok(Some(key))
+            }
             Err(e) => {
                 self.de.items.levels = self.outer;
-                return Err(e);
-            }
-        };
-        if let Remaining::ToBreak = self.remaining {
-            if self.de.items.source.offset() <= start {
-                self.de.items.levels = self.outer;
-                return Err(no_key(&mut self.de.items));
+                Err(e)
             }
         }
-        self.value_due = true;
-        Ok(Some(key))
     }
 
     /// Reads the value of the key that was read last. It refuses as the reading of `V` does.

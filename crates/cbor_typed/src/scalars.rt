@@ -6,7 +6,7 @@ ghost use types.Logic.{sem};
 ghost use Rattle.cbor_model.specs.Readable.{PassesTags, IsBool, IsInteger, IsUnit};
 ghost use Rattle.cbor_model.specs.Reader.{item_at};
 ghost use Rattle.cbor_io.specs.Error.{code_of};
-ghost use Rattle.cbor_de.specs.Gives.{TellsNoForm, TellsNoKey};
+ghost use Rattle.cbor_de.specs.Gives.{Onward, TellsNoForm, TellsNoKey};
 ghost use Rattle.cbor_scalars.specs.Opens.{OpensAt};
 ghost use Rattle.cbor_scalars.specs.Scalars.{IsFloatItem};
 ghost use Rattle.cbor_scalars.specs.Strings.{IsMadeOf, IsNoKey, LendsBytes, LendsString, LendsText};
@@ -38,6 +38,8 @@ impl<R: Source> Deserializer<R> {
             self.old.items.levels
             (R.source self.old.items.source) (R.source self.new.items.source)
             result }
+        ensures taken { OnOk result (Onward (R.source self.old.items.source)
+            (R.source self.new.items.source)) }
         ensures fault { IfErr result (RefusesWhole R.refusals self.old.items.levels
             (R.source self.old.items.source)) }
         ensures no_form { IfErr result (λ e. TellsNoForm (code_of e)) }
@@ -58,6 +60,8 @@ impl<R: Source> Deserializer<R> {
             (PassesTags IsFloatItem) self.old.items.levels
             (R.source self.old.items.source) (R.source self.new.items.source)
             result }
+        ensures taken { OnOk result (Onward (R.source self.old.items.source)
+            (R.source self.new.items.source)) }
         ensures fault { ReadsWhole R.refusals self.old.items.levels
             (R.source self.old.items.source) result }
         ensures no_form { IfErr result (λ e. TellsNoForm (code_of e)) }
@@ -78,6 +82,8 @@ impl<R: Source> Deserializer<R> {
             self.old.items.levels
             (R.source self.old.items.source) (R.source self.new.items.source)
             result }
+        ensures taken { OnOk result (Onward (R.source self.old.items.source)
+            (R.source self.new.items.source)) }
         ensures fault { IfErr result (RefusesWhole R.refusals self.old.items.levels
             (R.source self.old.items.source)) }
         ensures no_form { IfErr result (λ e. TellsNoForm (code_of e)) }
@@ -101,6 +107,8 @@ impl<R: Source> Deserializer<R> {
         ensures read { TakesItem R.refusals (formats_of self.old.items.formats)
             (PassesTags IsInteger) self.old.items.levels
             (R.source self.old.items.source) (R.source self.new.items.source) result }
+        ensures taken { OnOk result (Onward (R.source self.old.items.source)
+            (R.source self.new.items.source)) }
         ensures fault { IfErr result (RefusesWhole R.refusals self.old.items.levels
             (R.source self.old.items.source)) }
         ensures no_form { IfErr result (λ e. TellsNoForm (code_of e)) }
@@ -141,7 +149,8 @@ impl<'de, R: Read<'de>> Deserializer<R> {
             (formats_of self.old.items.formats) self.old.items.levels
             (R.source self.old.items.source)))
             × LendsWhole R.refusals self.old.items.levels
-            (R.source self.old.items.source) result)) }
+            (R.source self.old.items.source) result
+            × OnOk result (Onward (R.source self.old.items.source) (R.source new.items.source)))) }
     {
         lent::read_text(&mut self.items)
     }
@@ -160,7 +169,8 @@ impl<'de, R: Read<'de>> Deserializer<R> {
             (formats_of self.old.items.formats) self.old.items.levels
             (R.source self.old.items.source)))
             × LendsWhole R.refusals self.old.items.levels
-            (R.source self.old.items.source) result)) }
+            (R.source self.old.items.source) result
+            × OnOk result (Onward (R.source self.old.items.source) (R.source new.items.source)))) }
     {
         lent::read_bytes(&mut self.items)
     }
@@ -178,7 +188,8 @@ impl<'de, R: Read<'de>> Deserializer<R> {
             (formats_of self.old.items.formats) self.old.items.levels
             (R.source self.old.items.source)))
             × LendsWhole R.refusals self.old.items.levels
-            (R.source self.old.items.source) result)) }
+            (R.source self.old.items.source) result
+            × OnOk result (Onward (R.source self.old.items.source) (R.source new.items.source)))) }
     {
         lent::read_byte_string(&mut self.items)
     }

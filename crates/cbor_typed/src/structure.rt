@@ -88,6 +88,8 @@ impl<R: Source> Deserializer<R> {
             (RefusesBeginning kind.Map R.refusals
             self.old.items.levels (R.source self.old.items.source))) }
         ensures no_form { IfErr result (λ e. TellsNoForm (code_of e)) }
+        ensures taken { IfOk result (λ m. Onward (R.source self.old.items.source)
+            (R.source m.de.now.items.source)) }
         ensures outer { IfOk result (λ m. m.outer ≡ self.old.items.levels) }
         ensures inside { IfOk result (λ m. m.de.now.items.levels < m.outer) }
         ensures formats { IfOk result (λ m.

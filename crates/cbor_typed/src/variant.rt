@@ -5,7 +5,7 @@ ghost use Rattle.std.specs.Prelude.{IfOk, IfErr};
 ghost use Rattle.std.specs.Borrow.{sem, RestsIfErr};
 ghost use Rattle.cbor_model.specs.Reader.{item_at};
 ghost use Rattle.cbor_io.specs.Error.{code_of};
-ghost use Rattle.cbor_de.specs.Gives.{Step, TellsNoForm};
+ghost use Rattle.cbor_de.specs.Gives.{Onward, Step, TellsNoForm};
 ghost use Rattle.cbor_io.specs.declared.error.ErrorCode.TheVariants.{ArrayTooLong};
 ghost use Rattle.cbor_collections.specs.Cases.{FormAlone, IsEnumCode, Stands};
 ghost use Rattle.cbor_collections.specs.Cases.{enum_cases, unit_cases, TellsTooShort};
@@ -79,6 +79,8 @@ impl<'de, R: Read<'de>> Deserializer<R> {
             self.old.items.levels)) }
         ensures code { IfErr result (λ e. IsEnumCode (code_of e)) }
         ensures below { IfOk result (λ v. v.index < length names.now) }
+        ensures taken { IfOk result (λ v. Onward (R.source self.old.items.source)
+            (R.source v.de.now.items.source)) }
         ensures outer { IfOk result (λ v. v.outer ≡ self.old.items.levels) }
         ensures inside { IfOk result (λ v. IsInside v.form v.de.now.items.levels v.outer) }
         ensures formats { IfOk result (λ v. v.de.now.items.formats ≡ self.old.items.formats) }

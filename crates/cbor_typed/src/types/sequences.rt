@@ -1,6 +1,7 @@
 //! Vectors and arrays, which are read from arrays.
 
-ghost use Rattle.std.specs.Prelude.{◌≡◌, IfOk, IfErr, vec_len};
+ghost use Rattle.std.specs.Prelude.{◌≡◌, IfOk, IfErr, OnOk, vec_len};
+ghost use Rattle.cbor_de.specs.Gives.{Onward};
 ghost use Rattle.cbor_io.specs.Error.{code_of};
 ghost use Rattle.cbor_model.specs.Readable.{PassesTags};
 ghost use Rattle.cbor_collections.specs.Arrays.{AsArray, AreExactly, items_in};
@@ -9,8 +10,6 @@ ghost use Rattle.cbor_typed.specs.Forms.{MayTell};
 
 use crate::de::Deserializer;
 use crate::deserialize::{Deserialize, DeserializeOwned, Readable};
-use cbor_collections::array::no_item;
-use cbor_de::Remaining;
 use cbor_de::room::push_any;
 use cbor_io::error::{Error, Result};
 use cbor_read::Read;
@@ -38,17 +37,10 @@ impl<'de, R: Read<'de>, T: Deserialize<'de, R>> Deserialize<'de, R> for Vec<T> {
                 Ok(false) => break,
                 Err(e) => return Err(e),
             }
-            let start = access.de.items.source.offset();
             let item = match T::deserialize(access.de) {
                 Ok(item) => item,
                 Err(e) => return Err(access.refuse(e)),
             };
-            if let Remaining::ToBreak = access.remaining {
-                if access.de.items.source.offset() <= start {
-                    let e = no_item(&mut access.de.items);
-                    return Err(access.refuse(e));
-                }
-            }
             if push_any(&mut items, item, access.remaining).is_err() {
                 return Err(access.refuse(Error::from(AllocError)));
             }
@@ -81,6 +73,8 @@ fn exactly<'de, T: Deserialize<'de, R>, R: Read<'de>>(
         (PassesTags (AsArray (AreExactly (T.reads (context de.old.items.formats R.lends)) n)))
         de.old.items.levels (R.source de.old.items.source) (R.source de.new.items.source)
         (items_in result) }
+    ensures taken { OnOk result (Onward (R.source de.old.items.source)
+        (R.source de.new.items.source)) }
     ensures form { IfErr result (MayTell T.wrong_forms
         (formats_of de.old.items.formats) (R.source de.old.items.source)) }
     ensures count { IfOk result (λ v. vec_len v ≡ n) }

@@ -4,12 +4,13 @@ use Rattle.cbor_de.specs.declared.formats.Formats.{Formats}
 use Rattle.cbor_described.specs.FieldLists.{FieldTaken, FieldRefused}
 use Rattle.cbor_scalars.specs.Identifiers.{texts}
 use Rattle.cbor_scalars.specs.Takes.{context, formats_of}
-use Rattle.std.proofs.Common.{rules, subst}
+use Rattle.std.proofs.Common.{rules, subst, arith}
 use Rattle.std.proofs.lemmas.Result.{err_from_is_err_and}
 use Rattle.cbor_typed.proofs.facts.Structs.{no_struct, no_field_named, field_named, other_passed, other_unread, field_missing, end_unread, struct_held}
 use Rattle.cbor_typed.proofs.facts.Structs.{unknown_other}
 use Rattle.cbor_described.proofs.FieldLists.{unread, begins_with, value_in, value_not_in, lacking_is}
 use Rattle.cbor_typed.specs.Forms.{both, item_form, struct_form, key_form}
+use Rattle.cbor_de.proofs.facts.Steps.{onward_some}
 use Rattle.cbor_typed.proofs.facts.Forms.{later_in, of_left, of_right, took_then}
 use Rattle.cbor_described.proofs.FieldForms.{of_fields}
 use Rattle.cbor_described.proofs.field_list.fields_within.Goals as goal
@@ -30,6 +31,7 @@ fields-init g c =
     let k = context c.args.de.now.items.formats g.R.Source.lends in
     record {
       formats = c.in_ok-remaining.ensures.formats;
+      onward = c.in_ok-remaining.ensures.taken;
       so_far = begins_with (texts c.args.names.now) (g.F.FieldList.fields k) _ (c.none-held.ensures k) c.in_ok-remaining.ensures.read c.in_ok-remaining.ensures.formats;
     }
 
@@ -56,9 +58,11 @@ fields-preserved-in-Continue-branch-4 g c =
     let key = field_named names (fields c.args.de.now.items.formats) i.so_far c.in_ok-field.field-0 c.in-Some.field c.in-Some.is refl c.next_key.new.remaining next.read next.formats next.levels in
     let now = c.next_key.new.de.items in
     let done = c.in_ok-take-in-Known.ensures in
+    let named = onward_some _ _ _ i.onward next.read.took in
     let taken = subst (λ (f : Formats). FieldTaken (formats_of now.formats) now.levels (fields f) c.in-Known.i (slots f c.fields.held) (slots f c.take.new.held) (g.R.Source.source now.source) (g.R.Source.source c.take.new.de.items.source)) (next.formats ∙ i.formats) done.read in
     record {
       formats = done.formats ∙ next.formats ∙ i.formats;
+      onward = record { further = omega (arith, named.further, done.forward); counted = named.counted };
       so_far = value_in names (fields c.args.de.now.items.formats) key c.in-Known.i c.in-Known.is done.formats done.levels refl (slots c.args.de.now.items.formats c.take.new.held) taken;
     }
 
@@ -86,6 +90,7 @@ fields-preserved g c =
     let done = c.in_ok-skip_item-in-Unknown.ensures in
     record {
       formats = done.formats ∙ next.formats ∙ i.formats;
+      onward = onward_some _ _ _ i.onward (took_then next.read.took done.read.took);
       so_far = other_passed names fields i.so_far c.in_ok-field.field-0 c.in-Some.field c.in-Some.is refl c.next_key.new.remaining next.read next.formats next.levels done.formats done.levels refl (unknown_other fields c.in-Unknown.is) done.read;
     }
 
@@ -156,3 +161,7 @@ returns-in_err-skip_item-in-Unknown-clause-form g c =
     let next = c.in_ok-field.ensures in
     let took = took_then (took_then i.so_far.head.took i.so_far.so_far.took) next.read.took in
     rw (passed.1, passed.2) (of_left struct_form g.F.FieldList.wrong_forms _ _ e (of_right key_form item_form _ _ e (later_in item_form c.args.de.now.items.formats c.next_key.new.de.items.formats _ _ e (next.formats ∙ i.formats) took c.in_err-skip_item-in-Unknown.ensures.form)))
+
+pub returns-clause-taken : goal.returns-clause-taken
+returns-clause-taken g c =
+    onward_some _ _ _ c.fields.invariant.onward (took_then c.in_ok-field.ensures.read.took c.in_ok-end_map.ensures.read.took)

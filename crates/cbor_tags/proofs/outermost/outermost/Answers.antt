@@ -1,4 +1,4 @@
-use Rattle.std.proofs.Common.{ℕ, List, Option, Some, refl}
+use Rattle.std.proofs.Common.{ℕ, List, Option, refl}
 use Rattle.cbor_model.specs.Reader.{Reads}
 use Rattle.cbor_de.specs.Gives.{Limits}
 use Rattle.cbor_de.specs.declared.refusal.Refused.TheVariants.{Kept}

@@ -1,10 +1,9 @@
-use Rattle.std.proofs.Common.{arith}
 use Rattle.cbor_io.specs.Error.{code_of, offset_of}
 use Rattle.cbor_de.specs.Heads.{remaining_of}
 use Rattle.cbor_de.specs.declared.formats.Formats.{Formats}
 use Rattle.cbor_scalars.specs.Takes.{context, formats_of}
 use Rattle.cbor_collections.proofs.facts.Places.{bad_key_later, kept_alone}
-use Rattle.cbor_collections.proofs.facts.Maps.{none_is_key, there, key_refused, key_next, no_key_taken}
+use Rattle.cbor_collections.proofs.facts.Maps.{none_is_key, there, key_refused, key_next}
 use Rattle.cbor_typed.proofs.Forms.{key_told, later_in, of_left, of_right}
 use Rattle.cbor_typed.specs.Forms.{key_form}
 use Rattle.cbor_typed.proofs.map.MapAccess.next_key.Goals as goal
@@ -29,23 +28,8 @@ returns-in-Err-deserialize-clause-read g c =
     key_refused s m old.remaining new more reads old.de.now.items.formats now.formats old.de.now.items.levels now.levels c.more_pairs.ensures.formats c.more_pairs.ensures.levels
     g.R.Source.refusals (code_of e) (offset_of e) (there s m old.remaining new more old.de.now.items.formats c.in-Ok-true.field-0-test c.in-Ok-true.ensures.read) c.in-Err-deserialize.ensures.read
 
-pub returns-then-offset-start-clause-read : goal.returns-then-offset-start-clause-read
-returns-then-offset-start-clause-read g c =
-    let old = c.args.self.now in
-    let now = c.more_pairs.new.items in
-    let s = g.R.Source.source old.de.now.items.source in
-    let m = g.R.Source.source now.source in
-    let t = g.R.Source.source c.deserialize.new.de.items.source in
-    let reads = λ (f : Formats). g.K.Readable.reads (context f g.R.Source.lends) in
-    let new = c.more_pairs.new.remaining in
-    let more = c.in-Ok-true.field-0 in
-    let e = c.no_key.result in
-    rw c.no_key.ensures.source (no_key_taken s m old.remaining new more reads old.de.now.items.formats now.formats old.de.now.items.levels now.levels c.more_pairs.ensures.formats c.more_pairs.ensures.levels t c.in-Ok.key
-    g.R.Source.refusals (code_of e) (offset_of e) _ (there s m old.remaining new more old.de.now.items.formats c.in-Ok-true.field-0-test c.in-Ok-true.ensures.read) c.in-Ok.ensures.read
-    (omega (arith, c.if-offset-start.true, c.offset.ensures, c.offset-start.ensures)))
-
-pub returns-clause-read : goal.returns-clause-read
-returns-clause-read g c =
+pub returns-in-Ok-clause-read : goal.returns-in-Ok-clause-read
+returns-in-Ok-clause-read g c =
     let old = c.args.self.now in
     let now = c.more_pairs.new.items in
     let s = g.R.Source.source old.de.now.items.source in
@@ -69,15 +53,6 @@ returns-in-Err-deserialize-clause-bad_key g c =
     let m = g.R.Source.source c.more_pairs.new.items.source in
     let new = c.more_pairs.new.remaining in
     bad_key_later g.R.Source.refusals (formats_of old.de.now.items.formats) old.remaining s new m c.in-Err-deserialize.e
-    (there s m old.remaining new c.in-Ok-true.field-0 old.de.now.items.formats c.in-Ok-true.field-0-test c.in-Ok-true.ensures.read)
-
-pub returns-then-offset-start-clause-bad_key : goal.returns-then-offset-start-clause-bad_key
-returns-then-offset-start-clause-bad_key g c =
-    let old = c.args.self.now in
-    let s = g.R.Source.source old.de.now.items.source in
-    let m = g.R.Source.source c.more_pairs.new.items.source in
-    let new = c.more_pairs.new.remaining in
-    bad_key_later g.R.Source.refusals (formats_of old.de.now.items.formats) old.remaining s new m c.no_key.result
     (there s m old.remaining new c.in-Ok-true.field-0 old.de.now.items.formats c.in-Ok-true.field-0-test c.in-Ok-true.ensures.read)
 
 -- ---- a wrong form

@@ -1,8 +1,7 @@
-use Rattle.std.proofs.Common.{arith}
 use Rattle.cbor_io.specs.Error.{code_of, offset_of}
 use Rattle.cbor_de.specs.declared.formats.Formats.{Formats}
 use Rattle.cbor_scalars.specs.Takes.{context}
-use Rattle.cbor_collections.proofs.facts.Arrays.{comes, item_refused, item_next, nothing_taken}
+use Rattle.cbor_collections.proofs.facts.Arrays.{comes, item_refused, item_next}
 use Rattle.cbor_typed.proofs.Forms.{later_in}
 use Rattle.cbor_typed.proofs.sequence.SeqAccess.next_element.Goals as goal
 
@@ -19,23 +18,8 @@ returns-in-Err-deserialize-clause-read g c =
     item_refused s m old.remaining new more reads old.de.now.items.formats now.formats old.de.now.items.levels now.levels c.more_items.ensures.formats c.more_items.ensures.levels
     g.R.Source.refusals (code_of e) (offset_of e) (comes s m old.remaining new more c.in-Ok-true.field-0-test c.in-Ok-true.ensures.read) c.in-Err-deserialize.ensures.read
 
-pub returns-then-offset-start-clause-read : goal.returns-then-offset-start-clause-read
-returns-then-offset-start-clause-read g c =
-    let old = c.args.self.now in
-    let now = c.more_items.new.items in
-    let s = g.R.Source.source old.de.now.items.source in
-    let m = g.R.Source.source now.source in
-    let t = g.R.Source.source c.deserialize.new.de.items.source in
-    let reads = λ (f : Formats). g.T.Readable.reads (context f g.R.Source.lends) in
-    let new = c.more_items.new.remaining in
-    let more = c.in-Ok-true.field-0 in
-    let e = c.no_item.result in
-    rw c.no_item.ensures.source (nothing_taken s m old.remaining new more reads old.de.now.items.formats now.formats old.de.now.items.levels now.levels c.more_items.ensures.formats c.more_items.ensures.levels t c.in-Ok.item
-    g.R.Source.refusals (code_of e) (offset_of e) _ (comes s m old.remaining new more c.in-Ok-true.field-0-test c.in-Ok-true.ensures.read) c.in-Ok.ensures.read
-    (omega (arith, c.if-offset-start.true, c.offset.ensures, c.offset-start.ensures)))
-
-pub returns-clause-read : goal.returns-clause-read
-returns-clause-read g c =
+pub returns-in-Ok-clause-read : goal.returns-in-Ok-clause-read
+returns-in-Ok-clause-read g c =
     let old = c.args.self.now in
     let now = c.more_items.new.items in
     let s = g.R.Source.source old.de.now.items.source in

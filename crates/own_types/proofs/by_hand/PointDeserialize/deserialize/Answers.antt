@@ -14,7 +14,7 @@ returns-in_err-access-clause-read g c =
 pub fields-init : goal.fields-init
 fields-init g c =
     let access = c.in_ok-access.ensures in
-    fields_begin names fields g.R.Source.source access.head access.formats access.names access.due
+    fields_begin names fields g.R.Source.source access.head access.formats access.names access.due access.taken
 
 -- ---- next_field
 

@@ -1,4 +1,4 @@
-use Rattle.std.proofs.Common.{◌∙◌, rules, ◌≡◌, List, ◌∷◌, ◌++◌, [], refl, sym, subst, Vec, Global, arith}
+use Rattle.std.proofs.Common.{◌∙◌, rules, ◌≡◌, List, ◌∷◌, ◌++◌, [], refl, sym, subst, Vec, Global}
 use Rattle.std.proofs.lemmas.Result.{err_from_is_err_and}
 use Rattle.cbor_model.specs.Raw.{Raws}
 use Rattle.cbor_io.specs.Error.{code_of, offset_of, IsOutOfMemory}
@@ -7,7 +7,7 @@ use Rattle.cbor_de.specs.declared.formats.Formats.{Formats}
 use Rattle.cbor_collections.specs.Arrays.{AreRead}
 use Rattle.cbor_scalars.specs.Takes.{context, formats_of}
 use Rattle.cbor_collections.proofs.facts.Arrays.{EachRead, each_none, each_more, each_all, rest_read, may_follow}
-use Rattle.cbor_collections.proofs.facts.Arrays.{comes, item_next, item_refused, nothing_taken}
+use Rattle.cbor_collections.proofs.facts.Arrays.{comes, item_next, item_refused}
 use Rattle.cbor_collections.proofs.facts.Arrays.{end_twice, loop_begins, loop_goes_on, loop_refused, end_refused, array_takes_to, array_refused, no_array_read}
 use Rattle.cbor_typed.proofs.Elements.{untold_refused, comes_not, nothing_left}
 use Rattle.cbor_scalars.proofs.facts.Refusals.{refuses_on}
@@ -112,32 +112,6 @@ returns-in-Err-deserialize-clause-read g c =
     reads c.items.access.remaining s items g.R.Source.refusals (code_of e) (offset_of e)
     (λ front more v h means. let w = rest_read (reads old.items.formats) front more v.items means in may_follow (reads old.items.formats) more w.0 w.1)
     i.so_far refused)) (took_same (search rules)))
-
-pub returns-then-offset-start-clause-read : goal.returns-then-offset-start-clause-read
-returns-then-offset-start-clause-read g c =
-    let old = c.args.de.now in
-    let first = c.in_ok-access.access.de.now in
-    let i = c.items.invariant in
-    let now = c.items.access.de.now in
-    let mid = c.more.new.self in
-    let s0 = g.R.Source.source first.items.source in
-    let s = g.R.Source.source now.items.source in
-    let m = g.R.Source.source mid.de.now.items.source in
-    let t = g.R.Source.source c.deserialize.new.de.items.source in
-    let reads = λ (f : Formats). g.T.Readable.reads (context f g.R.Source.lends) in
-    let xs = c.items.items.items in
-    let e = c.refuse-then-offset-start.result in
-    let P = EachRead (reads old.items.formats) xs in
-    let items = λ (rs : Raws) (v : Vec g.row.T.Denot Global). AreRead (reads old.items.formats) rs v.items in
-    let came = comes s m c.items.access.remaining mid.remaining c.in-Ok-true.field-0 c.in-Ok-true.field-0-test c.in-Ok-true.ensures.read in
-    refuses_on (array_refused s0 P old.items.formats now.items.formats first.items.levels now.items.levels i.formats i.levels c.in_ok-access.access.remaining
-    items old.items.levels (g.R.Source.source old.items.source) g.R.Source.refusals (code_of e) (offset_of e) c.in_ok-access.ensures.head
-    (loop_refused s0 P old.items.formats now.items.formats first.items.levels now.items.levels i.formats i.levels c.in_ok-access.access.remaining
-    reads c.items.access.remaining s items g.R.Source.refusals (code_of e) (offset_of e)
-    (λ front more v h means. let w = rest_read (reads old.items.formats) front more v.items means in may_follow (reads old.items.formats) more w.0 w.1)
-    i.so_far
-    (nothing_taken s m c.items.access.remaining mid.remaining c.in-Ok-true.field-0 reads now.items.formats mid.de.now.items.formats now.items.levels mid.de.now.items.levels c.more.ensures.formats (search rules) t c.in-Ok.item
-    g.R.Source.refusals (code_of e) (offset_of e) _ came c.in-Ok.ensures.read (omega (arith, c.if-offset-start.true, c.offset.ensures, c.offset-start.ensures))))) (took_same (search rules))
 
 pub returns-in_err-end-clause-read : goal.returns-in_err-end-clause-read
 returns-in_err-end-clause-read g c =
