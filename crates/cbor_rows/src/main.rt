@@ -1,6 +1,8 @@
-//! Answers the tables of rows in `data/`, and tells the rows that are answered otherwise than they say.
+//! Answers the tables of rows in `data/`, and tells the rows that are answered otherwise than they
+//! say.
 #![tactic(auto)]
 
+mod message;
 mod program;
 mod sources;
 mod table;

@@ -1,5 +1,6 @@
 //! Types as users write them.
 
+use crate::message::Message;
 use cbor_tables::{Desk, Row};
 use cbor_tree::tree::Tree;
 use row_types::assorted::Assorted;
@@ -12,7 +13,7 @@ use row_types::optional::{Pair, Settings};
 use row_types::structs::{NewtypeStruct, OptionalPerson, UnitStruct};
 use row_types::weather::Weather;
 use samples::enums::{Bar, Color};
-use samples::nested::{Example, Foo, Message};
+use samples::nested::{Example, Foo};
 use samples::structs::{Mascot, Person, SmallStruct, User};
 use serde_cbor::Deserializer;
 use serde_cbor::de::Read;

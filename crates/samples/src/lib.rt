@@ -1,5 +1,5 @@
-//! Structs and enums as a user of `serde_cbor` writes them, by description: a type within another, and
-//! variants of each kind. To write a type of one's own, begin here.
+//! Structs and enums as a user of `serde_cbor` writes them, by description: a type within another,
+//! and variants of each kind. To write a type of one's own, begin here.
 #![tactic(auto)]
 
 pub mod enums;

@@ -1,12 +1,8 @@
-//! A struct of an enum, a struct of that, and an enum that holds both.
-
-ghost use Rattle.std.specs.Prelude.{map};
-ghost use Rattle.serde_cbor.specs.Schemas.{newtype};
-ghost use Rattle.samples.specs.declared.nested.TheConstants.{MESSAGE};
+//! A struct of an enum, and a struct of that.
 
 use crate::enums::Color;
 use serde_cbor::de::{Deserialize, DeserializeOwned, FromParts, Read, Readable, ReadableParts};
-use serde_cbor::parts::{Newtype, OneOf2, Schema};
+use serde_cbor::parts::Schema;
 use serde_cbor::ser::{PartsDocument, Serialize, Serializer, Write};
 use serde_cbor::{Deserializer, Result};
 
@@ -109,65 +105,5 @@ impl<'de, R: Read<'de>> Deserialize<'de, R> for Example {
 }
 
 impl DeserializeOwned for Example {
-    ghost same = { λ f a b r v h. h };
-}
-
-/// What is sent.
-#[derive(Debug, Drop)]
-pub enum Message {
-    Ping,
-    Send(Example),
-}
-
-/// The names of its variants.
-const MESSAGE: &[&str] = &["Ping", "Send"];
-
-impl Schema for Message {
-    ghost use Rattle.serde_cbor.specs.OneOf2 as one_of;
-    ghost use Rattle.samples.specs.declared.nested.Message.TheVariants as at;
-
-    type Parts = OneOf2<(), Newtype<Example>>;
-
-    ghost names = { map (λ n. n.now) MESSAGE.now };
-
-    ghost parts = { elim [
-      | at.Ping ↦ one_of.first tt
-      | at.Send x ↦ one_of.second (newtype x)
-    ] };
-}
-
-impl Serialize for Message {
-    ghost document = { λ x. ⟦<<Message as Schema>::Parts as PartsDocument>⟧.document
-        ⟦<Message as Schema>⟧.names (⟦<Message as Schema>⟧.parts x) };
-
-    fn serialize<W: Write>(&self, ser: &mut Serializer<W>) -> Result<()> {
-        match self {
-            Message::Ping => ser.serialize_variant(MESSAGE, 0, &()),
-            Message::Send(x) => ser.serialize_variant(MESSAGE, 1, &Newtype(x)),
-        }
-    }
-}
-
-impl FromParts for Message {
-    fn from_parts(from: Self::Parts) -> Message {
-        match from {
-            OneOf2::First(()) => Message::Ping,
-            OneOf2::Second(Newtype(x)) => Message::Send(x),
-        }
-    }
-}
-
-impl Readable for Message {
-    ghost reads = { λ c r x. ⟦<<Message as Schema>::Parts as ReadableParts>⟧.reads
-        ⟦<Message as Schema>⟧.names c r (⟦<Message as Schema>⟧.parts x) };
-}
-
-impl<'de, R: Read<'de>> Deserialize<'de, R> for Message {
-    fn deserialize(de: &mut Deserializer<R>) -> Result<Message> {
-        Self::read_described(de, MESSAGE)
-    }
-}
-
-impl DeserializeOwned for Message {
     ghost same = { λ f a b r v h. h };
 }

@@ -110,6 +110,7 @@ impl DeserializeOwned for SmallStruct {
     ghost same = { λ f a b r v h. h };
 }
 
+/// A struct of texts and a number.
 #[derive(Debug, Drop)]
 pub struct Mascot {
     pub name: String,
@@ -165,6 +166,7 @@ impl DeserializeOwned for Mascot {
     ghost same = { λ f a b r v h. h };
 }
 
+/// A struct with a field that may be null.
 #[derive(Debug, Drop)]
 pub struct Person {
     pub name: String,
