@@ -237,6 +237,10 @@ abbrev pub slice_input : List ℕ → ℕ → List ℕ → Option ℕ → Input
 slice_input bs taken buffer room =
     record { to_come = Some (drop taken bs); buffer = buffer; offset = taken; room = room }
 
+-- a slice of which nothing was taken, where so many bytes of chunks can be joined
+abbrev pub unread_slice : List ℕ → Option ℕ → Input
+unread_slice bs room = slice_input bs 0 [] room
+
 -- the bytes that a reader has left, after the byte that was peeked
 abbrev pub with_peeked : Option ℕ → Option (List ℕ) → Option (List ℕ)
 with_peeked None remaining = remaining
@@ -251,6 +255,10 @@ reader_input peeked remaining buffer offset =
       offset = offset;
       room = None;
     }
+
+-- a reader of which nothing was taken
+abbrev pub unread_reader : Option (List ℕ) → Input
+unread_reader remaining = reader_input None remaining [] 0
 
 -- which codes each source may answer
 abbrev pub slice_refusals : ReadErrorCode → Bool

@@ -3,7 +3,7 @@
 ghost use Rattle.std.specs.Prelude.{◌≡◌, ◌≤◌, false, [], None, Some, length};
 ghost use Rattle.cbor_model.specs.Acceptable.{max_depth};
 ghost use Rattle.cbor_model.specs.Formats.{all_formats};
-ghost use Rattle.cbor_read.specs.Source.{slice_input, reader_input};
+ghost use Rattle.cbor_read.specs.Source.{unread_slice, unread_reader};
 ghost use Rattle.cbor_read.specs.Sources.{input_of_slice, input_of_slice_fixed, input_of_mut_slice};
 ghost use Rattle.cbor_read.specs.Sources.{input_of_reader};
 ghost use Rattle.cbor_de.specs.AtEnd.{EndTakes};
@@ -17,8 +17,8 @@ use std::alloc::Global;
 use std::io;
 
 /// Reads types from a source: a slice, a slice with a scratch, a slice that is rewritten, any
-/// reader, or a source of the caller's own. Arrays, maps and tags may be nested 127 levels deep, or as
-/// many as [`nesting_limit`](Deserializer::nesting_limit) says.
+/// reader, or a source of the caller's own. Arrays, maps and tags may be nested 127 levels deep, or
+/// as many as [`nesting_limit`](Deserializer::nesting_limit) says.
 ///
 /// ```rust
 /// let mut de = Deserializer::from_slice(alloc, b"\x18\x2a\xf5");
@@ -43,7 +43,7 @@ impl<'a> Deserializer<SliceRead<'a>> {
     /// de.end()?;
     /// ```
     pub fn from_slice(alloc: Global, slice: &'a [u8]) -> Deserializer<SliceRead<'a>>
-        ensures input { input_of_slice result.items.source ≡ slice_input slice.now 0 [] None }
+        ensures input { input_of_slice result.items.source ≡ unread_slice slice.now None }
         ensures levels { result.items.levels ≡ max_depth }
         ensures formats { formats_of result.items.formats ≡ all_formats }
     {
@@ -67,7 +67,7 @@ impl<'a, 'b> Deserializer<SliceReadFixed<'a, 'b>> {
         scratch: &'b mut [u8],
     ) -> Deserializer<SliceReadFixed<'a, 'b>>
         ensures input { input_of_slice_fixed result.items.source
-            ≡ slice_input slice.now 0 [] (Some (length scratch.old)) }
+            ≡ unread_slice slice.now (Some (length scratch.old)) }
         ensures levels { result.items.levels ≡ max_depth }
         ensures formats { formats_of result.items.formats ≡ all_formats }
     {
@@ -84,7 +84,7 @@ impl<'a> Deserializer<MutSliceRead<'a>> {
     /// assert_eq!(rt; String::deserialize(&mut de)?.as_str(), "ab");
     /// ```
     pub fn from_mut_slice(alloc: Global, slice: &'a mut [u8]) -> Deserializer<MutSliceRead<'a>>
-        ensures input { input_of_mut_slice result.items.source ≡ slice_input slice.old 0 [] None }
+        ensures input { input_of_mut_slice result.items.source ≡ unread_slice slice.old None }
         ensures levels { result.items.levels ≡ max_depth }
         ensures formats { formats_of result.items.formats ≡ all_formats }
     {
@@ -102,7 +102,7 @@ impl<R: io::Read + Drop> Deserializer<IoRead<R>> {
     /// ```
     pub fn from_reader(alloc: Global, reader: R) -> Deserializer<IoRead<R>>
         ensures input { input_of_reader R.remaining result.items.source
-            ≡ reader_input None (R.remaining reader) [] 0 }
+            ≡ unread_reader (R.remaining reader) }
         ensures levels { result.items.levels ≡ max_depth }
         ensures formats { formats_of result.items.formats ≡ all_formats }
     {
@@ -162,7 +162,8 @@ impl<R: Source> Deserializer<R> {
 
     /// Arrays, maps and tags may be nested so many levels deep from now on, in place of 127, and at
     /// most 254: else `RecursionLimitExceeded`, after the head of the array, map or tag that is one
-    /// level more. The chunks of a string are no level. It and the other switches may come in any order.
+    /// level more. The chunks of a string are no level. It and the other switches may come in any
+    /// order.
     ///
     /// That `n` is at most 254, and that no tag of [`read_tag`](Deserializer::read_tag) stands, are
     /// the caller's conditions.

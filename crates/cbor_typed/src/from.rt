@@ -14,7 +14,7 @@ ghost use Rattle.cbor_io.specs.Error.{IsOutOfMemory};
 ghost use Rattle.cbor_de.specs.FirstRefusal.{TellsFirst};
 ghost use Rattle.cbor_de.specs.Gives.{Fails, FailsOrFaults, Gave};
 ghost use Rattle.cbor_de.specs.Gives.{IsMemoryOrFault, IsScratchOrMemory};
-ghost use Rattle.cbor_read.specs.Source.{asks_for, reader_input, slice_input};
+ghost use Rattle.cbor_read.specs.Source.{asks_for, unread_reader, unread_slice};
 ghost use Rattle.cbor_scalars.specs.Takes.{context, formats_of, lending, MemoryFor, WhereTotal};
 ghost use Rattle.cbor_typed.specs.Forms.{MayTell};
 ghost use Rattle.cbor_typed.specs.Whole.{ReadsAll, RefusesBytes, TellsWhole, from_slice_context};
@@ -129,9 +129,9 @@ pub fn from_slice<'a, T: Deserialize<'a, SliceRead<'a>>>(
     // Each such item is read, unless memory runs out.
     ensures accepted { (x : T) → SpellsAs all_formats (T.reads from_slice_context) slice.now x
         → IfErr result IsOutOfMemory }
-    // Memory runs out only for an item for which the type may ask for it: bool, numbers, floats, (),
-    // borrowed strings, Option of these, and a Value that is a number, a bool, a float or null ask
-    // for none, so that where such an item is there it is read.
+    // Memory runs out only for an item for which the type may ask for it: bool, numbers, floats,
+    // (), borrowed strings, Option of these, and a Value that is a number, a bool, a float or null
+    // ask for none, so that where such an item is there it is read.
     ensures memory { (x : T)
         → (spelt : SpellsAs all_formats (T.reads from_slice_context) slice.now x)
         → IfErr result (λ e. T.asks_memory from_slice_asks spelt.item) }
@@ -152,8 +152,7 @@ pub fn from_slice<'a, T: Deserialize<'a, SliceRead<'a>>>(
     ensures fault { IfErr result (λ e. WhereTotal T.passes_over
         (RefusesBytes ⊥ (T.reads from_slice_context) None slice.now e)) }
     // A wrong form is told by a code, and at a place, that the type may tell it by and at.
-    ensures form { IfErr result (MayTell T.wrong_forms all_formats
-        (slice_input slice.now 0 [] None)) }
+    ensures form { IfErr result (MayTell T.wrong_forms all_formats (unread_slice slice.now None)) }
 {
     read_all(alloc, SliceRead::new(alloc, slice))
 }
@@ -202,7 +201,7 @@ pub fn from_slice_with_scratch<'a, T: Deserialize<'a, SliceReadFixed<'a, 'a>>>(
     ensures fault { IfErr result (λ e. WhereTotal T.passes_over (RefusesBytes ⊥
         (T.reads from_slice_context) (Some (length scratch.old)) slice.now e)) }
     ensures form { IfErr result (MayTell T.wrong_forms all_formats
-        (slice_input slice.now 0 [] (Some (length scratch.old)))) }
+        (unread_slice slice.now (Some (length scratch.old)))) }
 {
     read_all(alloc, SliceReadFixed::new(slice, scratch))
 }
@@ -210,8 +209,8 @@ pub fn from_slice_with_scratch<'a, T: Deserialize<'a, SliceReadFixed<'a, 'a>>>(
 /// What the one item that the bytes spell is read as, as by [`from_slice`]. The slice is rewritten:
 /// strings in chunks are joined in place. What it holds afterwards isn't said.
 ///
-/// Beside what `from_slice` takes no memory for, none is taken for a borrowed string, a `char` and a
-/// `ByteArray` in chunks, and for an `IgnoredAny`.
+/// Beside what `from_slice` takes no memory for, none is taken for a borrowed string, a `char` and
+/// a `ByteArray` in chunks, and for an `IgnoredAny`.
 ///
 /// ```rust
 /// let number: i64 = from_mut_slice(alloc, &mut [0x38, 0x7f])?;
@@ -238,8 +237,7 @@ pub fn from_mut_slice<'a, T: Deserialize<'a, MutSliceRead<'a>>>(
         WhereTotal T.total (Fails (length slice.old) e (read_value slice.old))) }
     ensures fault { IfErr result (λ e. WhereTotal T.passes_over
         (RefusesBytes ⊥ (T.reads from_mut_slice_context) None slice.old e)) }
-    ensures form { IfErr result (MayTell T.wrong_forms all_formats
-        (slice_input slice.old 0 [] None)) }
+    ensures form { IfErr result (MayTell T.wrong_forms all_formats (unread_slice slice.old None)) }
 {
     are_bytes(slice);
     read_all(alloc, MutSliceRead::new(slice))
@@ -296,7 +294,7 @@ pub fn from_reader<'de, T: DeserializeOwned + Deserialize<'de, IoRead<R>>, R: io
         → IfErr result (λ e. WhereTotal T.passes_over
         (RefusesBytes ⊤ (T.reads from_reader_context) None bytes e)) }
     ensures form { IfErr result (MayTell T.wrong_forms all_formats
-        (reader_input None (R.remaining reader) [] 0)) }
+        (unread_reader (R.remaining reader))) }
 {
     read_all(alloc, IoRead::new(alloc, reader))
 }
