@@ -1,5 +1,5 @@
 -- By which codes a type may refuse an item for its form, and where.
-use Rattle.std.specs.Prelude.{⊤, ◌⊎◌, ◌+◌, ◌≡◌, ℕ, Bool, true, false, List, length}
+use Rattle.std.specs.Prelude.{⊤, ◌⊎◌, ◌+◌, ◌≡◌, ℕ, Bool, true, false, List, length, refl}
 use Rattle.cbor_model.specs.Formats.{Formats}
 use Rattle.cbor_model.specs.Refusal.{wrong_struct_format}
 use Rattle.cbor_model.specs.Reader.{item_at}
@@ -112,3 +112,13 @@ unit_form = told (TellsNameAlone ArrayTooLong)
 -- of a variant of one part
 abbrev pub part_form : WrongForms
 part_form = told (TellsNameAlone ArrayTooShort)
+
+-- ---- examples
+
+-- a pair of numbers
+pair_of_numbers : both never never ≡ never
+pair_of_numbers = refl
+
+-- a struct of two numbers: what any struct may tell
+struct_of_numbers : both struct_form (both never (both never never)) ≡ struct_form
+struct_of_numbers = refl
