@@ -11,7 +11,7 @@ ghost use Rattle.cbor_collections.specs.Accesses.{TakesMore, TakesEnd};
 ghost use Rattle.cbor_scalars.specs.Takes.{formats_of};
 
 use cbor_de::{Collection, Deserializer, Head, Remaining};
-use cbor_io::error::{Error, Result};
+use cbor_io::error::Result;
 use cbor_read::Source;
 use cbor_scalars::opening::{mismatch, open};
 

@@ -17,7 +17,7 @@ ghost use Rattle.cbor_collections.specs.MapAccesses.{TakesMorePairs, TakesMapEnd
 ghost use Rattle.cbor_scalars.specs.Takes.{OnceMade, formats_of};
 
 use cbor_de::{Collection, Deserializer, Done, Head, Remaining};
-use cbor_io::error::{Error, Result};
+use cbor_io::error::Result;
 use cbor_read::{ReadErrorCode, Source};
 use cbor_scalars::opening::{mismatch, open};
 

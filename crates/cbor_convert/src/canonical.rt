@@ -16,8 +16,8 @@ use std::alloc::Global;
 /// no others.
 ///
 /// `to_vec` of a type is no such spelling: it writes a struct's fields in the order of their
-/// declaration, and a `BTreeMap`'s pairs in that of its keys. Here each map's pairs are in the order
-/// of their keys' bytes.
+/// declaration, and a `BTreeMap`'s pairs in that of its keys. Here each map's pairs are in the
+/// order of their keys' bytes.
 ///
 /// It refuses what `to_vec` refuses.
 ///

@@ -59,7 +59,8 @@ impl<R: Source> Deserializer<R> {
         ensures read { MatchOption result (R.source self.new.source ≡ R.source self.old.source)
             (λ n. HeadGives R.refusals opening_at (R.source self.old.source)
             (R.source self.new.source) self.new.refusal (Ok (Text (Some n)))) }
-        ensures taken { OnSome result (Onward (R.source self.old.source) (R.source self.new.source)) }
+        ensures taken { OnSome result (Onward (R.source self.old.source)
+            (R.source self.new.source)) }
         ensures levels { self.new.levels ≡ self.old.levels }
         ensures formats { self.new.formats ≡ self.old.formats }
     {

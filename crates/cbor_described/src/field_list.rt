@@ -74,8 +74,8 @@ pub(crate) trait ReadFields<'de, R: Read<'de>>: FieldList {
         ensures formats { de.new.items.formats ≡ de.old.items.formats };
 }
 
-// A field of a struct, which is read from a source. What has several fields asks for this of each: of a
-// type's own promises only those that a field needs are passed on then.
+// A field of a struct, which is read from a source. What has several fields asks for this of each:
+// of a type's own promises only those that a field needs are passed on then.
 pub(crate) trait ReadField<'de, R: Read<'de>>: FieldType {
     // Reads the value of the field into its slot. A slot that has a value is refused with
     // ``duplicate field `id` ``.

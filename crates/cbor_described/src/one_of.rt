@@ -1,7 +1,8 @@
 //! Enums that are read as one of their variants.
 
 ghost use Rattle.std.specs.Prelude.{◌≡◌};
-ghost use Rattle.cbor_described.specs.OneOfs.{list1, list2, list3, list4, list5, list6, list7, list8};
+ghost use Rattle.cbor_described.specs.OneOfs.{list1, list2, list3, list4};
+ghost use Rattle.cbor_described.specs.OneOfs.{list5, list6, list7, list8};
 
 use crate::parts::{ReadParts, ReadableParts};
 use crate::variant_list::{Never, OneOf, ReadVariant, Variant, read_variants};
@@ -83,7 +84,8 @@ impl<A: Variant, B: Variant, C: Variant> ReadableParts for OneOf3<A, B, C> {
         (either (C.means c) no_variant))))
         r (list3 x) };
 
-    ghost wrong_forms = { both enum_form (both A.wrong_forms (both B.wrong_forms (both C.wrong_forms never))) };
+    ghost wrong_forms = { both enum_form (both A.wrong_forms (both B.wrong_forms
+        (both C.wrong_forms never))) };
 }
 
 impl<
@@ -125,7 +127,8 @@ impl<A: Variant, B: Variant, C: Variant, D: Variant> ReadableParts for OneOf4<A,
         (either (D.means c) no_variant)))))
         r (list4 x) };
 
-    ghost wrong_forms = { both enum_form (both A.wrong_forms (both B.wrong_forms (both C.wrong_forms (both D.wrong_forms never)))) };
+    ghost wrong_forms = { both enum_form (both A.wrong_forms (both B.wrong_forms (both C.wrong_forms
+        (both D.wrong_forms never)))) };
 }
 
 impl<
@@ -173,7 +176,8 @@ impl<A: Variant, B: Variant, C: Variant, D: Variant, E: Variant> ReadableParts
         (either (E.means c) no_variant))))))
         r (list5 x) };
 
-    ghost wrong_forms = { both enum_form (both A.wrong_forms (both B.wrong_forms (both C.wrong_forms (both D.wrong_forms (both E.wrong_forms never))))) };
+    ghost wrong_forms = { both enum_form (both A.wrong_forms (both B.wrong_forms (both C.wrong_forms
+        (both D.wrong_forms (both E.wrong_forms never))))) };
 }
 
 impl<
@@ -226,7 +230,8 @@ impl<A: Variant, B: Variant, C: Variant, D: Variant, E: Variant, F: Variant> Rea
         (either (F.means c) no_variant)))))))
         r (list6 x) };
 
-    ghost wrong_forms = { both enum_form (both A.wrong_forms (both B.wrong_forms (both C.wrong_forms (both D.wrong_forms (both E.wrong_forms (both F.wrong_forms never)))))) };
+    ghost wrong_forms = { both enum_form (both A.wrong_forms (both B.wrong_forms (both C.wrong_forms
+        (both D.wrong_forms (both E.wrong_forms (both F.wrong_forms never)))))) };
 }
 
 impl<
@@ -290,7 +295,9 @@ impl<
         (either (G.means c) no_variant))))))))
         r (list7 x) };
 
-    ghost wrong_forms = { both enum_form (both A.wrong_forms (both B.wrong_forms (both C.wrong_forms (both D.wrong_forms (both E.wrong_forms (both F.wrong_forms (both G.wrong_forms never))))))) };
+    ghost wrong_forms = { both enum_form (both A.wrong_forms (both B.wrong_forms (both C.wrong_forms
+        (both D.wrong_forms (both E.wrong_forms (both F.wrong_forms
+        (both G.wrong_forms never))))))) };
 }
 
 impl<
@@ -362,7 +369,9 @@ impl<
         (either (H.means c) no_variant)))))))))
         r (list8 x) };
 
-    ghost wrong_forms = { both enum_form (both A.wrong_forms (both B.wrong_forms (both C.wrong_forms (both D.wrong_forms (both E.wrong_forms (both F.wrong_forms (both G.wrong_forms (both H.wrong_forms never)))))))) };
+    ghost wrong_forms = { both enum_form (both A.wrong_forms (both B.wrong_forms (both C.wrong_forms
+        (both D.wrong_forms (both E.wrong_forms (both F.wrong_forms (both G.wrong_forms
+        (both H.wrong_forms never)))))))) };
 }
 
 impl<

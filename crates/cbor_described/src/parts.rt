@@ -10,8 +10,8 @@ use cbor_io::error::Result;
 use cbor_parts::{Newtype, Parts, Schema};
 use cbor_typed::{Deserialize, Deserializer, Read, Readable};
 
-/// The parts of a struct, a tuple of its fields or a [`Newtype`] of its one part, or of an enum, one
-/// of its variants.
+/// The parts of a struct, a tuple of its fields or a [`Newtype`] of its one part, or of an enum,
+/// one of its variants.
 pub trait ReadableParts: Parts {
     ghost use Rattle.std.specs.Prelude.{List, ℕ};
     ghost use Rattle.cbor_model.specs.Raw.{Raw};

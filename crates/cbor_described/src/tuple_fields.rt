@@ -65,7 +65,8 @@ impl<A: FieldType, B: FieldType, C: FieldType> ReadableParts for (A, B, C) {
         ∷ field_or (C.reads c) C.missing (λ p. p.1.1.0) ∷ [])
         r (x.0, (x.1, (x.2, tt))) };
 
-    ghost wrong_forms = { both struct_form (both A.Of.wrong_forms (both B.Of.wrong_forms (both C.Of.wrong_forms never))) };
+    ghost wrong_forms = { both struct_form (both A.Of.wrong_forms (both B.Of.wrong_forms
+        (both C.Of.wrong_forms never))) };
 }
 
 impl<'de, R: Read<'de>, A: ReadField<'de, R>, B: ReadField<'de, R>, C: ReadField<'de, R>> ReadParts<
@@ -95,7 +96,8 @@ impl<A: FieldType, B: FieldType, C: FieldType, D: FieldType> ReadableParts for (
         ∷ field_or (D.reads c) D.missing (λ p. p.3) ∷ [])
         r (x.0, x.1, x.2, x.3, tt) };
 
-    ghost wrong_forms = { both struct_form (both A.Of.wrong_forms (both B.Of.wrong_forms (both C.Of.wrong_forms (both D.Of.wrong_forms never)))) };
+    ghost wrong_forms = { both struct_form (both A.Of.wrong_forms (both B.Of.wrong_forms
+        (both C.Of.wrong_forms (both D.Of.wrong_forms never)))) };
 }
 
 impl<
@@ -131,7 +133,8 @@ impl<A: FieldType, B: FieldType, C: FieldType, D: FieldType, E: FieldType> Reada
         ∷ field_or (E.reads c) E.missing (λ p. p.4.0) ∷ [])
         r (x.0, x.1, x.2, x.3, (x.4, tt)) };
 
-    ghost wrong_forms = { both struct_form (both A.Of.wrong_forms (both B.Of.wrong_forms (both C.Of.wrong_forms (both D.Of.wrong_forms (both E.Of.wrong_forms never))))) };
+    ghost wrong_forms = { both struct_form (both A.Of.wrong_forms (both B.Of.wrong_forms
+        (both C.Of.wrong_forms (both D.Of.wrong_forms (both E.Of.wrong_forms never))))) };
 }
 
 impl<
@@ -178,7 +181,9 @@ impl<
         ∷ field_or (F.reads c) F.missing (λ p. p.4.1.0) ∷ [])
         r (x.0, x.1, x.2, x.3, (x.4, (x.5, tt))) };
 
-    ghost wrong_forms = { both struct_form (both A.Of.wrong_forms (both B.Of.wrong_forms (both C.Of.wrong_forms (both D.Of.wrong_forms (both E.Of.wrong_forms (both F.Of.wrong_forms never)))))) };
+    ghost wrong_forms = { both struct_form (both A.Of.wrong_forms (both B.Of.wrong_forms
+        (both C.Of.wrong_forms (both D.Of.wrong_forms (both E.Of.wrong_forms
+        (both F.Of.wrong_forms never)))))) };
 }
 
 impl<
@@ -228,7 +233,9 @@ impl<
         ∷ field_or (G.reads c) G.missing (λ p. p.4.1.1.0) ∷ [])
         r (x.0, x.1, x.2, x.3, (x.4, (x.5, (x.6, tt)))) };
 
-    ghost wrong_forms = { both struct_form (both A.Of.wrong_forms (both B.Of.wrong_forms (both C.Of.wrong_forms (both D.Of.wrong_forms (both E.Of.wrong_forms (both F.Of.wrong_forms (both G.Of.wrong_forms never))))))) };
+    ghost wrong_forms = { both struct_form (both A.Of.wrong_forms (both B.Of.wrong_forms
+        (both C.Of.wrong_forms (both D.Of.wrong_forms (both E.Of.wrong_forms (both F.Of.wrong_forms
+        (both G.Of.wrong_forms never))))))) };
 }
 
 impl<
@@ -281,7 +288,9 @@ impl<
         ∷ field_or (H.reads c) H.missing (λ p. p.4.3) ∷ [])
         r (x.0, x.1, x.2, x.3, (x.4, x.5, x.6, x.7, tt)) };
 
-    ghost wrong_forms = { both struct_form (both A.Of.wrong_forms (both B.Of.wrong_forms (both C.Of.wrong_forms (both D.Of.wrong_forms (both E.Of.wrong_forms (both F.Of.wrong_forms (both G.Of.wrong_forms (both H.Of.wrong_forms never)))))))) };
+    ghost wrong_forms = { both struct_form (both A.Of.wrong_forms (both B.Of.wrong_forms
+        (both C.Of.wrong_forms (both D.Of.wrong_forms (both E.Of.wrong_forms (both F.Of.wrong_forms
+        (both G.Of.wrong_forms (both H.Of.wrong_forms never)))))))) };
 }
 
 impl<
@@ -325,7 +334,8 @@ impl<
     ghost use Rattle.cbor_typed.specs.Forms.{both, never, struct_form};
     ghost use Rattle.cbor_typed.specs.Structs.{IsStruct, field_or};
 
-    ghost reads = { λ names c r x. IsStruct {S = A × B × C × D × (E × F × G × H × (I × Unit {0}))} names
+    ghost reads = { λ names c r x. IsStruct
+        {S = A × B × C × D × (E × F × G × H × (I × Unit {0}))} names
         (field_or (A.reads c) A.missing (λ p. p.0)
         ∷ field_or (B.reads c) B.missing (λ p. p.1)
         ∷ field_or (C.reads c) C.missing (λ p. p.2)
@@ -337,7 +347,9 @@ impl<
         ∷ field_or (I.reads c) I.missing (λ p. p.4.4.0) ∷ [])
         r (x.0, x.1, x.2, x.3, (x.4, x.5, x.6, x.7, (x.8, tt))) };
 
-    ghost wrong_forms = { both struct_form (both A.Of.wrong_forms (both B.Of.wrong_forms (both C.Of.wrong_forms (both D.Of.wrong_forms (both E.Of.wrong_forms (both F.Of.wrong_forms (both G.Of.wrong_forms (both H.Of.wrong_forms (both I.Of.wrong_forms never))))))))) };
+    ghost wrong_forms = { both struct_form (both A.Of.wrong_forms (both B.Of.wrong_forms
+        (both C.Of.wrong_forms (both D.Of.wrong_forms (both E.Of.wrong_forms (both F.Of.wrong_forms
+        (both G.Of.wrong_forms (both H.Of.wrong_forms (both I.Of.wrong_forms never))))))))) };
 }
 
 impl<
@@ -387,7 +399,8 @@ impl<
     ghost use Rattle.cbor_typed.specs.Forms.{both, never, struct_form};
     ghost use Rattle.cbor_typed.specs.Structs.{IsStruct, field_or};
 
-    ghost reads = { λ names c r x. IsStruct {S = A × B × C × D × (E × F × G × H × (I × (J × Unit {0})))} names
+    ghost reads = { λ names c r x. IsStruct
+        {S = A × B × C × D × (E × F × G × H × (I × (J × Unit {0})))} names
         (field_or (A.reads c) A.missing (λ p. p.0)
         ∷ field_or (B.reads c) B.missing (λ p. p.1)
         ∷ field_or (C.reads c) C.missing (λ p. p.2)
@@ -400,7 +413,10 @@ impl<
         ∷ field_or (J.reads c) J.missing (λ p. p.4.4.1.0) ∷ [])
         r (x.0, x.1, x.2, x.3, (x.4, x.5, x.6, x.7, (x.8, (x.9, tt)))) };
 
-    ghost wrong_forms = { both struct_form (both A.Of.wrong_forms (both B.Of.wrong_forms (both C.Of.wrong_forms (both D.Of.wrong_forms (both E.Of.wrong_forms (both F.Of.wrong_forms (both G.Of.wrong_forms (both H.Of.wrong_forms (both I.Of.wrong_forms (both J.Of.wrong_forms never)))))))))) };
+    ghost wrong_forms = { both struct_form (both A.Of.wrong_forms (both B.Of.wrong_forms
+        (both C.Of.wrong_forms (both D.Of.wrong_forms (both E.Of.wrong_forms (both F.Of.wrong_forms
+        (both G.Of.wrong_forms (both H.Of.wrong_forms (both I.Of.wrong_forms
+        (both J.Of.wrong_forms never)))))))))) };
 }
 
 impl<
@@ -461,7 +477,8 @@ impl<
     ghost use Rattle.cbor_typed.specs.Forms.{both, never, struct_form};
     ghost use Rattle.cbor_typed.specs.Structs.{IsStruct, field_or};
 
-    ghost reads = { λ names c r x. IsStruct {S = A × B × C × D × (E × F × G × H × (I × (J × (K × Unit {0}))))} names
+    ghost reads = { λ names c r x. IsStruct
+        {S = A × B × C × D × (E × F × G × H × (I × (J × (K × Unit {0}))))} names
         (field_or (A.reads c) A.missing (λ p. p.0)
         ∷ field_or (B.reads c) B.missing (λ p. p.1)
         ∷ field_or (C.reads c) C.missing (λ p. p.2)
@@ -475,7 +492,10 @@ impl<
         ∷ field_or (K.reads c) K.missing (λ p. p.4.4.1.1.0) ∷ [])
         r (x.0, x.1, x.2, x.3, (x.4, x.5, x.6, x.7, (x.8, (x.9, (x.10, tt))))) };
 
-    ghost wrong_forms = { both struct_form (both A.Of.wrong_forms (both B.Of.wrong_forms (both C.Of.wrong_forms (both D.Of.wrong_forms (both E.Of.wrong_forms (both F.Of.wrong_forms (both G.Of.wrong_forms (both H.Of.wrong_forms (both I.Of.wrong_forms (both J.Of.wrong_forms (both K.Of.wrong_forms never))))))))))) };
+    ghost wrong_forms = { both struct_form (both A.Of.wrong_forms (both B.Of.wrong_forms
+        (both C.Of.wrong_forms (both D.Of.wrong_forms (both E.Of.wrong_forms (both F.Of.wrong_forms
+        (both G.Of.wrong_forms (both H.Of.wrong_forms (both I.Of.wrong_forms (both J.Of.wrong_forms
+        (both K.Of.wrong_forms never))))))))))) };
 }
 
 impl<
@@ -538,7 +558,8 @@ impl<
     ghost use Rattle.cbor_typed.specs.Forms.{both, never, struct_form};
     ghost use Rattle.cbor_typed.specs.Structs.{IsStruct, field_or};
 
-    ghost reads = { λ names c r x. IsStruct {S = A × B × C × D × (E × F × G × H × (I × J × K × L × Unit {0}))} names
+    ghost reads = { λ names c r x. IsStruct
+        {S = A × B × C × D × (E × F × G × H × (I × J × K × L × Unit {0}))} names
         (field_or (A.reads c) A.missing (λ p. p.0)
         ∷ field_or (B.reads c) B.missing (λ p. p.1)
         ∷ field_or (C.reads c) C.missing (λ p. p.2)
@@ -553,7 +574,10 @@ impl<
         ∷ field_or (L.reads c) L.missing (λ p. p.4.4.3) ∷ [])
         r (x.0, x.1, x.2, x.3, (x.4, x.5, x.6, x.7, (x.8, x.9, x.10, x.11, tt))) };
 
-    ghost wrong_forms = { both struct_form (both A.Of.wrong_forms (both B.Of.wrong_forms (both C.Of.wrong_forms (both D.Of.wrong_forms (both E.Of.wrong_forms (both F.Of.wrong_forms (both G.Of.wrong_forms (both H.Of.wrong_forms (both I.Of.wrong_forms (both J.Of.wrong_forms (both K.Of.wrong_forms (both L.Of.wrong_forms never)))))))))))) };
+    ghost wrong_forms = { both struct_form (both A.Of.wrong_forms (both B.Of.wrong_forms
+        (both C.Of.wrong_forms (both D.Of.wrong_forms (both E.Of.wrong_forms (both F.Of.wrong_forms
+        (both G.Of.wrong_forms (both H.Of.wrong_forms (both I.Of.wrong_forms (both J.Of.wrong_forms
+        (both K.Of.wrong_forms (both L.Of.wrong_forms never)))))))))))) };
 }
 
 impl<

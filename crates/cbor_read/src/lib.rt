@@ -1,8 +1,8 @@
 //! Sources: what the bytes of an input are taken from.
 //!
-//! They know bytes alone, and no item. The crates above rely on the contracts of the public calls and
-//! on the words of `specs/`: `Source` (what a source is, and what each call takes of it) and `Sources`
-//! (the `Input` that each source of this crate is).
+//! They know bytes alone, and no item. The crates above rely on the contracts of the public calls
+//! and on the words of `specs/`: `Source` (what a source is, and what each call takes of it) and
+//! `Sources` (the `Input` that each source of this crate is).
 #![tactic(auto)]
 
 ghost use Rattle.std.specs.Prelude.{◌≡◌, ◌≢◌, ℕ, ◌<◌, ◌≤◌, ◌^◌, Bool, List, [], ◌∷◌, length, take};

@@ -320,7 +320,8 @@ impl<
     ghost use Rattle.cbor_round.specs.Fields.{field_back, last_field_back, struct_back};
     ghost use Rattle.cbor_round.specs.PartsLaws.{fields12};
 
-    ghost law = { fields12 A.law B.law C.law D.law E.law F.law G.law H.law I.law J.law K.law L.law };
+    ghost law = { fields12 A.law B.law C.law D.law E.law F.law G.law
+        H.law I.law J.law K.law L.law };
 
     ghost back = { struct_back (field_back A.read_back (field_back B.read_back (field_back
         C.read_back (field_back D.read_back (field_back E.read_back (field_back F.read_back

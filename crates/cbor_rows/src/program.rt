@@ -3,9 +3,9 @@
 use crate::table::{Tally, answer};
 use std::{env, fs, io};
 
-/// Answers the tables that the program's words name, and returns whether all rows are answered as they
-/// say. It tells the rows that are not, and how many there were; `each` before the names has each step
-/// of each row told. A table that can't be read, or has no rows, counts as a wrong row.
+/// Answers the tables that the program's words name, and returns whether all rows are answered as
+/// they say. It tells the rows that are not, and how many there were; `each` before the names has
+/// each step of each row told. A table that can't be read, or has no rows, counts as a wrong row.
 pub fn run(rt: &HostRuntime) -> io::Result<bool> {
     let mut all = Tally { rows: 0, wrong: 0 };
     let mut tables = 0usize;

@@ -15,8 +15,8 @@ use cbor_io::error::Result;
 use cbor_io::write::Write;
 use cbor_parts::{Newtype, Tuple};
 
-/// The content of a variant, to be written: `()`, [`Newtype`] of a reference, [`Tuple`] of a tuple of
-/// references, or [`NamedFields`].
+/// The content of a variant, to be written: `()`, [`Newtype`] of a reference, [`Tuple`] of a tuple
+/// of references, or [`NamedFields`].
 pub trait SerializeVariant {
     ghost use Rattle.std.specs.Prelude.{List, ℕ};
     ghost use Rattle.cbor_model.specs.Document.{Doc};

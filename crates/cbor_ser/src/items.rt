@@ -3,7 +3,8 @@
 //! A step returns no more than whether it was refused, and leaves the error with its caller: an
 //! `Error` is large, and would be copied at each step on the way out.
 
-ghost use Rattle.std.specs.Prelude.{◌≡◌, ◌++◌, ℕ, List, Bool, length, Err, IfSome, IsSome, IsOk, OnErr, OnOk};
+ghost use Rattle.std.specs.Prelude.{◌≡◌, ◌++◌, ℕ, List, Bool, length};
+ghost use Rattle.std.specs.Prelude.{Err, IfSome, IsSome, IsOk, OnErr, OnOk};
 ghost use Rattle.std.specs.Option.{IsSomeAnd};
 ghost use Rattle.cbor_model.specs.Head.{short};
 ghost use Rattle.cbor_model.specs.Plain as plain;

@@ -1,7 +1,8 @@
 //! Lists of references to the parts of structs, variants and tuples, by which tuples of them are
 //! written.
 
-ghost use Rattle.std.specs.Prelude.{◌≡◌, ◌+◌, ◌^◌, ◌<◌, ◌≤◌, ℕ, List, length, map, Some, OnErr, OnOk};
+ghost use Rattle.std.specs.Prelude.{◌≡◌, ◌+◌, ◌^◌, ◌<◌, ◌≤◌, ℕ};
+ghost use Rattle.std.specs.Prelude.{List, length, map, Some, OnErr, OnOk};
 ghost use Rattle.std.specs.Option.{IsSomeAnd};
 ghost use Rattle.cbor_model.specs.Document.{no_docs, doc, no_fields, field_count};
 ghost use Rattle.cbor_model.specs.Parts.{items, ending};
@@ -167,8 +168,8 @@ pub(crate) trait WriteItems {
     // What they are written as, before these documents.
     ghost documents: { Self → Docs → Docs };
 
-    // Appends them. What refuses one of them is left in `refusal`: an `Error` is large, and a `Result`
-    // with one would be copied at each item.
+    // Appends them. What refuses one of them is left in `refusal`: an `Error` is large, and a
+    // `Result` with one would be copied at each item.
     fn write_items<W: Write>(&self, ser: &mut Serializer<W>, refusal: &mut Option<Error>) -> Done
         // Where the others are written next, all are.
         ensures ok { OnOk result ((ds : Docs) (last : Serializer W) (r : Result (Unit {0}) Error)

@@ -250,8 +250,8 @@ impl<W: Write> Serializer<W> {
     }
 
     /// Appends a whole number. Outside `-2^64..=2^64-1` it is refused with the message
-    /// `The number can't be stored in CBOR`, for which it takes memory (or with `OutOfMemory`, where
-    /// that isn't found): never by the sink, to which nothing is appended.
+    /// `The number can't be stored in CBOR`, for which it takes memory (or with `OutOfMemory`,
+    /// where that isn't found): never by the sink, to which nothing is appended.
     ///
     /// ```rust
     /// let mut ser = Serializer::new(alloc, Vec::new(alloc));

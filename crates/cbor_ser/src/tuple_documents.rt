@@ -3,8 +3,8 @@
 use crate::serialize::Serialize;
 use cbor_parts::{Optional, OrDefault, Parts};
 
-/// What a field of a struct is that has a document: a type that is written; [`OrDefault`] of one, which
-/// is written too; or [`Optional`] of one, which is left out where it is None.
+/// What a field of a struct is that has a document: a type that is written; [`OrDefault`] of one,
+/// which is written too; or [`Optional`] of one, which is left out where it is None.
 pub trait FieldDocument: Sized + Drop {
     ghost use Rattle.std.specs.Prelude.{Option};
     ghost use Rattle.cbor_model.specs.Document.{Doc};

@@ -1,7 +1,7 @@
 //! Going through the bytes of an item up to its first departure from the canonical form.
 //!
-//! Nothing is kept of the item, so it takes no memory. It goes past definite lengths alone, since an
-//! indefinite one is a departure, and past a string in one step.
+//! Nothing is kept of the item, so it takes no memory. It goes past definite lengths alone, since
+//! an indefinite one is a departure, and past a string in one step.
 
 ghost use Rattle.std.specs.Prelude.{◌≡◌, ◌≢◌, ℕ, ◌<◌, ◌≤◌, ◌-◌, ◌/◌, ◌%◌, [], length, nat_lt};
 ghost use Rattle.std.specs.Prelude.{slice_index, take, MatchBool, MatchOption};
@@ -13,7 +13,8 @@ ghost use Rattle.cbor_model.specs.Reader.{number_behind, width_of};
 ghost use Rattle.cbor_io.specs.Compare.{big_endian};
 ghost use Rattle.cbor_strict.specs.Walk.{all_walk, content_walk, integer_walk, pairs_walk, past};
 ghost use Rattle.cbor_strict.specs.Walk.{simple_walk, string_walk, walk};
-ghost use Rattle.cbor_strict.specs.Walks.{last, IsNumber, IsWithin, StopsNumber, TellsDeparture, Walks};
+ghost use Rattle.cbor_strict.specs.Walks.{last, IsNumber, IsWithin};
+ghost use Rattle.cbor_strict.specs.Walks.{StopsNumber, TellsDeparture, Walks};
 
 use crate::words::is_above;
 use cbor_io::compare::compare;

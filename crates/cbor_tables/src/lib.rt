@@ -13,8 +13,8 @@
 //!   is written (`canonical`: by `to_vec_canonical`).
 //! - **bytes**: hexadecimal digits, `"text"`, and `f6*3` for three times f6 ([`bytes`]).
 //! - **answer**: the value as `{:?}` prints it, or `error: ` and the error's text. Where it is
-//!   empty, any value is right. Of a stream the answers in turn, with semicolons between, and `None`
-//!   at the end.
+//!   empty, any value is right. Of a stream the answers in turn, with semicolons between, and
+//!   `None` at the end.
 //! - **written**: the bytes that the value is written as, `=` for those that were read, or nothing,
 //!   and then nothing is written.
 //!
@@ -23,8 +23,9 @@
 //! again. Of each row that is written, `to_value` has to give what its bytes are read as, and
 //! `to_vec_canonical` has to write that, which strict reading reads.
 //!
-//! [`Desk`] judges what is read as a type, and what that is written as. [`types`] has the types that a
-//! row may name, but for those that users write; [`values`] and [`strict`] read the rows of a `Value`.
+//! [`Desk`] judges what is read as a type, and what that is written as. [`types`] has the types
+//! that a row may name, but for those that users write; [`values`] and [`strict`] read the rows of
+//! a `Value`.
 #![tactic(auto)]
 
 pub mod bytes;

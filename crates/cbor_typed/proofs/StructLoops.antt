@@ -251,7 +251,3 @@ module _ {S : Type 0} {R : Type 0} {names : List (List ℕ)} {fields : List (Fie
     pub fields_read : {w z : Input} (x : S) → slots ≡ all_of fields x → TakesMapEnd (λ c. false) now.remaining (source now.de.now.items.source) w (Ok tt) → z ≡ w
         → Step (source de.items.source) z (λ l bs rest. IsRead (IsStruct names fields) (item_at (raws (formats_of de.items.formats) l) de.items.levels bs) x rest)
     fields_read x all end is = struct_read names fields d.was.so_far None refl d.was.named now.remaining d.next x all d.nothing end is
-
-    -- a byte was taken
-    pub fields_onward : {w z : Input} → TakesMapEnd (λ c. false) now.remaining (source now.de.now.items.source) w (Ok tt) → z ≡ w → Onward (source de.items.source) z
-    fields_onward end is = rw is (onward_some _ _ _ (onward_some _ _ _ d.was.onward d.next.took) end.took)

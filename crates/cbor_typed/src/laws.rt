@@ -37,8 +37,8 @@ pub fn item_refused_first<T: Readable>()
     ensures { ItemRefusedFirst T.total }
 {}
 
-/// What `deserialize` takes, by the definitions alone. Ok: the bytes to come were the spelling of an
-/// item that the type reads so, acceptable within the levels that are left and with keys of the
+/// What `deserialize` takes, by the definitions alone. Ok: the bytes to come were the spelling of
+/// an item that the type reads so, acceptable within the levels that are left and with keys of the
 /// formats that are read, and then those that are still to come. Err: no such item is there whose
 /// chunks fit the buffer; or memory ran out, or the source reported a fault.
 ///

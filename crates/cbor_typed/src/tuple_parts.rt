@@ -95,7 +95,8 @@ impl<A: Readable, B: Readable, C: Readable, D: Readable> ReadableTuple for (A, B
         (part_then (D.reads c) no_part)))
         all (x.0, (x.1, (x.2, (x.3, tt)))) };
 
-    ghost wrong_forms = { both A.wrong_forms (both B.wrong_forms (both C.wrong_forms (both D.wrong_forms never))) };
+    ghost wrong_forms = { both A.wrong_forms (both B.wrong_forms (both C.wrong_forms
+        (both D.wrong_forms never))) };
 }
 
 impl<
@@ -130,7 +131,8 @@ impl<A: Readable, B: Readable, C: Readable, D: Readable, E: Readable> ReadableTu
         (part_then (E.reads c) no_part))))
         all (x.0, (x.1, (x.2, (x.3, (x.4, tt))))) };
 
-    ghost wrong_forms = { both A.wrong_forms (both B.wrong_forms (both C.wrong_forms (both D.wrong_forms (both E.wrong_forms never)))) };
+    ghost wrong_forms = { both A.wrong_forms (both B.wrong_forms (both C.wrong_forms
+        (both D.wrong_forms (both E.wrong_forms never)))) };
 }
 
 impl<
@@ -167,7 +169,8 @@ impl<A: Readable, B: Readable, C: Readable, D: Readable, E: Readable, F: Readabl
         (part_then (F.reads c) no_part)))))
         all (x.0, (x.1, (x.2, (x.3, (x.4, (x.5, tt)))))) };
 
-    ghost wrong_forms = { both A.wrong_forms (both B.wrong_forms (both C.wrong_forms (both D.wrong_forms (both E.wrong_forms (both F.wrong_forms never))))) };
+    ghost wrong_forms = { both A.wrong_forms (both B.wrong_forms (both C.wrong_forms
+        (both D.wrong_forms (both E.wrong_forms (both F.wrong_forms never))))) };
 }
 
 impl<
@@ -215,7 +218,9 @@ impl<
         (part_then (G.reads c) no_part))))))
         all (x.0, (x.1, (x.2, (x.3, (x.4, (x.5, (x.6, tt))))))) };
 
-    ghost wrong_forms = { both A.wrong_forms (both B.wrong_forms (both C.wrong_forms (both D.wrong_forms (both E.wrong_forms (both F.wrong_forms (both G.wrong_forms never)))))) };
+    ghost wrong_forms = { both A.wrong_forms (both B.wrong_forms (both C.wrong_forms
+        (both D.wrong_forms (both E.wrong_forms (both F.wrong_forms
+        (both G.wrong_forms never)))))) };
 }
 
 impl<
@@ -266,7 +271,9 @@ impl<
         (part_then (H.reads c) no_part)))))))
         all (x.0, (x.1, (x.2, (x.3, (x.4, (x.5, (x.6, (x.7, tt)))))))) };
 
-    ghost wrong_forms = { both A.wrong_forms (both B.wrong_forms (both C.wrong_forms (both D.wrong_forms (both E.wrong_forms (both F.wrong_forms (both G.wrong_forms (both H.wrong_forms never))))))) };
+    ghost wrong_forms = { both A.wrong_forms (both B.wrong_forms (both C.wrong_forms
+        (both D.wrong_forms (both E.wrong_forms (both F.wrong_forms (both G.wrong_forms
+        (both H.wrong_forms never))))))) };
 }
 
 impl<

@@ -40,8 +40,8 @@ impl<'de, R: Read<'de>> Deserializer<R> {
     /// It is refused with `WrongEnumFormat`, before the first byte after the tags, where that form
     /// isn't read; with `ArrayTooShort` where an array has no identifier; with `unknown variant`
     /// where no name is of the identifier, and with `invalid type: expected a variant name` where
-    /// another item stands in its place; with `UnassignedCode` at 9c to 9e, which begin no item, and
-    /// with `WrongStructFormat` where the map's key may not begin as it does. What follows the
+    /// another item stands in its place; with `UnassignedCode` at 9c to 9e, which begin no item,
+    /// and with `WrongStructFormat` where the map's key may not begin as it does. What follows the
     /// identifier isn't looked at: it is for the call that ends the access to refuse.
     ///
     /// ```rust

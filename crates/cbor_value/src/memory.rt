@@ -8,8 +8,8 @@ ghost use Rattle.cbor_value.specs.View.{view, views, float_view, pair_views};
 use super::{Float, Value};
 
 impl Value {
-    /// Shows to a proof what holds of any value: each length, count and tag number is below 2^64, and
-    /// each text is UTF-8.
+    /// Shows to a proof what holds of any value: each length, count and tag number is below 2^64,
+    /// and each text is UTF-8.
     ///
     /// So it need not be written for its order to be that of its bytes: of two values that CBOR
     /// stores, `cmp` is the byte order of their canonical spellings, by the law `byte_order`, and

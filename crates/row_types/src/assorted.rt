@@ -8,8 +8,8 @@ use serde_cbor::ser::{PartsDocument, Serialize, Serializer, Write};
 use serde_cbor::{Deserializer, Result};
 use std::collections::BTreeMap;
 
-/// Tuples, a map, bytes, and arrays of texts and of structs of no part. A struct of unnamed parts is
-/// written as the tuple of them.
+/// Tuples, a map, bytes, and arrays of texts and of structs of no part. A struct of unnamed parts
+/// is written as the tuple of them.
 #[derive(Debug, Drop)]
 pub struct Assorted {
     pub tuple_struct: (String, i32, u64),

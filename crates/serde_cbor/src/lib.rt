@@ -13,9 +13,9 @@
 //! assert_eq!(rt; bytes.as_slice(), [0xa2, 1, 0, 2, 0].as_slice());
 //! ```
 //!
-//! The items stand in crates of their own, as `cbor_value`, `cbor_ser` and `cbor_typed`. This one has
-//! them all under the paths of the Rust crate, and passes on the words that their contracts use, so
-//! that a crate above names no other but `cbor_value`, where it handles a `Value`.
+//! The items stand in crates of their own, as `cbor_value`, `cbor_ser` and `cbor_typed`. This one
+//! has them all under the paths of the Rust crate, and passes on the words that their contracts
+//! use, so that a crate above names no other but `cbor_value`, where it handles a `Value`.
 #![tactic(auto)]
 
 pub mod de;

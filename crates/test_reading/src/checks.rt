@@ -1,5 +1,5 @@
-//! What a test asks. These promise nothing, so that a test of many calls carries no facts from one to
-//! the next.
+//! What a test asks. These promise nothing, so that a test of many calls carries no facts from one
+//! to the next.
 
 use cbor_typed::{Deserialize, Deserializer, Offset, SliceRead, Source};
 use std::process::Abort;

@@ -62,7 +62,8 @@ pub struct FailingWriter {
 }
 
 impl FailingWriter {
-    /// It has its memory from the beginning, so that no write of up to 64 bytes fails for want of it.
+    /// It has its memory from the beginning, so that no write of up to 64 bytes fails for want of
+    /// it.
     pub fn new(alloc: Global, left: usize) -> Result<FailingWriter, AllocError> {
         Ok(FailingWriter {
             taken: Vec::with_capacity(alloc, 64)?,

@@ -33,4 +33,4 @@ pub use Rattle.cbor_typed.proofs.StructLoops.{other_taken, other_refused, known_
 -- `required`
 pub use Rattle.cbor_typed.proofs.StructLoops.{field_required, field_absent}
 -- `end`
-pub use Rattle.cbor_typed.proofs.StructLoops.{fields_read, fields_onward, end_refused}
+pub use Rattle.cbor_typed.proofs.StructLoops.{fields_read, end_refused}

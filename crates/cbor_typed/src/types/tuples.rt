@@ -108,7 +108,8 @@ impl<A: Readable, B: Readable, C: Readable, D: Readable> Readable for (A, B, C, 
         (FirstThen (C.reads c) t.2
         (FirstThen (D.reads c) t.3 AreNone))) rs)) };
 
-    ghost wrong_forms = { both A.wrong_forms (both B.wrong_forms (both C.wrong_forms (both D.wrong_forms never))) };
+    ghost wrong_forms = { both A.wrong_forms (both B.wrong_forms (both C.wrong_forms
+        (both D.wrong_forms never))) };
 }
 
 impl<
@@ -153,7 +154,8 @@ impl<A: Readable, B: Readable, C: Readable, D: Readable, E: Readable> Readable f
         (FirstThen (D.reads c) t.3
         (FirstThen (E.reads c) t.4 AreNone)))) rs)) };
 
-    ghost wrong_forms = { both A.wrong_forms (both B.wrong_forms (both C.wrong_forms (both D.wrong_forms (both E.wrong_forms never)))) };
+    ghost wrong_forms = { both A.wrong_forms (both B.wrong_forms (both C.wrong_forms
+        (both D.wrong_forms (both E.wrong_forms never)))) };
 }
 
 impl<
@@ -203,7 +205,8 @@ impl<A: Readable, B: Readable, C: Readable, D: Readable, E: Readable, F: Readabl
         (FirstThen (E.reads c) t.4
         (FirstThen (F.reads c) t.5 AreNone))))) rs)) };
 
-    ghost wrong_forms = { both A.wrong_forms (both B.wrong_forms (both C.wrong_forms (both D.wrong_forms (both E.wrong_forms (both F.wrong_forms never))))) };
+    ghost wrong_forms = { both A.wrong_forms (both B.wrong_forms (both C.wrong_forms
+        (both D.wrong_forms (both E.wrong_forms (both F.wrong_forms never))))) };
 }
 
 impl<
@@ -264,7 +267,9 @@ impl<
         (FirstThen (F.reads c) t.5
         (FirstThen (G.reads c) t.6 AreNone)))))) rs)) };
 
-    ghost wrong_forms = { both A.wrong_forms (both B.wrong_forms (both C.wrong_forms (both D.wrong_forms (both E.wrong_forms (both F.wrong_forms (both G.wrong_forms never)))))) };
+    ghost wrong_forms = { both A.wrong_forms (both B.wrong_forms (both C.wrong_forms
+        (both D.wrong_forms (both E.wrong_forms (both F.wrong_forms
+        (both G.wrong_forms never)))))) };
 }
 
 impl<
@@ -295,7 +300,8 @@ impl<
     ghost use Rattle.cbor_model.specs.Readable.{untagged};
     ghost use Rattle.cbor_typed.specs.ItemLists.{none_same, then_same, tuple_same};
 
-    ghost same = { λ f a b r v h. tuple_same (λ t. (t.0, (t.1, (t.2, (t.3, (t.4, (t.5, (t.6, tt))))))))
+    ghost same = { λ f a b r v h. tuple_same
+        (λ t. (t.0, (t.1, (t.2, (t.3, (t.4, (t.5, (t.6, tt))))))))
         (then_same (A.same f a b)
         (then_same (B.same f a b)
         (then_same (C.same f a b)
@@ -330,7 +336,9 @@ impl<
         (FirstThen (G.reads c) t.6
         (FirstThen (H.reads c) t.7 AreNone))))))) rs)) };
 
-    ghost wrong_forms = { both A.wrong_forms (both B.wrong_forms (both C.wrong_forms (both D.wrong_forms (both E.wrong_forms (both F.wrong_forms (both G.wrong_forms (both H.wrong_forms never))))))) };
+    ghost wrong_forms = { both A.wrong_forms (both B.wrong_forms (both C.wrong_forms
+        (both D.wrong_forms (both E.wrong_forms (both F.wrong_forms (both G.wrong_forms
+        (both H.wrong_forms never))))))) };
 }
 
 impl<
@@ -363,7 +371,8 @@ impl<
     ghost use Rattle.cbor_model.specs.Readable.{untagged};
     ghost use Rattle.cbor_typed.specs.ItemLists.{none_same, then_same, tuple_same};
 
-    ghost same = { λ f a b r v h. tuple_same (λ t. (t.0, (t.1, (t.2, (t.3, (t.4, (t.5, (t.6, (t.7, tt)))))))))
+    ghost same = { λ f a b r v h. tuple_same
+        (λ t. (t.0, (t.1, (t.2, (t.3, (t.4, (t.5, (t.6, (t.7, tt)))))))))
         (then_same (A.same f a b)
         (then_same (B.same f a b)
         (then_same (C.same f a b)
