@@ -1,9 +1,14 @@
 //! Structs that are read as tuples of their fields.
+//!
+//! Each type of a user's that is described so has to show that its fields are read, which is most of
+//! what a check of it takes. So up to four fields ask for what their types promise (`Deserialize`),
+//! which is the shortest to show. More ask for one promise of each field ([`ReadField`]) and of the
+//! list of those behind the fourth, since the functions here, proved once, would take minutes else.
 
 use crate::field_list::{ReadField, ReadFields, read_fields};
 use crate::parts::{ReadParts, ReadableParts};
 use cbor_io::error::Result;
-use cbor_typed::{Deserializer, FieldType, Read};
+use cbor_typed::{Deserialize, Deserializer, FieldType, Read};
 
 impl<A: FieldType> ReadableParts for (A,) {
     ghost use Rattle.std.specs.Prelude.{[], ◌∷◌};
@@ -17,7 +22,10 @@ impl<A: FieldType> ReadableParts for (A,) {
     ghost wrong_forms = { both struct_form (both A.Of.wrong_forms never) };
 }
 
-impl<'de, R: Read<'de>, A: ReadField<'de, R>> ReadParts<'de, R> for (A,) {
+impl<'de, R: Read<'de>, A: FieldType> ReadParts<'de, R> for (A,)
+where
+    A::Of: Deserialize<'de, R>,
+{
     fn read_parts(de: &mut Deserializer<R>, names: &[&str]) -> Result<(A,)> {
         match read_fields::<R, (A, ())>(de, names) {
             Ok(parts) => {
@@ -42,7 +50,11 @@ impl<A: FieldType, B: FieldType> ReadableParts for (A, B) {
     ghost wrong_forms = { both struct_form (both A.Of.wrong_forms (both B.Of.wrong_forms never)) };
 }
 
-impl<'de, R: Read<'de>, A: ReadField<'de, R>, B: ReadField<'de, R>> ReadParts<'de, R> for (A, B) {
+impl<'de, R: Read<'de>, A: FieldType, B: FieldType> ReadParts<'de, R> for (A, B)
+where
+    A::Of: Deserialize<'de, R>,
+    B::Of: Deserialize<'de, R>,
+{
     fn read_parts(de: &mut Deserializer<R>, names: &[&str]) -> Result<(A, B)> {
         match read_fields::<R, (A, (B, ()))>(de, names) {
             Ok(parts) => {
@@ -69,10 +81,12 @@ impl<A: FieldType, B: FieldType, C: FieldType> ReadableParts for (A, B, C) {
         (both C.Of.wrong_forms never))) };
 }
 
-impl<'de, R: Read<'de>, A: ReadField<'de, R>, B: ReadField<'de, R>, C: ReadField<'de, R>> ReadParts<
-    'de,
-    R,
-> for (A, B, C) {
+impl<'de, R: Read<'de>, A: FieldType, B: FieldType, C: FieldType> ReadParts<'de, R> for (A, B, C)
+where
+    A::Of: Deserialize<'de, R>,
+    B::Of: Deserialize<'de, R>,
+    C::Of: Deserialize<'de, R>,
+{
     fn read_parts(de: &mut Deserializer<R>, names: &[&str]) -> Result<(A, B, C)> {
         match read_fields::<R, (A, (B, (C, ())))>(de, names) {
             Ok(parts) => {
@@ -100,14 +114,14 @@ impl<A: FieldType, B: FieldType, C: FieldType, D: FieldType> ReadableParts for (
         (both C.Of.wrong_forms (both D.Of.wrong_forms never)))) };
 }
 
-impl<
-    'de,
-    R: Read<'de>,
-    A: ReadField<'de, R>,
-    B: ReadField<'de, R>,
-    C: ReadField<'de, R>,
-    D: ReadField<'de, R>,
-> ReadParts<'de, R> for (A, B, C, D) {
+impl<'de, R: Read<'de>, A: FieldType, B: FieldType, C: FieldType, D: FieldType> ReadParts<'de, R>
+    for (A, B, C, D)
+where
+    A::Of: Deserialize<'de, R>,
+    B::Of: Deserialize<'de, R>,
+    C::Of: Deserialize<'de, R>,
+    D::Of: Deserialize<'de, R>,
+{
     fn read_parts(de: &mut Deserializer<R>, names: &[&str]) -> Result<(A, B, C, D)> {
         match read_fields::<R, (A, B, C, D, ())>(de, names) {
             Ok(parts) => {
