@@ -1,24 +1,24 @@
 -- The laws' proofs.
 use Rattle.cbor_model.specs.Laws.{ReaderFinds, ReaderAccepts, SameWithScratch, ScratchNeed, OneSpelling, ValueIsStorable, OrderIsTotal, OneFlat, CanonicalReadsBack, ValueIsCanonical, NormalisedOnce, EqualBytes, ByteOrder, LeastSpelling, ValueIsInRange, FirstRefusal, NoneAllowed, OneFirstRefusal, ReadOrRefused, SpelledAllowsNone, SameFirstRefusal, InMemoryIsInRange, CanonicalIsAcceptable, WrittenReadsBack, DocumentIsAcceptable, DocumentReadsBack, LastPairStays, PartsBytes, KeyRule, FollowingIsUnread, RefusedHoldsBeginning, AllThatFitIsHeld, StoredOrStops, AllIsStored}
-use Rattle.cbor_model.proofs.Whole.{found_whole, read_whole}
-use Rattle.cbor_model.proofs.Scratch as scratch
-use Rattle.cbor_model.proofs.Storable.{storable}
-use Rattle.cbor_model.proofs.Same as same
-use Rattle.cbor_model.proofs.ReadsBack.{reads_back}
-use Rattle.cbor_model.proofs.Canonical as canonical
-use Rattle.cbor_model.proofs.Apart as apart
-use Rattle.cbor_model.proofs.Normal as normal
-use Rattle.cbor_model.proofs.ByteOrder as byteorder
-use Rattle.cbor_model.proofs.Least as least
-use Rattle.cbor_model.proofs.InRange as inrange
-use Rattle.cbor_model.proofs.FirstRefusal as refusal
-use Rattle.cbor_model.proofs.InMemory as inmemory
-use Rattle.cbor_model.proofs.InDocuments as documents
-use Rattle.cbor_model.proofs.Puts as puts
-use Rattle.cbor_model.proofs.Parts as parts
-use Rattle.cbor_model.proofs.RawReader as rawreader
-use Rattle.cbor_model.proofs.Room as room
-use Rattle.cbor_model.proofs.Unstored as unstored
+use Rattle.cbor_model.proofs.reader.Whole.{found_whole, read_whole}
+use Rattle.cbor_model.proofs.reader.Scratch as scratch
+use Rattle.cbor_model.proofs.values.Storable.{storable}
+use Rattle.cbor_model.proofs.order.Same as same
+use Rattle.cbor_model.proofs.values.ReadsBack.{reads_back}
+use Rattle.cbor_model.proofs.values.Canonical as canonical
+use Rattle.cbor_model.proofs.order.Apart as apart
+use Rattle.cbor_model.proofs.values.Normal as normal
+use Rattle.cbor_model.proofs.order.ByteOrder as byteorder
+use Rattle.cbor_model.proofs.order.Least as least
+use Rattle.cbor_model.proofs.values.InRange as inrange
+use Rattle.cbor_model.proofs.refusals.FirstRefusal as refusal
+use Rattle.cbor_model.proofs.values.InMemory as inmemory
+use Rattle.cbor_model.proofs.documents.InDocuments as documents
+use Rattle.cbor_model.proofs.order.Puts as puts
+use Rattle.cbor_model.proofs.documents.Parts as parts
+use Rattle.cbor_model.proofs.reader.RawReader as rawreader
+use Rattle.cbor_model.proofs.documents.Room as room
+use Rattle.cbor_model.proofs.documents.Unstored as unstored
 
 pub reader_finds : ReaderFinds
 reader_finds = found_whole

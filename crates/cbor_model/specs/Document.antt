@@ -1,6 +1,6 @@
 -- Documents: what a typed value says before a serializer's settings choose how names and enums are
 -- spelled, and the raw item of a document.
-use Rattle.std.specs.Prelude.{◌≡◌, ℕ, suc, ◌^◌, ◌<◌, length, List, [], ◌∷◌, Bool, true, false, ℤ}
+use Rattle.std.specs.Prelude.{◌≡◌, ℕ, suc, ◌^◌, ◌<◌, List, [], ◌∷◌, Bool, true, false, ℤ}
 use Rattle.std.specs.Prelude.{pos, negsuc, refl, codes}
 use Rattle.cbor_model.specs.Head.{least}
 use Rattle.cbor_model.specs.Raw as raw

@@ -1,5 +1,5 @@
 -- The parts of a document, as a serializer's calls write them one after the other.
-use Rattle.std.specs.Prelude.{ℕ, suc, ◌^◌, ◌<◌, length, List, [], ◌∷◌, ◌++◌, Bool, true, false}
+use Rattle.std.specs.Prelude.{ℕ, suc, ◌^◌, ◌<◌, List, [], ◌∷◌, ◌++◌, Bool, true, false}
 use Rattle.std.specs.Prelude.{Option, Some, None}
 use Rattle.cbor_model.specs.Head.{short}
 use Rattle.cbor_model.specs.InMemory.{IsTextString}

@@ -5,7 +5,7 @@ use Rattle.cbor_model.specs.Plain.{Val}
 use Rattle.cbor_model.specs.Value.{value}
 use Rattle.cbor_model.specs.Canonical.{canonical, canon}
 use Rattle.cbor_model.specs.Laws.{SpellsValue}
-use Rattle.cbor_model.proofs.ReadsBack.{reads_back}
+use Rattle.cbor_model.proofs.values.ReadsBack.{reads_back}
 use Rattle.cbor_value.specs.declared.Value.{Value}
 use Rattle.cbor_value.specs.View.{view}
 use Rattle.cbor_io.specs.declared.error.Error.{Error}

@@ -10,7 +10,7 @@ use Rattle.cbor_model.specs.Order.{val_cmp}
 use Rattle.cbor_model.specs.Value.{value, values, pairs, by_order}
 use Rattle.cbor_model.specs.Canonical.{canonical_bool, canonical, canonical_all, canonical_pairs, IsBelow, KeysAscend, IsOrdered, AreOrdered, ArePairsOrdered}
 use Rattle.cbor_strict.specs.Departure.{floor, head_end, long_head, undefined_at, not_above, departures, all_departures, pair_departures}
-use Rattle.cbor_model.proofs.ReadsBack.{followed_by, reads_back}
+use Rattle.cbor_model.proofs.values.ReadsBack.{followed_by, reads_back}
 use Rattle.cbor_strict.proofs.Copied.{followed_by-none, followed_by_assoc, put-last, floor-least-le}
 
 -- ---- lists that are empty

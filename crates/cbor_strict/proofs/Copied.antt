@@ -10,10 +10,10 @@ use Rattle.cbor_model.specs.Order.{val_cmp}
 use Rattle.cbor_model.specs.Plain.{Val, Pairs, no_pairs, pair}
 use Rattle.cbor_model.specs.Reader.{Reads, number_at, number_behind}
 use Rattle.cbor_model.specs.Value.{put, by_order}
-use Rattle.cbor_model.proofs.Heads.{least-cases}
-use Rattle.cbor_model.proofs.Pairs.{Less-trans, Greater-from_Less}
-use Rattle.cbor_model.proofs.ReadsBack.{followed_by, reads_back}
-use Rattle.cbor_model.proofs.Taken.{Leaves}
+use Rattle.cbor_model.proofs.order.Heads.{least-cases}
+use Rattle.cbor_model.proofs.order.Pairs.{Less-trans, Greater-from_Less}
+use Rattle.cbor_model.proofs.values.ReadsBack.{followed_by, reads_back}
+use Rattle.cbor_model.proofs.reader.Taken.{Leaves}
 use Rattle.cbor_strict.specs.Departure.{floor}
 use Rattle.std.specs.declared.cmp.Ordering.TheVariants.{Less}
 

@@ -12,8 +12,8 @@ use Rattle.cbor_model.specs.Readable.{SpellsAs}
 use Rattle.cbor_model.specs.Value.{value}
 use Rattle.cbor_model.specs.Canonical.{IsOrdered, canonical, canon}
 use Rattle.cbor_model.specs.Laws.{SpellsValue}
-use Rattle.cbor_model.proofs.Bytes.{spelled_bytes}
-use Rattle.cbor_model.proofs.Canonical.{value_is_canonical}
+use Rattle.cbor_model.proofs.reader.Bytes.{spelled_bytes}
+use Rattle.cbor_model.proofs.values.Canonical.{value_is_canonical}
 use Rattle.cbor_model.proofs.facts.Reader.{all_allowed}
 use Rattle.cbor_io.specs.declared.error.Error.{Error}
 use Rattle.cbor_io.specs.declared.error.ErrorCode.TheVariants.{NotCanonical}

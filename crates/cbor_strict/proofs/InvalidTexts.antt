@@ -10,7 +10,7 @@ use Rattle.cbor_model.specs.Raw as raw
 use Rattle.cbor_model.specs.Raw.{Length, Raw, Raws, no_raws, RawPairs, no_raw_pairs, raw_pair, Chunk, joined, AreBytes, count, pair_count, depth, IsWellFormed}
 use Rattle.cbor_model.specs.Spelling.{spell, spell_all, spell_pairs, chunk, break}
 use Rattle.cbor_model.specs.Allowed.{IsTextOf, IsInvalidUtf8}
-use Rattle.cbor_model.proofs.Steps.{AreBytes-take}
+use Rattle.cbor_model.proofs.reader.Steps.{AreBytes-take}
 use Rattle.cbor_strict.specs.Departure.{head_end, long_head, long_length, length_end, not_above, departures, all_departures, pair_departures, DepartsAt, ShowsDeparture}
 use Rattle.cbor_strict.specs.Walk.{departed, walk, walk_of}
 use Rattle.cbor_strict.proofs.Fronts.{walk_fuel}

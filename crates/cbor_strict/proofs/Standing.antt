@@ -6,7 +6,7 @@ use Rattle.cbor_model.specs.Raw as raw
 use Rattle.cbor_model.specs.Raw.{Raw, Raws, no_raws, RawPairs, no_raw_pairs, raw_pair, definite, indefinite, count, pair_count, IsWellFormed, AreWellFormed, ArePairsWellFormed}
 use Rattle.cbor_model.specs.Spelling.{spell, spell_all, spell_pairs, break}
 use Rattle.cbor_model.specs.Wanted.{Opening, array_head, map_head, tag_head, indefinite_array, indefinite_map, IsWanted, at_first, inside}
-use Rattle.cbor_model.proofs.Wanted.{nulls, count-nulls, nulls_fit, all_of, count-all_of, all_of_fit, spell-all_of, IsFrame, frame}
+use Rattle.cbor_model.proofs.refusals.Wanted.{nulls, count-nulls, nulls_fit, all_of, count-all_of, all_of_fit, spell-all_of, IsFrame, frame}
 use Rattle.cbor_strict.specs.Departure.{head_end, length_end}
 
 -- The item t, which holds no others, stands at k in the item that stands at this offset.

@@ -12,8 +12,8 @@ use Rattle.cbor_strict.specs.Departure.{departures, DepartsAt, IsFirstDeparture,
 use Rattle.cbor_strict.specs.Walk.{departed, walk, walk_of}
 use Rattle.cbor_strict.specs.Strict.{SpellsCanonically, IsFirstShown}
 use Rattle.cbor_strict.specs.Strict as laws
-use Rattle.cbor_model.proofs.Apart.{one_spelling}
-use Rattle.cbor_model.proofs.Canonical.{value_is_canonical}
+use Rattle.cbor_model.proofs.order.Apart.{one_spelling}
+use Rattle.cbor_model.proofs.values.Canonical.{value_is_canonical}
 use Rattle.cbor_strict.proofs.Clean.{clean, canonical_clean}
 use Rattle.cbor_strict.proofs.Walked.{clean_key, keys_compare}
 use Rattle.cbor_strict.proofs.Fronts.{walk_fuel}

@@ -10,7 +10,7 @@ use Rattle.cbor_model.specs.Reader.{Reads, number_behind, width_of}
 use Rattle.cbor_model.specs.Value.{by_order}
 use Rattle.cbor_strict.specs.Walk as model
 use Rattle.cbor_strict.specs.Walk.{and_then, past, on_shortest, with_shortest, with_count, integer_walk, string_walk, simple_walk, all_walk, pairs_walk, content_walk}
-use Rattle.cbor_model.proofs.Majors.{each_major}
+use Rattle.cbor_model.proofs.reader.Majors.{each_major}
 use Rattle.cbor_strict.specs.declared.walk.Walk.{Walk}
 use Rattle.cbor_strict.specs.declared.walk.Walk.TheVariants.{Passed, Departed, Stopped}
 use Rattle.cbor_strict.specs.Walks.{last, walk_view, IsWithin}

@@ -13,4 +13,4 @@ pub use Rattle.cbor_model.proofs.Proved.{in_memory_is_in_range, written_reads_ba
 -- about documents
 pub use Rattle.cbor_model.proofs.Proved.{document_is_acceptable, document_reads_back}
 -- an item has no more levels than bytes
-pub use Rattle.cbor_model.proofs.InDocuments.{depth-le}
+pub use Rattle.cbor_model.proofs.documents.InDocuments.{depth-le}

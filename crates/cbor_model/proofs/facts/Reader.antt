@@ -1,25 +1,25 @@
 -- Published: the steps of the reference reader.
 
 -- only major type 7 is simple
-pub use Rattle.cbor_model.proofs.Majors.{simple_number}
+pub use Rattle.cbor_model.proofs.reader.Majors.{simple_number}
 -- equal results of reading have equal values
-pub use Rattle.cbor_model.proofs.Steps.{ok_is}
+pub use Rattle.cbor_model.proofs.reader.Steps.{ok_is}
 -- an item takes at least a byte, and no step gives bytes back
-pub use Rattle.cbor_model.proofs.Taken.{taken, chunk_taken, next_taken}
+pub use Rattle.cbor_model.proofs.reader.Taken.{taken, chunk_taken, next_taken}
 -- more fuel than bytes changes nothing
-pub use Rattle.cbor_model.proofs.Fuel.{chunks_by-fuel, parts_by-fuel, pair_taken}
+pub use Rattle.cbor_model.proofs.reader.Fuel.{chunks_by-fuel, parts_by-fuel, pair_taken}
 -- bytes that are valid to their end are UTF-8
-pub use Rattle.cbor_model.proofs.Texts.{IsUtf8-from_valid_len}
+pub use Rattle.cbor_model.proofs.reader.Texts.{IsUtf8-from_valid_len}
 -- an item at the front of the bytes, whose keys are of the formats that are read, is read as it is
 -- spelled
-pub use Rattle.cbor_model.proofs.RawReader.{item_found, item_again}
+pub use Rattle.cbor_model.proofs.reader.RawReader.{item_found, item_again}
 -- the value of a step that did not fail
-pub use Rattle.cbor_model.proofs.Steps.{bind_ok}
+pub use Rattle.cbor_model.proofs.reader.Steps.{bind_ok}
 -- a key begins with a byte that may begin one, and is read as an item
-pub use Rattle.cbor_model.proofs.Steps.{BeginsWith, key_read, key_is}
+pub use Rattle.cbor_model.proofs.reader.Steps.{BeginsWith, key_read, key_is}
 -- where all formats are read, each key is of one
-pub use Rattle.cbor_model.proofs.FirstBytes.{all_allowed, all_may_begin}
+pub use Rattle.cbor_model.proofs.reader.FirstBytes.{all_allowed, all_may_begin}
 -- with all formats every key is allowed
-pub use Rattle.cbor_model.proofs.FirstBytes.{all_allowed}
+pub use Rattle.cbor_model.proofs.reader.FirstBytes.{all_allowed}
 -- an acceptable item at the front of the bytes is read as its value
-pub use Rattle.cbor_model.proofs.Whole.{value_again}
+pub use Rattle.cbor_model.proofs.reader.Whole.{value_again}

@@ -1,0 +1,6 @@
+-- Documents: their parts, their bytes, and what of them is stored.
+pub mod Room
+pub mod Documents
+pub mod Parts
+pub mod Unstored
+pub mod InDocuments

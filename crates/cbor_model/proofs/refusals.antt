@@ -1,0 +1,22 @@
+-- Why bytes are refused: what is allowed of them, and that the reference reader tells the first.
+pub mod Wanted
+pub mod FaultMeaning
+pub mod Completion
+pub mod LeafFaults
+pub mod Faults
+pub mod InnerFaults
+pub mod Passage
+pub mod PassedItems
+pub mod PassedPairs
+pub mod PassedOpenings
+pub mod ReachedPlaces
+pub mod WantedFaults
+pub mod NoFronts
+pub mod EarlierRefusals
+pub mod ReadingRules
+pub mod TellsAllowed
+pub mod TellsEnds
+pub mod TellsFirst
+pub mod TextPlaces
+pub mod FirstRefusal
+pub mod RefusalExamples
