@@ -13,13 +13,13 @@ use Rattle.cbor_io.specs.Error.{code_of, offset_of}
 use Rattle.cbor_io.specs.declared.error.Error.{Error}
 use Rattle.cbor_io.specs.declared.read_error.ReadError.{ReadError}
 use Rattle.cbor_io.specs.declared.read_error.ReadErrorCode.{ReadErrorCode}
-use Rattle.cbor_de.specs.Gives.{Limits, Step, Stopped, IsErrorOf}
-use Rattle.cbor_de.specs.Heads.{behind_head, remaining_of, length_of}
-use Rattle.cbor_de.specs.declared.cursor.Remaining.{Remaining}
-use Rattle.cbor_de.specs.declared.head.Head.{Head}
-use Rattle.cbor_de.specs.declared.head.Head.TheVariants as head
-use Rattle.cbor_de.specs.declared.refusal.Refused.{Refused}
-use Rattle.cbor_de.proofs.facts.Steps.{step_map}
+use Rattle.cbor_decode.specs.Gives.{Limits, Step, Stopped, IsErrorOf}
+use Rattle.cbor_decode.specs.Heads.{behind_head, remaining_of, length_of}
+use Rattle.cbor_decode.specs.declared.cursor.Remaining.{Remaining}
+use Rattle.cbor_decode.specs.declared.head.Head.{Head}
+use Rattle.cbor_decode.specs.declared.head.Head.TheVariants as head
+use Rattle.cbor_decode.specs.declared.refusal.Refused.{Refused}
+use Rattle.cbor_decode.proofs.facts.Steps.{step_map}
 use Rattle.cbor_collections.specs.Accesses.{items_at, array_of, IsArrayHead, IsItems, RefusesArray}
 use Rattle.cbor_collections.specs.Arrays.{AsArray}
 use Rattle.cbor_scalars.specs.Kinds.{kind_of, head_kind}

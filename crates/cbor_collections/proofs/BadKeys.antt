@@ -12,11 +12,11 @@ use Rattle.cbor_io.specs.declared.error.ErrorCode.{ErrorCode}
 use Rattle.cbor_io.specs.declared.error.ErrorCode.TheVariants as code
 use Rattle.cbor_io.specs.declared.read_error.ReadError.{ReadError}
 use Rattle.cbor_io.specs.declared.read_error.ReadErrorCode.{ReadErrorCode}
-use Rattle.cbor_de.specs.declared.refusal.Refused.{Refused}
-use Rattle.cbor_de.specs.Gives.{FailsAs, FailsBy, IsErrorOf, Reports, Step, Stopped}
-use Rattle.cbor_de.specs.declared.cursor.Remaining.{Remaining}
-use Rattle.cbor_de.specs.Heads.{remaining_of}
-use Rattle.cbor_de.specs.Cursor.{behind_next}
+use Rattle.cbor_decode.specs.declared.refusal.Refused.{Refused}
+use Rattle.cbor_decode.specs.Gives.{FailsAs, FailsBy, IsErrorOf, Reports, Step, Stopped}
+use Rattle.cbor_decode.specs.declared.cursor.Remaining.{Remaining}
+use Rattle.cbor_decode.specs.Heads.{remaining_of}
+use Rattle.cbor_decode.specs.Cursor.{behind_next}
 use Rattle.cbor_collections.specs.Cases.{TellsBadKey}
 use Rattle.cbor_collections.specs.MapAccesses.{Comes, key_front}
 use Rattle.cbor_scalars.specs.Takes.{ExcusedBy}

@@ -14,12 +14,12 @@ use Rattle.cbor_io.specs.declared.error.ErrorCode.{ErrorCode}
 use Rattle.cbor_io.specs.declared.error.ErrorCode.TheVariants as code
 use Rattle.cbor_io.specs.declared.read_error.ReadError.{ReadError}
 use Rattle.cbor_io.specs.declared.read_error.ReadErrorCode.{ReadErrorCode}
-use Rattle.cbor_de.specs.declared.refusal.Refused.{Refused}
-use Rattle.cbor_de.specs.declared.refusal.Refused.TheVariants as refused
-use Rattle.cbor_de.specs.Gives.{FailsAs, FailsBy, IsErrorOf, Limits, limits, Reports, Step, Stopped, TellsNoForm, TellsNoKey}
-use Rattle.cbor_de.specs.declared.cursor.Remaining.{Remaining}
-use Rattle.cbor_de.specs.Heads.{remaining_of}
-use Rattle.cbor_de.specs.Cursor.{behind_next}
+use Rattle.cbor_decode.specs.declared.refusal.Refused.{Refused}
+use Rattle.cbor_decode.specs.declared.refusal.Refused.TheVariants as refused
+use Rattle.cbor_decode.specs.Gives.{FailsAs, FailsBy, IsErrorOf, Limits, limits, Reports, Step, Stopped, TellsNoForm, TellsNoKey}
+use Rattle.cbor_decode.specs.declared.cursor.Remaining.{Remaining}
+use Rattle.cbor_decode.specs.Heads.{remaining_of}
+use Rattle.cbor_decode.specs.Cursor.{behind_next}
 use Rattle.cbor_collections.specs.Accesses.{IsArrayHead}
 use Rattle.cbor_collections.specs.Cases.{Cases, Stands, StandsBy, NoItemHere, IsEmptyArray, IsInOtherForm, IsBadPair, TellsTooShort, form_cases, untagged_cases, enum_cases, unit_cases, key_cases}
 use Rattle.cbor_scalars.specs.Identifiers.{IsMadeBy, NamesNoKey}

@@ -9,16 +9,16 @@ use Rattle.cbor_io.specs.declared.read_error.ReadError.{ReadError}
 use Rattle.cbor_io.specs.declared.read_error.ReadErrorCode.{ReadErrorCode}
 use Rattle.cbor_io.specs.declared.read_error.ReadErrorCode.TheVariants as reading
 use Rattle.cbor_read.specs.Source.{Input}
-use Rattle.cbor_de.specs.Gives.{IsErrorOf, TellsNoForm}
-use Rattle.cbor_de.specs.declared.cursor.Remaining.{Remaining}
-use Rattle.cbor_de.specs.declared.refusal.Refused.{Refused}
-use Rattle.cbor_de.specs.declared.refusal.Refused.TheVariants as refused
+use Rattle.cbor_decode.specs.Gives.{IsErrorOf, TellsNoForm}
+use Rattle.cbor_decode.specs.declared.cursor.Remaining.{Remaining}
+use Rattle.cbor_decode.specs.declared.refusal.Refused.{Refused}
+use Rattle.cbor_decode.specs.declared.refusal.Refused.TheVariants as refused
 use Rattle.cbor_scalars.specs.Identifiers.{IsMadeBy}
 use Rattle.cbor_scalars.specs.declared.identifier.Why.{Why}
 use Rattle.cbor_scalars.specs.declared.identifier.Why.TheVariants as unnamed
 use Rattle.cbor_collections.specs.Cases.{FormAlone, IsEnumCode, NoItemHere}
 
--- what a deserializer keeps: of the codes that tell a wrong form, the key rule's alone
+-- what a decoder keeps: of the codes that tell a wrong form, the key rule's alone
 code_kept : (k : ReadErrorCode) → FormAlone code.WrongStructFormat (error_code k)
 code_kept (reading.Io fault) = inl tt
 code_kept reading.ScratchTooSmall = inl tt

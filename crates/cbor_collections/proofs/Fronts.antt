@@ -1,8 +1,8 @@
 -- The byte at the front, of which nothing is taken.
 use Rattle.std.proofs.Common.{◌≡◌, ℕ, List, [], ◌∷◌, take, Option, Some, IfSome, MatchOption, sym, ap, subst}
 use Rattle.cbor_read.specs.Source.{Input, Stays}
-use Rattle.cbor_de.specs.Gives.{Step}
-use Rattle.cbor_de.proofs.facts.Steps.{none_step}
+use Rattle.cbor_decode.specs.Gives.{Step}
+use Rattle.cbor_decode.proofs.facts.Steps.{none_step}
 
 -- what is said of the byte at the front
 abbrev pub Front : Input → Option ℕ → Type 0

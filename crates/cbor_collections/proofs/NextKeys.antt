@@ -13,13 +13,13 @@ use Rattle.cbor_io.specs.declared.error.Error.{Error}
 use Rattle.cbor_io.specs.declared.error.ErrorCode.{ErrorCode}
 use Rattle.cbor_io.specs.declared.read_error.ReadError.{ReadError}
 use Rattle.cbor_io.specs.declared.read_error.ReadErrorCode.{ReadErrorCode}
-use Rattle.cbor_de.specs.Cursor.{behind_next}
-use Rattle.cbor_de.specs.Gives.{Limits, Step, Stopped, IsErrorOf}
-use Rattle.cbor_de.specs.Heads.{remaining_of}
-use Rattle.cbor_de.specs.declared.cursor.Remaining.{Remaining}
-use Rattle.cbor_de.specs.declared.refusal.Refused.{Refused}
-use Rattle.cbor_de.proofs.facts.Steps.{some_then, step_map, step_then}
-use Rattle.cbor_de.specs.declared.formats.Formats.{Formats}
+use Rattle.cbor_decode.specs.Cursor.{behind_next}
+use Rattle.cbor_decode.specs.Gives.{Limits, Step, Stopped, IsErrorOf}
+use Rattle.cbor_decode.specs.Heads.{remaining_of}
+use Rattle.cbor_decode.specs.declared.cursor.Remaining.{Remaining}
+use Rattle.cbor_decode.specs.declared.refusal.Refused.{Refused}
+use Rattle.cbor_decode.proofs.facts.Steps.{some_then, step_map, step_then}
+use Rattle.cbor_decode.specs.declared.formats.Formats.{Formats}
 use Rattle.cbor_collections.specs.MapAccesses.{Comes, key_front, IsKey}
 use Rattle.cbor_scalars.specs.Takes.{formats_of, raws, IsRead, IsNotRead, Refuses}
 use Rattle.cbor_collections.proofs.PairsRead.{NoKey}

@@ -7,7 +7,7 @@ use Rattle.cbor_model.specs.Raw.{Raw, RawPairs, no_raw_pairs, raw_pair}
 use Rattle.cbor_model.specs.Refusal.{end_in_map}
 use Rattle.cbor_model.specs.Reader.{Reads, ◌>>=◌, Remaining, go_on, next_at, key_at, pair_at, parts_by, pairs_of, item_at}
 use Rattle.cbor_model.proofs.facts.Reader.{ok_is, bind_ok, taken, next_taken, pair_taken, parts_by-fuel, key_read}
-use Rattle.cbor_de.specs.Gives.{Limits}
+use Rattle.cbor_decode.specs.Gives.{Limits}
 use Rattle.cbor_collections.specs.MapAccesses.{pairs_at, IsNextKey, IsMapEnd, IsKey}
 use Rattle.cbor_collections.specs.Maps.{ArePairsRead, AreEntries, put_all}
 use Rattle.cbor_scalars.specs.Takes.{raws, IsRead, IsNotRead}

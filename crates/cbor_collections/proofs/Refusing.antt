@@ -8,10 +8,10 @@ use Rattle.cbor_io.specs.declared.error.ErrorCode.{ErrorCode}
 use Rattle.cbor_io.specs.declared.error.ErrorCode.TheVariants as code
 use Rattle.cbor_io.specs.declared.read_error.ReadError.{ReadError}
 use Rattle.cbor_io.specs.declared.read_error.ReadErrorCode.{ReadErrorCode}
-use Rattle.cbor_de.specs.declared.refusal.Refused.{Refused}
-use Rattle.cbor_de.specs.Gives.{Limits, limits, Step, Stopped, Reports, IsErrorOf}
+use Rattle.cbor_decode.specs.declared.refusal.Refused.{Refused}
+use Rattle.cbor_decode.specs.Gives.{Limits, limits, Step, Stopped, Reports, IsErrorOf}
 use Rattle.cbor_scalars.specs.Takes.{ExcusedBy, Refuses, TellsFault}
-use Rattle.cbor_de.proofs.facts.Steps.{some_then}
+use Rattle.cbor_decode.proofs.facts.Steps.{some_then}
 use Rattle.cbor_scalars.proofs.facts.Refusals.{excused_or, told_by}
 
 -- ---- refusals

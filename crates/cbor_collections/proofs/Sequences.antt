@@ -6,7 +6,7 @@ use Rattle.cbor_model.specs.Raw.{Raw, Raws, no_raws}
 use Rattle.cbor_model.specs.Refusal.{end_in_array}
 use Rattle.cbor_model.specs.Reader.{Reads, ◌>>=◌, Remaining, go_on, next_at, parts_by, items_of, item_at}
 use Rattle.cbor_model.proofs.facts.Reader.{ok_is, taken, next_taken, parts_by-fuel}
-use Rattle.cbor_de.specs.Gives.{Limits}
+use Rattle.cbor_decode.specs.Gives.{Limits}
 use Rattle.cbor_collections.specs.Accesses.{items_at, IsNextItem, IsEnd, IsNext}
 use Rattle.cbor_collections.specs.Arrays.{AreRead, AreNone}
 use Rattle.cbor_scalars.specs.Takes.{raws}

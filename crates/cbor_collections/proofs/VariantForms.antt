@@ -10,13 +10,13 @@ use Rattle.cbor_io.specs.Error.{code_of, offset_of}
 use Rattle.cbor_io.specs.declared.error.Error.{Error}
 use Rattle.cbor_io.specs.declared.read_error.ReadError.{ReadError}
 use Rattle.cbor_io.specs.declared.read_error.ReadErrorCode.{ReadErrorCode}
-use Rattle.cbor_de.specs.Gives.{Limits, limits, Step, Stopped, IsErrorOf}
-use Rattle.cbor_de.specs.Heads.{remaining_of}
-use Rattle.cbor_de.specs.declared.cursor.Remaining.{Remaining}
-use Rattle.cbor_de.specs.declared.head.Head.{Head}
-use Rattle.cbor_de.specs.declared.head.Head.TheVariants.{Array}
-use Rattle.cbor_de.specs.declared.refusal.Refused.{Refused}
-use Rattle.cbor_de.proofs.facts.Steps.{step_same, step_map, step_then}
+use Rattle.cbor_decode.specs.Gives.{Limits, limits, Step, Stopped, IsErrorOf}
+use Rattle.cbor_decode.specs.Heads.{remaining_of}
+use Rattle.cbor_decode.specs.declared.cursor.Remaining.{Remaining}
+use Rattle.cbor_decode.specs.declared.head.Head.{Head}
+use Rattle.cbor_decode.specs.declared.head.Head.TheVariants.{Array}
+use Rattle.cbor_decode.specs.declared.refusal.Refused.{Refused}
+use Rattle.cbor_decode.proofs.facts.Steps.{step_same, step_map, step_then}
 use Rattle.cbor_scalars.specs.Tags.{passed_at}
 use Rattle.cbor_scalars.specs.Takes.{raws, IsRead, IsNotRead, Refuses}
 use Rattle.cbor_collections.specs.Begins.{Begins, NoneBegins, RefusesBeginning, TakesBeginning}

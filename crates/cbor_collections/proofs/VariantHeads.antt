@@ -9,11 +9,11 @@ use Rattle.cbor_model.specs.Raw.{Raw}
 use Rattle.cbor_model.specs.Reader.{Fault, Reads, ◌>>=◌, byte_at, number_at, number_behind, width_of, item_at, inside}
 use Rattle.cbor_model.proofs.facts.Reader.{ok_is}
 use Rattle.cbor_value.specs.declared.Float.TheVariants.{Half, Single, Double}
-use Rattle.cbor_de.specs.Gives.{Limits}
-use Rattle.cbor_de.specs.Heads.{head_at, head_of, number_head, length_head, simple_head, behind_head}
-use Rattle.cbor_de.specs.declared.head.Head.{Head}
-use Rattle.cbor_de.specs.declared.head.Head.TheVariants as head
-use Rattle.cbor_de.specs.declared.cursor.Remaining.TheVariants.{Counted, ToBreak}
+use Rattle.cbor_decode.specs.Gives.{Limits}
+use Rattle.cbor_decode.specs.Heads.{head_at, head_of, number_head, length_head, simple_head, behind_head}
+use Rattle.cbor_decode.specs.declared.head.Head.{Head}
+use Rattle.cbor_decode.specs.declared.head.Head.TheVariants as head
+use Rattle.cbor_decode.specs.declared.cursor.Remaining.TheVariants.{Counted, ToBreak}
 use Rattle.cbor_scalars.specs.Kinds.{kind_of, head_kind}
 use Rattle.cbor_scalars.specs.Kinds as kind
 use Rattle.cbor_scalars.specs.Tags.{begins_tag}

@@ -13,14 +13,14 @@ use Rattle.cbor_io.specs.Error.{code_of, offset_of}
 use Rattle.cbor_io.specs.declared.error.Error.{Error}
 use Rattle.cbor_io.specs.declared.read_error.ReadErrorCode.{ReadErrorCode}
 use Rattle.cbor_io.specs.declared.read_error.ReadError.{ReadError}
-use Rattle.cbor_de.specs.declared.refusal.Refused.{Refused}
-use Rattle.cbor_de.proofs.facts.Steps.{step_then, stopped_then}
-use Rattle.cbor_de.specs.Gives.{Limits, Step, Stopped, Gives}
+use Rattle.cbor_decode.specs.declared.refusal.Refused.{Refused}
+use Rattle.cbor_decode.proofs.facts.Steps.{step_then, stopped_then}
+use Rattle.cbor_decode.specs.Gives.{Limits, Step, Stopped, Gives}
 use Rattle.cbor_collections.specs.MapAccesses.{key_front}
-use Rattle.cbor_de.specs.Heads.{behind_head}
-use Rattle.cbor_de.specs.declared.head.Head.{Head}
-use Rattle.cbor_de.specs.declared.head.Head.TheVariants as head
-use Rattle.cbor_de.specs.declared.cursor.Remaining.TheVariants.{Counted, ToBreak}
+use Rattle.cbor_decode.specs.Heads.{behind_head}
+use Rattle.cbor_decode.specs.declared.head.Head.{Head}
+use Rattle.cbor_decode.specs.declared.head.Head.TheVariants as head
+use Rattle.cbor_decode.specs.declared.cursor.Remaining.TheVariants.{Counted, ToBreak}
 use Rattle.cbor_collections.specs.Enums.{IsVariant, IsName, Content}
 use Rattle.cbor_scalars.specs.Kinds.{kind_of, head_kind}
 use Rattle.cbor_scalars.specs.Kinds as kind

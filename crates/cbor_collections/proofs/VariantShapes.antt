@@ -13,10 +13,10 @@ use Rattle.cbor_io.specs.declared.error.Error.{Error}
 use Rattle.cbor_io.specs.declared.read_error.ReadErrorCode.{ReadErrorCode}
 use Rattle.cbor_io.specs.declared.read_error.ReadError.{ReadError}
 use Rattle.cbor_io.specs.declared.read_error.ReadErrorCode.TheVariants as reading
-use Rattle.cbor_de.specs.declared.refusal.Refused.{Refused}
-use Rattle.cbor_de.specs.declared.refusal.Refused.TheVariants as refused
-use Rattle.cbor_de.specs.Gives.{Limits, limits, Step, Stopped, IsAt}
-use Rattle.cbor_de.proofs.facts.Steps.{step_then, stopped_then, fault_stops}
+use Rattle.cbor_decode.specs.declared.refusal.Refused.{Refused}
+use Rattle.cbor_decode.specs.declared.refusal.Refused.TheVariants as refused
+use Rattle.cbor_decode.specs.Gives.{Limits, limits, Step, Stopped, IsAt}
+use Rattle.cbor_decode.proofs.facts.Steps.{step_then, stopped_then, fault_stops}
 use Rattle.cbor_collections.specs.Enums.{IsVariant, Content, reads_names}
 use Rattle.cbor_scalars.specs.Kinds.{kind_of}
 use Rattle.cbor_scalars.specs.Kinds as kind

@@ -12,10 +12,10 @@ use Rattle.cbor_read.specs.Source.{Input}
 use Rattle.cbor_io.specs.Error.{code_of, offset_of}
 use Rattle.cbor_io.specs.declared.error.Error.{Error}
 use Rattle.cbor_io.specs.declared.read_error.ReadErrorCode.{ReadErrorCode}
-use Rattle.cbor_de.specs.Gives.{Limits, Step}
-use Rattle.cbor_de.specs.Heads.{remaining_of}
-use Rattle.cbor_de.specs.declared.cursor.Remaining.{Remaining}
-use Rattle.cbor_de.proofs.facts.Steps.{step_map, step_then}
+use Rattle.cbor_decode.specs.Gives.{Limits, Step}
+use Rattle.cbor_decode.specs.Heads.{remaining_of}
+use Rattle.cbor_decode.specs.declared.cursor.Remaining.{Remaining}
+use Rattle.cbor_decode.proofs.facts.Steps.{step_map, step_then}
 use Rattle.cbor_collections.specs.Accesses.{items_at, array_of, IsArrayHead, IsItems, IsNextItem, RefusesArray}
 use Rattle.cbor_collections.specs.Enums.{IsVariant, IsName, Content, alone, one, parts, reads_names}
 use Rattle.cbor_scalars.specs.Identifiers.{IsIdentifier, IsFirst, IsPlace}

@@ -11,11 +11,11 @@ use Rattle.cbor_io.specs.declared.error.Error.{Error}
 use Rattle.cbor_io.specs.declared.read_error.ReadErrorCode.{ReadErrorCode}
 use Rattle.cbor_io.specs.Error.{code_of, offset_of}
 use Rattle.cbor_read.specs.Source.{Input}
-use Rattle.cbor_de.specs.Gives.{Limits, Step}
-use Rattle.cbor_de.specs.Heads.{remaining_of, head_at, head_of}
-use Rattle.cbor_de.specs.declared.cursor.Remaining.{Remaining}
-use Rattle.cbor_de.specs.declared.cursor.Remaining.TheVariants.{Counted}
-use Rattle.cbor_de.specs.declared.head.Head.TheVariants.{Array}
+use Rattle.cbor_decode.specs.Gives.{Limits, Step}
+use Rattle.cbor_decode.specs.Heads.{remaining_of, head_at, head_of}
+use Rattle.cbor_decode.specs.declared.cursor.Remaining.{Remaining}
+use Rattle.cbor_decode.specs.declared.cursor.Remaining.TheVariants.{Counted}
+use Rattle.cbor_decode.specs.declared.head.Head.TheVariants.{Array}
 use Rattle.cbor_scalars.specs.Opens.{opened_at}
 use Rattle.cbor_scalars.specs.Tags.{passed_at}
 use Rattle.cbor_scalars.specs.Takes.{raws, IsRead, Refuses}

@@ -13,9 +13,9 @@ use Rattle.cbor_io.specs.declared.error.ErrorCode.TheVariants.{NotCanonical}
 use Rattle.cbor_io.specs.declared.read_error.ReadErrorCode.{ReadErrorCode}
 use Rattle.cbor_io.specs.Error.{code_of, offset_of}
 use Rattle.cbor_read.specs.Source.{Input}
-use Rattle.cbor_de.specs.Gives.{FailsAs, Limits, limits, Reports, Tells, TellsNoForm}
-use Rattle.cbor_de.specs.Heads.{remaining_of}
-use Rattle.cbor_de.specs.declared.cursor.Remaining.{Remaining}
+use Rattle.cbor_decode.specs.Gives.{FailsAs, Limits, limits, Reports, Tells, TellsNoForm}
+use Rattle.cbor_decode.specs.Heads.{remaining_of}
+use Rattle.cbor_decode.specs.declared.cursor.Remaining.{Remaining}
 use Rattle.cbor_collections.specs.Accesses.{IsArrayHead}
 use Rattle.cbor_collections.specs.MapAccesses.{key_front}
 use Rattle.cbor_scalars.specs.Takes.{raws, ExcusedBy}

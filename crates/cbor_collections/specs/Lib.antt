@@ -9,7 +9,7 @@ pub mod Cases
 pub mod BeginsEnum
 pub use Rattle.cbor_io.specs.Error
 pub use Rattle.cbor_read.specs.Source
-pub use Rattle.cbor_de.specs.Gives
-pub use Rattle.cbor_de.specs.Deserializer
+pub use Rattle.cbor_decode.specs.Gives
+pub use Rattle.cbor_decode.specs.Decoder
 pub use Rattle.cbor_scalars.specs.Takes
 pub use Rattle.cbor_scalars.specs.Identifiers

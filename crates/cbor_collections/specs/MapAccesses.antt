@@ -12,10 +12,10 @@ use Rattle.cbor_io.specs.declared.error.Error.{Error}
 use Rattle.cbor_io.specs.declared.read_error.ReadErrorCode.{ReadErrorCode}
 use Rattle.cbor_io.specs.Error.{code_of, offset_of}
 use Rattle.cbor_read.specs.Source.{Input, TookSome}
-use Rattle.cbor_de.specs.Cursor.{ended_at}
-use Rattle.cbor_de.specs.Gives.{Limits, Step}
-use Rattle.cbor_de.specs.Heads.{remaining_of}
-use Rattle.cbor_de.specs.declared.cursor.Remaining.{Remaining}
+use Rattle.cbor_decode.specs.Cursor.{ended_at}
+use Rattle.cbor_decode.specs.Gives.{Limits, Step}
+use Rattle.cbor_decode.specs.Heads.{remaining_of}
+use Rattle.cbor_decode.specs.declared.cursor.Remaining.{Remaining}
 use Rattle.cbor_collections.specs.Maps.{AsMap}
 use Rattle.cbor_scalars.specs.Opens.{in_tags}
 use Rattle.cbor_scalars.specs.Takes.{raws, IsRead, IsNotRead, Refuses, TellsFault}

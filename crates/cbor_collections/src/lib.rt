@@ -3,7 +3,7 @@
 //! The items themselves are read by the crate above (`cbor_typed`), which knows their types.
 //!
 //! This crate names the definitions of `cbor_model` and its facts on the reference reader, the
-//! errors and the sources of `cbor_io`, and `cbor_de` and `cbor_scalars` with their facts. Others
+//! errors and the sources of `cbor_io`, and `cbor_decode` and `cbor_scalars` with their facts. Others
 //! rely on the contracts, on the words that they use, and on the published facts.
 #![tactic(auto)]
 

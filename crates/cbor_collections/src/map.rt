@@ -4,19 +4,19 @@ ghost use Rattle.std.specs.Prelude.{◌≡◌, ◌<◌, true, false, IfOk, IfErr
 ghost use Rattle.std.specs.Prelude.{OnOk, OnErr};
 ghost use Rattle.cbor_model.specs.Formats.{may_begin_key};
 ghost use Rattle.cbor_io.specs.Error.{code_of};
-ghost use Rattle.cbor_de.specs.Cursor.{Counts};
-ghost use Rattle.cbor_de.specs.Gives.{Gives, IsAt, IsErrorOf, Onward, TellsNoForm};
-ghost use Rattle.cbor_de.specs.declared.refusal.Refused.TheVariants.{Kept};
+ghost use Rattle.cbor_decode.specs.Cursor.{Counts};
+ghost use Rattle.cbor_decode.specs.Gives.{Gives, IsAt, IsErrorOf, Onward, TellsNoForm};
+ghost use Rattle.cbor_decode.specs.declared.refusal.Refused.TheVariants.{Kept};
 ghost use Rattle.cbor_io.specs.declared.read_error.ReadErrorCode.TheVariants as reading;
 ghost use Rattle.cbor_io.specs.declared.error.Error.{Error};
 ghost use Rattle.cbor_collections.specs.Cases.{Stands, TellsBadKey, key_cases};
 ghost use Rattle.cbor_collections.specs.MapAccesses.{TakesMapHead};
 ghost use Rattle.cbor_collections.specs.Begins.{TakesBeginning};
-ghost use Rattle.cbor_de.specs.declared.head.Head.TheVariants as kind;
+ghost use Rattle.cbor_decode.specs.declared.head.Head.TheVariants as kind;
 ghost use Rattle.cbor_collections.specs.MapAccesses.{TakesMorePairs, TakesMapEnd, key_front};
 ghost use Rattle.cbor_scalars.specs.Takes.{OnceMade, formats_of};
 
-use cbor_de::{Collection, Deserializer, Done, Head, Remaining};
+use cbor_decode::{Collection, Decoder, Done, Head, Remaining};
 use cbor_io::error::Result;
 use cbor_read::{ReadErrorCode, Source};
 use cbor_scalars::opening::{mismatch, open};
@@ -25,36 +25,36 @@ use cbor_scalars::opening::{mismatch, open};
 ///
 /// An item of another kind is refused with `invalid type: expected a map`, and a map for which no
 /// level is left with `RecursionLimitExceeded`. No level is entered then.
-pub fn map_head<R: Source>(items: &mut Deserializer<R>) -> Result<Remaining>
-    ensures read { TakesMapHead R.refusals (formats_of items.old.formats)
-        items.old.levels (R.source items.old.source)
-        (R.source items.new.source) items.new.levels result }
-    ensures opened { TakesBeginning kind.Map R.refusals items.old.levels
-        (R.source items.old.source) (R.source items.new.source)
-        items.new.levels result }
-    ensures taken { OnOk result (Onward (R.source items.old.source) (R.source items.new.source)) }
+pub fn map_head<R: Source>(decoder: &mut Decoder<R>) -> Result<Remaining>
+    ensures read { TakesMapHead R.refusals (formats_of decoder.old.formats)
+        decoder.old.levels (R.source decoder.old.source)
+        (R.source decoder.new.source) decoder.new.levels result }
+    ensures opened { TakesBeginning kind.Map R.refusals decoder.old.levels
+        (R.source decoder.old.source) (R.source decoder.new.source)
+        decoder.new.levels result }
+    ensures taken { OnOk result (Onward (R.source decoder.old.source) (R.source decoder.new.source)) }
     ensures no_form { IfErr result (λ e. TellsNoForm (code_of e)) }
-    ensures inside { IfOk result (λ r. items.new.levels < items.old.levels) }
-    ensures outer { OnErr result (items.new.levels ≡ items.old.levels) }
-    ensures formats { items.new.formats ≡ items.old.formats }
+    ensures inside { IfOk result (λ r. decoder.new.levels < decoder.old.levels) }
+    ensures outer { OnErr result (decoder.new.levels ≡ decoder.old.levels) }
+    ensures formats { decoder.new.formats ≡ decoder.old.formats }
 {
-    let outer = items.levels;
-    let head = match open(items) {
+    let outer = decoder.levels;
+    let head = match open(decoder) {
         Ok(head) => head,
         Err(refused) => {
-            items.levels = outer;
-            return Err(items.error(refused));
+            decoder.levels = outer;
+            return Err(decoder.error(refused));
         }
     };
     let Head::Map(remaining) = head else {
-        items.levels = outer;
-        return Err(mismatch(items, head, "invalid type: expected a map"));
+        decoder.levels = outer;
+        return Err(mismatch(decoder, head, "invalid type: expected a map"));
     };
-    match items.enter() {
+    match decoder.enter() {
         Ok(()) => Ok(remaining),
         Err(refused) => {
-            items.levels = outer;
-            Err(items.error(refused))
+            decoder.levels = outer;
+            Err(decoder.error(refused))
         }
     }
 }
@@ -62,54 +62,54 @@ pub fn map_head<R: Source>(items: &mut Deserializer<R>) -> Result<Remaining>
 // Refuses a key that may not begin as it does; its first byte stays.
 #[inline(always)]
 #[tactic(auto, unfolding(cbor_model::specs::Reader::key_at))]
-pub(crate) fn key_begins<R: Source>(items: &mut Deserializer<R>) -> Done<()>
+pub(crate) fn key_begins<R: Source>(decoder: &mut Decoder<R>) -> Done<()>
     ensures read { Gives R.refusals (λ u. u)
-        (λ l. key_front (formats_of items.old.formats))
-        (R.source items.old.source) (R.source items.new.source)
-        items.new.refusal result }
-    ensures levels { items.new.levels ≡ items.old.levels }
-    ensures formats { items.new.formats ≡ items.old.formats }
+        (λ l. key_front (formats_of decoder.old.formats))
+        (R.source decoder.old.source) (R.source decoder.new.source)
+        decoder.new.refusal result }
+    ensures levels { decoder.new.levels ≡ decoder.old.levels }
+    ensures formats { decoder.new.formats ≡ decoder.old.formats }
 {
-    match items.source.ahead().first().copied() {
-        Some(first) => key_may_begin(items, first),
-        None => key_begins_peeked(items),
+    match decoder.source.ahead().first().copied() {
+        Some(first) => key_may_begin(decoder, first),
+        None => key_begins_peeked(decoder),
     }
 }
 
 // Refuses such a key where no byte is buffered: the source is asked to show one.
 #[inline(never)]
 #[tactic(auto, unfolding(cbor_model::specs::Reader::key_at))]
-fn key_begins_peeked<R: Source>(items: &mut Deserializer<R>) -> Done<()>
+fn key_begins_peeked<R: Source>(decoder: &mut Decoder<R>) -> Done<()>
     ensures read { Gives R.refusals (λ u. u)
-        (λ l. key_front (formats_of items.old.formats))
-        (R.source items.old.source) (R.source items.new.source)
-        items.new.refusal result }
-    ensures levels { items.new.levels ≡ items.old.levels }
-    ensures formats { items.new.formats ≡ items.old.formats }
+        (λ l. key_front (formats_of decoder.old.formats))
+        (R.source decoder.old.source) (R.source decoder.new.source)
+        decoder.new.refusal result }
+    ensures levels { decoder.new.levels ≡ decoder.old.levels }
+    ensures formats { decoder.new.formats ≡ decoder.old.formats }
 {
-    match items.source.peek() {
-        Ok(Some(first)) => key_may_begin(items, first),
-        Ok(None) => Err(items.refuse(ReadErrorCode::EofWhileParsingValue)),
-        Err(refusal) => Err(items.keep(refusal)),
+    match decoder.source.peek() {
+        Ok(Some(first)) => key_may_begin(decoder, first),
+        Ok(None) => Err(decoder.refuse(ReadErrorCode::EofWhileParsingValue)),
+        Err(refusal) => Err(decoder.keep(refusal)),
     }
 }
 
 // Refuses a key that may not begin with this byte.
 #[inline(always)]
-fn key_may_begin<R: Source>(items: &mut Deserializer<R>, first: u8) -> Done<()>
+fn key_may_begin<R: Source>(decoder: &mut Decoder<R>, first: u8) -> Done<()>
     ensures allowed { OnOk result
-        (may_begin_key (formats_of items.old.formats) first ≡ true) }
+        (may_begin_key (formats_of decoder.old.formats) first ≡ true) }
     ensures refused { IfErr result (λ r. r ≡ Kept) }
     ensures kept { OnErr result
-        (IsAt reading.WrongStructFormat (R.source items.old.source).offset items.new.refusal) }
+        (IsAt reading.WrongStructFormat (R.source decoder.old.source).offset decoder.new.refusal) }
     ensures not_allowed { OnErr result
-        (may_begin_key (formats_of items.old.formats) first ≡ false) }
-    ensures source { items.new.source ≡ items.old.source }
-    ensures levels { items.new.levels ≡ items.old.levels }
-    ensures formats { items.new.formats ≡ items.old.formats }
+        (may_begin_key (formats_of decoder.old.formats) first ≡ false) }
+    ensures source { decoder.new.source ≡ decoder.old.source }
+    ensures levels { decoder.new.levels ≡ decoder.old.levels }
+    ensures formats { decoder.new.formats ≡ decoder.old.formats }
 {
-    if !items.formats.may_begin_key(first) {
-        return Err(items.refuse(ReadErrorCode::WrongStructFormat));
+    if !decoder.formats.may_begin_key(first) {
+        return Err(decoder.refuse(ReadErrorCode::WrongStructFormat));
     }
     Ok(())
 }
@@ -119,39 +119,39 @@ fn key_may_begin<R: Source>(items: &mut Deserializer<R>, first: u8) -> Done<()>
 /// that has no end with `EofWhileParsingMap`.
 #[inline(always)]
 #[tactic(auto, using(crate::proofs::Cases::made_stands, crate::proofs::Cases::key_stands, crate::proofs::BadKeys::bad_key_first, crate::proofs::BadKeys::bad_key_told))]
-pub fn more_pairs<R: Source>(items: &mut Deserializer<R>, remaining: &mut Remaining) -> Done<bool>
-    ensures read { OnceMade (IsErrorOf items.new.refusal)
-        (TakesMorePairs R.refusals (formats_of items.old.formats)
+pub fn more_pairs<R: Source>(decoder: &mut Decoder<R>, remaining: &mut Remaining) -> Done<bool>
+    ensures read { OnceMade (IsErrorOf decoder.new.refusal)
+        (TakesMorePairs R.refusals (formats_of decoder.old.formats)
         remaining.old remaining.new
-        (R.source items.old.source) (R.source items.new.source)) result }
-    ensures cases { IfErr result (λ r. (e : Error) → IsErrorOf items.new.refusal r e
-        → Stands (R.source items.old.source) e
-        (key_cases (formats_of items.old.formats) remaining.old)) }
-    ensures bad_key { IfErr result (λ r. (e : Error) → IsErrorOf items.new.refusal r e
-        → TellsBadKey R.refusals (formats_of items.old.formats) remaining.old
-        (R.source items.old.source) e) }
+        (R.source decoder.old.source) (R.source decoder.new.source)) result }
+    ensures cases { IfErr result (λ r. (e : Error) → IsErrorOf decoder.new.refusal r e
+        → Stands (R.source decoder.old.source) e
+        (key_cases (formats_of decoder.old.formats) remaining.old)) }
+    ensures bad_key { IfErr result (λ r. (e : Error) → IsErrorOf decoder.new.refusal r e
+        → TellsBadKey R.refusals (formats_of decoder.old.formats) remaining.old
+        (R.source decoder.old.source) e) }
     ensures counts { IfOk result (λ more. Counts remaining.old more remaining.new) }
-    ensures levels { items.new.levels ≡ items.old.levels }
-    ensures formats { items.new.formats ≡ items.old.formats }
+    ensures levels { decoder.new.levels ≡ decoder.old.levels }
+    ensures formats { decoder.new.formats ≡ decoder.old.formats }
 {
-    if !items.more(remaining, Collection::Map)? {
+    if !decoder.more(remaining, Collection::Map)? {
         return Ok(false);
     }
-    key_begins(items)?;
+    key_begins(decoder)?;
     Ok(true)
 }
 
 /// Takes the end of a map of which so much remains. Pairs that weren't read are refused with
 /// `TrailingData`.
-pub fn end_map<R: Source>(items: &mut Deserializer<R>, remaining: Remaining) -> Result<()>
+pub fn end_map<R: Source>(decoder: &mut Decoder<R>, remaining: Remaining) -> Result<()>
     ensures read { TakesMapEnd R.refusals remaining
-        (R.source items.old.source) (R.source items.new.source) result }
+        (R.source decoder.old.source) (R.source decoder.new.source) result }
     ensures no_form { IfErr result (λ e. TellsNoForm (code_of e)) }
-    ensures levels { items.new.levels ≡ items.old.levels }
-    ensures formats { items.new.formats ≡ items.old.formats }
+    ensures levels { decoder.new.levels ≡ decoder.old.levels }
+    ensures formats { decoder.new.formats ≡ decoder.old.formats }
 {
-    match items.end_of(remaining, Collection::Map) {
+    match decoder.end_of(remaining, Collection::Map) {
         Ok(()) => Ok(()),
-        Err(refused) => Err(items.error(refused)),
+        Err(refused) => Err(decoder.error(refused)),
     }
 }

@@ -5,9 +5,9 @@ ghost use Rattle.std.specs.Prelude.{OnOk, OnErr, IfOk, IfErr};
 ghost use Rattle.cbor_model.specs.Readable.{PassesTags, IsUnit};
 ghost use Rattle.cbor_model.specs.Refusal.{end_in_array};
 ghost use Rattle.cbor_model.specs.Reader.{next_at};
-ghost use Rattle.cbor_de.specs.Heads.{remaining_of};
+ghost use Rattle.cbor_decode.specs.Heads.{remaining_of};
 ghost use Rattle.cbor_io.specs.Error.{code_of, offset_of, HasNoOffset};
-ghost use Rattle.cbor_de.specs.Gives.{Gives, Onward, Stopped, TellsNoForm, TellsNoKey};
+ghost use Rattle.cbor_decode.specs.Gives.{Gives, Onward, Stopped, TellsNoForm, TellsNoKey};
 ghost use Rattle.cbor_io.specs.declared.error.ErrorCode.TheVariants.{ArrayTooLong};
 ghost use Rattle.cbor_collections.specs.Cases.{FormAlone, IsEnumCode, NoItemHere};
 ghost use Rattle.cbor_collections.specs.Cases.{Stands, form_cases};
@@ -31,7 +31,7 @@ ghost use Rattle.cbor_collections.specs.declared.variant.Shape.TheVariants as sh
 
 use crate::array::{array_head, end_array};
 use crate::map::key_begins;
-use cbor_de::{Deserializer, Done, Refused, Remaining};
+use cbor_decode::{Decoder, Done, Refused, Remaining};
 use cbor_io::error::{Error, ErrorCode, Result};
 use cbor_read::{Read, ReadErrorCode, Source};
 use cbor_scalars::identifier::{identifier, unnamed};
@@ -79,39 +79,39 @@ fn shape_of(first: u8) -> Shape
 
 // How the enum at the front is spelled, where that is read. Its first byte stays.
 #[tactic(auto, using(crate::proofs::Codes::kept_enum, crate::proofs::Codes::other_enum))]
-fn enum_shape<R: Source>(items: &mut Deserializer<R>) -> Result<Shape>
-    ensures read { TakesShape R.refusals (formats_of items.old.formats)
-        (R.source items.old.source) (R.source items.new.source) result }
-    ensures cases { IfErr result (λ e. Stands (R.source items.old.source) e
-        (form_cases (formats_of items.old.formats))) }
+fn enum_shape<R: Source>(decoder: &mut Decoder<R>) -> Result<Shape>
+    ensures read { TakesShape R.refusals (formats_of decoder.old.formats)
+        (R.source decoder.old.source) (R.source decoder.new.source) result }
+    ensures cases { IfErr result (λ e. Stands (R.source decoder.old.source) e
+        (form_cases (formats_of decoder.old.formats))) }
     ensures code { IfErr result (λ e. IsEnumCode (code_of e)) }
-    ensures levels { items.new.levels ≡ items.old.levels }
-    ensures formats { items.new.formats ≡ items.old.formats }
+    ensures levels { decoder.new.levels ≡ decoder.old.levels }
+    ensures formats { decoder.new.formats ≡ decoder.old.formats }
 {
-    let first = match items.source.peek() {
+    let first = match decoder.source.peek() {
         Ok(Some(first)) => first,
         Ok(None) => {
-            let refused = items.refuse(ReadErrorCode::EofWhileParsingValue);
-            return Err(items.error(refused));
+            let refused = decoder.refuse(ReadErrorCode::EofWhileParsingValue);
+            return Err(decoder.error(refused));
         }
         Err(refusal) => {
-            let refused = items.keep(refusal);
-            return Err(items.error(refused));
+            let refused = decoder.keep(refusal);
+            return Err(decoder.error(refused));
         }
     };
     let shape = shape_of(first);
-    if reads_shape(items, shape) {
+    if reads_shape(decoder, shape) {
         Ok(shape)
     } else {
-        Err(refuse_here(items, ErrorCode::WrongEnumFormat))
+        Err(refuse_here(decoder, ErrorCode::WrongEnumFormat))
     }
 }
 
 // Whether enums that are spelled so are read.
-fn reads_shape<R: Source>(items: &Deserializer<R>, shape: Shape) -> bool
-    ensures { result ≡ reads_shape (formats_of items.now.formats) shape }
+fn reads_shape<R: Source>(decoder: &Decoder<R>, shape: Shape) -> bool
+    ensures { result ≡ reads_shape (formats_of decoder.now.formats) shape }
 {
-    let formats = items.formats;
+    let formats = decoder.formats;
     match shape {
         Shape::Array => formats.legacy_enums,
         Shape::Map => formats.standard_enums,
@@ -123,25 +123,25 @@ fn reads_shape<R: Source>(items: &Deserializer<R>, shape: Shape) -> bool
 // The error of this code, before the bytes to come.
 #[cold]
 #[inline(never)]
-fn refuse_here<R: Source>(items: &Deserializer<R>, code: ErrorCode) -> Error
+fn refuse_here<R: Source>(decoder: &Decoder<R>, code: ErrorCode) -> Error
     requires { HasNoOffset code → ⊥ }
     ensures code { code_of result ≡ code }
-    ensures offset { offset_of result ≡ (R.source items.now.source).offset }
+    ensures offset { offset_of result ≡ (R.source decoder.now.source).offset }
 {
-    Error::at(code, items.source.offset())
+    Error::at(code, decoder.source.offset())
 }
 
 // Whether another item of an array comes, of which so much remains. Nothing is taken.
 #[tactic(auto, unfolding(cbor_model::specs::Reader::next_at))]
-fn item_comes<R: Source>(items: &mut Deserializer<R>, remaining: &mut Remaining) -> Done<bool>
+fn item_comes<R: Source>(decoder: &mut Decoder<R>, remaining: &mut Remaining) -> Done<bool>
     ensures read { TakesComing R.refusals remaining.old remaining.new
-        (R.source items.old.source) (R.source items.new.source)
-        items.new.refusal result }
-    ensures no_key { IfErr result (TellsNoKey items.new.refusal) }
-    ensures stays { OnOk result ((R.source items.new.source).offset
-        ≡ (R.source items.old.source).offset) }
-    ensures levels { items.new.levels ≡ items.old.levels }
-    ensures formats { items.new.formats ≡ items.old.formats }
+        (R.source decoder.old.source) (R.source decoder.new.source)
+        decoder.new.refusal result }
+    ensures no_key { IfErr result (TellsNoKey decoder.new.refusal) }
+    ensures stays { OnOk result ((R.source decoder.new.source).offset
+        ≡ (R.source decoder.old.source).offset) }
+    ensures levels { decoder.new.levels ≡ decoder.old.levels }
+    ensures formats { decoder.new.formats ≡ decoder.old.formats }
 {
     match remaining {
         Remaining::Counted(0) => Ok(false),
@@ -149,11 +149,11 @@ fn item_comes<R: Source>(items: &mut Deserializer<R>, remaining: &mut Remaining)
             *n -= 1;
             Ok(true)
         }
-        Remaining::ToBreak => match items.source.peek() {
+        Remaining::ToBreak => match decoder.source.peek() {
             Ok(Some(BREAK)) => Ok(false),
             Ok(Some(_)) => Ok(true),
-            Ok(None) => Err(items.refuse(ReadErrorCode::EofWhileParsingArray)),
-            Err(refusal) => Err(items.keep(refusal)),
+            Ok(None) => Err(decoder.refuse(ReadErrorCode::EofWhileParsingArray)),
+            Err(refusal) => Err(decoder.keep(refusal)),
         },
     }
 }
@@ -162,66 +162,66 @@ fn item_comes<R: Source>(items: &mut Deserializer<R>, remaining: &mut Remaining)
 /// remains. Nothing is taken of an item that comes.
 #[tactic(auto, using(crate::proofs::Cases::coming_fault))]
 pub fn expect_item<R: Source>(
-    items: &mut Deserializer<R>,
+    decoder: &mut Decoder<R>,
     remaining: &mut Remaining,
     none: ErrorCode,
 ) -> Result<()>
     requires { HasNoOffset none → ⊥ }
     ensures read { ExpectsItem R.refusals remaining.old remaining.new
-        (R.source items.old.source) (R.source items.new.source) result }
+        (R.source decoder.old.source) (R.source decoder.new.source) result }
     ensures none { IfErr result (λ e. TellsNoForm (code_of e)
-        ⊎ NoItemHere none remaining.old (R.source items.old.source) e) }
+        ⊎ NoItemHere none remaining.old (R.source decoder.old.source) e) }
     ensures fault { IfErr result (λ e. TellsFault R.refusals
         (λ l. next_at end_in_array (remaining_of remaining.old))
-        (R.source items.old.source) e
-        ⊎ NoItemHere none remaining.old (R.source items.old.source) e) }
-    ensures levels { items.new.levels ≡ items.old.levels }
-    ensures formats { items.new.formats ≡ items.old.formats }
+        (R.source decoder.old.source) e
+        ⊎ NoItemHere none remaining.old (R.source decoder.old.source) e) }
+    ensures levels { decoder.new.levels ≡ decoder.old.levels }
+    ensures formats { decoder.new.formats ≡ decoder.old.formats }
 {
-    match item_comes(items, remaining) {
+    match item_comes(decoder, remaining) {
         Ok(true) => Ok(()),
-        Ok(false) => Err(refuse_here(items, none)),
-        Err(refused) => Err(items.error(refused)),
+        Ok(false) => Err(refuse_here(decoder, none)),
+        Err(refused) => Err(decoder.error(refused)),
     }
 }
 
 // Takes the head of a map of one pair, and goes one level in, to a key that may begin so.
-fn pair_head<R: Source>(items: &mut Deserializer<R>) -> Done<()>
+fn pair_head<R: Source>(decoder: &mut Decoder<R>) -> Done<()>
     ensures read { Gives R.refusals (λ u. u)
-        (λ l. pair_head_at (formats_of items.old.formats) items.old.levels)
-        (R.source items.old.source) (R.source items.new.source)
-        items.new.refusal result }
-    ensures inside { OnOk result (items.old.levels ≡ items.new.levels + 1) }
-    ensures formats { items.new.formats ≡ items.old.formats }
+        (λ l. pair_head_at (formats_of decoder.old.formats) decoder.old.levels)
+        (R.source decoder.old.source) (R.source decoder.new.source)
+        decoder.new.refusal result }
+    ensures inside { OnOk result (decoder.old.levels ≡ decoder.new.levels + 1) }
+    ensures formats { decoder.new.formats ≡ decoder.old.formats }
 {
-    items.byte()?;
-    items.enter()?;
-    key_begins(items)
+    decoder.byte()?;
+    decoder.enter()?;
+    key_begins(decoder)
 }
 
 /// Takes the content of a variant of several parts up to the first of them.
 ///
 /// An identifier alone is refused with `invalid type: unit variant, expected tuple variant`, and in
 /// a map an item that is no array as [`array_head`] refuses it.
-pub fn parts<R: Source>(items: &mut Deserializer<R>, form: Form) -> Result<Remaining>
-    ensures read { TakesParts R.refusals (formats_of items.old.formats)
-        items.old.levels form
-        (R.source items.old.source) (R.source items.new.source)
-        items.new.levels result }
-    ensures opened { TakesPartsHead R.refusals items.old.levels form
-        (R.source items.old.source) (R.source items.new.source)
-        items.new.levels result }
+pub fn parts<R: Source>(decoder: &mut Decoder<R>, form: Form) -> Result<Remaining>
+    ensures read { TakesParts R.refusals (formats_of decoder.old.formats)
+        decoder.old.levels form
+        (R.source decoder.old.source) (R.source decoder.new.source)
+        decoder.new.levels result }
+    ensures opened { TakesPartsHead R.refusals decoder.old.levels form
+        (R.source decoder.old.source) (R.source decoder.new.source)
+        decoder.new.levels result }
     ensures alone { IfErr result (TellsAlone (alone_text (codes "tuple")) form) }
     ensures no_form { IfErr result (λ e. TellsNoForm (code_of e)) }
-    ensures inside { IfOk result (λ r. IsEntered form items.old.levels
-        items.new.levels) }
-    ensures formats { items.new.formats ≡ items.old.formats }
+    ensures inside { IfOk result (λ r. IsEntered form decoder.old.levels
+        decoder.new.levels) }
+    ensures formats { decoder.new.formats ≡ decoder.old.formats }
 {
     match form {
         Form::Array(remaining) => Ok(remaining),
-        Form::Map => array_head(items),
+        Form::Map => array_head(decoder),
         Form::Alone => Err(Error::message(
-            items.alloc,
+            decoder.alloc,
             "invalid type: unit variant, expected tuple variant",
         )),
     }
@@ -237,33 +237,33 @@ pub fn parts<R: Source>(items: &mut Deserializer<R>, form: Form) -> Result<Remai
 /// no name is of the identifier, and with `invalid type: expected a variant name` where another
 /// item stands in its place.
 pub fn variant_head<'de, R: Read<'de>>(
-    items: &mut Deserializer<R>,
+    decoder: &mut Decoder<R>,
     names: &[&str],
 ) -> Result<(usize, Form)>
-    ensures read { TakesVariant R.refusals (formats_of items.old.formats)
-        (texts names.now) items.old.levels
-        (R.source items.old.source) (R.source items.new.source)
-        items.new.levels result }
+    ensures read { TakesVariant R.refusals (formats_of decoder.old.formats)
+        (texts names.now) decoder.old.levels
+        (R.source decoder.old.source) (R.source decoder.new.source)
+        decoder.new.levels result }
     ensures opened { TakesVariantHead R.refusals
-        (formats_of items.old.formats) (texts names.now) items.old.levels
-        (R.source items.old.source) (R.source items.new.source)
-        items.new.levels result }
-    ensures taken { OnOk result (Onward (R.source items.old.source) (R.source items.new.source)) }
-    ensures cases { IfErr result (λ e. Stands (R.source items.old.source) e
-        (enum_cases (formats_of items.old.formats)
-        items.old.levels)) }
+        (formats_of decoder.old.formats) (texts names.now) decoder.old.levels
+        (R.source decoder.old.source) (R.source decoder.new.source)
+        decoder.new.levels result }
+    ensures taken { OnOk result (Onward (R.source decoder.old.source) (R.source decoder.new.source)) }
+    ensures cases { IfErr result (λ e. Stands (R.source decoder.old.source) e
+        (enum_cases (formats_of decoder.old.formats)
+        decoder.old.levels)) }
     ensures code { IfErr result (λ e. IsEnumCode (code_of e)) }
     ensures below { IfOk result (λ v. v.0 < length names.now) }
-    ensures inside { IfOk result (λ v. IsInside v.1 items.new.levels
-        items.old.levels) }
-    ensures outer { OnErr result (items.new.levels ≡ items.old.levels) }
-    ensures formats { items.new.formats ≡ items.old.formats }
+    ensures inside { IfOk result (λ v. IsInside v.1 decoder.new.levels
+        decoder.old.levels) }
+    ensures outer { OnErr result (decoder.new.levels ≡ decoder.old.levels) }
+    ensures formats { decoder.new.formats ≡ decoder.old.formats }
 {
-    let outer = items.levels;
-    match tagged_variant(items, names) {
+    let outer = decoder.levels;
+    match tagged_variant(decoder, names) {
         Ok(head) => Ok(head),
         Err(e) => {
-            items.levels = outer;
+            decoder.levels = outer;
             Err(e)
         }
     }
@@ -272,64 +272,64 @@ pub fn variant_head<'de, R: Read<'de>>(
 // As `variant_head`, but an Err doesn't restore the nesting level.
 #[tactic(auto, using(crate::proofs::Cases::other_stands, crate::proofs::Cases::tagged_stand, crate::proofs::Codes::kept_enum))]
 fn tagged_variant<'de, R: Read<'de>>(
-    items: &mut Deserializer<R>,
+    decoder: &mut Decoder<R>,
     names: &[&str],
 ) -> Result<(usize, Form)>
-    ensures read { TakesVariant R.refusals (formats_of items.old.formats)
-        (texts names.now) items.old.levels
-        (R.source items.old.source) (R.source items.new.source)
-        items.new.levels result }
+    ensures read { TakesVariant R.refusals (formats_of decoder.old.formats)
+        (texts names.now) decoder.old.levels
+        (R.source decoder.old.source) (R.source decoder.new.source)
+        decoder.new.levels result }
     ensures opened { TakesVariantHead R.refusals
-        (formats_of items.old.formats) (texts names.now) items.old.levels
-        (R.source items.old.source) (R.source items.new.source)
-        items.new.levels result }
-    ensures taken { OnOk result (Onward (R.source items.old.source) (R.source items.new.source)) }
-    ensures cases { IfErr result (λ e. Stands (R.source items.old.source) e
-        (enum_cases (formats_of items.old.formats)
-        items.old.levels)) }
+        (formats_of decoder.old.formats) (texts names.now) decoder.old.levels
+        (R.source decoder.old.source) (R.source decoder.new.source)
+        decoder.new.levels result }
+    ensures taken { OnOk result (Onward (R.source decoder.old.source) (R.source decoder.new.source)) }
+    ensures cases { IfErr result (λ e. Stands (R.source decoder.old.source) e
+        (enum_cases (formats_of decoder.old.formats)
+        decoder.old.levels)) }
     ensures code { IfErr result (λ e. IsEnumCode (code_of e)) }
     ensures below { IfOk result (λ v. v.0 < length names.now) }
-    ensures inside { IfOk result (λ v. IsInside v.1 items.new.levels
-        items.old.levels) }
-    ensures formats { items.new.formats ≡ items.old.formats }
+    ensures inside { IfOk result (λ v. IsInside v.1 decoder.new.levels
+        decoder.old.levels) }
+    ensures formats { decoder.new.formats ≡ decoder.old.formats }
 {
-    match pass_tags(items) {
-        Ok(()) => untagged_variant(items, names),
-        Err(refused) => Err(items.error(refused)),
+    match pass_tags(decoder) {
+        Ok(()) => untagged_variant(decoder, names),
+        Err(refused) => Err(decoder.error(refused)),
     }
 }
 
 // Takes an enum that has no tag up to its identifier.
 #[tactic(auto, using(crate::proofs::Cases::others_stand, crate::proofs::Cases::other_stands, crate::proofs::Cases::forms_stand, crate::proofs::Cases::shaped_stand, crate::proofs::Codes::kept_enum, crate::proofs::Codes::plain_enums))]
 fn untagged_variant<'de, R: Read<'de>>(
-    items: &mut Deserializer<R>,
+    decoder: &mut Decoder<R>,
     names: &[&str],
 ) -> Result<(usize, Form)>
     ensures read { TakesShaped HasNoTag R.refusals
-        (formats_of items.old.formats) (texts names.now) items.old.levels
-        (R.source items.old.source) (R.source items.new.source)
-        items.new.levels result }
+        (formats_of decoder.old.formats) (texts names.now) decoder.old.levels
+        (R.source decoder.old.source) (R.source decoder.new.source)
+        decoder.new.levels result }
     ensures opened { TakesForm R.refusals
-        (formats_of items.old.formats) (texts names.now) items.old.levels
-        (R.source items.old.source) (R.source items.new.source)
-        items.new.levels result }
-    ensures taken { OnOk result (Onward (R.source items.old.source) (R.source items.new.source)) }
-    ensures cases { IfErr result (λ e. Stands (R.source items.old.source) e
-        (untagged_cases (formats_of items.old.formats)
-        items.old.levels)) }
+        (formats_of decoder.old.formats) (texts names.now) decoder.old.levels
+        (R.source decoder.old.source) (R.source decoder.new.source)
+        decoder.new.levels result }
+    ensures taken { OnOk result (Onward (R.source decoder.old.source) (R.source decoder.new.source)) }
+    ensures cases { IfErr result (λ e. Stands (R.source decoder.old.source) e
+        (untagged_cases (formats_of decoder.old.formats)
+        decoder.old.levels)) }
     ensures code { IfErr result (λ e. IsEnumCode (code_of e)) }
     ensures below { IfOk result (λ v. v.0 < length names.now) }
-    ensures inside { IfOk result (λ v. IsInside v.1 items.new.levels
-        items.old.levels) }
-    ensures formats { items.new.formats ≡ items.old.formats }
+    ensures inside { IfOk result (λ v. IsInside v.1 decoder.new.levels
+        decoder.old.levels) }
+    ensures formats { decoder.new.formats ≡ decoder.old.formats }
 {
-    match enum_shape(items)? {
-        Shape::Array => array_variant(items, names),
-        Shape::Map => map_variant(items, names),
-        Shape::Alone => name_alone(items, names),
+    match enum_shape(decoder)? {
+        Shape::Array => array_variant(decoder, names),
+        Shape::Map => map_variant(decoder, names),
+        Shape::Alone => name_alone(decoder, names),
         Shape::Unassigned => {
-            let refused = unassigned_byte(items);
-            Err(items.error(refused))
+            let refused = unassigned_byte(decoder);
+            Err(decoder.error(refused))
         }
     }
 }
@@ -338,142 +338,142 @@ fn untagged_variant<'de, R: Read<'de>>(
 #[cold]
 #[inline(never)]
 #[tactic(auto, using(crate::proofs::VariantShapes::unassigned_stops))]
-fn unassigned_byte<R: Source>(items: &mut Deserializer<R>) -> Refused
-    ensures read { Stopped R.refusals (λ l. unassigned_at) (R.source items.old.source)
-        (R.source items.new.source) items.new.refusal result }
-    ensures no_key { TellsNoKey items.new.refusal result }
-    ensures levels { items.new.levels ≡ items.old.levels }
-    ensures formats { items.new.formats ≡ items.old.formats }
+fn unassigned_byte<R: Source>(decoder: &mut Decoder<R>) -> Refused
+    ensures read { Stopped R.refusals (λ l. unassigned_at) (R.source decoder.old.source)
+        (R.source decoder.new.source) decoder.new.refusal result }
+    ensures no_key { TellsNoKey decoder.new.refusal result }
+    ensures levels { decoder.new.levels ≡ decoder.old.levels }
+    ensures formats { decoder.new.formats ≡ decoder.old.formats }
 {
-    match items.byte() {
-        Ok(_) => items.refuse(ReadErrorCode::UnassignedCode),
+    match decoder.byte() {
+        Ok(_) => decoder.refuse(ReadErrorCode::UnassignedCode),
         Err(refused) => refused,
     }
 }
 
 // Takes the identifier of an enum that is an identifier alone.
 fn name_alone<'de, R: Read<'de>>(
-    items: &mut Deserializer<R>,
+    decoder: &mut Decoder<R>,
     names: &[&str],
 ) -> Result<(usize, Form)>
-    requires { reads_shape (formats_of items.old.formats) shape.Alone ≡ true }
+    requires { reads_shape (formats_of decoder.old.formats) shape.Alone ≡ true }
     ensures read { TakesShaped IsAlone R.refusals
-        (formats_of items.old.formats) (texts names.now) items.old.levels
-        (R.source items.old.source) (R.source items.new.source)
-        items.new.levels result }
+        (formats_of decoder.old.formats) (texts names.now) decoder.old.levels
+        (R.source decoder.old.source) (R.source decoder.new.source)
+        decoder.new.levels result }
     ensures opened { TakesFormOf shape.Alone R.refusals
-        (formats_of items.old.formats) (texts names.now) items.old.levels
-        (R.source items.old.source) (R.source items.new.source)
-        items.new.levels result }
-    ensures taken { OnOk result (Onward (R.source items.old.source) (R.source items.new.source)) }
+        (formats_of decoder.old.formats) (texts names.now) decoder.old.levels
+        (R.source decoder.old.source) (R.source decoder.new.source)
+        decoder.new.levels result }
+    ensures taken { OnOk result (Onward (R.source decoder.old.source) (R.source decoder.new.source)) }
     ensures no_form { IfErr result (λ e. TellsNoForm (code_of e)) }
     ensures below { IfOk result (λ v. v.0 < length names.now) }
-    ensures inside { IfOk result (λ v. IsInside v.1 items.new.levels
-        items.old.levels) }
-    ensures formats { items.new.formats ≡ items.old.formats }
+    ensures inside { IfOk result (λ v. IsInside v.1 decoder.new.levels
+        decoder.old.levels) }
+    ensures formats { decoder.new.formats ≡ decoder.old.formats }
 {
-    let index = variant_name(items, names)?;
+    let index = variant_name(decoder, names)?;
     Ok((index, Form::Alone))
 }
 
 // Takes the head and the identifier of an enum in an array.
 #[tactic(auto, using(crate::proofs::Cases::other_stands, crate::proofs::Codes::plain_enum, crate::proofs::Codes::none_enum))]
 fn array_variant<'de, R: Read<'de>>(
-    items: &mut Deserializer<R>,
+    decoder: &mut Decoder<R>,
     names: &[&str],
 ) -> Result<(usize, Form)>
-    requires { reads_shape (formats_of items.old.formats) shape.Array ≡ true }
+    requires { reads_shape (formats_of decoder.old.formats) shape.Array ≡ true }
     ensures read { TakesShaped (HasShape shape.Array) R.refusals
-        (formats_of items.old.formats) (texts names.now) items.old.levels
-        (R.source items.old.source) (R.source items.new.source)
-        items.new.levels result }
+        (formats_of decoder.old.formats) (texts names.now) decoder.old.levels
+        (R.source decoder.old.source) (R.source decoder.new.source)
+        decoder.new.levels result }
     ensures opened { TakesFormOf shape.Array R.refusals
-        (formats_of items.old.formats) (texts names.now) items.old.levels
-        (R.source items.old.source) (R.source items.new.source)
-        items.new.levels result }
-    ensures taken { OnOk result (Onward (R.source items.old.source) (R.source items.new.source)) }
-    ensures cases { IfErr result (λ e. Stands (R.source items.old.source) e
-        (untagged_cases (formats_of items.old.formats)
-        items.old.levels)) }
+        (formats_of decoder.old.formats) (texts names.now) decoder.old.levels
+        (R.source decoder.old.source) (R.source decoder.new.source)
+        decoder.new.levels result }
+    ensures taken { OnOk result (Onward (R.source decoder.old.source) (R.source decoder.new.source)) }
+    ensures cases { IfErr result (λ e. Stands (R.source decoder.old.source) e
+        (untagged_cases (formats_of decoder.old.formats)
+        decoder.old.levels)) }
     ensures code { IfErr result (λ e. IsEnumCode (code_of e)) }
     ensures below { IfOk result (λ v. v.0 < length names.now) }
-    ensures inside { IfOk result (λ v. IsInside v.1 items.new.levels
-        items.old.levels) }
-    ensures formats { items.new.formats ≡ items.old.formats }
+    ensures inside { IfOk result (λ v. IsInside v.1 decoder.new.levels
+        decoder.old.levels) }
+    ensures formats { decoder.new.formats ≡ decoder.old.formats }
 {
-    let mut remaining = array_head(items)?;
-    expect_item(items, &mut remaining, ErrorCode::ArrayTooShort)?;
-    let index = variant_name(items, names)?;
+    let mut remaining = array_head(decoder)?;
+    expect_item(decoder, &mut remaining, ErrorCode::ArrayTooShort)?;
+    let index = variant_name(decoder, names)?;
     Ok((index, Form::Array(remaining)))
 }
 
 // Takes the head and the identifier of an enum in a map of one pair.
 #[tactic(auto, using(crate::proofs::Cases::other_stands, crate::proofs::Cases::pair_stands, crate::proofs::Codes::plain_enum, crate::proofs::Codes::kept_enum))]
 fn map_variant<'de, R: Read<'de>>(
-    items: &mut Deserializer<R>,
+    decoder: &mut Decoder<R>,
     names: &[&str],
 ) -> Result<(usize, Form)>
-    requires { reads_shape (formats_of items.old.formats) shape.Map ≡ true }
+    requires { reads_shape (formats_of decoder.old.formats) shape.Map ≡ true }
     ensures read { TakesShaped (HasShape shape.Map) R.refusals
-        (formats_of items.old.formats) (texts names.now) items.old.levels
-        (R.source items.old.source) (R.source items.new.source)
-        items.new.levels result }
+        (formats_of decoder.old.formats) (texts names.now) decoder.old.levels
+        (R.source decoder.old.source) (R.source decoder.new.source)
+        decoder.new.levels result }
     ensures opened { TakesFormOf shape.Map R.refusals
-        (formats_of items.old.formats) (texts names.now) items.old.levels
-        (R.source items.old.source) (R.source items.new.source)
-        items.new.levels result }
-    ensures taken { OnOk result (Onward (R.source items.old.source) (R.source items.new.source)) }
-    ensures cases { IfErr result (λ e. Stands (R.source items.old.source) e
-        (untagged_cases (formats_of items.old.formats)
-        items.old.levels)) }
+        (formats_of decoder.old.formats) (texts names.now) decoder.old.levels
+        (R.source decoder.old.source) (R.source decoder.new.source)
+        decoder.new.levels result }
+    ensures taken { OnOk result (Onward (R.source decoder.old.source) (R.source decoder.new.source)) }
+    ensures cases { IfErr result (λ e. Stands (R.source decoder.old.source) e
+        (untagged_cases (formats_of decoder.old.formats)
+        decoder.old.levels)) }
     ensures code { IfErr result (λ e. IsEnumCode (code_of e)) }
     ensures below { IfOk result (λ v. v.0 < length names.now) }
-    ensures inside { IfOk result (λ v. IsInside v.1 items.new.levels
-        items.old.levels) }
-    ensures formats { items.new.formats ≡ items.old.formats }
+    ensures inside { IfOk result (λ v. IsInside v.1 decoder.new.levels
+        decoder.old.levels) }
+    ensures formats { decoder.new.formats ≡ decoder.old.formats }
 {
-    match pair_head(items) {
+    match pair_head(decoder) {
         Ok(()) => {}
-        Err(refused) => return Err(items.error(refused)),
+        Err(refused) => return Err(decoder.error(refused)),
     }
-    let index = variant_name(items, names)?;
+    let index = variant_name(decoder, names)?;
     Ok((index, Form::Map))
 }
 
 // Reads a variant's identifier.
-fn variant_name<'de, R: Read<'de>>(items: &mut Deserializer<R>, names: &[&str]) -> Result<usize>
-    ensures read { TakesItem R.refusals (formats_of items.old.formats)
-        (IsName (texts names.now)) items.old.levels
-        (R.source items.old.source) (R.source items.new.source) result }
-    ensures taken { OnOk result (Onward (R.source items.old.source) (R.source items.new.source)) }
+fn variant_name<'de, R: Read<'de>>(decoder: &mut Decoder<R>, names: &[&str]) -> Result<usize>
+    ensures read { TakesItem R.refusals (formats_of decoder.old.formats)
+        (IsName (texts names.now)) decoder.old.levels
+        (R.source decoder.old.source) (R.source decoder.new.source) result }
+    ensures taken { OnOk result (Onward (R.source decoder.old.source) (R.source decoder.new.source)) }
     ensures no_form { IfErr result (λ e. TellsNoForm (code_of e)) }
     ensures below { IfOk result (λ i. i < length names.now) }
-    ensures levels { items.new.levels ≡ items.old.levels }
-    ensures formats { items.new.formats ≡ items.old.formats }
+    ensures levels { decoder.new.levels ≡ decoder.old.levels }
+    ensures formats { decoder.new.formats ≡ decoder.old.formats }
 {
-    match identifier(items, names) {
+    match identifier(decoder, names) {
         Ok(Some(index)) => Ok(index),
-        Ok(None) => Err(Error::message(items.alloc, "unknown variant")),
-        Err(why) => Err(unnamed(items, why, "invalid type: expected a variant name")),
+        Ok(None) => Err(Error::message(decoder.alloc, "unknown variant")),
+        Err(why) => Err(unnamed(decoder, why, "invalid type: expected a variant name")),
     }
 }
 
 // Reads null or undefined, the only item of an array that remains.
 #[tactic(auto, using(crate::proofs::Cases::other_stands, crate::proofs::Cases::full_stands, crate::proofs::Codes::none_alone, crate::proofs::Codes::plain_alone))]
-fn only_null<R: Source>(items: &mut Deserializer<R>, mut remaining: Remaining) -> Result<()>
-    ensures read { TakesContent R.refusals (formats_of items.old.formats)
+fn only_null<R: Source>(decoder: &mut Decoder<R>, mut remaining: Remaining) -> Result<()>
+    ensures read { TakesContent R.refusals (formats_of decoder.old.formats)
         (IsPart (PassesTags IsUnit))
-        items.old.levels (Array remaining)
-        (R.source items.old.source) (R.source items.new.source) result }
-    ensures cases { IfErr result (λ e. Stands (R.source items.old.source) e
+        decoder.old.levels (Array remaining)
+        (R.source decoder.old.source) (R.source decoder.new.source) result }
+    ensures cases { IfErr result (λ e. Stands (R.source decoder.old.source) e
         (unit_cases (Array remaining))) }
     ensures code { IfErr result (λ e. FormAlone ArrayTooLong (code_of e)) }
-    ensures levels { items.new.levels ≡ items.old.levels }
-    ensures formats { items.new.formats ≡ items.old.formats }
+    ensures levels { decoder.new.levels ≡ decoder.old.levels }
+    ensures formats { decoder.new.formats ≡ decoder.old.formats }
 {
-    expect_item(items, &mut remaining, ErrorCode::ArrayTooLong)?;
-    read_unit(items)?;
-    end_array(items, remaining)?;
+    expect_item(decoder, &mut remaining, ErrorCode::ArrayTooLong)?;
+    read_unit(decoder)?;
+    end_array(decoder, remaining)?;
     Ok(())
 }
 
@@ -482,20 +482,20 @@ fn only_null<R: Source>(items: &mut Deserializer<R>, mut remaining: Remaining) -
 ///
 /// An array in which nothing follows the identifier is refused with `ArrayTooLong`.
 #[tactic(auto, using(crate::proofs::Cases::others_stand, crate::proofs::Codes::plain_alones))]
-pub fn no_part<R: Source>(items: &mut Deserializer<R>, form: Form) -> Result<()>
-    ensures read { TakesContent R.refusals (formats_of items.old.formats)
+pub fn no_part<R: Source>(decoder: &mut Decoder<R>, form: Form) -> Result<()>
+    ensures read { TakesContent R.refusals (formats_of decoder.old.formats)
         IsNothing
-        items.old.levels form
-        (R.source items.old.source) (R.source items.new.source) result }
-    ensures cases { IfErr result (λ e. Stands (R.source items.old.source) e
+        decoder.old.levels form
+        (R.source decoder.old.source) (R.source decoder.new.source) result }
+    ensures cases { IfErr result (λ e. Stands (R.source decoder.old.source) e
         (unit_cases form)) }
     ensures code { IfErr result (λ e. FormAlone ArrayTooLong (code_of e)) }
-    ensures levels { items.new.levels ≡ items.old.levels }
-    ensures formats { items.new.formats ≡ items.old.formats }
+    ensures levels { decoder.new.levels ≡ decoder.old.levels }
+    ensures formats { decoder.new.formats ≡ decoder.old.formats }
 {
     match form {
-        Form::Array(remaining) => only_null(items, remaining),
-        Form::Map => read_unit(items),
+        Form::Array(remaining) => only_null(decoder, remaining),
+        Form::Map => read_unit(decoder),
         Form::Alone => Ok(()),
     }
 }

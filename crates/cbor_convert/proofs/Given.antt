@@ -16,7 +16,7 @@ use Rattle.cbor_io.specs.declared.error.Error.{Error}
 use Rattle.cbor_io.specs.declared.error.ErrorCode.{ErrorCode}
 use Rattle.cbor_io.specs.declared.error.ErrorCode.TheVariants.{Message, OutOfMemory}
 use Rattle.cbor_ser.specs.Written.{IsNotWritten, IsRefusedBy, IsUnstorableCode, SaysUnstorable}
-use Rattle.cbor_de.specs.Gives.{IsMemoryOrFault, IsMemoryOrFaultBy}
+use Rattle.cbor_decode.specs.Gives.{IsMemoryOrFault, IsMemoryOrFaultBy}
 
 -- a reader over bytes that begins at their front
 pub all_left : (n : ℕ) (xs bs : List ℕ) → n ≡ 0 → xs ≡ bs → Some (drop n xs) ≡ Some bs

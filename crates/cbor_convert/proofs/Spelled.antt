@@ -19,9 +19,9 @@ use Rattle.cbor_io.specs.declared.error.ErrorCode.TheVariants as code
 use Rattle.cbor_io.specs.Error.{code_of, offset_of, IsOutOfMemory}
 use Rattle.cbor_io.specs.declared.read_error.ReadError.{ReadError}
 use Rattle.cbor_io.specs.ReadError.{why, place, error_code}
-use Rattle.cbor_de.specs.Gives.{FailsAs, FailsBy, Limits, limits, values, Tells, Gives, Reports, IsErrorOf}
-use Rattle.cbor_de.specs.declared.refusal.Refused.{Refused}
-use Rattle.cbor_de.specs.declared.refusal.Refused.TheVariants as refused
+use Rattle.cbor_decode.specs.Gives.{FailsAs, FailsBy, Limits, limits, values, Tells, Gives, Reports, IsErrorOf}
+use Rattle.cbor_decode.specs.declared.refusal.Refused.{Refused}
+use Rattle.cbor_decode.specs.declared.refusal.Refused.TheVariants as refused
 use Rattle.cbor_value.specs.declared.Value.{Value}
 use Rattle.cbor_value.specs.View.{view}
 use Rattle.cbor_ser.specs.Written.{IsNotWritten}

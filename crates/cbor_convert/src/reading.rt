@@ -7,7 +7,7 @@ ghost use Rattle.cbor_model.specs.Raw.{AreBytes};
 ghost use Rattle.cbor_io.specs.Error.{code_of};
 ghost use Rattle.cbor_value.specs.View.{view};
 ghost use Rattle.cbor_ser.specs.Written.{SaysUnstorable};
-ghost use Rattle.cbor_de.specs.Gives.{IsMemoryOrFault};
+ghost use Rattle.cbor_decode.specs.Gives.{IsMemoryOrFault};
 ghost use Rattle.cbor_typed.specs.Forms.{FormOnlyIf, may_tell};
 ghost use Rattle.cbor_typed.specs.Whole.{from_reader_context};
 

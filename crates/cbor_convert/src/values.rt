@@ -12,7 +12,7 @@ ghost use Rattle.cbor_value.specs.View.{view};
 ghost use Rattle.cbor_ser.specs.Written.{IsNotWritten};
 ghost use Rattle.cbor_convert.specs.Meaning.{value_of};
 
-use cbor_de::Deserializer;
+use cbor_decode::Decoder;
 use cbor_io::error::Result;
 use cbor_read::SliceRead;
 use cbor_ser::{Serialize, to_vec};
@@ -49,7 +49,7 @@ fn value_in(alloc: Global, bytes: &[u8]) -> Result<Value>
     ensures { (r : Raw) → IsAcceptableWithin (length bytes.now) r → spell r ≡ bytes.now
         → MatchResult result (λ v. view v ≡ value r) IsOutOfMemory }
 {
-    let mut de = Deserializer::new(alloc, SliceRead::new(alloc, bytes));
+    let mut de = Decoder::new(alloc, SliceRead::new(alloc, bytes));
     // An item has no more levels than bytes.
     de.levels = bytes.len() as u64;
     match de.value() {

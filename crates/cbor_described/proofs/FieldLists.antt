@@ -8,9 +8,9 @@ use Rattle.cbor_read.specs.Source.{Input, TookSome}
 use Rattle.cbor_io.specs.Error.{code_of, offset_of}
 use Rattle.cbor_io.specs.declared.error.Error.{Error}
 use Rattle.cbor_io.specs.declared.read_error.ReadErrorCode.{ReadErrorCode}
-use Rattle.cbor_de.specs.Gives.{Step}
-use Rattle.cbor_de.specs.declared.formats.Formats.{Formats}
-use Rattle.cbor_de.specs.declared.cursor.Remaining.{Remaining}
+use Rattle.cbor_decode.specs.Gives.{Step}
+use Rattle.cbor_decode.specs.declared.formats.Formats.{Formats}
+use Rattle.cbor_decode.specs.declared.cursor.Remaining.{Remaining}
 use Rattle.cbor_typed.specs.Fields.{Slots, none_yet, AreHeld}
 use Rattle.cbor_described.specs.FieldLists.{over, IsLacking, slots_over, FieldTaken, FieldRefused, TakesSlot, TakesField}
 use Rattle.cbor_collections.specs.MapAccesses.{IsMapHead}

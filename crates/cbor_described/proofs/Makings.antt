@@ -7,7 +7,7 @@ use Rattle.cbor_read.specs.Source.{Input}
 use Rattle.cbor_io.specs.Error.{code_of, offset_of}
 use Rattle.cbor_io.specs.declared.error.Error.{Error}
 use Rattle.cbor_io.specs.declared.read_error.ReadErrorCode.{ReadErrorCode}
-use Rattle.cbor_de.proofs.facts.Steps.{step_map}
+use Rattle.cbor_decode.proofs.facts.Steps.{step_map}
 use Rattle.cbor_scalars.specs.Takes.{TakesItem, raws, IsRead, IsNotRead}
 use Rattle.cbor_collections.proofs.facts.Refusals.{refuses_map}
 

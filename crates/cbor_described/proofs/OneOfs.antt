@@ -8,11 +8,11 @@ use Rattle.cbor_read.specs.Source.{Input, TookSome}
 use Rattle.cbor_io.specs.Error.{code_of, offset_of}
 use Rattle.cbor_io.specs.declared.error.Error.{Error}
 use Rattle.cbor_io.specs.declared.read_error.ReadErrorCode.{ReadErrorCode}
-use Rattle.cbor_de.specs.Gives.{Step}
-use Rattle.cbor_de.specs.Heads.{remaining_of}
-use Rattle.cbor_de.specs.declared.cursor.Remaining.{Remaining}
-use Rattle.cbor_de.specs.declared.formats.Formats.{Formats}
-use Rattle.cbor_de.proofs.facts.Steps.{step_map, step_then}
+use Rattle.cbor_decode.specs.Gives.{Step}
+use Rattle.cbor_decode.specs.Heads.{remaining_of}
+use Rattle.cbor_decode.specs.declared.cursor.Remaining.{Remaining}
+use Rattle.cbor_decode.specs.declared.formats.Formats.{Formats}
+use Rattle.cbor_decode.proofs.facts.Steps.{step_map, step_then}
 use Rattle.cbor_collections.specs.Accesses.{items_at}
 use Rattle.cbor_collections.specs.Enums.{Content, AreParts}
 use Rattle.cbor_described.specs.OneOfs.{either}

@@ -9,7 +9,7 @@ use Rattle.cbor_io.specs.declared.error.Error.{Error}
 use Rattle.cbor_io.specs.declared.read_error.ReadErrorCode.{ReadErrorCode}
 use Rattle.cbor_io.specs.Error.{code_of, offset_of}
 use Rattle.cbor_read.specs.Source.{Input}
-use Rattle.cbor_de.specs.Gives.{Step}
+use Rattle.cbor_decode.specs.Gives.{Step}
 use Rattle.cbor_typed.specs.Fields.{Slots, Lacks}
 use Rattle.cbor_typed.specs.Structs.{FieldOf, field_or, IsAny}
 use Rattle.cbor_scalars.specs.Takes.{raws, IsRead, IsNotRead, Refuses}

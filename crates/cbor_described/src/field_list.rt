@@ -8,7 +8,7 @@ ghost use Rattle.cbor_typed.specs.Fields.{AreHeld, IsHeld, Lacks, none_yet};
 ghost use Rattle.cbor_scalars.specs.Identifiers.{texts};
 ghost use Rattle.cbor_typed.specs.Structs.{IsAny, IsStruct};
 ghost use Rattle.cbor_io.specs.Error.{code_of};
-ghost use Rattle.cbor_de.specs.Gives.{Onward, TellsNoForm};
+ghost use Rattle.cbor_decode.specs.Gives.{Onward, TellsNoForm};
 ghost use Rattle.cbor_scalars.specs.Takes.{TakesItem, context, formats_of};
 ghost use Rattle.cbor_typed.specs.Forms.{MayTell, both, item_form, struct_form};
 
@@ -62,16 +62,16 @@ pub(crate) trait ReadFields<'de, R: Read<'de>>: FieldList {
     // Reads the value of a field into its slot, the i-th, and passes over an item where there are
     // fewer. A slot that has a value is refused with ``duplicate field `id` ``.
     fn take(de: &mut Deserializer<R>, i: usize, name: &str, held: &mut Self::Slots) -> Result<()>
-        ensures read { let c = context de.old.items.formats R.lends in
-            TakesField (formats_of de.old.items.formats) de.old.items.levels R.refusals
+        ensures read { let c = context de.old.decoder.formats R.lends in
+            TakesField (formats_of de.old.decoder.formats) de.old.decoder.levels R.refusals
             (Self.fields c) i (Self.slots c held.old) (Self.slots c held.new)
-            (R.source de.old.items.source) (R.source de.new.items.source) result }
+            (R.source de.old.decoder.source) (R.source de.new.decoder.source) result }
         ensures form { IfErr result (MayTell (both item_form Self.wrong_forms)
-            (formats_of de.old.items.formats) (R.source de.old.items.source)) }
-        ensures forward { IfOk result (λ u. (R.source de.old.items.source).offset
-            ≤ (R.source de.new.items.source).offset) }
-        ensures levels { de.new.items.levels ≡ de.old.items.levels }
-        ensures formats { de.new.items.formats ≡ de.old.items.formats };
+            (formats_of de.old.decoder.formats) (R.source de.old.decoder.source)) }
+        ensures forward { IfOk result (λ u. (R.source de.old.decoder.source).offset
+            ≤ (R.source de.new.decoder.source).offset) }
+        ensures levels { de.new.decoder.levels ≡ de.old.decoder.levels }
+        ensures formats { de.new.decoder.formats ≡ de.old.decoder.formats };
 }
 
 // A field of a struct, which is read from a source. What has several fields asks for this of each:
@@ -80,15 +80,15 @@ pub(crate) trait ReadField<'de, R: Read<'de>>: FieldType {
     // Reads the value of the field into its slot. A slot that has a value is refused with
     // ``duplicate field `id` ``.
     fn take_slot(de: &mut Deserializer<R>, name: &str, slot: &mut Option<Self>) -> Result<()>
-        ensures read { TakesSlot (formats_of de.old.items.formats) de.old.items.levels R.refusals
-            (Self.reads (context de.old.items.formats R.lends)) slot.old slot.new
-            (R.source de.old.items.source) (R.source de.new.items.source) result }
+        ensures read { TakesSlot (formats_of de.old.decoder.formats) de.old.decoder.levels R.refusals
+            (Self.reads (context de.old.decoder.formats R.lends)) slot.old slot.new
+            (R.source de.old.decoder.source) (R.source de.new.decoder.source) result }
         ensures form { IfErr result (MayTell Self.Of.wrong_forms
-            (formats_of de.old.items.formats) (R.source de.old.items.source)) }
-        ensures forward { IfOk result (λ u. (R.source de.old.items.source).offset
-            ≤ (R.source de.new.items.source).offset) }
-        ensures levels { de.new.items.levels ≡ de.old.items.levels }
-        ensures formats { de.new.items.formats ≡ de.old.items.formats };
+            (formats_of de.old.decoder.formats) (R.source de.old.decoder.source)) }
+        ensures forward { IfOk result (λ u. (R.source de.old.decoder.source).offset
+            ≤ (R.source de.new.decoder.source).offset) }
+        ensures levels { de.new.decoder.levels ≡ de.old.decoder.levels }
+        ensures formats { de.new.decoder.formats ≡ de.old.decoder.formats };
 }
 
 impl<'de, R: Read<'de>, A: FieldType> ReadField<'de, R> for A
@@ -275,15 +275,15 @@ fn fill_slot<'de, R: Read<'de>, A: FieldType>(
 ) -> Result<()>
 where
     A::Of: Deserialize<'de, R>,
-    ensures read { TakesSlot (formats_of de.old.items.formats) de.old.items.levels R.refusals
-        (A.reads (context de.old.items.formats R.lends)) slot.old slot.new
-        (R.source de.old.items.source) (R.source de.new.items.source) result }
+    ensures read { TakesSlot (formats_of de.old.decoder.formats) de.old.decoder.levels R.refusals
+        (A.reads (context de.old.decoder.formats R.lends)) slot.old slot.new
+        (R.source de.old.decoder.source) (R.source de.new.decoder.source) result }
     ensures form { IfErr result (MayTell A.Of.wrong_forms
-        (formats_of de.old.items.formats) (R.source de.old.items.source)) }
-    ensures forward { IfOk result (λ u. (R.source de.old.items.source).offset
-        ≤ (R.source de.new.items.source).offset) }
-    ensures levels { de.new.items.levels ≡ de.old.items.levels }
-    ensures formats { de.new.items.formats ≡ de.old.items.formats }
+        (formats_of de.old.decoder.formats) (R.source de.old.decoder.source)) }
+    ensures forward { IfOk result (λ u. (R.source de.old.decoder.source).offset
+        ≤ (R.source de.new.decoder.source).offset) }
+    ensures levels { de.new.decoder.levels ≡ de.old.decoder.levels }
+    ensures formats { de.new.decoder.formats ≡ de.old.decoder.formats }
 {
     if slot.is_some() {
         return Err(duplicate_field(de.alloc(), name));
@@ -299,13 +299,13 @@ where
 
 // Passes over an item.
 fn skip_item<'de, R: Read<'de>>(de: &mut Deserializer<R>) -> Result<()>
-    ensures read { TakesItem R.refusals (formats_of de.old.items.formats) IsAny
-        de.old.items.levels (R.source de.old.items.source)
-        (R.source de.new.items.source) result }
+    ensures read { TakesItem R.refusals (formats_of de.old.decoder.formats) IsAny
+        de.old.decoder.levels (R.source de.old.decoder.source)
+        (R.source de.new.decoder.source) result }
     ensures form { IfErr result (MayTell item_form
-        (formats_of de.old.items.formats) (R.source de.old.items.source)) }
-    ensures levels { de.new.items.levels ≡ de.old.items.levels }
-    ensures formats { de.new.items.formats ≡ de.old.items.formats }
+        (formats_of de.old.decoder.formats) (R.source de.old.decoder.source)) }
+    ensures levels { de.new.decoder.levels ≡ de.old.decoder.levels }
+    ensures formats { de.new.decoder.formats ≡ de.old.decoder.formats }
 {
     match IgnoredAny::deserialize(de) {
         Ok(_) => Ok(()),
@@ -319,16 +319,16 @@ pub(crate) fn read_fields<'de, R: Read<'de>, F: ReadFields<'de, R>>(
     names: &[&str],
 ) -> Result<F>
     requires { length names.now ≡ F.count }
-    ensures read { TakesItem R.refusals (formats_of de.old.items.formats)
-        (IsStruct (texts names.now) (F.fields (context de.old.items.formats R.lends)))
-        de.old.items.levels (R.source de.old.items.source)
-        (R.source de.new.items.source) result }
-    ensures taken { OnOk result (Onward (R.source de.old.items.source)
-        (R.source de.new.items.source)) }
+    ensures read { TakesItem R.refusals (formats_of de.old.decoder.formats)
+        (IsStruct (texts names.now) (F.fields (context de.old.decoder.formats R.lends)))
+        de.old.decoder.levels (R.source de.old.decoder.source)
+        (R.source de.new.decoder.source) result }
+    ensures taken { OnOk result (Onward (R.source de.old.decoder.source)
+        (R.source de.new.decoder.source)) }
     ensures form { IfErr result (MayTell (both struct_form F.wrong_forms)
-        (formats_of de.old.items.formats) (R.source de.old.items.source)) }
-    ensures levels { de.new.items.levels ≡ de.old.items.levels }
-    ensures formats { de.new.items.formats ≡ de.old.items.formats }
+        (formats_of de.old.decoder.formats) (R.source de.old.decoder.source)) }
+    ensures levels { de.new.decoder.levels ≡ de.old.decoder.levels }
+    ensures formats { de.new.decoder.formats ≡ de.old.decoder.formats }
 {
     let outer = de.levels_left();
     let read = fields_within::<R, F>(de, names);
@@ -343,15 +343,15 @@ fn fields_within<'de, R: Read<'de>, F: ReadFields<'de, R>>(
     names: &[&str],
 ) -> Result<F>
     requires { length names.now ≡ F.count }
-    ensures read { TakesItem R.refusals (formats_of de.old.items.formats)
-        (IsStruct (texts names.now) (F.fields (context de.old.items.formats R.lends)))
-        de.old.items.levels (R.source de.old.items.source)
-        (R.source de.new.items.source) result }
-    ensures taken { OnOk result (Onward (R.source de.old.items.source)
-        (R.source de.new.items.source)) }
+    ensures read { TakesItem R.refusals (formats_of de.old.decoder.formats)
+        (IsStruct (texts names.now) (F.fields (context de.old.decoder.formats R.lends)))
+        de.old.decoder.levels (R.source de.old.decoder.source)
+        (R.source de.new.decoder.source) result }
+    ensures taken { OnOk result (Onward (R.source de.old.decoder.source)
+        (R.source de.new.decoder.source)) }
     ensures form { IfErr result (MayTell (both struct_form F.wrong_forms)
-        (formats_of de.old.items.formats) (R.source de.old.items.source)) }
-    ensures formats { de.new.items.formats ≡ de.old.items.formats }
+        (formats_of de.old.decoder.formats) (R.source de.old.decoder.source)) }
+    ensures formats { de.new.decoder.formats ≡ de.old.decoder.formats }
 {
     let mut remaining = map_head(de)?;
     let mut held = F::none();

@@ -1,7 +1,7 @@
 //! Structs and enums that are read by a description of their parts.
 
 ghost use Rattle.std.specs.Prelude.{◌≡◌, IfErr, OnOk, length};
-ghost use Rattle.cbor_de.specs.Gives.{Onward};
+ghost use Rattle.cbor_decode.specs.Gives.{Onward};
 ghost use Rattle.cbor_scalars.specs.Identifiers.{texts};
 ghost use Rattle.cbor_scalars.specs.Takes.{TakesItem, context, formats_of};
 ghost use Rattle.cbor_typed.specs.Forms.{MayTell};
@@ -30,16 +30,16 @@ pub trait ReadParts<'de, R: Read<'de>>: ReadableParts {
     /// Reads the item at the front, by the names of the fields or the variants.
     fn read_parts(de: &mut Deserializer<R>, names: &[&str]) -> Result<Self>
         requires { length names.now ≡ Self.count }
-        ensures read { TakesItem R.refusals (formats_of de.old.items.formats)
-            (Self.reads (texts names.now) (context de.old.items.formats R.lends))
-            de.old.items.levels (R.source de.old.items.source)
-            (R.source de.new.items.source) result }
-        ensures taken { OnOk result (Onward (R.source de.old.items.source)
-            (R.source de.new.items.source)) }
+        ensures read { TakesItem R.refusals (formats_of de.old.decoder.formats)
+            (Self.reads (texts names.now) (context de.old.decoder.formats R.lends))
+            de.old.decoder.levels (R.source de.old.decoder.source)
+            (R.source de.new.decoder.source) result }
+        ensures taken { OnOk result (Onward (R.source de.old.decoder.source)
+            (R.source de.new.decoder.source)) }
         ensures form { IfErr result (MayTell Self.wrong_forms
-            (formats_of de.old.items.formats) (R.source de.old.items.source)) }
-        ensures levels { de.new.items.levels ≡ de.old.items.levels }
-        ensures formats { de.new.items.formats ≡ de.old.items.formats };
+            (formats_of de.old.decoder.formats) (R.source de.old.decoder.source)) }
+        ensures levels { de.new.decoder.levels ≡ de.old.decoder.levels }
+        ensures formats { de.new.decoder.formats ≡ de.old.decoder.formats };
 }
 
 /// A struct is read as its one part.
@@ -90,17 +90,17 @@ pub trait FromParts: Schema {
         Self::Parts: ReadParts<'de, R>,
         requires as_many { length names.now ≡ Self.Parts.count }
         requires named { texts names.now ≡ Self.names }
-        ensures read { TakesItem R.refusals (formats_of de.old.items.formats)
-            (λ r x. Self.Parts.reads Self.names (context de.old.items.formats R.lends) r
+        ensures read { TakesItem R.refusals (formats_of de.old.decoder.formats)
+            (λ r x. Self.Parts.reads Self.names (context de.old.decoder.formats R.lends) r
             (Self.parts x))
-            de.old.items.levels (R.source de.old.items.source)
-            (R.source de.new.items.source) result }
-        ensures taken { OnOk result (Onward (R.source de.old.items.source)
-            (R.source de.new.items.source)) }
+            de.old.decoder.levels (R.source de.old.decoder.source)
+            (R.source de.new.decoder.source) result }
+        ensures taken { OnOk result (Onward (R.source de.old.decoder.source)
+            (R.source de.new.decoder.source)) }
         ensures form { IfErr result (MayTell Self.Parts.wrong_forms
-            (formats_of de.old.items.formats) (R.source de.old.items.source)) }
-        ensures levels { de.new.items.levels ≡ de.old.items.levels }
-        ensures formats { de.new.items.formats ≡ de.old.items.formats }
+            (formats_of de.old.decoder.formats) (R.source de.old.decoder.source)) }
+        ensures levels { de.new.decoder.levels ≡ de.old.decoder.levels }
+        ensures formats { de.new.decoder.formats ≡ de.old.decoder.formats }
     {
         match <Self::Parts as ReadParts<'de, R>>::read_parts(de, names) {
             Ok(parts) => Ok(Self::from_parts(parts)),

@@ -1,7 +1,7 @@
 //! Lists of variants, of which enums are read.
 
 ghost use Rattle.std.specs.Prelude.{◌≡◌, IfErr, OnOk};
-ghost use Rattle.cbor_de.specs.Gives.{Onward};
+ghost use Rattle.cbor_decode.specs.Gives.{Onward};
 ghost use Rattle.cbor_collections.specs.Enums.{IsEnum};
 ghost use Rattle.cbor_scalars.specs.Identifiers.{texts};
 ghost use Rattle.cbor_scalars.specs.Takes.{TakesItem, context, formats_of};
@@ -36,12 +36,12 @@ pub trait Variant: Sized + Drop {
 pub trait ReadVariant<'de, R: Read<'de>>: Variant {
     /// Reads the content of a variant, after its identifier. It may leave fewer levels.
     fn read_content(de: &mut Deserializer<R>, form: Form) -> Result<Self>
-        ensures read { TakesContent R.refusals (formats_of de.old.items.formats)
-            (Self.means (context de.old.items.formats R.lends)) de.old.items.levels form
-            (R.source de.old.items.source) (R.source de.new.items.source) result }
+        ensures read { TakesContent R.refusals (formats_of de.old.decoder.formats)
+            (Self.means (context de.old.decoder.formats R.lends)) de.old.decoder.levels form
+            (R.source de.old.decoder.source) (R.source de.new.decoder.source) result }
         ensures form { IfErr result (MayTell Self.wrong_forms
-            (formats_of de.old.items.formats) (R.source de.old.items.source)) }
-        ensures formats { de.new.items.formats ≡ de.old.items.formats };
+            (formats_of de.old.decoder.formats) (R.source de.old.decoder.source)) }
+        ensures formats { de.new.decoder.formats ≡ de.old.decoder.formats };
 }
 
 impl Variant for () {
@@ -185,12 +185,12 @@ pub(crate) trait VariantList: Sized + Drop {
 pub(crate) trait ReadVariants<'de, R: Read<'de>>: VariantList {
     // Reads the content of the i-th variant. It may leave fewer levels.
     fn read_variant(de: &mut Deserializer<R>, form: Form, i: usize) -> Result<Self>
-        ensures read { TakesContent R.refusals (formats_of de.old.items.formats)
-            (Self.means (context de.old.items.formats R.lends) i) de.old.items.levels form
-            (R.source de.old.items.source) (R.source de.new.items.source) result }
+        ensures read { TakesContent R.refusals (formats_of de.old.decoder.formats)
+            (Self.means (context de.old.decoder.formats R.lends) i) de.old.decoder.levels form
+            (R.source de.old.decoder.source) (R.source de.new.decoder.source) result }
         ensures form { IfErr result (MayTell Self.wrong_forms
-            (formats_of de.old.items.formats) (R.source de.old.items.source)) }
-        ensures formats { de.new.items.formats ≡ de.old.items.formats };
+            (formats_of de.old.decoder.formats) (R.source de.old.decoder.source)) }
+        ensures formats { de.new.decoder.formats ≡ de.old.decoder.formats };
 }
 
 impl VariantList for Never {
@@ -237,17 +237,17 @@ pub(crate) fn read_variants<'de, R: Read<'de>, E: ReadVariants<'de, R>>(
     de: &mut Deserializer<R>,
     names: &[&str],
 ) -> Result<E>
-    ensures read { TakesItem R.refusals (formats_of de.old.items.formats)
-        (PassesTags (IsEnum (formats_of de.old.items.formats) (texts names.now)
-        (E.means (context de.old.items.formats R.lends))))
-        de.old.items.levels (R.source de.old.items.source)
-        (R.source de.new.items.source) result }
-    ensures taken { OnOk result (Onward (R.source de.old.items.source)
-        (R.source de.new.items.source)) }
+    ensures read { TakesItem R.refusals (formats_of de.old.decoder.formats)
+        (PassesTags (IsEnum (formats_of de.old.decoder.formats) (texts names.now)
+        (E.means (context de.old.decoder.formats R.lends))))
+        de.old.decoder.levels (R.source de.old.decoder.source)
+        (R.source de.new.decoder.source) result }
+    ensures taken { OnOk result (Onward (R.source de.old.decoder.source)
+        (R.source de.new.decoder.source)) }
     ensures form { IfErr result (MayTell (both enum_form E.wrong_forms)
-        (formats_of de.old.items.formats) (R.source de.old.items.source)) }
-    ensures levels { de.new.items.levels ≡ de.old.items.levels }
-    ensures formats { de.new.items.formats ≡ de.old.items.formats }
+        (formats_of de.old.decoder.formats) (R.source de.old.decoder.source)) }
+    ensures levels { de.new.decoder.levels ≡ de.old.decoder.levels }
+    ensures formats { de.new.decoder.formats ≡ de.old.decoder.formats }
 {
     let outer = de.levels_left();
     let read = variants_within::<R, E>(de, names);
@@ -260,16 +260,16 @@ fn variants_within<'de, R: Read<'de>, E: ReadVariants<'de, R>>(
     de: &mut Deserializer<R>,
     names: &[&str],
 ) -> Result<E>
-    ensures read { TakesItem R.refusals (formats_of de.old.items.formats)
-        (PassesTags (IsEnum (formats_of de.old.items.formats) (texts names.now)
-        (E.means (context de.old.items.formats R.lends))))
-        de.old.items.levels (R.source de.old.items.source)
-        (R.source de.new.items.source) result }
-    ensures taken { OnOk result (Onward (R.source de.old.items.source)
-        (R.source de.new.items.source)) }
+    ensures read { TakesItem R.refusals (formats_of de.old.decoder.formats)
+        (PassesTags (IsEnum (formats_of de.old.decoder.formats) (texts names.now)
+        (E.means (context de.old.decoder.formats R.lends))))
+        de.old.decoder.levels (R.source de.old.decoder.source)
+        (R.source de.new.decoder.source) result }
+    ensures taken { OnOk result (Onward (R.source de.old.decoder.source)
+        (R.source de.new.decoder.source)) }
     ensures form { IfErr result (MayTell (both enum_form E.wrong_forms)
-        (formats_of de.old.items.formats) (R.source de.old.items.source)) }
-    ensures formats { de.new.items.formats ≡ de.old.items.formats }
+        (formats_of de.old.decoder.formats) (R.source de.old.decoder.source)) }
+    ensures formats { de.new.decoder.formats ≡ de.old.decoder.formats }
 {
     let (index, form) = variant_head(de, names)?;
     E::read_variant(de, form, index)

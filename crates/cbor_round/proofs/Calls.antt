@@ -8,7 +8,7 @@ use Rattle.cbor_model.specs.Document.{Doc, raw_of, document_bytes, IsStorableDoc
 use Rattle.cbor_model.specs.Formats.{all_formats}
 use Rattle.cbor_model.specs.Raw.{Raw, AreBytes, depth}
 use Rattle.cbor_model.specs.Readable.{Context, SpellsAs}
-use Rattle.cbor_de.specs.Gives.{Gave, IsMemoryOrFault, IsMemoryOrFaultBy}
+use Rattle.cbor_decode.specs.Gives.{Gave, IsMemoryOrFault, IsMemoryOrFaultBy}
 use Rattle.cbor_io.specs.declared.error.Error.{Error}
 use Rattle.cbor_io.specs.declared.error.ErrorCode.{ErrorCode}
 use Rattle.cbor_io.specs.declared.error.ErrorCode.TheVariants.{Message, OutOfMemory}

@@ -4,7 +4,7 @@ ghost use Rattle.std.specs.Prelude.{◌≡◌, ◌≤◌, ◌<◌, ◌^◌, fals
 ghost use Rattle.cbor_model.specs.Acceptable.{max_depth};
 ghost use Rattle.cbor_model.specs.Document.{raw_of, IsStorableDocument};
 ghost use Rattle.cbor_model.specs.Raw.{AreBytes, depth};
-ghost use Rattle.cbor_de.specs.Gives.{IsMemoryOrFault};
+ghost use Rattle.cbor_decode.specs.Gives.{IsMemoryOrFault};
 ghost use Rattle.cbor_round.specs.ReadBack.{IsWrittenReadBack};
 
 use crate::round_trip::RoundTrip;

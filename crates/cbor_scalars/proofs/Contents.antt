@@ -19,12 +19,12 @@ use Rattle.cbor_io.specs.declared.error.ErrorCode.{ErrorCode}
 use Rattle.cbor_io.specs.declared.read_error.ReadError.{ReadError}
 use Rattle.cbor_io.specs.declared.read_error.ReadErrorCode.{ReadErrorCode}
 use Rattle.cbor_io.specs.declared.error.ErrorCode.TheVariants.{InvalidUtf8}
-use Rattle.cbor_de.specs.Gives.{Limits, limits, Step, Stopped, IsErrorOf, Reports, Tells}
-use Rattle.cbor_de.specs.Heads.{behind_head, joined_of}
-use Rattle.cbor_de.specs.declared.head.Head.{Head}
-use Rattle.cbor_de.specs.declared.head.Head.TheVariants as head
-use Rattle.cbor_de.specs.declared.refusal.Refused.{Refused}
-use Rattle.cbor_de.proofs.facts.Steps.{step_map, step_then, stopped_then}
+use Rattle.cbor_decode.specs.Gives.{Limits, limits, Step, Stopped, IsErrorOf, Reports, Tells}
+use Rattle.cbor_decode.specs.Heads.{behind_head, joined_of}
+use Rattle.cbor_decode.specs.declared.head.Head.{Head}
+use Rattle.cbor_decode.specs.declared.head.Head.TheVariants as head
+use Rattle.cbor_decode.specs.declared.refusal.Refused.{Refused}
+use Rattle.cbor_decode.proofs.facts.Steps.{step_map, step_then, stopped_then}
 use Rattle.cbor_scalars.specs.Kinds.{kind_of, head_kind}
 use Rattle.cbor_scalars.specs.Kinds as kind
 use Rattle.cbor_scalars.specs.Takes.{raws, IsRead, IsNotRead, Refuses, ExcusedBy}

@@ -15,7 +15,7 @@ use Rattle.cbor_read.specs.Source.{Input}
 use Rattle.cbor_value.specs.Floats.{number, number_of}
 use Rattle.cbor_value.specs.declared.Float.{Float}
 use Rattle.cbor_value.specs.declared.Float.TheVariants.{Half, Single, Double}
-use Rattle.cbor_de.specs.Gives.{Limits, limits, Step}
+use Rattle.cbor_decode.specs.Gives.{Limits, limits, Step}
 use Rattle.cbor_scalars.specs.Scalars.{IsFloatItem, IsFloatOf, IsSingleOf, float_parts}
 use Rattle.cbor_scalars.specs.Takes.{raws, IsRead, IsNotRead, Refuses, TakesNoMemory}
 use Rattle.cbor_scalars.proofs.Lending.{made_read, made_none}

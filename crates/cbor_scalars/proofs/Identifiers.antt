@@ -13,9 +13,9 @@ use Rattle.cbor_io.specs.Error.{code_of, offset_of}
 use Rattle.cbor_io.specs.declared.error.Error.{Error}
 use Rattle.cbor_io.specs.declared.read_error.ReadError.{ReadError}
 use Rattle.cbor_io.specs.declared.read_error.ReadErrorCode.{ReadErrorCode}
-use Rattle.cbor_de.specs.Gives.{Step}
-use Rattle.cbor_de.specs.declared.head.Head.{Head}
-use Rattle.cbor_de.specs.declared.head.Head.TheVariants as head
+use Rattle.cbor_decode.specs.Gives.{Step}
+use Rattle.cbor_decode.specs.declared.head.Head.{Head}
+use Rattle.cbor_decode.specs.declared.head.Head.TheVariants as head
 use Rattle.cbor_scalars.specs.Identifiers.{texts, place_of, IsFirst, IsPlace, IsIdentifier, Content, IsMadeBy, TakesBytesName}
 use Rattle.cbor_scalars.specs.Kinds.{kind_of, head_kind}
 use Rattle.cbor_scalars.specs.Kinds as kind

@@ -17,12 +17,12 @@ use Rattle.cbor_io.specs.declared.error.Error.{Error}
 use Rattle.cbor_io.specs.declared.error.ErrorCode.{ErrorCode}
 use Rattle.cbor_read.specs.declared.EitherLifetime.{EitherLifetime}
 use Rattle.cbor_io.specs.declared.read_error.ReadErrorCode.{ReadErrorCode}
-use Rattle.cbor_de.specs.Gives.{Limits, limits, Onward, Step, Reports}
-use Rattle.cbor_de.specs.declared.head.Head.{Head}
-use Rattle.cbor_de.specs.declared.head.Head.TheVariants as head
-use Rattle.cbor_de.proofs.facts.Steps.{onward_some, step_map, step_then, taken_step, none_step}
+use Rattle.cbor_decode.specs.Gives.{Limits, limits, Onward, Step, Reports}
+use Rattle.cbor_decode.specs.declared.head.Head.{Head}
+use Rattle.cbor_decode.specs.declared.head.Head.TheVariants as head
+use Rattle.cbor_decode.proofs.facts.Steps.{onward_some, step_map, step_then, taken_step, none_step}
 use Rattle.cbor_io.specs.declared.read_error.ReadError.{ReadError}
-use Rattle.cbor_de.specs.Heads.{behind_head}
+use Rattle.cbor_decode.specs.Heads.{behind_head}
 use Rattle.cbor_scalars.specs.Opens.{Opens, OpensItem}
 use Rattle.cbor_scalars.specs.Takes.{raws, lending, IsRead, IsNotRead, ExcusedBy, Refuses}
 use Rattle.cbor_scalars.specs.Strings.{IsNoKey, content_at, is_lent_head, lends_head, Lacks, Lent, LentText, LendsText, LendsString, IsLentText, IsLentString, IsMadeOf, BytesOf, PartText, Utf8Of, text_bytes}

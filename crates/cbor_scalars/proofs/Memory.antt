@@ -16,14 +16,14 @@ use Rattle.cbor_io.specs.declared.error.ErrorCode.TheVariants as code
 use Rattle.cbor_io.specs.declared.read_error.ReadError.{ReadError}
 use Rattle.cbor_io.specs.declared.read_error.ReadErrorCode.{ReadErrorCode}
 use Rattle.cbor_io.specs.declared.read_error.ReadErrorCode.TheVariants as reading
-use Rattle.cbor_de.specs.Gives.{IsErrorOf, Limits, limits, Step, TellsNoMemory}
-use Rattle.cbor_de.specs.HasChunks.{AsksWhere, HasChunks}
-use Rattle.cbor_de.specs.Heads.{behind_head}
-use Rattle.cbor_de.specs.Memory.{MemoryOnly}
-use Rattle.cbor_de.specs.declared.head.Head.{Head}
-use Rattle.cbor_de.specs.declared.head.Head.TheVariants as head
-use Rattle.cbor_de.specs.declared.refusal.Refused.{Refused}
-use Rattle.cbor_de.specs.declared.refusal.Refused.TheVariants as refused
+use Rattle.cbor_decode.specs.Gives.{IsErrorOf, Limits, limits, Step, TellsNoMemory}
+use Rattle.cbor_decode.specs.HasChunks.{AsksWhere, HasChunks}
+use Rattle.cbor_decode.specs.Heads.{behind_head}
+use Rattle.cbor_decode.specs.Memory.{MemoryOnly}
+use Rattle.cbor_decode.specs.declared.head.Head.{Head}
+use Rattle.cbor_decode.specs.declared.head.Head.TheVariants as head
+use Rattle.cbor_decode.specs.declared.refusal.Refused.{Refused}
+use Rattle.cbor_decode.specs.declared.refusal.Refused.TheVariants as refused
 use Rattle.cbor_scalars.specs.Opens.{AsksBehind, OpensItem, opened_at}
 use Rattle.cbor_scalars.specs.Takes.{raws, lending, IsNotRead, MemoryFor, OfItem}
 use Rattle.cbor_scalars.specs.Strings.{AsksForBytes, AsksForString, AsksToLend, BytesOf, IsByteString, IsKept, IsMadeOf, Lacks, PartText, UnreadOnly, Utf8Of, asks_head, asks_string}

@@ -18,20 +18,20 @@ use Rattle.cbor_io.specs.declared.error.ErrorCode.{ErrorCode}
 use Rattle.cbor_io.specs.declared.read_error.ReadError.{ReadError}
 use Rattle.cbor_io.specs.declared.read_error.ReadErrorCode.{ReadErrorCode}
 use Rattle.cbor_value.specs.declared.Float.TheVariants.{Half, Single, Double}
-use Rattle.cbor_de.specs.Gives.{Limits, limits, Reports, Step, Stopped, IsErrorOf}
-use Rattle.cbor_de.specs.Heads.{opening_at, head_at, head_of, number_head, length_head, simple_head, behind_head}
-use Rattle.cbor_de.specs.declared.head.Head.{Head}
-use Rattle.cbor_de.specs.declared.head.Head.TheVariants as head
-use Rattle.cbor_de.specs.declared.cursor.Remaining.TheVariants.{Counted, ToBreak}
-use Rattle.cbor_de.specs.declared.refusal.Refused.{Refused}
-use Rattle.cbor_de.proofs.facts.Steps.{some_then, step_map, step_then, stopped_map, why_map}
+use Rattle.cbor_decode.specs.Gives.{Limits, limits, Reports, Step, Stopped, IsErrorOf}
+use Rattle.cbor_decode.specs.Heads.{opening_at, head_at, head_of, number_head, length_head, simple_head, behind_head}
+use Rattle.cbor_decode.specs.declared.head.Head.{Head}
+use Rattle.cbor_decode.specs.declared.head.Head.TheVariants as head
+use Rattle.cbor_decode.specs.declared.cursor.Remaining.TheVariants.{Counted, ToBreak}
+use Rattle.cbor_decode.specs.declared.refusal.Refused.{Refused}
+use Rattle.cbor_decode.proofs.facts.Steps.{some_then, step_map, step_then, stopped_map, why_map}
 use Rattle.cbor_scalars.specs.Takes.{FaultOrMessage, RefusesWhole, any_item}
 use Rattle.cbor_scalars.proofs.PassedOver.{stopped_whole}
 use Rattle.cbor_model.specs.Plain.{Val}
 use Rattle.cbor_scalars.specs.Takes.{raws, IsRead, IsNotRead, MemoryFor, Refuses}
 use Rattle.cbor_scalars.specs.Options.{UnlessNull, null_at}
 use Rattle.cbor_scalars.proofs.OfKind.{kinds}
-use Rattle.cbor_de.proofs.facts.Heads.{item_opened}
+use Rattle.cbor_decode.proofs.facts.Heads.{item_opened}
 use Rattle.cbor_scalars.proofs.Scalars.{refuses, no_null}
 
 -- ---- a head that isn't null's

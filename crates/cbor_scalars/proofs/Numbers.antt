@@ -13,10 +13,10 @@ use Rattle.cbor_io.specs.Error.{code_of, offset_of}
 use Rattle.cbor_io.specs.declared.error.Error.{Error}
 use Rattle.cbor_io.specs.declared.read_error.ReadError.{ReadError}
 use Rattle.cbor_io.specs.declared.read_error.ReadErrorCode.{ReadErrorCode}
-use Rattle.cbor_de.specs.Gives.{Limits, limits, Step, Tells}
-use Rattle.cbor_de.specs.Heads.{behind_head}
-use Rattle.cbor_de.specs.declared.head.Head.{Head}
-use Rattle.cbor_de.specs.declared.head.Head.TheVariants as head
+use Rattle.cbor_decode.specs.Gives.{Limits, limits, Step, Tells}
+use Rattle.cbor_decode.specs.Heads.{behind_head}
+use Rattle.cbor_decode.specs.declared.head.Head.{Head}
+use Rattle.cbor_decode.specs.declared.head.Head.TheVariants as head
 use Rattle.cbor_scalars.specs.Takes.{raws, IsRead, IsNotRead, Refuses}
 use Rattle.cbor_scalars.specs.Opens.{OpensItem}
 use Rattle.cbor_scalars.specs.Kinds.{kind_of, head_kind}

@@ -7,10 +7,10 @@ use Rattle.cbor_model.specs.Raw.{Raw, Chunk}
 use Rattle.cbor_model.specs.Reader.{Reads, Fault, ◌>>=◌, bytes_at, string_at, checked_text, text_at, string_chunks_at, text_chunks_at, chunks_at, array_at, map_at, tag_at}
 use Rattle.cbor_model.proofs.facts.Reader.{ok_is}
 use Rattle.cbor_value.specs.declared.Float.TheVariants.{Half, Single, Double}
-use Rattle.cbor_de.specs.Gives.{Limits}
-use Rattle.cbor_de.specs.Heads.{behind_head}
-use Rattle.cbor_de.specs.declared.head.Head.{Head}
-use Rattle.cbor_de.specs.declared.head.Head.TheVariants as head
+use Rattle.cbor_decode.specs.Gives.{Limits}
+use Rattle.cbor_decode.specs.Heads.{behind_head}
+use Rattle.cbor_decode.specs.declared.head.Head.{Head}
+use Rattle.cbor_decode.specs.declared.head.Head.TheVariants as head
 use Rattle.cbor_scalars.specs.Kinds.{Kind, kind_of, head_kind}
 use Rattle.cbor_scalars.specs.Kinds as kind
 use Rattle.cbor_scalars.specs.Takes.{raws}

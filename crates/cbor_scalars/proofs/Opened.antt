@@ -8,13 +8,13 @@ use Rattle.cbor_model.specs.Reader.{Fault, Reads, byte_at, tag_at, item_at, insi
 use Rattle.cbor_read.specs.Source.{Input}
 use Rattle.cbor_io.specs.declared.read_error.ReadError.{ReadError}
 use Rattle.cbor_io.specs.declared.read_error.ReadErrorCode.{ReadErrorCode}
-use Rattle.cbor_de.specs.Gives.{Limits, Onward, Step, Stopped}
-use Rattle.cbor_de.specs.Heads.{HeadGives, opening_at, head_at, behind_head}
-use Rattle.cbor_de.specs.declared.head.Head.{Head}
-use Rattle.cbor_de.specs.declared.head.Head.TheVariants as head
-use Rattle.cbor_de.specs.declared.refusal.Refused.{Refused}
-use Rattle.cbor_de.proofs.facts.Heads.{item_opened}
-use Rattle.cbor_de.proofs.facts.Steps.{onward_some, step_map, step_then, stopped_map, stopped_then}
+use Rattle.cbor_decode.specs.Gives.{Limits, Onward, Step, Stopped}
+use Rattle.cbor_decode.specs.Heads.{HeadGives, opening_at, head_at, behind_head}
+use Rattle.cbor_decode.specs.declared.head.Head.{Head}
+use Rattle.cbor_decode.specs.declared.head.Head.TheVariants as head
+use Rattle.cbor_decode.specs.declared.refusal.Refused.{Refused}
+use Rattle.cbor_decode.proofs.facts.Heads.{item_opened}
+use Rattle.cbor_decode.proofs.facts.Steps.{onward_some, step_map, step_then, stopped_map, stopped_then}
 use Rattle.cbor_scalars.specs.Kinds.{head_kind}
 use Rattle.cbor_scalars.specs.Kinds as kind
 use Rattle.cbor_scalars.specs.Takes.{raws}

@@ -6,12 +6,12 @@ use Rattle.cbor_model.specs.Reader.{Fault, Reads}
 use Rattle.cbor_read.specs.Source.{Input}
 use Rattle.cbor_io.specs.declared.read_error.ReadError.{ReadError}
 use Rattle.cbor_io.specs.declared.read_error.ReadErrorCode.{ReadErrorCode}
-use Rattle.cbor_de.specs.Gives.{Step, Stopped, Gives}
-use Rattle.cbor_de.specs.Heads.{opening_at}
-use Rattle.cbor_de.specs.declared.head.Head.{Head}
-use Rattle.cbor_de.specs.declared.head.Head.TheVariants as head
-use Rattle.cbor_de.specs.declared.refusal.Refused.{Refused}
-use Rattle.cbor_de.proofs.facts.Steps.{step_map, step_then, stopped_map, stopped_then}
+use Rattle.cbor_decode.specs.Gives.{Step, Stopped, Gives}
+use Rattle.cbor_decode.specs.Heads.{opening_at}
+use Rattle.cbor_decode.specs.declared.head.Head.{Head}
+use Rattle.cbor_decode.specs.declared.head.Head.TheVariants as head
+use Rattle.cbor_decode.specs.declared.refusal.Refused.{Refused}
+use Rattle.cbor_decode.proofs.facts.Steps.{step_map, step_then, stopped_map, stopped_then}
 use Rattle.cbor_scalars.specs.Kinds.{head_kind}
 use Rattle.cbor_scalars.specs.Kinds as kind
 use Rattle.cbor_scalars.specs.Opens.{opened_by, opened_from, opened_at, opened_inside}

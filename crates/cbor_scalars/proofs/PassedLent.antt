@@ -13,13 +13,13 @@ use Rattle.cbor_io.specs.declared.error.ErrorCode.{ErrorCode}
 use Rattle.cbor_io.specs.declared.read_error.ReadError.{ReadError}
 use Rattle.cbor_io.specs.declared.read_error.ReadErrorCode.{ReadErrorCode}
 use Rattle.cbor_io.specs.declared.read_error.ReadErrorCode.TheVariants as reading
-use Rattle.cbor_de.specs.Gives.{FailsBy, IsAt, Limits, limits, Reports, Step, TellsWhy, Stops, TellsNoKey}
-use Rattle.cbor_de.specs.Heads.{passed}
-use Rattle.cbor_de.specs.declared.head.Head.{Head}
-use Rattle.cbor_de.specs.declared.head.Head.TheVariants as head
-use Rattle.cbor_de.specs.declared.refusal.Refused.{Refused}
-use Rattle.cbor_de.specs.declared.refusal.Refused.TheVariants as refused
-use Rattle.cbor_de.proofs.facts.Steps.{kept_tells, passed_on, refused_stops}
+use Rattle.cbor_decode.specs.Gives.{FailsBy, IsAt, Limits, limits, Reports, Step, TellsWhy, Stops, TellsNoKey}
+use Rattle.cbor_decode.specs.Heads.{passed}
+use Rattle.cbor_decode.specs.declared.head.Head.{Head}
+use Rattle.cbor_decode.specs.declared.head.Head.TheVariants as head
+use Rattle.cbor_decode.specs.declared.refusal.Refused.{Refused}
+use Rattle.cbor_decode.specs.declared.refusal.Refused.TheVariants as refused
+use Rattle.cbor_decode.proofs.facts.Steps.{kept_tells, passed_on, refused_stops}
 use Rattle.cbor_scalars.specs.Opens.{opened_at, behind_any}
 use Rattle.cbor_scalars.specs.Strings.{BytesOf, IsKept, IsNoKey, IsMadeOf, Lent, LentText, LendsWhole, PartText, UnreadBehind, UnreadBy, UnreadWhole, Utf8Of, behind_string, content_at, text_bytes}
 use Rattle.cbor_scalars.specs.Takes.{Refuses, RefusesWhole, any_item}

@@ -7,13 +7,13 @@ use Rattle.cbor_model.specs.Raw.{Chunk, Raw, Raws, RawPairs}
 use Rattle.cbor_model.specs.Reader.{Reads, Reading, ◌>>=◌, inside, item_at, tag_at}
 use Rattle.cbor_model.proofs.facts.Reader.{ok_is}
 use Rattle.cbor_read.specs.Source.{Asks, Input}
-use Rattle.cbor_de.specs.Gives.{Limits, limits, Step}
-use Rattle.cbor_de.specs.HasChunks.{AsksWhere, HasChunks}
-use Rattle.cbor_de.specs.Heads.{opening_at, behind_head}
-use Rattle.cbor_de.specs.declared.head.Head.{Head}
-use Rattle.cbor_de.specs.declared.head.Head.TheVariants as head
-use Rattle.cbor_de.proofs.facts.Heads.{item_opened}
-use Rattle.cbor_de.proofs.facts.Memory.{asks_on}
+use Rattle.cbor_decode.specs.Gives.{Limits, limits, Step}
+use Rattle.cbor_decode.specs.HasChunks.{AsksWhere, HasChunks}
+use Rattle.cbor_decode.specs.Heads.{opening_at, behind_head}
+use Rattle.cbor_decode.specs.declared.head.Head.{Head}
+use Rattle.cbor_decode.specs.declared.head.Head.TheVariants as head
+use Rattle.cbor_decode.proofs.facts.Heads.{item_opened}
+use Rattle.cbor_decode.proofs.facts.Memory.{asks_on}
 use Rattle.cbor_scalars.specs.Opens.{AsksBehind, opened_at, opened_by}
 use Rattle.cbor_scalars.specs.Takes.{OfItem, raws}
 use Rattle.cbor_scalars.specs.declared.opening.Found.{Found}

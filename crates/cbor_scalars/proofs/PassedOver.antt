@@ -13,13 +13,13 @@ use Rattle.cbor_io.specs.declared.read_error.ReadError.{ReadError}
 use Rattle.cbor_io.specs.declared.read_error.ReadErrorCode.{ReadErrorCode}
 use Rattle.cbor_value.specs.View.{float_view}
 use Rattle.cbor_value.specs.declared.Float.{Float}
-use Rattle.cbor_de.specs.Gives.{Limits, limits, values, Tells, Step, TellsWhy, FailsBy, Reports, IsErrorOf}
-use Rattle.cbor_de.specs.Heads.{opening_at, behind_head, passed}
-use Rattle.cbor_de.specs.declared.head.Head.{Head}
-use Rattle.cbor_de.specs.declared.head.Head.TheVariants as head
-use Rattle.cbor_de.specs.declared.refusal.Refused.{Refused}
-use Rattle.cbor_de.proofs.facts.Heads.{item_opened, value_behind}
-use Rattle.cbor_de.proofs.facts.Steps.{passed_on, passed_was, passed_stops, step_then, why_map, why_then}
+use Rattle.cbor_decode.specs.Gives.{Limits, limits, values, Tells, Step, TellsWhy, FailsBy, Reports, IsErrorOf}
+use Rattle.cbor_decode.specs.Heads.{opening_at, behind_head, passed}
+use Rattle.cbor_decode.specs.declared.head.Head.{Head}
+use Rattle.cbor_decode.specs.declared.head.Head.TheVariants as head
+use Rattle.cbor_decode.specs.declared.refusal.Refused.{Refused}
+use Rattle.cbor_decode.proofs.facts.Heads.{item_opened, value_behind}
+use Rattle.cbor_decode.proofs.facts.Steps.{passed_on, passed_was, passed_stops, step_then, why_map, why_then}
 use Rattle.cbor_scalars.specs.Opens.{opened_by, opened_at, behind_any, RefusesBehind, StandsBehind}
 use Rattle.cbor_scalars.specs.Takes.{ExcusedBy, FaultOrMessage, IsMessage, TellsItem, TellsOf, WhereTotal, IsMessageBy, RefusesWhole, Stands, TellsFault, any_item}
 use Rattle.cbor_scalars.specs.declared.opening.Found.{Found}

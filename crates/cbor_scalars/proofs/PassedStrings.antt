@@ -15,13 +15,13 @@ use Rattle.cbor_io.specs.declared.error.ErrorCode.TheVariants as code
 use Rattle.cbor_io.specs.declared.read_error.ReadError.{ReadError}
 use Rattle.cbor_io.specs.declared.read_error.ReadErrorCode.{ReadErrorCode}
 use Rattle.cbor_io.specs.declared.read_error.ReadErrorCode.TheVariants as reading
-use Rattle.cbor_de.specs.Gives.{FailsBy, IsErrorOf, Limits, limits, Reports, Step, TellsWhy, Tells, values}
-use Rattle.cbor_de.specs.Heads.{passed}
-use Rattle.cbor_de.specs.declared.head.Head.{Head}
-use Rattle.cbor_de.specs.declared.head.Head.TheVariants as head
-use Rattle.cbor_de.specs.declared.refusal.Refused.{Refused}
-use Rattle.cbor_de.specs.declared.refusal.Refused.TheVariants as refused
-use Rattle.cbor_de.proofs.facts.Steps.{step_map, why_map}
+use Rattle.cbor_decode.specs.Gives.{FailsBy, IsErrorOf, Limits, limits, Reports, Step, TellsWhy, Tells, values}
+use Rattle.cbor_decode.specs.Heads.{passed}
+use Rattle.cbor_decode.specs.declared.head.Head.{Head}
+use Rattle.cbor_decode.specs.declared.head.Head.TheVariants as head
+use Rattle.cbor_decode.specs.declared.refusal.Refused.{Refused}
+use Rattle.cbor_decode.specs.declared.refusal.Refused.TheVariants as refused
+use Rattle.cbor_decode.proofs.facts.Steps.{step_map, why_map}
 use Rattle.cbor_scalars.specs.Opens.{RefusesBehind, behind_any, opened_at}
 use Rattle.cbor_scalars.specs.Strings.{IsNotUtf8, KeepsTextOf, TellsString, behind_string, content_at}
 use Rattle.cbor_scalars.specs.Takes.{FaultOrMessage, RefusesWhole, Stands, TellsFault, any_item}

@@ -7,9 +7,9 @@ use Rattle.cbor_model.specs.Reader.{before, Fault, Reads, Reading, ◌>>=◌, nu
 use Rattle.cbor_read.specs.Source.{Input}
 use Rattle.cbor_io.specs.declared.read_error.ReadError.{ReadError}
 use Rattle.cbor_io.specs.declared.read_error.ReadErrorCode.{ReadErrorCode}
-use Rattle.cbor_de.specs.Gives.{Limits, Step, Stopped, Gives}
-use Rattle.cbor_de.specs.declared.refusal.Refused.{Refused}
-use Rattle.cbor_de.proofs.facts.Steps.{step_map, step_then, stopped_map, stopped_then}
+use Rattle.cbor_decode.specs.Gives.{Limits, Step, Stopped, Gives}
+use Rattle.cbor_decode.specs.declared.refusal.Refused.{Refused}
+use Rattle.cbor_decode.proofs.facts.Steps.{step_map, step_then, stopped_map, stopped_then}
 use Rattle.cbor_scalars.specs.Opens.{in_tags}
 use Rattle.cbor_scalars.specs.Tags.{begins_tag, entered_at, tag_behind, tag_head_at, passed_by, passed_from, passed_at}
 use Rattle.cbor_scalars.specs.Takes.{raws}

@@ -17,13 +17,13 @@ use Rattle.cbor_io.specs.declared.read_error.ReadError.{ReadError}
 use Rattle.cbor_io.specs.declared.read_error.ReadErrorCode.{ReadErrorCode}
 use Rattle.cbor_value.specs.declared.Float.{Float}
 use Rattle.cbor_value.specs.declared.Float.TheVariants.{Half, Single, Double}
-use Rattle.cbor_de.specs.Gives.{Limits, limits, Tells, Step, TellsWhy, Stopped, FailsBy, Reports, IsErrorOf}
-use Rattle.cbor_de.specs.Heads.{behind_head}
-use Rattle.cbor_de.specs.declared.head.Head.{Head}
-use Rattle.cbor_de.specs.declared.head.Head.TheVariants as head
-use Rattle.cbor_de.specs.declared.refusal.Refused.{Refused}
-use Rattle.cbor_de.specs.declared.refusal.Refused.TheVariants as refused
-use Rattle.cbor_de.proofs.facts.Steps.{some_then, step_map}
+use Rattle.cbor_decode.specs.Gives.{Limits, limits, Tells, Step, TellsWhy, Stopped, FailsBy, Reports, IsErrorOf}
+use Rattle.cbor_decode.specs.Heads.{behind_head}
+use Rattle.cbor_decode.specs.declared.head.Head.{Head}
+use Rattle.cbor_decode.specs.declared.head.Head.TheVariants as head
+use Rattle.cbor_decode.specs.declared.refusal.Refused.{Refused}
+use Rattle.cbor_decode.specs.declared.refusal.Refused.TheVariants as refused
+use Rattle.cbor_decode.proofs.facts.Steps.{some_then, step_map}
 use Rattle.cbor_scalars.specs.Takes.{raws, IsRead, IsNotRead, ExcusedBy, MemoryFor, Refuses, TellsFault}
 use Rattle.cbor_scalars.specs.Opens.{tagged, in_tags, Opens, OpensItem}
 use Rattle.cbor_scalars.specs.Kinds.{kind_of, head_kind}

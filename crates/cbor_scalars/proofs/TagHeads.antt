@@ -7,8 +7,8 @@ use Rattle.cbor_model.specs.Refusal.{too_deep}
 use Rattle.cbor_model.specs.Reader.{Fault, Reads, Reading, ◌>>=◌, byte_at, number_behind, width_of, item_at, item_by, inside, after_first, content_at, tag_at}
 use Rattle.cbor_model.proofs.facts.Reader.{ok_is}
 use Rattle.cbor_read.specs.Source.{Input}
-use Rattle.cbor_de.specs.Gives.{Limits, Step}
-use Rattle.cbor_de.proofs.facts.Steps.{step_map}
+use Rattle.cbor_decode.specs.Gives.{Limits, Step}
+use Rattle.cbor_decode.proofs.facts.Steps.{step_map}
 use Rattle.cbor_scalars.specs.Tags.{begins_tag, tag_first_at, entered_at, tag_behind, tag_head_at, TagIs}
 use Rattle.cbor_scalars.specs.Takes.{raws}
 

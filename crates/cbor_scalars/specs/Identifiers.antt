@@ -13,9 +13,9 @@ use Rattle.cbor_io.specs.declared.read_error.ReadError.{ReadError}
 use Rattle.cbor_io.specs.declared.read_error.ReadErrorCode.{ReadErrorCode}
 use Rattle.cbor_io.specs.Error.{code_of, offset_of}
 use Rattle.cbor_read.specs.Source.{Input}
-use Rattle.cbor_de.specs.Gives.{Step, IsErrorOf, TellsNoKey}
-use Rattle.cbor_de.specs.declared.head.Head.{Head}
-use Rattle.cbor_de.specs.declared.refusal.Refused as kept
+use Rattle.cbor_decode.specs.Gives.{Step, IsErrorOf, TellsNoKey}
+use Rattle.cbor_decode.specs.declared.head.Head.{Head}
+use Rattle.cbor_decode.specs.declared.refusal.Refused as kept
 use Rattle.cbor_scalars.specs.Strings.{content_at}
 use Rattle.cbor_scalars.specs.Takes.{IsMessage, Refuses, RefusesWhole}
 use Rattle.cbor_scalars.specs.declared.identifier.Why.{Why}
@@ -48,7 +48,7 @@ IsIdentifier names r place = (b : List ℕ) × IsString r b × IsPlace names b p
 
 -- ---- calls
 
--- the error that is made of why nothing was named, by what the deserializer keeps
+-- the error that is made of why nothing was named, by what the decoder keeps
 abbrev pub IsMadeBy : ReadError → Why → Error → Type 0
 IsMadeBy kept (Refused r) e = IsErrorOf kept r e
 IsMadeBy kept Other e = IsMessage e

@@ -8,5 +8,5 @@ pub mod Strings
 pub mod Identifiers
 pub use Rattle.cbor_io.specs.Error
 pub use Rattle.cbor_read.specs.Source
-pub use Rattle.cbor_de.specs.Gives
-pub use Rattle.cbor_de.specs.Deserializer
+pub use Rattle.cbor_decode.specs.Gives
+pub use Rattle.cbor_decode.specs.Decoder

@@ -14,13 +14,13 @@ use Rattle.cbor_io.specs.declared.read_error.ReadErrorCode.{ReadErrorCode}
 use Rattle.cbor_io.specs.Error.{code_of, offset_of}
 use Rattle.cbor_io.specs.declared.error.Error.{Error}
 use Rattle.cbor_read.specs.Source.{Asks, Input}
-use Rattle.cbor_de.specs.Gives.{Limits, limits, values, Reports, Step, Stopped, Tells}
-use Rattle.cbor_de.specs.HasChunks.{AllRead, AsksWhere, HasChunks}
-use Rattle.cbor_de.specs.Heads.{opening_at, head_at, head_of, after_head, behind_head}
-use Rattle.cbor_de.specs.declared.cursor.Remaining.TheVariants.{Counted}
-use Rattle.cbor_de.specs.declared.head.Head.{Head}
-use Rattle.cbor_de.specs.declared.head.Head.TheVariants.{Array, Tag}
-use Rattle.cbor_de.specs.declared.refusal.Refused.{Refused}
+use Rattle.cbor_decode.specs.Gives.{Limits, limits, values, Reports, Step, Stopped, Tells}
+use Rattle.cbor_decode.specs.HasChunks.{AllRead, AsksWhere, HasChunks}
+use Rattle.cbor_decode.specs.Heads.{opening_at, head_at, head_of, after_head, behind_head}
+use Rattle.cbor_decode.specs.declared.cursor.Remaining.TheVariants.{Counted}
+use Rattle.cbor_decode.specs.declared.head.Head.{Head}
+use Rattle.cbor_decode.specs.declared.head.Head.TheVariants.{Array, Tag}
+use Rattle.cbor_decode.specs.declared.refusal.Refused.{Refused}
 use Rattle.cbor_scalars.specs.Kinds.{head_kind}
 use Rattle.cbor_scalars.specs.Kinds as kind
 use Rattle.cbor_scalars.specs.Takes.{FaultOrMessage, raws}

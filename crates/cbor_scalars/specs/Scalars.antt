@@ -6,8 +6,8 @@ use Rattle.std.specs.Float.Ieee.{fits, odd}
 use Rattle.cbor_model.specs.Raw as raw
 use Rattle.cbor_model.specs.Raw.{Raw, FloatWidth, half, single, double}
 use Rattle.cbor_model.specs.Readable.{IsFloat}
-use Rattle.cbor_de.specs.declared.head.Head.{Head}
-use Rattle.cbor_de.specs.declared.head.Head.TheVariants.{Unsigned, Negative}
+use Rattle.cbor_decode.specs.declared.head.Head.{Head}
+use Rattle.cbor_decode.specs.declared.head.Head.TheVariants.{Unsigned, Negative}
 use Rattle.cbor_value.specs.Floats.{number, half_number}
 use Rattle.cbor_value.specs.declared.Float.{Float}
 use Rattle.cbor_value.specs.declared.Float.TheVariants.{Half, Single, Double}

@@ -18,17 +18,17 @@ use Rattle.cbor_io.specs.Error.{code_of, offset_of}
 use Rattle.cbor_read.specs.Source.{Input, Lends, Asks, part_bytes, is_long}
 use Rattle.cbor_read.specs.declared.EitherLifetime.{EitherLifetime}
 use Rattle.cbor_io.specs.declared.read_error.ReadErrorCode.{ReadErrorCode}
-use Rattle.cbor_de.specs.Gives.{Limits, Step, Stops, IsErrorOf}
-use Rattle.cbor_de.specs.Heads.{joined_of}
-use Rattle.cbor_de.specs.HasChunks.{AsksWhere, HasChunks}
+use Rattle.cbor_decode.specs.Gives.{Limits, Step, Stops, IsErrorOf}
+use Rattle.cbor_decode.specs.Heads.{joined_of}
+use Rattle.cbor_decode.specs.HasChunks.{AsksWhere, HasChunks}
 use Rattle.cbor_io.specs.ReadError.{why, place, error_code, IsMemory}
 use Rattle.cbor_io.specs.declared.error.ErrorCode.{ErrorCode}
 use Rattle.cbor_io.specs.declared.read_error.ReadError.{ReadError}
 use Rattle.cbor_io.specs.declared.read_error.ReadErrorCode.TheVariants as reading
-use Rattle.cbor_de.specs.declared.refusal.Refused.{Refused}
-use Rattle.cbor_de.specs.declared.refusal.Refused.TheVariants as refused
-use Rattle.cbor_de.specs.declared.head.Head.{Head}
-use Rattle.cbor_de.specs.declared.head.Head.TheVariants.{Bytes, Text}
+use Rattle.cbor_decode.specs.declared.refusal.Refused.{Refused}
+use Rattle.cbor_decode.specs.declared.refusal.Refused.TheVariants as refused
+use Rattle.cbor_decode.specs.declared.head.Head.{Head}
+use Rattle.cbor_decode.specs.declared.head.Head.TheVariants.{Bytes, Text}
 use Rattle.cbor_scalars.specs.Opens.{StandsBehind, behind_any}
 use Rattle.cbor_scalars.specs.Takes.{raws, IsRead, IsNotRead, Refuses, RefusesWhole}
 use Rattle.cbor_scalars.specs.Takes.{IsMessage, OfItem, Stands, TellsFault, any_item}

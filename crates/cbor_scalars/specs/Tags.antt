@@ -9,8 +9,8 @@ use Rattle.cbor_model.specs.Reader.{Reads, ◌>>=◌, before, number_behind, ite
 use Rattle.cbor_io.specs.declared.error.Error.{Error}
 use Rattle.cbor_io.specs.declared.read_error.ReadErrorCode.{ReadErrorCode}
 use Rattle.cbor_read.specs.Source.{Input, TookSome}
-use Rattle.cbor_de.specs.Gives.{Limits, Step, Stopped}
-use Rattle.cbor_de.specs.declared.refusal.Refused.{Refused}
+use Rattle.cbor_decode.specs.Gives.{Limits, Step, Stopped}
+use Rattle.cbor_decode.specs.declared.refusal.Refused.{Refused}
 use Rattle.cbor_model.specs.Raw.{Raw}
 use Rattle.cbor_io.specs.declared.read_error.ReadError.{ReadError}
 use Rattle.cbor_scalars.specs.Opens.{in_tags}

@@ -16,10 +16,10 @@ use Rattle.cbor_io.specs.declared.error.ErrorCode.TheVariants.{OutOfMemory}
 use Rattle.cbor_io.specs.declared.read_error.ReadErrorCode.{ReadErrorCode}
 use Rattle.cbor_io.specs.Error.{code_of, offset_of, IsMessageOf}
 use Rattle.cbor_read.specs.Source.{Input, Lends, TookSome}
-use Rattle.cbor_de.specs.Gives.{Limits, limits, values, Tells, Step, Reports, FailsBy}
-use Rattle.cbor_de.specs.declared.formats.Formats.{Formats}
-pub use Rattle.cbor_de.specs.Deserializer.{formats_of}
-pub use Rattle.cbor_de.specs.HasChunks.{raws}
+use Rattle.cbor_decode.specs.Gives.{Limits, limits, values, Tells, Step, Reports, FailsBy}
+use Rattle.cbor_decode.specs.declared.formats.Formats.{Formats}
+pub use Rattle.cbor_decode.specs.Decoder.{formats_of}
+pub use Rattle.cbor_decode.specs.HasChunks.{raws}
 
 -- these formats are read, and so much is lent
 abbrev pub lending : model.Formats → Lends → Context

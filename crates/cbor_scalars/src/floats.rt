@@ -3,12 +3,12 @@
 ghost use Rattle.std.specs.Prelude.{◌≡◌, IfErr, OnOk};
 ghost use Rattle.cbor_model.specs.Readable.{PassesTags};
 ghost use Rattle.cbor_io.specs.Error.{code_of};
-ghost use Rattle.cbor_de.specs.Gives.{Onward, TellsNoForm};
+ghost use Rattle.cbor_decode.specs.Gives.{Onward, TellsNoForm};
 ghost use Rattle.cbor_scalars.specs.Scalars.{IsFloatOf, IsSingleOf};
 ghost use Rattle.cbor_scalars.specs.Takes.{RefusesWhole, TakesItem, TakesNoMemory, formats_of};
 
 use crate::scalar::read_float;
-use cbor_de::Deserializer;
+use cbor_decode::Decoder;
 use cbor_io::error::{Error, Result};
 use cbor_read::Source;
 use cbor_value::Float;
@@ -17,64 +17,64 @@ use std::num::{f32_from_bits_with_nan, f64_from_bits_with_nan};
 /// Reads a float of 16, 32 or 64 bits as the number that it is. What isn't whole is refused by its
 /// fault, and another item by a message.
 #[inline(always)]
-pub fn read_f64<R: Source>(items: &mut Deserializer<R>) -> Result<f64>
-    ensures read { TakesItem R.refusals (formats_of items.old.formats)
-        (PassesTags IsFloatOf) items.old.levels
-        (R.source items.old.source) (R.source items.new.source) result }
-    ensures taken { OnOk result (Onward (R.source items.old.source) (R.source items.new.source)) }
-    ensures fault { IfErr result (RefusesWhole R.refusals items.old.levels
-        (R.source items.old.source)) }
+pub fn read_f64<R: Source>(decoder: &mut Decoder<R>) -> Result<f64>
+    ensures read { TakesItem R.refusals (formats_of decoder.old.formats)
+        (PassesTags IsFloatOf) decoder.old.levels
+        (R.source decoder.old.source) (R.source decoder.new.source) result }
+    ensures taken { OnOk result (Onward (R.source decoder.old.source) (R.source decoder.new.source)) }
+    ensures fault { IfErr result (RefusesWhole R.refusals decoder.old.levels
+        (R.source decoder.old.source)) }
     ensures no_form { IfErr result (λ e. TellsNoForm (code_of e)) }
-    ensures memory { IfErr result (TakesNoMemory (formats_of items.old.formats)
-        (PassesTags IsFloatOf) items.old.levels (R.source items.old.source)) }
-    ensures levels { items.new.levels ≡ items.old.levels }
-    ensures formats { items.new.formats ≡ items.old.formats }
+    ensures memory { IfErr result (TakesNoMemory (formats_of decoder.old.formats)
+        (PassesTags IsFloatOf) decoder.old.levels (R.source decoder.old.source)) }
+    ensures levels { decoder.new.levels ≡ decoder.old.levels }
+    ensures formats { decoder.new.formats ≡ decoder.old.formats }
 {
-    match items.double() {
+    match decoder.double() {
         Ok(Some(bits)) => Ok(f64_from_bits_with_nan(bits)),
-        Ok(None) => other_f64(items),
-        Err(refused) => Err(items.error(refused)),
+        Ok(None) => other_f64(decoder),
+        Err(refused) => Err(decoder.error(refused)),
     }
 }
 
 // The same where no float of 64 bits stands at the front.
 #[inline(never)]
-fn other_f64<R: Source>(items: &mut Deserializer<R>) -> Result<f64>
-    ensures read { TakesItem R.refusals (formats_of items.old.formats)
-        (PassesTags IsFloatOf) items.old.levels
-        (R.source items.old.source) (R.source items.new.source) result }
-    ensures taken { OnOk result (Onward (R.source items.old.source) (R.source items.new.source)) }
-    ensures fault { IfErr result (RefusesWhole R.refusals items.old.levels
-        (R.source items.old.source)) }
+fn other_f64<R: Source>(decoder: &mut Decoder<R>) -> Result<f64>
+    ensures read { TakesItem R.refusals (formats_of decoder.old.formats)
+        (PassesTags IsFloatOf) decoder.old.levels
+        (R.source decoder.old.source) (R.source decoder.new.source) result }
+    ensures taken { OnOk result (Onward (R.source decoder.old.source) (R.source decoder.new.source)) }
+    ensures fault { IfErr result (RefusesWhole R.refusals decoder.old.levels
+        (R.source decoder.old.source)) }
     ensures no_form { IfErr result (λ e. TellsNoForm (code_of e)) }
-    ensures memory { IfErr result (TakesNoMemory (formats_of items.old.formats)
-        (PassesTags IsFloatOf) items.old.levels (R.source items.old.source)) }
-    ensures levels { items.new.levels ≡ items.old.levels }
-    ensures formats { items.new.formats ≡ items.old.formats }
+    ensures memory { IfErr result (TakesNoMemory (formats_of decoder.old.formats)
+        (PassesTags IsFloatOf) decoder.old.levels (R.source decoder.old.source)) }
+    ensures levels { decoder.new.levels ≡ decoder.old.levels }
+    ensures formats { decoder.new.formats ≡ decoder.old.formats }
 {
-    match items.single() {
+    match decoder.single() {
         Ok(Some(bits)) => Ok(Float::Single(bits).to_f64()),
-        Ok(None) => any_f64(items),
-        Err(refused) => Err(items.error(refused)),
+        Ok(None) => any_f64(decoder),
+        Err(refused) => Err(decoder.error(refused)),
     }
 }
 
 // Reads a float of any width, within its tags, as an `f64`.
 #[inline(always)]
-fn any_f64<R: Source>(items: &mut Deserializer<R>) -> Result<f64>
-    ensures read { TakesItem R.refusals (formats_of items.old.formats)
-        (PassesTags IsFloatOf) items.old.levels
-        (R.source items.old.source) (R.source items.new.source) result }
-    ensures taken { OnOk result (Onward (R.source items.old.source) (R.source items.new.source)) }
-    ensures fault { IfErr result (RefusesWhole R.refusals items.old.levels
-        (R.source items.old.source)) }
+fn any_f64<R: Source>(decoder: &mut Decoder<R>) -> Result<f64>
+    ensures read { TakesItem R.refusals (formats_of decoder.old.formats)
+        (PassesTags IsFloatOf) decoder.old.levels
+        (R.source decoder.old.source) (R.source decoder.new.source) result }
+    ensures taken { OnOk result (Onward (R.source decoder.old.source) (R.source decoder.new.source)) }
+    ensures fault { IfErr result (RefusesWhole R.refusals decoder.old.levels
+        (R.source decoder.old.source)) }
     ensures no_form { IfErr result (λ e. TellsNoForm (code_of e)) }
-    ensures memory { IfErr result (TakesNoMemory (formats_of items.old.formats)
-        (PassesTags IsFloatOf) items.old.levels (R.source items.old.source)) }
-    ensures levels { items.new.levels ≡ items.old.levels }
-    ensures formats { items.new.formats ≡ items.old.formats }
+    ensures memory { IfErr result (TakesNoMemory (formats_of decoder.old.formats)
+        (PassesTags IsFloatOf) decoder.old.levels (R.source decoder.old.source)) }
+    ensures levels { decoder.new.levels ≡ decoder.old.levels }
+    ensures formats { decoder.new.formats ≡ decoder.old.formats }
 {
-    match read_float(items) {
+    match read_float(decoder) {
         Ok(float) => Ok(float.to_f64()),
         Err(e) => Err(e),
     }
@@ -83,47 +83,47 @@ fn any_f64<R: Source>(items: &mut Deserializer<R>) -> Result<f64>
 /// Reads a float of 16, 32 or 64 bits whose number is one of 32 bits. It refuses as [`read_f64`]
 /// does.
 #[inline(always)]
-pub fn read_f32<R: Source>(items: &mut Deserializer<R>) -> Result<f32>
-    ensures read { TakesItem R.refusals (formats_of items.old.formats)
-        (PassesTags IsSingleOf) items.old.levels
-        (R.source items.old.source) (R.source items.new.source) result }
-    ensures taken { OnOk result (Onward (R.source items.old.source) (R.source items.new.source)) }
-    ensures fault { IfErr result (RefusesWhole R.refusals items.old.levels
-        (R.source items.old.source)) }
+pub fn read_f32<R: Source>(decoder: &mut Decoder<R>) -> Result<f32>
+    ensures read { TakesItem R.refusals (formats_of decoder.old.formats)
+        (PassesTags IsSingleOf) decoder.old.levels
+        (R.source decoder.old.source) (R.source decoder.new.source) result }
+    ensures taken { OnOk result (Onward (R.source decoder.old.source) (R.source decoder.new.source)) }
+    ensures fault { IfErr result (RefusesWhole R.refusals decoder.old.levels
+        (R.source decoder.old.source)) }
     ensures no_form { IfErr result (λ e. TellsNoForm (code_of e)) }
-    ensures memory { IfErr result (TakesNoMemory (formats_of items.old.formats)
-        (PassesTags IsSingleOf) items.old.levels (R.source items.old.source)) }
-    ensures levels { items.new.levels ≡ items.old.levels }
-    ensures formats { items.new.formats ≡ items.old.formats }
+    ensures memory { IfErr result (TakesNoMemory (formats_of decoder.old.formats)
+        (PassesTags IsSingleOf) decoder.old.levels (R.source decoder.old.source)) }
+    ensures levels { decoder.new.levels ≡ decoder.old.levels }
+    ensures formats { decoder.new.formats ≡ decoder.old.formats }
 {
-    match items.single() {
+    match decoder.single() {
         Ok(Some(bits)) => Ok(f32_from_bits_with_nan(bits)),
-        Ok(None) => any_f32(items),
-        Err(refused) => Err(items.error(refused)),
+        Ok(None) => any_f32(decoder),
+        Err(refused) => Err(decoder.error(refused)),
     }
 }
 
 // Reads a float of any width, within its tags, as an `f32`.
 #[inline(always)]
-fn any_f32<R: Source>(items: &mut Deserializer<R>) -> Result<f32>
-    ensures read { TakesItem R.refusals (formats_of items.old.formats)
-        (PassesTags IsSingleOf) items.old.levels
-        (R.source items.old.source) (R.source items.new.source) result }
-    ensures taken { OnOk result (Onward (R.source items.old.source) (R.source items.new.source)) }
-    ensures fault { IfErr result (RefusesWhole R.refusals items.old.levels
-        (R.source items.old.source)) }
+fn any_f32<R: Source>(decoder: &mut Decoder<R>) -> Result<f32>
+    ensures read { TakesItem R.refusals (formats_of decoder.old.formats)
+        (PassesTags IsSingleOf) decoder.old.levels
+        (R.source decoder.old.source) (R.source decoder.new.source) result }
+    ensures taken { OnOk result (Onward (R.source decoder.old.source) (R.source decoder.new.source)) }
+    ensures fault { IfErr result (RefusesWhole R.refusals decoder.old.levels
+        (R.source decoder.old.source)) }
     ensures no_form { IfErr result (λ e. TellsNoForm (code_of e)) }
-    ensures memory { IfErr result (TakesNoMemory (formats_of items.old.formats)
-        (PassesTags IsSingleOf) items.old.levels (R.source items.old.source)) }
-    ensures levels { items.new.levels ≡ items.old.levels }
-    ensures formats { items.new.formats ≡ items.old.formats }
+    ensures memory { IfErr result (TakesNoMemory (formats_of decoder.old.formats)
+        (PassesTags IsSingleOf) decoder.old.levels (R.source decoder.old.source)) }
+    ensures levels { decoder.new.levels ≡ decoder.old.levels }
+    ensures formats { decoder.new.formats ≡ decoder.old.formats }
 {
-    let float = match read_float(items) {
+    let float = match read_float(decoder) {
         Ok(float) => float,
         Err(e) => return Err(e),
     };
     match float.to_f32() {
         Some(x) => Ok(x),
-        None => Err(Error::message(items.alloc, "float out of range: expected f32")),
+        None => Err(Error::message(decoder.alloc, "float out of range: expected f32")),
     }
 }

@@ -5,8 +5,8 @@ ghost use Rattle.std.specs.Str.{IsUtf8};
 ghost use Rattle.cbor_io.specs.declared.error.Error.{Error};
 ghost use Rattle.cbor_read.specs.Source.{part_bytes};
 ghost use Rattle.cbor_model.specs.Readable.{PassesTags};
-ghost use Rattle.cbor_de.specs.Gives.{Onward, TellsNoForm, TellsNoKey};
-ghost use Rattle.cbor_de.specs.declared.head.Head.TheVariants.{Bytes, Text};
+ghost use Rattle.cbor_decode.specs.Gives.{Onward, TellsNoForm, TellsNoKey};
+ghost use Rattle.cbor_decode.specs.declared.head.Head.TheVariants.{Bytes, Text};
 ghost use Rattle.cbor_io.specs.Error.{code_of};
 ghost use Rattle.cbor_scalars.specs.Identifiers.{IsIdentifier, IsPlace, place_of, texts};
 ghost use Rattle.cbor_scalars.specs.Identifiers.{IsMadeBy, NamesNoKey, NamesText};
@@ -16,7 +16,7 @@ ghost use Rattle.cbor_scalars.specs.Takes.{OnceMade, TakesItem, formats_of};
 
 use crate::lent::{Unread, bytes_part};
 use crate::scalar::scalar;
-use cbor_de::{Deserializer, Done, Head, Refused};
+use cbor_decode::{Decoder, Done, Head, Refused};
 use cbor_io::error::Error;
 use cbor_io::head::Major;
 use cbor_io::utf8::from_utf8;
@@ -25,7 +25,7 @@ use cbor_read::{EitherLifetime, Read, ReadErrorCode, Source};
 /// The result of reading a field's or a variant's name.
 pub type Named<T> = std::result::Result<T, Why>;
 
-/// Why nothing was named. It is small: the deserializer keeps the refusal, and the call that the
+/// Why nothing was named. It is small: the decoder keeps the refusal, and the call that the
 /// step belongs to makes the error ([`unnamed`]).
 #[derive(Clone, Copy)]
 pub enum Why {
@@ -124,15 +124,15 @@ fn place_of_text_part(
 // Why nothing was named where no string was lent.
 #[cold]
 #[inline(never)]
-fn kept<R: Source>(items: &mut Deserializer<R>, unread: Unread) -> Why
-    ensures kept { (e : Error) → IsMadeBy items.new.refusal result e → IsMadeOf unread e }
-    ensures source { items.new.source ≡ items.old.source }
-    ensures no_key { IsNoKey unread → NamesNoKey items.new.refusal result }
-    ensures levels { items.new.levels ≡ items.old.levels }
-    ensures formats { items.new.formats ≡ items.old.formats }
+fn kept<R: Source>(decoder: &mut Decoder<R>, unread: Unread) -> Why
+    ensures kept { (e : Error) → IsMadeBy decoder.new.refusal result e → IsMadeOf unread e }
+    ensures source { decoder.new.source ≡ decoder.old.source }
+    ensures no_key { IsNoKey unread → NamesNoKey decoder.new.refusal result }
+    ensures levels { decoder.new.levels ≡ decoder.old.levels }
+    ensures formats { decoder.new.formats ≡ decoder.old.formats }
 {
     match unread {
-        Unread::Stopped(refusal) => Why::Refused(items.keep(refusal)),
+        Unread::Stopped(refusal) => Why::Refused(decoder.keep(refusal)),
         Unread::Other => Why::Other,
     }
 }
@@ -140,14 +140,14 @@ fn kept<R: Source>(items: &mut Deserializer<R>, unread: Unread) -> Why
 // Why an item of another kind names nothing, after its head.
 #[cold]
 #[inline(never)]
-fn no_name<R: Source>(items: &mut Deserializer<R>, head: Head) -> Why
-    ensures no_key { NamesNoKey items.new.refusal result }
-    ensures source { items.new.source ≡ items.old.source }
-    ensures levels { items.new.levels ≡ items.old.levels }
-    ensures formats { items.new.formats ≡ items.old.formats }
+fn no_name<R: Source>(decoder: &mut Decoder<R>, head: Head) -> Why
+    ensures no_key { NamesNoKey decoder.new.refusal result }
+    ensures source { decoder.new.source ≡ decoder.old.source }
+    ensures levels { decoder.new.levels ≡ decoder.old.levels }
+    ensures formats { decoder.new.formats ≡ decoder.old.formats }
 {
     if let Head::Break = head {
-        return Why::Refused(items.refuse(ReadErrorCode::UnexpectedCode));
+        return Why::Refused(decoder.refuse(ReadErrorCode::UnexpectedCode));
     }
     Why::Other
 }
@@ -155,16 +155,16 @@ fn no_name<R: Source>(items: &mut Deserializer<R>, head: Head) -> Why
 /// The error of what names nothing; the message is for an item of another kind.
 #[cold]
 #[inline(never)]
-pub fn unnamed<R: Source>(items: &mut Deserializer<R>, why: Why, message: &str) -> Error
-    ensures made { IsMadeBy items.old.refusal why result }
-    ensures source { items.new.source ≡ items.old.source }
-    ensures no_form { NamesNoKey items.old.refusal why → TellsNoForm (code_of result) }
-    ensures levels { items.new.levels ≡ items.old.levels }
-    ensures formats { items.new.formats ≡ items.old.formats }
+pub fn unnamed<R: Source>(decoder: &mut Decoder<R>, why: Why, message: &str) -> Error
+    ensures made { IsMadeBy decoder.old.refusal why result }
+    ensures source { decoder.new.source ≡ decoder.old.source }
+    ensures no_form { NamesNoKey decoder.old.refusal why → TellsNoForm (code_of result) }
+    ensures levels { decoder.new.levels ≡ decoder.old.levels }
+    ensures formats { decoder.new.formats ≡ decoder.old.formats }
 {
     match why {
-        Why::Refused(refused) => items.error(refused),
-        Why::Other => Error::message(items.alloc, message),
+        Why::Refused(refused) => decoder.error(refused),
+        Why::Other => Error::message(decoder.alloc, message),
     }
 }
 
@@ -172,117 +172,117 @@ pub fn unnamed<R: Source>(items: &mut Deserializer<R>, why: Why, message: &str) 
 #[inline(always)]
 #[tactic(auto, using(crate::proofs::Lending::hand_step))]
 fn definite_name<'de, R: Read<'de>>(
-    items: &mut Deserializer<R>,
+    decoder: &mut Decoder<R>,
     names: &[&str],
     n: u64,
 ) -> Done<Option<usize>>
     ensures read { TakesName R.refusals (texts names.now) (Text (Some n))
-        (R.source items.old.source) (R.source items.new.source)
-        items.new.refusal result }
+        (R.source decoder.old.source) (R.source decoder.new.source)
+        decoder.new.refusal result }
     ensures below { IfOk result (λ place. IfSome place (λ i. i < length names.now)) }
-    ensures no_key { IfErr result (TellsNoKey items.new.refusal) }
-    ensures levels { items.new.levels ≡ items.old.levels }
-    ensures formats { items.new.formats ≡ items.old.formats }
+    ensures no_key { IfErr result (TellsNoKey decoder.new.refusal) }
+    ensures levels { decoder.new.levels ≡ decoder.old.levels }
+    ensures formats { decoder.new.formats ≡ decoder.old.formats }
 {
-    let ahead = items.source.ahead();
+    let ahead = decoder.source.ahead();
     if n <= ahead.len() as u64 {
         let named = place_of_text(names, &ahead[..n as usize]);
-        items.source.advance(n as usize);
+        decoder.source.advance(n as usize);
         return match named {
             Ok(place) => Ok(place),
-            Err(back) => Err(items.refuse_text(back)),
+            Err(back) => Err(decoder.refuse_text(back)),
         };
     }
-    name_asked_for(items, names, n)
+    name_asked_for(decoder, names, n)
 }
 
 // Reads it as a name where too few bytes are buffered: the source is asked for them.
 #[inline(never)]
 fn name_asked_for<'de, R: Read<'de>>(
-    items: &mut Deserializer<R>,
+    decoder: &mut Decoder<R>,
     names: &[&str],
     n: u64,
 ) -> Done<Option<usize>>
     ensures read { TakesName R.refusals (texts names.now) (Text (Some n))
-        (R.source items.old.source) (R.source items.new.source)
-        items.new.refusal result }
+        (R.source decoder.old.source) (R.source decoder.new.source)
+        decoder.new.refusal result }
     ensures below { IfOk result (λ place. IfSome place (λ i. i < length names.now)) }
-    ensures no_key { IfErr result (TellsNoKey items.new.refusal) }
-    ensures levels { items.new.levels ≡ items.old.levels }
-    ensures formats { items.new.formats ≡ items.old.formats }
+    ensures no_key { IfErr result (TellsNoKey decoder.new.refusal) }
+    ensures levels { decoder.new.levels ≡ decoder.old.levels }
+    ensures formats { decoder.new.formats ≡ decoder.old.formats }
 {
-    if !items.has_room(n) {
-        return Err(items.refuse(ReadErrorCode::LengthOutOfRange));
+    if !decoder.has_room(n) {
+        return Err(decoder.refuse(ReadErrorCode::LengthOutOfRange));
     }
-    let named = match items.source.read(n as usize) {
+    let named = match decoder.source.read(n as usize) {
         Ok(part) => place_of_text_part(names, part),
-        Err(refusal) => return Err(items.keep(refusal)),
+        Err(refusal) => return Err(decoder.keep(refusal)),
     };
     match named {
         Ok(place) => Ok(place),
-        Err(back) => Err(items.refuse_text(back)),
+        Err(back) => Err(decoder.refuse_text(back)),
     }
 }
 
 // Reads a text in chunks after its head, as a name.
 #[inline(never)]
 fn joined_name<'de, R: Read<'de>>(
-    items: &mut Deserializer<R>,
+    decoder: &mut Decoder<R>,
     names: &[&str],
 ) -> Done<Option<usize>>
     ensures read { TakesName R.refusals (texts names.now) (Text None)
-        (R.source items.old.source) (R.source items.new.source)
-        items.new.refusal result }
+        (R.source decoder.old.source) (R.source decoder.new.source)
+        decoder.new.refusal result }
     ensures below { IfOk result (λ place. IfSome place (λ i. i < length names.now)) }
-    ensures no_key { IfErr result (TellsNoKey items.new.refusal) }
-    ensures levels { items.new.levels ≡ items.old.levels }
-    ensures formats { items.new.formats ≡ items.old.formats }
+    ensures no_key { IfErr result (TellsNoKey decoder.new.refusal) }
+    ensures levels { decoder.new.levels ≡ decoder.old.levels }
+    ensures formats { decoder.new.formats ≡ decoder.old.formats }
 {
-    items.join(Major::TextString)?;
-    match place_of_text_part(names, items.source.take_buffer()) {
+    decoder.join(Major::TextString)?;
+    match place_of_text_part(names, decoder.source.take_buffer()) {
         Ok(place) => Ok(place),
-        Err(back) => Err(items.refuse_text(back)),
+        Err(back) => Err(decoder.refuse_text(back)),
     }
 }
 
 // Reads a text after its head, as a name.
 #[inline(always)]
 fn text_name<'de, R: Read<'de>>(
-    items: &mut Deserializer<R>,
+    decoder: &mut Decoder<R>,
     names: &[&str],
     n: Option<u64>,
 ) -> Done<Option<usize>>
     ensures read { TakesName R.refusals (texts names.now) (Text n)
-        (R.source items.old.source) (R.source items.new.source)
-        items.new.refusal result }
+        (R.source decoder.old.source) (R.source decoder.new.source)
+        decoder.new.refusal result }
     ensures below { IfOk result (λ place. IfSome place (λ i. i < length names.now)) }
-    ensures no_key { IfErr result (TellsNoKey items.new.refusal) }
-    ensures levels { items.new.levels ≡ items.old.levels }
-    ensures formats { items.new.formats ≡ items.old.formats }
+    ensures no_key { IfErr result (TellsNoKey decoder.new.refusal) }
+    ensures levels { decoder.new.levels ≡ decoder.old.levels }
+    ensures formats { decoder.new.formats ≡ decoder.old.formats }
 {
     match n {
-        Some(n) => definite_name(items, names, n),
-        None => joined_name(items, names),
+        Some(n) => definite_name(decoder, names, n),
+        None => joined_name(decoder, names),
     }
 }
 
 // Reads a byte string after its head, as a name.
 fn bytes_name<'de, R: Read<'de>>(
-    items: &mut Deserializer<R>,
+    decoder: &mut Decoder<R>,
     names: &[&str],
     n: Option<u64>,
 ) -> Named<Option<usize>>
     ensures read { TakesBytesName R.refusals (texts names.now) (Bytes n)
-        (R.source items.old.source) (R.source items.new.source)
-        items.new.refusal result }
+        (R.source decoder.old.source) (R.source decoder.new.source)
+        decoder.new.refusal result }
     ensures below { IfOk result (λ place. IfSome place (λ i. i < length names.now)) }
-    ensures no_key { IfErr result (NamesNoKey items.new.refusal) }
-    ensures levels { items.new.levels ≡ items.old.levels }
-    ensures formats { items.new.formats ≡ items.old.formats }
+    ensures no_key { IfErr result (NamesNoKey decoder.new.refusal) }
+    ensures levels { decoder.new.levels ≡ decoder.old.levels }
+    ensures formats { decoder.new.formats ≡ decoder.old.formats }
 {
-    match bytes_part(items, n) {
+    match bytes_part(decoder, n) {
         Ok(part) => Ok(place_of_part(names, part)),
-        Err(unread) => Err(kept(items, unread)),
+        Err(unread) => Err(kept(decoder, unread)),
     }
 }
 
@@ -293,46 +293,46 @@ fn bytes_name<'de, R: Read<'de>>(
 /// a break (`UnexpectedCode`) are refused, and what the source refuses.
 #[inline(always)]
 pub fn identifier<'de, R: Read<'de>>(
-    items: &mut Deserializer<R>,
+    decoder: &mut Decoder<R>,
     names: &[&str],
 ) -> Named<Option<usize>>
-    ensures read { OnceMade (IsMadeBy items.new.refusal)
-        (TakesItem R.refusals (formats_of items.old.formats)
-        (PassesTags (IsIdentifier (texts names.now))) items.old.levels
-        (R.source items.old.source) (R.source items.new.source)) result }
-    ensures taken { OnOk result (Onward (R.source items.old.source) (R.source items.new.source)) }
+    ensures read { OnceMade (IsMadeBy decoder.new.refusal)
+        (TakesItem R.refusals (formats_of decoder.old.formats)
+        (PassesTags (IsIdentifier (texts names.now))) decoder.old.levels
+        (R.source decoder.old.source) (R.source decoder.new.source)) result }
+    ensures taken { OnOk result (Onward (R.source decoder.old.source) (R.source decoder.new.source)) }
     ensures below { IfOk result (λ place. IfSome place (λ i. i < length names.now)) }
-    ensures no_key { IfErr result (NamesNoKey items.new.refusal) }
-    ensures levels { items.new.levels ≡ items.old.levels }
-    ensures formats { items.new.formats ≡ items.old.formats }
+    ensures no_key { IfErr result (NamesNoKey decoder.new.refusal) }
+    ensures levels { decoder.new.levels ≡ decoder.old.levels }
+    ensures formats { decoder.new.formats ≡ decoder.old.formats }
 {
-    match items.short_text() {
-        Some(n) => Ok(definite_name(items, names, n)?),
-        None => any_identifier(items, names),
+    match decoder.short_text() {
+        Some(n) => Ok(definite_name(decoder, names, n)?),
+        None => any_identifier(decoder, names),
     }
 }
 
 // Reads an identifier by its head, within its tags.
 #[inline(never)]
 fn any_identifier<'de, R: Read<'de>>(
-    items: &mut Deserializer<R>,
+    decoder: &mut Decoder<R>,
     names: &[&str],
 ) -> Named<Option<usize>>
-    ensures read { OnceMade (IsMadeBy items.new.refusal)
-        (TakesItem R.refusals (formats_of items.old.formats)
-        (PassesTags (IsIdentifier (texts names.now))) items.old.levels
-        (R.source items.old.source) (R.source items.new.source)) result }
-    ensures taken { OnOk result (Onward (R.source items.old.source) (R.source items.new.source)) }
+    ensures read { OnceMade (IsMadeBy decoder.new.refusal)
+        (TakesItem R.refusals (formats_of decoder.old.formats)
+        (PassesTags (IsIdentifier (texts names.now))) decoder.old.levels
+        (R.source decoder.old.source) (R.source decoder.new.source)) result }
+    ensures taken { OnOk result (Onward (R.source decoder.old.source) (R.source decoder.new.source)) }
     ensures below { IfOk result (λ place. IfSome place (λ i. i < length names.now)) }
-    ensures no_key { IfErr result (NamesNoKey items.new.refusal) }
-    ensures levels { items.new.levels ≡ items.old.levels }
-    ensures formats { items.new.formats ≡ items.old.formats }
+    ensures no_key { IfErr result (NamesNoKey decoder.new.refusal) }
+    ensures levels { decoder.new.levels ≡ decoder.old.levels }
+    ensures formats { decoder.new.formats ≡ decoder.old.formats }
 {
-    let found = scalar(items)?;
+    let found = scalar(decoder)?;
     match found.head {
         Head::Unsigned(n) => Ok(place_of_number(names, n)),
-        Head::Text(n) => Ok(text_name(items, names, n)?),
-        Head::Bytes(n) => bytes_name(items, names, n),
-        _ => Err(no_name(items, found.head)),
+        Head::Text(n) => Ok(text_name(decoder, names, n)?),
+        Head::Bytes(n) => bytes_name(decoder, names, n),
+        _ => Err(no_name(decoder, found.head)),
     }
 }

@@ -4,7 +4,7 @@ ghost use Rattle.std.specs.Prelude.{◌≡◌, ◌≤◌, ◌<◌, ◌-◌, ◌^
 ghost use Rattle.std.specs.Prelude.{MatchOption, OnOk};
 ghost use Rattle.cbor_model.specs.Readable.{PassesTags, IsInteger, IsFromZero, IsSigned, IsWithin};
 ghost use Rattle.cbor_io.specs.Error.{code_of};
-ghost use Rattle.cbor_de.specs.Gives.{Onward, TellsNoForm};
+ghost use Rattle.cbor_decode.specs.Gives.{Onward, TellsNoForm};
 ghost use Rattle.cbor_read.specs.Source.{TookSome};
 ghost use Rattle.cbor_scalars.specs.Opens.{RefusesBehind};
 ghost use Rattle.cbor_scalars.specs.Scalars.{IsNumber};
@@ -12,7 +12,7 @@ ghost use Rattle.cbor_scalars.specs.Takes.{RefusesWhole, TakesItem, TakesNoMemor
 
 use crate::opening::{Found, unread};
 use crate::scalar::scalar;
-use cbor_de::{Deserializer, Head};
+use cbor_decode::{Decoder, Head};
 use cbor_io::error::{Error, Result};
 use cbor_read::Source;
 
@@ -68,27 +68,27 @@ fn signed(head: Head, most: u64) -> Option<i64>
 
 /// Reads a whole number. What isn't whole is refused by its fault, and another item by a message.
 #[inline(always)]
-pub fn read_integer<R: Source>(items: &mut Deserializer<R>) -> Result<i128>
-    ensures read { TakesItem R.refusals (formats_of items.old.formats)
-        (PassesTags IsInteger) items.old.levels
-        (R.source items.old.source) (R.source items.new.source) result }
-    ensures taken { OnOk result (Onward (R.source items.old.source) (R.source items.new.source)) }
-    ensures fault { IfErr result (RefusesWhole R.refusals items.old.levels
-        (R.source items.old.source)) }
+pub fn read_integer<R: Source>(decoder: &mut Decoder<R>) -> Result<i128>
+    ensures read { TakesItem R.refusals (formats_of decoder.old.formats)
+        (PassesTags IsInteger) decoder.old.levels
+        (R.source decoder.old.source) (R.source decoder.new.source) result }
+    ensures taken { OnOk result (Onward (R.source decoder.old.source) (R.source decoder.new.source)) }
+    ensures fault { IfErr result (RefusesWhole R.refusals decoder.old.levels
+        (R.source decoder.old.source)) }
     ensures no_form { IfErr result (λ e. TellsNoForm (code_of e)) }
-    ensures memory { IfErr result (TakesNoMemory (formats_of items.old.formats)
-        (PassesTags IsInteger) items.old.levels (R.source items.old.source)) }
-    ensures levels { items.new.levels ≡ items.old.levels }
-    ensures formats { items.new.formats ≡ items.old.formats }
+    ensures memory { IfErr result (TakesNoMemory (formats_of decoder.old.formats)
+        (PassesTags IsInteger) decoder.old.levels (R.source decoder.old.source)) }
+    ensures levels { decoder.new.levels ≡ decoder.old.levels }
+    ensures formats { decoder.new.formats ≡ decoder.old.formats }
 {
-    let found = match scalar(items) {
+    let found = match scalar(decoder) {
         Ok(found) => found,
-        Err(refused) => return Err(items.error(refused)),
+        Err(refused) => return Err(decoder.error(refused)),
     };
     match integer(found.head) {
         Some(number) => Ok(number),
         None => Err(unread(
-            items,
+            decoder,
             Found {
                 head: found.head,
                 levels: found.levels,
@@ -102,31 +102,31 @@ pub fn read_integer<R: Source>(items: &mut Deserializer<R>) -> Result<i128>
 /// [`read_integer`] does.
 #[inline(always)]
 pub fn read_from_zero<R: Source>(
-    items: &mut Deserializer<R>,
+    decoder: &mut Decoder<R>,
     most: u64,
     message: &'static str,
 ) -> Result<u64>
-    ensures read { TakesItem R.refusals (formats_of items.old.formats)
-        (PassesTags (IsFromZero most)) items.old.levels
-        (R.source items.old.source) (R.source items.new.source) result }
-    ensures taken { OnOk result (Onward (R.source items.old.source) (R.source items.new.source)) }
+    ensures read { TakesItem R.refusals (formats_of decoder.old.formats)
+        (PassesTags (IsFromZero most)) decoder.old.levels
+        (R.source decoder.old.source) (R.source decoder.new.source) result }
+    ensures taken { OnOk result (Onward (R.source decoder.old.source) (R.source decoder.new.source)) }
     ensures bound { IfOk result (λ n. n ≤ most) }
-    ensures fault { IfErr result (RefusesWhole R.refusals items.old.levels
-        (R.source items.old.source)) }
+    ensures fault { IfErr result (RefusesWhole R.refusals decoder.old.levels
+        (R.source decoder.old.source)) }
     ensures no_form { IfErr result (λ e. TellsNoForm (code_of e)) }
-    ensures memory { IfErr result (TakesNoMemory (formats_of items.old.formats)
-        (PassesTags (IsFromZero most)) items.old.levels (R.source items.old.source)) }
-    ensures levels { items.new.levels ≡ items.old.levels }
-    ensures formats { items.new.formats ≡ items.old.formats }
+    ensures memory { IfErr result (TakesNoMemory (formats_of decoder.old.formats)
+        (PassesTags (IsFromZero most)) decoder.old.levels (R.source decoder.old.source)) }
+    ensures levels { decoder.new.levels ≡ decoder.old.levels }
+    ensures formats { decoder.new.formats ≡ decoder.old.formats }
 {
-    let found = match scalar(items) {
+    let found = match scalar(decoder) {
         Ok(found) => found,
-        Err(refused) => return Err(items.error(refused)),
+        Err(refused) => return Err(decoder.error(refused)),
     };
     match from_zero(found.head, most) {
         Some(number) => Ok(number),
         None => Err(no_number(
-            items,
+            decoder,
             Found {
                 head: found.head,
                 levels: found.levels,
@@ -138,27 +138,27 @@ pub fn read_from_zero<R: Source>(
 
 /// Reads a number from 0. It refuses as [`read_integer`] does.
 #[inline(always)]
-pub fn read_u128<R: Source>(items: &mut Deserializer<R>) -> Result<u128>
-    ensures read { TakesItem R.refusals (formats_of items.old.formats)
-        (PassesTags (IsFromZero (2 ^ 128 - 1))) items.old.levels
-        (R.source items.old.source) (R.source items.new.source) result }
-    ensures taken { OnOk result (Onward (R.source items.old.source) (R.source items.new.source)) }
-    ensures fault { IfErr result (RefusesWhole R.refusals items.old.levels
-        (R.source items.old.source)) }
+pub fn read_u128<R: Source>(decoder: &mut Decoder<R>) -> Result<u128>
+    ensures read { TakesItem R.refusals (formats_of decoder.old.formats)
+        (PassesTags (IsFromZero (2 ^ 128 - 1))) decoder.old.levels
+        (R.source decoder.old.source) (R.source decoder.new.source) result }
+    ensures taken { OnOk result (Onward (R.source decoder.old.source) (R.source decoder.new.source)) }
+    ensures fault { IfErr result (RefusesWhole R.refusals decoder.old.levels
+        (R.source decoder.old.source)) }
     ensures no_form { IfErr result (λ e. TellsNoForm (code_of e)) }
-    ensures memory { IfErr result (TakesNoMemory (formats_of items.old.formats)
-        (PassesTags (IsFromZero (2 ^ 128 - 1))) items.old.levels (R.source items.old.source)) }
-    ensures levels { items.new.levels ≡ items.old.levels }
-    ensures formats { items.new.formats ≡ items.old.formats }
+    ensures memory { IfErr result (TakesNoMemory (formats_of decoder.old.formats)
+        (PassesTags (IsFromZero (2 ^ 128 - 1))) decoder.old.levels (R.source decoder.old.source)) }
+    ensures levels { decoder.new.levels ≡ decoder.old.levels }
+    ensures formats { decoder.new.formats ≡ decoder.old.formats }
 {
-    let found = match scalar(items) {
+    let found = match scalar(decoder) {
         Ok(found) => found,
-        Err(refused) => return Err(items.error(refused)),
+        Err(refused) => return Err(decoder.error(refused)),
     };
     match natural(found.head) {
         Some(number) => Ok(number),
         None => Err(no_number(
-            items,
+            decoder,
             Found {
                 head: found.head,
                 levels: found.levels,
@@ -172,32 +172,32 @@ pub fn read_u128<R: Source>(items: &mut Deserializer<R>) -> Result<u128>
 /// [`read_integer`] does.
 #[inline(always)]
 pub fn read_signed<R: Source>(
-    items: &mut Deserializer<R>,
+    decoder: &mut Decoder<R>,
     most: u64,
     message: &'static str,
 ) -> Result<i64>
     requires { most < 2 ^ 63 }
-    ensures read { TakesItem R.refusals (formats_of items.old.formats)
-        (PassesTags (IsSigned most)) items.old.levels
-        (R.source items.old.source) (R.source items.new.source) result }
-    ensures taken { OnOk result (Onward (R.source items.old.source) (R.source items.new.source)) }
+    ensures read { TakesItem R.refusals (formats_of decoder.old.formats)
+        (PassesTags (IsSigned most)) decoder.old.levels
+        (R.source decoder.old.source) (R.source decoder.new.source) result }
+    ensures taken { OnOk result (Onward (R.source decoder.old.source) (R.source decoder.new.source)) }
     ensures bounds { IfOk result (IsWithin most) }
-    ensures fault { IfErr result (RefusesWhole R.refusals items.old.levels
-        (R.source items.old.source)) }
+    ensures fault { IfErr result (RefusesWhole R.refusals decoder.old.levels
+        (R.source decoder.old.source)) }
     ensures no_form { IfErr result (λ e. TellsNoForm (code_of e)) }
-    ensures memory { IfErr result (TakesNoMemory (formats_of items.old.formats)
-        (PassesTags (IsSigned most)) items.old.levels (R.source items.old.source)) }
-    ensures levels { items.new.levels ≡ items.old.levels }
-    ensures formats { items.new.formats ≡ items.old.formats }
+    ensures memory { IfErr result (TakesNoMemory (formats_of decoder.old.formats)
+        (PassesTags (IsSigned most)) decoder.old.levels (R.source decoder.old.source)) }
+    ensures levels { decoder.new.levels ≡ decoder.old.levels }
+    ensures formats { decoder.new.formats ≡ decoder.old.formats }
 {
-    let found = match scalar(items) {
+    let found = match scalar(decoder) {
         Ok(found) => found,
-        Err(refused) => return Err(items.error(refused)),
+        Err(refused) => return Err(decoder.error(refused)),
     };
     match signed(found.head, most) {
         Some(number) => Ok(number),
         None => Err(no_number(
-            items,
+            decoder,
             Found {
                 head: found.head,
                 levels: found.levels,
@@ -210,17 +210,17 @@ pub fn read_signed<R: Source>(
 // The error of an item that isn't a number in the range.
 #[cold]
 #[inline(never)]
-fn no_number<R: Source>(items: &mut Deserializer<R>, found: Found, message: &'static str) -> Error
-    ensures fault { RefusesBehind R.refusals found (R.source items.old.source) result }
+fn no_number<R: Source>(decoder: &mut Decoder<R>, found: Found, message: &'static str) -> Error
+    ensures fault { RefusesBehind R.refusals found (R.source decoder.old.source) result }
     ensures no_form { TellsNoForm (code_of result) }
-    ensures took { TookSome (R.source items.old.source) (R.source items.new.source) }
-    ensures levels { items.new.levels ≡ items.old.levels }
-    ensures formats { items.new.formats ≡ items.old.formats }
+    ensures took { TookSome (R.source decoder.old.source) (R.source decoder.new.source) }
+    ensures levels { decoder.new.levels ≡ decoder.old.levels }
+    ensures formats { decoder.new.formats ≡ decoder.old.formats }
 {
     match found.head {
-        Head::Unsigned(_) | Head::Negative(_) => Error::message(items.alloc, message),
+        Head::Unsigned(_) | Head::Negative(_) => Error::message(decoder.alloc, message),
         _ => unread(
-            items,
+            decoder,
             Found {
                 head: found.head,
                 levels: found.levels,

@@ -4,9 +4,9 @@ ghost use Rattle.std.specs.Prelude.{◌≡◌, ◌≤◌, length, true, IfErr, O
 ghost use types.Logic.{sem};
 ghost use Rattle.std.specs.Io.BufRead.{Rests};
 ghost use Rattle.cbor_read.specs.Source.{TookSome, asks_for, part_bytes};
-ghost use Rattle.cbor_de.specs.declared.head.Head.TheVariants.{Bytes, Text};
+ghost use Rattle.cbor_decode.specs.declared.head.Head.TheVariants.{Bytes, Text};
 ghost use Rattle.cbor_io.specs.Error.{code_of};
-ghost use Rattle.cbor_de.specs.Gives.{Onward, TellsNoForm};
+ghost use Rattle.cbor_decode.specs.Gives.{Onward, TellsNoForm};
 ghost use Rattle.cbor_scalars.specs.Strings.{BytesOf, IsBadAt, IsKept, IsMadeOf, IsNoKey};
 ghost use Rattle.cbor_scalars.specs.Strings.{Lent, LentText, LendsBytes, LendsString, LendsText};
 ghost use Rattle.cbor_scalars.specs.Opens.{AsksBehind};
@@ -15,11 +15,11 @@ ghost use Rattle.cbor_scalars.specs.Strings.{AsksForBytes, AsksToLend, LendsWhol
 ghost use Rattle.cbor_scalars.specs.Strings.{UnreadBehind, UnreadBy};
 ghost use Rattle.cbor_scalars.specs.Strings.{Utf8Of, behind_string};
 ghost use Rattle.cbor_scalars.specs.Takes.{context, formats_of};
-ghost use Rattle.cbor_de.specs.contracts.de.Deserializer.{the_row};
+ghost use Rattle.cbor_decode.specs.contracts.Decoder.{the_row};
 
 use crate::opening::{Found, pass_over};
 use crate::scalar::scalar;
-use cbor_de::{Deserializer, Head, Refused};
+use cbor_decode::{Decoder, Head, Refused};
 use cbor_io::error::Error;
 use cbor_io::head::Major;
 use cbor_io::utf8::from_utf8;
@@ -98,15 +98,15 @@ fn not_utf8(end: u64, back: usize) -> Unread
 // Why a step was refused.
 #[cold]
 #[inline(never)]
-fn stopped<R: Source>(items: &mut Deserializer<R>, refused: Refused) -> ReadError
-    ensures kept { IsKept items.old.refusal refused result }
-    ensures source { items.new.source ≡ items.old.source }
-    ensures levels { items.new.levels ≡ items.old.levels }
-    ensures formats { items.new.formats ≡ items.old.formats }
+fn stopped<R: Source>(decoder: &mut Decoder<R>, refused: Refused) -> ReadError
+    ensures kept { IsKept decoder.old.refusal refused result }
+    ensures source { decoder.new.source ≡ decoder.old.source }
+    ensures levels { decoder.new.levels ≡ decoder.old.levels }
+    ensures formats { decoder.new.formats ≡ decoder.old.formats }
 {
     match refused {
         Refused::OutOfMemory => ReadError::from(AllocError),
-        Refused::Kept => items.take_refusal(),
+        Refused::Kept => decoder.take_refusal(),
     }
 }
 
@@ -114,28 +114,28 @@ fn stopped<R: Source>(items: &mut Deserializer<R>, refused: Refused) -> ReadErro
 #[inline(always)]
 #[tactic(auto, using(crate::proofs::Memory::kept_only))]
 pub(crate) fn bytes_part<'a, 'de, R: Read<'de>>(
-    items: &'a mut Deserializer<R>,
+    decoder: &'a mut Decoder<R>,
     n: Option<u64>,
 ) -> Result<EitherLifetime<'a, 'de>>
-    ensures* after_borrow { sem 𝓛 (Rests (the_row R.row) items.entry (λ new.
-        (new.levels ≡ items.old.levels) × (new.formats ≡ items.old.formats)
+    ensures* after_borrow { sem 𝓛 (Rests (the_row R.row) decoder.entry (λ new.
+        (new.levels ≡ decoder.old.levels) × (new.formats ≡ decoder.old.formats)
         × Lent R.refusals R.lends (Bytes n)
-        (R.source items.old.source) (R.source new.source) result
+        (R.source decoder.old.source) (R.source new.source) result
         × IfErr result IsNoKey
         × IfErr result (UnreadOnly (asks_head (asks_for R.refusals R.lends) (Bytes n) ≡ true))
         × IfErr result (UnreadBy R.refusals (behind_string (Bytes n))
-        (R.source items.old.source)))) }
+        (R.source decoder.old.source)))) }
 {
     match n {
-        Some(n) => match items.source.read(n as usize) {
+        Some(n) => match decoder.source.read(n as usize) {
             Ok(part) => given(part),
             Err(refusal) => Err(Unread::Stopped(refusal)),
         },
         None => {
-            if let Err(refused) = items.join(Major::ByteString) {
-                return Err(Unread::Stopped(stopped(items, refused)));
+            if let Err(refused) = decoder.join(Major::ByteString) {
+                return Err(Unread::Stopped(stopped(decoder, refused)));
             }
-            given(items.source.take_buffer())
+            given(decoder.source.take_buffer())
         }
     }
 }
@@ -144,37 +144,37 @@ pub(crate) fn bytes_part<'a, 'de, R: Read<'de>>(
 #[inline(always)]
 #[tactic(auto, using(crate::proofs::Memory::kept_only, crate::proofs::Memory::kept_at))]
 pub(crate) fn text_part<'a, 'de, R: Read<'de>>(
-    items: &'a mut Deserializer<R>,
+    decoder: &'a mut Decoder<R>,
     n: Option<u64>,
 ) -> Result<EitherStr<'a, 'de>>
-    ensures* after_borrow { sem 𝓛 (Rests (the_row R.row) items.entry (λ new.
-        (new.levels ≡ items.old.levels) × (new.formats ≡ items.old.formats)
+    ensures* after_borrow { sem 𝓛 (Rests (the_row R.row) decoder.entry (λ new.
+        (new.levels ≡ decoder.old.levels) × (new.formats ≡ decoder.old.formats)
         × LentText R.refusals R.lends (Text n)
-        (R.source items.old.source) (R.source new.source) result
+        (R.source decoder.old.source) (R.source new.source) result
         × IfErr result IsNoKey
         × IfErr result (UnreadOnly (asks_head (asks_for R.refusals R.lends) (Text n) ≡ true))
         × IfErr result (UnreadBy R.refusals (behind_string (Text n))
-        (R.source items.old.source)))) }
+        (R.source decoder.old.source)))) }
 {
     match n {
         Some(n) => {
-            if !items.has_room(n) {
-                let refused = items.refuse(ReadErrorCode::LengthOutOfRange);
-                return Err(Unread::Stopped(stopped(items, refused)));
+            if !decoder.has_room(n) {
+                let refused = decoder.refuse(ReadErrorCode::LengthOutOfRange);
+                return Err(Unread::Stopped(stopped(decoder, refused)));
             }
-            let end = items.source.offset() + n;
-            match items.source.read(n as usize) {
+            let end = decoder.source.offset() + n;
+            match decoder.source.read(n as usize) {
                 Ok(part) => text_of(part, end),
                 Err(refusal) => Err(Unread::Stopped(refusal)),
             }
         }
         None => {
-            match items.join(Major::TextString) {
+            match decoder.join(Major::TextString) {
                 Ok(()) => {}
-                Err(refused) => return Err(Unread::Stopped(stopped(items, refused))),
+                Err(refused) => return Err(Unread::Stopped(stopped(decoder, refused))),
             }
-            let end = items.source.offset();
-            text_of(items.source.take_buffer(), end)
+            let end = decoder.source.offset();
+            text_of(decoder.source.take_buffer(), end)
         }
     }
 }
@@ -211,34 +211,34 @@ fn bytes_of<'a, 'de>(text: EitherStr<'a, 'de>) -> Result<EitherLifetime<'a, 'de>
 #[cold]
 #[inline(never)]
 #[tactic(auto, using(crate::proofs::Memory::kept_only))]
-fn other<R: Source>(items: &mut Deserializer<R>, found: Found) -> Unread
-    ensures fault { UnreadBehind R.refusals found (R.source items.old.source) result }
+fn other<R: Source>(decoder: &mut Decoder<R>, found: Found) -> Unread
+    ensures fault { UnreadBehind R.refusals found (R.source decoder.old.source) result }
     ensures memory { UnreadOnly (AsksBehind (asks_for R.refusals R.lends) found
-        (R.source items.old.source)) result }
-    ensures took { TookSome (R.source items.old.source) (R.source items.new.source) }
+        (R.source decoder.old.source)) result }
+    ensures took { TookSome (R.source decoder.old.source) (R.source decoder.new.source) }
     ensures no_key { IsNoKey result }
-    ensures levels { items.new.levels ≡ items.old.levels }
-    ensures formats { items.new.formats ≡ items.old.formats }
+    ensures levels { decoder.new.levels ≡ decoder.old.levels }
+    ensures formats { decoder.new.formats ≡ decoder.old.formats }
 {
-    match pass_over(items, found) {
+    match pass_over(decoder, found) {
         Ok(()) => Unread::Other,
-        Err(refused) => Unread::Stopped(stopped(items, refused)),
+        Err(refused) => Unread::Stopped(stopped(decoder, refused)),
     }
 }
 
 /// The error of a string that wasn't lent; the message is for an item of another kind.
 #[cold]
 #[inline(never)]
-pub fn unread_error<R: Source>(items: &mut Deserializer<R>, why: Unread, message: &str) -> Error
+pub fn unread_error<R: Source>(decoder: &mut Decoder<R>, why: Unread, message: &str) -> Error
     ensures made { IsMadeOf why result }
     ensures no_form { IsNoKey why → TellsNoForm (code_of result) }
-    ensures source { items.new.source ≡ items.old.source }
-    ensures levels { items.new.levels ≡ items.old.levels }
-    ensures formats { items.new.formats ≡ items.old.formats }
+    ensures source { decoder.new.source ≡ decoder.old.source }
+    ensures levels { decoder.new.levels ≡ decoder.old.levels }
+    ensures formats { decoder.new.formats ≡ decoder.old.formats }
 {
     match why {
         Unread::Stopped(refusal) => Error::from(refusal),
-        Unread::Other => Error::message(items.alloc, message),
+        Unread::Other => Error::message(decoder.alloc, message),
     }
 }
 
@@ -249,28 +249,28 @@ pub fn unread_error<R: Source>(items: &mut Deserializer<R>, why: Unread, message
 /// (`UnexpectedCode`) are refused, and what the source refuses.
 #[tactic(auto, using(crate::proofs::Memory::kept_none))]
 pub fn read_text<'a, 'de, R: Read<'de>>(
-    items: &'a mut Deserializer<R>,
+    decoder: &'a mut Decoder<R>,
 ) -> Result<EitherStr<'a, 'de>>
-    ensures* after_borrow { sem 𝓛 (Rests (the_row R.row) items.entry (λ new.
-        (new.levels ≡ items.old.levels)
-        × (new.formats ≡ items.old.formats)
-        × LendsText R.refusals (context items.old.formats R.lends) items.old.levels
-        (R.source items.old.source) (R.source new.source) result
+    ensures* after_borrow { sem 𝓛 (Rests (the_row R.row) decoder.entry (λ new.
+        (new.levels ≡ decoder.old.levels)
+        × (new.formats ≡ decoder.old.formats)
+        × LendsText R.refusals (context decoder.old.formats R.lends) decoder.old.levels
+        (R.source decoder.old.source) (R.source new.source) result
         × IfErr result IsNoKey
         × IfErr result (UnreadOnly (AsksToLend AsksForString (asks_for R.refusals R.lends)
-        (formats_of items.old.formats) items.old.levels (R.source items.old.source)))
-        × LendsWhole R.refusals items.old.levels (R.source items.old.source) result
-        × OnOk result (Onward (R.source items.old.source) (R.source new.source)))) }
+        (formats_of decoder.old.formats) decoder.old.levels (R.source decoder.old.source)))
+        × LendsWhole R.refusals decoder.old.levels (R.source decoder.old.source) result
+        × OnOk result (Onward (R.source decoder.old.source) (R.source new.source)))) }
 {
-    let found = match scalar(items) {
+    let found = match scalar(decoder) {
         Ok(found) => found,
-        Err(refused) => return Err(Unread::Stopped(stopped(items, refused))),
+        Err(refused) => return Err(Unread::Stopped(stopped(decoder, refused))),
     };
     match found.head {
-        Head::Text(n) => text_part(items, n),
-        Head::Bytes(n) => utf8(bytes_part(items, n)?),
+        Head::Text(n) => text_part(decoder, n),
+        Head::Bytes(n) => utf8(bytes_part(decoder, n)?),
         _ => Err(other(
-            items,
+            decoder,
             Found {
                 head: found.head,
                 levels: found.levels,
@@ -283,28 +283,28 @@ pub fn read_text<'a, 'de, R: Read<'de>>(
 /// that aren't UTF-8 in a byte string.
 #[tactic(auto, using(crate::proofs::Memory::kept_none))]
 pub fn read_bytes<'a, 'de, R: Read<'de>>(
-    items: &'a mut Deserializer<R>,
+    decoder: &'a mut Decoder<R>,
 ) -> Result<EitherLifetime<'a, 'de>>
-    ensures* after_borrow { sem 𝓛 (Rests (the_row R.row) items.entry (λ new.
-        (new.levels ≡ items.old.levels)
-        × (new.formats ≡ items.old.formats)
-        × LendsString R.refusals (context items.old.formats R.lends) items.old.levels
-        (R.source items.old.source) (R.source new.source) result
+    ensures* after_borrow { sem 𝓛 (Rests (the_row R.row) decoder.entry (λ new.
+        (new.levels ≡ decoder.old.levels)
+        × (new.formats ≡ decoder.old.formats)
+        × LendsString R.refusals (context decoder.old.formats R.lends) decoder.old.levels
+        (R.source decoder.old.source) (R.source new.source) result
         × IfErr result IsNoKey
         × IfErr result (UnreadOnly (AsksToLend AsksForString (asks_for R.refusals R.lends)
-        (formats_of items.old.formats) items.old.levels (R.source items.old.source)))
-        × LendsWhole R.refusals items.old.levels (R.source items.old.source) result
-        × OnOk result (Onward (R.source items.old.source) (R.source new.source)))) }
+        (formats_of decoder.old.formats) decoder.old.levels (R.source decoder.old.source)))
+        × LendsWhole R.refusals decoder.old.levels (R.source decoder.old.source) result
+        × OnOk result (Onward (R.source decoder.old.source) (R.source new.source)))) }
 {
-    let found = match scalar(items) {
+    let found = match scalar(decoder) {
         Ok(found) => found,
-        Err(refused) => return Err(Unread::Stopped(stopped(items, refused))),
+        Err(refused) => return Err(Unread::Stopped(stopped(decoder, refused))),
     };
     match found.head {
-        Head::Bytes(n) => bytes_part(items, n),
-        Head::Text(n) => bytes_of(text_part(items, n)?),
+        Head::Bytes(n) => bytes_part(decoder, n),
+        Head::Text(n) => bytes_of(text_part(decoder, n)?),
         _ => Err(other(
-            items,
+            decoder,
             Found {
                 head: found.head,
                 levels: found.levels,
@@ -316,27 +316,27 @@ pub fn read_bytes<'a, 'de, R: Read<'de>>(
 /// Lends the bytes of a byte string; a text is another item. It refuses as [`read_bytes`] does.
 #[tactic(auto, using(crate::proofs::Memory::kept_none))]
 pub fn read_byte_string<'a, 'de, R: Read<'de>>(
-    items: &'a mut Deserializer<R>,
+    decoder: &'a mut Decoder<R>,
 ) -> Result<EitherLifetime<'a, 'de>>
-    ensures* after_borrow { sem 𝓛 (Rests (the_row R.row) items.entry (λ new.
-        (new.levels ≡ items.old.levels)
-        × (new.formats ≡ items.old.formats)
-        × LendsBytes R.refusals (context items.old.formats R.lends) items.old.levels
-        (R.source items.old.source) (R.source new.source) result
+    ensures* after_borrow { sem 𝓛 (Rests (the_row R.row) decoder.entry (λ new.
+        (new.levels ≡ decoder.old.levels)
+        × (new.formats ≡ decoder.old.formats)
+        × LendsBytes R.refusals (context decoder.old.formats R.lends) decoder.old.levels
+        (R.source decoder.old.source) (R.source new.source) result
         × IfErr result IsNoKey
         × IfErr result (UnreadOnly (AsksToLend AsksForBytes (asks_for R.refusals R.lends)
-        (formats_of items.old.formats) items.old.levels (R.source items.old.source)))
-        × LendsWhole R.refusals items.old.levels (R.source items.old.source) result
-        × OnOk result (Onward (R.source items.old.source) (R.source new.source)))) }
+        (formats_of decoder.old.formats) decoder.old.levels (R.source decoder.old.source)))
+        × LendsWhole R.refusals decoder.old.levels (R.source decoder.old.source) result
+        × OnOk result (Onward (R.source decoder.old.source) (R.source new.source)))) }
 {
-    let found = match scalar(items) {
+    let found = match scalar(decoder) {
         Ok(found) => found,
-        Err(refused) => return Err(Unread::Stopped(stopped(items, refused))),
+        Err(refused) => return Err(Unread::Stopped(stopped(decoder, refused))),
     };
     match found.head {
-        Head::Bytes(n) => bytes_part(items, n),
+        Head::Bytes(n) => bytes_part(decoder, n),
         _ => Err(other(
-            items,
+            decoder,
             Found {
                 head: found.head,
                 levels: found.levels,

@@ -5,9 +5,9 @@ ghost use Rattle.std.specs.Prelude.{◌≡◌, ◌≤◌, length, IfOk, IfErr, O
 ghost use Rattle.std.specs.String.{string_bytes};
 ghost use Rattle.cbor_model.specs.Readable.{PassesTags, IsText};
 ghost use Rattle.cbor_io.specs.Error.{code_of};
-ghost use Rattle.cbor_de.specs.Gives.{Gives, Onward, TellsNoForm, TellsNoKey};
+ghost use Rattle.cbor_decode.specs.Gives.{Gives, Onward, TellsNoForm, TellsNoKey};
 ghost use Rattle.cbor_scalars.specs.Identifiers.{IsMadeBy, NamesNoKey, NamesWhole};
-ghost use Rattle.cbor_de.specs.declared.head.Head.TheVariants.{Bytes, Text};
+ghost use Rattle.cbor_decode.specs.declared.head.Head.TheVariants.{Bytes, Text};
 ghost use Rattle.cbor_scalars.specs.Strings.{content_at, KeepsTextOf, SeeksItem, TakesText};
 ghost use Rattle.cbor_scalars.specs.Strings.{SeeksWhole, TellsString};
 ghost use Rattle.cbor_scalars.specs.Takes.{OnceMade, RefusesWhole, TakesItem, formats_of};
@@ -15,7 +15,7 @@ ghost use Rattle.cbor_scalars.specs.Takes.{OnceMade, RefusesWhole, TakesItem, fo
 use crate::identifier::{Named, Why, unnamed};
 use crate::opening::pass_over;
 use crate::scalar::scalar;
-use cbor_de::{Deserializer, Done, Head};
+use cbor_decode::{Decoder, Done, Head};
 use cbor_io::error::Result;
 use cbor_io::head::Major;
 use cbor_io::utf8::{from_utf8, string_from_utf8};
@@ -23,160 +23,160 @@ use cbor_read::{ReadErrorCode, Source};
 
 // Takes the bytes of a byte string after its head.
 #[inline(always)]
-pub(crate) fn byte_string<R: Source>(items: &mut Deserializer<R>, n: Option<u64>) -> Done<Vec<u8>>
+pub(crate) fn byte_string<R: Source>(decoder: &mut Decoder<R>, n: Option<u64>) -> Done<Vec<u8>>
     ensures read { Gives R.refusals (λ v. v.items) (λ l. content_at l (Bytes n))
-        (R.source items.old.source) (R.source items.new.source)
-        items.new.refusal result }
-    ensures no_key { IfErr result (TellsNoKey items.new.refusal) }
-    ensures levels { items.new.levels ≡ items.old.levels }
-    ensures formats { items.new.formats ≡ items.old.formats }
+        (R.source decoder.old.source) (R.source decoder.new.source)
+        decoder.new.refusal result }
+    ensures no_key { IfErr result (TellsNoKey decoder.new.refusal) }
+    ensures levels { decoder.new.levels ≡ decoder.old.levels }
+    ensures formats { decoder.new.formats ≡ decoder.old.formats }
 {
     match n {
-        Some(n) => items.bytes(n),
-        None => items.chunks(Major::ByteString),
+        Some(n) => decoder.bytes(n),
+        None => decoder.chunks(Major::ByteString),
     }
 }
 
 // Takes the bytes of a text after its head.
 #[inline(always)]
-fn text_content<R: Source>(items: &mut Deserializer<R>, n: Option<u64>) -> Done<Vec<u8>>
+fn text_content<R: Source>(decoder: &mut Decoder<R>, n: Option<u64>) -> Done<Vec<u8>>
     ensures read { Gives R.refusals (λ v. v.items) (λ l. content_at l (Text n))
-        (R.source items.old.source) (R.source items.new.source)
-        items.new.refusal result }
+        (R.source decoder.old.source) (R.source decoder.new.source)
+        decoder.new.refusal result }
     ensures counted { IfOk result
-        (λ v. length v.items ≤ (R.source items.new.source).offset) }
-    ensures no_key { IfErr result (TellsNoKey items.new.refusal) }
-    ensures levels { items.new.levels ≡ items.old.levels }
-    ensures formats { items.new.formats ≡ items.old.formats }
+        (λ v. length v.items ≤ (R.source decoder.new.source).offset) }
+    ensures no_key { IfErr result (TellsNoKey decoder.new.refusal) }
+    ensures levels { decoder.new.levels ≡ decoder.old.levels }
+    ensures formats { decoder.new.formats ≡ decoder.old.formats }
 {
     match n {
         Some(n) => {
-            if !items.has_room(n) {
-                return Err(items.refuse(ReadErrorCode::LengthOutOfRange));
+            if !decoder.has_room(n) {
+                return Err(decoder.refuse(ReadErrorCode::LengthOutOfRange));
             }
-            items.bytes(n)
+            decoder.bytes(n)
         }
-        None => items.chunks(Major::TextString),
+        None => decoder.chunks(Major::TextString),
     }
 }
 
 // The text of these bytes, which were taken just now, if they are UTF-8.
 #[inline(always)]
-fn checked<R: Source>(items: &mut Deserializer<R>, bytes: Vec<u8>) -> Done<String>
-    requires taken { length bytes.items ≤ (R.source items.old.source).offset }
+fn checked<R: Source>(decoder: &mut Decoder<R>, bytes: Vec<u8>) -> Done<String>
+    requires taken { length bytes.items ≤ (R.source decoder.old.source).offset }
     ensures read { KeepsTextOf (λ s. string_bytes s) bytes.items
-        (R.source items.old.source).offset items.new.refusal result }
-    ensures source { items.new.source ≡ items.old.source }
-    ensures no_key { IfErr result (TellsNoKey items.new.refusal) }
-    ensures levels { items.new.levels ≡ items.old.levels }
-    ensures formats { items.new.formats ≡ items.old.formats }
+        (R.source decoder.old.source).offset decoder.new.refusal result }
+    ensures source { decoder.new.source ≡ decoder.old.source }
+    ensures no_key { IfErr result (TellsNoKey decoder.new.refusal) }
+    ensures levels { decoder.new.levels ≡ decoder.old.levels }
+    ensures formats { decoder.new.formats ≡ decoder.old.formats }
 {
     let len = bytes.len();
     match string_from_utf8(bytes) {
         Ok(text) => Ok(text),
         Err(e) => {
             let valid = e.utf8_error().valid_up_to();
-            Err(items.refuse_back(ReadErrorCode::InvalidUtf8, len - valid))
+            Err(decoder.refuse_back(ReadErrorCode::InvalidUtf8, len - valid))
         }
     }
 }
 
 // Takes a text of n bytes after its head. It is copied once it is known to be UTF-8.
 #[inline(always)]
-fn definite_text<R: Source>(items: &mut Deserializer<R>, n: u64) -> Done<String>
+fn definite_text<R: Source>(decoder: &mut Decoder<R>, n: u64) -> Done<String>
     ensures read { TakesText R.refusals (λ s. string_bytes s) (Text (Some n))
-        (R.source items.old.source) (R.source items.new.source)
-        items.new.refusal result }
+        (R.source decoder.old.source) (R.source decoder.new.source)
+        decoder.new.refusal result }
     ensures fault { IfErr result (TellsString R.refusals (Text (Some n))
-        (R.source items.old.source) items.new.refusal) }
-    ensures no_key { IfErr result (TellsNoKey items.new.refusal) }
-    ensures levels { items.new.levels ≡ items.old.levels }
-    ensures formats { items.new.formats ≡ items.old.formats }
+        (R.source decoder.old.source) decoder.new.refusal) }
+    ensures no_key { IfErr result (TellsNoKey decoder.new.refusal) }
+    ensures levels { decoder.new.levels ≡ decoder.old.levels }
+    ensures formats { decoder.new.formats ≡ decoder.old.formats }
 {
-    let ahead = items.source.ahead();
+    let ahead = decoder.source.ahead();
     if n <= ahead.len() as u64 {
         let bytes = &ahead[..n as usize];
         return match from_utf8(bytes) {
             Ok(text) => {
-                let text = String::from_str(items.alloc, text)?;
-                items.source.advance(n as usize);
+                let text = String::from_str(decoder.alloc, text)?;
+                decoder.source.advance(n as usize);
                 Ok(text)
             }
             Err(e) => {
                 let back = bytes.len() - e.valid_up_to();
-                items.source.advance(n as usize);
-                Err(items.refuse_text(back))
+                decoder.source.advance(n as usize);
+                Err(decoder.refuse_text(back))
             }
         };
     }
-    text_asked_for(items, Some(n))
+    text_asked_for(decoder, Some(n))
 }
 
 // Takes a text after its head; its bytes need not be available.
 #[inline(never)]
-fn text_asked_for<R: Source>(items: &mut Deserializer<R>, n: Option<u64>) -> Done<String>
+fn text_asked_for<R: Source>(decoder: &mut Decoder<R>, n: Option<u64>) -> Done<String>
     ensures read { TakesText R.refusals (λ s. string_bytes s) (Text n)
-        (R.source items.old.source) (R.source items.new.source)
-        items.new.refusal result }
+        (R.source decoder.old.source) (R.source decoder.new.source)
+        decoder.new.refusal result }
     ensures fault { IfErr result (TellsString R.refusals (Text n)
-        (R.source items.old.source) items.new.refusal) }
-    ensures no_key { IfErr result (TellsNoKey items.new.refusal) }
-    ensures levels { items.new.levels ≡ items.old.levels }
-    ensures formats { items.new.formats ≡ items.old.formats }
+        (R.source decoder.old.source) decoder.new.refusal) }
+    ensures no_key { IfErr result (TellsNoKey decoder.new.refusal) }
+    ensures levels { decoder.new.levels ≡ decoder.old.levels }
+    ensures formats { decoder.new.formats ≡ decoder.old.formats }
 {
-    let bytes = text_content(items, n)?;
-    checked(items, bytes)
+    let bytes = text_content(decoder, n)?;
+    checked(decoder, bytes)
 }
 
 // Seeks a text, or a byte string that is UTF-8; None where an item of another kind is there.
 #[inline(always)]
-fn string<R: Source>(items: &mut Deserializer<R>) -> Done<Option<String>>
-    ensures read { SeeksItem R.refusals (formats_of items.old.formats)
-        (PassesTags (λ r s. IsText r (string_bytes s))) items.old.levels
-        (R.source items.old.source) (R.source items.new.source)
-        items.new.refusal result }
-    ensures taken { OnOk result (Onward (R.source items.old.source) (R.source items.new.source)) }
-    ensures fault { SeeksWhole R.refusals items.old.levels (R.source items.old.source)
-        items.new.refusal result }
-    ensures no_key { IfErr result (TellsNoKey items.new.refusal) }
-    ensures levels { items.new.levels ≡ items.old.levels }
-    ensures formats { items.new.formats ≡ items.old.formats }
+fn string<R: Source>(decoder: &mut Decoder<R>) -> Done<Option<String>>
+    ensures read { SeeksItem R.refusals (formats_of decoder.old.formats)
+        (PassesTags (λ r s. IsText r (string_bytes s))) decoder.old.levels
+        (R.source decoder.old.source) (R.source decoder.new.source)
+        decoder.new.refusal result }
+    ensures taken { OnOk result (Onward (R.source decoder.old.source) (R.source decoder.new.source)) }
+    ensures fault { SeeksWhole R.refusals decoder.old.levels (R.source decoder.old.source)
+        decoder.new.refusal result }
+    ensures no_key { IfErr result (TellsNoKey decoder.new.refusal) }
+    ensures levels { decoder.new.levels ≡ decoder.old.levels }
+    ensures formats { decoder.new.formats ≡ decoder.old.formats }
 {
-    if let Some(n) = items.short_text() {
-        let text = definite_text(items, n)?;
+    if let Some(n) = decoder.short_text() {
+        let text = definite_text(decoder, n)?;
         return Ok(Some(text));
     }
-    any_string(items)
+    any_string(decoder)
 }
 
 // Seeks a string by its head, within its tags.
 #[inline(always)]
-fn any_string<R: Source>(items: &mut Deserializer<R>) -> Done<Option<String>>
-    ensures read { SeeksItem R.refusals (formats_of items.old.formats)
-        (PassesTags (λ r s. IsText r (string_bytes s))) items.old.levels
-        (R.source items.old.source) (R.source items.new.source)
-        items.new.refusal result }
-    ensures taken { OnOk result (Onward (R.source items.old.source) (R.source items.new.source)) }
-    ensures fault { SeeksWhole R.refusals items.old.levels (R.source items.old.source)
-        items.new.refusal result }
-    ensures no_key { IfErr result (TellsNoKey items.new.refusal) }
-    ensures levels { items.new.levels ≡ items.old.levels }
-    ensures formats { items.new.formats ≡ items.old.formats }
+fn any_string<R: Source>(decoder: &mut Decoder<R>) -> Done<Option<String>>
+    ensures read { SeeksItem R.refusals (formats_of decoder.old.formats)
+        (PassesTags (λ r s. IsText r (string_bytes s))) decoder.old.levels
+        (R.source decoder.old.source) (R.source decoder.new.source)
+        decoder.new.refusal result }
+    ensures taken { OnOk result (Onward (R.source decoder.old.source) (R.source decoder.new.source)) }
+    ensures fault { SeeksWhole R.refusals decoder.old.levels (R.source decoder.old.source)
+        decoder.new.refusal result }
+    ensures no_key { IfErr result (TellsNoKey decoder.new.refusal) }
+    ensures levels { decoder.new.levels ≡ decoder.old.levels }
+    ensures formats { decoder.new.formats ≡ decoder.old.formats }
 {
-    let found = scalar(items)?;
+    let found = scalar(decoder)?;
     match found.head {
         Head::Text(n) => {
-            let text = text_asked_for(items, n)?;
+            let text = text_asked_for(decoder, n)?;
             Ok(Some(text))
         }
         Head::Bytes(n) => {
-            let bytes = byte_string(items, n)?;
+            let bytes = byte_string(decoder, n)?;
             match string_from_utf8(bytes) {
                 Ok(text) => Ok(Some(text)),
                 Err(_) => Ok(None),
             }
         }
-        _ => match pass_over(items, found) {
+        _ => match pass_over(decoder, found) {
             Ok(()) => Ok(None),
             Err(refused) => Err(refused),
         },
@@ -185,19 +185,19 @@ fn any_string<R: Source>(items: &mut Deserializer<R>) -> Done<Option<String>>
 
 // Reads a string; an item of another kind is `Why::Other`.
 #[inline(always)]
-fn own_string<R: Source>(items: &mut Deserializer<R>) -> Named<String>
-    ensures read { OnceMade (IsMadeBy items.new.refusal)
-        (TakesItem R.refusals (formats_of items.old.formats)
-        (PassesTags (λ r s. IsText r (string_bytes s))) items.old.levels
-        (R.source items.old.source) (R.source items.new.source)) result }
-    ensures taken { OnOk result (Onward (R.source items.old.source) (R.source items.new.source)) }
-    ensures fault { IfErr result (NamesWhole R.refusals items.old.levels
-        (R.source items.old.source) items.new.refusal) }
-    ensures no_key { IfErr result (NamesNoKey items.new.refusal) }
-    ensures levels { items.new.levels ≡ items.old.levels }
-    ensures formats { items.new.formats ≡ items.old.formats }
+fn own_string<R: Source>(decoder: &mut Decoder<R>) -> Named<String>
+    ensures read { OnceMade (IsMadeBy decoder.new.refusal)
+        (TakesItem R.refusals (formats_of decoder.old.formats)
+        (PassesTags (λ r s. IsText r (string_bytes s))) decoder.old.levels
+        (R.source decoder.old.source) (R.source decoder.new.source)) result }
+    ensures taken { OnOk result (Onward (R.source decoder.old.source) (R.source decoder.new.source)) }
+    ensures fault { IfErr result (NamesWhole R.refusals decoder.old.levels
+        (R.source decoder.old.source) decoder.new.refusal) }
+    ensures no_key { IfErr result (NamesNoKey decoder.new.refusal) }
+    ensures levels { decoder.new.levels ≡ decoder.old.levels }
+    ensures formats { decoder.new.formats ≡ decoder.old.formats }
 {
-    match string(items) {
+    match string(decoder) {
         Ok(Some(text)) => Ok(text),
         Ok(None) => Err(Why::Other),
         Err(refused) => Err(Why::Refused(refused)),
@@ -208,20 +208,20 @@ fn own_string<R: Source>(items: &mut Deserializer<R>) -> Named<String>
 ///
 /// Another item, as a byte string that isn't UTF-8, is refused with [`NO_STRING`]; a text that
 /// isn't UTF-8 with `InvalidUtf8`, and what isn't whole, of any kind, by its fault.
-pub fn read_string<R: Source>(items: &mut Deserializer<R>) -> Result<String>
-    ensures read { TakesItem R.refusals (formats_of items.old.formats)
-        (PassesTags (λ r s. IsText r (string_bytes s))) items.old.levels
-        (R.source items.old.source) (R.source items.new.source) result }
-    ensures taken { OnOk result (Onward (R.source items.old.source) (R.source items.new.source)) }
-    ensures fault { IfErr result (RefusesWhole R.refusals items.old.levels
-        (R.source items.old.source)) }
+pub fn read_string<R: Source>(decoder: &mut Decoder<R>) -> Result<String>
+    ensures read { TakesItem R.refusals (formats_of decoder.old.formats)
+        (PassesTags (λ r s. IsText r (string_bytes s))) decoder.old.levels
+        (R.source decoder.old.source) (R.source decoder.new.source) result }
+    ensures taken { OnOk result (Onward (R.source decoder.old.source) (R.source decoder.new.source)) }
+    ensures fault { IfErr result (RefusesWhole R.refusals decoder.old.levels
+        (R.source decoder.old.source)) }
     ensures no_form { IfErr result (λ e. TellsNoForm (code_of e)) }
-    ensures levels { items.new.levels ≡ items.old.levels }
-    ensures formats { items.new.formats ≡ items.old.formats }
+    ensures levels { decoder.new.levels ≡ decoder.old.levels }
+    ensures formats { decoder.new.formats ≡ decoder.old.formats }
 {
-    match own_string(items) {
+    match own_string(decoder) {
         Ok(text) => Ok(text),
-        Err(why) => Err(unnamed(items, why, NO_STRING)),
+        Err(why) => Err(unnamed(decoder, why, NO_STRING)),
     }
 }
 

@@ -2,12 +2,12 @@
 
 ghost use Rattle.std.specs.Prelude.{◌≡◌, ◌≤◌, IfOk, IfErr, IfSome, OnOk};
 ghost use Rattle.cbor_io.specs.Error.{code_of};
-ghost use Rattle.cbor_de.specs.Gives.{Gives, TellsNoForm, TellsNoKey};
+ghost use Rattle.cbor_decode.specs.Gives.{Gives, TellsNoForm, TellsNoKey};
 ghost use Rattle.cbor_scalars.specs.Tags.{begins_tag, tag_first_at, tag_head_at};
 ghost use Rattle.cbor_scalars.specs.Tags.{ReadsTag, LevelsBehind, PassesAll, TagIs, passed_at};
 ghost use Rattle.cbor_scalars.specs.Takes.{formats_of};
 
-use cbor_de::{Deserializer, Done};
+use cbor_decode::{Decoder, Done};
 use cbor_io::error::Result;
 use cbor_read::Source;
 
@@ -29,80 +29,80 @@ fn begins_tag(first: u8) -> bool
 /// It is refused with `EofWhileParsingValue` where the input ends in the head, with
 /// `RecursionLimitExceeded`, after the head, where no level is left, and as the source is. No
 /// level is entered then.
-pub fn read_tag<R: Source>(items: &mut Deserializer<R>) -> Result<Option<u64>>
-    ensures read { ReadsTag R.refusals items.old.levels
-        (R.source items.old.source) (R.source items.new.source) result }
+pub fn read_tag<R: Source>(decoder: &mut Decoder<R>) -> Result<Option<u64>>
+    ensures read { ReadsTag R.refusals decoder.old.levels
+        (R.source decoder.old.source) (R.source decoder.new.source) result }
     ensures item { IfOk result (λ o. IfSome o (λ n.
-        TagIs (formats_of items.old.formats) items.old.levels n
-        (R.source items.old.source) (R.source items.new.source))) }
+        TagIs (formats_of decoder.old.formats) decoder.old.levels n
+        (R.source decoder.old.source) (R.source decoder.new.source))) }
     ensures no_form { IfErr result (λ e. TellsNoForm (code_of e)) }
-    ensures levels { LevelsBehind result items.old.levels items.new.levels }
-    ensures formats { items.new.formats ≡ items.old.formats }
+    ensures levels { LevelsBehind result decoder.old.levels decoder.new.levels }
+    ensures formats { decoder.new.formats ≡ decoder.old.formats }
 {
-    match take_tag(items) {
+    match take_tag(decoder) {
         Ok(tag) => Ok(tag),
-        Err(refused) => Err(items.error(refused)),
+        Err(refused) => Err(decoder.error(refused)),
     }
 }
 
 // Takes a tag's head and goes one level in, if one stands at the front.
-pub(crate) fn take_tag<R: Source>(items: &mut Deserializer<R>) -> Done<Option<u64>>
-    ensures read { Gives R.refusals (λ o. o) (λ l. tag_head_at items.old.levels)
-        (R.source items.old.source) (R.source items.new.source)
-        items.new.refusal result }
-    ensures no_key { IfErr result (TellsNoKey items.new.refusal) }
-    ensures levels { LevelsBehind result items.old.levels items.new.levels }
-    ensures formats { items.new.formats ≡ items.old.formats }
+pub(crate) fn take_tag<R: Source>(decoder: &mut Decoder<R>) -> Done<Option<u64>>
+    ensures read { Gives R.refusals (λ o. o) (λ l. tag_head_at decoder.old.levels)
+        (R.source decoder.old.source) (R.source decoder.new.source)
+        decoder.new.refusal result }
+    ensures no_key { IfErr result (TellsNoKey decoder.new.refusal) }
+    ensures levels { LevelsBehind result decoder.old.levels decoder.new.levels }
+    ensures formats { decoder.new.formats ≡ decoder.old.formats }
 {
-    let first = match tag_first(items) {
+    let first = match tag_first(decoder) {
         Ok(Some(first)) => first,
         Ok(None) => return Ok(None),
         Err(refused) => return Err(refused),
     };
-    let n = items.argument(first % 32)?;
-    items.enter()?;
+    let n = decoder.argument(first % 32)?;
+    decoder.enter()?;
     Ok(Some(n))
 }
 
 // Takes the first byte of a tag's head, if one stands at the front.
-fn tag_first<R: Source>(items: &mut Deserializer<R>) -> Done<Option<u8>>
+fn tag_first<R: Source>(decoder: &mut Decoder<R>) -> Done<Option<u8>>
     ensures read { Gives R.refusals (λ o. o) (λ l. tag_first_at)
-        (R.source items.old.source) (R.source items.new.source)
-        items.new.refusal result }
-    ensures no_key { IfErr result (TellsNoKey items.new.refusal) }
-    ensures levels { items.new.levels ≡ items.old.levels }
-    ensures formats { items.new.formats ≡ items.old.formats }
+        (R.source decoder.old.source) (R.source decoder.new.source)
+        decoder.new.refusal result }
+    ensures no_key { IfErr result (TellsNoKey decoder.new.refusal) }
+    ensures levels { decoder.new.levels ≡ decoder.old.levels }
+    ensures formats { decoder.new.formats ≡ decoder.old.formats }
 {
-    match items.source.peek() {
+    match decoder.source.peek() {
         Ok(Some(first)) => {
             if !begins_tag(first) {
                 return Ok(None);
             }
-            items.source.discard();
+            decoder.source.discard();
             Ok(Some(first))
         }
         Ok(None) => Ok(None),
-        Err(refusal) => Err(items.keep(refusal)),
+        Err(refusal) => Err(decoder.keep(refusal)),
     }
 }
 
 /// Passes over the tags at the front, each a level further in. It is refused as [`read_tag`] is.
 #[cycle(pass_tags)]
-pub fn pass_tags<R: Source>(items: &mut Deserializer<R>) -> Done<()>
-    ensures read { PassesAll R.refusals (formats_of items.old.formats)
-        items.old.levels
-        (R.source items.old.source) (R.source items.new.source)
-        items.new.levels items.new.refusal result }
-    ensures passed { Gives R.refusals (λ u. items.new.levels)
-        (λ l. passed_at items.old.levels)
-        (R.source items.old.source) (R.source items.new.source)
-        items.new.refusal result }
-    ensures no_key { IfErr result (TellsNoKey items.new.refusal) }
-    ensures levels { OnOk result (items.new.levels ≤ items.old.levels) }
-    ensures formats { items.new.formats ≡ items.old.formats }
+pub fn pass_tags<R: Source>(decoder: &mut Decoder<R>) -> Done<()>
+    ensures read { PassesAll R.refusals (formats_of decoder.old.formats)
+        decoder.old.levels
+        (R.source decoder.old.source) (R.source decoder.new.source)
+        decoder.new.levels decoder.new.refusal result }
+    ensures passed { Gives R.refusals (λ u. decoder.new.levels)
+        (λ l. passed_at decoder.old.levels)
+        (R.source decoder.old.source) (R.source decoder.new.source)
+        decoder.new.refusal result }
+    ensures no_key { IfErr result (TellsNoKey decoder.new.refusal) }
+    ensures levels { OnOk result (decoder.new.levels ≤ decoder.old.levels) }
+    ensures formats { decoder.new.formats ≡ decoder.old.formats }
 {
-    match take_tag(items)? {
-        Some(_) => pass_tags(items),
+    match take_tag(decoder)? {
+        Some(_) => pass_tags(decoder),
         None => Ok(()),
     }
 }

@@ -17,9 +17,9 @@ use Rattle.cbor_io.specs.declared.error.Error.{Error}
 use Rattle.cbor_io.specs.declared.read_error.ReadErrorCode.{ReadErrorCode}
 use Rattle.cbor_io.specs.Error.{code_of, offset_of, IsOutOfMemory}
 use Rattle.cbor_read.specs.Source.{Input}
-use Rattle.cbor_de.specs.FirstRefusal.{TellsFirst}
-use Rattle.cbor_de.specs.Gives.{Limits, limits, Tells, Step, Reports, FailsBy, IsMemoryOrFault, values}
-use Rattle.cbor_de.proofs.facts.FirstRefusal.{item_limits, item_first}
+use Rattle.cbor_decode.specs.FirstRefusal.{TellsFirst}
+use Rattle.cbor_decode.specs.Gives.{Limits, limits, Tells, Step, Reports, FailsBy, IsMemoryOrFault, values}
+use Rattle.cbor_decode.proofs.facts.FirstRefusal.{item_limits, item_first}
 use Rattle.cbor_scalars.specs.Takes.{raws, IsRead, WhereTotal, TellsFault}
 use Rattle.cbor_typed.proofs.facts.Readings.{along, value_seen}
 use Rattle.cbor_scalars.proofs.facts.Refusals.{excused_or}

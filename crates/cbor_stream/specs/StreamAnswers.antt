@@ -9,8 +9,8 @@ use Rattle.cbor_model.specs.Allowed.{Limits}
 use Rattle.cbor_io.specs.declared.error.Error.{Error}
 use Rattle.cbor_io.specs.declared.read_error.ReadErrorCode.{ReadErrorCode}
 use Rattle.cbor_io.specs.Error.{code_of, offset_of, IsOutOfMemory}
-use Rattle.cbor_de.specs.FirstRefusal.{TellsFirst}
-use Rattle.cbor_de.specs.Gives.{Tells, Reports, IsMemoryOrFault}
+use Rattle.cbor_decode.specs.FirstRefusal.{TellsFirst}
+use Rattle.cbor_decode.specs.Gives.{Tells, Reports, IsMemoryOrFault}
 use Rattle.cbor_scalars.specs.Takes.{ExcusedBy, WhereTotal}
 use Rattle.cbor_stream.specs.Items.{AreMostItems}
 use Rattle.cbor_typed.specs.Streams.{Stream, StreamGives}

@@ -7,7 +7,7 @@ ghost use Rattle.std.specs.List.{AllByRecursion};
 ghost use Rattle.cbor_model.specs.Acceptable.{max_depth, FitsScratch};
 ghost use Rattle.cbor_model.specs.Formats.{all_formats};
 ghost use Rattle.cbor_model.specs.Raw.{Raw, AreBytes};
-ghost use Rattle.cbor_de.specs.Gives.{Reports, Tells};
+ghost use Rattle.cbor_decode.specs.Gives.{Reports, Tells};
 ghost use Rattle.cbor_scalars.specs.Takes.{lending};
 ghost use Rattle.cbor_stream.specs.Items.{AreMostItems};
 ghost use Rattle.cbor_stream.specs.StreamAnswers.{AnswersTo, AreReadAs, IsExcused};

@@ -18,7 +18,7 @@ use Rattle.cbor_model.proofs.facts.Reader.{all_allowed}
 use Rattle.cbor_io.specs.declared.error.Error.{Error}
 use Rattle.cbor_io.specs.declared.error.ErrorCode.TheVariants.{NotCanonical}
 use Rattle.cbor_io.specs.Error.{code_of, offset_of, IsOutOfMemory}
-use Rattle.cbor_de.specs.FirstRefusal.{TellsFirst}
+use Rattle.cbor_decode.specs.FirstRefusal.{TellsFirst}
 use Rattle.cbor_scalars.specs.Takes.{WhereTotal}
 use Rattle.cbor_strict.specs.Departure.{ShowsDeparture}
 use Rattle.cbor_strict.specs.Walk.{passed, departed, walk_of}

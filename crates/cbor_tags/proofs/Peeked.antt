@@ -5,9 +5,9 @@ use Rattle.cbor_model.specs.Reader.{item_at, inside, tag_at}
 use Rattle.cbor_io.specs.declared.error.Error.{Error}
 use Rattle.cbor_io.specs.declared.read_error.ReadErrorCode.{ReadErrorCode}
 use Rattle.cbor_read.specs.Source.{Input, Stays, TookSome}
-use Rattle.cbor_de.specs.Gives.{Limits}
-use Rattle.cbor_de.specs.declared.formats.Formats.{Formats}
-use Rattle.cbor_de.proofs.facts.Steps.{none_step, some_then, step_then, took_stays}
+use Rattle.cbor_decode.specs.Gives.{Limits}
+use Rattle.cbor_decode.specs.declared.formats.Formats.{Formats}
+use Rattle.cbor_decode.proofs.facts.Steps.{none_step, some_then, step_then, took_stays}
 use Rattle.cbor_scalars.specs.Tags.{ReadsTag, TagIs, tag_head_at}
 use Rattle.cbor_scalars.specs.Takes.{TellsFault, formats_of, raws}
 use Rattle.cbor_tags.proofs.Tags.{told_then}

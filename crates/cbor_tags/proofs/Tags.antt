@@ -10,8 +10,8 @@ use Rattle.cbor_model.proofs.facts.Reader.{ok_is}
 use Rattle.cbor_read.specs.Source.{Input, TookSome}
 use Rattle.cbor_io.specs.declared.error.ErrorCode.{ErrorCode}
 use Rattle.cbor_io.specs.declared.read_error.ReadErrorCode.{ReadErrorCode}
-use Rattle.cbor_de.specs.Gives.{FailsBy, Limits, Reports, Step, limits, values}
-use Rattle.cbor_de.proofs.facts.Steps.{passed_on, step_then}
+use Rattle.cbor_decode.specs.Gives.{FailsBy, Limits, Reports, Step, limits, values}
+use Rattle.cbor_decode.proofs.facts.Steps.{passed_on, step_then}
 use Rattle.cbor_scalars.specs.Tags.{TagIs, tag_head_at}
 use Rattle.cbor_tags.specs.Tagged.{IsTagged, BeginsNoTag, StandsNoTag}
 use Rattle.cbor_io.specs.declared.error.Error.{Error}

@@ -4,7 +4,7 @@ use Rattle.cbor_model.specs.Document.{Doc, tagged}
 use Rattle.cbor_model.specs.Raw as raw
 use Rattle.cbor_model.specs.Raw.{Raw}
 use Rattle.cbor_read.specs.Source.{Input}
-use Rattle.cbor_de.specs.Gives.{Step}
+use Rattle.cbor_decode.specs.Gives.{Step}
 use Rattle.cbor_scalars.specs.Tags.{begins_tag}
 
 -- a document within this tag, or as it is

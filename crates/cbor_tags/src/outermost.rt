@@ -3,7 +3,7 @@
 ghost use Rattle.std.specs.Prelude.{◌≡◌, IfOk, IfErr, IfSome, IfNone};
 ghost use Rattle.cbor_read.specs.Source.{TookSome};
 ghost use Rattle.cbor_io.specs.Error.{code_of};
-ghost use Rattle.cbor_de.specs.Gives.{TellsNoForm};
+ghost use Rattle.cbor_decode.specs.Gives.{TellsNoForm};
 ghost use Rattle.cbor_scalars.specs.Takes.{formats_of, TellsFault};
 ghost use Rattle.cbor_scalars.specs.Tags.{tag_head_at, LevelsBehind, TagIs};
 ghost use Rattle.cbor_tags.specs.Tagged.{StandsNoTag};
@@ -17,17 +17,17 @@ use cbor_typed::inner::{error_of, peek};
 /// `Deserializer::read_tag` does; None, which takes nothing, where it is within none.
 pub(crate) fn outermost<R: Source>(de: &mut Deserializer<R>) -> Result<Option<u64>>
     ensures item { IfOk result (λ o. IfSome o (λ n.
-        TagIs (formats_of de.old.items.formats) de.old.items.levels n
-        (R.source de.old.items.source) (R.source de.new.items.source))) }
+        TagIs (formats_of de.old.decoder.formats) de.old.decoder.levels n
+        (R.source de.old.decoder.source) (R.source de.new.decoder.source))) }
     ensures none { IfOk result (λ o. IfNone o
-        (StandsNoTag (R.source de.old.items.source) (R.source de.new.items.source))) }
-    ensures refused { IfErr result (TellsFault R.refusals (λ l. tag_head_at de.old.items.levels)
-        (R.source de.old.items.source)) }
-    ensures took { IfErr result (λ e. TookSome (R.source de.old.items.source)
-        (R.source de.new.items.source)) }
+        (StandsNoTag (R.source de.old.decoder.source) (R.source de.new.decoder.source))) }
+    ensures refused { IfErr result (TellsFault R.refusals (λ l. tag_head_at de.old.decoder.levels)
+        (R.source de.old.decoder.source)) }
+    ensures took { IfErr result (λ e. TookSome (R.source de.old.decoder.source)
+        (R.source de.new.decoder.source)) }
     ensures no_form { IfErr result (λ e. TellsNoForm (code_of e)) }
-    ensures levels { LevelsBehind result de.old.items.levels de.new.items.levels }
-    ensures formats { de.new.items.formats ≡ de.old.items.formats }
+    ensures levels { LevelsBehind result de.old.decoder.levels de.new.decoder.levels }
+    ensures formats { de.new.decoder.formats ≡ de.old.decoder.formats }
 {
     match peek(de) {
         Ok(Some(_first)) => de.read_tag(),

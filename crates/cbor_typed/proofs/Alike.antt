@@ -16,9 +16,9 @@ use Rattle.cbor_io.specs.declared.error.ErrorCode.TheVariants.{ScratchTooSmall}
 use Rattle.cbor_io.specs.Error.{code_of, IsOutOfMemory}
 use Rattle.cbor_value.specs.View.{view}
 use Rattle.cbor_value.specs.declared.Value.{Value}
-use Rattle.cbor_de.specs.FirstRefusal.{TellsFirst}
-use Rattle.cbor_de.specs.Gives.{IsMemoryOrFault, IsMemoryOrFaultBy}
-use Rattle.cbor_de.proofs.facts.FirstRefusal.{same_error, without_scratch}
+use Rattle.cbor_decode.specs.FirstRefusal.{TellsFirst}
+use Rattle.cbor_decode.specs.Gives.{IsMemoryOrFault, IsMemoryOrFaultBy}
+use Rattle.cbor_decode.proofs.facts.FirstRefusal.{same_error, without_scratch}
 use Rattle.cbor_read.specs.Source.{Lends}
 use Rattle.cbor_scalars.specs.Takes.{lending}
 use Rattle.cbor_typed.specs.Alike.{IsReading, IsOfSource, AreAlike, SourcesAgree}

@@ -11,7 +11,7 @@ use Rattle.cbor_io.specs.Error.{code_of, offset_of}
 use Rattle.cbor_read.specs.Source.{Input, Lends}
 use Rattle.cbor_io.specs.declared.error.Error.{Error}
 use Rattle.cbor_io.specs.declared.read_error.ReadErrorCode.{ReadErrorCode}
-use Rattle.cbor_de.specs.Gives.{Limits}
+use Rattle.cbor_decode.specs.Gives.{Limits}
 use Rattle.cbor_scalars.specs.Strings.{IsCharacter, IsOneCharacter, IsOneOf, IsLentText, LendsText, text_bytes}
 use Rattle.cbor_scalars.specs.Takes.{raws, lending, MemoryFor, TakesItem}
 use Rattle.cbor_scalars.specs.declared.lent.EitherStr.{EitherStr}

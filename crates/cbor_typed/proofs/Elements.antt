@@ -8,12 +8,12 @@ use Rattle.cbor_model.specs.Reader as reader
 use Rattle.cbor_read.specs.Source.{Input}
 use Rattle.cbor_io.specs.declared.error.ErrorCode.{ErrorCode}
 use Rattle.cbor_io.specs.declared.read_error.ReadErrorCode.{ReadErrorCode}
-use Rattle.cbor_de.specs.Cursor.{behind_next, Counts}
-use Rattle.cbor_de.specs.Gives.{Limits, Step}
-use Rattle.cbor_de.specs.Heads.{remaining_of}
-use Rattle.cbor_de.specs.declared.cursor.Remaining.{Remaining}
-use Rattle.cbor_de.specs.declared.cursor.Remaining.TheVariants.{Counted, ToBreak}
-use Rattle.cbor_de.proofs.facts.Steps.{step_map}
+use Rattle.cbor_decode.specs.Cursor.{behind_next, Counts}
+use Rattle.cbor_decode.specs.Gives.{Limits, Step}
+use Rattle.cbor_decode.specs.Heads.{remaining_of}
+use Rattle.cbor_decode.specs.declared.cursor.Remaining.{Remaining}
+use Rattle.cbor_decode.specs.declared.cursor.Remaining.TheVariants.{Counted, ToBreak}
+use Rattle.cbor_decode.proofs.facts.Steps.{step_map}
 use Rattle.cbor_collections.specs.Accesses.{IsNext, IsEnd}
 use Rattle.cbor_collections.proofs.facts.Refusals.{refuses_map}
 use Rattle.cbor_scalars.specs.Takes.{Refuses}

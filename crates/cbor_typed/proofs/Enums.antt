@@ -13,12 +13,12 @@ use Rattle.cbor_io.specs.Error.{code_of, offset_of}
 use Rattle.cbor_io.specs.declared.error.Error.{Error}
 use Rattle.cbor_io.specs.declared.error.ErrorCode.{ErrorCode}
 use Rattle.cbor_io.specs.declared.read_error.ReadErrorCode.{ReadErrorCode}
-use Rattle.cbor_de.specs.Cursor.{ended_at}
-use Rattle.cbor_de.specs.Gives.{Limits, Step}
-use Rattle.cbor_de.specs.Heads.{remaining_of}
-use Rattle.cbor_de.specs.declared.cursor.Remaining.{Remaining}
-use Rattle.cbor_de.specs.declared.formats.Formats.{Formats}
-use Rattle.cbor_de.proofs.facts.Steps.{step_then}
+use Rattle.cbor_decode.specs.Cursor.{ended_at}
+use Rattle.cbor_decode.specs.Gives.{Limits, Step}
+use Rattle.cbor_decode.specs.Heads.{remaining_of}
+use Rattle.cbor_decode.specs.declared.cursor.Remaining.{Remaining}
+use Rattle.cbor_decode.specs.declared.formats.Formats.{Formats}
+use Rattle.cbor_decode.proofs.facts.Steps.{step_then}
 use Rattle.cbor_collections.specs.Accesses.{items_at, IsEnd, IsNextItem, TakesEnd}
 use Rattle.cbor_collections.specs.Arrays.{AsArray}
 use Rattle.cbor_collections.specs.Enums.{Content, alone, one, parts, IsVariant, IsEnum, IsNothing, IsPart, AreParts, reads_names, unit, newtype, tuple, part_then, no_part}

@@ -8,6 +8,7 @@ use Rattle.cbor_model.specs.Plain.{Val}
 use Rattle.cbor_model.specs.Value.{value}
 use Rattle.cbor_model.specs.Reader.{Fault, Reads, item_at, read_value_in}
 use Rattle.cbor_model.proofs.facts.Reader.{ok_is}
+pub use Rattle.cbor_decode.proofs.facts.Steps.{end_told}
 use Rattle.cbor_read.specs.Source.{Input}
 use Rattle.cbor_io.specs.Error.{code_of, offset_of}
 use Rattle.cbor_io.specs.declared.error.Error.{Error}
@@ -17,14 +18,14 @@ use Rattle.cbor_io.specs.declared.read_error.ReadError.{ReadError}
 use Rattle.cbor_io.specs.declared.read_error.ReadErrorCode.{ReadErrorCode}
 use Rattle.cbor_value.specs.View.{view}
 use Rattle.cbor_value.specs.declared.Value.{Value}
-use Rattle.cbor_de.specs.Gives.{Limits, limits, values, Tells, Step, Stopped, Reports, Ends, FailsBy, Fails, FailsOrFaults, IsErrorOf, end_at, whole_at}
-use Rattle.cbor_de.specs.declared.refusal.Refused.{Refused}
-use Rattle.cbor_de.specs.Heads.{passed}
-use Rattle.cbor_de.proofs.facts.Steps.{step_map, stopped_map, passed_on, fault_in, passed_was, passed_stops}
+use Rattle.cbor_decode.specs.Gives.{Limits, limits, values, Tells, Step, Stopped, Reports, Ends, FailsBy, Fails, FailsOrFaults, IsErrorOf, end_at, whole_at}
+use Rattle.cbor_decode.specs.declared.refusal.Refused.{Refused}
+use Rattle.cbor_decode.specs.Heads.{passed}
+use Rattle.cbor_decode.proofs.facts.Steps.{step_map, stopped_map, passed_on, fault_in, passed_was, passed_stops}
 use Rattle.cbor_scalars.specs.Takes.{raws, ExcusedBy, FaultOrMessage, IsMessageBy, IsRead, IsNotRead, Refuses, TellsItem, WhereTotal, TellsFault, any_item}
 use Rattle.cbor_typed.specs.Whole.{IsSomeRead, RefusesAll, RefusesBytes, TellsWhole, front_in, spelt_front_in}
 use Rattle.cbor_scalars.proofs.facts.Refusals.{passes_told, refuses, tells_both, tells_map, total_told}
-use Rattle.cbor_de.proofs.facts.Readings.{along, value_seen}
+use Rattle.cbor_decode.proofs.facts.Readings.{along, value_seen}
 
 pub where_map : {P Q : Type 0} (total : Bool) → (P → Q) → WhereTotal total P → WhereTotal total Q
 where_map false f h = tt

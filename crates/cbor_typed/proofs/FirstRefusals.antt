@@ -5,9 +5,9 @@ use Rattle.cbor_model.specs.Reader.{read_value, read_value_in}
 use Rattle.cbor_model.specs.Allowed.{limits_of}
 use Rattle.cbor_io.specs.declared.error.Error.{Error}
 use Rattle.cbor_io.specs.Error.{IsOutOfMemory}
-use Rattle.cbor_de.specs.Gives.{Fails, FailsOrFaults, IsMemoryOrFault}
-use Rattle.cbor_de.specs.FirstRefusal.{TellsFirst}
-use Rattle.cbor_de.proofs.facts.FirstRefusal.{first_or_memory, first_or_fault}
+use Rattle.cbor_decode.specs.Gives.{Fails, FailsOrFaults, IsMemoryOrFault}
+use Rattle.cbor_decode.specs.FirstRefusal.{TellsFirst}
+use Rattle.cbor_decode.proofs.facts.FirstRefusal.{first_or_memory, first_or_fault}
 use Rattle.cbor_scalars.specs.Takes.{WhereTotal}
 use Rattle.cbor_typed.proofs.Faults.{where_map}
 

@@ -8,12 +8,12 @@ use Rattle.cbor_io.specs.declared.error.ErrorCode.TheVariants as code
 use Rattle.cbor_io.specs.Error.{code_of, offset_of, IsMessageOf}
 use Rattle.cbor_io.specs.declared.read_error.ReadErrorCode.{ReadErrorCode}
 use Rattle.cbor_read.specs.Source.{Input, TookSome}
-use Rattle.cbor_de.specs.AtEnd.{EndRefused}
-use Rattle.cbor_de.specs.Gives.{FailsBy, Limits, Reports, Tells, TellsNoForm, limits, values}
-use Rattle.cbor_de.specs.Heads.{remaining_of}
-use Rattle.cbor_de.specs.declared.cursor.Remaining.{Remaining}
-use Rattle.cbor_de.specs.declared.formats.Formats as declared
-use Rattle.cbor_de.proofs.facts.Steps.{some_then, took_none}
+use Rattle.cbor_decode.specs.AtEnd.{EndRefused}
+use Rattle.cbor_decode.specs.Gives.{FailsBy, Limits, Reports, Tells, TellsNoForm, limits, values}
+use Rattle.cbor_decode.specs.Heads.{remaining_of}
+use Rattle.cbor_decode.specs.declared.cursor.Remaining.{Remaining}
+use Rattle.cbor_decode.specs.declared.formats.Formats as declared
+use Rattle.cbor_decode.proofs.facts.Steps.{some_then, took_none}
 use Rattle.cbor_scalars.specs.Takes.{TellsFault, formats_of}
 use Rattle.cbor_collections.specs.Cases.{FormAlone, IsBadKey, IsEnumCode, NoItemHere, Stands, StandsBy, enum_cases, key_cases, unit_cases}
 use Rattle.cbor_collections.specs.declared.variant.Form.{Form}

@@ -14,8 +14,8 @@ use Rattle.cbor_io.specs.declared.error.Error.{Error}
 use Rattle.cbor_io.specs.declared.error.ErrorCode.{ErrorCode}
 use Rattle.cbor_io.specs.declared.error.ErrorCode.TheVariants as code
 use Rattle.cbor_io.specs.declared.read_error.ReadErrorCode.{ReadErrorCode}
-use Rattle.cbor_de.specs.Gives.{Limits, limits, Tells, Step, Reports, Ends, end_at, IsMemoryOrFault, IsMemoryOrFaultBy}
-use Rattle.cbor_de.specs.AtEnd.{EndTakes, EndRefused}
+use Rattle.cbor_decode.specs.Gives.{Limits, limits, Tells, Step, Reports, Ends, end_at, IsMemoryOrFault, IsMemoryOrFaultBy}
+use Rattle.cbor_decode.specs.AtEnd.{EndTakes, EndRefused}
 use Rattle.cbor_scalars.specs.Takes.{raws, IsRead, IsNotRead, ExcusedBy, MemoryFor, Refuses}
 use Rattle.cbor_typed.specs.Whole.{IsWholeRead, ReadsAll}
 use Rattle.cbor_scalars.proofs.facts.Refusals.{excused_or}

@@ -1,6 +1,6 @@
 -- The items that remain of an array, as the list of a tuple's parts: what the answers of the calls on a
 -- part, on the others and on the end add.
-use Rattle.cbor_de.specs.Cursor.{behind_next}
+use Rattle.cbor_decode.specs.Cursor.{behind_next}
 use Rattle.std.proofs.Common.{◌≡◌, ℕ, Bool, true, List, [], ◌∷◌, Result, Ok, Err, refl, sym, ap, subst, ◌∙◌}
 use Rattle.cbor_model.specs.Formats as model
 use Rattle.cbor_model.specs.Raw.{Raw, Raws, no_raws}
@@ -11,11 +11,11 @@ use Rattle.cbor_read.specs.Source.{Input}
 use Rattle.cbor_io.specs.Error.{code_of, offset_of}
 use Rattle.cbor_io.specs.declared.error.Error.{Error}
 use Rattle.cbor_io.specs.declared.read_error.ReadErrorCode.{ReadErrorCode}
-use Rattle.cbor_de.specs.Gives.{Limits, Step}
-use Rattle.cbor_de.specs.Heads.{remaining_of}
-use Rattle.cbor_de.specs.declared.cursor.Remaining.{Remaining}
-use Rattle.cbor_de.specs.declared.formats.Formats.{Formats}
-use Rattle.cbor_de.proofs.facts.Steps.{step_map, step_then}
+use Rattle.cbor_decode.specs.Gives.{Limits, Step}
+use Rattle.cbor_decode.specs.Heads.{remaining_of}
+use Rattle.cbor_decode.specs.declared.cursor.Remaining.{Remaining}
+use Rattle.cbor_decode.specs.declared.formats.Formats.{Formats}
+use Rattle.cbor_decode.proofs.facts.Steps.{step_map, step_then}
 use Rattle.cbor_collections.specs.Accesses.{items_at, IsArrayHead, IsNextItem, TakesPart, TakesEnd, IsEnd}
 use Rattle.cbor_collections.specs.Arrays.{AreNone, AsArray}
 use Rattle.cbor_collections.specs.Enums.{part_then, no_part}

@@ -11,8 +11,8 @@ use Rattle.cbor_io.specs.declared.read_error.ReadErrorCode.{ReadErrorCode}
 use Rattle.cbor_io.specs.Error.{code_of, offset_of}
 use Rattle.cbor_io.specs.ReadError.{why, place, error_code}
 use Rattle.cbor_read.specs.Source.{Input, Stays, RefusedByte}
-use Rattle.cbor_de.specs.Gives.{Limits, limits, Tells, Step, Reports, FailsBy, values}
-use Rattle.cbor_de.proofs.facts.Steps.{some_then, took_stays, step_then, none_step, byte_refused}
+use Rattle.cbor_decode.specs.Gives.{Limits, limits, Tells, Step, Reports, FailsBy, values}
+use Rattle.cbor_decode.proofs.facts.Steps.{some_then, took_stays, step_then, none_step, byte_refused}
 use Rattle.cbor_scalars.specs.Takes.{raws, IsRead, IsNotRead, ExcusedBy, Refuses, TakesItem, TellsItem, TellsFault}
 use Rattle.cbor_typed.proofs.Faults.{where_map}
 use Rattle.cbor_scalars.proofs.facts.Refusals.{excused_or}

@@ -10,7 +10,7 @@ use Rattle.cbor_read.specs.Source.{Input}
 use Rattle.cbor_io.specs.Error.{code_of, offset_of}
 use Rattle.cbor_io.specs.declared.error.Error.{Error}
 use Rattle.cbor_io.specs.declared.read_error.ReadErrorCode.{ReadErrorCode}
-use Rattle.cbor_de.specs.Gives.{limits, Reports, Tells}
+use Rattle.cbor_decode.specs.Gives.{limits, Reports, Tells}
 use Rattle.cbor_scalars.specs.Takes.{ExcusedBy, TakesItem}
 use Rattle.cbor_typed.specs.ItemTaken.{BeginsAsNone, TookItem}
 

@@ -10,8 +10,8 @@ use Rattle.cbor_io.specs.declared.error.ErrorCode.TheVariants.{ScratchTooSmall}
 use Rattle.cbor_io.specs.Error.{code_of, offset_of, IsOutOfMemory}
 use Rattle.cbor_value.specs.View.{view}
 use Rattle.cbor_value.specs.declared.Value.{Value}
-use Rattle.cbor_de.specs.FirstRefusal.{TellsFirst}
-use Rattle.cbor_de.specs.Gives.{IsMemoryOrFault}
+use Rattle.cbor_decode.specs.FirstRefusal.{TellsFirst}
+use Rattle.cbor_decode.specs.Gives.{IsMemoryOrFault}
 use Rattle.cbor_read.specs.Source.{Lends}
 use Rattle.cbor_scalars.specs.Takes.{lending}
 

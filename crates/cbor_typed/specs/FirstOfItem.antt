@@ -6,8 +6,8 @@ use Rattle.cbor_model.specs.Raw.{AreBytes}
 use Rattle.cbor_io.specs.declared.error.Error.{Error}
 use Rattle.cbor_io.specs.declared.read_error.ReadErrorCode.{ReadErrorCode}
 use Rattle.cbor_io.specs.Error.{IsOutOfMemory}
-use Rattle.cbor_de.specs.FirstRefusal.{TellsFirst}
-use Rattle.cbor_de.specs.Gives.{IsMemoryOrFault, Reports, Tells}
+use Rattle.cbor_decode.specs.FirstRefusal.{TellsFirst}
+use Rattle.cbor_decode.specs.Gives.{IsMemoryOrFault, Reports, Tells}
 use Rattle.cbor_read.specs.Source.{Input}
 use Rattle.cbor_scalars.specs.Takes.{TellsItem, WhereTotal}
 

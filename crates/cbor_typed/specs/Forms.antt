@@ -9,9 +9,9 @@ use Rattle.cbor_io.specs.declared.error.ErrorCode.TheVariants.{ArrayTooShort, Ar
 use Rattle.cbor_io.specs.declared.error.ErrorCode.TheVariants.{WrongEnumFormat, WrongStructFormat}
 use Rattle.cbor_io.specs.Error.{code_of, offset_of}
 use Rattle.cbor_read.specs.Source.{Input, TookSome}
-use Rattle.cbor_de.specs.Gives.{FailsAs, Limits, Tells, TellsNoForm, limits, values}
-use Rattle.cbor_de.specs.Heads.{remaining_of}
-use Rattle.cbor_de.specs.declared.cursor.Remaining.{Remaining}
+use Rattle.cbor_decode.specs.Gives.{FailsAs, Limits, Tells, TellsNoForm, limits, values}
+use Rattle.cbor_decode.specs.Heads.{remaining_of}
+use Rattle.cbor_decode.specs.declared.cursor.Remaining.{Remaining}
 use Rattle.cbor_collections.specs.Cases.{BehindTags, IsBadKey, IsBadPair, IsEmptyArray}
 use Rattle.cbor_collections.specs.Cases.{IsInOtherForm, NothingFollows}
 use Rattle.cbor_collections.specs.declared.variant.Form.{Form}

@@ -10,7 +10,7 @@ use Rattle.cbor_io.specs.declared.error.Error.{Error}
 use Rattle.cbor_io.specs.declared.read_error.ReadErrorCode.{ReadErrorCode}
 use Rattle.cbor_io.specs.Error.{code_of, offset_of}
 use Rattle.cbor_read.specs.Source.{Input, Lends}
-use Rattle.cbor_de.specs.Gives.{Reports, Tells}
+use Rattle.cbor_decode.specs.Gives.{Reports, Tells}
 use Rattle.cbor_scalars.specs.Takes.{ExcusedBy, TakesItem, lending}
 
 -- The bytes are the spelling of an item that is read as x, and these others: the item is acceptable

@@ -8,7 +8,7 @@ use Rattle.cbor_io.specs.declared.error.Error.{Error}
 use Rattle.cbor_io.specs.declared.read_error.ReadErrorCode.{ReadErrorCode}
 use Rattle.cbor_io.specs.Error.{code_of, offset_of}
 use Rattle.cbor_read.specs.Source.{Input, Stays}
-use Rattle.cbor_de.specs.Gives.{Onward}
+use Rattle.cbor_decode.specs.Gives.{Onward}
 use Rattle.cbor_scalars.specs.Takes.{formats_of, raws, IsNotRead, Refuses, TakesItem, TellsItem}
 use Rattle.cbor_typed.specs.declared.stream.StreamDeserializer.{StreamDeserializer}
 
@@ -27,9 +27,9 @@ begun s levels f = record { input = s; levels = levels; formats = f; done = fals
 -- where the stream of the program stands, whose source is such an input
 abbrev pub standing : {R T : Type 0} → (R → Input) → StreamDeserializer R T → Stream
 standing source s = record {
-  input = source s.de.items.source;
-  levels = s.de.items.levels;
-  formats = formats_of s.de.items.formats;
+  input = source s.de.decoder.source;
+  levels = s.de.decoder.levels;
+  formats = formats_of s.de.decoder.formats;
   done = s.done;
 }
 

@@ -11,7 +11,7 @@ use Rattle.cbor_io.specs.declared.error.ErrorCode.{ErrorCode}
 use Rattle.cbor_io.specs.declared.read_error.ReadErrorCode.{ReadErrorCode}
 use Rattle.cbor_io.specs.Error.{code_of, offset_of}
 use Rattle.cbor_read.specs.Source.{Input, Asks}
-use Rattle.cbor_de.specs.Gives.{FailsBy, limits, Tells, Reports, whole_at}
+use Rattle.cbor_decode.specs.Gives.{FailsBy, limits, Tells, Reports, whole_at}
 use Rattle.cbor_scalars.specs.Takes.{raws, IsRead, IsNotRead, ExcusedBy, TellsFault}
 use Rattle.cbor_scalars.specs.Takes.{FaultOrMessage, TellsOf, any_item}
 

@@ -6,11 +6,11 @@ ghost use Rattle.cbor_model.specs.Formats.{all_formats};
 ghost use Rattle.cbor_read.specs.Source.{unread_slice, unread_reader};
 ghost use Rattle.cbor_read.specs.Sources.{input_of_slice, input_of_slice_fixed, input_of_mut_slice};
 ghost use Rattle.cbor_read.specs.Sources.{input_of_reader};
-ghost use Rattle.cbor_de.specs.AtEnd.{EndTakes};
-ghost use Rattle.cbor_de.specs.Gives.{Ends};
+ghost use Rattle.cbor_decode.specs.AtEnd.{EndTakes};
+ghost use Rattle.cbor_decode.specs.Gives.{Ends};
 ghost use Rattle.cbor_scalars.specs.Takes.{formats_of};
 
-use cbor_de::Deserializer as Items;
+use cbor_decode::Decoder;
 use cbor_io::error::Result;
 use cbor_read::{IoRead, MutSliceRead, Offset, SliceRead, SliceReadFixed, Source};
 use std::alloc::Global;
@@ -30,7 +30,7 @@ use std::io;
 #[derive(Drop)]
 pub struct Deserializer<R> {
     // What reads items.
-    pub(crate) items: Items<R>,
+    pub(crate) decoder: Decoder<R>,
 }
 
 impl<'a> Deserializer<SliceRead<'a>> {
@@ -43,9 +43,9 @@ impl<'a> Deserializer<SliceRead<'a>> {
     /// de.end()?;
     /// ```
     pub fn from_slice(alloc: Global, slice: &'a [u8]) -> Deserializer<SliceRead<'a>>
-        ensures input { input_of_slice result.items.source ≡ unread_slice slice.now None }
-        ensures levels { result.items.levels ≡ max_depth }
-        ensures formats { formats_of result.items.formats ≡ all_formats }
+        ensures input { input_of_slice result.decoder.source ≡ unread_slice slice.now None }
+        ensures levels { result.decoder.levels ≡ max_depth }
+        ensures formats { formats_of result.decoder.formats ≡ all_formats }
     {
         Deserializer::new(alloc, SliceRead::new(alloc, slice))
     }
@@ -66,10 +66,10 @@ impl<'a, 'b> Deserializer<SliceReadFixed<'a, 'b>> {
         slice: &'a [u8],
         scratch: &'b mut [u8],
     ) -> Deserializer<SliceReadFixed<'a, 'b>>
-        ensures input { input_of_slice_fixed result.items.source
+        ensures input { input_of_slice_fixed result.decoder.source
             ≡ unread_slice slice.now (Some (length scratch.old)) }
-        ensures levels { result.items.levels ≡ max_depth }
-        ensures formats { formats_of result.items.formats ≡ all_formats }
+        ensures levels { result.decoder.levels ≡ max_depth }
+        ensures formats { formats_of result.decoder.formats ≡ all_formats }
     {
         Deserializer::new(alloc, SliceReadFixed::new(slice, scratch))
     }
@@ -84,9 +84,9 @@ impl<'a> Deserializer<MutSliceRead<'a>> {
     /// assert_eq!(rt; String::deserialize(&mut de)?.as_str(), "ab");
     /// ```
     pub fn from_mut_slice(alloc: Global, slice: &'a mut [u8]) -> Deserializer<MutSliceRead<'a>>
-        ensures input { input_of_mut_slice result.items.source ≡ unread_slice slice.old None }
-        ensures levels { result.items.levels ≡ max_depth }
-        ensures formats { formats_of result.items.formats ≡ all_formats }
+        ensures input { input_of_mut_slice result.decoder.source ≡ unread_slice slice.old None }
+        ensures levels { result.decoder.levels ≡ max_depth }
+        ensures formats { formats_of result.decoder.formats ≡ all_formats }
     {
         Deserializer::new(alloc, MutSliceRead::new(slice))
     }
@@ -101,10 +101,10 @@ impl<R: io::Read + Drop> Deserializer<IoRead<R>> {
     /// assert_eq!(rt; u8::deserialize(&mut de)?, 2);
     /// ```
     pub fn from_reader(alloc: Global, reader: R) -> Deserializer<IoRead<R>>
-        ensures input { input_of_reader R.remaining result.items.source
+        ensures input { input_of_reader R.remaining result.decoder.source
             ≡ unread_reader (R.remaining reader) }
-        ensures levels { result.items.levels ≡ max_depth }
-        ensures formats { formats_of result.items.formats ≡ all_formats }
+        ensures levels { result.decoder.levels ≡ max_depth }
+        ensures formats { formats_of result.decoder.formats ≡ all_formats }
     {
         Deserializer::new(alloc, IoRead::new(alloc, reader))
     }
@@ -119,18 +119,18 @@ impl<R: Offset> Deserializer<R> {
     /// assert_eq!(rt; de.byte_offset(), 3);
     /// ```
     pub fn byte_offset(&self) -> usize
-        ensures { result ≡ (R.source self.now.items.source).offset }
+        ensures { result ≡ (R.source self.now.decoder.source).offset }
     {
-        self.items.byte_offset()
+        self.decoder.source.byte_offset()
     }
 }
 
 impl<R> Deserializer<R> {
     /// The allocator that it was made with.
     pub fn alloc(&self) -> Global
-        ensures { result ≡ self.now.items.alloc }
+        ensures { result ≡ self.now.decoder.alloc }
     {
-        self.items.alloc
+        self.decoder.alloc
     }
 
     /// How many arrays, maps and tags may still stand inside one another at this place.
@@ -142,21 +142,21 @@ impl<R> Deserializer<R> {
     /// assert_eq!(rt; de.levels_left(), 126);
     /// ```
     pub fn levels_left(&self) -> u64
-        ensures { result ≡ self.now.items.levels }
+        ensures { result ≡ self.now.decoder.levels }
     {
-        self.items.levels
+        self.decoder.levels
     }
 }
 
 impl<R: Source> Deserializer<R> {
     /// Reads from this source, in all formats.
     pub fn new(alloc: Global, source: R) -> Deserializer<R>
-        ensures source { result.items.source ≡ source }
-        ensures levels { result.items.levels ≡ 127 }
-        ensures formats { formats_of result.items.formats ≡ all_formats }
+        ensures source { result.decoder.source ≡ source }
+        ensures levels { result.decoder.levels ≡ 127 }
+        ensures formats { formats_of result.decoder.formats ≡ all_formats }
     {
         Deserializer {
-            items: Items::new(alloc, source),
+            decoder: Decoder::new(alloc, source),
         }
     }
 
@@ -173,15 +173,14 @@ impl<R: Source> Deserializer<R> {
     /// assert!(rt; Value::deserialize(&mut de).is_err());
     /// assert_eq!(rt; de.byte_offset(), 2);
     /// ```
-    pub fn nesting_limit(self, n: u8) -> Deserializer<R>
+    pub fn nesting_limit(mut self, n: u8) -> Deserializer<R>
         requires { n ≤ 254 }
-        ensures levels { result.items.levels ≡ n }
-        ensures source { result.items.source ≡ self.items.source }
-        ensures formats { formats_of result.items.formats ≡ formats_of self.items.formats }
+        ensures levels { result.decoder.levels ≡ n }
+        ensures source { result.decoder.source ≡ self.decoder.source }
+        ensures formats { formats_of result.decoder.formats ≡ formats_of self.decoder.formats }
     {
-        let mut items = self.items;
-        items.levels = n as u64;
-        Deserializer { items }
+        self.decoder.levels = n as u64;
+        self
     }
 
     /// Maps with names among their keys are refused from now on: a key that is a text is
@@ -193,15 +192,14 @@ impl<R: Source> Deserializer<R> {
     /// let refused = Value::deserialize(&mut de);
     /// assert!(rt; matches!(refused, Err(e) if e.offset() == 1));
     /// ```
-    pub fn disable_named_format(self) -> Deserializer<R>
-        ensures formats { formats_of result.items.formats
-            ≡ record (formats_of self.items.formats) { named = false } }
-        ensures source { result.items.source ≡ self.items.source }
-        ensures levels { result.items.levels ≡ self.items.levels }
+    pub fn disable_named_format(mut self) -> Deserializer<R>
+        ensures formats { formats_of result.decoder.formats
+            ≡ record (formats_of self.decoder.formats) { named = false } }
+        ensures source { result.decoder.source ≡ self.decoder.source }
+        ensures levels { result.decoder.levels ≡ self.decoder.levels }
     {
-        Deserializer {
-            items: self.items.disable_named_format(),
-        }
+        self.decoder.formats.named = false;
+        self
     }
 
     /// Maps with numbers among their keys are refused from now on: a key that is a number from 0 is
@@ -211,15 +209,14 @@ impl<R: Source> Deserializer<R> {
     /// let mut de = Deserializer::from_slice(alloc, b"\xa1\x00\x01").disable_packed_format();
     /// assert!(rt; Value::deserialize(&mut de).is_err());
     /// ```
-    pub fn disable_packed_format(self) -> Deserializer<R>
-        ensures formats { formats_of result.items.formats
-            ≡ record (formats_of self.items.formats) { packed = false } }
-        ensures source { result.items.source ≡ self.items.source }
-        ensures levels { result.items.levels ≡ self.items.levels }
+    pub fn disable_packed_format(mut self) -> Deserializer<R>
+        ensures formats { formats_of result.decoder.formats
+            ≡ record (formats_of self.decoder.formats) { packed = false } }
+        ensures source { result.decoder.source ≡ self.decoder.source }
+        ensures levels { result.decoder.levels ≡ self.decoder.levels }
     {
-        Deserializer {
-            items: self.items.disable_packed_format(),
-        }
+        self.decoder.formats.packed = false;
+        self
     }
 
     /// Enums that are a map of one pair are refused from now on with `WrongEnumFormat`, and, where
@@ -229,15 +226,14 @@ impl<R: Source> Deserializer<R> {
     /// let mut de = Deserializer::from_slice(alloc, b"\xa1\x63Dot\x07").disable_standard_enums();
     /// assert!(rt; de.variant(&["Dot"]).is_err());
     /// ```
-    pub fn disable_standard_enums(self) -> Deserializer<R>
-        ensures formats { formats_of result.items.formats
-            ≡ record (formats_of self.items.formats) { standard_enums = false } }
-        ensures source { result.items.source ≡ self.items.source }
-        ensures levels { result.items.levels ≡ self.items.levels }
+    pub fn disable_standard_enums(mut self) -> Deserializer<R>
+        ensures formats { formats_of result.decoder.formats
+            ≡ record (formats_of self.decoder.formats) { standard_enums = false } }
+        ensures source { result.decoder.source ≡ self.decoder.source }
+        ensures levels { result.decoder.levels ≡ self.decoder.levels }
     {
-        Deserializer {
-            items: self.items.disable_standard_enums(),
-        }
+        self.decoder.formats.standard_enums = false;
+        self
     }
 
     /// Enums that are an array are refused from now on with `WrongEnumFormat`, and, where
@@ -247,15 +243,14 @@ impl<R: Source> Deserializer<R> {
     /// let mut de = Deserializer::from_slice(alloc, b"\x82\x63Dot\x07").disable_legacy_enums();
     /// assert!(rt; de.variant(&["Dot"]).is_err());
     /// ```
-    pub fn disable_legacy_enums(self) -> Deserializer<R>
-        ensures formats { formats_of result.items.formats
-            ≡ record (formats_of self.items.formats) { legacy_enums = false } }
-        ensures source { result.items.source ≡ self.items.source }
-        ensures levels { result.items.levels ≡ self.items.levels }
+    pub fn disable_legacy_enums(mut self) -> Deserializer<R>
+        ensures formats { formats_of result.decoder.formats
+            ≡ record (formats_of self.decoder.formats) { legacy_enums = false } }
+        ensures source { result.decoder.source ≡ self.decoder.source }
+        ensures levels { result.decoder.levels ≡ self.decoder.levels }
     {
-        Deserializer {
-            items: self.items.disable_legacy_enums(),
-        }
+        self.decoder.formats.legacy_enums = false;
+        self
     }
 
     /// Ok where nothing is to come, and nothing is taken.
@@ -268,13 +263,17 @@ impl<R: Source> Deserializer<R> {
     /// assert_eq!(rt; u8::deserialize(&mut de)?, 1);
     /// assert!(rt; matches!(de.end(), Err(e) if e.offset() == 2)); // a second item
     /// ```
+    #[tactic(auto, using(crate::proofs::Faults::end_told))]
     pub fn end(&mut self) -> Result<()>
-        ensures read { Ends R.refusals (R.source self.old.items.source) result }
-        ensures takes { EndTakes R.refusals (R.source self.old.items.source)
-            (R.source self.new.items.source) result }
-        ensures levels { self.new.items.levels ≡ self.old.items.levels }
-        ensures formats { self.new.items.formats ≡ self.old.items.formats }
+        ensures read { Ends R.refusals (R.source self.old.decoder.source) result }
+        ensures takes { EndTakes R.refusals (R.source self.old.decoder.source)
+            (R.source self.new.decoder.source) result }
+        ensures levels { self.new.decoder.levels ≡ self.old.decoder.levels }
+        ensures formats { self.new.decoder.formats ≡ self.old.decoder.formats }
     {
-        self.items.end()
+        match self.decoder.ended() {
+            Ok(()) => Ok(()),
+            Err(refused) => Err(self.decoder.error(refused)),
+        }
     }
 }

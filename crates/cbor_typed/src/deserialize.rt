@@ -2,7 +2,7 @@
 
 ghost use Rattle.std.specs.Prelude.{◌≡◌, IfErr, OnOk};
 ghost use Rattle.cbor_read.specs.Source.{asks_for};
-ghost use Rattle.cbor_de.specs.Gives.{Onward};
+ghost use Rattle.cbor_decode.specs.Gives.{Onward};
 ghost use Rattle.cbor_scalars.specs.Takes.{TakesItem, TellsItem, MemoryFor, context, formats_of};
 ghost use Rattle.cbor_typed.specs.Forms.{MayTell};
 
@@ -202,24 +202,24 @@ pub trait Readable: Sized + Drop {
 pub trait Deserialize<'de, R: Read<'de>>: Readable {
     /// Reads the item at the front.
     fn deserialize(de: &mut Deserializer<R>) -> Result<Self>
-        ensures read { TakesItem R.refusals (formats_of de.old.items.formats)
-            (Self.reads (context de.old.items.formats R.lends)) de.old.items.levels
-            (R.source de.old.items.source) (R.source de.new.items.source) result }
+        ensures read { TakesItem R.refusals (formats_of de.old.decoder.formats)
+            (Self.reads (context de.old.decoder.formats R.lends)) de.old.decoder.levels
+            (R.source de.old.decoder.source) (R.source de.new.decoder.source) result }
         // A byte at the least, also of a source that doesn't tell its bytes.
-        ensures taken { OnOk result (Onward (R.source de.old.items.source)
-            (R.source de.new.items.source)) }
+        ensures taken { OnOk result (Onward (R.source de.old.decoder.source)
+            (R.source de.new.decoder.source)) }
         ensures fault { IfErr result (TellsItem Self.passes_over Self.total R.refusals
-            (formats_of de.old.items.formats) de.old.items.levels
-            (R.source de.old.items.source)) }
+            (formats_of de.old.decoder.formats) de.old.decoder.levels
+            (R.source de.old.decoder.source)) }
         ensures memory { IfErr result
             (MemoryFor (Self.asks_memory (asks_for R.refusals R.lends))
-            (formats_of de.old.items.formats)
-            (Self.reads (context de.old.items.formats R.lends)) de.old.items.levels
-            (R.source de.old.items.source)) }
+            (formats_of de.old.decoder.formats)
+            (Self.reads (context de.old.decoder.formats R.lends)) de.old.decoder.levels
+            (R.source de.old.decoder.source)) }
         ensures form { IfErr result (MayTell Self.wrong_forms
-            (formats_of de.old.items.formats) (R.source de.old.items.source)) }
-        ensures levels { de.new.items.levels ≡ de.old.items.levels }
-        ensures formats { de.new.items.formats ≡ de.old.items.formats };
+            (formats_of de.old.decoder.formats) (R.source de.old.decoder.source)) }
+        ensures levels { de.new.decoder.levels ≡ de.old.decoder.levels }
+        ensures formats { de.new.decoder.formats ≡ de.old.decoder.formats };
 }
 
 /// A type that borrows nothing: what it reads doesn't depend on what a source lends.

@@ -11,9 +11,9 @@ ghost use Rattle.cbor_model.specs.Raw.{AreBytes, longest_joined};
 ghost use Rattle.cbor_model.specs.Readable.{SpellsAs};
 ghost use Rattle.cbor_model.specs.Reader.{read_value, read_value_in};
 ghost use Rattle.cbor_io.specs.Error.{IsOutOfMemory};
-ghost use Rattle.cbor_de.specs.FirstRefusal.{TellsFirst};
-ghost use Rattle.cbor_de.specs.Gives.{Fails, FailsOrFaults, Gave};
-ghost use Rattle.cbor_de.specs.Gives.{IsMemoryOrFault, IsScratchOrMemory};
+ghost use Rattle.cbor_decode.specs.FirstRefusal.{TellsFirst};
+ghost use Rattle.cbor_decode.specs.Gives.{Fails, FailsOrFaults, Gave};
+ghost use Rattle.cbor_decode.specs.Gives.{IsMemoryOrFault, IsScratchOrMemory};
 ghost use Rattle.cbor_read.specs.Source.{asks_for, unread_reader, unread_slice};
 ghost use Rattle.cbor_scalars.specs.Takes.{context, formats_of, lending, MemoryFor, WhereTotal};
 ghost use Rattle.cbor_typed.specs.Forms.{MayTell};
@@ -44,18 +44,18 @@ fn read_all<'de, T: Deserialize<'de, R>, R: Read<'de> + Drop>(alloc: Global, sou
 
 // What the one item that is to come is read as.
 fn whole<'de, T: Deserialize<'de, R>, R: Read<'de>>(de: &mut Deserializer<R>) -> Result<T>
-    ensures read { ReadsAll R.refusals (formats_of de.old.items.formats)
-        (T.reads (context de.old.items.formats R.lends)) de.old.items.levels
-        (R.source de.old.items.source) result }
+    ensures read { ReadsAll R.refusals (formats_of de.old.decoder.formats)
+        (T.reads (context de.old.decoder.formats R.lends)) de.old.decoder.levels
+        (R.source de.old.decoder.source) result }
     ensures fault { IfErr result (TellsWhole T.passes_over T.total R.refusals
-        (formats_of de.old.items.formats) (T.reads (context de.old.items.formats R.lends))
-        de.old.items.levels (R.source de.old.items.source)) }
+        (formats_of de.old.decoder.formats) (T.reads (context de.old.decoder.formats R.lends))
+        de.old.decoder.levels (R.source de.old.decoder.source)) }
     ensures memory { IfErr result (MemoryFor
-        (T.asks_memory (asks_for R.refusals R.lends)) (formats_of de.old.items.formats)
-        (T.reads (context de.old.items.formats R.lends)) de.old.items.levels
-        (R.source de.old.items.source)) }
-    ensures form { IfErr result (MayTell T.wrong_forms (formats_of de.old.items.formats)
-        (R.source de.old.items.source)) }
+        (T.asks_memory (asks_for R.refusals R.lends)) (formats_of de.old.decoder.formats)
+        (T.reads (context de.old.decoder.formats R.lends)) de.old.decoder.levels
+        (R.source de.old.decoder.source)) }
+    ensures form { IfErr result (MayTell T.wrong_forms (formats_of de.old.decoder.formats)
+        (R.source de.old.decoder.source)) }
 {
     let value = match T::deserialize(de) {
         Ok(value) => value,

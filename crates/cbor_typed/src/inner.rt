@@ -7,9 +7,9 @@ ghost use Rattle.std.specs.Prelude.{◌≡◌, ◌<◌, [], ◌∷◌, Some, cod
 ghost use Rattle.std.specs.Prelude.{IfOk, IfErr, IfSome, MatchOption, OnOk, OnErr};
 ghost use Rattle.cbor_io.specs.Error.{code_of};
 ghost use Rattle.cbor_read.specs.Source.{RefusedByte, Stays};
-ghost use Rattle.cbor_de.specs.Gives.{IsErrorOf, Onward, TellsNoForm};
-ghost use Rattle.cbor_de.specs.declared.head.Head.TheVariants as kind;
-ghost use Rattle.cbor_de.specs.declared.refusal.Refused.TheVariants.{Kept};
+ghost use Rattle.cbor_decode.specs.Gives.{IsErrorOf, Onward, TellsNoForm};
+ghost use Rattle.cbor_decode.specs.declared.head.Head.TheVariants as kind;
+ghost use Rattle.cbor_decode.specs.declared.refusal.Refused.TheVariants.{Kept};
 ghost use Rattle.cbor_scalars.specs.Identifiers.{texts};
 ghost use Rattle.cbor_scalars.specs.Takes.{formats_of};
 ghost use Rattle.cbor_collections.specs.Begins.{TakesBeginning};
@@ -24,7 +24,7 @@ ghost use Rattle.cbor_collections.specs.Variants.{TakesVariant, TellsAlone, alon
 
 use crate::de::Deserializer;
 use cbor_collections::variant::Form;
-use cbor_de::Remaining;
+use cbor_decode::Remaining;
 use cbor_io::error::{Error, Result};
 use cbor_read::{Read, ReadError, Source};
 
@@ -33,17 +33,17 @@ use cbor_read::{Read, ReadError, Source};
 /// The next byte, which stays; None at the end.
 #[inline(always)]
 pub fn peek<R: Source>(de: &mut Deserializer<R>) -> std::result::Result<Option<u8>, ReadError>
-    ensures stays { OnOk result (Stays (R.source de.old.items.source)
-        (R.source de.new.items.source)) }
+    ensures stays { OnOk result (Stays (R.source de.old.decoder.source)
+        (R.source de.new.decoder.source)) }
     ensures front { IfOk result (λ o. MatchOption o
-        (IfSome (R.source de.old.items.source).to_come (λ bs. bs ≡ []))
-        (λ b. IfSome (R.source de.old.items.source).to_come (λ bs. take 1 bs ≡ b ∷ []))) }
-    ensures err { IfErr result (RefusedByte R.refusals (R.source de.old.items.source)
-        (R.source de.new.items.source)) }
-    ensures levels { de.new.items.levels ≡ de.old.items.levels }
-    ensures formats { de.new.items.formats ≡ de.old.items.formats }
+        (IfSome (R.source de.old.decoder.source).to_come (λ bs. bs ≡ []))
+        (λ b. IfSome (R.source de.old.decoder.source).to_come (λ bs. take 1 bs ≡ b ∷ []))) }
+    ensures err { IfErr result (RefusedByte R.refusals (R.source de.old.decoder.source)
+        (R.source de.new.decoder.source)) }
+    ensures levels { de.new.decoder.levels ≡ de.old.decoder.levels }
+    ensures formats { de.new.decoder.formats ≡ de.old.decoder.formats }
 {
-    de.items.source.peek()
+    de.decoder.source.peek()
 }
 
 /// The error of a call whose source refused.
@@ -51,12 +51,12 @@ pub fn peek<R: Source>(de: &mut Deserializer<R>) -> std::result::Result<Option<u
 #[inline(never)]
 pub fn error_of<R: Source>(de: &mut Deserializer<R>, refusal: ReadError) -> Error
     ensures tells { IsErrorOf refusal Kept result }
-    ensures source { de.new.items.source ≡ de.old.items.source }
-    ensures levels { de.new.items.levels ≡ de.old.items.levels }
-    ensures formats { de.new.items.formats ≡ de.old.items.formats }
+    ensures source { de.new.decoder.source ≡ de.old.decoder.source }
+    ensures levels { de.new.decoder.levels ≡ de.old.decoder.levels }
+    ensures formats { de.new.decoder.formats ≡ de.old.decoder.formats }
 {
-    let refused = de.items.keep(refusal);
-    de.items.error(refused)
+    let refused = de.decoder.keep(refusal);
+    de.decoder.error(refused)
 }
 
 // ---- levels
@@ -64,11 +64,11 @@ pub fn error_of<R: Source>(de: &mut Deserializer<R>, refusal: ReadError) -> Erro
 /// Leaves arrays, maps and tags, up to where so many levels were left.
 #[inline(always)]
 pub fn leave_to<R>(de: &mut Deserializer<R>, outer: u64)
-    ensures levels { de.new.items.levels ≡ outer }
-    ensures source { de.new.items.source ≡ de.old.items.source }
-    ensures formats { de.new.items.formats ≡ de.old.items.formats }
+    ensures levels { de.new.decoder.levels ≡ outer }
+    ensures source { de.new.decoder.source ≡ de.old.decoder.source }
+    ensures formats { de.new.decoder.formats ≡ de.old.decoder.formats }
 {
-    de.items.levels = outer;
+    de.decoder.levels = outer;
 }
 
 // ---- maps
@@ -76,20 +76,20 @@ pub fn leave_to<R>(de: &mut Deserializer<R>, outer: u64)
 /// Takes the tags and the head of a map, and goes one level in, as [`Deserializer::map`] does.
 #[inline(always)]
 pub fn map_head<R: Source>(de: &mut Deserializer<R>) -> Result<Remaining>
-    ensures read { TakesMapHead R.refusals (formats_of de.old.items.formats)
-        de.old.items.levels (R.source de.old.items.source)
-        (R.source de.new.items.source) de.new.items.levels result }
-    ensures taken { OnOk result (Onward (R.source de.old.items.source)
-        (R.source de.new.items.source)) }
-    ensures opened { TakesBeginning kind.Map R.refusals de.old.items.levels
-        (R.source de.old.items.source) (R.source de.new.items.source)
-        de.new.items.levels result }
+    ensures read { TakesMapHead R.refusals (formats_of de.old.decoder.formats)
+        de.old.decoder.levels (R.source de.old.decoder.source)
+        (R.source de.new.decoder.source) de.new.decoder.levels result }
+    ensures taken { OnOk result (Onward (R.source de.old.decoder.source)
+        (R.source de.new.decoder.source)) }
+    ensures opened { TakesBeginning kind.Map R.refusals de.old.decoder.levels
+        (R.source de.old.decoder.source) (R.source de.new.decoder.source)
+        de.new.decoder.levels result }
     ensures no_form { IfErr result (λ e. TellsNoForm (code_of e)) }
-    ensures inside { IfOk result (λ r. de.new.items.levels < de.old.items.levels) }
-    ensures outer { OnErr result (de.new.items.levels ≡ de.old.items.levels) }
-    ensures formats { de.new.items.formats ≡ de.old.items.formats }
+    ensures inside { IfOk result (λ r. de.new.decoder.levels < de.old.decoder.levels) }
+    ensures outer { OnErr result (de.new.decoder.levels ≡ de.old.decoder.levels) }
+    ensures formats { de.new.decoder.formats ≡ de.old.decoder.formats }
 {
-    cbor_collections::map::map_head(&mut de.items)
+    cbor_collections::map::map_head(&mut de.decoder)
 }
 
 /// Takes the end of a map of which so much remains. Pairs that weren't read are refused with
@@ -97,12 +97,12 @@ pub fn map_head<R: Source>(de: &mut Deserializer<R>) -> Result<Remaining>
 #[inline(always)]
 pub fn end_map<R: Source>(de: &mut Deserializer<R>, remaining: Remaining) -> Result<()>
     ensures read { TakesMapEnd R.refusals remaining
-        (R.source de.old.items.source) (R.source de.new.items.source) result }
+        (R.source de.old.decoder.source) (R.source de.new.decoder.source) result }
     ensures no_form { IfErr result (λ e. TellsNoForm (code_of e)) }
-    ensures levels { de.new.items.levels ≡ de.old.items.levels }
-    ensures formats { de.new.items.formats ≡ de.old.items.formats }
+    ensures levels { de.new.decoder.levels ≡ de.old.decoder.levels }
+    ensures formats { de.new.decoder.formats ≡ de.old.decoder.formats }
 {
-    cbor_collections::map::end_map(&mut de.items, remaining)
+    cbor_collections::map::end_map(&mut de.decoder, remaining)
 }
 
 // ---- enums
@@ -114,27 +114,27 @@ pub fn variant_head<'de, R: Read<'de>>(
     de: &mut Deserializer<R>,
     names: &[&str],
 ) -> Result<(usize, Form)>
-    ensures read { TakesVariant R.refusals (formats_of de.old.items.formats)
-        (texts names.now) de.old.items.levels
-        (R.source de.old.items.source) (R.source de.new.items.source)
-        de.new.items.levels result }
-    ensures taken { OnOk result (Onward (R.source de.old.items.source)
-        (R.source de.new.items.source)) }
+    ensures read { TakesVariant R.refusals (formats_of de.old.decoder.formats)
+        (texts names.now) de.old.decoder.levels
+        (R.source de.old.decoder.source) (R.source de.new.decoder.source)
+        de.new.decoder.levels result }
+    ensures taken { OnOk result (Onward (R.source de.old.decoder.source)
+        (R.source de.new.decoder.source)) }
     ensures opened { TakesVariantHead R.refusals
-        (formats_of de.old.items.formats) (texts names.now) de.old.items.levels
-        (R.source de.old.items.source) (R.source de.new.items.source)
-        de.new.items.levels result }
-    ensures cases { IfErr result (λ e. Stands (R.source de.old.items.source) e
-        (enum_cases (formats_of de.old.items.formats)
-        de.old.items.levels)) }
+        (formats_of de.old.decoder.formats) (texts names.now) de.old.decoder.levels
+        (R.source de.old.decoder.source) (R.source de.new.decoder.source)
+        de.new.decoder.levels result }
+    ensures cases { IfErr result (λ e. Stands (R.source de.old.decoder.source) e
+        (enum_cases (formats_of de.old.decoder.formats)
+        de.old.decoder.levels)) }
     ensures code { IfErr result (λ e. IsEnumCode (code_of e)) }
     ensures below { IfOk result (λ v. v.0 < length names.now) }
-    ensures inside { IfOk result (λ v. IsInside v.1 de.new.items.levels
-        de.old.items.levels) }
-    ensures outer { OnErr result (de.new.items.levels ≡ de.old.items.levels) }
-    ensures formats { de.new.items.formats ≡ de.old.items.formats }
+    ensures inside { IfOk result (λ v. IsInside v.1 de.new.decoder.levels
+        de.old.decoder.levels) }
+    ensures outer { OnErr result (de.new.decoder.levels ≡ de.old.decoder.levels) }
+    ensures formats { de.new.decoder.formats ≡ de.old.decoder.formats }
 {
-    cbor_collections::variant::variant_head(&mut de.items, names)
+    cbor_collections::variant::variant_head(&mut de.decoder, names)
 }
 
 /// Takes the content of a variant of several parts up to the first of them.
@@ -143,20 +143,20 @@ pub fn variant_head<'de, R: Read<'de>>(
 /// a map an item that is no array as [`Deserializer::array`] refuses it.
 #[inline(always)]
 pub fn parts<R: Source>(de: &mut Deserializer<R>, form: Form) -> Result<Remaining>
-    ensures read { TakesParts R.refusals (formats_of de.old.items.formats)
-        de.old.items.levels form
-        (R.source de.old.items.source) (R.source de.new.items.source)
-        de.new.items.levels result }
-    ensures opened { TakesPartsHead R.refusals de.old.items.levels form
-        (R.source de.old.items.source) (R.source de.new.items.source)
-        de.new.items.levels result }
+    ensures read { TakesParts R.refusals (formats_of de.old.decoder.formats)
+        de.old.decoder.levels form
+        (R.source de.old.decoder.source) (R.source de.new.decoder.source)
+        de.new.decoder.levels result }
+    ensures opened { TakesPartsHead R.refusals de.old.decoder.levels form
+        (R.source de.old.decoder.source) (R.source de.new.decoder.source)
+        de.new.decoder.levels result }
     ensures alone { IfErr result (TellsAlone (alone_text (codes "tuple")) form) }
     ensures no_form { IfErr result (λ e. TellsNoForm (code_of e)) }
-    ensures inside { IfOk result (λ r. IsEntered form de.old.items.levels
-        de.new.items.levels) }
-    ensures formats { de.new.items.formats ≡ de.old.items.formats }
+    ensures inside { IfOk result (λ r. IsEntered form de.old.decoder.levels
+        de.new.decoder.levels) }
+    ensures formats { de.new.decoder.formats ≡ de.old.decoder.formats }
 {
-    cbor_collections::variant::parts(&mut de.items, form)
+    cbor_collections::variant::parts(&mut de.decoder, form)
 }
 
 /// Reads the content of a variant of no part: nothing, or null or undefined where the enum is an
@@ -165,15 +165,15 @@ pub fn parts<R: Source>(de: &mut Deserializer<R>, form: Form) -> Result<Remainin
 /// An array in which nothing follows the identifier is refused with `ArrayTooLong`.
 #[inline(always)]
 pub fn no_part<R: Source>(de: &mut Deserializer<R>, form: Form) -> Result<()>
-    ensures read { TakesContent R.refusals (formats_of de.old.items.formats)
+    ensures read { TakesContent R.refusals (formats_of de.old.decoder.formats)
         IsNothing
-        de.old.items.levels form
-        (R.source de.old.items.source) (R.source de.new.items.source) result }
-    ensures cases { IfErr result (λ e. Stands (R.source de.old.items.source) e
+        de.old.decoder.levels form
+        (R.source de.old.decoder.source) (R.source de.new.decoder.source) result }
+    ensures cases { IfErr result (λ e. Stands (R.source de.old.decoder.source) e
         (unit_cases form)) }
     ensures code { IfErr result (λ e. FormAlone ArrayTooLong (code_of e)) }
-    ensures levels { de.new.items.levels ≡ de.old.items.levels }
-    ensures formats { de.new.items.formats ≡ de.old.items.formats }
+    ensures levels { de.new.decoder.levels ≡ de.old.decoder.levels }
+    ensures formats { de.new.decoder.formats ≡ de.old.decoder.formats }
 {
-    cbor_collections::variant::no_part(&mut de.items, form)
+    cbor_collections::variant::no_part(&mut de.decoder, form)
 }

@@ -3,7 +3,7 @@
 
 ghost use Rattle.std.specs.Prelude.{◌≡◌, IfErr, OnOk};
 ghost use Rattle.cbor_model.specs.Readable.{PassesTags};
-ghost use Rattle.cbor_de.specs.Gives.{Onward};
+ghost use Rattle.cbor_decode.specs.Gives.{Onward};
 ghost use Rattle.cbor_collections.specs.Accesses.{TakesPart};
 ghost use Rattle.cbor_collections.specs.Arrays.{AsArray};
 ghost use Rattle.cbor_scalars.specs.Takes.{TakesItem, context, formats_of};
@@ -14,7 +14,7 @@ use crate::de::Deserializer;
 use crate::deserialize::{Deserialize, Readable};
 use crate::sequence::invalid_length;
 use cbor_collections::array::{array_head, end_array, more_items};
-use cbor_de::Remaining;
+use cbor_decode::Remaining;
 use cbor_io::error::Result;
 use cbor_read::Read;
 
@@ -37,12 +37,12 @@ pub trait ReadableTuple: Sized + Drop {
 pub trait ReadTuple<'de, R: Read<'de>>: ReadableTuple {
     /// Reads the items of an array that remain, of which none was read, and its end.
     fn read_tuple(de: &mut Deserializer<R>, remaining: Remaining) -> Result<Self>
-        ensures read { TakesItems R.refusals (formats_of de.old.items.formats)
-            (Self.parts (context de.old.items.formats R.lends)) de.old.items.levels remaining
-            (R.source de.old.items.source) (R.source de.new.items.source) result }
+        ensures read { TakesItems R.refusals (formats_of de.old.decoder.formats)
+            (Self.parts (context de.old.decoder.formats R.lends)) de.old.decoder.levels remaining
+            (R.source de.old.decoder.source) (R.source de.new.decoder.source) result }
         ensures form { IfErr result (MayTell Self.wrong_forms
-            (formats_of de.old.items.formats) (R.source de.old.items.source)) }
-        ensures formats { de.new.items.formats ≡ de.old.items.formats };
+            (formats_of de.old.decoder.formats) (R.source de.old.decoder.source)) }
+        ensures formats { de.new.decoder.formats ≡ de.old.decoder.formats };
 }
 
 // Reads an array of exactly these items.
@@ -51,30 +51,30 @@ pub trait ReadTuple<'de, R: Read<'de>>: ReadableTuple {
 pub(crate) fn read_array<'de, R: Read<'de>, T: ReadTuple<'de, R>>(
     de: &mut Deserializer<R>,
 ) -> Result<T>
-    ensures read { TakesItem R.refusals (formats_of de.old.items.formats)
-        (PassesTags (AsArray (T.parts (context de.old.items.formats R.lends))))
-        de.old.items.levels (R.source de.old.items.source)
-        (R.source de.new.items.source) result }
-    ensures taken { OnOk result (Onward (R.source de.old.items.source)
-        (R.source de.new.items.source)) }
+    ensures read { TakesItem R.refusals (formats_of de.old.decoder.formats)
+        (PassesTags (AsArray (T.parts (context de.old.decoder.formats R.lends))))
+        de.old.decoder.levels (R.source de.old.decoder.source)
+        (R.source de.new.decoder.source) result }
+    ensures taken { OnOk result (Onward (R.source de.old.decoder.source)
+        (R.source de.new.decoder.source)) }
     ensures form { IfErr result (MayTell T.wrong_forms
-        (formats_of de.old.items.formats) (R.source de.old.items.source)) }
-    ensures levels { de.new.items.levels ≡ de.old.items.levels }
-    ensures formats { de.new.items.formats ≡ de.old.items.formats }
+        (formats_of de.old.decoder.formats) (R.source de.old.decoder.source)) }
+    ensures levels { de.new.decoder.levels ≡ de.old.decoder.levels }
+    ensures formats { de.new.decoder.formats ≡ de.old.decoder.formats }
 {
-    let outer = de.items.levels;
-    let remaining = match array_head(&mut de.items) {
+    let outer = de.decoder.levels;
+    let remaining = match array_head(&mut de.decoder) {
         Ok(remaining) => remaining,
         Err(e) => return Err(e),
     };
     // A result that is kept while the levels are set would be moved whole.
     match T::read_tuple(de, remaining) {
         Ok(tuple) => {
-            de.items.levels = outer;
+            de.decoder.levels = outer;
             Ok(tuple)
         }
         Err(e) => {
-            de.items.levels = outer;
+            de.decoder.levels = outer;
             Err(e)
         }
     }
@@ -105,12 +105,12 @@ pub(crate) trait ReadItems<'de, R: Read<'de>>: ItemList {
         before: usize,
         expected: usize,
     ) -> Result<Self>
-        ensures read { TakesItems R.refusals (formats_of de.old.items.formats)
-            (Self.parts (context de.old.items.formats R.lends)) de.old.items.levels remaining
-            (R.source de.old.items.source) (R.source de.new.items.source) result }
+        ensures read { TakesItems R.refusals (formats_of de.old.decoder.formats)
+            (Self.parts (context de.old.decoder.formats R.lends)) de.old.decoder.levels remaining
+            (R.source de.old.decoder.source) (R.source de.new.decoder.source) result }
         ensures form { IfErr result (MayTell Self.wrong_forms
-            (formats_of de.old.items.formats) (R.source de.old.items.source)) }
-        ensures formats { de.new.items.formats ≡ de.old.items.formats };
+            (formats_of de.old.decoder.formats) (R.source de.old.decoder.source)) }
+        ensures formats { de.new.decoder.formats ≡ de.old.decoder.formats };
 }
 
 impl ItemList for () {
@@ -130,7 +130,7 @@ impl<'de, R: Read<'de>> ReadItems<'de, R> for () {
         _before: usize,
         _expected: usize,
     ) -> Result<()> {
-        end_array(&mut de.items, remaining)
+        end_array(&mut de.decoder, remaining)
     }
 }
 
@@ -171,18 +171,18 @@ fn next_part<'de, R: Read<'de>, T: Deserialize<'de, R>>(
     before: usize,
     expected: usize,
 ) -> Result<T>
-    ensures read { TakesPart R.refusals (formats_of de.old.items.formats)
-        (T.reads (context de.old.items.formats R.lends))
-        de.old.items.levels remaining.old remaining.new
-        (R.source de.old.items.source) (R.source de.new.items.source) result }
+    ensures read { TakesPart R.refusals (formats_of de.old.decoder.formats)
+        (T.reads (context de.old.decoder.formats R.lends))
+        de.old.decoder.levels remaining.old remaining.new
+        (R.source de.old.decoder.source) (R.source de.new.decoder.source) result }
     ensures form { IfErr result (MayTell T.wrong_forms
-        (formats_of de.old.items.formats) (R.source de.old.items.source)) }
-    ensures levels { de.new.items.levels ≡ de.old.items.levels }
-    ensures formats { de.new.items.formats ≡ de.old.items.formats }
+        (formats_of de.old.decoder.formats) (R.source de.old.decoder.source)) }
+    ensures levels { de.new.decoder.levels ≡ de.old.decoder.levels }
+    ensures formats { de.new.decoder.formats ≡ de.old.decoder.formats }
 {
-    match more_items(&mut de.items, remaining) {
+    match more_items(&mut de.decoder, remaining) {
         Ok(true) => T::deserialize(de),
-        Ok(false) => Err(invalid_length(de.items.alloc, before, expected)),
+        Ok(false) => Err(invalid_length(de.decoder.alloc, before, expected)),
         Err(e) => Err(e),
     }
 }

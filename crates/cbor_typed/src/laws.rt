@@ -3,7 +3,7 @@ ghost use Rattle.cbor_typed.specs.Alike.{SourcesAgree, OwnedAgree};
 ghost use Rattle.cbor_typed.specs.FirstOfItem.{ItemRefusedFirst};
 ghost use Rattle.cbor_typed.specs.ItemTaken.{ItemTaken};
 ghost use Rattle.cbor_typed.specs.HeadsTaken.{HeadsTaken};
-ghost use Rattle.cbor_de.specs.declared.head.Head.TheVariants.{Array, Map};
+ghost use Rattle.cbor_decode.specs.declared.head.Head.TheVariants.{Array, Map};
 
 use crate::deserialize::{DeserializeOwned, Readable};
 

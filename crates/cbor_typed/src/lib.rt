@@ -28,7 +28,7 @@ mod types;
 mod variant;
 
 pub use cbor_collections::variant::Form;
-pub use cbor_de::{Formats, Remaining};
+pub use cbor_decode::{Formats, Remaining};
 pub use cbor_read::{
     EitherLifetime, IoRead, MutSliceRead, Offset, Read, ReadError, ReadErrorCode, SliceRead,
     SliceReadFixed, Source,

@@ -4,12 +4,12 @@ ghost use Rattle.std.specs.Prelude.{◌≡◌, ◌<◌, ◌≤◌, true, false, 
 ghost use Rattle.std.specs.Option.{is_some};
 ghost use Rattle.std.specs.Borrow.{sem, RestsIfErr};
 ghost use Rattle.cbor_model.specs.Reader.{item_at};
-ghost use Rattle.cbor_de.specs.declared.cursor.Remaining.TheVariants.{Counted};
+ghost use Rattle.cbor_decode.specs.declared.cursor.Remaining.TheVariants.{Counted};
 ghost use Rattle.cbor_io.specs.Error.{code_of};
-ghost use Rattle.cbor_de.specs.Gives.{Onward, Step, TellsNoForm};
+ghost use Rattle.cbor_decode.specs.Gives.{Onward, Step, TellsNoForm};
 ghost use Rattle.cbor_io.specs.declared.error.Error.{Error};
 ghost use Rattle.cbor_collections.specs.Begins.{Begins, RefusesBeginning};
-ghost use Rattle.cbor_de.specs.declared.head.Head.TheVariants as kind;
+ghost use Rattle.cbor_decode.specs.declared.head.Head.TheVariants as kind;
 ghost use Rattle.cbor_collections.specs.Accesses.{turns, size_of};
 ghost use Rattle.cbor_collections.specs.Cases.{TellsBadKey};
 ghost use Rattle.cbor_collections.specs.MapAccesses.{IsMapHead, RefusesMap, TakesKey};
@@ -22,7 +22,7 @@ ghost use Rattle.cbor_typed.specs.contracts.de.Deserializer.{the_row};
 use crate::de::Deserializer;
 use crate::deserialize::Deserialize;
 use cbor_collections::map::{end_map, map_head, more_pairs};
-use cbor_de::Remaining;
+use cbor_decode::Remaining;
 use cbor_io::error::{Error, Result};
 use cbor_read::{Read, Source};
 
@@ -43,36 +43,36 @@ impl<R: Source> Deserializer<R> {
     /// ```
     pub fn map<'a>(&'a mut self) -> Result<MapAccess<'a, R>>
         ensures* rests { sem 𝓛 (RestsIfErr (the_row R.row) self.entry (λ m. m.de.ghost_name) result
-            (λ last. (last.items.levels ≡ self.old.items.levels)
-            × (last.items.formats ≡ self.old.items.formats)
-            × TookSome (R.source self.old.items.source) (R.source last.items.source))) }
+            (λ last. (last.decoder.levels ≡ self.old.decoder.levels)
+            × (last.decoder.formats ≡ self.old.decoder.formats)
+            × TookSome (R.source self.old.decoder.source) (R.source last.decoder.source))) }
         ensures same_reference { IfOk result (λ m. m.de.ghost_name ≡ self.entry.ghost_name) }
-        ensures head { IfOk result (λ m. Step (R.source self.old.items.source)
-            (R.source m.de.now.items.source)
-            (λ l bs rest. IsMapHead (formats_of self.old.items.formats) l
-            (item_at (raws (formats_of self.old.items.formats) l) self.old.items.levels bs)
-            m.de.now.items.levels m.remaining rest)) }
-        ensures refused { IfErr result (WhateverTaken (R.source self.old.items.source)
-            (RefusesMap R.refusals (formats_of self.old.items.formats)
-            self.old.items.levels (R.source self.old.items.source))) }
+        ensures head { IfOk result (λ m. Step (R.source self.old.decoder.source)
+            (R.source m.de.now.decoder.source)
+            (λ l bs rest. IsMapHead (formats_of self.old.decoder.formats) l
+            (item_at (raws (formats_of self.old.decoder.formats) l) self.old.decoder.levels bs)
+            m.de.now.decoder.levels m.remaining rest)) }
+        ensures refused { IfErr result (WhateverTaken (R.source self.old.decoder.source)
+            (RefusesMap R.refusals (formats_of self.old.decoder.formats)
+            self.old.decoder.levels (R.source self.old.decoder.source))) }
         // The head alone, whatever follows it.
-        ensures opened { IfOk result (λ m. Step (R.source self.old.items.source)
-            (R.source m.de.now.items.source)
-            (λ l bs rest. Begins kind.Map self.old.items.levels m.de.now.items.levels m.remaining
+        ensures opened { IfOk result (λ m. Step (R.source self.old.decoder.source)
+            (R.source m.de.now.decoder.source)
+            (λ l bs rest. Begins kind.Map self.old.decoder.levels m.de.now.decoder.levels m.remaining
             bs rest)) }
-        ensures unopened { IfErr result (WhateverTaken (R.source self.old.items.source)
+        ensures unopened { IfErr result (WhateverTaken (R.source self.old.decoder.source)
             (RefusesBeginning kind.Map R.refusals
-            self.old.items.levels (R.source self.old.items.source))) }
+            self.old.decoder.levels (R.source self.old.decoder.source))) }
         ensures no_form { IfErr result (λ e. TellsNoForm (code_of e)) }
-        ensures taken { IfOk result (λ m. Onward (R.source self.old.items.source)
-            (R.source m.de.now.items.source)) }
-        ensures outer { IfOk result (λ m. m.outer ≡ self.old.items.levels) }
-        ensures inside { IfOk result (λ m. m.de.now.items.levels < m.outer) }
-        ensures formats { IfOk result (λ m. m.de.now.items.formats ≡ self.old.items.formats) }
+        ensures taken { IfOk result (λ m. Onward (R.source self.old.decoder.source)
+            (R.source m.de.now.decoder.source)) }
+        ensures outer { IfOk result (λ m. m.outer ≡ self.old.decoder.levels) }
+        ensures inside { IfOk result (λ m. m.de.now.decoder.levels < m.outer) }
+        ensures formats { IfOk result (λ m. m.de.now.decoder.formats ≡ self.old.decoder.formats) }
         ensures due { IfOk result (λ m. m.value_due ≡ false) }
     {
-        let outer = self.items.levels;
-        let remaining = map_head(&mut self.items)?;
+        let outer = self.decoder.levels;
+        let remaining = map_head(&mut self.decoder)?;
         Ok(MapAccess {
             de: self,
             remaining,
@@ -119,38 +119,38 @@ impl<'a, R: Source> MapAccess<'a, R> {
     where
         R: Read<'de>,
         // The access is live: no call on it has answered Err.
-        requires live { self.old.de.now.items.levels < self.old.outer }
+        requires live { self.old.de.now.decoder.levels < self.old.outer }
         requires due { self.old.value_due ≡ false }
         ensures same_reference { self.new.de.ghost_name ≡ self.old.de.ghost_name }
-        ensures read { TakesKey R.refusals (formats_of self.old.de.now.items.formats)
-            (K.reads (context self.old.de.now.items.formats R.lends))
-            self.old.de.now.items.levels self.old.remaining self.new.remaining
-            (R.source self.old.de.now.items.source) (R.source self.new.de.now.items.source) result }
+        ensures read { TakesKey R.refusals (formats_of self.old.de.now.decoder.formats)
+            (K.reads (context self.old.de.now.decoder.formats R.lends))
+            self.old.de.now.decoder.levels self.old.remaining self.new.remaining
+            (R.source self.old.de.now.decoder.source) (R.source self.new.de.now.decoder.source) result }
         // Nothing remains after the last pair, and a loop over the pairs ends.
         ensures remains { IfOk result (λ next. MatchOption next
             (self.new.remaining ≡ Counted 0)
-            (λ k. turns self.new.remaining (R.source self.new.de.now.items.source)
-            < turns self.old.remaining (R.source self.old.de.now.items.source))) }
+            (λ k. turns self.new.remaining (R.source self.new.de.now.decoder.source)
+            < turns self.old.remaining (R.source self.old.de.now.decoder.source))) }
         ensures form { IfErr result (MayTell (both key_form K.wrong_forms)
-            (formats_of self.old.de.now.items.formats)
-            (R.source self.old.de.now.items.source)) }
+            (formats_of self.old.de.now.decoder.formats)
+            (R.source self.old.de.now.decoder.source)) }
         // Of a key that may begin as it does, it is the reading of `K` that refuses.
         ensures bad_key { IfErr result (TellsBadKey R.refusals
-            (formats_of self.old.de.now.items.formats) self.old.remaining
-            (R.source self.old.de.now.items.source)) }
+            (formats_of self.old.de.now.decoder.formats) self.old.remaining
+            (R.source self.old.de.now.decoder.source)) }
         ensures due { IfOk result (λ next. self.new.value_due ≡ is_some next) }
         ensures inside { IfOk result (λ k.
-            self.new.de.now.items.levels ≡ self.old.de.now.items.levels) }
-        ensures left { IfErr result (λ e. self.new.de.now.items.levels ≡ self.old.outer) }
+            self.new.de.now.decoder.levels ≡ self.old.de.now.decoder.levels) }
+        ensures left { IfErr result (λ e. self.new.de.now.decoder.levels ≡ self.old.outer) }
         ensures outer { self.new.outer ≡ self.old.outer }
-        ensures formats { self.new.de.now.items.formats ≡ self.old.de.now.items.formats }
+        ensures formats { self.new.de.now.decoder.formats ≡ self.old.de.now.decoder.formats }
     {
-        match more_pairs(&mut self.de.items, &mut self.remaining) {
+        match more_pairs(&mut self.de.decoder, &mut self.remaining) {
             Ok(true) => {}
             Ok(false) => return Ok(None),
             Err(refused) => {
-                self.de.items.levels = self.outer;
-                return Err(self.de.items.error(refused));
+                self.de.decoder.levels = self.outer;
+                return Err(self.de.decoder.error(refused));
             }
         }
         match K::deserialize(self.de) {
@@ -159,7 +159,7 @@ impl<'a, R: Source> MapAccess<'a, R> {
                 Ok(Some(key))
             }
             Err(e) => {
-                self.de.items.levels = self.outer;
+                self.de.decoder.levels = self.outer;
                 Err(e)
             }
         }
@@ -170,27 +170,27 @@ impl<'a, R: Source> MapAccess<'a, R> {
     pub fn next_value<'de, V: Deserialize<'de, R>>(&mut self) -> Result<V>
     where
         R: Read<'de>,
-        requires live { self.old.de.now.items.levels < self.old.outer }
+        requires live { self.old.de.now.decoder.levels < self.old.outer }
         requires due { self.old.value_due ≡ true }
         ensures same_reference { self.new.de.ghost_name ≡ self.old.de.ghost_name }
-        ensures read { TakesItem R.refusals (formats_of self.old.de.now.items.formats)
-            (V.reads (context self.old.de.now.items.formats R.lends))
-            self.old.de.now.items.levels
-            (R.source self.old.de.now.items.source) (R.source self.new.de.now.items.source) result }
+        ensures read { TakesItem R.refusals (formats_of self.old.de.now.decoder.formats)
+            (V.reads (context self.old.de.now.decoder.formats R.lends))
+            self.old.de.now.decoder.levels
+            (R.source self.old.de.now.decoder.source) (R.source self.new.de.now.decoder.source) result }
         ensures form { IfErr result (MayTell V.wrong_forms
-            (formats_of self.old.de.now.items.formats)
-            (R.source self.old.de.now.items.source)) }
+            (formats_of self.old.de.now.decoder.formats)
+            (R.source self.old.de.now.decoder.source)) }
         ensures due { IfOk result (λ v. self.new.value_due ≡ false) }
         ensures inside { IfOk result (λ v.
-            self.new.de.now.items.levels ≡ self.old.de.now.items.levels) }
-        ensures left { IfErr result (λ e. self.new.de.now.items.levels ≡ self.old.outer) }
+            self.new.de.now.decoder.levels ≡ self.old.de.now.decoder.levels) }
+        ensures left { IfErr result (λ e. self.new.de.now.decoder.levels ≡ self.old.outer) }
         ensures outer { self.new.outer ≡ self.old.outer }
         ensures remaining { self.new.remaining ≡ self.old.remaining }
         // A loop over the pairs ends.
         ensures remains { IfOk result (λ v.
-            turns self.new.remaining (R.source self.new.de.now.items.source)
-            ≤ turns self.old.remaining (R.source self.old.de.now.items.source)) }
-        ensures formats { self.new.de.now.items.formats ≡ self.old.de.now.items.formats }
+            turns self.new.remaining (R.source self.new.de.now.decoder.source)
+            ≤ turns self.old.remaining (R.source self.old.de.now.decoder.source)) }
+        ensures formats { self.new.de.now.decoder.formats ≡ self.old.de.now.decoder.formats }
     {
         match V::deserialize(self.de) {
             Ok(value) => {
@@ -198,7 +198,7 @@ impl<'a, R: Source> MapAccess<'a, R> {
                 Ok(value)
             }
             Err(e) => {
-                self.de.items.levels = self.outer;
+                self.de.decoder.levels = self.outer;
                 Err(e)
             }
         }
@@ -221,14 +221,14 @@ impl<'a, R: Source> MapAccess<'a, R> {
     /// was declared; else after the first byte of the next key, or with `EofWhileParsingMap` where
     /// there is none.
     pub fn end(self) -> Result<()>
-        requires live { self.de.now.items.levels < self.outer }
+        requires live { self.de.now.decoder.levels < self.outer }
         requires due { self.value_due ≡ false }
         ensures read { TakesMapEnd R.refusals self.entry.remaining
-            (R.source self.entry.de.now.items.source) (R.source self.exit.0.now.items.source)
+            (R.source self.entry.de.now.decoder.source) (R.source self.exit.0.now.decoder.source)
             result }
         ensures no_form { IfErr result (λ e. TellsNoForm (code_of e)) }
-        ensures levels { self.exit.0.now.items.levels ≡ self.entry.outer }
-        ensures formats { self.exit.0.now.items.formats ≡ self.entry.de.now.items.formats }
+        ensures levels { self.exit.0.now.decoder.levels ≡ self.entry.outer }
+        ensures formats { self.exit.0.now.decoder.formats ≡ self.entry.de.now.decoder.formats }
     {
         let MapAccess {
             de,
@@ -236,17 +236,17 @@ impl<'a, R: Source> MapAccess<'a, R> {
             outer,
             value_due: _,
         } = self;
-        de.items.levels = outer;
-        end_map(&mut de.items, remaining)
+        de.decoder.levels = outer;
+        end_map(&mut de.decoder, remaining)
     }
 
     /// Leaves the map for this error, which it passes on.
     pub fn refuse(self, e: Error) -> Error
-        requires { self.de.now.items.levels < self.outer }
+        requires { self.de.now.decoder.levels < self.outer }
         ensures error { result ≡ e }
-        ensures source { self.exit.0.now.items.source ≡ self.entry.de.now.items.source }
-        ensures levels { self.exit.0.now.items.levels ≡ self.entry.outer }
-        ensures formats { self.exit.0.now.items.formats ≡ self.entry.de.now.items.formats }
+        ensures source { self.exit.0.now.decoder.source ≡ self.entry.de.now.decoder.source }
+        ensures levels { self.exit.0.now.decoder.levels ≡ self.entry.outer }
+        ensures formats { self.exit.0.now.decoder.formats ≡ self.entry.de.now.decoder.formats }
     {
         let MapAccess {
             de,
@@ -254,7 +254,7 @@ impl<'a, R: Source> MapAccess<'a, R> {
             outer,
             value_due: _,
         } = self;
-        de.items.levels = outer;
+        de.decoder.levels = outer;
         e
     }
 }

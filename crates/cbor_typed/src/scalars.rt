@@ -6,7 +6,7 @@ ghost use types.Logic.{sem};
 ghost use Rattle.cbor_model.specs.Readable.{PassesTags, IsBool, IsInteger, IsUnit};
 ghost use Rattle.cbor_model.specs.Reader.{item_at};
 ghost use Rattle.cbor_io.specs.Error.{code_of};
-ghost use Rattle.cbor_de.specs.Gives.{Onward, TellsNoForm, TellsNoKey};
+ghost use Rattle.cbor_decode.specs.Gives.{Onward, TellsNoForm, TellsNoKey};
 ghost use Rattle.cbor_scalars.specs.Opens.{OpensAt};
 ghost use Rattle.cbor_scalars.specs.Scalars.{IsFloatItem};
 ghost use Rattle.cbor_scalars.specs.Strings.{IsMadeOf, IsNoKey, LendsBytes, LendsString, LendsText};
@@ -18,7 +18,7 @@ ghost use Rattle.cbor_scalars.specs.Takes.{ReadsWhole, RefusesWhole, raws};
 ghost use Rattle.cbor_typed.specs.contracts.de.Deserializer.{the_row as typed_row};
 
 use crate::de::Deserializer;
-use cbor_de::{Done, Head};
+use cbor_decode::{Done, Head};
 use cbor_io::error::{Error, Result};
 use cbor_read::{EitherLifetime, Read, Source};
 use cbor_scalars::lent::{EitherStr, Unread};
@@ -34,21 +34,21 @@ impl<R: Source> Deserializer<R> {
     /// What isn't whole is refused by its fault, and another item by a message.
     #[inline(always)]
     pub fn read_bool(&mut self) -> Result<bool>
-        ensures read { TakesItem R.refusals (formats_of self.old.items.formats) (PassesTags IsBool)
-            self.old.items.levels
-            (R.source self.old.items.source) (R.source self.new.items.source)
+        ensures read { TakesItem R.refusals (formats_of self.old.decoder.formats) (PassesTags IsBool)
+            self.old.decoder.levels
+            (R.source self.old.decoder.source) (R.source self.new.decoder.source)
             result }
-        ensures taken { OnOk result (Onward (R.source self.old.items.source)
-            (R.source self.new.items.source)) }
-        ensures fault { IfErr result (RefusesWhole R.refusals self.old.items.levels
-            (R.source self.old.items.source)) }
+        ensures taken { OnOk result (Onward (R.source self.old.decoder.source)
+            (R.source self.new.decoder.source)) }
+        ensures fault { IfErr result (RefusesWhole R.refusals self.old.decoder.levels
+            (R.source self.old.decoder.source)) }
         ensures no_form { IfErr result (λ e. TellsNoForm (code_of e)) }
-        ensures memory { IfErr result (TakesNoMemory (formats_of self.old.items.formats)
-            (PassesTags IsBool) self.old.items.levels (R.source self.old.items.source)) }
-        ensures levels { self.new.items.levels ≡ self.old.items.levels }
-        ensures formats { self.new.items.formats ≡ self.old.items.formats }
+        ensures memory { IfErr result (TakesNoMemory (formats_of self.old.decoder.formats)
+            (PassesTags IsBool) self.old.decoder.levels (R.source self.old.decoder.source)) }
+        ensures levels { self.new.decoder.levels ≡ self.old.decoder.levels }
+        ensures formats { self.new.decoder.formats ≡ self.old.decoder.formats }
     {
-        scalar::read_bool(&mut self.items)
+        scalar::read_bool(&mut self.decoder)
     }
 
     /// Reads a float of 16, 32 or 64 bits (RFC 7049, section 2.3).
@@ -56,21 +56,21 @@ impl<R: Source> Deserializer<R> {
     /// What isn't whole is refused by its fault, and another item by a message.
     #[inline(always)]
     pub fn read_float(&mut self) -> Result<Float>
-        ensures read { TakesItem R.refusals (formats_of self.old.items.formats)
-            (PassesTags IsFloatItem) self.old.items.levels
-            (R.source self.old.items.source) (R.source self.new.items.source)
+        ensures read { TakesItem R.refusals (formats_of self.old.decoder.formats)
+            (PassesTags IsFloatItem) self.old.decoder.levels
+            (R.source self.old.decoder.source) (R.source self.new.decoder.source)
             result }
-        ensures taken { OnOk result (Onward (R.source self.old.items.source)
-            (R.source self.new.items.source)) }
-        ensures fault { ReadsWhole R.refusals self.old.items.levels
-            (R.source self.old.items.source) result }
+        ensures taken { OnOk result (Onward (R.source self.old.decoder.source)
+            (R.source self.new.decoder.source)) }
+        ensures fault { ReadsWhole R.refusals self.old.decoder.levels
+            (R.source self.old.decoder.source) result }
         ensures no_form { IfErr result (λ e. TellsNoForm (code_of e)) }
-        ensures memory { IfErr result (TakesNoMemory (formats_of self.old.items.formats)
-            (PassesTags IsFloatItem) self.old.items.levels (R.source self.old.items.source)) }
-        ensures levels { self.new.items.levels ≡ self.old.items.levels }
-        ensures formats { self.new.items.formats ≡ self.old.items.formats }
+        ensures memory { IfErr result (TakesNoMemory (formats_of self.old.decoder.formats)
+            (PassesTags IsFloatItem) self.old.decoder.levels (R.source self.old.decoder.source)) }
+        ensures levels { self.new.decoder.levels ≡ self.old.decoder.levels }
+        ensures formats { self.new.decoder.formats ≡ self.old.decoder.formats }
     {
-        scalar::read_float(&mut self.items)
+        scalar::read_float(&mut self.decoder)
     }
 
     /// Reads null or undefined (RFC 7049, section 2.3).
@@ -78,21 +78,21 @@ impl<R: Source> Deserializer<R> {
     /// What isn't whole is refused by its fault, and another item by a message.
     #[inline(always)]
     pub fn read_unit(&mut self) -> Result<()>
-        ensures read { TakesItem R.refusals (formats_of self.old.items.formats) (PassesTags IsUnit)
-            self.old.items.levels
-            (R.source self.old.items.source) (R.source self.new.items.source)
+        ensures read { TakesItem R.refusals (formats_of self.old.decoder.formats) (PassesTags IsUnit)
+            self.old.decoder.levels
+            (R.source self.old.decoder.source) (R.source self.new.decoder.source)
             result }
-        ensures taken { OnOk result (Onward (R.source self.old.items.source)
-            (R.source self.new.items.source)) }
-        ensures fault { IfErr result (RefusesWhole R.refusals self.old.items.levels
-            (R.source self.old.items.source)) }
+        ensures taken { OnOk result (Onward (R.source self.old.decoder.source)
+            (R.source self.new.decoder.source)) }
+        ensures fault { IfErr result (RefusesWhole R.refusals self.old.decoder.levels
+            (R.source self.old.decoder.source)) }
         ensures no_form { IfErr result (λ e. TellsNoForm (code_of e)) }
-        ensures memory { IfErr result (TakesNoMemory (formats_of self.old.items.formats)
-            (PassesTags IsUnit) self.old.items.levels (R.source self.old.items.source)) }
-        ensures levels { self.new.items.levels ≡ self.old.items.levels }
-        ensures formats { self.new.items.formats ≡ self.old.items.formats }
+        ensures memory { IfErr result (TakesNoMemory (formats_of self.old.decoder.formats)
+            (PassesTags IsUnit) self.old.decoder.levels (R.source self.old.decoder.source)) }
+        ensures levels { self.new.decoder.levels ≡ self.old.decoder.levels }
+        ensures formats { self.new.decoder.formats ≡ self.old.decoder.formats }
     {
-        scalar::read_unit(&mut self.items)
+        scalar::read_unit(&mut self.decoder)
     }
 
     /// Reads a whole number. What isn't whole is refused by its fault, and another item by a
@@ -104,20 +104,20 @@ impl<R: Source> Deserializer<R> {
     /// ```
     #[inline(always)]
     pub fn read_integer(&mut self) -> Result<i128>
-        ensures read { TakesItem R.refusals (formats_of self.old.items.formats)
-            (PassesTags IsInteger) self.old.items.levels
-            (R.source self.old.items.source) (R.source self.new.items.source) result }
-        ensures taken { OnOk result (Onward (R.source self.old.items.source)
-            (R.source self.new.items.source)) }
-        ensures fault { IfErr result (RefusesWhole R.refusals self.old.items.levels
-            (R.source self.old.items.source)) }
+        ensures read { TakesItem R.refusals (formats_of self.old.decoder.formats)
+            (PassesTags IsInteger) self.old.decoder.levels
+            (R.source self.old.decoder.source) (R.source self.new.decoder.source) result }
+        ensures taken { OnOk result (Onward (R.source self.old.decoder.source)
+            (R.source self.new.decoder.source)) }
+        ensures fault { IfErr result (RefusesWhole R.refusals self.old.decoder.levels
+            (R.source self.old.decoder.source)) }
         ensures no_form { IfErr result (λ e. TellsNoForm (code_of e)) }
-        ensures memory { IfErr result (TakesNoMemory (formats_of self.old.items.formats)
-            (PassesTags IsInteger) self.old.items.levels (R.source self.old.items.source)) }
-        ensures levels { self.new.items.levels ≡ self.old.items.levels }
-        ensures formats { self.new.items.formats ≡ self.old.items.formats }
+        ensures memory { IfErr result (TakesNoMemory (formats_of self.old.decoder.formats)
+            (PassesTags IsInteger) self.old.decoder.levels (R.source self.old.decoder.source)) }
+        ensures levels { self.new.decoder.levels ≡ self.old.decoder.levels }
+        ensures formats { self.new.decoder.formats ≡ self.old.decoder.formats }
     {
-        integer::read_integer(&mut self.items)
+        integer::read_integer(&mut self.decoder)
     }
 
     /// The error of a string that wasn't lent; the message is for an item of another kind.
@@ -126,11 +126,11 @@ impl<R: Source> Deserializer<R> {
     pub fn unread(&mut self, why: Unread, message: &str) -> Error
         ensures made { IsMadeOf why result }
         ensures no_form { IsNoKey why → TellsNoForm (code_of result) }
-        ensures source { self.new.items.source ≡ self.old.items.source }
-        ensures levels { self.new.items.levels ≡ self.old.items.levels }
-        ensures formats { self.new.items.formats ≡ self.old.items.formats }
+        ensures source { self.new.decoder.source ≡ self.old.decoder.source }
+        ensures levels { self.new.decoder.levels ≡ self.old.decoder.levels }
+        ensures formats { self.new.decoder.formats ≡ self.old.decoder.formats }
     {
-        lent::unread_error(&mut self.items, why, message)
+        lent::unread_error(&mut self.decoder, why, message)
     }
 }
 
@@ -140,19 +140,19 @@ impl<'de, R: Read<'de>> Deserializer<R> {
     #[inline(always)]
     pub fn read_text<'a>(&'a mut self) -> Lent<EitherStr<'a, 'de>>
         ensures* after_borrow { sem 𝓛 (Rests (typed_row R.row) self.entry (λ new.
-            (new.items.levels ≡ self.old.items.levels)
-            × (new.items.formats ≡ self.old.items.formats)
-            × LendsText R.refusals (context self.old.items.formats R.lends) self.old.items.levels
-            (R.source self.old.items.source) (R.source new.items.source) result
+            (new.decoder.levels ≡ self.old.decoder.levels)
+            × (new.decoder.formats ≡ self.old.decoder.formats)
+            × LendsText R.refusals (context self.old.decoder.formats R.lends) self.old.decoder.levels
+            (R.source self.old.decoder.source) (R.source new.decoder.source) result
             × IfErr result IsNoKey
             × IfErr result (UnreadOnly (AsksToLend AsksForString (asks_for R.refusals R.lends)
-            (formats_of self.old.items.formats) self.old.items.levels
-            (R.source self.old.items.source)))
-            × LendsWhole R.refusals self.old.items.levels
-            (R.source self.old.items.source) result
-            × OnOk result (Onward (R.source self.old.items.source) (R.source new.items.source)))) }
+            (formats_of self.old.decoder.formats) self.old.decoder.levels
+            (R.source self.old.decoder.source)))
+            × LendsWhole R.refusals self.old.decoder.levels
+            (R.source self.old.decoder.source) result
+            × OnOk result (Onward (R.source self.old.decoder.source) (R.source new.decoder.source)))) }
     {
-        lent::read_text(&mut self.items)
+        lent::read_text(&mut self.decoder)
     }
 
     /// Lends the bytes of a byte string, or of a text. It refuses as
@@ -160,37 +160,37 @@ impl<'de, R: Read<'de>> Deserializer<R> {
     #[inline(always)]
     pub fn read_bytes<'a>(&'a mut self) -> Lent<EitherLifetime<'a, 'de>>
         ensures* after_borrow { sem 𝓛 (Rests (typed_row R.row) self.entry (λ new.
-            (new.items.levels ≡ self.old.items.levels)
-            × (new.items.formats ≡ self.old.items.formats)
-            × LendsString R.refusals (context self.old.items.formats R.lends) self.old.items.levels
-            (R.source self.old.items.source) (R.source new.items.source) result
+            (new.decoder.levels ≡ self.old.decoder.levels)
+            × (new.decoder.formats ≡ self.old.decoder.formats)
+            × LendsString R.refusals (context self.old.decoder.formats R.lends) self.old.decoder.levels
+            (R.source self.old.decoder.source) (R.source new.decoder.source) result
             × IfErr result IsNoKey
             × IfErr result (UnreadOnly (AsksToLend AsksForString (asks_for R.refusals R.lends)
-            (formats_of self.old.items.formats) self.old.items.levels
-            (R.source self.old.items.source)))
-            × LendsWhole R.refusals self.old.items.levels
-            (R.source self.old.items.source) result
-            × OnOk result (Onward (R.source self.old.items.source) (R.source new.items.source)))) }
+            (formats_of self.old.decoder.formats) self.old.decoder.levels
+            (R.source self.old.decoder.source)))
+            × LendsWhole R.refusals self.old.decoder.levels
+            (R.source self.old.decoder.source) result
+            × OnOk result (Onward (R.source self.old.decoder.source) (R.source new.decoder.source)))) }
     {
-        lent::read_bytes(&mut self.items)
+        lent::read_bytes(&mut self.decoder)
     }
 
     /// Lends the bytes of a byte string.
     #[inline(always)]
     pub(crate) fn read_byte_string<'a>(&'a mut self) -> Lent<EitherLifetime<'a, 'de>>
         ensures* after_borrow { sem 𝓛 (Rests (typed_row R.row) self.entry (λ new.
-            (new.items.levels ≡ self.old.items.levels)
-            × (new.items.formats ≡ self.old.items.formats)
-            × LendsBytes R.refusals (context self.old.items.formats R.lends) self.old.items.levels
-            (R.source self.old.items.source) (R.source new.items.source) result
+            (new.decoder.levels ≡ self.old.decoder.levels)
+            × (new.decoder.formats ≡ self.old.decoder.formats)
+            × LendsBytes R.refusals (context self.old.decoder.formats R.lends) self.old.decoder.levels
+            (R.source self.old.decoder.source) (R.source new.decoder.source) result
             × IfErr result IsNoKey
             × IfErr result (UnreadOnly (AsksToLend AsksForBytes (asks_for R.refusals R.lends)
-            (formats_of self.old.items.formats) self.old.items.levels
-            (R.source self.old.items.source)))
-            × LendsWhole R.refusals self.old.items.levels
-            (R.source self.old.items.source) result
-            × OnOk result (Onward (R.source self.old.items.source) (R.source new.items.source)))) }
+            (formats_of self.old.decoder.formats) self.old.decoder.levels
+            (R.source self.old.decoder.source)))
+            × LendsWhole R.refusals self.old.decoder.levels
+            (R.source self.old.decoder.source) result
+            × OnOk result (Onward (R.source self.old.decoder.source) (R.source new.decoder.source)))) }
     {
-        lent::read_byte_string(&mut self.items)
+        lent::read_byte_string(&mut self.decoder)
     }
 }

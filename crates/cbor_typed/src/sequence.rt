@@ -1,13 +1,13 @@
 //! Arrays, one item after the other (RFC 7049, section 2.1, major type 4).
 
 ghost use Rattle.std.specs.Prelude.{◌≡◌, ◌<◌, IfOk, IfErr, MatchOption};
-ghost use Rattle.cbor_de.specs.declared.cursor.Remaining.TheVariants.{Counted};
+ghost use Rattle.cbor_decode.specs.declared.cursor.Remaining.TheVariants.{Counted};
 ghost use Rattle.std.specs.Borrow.{sem, RestsIfErr};
 ghost use Rattle.cbor_model.specs.Reader.{item_at};
 ghost use Rattle.cbor_io.specs.Error.{code_of, offset_of};
-ghost use Rattle.cbor_de.specs.Gives.{Onward, Step, TellsNoForm};
+ghost use Rattle.cbor_decode.specs.Gives.{Onward, Step, TellsNoForm};
 ghost use Rattle.cbor_collections.specs.Begins.{Begins, RefusesBeginning};
-ghost use Rattle.cbor_de.specs.declared.head.Head.TheVariants as kind;
+ghost use Rattle.cbor_decode.specs.declared.head.Head.TheVariants as kind;
 ghost use Rattle.cbor_collections.specs.Accesses.{IsArrayHead, RefusesArray, TakesNext};
 ghost use Rattle.cbor_collections.specs.Accesses.{TakesPart, TakesEnd, turns, size_of};
 ghost use Rattle.cbor_read.specs.Source.{TookSome};
@@ -18,7 +18,7 @@ ghost use Rattle.cbor_typed.specs.contracts.de.Deserializer.{the_row};
 use crate::de::Deserializer;
 use crate::deserialize::Deserialize;
 use cbor_collections::array::{array_head, end_array, more_items};
-use cbor_de::Remaining;
+use cbor_decode::Remaining;
 use cbor_io::error::{Error, Result};
 use cbor_read::{Read, Source};
 use std::alloc::Global;
@@ -42,35 +42,35 @@ impl<R: Source> Deserializer<R> {
     /// ```
     pub fn array<'a>(&'a mut self) -> Result<SeqAccess<'a, R>>
         ensures* rests { sem 𝓛 (RestsIfErr (the_row R.row) self.entry (λ s. s.de.ghost_name) result
-            (λ last. (last.items.levels ≡ self.old.items.levels)
-            × (last.items.formats ≡ self.old.items.formats)
-            × TookSome (R.source self.old.items.source) (R.source last.items.source))) }
+            (λ last. (last.decoder.levels ≡ self.old.decoder.levels)
+            × (last.decoder.formats ≡ self.old.decoder.formats)
+            × TookSome (R.source self.old.decoder.source) (R.source last.decoder.source))) }
         ensures same_reference { IfOk result (λ s. s.de.ghost_name ≡ self.entry.ghost_name) }
-        ensures head { IfOk result (λ s. Step (R.source self.old.items.source)
-            (R.source s.de.now.items.source)
-            (λ l bs rest. IsArrayHead (formats_of self.old.items.formats) l
-            (item_at (raws (formats_of self.old.items.formats) l) self.old.items.levels bs)
-            s.de.now.items.levels s.remaining rest)) }
-        ensures refused { IfErr result (WhateverTaken (R.source self.old.items.source)
-            (RefusesArray R.refusals (formats_of self.old.items.formats)
-            self.old.items.levels (R.source self.old.items.source))) }
+        ensures head { IfOk result (λ s. Step (R.source self.old.decoder.source)
+            (R.source s.de.now.decoder.source)
+            (λ l bs rest. IsArrayHead (formats_of self.old.decoder.formats) l
+            (item_at (raws (formats_of self.old.decoder.formats) l) self.old.decoder.levels bs)
+            s.de.now.decoder.levels s.remaining rest)) }
+        ensures refused { IfErr result (WhateverTaken (R.source self.old.decoder.source)
+            (RefusesArray R.refusals (formats_of self.old.decoder.formats)
+            self.old.decoder.levels (R.source self.old.decoder.source))) }
         // The head alone, whatever follows it.
-        ensures opened { IfOk result (λ s. Step (R.source self.old.items.source)
-            (R.source s.de.now.items.source)
-            (λ l bs rest. Begins kind.Array self.old.items.levels s.de.now.items.levels s.remaining
+        ensures opened { IfOk result (λ s. Step (R.source self.old.decoder.source)
+            (R.source s.de.now.decoder.source)
+            (λ l bs rest. Begins kind.Array self.old.decoder.levels s.de.now.decoder.levels s.remaining
             bs rest)) }
-        ensures unopened { IfErr result (WhateverTaken (R.source self.old.items.source)
+        ensures unopened { IfErr result (WhateverTaken (R.source self.old.decoder.source)
             (RefusesBeginning kind.Array R.refusals
-            self.old.items.levels (R.source self.old.items.source))) }
+            self.old.decoder.levels (R.source self.old.decoder.source))) }
         ensures no_form { IfErr result (λ e. TellsNoForm (code_of e)) }
-        ensures taken { IfOk result (λ s. Onward (R.source self.old.items.source)
-            (R.source s.de.now.items.source)) }
-        ensures outer { IfOk result (λ s. s.outer ≡ self.old.items.levels) }
-        ensures inside { IfOk result (λ s. s.de.now.items.levels < s.outer) }
-        ensures formats { IfOk result (λ s. s.de.now.items.formats ≡ self.old.items.formats) }
+        ensures taken { IfOk result (λ s. Onward (R.source self.old.decoder.source)
+            (R.source s.de.now.decoder.source)) }
+        ensures outer { IfOk result (λ s. s.outer ≡ self.old.decoder.levels) }
+        ensures inside { IfOk result (λ s. s.de.now.decoder.levels < s.outer) }
+        ensures formats { IfOk result (λ s. s.de.now.decoder.formats ≡ self.old.decoder.formats) }
     {
-        let outer = self.items.levels;
-        let remaining = array_head(&mut self.items)?;
+        let outer = self.decoder.levels;
+        let remaining = array_head(&mut self.decoder)?;
         Ok(SeqAccess {
             de: self,
             remaining,
@@ -129,38 +129,38 @@ impl<'a, R: Source> SeqAccess<'a, R> {
     where
         R: Read<'de>,
         // The access is live: no call on it has answered Err.
-        requires { self.old.de.now.items.levels < self.old.outer }
+        requires { self.old.de.now.decoder.levels < self.old.outer }
         ensures same_reference { self.new.de.ghost_name ≡ self.old.de.ghost_name }
-        ensures read { TakesNext R.refusals (formats_of self.old.de.now.items.formats)
-            (T.reads (context self.old.de.now.items.formats R.lends))
-            self.old.de.now.items.levels self.old.remaining self.new.remaining
-            (R.source self.old.de.now.items.source) (R.source self.new.de.now.items.source) result }
+        ensures read { TakesNext R.refusals (formats_of self.old.de.now.decoder.formats)
+            (T.reads (context self.old.de.now.decoder.formats R.lends))
+            self.old.de.now.decoder.levels self.old.remaining self.new.remaining
+            (R.source self.old.de.now.decoder.source) (R.source self.new.de.now.decoder.source) result }
         ensures form { IfErr result (MayTell T.wrong_forms
-            (formats_of self.old.de.now.items.formats)
-            (R.source self.old.de.now.items.source)) }
+            (formats_of self.old.de.now.decoder.formats)
+            (R.source self.old.de.now.decoder.source)) }
         // Nothing remains after the last item, and a loop over the items ends.
         ensures remains { IfOk result (λ next. MatchOption next
             (self.new.remaining ≡ Counted 0)
-            (λ x. turns self.new.remaining (R.source self.new.de.now.items.source)
-            < turns self.old.remaining (R.source self.old.de.now.items.source))) }
+            (λ x. turns self.new.remaining (R.source self.new.de.now.decoder.source)
+            < turns self.old.remaining (R.source self.old.de.now.decoder.source))) }
         ensures inside { IfOk result (λ x.
-            self.new.de.now.items.levels ≡ self.old.de.now.items.levels) }
-        ensures left { IfErr result (λ e. self.new.de.now.items.levels ≡ self.old.outer) }
+            self.new.de.now.decoder.levels ≡ self.old.de.now.decoder.levels) }
+        ensures left { IfErr result (λ e. self.new.de.now.decoder.levels ≡ self.old.outer) }
         ensures outer { self.new.outer ≡ self.old.outer }
-        ensures formats { self.new.de.now.items.formats ≡ self.old.de.now.items.formats }
+        ensures formats { self.new.de.now.decoder.formats ≡ self.old.de.now.decoder.formats }
     {
-        match more_items(&mut self.de.items, &mut self.remaining) {
+        match more_items(&mut self.de.decoder, &mut self.remaining) {
             Ok(true) => {}
             Ok(false) => return Ok(None),
             Err(e) => {
-                self.de.items.levels = self.outer;
+                self.de.decoder.levels = self.outer;
                 return Err(e);
             }
         }
         match T::deserialize(self.de) {
             Ok(item) => Ok(Some(item)),
             Err(e) => {
-                self.de.items.levels = self.outer;
+                self.de.decoder.levels = self.outer;
                 Err(e)
             }
         }
@@ -185,26 +185,26 @@ impl<'a, R: Source> SeqAccess<'a, R> {
     pub fn part<'de, T: Deserialize<'de, R>>(&mut self, before: usize, expected: usize) -> Result<T>
     where
         R: Read<'de>,
-        requires { self.old.de.now.items.levels < self.old.outer }
+        requires { self.old.de.now.decoder.levels < self.old.outer }
         ensures same_reference { self.new.de.ghost_name ≡ self.old.de.ghost_name }
-        ensures read { TakesPart R.refusals (formats_of self.old.de.now.items.formats)
-            (T.reads (context self.old.de.now.items.formats R.lends))
-            self.old.de.now.items.levels self.old.remaining self.new.remaining
-            (R.source self.old.de.now.items.source) (R.source self.new.de.now.items.source) result }
+        ensures read { TakesPart R.refusals (formats_of self.old.de.now.decoder.formats)
+            (T.reads (context self.old.de.now.decoder.formats R.lends))
+            self.old.de.now.decoder.levels self.old.remaining self.new.remaining
+            (R.source self.old.de.now.decoder.source) (R.source self.new.de.now.decoder.source) result }
         ensures form { IfErr result (MayTell T.wrong_forms
-            (formats_of self.old.de.now.items.formats)
-            (R.source self.old.de.now.items.source)) }
+            (formats_of self.old.de.now.decoder.formats)
+            (R.source self.old.de.now.decoder.source)) }
         ensures inside { IfOk result (λ x.
-            self.new.de.now.items.levels ≡ self.old.de.now.items.levels) }
-        ensures left { IfErr result (λ e. self.new.de.now.items.levels ≡ self.old.outer) }
+            self.new.de.now.decoder.levels ≡ self.old.de.now.decoder.levels) }
+        ensures left { IfErr result (λ e. self.new.de.now.decoder.levels ≡ self.old.outer) }
         ensures outer { self.new.outer ≡ self.old.outer }
-        ensures formats { self.new.de.now.items.formats ≡ self.old.de.now.items.formats }
+        ensures formats { self.new.de.now.decoder.formats ≡ self.old.de.now.decoder.formats }
     {
         match self.next_element::<T>() {
             Ok(Some(item)) => Ok(item),
             Ok(None) => {
-                self.de.items.levels = self.outer;
-                Err(invalid_length(self.de.items.alloc, before, expected))
+                self.de.decoder.levels = self.outer;
+                Err(invalid_length(self.de.decoder.alloc, before, expected))
             }
             Err(e) => Err(e),
         }
@@ -227,37 +227,37 @@ impl<'a, R: Source> SeqAccess<'a, R> {
     /// was declared; else after the first byte of the next item, or with `EofWhileParsingArray`
     /// where there is none.
     pub fn end(self) -> Result<()>
-        requires { self.de.now.items.levels < self.outer }
+        requires { self.de.now.decoder.levels < self.outer }
         ensures read { TakesEnd R.refusals self.entry.remaining
-            (R.source self.entry.de.now.items.source) (R.source self.exit.0.now.items.source)
+            (R.source self.entry.de.now.decoder.source) (R.source self.exit.0.now.decoder.source)
             result }
         ensures no_form { IfErr result (λ e. TellsNoForm (code_of e)) }
-        ensures levels { self.exit.0.now.items.levels ≡ self.entry.outer }
-        ensures formats { self.exit.0.now.items.formats ≡ self.entry.de.now.items.formats }
+        ensures levels { self.exit.0.now.decoder.levels ≡ self.entry.outer }
+        ensures formats { self.exit.0.now.decoder.formats ≡ self.entry.de.now.decoder.formats }
     {
         let SeqAccess {
             de,
             remaining,
             outer,
         } = self;
-        de.items.levels = outer;
-        end_array(&mut de.items, remaining)
+        de.decoder.levels = outer;
+        end_array(&mut de.decoder, remaining)
     }
 
     /// Leaves the array for this error, which it passes on.
     pub fn refuse(self, e: Error) -> Error
-        requires { self.de.now.items.levels < self.outer }
+        requires { self.de.now.decoder.levels < self.outer }
         ensures error { result ≡ e }
-        ensures source { self.exit.0.now.items.source ≡ self.entry.de.now.items.source }
-        ensures levels { self.exit.0.now.items.levels ≡ self.entry.outer }
-        ensures formats { self.exit.0.now.items.formats ≡ self.entry.de.now.items.formats }
+        ensures source { self.exit.0.now.decoder.source ≡ self.entry.de.now.decoder.source }
+        ensures levels { self.exit.0.now.decoder.levels ≡ self.entry.outer }
+        ensures formats { self.exit.0.now.decoder.formats ≡ self.entry.de.now.decoder.formats }
     {
         let SeqAccess {
             de,
             remaining: _,
             outer,
         } = self;
-        de.items.levels = outer;
+        de.decoder.levels = outer;
         e
     }
 }

@@ -67,8 +67,8 @@ impl<R: Source> Deserializer<R> {
     pub fn into_iter<'de, T: Deserialize<'de, R>>(self) -> StreamDeserializer<'de, R, T>
     where
         R: Read<'de>,
-        ensures begun { standing R.source result ≡ begun (R.source self.items.source)
-            self.items.levels (formats_of self.items.formats) }
+        ensures begun { standing R.source result ≡ begun (R.source self.decoder.source)
+            self.decoder.levels (formats_of self.decoder.formats) }
     {
         StreamDeserializer {
             de: self,
@@ -110,8 +110,8 @@ impl<'de, R: Read<'de> + Drop, T: Deserialize<'de, R>> Iterator for StreamDeseri
             return None;
         }
         // An offset is below 2^64: by that a loop over the items ends.
-        let _offset = self.de.items.source.offset();
-        match self.de.items.source.peek() {
+        let _offset = self.de.decoder.source.offset();
+        match self.de.decoder.source.peek() {
             Ok(Some(_)) => {}
             Ok(None) => return None,
             Err(refusal) => {

@@ -7,10 +7,10 @@ ghost use Rattle.std.specs.Borrow.{sem, RestsIfErr};
 ghost use Rattle.cbor_io.specs.Error.{code_of, offset_of, IsMessageOf};
 ghost use Rattle.cbor_io.specs.declared.error.Error.{Error};
 ghost use Rattle.cbor_model.specs.Reader.{item_at};
-ghost use Rattle.cbor_de.specs.declared.cursor.Remaining.TheVariants.{Counted};
-ghost use Rattle.cbor_de.specs.Gives.{Onward, Step, TellsNoForm};
+ghost use Rattle.cbor_decode.specs.declared.cursor.Remaining.TheVariants.{Counted};
+ghost use Rattle.cbor_decode.specs.Gives.{Onward, Step, TellsNoForm};
 ghost use Rattle.cbor_collections.specs.Begins.{Begins, RefusesBeginning};
-ghost use Rattle.cbor_de.specs.declared.head.Head.TheVariants as kind;
+ghost use Rattle.cbor_decode.specs.declared.head.Head.TheVariants as kind;
 ghost use Rattle.cbor_collections.specs.Accesses.{turns, size_of};
 ghost use Rattle.cbor_io.specs.declared.error.ErrorCode.TheVariants.{WrongStructFormat};
 ghost use Rattle.cbor_collections.specs.Cases.{FormAlone, Stands, TellsBadKey, key_cases};
@@ -27,7 +27,7 @@ use crate::de::Deserializer;
 use crate::deserialize::Deserialize;
 use crate::types::IgnoredAny;
 use cbor_collections::map::{end_map, map_head, more_pairs};
-use cbor_de::Remaining;
+use cbor_decode::Remaining;
 use cbor_io::error::{Error, Result};
 use cbor_read::{Read, Source};
 use cbor_scalars::identifier::{Named, Why, identifier, unnamed};
@@ -66,39 +66,39 @@ impl<R: Source> Deserializer<R> {
     pub fn structure<'a>(&'a mut self, names: &'a [&'a str]) -> Result<StructAccess<'a, R>>
         ensures* rests { sem 𝓛 (RestsIfErr (the_row R.row) self.entry
             (λ m. m.de.ghost_name) result
-            (λ last. (last.items.levels ≡ self.old.items.levels)
-            × (last.items.formats ≡ self.old.items.formats)
-            × TookSome (R.source self.old.items.source) (R.source last.items.source))) }
+            (λ last. (last.decoder.levels ≡ self.old.decoder.levels)
+            × (last.decoder.formats ≡ self.old.decoder.formats)
+            × TookSome (R.source self.old.decoder.source) (R.source last.decoder.source))) }
         ensures same_reference { IfOk result (λ m.
             m.de.ghost_name ≡ self.entry.ghost_name) }
-        ensures head { IfOk result (λ m. Step (R.source self.old.items.source)
-            (R.source m.de.now.items.source)
-            (λ l bs rest. IsMapHead (formats_of self.old.items.formats) l
-            (item_at (raws (formats_of self.old.items.formats) l) self.old.items.levels bs)
-            m.de.now.items.levels m.remaining rest)) }
-        ensures refused { IfErr result (WhateverTaken (R.source self.old.items.source)
-            (RefusesMap R.refusals (formats_of self.old.items.formats)
-            self.old.items.levels (R.source self.old.items.source))) }
+        ensures head { IfOk result (λ m. Step (R.source self.old.decoder.source)
+            (R.source m.de.now.decoder.source)
+            (λ l bs rest. IsMapHead (formats_of self.old.decoder.formats) l
+            (item_at (raws (formats_of self.old.decoder.formats) l) self.old.decoder.levels bs)
+            m.de.now.decoder.levels m.remaining rest)) }
+        ensures refused { IfErr result (WhateverTaken (R.source self.old.decoder.source)
+            (RefusesMap R.refusals (formats_of self.old.decoder.formats)
+            self.old.decoder.levels (R.source self.old.decoder.source))) }
         // The head alone, whatever follows it.
-        ensures opened { IfOk result (λ m. Step (R.source self.old.items.source)
-            (R.source m.de.now.items.source)
-            (λ l bs rest. Begins kind.Map self.old.items.levels m.de.now.items.levels m.remaining
+        ensures opened { IfOk result (λ m. Step (R.source self.old.decoder.source)
+            (R.source m.de.now.decoder.source)
+            (λ l bs rest. Begins kind.Map self.old.decoder.levels m.de.now.decoder.levels m.remaining
             bs rest)) }
-        ensures unopened { IfErr result (WhateverTaken (R.source self.old.items.source)
+        ensures unopened { IfErr result (WhateverTaken (R.source self.old.decoder.source)
             (RefusesBeginning kind.Map R.refusals
-            self.old.items.levels (R.source self.old.items.source))) }
+            self.old.decoder.levels (R.source self.old.decoder.source))) }
         ensures no_form { IfErr result (λ e. TellsNoForm (code_of e)) }
-        ensures taken { IfOk result (λ m. Onward (R.source self.old.items.source)
-            (R.source m.de.now.items.source)) }
-        ensures outer { IfOk result (λ m. m.outer ≡ self.old.items.levels) }
-        ensures inside { IfOk result (λ m. m.de.now.items.levels < m.outer) }
+        ensures taken { IfOk result (λ m. Onward (R.source self.old.decoder.source)
+            (R.source m.de.now.decoder.source)) }
+        ensures outer { IfOk result (λ m. m.outer ≡ self.old.decoder.levels) }
+        ensures inside { IfOk result (λ m. m.de.now.decoder.levels < m.outer) }
         ensures formats { IfOk result (λ m.
-            m.de.now.items.formats ≡ self.old.items.formats) }
+            m.de.now.decoder.formats ≡ self.old.decoder.formats) }
         ensures due { IfOk result (λ m. m.value_due ≡ false) }
         ensures names { IfOk result (λ m. texts m.names.now ≡ texts names.now) }
     {
-        let outer = self.items.levels;
-        let remaining = map_head(&mut self.items)?;
+        let outer = self.decoder.levels;
+        let remaining = map_head(&mut self.decoder)?;
         Ok(StructAccess {
             de: self,
             remaining,
@@ -113,18 +113,18 @@ impl<'de, R: Read<'de>> Deserializer<R> {
     // Reads the field that a key names.
     #[inline(always)]
     fn field(&mut self, names: &[&str]) -> Named<Field>
-        ensures read { OnceMade (IsMadeBy self.new.items.refusal)
-            (TakesItem R.refusals (formats_of self.old.items.formats)
-            (IsField (texts names.now)) self.old.items.levels
-            (R.source self.old.items.source) (R.source self.new.items.source)) result }
+        ensures read { OnceMade (IsMadeBy self.new.decoder.refusal)
+            (TakesItem R.refusals (formats_of self.old.decoder.formats)
+            (IsField (texts names.now)) self.old.decoder.levels
+            (R.source self.old.decoder.source) (R.source self.new.decoder.source)) result }
         ensures taken { OnOk result
-            (Onward (R.source self.old.items.source) (R.source self.new.items.source)) }
+            (Onward (R.source self.old.decoder.source) (R.source self.new.decoder.source)) }
         ensures below { IfOk result (λ field. IfSome (place_in field) (λ i. i < length names.now)) }
-        ensures no_key { IfErr result (NamesNoKey self.new.items.refusal) }
-        ensures levels { self.new.items.levels ≡ self.old.items.levels }
-        ensures formats { self.new.items.formats ≡ self.old.items.formats }
+        ensures no_key { IfErr result (NamesNoKey self.new.decoder.refusal) }
+        ensures levels { self.new.decoder.levels ≡ self.old.decoder.levels }
+        ensures formats { self.new.decoder.formats ≡ self.old.decoder.formats }
     {
-        match identifier(&mut self.items, names)? {
+        match identifier(&mut self.decoder, names)? {
             Some(place) => Ok(Field::Known(place)),
             None => Ok(Field::Unknown),
         }
@@ -134,26 +134,26 @@ impl<'de, R: Read<'de>> Deserializer<R> {
     #[inline(always)]
     #[tactic(auto, using(cbor_collections::proofs::facts::Places::unnamed_stands))]
     fn next_field(&mut self, remaining: &mut Remaining, names: &[&str]) -> Named<Option<Field>>
-        ensures read { OnceMade (IsMadeBy self.new.items.refusal)
-            (TakesKey R.refusals (formats_of self.old.items.formats) (IsField (texts names.now))
-            self.old.items.levels remaining.old remaining.new
-            (R.source self.old.items.source) (R.source self.new.items.source)) result }
+        ensures read { OnceMade (IsMadeBy self.new.decoder.refusal)
+            (TakesKey R.refusals (formats_of self.old.decoder.formats) (IsField (texts names.now))
+            self.old.decoder.levels remaining.old remaining.new
+            (R.source self.old.decoder.source) (R.source self.new.decoder.source)) result }
         ensures below { IfOk result (λ next. IfSome next (λ field.
             IfSome (place_in field) (λ i. i < length names.now))) }
         // Nothing remains after the last pair, and a loop over the fields ends.
         ensures remains { IfOk result (λ next. MatchOption next (remaining.new ≡ Counted 0)
-            (λ k. turns remaining.new (R.source self.new.items.source)
-            < turns remaining.old (R.source self.old.items.source))) }
-        ensures cases { IfErr result (λ w. (e : Error) → IsMadeBy self.new.items.refusal w e
-            → Stands (R.source self.old.items.source) e
-            (key_cases (formats_of self.old.items.formats) remaining.old)) }
-        ensures bad_key { IfErr result (λ w. (e : Error) → IsMadeBy self.new.items.refusal w e
-            → TellsBadKey R.refusals (formats_of self.old.items.formats) remaining.old
-            (R.source self.old.items.source) e) }
-        ensures levels { self.new.items.levels ≡ self.old.items.levels }
-        ensures formats { self.new.items.formats ≡ self.old.items.formats }
+            (λ k. turns remaining.new (R.source self.new.decoder.source)
+            < turns remaining.old (R.source self.old.decoder.source))) }
+        ensures cases { IfErr result (λ w. (e : Error) → IsMadeBy self.new.decoder.refusal w e
+            → Stands (R.source self.old.decoder.source) e
+            (key_cases (formats_of self.old.decoder.formats) remaining.old)) }
+        ensures bad_key { IfErr result (λ w. (e : Error) → IsMadeBy self.new.decoder.refusal w e
+            → TellsBadKey R.refusals (formats_of self.old.decoder.formats) remaining.old
+            (R.source self.old.decoder.source) e) }
+        ensures levels { self.new.decoder.levels ≡ self.old.decoder.levels }
+        ensures formats { self.new.decoder.formats ≡ self.old.decoder.formats }
     {
-        if !more_pairs(&mut self.items, remaining)? {
+        if !more_pairs(&mut self.decoder, remaining)? {
             return Ok(None);
         }
         let field = self.field(names)?;
@@ -169,23 +169,23 @@ pub fn next_key<'de, R: Read<'de>>(
     remaining: &mut Remaining,
     names: &[&str],
 ) -> Result<Option<Field>>
-    ensures read { TakesKey R.refusals (formats_of de.old.items.formats)
-        (IsField (texts names.now)) de.old.items.levels remaining.old remaining.new
-        (R.source de.old.items.source) (R.source de.new.items.source) result }
+    ensures read { TakesKey R.refusals (formats_of de.old.decoder.formats)
+        (IsField (texts names.now)) de.old.decoder.levels remaining.old remaining.new
+        (R.source de.old.decoder.source) (R.source de.new.decoder.source) result }
     ensures below { IfOk result (λ next. IfSome next (λ field.
         IfSome (place_in field) (λ i. i < length names.now))) }
     // Nothing remains after the last pair, and a loop over the fields ends.
     ensures remains { IfOk result (λ next. MatchOption next (remaining.new ≡ Counted 0)
-        (λ k. turns remaining.new (R.source de.new.items.source)
-        < turns remaining.old (R.source de.old.items.source))) }
-    ensures form { IfErr result (MayTell key_form (formats_of de.old.items.formats)
-        (R.source de.old.items.source)) }
-    ensures levels { de.new.items.levels ≡ de.old.items.levels }
-    ensures formats { de.new.items.formats ≡ de.old.items.formats }
+        (λ k. turns remaining.new (R.source de.new.decoder.source)
+        < turns remaining.old (R.source de.old.decoder.source))) }
+    ensures form { IfErr result (MayTell key_form (formats_of de.old.decoder.formats)
+        (R.source de.old.decoder.source)) }
+    ensures levels { de.new.decoder.levels ≡ de.old.decoder.levels }
+    ensures formats { de.new.decoder.formats ≡ de.old.decoder.formats }
 {
     match de.next_field(remaining, names) {
         Ok(next) => Ok(next),
-        Err(why) => Err(unnamed(&mut de.items, why, "invalid type: expected a field name")),
+        Err(why) => Err(unnamed(&mut de.decoder, why, "invalid type: expected a field name")),
     }
 }
 
@@ -232,36 +232,36 @@ impl<'a, R: Source> StructAccess<'a, R> {
     where
         R: Read<'de>,
         // The access is live: no call on it has answered Err.
-        requires live { self.old.de.now.items.levels < self.old.outer }
+        requires live { self.old.de.now.decoder.levels < self.old.outer }
         requires due { self.old.value_due ≡ false }
         ensures same_reference { self.new.de.ghost_name ≡ self.old.de.ghost_name }
-        ensures read { TakesKey R.refusals (formats_of self.old.de.now.items.formats)
+        ensures read { TakesKey R.refusals (formats_of self.old.de.now.decoder.formats)
             (IsField (texts self.old.names.now))
-            self.old.de.now.items.levels self.old.remaining self.new.remaining
-            (R.source self.old.de.now.items.source)
-            (R.source self.new.de.now.items.source) result }
+            self.old.de.now.decoder.levels self.old.remaining self.new.remaining
+            (R.source self.old.de.now.decoder.source)
+            (R.source self.new.de.now.decoder.source) result }
         ensures below { IfOk result (λ next. IfSome next (λ field.
             IfSome (place_in field) (λ i. i < length self.old.names.now))) }
         // Nothing remains after the last pair, and a loop over the fields ends.
         ensures remains { IfOk result (λ next. MatchOption next
             (self.new.remaining ≡ Counted 0)
-            (λ k. turns self.new.remaining (R.source self.new.de.now.items.source)
-            < turns self.old.remaining (R.source self.old.de.now.items.source))) }
-        ensures cases { IfErr result (λ e. Stands (R.source self.old.de.now.items.source) e
-            (key_cases (formats_of self.old.de.now.items.formats) self.old.remaining)) }
+            (λ k. turns self.new.remaining (R.source self.new.de.now.decoder.source)
+            < turns self.old.remaining (R.source self.old.de.now.decoder.source))) }
+        ensures cases { IfErr result (λ e. Stands (R.source self.old.de.now.decoder.source) e
+            (key_cases (formats_of self.old.de.now.decoder.formats) self.old.remaining)) }
         ensures code { IfErr result (λ e. FormAlone WrongStructFormat (code_of e)) }
         // The other way: that key is told.
         ensures bad_key { IfErr result (TellsBadKey R.refusals
-            (formats_of self.old.de.now.items.formats) self.old.remaining
-            (R.source self.old.de.now.items.source)) }
+            (formats_of self.old.de.now.decoder.formats) self.old.remaining
+            (R.source self.old.de.now.decoder.source)) }
         ensures due { IfOk result (λ next. self.new.value_due ≡ is_some next) }
         ensures inside { IfOk result (λ k.
-            self.new.de.now.items.levels ≡ self.old.de.now.items.levels) }
+            self.new.de.now.decoder.levels ≡ self.old.de.now.decoder.levels) }
         ensures left { IfErr result (λ e.
-            self.new.de.now.items.levels ≡ self.old.outer) }
+            self.new.de.now.decoder.levels ≡ self.old.outer) }
         ensures outer { self.new.outer ≡ self.old.outer }
-        ensures formats { self.new.de.now.items.formats
-            ≡ self.old.de.now.items.formats }
+        ensures formats { self.new.de.now.decoder.formats
+            ≡ self.old.de.now.decoder.formats }
         ensures names { self.new.names ≡ self.old.names }
     {
         match self.de.next_field(&mut self.remaining, self.names) {
@@ -270,9 +270,9 @@ impl<'a, R: Source> StructAccess<'a, R> {
                 Ok(next)
             }
             Err(why) => {
-                self.de.items.levels = self.outer;
+                self.de.decoder.levels = self.outer;
                 Err(unnamed(
-                    &mut self.de.items,
+                    &mut self.de.decoder,
                     why,
                     "invalid type: expected a field name",
                 ))
@@ -285,30 +285,30 @@ impl<'a, R: Source> StructAccess<'a, R> {
     pub fn value<'de, V: Deserialize<'de, R>>(&mut self) -> Result<V>
     where
         R: Read<'de>,
-        requires live { self.old.de.now.items.levels < self.old.outer }
+        requires live { self.old.de.now.decoder.levels < self.old.outer }
         requires due { self.old.value_due ≡ true }
         ensures same_reference { self.new.de.ghost_name ≡ self.old.de.ghost_name }
-        ensures read { TakesItem R.refusals (formats_of self.old.de.now.items.formats)
-            (V.reads (context self.old.de.now.items.formats R.lends))
-            self.old.de.now.items.levels
-            (R.source self.old.de.now.items.source)
-            (R.source self.new.de.now.items.source) result }
+        ensures read { TakesItem R.refusals (formats_of self.old.de.now.decoder.formats)
+            (V.reads (context self.old.de.now.decoder.formats R.lends))
+            self.old.de.now.decoder.levels
+            (R.source self.old.de.now.decoder.source)
+            (R.source self.new.de.now.decoder.source) result }
         ensures form { IfErr result (MayTell V.wrong_forms
-            (formats_of self.old.de.now.items.formats)
-            (R.source self.old.de.now.items.source)) }
+            (formats_of self.old.de.now.decoder.formats)
+            (R.source self.old.de.now.decoder.source)) }
         ensures due { IfOk result (λ v. self.new.value_due ≡ false) }
         ensures inside { IfOk result (λ v.
-            self.new.de.now.items.levels ≡ self.old.de.now.items.levels) }
+            self.new.de.now.decoder.levels ≡ self.old.de.now.decoder.levels) }
         ensures left { IfErr result (λ e.
-            self.new.de.now.items.levels ≡ self.old.outer) }
+            self.new.de.now.decoder.levels ≡ self.old.outer) }
         ensures outer { self.new.outer ≡ self.old.outer }
         ensures remaining { self.new.remaining ≡ self.old.remaining }
         // A loop over the fields ends.
         ensures remains { IfOk result (λ v.
-            turns self.new.remaining (R.source self.new.de.now.items.source)
-            ≤ turns self.old.remaining (R.source self.old.de.now.items.source)) }
-        ensures formats { self.new.de.now.items.formats
-            ≡ self.old.de.now.items.formats }
+            turns self.new.remaining (R.source self.new.de.now.decoder.source)
+            ≤ turns self.old.remaining (R.source self.old.de.now.decoder.source)) }
+        ensures formats { self.new.de.now.decoder.formats
+            ≡ self.old.de.now.decoder.formats }
         ensures names { self.new.names ≡ self.old.names }
     {
         match V::deserialize(self.de) {
@@ -317,7 +317,7 @@ impl<'a, R: Source> StructAccess<'a, R> {
                 Ok(value)
             }
             Err(e) => {
-                self.de.items.levels = self.outer;
+                self.de.decoder.levels = self.outer;
                 Err(e)
             }
         }
@@ -333,48 +333,48 @@ impl<'a, R: Source> StructAccess<'a, R> {
     ) -> Result<()>
     where
         R: Read<'de>,
-        requires live { self.old.de.now.items.levels < self.old.outer }
+        requires live { self.old.de.now.decoder.levels < self.old.outer }
         requires due { self.old.value_due ≡ true }
         ensures same_reference { self.new.de.ghost_name ≡ self.old.de.ghost_name }
         ensures only_once { IfOk result (λ u. is_some slot.old ≡ false) }
         ensures holds { IfOk result (λ u. is_some slot.new ≡ true) }
         ensures read { IfOk result (λ u. IfSome slot.new (λ v.
-            Step (R.source self.old.de.now.items.source)
-            (R.source self.new.de.now.items.source)
-            (λ l bs rest. IsRead (V.reads (context self.old.de.now.items.formats R.lends))
-            (item_at (raws (formats_of self.old.de.now.items.formats) l)
-            self.old.de.now.items.levels bs) v rest))) }
+            Step (R.source self.old.de.now.decoder.source)
+            (R.source self.new.de.now.decoder.source)
+            (λ l bs rest. IsRead (V.reads (context self.old.de.now.decoder.formats R.lends))
+            (item_at (raws (formats_of self.old.de.now.decoder.formats) l)
+            self.old.de.now.decoder.levels bs) v rest))) }
         ensures refused { IfErr result (λ e. Refuses R.refusals
-            (R.source self.old.de.now.items.source) (R.source self.new.de.now.items.source)
+            (R.source self.old.de.now.decoder.source) (R.source self.new.de.now.decoder.source)
             (code_of e) (offset_of e)
             (λ l bs. is_some slot.old ≡ false
-            → IsNotRead (V.reads (context self.old.de.now.items.formats R.lends))
-            (item_at (raws (formats_of self.old.de.now.items.formats) l)
-            self.old.de.now.items.levels bs))) }
+            → IsNotRead (V.reads (context self.old.de.now.decoder.formats R.lends))
+            (item_at (raws (formats_of self.old.de.now.decoder.formats) l)
+            self.old.de.now.decoder.levels bs))) }
         ensures form { IfErr result (MayTell V.wrong_forms
-            (formats_of self.old.de.now.items.formats)
-            (R.source self.old.de.now.items.source)) }
+            (formats_of self.old.de.now.decoder.formats)
+            (R.source self.old.de.now.decoder.source)) }
         ensures text { IfErr result (λ e. is_some slot.old ≡ true →
             IsMessageOf (Some (duplicate_text name.now)) (code_of e)) }
         ensures offset { IfErr result (λ e. is_some slot.old ≡ true → offset_of e ≡ 0) }
         ensures kept { IfErr result (λ e. slot.new ≡ slot.old) }
         ensures due { IfOk result (λ u. self.new.value_due ≡ false) }
         ensures inside { IfOk result (λ u.
-            self.new.de.now.items.levels ≡ self.old.de.now.items.levels) }
+            self.new.de.now.decoder.levels ≡ self.old.de.now.decoder.levels) }
         ensures left { IfErr result (λ e.
-            self.new.de.now.items.levels ≡ self.old.outer) }
+            self.new.de.now.decoder.levels ≡ self.old.outer) }
         ensures outer { self.new.outer ≡ self.old.outer }
         ensures remaining { self.new.remaining ≡ self.old.remaining }
         ensures remains { IfOk result (λ u.
-            turns self.new.remaining (R.source self.new.de.now.items.source)
-            ≤ turns self.old.remaining (R.source self.old.de.now.items.source)) }
-        ensures formats { self.new.de.now.items.formats
-            ≡ self.old.de.now.items.formats }
+            turns self.new.remaining (R.source self.new.de.now.decoder.source)
+            ≤ turns self.old.remaining (R.source self.old.de.now.decoder.source)) }
+        ensures formats { self.new.de.now.decoder.formats
+            ≡ self.old.de.now.decoder.formats }
         ensures names { self.new.names ≡ self.old.names }
     {
         if slot.is_some() {
-            self.de.items.levels = self.outer;
-            return Err(duplicate_field(self.de.items.alloc, name));
+            self.de.decoder.levels = self.outer;
+            return Err(duplicate_field(self.de.decoder.alloc, name));
         }
         match V::deserialize(self.de) {
             Ok(value) => {
@@ -383,7 +383,7 @@ impl<'a, R: Source> StructAccess<'a, R> {
                 Ok(())
             }
             Err(e) => {
-                self.de.items.levels = self.outer;
+                self.de.decoder.levels = self.outer;
                 Err(e)
             }
         }
@@ -392,7 +392,7 @@ impl<'a, R: Source> StructAccess<'a, R> {
     /// The value of a field's slot, after the map's last pair. A slot that has none is refused
     /// with ``missing field `id` ``, which leaves the map.
     pub fn required<V: Drop>(&mut self, name: &'static str, slot: Option<V>) -> Result<V>
-        requires live { self.old.de.now.items.levels < self.old.outer }
+        requires live { self.old.de.now.decoder.levels < self.old.outer }
         requires due { self.old.value_due ≡ false }
         ensures same_reference { self.new.de.ghost_name ≡ self.old.de.ghost_name }
         ensures value { IfOk result (λ v. slot ≡ Some v) }
@@ -400,23 +400,23 @@ impl<'a, R: Source> StructAccess<'a, R> {
         ensures text { IfErr result (λ e.
             IsMessageOf (Some (missing_text name.now)) (code_of e)) }
         ensures offset { IfErr result (λ e. offset_of e ≡ 0) }
-        ensures source { self.new.de.now.items.source ≡ self.old.de.now.items.source }
+        ensures source { self.new.de.now.decoder.source ≡ self.old.de.now.decoder.source }
         ensures inside { IfOk result (λ v.
-            self.new.de.now.items.levels ≡ self.old.de.now.items.levels) }
+            self.new.de.now.decoder.levels ≡ self.old.de.now.decoder.levels) }
         ensures left { IfErr result (λ e.
-            self.new.de.now.items.levels ≡ self.old.outer) }
+            self.new.de.now.decoder.levels ≡ self.old.outer) }
         ensures due { self.new.value_due ≡ false }
         ensures outer { self.new.outer ≡ self.old.outer }
         ensures remaining { self.new.remaining ≡ self.old.remaining }
-        ensures formats { self.new.de.now.items.formats
-            ≡ self.old.de.now.items.formats }
+        ensures formats { self.new.de.now.decoder.formats
+            ≡ self.old.de.now.decoder.formats }
         ensures names { self.new.names ≡ self.old.names }
     {
         match slot {
             Some(value) => Ok(value),
             None => {
-                self.de.items.levels = self.outer;
-                Err(missing_field(self.de.items.alloc, name))
+                self.de.decoder.levels = self.outer;
+                Err(missing_field(self.de.decoder.alloc, name))
             }
         }
     }
@@ -427,28 +427,28 @@ impl<'a, R: Source> StructAccess<'a, R> {
     pub fn skip<'de>(&mut self) -> Result<()>
     where
         R: Read<'de>,
-        requires live { self.old.de.now.items.levels < self.old.outer }
+        requires live { self.old.de.now.decoder.levels < self.old.outer }
         requires due { self.old.value_due ≡ true }
         ensures same_reference { self.new.de.ghost_name ≡ self.old.de.ghost_name }
-        ensures read { TakesItem R.refusals (formats_of self.old.de.now.items.formats)
-            IsAny self.old.de.now.items.levels
-            (R.source self.old.de.now.items.source)
-            (R.source self.new.de.now.items.source) result }
+        ensures read { TakesItem R.refusals (formats_of self.old.de.now.decoder.formats)
+            IsAny self.old.de.now.decoder.levels
+            (R.source self.old.de.now.decoder.source)
+            (R.source self.new.de.now.decoder.source) result }
         ensures form { IfErr result (MayTell item_form
-            (formats_of self.old.de.now.items.formats)
-            (R.source self.old.de.now.items.source)) }
+            (formats_of self.old.de.now.decoder.formats)
+            (R.source self.old.de.now.decoder.source)) }
         ensures due { IfOk result (λ u. self.new.value_due ≡ false) }
         ensures inside { IfOk result (λ u.
-            self.new.de.now.items.levels ≡ self.old.de.now.items.levels) }
+            self.new.de.now.decoder.levels ≡ self.old.de.now.decoder.levels) }
         ensures left { IfErr result (λ e.
-            self.new.de.now.items.levels ≡ self.old.outer) }
+            self.new.de.now.decoder.levels ≡ self.old.outer) }
         ensures outer { self.new.outer ≡ self.old.outer }
         ensures remaining { self.new.remaining ≡ self.old.remaining }
         ensures remains { IfOk result (λ u.
-            turns self.new.remaining (R.source self.new.de.now.items.source)
-            ≤ turns self.old.remaining (R.source self.old.de.now.items.source)) }
-        ensures formats { self.new.de.now.items.formats
-            ≡ self.old.de.now.items.formats }
+            turns self.new.remaining (R.source self.new.de.now.decoder.source)
+            ≤ turns self.old.remaining (R.source self.old.de.now.decoder.source)) }
+        ensures formats { self.new.de.now.decoder.formats
+            ≡ self.old.de.now.decoder.formats }
         ensures names { self.new.names ≡ self.old.names }
     {
         match self.value::<IgnoredAny>() {
@@ -470,40 +470,40 @@ impl<'a, R: Source> StructAccess<'a, R> {
 
     /// Leaves the map for the error of a field that isn't there, as ``missing field `id` ``.
     pub fn missing(self, name: &'static str) -> Error
-        requires { self.de.now.items.levels < self.outer }
+        requires { self.de.now.decoder.levels < self.outer }
         ensures text { IsMessageOf (Some (missing_text name.now)) (code_of result) }
         ensures offset { offset_of result ≡ 0 }
-        ensures source { self.exit.0.now.items.source ≡ self.entry.de.now.items.source }
-        ensures levels { self.exit.0.now.items.levels ≡ self.entry.outer }
-        ensures formats { self.exit.0.now.items.formats
-            ≡ self.entry.de.now.items.formats }
+        ensures source { self.exit.0.now.decoder.source ≡ self.entry.de.now.decoder.source }
+        ensures levels { self.exit.0.now.decoder.levels ≡ self.entry.outer }
+        ensures formats { self.exit.0.now.decoder.formats
+            ≡ self.entry.de.now.decoder.formats }
     {
-        let alloc = self.de.items.alloc;
+        let alloc = self.de.decoder.alloc;
         self.refuse(missing_field(alloc, name))
     }
 
     /// Leaves the map for the error of a field that is there twice, as ``duplicate field `id` ``.
     pub fn duplicate(self, name: &'static str) -> Error
-        requires { self.de.now.items.levels < self.outer }
+        requires { self.de.now.decoder.levels < self.outer }
         ensures text { IsMessageOf (Some (duplicate_text name.now)) (code_of result) }
         ensures offset { offset_of result ≡ 0 }
-        ensures source { self.exit.0.now.items.source ≡ self.entry.de.now.items.source }
-        ensures levels { self.exit.0.now.items.levels ≡ self.entry.outer }
-        ensures formats { self.exit.0.now.items.formats
-            ≡ self.entry.de.now.items.formats }
+        ensures source { self.exit.0.now.decoder.source ≡ self.entry.de.now.decoder.source }
+        ensures levels { self.exit.0.now.decoder.levels ≡ self.entry.outer }
+        ensures formats { self.exit.0.now.decoder.formats
+            ≡ self.entry.de.now.decoder.formats }
     {
-        let alloc = self.de.items.alloc;
+        let alloc = self.de.decoder.alloc;
         self.refuse(duplicate_field(alloc, name))
     }
 
     /// Leaves the map for this error, which it passes on.
     pub fn refuse(self, e: Error) -> Error
-        requires { self.de.now.items.levels < self.outer }
+        requires { self.de.now.decoder.levels < self.outer }
         ensures error { result ≡ e }
-        ensures source { self.exit.0.now.items.source ≡ self.entry.de.now.items.source }
-        ensures levels { self.exit.0.now.items.levels ≡ self.entry.outer }
-        ensures formats { self.exit.0.now.items.formats
-            ≡ self.entry.de.now.items.formats }
+        ensures source { self.exit.0.now.decoder.source ≡ self.entry.de.now.decoder.source }
+        ensures levels { self.exit.0.now.decoder.levels ≡ self.entry.outer }
+        ensures formats { self.exit.0.now.decoder.formats
+            ≡ self.entry.de.now.decoder.formats }
     {
         let StructAccess {
             de,
@@ -512,21 +512,21 @@ impl<'a, R: Source> StructAccess<'a, R> {
             value_due: _,
             names: _,
         } = self;
-        de.items.levels = outer;
+        de.decoder.levels = outer;
         e
     }
 
     /// Takes the end of the map. Pairs that weren't read are refused as by `MapAccess::end`.
     pub fn end(self) -> Result<()>
-        requires live { self.de.now.items.levels < self.outer }
+        requires live { self.de.now.decoder.levels < self.outer }
         requires due { self.value_due ≡ false }
         ensures read { TakesMapEnd R.refusals self.entry.remaining
-            (R.source self.entry.de.now.items.source)
-            (R.source self.exit.0.now.items.source) result }
+            (R.source self.entry.de.now.decoder.source)
+            (R.source self.exit.0.now.decoder.source) result }
         ensures no_form { IfErr result (λ e. TellsNoForm (code_of e)) }
-        ensures levels { self.exit.0.now.items.levels ≡ self.entry.outer }
-        ensures formats { self.exit.0.now.items.formats
-            ≡ self.entry.de.now.items.formats }
+        ensures levels { self.exit.0.now.decoder.levels ≡ self.entry.outer }
+        ensures formats { self.exit.0.now.decoder.formats
+            ≡ self.entry.de.now.decoder.formats }
     {
         let StructAccess {
             de,
@@ -535,8 +535,8 @@ impl<'a, R: Source> StructAccess<'a, R> {
             value_due: _,
             names: _,
         } = self;
-        de.items.levels = outer;
-        end_map(&mut de.items, remaining)
+        de.decoder.levels = outer;
+        end_map(&mut de.decoder, remaining)
     }
 }
 

@@ -2,7 +2,7 @@
 
 ghost use Rattle.std.specs.Prelude.{◌≡◌, ◌+◌, ◌^◌, ◌<◌, IfOk, IfErr, IfSome};
 ghost use Rattle.cbor_io.specs.Error.{code_of};
-ghost use Rattle.cbor_de.specs.Gives.{TellsNoForm};
+ghost use Rattle.cbor_decode.specs.Gives.{TellsNoForm};
 ghost use Rattle.cbor_scalars.specs.Tags.{ReadsTag, LevelsBehind, TagIs};
 ghost use Rattle.cbor_scalars.specs.Takes.{formats_of};
 
@@ -30,26 +30,26 @@ impl<R: Source> Deserializer<R> {
     /// ```
     #[inline(always)]
     pub fn read_tag(&mut self) -> Result<Option<u64>>
-        ensures read { ReadsTag R.refusals self.old.items.levels
-            (R.source self.old.items.source) (R.source self.new.items.source) result }
+        ensures read { ReadsTag R.refusals self.old.decoder.levels
+            (R.source self.old.decoder.source) (R.source self.new.decoder.source) result }
         ensures item { IfOk result (λ o. IfSome o (λ n.
-            TagIs (formats_of self.old.items.formats) self.old.items.levels n
-            (R.source self.old.items.source) (R.source self.new.items.source))) }
+            TagIs (formats_of self.old.decoder.formats) self.old.decoder.levels n
+            (R.source self.old.decoder.source) (R.source self.new.decoder.source))) }
         ensures no_form { IfErr result (λ e. TellsNoForm (code_of e)) }
-        ensures levels { LevelsBehind result self.old.items.levels self.new.items.levels }
-        ensures formats { self.new.items.formats ≡ self.old.items.formats }
+        ensures levels { LevelsBehind result self.old.decoder.levels self.new.decoder.levels }
+        ensures formats { self.new.decoder.formats ≡ self.old.decoder.formats }
     {
-        tags::read_tag(&mut self.items)
+        tags::read_tag(&mut self.decoder)
     }
 
     /// Goes out of the tag that [`read_tag`](Deserializer::read_tag) went in to. That its level
     /// stands is the caller's condition.
     pub fn leave_tag(&mut self)
-        requires { self.old.items.levels + 1 < 2 ^ 64 }
-        ensures levels { self.new.items.levels ≡ self.old.items.levels + 1 }
-        ensures source { self.new.items.source ≡ self.old.items.source }
-        ensures formats { self.new.items.formats ≡ self.old.items.formats }
+        requires { self.old.decoder.levels + 1 < 2 ^ 64 }
+        ensures levels { self.new.decoder.levels ≡ self.old.decoder.levels + 1 }
+        ensures source { self.new.decoder.source ≡ self.old.decoder.source }
+        ensures formats { self.new.decoder.formats ≡ self.old.decoder.formats }
     {
-        self.items.levels += 1;
+        self.decoder.levels += 1;
     }
 }

@@ -3,7 +3,7 @@
 use crate::de::Deserializer;
 use crate::deserialize::{Deserialize, Readable};
 use crate::item_list::{ReadItems, ReadTuple, ReadableTuple};
-use cbor_de::Remaining;
+use cbor_decode::Remaining;
 use cbor_io::error::Result;
 use cbor_read::Read;
 

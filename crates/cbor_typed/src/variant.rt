@@ -5,7 +5,7 @@ ghost use Rattle.std.specs.Prelude.{IfOk, IfErr};
 ghost use Rattle.std.specs.Borrow.{sem, RestsIfErr};
 ghost use Rattle.cbor_model.specs.Reader.{item_at};
 ghost use Rattle.cbor_io.specs.Error.{code_of};
-ghost use Rattle.cbor_de.specs.Gives.{Onward, Step, TellsNoForm};
+ghost use Rattle.cbor_decode.specs.Gives.{Onward, Step, TellsNoForm};
 ghost use Rattle.cbor_io.specs.declared.error.ErrorCode.TheVariants.{ArrayTooLong};
 ghost use Rattle.cbor_collections.specs.Cases.{FormAlone, IsEnumCode, Stands};
 ghost use Rattle.cbor_collections.specs.Cases.{enum_cases, unit_cases, TellsTooShort};
@@ -29,7 +29,7 @@ use crate::deserialize::Deserialize;
 use crate::sequence::SeqAccess;
 use cbor_collections::array::end_array;
 use cbor_collections::variant::{Form, expect_item, no_part, parts, variant_head};
-use cbor_de::Remaining;
+use cbor_decode::Remaining;
 use cbor_io::error::{Error, ErrorCode, Result};
 use cbor_read::{Read, Source};
 
@@ -52,41 +52,41 @@ impl<'de, R: Read<'de>> Deserializer<R> {
     /// ```
     pub fn variant<'a>(&'a mut self, names: &[&str]) -> Result<VariantAccess<'a, R>>
         ensures* rests { sem 𝓛 (RestsIfErr (the_row R.row) self.entry (λ v. v.de.ghost_name) result
-            (λ last. (last.items.levels ≡ self.old.items.levels)
-            × (last.items.formats ≡ self.old.items.formats)
-            × TookSome (R.source self.old.items.source) (R.source last.items.source))) }
+            (λ last. (last.decoder.levels ≡ self.old.decoder.levels)
+            × (last.decoder.formats ≡ self.old.decoder.formats)
+            × TookSome (R.source self.old.decoder.source) (R.source last.decoder.source))) }
         ensures same_reference { IfOk result (λ v. v.de.ghost_name ≡ self.entry.ghost_name) }
-        ensures head { IfOk result (λ v. Step (R.source self.old.items.source)
-            (R.source v.de.now.items.source)
-            (λ l bs rest. IsVariantHead (formats_of self.old.items.formats) (texts names.now) l
-            (item_at (raws (formats_of self.old.items.formats) l) self.old.items.levels bs)
-            v.de.now.items.levels v.index v.form rest)) }
-        ensures refused { IfErr result (WhateverTaken (R.source self.old.items.source)
+        ensures head { IfOk result (λ v. Step (R.source self.old.decoder.source)
+            (R.source v.de.now.decoder.source)
+            (λ l bs rest. IsVariantHead (formats_of self.old.decoder.formats) (texts names.now) l
+            (item_at (raws (formats_of self.old.decoder.formats) l) self.old.decoder.levels bs)
+            v.de.now.decoder.levels v.index v.form rest)) }
+        ensures refused { IfErr result (WhateverTaken (R.source self.old.decoder.source)
             (RefusesVariant R.refusals
-            (formats_of self.old.items.formats) (texts names.now) self.old.items.levels
-            (R.source self.old.items.source))) }
+            (formats_of self.old.decoder.formats) (texts names.now) self.old.decoder.levels
+            (R.source self.old.decoder.source))) }
         // The enum up to its identifier, whatever follows it.
-        ensures opened { IfOk result (λ v. Step (R.source self.old.items.source)
-            (R.source v.de.now.items.source)
-            (λ l bs rest. BeginsVariant (formats_of self.old.items.formats) (texts names.now) l
-            self.old.items.levels v.de.now.items.levels v.index v.form bs rest)) }
-        ensures unopened { IfErr result (WhateverTaken (R.source self.old.items.source)
+        ensures opened { IfOk result (λ v. Step (R.source self.old.decoder.source)
+            (R.source v.de.now.decoder.source)
+            (λ l bs rest. BeginsVariant (formats_of self.old.decoder.formats) (texts names.now) l
+            self.old.decoder.levels v.de.now.decoder.levels v.index v.form bs rest)) }
+        ensures unopened { IfErr result (WhateverTaken (R.source self.old.decoder.source)
             (RefusesVariantHead R.refusals
-            (formats_of self.old.items.formats) (texts names.now) self.old.items.levels
-            (R.source self.old.items.source))) }
-        ensures cases { IfErr result (λ e. Stands (R.source self.old.items.source) e
-            (enum_cases (formats_of self.old.items.formats)
-            self.old.items.levels)) }
+            (formats_of self.old.decoder.formats) (texts names.now) self.old.decoder.levels
+            (R.source self.old.decoder.source))) }
+        ensures cases { IfErr result (λ e. Stands (R.source self.old.decoder.source) e
+            (enum_cases (formats_of self.old.decoder.formats)
+            self.old.decoder.levels)) }
         ensures code { IfErr result (λ e. IsEnumCode (code_of e)) }
         ensures below { IfOk result (λ v. v.index < length names.now) }
-        ensures taken { IfOk result (λ v. Onward (R.source self.old.items.source)
-            (R.source v.de.now.items.source)) }
-        ensures outer { IfOk result (λ v. v.outer ≡ self.old.items.levels) }
-        ensures inside { IfOk result (λ v. IsInside v.form v.de.now.items.levels v.outer) }
-        ensures formats { IfOk result (λ v. v.de.now.items.formats ≡ self.old.items.formats) }
+        ensures taken { IfOk result (λ v. Onward (R.source self.old.decoder.source)
+            (R.source v.de.now.decoder.source)) }
+        ensures outer { IfOk result (λ v. v.outer ≡ self.old.decoder.levels) }
+        ensures inside { IfOk result (λ v. IsInside v.form v.de.now.decoder.levels v.outer) }
+        ensures formats { IfOk result (λ v. v.de.now.decoder.formats ≡ self.old.decoder.formats) }
     {
-        let outer = self.items.levels;
-        let (index, form) = variant_head(&mut self.items, names)?;
+        let outer = self.decoder.levels;
+        let (index, form) = variant_head(&mut self.decoder, names)?;
         Ok(VariantAccess {
             de: self,
             index,
@@ -98,20 +98,20 @@ impl<'de, R: Read<'de>> Deserializer<R> {
     // Reads the only item of an array that remains.
     #[tactic(auto, using(cbor_collections::proofs::facts::Places::too_short_first, cbor_collections::proofs::facts::Places::too_short_later, crate::proofs::Forms::plain))]
     fn only_item<T: Deserialize<'de, R>>(&mut self, mut remaining: Remaining) -> Result<T>
-        ensures read { TakesContent R.refusals (formats_of self.old.items.formats)
-            (IsPart (T.reads (context self.old.items.formats R.lends)))
-            self.old.items.levels (Array remaining)
-            (R.source self.old.items.source) (R.source self.new.items.source) result }
+        ensures read { TakesContent R.refusals (formats_of self.old.decoder.formats)
+            (IsPart (T.reads (context self.old.decoder.formats R.lends)))
+            self.old.decoder.levels (Array remaining)
+            (R.source self.old.decoder.source) (R.source self.new.decoder.source) result }
         ensures form { IfErr result (MayTell (both part_form T.wrong_forms)
-            (formats_of self.old.items.formats) (R.source self.old.items.source)) }
+            (formats_of self.old.decoder.formats) (R.source self.old.decoder.source)) }
         ensures too_short { IfErr result (TellsTooShort R.refusals (Array remaining)
-            (R.source self.old.items.source)) }
-        ensures levels { self.new.items.levels ≡ self.old.items.levels }
-        ensures formats { self.new.items.formats ≡ self.old.items.formats }
+            (R.source self.old.decoder.source)) }
+        ensures levels { self.new.decoder.levels ≡ self.old.decoder.levels }
+        ensures formats { self.new.decoder.formats ≡ self.old.decoder.formats }
     {
-        expect_item(&mut self.items, &mut remaining, ErrorCode::ArrayTooShort)?;
+        expect_item(&mut self.decoder, &mut remaining, ErrorCode::ArrayTooShort)?;
         let item = T::deserialize(self)?;
-        end_array(&mut self.items, remaining)?;
+        end_array(&mut self.decoder, remaining)?;
         Ok(item)
     }
 }
@@ -123,22 +123,22 @@ pub fn one_part<'de, R: Read<'de>, T: Deserialize<'de, R>>(
     form: Form,
     alone: &str,
 ) -> Result<T>
-    ensures read { TakesContent R.refusals (formats_of de.old.items.formats)
-        (IsPart (T.reads (context de.old.items.formats R.lends)))
-        de.old.items.levels form
-        (R.source de.old.items.source) (R.source de.new.items.source) result }
+    ensures read { TakesContent R.refusals (formats_of de.old.decoder.formats)
+        (IsPart (T.reads (context de.old.decoder.formats R.lends)))
+        de.old.decoder.levels form
+        (R.source de.old.decoder.source) (R.source de.new.decoder.source) result }
     ensures alone { IfErr result (TellsAlone alone.now form) }
     ensures form { IfErr result (MayTell (both part_form T.wrong_forms)
-        (formats_of de.old.items.formats) (R.source de.old.items.source)) }
+        (formats_of de.old.decoder.formats) (R.source de.old.decoder.source)) }
     ensures too_short { IfErr result (TellsTooShort R.refusals form
-        (R.source de.old.items.source)) }
-    ensures levels { de.new.items.levels ≡ de.old.items.levels }
-    ensures formats { de.new.items.formats ≡ de.old.items.formats }
+        (R.source de.old.decoder.source)) }
+    ensures levels { de.new.decoder.levels ≡ de.old.decoder.levels }
+    ensures formats { de.new.decoder.formats ≡ de.old.decoder.formats }
 {
     match form {
         Form::Array(remaining) => de.only_item::<T>(remaining),
         Form::Map => T::deserialize(de),
-        Form::Alone => Err(Error::message(de.items.alloc, alone)),
+        Form::Alone => Err(Error::message(de.decoder.alloc, alone)),
     }
 }
 
@@ -182,16 +182,16 @@ impl<'a, R: Source> VariantAccess<'a, R> {
     where
         R: Read<'de>,
         ensures read { TakesContent R.refusals
-            (formats_of self.entry.de.now.items.formats)
+            (formats_of self.entry.de.now.decoder.formats)
             IsNothing
-            self.entry.de.now.items.levels self.entry.form
-            (R.source self.entry.de.now.items.source) (R.source self.exit.0.now.items.source)
+            self.entry.de.now.decoder.levels self.entry.form
+            (R.source self.entry.de.now.decoder.source) (R.source self.exit.0.now.decoder.source)
             result }
-        ensures cases { IfErr result (λ e. Stands (R.source self.entry.de.now.items.source) e
+        ensures cases { IfErr result (λ e. Stands (R.source self.entry.de.now.decoder.source) e
             (unit_cases self.entry.form)) }
         ensures code { IfErr result (λ e. FormAlone ArrayTooLong (code_of e)) }
-        ensures levels { self.exit.0.now.items.levels ≡ self.entry.outer }
-        ensures formats { self.exit.0.now.items.formats ≡ self.entry.de.now.items.formats }
+        ensures levels { self.exit.0.now.decoder.levels ≡ self.entry.outer }
+        ensures formats { self.exit.0.now.decoder.formats ≡ self.entry.de.now.decoder.formats }
     {
         let VariantAccess {
             de,
@@ -199,8 +199,8 @@ impl<'a, R: Source> VariantAccess<'a, R> {
             form,
             outer,
         } = self;
-        let read = no_part(&mut de.items, form);
-        de.items.levels = outer;
+        let read = no_part(&mut de.decoder, form);
+        de.decoder.levels = outer;
         read
     }
 
@@ -218,20 +218,20 @@ impl<'a, R: Source> VariantAccess<'a, R> {
     where
         R: Read<'de>,
         ensures read { TakesContent R.refusals
-            (formats_of self.entry.de.now.items.formats)
-            (IsPart (T.reads (context self.entry.de.now.items.formats R.lends)))
-            self.entry.de.now.items.levels self.entry.form
-            (R.source self.entry.de.now.items.source) (R.source self.exit.0.now.items.source)
+            (formats_of self.entry.de.now.decoder.formats)
+            (IsPart (T.reads (context self.entry.de.now.decoder.formats R.lends)))
+            self.entry.de.now.decoder.levels self.entry.form
+            (R.source self.entry.de.now.decoder.source) (R.source self.exit.0.now.decoder.source)
             result }
         ensures alone { IfErr result
             (TellsAlone (alone_text (codes "newtype")) self.entry.form) }
         ensures form { IfErr result (MayTell (both part_form T.wrong_forms)
-            (formats_of self.entry.de.now.items.formats)
-            (R.source self.entry.de.now.items.source)) }
+            (formats_of self.entry.de.now.decoder.formats)
+            (R.source self.entry.de.now.decoder.source)) }
         ensures too_short { IfErr result (TellsTooShort R.refusals self.entry.form
-            (R.source self.entry.de.now.items.source)) }
-        ensures levels { self.exit.0.now.items.levels ≡ self.entry.outer }
-        ensures formats { self.exit.0.now.items.formats ≡ self.entry.de.now.items.formats }
+            (R.source self.entry.de.now.decoder.source)) }
+        ensures levels { self.exit.0.now.decoder.levels ≡ self.entry.outer }
+        ensures formats { self.exit.0.now.decoder.formats ≡ self.entry.de.now.decoder.formats }
     {
         let VariantAccess {
             de,
@@ -241,7 +241,7 @@ impl<'a, R: Source> VariantAccess<'a, R> {
         } = self;
         let text = "invalid type: unit variant, expected newtype variant";
         let read = one_part::<R, T>(de, form, text);
-        de.items.levels = outer;
+        de.decoder.levels = outer;
         read
     }
 
@@ -263,20 +263,20 @@ impl<'a, R: Source> VariantAccess<'a, R> {
     where
         R: Read<'de>,
         ensures read { TakesContent R.refusals
-            (formats_of self.entry.de.now.items.formats)
-            (IsPart (T.reads (context self.entry.de.now.items.formats R.lends)))
-            self.entry.de.now.items.levels self.entry.form
-            (R.source self.entry.de.now.items.source) (R.source self.exit.0.now.items.source)
+            (formats_of self.entry.de.now.decoder.formats)
+            (IsPart (T.reads (context self.entry.de.now.decoder.formats R.lends)))
+            self.entry.de.now.decoder.levels self.entry.form
+            (R.source self.entry.de.now.decoder.source) (R.source self.exit.0.now.decoder.source)
             result }
         ensures alone { IfErr result
             (TellsAlone (alone_text (codes "struct")) self.entry.form) }
         ensures form { IfErr result (MayTell (both part_form T.wrong_forms)
-            (formats_of self.entry.de.now.items.formats)
-            (R.source self.entry.de.now.items.source)) }
+            (formats_of self.entry.de.now.decoder.formats)
+            (R.source self.entry.de.now.decoder.source)) }
         ensures too_short { IfErr result (TellsTooShort R.refusals self.entry.form
-            (R.source self.entry.de.now.items.source)) }
-        ensures levels { self.exit.0.now.items.levels ≡ self.entry.outer }
-        ensures formats { self.exit.0.now.items.formats ≡ self.entry.de.now.items.formats }
+            (R.source self.entry.de.now.decoder.source)) }
+        ensures levels { self.exit.0.now.decoder.levels ≡ self.entry.outer }
+        ensures formats { self.exit.0.now.decoder.formats ≡ self.entry.de.now.decoder.formats }
     {
         let VariantAccess {
             de,
@@ -286,7 +286,7 @@ impl<'a, R: Source> VariantAccess<'a, R> {
         } = self;
         let text = "invalid type: unit variant, expected struct variant";
         let read = one_part::<R, T>(de, form, text);
-        de.items.levels = outer;
+        de.decoder.levels = outer;
         read
     }
 
@@ -304,38 +304,38 @@ impl<'a, R: Source> VariantAccess<'a, R> {
     /// ```
     pub fn tuple(self) -> Result<SeqAccess<'a, R>>
         // The levels are those that `variant` left.
-        requires { IsInside self.form self.de.now.items.levels self.outer }
+        requires { IsInside self.form self.de.now.decoder.levels self.outer }
         ensures* rests { sem 𝓛 (RestsIfErr (the_row R.row) self.entry.de (λ s. s.de.ghost_name)
-            result (λ last. (last.items.levels ≡ self.entry.outer)
-            × (last.items.formats ≡ self.entry.de.now.items.formats)
-            × TookSome (R.source self.entry.de.now.items.source) (R.source last.items.source))) }
+            result (λ last. (last.decoder.levels ≡ self.entry.outer)
+            × (last.decoder.formats ≡ self.entry.de.now.decoder.formats)
+            × TookSome (R.source self.entry.de.now.decoder.source) (R.source last.decoder.source))) }
         ensures same_reference { IfOk result (λ s. s.de.ghost_name ≡ self.entry.de.ghost_name) }
-        ensures head { IfOk result (λ s. Step (R.source self.entry.de.now.items.source)
-            (R.source s.de.now.items.source)
-            (λ l bs rest. IsPartsHead (formats_of self.entry.de.now.items.formats) l
-            (content_at (formats_of self.entry.de.now.items.formats) l
-            self.entry.de.now.items.levels self.entry.form bs)
-            s.de.now.items.levels s.remaining rest)) }
-        ensures refused { IfErr result (WhateverTaken (R.source self.entry.de.now.items.source)
+        ensures head { IfOk result (λ s. Step (R.source self.entry.de.now.decoder.source)
+            (R.source s.de.now.decoder.source)
+            (λ l bs rest. IsPartsHead (formats_of self.entry.de.now.decoder.formats) l
+            (content_at (formats_of self.entry.de.now.decoder.formats) l
+            self.entry.de.now.decoder.levels self.entry.form bs)
+            s.de.now.decoder.levels s.remaining rest)) }
+        ensures refused { IfErr result (WhateverTaken (R.source self.entry.de.now.decoder.source)
             (RefusesParts R.refusals
-            (formats_of self.entry.de.now.items.formats) self.entry.de.now.items.levels
-            self.entry.form (R.source self.entry.de.now.items.source))) }
+            (formats_of self.entry.de.now.decoder.formats) self.entry.de.now.decoder.levels
+            self.entry.form (R.source self.entry.de.now.decoder.source))) }
         // Up to the parts, whatever follows.
-        ensures opened { IfOk result (λ s. Step (R.source self.entry.de.now.items.source)
-            (R.source s.de.now.items.source)
-            (λ l bs rest. BeginsParts self.entry.de.now.items.levels self.entry.form
-            s.de.now.items.levels s.remaining bs rest)) }
-        ensures unopened { IfErr result (WhateverTaken (R.source self.entry.de.now.items.source)
+        ensures opened { IfOk result (λ s. Step (R.source self.entry.de.now.decoder.source)
+            (R.source s.de.now.decoder.source)
+            (λ l bs rest. BeginsParts self.entry.de.now.decoder.levels self.entry.form
+            s.de.now.decoder.levels s.remaining bs rest)) }
+        ensures unopened { IfErr result (WhateverTaken (R.source self.entry.de.now.decoder.source)
             (RefusesPartsHead R.refusals
-            self.entry.de.now.items.levels self.entry.form
-            (R.source self.entry.de.now.items.source))) }
+            self.entry.de.now.decoder.levels self.entry.form
+            (R.source self.entry.de.now.decoder.source))) }
         ensures alone { IfErr result
             (TellsAlone (alone_text (codes "tuple")) self.entry.form) }
         ensures no_form { IfErr result (λ e. TellsNoForm (code_of e)) }
         ensures outer { IfOk result (λ s. s.outer ≡ self.entry.outer) }
-        ensures inside { IfOk result (λ s. s.de.now.items.levels < s.outer) }
+        ensures inside { IfOk result (λ s. s.de.now.decoder.levels < s.outer) }
         ensures formats { IfOk result (λ s.
-            s.de.now.items.formats ≡ self.entry.de.now.items.formats) }
+            s.de.now.decoder.formats ≡ self.entry.de.now.decoder.formats) }
     {
         let VariantAccess {
             de,
@@ -343,14 +343,14 @@ impl<'a, R: Source> VariantAccess<'a, R> {
             form,
             outer,
         } = self;
-        match parts(&mut de.items, form) {
+        match parts(&mut de.decoder, form) {
             Ok(remaining) => Ok(SeqAccess {
                 de,
                 remaining,
                 outer,
             }),
             Err(e) => {
-                de.items.levels = outer;
+                de.decoder.levels = outer;
                 Err(e)
             }
         }
@@ -359,9 +359,9 @@ impl<'a, R: Source> VariantAccess<'a, R> {
     /// Leaves the enum for this error, which it passes on.
     pub fn refuse(self, e: Error) -> Error
         ensures error { result ≡ e }
-        ensures source { self.exit.0.now.items.source ≡ self.entry.de.now.items.source }
-        ensures levels { self.exit.0.now.items.levels ≡ self.entry.outer }
-        ensures formats { self.exit.0.now.items.formats ≡ self.entry.de.now.items.formats }
+        ensures source { self.exit.0.now.decoder.source ≡ self.entry.de.now.decoder.source }
+        ensures levels { self.exit.0.now.decoder.levels ≡ self.entry.outer }
+        ensures formats { self.exit.0.now.decoder.formats ≡ self.entry.de.now.decoder.formats }
     {
         let VariantAccess {
             de,
@@ -369,7 +369,7 @@ impl<'a, R: Source> VariantAccess<'a, R> {
             form: _,
             outer,
         } = self;
-        de.items.levels = outer;
+        de.decoder.levels = outer;
         e
     }
 }

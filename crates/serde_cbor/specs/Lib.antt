@@ -29,11 +29,11 @@ pub use Rattle.cbor_io.specs.Write
 pub use Rattle.cbor_value.specs.Floats
 pub use Rattle.cbor_value.specs.View
 pub use Rattle.cbor_value.specs.Search
-pub use Rattle.cbor_de.specs.Deserializer
-pub use Rattle.cbor_de.specs.Gives
-pub use Rattle.cbor_de.specs.AtEnd
-pub use Rattle.cbor_de.specs.Memory
-pub use Rattle.cbor_de.specs.FirstRefusal
+pub use Rattle.cbor_decode.specs.Decoder
+pub use Rattle.cbor_decode.specs.Gives
+pub use Rattle.cbor_decode.specs.AtEnd
+pub use Rattle.cbor_decode.specs.Memory
+pub use Rattle.cbor_decode.specs.FirstRefusal
 pub use Rattle.cbor_scalars.specs.Takes
 pub use Rattle.cbor_typed.specs.Whole
 pub use Rattle.cbor_typed.specs.Forms

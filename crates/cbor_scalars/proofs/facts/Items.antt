@@ -3,7 +3,7 @@
 -- an item is of the kind of its head
 pub use Rattle.cbor_scalars.proofs.OfKind.{kinds}
 -- what is read after an item's tags and its head
-pub use Rattle.cbor_de.proofs.facts.Heads.{item_opened}
+pub use Rattle.cbor_decode.proofs.facts.Heads.{item_opened}
 -- nothing is read of it, or nothing of another kind
 pub use Rattle.cbor_scalars.proofs.Scalars.{opened_none, other_kind}
 -- what passes over tags

@@ -4,4 +4,4 @@
 pub use Rattle.cbor_typed.proofs.Left.{refused_left}
 -- a refusal after which further bytes were taken, or none
 pub use Rattle.cbor_scalars.proofs.facts.Refusals.{refuses_on}
-pub use Rattle.cbor_de.proofs.facts.Steps.{took_same}
+pub use Rattle.cbor_decode.proofs.facts.Steps.{took_same}

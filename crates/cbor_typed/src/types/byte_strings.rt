@@ -3,7 +3,7 @@
 ghost use Rattle.std.specs.Prelude.{IfErr};
 ghost use Rattle.cbor_io.specs.Error.{code_of};
 ghost use Rattle.cbor_read.specs.Source.{part_bytes};
-ghost use Rattle.cbor_de.specs.Gives.{TellsNoForm};
+ghost use Rattle.cbor_decode.specs.Gives.{TellsNoForm};
 ghost use Rattle.cbor_scalars.specs.Takes.{IsMessage};
 ghost use Rattle.cbor_typed.specs.ByteStrings.{IsArrayOf};
 
@@ -32,7 +32,7 @@ impl Readable for ByteBuf {
 
 impl<'de, R: Read<'de>> Deserialize<'de, R> for ByteBuf {
     fn deserialize(de: &mut Deserializer<R>) -> Result<ByteBuf> {
-        match read_byte_string(&mut de.items) {
+        match read_byte_string(&mut de.decoder) {
             Ok(bytes) => Ok(ByteBuf(bytes)),
             Err(e) => Err(e),
         }
@@ -62,7 +62,7 @@ impl<const N: usize> Readable for ByteArray<N> {
 
 impl<'de, R: Read<'de>, const N: usize> Deserialize<'de, R> for ByteArray<N> {
     fn deserialize(de: &mut Deserializer<R>) -> Result<ByteArray<N>> {
-        let alloc = de.items.alloc;
+        let alloc = de.decoder.alloc;
         match de.read_byte_string() {
             Ok(part) => array_of(part, alloc),
             Err(why) => Err(de.unread(why, NO_BYTES)),
@@ -116,7 +116,7 @@ impl Readable for Bytes<'_> {
 
 impl<'de, R: Read<'de>> Deserialize<'de, R> for Bytes<'de> {
     fn deserialize(de: &mut Deserializer<R>) -> Result<Bytes<'de>> {
-        let alloc = de.items.alloc;
+        let alloc = de.decoder.alloc;
         match de.read_byte_string() {
             Ok(EitherLifetime::Long(bytes)) => Ok(Bytes(bytes)),
             Ok(EitherLifetime::Short(_)) => {

@@ -2,7 +2,7 @@
 
 ghost use Rattle.std.specs.Prelude.{IfErr};
 ghost use Rattle.cbor_io.specs.Error.{code_of};
-ghost use Rattle.cbor_de.specs.Gives.{TellsNoForm};
+ghost use Rattle.cbor_decode.specs.Gives.{TellsNoForm};
 ghost use Rattle.cbor_scalars.specs.Strings.{IsOneOf, text_bytes};
 ghost use Rattle.cbor_scalars.specs.Takes.{IsMessage};
 
@@ -63,7 +63,7 @@ impl Readable for char {
 
 impl<'de, R: Read<'de>> Deserialize<'de, R> for char {
     fn deserialize(de: &mut Deserializer<R>) -> Result<char> {
-        let alloc = de.items.alloc;
+        let alloc = de.decoder.alloc;
         match de.read_text() {
             Ok(text) => character(text, alloc),
             Err(why) => Err(de.unread(why, NO_CHARACTER)),

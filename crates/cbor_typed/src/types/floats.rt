@@ -27,7 +27,7 @@ impl Readable for f32 {
 impl<'de, R: Read<'de>> Deserialize<'de, R> for f32 {
     #[inline(always)]
     fn deserialize(de: &mut Deserializer<R>) -> Result<f32> {
-        read_f32(&mut de.items)
+        read_f32(&mut de.decoder)
     }
 }
 
@@ -56,7 +56,7 @@ impl Readable for f64 {
 impl<'de, R: Read<'de>> Deserialize<'de, R> for f64 {
     #[inline(always)]
     fn deserialize(de: &mut Deserializer<R>) -> Result<f64> {
-        read_f64(&mut de.items)
+        read_f64(&mut de.decoder)
     }
 }
 

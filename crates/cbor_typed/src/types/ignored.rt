@@ -19,7 +19,7 @@ pub struct IgnoredAny;
 
 impl Readable for IgnoredAny {
     ghost use Rattle.std.specs.Prelude.{⊤, true};
-    ghost use Rattle.cbor_de.specs.HasChunks.{AsksWhere, HasChunks};
+    ghost use Rattle.cbor_decode.specs.HasChunks.{AsksWhere, HasChunks};
     ghost use Rattle.cbor_typed.specs.Forms.{item_form};
 
     ghost reads = { λ c r x. ⊤ };
@@ -33,9 +33,9 @@ impl Readable for IgnoredAny {
 
 impl<'de, R: Read<'de>> Deserialize<'de, R> for IgnoredAny {
     fn deserialize(de: &mut Deserializer<R>) -> Result<IgnoredAny> {
-        match de.items.skip() {
+        match de.decoder.skip() {
             Ok(()) => Ok(IgnoredAny),
-            Err(refused) => Err(de.items.error(refused)),
+            Err(refused) => Err(de.decoder.error(refused)),
         }
     }
 }

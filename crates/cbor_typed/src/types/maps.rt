@@ -23,7 +23,7 @@ impl<'de, R: Read<'de>, K: Deserialize<'de, R> + Ord, V: Deserialize<'de, R>> De
     for BTreeMap<K, V> {
     #[tactic(auto, using(crate::proofs::Forms::plain))]
     fn deserialize(de: &mut Deserializer<R>) -> Result<BTreeMap<K, V>> {
-        let mut map = BTreeMap::new(de.items.alloc);
+        let mut map = BTreeMap::new(de.decoder.alloc);
         let mut access = de.map()?;
         'pairs: while let Some(key) = access.next_key::<K>()? {
             let value = access.next_value::<V>()?;

@@ -24,7 +24,7 @@ impl<'de, R: Read<'de>> Deserialize<'de, R> for u8 {
     #[inline(always)]
     fn deserialize(de: &mut Deserializer<R>) -> Result<u8> {
         match read_from_zero(
-            &mut de.items,
+            &mut de.decoder,
             u8::MAX as u64,
             "integer out of range: expected u8",
         ) {
@@ -56,7 +56,7 @@ impl<'de, R: Read<'de>> Deserialize<'de, R> for u16 {
     #[inline(always)]
     fn deserialize(de: &mut Deserializer<R>) -> Result<u16> {
         match read_from_zero(
-            &mut de.items,
+            &mut de.decoder,
             u16::MAX as u64,
             "integer out of range: expected u16",
         ) {
@@ -88,7 +88,7 @@ impl<'de, R: Read<'de>> Deserialize<'de, R> for u32 {
     #[inline(always)]
     fn deserialize(de: &mut Deserializer<R>) -> Result<u32> {
         match read_from_zero(
-            &mut de.items,
+            &mut de.decoder,
             u32::MAX as u64,
             "integer out of range: expected u32",
         ) {
@@ -120,7 +120,7 @@ impl<'de, R: Read<'de>> Deserialize<'de, R> for u64 {
     #[inline(always)]
     fn deserialize(de: &mut Deserializer<R>) -> Result<u64> {
         match read_from_zero(
-            &mut de.items,
+            &mut de.decoder,
             u64::MAX as u64,
             "integer out of range: expected u64",
         ) {
@@ -152,7 +152,7 @@ impl<'de, R: Read<'de>> Deserialize<'de, R> for usize {
     #[inline(always)]
     fn deserialize(de: &mut Deserializer<R>) -> Result<usize> {
         match read_from_zero(
-            &mut de.items,
+            &mut de.decoder,
             usize::MAX as u64,
             "integer out of range: expected usize",
         ) {
@@ -184,7 +184,7 @@ impl<'de, R: Read<'de>> Deserialize<'de, R> for i8 {
     #[inline(always)]
     fn deserialize(de: &mut Deserializer<R>) -> Result<i8> {
         match read_signed(
-            &mut de.items,
+            &mut de.decoder,
             i8::MAX as u64,
             "integer out of range: expected i8",
         ) {
@@ -216,7 +216,7 @@ impl<'de, R: Read<'de>> Deserialize<'de, R> for i16 {
     #[inline(always)]
     fn deserialize(de: &mut Deserializer<R>) -> Result<i16> {
         match read_signed(
-            &mut de.items,
+            &mut de.decoder,
             i16::MAX as u64,
             "integer out of range: expected i16",
         ) {
@@ -248,7 +248,7 @@ impl<'de, R: Read<'de>> Deserialize<'de, R> for i32 {
     #[inline(always)]
     fn deserialize(de: &mut Deserializer<R>) -> Result<i32> {
         match read_signed(
-            &mut de.items,
+            &mut de.decoder,
             i32::MAX as u64,
             "integer out of range: expected i32",
         ) {
@@ -280,7 +280,7 @@ impl<'de, R: Read<'de>> Deserialize<'de, R> for i64 {
     #[inline(always)]
     fn deserialize(de: &mut Deserializer<R>) -> Result<i64> {
         match read_signed(
-            &mut de.items,
+            &mut de.decoder,
             i64::MAX as u64,
             "integer out of range: expected i64",
         ) {
@@ -312,7 +312,7 @@ impl<'de, R: Read<'de>> Deserialize<'de, R> for isize {
     #[inline(always)]
     fn deserialize(de: &mut Deserializer<R>) -> Result<isize> {
         match read_signed(
-            &mut de.items,
+            &mut de.decoder,
             isize::MAX as u64,
             "integer out of range: expected isize",
         ) {
@@ -343,7 +343,7 @@ impl Readable for u128 {
 impl<'de, R: Read<'de>> Deserialize<'de, R> for u128 {
     #[inline(always)]
     fn deserialize(de: &mut Deserializer<R>) -> Result<u128> {
-        read_u128(&mut de.items)
+        read_u128(&mut de.decoder)
     }
 }
 

@@ -24,10 +24,10 @@ impl<'de, R: Read<'de>, T: Deserialize<'de, R>> Deserialize<'de, R> for Option<T
     #[inline(always)]
     #[tactic(auto, using(crate::proofs::Forms::plain))]
     fn deserialize(de: &mut Deserializer<R>) -> Result<Option<T>> {
-        match take_null(&mut de.items) {
+        match take_null(&mut de.decoder) {
             Ok(true) => return Ok(None),
             Ok(false) => {}
-            Err(refused) => return Err(de.items.error(refused)),
+            Err(refused) => return Err(de.decoder.error(refused)),
         }
         match T::deserialize(de) {
             Ok(value) => Ok(Some(value)),

@@ -1,7 +1,7 @@
 //! Vectors and arrays, which are read from arrays.
 
 ghost use Rattle.std.specs.Prelude.{◌≡◌, IfOk, IfErr, OnOk, vec_len};
-ghost use Rattle.cbor_de.specs.Gives.{Onward};
+ghost use Rattle.cbor_decode.specs.Gives.{Onward};
 ghost use Rattle.cbor_io.specs.Error.{code_of};
 ghost use Rattle.cbor_model.specs.Readable.{PassesTags};
 ghost use Rattle.cbor_collections.specs.Arrays.{AsArray, AreExactly, items_in};
@@ -10,7 +10,7 @@ ghost use Rattle.cbor_typed.specs.Forms.{MayTell};
 
 use crate::de::Deserializer;
 use crate::deserialize::{Deserialize, DeserializeOwned, Readable};
-use cbor_de::room::push_any;
+use cbor_decode::room::push_any;
 use cbor_io::error::{Error, Result};
 use cbor_read::Read;
 use std::alloc::AllocError;
@@ -28,7 +28,7 @@ impl<T: Readable> Readable for Vec<T> {
 impl<'de, R: Read<'de>, T: Deserialize<'de, R>> Deserialize<'de, R> for Vec<T> {
     #[tactic(auto, using(crate::proofs::Forms::plain))]
     fn deserialize(de: &mut Deserializer<R>) -> Result<Vec<T>> {
-        let mut items = Vec::new(de.items.alloc);
+        let mut items = Vec::new(de.decoder.alloc);
         let mut access = de.array()?;
         // As `next_element` goes on, whose answer would be moved for each item.
         'items: loop {
@@ -69,19 +69,19 @@ fn exactly<'de, T: Deserialize<'de, R>, R: Read<'de>>(
     de: &mut Deserializer<R>,
     n: usize,
 ) -> Result<Vec<T>>
-    ensures read { TakesItem R.refusals (formats_of de.old.items.formats)
-        (PassesTags (AsArray (AreExactly (T.reads (context de.old.items.formats R.lends)) n)))
-        de.old.items.levels (R.source de.old.items.source) (R.source de.new.items.source)
+    ensures read { TakesItem R.refusals (formats_of de.old.decoder.formats)
+        (PassesTags (AsArray (AreExactly (T.reads (context de.old.decoder.formats R.lends)) n)))
+        de.old.decoder.levels (R.source de.old.decoder.source) (R.source de.new.decoder.source)
         (items_in result) }
-    ensures taken { OnOk result (Onward (R.source de.old.items.source)
-        (R.source de.new.items.source)) }
+    ensures taken { OnOk result (Onward (R.source de.old.decoder.source)
+        (R.source de.new.decoder.source)) }
     ensures form { IfErr result (MayTell T.wrong_forms
-        (formats_of de.old.items.formats) (R.source de.old.items.source)) }
+        (formats_of de.old.decoder.formats) (R.source de.old.decoder.source)) }
     ensures count { IfOk result (λ v. vec_len v ≡ n) }
-    ensures levels { de.new.items.levels ≡ de.old.items.levels }
-    ensures formats { de.new.items.formats ≡ de.old.items.formats }
+    ensures levels { de.new.decoder.levels ≡ de.old.decoder.levels }
+    ensures formats { de.new.decoder.formats ≡ de.old.decoder.formats }
 {
-    let mut items = Vec::new(de.items.alloc);
+    let mut items = Vec::new(de.decoder.alloc);
     let mut access = de.array()?;
     'items: while items.len() < n {
         let item = access.part::<T>(items.len(), n)?;

@@ -22,7 +22,7 @@ impl Readable for String {
 
 impl<'de, R: Read<'de>> Deserialize<'de, R> for String {
     fn deserialize(de: &mut Deserializer<R>) -> Result<String> {
-        read_string(&mut de.items)
+        read_string(&mut de.decoder)
     }
 }
 
@@ -48,7 +48,7 @@ impl Readable for &str {
 
 impl<'de, R: Read<'de>> Deserialize<'de, R> for &'de str {
     fn deserialize(de: &mut Deserializer<R>) -> Result<&'de str> {
-        let alloc = de.items.alloc;
+        let alloc = de.decoder.alloc;
         match de.read_text() {
             Ok(EitherStr::Long(text)) => Ok(text),
             Ok(EitherStr::Short(_)) => {
@@ -77,7 +77,7 @@ impl Readable for &[u8] {
 
 impl<'de, R: Read<'de>> Deserialize<'de, R> for &'de [u8] {
     fn deserialize(de: &mut Deserializer<R>) -> Result<&'de [u8]> {
-        let alloc = de.items.alloc;
+        let alloc = de.decoder.alloc;
         match de.read_bytes() {
             Ok(EitherLifetime::Long(bytes)) => Ok(bytes),
             Ok(EitherLifetime::Short(_)) => {

@@ -10,7 +10,7 @@ impl Readable for Value {
     ghost use Rattle.std.specs.Prelude.{◌≡◌, true};
     ghost use Rattle.cbor_model.specs.Value.{value};
     ghost use Rattle.cbor_value.specs.View.{view};
-    ghost use Rattle.cbor_de.specs.Memory.{IsStored};
+    ghost use Rattle.cbor_decode.specs.Memory.{IsStored};
     ghost use Rattle.cbor_typed.specs.Forms.{item_form};
 
     ghost reads = { λ c r v. view v ≡ value r };
@@ -26,9 +26,9 @@ impl<'de, R: Read<'de>> Deserialize<'de, R> for Value {
     // A loop over items that hands each one through a call takes twice as long.
     #[inline(always)]
     fn deserialize(de: &mut Deserializer<R>) -> Result<Value> {
-        match de.items.value() {
+        match de.decoder.value() {
             Ok(value) => Ok(value),
-            Err(refused) => Err(de.items.error(refused)),
+            Err(refused) => Err(de.decoder.error(refused)),
         }
     }
 }

@@ -1,7 +1,7 @@
 use Rattle.std.proofs.Common.{rules, ◌≡◌, true, Ok, subst}
 use Rattle.std.proofs.lemmas.Result.{err_from_is_err_and}
-use Rattle.cbor_de.specs.Gives.{Step, Stopped}
-use Rattle.cbor_de.specs.declared.formats.Formats.{Formats}
+use Rattle.cbor_decode.specs.Gives.{Step, Stopped}
+use Rattle.cbor_decode.specs.declared.formats.Formats.{Formats}
 use Rattle.cbor_collections.specs.MapAccesses.{key_front}
 use Rattle.cbor_scalars.specs.Takes.{formats_of}
 use Rattle.cbor_collections.proofs.NextKeys.{pair_comes, front_refused}
@@ -9,10 +9,10 @@ use Rattle.cbor_collections.proofs.map.more_pairs.Goals as goal
 
 pub returns-clause-read : goal.returns-clause-read
 returns-clause-read g c =
-    let old = c.args.items.now in
+    let old = c.args.decoder.now in
     let s = g.R.Source.source old.source in
     let m = g.R.Source.source c.more.new.self.source in
-    let t = g.R.Source.source c.key_begins.new.items.source in
+    let t = g.R.Source.source c.key_begins.new.decoder.source in
     let more : c.in_ok-more.field-0 ≡ true = search rules in
     let front = subst (λ (f : Formats). Step m t (λ l bs rest. key_front (formats_of f) bs ≡ Ok (tt, rest))) c.more.ensures.formats c.in_ok-key_begins.ensures.read in
     pair_comes s m (formats_of old.formats) c.args.remaining.now c.more.new.remaining c.in_ok-more.field-0 t more c.in_ok-more.ensures.read front
@@ -20,8 +20,8 @@ returns-clause-read g c =
 pub returns-in_err-key_begins-clause-read : goal.returns-in_err-key_begins-clause-read
 returns-in_err-key_begins-clause-read g c =
     let passed = err_from_is_err_and c.from_residual-in_err-key_begins.result c.from_residual-in_err-key_begins.ensures.1 in
-    let old = c.args.items.now in
-    let new = c.key_begins.new.items in
+    let old = c.args.decoder.now in
+    let new = c.key_begins.new.decoder in
     let s = g.R.Source.source old.source in
     let m = g.R.Source.source c.more.new.self.source in
     let r = c.in_err-key_begins.field-0.0 in

@@ -12,31 +12,31 @@ use Rattle.cbor_collections.proofs.variant.array_variant.Goals as goal
 pub returns-in_err-remaining-clause-read : goal.returns-in_err-remaining-clause-read
 returns-in_err-remaining-clause-read g c =
     let passed = err_from_is_err_and c.from_residual.result c.from_residual.ensures.1 in
-    let old = c.args.items.now in
+    let old = c.args.decoder.now in
     rw (passed.1, passed.2) (no_array (formats_of old.formats) (texts c.args.names.now) g.R.Source.refusals old.levels (g.R.Source.source old.source) c.in_err-remaining.field-0.0 c.in_err-remaining.ensures.read)
 
 pub returns-in_err-expect_item-clause-read : goal.returns-in_err-expect_item-clause-read
 returns-in_err-expect_item-clause-read g c =
     let passed = err_from_is_err_and c.from_residual-in_err-expect_item.result c.from_residual-in_err-expect_item.ensures.1 in
-    let old = c.args.items.now in
-    let inner = c.array_head.new.items in
+    let old = c.args.decoder.now in
+    let inner = c.array_head.new.decoder in
     rw (passed.1, passed.2) (no_first (formats_of old.formats) (texts c.args.names.now) g.R.Source.refusals old.levels (g.R.Source.source old.source) c.in_err-expect_item.field-0.0 (g.R.Source.source inner.source) inner.levels c.in_ok-remaining.remaining c.in_ok-remaining.ensures.read c.in_err-expect_item.ensures.read)
 
 pub returns-in_err-expect_item-clause-cases : goal.returns-in_err-expect_item-clause-cases
 returns-in_err-expect_item-clause-cases g c =
     let passed = err_from_is_err_and c.from_residual-in_err-expect_item.result c.from_residual-in_err-expect_item.ensures.1 in
-    let old = c.args.items.now in
-    let inner = c.array_head.new.items in
+    let old = c.args.decoder.now in
+    let inner = c.array_head.new.decoder in
     rw (passed.1, passed.2) (empty_stands (formats_of old.formats) old.levels inner.levels c.in_ok-remaining.remaining (g.R.Source.source old.source) (g.R.Source.source inner.source) c.in_err-expect_item.field-0.0 c.in_ok-remaining.ensures.read c.in_err-expect_item.ensures.none)
 
 pub returns-in_err-index-clause-read : goal.returns-in_err-index-clause-read
 returns-in_err-index-clause-read g c =
     let passed = err_from_is_err_and c.from_residual-in_err-index.result c.from_residual-in_err-index.ensures.1 in
-    let old = c.args.items.now in
-    let inner = c.array_head.new.items in
-    let mid = c.expect_item.new.items in
+    let old = c.args.decoder.now in
+    let inner = c.array_head.new.decoder in
+    let mid = c.expect_item.new.decoder in
     let b = g.R.Source.source mid.source in
-    let t = g.R.Source.source c.variant_name.new.items.source in
+    let t = g.R.Source.source c.variant_name.new.decoder.source in
     let e = c.in_err-index.field-0.0 in
     let names = texts c.args.names.now in
     let formats = ap formats_of (c.in_ok-expect_item.ensures.formats ∙ c.in_ok-remaining.ensures.formats) in
@@ -47,10 +47,10 @@ returns-in_err-index-clause-read g c =
 
 pub returns-clause-read : goal.returns-clause-read
 returns-clause-read g c =
-    let old = c.args.items.now in
-    let inner = c.array_head.new.items in
-    let mid = c.expect_item.new.items in
-    let new = c.variant_name.new.items in
+    let old = c.args.decoder.now in
+    let inner = c.array_head.new.decoder in
+    let mid = c.expect_item.new.decoder in
+    let new = c.variant_name.new.decoder in
     let b = g.R.Source.source mid.source in
     let t = g.R.Source.source new.source in
     let i = c.in_ok-index.index in
@@ -66,25 +66,25 @@ returns-clause-read g c =
 pub returns-in_err-remaining-clause-opened : goal.returns-in_err-remaining-clause-opened
 returns-in_err-remaining-clause-opened g c =
     let passed = err_from_is_err_and c.from_residual.result c.from_residual.ensures.1 in
-    let old = c.args.items.now in
+    let old = c.args.decoder.now in
     rw (passed.1, passed.2) (array_refused (formats_of old.formats) (texts c.args.names.now) old.levels (g.R.Source.source old.source) g.R.Source.refusals c.in_err-remaining.field-0.0 c.in_err-remaining.ensures.opened)
 
 pub returns-in_err-expect_item-clause-opened : goal.returns-in_err-expect_item-clause-opened
 returns-in_err-expect_item-clause-opened g c =
     let passed = err_from_is_err_and c.from_residual-in_err-expect_item.result c.from_residual-in_err-expect_item.ensures.1 in
-    let old = c.args.items.now in
-    let inner = c.array_head.new.items in
+    let old = c.args.decoder.now in
+    let inner = c.array_head.new.decoder in
     rw (passed.1, passed.2) (empty_refused (formats_of old.formats) (texts c.args.names.now) old.levels (g.R.Source.source old.source) (g.R.Source.source inner.source) inner.levels c.in_ok-remaining.remaining c.in_ok-remaining.ensures.opened
     g.R.Source.refusals c.in_err-expect_item.field-0.0 c.in_err-expect_item.ensures.read)
 
 pub returns-in_err-index-clause-opened : goal.returns-in_err-index-clause-opened
 returns-in_err-index-clause-opened g c =
     let passed = err_from_is_err_and c.from_residual-in_err-index.result c.from_residual-in_err-index.ensures.1 in
-    let old = c.args.items.now in
-    let inner = c.array_head.new.items in
-    let mid = c.expect_item.new.items in
+    let old = c.args.decoder.now in
+    let inner = c.array_head.new.decoder in
+    let mid = c.expect_item.new.decoder in
     let b = g.R.Source.source mid.source in
-    let t = g.R.Source.source c.variant_name.new.items.source in
+    let t = g.R.Source.source c.variant_name.new.decoder.source in
     let e = c.in_err-index.field-0.0 in
     let names = texts c.args.names.now in
     let formats = ap formats_of (c.in_ok-expect_item.ensures.formats ∙ c.in_ok-remaining.ensures.formats) in
@@ -95,10 +95,10 @@ returns-in_err-index-clause-opened g c =
 
 pub returns-clause-opened : goal.returns-clause-opened
 returns-clause-opened g c =
-    let old = c.args.items.now in
-    let inner = c.array_head.new.items in
-    let mid = c.expect_item.new.items in
-    let new = c.variant_name.new.items in
+    let old = c.args.decoder.now in
+    let inner = c.array_head.new.decoder in
+    let mid = c.expect_item.new.decoder in
+    let new = c.variant_name.new.decoder in
     let b = g.R.Source.source mid.source in
     let t = g.R.Source.source new.source in
     let i = c.in_ok-index.index in

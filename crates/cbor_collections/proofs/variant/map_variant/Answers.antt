@@ -11,10 +11,10 @@ use Rattle.cbor_collections.proofs.variant.map_variant.Goals as goal
 pub returns-in_err-index-clause-read : goal.returns-in_err-index-clause-read
 returns-in_err-index-clause-read g c =
     let passed = err_from_is_err_and c.from_residual.result c.from_residual.ensures.1 in
-    let old = c.args.items.now in
-    let mid = c.pair_head.new.items in
+    let old = c.args.decoder.now in
+    let mid = c.pair_head.new.decoder in
     let a = g.R.Source.source mid.source in
-    let t = g.R.Source.source c.variant_name.new.items.source in
+    let t = g.R.Source.source c.variant_name.new.decoder.source in
     let e = c.in_err-index.field-0.0 in
     let names = texts c.args.names.now in
     let read = subst (λ (f : Formats). TakesItem g.R.Source.refusals f (IsName names) mid.levels a t (Err e)) (ap formats_of c.in-Ok.ensures.formats) c.in_err-index.ensures.read in
@@ -22,9 +22,9 @@ returns-in_err-index-clause-read g c =
 
 pub returns-clause-read : goal.returns-clause-read
 returns-clause-read g c =
-    let old = c.args.items.now in
-    let mid = c.pair_head.new.items in
-    let new = c.variant_name.new.items in
+    let old = c.args.decoder.now in
+    let mid = c.pair_head.new.decoder in
+    let new = c.variant_name.new.decoder in
     let a = g.R.Source.source mid.source in
     let t = g.R.Source.source new.source in
     let i = c.in_ok-index.index in
@@ -34,18 +34,18 @@ returns-clause-read g c =
 
 pub returns-in-Err-clause-read : goal.returns-in-Err-clause-read
 returns-in-Err-clause-read g c =
-    let old = c.args.items.now in
-    rw c.error.ensures.source (map_head_refused (formats_of old.formats) (texts c.args.names.now) old.levels (g.R.Source.source old.source) g.R.Source.refusals c.pair_head.new.items.refusal c.in-Err.refused c.error.result c.error.ensures.tells c.in-Err.ensures.read)
+    let old = c.args.decoder.now in
+    rw c.error.ensures.source (map_head_refused (formats_of old.formats) (texts c.args.names.now) old.levels (g.R.Source.source old.source) g.R.Source.refusals c.pair_head.new.decoder.refusal c.in-Err.refused c.error.result c.error.ensures.tells c.in-Err.ensures.read)
 
 -- ---- whatever follows
 
 pub returns-in_err-index-clause-opened : goal.returns-in_err-index-clause-opened
 returns-in_err-index-clause-opened g c =
     let passed = err_from_is_err_and c.from_residual.result c.from_residual.ensures.1 in
-    let old = c.args.items.now in
-    let mid = c.pair_head.new.items in
+    let old = c.args.decoder.now in
+    let mid = c.pair_head.new.decoder in
     let a = g.R.Source.source mid.source in
-    let t = g.R.Source.source c.variant_name.new.items.source in
+    let t = g.R.Source.source c.variant_name.new.decoder.source in
     let e = c.in_err-index.field-0.0 in
     let names = texts c.args.names.now in
     let read = subst (λ (f : Formats). TakesItem g.R.Source.refusals f (IsName names) mid.levels a t (Err e)) (ap formats_of c.in-Ok.ensures.formats) c.in_err-index.ensures.read in
@@ -53,9 +53,9 @@ returns-in_err-index-clause-opened g c =
 
 pub returns-clause-opened : goal.returns-clause-opened
 returns-clause-opened g c =
-    let old = c.args.items.now in
-    let mid = c.pair_head.new.items in
-    let new = c.variant_name.new.items in
+    let old = c.args.decoder.now in
+    let mid = c.pair_head.new.decoder in
+    let new = c.variant_name.new.decoder in
     let a = g.R.Source.source mid.source in
     let t = g.R.Source.source new.source in
     let i = c.in_ok-index.index in
@@ -65,5 +65,5 @@ returns-clause-opened g c =
 
 pub returns-in-Err-clause-opened : goal.returns-in-Err-clause-opened
 returns-in-Err-clause-opened g c =
-    let old = c.args.items.now in
-    rw c.error.ensures.source (pair_refused (formats_of old.formats) (texts c.args.names.now) old.levels (g.R.Source.source old.source) g.R.Source.refusals c.pair_head.new.items.refusal c.in-Err.refused c.error.result c.error.ensures.tells c.in-Err.ensures.read)
+    let old = c.args.decoder.now in
+    rw c.error.ensures.source (pair_refused (formats_of old.formats) (texts c.args.names.now) old.levels (g.R.Source.source old.source) g.R.Source.refusals c.pair_head.new.decoder.refusal c.in-Err.refused c.error.result c.error.ensures.tells c.in-Err.ensures.read)

@@ -1,6 +1,6 @@
 use Rattle.std.proofs.Common.{◌∙◌, ap, sym, subst}
 use Rattle.cbor_model.specs.Formats.{Formats}
-use Rattle.cbor_de.specs.Gives.{Gives}
+use Rattle.cbor_decode.specs.Gives.{Gives}
 use Rattle.cbor_collections.specs.MapAccesses.{key_front}
 use Rattle.cbor_scalars.specs.Takes.{formats_of}
 use Rattle.cbor_collections.proofs.VariantMaps.{pair_headed}
@@ -8,10 +8,10 @@ use Rattle.cbor_collections.proofs.variant.pair_head.Goals as goal
 
 pub returns-clause-read : goal.returns-clause-read
 returns-clause-read g c =
-    let old = c.args.items.now in
+    let old = c.args.decoder.now in
     let byte = c.byte.new.self in
     let inner = c.enter.new.self in
-    let new = c.key_begins.new.items in
+    let new = c.key_begins.new.decoder in
     let t = g.R.Source.source new.source in
     let b = g.R.Source.source inner.source in
     let formats = ap formats_of (c.in_ok-enter.ensures.formats ∙ c.in_ok-byte.ensures.formats) in

@@ -10,9 +10,9 @@ use Rattle.cbor_collections.proofs.variant.tagged_variant.Goals as goal
 
 pub returns-in-Ok-clause-read : goal.returns-in-Ok-clause-read
 returns-in-Ok-clause-read g c =
-    let old = c.args.items.now in
-    let mid = c.pass_tags.new.items in
-    let new = c.untagged_variant.new.items in
+    let old = c.args.decoder.now in
+    let mid = c.pass_tags.new.decoder in
+    let new = c.untagged_variant.new.decoder in
     let a = g.R.Source.source mid.source in
     let t = g.R.Source.source new.source in
     let names = texts c.args.names.now in
@@ -23,9 +23,9 @@ returns-in-Ok-clause-read g c =
 
 pub returns-in-Ok-clause-opened : goal.returns-in-Ok-clause-opened
 returns-in-Ok-clause-opened g c =
-    let old = c.args.items.now in
-    let mid = c.pass_tags.new.items in
-    let new = c.untagged_variant.new.items in
+    let old = c.args.decoder.now in
+    let mid = c.pass_tags.new.decoder in
+    let new = c.untagged_variant.new.decoder in
     let a = g.R.Source.source mid.source in
     let t = g.R.Source.source new.source in
     let names = texts c.args.names.now in
@@ -34,6 +34,6 @@ returns-in-Ok-clause-opened g c =
 
 pub returns-in-Err-clause-opened : goal.returns-in-Err-clause-opened
 returns-in-Err-clause-opened g c =
-    let old = c.args.items.now in
+    let old = c.args.decoder.now in
     let s = g.R.Source.source old.source in
-    rw c.error.ensures.source (tags_refused g.R.Source.refusals (formats_of old.formats) (texts c.args.names.now) old.levels s s c.pass_tags.new.items.refusal c.in-Err.refused c.error.result c.error.ensures.tells c.in-Err.ensures.passed)
+    rw c.error.ensures.source (tags_refused g.R.Source.refusals (formats_of old.formats) (texts c.args.names.now) old.levels s s c.pass_tags.new.decoder.refusal c.in-Err.refused c.error.result c.error.ensures.tells c.in-Err.ensures.passed)

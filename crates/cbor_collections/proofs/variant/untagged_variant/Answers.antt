@@ -1,8 +1,8 @@
 use Rattle.std.proofs.Common.{ℕ, Err, ap, subst}
 use Rattle.std.proofs.lemmas.Result.{err_from_is_err_and}
 use Rattle.cbor_model.specs.Formats.{Formats}
-use Rattle.cbor_de.specs.Gives.{Step}
-use Rattle.cbor_de.proofs.facts.Steps.{took_same, some_then}
+use Rattle.cbor_decode.specs.Gives.{Step}
+use Rattle.cbor_decode.proofs.facts.Steps.{took_same, some_then}
 use Rattle.cbor_scalars.specs.Identifiers.{texts}
 use Rattle.cbor_scalars.specs.Takes.{formats_of}
 use Rattle.cbor_collections.specs.Variants.{TakesShaped, HasShape, IsAlone, IsShaped}
@@ -16,14 +16,14 @@ use Rattle.cbor_collections.proofs.variant.untagged_variant.Goals as goal
 pub returns-in_err-enum_shape-clause-read : goal.returns-in_err-enum_shape-clause-read
 returns-in_err-enum_shape-clause-read g c =
     let passed = err_from_is_err_and c.from_residual.result c.from_residual.ensures.1 in
-    let old = c.args.items.now in
+    let old = c.args.decoder.now in
     rw (passed.1, passed.2) (no_shape (formats_of old.formats) (texts c.args.names.now) g.R.Source.refusals old.levels (g.R.Source.source old.source) c.in_err-enum_shape.field-0.0 c.in_err-enum_shape.ensures.read)
 
 pub returns-in-Array-clause-read : goal.returns-in-Array-clause-read
 returns-in-Array-clause-read g c =
-    let old = c.args.items.now in
-    let mid = c.enum_shape.new.items in
-    let new = c.array_variant.new.items in
+    let old = c.args.decoder.now in
+    let mid = c.enum_shape.new.decoder in
+    let new = c.array_variant.new.decoder in
     let s = g.R.Source.source old.source in
     let a = g.R.Source.source mid.source in
     let t = g.R.Source.source new.source in
@@ -35,9 +35,9 @@ returns-in-Array-clause-read g c =
 
 pub returns-in-Map-clause-read : goal.returns-in-Map-clause-read
 returns-in-Map-clause-read g c =
-    let old = c.args.items.now in
-    let mid = c.enum_shape.new.items in
-    let new = c.map_variant.new.items in
+    let old = c.args.decoder.now in
+    let mid = c.enum_shape.new.decoder in
+    let new = c.map_variant.new.decoder in
     let s = g.R.Source.source old.source in
     let a = g.R.Source.source mid.source in
     let t = g.R.Source.source new.source in
@@ -49,9 +49,9 @@ returns-in-Map-clause-read g c =
 
 pub returns-in-Alone-clause-read : goal.returns-in-Alone-clause-read
 returns-in-Alone-clause-read g c =
-    let old = c.args.items.now in
-    let mid = c.enum_shape.new.items in
-    let new = c.name_alone.new.items in
+    let old = c.args.decoder.now in
+    let mid = c.enum_shape.new.decoder in
+    let new = c.name_alone.new.decoder in
     let s = g.R.Source.source old.source in
     let a = g.R.Source.source mid.source in
     let t = g.R.Source.source new.source in
@@ -63,10 +63,10 @@ returns-in-Alone-clause-read g c =
 
 pub returns-in-Unassigned-clause-read : goal.returns-in-Unassigned-clause-read
 returns-in-Unassigned-clause-read g c =
-    let old = c.args.items.now in
+    let old = c.args.decoder.now in
     let new = c.error.new.self in
     let s = g.R.Source.source old.source in
-    let a = g.R.Source.source c.enum_shape.new.items.source in
+    let a = g.R.Source.source c.enum_shape.new.decoder.source in
     let t = g.R.Source.source new.source in
     let names = texts c.args.names.now in
     let took = some_then _ _ _ c.unassigned_byte-refused.ensures.read.took (took_same (ap g.R.Source.source c.error.ensures.source)) in
@@ -79,15 +79,15 @@ returns-in-Unassigned-clause-read g c =
 pub returns-in_err-enum_shape-clause-opened : goal.returns-in_err-enum_shape-clause-opened
 returns-in_err-enum_shape-clause-opened g c =
     let passed = err_from_is_err_and c.from_residual.result c.from_residual.ensures.1 in
-    let old = c.args.items.now in
+    let old = c.args.decoder.now in
     let s = g.R.Source.source old.source in
-    rw (passed.1, passed.2) (form_refused g.R.Source.refusals (formats_of old.formats) (texts c.args.names.now) old.levels s (g.R.Source.source c.enum_shape.new.items.source) c.in_err-enum_shape.field-0.0 c.in_err-enum_shape.ensures.read)
+    rw (passed.1, passed.2) (form_refused g.R.Source.refusals (formats_of old.formats) (texts c.args.names.now) old.levels s (g.R.Source.source c.enum_shape.new.decoder.source) c.in_err-enum_shape.field-0.0 c.in_err-enum_shape.ensures.read)
 
 pub returns-in-Array-clause-opened : goal.returns-in-Array-clause-opened
 returns-in-Array-clause-opened g c =
-    let old = c.args.items.now in
-    let mid = c.enum_shape.new.items in
-    let new = c.array_variant.new.items in
+    let old = c.args.decoder.now in
+    let mid = c.enum_shape.new.decoder in
+    let new = c.array_variant.new.decoder in
     let s = g.R.Source.source old.source in
     let a = g.R.Source.source mid.source in
     let t = g.R.Source.source new.source in
@@ -99,9 +99,9 @@ returns-in-Array-clause-opened g c =
 
 pub returns-in-Map-clause-opened : goal.returns-in-Map-clause-opened
 returns-in-Map-clause-opened g c =
-    let old = c.args.items.now in
-    let mid = c.enum_shape.new.items in
-    let new = c.map_variant.new.items in
+    let old = c.args.decoder.now in
+    let mid = c.enum_shape.new.decoder in
+    let new = c.map_variant.new.decoder in
     let s = g.R.Source.source old.source in
     let a = g.R.Source.source mid.source in
     let t = g.R.Source.source new.source in
@@ -113,9 +113,9 @@ returns-in-Map-clause-opened g c =
 
 pub returns-in-Alone-clause-opened : goal.returns-in-Alone-clause-opened
 returns-in-Alone-clause-opened g c =
-    let old = c.args.items.now in
-    let mid = c.enum_shape.new.items in
-    let new = c.name_alone.new.items in
+    let old = c.args.decoder.now in
+    let mid = c.enum_shape.new.decoder in
+    let new = c.name_alone.new.decoder in
     let s = g.R.Source.source old.source in
     let a = g.R.Source.source mid.source in
     let t = g.R.Source.source new.source in
@@ -127,10 +127,10 @@ returns-in-Alone-clause-opened g c =
 
 pub returns-in-Unassigned-clause-opened : goal.returns-in-Unassigned-clause-opened
 returns-in-Unassigned-clause-opened g c =
-    let old = c.args.items.now in
+    let old = c.args.decoder.now in
     let new = c.error.new.self in
     let s = g.R.Source.source old.source in
-    let a = g.R.Source.source c.enum_shape.new.items.source in
+    let a = g.R.Source.source c.enum_shape.new.decoder.source in
     let t = g.R.Source.source new.source in
     let f = formats_of old.formats in
     let names = texts c.args.names.now in

@@ -1,6 +1,6 @@
 use Rattle.std.proofs.Common.{◌∙◌, refl}
 use Rattle.cbor_io.specs.Error.{code_of, offset_of}
-use Rattle.cbor_de.specs.declared.formats.Formats.{Formats}
+use Rattle.cbor_decode.specs.declared.formats.Formats.{Formats}
 use Rattle.cbor_described.specs.FieldLists.{FieldTaken, FieldRefused}
 use Rattle.cbor_scalars.specs.Identifiers.{texts}
 use Rattle.cbor_scalars.specs.Takes.{context, formats_of}
@@ -10,7 +10,7 @@ use Rattle.cbor_typed.proofs.facts.Structs.{no_struct, no_field_named, field_nam
 use Rattle.cbor_typed.proofs.facts.Structs.{unknown_other}
 use Rattle.cbor_described.proofs.FieldLists.{unread, begins_with, value_in, value_not_in, lacking_is}
 use Rattle.cbor_typed.specs.Forms.{both, item_form, struct_form, key_form}
-use Rattle.cbor_de.proofs.facts.Steps.{onward_some}
+use Rattle.cbor_decode.proofs.facts.Steps.{onward_some}
 use Rattle.cbor_typed.proofs.facts.Forms.{later_in, of_left, of_right, took_then}
 use Rattle.cbor_described.proofs.FieldForms.{of_fields}
 use Rattle.cbor_described.proofs.field_list.fields_within.Goals as goal
@@ -19,7 +19,7 @@ use Rattle.cbor_described.proofs.field_list.fields_within.Goals as goal
 
 pub returns-in_err-remaining-clause-read : goal.returns-in_err-remaining-clause-read
 returns-in_err-remaining-clause-read g c =
-    let old = c.args.de.now.items in
+    let old = c.args.de.now.decoder in
     let names = texts c.args.names.now in
     let fields = g.F.FieldList.fields (context old.formats g.R.Source.lends) in
     let e = c.in_err-remaining.field-0.0 in
@@ -28,7 +28,7 @@ returns-in_err-remaining-clause-read g c =
 
 pub fields-init : goal.fields-init
 fields-init g c =
-    let k = context c.args.de.now.items.formats g.R.Source.lends in
+    let k = context c.args.de.now.decoder.formats g.R.Source.lends in
     record {
       formats = c.in_ok-remaining.ensures.formats;
       onward = c.in_ok-remaining.ensures.taken;
@@ -39,7 +39,7 @@ fields-init g c =
 
 pub returns-in_err-field-clause-read : goal.returns-in_err-field-clause-read
 returns-in_err-field-clause-read g c =
-    let old = c.args.de.now.items in
+    let old = c.args.de.now.decoder in
     let names = texts c.args.names.now in
     let fields = g.F.FieldList.fields (context old.formats g.R.Source.lends) in
     let e = c.in_err-field.field-0.0 in
@@ -55,29 +55,29 @@ fields-preserved-in-Continue-branch-4 g c =
     let fields = λ (f : Formats). g.F.FieldList.fields (context f g.R.Source.lends) in
     let slots = λ (f : Formats). g.F.FieldList.slots (context f g.R.Source.lends) in
     let next = c.in_ok-field.ensures in
-    let key = field_named names (fields c.args.de.now.items.formats) i.so_far c.in_ok-field.field-0 c.in-Some.field c.in-Some.is refl c.next_key.new.remaining next.read next.formats next.levels in
-    let now = c.next_key.new.de.items in
+    let key = field_named names (fields c.args.de.now.decoder.formats) i.so_far c.in_ok-field.field-0 c.in-Some.field c.in-Some.is refl c.next_key.new.remaining next.read next.formats next.levels in
+    let now = c.next_key.new.de.decoder in
     let done = c.in_ok-take-in-Known.ensures in
     let named = onward_some _ _ _ i.onward next.read.took in
-    let taken = subst (λ (f : Formats). FieldTaken (formats_of now.formats) now.levels (fields f) c.in-Known.i (slots f c.fields.held) (slots f c.take.new.held) (g.R.Source.source now.source) (g.R.Source.source c.take.new.de.items.source)) (next.formats ∙ i.formats) done.read in
+    let taken = subst (λ (f : Formats). FieldTaken (formats_of now.formats) now.levels (fields f) c.in-Known.i (slots f c.fields.held) (slots f c.take.new.held) (g.R.Source.source now.source) (g.R.Source.source c.take.new.de.decoder.source)) (next.formats ∙ i.formats) done.read in
     record {
       formats = done.formats ∙ next.formats ∙ i.formats;
       onward = record { further = omega (arith, named.further, done.forward); counted = named.counted };
-      so_far = value_in names (fields c.args.de.now.items.formats) key c.in-Known.i c.in-Known.is done.formats done.levels refl (slots c.args.de.now.items.formats c.take.new.held) taken;
+      so_far = value_in names (fields c.args.de.now.decoder.formats) key c.in-Known.i c.in-Known.is done.formats done.levels refl (slots c.args.de.now.decoder.formats c.take.new.held) taken;
     }
 
 pub returns-in_err-take-in-Known-clause-read : goal.returns-in_err-take-in-Known-clause-read
 returns-in_err-take-in-Known-clause-read g c =
-    let old = c.args.de.now.items in
+    let old = c.args.de.now.decoder in
     let i = c.fields.invariant in
     let names = texts c.args.names.now in
     let fields = λ (f : Formats). g.F.FieldList.fields (context f g.R.Source.lends) in
     let slots = λ (f : Formats). g.F.FieldList.slots (context f g.R.Source.lends) in
     let next = c.in_ok-field.ensures in
     let key = field_named names (fields old.formats) i.so_far c.in_ok-field.field-0 c.in-Some.field c.in-Some.is refl c.next_key.new.remaining next.read next.formats next.levels in
-    let now = c.next_key.new.de.items in
+    let now = c.next_key.new.de.decoder in
     let e = c.in_err-take-in-Known.field-0.0 in
-    let refused = subst (λ (f : Formats). FieldRefused (formats_of now.formats) now.levels g.R.Source.refusals (fields f) c.in-Known.i (slots f c.fields.held) (g.R.Source.source now.source) (g.R.Source.source c.take.new.de.items.source) e) (next.formats ∙ i.formats) c.in_err-take-in-Known.ensures.read in
+    let refused = subst (λ (f : Formats). FieldRefused (formats_of now.formats) now.levels g.R.Source.refusals (fields f) c.in-Known.i (slots f c.fields.held) (g.R.Source.source now.source) (g.R.Source.source c.take.new.de.decoder.source) e) (next.formats ∙ i.formats) c.in_err-take-in-Known.ensures.read in
     unread names (fields old.formats) g.R.Source.refusals old.formats old.levels (g.R.Source.source old.source) _ e c.from_residual-in_err-take-in-Known.result c.from_residual-in_err-take-in-Known.ensures.1
     (value_not_in names (fields old.formats) key c.in-Known.i c.in-Known.is g.R.Source.refusals e refused) (search rules)
 
@@ -85,7 +85,7 @@ pub fields-preserved : goal.fields-preserved
 fields-preserved g c =
     let i = c.fields.invariant in
     let names = texts c.args.names.now in
-    let fields = g.F.FieldList.fields (context c.args.de.now.items.formats g.R.Source.lends) in
+    let fields = g.F.FieldList.fields (context c.args.de.now.decoder.formats g.R.Source.lends) in
     let next = c.in_ok-field.ensures in
     let done = c.in_ok-skip_item-in-Unknown.ensures in
     record {
@@ -96,7 +96,7 @@ fields-preserved g c =
 
 pub returns-in_err-skip_item-in-Unknown-clause-read : goal.returns-in_err-skip_item-in-Unknown-clause-read
 returns-in_err-skip_item-in-Unknown-clause-read g c =
-    let old = c.args.de.now.items in
+    let old = c.args.de.now.decoder in
     let names = texts c.args.names.now in
     let fields = g.F.FieldList.fields (context old.formats g.R.Source.lends) in
     let next = c.in_ok-field.ensures in
@@ -108,7 +108,7 @@ returns-in_err-skip_item-in-Unknown-clause-read g c =
 
 pub returns-in_err-parts-clause-read : goal.returns-in_err-parts-clause-read
 returns-in_err-parts-clause-read g c =
-    let old = c.args.de.now.items in
+    let old = c.args.de.now.decoder in
     let k = context old.formats g.R.Source.lends in
     let names = texts c.args.names.now in
     let fields = g.F.FieldList.fields k in
@@ -119,17 +119,17 @@ returns-in_err-parts-clause-read g c =
 
 pub returns-in_err-end_map-clause-read : goal.returns-in_err-end_map-clause-read
 returns-in_err-end_map-clause-read g c =
-    let old = c.args.de.now.items in
+    let old = c.args.de.now.decoder in
     let names = texts c.args.names.now in
     let fields = g.F.FieldList.fields (context old.formats g.R.Source.lends) in
     let e = c.in_err-end_map.field-0.0 in
     let nothing = rw c.in_default.is at c.in_ok-field.ensures.remains in
     unread names fields g.R.Source.refusals old.formats old.levels (g.R.Source.source old.source) _ e c.from_residual-in_err-end_map.result c.from_residual-in_err-end_map.ensures.1
-    (end_unread names fields c.fields.invariant.so_far c.in_ok-field.field-0 c.in_default.is refl c.next_key.new.remaining c.in_ok-field.ensures.read g.R.Source.refusals (g.R.Source.source c.end_map.new.de.items.source) e nothing c.in_err-end_map.ensures.read) (search rules)
+    (end_unread names fields c.fields.invariant.so_far c.in_ok-field.field-0 c.in_default.is refl c.next_key.new.remaining c.in_ok-field.ensures.read g.R.Source.refusals (g.R.Source.source c.end_map.new.de.decoder.source) e nothing c.in_err-end_map.ensures.read) (search rules)
 
 pub returns-clause-read : goal.returns-clause-read
 returns-clause-read g c =
-    let k = context c.args.de.now.items.formats g.R.Source.lends in
+    let k = context c.args.de.now.decoder.formats g.R.Source.lends in
     let nothing = rw c.in_default.is at c.in_ok-field.ensures.remains in
     struct_held (texts c.args.names.now) (g.F.FieldList.fields k) c.fields.invariant.so_far c.in_ok-field.field-0 c.in_default.is refl c.next_key.new.remaining c.in_ok-field.ensures.read
     c.in_ok-parts.parts (c.in_ok-parts.ensures.all k) nothing c.in_ok-end_map.ensures.read refl
@@ -142,7 +142,7 @@ returns-in_err-field-clause-form g c =
     let i = c.fields.invariant in
     let e = c.in_err-field.field-0.0 in
     let took = took_then i.so_far.head.took i.so_far.so_far.took in
-    rw (passed.1, passed.2) (of_left struct_form g.F.FieldList.wrong_forms _ _ e (of_left key_form item_form _ _ e (later_in key_form c.args.de.now.items.formats c.fields.de.items.formats _ _ e i.formats took c.in_err-field.ensures.form)))
+    rw (passed.1, passed.2) (of_left struct_form g.F.FieldList.wrong_forms _ _ e (of_left key_form item_form _ _ e (later_in key_form c.args.de.now.decoder.formats c.fields.de.decoder.formats _ _ e i.formats took c.in_err-field.ensures.form)))
 
 pub returns-in_err-take-in-Known-clause-form : goal.returns-in_err-take-in-Known-clause-form
 returns-in_err-take-in-Known-clause-form g c =
@@ -151,7 +151,7 @@ returns-in_err-take-in-Known-clause-form g c =
     let e = c.in_err-take-in-Known.field-0.0 in
     let next = c.in_ok-field.ensures in
     let took = took_then (took_then i.so_far.head.took i.so_far.so_far.took) next.read.took in
-    rw (passed.1, passed.2) (of_fields g.F.FieldList.wrong_forms _ _ e (later_in (both item_form g.F.FieldList.wrong_forms) c.args.de.now.items.formats c.next_key.new.de.items.formats _ _ e (next.formats ∙ i.formats) took c.in_err-take-in-Known.ensures.form))
+    rw (passed.1, passed.2) (of_fields g.F.FieldList.wrong_forms _ _ e (later_in (both item_form g.F.FieldList.wrong_forms) c.args.de.now.decoder.formats c.next_key.new.de.decoder.formats _ _ e (next.formats ∙ i.formats) took c.in_err-take-in-Known.ensures.form))
 
 pub returns-in_err-skip_item-in-Unknown-clause-form : goal.returns-in_err-skip_item-in-Unknown-clause-form
 returns-in_err-skip_item-in-Unknown-clause-form g c =
@@ -160,7 +160,7 @@ returns-in_err-skip_item-in-Unknown-clause-form g c =
     let e = c.in_err-skip_item-in-Unknown.field-0.0 in
     let next = c.in_ok-field.ensures in
     let took = took_then (took_then i.so_far.head.took i.so_far.so_far.took) next.read.took in
-    rw (passed.1, passed.2) (of_left struct_form g.F.FieldList.wrong_forms _ _ e (of_right key_form item_form _ _ e (later_in item_form c.args.de.now.items.formats c.next_key.new.de.items.formats _ _ e (next.formats ∙ i.formats) took c.in_err-skip_item-in-Unknown.ensures.form)))
+    rw (passed.1, passed.2) (of_left struct_form g.F.FieldList.wrong_forms _ _ e (of_right key_form item_form _ _ e (later_in item_form c.args.de.now.decoder.formats c.next_key.new.de.decoder.formats _ _ e (next.formats ∙ i.formats) took c.in_err-skip_item-in-Unknown.ensures.form)))
 
 pub returns-clause-taken : goal.returns-clause-taken
 returns-clause-taken g c =

@@ -9,12 +9,12 @@ use Rattle.cbor_described.proofs.field_list.fill_slot.Goals as goal
 
 pub returns-in-Err-clause-read : goal.returns-in-Err-clause-read
 returns-in-Err-clause-read g c =
-    let old = c.args.de.now.items in
+    let old = c.args.de.now.decoder in
     let k = context old.formats g.R.Source.lends in
     let f = formats_of old.formats in
     let reads = g.A.FieldType.reads k in
     let s = g.R.Source.source old.source in
     let e = c.in-Err.e in
     refuses_map g.R.Source.refusals s (code_of e) (offset_of e) (λ l bs. IsNotRead reads (item_at (raws f l) old.levels bs)) (λ l bs. is_some c.args.slot.now ≡ false → IsNotRead reads (item_at (raws f l) old.levels bs)) (λ l bs unread none. unread)
-    (not_read_as (g.A.Of.Readable.reads k) reads g.R.Source.refusals f old.levels s (g.R.Source.source c.deserialize.new.de.items.source)
+    (not_read_as (g.A.Of.Readable.reads k) reads g.R.Source.refusals f old.levels s (g.R.Source.source c.deserialize.new.de.decoder.source)
     e (λ r y h. g.met.A.FieldType.back k r y h) c.in-Err.ensures.read)

@@ -8,6 +8,6 @@ use Rattle.cbor_described.proofs.field_list.skip_item.Goals as goal
 
 pub returns-in-Err-clause-read : goal.returns-in-Err-clause-read
 returns-in-Err-clause-read g c =
-    let old = c.args.de.now.items in
+    let old = c.args.de.now.decoder in
     let e = c.in-Err.e in
     no_item (λ (r : Raw) (x : IgnoredAny). ⊤) (record {}) (λ r. tt) g.R.Source.refusals (formats_of old.formats) old.levels (g.R.Source.source old.source) (code_of e) (offset_of e) c.in-Err.ensures.read

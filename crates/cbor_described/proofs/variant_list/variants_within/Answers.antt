@@ -1,4 +1,4 @@
-use Rattle.cbor_de.specs.declared.formats.Formats.{Formats}
+use Rattle.cbor_decode.specs.declared.formats.Formats.{Formats}
 use Rattle.cbor_scalars.specs.Identifiers.{texts}
 use Rattle.cbor_scalars.specs.Takes.{context, formats_of}
 use Rattle.cbor_typed.proofs.facts.Enums.{variant_unread}
@@ -10,16 +10,16 @@ use Rattle.cbor_described.proofs.variant_list.variants_within.Goals as goal
 
 pub returns-in_err-index-clause-read : goal.returns-in_err-index-clause-read
 returns-in_err-index-clause-read g c =
-    let old = c.args.de.now.items in
-    variant_unread (texts c.args.names.now) (g.E.VariantList.means (context old.formats g.R.Source.lends)) old.formats old.levels (g.R.Source.source c.variant_head.new.de.items.source) c.in_err-index.field-0.0 c.from_residual.result
+    let old = c.args.de.now.decoder in
+    variant_unread (texts c.args.names.now) (g.E.VariantList.means (context old.formats g.R.Source.lends)) old.formats old.levels (g.R.Source.source c.variant_head.new.de.decoder.source) c.in_err-index.field-0.0 c.from_residual.result
     (λ t took. record { took = took; told = c.in_err-index.ensures.read.told }) c.from_residual.ensures.1 c.in_err-index.ensures.read.took
 
 pub returns-clause-read : goal.returns-clause-read
 returns-clause-read g c =
-    let old = c.args.de.now.items in
-    let mid = c.variant_head.new.de.items in
+    let old = c.args.de.now.decoder in
+    let mid = c.variant_head.new.de.decoder in
     enum_answer (texts c.args.names.now) (λ (f : Formats). g.E.VariantList.means (context f g.R.Source.lends)) old.formats old.levels
-    (g.R.Source.source old.source) (g.R.Source.source mid.source) (g.R.Source.source c.read_variant.new.de.items.source) c.in_ok-index.index mid.levels c.in_ok-index.form mid.formats c.in_ok-index.ensures.formats g.R.Source.refusals
+    (g.R.Source.source old.source) (g.R.Source.source mid.source) (g.R.Source.source c.read_variant.new.de.decoder.source) c.in_ok-index.index mid.levels c.in_ok-index.form mid.formats c.in_ok-index.ensures.formats g.R.Source.refusals
     c.in_ok-index.ensures.read c.read_variant.result c.read_variant.ensures.read
 
 -- ---- a wrong form
@@ -28,9 +28,9 @@ pub returns-in_err-index-clause-form : goal.returns-in_err-index-clause-form
 returns-in_err-index-clause-form g c =
     let passed = err_from_is_err_and c.from_residual.result c.from_residual.ensures.1 in
     let e = c.in_err-index.field-0.0 in
-    rw (passed.1, passed.2) (of_left enum_form g.E.VariantList.wrong_forms _ _ e (enum_told (formats_of c.args.de.now.items.formats) c.args.de.now.items.levels (g.R.Source.source c.args.de.now.items.source) e c.in_err-index.ensures.code c.in_err-index.ensures.cases))
+    rw (passed.1, passed.2) (of_left enum_form g.E.VariantList.wrong_forms _ _ e (enum_told (formats_of c.args.de.now.decoder.formats) c.args.de.now.decoder.levels (g.R.Source.source c.args.de.now.decoder.source) e c.in_err-index.ensures.code c.in_err-index.ensures.cases))
 
 pub returns-clause-form : goal.returns-clause-form
 returns-clause-form g c =
     let r = c.read_variant.result in
-    right_err enum_form g.E.VariantList.wrong_forms _ _ r (later_err g.E.VariantList.wrong_forms c.args.de.now.items.formats c.variant_head.new.de.items.formats _ _ r c.in_ok-index.ensures.formats c.in_ok-index.ensures.read.took c.read_variant.ensures.form)
+    right_err enum_form g.E.VariantList.wrong_forms _ _ r (later_err g.E.VariantList.wrong_forms c.args.de.now.decoder.formats c.variant_head.new.de.decoder.formats _ _ r c.in_ok-index.ensures.formats c.in_ok-index.ensures.read.took c.read_variant.ensures.form)

@@ -1,6 +1,6 @@
 use Rattle.std.proofs.Common.{ℕ, ◌<◌, ◌^◌, List, length, Some, drop, ap, subst}
 use Rattle.cbor_model.specs.Raw.{AreBytes}
-use Rattle.cbor_de.specs.Gives.{Gave}
+use Rattle.cbor_decode.specs.Gives.{Gave}
 use Rattle.cbor_round.proofs.Calls.{gave_all, only_memory, same_again, spelled_again}
 use Rattle.cbor_round.proofs.laws.write_and_read.Goals as goal
 

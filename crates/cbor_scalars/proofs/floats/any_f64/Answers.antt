@@ -6,22 +6,22 @@ use Rattle.cbor_scalars.proofs.floats.any_f64.Goals as goal
 
 pub returns-in-Ok-clause-read : goal.returns-in-Ok-clause-read
 returns-in-Ok-clause-read g c =
-    let items = c.args.items.now in
+    let decoder = c.args.decoder.now in
     double_read g.R.Source.refusals
-    (λ l bs. item_at (raws (formats_of items.formats) l) items.levels bs)
-    (g.R.Source.source items.source) (g.R.Source.source c.read_float.new.items.source)
+    (λ l bs. item_at (raws (formats_of decoder.formats) l) decoder.levels bs)
+    (g.R.Source.source decoder.source) (g.R.Source.source c.read_float.new.decoder.source)
     c.in-Ok.float c.to_f64.result c.to_f64.ensures c.in-Ok.ensures.read
 
 pub returns-in-Err-clause-read : goal.returns-in-Err-clause-read
 returns-in-Err-clause-read g c =
-    let items = c.args.items.now in
+    let decoder = c.args.decoder.now in
     double_refused g.R.Source.refusals
-    (λ l bs. item_at (raws (formats_of items.formats) l) items.levels bs)
-    (g.R.Source.source items.source) (code_of c.in-Err.e) (offset_of c.in-Err.e)
+    (λ l bs. item_at (raws (formats_of decoder.formats) l) decoder.levels bs)
+    (g.R.Source.source decoder.source) (code_of c.in-Err.e) (offset_of c.in-Err.e)
     c.in-Err.ensures.read
 
 pub returns-in-Err-clause-memory : goal.returns-in-Err-clause-memory
 returns-in-Err-clause-memory g c =
-    let items = c.args.items.now in
-    double_memory (formats_of items.formats) items.levels (g.R.Source.source items.source)
+    let decoder = c.args.decoder.now in
+    double_memory (formats_of decoder.formats) decoder.levels (g.R.Source.source decoder.source)
     c.in-Err.e c.in-Err.ensures.memory

@@ -3,8 +3,8 @@ use Rattle.std.proofs.lemmas.Result.{err_from_is_err_and}
 use Rattle.cbor_model.specs.Readable.{PassesTags}
 use Rattle.cbor_model.specs.Reader.{item_at}
 use Rattle.cbor_io.specs.Error.{code_of, offset_of}
-use Rattle.cbor_de.specs.declared.head.Head.{Head}
-use Rattle.cbor_de.proofs.facts.Steps.{took_same}
+use Rattle.cbor_decode.specs.declared.head.Head.{Head}
+use Rattle.cbor_decode.proofs.facts.Steps.{took_same}
 use Rattle.cbor_scalars.specs.Identifiers.{texts, IsIdentifier}
 use Rattle.cbor_scalars.specs.Opens.{OpensItem}
 use Rattle.cbor_scalars.specs.Takes.{formats_of, raws}
@@ -15,8 +15,8 @@ use Rattle.cbor_scalars.proofs.identifier.any_identifier.Goals as goal
 
 pub returns-in-Unsigned-clause-read : goal.returns-in-Unsigned-clause-read
 returns-in-Unsigned-clause-read g c =
-    let old = c.args.items.now in
-    let u = c.scalar.new.items in
+    let old = c.args.decoder.now in
+    let u = c.scalar.new.decoder in
     let f = formats_of old.formats in
     let s = g.R.Source.source old.source in
     let m = g.R.Source.source u.source in
@@ -25,12 +25,12 @@ returns-in-Unsigned-clause-read g c =
 
 pub returns-in_ok-text_name-in-Text-clause-read : goal.returns-in_ok-text_name-in-Text-clause-read
 returns-in_ok-text_name-in-Text-clause-read g c =
-    let old = c.args.items.now in
-    let u = c.scalar.new.items in
+    let old = c.args.decoder.now in
+    let u = c.scalar.new.decoder in
     let f = formats_of old.formats in
     let s = g.R.Source.source old.source in
     let m = g.R.Source.source u.source in
-    let t = g.R.Source.source c.text_name.new.items.source in
+    let t = g.R.Source.source c.text_name.new.decoder.source in
     let opened = subst (λ (h : Head). OpensItem g.R.Source.refusals f old.levels s m u.refusal (Ok h)) c.in-Text.is c.in_ok-found.ensures.read in
     let named = c.in_ok-text_name-in-Text.ensures.read in
     text_names (texts c.args.names.now) g.R.Source.refusals f g.R.Source.lends old.levels s m u.refusal c.in-Text.n t named.0 c.in_ok-text_name-in-Text.field-0 named.1 named.2 opened named.3
@@ -38,8 +38,8 @@ returns-in_ok-text_name-in-Text-clause-read g c =
 pub returns-in_err-text_name-in-Text-clause-read : goal.returns-in_err-text_name-in-Text-clause-read
 returns-in_err-text_name-in-Text-clause-read g c =
     let passed = err_from_is_err_and c.from_residual-in_err-text_name-in-Text.result c.from_residual-in_err-text_name-in-Text.ensures.1 in
-    let old = c.args.items.now in
-    let u = c.scalar.new.items in
+    let old = c.args.decoder.now in
+    let u = c.scalar.new.decoder in
     let f = formats_of old.formats in
     let s = g.R.Source.source old.source in
     let m = g.R.Source.source u.source in
@@ -48,9 +48,9 @@ returns-in_err-text_name-in-Text-clause-read g c =
 
 pub returns-in-Bytes-clause-read : goal.returns-in-Bytes-clause-read
 returns-in-Bytes-clause-read g c =
-    let old = c.args.items.now in
-    let u = c.scalar.new.items in
-    let new = c.bytes_name.new.items in
+    let old = c.args.decoder.now in
+    let u = c.scalar.new.decoder in
+    let new = c.bytes_name.new.decoder in
     let f = formats_of old.formats in
     let s = g.R.Source.source old.source in
     let m = g.R.Source.source u.source in
@@ -60,8 +60,8 @@ returns-in-Bytes-clause-read g c =
 
 pub returns-in_default-clause-read : goal.returns-in_default-clause-read
 returns-in_default-clause-read g c =
-    let old = c.args.items.now in
-    let u = c.scalar.new.items in
+    let old = c.args.decoder.now in
+    let u = c.scalar.new.decoder in
     let f = formats_of old.formats in
     let s = g.R.Source.source old.source in
     let m = g.R.Source.source u.source in
@@ -70,7 +70,7 @@ returns-in_default-clause-read g c =
 pub returns-in_err-found-clause-read : goal.returns-in_err-found-clause-read
 returns-in_err-found-clause-read g c =
     let passed = err_from_is_err_and c.from_residual.result c.from_residual.ensures.1 in
-    let old = c.args.items.now in
+    let old = c.args.decoder.now in
     let f = formats_of old.formats in
     let s = g.R.Source.source old.source in
-    rw (passed.1, passed.2) (λ e made. refuses g.R.Source.refusals (PassesTags (IsIdentifier (texts c.args.names.now))) (λ l. item_at (raws f l) old.levels) s c.scalar.new.items.refusal c.in_err-found.field-0.0 e made c.in_err-found.ensures.read.1)
+    rw (passed.1, passed.2) (λ e made. refuses g.R.Source.refusals (PassesTags (IsIdentifier (texts c.args.names.now))) (λ l. item_at (raws f l) old.levels) s c.scalar.new.decoder.refusal c.in_err-found.field-0.0 e made c.in_err-found.ensures.read.1)

@@ -6,10 +6,10 @@ use Rattle.cbor_scalars.proofs.identifier.definite_name.Goals as goal
 
 pub returns-in-Ok-clause-read : goal.returns-in-Ok-clause-read
 returns-in-Ok-clause-read g c =
-    let s = g.R.Source.source c.args.items.now.source in
+    let s = g.R.Source.source c.args.decoder.now.source in
     let t = g.R.Source.source c.advance.new.self in
     let n = c.args.n in
-    let hand = g.R.Source.at_hand c.args.items.now.source in
+    let hand = g.R.Source.at_hand c.args.decoder.now.source in
     let same = c.ahead-ahead.ensures.bytes in
     let within : n ≤ length hand = omega (arith, ap length same, c.if-n-ahead.true) in
     let named : IsUtf8 (take n hand) × IsPlace (texts c.args.names.now) (take n hand) c.in-Ok.place =

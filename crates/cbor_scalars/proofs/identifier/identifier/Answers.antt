@@ -14,7 +14,7 @@ use Rattle.cbor_scalars.proofs.identifier.identifier.Goals as goal
 pub returns-in_err-definite_name-in-Some-clause-read : goal.returns-in_err-definite_name-in-Some-clause-read
 returns-in_err-definite_name-in-Some-clause-read g c =
     let passed = err_from_is_err_and c.from_residual.result c.from_residual.ensures.1 in
-    let old = c.args.items.now in
+    let old = c.args.decoder.now in
     let u = c.short_text.new.self in
     let f = formats_of old.formats in
     let s = g.R.Source.source old.source in
@@ -24,21 +24,21 @@ returns-in_err-definite_name-in-Some-clause-read g c =
 
 pub returns-in_ok-definite_name-in-Some-clause-read : goal.returns-in_ok-definite_name-in-Some-clause-read
 returns-in_ok-definite_name-in-Some-clause-read g c =
-    let old = c.args.items.now in
+    let old = c.args.decoder.now in
     let u = c.short_text.new.self in
     let f = formats_of old.formats in
     let s = g.R.Source.source old.source in
     let m = g.R.Source.source u.source in
-    let t = g.R.Source.source c.definite_name.new.items.source in
+    let t = g.R.Source.source c.definite_name.new.decoder.source in
     let opened = text_opened g.R.Source.refusals f s m old.levels c.in-Some.n u.refusal c.in-Some.ensures.read in
     let named = c.in_ok-definite_name-in-Some.ensures.read in
     text_names (texts c.args.names.now) g.R.Source.refusals f g.R.Source.lends old.levels s m u.refusal (Some c.in-Some.n) t named.0 c.in_ok-definite_name-in-Some.field-0 named.1 named.2 opened named.3
 
 pub returns-in-None-clause-read : goal.returns-in-None-clause-read
 returns-in-None-clause-read g c =
-    let old = c.args.items.now in
+    let old = c.args.decoder.now in
     let u = c.short_text.new.self in
-    let new = c.any_identifier.new.items in
+    let new = c.any_identifier.new.decoder in
     let s = g.R.Source.source u.source in
     let t = g.R.Source.source new.source in
     let identifier = PassesTags (IsIdentifier (texts c.args.names.now)) in

@@ -4,7 +4,7 @@ use Rattle.cbor_scalars.proofs.identifier.joined_name.Goals as goal
 
 pub returns-in-Ok-clause-read : goal.returns-in-Ok-clause-read
 returns-in-Ok-clause-read g c =
-    let s = g.R.Source.source c.args.items.now.source in
+    let s = g.R.Source.source c.args.decoder.now.source in
     let m = g.R.Source.source c.join.new.self.source in
     let t = g.R.Source.source c.take_buffer.follows.lender-at-none in
     let p = c.take_buffer.result in

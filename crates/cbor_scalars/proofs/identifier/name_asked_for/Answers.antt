@@ -6,7 +6,7 @@ use Rattle.cbor_scalars.proofs.identifier.name_asked_for.Goals as goal
 
 pub returns-in-Ok-named-clause-read : goal.returns-in-Ok-named-clause-read
 returns-in-Ok-named-clause-read g c =
-    let s = g.R.Source.source c.args.items.now.source in
+    let s = g.R.Source.source c.args.decoder.now.source in
     let t = g.R.Source.source c.read.follows.lender-at-none in
     let p = c.in-Ok.part in
     let n = c.args.n in

@@ -1,18 +1,18 @@
 use Rattle.std.proofs.Common.{◌≡◌, ◌∙◌, ℕ, Option, Some, None, Ok, Err, refl, sym, subst, true, ap}
 use Rattle.std.proofs.lemmas.Result.{MatchResult-at_err, MatchResult-at_ok}
 use Rattle.cbor_read.specs.Source.{asks_for, part_bytes}
-use Rattle.cbor_de.specs.declared.head.Head.TheVariants.{Bytes}
+use Rattle.cbor_decode.specs.declared.head.Head.TheVariants.{Bytes}
 use Rattle.cbor_scalars.specs.Strings.{Lent, UnreadBy, UnreadOnly, asks_head, behind_string, content_at}
 use Rattle.cbor_scalars.specs.declared.lent.Unread.TheVariants.{Stopped}
 use Rattle.cbor_scalars.proofs.Lending.{read_step}
 use Rattle.cbor_scalars.proofs.Memory.{kept_only}
 use Rattle.cbor_scalars.proofs.PassedLent.{bytes_by, bytes_cut, content_refuses, kept_no_key, kept_stop, source_no_key}
-use Rattle.cbor_de.proofs.facts.Steps.{some_then, took_same}
+use Rattle.cbor_decode.proofs.facts.Steps.{some_then, took_same}
 use Rattle.cbor_scalars.proofs.lent.bytes_part.Goals as goal
 
 pub returns-in-Ok : goal.returns-in-Ok
 returns-in-Ok g c =
-    let s = g.R.Source.source c.args.items.now.source in
+    let s = g.R.Source.source c.args.decoder.now.source in
     let t = g.R.Source.source c.read.follows.lender-at-none in
     let p = c.in-Ok.part in
     let n = c.in-Some.n in
@@ -23,7 +23,7 @@ returns-in-Ok g c =
 
 pub returns-in-Err : goal.returns-in-Err
 returns-in-Err g c =
-    let s = g.R.Source.source c.args.items.now.source in
+    let s = g.R.Source.source c.args.decoder.now.source in
     let t = g.R.Source.source c.read.follows.lender-at-none in
     let q = c.in-Err.refusal in
     let n = c.in-Some.n in
@@ -34,8 +34,8 @@ returns-in-Err g c =
 
 pub returns-in-Err-join : goal.returns-in-Err-join
 returns-in-Err-join g c =
-    let s = g.R.Source.source c.args.items.now.source in
-    let t = g.R.Source.source c.stopped.new.items.source in
+    let s = g.R.Source.source c.args.decoder.now.source in
+    let t = g.R.Source.source c.stopped.new.decoder.source in
     let q = c.stopped.result in
     let kept = c.join.new.self.refusal in
     let r = c.in-Err-join.refused in

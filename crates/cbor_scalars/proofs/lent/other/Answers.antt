@@ -3,4 +3,4 @@ use Rattle.cbor_scalars.proofs.lent.other.Goals as goal
 
 pub returns-in-Ok-clause-fault : goal.returns-in-Ok-clause-fault
 returns-in-Ok-clause-fault g c =
-    behind_stood g.R.Source.refusals c.args.found (g.R.Source.source c.args.items.now.source) (g.R.Source.source c.pass_over.new.items.source) c.in-Ok.ensures.read
+    behind_stood g.R.Source.refusals c.args.found (g.R.Source.source c.args.decoder.now.source) (g.R.Source.source c.pass_over.new.decoder.source) c.in-Ok.ensures.read

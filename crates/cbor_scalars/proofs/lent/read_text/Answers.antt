@@ -1,8 +1,8 @@
 use Rattle.std.proofs.Common.{◌∙◌, Ok, IfErr, refl, subst, ap}
 use Rattle.std.proofs.lemmas.Result.{err_from_is_err_and}
-use Rattle.cbor_de.specs.declared.head.Head.{Head}
-use Rattle.cbor_de.specs.declared.head.Head.TheVariants as head
-use Rattle.cbor_de.proofs.facts.Steps.{onward_some, took_same, some_then}
+use Rattle.cbor_decode.specs.declared.head.Head.{Head}
+use Rattle.cbor_decode.specs.declared.head.Head.TheVariants as head
+use Rattle.cbor_decode.proofs.facts.Steps.{onward_some, took_same, some_then}
 use Rattle.cbor_scalars.specs.Opens.{OpensItem}
 use Rattle.cbor_scalars.specs.Strings.{AsksForString, AsksToLend, IsNoKey, LendsWhole, Lent, UnreadOnly}
 use Rattle.cbor_scalars.specs.Takes.{IsNotRead, formats_of, raws}
@@ -17,10 +17,10 @@ use Rattle.cbor_scalars.proofs.lent.read_text.Goals as goal
 
 pub returns-in-Text : goal.returns-in-Text
 returns-in-Text g c =
-    let u = c.scalar.new.items in
-    let levels = c.args.items.now.levels in
-    let f = formats_of c.args.items.now.formats in
-    let s = g.R.Source.source c.args.items.now.source in
+    let u = c.scalar.new.decoder in
+    let levels = c.args.decoder.now.levels in
+    let f = formats_of c.args.decoder.now.formats in
+    let s = g.R.Source.source c.args.decoder.now.source in
     let m = g.R.Source.source u.source in
     let t = g.R.Source.source c.text_part.follows.lender-at-none.source in
     let opened = subst (λ (h : Head). OpensItem g.R.Source.refusals f levels s m u.refusal (Ok h)) c.in-Text.is c.in-Ok.ensures.read in
@@ -30,10 +30,10 @@ returns-in-Text g c =
 pub returns-in_err-bytes_part-in-Bytes : goal.returns-in_err-bytes_part-in-Bytes
 returns-in_err-bytes_part-in-Bytes g c =
     let passed = err_from_is_err_and c.from_residual.result c.from_residual.ensures.1 in
-    let u = c.scalar.new.items in
-    let levels = c.args.items.now.levels in
-    let f = formats_of c.args.items.now.formats in
-    let s = g.R.Source.source c.args.items.now.source in
+    let u = c.scalar.new.decoder in
+    let levels = c.args.decoder.now.levels in
+    let f = formats_of c.args.decoder.now.formats in
+    let s = g.R.Source.source c.args.decoder.now.source in
     let m = g.R.Source.source u.source in
     let t = g.R.Source.source c.bytes_part.follows.lender-at-none.source in
     let opened = subst (λ (h : Head). OpensItem g.R.Source.refusals f levels s m u.refusal (Ok h)) c.in-Bytes.is c.in-Ok.ensures.read in
@@ -43,10 +43,10 @@ returns-in_err-bytes_part-in-Bytes g c =
 
 pub returns-in_ok-bytes_part-in-Bytes : goal.returns-in_ok-bytes_part-in-Bytes
 returns-in_ok-bytes_part-in-Bytes g c =
-    let u = c.scalar.new.items in
-    let levels = c.args.items.now.levels in
-    let f = formats_of c.args.items.now.formats in
-    let s = g.R.Source.source c.args.items.now.source in
+    let u = c.scalar.new.decoder in
+    let levels = c.args.decoder.now.levels in
+    let f = formats_of c.args.decoder.now.formats in
+    let s = g.R.Source.source c.args.decoder.now.source in
     let m = g.R.Source.source u.source in
     let t = g.R.Source.source c.bytes_part.follows.lender-at-none.source in
     let p = c.in_ok-bytes_part-in-Bytes.field-0 in
@@ -57,18 +57,18 @@ returns-in_ok-bytes_part-in-Bytes g c =
 
 pub returns-in_default : goal.returns-in_default
 returns-in_default g c =
-    let u = c.scalar.new.items in
-    let s = g.R.Source.source c.args.items.now.source in
-    let f = formats_of c.args.items.now.formats in
-    let t = g.R.Source.source c.other.new.items.source in
-    ((refl, λ _. tt, (c.other.ensures.levels ∙ c.in-Ok.ensures.levels, c.other.ensures.formats ∙ c.in-Ok.ensures.formats, other_item g.R.Source.refusals f g.R.Source.lends c.args.items.now.levels s (g.R.Source.source u.source) u.refusal c.in-Ok.found.head c.other.result t c.in_default.not-Text c.in_default.not-Bytes c.in-Ok.ensures.read c.other.ensures.took, c.other.ensures.no_key, of_other g.R.Source.refusals (asks_for g.R.Source.refusals g.R.Source.lends) f c.args.items.now.levels s (g.R.Source.source u.source) u.refusal c.in-Ok.found c.in-Ok.ensures.opened c.other.result c.in_default.not-Text c.in_default.not-Bytes c.in-Ok.ensures.read c.other.ensures.memory, other_lends g.R.Source.refusals c.in-Ok.found c.args.items.now.levels s (g.R.Source.source u.source) c.in-Ok.ensures.opened c.other.result c.other.ensures.fault, tt)), record { after_borrow = tt })
+    let u = c.scalar.new.decoder in
+    let s = g.R.Source.source c.args.decoder.now.source in
+    let f = formats_of c.args.decoder.now.formats in
+    let t = g.R.Source.source c.other.new.decoder.source in
+    ((refl, λ _. tt, (c.other.ensures.levels ∙ c.in-Ok.ensures.levels, c.other.ensures.formats ∙ c.in-Ok.ensures.formats, other_item g.R.Source.refusals f g.R.Source.lends c.args.decoder.now.levels s (g.R.Source.source u.source) u.refusal c.in-Ok.found.head c.other.result t c.in_default.not-Text c.in_default.not-Bytes c.in-Ok.ensures.read c.other.ensures.took, c.other.ensures.no_key, of_other g.R.Source.refusals (asks_for g.R.Source.refusals g.R.Source.lends) f c.args.decoder.now.levels s (g.R.Source.source u.source) u.refusal c.in-Ok.found c.in-Ok.ensures.opened c.other.result c.in_default.not-Text c.in_default.not-Bytes c.in-Ok.ensures.read c.other.ensures.memory, other_lends g.R.Source.refusals c.in-Ok.found c.args.decoder.now.levels s (g.R.Source.source u.source) c.in-Ok.ensures.opened c.other.result c.other.ensures.fault, tt)), record { after_borrow = tt })
 
 pub returns-in-Err : goal.returns-in-Err
 returns-in-Err g c =
-    let u = c.scalar.new.items in
-    let levels = c.args.items.now.levels in
-    let f = formats_of c.args.items.now.formats in
-    let s = g.R.Source.source c.args.items.now.source in
+    let u = c.scalar.new.decoder in
+    let levels = c.args.decoder.now.levels in
+    let f = formats_of c.args.decoder.now.formats in
+    let s = g.R.Source.source c.args.decoder.now.source in
     let q = c.stopped.result in
     let e = c.in-Err.ensures in
     let kept = c.stopped.ensures.kept in

@@ -1,20 +1,20 @@
 use Rattle.std.proofs.Common.{◌≡◌, ◌+◌, ◌^◌, ℕ, Option, Some, None, Err, IfErr, ◌∙◌, arith, refl, sym, subst, ltb, true, ap}
 use Rattle.std.proofs.lemmas.Result.{MatchResult-at_err, MatchResult-at_ok}
 use Rattle.cbor_read.specs.Source.{asks_for, part_bytes}
-use Rattle.cbor_de.specs.declared.head.Head.TheVariants as head
+use Rattle.cbor_decode.specs.declared.head.Head.TheVariants as head
 use Rattle.cbor_scalars.specs.Strings.{IsNoKey, LentText, UnreadBy, UnreadOnly, asks_head, behind_string, content_at}
 use Rattle.cbor_scalars.proofs.Lending.{text_step, joined_step, text_lent, part_no_key}
 use Rattle.cbor_scalars.proofs.Memory.{kept_only, part_only}
 use Rattle.cbor_scalars.proofs.PassedLent.{content_refuses_text, kept_is, kept_no_key, kept_stop, part_told, source_no_key, text_by, text_cut, text_too_long}
 use Rattle.cbor_io.specs.declared.read_error.ReadErrorCode.TheVariants.{LengthOutOfRange}
-use Rattle.cbor_de.specs.Gives.{IsAt}
+use Rattle.cbor_decode.specs.Gives.{IsAt}
 use Rattle.cbor_scalars.specs.declared.lent.Unread.TheVariants.{Stopped}
-use Rattle.cbor_de.proofs.facts.Steps.{some_then, took_same}
+use Rattle.cbor_decode.proofs.facts.Steps.{some_then, took_same}
 use Rattle.cbor_scalars.proofs.lent.text_part.Goals as goal
 
 pub returns-in-Ok : goal.returns-in-Ok
 returns-in-Ok g c =
-    let s = g.R.Source.source c.args.items.now.source in
+    let s = g.R.Source.source c.args.decoder.now.source in
     let t = g.R.Source.source c.read.follows.lender-at-none in
     let p = c.in-Ok.part in
     let n = c.in-Some.n in
@@ -27,7 +27,7 @@ returns-in-Ok g c =
 
 pub returns-in-Ok-join : goal.returns-in-Ok-join
 returns-in-Ok-join g c =
-    let s = g.R.Source.source c.args.items.now.source in
+    let s = g.R.Source.source c.args.decoder.now.source in
     let m = g.R.Source.source c.join.new.self.source in
     let t = g.R.Source.source c.take_buffer.follows.lender-at-none in
     let p = c.take_buffer.result in
@@ -38,8 +38,8 @@ returns-in-Ok-join g c =
 
 pub returns-then-not-has_room : goal.returns-then-not-has_room
 returns-then-not-has_room g c =
-    let s = g.R.Source.source c.args.items.now.source in
-    let t = g.R.Source.source c.stopped.new.items.source in
+    let s = g.R.Source.source c.args.decoder.now.source in
+    let t = g.R.Source.source c.stopped.new.decoder.source in
     let q = c.stopped.result in
     let kept = c.refuse-refused.new.self.refusal in
     let r = c.refuse-refused.result in
@@ -55,7 +55,7 @@ returns-then-not-has_room g c =
 
 pub returns-in-Err : goal.returns-in-Err
 returns-in-Err g c =
-    let s = g.R.Source.source c.args.items.now.source in
+    let s = g.R.Source.source c.args.decoder.now.source in
     let t = g.R.Source.source c.read.follows.lender-at-none in
     let q = c.in-Err.refusal in
     let n = c.in-Some.n in
@@ -67,8 +67,8 @@ returns-in-Err g c =
 
 pub returns-in-Err-join : goal.returns-in-Err-join
 returns-in-Err-join g c =
-    let s = g.R.Source.source c.args.items.now.source in
-    let t = g.R.Source.source c.stopped-in-Err-join.new.items.source in
+    let s = g.R.Source.source c.args.decoder.now.source in
+    let t = g.R.Source.source c.stopped-in-Err-join.new.decoder.source in
     let q = c.stopped-in-Err-join.result in
     let kept = c.join.new.self.refusal in
     let r = c.in-Err-join.refused in

@@ -1,4 +1,4 @@
-use Rattle.cbor_de.specs.Heads.{head_at}
+use Rattle.cbor_decode.specs.Heads.{head_at}
 use Rattle.cbor_scalars.proofs.Opened.{head_onward, head_taken}
 use Rattle.cbor_scalars.proofs.opening.take_head.Goals as goal
 

@@ -1,5 +1,5 @@
 use Rattle.std.proofs.Common.{◌≡◌, ℕ, true, List, ◌∷◌, Ok, refl}
-use Rattle.cbor_de.proofs.facts.Steps.{peeked_step}
+use Rattle.cbor_decode.proofs.facts.Steps.{peeked_step}
 use Rattle.cbor_scalars.specs.Options.{null_at}
 use Rattle.cbor_scalars.proofs.optional.take_null.Goals as goal
 

@@ -3,8 +3,8 @@ use Rattle.std.specs.String.{string_bytes}
 use Rattle.std.specs.Str.{IsUtf8}
 use Rattle.std.specs.Str.Lossy.{utf8_valid_len}
 use Rattle.std.proofs.lemmas.Str.{utf8_valid_len_le, IsUtf8-string_bytes}
-use Rattle.cbor_de.specs.Gives.{IsErrorOf}
-use Rattle.cbor_de.specs.declared.refusal.Refused.{Refused}
+use Rattle.cbor_decode.specs.Gives.{IsErrorOf}
+use Rattle.cbor_decode.specs.declared.refusal.Refused.{Refused}
 use Rattle.cbor_scalars.proofs.PassedStrings.{kept_bad}
 use Rattle.cbor_scalars.proofs.strings.checked.Goals as goal
 

@@ -1,7 +1,7 @@
 use Rattle.std.proofs.Common.{◌≡◌, ◌≤◌, ◌∙◌, ◌-◌, ℕ, List, length, take, Some, ap, subst, arith}
 use Rattle.std.specs.Str.Lossy.{utf8_valid_len}
-use Rattle.cbor_de.specs.Gives.{IsErrorOf}
-use Rattle.cbor_de.specs.declared.refusal.Refused.{Refused}
+use Rattle.cbor_decode.specs.Gives.{IsErrorOf}
+use Rattle.cbor_decode.specs.declared.refusal.Refused.{Refused}
 use Rattle.cbor_scalars.specs.Strings.{IsNotUtf8}
 use Rattle.cbor_scalars.proofs.Lending.{hand_step}
 use Rattle.cbor_scalars.proofs.PassedStrings.{kept_bad, text_told}
@@ -9,10 +9,10 @@ use Rattle.cbor_scalars.proofs.strings.definite_text.Goals as goal
 
 pub returns-in-Err-clause-fault : goal.returns-in-Err-clause-fault
 returns-in-Err-clause-fault g c =
-    let s = g.R.Source.source c.args.items.now.source in
+    let s = g.R.Source.source c.args.decoder.now.source in
     let t = g.R.Source.source c.advance-in-Err.new.self in
     let n = c.args.n in
-    let hand = g.R.Source.at_hand c.args.items.now.source in
+    let hand = g.R.Source.at_hand c.args.decoder.now.source in
     let same = c.ahead-ahead.ensures.bytes in
     let within : n ≤ length hand = omega (arith, ap length same, c.if-n-ahead.true) in
     let b = take n hand in

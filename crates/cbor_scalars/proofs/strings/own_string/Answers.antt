@@ -9,7 +9,7 @@ use Rattle.cbor_scalars.proofs.strings.own_string.Goals as goal
 
 pub returns-in-Ok-None-clause-read : goal.returns-in-Ok-None-clause-read
 returns-in-Ok-None-clause-read g c =
-    let s = g.R.Source.source c.args.items.now.source in
-    let u = c.string.new.items in
-    let none = subst (λ (o : Option (String Global)). SeeksItem g.R.Source.refusals (formats_of c.args.items.now.formats) (PassesTags (λ r x. IsText r (string_bytes x))) c.args.items.now.levels s (g.R.Source.source u.source) u.refusal (Ok o)) c.in-Ok-None.field-0-is c.in-Ok-None.ensures.read in
+    let s = g.R.Source.source c.args.decoder.now.source in
+    let u = c.string.new.decoder in
+    let none = subst (λ (o : Option (String Global)). SeeksItem g.R.Source.refusals (formats_of c.args.decoder.now.formats) (PassesTags (λ r x. IsText r (string_bytes x))) c.args.decoder.now.levels s (g.R.Source.source u.source) u.refusal (Ok o)) c.in-Ok-None.field-0-is c.in-Ok-None.ensures.read in
     λ e made. step_refuses g.R.Source.refusals s (g.R.Source.source u.source) _ _ _ none

@@ -9,7 +9,7 @@ use Rattle.cbor_scalars.specs.Takes.{formats_of}
 use Rattle.cbor_scalars.proofs.Opened.{text_opened}
 use Rattle.cbor_scalars.proofs.Lending.{text_refuses}
 use Rattle.cbor_scalars.proofs.Contents.{text_takes}
-use Rattle.cbor_de.specs.declared.head.Head.TheVariants.{Text}
+use Rattle.cbor_decode.specs.declared.head.Head.TheVariants.{Text}
 use Rattle.cbor_scalars.specs.declared.opening.Found.{Found}
 use Rattle.cbor_scalars.proofs.Openings.{head_opened}
 use Rattle.cbor_scalars.proofs.PassedStrings.{text_whole}
@@ -22,7 +22,7 @@ reads r s = IsText r (string_bytes s)
 pub returns-in_err-text-clause-read : goal.returns-in_err-text-clause-read
 returns-in_err-text-clause-read g c =
     let passed = err_from_is_err_and c.from_residual.result c.from_residual.ensures.1 in
-    let old = c.args.items.now in
+    let old = c.args.decoder.now in
     let u = c.short_text.new.self in
     let f = formats_of old.formats in
     let s = g.R.Source.source old.source in
@@ -32,12 +32,12 @@ returns-in_err-text-clause-read g c =
 
 pub returns-in-Some-clause-read : goal.returns-in-Some-clause-read
 returns-in-Some-clause-read g c =
-    let old = c.args.items.now in
+    let old = c.args.decoder.now in
     let u = c.short_text.new.self in
     let f = formats_of old.formats in
     let s = g.R.Source.source old.source in
     let m = g.R.Source.source u.source in
-    let t = g.R.Source.source c.definite_text.new.items.source in
+    let t = g.R.Source.source c.definite_text.new.decoder.source in
     let x = c.in_ok-text.text in
     let is = c.in_ok-text.ensures.read in
     let opened = text_opened g.R.Source.refusals f s m old.levels c.in-Some.n u.refusal c.in-Some.ensures.read in
@@ -46,7 +46,7 @@ returns-in-Some-clause-read g c =
 pub returns-in_err-text-clause-fault : goal.returns-in_err-text-clause-fault
 returns-in_err-text-clause-fault g c =
     let passed = err_from_is_err_and c.from_residual.result c.from_residual.ensures.1 in
-    let old = c.args.items.now in
+    let old = c.args.decoder.now in
     let s = g.R.Source.source old.source in
     let m = g.R.Source.source c.short_text.new.self.source in
     let found : Found = record { head = Text (Some c.in-Some.n); levels = old.levels } in

@@ -1,7 +1,7 @@
 use Rattle.std.proofs.Common.{◌≡◌, ◌+◌, ℕ, Option, Ok, ap, subst}
 use Rattle.std.proofs.lemmas.Result.{err_from_is_err_and}
 use Rattle.cbor_model.specs.Formats.{Formats}
-use Rattle.cbor_de.specs.Gives.{Step}
+use Rattle.cbor_decode.specs.Gives.{Step}
 use Rattle.cbor_scalars.specs.Takes.{formats_of}
 use Rattle.cbor_scalars.specs.Tags.{tag_head_at}
 use Rattle.cbor_scalars.specs.Tags.{PassesAll}
@@ -11,14 +11,14 @@ use Rattle.cbor_scalars.proofs.tags.+pass_tags.Goals as goal
 pub returns-in_err-take_tag-clause-read : goal.returns-in_err-take_tag-clause-read
 returns-in_err-take_tag-clause-read g t c =
     let passed = err_from_is_err_and c.from_residual.result c.from_residual.ensures.1 in
-    let old = c.args.items.now in
+    let old = c.args.decoder.now in
     rw (passed.1, passed.2) (tag_refused g.R.Source.refusals (formats_of old.formats) (g.R.Source.source old.source) old.levels _ _ c.in_err-take_tag.ensures.read)
 
 pub returns-in-Some-clause-read : goal.returns-in-Some-clause-read
 returns-in-Some-clause-read g t c =
-    let old = c.args.items.now in
-    let mid = c.take_tag.new.items in
-    let new = c.pass_tags.new.items in
+    let old = c.args.decoder.now in
+    let mid = c.take_tag.new.decoder in
+    let new = c.pass_tags.new.decoder in
     let s = g.R.Source.source old.source in
     let a = g.R.Source.source mid.source in
     let u = g.R.Source.source new.source in
@@ -34,14 +34,14 @@ returns-in-Some-clause-read g t c =
 pub returns-in_err-take_tag-clause-passed : goal.returns-in_err-take_tag-clause-passed
 returns-in_err-take_tag-clause-passed g t c =
     let passed = err_from_is_err_and c.from_residual.result c.from_residual.ensures.1 in
-    let old = c.args.items.now in
+    let old = c.args.decoder.now in
     rw (passed.1, passed.2) (pass_stopped g.R.Source.refusals (g.R.Source.source old.source) old.levels _ _ c.in_err-take_tag.ensures.read)
 
 pub returns-in-Some-clause-passed : goal.returns-in-Some-clause-passed
 returns-in-Some-clause-passed g t c =
-    let old = c.args.items.now in
-    let mid = c.take_tag.new.items in
-    let new = c.pass_tags.new.items in
+    let old = c.args.decoder.now in
+    let mid = c.take_tag.new.decoder in
+    let new = c.pass_tags.new.decoder in
     let s = g.R.Source.source old.source in
     let a = g.R.Source.source mid.source in
     let n = c.in-Some.field-0 in
@@ -51,8 +51,8 @@ returns-in-Some-clause-passed g t c =
 
 pub returns-in-None-clause-passed : goal.returns-in-None-clause-passed
 returns-in-None-clause-passed g t c =
-    let old = c.args.items.now in
-    let new = c.take_tag.new.items in
+    let old = c.args.decoder.now in
+    let new = c.take_tag.new.decoder in
     let s = g.R.Source.source old.source in
     let a = g.R.Source.source new.source in
     let read = subst (λ (o : Option ℕ). Step s a (λ l bs rest. tag_head_at old.levels bs ≡ Ok (o, rest))) c.in-None.is c.in_ok-take_tag.ensures.read in

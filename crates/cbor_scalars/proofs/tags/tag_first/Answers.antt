@@ -1,5 +1,5 @@
 use Rattle.std.proofs.Common.{rules, ◌≡◌, ℕ, true, List, ◌∷◌, Some, Ok, refl}
-use Rattle.cbor_de.proofs.facts.Steps.{peeked_step}
+use Rattle.cbor_decode.proofs.facts.Steps.{peeked_step}
 use Rattle.cbor_scalars.specs.Tags.{begins_tag, tag_first_at}
 use Rattle.cbor_scalars.proofs.tags.tag_first.Goals as goal
 

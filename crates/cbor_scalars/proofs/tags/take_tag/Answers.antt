@@ -4,33 +4,33 @@ use Rattle.cbor_model.specs.Refusal.{too_deep}
 use Rattle.cbor_model.specs.Reader.{before, number_behind}
 use Rattle.cbor_read.specs.Source.{Input}
 use Rattle.cbor_io.specs.declared.read_error.ReadErrorCode.TheVariants.{RecursionLimitExceeded}
-use Rattle.cbor_de.specs.Gives.{Step}
-use Rattle.cbor_de.proofs.facts.Steps.{step_map, step_then, stopped_map, stopped_then, fault_stops}
+use Rattle.cbor_decode.specs.Gives.{Step}
+use Rattle.cbor_decode.proofs.facts.Steps.{step_map, step_then, stopped_map, stopped_then, fault_stops}
 use Rattle.cbor_scalars.specs.Tags.{tag_first_at, tag_head_at}
 use Rattle.cbor_scalars.proofs.TagHeads.{first_none, first_stops, Numbered, number_stops, no_level, one_entered}
 use Rattle.cbor_scalars.proofs.tags.take_tag.Goals as goal
 
 pub returns-in-Ok-None-clause-read : goal.returns-in-Ok-None-clause-read
 returns-in-Ok-None-clause-read g c =
-    let s = g.R.Source.source c.args.items.now.source in
-    let t = g.R.Source.source c.tag_first.new.items.source in
-    let levels = c.args.items.now.levels in
+    let s = g.R.Source.source c.args.decoder.now.source in
+    let t = g.R.Source.source c.tag_first.new.decoder.source in
+    let levels = c.args.decoder.now.levels in
     let h = c.in-Ok-None in
     let none = subst (λ (o : Option ℕ). Step s t (λ l bs rest. tag_first_at bs ≡ Ok (o, rest))) h.field-0-is h.ensures.read in
     step_map s t (λ l bs rest. tag_first_at bs ≡ Ok (None, rest)) (λ l bs rest. tag_head_at levels bs ≡ Ok (None, rest)) (λ l bs rest is. first_none levels bs rest is) none
 
 pub returns-in-Err-clause-read : goal.returns-in-Err-clause-read
 returns-in-Err-clause-read g c =
-    let s = g.R.Source.source c.args.items.now.source in
-    let levels = c.args.items.now.levels in
+    let s = g.R.Source.source c.args.decoder.now.source in
+    let levels = c.args.decoder.now.levels in
     stopped_map g.R.Source.refusals (λ l. tag_first_at) (λ l. tag_head_at levels) s _ _ (λ l bs e is. first_stops levels bs e is) c.in-Err.ensures.read
 
 pub returns-in_err-n-clause-read : goal.returns-in_err-n-clause-read
 returns-in_err-n-clause-read g c =
     let is_err = err_from_is_err_and c.from_residual.result c.from_residual.ensures.1 in
-    let s = g.R.Source.source c.args.items.now.source in
-    let t = g.R.Source.source c.tag_first.new.items.source in
-    let levels = c.args.items.now.levels in
+    let s = g.R.Source.source c.args.decoder.now.source in
+    let t = g.R.Source.source c.tag_first.new.decoder.source in
+    let levels = c.args.decoder.now.levels in
     let h = c.in-Ok-Some in
     let b = h.first in
     let first = subst (λ (o : Option ℕ). Step s t (λ l bs rest. tag_first_at bs ≡ Ok (o, rest))) h.field-0-is h.ensures.read in
@@ -40,10 +40,10 @@ returns-in_err-n-clause-read g c =
 pub returns-in_err-enter-clause-read : goal.returns-in_err-enter-clause-read
 returns-in_err-enter-clause-read g c =
     let is_err = err_from_is_err_and c.from_residual-in_err-enter.result c.from_residual-in_err-enter.ensures.1 in
-    let s = g.R.Source.source c.args.items.now.source in
-    let t = g.R.Source.source c.tag_first.new.items.source in
+    let s = g.R.Source.source c.args.decoder.now.source in
+    let t = g.R.Source.source c.tag_first.new.decoder.source in
     let u = g.R.Source.source c.argument.new.self.source in
-    let levels = c.args.items.now.levels in
+    let levels = c.args.decoder.now.levels in
     let h = c.in-Ok-Some in
     let b = h.first in
     let n = c.in_ok-n.n in
@@ -58,11 +58,11 @@ returns-in_err-enter-clause-read g c =
 
 pub returns-clause-read : goal.returns-clause-read
 returns-clause-read g c =
-    let s = g.R.Source.source c.args.items.now.source in
-    let t = g.R.Source.source c.tag_first.new.items.source in
+    let s = g.R.Source.source c.args.decoder.now.source in
+    let t = g.R.Source.source c.tag_first.new.decoder.source in
     let u = g.R.Source.source c.argument.new.self.source in
     let v = g.R.Source.source c.enter.new.self.source in
-    let levels = c.args.items.now.levels in
+    let levels = c.args.decoder.now.levels in
     let h = c.in-Ok-Some in
     let b = h.first in
     let n = c.in_ok-n.n in

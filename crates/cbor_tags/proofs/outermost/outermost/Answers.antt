@@ -1,24 +1,24 @@
 use Rattle.std.proofs.Common.{ℕ, List, Option, refl}
 use Rattle.cbor_model.specs.Reader.{Reads}
-use Rattle.cbor_de.specs.Gives.{Limits}
-use Rattle.cbor_de.specs.declared.refusal.Refused.TheVariants.{Kept}
+use Rattle.cbor_decode.specs.Gives.{Limits}
+use Rattle.cbor_decode.specs.declared.refusal.Refused.TheVariants.{Kept}
 use Rattle.cbor_scalars.specs.Tags.{tag_head_at}
 use Rattle.cbor_scalars.proofs.facts.Refusals.{told_by}
-use Rattle.cbor_de.proofs.facts.Steps.{source_stops, byte_refused}
+use Rattle.cbor_decode.proofs.facts.Steps.{source_stops, byte_refused}
 use Rattle.cbor_tags.proofs.Peeked.{tag_peeked, took_peeked, untold_peeked}
 use Rattle.cbor_tags.proofs.outermost.outermost.Goals as goal
 
 pub returns-in-Ok-Some-clause-item : goal.returns-in-Ok-Some-clause-item
 returns-in-Ok-Some-clause-item g c =
-    let old = c.args.de.now.items in
-    let mid = c.peek.new.de.items in
-    tag_peeked (g.R.Source.source old.source) (g.R.Source.source mid.source) (g.R.Source.source c.read_tag.new.self.items.source) c.in-Ok-Some.ensures.stays
+    let old = c.args.de.now.decoder in
+    let mid = c.peek.new.de.decoder in
+    tag_peeked (g.R.Source.source old.source) (g.R.Source.source mid.source) (g.R.Source.source c.read_tag.new.self.decoder.source) c.in-Ok-Some.ensures.stays
     old.formats mid.formats c.peek.ensures.formats old.levels mid.levels c.peek.ensures.levels c.read_tag.result c.read_tag.ensures.item
 
 pub returns-in-Err-clause-refused : goal.returns-in-Err-clause-refused
 returns-in-Err-clause-refused g c =
-    let s = g.R.Source.source c.args.de.now.items.source in
-    let read : Limits → List ℕ → Reads (Option ℕ) = λ l. tag_head_at c.args.de.now.items.levels in
+    let s = g.R.Source.source c.args.de.now.decoder.source in
+    let read : Limits → List ℕ → Reads (Option ℕ) = λ l. tag_head_at c.args.de.now.decoder.levels in
     let e = c.in-Err.refusal in
     told_by g.R.Source.refusals read s e Kept c.error_of.result c.error_of.ensures.tells
     (source_stops g.R.Source.refusals s read e Kept e refl refl c.in-Err.ensures.err.refused.moved (byte_refused g.R.Source.refusals s _ e read c.in-Err.ensures.err))
@@ -28,14 +28,14 @@ returns-in-Err-clause-took g c = rw c.error_of.ensures.source c.in-Err.ensures.e
 
 pub returns-in-Ok-Some-clause-refused : goal.returns-in-Ok-Some-clause-refused
 returns-in-Ok-Some-clause-refused g c =
-    let old = c.args.de.now.items in
-    let mid = c.peek.new.de.items in
-    untold_peeked g.R.Source.refusals (g.R.Source.source old.source) (g.R.Source.source mid.source) (g.R.Source.source c.read_tag.new.self.items.source) c.in-Ok-Some.ensures.stays
+    let old = c.args.de.now.decoder in
+    let mid = c.peek.new.de.decoder in
+    untold_peeked g.R.Source.refusals (g.R.Source.source old.source) (g.R.Source.source mid.source) (g.R.Source.source c.read_tag.new.self.decoder.source) c.in-Ok-Some.ensures.stays
     old.levels mid.levels c.peek.ensures.levels c.read_tag.result c.read_tag.ensures.read
 
 pub returns-in-Ok-Some-clause-took : goal.returns-in-Ok-Some-clause-took
 returns-in-Ok-Some-clause-took g c =
-    let old = c.args.de.now.items in
-    let mid = c.peek.new.de.items in
-    took_peeked g.R.Source.refusals (g.R.Source.source old.source) (g.R.Source.source mid.source) (g.R.Source.source c.read_tag.new.self.items.source) c.in-Ok-Some.ensures.stays
+    let old = c.args.de.now.decoder in
+    let mid = c.peek.new.de.decoder in
+    took_peeked g.R.Source.refusals (g.R.Source.source old.source) (g.R.Source.source mid.source) (g.R.Source.source c.read_tag.new.self.decoder.source) c.in-Ok-Some.ensures.stays
     mid.levels c.read_tag.result c.read_tag.ensures.read

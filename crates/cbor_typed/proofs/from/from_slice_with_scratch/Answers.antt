@@ -3,7 +3,7 @@ use Rattle.cbor_model.specs.Acceptable.{max_depth}
 use Rattle.cbor_model.specs.Formats.{all_formats}
 use Rattle.cbor_model.specs.Raw.{AreBytes}
 use Rattle.cbor_read.specs.Source.{Input, unread_slice, fixed_refusals}
-use Rattle.cbor_de.specs.Gives.{Tells}
+use Rattle.cbor_decode.specs.Gives.{Tells}
 use Rattle.cbor_scalars.specs.Takes.{MemoryFor}
 use Rattle.cbor_typed.specs.Whole.{ReadsAll, TellsWhole, from_slice_context, asks_none}
 use Rattle.cbor_typed.proofs.Every.{every, small}

@@ -1,4 +1,4 @@
-use Rattle.cbor_de.specs.declared.head.Head.TheVariants.{Array, Map}
+use Rattle.cbor_decode.specs.declared.head.Head.TheVariants.{Array, Map}
 use Rattle.cbor_typed.proofs.HeadsTaken.{arrays, maps, heads_taken}
 use Rattle.cbor_typed.proofs.laws.heads_taken.Goals as goal
 

@@ -8,6 +8,6 @@ returns-in-Err-clause-read g c = rw c.unnamed.ensures.source (c.in-Err.ensures.r
 
 pub returns-in-Err-clause-form : goal.returns-in-Err-clause-form
 returns-in-Err-clause-form g c =
-    let old = c.args.de.now.items in
+    let old = c.args.de.now.decoder in
     let e = c.unnamed.result in
-    key_told (formats_of old.formats) c.args.remaining.now (g.R.Source.source old.source) e (made_alone c.next_field.new.self.items.refusal c.in-Err.why e c.unnamed.ensures.made) (c.in-Err.ensures.cases e c.unnamed.ensures.made)
+    key_told (formats_of old.formats) c.args.remaining.now (g.R.Source.source old.source) e (made_alone c.next_field.new.self.decoder.refusal c.in-Err.why e c.unnamed.ensures.made) (c.in-Err.ensures.cases e c.unnamed.ensures.made)

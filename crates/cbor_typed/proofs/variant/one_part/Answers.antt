@@ -10,7 +10,7 @@ returns-in-Array-clause-read g c = rw c.in-Array.is c.only_item.ensures.read
 pub returns-in-Map-clause-read : goal.returns-in-Map-clause-read
 returns-in-Map-clause-read g c =
     let old = c.args.de.now in
-    rw c.in-Map.is (one_answer (g.T.Readable.reads (context old.items.formats g.R.Source.lends)) (formats_of old.items.formats) old.items.levels (g.R.Source.source old.items.source) (g.R.Source.source c.deserialize.new.de.items.source) g.R.Source.refusals c.deserialize.result c.deserialize.ensures.read)
+    rw c.in-Map.is (one_answer (g.T.Readable.reads (context old.decoder.formats g.R.Source.lends)) (formats_of old.decoder.formats) old.decoder.levels (g.R.Source.source old.decoder.source) (g.R.Source.source c.deserialize.new.de.decoder.source) g.R.Source.refusals c.deserialize.result c.deserialize.ensures.read)
 
 pub returns-in-Array-clause-alone : goal.returns-in-Array-clause-alone
 returns-in-Array-clause-alone g c = rw c.in-Array.is (untold c.only_item.result)

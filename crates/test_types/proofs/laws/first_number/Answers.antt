@@ -22,8 +22,8 @@ pub returns : goal.returns
 returns c =
     let bs = c.args.bytes.now in
     let s = unread_slice bs None in
-    let d = c.from_slice-de.result.items in
-    let t = input_of_slice c.deserialize.new.de.items.source in
+    let d = c.from_slice-de.result.decoder in
+    let t = input_of_slice c.deserialize.new.de.decoder.source in
     let r = c.deserialize.result in
     let lends : Lends = record { whole = true; joined = false } in
     let tells : Tells s bs = record { is = refl; short = omega arith } in

@@ -9,7 +9,7 @@ use Rattle.cbor_described.proofs.field_list.Tuple2ReadFields.take.Goals as goal
 
 pub returns-then-i-ne0-clause-read : goal.returns-then-i-ne0-clause-read
 returns-then-i-ne0-clause-read g c =
-    let old = c.args.de.now.items in
+    let old = c.args.de.now.decoder in
     let k = context old.formats g.R.Source.lends in
     let i = c.args.i in
     let place : i ≡ 1 + (i - 1) = omega (arith, c.if-i-ne0.true) in
@@ -18,7 +18,7 @@ returns-then-i-ne0-clause-read g c =
 
 pub returns-clause-read : goal.returns-clause-read
 returns-clause-read g c =
-    let old = c.args.de.now.items in
+    let old = c.args.de.now.decoder in
     let k = context old.formats g.R.Source.lends in
     slot_taken (formats_of old.formats) old.levels g.R.Source.refusals [] (field_or (g.A.FieldType.reads k) g.A.FieldType.missing (λ p. p.0)) (over (λ p. p.1) (g.F.FieldList.fields k)) c.args.i c.if-i-ne0.false tt
     c.args.held.now.0 _ (slots_over (λ p. p.1) (g.F.FieldList.fields k) (g.F.FieldList.slots k c.args.held.now.1)) (g.R.Source.source old.source) _ c.take_slot.result c.take_slot.ensures.read

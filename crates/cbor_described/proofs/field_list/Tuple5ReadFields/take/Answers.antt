@@ -9,7 +9,7 @@ use Rattle.cbor_described.proofs.field_list.Tuple5ReadFields.take.Goals as goal
 
 pub returns-in-0-clause-read : goal.returns-in-0-clause-read
 returns-in-0-clause-read g c =
-    let old = c.args.de.now.items in
+    let old = c.args.de.now.decoder in
     let k = context old.formats g.R.Source.lends in
     let held = c.args.held.now in
     slot_taken (formats_of old.formats) old.levels g.R.Source.refusals [] (field_or (g.A.FieldType.reads k) g.A.FieldType.missing (λ p. p.0)) (field_or (g.B.FieldType.reads k) g.B.FieldType.missing (λ p. p.1) ∷ field_or (g.C.FieldType.reads k) g.C.FieldType.missing (λ p. p.2) ∷ field_or (g.D.FieldType.reads k) g.D.FieldType.missing (λ p. p.3) ∷ over (λ p. p.4) (g.F.FieldList.fields k)) c.args.i (c.in-0.is) tt
@@ -17,7 +17,7 @@ returns-in-0-clause-read g c =
 
 pub returns-in-1-clause-read : goal.returns-in-1-clause-read
 returns-in-1-clause-read g c =
-    let old = c.args.de.now.items in
+    let old = c.args.de.now.decoder in
     let k = context old.formats g.R.Source.lends in
     let held = c.args.held.now in
     slot_taken (formats_of old.formats) old.levels g.R.Source.refusals (field_or (g.A.FieldType.reads k) g.A.FieldType.missing (λ p. p.0) ∷ []) (field_or (g.B.FieldType.reads k) g.B.FieldType.missing (λ p. p.1)) (field_or (g.C.FieldType.reads k) g.C.FieldType.missing (λ p. p.2) ∷ field_or (g.D.FieldType.reads k) g.D.FieldType.missing (λ p. p.3) ∷ over (λ p. p.4) (g.F.FieldList.fields k)) c.args.i (c.in-1.is) (held.0, tt)
@@ -25,7 +25,7 @@ returns-in-1-clause-read g c =
 
 pub returns-in-2-clause-read : goal.returns-in-2-clause-read
 returns-in-2-clause-read g c =
-    let old = c.args.de.now.items in
+    let old = c.args.de.now.decoder in
     let k = context old.formats g.R.Source.lends in
     let held = c.args.held.now in
     slot_taken (formats_of old.formats) old.levels g.R.Source.refusals (field_or (g.A.FieldType.reads k) g.A.FieldType.missing (λ p. p.0) ∷ field_or (g.B.FieldType.reads k) g.B.FieldType.missing (λ p. p.1) ∷ []) (field_or (g.C.FieldType.reads k) g.C.FieldType.missing (λ p. p.2)) (field_or (g.D.FieldType.reads k) g.D.FieldType.missing (λ p. p.3) ∷ over (λ p. p.4) (g.F.FieldList.fields k)) c.args.i (c.in-2.is) (held.0, (held.1, tt))
@@ -33,7 +33,7 @@ returns-in-2-clause-read g c =
 
 pub returns-in-3-clause-read : goal.returns-in-3-clause-read
 returns-in-3-clause-read g c =
-    let old = c.args.de.now.items in
+    let old = c.args.de.now.decoder in
     let k = context old.formats g.R.Source.lends in
     let held = c.args.held.now in
     slot_taken (formats_of old.formats) old.levels g.R.Source.refusals (field_or (g.A.FieldType.reads k) g.A.FieldType.missing (λ p. p.0) ∷ field_or (g.B.FieldType.reads k) g.B.FieldType.missing (λ p. p.1) ∷ field_or (g.C.FieldType.reads k) g.C.FieldType.missing (λ p. p.2) ∷ []) (field_or (g.D.FieldType.reads k) g.D.FieldType.missing (λ p. p.3)) (over (λ p. p.4) (g.F.FieldList.fields k)) c.args.i (c.in-3.is) (held.0, (held.1, (held.2, tt)))
@@ -41,7 +41,7 @@ returns-in-3-clause-read g c =
 
 pub returns-in_default-clause-read : goal.returns-in_default-clause-read
 returns-in_default-clause-read g c =
-    let old = c.args.de.now.items in
+    let old = c.args.de.now.decoder in
     let k = context old.formats g.R.Source.lends in
     let held = c.args.held.now in
     let i = c.args.i in

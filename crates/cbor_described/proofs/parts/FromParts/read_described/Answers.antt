@@ -4,12 +4,12 @@ use Rattle.cbor_described.proofs.parts.FromParts.read_described.Goals as goal
 
 pub returns-in-Ok-clause-read : goal.returns-in-Ok-clause-read
 returns-in-Ok-clause-read g c =
-    let old = c.args.de.now.items in
-    made g.Self.Schema.parts (λ names. g.Self.Parts.ReadableParts.reads names (context old.formats g.R.Source.lends)) g.R.Source.refusals (formats_of old.formats) old.levels (g.R.Source.source old.source) (g.R.Source.source c.read_parts.new.de.items.source)
+    let old = c.args.de.now.decoder in
+    made g.Self.Schema.parts (λ names. g.Self.Parts.ReadableParts.reads names (context old.formats g.R.Source.lends)) g.R.Source.refusals (formats_of old.formats) old.levels (g.R.Source.source old.source) (g.R.Source.source c.read_parts.new.de.decoder.source)
     c.requires.named c.in-Ok.parts c.from_parts.result c.from_parts.ensures c.in-Ok.ensures.read
 
 pub returns-in-Err-clause-read : goal.returns-in-Err-clause-read
 returns-in-Err-clause-read g c =
-    let old = c.args.de.now.items in
-    not_made g.Self.Schema.parts (λ names. g.Self.Parts.ReadableParts.reads names (context old.formats g.R.Source.lends)) g.R.Source.refusals (formats_of old.formats) old.levels (g.R.Source.source old.source) (g.R.Source.source c.read_parts.new.de.items.source)
+    let old = c.args.de.now.decoder in
+    not_made g.Self.Schema.parts (λ names. g.Self.Parts.ReadableParts.reads names (context old.formats g.R.Source.lends)) g.R.Source.refusals (formats_of old.formats) old.levels (g.R.Source.source old.source) (g.R.Source.source c.read_parts.new.de.decoder.source)
     c.requires.named c.in-Err.e c.in-Err.ensures.read

@@ -6,14 +6,14 @@ use Rattle.cbor_described.proofs.parts.NewtypeReadParts.read_parts.Goals as goal
 
 pub returns-in-Ok-clause-read : goal.returns-in-Ok-clause-read
 returns-in-Ok-clause-read g c =
-    let old = c.args.de.now.items in
+    let old = c.args.de.now.decoder in
     let reads = g.T.Readable.reads (context old.formats g.R.Source.lends) in
-    read_as reads (λ (r : Raw) (p : Newtype g.row.T.Denot). reads r p.0) g.R.Source.refusals (formats_of old.formats) old.levels (g.R.Source.source old.source) (g.R.Source.source c.deserialize.new.de.items.source)
+    read_as reads (λ (r : Raw) (p : Newtype g.row.T.Denot). reads r p.0) g.R.Source.refusals (formats_of old.formats) old.levels (g.R.Source.source old.source) (g.R.Source.source c.deserialize.new.de.decoder.source)
     c.in-Ok.part (record { 0 = c.in-Ok.part }) (λ r h. h) c.in-Ok.ensures.read
 
 pub returns-in-Err-clause-read : goal.returns-in-Err-clause-read
 returns-in-Err-clause-read g c =
-    let old = c.args.de.now.items in
+    let old = c.args.de.now.decoder in
     let reads = g.T.Readable.reads (context old.formats g.R.Source.lends) in
-    not_read_as reads (λ (r : Raw) (p : Newtype g.row.T.Denot). reads r p.0) g.R.Source.refusals (formats_of old.formats) old.levels (g.R.Source.source old.source) (g.R.Source.source c.deserialize.new.de.items.source)
+    not_read_as reads (λ (r : Raw) (p : Newtype g.row.T.Denot). reads r p.0) g.R.Source.refusals (formats_of old.formats) old.levels (g.R.Source.source old.source) (g.R.Source.source c.deserialize.new.de.decoder.source)
     c.in-Err.e (λ r p h. (p.0, h)) c.in-Err.ensures.read

@@ -7,8 +7,8 @@ use Rattle.cbor_described.proofs.tuple_fields.Tuple1ReadParts.read_parts.Goals a
 
 pub returns-in-Err-clause-read : goal.returns-in-Err-clause-read
 returns-in-Err-clause-read g c =
-    let old = c.args.de.now.items in
+    let old = c.args.de.now.decoder in
     let k = context old.formats g.R.Source.lends in
     let same : texts c.args.names.now ≡ texts c.args.names.now = refl in
-    not_made (λ x. (x.0, tt)) (λ (names : List (List ℕ)). IsStruct {S = g.row.A.Denot × Unit {0}} names (field_or (g.A.FieldType.reads k) g.A.FieldType.missing (λ p. p.0) ∷ [])) g.R.Source.refusals (formats_of old.formats) old.levels (g.R.Source.source old.source) (g.R.Source.source c.read_fields.new.de.items.source)
+    not_made (λ x. (x.0, tt)) (λ (names : List (List ℕ)). IsStruct {S = g.row.A.Denot × Unit {0}} names (field_or (g.A.FieldType.reads k) g.A.FieldType.missing (λ p. p.0) ∷ [])) g.R.Source.refusals (formats_of old.formats) old.levels (g.R.Source.source old.source) (g.R.Source.source c.read_fields.new.de.decoder.source)
     same c.in-Err.e c.in-Err.ensures.read

@@ -5,7 +5,7 @@ use Rattle.cbor_described.proofs.variant_list.NewtypeReadVariant.read_content.Go
 
 pub returns-in-Err-clause-read : goal.returns-in-Err-clause-read
 returns-in-Err-clause-read g c =
-    let old = c.args.de.now.items in
+    let old = c.args.de.now.decoder in
     let reads = g.T.Readable.reads (context old.formats g.R.Source.lends) in
-    content_not_made (formats_of old.formats) old.levels c.args.form g.R.Source.refusals (g.R.Source.source old.source) (g.R.Source.source c.one_part.new.de.items.source)
+    content_not_made (formats_of old.formats) old.levels c.args.form g.R.Source.refusals (g.R.Source.source old.source) (g.R.Source.source c.one_part.new.de.decoder.source)
     (IsPart reads) (λ content y. IsPart reads content y.0) c.in-Err.e (λ content y h. (y.0, h)) c.in-Err.ensures.read

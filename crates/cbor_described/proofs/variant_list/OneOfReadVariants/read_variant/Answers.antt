@@ -5,15 +5,15 @@ use Rattle.cbor_described.proofs.variant_list.OneOfReadVariants.read_variant.Goa
 
 pub returns-in-Err-clause-read : goal.returns-in-Err-clause-read
 returns-in-Err-clause-read g c =
-    let old = c.args.de.now.items in
+    let old = c.args.de.now.decoder in
     let k = context old.formats g.R.Source.lends in
-    other_unread (g.V.Variant.means k) (g.Vs.VariantList.means k) (formats_of old.formats) old.levels c.args.form g.R.Source.refusals (g.R.Source.source old.source) (g.R.Source.source c.read_variant.new.de.items.source) c.args.i c.if-i-ne0.true c.in-Err.e c.in-Err.ensures.read
+    other_unread (g.V.Variant.means k) (g.Vs.VariantList.means k) (formats_of old.formats) old.levels c.args.form g.R.Source.refusals (g.R.Source.source old.source) (g.R.Source.source c.read_variant.new.de.decoder.source) c.args.i c.if-i-ne0.true c.in-Err.e c.in-Err.ensures.read
 
 pub returns-in-Err-read_content-clause-read : goal.returns-in-Err-read_content-clause-read
 returns-in-Err-read_content-clause-read g c =
-    let old = c.args.de.now.items in
+    let old = c.args.de.now.decoder in
     let k = context old.formats g.R.Source.lends in
-    rw c.if-i-ne0.false (this_unread (g.V.Variant.means k) (g.Vs.VariantList.means k) (formats_of old.formats) old.levels c.args.form g.R.Source.refusals (g.R.Source.source old.source) (g.R.Source.source c.read_content.new.de.items.source) c.in-Err-read_content.e c.in-Err-read_content.ensures.read)
+    rw c.if-i-ne0.false (this_unread (g.V.Variant.means k) (g.Vs.VariantList.means k) (formats_of old.formats) old.levels c.args.form g.R.Source.refusals (g.R.Source.source old.source) (g.R.Source.source c.read_content.new.de.decoder.source) c.in-Err-read_content.e c.in-Err-read_content.ensures.read)
 
 pub returns-in-Err-clause-form : goal.returns-in-Err-clause-form
 returns-in-Err-clause-form g c = of_right g.V.Variant.wrong_forms g.Vs.VariantList.wrong_forms _ _ c.in-Err.e c.in-Err.ensures.form

@@ -1,6 +1,6 @@
 use Rattle.std.proofs.Common.{Ok, Err, subst}
 use Rattle.std.proofs.lemmas.Result.{err_from_is_err_and}
-use Rattle.cbor_de.specs.declared.formats.Formats.{Formats}
+use Rattle.cbor_decode.specs.declared.formats.Formats.{Formats}
 use Rattle.cbor_collections.specs.Enums.{AreParts}
 use Rattle.cbor_typed.specs.ItemLists.{TakesItems}
 use Rattle.cbor_scalars.specs.Takes.{context, formats_of}
@@ -11,22 +11,22 @@ use Rattle.cbor_described.proofs.variant_list.TupleReadVariant.read_content.Goal
 pub returns-in_err-remaining-clause-read : goal.returns-in_err-remaining-clause-read
 returns-in_err-remaining-clause-read g c =
     let passed = err_from_is_err_and c.from_residual.result c.from_residual.ensures.1 in
-    let old = c.args.de.now.items in
+    let old = c.args.de.now.decoder in
     let items = g.F.ReadableTuple.parts (context old.formats g.R.Source.lends) in
     let s = g.R.Source.source old.source in
-    let t = g.R.Source.source c.parts.new.de.items.source in
+    let t = g.R.Source.source c.parts.new.de.decoder.source in
     let e = c.in_err-remaining.field-0.0 in
     rw (passed.1, passed.2) (content_not_made (formats_of old.formats) old.levels c.args.form g.R.Source.refusals s t (AreParts items) (λ content y. AreParts items content y.0) e (λ content y h. (y.0, h))
     (no_parts items (formats_of old.formats) old.levels c.args.form g.R.Source.refusals s e c.in_err-remaining.ensures.read))
 
 pub returns-in-Ok-clause-read : goal.returns-in-Ok-clause-read
 returns-in-Ok-clause-read g c =
-    let old = c.args.de.now.items in
-    let mid = c.parts.new.de.items in
+    let old = c.args.de.now.decoder in
+    let mid = c.parts.new.de.decoder in
     let items = λ (f : Formats). g.F.ReadableTuple.parts (context f g.R.Source.lends) in
     let s = g.R.Source.source old.source in
     let m = g.R.Source.source mid.source in
-    let t = g.R.Source.source c.read_tuple.new.de.items.source in
+    let t = g.R.Source.source c.read_tuple.new.de.decoder.source in
     let y = c.in-Ok.parts in
     let read = subst (λ (f : Formats). TakesItems g.R.Source.refusals (formats_of f) (items f) mid.levels c.in_ok-remaining.remaining m t (Ok y)) c.in_ok-remaining.ensures.formats c.in-Ok.ensures.read in
     content_made (formats_of old.formats) old.levels c.args.form g.R.Source.refusals s t (AreParts (items old.formats)) (λ content y. AreParts (items old.formats) content y.0) y (record { 0 = y }) (λ content h. h)
@@ -34,12 +34,12 @@ returns-in-Ok-clause-read g c =
 
 pub returns-in-Err-clause-read : goal.returns-in-Err-clause-read
 returns-in-Err-clause-read g c =
-    let old = c.args.de.now.items in
-    let mid = c.parts.new.de.items in
+    let old = c.args.de.now.decoder in
+    let mid = c.parts.new.de.decoder in
     let items = λ (f : Formats). g.F.ReadableTuple.parts (context f g.R.Source.lends) in
     let s = g.R.Source.source old.source in
     let m = g.R.Source.source mid.source in
-    let t = g.R.Source.source c.read_tuple.new.de.items.source in
+    let t = g.R.Source.source c.read_tuple.new.de.decoder.source in
     let e = c.in-Err.e in
     let read = subst (λ (f : Formats). TakesItems g.R.Source.refusals (formats_of f) (items f) mid.levels c.in_ok-remaining.remaining m t (Err e)) c.in_ok-remaining.ensures.formats c.in-Err.ensures.read in
     content_not_made (formats_of old.formats) old.levels c.args.form g.R.Source.refusals s t (AreParts (items old.formats)) (λ content y. AreParts (items old.formats) content y.0) e (λ content y h. (y.0, h))
@@ -47,4 +47,4 @@ returns-in-Err-clause-read g c =
 
 pub returns-in-Err-clause-form : goal.returns-in-Err-clause-form
 returns-in-Err-clause-form g c =
-    later_in g.F.ReadableTuple.wrong_forms c.args.de.now.items.formats c.parts.new.de.items.formats _ _ c.in-Err.e c.in_ok-remaining.ensures.formats c.in_ok-remaining.ensures.read.took c.in-Err.ensures.form
+    later_in g.F.ReadableTuple.wrong_forms c.args.de.now.decoder.formats c.parts.new.de.decoder.formats _ _ c.in-Err.e c.in_ok-remaining.ensures.formats c.in_ok-remaining.ensures.read.took c.in-Err.ensures.form

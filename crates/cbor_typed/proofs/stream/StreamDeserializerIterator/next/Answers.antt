@@ -6,11 +6,11 @@ use Rattle.cbor_typed.proofs.stream.StreamDeserializerIterator.next.Goals as goa
 
 pub returns-in-Err-deserialize-clause-steps : goal.returns-in-Err-deserialize-clause-steps
 returns-in-Err-deserialize-clause-steps g c =
-    let d = c.args.self.now.de.items in
+    let d = c.args.self.now.de.decoder in
     let f = formats_of d.formats in
     let s = g.R.Source.source d.source in
     let m = g.R.Source.source c.peek.new.self in
-    let t = g.R.Source.source c.deserialize.new.de.items.source in
+    let t = g.R.Source.source c.deserialize.new.de.decoder.source in
     let e = c.in-Err-deserialize.e in
     let h = c.in-Err-deserialize.ensures in
     let stays = c.in-Ok-Some.ensures.stays in

@@ -8,4 +8,4 @@ pub returns-in-Err-clause-bad_key : goal.returns-in-Err-clause-bad_key
 returns-in-Err-clause-bad_key g c = c.in-Err.ensures.bad_key c.unnamed.result c.unnamed.ensures.made
 
 pub returns-in-Err-clause-code : goal.returns-in-Err-clause-code
-returns-in-Err-clause-code g c = made_alone c.next_field.new.self.items.refusal c.in-Err.why c.unnamed.result c.unnamed.ensures.made
+returns-in-Err-clause-code g c = made_alone c.next_field.new.self.decoder.refusal c.in-Err.why c.unnamed.result c.unnamed.ensures.made

@@ -15,7 +15,7 @@ returns-in-Ok g c = (
     alone = tt;
     no_form = tt;
     outer = refl;
-    inside = parts_inside c.args.self.form c.args.self.de.now.items.levels c.parts.new.items.levels c.args.self.outer c.requires c.in-Ok.ensures.inside;
+    inside = parts_inside c.args.self.form c.args.self.de.now.decoder.levels c.parts.new.decoder.levels c.args.self.outer c.requires c.in-Ok.ensures.inside;
     formats = c.in-Ok.ensures.formats;
   },
 )

@@ -33,7 +33,7 @@ abbrev means : ℕ → Content → Bar → Type 0
 means = variants (unit bar.Empty ∷ newtype number bar.Number ∷ tuple (part_then text (part_then flag no_part)) (λ y. bar.Flag y.0 y.1.0) ∷ newtype point (λ p. bar.Point p.x p.y) ∷ [])
 
 pub returns-in_err-access-clause-read : goal.returns-in_err-access-clause-read
-returns-in_err-access-clause-read g c = variant_unread names means c.args.de.now.items.formats _ _ _ _ c.in_err-access.ensures.refused c.from_residual.ensures.1 (search rules)
+returns-in_err-access-clause-read g c = variant_unread names means c.args.de.now.decoder.formats _ _ _ _ c.in_err-access.ensures.refused c.from_residual.ensures.1 (search rules)
 
 pub returns-in_err-unit-in-0-clause-read : goal.returns-in_err-unit-in-0-clause-read
 returns-in_err-unit-in-0-clause-read g c =

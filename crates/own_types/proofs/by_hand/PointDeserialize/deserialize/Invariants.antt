@@ -18,4 +18,4 @@ abbrev pub invariant-fields : goal.invariant-fields
 invariant-fields g l = FieldsSoFar names fields g.R.Source.source l.fn.de l.initial.access l.access (l.x, (l.y, tt))
 
 abbrev pub decreases-fields : goal.decreases-fields
-decreases-fields g l = turns l.access.remaining (g.R.Source.source l.access.de.now.items.source)
+decreases-fields g l = turns l.access.remaining (g.R.Source.source l.access.de.now.decoder.source)

@@ -13,11 +13,11 @@ use Rattle.cbor_typed.proofs.types.strings.RefSliceU8Deserialize.deserialize.Goa
 pub returns-in-Err-clause-read : goal.returns-in-Err-clause-read
 returns-in-Err-clause-read g c =
     let de = c.args.de.now in
-    let f = formats_of de.items.formats in
-    let levels = de.items.levels in
-    let s = g.R.Source.source de.items.source in
-    let t = g.R.Source.source c.read_bytes.follows.lender-at-none.items.source in
-    let ctx = context de.items.formats g.R.Source.lends in
+    let f = formats_of de.decoder.formats in
+    let levels = de.decoder.levels in
+    let s = g.R.Source.source de.decoder.source in
+    let t = g.R.Source.source c.read_bytes.follows.lender-at-none.decoder.source in
+    let ctx = context de.decoder.formats g.R.Source.lends in
     let reads : (Raw → Bor (List ℕ) → Type 0) = λ r x. IsBorrowedString ctx r x.now in
     let lacks = subst (λ r. LendsString g.R.Source.refusals ctx levels s t r) c.in-Err.is c.read_bytes.follows.holds-at-none.2 in
     rw c.unread.ensures.source (made_refuses g.R.Source.refusals s (λ l bs. IsNotRead (PassesTags IsString) (item_at (raws f l) levels bs)) (λ l bs. IsNotRead (PassesTags reads) (item_at (raws f l) levels bs)) c.in-Err.why c.unread.result
@@ -26,11 +26,11 @@ returns-in-Err-clause-read g c =
 pub returns-in-Err-clause-memory : goal.returns-in-Err-clause-memory
 returns-in-Err-clause-memory g c =
     let de = c.args.de.now in
-    let f = formats_of de.items.formats in
-    let levels = de.items.levels in
-    let s = g.R.Source.source de.items.source in
-    let t = g.R.Source.source c.read_bytes.follows.lender-at-none.items.source in
-    let ctx = context de.items.formats g.R.Source.lends in
+    let f = formats_of de.decoder.formats in
+    let levels = de.decoder.levels in
+    let s = g.R.Source.source de.decoder.source in
+    let t = g.R.Source.source c.read_bytes.follows.lender-at-none.decoder.source in
+    let ctx = context de.decoder.formats g.R.Source.lends in
     let reads : (Raw → Bor (List ℕ) → Type 0) = λ r x. IsBorrowedString ctx r x.now in
     let asks = asks_for g.R.Source.refusals g.R.Source.lends in
     let lacks = subst (λ r. LendsString g.R.Source.refusals ctx levels s t r) c.in-Err.is c.read_bytes.follows.holds-at-none.2 in
@@ -45,7 +45,7 @@ returns-in-Err-clause-form g c =
 pub returns-in-Err-clause-fault : goal.returns-in-Err-clause-fault
 returns-in-Err-clause-fault g c =
     let de = c.args.de.now in
-    let levels = de.items.levels in
-    let s = g.R.Source.source de.items.source in
+    let levels = de.decoder.levels in
+    let s = g.R.Source.source de.decoder.source in
     let whole = subst (λ r. LendsWhole g.R.Source.refusals levels s r) c.in-Err.is c.read_bytes.follows.holds-at-none.5 in
     made_whole g.R.Source.refusals levels s c.in-Err.why c.unread.result c.unread.ensures.made whole

@@ -1,7 +1,0 @@
-use Rattle.cbor_de.proofs.SkippedStrings.{byte_chunks_skipped}
-use Rattle.cbor_de.proofs.de.Deserializer.skip_byte_chunks.Goals as goal
-
-pub returns-clause-read : goal.returns-clause-read
-returns-clause-read g c =
-    let t = g.R.Source.source c.join.new.self.source in
-    byte_chunks_skipped g.R.Source.refusals (λ u. t.buffer) _ _ _ _ c.join.ensures.read

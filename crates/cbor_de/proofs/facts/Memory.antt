@@ -1,4 +1,0 @@
--- Published: where memory may be asked for.
-
--- what follows from it
-pub use Rattle.cbor_de.proofs.Asked.{asks_on}

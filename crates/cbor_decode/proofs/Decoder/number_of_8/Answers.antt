@@ -1,0 +1,9 @@
+use Rattle.std.proofs.lemmas.Result.{err_from_is_err_and}
+use Rattle.std.specs.Int.{w64}
+use Rattle.cbor_decode.proofs.Calls.{number_stops}
+use Rattle.cbor_decode.proofs.Decoder.number_of_8.Goals as goal
+
+pub returns-in_err-fill-clause-read : goal.returns-in_err-fill-clause-read
+returns-in_err-fill-clause-read g c =
+    let passed = err_from_is_err_and c.from_residual.result c.from_residual.ensures.1 in
+    rw (passed.1, passed.2) (number_stops g.R.Source.refusals _ _ w64 _ _ c.in_err-fill.ensures.refused c.in_err-fill.ensures.kept)

@@ -1,0 +1,8 @@
+use Rattle.cbor_decode.proofs.SkippedStrings.{bytes_skipped, bytes_cut}
+use Rattle.cbor_decode.proofs.Decoder.skip_bytes.Goals as goal
+
+pub returns-in-Ok-clause-read : goal.returns-in-Ok-clause-read
+returns-in-Ok-clause-read g c = bytes_skipped _ _ c.args.n c.in-Ok.ensures.ok
+
+pub returns-in-Err-clause-read : goal.returns-in-Err-clause-read
+returns-in-Err-clause-read g c = rw c.keep.ensures.source (bytes_cut g.R.Source.refusals _ _ c.args.n _ _ c.in-Err.refusal c.keep.ensures.refused c.keep.ensures.kept c.in-Err.ensures.err)

@@ -1,0 +1,13 @@
+pub mod AtEnd
+pub mod Cursor
+pub mod Decoder
+pub mod FirstRefusal
+pub mod Gives
+pub mod HasChunks
+pub mod Memory
+pub mod Heads
+pub mod Strings
+pub use Rattle.cbor_io.specs.Error
+pub use Rattle.cbor_read.specs.Source
+pub use Rattle.cbor_read.specs.Sources
+pub use Rattle.cbor_value.specs.View

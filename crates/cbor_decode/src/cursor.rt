@@ -1,0 +1,90 @@
+//! What remains of an array or a map.
+
+ghost use Rattle.std.specs.Prelude.{◌≡◌, ◌<◌, IfErr, IfOk, IfSome};
+ghost use Rattle.cbor_decode.specs.Gives.{Gives, Onward, TellsNoKey, TellsNoMemory};
+ghost use Rattle.cbor_decode.specs.Heads.{first_at, end_of, end_code, remaining_of, first_of_next};
+ghost use Rattle.cbor_model.specs.Reader.{to_break};
+ghost use Rattle.cbor_decode.specs.declared.cursor.Remaining.TheVariants.{ToBreak};
+
+use crate::Decoder;
+use crate::refusal::Done;
+use cbor_read::{ReadErrorCode, Source};
+
+/// The byte that ends an indefinite length: of an array, a map, or a string in chunks (RFC 7049,
+/// section 2.2).
+pub const BREAK: u8 = 0xff;
+
+/// What holds items, and can end by a break.
+#[derive(Clone, Copy)]
+pub enum Collection {
+    Array,
+    Map,
+}
+
+impl Collection {
+    // The refusal of an input that ends where an item or the break is due.
+    pub(crate) fn end(self) -> ReadErrorCode
+        ensures { result ≡ end_code self }
+    {
+        match self {
+            Collection::Array => ReadErrorCode::EofWhileParsingArray,
+            Collection::Map => ReadErrorCode::EofWhileParsingMap,
+        }
+    }
+}
+
+/// What remains of an array or a map.
+#[derive(Clone, Copy)]
+pub enum Remaining {
+    /// So many items or pairs.
+    Counted(u64),
+    /// All up to the break.
+    ToBreak,
+}
+
+impl<R: Source> Decoder<R> {
+    /// Takes the first byte of the next item of an array, or of the next key of a map, of which so
+    /// much remains; None where none comes. A break that comes in its place is taken.
+    #[tactic(auto, unfolding(cbor_model::specs::Reader::next_at, cbor_model::specs::Reader::byte_at))]
+    pub fn next(&mut self, remaining: &mut Remaining, of: Collection) -> Done<Option<u8>>
+        ensures read { Gives R.refusals (first_of_next remaining.new)
+            (λ l. first_at (end_of of) (remaining_of remaining.old))
+            (R.source self.old.source) (R.source self.new.source) self.new.refusal result }
+        ensures taken { IfOk result
+            (λ o. IfSome o (λ b. Onward (R.source self.old.source) (R.source self.new.source))) }
+        ensures memory { IfErr result (TellsNoMemory self.new.refusal) }
+        ensures no_key { IfErr result (TellsNoKey self.new.refusal) }
+        ensures levels { self.new.levels ≡ self.old.levels }
+        ensures formats { self.new.formats ≡ self.old.formats }
+    {
+        match remaining {
+            Remaining::Counted(0) => Ok(None),
+            Remaining::Counted(n) => {
+                *n -= 1;
+                let first = self.byte()?;
+                Ok(Some(first))
+            }
+            Remaining::ToBreak => self.next_to_break(of),
+        }
+    }
+
+    // Takes the first byte of the next item or key, or the break that comes in its place.
+    fn next_to_break(&mut self, of: Collection) -> Done<Option<u8>>
+        ensures read { Gives R.refusals (first_of_next ToBreak)
+            (λ l. first_at (end_of of) to_break)
+            (R.source self.old.source) (R.source self.new.source) self.new.refusal result }
+        ensures taken { IfOk result
+            (λ o. IfSome o (λ b. Onward (R.source self.old.source) (R.source self.new.source))) }
+        ensures memory { IfErr result (TellsNoMemory self.new.refusal) }
+        ensures no_key { IfErr result (TellsNoKey self.new.refusal) }
+        ensures levels { self.new.levels ≡ self.old.levels }
+        ensures formats { self.new.formats ≡ self.old.formats }
+    {
+        match self.source.next() {
+            Ok(Some(BREAK)) => Ok(None),
+            Ok(Some(first)) => Ok(Some(first)),
+            Ok(None) => Err(self.refuse(of.end())),
+            Err(refusal) => Err(self.keep(refusal)),
+        }
+    }
+}

@@ -1,0 +1,51 @@
+//! Decoding: a [`Decoder`] takes heads, strings and whole values from a source.
+//!
+//! What a type's reading takes of it stands above (`cbor_scalars`, `cbor_collections`), and what
+//! reads types above that (`cbor_typed`).
+//!
+//! This crate names the definitions of `cbor_model` and its facts on the reference reader, the
+//! errors and the sources of `cbor_io`, and the values of `cbor_value` with their facts; nothing of
+//! writing. Others rely on the contracts, and on the words that they use: `specs/Gives.antt` says
+//! when an error tells a fault of the reference reader, and `specs/Decoder.antt` what a decoder
+//! reads from.
+#![tactic(auto)]
+
+mod cursor;
+mod formats;
+mod head;
+mod more;
+mod number;
+mod refusal;
+pub mod room;
+mod skip;
+mod skip_strings;
+mod step;
+mod strings;
+mod value;
+
+pub use cursor::{Collection, Remaining};
+pub use formats::Formats;
+pub use head::Head;
+pub use refusal::{Done, Refused};
+
+use cbor_read::ReadError;
+use std::alloc::Global;
+
+/// Takes items from a source. Arrays, maps and tags may be nested 127 levels deep.
+///
+/// ```rust
+/// let mut decoder = Decoder::new(alloc, SliceRead::new(alloc, b"\x05"));
+/// assert!(rt; matches!(decoder.value(), Ok(Value::Integer(5))));
+/// assert!(rt; decoder.ended().is_ok());
+/// ```
+#[derive(Drop)]
+pub struct Decoder<R> {
+    pub alloc: Global,
+    pub source: R,
+    // How many levels of arrays, maps and tags are left.
+    pub levels: u64,
+    // Which formats are read.
+    pub formats: Formats,
+    // Why the last step that was refused was refused; an end of input at 0 until one is.
+    pub refusal: ReadError,
+}
