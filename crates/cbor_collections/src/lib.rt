@@ -1,6 +1,6 @@
 //! Reading what holds other items: what is taken of arrays, maps and enums around their items.
 //!
-//! The items themselves are read by the crate above (`cbor_typed`), which knows their types.
+//! The items themselves are read by the crate above (`cbor_de`), which knows their types.
 //!
 //! This crate names the definitions of `cbor_model` and its facts on the reference reader, the
 //! errors and the sources of `cbor_io`, and `cbor_decode` and `cbor_scalars` with their facts. Others

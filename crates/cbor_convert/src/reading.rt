@@ -8,13 +8,13 @@ ghost use Rattle.cbor_io.specs.Error.{code_of};
 ghost use Rattle.cbor_value.specs.View.{view};
 ghost use Rattle.cbor_ser.specs.Written.{SaysUnstorable};
 ghost use Rattle.cbor_decode.specs.Gives.{IsMemoryOrFault};
-ghost use Rattle.cbor_typed.specs.Forms.{FormOnlyIf, may_tell};
-ghost use Rattle.cbor_typed.specs.Whole.{from_reader_context};
+ghost use Rattle.cbor_de.specs.Forms.{FormOnlyIf, may_tell};
+ghost use Rattle.cbor_de.specs.Whole.{from_reader_context};
 
 use cbor_io::error::Result;
 use cbor_read::IoRead;
 use cbor_ser::to_vec;
-use cbor_typed::{Deserialize, DeserializeOwned, from_reader};
+use cbor_de::{Deserialize, DeserializeOwned, from_reader};
 use cbor_value::Value;
 use std::alloc::Global;
 use std::io::Cursor;

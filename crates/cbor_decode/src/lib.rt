@@ -1,7 +1,7 @@
 //! Decoding: a [`Decoder`] takes heads, strings and whole values from a source.
 //!
 //! What a type's reading takes of it stands above (`cbor_scalars`, `cbor_collections`), and what
-//! reads types above that (`cbor_typed`).
+//! reads types above that (`cbor_de`).
 //!
 //! This crate names the definitions of `cbor_model` and its facts on the reference reader, the
 //! errors and the sources of `cbor_io`, and the values of `cbor_value` with their facts; nothing of

@@ -3,8 +3,8 @@ use Rattle.std.proofs.Common.{◌⊎◌, IfErr, Result, Ok, Err, inl, inr}
 use Rattle.cbor_model.specs.Formats.{Formats}
 use Rattle.cbor_io.specs.declared.error.Error.{Error}
 use Rattle.cbor_read.specs.Source.{Input}
-use Rattle.cbor_typed.specs.Forms.{WrongForms, never, told, both, item_form, struct_form, MayTell}
-use Rattle.cbor_typed.proofs.facts.Forms.{of_left, of_right}
+use Rattle.cbor_de.specs.Forms.{WrongForms, never, told, both, item_form, struct_form, MayTell}
+use Rattle.cbor_de.proofs.facts.Forms.{of_left, of_right}
 
 -- of the first field
 pub of_first : {A : Type 0} (a b c : WrongForms) (f : Formats) (s : Input) (r : Result A Error) → IfErr r (MayTell b f s) → IfErr r (MayTell (both a (both b c)) f s)

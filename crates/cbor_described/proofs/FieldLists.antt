@@ -11,18 +11,18 @@ use Rattle.cbor_io.specs.declared.read_error.ReadErrorCode.{ReadErrorCode}
 use Rattle.cbor_decode.specs.Gives.{Step}
 use Rattle.cbor_decode.specs.declared.formats.Formats.{Formats}
 use Rattle.cbor_decode.specs.declared.cursor.Remaining.{Remaining}
-use Rattle.cbor_typed.specs.Fields.{Slots, none_yet, AreHeld}
+use Rattle.cbor_de.specs.Fields.{Slots, none_yet, AreHeld}
 use Rattle.cbor_described.specs.FieldLists.{over, IsLacking, slots_over, FieldTaken, FieldRefused, TakesSlot, TakesField}
 use Rattle.cbor_collections.specs.MapAccesses.{IsMapHead}
-use Rattle.cbor_typed.specs.Structs.{FieldOf, IsAny, IsStruct}
+use Rattle.cbor_de.specs.Structs.{FieldOf, IsAny, IsStruct}
 use Rattle.cbor_scalars.specs.Takes.{TakesItem, formats_of, raws, IsRead, IsNotRead, Refuses}
 use Rattle.cbor_scalars.proofs.facts.Refusals.{refuses_on}
 use Rattle.cbor_collections.proofs.facts.Refusals.{refuses_map}
-use Rattle.cbor_typed.specs.declared.structure.Field.{Field}
-use Rattle.cbor_typed.specs.declared.structure.Field.TheVariants.{Known}
-use Rattle.cbor_typed.proofs.facts.Structs.{Has, LacksAt, ValueAt, reads_at, put}
-use Rattle.cbor_typed.proofs.facts.Structs.{StructSoFar, NoStruct, FieldNamed, struct_begins, field_read, field_twice, field_unread, other_passed, other_unread}
-use Rattle.cbor_typed.proofs.facts.Structs.{known_other}
+use Rattle.cbor_de.specs.declared.structure.Field.{Field}
+use Rattle.cbor_de.specs.declared.structure.Field.TheVariants.{Known}
+use Rattle.cbor_de.proofs.facts.Structs.{Has, LacksAt, ValueAt, reads_at, put}
+use Rattle.cbor_de.proofs.facts.Structs.{StructSoFar, NoStruct, FieldNamed, struct_begins, field_read, field_twice, field_unread, other_passed, other_unread}
+use Rattle.cbor_de.proofs.facts.Structs.{known_other}
 
 pair_is : {A B : Type 0} (p : A × B) (a : A) (b : B) → p.0 ≡ a → p.1 ≡ b → p ≡ (a, b)
 pair_is p a b one two = ap (λ x. (x, p.1)) one ∙ ap (λ y. (a, y)) two

@@ -10,8 +10,8 @@ use Rattle.cbor_io.specs.declared.read_error.ReadErrorCode.{ReadErrorCode}
 use Rattle.cbor_io.specs.Error.{code_of, offset_of}
 use Rattle.cbor_read.specs.Source.{Input}
 use Rattle.cbor_decode.specs.Gives.{Step}
-use Rattle.cbor_typed.specs.Fields.{Slots, Lacks}
-use Rattle.cbor_typed.specs.Structs.{FieldOf, field_or, IsAny}
+use Rattle.cbor_de.specs.Fields.{Slots, Lacks}
+use Rattle.cbor_de.specs.Structs.{FieldOf, field_or, IsAny}
 use Rattle.cbor_scalars.specs.Takes.{raws, IsRead, IsNotRead, Refuses}
 
 -- the fields of a T, as those of what a T is a view of

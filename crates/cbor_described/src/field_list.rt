@@ -4,17 +4,17 @@ ghost use Rattle.std.specs.Prelude.{◌≡◌, ◌≤◌, length, IfOk, IfErr, O
 ghost use Rattle.cbor_model.specs.Raw.{Raw};
 ghost use Rattle.cbor_model.specs.Readable.{Context};
 ghost use Rattle.cbor_described.specs.FieldLists.{IsLacking, TakesField, TakesSlot};
-ghost use Rattle.cbor_typed.specs.Fields.{AreHeld, IsHeld, Lacks, none_yet};
+ghost use Rattle.cbor_de.specs.Fields.{AreHeld, IsHeld, Lacks, none_yet};
 ghost use Rattle.cbor_scalars.specs.Identifiers.{texts};
-ghost use Rattle.cbor_typed.specs.Structs.{IsAny, IsStruct};
+ghost use Rattle.cbor_de.specs.Structs.{IsAny, IsStruct};
 ghost use Rattle.cbor_io.specs.Error.{code_of};
 ghost use Rattle.cbor_decode.specs.Gives.{Onward, TellsNoForm};
 ghost use Rattle.cbor_scalars.specs.Takes.{TakesItem, context, formats_of};
-ghost use Rattle.cbor_typed.specs.Forms.{MayTell, both, item_form, struct_form};
+ghost use Rattle.cbor_de.specs.Forms.{MayTell, both, item_form, struct_form};
 
 use cbor_io::error::Result;
-use cbor_typed::inner::{end_map, leave_to, map_head};
-use cbor_typed::{
+use cbor_de::inner::{end_map, leave_to, map_head};
+use cbor_de::{
     Deserialize, Deserializer, Field, FieldType, IgnoredAny, Read, duplicate_field, missing_field,
     next_key,
 };
@@ -25,9 +25,9 @@ use std::alloc::Global;
 pub(crate) trait FieldList: Sized + Drop {
     ghost use Rattle.std.specs.Prelude.{List, ℕ};
     ghost use Rattle.cbor_model.specs.Readable.{Context};
-    ghost use Rattle.cbor_typed.specs.Fields.{Slots};
-    ghost use Rattle.cbor_typed.specs.Forms.{WrongForms};
-    ghost use Rattle.cbor_typed.specs.Structs.{FieldOf};
+    ghost use Rattle.cbor_de.specs.Fields.{Slots};
+    ghost use Rattle.cbor_de.specs.Forms.{WrongForms};
+    ghost use Rattle.cbor_de.specs.Structs.{FieldOf};
 
     // What was read of them so far.
     type Slots: Drop;
@@ -102,7 +102,7 @@ where
 
 impl FieldList for () {
     ghost use Rattle.std.specs.Prelude.{[]};
-    ghost use Rattle.cbor_typed.specs.Forms.{never};
+    ghost use Rattle.cbor_de.specs.Forms.{never};
 
     type Slots = ();
 
@@ -129,9 +129,9 @@ impl<'de, R: Read<'de>> ReadFields<'de, R> for () {
 
 impl<A: FieldType, F: FieldList> FieldList for (A, F) {
     ghost use Rattle.std.specs.Prelude.{◌∷◌, ◌+◌};
-    ghost use Rattle.cbor_typed.specs.Forms.{both};
+    ghost use Rattle.cbor_de.specs.Forms.{both};
     ghost use Rattle.cbor_described.specs.FieldLists.{over, slots_over};
-    ghost use Rattle.cbor_typed.specs.Structs.{field_or};
+    ghost use Rattle.cbor_de.specs.Structs.{field_or};
 
     type Slots = (Option<A>, F::Slots);
 
@@ -161,9 +161,9 @@ impl<A: FieldType, F: FieldList> FieldList for (A, F) {
 impl<A: FieldType, B: FieldType, C: FieldType, D: FieldType, F: FieldList> FieldList
     for (A, B, C, D, F) {
     ghost use Rattle.std.specs.Prelude.{◌∷◌, ◌+◌};
-    ghost use Rattle.cbor_typed.specs.Forms.{both};
+    ghost use Rattle.cbor_de.specs.Forms.{both};
     ghost use Rattle.cbor_described.specs.FieldLists.{over, slots_over};
-    ghost use Rattle.cbor_typed.specs.Structs.{field_or};
+    ghost use Rattle.cbor_de.specs.Structs.{field_or};
 
     type Slots = (Option<A>, Option<B>, Option<C>, Option<D>, F::Slots);
 
@@ -267,7 +267,7 @@ impl<
 
 // Reads the value of a field into its slot. A slot that has a value is refused with
 // ``duplicate field `id` ``.
-#[tactic(auto, using(cbor_typed::proofs::facts::Forms::plain))]
+#[tactic(auto, using(cbor_de::proofs::facts::Forms::plain))]
 fn fill_slot<'de, R: Read<'de>, A: FieldType>(
     de: &mut Deserializer<R>,
     name: &str,
@@ -337,7 +337,7 @@ pub(crate) fn read_fields<'de, R: Read<'de>, F: ReadFields<'de, R>>(
 }
 
 // Reads the fields, and leaves any number of levels.
-#[tactic(auto, using(cbor_typed::proofs::facts::Forms::plain))]
+#[tactic(auto, using(cbor_de::proofs::facts::Forms::plain))]
 fn fields_within<'de, R: Read<'de>, F: ReadFields<'de, R>>(
     de: &mut Deserializer<R>,
     names: &[&str],

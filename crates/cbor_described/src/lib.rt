@@ -12,6 +12,6 @@ mod parts;
 mod tuple_fields;
 mod variant_list;
 
-pub use cbor_typed::{ReadTuple, ReadableTuple};
+pub use cbor_de::{ReadTuple, ReadableTuple};
 pub use parts::{FromParts, ReadParts, ReadableParts};
 pub use variant_list::{Never, OneOf, ReadVariant, Variant};

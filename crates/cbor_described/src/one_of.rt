@@ -8,12 +8,12 @@ use crate::parts::{ReadParts, ReadableParts};
 use crate::variant_list::{Never, OneOf, ReadVariant, Variant, read_variants};
 use cbor_io::error::Result;
 use cbor_parts::{OneOf1, OneOf2, OneOf3, OneOf4, OneOf5, OneOf6, OneOf7, OneOf8};
-use cbor_typed::{Deserializer, Read};
+use cbor_de::{Deserializer, Read};
 
 impl<A: Variant> ReadableParts for OneOf1<A> {
     ghost use Rattle.cbor_model.specs.Readable.{PassesTags};
     ghost use Rattle.cbor_collections.specs.Enums.{IsEnum};
-    ghost use Rattle.cbor_typed.specs.Forms.{both, enum_form, never};
+    ghost use Rattle.cbor_de.specs.Forms.{both, enum_form, never};
     ghost use Rattle.cbor_described.specs.OneOfs.{either, no_variant, list1};
 
     ghost reads = { λ names c r x. PassesTags
@@ -43,7 +43,7 @@ fn one_of1<A: Drop>(list: OneOf<A, Never>) -> OneOf1<A>
 impl<A: Variant, B: Variant> ReadableParts for OneOf2<A, B> {
     ghost use Rattle.cbor_model.specs.Readable.{PassesTags};
     ghost use Rattle.cbor_collections.specs.Enums.{IsEnum};
-    ghost use Rattle.cbor_typed.specs.Forms.{both, enum_form, never};
+    ghost use Rattle.cbor_de.specs.Forms.{both, enum_form, never};
     ghost use Rattle.cbor_described.specs.OneOfs.{either, no_variant, list2};
 
     ghost reads = { λ names c r x. PassesTags
@@ -75,7 +75,7 @@ fn one_of2<A: Drop, B: Drop>(list: OneOf<A, OneOf<B, Never>>) -> OneOf2<A, B>
 impl<A: Variant, B: Variant, C: Variant> ReadableParts for OneOf3<A, B, C> {
     ghost use Rattle.cbor_model.specs.Readable.{PassesTags};
     ghost use Rattle.cbor_collections.specs.Enums.{IsEnum};
-    ghost use Rattle.cbor_typed.specs.Forms.{both, enum_form, never};
+    ghost use Rattle.cbor_de.specs.Forms.{both, enum_form, never};
     ghost use Rattle.cbor_described.specs.OneOfs.{either, no_variant, list3};
 
     ghost reads = { λ names c r x. PassesTags
@@ -117,7 +117,7 @@ fn one_of3<A: Drop, B: Drop, C: Drop>(list: OneOf<A, OneOf<B, OneOf<C, Never>>>)
 impl<A: Variant, B: Variant, C: Variant, D: Variant> ReadableParts for OneOf4<A, B, C, D> {
     ghost use Rattle.cbor_model.specs.Readable.{PassesTags};
     ghost use Rattle.cbor_collections.specs.Enums.{IsEnum};
-    ghost use Rattle.cbor_typed.specs.Forms.{both, enum_form, never};
+    ghost use Rattle.cbor_de.specs.Forms.{both, enum_form, never};
     ghost use Rattle.cbor_described.specs.OneOfs.{either, no_variant, list4};
 
     ghost reads = { λ names c r x. PassesTags
@@ -165,7 +165,7 @@ impl<A: Variant, B: Variant, C: Variant, D: Variant, E: Variant> ReadableParts
     for OneOf5<A, B, C, D, E> {
     ghost use Rattle.cbor_model.specs.Readable.{PassesTags};
     ghost use Rattle.cbor_collections.specs.Enums.{IsEnum};
-    ghost use Rattle.cbor_typed.specs.Forms.{both, enum_form, never};
+    ghost use Rattle.cbor_de.specs.Forms.{both, enum_form, never};
     ghost use Rattle.cbor_described.specs.OneOfs.{either, no_variant, list5};
 
     ghost reads = { λ names c r x. PassesTags
@@ -218,7 +218,7 @@ impl<A: Variant, B: Variant, C: Variant, D: Variant, E: Variant, F: Variant> Rea
     for OneOf6<A, B, C, D, E, F> {
     ghost use Rattle.cbor_model.specs.Readable.{PassesTags};
     ghost use Rattle.cbor_collections.specs.Enums.{IsEnum};
-    ghost use Rattle.cbor_typed.specs.Forms.{both, enum_form, never};
+    ghost use Rattle.cbor_de.specs.Forms.{both, enum_form, never};
     ghost use Rattle.cbor_described.specs.OneOfs.{either, no_variant, list6};
 
     ghost reads = { λ names c r x. PassesTags
@@ -282,7 +282,7 @@ impl<
 > ReadableParts for OneOf7<A, B, C, D, E, F, G> {
     ghost use Rattle.cbor_model.specs.Readable.{PassesTags};
     ghost use Rattle.cbor_collections.specs.Enums.{IsEnum};
-    ghost use Rattle.cbor_typed.specs.Forms.{both, enum_form, never};
+    ghost use Rattle.cbor_de.specs.Forms.{both, enum_form, never};
     ghost use Rattle.cbor_described.specs.OneOfs.{either, no_variant, list7};
 
     ghost reads = { λ names c r x. PassesTags
@@ -355,7 +355,7 @@ impl<
 > ReadableParts for OneOf8<A, B, C, D, E, F, G, H> {
     ghost use Rattle.cbor_model.specs.Readable.{PassesTags};
     ghost use Rattle.cbor_collections.specs.Enums.{IsEnum};
-    ghost use Rattle.cbor_typed.specs.Forms.{both, enum_form, never};
+    ghost use Rattle.cbor_de.specs.Forms.{both, enum_form, never};
     ghost use Rattle.cbor_described.specs.OneOfs.{either, no_variant, list8};
 
     ghost reads = { λ names c r x. PassesTags

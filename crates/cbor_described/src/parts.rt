@@ -4,11 +4,11 @@ ghost use Rattle.std.specs.Prelude.{◌≡◌, IfErr, OnOk, length};
 ghost use Rattle.cbor_decode.specs.Gives.{Onward};
 ghost use Rattle.cbor_scalars.specs.Identifiers.{texts};
 ghost use Rattle.cbor_scalars.specs.Takes.{TakesItem, context, formats_of};
-ghost use Rattle.cbor_typed.specs.Forms.{MayTell};
+ghost use Rattle.cbor_de.specs.Forms.{MayTell};
 
 use cbor_io::error::Result;
 use cbor_parts::{Newtype, Parts, Schema};
-use cbor_typed::{Deserialize, Deserializer, Read, Readable};
+use cbor_de::{Deserialize, Deserializer, Read, Readable};
 
 /// The parts of a struct, a tuple of its fields or a [`Newtype`] of its one part, or of an enum,
 /// one of its variants.
@@ -16,7 +16,7 @@ pub trait ReadableParts: Parts {
     ghost use Rattle.std.specs.Prelude.{List, ℕ};
     ghost use Rattle.cbor_model.specs.Raw.{Raw};
     ghost use Rattle.cbor_model.specs.Readable.{Context};
-    ghost use Rattle.cbor_typed.specs.Forms.{WrongForms};
+    ghost use Rattle.cbor_de.specs.Forms.{WrongForms};
 
     // As what an item is read, by the names of the fields or the variants.
     ghost reads: { List (List ℕ) → Context → Raw → Self → Type 0 };

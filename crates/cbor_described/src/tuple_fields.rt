@@ -8,12 +8,12 @@
 use crate::field_list::{ReadField, ReadFields, read_fields};
 use crate::parts::{ReadParts, ReadableParts};
 use cbor_io::error::Result;
-use cbor_typed::{Deserialize, Deserializer, FieldType, Read};
+use cbor_de::{Deserialize, Deserializer, FieldType, Read};
 
 impl<A: FieldType> ReadableParts for (A,) {
     ghost use Rattle.std.specs.Prelude.{[], ◌∷◌};
-    ghost use Rattle.cbor_typed.specs.Forms.{both, never, struct_form};
-    ghost use Rattle.cbor_typed.specs.Structs.{IsStruct, field_or};
+    ghost use Rattle.cbor_de.specs.Forms.{both, never, struct_form};
+    ghost use Rattle.cbor_de.specs.Structs.{IsStruct, field_or};
 
     ghost reads = { λ names c r x. IsStruct {S = A × Unit {0}} names
         (field_or (A.reads c) A.missing (λ p. p.0) ∷ [])
@@ -39,8 +39,8 @@ where
 
 impl<A: FieldType, B: FieldType> ReadableParts for (A, B) {
     ghost use Rattle.std.specs.Prelude.{[], ◌∷◌};
-    ghost use Rattle.cbor_typed.specs.Forms.{both, never, struct_form};
-    ghost use Rattle.cbor_typed.specs.Structs.{IsStruct, field_or};
+    ghost use Rattle.cbor_de.specs.Forms.{both, never, struct_form};
+    ghost use Rattle.cbor_de.specs.Structs.{IsStruct, field_or};
 
     ghost reads = { λ names c r x. IsStruct {S = A × (B × Unit {0})} names
         (field_or (A.reads c) A.missing (λ p. p.0)
@@ -68,8 +68,8 @@ where
 
 impl<A: FieldType, B: FieldType, C: FieldType> ReadableParts for (A, B, C) {
     ghost use Rattle.std.specs.Prelude.{[], ◌∷◌};
-    ghost use Rattle.cbor_typed.specs.Forms.{both, never, struct_form};
-    ghost use Rattle.cbor_typed.specs.Structs.{IsStruct, field_or};
+    ghost use Rattle.cbor_de.specs.Forms.{both, never, struct_form};
+    ghost use Rattle.cbor_de.specs.Structs.{IsStruct, field_or};
 
     ghost reads = { λ names c r x. IsStruct {S = A × (B × (C × Unit {0}))} names
         (field_or (A.reads c) A.missing (λ p. p.0)
@@ -100,8 +100,8 @@ where
 
 impl<A: FieldType, B: FieldType, C: FieldType, D: FieldType> ReadableParts for (A, B, C, D) {
     ghost use Rattle.std.specs.Prelude.{[], ◌∷◌};
-    ghost use Rattle.cbor_typed.specs.Forms.{both, never, struct_form};
-    ghost use Rattle.cbor_typed.specs.Structs.{IsStruct, field_or};
+    ghost use Rattle.cbor_de.specs.Forms.{both, never, struct_form};
+    ghost use Rattle.cbor_de.specs.Structs.{IsStruct, field_or};
 
     ghost reads = { λ names c r x. IsStruct {S = A × B × C × D × Unit {0}} names
         (field_or (A.reads c) A.missing (λ p. p.0)
@@ -136,8 +136,8 @@ where
 impl<A: FieldType, B: FieldType, C: FieldType, D: FieldType, E: FieldType> ReadableParts
     for (A, B, C, D, E) {
     ghost use Rattle.std.specs.Prelude.{[], ◌∷◌};
-    ghost use Rattle.cbor_typed.specs.Forms.{both, never, struct_form};
-    ghost use Rattle.cbor_typed.specs.Structs.{IsStruct, field_or};
+    ghost use Rattle.cbor_de.specs.Forms.{both, never, struct_form};
+    ghost use Rattle.cbor_de.specs.Structs.{IsStruct, field_or};
 
     ghost reads = { λ names c r x. IsStruct {S = A × B × C × D × (E × Unit {0})} names
         (field_or (A.reads c) A.missing (λ p. p.0)
@@ -183,8 +183,8 @@ impl<
     F: FieldType,
 > ReadableParts for (A, B, C, D, E, F) {
     ghost use Rattle.std.specs.Prelude.{[], ◌∷◌};
-    ghost use Rattle.cbor_typed.specs.Forms.{both, never, struct_form};
-    ghost use Rattle.cbor_typed.specs.Structs.{IsStruct, field_or};
+    ghost use Rattle.cbor_de.specs.Forms.{both, never, struct_form};
+    ghost use Rattle.cbor_de.specs.Structs.{IsStruct, field_or};
 
     ghost reads = { λ names c r x. IsStruct {S = A × B × C × D × (E × (F × Unit {0}))} names
         (field_or (A.reads c) A.missing (λ p. p.0)
@@ -234,8 +234,8 @@ impl<
     G: FieldType,
 > ReadableParts for (A, B, C, D, E, F, G) {
     ghost use Rattle.std.specs.Prelude.{[], ◌∷◌};
-    ghost use Rattle.cbor_typed.specs.Forms.{both, never, struct_form};
-    ghost use Rattle.cbor_typed.specs.Structs.{IsStruct, field_or};
+    ghost use Rattle.cbor_de.specs.Forms.{both, never, struct_form};
+    ghost use Rattle.cbor_de.specs.Structs.{IsStruct, field_or};
 
     ghost reads = { λ names c r x. IsStruct {S = A × B × C × D × (E × (F × (G × Unit {0})))} names
         (field_or (A.reads c) A.missing (λ p. p.0)
@@ -288,8 +288,8 @@ impl<
     H: FieldType,
 > ReadableParts for (A, B, C, D, E, F, G, H) {
     ghost use Rattle.std.specs.Prelude.{[], ◌∷◌};
-    ghost use Rattle.cbor_typed.specs.Forms.{both, never, struct_form};
-    ghost use Rattle.cbor_typed.specs.Structs.{IsStruct, field_or};
+    ghost use Rattle.cbor_de.specs.Forms.{both, never, struct_form};
+    ghost use Rattle.cbor_de.specs.Structs.{IsStruct, field_or};
 
     ghost reads = { λ names c r x. IsStruct {S = A × B × C × D × (E × F × G × H × Unit {0})} names
         (field_or (A.reads c) A.missing (λ p. p.0)
@@ -345,8 +345,8 @@ impl<
     I: FieldType,
 > ReadableParts for (A, B, C, D, E, F, G, H, I) {
     ghost use Rattle.std.specs.Prelude.{[], ◌∷◌};
-    ghost use Rattle.cbor_typed.specs.Forms.{both, never, struct_form};
-    ghost use Rattle.cbor_typed.specs.Structs.{IsStruct, field_or};
+    ghost use Rattle.cbor_de.specs.Forms.{both, never, struct_form};
+    ghost use Rattle.cbor_de.specs.Structs.{IsStruct, field_or};
 
     ghost reads = { λ names c r x. IsStruct
         {S = A × B × C × D × (E × F × G × H × (I × Unit {0}))} names
@@ -410,8 +410,8 @@ impl<
     J: FieldType,
 > ReadableParts for (A, B, C, D, E, F, G, H, I, J) {
     ghost use Rattle.std.specs.Prelude.{[], ◌∷◌};
-    ghost use Rattle.cbor_typed.specs.Forms.{both, never, struct_form};
-    ghost use Rattle.cbor_typed.specs.Structs.{IsStruct, field_or};
+    ghost use Rattle.cbor_de.specs.Forms.{both, never, struct_form};
+    ghost use Rattle.cbor_de.specs.Structs.{IsStruct, field_or};
 
     ghost reads = { λ names c r x. IsStruct
         {S = A × B × C × D × (E × F × G × H × (I × (J × Unit {0})))} names
@@ -488,8 +488,8 @@ impl<
     K: FieldType,
 > ReadableParts for (A, B, C, D, E, F, G, H, I, J, K) {
     ghost use Rattle.std.specs.Prelude.{[], ◌∷◌};
-    ghost use Rattle.cbor_typed.specs.Forms.{both, never, struct_form};
-    ghost use Rattle.cbor_typed.specs.Structs.{IsStruct, field_or};
+    ghost use Rattle.cbor_de.specs.Forms.{both, never, struct_form};
+    ghost use Rattle.cbor_de.specs.Structs.{IsStruct, field_or};
 
     ghost reads = { λ names c r x. IsStruct
         {S = A × B × C × D × (E × F × G × H × (I × (J × (K × Unit {0}))))} names
@@ -569,8 +569,8 @@ impl<
     L: FieldType,
 > ReadableParts for (A, B, C, D, E, F, G, H, I, J, K, L) {
     ghost use Rattle.std.specs.Prelude.{[], ◌∷◌};
-    ghost use Rattle.cbor_typed.specs.Forms.{both, never, struct_form};
-    ghost use Rattle.cbor_typed.specs.Structs.{IsStruct, field_or};
+    ghost use Rattle.cbor_de.specs.Forms.{both, never, struct_form};
+    ghost use Rattle.cbor_de.specs.Structs.{IsStruct, field_or};
 
     ghost reads = { λ names c r x. IsStruct
         {S = A × B × C × D × (E × F × G × H × (I × J × K × L × Unit {0}))} names

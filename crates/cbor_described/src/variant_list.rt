@@ -7,13 +7,13 @@ ghost use Rattle.cbor_scalars.specs.Identifiers.{texts};
 ghost use Rattle.cbor_scalars.specs.Takes.{TakesItem, context, formats_of};
 ghost use Rattle.cbor_collections.specs.Variants.{TakesContent};
 ghost use Rattle.cbor_model.specs.Readable.{PassesTags};
-ghost use Rattle.cbor_typed.specs.Forms.{MayTell, both, enum_form};
+ghost use Rattle.cbor_de.specs.Forms.{MayTell, both, enum_form};
 
 use crate::parts::{ReadParts, ReadableParts};
 use cbor_io::error::{Error, Result};
 use cbor_parts::{FieldNames, Newtype, Struct, Tuple};
-use cbor_typed::inner::{leave_to, no_part, parts, variant_head};
-use cbor_typed::{
+use cbor_de::inner::{leave_to, no_part, parts, variant_head};
+use cbor_de::{
     Deserialize, Deserializer, Form, Read, ReadTuple, Readable, ReadableTuple, one_part,
 };
 
@@ -23,7 +23,7 @@ use cbor_typed::{
 pub trait Variant: Sized + Drop {
     ghost use Rattle.cbor_model.specs.Readable.{Context};
     ghost use Rattle.cbor_collections.specs.Enums.{Content};
-    ghost use Rattle.cbor_typed.specs.Forms.{WrongForms};
+    ghost use Rattle.cbor_de.specs.Forms.{WrongForms};
 
     // What a variant's content means.
     ghost means: { Context → Content → Self → Type 0 };
@@ -46,7 +46,7 @@ pub trait ReadVariant<'de, R: Read<'de>>: Variant {
 
 impl Variant for () {
     ghost use Rattle.cbor_collections.specs.Enums.{IsNothing};
-    ghost use Rattle.cbor_typed.specs.Forms.{unit_form};
+    ghost use Rattle.cbor_de.specs.Forms.{unit_form};
 
     ghost means = { λ c content u. IsNothing content u };
 
@@ -61,7 +61,7 @@ impl<'de, R: Read<'de>> ReadVariant<'de, R> for () {
 
 impl<T: Readable> Variant for Newtype<T> {
     ghost use Rattle.cbor_collections.specs.Enums.{IsPart};
-    ghost use Rattle.cbor_typed.specs.Forms.{both, part_form};
+    ghost use Rattle.cbor_de.specs.Forms.{both, part_form};
 
     ghost means = { λ c content y. IsPart (T.reads c) content y.0 };
 
@@ -90,7 +90,7 @@ impl<F: ReadableTuple> Variant for Tuple<F> {
 }
 
 impl<'de, R: Read<'de>, F: ReadTuple<'de, R>> ReadVariant<'de, R> for Tuple<F> {
-    #[tactic(auto, using(cbor_typed::proofs::facts::Forms::plain))]
+    #[tactic(auto, using(cbor_de::proofs::facts::Forms::plain))]
     fn read_content(de: &mut Deserializer<R>, form: Form) -> Result<Tuple<F>> {
         let remaining = parts(de, form)?;
         match F::read_tuple(de, remaining) {
@@ -130,7 +130,7 @@ where
     N::Parts: ReadableParts,
 {
     ghost use Rattle.cbor_collections.specs.Enums.{IsPart};
-    ghost use Rattle.cbor_typed.specs.Forms.{both, part_form};
+    ghost use Rattle.cbor_de.specs.Forms.{both, part_form};
 
     ghost means = { λ c content y. IsPart (N.Parts.reads N.names c) content y.0 };
 
@@ -172,7 +172,7 @@ pub(crate) trait VariantList: Sized + Drop {
     ghost use Rattle.std.specs.Prelude.{ℕ};
     ghost use Rattle.cbor_model.specs.Readable.{Context};
     ghost use Rattle.cbor_collections.specs.Enums.{Content};
-    ghost use Rattle.cbor_typed.specs.Forms.{WrongForms};
+    ghost use Rattle.cbor_de.specs.Forms.{WrongForms};
 
     // What the content of the variant in this place means.
     ghost means: { Context → ℕ → Content → Self → Type 0 };
@@ -194,7 +194,7 @@ pub(crate) trait ReadVariants<'de, R: Read<'de>>: VariantList {
 }
 
 impl VariantList for Never {
-    ghost use Rattle.cbor_typed.specs.Forms.{never};
+    ghost use Rattle.cbor_de.specs.Forms.{never};
 
     ghost means = { λ c i content x. ⊥ };
 
@@ -208,7 +208,7 @@ impl<'de, R: Read<'de>> ReadVariants<'de, R> for Never {
 }
 
 impl<V: Variant, Vs: VariantList> VariantList for OneOf<V, Vs> {
-    ghost use Rattle.cbor_typed.specs.Forms.{both};
+    ghost use Rattle.cbor_de.specs.Forms.{both};
     ghost use Rattle.cbor_described.specs.OneOfs.{either};
 
     ghost means = { λ c. either (V.means c) (Vs.means c) };

@@ -14,7 +14,7 @@ use Rattle.cbor_io.specs.declared.error.ErrorCode.{ErrorCode}
 use Rattle.cbor_io.specs.declared.error.ErrorCode.TheVariants.{Message, OutOfMemory}
 use Rattle.cbor_read.specs.Source.{Lends}
 use Rattle.cbor_ser.specs.Written.{IsNotWritten, IsRefusedBy}
-use Rattle.cbor_typed.specs.Whole.{from_reader_context}
+use Rattle.cbor_de.specs.Whole.{from_reader_context}
 use Rattle.cbor_round.specs.ReadBack.{IsReadBack}
 use Rattle.cbor_round.proofs.Written.{written}
 

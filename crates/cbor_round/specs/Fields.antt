@@ -8,9 +8,9 @@ use Rattle.cbor_model.specs.Readable.{Context}
 use Rattle.cbor_read.specs.Source.{Lends}
 use Rattle.cbor_scalars.specs.Takes.{lending}
 use Rattle.cbor_ser.specs.PartLists.{name_in, document_if, field_if}
-use Rattle.cbor_typed.specs.FieldTypes.{IsGiven}
-use Rattle.cbor_typed.specs.Structs.{FieldOf, field_or, IfAbsent, refused, taken, AreFields, Absent, Once, IsFieldOr, HasFields, IsStruct}
-use Rattle.cbor_typed.specs.declared.structure.Field.TheVariants.{Known}
+use Rattle.cbor_de.specs.FieldTypes.{IsGiven}
+use Rattle.cbor_de.specs.Structs.{FieldOf, field_or, IfAbsent, refused, taken, AreFields, Absent, Once, IsFieldOr, HasFields, IsStruct}
+use Rattle.cbor_de.specs.declared.structure.Field.TheVariants.{Known}
 use Rattle.cbor_round.specs.ReadBack.{IsReadBack}
 use Rattle.cbor_round.specs.Names.{are_distinct, names_place, one_place}
 

@@ -6,7 +6,7 @@ use Rattle.cbor_model.specs.Document.{Doc, Docs, Fields, structure}
 use Rattle.cbor_model.specs.Raw.{Raw, Raws}
 use Rattle.cbor_model.specs.Readable.{Context}
 use Rattle.cbor_collections.specs.Enums.{Content}
-use Rattle.cbor_typed.specs.Structs.{IfAbsent}
+use Rattle.cbor_de.specs.Structs.{IfAbsent}
 use Rattle.cbor_round.specs.Fields.{IsFieldReadBack}
 use Rattle.cbor_round.specs.ReadBack.{IsReadBack, asking_more, by_part}
 use Rattle.cbor_round.specs.Names.{are_distinct}

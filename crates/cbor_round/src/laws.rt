@@ -11,7 +11,7 @@ use crate::round_trip::RoundTrip;
 use cbor_io::error::Result;
 use cbor_read::IoRead;
 use cbor_ser::to_vec;
-use cbor_typed::{Deserialize, from_reader};
+use cbor_de::{Deserialize, from_reader};
 use std::alloc::Global;
 use std::io::Cursor;
 

@@ -1,6 +1,6 @@
 //! The law that what is written is read back.
 //!
-//! `cbor_ser` says what a type is written as, and `cbor_typed` as what it reads items; they don't
+//! `cbor_ser` says what a type is written as, and `cbor_de` as what it reads items; they don't
 //! know each other. A type whose values come back is [`RoundTrip`], and [`written_reads_back_as`]
 //! gives a caller the law.
 //!

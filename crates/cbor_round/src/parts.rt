@@ -4,7 +4,7 @@ use crate::round_trip::RoundTrip;
 use cbor_described::{ReadableParts, ReadableTuple, Variant};
 use cbor_parts::{FieldNames, Newtype, Optional, OrDefault, Struct, Tuple};
 use cbor_ser::{FieldDocument, FieldsDocument, PartsDocument, TupleDocuments, VariantDocument};
-use cbor_typed::FieldType;
+use cbor_de::FieldType;
 
 /// The parts of a struct or an enum, which are read back where the names are as many, and no two of
 /// them the same.

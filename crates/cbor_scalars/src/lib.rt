@@ -2,7 +2,7 @@
 //! the tags before them.
 //!
 //! Each call takes of a `Decoder` of `cbor_decode` the tags of an item and its head, and what the
-//! head announces. What reads types stands above it (`cbor_typed`).
+//! head announces. What reads types stands above it (`cbor_de`).
 //!
 //! This crate names the definitions of `cbor_model` and its facts on the reference reader, the
 //! errors and the sources of `cbor_io`, the floats of `cbor_value`, and `cbor_decode` with its facts.

@@ -8,7 +8,7 @@ use Rattle.cbor_io.specs.declared.error.ErrorCode.TheVariants.{NotCanonical}
 use Rattle.cbor_io.specs.Error.{code_of, offset_of, IsOutOfMemory}
 use Rattle.cbor_read.specs.Source.{unread_slice}
 use Rattle.cbor_decode.specs.FirstRefusal.{refusal_code}
-use Rattle.cbor_typed.specs.Forms.{WrongForms, MayTell}
+use Rattle.cbor_de.specs.Forms.{WrongForms, MayTell}
 use Rattle.cbor_strict.specs.Departure.{IsFirstDeparture, ShowsDeparture}
 use Rattle.cbor_strict.specs.Strict.{IsFirstShown}
 use Rattle.cbor_strict.specs.StrictRefusals.{StrictRefusal, ordinary, not_canonical}

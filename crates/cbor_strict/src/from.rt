@@ -9,7 +9,7 @@ ghost use Rattle.cbor_value.specs.View.{view};
 ghost use Rattle.cbor_io.specs.Error.{code_of, offset_of, IsOutOfMemory};
 ghost use Rattle.cbor_io.specs.declared.error.ErrorCode.TheVariants.{NotCanonical};
 ghost use Rattle.cbor_scalars.specs.Takes.{WhereTotal};
-ghost use Rattle.cbor_typed.specs.Whole.{from_slice_context};
+ghost use Rattle.cbor_de.specs.Whole.{from_slice_context};
 ghost use Rattle.cbor_strict.specs.Strict.{SpellsCanonically, SpellsCanonicallyAs};
 ghost use Rattle.cbor_strict.specs.StrictAnswers.{PassesNoDeparture, TellsFirstStrictly};
 ghost use Rattle.cbor_strict.specs.StrictAnswers.{TellsItsDeparture, DepartureOrForm};
@@ -17,7 +17,7 @@ ghost use Rattle.cbor_strict.specs.StrictAnswers.{TellsItsDeparture, DepartureOr
 use crate::walk::first_departure;
 use cbor_io::error::{Error, ErrorCode, Result};
 use cbor_read::SliceRead;
-use cbor_typed::{Deserialize, from_slice};
+use cbor_de::{Deserialize, from_slice};
 use cbor_value::Value;
 use std::alloc::Global;
 

@@ -8,7 +8,7 @@ use cbor_convert::to_vec_canonical;
 use cbor_io::error::Result;
 use cbor_read::Read;
 use cbor_ser::{Serialize, Serializer, to_vec, to_vec_packed};
-use cbor_typed::{Deserialize, Deserializer};
+use cbor_de::{Deserialize, Deserializer};
 use std::alloc::Global;
 use std::fmt::{Debug, InlineText};
 use std::{fmt, io};

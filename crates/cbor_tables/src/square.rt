@@ -4,7 +4,7 @@ use cbor_convert::{to_value, to_vec_canonical};
 use cbor_io::error::Result;
 use cbor_ser::{Serialize, to_vec};
 use cbor_strict::from_slice_canonical;
-use cbor_typed::from_slice;
+use cbor_de::from_slice;
 use cbor_value::Value;
 use std::alloc::Global;
 

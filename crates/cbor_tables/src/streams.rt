@@ -3,7 +3,7 @@
 use crate::desk::{Desk, Outcome, outcome_of};
 use crate::row::Row;
 use cbor_read::Read;
-use cbor_typed::{Deserialize, Deserializer};
+use cbor_de::{Deserialize, Deserializer};
 use std::fmt::Debug;
 use std::io;
 

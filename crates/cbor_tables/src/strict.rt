@@ -6,7 +6,7 @@ use crate::row::Row;
 use cbor_io::error::Result;
 use cbor_ser::to_vec;
 use cbor_strict::from_slice_canonical;
-use cbor_typed::from_slice;
+use cbor_de::from_slice;
 use cbor_value::Value;
 use std::alloc::Global;
 use std::io;

@@ -10,7 +10,7 @@ mod tagged;
 use crate::desk::Desk;
 use crate::row::Row;
 use cbor_read::Read;
-use cbor_typed::Deserializer;
+use cbor_de::Deserializer;
 use std::io;
 
 /// Judges what is read as the type that a row names; gives the deserializer back where no type of

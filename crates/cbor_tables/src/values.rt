@@ -5,7 +5,7 @@ use crate::how::{SCRATCH, Source};
 use crate::pieces::Pieces;
 use crate::row::Row;
 use crate::{fronts, strict};
-use cbor_typed::{from_mut_slice, from_reader, from_slice, from_slice_with_scratch};
+use cbor_de::{from_mut_slice, from_reader, from_slice, from_slice_with_scratch};
 use cbor_value::Value;
 use std::io;
 

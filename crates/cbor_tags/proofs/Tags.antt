@@ -20,7 +20,7 @@ use Rattle.cbor_scalars.specs.Takes.{TellsFault, TellsItem, WhereTotal}
 use Rattle.cbor_collections.proofs.facts.Refusals.{refuses_fault, refuses_then}
 use Rattle.cbor_tags.proofs.NoTags.{no_tag_item, tag_stops}
 use Rattle.cbor_scalars.specs.Takes.{raws, IsRead, IsNotRead, Refuses}
-use Rattle.cbor_typed.proofs.facts.Readings.{along, value_seen}
+use Rattle.cbor_de.proofs.facts.Readings.{along, value_seen}
 
 -- what is no tag is read as it is
 untagged_read : {A : Type 0} (reads : Raw → A → Type 0) (r : Raw) (x : A) → ((w : HeadWidth) (n : ℕ) (q : Raw) → r ≡ raw.tag w n q → ⊥) → reads r x → IsTagged reads r None x

@@ -10,8 +10,8 @@ ghost use Rattle.cbor_tags.specs.Tagged.{StandsNoTag};
 
 use cbor_io::error::Result;
 use cbor_read::Source;
-use cbor_typed::Deserializer;
-use cbor_typed::inner::{error_of, peek};
+use cbor_de::Deserializer;
+use cbor_de::inner::{error_of, peek};
 
 /// Takes the head of the tag that the item at the front is within, and goes one level in, as
 /// `Deserializer::read_tag` does; None, which takes nothing, where it is within none.

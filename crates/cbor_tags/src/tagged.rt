@@ -6,7 +6,7 @@ use crate::outermost::outermost;
 use cbor_io::error::Result;
 use cbor_read::Read;
 use cbor_ser::{Serialize, Serializer, Write};
-use cbor_typed::{Deserialize, DeserializeOwned, Deserializer, Readable};
+use cbor_de::{Deserialize, DeserializeOwned, Deserializer, Readable};
 
 /// A value, and the outermost tag that its item is within, if it is within one.
 ///
@@ -89,7 +89,7 @@ impl<T: Readable> Readable for Tagged<T> {
 }
 
 impl<'de, R: Read<'de>, T: Deserialize<'de, R>> Deserialize<'de, R> for Tagged<T> {
-    #[tactic(auto, using(cbor_typed::proofs::facts::Forms::plain))]
+    #[tactic(auto, using(cbor_de::proofs::facts::Forms::plain))]
     fn deserialize(de: &mut Deserializer<R>) -> Result<Tagged<T>> {
         let _levels = de.levels_left();
         match outermost(de) {

@@ -3,7 +3,7 @@
 //! ([`FromParts`]), or part by part ([`Deserialize`]).
 
 pub use cbor_described::{FromParts, ReadParts, ReadableParts, ReadableTuple, Variant};
-pub use cbor_typed::{
+pub use cbor_de::{
     Deserialize, DeserializeOwned, Deserializer, EitherLifetime, EitherStr, Field, FieldType,
     Formats, IgnoredAny, IoRead, MapAccess, MutSliceRead, Offset, Read, ReadError, ReadErrorCode,
     Readable, SeqAccess, SliceRead, SliceReadFixed, Source, StreamDeserializer, StructAccess,

@@ -13,12 +13,13 @@
 //! assert_eq!(rt; bytes.as_slice(), [0xa2, 1, 0, 2, 0].as_slice());
 //! ```
 //!
-//! The items stand in crates of their own, as `cbor_value`, `cbor_ser` and `cbor_typed`. This one
+//! The items stand in crates of their own, as `cbor_value`, `cbor_ser` and `cbor_de`. This one
 //! has them all under the paths of the Rust crate, and passes on the words that their contracts
 //! use, so that a crate above names no other but `cbor_value`, where it handles a `Value`.
 #![tactic(auto)]
 
 pub mod de;
+pub mod stream;
 
 pub use cbor_bytes as bytes;
 pub use cbor_convert::to_vec_canonical;
@@ -31,11 +32,10 @@ pub use cbor_round as round_trip;
 pub use cbor_round::RoundTrip;
 pub use cbor_ser as ser;
 pub use cbor_ser::{Serializer, to_vec, to_writer};
-pub use cbor_stream as stream;
 pub use cbor_strict as strict;
 pub use cbor_strict::{from_slice_canonical, from_slice_canonical_as};
 pub use cbor_tags as tags;
-pub use cbor_typed::{
+pub use cbor_de::{
     Deserializer, Formats, StreamDeserializer, from_mut_slice, from_reader, from_slice,
     from_slice_with_scratch,
 };

@@ -2,7 +2,7 @@
 
 use crate::checks::{ends_here, gives, refuses};
 use cbor_io::error::{Error, Result as Answer};
-use cbor_typed::{Deserialize, Deserializer, IgnoredAny, SliceRead};
+use cbor_de::{Deserialize, Deserializer, IgnoredAny, SliceRead};
 use cbor_value::Value;
 use test_checks::{Done, is_refused};
 

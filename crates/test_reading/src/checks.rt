@@ -1,7 +1,7 @@
 //! What a test asks. These promise nothing, so that a test of many calls carries no facts from one
 //! to the next.
 
-use cbor_typed::{Deserialize, Deserializer, Offset, SliceRead, Source};
+use cbor_de::{Deserialize, Deserializer, Offset, SliceRead, Source};
 use std::process::Abort;
 use test_checks::{Done, is_refused};
 

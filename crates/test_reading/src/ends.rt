@@ -2,7 +2,7 @@
 
 use crate::checks::has_taken;
 use cbor_io::error::Error;
-use cbor_typed::{Deserializer, Offset, Source};
+use cbor_de::{Deserializer, Offset, Source};
 use std::process::Abort;
 use std::test::Fail;
 use test_checks::{Done, is_refused};

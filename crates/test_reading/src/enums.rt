@@ -2,7 +2,7 @@
 
 use crate::checks::ends_here;
 use cbor_io::error::{Error, Result as Answer};
-use cbor_typed::{Deserializer, SliceRead};
+use cbor_de::{Deserializer, SliceRead};
 use test_checks::{Done, is_refused};
 
 const NAMES: &'static [&'static str] = &["Unit", "NewType"];

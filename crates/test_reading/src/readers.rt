@@ -1,6 +1,6 @@
 //! A reader that has no end.
 
-use cbor_typed::from_reader;
+use cbor_de::from_reader;
 use cbor_value::Value;
 use std::io;
 use test_checks::{Done, is_refused};

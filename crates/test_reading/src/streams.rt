@@ -1,8 +1,8 @@
 //! What a stream holds between calls: levels, offsets and what is lent; and readers that fail.
 
 use cbor_io::error::Error;
-use cbor_stream::read_items;
-use cbor_typed::{
+use cbor_de::read_items;
+use cbor_de::{
     Deserialize, Deserializer, IoRead, Offset, Read, SliceRead, SliceReadFixed, StreamDeserializer,
 };
 use cbor_value::Value;

@@ -1,6 +1,6 @@
 //! What a reader lends.
 
-use cbor_typed::{Deserializer, EitherLifetime, EitherStr, IoRead};
+use cbor_de::{Deserializer, EitherLifetime, EitherStr, IoRead};
 use std::process::Abort;
 use std::test::Fail;
 use test_checks::Done;

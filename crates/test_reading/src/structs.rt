@@ -2,7 +2,7 @@
 
 use crate::checks::ends_here;
 use cbor_io::error::Result as Answer;
-use cbor_typed::{Deserializer, Field};
+use cbor_de::{Deserializer, Field};
 use test_checks::{Done, is_refused};
 
 #[test]

@@ -1,7 +1,7 @@
 //! Tags, entered and left.
 
 use crate::checks::{ends_here, gives, has_taken};
-use cbor_typed::{Deserializer, SliceRead};
+use cbor_de::{Deserializer, SliceRead};
 use std::process::Abort;
 use test_checks::{Done, is_refused};
 

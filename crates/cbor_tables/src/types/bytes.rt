@@ -5,7 +5,7 @@ use crate::row::Row;
 use crate::types::lists;
 use cbor_bytes::{ByteArray, ByteBuf, Bytes};
 use cbor_read::Read;
-use cbor_typed::Deserializer;
+use cbor_de::Deserializer;
 use std::collections::BTreeMap;
 use std::io;
 

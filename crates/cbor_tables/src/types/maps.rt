@@ -4,7 +4,7 @@ use crate::desk::Desk;
 use crate::row::Row;
 use crate::types::tagged;
 use cbor_read::Read;
-use cbor_typed::Deserializer;
+use cbor_de::Deserializer;
 use std::collections::BTreeMap;
 use std::io;
 

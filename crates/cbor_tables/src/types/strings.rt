@@ -4,7 +4,7 @@ use crate::desk::Desk;
 use crate::row::Row;
 use crate::types::bytes;
 use cbor_read::Read;
-use cbor_typed::{Deserializer, IgnoredAny};
+use cbor_de::{Deserializer, IgnoredAny};
 use std::io;
 
 /// Judges a row of one of these, or of another type.

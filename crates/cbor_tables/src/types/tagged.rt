@@ -4,7 +4,7 @@ use crate::desk::Desk;
 use crate::row::Row;
 use cbor_read::Read;
 use cbor_tags::Tagged;
-use cbor_typed::Deserializer;
+use cbor_de::Deserializer;
 use cbor_value::Value;
 use std::collections::BTreeMap;
 use std::io;

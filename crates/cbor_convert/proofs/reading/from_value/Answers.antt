@@ -1,10 +1,10 @@
 use Rattle.std.proofs.Common.{◌≡◌, ℕ, ◌<◌, ◌^◌, List, length, drop, ap, subst, refl, Some}
 use Rattle.cbor_model.specs.Raw.{AreBytes}
 use Rattle.cbor_decode.specs.Gives.{Gave}
-use Rattle.cbor_typed.specs.Whole.{from_reader_context}
+use Rattle.cbor_de.specs.Whole.{from_reader_context}
 use Rattle.cbor_value.specs.View.{view}
 use Rattle.cbor_convert.proofs.Given.{all_left, not_refused, told_unstorable, value_acceptable, value_read, spelled_so}
-use Rattle.cbor_typed.proofs.facts.Forms.{only_err}
+use Rattle.cbor_de.proofs.facts.Forms.{only_err}
 use Rattle.cbor_convert.proofs.reading.from_value.Goals as goal
 
 pub returns-in_err-bytes-clause-accepted : goal.returns-in_err-bytes-clause-accepted

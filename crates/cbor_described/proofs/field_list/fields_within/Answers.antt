@@ -6,12 +6,12 @@ use Rattle.cbor_scalars.specs.Identifiers.{texts}
 use Rattle.cbor_scalars.specs.Takes.{context, formats_of}
 use Rattle.std.proofs.Common.{rules, subst, arith}
 use Rattle.std.proofs.lemmas.Result.{err_from_is_err_and}
-use Rattle.cbor_typed.proofs.facts.Structs.{no_struct, no_field_named, field_named, other_passed, other_unread, field_missing, end_unread, struct_held}
-use Rattle.cbor_typed.proofs.facts.Structs.{unknown_other}
+use Rattle.cbor_de.proofs.facts.Structs.{no_struct, no_field_named, field_named, other_passed, other_unread, field_missing, end_unread, struct_held}
+use Rattle.cbor_de.proofs.facts.Structs.{unknown_other}
 use Rattle.cbor_described.proofs.FieldLists.{unread, begins_with, value_in, value_not_in, lacking_is}
-use Rattle.cbor_typed.specs.Forms.{both, item_form, struct_form, key_form}
+use Rattle.cbor_de.specs.Forms.{both, item_form, struct_form, key_form}
 use Rattle.cbor_decode.proofs.facts.Steps.{onward_some}
-use Rattle.cbor_typed.proofs.facts.Forms.{later_in, of_left, of_right, took_then}
+use Rattle.cbor_de.proofs.facts.Forms.{later_in, of_left, of_right, took_then}
 use Rattle.cbor_described.proofs.FieldForms.{of_fields}
 use Rattle.cbor_described.proofs.field_list.fields_within.Goals as goal
 

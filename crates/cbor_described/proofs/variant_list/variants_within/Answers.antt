@@ -1,10 +1,10 @@
 use Rattle.cbor_decode.specs.declared.formats.Formats.{Formats}
 use Rattle.cbor_scalars.specs.Identifiers.{texts}
 use Rattle.cbor_scalars.specs.Takes.{context, formats_of}
-use Rattle.cbor_typed.proofs.facts.Enums.{variant_unread}
+use Rattle.cbor_de.proofs.facts.Enums.{variant_unread}
 use Rattle.cbor_described.proofs.OneOfs.{enum_answer}
-use Rattle.cbor_typed.specs.Forms.{enum_form}
-use Rattle.cbor_typed.proofs.facts.Forms.{enum_told, later_err, of_left, right_err}
+use Rattle.cbor_de.specs.Forms.{enum_form}
+use Rattle.cbor_de.proofs.facts.Forms.{enum_told, later_err, of_left, right_err}
 use Rattle.std.proofs.lemmas.Result.{err_from_is_err_and}
 use Rattle.cbor_described.proofs.variant_list.variants_within.Goals as goal
 

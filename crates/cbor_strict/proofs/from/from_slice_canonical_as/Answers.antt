@@ -1,8 +1,8 @@
 use Rattle.std.proofs.Common.{ℕ, List, take, sym, ap, subst, ◌∙◌, arith, inl, inr}
 use Rattle.cbor_model.specs.Raw.{AreBytes}
 use Rattle.cbor_io.specs.Error.{offset_of}
-use Rattle.cbor_typed.specs.Whole.{from_slice_context}
-use Rattle.cbor_typed.proofs.facts.Readings.{where_map}
+use Rattle.cbor_de.specs.Whole.{from_slice_context}
+use Rattle.cbor_de.proofs.facts.Readings.{where_map}
 use Rattle.cbor_strict.specs.Departure.{IsFirstDeparture, ShowsDeparture}
 use Rattle.cbor_strict.specs.Strict.{IsFirstShown}
 use Rattle.cbor_strict.proofs.Strict.{from_front, first_of_front, first_of_item}

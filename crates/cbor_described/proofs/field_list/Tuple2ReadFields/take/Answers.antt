@@ -1,9 +1,9 @@
 use Rattle.std.proofs.Common.{[], ◌∷◌, ◌≡◌, ◌+◌, ◌-◌, arith}
-use Rattle.cbor_typed.specs.Structs.{field_or}
+use Rattle.cbor_de.specs.Structs.{field_or}
 use Rattle.cbor_scalars.specs.Takes.{context, formats_of}
 use Rattle.cbor_described.specs.FieldLists.{over, slots_over}
 use Rattle.cbor_described.proofs.FieldLists.{slot_taken, taken_behind}
-use Rattle.cbor_typed.specs.Forms.{item_form}
+use Rattle.cbor_de.specs.Forms.{item_form}
 use Rattle.cbor_described.proofs.FieldForms.{of_first, of_others}
 use Rattle.cbor_described.proofs.field_list.Tuple2ReadFields.take.Goals as goal
 

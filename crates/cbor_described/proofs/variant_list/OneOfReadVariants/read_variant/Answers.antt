@@ -1,6 +1,6 @@
 use Rattle.cbor_scalars.specs.Takes.{context, formats_of}
 use Rattle.cbor_described.proofs.OneOfs.{this_unread, other_unread}
-use Rattle.cbor_typed.proofs.facts.Forms.{of_left, of_right}
+use Rattle.cbor_de.proofs.facts.Forms.{of_left, of_right}
 use Rattle.cbor_described.proofs.variant_list.OneOfReadVariants.read_variant.Goals as goal
 
 pub returns-in-Err-clause-read : goal.returns-in-Err-clause-read

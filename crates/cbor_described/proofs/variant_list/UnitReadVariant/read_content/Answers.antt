@@ -1,5 +1,5 @@
 use Rattle.cbor_scalars.specs.Takes.{formats_of}
-use Rattle.cbor_typed.proofs.facts.Forms.{unit_err}
+use Rattle.cbor_de.proofs.facts.Forms.{unit_err}
 use Rattle.cbor_described.proofs.variant_list.UnitReadVariant.read_content.Goals as goal
 
 pub returns-clause-form : goal.returns-clause-form

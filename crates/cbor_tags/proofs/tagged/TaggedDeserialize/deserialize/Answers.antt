@@ -11,7 +11,7 @@ use Rattle.cbor_tags.specs.declared.tagged.Tagged.{Tagged}
 use Rattle.cbor_tags.proofs.Tags.{tag_read, tag_unread, untagged_taken, untagged_refused, head_refused, tag_told, untagged_told, head_told}
 use Rattle.cbor_decode.proofs.facts.Steps.{took_same}
 use Rattle.cbor_scalars.proofs.facts.Refusals.{item_total, refuses_on}
-use Rattle.cbor_typed.proofs.facts.Forms.{later_in}
+use Rattle.cbor_de.proofs.facts.Forms.{later_in}
 use Rattle.cbor_tags.proofs.tagged.TaggedDeserialize.deserialize.Goals as goal
 
 pub leave_tag-requires : goal.leave_tag-requires

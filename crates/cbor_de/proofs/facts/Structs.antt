@@ -1,0 +1,36 @@
+-- Published: what proves an implementation that reads a struct of named fields. A loop over the fields
+-- keeps `StructSoFar`, and each call that is made in it has a lemma.
+
+-- what is known of the fields
+pub use Rattle.cbor_de.proofs.Slots.{Slots, none_yet, all_of, AreHeld, Has, LacksAt, ValueAt, reads_at, put, IsOther, not_known, not_unknown}
+-- what is known of the struct, and that it is read or isn't
+pub use Rattle.cbor_de.proofs.Structs.{StructSoFar, ReadsStruct, NoStruct}
+-- the map's head
+pub use Rattle.cbor_de.proofs.Structs.{struct_begins, no_struct}
+-- a field that is named and read, or a key of none that is passed over
+pub use Rattle.cbor_de.proofs.Structs.{field_read, other_passed}
+-- the same of a field that is read into its slot by `once`
+pub use Rattle.cbor_de.proofs.Structs.{FieldNamed, field_named, field_once, field_not_once}
+-- what is refused in between
+pub use Rattle.cbor_de.proofs.Structs.{no_field_named, field_twice, field_unread, other_unread}
+-- the end
+pub use Rattle.cbor_de.proofs.Structs.{field_missing, end_unread, struct_read, struct_held}
+-- ---- the short way
+
+-- Where fields are read by `once` and `required`, and alike whatever formats are read, a loop keeps
+-- `FieldsSoFar`, and each call has a lemma of its Ok and one of its Err.
+
+-- what is known between two fields, at a field's value, and at the end
+pub use Rattle.cbor_de.proofs.StructLoops.{FieldsSoFar, FieldDue, FieldsEnded}
+-- `structure`
+pub use Rattle.cbor_de.proofs.StructLoops.{fields_begin, no_fields}
+-- `next_field`: a field is named, or none is left
+pub use Rattle.cbor_de.proofs.StructLoops.{field_due, fields_ended, none_named}
+-- `once`
+pub use Rattle.cbor_de.proofs.StructLoops.{field_taken, field_refused}
+-- `skip`, and that what is passed over is no field
+pub use Rattle.cbor_de.proofs.StructLoops.{other_taken, other_refused, known_other, unknown_other}
+-- `required`
+pub use Rattle.cbor_de.proofs.StructLoops.{field_required, field_absent}
+-- `end`
+pub use Rattle.cbor_de.proofs.StructLoops.{fields_read, end_refused}

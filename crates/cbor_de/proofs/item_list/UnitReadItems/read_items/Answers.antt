@@ -1,0 +1,7 @@
+use Rattle.cbor_de.proofs.ItemLists.{none_left}
+use Rattle.cbor_de.proofs.item_list.UnitReadItems.read_items.Goals as goal
+
+pub returns-clause-read : goal.returns-clause-read
+returns-clause-read g c =
+    let old = c.args.de.now.decoder in
+    none_left old.formats old.levels c.args.remaining g.R.Source.refusals (g.R.Source.source old.source) (g.R.Source.source c.end_array.new.decoder.source) c.end_array.result c.end_array.ensures.read

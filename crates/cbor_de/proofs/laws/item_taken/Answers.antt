@@ -1,0 +1,7 @@
+use Rattle.cbor_scalars.specs.Takes.{lending}
+use Rattle.cbor_de.proofs.Taken.{item_taken}
+use Rattle.cbor_de.proofs.laws.item_taken.Goals as goal
+
+pub returns : goal.returns
+returns g c = λ refusals f l levels s t bytes r tells fits taken.
+    item_taken refusals f (g.T.Readable.reads (lending f l)) levels s t bytes tells fits r taken

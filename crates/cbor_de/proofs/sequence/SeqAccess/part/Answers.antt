@@ -1,0 +1,19 @@
+use Rattle.cbor_io.specs.Error.{code_of, offset_of}
+use Rattle.cbor_decode.specs.Heads.{remaining_of}
+use Rattle.cbor_scalars.specs.Takes.{context, formats_of}
+use Rattle.cbor_collections.proofs.facts.Arrays.{part_missing, part_refused}
+use Rattle.cbor_de.proofs.sequence.SeqAccess.part.Goals as goal
+
+pub returns-in-Ok-None-clause-read : goal.returns-in-Ok-None-clause-read
+returns-in-Ok-None-clause-read g c =
+    let old = c.args.self.now in
+    let reads = g.T.Readable.reads (context old.de.now.decoder.formats g.R.Source.lends) in
+    let e = c.invalid_length.result in
+    part_missing g.R.Source.refusals reads (formats_of old.de.now.decoder.formats) old.de.now.decoder.levels (remaining_of old.remaining) (g.R.Source.source old.de.now.decoder.source) (code_of e) (offset_of e) (g.R.Source.source c.next_element.new.self.de.now.decoder.source) (rw c.in-Ok-None.field-0-is at c.in-Ok-None.ensures.read)
+
+pub returns-in-Err-clause-read : goal.returns-in-Err-clause-read
+returns-in-Err-clause-read g c =
+    let old = c.args.self.now in
+    let reads = g.T.Readable.reads (context old.de.now.decoder.formats g.R.Source.lends) in
+    let e = c.in-Err.e in
+    part_refused g.R.Source.refusals reads (formats_of old.de.now.decoder.formats) old.de.now.decoder.levels (remaining_of old.remaining) (g.R.Source.source old.de.now.decoder.source) (code_of e) (offset_of e) c.in-Err.ensures.read

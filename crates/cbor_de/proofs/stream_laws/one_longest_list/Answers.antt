@@ -1,0 +1,5 @@
+use Rattle.cbor_de.proofs.Items as proved
+use Rattle.cbor_de.proofs.stream_laws.one_longest_list.Goals as goal
+
+pub returns : goal.returns
+returns c = proved.one_longest_list

@@ -1,0 +1,6 @@
+use Rattle.cbor_scalars.specs.Takes.{lending}
+use Rattle.cbor_de.proofs.StreamAnswers as proved
+use Rattle.cbor_de.proofs.stream_laws.stream_answers.Goals as goal
+
+pub returns : goal.returns
+returns g c = λ l. proved.stream_answers (λ f. g.T.Readable.reads (lending f l)) g.T.Readable.total

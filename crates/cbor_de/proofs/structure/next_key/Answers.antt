@@ -1,0 +1,13 @@
+use Rattle.cbor_collections.proofs.facts.Places.{made_alone}
+use Rattle.cbor_de.proofs.Forms.{key_told}
+use Rattle.cbor_scalars.specs.Takes.{formats_of}
+use Rattle.cbor_de.proofs.structure.next_key.Goals as goal
+
+pub returns-in-Err-clause-read : goal.returns-in-Err-clause-read
+returns-in-Err-clause-read g c = rw c.unnamed.ensures.source (c.in-Err.ensures.read c.unnamed.result c.unnamed.ensures.made)
+
+pub returns-in-Err-clause-form : goal.returns-in-Err-clause-form
+returns-in-Err-clause-form g c =
+    let old = c.args.de.now.decoder in
+    let e = c.unnamed.result in
+    key_told (formats_of old.formats) c.args.remaining.now (g.R.Source.source old.source) e (made_alone c.next_field.new.self.decoder.refusal c.in-Err.why e c.unnamed.ensures.made) (c.in-Err.ensures.cases e c.unnamed.ensures.made)

@@ -1,0 +1,300 @@
+//! Reading a whole input as a type.
+
+ghost use Rattle.std.specs.Prelude.{⊤, ◌≡◌, ◌<◌, ◌⊎◌, ℕ, List, [], length, Some, None};
+ghost use Rattle.std.specs.Prelude.{IfOk, IfErr, MatchResult};
+ghost use Rattle.cbor_model.specs.Acceptable.{max_depth, FitsScratch};
+ghost use Rattle.cbor_model.specs.Allowed.{limits_of};
+ghost use Rattle.cbor_model.specs.Formats.{all_formats};
+ghost use Rattle.cbor_model.specs.Laws.{SpellsValue};
+ghost use Rattle.cbor_model.specs.Plain.{Val};
+ghost use Rattle.cbor_model.specs.Raw.{AreBytes, longest_joined};
+ghost use Rattle.cbor_model.specs.Readable.{SpellsAs};
+ghost use Rattle.cbor_model.specs.Reader.{read_value, read_value_in};
+ghost use Rattle.cbor_io.specs.Error.{IsOutOfMemory};
+ghost use Rattle.cbor_decode.specs.FirstRefusal.{TellsFirst};
+ghost use Rattle.cbor_decode.specs.Gives.{Fails, FailsOrFaults, Gave};
+ghost use Rattle.cbor_decode.specs.Gives.{IsMemoryOrFault, IsScratchOrMemory};
+ghost use Rattle.cbor_read.specs.Source.{asks_for, unread_reader, unread_slice};
+ghost use Rattle.cbor_scalars.specs.Takes.{context, formats_of, lending, MemoryFor, WhereTotal};
+ghost use Rattle.cbor_de.specs.Forms.{MayTell};
+ghost use Rattle.cbor_de.specs.Whole.{ReadsAll, RefusesBytes, TellsWhole, from_slice_context};
+ghost use Rattle.cbor_de.specs.Whole.{from_mut_slice_context, from_reader_context};
+ghost use Rattle.cbor_de.specs.Whole.{asks_none, from_reader_asks, from_slice_asks};
+
+use crate::de::Deserializer;
+use crate::deserialize::{Deserialize, DeserializeOwned};
+use cbor_io::error::Result;
+use cbor_read::{IoRead, MutSliceRead, Read, SliceRead, SliceReadFixed};
+use std::alloc::Global;
+use std::io;
+
+// What all that the source has to give is read as.
+fn read_all<'de, T: Deserialize<'de, R>, R: Read<'de> + Drop>(alloc: Global, source: R) -> Result<T>
+    ensures read { ReadsAll R.refusals all_formats (T.reads (lending all_formats R.lends))
+        max_depth (R.source source) result }
+    ensures fault { IfErr result (TellsWhole T.passes_over T.total R.refusals all_formats
+        (T.reads (lending all_formats R.lends)) max_depth (R.source source)) }
+    ensures memory { IfErr result (MemoryFor (T.asks_memory (asks_for R.refusals R.lends))
+        all_formats (T.reads (lending all_formats R.lends)) max_depth (R.source source)) }
+    ensures form { IfErr result (MayTell T.wrong_forms all_formats (R.source source)) }
+{
+    let mut de = Deserializer::new(alloc, source);
+    whole(&mut de)
+}
+
+// What the one item that is to come is read as.
+fn whole<'de, T: Deserialize<'de, R>, R: Read<'de>>(de: &mut Deserializer<R>) -> Result<T>
+    ensures read { ReadsAll R.refusals (formats_of de.old.decoder.formats)
+        (T.reads (context de.old.decoder.formats R.lends)) de.old.decoder.levels
+        (R.source de.old.decoder.source) result }
+    ensures fault { IfErr result (TellsWhole T.passes_over T.total R.refusals
+        (formats_of de.old.decoder.formats) (T.reads (context de.old.decoder.formats R.lends))
+        de.old.decoder.levels (R.source de.old.decoder.source)) }
+    ensures memory { IfErr result (MemoryFor
+        (T.asks_memory (asks_for R.refusals R.lends)) (formats_of de.old.decoder.formats)
+        (T.reads (context de.old.decoder.formats R.lends)) de.old.decoder.levels
+        (R.source de.old.decoder.source)) }
+    ensures form { IfErr result (MayTell T.wrong_forms (formats_of de.old.decoder.formats)
+        (R.source de.old.decoder.source)) }
+{
+    let value = match T::deserialize(de) {
+        Ok(value) => value,
+        Err(e) => return Err(e),
+    };
+    match de.end() {
+        Ok(()) => Ok(value),
+        Err(e) => Err(e),
+    }
+}
+
+// Tells a proof that what a slice holds is below 256.
+fn are_bytes(slice: &[u8])
+    ensures { AreBytes slice.now }
+{
+    let _ = slice.len();
+}
+
+/// What the one item that the bytes spell is read as (RFC 7049, sections 2.1 to 2.4).
+///
+/// The item has to be acceptable: well formed, nested at most 127 levels deep, each text UTF-8; and
+/// one that the type reads. Heads may be longer than they have to be, and lengths indefinite.
+///
+/// A [`Value`](cbor_value::Value) is read from any acceptable item. Null and undefined are `Null`;
+/// of a map's pairs with one key the last value stays, and the keys are put in order. Of the simple
+/// values only false, true, null and undefined are acceptable (`f0` and `f8 ff` are refused).
+///
+/// The refusals, each at an offset in bytes:
+/// - `EofWhileParsingValue`, `EofWhileParsingArray`, `EofWhileParsingMap`: the bytes end too early,
+///   the latter two where an element of an array or a key of a map of indefinite length, or its
+///   break, is due; at the end of the bytes;
+/// - `UnassignedCode`: a first byte that the format doesn't assign, or that of another simple
+///   value, after that byte;
+/// - `UnexpectedCode`: a break, or a byte in a chunk's place, that may not stand there, after it;
+/// - `InvalidUtf8`: a text isn't UTF-8, where its first bad sequence begins; of chunks, the text's
+///   end less the joined bytes from that sequence on (4 of `7f 61 c3 61 28 ff`);
+/// - `LengthOutOfRange`: a text would end at 2^64 or beyond, after its head;
+/// - `RecursionLimitExceeded`: the 128th array, map or tag inside others, after its head;
+/// - `TrailingData`: bytes follow the item, after the first of them; or items or pairs that the
+///   type doesn't read follow those that it does;
+/// - `ArrayTooShort`, `ArrayTooLong`: an array in an enum's place has no name, or no item where
+///   the variant has a part; or it has a name alone and the variant no part; after its last item;
+/// - `Message`, without an offset: an item that the type doesn't read;
+/// - `OutOfMemory`: an allocation failed. No memory is taken on the word of a head. None is taken
+///   for a bool, a number, a float, `()` and a borrowed string; for a `char` and a `ByteArray` that
+///   aren't in chunks; for an `IgnoredAny` of an item that has no string in chunks; for a `Value`
+///   that is a bool, a number, a float or null; and for an `Option` of these: where such an item is
+///   there, it is read.
+///
+/// Where several faults stand in one input, a type that reads every item, as `Value` does, returns
+/// the first. A bool, a number, a `char`, `()`, a string, and an `Option` of these return the first
+/// of the item that the bytes begin with, and `Message` exactly where an acceptable item stands
+/// there that they don't read. Of other types no clause says which fault is returned. But those,
+/// and a vector, an array or a tuple of them, never refuse an item for its form, by
+/// `ArrayTooShort`, `ArrayTooLong`, `WrongEnumFormat` or `WrongStructFormat`; and any other by the
+/// codes, and at the places, that it says (`Readable::wrong_forms`).
+///
+/// ```rust
+/// let number: u8 = from_slice(alloc, b"\x18\x2a")?;
+/// assert_eq!(rt; number, 42);
+///
+/// let value: Value = from_slice(alloc, &[0x82, 0x18, 0x17, 0xf7])?;
+/// assert_eq!(rt; value, Value::Array(vec![in alloc; Value::Integer(23), Value::Null]?));
+/// ```
+pub fn from_slice<'a, T: Deserialize<'a, SliceRead<'a>>>(
+    alloc: Global,
+    slice: &'a [u8],
+) -> Result<T>
+    // The bytes spell an acceptable item, and it is read so.
+    ensures found { IfOk result (SpellsAs all_formats (T.reads from_slice_context) slice.now) }
+    // Each such item is read, unless memory runs out.
+    ensures accepted { (x : T) → SpellsAs all_formats (T.reads from_slice_context) slice.now x
+        → IfErr result IsOutOfMemory }
+    // Memory runs out only for an item for which the type may ask for it: bool, numbers, floats,
+    // (), borrowed strings, Option of these, and a Value that is a number, a bool, a float or null
+    // ask for none, so that where such an item is there it is read.
+    ensures memory { (x : T)
+        → (spelt : SpellsAs all_formats (T.reads from_slice_context) slice.now x)
+        → IfErr result (λ e. T.asks_memory from_slice_asks spelt.item) }
+    // The acceptable item that the bytes spell is the one that is read; and where the type reads
+    // every item, it is read, unless memory runs out.
+    ensures every { (v : Val) → (spelt : SpellsValue slice.now v)
+        → MatchResult result (T.reads from_slice_context spelt.item)
+        (λ e. WhereTotal T.total (IsOutOfMemory e)) }
+    // A refusal of it is the first that the bytes allow, or memory ran out.
+    ensures first { IfErr result (λ e. WhereTotal T.total
+        (IsOutOfMemory e ⊎ TellsFirst (limits_of None) slice.now e)) }
+    // It tells the fault that the reference reader meets, or that memory ran out.
+    ensures refused { IfErr result (λ e.
+        WhereTotal T.total (Fails (length slice.now) e (read_value slice.now))) }
+    // Where the type passes over an item that it doesn't read, a refusal tells the fault of what
+    // the bytes begin with, and is a message exactly where an item stands there that isn't read;
+    // of one that is read, it tells that more follows.
+    ensures fault { IfErr result (λ e. WhereTotal T.passes_over
+        (RefusesBytes ⊥ (T.reads from_slice_context) None slice.now e)) }
+    // A wrong form is told by a code, and at a place, that the type may tell it by and at.
+    ensures form { IfErr result (MayTell T.wrong_forms all_formats (unread_slice slice.now None)) }
+{
+    read_all(alloc, SliceRead::new(alloc, slice))
+}
+
+/// What the one item that the bytes spell is read as, as by [`from_slice`]; strings in chunks are
+/// joined in a scratch of the caller's.
+///
+/// It refuses as `from_slice` does, and with `ScratchTooSmall` where the chunks of a string, each
+/// whole in the bytes, are longer together than the scratch: at the offset after the head of the
+/// chunk that doesn't fit. What the scratch holds afterwards isn't said.
+///
+/// Beside what `from_slice` takes no memory for, none is taken for a `char` and a `ByteArray` in
+/// chunks that fit the scratch, and for an `IgnoredAny`.
+///
+/// ```rust
+/// let flag: bool = from_slice_with_scratch(alloc, b"\xf5", &mut [])?;
+/// assert!(rt; flag);
+/// ```
+pub fn from_slice_with_scratch<'a, T: Deserialize<'a, SliceReadFixed<'a, 'a>>>(
+    alloc: Global,
+    slice: &'a [u8],
+    scratch: &'a mut [u8],
+) -> Result<T>
+    ensures found { IfOk result (SpellsAs all_formats (T.reads from_slice_context) slice.now) }
+    // Each such item whose chunks fit the scratch is read, unless memory runs out.
+    ensures accepted { (x : T)
+        → (spelt : SpellsAs all_formats (T.reads from_slice_context) slice.now x)
+        → FitsScratch (Some (length scratch.old)) spelt.item → IfErr result IsOutOfMemory }
+    ensures memory { (x : T)
+        → (spelt : SpellsAs all_formats (T.reads from_slice_context) slice.now x)
+        → FitsScratch (Some (length scratch.old)) spelt.item
+        → IfErr result (λ e. T.asks_memory asks_none spelt.item) }
+    ensures every { (v : Val) → (spelt : SpellsValue slice.now v)
+        → FitsScratch (Some (length scratch.old)) spelt.item
+        → MatchResult result (T.reads from_slice_context spelt.item)
+        (λ e. WhereTotal T.total (IsOutOfMemory e)) }
+    // An item with a string in chunks that is longer than the scratch isn't read; where the type
+    // reads every item, that is told, unless memory runs out.
+    ensures small { (v : Val) → (spelt : SpellsValue slice.now v)
+        → length scratch.old < longest_joined spelt.item
+        → MatchResult result (λ x. ⊥) (λ e. WhereTotal T.total (IsScratchOrMemory e)) }
+    ensures first { IfErr result (λ e. WhereTotal T.total
+        (IsOutOfMemory e ⊎ TellsFirst (limits_of (Some (length scratch.old))) slice.now e)) }
+    ensures refused { IfErr result (λ e. WhereTotal T.total (Fails (length slice.now) e
+        (read_value_in (Some (length scratch.old)) slice.now))) }
+    ensures fault { IfErr result (λ e. WhereTotal T.passes_over (RefusesBytes ⊥
+        (T.reads from_slice_context) (Some (length scratch.old)) slice.now e)) }
+    ensures form { IfErr result (MayTell T.wrong_forms all_formats
+        (unread_slice slice.now (Some (length scratch.old)))) }
+{
+    read_all(alloc, SliceReadFixed::new(slice, scratch))
+}
+
+/// What the one item that the bytes spell is read as, as by [`from_slice`]. The slice is rewritten:
+/// strings in chunks are joined in place. What it holds afterwards isn't said.
+///
+/// Beside what `from_slice` takes no memory for, none is taken for a borrowed string, a `char` and
+/// a `ByteArray` in chunks, and for an `IgnoredAny`.
+///
+/// ```rust
+/// let number: i64 = from_mut_slice(alloc, &mut [0x38, 0x7f])?;
+/// assert_eq!(rt; number, -128);
+/// ```
+pub fn from_mut_slice<'a, T: Deserialize<'a, MutSliceRead<'a>>>(
+    alloc: Global,
+    slice: &'a mut [u8],
+) -> Result<T>
+    ensures found { IfOk result
+        (SpellsAs all_formats (T.reads from_mut_slice_context) slice.old) }
+    ensures accepted { (x : T)
+        → SpellsAs all_formats (T.reads from_mut_slice_context) slice.old x
+        → IfErr result IsOutOfMemory }
+    ensures memory { (x : T)
+        → (spelt : SpellsAs all_formats (T.reads from_mut_slice_context) slice.old x)
+        → IfErr result (λ e. T.asks_memory asks_none spelt.item) }
+    ensures every { (v : Val) → (spelt : SpellsValue slice.old v)
+        → MatchResult result (T.reads from_mut_slice_context spelt.item)
+        (λ e. WhereTotal T.total (IsOutOfMemory e)) }
+    ensures first { IfErr result (λ e. WhereTotal T.total
+        (IsOutOfMemory e ⊎ TellsFirst (limits_of None) slice.old e)) }
+    ensures refused { IfErr result (λ e.
+        WhereTotal T.total (Fails (length slice.old) e (read_value slice.old))) }
+    ensures fault { IfErr result (λ e. WhereTotal T.passes_over
+        (RefusesBytes ⊥ (T.reads from_mut_slice_context) None slice.old e)) }
+    ensures form { IfErr result (MayTell T.wrong_forms all_formats (unread_slice slice.old None)) }
+{
+    are_bytes(slice);
+    read_all(alloc, MutSliceRead::new(slice))
+}
+
+/// What the one item that the reader's bytes spell is read as, as by [`from_slice`]. It reads to
+/// the reader's end, and takes memory for what came alone, also for a `char` and a `ByteArray`.
+///
+/// It refuses as `from_slice` does, with `Io` where the reader reports a fault (an interrupted read
+/// is one), and with `LengthOutOfRange` where it gives 2^64 bytes and more.
+///
+/// ```rust
+/// let number: u8 = from_reader(alloc, b"\x18\x2a".as_slice())?;
+/// assert_eq!(rt; number, 42);
+/// ```
+///
+/// A type that borrows from its input isn't read from a reader, which the compiler says:
+///
+/// ```rust,compile_fail
+/// let text: &str = from_reader(alloc, b"\x61a".as_slice())?;
+/// ```
+pub fn from_reader<'de, T: DeserializeOwned + Deserialize<'de, IoRead<R>>, R: io::Read + Drop>(
+    alloc: Global,
+    reader: R,
+) -> Result<T>
+    // Of a reader that tells its bytes, fewer than 2^64, however it gives them:
+    ensures found { (bytes : List ℕ) → Gave (R.remaining reader) bytes
+        → IfOk result (SpellsAs all_formats (T.reads from_reader_context) bytes) }
+    // Each such item is read, unless memory runs out or the reader reports a fault.
+    ensures accepted { (bytes : List ℕ) → Gave (R.remaining reader) bytes
+        → (x : T) → SpellsAs all_formats (T.reads from_reader_context) bytes x
+        → IfErr result IsMemoryOrFault }
+    // Memory runs out only for an item for which the type may ask for it.
+    ensures memory { (bytes : List ℕ) → Gave (R.remaining reader) bytes
+        → (x : T) → (spelt : SpellsAs all_formats (T.reads from_reader_context) bytes x)
+        → IfErr result (λ e. IsOutOfMemory e → T.asks_memory from_reader_asks spelt.item) }
+    // The acceptable item that the bytes spell is the one that is read; and where the type reads
+    // every item, it is read, with the same exceptions.
+    ensures every { (bytes : List ℕ) → Gave (R.remaining reader) bytes
+        → (v : Val) → (spelt : SpellsValue bytes v)
+        → MatchResult result (T.reads from_reader_context spelt.item)
+        (λ e. WhereTotal T.total (IsMemoryOrFault e)) }
+    // A refusal of it is the first that the bytes allow, or memory ran out, or the reader reported
+    // a fault.
+    ensures first { (bytes : List ℕ) → Gave (R.remaining reader) bytes
+        → IfErr result (λ e. WhereTotal T.total
+        (IsMemoryOrFault e ⊎ TellsFirst (limits_of None) bytes e)) }
+    // It tells the fault that the reference reader meets, with the same exceptions.
+    ensures refused { (bytes : List ℕ) → Gave (R.remaining reader) bytes
+        → IfErr result (λ e.
+        WhereTotal T.total (FailsOrFaults (length bytes) e (read_value bytes))) }
+    // Of a type that passes over what it doesn't read, with the same exceptions:
+    ensures fault { (bytes : List ℕ) → Gave (R.remaining reader) bytes
+        → IfErr result (λ e. WhereTotal T.passes_over
+        (RefusesBytes ⊤ (T.reads from_reader_context) None bytes e)) }
+    ensures form { IfErr result (MayTell T.wrong_forms all_formats
+        (unread_reader (R.remaining reader))) }
+{
+    read_all(alloc, IoRead::new(alloc, reader))
+}

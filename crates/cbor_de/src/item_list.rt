@@ -1,0 +1,188 @@
+//! Tuples, which are read by one recursion over the list of their parts: the tuples of the standard
+//! library, and those that are the parts of an enum's variant.
+
+ghost use Rattle.std.specs.Prelude.{◌≡◌, IfErr, OnOk};
+ghost use Rattle.cbor_model.specs.Readable.{PassesTags};
+ghost use Rattle.cbor_decode.specs.Gives.{Onward};
+ghost use Rattle.cbor_collections.specs.Accesses.{TakesPart};
+ghost use Rattle.cbor_collections.specs.Arrays.{AsArray};
+ghost use Rattle.cbor_scalars.specs.Takes.{TakesItem, context, formats_of};
+ghost use Rattle.cbor_de.specs.Forms.{MayTell};
+ghost use Rattle.cbor_de.specs.ItemLists.{TakesItems};
+
+use crate::de::Deserializer;
+use crate::deserialize::{Deserialize, Readable};
+use crate::sequence::invalid_length;
+use cbor_collections::array::{array_head, end_array, more_items};
+use cbor_decode::Remaining;
+use cbor_io::error::Result;
+use cbor_read::Read;
+
+// ---- tuples
+
+/// The items of an array that are read as a tuple, as `(u64, u8)`.
+pub trait ReadableTuple: Sized + Drop {
+    ghost use Rattle.cbor_model.specs.Raw.{Raws};
+    ghost use Rattle.cbor_model.specs.Readable.{Context};
+    ghost use Rattle.cbor_de.specs.Forms.{WrongForms};
+
+    // As what the items are read.
+    ghost parts: { Context → Raws → Self → Type 0 };
+
+    // By which codes one of them may be refused for its form, and where.
+    ghost wrong_forms: { WrongForms };
+}
+
+/// A tuple that is read from a source.
+pub trait ReadTuple<'de, R: Read<'de>>: ReadableTuple {
+    /// Reads the items of an array that remain, of which none was read, and its end.
+    fn read_tuple(de: &mut Deserializer<R>, remaining: Remaining) -> Result<Self>
+        ensures read { TakesItems R.refusals (formats_of de.old.decoder.formats)
+            (Self.parts (context de.old.decoder.formats R.lends)) de.old.decoder.levels remaining
+            (R.source de.old.decoder.source) (R.source de.new.decoder.source) result }
+        ensures form { IfErr result (MayTell Self.wrong_forms
+            (formats_of de.old.decoder.formats) (R.source de.old.decoder.source)) }
+        ensures formats { de.new.decoder.formats ≡ de.old.decoder.formats };
+}
+
+// Reads an array of exactly these items.
+#[inline(always)]
+#[tactic(auto, using(crate::proofs::Forms::plain))]
+pub(crate) fn read_array<'de, R: Read<'de>, T: ReadTuple<'de, R>>(
+    de: &mut Deserializer<R>,
+) -> Result<T>
+    ensures read { TakesItem R.refusals (formats_of de.old.decoder.formats)
+        (PassesTags (AsArray (T.parts (context de.old.decoder.formats R.lends))))
+        de.old.decoder.levels (R.source de.old.decoder.source)
+        (R.source de.new.decoder.source) result }
+    ensures taken { OnOk result (Onward (R.source de.old.decoder.source)
+        (R.source de.new.decoder.source)) }
+    ensures form { IfErr result (MayTell T.wrong_forms
+        (formats_of de.old.decoder.formats) (R.source de.old.decoder.source)) }
+    ensures levels { de.new.decoder.levels ≡ de.old.decoder.levels }
+    ensures formats { de.new.decoder.formats ≡ de.old.decoder.formats }
+{
+    let outer = de.decoder.levels;
+    let remaining = match array_head(&mut de.decoder) {
+        Ok(remaining) => remaining,
+        Err(e) => return Err(e),
+    };
+    // A result that is kept while the levels are set would be moved whole.
+    match T::read_tuple(de, remaining) {
+        Ok(tuple) => {
+            de.decoder.levels = outer;
+            Ok(tuple)
+        }
+        Err(e) => {
+            de.decoder.levels = outer;
+            Err(e)
+        }
+    }
+}
+
+// ---- lists
+
+// The parts of a tuple: `()`, or a part and the list of the others, as `(u64, (u8, ()))`.
+pub(crate) trait ItemList: Sized + Drop {
+    ghost use Rattle.cbor_model.specs.Raw.{Raws};
+    ghost use Rattle.cbor_model.specs.Readable.{Context};
+    ghost use Rattle.cbor_de.specs.Forms.{WrongForms};
+
+    // As what the items are read.
+    ghost parts: { Context → Raws → Self → Type 0 };
+
+    // By which codes one of them may be refused for its form, and where.
+    ghost wrong_forms: { WrongForms };
+}
+
+// The parts of a tuple, which are read from a source.
+pub(crate) trait ReadItems<'de, R: Read<'de>>: ItemList {
+    // Reads the items of an array that remain, and its end. So many were read before them, of so
+    // many that are expected.
+    fn read_items(
+        de: &mut Deserializer<R>,
+        remaining: Remaining,
+        before: usize,
+        expected: usize,
+    ) -> Result<Self>
+        ensures read { TakesItems R.refusals (formats_of de.old.decoder.formats)
+            (Self.parts (context de.old.decoder.formats R.lends)) de.old.decoder.levels remaining
+            (R.source de.old.decoder.source) (R.source de.new.decoder.source) result }
+        ensures form { IfErr result (MayTell Self.wrong_forms
+            (formats_of de.old.decoder.formats) (R.source de.old.decoder.source)) }
+        ensures formats { de.new.decoder.formats ≡ de.old.decoder.formats };
+}
+
+impl ItemList for () {
+    ghost use Rattle.cbor_collections.specs.Enums.{no_part};
+    ghost use Rattle.cbor_de.specs.Forms.{never};
+
+    ghost parts = { λ c. no_part };
+
+    ghost wrong_forms = { never };
+}
+
+impl<'de, R: Read<'de>> ReadItems<'de, R> for () {
+    #[inline(always)]
+    fn read_items(
+        de: &mut Deserializer<R>,
+        remaining: Remaining,
+        _before: usize,
+        _expected: usize,
+    ) -> Result<()> {
+        end_array(&mut de.decoder, remaining)
+    }
+}
+
+impl<A: Readable, F: ItemList> ItemList for (A, F) {
+    ghost use Rattle.cbor_de.specs.Forms.{both};
+    ghost use Rattle.cbor_collections.specs.Enums.{part_then};
+
+    ghost parts = { λ c. part_then (A.reads c) (F.parts c) };
+
+    ghost wrong_forms = { both A.wrong_forms F.wrong_forms };
+}
+
+impl<'de, R: Read<'de>, A: Deserialize<'de, R>, F: ReadItems<'de, R>> ReadItems<'de, R> for (A, F) {
+    #[inline(always)]
+    fn read_items(
+        de: &mut Deserializer<R>,
+        mut remaining: Remaining,
+        before: usize,
+        expected: usize,
+    ) -> Result<(A, F)> {
+        let first = match next_part::<R, A>(de, &mut remaining, before, expected) {
+            Ok(first) => first,
+            Err(e) => return Err(e),
+        };
+        match F::read_items(de, remaining, before.saturating_add(1), expected) {
+            Ok(others) => Ok((first, others)),
+            Err(e) => Err(e),
+        }
+    }
+}
+
+// Reads the next item of an array of which so much remains.
+#[inline(always)]
+#[tactic(auto, using(crate::proofs::Forms::plain))]
+fn next_part<'de, R: Read<'de>, T: Deserialize<'de, R>>(
+    de: &mut Deserializer<R>,
+    remaining: &mut Remaining,
+    before: usize,
+    expected: usize,
+) -> Result<T>
+    ensures read { TakesPart R.refusals (formats_of de.old.decoder.formats)
+        (T.reads (context de.old.decoder.formats R.lends))
+        de.old.decoder.levels remaining.old remaining.new
+        (R.source de.old.decoder.source) (R.source de.new.decoder.source) result }
+    ensures form { IfErr result (MayTell T.wrong_forms
+        (formats_of de.old.decoder.formats) (R.source de.old.decoder.source)) }
+    ensures levels { de.new.decoder.levels ≡ de.old.decoder.levels }
+    ensures formats { de.new.decoder.formats ≡ de.old.decoder.formats }
+{
+    match more_items(&mut de.decoder, remaining) {
+        Ok(true) => T::deserialize(de),
+        Ok(false) => Err(invalid_length(de.decoder.alloc, before, expected)),
+        Err(e) => Err(e),
+    }
+}

@@ -1,0 +1,59 @@
+//! Laws about what is read, which are the contracts of functions that do nothing.
+ghost use Rattle.cbor_de.specs.Alike.{SourcesAgree, OwnedAgree};
+ghost use Rattle.cbor_de.specs.FirstOfItem.{ItemRefusedFirst};
+ghost use Rattle.cbor_de.specs.ItemTaken.{ItemTaken};
+ghost use Rattle.cbor_de.specs.HeadsTaken.{HeadsTaken};
+ghost use Rattle.cbor_decode.specs.declared.head.Head.TheVariants.{Array, Map};
+
+use crate::deserialize::{DeserializeOwned, Readable};
+
+/// Two readings of one input as a `Value` answer alike, whatever their sources: the same value; or
+/// errors of one code at one offset, since there is one first refusal. Only want of memory, a
+/// reader's fault and a scratch that is too small are of a source alone.
+///
+/// A caller gives it the answers of two `from_*` of the same bytes (`IsReading`); the published
+/// fact `reading` makes that of the clauses `found` and `first` of a call from a slice, and
+/// `reading_of_reader` of those of a call from a reader.
+pub fn sources_agree()
+    ensures { SourcesAgree }
+{}
+
+/// Two readings of one input as a type that borrows nothing agree, whatever their sources lend: one
+/// item is read as both answers, or both refuse. So a slice and one that is rewritten in place give
+/// the same, want of memory aside.
+///
+/// A caller gives it the answers of two `from_*` of the same bytes (`IsReadingAs`), which the
+/// clauses `found` and `accepted` of each say.
+pub fn owned_agree<T: DeserializeOwned>()
+    ensures { OwnedAgree T.reads }
+{}
+
+/// Where a type that reads every item, as `Value`, is refused by `deserialize` in all formats, the
+/// error tells the first refusal that the bytes to come allow within the levels that are left, at
+/// whatever nesting limit; or memory ran out, or the source reported a fault.
+///
+/// A caller gives it the clause `fault` of `deserialize`.
+pub fn item_refused_first<T: Readable>()
+    ensures { ItemRefusedFirst T.total }
+{}
+
+/// What `deserialize` takes, by the definitions alone. Ok: the bytes to come were the spelling of
+/// an item that the type reads so, acceptable within the levels that are left and with keys of the
+/// formats that are read, and then those that are still to come. Err: no such item is there whose
+/// chunks fit the buffer; or memory ran out, or the source reported a fault.
+///
+/// A caller gives it the clause `read` of `deserialize`.
+pub fn item_taken<T: Readable>()
+    ensures { ItemTaken T.reads }
+{}
+
+/// What `array`, `map` and `structure` take, by the definitions alone. Ok: the bytes to come were
+/// the heads of some tags, the head of an array (major type 4) or of a map (major type 5), and then
+/// those that are still to come, whatever they are; each head took a level. Err: no such heads are
+/// there for which the levels suffice; or memory ran out, or the source reported a fault.
+///
+/// A caller gives it the clauses `opened` and `unopened` of the call.
+pub fn heads_taken()
+    ensures arrays { HeadsTaken Array 4 }
+    ensures maps { HeadsTaken Map 5 }
+{}

@@ -1,0 +1,54 @@
+//! Reading: the four `from_*` read a whole input as a type, and a [`Deserializer`] reads types
+//! from a source, one after the other.
+//!
+//! [`from_slice`] joins strings in chunks in memory, [`from_slice_with_scratch`] in a scratch of
+//! the caller's, and [`from_mut_slice`] in the slice itself; [`from_reader`] takes its bytes from
+//! any reader. All four return the same `Value`; what is borrowed depends on what the source lends.
+//!
+//! A type says which items it reads, and as what ([`Readable`]); [`Deserialize`] reads them. A
+//! `Value` is read from any item.
+#![tactic(auto)]
+
+mod all_items;
+mod another;
+mod de;
+mod deserialize;
+mod field_type;
+mod from;
+pub mod inner;
+mod item_list;
+mod laws;
+mod map;
+mod scalars;
+mod sequence;
+mod stream;
+mod stream_laws;
+mod structure;
+mod tags;
+mod tuple_parts;
+mod types;
+mod variant;
+
+pub use all_items::read_items;
+pub use cbor_collections::variant::Form;
+pub use cbor_decode::{Formats, Remaining};
+pub use cbor_read::{
+    EitherLifetime, IoRead, MutSliceRead, Offset, Read, ReadError, ReadErrorCode, SliceRead,
+    SliceReadFixed, Source,
+};
+pub use cbor_scalars::lent::{EitherStr, Unread};
+pub use de::Deserializer;
+pub use deserialize::{Deserialize, DeserializeOwned, Readable};
+pub use field_type::FieldType;
+pub use from::{from_mut_slice, from_reader, from_slice, from_slice_with_scratch};
+pub use item_list::{ReadTuple, ReadableTuple};
+pub use laws::{heads_taken, item_refused_first, item_taken, owned_agree, sources_agree};
+pub use map::MapAccess;
+pub use sequence::SeqAccess;
+pub use stream::StreamDeserializer;
+pub use stream_laws::{
+    all_are_most, has_longest_list, one_list_of_items, one_longest_list, stream_answers,
+};
+pub use structure::{Field, StructAccess, duplicate_field, missing_field, next_key};
+pub use types::IgnoredAny;
+pub use variant::{VariantAccess, one_part};

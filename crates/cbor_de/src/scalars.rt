@@ -1,0 +1,196 @@
+//! Simple values, numbers and strings, which hold no other item, and the head of any item.
+
+ghost use Rattle.std.specs.Prelude.{◌≡◌, ◌≤◌, IfErr, OnOk};
+ghost use Rattle.std.specs.Io.BufRead.{Rests};
+ghost use types.Logic.{sem};
+ghost use Rattle.cbor_model.specs.Readable.{PassesTags, IsBool, IsInteger, IsUnit};
+ghost use Rattle.cbor_model.specs.Reader.{item_at};
+ghost use Rattle.cbor_io.specs.Error.{code_of};
+ghost use Rattle.cbor_decode.specs.Gives.{Onward, TellsNoForm, TellsNoKey};
+ghost use Rattle.cbor_scalars.specs.Opens.{OpensAt};
+ghost use Rattle.cbor_scalars.specs.Scalars.{IsFloatItem};
+ghost use Rattle.cbor_scalars.specs.Strings.{IsMadeOf, IsNoKey, LendsBytes, LendsString, LendsText};
+ghost use Rattle.cbor_scalars.specs.Takes.{TakesItem, TakesNoMemory, context, formats_of};
+ghost use Rattle.cbor_read.specs.Source.{asks_for};
+ghost use Rattle.cbor_scalars.specs.Strings.{AsksForBytes, AsksForString, AsksToLend};
+ghost use Rattle.cbor_scalars.specs.Strings.{LendsWhole, UnreadOnly};
+ghost use Rattle.cbor_scalars.specs.Takes.{ReadsWhole, RefusesWhole, raws};
+ghost use Rattle.cbor_de.specs.contracts.de.Deserializer.{the_row as typed_row};
+
+use crate::de::Deserializer;
+use cbor_decode::{Done, Head};
+use cbor_io::error::{Error, Result};
+use cbor_read::{EitherLifetime, Read, Source};
+use cbor_scalars::lent::{EitherStr, Unread};
+use cbor_scalars::{integer, lent, opening, scalar};
+use cbor_value::Float;
+
+/// The result of a borrowing read.
+type Lent<T> = std::result::Result<T, Unread>;
+
+impl<R: Source> Deserializer<R> {
+    /// Reads false or true (RFC 7049, section 2.3).
+    ///
+    /// What isn't whole is refused by its fault, and another item by a message.
+    #[inline(always)]
+    pub fn read_bool(&mut self) -> Result<bool>
+        ensures read { TakesItem R.refusals (formats_of self.old.decoder.formats) (PassesTags IsBool)
+            self.old.decoder.levels
+            (R.source self.old.decoder.source) (R.source self.new.decoder.source)
+            result }
+        ensures taken { OnOk result (Onward (R.source self.old.decoder.source)
+            (R.source self.new.decoder.source)) }
+        ensures fault { IfErr result (RefusesWhole R.refusals self.old.decoder.levels
+            (R.source self.old.decoder.source)) }
+        ensures no_form { IfErr result (λ e. TellsNoForm (code_of e)) }
+        ensures memory { IfErr result (TakesNoMemory (formats_of self.old.decoder.formats)
+            (PassesTags IsBool) self.old.decoder.levels (R.source self.old.decoder.source)) }
+        ensures levels { self.new.decoder.levels ≡ self.old.decoder.levels }
+        ensures formats { self.new.decoder.formats ≡ self.old.decoder.formats }
+    {
+        scalar::read_bool(&mut self.decoder)
+    }
+
+    /// Reads a float of 16, 32 or 64 bits (RFC 7049, section 2.3).
+    ///
+    /// What isn't whole is refused by its fault, and another item by a message.
+    #[inline(always)]
+    pub fn read_float(&mut self) -> Result<Float>
+        ensures read { TakesItem R.refusals (formats_of self.old.decoder.formats)
+            (PassesTags IsFloatItem) self.old.decoder.levels
+            (R.source self.old.decoder.source) (R.source self.new.decoder.source)
+            result }
+        ensures taken { OnOk result (Onward (R.source self.old.decoder.source)
+            (R.source self.new.decoder.source)) }
+        ensures fault { ReadsWhole R.refusals self.old.decoder.levels
+            (R.source self.old.decoder.source) result }
+        ensures no_form { IfErr result (λ e. TellsNoForm (code_of e)) }
+        ensures memory { IfErr result (TakesNoMemory (formats_of self.old.decoder.formats)
+            (PassesTags IsFloatItem) self.old.decoder.levels (R.source self.old.decoder.source)) }
+        ensures levels { self.new.decoder.levels ≡ self.old.decoder.levels }
+        ensures formats { self.new.decoder.formats ≡ self.old.decoder.formats }
+    {
+        scalar::read_float(&mut self.decoder)
+    }
+
+    /// Reads null or undefined (RFC 7049, section 2.3).
+    ///
+    /// What isn't whole is refused by its fault, and another item by a message.
+    #[inline(always)]
+    pub fn read_unit(&mut self) -> Result<()>
+        ensures read { TakesItem R.refusals (formats_of self.old.decoder.formats) (PassesTags IsUnit)
+            self.old.decoder.levels
+            (R.source self.old.decoder.source) (R.source self.new.decoder.source)
+            result }
+        ensures taken { OnOk result (Onward (R.source self.old.decoder.source)
+            (R.source self.new.decoder.source)) }
+        ensures fault { IfErr result (RefusesWhole R.refusals self.old.decoder.levels
+            (R.source self.old.decoder.source)) }
+        ensures no_form { IfErr result (λ e. TellsNoForm (code_of e)) }
+        ensures memory { IfErr result (TakesNoMemory (formats_of self.old.decoder.formats)
+            (PassesTags IsUnit) self.old.decoder.levels (R.source self.old.decoder.source)) }
+        ensures levels { self.new.decoder.levels ≡ self.old.decoder.levels }
+        ensures formats { self.new.decoder.formats ≡ self.old.decoder.formats }
+    {
+        scalar::read_unit(&mut self.decoder)
+    }
+
+    /// Reads a whole number. What isn't whole is refused by its fault, and another item by a
+    /// message.
+    ///
+    /// ```rust
+    /// let mut de = Deserializer::from_slice(alloc, b"\x39\x01\x2b");
+    /// assert_eq!(rt; de.read_integer()?, -300);
+    /// ```
+    #[inline(always)]
+    pub fn read_integer(&mut self) -> Result<i128>
+        ensures read { TakesItem R.refusals (formats_of self.old.decoder.formats)
+            (PassesTags IsInteger) self.old.decoder.levels
+            (R.source self.old.decoder.source) (R.source self.new.decoder.source) result }
+        ensures taken { OnOk result (Onward (R.source self.old.decoder.source)
+            (R.source self.new.decoder.source)) }
+        ensures fault { IfErr result (RefusesWhole R.refusals self.old.decoder.levels
+            (R.source self.old.decoder.source)) }
+        ensures no_form { IfErr result (λ e. TellsNoForm (code_of e)) }
+        ensures memory { IfErr result (TakesNoMemory (formats_of self.old.decoder.formats)
+            (PassesTags IsInteger) self.old.decoder.levels (R.source self.old.decoder.source)) }
+        ensures levels { self.new.decoder.levels ≡ self.old.decoder.levels }
+        ensures formats { self.new.decoder.formats ≡ self.old.decoder.formats }
+    {
+        integer::read_integer(&mut self.decoder)
+    }
+
+    /// The error of a string that wasn't lent; the message is for an item of another kind.
+    #[cold]
+    #[inline(never)]
+    pub fn unread(&mut self, why: Unread, message: &str) -> Error
+        ensures made { IsMadeOf why result }
+        ensures no_form { IsNoKey why → TellsNoForm (code_of result) }
+        ensures source { self.new.decoder.source ≡ self.old.decoder.source }
+        ensures levels { self.new.decoder.levels ≡ self.old.decoder.levels }
+        ensures formats { self.new.decoder.formats ≡ self.old.decoder.formats }
+    {
+        lent::unread_error(&mut self.decoder, why, message)
+    }
+}
+
+impl<'de, R: Read<'de>> Deserializer<R> {
+    /// Lends a text, or a byte string that is UTF-8. Another item is [`Unread::Other`], and was
+    /// passed over; what isn't whole, of any kind, is refused by its fault.
+    #[inline(always)]
+    pub fn read_text<'a>(&'a mut self) -> Lent<EitherStr<'a, 'de>>
+        ensures* after_borrow { sem 𝓛 (Rests (typed_row R.row) self.entry (λ new.
+            (new.decoder.levels ≡ self.old.decoder.levels)
+            × (new.decoder.formats ≡ self.old.decoder.formats)
+            × LendsText R.refusals (context self.old.decoder.formats R.lends) self.old.decoder.levels
+            (R.source self.old.decoder.source) (R.source new.decoder.source) result
+            × IfErr result IsNoKey
+            × IfErr result (UnreadOnly (AsksToLend AsksForString (asks_for R.refusals R.lends)
+            (formats_of self.old.decoder.formats) self.old.decoder.levels
+            (R.source self.old.decoder.source)))
+            × LendsWhole R.refusals self.old.decoder.levels
+            (R.source self.old.decoder.source) result
+            × OnOk result (Onward (R.source self.old.decoder.source) (R.source new.decoder.source)))) }
+    {
+        lent::read_text(&mut self.decoder)
+    }
+
+    /// Lends the bytes of a byte string, or of a text. It refuses as
+    /// [`read_text`](Deserializer::read_text) does.
+    #[inline(always)]
+    pub fn read_bytes<'a>(&'a mut self) -> Lent<EitherLifetime<'a, 'de>>
+        ensures* after_borrow { sem 𝓛 (Rests (typed_row R.row) self.entry (λ new.
+            (new.decoder.levels ≡ self.old.decoder.levels)
+            × (new.decoder.formats ≡ self.old.decoder.formats)
+            × LendsString R.refusals (context self.old.decoder.formats R.lends) self.old.decoder.levels
+            (R.source self.old.decoder.source) (R.source new.decoder.source) result
+            × IfErr result IsNoKey
+            × IfErr result (UnreadOnly (AsksToLend AsksForString (asks_for R.refusals R.lends)
+            (formats_of self.old.decoder.formats) self.old.decoder.levels
+            (R.source self.old.decoder.source)))
+            × LendsWhole R.refusals self.old.decoder.levels
+            (R.source self.old.decoder.source) result
+            × OnOk result (Onward (R.source self.old.decoder.source) (R.source new.decoder.source)))) }
+    {
+        lent::read_bytes(&mut self.decoder)
+    }
+
+    /// Lends the bytes of a byte string.
+    #[inline(always)]
+    pub(crate) fn read_byte_string<'a>(&'a mut self) -> Lent<EitherLifetime<'a, 'de>>
+        ensures* after_borrow { sem 𝓛 (Rests (typed_row R.row) self.entry (λ new.
+            (new.decoder.levels ≡ self.old.decoder.levels)
+            × (new.decoder.formats ≡ self.old.decoder.formats)
+            × LendsBytes R.refusals (context self.old.decoder.formats R.lends) self.old.decoder.levels
+            (R.source self.old.decoder.source) (R.source new.decoder.source) result
+            × IfErr result IsNoKey
+            × IfErr result (UnreadOnly (AsksToLend AsksForBytes (asks_for R.refusals R.lends)
+            (formats_of self.old.decoder.formats) self.old.decoder.levels
+            (R.source self.old.decoder.source)))
+            × LendsWhole R.refusals self.old.decoder.levels
+            (R.source self.old.decoder.source) result
+            × OnOk result (Onward (R.source self.old.decoder.source) (R.source new.decoder.source)))) }
+    {
+        lent::read_byte_string(&mut self.decoder)
+    }
+}

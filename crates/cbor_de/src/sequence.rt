@@ -1,0 +1,263 @@
+//! Arrays, one item after the other (RFC 7049, section 2.1, major type 4).
+
+ghost use Rattle.std.specs.Prelude.{◌≡◌, ◌<◌, IfOk, IfErr, MatchOption};
+ghost use Rattle.cbor_decode.specs.declared.cursor.Remaining.TheVariants.{Counted};
+ghost use Rattle.std.specs.Borrow.{sem, RestsIfErr};
+ghost use Rattle.cbor_model.specs.Reader.{item_at};
+ghost use Rattle.cbor_io.specs.Error.{code_of, offset_of};
+ghost use Rattle.cbor_decode.specs.Gives.{Onward, Step, TellsNoForm};
+ghost use Rattle.cbor_collections.specs.Begins.{Begins, RefusesBeginning};
+ghost use Rattle.cbor_decode.specs.declared.head.Head.TheVariants as kind;
+ghost use Rattle.cbor_collections.specs.Accesses.{IsArrayHead, RefusesArray, TakesNext};
+ghost use Rattle.cbor_collections.specs.Accesses.{TakesPart, TakesEnd, turns, size_of};
+ghost use Rattle.cbor_read.specs.Source.{TookSome};
+ghost use Rattle.cbor_scalars.specs.Takes.{IsMessage, WhateverTaken, context, formats_of, raws};
+ghost use Rattle.cbor_de.specs.Forms.{MayTell};
+ghost use Rattle.cbor_de.specs.contracts.de.Deserializer.{the_row};
+
+use crate::de::Deserializer;
+use crate::deserialize::Deserialize;
+use cbor_collections::array::{array_head, end_array, more_items};
+use cbor_decode::Remaining;
+use cbor_io::error::{Error, Result};
+use cbor_read::{Read, Source};
+use std::alloc::Global;
+
+impl<R: Source> Deserializer<R> {
+    /// Takes the tags and the head of an array, and goes one level in for its items.
+    ///
+    /// An item of another kind is refused with `invalid type: expected an array`, and an array for
+    /// which no level is left with `RecursionLimitExceeded`. What follows the head isn't looked at:
+    /// it is for the calls of the access to refuse.
+    ///
+    /// ```rust
+    /// let mut de = Deserializer::from_slice(alloc, b"\x9f\x01\x02\xff");
+    /// let mut items = de.array()?; // of indefinite length
+    /// let mut sum = 0;
+    /// while let Some(item) = items.next_element::<u8>()? {
+    ///     sum += item as u64;
+    /// }
+    /// items.end()?;
+    /// assert_eq!(rt; sum, 3);
+    /// ```
+    pub fn array<'a>(&'a mut self) -> Result<SeqAccess<'a, R>>
+        ensures* rests { sem 𝓛 (RestsIfErr (the_row R.row) self.entry (λ s. s.de.ghost_name) result
+            (λ last. (last.decoder.levels ≡ self.old.decoder.levels)
+            × (last.decoder.formats ≡ self.old.decoder.formats)
+            × TookSome (R.source self.old.decoder.source) (R.source last.decoder.source))) }
+        ensures same_reference { IfOk result (λ s. s.de.ghost_name ≡ self.entry.ghost_name) }
+        ensures head { IfOk result (λ s. Step (R.source self.old.decoder.source)
+            (R.source s.de.now.decoder.source)
+            (λ l bs rest. IsArrayHead (formats_of self.old.decoder.formats) l
+            (item_at (raws (formats_of self.old.decoder.formats) l) self.old.decoder.levels bs)
+            s.de.now.decoder.levels s.remaining rest)) }
+        ensures refused { IfErr result (WhateverTaken (R.source self.old.decoder.source)
+            (RefusesArray R.refusals (formats_of self.old.decoder.formats)
+            self.old.decoder.levels (R.source self.old.decoder.source))) }
+        // The head alone, whatever follows it.
+        ensures opened { IfOk result (λ s. Step (R.source self.old.decoder.source)
+            (R.source s.de.now.decoder.source)
+            (λ l bs rest. Begins kind.Array self.old.decoder.levels s.de.now.decoder.levels s.remaining
+            bs rest)) }
+        ensures unopened { IfErr result (WhateverTaken (R.source self.old.decoder.source)
+            (RefusesBeginning kind.Array R.refusals
+            self.old.decoder.levels (R.source self.old.decoder.source))) }
+        ensures no_form { IfErr result (λ e. TellsNoForm (code_of e)) }
+        ensures taken { IfOk result (λ s. Onward (R.source self.old.decoder.source)
+            (R.source s.de.now.decoder.source)) }
+        ensures outer { IfOk result (λ s. s.outer ≡ self.old.decoder.levels) }
+        ensures inside { IfOk result (λ s. s.de.now.decoder.levels < s.outer) }
+        ensures formats { IfOk result (λ s. s.de.now.decoder.formats ≡ self.old.decoder.formats) }
+    {
+        let outer = self.decoder.levels;
+        let remaining = array_head(&mut self.decoder)?;
+        Ok(SeqAccess {
+            de: self,
+            remaining,
+            outer,
+        })
+    }
+}
+
+/// The error of an array that has too few items, as `invalid length 1, expected 2`.
+#[cold]
+#[inline(never)]
+#[tactic(auto, using(crate::proofs::Forms::message_form))]
+pub(crate) fn invalid_length(alloc: Global, found: usize, expected: usize) -> Error
+    ensures message { IsMessage result }
+    ensures offset { offset_of result ≡ 0 }
+    ensures no_form { TellsNoForm (code_of result) }
+{
+    match format!(in alloc; "invalid length {found}, expected {expected}") {
+        Ok(text) => Error::message(alloc, text),
+        Err(e) => Error::from(e),
+    }
+}
+
+/// The items of an array that are still to be read.
+///
+/// It holds the level that the array took. [`end`](SeqAccess::end), [`refuse`](SeqAccess::refuse)
+/// and each call that returns Err leave that level. After an Err no call follows.
+///
+/// ```rust
+/// let mut de = Deserializer::new(alloc, SliceRead::new(alloc, b"\x82\x01\x02"));
+/// let mut items = de.array()?;
+/// assert_eq!(rt; items.size_hint(), Some(2));
+/// assert_eq!(rt; items.next_element::<u8>()?, Some(1));
+/// assert_eq!(rt; items.next_element::<u8>()?, Some(2));
+/// assert_eq!(rt; items.next_element::<u8>()?, None);
+/// items.end()?;
+/// ```
+#[derive(Drop)]
+pub struct SeqAccess<'a, R> {
+    // What reads the items.
+    pub(crate) de: &'a mut Deserializer<R>,
+    // What remains of the array.
+    pub(crate) remaining: Remaining,
+    // How many levels were left before the array.
+    pub(crate) outer: u64,
+}
+
+impl<'a, R: Source> SeqAccess<'a, R> {
+    /// Reads the next item; None where the array's last item was read.
+    ///
+    /// It refuses as the reading of `T` does, and with `EofWhileParsingArray` where an array of
+    /// indefinite length has no end.
+    #[inline(always)]
+    #[tactic(auto, using(crate::proofs::Forms::plain))]
+    pub fn next_element<'de, T: Deserialize<'de, R>>(&mut self) -> Result<Option<T>>
+    where
+        R: Read<'de>,
+        // The access is live: no call on it has answered Err.
+        requires { self.old.de.now.decoder.levels < self.old.outer }
+        ensures same_reference { self.new.de.ghost_name ≡ self.old.de.ghost_name }
+        ensures read { TakesNext R.refusals (formats_of self.old.de.now.decoder.formats)
+            (T.reads (context self.old.de.now.decoder.formats R.lends))
+            self.old.de.now.decoder.levels self.old.remaining self.new.remaining
+            (R.source self.old.de.now.decoder.source) (R.source self.new.de.now.decoder.source) result }
+        ensures form { IfErr result (MayTell T.wrong_forms
+            (formats_of self.old.de.now.decoder.formats)
+            (R.source self.old.de.now.decoder.source)) }
+        // Nothing remains after the last item, and a loop over the items ends.
+        ensures remains { IfOk result (λ next. MatchOption next
+            (self.new.remaining ≡ Counted 0)
+            (λ x. turns self.new.remaining (R.source self.new.de.now.decoder.source)
+            < turns self.old.remaining (R.source self.old.de.now.decoder.source))) }
+        ensures inside { IfOk result (λ x.
+            self.new.de.now.decoder.levels ≡ self.old.de.now.decoder.levels) }
+        ensures left { IfErr result (λ e. self.new.de.now.decoder.levels ≡ self.old.outer) }
+        ensures outer { self.new.outer ≡ self.old.outer }
+        ensures formats { self.new.de.now.decoder.formats ≡ self.old.de.now.decoder.formats }
+    {
+        match more_items(&mut self.de.decoder, &mut self.remaining) {
+            Ok(true) => {}
+            Ok(false) => return Ok(None),
+            Err(e) => {
+                self.de.decoder.levels = self.outer;
+                return Err(e);
+            }
+        }
+        match T::deserialize(self.de) {
+            Ok(item) => Ok(Some(item)),
+            Err(e) => {
+                self.de.decoder.levels = self.outer;
+                Err(e)
+            }
+        }
+    }
+
+    /// Reads the next item of an array that has to have so many; this many were read before it.
+    ///
+    /// It refuses as the reading of `T` does, and with `invalid length`, which tells both numbers,
+    /// where the array's last item was read.
+    ///
+    /// ```rust
+    /// let mut de = Deserializer::from_slice(alloc, b"\x82\x61a\xf5");
+    /// let mut items = de.array()?;
+    /// let name = items.part::<String>(0, 2)?;
+    /// let flag = items.part::<bool>(1, 2)?;
+    /// items.end()?;
+    /// assert_eq!(rt; name.as_str(), "a");
+    /// assert!(rt; flag);
+    /// ```
+    #[inline(always)]
+    #[tactic(auto, using(crate::proofs::Forms::plain))]
+    pub fn part<'de, T: Deserialize<'de, R>>(&mut self, before: usize, expected: usize) -> Result<T>
+    where
+        R: Read<'de>,
+        requires { self.old.de.now.decoder.levels < self.old.outer }
+        ensures same_reference { self.new.de.ghost_name ≡ self.old.de.ghost_name }
+        ensures read { TakesPart R.refusals (formats_of self.old.de.now.decoder.formats)
+            (T.reads (context self.old.de.now.decoder.formats R.lends))
+            self.old.de.now.decoder.levels self.old.remaining self.new.remaining
+            (R.source self.old.de.now.decoder.source) (R.source self.new.de.now.decoder.source) result }
+        ensures form { IfErr result (MayTell T.wrong_forms
+            (formats_of self.old.de.now.decoder.formats)
+            (R.source self.old.de.now.decoder.source)) }
+        ensures inside { IfOk result (λ x.
+            self.new.de.now.decoder.levels ≡ self.old.de.now.decoder.levels) }
+        ensures left { IfErr result (λ e. self.new.de.now.decoder.levels ≡ self.old.outer) }
+        ensures outer { self.new.outer ≡ self.old.outer }
+        ensures formats { self.new.de.now.decoder.formats ≡ self.old.de.now.decoder.formats }
+    {
+        match self.next_element::<T>() {
+            Ok(Some(item)) => Ok(item),
+            Ok(None) => {
+                self.de.decoder.levels = self.outer;
+                Err(invalid_length(self.de.decoder.alloc, before, expected))
+            }
+            Err(e) => Err(e),
+        }
+    }
+
+    /// How many items of a declared count are still to be read; None where no count was declared,
+    /// or where it doesn't fit a `usize`.
+    pub fn size_hint(&self) -> Option<usize>
+        ensures { result ≡ size_of self.now.remaining }
+    {
+        match self.remaining {
+            Remaining::Counted(n) => usize::try_from(n).ok(),
+            Remaining::ToBreak => None,
+        }
+    }
+
+    /// Takes the end of the array.
+    ///
+    /// Items that weren't read are refused with `TrailingData`: at the present offset where a count
+    /// was declared; else after the first byte of the next item, or with `EofWhileParsingArray`
+    /// where there is none.
+    pub fn end(self) -> Result<()>
+        requires { self.de.now.decoder.levels < self.outer }
+        ensures read { TakesEnd R.refusals self.entry.remaining
+            (R.source self.entry.de.now.decoder.source) (R.source self.exit.0.now.decoder.source)
+            result }
+        ensures no_form { IfErr result (λ e. TellsNoForm (code_of e)) }
+        ensures levels { self.exit.0.now.decoder.levels ≡ self.entry.outer }
+        ensures formats { self.exit.0.now.decoder.formats ≡ self.entry.de.now.decoder.formats }
+    {
+        let SeqAccess {
+            de,
+            remaining,
+            outer,
+        } = self;
+        de.decoder.levels = outer;
+        end_array(&mut de.decoder, remaining)
+    }
+
+    /// Leaves the array for this error, which it passes on.
+    pub fn refuse(self, e: Error) -> Error
+        requires { self.de.now.decoder.levels < self.outer }
+        ensures error { result ≡ e }
+        ensures source { self.exit.0.now.decoder.source ≡ self.entry.de.now.decoder.source }
+        ensures levels { self.exit.0.now.decoder.levels ≡ self.entry.outer }
+        ensures formats { self.exit.0.now.decoder.formats ≡ self.entry.de.now.decoder.formats }
+    {
+        let SeqAccess {
+            de,
+            remaining: _,
+            outer,
+        } = self;
+        de.decoder.levels = outer;
+        e
+    }
+}

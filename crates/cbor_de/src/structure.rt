@@ -1,0 +1,571 @@
+//! Structs of named fields, which are read from maps (RFC 7049, section 2.1, major type 5).
+
+ghost use Rattle.std.specs.Prelude.{◌≡◌, ◌<◌, ◌≤◌, true, false, length, IfOk, IfErr, IfSome};
+ghost use Rattle.std.specs.Prelude.{MatchOption, OnOk, Some};
+ghost use Rattle.std.specs.Option.{is_some};
+ghost use Rattle.std.specs.Borrow.{sem, RestsIfErr};
+ghost use Rattle.cbor_io.specs.Error.{code_of, offset_of, IsMessageOf};
+ghost use Rattle.cbor_io.specs.declared.error.Error.{Error};
+ghost use Rattle.cbor_model.specs.Reader.{item_at};
+ghost use Rattle.cbor_decode.specs.declared.cursor.Remaining.TheVariants.{Counted};
+ghost use Rattle.cbor_decode.specs.Gives.{Onward, Step, TellsNoForm};
+ghost use Rattle.cbor_collections.specs.Begins.{Begins, RefusesBeginning};
+ghost use Rattle.cbor_decode.specs.declared.head.Head.TheVariants as kind;
+ghost use Rattle.cbor_collections.specs.Accesses.{turns, size_of};
+ghost use Rattle.cbor_io.specs.declared.error.ErrorCode.TheVariants.{WrongStructFormat};
+ghost use Rattle.cbor_collections.specs.Cases.{FormAlone, Stands, TellsBadKey, key_cases};
+ghost use Rattle.cbor_scalars.specs.Identifiers.{IsMadeBy, NamesNoKey, texts};
+ghost use Rattle.cbor_collections.specs.MapAccesses.{IsMapHead, RefusesMap, TakesKey, TakesMapEnd};
+ghost use Rattle.cbor_de.specs.Structs.{IsAny, IsField, place_in, missing_text, duplicate_text};
+ghost use Rattle.cbor_scalars.specs.Takes.{OnceMade, TakesItem, IsRead, IsNotRead, Refuses};
+ghost use Rattle.cbor_scalars.specs.Takes.{WhateverTaken, context, formats_of, raws};
+ghost use Rattle.cbor_read.specs.Source.{TookSome};
+ghost use Rattle.cbor_de.specs.Forms.{MayTell, item_form, key_form};
+ghost use Rattle.cbor_de.specs.contracts.de.Deserializer.{the_row};
+
+use crate::de::Deserializer;
+use crate::deserialize::Deserialize;
+use crate::types::IgnoredAny;
+use cbor_collections::map::{end_map, map_head, more_pairs};
+use cbor_decode::Remaining;
+use cbor_io::error::{Error, Result};
+use cbor_read::{Read, Source};
+use cbor_scalars::identifier::{Named, Why, identifier, unnamed};
+use std::alloc::Global;
+
+/// A field that a key names.
+#[derive(Clone, Copy, Debug, PartialEq, Eq)]
+pub enum Field {
+    /// The field in this place among the names, from 0.
+    Known(usize),
+    /// A number or a name that no field has.
+    Unknown,
+}
+
+impl<R: Source> Deserializer<R> {
+    /// Takes the tags and the head of a map, and goes one level in for the fields of a struct with
+    /// these names.
+    ///
+    /// An item of another kind is refused with `invalid type: expected a map`, and a map for which
+    /// no level is left with `RecursionLimitExceeded`. What follows the head isn't looked at: it is
+    /// for the calls of the access to refuse.
+    ///
+    /// ```rust
+    /// let mut de = Deserializer::from_slice(alloc, b"\xa2\x61x\x05\x61z\x00");
+    /// let mut fields = de.structure(&["x", "y"])?;
+    /// let mut x: Option<u8> = None;
+    /// while let Some(field) = fields.next_field()? {
+    ///     match field {
+    ///         Field::Known(0) => fields.once("x", &mut x)?,
+    ///         _ => fields.skip()?,
+    ///     }
+    /// }
+    /// assert_eq!(rt; fields.required("x", x)?, 5);
+    /// fields.end()?;
+    /// ```
+    pub fn structure<'a>(&'a mut self, names: &'a [&'a str]) -> Result<StructAccess<'a, R>>
+        ensures* rests { sem 𝓛 (RestsIfErr (the_row R.row) self.entry
+            (λ m. m.de.ghost_name) result
+            (λ last. (last.decoder.levels ≡ self.old.decoder.levels)
+            × (last.decoder.formats ≡ self.old.decoder.formats)
+            × TookSome (R.source self.old.decoder.source) (R.source last.decoder.source))) }
+        ensures same_reference { IfOk result (λ m.
+            m.de.ghost_name ≡ self.entry.ghost_name) }
+        ensures head { IfOk result (λ m. Step (R.source self.old.decoder.source)
+            (R.source m.de.now.decoder.source)
+            (λ l bs rest. IsMapHead (formats_of self.old.decoder.formats) l
+            (item_at (raws (formats_of self.old.decoder.formats) l) self.old.decoder.levels bs)
+            m.de.now.decoder.levels m.remaining rest)) }
+        ensures refused { IfErr result (WhateverTaken (R.source self.old.decoder.source)
+            (RefusesMap R.refusals (formats_of self.old.decoder.formats)
+            self.old.decoder.levels (R.source self.old.decoder.source))) }
+        // The head alone, whatever follows it.
+        ensures opened { IfOk result (λ m. Step (R.source self.old.decoder.source)
+            (R.source m.de.now.decoder.source)
+            (λ l bs rest. Begins kind.Map self.old.decoder.levels m.de.now.decoder.levels m.remaining
+            bs rest)) }
+        ensures unopened { IfErr result (WhateverTaken (R.source self.old.decoder.source)
+            (RefusesBeginning kind.Map R.refusals
+            self.old.decoder.levels (R.source self.old.decoder.source))) }
+        ensures no_form { IfErr result (λ e. TellsNoForm (code_of e)) }
+        ensures taken { IfOk result (λ m. Onward (R.source self.old.decoder.source)
+            (R.source m.de.now.decoder.source)) }
+        ensures outer { IfOk result (λ m. m.outer ≡ self.old.decoder.levels) }
+        ensures inside { IfOk result (λ m. m.de.now.decoder.levels < m.outer) }
+        ensures formats { IfOk result (λ m.
+            m.de.now.decoder.formats ≡ self.old.decoder.formats) }
+        ensures due { IfOk result (λ m. m.value_due ≡ false) }
+        ensures names { IfOk result (λ m. texts m.names.now ≡ texts names.now) }
+    {
+        let outer = self.decoder.levels;
+        let remaining = map_head(&mut self.decoder)?;
+        Ok(StructAccess {
+            de: self,
+            remaining,
+            outer,
+            value_due: false,
+            names,
+        })
+    }
+}
+
+impl<'de, R: Read<'de>> Deserializer<R> {
+    // Reads the field that a key names.
+    #[inline(always)]
+    fn field(&mut self, names: &[&str]) -> Named<Field>
+        ensures read { OnceMade (IsMadeBy self.new.decoder.refusal)
+            (TakesItem R.refusals (formats_of self.old.decoder.formats)
+            (IsField (texts names.now)) self.old.decoder.levels
+            (R.source self.old.decoder.source) (R.source self.new.decoder.source)) result }
+        ensures taken { OnOk result
+            (Onward (R.source self.old.decoder.source) (R.source self.new.decoder.source)) }
+        ensures below { IfOk result (λ field. IfSome (place_in field) (λ i. i < length names.now)) }
+        ensures no_key { IfErr result (NamesNoKey self.new.decoder.refusal) }
+        ensures levels { self.new.decoder.levels ≡ self.old.decoder.levels }
+        ensures formats { self.new.decoder.formats ≡ self.old.decoder.formats }
+    {
+        match identifier(&mut self.decoder, names)? {
+            Some(place) => Ok(Field::Known(place)),
+            None => Ok(Field::Unknown),
+        }
+    }
+
+    // Reads the field that the next key names; None where no pair remains.
+    #[inline(always)]
+    #[tactic(auto, using(cbor_collections::proofs::facts::Places::unnamed_stands))]
+    fn next_field(&mut self, remaining: &mut Remaining, names: &[&str]) -> Named<Option<Field>>
+        ensures read { OnceMade (IsMadeBy self.new.decoder.refusal)
+            (TakesKey R.refusals (formats_of self.old.decoder.formats) (IsField (texts names.now))
+            self.old.decoder.levels remaining.old remaining.new
+            (R.source self.old.decoder.source) (R.source self.new.decoder.source)) result }
+        ensures below { IfOk result (λ next. IfSome next (λ field.
+            IfSome (place_in field) (λ i. i < length names.now))) }
+        // Nothing remains after the last pair, and a loop over the fields ends.
+        ensures remains { IfOk result (λ next. MatchOption next (remaining.new ≡ Counted 0)
+            (λ k. turns remaining.new (R.source self.new.decoder.source)
+            < turns remaining.old (R.source self.old.decoder.source))) }
+        ensures cases { IfErr result (λ w. (e : Error) → IsMadeBy self.new.decoder.refusal w e
+            → Stands (R.source self.old.decoder.source) e
+            (key_cases (formats_of self.old.decoder.formats) remaining.old)) }
+        ensures bad_key { IfErr result (λ w. (e : Error) → IsMadeBy self.new.decoder.refusal w e
+            → TellsBadKey R.refusals (formats_of self.old.decoder.formats) remaining.old
+            (R.source self.old.decoder.source) e) }
+        ensures levels { self.new.decoder.levels ≡ self.old.decoder.levels }
+        ensures formats { self.new.decoder.formats ≡ self.old.decoder.formats }
+    {
+        if !more_pairs(&mut self.decoder, remaining)? {
+            return Ok(None);
+        }
+        let field = self.field(names)?;
+        Ok(Some(field))
+    }
+}
+
+/// Reads the field that the next key names, of a map of which so much remains; None where no pair
+/// does. It refuses what [`StructAccess::next_field`] refuses.
+#[inline(always)]
+pub fn next_key<'de, R: Read<'de>>(
+    de: &mut Deserializer<R>,
+    remaining: &mut Remaining,
+    names: &[&str],
+) -> Result<Option<Field>>
+    ensures read { TakesKey R.refusals (formats_of de.old.decoder.formats)
+        (IsField (texts names.now)) de.old.decoder.levels remaining.old remaining.new
+        (R.source de.old.decoder.source) (R.source de.new.decoder.source) result }
+    ensures below { IfOk result (λ next. IfSome next (λ field.
+        IfSome (place_in field) (λ i. i < length names.now))) }
+    // Nothing remains after the last pair, and a loop over the fields ends.
+    ensures remains { IfOk result (λ next. MatchOption next (remaining.new ≡ Counted 0)
+        (λ k. turns remaining.new (R.source de.new.decoder.source)
+        < turns remaining.old (R.source de.old.decoder.source))) }
+    ensures form { IfErr result (MayTell key_form (formats_of de.old.decoder.formats)
+        (R.source de.old.decoder.source)) }
+    ensures levels { de.new.decoder.levels ≡ de.old.decoder.levels }
+    ensures formats { de.new.decoder.formats ≡ de.old.decoder.formats }
+{
+    match de.next_field(remaining, names) {
+        Ok(next) => Ok(next),
+        Err(why) => Err(unnamed(&mut de.decoder, why, "invalid type: expected a field name")),
+    }
+}
+
+/// The fields of a struct that are still to be read, each a key that names it and its value.
+///
+/// It holds the level that the map took. [`end`](StructAccess::end),
+/// [`missing`](StructAccess::missing), [`duplicate`](StructAccess::duplicate),
+/// [`refuse`](StructAccess::refuse) and each call that returns Err leave that level. After an Err
+/// no call follows.
+///
+/// ```rust
+/// let mut de = Deserializer::new(alloc, SliceRead::new(alloc, b"\xa2\x61b\xf5\x00\x0a"));
+/// let mut fields = de.structure(&["a", "b"])?;
+/// assert_eq!(rt; fields.next_field()?, Some(Field::Known(1)));
+/// assert!(rt; fields.value::<bool>()?);
+/// assert_eq!(rt; fields.next_field()?, Some(Field::Known(0)));
+/// fields.skip()?;
+/// assert_eq!(rt; fields.next_field()?, None);
+/// fields.end()?;
+/// ```
+#[derive(Drop)]
+pub struct StructAccess<'a, R> {
+    // What reads the keys and the values.
+    pub(crate) de: &'a mut Deserializer<R>,
+    // What remains of the map, after the pair that was begun.
+    pub(crate) remaining: Remaining,
+    // How many levels were left before the map.
+    pub(crate) outer: u64,
+    // Whether a field was named whose value wasn't read.
+    pub(crate) value_due: bool,
+    // The names of the fields, in the order of their numbers.
+    pub(crate) names: &'a [&'a str],
+}
+
+impl<'a, R: Source> StructAccess<'a, R> {
+    /// Reads the field that the next key names; None where the map's last pair was read.
+    ///
+    /// A number from 0 is the place of a field, and a text or a byte string its name. A key of
+    /// another kind is refused with `invalid type: expected a field name`, a key of a format that
+    /// isn't read with `WrongStructFormat`, and a map of indefinite length that has no end with
+    /// `EofWhileParsingMap`.
+    #[inline(always)]
+    pub fn next_field<'de>(&mut self) -> Result<Option<Field>>
+    where
+        R: Read<'de>,
+        // The access is live: no call on it has answered Err.
+        requires live { self.old.de.now.decoder.levels < self.old.outer }
+        requires due { self.old.value_due ≡ false }
+        ensures same_reference { self.new.de.ghost_name ≡ self.old.de.ghost_name }
+        ensures read { TakesKey R.refusals (formats_of self.old.de.now.decoder.formats)
+            (IsField (texts self.old.names.now))
+            self.old.de.now.decoder.levels self.old.remaining self.new.remaining
+            (R.source self.old.de.now.decoder.source)
+            (R.source self.new.de.now.decoder.source) result }
+        ensures below { IfOk result (λ next. IfSome next (λ field.
+            IfSome (place_in field) (λ i. i < length self.old.names.now))) }
+        // Nothing remains after the last pair, and a loop over the fields ends.
+        ensures remains { IfOk result (λ next. MatchOption next
+            (self.new.remaining ≡ Counted 0)
+            (λ k. turns self.new.remaining (R.source self.new.de.now.decoder.source)
+            < turns self.old.remaining (R.source self.old.de.now.decoder.source))) }
+        ensures cases { IfErr result (λ e. Stands (R.source self.old.de.now.decoder.source) e
+            (key_cases (formats_of self.old.de.now.decoder.formats) self.old.remaining)) }
+        ensures code { IfErr result (λ e. FormAlone WrongStructFormat (code_of e)) }
+        // The other way: that key is told.
+        ensures bad_key { IfErr result (TellsBadKey R.refusals
+            (formats_of self.old.de.now.decoder.formats) self.old.remaining
+            (R.source self.old.de.now.decoder.source)) }
+        ensures due { IfOk result (λ next. self.new.value_due ≡ is_some next) }
+        ensures inside { IfOk result (λ k.
+            self.new.de.now.decoder.levels ≡ self.old.de.now.decoder.levels) }
+        ensures left { IfErr result (λ e.
+            self.new.de.now.decoder.levels ≡ self.old.outer) }
+        ensures outer { self.new.outer ≡ self.old.outer }
+        ensures formats { self.new.de.now.decoder.formats
+            ≡ self.old.de.now.decoder.formats }
+        ensures names { self.new.names ≡ self.old.names }
+    {
+        match self.de.next_field(&mut self.remaining, self.names) {
+            Ok(next) => {
+                self.value_due = next.is_some();
+                Ok(next)
+            }
+            Err(why) => {
+                self.de.decoder.levels = self.outer;
+                Err(unnamed(
+                    &mut self.de.decoder,
+                    why,
+                    "invalid type: expected a field name",
+                ))
+            }
+        }
+    }
+
+    /// Reads the value of the field that was named last. It refuses as the reading of `V` does.
+    #[inline(always)]
+    pub fn value<'de, V: Deserialize<'de, R>>(&mut self) -> Result<V>
+    where
+        R: Read<'de>,
+        requires live { self.old.de.now.decoder.levels < self.old.outer }
+        requires due { self.old.value_due ≡ true }
+        ensures same_reference { self.new.de.ghost_name ≡ self.old.de.ghost_name }
+        ensures read { TakesItem R.refusals (formats_of self.old.de.now.decoder.formats)
+            (V.reads (context self.old.de.now.decoder.formats R.lends))
+            self.old.de.now.decoder.levels
+            (R.source self.old.de.now.decoder.source)
+            (R.source self.new.de.now.decoder.source) result }
+        ensures form { IfErr result (MayTell V.wrong_forms
+            (formats_of self.old.de.now.decoder.formats)
+            (R.source self.old.de.now.decoder.source)) }
+        ensures due { IfOk result (λ v. self.new.value_due ≡ false) }
+        ensures inside { IfOk result (λ v.
+            self.new.de.now.decoder.levels ≡ self.old.de.now.decoder.levels) }
+        ensures left { IfErr result (λ e.
+            self.new.de.now.decoder.levels ≡ self.old.outer) }
+        ensures outer { self.new.outer ≡ self.old.outer }
+        ensures remaining { self.new.remaining ≡ self.old.remaining }
+        // A loop over the fields ends.
+        ensures remains { IfOk result (λ v.
+            turns self.new.remaining (R.source self.new.de.now.decoder.source)
+            ≤ turns self.old.remaining (R.source self.old.de.now.decoder.source)) }
+        ensures formats { self.new.de.now.decoder.formats
+            ≡ self.old.de.now.decoder.formats }
+        ensures names { self.new.names ≡ self.old.names }
+    {
+        match V::deserialize(self.de) {
+            Ok(value) => {
+                self.value_due = false;
+                Ok(value)
+            }
+            Err(e) => {
+                self.de.decoder.levels = self.outer;
+                Err(e)
+            }
+        }
+    }
+
+    /// Reads the value of the field that was named last into its slot. A slot that has a value is
+    /// refused with ``duplicate field `id` ``, and keeps it.
+    #[tactic(auto, using(crate::proofs::Forms::plain))]
+    pub fn once<'de, V: Deserialize<'de, R>>(
+        &mut self,
+        name: &str,
+        slot: &mut Option<V>,
+    ) -> Result<()>
+    where
+        R: Read<'de>,
+        requires live { self.old.de.now.decoder.levels < self.old.outer }
+        requires due { self.old.value_due ≡ true }
+        ensures same_reference { self.new.de.ghost_name ≡ self.old.de.ghost_name }
+        ensures only_once { IfOk result (λ u. is_some slot.old ≡ false) }
+        ensures holds { IfOk result (λ u. is_some slot.new ≡ true) }
+        ensures read { IfOk result (λ u. IfSome slot.new (λ v.
+            Step (R.source self.old.de.now.decoder.source)
+            (R.source self.new.de.now.decoder.source)
+            (λ l bs rest. IsRead (V.reads (context self.old.de.now.decoder.formats R.lends))
+            (item_at (raws (formats_of self.old.de.now.decoder.formats) l)
+            self.old.de.now.decoder.levels bs) v rest))) }
+        ensures refused { IfErr result (λ e. Refuses R.refusals
+            (R.source self.old.de.now.decoder.source) (R.source self.new.de.now.decoder.source)
+            (code_of e) (offset_of e)
+            (λ l bs. is_some slot.old ≡ false
+            → IsNotRead (V.reads (context self.old.de.now.decoder.formats R.lends))
+            (item_at (raws (formats_of self.old.de.now.decoder.formats) l)
+            self.old.de.now.decoder.levels bs))) }
+        ensures form { IfErr result (MayTell V.wrong_forms
+            (formats_of self.old.de.now.decoder.formats)
+            (R.source self.old.de.now.decoder.source)) }
+        ensures text { IfErr result (λ e. is_some slot.old ≡ true →
+            IsMessageOf (Some (duplicate_text name.now)) (code_of e)) }
+        ensures offset { IfErr result (λ e. is_some slot.old ≡ true → offset_of e ≡ 0) }
+        ensures kept { IfErr result (λ e. slot.new ≡ slot.old) }
+        ensures due { IfOk result (λ u. self.new.value_due ≡ false) }
+        ensures inside { IfOk result (λ u.
+            self.new.de.now.decoder.levels ≡ self.old.de.now.decoder.levels) }
+        ensures left { IfErr result (λ e.
+            self.new.de.now.decoder.levels ≡ self.old.outer) }
+        ensures outer { self.new.outer ≡ self.old.outer }
+        ensures remaining { self.new.remaining ≡ self.old.remaining }
+        ensures remains { IfOk result (λ u.
+            turns self.new.remaining (R.source self.new.de.now.decoder.source)
+            ≤ turns self.old.remaining (R.source self.old.de.now.decoder.source)) }
+        ensures formats { self.new.de.now.decoder.formats
+            ≡ self.old.de.now.decoder.formats }
+        ensures names { self.new.names ≡ self.old.names }
+    {
+        if slot.is_some() {
+            self.de.decoder.levels = self.outer;
+            return Err(duplicate_field(self.de.decoder.alloc, name));
+        }
+        match V::deserialize(self.de) {
+            Ok(value) => {
+                self.value_due = false;
+                *slot = Some(value);
+                Ok(())
+            }
+            Err(e) => {
+                self.de.decoder.levels = self.outer;
+                Err(e)
+            }
+        }
+    }
+
+    /// The value of a field's slot, after the map's last pair. A slot that has none is refused
+    /// with ``missing field `id` ``, which leaves the map.
+    pub fn required<V: Drop>(&mut self, name: &'static str, slot: Option<V>) -> Result<V>
+        requires live { self.old.de.now.decoder.levels < self.old.outer }
+        requires due { self.old.value_due ≡ false }
+        ensures same_reference { self.new.de.ghost_name ≡ self.old.de.ghost_name }
+        ensures value { IfOk result (λ v. slot ≡ Some v) }
+        ensures absent { IfErr result (λ e. is_some slot ≡ false) }
+        ensures text { IfErr result (λ e.
+            IsMessageOf (Some (missing_text name.now)) (code_of e)) }
+        ensures offset { IfErr result (λ e. offset_of e ≡ 0) }
+        ensures source { self.new.de.now.decoder.source ≡ self.old.de.now.decoder.source }
+        ensures inside { IfOk result (λ v.
+            self.new.de.now.decoder.levels ≡ self.old.de.now.decoder.levels) }
+        ensures left { IfErr result (λ e.
+            self.new.de.now.decoder.levels ≡ self.old.outer) }
+        ensures due { self.new.value_due ≡ false }
+        ensures outer { self.new.outer ≡ self.old.outer }
+        ensures remaining { self.new.remaining ≡ self.old.remaining }
+        ensures formats { self.new.de.now.decoder.formats
+            ≡ self.old.de.now.decoder.formats }
+        ensures names { self.new.names ≡ self.old.names }
+    {
+        match slot {
+            Some(value) => Ok(value),
+            None => {
+                self.de.decoder.levels = self.outer;
+                Err(missing_field(self.de.decoder.alloc, name))
+            }
+        }
+    }
+
+    /// Passes over the value of the field that was named last, of which nothing is kept. It has to
+    /// be acceptable, with keys of the formats that are read.
+    #[inline(always)]
+    pub fn skip<'de>(&mut self) -> Result<()>
+    where
+        R: Read<'de>,
+        requires live { self.old.de.now.decoder.levels < self.old.outer }
+        requires due { self.old.value_due ≡ true }
+        ensures same_reference { self.new.de.ghost_name ≡ self.old.de.ghost_name }
+        ensures read { TakesItem R.refusals (formats_of self.old.de.now.decoder.formats)
+            IsAny self.old.de.now.decoder.levels
+            (R.source self.old.de.now.decoder.source)
+            (R.source self.new.de.now.decoder.source) result }
+        ensures form { IfErr result (MayTell item_form
+            (formats_of self.old.de.now.decoder.formats)
+            (R.source self.old.de.now.decoder.source)) }
+        ensures due { IfOk result (λ u. self.new.value_due ≡ false) }
+        ensures inside { IfOk result (λ u.
+            self.new.de.now.decoder.levels ≡ self.old.de.now.decoder.levels) }
+        ensures left { IfErr result (λ e.
+            self.new.de.now.decoder.levels ≡ self.old.outer) }
+        ensures outer { self.new.outer ≡ self.old.outer }
+        ensures remaining { self.new.remaining ≡ self.old.remaining }
+        ensures remains { IfOk result (λ u.
+            turns self.new.remaining (R.source self.new.de.now.decoder.source)
+            ≤ turns self.old.remaining (R.source self.old.de.now.decoder.source)) }
+        ensures formats { self.new.de.now.decoder.formats
+            ≡ self.old.de.now.decoder.formats }
+        ensures names { self.new.names ≡ self.old.names }
+    {
+        match self.value::<IgnoredAny>() {
+            Ok(_) => Ok(()),
+            Err(e) => Err(e),
+        }
+    }
+
+    /// How many fields of a declared count are still to be read, without one whose key was read;
+    /// None where no count was declared, or where it doesn't fit a `usize`.
+    pub fn size_hint(&self) -> Option<usize>
+        ensures { result ≡ size_of self.now.remaining }
+    {
+        match self.remaining {
+            Remaining::Counted(n) => usize::try_from(n).ok(),
+            Remaining::ToBreak => None,
+        }
+    }
+
+    /// Leaves the map for the error of a field that isn't there, as ``missing field `id` ``.
+    pub fn missing(self, name: &'static str) -> Error
+        requires { self.de.now.decoder.levels < self.outer }
+        ensures text { IsMessageOf (Some (missing_text name.now)) (code_of result) }
+        ensures offset { offset_of result ≡ 0 }
+        ensures source { self.exit.0.now.decoder.source ≡ self.entry.de.now.decoder.source }
+        ensures levels { self.exit.0.now.decoder.levels ≡ self.entry.outer }
+        ensures formats { self.exit.0.now.decoder.formats
+            ≡ self.entry.de.now.decoder.formats }
+    {
+        let alloc = self.de.decoder.alloc;
+        self.refuse(missing_field(alloc, name))
+    }
+
+    /// Leaves the map for the error of a field that is there twice, as ``duplicate field `id` ``.
+    pub fn duplicate(self, name: &'static str) -> Error
+        requires { self.de.now.decoder.levels < self.outer }
+        ensures text { IsMessageOf (Some (duplicate_text name.now)) (code_of result) }
+        ensures offset { offset_of result ≡ 0 }
+        ensures source { self.exit.0.now.decoder.source ≡ self.entry.de.now.decoder.source }
+        ensures levels { self.exit.0.now.decoder.levels ≡ self.entry.outer }
+        ensures formats { self.exit.0.now.decoder.formats
+            ≡ self.entry.de.now.decoder.formats }
+    {
+        let alloc = self.de.decoder.alloc;
+        self.refuse(duplicate_field(alloc, name))
+    }
+
+    /// Leaves the map for this error, which it passes on.
+    pub fn refuse(self, e: Error) -> Error
+        requires { self.de.now.decoder.levels < self.outer }
+        ensures error { result ≡ e }
+        ensures source { self.exit.0.now.decoder.source ≡ self.entry.de.now.decoder.source }
+        ensures levels { self.exit.0.now.decoder.levels ≡ self.entry.outer }
+        ensures formats { self.exit.0.now.decoder.formats
+            ≡ self.entry.de.now.decoder.formats }
+    {
+        let StructAccess {
+            de,
+            remaining: _,
+            outer,
+            value_due: _,
+            names: _,
+        } = self;
+        de.decoder.levels = outer;
+        e
+    }
+
+    /// Takes the end of the map. Pairs that weren't read are refused as by `MapAccess::end`.
+    pub fn end(self) -> Result<()>
+        requires live { self.de.now.decoder.levels < self.outer }
+        requires due { self.value_due ≡ false }
+        ensures read { TakesMapEnd R.refusals self.entry.remaining
+            (R.source self.entry.de.now.decoder.source)
+            (R.source self.exit.0.now.decoder.source) result }
+        ensures no_form { IfErr result (λ e. TellsNoForm (code_of e)) }
+        ensures levels { self.exit.0.now.decoder.levels ≡ self.entry.outer }
+        ensures formats { self.exit.0.now.decoder.formats
+            ≡ self.entry.de.now.decoder.formats }
+    {
+        let StructAccess {
+            de,
+            remaining,
+            outer,
+            value_due: _,
+            names: _,
+        } = self;
+        de.decoder.levels = outer;
+        end_map(&mut de.decoder, remaining)
+    }
+}
+
+/// The error of a field that isn't there, as ``missing field `id` ``.
+#[cold]
+#[inline(never)]
+#[tactic(auto, using(crate::proofs::Forms::message_form))]
+pub fn missing_field(alloc: Global, name: &str) -> Error
+    ensures text { IsMessageOf (Some (missing_text name.now)) (code_of result) }
+    ensures offset { offset_of result ≡ 0 }
+    ensures no_form { TellsNoForm (code_of result) }
+{
+    match format!(in alloc; "missing field `{name}`") {
+        Ok(text) => Error::message(alloc, text),
+        Err(e) => Error::from(e),
+    }
+}
+
+/// The error of a field that is there twice, as ``duplicate field `id` ``.
+#[cold]
+#[inline(never)]
+#[tactic(auto, using(crate::proofs::Forms::message_form))]
+pub fn duplicate_field(alloc: Global, name: &str) -> Error
+    ensures text { IsMessageOf (Some (duplicate_text name.now)) (code_of result) }
+    ensures offset { offset_of result ≡ 0 }
+    ensures no_form { TellsNoForm (code_of result) }
+{
+    match format!(in alloc; "duplicate field `{name}`") {
+        Ok(text) => Error::message(alloc, text),
+        Err(e) => Error::from(e),
+    }
+}

@@ -1,0 +1,306 @@
+//! Tuples of up to eight parts, each read as the list of them.
+
+use crate::de::Deserializer;
+use crate::deserialize::{Deserialize, Readable};
+use crate::item_list::{ReadItems, ReadTuple, ReadableTuple};
+use cbor_decode::Remaining;
+use cbor_io::error::Result;
+use cbor_read::Read;
+
+impl<A: Readable> ReadableTuple for (A,) {
+    ghost use Rattle.cbor_de.specs.Forms.{both, never};
+    ghost use Rattle.cbor_collections.specs.Enums.{part_then, no_part};
+
+    ghost parts = { λ c all x. part_then (A.reads c) no_part all (x.0, tt) };
+
+    ghost wrong_forms = { both A.wrong_forms never };
+}
+
+impl<'de, R: Read<'de>, A: Deserialize<'de, R>> ReadTuple<'de, R> for (A,) {
+    #[inline(always)]
+    fn read_tuple(de: &mut Deserializer<R>, remaining: Remaining) -> Result<(A,)> {
+        match <(A, ()) as ReadItems<'de, R>>::read_items(de, remaining, 0, 1) {
+            Ok(parts) => {
+                let (a, ()) = parts;
+                Ok((a,))
+            }
+            Err(e) => Err(e),
+        }
+    }
+}
+
+impl<A: Readable, B: Readable> ReadableTuple for (A, B) {
+    ghost use Rattle.cbor_de.specs.Forms.{both, never};
+    ghost use Rattle.cbor_collections.specs.Enums.{part_then, no_part};
+
+    ghost parts = { λ c all x. part_then (A.reads c)
+        (part_then (B.reads c) no_part)
+        all (x.0, (x.1, tt)) };
+
+    ghost wrong_forms = { both A.wrong_forms (both B.wrong_forms never) };
+}
+
+impl<'de, R: Read<'de>, A: Deserialize<'de, R>, B: Deserialize<'de, R>> ReadTuple<'de, R>
+    for (A, B) {
+    #[inline(always)]
+    fn read_tuple(de: &mut Deserializer<R>, remaining: Remaining) -> Result<(A, B)> {
+        match <(A, (B, ())) as ReadItems<'de, R>>::read_items(de, remaining, 0, 2) {
+            Ok(parts) => {
+                let (a, (b, ())) = parts;
+                Ok((a, b))
+            }
+            Err(e) => Err(e),
+        }
+    }
+}
+
+impl<A: Readable, B: Readable, C: Readable> ReadableTuple for (A, B, C) {
+    ghost use Rattle.cbor_de.specs.Forms.{both, never};
+    ghost use Rattle.cbor_collections.specs.Enums.{part_then, no_part};
+
+    ghost parts = { λ c all x. part_then (A.reads c)
+        (part_then (B.reads c)
+        (part_then (C.reads c) no_part))
+        all (x.0, (x.1, (x.2, tt))) };
+
+    ghost wrong_forms = { both A.wrong_forms (both B.wrong_forms (both C.wrong_forms never)) };
+}
+
+impl<
+    'de,
+    R: Read<'de>,
+    A: Deserialize<'de, R>,
+    B: Deserialize<'de, R>,
+    C: Deserialize<'de, R>,
+> ReadTuple<'de, R> for (A, B, C) {
+    #[inline(always)]
+    fn read_tuple(de: &mut Deserializer<R>, remaining: Remaining) -> Result<(A, B, C)> {
+        match <(A, (B, (C, ()))) as ReadItems<'de, R>>::read_items(de, remaining, 0, 3) {
+            Ok(parts) => {
+                let (a, (b, (c, ()))) = parts;
+                Ok((a, b, c))
+            }
+            Err(e) => Err(e),
+        }
+    }
+}
+
+impl<A: Readable, B: Readable, C: Readable, D: Readable> ReadableTuple for (A, B, C, D) {
+    ghost use Rattle.cbor_de.specs.Forms.{both, never};
+    ghost use Rattle.cbor_collections.specs.Enums.{part_then, no_part};
+
+    ghost parts = { λ c all x. part_then (A.reads c)
+        (part_then (B.reads c)
+        (part_then (C.reads c)
+        (part_then (D.reads c) no_part)))
+        all (x.0, (x.1, (x.2, (x.3, tt)))) };
+
+    ghost wrong_forms = { both A.wrong_forms (both B.wrong_forms (both C.wrong_forms
+        (both D.wrong_forms never))) };
+}
+
+impl<
+    'de,
+    R: Read<'de>,
+    A: Deserialize<'de, R>,
+    B: Deserialize<'de, R>,
+    C: Deserialize<'de, R>,
+    D: Deserialize<'de, R>,
+> ReadTuple<'de, R> for (A, B, C, D) {
+    #[inline(always)]
+    fn read_tuple(de: &mut Deserializer<R>, remaining: Remaining) -> Result<(A, B, C, D)> {
+        match <(A, (B, (C, (D, ())))) as ReadItems<'de, R>>::read_items(de, remaining, 0, 4) {
+            Ok(parts) => {
+                let (a, (b, (c, (d, ())))) = parts;
+                Ok((a, b, c, d))
+            }
+            Err(e) => Err(e),
+        }
+    }
+}
+
+impl<A: Readable, B: Readable, C: Readable, D: Readable, E: Readable> ReadableTuple
+    for (A, B, C, D, E) {
+    ghost use Rattle.cbor_de.specs.Forms.{both, never};
+    ghost use Rattle.cbor_collections.specs.Enums.{part_then, no_part};
+
+    ghost parts = { λ c all x. part_then (A.reads c)
+        (part_then (B.reads c)
+        (part_then (C.reads c)
+        (part_then (D.reads c)
+        (part_then (E.reads c) no_part))))
+        all (x.0, (x.1, (x.2, (x.3, (x.4, tt))))) };
+
+    ghost wrong_forms = { both A.wrong_forms (both B.wrong_forms (both C.wrong_forms
+        (both D.wrong_forms (both E.wrong_forms never)))) };
+}
+
+impl<
+    'de,
+    R: Read<'de>,
+    A: Deserialize<'de, R>,
+    B: Deserialize<'de, R>,
+    C: Deserialize<'de, R>,
+    D: Deserialize<'de, R>,
+    E: Deserialize<'de, R>,
+> ReadTuple<'de, R> for (A, B, C, D, E) {
+    #[inline(always)]
+    fn read_tuple(de: &mut Deserializer<R>, remaining: Remaining) -> Result<(A, B, C, D, E)> {
+        match <(A, (B, (C, (D, (E, ()))))) as ReadItems<'de, R>>::read_items(de, remaining, 0, 5) {
+            Ok(parts) => {
+                let (a, (b, (c, (d, (e, ()))))) = parts;
+                Ok((a, b, c, d, e))
+            }
+            Err(e) => Err(e),
+        }
+    }
+}
+
+impl<A: Readable, B: Readable, C: Readable, D: Readable, E: Readable, F: Readable> ReadableTuple
+    for (A, B, C, D, E, F) {
+    ghost use Rattle.cbor_de.specs.Forms.{both, never};
+    ghost use Rattle.cbor_collections.specs.Enums.{part_then, no_part};
+
+    ghost parts = { λ c all x. part_then (A.reads c)
+        (part_then (B.reads c)
+        (part_then (C.reads c)
+        (part_then (D.reads c)
+        (part_then (E.reads c)
+        (part_then (F.reads c) no_part)))))
+        all (x.0, (x.1, (x.2, (x.3, (x.4, (x.5, tt)))))) };
+
+    ghost wrong_forms = { both A.wrong_forms (both B.wrong_forms (both C.wrong_forms
+        (both D.wrong_forms (both E.wrong_forms (both F.wrong_forms never))))) };
+}
+
+impl<
+    'de,
+    R: Read<'de>,
+    A: Deserialize<'de, R>,
+    B: Deserialize<'de, R>,
+    C: Deserialize<'de, R>,
+    D: Deserialize<'de, R>,
+    E: Deserialize<'de, R>,
+    F: Deserialize<'de, R>,
+> ReadTuple<'de, R> for (A, B, C, D, E, F) {
+    #[inline(always)]
+    fn read_tuple(de: &mut Deserializer<R>, remaining: Remaining) -> Result<(A, B, C, D, E, F)> {
+        match <(A, (B, (C, (D, (E, (F, ())))))) as ReadItems<'de, R>>::read_items(
+            de, remaining, 0, 6,
+        ) {
+            Ok(parts) => {
+                let (a, (b, (c, (d, (e, (f, ())))))) = parts;
+                Ok((a, b, c, d, e, f))
+            }
+            Err(e) => Err(e),
+        }
+    }
+}
+
+impl<
+    A: Readable,
+    B: Readable,
+    C: Readable,
+    D: Readable,
+    E: Readable,
+    F: Readable,
+    G: Readable,
+> ReadableTuple for (A, B, C, D, E, F, G) {
+    ghost use Rattle.cbor_de.specs.Forms.{both, never};
+    ghost use Rattle.cbor_collections.specs.Enums.{part_then, no_part};
+
+    ghost parts = { λ c all x. part_then (A.reads c)
+        (part_then (B.reads c)
+        (part_then (C.reads c)
+        (part_then (D.reads c)
+        (part_then (E.reads c)
+        (part_then (F.reads c)
+        (part_then (G.reads c) no_part))))))
+        all (x.0, (x.1, (x.2, (x.3, (x.4, (x.5, (x.6, tt))))))) };
+
+    ghost wrong_forms = { both A.wrong_forms (both B.wrong_forms (both C.wrong_forms
+        (both D.wrong_forms (both E.wrong_forms (both F.wrong_forms
+        (both G.wrong_forms never)))))) };
+}
+
+impl<
+    'de,
+    R: Read<'de>,
+    A: Deserialize<'de, R>,
+    B: Deserialize<'de, R>,
+    C: Deserialize<'de, R>,
+    D: Deserialize<'de, R>,
+    E: Deserialize<'de, R>,
+    F: Deserialize<'de, R>,
+    G: Deserialize<'de, R>,
+> ReadTuple<'de, R> for (A, B, C, D, E, F, G) {
+    #[inline(always)]
+    fn read_tuple(de: &mut Deserializer<R>, remaining: Remaining) -> Result<(A, B, C, D, E, F, G)> {
+        match <(A, (B, (C, (D, (E, (F, (G, ()))))))) as ReadItems<'de, R>>::read_items(
+            de, remaining, 0, 7,
+        ) {
+            Ok(parts) => {
+                let (a, (b, (c, (d, (e, (f, (g, ()))))))) = parts;
+                Ok((a, b, c, d, e, f, g))
+            }
+            Err(e) => Err(e),
+        }
+    }
+}
+
+impl<
+    A: Readable,
+    B: Readable,
+    C: Readable,
+    D: Readable,
+    E: Readable,
+    F: Readable,
+    G: Readable,
+    H: Readable,
+> ReadableTuple for (A, B, C, D, E, F, G, H) {
+    ghost use Rattle.cbor_de.specs.Forms.{both, never};
+    ghost use Rattle.cbor_collections.specs.Enums.{part_then, no_part};
+
+    ghost parts = { λ c all x. part_then (A.reads c)
+        (part_then (B.reads c)
+        (part_then (C.reads c)
+        (part_then (D.reads c)
+        (part_then (E.reads c)
+        (part_then (F.reads c)
+        (part_then (G.reads c)
+        (part_then (H.reads c) no_part)))))))
+        all (x.0, (x.1, (x.2, (x.3, (x.4, (x.5, (x.6, (x.7, tt)))))))) };
+
+    ghost wrong_forms = { both A.wrong_forms (both B.wrong_forms (both C.wrong_forms
+        (both D.wrong_forms (both E.wrong_forms (both F.wrong_forms (both G.wrong_forms
+        (both H.wrong_forms never))))))) };
+}
+
+impl<
+    'de,
+    R: Read<'de>,
+    A: Deserialize<'de, R>,
+    B: Deserialize<'de, R>,
+    C: Deserialize<'de, R>,
+    D: Deserialize<'de, R>,
+    E: Deserialize<'de, R>,
+    F: Deserialize<'de, R>,
+    G: Deserialize<'de, R>,
+    H: Deserialize<'de, R>,
+> ReadTuple<'de, R> for (A, B, C, D, E, F, G, H) {
+    #[inline(always)]
+    fn read_tuple(
+        de: &mut Deserializer<R>,
+        remaining: Remaining,
+    ) -> Result<(A, B, C, D, E, F, G, H)> {
+        match <(A, (B, (C, (D, (E, (F, (G, (H, ())))))))) as ReadItems<'de, R>>::read_items(
+            de, remaining, 0, 8,
+        ) {
+            Ok(parts) => {
+                let (a, (b, (c, (d, (e, (f, (g, (h, ())))))))) = parts;
+                Ok((a, b, c, d, e, f, g, h))
+            }
+            Err(e) => Err(e),
+        }
+    }
+}

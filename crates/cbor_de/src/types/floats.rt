@@ -1,0 +1,65 @@
+//! Floats as numbers.
+
+use crate::de::Deserializer;
+use crate::deserialize::{Deserialize, DeserializeOwned, Readable};
+use cbor_io::error::Result;
+use cbor_read::Read;
+use cbor_scalars::floats::{read_f32, read_f64};
+
+/// A float of 16, 32 or 64 bits whose number an `f32` holds exactly. Another float is refused with
+/// `float out of range: expected f32`, and a whole number with `invalid type: expected a float`. A
+/// NaN is read as a NaN, of no particular sign or payload.
+impl Readable for f32 {
+    ghost use Rattle.std.specs.Prelude.{true};
+    ghost use Rattle.cbor_model.specs.Readable.{PassesTags};
+    ghost use Rattle.cbor_scalars.specs.Scalars.{IsSingleOf};
+    ghost use Rattle.cbor_de.specs.Forms.{never};
+
+    ghost reads = { λ c. PassesTags IsSingleOf };
+
+    ghost asks_memory = { λ a r. ⊥ };
+
+    ghost wrong_forms = { never };
+
+    ghost passes_over = { true };
+}
+
+impl<'de, R: Read<'de>> Deserialize<'de, R> for f32 {
+    #[inline(always)]
+    fn deserialize(de: &mut Deserializer<R>) -> Result<f32> {
+        read_f32(&mut de.decoder)
+    }
+}
+
+impl DeserializeOwned for f32 {
+    ghost same = { λ f a b r x h. h };
+}
+
+/// A float of 16, 32 or 64 bits, of which an `f64` holds each number exactly. A whole number is
+/// refused with `invalid type: expected a float`. A NaN is read as a NaN, of no particular sign or
+/// payload.
+impl Readable for f64 {
+    ghost use Rattle.std.specs.Prelude.{true};
+    ghost use Rattle.cbor_model.specs.Readable.{PassesTags};
+    ghost use Rattle.cbor_scalars.specs.Scalars.{IsFloatOf};
+    ghost use Rattle.cbor_de.specs.Forms.{never};
+
+    ghost reads = { λ c. PassesTags IsFloatOf };
+
+    ghost asks_memory = { λ a r. ⊥ };
+
+    ghost wrong_forms = { never };
+
+    ghost passes_over = { true };
+}
+
+impl<'de, R: Read<'de>> Deserialize<'de, R> for f64 {
+    #[inline(always)]
+    fn deserialize(de: &mut Deserializer<R>) -> Result<f64> {
+        read_f64(&mut de.decoder)
+    }
+}
+
+impl DeserializeOwned for f64 {
+    ghost same = { λ f a b r x h. h };
+}

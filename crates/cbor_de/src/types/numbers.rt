@@ -1,0 +1,377 @@
+//! Whole numbers.
+
+use crate::de::Deserializer;
+use crate::deserialize::{Deserialize, DeserializeOwned, Readable};
+use cbor_io::error::Result;
+use cbor_read::Read;
+use cbor_scalars::integer::{read_from_zero, read_signed, read_u128};
+
+impl Readable for u8 {
+    ghost use Rattle.std.specs.Prelude.{◌-◌, ◌^◌, true};
+    ghost use Rattle.cbor_model.specs.Readable.{PassesTags, IsFromZero};
+    ghost use Rattle.cbor_de.specs.Forms.{never};
+
+    ghost reads = { λ c. PassesTags (IsFromZero (2 ^ 8 - 1)) };
+
+    ghost asks_memory = { λ a r. ⊥ };
+
+    ghost wrong_forms = { never };
+
+    ghost passes_over = { true };
+}
+
+impl<'de, R: Read<'de>> Deserialize<'de, R> for u8 {
+    #[inline(always)]
+    fn deserialize(de: &mut Deserializer<R>) -> Result<u8> {
+        match read_from_zero(
+            &mut de.decoder,
+            u8::MAX as u64,
+            "integer out of range: expected u8",
+        ) {
+            Ok(number) => Ok(number as u8),
+            Err(e) => Err(e),
+        }
+    }
+}
+
+impl DeserializeOwned for u8 {
+    ghost same = { λ f a b r x h. h };
+}
+
+impl Readable for u16 {
+    ghost use Rattle.std.specs.Prelude.{◌-◌, ◌^◌, true};
+    ghost use Rattle.cbor_model.specs.Readable.{PassesTags, IsFromZero};
+    ghost use Rattle.cbor_de.specs.Forms.{never};
+
+    ghost reads = { λ c. PassesTags (IsFromZero (2 ^ 16 - 1)) };
+
+    ghost asks_memory = { λ a r. ⊥ };
+
+    ghost wrong_forms = { never };
+
+    ghost passes_over = { true };
+}
+
+impl<'de, R: Read<'de>> Deserialize<'de, R> for u16 {
+    #[inline(always)]
+    fn deserialize(de: &mut Deserializer<R>) -> Result<u16> {
+        match read_from_zero(
+            &mut de.decoder,
+            u16::MAX as u64,
+            "integer out of range: expected u16",
+        ) {
+            Ok(number) => Ok(number as u16),
+            Err(e) => Err(e),
+        }
+    }
+}
+
+impl DeserializeOwned for u16 {
+    ghost same = { λ f a b r x h. h };
+}
+
+impl Readable for u32 {
+    ghost use Rattle.std.specs.Prelude.{◌-◌, ◌^◌, true};
+    ghost use Rattle.cbor_model.specs.Readable.{PassesTags, IsFromZero};
+    ghost use Rattle.cbor_de.specs.Forms.{never};
+
+    ghost reads = { λ c. PassesTags (IsFromZero (2 ^ 32 - 1)) };
+
+    ghost asks_memory = { λ a r. ⊥ };
+
+    ghost wrong_forms = { never };
+
+    ghost passes_over = { true };
+}
+
+impl<'de, R: Read<'de>> Deserialize<'de, R> for u32 {
+    #[inline(always)]
+    fn deserialize(de: &mut Deserializer<R>) -> Result<u32> {
+        match read_from_zero(
+            &mut de.decoder,
+            u32::MAX as u64,
+            "integer out of range: expected u32",
+        ) {
+            Ok(number) => Ok(number as u32),
+            Err(e) => Err(e),
+        }
+    }
+}
+
+impl DeserializeOwned for u32 {
+    ghost same = { λ f a b r x h. h };
+}
+
+impl Readable for u64 {
+    ghost use Rattle.std.specs.Prelude.{◌-◌, ◌^◌, true};
+    ghost use Rattle.cbor_model.specs.Readable.{PassesTags, IsFromZero};
+    ghost use Rattle.cbor_de.specs.Forms.{never};
+
+    ghost reads = { λ c. PassesTags (IsFromZero (2 ^ 64 - 1)) };
+
+    ghost asks_memory = { λ a r. ⊥ };
+
+    ghost wrong_forms = { never };
+
+    ghost passes_over = { true };
+}
+
+impl<'de, R: Read<'de>> Deserialize<'de, R> for u64 {
+    #[inline(always)]
+    fn deserialize(de: &mut Deserializer<R>) -> Result<u64> {
+        match read_from_zero(
+            &mut de.decoder,
+            u64::MAX as u64,
+            "integer out of range: expected u64",
+        ) {
+            Ok(number) => Ok(number as u64),
+            Err(e) => Err(e),
+        }
+    }
+}
+
+impl DeserializeOwned for u64 {
+    ghost same = { λ f a b r x h. h };
+}
+
+impl Readable for usize {
+    ghost use Rattle.std.specs.Prelude.{◌-◌, ◌^◌, true};
+    ghost use Rattle.cbor_model.specs.Readable.{PassesTags, IsFromZero};
+    ghost use Rattle.cbor_de.specs.Forms.{never};
+
+    ghost reads = { λ c. PassesTags (IsFromZero (2 ^ 64 - 1)) };
+
+    ghost asks_memory = { λ a r. ⊥ };
+
+    ghost wrong_forms = { never };
+
+    ghost passes_over = { true };
+}
+
+impl<'de, R: Read<'de>> Deserialize<'de, R> for usize {
+    #[inline(always)]
+    fn deserialize(de: &mut Deserializer<R>) -> Result<usize> {
+        match read_from_zero(
+            &mut de.decoder,
+            usize::MAX as u64,
+            "integer out of range: expected usize",
+        ) {
+            Ok(number) => Ok(number as usize),
+            Err(e) => Err(e),
+        }
+    }
+}
+
+impl DeserializeOwned for usize {
+    ghost same = { λ f a b r x h. h };
+}
+
+impl Readable for i8 {
+    ghost use Rattle.std.specs.Prelude.{◌-◌, ◌^◌, true};
+    ghost use Rattle.cbor_model.specs.Readable.{PassesTags, IsSigned};
+    ghost use Rattle.cbor_de.specs.Forms.{never};
+
+    ghost reads = { λ c. PassesTags (IsSigned (2 ^ 7 - 1)) };
+
+    ghost asks_memory = { λ a r. ⊥ };
+
+    ghost wrong_forms = { never };
+
+    ghost passes_over = { true };
+}
+
+impl<'de, R: Read<'de>> Deserialize<'de, R> for i8 {
+    #[inline(always)]
+    fn deserialize(de: &mut Deserializer<R>) -> Result<i8> {
+        match read_signed(
+            &mut de.decoder,
+            i8::MAX as u64,
+            "integer out of range: expected i8",
+        ) {
+            Ok(number) => Ok(number as i8),
+            Err(e) => Err(e),
+        }
+    }
+}
+
+impl DeserializeOwned for i8 {
+    ghost same = { λ f a b r x h. h };
+}
+
+impl Readable for i16 {
+    ghost use Rattle.std.specs.Prelude.{◌-◌, ◌^◌, true};
+    ghost use Rattle.cbor_model.specs.Readable.{PassesTags, IsSigned};
+    ghost use Rattle.cbor_de.specs.Forms.{never};
+
+    ghost reads = { λ c. PassesTags (IsSigned (2 ^ 15 - 1)) };
+
+    ghost asks_memory = { λ a r. ⊥ };
+
+    ghost wrong_forms = { never };
+
+    ghost passes_over = { true };
+}
+
+impl<'de, R: Read<'de>> Deserialize<'de, R> for i16 {
+    #[inline(always)]
+    fn deserialize(de: &mut Deserializer<R>) -> Result<i16> {
+        match read_signed(
+            &mut de.decoder,
+            i16::MAX as u64,
+            "integer out of range: expected i16",
+        ) {
+            Ok(number) => Ok(number as i16),
+            Err(e) => Err(e),
+        }
+    }
+}
+
+impl DeserializeOwned for i16 {
+    ghost same = { λ f a b r x h. h };
+}
+
+impl Readable for i32 {
+    ghost use Rattle.std.specs.Prelude.{◌-◌, ◌^◌, true};
+    ghost use Rattle.cbor_model.specs.Readable.{PassesTags, IsSigned};
+    ghost use Rattle.cbor_de.specs.Forms.{never};
+
+    ghost reads = { λ c. PassesTags (IsSigned (2 ^ 31 - 1)) };
+
+    ghost asks_memory = { λ a r. ⊥ };
+
+    ghost wrong_forms = { never };
+
+    ghost passes_over = { true };
+}
+
+impl<'de, R: Read<'de>> Deserialize<'de, R> for i32 {
+    #[inline(always)]
+    fn deserialize(de: &mut Deserializer<R>) -> Result<i32> {
+        match read_signed(
+            &mut de.decoder,
+            i32::MAX as u64,
+            "integer out of range: expected i32",
+        ) {
+            Ok(number) => Ok(number as i32),
+            Err(e) => Err(e),
+        }
+    }
+}
+
+impl DeserializeOwned for i32 {
+    ghost same = { λ f a b r x h. h };
+}
+
+impl Readable for i64 {
+    ghost use Rattle.std.specs.Prelude.{◌-◌, ◌^◌, true};
+    ghost use Rattle.cbor_model.specs.Readable.{PassesTags, IsSigned};
+    ghost use Rattle.cbor_de.specs.Forms.{never};
+
+    ghost reads = { λ c. PassesTags (IsSigned (2 ^ 63 - 1)) };
+
+    ghost asks_memory = { λ a r. ⊥ };
+
+    ghost wrong_forms = { never };
+
+    ghost passes_over = { true };
+}
+
+impl<'de, R: Read<'de>> Deserialize<'de, R> for i64 {
+    #[inline(always)]
+    fn deserialize(de: &mut Deserializer<R>) -> Result<i64> {
+        match read_signed(
+            &mut de.decoder,
+            i64::MAX as u64,
+            "integer out of range: expected i64",
+        ) {
+            Ok(number) => Ok(number as i64),
+            Err(e) => Err(e),
+        }
+    }
+}
+
+impl DeserializeOwned for i64 {
+    ghost same = { λ f a b r x h. h };
+}
+
+impl Readable for isize {
+    ghost use Rattle.std.specs.Prelude.{◌-◌, ◌^◌, true};
+    ghost use Rattle.cbor_model.specs.Readable.{PassesTags, IsSigned};
+    ghost use Rattle.cbor_de.specs.Forms.{never};
+
+    ghost reads = { λ c. PassesTags (IsSigned (2 ^ 63 - 1)) };
+
+    ghost asks_memory = { λ a r. ⊥ };
+
+    ghost wrong_forms = { never };
+
+    ghost passes_over = { true };
+}
+
+impl<'de, R: Read<'de>> Deserialize<'de, R> for isize {
+    #[inline(always)]
+    fn deserialize(de: &mut Deserializer<R>) -> Result<isize> {
+        match read_signed(
+            &mut de.decoder,
+            isize::MAX as u64,
+            "integer out of range: expected isize",
+        ) {
+            Ok(number) => Ok(number as isize),
+            Err(e) => Err(e),
+        }
+    }
+}
+
+impl DeserializeOwned for isize {
+    ghost same = { λ f a b r x h. h };
+}
+
+impl Readable for u128 {
+    ghost use Rattle.std.specs.Prelude.{◌-◌, ◌^◌, true};
+    ghost use Rattle.cbor_model.specs.Readable.{PassesTags, IsFromZero};
+    ghost use Rattle.cbor_de.specs.Forms.{never};
+
+    ghost reads = { λ c. PassesTags (IsFromZero (2 ^ 128 - 1)) };
+
+    ghost asks_memory = { λ a r. ⊥ };
+
+    ghost wrong_forms = { never };
+
+    ghost passes_over = { true };
+}
+
+impl<'de, R: Read<'de>> Deserialize<'de, R> for u128 {
+    #[inline(always)]
+    fn deserialize(de: &mut Deserializer<R>) -> Result<u128> {
+        read_u128(&mut de.decoder)
+    }
+}
+
+impl DeserializeOwned for u128 {
+    ghost same = { λ f a b r x h. h };
+}
+
+impl Readable for i128 {
+    ghost use Rattle.std.specs.Prelude.{true};
+    ghost use Rattle.cbor_model.specs.Readable.{PassesTags, IsInteger};
+    ghost use Rattle.cbor_de.specs.Forms.{never};
+
+    ghost reads = { λ c. PassesTags IsInteger };
+
+    ghost asks_memory = { λ a r. ⊥ };
+
+    ghost wrong_forms = { never };
+
+    ghost passes_over = { true };
+}
+
+impl<'de, R: Read<'de>> Deserialize<'de, R> for i128 {
+    #[inline(always)]
+    fn deserialize(de: &mut Deserializer<R>) -> Result<i128> {
+        de.read_integer()
+    }
+}
+
+impl DeserializeOwned for i128 {
+    ghost same = { λ f a b r x h. h };
+}

@@ -1,0 +1,43 @@
+//! What may be absent.
+
+use crate::de::Deserializer;
+use crate::deserialize::{Deserialize, DeserializeOwned, Readable};
+use cbor_io::error::Result;
+use cbor_read::Read;
+use cbor_scalars::optional::take_null;
+
+// Null is None, by its first byte alone: neither undefined nor a tagged null is.
+impl<T: Readable> Readable for Option<T> {
+    ghost use Rattle.cbor_model.specs.Readable.{IsOptional};
+    ghost use Rattle.cbor_scalars.specs.Options.{UnlessNull};
+
+    ghost reads = { λ c. IsOptional (T.reads c) };
+
+    ghost asks_memory = { λ a. UnlessNull (T.asks_memory a) };
+
+    ghost wrong_forms = { T.wrong_forms };
+
+    ghost passes_over = { T.passes_over };
+}
+
+impl<'de, R: Read<'de>, T: Deserialize<'de, R>> Deserialize<'de, R> for Option<T> {
+    #[inline(always)]
+    #[tactic(auto, using(crate::proofs::Forms::plain))]
+    fn deserialize(de: &mut Deserializer<R>) -> Result<Option<T>> {
+        match take_null(&mut de.decoder) {
+            Ok(true) => return Ok(None),
+            Ok(false) => {}
+            Err(refused) => return Err(de.decoder.error(refused)),
+        }
+        match T::deserialize(de) {
+            Ok(value) => Ok(Some(value)),
+            Err(e) => Err(e),
+        }
+    }
+}
+
+impl<T: DeserializeOwned> DeserializeOwned for Option<T> {
+    ghost use Rattle.cbor_de.specs.Options.{same_optional};
+
+    ghost same = { λ f a b. same_optional _ _ (T.same f a b) };
+}

@@ -1,0 +1,375 @@
+//! Enums, of which an item tells the variant and holds its content.
+
+ghost use Rattle.std.specs.Prelude.{◌≡◌, ◌<◌, codes, length};
+ghost use Rattle.std.specs.Prelude.{IfOk, IfErr};
+ghost use Rattle.std.specs.Borrow.{sem, RestsIfErr};
+ghost use Rattle.cbor_model.specs.Reader.{item_at};
+ghost use Rattle.cbor_io.specs.Error.{code_of};
+ghost use Rattle.cbor_decode.specs.Gives.{Onward, Step, TellsNoForm};
+ghost use Rattle.cbor_io.specs.declared.error.ErrorCode.TheVariants.{ArrayTooLong};
+ghost use Rattle.cbor_collections.specs.Cases.{FormAlone, IsEnumCode, Stands};
+ghost use Rattle.cbor_collections.specs.Cases.{enum_cases, unit_cases, TellsTooShort};
+ghost use Rattle.cbor_collections.specs.BeginsEnum.{BeginsVariant, RefusesVariantHead};
+ghost use Rattle.cbor_collections.specs.BeginsEnum.{BeginsParts, RefusesPartsHead};
+ghost use Rattle.cbor_collections.specs.Enums.{IsNothing, IsPart};
+ghost use Rattle.cbor_scalars.specs.Identifiers.{texts};
+ghost use Rattle.cbor_read.specs.Source.{TookSome};
+ghost use Rattle.cbor_scalars.specs.Takes.{WhateverTaken, context, formats_of, raws};
+ghost use Rattle.cbor_collections.specs.Variants.{IsVariantHead, RefusesVariant};
+ghost use Rattle.cbor_collections.specs.Variants.{IsInside};
+ghost use Rattle.cbor_collections.specs.Variants.{IsPartsHead, RefusesParts, TakesContent};
+ghost use Rattle.cbor_collections.specs.Variants.{content_at};
+ghost use Rattle.cbor_collections.specs.Variants.{TellsAlone, alone_text};
+ghost use Rattle.cbor_collections.specs.declared.variant.Form.TheVariants.{Array};
+ghost use Rattle.cbor_de.specs.Forms.{MayTell, both, part_form};
+ghost use Rattle.cbor_de.specs.contracts.de.Deserializer.{the_row};
+
+use crate::de::Deserializer;
+use crate::deserialize::Deserialize;
+use crate::sequence::SeqAccess;
+use cbor_collections::array::end_array;
+use cbor_collections::variant::{Form, expect_item, no_part, parts, variant_head};
+use cbor_decode::Remaining;
+use cbor_io::error::{Error, ErrorCode, Result};
+use cbor_read::{Read, Source};
+
+impl<'de, R: Read<'de>> Deserializer<R> {
+    /// Takes an enum up to its identifier: the tags, the head of an array or of a map of one pair,
+    /// and the identifier, a number or a name.
+    ///
+    /// It is refused with `WrongEnumFormat`, before the first byte after the tags, where that form
+    /// isn't read; with `ArrayTooShort` where an array has no identifier; with `unknown variant`
+    /// where no name is of the identifier, and with `invalid type: expected a variant name` where
+    /// another item stands in its place; with `UnassignedCode` at 9c to 9e, which begin no item,
+    /// and with `WrongStructFormat` where the map's key may not begin as it does. What follows the
+    /// identifier isn't looked at: it is for the call that ends the access to refuse.
+    ///
+    /// ```rust
+    /// let mut de = Deserializer::from_slice(alloc, b"\xa1\x66Number\x18\x2a");
+    /// let access = de.variant(&["Empty", "Number"])?;
+    /// assert_eq!(rt; access.index(), 1);
+    /// assert_eq!(rt; access.newtype::<u8>()?, 42);
+    /// ```
+    pub fn variant<'a>(&'a mut self, names: &[&str]) -> Result<VariantAccess<'a, R>>
+        ensures* rests { sem 𝓛 (RestsIfErr (the_row R.row) self.entry (λ v. v.de.ghost_name) result
+            (λ last. (last.decoder.levels ≡ self.old.decoder.levels)
+            × (last.decoder.formats ≡ self.old.decoder.formats)
+            × TookSome (R.source self.old.decoder.source) (R.source last.decoder.source))) }
+        ensures same_reference { IfOk result (λ v. v.de.ghost_name ≡ self.entry.ghost_name) }
+        ensures head { IfOk result (λ v. Step (R.source self.old.decoder.source)
+            (R.source v.de.now.decoder.source)
+            (λ l bs rest. IsVariantHead (formats_of self.old.decoder.formats) (texts names.now) l
+            (item_at (raws (formats_of self.old.decoder.formats) l) self.old.decoder.levels bs)
+            v.de.now.decoder.levels v.index v.form rest)) }
+        ensures refused { IfErr result (WhateverTaken (R.source self.old.decoder.source)
+            (RefusesVariant R.refusals
+            (formats_of self.old.decoder.formats) (texts names.now) self.old.decoder.levels
+            (R.source self.old.decoder.source))) }
+        // The enum up to its identifier, whatever follows it.
+        ensures opened { IfOk result (λ v. Step (R.source self.old.decoder.source)
+            (R.source v.de.now.decoder.source)
+            (λ l bs rest. BeginsVariant (formats_of self.old.decoder.formats) (texts names.now) l
+            self.old.decoder.levels v.de.now.decoder.levels v.index v.form bs rest)) }
+        ensures unopened { IfErr result (WhateverTaken (R.source self.old.decoder.source)
+            (RefusesVariantHead R.refusals
+            (formats_of self.old.decoder.formats) (texts names.now) self.old.decoder.levels
+            (R.source self.old.decoder.source))) }
+        ensures cases { IfErr result (λ e. Stands (R.source self.old.decoder.source) e
+            (enum_cases (formats_of self.old.decoder.formats)
+            self.old.decoder.levels)) }
+        ensures code { IfErr result (λ e. IsEnumCode (code_of e)) }
+        ensures below { IfOk result (λ v. v.index < length names.now) }
+        ensures taken { IfOk result (λ v. Onward (R.source self.old.decoder.source)
+            (R.source v.de.now.decoder.source)) }
+        ensures outer { IfOk result (λ v. v.outer ≡ self.old.decoder.levels) }
+        ensures inside { IfOk result (λ v. IsInside v.form v.de.now.decoder.levels v.outer) }
+        ensures formats { IfOk result (λ v. v.de.now.decoder.formats ≡ self.old.decoder.formats) }
+    {
+        let outer = self.decoder.levels;
+        let (index, form) = variant_head(&mut self.decoder, names)?;
+        Ok(VariantAccess {
+            de: self,
+            index,
+            form,
+            outer,
+        })
+    }
+
+    // Reads the only item of an array that remains.
+    #[tactic(auto, using(cbor_collections::proofs::facts::Places::too_short_first, cbor_collections::proofs::facts::Places::too_short_later, crate::proofs::Forms::plain))]
+    fn only_item<T: Deserialize<'de, R>>(&mut self, mut remaining: Remaining) -> Result<T>
+        ensures read { TakesContent R.refusals (formats_of self.old.decoder.formats)
+            (IsPart (T.reads (context self.old.decoder.formats R.lends)))
+            self.old.decoder.levels (Array remaining)
+            (R.source self.old.decoder.source) (R.source self.new.decoder.source) result }
+        ensures form { IfErr result (MayTell (both part_form T.wrong_forms)
+            (formats_of self.old.decoder.formats) (R.source self.old.decoder.source)) }
+        ensures too_short { IfErr result (TellsTooShort R.refusals (Array remaining)
+            (R.source self.old.decoder.source)) }
+        ensures levels { self.new.decoder.levels ≡ self.old.decoder.levels }
+        ensures formats { self.new.decoder.formats ≡ self.old.decoder.formats }
+    {
+        expect_item(&mut self.decoder, &mut remaining, ErrorCode::ArrayTooShort)?;
+        let item = T::deserialize(self)?;
+        end_array(&mut self.decoder, remaining)?;
+        Ok(item)
+    }
+}
+
+/// Reads the content of a variant of one part, after its identifier. An identifier alone is refused
+/// with this text, and an array in which nothing follows it with `ArrayTooShort`.
+pub fn one_part<'de, R: Read<'de>, T: Deserialize<'de, R>>(
+    de: &mut Deserializer<R>,
+    form: Form,
+    alone: &str,
+) -> Result<T>
+    ensures read { TakesContent R.refusals (formats_of de.old.decoder.formats)
+        (IsPart (T.reads (context de.old.decoder.formats R.lends)))
+        de.old.decoder.levels form
+        (R.source de.old.decoder.source) (R.source de.new.decoder.source) result }
+    ensures alone { IfErr result (TellsAlone alone.now form) }
+    ensures form { IfErr result (MayTell (both part_form T.wrong_forms)
+        (formats_of de.old.decoder.formats) (R.source de.old.decoder.source)) }
+    ensures too_short { IfErr result (TellsTooShort R.refusals form
+        (R.source de.old.decoder.source)) }
+    ensures levels { de.new.decoder.levels ≡ de.old.decoder.levels }
+    ensures formats { de.new.decoder.formats ≡ de.old.decoder.formats }
+{
+    match form {
+        Form::Array(remaining) => de.only_item::<T>(remaining),
+        Form::Map => T::deserialize(de),
+        Form::Alone => Err(Error::message(de.decoder.alloc, alone)),
+    }
+}
+
+/// An enum whose identifier was read, and whose content is still to be read.
+///
+/// It holds the levels that the enum took. Each call on it but [`index`](VariantAccess::index) ends
+/// it and leaves those levels, Ok or Err; but [`tuple`](VariantAccess::tuple), where it returns Ok,
+/// hands them on.
+#[derive(Drop)]
+pub struct VariantAccess<'a, R> {
+    // What reads the content.
+    pub(crate) de: &'a mut Deserializer<R>,
+    // The variant's place among the names.
+    pub(crate) index: usize,
+    // How the enum is spelled.
+    pub(crate) form: Form,
+    // How many levels were left before the enum.
+    pub(crate) outer: u64,
+}
+
+impl<'a, R: Source> VariantAccess<'a, R> {
+    /// The variant's place among the names.
+    ///
+    /// ```rust
+    /// let mut de = Deserializer::from_slice(alloc, b"\x65Right");
+    /// let variant = de.variant(&["Left", "Right"])?;
+    /// assert_eq!(rt; variant.index(), 1);
+    /// variant.unit()?;
+    /// ```
+    pub fn index(&self) -> usize
+        ensures { result ≡ self.now.index }
+    {
+        self.index
+    }
+
+    /// Reads the content of a variant of no part: nothing, or null or undefined where the enum is
+    /// an array or a map.
+    ///
+    /// An array in which nothing follows the identifier is refused with `ArrayTooLong`.
+    pub fn unit<'de>(self) -> Result<()>
+    where
+        R: Read<'de>,
+        ensures read { TakesContent R.refusals
+            (formats_of self.entry.de.now.decoder.formats)
+            IsNothing
+            self.entry.de.now.decoder.levels self.entry.form
+            (R.source self.entry.de.now.decoder.source) (R.source self.exit.0.now.decoder.source)
+            result }
+        ensures cases { IfErr result (λ e. Stands (R.source self.entry.de.now.decoder.source) e
+            (unit_cases self.entry.form)) }
+        ensures code { IfErr result (λ e. FormAlone ArrayTooLong (code_of e)) }
+        ensures levels { self.exit.0.now.decoder.levels ≡ self.entry.outer }
+        ensures formats { self.exit.0.now.decoder.formats ≡ self.entry.de.now.decoder.formats }
+    {
+        let VariantAccess {
+            de,
+            index: _,
+            form,
+            outer,
+        } = self;
+        let read = no_part(&mut de.decoder, form);
+        de.decoder.levels = outer;
+        read
+    }
+
+    /// Reads the content of a variant of one part.
+    ///
+    /// An array in which nothing follows the identifier is refused with `ArrayTooShort`, and an
+    /// identifier alone with `invalid type: unit variant, expected newtype variant`.
+    ///
+    /// ```rust
+    /// let mut de = Deserializer::from_slice(alloc, b"\xa1\x63Dot\x07");
+    /// let variant = de.variant(&["Dot"])?;
+    /// assert_eq!(rt; variant.newtype::<u8>()?, 7);
+    /// ```
+    pub fn newtype<'de, T: Deserialize<'de, R>>(self) -> Result<T>
+    where
+        R: Read<'de>,
+        ensures read { TakesContent R.refusals
+            (formats_of self.entry.de.now.decoder.formats)
+            (IsPart (T.reads (context self.entry.de.now.decoder.formats R.lends)))
+            self.entry.de.now.decoder.levels self.entry.form
+            (R.source self.entry.de.now.decoder.source) (R.source self.exit.0.now.decoder.source)
+            result }
+        ensures alone { IfErr result
+            (TellsAlone (alone_text (codes "newtype")) self.entry.form) }
+        ensures form { IfErr result (MayTell (both part_form T.wrong_forms)
+            (formats_of self.entry.de.now.decoder.formats)
+            (R.source self.entry.de.now.decoder.source)) }
+        ensures too_short { IfErr result (TellsTooShort R.refusals self.entry.form
+            (R.source self.entry.de.now.decoder.source)) }
+        ensures levels { self.exit.0.now.decoder.levels ≡ self.entry.outer }
+        ensures formats { self.exit.0.now.decoder.formats ≡ self.entry.de.now.decoder.formats }
+    {
+        let VariantAccess {
+            de,
+            index: _,
+            form,
+            outer,
+        } = self;
+        let text = "invalid type: unit variant, expected newtype variant";
+        let read = one_part::<R, T>(de, form, text);
+        de.decoder.levels = outer;
+        read
+    }
+
+    /// Reads the content of a variant of named fields, as the struct of these fields.
+    ///
+    /// `T` reads the map of the fields, by [`Deserializer::structure`]: of names or of numbers, in
+    /// any order. It refuses what isn't such a map. An array in which nothing follows the
+    /// identifier is refused with `ArrayTooShort`, and an identifier alone with
+    /// `invalid type: unit variant, expected struct variant`.
+    ///
+    /// ```rust
+    /// let mut de = Deserializer::from_slice(alloc, b"\xa1\x62At\xa1\x61x\x05");
+    /// let variant = de.variant(&["At"])?;
+    /// // A type of one's own has a struct of these fields in place of the map.
+    /// let fields: BTreeMap<String, u8> = variant.structure()?;
+    /// assert_eq!(rt; fields.len(), 1);
+    /// ```
+    pub fn structure<'de, T: Deserialize<'de, R>>(self) -> Result<T>
+    where
+        R: Read<'de>,
+        ensures read { TakesContent R.refusals
+            (formats_of self.entry.de.now.decoder.formats)
+            (IsPart (T.reads (context self.entry.de.now.decoder.formats R.lends)))
+            self.entry.de.now.decoder.levels self.entry.form
+            (R.source self.entry.de.now.decoder.source) (R.source self.exit.0.now.decoder.source)
+            result }
+        ensures alone { IfErr result
+            (TellsAlone (alone_text (codes "struct")) self.entry.form) }
+        ensures form { IfErr result (MayTell (both part_form T.wrong_forms)
+            (formats_of self.entry.de.now.decoder.formats)
+            (R.source self.entry.de.now.decoder.source)) }
+        ensures too_short { IfErr result (TellsTooShort R.refusals self.entry.form
+            (R.source self.entry.de.now.decoder.source)) }
+        ensures levels { self.exit.0.now.decoder.levels ≡ self.entry.outer }
+        ensures formats { self.exit.0.now.decoder.formats ≡ self.entry.de.now.decoder.formats }
+    {
+        let VariantAccess {
+            de,
+            index: _,
+            form,
+            outer,
+        } = self;
+        let text = "invalid type: unit variant, expected struct variant";
+        let read = one_part::<R, T>(de, form, text);
+        de.decoder.levels = outer;
+        read
+    }
+
+    /// Goes on to the parts of a variant of several.
+    ///
+    /// An identifier alone is refused with `invalid type: unit variant, expected tuple variant`.
+    ///
+    /// ```rust
+    /// let mut de = Deserializer::from_slice(alloc, b"\xa1\x63Box\x82\x03\x04");
+    /// let variant = de.variant(&["Dot", "Box"])?;
+    /// let mut parts = variant.tuple()?;
+    /// assert_eq!(rt; parts.part::<u8>(0, 2)?, 3);
+    /// assert_eq!(rt; parts.part::<u8>(1, 2)?, 4);
+    /// parts.end()?;
+    /// ```
+    pub fn tuple(self) -> Result<SeqAccess<'a, R>>
+        // The levels are those that `variant` left.
+        requires { IsInside self.form self.de.now.decoder.levels self.outer }
+        ensures* rests { sem 𝓛 (RestsIfErr (the_row R.row) self.entry.de (λ s. s.de.ghost_name)
+            result (λ last. (last.decoder.levels ≡ self.entry.outer)
+            × (last.decoder.formats ≡ self.entry.de.now.decoder.formats)
+            × TookSome (R.source self.entry.de.now.decoder.source) (R.source last.decoder.source))) }
+        ensures same_reference { IfOk result (λ s. s.de.ghost_name ≡ self.entry.de.ghost_name) }
+        ensures head { IfOk result (λ s. Step (R.source self.entry.de.now.decoder.source)
+            (R.source s.de.now.decoder.source)
+            (λ l bs rest. IsPartsHead (formats_of self.entry.de.now.decoder.formats) l
+            (content_at (formats_of self.entry.de.now.decoder.formats) l
+            self.entry.de.now.decoder.levels self.entry.form bs)
+            s.de.now.decoder.levels s.remaining rest)) }
+        ensures refused { IfErr result (WhateverTaken (R.source self.entry.de.now.decoder.source)
+            (RefusesParts R.refusals
+            (formats_of self.entry.de.now.decoder.formats) self.entry.de.now.decoder.levels
+            self.entry.form (R.source self.entry.de.now.decoder.source))) }
+        // Up to the parts, whatever follows.
+        ensures opened { IfOk result (λ s. Step (R.source self.entry.de.now.decoder.source)
+            (R.source s.de.now.decoder.source)
+            (λ l bs rest. BeginsParts self.entry.de.now.decoder.levels self.entry.form
+            s.de.now.decoder.levels s.remaining bs rest)) }
+        ensures unopened { IfErr result (WhateverTaken (R.source self.entry.de.now.decoder.source)
+            (RefusesPartsHead R.refusals
+            self.entry.de.now.decoder.levels self.entry.form
+            (R.source self.entry.de.now.decoder.source))) }
+        ensures alone { IfErr result
+            (TellsAlone (alone_text (codes "tuple")) self.entry.form) }
+        ensures no_form { IfErr result (λ e. TellsNoForm (code_of e)) }
+        ensures outer { IfOk result (λ s. s.outer ≡ self.entry.outer) }
+        ensures inside { IfOk result (λ s. s.de.now.decoder.levels < s.outer) }
+        ensures formats { IfOk result (λ s.
+            s.de.now.decoder.formats ≡ self.entry.de.now.decoder.formats) }
+    {
+        let VariantAccess {
+            de,
+            index: _,
+            form,
+            outer,
+        } = self;
+        match parts(&mut de.decoder, form) {
+            Ok(remaining) => Ok(SeqAccess {
+                de,
+                remaining,
+                outer,
+            }),
+            Err(e) => {
+                de.decoder.levels = outer;
+                Err(e)
+            }
+        }
+    }
+
+    /// Leaves the enum for this error, which it passes on.
+    pub fn refuse(self, e: Error) -> Error
+        ensures error { result ≡ e }
+        ensures source { self.exit.0.now.decoder.source ≡ self.entry.de.now.decoder.source }
+        ensures levels { self.exit.0.now.decoder.levels ≡ self.entry.outer }
+        ensures formats { self.exit.0.now.decoder.formats ≡ self.entry.de.now.decoder.formats }
+    {
+        let VariantAccess {
+            de,
+            index: _,
+            form: _,
+            outer,
+        } = self;
+        de.decoder.levels = outer;
+        e
+    }
+}

@@ -1,5 +1,0 @@
-use Rattle.cbor_stream.proofs.Items as proved
-use Rattle.cbor_stream.proofs.laws.one_list_of_items.Goals as goal
-
-pub returns : goal.returns
-returns c = proved.one_list_of_items

@@ -1,5 +1,0 @@
-use Rattle.std.proofs.Common.{◌≡◌, map, Ok}
-use Rattle.cbor_stream.proofs.whole.read_items.Given as goal
-
-abbrev pub invariant-loop-answer : goal.invariant-loop-answer
-invariant-loop-answer g l = l.yielded ≡ map Ok l.items.items

@@ -1,8 +1,0 @@
--- Published: what a reading says of another.
-
--- where a type reads every item, one promise for another
-pub use Rattle.cbor_typed.proofs.Faults.{where_map}
--- what is read as a value is the value of the item that is read
-pub use Rattle.cbor_decode.proofs.facts.Readings.{along, value_seen}
--- an item that is read whatever it is, and isn't there, is no item at all
-pub use Rattle.cbor_typed.proofs.Fields.{no_item}

@@ -1,7 +1,0 @@
-use Rattle.cbor_scalars.specs.Takes.{lending}
-use Rattle.cbor_typed.proofs.Taken.{item_taken}
-use Rattle.cbor_typed.proofs.laws.item_taken.Goals as goal
-
-pub returns : goal.returns
-returns g c = λ refusals f l levels s t bytes r tells fits taken.
-    item_taken refusals f (g.T.Readable.reads (lending f l)) levels s t bytes tells fits r taken

@@ -1,5 +1,0 @@
-use Rattle.cbor_typed.proofs.laws.owned_agree.Goals as goal
-use Rattle.cbor_typed.proofs.Alike as alike
-
-pub returns : goal.returns
-returns g c = alike.owned_agree g.T.Readable.reads g.met.T.DeserializeOwned.same
