@@ -20,7 +20,7 @@ use Rattle.cbor_decode.specs.FirstRefusal.{TellsFirst}
 use Rattle.cbor_decode.specs.Gives.{IsMemoryOrFault, IsMemoryOrFaultBy}
 use Rattle.cbor_decode.proofs.facts.FirstRefusal.{same_error, without_scratch}
 use Rattle.cbor_read.specs.Source.{Lends}
-use Rattle.cbor_scalars.specs.Takes.{lending}
+use Rattle.cbor_decode_as.specs.Takes.{lending}
 use Rattle.cbor_de.specs.Alike.{IsReading, IsOfSource, AreAlike, SourcesAgree}
 use Rattle.cbor_de.specs.Alike.{IsReadAsBoth, OwnedAgree}
 use Rattle.cbor_de.proofs.Values.{spelled_value}

@@ -11,9 +11,9 @@ use Rattle.cbor_io.specs.declared.read_error.ReadErrorCode.{ReadErrorCode}
 use Rattle.cbor_read.specs.Source.{Input, Lends, part_bytes}
 use Rattle.cbor_read.specs.declared.EitherLifetime.{EitherLifetime}
 use Rattle.cbor_decode.specs.Gives.{Limits}
-use Rattle.cbor_scalars.specs.Strings.{IsByteArray, IsByteString, IsLentBytes, LendsBytes}
-use Rattle.cbor_scalars.specs.Takes.{raws, lending, MemoryFor, TakesItem}
-use Rattle.cbor_scalars.proofs.facts.Strings.{made_read, made_none, one_byte_string}
+use Rattle.cbor_decode_as.specs.Strings.{IsByteArray, IsByteString, IsLentBytes, LendsBytes}
+use Rattle.cbor_decode_as.specs.Takes.{raws, lending, MemoryFor, TakesItem}
+use Rattle.cbor_decode_as.proofs.facts.Strings.{made_read, made_none, one_byte_string}
 use Rattle.cbor_de.proofs.Memory.{unread_memory}
 use Rattle.cbor_de.specs.ByteStrings.{IsArrayOf}
 

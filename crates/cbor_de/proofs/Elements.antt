@@ -14,9 +14,9 @@ use Rattle.cbor_decode.specs.Heads.{remaining_of}
 use Rattle.cbor_decode.specs.declared.cursor.Remaining.{Remaining}
 use Rattle.cbor_decode.specs.declared.cursor.Remaining.TheVariants.{Counted, ToBreak}
 use Rattle.cbor_decode.proofs.facts.Steps.{step_map}
-use Rattle.cbor_collections.specs.Accesses.{IsNext, IsEnd}
-use Rattle.cbor_collections.proofs.facts.Refusals.{refuses_map}
-use Rattle.cbor_scalars.specs.Takes.{Refuses}
+use Rattle.cbor_decode_as.specs.Accesses.{IsNext, IsEnd}
+use Rattle.cbor_decode_as.proofs.facts.Readings.{refuses_map}
+use Rattle.cbor_decode_as.specs.Takes.{Refuses}
 
 -- whether another item comes can't be told
 abbrev pub Untold : Remaining → Limits → List ℕ → Type 0

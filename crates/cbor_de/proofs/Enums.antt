@@ -19,18 +19,18 @@ use Rattle.cbor_decode.specs.Heads.{remaining_of}
 use Rattle.cbor_decode.specs.declared.cursor.Remaining.{Remaining}
 use Rattle.cbor_decode.specs.declared.formats.Formats.{Formats}
 use Rattle.cbor_decode.proofs.facts.Steps.{step_then}
-use Rattle.cbor_collections.specs.Accesses.{items_at, IsEnd, IsNextItem, TakesEnd}
-use Rattle.cbor_collections.specs.Arrays.{AsArray}
-use Rattle.cbor_collections.specs.Enums.{Content, alone, one, parts, IsVariant, IsEnum, IsNothing, IsPart, AreParts, reads_names, unit, newtype, tuple, part_then, no_part}
-use Rattle.cbor_scalars.specs.Identifiers.{IsIdentifier}
-use Rattle.cbor_scalars.specs.Takes.{formats_of, raws, IsRead, IsNotRead, Refuses, TakesItem, WhateverTaken}
-use Rattle.cbor_collections.specs.Variants.{content_at, IsVariantHead, RefusesVariant, RefusesParts, IsContent, IsNoContent, IsItemsOf, IsPartsHead}
-use Rattle.cbor_collections.specs.declared.variant.Form.{Form}
-use Rattle.cbor_collections.proofs.facts.Arrays.{NoPart}
-use Rattle.cbor_collections.proofs.facts.Refusals.{refuses_map, refuses_then}
-use Rattle.cbor_collections.proofs.facts.Arrays.{append, append-push, SoFar, is_done, MustFollow}
-use Rattle.cbor_collections.proofs.facts.Enums.{identifier_one, name_one}
-use Rattle.cbor_collections.proofs.facts.Arrays.{NoItems, end_step, loop_begins, part_goes_on, part_lacks, end_lacks}
+use Rattle.cbor_decode_as.specs.Accesses.{items_at, IsEnd, IsNextItem, TakesEnd}
+use Rattle.cbor_decode_as.specs.Arrays.{AsArray}
+use Rattle.cbor_decode_as.specs.Enums.{Content, alone, one, parts, IsVariant, IsEnum, IsNothing, IsPart, AreParts, reads_names, unit, newtype, tuple, part_then, no_part}
+use Rattle.cbor_decode_as.specs.Identifiers.{IsIdentifier}
+use Rattle.cbor_decode_as.specs.Takes.{formats_of, raws, IsRead, IsNotRead, Refuses, TakesItem, WhateverTaken}
+use Rattle.cbor_decode_as.specs.Variants.{content_at, IsVariantHead, RefusesVariant, RefusesParts, IsContent, IsNoContent, IsItemsOf, IsPartsHead}
+use Rattle.cbor_decode_as.specs.declared.variant.Form.{Form}
+use Rattle.cbor_decode_as.proofs.facts.Arrays.{NoPart}
+use Rattle.cbor_decode_as.proofs.facts.Readings.{refuses_map, refuses_then}
+use Rattle.cbor_decode_as.proofs.facts.Arrays.{append, append-push, SoFar, is_done, MustFollow}
+use Rattle.cbor_decode_as.proofs.facts.Enums.{identifier_one, name_one}
+use Rattle.cbor_decode_as.proofs.facts.Arrays.{NoItems, end_step, loop_begins, part_goes_on, part_lacks, end_lacks}
 
 -- ---- one variant
 

@@ -20,7 +20,7 @@ use Rattle.cbor_io.specs.Error.{code_of, offset_of, IsOutOfMemory}
 use Rattle.cbor_read.specs.Source.{Input}
 use Rattle.cbor_decode.specs.Gives.{FailsAs, FailsBy, Fails, FailsOrFaults, IsMemoryOrFault, IsMemoryOrFaultBy, IsScratchOrMemory, IsScratchOrMemoryBy, Tells, limits, values, whole_at}
 use Rattle.cbor_decode.proofs.facts.Steps.{value_in}
-use Rattle.cbor_scalars.specs.Takes.{WhereTotal}
+use Rattle.cbor_decode_as.specs.Takes.{WhereTotal}
 use Rattle.cbor_de.specs.Whole.{IsWholeRead, ReadsAll}
 use Rattle.cbor_de.proofs.Faults.{where_map}
 use Rattle.cbor_decode.proofs.facts.Readings.{along, value_seen}

@@ -22,9 +22,9 @@ use Rattle.cbor_decode.specs.Gives.{Limits, limits, values, Tells, Step, Stopped
 use Rattle.cbor_decode.specs.declared.refusal.Refused.{Refused}
 use Rattle.cbor_decode.specs.Heads.{passed}
 use Rattle.cbor_decode.proofs.facts.Steps.{step_map, stopped_map, passed_on, fault_in, passed_was, passed_stops}
-use Rattle.cbor_scalars.specs.Takes.{raws, ExcusedBy, FaultOrMessage, IsMessageBy, IsRead, IsNotRead, Refuses, TellsItem, WhereTotal, TellsFault, any_item}
+use Rattle.cbor_decode_as.specs.Takes.{raws, ExcusedBy, FaultOrMessage, IsMessageBy, IsRead, IsNotRead, Refuses, TellsItem, WhereTotal, TellsFault, any_item}
 use Rattle.cbor_de.specs.Whole.{IsSomeRead, RefusesAll, RefusesBytes, TellsWhole, front_in, spelt_front_in}
-use Rattle.cbor_scalars.proofs.facts.Refusals.{passes_told, refuses, tells_both, tells_map, total_told}
+use Rattle.cbor_decode_as.proofs.facts.Refusals.{passes_told, refuses, tells_both, tells_map, total_told}
 use Rattle.cbor_decode.proofs.facts.Readings.{along, value_seen}
 
 pub where_map : {P Q : Type 0} (total : Bool) → (P → Q) → WhereTotal total P → WhereTotal total Q

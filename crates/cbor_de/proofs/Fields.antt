@@ -7,10 +7,10 @@ use Rattle.cbor_model.specs.Reader.{item_at}
 use Rattle.cbor_read.specs.Source.{Input}
 use Rattle.cbor_io.specs.declared.error.ErrorCode.{ErrorCode}
 use Rattle.cbor_io.specs.declared.read_error.ReadErrorCode.{ReadErrorCode}
-use Rattle.cbor_scalars.specs.Identifiers.{IsIdentifier}
+use Rattle.cbor_decode_as.specs.Identifiers.{IsIdentifier}
 use Rattle.cbor_de.specs.Structs.{IsAny, IsField, place_in}
-use Rattle.cbor_scalars.specs.Takes.{raws, IsNotRead, Refuses}
-use Rattle.cbor_collections.proofs.facts.Refusals.{refuses_map}
+use Rattle.cbor_decode_as.specs.Takes.{raws, IsNotRead, Refuses}
+use Rattle.cbor_decode_as.proofs.facts.Readings.{refuses_map}
 
 -- what names nothing names no field
 pub no_field : {w : Input} (names : List (List ℕ)) (allowed : ReadErrorCode → Bool) (f : Formats) (levels : ℕ) (s : Input) (k : ErrorCode) (at : ℕ)

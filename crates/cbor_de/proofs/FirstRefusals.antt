@@ -8,7 +8,7 @@ use Rattle.cbor_io.specs.Error.{IsOutOfMemory}
 use Rattle.cbor_decode.specs.Gives.{Fails, FailsOrFaults, IsMemoryOrFault}
 use Rattle.cbor_decode.specs.FirstRefusal.{TellsFirst}
 use Rattle.cbor_decode.proofs.facts.FirstRefusal.{first_or_memory, first_or_fault}
-use Rattle.cbor_scalars.specs.Takes.{WhereTotal}
+use Rattle.cbor_decode_as.specs.Takes.{WhereTotal}
 use Rattle.cbor_de.proofs.Faults.{where_map}
 
 pub first : {A : Type 0} (total : Bool) (room : Option ℕ) (bs : List ℕ) → AreBytes bs → (r : Result A Error)

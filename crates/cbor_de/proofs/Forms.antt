@@ -14,10 +14,10 @@ use Rattle.cbor_decode.specs.Heads.{remaining_of}
 use Rattle.cbor_decode.specs.declared.cursor.Remaining.{Remaining}
 use Rattle.cbor_decode.specs.declared.formats.Formats as declared
 use Rattle.cbor_decode.proofs.facts.Steps.{some_then, took_none}
-use Rattle.cbor_scalars.specs.Takes.{TellsFault, formats_of}
-use Rattle.cbor_collections.specs.Cases.{FormAlone, IsBadKey, IsEnumCode, NoItemHere, Stands, StandsBy, enum_cases, key_cases, unit_cases}
-use Rattle.cbor_collections.specs.declared.variant.Form.{Form}
-use Rattle.cbor_collections.specs.declared.variant.Form.TheVariants as form
+use Rattle.cbor_decode_as.specs.Takes.{TellsFault, formats_of}
+use Rattle.cbor_decode_as.specs.Cases.{FormAlone, IsBadKey, IsEnumCode, NoItemHere, Stands, StandsBy, enum_cases, key_cases, unit_cases}
+use Rattle.cbor_decode_as.specs.declared.variant.Form.{Form}
+use Rattle.cbor_decode_as.specs.declared.variant.Form.TheVariants as form
 use Rattle.cbor_de.specs.Forms.{WrongForms, never, told, both, may_tell, FormOnlyIf, MayTell}
 use Rattle.cbor_de.specs.Forms.{TellsAt, TellsKey, TellsWithin, TellsBeginning, TellsEnum, TellsNameAlone, IsBadWithin, IsNameAlone, item_form, key_form, enum_form, unit_form, part_form}
 

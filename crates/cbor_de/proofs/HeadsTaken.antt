@@ -20,12 +20,12 @@ use Rattle.cbor_decode.specs.declared.cursor.Remaining.{Remaining}
 use Rattle.cbor_decode.specs.declared.cursor.Remaining.TheVariants.{Counted, ToBreak}
 use Rattle.cbor_decode.specs.declared.head.Head.{Head}
 use Rattle.cbor_decode.specs.declared.head.Head.TheVariants as head
-use Rattle.cbor_scalars.specs.Kinds.{head_kind}
-use Rattle.cbor_scalars.specs.Kinds as kind
-use Rattle.cbor_scalars.specs.Opens.{opened_at, opened_inside}
-use Rattle.cbor_scalars.specs.Takes.{ExcusedBy}
-use Rattle.cbor_scalars.proofs.facts.Heads.{opened_here, opened_stops, opened_in_tag}
-use Rattle.cbor_collections.specs.Begins.{TakesBeginning}
+use Rattle.cbor_decode_as.specs.Kinds.{head_kind}
+use Rattle.cbor_decode_as.specs.Kinds as kind
+use Rattle.cbor_decode_as.specs.Opens.{opened_at, opened_inside}
+use Rattle.cbor_decode_as.specs.Takes.{ExcusedBy}
+use Rattle.cbor_decode_as.proofs.facts.Heads.{opened_here, opened_stops, opened_in_tag}
+use Rattle.cbor_decode_as.specs.Begins.{TakesBeginning}
 use Rattle.cbor_de.specs.HeadsTaken.{parts_head, FitsHead, tag_heads, FitTags, BeginsBy, TookHeads, NoHeads}
 
 -- ---- one head that is read

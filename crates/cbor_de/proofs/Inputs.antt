@@ -16,9 +16,9 @@ use Rattle.cbor_io.specs.declared.error.ErrorCode.TheVariants as code
 use Rattle.cbor_io.specs.declared.read_error.ReadErrorCode.{ReadErrorCode}
 use Rattle.cbor_decode.specs.Gives.{Limits, limits, Tells, Step, Reports, Ends, end_at, IsMemoryOrFault, IsMemoryOrFaultBy}
 use Rattle.cbor_decode.specs.AtEnd.{EndTakes, EndRefused}
-use Rattle.cbor_scalars.specs.Takes.{raws, IsRead, IsNotRead, ExcusedBy, MemoryFor, Refuses}
+use Rattle.cbor_decode_as.specs.Takes.{raws, IsRead, IsNotRead, ExcusedBy, MemoryFor, Refuses}
 use Rattle.cbor_de.specs.Whole.{IsWholeRead, ReadsAll}
-use Rattle.cbor_scalars.proofs.facts.Refusals.{excused_or}
+use Rattle.cbor_decode_as.proofs.facts.Refusals.{excused_or}
 
 module _ {A : Type 0} (allowed : ReadErrorCode → Bool) (f : Formats) (reads : Raw → A → Type 0) (levels : ℕ) where
   abbrev Front : Limits → List ℕ → A → List ℕ → Type 0

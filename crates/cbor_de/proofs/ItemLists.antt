@@ -16,16 +16,16 @@ use Rattle.cbor_decode.specs.Heads.{remaining_of}
 use Rattle.cbor_decode.specs.declared.cursor.Remaining.{Remaining}
 use Rattle.cbor_decode.specs.declared.formats.Formats.{Formats}
 use Rattle.cbor_decode.proofs.facts.Steps.{step_map, step_then}
-use Rattle.cbor_collections.specs.Accesses.{items_at, IsArrayHead, IsNextItem, TakesPart, TakesEnd, IsEnd}
-use Rattle.cbor_collections.specs.Arrays.{AreNone, AsArray}
-use Rattle.cbor_collections.specs.Enums.{part_then, no_part}
-use Rattle.cbor_scalars.specs.Takes.{TakesItem, IsRead, formats_of, raws}
+use Rattle.cbor_decode_as.specs.Accesses.{items_at, IsArrayHead, IsNextItem, TakesPart, TakesEnd, IsEnd}
+use Rattle.cbor_decode_as.specs.Arrays.{AreNone, AsArray}
+use Rattle.cbor_decode_as.specs.Enums.{part_then, no_part}
+use Rattle.cbor_decode_as.specs.Takes.{TakesItem, IsRead, formats_of, raws}
 use Rattle.cbor_de.specs.ItemLists.{AreItems, AreNoItems, TakesItems}
-use Rattle.cbor_collections.proofs.facts.Arrays.{comes, item_next, item_refused, NoPart, part_refused}
-use Rattle.cbor_collections.proofs.facts.Arrays.{append, with_front, SoFar, is_done, goes_on, begins, rest_of, no_part_rest}
-use Rattle.cbor_collections.proofs.facts.Arrays.{NoItems, array_read, array_refused, end_lacks, end_step, loop_begins}
-use Rattle.cbor_collections.proofs.facts.Refusals.{refuses_map, refuses_then}
-use Rattle.cbor_collections.proofs.facts.Tuples.{Empty, Then, one_more, none_all, first_follows, empty_rest}
+use Rattle.cbor_decode_as.proofs.facts.Arrays.{comes, item_next, item_refused, NoPart, part_refused}
+use Rattle.cbor_decode_as.proofs.facts.Arrays.{append, with_front, SoFar, is_done, goes_on, begins, rest_of, no_part_rest}
+use Rattle.cbor_decode_as.proofs.facts.Arrays.{NoItems, array_read, array_refused, end_lacks, end_step, loop_begins}
+use Rattle.cbor_decode_as.proofs.facts.Readings.{refuses_map, refuses_then}
+use Rattle.cbor_decode_as.proofs.facts.Tuples.{Empty, Then, one_more, none_all, first_follows, empty_rest}
 
 -- ---- the items of several parts
 

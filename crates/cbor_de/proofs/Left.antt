@@ -6,7 +6,7 @@ use Rattle.cbor_model.specs.Raw.{Raw}
 use Rattle.cbor_io.specs.declared.error.Error.{Error}
 use Rattle.cbor_io.specs.declared.read_error.ReadErrorCode.{ReadErrorCode}
 use Rattle.cbor_read.specs.Source.{Input}
-use Rattle.cbor_scalars.specs.Takes.{TakesItem}
+use Rattle.cbor_decode_as.specs.Takes.{TakesItem}
 
 some_is : (x y : List ℕ) → Some x ≡ Some y → x ≡ y
 some_is x y e = cc

@@ -8,7 +8,7 @@ use Rattle.cbor_io.specs.declared.error.ErrorCode.{ErrorCode}
 use Rattle.cbor_io.specs.declared.error.ErrorCode.TheVariants.{InvalidUtf8}
 use Rattle.cbor_io.specs.declared.read_error.ReadErrorCode.{ReadErrorCode}
 use Rattle.cbor_read.specs.Source.{Input}
-use Rattle.cbor_scalars.specs.Takes.{raws, IsNotRead, MemoryFor, Refuses}
+use Rattle.cbor_decode_as.specs.Takes.{raws, IsNotRead, MemoryFor, Refuses}
 
 -- what is refused by any code isn't read
 pub unread_memory : {A : Type 0} {t : Input} (allowed : ReadErrorCode → Bool) (f : Formats) (reads : Raw → A → Type 0) (levels : ℕ) (s : Input) (asks : Raw → Type 0) (e : Error)

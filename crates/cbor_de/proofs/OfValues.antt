@@ -18,10 +18,10 @@ use Rattle.cbor_value.specs.declared.Value.{Bool as of_bool, Float as of_float}
 use Rattle.cbor_value.specs.View.{view, float_view}
 use Rattle.cbor_decode.specs.Gives.{Limits, values}
 use Rattle.cbor_decode.proofs.facts.Steps.{step_map}
-use Rattle.cbor_scalars.specs.Takes.{raws, IsRead, IsNotRead, Refuses, TakesItem, TellsItem}
+use Rattle.cbor_decode_as.specs.Takes.{raws, IsRead, IsNotRead, Refuses, TakesItem, TellsItem}
 use Rattle.cbor_de.proofs.Faults.{AsValue}
 use Rattle.cbor_decode.proofs.facts.Readings.{along, value_seen}
-use Rattle.cbor_collections.proofs.facts.Refusals.{refuses_memory, refuses_by, refuses_fault}
+use Rattle.cbor_decode_as.proofs.facts.Readings.{refuses_memory, refuses_by, refuses_fault}
 
 -- ---- what a value stands for that holds no other
 

@@ -4,13 +4,13 @@ use Rattle.std.specs.Option.{is_some}
 use Rattle.cbor_model.specs.Raw as raw
 use Rattle.cbor_model.specs.Raw.{Raw, RawPairs, no_raw_pairs, raw_pair}
 use Rattle.cbor_model.specs.Readable.{untagged, IsString}
-use Rattle.cbor_scalars.specs.Identifiers.{IsFirst, IsPlace, IsIdentifier}
+use Rattle.cbor_decode_as.specs.Identifiers.{IsFirst, IsPlace, IsIdentifier}
 use Rattle.cbor_de.specs.Structs.{IsAny, IsField, AreFields, Absent, Once, IsFieldRead, IfAbsent, refused, taken, IsFieldOr, FieldOf, HasFields, AreFieldsOf}
 use Rattle.cbor_de.specs.declared.structure.Field.{Field}
 use Rattle.cbor_de.specs.declared.structure.Field.TheVariants.{Known, Unknown}
 pub use Rattle.cbor_de.specs.Fields.{Slots, none_yet, all_of, AreHeld}
 use Rattle.cbor_de.specs.Fields.{IsHeld, Lacks}
-use Rattle.cbor_collections.proofs.facts.Maps.{append_pairs, PairMayFollow}
+use Rattle.cbor_decode_as.proofs.facts.Maps.{append_pairs, PairMayFollow}
 
 -- ---- a key names one field
 

@@ -20,9 +20,9 @@ use Rattle.cbor_read.specs.Source.{Input}
 use Rattle.cbor_decode.specs.FirstRefusal.{TellsFirst}
 use Rattle.cbor_decode.specs.Gives.{Limits, limits, Tells, Step, Reports, FailsBy, IsMemoryOrFault, values}
 use Rattle.cbor_decode.proofs.facts.FirstRefusal.{item_limits, item_first}
-use Rattle.cbor_scalars.specs.Takes.{raws, IsRead, WhereTotal, TellsFault}
+use Rattle.cbor_decode_as.specs.Takes.{raws, IsRead, WhereTotal, TellsFault}
 use Rattle.cbor_de.proofs.facts.Readings.{along, value_seen}
-use Rattle.cbor_scalars.proofs.facts.Refusals.{excused_or}
+use Rattle.cbor_decode_as.proofs.facts.Refusals.{excused_or}
 use Rattle.cbor_de.proofs.facts.Readings.{where_map}
 use Rattle.cbor_de.specs.Items.{AreMostItems}
 use Rattle.cbor_de.specs.Streams.{Stream, StreamGives, GivesNone, GivesItem, GivesError, begun}

@@ -13,9 +13,9 @@ use Rattle.cbor_io.specs.ReadError.{why, place, error_code}
 use Rattle.cbor_read.specs.Source.{Input, Stays, RefusedByte}
 use Rattle.cbor_decode.specs.Gives.{Limits, limits, Tells, Step, Reports, FailsBy, values}
 use Rattle.cbor_decode.proofs.facts.Steps.{some_then, took_stays, step_then, none_step, byte_refused}
-use Rattle.cbor_scalars.specs.Takes.{raws, IsRead, IsNotRead, ExcusedBy, Refuses, TakesItem, TellsItem, TellsFault}
+use Rattle.cbor_decode_as.specs.Takes.{raws, IsRead, IsNotRead, ExcusedBy, Refuses, TakesItem, TellsItem, TellsFault}
 use Rattle.cbor_de.proofs.Faults.{where_map}
-use Rattle.cbor_scalars.proofs.facts.Refusals.{excused_or}
+use Rattle.cbor_decode_as.proofs.facts.Refusals.{excused_or}
 
 module _ (refusals : ReadErrorCode → Bool) where
   abbrev Device : Type 0

@@ -13,17 +13,17 @@ use Rattle.cbor_decode.proofs.facts.Steps.{onward_some}
 use Rattle.cbor_decode.specs.Heads.{remaining_of}
 use Rattle.cbor_decode.specs.declared.cursor.Remaining.TheVariants.{Counted}
 use Rattle.cbor_decode.specs.declared.formats.Formats.{Formats}
-use Rattle.cbor_collections.specs.Accesses.{turns}
-use Rattle.cbor_scalars.specs.Identifiers.{texts}
-use Rattle.cbor_collections.specs.MapAccesses.{IsKey, IsMapHead, RefusesMap, TakesMapEnd}
+use Rattle.cbor_decode_as.specs.Accesses.{turns}
+use Rattle.cbor_decode_as.specs.Identifiers.{texts}
+use Rattle.cbor_decode_as.specs.MapAccesses.{IsKey, IsMapHead, RefusesMap, TakesMapEnd}
 use Rattle.cbor_de.specs.Structs.{IsAny, IsField, FieldOf, IsStruct}
-use Rattle.cbor_scalars.specs.Takes.{TakesItem, formats_of, raws, IsRead, IsNotRead, Refuses, WhateverTaken}
+use Rattle.cbor_decode_as.specs.Takes.{TakesItem, formats_of, raws, IsRead, IsNotRead, Refuses, WhateverTaken}
 use Rattle.cbor_de.specs.declared.de.Deserializer.{Deserializer}
 use Rattle.cbor_de.specs.declared.structure.Field.{Field}
 use Rattle.cbor_de.specs.declared.structure.Field.TheVariants.{Known, Unknown}
 use Rattle.cbor_de.specs.declared.structure.StructAccess.{StructAccess}
-use Rattle.cbor_collections.proofs.facts.Maps.{NoKey}
-use Rattle.cbor_collections.proofs.facts.Refusals.{refuses_map}
+use Rattle.cbor_decode_as.proofs.facts.Maps.{NoKey}
+use Rattle.cbor_decode_as.proofs.facts.Readings.{refuses_map}
 use Rattle.cbor_de.proofs.Slots.{Slots, none_yet, all_of, Has, LacksAt, ValueAt, reads_at, fill, IsOther}
 use Rattle.cbor_de.proofs.Structs.{StructSoFar, NoStruct, struct_begins, no_struct, no_field_named, FieldNamed, field_named, field_once, field_not_once, other_passed, other_unread, field_missing, end_unread, struct_read}
 

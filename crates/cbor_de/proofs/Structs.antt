@@ -18,14 +18,14 @@ use Rattle.cbor_decode.specs.declared.cursor.Remaining.{Remaining}
 use Rattle.cbor_decode.specs.declared.cursor.Remaining.TheVariants.{Counted}
 use Rattle.cbor_decode.specs.declared.formats.Formats.{Formats}
 use Rattle.cbor_decode.proofs.facts.Steps.{step_then}
-use Rattle.cbor_collections.specs.MapAccesses.{pairs_at, IsMapHead, IsKey, IsNextKey, IsMapEnd, RefusesMap, TakesMapEnd}
+use Rattle.cbor_decode_as.specs.MapAccesses.{pairs_at, IsMapHead, IsKey, IsNextKey, IsMapEnd, RefusesMap, TakesMapEnd}
 use Rattle.cbor_de.specs.Structs.{IsAny, IsField, AreFieldsOf, FieldOf, IsStruct}
-use Rattle.cbor_scalars.specs.Takes.{formats_of, raws, IsRead, IsNotRead, Refuses}
+use Rattle.cbor_decode_as.specs.Takes.{formats_of, raws, IsRead, IsNotRead, Refuses}
 use Rattle.cbor_de.specs.declared.structure.Field.{Field}
 use Rattle.cbor_de.specs.declared.structure.Field.TheVariants.{Known, Unknown}
-use Rattle.cbor_collections.proofs.facts.Maps.{append_pairs, PairsSoFar, PairsDone, pairs_end, pairs_rest, first_pair, last, another, NoKey}
-use Rattle.cbor_collections.proofs.facts.Refusals.{refuses_map, refuses_then, refuses_by}
-use Rattle.cbor_scalars.proofs.facts.Refusals.{refuses_on}
+use Rattle.cbor_decode_as.proofs.facts.Maps.{append_pairs, PairsSoFar, PairsDone, pairs_end, pairs_rest, first_pair, last, another, NoKey}
+use Rattle.cbor_decode_as.proofs.facts.Readings.{refuses_map, refuses_then, refuses_by}
+use Rattle.cbor_decode_as.proofs.facts.Refusals.{refuses_on}
 use Rattle.cbor_de.proofs.Slots.{Slots, none_yet, all_of, AreHeld, all_held, Has, LacksAt, ValueAt, reads_at, put, fill, filled, IsOther, Gathered, gathered_none, gathered_set, gathered_other, gathered_twice, gathered_value, gathered_missing, gathered_all, gathered_follows}
 use Rattle.cbor_de.proofs.WholeMaps.{NoPairs, map_begins, map_goes_on, key_lacks, map_takes, map_refused, map_end_refused, map_end_twice, no_map_read}
 

@@ -11,7 +11,7 @@ use Rattle.cbor_io.specs.Error.{code_of, offset_of}
 use Rattle.cbor_io.specs.declared.error.Error.{Error}
 use Rattle.cbor_io.specs.declared.read_error.ReadErrorCode.{ReadErrorCode}
 use Rattle.cbor_decode.specs.Gives.{limits, Reports, Tells}
-use Rattle.cbor_scalars.specs.Takes.{ExcusedBy, TakesItem}
+use Rattle.cbor_decode_as.specs.Takes.{ExcusedBy, TakesItem}
 use Rattle.cbor_de.specs.ItemTaken.{BeginsAsNone, TookItem}
 
 module _ {A : Type 0} (refusals : ReadErrorCode → Bool) (f : Formats) (reads : Raw → A → Type 0) (levels : ℕ) (s t : Input) (bytes : List ℕ) (tells : Tells s bytes) (fits : AreBytes bytes) where

@@ -19,12 +19,12 @@ use Rattle.cbor_decode.specs.declared.cursor.Remaining.{Remaining}
 use Rattle.cbor_decode.specs.declared.cursor.Remaining.TheVariants.{Counted}
 use Rattle.cbor_decode.proofs.facts.Steps.{step_same, step_then}
 use Rattle.cbor_decode.specs.declared.formats.Formats.{Formats}
-use Rattle.cbor_collections.specs.MapAccesses.{pairs_at, IsMapHead, IsPairs, IsKey, IsNextKey, IsMapEnd, RefusesMap, TakesMapEnd}
-use Rattle.cbor_collections.specs.Maps.{AsMap}
-use Rattle.cbor_scalars.specs.Takes.{formats_of, raws, IsRead, IsNotRead, Refuses}
-use Rattle.cbor_collections.proofs.facts.Maps.{map_read, map_none, none_as_map}
-use Rattle.cbor_collections.proofs.facts.Refusals.{refuses_map, refuses_then, refuses_fault}
-use Rattle.cbor_collections.proofs.facts.Maps.{append_pairs, PairsSoFar, pairs_begin, pairs_go_on, pairs_end, pairs_rest, NoKey, no_key_rest, no_value_rest, PairMayFollow}
+use Rattle.cbor_decode_as.specs.MapAccesses.{pairs_at, IsMapHead, IsPairs, IsKey, IsNextKey, IsMapEnd, RefusesMap, TakesMapEnd}
+use Rattle.cbor_decode_as.specs.Maps.{AsMap}
+use Rattle.cbor_decode_as.specs.Takes.{formats_of, raws, IsRead, IsNotRead, Refuses}
+use Rattle.cbor_decode_as.proofs.facts.Maps.{map_read, map_none, none_as_map}
+use Rattle.cbor_decode_as.proofs.facts.Readings.{refuses_map, refuses_then, refuses_fault}
+use Rattle.cbor_decode_as.proofs.facts.Maps.{append_pairs, PairsSoFar, pairs_begin, pairs_go_on, pairs_end, pairs_rest, NoKey, no_key_rest, no_value_rest, PairMayFollow}
 
 -- ---- the end
 

@@ -13,7 +13,7 @@ use Rattle.cbor_value.specs.declared.Value.{Value}
 use Rattle.cbor_decode.specs.FirstRefusal.{TellsFirst}
 use Rattle.cbor_decode.specs.Gives.{IsMemoryOrFault}
 use Rattle.cbor_read.specs.Source.{Lends}
-use Rattle.cbor_scalars.specs.Takes.{lending}
+use Rattle.cbor_decode_as.specs.Takes.{lending}
 
 -- What an input is read as, with a scratch of this length or none: its value; or the first refusal
 -- that it allows, unless memory ran out or a reader reported a fault.

@@ -9,7 +9,7 @@ use Rattle.cbor_io.specs.Error.{IsOutOfMemory}
 use Rattle.cbor_decode.specs.FirstRefusal.{TellsFirst}
 use Rattle.cbor_decode.specs.Gives.{IsMemoryOrFault, Reports, Tells}
 use Rattle.cbor_read.specs.Source.{Input}
-use Rattle.cbor_scalars.specs.Takes.{TellsItem, WhereTotal}
+use Rattle.cbor_decode_as.specs.Takes.{TellsItem, WhereTotal}
 
 -- what bounds the item at the front, of which so many levels are read
 abbrev pub bounds_of : ℕ → Input → Limits

@@ -12,9 +12,9 @@ use Rattle.cbor_read.specs.Source.{Input, TookSome}
 use Rattle.cbor_decode.specs.Gives.{FailsAs, Limits, Tells, TellsNoForm, limits, values}
 use Rattle.cbor_decode.specs.Heads.{remaining_of}
 use Rattle.cbor_decode.specs.declared.cursor.Remaining.{Remaining}
-use Rattle.cbor_collections.specs.Cases.{BehindTags, IsBadKey, IsBadPair, IsEmptyArray}
-use Rattle.cbor_collections.specs.Cases.{IsInOtherForm, NothingFollows}
-use Rattle.cbor_collections.specs.declared.variant.Form.{Form}
+use Rattle.cbor_decode_as.specs.Cases.{BehindTags, IsBadKey, IsBadPair, IsEmptyArray}
+use Rattle.cbor_decode_as.specs.Cases.{IsInOtherForm, NothingFollows}
+use Rattle.cbor_decode_as.specs.declared.variant.Form.{Form}
 
 -- What a refusal may tell of a wrong form: nothing; or that this holds of the formats that are read, of
 -- the input from a place on that was reached, and of the error.

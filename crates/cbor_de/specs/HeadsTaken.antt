@@ -11,8 +11,8 @@ use Rattle.cbor_decode.specs.Gives.{Reports, Tells}
 use Rattle.cbor_decode.specs.declared.cursor.Remaining.{Remaining}
 use Rattle.cbor_decode.specs.declared.cursor.Remaining.TheVariants.{Counted, ToBreak}
 use Rattle.cbor_decode.specs.declared.head.Head.{Head}
-use Rattle.cbor_scalars.specs.Takes.{ExcusedBy}
-use Rattle.cbor_collections.specs.Begins.{TakesBeginning}
+use Rattle.cbor_decode_as.specs.Takes.{ExcusedBy}
+use Rattle.cbor_decode_as.specs.Begins.{TakesBeginning}
 
 -- the head of so many parts, or the first byte of an indefinite length
 abbrev pub parts_head : ℕ → HeadWidth → Remaining → List ℕ

@@ -10,10 +10,10 @@ use Rattle.cbor_read.specs.Source.{Input}
 use Rattle.cbor_decode.specs.Gives.{Step}
 use Rattle.cbor_decode.specs.Heads.{remaining_of}
 use Rattle.cbor_decode.specs.declared.cursor.Remaining.{Remaining}
-use Rattle.cbor_collections.specs.Accesses.{items_at}
-use Rattle.cbor_collections.specs.Arrays.{AsArray, as_array_same, first_then_same}
-use Rattle.cbor_collections.specs.Enums.{part_then, no_part}
-use Rattle.cbor_scalars.specs.Takes.{Refuses}
+use Rattle.cbor_decode_as.specs.Accesses.{items_at}
+use Rattle.cbor_decode_as.specs.Arrays.{AsArray, as_array_same, first_then_same}
+use Rattle.cbor_decode_as.specs.Enums.{part_then, no_part}
+use Rattle.cbor_decode_as.specs.Takes.{Refuses}
 
 -- The items that are read mean x, and the rest follows them.
 pub record AreItems {A : Type 0} (items : Raws → A → Type 0) (read : Reads Raws) (x : A) (rest : List ℕ) : Type 0 where

@@ -11,7 +11,7 @@ use Rattle.cbor_io.specs.declared.read_error.ReadErrorCode.{ReadErrorCode}
 use Rattle.cbor_io.specs.Error.{code_of, offset_of}
 use Rattle.cbor_read.specs.Source.{Input, Lends}
 use Rattle.cbor_decode.specs.Gives.{Reports, Tells}
-use Rattle.cbor_scalars.specs.Takes.{ExcusedBy, TakesItem, lending}
+use Rattle.cbor_decode_as.specs.Takes.{ExcusedBy, TakesItem, lending}
 
 -- The bytes are the spelling of an item that is read as x, and these others: the item is acceptable
 -- within so many levels, and its keys are of the formats that are read.

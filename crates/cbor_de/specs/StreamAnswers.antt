@@ -11,7 +11,7 @@ use Rattle.cbor_io.specs.declared.read_error.ReadErrorCode.{ReadErrorCode}
 use Rattle.cbor_io.specs.Error.{code_of, offset_of, IsOutOfMemory}
 use Rattle.cbor_decode.specs.FirstRefusal.{TellsFirst}
 use Rattle.cbor_decode.specs.Gives.{Tells, Reports, IsMemoryOrFault}
-use Rattle.cbor_scalars.specs.Takes.{ExcusedBy, WhereTotal}
+use Rattle.cbor_decode_as.specs.Takes.{ExcusedBy, WhereTotal}
 use Rattle.cbor_de.specs.Items.{AreMostItems}
 use Rattle.cbor_de.specs.Streams.{Stream, StreamGives}
 

@@ -9,7 +9,7 @@ use Rattle.cbor_io.specs.declared.read_error.ReadErrorCode.{ReadErrorCode}
 use Rattle.cbor_io.specs.Error.{code_of, offset_of}
 use Rattle.cbor_read.specs.Source.{Input, Stays}
 use Rattle.cbor_decode.specs.Gives.{Onward}
-use Rattle.cbor_scalars.specs.Takes.{formats_of, raws, IsNotRead, Refuses, TakesItem, TellsItem}
+use Rattle.cbor_decode_as.specs.Takes.{formats_of, raws, IsNotRead, Refuses, TakesItem, TellsItem}
 use Rattle.cbor_de.specs.declared.stream.StreamDeserializer.{StreamDeserializer}
 
 -- Where a stream stands: its source, the levels that are left, the formats that are read, and whether

@@ -4,8 +4,8 @@ use Rattle.cbor_model.specs.Head.{no_bytes, one_byte}
 use Rattle.cbor_model.specs.Raw as raw
 use Rattle.cbor_model.specs.Raw.{Raw, RawPairs, no_raw_pairs, raw_pair}
 use Rattle.cbor_model.specs.Readable.{PassesTags}
-use Rattle.cbor_scalars.specs.Identifiers.{IsIdentifier}
-use Rattle.cbor_collections.specs.Maps.{AsMap}
+use Rattle.cbor_decode_as.specs.Identifiers.{IsIdentifier}
+use Rattle.cbor_decode_as.specs.Maps.{AsMap}
 use Rattle.cbor_de.specs.declared.structure.Field.{Field}
 use Rattle.cbor_de.specs.declared.structure.Field.TheVariants.{Known, Unknown}
 

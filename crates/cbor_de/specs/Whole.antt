@@ -12,8 +12,8 @@ use Rattle.cbor_io.specs.declared.read_error.ReadErrorCode.{ReadErrorCode}
 use Rattle.cbor_io.specs.Error.{code_of, offset_of}
 use Rattle.cbor_read.specs.Source.{Input, Asks}
 use Rattle.cbor_decode.specs.Gives.{FailsBy, limits, Tells, Reports, whole_at}
-use Rattle.cbor_scalars.specs.Takes.{raws, IsRead, IsNotRead, ExcusedBy, TellsFault}
-use Rattle.cbor_scalars.specs.Takes.{FaultOrMessage, TellsOf, any_item}
+use Rattle.cbor_decode_as.specs.Takes.{raws, IsRead, IsNotRead, ExcusedBy, TellsFault}
+use Rattle.cbor_decode_as.specs.Takes.{FaultOrMessage, TellsOf, any_item}
 
 -- The one item that a source has to give is read as x, where so many levels are left.
 abbrev pub IsWholeRead : {A : Type 0} → Formats → (Raw → A → Type 0) → ℕ → Input → List ℕ → A

@@ -8,7 +8,7 @@ ghost use Rattle.cbor_model.specs.Acceptable.{max_depth, FitsScratch};
 ghost use Rattle.cbor_model.specs.Formats.{all_formats};
 ghost use Rattle.cbor_model.specs.Raw.{Raw, AreBytes};
 ghost use Rattle.cbor_decode.specs.Gives.{Reports, Tells};
-ghost use Rattle.cbor_scalars.specs.Takes.{lending};
+ghost use Rattle.cbor_decode_as.specs.Takes.{lending};
 ghost use Rattle.cbor_de.specs.Items.{AreMostItems};
 ghost use Rattle.cbor_de.specs.StreamAnswers.{AnswersTo, AreReadAs, IsExcused};
 

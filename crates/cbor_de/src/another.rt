@@ -4,10 +4,10 @@ ghost use Rattle.std.specs.Prelude.{◌≡◌, ◌<◌, IfOk, IfErr};
 ghost use Rattle.cbor_io.specs.Error.{code_of};
 ghost use Rattle.cbor_decode.specs.Cursor.{Counts};
 ghost use Rattle.cbor_decode.specs.Gives.{TellsNoForm};
-ghost use Rattle.cbor_collections.specs.Accesses.{TakesMore};
+ghost use Rattle.cbor_decode_as.specs.Accesses.{TakesMore};
 
 use crate::sequence::SeqAccess;
-use cbor_collections::array::more_items;
+use cbor_decode_as::array::more_items;
 use cbor_io::error::Result;
 use cbor_read::Source;
 

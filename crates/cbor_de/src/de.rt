@@ -8,7 +8,7 @@ ghost use Rattle.cbor_read.specs.Sources.{input_of_slice, input_of_slice_fixed, 
 ghost use Rattle.cbor_read.specs.Sources.{input_of_reader};
 ghost use Rattle.cbor_decode.specs.AtEnd.{EndTakes};
 ghost use Rattle.cbor_decode.specs.Gives.{Ends};
-ghost use Rattle.cbor_scalars.specs.Takes.{formats_of};
+ghost use Rattle.cbor_decode_as.specs.Takes.{formats_of};
 
 use cbor_decode::Decoder;
 use cbor_io::error::Result;

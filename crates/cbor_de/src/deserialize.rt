@@ -3,7 +3,7 @@
 ghost use Rattle.std.specs.Prelude.{◌≡◌, IfErr, OnOk};
 ghost use Rattle.cbor_read.specs.Source.{asks_for};
 ghost use Rattle.cbor_decode.specs.Gives.{Onward};
-ghost use Rattle.cbor_scalars.specs.Takes.{TakesItem, TellsItem, MemoryFor, context, formats_of};
+ghost use Rattle.cbor_decode_as.specs.Takes.{TakesItem, TellsItem, MemoryFor, context, formats_of};
 ghost use Rattle.cbor_de.specs.Forms.{MayTell};
 
 use crate::de::Deserializer;
@@ -236,7 +236,7 @@ pub trait DeserializeOwned: Readable {
     ghost use Rattle.cbor_model.specs.Formats.{Formats};
     ghost use Rattle.cbor_model.specs.Raw.{Raw};
     ghost use Rattle.cbor_read.specs.Source.{Lends};
-    ghost use Rattle.cbor_scalars.specs.Takes.{lending};
+    ghost use Rattle.cbor_decode_as.specs.Takes.{lending};
 
     ghost same: { (f : Formats) (a b : Lends) (r : Raw) (x : Self)
         → Self.reads (lending f a) r x → Self.reads (lending f b) r x };

@@ -15,7 +15,7 @@ ghost use Rattle.cbor_decode.specs.FirstRefusal.{TellsFirst};
 ghost use Rattle.cbor_decode.specs.Gives.{Fails, FailsOrFaults, Gave};
 ghost use Rattle.cbor_decode.specs.Gives.{IsMemoryOrFault, IsScratchOrMemory};
 ghost use Rattle.cbor_read.specs.Source.{asks_for, unread_reader, unread_slice};
-ghost use Rattle.cbor_scalars.specs.Takes.{context, formats_of, lending, MemoryFor, WhereTotal};
+ghost use Rattle.cbor_decode_as.specs.Takes.{context, formats_of, lending, MemoryFor, WhereTotal};
 ghost use Rattle.cbor_de.specs.Forms.{MayTell};
 ghost use Rattle.cbor_de.specs.Whole.{ReadsAll, RefusesBytes, TellsWhole, from_slice_context};
 ghost use Rattle.cbor_de.specs.Whole.{from_mut_slice_context, from_reader_context};

@@ -10,20 +10,20 @@ ghost use Rattle.cbor_read.specs.Source.{RefusedByte, Stays};
 ghost use Rattle.cbor_decode.specs.Gives.{IsErrorOf, Onward, TellsNoForm};
 ghost use Rattle.cbor_decode.specs.declared.head.Head.TheVariants as kind;
 ghost use Rattle.cbor_decode.specs.declared.refusal.Refused.TheVariants.{Kept};
-ghost use Rattle.cbor_scalars.specs.Identifiers.{texts};
-ghost use Rattle.cbor_scalars.specs.Takes.{formats_of};
-ghost use Rattle.cbor_collections.specs.Begins.{TakesBeginning};
-ghost use Rattle.cbor_collections.specs.BeginsEnum.{TakesPartsHead, TakesVariantHead};
+ghost use Rattle.cbor_decode_as.specs.Identifiers.{texts};
+ghost use Rattle.cbor_decode_as.specs.Takes.{formats_of};
+ghost use Rattle.cbor_decode_as.specs.Begins.{TakesBeginning};
+ghost use Rattle.cbor_decode_as.specs.BeginsEnum.{TakesPartsHead, TakesVariantHead};
 ghost use Rattle.cbor_io.specs.declared.error.ErrorCode.TheVariants.{ArrayTooLong};
-ghost use Rattle.cbor_collections.specs.Cases.{FormAlone, IsEnumCode, Stands};
-ghost use Rattle.cbor_collections.specs.Cases.{enum_cases, unit_cases};
-ghost use Rattle.cbor_collections.specs.Enums.{IsNothing};
-ghost use Rattle.cbor_collections.specs.MapAccesses.{TakesMapEnd, TakesMapHead};
-ghost use Rattle.cbor_collections.specs.Variants.{IsEntered, IsInside, TakesContent, TakesParts};
-ghost use Rattle.cbor_collections.specs.Variants.{TakesVariant, TellsAlone, alone_text};
+ghost use Rattle.cbor_decode_as.specs.Cases.{FormAlone, IsEnumCode, Stands};
+ghost use Rattle.cbor_decode_as.specs.Cases.{enum_cases, unit_cases};
+ghost use Rattle.cbor_decode_as.specs.Enums.{IsNothing};
+ghost use Rattle.cbor_decode_as.specs.MapAccesses.{TakesMapEnd, TakesMapHead};
+ghost use Rattle.cbor_decode_as.specs.Variants.{IsEntered, IsInside, TakesContent, TakesParts};
+ghost use Rattle.cbor_decode_as.specs.Variants.{TakesVariant, TellsAlone, alone_text};
 
 use crate::de::Deserializer;
-use cbor_collections::variant::Form;
+use cbor_decode_as::variant::Form;
 use cbor_decode::Remaining;
 use cbor_io::error::{Error, Result};
 use cbor_read::{Read, ReadError, Source};
@@ -89,7 +89,7 @@ pub fn map_head<R: Source>(de: &mut Deserializer<R>) -> Result<Remaining>
     ensures outer { OnErr result (de.new.decoder.levels ≡ de.old.decoder.levels) }
     ensures formats { de.new.decoder.formats ≡ de.old.decoder.formats }
 {
-    cbor_collections::map::map_head(&mut de.decoder)
+    cbor_decode_as::map::map_head(&mut de.decoder)
 }
 
 /// Takes the end of a map of which so much remains. Pairs that weren't read are refused with
@@ -102,7 +102,7 @@ pub fn end_map<R: Source>(de: &mut Deserializer<R>, remaining: Remaining) -> Res
     ensures levels { de.new.decoder.levels ≡ de.old.decoder.levels }
     ensures formats { de.new.decoder.formats ≡ de.old.decoder.formats }
 {
-    cbor_collections::map::end_map(&mut de.decoder, remaining)
+    cbor_decode_as::map::end_map(&mut de.decoder, remaining)
 }
 
 // ---- enums
@@ -134,7 +134,7 @@ pub fn variant_head<'de, R: Read<'de>>(
     ensures outer { OnErr result (de.new.decoder.levels ≡ de.old.decoder.levels) }
     ensures formats { de.new.decoder.formats ≡ de.old.decoder.formats }
 {
-    cbor_collections::variant::variant_head(&mut de.decoder, names)
+    cbor_decode_as::variant::variant_head(&mut de.decoder, names)
 }
 
 /// Takes the content of a variant of several parts up to the first of them.
@@ -156,7 +156,7 @@ pub fn parts<R: Source>(de: &mut Deserializer<R>, form: Form) -> Result<Remainin
         de.new.decoder.levels) }
     ensures formats { de.new.decoder.formats ≡ de.old.decoder.formats }
 {
-    cbor_collections::variant::parts(&mut de.decoder, form)
+    cbor_decode_as::variant::parts(&mut de.decoder, form)
 }
 
 /// Reads the content of a variant of no part: nothing, or null or undefined where the enum is an
@@ -175,5 +175,5 @@ pub fn no_part<R: Source>(de: &mut Deserializer<R>, form: Form) -> Result<()>
     ensures levels { de.new.decoder.levels ≡ de.old.decoder.levels }
     ensures formats { de.new.decoder.formats ≡ de.old.decoder.formats }
 {
-    cbor_collections::variant::no_part(&mut de.decoder, form)
+    cbor_decode_as::variant::no_part(&mut de.decoder, form)
 }

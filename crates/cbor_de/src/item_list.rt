@@ -4,16 +4,16 @@
 ghost use Rattle.std.specs.Prelude.{◌≡◌, IfErr, OnOk};
 ghost use Rattle.cbor_model.specs.Readable.{PassesTags};
 ghost use Rattle.cbor_decode.specs.Gives.{Onward};
-ghost use Rattle.cbor_collections.specs.Accesses.{TakesPart};
-ghost use Rattle.cbor_collections.specs.Arrays.{AsArray};
-ghost use Rattle.cbor_scalars.specs.Takes.{TakesItem, context, formats_of};
+ghost use Rattle.cbor_decode_as.specs.Accesses.{TakesPart};
+ghost use Rattle.cbor_decode_as.specs.Arrays.{AsArray};
+ghost use Rattle.cbor_decode_as.specs.Takes.{TakesItem, context, formats_of};
 ghost use Rattle.cbor_de.specs.Forms.{MayTell};
 ghost use Rattle.cbor_de.specs.ItemLists.{TakesItems};
 
 use crate::de::Deserializer;
 use crate::deserialize::{Deserialize, Readable};
 use crate::sequence::invalid_length;
-use cbor_collections::array::{array_head, end_array, more_items};
+use cbor_decode_as::array::{array_head, end_array, more_items};
 use cbor_decode::Remaining;
 use cbor_io::error::Result;
 use cbor_read::Read;
@@ -114,7 +114,7 @@ pub(crate) trait ReadItems<'de, R: Read<'de>>: ItemList {
 }
 
 impl ItemList for () {
-    ghost use Rattle.cbor_collections.specs.Enums.{no_part};
+    ghost use Rattle.cbor_decode_as.specs.Enums.{no_part};
     ghost use Rattle.cbor_de.specs.Forms.{never};
 
     ghost parts = { λ c. no_part };
@@ -136,7 +136,7 @@ impl<'de, R: Read<'de>> ReadItems<'de, R> for () {
 
 impl<A: Readable, F: ItemList> ItemList for (A, F) {
     ghost use Rattle.cbor_de.specs.Forms.{both};
-    ghost use Rattle.cbor_collections.specs.Enums.{part_then};
+    ghost use Rattle.cbor_decode_as.specs.Enums.{part_then};
 
     ghost parts = { λ c. part_then (A.reads c) (F.parts c) };
 

@@ -8,20 +8,20 @@ ghost use Rattle.cbor_decode.specs.declared.cursor.Remaining.TheVariants.{Counte
 ghost use Rattle.cbor_io.specs.Error.{code_of};
 ghost use Rattle.cbor_decode.specs.Gives.{Onward, Step, TellsNoForm};
 ghost use Rattle.cbor_io.specs.declared.error.Error.{Error};
-ghost use Rattle.cbor_collections.specs.Begins.{Begins, RefusesBeginning};
+ghost use Rattle.cbor_decode_as.specs.Begins.{Begins, RefusesBeginning};
 ghost use Rattle.cbor_decode.specs.declared.head.Head.TheVariants as kind;
-ghost use Rattle.cbor_collections.specs.Accesses.{turns, size_of};
-ghost use Rattle.cbor_collections.specs.Cases.{TellsBadKey};
-ghost use Rattle.cbor_collections.specs.MapAccesses.{IsMapHead, RefusesMap, TakesKey};
-ghost use Rattle.cbor_collections.specs.MapAccesses.{TakesMapEnd};
+ghost use Rattle.cbor_decode_as.specs.Accesses.{turns, size_of};
+ghost use Rattle.cbor_decode_as.specs.Cases.{TellsBadKey};
+ghost use Rattle.cbor_decode_as.specs.MapAccesses.{IsMapHead, RefusesMap, TakesKey};
+ghost use Rattle.cbor_decode_as.specs.MapAccesses.{TakesMapEnd};
 ghost use Rattle.cbor_read.specs.Source.{TookSome};
-ghost use Rattle.cbor_scalars.specs.Takes.{TakesItem, WhateverTaken, context, formats_of, raws};
+ghost use Rattle.cbor_decode_as.specs.Takes.{TakesItem, WhateverTaken, context, formats_of, raws};
 ghost use Rattle.cbor_de.specs.Forms.{MayTell, both, key_form};
 ghost use Rattle.cbor_de.specs.contracts.de.Deserializer.{the_row};
 
 use crate::de::Deserializer;
 use crate::deserialize::Deserialize;
-use cbor_collections::map::{end_map, map_head, more_pairs};
+use cbor_decode_as::map::{end_map, map_head, more_pairs};
 use cbor_decode::Remaining;
 use cbor_io::error::{Error, Result};
 use cbor_read::{Read, Source};

@@ -7,22 +7,22 @@ ghost use Rattle.cbor_model.specs.Readable.{PassesTags, IsBool, IsInteger, IsUni
 ghost use Rattle.cbor_model.specs.Reader.{item_at};
 ghost use Rattle.cbor_io.specs.Error.{code_of};
 ghost use Rattle.cbor_decode.specs.Gives.{Onward, TellsNoForm, TellsNoKey};
-ghost use Rattle.cbor_scalars.specs.Opens.{OpensAt};
-ghost use Rattle.cbor_scalars.specs.Scalars.{IsFloatItem};
-ghost use Rattle.cbor_scalars.specs.Strings.{IsMadeOf, IsNoKey, LendsBytes, LendsString, LendsText};
-ghost use Rattle.cbor_scalars.specs.Takes.{TakesItem, TakesNoMemory, context, formats_of};
+ghost use Rattle.cbor_decode_as.specs.Opens.{OpensAt};
+ghost use Rattle.cbor_decode_as.specs.Scalars.{IsFloatItem};
+ghost use Rattle.cbor_decode_as.specs.Strings.{IsMadeOf, IsNoKey, LendsBytes, LendsString, LendsText};
+ghost use Rattle.cbor_decode_as.specs.Takes.{TakesItem, TakesNoMemory, context, formats_of};
 ghost use Rattle.cbor_read.specs.Source.{asks_for};
-ghost use Rattle.cbor_scalars.specs.Strings.{AsksForBytes, AsksForString, AsksToLend};
-ghost use Rattle.cbor_scalars.specs.Strings.{LendsWhole, UnreadOnly};
-ghost use Rattle.cbor_scalars.specs.Takes.{ReadsWhole, RefusesWhole, raws};
+ghost use Rattle.cbor_decode_as.specs.Strings.{AsksForBytes, AsksForString, AsksToLend};
+ghost use Rattle.cbor_decode_as.specs.Strings.{LendsWhole, UnreadOnly};
+ghost use Rattle.cbor_decode_as.specs.Takes.{ReadsWhole, RefusesWhole, raws};
 ghost use Rattle.cbor_de.specs.contracts.de.Deserializer.{the_row as typed_row};
 
 use crate::de::Deserializer;
 use cbor_decode::{Done, Head};
 use cbor_io::error::{Error, Result};
 use cbor_read::{EitherLifetime, Read, Source};
-use cbor_scalars::lent::{EitherStr, Unread};
-use cbor_scalars::{integer, lent, opening, scalar};
+use cbor_decode_as::lent::{EitherStr, Unread};
+use cbor_decode_as::{integer, lent, opening, scalar};
 use cbor_value::Float;
 
 /// The result of a borrowing read.

@@ -3,7 +3,7 @@
 ghost use Rattle.std.specs.Prelude.{◌≡◌, false};
 ghost use Rattle.cbor_model.specs.Acceptable.{max_depth};
 ghost use Rattle.cbor_model.specs.Formats.{all_formats};
-ghost use Rattle.cbor_scalars.specs.Takes.{formats_of};
+ghost use Rattle.cbor_decode_as.specs.Takes.{formats_of};
 ghost use Rattle.cbor_de.specs.Streams.{begun, standing};
 
 use crate::de::Deserializer;
@@ -97,7 +97,7 @@ impl<'de, R: Offset, T> StreamDeserializer<'de, R, T> {
 impl<'de, R: Read<'de> + Drop, T: Deserialize<'de, R>> Iterator for StreamDeserializer<'de, R, T> {
     type Item = Result<T>;
 
-    ghost use Rattle.cbor_scalars.specs.Takes.{lending};
+    ghost use Rattle.cbor_decode_as.specs.Takes.{lending};
     ghost use Rattle.cbor_de.specs.Streams.{StreamGives, most_left, standing};
 
     ghost next_gives = { λ s r t. StreamGives R.refusals (λ f. T.reads (lending f R.lends)) T.total

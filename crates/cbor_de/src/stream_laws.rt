@@ -1,6 +1,6 @@
 //! The laws, each of which is the contract of a function that does nothing.
 ghost use Rattle.cbor_read.specs.Source.{Lends};
-ghost use Rattle.cbor_scalars.specs.Takes.{lending};
+ghost use Rattle.cbor_decode_as.specs.Takes.{lending};
 ghost use Rattle.cbor_de.specs.StreamAnswers.{StreamAnswers};
 ghost use Rattle.cbor_de.specs.ItemLaws.{OneListOfItems, OneLongestList, AllAreMost};
 ghost use Rattle.cbor_de.specs.ItemLaws.{HasLongestList};

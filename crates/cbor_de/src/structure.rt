@@ -9,16 +9,16 @@ ghost use Rattle.cbor_io.specs.declared.error.Error.{Error};
 ghost use Rattle.cbor_model.specs.Reader.{item_at};
 ghost use Rattle.cbor_decode.specs.declared.cursor.Remaining.TheVariants.{Counted};
 ghost use Rattle.cbor_decode.specs.Gives.{Onward, Step, TellsNoForm};
-ghost use Rattle.cbor_collections.specs.Begins.{Begins, RefusesBeginning};
+ghost use Rattle.cbor_decode_as.specs.Begins.{Begins, RefusesBeginning};
 ghost use Rattle.cbor_decode.specs.declared.head.Head.TheVariants as kind;
-ghost use Rattle.cbor_collections.specs.Accesses.{turns, size_of};
+ghost use Rattle.cbor_decode_as.specs.Accesses.{turns, size_of};
 ghost use Rattle.cbor_io.specs.declared.error.ErrorCode.TheVariants.{WrongStructFormat};
-ghost use Rattle.cbor_collections.specs.Cases.{FormAlone, Stands, TellsBadKey, key_cases};
-ghost use Rattle.cbor_scalars.specs.Identifiers.{IsMadeBy, NamesNoKey, texts};
-ghost use Rattle.cbor_collections.specs.MapAccesses.{IsMapHead, RefusesMap, TakesKey, TakesMapEnd};
+ghost use Rattle.cbor_decode_as.specs.Cases.{FormAlone, Stands, TellsBadKey, key_cases};
+ghost use Rattle.cbor_decode_as.specs.Identifiers.{IsMadeBy, NamesNoKey, texts};
+ghost use Rattle.cbor_decode_as.specs.MapAccesses.{IsMapHead, RefusesMap, TakesKey, TakesMapEnd};
 ghost use Rattle.cbor_de.specs.Structs.{IsAny, IsField, place_in, missing_text, duplicate_text};
-ghost use Rattle.cbor_scalars.specs.Takes.{OnceMade, TakesItem, IsRead, IsNotRead, Refuses};
-ghost use Rattle.cbor_scalars.specs.Takes.{WhateverTaken, context, formats_of, raws};
+ghost use Rattle.cbor_decode_as.specs.Takes.{OnceMade, TakesItem, IsRead, IsNotRead, Refuses};
+ghost use Rattle.cbor_decode_as.specs.Takes.{WhateverTaken, context, formats_of, raws};
 ghost use Rattle.cbor_read.specs.Source.{TookSome};
 ghost use Rattle.cbor_de.specs.Forms.{MayTell, item_form, key_form};
 ghost use Rattle.cbor_de.specs.contracts.de.Deserializer.{the_row};
@@ -26,11 +26,11 @@ ghost use Rattle.cbor_de.specs.contracts.de.Deserializer.{the_row};
 use crate::de::Deserializer;
 use crate::deserialize::Deserialize;
 use crate::types::IgnoredAny;
-use cbor_collections::map::{end_map, map_head, more_pairs};
+use cbor_decode_as::map::{end_map, map_head, more_pairs};
 use cbor_decode::Remaining;
 use cbor_io::error::{Error, Result};
 use cbor_read::{Read, Source};
-use cbor_scalars::identifier::{Named, Why, identifier, unnamed};
+use cbor_decode_as::identifier::{Named, Why, identifier, unnamed};
 use std::alloc::Global;
 
 /// A field that a key names.
@@ -132,7 +132,7 @@ impl<'de, R: Read<'de>> Deserializer<R> {
 
     // Reads the field that the next key names; None where no pair remains.
     #[inline(always)]
-    #[tactic(auto, using(cbor_collections::proofs::facts::Places::unnamed_stands))]
+    #[tactic(auto, using(cbor_decode_as::proofs::facts::Places::unnamed_stands))]
     fn next_field(&mut self, remaining: &mut Remaining, names: &[&str]) -> Named<Option<Field>>
         ensures read { OnceMade (IsMadeBy self.new.decoder.refusal)
             (TakesKey R.refusals (formats_of self.old.decoder.formats) (IsField (texts names.now))

@@ -3,13 +3,13 @@
 ghost use Rattle.std.specs.Prelude.{◌≡◌, ◌+◌, ◌^◌, ◌<◌, IfOk, IfErr, IfSome};
 ghost use Rattle.cbor_io.specs.Error.{code_of};
 ghost use Rattle.cbor_decode.specs.Gives.{TellsNoForm};
-ghost use Rattle.cbor_scalars.specs.Tags.{ReadsTag, LevelsBehind, TagIs};
-ghost use Rattle.cbor_scalars.specs.Takes.{formats_of};
+ghost use Rattle.cbor_decode_as.specs.Tags.{ReadsTag, LevelsBehind, TagIs};
+ghost use Rattle.cbor_decode_as.specs.Takes.{formats_of};
 
 use crate::de::Deserializer;
 use cbor_io::error::Result;
 use cbor_read::Source;
-use cbor_scalars::tags;
+use cbor_decode_as::tags;
 
 impl<R: Source> Deserializer<R> {
     /// Takes a tag's head and goes one level in, to the item that the tag is of; None, which takes

@@ -9,7 +9,7 @@ use cbor_read::Read;
 
 impl<A: Readable> ReadableTuple for (A,) {
     ghost use Rattle.cbor_de.specs.Forms.{both, never};
-    ghost use Rattle.cbor_collections.specs.Enums.{part_then, no_part};
+    ghost use Rattle.cbor_decode_as.specs.Enums.{part_then, no_part};
 
     ghost parts = { λ c all x. part_then (A.reads c) no_part all (x.0, tt) };
 
@@ -31,7 +31,7 @@ impl<'de, R: Read<'de>, A: Deserialize<'de, R>> ReadTuple<'de, R> for (A,) {
 
 impl<A: Readable, B: Readable> ReadableTuple for (A, B) {
     ghost use Rattle.cbor_de.specs.Forms.{both, never};
-    ghost use Rattle.cbor_collections.specs.Enums.{part_then, no_part};
+    ghost use Rattle.cbor_decode_as.specs.Enums.{part_then, no_part};
 
     ghost parts = { λ c all x. part_then (A.reads c)
         (part_then (B.reads c) no_part)
@@ -56,7 +56,7 @@ impl<'de, R: Read<'de>, A: Deserialize<'de, R>, B: Deserialize<'de, R>> ReadTupl
 
 impl<A: Readable, B: Readable, C: Readable> ReadableTuple for (A, B, C) {
     ghost use Rattle.cbor_de.specs.Forms.{both, never};
-    ghost use Rattle.cbor_collections.specs.Enums.{part_then, no_part};
+    ghost use Rattle.cbor_decode_as.specs.Enums.{part_then, no_part};
 
     ghost parts = { λ c all x. part_then (A.reads c)
         (part_then (B.reads c)
@@ -87,7 +87,7 @@ impl<
 
 impl<A: Readable, B: Readable, C: Readable, D: Readable> ReadableTuple for (A, B, C, D) {
     ghost use Rattle.cbor_de.specs.Forms.{both, never};
-    ghost use Rattle.cbor_collections.specs.Enums.{part_then, no_part};
+    ghost use Rattle.cbor_decode_as.specs.Enums.{part_then, no_part};
 
     ghost parts = { λ c all x. part_then (A.reads c)
         (part_then (B.reads c)
@@ -122,7 +122,7 @@ impl<
 impl<A: Readable, B: Readable, C: Readable, D: Readable, E: Readable> ReadableTuple
     for (A, B, C, D, E) {
     ghost use Rattle.cbor_de.specs.Forms.{both, never};
-    ghost use Rattle.cbor_collections.specs.Enums.{part_then, no_part};
+    ghost use Rattle.cbor_decode_as.specs.Enums.{part_then, no_part};
 
     ghost parts = { λ c all x. part_then (A.reads c)
         (part_then (B.reads c)
@@ -159,7 +159,7 @@ impl<
 impl<A: Readable, B: Readable, C: Readable, D: Readable, E: Readable, F: Readable> ReadableTuple
     for (A, B, C, D, E, F) {
     ghost use Rattle.cbor_de.specs.Forms.{both, never};
-    ghost use Rattle.cbor_collections.specs.Enums.{part_then, no_part};
+    ghost use Rattle.cbor_decode_as.specs.Enums.{part_then, no_part};
 
     ghost parts = { λ c all x. part_then (A.reads c)
         (part_then (B.reads c)
@@ -207,7 +207,7 @@ impl<
     G: Readable,
 > ReadableTuple for (A, B, C, D, E, F, G) {
     ghost use Rattle.cbor_de.specs.Forms.{both, never};
-    ghost use Rattle.cbor_collections.specs.Enums.{part_then, no_part};
+    ghost use Rattle.cbor_decode_as.specs.Enums.{part_then, no_part};
 
     ghost parts = { λ c all x. part_then (A.reads c)
         (part_then (B.reads c)
@@ -259,7 +259,7 @@ impl<
     H: Readable,
 > ReadableTuple for (A, B, C, D, E, F, G, H) {
     ghost use Rattle.cbor_de.specs.Forms.{both, never};
-    ghost use Rattle.cbor_collections.specs.Enums.{part_then, no_part};
+    ghost use Rattle.cbor_decode_as.specs.Enums.{part_then, no_part};
 
     ghost parts = { λ c all x. part_then (A.reads c)
         (part_then (B.reads c)

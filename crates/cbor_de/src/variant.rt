@@ -7,28 +7,28 @@ ghost use Rattle.cbor_model.specs.Reader.{item_at};
 ghost use Rattle.cbor_io.specs.Error.{code_of};
 ghost use Rattle.cbor_decode.specs.Gives.{Onward, Step, TellsNoForm};
 ghost use Rattle.cbor_io.specs.declared.error.ErrorCode.TheVariants.{ArrayTooLong};
-ghost use Rattle.cbor_collections.specs.Cases.{FormAlone, IsEnumCode, Stands};
-ghost use Rattle.cbor_collections.specs.Cases.{enum_cases, unit_cases, TellsTooShort};
-ghost use Rattle.cbor_collections.specs.BeginsEnum.{BeginsVariant, RefusesVariantHead};
-ghost use Rattle.cbor_collections.specs.BeginsEnum.{BeginsParts, RefusesPartsHead};
-ghost use Rattle.cbor_collections.specs.Enums.{IsNothing, IsPart};
-ghost use Rattle.cbor_scalars.specs.Identifiers.{texts};
+ghost use Rattle.cbor_decode_as.specs.Cases.{FormAlone, IsEnumCode, Stands};
+ghost use Rattle.cbor_decode_as.specs.Cases.{enum_cases, unit_cases, TellsTooShort};
+ghost use Rattle.cbor_decode_as.specs.BeginsEnum.{BeginsVariant, RefusesVariantHead};
+ghost use Rattle.cbor_decode_as.specs.BeginsEnum.{BeginsParts, RefusesPartsHead};
+ghost use Rattle.cbor_decode_as.specs.Enums.{IsNothing, IsPart};
+ghost use Rattle.cbor_decode_as.specs.Identifiers.{texts};
 ghost use Rattle.cbor_read.specs.Source.{TookSome};
-ghost use Rattle.cbor_scalars.specs.Takes.{WhateverTaken, context, formats_of, raws};
-ghost use Rattle.cbor_collections.specs.Variants.{IsVariantHead, RefusesVariant};
-ghost use Rattle.cbor_collections.specs.Variants.{IsInside};
-ghost use Rattle.cbor_collections.specs.Variants.{IsPartsHead, RefusesParts, TakesContent};
-ghost use Rattle.cbor_collections.specs.Variants.{content_at};
-ghost use Rattle.cbor_collections.specs.Variants.{TellsAlone, alone_text};
-ghost use Rattle.cbor_collections.specs.declared.variant.Form.TheVariants.{Array};
+ghost use Rattle.cbor_decode_as.specs.Takes.{WhateverTaken, context, formats_of, raws};
+ghost use Rattle.cbor_decode_as.specs.Variants.{IsVariantHead, RefusesVariant};
+ghost use Rattle.cbor_decode_as.specs.Variants.{IsInside};
+ghost use Rattle.cbor_decode_as.specs.Variants.{IsPartsHead, RefusesParts, TakesContent};
+ghost use Rattle.cbor_decode_as.specs.Variants.{content_at};
+ghost use Rattle.cbor_decode_as.specs.Variants.{TellsAlone, alone_text};
+ghost use Rattle.cbor_decode_as.specs.declared.variant.Form.TheVariants.{Array};
 ghost use Rattle.cbor_de.specs.Forms.{MayTell, both, part_form};
 ghost use Rattle.cbor_de.specs.contracts.de.Deserializer.{the_row};
 
 use crate::de::Deserializer;
 use crate::deserialize::Deserialize;
 use crate::sequence::SeqAccess;
-use cbor_collections::array::end_array;
-use cbor_collections::variant::{Form, expect_item, no_part, parts, variant_head};
+use cbor_decode_as::array::end_array;
+use cbor_decode_as::variant::{Form, expect_item, no_part, parts, variant_head};
 use cbor_decode::Remaining;
 use cbor_io::error::{Error, ErrorCode, Result};
 use cbor_read::{Read, Source};
@@ -96,7 +96,7 @@ impl<'de, R: Read<'de>> Deserializer<R> {
     }
 
     // Reads the only item of an array that remains.
-    #[tactic(auto, using(cbor_collections::proofs::facts::Places::too_short_first, cbor_collections::proofs::facts::Places::too_short_later, crate::proofs::Forms::plain))]
+    #[tactic(auto, using(cbor_decode_as::proofs::facts::Places::too_short_first, cbor_decode_as::proofs::facts::Places::too_short_later, crate::proofs::Forms::plain))]
     fn only_item<T: Deserialize<'de, R>>(&mut self, mut remaining: Remaining) -> Result<T>
         ensures read { TakesContent R.refusals (formats_of self.old.decoder.formats)
             (IsPart (T.reads (context self.old.decoder.formats R.lends)))

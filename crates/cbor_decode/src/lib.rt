@@ -1,6 +1,6 @@
 //! Decoding: a [`Decoder`] takes heads, strings and whole values from a source.
 //!
-//! What a type's reading takes of it stands above (`cbor_scalars`, `cbor_collections`), and what
+//! What a type's reading takes of it stands above (`cbor_decode_as`, `cbor_decode_as`), and what
 //! reads types above that (`cbor_de`).
 //!
 //! This crate names the definitions of `cbor_model` and its facts on the reference reader, the

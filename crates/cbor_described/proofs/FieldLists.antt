@@ -13,11 +13,11 @@ use Rattle.cbor_decode.specs.declared.formats.Formats.{Formats}
 use Rattle.cbor_decode.specs.declared.cursor.Remaining.{Remaining}
 use Rattle.cbor_de.specs.Fields.{Slots, none_yet, AreHeld}
 use Rattle.cbor_described.specs.FieldLists.{over, IsLacking, slots_over, FieldTaken, FieldRefused, TakesSlot, TakesField}
-use Rattle.cbor_collections.specs.MapAccesses.{IsMapHead}
+use Rattle.cbor_decode_as.specs.MapAccesses.{IsMapHead}
 use Rattle.cbor_de.specs.Structs.{FieldOf, IsAny, IsStruct}
-use Rattle.cbor_scalars.specs.Takes.{TakesItem, formats_of, raws, IsRead, IsNotRead, Refuses}
-use Rattle.cbor_scalars.proofs.facts.Refusals.{refuses_on}
-use Rattle.cbor_collections.proofs.facts.Refusals.{refuses_map}
+use Rattle.cbor_decode_as.specs.Takes.{TakesItem, formats_of, raws, IsRead, IsNotRead, Refuses}
+use Rattle.cbor_decode_as.proofs.facts.Refusals.{refuses_on}
+use Rattle.cbor_decode_as.proofs.facts.Readings.{refuses_map}
 use Rattle.cbor_de.specs.declared.structure.Field.{Field}
 use Rattle.cbor_de.specs.declared.structure.Field.TheVariants.{Known}
 use Rattle.cbor_de.proofs.facts.Structs.{Has, LacksAt, ValueAt, reads_at, put}

@@ -8,8 +8,8 @@ use Rattle.cbor_io.specs.Error.{code_of, offset_of}
 use Rattle.cbor_io.specs.declared.error.Error.{Error}
 use Rattle.cbor_io.specs.declared.read_error.ReadErrorCode.{ReadErrorCode}
 use Rattle.cbor_decode.proofs.facts.Steps.{step_map}
-use Rattle.cbor_scalars.specs.Takes.{TakesItem, raws, IsRead, IsNotRead}
-use Rattle.cbor_collections.proofs.facts.Refusals.{refuses_map}
+use Rattle.cbor_decode_as.specs.Takes.{TakesItem, raws, IsRead, IsNotRead}
+use Rattle.cbor_decode_as.proofs.facts.Readings.{refuses_map}
 
 -- Parts that are read by these names are read as what is made of them, and where none are nothing is.
 module _ {S P : Type 0} (parts : S → P) (reads : List (List ℕ) → Raw → P → Type 0) (allowed : ReadErrorCode → Bool) (f : model.Formats) (levels : ℕ) (s t : Input) {given names : List (List ℕ)} (named : given ≡ names) where

@@ -13,17 +13,17 @@ use Rattle.cbor_decode.specs.Heads.{remaining_of}
 use Rattle.cbor_decode.specs.declared.cursor.Remaining.{Remaining}
 use Rattle.cbor_decode.specs.declared.formats.Formats.{Formats}
 use Rattle.cbor_decode.proofs.facts.Steps.{step_map, step_then}
-use Rattle.cbor_collections.specs.Accesses.{items_at}
-use Rattle.cbor_collections.specs.Enums.{Content, AreParts}
+use Rattle.cbor_decode_as.specs.Accesses.{items_at}
+use Rattle.cbor_decode_as.specs.Enums.{Content, AreParts}
 use Rattle.cbor_described.specs.OneOfs.{either}
 use Rattle.cbor_de.specs.ItemLists.{AreItems, AreNoItems, TakesItems}
-use Rattle.cbor_scalars.specs.Takes.{formats_of, raws, Refuses}
-use Rattle.cbor_collections.specs.Variants.{content_at, IsVariantHead, IsContent, IsNoContent, TakesContent, IsItemsOf, IsPartsHead, RefusesParts}
-use Rattle.cbor_collections.specs.declared.variant.Form.{Form}
+use Rattle.cbor_decode_as.specs.Takes.{formats_of, raws, Refuses}
+use Rattle.cbor_decode_as.specs.Variants.{content_at, IsVariantHead, IsContent, IsNoContent, TakesContent, IsItemsOf, IsPartsHead, RefusesParts}
+use Rattle.cbor_decode_as.specs.declared.variant.Form.{Form}
 use Rattle.cbor_described.specs.declared.variant_list.OneOf.{OneOf}
 use Rattle.cbor_described.specs.declared.variant_list.OneOf.TheVariants.{This, Other}
 use Rattle.cbor_de.proofs.facts.Enums.{TakesEnum, variant_is, content_read, content_unread, has_items, items_read, items_made}
-use Rattle.cbor_collections.proofs.facts.Refusals.{refuses_map, refuses_then}
+use Rattle.cbor_decode_as.proofs.facts.Readings.{refuses_map, refuses_then}
 
 -- ---- contents
 

@@ -1,7 +1,7 @@
 -- Contents of one part, which is read as another type.
 use Rattle.cbor_model.specs.Raw as raw
 use Rattle.cbor_model.specs.Raw.{Raw, no_raws}
-use Rattle.cbor_collections.specs.Enums.{Content, IsPart, alone, one, parts}
+use Rattle.cbor_decode_as.specs.Enums.{Content, IsPart, alone, one, parts}
 
 module _ {A B : Type 0} (reads : Raw → B → Type 0) (of : A → B) where
   pub is_part : (c : Content) (y : A) → IsPart (λ r y. reads r (of y)) c y → IsPart reads c (of y)

@@ -12,7 +12,7 @@ use Rattle.cbor_read.specs.Source.{Input}
 use Rattle.cbor_decode.specs.Gives.{Step}
 use Rattle.cbor_de.specs.Fields.{Slots, Lacks}
 use Rattle.cbor_de.specs.Structs.{FieldOf, field_or, IsAny}
-use Rattle.cbor_scalars.specs.Takes.{raws, IsRead, IsNotRead, Refuses}
+use Rattle.cbor_decode_as.specs.Takes.{raws, IsRead, IsNotRead, Refuses}
 
 -- the fields of a T, as those of what a T is a view of
 abbrev pub over : {S T : Type 0} → (S → T) → List (FieldOf T) → List (FieldOf S)

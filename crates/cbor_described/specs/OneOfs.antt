@@ -1,6 +1,6 @@
 -- Enums that are read by their variants.
 use Rattle.std.specs.Prelude.{ℕ, zero, suc}
-use Rattle.cbor_collections.specs.Enums.{Content}
+use Rattle.cbor_decode_as.specs.Enums.{Content}
 use Rattle.cbor_described.specs.declared.variant_list.OneOf.{OneOf}
 use Rattle.cbor_described.specs.declared.variant_list.OneOf.TheVariants.{This, Other}
 use Rattle.cbor_described.specs.declared.variant_list.Never.{Never}

@@ -5,11 +5,11 @@ ghost use Rattle.cbor_model.specs.Raw.{Raw};
 ghost use Rattle.cbor_model.specs.Readable.{Context};
 ghost use Rattle.cbor_described.specs.FieldLists.{IsLacking, TakesField, TakesSlot};
 ghost use Rattle.cbor_de.specs.Fields.{AreHeld, IsHeld, Lacks, none_yet};
-ghost use Rattle.cbor_scalars.specs.Identifiers.{texts};
+ghost use Rattle.cbor_decode_as.specs.Identifiers.{texts};
 ghost use Rattle.cbor_de.specs.Structs.{IsAny, IsStruct};
 ghost use Rattle.cbor_io.specs.Error.{code_of};
 ghost use Rattle.cbor_decode.specs.Gives.{Onward, TellsNoForm};
-ghost use Rattle.cbor_scalars.specs.Takes.{TakesItem, context, formats_of};
+ghost use Rattle.cbor_decode_as.specs.Takes.{TakesItem, context, formats_of};
 ghost use Rattle.cbor_de.specs.Forms.{MayTell, both, item_form, struct_form};
 
 use cbor_io::error::Result;

@@ -12,7 +12,7 @@ use cbor_de::{Deserializer, Read};
 
 impl<A: Variant> ReadableParts for OneOf1<A> {
     ghost use Rattle.cbor_model.specs.Readable.{PassesTags};
-    ghost use Rattle.cbor_collections.specs.Enums.{IsEnum};
+    ghost use Rattle.cbor_decode_as.specs.Enums.{IsEnum};
     ghost use Rattle.cbor_de.specs.Forms.{both, enum_form, never};
     ghost use Rattle.cbor_described.specs.OneOfs.{either, no_variant, list1};
 
@@ -42,7 +42,7 @@ fn one_of1<A: Drop>(list: OneOf<A, Never>) -> OneOf1<A>
 
 impl<A: Variant, B: Variant> ReadableParts for OneOf2<A, B> {
     ghost use Rattle.cbor_model.specs.Readable.{PassesTags};
-    ghost use Rattle.cbor_collections.specs.Enums.{IsEnum};
+    ghost use Rattle.cbor_decode_as.specs.Enums.{IsEnum};
     ghost use Rattle.cbor_de.specs.Forms.{both, enum_form, never};
     ghost use Rattle.cbor_described.specs.OneOfs.{either, no_variant, list2};
 
@@ -74,7 +74,7 @@ fn one_of2<A: Drop, B: Drop>(list: OneOf<A, OneOf<B, Never>>) -> OneOf2<A, B>
 
 impl<A: Variant, B: Variant, C: Variant> ReadableParts for OneOf3<A, B, C> {
     ghost use Rattle.cbor_model.specs.Readable.{PassesTags};
-    ghost use Rattle.cbor_collections.specs.Enums.{IsEnum};
+    ghost use Rattle.cbor_decode_as.specs.Enums.{IsEnum};
     ghost use Rattle.cbor_de.specs.Forms.{both, enum_form, never};
     ghost use Rattle.cbor_described.specs.OneOfs.{either, no_variant, list3};
 
@@ -116,7 +116,7 @@ fn one_of3<A: Drop, B: Drop, C: Drop>(list: OneOf<A, OneOf<B, OneOf<C, Never>>>)
 
 impl<A: Variant, B: Variant, C: Variant, D: Variant> ReadableParts for OneOf4<A, B, C, D> {
     ghost use Rattle.cbor_model.specs.Readable.{PassesTags};
-    ghost use Rattle.cbor_collections.specs.Enums.{IsEnum};
+    ghost use Rattle.cbor_decode_as.specs.Enums.{IsEnum};
     ghost use Rattle.cbor_de.specs.Forms.{both, enum_form, never};
     ghost use Rattle.cbor_described.specs.OneOfs.{either, no_variant, list4};
 
@@ -164,7 +164,7 @@ fn one_of4<A: Drop, B: Drop, C: Drop, D: Drop>(
 impl<A: Variant, B: Variant, C: Variant, D: Variant, E: Variant> ReadableParts
     for OneOf5<A, B, C, D, E> {
     ghost use Rattle.cbor_model.specs.Readable.{PassesTags};
-    ghost use Rattle.cbor_collections.specs.Enums.{IsEnum};
+    ghost use Rattle.cbor_decode_as.specs.Enums.{IsEnum};
     ghost use Rattle.cbor_de.specs.Forms.{both, enum_form, never};
     ghost use Rattle.cbor_described.specs.OneOfs.{either, no_variant, list5};
 
@@ -217,7 +217,7 @@ fn one_of5<A: Drop, B: Drop, C: Drop, D: Drop, E: Drop>(
 impl<A: Variant, B: Variant, C: Variant, D: Variant, E: Variant, F: Variant> ReadableParts
     for OneOf6<A, B, C, D, E, F> {
     ghost use Rattle.cbor_model.specs.Readable.{PassesTags};
-    ghost use Rattle.cbor_collections.specs.Enums.{IsEnum};
+    ghost use Rattle.cbor_decode_as.specs.Enums.{IsEnum};
     ghost use Rattle.cbor_de.specs.Forms.{both, enum_form, never};
     ghost use Rattle.cbor_described.specs.OneOfs.{either, no_variant, list6};
 
@@ -281,7 +281,7 @@ impl<
     G: Variant,
 > ReadableParts for OneOf7<A, B, C, D, E, F, G> {
     ghost use Rattle.cbor_model.specs.Readable.{PassesTags};
-    ghost use Rattle.cbor_collections.specs.Enums.{IsEnum};
+    ghost use Rattle.cbor_decode_as.specs.Enums.{IsEnum};
     ghost use Rattle.cbor_de.specs.Forms.{both, enum_form, never};
     ghost use Rattle.cbor_described.specs.OneOfs.{either, no_variant, list7};
 
@@ -354,7 +354,7 @@ impl<
     H: Variant,
 > ReadableParts for OneOf8<A, B, C, D, E, F, G, H> {
     ghost use Rattle.cbor_model.specs.Readable.{PassesTags};
-    ghost use Rattle.cbor_collections.specs.Enums.{IsEnum};
+    ghost use Rattle.cbor_decode_as.specs.Enums.{IsEnum};
     ghost use Rattle.cbor_de.specs.Forms.{both, enum_form, never};
     ghost use Rattle.cbor_described.specs.OneOfs.{either, no_variant, list8};
 

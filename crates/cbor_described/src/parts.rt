@@ -2,8 +2,8 @@
 
 ghost use Rattle.std.specs.Prelude.{◌≡◌, IfErr, OnOk, length};
 ghost use Rattle.cbor_decode.specs.Gives.{Onward};
-ghost use Rattle.cbor_scalars.specs.Identifiers.{texts};
-ghost use Rattle.cbor_scalars.specs.Takes.{TakesItem, context, formats_of};
+ghost use Rattle.cbor_decode_as.specs.Identifiers.{texts};
+ghost use Rattle.cbor_decode_as.specs.Takes.{TakesItem, context, formats_of};
 ghost use Rattle.cbor_de.specs.Forms.{MayTell};
 
 use cbor_io::error::Result;

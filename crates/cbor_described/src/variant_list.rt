@@ -2,10 +2,10 @@
 
 ghost use Rattle.std.specs.Prelude.{◌≡◌, IfErr, OnOk};
 ghost use Rattle.cbor_decode.specs.Gives.{Onward};
-ghost use Rattle.cbor_collections.specs.Enums.{IsEnum};
-ghost use Rattle.cbor_scalars.specs.Identifiers.{texts};
-ghost use Rattle.cbor_scalars.specs.Takes.{TakesItem, context, formats_of};
-ghost use Rattle.cbor_collections.specs.Variants.{TakesContent};
+ghost use Rattle.cbor_decode_as.specs.Enums.{IsEnum};
+ghost use Rattle.cbor_decode_as.specs.Identifiers.{texts};
+ghost use Rattle.cbor_decode_as.specs.Takes.{TakesItem, context, formats_of};
+ghost use Rattle.cbor_decode_as.specs.Variants.{TakesContent};
 ghost use Rattle.cbor_model.specs.Readable.{PassesTags};
 ghost use Rattle.cbor_de.specs.Forms.{MayTell, both, enum_form};
 
@@ -22,7 +22,7 @@ use cbor_de::{
 /// A variant: `()` of no part, [`Newtype`], [`Tuple`] or [`Struct`].
 pub trait Variant: Sized + Drop {
     ghost use Rattle.cbor_model.specs.Readable.{Context};
-    ghost use Rattle.cbor_collections.specs.Enums.{Content};
+    ghost use Rattle.cbor_decode_as.specs.Enums.{Content};
     ghost use Rattle.cbor_de.specs.Forms.{WrongForms};
 
     // What a variant's content means.
@@ -45,7 +45,7 @@ pub trait ReadVariant<'de, R: Read<'de>>: Variant {
 }
 
 impl Variant for () {
-    ghost use Rattle.cbor_collections.specs.Enums.{IsNothing};
+    ghost use Rattle.cbor_decode_as.specs.Enums.{IsNothing};
     ghost use Rattle.cbor_de.specs.Forms.{unit_form};
 
     ghost means = { λ c content u. IsNothing content u };
@@ -60,7 +60,7 @@ impl<'de, R: Read<'de>> ReadVariant<'de, R> for () {
 }
 
 impl<T: Readable> Variant for Newtype<T> {
-    ghost use Rattle.cbor_collections.specs.Enums.{IsPart};
+    ghost use Rattle.cbor_decode_as.specs.Enums.{IsPart};
     ghost use Rattle.cbor_de.specs.Forms.{both, part_form};
 
     ghost means = { λ c content y. IsPart (T.reads c) content y.0 };
@@ -82,7 +82,7 @@ impl<'de, R: Read<'de>, T: Deserialize<'de, R>> ReadVariant<'de, R> for Newtype<
 }
 
 impl<F: ReadableTuple> Variant for Tuple<F> {
-    ghost use Rattle.cbor_collections.specs.Enums.{AreParts};
+    ghost use Rattle.cbor_decode_as.specs.Enums.{AreParts};
 
     ghost means = { λ c content y. AreParts (F.parts c) content y.0 };
 
@@ -129,7 +129,7 @@ impl<N: FieldNames> Variant for Struct<N>
 where
     N::Parts: ReadableParts,
 {
-    ghost use Rattle.cbor_collections.specs.Enums.{IsPart};
+    ghost use Rattle.cbor_decode_as.specs.Enums.{IsPart};
     ghost use Rattle.cbor_de.specs.Forms.{both, part_form};
 
     ghost means = { λ c content y. IsPart (N.Parts.reads N.names c) content y.0 };
@@ -171,7 +171,7 @@ pub enum Never {}
 pub(crate) trait VariantList: Sized + Drop {
     ghost use Rattle.std.specs.Prelude.{ℕ};
     ghost use Rattle.cbor_model.specs.Readable.{Context};
-    ghost use Rattle.cbor_collections.specs.Enums.{Content};
+    ghost use Rattle.cbor_decode_as.specs.Enums.{Content};
     ghost use Rattle.cbor_de.specs.Forms.{WrongForms};
 
     // What the content of the variant in this place means.

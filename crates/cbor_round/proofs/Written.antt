@@ -10,7 +10,7 @@ use Rattle.cbor_model.specs.Spelling.{spell}
 use Rattle.cbor_model.proofs.facts.Laws.{document_is_acceptable, one_spelling}
 use Rattle.cbor_model.proofs.facts.Reader.{all_allowed}
 use Rattle.cbor_read.specs.Source.{Lends}
-use Rattle.cbor_scalars.specs.Takes.{lending}
+use Rattle.cbor_decode_as.specs.Takes.{lending}
 use Rattle.cbor_round.specs.ReadBack.{IsReadBack, IsWrittenReadBack}
 
 module _ {A : Type 0} (document : A → Doc) (reads : Context → Raw → A → Type 0) (fits : A → Type 0) (law : IsReadBack document reads fits) where

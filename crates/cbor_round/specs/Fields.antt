@@ -6,7 +6,7 @@ use Rattle.cbor_model.specs.Formats.{all_formats}
 use Rattle.cbor_model.specs.Raw.{Raw, RawPairs, raw_pair, no_raw_pairs}
 use Rattle.cbor_model.specs.Readable.{Context}
 use Rattle.cbor_read.specs.Source.{Lends}
-use Rattle.cbor_scalars.specs.Takes.{lending}
+use Rattle.cbor_decode_as.specs.Takes.{lending}
 use Rattle.cbor_ser.specs.PartLists.{name_in, document_if, field_if}
 use Rattle.cbor_de.specs.FieldTypes.{IsGiven}
 use Rattle.cbor_de.specs.Structs.{FieldOf, field_or, IfAbsent, refused, taken, AreFields, Absent, Once, IsFieldOr, HasFields, IsStruct}

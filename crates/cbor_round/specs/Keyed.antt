@@ -15,8 +15,8 @@ use Rattle.cbor_model.specs.Formats.{all_formats}
 use Rattle.cbor_model.specs.Raw.{Raw}
 use Rattle.cbor_model.specs.Readable.{Context, PassesTags}
 use Rattle.cbor_read.specs.Source.{Lends}
-use Rattle.cbor_scalars.specs.Takes.{lending}
-use Rattle.cbor_collections.specs.Maps.{AsMap, ArePairsRead, AreEntries, put_all}
+use Rattle.cbor_decode_as.specs.Takes.{lending}
+use Rattle.cbor_decode_as.specs.Maps.{AsMap, ArePairsRead, AreEntries, put_all}
 use Rattle.cbor_round.specs.ReadBack.{IsReadBack}
 
 -- the order of two values is told by their documents

@@ -6,7 +6,7 @@ use Rattle.std.specs.Cmp.Lexicographic.{pointwise}
 use Rattle.std.proofs.lemmas.Cmp.{nat_list_eq_equiv}
 use Rattle.cbor_model.specs.Document.{identifier}
 use Rattle.cbor_model.specs.Readable.{untagged}
-use Rattle.cbor_scalars.specs.Identifiers.{IsFirst, IsIdentifier}
+use Rattle.cbor_decode_as.specs.Identifiers.{IsFirst, IsIdentifier}
 use Rattle.cbor_ser.specs.PartLists.{name_in}
 
 -- whether this is one of the names

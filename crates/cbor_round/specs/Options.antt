@@ -6,7 +6,7 @@ use Rattle.cbor_model.specs.Raw as raw
 use Rattle.cbor_model.specs.Raw.{Raw, null_item}
 use Rattle.cbor_model.specs.Readable.{Context, IsOptional}
 use Rattle.cbor_read.specs.Source.{Lends}
-use Rattle.cbor_scalars.specs.Takes.{lending}
+use Rattle.cbor_decode_as.specs.Takes.{lending}
 use Rattle.cbor_ser.specs.Documents.{option_document}
 use Rattle.cbor_round.specs.ReadBack.{IsReadBack}
 

@@ -8,7 +8,7 @@ use Rattle.cbor_model.specs.Formats.{all_formats}
 use Rattle.cbor_model.specs.Raw.{Raw, depth}
 use Rattle.cbor_model.specs.Readable.{Context, SpellsAs}
 use Rattle.cbor_read.specs.Source.{Lends}
-use Rattle.cbor_scalars.specs.Takes.{lending}
+use Rattle.cbor_decode_as.specs.Takes.{lending}
 
 -- The item of a value's document is read as that value, and as no value of another document: under
 -- each of the writer's settings, in all formats, whatever the source lends.

@@ -14,8 +14,8 @@ use Rattle.cbor_model.specs.Readable.{PassesTags, IsBool, IsUnit, IsInteger, IsF
 use Rattle.cbor_value.specs.View.{float_view}
 use Rattle.cbor_value.specs.declared.Float.{Float}
 use Rattle.cbor_value.specs.declared.Float.TheVariants.{Half, Single, Double}
-use Rattle.cbor_scalars.specs.Scalars.{IsFloatItem, IsFloatOf, IsSingleOf}
-use Rattle.cbor_scalars.specs.Strings.{IsByteString, IsByteArray, IsCharacter}
+use Rattle.cbor_decode_as.specs.Scalars.{IsFloatItem, IsFloatOf, IsSingleOf}
+use Rattle.cbor_decode_as.specs.Strings.{IsByteString, IsByteArray, IsCharacter}
 use Rattle.cbor_round.specs.ReadBack.{IsReadBack}
 
 -- ---- simple values

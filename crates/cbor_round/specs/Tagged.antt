@@ -6,7 +6,7 @@ use Rattle.cbor_model.specs.Formats.{all_formats}
 use Rattle.cbor_model.specs.Raw.{Raw}
 use Rattle.cbor_model.specs.Readable.{Context}
 use Rattle.cbor_read.specs.Source.{Lends}
-use Rattle.cbor_scalars.specs.Takes.{lending}
+use Rattle.cbor_decode_as.specs.Takes.{lending}
 use Rattle.cbor_tags.specs.Tagged.{tagged_document, IsTagged}
 use Rattle.cbor_round.specs.ReadBack.{IsReadBack}
 

@@ -5,7 +5,7 @@ use Rattle.std.specs.Cmp.{IsTotalOrder}
 use Rattle.cbor_model.specs.Document.{Doc, Docs, Fields, structure}
 use Rattle.cbor_model.specs.Raw.{Raw, Raws}
 use Rattle.cbor_model.specs.Readable.{Context}
-use Rattle.cbor_collections.specs.Enums.{Content}
+use Rattle.cbor_decode_as.specs.Enums.{Content}
 use Rattle.cbor_de.specs.Structs.{IfAbsent}
 use Rattle.cbor_round.specs.Fields.{IsFieldReadBack}
 use Rattle.cbor_round.specs.ReadBack.{IsReadBack, asking_more, by_part}

@@ -6,8 +6,8 @@ use Rattle.cbor_model.specs.Raw as raw
 use Rattle.cbor_model.specs.Raw.{Raw, Raws, raw_pair, no_raw_pairs, no_raws}
 use Rattle.cbor_model.specs.Readable.{Context, PassesTags, untagged}
 use Rattle.cbor_read.specs.Source.{Lends}
-use Rattle.cbor_scalars.specs.Takes.{lending}
-use Rattle.cbor_collections.specs.Enums.{Content, alone, one, parts, IsVariant, IsEnum, IsNothing, IsPart, AreParts}
+use Rattle.cbor_decode_as.specs.Takes.{lending}
+use Rattle.cbor_decode_as.specs.Enums.{Content, alone, one, parts, IsVariant, IsEnum, IsNothing, IsPart, AreParts}
 use Rattle.cbor_ser.specs.PartLists.{name_in}
 use Rattle.cbor_described.specs.OneOfs.{either, no_variant}
 use Rattle.cbor_described.specs.declared.variant_list.OneOf.{OneOf}

@@ -19,7 +19,7 @@ use Rattle.cbor_io.specs.declared.error.Error.{Error}
 use Rattle.cbor_io.specs.declared.error.ErrorCode.TheVariants.{NotCanonical}
 use Rattle.cbor_io.specs.Error.{code_of, offset_of, IsOutOfMemory}
 use Rattle.cbor_decode.specs.FirstRefusal.{TellsFirst}
-use Rattle.cbor_scalars.specs.Takes.{WhereTotal}
+use Rattle.cbor_decode_as.specs.Takes.{WhereTotal}
 use Rattle.cbor_strict.specs.Departure.{ShowsDeparture}
 use Rattle.cbor_strict.specs.Walk.{passed, departed, walk_of}
 use Rattle.cbor_strict.specs.Strict.{SpellsCanonically, SpellsCanonicallyAs, IsFirstShown}

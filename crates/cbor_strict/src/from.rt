@@ -8,7 +8,7 @@ ghost use Rattle.cbor_model.specs.Readable.{SpellsAs};
 ghost use Rattle.cbor_value.specs.View.{view};
 ghost use Rattle.cbor_io.specs.Error.{code_of, offset_of, IsOutOfMemory};
 ghost use Rattle.cbor_io.specs.declared.error.ErrorCode.TheVariants.{NotCanonical};
-ghost use Rattle.cbor_scalars.specs.Takes.{WhereTotal};
+ghost use Rattle.cbor_decode_as.specs.Takes.{WhereTotal};
 ghost use Rattle.cbor_de.specs.Whole.{from_slice_context};
 ghost use Rattle.cbor_strict.specs.Strict.{SpellsCanonically, SpellsCanonicallyAs};
 ghost use Rattle.cbor_strict.specs.StrictAnswers.{PassesNoDeparture, TellsFirstStrictly};

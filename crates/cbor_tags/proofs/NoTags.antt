@@ -15,12 +15,12 @@ use Rattle.cbor_decode.specs.Heads.{head_at, head_of, number_head, length_head, 
 use Rattle.cbor_decode.specs.declared.head.Head.{Head}
 use Rattle.cbor_decode.specs.declared.head.Head.TheVariants as head
 use Rattle.cbor_decode.specs.declared.cursor.Remaining.TheVariants.{Counted, ToBreak}
-use Rattle.cbor_scalars.specs.Kinds.{kind_of, head_kind}
-use Rattle.cbor_scalars.specs.Kinds as kind
-use Rattle.cbor_scalars.specs.Tags.{begins_tag, tag_head_at, tag_behind, entered_at}
+use Rattle.cbor_decode_as.specs.Kinds.{kind_of, head_kind}
+use Rattle.cbor_decode_as.specs.Kinds as kind
+use Rattle.cbor_decode_as.specs.Tags.{begins_tag, tag_head_at, tag_behind, entered_at}
 use Rattle.cbor_tags.specs.Tagged.{BeginsNoTag}
-use Rattle.cbor_scalars.specs.Takes.{raws}
-use Rattle.cbor_scalars.proofs.facts.Items.{kinds, item_opened}
+use Rattle.cbor_decode_as.specs.Takes.{raws}
+use Rattle.cbor_decode_as.proofs.facts.Items.{kinds, item_opened}
 
 abbrev NoTagAt : Reads (HeadWidth × Head) → Type 0
 NoTagAt read = (w : HeadWidth) (h : Head) (rest : List ℕ) → read ≡ Ok ((w, h), rest) → head_kind h ≡ kind.tag → ⊥

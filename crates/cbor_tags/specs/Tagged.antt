@@ -5,7 +5,7 @@ use Rattle.cbor_model.specs.Raw as raw
 use Rattle.cbor_model.specs.Raw.{Raw}
 use Rattle.cbor_read.specs.Source.{Input}
 use Rattle.cbor_decode.specs.Gives.{Step}
-use Rattle.cbor_scalars.specs.Tags.{begins_tag}
+use Rattle.cbor_decode_as.specs.Tags.{begins_tag}
 
 -- a document within this tag, or as it is
 abbrev pub tagged_document : Option ℕ → Doc → Doc

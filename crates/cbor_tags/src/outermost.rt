@@ -4,8 +4,8 @@ ghost use Rattle.std.specs.Prelude.{◌≡◌, IfOk, IfErr, IfSome, IfNone};
 ghost use Rattle.cbor_read.specs.Source.{TookSome};
 ghost use Rattle.cbor_io.specs.Error.{code_of};
 ghost use Rattle.cbor_decode.specs.Gives.{TellsNoForm};
-ghost use Rattle.cbor_scalars.specs.Takes.{formats_of, TellsFault};
-ghost use Rattle.cbor_scalars.specs.Tags.{tag_head_at, LevelsBehind, TagIs};
+ghost use Rattle.cbor_decode_as.specs.Takes.{formats_of, TellsFault};
+ghost use Rattle.cbor_decode_as.specs.Tags.{tag_head_at, LevelsBehind, TagIs};
 ghost use Rattle.cbor_tags.specs.Tagged.{StandsNoTag};
 
 use cbor_io::error::Result;

@@ -4,7 +4,7 @@ ghost use Rattle.std.specs.Prelude.{IfErr};
 ghost use Rattle.cbor_io.specs.Error.{code_of};
 ghost use Rattle.cbor_read.specs.Source.{part_bytes};
 ghost use Rattle.cbor_decode.specs.Gives.{TellsNoForm};
-ghost use Rattle.cbor_scalars.specs.Takes.{IsMessage};
+ghost use Rattle.cbor_decode_as.specs.Takes.{IsMessage};
 ghost use Rattle.cbor_de.specs.ByteStrings.{IsArrayOf};
 
 use crate::de::Deserializer;
@@ -13,14 +13,14 @@ use crate::sequence::invalid_length;
 use cbor_bytes::{ByteArray, ByteBuf, Bytes};
 use cbor_io::error::{Error, Result};
 use cbor_read::{EitherLifetime, Read};
-use cbor_scalars::byte_strings::{NO_BYTES, read_byte_string};
+use cbor_decode_as::byte_strings::{NO_BYTES, read_byte_string};
 use std::alloc::Global;
 
 /// A byte string. A text isn't one.
 impl Readable for ByteBuf {
     ghost use Rattle.std.specs.Prelude.{true};
     ghost use Rattle.cbor_model.specs.Readable.{PassesTags};
-    ghost use Rattle.cbor_scalars.specs.Strings.{IsByteString};
+    ghost use Rattle.cbor_decode_as.specs.Strings.{IsByteString};
     ghost use Rattle.cbor_de.specs.Forms.{never};
 
     ghost reads = { λ c. PassesTags (λ r b. IsByteString r b.0.items) };
@@ -48,7 +48,7 @@ impl DeserializeOwned for ByteBuf {
 impl<const N: usize> Readable for ByteArray<N> {
     ghost use Rattle.std.specs.Prelude.{true};
     ghost use Rattle.cbor_model.specs.Readable.{PassesTags};
-    ghost use Rattle.cbor_scalars.specs.Strings.{AsksForString, IsByteArray};
+    ghost use Rattle.cbor_decode_as.specs.Strings.{AsksForString, IsByteArray};
     ghost use Rattle.cbor_de.specs.Forms.{never};
 
     ghost reads = { λ c. PassesTags (λ r b. IsByteArray N r b.0) };
@@ -102,7 +102,7 @@ fn array_from<const N: usize>(bytes: &[u8], alloc: Global) -> Result<ByteArray<N
 impl Readable for Bytes<'_> {
     ghost use Rattle.std.specs.Prelude.{true};
     ghost use Rattle.cbor_model.specs.Readable.{PassesTags};
-    ghost use Rattle.cbor_scalars.specs.Strings.{IsBorrowedBytes};
+    ghost use Rattle.cbor_decode_as.specs.Strings.{IsBorrowedBytes};
     ghost use Rattle.cbor_de.specs.Forms.{never};
 
     ghost reads = { λ c. PassesTags (λ r b. IsBorrowedBytes c r b.0.now) };

@@ -3,14 +3,14 @@
 ghost use Rattle.std.specs.Prelude.{IfErr};
 ghost use Rattle.cbor_io.specs.Error.{code_of};
 ghost use Rattle.cbor_decode.specs.Gives.{TellsNoForm};
-ghost use Rattle.cbor_scalars.specs.Strings.{IsOneOf, text_bytes};
-ghost use Rattle.cbor_scalars.specs.Takes.{IsMessage};
+ghost use Rattle.cbor_decode_as.specs.Strings.{IsOneOf, text_bytes};
+ghost use Rattle.cbor_decode_as.specs.Takes.{IsMessage};
 
 use crate::de::Deserializer;
 use crate::deserialize::{Deserialize, DeserializeOwned, Readable};
 use cbor_io::error::{Error, Result};
 use cbor_read::Read;
-use cbor_scalars::lent::EitherStr;
+use cbor_decode_as::lent::EitherStr;
 use std::alloc::Global;
 
 const NO_CHARACTER: &str = "invalid type: expected a character";
@@ -49,7 +49,7 @@ fn character(text: EitherStr<'_, '_>, alloc: Global) -> Result<char>
 impl Readable for char {
     ghost use Rattle.std.specs.Prelude.{true};
     ghost use Rattle.cbor_model.specs.Readable.{PassesTags};
-    ghost use Rattle.cbor_scalars.specs.Strings.{AsksForString, IsCharacter};
+    ghost use Rattle.cbor_decode_as.specs.Strings.{AsksForString, IsCharacter};
     ghost use Rattle.cbor_de.specs.Forms.{never};
 
     ghost reads = { λ c. PassesTags IsCharacter };

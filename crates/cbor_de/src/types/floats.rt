@@ -4,7 +4,7 @@ use crate::de::Deserializer;
 use crate::deserialize::{Deserialize, DeserializeOwned, Readable};
 use cbor_io::error::Result;
 use cbor_read::Read;
-use cbor_scalars::floats::{read_f32, read_f64};
+use cbor_decode_as::floats::{read_f32, read_f64};
 
 /// A float of 16, 32 or 64 bits whose number an `f32` holds exactly. Another float is refused with
 /// `float out of range: expected f32`, and a whole number with `invalid type: expected a float`. A
@@ -12,7 +12,7 @@ use cbor_scalars::floats::{read_f32, read_f64};
 impl Readable for f32 {
     ghost use Rattle.std.specs.Prelude.{true};
     ghost use Rattle.cbor_model.specs.Readable.{PassesTags};
-    ghost use Rattle.cbor_scalars.specs.Scalars.{IsSingleOf};
+    ghost use Rattle.cbor_decode_as.specs.Scalars.{IsSingleOf};
     ghost use Rattle.cbor_de.specs.Forms.{never};
 
     ghost reads = { λ c. PassesTags IsSingleOf };
@@ -41,7 +41,7 @@ impl DeserializeOwned for f32 {
 impl Readable for f64 {
     ghost use Rattle.std.specs.Prelude.{true};
     ghost use Rattle.cbor_model.specs.Readable.{PassesTags};
-    ghost use Rattle.cbor_scalars.specs.Scalars.{IsFloatOf};
+    ghost use Rattle.cbor_decode_as.specs.Scalars.{IsFloatOf};
     ghost use Rattle.cbor_de.specs.Forms.{never};
 
     ghost reads = { λ c. PassesTags IsFloatOf };

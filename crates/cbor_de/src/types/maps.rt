@@ -10,7 +10,7 @@ use std::collections::BTreeMap;
 /// A map, pair by pair; of equal keys the last value stands.
 impl<K: Readable + Ord, V: Readable> Readable for BTreeMap<K, V> {
     ghost use Rattle.cbor_model.specs.Readable.{PassesTags};
-    ghost use Rattle.cbor_collections.specs.Maps.{AsMap, AreEntries};
+    ghost use Rattle.cbor_decode_as.specs.Maps.{AsMap, AreEntries};
     ghost use Rattle.cbor_de.specs.Forms.{both, key_form};
 
     ghost reads = { λ c. PassesTags (AsMap
@@ -38,8 +38,8 @@ impl<'de, R: Read<'de>, K: Deserialize<'de, R> + Ord, V: Deserialize<'de, R>> De
 
 impl<K: DeserializeOwned + Ord, V: DeserializeOwned> DeserializeOwned for BTreeMap<K, V> {
     ghost use Rattle.cbor_model.specs.Readable.{untagged};
-    ghost use Rattle.cbor_collections.specs.Maps.{AreEntries, as_map_same, are_entries_same};
-    ghost use Rattle.cbor_scalars.specs.Takes.{lending};
+    ghost use Rattle.cbor_decode_as.specs.Maps.{AreEntries, as_map_same, are_entries_same};
+    ghost use Rattle.cbor_decode_as.specs.Takes.{lending};
 
     ghost same = { λ f a b r v h. as_map_same
         (λ rs m. AreEntries K.cmp (K.reads (lending f a)) (V.reads (lending f a)) rs m.entries)

@@ -4,12 +4,12 @@ use crate::de::Deserializer;
 use crate::deserialize::{Deserialize, DeserializeOwned, Readable};
 use cbor_io::error::Result;
 use cbor_read::Read;
-use cbor_scalars::optional::take_null;
+use cbor_decode_as::optional::take_null;
 
 // Null is None, by its first byte alone: neither undefined nor a tagged null is.
 impl<T: Readable> Readable for Option<T> {
     ghost use Rattle.cbor_model.specs.Readable.{IsOptional};
-    ghost use Rattle.cbor_scalars.specs.Options.{UnlessNull};
+    ghost use Rattle.cbor_decode_as.specs.Options.{UnlessNull};
 
     ghost reads = { λ c. IsOptional (T.reads c) };
 

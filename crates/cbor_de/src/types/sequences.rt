@@ -4,8 +4,8 @@ ghost use Rattle.std.specs.Prelude.{◌≡◌, IfOk, IfErr, OnOk, vec_len};
 ghost use Rattle.cbor_decode.specs.Gives.{Onward};
 ghost use Rattle.cbor_io.specs.Error.{code_of};
 ghost use Rattle.cbor_model.specs.Readable.{PassesTags};
-ghost use Rattle.cbor_collections.specs.Arrays.{AsArray, AreExactly, items_in};
-ghost use Rattle.cbor_scalars.specs.Takes.{TakesItem, context, formats_of};
+ghost use Rattle.cbor_decode_as.specs.Arrays.{AsArray, AreExactly, items_in};
+ghost use Rattle.cbor_decode_as.specs.Takes.{TakesItem, context, formats_of};
 ghost use Rattle.cbor_de.specs.Forms.{MayTell};
 
 use crate::de::Deserializer;
@@ -18,7 +18,7 @@ use std::alloc::AllocError;
 /// An array, item by item. Nothing is reserved by a declared count.
 impl<T: Readable> Readable for Vec<T> {
     ghost use Rattle.cbor_model.specs.Readable.{PassesTags};
-    ghost use Rattle.cbor_collections.specs.Arrays.{AsArray, AreRead};
+    ghost use Rattle.cbor_decode_as.specs.Arrays.{AsArray, AreRead};
 
     ghost reads = { λ c. PassesTags (AsArray (λ rs v. AreRead (T.reads c) rs v.items)) };
 
@@ -52,8 +52,8 @@ impl<'de, R: Read<'de>, T: Deserialize<'de, R>> Deserialize<'de, R> for Vec<T> {
 
 impl<T: DeserializeOwned> DeserializeOwned for Vec<T> {
     ghost use Rattle.cbor_model.specs.Readable.{untagged};
-    ghost use Rattle.cbor_collections.specs.Arrays.{AreRead, as_array_same, are_read_same};
-    ghost use Rattle.cbor_scalars.specs.Takes.{lending};
+    ghost use Rattle.cbor_decode_as.specs.Arrays.{AreRead, as_array_same, are_read_same};
+    ghost use Rattle.cbor_decode_as.specs.Takes.{lending};
 
     ghost same = { λ f a b r v h. as_array_same
         (λ rs w. AreRead (T.reads (lending f a)) rs w.items)
@@ -97,7 +97,7 @@ fn exactly<'de, T: Deserialize<'de, R>, R: Read<'de>>(
 /// one of more with `TrailingData`.
 impl<T: Readable, const N: usize> Readable for [T; N] {
     ghost use Rattle.cbor_model.specs.Readable.{PassesTags};
-    ghost use Rattle.cbor_collections.specs.Arrays.{AsArray, AreExactly};
+    ghost use Rattle.cbor_decode_as.specs.Arrays.{AsArray, AreExactly};
 
     ghost reads = { λ c. PassesTags (AsArray (AreExactly (T.reads c) N)) };
 
@@ -120,8 +120,8 @@ impl<'de, R: Read<'de>, T: Deserialize<'de, R>, const N: usize> Deserialize<'de,
 
 impl<T: DeserializeOwned, const N: usize> DeserializeOwned for [T; N] {
     ghost use Rattle.cbor_model.specs.Readable.{untagged};
-    ghost use Rattle.cbor_collections.specs.Arrays.{AreExactly, as_array_same, are_read_same};
-    ghost use Rattle.cbor_scalars.specs.Takes.{lending};
+    ghost use Rattle.cbor_decode_as.specs.Arrays.{AreExactly, as_array_same, are_read_same};
+    ghost use Rattle.cbor_decode_as.specs.Takes.{lending};
 
     ghost same = { λ f a b r v h. as_array_same
         (AreExactly (T.reads (lending f a)) N)

@@ -59,7 +59,7 @@ impl DeserializeOwned for () {
 impl Readable for Float {
     ghost use Rattle.std.specs.Prelude.{true};
     ghost use Rattle.cbor_model.specs.Readable.{PassesTags};
-    ghost use Rattle.cbor_scalars.specs.Scalars.{IsFloatItem};
+    ghost use Rattle.cbor_decode_as.specs.Scalars.{IsFloatItem};
     ghost use Rattle.cbor_de.specs.Forms.{never};
 
     ghost reads = { λ c. PassesTags IsFloatItem };

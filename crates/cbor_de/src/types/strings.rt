@@ -4,8 +4,8 @@ use crate::de::Deserializer;
 use crate::deserialize::{Deserialize, DeserializeOwned, Readable};
 use cbor_io::error::{Error, Result};
 use cbor_read::{EitherLifetime, Read};
-use cbor_scalars::lent::EitherStr;
-use cbor_scalars::strings::{NO_STRING, read_string};
+use cbor_decode_as::lent::EitherStr;
+use cbor_decode_as::strings::{NO_STRING, read_string};
 
 impl Readable for String {
     ghost use Rattle.std.specs.Prelude.{true};
@@ -34,7 +34,7 @@ impl DeserializeOwned for String {
 impl Readable for &str {
     ghost use Rattle.std.specs.Prelude.{true};
     ghost use Rattle.cbor_model.specs.Readable.{PassesTags};
-    ghost use Rattle.cbor_scalars.specs.Strings.{IsBorrowedText};
+    ghost use Rattle.cbor_decode_as.specs.Strings.{IsBorrowedText};
     ghost use Rattle.cbor_de.specs.Forms.{never};
 
     ghost reads = { λ c. PassesTags (λ r s. IsBorrowedText c r s.now) };
@@ -63,7 +63,7 @@ impl<'de, R: Read<'de>> Deserialize<'de, R> for &'de str {
 impl Readable for &[u8] {
     ghost use Rattle.std.specs.Prelude.{true};
     ghost use Rattle.cbor_model.specs.Readable.{PassesTags};
-    ghost use Rattle.cbor_scalars.specs.Strings.{IsBorrowedString};
+    ghost use Rattle.cbor_decode_as.specs.Strings.{IsBorrowedString};
     ghost use Rattle.cbor_de.specs.Forms.{never};
 
     ghost reads = { λ c. PassesTags (λ r s. IsBorrowedString c r s.now) };

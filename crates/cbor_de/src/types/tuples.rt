@@ -10,7 +10,7 @@ use cbor_read::Read;
 impl<A: Readable> Readable for (A,) {
     ghost use Rattle.cbor_de.specs.Forms.{both, never};
     ghost use Rattle.cbor_model.specs.Readable.{PassesTags};
-    ghost use Rattle.cbor_collections.specs.Arrays.{AsArray, FirstThen, AreNone};
+    ghost use Rattle.cbor_decode_as.specs.Arrays.{AsArray, FirstThen, AreNone};
 
     ghost reads = { λ c. PassesTags (AsArray (λ rs t. FirstThen (A.reads c) t.0 AreNone rs)) };
 
@@ -36,7 +36,7 @@ impl<A: DeserializeOwned> DeserializeOwned for (A,) {
 impl<A: Readable, B: Readable> Readable for (A, B) {
     ghost use Rattle.cbor_de.specs.Forms.{both, never};
     ghost use Rattle.cbor_model.specs.Readable.{PassesTags};
-    ghost use Rattle.cbor_collections.specs.Arrays.{AsArray, FirstThen, AreNone};
+    ghost use Rattle.cbor_decode_as.specs.Arrays.{AsArray, FirstThen, AreNone};
 
     ghost reads = { λ c. PassesTags (AsArray (λ rs t. FirstThen (A.reads c) t.0
         (FirstThen (B.reads c) t.1 AreNone) rs)) };
@@ -65,7 +65,7 @@ impl<A: DeserializeOwned, B: DeserializeOwned> DeserializeOwned for (A, B) {
 impl<A: Readable, B: Readable, C: Readable> Readable for (A, B, C) {
     ghost use Rattle.cbor_de.specs.Forms.{both, never};
     ghost use Rattle.cbor_model.specs.Readable.{PassesTags};
-    ghost use Rattle.cbor_collections.specs.Arrays.{AsArray, FirstThen, AreNone};
+    ghost use Rattle.cbor_decode_as.specs.Arrays.{AsArray, FirstThen, AreNone};
 
     ghost reads = { λ c. PassesTags (AsArray (λ rs t. FirstThen (A.reads c) t.0
         (FirstThen (B.reads c) t.1
@@ -101,7 +101,7 @@ impl<A: DeserializeOwned, B: DeserializeOwned, C: DeserializeOwned> DeserializeO
 impl<A: Readable, B: Readable, C: Readable, D: Readable> Readable for (A, B, C, D) {
     ghost use Rattle.cbor_de.specs.Forms.{both, never};
     ghost use Rattle.cbor_model.specs.Readable.{PassesTags};
-    ghost use Rattle.cbor_collections.specs.Arrays.{AsArray, FirstThen, AreNone};
+    ghost use Rattle.cbor_decode_as.specs.Arrays.{AsArray, FirstThen, AreNone};
 
     ghost reads = { λ c. PassesTags (AsArray (λ rs t. FirstThen (A.reads c) t.0
         (FirstThen (B.reads c) t.1
@@ -146,7 +146,7 @@ impl<
 impl<A: Readable, B: Readable, C: Readable, D: Readable, E: Readable> Readable for (A, B, C, D, E) {
     ghost use Rattle.cbor_de.specs.Forms.{both, never};
     ghost use Rattle.cbor_model.specs.Readable.{PassesTags};
-    ghost use Rattle.cbor_collections.specs.Arrays.{AsArray, FirstThen, AreNone};
+    ghost use Rattle.cbor_decode_as.specs.Arrays.{AsArray, FirstThen, AreNone};
 
     ghost reads = { λ c. PassesTags (AsArray (λ rs t. FirstThen (A.reads c) t.0
         (FirstThen (B.reads c) t.1
@@ -196,7 +196,7 @@ impl<A: Readable, B: Readable, C: Readable, D: Readable, E: Readable, F: Readabl
     for (A, B, C, D, E, F) {
     ghost use Rattle.cbor_de.specs.Forms.{both, never};
     ghost use Rattle.cbor_model.specs.Readable.{PassesTags};
-    ghost use Rattle.cbor_collections.specs.Arrays.{AsArray, FirstThen, AreNone};
+    ghost use Rattle.cbor_decode_as.specs.Arrays.{AsArray, FirstThen, AreNone};
 
     ghost reads = { λ c. PassesTags (AsArray (λ rs t. FirstThen (A.reads c) t.0
         (FirstThen (B.reads c) t.1
@@ -257,7 +257,7 @@ impl<
 > Readable for (A, B, C, D, E, F, G) {
     ghost use Rattle.cbor_de.specs.Forms.{both, never};
     ghost use Rattle.cbor_model.specs.Readable.{PassesTags};
-    ghost use Rattle.cbor_collections.specs.Arrays.{AsArray, FirstThen, AreNone};
+    ghost use Rattle.cbor_decode_as.specs.Arrays.{AsArray, FirstThen, AreNone};
 
     ghost reads = { λ c. PassesTags (AsArray (λ rs t. FirstThen (A.reads c) t.0
         (FirstThen (B.reads c) t.1
@@ -325,7 +325,7 @@ impl<
 > Readable for (A, B, C, D, E, F, G, H) {
     ghost use Rattle.cbor_de.specs.Forms.{both, never};
     ghost use Rattle.cbor_model.specs.Readable.{PassesTags};
-    ghost use Rattle.cbor_collections.specs.Arrays.{AsArray, FirstThen, AreNone};
+    ghost use Rattle.cbor_decode_as.specs.Arrays.{AsArray, FirstThen, AreNone};
 
     ghost reads = { λ c. PassesTags (AsArray (λ rs t. FirstThen (A.reads c) t.0
         (FirstThen (B.reads c) t.1

@@ -2,7 +2,7 @@ use Rattle.std.proofs.Common.{◌≡◌, subst, Some, sym, Result, inr}
 use Rattle.cbor_model.specs.Acceptable.{max_depth}
 use Rattle.cbor_model.specs.Formats.{Formats, all_formats}
 use Rattle.cbor_io.specs.declared.error.Error.{Error}
-use Rattle.cbor_scalars.specs.Takes.{lending}
+use Rattle.cbor_decode_as.specs.Takes.{lending}
 use Rattle.cbor_de.specs.Streams.{StreamGives, standing, begun}
 use Rattle.cbor_de.specs.declared.stream.StreamDeserializer.{StreamDeserializer}
 use Rattle.cbor_de.proofs.StreamAnswers.{yields_along, Begun, begun_is, items_given, error_given}

@@ -4,7 +4,7 @@ use Rattle.cbor_model.specs.Acceptable.{max_depth}
 use Rattle.cbor_model.specs.Formats.{all_formats}
 use Rattle.cbor_read.specs.Source.{Input, unread_reader, reader_refusals}
 use Rattle.cbor_decode.specs.Gives.{Tells}
-use Rattle.cbor_scalars.specs.Takes.{MemoryFor}
+use Rattle.cbor_decode_as.specs.Takes.{MemoryFor}
 use Rattle.cbor_de.specs.Whole.{ReadsAll, TellsWhole, from_reader_context, from_reader_asks}
 use Rattle.cbor_de.proofs.Every.{every_or_fault}
 use Rattle.cbor_de.proofs.Faults.{fails_or_faults, kinds}

@@ -4,7 +4,7 @@ use Rattle.cbor_model.specs.Formats.{all_formats}
 use Rattle.cbor_model.specs.Raw.{AreBytes}
 use Rattle.cbor_read.specs.Source.{Input, unread_slice, fixed_refusals}
 use Rattle.cbor_decode.specs.Gives.{Tells}
-use Rattle.cbor_scalars.specs.Takes.{MemoryFor}
+use Rattle.cbor_decode_as.specs.Takes.{MemoryFor}
 use Rattle.cbor_de.specs.Whole.{ReadsAll, TellsWhole, from_slice_context, asks_none}
 use Rattle.cbor_de.proofs.Every.{every, small}
 use Rattle.cbor_model.proofs.facts.Laws.{scratch_need}

@@ -1,5 +1,5 @@
 use Rattle.cbor_decode.specs.declared.formats.Formats.{Formats}
-use Rattle.cbor_scalars.specs.Takes.{context}
+use Rattle.cbor_decode_as.specs.Takes.{context}
 use Rattle.cbor_de.proofs.ItemLists.{part_answer}
 use Rattle.cbor_de.proofs.Forms.{later_err}
 use Rattle.cbor_de.proofs.item_list.next_part.Goals as goal

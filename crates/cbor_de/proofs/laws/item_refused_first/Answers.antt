@@ -2,7 +2,7 @@ use Rattle.cbor_model.specs.Formats.{all_formats}
 use Rattle.cbor_decode.specs.Gives.{Reports, values}
 use Rattle.cbor_decode.proofs.facts.FirstRefusal.{item_first}
 use Rattle.cbor_model.specs.Reader.{item_at}
-use Rattle.cbor_scalars.specs.Takes.{TellsFault}
+use Rattle.cbor_decode_as.specs.Takes.{TellsFault}
 use Rattle.cbor_de.proofs.Faults.{where_map}
 use Rattle.cbor_de.proofs.laws.item_refused_first.Goals as goal
 

@@ -1,4 +1,4 @@
-use Rattle.cbor_scalars.specs.Takes.{lending}
+use Rattle.cbor_decode_as.specs.Takes.{lending}
 use Rattle.cbor_de.proofs.Taken.{item_taken}
 use Rattle.cbor_de.proofs.laws.item_taken.Goals as goal
 

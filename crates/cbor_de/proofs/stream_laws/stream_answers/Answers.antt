@@ -1,4 +1,4 @@
-use Rattle.cbor_scalars.specs.Takes.{lending}
+use Rattle.cbor_decode_as.specs.Takes.{lending}
 use Rattle.cbor_de.proofs.StreamAnswers as proved
 use Rattle.cbor_de.proofs.stream_laws.stream_answers.Goals as goal
 

@@ -1,6 +1,6 @@
-use Rattle.cbor_collections.proofs.facts.Places.{made_alone}
+use Rattle.cbor_decode_as.proofs.facts.Places.{made_alone}
 use Rattle.cbor_de.proofs.Forms.{key_told}
-use Rattle.cbor_scalars.specs.Takes.{formats_of}
+use Rattle.cbor_decode_as.specs.Takes.{formats_of}
 use Rattle.cbor_de.proofs.structure.next_key.Goals as goal
 
 pub returns-in-Err-clause-read : goal.returns-in-Err-clause-read

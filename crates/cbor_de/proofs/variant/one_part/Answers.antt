@@ -1,5 +1,5 @@
-use Rattle.cbor_scalars.specs.Takes.{context, formats_of}
-use Rattle.cbor_collections.proofs.facts.Enums.{one_answer, untold}
+use Rattle.cbor_decode_as.specs.Takes.{context, formats_of}
+use Rattle.cbor_decode_as.proofs.facts.Enums.{one_answer, untold}
 use Rattle.cbor_de.proofs.Forms.{right_err}
 use Rattle.cbor_de.specs.Forms.{part_form}
 use Rattle.cbor_de.proofs.variant.one_part.Goals as goal

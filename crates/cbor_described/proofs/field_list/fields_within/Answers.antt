@@ -2,8 +2,8 @@ use Rattle.std.proofs.Common.{◌∙◌, refl}
 use Rattle.cbor_io.specs.Error.{code_of, offset_of}
 use Rattle.cbor_decode.specs.declared.formats.Formats.{Formats}
 use Rattle.cbor_described.specs.FieldLists.{FieldTaken, FieldRefused}
-use Rattle.cbor_scalars.specs.Identifiers.{texts}
-use Rattle.cbor_scalars.specs.Takes.{context, formats_of}
+use Rattle.cbor_decode_as.specs.Identifiers.{texts}
+use Rattle.cbor_decode_as.specs.Takes.{context, formats_of}
 use Rattle.std.proofs.Common.{rules, subst, arith}
 use Rattle.std.proofs.lemmas.Result.{err_from_is_err_and}
 use Rattle.cbor_de.proofs.facts.Structs.{no_struct, no_field_named, field_named, other_passed, other_unread, field_missing, end_unread, struct_held}

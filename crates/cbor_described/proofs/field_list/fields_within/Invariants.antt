@@ -1,8 +1,8 @@
 use Rattle.std.proofs.Common.{◌≡◌}
 use Rattle.cbor_decode.specs.Gives.{Onward}
-use Rattle.cbor_collections.specs.Accesses.{turns}
-use Rattle.cbor_scalars.specs.Identifiers.{texts}
-use Rattle.cbor_scalars.specs.Takes.{context}
+use Rattle.cbor_decode_as.specs.Accesses.{turns}
+use Rattle.cbor_decode_as.specs.Identifiers.{texts}
+use Rattle.cbor_decode_as.specs.Takes.{context}
 use Rattle.cbor_de.proofs.facts.Structs.{StructSoFar}
 use Rattle.cbor_described.proofs.field_list.fields_within.Given as goal
 

@@ -2,8 +2,8 @@ use Rattle.std.proofs.Common.{◌≡◌, false}
 use Rattle.std.specs.Option.{is_some}
 use Rattle.cbor_model.specs.Reader.{item_at}
 use Rattle.cbor_io.specs.Error.{code_of, offset_of}
-use Rattle.cbor_scalars.specs.Takes.{IsNotRead, context, formats_of, raws}
-use Rattle.cbor_collections.proofs.facts.Refusals.{refuses_map}
+use Rattle.cbor_decode_as.specs.Takes.{IsNotRead, context, formats_of, raws}
+use Rattle.cbor_decode_as.proofs.facts.Readings.{refuses_map}
 use Rattle.cbor_described.proofs.Makings.{not_read_as}
 use Rattle.cbor_described.proofs.field_list.fill_slot.Goals as goal
 

@@ -1,6 +1,6 @@
 use Rattle.cbor_decode.specs.declared.formats.Formats.{Formats}
-use Rattle.cbor_scalars.specs.Identifiers.{texts}
-use Rattle.cbor_scalars.specs.Takes.{context, formats_of}
+use Rattle.cbor_decode_as.specs.Identifiers.{texts}
+use Rattle.cbor_decode_as.specs.Takes.{context, formats_of}
 use Rattle.cbor_de.proofs.facts.Enums.{variant_unread}
 use Rattle.cbor_described.proofs.OneOfs.{enum_answer}
 use Rattle.cbor_de.specs.Forms.{enum_form}

@@ -2,8 +2,8 @@ use Rattle.std.proofs.Common.{ℕ, List, Option, refl}
 use Rattle.cbor_model.specs.Reader.{Reads}
 use Rattle.cbor_decode.specs.Gives.{Limits}
 use Rattle.cbor_decode.specs.declared.refusal.Refused.TheVariants.{Kept}
-use Rattle.cbor_scalars.specs.Tags.{tag_head_at}
-use Rattle.cbor_scalars.proofs.facts.Refusals.{told_by}
+use Rattle.cbor_decode_as.specs.Tags.{tag_head_at}
+use Rattle.cbor_decode_as.proofs.facts.Refusals.{told_by}
 use Rattle.cbor_decode.proofs.facts.Steps.{source_stops, byte_refused}
 use Rattle.cbor_tags.proofs.Peeked.{tag_peeked, took_peeked, untold_peeked}
 use Rattle.cbor_tags.proofs.outermost.outermost.Goals as goal

@@ -3,11 +3,11 @@ use Rattle.std.proofs.lemmas.Result.{err_from_is_err_and}
 use Rattle.cbor_io.specs.Error.{code_of, offset_of}
 use Rattle.cbor_decode.specs.Heads.{remaining_of}
 use Rattle.cbor_decode.specs.declared.formats.Formats.{Formats}
-use Rattle.cbor_scalars.specs.Identifiers.{texts}
+use Rattle.cbor_decode_as.specs.Identifiers.{texts}
 use Rattle.cbor_de.specs.Structs.{IsField}
-use Rattle.cbor_scalars.specs.Takes.{formats_of}
-use Rattle.cbor_collections.proofs.facts.Places.{bad_key_later}
-use Rattle.cbor_collections.proofs.facts.Maps.{none_is_key, there, key_refused, key_next}
+use Rattle.cbor_decode_as.specs.Takes.{formats_of}
+use Rattle.cbor_decode_as.proofs.facts.Places.{bad_key_later}
+use Rattle.cbor_decode_as.proofs.facts.Maps.{none_is_key, there, key_refused, key_next}
 use Rattle.cbor_de.proofs.de.Deserializer.next_field.Goals as goal
 
 pub returns-in_err-more_pairs-clause-read : goal.returns-in_err-more_pairs-clause-read

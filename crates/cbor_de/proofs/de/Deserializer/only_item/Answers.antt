@@ -1,8 +1,8 @@
 use Rattle.std.proofs.Common.{ℕ, Ok, Err, subst}
 use Rattle.std.proofs.lemmas.Result.{err_from_is_err_and}
 use Rattle.cbor_decode.specs.declared.formats.Formats.{Formats}
-use Rattle.cbor_scalars.specs.Takes.{context, formats_of, TakesItem}
-use Rattle.cbor_collections.proofs.facts.Enums.{none_comes, item_lacks, end_left, only_taken}
+use Rattle.cbor_decode_as.specs.Takes.{context, formats_of, TakesItem}
+use Rattle.cbor_decode_as.proofs.facts.Enums.{none_comes, item_lacks, end_left, only_taken}
 use Rattle.cbor_de.proofs.Forms.{later_in, none_told, of_left, of_right}
 use Rattle.cbor_de.specs.Forms.{part_form}
 use Rattle.cbor_de.proofs.de.Deserializer.only_item.Goals as goal

@@ -1,9 +1,9 @@
 use Rattle.cbor_io.specs.Error.{code_of, offset_of}
 use Rattle.cbor_decode.specs.Heads.{remaining_of}
 use Rattle.cbor_decode.specs.declared.formats.Formats.{Formats}
-use Rattle.cbor_scalars.specs.Takes.{context, formats_of}
-use Rattle.cbor_collections.proofs.facts.Places.{bad_key_later, kept_alone}
-use Rattle.cbor_collections.proofs.facts.Maps.{none_is_key, there, key_refused, key_next}
+use Rattle.cbor_decode_as.specs.Takes.{context, formats_of}
+use Rattle.cbor_decode_as.proofs.facts.Places.{bad_key_later, kept_alone}
+use Rattle.cbor_decode_as.proofs.facts.Maps.{none_is_key, there, key_refused, key_next}
 use Rattle.cbor_de.proofs.Forms.{key_told, later_in, of_left, of_right}
 use Rattle.cbor_de.specs.Forms.{key_form}
 use Rattle.cbor_de.proofs.map.MapAccess.next_key.Goals as goal

@@ -1,7 +1,7 @@
 use Rattle.cbor_io.specs.Error.{code_of, offset_of}
 use Rattle.cbor_decode.specs.declared.formats.Formats.{Formats}
-use Rattle.cbor_scalars.specs.Takes.{context}
-use Rattle.cbor_collections.proofs.facts.Arrays.{comes, item_refused, item_next}
+use Rattle.cbor_decode_as.specs.Takes.{context}
+use Rattle.cbor_decode_as.proofs.facts.Arrays.{comes, item_refused, item_next}
 use Rattle.cbor_de.proofs.Forms.{later_in}
 use Rattle.cbor_de.proofs.sequence.SeqAccess.next_element.Goals as goal
 

@@ -1,7 +1,7 @@
 use Rattle.cbor_io.specs.Error.{code_of, offset_of}
 use Rattle.cbor_decode.specs.Heads.{remaining_of}
-use Rattle.cbor_scalars.specs.Takes.{context, formats_of}
-use Rattle.cbor_collections.proofs.facts.Arrays.{part_missing, part_refused}
+use Rattle.cbor_decode_as.specs.Takes.{context, formats_of}
+use Rattle.cbor_decode_as.proofs.facts.Arrays.{part_missing, part_refused}
 use Rattle.cbor_de.proofs.sequence.SeqAccess.part.Goals as goal
 
 pub returns-in-Ok-None-clause-read : goal.returns-in-Ok-None-clause-read

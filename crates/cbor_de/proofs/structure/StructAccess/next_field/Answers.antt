@@ -1,4 +1,4 @@
-use Rattle.cbor_collections.proofs.facts.Places.{made_alone}
+use Rattle.cbor_decode_as.proofs.facts.Places.{made_alone}
 use Rattle.cbor_de.proofs.structure.StructAccess.next_field.Goals as goal
 
 pub returns-in-Err-clause-read : goal.returns-in-Err-clause-read

@@ -1,5 +1,5 @@
-use Rattle.cbor_scalars.specs.Takes.{context, formats_of}
-use Rattle.cbor_collections.specs.Enums.{part_then, no_part}
+use Rattle.cbor_decode_as.specs.Takes.{context, formats_of}
+use Rattle.cbor_decode_as.specs.Enums.{part_then, no_part}
 use Rattle.cbor_de.proofs.ItemLists.{no_items_of}
 use Rattle.cbor_de.proofs.tuple_parts.Tuple6ReadTuple.read_tuple.Goals as goal
 

@@ -2,13 +2,13 @@ use Rattle.std.proofs.Common.{rules, ◌≡◌, ◌<◌, List, ◌∷◌, ◌++�
 use Rattle.std.proofs.lemmas.Result.{err_from_is_err_and}
 use Rattle.cbor_io.specs.Error.{code_of, offset_of, IsOutOfMemory}
 use Rattle.cbor_decode.specs.declared.formats.Formats.{Formats}
-use Rattle.cbor_collections.specs.Arrays.{AreExactly}
-use Rattle.cbor_scalars.specs.Takes.{context, formats_of}
-use Rattle.cbor_collections.proofs.facts.Arrays.{EachRead, each_more, each_all, each_length, rest_read, must_follow, none_of_none}
-use Rattle.cbor_collections.proofs.facts.Arrays.{end_step, end_lacks, part_goes_on, part_lacks, array_takes_to, array_refused, no_array_read}
-use Rattle.cbor_scalars.proofs.facts.Refusals.{refuses_on}
+use Rattle.cbor_decode_as.specs.Arrays.{AreExactly}
+use Rattle.cbor_decode_as.specs.Takes.{context, formats_of}
+use Rattle.cbor_decode_as.proofs.facts.Arrays.{EachRead, each_more, each_all, each_length, rest_read, must_follow, none_of_none}
+use Rattle.cbor_decode_as.proofs.facts.Arrays.{end_step, end_lacks, part_goes_on, part_lacks, array_takes_to, array_refused, no_array_read}
+use Rattle.cbor_decode_as.proofs.facts.Refusals.{refuses_on}
 use Rattle.cbor_decode.proofs.facts.Steps.{took_same, some_then}
-use Rattle.cbor_collections.proofs.facts.Refusals.{refuses_memory}
+use Rattle.cbor_decode_as.proofs.facts.Readings.{refuses_memory}
 use Rattle.cbor_de.proofs.Forms.{later_in}
 use Rattle.cbor_de.proofs.types.sequences.exactly.Goals as goal
 

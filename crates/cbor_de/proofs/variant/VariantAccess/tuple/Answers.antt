@@ -1,5 +1,5 @@
 use Rattle.std.proofs.Common.{refl}
-use Rattle.cbor_collections.proofs.facts.Enums.{parts_inside}
+use Rattle.cbor_decode_as.proofs.facts.Enums.{parts_inside}
 use Rattle.cbor_de.proofs.variant.VariantAccess.tuple.Goals as goal
 
 pub returns-in-Ok : goal.returns-in-Ok

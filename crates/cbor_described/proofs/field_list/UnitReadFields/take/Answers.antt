@@ -1,4 +1,4 @@
-use Rattle.cbor_scalars.specs.Takes.{formats_of}
+use Rattle.cbor_decode_as.specs.Takes.{formats_of}
 use Rattle.cbor_described.proofs.FieldLists.{passed_on}
 use Rattle.cbor_described.proofs.field_list.UnitReadFields.take.Goals as goal
 

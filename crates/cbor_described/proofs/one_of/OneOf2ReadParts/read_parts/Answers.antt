@@ -1,9 +1,9 @@
 use Rattle.std.proofs.Common.{◌≡◌, ℕ, List, refl}
 use Rattle.cbor_model.specs.Readable.{PassesTags}
 use Rattle.cbor_parts.specs.declared.OneOf2.{OneOf2}
-use Rattle.cbor_scalars.specs.Identifiers.{texts}
-use Rattle.cbor_scalars.specs.Takes.{context, formats_of}
-use Rattle.cbor_collections.specs.Enums.{IsEnum}
+use Rattle.cbor_decode_as.specs.Identifiers.{texts}
+use Rattle.cbor_decode_as.specs.Takes.{context, formats_of}
+use Rattle.cbor_decode_as.specs.Enums.{IsEnum}
 use Rattle.cbor_described.specs.OneOfs.{either, no_variant, list2}
 use Rattle.cbor_described.proofs.Makings.{not_made}
 use Rattle.cbor_described.proofs.one_of.OneOf2ReadParts.read_parts.Goals as goal

@@ -1,4 +1,4 @@
-use Rattle.cbor_scalars.specs.Takes.{context, formats_of}
+use Rattle.cbor_decode_as.specs.Takes.{context, formats_of}
 use Rattle.cbor_described.proofs.Makings.{made, not_made}
 use Rattle.cbor_described.proofs.parts.FromParts.read_described.Goals as goal
 

@@ -1,6 +1,6 @@
 use Rattle.cbor_model.specs.Raw.{Raw}
 use Rattle.cbor_parts.specs.declared.Newtype.{Newtype}
-use Rattle.cbor_scalars.specs.Takes.{context, formats_of}
+use Rattle.cbor_decode_as.specs.Takes.{context, formats_of}
 use Rattle.cbor_described.proofs.Makings.{read_as, not_read_as}
 use Rattle.cbor_described.proofs.parts.NewtypeReadParts.read_parts.Goals as goal
 

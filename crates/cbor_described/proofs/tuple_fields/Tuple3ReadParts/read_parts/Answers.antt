@@ -1,6 +1,6 @@
 use Rattle.std.proofs.Common.{◌≡◌, ℕ, List, [], ◌∷◌, refl}
-use Rattle.cbor_scalars.specs.Identifiers.{texts}
-use Rattle.cbor_scalars.specs.Takes.{context, formats_of}
+use Rattle.cbor_decode_as.specs.Identifiers.{texts}
+use Rattle.cbor_decode_as.specs.Takes.{context, formats_of}
 use Rattle.cbor_de.specs.Structs.{IsStruct, field_or}
 use Rattle.cbor_described.proofs.Makings.{not_made}
 use Rattle.cbor_described.proofs.tuple_fields.Tuple3ReadParts.read_parts.Goals as goal

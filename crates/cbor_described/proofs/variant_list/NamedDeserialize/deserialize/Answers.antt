@@ -1,5 +1,5 @@
 use Rattle.std.proofs.Common.{ℕ, List, refl}
-use Rattle.cbor_scalars.specs.Takes.{context, formats_of}
+use Rattle.cbor_decode_as.specs.Takes.{context, formats_of}
 use Rattle.cbor_described.specs.declared.variant_list.Named.{Named}
 use Rattle.cbor_described.proofs.Makings.{made, not_made}
 use Rattle.cbor_described.proofs.variant_list.NamedDeserialize.deserialize.Goals as goal

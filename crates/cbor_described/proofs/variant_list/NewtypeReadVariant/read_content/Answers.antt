@@ -1,5 +1,5 @@
-use Rattle.cbor_collections.specs.Enums.{IsPart}
-use Rattle.cbor_scalars.specs.Takes.{context, formats_of}
+use Rattle.cbor_decode_as.specs.Enums.{IsPart}
+use Rattle.cbor_decode_as.specs.Takes.{context, formats_of}
 use Rattle.cbor_described.proofs.OneOfs.{content_not_made}
 use Rattle.cbor_described.proofs.variant_list.NewtypeReadVariant.read_content.Goals as goal
 

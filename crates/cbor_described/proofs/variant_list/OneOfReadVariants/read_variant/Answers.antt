@@ -1,4 +1,4 @@
-use Rattle.cbor_scalars.specs.Takes.{context, formats_of}
+use Rattle.cbor_decode_as.specs.Takes.{context, formats_of}
 use Rattle.cbor_described.proofs.OneOfs.{this_unread, other_unread}
 use Rattle.cbor_de.proofs.facts.Forms.{of_left, of_right}
 use Rattle.cbor_described.proofs.variant_list.OneOfReadVariants.read_variant.Goals as goal

@@ -1,7 +1,7 @@
 use Rattle.cbor_parts.specs.declared.Struct.{Struct}
 use Rattle.cbor_model.specs.Raw.{Raw}
-use Rattle.cbor_collections.specs.Enums.{IsPart}
-use Rattle.cbor_scalars.specs.Takes.{context, formats_of}
+use Rattle.cbor_decode_as.specs.Enums.{IsPart}
+use Rattle.cbor_decode_as.specs.Takes.{context, formats_of}
 use Rattle.cbor_described.specs.declared.variant_list.Named.{Named}
 use Rattle.cbor_described.proofs.OneOfs.{content_made, content_not_made}
 use Rattle.cbor_described.proofs.OneParts.{is_part, part_is}

@@ -1,9 +1,9 @@
 use Rattle.std.proofs.Common.{Ok, Err, subst}
 use Rattle.std.proofs.lemmas.Result.{err_from_is_err_and}
 use Rattle.cbor_decode.specs.declared.formats.Formats.{Formats}
-use Rattle.cbor_collections.specs.Enums.{AreParts}
+use Rattle.cbor_decode_as.specs.Enums.{AreParts}
 use Rattle.cbor_de.specs.ItemLists.{TakesItems}
-use Rattle.cbor_scalars.specs.Takes.{context, formats_of}
+use Rattle.cbor_decode_as.specs.Takes.{context, formats_of}
 use Rattle.cbor_described.proofs.OneOfs.{content_made, content_not_made, no_parts, parts_meant, parts_not_meant}
 use Rattle.cbor_de.proofs.facts.Forms.{later_in}
 use Rattle.cbor_described.proofs.variant_list.TupleReadVariant.read_content.Goals as goal

@@ -1,4 +1,4 @@
-use Rattle.cbor_scalars.specs.Takes.{formats_of}
+use Rattle.cbor_decode_as.specs.Takes.{formats_of}
 use Rattle.cbor_de.proofs.facts.Forms.{unit_err}
 use Rattle.cbor_described.proofs.variant_list.UnitReadVariant.read_content.Goals as goal
 

@@ -6,11 +6,11 @@ use Rattle.cbor_read.specs.Source.{Input}
 use Rattle.cbor_io.specs.Error.{code_of, offset_of}
 use Rattle.cbor_decode.specs.Gives.{Step}
 use Rattle.cbor_decode.specs.declared.formats.Formats.{Formats}
-use Rattle.cbor_scalars.specs.Takes.{raws, context, formats_of, IsRead, IsNotRead, Refuses, TellsItem}
+use Rattle.cbor_decode_as.specs.Takes.{raws, context, formats_of, IsRead, IsNotRead, Refuses, TellsItem}
 use Rattle.cbor_tags.specs.declared.tagged.Tagged.{Tagged}
 use Rattle.cbor_tags.proofs.Tags.{tag_read, tag_unread, untagged_taken, untagged_refused, head_refused, tag_told, untagged_told, head_told}
 use Rattle.cbor_decode.proofs.facts.Steps.{took_same}
-use Rattle.cbor_scalars.proofs.facts.Refusals.{item_total, refuses_on}
+use Rattle.cbor_decode_as.proofs.facts.Refusals.{item_total, refuses_on}
 use Rattle.cbor_de.proofs.facts.Forms.{later_in}
 use Rattle.cbor_tags.proofs.tagged.TaggedDeserialize.deserialize.Goals as goal
 

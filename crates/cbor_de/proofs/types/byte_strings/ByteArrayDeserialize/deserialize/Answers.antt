@@ -4,13 +4,13 @@ use Rattle.cbor_model.specs.Raw.{Raw}
 use Rattle.cbor_model.specs.Readable.{PassesTags}
 use Rattle.cbor_model.specs.Reader.{item_at}
 use Rattle.cbor_read.specs.Source.{asks_for}
-use Rattle.cbor_scalars.specs.Strings.{AsksForBytes, AsksForString, AsksToLend, IsByteArray, IsByteString, IsNoKey, LendsBytes, UnreadOnly}
-use Rattle.cbor_scalars.specs.Takes.{raws, context, formats_of, IsNotRead}
-use Rattle.cbor_scalars.proofs.facts.Strings.{made_memory, made_refuses, none_of}
+use Rattle.cbor_decode_as.specs.Strings.{AsksForBytes, AsksForString, AsksToLend, IsByteArray, IsByteString, IsNoKey, LendsBytes, UnreadOnly}
+use Rattle.cbor_decode_as.specs.Takes.{raws, context, formats_of, IsNotRead}
+use Rattle.cbor_decode_as.proofs.facts.Strings.{made_memory, made_refuses, none_of}
 use Rattle.cbor_de.proofs.ByteStrings.{array_memory, array_takes}
-use Rattle.cbor_scalars.specs.Strings.{LendsWhole}
-use Rattle.cbor_scalars.proofs.facts.Strings.{made_whole}
-use Rattle.cbor_scalars.proofs.facts.Refusals.{stands_err}
+use Rattle.cbor_decode_as.specs.Strings.{LendsWhole}
+use Rattle.cbor_decode_as.proofs.facts.Strings.{made_whole}
+use Rattle.cbor_decode_as.proofs.facts.Refusals.{stands_err}
 use Rattle.cbor_de.proofs.types.byte_strings.ByteArrayDeserialize.deserialize.Goals as goal
 
 pub returns-in-Ok-clause-read : goal.returns-in-Ok-clause-read

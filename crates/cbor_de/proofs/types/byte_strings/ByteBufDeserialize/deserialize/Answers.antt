@@ -4,9 +4,9 @@ use Rattle.cbor_bytes.specs.declared.ByteBuf.{ByteBuf}
 use Rattle.cbor_model.specs.Raw.{Raw}
 use Rattle.cbor_model.specs.Reader.{item_at}
 use Rattle.cbor_decode.specs.Gives.{limits}
-use Rattle.cbor_scalars.specs.Strings.{IsByteString}
-use Rattle.cbor_scalars.specs.Takes.{raws, formats_of}
-use Rattle.cbor_scalars.proofs.facts.Strings.{none_of}
+use Rattle.cbor_decode_as.specs.Strings.{IsByteString}
+use Rattle.cbor_decode_as.specs.Takes.{raws, formats_of}
+use Rattle.cbor_decode_as.proofs.facts.Strings.{none_of}
 use Rattle.cbor_de.proofs.types.byte_strings.ByteBufDeserialize.deserialize.Goals as goal
 
 pub returns-in-Err-clause-read : goal.returns-in-Err-clause-read

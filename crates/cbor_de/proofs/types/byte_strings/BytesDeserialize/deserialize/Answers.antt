@@ -4,11 +4,11 @@ use Rattle.cbor_model.specs.Raw.{Raw}
 use Rattle.cbor_read.specs.Source.{asks_for}
 use Rattle.cbor_model.specs.Readable.{untagged, PassesTags}
 use Rattle.cbor_model.specs.Reader.{item_at}
-use Rattle.cbor_scalars.specs.Strings.{AsksForBytes, AsksToLend, IsBorrowedBytes, IsByteString, IsNoKey, LendsBytes, UnreadOnly}
-use Rattle.cbor_scalars.specs.Takes.{raws, context, formats_of, IsNotRead}
-use Rattle.cbor_scalars.proofs.facts.Strings.{lent_unasked, made_memory, made_refuses, none_of}
-use Rattle.cbor_scalars.specs.Strings.{LendsWhole}
-use Rattle.cbor_scalars.proofs.facts.Strings.{made_whole}
+use Rattle.cbor_decode_as.specs.Strings.{AsksForBytes, AsksToLend, IsBorrowedBytes, IsByteString, IsNoKey, LendsBytes, UnreadOnly}
+use Rattle.cbor_decode_as.specs.Takes.{raws, context, formats_of, IsNotRead}
+use Rattle.cbor_decode_as.proofs.facts.Strings.{lent_unasked, made_memory, made_refuses, none_of}
+use Rattle.cbor_decode_as.specs.Strings.{LendsWhole}
+use Rattle.cbor_decode_as.proofs.facts.Strings.{made_whole}
 use Rattle.cbor_de.proofs.types.byte_strings.BytesDeserialize.deserialize.Goals as goal
 
 pub returns-in-Err-clause-read : goal.returns-in-Err-clause-read

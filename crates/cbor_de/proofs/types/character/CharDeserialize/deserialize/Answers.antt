@@ -3,13 +3,13 @@ use Rattle.cbor_model.specs.Readable.{PassesTags, IsText}
 use Rattle.cbor_model.specs.Reader.{item_at}
 use Rattle.cbor_read.specs.Source.{asks_for}
 use Rattle.std.specs.Char.{encode_utf8}
-use Rattle.cbor_scalars.specs.Strings.{AsksForString, AsksToLend, IsCharacter, IsNoKey, LendsText, UnreadOnly}
-use Rattle.cbor_scalars.specs.Takes.{raws, context, formats_of, IsNotRead}
+use Rattle.cbor_decode_as.specs.Strings.{AsksForString, AsksToLend, IsCharacter, IsNoKey, LendsText, UnreadOnly}
+use Rattle.cbor_decode_as.specs.Takes.{raws, context, formats_of, IsNotRead}
 use Rattle.cbor_de.proofs.Characters.{character_memory, character_takes}
-use Rattle.cbor_scalars.proofs.facts.Strings.{made_memory, made_refuses, none_of}
-use Rattle.cbor_scalars.specs.Strings.{LendsWhole}
-use Rattle.cbor_scalars.proofs.facts.Strings.{made_whole}
-use Rattle.cbor_scalars.proofs.facts.Refusals.{stands_err}
+use Rattle.cbor_decode_as.proofs.facts.Strings.{made_memory, made_refuses, none_of}
+use Rattle.cbor_decode_as.specs.Strings.{LendsWhole}
+use Rattle.cbor_decode_as.proofs.facts.Strings.{made_whole}
+use Rattle.cbor_decode_as.proofs.facts.Refusals.{stands_err}
 use Rattle.cbor_de.proofs.types.character.CharDeserialize.deserialize.Goals as goal
 
 pub returns-in-Ok-clause-read : goal.returns-in-Ok-clause-read

@@ -4,15 +4,15 @@ use Rattle.cbor_model.specs.Raw.{Raws}
 use Rattle.cbor_io.specs.Error.{code_of, offset_of, IsOutOfMemory}
 use Rattle.cbor_decode.specs.Heads.{remaining_of}
 use Rattle.cbor_decode.specs.declared.formats.Formats.{Formats}
-use Rattle.cbor_collections.specs.Arrays.{AreRead}
-use Rattle.cbor_scalars.specs.Takes.{context, formats_of}
-use Rattle.cbor_collections.proofs.facts.Arrays.{EachRead, each_none, each_more, each_all, rest_read, may_follow}
-use Rattle.cbor_collections.proofs.facts.Arrays.{comes, item_next, item_refused}
-use Rattle.cbor_collections.proofs.facts.Arrays.{end_twice, loop_begins, loop_goes_on, loop_refused, end_refused, array_takes_to, array_refused, no_array_read}
+use Rattle.cbor_decode_as.specs.Arrays.{AreRead}
+use Rattle.cbor_decode_as.specs.Takes.{context, formats_of}
+use Rattle.cbor_decode_as.proofs.facts.Arrays.{EachRead, each_none, each_more, each_all, rest_read, may_follow}
+use Rattle.cbor_decode_as.proofs.facts.Arrays.{comes, item_next, item_refused}
+use Rattle.cbor_decode_as.proofs.facts.Arrays.{end_twice, loop_begins, loop_goes_on, loop_refused, end_refused, array_takes_to, array_refused, no_array_read}
 use Rattle.cbor_de.proofs.Elements.{untold_refused, comes_not, nothing_left}
-use Rattle.cbor_scalars.proofs.facts.Refusals.{refuses_on}
+use Rattle.cbor_decode_as.proofs.facts.Refusals.{refuses_on}
 use Rattle.cbor_decode.proofs.facts.Steps.{took_same, some_then}
-use Rattle.cbor_collections.proofs.facts.Refusals.{refuses_memory}
+use Rattle.cbor_decode_as.proofs.facts.Readings.{refuses_memory}
 use Rattle.cbor_de.proofs.Forms.{later_in}
 use Rattle.cbor_de.proofs.types.sequences.VecDeserialize.deserialize.Goals as goal
 

@@ -1,9 +1,9 @@
 use Rattle.std.proofs.Common.{◌≡◌}
 use Rattle.cbor_decode.specs.Gives.{Step}
 use Rattle.cbor_decode.specs.Heads.{remaining_of}
-use Rattle.cbor_collections.specs.Accesses.{turns}
-use Rattle.cbor_scalars.specs.Takes.{context, formats_of}
-use Rattle.cbor_collections.proofs.facts.Arrays.{SoFar, EachRead}
+use Rattle.cbor_decode_as.specs.Accesses.{turns}
+use Rattle.cbor_decode_as.specs.Takes.{context, formats_of}
+use Rattle.cbor_decode_as.proofs.facts.Arrays.{SoFar, EachRead}
 use Rattle.cbor_de.proofs.types.sequences.VecDeserialize.deserialize.Given as goal
 
 abbrev pub invariant-items : goal.invariant-items

@@ -3,13 +3,13 @@ use Rattle.cbor_model.specs.Reader.{item_at}
 use Rattle.cbor_model.specs.Value.{value}
 use Rattle.cbor_decode.specs.Gives.{limits, values}
 use Rattle.cbor_decode.specs.Memory.{ReadsStored}
-use Rattle.cbor_scalars.proofs.facts.Refusals.{error_only}
-use Rattle.cbor_scalars.specs.Takes.{formats_of}
+use Rattle.cbor_decode_as.proofs.facts.Refusals.{error_only}
+use Rattle.cbor_decode_as.specs.Takes.{formats_of}
 use Rattle.cbor_decode.proofs.facts.Readings.{along, value_seen}
 use Rattle.cbor_de.proofs.Faults.{AsValue, value_taken, value_refused}
-use Rattle.cbor_collections.proofs.facts.Places.{kept_alone}
+use Rattle.cbor_decode_as.proofs.facts.Places.{kept_alone}
 use Rattle.cbor_de.proofs.Forms.{item_told}
-use Rattle.cbor_scalars.proofs.facts.Refusals.{told_by}
+use Rattle.cbor_decode_as.proofs.facts.Refusals.{told_by}
 use Rattle.cbor_de.proofs.types.value.ValueDeserialize.deserialize.Goals as goal
 
 pub returns-in-Ok-clause-read : goal.returns-in-Ok-clause-read

@@ -1,7 +1,0 @@
--- Published: the content of a variant.
-
--- the items of a content
-pub use Rattle.cbor_collections.proofs.VariantParts.{end_left, item_lacks, none_comes, one_answer}
-pub use Rattle.cbor_collections.proofs.VariantParts.{only_taken, parts_inside, untold}
--- the identifier tells one variant
-pub use Rattle.cbor_collections.proofs.Variants.{identifier_one, name_one}

@@ -1,5 +1,0 @@
--- Published: what a refusal of one reading says of another.
-
--- after a step, or of what is made of it
-pub use Rattle.cbor_collections.proofs.Refusing.{refuses_by, refuses_fault, refuses_map}
-pub use Rattle.cbor_collections.proofs.Refusing.{refuses_memory, refuses_then}

@@ -1,5 +1,0 @@
--- Published: arrays of so many items, each read as a type of its own.
-
--- the items that were read, and those that follow
-pub use Rattle.cbor_collections.proofs.Tuples.{Empty, Then, empty_rest, first_follows, none_all}
-pub use Rattle.cbor_collections.proofs.Tuples.{one_more, then_all, then_more, then_rest}

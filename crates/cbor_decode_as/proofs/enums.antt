@@ -1,0 +1,8 @@
+-- Enums: how they begin, which variant they are, and its content.
+pub mod VariantParts
+pub mod Variants
+pub mod VariantHeads
+pub mod VariantShapes
+pub mod VariantPairs
+pub mod VariantMaps
+pub mod VariantForms

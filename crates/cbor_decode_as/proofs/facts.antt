@@ -1,0 +1,12 @@
+-- What the crates above may cite of this crate's proofs, and nothing else.
+pub mod Heads
+pub mod Items
+pub mod Refusals
+pub mod Options
+pub mod Strings
+pub mod Arrays
+pub mod Tuples
+pub mod Maps
+pub mod Enums
+pub mod Readings
+pub mod Places

@@ -1,0 +1,8 @@
+-- Strings and names, owned and lent.
+pub mod PassedStrings
+pub mod PassedLent
+pub mod Contents
+pub mod MemoryAsked
+pub mod Lending
+pub mod ByteStrings
+pub mod Identifiers

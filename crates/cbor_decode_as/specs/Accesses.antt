@@ -1,0 +1,117 @@
+-- What the calls of an access take of its source.
+use Rattle.std.specs.Prelude.{◌≡◌, ℕ, ◌^◌, ◌-◌, Bool, List, Option, Some, None, Result}
+use Rattle.std.specs.Prelude.{Ok, Err}
+use Rattle.cbor_model.specs.Formats.{Formats}
+use Rattle.cbor_model.specs.Head.{HeadWidth}
+use Rattle.cbor_model.specs.Raw.{Raw, Raws, Length, array}
+use Rattle.cbor_model.specs.Readable.{PassesTags}
+use Rattle.cbor_model.specs.Refusal.{end_in_array}
+use Rattle.cbor_model.specs.Reader.{Reads, ◌>>=◌, next_at, parts_at, items_of, item_at}
+use Rattle.cbor_model.specs.Reader as reader
+use Rattle.cbor_io.specs.declared.error.Error.{Error}
+use Rattle.cbor_io.specs.declared.read_error.ReadErrorCode.{ReadErrorCode}
+use Rattle.cbor_io.specs.Error.{code_of, offset_of}
+use Rattle.cbor_read.specs.Source.{Input, TookSome}
+use Rattle.cbor_decode.specs.Cursor.{behind_next, ended_at}
+use Rattle.cbor_decode.specs.Gives.{Limits, Step}
+use Rattle.cbor_decode.specs.Heads.{remaining_of}
+use Rattle.cbor_decode.specs.declared.cursor.Remaining.{Remaining}
+use Rattle.cbor_decode.specs.declared.cursor.Remaining.TheVariants.{Counted, ToBreak}
+use Rattle.cbor_decode_as.specs.Arrays.{AsArray}
+use Rattle.cbor_decode_as.specs.Opens.{in_tags}
+use Rattle.cbor_decode_as.specs.Takes.{raws, IsRead, IsNotRead, Refuses, TellsFault}
+
+-- the items of an array that remain, where so many levels are left for each
+abbrev pub items_at : Formats → Limits → ℕ → reader.Remaining → List ℕ → Reads Raws
+items_at f l levels remaining bs =
+    parts_at (items_of (raws f l) (item_at (raws f l) levels)) remaining bs
+
+-- an array of this length, of the items that are read
+abbrev pub array_of : Length → Reads Raws → Reads Raw
+array_of n items = items >>= (λ rs. Ok (array n rs.0, rs.1))
+
+-- The item that is read is an array within tags. Of its items so much remains, and so many levels are
+-- left for each.
+pub record IsArrayHead (f : Formats) (l : Limits) (read : Reads Raw) (left : ℕ) (remaining : Remaining) (rest : List ℕ) : Type 0 where
+  pub tags : List (HeadWidth × ℕ)
+  pub len : Length
+  pub is : read ≡ in_tags tags (array_of len (items_at f l left (remaining_of remaining) rest))
+
+-- an array is read as its items
+abbrev pub IsItems : Raw → Raws → Type 0
+IsItems = AsArray (λ rs items. rs ≡ items)
+
+-- no array is at the front
+abbrev pub RefusesArray : (ReadErrorCode → Bool) → Formats → ℕ → Input → Input → Error → Type 0
+RefusesArray refusals f levels s t e = Refuses refusals s t (code_of e) (offset_of e)
+    (λ l bs. IsNotRead (PassesTags IsItems) (item_at (raws f l) levels bs))
+
+-- The head of the array at the front was taken; or no array is there.
+abbrev pub TakesHead : (ReadErrorCode → Bool) → Formats → ℕ → Input → Input → ℕ
+    → Result Remaining Error → Type 0
+TakesHead refusals f levels s t left (Ok remaining) = Step s t
+    (λ l bs rest. IsArrayHead f l (item_at (raws f l) levels bs) left remaining rest)
+TakesHead refusals f levels s t left (Err e) = RefusesArray refusals f levels s t e
+
+-- ---- one item after the other
+
+-- Another item comes, and it is read as x.
+pub record IsNextItem {A : Type 0} (reads : Raw → A → Type 0) (f : Formats) (levels : ℕ) (remaining behind : reader.Remaining) (x : A) (l : Limits) (bs rest : List ℕ) : Type 0 where
+  pub start : List ℕ
+  pub next : next_at end_in_array remaining bs ≡ Ok (Some behind, start)
+  pub item : IsRead reads (item_at (raws f l) levels start) x rest
+
+-- no item comes
+abbrev pub IsEnd : reader.Remaining → Limits → List ℕ → List ℕ → Type 0
+IsEnd remaining l bs rest = next_at end_in_array remaining bs ≡ Ok (None, rest)
+
+-- the next item is read as x, or none comes
+abbrev pub IsNext : {A : Type 0} → (Raw → A → Type 0) → Formats → ℕ → reader.Remaining
+    → reader.Remaining → Option A → Limits → List ℕ → List ℕ → Type 0
+IsNext reads f levels remaining behind (Some x) l bs rest =
+    IsNextItem reads f levels remaining behind x l bs rest
+IsNext reads f levels remaining behind None l bs rest = IsEnd remaining l bs rest
+
+-- What a call gave for the next item of an array of which so much remains; or that neither an item is
+-- there that is read as something, nor the end.
+abbrev pub TakesNext : {A : Type 0} → (ReadErrorCode → Bool) → Formats → (Raw → A → Type 0) → ℕ
+    → Remaining → Remaining → Input → Input → Result (Option A) Error → Type 0
+TakesNext refusals f reads levels remaining behind s t (Ok next) = Step s t
+    (IsNext reads f levels (remaining_of remaining) (remaining_of behind) next)
+TakesNext {A} refusals f reads levels remaining behind s t (Err e) =
+    Refuses refusals s t (code_of e) (offset_of e)
+    (λ l bs. (next : Option A) (after : reader.Remaining) (rest : List ℕ) → IsNext reads f levels (remaining_of remaining) after next l bs rest → ⊥)
+
+-- The next item was read as x; or no item comes that is read as something.
+abbrev pub TakesPart : {A : Type 0} → (ReadErrorCode → Bool) → Formats → (Raw → A → Type 0) → ℕ
+    → Remaining → Remaining → Input → Input → Result A Error → Type 0
+TakesPart refusals f reads levels remaining behind s t (Ok x) = Step s t
+    (IsNextItem reads f levels (remaining_of remaining) (remaining_of behind) x)
+TakesPart {A} refusals f reads levels remaining behind s t (Err e) =
+    Refuses refusals s t (code_of e) (offset_of e)
+    (λ l bs. (x : A) (after : reader.Remaining) (rest : List ℕ) → IsNextItem reads f levels (remaining_of remaining) after x l bs rest → ⊥)
+
+-- how many more items can follow: a loop over them ends
+abbrev pub turns : Remaining → Input → ℕ
+turns (Counted n) s = n
+turns ToBreak s = 2 ^ 64 - s.offset
+
+-- The array's end was taken; or the error tells why not, and some bytes were taken.
+abbrev pub TakesEnd : (ReadErrorCode → Bool) → Remaining → Input → Input → Result (Unit {0}) Error
+    → Type 0
+TakesEnd refusals remaining s t (Ok u) =
+    Step s t (λ l bs rest. ended_at end_in_array (remaining_of remaining) bs ≡ Ok (tt, rest))
+TakesEnd refusals remaining s t (Err e) =
+    TookSome s t × TellsFault refusals (λ l. ended_at end_in_array (remaining_of remaining)) s e
+
+-- what is left of a declared count
+abbrev pub size_of : Remaining → Option ℕ
+size_of (Counted n) = Some n
+size_of ToBreak = None
+
+-- Whether another item comes, and what remains after it; or that neither an item comes nor the end.
+abbrev pub TakesMore : (ReadErrorCode → Bool) → Remaining → Remaining → Input → Input
+    → Result Bool Error → Type 0
+TakesMore refusals remaining behind s t (Ok more) = Step s t (λ l bs rest. next_at end_in_array (remaining_of remaining) bs ≡ Ok (behind_next behind more, rest))
+TakesMore refusals remaining behind s t (Err e) = Refuses refusals s t (code_of e) (offset_of e)
+    (λ l bs. (next : Option reader.Remaining) (rest : List ℕ) → next_at end_in_array (remaining_of remaining) bs ≡ Ok (next, rest) → ⊥)

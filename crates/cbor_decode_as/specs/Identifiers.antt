@@ -1,0 +1,108 @@
+-- What names a field of a struct, or a variant of an enum.
+use Rattle.std.specs.Prelude.{⊤, ◌≡◌, ◌≢◌, ℕ, Bool, zero, suc, List, [], ◌∷◌, length, Option, Some, None}
+use Rattle.std.specs.Prelude.{nat_lt, Result, Ok, Err, if◌then◌else◌, refl}
+use Rattle.std.specs.Prelude as prelude
+use Rattle.std.specs.Borrow.{Bor}
+use Rattle.std.specs.Str.{IsUtf8}
+use Rattle.cbor_model.specs.Head.{no_bytes, one_byte}
+use Rattle.cbor_model.specs.Raw as raw
+use Rattle.cbor_model.specs.Raw.{Raw}
+use Rattle.cbor_model.specs.Readable.{IsString}
+use Rattle.cbor_io.specs.declared.error.Error.{Error}
+use Rattle.cbor_io.specs.declared.read_error.ReadError.{ReadError}
+use Rattle.cbor_io.specs.declared.read_error.ReadErrorCode.{ReadErrorCode}
+use Rattle.cbor_io.specs.Error.{code_of, offset_of}
+use Rattle.cbor_read.specs.Source.{Input}
+use Rattle.cbor_decode.specs.Gives.{Step, IsErrorOf, TellsNoKey}
+use Rattle.cbor_decode.specs.declared.head.Head.{Head}
+use Rattle.cbor_decode.specs.declared.refusal.Refused as kept
+use Rattle.cbor_decode_as.specs.Strings.{content_at}
+use Rattle.cbor_decode_as.specs.Takes.{IsMessage, Refuses, RefusesWhole}
+use Rattle.cbor_decode_as.specs.declared.identifier.Why.{Why}
+use Rattle.cbor_decode_as.specs.declared.identifier.Why.TheVariants.{Refused, Other}
+
+-- the texts that references lead to
+abbrev pub texts : List (Bor (List ℕ)) → List (List ℕ)
+texts names = prelude.map (λ n. n.now) names
+
+-- the first of the names that is this text
+abbrev pub IsFirst : List (List ℕ) → List ℕ → ℕ → Type 0
+IsFirst [] b i = ⊥
+IsFirst (n ∷ ns) b zero = n ≡ b
+IsFirst (n ∷ ns) b (suc i) = (n ≢ b) × IsFirst ns b i
+
+-- the place of the first name that is this text, if one is
+abbrev pub IsPlace : List (List ℕ) → List ℕ → Option ℕ → Type 0
+IsPlace names b (Some i) = IsFirst names b i
+IsPlace names b None = (i : ℕ) → IsFirst names b i → ⊥
+
+-- the place that a number is, if there is a name
+abbrev pub place_of : List (List ℕ) → ℕ → Option ℕ
+place_of names n = if nat_lt n (length names) then Some n else None
+
+-- The place that an item tells: a number from 0 is the place itself, and a text or byte string is a
+-- name. None where nothing is at that place, or has that name.
+abbrev pub IsIdentifier : List (List ℕ) → Raw → Option ℕ → Type 0
+IsIdentifier names (raw.unsigned w n) place = place ≡ place_of names n
+IsIdentifier names r place = (b : List ℕ) × IsString r b × IsPlace names b place
+
+-- ---- calls
+
+-- the error that is made of why nothing was named, by what the decoder keeps
+abbrev pub IsMadeBy : ReadError → Why → Error → Type 0
+IsMadeBy kept (Refused r) e = IsErrorOf kept r e
+IsMadeBy kept Other e = IsMessage e
+
+-- the error that is made of why nothing was named is one of the item at the front
+abbrev pub NamesWhole : (ReadErrorCode → Bool) → ℕ → Input → ReadError → Why → Type 0
+NamesWhole refusals levels s kept w = (e : Error) → IsMadeBy kept w e → RefusesWhole refusals levels s e
+
+-- what is kept of why nothing was named isn't the key rule's
+abbrev pub NamesNoKey : ReadError → Why → Type 0
+NamesNoKey kept (Refused r) = TellsNoKey kept r
+NamesNoKey kept Other = ⊤
+
+-- The place of the name that these bytes are as a text. Where they aren't UTF-8 they are no text.
+abbrev pub NamesText : List (List ℕ) → List ℕ → Result (Option ℕ) ℕ → Type 0
+NamesText names b (Ok place) = IsUtf8 b × IsPlace names b place
+NamesText names b (Err back) = IsUtf8 b → ⊥
+
+-- A string of these bytes was taken after its head.
+abbrev pub Content : Head → Input → Input → List ℕ → Type 0
+Content h s t b = Step s t (λ l bs rest. content_at l h bs ≡ Ok (b, rest))
+
+-- The name that a text is was taken after its head; or no text is there.
+abbrev pub TakesName : (ReadErrorCode → Bool) → List (List ℕ) → Head → Input → Input
+    → ReadError → Result (Option ℕ) kept.Refused → Type 0
+TakesName refusals names h s t kept (Ok place) =
+    (b : List ℕ) × IsUtf8 b × IsPlace names b place × Content h s t b
+TakesName refusals names h s t kept (Err r) = (e : Error) → IsErrorOf kept r e
+    → Refuses refusals s t (code_of e) (offset_of e)
+    (λ l bs. (b rest : List ℕ) → content_at l h bs ≡ Ok (b, rest) → IsUtf8 b → ⊥)
+
+-- The name that a byte string is was taken after its head; or none is there.
+abbrev pub TakesBytesName : (ReadErrorCode → Bool) → List (List ℕ) → Head → Input → Input
+    → ReadError → Result (Option ℕ) Why → Type 0
+TakesBytesName refusals names h s t kept (Ok place) =
+    (b : List ℕ) × IsPlace names b place × Content h s t b
+TakesBytesName refusals names h s t kept (Err why) = (e : Error) → IsMadeBy kept why e
+    → Refuses refusals s t (code_of e) (offset_of e)
+    (λ l bs. (b rest : List ℕ) → content_at l h bs ≡ Ok (b, rest) → ⊥)
+
+-- ---- examples
+
+-- "a" and "ab"
+abbrev two_names : List (List ℕ)
+two_names = (0x61 ∷ []) ∷ (0x61 ∷ 0x62 ∷ []) ∷ []
+
+-- 1, with a longer head, is the second place, and 2 is none
+number_is_place : IsIdentifier two_names (raw.unsigned one_byte 1) (Some 1)
+number_is_place = refl
+
+number_beyond : IsIdentifier two_names (raw.unsigned no_bytes 2) None
+number_beyond = refl
+
+-- the byte string of "ab" is the second name
+byte_string_is_name : IsIdentifier two_names
+    (raw.bytes (record { width = no_bytes; bytes = 0x61 ∷ 0x62 ∷ [] })) (Some 1)
+byte_string_is_name = (0x61 ∷ 0x62 ∷ [], refl, ((λ e. cc), refl))

@@ -1,0 +1,112 @@
+-- What the calls of an access to a map take of its source.
+use Rattle.std.specs.Prelude.{◌≡◌, ℕ, Bool, true, false, List, Option, Some, None}
+use Rattle.std.specs.Prelude.{Result, Ok, Err}
+use Rattle.cbor_model.specs.Formats.{Formats, may_begin_key}
+use Rattle.cbor_model.specs.Head.{HeadWidth}
+use Rattle.cbor_model.specs.Raw.{Raw, RawPairs, Length, map}
+use Rattle.cbor_model.specs.Readable.{PassesTags}
+use Rattle.cbor_model.specs.Refusal.{end_in_map}
+use Rattle.cbor_model.specs.Reader.{Reads, ◌>>=◌, next_at, key_at, parts_at, pairs_of, item_at}
+use Rattle.cbor_model.specs.Reader as reader
+use Rattle.cbor_io.specs.declared.error.Error.{Error}
+use Rattle.cbor_io.specs.declared.read_error.ReadErrorCode.{ReadErrorCode}
+use Rattle.cbor_io.specs.Error.{code_of, offset_of}
+use Rattle.cbor_read.specs.Source.{Input, TookSome}
+use Rattle.cbor_decode.specs.Cursor.{ended_at}
+use Rattle.cbor_decode.specs.Gives.{Limits, Step}
+use Rattle.cbor_decode.specs.Heads.{remaining_of}
+use Rattle.cbor_decode.specs.declared.cursor.Remaining.{Remaining}
+use Rattle.cbor_decode_as.specs.Maps.{AsMap}
+use Rattle.cbor_decode_as.specs.Opens.{in_tags}
+use Rattle.cbor_decode_as.specs.Takes.{raws, IsRead, IsNotRead, Refuses, TellsFault}
+
+-- the pairs of a map that remain, where so many levels are left for each key and each value
+abbrev pub pairs_at : Formats → Limits → ℕ → reader.Remaining → List ℕ → Reads RawPairs
+pairs_at f l levels remaining bs =
+    parts_at (pairs_of (raws f l) (item_at (raws f l) levels)) remaining bs
+
+-- a map of this length, of the pairs that are read
+abbrev pub map_of : Length → Reads RawPairs → Reads Raw
+map_of n pairs = pairs >>= (λ rs. Ok (map n rs.0, rs.1))
+
+-- The item that is read is a map within tags. Of its pairs so much remains, and so many levels are
+-- left for each key and each value.
+pub record IsMapHead (f : Formats) (l : Limits) (read : Reads Raw) (left : ℕ) (remaining : Remaining) (rest : List ℕ) : Type 0 where
+  pub tags : List (HeadWidth × ℕ)
+  pub len : Length
+  pub is : read ≡ in_tags tags (map_of len (pairs_at f l left (remaining_of remaining) rest))
+
+-- a map is read as its pairs
+abbrev pub IsPairs : Raw → RawPairs → Type 0
+IsPairs = AsMap (λ rs pairs. rs ≡ pairs)
+
+-- no map is at the front
+abbrev pub RefusesMap : (ReadErrorCode → Bool) → Formats → ℕ → Input → Input → Error → Type 0
+RefusesMap refusals f levels s t e = Refuses refusals s t (code_of e) (offset_of e)
+    (λ l bs. IsNotRead (PassesTags IsPairs) (item_at (raws f l) levels bs))
+
+-- The head of the map at the front was taken; or no map is there.
+abbrev pub TakesMapHead : (ReadErrorCode → Bool) → Formats → ℕ → Input → Input → ℕ
+    → Result Remaining Error → Type 0
+TakesMapHead refusals f levels s t left (Ok remaining) = Step s t
+    (λ l bs rest. IsMapHead f l (item_at (raws f l) levels bs) left remaining rest)
+TakesMapHead refusals f levels s t left (Err e) = RefusesMap refusals f levels s t e
+
+-- ---- one pair after the other
+
+-- the key at the front, of which nothing is taken
+abbrev pub key_front : Formats → List ℕ → Reads (Unit {0})
+key_front f bs = key_at (may_begin_key f) (λ key. Ok (tt, key)) bs
+
+-- Whether another pair comes, whose key may begin as it does.
+abbrev pub Comes : Formats → reader.Remaining → reader.Remaining → Bool → List ℕ → List ℕ → Type 0
+Comes f remaining behind false bs rest = next_at end_in_map remaining bs ≡ Ok (None, rest)
+Comes f remaining behind true bs rest =
+    (next_at end_in_map remaining bs ≡ Ok (Some behind, rest)) × (key_front f rest ≡ Ok (tt, rest))
+
+-- Whether another pair comes, and what remains after it; or that neither a key comes that may begin
+-- as it does nor the end.
+abbrev pub TakesMorePairs : (ReadErrorCode → Bool) → Formats → Remaining → Remaining → Input
+    → Input → Result Bool Error → Type 0
+TakesMorePairs refusals f remaining behind s t (Ok more) = Step s t
+    (λ l bs rest. Comes f (remaining_of remaining) (remaining_of behind) more bs rest)
+TakesMorePairs refusals f remaining behind s t (Err e) =
+    Refuses refusals s t (code_of e) (offset_of e)
+    (λ l bs. (more : Bool) (after : reader.Remaining) (rest : List ℕ)
+    → Comes f (remaining_of remaining) after more bs rest → ⊥)
+
+-- Another pair comes, and its key is read as k.
+pub record IsNextKey {K : Type 0} (reads : Raw → K → Type 0) (f : Formats) (levels : ℕ) (remaining behind : reader.Remaining) (k : K) (l : Limits) (bs rest : List ℕ) : Type 0 where
+  pub start : List ℕ
+  pub next : next_at end_in_map remaining bs ≡ Ok (Some behind, start)
+  pub key : IsRead reads (key_at (may_begin_key f) (item_at (raws f l) levels) start) k rest
+
+-- no pair comes
+abbrev pub IsMapEnd : reader.Remaining → Limits → List ℕ → List ℕ → Type 0
+IsMapEnd remaining l bs rest = next_at end_in_map remaining bs ≡ Ok (None, rest)
+
+-- the next key is read as k, or no pair comes
+abbrev pub IsKey : {K : Type 0} → (Raw → K → Type 0) → Formats → ℕ → reader.Remaining
+    → reader.Remaining → Option K → Limits → List ℕ → List ℕ → Type 0
+IsKey reads f levels remaining behind (Some k) l bs rest =
+    IsNextKey reads f levels remaining behind k l bs rest
+IsKey reads f levels remaining behind None l bs rest = IsMapEnd remaining l bs rest
+
+-- What a call gave for the next key of a map of which so much remains; or that neither a key is there
+-- that is read as something, nor the end.
+abbrev pub TakesKey : {K : Type 0} → (ReadErrorCode → Bool) → Formats → (Raw → K → Type 0) → ℕ
+    → Remaining → Remaining → Input → Input → Result (Option K) Error → Type 0
+TakesKey refusals f reads levels remaining behind s t (Ok next) = Step s t
+    (IsKey reads f levels (remaining_of remaining) (remaining_of behind) next)
+TakesKey {K} refusals f reads levels remaining behind s t (Err e) =
+    Refuses refusals s t (code_of e) (offset_of e)
+    (λ l bs. (next : Option K) (after : reader.Remaining) (rest : List ℕ)
+    → IsKey reads f levels (remaining_of remaining) after next l bs rest → ⊥)
+
+-- The map's end was taken; or the error tells why not, and some bytes were taken.
+abbrev pub TakesMapEnd : (ReadErrorCode → Bool) → Remaining → Input → Input
+    → Result (Unit {0}) Error → Type 0
+TakesMapEnd refusals remaining s t (Ok u) =
+    Step s t (λ l bs rest. ended_at end_in_map (remaining_of remaining) bs ≡ Ok (tt, rest))
+TakesMapEnd refusals remaining s t (Err e) =
+    TookSome s t × TellsFault refusals (λ l. ended_at end_in_map (remaining_of remaining)) s e

@@ -1,0 +1,231 @@
+//! Whole numbers (RFC 7049, section 2.1, major types 0 and 1).
+
+ghost use Rattle.std.specs.Prelude.{◌≡◌, ◌≤◌, ◌<◌, ◌-◌, ◌^◌, ℕ, ℤ, pos, IfOk, IfErr};
+ghost use Rattle.std.specs.Prelude.{MatchOption, OnOk};
+ghost use Rattle.cbor_model.specs.Readable.{PassesTags, IsInteger, IsFromZero, IsSigned, IsWithin};
+ghost use Rattle.cbor_io.specs.Error.{code_of};
+ghost use Rattle.cbor_decode.specs.Gives.{Onward, TellsNoForm};
+ghost use Rattle.cbor_read.specs.Source.{TookSome};
+ghost use Rattle.cbor_decode_as.specs.Opens.{RefusesBehind};
+ghost use Rattle.cbor_decode_as.specs.Scalars.{IsNumber};
+ghost use Rattle.cbor_decode_as.specs.Takes.{RefusesWhole, TakesItem, TakesNoMemory, formats_of};
+
+use crate::opening::{Found, unread};
+use crate::scalar::scalar;
+use cbor_decode::{Decoder, Head};
+use cbor_io::error::{Error, Result};
+use cbor_read::Source;
+
+// The number that a head is.
+#[inline(always)]
+fn integer(head: Head) -> Option<i128>
+    ensures { MatchOption result ((z : ℤ) → IsNumber head z → ⊥) (λ z. IsNumber head z) }
+{
+    match head {
+        Head::Unsigned(n) => Some(n as i128),
+        Head::Negative(n) => Some(-1 - n as i128),
+        _ => None,
+    }
+}
+
+// The number that a head is, from 0 to the most.
+#[inline(always)]
+fn from_zero(head: Head, most: u64) -> Option<u64>
+    ensures { MatchOption result ((n : ℕ) → IsNumber head (pos n) → n ≤ most → ⊥)
+        (λ n. IsNumber head (pos n) × (n ≤ most)) }
+{
+    match head {
+        Head::Unsigned(n) => { if n <= most { Some(n) } else { None } }
+        _ => None,
+    }
+}
+
+// The number that a head is, from 0.
+#[inline(always)]
+fn natural(head: Head) -> Option<u128>
+    ensures { MatchOption result ((n : ℕ) → IsNumber head (pos n) → ⊥)
+        (λ n. IsNumber head (pos n) × (n ≤ 2 ^ 128 - 1)) }
+{
+    match head {
+        Head::Unsigned(n) => Some(n as u128),
+        _ => None,
+    }
+}
+
+// The number that a head is, from -1 - most to the most.
+#[inline(always)]
+fn signed(head: Head, most: u64) -> Option<i64>
+    requires { most < 2 ^ 63 }
+    ensures { MatchOption result ((z : ℤ) → IsNumber head z → IsWithin most z → ⊥)
+        (λ z. IsNumber head z × IsWithin most z) }
+{
+    match head {
+        Head::Unsigned(n) => { if n <= most { Some(n as i64) } else { None } }
+        Head::Negative(n) => { if n <= most { Some(-1 - n as i64) } else { None } }
+        _ => None,
+    }
+}
+
+/// Reads a whole number. What isn't whole is refused by its fault, and another item by a message.
+#[inline(always)]
+pub fn read_integer<R: Source>(decoder: &mut Decoder<R>) -> Result<i128>
+    ensures read { TakesItem R.refusals (formats_of decoder.old.formats)
+        (PassesTags IsInteger) decoder.old.levels
+        (R.source decoder.old.source) (R.source decoder.new.source) result }
+    ensures taken { OnOk result (Onward (R.source decoder.old.source) (R.source decoder.new.source)) }
+    ensures fault { IfErr result (RefusesWhole R.refusals decoder.old.levels
+        (R.source decoder.old.source)) }
+    ensures no_form { IfErr result (λ e. TellsNoForm (code_of e)) }
+    ensures memory { IfErr result (TakesNoMemory (formats_of decoder.old.formats)
+        (PassesTags IsInteger) decoder.old.levels (R.source decoder.old.source)) }
+    ensures levels { decoder.new.levels ≡ decoder.old.levels }
+    ensures formats { decoder.new.formats ≡ decoder.old.formats }
+{
+    let found = match scalar(decoder) {
+        Ok(found) => found,
+        Err(refused) => return Err(decoder.error(refused)),
+    };
+    match integer(found.head) {
+        Some(number) => Ok(number),
+        None => Err(unread(
+            decoder,
+            Found {
+                head: found.head,
+                levels: found.levels,
+            },
+            "invalid type: expected an integer",
+        )),
+    }
+}
+
+/// Reads a number from 0 to the most; the message is for another number. It refuses as
+/// [`read_integer`] does.
+#[inline(always)]
+pub fn read_from_zero<R: Source>(
+    decoder: &mut Decoder<R>,
+    most: u64,
+    message: &'static str,
+) -> Result<u64>
+    ensures read { TakesItem R.refusals (formats_of decoder.old.formats)
+        (PassesTags (IsFromZero most)) decoder.old.levels
+        (R.source decoder.old.source) (R.source decoder.new.source) result }
+    ensures taken { OnOk result (Onward (R.source decoder.old.source) (R.source decoder.new.source)) }
+    ensures bound { IfOk result (λ n. n ≤ most) }
+    ensures fault { IfErr result (RefusesWhole R.refusals decoder.old.levels
+        (R.source decoder.old.source)) }
+    ensures no_form { IfErr result (λ e. TellsNoForm (code_of e)) }
+    ensures memory { IfErr result (TakesNoMemory (formats_of decoder.old.formats)
+        (PassesTags (IsFromZero most)) decoder.old.levels (R.source decoder.old.source)) }
+    ensures levels { decoder.new.levels ≡ decoder.old.levels }
+    ensures formats { decoder.new.formats ≡ decoder.old.formats }
+{
+    let found = match scalar(decoder) {
+        Ok(found) => found,
+        Err(refused) => return Err(decoder.error(refused)),
+    };
+    match from_zero(found.head, most) {
+        Some(number) => Ok(number),
+        None => Err(no_number(
+            decoder,
+            Found {
+                head: found.head,
+                levels: found.levels,
+            },
+            message,
+        )),
+    }
+}
+
+/// Reads a number from 0. It refuses as [`read_integer`] does.
+#[inline(always)]
+pub fn read_u128<R: Source>(decoder: &mut Decoder<R>) -> Result<u128>
+    ensures read { TakesItem R.refusals (formats_of decoder.old.formats)
+        (PassesTags (IsFromZero (2 ^ 128 - 1))) decoder.old.levels
+        (R.source decoder.old.source) (R.source decoder.new.source) result }
+    ensures taken { OnOk result (Onward (R.source decoder.old.source) (R.source decoder.new.source)) }
+    ensures fault { IfErr result (RefusesWhole R.refusals decoder.old.levels
+        (R.source decoder.old.source)) }
+    ensures no_form { IfErr result (λ e. TellsNoForm (code_of e)) }
+    ensures memory { IfErr result (TakesNoMemory (formats_of decoder.old.formats)
+        (PassesTags (IsFromZero (2 ^ 128 - 1))) decoder.old.levels (R.source decoder.old.source)) }
+    ensures levels { decoder.new.levels ≡ decoder.old.levels }
+    ensures formats { decoder.new.formats ≡ decoder.old.formats }
+{
+    let found = match scalar(decoder) {
+        Ok(found) => found,
+        Err(refused) => return Err(decoder.error(refused)),
+    };
+    match natural(found.head) {
+        Some(number) => Ok(number),
+        None => Err(no_number(
+            decoder,
+            Found {
+                head: found.head,
+                levels: found.levels,
+            },
+            "integer out of range: expected u128",
+        )),
+    }
+}
+
+/// Reads a number from -1 - most to the most; the message is for another number. It refuses as
+/// [`read_integer`] does.
+#[inline(always)]
+pub fn read_signed<R: Source>(
+    decoder: &mut Decoder<R>,
+    most: u64,
+    message: &'static str,
+) -> Result<i64>
+    requires { most < 2 ^ 63 }
+    ensures read { TakesItem R.refusals (formats_of decoder.old.formats)
+        (PassesTags (IsSigned most)) decoder.old.levels
+        (R.source decoder.old.source) (R.source decoder.new.source) result }
+    ensures taken { OnOk result (Onward (R.source decoder.old.source) (R.source decoder.new.source)) }
+    ensures bounds { IfOk result (IsWithin most) }
+    ensures fault { IfErr result (RefusesWhole R.refusals decoder.old.levels
+        (R.source decoder.old.source)) }
+    ensures no_form { IfErr result (λ e. TellsNoForm (code_of e)) }
+    ensures memory { IfErr result (TakesNoMemory (formats_of decoder.old.formats)
+        (PassesTags (IsSigned most)) decoder.old.levels (R.source decoder.old.source)) }
+    ensures levels { decoder.new.levels ≡ decoder.old.levels }
+    ensures formats { decoder.new.formats ≡ decoder.old.formats }
+{
+    let found = match scalar(decoder) {
+        Ok(found) => found,
+        Err(refused) => return Err(decoder.error(refused)),
+    };
+    match signed(found.head, most) {
+        Some(number) => Ok(number),
+        None => Err(no_number(
+            decoder,
+            Found {
+                head: found.head,
+                levels: found.levels,
+            },
+            message,
+        )),
+    }
+}
+
+// The error of an item that isn't a number in the range.
+#[cold]
+#[inline(never)]
+fn no_number<R: Source>(decoder: &mut Decoder<R>, found: Found, message: &'static str) -> Error
+    ensures fault { RefusesBehind R.refusals found (R.source decoder.old.source) result }
+    ensures no_form { TellsNoForm (code_of result) }
+    ensures took { TookSome (R.source decoder.old.source) (R.source decoder.new.source) }
+    ensures levels { decoder.new.levels ≡ decoder.old.levels }
+    ensures formats { decoder.new.formats ≡ decoder.old.formats }
+{
+    match found.head {
+        Head::Unsigned(_) | Head::Negative(_) => Error::message(decoder.alloc, message),
+        _ => unread(
+            decoder,
+            Found {
+                head: found.head,
+                levels: found.levels,
+            },
+            "invalid type: expected an integer",
+        ),
+    }
+}

@@ -1,0 +1,24 @@
+//! What a type's reading takes of a [`Decoder`](cbor_decode::Decoder): an item as a simple value,
+//! a number, a string, a name among given ones; and what stands around the items of an array, a map
+//! or an enum: heads, whether another one comes, ends, the names of variants; and the tags before.
+//!
+//! What reads types stands above it (`cbor_de`), which knows the types of the items within.
+//!
+//! This crate names the definitions of `cbor_model` and its facts on the reference reader, the
+//! errors and the sources of `cbor_io`, the floats of `cbor_value`, and `cbor_decode` with its
+//! facts. Others rely on the contracts, on the words that they use, and on the published facts.
+#![tactic(auto)]
+
+pub mod array;
+pub mod byte_strings;
+pub mod floats;
+pub mod identifier;
+pub mod integer;
+pub mod lent;
+pub mod map;
+pub mod opening;
+pub mod optional;
+pub mod scalar;
+pub mod strings;
+pub mod tags;
+pub mod variant;

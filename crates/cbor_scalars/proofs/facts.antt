@@ -1,6 +1,0 @@
--- What the crates above may cite of this crate's proofs, and nothing else.
-pub mod Heads
-pub mod Items
-pub mod Refusals
-pub mod Options
-pub mod Strings
