@@ -1,6 +1,6 @@
 -- What byte strings are read as.
 use Rattle.std.proofs.Common.{ℕ, Bool, List, length, Result, Ok, Err, IfErr, ap, sym, subst, ◌∙◌}
-use Rattle.cbor_bytes.specs.declared.ByteArray.{ByteArray}
+use Rattle.cbor_value.specs.declared.bytes.ByteArray.{ByteArray}
 use Rattle.cbor_model.specs.Formats.{Formats}
 use Rattle.cbor_model.specs.Raw.{Raw}
 use Rattle.cbor_model.specs.Readable.{PassesTags}

@@ -1,6 +1,6 @@
 -- Byte strings of a length that the type says.
 use Rattle.std.specs.Prelude.{◌≡◌, ℕ, List, length, Result, Ok, Err}
-use Rattle.cbor_bytes.specs.declared.ByteArray.{ByteArray}
+use Rattle.cbor_value.specs.declared.bytes.ByteArray.{ByteArray}
 use Rattle.cbor_io.specs.declared.error.Error.{Error}
 
 -- the array that these bytes are, or that they are none, of another length

@@ -1,7 +1,7 @@
 //! The types of the standard library but its tuples, byte strings, floats and values.
 
 use crate::round_trip::{RoundTrip, RoundTripKey};
-use cbor_bytes::{ByteArray, ByteBuf};
+use cbor_value::bytes::{ByteArray, ByteBuf};
 use cbor_tags::Tagged;
 use cbor_value::{Float, Value};
 use std::collections::BTreeMap;

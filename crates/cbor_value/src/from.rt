@@ -5,7 +5,7 @@ ghost use Rattle.cbor_model.specs.Plain as plain;
 ghost use Rattle.cbor_value.specs.View.{view, views, map_view, float_view};
 
 use super::{Float, Map, Value};
-use cbor_bytes::ByteBuf;
+use crate::bytes::ByteBuf;
 
 /// False or true.
 impl From<bool> for Value {

@@ -21,7 +21,7 @@
 pub mod de;
 pub mod stream;
 
-pub use cbor_bytes as bytes;
+pub use cbor_value::bytes;
 pub use cbor_convert::to_vec_canonical;
 pub use cbor_io::error::{Error, Result};
 pub use cbor_io::{error, write};

@@ -1,7 +1,7 @@
 //! Floats as numbers. The bits that are wanted are those of Python's module `struct`.
 
 use crate::checks::writes;
-use cbor_bytes::ByteBuf;
+use cbor_value::bytes::ByteBuf;
 use cbor_value::{Float, Value};
 use std::num::{f32_to_bits_with_nan, f64_to_bits_with_nan};
 use std::process::Abort;

@@ -10,7 +10,7 @@ ghost use Rattle.cbor_de.specs.ByteStrings.{IsArrayOf};
 use crate::de::Deserializer;
 use crate::deserialize::{Deserialize, DeserializeOwned, Readable};
 use crate::sequence::invalid_length;
-use cbor_bytes::{ByteArray, ByteBuf, Bytes};
+use cbor_value::bytes::{ByteArray, ByteBuf, Bytes};
 use cbor_io::error::{Error, Result};
 use cbor_read::{EitherLifetime, Read};
 use cbor_decode_as::byte_strings::{NO_BYTES, read_byte_string};

@@ -3,7 +3,7 @@
 use crate::desk::Desk;
 use crate::row::Row;
 use crate::types::lists;
-use cbor_bytes::{ByteArray, ByteBuf, Bytes};
+use cbor_value::bytes::{ByteArray, ByteBuf, Bytes};
 use cbor_read::Read;
 use cbor_de::Deserializer;
 use std::collections::BTreeMap;

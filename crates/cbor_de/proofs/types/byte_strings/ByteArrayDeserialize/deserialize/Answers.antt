@@ -1,5 +1,5 @@
 use Rattle.std.proofs.Common.{IfErr, subst}
-use Rattle.cbor_bytes.specs.declared.ByteArray.{ByteArray}
+use Rattle.cbor_value.specs.declared.bytes.ByteArray.{ByteArray}
 use Rattle.cbor_model.specs.Raw.{Raw}
 use Rattle.cbor_model.specs.Readable.{PassesTags}
 use Rattle.cbor_model.specs.Reader.{item_at}

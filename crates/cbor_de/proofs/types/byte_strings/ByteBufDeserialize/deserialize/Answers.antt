@@ -1,6 +1,6 @@
 use Rattle.std.proofs.Common.{inl, inr, ℕ, Vec}
 use Rattle.std.specs.Global.{Global}
-use Rattle.cbor_bytes.specs.declared.ByteBuf.{ByteBuf}
+use Rattle.cbor_value.specs.declared.bytes.ByteBuf.{ByteBuf}
 use Rattle.cbor_model.specs.Raw.{Raw}
 use Rattle.cbor_model.specs.Reader.{item_at}
 use Rattle.cbor_decode.specs.Gives.{limits}

@@ -1,5 +1,5 @@
 use Rattle.std.proofs.Common.{IfErr, subst}
-use Rattle.cbor_bytes.specs.declared.Bytes.{Bytes}
+use Rattle.cbor_value.specs.declared.bytes.Bytes.{Bytes}
 use Rattle.cbor_model.specs.Raw.{Raw}
 use Rattle.cbor_read.specs.Source.{asks_for}
 use Rattle.cbor_model.specs.Readable.{untagged, PassesTags}

@@ -3,8 +3,6 @@
 //! `Vec<u8>` and `[u8; N]` are read and written as arrays of numbers, one item for each byte. These
 //! types stand for one byte string (RFC 7049, section 2.1, major type 2), under the names of the
 //! Rust crate `serde_bytes`.
-#![tactic(auto)]
-
 ghost use Rattle.std.specs.Prelude.{◌≡◌, []};
 
 use std::alloc::Global;
