@@ -4,3 +4,6 @@ pub mod Held
 pub mod Named
 pub mod Spelled
 pub mod Given
+pub mod NoTags
+pub mod Tags
+pub mod PeekedTags

@@ -1,2 +1,3 @@
 pub mod Meaning
 pub mod Builders
+pub mod Tagged

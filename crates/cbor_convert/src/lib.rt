@@ -3,15 +3,17 @@
 //!
 //! [`to_value`] and [`from_value`] go from a type to a `Value` and back, [`to_vec_canonical`]
 //! writes the one spelling that stands for a value of any type, and the builders put a `Value`
-//! together part by part.
+//! together part by part. [`Tagged`] keeps the outermost tag of an item (RFC 7049, section 2.4).
 #![tactic(auto)]
 
 mod canonical;
 mod laws;
 mod list;
 mod map;
+mod outermost;
 mod pairs;
 mod reading;
+mod tagged;
 mod values;
 mod variants;
 
@@ -20,5 +22,6 @@ pub use laws::same_value_same_bytes;
 pub use list::SerializeVec;
 pub use map::SerializeMap;
 pub use reading::from_value;
+pub use tagged::Tagged;
 pub use values::{ToValue, to_value};
 pub use variants::{SerializeStructVariant, SerializeTupleVariant};

@@ -2,7 +2,7 @@
 
 use crate::round_trip::{RoundTrip, RoundTripKey};
 use cbor_value::bytes::{ByteArray, ByteBuf};
-use cbor_tags::Tagged;
+use cbor_convert::Tagged;
 use cbor_value::{Float, Value};
 use std::collections::BTreeMap;
 

@@ -87,7 +87,7 @@ pub use Rattle.cbor_convert.specs.Meaning
 pub use Rattle.cbor_convert.specs.Builders
 pub use Rattle.cbor_de.specs.FieldTypes
 pub use Rattle.cbor_described.specs.FieldLists
-pub use Rattle.cbor_tags.specs.Tagged
+pub use Rattle.cbor_convert.specs.Tagged
 pub use Rattle.cbor_round.specs.ReadBack
 pub use Rattle.cbor_round.specs.TypeLaws
 pub use Rattle.cbor_round.specs.Keyed

@@ -20,6 +20,7 @@
 
 pub mod de;
 pub mod stream;
+pub mod tags;
 
 pub use cbor_value::bytes;
 pub use cbor_convert::to_vec_canonical;
@@ -34,7 +35,6 @@ pub use cbor_ser as ser;
 pub use cbor_ser::{Serializer, to_vec, to_writer};
 pub use cbor_strict as strict;
 pub use cbor_strict::{from_slice_canonical, from_slice_canonical_as};
-pub use cbor_tags as tags;
 pub use cbor_de::{
     Deserializer, Formats, StreamDeserializer, from_mut_slice, from_reader, from_slice,
     from_slice_with_scratch,

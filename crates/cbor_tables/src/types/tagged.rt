@@ -3,7 +3,7 @@
 use crate::desk::Desk;
 use crate::row::Row;
 use cbor_read::Read;
-use cbor_tags::Tagged;
+use cbor_convert::Tagged;
 use cbor_de::Deserializer;
 use cbor_value::Value;
 use std::collections::BTreeMap;

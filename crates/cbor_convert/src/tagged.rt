@@ -62,7 +62,7 @@ impl<T> Tagged<T> {
 
 /// Its tag, where it has one, and then the value.
 impl<T: Serialize> Serialize for Tagged<T> {
-    ghost use Rattle.cbor_tags.specs.Tagged.{tagged_document};
+    ghost use Rattle.cbor_convert.specs.Tagged.{tagged_document};
 
     ghost document = { λ t. tagged_document t.tag (T.document t.value) };
 
@@ -79,7 +79,7 @@ impl<T: Serialize> Serialize for Tagged<T> {
 
 /// The outermost tag and what is within it, or an item without a tag.
 impl<T: Readable> Readable for Tagged<T> {
-    ghost use Rattle.cbor_tags.specs.Tagged.{IsTagged};
+    ghost use Rattle.cbor_convert.specs.Tagged.{IsTagged};
 
     ghost reads = { λ c r t. IsTagged (T.reads c) r t.tag t.value };
 
@@ -114,7 +114,7 @@ impl<'de, R: Read<'de>, T: Deserialize<'de, R>> Deserialize<'de, R> for Tagged<T
 }
 
 impl<T: DeserializeOwned> DeserializeOwned for Tagged<T> {
-    ghost use Rattle.cbor_tags.specs.Tagged.{same_tagged};
+    ghost use Rattle.cbor_convert.specs.Tagged.{same_tagged};
 
     ghost same = { λ f a b r t h. same_tagged _ _ (T.same f a b) r t.tag t.value h };
 }

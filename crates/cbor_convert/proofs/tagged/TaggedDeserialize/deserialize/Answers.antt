@@ -1,18 +1,18 @@
 use Rattle.std.proofs.Common.{false, ◌≡◌, ℕ, Some, None, refl, sym, ap, subst, arith}
 use Rattle.cbor_model.specs.Raw.{Raw}
 use Rattle.cbor_model.specs.Reader.{item_at}
-use Rattle.cbor_tags.specs.Tagged.{IsTagged, StandsNoTag}
+use Rattle.cbor_convert.specs.Tagged.{IsTagged, StandsNoTag}
 use Rattle.cbor_read.specs.Source.{Input}
 use Rattle.cbor_io.specs.Error.{code_of, offset_of}
 use Rattle.cbor_decode.specs.Gives.{Step}
 use Rattle.cbor_decode.specs.declared.formats.Formats.{Formats}
 use Rattle.cbor_decode_as.specs.Takes.{raws, context, formats_of, IsRead, IsNotRead, Refuses, TellsItem}
-use Rattle.cbor_tags.specs.declared.tagged.Tagged.{Tagged}
-use Rattle.cbor_tags.proofs.Tags.{tag_read, tag_unread, untagged_taken, untagged_refused, head_refused, tag_told, untagged_told, head_told}
+use Rattle.cbor_convert.specs.declared.tagged.Tagged.{Tagged}
+use Rattle.cbor_convert.proofs.Tags.{tag_read, tag_unread, untagged_taken, untagged_refused, head_refused, tag_told, untagged_told, head_told}
 use Rattle.cbor_decode.proofs.facts.Steps.{took_same}
 use Rattle.cbor_decode_as.proofs.facts.Refusals.{item_total, refuses_on}
 use Rattle.cbor_de.proofs.facts.Forms.{later_in}
-use Rattle.cbor_tags.proofs.tagged.TaggedDeserialize.deserialize.Goals as goal
+use Rattle.cbor_convert.proofs.tagged.TaggedDeserialize.deserialize.Goals as goal
 
 pub leave_tag-requires : goal.leave_tag-requires
 leave_tag-requires g c =

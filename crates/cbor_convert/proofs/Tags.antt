@@ -13,12 +13,12 @@ use Rattle.cbor_io.specs.declared.read_error.ReadErrorCode.{ReadErrorCode}
 use Rattle.cbor_decode.specs.Gives.{FailsBy, Limits, Reports, Step, limits, values}
 use Rattle.cbor_decode.proofs.facts.Steps.{passed_on, step_then}
 use Rattle.cbor_decode_as.specs.Tags.{TagIs, tag_head_at}
-use Rattle.cbor_tags.specs.Tagged.{IsTagged, BeginsNoTag, StandsNoTag}
+use Rattle.cbor_convert.specs.Tagged.{IsTagged, BeginsNoTag, StandsNoTag}
 use Rattle.cbor_io.specs.declared.error.Error.{Error}
 use Rattle.cbor_io.specs.Error.{code_of, offset_of}
 use Rattle.cbor_decode_as.specs.Takes.{TellsFault, TellsItem, WhereTotal}
 use Rattle.cbor_decode_as.proofs.facts.Readings.{refuses_fault, refuses_then}
-use Rattle.cbor_tags.proofs.NoTags.{no_tag_item, tag_stops}
+use Rattle.cbor_convert.proofs.NoTags.{no_tag_item, tag_stops}
 use Rattle.cbor_decode_as.specs.Takes.{raws, IsRead, IsNotRead, Refuses}
 use Rattle.cbor_de.proofs.facts.Readings.{along, value_seen}
 

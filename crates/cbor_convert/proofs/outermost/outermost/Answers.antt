@@ -5,8 +5,8 @@ use Rattle.cbor_decode.specs.declared.refusal.Refused.TheVariants.{Kept}
 use Rattle.cbor_decode_as.specs.Tags.{tag_head_at}
 use Rattle.cbor_decode_as.proofs.facts.Refusals.{told_by}
 use Rattle.cbor_decode.proofs.facts.Steps.{source_stops, byte_refused}
-use Rattle.cbor_tags.proofs.Peeked.{tag_peeked, took_peeked, untold_peeked}
-use Rattle.cbor_tags.proofs.outermost.outermost.Goals as goal
+use Rattle.cbor_convert.proofs.PeekedTags.{tag_peeked, took_peeked, untold_peeked}
+use Rattle.cbor_convert.proofs.outermost.outermost.Goals as goal
 
 pub returns-in-Ok-Some-clause-item : goal.returns-in-Ok-Some-clause-item
 returns-in-Ok-Some-clause-item g c =

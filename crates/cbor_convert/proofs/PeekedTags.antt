@@ -10,7 +10,7 @@ use Rattle.cbor_decode.specs.declared.formats.Formats.{Formats}
 use Rattle.cbor_decode.proofs.facts.Steps.{none_step, some_then, step_then, took_stays}
 use Rattle.cbor_decode_as.specs.Tags.{ReadsTag, TagIs, tag_head_at}
 use Rattle.cbor_decode_as.specs.Takes.{TellsFault, formats_of, raws}
-use Rattle.cbor_tags.proofs.Tags.{told_then}
+use Rattle.cbor_convert.proofs.Tags.{told_then}
 
 -- it stood there before, where as many levels were left and the same formats were read
 pub tag_peeked : (s m t : Input) → Stays s m → (f g : Formats) → g ≡ f → (levels left : ℕ) → left ≡ levels → (r : Result (Option ℕ) Error)

@@ -18,7 +18,7 @@ use Rattle.cbor_decode.specs.declared.cursor.Remaining.TheVariants.{Counted, ToB
 use Rattle.cbor_decode_as.specs.Kinds.{kind_of, head_kind}
 use Rattle.cbor_decode_as.specs.Kinds as kind
 use Rattle.cbor_decode_as.specs.Tags.{begins_tag, tag_head_at, tag_behind, entered_at}
-use Rattle.cbor_tags.specs.Tagged.{BeginsNoTag}
+use Rattle.cbor_convert.specs.Tagged.{BeginsNoTag}
 use Rattle.cbor_decode_as.specs.Takes.{raws}
 use Rattle.cbor_decode_as.proofs.facts.Items.{kinds, item_opened}
 

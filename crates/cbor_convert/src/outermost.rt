@@ -6,7 +6,7 @@ ghost use Rattle.cbor_io.specs.Error.{code_of};
 ghost use Rattle.cbor_decode.specs.Gives.{TellsNoForm};
 ghost use Rattle.cbor_decode_as.specs.Takes.{formats_of, TellsFault};
 ghost use Rattle.cbor_decode_as.specs.Tags.{tag_head_at, LevelsBehind, TagIs};
-ghost use Rattle.cbor_tags.specs.Tagged.{StandsNoTag};
+ghost use Rattle.cbor_convert.specs.Tagged.{StandsNoTag};
 
 use cbor_io::error::Result;
 use cbor_read::Source;

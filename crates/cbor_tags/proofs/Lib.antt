@@ -1,3 +1,0 @@
-pub mod NoTags
-pub mod Tags
-pub mod Peeked

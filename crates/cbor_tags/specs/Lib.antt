@@ -1,2 +1,0 @@
--- The definitions of the contracts.
-pub mod Tagged
