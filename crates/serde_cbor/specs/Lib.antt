@@ -88,7 +88,7 @@ pub use Rattle.cbor_convert.specs.Builders
 pub use Rattle.cbor_de.specs.FieldTypes
 pub use Rattle.cbor_described.specs.FieldLists
 pub use Rattle.cbor_convert.specs.Tagged
-pub use Rattle.cbor_round.specs.ReadBack
-pub use Rattle.cbor_round.specs.TypeLaws
-pub use Rattle.cbor_round.specs.Keyed
-pub use Rattle.cbor_round.specs.Lists
+pub use Rattle.cbor_round_trip.specs.ReadBack
+pub use Rattle.cbor_round_trip.specs.TypeLaws
+pub use Rattle.cbor_round_trip.specs.Keyed
+pub use Rattle.cbor_round_trip.specs.Lists

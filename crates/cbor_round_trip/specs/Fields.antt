@@ -11,8 +11,8 @@ use Rattle.cbor_ser.specs.PartLists.{name_in, document_if, field_if}
 use Rattle.cbor_de.specs.FieldTypes.{IsGiven}
 use Rattle.cbor_de.specs.Structs.{FieldOf, field_or, IfAbsent, refused, taken, AreFields, Absent, Once, IsFieldOr, HasFields, IsStruct}
 use Rattle.cbor_de.specs.declared.structure.Field.TheVariants.{Known}
-use Rattle.cbor_round.specs.ReadBack.{IsReadBack}
-use Rattle.cbor_round.specs.Names.{are_distinct, names_place, one_place}
+use Rattle.cbor_round_trip.specs.ReadBack.{IsReadBack}
+use Rattle.cbor_round_trip.specs.Names.{are_distinct, names_place, one_place}
 
 -- the fields with these documents, from the place k on; one without a document is left out
 abbrev pub fields_from : List (List ℕ) → ℕ → List (Option Doc) → Fields

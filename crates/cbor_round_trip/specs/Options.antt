@@ -8,7 +8,7 @@ use Rattle.cbor_model.specs.Readable.{Context, IsOptional}
 use Rattle.cbor_read.specs.Source.{Lends}
 use Rattle.cbor_decode_as.specs.Takes.{lending}
 use Rattle.cbor_ser.specs.Documents.{option_document}
-use Rattle.cbor_round.specs.ReadBack.{IsReadBack}
+use Rattle.cbor_round_trip.specs.ReadBack.{IsReadBack}
 
 -- null alone is written as null
 null_alone : (d : Doc) (p g : Bool) → raw_of d p g ≡ raw.simple null_item → d ≡ null

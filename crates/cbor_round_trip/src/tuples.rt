@@ -4,8 +4,8 @@ use crate::parts::{FieldRoundTrip, FieldsRoundTrip, TupleRoundTrip};
 use crate::round_trip::RoundTrip;
 
 impl<A: RoundTrip> RoundTrip for (A,) {
-    ghost use Rattle.cbor_round.specs.Lists.{last_back, tuple_back};
-    ghost use Rattle.cbor_round.specs.TypeLaws.{law_of};
+    ghost use Rattle.cbor_round_trip.specs.Lists.{last_back, tuple_back};
+    ghost use Rattle.cbor_round_trip.specs.TypeLaws.{law_of};
 
     ghost law = { law_of (tuple_back (last_back {part = λ t. t.0} A.law.back)) };
 
@@ -13,9 +13,9 @@ impl<A: RoundTrip> RoundTrip for (A,) {
 }
 
 impl<A: RoundTrip, B: RoundTrip> RoundTrip for (A, B) {
-    ghost use Rattle.cbor_round.specs.Lists.{last_back, part_back, tuple_back};
-    ghost use Rattle.cbor_round.specs.PartsLaws.{tuple2};
-    ghost use Rattle.cbor_round.specs.TypeLaws.{law_of};
+    ghost use Rattle.cbor_round_trip.specs.Lists.{last_back, part_back, tuple_back};
+    ghost use Rattle.cbor_round_trip.specs.PartsLaws.{tuple2};
+    ghost use Rattle.cbor_round_trip.specs.TypeLaws.{law_of};
 
     ghost law = { law_of (tuple_back (tuple2 A.law B.law).back) };
 
@@ -23,9 +23,9 @@ impl<A: RoundTrip, B: RoundTrip> RoundTrip for (A, B) {
 }
 
 impl<A: RoundTrip, B: RoundTrip, C: RoundTrip> RoundTrip for (A, B, C) {
-    ghost use Rattle.cbor_round.specs.Lists.{last_back, part_back, tuple_back};
-    ghost use Rattle.cbor_round.specs.PartsLaws.{tuple3};
-    ghost use Rattle.cbor_round.specs.TypeLaws.{law_of};
+    ghost use Rattle.cbor_round_trip.specs.Lists.{last_back, part_back, tuple_back};
+    ghost use Rattle.cbor_round_trip.specs.PartsLaws.{tuple3};
+    ghost use Rattle.cbor_round_trip.specs.TypeLaws.{law_of};
 
     ghost law = { law_of (tuple_back (tuple3 A.law B.law C.law).back) };
 
@@ -33,9 +33,9 @@ impl<A: RoundTrip, B: RoundTrip, C: RoundTrip> RoundTrip for (A, B, C) {
 }
 
 impl<A: RoundTrip, B: RoundTrip, C: RoundTrip, D: RoundTrip> RoundTrip for (A, B, C, D) {
-    ghost use Rattle.cbor_round.specs.Lists.{last_back, part_back, tuple_back};
-    ghost use Rattle.cbor_round.specs.PartsLaws.{tuple4};
-    ghost use Rattle.cbor_round.specs.TypeLaws.{law_of};
+    ghost use Rattle.cbor_round_trip.specs.Lists.{last_back, part_back, tuple_back};
+    ghost use Rattle.cbor_round_trip.specs.PartsLaws.{tuple4};
+    ghost use Rattle.cbor_round_trip.specs.TypeLaws.{law_of};
 
     ghost law = { law_of (tuple_back (tuple4 A.law B.law C.law D.law).back) };
 
@@ -45,9 +45,9 @@ impl<A: RoundTrip, B: RoundTrip, C: RoundTrip, D: RoundTrip> RoundTrip for (A, B
 
 impl<A: RoundTrip, B: RoundTrip, C: RoundTrip, D: RoundTrip, E: RoundTrip> RoundTrip
     for (A, B, C, D, E) {
-    ghost use Rattle.cbor_round.specs.Lists.{last_back, part_back, tuple_back};
-    ghost use Rattle.cbor_round.specs.PartsLaws.{tuple5};
-    ghost use Rattle.cbor_round.specs.TypeLaws.{law_of};
+    ghost use Rattle.cbor_round_trip.specs.Lists.{last_back, part_back, tuple_back};
+    ghost use Rattle.cbor_round_trip.specs.PartsLaws.{tuple5};
+    ghost use Rattle.cbor_round_trip.specs.TypeLaws.{law_of};
 
     ghost law = { law_of (tuple_back (tuple5 A.law B.law C.law D.law E.law).back) };
 
@@ -57,9 +57,9 @@ impl<A: RoundTrip, B: RoundTrip, C: RoundTrip, D: RoundTrip, E: RoundTrip> Round
 
 impl<A: RoundTrip, B: RoundTrip, C: RoundTrip, D: RoundTrip, E: RoundTrip, F: RoundTrip> RoundTrip
     for (A, B, C, D, E, F) {
-    ghost use Rattle.cbor_round.specs.Lists.{last_back, part_back, tuple_back};
-    ghost use Rattle.cbor_round.specs.PartsLaws.{tuple6};
-    ghost use Rattle.cbor_round.specs.TypeLaws.{law_of};
+    ghost use Rattle.cbor_round_trip.specs.Lists.{last_back, part_back, tuple_back};
+    ghost use Rattle.cbor_round_trip.specs.PartsLaws.{tuple6};
+    ghost use Rattle.cbor_round_trip.specs.TypeLaws.{law_of};
 
     ghost law = { law_of (tuple_back (tuple6 A.law B.law C.law D.law E.law F.law).back) };
 
@@ -76,9 +76,9 @@ impl<
     F: RoundTrip,
     G: RoundTrip,
 > RoundTrip for (A, B, C, D, E, F, G) {
-    ghost use Rattle.cbor_round.specs.Lists.{last_back, part_back, tuple_back};
-    ghost use Rattle.cbor_round.specs.PartsLaws.{tuple7};
-    ghost use Rattle.cbor_round.specs.TypeLaws.{law_of};
+    ghost use Rattle.cbor_round_trip.specs.Lists.{last_back, part_back, tuple_back};
+    ghost use Rattle.cbor_round_trip.specs.PartsLaws.{tuple7};
+    ghost use Rattle.cbor_round_trip.specs.TypeLaws.{law_of};
 
     ghost law = { law_of (tuple_back (tuple7 A.law B.law C.law D.law E.law F.law G.law).back) };
 
@@ -96,9 +96,9 @@ impl<
     G: RoundTrip,
     H: RoundTrip,
 > RoundTrip for (A, B, C, D, E, F, G, H) {
-    ghost use Rattle.cbor_round.specs.Lists.{last_back, part_back, tuple_back};
-    ghost use Rattle.cbor_round.specs.PartsLaws.{tuple8};
-    ghost use Rattle.cbor_round.specs.TypeLaws.{law_of};
+    ghost use Rattle.cbor_round_trip.specs.Lists.{last_back, part_back, tuple_back};
+    ghost use Rattle.cbor_round_trip.specs.PartsLaws.{tuple8};
+    ghost use Rattle.cbor_round_trip.specs.TypeLaws.{law_of};
 
     ghost law = { law_of (tuple_back
         (tuple8 A.law B.law C.law D.law E.law F.law G.law H.law).back) };
@@ -110,8 +110,8 @@ impl<
 
 impl<A: FieldRoundTrip> FieldsRoundTrip for (A,) {
     ghost use Rattle.std.specs.Prelude.{refl};
-    ghost use Rattle.cbor_round.specs.Fields.{last_field_back, struct_back};
-    ghost use Rattle.cbor_round.specs.TypeLaws.{fields_law};
+    ghost use Rattle.cbor_round_trip.specs.Fields.{last_field_back, struct_back};
+    ghost use Rattle.cbor_round_trip.specs.TypeLaws.{fields_law};
 
     ghost law = { fields_law 1 (struct_back
         (last_field_back {S = A × Unit {0}} {view = λ t. (t.0, tt)} {of = λ p. p.0} A.law.back)
@@ -122,8 +122,8 @@ impl<A: FieldRoundTrip> FieldsRoundTrip for (A,) {
 
 impl<A: FieldRoundTrip, B: FieldRoundTrip> FieldsRoundTrip for (A, B) {
     ghost use Rattle.std.specs.Prelude.{refl};
-    ghost use Rattle.cbor_round.specs.Fields.{field_back, last_field_back, struct_back};
-    ghost use Rattle.cbor_round.specs.PartsLaws.{fields2};
+    ghost use Rattle.cbor_round_trip.specs.Fields.{field_back, last_field_back, struct_back};
+    ghost use Rattle.cbor_round_trip.specs.PartsLaws.{fields2};
 
     ghost law = { fields2 A.law B.law };
 
@@ -132,8 +132,8 @@ impl<A: FieldRoundTrip, B: FieldRoundTrip> FieldsRoundTrip for (A, B) {
 
 impl<A: FieldRoundTrip, B: FieldRoundTrip, C: FieldRoundTrip> FieldsRoundTrip for (A, B, C) {
     ghost use Rattle.std.specs.Prelude.{refl};
-    ghost use Rattle.cbor_round.specs.Fields.{field_back, last_field_back, struct_back};
-    ghost use Rattle.cbor_round.specs.PartsLaws.{fields3};
+    ghost use Rattle.cbor_round_trip.specs.Fields.{field_back, last_field_back, struct_back};
+    ghost use Rattle.cbor_round_trip.specs.PartsLaws.{fields3};
 
     ghost law = { fields3 A.law B.law C.law };
 
@@ -144,8 +144,8 @@ impl<A: FieldRoundTrip, B: FieldRoundTrip, C: FieldRoundTrip> FieldsRoundTrip fo
 impl<A: FieldRoundTrip, B: FieldRoundTrip, C: FieldRoundTrip, D: FieldRoundTrip> FieldsRoundTrip
     for (A, B, C, D) {
     ghost use Rattle.std.specs.Prelude.{refl};
-    ghost use Rattle.cbor_round.specs.Fields.{field_back, last_field_back, struct_back};
-    ghost use Rattle.cbor_round.specs.PartsLaws.{fields4};
+    ghost use Rattle.cbor_round_trip.specs.Fields.{field_back, last_field_back, struct_back};
+    ghost use Rattle.cbor_round_trip.specs.PartsLaws.{fields4};
 
     ghost law = { fields4 A.law B.law C.law D.law };
 
@@ -161,8 +161,8 @@ impl<
     E: FieldRoundTrip,
 > FieldsRoundTrip for (A, B, C, D, E) {
     ghost use Rattle.std.specs.Prelude.{refl};
-    ghost use Rattle.cbor_round.specs.Fields.{field_back, last_field_back, struct_back};
-    ghost use Rattle.cbor_round.specs.PartsLaws.{fields5};
+    ghost use Rattle.cbor_round_trip.specs.Fields.{field_back, last_field_back, struct_back};
+    ghost use Rattle.cbor_round_trip.specs.PartsLaws.{fields5};
 
     ghost law = { fields5 A.law B.law C.law D.law E.law };
 
@@ -179,8 +179,8 @@ impl<
     F: FieldRoundTrip,
 > FieldsRoundTrip for (A, B, C, D, E, F) {
     ghost use Rattle.std.specs.Prelude.{refl};
-    ghost use Rattle.cbor_round.specs.Fields.{field_back, last_field_back, struct_back};
-    ghost use Rattle.cbor_round.specs.PartsLaws.{fields6};
+    ghost use Rattle.cbor_round_trip.specs.Fields.{field_back, last_field_back, struct_back};
+    ghost use Rattle.cbor_round_trip.specs.PartsLaws.{fields6};
 
     ghost law = { fields6 A.law B.law C.law D.law E.law F.law };
 
@@ -199,8 +199,8 @@ impl<
     G: FieldRoundTrip,
 > FieldsRoundTrip for (A, B, C, D, E, F, G) {
     ghost use Rattle.std.specs.Prelude.{refl};
-    ghost use Rattle.cbor_round.specs.Fields.{field_back, last_field_back, struct_back};
-    ghost use Rattle.cbor_round.specs.PartsLaws.{fields7};
+    ghost use Rattle.cbor_round_trip.specs.Fields.{field_back, last_field_back, struct_back};
+    ghost use Rattle.cbor_round_trip.specs.PartsLaws.{fields7};
 
     ghost law = { fields7 A.law B.law C.law D.law E.law F.law G.law };
 
@@ -220,8 +220,8 @@ impl<
     H: FieldRoundTrip,
 > FieldsRoundTrip for (A, B, C, D, E, F, G, H) {
     ghost use Rattle.std.specs.Prelude.{refl};
-    ghost use Rattle.cbor_round.specs.Fields.{field_back, last_field_back, struct_back};
-    ghost use Rattle.cbor_round.specs.PartsLaws.{fields8};
+    ghost use Rattle.cbor_round_trip.specs.Fields.{field_back, last_field_back, struct_back};
+    ghost use Rattle.cbor_round_trip.specs.PartsLaws.{fields8};
 
     ghost law = { fields8 A.law B.law C.law D.law E.law F.law G.law H.law };
 
@@ -242,8 +242,8 @@ impl<
     I: FieldRoundTrip,
 > FieldsRoundTrip for (A, B, C, D, E, F, G, H, I) {
     ghost use Rattle.std.specs.Prelude.{refl};
-    ghost use Rattle.cbor_round.specs.Fields.{field_back, last_field_back, struct_back};
-    ghost use Rattle.cbor_round.specs.PartsLaws.{fields9};
+    ghost use Rattle.cbor_round_trip.specs.Fields.{field_back, last_field_back, struct_back};
+    ghost use Rattle.cbor_round_trip.specs.PartsLaws.{fields9};
 
     ghost law = { fields9 A.law B.law C.law D.law E.law F.law G.law H.law I.law };
 
@@ -266,8 +266,8 @@ impl<
     J: FieldRoundTrip,
 > FieldsRoundTrip for (A, B, C, D, E, F, G, H, I, J) {
     ghost use Rattle.std.specs.Prelude.{refl};
-    ghost use Rattle.cbor_round.specs.Fields.{field_back, last_field_back, struct_back};
-    ghost use Rattle.cbor_round.specs.PartsLaws.{fields10};
+    ghost use Rattle.cbor_round_trip.specs.Fields.{field_back, last_field_back, struct_back};
+    ghost use Rattle.cbor_round_trip.specs.PartsLaws.{fields10};
 
     ghost law = { fields10 A.law B.law C.law D.law E.law F.law G.law H.law I.law J.law };
 
@@ -291,8 +291,8 @@ impl<
     K: FieldRoundTrip,
 > FieldsRoundTrip for (A, B, C, D, E, F, G, H, I, J, K) {
     ghost use Rattle.std.specs.Prelude.{refl};
-    ghost use Rattle.cbor_round.specs.Fields.{field_back, last_field_back, struct_back};
-    ghost use Rattle.cbor_round.specs.PartsLaws.{fields11};
+    ghost use Rattle.cbor_round_trip.specs.Fields.{field_back, last_field_back, struct_back};
+    ghost use Rattle.cbor_round_trip.specs.PartsLaws.{fields11};
 
     ghost law = { fields11 A.law B.law C.law D.law E.law F.law G.law H.law I.law J.law K.law };
 
@@ -317,8 +317,8 @@ impl<
     L: FieldRoundTrip,
 > FieldsRoundTrip for (A, B, C, D, E, F, G, H, I, J, K, L) {
     ghost use Rattle.std.specs.Prelude.{refl};
-    ghost use Rattle.cbor_round.specs.Fields.{field_back, last_field_back, struct_back};
-    ghost use Rattle.cbor_round.specs.PartsLaws.{fields12};
+    ghost use Rattle.cbor_round_trip.specs.Fields.{field_back, last_field_back, struct_back};
+    ghost use Rattle.cbor_round_trip.specs.PartsLaws.{fields12};
 
     ghost law = { fields12 A.law B.law C.law D.law E.law F.law G.law
         H.law I.law J.law K.law L.law };
@@ -330,8 +330,8 @@ impl<
 }
 
 impl<A: RoundTrip + Drop> TupleRoundTrip for (A,) {
-    ghost use Rattle.cbor_round.specs.Lists.{last_back};
-    ghost use Rattle.cbor_round.specs.TypeLaws.{tuple_law};
+    ghost use Rattle.cbor_round_trip.specs.Lists.{last_back};
+    ghost use Rattle.cbor_round_trip.specs.TypeLaws.{tuple_law};
 
     ghost law = { tuple_law (last_back {part = λ t. t.0} A.law.back) };
 
@@ -339,8 +339,8 @@ impl<A: RoundTrip + Drop> TupleRoundTrip for (A,) {
 }
 
 impl<A: RoundTrip + Drop, B: RoundTrip + Drop> TupleRoundTrip for (A, B) {
-    ghost use Rattle.cbor_round.specs.Lists.{part_back, last_back};
-    ghost use Rattle.cbor_round.specs.PartsLaws.{tuple2};
+    ghost use Rattle.cbor_round_trip.specs.Lists.{part_back, last_back};
+    ghost use Rattle.cbor_round_trip.specs.PartsLaws.{tuple2};
 
     ghost law = { tuple2 A.law B.law };
 
@@ -348,8 +348,8 @@ impl<A: RoundTrip + Drop, B: RoundTrip + Drop> TupleRoundTrip for (A, B) {
 }
 
 impl<A: RoundTrip + Drop, B: RoundTrip + Drop, C: RoundTrip + Drop> TupleRoundTrip for (A, B, C) {
-    ghost use Rattle.cbor_round.specs.Lists.{part_back, last_back};
-    ghost use Rattle.cbor_round.specs.PartsLaws.{tuple3};
+    ghost use Rattle.cbor_round_trip.specs.Lists.{part_back, last_back};
+    ghost use Rattle.cbor_round_trip.specs.PartsLaws.{tuple3};
 
     ghost law = { tuple3 A.law B.law C.law };
 
@@ -362,8 +362,8 @@ impl<
     C: RoundTrip + Drop,
     D: RoundTrip + Drop,
 > TupleRoundTrip for (A, B, C, D) {
-    ghost use Rattle.cbor_round.specs.Lists.{part_back, last_back};
-    ghost use Rattle.cbor_round.specs.PartsLaws.{tuple4};
+    ghost use Rattle.cbor_round_trip.specs.Lists.{part_back, last_back};
+    ghost use Rattle.cbor_round_trip.specs.PartsLaws.{tuple4};
 
     ghost law = { tuple4 A.law B.law C.law D.law };
 
@@ -377,8 +377,8 @@ impl<
     D: RoundTrip + Drop,
     E: RoundTrip + Drop,
 > TupleRoundTrip for (A, B, C, D, E) {
-    ghost use Rattle.cbor_round.specs.Lists.{part_back, last_back};
-    ghost use Rattle.cbor_round.specs.PartsLaws.{tuple5};
+    ghost use Rattle.cbor_round_trip.specs.Lists.{part_back, last_back};
+    ghost use Rattle.cbor_round_trip.specs.PartsLaws.{tuple5};
 
     ghost law = { tuple5 A.law B.law C.law D.law E.law };
 
@@ -394,8 +394,8 @@ impl<
     E: RoundTrip + Drop,
     F: RoundTrip + Drop,
 > TupleRoundTrip for (A, B, C, D, E, F) {
-    ghost use Rattle.cbor_round.specs.Lists.{part_back, last_back};
-    ghost use Rattle.cbor_round.specs.PartsLaws.{tuple6};
+    ghost use Rattle.cbor_round_trip.specs.Lists.{part_back, last_back};
+    ghost use Rattle.cbor_round_trip.specs.PartsLaws.{tuple6};
 
     ghost law = { tuple6 A.law B.law C.law D.law E.law F.law };
 
@@ -412,8 +412,8 @@ impl<
     F: RoundTrip + Drop,
     G: RoundTrip + Drop,
 > TupleRoundTrip for (A, B, C, D, E, F, G) {
-    ghost use Rattle.cbor_round.specs.Lists.{part_back, last_back};
-    ghost use Rattle.cbor_round.specs.PartsLaws.{tuple7};
+    ghost use Rattle.cbor_round_trip.specs.Lists.{part_back, last_back};
+    ghost use Rattle.cbor_round_trip.specs.PartsLaws.{tuple7};
 
     ghost law = { tuple7 A.law B.law C.law D.law E.law F.law G.law };
 
@@ -431,8 +431,8 @@ impl<
     G: RoundTrip + Drop,
     H: RoundTrip + Drop,
 > TupleRoundTrip for (A, B, C, D, E, F, G, H) {
-    ghost use Rattle.cbor_round.specs.Lists.{part_back, last_back};
-    ghost use Rattle.cbor_round.specs.PartsLaws.{tuple8};
+    ghost use Rattle.cbor_round_trip.specs.Lists.{part_back, last_back};
+    ghost use Rattle.cbor_round_trip.specs.PartsLaws.{tuple8};
 
     ghost law = { tuple8 A.law B.law C.law D.law E.law F.law G.law H.law };
 

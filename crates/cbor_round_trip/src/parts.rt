@@ -9,7 +9,7 @@ use cbor_de::FieldType;
 /// The parts of a struct or an enum, which are read back where the names are as many, and no two of
 /// them the same.
 pub trait PartsRoundTrip: PartsDocument + ReadableParts {
-    ghost use Rattle.cbor_round.specs.TypeLaws.{ByNames, PartsLaw};
+    ghost use Rattle.cbor_round_trip.specs.TypeLaws.{ByNames, PartsLaw};
 
     // The law as a value, with what it asks of a value (`fits`).
     ghost law: { PartsLaw Self };
@@ -21,8 +21,8 @@ pub trait PartsRoundTrip: PartsDocument + ReadableParts {
 /// A field of a struct that is read back: what is `RoundTrip`, or [`Optional`] or [`OrDefault`] of
 /// it.
 pub trait FieldRoundTrip: FieldDocument + FieldType {
-    ghost use Rattle.cbor_round.specs.Fields.{IsFieldReadBack};
-    ghost use Rattle.cbor_round.specs.TypeLaws.{FieldLaw};
+    ghost use Rattle.cbor_round_trip.specs.Fields.{IsFieldReadBack};
+    ghost use Rattle.cbor_round_trip.specs.TypeLaws.{FieldLaw};
 
     // The law as a value, with what it asks of a value (`fits`).
     ghost law: { FieldLaw Self };
@@ -32,8 +32,8 @@ pub trait FieldRoundTrip: FieldDocument + FieldType {
 }
 
 impl<T: RoundTrip + Drop> FieldRoundTrip for T {
-    ghost use Rattle.cbor_round.specs.Fields.{required_back};
-    ghost use Rattle.cbor_round.specs.TypeLaws.{field_law};
+    ghost use Rattle.cbor_round_trip.specs.Fields.{required_back};
+    ghost use Rattle.cbor_round_trip.specs.TypeLaws.{field_law};
 
     ghost law = { field_law (required_back T.law.back) };
 
@@ -41,8 +41,8 @@ impl<T: RoundTrip + Drop> FieldRoundTrip for T {
 }
 
 impl<T: RoundTrip + Drop> FieldRoundTrip for Optional<T> {
-    ghost use Rattle.cbor_round.specs.Fields.{optional_back};
-    ghost use Rattle.cbor_round.specs.TypeLaws.{field_law};
+    ghost use Rattle.cbor_round_trip.specs.Fields.{optional_back};
+    ghost use Rattle.cbor_round_trip.specs.TypeLaws.{field_law};
 
     ghost law = { field_law (optional_back T.law.back {part = λ o. o.0}) };
 
@@ -50,8 +50,8 @@ impl<T: RoundTrip + Drop> FieldRoundTrip for Optional<T> {
 }
 
 impl<T: RoundTrip + Default + Drop> FieldRoundTrip for OrDefault<T> {
-    ghost use Rattle.cbor_round.specs.Fields.{default_back};
-    ghost use Rattle.cbor_round.specs.TypeLaws.{field_law};
+    ghost use Rattle.cbor_round_trip.specs.Fields.{default_back};
+    ghost use Rattle.cbor_round_trip.specs.TypeLaws.{field_law};
 
     ghost law = { field_law (default_back T.law.back (λ o. o.0)
         (λ o. T.is_default o.0)) };
@@ -62,7 +62,7 @@ impl<T: RoundTrip + Default + Drop> FieldRoundTrip for OrDefault<T> {
 /// The fields of a struct: a tuple of what is read back.
 pub trait FieldsRoundTrip: FieldsDocument + ReadableParts {
     ghost use Rattle.cbor_model.specs.Document.{structure};
-    ghost use Rattle.cbor_round.specs.TypeLaws.{ByNames, FieldsLaw};
+    ghost use Rattle.cbor_round_trip.specs.TypeLaws.{ByNames, FieldsLaw};
 
     // The law as a value, with what it asks of a value (`fits`).
     ghost law: { FieldsLaw Self };
@@ -73,7 +73,7 @@ pub trait FieldsRoundTrip: FieldsDocument + ReadableParts {
 }
 
 impl<F: FieldsRoundTrip> PartsRoundTrip for F {
-    ghost use Rattle.cbor_round.specs.TypeLaws.{parts_law};
+    ghost use Rattle.cbor_round_trip.specs.TypeLaws.{parts_law};
 
     ghost law = { parts_law F.law.count F.law.back };
 
@@ -81,8 +81,8 @@ impl<F: FieldsRoundTrip> PartsRoundTrip for F {
 }
 
 impl<T: RoundTrip + Drop> PartsRoundTrip for Newtype<T> {
-    ghost use Rattle.cbor_round.specs.ReadBack.{by_part};
-    ghost use Rattle.cbor_round.specs.TypeLaws.{parts_law};
+    ghost use Rattle.cbor_round_trip.specs.ReadBack.{by_part};
+    ghost use Rattle.cbor_round_trip.specs.TypeLaws.{parts_law};
 
     ghost law = { parts_law 0 (λ names as_many distinct. by_part (λ p. p.0) T.law.back) };
 
@@ -91,8 +91,8 @@ impl<T: RoundTrip + Drop> PartsRoundTrip for Newtype<T> {
 
 /// The parts of a variant: a tuple of what is read back.
 pub trait TupleRoundTrip: TupleDocuments + ReadableTuple {
-    ghost use Rattle.cbor_round.specs.TypeLaws.{TupleLaw};
-    ghost use Rattle.cbor_round.specs.Lists.{ArePartsReadBack};
+    ghost use Rattle.cbor_round_trip.specs.TypeLaws.{TupleLaw};
+    ghost use Rattle.cbor_round_trip.specs.Lists.{ArePartsReadBack};
 
     // The law as a value, with what it asks of a value (`fits`).
     ghost law: { TupleLaw Self };
@@ -103,8 +103,8 @@ pub trait TupleRoundTrip: TupleDocuments + ReadableTuple {
 
 /// A variant that is read back, in whatever place it is.
 pub trait VariantRoundTrip: VariantDocument + Variant {
-    ghost use Rattle.cbor_round.specs.TypeLaws.{VariantLaw};
-    ghost use Rattle.cbor_round.specs.Variants.{IsVariantReadBack};
+    ghost use Rattle.cbor_round_trip.specs.TypeLaws.{VariantLaw};
+    ghost use Rattle.cbor_round_trip.specs.Variants.{IsVariantReadBack};
 
     // The law as a value, with what it asks of a value (`fits`).
     ghost law: { VariantLaw Self };
@@ -114,8 +114,8 @@ pub trait VariantRoundTrip: VariantDocument + Variant {
 }
 
 impl VariantRoundTrip for () {
-    ghost use Rattle.cbor_round.specs.Variants.{unit_back};
-    ghost use Rattle.cbor_round.specs.TypeLaws.{variant_law};
+    ghost use Rattle.cbor_round_trip.specs.Variants.{unit_back};
+    ghost use Rattle.cbor_round_trip.specs.TypeLaws.{variant_law};
 
     ghost law = { variant_law unit_back };
 
@@ -123,8 +123,8 @@ impl VariantRoundTrip for () {
 }
 
 impl<T: RoundTrip + Drop> VariantRoundTrip for Newtype<T> {
-    ghost use Rattle.cbor_round.specs.Variants.{newtype_back};
-    ghost use Rattle.cbor_round.specs.TypeLaws.{variant_law};
+    ghost use Rattle.cbor_round_trip.specs.Variants.{newtype_back};
+    ghost use Rattle.cbor_round_trip.specs.TypeLaws.{variant_law};
 
     ghost law = { variant_law (newtype_back (λ v. v.0) T.law.back) };
 
@@ -132,8 +132,8 @@ impl<T: RoundTrip + Drop> VariantRoundTrip for Newtype<T> {
 }
 
 impl<F: TupleRoundTrip> VariantRoundTrip for Tuple<F> {
-    ghost use Rattle.cbor_round.specs.Variants.{tuple_back};
-    ghost use Rattle.cbor_round.specs.TypeLaws.{variant_law};
+    ghost use Rattle.cbor_round_trip.specs.Variants.{tuple_back};
+    ghost use Rattle.cbor_round_trip.specs.TypeLaws.{variant_law};
 
     ghost law = { variant_law (tuple_back (λ v. v.0) F.law.back) };
 
@@ -145,8 +145,8 @@ impl<N: FieldNames> VariantRoundTrip for Struct<N>
 where
     N::Parts: FieldsRoundTrip,
 {
-    ghost use Rattle.cbor_round.specs.Variants.{struct_variant_back};
-    ghost use Rattle.cbor_round.specs.TypeLaws.{variant_law};
+    ghost use Rattle.cbor_round_trip.specs.Variants.{struct_variant_back};
+    ghost use Rattle.cbor_round_trip.specs.TypeLaws.{variant_law};
 
     ghost law = { variant_law (struct_variant_back (λ v. v.0) N.Parts.law.fields N.names
         N.Parts.law.count N.Parts.law.back) };

@@ -11,7 +11,7 @@ use Rattle.cbor_model.proofs.facts.Laws.{document_is_acceptable, one_spelling}
 use Rattle.cbor_model.proofs.facts.Reader.{all_allowed}
 use Rattle.cbor_read.specs.Source.{Lends}
 use Rattle.cbor_decode_as.specs.Takes.{lending}
-use Rattle.cbor_round.specs.ReadBack.{IsReadBack, IsWrittenReadBack}
+use Rattle.cbor_round_trip.specs.ReadBack.{IsReadBack, IsWrittenReadBack}
 
 module _ {A : Type 0} (document : A → Doc) (reads : Context → Raw → A → Type 0) (fits : A → Type 0) (law : IsReadBack document reads fits) where
   spelled : (x : A) → fits x → (l : Lends) (p g : Bool) → IsStorableDocument (document x) → IsDocumentInRange (document x)

@@ -72,8 +72,8 @@ use cbor_de::DeserializeOwned;
 /// }
 /// ```
 pub trait RoundTrip: Serialize + DeserializeOwned {
-    ghost use Rattle.cbor_round.specs.TypeLaws.{Law};
-    ghost use Rattle.cbor_round.specs.ReadBack.{IsReadBack};
+    ghost use Rattle.cbor_round_trip.specs.TypeLaws.{Law};
+    ghost use Rattle.cbor_round_trip.specs.ReadBack.{IsReadBack};
 
     // The law as a value, with what it asks of a value (`fits`).
     ghost law: { Law Self };
@@ -85,8 +85,8 @@ pub trait RoundTrip: Serialize + DeserializeOwned {
 /// A type that may be the key of a map that is read back: one value is below another exactly where
 /// values of the same documents are.
 pub trait RoundTripKey: RoundTrip + Ord {
-    ghost use Rattle.cbor_round.specs.Keyed.{IsToldByDocuments};
-    ghost use Rattle.cbor_round.specs.TypeLaws.{KeyLaw};
+    ghost use Rattle.cbor_round_trip.specs.Keyed.{IsToldByDocuments};
+    ghost use Rattle.cbor_round_trip.specs.TypeLaws.{KeyLaw};
 
     // The law of the keys as a value.
     ghost key: { KeyLaw Self };

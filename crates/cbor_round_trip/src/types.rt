@@ -7,8 +7,8 @@ use cbor_value::{Float, Value};
 use std::collections::BTreeMap;
 
 impl RoundTrip for bool {
-    ghost use Rattle.cbor_round.specs.Scalars.{bool_back};
-    ghost use Rattle.cbor_round.specs.TypeLaws.{law_of};
+    ghost use Rattle.cbor_round_trip.specs.Scalars.{bool_back};
+    ghost use Rattle.cbor_round_trip.specs.TypeLaws.{law_of};
 
     ghost law = { law_of bool_back };
 
@@ -16,8 +16,8 @@ impl RoundTrip for bool {
 }
 
 impl RoundTrip for () {
-    ghost use Rattle.cbor_round.specs.Scalars.{unit_back};
-    ghost use Rattle.cbor_round.specs.TypeLaws.{law_of};
+    ghost use Rattle.cbor_round_trip.specs.Scalars.{unit_back};
+    ghost use Rattle.cbor_round_trip.specs.TypeLaws.{law_of};
 
     ghost law = { law_of unit_back };
 
@@ -26,8 +26,8 @@ impl RoundTrip for () {
 
 impl RoundTrip for u8 {
     ghost use Rattle.std.specs.Prelude.{◌-◌, ◌^◌};
-    ghost use Rattle.cbor_round.specs.Scalars.{from_zero_back};
-    ghost use Rattle.cbor_round.specs.TypeLaws.{law_of};
+    ghost use Rattle.cbor_round_trip.specs.Scalars.{from_zero_back};
+    ghost use Rattle.cbor_round_trip.specs.TypeLaws.{law_of};
 
     ghost law = { law_of (from_zero_back (2 ^ 8 - 1)) };
 
@@ -36,8 +36,8 @@ impl RoundTrip for u8 {
 
 impl RoundTrip for u16 {
     ghost use Rattle.std.specs.Prelude.{◌-◌, ◌^◌};
-    ghost use Rattle.cbor_round.specs.Scalars.{from_zero_back};
-    ghost use Rattle.cbor_round.specs.TypeLaws.{law_of};
+    ghost use Rattle.cbor_round_trip.specs.Scalars.{from_zero_back};
+    ghost use Rattle.cbor_round_trip.specs.TypeLaws.{law_of};
 
     ghost law = { law_of (from_zero_back (2 ^ 16 - 1)) };
 
@@ -46,8 +46,8 @@ impl RoundTrip for u16 {
 
 impl RoundTrip for u32 {
     ghost use Rattle.std.specs.Prelude.{◌-◌, ◌^◌};
-    ghost use Rattle.cbor_round.specs.Scalars.{from_zero_back};
-    ghost use Rattle.cbor_round.specs.TypeLaws.{law_of};
+    ghost use Rattle.cbor_round_trip.specs.Scalars.{from_zero_back};
+    ghost use Rattle.cbor_round_trip.specs.TypeLaws.{law_of};
 
     ghost law = { law_of (from_zero_back (2 ^ 32 - 1)) };
 
@@ -56,8 +56,8 @@ impl RoundTrip for u32 {
 
 impl RoundTrip for u64 {
     ghost use Rattle.std.specs.Prelude.{◌-◌, ◌^◌};
-    ghost use Rattle.cbor_round.specs.Scalars.{from_zero_back};
-    ghost use Rattle.cbor_round.specs.TypeLaws.{law_of};
+    ghost use Rattle.cbor_round_trip.specs.Scalars.{from_zero_back};
+    ghost use Rattle.cbor_round_trip.specs.TypeLaws.{law_of};
 
     ghost law = { law_of (from_zero_back (2 ^ 64 - 1)) };
 
@@ -66,8 +66,8 @@ impl RoundTrip for u64 {
 
 impl RoundTrip for u128 {
     ghost use Rattle.std.specs.Prelude.{◌-◌, ◌^◌};
-    ghost use Rattle.cbor_round.specs.Scalars.{from_zero_back};
-    ghost use Rattle.cbor_round.specs.TypeLaws.{law_of};
+    ghost use Rattle.cbor_round_trip.specs.Scalars.{from_zero_back};
+    ghost use Rattle.cbor_round_trip.specs.TypeLaws.{law_of};
 
     ghost law = { law_of (from_zero_back (2 ^ 128 - 1)) };
 
@@ -76,8 +76,8 @@ impl RoundTrip for u128 {
 
 impl RoundTrip for usize {
     ghost use Rattle.std.specs.Prelude.{◌-◌, ◌^◌};
-    ghost use Rattle.cbor_round.specs.Scalars.{from_zero_back};
-    ghost use Rattle.cbor_round.specs.TypeLaws.{law_of};
+    ghost use Rattle.cbor_round_trip.specs.Scalars.{from_zero_back};
+    ghost use Rattle.cbor_round_trip.specs.TypeLaws.{law_of};
 
     ghost law = { law_of (from_zero_back (2 ^ 64 - 1)) };
 
@@ -86,8 +86,8 @@ impl RoundTrip for usize {
 
 impl RoundTrip for i8 {
     ghost use Rattle.std.specs.Prelude.{◌-◌, ◌^◌};
-    ghost use Rattle.cbor_round.specs.Scalars.{signed_back};
-    ghost use Rattle.cbor_round.specs.TypeLaws.{law_of};
+    ghost use Rattle.cbor_round_trip.specs.Scalars.{signed_back};
+    ghost use Rattle.cbor_round_trip.specs.TypeLaws.{law_of};
 
     ghost law = { law_of (signed_back (2 ^ 7 - 1)) };
 
@@ -96,8 +96,8 @@ impl RoundTrip for i8 {
 
 impl RoundTrip for i16 {
     ghost use Rattle.std.specs.Prelude.{◌-◌, ◌^◌};
-    ghost use Rattle.cbor_round.specs.Scalars.{signed_back};
-    ghost use Rattle.cbor_round.specs.TypeLaws.{law_of};
+    ghost use Rattle.cbor_round_trip.specs.Scalars.{signed_back};
+    ghost use Rattle.cbor_round_trip.specs.TypeLaws.{law_of};
 
     ghost law = { law_of (signed_back (2 ^ 15 - 1)) };
 
@@ -106,8 +106,8 @@ impl RoundTrip for i16 {
 
 impl RoundTrip for i32 {
     ghost use Rattle.std.specs.Prelude.{◌-◌, ◌^◌};
-    ghost use Rattle.cbor_round.specs.Scalars.{signed_back};
-    ghost use Rattle.cbor_round.specs.TypeLaws.{law_of};
+    ghost use Rattle.cbor_round_trip.specs.Scalars.{signed_back};
+    ghost use Rattle.cbor_round_trip.specs.TypeLaws.{law_of};
 
     ghost law = { law_of (signed_back (2 ^ 31 - 1)) };
 
@@ -116,8 +116,8 @@ impl RoundTrip for i32 {
 
 impl RoundTrip for i64 {
     ghost use Rattle.std.specs.Prelude.{◌-◌, ◌^◌};
-    ghost use Rattle.cbor_round.specs.Scalars.{signed_back};
-    ghost use Rattle.cbor_round.specs.TypeLaws.{law_of};
+    ghost use Rattle.cbor_round_trip.specs.Scalars.{signed_back};
+    ghost use Rattle.cbor_round_trip.specs.TypeLaws.{law_of};
 
     ghost law = { law_of (signed_back (2 ^ 63 - 1)) };
 
@@ -126,8 +126,8 @@ impl RoundTrip for i64 {
 
 impl RoundTrip for isize {
     ghost use Rattle.std.specs.Prelude.{◌-◌, ◌^◌};
-    ghost use Rattle.cbor_round.specs.Scalars.{signed_back};
-    ghost use Rattle.cbor_round.specs.TypeLaws.{law_of};
+    ghost use Rattle.cbor_round_trip.specs.Scalars.{signed_back};
+    ghost use Rattle.cbor_round_trip.specs.TypeLaws.{law_of};
 
     ghost law = { law_of (signed_back (2 ^ 63 - 1)) };
 
@@ -135,8 +135,8 @@ impl RoundTrip for isize {
 }
 
 impl RoundTrip for i128 {
-    ghost use Rattle.cbor_round.specs.Scalars.{integer_back};
-    ghost use Rattle.cbor_round.specs.TypeLaws.{law_of};
+    ghost use Rattle.cbor_round_trip.specs.Scalars.{integer_back};
+    ghost use Rattle.cbor_round_trip.specs.TypeLaws.{law_of};
 
     ghost law = { law_of integer_back };
 
@@ -144,8 +144,8 @@ impl RoundTrip for i128 {
 }
 
 impl RoundTrip for Float {
-    ghost use Rattle.cbor_round.specs.Scalars.{float_back};
-    ghost use Rattle.cbor_round.specs.TypeLaws.{law_of};
+    ghost use Rattle.cbor_round_trip.specs.Scalars.{float_back};
+    ghost use Rattle.cbor_round_trip.specs.TypeLaws.{law_of};
 
     ghost law = { law_of float_back };
 
@@ -154,8 +154,8 @@ impl RoundTrip for Float {
 
 /// Each number; and a NaN as a NaN.
 impl RoundTrip for f32 {
-    ghost use Rattle.cbor_round.specs.Scalars.{single_back};
-    ghost use Rattle.cbor_round.specs.TypeLaws.{law_of};
+    ghost use Rattle.cbor_round_trip.specs.Scalars.{single_back};
+    ghost use Rattle.cbor_round_trip.specs.TypeLaws.{law_of};
 
     ghost law = { law_of single_back };
 
@@ -164,8 +164,8 @@ impl RoundTrip for f32 {
 
 /// Each number; and a NaN as a NaN.
 impl RoundTrip for f64 {
-    ghost use Rattle.cbor_round.specs.Scalars.{double_back};
-    ghost use Rattle.cbor_round.specs.TypeLaws.{law_of};
+    ghost use Rattle.cbor_round_trip.specs.Scalars.{double_back};
+    ghost use Rattle.cbor_round_trip.specs.TypeLaws.{law_of};
 
     ghost law = { law_of double_back };
 
@@ -173,8 +173,8 @@ impl RoundTrip for f64 {
 }
 
 impl RoundTrip for char {
-    ghost use Rattle.cbor_round.specs.Scalars.{char_back};
-    ghost use Rattle.cbor_round.specs.TypeLaws.{law_of};
+    ghost use Rattle.cbor_round_trip.specs.Scalars.{char_back};
+    ghost use Rattle.cbor_round_trip.specs.TypeLaws.{law_of};
 
     ghost law = { law_of char_back };
 
@@ -182,8 +182,8 @@ impl RoundTrip for char {
 }
 
 impl RoundTrip for String {
-    ghost use Rattle.cbor_round.specs.Scalars.{text_back};
-    ghost use Rattle.cbor_round.specs.TypeLaws.{law_of};
+    ghost use Rattle.cbor_round_trip.specs.Scalars.{text_back};
+    ghost use Rattle.cbor_round_trip.specs.TypeLaws.{law_of};
 
     ghost law = { law_of text_back };
 
@@ -191,8 +191,8 @@ impl RoundTrip for String {
 }
 
 impl RoundTrip for ByteBuf {
-    ghost use Rattle.cbor_round.specs.Scalars.{bytes_back};
-    ghost use Rattle.cbor_round.specs.TypeLaws.{law_of};
+    ghost use Rattle.cbor_round_trip.specs.Scalars.{bytes_back};
+    ghost use Rattle.cbor_round_trip.specs.TypeLaws.{law_of};
 
     ghost law = { law_of (bytes_back {items = λ b. b.0.items}) };
 
@@ -200,8 +200,8 @@ impl RoundTrip for ByteBuf {
 }
 
 impl<const N: usize> RoundTrip for ByteArray<N> {
-    ghost use Rattle.cbor_round.specs.Scalars.{byte_array_back};
-    ghost use Rattle.cbor_round.specs.TypeLaws.{law_of};
+    ghost use Rattle.cbor_round_trip.specs.Scalars.{byte_array_back};
+    ghost use Rattle.cbor_round_trip.specs.TypeLaws.{law_of};
 
     ghost law = { law_of (byte_array_back {n = N} {items = λ b. b.0}) };
 
@@ -211,8 +211,8 @@ impl<const N: usize> RoundTrip for ByteArray<N> {
 /// Each value whose maps list their keys in order, as all maps of a program do.
 impl RoundTrip for Value {
     ghost use Rattle.cbor_value.specs.View.{view};
-    ghost use Rattle.cbor_round.specs.Values.{value_back};
-    ghost use Rattle.cbor_round.specs.TypeLaws.{law_of};
+    ghost use Rattle.cbor_round_trip.specs.Values.{value_back};
+    ghost use Rattle.cbor_round_trip.specs.TypeLaws.{law_of};
 
     ghost law = { law_of (value_back view) };
 
@@ -222,9 +222,9 @@ impl RoundTrip for Value {
 /// None, and Some of a value that isn't written as null: `Some(())` and `Some(None)` are, and are
 /// read as None.
 impl<T: RoundTrip> RoundTrip for Option<T> {
-    ghost use Rattle.cbor_round.specs.Options.{IsAbsentOrFits, option_back};
-    ghost use Rattle.cbor_round.specs.ReadBack.{asking_more};
-    ghost use Rattle.cbor_round.specs.TypeLaws.{law_asking};
+    ghost use Rattle.cbor_round_trip.specs.Options.{IsAbsentOrFits, option_back};
+    ghost use Rattle.cbor_round_trip.specs.ReadBack.{asking_more};
+    ghost use Rattle.cbor_round_trip.specs.TypeLaws.{law_asking};
 
     ghost law = { law_asking (IsAbsentOrFits T.document T.law.fits) (option_back T.law.back) };
 
@@ -232,8 +232,8 @@ impl<T: RoundTrip> RoundTrip for Option<T> {
 }
 
 impl<T: RoundTrip> RoundTrip for Vec<T> {
-    ghost use Rattle.cbor_round.specs.Lists.{list_back};
-    ghost use Rattle.cbor_round.specs.TypeLaws.{law_of};
+    ghost use Rattle.cbor_round_trip.specs.Lists.{list_back};
+    ghost use Rattle.cbor_round_trip.specs.TypeLaws.{law_of};
 
     ghost law = { law_of (list_back T.law.back {items = λ v. v.items}) };
 
@@ -241,8 +241,8 @@ impl<T: RoundTrip> RoundTrip for Vec<T> {
 }
 
 impl<T: RoundTrip, const N: usize> RoundTrip for [T; N] {
-    ghost use Rattle.cbor_round.specs.Lists.{array_back};
-    ghost use Rattle.cbor_round.specs.TypeLaws.{law_of};
+    ghost use Rattle.cbor_round_trip.specs.Lists.{array_back};
+    ghost use Rattle.cbor_round_trip.specs.TypeLaws.{law_of};
 
     ghost law = { law_of (array_back T.law.back {n = N}) };
 
@@ -251,9 +251,9 @@ impl<T: RoundTrip, const N: usize> RoundTrip for [T; N] {
 
 /// Each map whose keys are written so that their order is told.
 impl<K: RoundTripKey, V: RoundTrip> RoundTrip for BTreeMap<K, V> {
-    ghost use Rattle.cbor_round.specs.Keyed.{AreFit, map_back};
-    ghost use Rattle.cbor_round.specs.ReadBack.{asking_more};
-    ghost use Rattle.cbor_round.specs.TypeLaws.{law_asking};
+    ghost use Rattle.cbor_round_trip.specs.Keyed.{AreFit, map_back};
+    ghost use Rattle.cbor_round_trip.specs.ReadBack.{asking_more};
+    ghost use Rattle.cbor_round_trip.specs.TypeLaws.{law_asking};
 
     ghost law = { law_asking (λ m. AreFit K.cmp K.law.fits V.law.fits m.entries)
         (map_back K.key.total K.key.told K.key.back V.law.back {entries = λ m. m.entries}) };
@@ -264,9 +264,9 @@ impl<K: RoundTripKey, V: RoundTrip> RoundTrip for BTreeMap<K, V> {
 /// A value within a tag; and without one, a value that has none of its own, as a `Tagged` within
 /// may.
 impl<T: RoundTrip> RoundTrip for Tagged<T> {
-    ghost use Rattle.cbor_round.specs.ReadBack.{asking_more};
-    ghost use Rattle.cbor_round.specs.Tagged.{IsToldApart, tagged_back};
-    ghost use Rattle.cbor_round.specs.TypeLaws.{law_asking};
+    ghost use Rattle.cbor_round_trip.specs.ReadBack.{asking_more};
+    ghost use Rattle.cbor_round_trip.specs.Tagged.{IsToldApart, tagged_back};
+    ghost use Rattle.cbor_round_trip.specs.TypeLaws.{law_asking};
 
     ghost law = { law_asking (λ t. IsToldApart t.tag (T.document t.value) × T.law.fits t.value)
         (tagged_back T.law.back {tag = λ t. t.tag} {inner = λ t. t.value}) };
@@ -275,8 +275,8 @@ impl<T: RoundTrip> RoundTrip for Tagged<T> {
 }
 
 impl RoundTripKey for String {
-    ghost use Rattle.cbor_round.specs.Keyed.{texts_told, texts_total};
-    ghost use Rattle.cbor_round.specs.TypeLaws.{key_law};
+    ghost use Rattle.cbor_round_trip.specs.Keyed.{texts_told, texts_total};
+    ghost use Rattle.cbor_round_trip.specs.TypeLaws.{key_law};
 
     ghost key = { key_law ⟦<String as RoundTrip>⟧.law.back texts_total texts_told };
 
@@ -285,8 +285,8 @@ impl RoundTripKey for String {
 
 impl RoundTripKey for u8 {
     ghost use Rattle.std.proofs.lemmas.Cmp.{nat_cmp_total};
-    ghost use Rattle.cbor_round.specs.Keyed.{naturals_told};
-    ghost use Rattle.cbor_round.specs.TypeLaws.{key_law};
+    ghost use Rattle.cbor_round_trip.specs.Keyed.{naturals_told};
+    ghost use Rattle.cbor_round_trip.specs.TypeLaws.{key_law};
 
     ghost key = { key_law ⟦<u8 as RoundTrip>⟧.law.back nat_cmp_total naturals_told };
 
@@ -295,8 +295,8 @@ impl RoundTripKey for u8 {
 
 impl RoundTripKey for u16 {
     ghost use Rattle.std.proofs.lemmas.Cmp.{nat_cmp_total};
-    ghost use Rattle.cbor_round.specs.Keyed.{naturals_told};
-    ghost use Rattle.cbor_round.specs.TypeLaws.{key_law};
+    ghost use Rattle.cbor_round_trip.specs.Keyed.{naturals_told};
+    ghost use Rattle.cbor_round_trip.specs.TypeLaws.{key_law};
 
     ghost key = { key_law ⟦<u16 as RoundTrip>⟧.law.back nat_cmp_total naturals_told };
 
@@ -305,8 +305,8 @@ impl RoundTripKey for u16 {
 
 impl RoundTripKey for u32 {
     ghost use Rattle.std.proofs.lemmas.Cmp.{nat_cmp_total};
-    ghost use Rattle.cbor_round.specs.Keyed.{naturals_told};
-    ghost use Rattle.cbor_round.specs.TypeLaws.{key_law};
+    ghost use Rattle.cbor_round_trip.specs.Keyed.{naturals_told};
+    ghost use Rattle.cbor_round_trip.specs.TypeLaws.{key_law};
 
     ghost key = { key_law ⟦<u32 as RoundTrip>⟧.law.back nat_cmp_total naturals_told };
 
@@ -315,8 +315,8 @@ impl RoundTripKey for u32 {
 
 impl RoundTripKey for u64 {
     ghost use Rattle.std.proofs.lemmas.Cmp.{nat_cmp_total};
-    ghost use Rattle.cbor_round.specs.Keyed.{naturals_told};
-    ghost use Rattle.cbor_round.specs.TypeLaws.{key_law};
+    ghost use Rattle.cbor_round_trip.specs.Keyed.{naturals_told};
+    ghost use Rattle.cbor_round_trip.specs.TypeLaws.{key_law};
 
     ghost key = { key_law ⟦<u64 as RoundTrip>⟧.law.back nat_cmp_total naturals_told };
 
@@ -325,8 +325,8 @@ impl RoundTripKey for u64 {
 
 impl RoundTripKey for u128 {
     ghost use Rattle.std.proofs.lemmas.Cmp.{nat_cmp_total};
-    ghost use Rattle.cbor_round.specs.Keyed.{naturals_told};
-    ghost use Rattle.cbor_round.specs.TypeLaws.{key_law};
+    ghost use Rattle.cbor_round_trip.specs.Keyed.{naturals_told};
+    ghost use Rattle.cbor_round_trip.specs.TypeLaws.{key_law};
 
     ghost key = { key_law ⟦<u128 as RoundTrip>⟧.law.back nat_cmp_total naturals_told };
 
@@ -335,8 +335,8 @@ impl RoundTripKey for u128 {
 
 impl RoundTripKey for usize {
     ghost use Rattle.std.proofs.lemmas.Cmp.{nat_cmp_total};
-    ghost use Rattle.cbor_round.specs.Keyed.{naturals_told};
-    ghost use Rattle.cbor_round.specs.TypeLaws.{key_law};
+    ghost use Rattle.cbor_round_trip.specs.Keyed.{naturals_told};
+    ghost use Rattle.cbor_round_trip.specs.TypeLaws.{key_law};
 
     ghost key = { key_law ⟦<usize as RoundTrip>⟧.law.back nat_cmp_total naturals_told };
 
@@ -345,8 +345,8 @@ impl RoundTripKey for usize {
 
 impl RoundTripKey for i8 {
     ghost use Rattle.std.proofs.lemmas.Cmp.{int_cmp_total};
-    ghost use Rattle.cbor_round.specs.Keyed.{integers_told};
-    ghost use Rattle.cbor_round.specs.TypeLaws.{key_law};
+    ghost use Rattle.cbor_round_trip.specs.Keyed.{integers_told};
+    ghost use Rattle.cbor_round_trip.specs.TypeLaws.{key_law};
 
     ghost key = { key_law ⟦<i8 as RoundTrip>⟧.law.back int_cmp_total integers_told };
 
@@ -355,8 +355,8 @@ impl RoundTripKey for i8 {
 
 impl RoundTripKey for i16 {
     ghost use Rattle.std.proofs.lemmas.Cmp.{int_cmp_total};
-    ghost use Rattle.cbor_round.specs.Keyed.{integers_told};
-    ghost use Rattle.cbor_round.specs.TypeLaws.{key_law};
+    ghost use Rattle.cbor_round_trip.specs.Keyed.{integers_told};
+    ghost use Rattle.cbor_round_trip.specs.TypeLaws.{key_law};
 
     ghost key = { key_law ⟦<i16 as RoundTrip>⟧.law.back int_cmp_total integers_told };
 
@@ -365,8 +365,8 @@ impl RoundTripKey for i16 {
 
 impl RoundTripKey for i32 {
     ghost use Rattle.std.proofs.lemmas.Cmp.{int_cmp_total};
-    ghost use Rattle.cbor_round.specs.Keyed.{integers_told};
-    ghost use Rattle.cbor_round.specs.TypeLaws.{key_law};
+    ghost use Rattle.cbor_round_trip.specs.Keyed.{integers_told};
+    ghost use Rattle.cbor_round_trip.specs.TypeLaws.{key_law};
 
     ghost key = { key_law ⟦<i32 as RoundTrip>⟧.law.back int_cmp_total integers_told };
 
@@ -375,8 +375,8 @@ impl RoundTripKey for i32 {
 
 impl RoundTripKey for i64 {
     ghost use Rattle.std.proofs.lemmas.Cmp.{int_cmp_total};
-    ghost use Rattle.cbor_round.specs.Keyed.{integers_told};
-    ghost use Rattle.cbor_round.specs.TypeLaws.{key_law};
+    ghost use Rattle.cbor_round_trip.specs.Keyed.{integers_told};
+    ghost use Rattle.cbor_round_trip.specs.TypeLaws.{key_law};
 
     ghost key = { key_law ⟦<i64 as RoundTrip>⟧.law.back int_cmp_total integers_told };
 
@@ -385,8 +385,8 @@ impl RoundTripKey for i64 {
 
 impl RoundTripKey for i128 {
     ghost use Rattle.std.proofs.lemmas.Cmp.{int_cmp_total};
-    ghost use Rattle.cbor_round.specs.Keyed.{integers_told};
-    ghost use Rattle.cbor_round.specs.TypeLaws.{key_law};
+    ghost use Rattle.cbor_round_trip.specs.Keyed.{integers_told};
+    ghost use Rattle.cbor_round_trip.specs.TypeLaws.{key_law};
 
     ghost key = { key_law ⟦<i128 as RoundTrip>⟧.law.back int_cmp_total integers_told };
 
@@ -395,8 +395,8 @@ impl RoundTripKey for i128 {
 
 impl RoundTripKey for isize {
     ghost use Rattle.std.proofs.lemmas.Cmp.{int_cmp_total};
-    ghost use Rattle.cbor_round.specs.Keyed.{integers_told};
-    ghost use Rattle.cbor_round.specs.TypeLaws.{key_law};
+    ghost use Rattle.cbor_round_trip.specs.Keyed.{integers_told};
+    ghost use Rattle.cbor_round_trip.specs.TypeLaws.{key_law};
 
     ghost key = { key_law ⟦<isize as RoundTrip>⟧.law.back int_cmp_total integers_told };
 

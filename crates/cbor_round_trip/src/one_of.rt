@@ -4,9 +4,9 @@ use crate::parts::{PartsRoundTrip, VariantRoundTrip};
 use cbor_parts::{OneOf1, OneOf2, OneOf3, OneOf4, OneOf5, OneOf6, OneOf7, OneOf8};
 
 impl<A: VariantRoundTrip> PartsRoundTrip for OneOf1<A> {
-    ghost use Rattle.cbor_round.specs.Enums.{same1};
-    ghost use Rattle.cbor_round.specs.Variants.{variant_back, no_variants_back, enum_back};
-    ghost use Rattle.cbor_round.specs.PartsLaws.{enum1};
+    ghost use Rattle.cbor_round_trip.specs.Enums.{same1};
+    ghost use Rattle.cbor_round_trip.specs.Variants.{variant_back, no_variants_back, enum_back};
+    ghost use Rattle.cbor_round_trip.specs.PartsLaws.{enum1};
 
     ghost law = { enum1 A.law };
 
@@ -14,9 +14,9 @@ impl<A: VariantRoundTrip> PartsRoundTrip for OneOf1<A> {
 }
 
 impl<A: VariantRoundTrip, B: VariantRoundTrip> PartsRoundTrip for OneOf2<A, B> {
-    ghost use Rattle.cbor_round.specs.Enums.{same2};
-    ghost use Rattle.cbor_round.specs.Variants.{variant_back, no_variants_back, enum_back};
-    ghost use Rattle.cbor_round.specs.PartsLaws.{enum2};
+    ghost use Rattle.cbor_round_trip.specs.Enums.{same2};
+    ghost use Rattle.cbor_round_trip.specs.Variants.{variant_back, no_variants_back, enum_back};
+    ghost use Rattle.cbor_round_trip.specs.PartsLaws.{enum2};
 
     ghost law = { enum2 A.law B.law };
 
@@ -26,9 +26,9 @@ impl<A: VariantRoundTrip, B: VariantRoundTrip> PartsRoundTrip for OneOf2<A, B> {
 
 impl<A: VariantRoundTrip, B: VariantRoundTrip, C: VariantRoundTrip> PartsRoundTrip
     for OneOf3<A, B, C> {
-    ghost use Rattle.cbor_round.specs.Enums.{same3};
-    ghost use Rattle.cbor_round.specs.Variants.{variant_back, no_variants_back, enum_back};
-    ghost use Rattle.cbor_round.specs.PartsLaws.{enum3};
+    ghost use Rattle.cbor_round_trip.specs.Enums.{same3};
+    ghost use Rattle.cbor_round_trip.specs.Variants.{variant_back, no_variants_back, enum_back};
+    ghost use Rattle.cbor_round_trip.specs.PartsLaws.{enum3};
 
     ghost law = { enum3 A.law B.law C.law };
 
@@ -42,9 +42,9 @@ impl<
     C: VariantRoundTrip,
     D: VariantRoundTrip,
 > PartsRoundTrip for OneOf4<A, B, C, D> {
-    ghost use Rattle.cbor_round.specs.Enums.{same4};
-    ghost use Rattle.cbor_round.specs.Variants.{variant_back, no_variants_back, enum_back};
-    ghost use Rattle.cbor_round.specs.PartsLaws.{enum4};
+    ghost use Rattle.cbor_round_trip.specs.Enums.{same4};
+    ghost use Rattle.cbor_round_trip.specs.Variants.{variant_back, no_variants_back, enum_back};
+    ghost use Rattle.cbor_round_trip.specs.PartsLaws.{enum4};
 
     ghost law = { enum4 A.law B.law C.law D.law };
 
@@ -60,9 +60,9 @@ impl<
     D: VariantRoundTrip,
     E: VariantRoundTrip,
 > PartsRoundTrip for OneOf5<A, B, C, D, E> {
-    ghost use Rattle.cbor_round.specs.Enums.{same5};
-    ghost use Rattle.cbor_round.specs.Variants.{variant_back, no_variants_back, enum_back};
-    ghost use Rattle.cbor_round.specs.PartsLaws.{enum5};
+    ghost use Rattle.cbor_round_trip.specs.Enums.{same5};
+    ghost use Rattle.cbor_round_trip.specs.Variants.{variant_back, no_variants_back, enum_back};
+    ghost use Rattle.cbor_round_trip.specs.PartsLaws.{enum5};
 
     ghost law = { enum5 A.law B.law C.law D.law E.law };
 
@@ -79,9 +79,9 @@ impl<
     E: VariantRoundTrip,
     F: VariantRoundTrip,
 > PartsRoundTrip for OneOf6<A, B, C, D, E, F> {
-    ghost use Rattle.cbor_round.specs.Enums.{same6};
-    ghost use Rattle.cbor_round.specs.Variants.{variant_back, no_variants_back, enum_back};
-    ghost use Rattle.cbor_round.specs.PartsLaws.{enum6};
+    ghost use Rattle.cbor_round_trip.specs.Enums.{same6};
+    ghost use Rattle.cbor_round_trip.specs.Variants.{variant_back, no_variants_back, enum_back};
+    ghost use Rattle.cbor_round_trip.specs.PartsLaws.{enum6};
 
     ghost law = { enum6 A.law B.law C.law D.law E.law F.law };
 
@@ -99,9 +99,9 @@ impl<
     F: VariantRoundTrip,
     G: VariantRoundTrip,
 > PartsRoundTrip for OneOf7<A, B, C, D, E, F, G> {
-    ghost use Rattle.cbor_round.specs.Enums.{same7};
-    ghost use Rattle.cbor_round.specs.Variants.{variant_back, no_variants_back, enum_back};
-    ghost use Rattle.cbor_round.specs.PartsLaws.{enum7};
+    ghost use Rattle.cbor_round_trip.specs.Enums.{same7};
+    ghost use Rattle.cbor_round_trip.specs.Variants.{variant_back, no_variants_back, enum_back};
+    ghost use Rattle.cbor_round_trip.specs.PartsLaws.{enum7};
 
     ghost law = { enum7 A.law B.law C.law D.law E.law F.law G.law };
 
@@ -121,9 +121,9 @@ impl<
     G: VariantRoundTrip,
     H: VariantRoundTrip,
 > PartsRoundTrip for OneOf8<A, B, C, D, E, F, G, H> {
-    ghost use Rattle.cbor_round.specs.Enums.{same8};
-    ghost use Rattle.cbor_round.specs.Variants.{variant_back, no_variants_back, enum_back};
-    ghost use Rattle.cbor_round.specs.PartsLaws.{enum8};
+    ghost use Rattle.cbor_round_trip.specs.Enums.{same8};
+    ghost use Rattle.cbor_round_trip.specs.Variants.{variant_back, no_variants_back, enum_back};
+    ghost use Rattle.cbor_round_trip.specs.PartsLaws.{enum8};
 
     ghost law = { enum8 A.law B.law C.law D.law E.law F.law G.law H.law };
 

@@ -17,7 +17,7 @@ use Rattle.cbor_model.specs.Readable.{Context, PassesTags}
 use Rattle.cbor_read.specs.Source.{Lends}
 use Rattle.cbor_decode_as.specs.Takes.{lending}
 use Rattle.cbor_decode_as.specs.Maps.{AsMap, ArePairsRead, AreEntries, put_all}
-use Rattle.cbor_round.specs.ReadBack.{IsReadBack}
+use Rattle.cbor_round_trip.specs.ReadBack.{IsReadBack}
 
 -- the order of two values is told by their documents
 abbrev pub IsToldByDocuments : {K : Type 0} → (K → Doc) → (K → K → Ordering) → Type 0

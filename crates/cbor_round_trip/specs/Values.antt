@@ -6,7 +6,7 @@ use Rattle.cbor_model.specs.Plain.{Val}
 use Rattle.cbor_model.specs.Value.{value}
 use Rattle.cbor_model.proofs.facts.Documents.{document_item}
 use Rattle.cbor_model.proofs.facts.Laws.{canonical_reads_back}
-use Rattle.cbor_round.specs.ReadBack.{IsReadBack}
+use Rattle.cbor_round_trip.specs.ReadBack.{IsReadBack}
 
 item_value : (v : Val) → IsOrdered v → (p g : Bool) → value (raw_of (document_of v) p g) ≡ v
 item_value v ordered p g = ap value (document_item v p g) ∙ canonical_reads_back v ordered

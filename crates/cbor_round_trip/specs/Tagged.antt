@@ -8,7 +8,7 @@ use Rattle.cbor_model.specs.Readable.{Context}
 use Rattle.cbor_read.specs.Source.{Lends}
 use Rattle.cbor_decode_as.specs.Takes.{lending}
 use Rattle.cbor_convert.specs.Tagged.{tagged_document, IsTagged}
-use Rattle.cbor_round.specs.ReadBack.{IsReadBack}
+use Rattle.cbor_round_trip.specs.ReadBack.{IsReadBack}
 
 -- without a tag of its own
 abbrev pub HasNoTag : Doc → Type 0

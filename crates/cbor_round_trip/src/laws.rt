@@ -5,7 +5,7 @@ ghost use Rattle.cbor_model.specs.Acceptable.{max_depth};
 ghost use Rattle.cbor_model.specs.Document.{raw_of, IsStorableDocument};
 ghost use Rattle.cbor_model.specs.Raw.{AreBytes, depth};
 ghost use Rattle.cbor_decode.specs.Gives.{IsMemoryOrFault};
-ghost use Rattle.cbor_round.specs.ReadBack.{IsWrittenReadBack};
+ghost use Rattle.cbor_round_trip.specs.ReadBack.{IsWrittenReadBack};
 
 use crate::round_trip::RoundTrip;
 use cbor_io::error::Result;

@@ -16,7 +16,7 @@ use Rattle.cbor_value.specs.declared.Float.{Float}
 use Rattle.cbor_value.specs.declared.Float.TheVariants.{Half, Single, Double}
 use Rattle.cbor_decode_as.specs.Scalars.{IsFloatItem, IsFloatOf, IsSingleOf}
 use Rattle.cbor_decode_as.specs.Strings.{IsByteString, IsByteArray, IsCharacter}
-use Rattle.cbor_round.specs.ReadBack.{IsReadBack}
+use Rattle.cbor_round_trip.specs.ReadBack.{IsReadBack}
 
 -- ---- simple values
 

@@ -1,8 +1,8 @@
 use Rattle.std.proofs.Common.{ℕ, ◌<◌, ◌^◌, List, length, Some, drop, ap, subst}
 use Rattle.cbor_model.specs.Raw.{AreBytes}
 use Rattle.cbor_decode.specs.Gives.{Gave}
-use Rattle.cbor_round.proofs.Calls.{gave_all, only_memory, same_again, spelled_again}
-use Rattle.cbor_round.proofs.laws.write_and_read.Goals as goal
+use Rattle.cbor_round_trip.proofs.Calls.{gave_all, only_memory, same_again, spelled_again}
+use Rattle.cbor_round_trip.proofs.laws.write_and_read.Goals as goal
 
 pub returns-in_err-bytes-clause-answered : goal.returns-in_err-bytes-clause-answered
 returns-in_err-bytes-clause-answered g c = λ fit stored nests.

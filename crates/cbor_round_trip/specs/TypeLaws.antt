@@ -7,12 +7,12 @@ use Rattle.cbor_model.specs.Raw.{Raw, Raws}
 use Rattle.cbor_model.specs.Readable.{Context}
 use Rattle.cbor_decode_as.specs.Enums.{Content}
 use Rattle.cbor_de.specs.Structs.{IfAbsent}
-use Rattle.cbor_round.specs.Fields.{IsFieldReadBack}
-use Rattle.cbor_round.specs.ReadBack.{IsReadBack, asking_more, by_part}
-use Rattle.cbor_round.specs.Names.{are_distinct}
-use Rattle.cbor_round.specs.Keyed.{IsToldByDocuments}
-use Rattle.cbor_round.specs.Lists.{ArePartsReadBack}
-use Rattle.cbor_round.specs.Variants.{IsVariantReadBack}
+use Rattle.cbor_round_trip.specs.Fields.{IsFieldReadBack}
+use Rattle.cbor_round_trip.specs.ReadBack.{IsReadBack, asking_more, by_part}
+use Rattle.cbor_round_trip.specs.Names.{are_distinct}
+use Rattle.cbor_round_trip.specs.Keyed.{IsToldByDocuments}
+use Rattle.cbor_round_trip.specs.Lists.{ArePartsReadBack}
+use Rattle.cbor_round_trip.specs.Variants.{IsVariantReadBack}
 
 -- ---- a type
 

@@ -8,7 +8,7 @@ use Rattle.cbor_model.specs.Readable.{Context, PassesTags}
 use Rattle.cbor_read.specs.Source.{Lends}
 use Rattle.cbor_decode_as.specs.Takes.{lending}
 use Rattle.cbor_decode_as.specs.Arrays.{AsArray, AreRead, AreExactly, FirstThen, AreNone}
-use Rattle.cbor_round.specs.ReadBack.{IsReadBack}
+use Rattle.cbor_round_trip.specs.ReadBack.{IsReadBack}
 
 module _ {A : Type 0} {document : A → Doc} {reads : Context → Raw → A → Type 0} {fits : A → Type 0} (law : IsReadBack document reads fits) where
   items_itself : (xs : List A) → AllByRecursion fits xs → (l : Lends) (p g : Bool)

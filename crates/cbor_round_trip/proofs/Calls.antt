@@ -15,8 +15,8 @@ use Rattle.cbor_io.specs.declared.error.ErrorCode.TheVariants.{Message, OutOfMem
 use Rattle.cbor_read.specs.Source.{Lends}
 use Rattle.cbor_ser.specs.Written.{IsNotWritten, IsRefusedBy}
 use Rattle.cbor_de.specs.Whole.{from_reader_context}
-use Rattle.cbor_round.specs.ReadBack.{IsReadBack}
-use Rattle.cbor_round.proofs.Written.{written}
+use Rattle.cbor_round_trip.specs.ReadBack.{IsReadBack}
+use Rattle.cbor_round_trip.proofs.Written.{written}
 
 -- what a reader lends
 abbrev of_reader : Lends

@@ -13,9 +13,9 @@ use Rattle.cbor_described.specs.OneOfs.{either, no_variant}
 use Rattle.cbor_described.specs.declared.variant_list.OneOf.{OneOf}
 use Rattle.cbor_described.specs.declared.variant_list.OneOf.TheVariants.{This, Other}
 use Rattle.cbor_described.specs.declared.variant_list.Never.{Never}
-use Rattle.cbor_round.specs.ReadBack.{IsReadBack, by_part, as_alike}
-use Rattle.cbor_round.specs.Names.{are_distinct, names_place, one_place}
-use Rattle.cbor_round.specs.Lists.{ArePartsReadBack}
+use Rattle.cbor_round_trip.specs.ReadBack.{IsReadBack, by_part, as_alike}
+use Rattle.cbor_round_trip.specs.Names.{are_distinct, names_place, one_place}
+use Rattle.cbor_round_trip.specs.Lists.{ArePartsReadBack}
 
 -- The item is the variant in this place with this content, and no other.
 pub record IsVariantAlone (names : List (List ℕ)) (i : ℕ) (r : Raw) (content : Content) : Type 0 where

@@ -18,7 +18,7 @@ use Rattle.cbor_parts.specs.declared.OneOf7.{OneOf7}
 use Rattle.cbor_parts.specs.declared.OneOf7.TheVariants as one_of7
 use Rattle.cbor_parts.specs.declared.OneOf8.{OneOf8}
 use Rattle.cbor_parts.specs.declared.OneOf8.TheVariants as one_of8
-use Rattle.cbor_round.specs.Variants.{either_document, never_document}
+use Rattle.cbor_round_trip.specs.Variants.{either_document, never_document}
 
 pub same1 : {A : Type 0} (a : ByPlace A) (names : List (List ℕ)) (x : OneOf1 A)
     → document1 a names x ≡ either_document a never_document names 0 (list1 x)
