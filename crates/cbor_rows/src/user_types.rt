@@ -2,7 +2,7 @@
 
 use crate::message::Message;
 use cbor_tables::{Desk, Row};
-use cbor_tree::tree::Tree;
+use samples::tree::Tree;
 use row_types::assorted::Assorted;
 use row_types::bookmark::Bookmark;
 use row_types::choice::Choice;

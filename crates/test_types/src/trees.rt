@@ -1,6 +1,6 @@
 //! A type that contains itself, of a user's own.
 
-use cbor_tree::tree::Tree;
+use samples::tree::Tree;
 use serde_cbor::Deserializer;
 use serde_cbor::de::Deserialize;
 use test_checks::{Done, is_refused};

@@ -9,8 +9,8 @@ use Rattle.serde_cbor.specs.declared.error.Error.{Error}
 use Rattle.serde_cbor.specs.View.{view, views, vals_of}
 use Rattle.serde_cbor.proofs.facts.Values.{view_array}
 use Rattle.cbor_value.specs.declared.Value.{Value, Array}
-use Rattle.cbor_tree.specs.declared.tree.Tree.{Tree, Node}
-use Rattle.cbor_tree.specs.Trees.{IsTree, AreTrees, RefusesTree, RefusesTrees}
+use Rattle.samples.specs.declared.tree.Tree.{Tree, Node}
+use Rattle.samples.specs.Trees.{IsTree, AreTrees, RefusesTree, RefusesTrees}
 
 -- ---- the items of an array
 

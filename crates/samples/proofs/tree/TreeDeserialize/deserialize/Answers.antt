@@ -1,7 +1,7 @@
 use Rattle.serde_cbor.specs.Takes.{formats_of}
 use Rattle.serde_cbor.proofs.facts.Values.{value_made, no_value}
-use Rattle.cbor_tree.specs.Trees.{IsTree}
-use Rattle.cbor_tree.proofs.tree.TreeDeserialize.deserialize.Goals as goal
+use Rattle.samples.specs.Trees.{IsTree}
+use Rattle.samples.proofs.tree.TreeDeserialize.deserialize.Goals as goal
 
 pub returns-in_err-value-clause-read : goal.returns-in_err-value-clause-read
 returns-in_err-value-clause-read g c =

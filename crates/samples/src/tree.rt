@@ -4,7 +4,7 @@
 ghost use Rattle.std.specs.Prelude.{◌≡◌, codes, IfOk, IfErr, Some};
 ghost use Rattle.serde_cbor.specs.Error.{code_of, offset_of, IsMessageOf};
 ghost use Rattle.serde_cbor.specs.View.{view, views};
-ghost use Rattle.cbor_tree.specs.Trees.{IsTree, AreTrees, RefusesTree, RefusesTrees};
+ghost use Rattle.samples.specs.Trees.{IsTree, AreTrees, RefusesTree, RefusesTrees};
 
 use serde_cbor::de::{Deserialize, DeserializeOwned, Read, Readable};
 use serde_cbor::ser::{Serialize, Serializer, Write};
@@ -20,8 +20,8 @@ pub enum Tree {
 
 impl Serialize for Tree {
     ghost use Rattle.serde_cbor.specs.Document.{Doc, integer, sequence, declared, docs};
-    ghost use Rattle.cbor_tree.specs.declared.tree.Tree.{fold-Tree};
-    ghost use Rattle.cbor_tree.specs.declared.tree.Tree.TheOpen.{Tree-F};
+    ghost use Rattle.samples.specs.declared.tree.Tree.{fold-Tree};
+    ghost use Rattle.samples.specs.declared.tree.Tree.TheOpen.{Tree-F};
 
     // What the parts are written as stands in their places.
     ghost document = { fold-Tree Doc (elim [

@@ -3,9 +3,9 @@ use Rattle.std.specs.Prelude.{map}
 use Rattle.serde_cbor.specs.Document.{Doc, integer, sequence, declared, docs}
 use Rattle.serde_cbor.specs.Parts.{item}
 use Rattle.serde_cbor.proofs.facts.Serialize.{ends, docs_of}
-use Rattle.cbor_tree.specs.declared.tree.Tree.{Tree, fold-Tree, Node, the_lemmas}
-use Rattle.cbor_tree.specs.declared.tree.Tree.TheOpen.{Tree-F}
-use Rattle.cbor_tree.proofs.tree.TreeSerialize.+serialize.Goals as goal
+use Rattle.samples.specs.declared.tree.Tree.{Tree, fold-Tree, Node, the_lemmas}
+use Rattle.samples.specs.declared.tree.Tree.TheOpen.{Tree-F}
+use Rattle.samples.proofs.tree.TreeSerialize.+serialize.Goals as goal
 
 pub returns-in-Node : goal.returns-in-Node
 returns-in-Node g t c =

@@ -3,9 +3,9 @@ use Rattle.std.proofs.lemmas.Result.{err_from_is_err_and}
 use Rattle.serde_cbor.specs.View.{view, views}
 use Rattle.serde_cbor.specs.declared.error.Error.{Error}
 use Rattle.cbor_value.specs.declared.Value.{Value}
-use Rattle.cbor_tree.specs.Trees.{AreTrees, RefusesTrees}
-use Rattle.cbor_tree.proofs.Trees.{node_is, node_lacks, trees_more, trees_lack}
-use Rattle.cbor_tree.proofs.tree.+tree_of.Goals as goal
+use Rattle.samples.specs.Trees.{AreTrees, RefusesTrees}
+use Rattle.samples.proofs.Trees.{node_is, node_lacks, trees_more, trees_lack}
+use Rattle.samples.proofs.tree.+tree_of.Goals as goal
 
 pub tree_of-returns-in_ok-trees_of-in-Array-clause-tree : goal.tree_of-returns-in_ok-trees_of-in-Array-clause-tree
 tree_of-returns-in_ok-trees_of-in-Array-clause-tree t c =

@@ -4,7 +4,7 @@ use Rattle.std.specs.Global.{Global}
 use Rattle.serde_cbor.specs.Error.{IsOutOfMemory}
 use Rattle.serde_cbor.specs.Plain.{Val, integer, array, Vals, no_vals, val}
 use Rattle.serde_cbor.specs.declared.error.Error.{Error}
-use Rattle.cbor_tree.specs.declared.tree.Tree.{Tree, Leaf, Node}
+use Rattle.samples.specs.declared.tree.Tree.{Tree, Leaf, Node}
 
 -- An integer is a leaf, and an array the node of the trees that its items are.
 abbrev mutual
