@@ -1,8 +1,8 @@
 use Rattle.std.proofs.Common.{◌∙◌, sym, ap}
 use Rattle.std.specs.Option.{option_map}
 use Rattle.cbor_value.specs.View.{view}
-use Rattle.test_types.proofs.Lookups.{ascends, found, not_found}
-use Rattle.test_types.proofs.lookup.text_in.Goals as goal
+use Rattle.test_cbor.proofs.Lookups.{ascends, found, not_found}
+use Rattle.test_cbor.proofs.lookup.text_in.Goals as goal
 
 pub returns-in-Some : goal.returns-in-Some
 returns-in-Some c =

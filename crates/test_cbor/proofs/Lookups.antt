@@ -13,7 +13,7 @@ use Rattle.cbor_value.specs.View.{view, map_view}
 use Rattle.cbor_value.specs.declared.Map.{Map}
 use Rattle.cbor_value.specs.declared.Value.{Value, Map as of_map}
 use Rattle.serde_cbor.proofs.facts.Values.{view_map}
-use Rattle.test_types.specs.Lookup.{HasText, IsText, IsUnder}
+use Rattle.test_cbor.specs.Lookup.{HasText, IsText, IsUnder}
 
 is_text : (w : Val) (text : List ℕ) → IsText w text → w ≡ plain.text text
 is_text (plain.text b) text is = ap plain.text is

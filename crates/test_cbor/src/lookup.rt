@@ -3,7 +3,7 @@
 ghost use Rattle.std.specs.Prelude.{List, ℕ, IfOk, MatchOption, string_bytes};
 ghost use Rattle.cbor_model.specs.Canonical.{IsOrdered};
 ghost use Rattle.cbor_value.specs.View.{view};
-ghost use Rattle.test_types.specs.Lookup.{HasText, IsText, IsUnder};
+ghost use Rattle.test_cbor.specs.Lookup.{HasText, IsText, IsUnder};
 
 use serde_cbor::{Value, from_slice};
 use std::alloc::{AllocError, Global};

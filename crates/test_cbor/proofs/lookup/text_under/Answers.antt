@@ -3,8 +3,8 @@ use Rattle.cbor_model.specs.Plain.{text}
 use Rattle.cbor_value.specs.View.{view}
 use Rattle.cbor_value.specs.declared.Value.{Text}
 use Rattle.serde_cbor.proofs.facts.Values.{spelled_value, is_canonical, view_text}
-use Rattle.test_types.proofs.Lookups.{of_bytes}
-use Rattle.test_types.proofs.lookup.text_under.Goals as goal
+use Rattle.test_cbor.proofs.Lookups.{of_bytes}
+use Rattle.test_cbor.proofs.lookup.text_under.Goals as goal
 
 pub text_in-requires : goal.text_in-requires
 text_in-requires c =

@@ -1,8 +1,7 @@
 //! Structs and collections, written to sinks of each kind.
 
 use crate::counter::Counter;
-use row_types::enums::DataEnum;
-use samples::enums::Bar;
+use samples::enums::{Bar, Color};
 use samples::structs::{Mascot, User};
 use serde_cbor::ser::{IoWrite, Serialize, SliceWrite, to_vec_packed};
 use serde_cbor::{Serializer, to_vec, to_writer};
@@ -279,7 +278,7 @@ fn is_written<T: Serialize>(
 #[test]
 fn writes_enums_within_std_types_in_each_form(rt: HostRuntime) -> Done {
     let alloc = rt.alloc();
-    let list = vec![in alloc; DataEnum::A(42), DataEnum::B(true, 9)]?;
+    let list = vec![in alloc; Color::Other(42), Color::Alpha(1, 9)]?;
     let mut map: BTreeMap<u8, Option<Bar>> = BTreeMap::new(alloc);
     map.insert(1, Some(Bar::Number(42)))?;
     map.insert(2, None)?;
@@ -288,13 +287,13 @@ fn writes_enums_within_std_types_in_each_form(rt: HostRuntime) -> Done {
         &rt,
         legacy(alloc),
         &all,
-        b"\x83\x82\x82\x61A\x18\x2a\x83\x61B\xf5\x09\
+        b"\x83\x82\x82\x65Other\x18\x2a\x83\x65Alpha\x01\x09\
             \xa2\x01\x82\x66Number\x18\x2a\x02\xf6\x81\x65Empty",
     )?;
     is_written(
         &rt,
         legacy(alloc).packed_format(),
         &all,
-        b"\x83\x82\x82\0\x18\x2a\x83\x01\xf5\x09\xa2\x01\x82\x01\x18\x2a\x02\xf6\x81\0",
+        b"\x83\x82\x82\x01\x18\x2a\x83\x03\x01\x09\xa2\x01\x82\x01\x18\x2a\x02\xf6\x81\0",
     )
 }

@@ -3,7 +3,7 @@ use Rattle.cbor_model.specs.Canonical.{canon}
 use Rattle.cbor_model.specs.Laws.{SpellsValue}
 use Rattle.cbor_value.specs.View.{view}
 use Rattle.serde_cbor.proofs.facts.Values.{spelled_value}
-use Rattle.test_types.proofs.laws.is_normal_after_once.Goals as goal
+use Rattle.test_cbor.proofs.laws.is_normal_after_once.Goals as goal
 
 pub returns : goal.returns
 returns c =

@@ -19,7 +19,7 @@ const READING: &[&str] = &["celsius", "humidity", "spectrum"];
 
 impl Schema for Reading {
     ghost use Rattle.std.specs.Prelude.{map};
-    ghost use Rattle.test_sinks.specs.declared.floats.TheConstants.{READING};
+    ghost use Rattle.test_cbor.specs.declared.floats.TheConstants.{READING};
 
     type Parts = (f64, Option<f32>, Vec<f64>);
 

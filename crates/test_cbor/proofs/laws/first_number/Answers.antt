@@ -9,7 +9,7 @@ use Rattle.serde_cbor.specs.Sources.{input_of_slice}
 use Rattle.serde_cbor.specs.Gives.{Reports, Tells}
 use Rattle.serde_cbor.specs.Takes.{ExcusedBy, TakesItem, formats_of}
 use Rattle.serde_cbor.specs.ItemTaken.{BeginsAs, BeginsAsNone, TookItem}
-use Rattle.test_types.proofs.laws.first_number.Goals as goal
+use Rattle.test_cbor.proofs.laws.first_number.Goals as goal
 
 abbrev IsSmall : Raw → ℕ → Type 0
 IsSmall = PassesTags (IsFromZero (2 ^ 8 - 1))

@@ -1,6 +1,6 @@
 use Rattle.std.proofs.Common.{Some, None, length, arith}
 use Rattle.serde_cbor.proofs.facts.Values.{reading}
-use Rattle.test_types.proofs.laws.read_twice.Goals as goal
+use Rattle.test_cbor.proofs.laws.read_twice.Goals as goal
 
 pub returns : goal.returns
 returns c =

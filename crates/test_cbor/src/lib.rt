@@ -1,0 +1,20 @@
+//! Tests over all of `serde_cbor`: what a user knows by the public contracts alone (`laws`), a
+//! function that says by these what it finds in a map (`lookup`), a tree of a user's own that is
+//! refused, what is written to sinks of each kind, and what values of types stand for.
+#![tactic(auto)]
+
+#[cfg(test)]
+mod builders;
+#[cfg(test)]
+mod counter;
+#[cfg(test)]
+mod floats;
+#[cfg(test)]
+mod laws;
+pub mod lookup;
+#[cfg(test)]
+mod sinks;
+#[cfg(test)]
+mod trees;
+#[cfg(test)]
+mod values;
