@@ -12,7 +12,7 @@ use Rattle.cbor_model.specs.Reader.{Fault, item_at}
 use Rattle.cbor_model.specs.Value.{value}
 use Rattle.cbor_model.proofs.facts.Laws.{document_is_acceptable, depth-le, value_is_canonical}
 use Rattle.cbor_model.proofs.facts.Reader.{ok_is, value_again}
-use Rattle.cbor_read.specs.Source.{Input, unread_slice, slice_refusals}
+use Rattle.cbor_read.specs.Source.{Input, start_of_slice, slice_refusals}
 use Rattle.cbor_io.specs.declared.error.Error.{Error}
 use Rattle.cbor_io.specs.declared.error.ErrorCode.{ErrorCode}
 use Rattle.cbor_io.specs.declared.error.ErrorCode.TheVariants as code
@@ -73,7 +73,7 @@ fails_memory _ end offset read y is h = absurd h
 
 module _ (bs : List ℕ) (r : Raw) (good : IsAcceptableWithin (length bs) r) (spelled : spell r ≡ bs) (short : length bs < 2 ^ 64) where
   abbrev source : Input
-  source = unread_slice bs None
+  source = start_of_slice bs None
 
   tells : Tells source bs
   tells = record { is = refl; short = omega (arith, short) }

@@ -14,7 +14,7 @@ use Rattle.cbor_decode.specs.Gives.{Limits}
 use Rattle.cbor_decode_as.specs.Strings.{IsByteArray, IsByteString, IsLentBytes, LendsBytes}
 use Rattle.cbor_decode_as.specs.Takes.{raws, lending, MemoryFor, TakesItem}
 use Rattle.cbor_decode_as.proofs.facts.Strings.{made_read, made_none, one_byte_string}
-use Rattle.cbor_de.proofs.Memory.{unread_memory}
+use Rattle.cbor_de.proofs.UnreadMemory.{unread_memory}
 use Rattle.cbor_de.specs.ByteStrings.{IsArrayOf}
 
 module _ (allowed : ReadErrorCode → Bool) (f : Formats) (l : Lends) (levels : ℕ) (s t : Input) (p : EitherLifetime) where

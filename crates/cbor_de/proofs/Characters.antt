@@ -14,10 +14,10 @@ use Rattle.cbor_io.specs.declared.read_error.ReadErrorCode.{ReadErrorCode}
 use Rattle.cbor_decode.specs.Gives.{Limits}
 use Rattle.cbor_decode_as.specs.Strings.{IsCharacter, IsOneCharacter, IsOneOf, IsLentText, LendsText, text_bytes}
 use Rattle.cbor_decode_as.specs.Takes.{raws, lending, MemoryFor, TakesItem}
-use Rattle.cbor_decode_as.specs.declared.lent.EitherStr.{EitherStr}
+use Rattle.cbor_decode_as.specs.declared.borrowed.EitherStr.{EitherStr}
 use Rattle.cbor_decode_as.proofs.facts.Strings.{same_bytes}
 use Rattle.cbor_decode_as.proofs.facts.Strings.{made_read, made_none}
-use Rattle.cbor_de.proofs.Memory.{unread_memory}
+use Rattle.cbor_de.proofs.UnreadMemory.{unread_memory}
 
 no_more : (xs : List ℕ) → length xs ≡ 0 → xs ≡ []
 no_more [] none = refl

@@ -15,10 +15,10 @@ use Rattle.cbor_decode.specs.declared.cursor.Remaining.{Remaining}
 use Rattle.cbor_decode.specs.declared.formats.Formats as declared
 use Rattle.cbor_decode.proofs.facts.Steps.{some_then, took_none}
 use Rattle.cbor_decode_as.specs.Takes.{TellsFault, formats_of}
-use Rattle.cbor_decode_as.specs.Cases.{FormAlone, IsBadKey, IsEnumCode, NoItemHere, Stands, StandsBy, enum_cases, key_cases, unit_cases}
+use Rattle.cbor_decode_as.specs.Cases.{FormAlone, IsBadKey, IsEnumCode, NoItemHere, HasCase, CaseHolds, enum_cases, key_cases, unit_cases}
 use Rattle.cbor_decode_as.specs.declared.variant.Form.{Form}
 use Rattle.cbor_decode_as.specs.declared.variant.Form.TheVariants as form
-use Rattle.cbor_de.specs.Forms.{WrongForms, never, told, both, may_tell, FormOnlyIf, MayTell}
+use Rattle.cbor_de.specs.Forms.{WrongForms, never, told, either, may_tell, FormOnlyIf, MayTell}
 use Rattle.cbor_de.specs.Forms.{TellsAt, TellsKey, TellsWithin, TellsBeginning, TellsEnum, TellsNameAlone, IsBadWithin, IsNameAlone, item_form, key_form, enum_form, unit_form, part_form}
 
 -- an error that tells no form, of any type
@@ -27,13 +27,13 @@ plain never f s e h = h
 plain (told P) f s e h = inl h
 
 -- an error of one of two parts
-pub of_left : (a b : WrongForms) (f : Formats) (s : Input) (e : Error) → MayTell a f s e → MayTell (both a b) f s e
+pub of_left : (a b : WrongForms) (f : Formats) (s : Input) (e : Error) → MayTell a f s e → MayTell (either a b) f s e
 of_left never b f s e h = plain b f s e h
 of_left (told P) never f s e h = h
 of_left (told P) (told Q) f s e (inl h) = inl h
 of_left (told P) (told Q) f s e (inr r) = inr (record { place = r.place; took = r.took; holds = inl r.holds })
 
-pub of_right : (a b : WrongForms) (f : Formats) (s : Input) (e : Error) → MayTell b f s e → MayTell (both a b) f s e
+pub of_right : (a b : WrongForms) (f : Formats) (s : Input) (e : Error) → MayTell b f s e → MayTell (either a b) f s e
 of_right never b f s e h = h
 of_right (told P) never f s e h = inl h
 of_right (told P) (told Q) f s e (inl h) = inl h
@@ -59,11 +59,11 @@ later_err a f g s m (Ok x) same took h = h
 later_err a f g s m (Err e) same took h = later_in a f g s m e same took h
 
 -- what was answered of one of two parts
-pub left_err : {A : Type 0} (a b : WrongForms) (f : Formats) (s : Input) (r : Result A Error) → IfErr r (MayTell a f s) → IfErr r (MayTell (both a b) f s)
+pub left_err : {A : Type 0} (a b : WrongForms) (f : Formats) (s : Input) (r : Result A Error) → IfErr r (MayTell a f s) → IfErr r (MayTell (either a b) f s)
 left_err a b f s (Ok x) h = h
 left_err a b f s (Err e) h = of_left a b f s e h
 
-pub right_err : {A : Type 0} (a b : WrongForms) (f : Formats) (s : Input) (r : Result A Error) → IfErr r (MayTell b f s) → IfErr r (MayTell (both a b) f s)
+pub right_err : {A : Type 0} (a b : WrongForms) (f : Formats) (s : Input) (r : Result A Error) → IfErr r (MayTell b f s) → IfErr r (MayTell (either a b) f s)
 right_err a b f s (Ok x) h = h
 right_err a b f s (Err e) h = of_right a b f s e h
 
@@ -101,13 +101,13 @@ item_told refusals f levels s e one h = told_here TellsWithin f s e (with_some (
     (λ is bs tells. subst (λ (k : ErrorCode). FailsBy (Reports refusals) k (s.offset + length bs) (offset_of e) (item_at (values f (limits s bs)) levels bs)) is (h bs tells))))
 
 -- a next key that may not begin as it does
-pub key_told : (f : Formats) (remaining : Remaining) (s : Input) (e : Error) → FormAlone code.WrongStructFormat (code_of e) → Stands s e (key_cases f remaining) → MayTell key_form f s e
+pub key_told : (f : Formats) (remaining : Remaining) (s : Input) (e : Error) → FormAlone code.WrongStructFormat (code_of e) → HasCase s e (key_cases f remaining) → MayTell key_form f s e
 key_told f remaining s e one h = told_here TellsKey f s e (with_some (λ (r : Remaining). TellsAt code.WrongStructFormat (IsBadKey f (remaining_of r)) s e) remaining (alone code.WrongStructFormat (IsBadKey f (remaining_of remaining)) s e one
-    (λ is bs tells. subst (λ (k : ErrorCode). StandsBy (key_cases f remaining (limits s bs) bs) k (offset_of e)) is (h.told bs tells))))
+    (λ is bs tells. subst (λ (k : ErrorCode). CaseHolds (key_cases f remaining (limits s bs) bs) k (offset_of e)) is (h.told bs tells))))
 
 -- an enum up to its identifier
 enum_by : (f : Formats) (levels : ℕ) (s : Input) (e : Error) (k : ErrorCode) → code_of e ≡ k → IsEnumCode k
-    → ((bs : List ℕ) → Tells s bs → StandsBy (enum_cases f levels (limits s bs) bs) k (offset_of e)) → TellsNoForm (code_of e) ⊎ TellsBeginning f levels s e
+    → ((bs : List ℕ) → Tells s bs → CaseHolds (enum_cases f levels (limits s bs) bs) k (offset_of e)) → TellsNoForm (code_of e) ⊎ TellsBeginning f levels s e
 enum_by f levels s e code.ArrayTooShort is h at = inr (inr (inl (record { is = is; told = at })))
 enum_by f levels s e code.ArrayTooLong is h at = absurd h
 enum_by f levels s e code.WrongEnumFormat is h at = inr (inl (record { is = is; told = at }))
@@ -127,15 +127,15 @@ enum_by f levels s e code.TrailingData is h at = inl (subst TellsNoForm (sym is)
 enum_by f levels s e code.RecursionLimitExceeded is h at = inl (subst TellsNoForm (sym is) tt)
 enum_by f levels s e code.OutOfMemory is h at = inl (subst TellsNoForm (sym is) tt)
 
-pub enum_told : (f : Formats) (levels : ℕ) (s : Input) (e : Error) → IsEnumCode (code_of e) → Stands s e (enum_cases f levels) → MayTell enum_form f s e
+pub enum_told : (f : Formats) (levels : ℕ) (s : Input) (e : Error) → IsEnumCode (code_of e) → HasCase s e (enum_cases f levels) → MayTell enum_form f s e
 enum_told f levels s e code h = told_here TellsEnum f s e (with_some (λ (n : ℕ). TellsBeginning f n s e) levels (enum_by f levels s e (code_of e) refl code h.told))
 
 -- a variant of no part
-unit_told : (f : Formats) (form : Form) (s : Input) (e : Error) → FormAlone code.ArrayTooLong (code_of e) → Stands s e (unit_cases form) → MayTell unit_form f s e
+unit_told : (f : Formats) (form : Form) (s : Input) (e : Error) → FormAlone code.ArrayTooLong (code_of e) → HasCase s e (unit_cases form) → MayTell unit_form f s e
 unit_told f form s e one h = told_here (TellsNameAlone code.ArrayTooLong) f s e (with_some (λ (w : Form). TellsAt code.ArrayTooLong (IsNameAlone w) s e) form (alone code.ArrayTooLong (IsNameAlone form) s e one
-    (λ is bs tells. subst (λ (k : ErrorCode). StandsBy (unit_cases form (limits s bs) bs) k (offset_of e)) is (h.told bs tells))))
+    (λ is bs tells. subst (λ (k : ErrorCode). CaseHolds (unit_cases form (limits s bs) bs) k (offset_of e)) is (h.told bs tells))))
 
-pub unit_err : {A : Type 0} (f : Formats) (form : Form) (s : Input) (r : Result A Error) → IfErr r (λ e. FormAlone code.ArrayTooLong (code_of e)) → IfErr r (λ e. Stands s e (unit_cases form)) → IfErr r (MayTell unit_form f s)
+pub unit_err : {A : Type 0} (f : Formats) (form : Form) (s : Input) (r : Result A Error) → IfErr r (λ e. FormAlone code.ArrayTooLong (code_of e)) → IfErr r (λ e. HasCase s e (unit_cases form)) → IfErr r (MayTell unit_form f s)
 unit_err f form s (Ok x) one h = h
 unit_err f form s (Err e) one h = unit_told f form s e one h
 

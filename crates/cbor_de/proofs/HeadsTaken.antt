@@ -8,7 +8,7 @@ use Rattle.cbor_model.specs.Major.{major_of}
 use Rattle.cbor_model.specs.Raw.{AreBytes}
 use Rattle.cbor_model.specs.Reader.{Fault, Reads, ◌>>=◌, byte_at, number_at, number_behind, width_of}
 use Rattle.cbor_model.proofs.facts.Reader.{ok_is}
-use Rattle.cbor_model.proofs.facts.Heads.{AreBytes-rest, info-below, width_of-info, number_behind_found, number_behind_again, high_of, low_of}
+use Rattle.cbor_model.proofs.facts.HeadNumbers.{AreBytes-rest, info-below, width_of-info, number_behind_found, number_behind_again, high_of, low_of}
 use Rattle.cbor_value.specs.declared.Float.TheVariants.{Half, Single, Double}
 use Rattle.cbor_io.specs.declared.error.Error.{Error}
 use Rattle.cbor_io.specs.declared.read_error.ReadErrorCode.{ReadErrorCode}
@@ -22,9 +22,9 @@ use Rattle.cbor_decode.specs.declared.head.Head.{Head}
 use Rattle.cbor_decode.specs.declared.head.Head.TheVariants as head
 use Rattle.cbor_decode_as.specs.Kinds.{head_kind}
 use Rattle.cbor_decode_as.specs.Kinds as kind
-use Rattle.cbor_decode_as.specs.Opens.{opened_at, opened_inside}
+use Rattle.cbor_decode_as.specs.TaggedHeads.{opened_at, opened_inside}
 use Rattle.cbor_decode_as.specs.Takes.{ExcusedBy}
-use Rattle.cbor_decode_as.proofs.facts.Heads.{opened_here, opened_stops, opened_in_tag}
+use Rattle.cbor_decode_as.proofs.facts.TaggedHeads.{opened_here, opened_stops, opened_in_tag}
 use Rattle.cbor_decode_as.specs.Begins.{TakesBeginning}
 use Rattle.cbor_de.specs.HeadsTaken.{parts_head, FitsHead, tag_heads, FitTags, BeginsBy, TookHeads, NoHeads}
 

@@ -9,11 +9,11 @@ pub mod Every
 pub mod Values
 pub mod OfValues
 pub mod facts
-pub mod Memory
+pub mod UnreadMemory
 pub mod Forms
 pub mod Characters
 pub mod ByteStrings
-pub mod Fields
+pub mod FieldNames
 pub mod Slots
 pub mod Structs
 pub mod StructLoops

@@ -8,12 +8,12 @@ use Rattle.cbor_read.specs.Source.{Input, TookSome}
 use Rattle.cbor_io.specs.Error.{code_of, offset_of}
 use Rattle.cbor_io.specs.declared.error.Error.{Error}
 use Rattle.cbor_io.specs.declared.read_error.ReadErrorCode.{ReadErrorCode}
-use Rattle.cbor_decode.specs.Gives.{Limits, Onward, Step}
-use Rattle.cbor_decode.proofs.facts.Steps.{onward_some}
+use Rattle.cbor_decode.specs.Gives.{Limits, Advances, Step}
+use Rattle.cbor_decode.proofs.facts.Steps.{advances_some}
 use Rattle.cbor_decode.specs.Heads.{remaining_of}
 use Rattle.cbor_decode.specs.declared.cursor.Remaining.TheVariants.{Counted}
 use Rattle.cbor_decode.specs.declared.formats.Formats.{Formats}
-use Rattle.cbor_decode_as.specs.Accesses.{turns}
+use Rattle.cbor_decode_as.specs.Accesses.{most_left}
 use Rattle.cbor_decode_as.specs.Identifiers.{texts}
 use Rattle.cbor_decode_as.specs.MapAccesses.{IsKey, IsMapHead, RefusesMap, TakesMapEnd}
 use Rattle.cbor_de.specs.Structs.{IsAny, IsField, FieldOf, IsStruct}
@@ -82,7 +82,7 @@ module _ {S : Type 0} {R : Type 0} (names : List (List ℕ)) (fields : List (Fie
     pub formats : now.de.now.decoder.formats ≡ de.decoder.formats
     pub named : texts now.names.now ≡ names
     pub due : now.value_due ≡ false
-    pub onward : Onward (source de.decoder.source) (source now.de.now.decoder.source)
+    pub advances : Advances (source de.decoder.source) (source now.de.now.decoder.source)
     pub so_far : StructSoFar names fields slots (source de.decoder.source) de.decoder.formats de.decoder.levels
         (source now.de.now.decoder.source) now.de.now.decoder.formats now.de.now.decoder.levels now.remaining
 
@@ -122,15 +122,15 @@ module _ {S : Type 0} {R : Type 0} (names : List (List ℕ)) (fields : List (Fie
   pub fields_begin : {de : Deserializer R} {begun : StructAccess R}
       → Step (source de.decoder.source) (source begun.de.now.decoder.source)
       (λ l bs rest. IsMapHead (formats_of de.decoder.formats) l (item_at (raws (formats_of de.decoder.formats) l) de.decoder.levels bs) begun.de.now.decoder.levels begun.remaining rest)
-      → begun.de.now.decoder.formats ≡ de.decoder.formats → texts begun.names.now ≡ names → begun.value_due ≡ false → Onward (source de.decoder.source) (source begun.de.now.decoder.source) → FieldsSoFar de begun begun (none_yet fields)
-  fields_begin head formats named due onward = record {
+      → begun.de.now.decoder.formats ≡ de.decoder.formats → texts begun.names.now ≡ names → begun.value_due ≡ false → Advances (source de.decoder.source) (source begun.de.now.decoder.source) → FieldsSoFar de begun begun (none_yet fields)
+  fields_begin head formats named due advances = record {
     same = refl;
     outer = refl;
     levels = refl;
     formats = formats;
     named = named;
     due = due;
-    onward = onward;
+    advances = advances;
     so_far = struct_begins names fields head formats;
   }
 
@@ -158,7 +158,7 @@ module _ {S : Type 0} {R : Type 0} {names : List (List ℕ)} {fields : List (Fie
         key = field_named names fields i.so_far next field is i.named new.remaining key formats inside;
       }
 
-      pub fields_ended : next ≡ None → MatchOption next (new.remaining ≡ Counted 0) (λ k. turns new.remaining (source new.de.now.decoder.source) < turns now.remaining (source now.de.now.decoder.source))
+      pub fields_ended : next ≡ None → MatchOption next (new.remaining ≡ Counted 0) (λ k. most_left new.remaining (source new.de.now.decoder.source) < most_left now.remaining (source now.de.now.decoder.source))
           → FieldsEnded names fields source de begun new slots
       fields_ended is remains = record {
         before = now;
@@ -202,7 +202,7 @@ module _ {S : Type 0} {R : Type 0} {names : List (List ℕ)} {fields : List (Fie
         formats = formats ∙ d.key.formats ∙ d.was.formats;
         named = ap (λ names. texts names.now) (listed ∙ d.listed) ∙ d.was.named;
         due = due;
-        onward = onward_some _ _ _ (onward_some _ _ _ d.was.onward d.key.named.took) took;
+        advances = advances_some _ _ _ (advances_some _ _ _ d.was.advances d.key.named.took) took;
         so_far = so;
       }
 

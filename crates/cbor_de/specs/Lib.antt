@@ -1,6 +1,6 @@
 pub mod Structs
 pub mod Fields
-pub mod Options
+pub mod Absent
 pub mod ItemLists
 pub mod FieldTypes
 pub mod ByteStrings
@@ -13,7 +13,7 @@ pub mod HeadsTaken
 pub mod Streams
 pub use Rattle.cbor_io.specs.Error
 pub use Rattle.cbor_decode_as.specs.Takes
-pub use Rattle.cbor_decode_as.specs.Opens
+pub use Rattle.cbor_decode_as.specs.TaggedHeads
 pub use Rattle.cbor_decode_as.specs.Scalars
 pub use Rattle.cbor_decode_as.specs.Strings
 pub use Rattle.cbor_decode_as.specs.Tags

@@ -8,7 +8,7 @@ use Rattle.cbor_io.specs.declared.error.Error.{Error}
 use Rattle.cbor_io.specs.declared.read_error.ReadErrorCode.{ReadErrorCode}
 use Rattle.cbor_io.specs.Error.{code_of, offset_of}
 use Rattle.cbor_read.specs.Source.{Input, Stays}
-use Rattle.cbor_decode.specs.Gives.{Onward}
+use Rattle.cbor_decode.specs.Gives.{Advances}
 use Rattle.cbor_decode_as.specs.Takes.{formats_of, raws, IsNotRead, Refuses, TakesItem, TellsItem}
 use Rattle.cbor_de.specs.declared.stream.StreamDeserializer.{StreamDeserializer}
 
@@ -45,7 +45,7 @@ pub record GivesNone (s t : Stream) : Type 0 where
 pub record GivesItem {A : Type 0} (refusals : ReadErrorCode → Bool) (reads : Formats → Raw → A → Type 0) (x : A) (s t : Stream) : Type 0 where
   pub going : s.done ≡ false
   pub item : TakesItem refusals s.formats (reads s.formats) s.levels s.input t.input (Ok x)
-  pub taken : Onward s.input t.input
+  pub taken : Advances s.input t.input
   pub done : t.done ≡ false
   pub levels : t.levels ≡ s.levels
   pub formats : t.formats ≡ s.formats

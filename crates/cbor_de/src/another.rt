@@ -7,7 +7,7 @@ ghost use Rattle.cbor_decode.specs.Gives.{TellsNoForm};
 ghost use Rattle.cbor_decode_as.specs.Accesses.{TakesMore};
 
 use crate::sequence::SeqAccess;
-use cbor_decode_as::array::more_items;
+use cbor_decode_as::collection::more_items;
 use cbor_io::error::Result;
 use cbor_read::Source;
 
@@ -19,7 +19,8 @@ impl<'a, R: Source> SeqAccess<'a, R> {
         requires { self.old.de.now.decoder.levels < self.old.outer }
         ensures same_reference { self.new.de.ghost_name ≡ self.old.de.ghost_name }
         ensures read { TakesMore R.refusals self.old.remaining self.new.remaining
-            (R.source self.old.de.now.decoder.source) (R.source self.new.de.now.decoder.source) result }
+            (R.source self.old.de.now.decoder.source)
+            (R.source self.new.de.now.decoder.source) result }
         ensures counts { IfOk result (λ more. Counts self.old.remaining more self.new.remaining) }
         ensures no_form { IfErr result (λ e. TellsNoForm (code_of e)) }
         ensures inside { IfOk result (λ more.

@@ -3,7 +3,7 @@
 ghost use Rattle.std.specs.Prelude.{◌≡◌, ◌≤◌, false, [], None, Some, length};
 ghost use Rattle.cbor_model.specs.Acceptable.{max_depth};
 ghost use Rattle.cbor_model.specs.Formats.{all_formats};
-ghost use Rattle.cbor_read.specs.Source.{unread_slice, unread_reader};
+ghost use Rattle.cbor_read.specs.Source.{start_of_slice, start_of_reader};
 ghost use Rattle.cbor_read.specs.Sources.{input_of_slice, input_of_slice_fixed, input_of_mut_slice};
 ghost use Rattle.cbor_read.specs.Sources.{input_of_reader};
 ghost use Rattle.cbor_decode.specs.AtEnd.{EndTakes};
@@ -43,7 +43,7 @@ impl<'a> Deserializer<SliceRead<'a>> {
     /// de.end()?;
     /// ```
     pub fn from_slice(alloc: Global, slice: &'a [u8]) -> Deserializer<SliceRead<'a>>
-        ensures input { input_of_slice result.decoder.source ≡ unread_slice slice.now None }
+        ensures input { input_of_slice result.decoder.source ≡ start_of_slice slice.now None }
         ensures levels { result.decoder.levels ≡ max_depth }
         ensures formats { formats_of result.decoder.formats ≡ all_formats }
     {
@@ -67,7 +67,7 @@ impl<'a, 'b> Deserializer<SliceReadFixed<'a, 'b>> {
         scratch: &'b mut [u8],
     ) -> Deserializer<SliceReadFixed<'a, 'b>>
         ensures input { input_of_slice_fixed result.decoder.source
-            ≡ unread_slice slice.now (Some (length scratch.old)) }
+            ≡ start_of_slice slice.now (Some (length scratch.old)) }
         ensures levels { result.decoder.levels ≡ max_depth }
         ensures formats { formats_of result.decoder.formats ≡ all_formats }
     {
@@ -84,7 +84,7 @@ impl<'a> Deserializer<MutSliceRead<'a>> {
     /// assert_eq!(rt; String::deserialize(&mut de)?.as_str(), "ab");
     /// ```
     pub fn from_mut_slice(alloc: Global, slice: &'a mut [u8]) -> Deserializer<MutSliceRead<'a>>
-        ensures input { input_of_mut_slice result.decoder.source ≡ unread_slice slice.old None }
+        ensures input { input_of_mut_slice result.decoder.source ≡ start_of_slice slice.old None }
         ensures levels { result.decoder.levels ≡ max_depth }
         ensures formats { formats_of result.decoder.formats ≡ all_formats }
     {
@@ -102,7 +102,7 @@ impl<R: io::Read + Drop> Deserializer<IoRead<R>> {
     /// ```
     pub fn from_reader(alloc: Global, reader: R) -> Deserializer<IoRead<R>>
         ensures input { input_of_reader R.remaining result.decoder.source
-            ≡ unread_reader (R.remaining reader) }
+            ≡ start_of_reader (R.remaining reader) }
         ensures levels { result.decoder.levels ≡ max_depth }
         ensures formats { formats_of result.decoder.formats ≡ all_formats }
     {

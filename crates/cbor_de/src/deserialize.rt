@@ -2,7 +2,7 @@
 
 ghost use Rattle.std.specs.Prelude.{◌≡◌, IfErr, OnOk};
 ghost use Rattle.cbor_read.specs.Source.{asks_for};
-ghost use Rattle.cbor_decode.specs.Gives.{Onward};
+ghost use Rattle.cbor_decode.specs.Gives.{Advances};
 ghost use Rattle.cbor_decode_as.specs.Takes.{TakesItem, TellsItem, MemoryFor, context, formats_of};
 ghost use Rattle.cbor_de.specs.Forms.{MayTell};
 
@@ -206,7 +206,7 @@ pub trait Deserialize<'de, R: Read<'de>>: Readable {
             (Self.reads (context de.old.decoder.formats R.lends)) de.old.decoder.levels
             (R.source de.old.decoder.source) (R.source de.new.decoder.source) result }
         // A byte at the least, also of a source that doesn't tell its bytes.
-        ensures taken { OnOk result (Onward (R.source de.old.decoder.source)
+        ensures taken { OnOk result (Advances (R.source de.old.decoder.source)
             (R.source de.new.decoder.source)) }
         ensures fault { IfErr result (TellsItem Self.passes_over Self.total R.refusals
             (formats_of de.old.decoder.formats) de.old.decoder.levels

@@ -14,7 +14,7 @@ ghost use Rattle.cbor_io.specs.Error.{IsOutOfMemory};
 ghost use Rattle.cbor_decode.specs.FirstRefusal.{TellsFirst};
 ghost use Rattle.cbor_decode.specs.Gives.{Fails, FailsOrFaults, Gave};
 ghost use Rattle.cbor_decode.specs.Gives.{IsMemoryOrFault, IsScratchOrMemory};
-ghost use Rattle.cbor_read.specs.Source.{asks_for, unread_reader, unread_slice};
+ghost use Rattle.cbor_read.specs.Source.{asks_for, start_of_reader, start_of_slice};
 ghost use Rattle.cbor_decode_as.specs.Takes.{context, formats_of, lending, MemoryFor, WhereTotal};
 ghost use Rattle.cbor_de.specs.Forms.{MayTell};
 ghost use Rattle.cbor_de.specs.Whole.{ReadsAll, RefusesBytes, TellsWhole, from_slice_context};
@@ -152,7 +152,8 @@ pub fn from_slice<'a, T: Deserialize<'a, SliceRead<'a>>>(
     ensures fault { IfErr result (λ e. WhereTotal T.passes_over
         (RefusesBytes ⊥ (T.reads from_slice_context) None slice.now e)) }
     // A wrong form is told by a code, and at a place, that the type may tell it by and at.
-    ensures form { IfErr result (MayTell T.wrong_forms all_formats (unread_slice slice.now None)) }
+    ensures form { IfErr result
+        (MayTell T.wrong_forms all_formats (start_of_slice slice.now None)) }
 {
     read_all(alloc, SliceRead::new(alloc, slice))
 }
@@ -201,7 +202,7 @@ pub fn from_slice_with_scratch<'a, T: Deserialize<'a, SliceReadFixed<'a, 'a>>>(
     ensures fault { IfErr result (λ e. WhereTotal T.passes_over (RefusesBytes ⊥
         (T.reads from_slice_context) (Some (length scratch.old)) slice.now e)) }
     ensures form { IfErr result (MayTell T.wrong_forms all_formats
-        (unread_slice slice.now (Some (length scratch.old)))) }
+        (start_of_slice slice.now (Some (length scratch.old)))) }
 {
     read_all(alloc, SliceReadFixed::new(slice, scratch))
 }
@@ -237,7 +238,8 @@ pub fn from_mut_slice<'a, T: Deserialize<'a, MutSliceRead<'a>>>(
         WhereTotal T.total (Fails (length slice.old) e (read_value slice.old))) }
     ensures fault { IfErr result (λ e. WhereTotal T.passes_over
         (RefusesBytes ⊥ (T.reads from_mut_slice_context) None slice.old e)) }
-    ensures form { IfErr result (MayTell T.wrong_forms all_formats (unread_slice slice.old None)) }
+    ensures form { IfErr result
+        (MayTell T.wrong_forms all_formats (start_of_slice slice.old None)) }
 {
     are_bytes(slice);
     read_all(alloc, MutSliceRead::new(slice))
@@ -294,7 +296,7 @@ pub fn from_reader<'de, T: DeserializeOwned + Deserialize<'de, IoRead<R>>, R: io
         → IfErr result (λ e. WhereTotal T.passes_over
         (RefusesBytes ⊤ (T.reads from_reader_context) None bytes e)) }
     ensures form { IfErr result (MayTell T.wrong_forms all_formats
-        (unread_reader (R.remaining reader))) }
+        (start_of_reader (R.remaining reader))) }
 {
     read_all(alloc, IoRead::new(alloc, reader))
 }

@@ -7,7 +7,7 @@ ghost use Rattle.std.specs.Prelude.{◌≡◌, ◌<◌, [], ◌∷◌, Some, cod
 ghost use Rattle.std.specs.Prelude.{IfOk, IfErr, IfSome, MatchOption, OnOk, OnErr};
 ghost use Rattle.cbor_io.specs.Error.{code_of};
 ghost use Rattle.cbor_read.specs.Source.{RefusedByte, Stays};
-ghost use Rattle.cbor_decode.specs.Gives.{IsErrorOf, Onward, TellsNoForm};
+ghost use Rattle.cbor_decode.specs.Gives.{IsErrorOf, Advances, TellsNoForm};
 ghost use Rattle.cbor_decode.specs.declared.head.Head.TheVariants as kind;
 ghost use Rattle.cbor_decode.specs.declared.refusal.Refused.TheVariants.{Kept};
 ghost use Rattle.cbor_decode_as.specs.Identifiers.{texts};
@@ -15,7 +15,7 @@ ghost use Rattle.cbor_decode_as.specs.Takes.{formats_of};
 ghost use Rattle.cbor_decode_as.specs.Begins.{TakesBeginning};
 ghost use Rattle.cbor_decode_as.specs.BeginsEnum.{TakesPartsHead, TakesVariantHead};
 ghost use Rattle.cbor_io.specs.declared.error.ErrorCode.TheVariants.{ArrayTooLong};
-ghost use Rattle.cbor_decode_as.specs.Cases.{FormAlone, IsEnumCode, Stands};
+ghost use Rattle.cbor_decode_as.specs.Cases.{FormAlone, IsEnumCode, HasCase};
 ghost use Rattle.cbor_decode_as.specs.Cases.{enum_cases, unit_cases};
 ghost use Rattle.cbor_decode_as.specs.Enums.{IsNothing};
 ghost use Rattle.cbor_decode_as.specs.MapAccesses.{TakesMapEnd, TakesMapHead};
@@ -79,7 +79,7 @@ pub fn map_head<R: Source>(de: &mut Deserializer<R>) -> Result<Remaining>
     ensures read { TakesMapHead R.refusals (formats_of de.old.decoder.formats)
         de.old.decoder.levels (R.source de.old.decoder.source)
         (R.source de.new.decoder.source) de.new.decoder.levels result }
-    ensures taken { OnOk result (Onward (R.source de.old.decoder.source)
+    ensures taken { OnOk result (Advances (R.source de.old.decoder.source)
         (R.source de.new.decoder.source)) }
     ensures opened { TakesBeginning kind.Map R.refusals de.old.decoder.levels
         (R.source de.old.decoder.source) (R.source de.new.decoder.source)
@@ -89,7 +89,7 @@ pub fn map_head<R: Source>(de: &mut Deserializer<R>) -> Result<Remaining>
     ensures outer { OnErr result (de.new.decoder.levels ≡ de.old.decoder.levels) }
     ensures formats { de.new.decoder.formats ≡ de.old.decoder.formats }
 {
-    cbor_decode_as::map::map_head(&mut de.decoder)
+    cbor_decode_as::collection::map_head(&mut de.decoder)
 }
 
 /// Takes the end of a map of which so much remains. Pairs that weren't read are refused with
@@ -102,7 +102,7 @@ pub fn end_map<R: Source>(de: &mut Deserializer<R>, remaining: Remaining) -> Res
     ensures levels { de.new.decoder.levels ≡ de.old.decoder.levels }
     ensures formats { de.new.decoder.formats ≡ de.old.decoder.formats }
 {
-    cbor_decode_as::map::end_map(&mut de.decoder, remaining)
+    cbor_decode_as::collection::end_map(&mut de.decoder, remaining)
 }
 
 // ---- enums
@@ -118,13 +118,13 @@ pub fn variant_head<'de, R: Read<'de>>(
         (texts names.now) de.old.decoder.levels
         (R.source de.old.decoder.source) (R.source de.new.decoder.source)
         de.new.decoder.levels result }
-    ensures taken { OnOk result (Onward (R.source de.old.decoder.source)
+    ensures taken { OnOk result (Advances (R.source de.old.decoder.source)
         (R.source de.new.decoder.source)) }
     ensures opened { TakesVariantHead R.refusals
         (formats_of de.old.decoder.formats) (texts names.now) de.old.decoder.levels
         (R.source de.old.decoder.source) (R.source de.new.decoder.source)
         de.new.decoder.levels result }
-    ensures cases { IfErr result (λ e. Stands (R.source de.old.decoder.source) e
+    ensures cases { IfErr result (λ e. HasCase (R.source de.old.decoder.source) e
         (enum_cases (formats_of de.old.decoder.formats)
         de.old.decoder.levels)) }
     ensures code { IfErr result (λ e. IsEnumCode (code_of e)) }
@@ -156,7 +156,7 @@ pub fn parts<R: Source>(de: &mut Deserializer<R>, form: Form) -> Result<Remainin
         de.new.decoder.levels) }
     ensures formats { de.new.decoder.formats ≡ de.old.decoder.formats }
 {
-    cbor_decode_as::variant::parts(&mut de.decoder, form)
+    cbor_decode_as::content::parts(&mut de.decoder, form)
 }
 
 /// Reads the content of a variant of no part: nothing, or null or undefined where the enum is an
@@ -169,11 +169,11 @@ pub fn no_part<R: Source>(de: &mut Deserializer<R>, form: Form) -> Result<()>
         IsNothing
         de.old.decoder.levels form
         (R.source de.old.decoder.source) (R.source de.new.decoder.source) result }
-    ensures cases { IfErr result (λ e. Stands (R.source de.old.decoder.source) e
+    ensures cases { IfErr result (λ e. HasCase (R.source de.old.decoder.source) e
         (unit_cases form)) }
     ensures code { IfErr result (λ e. FormAlone ArrayTooLong (code_of e)) }
     ensures levels { de.new.decoder.levels ≡ de.old.decoder.levels }
     ensures formats { de.new.decoder.formats ≡ de.old.decoder.formats }
 {
-    cbor_decode_as::variant::no_part(&mut de.decoder, form)
+    cbor_decode_as::content::no_part(&mut de.decoder, form)
 }

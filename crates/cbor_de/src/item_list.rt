@@ -3,7 +3,7 @@
 
 ghost use Rattle.std.specs.Prelude.{◌≡◌, IfErr, OnOk};
 ghost use Rattle.cbor_model.specs.Readable.{PassesTags};
-ghost use Rattle.cbor_decode.specs.Gives.{Onward};
+ghost use Rattle.cbor_decode.specs.Gives.{Advances};
 ghost use Rattle.cbor_decode_as.specs.Accesses.{TakesPart};
 ghost use Rattle.cbor_decode_as.specs.Arrays.{AsArray};
 ghost use Rattle.cbor_decode_as.specs.Takes.{TakesItem, context, formats_of};
@@ -13,7 +13,7 @@ ghost use Rattle.cbor_de.specs.ItemLists.{TakesItems};
 use crate::de::Deserializer;
 use crate::deserialize::{Deserialize, Readable};
 use crate::sequence::invalid_length;
-use cbor_decode_as::array::{array_head, end_array, more_items};
+use cbor_decode_as::collection::{array_head, end_array, more_items};
 use cbor_decode::Remaining;
 use cbor_io::error::Result;
 use cbor_read::Read;
@@ -55,7 +55,7 @@ pub(crate) fn read_array<'de, R: Read<'de>, T: ReadTuple<'de, R>>(
         (PassesTags (AsArray (T.parts (context de.old.decoder.formats R.lends))))
         de.old.decoder.levels (R.source de.old.decoder.source)
         (R.source de.new.decoder.source) result }
-    ensures taken { OnOk result (Onward (R.source de.old.decoder.source)
+    ensures taken { OnOk result (Advances (R.source de.old.decoder.source)
         (R.source de.new.decoder.source)) }
     ensures form { IfErr result (MayTell T.wrong_forms
         (formats_of de.old.decoder.formats) (R.source de.old.decoder.source)) }
@@ -135,12 +135,12 @@ impl<'de, R: Read<'de>> ReadItems<'de, R> for () {
 }
 
 impl<A: Readable, F: ItemList> ItemList for (A, F) {
-    ghost use Rattle.cbor_de.specs.Forms.{both};
+    ghost use Rattle.cbor_de.specs.Forms.{either};
     ghost use Rattle.cbor_decode_as.specs.Enums.{part_then};
 
     ghost parts = { λ c. part_then (A.reads c) (F.parts c) };
 
-    ghost wrong_forms = { both A.wrong_forms F.wrong_forms };
+    ghost wrong_forms = { either A.wrong_forms F.wrong_forms };
 }
 
 impl<'de, R: Read<'de>, A: Deserialize<'de, R>, F: ReadItems<'de, R>> ReadItems<'de, R> for (A, F) {

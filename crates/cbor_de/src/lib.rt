@@ -36,7 +36,7 @@ pub use cbor_read::{
     EitherLifetime, IoRead, MutSliceRead, Offset, Read, ReadError, ReadErrorCode, SliceRead,
     SliceReadFixed, Source,
 };
-pub use cbor_decode_as::lent::{EitherStr, Unread};
+pub use cbor_decode_as::borrowed::{EitherStr, Unread};
 pub use de::Deserializer;
 pub use deserialize::{Deserialize, DeserializeOwned, Readable};
 pub use field_type::FieldType;

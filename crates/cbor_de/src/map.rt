@@ -6,22 +6,22 @@ ghost use Rattle.std.specs.Borrow.{sem, RestsIfErr};
 ghost use Rattle.cbor_model.specs.Reader.{item_at};
 ghost use Rattle.cbor_decode.specs.declared.cursor.Remaining.TheVariants.{Counted};
 ghost use Rattle.cbor_io.specs.Error.{code_of};
-ghost use Rattle.cbor_decode.specs.Gives.{Onward, Step, TellsNoForm};
+ghost use Rattle.cbor_decode.specs.Gives.{Advances, Step, TellsNoForm};
 ghost use Rattle.cbor_io.specs.declared.error.Error.{Error};
 ghost use Rattle.cbor_decode_as.specs.Begins.{Begins, RefusesBeginning};
 ghost use Rattle.cbor_decode.specs.declared.head.Head.TheVariants as kind;
-ghost use Rattle.cbor_decode_as.specs.Accesses.{turns, size_of};
+ghost use Rattle.cbor_decode_as.specs.Accesses.{most_left, size_of};
 ghost use Rattle.cbor_decode_as.specs.Cases.{TellsBadKey};
 ghost use Rattle.cbor_decode_as.specs.MapAccesses.{IsMapHead, RefusesMap, TakesKey};
 ghost use Rattle.cbor_decode_as.specs.MapAccesses.{TakesMapEnd};
 ghost use Rattle.cbor_read.specs.Source.{TookSome};
 ghost use Rattle.cbor_decode_as.specs.Takes.{TakesItem, WhateverTaken, context, formats_of, raws};
-ghost use Rattle.cbor_de.specs.Forms.{MayTell, both, key_form};
+ghost use Rattle.cbor_de.specs.Forms.{MayTell, either, key_form};
 ghost use Rattle.cbor_de.specs.contracts.de.Deserializer.{the_row};
 
 use crate::de::Deserializer;
 use crate::deserialize::Deserialize;
-use cbor_decode_as::map::{end_map, map_head, more_pairs};
+use cbor_decode_as::collection::{end_map, map_head, more_pairs};
 use cbor_decode::Remaining;
 use cbor_io::error::{Error, Result};
 use cbor_read::{Read, Source};
@@ -64,7 +64,7 @@ impl<R: Source> Deserializer<R> {
             (RefusesBeginning kind.Map R.refusals
             self.old.decoder.levels (R.source self.old.decoder.source))) }
         ensures no_form { IfErr result (λ e. TellsNoForm (code_of e)) }
-        ensures taken { IfOk result (λ m. Onward (R.source self.old.decoder.source)
+        ensures taken { IfOk result (λ m. Advances (R.source self.old.decoder.source)
             (R.source m.de.now.decoder.source)) }
         ensures outer { IfOk result (λ m. m.outer ≡ self.old.decoder.levels) }
         ensures inside { IfOk result (λ m. m.de.now.decoder.levels < m.outer) }
@@ -125,13 +125,14 @@ impl<'a, R: Source> MapAccess<'a, R> {
         ensures read { TakesKey R.refusals (formats_of self.old.de.now.decoder.formats)
             (K.reads (context self.old.de.now.decoder.formats R.lends))
             self.old.de.now.decoder.levels self.old.remaining self.new.remaining
-            (R.source self.old.de.now.decoder.source) (R.source self.new.de.now.decoder.source) result }
+            (R.source self.old.de.now.decoder.source)
+            (R.source self.new.de.now.decoder.source) result }
         // Nothing remains after the last pair, and a loop over the pairs ends.
         ensures remains { IfOk result (λ next. MatchOption next
             (self.new.remaining ≡ Counted 0)
-            (λ k. turns self.new.remaining (R.source self.new.de.now.decoder.source)
-            < turns self.old.remaining (R.source self.old.de.now.decoder.source))) }
-        ensures form { IfErr result (MayTell (both key_form K.wrong_forms)
+            (λ k. most_left self.new.remaining (R.source self.new.de.now.decoder.source)
+            < most_left self.old.remaining (R.source self.old.de.now.decoder.source))) }
+        ensures form { IfErr result (MayTell (either key_form K.wrong_forms)
             (formats_of self.old.de.now.decoder.formats)
             (R.source self.old.de.now.decoder.source)) }
         // Of a key that may begin as it does, it is the reading of `K` that refuses.
@@ -176,7 +177,8 @@ impl<'a, R: Source> MapAccess<'a, R> {
         ensures read { TakesItem R.refusals (formats_of self.old.de.now.decoder.formats)
             (V.reads (context self.old.de.now.decoder.formats R.lends))
             self.old.de.now.decoder.levels
-            (R.source self.old.de.now.decoder.source) (R.source self.new.de.now.decoder.source) result }
+            (R.source self.old.de.now.decoder.source)
+            (R.source self.new.de.now.decoder.source) result }
         ensures form { IfErr result (MayTell V.wrong_forms
             (formats_of self.old.de.now.decoder.formats)
             (R.source self.old.de.now.decoder.source)) }
@@ -188,8 +190,8 @@ impl<'a, R: Source> MapAccess<'a, R> {
         ensures remaining { self.new.remaining ≡ self.old.remaining }
         // A loop over the pairs ends.
         ensures remains { IfOk result (λ v.
-            turns self.new.remaining (R.source self.new.de.now.decoder.source)
-            ≤ turns self.old.remaining (R.source self.old.de.now.decoder.source)) }
+            most_left self.new.remaining (R.source self.new.de.now.decoder.source)
+            ≤ most_left self.old.remaining (R.source self.old.de.now.decoder.source)) }
         ensures formats { self.new.de.now.decoder.formats ≡ self.old.de.now.decoder.formats }
     {
         match V::deserialize(self.de) {

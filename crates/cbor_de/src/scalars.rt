@@ -6,10 +6,11 @@ ghost use types.Logic.{sem};
 ghost use Rattle.cbor_model.specs.Readable.{PassesTags, IsBool, IsInteger, IsUnit};
 ghost use Rattle.cbor_model.specs.Reader.{item_at};
 ghost use Rattle.cbor_io.specs.Error.{code_of};
-ghost use Rattle.cbor_decode.specs.Gives.{Onward, TellsNoForm, TellsNoKey};
-ghost use Rattle.cbor_decode_as.specs.Opens.{OpensAt};
+ghost use Rattle.cbor_decode.specs.Gives.{Advances, TellsNoForm, TellsNoKey};
+ghost use Rattle.cbor_decode_as.specs.TaggedHeads.{OpensAt};
 ghost use Rattle.cbor_decode_as.specs.Scalars.{IsFloatItem};
-ghost use Rattle.cbor_decode_as.specs.Strings.{IsMadeOf, IsNoKey, LendsBytes, LendsString, LendsText};
+ghost use Rattle.cbor_decode_as.specs.Strings.{IsMadeOf, IsNoKey, LendsBytes, LendsString};
+ghost use Rattle.cbor_decode_as.specs.Strings.{LendsText};
 ghost use Rattle.cbor_decode_as.specs.Takes.{TakesItem, TakesNoMemory, context, formats_of};
 ghost use Rattle.cbor_read.specs.Source.{asks_for};
 ghost use Rattle.cbor_decode_as.specs.Strings.{AsksForBytes, AsksForString, AsksToLend};
@@ -21,8 +22,8 @@ use crate::de::Deserializer;
 use cbor_decode::{Done, Head};
 use cbor_io::error::{Error, Result};
 use cbor_read::{EitherLifetime, Read, Source};
-use cbor_decode_as::lent::{EitherStr, Unread};
-use cbor_decode_as::{integer, lent, opening, scalar};
+use cbor_decode_as::borrowed::{EitherStr, Unread};
+use cbor_decode_as::{borrowed, head, integer, scalar};
 use cbor_value::Float;
 
 /// The result of a borrowing read.
@@ -34,11 +35,12 @@ impl<R: Source> Deserializer<R> {
     /// What isn't whole is refused by its fault, and another item by a message.
     #[inline(always)]
     pub fn read_bool(&mut self) -> Result<bool>
-        ensures read { TakesItem R.refusals (formats_of self.old.decoder.formats) (PassesTags IsBool)
+        ensures read { TakesItem R.refusals (formats_of self.old.decoder.formats)
+            (PassesTags IsBool)
             self.old.decoder.levels
             (R.source self.old.decoder.source) (R.source self.new.decoder.source)
             result }
-        ensures taken { OnOk result (Onward (R.source self.old.decoder.source)
+        ensures taken { OnOk result (Advances (R.source self.old.decoder.source)
             (R.source self.new.decoder.source)) }
         ensures fault { IfErr result (RefusesWhole R.refusals self.old.decoder.levels
             (R.source self.old.decoder.source)) }
@@ -60,7 +62,7 @@ impl<R: Source> Deserializer<R> {
             (PassesTags IsFloatItem) self.old.decoder.levels
             (R.source self.old.decoder.source) (R.source self.new.decoder.source)
             result }
-        ensures taken { OnOk result (Onward (R.source self.old.decoder.source)
+        ensures taken { OnOk result (Advances (R.source self.old.decoder.source)
             (R.source self.new.decoder.source)) }
         ensures fault { ReadsWhole R.refusals self.old.decoder.levels
             (R.source self.old.decoder.source) result }
@@ -78,11 +80,12 @@ impl<R: Source> Deserializer<R> {
     /// What isn't whole is refused by its fault, and another item by a message.
     #[inline(always)]
     pub fn read_unit(&mut self) -> Result<()>
-        ensures read { TakesItem R.refusals (formats_of self.old.decoder.formats) (PassesTags IsUnit)
+        ensures read { TakesItem R.refusals (formats_of self.old.decoder.formats)
+            (PassesTags IsUnit)
             self.old.decoder.levels
             (R.source self.old.decoder.source) (R.source self.new.decoder.source)
             result }
-        ensures taken { OnOk result (Onward (R.source self.old.decoder.source)
+        ensures taken { OnOk result (Advances (R.source self.old.decoder.source)
             (R.source self.new.decoder.source)) }
         ensures fault { IfErr result (RefusesWhole R.refusals self.old.decoder.levels
             (R.source self.old.decoder.source)) }
@@ -107,7 +110,7 @@ impl<R: Source> Deserializer<R> {
         ensures read { TakesItem R.refusals (formats_of self.old.decoder.formats)
             (PassesTags IsInteger) self.old.decoder.levels
             (R.source self.old.decoder.source) (R.source self.new.decoder.source) result }
-        ensures taken { OnOk result (Onward (R.source self.old.decoder.source)
+        ensures taken { OnOk result (Advances (R.source self.old.decoder.source)
             (R.source self.new.decoder.source)) }
         ensures fault { IfErr result (RefusesWhole R.refusals self.old.decoder.levels
             (R.source self.old.decoder.source)) }
@@ -130,7 +133,7 @@ impl<R: Source> Deserializer<R> {
         ensures levels { self.new.decoder.levels ≡ self.old.decoder.levels }
         ensures formats { self.new.decoder.formats ≡ self.old.decoder.formats }
     {
-        lent::unread_error(&mut self.decoder, why, message)
+        borrowed::unread_error(&mut self.decoder, why, message)
     }
 }
 
@@ -142,7 +145,8 @@ impl<'de, R: Read<'de>> Deserializer<R> {
         ensures* after_borrow { sem 𝓛 (Rests (typed_row R.row) self.entry (λ new.
             (new.decoder.levels ≡ self.old.decoder.levels)
             × (new.decoder.formats ≡ self.old.decoder.formats)
-            × LendsText R.refusals (context self.old.decoder.formats R.lends) self.old.decoder.levels
+            × LendsText R.refusals
+            (context self.old.decoder.formats R.lends) self.old.decoder.levels
             (R.source self.old.decoder.source) (R.source new.decoder.source) result
             × IfErr result IsNoKey
             × IfErr result (UnreadOnly (AsksToLend AsksForString (asks_for R.refusals R.lends)
@@ -150,9 +154,10 @@ impl<'de, R: Read<'de>> Deserializer<R> {
             (R.source self.old.decoder.source)))
             × LendsWhole R.refusals self.old.decoder.levels
             (R.source self.old.decoder.source) result
-            × OnOk result (Onward (R.source self.old.decoder.source) (R.source new.decoder.source)))) }
+            × OnOk result (Advances (R.source self.old.decoder.source)
+            (R.source new.decoder.source)))) }
     {
-        lent::read_text(&mut self.decoder)
+        borrowed::read_text(&mut self.decoder)
     }
 
     /// Lends the bytes of a byte string, or of a text. It refuses as
@@ -162,7 +167,8 @@ impl<'de, R: Read<'de>> Deserializer<R> {
         ensures* after_borrow { sem 𝓛 (Rests (typed_row R.row) self.entry (λ new.
             (new.decoder.levels ≡ self.old.decoder.levels)
             × (new.decoder.formats ≡ self.old.decoder.formats)
-            × LendsString R.refusals (context self.old.decoder.formats R.lends) self.old.decoder.levels
+            × LendsString R.refusals
+            (context self.old.decoder.formats R.lends) self.old.decoder.levels
             (R.source self.old.decoder.source) (R.source new.decoder.source) result
             × IfErr result IsNoKey
             × IfErr result (UnreadOnly (AsksToLend AsksForString (asks_for R.refusals R.lends)
@@ -170,9 +176,10 @@ impl<'de, R: Read<'de>> Deserializer<R> {
             (R.source self.old.decoder.source)))
             × LendsWhole R.refusals self.old.decoder.levels
             (R.source self.old.decoder.source) result
-            × OnOk result (Onward (R.source self.old.decoder.source) (R.source new.decoder.source)))) }
+            × OnOk result (Advances (R.source self.old.decoder.source)
+            (R.source new.decoder.source)))) }
     {
-        lent::read_bytes(&mut self.decoder)
+        borrowed::read_bytes(&mut self.decoder)
     }
 
     /// Lends the bytes of a byte string.
@@ -181,7 +188,8 @@ impl<'de, R: Read<'de>> Deserializer<R> {
         ensures* after_borrow { sem 𝓛 (Rests (typed_row R.row) self.entry (λ new.
             (new.decoder.levels ≡ self.old.decoder.levels)
             × (new.decoder.formats ≡ self.old.decoder.formats)
-            × LendsBytes R.refusals (context self.old.decoder.formats R.lends) self.old.decoder.levels
+            × LendsBytes R.refusals
+            (context self.old.decoder.formats R.lends) self.old.decoder.levels
             (R.source self.old.decoder.source) (R.source new.decoder.source) result
             × IfErr result IsNoKey
             × IfErr result (UnreadOnly (AsksToLend AsksForBytes (asks_for R.refusals R.lends)
@@ -189,8 +197,9 @@ impl<'de, R: Read<'de>> Deserializer<R> {
             (R.source self.old.decoder.source)))
             × LendsWhole R.refusals self.old.decoder.levels
             (R.source self.old.decoder.source) result
-            × OnOk result (Onward (R.source self.old.decoder.source) (R.source new.decoder.source)))) }
+            × OnOk result (Advances (R.source self.old.decoder.source)
+            (R.source new.decoder.source)))) }
     {
-        lent::read_byte_string(&mut self.decoder)
+        borrowed::read_byte_string(&mut self.decoder)
     }
 }

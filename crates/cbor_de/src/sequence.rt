@@ -5,11 +5,11 @@ ghost use Rattle.cbor_decode.specs.declared.cursor.Remaining.TheVariants.{Counte
 ghost use Rattle.std.specs.Borrow.{sem, RestsIfErr};
 ghost use Rattle.cbor_model.specs.Reader.{item_at};
 ghost use Rattle.cbor_io.specs.Error.{code_of, offset_of};
-ghost use Rattle.cbor_decode.specs.Gives.{Onward, Step, TellsNoForm};
+ghost use Rattle.cbor_decode.specs.Gives.{Advances, Step, TellsNoForm};
 ghost use Rattle.cbor_decode_as.specs.Begins.{Begins, RefusesBeginning};
 ghost use Rattle.cbor_decode.specs.declared.head.Head.TheVariants as kind;
 ghost use Rattle.cbor_decode_as.specs.Accesses.{IsArrayHead, RefusesArray, TakesNext};
-ghost use Rattle.cbor_decode_as.specs.Accesses.{TakesPart, TakesEnd, turns, size_of};
+ghost use Rattle.cbor_decode_as.specs.Accesses.{TakesPart, TakesEnd, most_left, size_of};
 ghost use Rattle.cbor_read.specs.Source.{TookSome};
 ghost use Rattle.cbor_decode_as.specs.Takes.{IsMessage, WhateverTaken, context, formats_of, raws};
 ghost use Rattle.cbor_de.specs.Forms.{MayTell};
@@ -17,7 +17,7 @@ ghost use Rattle.cbor_de.specs.contracts.de.Deserializer.{the_row};
 
 use crate::de::Deserializer;
 use crate::deserialize::Deserialize;
-use cbor_decode_as::array::{array_head, end_array, more_items};
+use cbor_decode_as::collection::{array_head, end_array, more_items};
 use cbor_decode::Remaining;
 use cbor_io::error::{Error, Result};
 use cbor_read::{Read, Source};
@@ -63,7 +63,7 @@ impl<R: Source> Deserializer<R> {
             (RefusesBeginning kind.Array R.refusals
             self.old.decoder.levels (R.source self.old.decoder.source))) }
         ensures no_form { IfErr result (λ e. TellsNoForm (code_of e)) }
-        ensures taken { IfOk result (λ s. Onward (R.source self.old.decoder.source)
+        ensures taken { IfOk result (λ s. Advances (R.source self.old.decoder.source)
             (R.source s.de.now.decoder.source)) }
         ensures outer { IfOk result (λ s. s.outer ≡ self.old.decoder.levels) }
         ensures inside { IfOk result (λ s. s.de.now.decoder.levels < s.outer) }
@@ -134,15 +134,16 @@ impl<'a, R: Source> SeqAccess<'a, R> {
         ensures read { TakesNext R.refusals (formats_of self.old.de.now.decoder.formats)
             (T.reads (context self.old.de.now.decoder.formats R.lends))
             self.old.de.now.decoder.levels self.old.remaining self.new.remaining
-            (R.source self.old.de.now.decoder.source) (R.source self.new.de.now.decoder.source) result }
+            (R.source self.old.de.now.decoder.source)
+            (R.source self.new.de.now.decoder.source) result }
         ensures form { IfErr result (MayTell T.wrong_forms
             (formats_of self.old.de.now.decoder.formats)
             (R.source self.old.de.now.decoder.source)) }
         // Nothing remains after the last item, and a loop over the items ends.
         ensures remains { IfOk result (λ next. MatchOption next
             (self.new.remaining ≡ Counted 0)
-            (λ x. turns self.new.remaining (R.source self.new.de.now.decoder.source)
-            < turns self.old.remaining (R.source self.old.de.now.decoder.source))) }
+            (λ x. most_left self.new.remaining (R.source self.new.de.now.decoder.source)
+            < most_left self.old.remaining (R.source self.old.de.now.decoder.source))) }
         ensures inside { IfOk result (λ x.
             self.new.de.now.decoder.levels ≡ self.old.de.now.decoder.levels) }
         ensures left { IfErr result (λ e. self.new.de.now.decoder.levels ≡ self.old.outer) }
@@ -190,7 +191,8 @@ impl<'a, R: Source> SeqAccess<'a, R> {
         ensures read { TakesPart R.refusals (formats_of self.old.de.now.decoder.formats)
             (T.reads (context self.old.de.now.decoder.formats R.lends))
             self.old.de.now.decoder.levels self.old.remaining self.new.remaining
-            (R.source self.old.de.now.decoder.source) (R.source self.new.de.now.decoder.source) result }
+            (R.source self.old.de.now.decoder.source)
+            (R.source self.new.de.now.decoder.source) result }
         ensures form { IfErr result (MayTell T.wrong_forms
             (formats_of self.old.de.now.decoder.formats)
             (R.source self.old.de.now.decoder.source)) }

@@ -8,12 +8,12 @@ ghost use Rattle.cbor_io.specs.Error.{code_of, offset_of, IsMessageOf};
 ghost use Rattle.cbor_io.specs.declared.error.Error.{Error};
 ghost use Rattle.cbor_model.specs.Reader.{item_at};
 ghost use Rattle.cbor_decode.specs.declared.cursor.Remaining.TheVariants.{Counted};
-ghost use Rattle.cbor_decode.specs.Gives.{Onward, Step, TellsNoForm};
+ghost use Rattle.cbor_decode.specs.Gives.{Advances, Step, TellsNoForm};
 ghost use Rattle.cbor_decode_as.specs.Begins.{Begins, RefusesBeginning};
 ghost use Rattle.cbor_decode.specs.declared.head.Head.TheVariants as kind;
-ghost use Rattle.cbor_decode_as.specs.Accesses.{turns, size_of};
+ghost use Rattle.cbor_decode_as.specs.Accesses.{most_left, size_of};
 ghost use Rattle.cbor_io.specs.declared.error.ErrorCode.TheVariants.{WrongStructFormat};
-ghost use Rattle.cbor_decode_as.specs.Cases.{FormAlone, Stands, TellsBadKey, key_cases};
+ghost use Rattle.cbor_decode_as.specs.Cases.{FormAlone, HasCase, TellsBadKey, key_cases};
 ghost use Rattle.cbor_decode_as.specs.Identifiers.{IsMadeBy, NamesNoKey, texts};
 ghost use Rattle.cbor_decode_as.specs.MapAccesses.{IsMapHead, RefusesMap, TakesKey, TakesMapEnd};
 ghost use Rattle.cbor_de.specs.Structs.{IsAny, IsField, place_in, missing_text, duplicate_text};
@@ -26,11 +26,11 @@ ghost use Rattle.cbor_de.specs.contracts.de.Deserializer.{the_row};
 use crate::de::Deserializer;
 use crate::deserialize::Deserialize;
 use crate::types::IgnoredAny;
-use cbor_decode_as::map::{end_map, map_head, more_pairs};
+use cbor_decode_as::collection::{end_map, map_head, more_pairs};
 use cbor_decode::Remaining;
 use cbor_io::error::{Error, Result};
 use cbor_read::{Read, Source};
-use cbor_decode_as::identifier::{Named, Why, identifier, unnamed};
+use cbor_decode_as::identifier::{Lookup, Why, identifier, unnamed};
 use std::alloc::Global;
 
 /// A field that a key names.
@@ -88,7 +88,7 @@ impl<R: Source> Deserializer<R> {
             (RefusesBeginning kind.Map R.refusals
             self.old.decoder.levels (R.source self.old.decoder.source))) }
         ensures no_form { IfErr result (λ e. TellsNoForm (code_of e)) }
-        ensures taken { IfOk result (λ m. Onward (R.source self.old.decoder.source)
+        ensures taken { IfOk result (λ m. Advances (R.source self.old.decoder.source)
             (R.source m.de.now.decoder.source)) }
         ensures outer { IfOk result (λ m. m.outer ≡ self.old.decoder.levels) }
         ensures inside { IfOk result (λ m. m.de.now.decoder.levels < m.outer) }
@@ -112,13 +112,13 @@ impl<R: Source> Deserializer<R> {
 impl<'de, R: Read<'de>> Deserializer<R> {
     // Reads the field that a key names.
     #[inline(always)]
-    fn field(&mut self, names: &[&str]) -> Named<Field>
+    fn field(&mut self, names: &[&str]) -> Lookup<Field>
         ensures read { OnceMade (IsMadeBy self.new.decoder.refusal)
             (TakesItem R.refusals (formats_of self.old.decoder.formats)
             (IsField (texts names.now)) self.old.decoder.levels
             (R.source self.old.decoder.source) (R.source self.new.decoder.source)) result }
         ensures taken { OnOk result
-            (Onward (R.source self.old.decoder.source) (R.source self.new.decoder.source)) }
+            (Advances (R.source self.old.decoder.source) (R.source self.new.decoder.source)) }
         ensures below { IfOk result (λ field. IfSome (place_in field) (λ i. i < length names.now)) }
         ensures no_key { IfErr result (NamesNoKey self.new.decoder.refusal) }
         ensures levels { self.new.decoder.levels ≡ self.old.decoder.levels }
@@ -133,7 +133,7 @@ impl<'de, R: Read<'de>> Deserializer<R> {
     // Reads the field that the next key names; None where no pair remains.
     #[inline(always)]
     #[tactic(auto, using(cbor_decode_as::proofs::facts::Places::unnamed_stands))]
-    fn next_field(&mut self, remaining: &mut Remaining, names: &[&str]) -> Named<Option<Field>>
+    fn next_field(&mut self, remaining: &mut Remaining, names: &[&str]) -> Lookup<Option<Field>>
         ensures read { OnceMade (IsMadeBy self.new.decoder.refusal)
             (TakesKey R.refusals (formats_of self.old.decoder.formats) (IsField (texts names.now))
             self.old.decoder.levels remaining.old remaining.new
@@ -142,10 +142,10 @@ impl<'de, R: Read<'de>> Deserializer<R> {
             IfSome (place_in field) (λ i. i < length names.now))) }
         // Nothing remains after the last pair, and a loop over the fields ends.
         ensures remains { IfOk result (λ next. MatchOption next (remaining.new ≡ Counted 0)
-            (λ k. turns remaining.new (R.source self.new.decoder.source)
-            < turns remaining.old (R.source self.old.decoder.source))) }
+            (λ k. most_left remaining.new (R.source self.new.decoder.source)
+            < most_left remaining.old (R.source self.old.decoder.source))) }
         ensures cases { IfErr result (λ w. (e : Error) → IsMadeBy self.new.decoder.refusal w e
-            → Stands (R.source self.old.decoder.source) e
+            → HasCase (R.source self.old.decoder.source) e
             (key_cases (formats_of self.old.decoder.formats) remaining.old)) }
         ensures bad_key { IfErr result (λ w. (e : Error) → IsMadeBy self.new.decoder.refusal w e
             → TellsBadKey R.refusals (formats_of self.old.decoder.formats) remaining.old
@@ -176,8 +176,8 @@ pub fn next_key<'de, R: Read<'de>>(
         IfSome (place_in field) (λ i. i < length names.now))) }
     // Nothing remains after the last pair, and a loop over the fields ends.
     ensures remains { IfOk result (λ next. MatchOption next (remaining.new ≡ Counted 0)
-        (λ k. turns remaining.new (R.source de.new.decoder.source)
-        < turns remaining.old (R.source de.old.decoder.source))) }
+        (λ k. most_left remaining.new (R.source de.new.decoder.source)
+        < most_left remaining.old (R.source de.old.decoder.source))) }
     ensures form { IfErr result (MayTell key_form (formats_of de.old.decoder.formats)
         (R.source de.old.decoder.source)) }
     ensures levels { de.new.decoder.levels ≡ de.old.decoder.levels }
@@ -245,9 +245,9 @@ impl<'a, R: Source> StructAccess<'a, R> {
         // Nothing remains after the last pair, and a loop over the fields ends.
         ensures remains { IfOk result (λ next. MatchOption next
             (self.new.remaining ≡ Counted 0)
-            (λ k. turns self.new.remaining (R.source self.new.de.now.decoder.source)
-            < turns self.old.remaining (R.source self.old.de.now.decoder.source))) }
-        ensures cases { IfErr result (λ e. Stands (R.source self.old.de.now.decoder.source) e
+            (λ k. most_left self.new.remaining (R.source self.new.de.now.decoder.source)
+            < most_left self.old.remaining (R.source self.old.de.now.decoder.source))) }
+        ensures cases { IfErr result (λ e. HasCase (R.source self.old.de.now.decoder.source) e
             (key_cases (formats_of self.old.de.now.decoder.formats) self.old.remaining)) }
         ensures code { IfErr result (λ e. FormAlone WrongStructFormat (code_of e)) }
         // The other way: that key is told.
@@ -305,8 +305,8 @@ impl<'a, R: Source> StructAccess<'a, R> {
         ensures remaining { self.new.remaining ≡ self.old.remaining }
         // A loop over the fields ends.
         ensures remains { IfOk result (λ v.
-            turns self.new.remaining (R.source self.new.de.now.decoder.source)
-            ≤ turns self.old.remaining (R.source self.old.de.now.decoder.source)) }
+            most_left self.new.remaining (R.source self.new.de.now.decoder.source)
+            ≤ most_left self.old.remaining (R.source self.old.de.now.decoder.source)) }
         ensures formats { self.new.de.now.decoder.formats
             ≡ self.old.de.now.decoder.formats }
         ensures names { self.new.names ≡ self.old.names }
@@ -366,8 +366,8 @@ impl<'a, R: Source> StructAccess<'a, R> {
         ensures outer { self.new.outer ≡ self.old.outer }
         ensures remaining { self.new.remaining ≡ self.old.remaining }
         ensures remains { IfOk result (λ u.
-            turns self.new.remaining (R.source self.new.de.now.decoder.source)
-            ≤ turns self.old.remaining (R.source self.old.de.now.decoder.source)) }
+            most_left self.new.remaining (R.source self.new.de.now.decoder.source)
+            ≤ most_left self.old.remaining (R.source self.old.de.now.decoder.source)) }
         ensures formats { self.new.de.now.decoder.formats
             ≡ self.old.de.now.decoder.formats }
         ensures names { self.new.names ≡ self.old.names }
@@ -445,8 +445,8 @@ impl<'a, R: Source> StructAccess<'a, R> {
         ensures outer { self.new.outer ≡ self.old.outer }
         ensures remaining { self.new.remaining ≡ self.old.remaining }
         ensures remains { IfOk result (λ u.
-            turns self.new.remaining (R.source self.new.de.now.decoder.source)
-            ≤ turns self.old.remaining (R.source self.old.de.now.decoder.source)) }
+            most_left self.new.remaining (R.source self.new.de.now.decoder.source)
+            ≤ most_left self.old.remaining (R.source self.old.de.now.decoder.source)) }
         ensures formats { self.new.de.now.decoder.formats
             ≡ self.old.de.now.decoder.formats }
         ensures names { self.new.names ≡ self.old.names }

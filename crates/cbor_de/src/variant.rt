@@ -5,9 +5,9 @@ ghost use Rattle.std.specs.Prelude.{IfOk, IfErr};
 ghost use Rattle.std.specs.Borrow.{sem, RestsIfErr};
 ghost use Rattle.cbor_model.specs.Reader.{item_at};
 ghost use Rattle.cbor_io.specs.Error.{code_of};
-ghost use Rattle.cbor_decode.specs.Gives.{Onward, Step, TellsNoForm};
+ghost use Rattle.cbor_decode.specs.Gives.{Advances, Step, TellsNoForm};
 ghost use Rattle.cbor_io.specs.declared.error.ErrorCode.TheVariants.{ArrayTooLong};
-ghost use Rattle.cbor_decode_as.specs.Cases.{FormAlone, IsEnumCode, Stands};
+ghost use Rattle.cbor_decode_as.specs.Cases.{FormAlone, IsEnumCode, HasCase};
 ghost use Rattle.cbor_decode_as.specs.Cases.{enum_cases, unit_cases, TellsTooShort};
 ghost use Rattle.cbor_decode_as.specs.BeginsEnum.{BeginsVariant, RefusesVariantHead};
 ghost use Rattle.cbor_decode_as.specs.BeginsEnum.{BeginsParts, RefusesPartsHead};
@@ -21,14 +21,15 @@ ghost use Rattle.cbor_decode_as.specs.Variants.{IsPartsHead, RefusesParts, Takes
 ghost use Rattle.cbor_decode_as.specs.Variants.{content_at};
 ghost use Rattle.cbor_decode_as.specs.Variants.{TellsAlone, alone_text};
 ghost use Rattle.cbor_decode_as.specs.declared.variant.Form.TheVariants.{Array};
-ghost use Rattle.cbor_de.specs.Forms.{MayTell, both, part_form};
+ghost use Rattle.cbor_de.specs.Forms.{MayTell, either, part_form};
 ghost use Rattle.cbor_de.specs.contracts.de.Deserializer.{the_row};
 
 use crate::de::Deserializer;
 use crate::deserialize::Deserialize;
 use crate::sequence::SeqAccess;
-use cbor_decode_as::array::end_array;
-use cbor_decode_as::variant::{Form, expect_item, no_part, parts, variant_head};
+use cbor_decode_as::collection::end_array;
+use cbor_decode_as::content::{expect_item, no_part, parts};
+use cbor_decode_as::variant::{Form, variant_head};
 use cbor_decode::Remaining;
 use cbor_io::error::{Error, ErrorCode, Result};
 use cbor_read::{Read, Source};
@@ -74,12 +75,12 @@ impl<'de, R: Read<'de>> Deserializer<R> {
             (RefusesVariantHead R.refusals
             (formats_of self.old.decoder.formats) (texts names.now) self.old.decoder.levels
             (R.source self.old.decoder.source))) }
-        ensures cases { IfErr result (λ e. Stands (R.source self.old.decoder.source) e
+        ensures cases { IfErr result (λ e. HasCase (R.source self.old.decoder.source) e
             (enum_cases (formats_of self.old.decoder.formats)
             self.old.decoder.levels)) }
         ensures code { IfErr result (λ e. IsEnumCode (code_of e)) }
         ensures below { IfOk result (λ v. v.index < length names.now) }
-        ensures taken { IfOk result (λ v. Onward (R.source self.old.decoder.source)
+        ensures taken { IfOk result (λ v. Advances (R.source self.old.decoder.source)
             (R.source v.de.now.decoder.source)) }
         ensures outer { IfOk result (λ v. v.outer ≡ self.old.decoder.levels) }
         ensures inside { IfOk result (λ v. IsInside v.form v.de.now.decoder.levels v.outer) }
@@ -102,7 +103,7 @@ impl<'de, R: Read<'de>> Deserializer<R> {
             (IsPart (T.reads (context self.old.decoder.formats R.lends)))
             self.old.decoder.levels (Array remaining)
             (R.source self.old.decoder.source) (R.source self.new.decoder.source) result }
-        ensures form { IfErr result (MayTell (both part_form T.wrong_forms)
+        ensures form { IfErr result (MayTell (either part_form T.wrong_forms)
             (formats_of self.old.decoder.formats) (R.source self.old.decoder.source)) }
         ensures too_short { IfErr result (TellsTooShort R.refusals (Array remaining)
             (R.source self.old.decoder.source)) }
@@ -128,7 +129,7 @@ pub fn one_part<'de, R: Read<'de>, T: Deserialize<'de, R>>(
         de.old.decoder.levels form
         (R.source de.old.decoder.source) (R.source de.new.decoder.source) result }
     ensures alone { IfErr result (TellsAlone alone.now form) }
-    ensures form { IfErr result (MayTell (both part_form T.wrong_forms)
+    ensures form { IfErr result (MayTell (either part_form T.wrong_forms)
         (formats_of de.old.decoder.formats) (R.source de.old.decoder.source)) }
     ensures too_short { IfErr result (TellsTooShort R.refusals form
         (R.source de.old.decoder.source)) }
@@ -187,7 +188,7 @@ impl<'a, R: Source> VariantAccess<'a, R> {
             self.entry.de.now.decoder.levels self.entry.form
             (R.source self.entry.de.now.decoder.source) (R.source self.exit.0.now.decoder.source)
             result }
-        ensures cases { IfErr result (λ e. Stands (R.source self.entry.de.now.decoder.source) e
+        ensures cases { IfErr result (λ e. HasCase (R.source self.entry.de.now.decoder.source) e
             (unit_cases self.entry.form)) }
         ensures code { IfErr result (λ e. FormAlone ArrayTooLong (code_of e)) }
         ensures levels { self.exit.0.now.decoder.levels ≡ self.entry.outer }
@@ -225,7 +226,7 @@ impl<'a, R: Source> VariantAccess<'a, R> {
             result }
         ensures alone { IfErr result
             (TellsAlone (alone_text (codes "newtype")) self.entry.form) }
-        ensures form { IfErr result (MayTell (both part_form T.wrong_forms)
+        ensures form { IfErr result (MayTell (either part_form T.wrong_forms)
             (formats_of self.entry.de.now.decoder.formats)
             (R.source self.entry.de.now.decoder.source)) }
         ensures too_short { IfErr result (TellsTooShort R.refusals self.entry.form
@@ -270,7 +271,7 @@ impl<'a, R: Source> VariantAccess<'a, R> {
             result }
         ensures alone { IfErr result
             (TellsAlone (alone_text (codes "struct")) self.entry.form) }
-        ensures form { IfErr result (MayTell (both part_form T.wrong_forms)
+        ensures form { IfErr result (MayTell (either part_form T.wrong_forms)
             (formats_of self.entry.de.now.decoder.formats)
             (R.source self.entry.de.now.decoder.source)) }
         ensures too_short { IfErr result (TellsTooShort R.refusals self.entry.form
@@ -308,7 +309,8 @@ impl<'a, R: Source> VariantAccess<'a, R> {
         ensures* rests { sem 𝓛 (RestsIfErr (the_row R.row) self.entry.de (λ s. s.de.ghost_name)
             result (λ last. (last.decoder.levels ≡ self.entry.outer)
             × (last.decoder.formats ≡ self.entry.de.now.decoder.formats)
-            × TookSome (R.source self.entry.de.now.decoder.source) (R.source last.decoder.source))) }
+            × TookSome (R.source self.entry.de.now.decoder.source)
+            (R.source last.decoder.source))) }
         ensures same_reference { IfOk result (λ s. s.de.ghost_name ≡ self.entry.de.ghost_name) }
         ensures head { IfOk result (λ s. Step (R.source self.entry.de.now.decoder.source)
             (R.source s.de.now.decoder.source)

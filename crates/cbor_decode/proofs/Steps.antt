@@ -15,7 +15,7 @@ use Rattle.cbor_decode.specs.declared.refusal.Refused.TheVariants as refused
 use Rattle.cbor_model.specs.Head.{HeadWidth}
 use Rattle.cbor_decode.specs.declared.head.Head.{Head}
 use Rattle.cbor_decode.specs.Heads.{HeadGives}
-use Rattle.cbor_decode.specs.Gives.{FailsBy, Tells, Limits, limits, Onward, Step, Reports, Stops, TellsWhy, Stopped, Gives}
+use Rattle.cbor_decode.specs.Gives.{FailsBy, Tells, Limits, limits, Advances, Step, Reports, Stops, TellsWhy, Stopped, Gives}
 
 -- an error of one reading is one of another with the same fault
 pub passed_on : {A B : Type 0} (D : Type 0) (k : ErrorCode) (end offset : ℕ) (part : Result A Fault) (all : Result B Fault) → ((f : Fault) → part ≡ Err f → all ≡ Err f) → FailsBy D k end offset part → FailsBy D k end offset all
@@ -56,8 +56,8 @@ pub took_same : {s t : Input} → t ≡ s → TookSome s t
 took_same {s = s} is = subst (TookSome s) (sym is) (took_none s)
 
 -- a byte at the least was taken, and then more
-pub onward_some : (s m t : Input) → Onward s m → TookSome m t → Onward s t
-onward_some s m t first more = record { further = omega (arith, first.further, more.count); counted = first.counted }
+pub advances_some : (s m t : Input) → Advances s m → TookSome m t → Advances s t
+advances_some s m t first more = record { further = omega (arith, first.further, more.count); counted = first.counted }
 
 -- where nothing was taken
 pub took_stays : (s t : Input) → Stays s t → TookSome s t

@@ -190,10 +190,10 @@ Ends refusals s (Ok u) = (bs : List ℕ) → Tells s bs → bs ≡ []
 Ends refusals s (Err e) = (bs : List ℕ) → Tells s bs → FailsBy (Reports refusals) (code_of e) (s.offset + length bs) (offset_of e) (end_at bs)
 
 -- a byte at the least was taken
-pub record Onward (s t : Input) : Type 0 where
+pub record Advances (s t : Input) : Type 0 where
   pub further : s.offset < t.offset
   pub counted : s.offset < 2 ^ 64
 
 -- the buffer stays
-abbrev pub Keeps : Input → Input → Type 0
-Keeps s t = t.buffer ≡ s.buffer
+abbrev pub KeepsBuffer : Input → Input → Type 0
+KeepsBuffer s t = t.buffer ≡ s.buffer

@@ -6,7 +6,7 @@ ghost use Rattle.std.specs.Int.{w8, w16, w32, w64};
 ghost use Rattle.cbor_model.specs.Reader.{number_at, number_behind};
 ghost use Rattle.cbor_model.specs.Major.{major_of};
 ghost use Rattle.cbor_io.specs.Head.{major_number};
-ghost use Rattle.cbor_decode.specs.Gives.{Gives, Keeps, Onward, TellsNoKey, TellsNoMemory};
+ghost use Rattle.cbor_decode.specs.Gives.{Gives, KeepsBuffer, Advances, TellsNoKey, TellsNoMemory};
 ghost use Rattle.cbor_decode.specs.Heads.{HeadGives, NumberGives, opening_at, head_at, head_of};
 ghost use Rattle.cbor_decode.specs.Heads.{simple_head};
 ghost use Rattle.cbor_decode.specs.declared.head.Head.TheVariants.{Float as FloatHead, Text};
@@ -59,7 +59,7 @@ impl<R: Source> Decoder<R> {
         ensures read { MatchOption result (R.source self.new.source ≡ R.source self.old.source)
             (λ n. HeadGives R.refusals opening_at (R.source self.old.source)
             (R.source self.new.source) self.new.refusal (Ok (Text (Some n)))) }
-        ensures taken { OnSome result (Onward (R.source self.old.source)
+        ensures taken { OnSome result (Advances (R.source self.old.source)
             (R.source self.new.source)) }
         ensures levels { self.new.levels ≡ self.old.levels }
         ensures formats { self.new.formats ≡ self.old.formats }
@@ -80,7 +80,7 @@ impl<R: Source> Decoder<R> {
         ensures read { NumberGives (λ bits. FloatHead (Single bits)) R.refusals
             (R.source self.old.source) (R.source self.new.source) self.new.refusal result }
         ensures taken { IfOk result (λ bits. OnSome bits
-            (Onward (R.source self.old.source) (R.source self.new.source))) }
+            (Advances (R.source self.old.source) (R.source self.new.source))) }
         ensures no_key { IfErr result (TellsNoKey self.new.refusal) }
         ensures memory { IfErr result (TellsNoMemory self.new.refusal) }
         ensures levels { self.new.levels ≡ self.old.levels }
@@ -105,7 +105,7 @@ impl<R: Source> Decoder<R> {
         ensures read { NumberGives (λ bits. FloatHead (Double bits)) R.refusals
             (R.source self.old.source) (R.source self.new.source) self.new.refusal result }
         ensures taken { IfOk result (λ bits. OnSome bits
-            (Onward (R.source self.old.source) (R.source self.new.source))) }
+            (Advances (R.source self.old.source) (R.source self.new.source))) }
         ensures no_key { IfErr result (TellsNoKey self.new.refusal) }
         ensures memory { IfErr result (TellsNoMemory self.new.refusal) }
         ensures levels { self.new.levels ≡ self.old.levels }
@@ -205,7 +205,8 @@ impl<R: Source> Decoder<R> {
     pub fn argument(&mut self, low: u8) -> Done<u64>
         ensures read { Gives R.refusals (λ n. n) (λ l. number_behind low)
             (R.source self.old.source) (R.source self.new.source) self.new.refusal result }
-        ensures buffer { OnOk result (Keeps (R.source self.old.source) (R.source self.new.source)) }
+        ensures buffer { OnOk result
+            (KeepsBuffer (R.source self.old.source) (R.source self.new.source)) }
         ensures no_key { IfErr result (TellsNoKey self.new.refusal) }
         ensures memory { IfErr result (TellsNoMemory self.new.refusal) }
         ensures levels { self.new.levels ≡ self.old.levels }
@@ -226,7 +227,8 @@ impl<R: Source> Decoder<R> {
     pub fn number_of_1(&mut self) -> Done<u8>
         ensures read { Gives R.refusals (λ n. n) (λ l. number_at w8)
             (R.source self.old.source) (R.source self.new.source) self.new.refusal result }
-        ensures buffer { OnOk result (Keeps (R.source self.old.source) (R.source self.new.source)) }
+        ensures buffer { OnOk result
+            (KeepsBuffer (R.source self.old.source) (R.source self.new.source)) }
         ensures no_key { IfErr result (TellsNoKey self.new.refusal) }
         ensures memory { IfErr result (TellsNoMemory self.new.refusal) }
         ensures levels { self.new.levels ≡ self.old.levels }
@@ -242,7 +244,8 @@ impl<R: Source> Decoder<R> {
     pub fn number_of_2(&mut self) -> Done<u16>
         ensures read { Gives R.refusals (λ n. n) (λ l. number_at w16)
             (R.source self.old.source) (R.source self.new.source) self.new.refusal result }
-        ensures buffer { OnOk result (Keeps (R.source self.old.source) (R.source self.new.source)) }
+        ensures buffer { OnOk result
+            (KeepsBuffer (R.source self.old.source) (R.source self.new.source)) }
         ensures no_key { IfErr result (TellsNoKey self.new.refusal) }
         ensures memory { IfErr result (TellsNoMemory self.new.refusal) }
         ensures levels { self.new.levels ≡ self.old.levels }
@@ -258,7 +261,8 @@ impl<R: Source> Decoder<R> {
     pub fn number_of_4(&mut self) -> Done<u32>
         ensures read { Gives R.refusals (λ n. n) (λ l. number_at w32)
             (R.source self.old.source) (R.source self.new.source) self.new.refusal result }
-        ensures buffer { OnOk result (Keeps (R.source self.old.source) (R.source self.new.source)) }
+        ensures buffer { OnOk result
+            (KeepsBuffer (R.source self.old.source) (R.source self.new.source)) }
         ensures no_key { IfErr result (TellsNoKey self.new.refusal) }
         ensures memory { IfErr result (TellsNoMemory self.new.refusal) }
         ensures levels { self.new.levels ≡ self.old.levels }
@@ -274,7 +278,8 @@ impl<R: Source> Decoder<R> {
     pub fn number_of_8(&mut self) -> Done<u64>
         ensures read { Gives R.refusals (λ n. n) (λ l. number_at w64)
             (R.source self.old.source) (R.source self.new.source) self.new.refusal result }
-        ensures buffer { OnOk result (Keeps (R.source self.old.source) (R.source self.new.source)) }
+        ensures buffer { OnOk result
+            (KeepsBuffer (R.source self.old.source) (R.source self.new.source)) }
         ensures no_key { IfErr result (TellsNoKey self.new.refusal) }
         ensures memory { IfErr result (TellsNoMemory self.new.refusal) }
         ensures levels { self.new.levels ≡ self.old.levels }
@@ -306,12 +311,12 @@ impl<R: Source> Decoder<R> {
             self.source.advance(n);
             return Ok(());
         }
-        self.fill_asked_for(bytes)
+        self.fill_slow(bytes)
     }
 
     // Fills it where too few bytes are buffered: the source is asked for them.
     #[inline(never)]
-    fn fill_asked_for(&mut self, bytes: &mut [u8]) -> Done<()>
+    fn fill_slow(&mut self, bytes: &mut [u8]) -> Done<()>
         ensures ok { OnOk result
             (TookKept (R.source self.old.source) (R.source self.new.source) bytes.new) }
         ensures refused { IfErr result (λ r. r ≡ Kept) }

@@ -10,20 +10,19 @@
 //! reads from.
 #![tactic(auto)]
 
+pub mod capacity;
 mod cursor;
 mod formats;
 mod head;
-mod more;
 mod number;
 mod refusal;
-pub mod room;
 mod skip;
 mod skip_strings;
 mod step;
 mod strings;
 mod value;
 
-pub use cursor::{Collection, Remaining};
+pub use cursor::{BREAK, Collection, Remaining};
 pub use formats::Formats;
 pub use head::Head;
 pub use refusal::{Done, Refused};

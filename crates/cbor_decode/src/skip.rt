@@ -7,7 +7,7 @@ ghost use Rattle.cbor_model.specs.Raw.{Length, indefinite};
 ghost use Rattle.cbor_model.specs.Reader.{inside, parts_at, items_of, pairs_of, array_at, map_at};
 ghost use Rattle.cbor_model.specs.Reader.{tag_at, after_first, item_at};
 ghost use Rattle.cbor_decode.specs.Decoder.{formats_of, values_by};
-ghost use Rattle.cbor_decode.specs.Gives.{Gives, Onward, TellsNoKey};
+ghost use Rattle.cbor_decode.specs.Gives.{Gives, Advances, TellsNoKey};
 ghost use Rattle.cbor_read.specs.Source.{asks_for};
 ghost use Rattle.cbor_decode.specs.HasChunks.{AllRead, AsksToSkip, AsksWhere, raws_by};
 ghost use Rattle.cbor_decode.specs.HasChunks.{HasChunks, SomeHasChunks, SomePairHasChunks};
@@ -38,7 +38,8 @@ impl<R: Source> Decoder<R> {
             → IfErr result (TellsNoKey self.new.refusal) }
         ensures levels { self.new.levels ≡ self.old.levels }
         ensures formats { self.new.formats ≡ self.old.formats }
-        ensures taken { OnOk result (Onward (R.source self.old.source) (R.source self.new.source)) }
+        ensures taken { OnOk result
+            (Advances (R.source self.old.source) (R.source self.new.source)) }
     {
         let first = self.byte()?;
         self.skip_from(first)

@@ -8,7 +8,7 @@ ghost use Rattle.cbor_model.specs.Formats.{all_formats};
 ghost use Rattle.cbor_model.specs.Reader.{byte_at};
 ghost use Rattle.cbor_decode.specs.AtEnd.{EndStops};
 ghost use Rattle.cbor_decode.specs.Decoder.{source_of, levels_of, formats_of};
-ghost use Rattle.cbor_decode.specs.Gives.{Gives, Onward, Keeps, IsAt, TellsNoKey, end_at};
+ghost use Rattle.cbor_decode.specs.Gives.{Gives, Advances, KeepsBuffer, IsAt, TellsNoKey, end_at};
 ghost use Rattle.cbor_decode.specs.Gives.{TellsNoMemory};
 ghost use Rattle.cbor_decode.specs.declared.refusal.Refused.TheVariants.{Kept};
 
@@ -49,8 +49,10 @@ impl<R: Source> Decoder<R> {
     pub fn byte(&mut self) -> Done<u8>
         ensures read { Gives R.refusals (λ b. b) (λ l. byte_at)
             (R.source self.old.source) (R.source self.new.source) self.new.refusal result }
-        ensures taken { OnOk result (Onward (R.source self.old.source) (R.source self.new.source)) }
-        ensures buffer { OnOk result (Keeps (R.source self.old.source) (R.source self.new.source)) }
+        ensures taken { OnOk result
+            (Advances (R.source self.old.source) (R.source self.new.source)) }
+        ensures buffer { OnOk result
+            (KeepsBuffer (R.source self.old.source) (R.source self.new.source)) }
         ensures no_key { IfErr result (TellsNoKey self.new.refusal) }
         ensures memory { IfErr result (TellsNoMemory self.new.refusal) }
         ensures levels { self.new.levels ≡ self.old.levels }
@@ -61,17 +63,19 @@ impl<R: Source> Decoder<R> {
                 self.source.advance(1);
                 Ok(first)
             }
-            None => self.byte_asked_for(),
+            None => self.byte_slow(),
         }
     }
 
     // Takes one byte, of which none is buffered: the source is asked for it.
     #[inline(never)]
-    fn byte_asked_for(&mut self) -> Done<u8>
+    fn byte_slow(&mut self) -> Done<u8>
         ensures read { Gives R.refusals (λ b. b) (λ l. byte_at)
             (R.source self.old.source) (R.source self.new.source) self.new.refusal result }
-        ensures taken { OnOk result (Onward (R.source self.old.source) (R.source self.new.source)) }
-        ensures buffer { OnOk result (Keeps (R.source self.old.source) (R.source self.new.source)) }
+        ensures taken { OnOk result
+            (Advances (R.source self.old.source) (R.source self.new.source)) }
+        ensures buffer { OnOk result
+            (KeepsBuffer (R.source self.old.source) (R.source self.new.source)) }
         ensures no_key { IfErr result (TellsNoKey self.new.refusal) }
         ensures memory { IfErr result (TellsNoMemory self.new.refusal) }
         ensures levels { self.new.levels ≡ self.old.levels }

@@ -37,12 +37,12 @@ impl<R: Source> Decoder<R> {
             self.source.advance(n as usize);
             return Ok(bytes);
         }
-        self.bytes_asked_for(n)
+        self.bytes_slow(n)
     }
 
     // Takes n bytes of which too few are buffered: the source is asked for them.
     #[inline(never)]
-    fn bytes_asked_for(&mut self, n: u64) -> Done<Vec<u8>>
+    fn bytes_slow(&mut self, n: u64) -> Done<Vec<u8>>
         ensures read { Gives R.refusals (λ v. v.items) (λ l. bytes_at n)
             (R.source self.old.source) (R.source self.new.source) self.new.refusal result }
         ensures counted { IfOk result

@@ -7,7 +7,7 @@ ghost use Rattle.cbor_model.specs.Raw.{indefinite};
 ghost use Rattle.cbor_model.specs.Reader.{inside, parts_at, items_of, pairs_of, array_at, map_at};
 ghost use Rattle.cbor_model.specs.Reader.{tag_at, after_first, item_at, counted};
 ghost use Rattle.cbor_value.specs.View.{view, views, map_view};
-ghost use Rattle.cbor_decode.specs.Gives.{Gives, Onward};
+ghost use Rattle.cbor_decode.specs.Gives.{Gives, Advances};
 ghost use Rattle.cbor_decode.specs.Decoder.{formats_of, values_by};
 ghost use Rattle.cbor_decode.specs.Heads.{after_head, remaining_of, made_of};
 ghost use Rattle.cbor_decode.specs.Memory.{IsStoredHead, MemoryOnly, ReadsStored};
@@ -16,7 +16,7 @@ use crate::cursor::{Collection, Remaining};
 use crate::Decoder;
 use crate::head::Head;
 use crate::refusal::{Done, Refused};
-use crate::room::push;
+use crate::capacity::push;
 use cbor_read::{ReadErrorCode, Source};
 use cbor_value::{Map, Value};
 
@@ -29,7 +29,8 @@ impl<R: Source> Decoder<R> {
         ensures read { Gives R.refusals view
             (λ l. item_at (values_by self.old.formats l) self.old.levels)
             (R.source self.old.source) (R.source self.new.source) self.new.refusal result }
-        ensures taken { OnOk result (Onward (R.source self.old.source) (R.source self.new.source)) }
+        ensures taken { OnOk result
+            (Advances (R.source self.old.source) (R.source self.new.source)) }
         ensures memory { IfErr result (MemoryOnly (ReadsStored
             (λ l. item_at (values_by self.old.formats l) self.old.levels)
             (R.source self.old.source)) self.new.refusal) }

@@ -1,8 +1,8 @@
 -- What the crates above may cite of this crate's proofs, and nothing else.
-pub mod Heads
+pub mod TaggedHeads
 pub mod Items
 pub mod Refusals
-pub mod Options
+pub mod Nulls
 pub mod Strings
 pub mod Arrays
 pub mod Tuples

@@ -18,7 +18,7 @@ use Rattle.cbor_decode.specs.Heads.{remaining_of}
 use Rattle.cbor_decode.specs.declared.cursor.Remaining.{Remaining}
 use Rattle.cbor_decode.specs.declared.cursor.Remaining.TheVariants.{Counted, ToBreak}
 use Rattle.cbor_decode_as.specs.Arrays.{AsArray}
-use Rattle.cbor_decode_as.specs.Opens.{in_tags}
+use Rattle.cbor_decode_as.specs.TaggedHeads.{in_tags}
 use Rattle.cbor_decode_as.specs.Takes.{raws, IsRead, IsNotRead, Refuses, TellsFault}
 
 -- the items of an array that remain, where so many levels are left for each
@@ -92,9 +92,9 @@ TakesPart {A} refusals f reads levels remaining behind s t (Err e) =
     (λ l bs. (x : A) (after : reader.Remaining) (rest : List ℕ) → IsNextItem reads f levels (remaining_of remaining) after x l bs rest → ⊥)
 
 -- how many more items can follow: a loop over them ends
-abbrev pub turns : Remaining → Input → ℕ
-turns (Counted n) s = n
-turns ToBreak s = 2 ^ 64 - s.offset
+abbrev pub most_left : Remaining → Input → ℕ
+most_left (Counted n) s = n
+most_left ToBreak s = 2 ^ 64 - s.offset
 
 -- The array's end was taken; or the error tells why not, and some bytes were taken.
 abbrev pub TakesEnd : (ReadErrorCode → Bool) → Remaining → Input → Input → Result (Unit {0}) Error

@@ -11,7 +11,7 @@ use Rattle.cbor_decode.specs.declared.cursor.Remaining.{Remaining}
 use Rattle.cbor_decode.specs.declared.cursor.Remaining.TheVariants.{Counted, ToBreak}
 use Rattle.cbor_decode.specs.declared.head.Head.{Head}
 use Rattle.cbor_decode.specs.declared.head.Head.TheVariants.{Array, Map}
-use Rattle.cbor_decode_as.specs.Opens.{opened_at}
+use Rattle.cbor_decode_as.specs.TaggedHeads.{opened_at}
 use Rattle.cbor_decode_as.specs.Takes.{Refuses}
 
 -- The heads of some tags, each a level further in, and then a head of this kind stand before the

@@ -16,7 +16,7 @@ use Rattle.cbor_decode.specs.Heads.{remaining_of, head_at, head_of}
 use Rattle.cbor_decode.specs.declared.cursor.Remaining.{Remaining}
 use Rattle.cbor_decode.specs.declared.cursor.Remaining.TheVariants.{Counted}
 use Rattle.cbor_decode.specs.declared.head.Head.TheVariants.{Array}
-use Rattle.cbor_decode_as.specs.Opens.{opened_at}
+use Rattle.cbor_decode_as.specs.TaggedHeads.{opened_at}
 use Rattle.cbor_decode_as.specs.Tags.{passed_at}
 use Rattle.cbor_decode_as.specs.Takes.{raws, IsRead, Refuses}
 use Rattle.cbor_decode_as.specs.Begins.{Begins}

@@ -33,17 +33,17 @@ pub record Cases : Type 1 where
 
 -- The case of this code stands at the offset; other codes have none. Strict reading alone tells that a
 -- spelling isn't canonical.
-abbrev pub StandsBy : Cases → ErrorCode → ℕ → Type 0
-StandsBy cases ArrayTooShort at = cases.too_short at
-StandsBy cases ArrayTooLong at = cases.too_long at
-StandsBy cases WrongEnumFormat at = cases.wrong_enum at
-StandsBy cases WrongStructFormat at = cases.wrong_struct at
-StandsBy cases NotCanonical at = ⊥
-StandsBy cases code at = ⊤
+abbrev pub CaseHolds : Cases → ErrorCode → ℕ → Type 0
+CaseHolds cases ArrayTooShort at = cases.too_short at
+CaseHolds cases ArrayTooLong at = cases.too_long at
+CaseHolds cases WrongEnumFormat at = cases.wrong_enum at
+CaseHolds cases WrongStructFormat at = cases.wrong_struct at
+CaseHolds cases NotCanonical at = ⊥
+CaseHolds cases code at = ⊤
 
 -- Where an error has one of these codes, its case stands.
-pub record Stands (s : Input) (e : Error) (cases : Limits → List ℕ → Cases) : Type 0 where
-  pub told : (bs : List ℕ) → Tells s bs → StandsBy (cases (limits s bs) bs) (code_of e) (offset_of e)
+pub record HasCase (s : Input) (e : Error) (cases : Limits → List ℕ → Cases) : Type 0 where
+  pub told : (bs : List ℕ) → Tells s bs → CaseHolds (cases (limits s bs) bs) (code_of e) (offset_of e)
 
 -- Of the codes that tell a wrong form, this alone.
 abbrev pub FormAlone : ErrorCode → ErrorCode → Type 0

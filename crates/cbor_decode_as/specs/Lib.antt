@@ -1,8 +1,8 @@
 pub mod Kinds
 pub mod Takes
-pub mod Opens
+pub mod TaggedHeads
 pub mod Scalars
-pub mod Options
+pub mod Nulls
 pub mod Tags
 pub mod Strings
 pub mod Identifiers

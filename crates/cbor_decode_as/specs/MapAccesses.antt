@@ -17,7 +17,7 @@ use Rattle.cbor_decode.specs.Gives.{Limits, Step}
 use Rattle.cbor_decode.specs.Heads.{remaining_of}
 use Rattle.cbor_decode.specs.declared.cursor.Remaining.{Remaining}
 use Rattle.cbor_decode_as.specs.Maps.{AsMap}
-use Rattle.cbor_decode_as.specs.Opens.{in_tags}
+use Rattle.cbor_decode_as.specs.TaggedHeads.{in_tags}
 use Rattle.cbor_decode_as.specs.Takes.{raws, IsRead, IsNotRead, Refuses, TellsFault}
 
 -- the pairs of a map that remain, where so many levels are left for each key and each value

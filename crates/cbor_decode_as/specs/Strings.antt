@@ -29,14 +29,14 @@ use Rattle.cbor_decode.specs.declared.refusal.Refused.{Refused}
 use Rattle.cbor_decode.specs.declared.refusal.Refused.TheVariants as refused
 use Rattle.cbor_decode.specs.declared.head.Head.{Head}
 use Rattle.cbor_decode.specs.declared.head.Head.TheVariants.{Bytes, Text}
-use Rattle.cbor_decode_as.specs.Opens.{StandsBehind, behind_any}
+use Rattle.cbor_decode_as.specs.TaggedHeads.{StandsBehind, behind_any}
 use Rattle.cbor_decode_as.specs.Takes.{raws, IsRead, IsNotRead, Refuses, RefusesWhole}
-use Rattle.cbor_decode_as.specs.Takes.{IsMessage, OfItem, Stands, TellsFault, any_item}
-use Rattle.cbor_decode_as.specs.declared.opening.Found.{Found}
-use Rattle.cbor_decode_as.specs.declared.lent.EitherStr.{EitherStr}
-use Rattle.cbor_decode_as.specs.declared.lent.EitherStr.TheVariants.{Short, Long}
-use Rattle.cbor_decode_as.specs.declared.lent.Unread.{Unread}
-use Rattle.cbor_decode_as.specs.declared.lent.Unread.TheVariants.{Stopped, Other}
+use Rattle.cbor_decode_as.specs.Takes.{IsMessage, OfItem, HasItem, TellsFault, any_item}
+use Rattle.cbor_decode_as.specs.declared.head.HeadAt.{HeadAt}
+use Rattle.cbor_decode_as.specs.declared.borrowed.EitherStr.{EitherStr}
+use Rattle.cbor_decode_as.specs.declared.borrowed.EitherStr.TheVariants.{Short, Long}
+use Rattle.cbor_decode_as.specs.declared.borrowed.Unread.{Unread}
+use Rattle.cbor_decode_as.specs.declared.borrowed.Unread.TheVariants.{Stopped, Other}
 
 -- the bytes of a string after its head, whatever they are
 abbrev pub content_at : Limits → Head → List ℕ → Reads (List ℕ)
@@ -93,7 +93,7 @@ SeeksItem refusals f reads levels s t kept (Err r) = (e : Error) → IsErrorOf k
 abbrev pub SeeksWhole : {A : Type 0} → (ReadErrorCode → Bool) → ℕ → Input → ReadError
     → Result (Option A) Refused → Type 0
 SeeksWhole refusals levels s kept (Ok (Some x)) = Unit {0}
-SeeksWhole refusals levels s kept (Ok None) = Stands levels s
+SeeksWhole refusals levels s kept (Ok None) = HasItem levels s
 SeeksWhole refusals levels s kept (Err r) = (e : Error) → IsErrorOf kept r e → RefusesWhole refusals levels s e
 
 -- ---- the fault of a string
@@ -184,18 +184,18 @@ UnreadBy refusals read s (Stopped q) = Stops refusals read s q
 UnreadBy refusals read s Other = ⊥
 
 -- A refusal after a head tells the fault of what follows it; or an item of another kind is whole.
-abbrev pub UnreadBehind : (ReadErrorCode → Bool) → Found → Input → Unread → Type 0
+abbrev pub UnreadBehind : (ReadErrorCode → Bool) → HeadAt → Input → Unread → Type 0
 UnreadBehind refusals found s (Stopped q) = Stops refusals (behind_any found.levels found.head) s q
 UnreadBehind refusals found s Other = StandsBehind found s
 
 -- A refusal tells the fault of the item at the front; or an item of another kind stands there.
 abbrev pub UnreadWhole : (ReadErrorCode → Bool) → ℕ → Input → Unread → Type 0
 UnreadWhole refusals levels s (Stopped q) = Stops refusals (any_item levels) s q
-UnreadWhole refusals levels s Other = Stands levels s
+UnreadWhole refusals levels s Other = HasItem levels s
 
 -- an item stands at the front, or nothing was lent of what stands there
 abbrev pub LendsWhole : {A : Type 0} → (ReadErrorCode → Bool) → ℕ → Input → Result A Unread → Type 0
-LendsWhole refusals levels s (Ok p) = Stands levels s
+LendsWhole refusals levels s (Ok p) = HasItem levels s
 LendsWhole refusals levels s (Err u) = UnreadWhole refusals levels s u
 
 -- Where memory ran out, P holds.

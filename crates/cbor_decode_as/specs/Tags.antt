@@ -13,7 +13,7 @@ use Rattle.cbor_decode.specs.Gives.{Limits, Step, Stopped}
 use Rattle.cbor_decode.specs.declared.refusal.Refused.{Refused}
 use Rattle.cbor_model.specs.Raw.{Raw}
 use Rattle.cbor_io.specs.declared.read_error.ReadError.{ReadError}
-use Rattle.cbor_decode_as.specs.Opens.{in_tags}
+use Rattle.cbor_decode_as.specs.TaggedHeads.{in_tags}
 use Rattle.cbor_decode_as.specs.Takes.{raws, TellsFault}
 
 -- whether a tag's head begins with this byte

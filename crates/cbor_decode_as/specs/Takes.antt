@@ -129,12 +129,12 @@ abbrev pub RefusesWhole : (ReadErrorCode → Bool) → ℕ → Input → Error �
 RefusesWhole refusals levels s e = (bs : List ℕ) → Tells s bs → FaultOrMessage (Reports refusals) (code_of e) (s.offset + length bs) (offset_of e) (any_item levels (limits s bs) bs)
 
 -- an item stands at the front, where so many levels are left
-abbrev pub Stands : ℕ → Input → Type 0
-Stands levels s = (bs : List ℕ) → Tells s bs → (v : Val) × (rest : List ℕ) × (any_item levels (limits s bs) bs ≡ Ok (v, rest))
+abbrev pub HasItem : ℕ → Input → Type 0
+HasItem levels s = (bs : List ℕ) → Tells s bs → (v : Val) × (rest : List ℕ) × (any_item levels (limits s bs) bs ≡ Ok (v, rest))
 
 -- an item stands at the front, or the refusal is one of what stands there
 abbrev pub ReadsWhole : {A : Type 0} → (ReadErrorCode → Bool) → ℕ → Input → Result A Error → Type 0
-ReadsWhole refusals levels s (Ok x) = Stands levels s
+ReadsWhole refusals levels s (Ok x) = HasItem levels s
 ReadsWhole refusals levels s (Err e) = RefusesWhole refusals levels s e
 
 -- a message, or memory ran out for it

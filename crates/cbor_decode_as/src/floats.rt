@@ -3,7 +3,7 @@
 ghost use Rattle.std.specs.Prelude.{◌≡◌, IfErr, OnOk};
 ghost use Rattle.cbor_model.specs.Readable.{PassesTags};
 ghost use Rattle.cbor_io.specs.Error.{code_of};
-ghost use Rattle.cbor_decode.specs.Gives.{Onward, TellsNoForm};
+ghost use Rattle.cbor_decode.specs.Gives.{Advances, TellsNoForm};
 ghost use Rattle.cbor_decode_as.specs.Scalars.{IsFloatOf, IsSingleOf};
 ghost use Rattle.cbor_decode_as.specs.Takes.{RefusesWhole, TakesItem, TakesNoMemory, formats_of};
 
@@ -21,7 +21,8 @@ pub fn read_f64<R: Source>(decoder: &mut Decoder<R>) -> Result<f64>
     ensures read { TakesItem R.refusals (formats_of decoder.old.formats)
         (PassesTags IsFloatOf) decoder.old.levels
         (R.source decoder.old.source) (R.source decoder.new.source) result }
-    ensures taken { OnOk result (Onward (R.source decoder.old.source) (R.source decoder.new.source)) }
+    ensures taken { OnOk result
+        (Advances (R.source decoder.old.source) (R.source decoder.new.source)) }
     ensures fault { IfErr result (RefusesWhole R.refusals decoder.old.levels
         (R.source decoder.old.source)) }
     ensures no_form { IfErr result (λ e. TellsNoForm (code_of e)) }
@@ -43,7 +44,8 @@ fn other_f64<R: Source>(decoder: &mut Decoder<R>) -> Result<f64>
     ensures read { TakesItem R.refusals (formats_of decoder.old.formats)
         (PassesTags IsFloatOf) decoder.old.levels
         (R.source decoder.old.source) (R.source decoder.new.source) result }
-    ensures taken { OnOk result (Onward (R.source decoder.old.source) (R.source decoder.new.source)) }
+    ensures taken { OnOk result
+        (Advances (R.source decoder.old.source) (R.source decoder.new.source)) }
     ensures fault { IfErr result (RefusesWhole R.refusals decoder.old.levels
         (R.source decoder.old.source)) }
     ensures no_form { IfErr result (λ e. TellsNoForm (code_of e)) }
@@ -54,18 +56,19 @@ fn other_f64<R: Source>(decoder: &mut Decoder<R>) -> Result<f64>
 {
     match decoder.single() {
         Ok(Some(bits)) => Ok(Float::Single(bits).to_f64()),
-        Ok(None) => any_f64(decoder),
+        Ok(None) => f64_slow(decoder),
         Err(refused) => Err(decoder.error(refused)),
     }
 }
 
 // Reads a float of any width, within its tags, as an `f64`.
 #[inline(always)]
-fn any_f64<R: Source>(decoder: &mut Decoder<R>) -> Result<f64>
+fn f64_slow<R: Source>(decoder: &mut Decoder<R>) -> Result<f64>
     ensures read { TakesItem R.refusals (formats_of decoder.old.formats)
         (PassesTags IsFloatOf) decoder.old.levels
         (R.source decoder.old.source) (R.source decoder.new.source) result }
-    ensures taken { OnOk result (Onward (R.source decoder.old.source) (R.source decoder.new.source)) }
+    ensures taken { OnOk result
+        (Advances (R.source decoder.old.source) (R.source decoder.new.source)) }
     ensures fault { IfErr result (RefusesWhole R.refusals decoder.old.levels
         (R.source decoder.old.source)) }
     ensures no_form { IfErr result (λ e. TellsNoForm (code_of e)) }
@@ -87,7 +90,8 @@ pub fn read_f32<R: Source>(decoder: &mut Decoder<R>) -> Result<f32>
     ensures read { TakesItem R.refusals (formats_of decoder.old.formats)
         (PassesTags IsSingleOf) decoder.old.levels
         (R.source decoder.old.source) (R.source decoder.new.source) result }
-    ensures taken { OnOk result (Onward (R.source decoder.old.source) (R.source decoder.new.source)) }
+    ensures taken { OnOk result
+        (Advances (R.source decoder.old.source) (R.source decoder.new.source)) }
     ensures fault { IfErr result (RefusesWhole R.refusals decoder.old.levels
         (R.source decoder.old.source)) }
     ensures no_form { IfErr result (λ e. TellsNoForm (code_of e)) }
@@ -98,18 +102,19 @@ pub fn read_f32<R: Source>(decoder: &mut Decoder<R>) -> Result<f32>
 {
     match decoder.single() {
         Ok(Some(bits)) => Ok(f32_from_bits_with_nan(bits)),
-        Ok(None) => any_f32(decoder),
+        Ok(None) => f32_slow(decoder),
         Err(refused) => Err(decoder.error(refused)),
     }
 }
 
 // Reads a float of any width, within its tags, as an `f32`.
 #[inline(always)]
-fn any_f32<R: Source>(decoder: &mut Decoder<R>) -> Result<f32>
+fn f32_slow<R: Source>(decoder: &mut Decoder<R>) -> Result<f32>
     ensures read { TakesItem R.refusals (formats_of decoder.old.formats)
         (PassesTags IsSingleOf) decoder.old.levels
         (R.source decoder.old.source) (R.source decoder.new.source) result }
-    ensures taken { OnOk result (Onward (R.source decoder.old.source) (R.source decoder.new.source)) }
+    ensures taken { OnOk result
+        (Advances (R.source decoder.old.source) (R.source decoder.new.source)) }
     ensures fault { IfErr result (RefusesWhole R.refusals decoder.old.levels
         (R.source decoder.old.source)) }
     ensures no_form { IfErr result (λ e. TellsNoForm (code_of e)) }

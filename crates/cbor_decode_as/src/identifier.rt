@@ -5,7 +5,7 @@ ghost use Rattle.std.specs.Str.{IsUtf8};
 ghost use Rattle.cbor_io.specs.declared.error.Error.{Error};
 ghost use Rattle.cbor_read.specs.Source.{part_bytes};
 ghost use Rattle.cbor_model.specs.Readable.{PassesTags};
-ghost use Rattle.cbor_decode.specs.Gives.{Onward, TellsNoForm, TellsNoKey};
+ghost use Rattle.cbor_decode.specs.Gives.{Advances, TellsNoForm, TellsNoKey};
 ghost use Rattle.cbor_decode.specs.declared.head.Head.TheVariants.{Bytes, Text};
 ghost use Rattle.cbor_io.specs.Error.{code_of};
 ghost use Rattle.cbor_decode_as.specs.Identifiers.{IsIdentifier, IsPlace, place_of, texts};
@@ -14,8 +14,8 @@ ghost use Rattle.cbor_decode_as.specs.Identifiers.{TakesBytesName, TakesName};
 ghost use Rattle.cbor_decode_as.specs.Strings.{IsMadeOf, IsNoKey};
 ghost use Rattle.cbor_decode_as.specs.Takes.{OnceMade, TakesItem, formats_of};
 
-use crate::lent::{Unread, bytes_part};
-use crate::scalar::scalar;
+use crate::borrowed::{Unread, bytes_part};
+use crate::scalar::scalar_head;
 use cbor_decode::{Decoder, Done, Head, Refused};
 use cbor_io::error::Error;
 use cbor_io::head::Major;
@@ -23,7 +23,7 @@ use cbor_io::utf8::from_utf8;
 use cbor_read::{EitherLifetime, Read, ReadErrorCode, Source};
 
 /// The result of reading a field's or a variant's name.
-pub type Named<T> = std::result::Result<T, Why>;
+pub type Lookup<T> = std::result::Result<T, Why>;
 
 /// Why nothing was named. It is small: the decoder keeps the refusal, and the call that the
 /// step belongs to makes the error ([`unnamed`]).
@@ -193,12 +193,12 @@ fn definite_name<'de, R: Read<'de>>(
             Err(back) => Err(decoder.refuse_text(back)),
         };
     }
-    name_asked_for(decoder, names, n)
+    name_slow(decoder, names, n)
 }
 
 // Reads it as a name where too few bytes are buffered: the source is asked for them.
 #[inline(never)]
-fn name_asked_for<'de, R: Read<'de>>(
+fn name_slow<'de, R: Read<'de>>(
     decoder: &mut Decoder<R>,
     names: &[&str],
     n: u64,
@@ -271,7 +271,7 @@ fn bytes_name<'de, R: Read<'de>>(
     decoder: &mut Decoder<R>,
     names: &[&str],
     n: Option<u64>,
-) -> Named<Option<usize>>
+) -> Lookup<Option<usize>>
     ensures read { TakesBytesName R.refusals (texts names.now) (Bytes n)
         (R.source decoder.old.source) (R.source decoder.new.source)
         decoder.new.refusal result }
@@ -295,12 +295,13 @@ fn bytes_name<'de, R: Read<'de>>(
 pub fn identifier<'de, R: Read<'de>>(
     decoder: &mut Decoder<R>,
     names: &[&str],
-) -> Named<Option<usize>>
+) -> Lookup<Option<usize>>
     ensures read { OnceMade (IsMadeBy decoder.new.refusal)
         (TakesItem R.refusals (formats_of decoder.old.formats)
         (PassesTags (IsIdentifier (texts names.now))) decoder.old.levels
         (R.source decoder.old.source) (R.source decoder.new.source)) result }
-    ensures taken { OnOk result (Onward (R.source decoder.old.source) (R.source decoder.new.source)) }
+    ensures taken { OnOk result
+        (Advances (R.source decoder.old.source) (R.source decoder.new.source)) }
     ensures below { IfOk result (λ place. IfSome place (λ i. i < length names.now)) }
     ensures no_key { IfErr result (NamesNoKey decoder.new.refusal) }
     ensures levels { decoder.new.levels ≡ decoder.old.levels }
@@ -308,27 +309,28 @@ pub fn identifier<'de, R: Read<'de>>(
 {
     match decoder.short_text() {
         Some(n) => Ok(definite_name(decoder, names, n)?),
-        None => any_identifier(decoder, names),
+        None => identifier_slow(decoder, names),
     }
 }
 
 // Reads an identifier by its head, within its tags.
 #[inline(never)]
-fn any_identifier<'de, R: Read<'de>>(
+fn identifier_slow<'de, R: Read<'de>>(
     decoder: &mut Decoder<R>,
     names: &[&str],
-) -> Named<Option<usize>>
+) -> Lookup<Option<usize>>
     ensures read { OnceMade (IsMadeBy decoder.new.refusal)
         (TakesItem R.refusals (formats_of decoder.old.formats)
         (PassesTags (IsIdentifier (texts names.now))) decoder.old.levels
         (R.source decoder.old.source) (R.source decoder.new.source)) result }
-    ensures taken { OnOk result (Onward (R.source decoder.old.source) (R.source decoder.new.source)) }
+    ensures taken { OnOk result
+        (Advances (R.source decoder.old.source) (R.source decoder.new.source)) }
     ensures below { IfOk result (λ place. IfSome place (λ i. i < length names.now)) }
     ensures no_key { IfErr result (NamesNoKey decoder.new.refusal) }
     ensures levels { decoder.new.levels ≡ decoder.old.levels }
     ensures formats { decoder.new.formats ≡ decoder.old.formats }
 {
-    let found = scalar(decoder)?;
+    let found = scalar_head(decoder)?;
     match found.head {
         Head::Unsigned(n) => Ok(place_of_number(names, n)),
         Head::Text(n) => Ok(text_name(decoder, names, n)?),

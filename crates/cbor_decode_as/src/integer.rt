@@ -4,14 +4,14 @@ ghost use Rattle.std.specs.Prelude.{◌≡◌, ◌≤◌, ◌<◌, ◌-◌, ◌^
 ghost use Rattle.std.specs.Prelude.{MatchOption, OnOk};
 ghost use Rattle.cbor_model.specs.Readable.{PassesTags, IsInteger, IsFromZero, IsSigned, IsWithin};
 ghost use Rattle.cbor_io.specs.Error.{code_of};
-ghost use Rattle.cbor_decode.specs.Gives.{Onward, TellsNoForm};
+ghost use Rattle.cbor_decode.specs.Gives.{Advances, TellsNoForm};
 ghost use Rattle.cbor_read.specs.Source.{TookSome};
-ghost use Rattle.cbor_decode_as.specs.Opens.{RefusesBehind};
+ghost use Rattle.cbor_decode_as.specs.TaggedHeads.{RefusesBehind};
 ghost use Rattle.cbor_decode_as.specs.Scalars.{IsNumber};
 ghost use Rattle.cbor_decode_as.specs.Takes.{RefusesWhole, TakesItem, TakesNoMemory, formats_of};
 
-use crate::opening::{Found, unread};
-use crate::scalar::scalar;
+use crate::head::{HeadAt, skip_mismatch};
+use crate::scalar::scalar_head;
 use cbor_decode::{Decoder, Head};
 use cbor_io::error::{Error, Result};
 use cbor_read::Source;
@@ -72,7 +72,8 @@ pub fn read_integer<R: Source>(decoder: &mut Decoder<R>) -> Result<i128>
     ensures read { TakesItem R.refusals (formats_of decoder.old.formats)
         (PassesTags IsInteger) decoder.old.levels
         (R.source decoder.old.source) (R.source decoder.new.source) result }
-    ensures taken { OnOk result (Onward (R.source decoder.old.source) (R.source decoder.new.source)) }
+    ensures taken { OnOk result
+        (Advances (R.source decoder.old.source) (R.source decoder.new.source)) }
     ensures fault { IfErr result (RefusesWhole R.refusals decoder.old.levels
         (R.source decoder.old.source)) }
     ensures no_form { IfErr result (λ e. TellsNoForm (code_of e)) }
@@ -81,15 +82,15 @@ pub fn read_integer<R: Source>(decoder: &mut Decoder<R>) -> Result<i128>
     ensures levels { decoder.new.levels ≡ decoder.old.levels }
     ensures formats { decoder.new.formats ≡ decoder.old.formats }
 {
-    let found = match scalar(decoder) {
+    let found = match scalar_head(decoder) {
         Ok(found) => found,
         Err(refused) => return Err(decoder.error(refused)),
     };
     match integer(found.head) {
         Some(number) => Ok(number),
-        None => Err(unread(
+        None => Err(skip_mismatch(
             decoder,
-            Found {
+            HeadAt {
                 head: found.head,
                 levels: found.levels,
             },
@@ -109,7 +110,8 @@ pub fn read_from_zero<R: Source>(
     ensures read { TakesItem R.refusals (formats_of decoder.old.formats)
         (PassesTags (IsFromZero most)) decoder.old.levels
         (R.source decoder.old.source) (R.source decoder.new.source) result }
-    ensures taken { OnOk result (Onward (R.source decoder.old.source) (R.source decoder.new.source)) }
+    ensures taken { OnOk result
+        (Advances (R.source decoder.old.source) (R.source decoder.new.source)) }
     ensures bound { IfOk result (λ n. n ≤ most) }
     ensures fault { IfErr result (RefusesWhole R.refusals decoder.old.levels
         (R.source decoder.old.source)) }
@@ -119,7 +121,7 @@ pub fn read_from_zero<R: Source>(
     ensures levels { decoder.new.levels ≡ decoder.old.levels }
     ensures formats { decoder.new.formats ≡ decoder.old.formats }
 {
-    let found = match scalar(decoder) {
+    let found = match scalar_head(decoder) {
         Ok(found) => found,
         Err(refused) => return Err(decoder.error(refused)),
     };
@@ -127,7 +129,7 @@ pub fn read_from_zero<R: Source>(
         Some(number) => Ok(number),
         None => Err(no_number(
             decoder,
-            Found {
+            HeadAt {
                 head: found.head,
                 levels: found.levels,
             },
@@ -142,7 +144,8 @@ pub fn read_u128<R: Source>(decoder: &mut Decoder<R>) -> Result<u128>
     ensures read { TakesItem R.refusals (formats_of decoder.old.formats)
         (PassesTags (IsFromZero (2 ^ 128 - 1))) decoder.old.levels
         (R.source decoder.old.source) (R.source decoder.new.source) result }
-    ensures taken { OnOk result (Onward (R.source decoder.old.source) (R.source decoder.new.source)) }
+    ensures taken { OnOk result
+        (Advances (R.source decoder.old.source) (R.source decoder.new.source)) }
     ensures fault { IfErr result (RefusesWhole R.refusals decoder.old.levels
         (R.source decoder.old.source)) }
     ensures no_form { IfErr result (λ e. TellsNoForm (code_of e)) }
@@ -151,7 +154,7 @@ pub fn read_u128<R: Source>(decoder: &mut Decoder<R>) -> Result<u128>
     ensures levels { decoder.new.levels ≡ decoder.old.levels }
     ensures formats { decoder.new.formats ≡ decoder.old.formats }
 {
-    let found = match scalar(decoder) {
+    let found = match scalar_head(decoder) {
         Ok(found) => found,
         Err(refused) => return Err(decoder.error(refused)),
     };
@@ -159,7 +162,7 @@ pub fn read_u128<R: Source>(decoder: &mut Decoder<R>) -> Result<u128>
         Some(number) => Ok(number),
         None => Err(no_number(
             decoder,
-            Found {
+            HeadAt {
                 head: found.head,
                 levels: found.levels,
             },
@@ -180,7 +183,8 @@ pub fn read_signed<R: Source>(
     ensures read { TakesItem R.refusals (formats_of decoder.old.formats)
         (PassesTags (IsSigned most)) decoder.old.levels
         (R.source decoder.old.source) (R.source decoder.new.source) result }
-    ensures taken { OnOk result (Onward (R.source decoder.old.source) (R.source decoder.new.source)) }
+    ensures taken { OnOk result
+        (Advances (R.source decoder.old.source) (R.source decoder.new.source)) }
     ensures bounds { IfOk result (IsWithin most) }
     ensures fault { IfErr result (RefusesWhole R.refusals decoder.old.levels
         (R.source decoder.old.source)) }
@@ -190,7 +194,7 @@ pub fn read_signed<R: Source>(
     ensures levels { decoder.new.levels ≡ decoder.old.levels }
     ensures formats { decoder.new.formats ≡ decoder.old.formats }
 {
-    let found = match scalar(decoder) {
+    let found = match scalar_head(decoder) {
         Ok(found) => found,
         Err(refused) => return Err(decoder.error(refused)),
     };
@@ -198,7 +202,7 @@ pub fn read_signed<R: Source>(
         Some(number) => Ok(number),
         None => Err(no_number(
             decoder,
-            Found {
+            HeadAt {
                 head: found.head,
                 levels: found.levels,
             },
@@ -210,7 +214,7 @@ pub fn read_signed<R: Source>(
 // The error of an item that isn't a number in the range.
 #[cold]
 #[inline(never)]
-fn no_number<R: Source>(decoder: &mut Decoder<R>, found: Found, message: &'static str) -> Error
+fn no_number<R: Source>(decoder: &mut Decoder<R>, found: HeadAt, message: &'static str) -> Error
     ensures fault { RefusesBehind R.refusals found (R.source decoder.old.source) result }
     ensures no_form { TellsNoForm (code_of result) }
     ensures took { TookSome (R.source decoder.old.source) (R.source decoder.new.source) }
@@ -219,9 +223,9 @@ fn no_number<R: Source>(decoder: &mut Decoder<R>, found: Found, message: &'stati
 {
     match found.head {
         Head::Unsigned(_) | Head::Negative(_) => Error::message(decoder.alloc, message),
-        _ => unread(
+        _ => skip_mismatch(
             decoder,
-            Found {
+            HeadAt {
                 head: found.head,
                 levels: found.levels,
             },

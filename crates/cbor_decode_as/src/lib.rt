@@ -9,16 +9,16 @@
 //! facts. Others rely on the contracts, on the words that they use, and on the published facts.
 #![tactic(auto)]
 
-pub mod array;
-pub mod byte_strings;
+pub mod byte_string;
+pub mod collection;
+pub mod content;
 pub mod floats;
 pub mod identifier;
 pub mod integer;
-pub mod lent;
-pub mod map;
-pub mod opening;
-pub mod optional;
+pub mod borrowed;
+pub mod head;
+pub mod null;
 pub mod scalar;
-pub mod strings;
+pub mod string;
 pub mod tags;
 pub mod variant;

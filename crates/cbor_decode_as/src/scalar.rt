@@ -3,14 +3,14 @@
 ghost use Rattle.std.specs.Prelude.{◌≡◌, IfErr, OnOk};
 ghost use Rattle.cbor_model.specs.Readable.{PassesTags, IsBool, IsUnit};
 ghost use Rattle.cbor_io.specs.Error.{code_of};
-ghost use Rattle.cbor_decode.specs.Gives.{Gives, Onward, TellsNoForm, TellsNoKey, TellsNoMemory};
-ghost use Rattle.cbor_decode_as.specs.Opens.{OpensInside, OpensItem, found_head};
-ghost use Rattle.cbor_decode_as.specs.Opens.{opened_at, opened_inside};
+ghost use Rattle.cbor_decode.specs.Gives.{Gives, Advances, TellsNoForm, TellsNoKey, TellsNoMemory};
+ghost use Rattle.cbor_decode_as.specs.TaggedHeads.{OpensInside, OpensItem, found_head};
+ghost use Rattle.cbor_decode_as.specs.TaggedHeads.{opened_at, opened_inside};
 ghost use Rattle.cbor_decode_as.specs.Scalars.{IsFloatItem};
 ghost use Rattle.cbor_decode_as.specs.Takes.{TakesItem, TakesNoMemory, formats_of};
 ghost use Rattle.cbor_decode_as.specs.Takes.{ReadsWhole, RefusesWhole};
 
-use crate::opening::{Found, open_inside, take_head, unread};
+use crate::head::{HeadAt, tagged_head_inside, take_head, skip_mismatch};
 use cbor_decode::{Decoder, Done, Head};
 use cbor_io::error::Result;
 use cbor_read::Source;
@@ -19,7 +19,7 @@ use cbor_value::Float;
 // Takes the tags of an item and the head after them, and restores the nesting level; what was found
 // says how many levels are left for what follows.
 #[inline(always)]
-pub(crate) fn scalar<R: Source>(decoder: &mut Decoder<R>) -> Done<Found>
+pub(crate) fn scalar_head<R: Source>(decoder: &mut Decoder<R>) -> Done<HeadAt>
     ensures read { OpensItem R.refusals (formats_of decoder.old.formats)
         decoder.old.levels
         (R.source decoder.old.source) (R.source decoder.new.source)
@@ -28,7 +28,8 @@ pub(crate) fn scalar<R: Source>(decoder: &mut Decoder<R>) -> Done<Found>
         (λ l. opened_at decoder.old.levels)
         (R.source decoder.old.source) (R.source decoder.new.source)
         decoder.new.refusal result }
-    ensures taken { OnOk result (Onward (R.source decoder.old.source) (R.source decoder.new.source)) }
+    ensures taken { OnOk result
+        (Advances (R.source decoder.old.source) (R.source decoder.new.source)) }
     ensures no_key { IfErr result (TellsNoKey decoder.new.refusal) }
     ensures memory { IfErr result (TellsNoMemory decoder.new.refusal) }
     ensures levels { decoder.new.levels ≡ decoder.old.levels }
@@ -36,9 +37,9 @@ pub(crate) fn scalar<R: Source>(decoder: &mut Decoder<R>) -> Done<Found>
 {
     let head = take_head(decoder)?;
     if let Head::Tag(_) = head {
-        return scalar_inside(decoder);
+        return scalar_head_inside(decoder);
     }
-    Ok(Found {
+    Ok(HeadAt {
         head,
         levels: decoder.levels,
     })
@@ -46,7 +47,7 @@ pub(crate) fn scalar<R: Source>(decoder: &mut Decoder<R>) -> Done<Found>
 
 // Takes further tags and the head, one level further in, and restores the level.
 #[inline(always)]
-fn scalar_inside<R: Source>(decoder: &mut Decoder<R>) -> Done<Found>
+fn scalar_head_inside<R: Source>(decoder: &mut Decoder<R>) -> Done<HeadAt>
     ensures read { OpensInside R.refusals (formats_of decoder.old.formats)
         decoder.old.levels
         (R.source decoder.old.source) (R.source decoder.new.source)
@@ -55,18 +56,19 @@ fn scalar_inside<R: Source>(decoder: &mut Decoder<R>) -> Done<Found>
         (λ l. opened_inside decoder.old.levels)
         (R.source decoder.old.source) (R.source decoder.new.source)
         decoder.new.refusal result }
-    ensures taken { OnOk result (Onward (R.source decoder.old.source) (R.source decoder.new.source)) }
+    ensures taken { OnOk result
+        (Advances (R.source decoder.old.source) (R.source decoder.new.source)) }
     ensures no_key { IfErr result (TellsNoKey decoder.new.refusal) }
     ensures memory { IfErr result (TellsNoMemory decoder.new.refusal) }
     ensures levels { decoder.new.levels ≡ decoder.old.levels }
     ensures formats { decoder.new.formats ≡ decoder.old.formats }
 {
     let levels = decoder.levels;
-    let head = open_inside(decoder);
+    let head = tagged_head_inside(decoder);
     let left = decoder.levels;
     decoder.levels = levels;
     match head {
-        Ok(head) => Ok(Found { head, levels: left }),
+        Ok(head) => Ok(HeadAt { head, levels: left }),
         Err(refused) => Err(refused),
     }
 }
@@ -80,7 +82,8 @@ pub fn read_bool<R: Source>(decoder: &mut Decoder<R>) -> Result<bool>
         decoder.old.levels
         (R.source decoder.old.source) (R.source decoder.new.source)
         result }
-    ensures taken { OnOk result (Onward (R.source decoder.old.source) (R.source decoder.new.source)) }
+    ensures taken { OnOk result
+        (Advances (R.source decoder.old.source) (R.source decoder.new.source)) }
     ensures fault { IfErr result (RefusesWhole R.refusals decoder.old.levels
         (R.source decoder.old.source)) }
     ensures no_form { IfErr result (λ e. TellsNoForm (code_of e)) }
@@ -89,15 +92,15 @@ pub fn read_bool<R: Source>(decoder: &mut Decoder<R>) -> Result<bool>
     ensures levels { decoder.new.levels ≡ decoder.old.levels }
     ensures formats { decoder.new.formats ≡ decoder.old.formats }
 {
-    let found = match scalar(decoder) {
+    let found = match scalar_head(decoder) {
         Ok(found) => found,
         Err(refused) => return Err(decoder.error(refused)),
     };
     match found.head {
         Head::Bool(b) => Ok(b),
-        _ => Err(unread(
+        _ => Err(skip_mismatch(
             decoder,
-            Found {
+            HeadAt {
                 head: found.head,
                 levels: found.levels,
             },
@@ -115,7 +118,8 @@ pub fn read_float<R: Source>(decoder: &mut Decoder<R>) -> Result<Float>
         (PassesTags IsFloatItem) decoder.old.levels
         (R.source decoder.old.source) (R.source decoder.new.source)
         result }
-    ensures taken { OnOk result (Onward (R.source decoder.old.source) (R.source decoder.new.source)) }
+    ensures taken { OnOk result
+        (Advances (R.source decoder.old.source) (R.source decoder.new.source)) }
     ensures fault { ReadsWhole R.refusals decoder.old.levels (R.source decoder.old.source) result }
     ensures no_form { IfErr result (λ e. TellsNoForm (code_of e)) }
     ensures memory { IfErr result (TakesNoMemory (formats_of decoder.old.formats)
@@ -123,15 +127,15 @@ pub fn read_float<R: Source>(decoder: &mut Decoder<R>) -> Result<Float>
     ensures levels { decoder.new.levels ≡ decoder.old.levels }
     ensures formats { decoder.new.formats ≡ decoder.old.formats }
 {
-    let found = match scalar(decoder) {
+    let found = match scalar_head(decoder) {
         Ok(found) => found,
         Err(refused) => return Err(decoder.error(refused)),
     };
     match found.head {
         Head::Float(float) => Ok(float),
-        _ => Err(unread(
+        _ => Err(skip_mismatch(
             decoder,
-            Found {
+            HeadAt {
                 head: found.head,
                 levels: found.levels,
             },
@@ -149,7 +153,8 @@ pub fn read_unit<R: Source>(decoder: &mut Decoder<R>) -> Result<()>
         decoder.old.levels
         (R.source decoder.old.source) (R.source decoder.new.source)
         result }
-    ensures taken { OnOk result (Onward (R.source decoder.old.source) (R.source decoder.new.source)) }
+    ensures taken { OnOk result
+        (Advances (R.source decoder.old.source) (R.source decoder.new.source)) }
     ensures fault { IfErr result (RefusesWhole R.refusals decoder.old.levels
         (R.source decoder.old.source)) }
     ensures no_form { IfErr result (λ e. TellsNoForm (code_of e)) }
@@ -158,15 +163,15 @@ pub fn read_unit<R: Source>(decoder: &mut Decoder<R>) -> Result<()>
     ensures levels { decoder.new.levels ≡ decoder.old.levels }
     ensures formats { decoder.new.formats ≡ decoder.old.formats }
 {
-    let found = match scalar(decoder) {
+    let found = match scalar_head(decoder) {
         Ok(found) => found,
         Err(refused) => return Err(decoder.error(refused)),
     };
     match found.head {
         Head::Null | Head::Undefined => Ok(()),
-        _ => Err(unread(
+        _ => Err(skip_mismatch(
             decoder,
-            Found {
+            HeadAt {
                 head: found.head,
                 levels: found.levels,
             },

@@ -1,7 +1,7 @@
 //! Structs and enums that are read by a description of their parts.
 
 ghost use Rattle.std.specs.Prelude.{◌≡◌, IfErr, OnOk, length};
-ghost use Rattle.cbor_decode.specs.Gives.{Onward};
+ghost use Rattle.cbor_decode.specs.Gives.{Advances};
 ghost use Rattle.cbor_decode_as.specs.Identifiers.{texts};
 ghost use Rattle.cbor_decode_as.specs.Takes.{TakesItem, context, formats_of};
 ghost use Rattle.cbor_de.specs.Forms.{MayTell};
@@ -34,7 +34,7 @@ pub trait ReadParts<'de, R: Read<'de>>: ReadableParts {
             (Self.reads (texts names.now) (context de.old.decoder.formats R.lends))
             de.old.decoder.levels (R.source de.old.decoder.source)
             (R.source de.new.decoder.source) result }
-        ensures taken { OnOk result (Onward (R.source de.old.decoder.source)
+        ensures taken { OnOk result (Advances (R.source de.old.decoder.source)
             (R.source de.new.decoder.source)) }
         ensures form { IfErr result (MayTell Self.wrong_forms
             (formats_of de.old.decoder.formats) (R.source de.old.decoder.source)) }
@@ -95,7 +95,7 @@ pub trait FromParts: Schema {
             (Self.parts x))
             de.old.decoder.levels (R.source de.old.decoder.source)
             (R.source de.new.decoder.source) result }
-        ensures taken { OnOk result (Onward (R.source de.old.decoder.source)
+        ensures taken { OnOk result (Advances (R.source de.old.decoder.source)
             (R.source de.new.decoder.source)) }
         ensures form { IfErr result (MayTell Self.Parts.wrong_forms
             (formats_of de.old.decoder.formats) (R.source de.old.decoder.source)) }

@@ -1,13 +1,13 @@
 //! Lists of variants, of which enums are read.
 
 ghost use Rattle.std.specs.Prelude.{◌≡◌, IfErr, OnOk};
-ghost use Rattle.cbor_decode.specs.Gives.{Onward};
+ghost use Rattle.cbor_decode.specs.Gives.{Advances};
 ghost use Rattle.cbor_decode_as.specs.Enums.{IsEnum};
 ghost use Rattle.cbor_decode_as.specs.Identifiers.{texts};
 ghost use Rattle.cbor_decode_as.specs.Takes.{TakesItem, context, formats_of};
 ghost use Rattle.cbor_decode_as.specs.Variants.{TakesContent};
 ghost use Rattle.cbor_model.specs.Readable.{PassesTags};
-ghost use Rattle.cbor_de.specs.Forms.{MayTell, both, enum_form};
+ghost use Rattle.cbor_de.specs.Forms.{MayTell, either, enum_form};
 
 use crate::parts::{ReadParts, ReadableParts};
 use cbor_io::error::{Error, Result};
@@ -61,11 +61,11 @@ impl<'de, R: Read<'de>> ReadVariant<'de, R> for () {
 
 impl<T: Readable> Variant for Newtype<T> {
     ghost use Rattle.cbor_decode_as.specs.Enums.{IsPart};
-    ghost use Rattle.cbor_de.specs.Forms.{both, part_form};
+    ghost use Rattle.cbor_de.specs.Forms.{either, part_form};
 
     ghost means = { λ c content y. IsPart (T.reads c) content y.0 };
 
-    ghost wrong_forms = { both part_form T.wrong_forms };
+    ghost wrong_forms = { either part_form T.wrong_forms };
 }
 
 impl<'de, R: Read<'de>, T: Deserialize<'de, R>> ReadVariant<'de, R> for Newtype<T> {
@@ -102,9 +102,9 @@ impl<'de, R: Read<'de>, F: ReadTuple<'de, R>> ReadVariant<'de, R> for Tuple<F> {
 
 // The named fields of a variant, as a type that is read.
 #[derive(Drop)]
-struct Named<N: FieldNames>(N::Parts);
+struct NamedParts<N: FieldNames>(N::Parts);
 
-impl<N: FieldNames> Readable for Named<N>
+impl<N: FieldNames> Readable for NamedParts<N>
 where
     N::Parts: ReadableParts,
 {
@@ -113,13 +113,13 @@ where
     ghost wrong_forms = { N.Parts.wrong_forms };
 }
 
-impl<'de, R: Read<'de>, N: FieldNames> Deserialize<'de, R> for Named<N>
+impl<'de, R: Read<'de>, N: FieldNames> Deserialize<'de, R> for NamedParts<N>
 where
     N::Parts: ReadParts<'de, R>,
 {
-    fn deserialize(de: &mut Deserializer<R>) -> Result<Named<N>> {
+    fn deserialize(de: &mut Deserializer<R>) -> Result<NamedParts<N>> {
         match <N::Parts as ReadParts<'de, R>>::read_parts(de, N::names()) {
-            Ok(fields) => Ok(Named(fields)),
+            Ok(fields) => Ok(NamedParts(fields)),
             Err(e) => Err(e),
         }
     }
@@ -130,11 +130,11 @@ where
     N::Parts: ReadableParts,
 {
     ghost use Rattle.cbor_decode_as.specs.Enums.{IsPart};
-    ghost use Rattle.cbor_de.specs.Forms.{both, part_form};
+    ghost use Rattle.cbor_de.specs.Forms.{either, part_form};
 
     ghost means = { λ c content y. IsPart (N.Parts.reads N.names c) content y.0 };
 
-    ghost wrong_forms = { both part_form N.Parts.wrong_forms };
+    ghost wrong_forms = { either part_form N.Parts.wrong_forms };
 }
 
 impl<'de, R: Read<'de>, N: FieldNames> ReadVariant<'de, R> for Struct<N>
@@ -142,7 +142,7 @@ where
     N::Parts: ReadParts<'de, R>,
 {
     fn read_content(de: &mut Deserializer<R>, form: Form) -> Result<Struct<N>> {
-        match one_part::<R, Named<N>>(
+        match one_part::<R, NamedParts<N>>(
             de,
             form,
             "invalid type: unit variant, expected struct variant",
@@ -208,12 +208,12 @@ impl<'de, R: Read<'de>> ReadVariants<'de, R> for Never {
 }
 
 impl<V: Variant, Vs: VariantList> VariantList for OneOf<V, Vs> {
-    ghost use Rattle.cbor_de.specs.Forms.{both};
+    ghost use Rattle.cbor_de.specs.Forms.{either};
     ghost use Rattle.cbor_described.specs.OneOfs.{either};
 
     ghost means = { λ c. either (V.means c) (Vs.means c) };
 
-    ghost wrong_forms = { both V.wrong_forms Vs.wrong_forms };
+    ghost wrong_forms = { either V.wrong_forms Vs.wrong_forms };
 }
 
 impl<'de, R: Read<'de>, V: ReadVariant<'de, R>, Vs: ReadVariants<'de, R>> ReadVariants<'de, R>
@@ -242,9 +242,9 @@ pub(crate) fn read_variants<'de, R: Read<'de>, E: ReadVariants<'de, R>>(
         (E.means (context de.old.decoder.formats R.lends))))
         de.old.decoder.levels (R.source de.old.decoder.source)
         (R.source de.new.decoder.source) result }
-    ensures taken { OnOk result (Onward (R.source de.old.decoder.source)
+    ensures taken { OnOk result (Advances (R.source de.old.decoder.source)
         (R.source de.new.decoder.source)) }
-    ensures form { IfErr result (MayTell (both enum_form E.wrong_forms)
+    ensures form { IfErr result (MayTell (either enum_form E.wrong_forms)
         (formats_of de.old.decoder.formats) (R.source de.old.decoder.source)) }
     ensures levels { de.new.decoder.levels ≡ de.old.decoder.levels }
     ensures formats { de.new.decoder.formats ≡ de.old.decoder.formats }
@@ -265,9 +265,9 @@ fn variants_within<'de, R: Read<'de>, E: ReadVariants<'de, R>>(
         (E.means (context de.old.decoder.formats R.lends))))
         de.old.decoder.levels (R.source de.old.decoder.source)
         (R.source de.new.decoder.source) result }
-    ensures taken { OnOk result (Onward (R.source de.old.decoder.source)
+    ensures taken { OnOk result (Advances (R.source de.old.decoder.source)
         (R.source de.new.decoder.source)) }
-    ensures form { IfErr result (MayTell (both enum_form E.wrong_forms)
+    ensures form { IfErr result (MayTell (either enum_form E.wrong_forms)
         (formats_of de.old.decoder.formats) (R.source de.old.decoder.source)) }
     ensures formats { de.new.decoder.formats ≡ de.old.decoder.formats }
 {

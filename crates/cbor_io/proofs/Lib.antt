@@ -1,5 +1,5 @@
 pub mod CompareWords
-pub mod Fronts
+pub mod WrittenFronts
 pub mod Utf8Block
 pub mod Utf8Chars
 pub mod Utf8States

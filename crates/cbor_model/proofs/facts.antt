@@ -1,6 +1,6 @@
 -- What the crates above may cite of this crate's proofs, and nothing else.
 pub mod Canonical
-pub mod Heads
+pub mod HeadNumbers
 pub mod Laws
 pub mod Maps
 pub mod Order

@@ -4,6 +4,6 @@ pub mod Compared
 pub mod Pairs
 pub mod Puts
 pub mod Apart
-pub mod Heads
+pub mod HeadOrder
 pub mod ByteOrder
 pub mod Least

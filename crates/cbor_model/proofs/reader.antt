@@ -1,5 +1,5 @@
 -- The reference reader: what it reads is spelled so, and what is spelled so it reads.
-pub mod Steps
+pub mod ReaderSteps
 pub mod Majors
 pub mod Made
 pub mod Taken

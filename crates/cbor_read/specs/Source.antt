@@ -238,8 +238,8 @@ slice_input bs taken buffer room =
     record { to_come = Some (drop taken bs); buffer = buffer; offset = taken; room = room }
 
 -- a slice of which nothing was taken, where so many bytes of chunks can be joined
-abbrev pub unread_slice : List ℕ → Option ℕ → Input
-unread_slice bs room = slice_input bs 0 [] room
+abbrev pub start_of_slice : List ℕ → Option ℕ → Input
+start_of_slice bs room = slice_input bs 0 [] room
 
 -- the bytes that a reader has left, after the byte that was peeked
 abbrev pub with_peeked : Option ℕ → Option (List ℕ) → Option (List ℕ)
@@ -257,8 +257,8 @@ reader_input peeked remaining buffer offset =
     }
 
 -- a reader of which nothing was taken
-abbrev pub unread_reader : Option (List ℕ) → Input
-unread_reader remaining = reader_input None remaining [] 0
+abbrev pub start_of_reader : Option (List ℕ) → Input
+start_of_reader remaining = reader_input None remaining [] 0
 
 -- which codes each source may answer
 abbrev pub slice_refusals : ReadErrorCode → Bool

@@ -4,7 +4,7 @@ ghost use Rattle.std.specs.Prelude.{◌≡◌, ◌+◌, ◌<◌, ◌≤◌, [], 
 ghost use Rattle.std.specs.Prelude.{OnErr, Some, None};
 ghost use Rattle.std.specs.Io.KnownBytes.{Keeps};
 ghost use Rattle.cbor_read.specs.Reader.{ByteRead, Filled, SomeRead, PieceTaken};
-ghost use Rattle.cbor_read.specs.Source.{with_peeked, unread_reader};
+ghost use Rattle.cbor_read.specs.Source.{with_peeked, start_of_reader};
 
 use super::front::valid_in;
 use super::{EitherLifetime, Offset, Read, ReadError, ReadErrorCode, Result, Source};
@@ -54,7 +54,7 @@ impl<R: io::Read> IoRead<R> {
     /// assert_eq!(rt; source.offset(), 1);
     /// ```
     pub fn new(alloc: Global, reader: R) -> IoRead<R>
-        ensures { input_of_reader R.remaining result ≡ unread_reader (R.remaining reader) }
+        ensures { input_of_reader R.remaining result ≡ start_of_reader (R.remaining reader) }
     {
         IoRead {
             reader,

@@ -50,12 +50,12 @@ pub struct MutSliceRead<'a> {
 }
 
 impl<'a> MutSliceRead<'a> {
-    ghost use Rattle.cbor_read.specs.Source.{unread_slice};
+    ghost use Rattle.cbor_read.specs.Source.{start_of_slice};
     ghost use Rattle.cbor_read.specs.Sources.{input_of_mut_slice};
 
     /// The bytes of this slice, none of them taken.
     pub fn new(slice: &'a mut [u8]) -> MutSliceRead<'a>
-        ensures { input_of_mut_slice result ≡ unread_slice slice.old None }
+        ensures { input_of_mut_slice result ≡ start_of_slice slice.old None }
     {
         MutSliceRead {
             slice,

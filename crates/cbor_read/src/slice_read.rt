@@ -27,12 +27,12 @@ pub struct SliceRead<'a> {
 }
 
 impl<'a> SliceRead<'a> {
-    ghost use Rattle.cbor_read.specs.Source.{unread_slice};
+    ghost use Rattle.cbor_read.specs.Source.{start_of_slice};
     ghost use Rattle.cbor_read.specs.Sources.{input_of_slice};
 
     /// The bytes of this slice, none of them taken.
     pub fn new(alloc: Global, slice: &'a [u8]) -> SliceRead<'a>
-        ensures { input_of_slice result ≡ unread_slice slice.now None }
+        ensures { input_of_slice result ≡ start_of_slice slice.now None }
     {
         SliceRead {
             slice,

@@ -35,7 +35,7 @@ pub struct SliceReadFixed<'a, 'b> {
 }
 
 impl<'a, 'b> SliceReadFixed<'a, 'b> {
-    ghost use Rattle.cbor_read.specs.Source.{unread_slice};
+    ghost use Rattle.cbor_read.specs.Source.{start_of_slice};
     ghost use Rattle.cbor_read.specs.Sources.{input_of_slice_fixed};
 
     /// The bytes of this slice, none of them taken, and room for as many joined bytes as the
@@ -49,7 +49,8 @@ impl<'a, 'b> SliceReadFixed<'a, 'b> {
     /// assert_eq!(rt; source.offset(), 1);
     /// ```
     pub fn new(slice: &'a [u8], scratch: &'b mut [u8]) -> SliceReadFixed<'a, 'b>
-        ensures { input_of_slice_fixed result ≡ unread_slice slice.now (Some (length scratch.old)) }
+        ensures { input_of_slice_fixed result ≡ start_of_slice slice.now
+            (Some (length scratch.old)) }
     {
         SliceReadFixed {
             slice,

@@ -6,7 +6,7 @@ pub mod Keyed
 pub mod Values
 pub mod Tagged
 pub mod Names
-pub mod Fields
+pub mod StructFields
 pub mod Variants
 pub mod Enums
 pub mod TypeLaws

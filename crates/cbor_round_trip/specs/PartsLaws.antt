@@ -10,7 +10,7 @@ use Rattle.cbor_parts.specs.declared.OneOf6.{OneOf6}
 use Rattle.cbor_parts.specs.declared.OneOf7.{OneOf7}
 use Rattle.cbor_parts.specs.declared.OneOf8.{OneOf8}
 use Rattle.cbor_round_trip.specs.Enums.{same1, same2, same3, same4, same5, same6, same7, same8}
-use Rattle.cbor_round_trip.specs.Fields.{field_back, last_field_back, struct_back}
+use Rattle.cbor_round_trip.specs.StructFields.{field_back, last_field_back, struct_back}
 use Rattle.cbor_round_trip.specs.Lists.{last_back, part_back}
 use Rattle.cbor_round_trip.specs.TypeLaws.{Law, FieldLaw, FieldsLaw, fields_law, TupleLaw, tuple_law, PartsLaw, parts_law, VariantLaw}
 use Rattle.cbor_round_trip.specs.Variants.{enum_back, no_variants_back, variant_back}

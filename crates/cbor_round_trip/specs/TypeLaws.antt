@@ -7,7 +7,7 @@ use Rattle.cbor_model.specs.Raw.{Raw, Raws}
 use Rattle.cbor_model.specs.Readable.{Context}
 use Rattle.cbor_decode_as.specs.Enums.{Content}
 use Rattle.cbor_de.specs.Structs.{IfAbsent}
-use Rattle.cbor_round_trip.specs.Fields.{IsFieldReadBack}
+use Rattle.cbor_round_trip.specs.StructFields.{IsFieldReadBack}
 use Rattle.cbor_round_trip.specs.ReadBack.{IsReadBack, asking_more, by_part}
 use Rattle.cbor_round_trip.specs.Names.{are_distinct}
 use Rattle.cbor_round_trip.specs.Keyed.{IsToldByDocuments}

@@ -21,7 +21,7 @@ pub trait PartsRoundTrip: PartsDocument + ReadableParts {
 /// A field of a struct that is read back: what is `RoundTrip`, or [`Optional`] or [`OrDefault`] of
 /// it.
 pub trait FieldRoundTrip: FieldDocument + FieldType {
-    ghost use Rattle.cbor_round_trip.specs.Fields.{IsFieldReadBack};
+    ghost use Rattle.cbor_round_trip.specs.StructFields.{IsFieldReadBack};
     ghost use Rattle.cbor_round_trip.specs.TypeLaws.{FieldLaw};
 
     // The law as a value, with what it asks of a value (`fits`).
@@ -32,7 +32,7 @@ pub trait FieldRoundTrip: FieldDocument + FieldType {
 }
 
 impl<T: RoundTrip + Drop> FieldRoundTrip for T {
-    ghost use Rattle.cbor_round_trip.specs.Fields.{required_back};
+    ghost use Rattle.cbor_round_trip.specs.StructFields.{required_back};
     ghost use Rattle.cbor_round_trip.specs.TypeLaws.{field_law};
 
     ghost law = { field_law (required_back T.law.back) };
@@ -41,7 +41,7 @@ impl<T: RoundTrip + Drop> FieldRoundTrip for T {
 }
 
 impl<T: RoundTrip + Drop> FieldRoundTrip for Optional<T> {
-    ghost use Rattle.cbor_round_trip.specs.Fields.{optional_back};
+    ghost use Rattle.cbor_round_trip.specs.StructFields.{optional_back};
     ghost use Rattle.cbor_round_trip.specs.TypeLaws.{field_law};
 
     ghost law = { field_law (optional_back T.law.back {part = λ o. o.0}) };
@@ -50,7 +50,7 @@ impl<T: RoundTrip + Drop> FieldRoundTrip for Optional<T> {
 }
 
 impl<T: RoundTrip + Default + Drop> FieldRoundTrip for OrDefault<T> {
-    ghost use Rattle.cbor_round_trip.specs.Fields.{default_back};
+    ghost use Rattle.cbor_round_trip.specs.StructFields.{default_back};
     ghost use Rattle.cbor_round_trip.specs.TypeLaws.{field_law};
 
     ghost law = { field_law (default_back T.law.back (λ o. o.0)

@@ -110,7 +110,7 @@ impl<
 
 impl<A: FieldRoundTrip> FieldsRoundTrip for (A,) {
     ghost use Rattle.std.specs.Prelude.{refl};
-    ghost use Rattle.cbor_round_trip.specs.Fields.{last_field_back, struct_back};
+    ghost use Rattle.cbor_round_trip.specs.StructFields.{last_field_back, struct_back};
     ghost use Rattle.cbor_round_trip.specs.TypeLaws.{fields_law};
 
     ghost law = { fields_law 1 (struct_back
@@ -122,7 +122,7 @@ impl<A: FieldRoundTrip> FieldsRoundTrip for (A,) {
 
 impl<A: FieldRoundTrip, B: FieldRoundTrip> FieldsRoundTrip for (A, B) {
     ghost use Rattle.std.specs.Prelude.{refl};
-    ghost use Rattle.cbor_round_trip.specs.Fields.{field_back, last_field_back, struct_back};
+    ghost use Rattle.cbor_round_trip.specs.StructFields.{field_back, last_field_back, struct_back};
     ghost use Rattle.cbor_round_trip.specs.PartsLaws.{fields2};
 
     ghost law = { fields2 A.law B.law };
@@ -132,7 +132,7 @@ impl<A: FieldRoundTrip, B: FieldRoundTrip> FieldsRoundTrip for (A, B) {
 
 impl<A: FieldRoundTrip, B: FieldRoundTrip, C: FieldRoundTrip> FieldsRoundTrip for (A, B, C) {
     ghost use Rattle.std.specs.Prelude.{refl};
-    ghost use Rattle.cbor_round_trip.specs.Fields.{field_back, last_field_back, struct_back};
+    ghost use Rattle.cbor_round_trip.specs.StructFields.{field_back, last_field_back, struct_back};
     ghost use Rattle.cbor_round_trip.specs.PartsLaws.{fields3};
 
     ghost law = { fields3 A.law B.law C.law };
@@ -144,7 +144,7 @@ impl<A: FieldRoundTrip, B: FieldRoundTrip, C: FieldRoundTrip> FieldsRoundTrip fo
 impl<A: FieldRoundTrip, B: FieldRoundTrip, C: FieldRoundTrip, D: FieldRoundTrip> FieldsRoundTrip
     for (A, B, C, D) {
     ghost use Rattle.std.specs.Prelude.{refl};
-    ghost use Rattle.cbor_round_trip.specs.Fields.{field_back, last_field_back, struct_back};
+    ghost use Rattle.cbor_round_trip.specs.StructFields.{field_back, last_field_back, struct_back};
     ghost use Rattle.cbor_round_trip.specs.PartsLaws.{fields4};
 
     ghost law = { fields4 A.law B.law C.law D.law };
@@ -161,7 +161,7 @@ impl<
     E: FieldRoundTrip,
 > FieldsRoundTrip for (A, B, C, D, E) {
     ghost use Rattle.std.specs.Prelude.{refl};
-    ghost use Rattle.cbor_round_trip.specs.Fields.{field_back, last_field_back, struct_back};
+    ghost use Rattle.cbor_round_trip.specs.StructFields.{field_back, last_field_back, struct_back};
     ghost use Rattle.cbor_round_trip.specs.PartsLaws.{fields5};
 
     ghost law = { fields5 A.law B.law C.law D.law E.law };
@@ -179,7 +179,7 @@ impl<
     F: FieldRoundTrip,
 > FieldsRoundTrip for (A, B, C, D, E, F) {
     ghost use Rattle.std.specs.Prelude.{refl};
-    ghost use Rattle.cbor_round_trip.specs.Fields.{field_back, last_field_back, struct_back};
+    ghost use Rattle.cbor_round_trip.specs.StructFields.{field_back, last_field_back, struct_back};
     ghost use Rattle.cbor_round_trip.specs.PartsLaws.{fields6};
 
     ghost law = { fields6 A.law B.law C.law D.law E.law F.law };
@@ -199,7 +199,7 @@ impl<
     G: FieldRoundTrip,
 > FieldsRoundTrip for (A, B, C, D, E, F, G) {
     ghost use Rattle.std.specs.Prelude.{refl};
-    ghost use Rattle.cbor_round_trip.specs.Fields.{field_back, last_field_back, struct_back};
+    ghost use Rattle.cbor_round_trip.specs.StructFields.{field_back, last_field_back, struct_back};
     ghost use Rattle.cbor_round_trip.specs.PartsLaws.{fields7};
 
     ghost law = { fields7 A.law B.law C.law D.law E.law F.law G.law };
@@ -220,7 +220,7 @@ impl<
     H: FieldRoundTrip,
 > FieldsRoundTrip for (A, B, C, D, E, F, G, H) {
     ghost use Rattle.std.specs.Prelude.{refl};
-    ghost use Rattle.cbor_round_trip.specs.Fields.{field_back, last_field_back, struct_back};
+    ghost use Rattle.cbor_round_trip.specs.StructFields.{field_back, last_field_back, struct_back};
     ghost use Rattle.cbor_round_trip.specs.PartsLaws.{fields8};
 
     ghost law = { fields8 A.law B.law C.law D.law E.law F.law G.law H.law };
@@ -242,7 +242,7 @@ impl<
     I: FieldRoundTrip,
 > FieldsRoundTrip for (A, B, C, D, E, F, G, H, I) {
     ghost use Rattle.std.specs.Prelude.{refl};
-    ghost use Rattle.cbor_round_trip.specs.Fields.{field_back, last_field_back, struct_back};
+    ghost use Rattle.cbor_round_trip.specs.StructFields.{field_back, last_field_back, struct_back};
     ghost use Rattle.cbor_round_trip.specs.PartsLaws.{fields9};
 
     ghost law = { fields9 A.law B.law C.law D.law E.law F.law G.law H.law I.law };
@@ -266,7 +266,7 @@ impl<
     J: FieldRoundTrip,
 > FieldsRoundTrip for (A, B, C, D, E, F, G, H, I, J) {
     ghost use Rattle.std.specs.Prelude.{refl};
-    ghost use Rattle.cbor_round_trip.specs.Fields.{field_back, last_field_back, struct_back};
+    ghost use Rattle.cbor_round_trip.specs.StructFields.{field_back, last_field_back, struct_back};
     ghost use Rattle.cbor_round_trip.specs.PartsLaws.{fields10};
 
     ghost law = { fields10 A.law B.law C.law D.law E.law F.law G.law H.law I.law J.law };
@@ -291,7 +291,7 @@ impl<
     K: FieldRoundTrip,
 > FieldsRoundTrip for (A, B, C, D, E, F, G, H, I, J, K) {
     ghost use Rattle.std.specs.Prelude.{refl};
-    ghost use Rattle.cbor_round_trip.specs.Fields.{field_back, last_field_back, struct_back};
+    ghost use Rattle.cbor_round_trip.specs.StructFields.{field_back, last_field_back, struct_back};
     ghost use Rattle.cbor_round_trip.specs.PartsLaws.{fields11};
 
     ghost law = { fields11 A.law B.law C.law D.law E.law F.law G.law H.law I.law J.law K.law };
@@ -317,7 +317,7 @@ impl<
     L: FieldRoundTrip,
 > FieldsRoundTrip for (A, B, C, D, E, F, G, H, I, J, K, L) {
     ghost use Rattle.std.specs.Prelude.{refl};
-    ghost use Rattle.cbor_round_trip.specs.Fields.{field_back, last_field_back, struct_back};
+    ghost use Rattle.cbor_round_trip.specs.StructFields.{field_back, last_field_back, struct_back};
     ghost use Rattle.cbor_round_trip.specs.PartsLaws.{fields12};
 
     ghost law = { fields12 A.law B.law C.law D.law E.law F.law G.law

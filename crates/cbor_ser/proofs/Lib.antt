@@ -3,8 +3,8 @@ pub mod Ranges
 pub mod Unstored
 pub mod Bytes
 pub mod Beginnings
-pub mod Steps
-pub mod Heads
+pub mod WriteSteps
+pub mod WrittenHeads
 pub mod Users
 pub mod Named
 pub mod Lists

@@ -7,8 +7,8 @@ use Rattle.cbor_model.specs.Parts.{Part, both}
 use Rattle.cbor_io.specs.declared.error.Error.{Error}
 use Rattle.cbor_ser.specs.Serialized.{Added, Stopped, Serialized}
 use Rattle.cbor_ser.specs.declared.serializer.Serializer.{Serializer}
-use Rattle.cbor_ser.proofs.Steps as steps
-pub use Rattle.cbor_ser.proofs.Steps.{by_parts}
+use Rattle.cbor_ser.proofs.WriteSteps as steps
+pub use Rattle.cbor_ser.proofs.WriteSteps.{by_parts}
 
 same_error : {U : Type 0} {x y : Error} {q : Result U Error} → q ≡ Err x → q ≡ Err y → x ≡ y
 same_error a b = cc

@@ -102,7 +102,7 @@ impl<'a, F: SerializeFields> SerializeVariant for NamedFields<'a, F> {
         name: &str,
     ) -> Result<()> {
         ser.write_struct_head(number, name, self.1.len())?;
-        self.1.serialize_fields(ser, self.0)
+        self.1.serialize_as_fields(ser, self.0)
     }
 }
 
@@ -122,7 +122,7 @@ impl<W: Write> Serializer<W> {
             self.new result }
     {
         self.write_map_head(Some(fields.len()))?;
-        fields.serialize_fields(self, names)
+        fields.serialize_as_fields(self, names)
     }
 
     /// Writes a variant of an enum of variants with these names, by its number.

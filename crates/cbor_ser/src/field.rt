@@ -24,7 +24,7 @@ pub trait SerializeField {
 
     /// Appends the field, by this name or this number. One that is left out isn't written, and the
     /// serializer is left as it was.
-    fn serialize_field<W: Write>(
+    fn serialize_as_field<W: Write>(
         &self,
         ser: &mut Serializer<W>,
         number: u32,
@@ -45,7 +45,7 @@ impl<'a, T: Serialize> SerializeField for &'a T {
         true
     }
 
-    fn serialize_field<W: Write>(
+    fn serialize_as_field<W: Write>(
         &self,
         ser: &mut Serializer<W>,
         number: u32,
@@ -75,7 +75,7 @@ impl<'a, T: Serialize> SerializeField for OptionalField<'a, T> {
         self.0.is_some()
     }
 
-    fn serialize_field<W: Write>(
+    fn serialize_as_field<W: Write>(
         &self,
         ser: &mut Serializer<W>,
         number: u32,

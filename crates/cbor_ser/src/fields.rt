@@ -29,7 +29,7 @@ pub trait SerializeFields {
         ensures { (ns : List (List ℕ)) → result ≡ field_count (fields ns self.now) };
 
     /// Appends those that are written, by these names or their numbers, without the map's head.
-    fn serialize_fields<W: Write>(&self, ser: &mut Serializer<W>, names: &[&str]) -> Result<()>
+    fn serialize_as_fields<W: Write>(&self, ser: &mut Serializer<W>, names: &[&str]) -> Result<()>
         requires { length names.now ≡ count }
         ensures { Serialized W.written W.refuses W.references W.capacity ser.old
             (part.fields (fields (map (λ n. n.now) names.now) self.now)) ser.new result };
@@ -46,7 +46,7 @@ impl<A: SerializeField> SerializeFields for (A,) {
         fields.written()
     }
 
-    fn serialize_fields<W: Write>(&self, ser: &mut Serializer<W>, names: &[&str]) -> Result<()> {
+    fn serialize_as_fields<W: Write>(&self, ser: &mut Serializer<W>, names: &[&str]) -> Result<()> {
         let fields = (&self.0, ());
         fields.write_fields(ser, 0, names)
     }
@@ -64,7 +64,7 @@ impl<A: SerializeField, B: SerializeField> SerializeFields for (A, B) {
         fields.written()
     }
 
-    fn serialize_fields<W: Write>(&self, ser: &mut Serializer<W>, names: &[&str]) -> Result<()> {
+    fn serialize_as_fields<W: Write>(&self, ser: &mut Serializer<W>, names: &[&str]) -> Result<()> {
         let fields = (&self.0, (&self.1, ()));
         fields.write_fields(ser, 0, names)
     }
@@ -83,7 +83,7 @@ impl<A: SerializeField, B: SerializeField, C: SerializeField> SerializeFields fo
         fields.written()
     }
 
-    fn serialize_fields<W: Write>(&self, ser: &mut Serializer<W>, names: &[&str]) -> Result<()> {
+    fn serialize_as_fields<W: Write>(&self, ser: &mut Serializer<W>, names: &[&str]) -> Result<()> {
         let fields = (&self.0, (&self.1, (&self.2, ())));
         fields.write_fields(ser, 0, names)
     }
@@ -104,7 +104,7 @@ impl<A: SerializeField, B: SerializeField, C: SerializeField, D: SerializeField>
         fields.written()
     }
 
-    fn serialize_fields<W: Write>(&self, ser: &mut Serializer<W>, names: &[&str]) -> Result<()> {
+    fn serialize_as_fields<W: Write>(&self, ser: &mut Serializer<W>, names: &[&str]) -> Result<()> {
         let fields = (&self.0, &self.1, &self.2, &self.3, ());
         fields.write_fields(ser, 0, names)
     }
@@ -131,7 +131,7 @@ impl<
         fields.written()
     }
 
-    fn serialize_fields<W: Write>(&self, ser: &mut Serializer<W>, names: &[&str]) -> Result<()> {
+    fn serialize_as_fields<W: Write>(&self, ser: &mut Serializer<W>, names: &[&str]) -> Result<()> {
         let fields = (&self.0, &self.1, &self.2, &self.3, (&self.4, ()));
         fields.write_fields(ser, 0, names)
     }
@@ -160,7 +160,7 @@ impl<
         fields.written()
     }
 
-    fn serialize_fields<W: Write>(&self, ser: &mut Serializer<W>, names: &[&str]) -> Result<()> {
+    fn serialize_as_fields<W: Write>(&self, ser: &mut Serializer<W>, names: &[&str]) -> Result<()> {
         let fields = (&self.0, &self.1, &self.2, &self.3, (&self.4, (&self.5, ())));
         fields.write_fields(ser, 0, names)
     }
@@ -197,7 +197,7 @@ impl<
         fields.written()
     }
 
-    fn serialize_fields<W: Write>(&self, ser: &mut Serializer<W>, names: &[&str]) -> Result<()> {
+    fn serialize_as_fields<W: Write>(&self, ser: &mut Serializer<W>, names: &[&str]) -> Result<()> {
         let fields = (
             &self.0,
             &self.1,
@@ -242,7 +242,7 @@ impl<
         fields.written()
     }
 
-    fn serialize_fields<W: Write>(&self, ser: &mut Serializer<W>, names: &[&str]) -> Result<()> {
+    fn serialize_as_fields<W: Write>(&self, ser: &mut Serializer<W>, names: &[&str]) -> Result<()> {
         let fields = (
             &self.0,
             &self.1,
@@ -289,7 +289,7 @@ impl<
         fields.written()
     }
 
-    fn serialize_fields<W: Write>(&self, ser: &mut Serializer<W>, names: &[&str]) -> Result<()> {
+    fn serialize_as_fields<W: Write>(&self, ser: &mut Serializer<W>, names: &[&str]) -> Result<()> {
         let fields = (
             &self.0,
             &self.1,
@@ -338,7 +338,7 @@ impl<
         fields.written()
     }
 
-    fn serialize_fields<W: Write>(&self, ser: &mut Serializer<W>, names: &[&str]) -> Result<()> {
+    fn serialize_as_fields<W: Write>(&self, ser: &mut Serializer<W>, names: &[&str]) -> Result<()> {
         let fields = (
             &self.0,
             &self.1,
@@ -395,7 +395,7 @@ impl<
         fields.written()
     }
 
-    fn serialize_fields<W: Write>(&self, ser: &mut Serializer<W>, names: &[&str]) -> Result<()> {
+    fn serialize_as_fields<W: Write>(&self, ser: &mut Serializer<W>, names: &[&str]) -> Result<()> {
         let fields = (
             &self.0,
             &self.1,
@@ -460,7 +460,7 @@ impl<
         fields.written()
     }
 
-    fn serialize_fields<W: Write>(&self, ser: &mut Serializer<W>, names: &[&str]) -> Result<()> {
+    fn serialize_as_fields<W: Write>(&self, ser: &mut Serializer<W>, names: &[&str]) -> Result<()> {
         let fields = (
             &self.0,
             &self.1,

@@ -30,19 +30,19 @@ use std::alloc::Global;
 
 /// A step was refused.
 #[derive(Clone, Copy)]
-pub(crate) struct Refused;
+pub(crate) struct WriteRefused;
 
 /// What a step returns.
-pub(crate) type Done = std::result::Result<(), Refused>;
+pub(crate) type WriteDone = std::result::Result<(), WriteRefused>;
 
 /// The answer of a call whose steps left this refusal.
-pub(crate) fn answer(done: Done, refusal: Option<Error>) -> Result<()>
+pub(crate) fn answer(done: WriteDone, refusal: Option<Error>) -> Result<()>
     requires { OnErr done (IsSome refusal) }
     ensures ok { OnOk done (IsOk result) }
     ensures err { OnErr done (IfSome refusal (λ e. result ≡ Err e)) }
 {
     match (done, refusal) {
-        (Err(Refused), Some(error)) => Err(error),
+        (Err(WriteRefused), Some(error)) => Err(error),
         _ => Ok(()),
     }
 }
@@ -55,7 +55,7 @@ pub(crate) fn not_storable(alloc: Global) -> Error
 }
 
 // Appends a piece.
-fn put<W: Write>(writer: &mut W, refusal: &mut Option<Error>, piece: &[u8]) -> Done
+fn put<W: Write>(writer: &mut W, refusal: &mut Option<Error>, piece: &[u8]) -> WriteDone
     ensures written { Wrote (W.written writer.old) piece.now (W.written writer.new) result }
     ensures same_references { W.references writer.new ≡ W.references writer.old }
     ensures same_capacity { W.capacity writer.new ≡ W.capacity writer.old }
@@ -67,19 +67,19 @@ fn put<W: Write>(writer: &mut W, refusal: &mut Option<Error>, piece: &[u8]) -> D
         Ok(()) => Ok(()),
         Err(error) => {
             *refusal = Some(error);
-            Err(Refused)
+            Err(WriteRefused)
         }
     }
 }
 
 /// Appends the shortest head of the major type with this number, as one piece.
 #[inline(always)]
-pub(crate) fn write_head<W: Write>(
+pub(crate) fn put_head<W: Write>(
     writer: &mut W,
     refusal: &mut Option<Error>,
     major: Major,
     n: u64,
-) -> Done
+) -> WriteDone
     ensures written { Wrote (W.written writer.old) (short (major_number major) n)
         (W.written writer.new) result }
     ensures same_references { W.references writer.new ≡ W.references writer.old }
@@ -106,12 +106,12 @@ pub(crate) fn write_head<W: Write>(
 }
 
 /// Appends the head of a string, and then what it holds.
-pub(crate) fn write_string<W: Write>(
+pub(crate) fn put_string<W: Write>(
     writer: &mut W,
     refusal: &mut Option<Error>,
     major: Major,
     content: &[u8],
-) -> Done
+) -> WriteDone
     ensures content { IsByteString content.now }
     ensures written { Wrote (W.written writer.old)
         (short (major_number major) (length content.now) ++ content.now)
@@ -122,17 +122,17 @@ pub(crate) fn write_string<W: Write>(
     ensures fits { TakesWhatFits (W.capacity writer.old) (W.written writer.old)
         (short (major_number major) (length content.now) ++ content.now) result }
 {
-    write_head(writer, refusal, major, content.len() as u64)?;
+    put_head(writer, refusal, major, content.len() as u64)?;
     put(writer, refusal, content)
 }
 
 /// Appends a float in its width, with its bits as they are.
 #[tactic(auto, unfolding(cbor_model::specs::Canonical::canon, cbor_model::specs::Canonical::canonical, cbor_model::specs::Spelling::spell))]
-pub(crate) fn write_float<W: Write>(
+pub(crate) fn put_float<W: Write>(
     writer: &mut W,
     refusal: &mut Option<Error>,
     float: Float,
-) -> Done
+) -> WriteDone
     ensures in_memory { IsInMemory (float_view float) }
     ensures written { Wrote (W.written writer.old) (canon (float_view float))
         (W.written writer.new) result }
@@ -160,12 +160,12 @@ pub(crate) fn write_float<W: Write>(
 
 /// Appends a whole number. One that isn't stored is refused, and nothing is appended.
 #[tactic(auto, unfolding(cbor_model::specs::Canonical::canon, cbor_model::specs::Canonical::canonical, cbor_model::specs::Spelling::spell))]
-pub(crate) fn write_integer<W: Write>(
+pub(crate) fn put_integer<W: Write>(
     alloc: Global,
     writer: &mut W,
     refusal: &mut Option<Error>,
     i: i128,
-) -> Done
+) -> WriteDone
     ensures storable { OnOk result (IsStorableInteger i) }
     ensures written { Wrote (W.written writer.old) (canon (plain.integer i))
         (W.written writer.new) result }
@@ -180,24 +180,24 @@ pub(crate) fn write_integer<W: Write>(
     ensures unstorable { (IsStorableInteger i → ⊥) → IsSomeAnd refusal.new SaysUnstorable }
 {
     if let Ok(n) = u64::try_from(i) {
-        return write_head(writer, refusal, Major::UnsignedInteger, n);
+        return put_head(writer, refusal, Major::UnsignedInteger, n);
     }
     if let Ok(n) = u64::try_from(-1 - i) {
-        return write_head(writer, refusal, Major::NegativeInteger, n);
+        return put_head(writer, refusal, Major::NegativeInteger, n);
     }
     *refusal = Some(not_storable(alloc));
-    Err(Refused)
+    Err(WriteRefused)
 }
 
 /// Appends a value's canonical spelling. The allocator is for the text of a refusal alone.
 #[cycle(value)]
 #[tactic(auto, unfolding(cbor_model::specs::Canonical::canon, cbor_model::specs::Canonical::canonical, cbor_model::specs::Spelling::spell, cbor_model::specs::Document::document_of))]
-pub(crate) fn write_value<W: Write>(
+pub(crate) fn put_value<W: Write>(
     alloc: Global,
     writer: &mut W,
     refusal: &mut Option<Error>,
     value: &Value,
-) -> Done
+) -> WriteDone
     ensures storable { OnOk result (IsStorable (view value.now)) }
     ensures in_memory { OnOk result (IsInMemory (view value.now)) }
     ensures written { Wrote (W.written writer.old) (canon (view value.now))
@@ -215,24 +215,24 @@ pub(crate) fn write_value<W: Write>(
     match value {
         Value::Null => put(writer, refusal, &[0xf6]),
         Value::Bool(b) => put(writer, refusal, &[if *b { 0xf5 } else { 0xf4 }]),
-        Value::Integer(i) => write_integer(alloc, writer, refusal, *i),
-        Value::Float(float) => write_float(writer, refusal, *float),
-        Value::Bytes(bytes) => write_string(writer, refusal, Major::ByteString, bytes),
-        Value::Text(text) => write_string(writer, refusal, Major::TextString, text.as_bytes()),
-        Value::Array(items) => write_array(alloc, writer, refusal, items),
-        Value::Map(map) => write_map(alloc, writer, refusal, map),
-        Value::Tag(tag, inner) => write_tag(alloc, writer, refusal, *tag, inner),
+        Value::Integer(i) => put_integer(alloc, writer, refusal, *i),
+        Value::Float(float) => put_float(writer, refusal, *float),
+        Value::Bytes(bytes) => put_string(writer, refusal, Major::ByteString, bytes),
+        Value::Text(text) => put_string(writer, refusal, Major::TextString, text.as_bytes()),
+        Value::Array(items) => put_array(alloc, writer, refusal, items),
+        Value::Map(map) => put_map(alloc, writer, refusal, map),
+        Value::Tag(tag, inner) => put_tag(alloc, writer, refusal, *tag, inner),
     }
 }
 
 #[cycle(value)]
-fn write_tag<W: Write>(
+fn put_tag<W: Write>(
     alloc: Global,
     writer: &mut W,
     refusal: &mut Option<Error>,
     tag: u64,
     inner: &Value,
-) -> Done
+) -> WriteDone
     ensures storable { OnOk result (IsStorable (view inner.now)) }
     ensures in_memory { OnOk result (IsInMemory (plain.tag tag (view inner.now))) }
     ensures written { Wrote (W.written writer.old) (canon (plain.tag tag (view inner.now)))
@@ -247,18 +247,18 @@ fn write_tag<W: Write>(
         TakesWhatFits (W.capacity writer.old) (W.written writer.old)
         (canon (plain.tag tag (view inner.now))) result }
 {
-    write_head(writer, refusal, Major::Tag, tag)?;
-    write_value(alloc, writer, refusal, inner)
+    put_head(writer, refusal, Major::Tag, tag)?;
+    put_value(alloc, writer, refusal, inner)
 }
 
 #[cycle(value)]
 #[tactic(auto, using(crate::proofs::Ranges::array_in_memory))]
-fn write_array<W: Write>(
+fn put_array<W: Write>(
     alloc: Global,
     writer: &mut W,
     refusal: &mut Option<Error>,
     items: &[Value],
-) -> Done
+) -> WriteDone
     ensures storable { OnOk result (AreStorable (views items.now)) }
     ensures in_memory { OnOk result (IsInMemory (plain.array (views items.now))) }
     ensures written { Wrote (W.written writer.old) (canon (plain.array (views items.now)))
@@ -274,19 +274,19 @@ fn write_array<W: Write>(
         TakesWhatFits (W.capacity writer.old) (W.written writer.old)
         (canon (plain.array (views items.now))) result }
 {
-    write_head(writer, refusal, Major::Array, items.len() as u64)?;
-    write_items(alloc, writer, refusal, items)
+    put_head(writer, refusal, Major::Array, items.len() as u64)?;
+    put_items(alloc, writer, refusal, items)
 }
 
 // Appends values, one after the other.
 #[cycle(value)]
 #[tactic(auto, using(crate::proofs::Writing::size_at, std::proofs::lemmas::List::drop_all))]
-fn write_items<W: Write>(
+fn put_items<W: Write>(
     alloc: Global,
     writer: &mut W,
     refusal: &mut Option<Error>,
     items: &[Value],
-) -> Done
+) -> WriteDone
     ensures storable { OnOk result (AreStorable (views items.now)) }
     ensures in_memory { OnOk result (AreInMemory (views items.now)) }
     ensures written { Wrote (W.written writer.old) (spell_all (canonical_all (views items.now)))
@@ -304,18 +304,18 @@ fn write_items<W: Write>(
         (spell_all (canonical_all (views items.now))) result }
 {
     for item in items {
-        write_value(alloc, writer, refusal, item)?;
+        put_value(alloc, writer, refusal, item)?;
     }
     Ok(())
 }
 
 #[cycle(value)]
-fn write_map<W: Write>(
+fn put_map<W: Write>(
     alloc: Global,
     writer: &mut W,
     refusal: &mut Option<Error>,
     map: &Map,
-) -> Done
+) -> WriteDone
     ensures storable { OnOk result (ArePairsStorable (map_view map.now)) }
     ensures in_memory { OnOk result (IsInMemory (plain.map (map_view map.now))) }
     ensures written { Wrote (W.written writer.old) (canon (plain.map (map_view map.now)))
@@ -331,19 +331,19 @@ fn write_map<W: Write>(
         TakesWhatFits (W.capacity writer.old) (W.written writer.old)
         (canon (plain.map (map_view map.now))) result }
 {
-    write_head(writer, refusal, Major::Map, map.len() as u64)?;
-    write_pairs(alloc, writer, refusal, map.iter().as_slice())
+    put_head(writer, refusal, Major::Map, map.len() as u64)?;
+    put_pairs(alloc, writer, refusal, map.iter().as_slice())
 }
 
 // Appends keys and values, as they are listed.
 #[cycle(value)]
 #[tactic(auto, using(crate::proofs::Writing::key_size_at, crate::proofs::Writing::value_size_at, std::proofs::lemmas::List::drop_all))]
-fn write_pairs<W: Write>(
+fn put_pairs<W: Write>(
     alloc: Global,
     writer: &mut W,
     refusal: &mut Option<Error>,
     pairs: &[(Value, Value)],
-) -> Done
+) -> WriteDone
     ensures storable { OnOk result (ArePairsStorable (pair_views pairs.now)) }
     ensures in_memory { OnOk result (ArePairsInMemory (pair_views pairs.now)) }
     ensures written { Wrote (W.written writer.old)
@@ -361,8 +361,8 @@ fn write_pairs<W: Write>(
         (spell_pairs (canonical_pairs (pair_views pairs.now))) result }
 {
     for (key, value) in pairs {
-        write_value(alloc, writer, refusal, key)?;
-        write_value(alloc, writer, refusal, value)?;
+        put_value(alloc, writer, refusal, key)?;
+        put_value(alloc, writer, refusal, value)?;
     }
     Ok(())
 }

@@ -11,7 +11,7 @@ ghost use Rattle.cbor_ser.specs.PartLists.{field_if};
 ghost use Rattle.cbor_ser.specs.Serialized.{Serialized, Stopped};
 
 use crate::field::SerializeField;
-use crate::items::{Done, Refused, answer};
+use crate::items::{WriteDone, WriteRefused, answer};
 use crate::serialize::Serialize;
 use crate::serializer::Serializer;
 use cbor_io::error::{Error, Result};
@@ -96,7 +96,7 @@ impl<'a, A: SerializeField, F: WriteFields> WriteFields for (&'a A, F) {
         if !self.0.is_written() {
             return self.1.write_fields(ser, number + 1, &names[1..]);
         }
-        self.0.serialize_field(ser, number, names[0])?;
+        self.0.serialize_as_field(ser, number, names[0])?;
         self.1.write_fields(ser, number + 1, &names[1..])
     }
 }
@@ -170,7 +170,7 @@ pub(crate) trait WriteItems {
 
     // Appends them. What refuses one of them is left in `refusal`: an `Error` is large, and a
     // `Result` with one would be copied at each item.
-    fn write_items<W: Write>(&self, ser: &mut Serializer<W>, refusal: &mut Option<Error>) -> Done
+    fn write_items<W: Write>(&self, ser: &mut Serializer<W>, refusal: &mut Option<Error>) -> WriteDone
         // Where the others are written next, all are.
         ensures ok { OnOk result ((ds : Docs) (last : Serializer W) (r : Result (Unit {0}) Error)
             → Serialized W.written W.refuses W.references W.capacity ser.new
@@ -198,7 +198,7 @@ impl<W: Write> Serializer<W> {
         let mut refusal = None;
         match first.write_items(self, &mut refusal) {
             Ok(()) => last.serialize(self),
-            Err(Refused) => answer(Err(Refused), refusal),
+            Err(WriteRefused) => answer(Err(WriteRefused), refusal),
         }
     }
 }
@@ -211,7 +211,7 @@ impl WriteItems for () {
         &self,
         _ser: &mut Serializer<W>,
         _refusal: &mut Option<Error>,
-    ) -> Done {
+    ) -> WriteDone {
         Ok(())
     }
 }
@@ -220,12 +220,12 @@ impl<'a, A: Serialize, F: WriteItems> WriteItems for (&'a A, F) {
     ghost documents = { λ p ds. doc (A.document p.0.now) (F.documents p.1 ds) };
 
     #[inline(always)]
-    fn write_items<W: Write>(&self, ser: &mut Serializer<W>, refusal: &mut Option<Error>) -> Done {
+    fn write_items<W: Write>(&self, ser: &mut Serializer<W>, refusal: &mut Option<Error>) -> WriteDone {
         match self.0.serialize(ser) {
             Ok(()) => self.1.write_items(ser, refusal),
             Err(error) => {
                 *refusal = Some(error);
-                Err(Refused)
+                Err(WriteRefused)
             }
         }
     }
@@ -235,7 +235,7 @@ impl<'a, F: WriteItems> WriteItems for &'a F {
     ghost documents = { λ p. F.documents p.now };
 
     #[inline(always)]
-    fn write_items<W: Write>(&self, ser: &mut Serializer<W>, refusal: &mut Option<Error>) -> Done {
+    fn write_items<W: Write>(&self, ser: &mut Serializer<W>, refusal: &mut Option<Error>) -> WriteDone {
         (**self).write_items(ser, refusal)
     }
 }
@@ -249,7 +249,7 @@ impl<'a, A: Serialize, B: Serialize, C: Serialize, D: Serialize, F: WriteItems> 
         (doc (D.document p.3.now) (F.documents p.4 ds)))) };
 
     #[inline(always)]
-    fn write_items<W: Write>(&self, ser: &mut Serializer<W>, refusal: &mut Option<Error>) -> Done {
+    fn write_items<W: Write>(&self, ser: &mut Serializer<W>, refusal: &mut Option<Error>) -> WriteDone {
         let items = (self.0, (self.1, (self.2, (self.3, &self.4))));
         items.write_items(ser, refusal)
     }

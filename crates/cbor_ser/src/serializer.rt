@@ -15,7 +15,7 @@ ghost use Rattle.cbor_ser.specs.Serialized.{writer_of, settings_of, Serialized, 
 ghost use Rattle.cbor_ser.specs.Written.{SaysUnstorable};
 
 use crate::items::{
-    answer, not_storable, write_float, write_head, write_integer, write_string, write_value,
+    answer, not_storable, put_float, put_head, put_integer, put_string, put_value,
 };
 use cbor_io::error::Result;
 use cbor_io::head::Major;
@@ -267,7 +267,7 @@ impl<W: Write> Serializer<W> {
         ensures unstorable { (IsStorableInteger v → ⊥) → IsErrAnd result SaysUnstorable }
     {
         let mut refusal = None;
-        let done = write_integer(self.alloc, &mut self.writer, &mut refusal, v);
+        let done = put_integer(self.alloc, &mut self.writer, &mut refusal, v);
         answer(done, refusal)
     }
 
@@ -290,7 +290,7 @@ impl<W: Write> Serializer<W> {
             (item (document_of (float_view v))) self.new result }
     {
         let mut refusal = None;
-        let done = write_float(&mut self.writer, &mut refusal, v);
+        let done = put_float(&mut self.writer, &mut refusal, v);
         answer(done, refusal)
     }
 
@@ -355,7 +355,7 @@ impl<W: Write> Serializer<W> {
             (item (document_of (view v.now))) self.new result }
     {
         let mut refusal = None;
-        let done = write_value(self.alloc, &mut self.writer, &mut refusal, v);
+        let done = put_value(self.alloc, &mut self.writer, &mut refusal, v);
         answer(done, refusal)
     }
 
@@ -366,7 +366,7 @@ impl<W: Write> Serializer<W> {
             Serialized W.written W.refuses W.references W.capacity self.old part self.new result }
     {
         let mut refusal = None;
-        let done = write_string(&mut self.writer, &mut refusal, major, content);
+        let done = put_string(&mut self.writer, &mut refusal, major, content);
         answer(done, refusal)
     }
 
@@ -376,7 +376,7 @@ impl<W: Write> Serializer<W> {
             Serialized W.written W.refuses W.references W.capacity self.old part self.new result }
     {
         let mut refusal = None;
-        let done = write_head(&mut self.writer, &mut refusal, major, n);
+        let done = put_head(&mut self.writer, &mut refusal, major, n);
         answer(done, refusal)
     }
 

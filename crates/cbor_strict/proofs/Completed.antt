@@ -13,7 +13,7 @@ use Rattle.cbor_model.specs.Value.{by_order}
 use Rattle.cbor_model.specs.Reader.{Reads, number_behind, width_of}
 use Rattle.cbor_strict.specs.Departure.{floor}
 use Rattle.cbor_strict.specs.Walk.{Walk, passed, departed, stopped, and_then, past, on_shortest, with_shortest, with_count, simple_walk, all_walk, pairs_walk, content_walk, walk}
-use Rattle.cbor_model.proofs.reader.Steps.{AreBytes-rest, bytes_found, IsWide, wide16, wide32, wide64, number_behind_found, first_is}
+use Rattle.cbor_model.proofs.reader.ReaderSteps.{AreBytes-rest, bytes_found, IsWide, wide16, wide32, wide64, number_behind_found, first_is}
 use Rattle.cbor_strict.proofs.Copied.{two_parts, whole_head}
 use Rattle.cbor_model.proofs.reader.Majors.{each_major}
 

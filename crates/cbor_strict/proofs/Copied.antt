@@ -10,7 +10,7 @@ use Rattle.cbor_model.specs.Order.{val_cmp}
 use Rattle.cbor_model.specs.Plain.{Val, Pairs, no_pairs, pair}
 use Rattle.cbor_model.specs.Reader.{Reads, number_at, number_behind}
 use Rattle.cbor_model.specs.Value.{put, by_order}
-use Rattle.cbor_model.proofs.order.Heads.{least-cases}
+use Rattle.cbor_model.proofs.order.HeadOrder.{least-cases}
 use Rattle.cbor_model.proofs.order.Pairs.{Less-trans, Greater-from_Less}
 use Rattle.cbor_model.proofs.values.ReadsBack.{followed_by, reads_back}
 use Rattle.cbor_model.proofs.reader.Taken.{Leaves}

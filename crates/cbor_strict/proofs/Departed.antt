@@ -12,7 +12,7 @@ use Rattle.cbor_strict.specs.Departure.{floor, head_end, long_head, long_length,
 use Rattle.cbor_strict.specs.Walk.{Walk, passed, departed, stopped, walk, walk_of}
 use Rattle.cbor_strict.specs.Strict.{IsFirstShown}
 use Rattle.cbor_strict.proofs.Walked.{Tells, walked}
-use Rattle.cbor_strict.proofs.Fronts.{Below, Goes, walk_local, walk_fuel}
+use Rattle.cbor_strict.proofs.WalkFronts.{Below, Goes, walk_local, walk_fuel}
 use Rattle.cbor_strict.proofs.Completed.{walk_begins}
 use Rattle.std.specs.Prelude.{flat_map, nat_lt}
 

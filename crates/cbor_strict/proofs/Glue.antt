@@ -29,7 +29,7 @@ use Rattle.cbor_strict.proofs.Clean.{clean, canonical_clean}
 use Rattle.cbor_strict.proofs.Departed.{item_departs, none_departs, shown_departs, departed_shows}
 use Rattle.cbor_strict.proofs.Strict.{enough, none_listed, listed_none, walk_whole, first_of_front, to_front}
 use Rattle.cbor_strict.proofs.Copied.{spells_canon}
-use Rattle.cbor_strict.proofs.Fronts.{Below, walk_fewer}
+use Rattle.cbor_strict.proofs.WalkFronts.{Below, walk_fewer}
 use Rattle.cbor_strict.proofs.FirstRefusals.{departs_alone, departs_before, fault_before}
 
 -- where a type reads every item, a promise that always holds

@@ -10,10 +10,10 @@ use Rattle.cbor_model.specs.Raw as raw
 use Rattle.cbor_model.specs.Raw.{Length, Raw, Raws, no_raws, RawPairs, no_raw_pairs, raw_pair, Chunk, joined, AreBytes, count, pair_count, depth, IsWellFormed}
 use Rattle.cbor_model.specs.Spelling.{spell, spell_all, spell_pairs, chunk, break}
 use Rattle.cbor_model.specs.Allowed.{IsTextOf, IsInvalidUtf8}
-use Rattle.cbor_model.proofs.reader.Steps.{AreBytes-take}
+use Rattle.cbor_model.proofs.reader.ReaderSteps.{AreBytes-take}
 use Rattle.cbor_strict.specs.Departure.{head_end, long_head, long_length, length_end, not_above, departures, all_departures, pair_departures, DepartsAt, ShowsDeparture}
 use Rattle.cbor_strict.specs.Walk.{departed, walk, walk_of}
-use Rattle.cbor_strict.proofs.Fronts.{walk_fuel}
+use Rattle.cbor_strict.proofs.WalkFronts.{walk_fuel}
 use Rattle.cbor_strict.proofs.Departed.{Climbs, climbs_on, climbs_to, least_of, head_climbs, length_climbs, enclosed_end, key_climbs, departures_climb, all_climb, pairs_climb, item_departs, cut, departed_shows}
 use Rattle.cbor_strict.proofs.Strict.{from_front}
 use Rattle.cbor_strict.proofs.Standing.{StandsIn, StandsInAll, StandsInPairs, Holds, holds_wanted}

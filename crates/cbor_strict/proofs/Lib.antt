@@ -1,7 +1,7 @@
 pub mod Copied
 pub mod Clean
 pub mod Walked
-pub mod Fronts
+pub mod WalkFronts
 pub mod Completed
 pub mod Departed
 pub mod Strict

@@ -16,7 +16,7 @@ use Rattle.cbor_model.proofs.order.Apart.{one_spelling}
 use Rattle.cbor_model.proofs.values.Canonical.{value_is_canonical}
 use Rattle.cbor_strict.proofs.Clean.{clean, canonical_clean}
 use Rattle.cbor_strict.proofs.Walked.{clean_key, keys_compare}
-use Rattle.cbor_strict.proofs.Fronts.{walk_fuel}
+use Rattle.cbor_strict.proofs.WalkFronts.{walk_fuel}
 use Rattle.cbor_strict.proofs.Departed.{first_listed, departs_first, shown_departs, departed_shows}
 
 -- ---- departures of an item

@@ -14,7 +14,7 @@ use Rattle.cbor_model.specs.Canonical.{IsStorable, canon}
 use Rattle.cbor_model.specs.InRange.{IsInRange}
 use Rattle.cbor_strict.specs.Departure.{floor, head_end, long_head, not_above, departures, all_departures, pair_departures}
 use Rattle.cbor_strict.specs.Walk.{Walk, passed, departed, and_then, past, with_shortest, with_count, simple_walk, all_walk, above, pairs_walk, content_walk, walk}
-use Rattle.cbor_model.proofs.reader.Steps.{info-below, width_of-info, number_behind_again, high_of, low_of}
+use Rattle.cbor_model.proofs.reader.ReaderSteps.{info-below, width_of-info, number_behind_again, high_of, low_of}
 use Rattle.cbor_model.proofs.reader.FirstBytes.{IsBegun, begun}
 use Rattle.cbor_model.proofs.values.Storable.{storable}
 use Rattle.cbor_model.proofs.values.InRange.{in_range}

@@ -6,7 +6,7 @@ use Rattle.cbor_io.specs.declared.error.Error.{Error}
 use Rattle.cbor_io.specs.declared.error.ErrorCode.{ErrorCode}
 use Rattle.cbor_io.specs.declared.error.ErrorCode.TheVariants.{NotCanonical}
 use Rattle.cbor_io.specs.Error.{code_of, offset_of, IsOutOfMemory}
-use Rattle.cbor_read.specs.Source.{unread_slice}
+use Rattle.cbor_read.specs.Source.{start_of_slice}
 use Rattle.cbor_decode.specs.FirstRefusal.{refusal_code}
 use Rattle.cbor_de.specs.Forms.{WrongForms, MayTell}
 use Rattle.cbor_strict.specs.Departure.{IsFirstDeparture, ShowsDeparture}
@@ -39,4 +39,4 @@ PassesNoDeparture bytes e =
 -- A departure is told; or no wrong form but one that the type may tell.
 abbrev pub DepartureOrForm : WrongForms → List ℕ → Error → Type 0
 DepartureOrForm forms bytes e =
-    (code_of e ≡ NotCanonical) ⊎ MayTell forms all_formats (unread_slice bytes None) e
+    (code_of e ≡ NotCanonical) ⊎ MayTell forms all_formats (start_of_slice bytes None) e

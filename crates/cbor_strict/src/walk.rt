@@ -267,7 +267,7 @@ fn string(low: u8, bytes: &[u8]) -> Walk
 {
     // Most are shorter than 256 bytes, and take two tests where those of any length take a table.
     if low <= 24 {
-        any_string(low, bytes)
+        string_slow(low, bytes)
     } else {
         long_string(low, bytes)
     }
@@ -279,12 +279,12 @@ fn long_string(low: u8, bytes: &[u8]) -> Walk
     ensures walks { Walks bytes.now (λ fuel. string_walk low) result }
     ensures within { IsWithin (length bytes.now) result }
 {
-    any_string(low, bytes)
+    string_slow(low, bytes)
 }
 
 /// Goes past what follows a first byte of a string of any length.
 #[inline(always)]
-fn any_string(low: u8, bytes: &[u8]) -> Walk
+fn string_slow(low: u8, bytes: &[u8]) -> Walk
     ensures walks { Walks bytes.now (λ fuel. string_walk low) result }
     ensures within { IsWithin (length bytes.now) result }
 {

@@ -29,7 +29,7 @@ use Rattle.serde_cbor.specs.Written.{IsRefusedBy, IsNotWritten}
 use Rattle.cbor_tool.specs.Run.{AppendsAnswers}
 use Rattle.cbor_tool.specs.declared.program.Mode.{Mode}
 use Rattle.cbor_tool.specs.declared.program.Mode.TheVariants.{Lenient, Strict}
-use Rattle.cbor_tool.specs.Steps.{answered_in, SpellsIn, TellsIn}
+use Rattle.cbor_tool.specs.RunSteps.{answered_in, SpellsIn, TellsIn}
 use Rattle.cbor_tool.proofs.Hexadecimal.{IsHexOf-decoded, decode_of-hex}
 
 -- ---- one answer

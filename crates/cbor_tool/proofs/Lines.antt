@@ -5,7 +5,7 @@ use Rattle.std.proofs.lemmas.Bool.{ne_eqb}
 use Rattle.std.proofs.lemmas.List.Elements.{All-head, All-tail}
 use Rattle.cbor_tool.specs.Answer.{lines}
 use Rattle.cbor_tool.specs.Run.{ended_lines}
-use Rattle.cbor_tool.specs.Steps.{IsInLine}
+use Rattle.cbor_tool.specs.RunSteps.{IsInLine}
 
 not_end : (b : ℕ) (line : List ℕ) → IsInLine (b ∷ line) → (b == 0x0a) ≡ false
 not_end b line h = ne_eqb b 0x0a (All-head (λ x. x ≢ 0x0a) b line h)

@@ -15,8 +15,8 @@ use Rattle.serde_cbor.specs.declared.error.Error.{Error}
 use Rattle.serde_cbor.specs.Error.{code_of, offset_of, IsOutOfMemory}
 use Rattle.cbor_tool.specs.declared.program.End.TheVariants.{Newline, Input}
 use Rattle.cbor_tool.specs.Run.{AppendsAnswers, IsStoppedBy, IsStopped, ended_lines}
-use Rattle.cbor_tool.specs.Steps.{IsInLine, IsNextLine, StopsAtByteBy, StopsAtByte, StopsReadingBy}
-use Rattle.cbor_tool.specs.Steps.{StopsReading, StopsAnsweringBy, StopsAnswering}
+use Rattle.cbor_tool.specs.RunSteps.{IsInLine, IsNextLine, StopsAtByteBy, StopsAtByte, StopsReadingBy}
+use Rattle.cbor_tool.specs.RunSteps.{StopsReading, StopsAnsweringBy, StopsAnswering}
 use Rattle.cbor_tool.proofs.Lines.{IsWhole, IsWhole-nil, IsWhole-line, lines-last, ended_lines-last}
 use Rattle.cbor_tool.proofs.Lines.{ended_lines-whole, lines-whole_line}
 use Rattle.cbor_tool.proofs.Answers.{AppendsAnswers-nil, AppendsAnswers-append, AppendsAnswers-kept}

@@ -1,3 +1,3 @@
 pub mod Answer
 pub mod Run
-pub mod Steps
+pub mod RunSteps

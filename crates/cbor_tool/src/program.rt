@@ -9,8 +9,8 @@ ghost use Rattle.serde_cbor.specs.Error.{IsOutOfMemory};
 ghost use Rattle.serde_cbor.specs.View.{view};
 ghost use Rattle.serde_cbor.specs.Write.{Wrote};
 ghost use Rattle.cbor_tool.specs.Run.{AppendsAnswers, IsStopped};
-ghost use Rattle.cbor_tool.specs.Steps.{IsNext, IsNextLine, StopsReading, StopsAtByte};
-ghost use Rattle.cbor_tool.specs.Steps.{answered_in, SpellsIn, StopsAnswering, TellsIn};
+ghost use Rattle.cbor_tool.specs.RunSteps.{IsNext, IsNextLine, StopsReading, StopsAtByte};
+ghost use Rattle.cbor_tool.specs.RunSteps.{answered_in, SpellsIn, StopsAnswering, TellsIn};
 
 use hex::FromHexError;
 use serde_cbor::error::{Error, ErrorCode};

@@ -2,7 +2,7 @@
 
 ghost use Rattle.std.specs.Prelude.{map};
 ghost use Rattle.std.specs.String.{string_bytes};
-ghost use Rattle.cbor_tool.specs.Steps.{Chooses};
+ghost use Rattle.cbor_tool.specs.RunSteps.{Chooses};
 
 use crate::program::Mode;
 

@@ -56,7 +56,7 @@ pub use Rattle.cbor_decode_as.specs.Cases
 pub use Rattle.cbor_decode_as.specs.Arrays
 pub use Rattle.cbor_decode_as.specs.Maps
 pub use Rattle.cbor_decode_as.specs.MapAccesses
-pub use Rattle.cbor_decode_as.specs.Opens
+pub use Rattle.cbor_decode_as.specs.TaggedHeads
 pub use Rattle.cbor_decode_as.specs.Scalars
 pub use Rattle.cbor_decode_as.specs.Tags
 pub use Rattle.cbor_decode_as.specs.Strings
@@ -64,7 +64,7 @@ pub use Rattle.cbor_decode_as.specs.Identifiers
 pub use Rattle.cbor_de.specs.Structs
 pub use Rattle.cbor_decode_as.specs.Enums
 pub use Rattle.cbor_decode_as.specs.Variants
-pub use Rattle.cbor_de.specs.Options
+pub use Rattle.cbor_de.specs.Absent
 pub use Rattle.cbor_de.specs.ByteStrings
 pub use Rattle.cbor_ser.specs.Written
 pub use Rattle.cbor_ser.specs.Bytes

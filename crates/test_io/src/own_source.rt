@@ -18,11 +18,11 @@ pub struct VecRead {
 }
 
 impl VecRead {
-    ghost use Rattle.cbor_read.specs.Source.{slice_input, unread_slice};
+    ghost use Rattle.cbor_read.specs.Source.{slice_input, start_of_slice};
 
     fn new(alloc: Global, bytes: Vec<u8>) -> VecRead
         ensures { slice_input result.bytes.items result.taken result.buffer.items None
-            ≡ unread_slice bytes.items None }
+            ≡ start_of_slice bytes.items None }
     {
         VecRead {
             bytes,

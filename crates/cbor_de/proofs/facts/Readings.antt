@@ -5,4 +5,4 @@ pub use Rattle.cbor_de.proofs.Faults.{where_map}
 -- what is read as a value is the value of the item that is read
 pub use Rattle.cbor_decode.proofs.facts.Readings.{along, value_seen}
 -- an item that is read whatever it is, and isn't there, is no item at all
-pub use Rattle.cbor_de.proofs.Fields.{no_item}
+pub use Rattle.cbor_de.proofs.FieldNames.{no_item}

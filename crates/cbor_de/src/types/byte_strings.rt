@@ -13,7 +13,7 @@ use crate::sequence::invalid_length;
 use cbor_value::bytes::{ByteArray, ByteBuf, Bytes};
 use cbor_io::error::{Error, Result};
 use cbor_read::{EitherLifetime, Read};
-use cbor_decode_as::byte_strings::{NO_BYTES, read_byte_string};
+use cbor_decode_as::byte_string::{NO_BYTES, read_byte_string};
 use std::alloc::Global;
 
 /// A byte string. A text isn't one.

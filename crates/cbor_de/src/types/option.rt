@@ -4,12 +4,12 @@ use crate::de::Deserializer;
 use crate::deserialize::{Deserialize, DeserializeOwned, Readable};
 use cbor_io::error::Result;
 use cbor_read::Read;
-use cbor_decode_as::optional::take_null;
+use cbor_decode_as::null::take_null;
 
 // Null is None, by its first byte alone: neither undefined nor a tagged null is.
 impl<T: Readable> Readable for Option<T> {
     ghost use Rattle.cbor_model.specs.Readable.{IsOptional};
-    ghost use Rattle.cbor_decode_as.specs.Options.{UnlessNull};
+    ghost use Rattle.cbor_decode_as.specs.Nulls.{UnlessNull};
 
     ghost reads = { λ c. IsOptional (T.reads c) };
 
@@ -37,7 +37,7 @@ impl<'de, R: Read<'de>, T: Deserialize<'de, R>> Deserialize<'de, R> for Option<T
 }
 
 impl<T: DeserializeOwned> DeserializeOwned for Option<T> {
-    ghost use Rattle.cbor_de.specs.Options.{same_optional};
+    ghost use Rattle.cbor_de.specs.Absent.{same_optional};
 
     ghost same = { λ f a b. same_optional _ _ (T.same f a b) };
 }

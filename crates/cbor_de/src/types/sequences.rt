@@ -1,7 +1,7 @@
 //! Vectors and arrays, which are read from arrays.
 
 ghost use Rattle.std.specs.Prelude.{◌≡◌, IfOk, IfErr, OnOk, vec_len};
-ghost use Rattle.cbor_decode.specs.Gives.{Onward};
+ghost use Rattle.cbor_decode.specs.Gives.{Advances};
 ghost use Rattle.cbor_io.specs.Error.{code_of};
 ghost use Rattle.cbor_model.specs.Readable.{PassesTags};
 ghost use Rattle.cbor_decode_as.specs.Arrays.{AsArray, AreExactly, items_in};
@@ -10,7 +10,7 @@ ghost use Rattle.cbor_de.specs.Forms.{MayTell};
 
 use crate::de::Deserializer;
 use crate::deserialize::{Deserialize, DeserializeOwned, Readable};
-use cbor_decode::room::push_any;
+use cbor_decode::capacity::push_any;
 use cbor_io::error::{Error, Result};
 use cbor_read::Read;
 use std::alloc::AllocError;
@@ -73,7 +73,7 @@ fn exactly<'de, T: Deserialize<'de, R>, R: Read<'de>>(
         (PassesTags (AsArray (AreExactly (T.reads (context de.old.decoder.formats R.lends)) n)))
         de.old.decoder.levels (R.source de.old.decoder.source) (R.source de.new.decoder.source)
         (items_in result) }
-    ensures taken { OnOk result (Onward (R.source de.old.decoder.source)
+    ensures taken { OnOk result (Advances (R.source de.old.decoder.source)
         (R.source de.new.decoder.source)) }
     ensures form { IfErr result (MayTell T.wrong_forms
         (formats_of de.old.decoder.formats) (R.source de.old.decoder.source)) }

@@ -2,7 +2,7 @@
 
 -- some bytes were taken, or none, and then more
 pub use Rattle.cbor_read.proofs.facts.Sources.{kept_some, some_then}
-pub use Rattle.cbor_decode.proofs.Steps.{took_none, took_same, took_stays, onward_some}
+pub use Rattle.cbor_decode.proofs.Steps.{took_none, took_same, took_stays, advances_some}
 -- steps
 pub use Rattle.cbor_decode.proofs.Steps.{step_same, step_map, step_then}
 -- what stops a part stops the whole

@@ -24,7 +24,7 @@ use Rattle.cbor_decode_as.specs.Accesses.{items_at, array_of, IsArrayHead, IsIte
 use Rattle.cbor_decode_as.specs.Arrays.{AsArray}
 use Rattle.cbor_decode_as.specs.Kinds.{kind_of, head_kind}
 use Rattle.cbor_decode_as.specs.Kinds as kind
-use Rattle.cbor_decode_as.specs.Opens.{tagged, Opens}
+use Rattle.cbor_decode_as.specs.TaggedHeads.{tagged, Opens}
 use Rattle.cbor_decode_as.specs.Takes.{raws, IsRead, IsNotRead}
 use Rattle.cbor_decode_as.proofs.facts.Items.{within_tags, untagged-tagged, other_kind, opened_none}
 use Rattle.cbor_decode_as.proofs.facts.Refusals.{refuses}

@@ -12,7 +12,7 @@ use Rattle.cbor_decode.specs.declared.cursor.Remaining.{Remaining}
 use Rattle.cbor_decode.specs.declared.head.Head.{Head}
 use Rattle.cbor_decode.specs.declared.refusal.Refused.{Refused}
 use Rattle.cbor_decode.proofs.facts.Steps.{step_map}
-use Rattle.cbor_decode_as.specs.Opens.{opened_at}
+use Rattle.cbor_decode_as.specs.TaggedHeads.{opened_at}
 use Rattle.cbor_decode_as.specs.Begins.{Begins, NoneBegins, RefusesBeginning}
 use Rattle.cbor_decode_as.proofs.refused.Refusing.{refuses_by, refuses_stopped}
 

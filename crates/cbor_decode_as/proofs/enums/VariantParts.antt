@@ -22,12 +22,12 @@ use Rattle.cbor_decode.specs.declared.formats.Formats.{Formats}
 use Rattle.cbor_decode_as.specs.Accesses.{items_at, array_of, IsArrayHead, IsItems, IsEnd, IsNextItem, TakesEnd, TakesHead, RefusesArray}
 use Rattle.cbor_decode_as.specs.Arrays.{AsArray, AreNone, FirstThen}
 use Rattle.cbor_decode_as.specs.Enums.{Content, alone, one, parts, IsPart, IsNothing}
-use Rattle.cbor_decode_as.specs.Opens.{in_tags, tagged}
+use Rattle.cbor_decode_as.specs.TaggedHeads.{in_tags, tagged}
 use Rattle.cbor_decode_as.specs.Takes.{formats_of, raws, IsRead, IsNotRead, Refuses, TakesItem}
 use Rattle.cbor_decode_as.specs.Variants.{content_at, IsContent, IsNoContent, IsItemsOf, IsPartsHead, RefusesParts, Coming, TakesContent, TakesParts, IsInside, IsEntered}
 use Rattle.cbor_decode_as.specs.declared.variant.Form.{Form}
 use Rattle.cbor_decode_as.specs.declared.variant.Form.TheVariants as form
-use Rattle.cbor_decode_as.proofs.heads.FirstByte.{Stands}
+use Rattle.cbor_decode_as.proofs.heads.FirstByte.{IsFirst}
 use Rattle.cbor_decode_as.proofs.arrays.Nexts.{NoPart}
 use Rattle.cbor_decode_as.proofs.refused.Refusing.{refuses_map, refuses_then}
 use Rattle.cbor_decode_as.proofs.facts.Items.{untagged-tagged}
@@ -255,8 +255,8 @@ break_left : (behind : reader.Remaining) (mid bs rest : List ℕ) → bs ≡ 0xf
 unfolding next_at
 break_left behind mid bs rest e = (mid, rw e refl)
 
-pub break_comes : (s t : Input) (behind : reader.Remaining) (b : ℕ) → b ≡ 0xff → Step s t (λ l bs rest. Stands b bs rest) → Step s t (λ l bs rest. Coming reader.to_break behind false bs rest)
-break_comes s t behind b is = step_map s t (λ l bs rest. Stands b bs rest) (λ l bs rest. Coming reader.to_break behind false bs rest)
+pub break_comes : (s t : Input) (behind : reader.Remaining) (b : ℕ) → b ≡ 0xff → Step s t (λ l bs rest. IsFirst b bs rest) → Step s t (λ l bs rest. Coming reader.to_break behind false bs rest)
+break_comes s t behind b is = step_map s t (λ l bs rest. IsFirst b bs rest) (λ l bs rest. Coming reader.to_break behind false bs rest)
     (λ l bs rest h. break_left behind h.others bs rest (h.is ∙ ap (λ (n : ℕ). n ∷ h.others) is))
 
 pub parts_answer : (f : model.Formats) (levels inner : ℕ) (s t : Input) (allowed : ReadErrorCode → Bool) (r : Result Remaining Error) → TakesHead allowed f levels s t inner r → TakesParts allowed f levels form.Map s t inner r

@@ -26,7 +26,7 @@ use Rattle.cbor_decode_as.specs.Tags.{IsBehindTags}
 use Rattle.cbor_decode_as.specs.declared.variant.Form.{Form}
 use Rattle.cbor_decode_as.specs.declared.variant.Shape.{Shape}
 use Rattle.cbor_decode_as.specs.declared.variant.Shape.TheVariants as shape
-use Rattle.cbor_decode_as.specs.Opens.{in_tags, tagged}
+use Rattle.cbor_decode_as.specs.TaggedHeads.{in_tags, tagged}
 use Rattle.cbor_decode_as.proofs.facts.Items.{within_tags, untagged-tagged}
 use Rattle.cbor_decode_as.proofs.facts.Items.{item_opened}
 use Rattle.cbor_decode_as.proofs.enums.VariantHeads.{array_first, map_first, unassigned_first}

@@ -21,7 +21,7 @@ use Rattle.cbor_decode_as.specs.Enums.{IsVariant, IsName, Content, alone, one, p
 use Rattle.cbor_decode_as.specs.Identifiers.{IsIdentifier, IsFirst, IsPlace}
 use Rattle.cbor_decode_as.specs.Kinds.{kind_of}
 use Rattle.cbor_decode_as.specs.Kinds as kind
-use Rattle.cbor_decode_as.specs.Opens.{in_tags, tagged}
+use Rattle.cbor_decode_as.specs.TaggedHeads.{in_tags, tagged}
 use Rattle.cbor_decode_as.specs.Takes.{raws, IsRead, IsNotRead, Refuses}
 use Rattle.cbor_decode_as.specs.Variants.{IsVariantHead, HasShape, IsAlone, RefusesShaped}
 use Rattle.cbor_decode_as.specs.declared.variant.Form.TheVariants as form

@@ -8,17 +8,17 @@ use Rattle.cbor_model.specs.Reader.{Fault, Reads, byte_at, tag_at, item_at, insi
 use Rattle.cbor_read.specs.Source.{Input}
 use Rattle.cbor_io.specs.declared.read_error.ReadError.{ReadError}
 use Rattle.cbor_io.specs.declared.read_error.ReadErrorCode.{ReadErrorCode}
-use Rattle.cbor_decode.specs.Gives.{Limits, Onward, Step, Stopped}
+use Rattle.cbor_decode.specs.Gives.{Limits, Advances, Step, Stopped}
 use Rattle.cbor_decode.specs.Heads.{HeadGives, opening_at, head_at, behind_head}
 use Rattle.cbor_decode.specs.declared.head.Head.{Head}
 use Rattle.cbor_decode.specs.declared.head.Head.TheVariants as head
 use Rattle.cbor_decode.specs.declared.refusal.Refused.{Refused}
 use Rattle.cbor_decode.proofs.facts.Heads.{item_opened}
-use Rattle.cbor_decode.proofs.facts.Steps.{onward_some, step_map, step_then, stopped_map, stopped_then}
+use Rattle.cbor_decode.proofs.facts.Steps.{advances_some, step_map, step_then, stopped_map, stopped_then}
 use Rattle.cbor_decode_as.specs.Kinds.{head_kind}
 use Rattle.cbor_decode_as.specs.Kinds as kind
 use Rattle.cbor_decode_as.specs.Takes.{raws}
-use Rattle.cbor_decode_as.specs.Opens.{in_tags, Opens, item_inside, OpensAt, OpensItem}
+use Rattle.cbor_decode_as.specs.TaggedHeads.{in_tags, Opens, item_inside, OpensAt, OpensItem}
 
 -- ---- a head, and what is after it
 
@@ -50,14 +50,14 @@ head_taken allowed s t u b kept (Err r) first given =
     stopped_then allowed (λ l. head_at b) (λ l. opening_at) s t kept r (λ l bs rest. byte_at bs ≡ Ok (b, rest)) (λ l bs mid f here is. rw here is) first given
 
 -- a byte at the least is taken of it
-pub head_onward : (allowed : ReadErrorCode → Bool) (read : List ℕ → Reads (HeadWidth × Head)) (s t u : Input) (kept : ReadError) (r : Result Head Refused) → Onward s t → HeadGives allowed read t u kept r → OnOk r (Onward s u)
-head_onward allowed read s t u kept (Ok h) first step = onward_some s t u first step.took
-head_onward allowed read s t u kept (Err r) first h = tt
+pub head_advances : (allowed : ReadErrorCode → Bool) (read : List ℕ → Reads (HeadWidth × Head)) (s t u : Input) (kept : ReadError) (r : Result Head Refused) → Advances s t → HeadGives allowed read t u kept r → OnOk r (Advances s u)
+head_advances allowed read s t u kept (Ok h) first step = advances_some s t u first step.took
+head_advances allowed read s t u kept (Err r) first h = tt
 
 -- and of what follows it no byte is given back
-pub onward_on : {X W : Type 0} (s t u : Input) (r : Result X W) → Onward s t → OnOk r (Onward t u) → OnOk r (Onward s u)
-onward_on s t u (Ok x) first h = record { further = omega (arith, first.further, h.further); counted = first.counted }
-onward_on s t u (Err w) first h = tt
+pub advances_on : {X W : Type 0} (s t u : Input) (r : Result X W) → Advances s t → OnOk r (Advances t u) → OnOk r (Advances s u)
+advances_on s t u (Ok x) first h = record { further = omega (arith, first.further, h.further); counted = first.counted }
+advances_on s t u (Err w) first h = tt
 
 -- ---- after a tag
 

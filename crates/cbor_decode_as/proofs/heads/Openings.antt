@@ -14,7 +14,7 @@ use Rattle.cbor_decode.specs.declared.refusal.Refused.{Refused}
 use Rattle.cbor_decode.proofs.facts.Steps.{step_map, step_then, stopped_map, stopped_then}
 use Rattle.cbor_decode_as.specs.Kinds.{head_kind}
 use Rattle.cbor_decode_as.specs.Kinds as kind
-use Rattle.cbor_decode_as.specs.Opens.{opened_by, opened_from, opened_at, opened_inside}
+use Rattle.cbor_decode_as.specs.TaggedHeads.{opened_by, opened_from, opened_at, opened_inside}
 
 -- ---- lists of bytes
 

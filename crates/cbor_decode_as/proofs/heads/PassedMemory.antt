@@ -14,9 +14,9 @@ use Rattle.cbor_decode.specs.declared.head.Head.{Head}
 use Rattle.cbor_decode.specs.declared.head.Head.TheVariants as head
 use Rattle.cbor_decode.proofs.facts.Heads.{item_opened}
 use Rattle.cbor_decode.proofs.facts.Memory.{asks_on}
-use Rattle.cbor_decode_as.specs.Opens.{AsksBehind, opened_at, opened_by}
+use Rattle.cbor_decode_as.specs.TaggedHeads.{AsksBehind, opened_at, opened_by}
 use Rattle.cbor_decode_as.specs.Takes.{OfItem, raws}
-use Rattle.cbor_decode_as.specs.declared.opening.Found.{Found}
+use Rattle.cbor_decode_as.specs.declared.head.HeadAt.{HeadAt}
 use Rattle.cbor_decode_as.proofs.heads.Openings.{inner, opened_is}
 
 -- ---- after the head of an item within its tags
@@ -66,7 +66,7 @@ module _ (l : Limits) where
 
 -- ---- memory
 
-module _ (a : Asks) (found : Found) (levels : ℕ) (s m : Input) (opens : Step s m (λ l bs rest. opened_at levels bs ≡ Ok ((found.levels, found.head), rest))) where
+module _ (a : Asks) (found : HeadAt) (levels : ℕ) (s m : Input) (opens : Step s m (λ l bs rest. opened_at levels bs ≡ Ok ((found.levels, found.head), rest))) where
   pub behind_asks : AsksBehind a found m → OfItem (λ r. AsksWhere a (HasChunks r)) all_formats levels s
   behind_asks h bs tells r rest is =
       let one = opens.told bs tells in

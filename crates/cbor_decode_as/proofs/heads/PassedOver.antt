@@ -20,9 +20,9 @@ use Rattle.cbor_decode.specs.declared.head.Head.TheVariants as head
 use Rattle.cbor_decode.specs.declared.refusal.Refused.{Refused}
 use Rattle.cbor_decode.proofs.facts.Heads.{item_opened, value_behind}
 use Rattle.cbor_decode.proofs.facts.Steps.{passed_on, passed_was, passed_stops, step_then, why_map, why_then}
-use Rattle.cbor_decode_as.specs.Opens.{opened_by, opened_at, behind_any, RefusesBehind, StandsBehind}
-use Rattle.cbor_decode_as.specs.Takes.{ExcusedBy, FaultOrMessage, IsMessage, TellsItem, TellsOf, WhereTotal, IsMessageBy, RefusesWhole, Stands, TellsFault, any_item}
-use Rattle.cbor_decode_as.specs.declared.opening.Found.{Found}
+use Rattle.cbor_decode_as.specs.TaggedHeads.{opened_by, opened_at, behind_any, RefusesBehind, StandsBehind}
+use Rattle.cbor_decode_as.specs.Takes.{ExcusedBy, FaultOrMessage, IsMessage, TellsItem, TellsOf, WhereTotal, IsMessageBy, RefusesWhole, HasItem, TellsFault, any_item}
+use Rattle.cbor_decode_as.specs.declared.head.HeadAt.{HeadAt}
 use Rattle.cbor_decode_as.proofs.heads.Openings.{inner, opened_is}
 use Rattle.cbor_decode_as.proofs.numbers.Scalars.{excused_or, told_why}
 
@@ -134,19 +134,19 @@ pub excused_whole : (allowed : ReadErrorCode → Bool) (levels : ℕ) (s : Input
 excused_whole allowed levels s e h bs tells = excused_fault (Reports allowed) (code_of e) (s.offset + length bs) (offset_of e) (any_item levels (limits s bs) bs) (h bs tells)
 
 -- a message, where an item is there
-pub stands_whole : (allowed : ReadErrorCode → Bool) (levels : ℕ) (s : Input) (e : Error) (text : Option (List ℕ)) → IsMessageOf text (code_of e) → offset_of e ≡ 0 → Stands levels s → RefusesWhole allowed levels s e
+pub stands_whole : (allowed : ReadErrorCode → Bool) (levels : ℕ) (s : Input) (e : Error) (text : Option (List ℕ)) → IsMessageOf text (code_of e) → offset_of e ≡ 0 → HasItem levels s → RefusesWhole allowed levels s e
 stands_whole allowed levels s e text is none stands bs tells =
     let D = Reports allowed in
     let item = stands bs tells in
     message_of D (code_of e) (s.offset + length bs) (offset_of e) (any_item levels (limits s bs) bs) (item.0, item.1) item.2 (message_by D text (code_of e) (offset_of e) is none)
 
-pub stands_err : {X : Type 0} (allowed : ReadErrorCode → Bool) (levels : ℕ) (s : Input) (r : Result X Error) → IfErr r IsMessage → Stands levels s → IfErr r (RefusesWhole allowed levels s)
+pub stands_err : {X : Type 0} (allowed : ReadErrorCode → Bool) (levels : ℕ) (s : Input) (r : Result X Error) → IfErr r IsMessage → HasItem levels s → IfErr r (RefusesWhole allowed levels s)
 stands_err allowed levels s (Ok x) is stands = tt
 stands_err allowed levels s (Err e) is stands = stands_whole allowed levels s e None is.0 is.1 stands
 
 -- ---- what follows a head
 
-module _ (allowed : ReadErrorCode → Bool) (found : Found) where
+module _ (allowed : ReadErrorCode → Bool) (found : HeadAt) where
   abbrev behind : Limits → List ℕ → Reads Val
   behind = behind_any found.levels found.head
 
@@ -191,7 +191,7 @@ module _ (allowed : ReadErrorCode → Bool) (found : Found) where
       let there = subst (λ (i : Limits). FaultOrMessage D k (s.offset + length bs) at (behind i one.rest)) same here in
       fault_alike D k (s.offset + length bs) at (behind l one.rest) (any_item levels l bs) (sym (found_is l levels found.levels found.head bs one.rest one.holds)) there
 
-  pub behind_stands : (levels : ℕ) (s m t : Input) → Step s m (Follows levels) → Step m t (λ l bs rest. passes l bs ≡ Ok (tt, rest)) → Stands levels s
+  pub behind_stands : (levels : ℕ) (s m t : Input) → Step s m (Follows levels) → Step m t (λ l bs rest. passes l bs ≡ Ok (tt, rest)) → HasItem levels s
   behind_stands levels s m t step next bs tells =
       let l = limits s bs in
       let both = step_then s m t (Follows levels) (λ l bs rest. passes l bs ≡ Ok (tt, rest)) (λ l bs rest. passed (any_item levels l bs) ≡ Ok (tt, rest)) (λ l bs mid rest is was. found_is l levels found.levels found.head bs mid is ∙ was) step next in
@@ -199,7 +199,7 @@ module _ (allowed : ReadErrorCode → Bool) (found : Found) where
       let item = passed_was (any_item levels l bs) got.rest got.holds in
       (item.0, got.rest, item.1)
 
-  pub stood_stands : (levels : ℕ) (s m : Input) → Step s m (Follows levels) → StandsBehind found m → Stands levels s
+  pub stood_stands : (levels : ℕ) (s m : Input) → Step s m (Follows levels) → StandsBehind found m → HasItem levels s
   stood_stands levels s m step stood bs tells =
       let l = limits s bs in
       let one = step.told bs tells in
@@ -213,7 +213,7 @@ module _ (allowed : ReadErrorCode → Bool) (found : Found) where
   behind_stops levels s m kept r step h = why_then allowed passes (any_item levels) s m kept r (Follows levels) (λ l bs mid f is stops. passed_stops (any_item levels l bs) f (found_is l levels found.levels found.head bs mid is ∙ stops)) step h
 
 -- a number is whole with its head
-pub number_message : (allowed : ReadErrorCode → Bool) (found : Found) (s : Input) (e : Error) (text : Option (List ℕ)) (n : ℕ) → IsMessageOf text (code_of e) → offset_of e ≡ 0 → (found.head ≡ head.Unsigned n) ⊎ (found.head ≡ head.Negative n) → RefusesBehind allowed found s e
+pub number_message : (allowed : ReadErrorCode → Bool) (found : HeadAt) (s : Input) (e : Error) (text : Option (List ℕ)) (n : ℕ) → IsMessageOf text (code_of e) → offset_of e ≡ 0 → (found.head ≡ head.Unsigned n) ⊎ (found.head ≡ head.Negative n) → RefusesBehind allowed found s e
 number_message allowed found s e text n is none which bs tells =
     let D = Reports allowed in
     let l = limits s bs in
@@ -224,7 +224,7 @@ number_message allowed found s e text n is none which bs tells =
     ]
 
 -- so is a float
-pub float_stands : (allowed : ReadErrorCode → Bool) (found : Found) (levels : ℕ) (s m : Input) (x : Float) → found.head ≡ head.Float x → Step s m (λ l bs rest. opened_at levels bs ≡ Ok ((found.levels, found.head), rest)) → Stands levels s
+pub float_stands : (allowed : ReadErrorCode → Bool) (found : HeadAt) (levels : ℕ) (s m : Input) (x : Float) → found.head ≡ head.Float x → Step s m (λ l bs rest. opened_at levels bs ≡ Ok ((found.levels, found.head), rest)) → HasItem levels s
 float_stands allowed found levels s m x is step =
     stood_stands allowed found levels s m step (λ bs tells. (float_view x, bs, ap (λ (h : Head). behind_any found.levels h (limits m bs) bs) is))
 

@@ -10,7 +10,7 @@ use Rattle.cbor_io.specs.declared.read_error.ReadErrorCode.{ReadErrorCode}
 use Rattle.cbor_decode.specs.Gives.{Limits, Step, Stopped, Gives}
 use Rattle.cbor_decode.specs.declared.refusal.Refused.{Refused}
 use Rattle.cbor_decode.proofs.facts.Steps.{step_map, step_then, stopped_map, stopped_then}
-use Rattle.cbor_decode_as.specs.Opens.{in_tags}
+use Rattle.cbor_decode_as.specs.TaggedHeads.{in_tags}
 use Rattle.cbor_decode_as.specs.Tags.{begins_tag, entered_at, tag_behind, tag_head_at, passed_by, passed_from, passed_at}
 use Rattle.cbor_decode_as.specs.Takes.{raws}
 use Rattle.cbor_decode_as.specs.Tags.{IsBehindTags, PassesAll}

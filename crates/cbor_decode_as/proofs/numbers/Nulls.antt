@@ -29,7 +29,7 @@ use Rattle.cbor_decode_as.specs.Takes.{FaultOrMessage, RefusesWhole, any_item}
 use Rattle.cbor_decode_as.proofs.heads.PassedOver.{stopped_whole}
 use Rattle.cbor_model.specs.Plain.{Val}
 use Rattle.cbor_decode_as.specs.Takes.{raws, IsRead, IsNotRead, MemoryFor, Refuses}
-use Rattle.cbor_decode_as.specs.Options.{UnlessNull, null_at}
+use Rattle.cbor_decode_as.specs.Nulls.{UnlessNull, null_at}
 use Rattle.cbor_decode_as.proofs.heads.OfKind.{kinds}
 use Rattle.cbor_decode.proofs.facts.Heads.{item_opened}
 use Rattle.cbor_decode_as.proofs.numbers.Scalars.{refuses, no_null}

@@ -18,7 +18,7 @@ use Rattle.cbor_decode.specs.Heads.{behind_head}
 use Rattle.cbor_decode.specs.declared.head.Head.{Head}
 use Rattle.cbor_decode.specs.declared.head.Head.TheVariants as head
 use Rattle.cbor_decode_as.specs.Takes.{raws, IsRead, IsNotRead, Refuses}
-use Rattle.cbor_decode_as.specs.Opens.{OpensItem}
+use Rattle.cbor_decode_as.specs.TaggedHeads.{OpensItem}
 use Rattle.cbor_decode_as.specs.Kinds.{kind_of, head_kind}
 use Rattle.cbor_decode_as.specs.Kinds as kind
 use Rattle.cbor_decode_as.specs.Scalars.{IsNumber}

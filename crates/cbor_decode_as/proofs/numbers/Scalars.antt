@@ -25,7 +25,7 @@ use Rattle.cbor_decode.specs.declared.refusal.Refused.{Refused}
 use Rattle.cbor_decode.specs.declared.refusal.Refused.TheVariants as refused
 use Rattle.cbor_decode.proofs.facts.Steps.{some_then, step_map}
 use Rattle.cbor_decode_as.specs.Takes.{raws, IsRead, IsNotRead, ExcusedBy, MemoryFor, Refuses, TellsFault}
-use Rattle.cbor_decode_as.specs.Opens.{tagged, in_tags, Opens, OpensItem}
+use Rattle.cbor_decode_as.specs.TaggedHeads.{tagged, in_tags, Opens, OpensItem}
 use Rattle.cbor_decode_as.specs.Kinds.{kind_of, head_kind}
 use Rattle.cbor_decode_as.specs.Kinds as kind
 use Rattle.cbor_decode_as.specs.Scalars.{IsFloatItem}

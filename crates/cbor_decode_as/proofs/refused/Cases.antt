@@ -21,7 +21,7 @@ use Rattle.cbor_decode.specs.declared.cursor.Remaining.{Remaining}
 use Rattle.cbor_decode.specs.Heads.{remaining_of}
 use Rattle.cbor_decode.specs.Cursor.{behind_next}
 use Rattle.cbor_decode_as.specs.Accesses.{IsArrayHead}
-use Rattle.cbor_decode_as.specs.Cases.{Cases, Stands, StandsBy, NoItemHere, IsEmptyArray, IsInOtherForm, IsBadPair, TellsTooShort, form_cases, untagged_cases, enum_cases, unit_cases, key_cases}
+use Rattle.cbor_decode_as.specs.Cases.{Cases, HasCase, CaseHolds, NoItemHere, IsEmptyArray, IsInOtherForm, IsBadPair, TellsTooShort, form_cases, untagged_cases, enum_cases, unit_cases, key_cases}
 use Rattle.cbor_decode_as.specs.Identifiers.{IsMadeBy, NamesNoKey}
 use Rattle.cbor_decode_as.specs.MapAccesses.{key_front}
 use Rattle.cbor_decode_as.specs.declared.identifier.Why.{Why}
@@ -34,7 +34,7 @@ use Rattle.cbor_decode_as.specs.declared.variant.Shape.{Shape}
 use Rattle.cbor_decode_as.proofs.facts.Refusals.{excused_or, told_by}
 
 -- no case is asked of another code
-other_code : (cases : Cases) (k : ErrorCode) (at : ℕ) → TellsNoForm k → StandsBy cases k at
+other_code : (cases : Cases) (k : ErrorCode) (at : ℕ) → TellsNoForm k → CaseHolds cases k at
 other_code cases code.ArrayTooShort at h = absurd h
 other_code cases code.ArrayTooLong at h = absurd h
 other_code cases code.WrongEnumFormat at h = absurd h
@@ -54,11 +54,11 @@ other_code cases code.TrailingData at h = tt
 other_code cases code.RecursionLimitExceeded at h = tt
 other_code cases code.OutOfMemory at h = tt
 
-pub other_stands : (s : Input) (e : Error) (cases : Limits → List ℕ → Cases) → TellsNoForm (code_of e) → Stands s e cases
+pub other_stands : (s : Input) (e : Error) (cases : Limits → List ℕ → Cases) → TellsNoForm (code_of e) → HasCase s e cases
 other_stands s e cases other = record { told = λ bs tells. other_code (cases (limits s bs) bs) (code_of e) (offset_of e) other }
 
 -- a fault of a reading has no case but the key rule's
-of_fault : {A : Type 0} (D : Type 0) (cases : Cases) (k : ErrorCode) (end at : ℕ) (read : Reads A) → (FailsAs wrong_struct_format end at read → cases.wrong_struct at) → FailsBy D k end at read → StandsBy cases k at
+of_fault : {A : Type 0} (D : Type 0) (cases : Cases) (k : ErrorCode) (end at : ℕ) (read : Reads A) → (FailsAs wrong_struct_format end at read → cases.wrong_struct at) → FailsBy D k end at read → CaseHolds cases k at
 of_fault D cases code.ArrayTooShort end at read on h = absurd h
 of_fault D cases code.ArrayTooLong end at read on h = absurd h
 of_fault D cases code.WrongEnumFormat end at read on h = absurd h
@@ -79,14 +79,14 @@ of_fault D cases code.RecursionLimitExceeded end at read on h = tt
 of_fault D cases code.OutOfMemory end at read on h = tt
 
 pub stopped_stands : {A : Type 0} {w : Input} (allowed : ReadErrorCode → Bool) (read : Limits → List ℕ → Reads A) (s : Input) (kept : ReadError) (r : Refused) (e : Error) (cases : Limits → List ℕ → Cases)
-    → ((l : Limits) (bs : List ℕ) (at : ℕ) → FailsAs wrong_struct_format l.total at (read l bs) → (cases l bs).wrong_struct at) → IsErrorOf kept r e → Stopped allowed read s w kept r → Stands s e cases
+    → ((l : Limits) (bs : List ℕ) (at : ℕ) → FailsAs wrong_struct_format l.total at (read l bs) → (cases l bs).wrong_struct at) → IsErrorOf kept r e → Stopped allowed read s w kept r → HasCase s e cases
 stopped_stands allowed read s kept r e cases on made h = record {
   told = λ bs tells.
       of_fault (Reports allowed) (cases (limits s bs) bs) (code_of e) (s.offset + length bs) (offset_of e) (read (limits s bs) bs) (on (limits s bs) bs (offset_of e)) (told_by allowed read s kept r e made h bs tells);
 }
 
 -- one case for another
-code_stands : (c d : Cases) (k : ErrorCode) (at : ℕ) → (c.too_short at → d.too_short at) → (c.too_long at → d.too_long at) → (c.wrong_enum at → d.wrong_enum at) → (c.wrong_struct at → d.wrong_struct at) → StandsBy c k at → StandsBy d k at
+code_stands : (c d : Cases) (k : ErrorCode) (at : ℕ) → (c.too_short at → d.too_short at) → (c.too_long at → d.too_long at) → (c.wrong_enum at → d.wrong_enum at) → (c.wrong_struct at → d.wrong_struct at) → CaseHolds c k at → CaseHolds d k at
 code_stands c d code.ArrayTooShort at short long enum key h = short h
 code_stands c d code.ArrayTooLong at short long enum key h = long h
 code_stands c d code.WrongEnumFormat at short long enum key h = enum h
@@ -113,39 +113,39 @@ pub record Carries (P : Limits → List ℕ → List ℕ → Type 0) (c d : Limi
   pub enum : (l : Limits) (bs rest : List ℕ) (at : ℕ) → P l bs rest → (c l rest).wrong_enum at → (d l bs).wrong_enum at
   pub key : (l : Limits) (bs rest : List ℕ) (at : ℕ) → P l bs rest → (c l rest).wrong_struct at → (d l bs).wrong_struct at
 
-pub stands_then : (s t : Input) (e : Error) (P : Limits → List ℕ → List ℕ → Type 0) (c d : Limits → List ℕ → Cases) → Carries P c d → Step s t P → Stands t e c → Stands s e d
+pub stands_then : (s t : Input) (e : Error) (P : Limits → List ℕ → List ℕ → Type 0) (c d : Limits → List ℕ → Cases) → Carries P c d → Step s t P → HasCase t e c → HasCase s e d
 stands_then s t e P c d on step h = record {
   told = λ bs tells.
       let one = step.told bs tells in
       let same : limits t one.rest ≡ limits s bs = ap₂ (λ (n : ℕ) (r : Option ℕ). record { total = n; room = r }) one.total step.took.room in
       let l = limits s bs in
-      let there = subst (λ (l : Limits). StandsBy (c l one.rest) (code_of e) (offset_of e)) same (h.told one.rest one.tells) in
+      let there = subst (λ (l : Limits). CaseHolds (c l one.rest) (code_of e) (offset_of e)) same (h.told one.rest one.tells) in
       code_stands (c l one.rest) (d l bs) (code_of e) (offset_of e)
       (on.short l bs one.rest (offset_of e) one.holds) (on.long l bs one.rest (offset_of e) one.holds) (on.enum l bs one.rest (offset_of e) one.holds) (on.key l bs one.rest (offset_of e) one.holds) there;
 }
 
 -- ---- calls
 
-pub others_stand : {X : Type 0} (s : Input) (cases : Limits → List ℕ → Cases) (r : Result X Error) → IfErr r (λ e. TellsNoForm (code_of e)) → IfErr r (λ e. Stands s e cases)
+pub others_stand : {X : Type 0} (s : Input) (cases : Limits → List ℕ → Cases) (r : Result X Error) → IfErr r (λ e. TellsNoForm (code_of e)) → IfErr r (λ e. HasCase s e cases)
 others_stand s cases (Ok x) h = tt
 others_stand s cases (Err e) h = other_stands s e cases h
 
 -- an enum's form is that of an enum within no tag
-form_stands : (f : Formats) (levels : ℕ) (s : Input) (e : Error) → Stands s e (form_cases f) → Stands s e (untagged_cases f levels)
+form_stands : (f : Formats) (levels : ℕ) (s : Input) (e : Error) → HasCase s e (form_cases f) → HasCase s e (untagged_cases f levels)
 form_stands f levels s e h = record {
   told = λ bs tells.
       code_stands (form_cases f (limits s bs) bs) (untagged_cases f levels (limits s bs) bs) (code_of e) (offset_of e) (λ h. absurd h) (λ h. h) (λ h. h) (λ h. absurd h) (h.told bs tells);
 }
 
-pub forms_stand : {X : Type 0} (f : Formats) (levels : ℕ) (s : Input) (r : Result X Error) → IfErr r (λ e. Stands s e (form_cases f)) → IfErr r (λ e. Stands s e (untagged_cases f levels))
+pub forms_stand : {X : Type 0} (f : Formats) (levels : ℕ) (s : Input) (r : Result X Error) → IfErr r (λ e. HasCase s e (form_cases f)) → IfErr r (λ e. HasCase s e (untagged_cases f levels))
 forms_stand f levels s (Ok x) h = tt
 forms_stand f levels s (Err e) h = form_stands f levels s e h
 
 -- the enum begins where nothing was taken
-pub shaped_stand : {X : Type 0} (f g : Formats) (levels n : ℕ) (s a : Input) (x : Shape) (r : Result X Error) → g ≡ f → n ≡ levels → Step s a (λ l bs rest. IsShaped x bs rest) → IfErr r (λ e. Stands a e (untagged_cases g n)) → IfErr r (λ e. Stands s e (untagged_cases f levels))
+pub shaped_stand : {X : Type 0} (f g : Formats) (levels n : ℕ) (s a : Input) (x : Shape) (r : Result X Error) → g ≡ f → n ≡ levels → Step s a (λ l bs rest. IsShaped x bs rest) → IfErr r (λ e. HasCase a e (untagged_cases g n)) → IfErr r (λ e. HasCase s e (untagged_cases f levels))
 shaped_stand f g levels n s a x (Ok v) formats same step h = tt
 shaped_stand f g levels n s a x (Err e) formats same step h =
-    let there = subst (λ (k : ℕ). Stands a e (untagged_cases f k)) same (subst (λ (k : Formats). Stands a e (untagged_cases k n)) formats h) in
+    let there = subst (λ (k : ℕ). HasCase a e (untagged_cases f k)) same (subst (λ (k : Formats). HasCase a e (untagged_cases k n)) formats h) in
     stands_then s a e (λ l bs rest. IsShaped x bs rest) (untagged_cases f levels) (untagged_cases f levels) (record {
       short = λ l bs rest at here h. subst (λ (b : List ℕ). IsEmptyArray f levels l b at) here.1 h;
       long = λ l bs rest at here h. h;
@@ -154,7 +154,7 @@ shaped_stand f g levels n s a x (Err e) formats same step h =
     }) step there
 
 -- the enum begins after its tags
-pub tagged_stand : {X : Type 0} (f g : Formats) (levels left : ℕ) (s a : Input) (r : Result X Error) → g ≡ f → Step s a (λ l bs rest. IsBehindTags f l (item_at (raws f l) levels bs) left rest) → IfErr r (λ e. Stands a e (untagged_cases g left)) → IfErr r (λ e. Stands s e (enum_cases f levels))
+pub tagged_stand : {X : Type 0} (f g : Formats) (levels left : ℕ) (s a : Input) (r : Result X Error) → g ≡ f → Step s a (λ l bs rest. IsBehindTags f l (item_at (raws f l) levels bs) left rest) → IfErr r (λ e. HasCase a e (untagged_cases g left)) → IfErr r (λ e. HasCase s e (enum_cases f levels))
 tagged_stand f g levels left s a (Ok v) formats step h = tt
 tagged_stand f g levels left s a (Err e) formats step h =
     stands_then s a e (λ l bs rest. IsBehindTags f l (item_at (raws f l) levels bs) left rest) (untagged_cases f left) (enum_cases f levels) (record {
@@ -162,30 +162,30 @@ tagged_stand f g levels left s a (Err e) formats step h =
       long = λ l bs rest at behind h. h;
       enum = λ l bs rest at behind h. record { left = left; rest = rest; behind = behind; holds = h };
       key = λ l bs rest at behind h. record { left = left; rest = rest; behind = behind; holds = h };
-    }) step (subst (λ (k : Formats). Stands a e (untagged_cases k left)) formats h)
+    }) step (subst (λ (k : Formats). HasCase a e (untagged_cases k left)) formats h)
 
 -- no first item comes of an array
-pub empty_stands : (f : Formats) (levels left : ℕ) (remaining : Remaining) (s a : Input) (e : Error) → Step s a (λ l bs rest. IsArrayHead f l (item_at (raws f l) levels bs) left remaining rest) → TellsNoForm (code_of e) ⊎ NoItemHere code.ArrayTooShort remaining a e → Stands s e (untagged_cases f levels)
+pub empty_stands : (f : Formats) (levels left : ℕ) (remaining : Remaining) (s a : Input) (e : Error) → Step s a (λ l bs rest. IsArrayHead f l (item_at (raws f l) levels bs) left remaining rest) → TellsNoForm (code_of e) ⊎ NoItemHere code.ArrayTooShort remaining a e → HasCase s e (untagged_cases f levels)
 empty_stands f levels left remaining s a e step (inl other) = other_stands s e (untagged_cases f levels) other
 empty_stands f levels left remaining s a e step (inr none) = record {
   told = λ bs tells.
       let one = step.told bs tells in
       let place : offset_of e + length one.rest ≡ s.offset + length bs = omega (arith, none.place, one.total) in
-      subst (λ (k : ErrorCode). StandsBy (untagged_cases f levels (limits s bs) bs) k (offset_of e)) (sym none.code)
+      subst (λ (k : ErrorCode). CaseHolds (untagged_cases f levels (limits s bs) bs) k (offset_of e)) (sym none.code)
       (record { left = left; remaining = remaining; rest = one.rest; head = one.holds; place = place; none = none.told one.rest one.tells });
 }
 
 -- the key of a map of one pair may not begin as it does
-pub pair_stands : {w : Input} (allowed : ReadErrorCode → Bool) (f : Formats) (levels : ℕ) (s : Input) (kept : ReadError) (r : Refused) (e : Error) → IsErrorOf kept r e → Stopped allowed (λ l. pair_head_at f levels) s w kept r → Stands s e (untagged_cases f levels)
+pub pair_stands : {w : Input} (allowed : ReadErrorCode → Bool) (f : Formats) (levels : ℕ) (s : Input) (kept : ReadError) (r : Refused) (e : Error) → IsErrorOf kept r e → Stopped allowed (λ l. pair_head_at f levels) s w kept r → HasCase s e (untagged_cases f levels)
 pair_stands allowed f levels s kept r e made h = stopped_stands allowed (λ l. pair_head_at f levels) s kept r e (untagged_cases f levels) (λ l bs at h. h) made h
 
 -- an array ends where an item was wanted
-pub full_stands : (remaining : Remaining) (s : Input) (e : Error) → TellsNoForm (code_of e) ⊎ NoItemHere code.ArrayTooLong remaining s e → Stands s e (unit_cases (form.Array remaining))
+pub full_stands : (remaining : Remaining) (s : Input) (e : Error) → TellsNoForm (code_of e) ⊎ NoItemHere code.ArrayTooLong remaining s e → HasCase s e (unit_cases (form.Array remaining))
 full_stands remaining s e (inl other) = other_stands s e (unit_cases (form.Array remaining)) other
 full_stands remaining s e (inr none) = record {
   told = λ bs tells.
       let place : offset_of e + length bs ≡ s.offset + length bs = omega (arith, none.place) in
-      subst (λ (k : ErrorCode). StandsBy (unit_cases (form.Array remaining) (limits s bs) bs) k (offset_of e)) (sym none.code) (place, none.told bs tells);
+      subst (λ (k : ErrorCode). CaseHolds (unit_cases (form.Array remaining) (limits s bs) bs) k (offset_of e)) (sym none.code) (place, none.told bs tells);
 }
 
 -- why it couldn't be told whether an item comes
@@ -234,11 +234,11 @@ no_form kept refused.Kept e other made = subst TellsNoForm (sym made.0) (of_kept
     of_kept reading.RecursionLimitExceeded other = tt
     of_kept reading.OutOfMemory other = tt
 
-pub made_stands : (s : Input) (cases : Limits → List ℕ → Cases) (kept : ReadError) (r : Refused) → TellsNoKey kept r → (e : Error) → IsErrorOf kept r e → Stands s e cases
+pub made_stands : (s : Input) (cases : Limits → List ℕ → Cases) (kept : ReadError) (r : Refused) → TellsNoKey kept r → (e : Error) → IsErrorOf kept r e → HasCase s e cases
 made_stands s cases kept r other e made = other_stands s e cases (no_form kept r e other made)
 
 -- the error of what named nothing, where no key stopped it
-pub unnamed_stands : (s : Input) (cases : Limits → List ℕ → Cases) (kept : ReadError) (w : Why) → NamesNoKey kept w → (e : Error) → IsMadeBy kept w e → Stands s e cases
+pub unnamed_stands : (s : Input) (cases : Limits → List ℕ → Cases) (kept : ReadError) (w : Why) → NamesNoKey kept w → (e : Error) → IsMadeBy kept w e → HasCase s e cases
 unnamed_stands s cases kept (unnamed.Refused r) other e made = made_stands s cases kept r other e made
 unnamed_stands s cases kept unnamed.Other other e made = other_stands s e cases (of_message (code_of e) made.0)
   where
@@ -264,7 +264,7 @@ unnamed_stands s cases kept unnamed.Other other e made = other_stands s e cases 
 
 -- the next key may not begin as it does
 pub key_stands : {w : Input} (allowed : ReadErrorCode → Bool) (f g : Formats) (remaining behind : Remaining) (more : Bool) (s a : Input) (kept : ReadError) (r : Refused) → g ≡ f → more ≡ true
-    → Step s a (λ l bs rest. next_at end_in_map (remaining_of remaining) bs ≡ Ok (behind_next behind more, rest)) → Stopped allowed (λ l. key_front g) a w kept r → (e : Error) → IsErrorOf kept r e → Stands s e (key_cases f remaining)
+    → Step s a (λ l bs rest. next_at end_in_map (remaining_of remaining) bs ≡ Ok (behind_next behind more, rest)) → Stopped allowed (λ l. key_front g) a w kept r → (e : Error) → IsErrorOf kept r e → HasCase s e (key_cases f remaining)
 key_stands allowed f g remaining behind false s a kept r same comes step h e made = absurd cc
 key_stands {w = w} allowed f g remaining behind true s a kept r same comes step h e made =
     stands_then s a e (λ l bs rest. next_at end_in_map (remaining_of remaining) bs ≡ Ok (Some (remaining_of behind), rest)) front_cases (key_cases f remaining) (record {

@@ -15,10 +15,10 @@ use Rattle.cbor_decode.specs.declared.head.Head.TheVariants as head
 use Rattle.cbor_decode.proofs.facts.Steps.{step_then}
 use Rattle.cbor_decode_as.specs.Kinds.{kind_of, head_kind}
 use Rattle.cbor_decode_as.specs.Kinds as kind
-use Rattle.cbor_decode_as.specs.Opens.{Opens, OpensItem}
+use Rattle.cbor_decode_as.specs.TaggedHeads.{Opens, OpensItem}
 use Rattle.cbor_decode_as.specs.Takes.{raws, lending, IsRead, IsNotRead}
 use Rattle.cbor_decode_as.specs.Strings.{content_at, is_lent_head, IsByteString, IsLentBytes, Lent, LendsBytes}
-use Rattle.cbor_decode_as.specs.declared.lent.Unread.{Unread}
+use Rattle.cbor_decode_as.specs.declared.borrowed.Unread.{Unread}
 use Rattle.cbor_decode_as.proofs.numbers.Scalars.{refuses_on, opened_read}
 use Rattle.cbor_decode_as.proofs.texts.Contents.{untagged_string, no_bytes, bytes_read, none_at}
 use Rattle.cbor_decode_as.proofs.texts.Lending.{lends_bytes, lacks_all, bytes_lacks}

@@ -28,7 +28,7 @@ use Rattle.cbor_decode.proofs.facts.Steps.{step_map, step_then, stopped_then}
 use Rattle.cbor_decode_as.specs.Kinds.{kind_of, head_kind}
 use Rattle.cbor_decode_as.specs.Kinds as kind
 use Rattle.cbor_decode_as.specs.Takes.{raws, IsRead, IsNotRead, Refuses, ExcusedBy}
-use Rattle.cbor_decode_as.specs.Opens.{in_tags, Opens, OpensItem}
+use Rattle.cbor_decode_as.specs.TaggedHeads.{in_tags, Opens, OpensItem}
 use Rattle.cbor_decode_as.specs.Strings.{content_at, is_lent_head, KeepsTextOf, TakesText}
 use Rattle.cbor_decode_as.proofs.numbers.Scalars.{refuses, opened_read, opened_none, other_kind}
 

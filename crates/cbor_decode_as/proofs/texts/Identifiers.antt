@@ -19,7 +19,7 @@ use Rattle.cbor_decode.specs.declared.head.Head.TheVariants as head
 use Rattle.cbor_decode_as.specs.Identifiers.{texts, place_of, IsFirst, IsPlace, IsIdentifier, Content, IsMadeBy, TakesBytesName}
 use Rattle.cbor_decode_as.specs.Kinds.{kind_of, head_kind}
 use Rattle.cbor_decode_as.specs.Kinds as kind
-use Rattle.cbor_decode_as.specs.Opens.{Opens, OpensItem}
+use Rattle.cbor_decode_as.specs.TaggedHeads.{Opens, OpensItem}
 use Rattle.cbor_decode_as.specs.Strings.{content_at}
 use Rattle.cbor_decode_as.specs.Takes.{raws, IsRead, IsNotRead, Refuses, TakesItem, OnceMade}
 use Rattle.cbor_decode_as.specs.declared.identifier.Why.{Why}

@@ -17,18 +17,18 @@ use Rattle.cbor_io.specs.declared.error.Error.{Error}
 use Rattle.cbor_io.specs.declared.error.ErrorCode.{ErrorCode}
 use Rattle.cbor_read.specs.declared.EitherLifetime.{EitherLifetime}
 use Rattle.cbor_io.specs.declared.read_error.ReadErrorCode.{ReadErrorCode}
-use Rattle.cbor_decode.specs.Gives.{Limits, limits, Onward, Step, Reports}
+use Rattle.cbor_decode.specs.Gives.{Limits, limits, Advances, Step, Reports}
 use Rattle.cbor_decode.specs.declared.head.Head.{Head}
 use Rattle.cbor_decode.specs.declared.head.Head.TheVariants as head
-use Rattle.cbor_decode.proofs.facts.Steps.{onward_some, step_map, step_then, taken_step, none_step}
+use Rattle.cbor_decode.proofs.facts.Steps.{advances_some, step_map, step_then, taken_step, none_step}
 use Rattle.cbor_io.specs.declared.read_error.ReadError.{ReadError}
 use Rattle.cbor_decode.specs.Heads.{behind_head}
-use Rattle.cbor_decode_as.specs.Opens.{Opens, OpensItem}
+use Rattle.cbor_decode_as.specs.TaggedHeads.{Opens, OpensItem}
 use Rattle.cbor_decode_as.specs.Takes.{raws, lending, IsRead, IsNotRead, ExcusedBy, Refuses}
 use Rattle.cbor_decode_as.specs.Strings.{IsNoKey, content_at, is_lent_head, lends_head, Lacks, Lent, LentText, LendsText, LendsString, IsLentText, IsLentString, IsMadeOf, BytesOf, PartText, Utf8Of, text_bytes}
-use Rattle.cbor_decode_as.specs.declared.lent.EitherStr.{EitherStr}
-use Rattle.cbor_decode_as.specs.declared.lent.Unread.{Unread}
-use Rattle.cbor_decode_as.specs.declared.lent.Unread.TheVariants.{Stopped, Other}
+use Rattle.cbor_decode_as.specs.declared.borrowed.EitherStr.{EitherStr}
+use Rattle.cbor_decode_as.specs.declared.borrowed.Unread.{Unread}
+use Rattle.cbor_decode_as.specs.declared.borrowed.Unread.TheVariants.{Stopped, Other}
 use Rattle.cbor_decode_as.proofs.numbers.Scalars.{not_both, refuses_on, opened_none}
 use Rattle.cbor_decode_as.proofs.numbers.Nulls.{refuses_behind}
 use Rattle.cbor_decode_as.proofs.texts.Contents.{step_refuses, string_takes, bytes_takes, bytes_bad, bytes_stop, text_read, text_bad, text_stop, not_string, none_at}
@@ -108,13 +108,13 @@ pub any_ok : {X W P : Type 0} (r : Result X W) → P → OnOk r P
 any_ok (Ok x) h = h
 any_ok (Err u) h = tt
 
-pub lent_onward : (allowed : ReadErrorCode → Bool) (l : Lends) (h : Head) (s m t : Input) (r : Result EitherLifetime Unread) → Onward s m → Lent allowed l h m t r → OnOk r (Onward s t)
-lent_onward allowed l h s m t (Ok p) first lent = onward_some s m t first lent.0.took
-lent_onward allowed l h s m t (Err u) first lent = tt
+pub lent_advances : (allowed : ReadErrorCode → Bool) (l : Lends) (h : Head) (s m t : Input) (r : Result EitherLifetime Unread) → Advances s m → Lent allowed l h m t r → OnOk r (Advances s t)
+lent_advances allowed l h s m t (Ok p) first lent = advances_some s m t first lent.0.took
+lent_advances allowed l h s m t (Err u) first lent = tt
 
-pub text_onward : (allowed : ReadErrorCode → Bool) (l : Lends) (h : Head) (s m t : Input) (r : Result EitherStr Unread) → Onward s m → LentText allowed l h m t r → OnOk r (Onward s t)
-text_onward allowed l h s m t (Ok p) first lent = onward_some s m t first lent.0.took
-text_onward allowed l h s m t (Err u) first lent = tt
+pub text_advances : (allowed : ReadErrorCode → Bool) (l : Lends) (h : Head) (s m t : Input) (r : Result EitherStr Unread) → Advances s m → LentText allowed l h m t r → OnOk r (Advances s t)
+text_advances allowed l h s m t (Ok p) first lent = advances_some s m t first lent.0.took
+text_advances allowed l h s m t (Err u) first lent = tt
 
 -- ---- items
 

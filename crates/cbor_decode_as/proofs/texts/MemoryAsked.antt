@@ -24,13 +24,13 @@ use Rattle.cbor_decode.specs.declared.head.Head.{Head}
 use Rattle.cbor_decode.specs.declared.head.Head.TheVariants as head
 use Rattle.cbor_decode.specs.declared.refusal.Refused.{Refused}
 use Rattle.cbor_decode.specs.declared.refusal.Refused.TheVariants as refused
-use Rattle.cbor_decode_as.specs.Opens.{AsksBehind, OpensItem, opened_at}
+use Rattle.cbor_decode_as.specs.TaggedHeads.{AsksBehind, OpensItem, opened_at}
 use Rattle.cbor_decode_as.specs.Takes.{raws, lending, IsNotRead, MemoryFor, OfItem}
 use Rattle.cbor_decode_as.specs.Strings.{AsksForBytes, AsksForString, AsksToLend, BytesOf, IsByteString, IsKept, IsMadeOf, Lacks, PartText, UnreadOnly, Utf8Of, asks_head, asks_string}
-use Rattle.cbor_decode_as.specs.declared.lent.EitherStr.{EitherStr}
-use Rattle.cbor_decode_as.specs.declared.lent.Unread.{Unread}
-use Rattle.cbor_decode_as.specs.declared.lent.Unread.TheVariants.{Stopped, Other}
-use Rattle.cbor_decode_as.specs.declared.opening.Found.{Found}
+use Rattle.cbor_decode_as.specs.declared.borrowed.EitherStr.{EitherStr}
+use Rattle.cbor_decode_as.specs.declared.borrowed.Unread.{Unread}
+use Rattle.cbor_decode_as.specs.declared.borrowed.Unread.TheVariants.{Stopped, Other}
+use Rattle.cbor_decode_as.specs.declared.head.HeadAt.{HeadAt}
 use Rattle.cbor_decode_as.proofs.texts.ByteStrings.{not_bytes}
 use Rattle.cbor_decode_as.proofs.texts.Contents.{none_there, not_string}
 use Rattle.cbor_decode_as.proofs.heads.PassedMemory.{behind_asks}
@@ -132,7 +132,7 @@ module _ (a : Asks) (f : Formats) (l : Limits) (inner : Option (List ℕ → Rea
   bytes_ask None = bytes_chunks_always (λ r. asks_string a (untagged r) ≡ a.joined) f l inner w bs (λ cs. refl)
 
 module _ (allowed : ReadErrorCode → Bool) (a : Asks) (f : Formats) (levels : ℕ) (s m : Input) (kept : ReadError)
-    (found : Found) (opens : Step s m (λ l bs rest. opened_at levels bs ≡ Ok ((found.levels, found.head), rest))) where
+    (found : HeadAt) (opens : Step s m (λ l bs rest. opened_at levels bs ≡ Ok ((found.levels, found.head), rest))) where
   abbrev Asked : Raw → Type 0
   Asked r = asks_string a (untagged r) ≡ true
 

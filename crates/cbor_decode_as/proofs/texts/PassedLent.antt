@@ -20,13 +20,13 @@ use Rattle.cbor_decode.specs.declared.head.Head.TheVariants as head
 use Rattle.cbor_decode.specs.declared.refusal.Refused.{Refused}
 use Rattle.cbor_decode.specs.declared.refusal.Refused.TheVariants as refused
 use Rattle.cbor_decode.proofs.facts.Steps.{kept_tells, passed_on, refused_stops}
-use Rattle.cbor_decode_as.specs.Opens.{opened_at, behind_any}
+use Rattle.cbor_decode_as.specs.TaggedHeads.{opened_at, behind_any}
 use Rattle.cbor_decode_as.specs.Strings.{BytesOf, IsKept, IsNoKey, IsMadeOf, Lent, LentText, LendsWhole, PartText, UnreadBehind, UnreadBy, UnreadWhole, Utf8Of, behind_string, content_at, text_bytes}
 use Rattle.cbor_decode_as.specs.Takes.{Refuses, RefusesWhole, any_item}
-use Rattle.cbor_decode_as.specs.declared.lent.EitherStr.{EitherStr}
-use Rattle.cbor_decode_as.specs.declared.lent.Unread.{Unread}
-use Rattle.cbor_decode_as.specs.declared.lent.Unread.TheVariants.{Stopped as Halted, Other}
-use Rattle.cbor_decode_as.specs.declared.opening.Found.{Found}
+use Rattle.cbor_decode_as.specs.declared.borrowed.EitherStr.{EitherStr}
+use Rattle.cbor_decode_as.specs.declared.borrowed.Unread.{Unread}
+use Rattle.cbor_decode_as.specs.declared.borrowed.Unread.TheVariants.{Stopped as Halted, Other}
+use Rattle.cbor_decode_as.specs.declared.head.HeadAt.{HeadAt}
 use Rattle.cbor_decode_as.proofs.heads.PassedOver.{behind_stops, stands_whole, stood_stands, told_or_excused, unopened_stops}
 use Rattle.cbor_decode_as.proofs.texts.PassedStrings.{bad_fails, bytes_stand, bytes_stop_item, bytes_unread, text_stands, text_stops, text_unread}
 use Rattle.cbor_decode_as.proofs.texts.Lending.{ends_at}
@@ -139,7 +139,7 @@ part_told allowed s t n p end (Err Other) step same is = absurd is
 
 -- ---- the item at the front
 
-module _ (allowed : ReadErrorCode → Bool) (found : Found) (levels : ℕ) (s m : Input) (opens : Step s m (λ l bs rest. opened_at levels bs ≡ Ok ((found.levels, found.head), rest))) where
+module _ (allowed : ReadErrorCode → Bool) (found : HeadAt) (levels : ℕ) (s m : Input) (opens : Step s m (λ l bs rest. opened_at levels bs ≡ Ok ((found.levels, found.head), rest))) where
   pub text_lends : (lends : Lends) (n : Option ℕ) (t : Input) (r : Result EitherStr Unread) → found.head ≡ head.Text n → LentText allowed lends (head.Text n) m t r → IfErr r (UnreadBy allowed (behind_string (head.Text n)) m) → LendsWhole allowed levels s r
   text_lends lends n t (Ok x) is lent by = text_stands allowed found levels s m opens n t (text_bytes x) is lent.1 lent.0
   text_lends lends n t (Err (Halted q)) is lent by = text_stops allowed found levels s m opens n q refused.Kept is by

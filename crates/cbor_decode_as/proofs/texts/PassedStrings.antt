@@ -22,10 +22,10 @@ use Rattle.cbor_decode.specs.declared.head.Head.TheVariants as head
 use Rattle.cbor_decode.specs.declared.refusal.Refused.{Refused}
 use Rattle.cbor_decode.specs.declared.refusal.Refused.TheVariants as refused
 use Rattle.cbor_decode.proofs.facts.Steps.{step_map, why_map}
-use Rattle.cbor_decode_as.specs.Opens.{RefusesBehind, behind_any, opened_at}
+use Rattle.cbor_decode_as.specs.TaggedHeads.{RefusesBehind, behind_any, opened_at}
 use Rattle.cbor_decode_as.specs.Strings.{IsNotUtf8, KeepsTextOf, TellsString, behind_string, content_at}
-use Rattle.cbor_decode_as.specs.Takes.{FaultOrMessage, RefusesWhole, Stands, TellsFault, any_item}
-use Rattle.cbor_decode_as.specs.declared.opening.Found.{Found}
+use Rattle.cbor_decode_as.specs.Takes.{FaultOrMessage, RefusesWhole, HasItem, TellsFault, any_item}
+use Rattle.cbor_decode_as.specs.declared.head.HeadAt.{HeadAt}
 use Rattle.cbor_decode_as.proofs.texts.Contents.{bad_text, chunks_of, no_chunks, none_picked, passes, picked, stops_at}
 use Rattle.cbor_decode_as.proofs.heads.PassedOver.{behind_stands, behind_stops, behind_whole, told_or_excused}
 use Rattle.cbor_decode_as.proofs.numbers.Scalars.{told_why}
@@ -112,7 +112,7 @@ text_tells allowed s n kept r h e is = told_why allowed (behind_string (head.Tex
 
 -- ---- the item at the front
 
-module _ (allowed : ReadErrorCode → Bool) (found : Found) (levels : ℕ) (s m : Input) (opens : Step s m (λ l bs rest. opened_at levels bs ≡ Ok ((found.levels, found.head), rest))) where
+module _ (allowed : ReadErrorCode → Bool) (found : HeadAt) (levels : ℕ) (s m : Input) (opens : Step s m (λ l bs rest. opened_at levels bs ≡ Ok ((found.levels, found.head), rest))) where
   -- the fault of a string
   string_whole : (h : Head) (e : Error) → found.head ≡ h → ((l : Limits) (bs : List ℕ) → behind_string h l bs ≡ behind_any found.levels h l bs) → TellsFault allowed (behind_string h) m e → RefusesWhole allowed levels s e
   string_whole h e is level told = behind_whole allowed found levels s m e opens here
@@ -131,13 +131,13 @@ module _ (allowed : ReadErrorCode → Bool) (found : Found) (levels : ℕ) (s m 
   pub bytes_whole : (n : Option ℕ) (kept : ReadError) (r : Refused) (e : Error) → found.head ≡ head.Bytes n → TellsWhy allowed (λ l. content_at l (head.Bytes n)) m kept r → IsErrorOf kept r e → RefusesWhole allowed levels s e
   bytes_whole n kept r e is h made = string_whole (head.Bytes n) e is (λ l bs. bytes_level l found.levels n bs) (told_why allowed (behind_string (head.Bytes n)) m kept r e made (bytes_unread allowed m n kept r h))
 
-  pub bytes_stand : (n : Option ℕ) (t : Input) (b : List ℕ) → found.head ≡ head.Bytes n → Step m t (λ l bs rest. content_at l (head.Bytes n) bs ≡ Ok (b, rest)) → Stands levels s
+  pub bytes_stand : (n : Option ℕ) (t : Input) (b : List ℕ) → found.head ≡ head.Bytes n → Step m t (λ l bs rest. content_at l (head.Bytes n) bs ≡ Ok (b, rest)) → HasItem levels s
   bytes_stand n t b is step =
       behind_stands allowed found levels s m t opens
       (step_map m t (λ l bs rest. content_at l (head.Bytes n) bs ≡ Ok (b, rest)) (λ l bs rest. passed (behind_any found.levels found.head l bs) ≡ Ok (tt, rest))
       (λ l bs rest here. ap (λ (h : Head). passed (behind_any found.levels h l bs)) is ∙ bytes_passed l found.levels n bs b rest here) step)
 
-  pub text_stands : (n : Option ℕ) (t : Input) (b : List ℕ) → found.head ≡ head.Text n → IsUtf8 b → Step m t (λ l bs rest. content_at l (head.Text n) bs ≡ Ok (b, rest)) → Stands levels s
+  pub text_stands : (n : Option ℕ) (t : Input) (b : List ℕ) → found.head ≡ head.Text n → IsUtf8 b → Step m t (λ l bs rest. content_at l (head.Text n) bs ≡ Ok (b, rest)) → HasItem levels s
   text_stands n t b is utf8 step =
       behind_stands allowed found levels s m t opens
       (step_map m t (λ l bs rest. content_at l (head.Text n) bs ≡ Ok (b, rest)) (λ l bs rest. passed (behind_any found.levels found.head l bs) ≡ Ok (tt, rest))

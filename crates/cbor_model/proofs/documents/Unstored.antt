@@ -122,9 +122,9 @@ number : (z : ℤ) → IsStorableInteger z ⊎ (IsStorableInteger z → ⊥)
 number (pos n) = natural n _ refl
 number (negsuc n) = natural n _ refl
 
-onward : {S : Type 0} {P : List ℕ → Type 0} (start : List ℕ) → S ⊎ Stops P → S ⊎ Stops (λ front. (back : List ℕ) × (front ≡ start ++ back) × P back)
-onward start (inl s) = inl s
-onward start (inr h) = inr (start ++ h.0, (h.0, refl, h.1))
+advances : {S : Type 0} {P : List ℕ → Type 0} (start : List ℕ) → S ⊎ Stops P → S ⊎ Stops (λ front. (back : List ℕ) × (front ≡ start ++ back) × P back)
+advances start (inl s) = inl s
+advances start (inr h) = inr (start ++ h.0, (h.0, refl, h.1))
 
 module _ (p l : Bool) where
   mutual
@@ -135,19 +135,19 @@ module _ (p l : Bool) where
     stored_or_stops (float w bits) = inl tt
     stored_or_stops (bytes b) = inl tt
     stored_or_stops (text b) = inl tt
-    stored_or_stops (sequence k ds) = onward (array_start (said k (doc_count ds))) (each_or_stops ds)
-    stored_or_stops (mapping k ps) = onward (map_start (said k (doc_pair_count ps))) (pairs_or_stop ps)
-    stored_or_stops (structure fs) = onward (map_start (Some (field_count fs))) (fields_or_stop fs)
+    stored_or_stops (sequence k ds) = advances (array_start (said k (doc_count ds))) (each_or_stops ds)
+    stored_or_stops (mapping k ps) = advances (map_start (said k (doc_pair_count ps))) (pairs_or_stop ps)
+    stored_or_stops (structure fs) = advances (map_start (Some (field_count fs))) (fields_or_stop fs)
     stored_or_stops (unit_variant i n) = inl tt
-    stored_or_stops (newtype_variant i n d) = onward (newtype_start i n p l) (stored_or_stops d)
-    stored_or_stops (tuple_variant i n ds) = onward (tuple_start i n (doc_count ds) p l) (each_or_stops ds)
-    stored_or_stops (struct_variant i n fs) = onward (struct_start i n p l ++ map_start (Some (field_count fs))) (fields_or_stop fs)
-    stored_or_stops (tagged n d) = onward (short 6 n) (stored_or_stops d)
+    stored_or_stops (newtype_variant i n d) = advances (newtype_start i n p l) (stored_or_stops d)
+    stored_or_stops (tuple_variant i n ds) = advances (tuple_start i n (doc_count ds) p l) (each_or_stops ds)
+    stored_or_stops (struct_variant i n fs) = advances (struct_start i n p l ++ map_start (Some (field_count fs))) (fields_or_stop fs)
+    stored_or_stops (tagged n d) = advances (short 6 n) (stored_or_stops d)
 
     each_or_stops : (ds : Docs) → AreStorableDocuments ds ⊎ Stops (StandsBeforeAny ds p l)
     each_or_stops no_docs = inl tt
     each_or_stops (doc d ds) = elim (stored_or_stops d) [
-      | inl s ↦ elim (onward (document_bytes d p l) (each_or_stops ds)) [ inl t ↦ inl (s, t) | inr h ↦ inr (h.0, inr (s, h.1)) ]
+      | inl s ↦ elim (advances (document_bytes d p l) (each_or_stops ds)) [ inl t ↦ inl (s, t) | inr h ↦ inr (h.0, inr (s, h.1)) ]
       | inr h ↦ inr (h.0, inl h.1)
     ]
 
@@ -155,7 +155,7 @@ module _ (p l : Bool) where
     pairs_or_stop no_doc_pairs = inl tt
     pairs_or_stop (doc_pair k v ps) = elim (stored_or_stops k) [
       | inl s ↦ elim (stored_or_stops v) [
-        | inl t ↦ elim (onward (document_bytes v p l) (pairs_or_stop ps)) [
+        | inl t ↦ elim (advances (document_bytes v p l) (pairs_or_stop ps)) [
           | inl u ↦ inl (s, t, u)
           | inr h ↦ inr (document_bytes k p l ++ h.0, inr (s, (h.0, refl, inr (t, h.1))))
         ]
@@ -166,7 +166,7 @@ module _ (p l : Bool) where
 
     fields_or_stop : (fs : Fields) → AreStorableFields fs ⊎ Stops (StandsBeforeFields fs p l)
     fields_or_stop no_fields = inl tt
-    fields_or_stop (field i n d fs) = elim (onward (spell (identifier p i n)) (stored_or_stops d)) [
-      | inl s ↦ elim (onward (spell (identifier p i n) ++ document_bytes d p l) (fields_or_stop fs)) [ inl t ↦ inl (s, t) | inr h ↦ inr (h.0, inr (s, h.1)) ]
+    fields_or_stop (field i n d fs) = elim (advances (spell (identifier p i n)) (stored_or_stops d)) [
+      | inl s ↦ elim (advances (spell (identifier p i n) ++ document_bytes d p l) (fields_or_stop fs)) [ inl t ↦ inl (s, t) | inr h ↦ inr (h.0, inr (s, h.1)) ]
       | inr h ↦ inr (h.0, inl h.1)
     ]

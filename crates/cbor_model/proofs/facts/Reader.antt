@@ -3,7 +3,7 @@
 -- only major type 7 is simple
 pub use Rattle.cbor_model.proofs.reader.Majors.{simple_number}
 -- equal results of reading have equal values
-pub use Rattle.cbor_model.proofs.reader.Steps.{ok_is}
+pub use Rattle.cbor_model.proofs.reader.ReaderSteps.{ok_is}
 -- an item takes at least a byte, and no step gives bytes back
 pub use Rattle.cbor_model.proofs.reader.Taken.{taken, chunk_taken, next_taken}
 -- more fuel than bytes changes nothing
@@ -14,9 +14,9 @@ pub use Rattle.cbor_model.proofs.reader.Texts.{IsUtf8-from_valid_len}
 -- spelled
 pub use Rattle.cbor_model.proofs.reader.RawReader.{item_found, item_again}
 -- the value of a step that did not fail
-pub use Rattle.cbor_model.proofs.reader.Steps.{bind_ok}
+pub use Rattle.cbor_model.proofs.reader.ReaderSteps.{bind_ok}
 -- a key begins with a byte that may begin one, and is read as an item
-pub use Rattle.cbor_model.proofs.reader.Steps.{BeginsWith, key_read, key_is}
+pub use Rattle.cbor_model.proofs.reader.ReaderSteps.{BeginsWith, key_read, key_is}
 -- where all formats are read, each key is of one
 pub use Rattle.cbor_model.proofs.reader.FirstBytes.{all_allowed, all_may_begin}
 -- with all formats every key is allowed

@@ -4,7 +4,7 @@ use Rattle.std.proofs.lemmas.List.{append-nil}
 use Rattle.cbor_model.specs.Raw.{Raw, Raws, RawPairs, depth, IsWellFormed, EachKey}
 use Rattle.cbor_model.specs.Spelling.{spell}
 use Rattle.cbor_model.specs.Reader.{Reading, item_at}
-use Rattle.cbor_model.proofs.reader.Steps.{ok_is, BeginsWith}
+use Rattle.cbor_model.proofs.reader.ReaderSteps.{ok_is, BeginsWith}
 use Rattle.cbor_model.specs.RawReader.{raws_where}
 use Rattle.cbor_model.proofs.reader.FirstBytes.{IsBegun, begun, EachKey-map, EachKey-from_each}
 use Rattle.cbor_model.proofs.reader.RawReader.{made-itself}

@@ -14,12 +14,12 @@ use Rattle.cbor_model.specs.Plain.{Val, null, bool, integer, float, bytes, text,
 use Rattle.cbor_model.specs.Order.{lex, flat, flat_all, flat_pairs, major_type, body, bool_code, float_code, val_cmp}
 use Rattle.cbor_model.specs.Canonical.{IsStorable, AreStorable, ArePairsStorable, canonical, canonical_all, canonical_pairs, canonical_bool, canon}
 use Rattle.cbor_model.specs.InRange.{IsInRange, AreInRange, ArePairsInRange}
-use Rattle.cbor_model.proofs.reader.Steps.{info-below}
+use Rattle.cbor_model.proofs.reader.ReaderSteps.{info-below}
 use Rattle.cbor_model.proofs.values.Canonical.{lt-limit-least}
 use Rattle.cbor_model.proofs.values.Counts.{count_canonical, pair_count_canonical}
 use Rattle.cbor_model.proofs.order.Same.{flat-is, bool_code-lt, lt-float_code}
 use Rattle.cbor_model.proofs.order.Pairs.{same_key}
-use Rattle.cbor_model.proofs.order.Heads.{lex-less, lex-same, lex-front, lex-turned, bytes_less, shorts_less}
+use Rattle.cbor_model.proofs.order.HeadOrder.{lex-less, lex-same, lex-front, lex-turned, bytes_less, shorts_less}
 
 -- Whatever follows: p and q compare as a and b, and where they tie, what follows decides alike.
 abbrev Alike : List ℕ → List ℕ → List ℕ → List ℕ → Type 0

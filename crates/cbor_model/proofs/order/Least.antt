@@ -12,7 +12,7 @@ use Rattle.cbor_model.specs.Value.{value, values, pairs, put, simple_value}
 use Rattle.cbor_model.specs.Canonical.{canonical, canonical_all, canonical_pairs, canon}
 use Rattle.cbor_model.proofs.order.Pairs.{by_order-cases}
 use Rattle.cbor_model.proofs.values.Canonical.{count_values, count_pairs}
-use Rattle.cbor_model.proofs.order.Heads.{least-cases}
+use Rattle.cbor_model.proofs.order.HeadOrder.{least-cases}
 
 -- ---- heads
 

@@ -13,7 +13,7 @@ use Rattle.cbor_model.specs.Raw.{FitsLength, IsWellFormed, AreWellFormed, ArePai
 use Rattle.cbor_model.specs.Raw.{pair_count}
 use Rattle.cbor_model.specs.Spelling.{spell, spell_all, spell_pairs, chunk, simple_byte}
 use Rattle.cbor_model.specs.Spelling.{float_spelling, break, enclosed}
-use Rattle.cbor_model.proofs.reader.Steps.{info-below}
+use Rattle.cbor_model.proofs.reader.ReaderSteps.{info-below}
 
 bytes_cons : (b : ℕ) (bs : List ℕ) → b < 256 → AreBytes bs → AreBytes (b ∷ bs)
 bytes_cons b bs fits others zero = fits

@@ -6,7 +6,7 @@ use Rattle.cbor_model.specs.Raw as raw
 use Rattle.cbor_model.specs.Raw.{definite, indefinite, Raw, Raws, no_raws, RawPairs, no_raw_pairs, raw_pair, Simple, false_item, true_item, null_item, undefined_item, FloatWidth, half, single, double, count, pair_count, IsWellFormed, AreWellFormed, ArePairsWellFormed, EachKey, EachKeyOfAll, EachKeyOfPairs}
 use Rattle.cbor_model.specs.Spelling.{spell, simple_byte, float_spelling}
 use Rattle.cbor_model.specs.Formats.{Formats, all_formats, may_begin_key, IsAllowedKey, HasAllowedKeys}
-use Rattle.cbor_model.proofs.reader.Steps.{info-below, BeginsWith}
+use Rattle.cbor_model.proofs.reader.ReaderSteps.{info-below, BeginsWith}
 
 -- the bytes begin with one, which isn't the break
 pub record IsBegun (bs : List ℕ) : Type 0 where

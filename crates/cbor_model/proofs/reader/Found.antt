@@ -29,10 +29,10 @@ use Rattle.cbor_model.specs.Reader.{pair_at, items_of}
 use Rattle.cbor_model.specs.Reader.{pairs_of, array_at, map_at, tag_at, content_at}
 use Rattle.cbor_model.specs.Reader.{after_first, item_by, item_at}
 use Rattle.cbor_model.proofs.reader.Made.{made, made_all, made_pairs}
-use Rattle.cbor_model.proofs.reader.Steps.{AreBytes-rest, bind_ok, chosen, at_number, done, read_as}
-use Rattle.cbor_model.proofs.reader.Steps.{not_ok, bytes_found, IsWide, wide16, wide32, wide64}
-use Rattle.cbor_model.proofs.reader.Steps.{number_found, number_behind_found, first_is}
-use Rattle.cbor_model.proofs.reader.Steps.{key_read}
+use Rattle.cbor_model.proofs.reader.ReaderSteps.{AreBytes-rest, bind_ok, chosen, at_number, done, read_as}
+use Rattle.cbor_model.proofs.reader.ReaderSteps.{not_ok, bytes_found, IsWide, wide16, wide32, wide64}
+use Rattle.cbor_model.proofs.reader.ReaderSteps.{number_found, number_behind_found, first_is}
+use Rattle.cbor_model.proofs.reader.ReaderSteps.{key_read}
 use Rattle.cbor_model.proofs.reader.FirstBytes.{begun, front_begins}
 use Rattle.cbor_model.proofs.reader.Majors.{each_major}
 use Rattle.cbor_model.proofs.reader.FoundParts.{MayBeKey, IsItem, AreItems, ArePairs, IsPair, Ended, Finds, FindsInside}

@@ -25,10 +25,10 @@ use Rattle.cbor_model.specs.Reader.{content_of_chunk, chunk_at, chunks_by}
 use Rattle.cbor_model.specs.Reader.{Remaining, counted, to_break}
 use Rattle.cbor_model.specs.Reader.{next_at, Parts, go_on, parts_by}
 use Rattle.cbor_model.proofs.reader.Made.{made, made_all, made_pairs}
-use Rattle.cbor_model.proofs.reader.Steps.{AreBytes-rest, bind_ok, chosen, ok_is, read_as}
-use Rattle.cbor_model.proofs.reader.Steps.{not_ok, bytes_found}
-use Rattle.cbor_model.proofs.reader.Steps.{number_behind_found, first_is}
-use Rattle.cbor_model.proofs.reader.Steps.{BeginsWith}
+use Rattle.cbor_model.proofs.reader.ReaderSteps.{AreBytes-rest, bind_ok, chosen, ok_is, read_as}
+use Rattle.cbor_model.proofs.reader.ReaderSteps.{not_ok, bytes_found}
+use Rattle.cbor_model.proofs.reader.ReaderSteps.{number_behind_found, first_is}
+use Rattle.cbor_model.proofs.reader.ReaderSteps.{BeginsWith}
 
 -- the reading lets the text pass
 abbrev pub Passes : {Item Items Pairs : Type 0} → Reading Item Items Pairs → List ℕ → Type 0

@@ -11,7 +11,7 @@ use Rattle.cbor_model.specs.Raw.{RawPairs, no_raw_pairs, raw_pair, definite, pai
 use Rattle.cbor_model.specs.Raw.{ArePairsWellFormed, AreBytes, FloatWidth, float_limit, Chunk, IsChunk, joined}
 use Rattle.cbor_model.specs.Spelling.{spell, spell_all, spell_pairs, float_spelling, chunk, break}
 use Rattle.cbor_model.specs.Allowed.{IsProperBeginning, IsOfStrings, chunks_begun}
-use Rattle.cbor_model.proofs.reader.Steps.{IsWide}
+use Rattle.cbor_model.proofs.reader.ReaderSteps.{IsWide}
 use Rattle.cbor_model.proofs.reader.Bytes.{AreBytes-append}
 use Rattle.cbor_model.proofs.refusals.Wanted.{null, nulls, count-nulls, nulls_fit, GoesOn}
 

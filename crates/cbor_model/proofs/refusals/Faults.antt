@@ -22,7 +22,7 @@ use Rattle.cbor_model.specs.Reader.{byte_at}
 use Rattle.cbor_model.specs.Wanted.{Opening, array_head, map_head, tag_head, indefinite_array}
 use Rattle.cbor_model.specs.Wanted.{indefinite_map, opening, IsOpening, at_first}
 use Rattle.cbor_model.specs.Allowed.{Limits, IsOver}
-use Rattle.cbor_model.proofs.reader.Steps.{number_behind_found, AreBytes-rest, first_is, key_is, key_read}
+use Rattle.cbor_model.proofs.reader.ReaderSteps.{number_behind_found, AreBytes-rest, first_is, key_is, key_read}
 use Rattle.cbor_model.proofs.reader.FirstBytes.{begun, begun-length}
 use Rattle.cbor_model.proofs.reader.Majors.{each_major}
 use Rattle.cbor_model.proofs.reader.FoundParts.{whole_head, Finds}

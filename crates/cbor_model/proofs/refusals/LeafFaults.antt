@@ -25,8 +25,8 @@ use Rattle.cbor_model.specs.Wanted.{at_first}
 use Rattle.cbor_model.specs.Allowed.{AreFirst, IsProperBeginning, IsUnassigned, IsBetween}
 use Rattle.cbor_model.specs.Allowed.{BeginsChunk, IsOfStrings, chunks_begun, IsTextOf, Limits}
 use Rattle.cbor_model.specs.Allowed.{IsOver}
-use Rattle.cbor_model.proofs.reader.Steps.{wide8, wide16, wide32, wide64, number_behind_found, bytes_found}
-use Rattle.cbor_model.proofs.reader.Steps.{first_is, AreBytes-rest}
+use Rattle.cbor_model.proofs.reader.ReaderSteps.{wide8, wide16, wide32, wide64, number_behind_found, bytes_found}
+use Rattle.cbor_model.proofs.reader.ReaderSteps.{first_is, AreBytes-rest}
 use Rattle.cbor_model.proofs.reader.FoundParts.{whole_head, behind_head, behind_first, chunk_found, chunks_found}
 use Rattle.cbor_model.proofs.reader.Taken.{chunk_taken}
 use Rattle.cbor_model.proofs.refusals.FaultMeaning.{Meaning, Tells, Tells-bind, Tells-cond}

@@ -15,7 +15,7 @@ use Rattle.cbor_model.specs.Reader.{Fault, before as told_at, item_at}
 use Rattle.cbor_model.specs.Wanted.{Opening, opening, IsWanted, at_first, inside}
 use Rattle.cbor_model.specs.Wanted.{StandsInIndefiniteArray, StandsInIndefiniteMap}
 use Rattle.cbor_model.specs.Allowed.{IsProperBeginning, IsUnassigned, IsNoChunk, chunks_begun}
-use Rattle.cbor_model.proofs.reader.Steps.{not_ok}
+use Rattle.cbor_model.proofs.reader.ReaderSteps.{not_ok}
 use Rattle.cbor_model.proofs.reader.FirstBytes.{IsBegun}
 use Rattle.cbor_model.proofs.order.Apart.{raw_items, item_again, same_beginning}
 use Rattle.cbor_model.proofs.refusals.Wanted.{frame, GoesOn, beginning_wanted, on_wanted, on_item}

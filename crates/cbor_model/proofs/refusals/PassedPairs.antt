@@ -10,7 +10,7 @@ use Rattle.cbor_model.specs.Reader.{Fault, Reads, Reading, Remaining, counted, t
 use Rattle.cbor_model.specs.Reader.{go_on, parts_by, key_at, pair_at, pairs_of, item_at}
 use Rattle.cbor_model.specs.Wanted.{Opening, array_head, map_head, tag_head, indefinite_array}
 use Rattle.cbor_model.specs.Wanted.{indefinite_map, HasPlace}
-use Rattle.cbor_model.proofs.reader.Steps.{key_is}
+use Rattle.cbor_model.proofs.reader.ReaderSteps.{key_is}
 use Rattle.cbor_model.proofs.reader.FirstBytes.{IsBegun, begun}
 use Rattle.cbor_model.proofs.refusals.Wanted.{IsFrame, frame}
 use Rattle.cbor_model.proofs.refusals.FaultMeaning.{IsClosed}

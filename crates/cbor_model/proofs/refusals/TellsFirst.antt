@@ -13,7 +13,7 @@ use Rattle.cbor_model.specs.Reader.{Fault, Reads, Reading, item_at, whole}
 use Rattle.cbor_model.specs.Wanted.{StandsInIndefiniteArray, StandsInIndefiniteMap}
 use Rattle.cbor_model.specs.Allowed.{Limits, IsInvalidUtf8, IsStrayBreak, IsNoChunk, IsEnd}
 use Rattle.cbor_model.specs.Allowed.{IsAllowed, IsFirstRefusal, IsBefore}
-use Rattle.cbor_model.proofs.reader.Steps.{not_ok}
+use Rattle.cbor_model.proofs.reader.ReaderSteps.{not_ok}
 use Rattle.cbor_model.proofs.reader.FoundParts.{Passes}
 use Rattle.cbor_model.proofs.reader.Found.{found}
 use Rattle.cbor_model.proofs.refusals.FaultMeaning.{Meaning, IsClosedBreak}

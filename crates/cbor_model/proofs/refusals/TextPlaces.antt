@@ -17,7 +17,7 @@ use Rattle.cbor_model.specs.Reader.{Fault, Reads, before as told_at, item_at}
 use Rattle.cbor_model.specs.Wanted.{Opening, array_head, map_head, tag_head, indefinite_array}
 use Rattle.cbor_model.specs.Wanted.{indefinite_map, opening, IsWanted, at_first, inside}
 use Rattle.cbor_model.specs.Allowed.{IsTextOf, IsInvalidUtf8, IsUnassigned, Limits, IsAllowed}
-use Rattle.cbor_model.proofs.reader.Steps.{info-below}
+use Rattle.cbor_model.proofs.reader.ReaderSteps.{info-below}
 use Rattle.cbor_model.proofs.reader.Bytes.{AreBytes-append, spelled_bytes}
 use Rattle.cbor_model.proofs.order.Apart.{raw_items, same_beginning}
 use Rattle.cbor_model.proofs.reader.Found.{found}

@@ -21,7 +21,7 @@ use Rattle.cbor_model.specs.Reader.{chunks_by, chunks_at, string_chunks_at, text
 use Rattle.cbor_model.specs.Reader.{after_first, item_by, item_at, inside, array_at, map_at, tag_at}
 use Rattle.cbor_model.specs.Reader.{counted, to_break}
 use Rattle.cbor_model.specs.Allowed.{IsUnassigned, BeginsChunk, IsOfStrings, chunks_begun}
-use Rattle.cbor_model.proofs.reader.Steps.{bytes_again, number_behind_again, info-below, high_of, low_of}
+use Rattle.cbor_model.proofs.reader.ReaderSteps.{bytes_again, number_behind_again, info-below, high_of, low_of}
 use Rattle.cbor_model.proofs.reader.FirstBytes.{head-no_break}
 use Rattle.cbor_model.proofs.reader.Fuel.{chunks_by-fuel}
 use Rattle.cbor_model.proofs.reader.Again.{item_at-inside, length_again, chunk_again}

@@ -1,6 +1,6 @@
 use Rattle.std.proofs.Common.{◌≡◌, [], ◌∙◌, false, rules, ap}
 use Rattle.cbor_ser.proofs.Bytes.{spells_values}
-use Rattle.cbor_ser.proofs.Steps.{vector_holds}
+use Rattle.cbor_ser.proofs.WriteSteps.{vector_holds}
 use Rattle.cbor_ser.proofs.to_vec.Goals as goal
 
 pub returns-clause-written : goal.returns-clause-written

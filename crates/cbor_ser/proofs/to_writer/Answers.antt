@@ -3,7 +3,7 @@ use Rattle.std.specs.Prelude.{OnOk, IfErr}
 use Rattle.cbor_model.specs.Document.{document_bytes, IsStorableDocument, IsDocumentInRange}
 use Rattle.cbor_io.specs.Write.{Wrote}
 use Rattle.cbor_ser.specs.Written.{DocumentRefused}
-use Rattle.cbor_ser.proofs.Steps.{document_wrote, document_before, document_refused, document_fits, references_stay, capacity_stays, wrote_values}
+use Rattle.cbor_ser.proofs.WriteSteps.{document_wrote, document_before, document_refused, document_fits, references_stay, capacity_stays, wrote_values}
 use Rattle.cbor_ser.proofs.to_writer.Goals as goal
 
 pub returns-clause-written : goal.returns-clause-written

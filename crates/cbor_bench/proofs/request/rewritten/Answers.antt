@@ -8,7 +8,7 @@ use Rattle.serde_cbor.specs.Error.{IsOutOfMemory, offset_of}
 use Rattle.serde_cbor.specs.Gives.{FailsBy}
 use Rattle.serde_cbor.specs.View.{view}
 use Rattle.serde_cbor.proofs.facts.Values.{spelled_value, is_canonical}
-use Rattle.cbor_bench.proofs.Memory.{memory_alone}
+use Rattle.cbor_bench.proofs.OnlyMemory.{memory_alone}
 use Rattle.cbor_bench.proofs.request.rewritten.Goals as goal
 
 pub returns-in_err-value-clause-accepted : goal.returns-in_err-value-clause-accepted

@@ -11,7 +11,7 @@ use Rattle.serde_cbor.specs.Structs.{AreFieldsOf}
 use Rattle.serde_cbor.specs.Readable.{untagged}
 use Rattle.cbor_bench.specs.Record.{names, fields, values, IsRecord, text_of, record_document}
 use Rattle.cbor_bench.specs.declared.record.Record.{Record}
-use Rattle.cbor_bench.proofs.Memory.{memory_alone}
+use Rattle.cbor_bench.proofs.OnlyMemory.{memory_alone}
 use Rattle.cbor_bench.proofs.request.rewritten_records.Goals as goal
 
 texts_fit : (xs : List (String Global)) → AreStorableDocuments (docs text_of xs)

@@ -2,7 +2,7 @@ use Rattle.std.proofs.Common.{IfErr, [], None, refl, subst, arith}
 use Rattle.cbor_model.specs.Acceptable.{max_depth}
 use Rattle.cbor_model.specs.Formats.{all_formats}
 use Rattle.cbor_model.specs.Raw.{AreBytes}
-use Rattle.cbor_read.specs.Source.{Input, unread_slice, mut_refusals}
+use Rattle.cbor_read.specs.Source.{Input, start_of_slice, mut_refusals}
 use Rattle.cbor_decode.specs.Gives.{Tells}
 use Rattle.cbor_decode_as.specs.Takes.{MemoryFor}
 use Rattle.cbor_de.specs.Whole.{ReadsAll, TellsWhole, from_mut_slice_context, asks_none}
@@ -16,7 +16,7 @@ use Rattle.cbor_de.proofs.from.from_mut_slice.Goals as goal
 pub returns-clause-found : goal.returns-clause-found
 returns-clause-found g c =
     let bs = c.args.slice.now in
-    let s = unread_slice bs None in
+    let s = start_of_slice bs None in
     let fits : AreBytes bs = c.are_bytes.ensures in
     let reads = g.T.Readable.reads from_mut_slice_context in
     let given = subst (λ (s : Input). ReadsAll mut_refusals all_formats reads max_depth s c.read_all.result) c.new.ensures c.read_all.ensures.read in
@@ -26,7 +26,7 @@ returns-clause-found g c =
 pub returns-clause-accepted : goal.returns-clause-accepted
 returns-clause-accepted g c = λ x spelt.
     let bs = c.args.slice.now in
-    let s = unread_slice bs None in
+    let s = start_of_slice bs None in
     let fits : AreBytes bs = c.are_bytes.ensures in
     let reads = g.T.Readable.reads from_mut_slice_context in
     let given = subst (λ (s : Input). ReadsAll mut_refusals all_formats reads max_depth s c.read_all.result) c.new.ensures c.read_all.ensures.read in
@@ -36,7 +36,7 @@ returns-clause-accepted g c = λ x spelt.
 pub returns-clause-refused : goal.returns-clause-refused
 returns-clause-refused g c =
     let bs = c.args.slice.now in
-    let s = unread_slice bs None in
+    let s = start_of_slice bs None in
     let tells : Tells s bs = record { is = refl; short = omega arith } in
     let given = subst (λ (s : Input). IfErr c.read_all.result (TellsWhole g.T.Readable.passes_over g.T.Readable.total mut_refusals all_formats (g.T.Readable.reads from_mut_slice_context) max_depth s)) c.new.ensures c.read_all.ensures.fault in
     fails g.T.Readable.passes_over g.T.Readable.total mut_refusals (g.T.Readable.reads from_mut_slice_context) s bs tells refl (λ device. absurd cc) c.read_all.result given
@@ -44,7 +44,7 @@ returns-clause-refused g c =
 pub returns-clause-fault : goal.returns-clause-fault
 returns-clause-fault g c =
     let bs = c.args.slice.now in
-    let s = unread_slice bs None in
+    let s = start_of_slice bs None in
     let tells : Tells s bs = record { is = refl; short = omega arith } in
     let given = subst (λ (s : Input). IfErr c.read_all.result (TellsWhole g.T.Readable.passes_over g.T.Readable.total mut_refusals all_formats (g.T.Readable.reads from_mut_slice_context) max_depth s)) c.new.ensures c.read_all.ensures.fault in
     kinds g.T.Readable.passes_over g.T.Readable.total mut_refusals (g.T.Readable.reads from_mut_slice_context) s bs tells refl ⊥ (λ device. absurd cc) c.read_all.result given
@@ -52,7 +52,7 @@ returns-clause-fault g c =
 pub returns-clause-every : goal.returns-clause-every
 returns-clause-every g c = λ v spelt.
     let bs = c.args.slice.now in
-    let s = unread_slice bs None in
+    let s = start_of_slice bs None in
     let tells : Tells s bs = record { is = refl; short = omega arith } in
     let given = subst (λ (s : Input). IfErr c.read_all.result (TellsWhole g.T.Readable.passes_over g.T.Readable.total mut_refusals all_formats (g.T.Readable.reads from_mut_slice_context) max_depth s)) c.new.ensures c.read_all.ensures.fault in
     let reads = g.T.Readable.reads from_mut_slice_context in
@@ -66,7 +66,7 @@ returns-clause-first g c =
 pub returns-clause-memory : goal.returns-clause-memory
 returns-clause-memory g c = λ x spelt.
     let bs = c.args.slice.now in
-    let s = unread_slice bs None in
+    let s = start_of_slice bs None in
     let fits : AreBytes bs = c.are_bytes.ensures in
     let reads = g.T.Readable.reads from_mut_slice_context in
     let asks = g.T.Readable.asks_memory asks_none in

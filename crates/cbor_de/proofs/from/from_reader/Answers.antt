@@ -2,7 +2,7 @@ use Rattle.std.proofs.Common.{IfErr, [], None, refl, subst, arith}
 use Rattle.std.specs.Prelude.{⊤}
 use Rattle.cbor_model.specs.Acceptable.{max_depth}
 use Rattle.cbor_model.specs.Formats.{all_formats}
-use Rattle.cbor_read.specs.Source.{Input, unread_reader, reader_refusals}
+use Rattle.cbor_read.specs.Source.{Input, start_of_reader, reader_refusals}
 use Rattle.cbor_decode.specs.Gives.{Tells}
 use Rattle.cbor_decode_as.specs.Takes.{MemoryFor}
 use Rattle.cbor_de.specs.Whole.{ReadsAll, TellsWhole, from_reader_context, from_reader_asks}
@@ -15,7 +15,7 @@ use Rattle.cbor_de.proofs.from.from_reader.Goals as goal
 
 pub returns-clause-found : goal.returns-clause-found
 returns-clause-found g c = λ bs gave.
-    let s = unread_reader (g.R.Read.remaining c.args.reader) in
+    let s = start_of_reader (g.R.Read.remaining c.args.reader) in
     let reads = g.T.Readable.reads from_reader_context in
     let given = subst (λ (s : Input). ReadsAll reader_refusals all_formats reads max_depth s c.read_all.result) c.new.ensures c.read_all.ensures.read in
     let tells : Tells s bs = record { is = gave.told; short = omega (arith, gave.short) } in
@@ -23,7 +23,7 @@ returns-clause-found g c = λ bs gave.
 
 pub returns-clause-accepted : goal.returns-clause-accepted
 returns-clause-accepted g c = λ bs gave x spelt.
-    let s = unread_reader (g.R.Read.remaining c.args.reader) in
+    let s = start_of_reader (g.R.Read.remaining c.args.reader) in
     let reads = g.T.Readable.reads from_reader_context in
     let given = subst (λ (s : Input). ReadsAll reader_refusals all_formats reads max_depth s c.read_all.result) c.new.ensures c.read_all.ensures.read in
     let tells : Tells s bs = record { is = gave.told; short = omega (arith, gave.short) } in
@@ -31,21 +31,21 @@ returns-clause-accepted g c = λ bs gave x spelt.
 
 pub returns-clause-refused : goal.returns-clause-refused
 returns-clause-refused g c = λ bs gave.
-    let s = unread_reader (g.R.Read.remaining c.args.reader) in
+    let s = start_of_reader (g.R.Read.remaining c.args.reader) in
     let tells : Tells s bs = record { is = gave.told; short = omega (arith, gave.short) } in
     let given = subst (λ (s : Input). IfErr c.read_all.result (TellsWhole g.T.Readable.passes_over g.T.Readable.total reader_refusals all_formats (g.T.Readable.reads from_reader_context) max_depth s)) c.new.ensures c.read_all.ensures.fault in
     fails_or_faults g.T.Readable.passes_over g.T.Readable.total reader_refusals (g.T.Readable.reads from_reader_context) s bs tells refl c.read_all.result given
 
 pub returns-clause-fault : goal.returns-clause-fault
 returns-clause-fault g c = λ bs gave.
-    let s = unread_reader (g.R.Read.remaining c.args.reader) in
+    let s = start_of_reader (g.R.Read.remaining c.args.reader) in
     let tells : Tells s bs = record { is = gave.told; short = omega (arith, gave.short) } in
     let given = subst (λ (s : Input). IfErr c.read_all.result (TellsWhole g.T.Readable.passes_over g.T.Readable.total reader_refusals all_formats (g.T.Readable.reads from_reader_context) max_depth s)) c.new.ensures c.read_all.ensures.fault in
     kinds g.T.Readable.passes_over g.T.Readable.total reader_refusals (g.T.Readable.reads from_reader_context) s bs tells refl ⊤ (λ device. tt) c.read_all.result given
 
 pub returns-clause-every : goal.returns-clause-every
 returns-clause-every g c = λ bs gave v spelt.
-    let s = unread_reader (g.R.Read.remaining c.args.reader) in
+    let s = start_of_reader (g.R.Read.remaining c.args.reader) in
     let tells : Tells s bs = record { is = gave.told; short = omega (arith, gave.short) } in
     let given = subst (λ (s : Input). IfErr c.read_all.result (TellsWhole g.T.Readable.passes_over g.T.Readable.total reader_refusals all_formats (g.T.Readable.reads from_reader_context) max_depth s)) c.new.ensures c.read_all.ensures.fault in
     let reads = g.T.Readable.reads from_reader_context in
@@ -58,7 +58,7 @@ returns-clause-first g c = λ bs gave.
 
 pub returns-clause-memory : goal.returns-clause-memory
 returns-clause-memory g c = λ bs gave x spelt.
-    let s = unread_reader (g.R.Read.remaining c.args.reader) in
+    let s = start_of_reader (g.R.Read.remaining c.args.reader) in
     let reads = g.T.Readable.reads from_reader_context in
     let asks = g.T.Readable.asks_memory from_reader_asks in
     let memory = subst (λ (s : Input). IfErr c.read_all.result (MemoryFor asks all_formats reads max_depth s)) c.new.ensures c.read_all.ensures.memory in

@@ -2,7 +2,7 @@ use Rattle.std.proofs.Common.{IfErr, [], length, Some, refl, subst, arith}
 use Rattle.cbor_model.specs.Acceptable.{max_depth}
 use Rattle.cbor_model.specs.Formats.{all_formats}
 use Rattle.cbor_model.specs.Raw.{AreBytes}
-use Rattle.cbor_read.specs.Source.{Input, unread_slice, fixed_refusals}
+use Rattle.cbor_read.specs.Source.{Input, start_of_slice, fixed_refusals}
 use Rattle.cbor_decode.specs.Gives.{Tells}
 use Rattle.cbor_decode_as.specs.Takes.{MemoryFor}
 use Rattle.cbor_de.specs.Whole.{ReadsAll, TellsWhole, from_slice_context, asks_none}
@@ -17,7 +17,7 @@ use Rattle.cbor_de.proofs.from.from_slice_with_scratch.Goals as goal
 pub returns-clause-found : goal.returns-clause-found
 returns-clause-found g c =
     let bs = c.args.slice.now in
-    let s = unread_slice bs (Some (length c.args.scratch.now)) in
+    let s = start_of_slice bs (Some (length c.args.scratch.now)) in
     let fits : AreBytes bs = λ i. omega (arith, c.type_inv.slice i) in
     let reads = g.T.Readable.reads from_slice_context in
     let given = subst (λ (s : Input). ReadsAll fixed_refusals all_formats reads max_depth s c.read_all.result) c.new.ensures c.read_all.ensures.read in
@@ -27,7 +27,7 @@ returns-clause-found g c =
 pub returns-clause-accepted : goal.returns-clause-accepted
 returns-clause-accepted g c = λ x spelt room.
     let bs = c.args.slice.now in
-    let s = unread_slice bs (Some (length c.args.scratch.now)) in
+    let s = start_of_slice bs (Some (length c.args.scratch.now)) in
     let fits : AreBytes bs = λ i. omega (arith, c.type_inv.slice i) in
     let reads = g.T.Readable.reads from_slice_context in
     let given = subst (λ (s : Input). ReadsAll fixed_refusals all_formats reads max_depth s c.read_all.result) c.new.ensures c.read_all.ensures.read in
@@ -37,7 +37,7 @@ returns-clause-accepted g c = λ x spelt room.
 pub returns-clause-refused : goal.returns-clause-refused
 returns-clause-refused g c =
     let bs = c.args.slice.now in
-    let s = unread_slice bs (Some (length c.args.scratch.now)) in
+    let s = start_of_slice bs (Some (length c.args.scratch.now)) in
     let tells : Tells s bs = record { is = refl; short = omega arith } in
     let given = subst (λ (s : Input). IfErr c.read_all.result (TellsWhole g.T.Readable.passes_over g.T.Readable.total fixed_refusals all_formats (g.T.Readable.reads from_slice_context) max_depth s)) c.new.ensures c.read_all.ensures.fault in
     fails g.T.Readable.passes_over g.T.Readable.total fixed_refusals (g.T.Readable.reads from_slice_context) s bs tells refl (λ device. absurd cc) c.read_all.result given
@@ -45,7 +45,7 @@ returns-clause-refused g c =
 pub returns-clause-fault : goal.returns-clause-fault
 returns-clause-fault g c =
     let bs = c.args.slice.now in
-    let s = unread_slice bs (Some (length c.args.scratch.now)) in
+    let s = start_of_slice bs (Some (length c.args.scratch.now)) in
     let tells : Tells s bs = record { is = refl; short = omega arith } in
     let given = subst (λ (s : Input). IfErr c.read_all.result (TellsWhole g.T.Readable.passes_over g.T.Readable.total fixed_refusals all_formats (g.T.Readable.reads from_slice_context) max_depth s)) c.new.ensures c.read_all.ensures.fault in
     kinds g.T.Readable.passes_over g.T.Readable.total fixed_refusals (g.T.Readable.reads from_slice_context) s bs tells refl ⊥ (λ device. absurd cc) c.read_all.result given
@@ -54,7 +54,7 @@ pub returns-clause-every : goal.returns-clause-every
 returns-clause-every g c = λ v spelt room.
     let bs = c.args.slice.now in
     let most = Some (length c.args.scratch.now) in
-    let s = unread_slice bs most in
+    let s = start_of_slice bs most in
     let tells : Tells s bs = record { is = refl; short = omega arith } in
     let given = subst (λ (s : Input). IfErr c.read_all.result (TellsWhole g.T.Readable.passes_over g.T.Readable.total fixed_refusals all_formats (g.T.Readable.reads from_slice_context) max_depth s)) c.new.ensures c.read_all.ensures.fault in
     let reads = g.T.Readable.reads from_slice_context in
@@ -65,7 +65,7 @@ pub returns-clause-small : goal.returns-clause-small
 returns-clause-small g c = λ v spelt longer.
     let bs = c.args.slice.now in
     let room = length c.args.scratch.now in
-    let s = unread_slice bs (Some room) in
+    let s = start_of_slice bs (Some room) in
     let tells : Tells s bs = record { is = refl; short = omega arith } in
     let reads = g.T.Readable.reads from_slice_context in
     let read = subst (λ (s : Input). ReadsAll fixed_refusals all_formats reads max_depth s c.read_all.result) c.new.ensures c.read_all.ensures.read in
@@ -80,7 +80,7 @@ returns-clause-first g c =
 pub returns-clause-memory : goal.returns-clause-memory
 returns-clause-memory g c = λ x spelt room.
     let bs = c.args.slice.now in
-    let s = unread_slice bs (Some (length c.args.scratch.now)) in
+    let s = start_of_slice bs (Some (length c.args.scratch.now)) in
     let fits : AreBytes bs = λ i. omega (arith, c.type_inv.slice i) in
     let reads = g.T.Readable.reads from_slice_context in
     let asks = g.T.Readable.asks_memory asks_none in

@@ -3,7 +3,7 @@ use Rattle.cbor_read.specs.Source.{part_bytes}
 use Rattle.cbor_read.specs.declared.EitherLifetime.{EitherLifetime}
 use Rattle.cbor_decode.specs.declared.head.Head.TheVariants as head
 use Rattle.cbor_decode_as.specs.Strings.{Lent}
-use Rattle.cbor_decode_as.specs.declared.lent.Unread.{Unread}
+use Rattle.cbor_decode_as.specs.declared.borrowed.Unread.{Unread}
 use Rattle.cbor_decode_as.proofs.texts.Lending.{made_refuses}
 use Rattle.cbor_decode_as.proofs.identifier.bytes_name.Goals as goal
 

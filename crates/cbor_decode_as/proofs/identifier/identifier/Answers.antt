@@ -38,10 +38,10 @@ pub returns-in-None-clause-read : goal.returns-in-None-clause-read
 returns-in-None-clause-read g c =
     let old = c.args.decoder.now in
     let u = c.short_text.new.self in
-    let new = c.any_identifier.new.decoder in
+    let new = c.identifier_slow.new.decoder in
     let s = g.R.Source.source u.source in
     let t = g.R.Source.source new.source in
     let identifier = PassesTags (IsIdentifier (texts c.args.names.now)) in
-    subst (λ (x : Input). OnceMade (IsMadeBy new.refusal) (TakesItem g.R.Source.refusals (formats_of old.formats) identifier old.levels x t) c.any_identifier.result) c.in-None.ensures.read
-    (subst (λ (n : ℕ). OnceMade (IsMadeBy new.refusal) (TakesItem g.R.Source.refusals (formats_of old.formats) identifier n s t) c.any_identifier.result) c.in-None.ensures.levels
-    (subst (λ (k : Formats). OnceMade (IsMadeBy new.refusal) (TakesItem g.R.Source.refusals k identifier u.levels s t) c.any_identifier.result) (ap formats_of c.in-None.ensures.formats) c.any_identifier.ensures.read))
+    subst (λ (x : Input). OnceMade (IsMadeBy new.refusal) (TakesItem g.R.Source.refusals (formats_of old.formats) identifier old.levels x t) c.identifier_slow.result) c.in-None.ensures.read
+    (subst (λ (n : ℕ). OnceMade (IsMadeBy new.refusal) (TakesItem g.R.Source.refusals (formats_of old.formats) identifier n s t) c.identifier_slow.result) c.in-None.ensures.levels
+    (subst (λ (k : Formats). OnceMade (IsMadeBy new.refusal) (TakesItem g.R.Source.refusals k identifier u.levels s t) c.identifier_slow.result) (ap formats_of c.in-None.ensures.formats) c.identifier_slow.ensures.read))

@@ -9,8 +9,8 @@ use Rattle.std.proofs.lemmas.Result.{err_from_is_err_and}
 use Rattle.cbor_de.proofs.facts.Structs.{no_struct, no_field_named, field_named, other_passed, other_unread, field_missing, end_unread, struct_held}
 use Rattle.cbor_de.proofs.facts.Structs.{unknown_other}
 use Rattle.cbor_described.proofs.FieldLists.{unread, begins_with, value_in, value_not_in, lacking_is}
-use Rattle.cbor_de.specs.Forms.{both, item_form, struct_form, key_form}
-use Rattle.cbor_decode.proofs.facts.Steps.{onward_some}
+use Rattle.cbor_de.specs.Forms.{either, item_form, struct_form, key_form}
+use Rattle.cbor_decode.proofs.facts.Steps.{advances_some}
 use Rattle.cbor_de.proofs.facts.Forms.{later_in, of_left, of_right, took_then}
 use Rattle.cbor_described.proofs.FieldForms.{of_fields}
 use Rattle.cbor_described.proofs.field_list.fields_within.Goals as goal
@@ -31,7 +31,7 @@ fields-init g c =
     let k = context c.args.de.now.decoder.formats g.R.Source.lends in
     record {
       formats = c.in_ok-remaining.ensures.formats;
-      onward = c.in_ok-remaining.ensures.taken;
+      advances = c.in_ok-remaining.ensures.taken;
       so_far = begins_with (texts c.args.names.now) (g.F.FieldList.fields k) _ (c.none-held.ensures k) c.in_ok-remaining.ensures.read c.in_ok-remaining.ensures.formats;
     }
 
@@ -58,11 +58,11 @@ fields-preserved-in-Continue-branch-4 g c =
     let key = field_named names (fields c.args.de.now.decoder.formats) i.so_far c.in_ok-field.field-0 c.in-Some.field c.in-Some.is refl c.next_key.new.remaining next.read next.formats next.levels in
     let now = c.next_key.new.de.decoder in
     let done = c.in_ok-take-in-Known.ensures in
-    let named = onward_some _ _ _ i.onward next.read.took in
+    let named = advances_some _ _ _ i.advances next.read.took in
     let taken = subst (λ (f : Formats). FieldTaken (formats_of now.formats) now.levels (fields f) c.in-Known.i (slots f c.fields.held) (slots f c.take.new.held) (g.R.Source.source now.source) (g.R.Source.source c.take.new.de.decoder.source)) (next.formats ∙ i.formats) done.read in
     record {
       formats = done.formats ∙ next.formats ∙ i.formats;
-      onward = record { further = omega (arith, named.further, done.forward); counted = named.counted };
+      advances = record { further = omega (arith, named.further, done.forward); counted = named.counted };
       so_far = value_in names (fields c.args.de.now.decoder.formats) key c.in-Known.i c.in-Known.is done.formats done.levels refl (slots c.args.de.now.decoder.formats c.take.new.held) taken;
     }
 
@@ -90,7 +90,7 @@ fields-preserved g c =
     let done = c.in_ok-skip_item-in-Unknown.ensures in
     record {
       formats = done.formats ∙ next.formats ∙ i.formats;
-      onward = onward_some _ _ _ i.onward (took_then next.read.took done.read.took);
+      advances = advances_some _ _ _ i.advances (took_then next.read.took done.read.took);
       so_far = other_passed names fields i.so_far c.in_ok-field.field-0 c.in-Some.field c.in-Some.is refl c.next_key.new.remaining next.read next.formats next.levels done.formats done.levels refl (unknown_other fields c.in-Unknown.is) done.read;
     }
 
@@ -151,7 +151,7 @@ returns-in_err-take-in-Known-clause-form g c =
     let e = c.in_err-take-in-Known.field-0.0 in
     let next = c.in_ok-field.ensures in
     let took = took_then (took_then i.so_far.head.took i.so_far.so_far.took) next.read.took in
-    rw (passed.1, passed.2) (of_fields g.F.FieldList.wrong_forms _ _ e (later_in (both item_form g.F.FieldList.wrong_forms) c.args.de.now.decoder.formats c.next_key.new.de.decoder.formats _ _ e (next.formats ∙ i.formats) took c.in_err-take-in-Known.ensures.form))
+    rw (passed.1, passed.2) (of_fields g.F.FieldList.wrong_forms _ _ e (later_in (either item_form g.F.FieldList.wrong_forms) c.args.de.now.decoder.formats c.next_key.new.de.decoder.formats _ _ e (next.formats ∙ i.formats) took c.in_err-take-in-Known.ensures.form))
 
 pub returns-in_err-skip_item-in-Unknown-clause-form : goal.returns-in_err-skip_item-in-Unknown-clause-form
 returns-in_err-skip_item-in-Unknown-clause-form g c =
@@ -164,4 +164,4 @@ returns-in_err-skip_item-in-Unknown-clause-form g c =
 
 pub returns-clause-taken : goal.returns-clause-taken
 returns-clause-taken g c =
-    onward_some _ _ _ c.fields.invariant.onward (took_then c.in_ok-field.ensures.read.took c.in_ok-end_map.ensures.read.took)
+    advances_some _ _ _ c.fields.invariant.advances (took_then c.in_ok-field.ensures.read.took c.in_ok-end_map.ensures.read.took)

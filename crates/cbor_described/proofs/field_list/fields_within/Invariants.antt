@@ -1,6 +1,6 @@
 use Rattle.std.proofs.Common.{◌≡◌}
-use Rattle.cbor_decode.specs.Gives.{Onward}
-use Rattle.cbor_decode_as.specs.Accesses.{turns}
+use Rattle.cbor_decode.specs.Gives.{Advances}
+use Rattle.cbor_decode_as.specs.Accesses.{most_left}
 use Rattle.cbor_decode_as.specs.Identifiers.{texts}
 use Rattle.cbor_decode_as.specs.Takes.{context}
 use Rattle.cbor_de.proofs.facts.Structs.{StructSoFar}
@@ -9,10 +9,10 @@ use Rattle.cbor_described.proofs.field_list.fields_within.Given as goal
 abbrev pub invariant-fields : goal.invariant-fields
 invariant-fields g l = let k = context l.fn.de.decoder.formats g.R.Source.lends in record {
   formats : l.de.decoder.formats ≡ l.fn.de.decoder.formats;
-  onward : Onward (g.R.Source.source l.fn.de.decoder.source) (g.R.Source.source l.de.decoder.source);
+  advances : Advances (g.R.Source.source l.fn.de.decoder.source) (g.R.Source.source l.de.decoder.source);
   so_far : StructSoFar (texts l.names) (g.F.FieldList.fields k) (g.F.FieldList.slots k l.held) (g.R.Source.source l.fn.de.decoder.source) l.fn.de.decoder.formats l.fn.de.decoder.levels
       (g.R.Source.source l.de.decoder.source) l.de.decoder.formats l.de.decoder.levels l.remaining;
 }
 
 abbrev pub decreases-fields : goal.decreases-fields
-decreases-fields g l = turns l.remaining (g.R.Source.source l.de.decoder.source)
+decreases-fields g l = most_left l.remaining (g.R.Source.source l.de.decoder.source)

@@ -1,6 +1,6 @@
 use Rattle.std.proofs.Common.{◌⊎◌, inl, inr}
 use Rattle.std.proofs.lemmas.Result.{on_ok_weaker}
-use Rattle.cbor_tool.specs.Steps.{answered_in}
+use Rattle.cbor_tool.specs.RunSteps.{answered_in}
 use Rattle.cbor_tool.proofs.Answers.{IsAnswer-decoded, IsAnswer-not_hexadecimal}
 use Rattle.cbor_tool.proofs.program.answer.Goals as goal
 

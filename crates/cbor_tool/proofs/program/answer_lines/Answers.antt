@@ -1,6 +1,6 @@
 use Rattle.std.proofs.Common.{◌≢◌, [], arith}
 use Rattle.std.proofs.lemmas.Result.{err_from_is_err_and}
-use Rattle.cbor_tool.specs.Steps.{answered_in}
+use Rattle.cbor_tool.specs.RunSteps.{answered_in}
 use Rattle.cbor_tool.proofs.Stops.{not_empty, empty, HasAnswered-none, HasAnswered-line}
 use Rattle.cbor_tool.proofs.Stops.{AppendsAnswers-all, AppendsAnswers-whole, IsStopped-reading}
 use Rattle.cbor_tool.proofs.Stops.{IsStopped-at_line, IsStopped-at_last}

@@ -1,6 +1,6 @@
 -- Each line that was taken was answered.
 use Rattle.std.proofs.Common.{◌-◌, ◌^◌}
-use Rattle.cbor_tool.specs.Steps.{answered_in}
+use Rattle.cbor_tool.specs.RunSteps.{answered_in}
 use Rattle.cbor_tool.proofs.Stops.{HasAnswered}
 use Rattle.cbor_tool.proofs.program.answer_lines.Given as goal
 

@@ -1,7 +1,7 @@
 -- The line has the bytes that were taken, and each was counted.
 use Rattle.std.proofs.Common.{◌≡◌, ◌+◌, ◌-◌, ◌^◌, length}
 use Rattle.std.specs.Io.KnownBytes.{Consumes}
-use Rattle.cbor_tool.specs.Steps.{IsInLine}
+use Rattle.cbor_tool.specs.RunSteps.{IsInLine}
 use Rattle.cbor_tool.proofs.program.read_line.Given as goal
 
 abbrev pub invariant-bytes : goal.invariant-bytes

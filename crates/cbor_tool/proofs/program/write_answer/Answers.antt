@@ -1,6 +1,6 @@
 use Rattle.std.proofs.Common.{◌∙◌}
 use Rattle.std.proofs.lemmas.Result.{err_from_is_err_and}
-use Rattle.cbor_tool.specs.Steps.{answered_in}
+use Rattle.cbor_tool.specs.RunSteps.{answered_in}
 use Rattle.cbor_tool.proofs.Writing.{AppendsUpTo-whole}
 use Rattle.cbor_tool.proofs.program.write_answer.Goals as goal
 

@@ -4,7 +4,7 @@ use Rattle.cbor_model.specs.Formats.{Formats, all_formats}
 use Rattle.cbor_model.specs.Raw.{Raw, AreBytes}
 use Rattle.cbor_model.specs.Readable.{PassesTags, IsFromZero}
 use Rattle.serde_cbor.specs.Error.{code_of, offset_of}
-use Rattle.serde_cbor.specs.Source.{Input, Lends, unread_slice, slice_refusals}
+use Rattle.serde_cbor.specs.Source.{Input, Lends, start_of_slice, slice_refusals}
 use Rattle.serde_cbor.specs.Sources.{input_of_slice}
 use Rattle.serde_cbor.specs.Gives.{Reports, Tells}
 use Rattle.serde_cbor.specs.Takes.{ExcusedBy, TakesItem, formats_of}
@@ -21,7 +21,7 @@ if_ok s t bs Q (Err e) h = tt
 pub returns : goal.returns
 returns c =
     let bs = c.args.bytes.now in
-    let s = unread_slice bs None in
+    let s = start_of_slice bs None in
     let d = c.from_slice-de.result.decoder in
     let t = input_of_slice c.deserialize.new.de.decoder.source in
     let r = c.deserialize.result in

@@ -2,7 +2,7 @@ use Rattle.std.proofs.lemmas.Result.{err_from_is_err_and}
 use Rattle.cbor_io.specs.Error.{code_of, offset_of}
 use Rattle.cbor_decode_as.specs.Identifiers.{texts}
 use Rattle.cbor_decode_as.specs.Takes.{formats_of}
-use Rattle.cbor_de.proofs.Fields.{no_field}
+use Rattle.cbor_de.proofs.FieldNames.{no_field}
 use Rattle.cbor_de.proofs.de.Deserializer.field.Goals as goal
 
 pub returns-in_err-place-clause-read : goal.returns-in_err-place-clause-read

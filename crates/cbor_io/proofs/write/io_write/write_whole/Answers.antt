@@ -1,4 +1,4 @@
-use Rattle.cbor_io.proofs.Fronts.{WritesFront-more}
+use Rattle.cbor_io.proofs.WrittenFronts.{WritesFront-more}
 use Rattle.cbor_io.proofs.write.io_write.write_whole.Goals as goal
 
 pub bytes-preserved : goal.bytes-preserved

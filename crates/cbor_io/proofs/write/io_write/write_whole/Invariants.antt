@@ -1,6 +1,6 @@
 -- What isn't left was written.
 use Rattle.std.proofs.Common.{length}
-use Rattle.cbor_io.proofs.Fronts.{WritesFront}
+use Rattle.cbor_io.proofs.WrittenFronts.{WritesFront}
 use Rattle.cbor_io.proofs.write.io_write.write_whole.Given as goal
 
 abbrev pub invariant-bytes : goal.invariant-bytes

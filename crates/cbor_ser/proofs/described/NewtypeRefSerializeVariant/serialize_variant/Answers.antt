@@ -1,4 +1,4 @@
-use Rattle.cbor_ser.proofs.Steps.{by_parts, and_then, stops}
+use Rattle.cbor_ser.proofs.WriteSteps.{by_parts, and_then, stops}
 use Rattle.cbor_ser.proofs.described.NewtypeRefSerializeVariant.serialize_variant.Goals as goal
 
 pub returns-in_err-write_newtype_head : goal.returns-in_err-write_newtype_head

@@ -1,6 +1,6 @@
 use Rattle.std.proofs.Common.{ℕ, ap, Some}
 use Rattle.cbor_model.specs.Parts.{both, tuple_head, items, ending}
-use Rattle.cbor_ser.proofs.Steps.{by_parts, and_then, stops, same}
+use Rattle.cbor_ser.proofs.WriteSteps.{by_parts, and_then, stops, same}
 use Rattle.cbor_ser.proofs.described.TupleSerializeVariant.serialize_variant.Goals as goal
 
 pub returns-in_err-write_tuple_head : goal.returns-in_err-write_tuple_head

@@ -1,5 +1,5 @@
 use Rattle.std.proofs.lemmas.Result.{on_ok_weaker}
-use Rattle.cbor_ser.proofs.Steps.{and_then, stopped_then, stopped_before, if_refused}
+use Rattle.cbor_ser.proofs.WriteSteps.{and_then, stopped_then, stopped_before, if_refused}
 use Rattle.cbor_ser.proofs.part_list.Tuple2RefWriteItems.write_items.Goals as goal
 
 pub returns-in-Ok-clause-ok : goal.returns-in-Ok-clause-ok

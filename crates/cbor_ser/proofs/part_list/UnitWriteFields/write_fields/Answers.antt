@@ -1,6 +1,6 @@
 use Rattle.std.proofs.Common.{refl}
 use Rattle.cbor_model.specs.Parts.{nothing, part_bytes}
-use Rattle.cbor_ser.proofs.Steps.{nothing_is}
+use Rattle.cbor_ser.proofs.WriteSteps.{nothing_is}
 use Rattle.cbor_ser.proofs.part_list.UnitWriteFields.write_fields.Goals as goal
 
 pub returns : goal.returns

@@ -1,7 +1,7 @@
-use Rattle.cbor_ser.proofs.Steps.{float_storable}
+use Rattle.cbor_ser.proofs.WriteSteps.{float_storable}
 use Rattle.std.proofs.Common.{refl}
 use Rattle.cbor_ser.proofs.Beginnings.{told, told_refused, told_fits}
-use Rattle.cbor_ser.proofs.Steps.{serialized}
+use Rattle.cbor_ser.proofs.WriteSteps.{serialized}
 use Rattle.cbor_value.specs.View.{float_view}
 use Rattle.cbor_model.proofs.facts.Documents.{document_is_canonical, storable_document, document_in_range}
 use Rattle.cbor_model.specs.Parts.{part_bytes, item}
@@ -12,7 +12,7 @@ use Rattle.cbor_ser.proofs.serializer.Serializer.serialize_float.Goals as goal
 pub returns : goal.returns
 unfolding part_bytes
 returns g c =
-    let done = c.write_float-done in
+    let done = c.put_float-done in
     let s = c.args.self.now.settings in
     let v = float_view c.args.v in
     serialized (item (document.document_of v)) c.answer.result

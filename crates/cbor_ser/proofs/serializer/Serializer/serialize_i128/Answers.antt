@@ -1,7 +1,7 @@
 use Rattle.std.proofs.Common.{refl}
 use Rattle.std.proofs.lemmas.Int.{to_z-of_z}
 use Rattle.cbor_ser.proofs.Beginnings.{told, told_refused, told_fits, told_ok, told_why}
-use Rattle.cbor_ser.proofs.Steps.{serialized_value, always}
+use Rattle.cbor_ser.proofs.WriteSteps.{serialized_value, always}
 use Rattle.cbor_ser.proofs.Unstored.{integer_before}
 use Rattle.cbor_model.specs.Plain as plain
 use Rattle.cbor_model.specs.Document.{document_of}
@@ -11,7 +11,7 @@ pub returns-clause-written : goal.returns-clause-written
 unfolding document_of
 returns-clause-written g c =
     let fits = c.ranges.v in
-    let done = c.write_integer-done in
+    let done = c.put_integer-done in
     let refused = told_refused _ done.result _ c.answer.result c.answer.ensures.ok c.answer.ensures.err done.ensures.refused in
     let stored = told_ok _ _ done.result _ c.answer.result c.answer.ensures.err done.ensures.refused done.ensures.storable in
     let wrote = told _ done.result _ c.answer.result c.answer.ensures.ok c.answer.ensures.err done.ensures.refused done.ensures.written in
@@ -22,5 +22,5 @@ returns-clause-written g c =
 pub returns-clause-unstorable : goal.returns-clause-unstorable
 returns-clause-unstorable g c =
     let fits = c.ranges.v in
-    let done = c.write_integer-done in
+    let done = c.put_integer-done in
     λ not. told_why _ _ done.result _ c.answer.result c.answer.ensures.err (simp to_z-of_z at done.ensures.storable) not (done.ensures.unstorable (simp to_z-of_z not))

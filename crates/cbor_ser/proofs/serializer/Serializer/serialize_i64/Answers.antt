@@ -1,5 +1,5 @@
 use Rattle.std.proofs.Common.{rules}
-use Rattle.cbor_ser.proofs.Steps.{integer_storable}
+use Rattle.cbor_ser.proofs.WriteSteps.{integer_storable}
 use Rattle.cbor_model.specs.Parts.{part_bytes, item}
 use Rattle.cbor_model.specs.Document as document
 use Rattle.cbor_model.specs.Document.{document_bytes, raw_of}

@@ -1,5 +1,5 @@
-use Rattle.cbor_ser.proofs.Steps.{and_then, stops}
-use Rattle.cbor_ser.proofs.Steps.{by_parts}
+use Rattle.cbor_ser.proofs.WriteSteps.{and_then, stops}
+use Rattle.cbor_ser.proofs.WriteSteps.{by_parts}
 use Rattle.cbor_ser.proofs.serializer.Serializer.serialize_newtype_variant.Goals as goal
 
 pub returns-in_err-write_newtype_head : goal.returns-in_err-write_newtype_head

@@ -1,6 +1,6 @@
 use Rattle.std.proofs.Common.{ℕ, List, ap}
 use Rattle.cbor_model.specs.Parts.{item}
-use Rattle.cbor_ser.proofs.Steps.{same}
+use Rattle.cbor_ser.proofs.WriteSteps.{same}
 use Rattle.cbor_ser.proofs.Named.{named_at}
 use Rattle.cbor_ser.proofs.serializer.Serializer.serialize_variant.Goals as goal
 

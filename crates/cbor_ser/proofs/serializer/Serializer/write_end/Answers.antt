@@ -1,5 +1,5 @@
 use Rattle.std.proofs.Common.{refl, Some, None}
-use Rattle.cbor_ser.proofs.Steps.{nothing_is}
+use Rattle.cbor_ser.proofs.WriteSteps.{nothing_is}
 use Rattle.cbor_model.specs.Parts.{part_bytes, ending}
 use Rattle.cbor_model.specs.Document.{document_bytes, raw_of}
 use Rattle.cbor_model.specs.Spelling.{spell}

@@ -2,7 +2,7 @@ use Rattle.std.proofs.Common.{◌≡◌, ap, sym, refl, Some, rules}
 use Rattle.std.specs.Prelude.{Ok}
 use Rattle.cbor_model.specs.Document.{doc_pairs}
 use Rattle.cbor_model.specs.Parts.{pairs, ending, part_bytes}
-use Rattle.cbor_ser.proofs.Steps.{and_then, stops, same, nothing_is}
+use Rattle.cbor_ser.proofs.WriteSteps.{and_then, stops, same, nothing_is}
 use Rattle.cbor_ser.proofs.serializer.Serializer.write_entries.Goals as goal
 
 pub loop-key-init : goal.loop-key-init

@@ -1,5 +1,5 @@
-use Rattle.cbor_ser.proofs.Steps.{and_then, stops, same_part}
-use Rattle.cbor_ser.proofs.Heads.{field_same}
+use Rattle.cbor_ser.proofs.WriteSteps.{and_then, stops, same_part}
+use Rattle.cbor_ser.proofs.WrittenHeads.{field_same}
 use Rattle.cbor_model.specs.Parts.{item}
 use Rattle.cbor_ser.proofs.serializer.Serializer.write_field.Goals as goal
 

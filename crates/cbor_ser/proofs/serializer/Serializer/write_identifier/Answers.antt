@@ -1,6 +1,6 @@
 use Rattle.std.proofs.Common.{arith, rules}
-use Rattle.cbor_ser.proofs.Steps.{same_part}
-use Rattle.cbor_ser.proofs.Heads.{key_same}
+use Rattle.cbor_ser.proofs.WriteSteps.{same_part}
+use Rattle.cbor_ser.proofs.WrittenHeads.{key_same}
 use Rattle.cbor_ser.proofs.serializer.Serializer.write_identifier.Goals as goal
 
 pub returns : goal.returns

@@ -2,7 +2,7 @@ use Rattle.std.proofs.Common.{refl, Some}
 use Rattle.std.specs.Prelude.{Ok}
 use Rattle.cbor_model.specs.Parts.{ending, part_bytes}
 use Rattle.cbor_ser.proofs.Lists.{next_item, no_item}
-use Rattle.cbor_ser.proofs.Steps.{and_then, stops, same, nothing_is}
+use Rattle.cbor_ser.proofs.WriteSteps.{and_then, stops, same, nothing_is}
 use Rattle.cbor_ser.proofs.serializer.Serializer.write_items.Goals as goal
 
 pub loop-one-init : goal.loop-one-init

@@ -1,4 +1,4 @@
-use Rattle.cbor_ser.proofs.Steps.{and_then, stops}
+use Rattle.cbor_ser.proofs.WriteSteps.{and_then, stops}
 use Rattle.cbor_ser.proofs.serializer.Serializer.write_legacy_head.Goals as goal
 
 pub returns-in_err-write_array_head : goal.returns-in_err-write_array_head

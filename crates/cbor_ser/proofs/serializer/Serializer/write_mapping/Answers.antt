@@ -2,7 +2,7 @@ use Rattle.std.proofs.Common.{◌≡◌, ◌∙◌, ap, Some, length, rules, ref
 use Rattle.cbor_model.specs.Parts.{map_head}
 use Rattle.cbor_ser.proofs.Users as users
 use Rattle.cbor_ser.proofs.Lists.{count_doc_pairs}
-use Rattle.cbor_ser.proofs.Steps.{by_parts}
+use Rattle.cbor_ser.proofs.WriteSteps.{by_parts}
 use Rattle.cbor_ser.proofs.serializer.Serializer.write_mapping.Goals as goal
 
 pub returns-in_err-write_map_head : goal.returns-in_err-write_map_head

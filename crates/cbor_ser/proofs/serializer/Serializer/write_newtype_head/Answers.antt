@@ -1,6 +1,6 @@
 use Rattle.std.proofs.Common.{arith}
-use Rattle.cbor_ser.proofs.Steps.{same_part}
-use Rattle.cbor_ser.proofs.Heads.{newtype_legacy, newtype_named}
+use Rattle.cbor_ser.proofs.WriteSteps.{same_part}
+use Rattle.cbor_ser.proofs.WrittenHeads.{newtype_legacy, newtype_named}
 use Rattle.cbor_ser.proofs.serializer.Serializer.write_newtype_head.Goals as goal
 
 pub returns-then-self : goal.returns-then-self

@@ -1,5 +1,5 @@
 use Rattle.cbor_model.specs.Document.{doc, no_docs}
-use Rattle.cbor_ser.proofs.Steps.{last}
+use Rattle.cbor_ser.proofs.WriteSteps.{last}
 use Rattle.cbor_ser.proofs.serializer.Serializer.write_parts.Goals as goal
 
 pub returns-in-Ok : goal.returns-in-Ok

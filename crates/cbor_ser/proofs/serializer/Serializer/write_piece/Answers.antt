@@ -1,5 +1,5 @@
 use Rattle.std.proofs.Common.{refl}
-use Rattle.cbor_ser.proofs.Steps.{serialized}
+use Rattle.cbor_ser.proofs.WriteSteps.{serialized}
 use Rattle.cbor_ser.proofs.serializer.Serializer.write_piece.Goals as goal
 
 pub returns : goal.returns

@@ -2,7 +2,7 @@ use Rattle.std.proofs.Common.{ap, Some, refl}
 use Rattle.cbor_model.specs.Parts.{array_head}
 use Rattle.cbor_ser.proofs.Users as users
 use Rattle.cbor_ser.proofs.Lists.{count_docs}
-use Rattle.cbor_ser.proofs.Steps.{by_parts}
+use Rattle.cbor_ser.proofs.WriteSteps.{by_parts}
 use Rattle.cbor_ser.proofs.serializer.Serializer.write_sequence.Goals as goal
 
 pub returns-in_err-write_array_head : goal.returns-in_err-write_array_head

@@ -1,4 +1,4 @@
-use Rattle.cbor_ser.proofs.Steps.{and_then, stops}
+use Rattle.cbor_ser.proofs.WriteSteps.{and_then, stops}
 use Rattle.cbor_ser.proofs.serializer.Serializer.write_struct_head.Goals as goal
 
 pub returns-in_err-write_struct_key : goal.returns-in_err-write_struct_key

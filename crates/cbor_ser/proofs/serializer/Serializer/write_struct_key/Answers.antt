@@ -1,6 +1,6 @@
 use Rattle.std.proofs.Common.{arith, rules}
-use Rattle.cbor_ser.proofs.Steps.{same_part}
-use Rattle.cbor_ser.proofs.Heads.{struct_legacy, struct_identified}
+use Rattle.cbor_ser.proofs.WriteSteps.{same_part}
+use Rattle.cbor_ser.proofs.WrittenHeads.{struct_legacy, struct_identified}
 use Rattle.cbor_ser.proofs.serializer.Serializer.write_struct_key.Goals as goal
 
 pub returns-then-self : goal.returns-then-self

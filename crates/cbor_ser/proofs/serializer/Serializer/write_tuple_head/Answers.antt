@@ -1,6 +1,6 @@
 use Rattle.std.proofs.Common.{arith}
-use Rattle.cbor_ser.proofs.Steps.{and_then, stops, same_part}
-use Rattle.cbor_ser.proofs.Heads.{tuple_legacy, tuple_named}
+use Rattle.cbor_ser.proofs.WriteSteps.{and_then, stops, same_part}
+use Rattle.cbor_ser.proofs.WrittenHeads.{tuple_legacy, tuple_named}
 use Rattle.cbor_ser.proofs.serializer.Serializer.write_tuple_head.Goals as goal
 
 pub returns-then-self : goal.returns-then-self

@@ -1,12 +1,12 @@
 use Rattle.std.proofs.Common.{refl}
 use Rattle.cbor_ser.proofs.Beginnings.{told, told_refused, told_fits, told_ok}
 use Rattle.cbor_value.specs.View.{view}
-use Rattle.cbor_ser.proofs.Steps.{serialized_value}
+use Rattle.cbor_ser.proofs.WriteSteps.{serialized_value}
 use Rattle.cbor_ser.proofs.serializer.Serializer.write_value.Goals as goal
 
 pub returns : goal.returns
 returns g c =
-    let done = c.write_value-done in
+    let done = c.put_value-done in
     let v = view c.args.v.now in
     serialized_value v c.answer.result refl done.ensures.same_references done.ensures.same_capacity
     (told_ok _ _ done.result _ c.answer.result c.answer.ensures.err done.ensures.refused done.ensures.storable)

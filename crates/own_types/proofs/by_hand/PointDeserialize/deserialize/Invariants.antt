@@ -1,7 +1,7 @@
 use Rattle.std.proofs.Common.{ℕ, List, [], ◌∷◌}
 use Rattle.std.specs.Prelude.{map}
 use Rattle.serde_cbor.specs.Readable.{PassesTags, IsSigned}
-use Rattle.serde_cbor.specs.Accesses.{turns}
+use Rattle.serde_cbor.specs.Accesses.{most_left}
 use Rattle.serde_cbor.specs.Structs.{FieldOf, field}
 use Rattle.own_types.specs.declared.by_hand.TheConstants.{POINT}
 use Rattle.own_types.specs.declared.by_hand.Point.{Point}
@@ -18,4 +18,4 @@ abbrev pub invariant-fields : goal.invariant-fields
 invariant-fields g l = FieldsSoFar names fields g.R.Source.source l.fn.de l.initial.access l.access (l.x, (l.y, tt))
 
 abbrev pub decreases-fields : goal.decreases-fields
-decreases-fields g l = turns l.access.remaining (g.R.Source.source l.access.de.now.decoder.source)
+decreases-fields g l = most_left l.access.remaining (g.R.Source.source l.access.de.now.decoder.source)

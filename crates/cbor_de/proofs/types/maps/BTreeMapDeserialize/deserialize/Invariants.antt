@@ -1,7 +1,7 @@
 use Rattle.std.proofs.Common.{◌≡◌, false}
 use Rattle.cbor_decode.specs.Gives.{Step}
 use Rattle.cbor_decode.specs.Heads.{remaining_of}
-use Rattle.cbor_decode_as.specs.Accesses.{turns}
+use Rattle.cbor_decode_as.specs.Accesses.{most_left}
 use Rattle.cbor_decode_as.specs.Takes.{context, formats_of}
 use Rattle.cbor_decode_as.proofs.facts.Maps.{PairsSoFar, Made}
 use Rattle.cbor_de.proofs.types.maps.BTreeMapDeserialize.deserialize.Given as goal
@@ -19,4 +19,4 @@ invariant-pairs g l = record {
 }
 
 abbrev pub decreases-pairs : goal.decreases-pairs
-decreases-pairs g l = turns l.access.remaining (g.R.Source.source l.access.de.now.decoder.source)
+decreases-pairs g l = most_left l.access.remaining (g.R.Source.source l.access.de.now.decoder.source)

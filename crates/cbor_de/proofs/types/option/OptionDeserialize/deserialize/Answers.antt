@@ -3,10 +3,10 @@ use Rattle.cbor_model.specs.Reader.{item_at}
 use Rattle.cbor_io.specs.Error.{code_of, offset_of}
 use Rattle.cbor_decode.specs.Gives.{Step}
 use Rattle.cbor_read.specs.Source.{asks_for}
-use Rattle.cbor_decode_as.specs.Options.{null_at}
+use Rattle.cbor_decode_as.specs.Nulls.{null_at}
 use Rattle.cbor_decode_as.specs.Takes.{raws, context, formats_of, IsRead, IsNotRead, MemoryFor, Refuses, RefusesWhole, WhereTotal}
 use Rattle.cbor_decode.specs.declared.formats.Formats.{Formats}
-use Rattle.cbor_decode_as.proofs.facts.Options.{option_none, option_some, option_refused, option_memory, option_whole, unseen_whole}
+use Rattle.cbor_decode_as.proofs.facts.Nulls.{option_none, option_some, option_refused, option_memory, option_whole, unseen_whole}
 use Rattle.cbor_decode_as.proofs.facts.Refusals.{always, item_only, item_passes}
 use Rattle.cbor_de.proofs.Faults.{where_map}
 use Rattle.cbor_de.proofs.Forms.{later_in}

@@ -1,7 +1,7 @@
 use Rattle.std.proofs.Common.{◌≡◌}
 use Rattle.cbor_decode.specs.Gives.{Step}
 use Rattle.cbor_decode.specs.Heads.{remaining_of}
-use Rattle.cbor_decode_as.specs.Accesses.{turns}
+use Rattle.cbor_decode_as.specs.Accesses.{most_left}
 use Rattle.cbor_decode_as.specs.Takes.{context, formats_of}
 use Rattle.cbor_decode_as.proofs.facts.Arrays.{SoFar, EachRead}
 use Rattle.cbor_de.proofs.types.sequences.VecDeserialize.deserialize.Given as goal
@@ -17,4 +17,4 @@ invariant-items g l = record {
 }
 
 abbrev pub decreases-items : goal.decreases-items
-decreases-items g l = turns l.access.remaining (g.R.Source.source l.access.de.now.decoder.source)
+decreases-items g l = most_left l.access.remaining (g.R.Source.source l.access.de.now.decoder.source)

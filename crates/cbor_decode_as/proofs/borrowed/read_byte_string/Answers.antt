@@ -1,0 +1,49 @@
+use Rattle.std.proofs.Common.{◌∙◌, Ok, refl, subst, ap}
+use Rattle.cbor_decode.specs.declared.head.Head.{Head}
+use Rattle.cbor_decode.specs.declared.head.Head.TheVariants as head
+use Rattle.cbor_decode.proofs.facts.Steps.{took_same, some_then}
+use Rattle.cbor_decode_as.specs.TaggedHeads.{OpensItem}
+use Rattle.cbor_decode_as.specs.Takes.{IsNotRead, formats_of, raws}
+use Rattle.cbor_decode_as.proofs.texts.ByteStrings.{bytes_lent, other_bytes}
+use Rattle.cbor_decode_as.proofs.texts.Lending.{lent_advances}
+use Rattle.cbor_decode_as.proofs.texts.MemoryAsked.{kept_none, of_byte_string, of_no_bytes}
+use Rattle.cbor_read.specs.Source.{asks_for}
+use Rattle.cbor_decode_as.proofs.texts.PassedLent.{bytes_lends, other_lends, unopened_lends, kept_no_key, kept_stop, stops_refuses}
+use Rattle.cbor_model.specs.Reader.{item_at}
+use Rattle.cbor_decode_as.proofs.numbers.Scalars.{not_read}
+use Rattle.cbor_model.specs.Readable.{PassesTags}
+use Rattle.cbor_decode_as.specs.Strings.{IsByteString}
+use Rattle.cbor_decode_as.proofs.borrowed.read_byte_string.Goals as goal
+
+pub returns-in-Bytes : goal.returns-in-Bytes
+returns-in-Bytes g c =
+    let u = c.scalar_head.new.decoder in
+    let levels = c.args.decoder.now.levels in
+    let f = formats_of c.args.decoder.now.formats in
+    let s = g.R.Source.source c.args.decoder.now.source in
+    let m = g.R.Source.source u.source in
+    let t = g.R.Source.source c.bytes_part.follows.lender-at-none.source in
+    let opened = subst (λ (h : Head). OpensItem g.R.Source.refusals f levels s m u.refusal (Ok h)) c.in-Bytes.is c.in-Ok.ensures.read in
+    let after = c.bytes_part.follows.holds-at-none in
+    ((refl, λ _. tt, (after.0 ∙ c.in-Ok.ensures.levels, after.1 ∙ c.in-Ok.ensures.formats, bytes_lent g.R.Source.refusals f g.R.Source.lends levels s m u.refusal c.in-Bytes.n t c.bytes_part.result opened after.2, after.3, of_byte_string g.R.Source.refusals (asks_for g.R.Source.refusals g.R.Source.lends) f levels s m u.refusal c.in-Ok.found c.in-Ok.ensures.opened c.in-Bytes.n c.bytes_part.result c.in-Bytes.is opened after.4, bytes_lends g.R.Source.refusals c.in-Ok.found levels s m c.in-Ok.ensures.opened g.R.Source.lends c.in-Bytes.n t c.bytes_part.result c.in-Bytes.is after.2 after.5, lent_advances g.R.Source.refusals g.R.Source.lends (head.Bytes c.in-Bytes.n) s m t c.bytes_part.result c.in-Ok.ensures.taken after.2)), record { after_borrow = tt })
+
+pub returns-in_default : goal.returns-in_default
+returns-in_default g c =
+    let u = c.scalar_head.new.decoder in
+    let s = g.R.Source.source c.args.decoder.now.source in
+    let f = formats_of c.args.decoder.now.formats in
+    let t = g.R.Source.source c.other.new.decoder.source in
+    ((refl, λ _. tt, (c.other.ensures.levels ∙ c.in-Ok.ensures.levels, c.other.ensures.formats ∙ c.in-Ok.ensures.formats, other_bytes g.R.Source.refusals f g.R.Source.lends c.args.decoder.now.levels s (g.R.Source.source u.source) u.refusal c.in-Ok.found.head c.other.result t c.in_default.not-Bytes c.in-Ok.ensures.read c.other.ensures.took, c.other.ensures.no_key, of_no_bytes g.R.Source.refusals (asks_for g.R.Source.refusals g.R.Source.lends) f c.args.decoder.now.levels s (g.R.Source.source u.source) u.refusal c.in-Ok.found c.in-Ok.ensures.opened c.other.result c.in_default.not-Bytes c.in-Ok.ensures.read c.other.ensures.memory, other_lends g.R.Source.refusals c.in-Ok.found c.args.decoder.now.levels s (g.R.Source.source u.source) c.in-Ok.ensures.opened c.other.result c.other.ensures.fault, tt)), record { after_borrow = tt })
+
+pub returns-in-Err : goal.returns-in-Err
+returns-in-Err g c =
+    let u = c.scalar_head.new.decoder in
+    let levels = c.args.decoder.now.levels in
+    let f = formats_of c.args.decoder.now.formats in
+    let s = g.R.Source.source c.args.decoder.now.source in
+    let q = c.stopped.result in
+    let e = c.in-Err.ensures in
+    let kept = c.stopped.ensures.kept in
+    let raw = kept_stop g.R.Source.refusals (λ l. item_at (raws f l) levels) s u.refusal c.in-Err.refused q kept e.read.1.told in
+    let none = stops_refuses g.R.Source.refusals (λ l. item_at (raws f l) levels) s q (λ l bs. IsNotRead (PassesTags IsByteString) (item_at (raws f l) levels bs)) (λ l bs d is. not_read (PassesTags IsByteString) (item_at (raws f l) levels bs) d is) raw (some_then _ _ _ e.read.1.took (took_same (ap g.R.Source.source c.stopped.ensures.source))) in
+    ((refl, λ _. tt, (c.stopped.ensures.levels ∙ e.levels, c.stopped.ensures.formats ∙ e.formats, none, kept_no_key u.refusal c.in-Err.refused q kept e.no_key, kept_none _ u.refusal c.in-Err.refused q kept e.memory, unopened_lends g.R.Source.refusals levels s u.refusal c.in-Err.refused q e.opened.told kept, tt)), record { after_borrow = tt })

@@ -1,0 +1,50 @@
+use Rattle.std.proofs.Common.{ℕ, Ok, Err, subst}
+use Rattle.std.proofs.lemmas.Result.{err_from_is_err_and}
+use Rattle.cbor_model.specs.Readable.{PassesTags, IsUnit}
+use Rattle.cbor_decode.specs.declared.formats.Formats.{Formats}
+use Rattle.cbor_decode_as.specs.Takes.{formats_of, TakesItem}
+use Rattle.cbor_decode_as.proofs.enums.VariantParts.{none_comes, item_lacks, end_left, only_taken}
+use Rattle.cbor_decode_as.proofs.content.only_null.Goals as goal
+
+pub returns-in_err-expect_item-clause-read : goal.returns-in_err-expect_item-clause-read
+returns-in_err-expect_item-clause-read g c =
+    let passed = err_from_is_err_and c.from_residual.result c.from_residual.ensures.1 in
+    let old = c.args.decoder.now in
+    rw (passed.1, passed.2) (none_comes (PassesTags IsUnit) (formats_of old.formats) old.levels c.args.remaining c.args.remaining g.R.Source.refusals (g.R.Source.source old.source) c.in_err-expect_item.field-0.0 c.in_err-expect_item.ensures.read)
+
+pub returns-in_err-read_unit-clause-read : goal.returns-in_err-read_unit-clause-read
+returns-in_err-read_unit-clause-read g c =
+    let passed = err_from_is_err_and c.from_residual-in_err-read_unit.result c.from_residual-in_err-read_unit.ensures.1 in
+    let old = c.args.decoder.now in
+    let mid = c.expect_item.new.decoder in
+    let s = g.R.Source.source old.source in
+    let a = g.R.Source.source mid.source in
+    let e = c.in_err-read_unit.field-0.0 in
+    let at = subst (λ (f : Formats). TakesItem g.R.Source.refusals (formats_of f) (PassesTags IsUnit) mid.levels a (g.R.Source.source c.read_unit.new.decoder.source) (Err e)) c.in_ok-expect_item.ensures.formats c.in_err-read_unit.ensures.read in
+    let here = subst (λ (n : ℕ). TakesItem g.R.Source.refusals (formats_of old.formats) (PassesTags IsUnit) n a (g.R.Source.source c.read_unit.new.decoder.source) (Err e)) c.in_ok-expect_item.ensures.levels at in
+    rw (passed.1, passed.2) (item_lacks (PassesTags IsUnit) (formats_of old.formats) old.levels c.args.remaining c.expect_item.new.remaining g.R.Source.refusals s e a c.in_ok-expect_item.ensures.read here)
+
+pub returns-in_err-end_array-clause-read : goal.returns-in_err-end_array-clause-read
+returns-in_err-end_array-clause-read g c =
+    let passed = err_from_is_err_and c.from_residual-in_err-end_array.result c.from_residual-in_err-end_array.ensures.1 in
+    let old = c.args.decoder.now in
+    let mid = c.expect_item.new.decoder in
+    let s = g.R.Source.source old.source in
+    let a = g.R.Source.source mid.source in
+    let b = g.R.Source.source c.read_unit.new.decoder.source in
+    let x = tt in
+    let at = subst (λ (f : Formats). TakesItem g.R.Source.refusals (formats_of f) (PassesTags IsUnit) mid.levels a b (Ok x)) c.in_ok-expect_item.ensures.formats c.in_ok-read_unit.ensures.read in
+    let here = subst (λ (n : ℕ). TakesItem g.R.Source.refusals (formats_of old.formats) (PassesTags IsUnit) n a b (Ok x)) c.in_ok-expect_item.ensures.levels at in
+    rw (passed.1, passed.2) (end_left (PassesTags IsUnit) old.formats old.levels c.args.remaining c.expect_item.new.remaining g.R.Source.refusals s a b (g.R.Source.source c.end_array.new.decoder.source) x c.in_err-end_array.field-0.0 c.in_ok-expect_item.ensures.read here c.in_err-end_array.ensures.read)
+
+pub returns-clause-read : goal.returns-clause-read
+returns-clause-read g c =
+    let old = c.args.decoder.now in
+    let mid = c.expect_item.new.decoder in
+    let s = g.R.Source.source old.source in
+    let a = g.R.Source.source mid.source in
+    let b = g.R.Source.source c.read_unit.new.decoder.source in
+    let x = tt in
+    let at = subst (λ (f : Formats). TakesItem g.R.Source.refusals (formats_of f) (PassesTags IsUnit) mid.levels a b (Ok x)) c.in_ok-expect_item.ensures.formats c.in_ok-read_unit.ensures.read in
+    let here = subst (λ (n : ℕ). TakesItem g.R.Source.refusals (formats_of old.formats) (PassesTags IsUnit) n a b (Ok x)) c.in_ok-expect_item.ensures.levels at in
+    only_taken (PassesTags IsUnit) (formats_of old.formats) old.levels c.args.remaining c.expect_item.new.remaining s a b (g.R.Source.source c.end_array.new.decoder.source) x c.in_ok-expect_item.ensures.read here c.in_ok-end_array.ensures.read

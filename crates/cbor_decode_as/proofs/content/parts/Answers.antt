@@ -1,0 +1,38 @@
+use Rattle.cbor_decode.proofs.facts.Steps.{took_none}
+use Rattle.cbor_decode_as.specs.Takes.{formats_of}
+use Rattle.cbor_decode_as.proofs.enums.VariantParts.{parts_here, parts_answer, untold}
+use Rattle.cbor_decode_as.proofs.enums.VariantForms.{parts_begun, parts_in_map, alone_has_none}
+use Rattle.cbor_decode_as.proofs.content.parts.Goals as goal
+
+pub returns-in-Array-clause-read : goal.returns-in-Array-clause-read
+returns-in-Array-clause-read g c =
+    let old = c.args.decoder.now in
+    rw c.in-Array.is (parts_here (formats_of old.formats) old.levels c.in-Array.remaining (g.R.Source.source old.source))
+
+pub returns-in-Map-clause-read : goal.returns-in-Map-clause-read
+returns-in-Map-clause-read g c =
+    let old = c.args.decoder.now in
+    let new = c.array_head.new.decoder in
+    rw c.in-Map.is (parts_answer (formats_of old.formats) old.levels new.levels (g.R.Source.source old.source) (g.R.Source.source new.source) g.R.Source.refusals c.array_head.result c.array_head.ensures.read)
+
+pub returns-in-Map-clause-alone : goal.returns-in-Map-clause-alone
+returns-in-Map-clause-alone g c = rw c.in-Map.is (untold c.array_head.result)
+
+-- ---- whatever follows
+
+pub returns-in-Array-clause-opened : goal.returns-in-Array-clause-opened
+returns-in-Array-clause-opened g c =
+    let old = c.args.decoder.now in
+    rw c.in-Array.is (parts_begun old.levels c.in-Array.remaining (g.R.Source.source old.source))
+
+pub returns-in-Map-clause-opened : goal.returns-in-Map-clause-opened
+returns-in-Map-clause-opened g c =
+    let old = c.args.decoder.now in
+    let new = c.array_head.new.decoder in
+    rw c.in-Map.is (parts_in_map g.R.Source.refusals old.levels new.levels (g.R.Source.source old.source) (g.R.Source.source new.source) c.array_head.result c.array_head.ensures.opened)
+
+pub returns-in-Alone-clause-opened : goal.returns-in-Alone-clause-opened
+returns-in-Alone-clause-opened g c =
+    let old = c.args.decoder.now in
+    let s = g.R.Source.source old.source in
+    rw c.in-Alone.is (alone_has_none g.R.Source.refusals old.levels s s old.levels c.message.result (took_none s))

@@ -1,0 +1,229 @@
+//! Arrays and maps around what they hold (RFC 7049, section 2.1, major types 4 and 5).
+
+ghost use Rattle.std.specs.Prelude.{◌≡◌, ◌<◌, IfOk, IfErr, OnOk, OnErr, true, false};
+ghost use Rattle.cbor_io.specs.Error.{code_of};
+ghost use Rattle.cbor_decode.specs.Cursor.{Counts};
+ghost use Rattle.cbor_decode.specs.Gives.{Advances, TellsNoForm, Gives, IsAt, IsErrorOf};
+ghost use Rattle.cbor_decode_as.specs.Accesses.{TakesHead, TakesMore, TakesEnd};
+ghost use Rattle.cbor_decode_as.specs.Begins.{TakesBeginning};
+ghost use Rattle.cbor_decode_as.specs.Takes.{formats_of, OnceMade};
+ghost use Rattle.cbor_model.specs.Formats.{may_begin_key};
+ghost use Rattle.cbor_decode.specs.declared.refusal.Refused.TheVariants.{Kept};
+ghost use Rattle.cbor_io.specs.declared.error.Error.{Error};
+ghost use Rattle.cbor_decode_as.specs.Cases.{HasCase, TellsBadKey, key_cases};
+ghost use Rattle.cbor_decode_as.specs.MapAccesses.{TakesMapHead, TakesMorePairs, TakesMapEnd};
+ghost use Rattle.cbor_decode_as.specs.MapAccesses.{key_front};
+ghost use Rattle.cbor_decode.specs.declared.head.Head.TheVariants as kind;
+ghost use Rattle.cbor_io.specs.declared.read_error.ReadErrorCode.TheVariants as reading;
+
+use cbor_decode::{Collection, Decoder, Done, Head, Remaining};
+use cbor_io::error::Result;
+use cbor_read::{ReadErrorCode, Source};
+use crate::head::{mismatch, tagged_head};
+
+/// Takes the tags and the head of an array, and goes one level in.
+///
+/// An item of another kind is refused with `invalid type: expected an array`, and an array for
+/// which no level is left with `RecursionLimitExceeded`. No level is entered then.
+pub fn array_head<R: Source>(decoder: &mut Decoder<R>) -> Result<Remaining>
+    ensures read { TakesHead R.refusals (formats_of decoder.old.formats)
+        decoder.old.levels (R.source decoder.old.source) (R.source decoder.new.source)
+        decoder.new.levels result }
+    ensures opened { TakesBeginning kind.Array R.refusals decoder.old.levels
+        (R.source decoder.old.source) (R.source decoder.new.source)
+        decoder.new.levels result }
+    ensures taken { OnOk result
+        (Advances (R.source decoder.old.source) (R.source decoder.new.source)) }
+    ensures no_form { IfErr result (λ e. TellsNoForm (code_of e)) }
+    ensures inside { IfOk result (λ r. decoder.new.levels < decoder.old.levels) }
+    ensures outer { OnErr result (decoder.new.levels ≡ decoder.old.levels) }
+    ensures formats { decoder.new.formats ≡ decoder.old.formats }
+{
+    let outer = decoder.levels;
+    let head = match tagged_head(decoder) {
+        Ok(head) => head,
+        Err(refused) => {
+            decoder.levels = outer;
+            return Err(decoder.error(refused));
+        }
+    };
+    let Head::Array(remaining) = head else {
+        decoder.levels = outer;
+        return Err(mismatch(decoder, head, "invalid type: expected an array"));
+    };
+    match decoder.enter() {
+        Ok(()) => Ok(remaining),
+        Err(refused) => {
+            decoder.levels = outer;
+            Err(decoder.error(refused))
+        }
+    }
+}
+
+/// Whether another item of an array comes, of which so much remains; its first byte stays. An array
+/// of indefinite length that has no end is refused with `EofWhileParsingArray`.
+#[inline(always)]
+pub fn more_items<R: Source>(decoder: &mut Decoder<R>, remaining: &mut Remaining) -> Result<bool>
+    ensures read { TakesMore R.refusals remaining.old remaining.new
+        (R.source decoder.old.source) (R.source decoder.new.source) result }
+    ensures counts { IfOk result (λ more. Counts remaining.old more remaining.new) }
+    ensures no_form { IfErr result (λ e. TellsNoForm (code_of e)) }
+    ensures levels { decoder.new.levels ≡ decoder.old.levels }
+    ensures formats { decoder.new.formats ≡ decoder.old.formats }
+{
+    match decoder.more(remaining, Collection::Array) {
+        Ok(more) => Ok(more),
+        Err(refused) => Err(decoder.error(refused)),
+    }
+}
+
+/// Takes the end of an array of which so much remains. Items that weren't read are refused with
+/// `TrailingData`.
+pub fn end_array<R: Source>(decoder: &mut Decoder<R>, remaining: Remaining) -> Result<()>
+    ensures read { TakesEnd R.refusals remaining
+        (R.source decoder.old.source) (R.source decoder.new.source) result }
+    ensures no_form { IfErr result (λ e. TellsNoForm (code_of e)) }
+    ensures levels { decoder.new.levels ≡ decoder.old.levels }
+    ensures formats { decoder.new.formats ≡ decoder.old.formats }
+{
+    match decoder.end_of(remaining, Collection::Array) {
+        Ok(()) => Ok(()),
+        Err(refused) => Err(decoder.error(refused)),
+    }
+}
+
+/// Takes the tags and the head of a map, and goes one level in.
+///
+/// An item of another kind is refused with `invalid type: expected a map`, and a map for which no
+/// level is left with `RecursionLimitExceeded`. No level is entered then.
+pub fn map_head<R: Source>(decoder: &mut Decoder<R>) -> Result<Remaining>
+    ensures read { TakesMapHead R.refusals (formats_of decoder.old.formats)
+        decoder.old.levels (R.source decoder.old.source)
+        (R.source decoder.new.source) decoder.new.levels result }
+    ensures opened { TakesBeginning kind.Map R.refusals decoder.old.levels
+        (R.source decoder.old.source) (R.source decoder.new.source)
+        decoder.new.levels result }
+    ensures taken { OnOk result
+        (Advances (R.source decoder.old.source) (R.source decoder.new.source)) }
+    ensures no_form { IfErr result (λ e. TellsNoForm (code_of e)) }
+    ensures inside { IfOk result (λ r. decoder.new.levels < decoder.old.levels) }
+    ensures outer { OnErr result (decoder.new.levels ≡ decoder.old.levels) }
+    ensures formats { decoder.new.formats ≡ decoder.old.formats }
+{
+    let outer = decoder.levels;
+    let head = match tagged_head(decoder) {
+        Ok(head) => head,
+        Err(refused) => {
+            decoder.levels = outer;
+            return Err(decoder.error(refused));
+        }
+    };
+    let Head::Map(remaining) = head else {
+        decoder.levels = outer;
+        return Err(mismatch(decoder, head, "invalid type: expected a map"));
+    };
+    match decoder.enter() {
+        Ok(()) => Ok(remaining),
+        Err(refused) => {
+            decoder.levels = outer;
+            Err(decoder.error(refused))
+        }
+    }
+}
+
+// Refuses a key that may not begin as it does; its first byte stays.
+#[inline(always)]
+#[tactic(auto, unfolding(cbor_model::specs::Reader::key_at))]
+pub(crate) fn key_begins<R: Source>(decoder: &mut Decoder<R>) -> Done<()>
+    ensures read { Gives R.refusals (λ u. u)
+        (λ l. key_front (formats_of decoder.old.formats))
+        (R.source decoder.old.source) (R.source decoder.new.source)
+        decoder.new.refusal result }
+    ensures levels { decoder.new.levels ≡ decoder.old.levels }
+    ensures formats { decoder.new.formats ≡ decoder.old.formats }
+{
+    match decoder.source.ahead().first().copied() {
+        Some(first) => key_may_begin(decoder, first),
+        None => key_begins_peeked(decoder),
+    }
+}
+
+// Refuses such a key where no byte is buffered: the source is asked to show one.
+#[inline(never)]
+#[tactic(auto, unfolding(cbor_model::specs::Reader::key_at))]
+fn key_begins_peeked<R: Source>(decoder: &mut Decoder<R>) -> Done<()>
+    ensures read { Gives R.refusals (λ u. u)
+        (λ l. key_front (formats_of decoder.old.formats))
+        (R.source decoder.old.source) (R.source decoder.new.source)
+        decoder.new.refusal result }
+    ensures levels { decoder.new.levels ≡ decoder.old.levels }
+    ensures formats { decoder.new.formats ≡ decoder.old.formats }
+{
+    match decoder.source.peek() {
+        Ok(Some(first)) => key_may_begin(decoder, first),
+        Ok(None) => Err(decoder.refuse(ReadErrorCode::EofWhileParsingValue)),
+        Err(refusal) => Err(decoder.keep(refusal)),
+    }
+}
+
+// Refuses a key that may not begin with this byte.
+#[inline(always)]
+fn key_may_begin<R: Source>(decoder: &mut Decoder<R>, first: u8) -> Done<()>
+    ensures allowed { OnOk result
+        (may_begin_key (formats_of decoder.old.formats) first ≡ true) }
+    ensures refused { IfErr result (λ r. r ≡ Kept) }
+    ensures kept { OnErr result
+        (IsAt reading.WrongStructFormat (R.source decoder.old.source).offset decoder.new.refusal) }
+    ensures not_allowed { OnErr result
+        (may_begin_key (formats_of decoder.old.formats) first ≡ false) }
+    ensures source { decoder.new.source ≡ decoder.old.source }
+    ensures levels { decoder.new.levels ≡ decoder.old.levels }
+    ensures formats { decoder.new.formats ≡ decoder.old.formats }
+{
+    if !decoder.formats.may_begin_key(first) {
+        return Err(decoder.refuse(ReadErrorCode::WrongStructFormat));
+    }
+    Ok(())
+}
+
+/// Whether another pair of a map comes, of which so much remains; its first byte stays. A key that
+/// may not begin as it does is refused with `WrongStructFormat`, and a map of indefinite length
+/// that has no end with `EofWhileParsingMap`.
+#[inline(always)]
+#[tactic(auto, using(crate::proofs::refused::Cases::made_stands, crate::proofs::refused::Cases::key_stands, crate::proofs::maps::BadKeys::bad_key_first, crate::proofs::maps::BadKeys::bad_key_told))]
+pub fn more_pairs<R: Source>(decoder: &mut Decoder<R>, remaining: &mut Remaining) -> Done<bool>
+    ensures read { OnceMade (IsErrorOf decoder.new.refusal)
+        (TakesMorePairs R.refusals (formats_of decoder.old.formats)
+        remaining.old remaining.new
+        (R.source decoder.old.source) (R.source decoder.new.source)) result }
+    ensures cases { IfErr result (λ r. (e : Error) → IsErrorOf decoder.new.refusal r e
+        → HasCase (R.source decoder.old.source) e
+        (key_cases (formats_of decoder.old.formats) remaining.old)) }
+    ensures bad_key { IfErr result (λ r. (e : Error) → IsErrorOf decoder.new.refusal r e
+        → TellsBadKey R.refusals (formats_of decoder.old.formats) remaining.old
+        (R.source decoder.old.source) e) }
+    ensures counts { IfOk result (λ more. Counts remaining.old more remaining.new) }
+    ensures levels { decoder.new.levels ≡ decoder.old.levels }
+    ensures formats { decoder.new.formats ≡ decoder.old.formats }
+{
+    if !decoder.more(remaining, Collection::Map)? {
+        return Ok(false);
+    }
+    key_begins(decoder)?;
+    Ok(true)
+}
+
+/// Takes the end of a map of which so much remains. Pairs that weren't read are refused with
+/// `TrailingData`.
+pub fn end_map<R: Source>(decoder: &mut Decoder<R>, remaining: Remaining) -> Result<()>
+    ensures read { TakesMapEnd R.refusals remaining
+        (R.source decoder.old.source) (R.source decoder.new.source) result }
+    ensures no_form { IfErr result (λ e. TellsNoForm (code_of e)) }
+    ensures levels { decoder.new.levels ≡ decoder.old.levels }
+    ensures formats { decoder.new.formats ≡ decoder.old.formats }
+{
+    match decoder.end_of(remaining, Collection::Map) {
+        Ok(()) => Ok(()),
+        Err(refused) => Err(decoder.error(refused)),
+    }
+}

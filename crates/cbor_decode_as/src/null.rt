@@ -1,0 +1,37 @@
+//! What may be absent.
+
+ghost use Rattle.std.specs.Prelude.{◌≡◌, true, IfErr, IfOk};
+ghost use Rattle.cbor_decode.specs.Gives.{Gives, Advances, TellsNoKey, TellsNoMemory};
+ghost use Rattle.cbor_decode_as.specs.Nulls.{null_at};
+
+use cbor_decode::{Decoder, Done};
+use cbor_read::Source;
+
+/// The first byte of null (RFC 7049, section 2.3).
+const NULL: u8 = 0xf6;
+
+/// Takes `f6` if it is next, and returns whether it was. Nothing is taken of another
+/// item, and where the input is at its end. It is refused as the source is.
+#[inline(always)]
+pub fn take_null<R: Source>(decoder: &mut Decoder<R>) -> Done<bool>
+    ensures read { Gives R.refusals (λ b. b) (λ l. null_at)
+        (R.source decoder.old.source) (R.source decoder.new.source)
+        decoder.new.refusal result }
+    ensures taken { IfOk result (λ null. null ≡ true
+        → Advances (R.source decoder.old.source) (R.source decoder.new.source)) }
+    ensures no_key { IfErr result (TellsNoKey decoder.new.refusal) }
+    ensures memory { IfErr result (TellsNoMemory decoder.new.refusal) }
+    ensures levels { decoder.new.levels ≡ decoder.old.levels }
+    ensures formats { decoder.new.formats ≡ decoder.old.formats }
+{
+    match decoder.source.peek() {
+        Ok(Some(NULL)) => {
+            // An offset that was read is known to be below 2^64.
+            let _before = decoder.source.offset();
+            decoder.source.discard();
+            Ok(true)
+        }
+        Ok(_) => Ok(false),
+        Err(refusal) => Err(decoder.keep(refusal)),
+    }
+}
