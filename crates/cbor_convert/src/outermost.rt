@@ -8,10 +8,10 @@ ghost use Rattle.cbor_decode_as.specs.Takes.{formats_of, TellsFault};
 ghost use Rattle.cbor_decode_as.specs.Tags.{tag_head_at, LevelsBehind, TagIs};
 ghost use Rattle.cbor_convert.specs.Tagged.{StandsNoTag};
 
-use cbor_io::error::Result;
-use cbor_read::Source;
 use cbor_de::Deserializer;
 use cbor_de::inner::{error_of, peek};
+use cbor_io::error::Result;
+use cbor_read::Source;
 
 /// Takes the head of the tag that the item at the front is within, and goes one level in, as
 /// `Deserializer::read_tag` does; None, which takes nothing, where it is within none.

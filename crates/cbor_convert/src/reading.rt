@@ -11,10 +11,10 @@ ghost use Rattle.cbor_decode.specs.Gives.{IsMemoryOrFault};
 ghost use Rattle.cbor_de.specs.Forms.{FormOnlyIf, may_tell};
 ghost use Rattle.cbor_de.specs.Whole.{from_reader_context};
 
+use cbor_de::{Deserialize, DeserializeOwned, from_reader};
 use cbor_io::error::Result;
 use cbor_read::IoRead;
 use cbor_ser::to_vec;
-use cbor_de::{Deserialize, DeserializeOwned, from_reader};
 use cbor_value::Value;
 use std::alloc::Global;
 use std::io::Cursor;

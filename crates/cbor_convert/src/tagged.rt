@@ -3,10 +3,10 @@
 ghost use Rattle.std.specs.Prelude.{◌≡◌};
 
 use crate::outermost::outermost;
+use cbor_de::{Deserialize, DeserializeOwned, Deserializer, Readable};
 use cbor_io::error::Result;
 use cbor_read::Read;
 use cbor_ser::{Serialize, Serializer, Write};
-use cbor_de::{Deserialize, DeserializeOwned, Deserializer, Readable};
 
 /// A value, and the outermost tag that its item is within, if it is within one.
 ///

@@ -12,9 +12,9 @@ ghost use Rattle.cbor_decode_as.specs.Takes.{lending};
 ghost use Rattle.cbor_de.specs.Items.{AreMostItems};
 ghost use Rattle.cbor_de.specs.StreamAnswers.{AnswersTo, AreReadAs, IsExcused};
 
+use crate::{Deserialize, StreamDeserializer};
 use cbor_io::error::{Error, Result};
 use cbor_read::Read;
-use crate::{Deserialize, StreamDeserializer};
 use std::alloc::{AllocError, Global};
 
 /// What all items of an input are read as, one after the other.

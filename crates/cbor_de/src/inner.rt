@@ -23,8 +23,8 @@ ghost use Rattle.cbor_decode_as.specs.Variants.{IsEntered, IsInside, TakesConten
 ghost use Rattle.cbor_decode_as.specs.Variants.{TakesVariant, TellsAlone, alone_text};
 
 use crate::de::Deserializer;
-use cbor_decode_as::variant::Form;
 use cbor_decode::Remaining;
+use cbor_decode_as::variant::Form;
 use cbor_io::error::{Error, Result};
 use cbor_read::{Read, ReadError, Source};
 

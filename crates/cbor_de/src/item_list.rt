@@ -13,8 +13,8 @@ ghost use Rattle.cbor_de.specs.ItemLists.{TakesItems};
 use crate::de::Deserializer;
 use crate::deserialize::{Deserialize, Readable};
 use crate::sequence::invalid_length;
-use cbor_decode_as::collection::{array_head, end_array, more_items};
 use cbor_decode::Remaining;
+use cbor_decode_as::collection::{array_head, end_array, more_items};
 use cbor_io::error::Result;
 use cbor_read::Read;
 

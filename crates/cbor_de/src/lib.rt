@@ -30,13 +30,13 @@ mod types;
 mod variant;
 
 pub use all_items::read_items;
-pub use cbor_decode_as::variant::Form;
 pub use cbor_decode::{Formats, Remaining};
+pub use cbor_decode_as::borrowed::{EitherStr, Unread};
+pub use cbor_decode_as::variant::Form;
 pub use cbor_read::{
     EitherLifetime, IoRead, MutSliceRead, Offset, Read, ReadError, ReadErrorCode, SliceRead,
     SliceReadFixed, Source,
 };
-pub use cbor_decode_as::borrowed::{EitherStr, Unread};
 pub use de::Deserializer;
 pub use deserialize::{Deserialize, DeserializeOwned, Readable};
 pub use field_type::FieldType;

@@ -21,8 +21,8 @@ ghost use Rattle.cbor_de.specs.contracts.de.Deserializer.{the_row};
 
 use crate::de::Deserializer;
 use crate::deserialize::Deserialize;
-use cbor_decode_as::collection::{end_map, map_head, more_pairs};
 use cbor_decode::Remaining;
+use cbor_decode_as::collection::{end_map, map_head, more_pairs};
 use cbor_io::error::{Error, Result};
 use cbor_read::{Read, Source};
 

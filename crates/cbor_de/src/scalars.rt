@@ -20,10 +20,10 @@ ghost use Rattle.cbor_de.specs.contracts.de.Deserializer.{the_row as typed_row};
 
 use crate::de::Deserializer;
 use cbor_decode::{Done, Head};
-use cbor_io::error::{Error, Result};
-use cbor_read::{EitherLifetime, Read, Source};
 use cbor_decode_as::borrowed::{EitherStr, Unread};
 use cbor_decode_as::{borrowed, head, integer, scalar};
+use cbor_io::error::{Error, Result};
+use cbor_read::{EitherLifetime, Read, Source};
 use cbor_value::Float;
 
 /// The result of a borrowing read.

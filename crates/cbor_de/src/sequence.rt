@@ -17,8 +17,8 @@ ghost use Rattle.cbor_de.specs.contracts.de.Deserializer.{the_row};
 
 use crate::de::Deserializer;
 use crate::deserialize::Deserialize;
-use cbor_decode_as::collection::{array_head, end_array, more_items};
 use cbor_decode::Remaining;
+use cbor_decode_as::collection::{array_head, end_array, more_items};
 use cbor_io::error::{Error, Result};
 use cbor_read::{Read, Source};
 use std::alloc::Global;

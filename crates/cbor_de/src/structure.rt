@@ -26,11 +26,11 @@ ghost use Rattle.cbor_de.specs.contracts.de.Deserializer.{the_row};
 use crate::de::Deserializer;
 use crate::deserialize::Deserialize;
 use crate::types::IgnoredAny;
-use cbor_decode_as::collection::{end_map, map_head, more_pairs};
 use cbor_decode::Remaining;
+use cbor_decode_as::collection::{end_map, map_head, more_pairs};
+use cbor_decode_as::identifier::{Lookup, Why, identifier, unnamed};
 use cbor_io::error::{Error, Result};
 use cbor_read::{Read, Source};
-use cbor_decode_as::identifier::{Lookup, Why, identifier, unnamed};
 use std::alloc::Global;
 
 /// A field that a key names.

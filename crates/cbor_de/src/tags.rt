@@ -7,9 +7,9 @@ ghost use Rattle.cbor_decode_as.specs.Tags.{ReadsTag, LevelsBehind, TagIs};
 ghost use Rattle.cbor_decode_as.specs.Takes.{formats_of};
 
 use crate::de::Deserializer;
+use cbor_decode_as::tags;
 use cbor_io::error::Result;
 use cbor_read::Source;
-use cbor_decode_as::tags;
 
 impl<R: Source> Deserializer<R> {
     /// Takes a tag's head and goes one level in, to the item that the tag is of; None, which takes

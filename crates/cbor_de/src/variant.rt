@@ -27,10 +27,10 @@ ghost use Rattle.cbor_de.specs.contracts.de.Deserializer.{the_row};
 use crate::de::Deserializer;
 use crate::deserialize::Deserialize;
 use crate::sequence::SeqAccess;
+use cbor_decode::Remaining;
 use cbor_decode_as::collection::end_array;
 use cbor_decode_as::content::{expect_item, no_part, parts};
 use cbor_decode_as::variant::{Form, variant_head};
-use cbor_decode::Remaining;
 use cbor_io::error::{Error, ErrorCode, Result};
 use cbor_read::{Read, Source};
 

@@ -14,8 +14,8 @@ ghost use Rattle.cbor_value.specs.declared.Float.TheVariants.{Single, Double};
 ghost use Rattle.cbor_read.specs.Source.{TookKept, RefusedInto};
 ghost use Rattle.cbor_decode.specs.declared.refusal.Refused.TheVariants.{Kept};
 
-use crate::cursor::Remaining;
 use crate::Decoder;
+use crate::cursor::Remaining;
 use crate::refusal::Done;
 use cbor_io::head::Major;
 use cbor_read::{ReadErrorCode, Source};

@@ -22,12 +22,11 @@ mod step;
 mod strings;
 mod value;
 
+use cbor_read::ReadError;
 pub use cursor::{BREAK, Collection, Remaining};
 pub use formats::Formats;
 pub use head::Head;
 pub use refusal::{Done, Refused};
-
-use cbor_read::ReadError;
 use std::alloc::Global;
 
 /// Takes items from a source. Arrays, maps and tags may be nested 127 levels deep.

@@ -14,8 +14,8 @@ ghost use Rattle.cbor_decode.specs.HasChunks.{HasChunks, SomeHasChunks, SomePair
 ghost use Rattle.cbor_decode.specs.Memory.{MemoryOnly};
 ghost use Rattle.cbor_decode.specs.Heads.{after_head, behind_head, remaining_of, passed};
 
-use crate::cursor::{Collection, Remaining};
 use crate::Decoder;
+use crate::cursor::{Collection, Remaining};
 use crate::head::Head;
 use crate::refusal::Done;
 use cbor_read::{ReadErrorCode, Source};

@@ -12,8 +12,8 @@ ghost use Rattle.cbor_decode.specs.Memory.{AsksToJoin, MemoryOnly};
 ghost use Rattle.cbor_decode.specs.Heads.{joined_of};
 ghost use Rattle.cbor_decode.specs.Strings.{ChunkGives, text_view};
 
-use crate::cursor::BREAK;
 use crate::Decoder;
+use crate::cursor::BREAK;
 use crate::refusal::Done;
 use cbor_io::head::Major;
 use cbor_io::utf8::string_from_utf8;

@@ -12,11 +12,11 @@ ghost use Rattle.cbor_decode.specs.Decoder.{formats_of, values_by};
 ghost use Rattle.cbor_decode.specs.Heads.{after_head, remaining_of, made_of};
 ghost use Rattle.cbor_decode.specs.Memory.{IsStoredHead, MemoryOnly, ReadsStored};
 
-use crate::cursor::{Collection, Remaining};
 use crate::Decoder;
+use crate::capacity::push;
+use crate::cursor::{Collection, Remaining};
 use crate::head::Head;
 use crate::refusal::{Done, Refused};
-use crate::capacity::push;
 use cbor_read::{ReadErrorCode, Source};
 use cbor_value::{Map, Value};
 

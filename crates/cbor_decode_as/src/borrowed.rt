@@ -248,9 +248,7 @@ pub fn unread_error<R: Source>(decoder: &mut Decoder<R>, why: Unread, message: &
 /// isn't whole, of any kind, a text that isn't UTF-8 (`InvalidUtf8`), and a break
 /// (`UnexpectedCode`) are refused, and what the source refuses.
 #[tactic(auto, using(crate::proofs::Memory::kept_none))]
-pub fn read_text<'a, 'de, R: Read<'de>>(
-    decoder: &'a mut Decoder<R>,
-) -> Result<EitherStr<'a, 'de>>
+pub fn read_text<'a, 'de, R: Read<'de>>(decoder: &'a mut Decoder<R>) -> Result<EitherStr<'a, 'de>>
     ensures* after_borrow { sem 𝓛 (Rests (the_row R.row) decoder.entry (λ new.
         (new.levels ≡ decoder.old.levels)
         × (new.formats ≡ decoder.old.formats)

@@ -7,8 +7,8 @@ ghost use Rattle.cbor_decode.specs.Gives.{Advances, TellsNoForm, TellsNoKey};
 ghost use Rattle.cbor_decode_as.specs.Strings.{IsByteString, SeeksItem, SeeksWhole};
 ghost use Rattle.cbor_decode_as.specs.Takes.{RefusesWhole, TakesItem, formats_of};
 
-use crate::identifier::{Why, unnamed};
 use crate::head::pass_over;
+use crate::identifier::{Why, unnamed};
 use crate::scalar::scalar_head;
 use crate::string::byte_string;
 use cbor_decode::{Decoder, Done, Head};

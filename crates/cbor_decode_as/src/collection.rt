@@ -16,10 +16,10 @@ ghost use Rattle.cbor_decode_as.specs.MapAccesses.{key_front};
 ghost use Rattle.cbor_decode.specs.declared.head.Head.TheVariants as kind;
 ghost use Rattle.cbor_io.specs.declared.read_error.ReadErrorCode.TheVariants as reading;
 
+use crate::head::{mismatch, tagged_head};
 use cbor_decode::{Collection, Decoder, Done, Head, Remaining};
 use cbor_io::error::Result;
 use cbor_read::{ReadErrorCode, Source};
-use crate::head::{mismatch, tagged_head};
 
 /// Takes the tags and the head of an array, and goes one level in.
 ///

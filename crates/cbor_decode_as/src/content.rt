@@ -16,12 +16,12 @@ ghost use Rattle.cbor_decode_as.specs.Variants.{ExpectsItem, IsEntered, TakesCom
 ghost use Rattle.cbor_decode_as.specs.Variants.{TakesParts, TellsAlone, alone_text};
 ghost use Rattle.cbor_decode_as.specs.declared.variant.Form.TheVariants.{Array};
 
-use cbor_decode::{BREAK, Decoder, Done, Remaining};
-use cbor_io::error::{Error, ErrorCode, Result};
-use cbor_read::{ReadErrorCode, Source};
 use crate::collection::{array_head, end_array};
 use crate::scalar::read_unit;
 use crate::variant::{Form, refuse_here};
+use cbor_decode::{BREAK, Decoder, Done, Remaining};
+use cbor_io::error::{Error, ErrorCode, Result};
+use cbor_read::{ReadErrorCode, Source};
 
 // Whether another item of an array comes, of which so much remains. Nothing is taken.
 #[tactic(auto, unfolding(cbor_model::specs::Reader::next_at))]

@@ -140,7 +140,11 @@ pub(crate) fn pass_over<R: Source>(decoder: &mut Decoder<R>, found: HeadAt) -> D
 // The error of an item that isn't read, after its head: the fault of what follows, or the message.
 #[cold]
 #[inline(never)]
-pub(crate) fn skip_mismatch<R: Source>(decoder: &mut Decoder<R>, found: HeadAt, message: &str) -> Error
+pub(crate) fn skip_mismatch<R: Source>(
+    decoder: &mut Decoder<R>,
+    found: HeadAt,
+    message: &str,
+) -> Error
     ensures fault { RefusesBehind R.refusals found (R.source decoder.old.source) result }
     ensures took { TookSome (R.source decoder.old.source) (R.source decoder.new.source) }
     ensures no_form { TellsNoForm (code_of result) }

@@ -226,10 +226,7 @@ fn name_slow<'de, R: Read<'de>>(
 
 // Reads a text in chunks after its head, as a name.
 #[inline(never)]
-fn joined_name<'de, R: Read<'de>>(
-    decoder: &mut Decoder<R>,
-    names: &[&str],
-) -> Done<Option<usize>>
+fn joined_name<'de, R: Read<'de>>(decoder: &mut Decoder<R>, names: &[&str]) -> Done<Option<usize>>
     ensures read { TakesName R.refusals (texts names.now) (Text None)
         (R.source decoder.old.source) (R.source decoder.new.source)
         decoder.new.refusal result }

@@ -9,14 +9,14 @@
 //! facts. Others rely on the contracts, on the words that they use, and on the published facts.
 #![tactic(auto)]
 
+pub mod borrowed;
 pub mod byte_string;
 pub mod collection;
 pub mod content;
 pub mod floats;
+pub mod head;
 pub mod identifier;
 pub mod integer;
-pub mod borrowed;
-pub mod head;
 pub mod null;
 pub mod scalar;
 pub mod string;

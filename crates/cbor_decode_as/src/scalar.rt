@@ -10,7 +10,7 @@ ghost use Rattle.cbor_decode_as.specs.Scalars.{IsFloatItem};
 ghost use Rattle.cbor_decode_as.specs.Takes.{TakesItem, TakesNoMemory, formats_of};
 ghost use Rattle.cbor_decode_as.specs.Takes.{ReadsWhole, RefusesWhole};
 
-use crate::head::{HeadAt, tagged_head_inside, take_head, skip_mismatch};
+use crate::head::{HeadAt, skip_mismatch, tagged_head_inside, take_head};
 use cbor_decode::{Decoder, Done, Head};
 use cbor_io::error::Result;
 use cbor_read::Source;

@@ -12,8 +12,8 @@ ghost use Rattle.cbor_decode_as.specs.Strings.{content_at, KeepsTextOf, SeeksIte
 ghost use Rattle.cbor_decode_as.specs.Strings.{SeeksWhole, TellsString};
 ghost use Rattle.cbor_decode_as.specs.Takes.{OnceMade, RefusesWhole, TakesItem, formats_of};
 
-use crate::identifier::{Lookup, Why, unnamed};
 use crate::head::pass_over;
+use crate::identifier::{Lookup, Why, unnamed};
 use crate::scalar::scalar_head;
 use cbor_decode::{Decoder, Done, Head};
 use cbor_io::error::Result;

@@ -18,12 +18,12 @@ ghost use Rattle.cbor_decode_as.specs.declared.variant.Form.TheVariants.{Array};
 ghost use Rattle.cbor_decode_as.specs.declared.variant.Shape.TheVariants as shape;
 
 use crate::collection::{array_head, key_begins};
-use cbor_decode::{Decoder, Done, Refused, Remaining};
-use cbor_io::error::{Error, ErrorCode, Result};
-use cbor_read::{Read, ReadErrorCode, Source};
 use crate::content::expect_item;
 use crate::identifier::{identifier, unnamed};
 use crate::tags::pass_tags;
+use cbor_decode::{Decoder, Done, Refused, Remaining};
+use cbor_io::error::{Error, ErrorCode, Result};
+use cbor_read::{Read, ReadErrorCode, Source};
 
 /// How an enum is spelled.
 #[derive(Clone, Copy)]
@@ -257,10 +257,7 @@ fn unassigned_byte<R: Source>(decoder: &mut Decoder<R>) -> Refused
 }
 
 // Takes the identifier of an enum that is an identifier alone.
-fn name_alone<'de, R: Read<'de>>(
-    decoder: &mut Decoder<R>,
-    names: &[&str],
-) -> Result<(usize, Form)>
+fn name_alone<'de, R: Read<'de>>(decoder: &mut Decoder<R>, names: &[&str]) -> Result<(usize, Form)>
     requires { reads_shape (formats_of decoder.old.formats) shape.Alone ≡ true }
     ensures read { TakesShaped IsAlone R.refusals
         (formats_of decoder.old.formats) (texts names.now) decoder.old.levels
@@ -316,10 +313,7 @@ fn array_variant<'de, R: Read<'de>>(
 
 // Takes the head and the identifier of an enum in a map of one pair.
 #[tactic(auto, using(crate::proofs::refused::Cases::other_stands, crate::proofs::refused::Cases::pair_stands, crate::proofs::refused::Codes::plain_enum, crate::proofs::refused::Codes::kept_enum))]
-fn map_variant<'de, R: Read<'de>>(
-    decoder: &mut Decoder<R>,
-    names: &[&str],
-) -> Result<(usize, Form)>
+fn map_variant<'de, R: Read<'de>>(decoder: &mut Decoder<R>, names: &[&str]) -> Result<(usize, Form)>
     requires { reads_shape (formats_of decoder.old.formats) shape.Map ≡ true }
     ensures read { TakesShaped (HasShape shape.Map) R.refusals
         (formats_of decoder.old.formats) (texts names.now) decoder.old.levels

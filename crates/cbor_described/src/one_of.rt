@@ -6,9 +6,9 @@ ghost use Rattle.cbor_described.specs.OneOfs.{list5, list6, list7, list8};
 
 use crate::parts::{ReadParts, ReadableParts};
 use crate::variant_list::{Never, OneOf, ReadVariant, Variant, read_variants};
+use cbor_de::{Deserializer, Read};
 use cbor_io::error::Result;
 use cbor_parts::{OneOf1, OneOf2, OneOf3, OneOf4, OneOf5, OneOf6, OneOf7, OneOf8};
-use cbor_de::{Deserializer, Read};
 
 impl<A: Variant> ReadableParts for OneOf1<A> {
     ghost use Rattle.cbor_model.specs.Readable.{PassesTags};

@@ -6,9 +6,9 @@ ghost use Rattle.cbor_decode_as.specs.Identifiers.{texts};
 ghost use Rattle.cbor_decode_as.specs.Takes.{TakesItem, context, formats_of};
 ghost use Rattle.cbor_de.specs.Forms.{MayTell};
 
+use cbor_de::{Deserialize, Deserializer, Read, Readable};
 use cbor_io::error::Result;
 use cbor_parts::{Newtype, Parts, Schema};
-use cbor_de::{Deserialize, Deserializer, Read, Readable};
 
 /// The parts of a struct, a tuple of its fields or a [`Newtype`] of its one part, or of an enum,
 /// one of its variants.

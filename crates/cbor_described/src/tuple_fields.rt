@@ -7,8 +7,8 @@
 
 use crate::field_list::{ReadField, ReadFields, read_fields};
 use crate::parts::{ReadParts, ReadableParts};
-use cbor_io::error::Result;
 use cbor_de::{Deserialize, Deserializer, FieldType, Read};
+use cbor_io::error::Result;
 
 impl<A: FieldType> ReadableParts for (A,) {
     ghost use Rattle.std.specs.Prelude.{[], ◌∷◌};

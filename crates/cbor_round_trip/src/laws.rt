@@ -8,10 +8,10 @@ ghost use Rattle.cbor_decode.specs.Gives.{IsMemoryOrFault};
 ghost use Rattle.cbor_round_trip.specs.ReadBack.{IsWrittenReadBack};
 
 use crate::round_trip::RoundTrip;
+use cbor_de::{Deserialize, from_reader};
 use cbor_io::error::Result;
 use cbor_read::IoRead;
 use cbor_ser::to_vec;
-use cbor_de::{Deserialize, from_reader};
 use std::alloc::Global;
 use std::io::Cursor;
 

@@ -1,10 +1,10 @@
 //! The parts of structs and enums, by whose description these are read back.
 
 use crate::round_trip::RoundTrip;
+use cbor_de::FieldType;
 use cbor_described::{ReadableParts, ReadableTuple, Variant};
 use cbor_parts::{FieldNames, Newtype, Optional, OrDefault, Struct, Tuple};
 use cbor_ser::{FieldDocument, FieldsDocument, PartsDocument, TupleDocuments, VariantDocument};
-use cbor_de::FieldType;
 
 /// The parts of a struct or an enum, which are read back where the names are as many, and no two of
 /// them the same.

@@ -1,7 +1,7 @@
 //! The types whose values are read back.
 
-use cbor_ser::Serialize;
 use cbor_de::DeserializeOwned;
+use cbor_ser::Serialize;
 
 /// A type whose values come back from what they are written as.
 ///

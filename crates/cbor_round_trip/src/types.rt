@@ -1,8 +1,8 @@
 //! The types of the standard library but its tuples, byte strings, floats and values.
 
 use crate::round_trip::{RoundTrip, RoundTripKey};
-use cbor_value::bytes::{ByteArray, ByteBuf};
 use cbor_convert::Tagged;
+use cbor_value::bytes::{ByteArray, ByteBuf};
 use cbor_value::{Float, Value};
 use std::collections::BTreeMap;
 

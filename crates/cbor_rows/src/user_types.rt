@@ -2,7 +2,6 @@
 
 use crate::message::Message;
 use cbor_tables::{Desk, Row};
-use samples::tree::Tree;
 use row_types::assorted::Assorted;
 use row_types::bookmark::Bookmark;
 use row_types::choice::Choice;
@@ -15,6 +14,7 @@ use row_types::weather::Weather;
 use samples::enums::{Bar, Color};
 use samples::nested::{Example, Foo};
 use samples::structs::{Mascot, Person, SmallStruct, User};
+use samples::tree::Tree;
 use serde_cbor::Deserializer;
 use serde_cbor::de::Read;
 use std::io;

@@ -11,9 +11,9 @@ ghost use Rattle.cbor_ser.specs.Documents.{option_document};
 
 use crate::serialize::Serialize;
 use crate::serializer::Serializer;
-use cbor_value::bytes::{ByteArray, ByteBuf, Bytes};
 use cbor_io::error::Result;
 use cbor_io::write::Write;
+use cbor_value::bytes::{ByteArray, ByteBuf, Bytes};
 use cbor_value::{Float, Value};
 use std::collections::BTreeMap;
 

@@ -170,7 +170,11 @@ pub(crate) trait WriteItems {
 
     // Appends them. What refuses one of them is left in `refusal`: an `Error` is large, and a
     // `Result` with one would be copied at each item.
-    fn write_items<W: Write>(&self, ser: &mut Serializer<W>, refusal: &mut Option<Error>) -> WriteDone
+    fn write_items<W: Write>(
+        &self,
+        ser: &mut Serializer<W>,
+        refusal: &mut Option<Error>,
+    ) -> WriteDone
         // Where the others are written next, all are.
         ensures ok { OnOk result ((ds : Docs) (last : Serializer W) (r : Result (Unit {0}) Error)
             → Serialized W.written W.refuses W.references W.capacity ser.new
@@ -220,7 +224,11 @@ impl<'a, A: Serialize, F: WriteItems> WriteItems for (&'a A, F) {
     ghost documents = { λ p ds. doc (A.document p.0.now) (F.documents p.1 ds) };
 
     #[inline(always)]
-    fn write_items<W: Write>(&self, ser: &mut Serializer<W>, refusal: &mut Option<Error>) -> WriteDone {
+    fn write_items<W: Write>(
+        &self,
+        ser: &mut Serializer<W>,
+        refusal: &mut Option<Error>,
+    ) -> WriteDone {
         match self.0.serialize(ser) {
             Ok(()) => self.1.write_items(ser, refusal),
             Err(error) => {
@@ -235,7 +243,11 @@ impl<'a, F: WriteItems> WriteItems for &'a F {
     ghost documents = { λ p. F.documents p.now };
 
     #[inline(always)]
-    fn write_items<W: Write>(&self, ser: &mut Serializer<W>, refusal: &mut Option<Error>) -> WriteDone {
+    fn write_items<W: Write>(
+        &self,
+        ser: &mut Serializer<W>,
+        refusal: &mut Option<Error>,
+    ) -> WriteDone {
         (**self).write_items(ser, refusal)
     }
 }
@@ -249,7 +261,11 @@ impl<'a, A: Serialize, B: Serialize, C: Serialize, D: Serialize, F: WriteItems> 
         (doc (D.document p.3.now) (F.documents p.4 ds)))) };
 
     #[inline(always)]
-    fn write_items<W: Write>(&self, ser: &mut Serializer<W>, refusal: &mut Option<Error>) -> WriteDone {
+    fn write_items<W: Write>(
+        &self,
+        ser: &mut Serializer<W>,
+        refusal: &mut Option<Error>,
+    ) -> WriteDone {
         let items = (self.0, (self.1, (self.2, (self.3, &self.4))));
         items.write_items(ser, refusal)
     }

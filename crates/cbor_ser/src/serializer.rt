@@ -14,9 +14,7 @@ ghost use Rattle.cbor_value.specs.View.{view, float_view};
 ghost use Rattle.cbor_ser.specs.Serialized.{writer_of, settings_of, Serialized, Spells};
 ghost use Rattle.cbor_ser.specs.Written.{SaysUnstorable};
 
-use crate::items::{
-    answer, not_storable, put_float, put_head, put_integer, put_string, put_value,
-};
+use crate::items::{answer, not_storable, put_float, put_head, put_integer, put_string, put_value};
 use cbor_io::error::Result;
 use cbor_io::head::Major;
 use cbor_io::write::Write;

@@ -15,9 +15,9 @@ ghost use Rattle.cbor_strict.specs.StrictAnswers.{PassesNoDeparture, TellsFirstS
 ghost use Rattle.cbor_strict.specs.StrictAnswers.{TellsItsDeparture, DepartureOrForm};
 
 use crate::walk::first_departure;
+use cbor_de::{Deserialize, from_slice};
 use cbor_io::error::{Error, ErrorCode, Result};
 use cbor_read::SliceRead;
-use cbor_de::{Deserialize, from_slice};
 use cbor_value::Value;
 use std::alloc::Global;
 

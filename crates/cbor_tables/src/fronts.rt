@@ -3,8 +3,8 @@
 use crate::desk::Desk;
 use crate::pieces::Pieces;
 use crate::row::Row;
-use cbor_io::error::{ErrorCode, Result};
 use cbor_de::{Deserializer, from_mut_slice, from_reader, from_slice, from_slice_with_scratch};
+use cbor_io::error::{ErrorCode, Result};
 use cbor_value::Value;
 use std::alloc::Global;
 use std::io;

@@ -1,10 +1,10 @@
 //! A value, its bytes and its `Value`: each is made of the others.
 
 use cbor_convert::{to_value, to_vec_canonical};
+use cbor_de::from_slice;
 use cbor_io::error::Result;
 use cbor_ser::{Serialize, to_vec};
 use cbor_strict::from_slice_canonical;
-use cbor_de::from_slice;
 use cbor_value::Value;
 use std::alloc::Global;
 

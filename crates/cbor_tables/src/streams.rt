@@ -2,8 +2,8 @@
 
 use crate::desk::{Desk, Outcome, outcome_of};
 use crate::row::Row;
-use cbor_read::Read;
 use cbor_de::{Deserialize, Deserializer};
+use cbor_read::Read;
 use std::fmt::Debug;
 use std::io;
 

@@ -3,10 +3,10 @@
 use crate::desk::{Desk, Step};
 use crate::how::Source;
 use crate::row::Row;
+use cbor_de::from_slice;
 use cbor_io::error::Result;
 use cbor_ser::to_vec;
 use cbor_strict::from_slice_canonical;
-use cbor_de::from_slice;
 use cbor_value::Value;
 use std::alloc::Global;
 use std::io;

@@ -9,8 +9,8 @@ mod tagged;
 
 use crate::desk::Desk;
 use crate::row::Row;
-use cbor_read::Read;
 use cbor_de::Deserializer;
+use cbor_read::Read;
 use std::io;
 
 /// Judges what is read as the type that a row names; gives the deserializer back where no type of

@@ -2,7 +2,6 @@
 //! from a source, one after the other. A struct or an enum is read by its description
 //! ([`FromParts`]), or part by part ([`Deserialize`]).
 
-pub use cbor_described::{FromParts, ReadParts, ReadableParts, ReadableTuple, Variant};
 pub use cbor_de::{
     Deserialize, DeserializeOwned, Deserializer, EitherLifetime, EitherStr, Field, FieldType,
     Formats, IgnoredAny, IoRead, MapAccess, MutSliceRead, Offset, Read, ReadError, ReadErrorCode,
@@ -11,3 +10,4 @@ pub use cbor_de::{
     from_slice_with_scratch, heads_taken, item_refused_first, item_taken, missing_field,
     owned_agree, sources_agree,
 };
+pub use cbor_described::{FromParts, ReadParts, ReadableParts, ReadableTuple, Variant};

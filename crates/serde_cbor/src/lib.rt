@@ -22,8 +22,11 @@ pub mod de;
 pub mod stream;
 pub mod tags;
 
-pub use cbor_value::bytes;
 pub use cbor_convert::to_vec_canonical;
+pub use cbor_de::{
+    Deserializer, Formats, StreamDeserializer, from_mut_slice, from_reader, from_slice,
+    from_slice_with_scratch,
+};
 pub use cbor_io::error::{Error, Result};
 pub use cbor_io::{error, write};
 pub use cbor_model as model;
@@ -35,10 +38,6 @@ pub use cbor_ser as ser;
 pub use cbor_ser::{Serializer, to_vec, to_writer};
 pub use cbor_strict as strict;
 pub use cbor_strict::{from_slice_canonical, from_slice_canonical_as};
-pub use cbor_de::{
-    Deserializer, Formats, StreamDeserializer, from_mut_slice, from_reader, from_slice,
-    from_slice_with_scratch,
-};
-pub use cbor_value::Value;
+pub use cbor_value::{Value, bytes};
 
 pub mod value;

@@ -1,8 +1,8 @@
 //! Arrays, read item by item.
 
 use crate::checks::{ends_here, gives, refuses};
-use cbor_io::error::{Error, Result as Answer};
 use cbor_de::{Deserialize, Deserializer, IgnoredAny, SliceRead};
+use cbor_io::error::{Error, Result as Answer};
 use cbor_value::Value;
 use test_checks::{Done, is_refused};
 

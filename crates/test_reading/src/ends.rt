@@ -1,8 +1,8 @@
 //! What follows an item, and how many bytes were taken.
 
 use crate::checks::has_taken;
-use cbor_io::error::Error;
 use cbor_de::{Deserializer, Offset, Source};
+use cbor_io::error::Error;
 use std::process::Abort;
 use std::test::Fail;
 use test_checks::{Done, is_refused};

@@ -1,8 +1,8 @@
 //! Enums, read up to their variant and then by their content.
 
 use crate::checks::ends_here;
-use cbor_io::error::{Error, Result as Answer};
 use cbor_de::{Deserializer, SliceRead};
+use cbor_io::error::{Error, Result as Answer};
 use test_checks::{Done, is_refused};
 
 const NAMES: &'static [&'static str] = &["Unit", "NewType"];

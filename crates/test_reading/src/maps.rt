@@ -1,8 +1,8 @@
 //! Maps, read pair by pair.
 
 use crate::checks::{ends_here, gives};
-use cbor_io::error::{Error, Result as Answer};
 use cbor_de::{Deserializer, SliceRead};
+use cbor_io::error::{Error, Result as Answer};
 use std::test::Fail;
 use test_checks::{Done, is_refused};
 

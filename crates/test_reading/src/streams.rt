@@ -1,10 +1,10 @@
 //! What a stream holds between calls: levels, offsets and what is lent; and readers that fail.
 
-use cbor_io::error::Error;
-use cbor_de::read_items;
 use cbor_de::{
     Deserialize, Deserializer, IoRead, Offset, Read, SliceRead, SliceReadFixed, StreamDeserializer,
+    read_items,
 };
+use cbor_io::error::Error;
 use cbor_value::Value;
 use std::alloc::Global;
 use std::io;

@@ -1,8 +1,8 @@
 //! Structs, read field by field.
 
 use crate::checks::ends_here;
-use cbor_io::error::Result as Answer;
 use cbor_de::{Deserializer, Field};
+use cbor_io::error::Result as Answer;
 use test_checks::{Done, is_refused};
 
 #[test]

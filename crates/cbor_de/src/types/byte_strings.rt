@@ -10,10 +10,10 @@ ghost use Rattle.cbor_de.specs.ByteStrings.{IsArrayOf};
 use crate::de::Deserializer;
 use crate::deserialize::{Deserialize, DeserializeOwned, Readable};
 use crate::sequence::invalid_length;
-use cbor_value::bytes::{ByteArray, ByteBuf, Bytes};
+use cbor_decode_as::byte_string::{NO_BYTES, read_byte_string};
 use cbor_io::error::{Error, Result};
 use cbor_read::{EitherLifetime, Read};
-use cbor_decode_as::byte_string::{NO_BYTES, read_byte_string};
+use cbor_value::bytes::{ByteArray, ByteBuf, Bytes};
 use std::alloc::Global;
 
 /// A byte string. A text isn't one.

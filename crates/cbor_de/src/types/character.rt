@@ -8,9 +8,9 @@ ghost use Rattle.cbor_decode_as.specs.Takes.{IsMessage};
 
 use crate::de::Deserializer;
 use crate::deserialize::{Deserialize, DeserializeOwned, Readable};
+use cbor_decode_as::borrowed::EitherStr;
 use cbor_io::error::{Error, Result};
 use cbor_read::Read;
-use cbor_decode_as::borrowed::EitherStr;
 use std::alloc::Global;
 
 const NO_CHARACTER: &str = "invalid type: expected a character";

@@ -2,9 +2,9 @@
 
 use crate::de::Deserializer;
 use crate::deserialize::{Deserialize, DeserializeOwned, Readable};
+use cbor_decode_as::floats::{read_f32, read_f64};
 use cbor_io::error::Result;
 use cbor_read::Read;
-use cbor_decode_as::floats::{read_f32, read_f64};
 
 /// A float of 16, 32 or 64 bits whose number an `f32` holds exactly. Another float is refused with
 /// `float out of range: expected f32`, and a whole number with `invalid type: expected a float`. A

@@ -2,9 +2,9 @@
 
 use crate::de::Deserializer;
 use crate::deserialize::{Deserialize, DeserializeOwned, Readable};
+use cbor_decode_as::integer::{read_from_zero, read_signed, read_u128};
 use cbor_io::error::Result;
 use cbor_read::Read;
-use cbor_decode_as::integer::{read_from_zero, read_signed, read_u128};
 
 impl Readable for u8 {
     ghost use Rattle.std.specs.Prelude.{◌-◌, ◌^◌, true};

@@ -2,9 +2,9 @@
 
 use crate::de::Deserializer;
 use crate::deserialize::{Deserialize, DeserializeOwned, Readable};
+use cbor_decode_as::null::take_null;
 use cbor_io::error::Result;
 use cbor_read::Read;
-use cbor_decode_as::null::take_null;
 
 // Null is None, by its first byte alone: neither undefined nor a tagged null is.
 impl<T: Readable> Readable for Option<T> {

@@ -2,10 +2,10 @@
 
 use crate::de::Deserializer;
 use crate::deserialize::{Deserialize, DeserializeOwned, Readable};
-use cbor_io::error::{Error, Result};
-use cbor_read::{EitherLifetime, Read};
 use cbor_decode_as::borrowed::EitherStr;
 use cbor_decode_as::string::{NO_STRING, read_string};
+use cbor_io::error::{Error, Result};
+use cbor_read::{EitherLifetime, Read};
 
 impl Readable for String {
     ghost use Rattle.std.specs.Prelude.{true};

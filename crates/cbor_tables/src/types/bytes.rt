@@ -3,9 +3,9 @@
 use crate::desk::Desk;
 use crate::row::Row;
 use crate::types::lists;
-use cbor_value::bytes::{ByteArray, ByteBuf, Bytes};
-use cbor_read::Read;
 use cbor_de::Deserializer;
+use cbor_read::Read;
+use cbor_value::bytes::{ByteArray, ByteBuf, Bytes};
 use std::collections::BTreeMap;
 use std::io;
 

@@ -3,8 +3,8 @@
 use crate::desk::Desk;
 use crate::row::Row;
 use crate::types::maps;
-use cbor_read::Read;
 use cbor_de::Deserializer;
+use cbor_read::Read;
 use cbor_value::Value;
 use std::io;
 

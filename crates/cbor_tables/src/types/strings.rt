@@ -3,8 +3,8 @@
 use crate::desk::Desk;
 use crate::row::Row;
 use crate::types::bytes;
-use cbor_read::Read;
 use cbor_de::{Deserializer, IgnoredAny};
+use cbor_read::Read;
 use std::io;
 
 /// Judges a row of one of these, or of another type.

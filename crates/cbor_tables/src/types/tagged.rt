@@ -2,9 +2,9 @@
 
 use crate::desk::Desk;
 use crate::row::Row;
-use cbor_read::Read;
 use cbor_convert::Tagged;
 use cbor_de::Deserializer;
+use cbor_read::Read;
 use cbor_value::Value;
 use std::collections::BTreeMap;
 use std::io;
