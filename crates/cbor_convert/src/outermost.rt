@@ -9,7 +9,7 @@ ghost use Rattle.cbor_decode_as.specs.Tags.{tag_head_at, LevelsBehind, TagIs};
 ghost use Rattle.cbor_convert.specs.Tagged.{StandsNoTag};
 
 use cbor_de::Deserializer;
-use cbor_de::inner::{error_of, peek};
+use cbor_de::steps::{error_of, peek};
 use cbor_io::error::Result;
 use cbor_read::Source;
 

@@ -6,8 +6,8 @@ use Rattle.cbor_model.specs.Raw.{Raw, RawPairs, no_raw_pairs, raw_pair}
 use Rattle.cbor_model.specs.Readable.{untagged, IsString}
 use Rattle.cbor_decode_as.specs.Identifiers.{IsFirst, IsPlace, IsIdentifier}
 use Rattle.cbor_de.specs.Structs.{IsAny, IsField, AreFields, Absent, Once, IsFieldRead, IfAbsent, refused, taken, IsFieldOr, FieldOf, HasFields, AreFieldsOf}
-use Rattle.cbor_de.specs.declared.structure.Field.{Field}
-use Rattle.cbor_de.specs.declared.structure.Field.TheVariants.{Known, Unknown}
+use Rattle.cbor_de.specs.declared.field.Field.{Field}
+use Rattle.cbor_de.specs.declared.field.Field.TheVariants.{Known, Unknown}
 pub use Rattle.cbor_de.specs.Fields.{Slots, none_yet, all_of, AreHeld}
 use Rattle.cbor_de.specs.Fields.{IsHeld, Lacks}
 use Rattle.cbor_decode_as.proofs.facts.Maps.{append_pairs, PairMayFollow}

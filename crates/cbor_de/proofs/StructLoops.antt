@@ -19,8 +19,8 @@ use Rattle.cbor_decode_as.specs.MapAccesses.{IsKey, IsMapHead, RefusesMap, Takes
 use Rattle.cbor_de.specs.Structs.{IsAny, IsField, FieldOf, IsStruct}
 use Rattle.cbor_decode_as.specs.Takes.{TakesItem, formats_of, raws, IsRead, IsNotRead, Refuses, WhateverTaken}
 use Rattle.cbor_de.specs.declared.de.Deserializer.{Deserializer}
-use Rattle.cbor_de.specs.declared.structure.Field.{Field}
-use Rattle.cbor_de.specs.declared.structure.Field.TheVariants.{Known, Unknown}
+use Rattle.cbor_de.specs.declared.field.Field.{Field}
+use Rattle.cbor_de.specs.declared.field.Field.TheVariants.{Known, Unknown}
 use Rattle.cbor_de.specs.declared.structure.StructAccess.{StructAccess}
 use Rattle.cbor_decode_as.proofs.facts.Maps.{NoKey}
 use Rattle.cbor_decode_as.proofs.facts.Readings.{refuses_map}

@@ -21,8 +21,8 @@ use Rattle.cbor_decode.proofs.facts.Steps.{step_then}
 use Rattle.cbor_decode_as.specs.MapAccesses.{pairs_at, IsMapHead, IsKey, IsNextKey, IsMapEnd, RefusesMap, TakesMapEnd}
 use Rattle.cbor_de.specs.Structs.{IsAny, IsField, AreFieldsOf, FieldOf, IsStruct}
 use Rattle.cbor_decode_as.specs.Takes.{formats_of, raws, IsRead, IsNotRead, Refuses}
-use Rattle.cbor_de.specs.declared.structure.Field.{Field}
-use Rattle.cbor_de.specs.declared.structure.Field.TheVariants.{Known, Unknown}
+use Rattle.cbor_de.specs.declared.field.Field.{Field}
+use Rattle.cbor_de.specs.declared.field.Field.TheVariants.{Known, Unknown}
 use Rattle.cbor_decode_as.proofs.facts.Maps.{append_pairs, PairsSoFar, PairsDone, pairs_end, pairs_rest, first_pair, last, another, NoKey}
 use Rattle.cbor_decode_as.proofs.facts.Readings.{refuses_map, refuses_then, refuses_by}
 use Rattle.cbor_decode_as.proofs.facts.Refusals.{refuses_on}

@@ -1,6 +1,5 @@
 -- What the crates above may cite of this crate's proofs, and nothing else.
 pub mod Readings
-pub mod Refusals
 pub mod Values
 pub mod Structs
 pub mod Enums

@@ -73,5 +73,5 @@ abbrev pub most_of : Option (List ℕ) → ℕ → ℕ
 most_of None offset = 2 ^ 64 - offset
 most_of (Some bs) offset = min (length bs + 1) (2 ^ 64 - offset)
 
-abbrev pub most_left : Stream → Count
-most_left s = at_most (if s.done then 0 else most_of s.input.to_come s.input.offset)
+abbrev pub most_items : Stream → Count
+most_items s = at_most (if s.done then 0 else most_of s.input.to_come s.input.offset)

@@ -6,8 +6,8 @@ use Rattle.cbor_model.specs.Raw.{Raw, RawPairs, no_raw_pairs, raw_pair}
 use Rattle.cbor_model.specs.Readable.{PassesTags}
 use Rattle.cbor_decode_as.specs.Identifiers.{IsIdentifier}
 use Rattle.cbor_decode_as.specs.Maps.{AsMap}
-use Rattle.cbor_de.specs.declared.structure.Field.{Field}
-use Rattle.cbor_de.specs.declared.structure.Field.TheVariants.{Known, Unknown}
+use Rattle.cbor_de.specs.declared.field.Field.{Field}
+use Rattle.cbor_de.specs.declared.field.Field.TheVariants.{Known, Unknown}
 
 -- the place of a field, where it is known
 abbrev pub place_in : Field → Option ℕ

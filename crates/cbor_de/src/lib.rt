@@ -10,17 +10,17 @@
 #![tactic(auto)]
 
 mod all_items;
-mod another;
 mod de;
 mod deserialize;
+mod field;
 mod field_type;
 mod from;
-pub mod inner;
 mod item_list;
 mod laws;
 mod map;
 mod scalars;
 mod sequence;
+pub mod steps;
 mod stream;
 mod stream_laws;
 mod structure;
@@ -39,6 +39,7 @@ pub use cbor_read::{
 };
 pub use de::Deserializer;
 pub use deserialize::{Deserialize, DeserializeOwned, Readable};
+pub use field::{Field, duplicate_field, missing_field, next_key};
 pub use field_type::FieldType;
 pub use from::{from_mut_slice, from_reader, from_slice, from_slice_with_scratch};
 pub use item_list::{ReadTuple, ReadableTuple};
@@ -49,6 +50,6 @@ pub use stream::StreamDeserializer;
 pub use stream_laws::{
     all_are_most, has_longest_list, one_list_of_items, one_longest_list, stream_answers,
 };
-pub use structure::{Field, StructAccess, duplicate_field, missing_field, next_key};
+pub use structure::StructAccess;
 pub use types::IgnoredAny;
 pub use variant::{VariantAccess, one_part};

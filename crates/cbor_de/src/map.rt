@@ -58,8 +58,8 @@ impl<R: Source> Deserializer<R> {
         // The head alone, whatever follows it.
         ensures opened { IfOk result (λ m. Step (R.source self.old.decoder.source)
             (R.source m.de.now.decoder.source)
-            (λ l bs rest. Begins kind.Map self.old.decoder.levels m.de.now.decoder.levels m.remaining
-            bs rest)) }
+            (λ l bs rest. Begins kind.Map self.old.decoder.levels
+            m.de.now.decoder.levels m.remaining bs rest)) }
         ensures unopened { IfErr result (WhateverTaken (R.source self.old.decoder.source)
             (RefusesBeginning kind.Map R.refusals
             self.old.decoder.levels (R.source self.old.decoder.source))) }

@@ -7,13 +7,14 @@ ghost use Rattle.cbor_model.specs.Reader.{item_at};
 ghost use Rattle.cbor_io.specs.Error.{code_of, offset_of};
 ghost use Rattle.cbor_decode.specs.Gives.{Advances, Step, TellsNoForm};
 ghost use Rattle.cbor_decode_as.specs.Begins.{Begins, RefusesBeginning};
-ghost use Rattle.cbor_decode.specs.declared.head.Head.TheVariants as kind;
-ghost use Rattle.cbor_decode_as.specs.Accesses.{IsArrayHead, RefusesArray, TakesNext};
-ghost use Rattle.cbor_decode_as.specs.Accesses.{TakesPart, TakesEnd, most_left, size_of};
+ghost use Rattle.cbor_decode_as.specs.Accesses.{IsArrayHead, RefusesArray, TakesNext, TakesPart};
+ghost use Rattle.cbor_decode_as.specs.Accesses.{TakesEnd, most_left, size_of, TakesMore};
 ghost use Rattle.cbor_read.specs.Source.{TookSome};
 ghost use Rattle.cbor_decode_as.specs.Takes.{IsMessage, WhateverTaken, context, formats_of, raws};
 ghost use Rattle.cbor_de.specs.Forms.{MayTell};
 ghost use Rattle.cbor_de.specs.contracts.de.Deserializer.{the_row};
+ghost use Rattle.cbor_decode.specs.Cursor.{Counts};
+ghost use Rattle.cbor_decode.specs.declared.head.Head.TheVariants as kind;
 
 use crate::de::Deserializer;
 use crate::deserialize::Deserialize;
@@ -57,8 +58,8 @@ impl<R: Source> Deserializer<R> {
         // The head alone, whatever follows it.
         ensures opened { IfOk result (λ s. Step (R.source self.old.decoder.source)
             (R.source s.de.now.decoder.source)
-            (λ l bs rest. Begins kind.Array self.old.decoder.levels s.de.now.decoder.levels s.remaining
-            bs rest)) }
+            (λ l bs rest. Begins kind.Array self.old.decoder.levels
+            s.de.now.decoder.levels s.remaining bs rest)) }
         ensures unopened { IfErr result (WhateverTaken (R.source self.old.decoder.source)
             (RefusesBeginning kind.Array R.refusals
             self.old.decoder.levels (R.source self.old.decoder.source))) }
@@ -261,5 +262,33 @@ impl<'a, R: Source> SeqAccess<'a, R> {
         } = self;
         de.decoder.levels = outer;
         e
+    }
+}
+
+impl<'a, R: Source> SeqAccess<'a, R> {
+    // Whether another item comes; its first byte stays. An array of indefinite length that has no
+    // end is refused with `EofWhileParsingArray`.
+    #[inline(always)]
+    pub(crate) fn more(&mut self) -> Result<bool>
+        requires { self.old.de.now.decoder.levels < self.old.outer }
+        ensures same_reference { self.new.de.ghost_name ≡ self.old.de.ghost_name }
+        ensures read { TakesMore R.refusals self.old.remaining self.new.remaining
+            (R.source self.old.de.now.decoder.source)
+            (R.source self.new.de.now.decoder.source) result }
+        ensures counts { IfOk result (λ more. Counts self.old.remaining more self.new.remaining) }
+        ensures no_form { IfErr result (λ e. TellsNoForm (code_of e)) }
+        ensures inside { IfOk result (λ more.
+            self.new.de.now.decoder.levels ≡ self.old.de.now.decoder.levels) }
+        ensures left { IfErr result (λ e. self.new.de.now.decoder.levels ≡ self.old.outer) }
+        ensures outer { self.new.outer ≡ self.old.outer }
+        ensures formats { self.new.de.now.decoder.formats ≡ self.old.de.now.decoder.formats }
+    {
+        match more_items(&mut self.de.decoder, &mut self.remaining) {
+            Ok(more) => Ok(more),
+            Err(e) => {
+                self.de.decoder.levels = self.outer;
+                Err(e)
+            }
+        }
     }
 }

@@ -98,12 +98,12 @@ impl<'de, R: Read<'de> + Drop, T: Deserialize<'de, R>> Iterator for StreamDeseri
     type Item = Result<T>;
 
     ghost use Rattle.cbor_decode_as.specs.Takes.{lending};
-    ghost use Rattle.cbor_de.specs.Streams.{StreamGives, most_left, standing};
+    ghost use Rattle.cbor_de.specs.Streams.{StreamGives, most_items, standing};
 
     ghost next_gives = { λ s r t. StreamGives R.refusals (λ f. T.reads (lending f R.lends)) T.total
         (standing R.source s) r (standing R.source t) };
 
-    ghost remaining = { λ s. most_left (standing R.source s) };
+    ghost remaining = { λ s. most_items (standing R.source s) };
 
     fn next(&mut self) -> Option<Result<T>> {
         if self.done {

@@ -18,8 +18,8 @@ use Rattle.cbor_de.specs.Structs.{FieldOf, IsAny, IsStruct}
 use Rattle.cbor_decode_as.specs.Takes.{TakesItem, formats_of, raws, IsRead, IsNotRead, Refuses}
 use Rattle.cbor_decode_as.proofs.facts.Refusals.{refuses_on}
 use Rattle.cbor_decode_as.proofs.facts.Readings.{refuses_map}
-use Rattle.cbor_de.specs.declared.structure.Field.{Field}
-use Rattle.cbor_de.specs.declared.structure.Field.TheVariants.{Known}
+use Rattle.cbor_de.specs.declared.field.Field.{Field}
+use Rattle.cbor_de.specs.declared.field.Field.TheVariants.{Known}
 use Rattle.cbor_de.proofs.facts.Structs.{Has, LacksAt, ValueAt, reads_at, put}
 use Rattle.cbor_de.proofs.facts.Structs.{StructSoFar, NoStruct, FieldNamed, struct_begins, field_read, field_twice, field_unread, other_passed, other_unread}
 use Rattle.cbor_de.proofs.facts.Structs.{known_other}

@@ -12,7 +12,7 @@ ghost use Rattle.cbor_decode.specs.Gives.{Advances, TellsNoForm};
 ghost use Rattle.cbor_decode_as.specs.Takes.{TakesItem, context, formats_of};
 ghost use Rattle.cbor_de.specs.Forms.{MayTell, either, item_form, struct_form};
 
-use cbor_de::inner::{end_map, leave_to, map_head};
+use cbor_de::steps::{end_map, leave_to, map_head};
 use cbor_de::{
     Deserialize, Deserializer, Field, FieldType, IgnoredAny, Read, duplicate_field, missing_field,
     next_key,

@@ -10,7 +10,7 @@ ghost use Rattle.cbor_model.specs.Readable.{PassesTags};
 ghost use Rattle.cbor_de.specs.Forms.{MayTell, either, enum_form};
 
 use crate::parts::{ReadParts, ReadableParts};
-use cbor_de::inner::{leave_to, no_part, parts, variant_head};
+use cbor_de::steps::{leave_to, no_part, parts, variant_head};
 use cbor_de::{
     Deserialize, Deserializer, Form, Read, ReadTuple, Readable, ReadableTuple, one_part,
 };

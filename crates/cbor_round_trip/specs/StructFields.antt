@@ -10,7 +10,7 @@ use Rattle.cbor_decode_as.specs.Takes.{lending}
 use Rattle.cbor_ser.specs.PartLists.{name_in, document_if, field_if}
 use Rattle.cbor_de.specs.FieldTypes.{IsGiven}
 use Rattle.cbor_de.specs.Structs.{FieldOf, field_or, IfAbsent, refused, taken, AreFields, Absent, Once, IsFieldOr, HasFields, IsStruct}
-use Rattle.cbor_de.specs.declared.structure.Field.TheVariants.{Known}
+use Rattle.cbor_de.specs.declared.field.Field.TheVariants.{Known}
 use Rattle.cbor_round_trip.specs.ReadBack.{IsReadBack}
 use Rattle.cbor_round_trip.specs.Names.{are_distinct, names_place, one_place}
 

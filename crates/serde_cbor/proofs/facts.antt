@@ -4,5 +4,3 @@ pub mod Strict
 pub mod Serialize
 pub mod Structs
 pub mod Enums
-pub mod Sources
-pub mod Refusals

@@ -57,6 +57,7 @@ pub use Rattle.cbor_decode_as.specs.Arrays
 pub use Rattle.cbor_decode_as.specs.Maps
 pub use Rattle.cbor_decode_as.specs.MapAccesses
 pub use Rattle.cbor_decode_as.specs.TaggedHeads
+pub use Rattle.cbor_decode_as.specs.Nulls
 pub use Rattle.cbor_decode_as.specs.Scalars
 pub use Rattle.cbor_decode_as.specs.Tags
 pub use Rattle.cbor_decode_as.specs.Strings

@@ -11,3 +11,5 @@ pub use cbor_de::{
     owned_agree, sources_agree,
 };
 pub use cbor_described::{FromParts, ReadParts, ReadableParts, ReadableTuple, Variant};
+pub use cbor_round_trip::RoundTrip;
+pub use cbor_strict::{from_slice_canonical, from_slice_canonical_as};

@@ -35,7 +35,7 @@ pub use cbor_read as read;
 pub use cbor_round_trip as round_trip;
 pub use cbor_round_trip::RoundTrip;
 pub use cbor_ser as ser;
-pub use cbor_ser::{Serializer, to_vec, to_writer};
+pub use cbor_ser::{Serializer, to_vec, to_vec_packed, to_writer};
 pub use cbor_strict as strict;
 pub use cbor_strict::{from_slice_canonical, from_slice_canonical_as};
 pub use cbor_value::{Value, bytes};

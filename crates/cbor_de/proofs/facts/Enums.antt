@@ -2,13 +2,13 @@
 -- each of its answers.
 
 -- what a call took that reads an enum
-pub use Rattle.cbor_de.proofs.Enums.{TakesEnum, ReadsEnum, NoEnum}
+pub use Rattle.cbor_de.proofs.Enums.{TakesEnum}
 -- the variant, and what is known of it
-pub use Rattle.cbor_de.proofs.Enums.{VariantSoFar, variant_is, variant_unread}
+pub use Rattle.cbor_de.proofs.Enums.{variant_is, variant_unread}
 -- a content of no part, of one, or of any other meaning
 pub use Rattle.cbor_de.proofs.Enums.{unit_read, unit_unread, newtype_read, newtype_unread, content_read, content_unread}
 -- a content of several parts, and what is known of them
-pub use Rattle.cbor_de.proofs.Enums.{PartsSoFar, tuple_begins, tuple_unread}
+pub use Rattle.cbor_de.proofs.Enums.{tuple_begins, tuple_unread}
 -- the items that remain of its array, and what they mean
 pub use Rattle.cbor_de.proofs.Enums.{has_items, items_read, items_made}
 -- a part

@@ -2,19 +2,19 @@
 -- keeps `StructSoFar`, and each call that is made in it has a lemma.
 
 -- what is known of the fields
-pub use Rattle.cbor_de.proofs.Slots.{Slots, none_yet, all_of, AreHeld, Has, LacksAt, ValueAt, reads_at, put, IsOther, not_known, not_unknown}
+pub use Rattle.cbor_de.proofs.Slots.{Slots, none_yet, AreHeld, Has, LacksAt, ValueAt, reads_at, put}
 -- what is known of the struct, and that it is read or isn't
-pub use Rattle.cbor_de.proofs.Structs.{StructSoFar, ReadsStruct, NoStruct}
+pub use Rattle.cbor_de.proofs.Structs.{StructSoFar, NoStruct}
 -- the map's head
 pub use Rattle.cbor_de.proofs.Structs.{struct_begins, no_struct}
 -- a field that is named and read, or a key of none that is passed over
 pub use Rattle.cbor_de.proofs.Structs.{field_read, other_passed}
 -- the same of a field that is read into its slot by `once`
-pub use Rattle.cbor_de.proofs.Structs.{FieldNamed, field_named, field_once, field_not_once}
+pub use Rattle.cbor_de.proofs.Structs.{FieldNamed, field_named}
 -- what is refused in between
 pub use Rattle.cbor_de.proofs.Structs.{no_field_named, field_twice, field_unread, other_unread}
 -- the end
-pub use Rattle.cbor_de.proofs.Structs.{field_missing, end_unread, struct_read, struct_held}
+pub use Rattle.cbor_de.proofs.Structs.{field_missing, end_unread, struct_held}
 -- ---- the short way
 
 -- Where fields are read by `once` and `required`, and alike whatever formats are read, a loop keeps

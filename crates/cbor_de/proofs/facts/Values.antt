@@ -5,7 +5,6 @@ pub use Rattle.cbor_de.proofs.Values.{spelled_value, is_canonical}
 -- what is made of a value that was read, or that none was
 pub use Rattle.cbor_de.proofs.OfValues.{value_made, no_value}
 -- what a value stands for
-pub use Rattle.cbor_de.proofs.OfValues.{view_null, view_bool, view_integer, view_float}
-pub use Rattle.cbor_value.proofs.facts.Views.{view_bytes, view_text, view_array, view_map, view_tag, count_views}
+pub use Rattle.cbor_value.proofs.facts.Views.{view_text, view_array, view_map}
 -- what a call from a slice and one from a reader answer, for the law `sources_agree`
-pub use Rattle.cbor_de.proofs.Alike.{reading, reading_of_reader}
+pub use Rattle.cbor_de.proofs.Alike.{reading}

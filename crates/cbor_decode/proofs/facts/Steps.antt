@@ -1,23 +1,21 @@
 -- Published: one step of reading after another.
 
 -- some bytes were taken, or none, and then more
-pub use Rattle.cbor_read.proofs.facts.Sources.{kept_some, some_then}
+pub use Rattle.cbor_read.proofs.facts.Sources.{some_then}
 pub use Rattle.cbor_decode.proofs.Steps.{took_none, took_same, took_stays, advances_some}
 -- steps
 pub use Rattle.cbor_decode.proofs.Steps.{step_same, step_map, step_then}
 -- what stops a part stops the whole
-pub use Rattle.cbor_decode.proofs.Steps.{stopped_then, stopped_map, stopped_at}
+pub use Rattle.cbor_decode.proofs.Steps.{stopped_then, stopped_map}
 -- and what is told of it
 pub use Rattle.cbor_decode.proofs.Steps.{why_then, why_map}
--- so does want of memory
-pub use Rattle.cbor_decode.proofs.Steps.{memory_stops}
 -- a fault before the bytes to come
 pub use Rattle.cbor_decode.proofs.Calls.{fault_stops}
 -- what is kept, where it tells a fault
-pub use Rattle.cbor_decode.proofs.Calls.{kept_stops, kept_tells}
+pub use Rattle.cbor_decode.proofs.Calls.{kept_tells}
 -- a refusal of a source
 pub use Rattle.cbor_decode.proofs.Calls.{source_stops}
-pub use Rattle.cbor_decode.proofs.Steps.{byte_refused, refused_stops, taken_step, kept_step, none_step}
+pub use Rattle.cbor_decode.proofs.Steps.{byte_refused, refused_stops, taken_step, none_step}
 -- a byte that was seen, and then taken
 pub use Rattle.cbor_decode.proofs.Peeked.{peeked_step}
 -- an error of one reading is one of another with the same fault

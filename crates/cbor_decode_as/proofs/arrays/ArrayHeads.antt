@@ -26,8 +26,8 @@ use Rattle.cbor_decode_as.specs.Kinds.{kind_of, head_kind}
 use Rattle.cbor_decode_as.specs.Kinds as kind
 use Rattle.cbor_decode_as.specs.TaggedHeads.{tagged, Opens}
 use Rattle.cbor_decode_as.specs.Takes.{raws, IsRead, IsNotRead}
-use Rattle.cbor_decode_as.proofs.facts.Items.{within_tags, untagged-tagged, other_kind, opened_none}
-use Rattle.cbor_decode_as.proofs.facts.Refusals.{refuses}
+use Rattle.cbor_decode_as.proofs.numbers.Scalars.{within_tags, untagged-tagged, other_kind, opened_none}
+use Rattle.cbor_decode_as.proofs.numbers.Scalars.{refuses}
 use Rattle.cbor_decode_as.proofs.refused.Refusing.{refuses_by}
 
 -- ---- kinds

@@ -21,8 +21,8 @@ use Rattle.cbor_decode_as.specs.Takes.{raws}
 use Rattle.cbor_decode_as.specs.Variants.{HasShape, shape_of}
 use Rattle.cbor_decode_as.specs.declared.variant.Shape.{Shape}
 use Rattle.cbor_decode_as.specs.declared.variant.Shape.TheVariants as shape
-use Rattle.cbor_decode_as.proofs.facts.Items.{kinds}
-use Rattle.cbor_decode_as.proofs.facts.Items.{item_opened}
+use Rattle.cbor_decode_as.proofs.heads.OfKind.{kinds}
+use Rattle.cbor_decode.proofs.facts.Heads.{item_opened}
 
 -- ---- first bytes
 

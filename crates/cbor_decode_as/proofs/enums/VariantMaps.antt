@@ -27,7 +27,7 @@ use Rattle.cbor_decode_as.specs.Kinds as kind
 use Rattle.cbor_decode_as.specs.Takes.{raws, IsNotRead, Refuses}
 use Rattle.cbor_decode_as.specs.Tags.{begins_tag, tag_first_at}
 use Rattle.cbor_decode_as.specs.Variants.{pair_head_at, IsAlone, RefusesShaped}
-use Rattle.cbor_decode_as.proofs.facts.Items.{kinds}
+use Rattle.cbor_decode_as.proofs.heads.OfKind.{kinds}
 use Rattle.cbor_decode_as.proofs.refused.Refusing.{refuses_map}
 use Rattle.cbor_decode_as.proofs.enums.VariantHeads.{Plain, alone_head, headed}
 

@@ -30,7 +30,7 @@ use Rattle.cbor_decode_as.specs.declared.variant.Form.TheVariants as form
 use Rattle.cbor_decode_as.proofs.heads.FirstByte.{IsFirst}
 use Rattle.cbor_decode_as.proofs.arrays.Nexts.{NoPart}
 use Rattle.cbor_decode_as.proofs.refused.Refusing.{refuses_map, refuses_then}
-use Rattle.cbor_decode_as.proofs.facts.Items.{untagged-tagged}
+use Rattle.cbor_decode_as.proofs.numbers.Scalars.{untagged-tagged}
 use Rattle.cbor_decode_as.proofs.arrays.Sequences.{append, no_part_rest, begins, goes_on, is_done}
 use Rattle.cbor_decode_as.proofs.arrays.Tuples.{Empty, Then, one_more, none_all, then_all, then_rest, empty_rest, first_follows}
 use Rattle.cbor_decode_as.proofs.arrays.WholeArrays.{NoItems, end_step, end_lacks, loop_begins, part_goes_on}

@@ -27,8 +27,8 @@ use Rattle.cbor_decode_as.specs.declared.variant.Form.{Form}
 use Rattle.cbor_decode_as.specs.declared.variant.Shape.{Shape}
 use Rattle.cbor_decode_as.specs.declared.variant.Shape.TheVariants as shape
 use Rattle.cbor_decode_as.specs.TaggedHeads.{in_tags, tagged}
-use Rattle.cbor_decode_as.proofs.facts.Items.{within_tags, untagged-tagged}
-use Rattle.cbor_decode_as.proofs.facts.Items.{item_opened}
+use Rattle.cbor_decode_as.proofs.numbers.Scalars.{within_tags, untagged-tagged}
+use Rattle.cbor_decode.proofs.facts.Heads.{item_opened}
 use Rattle.cbor_decode_as.proofs.enums.VariantHeads.{array_first, map_first, unassigned_first}
 use Rattle.cbor_decode_as.proofs.refused.Refusing.{refuses_map, refuses_then}
 

@@ -28,7 +28,7 @@ use Rattle.cbor_decode_as.specs.declared.variant.Form.TheVariants as form
 use Rattle.cbor_decode_as.specs.declared.variant.Shape.TheVariants as shape
 use Rattle.cbor_decode_as.proofs.arrays.Nexts.{NoPart}
 use Rattle.cbor_decode_as.proofs.refused.Refusing.{refuses_map, refuses_then}
-use Rattle.cbor_decode_as.proofs.facts.Items.{within_tags, untagged-tagged}
+use Rattle.cbor_decode_as.proofs.numbers.Scalars.{within_tags, untagged-tagged}
 use Rattle.cbor_decode_as.proofs.arrays.Sequences.{MustFollow, no_part_rest, begins, goes_on, with_front}
 use Rattle.cbor_decode_as.proofs.arrays.Tuples.{Empty}
 use Rattle.cbor_decode_as.proofs.enums.VariantHeads.{array_begins}

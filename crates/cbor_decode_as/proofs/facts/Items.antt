@@ -4,7 +4,3 @@
 pub use Rattle.cbor_decode_as.proofs.heads.OfKind.{kinds}
 -- what is read after an item's tags and its head
 pub use Rattle.cbor_decode.proofs.facts.Heads.{item_opened}
--- nothing is read of it, or nothing of another kind
-pub use Rattle.cbor_decode_as.proofs.numbers.Scalars.{opened_none, other_kind}
--- what passes over tags
-pub use Rattle.cbor_decode_as.proofs.numbers.Scalars.{untagged-tagged, within_tags}

@@ -11,6 +11,6 @@ pub use Rattle.cbor_decode_as.proofs.numbers.Scalars.{other_code}
 -- where memory ran out, what the refusal says of it holds
 pub use Rattle.cbor_decode_as.proofs.texts.MemoryAsked.{error_only}
 -- a refusal of the item at the front: by its fault, or by a message where one stands there
-pub use Rattle.cbor_decode_as.proofs.heads.PassedOver.{excused_whole, stands_err, stands_whole, told_whole}
+pub use Rattle.cbor_decode_as.proofs.heads.PassedOver.{stands_err}
 -- what a type's refusal tells, by what is said of the type
 pub use Rattle.cbor_decode_as.proofs.heads.PassedOver.{always, item_only, item_passes, item_total, passes_told, tells_both, tells_map, total_told}

@@ -2,4 +2,4 @@
 
 -- the items that were read, and those that follow
 pub use Rattle.cbor_decode_as.proofs.arrays.Tuples.{Empty, Then, empty_rest, first_follows, none_all}
-pub use Rattle.cbor_decode_as.proofs.arrays.Tuples.{one_more, then_all, then_more, then_rest}
+pub use Rattle.cbor_decode_as.proofs.arrays.Tuples.{one_more}

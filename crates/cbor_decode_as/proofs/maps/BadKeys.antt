@@ -20,7 +20,7 @@ use Rattle.cbor_decode.specs.Cursor.{behind_next}
 use Rattle.cbor_decode_as.specs.Cases.{TellsBadKey}
 use Rattle.cbor_decode_as.specs.MapAccesses.{Comes, key_front}
 use Rattle.cbor_decode_as.specs.Takes.{ExcusedBy}
-use Rattle.cbor_decode_as.proofs.facts.Refusals.{excused_or, told_by}
+use Rattle.cbor_decode_as.proofs.numbers.Scalars.{excused_or, told_by}
 
 -- ---- faults
 

@@ -31,7 +31,7 @@ use Rattle.cbor_decode_as.specs.Variants.{IsShaped, TakesComing, pair_head_at}
 use Rattle.cbor_decode_as.specs.Tags.{IsBehindTags}
 use Rattle.cbor_decode_as.specs.declared.variant.Form.TheVariants as form
 use Rattle.cbor_decode_as.specs.declared.variant.Shape.{Shape}
-use Rattle.cbor_decode_as.proofs.facts.Refusals.{excused_or, told_by}
+use Rattle.cbor_decode_as.proofs.numbers.Scalars.{excused_or, told_by}
 
 -- no case is asked of another code
 other_code : (cases : Cases) (k : ErrorCode) (at : ℕ) → TellsNoForm k → CaseHolds cases k at

@@ -12,7 +12,7 @@ use Rattle.cbor_decode.specs.declared.refusal.Refused.{Refused}
 use Rattle.cbor_decode.specs.Gives.{Limits, limits, Step, Stopped, Reports, IsErrorOf}
 use Rattle.cbor_decode_as.specs.Takes.{ExcusedBy, Refuses, TellsFault}
 use Rattle.cbor_decode.proofs.facts.Steps.{some_then}
-use Rattle.cbor_decode_as.proofs.facts.Refusals.{excused_or, told_by}
+use Rattle.cbor_decode_as.proofs.numbers.Scalars.{excused_or, told_by}
 
 -- ---- refusals
 

@@ -7,4 +7,4 @@ pub use Rattle.cbor_model.proofs.documents.Documents.{documents_counted, pairs_c
 -- a document's bytes are those of its parts, and it is storable and in range where they are
 pub use Rattle.cbor_model.proofs.documents.Parts.{parts_bytes, storable_parts, parts_storable, parts_in_range}
 -- what stands before its first number that isn't stored is so in its parts, and there is none where all is stored
-pub use Rattle.cbor_model.proofs.documents.Unstored.{before_parts, all_stored, each_stored, part_stored}
+pub use Rattle.cbor_model.proofs.documents.Unstored.{before_parts, all_stored, part_stored}

@@ -16,9 +16,9 @@ pub use Rattle.cbor_model.proofs.reader.RawReader.{item_found, item_again}
 -- the value of a step that did not fail
 pub use Rattle.cbor_model.proofs.reader.ReaderSteps.{bind_ok}
 -- a key begins with a byte that may begin one, and is read as an item
-pub use Rattle.cbor_model.proofs.reader.ReaderSteps.{BeginsWith, key_read, key_is}
+pub use Rattle.cbor_model.proofs.reader.ReaderSteps.{key_read, key_is}
 -- where all formats are read, each key is of one
-pub use Rattle.cbor_model.proofs.reader.FirstBytes.{all_allowed, all_may_begin}
+pub use Rattle.cbor_model.proofs.reader.FirstBytes.{all_allowed}
 -- with all formats every key is allowed
 pub use Rattle.cbor_model.proofs.reader.FirstBytes.{all_allowed}
 -- an acceptable item at the front of the bytes is read as its value

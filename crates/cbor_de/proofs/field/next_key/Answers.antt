@@ -1,7 +1,7 @@
 use Rattle.cbor_decode_as.proofs.facts.Places.{made_alone}
 use Rattle.cbor_de.proofs.Forms.{key_told}
 use Rattle.cbor_decode_as.specs.Takes.{formats_of}
-use Rattle.cbor_de.proofs.structure.next_key.Goals as goal
+use Rattle.cbor_de.proofs.field.next_key.Goals as goal
 
 pub returns-in-Err-clause-read : goal.returns-in-Err-clause-read
 returns-in-Err-clause-read g c = rw c.unnamed.ensures.source (c.in-Err.ensures.read c.unnamed.result c.unnamed.ensures.made)
