@@ -9,7 +9,7 @@ use row_types::enums::{DataEnum, TwoVariants, Wish};
 use row_types::floats::FloatEnum;
 use row_types::letters::{EnumStruct, Letter, ReprEnumStruct};
 use row_types::optional::{Pair, Settings};
-use row_types::structs::{NewtypeStruct, OptionalPerson, UnitStruct};
+use row_types::structs::{Brief, NewtypeStruct, OptionalPerson, UnitStruct};
 use row_types::weather::Weather;
 use samples::enums::{Bar, Color};
 use samples::nested::{Example, Foo};
@@ -28,6 +28,7 @@ pub fn judge<'r, R: Read<'r> + Drop>(
     match row.kind {
         "User" => desk.reads::<User, R>(row, de)?,
         "SmallStruct" => desk.reads::<SmallStruct, R>(row, de)?,
+        "Brief" => desk.reads::<Brief, R>(row, de)?,
         "NewtypeStruct<bool>" => desk.reads::<NewtypeStruct<bool>, R>(row, de)?,
         "NewtypeStruct<u8>" => desk.reads::<NewtypeStruct<u8>, R>(row, de)?,
         "Mascot" => desk.reads::<Mascot, R>(row, de)?,

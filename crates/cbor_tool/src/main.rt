@@ -38,8 +38,8 @@ fn answer_input(rt: &HostRuntime) -> Result<bool> {
     let args = match env::args(rt) {
         Ok(args) => args,
         Err(fault) if fault.kind() == ErrorKind::OutOfMemory => return Err(AllocError.into()),
-        // One that isn't UTF-8 is none of the words.
-        Err(_) => return Ok(false),
+        // A word that isn't UTF-8, too.
+        Err(fault) => return Err(fault.into()),
     };
     let mut words = Vec::new(rt.alloc());
     for word in args.skip(1) {

@@ -1,4 +1,5 @@
-//! A struct of a field that may be absent, one of an unnamed part, and one of none.
+//! A struct of a field that may be absent, one of an unnamed part, one of none, and one of names of
+//! one letter.
 
 use serde_cbor::de::{Deserialize, DeserializeOwned, FromParts, Read, Readable, ReadableParts};
 use serde_cbor::parts::{Newtype, Optional, Schema};
@@ -150,5 +151,56 @@ impl<'de, R: Read<'de>> Deserialize<'de, R> for UnitStruct {
 }
 
 impl DeserializeOwned for UnitStruct {
+    ghost same = { λ f a b r v h. h };
+}
+
+/// A struct whose fields have names of one letter.
+#[derive(Debug, Drop)]
+pub struct Brief {
+    pub a: u8,
+    pub b: Vec<u8>,
+}
+
+/// The names of its fields.
+const BRIEF: &[&str] = &["a", "b"];
+
+impl Schema for Brief {
+    ghost use Rattle.std.specs.Prelude.{map};
+    ghost use Rattle.row_types.specs.declared.structs.TheConstants.{BRIEF};
+
+    type Parts = (u8, Vec<u8>);
+
+    ghost names = { map (λ n. n.now) BRIEF.now };
+
+    ghost parts = { λ s. (s.a, s.b) };
+}
+
+impl Serialize for Brief {
+    ghost document = { λ x. ⟦<<Brief as Schema>::Parts as PartsDocument>⟧.document
+        ⟦<Brief as Schema>⟧.names (⟦<Brief as Schema>⟧.parts x) };
+
+    fn serialize<W: Write>(&self, ser: &mut Serializer<W>) -> Result<()> {
+        ser.serialize_fields(BRIEF, &(&self.a, &self.b))
+    }
+}
+
+impl FromParts for Brief {
+    fn from_parts((a, b): Self::Parts) -> Brief {
+        Brief { a, b }
+    }
+}
+
+impl Readable for Brief {
+    ghost reads = { λ c r x. ⟦<<Brief as Schema>::Parts as ReadableParts>⟧.reads
+        ⟦<Brief as Schema>⟧.names c r (⟦<Brief as Schema>⟧.parts x) };
+}
+
+impl<'de, R: Read<'de>> Deserialize<'de, R> for Brief {
+    fn deserialize(de: &mut Deserializer<R>) -> Result<Brief> {
+        Self::read_described(de, BRIEF)
+    }
+}
+
+impl DeserializeOwned for Brief {
     ghost same = { λ f a b r v h. h };
 }
