@@ -17,7 +17,7 @@ use cbor_io::error::{Error, Result};
 use cbor_read::Read;
 use std::alloc::{AllocError, Global};
 
-/// What all items of an input are read as, one after the other.
+/// Decodes all items of an input, one after the other (a CBOR sequence, RFC 8742).
 ///
 /// ```rust
 /// let source = SliceRead::new(alloc, b"\x01\x02");

@@ -253,7 +253,7 @@ impl<R: Source> Deserializer<R> {
         self
     }
 
-    /// Ok where nothing is to come, and nothing is taken.
+    /// Checks that the input has ended: Ok where nothing is to come, and then nothing is taken.
     ///
     /// Else it takes just the next byte, and refuses with `TrailingData`, after that byte. Where
     /// the source is a reader that reports a fault, it takes nothing and returns `Io`.

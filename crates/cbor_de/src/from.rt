@@ -74,7 +74,7 @@ fn are_bytes(slice: &[u8])
     let _ = slice.len();
 }
 
-/// What the one item that the bytes spell is read as (RFC 7049, sections 2.1 to 2.4).
+/// Decodes the one item that the slice encodes as a `T` (RFC 7049, sections 2.1 to 2.4).
 ///
 /// The item has to be acceptable: well formed, nested at most 127 levels deep, each text UTF-8; and
 /// one that the type reads. Heads may be longer than they have to be, and lengths indefinite.
@@ -90,8 +90,9 @@ fn are_bytes(slice: &[u8])
 /// - `UnassignedCode`: a first byte that the format doesn't assign, or that of another simple
 ///   value, after that byte;
 /// - `UnexpectedCode`: a break, or a byte in a chunk's place, that may not stand there, after it;
-/// - `InvalidUtf8`: a text isn't UTF-8, where its first bad sequence begins; of chunks, the text's
-///   end less the joined bytes from that sequence on (4 of `7f 61 c3 61 28 ff`);
+/// - `InvalidUtf8`: a text isn't UTF-8, where its first invalid sequence begins; for a text in
+///   chunks, counted back from its end by the joined bytes from that sequence on (4 of
+///   `7f 61 c3 61 28 ff`, whose joined bytes `c3 28` are invalid from the first on);
 /// - `LengthOutOfRange`: a text would end at 2^64 or beyond, after its head;
 /// - `RecursionLimitExceeded`: the 128th array, map or tag inside others, after its head;
 /// - `TrailingData`: bytes follow the item, after the first of them; or items or pairs that the
@@ -99,7 +100,7 @@ fn are_bytes(slice: &[u8])
 /// - `ArrayTooShort`, `ArrayTooLong`: an array in an enum's place has no name, or no item where
 ///   the variant has a part; or it has a name alone and the variant no part; after its last item;
 /// - `Message`, without an offset: an item that the type doesn't read;
-/// - `OutOfMemory`: an allocation failed. No memory is taken on the word of a head. None is taken
+/// - `OutOfMemory`: an allocation failed. A length field alone takes no memory. None is taken
 ///   for a bool, a number, a float, `()` and a borrowed string; for a `char` and a `ByteArray` that
 ///   aren't in chunks; for an `IgnoredAny` of an item that has no string in chunks; for a `Value`
 ///   that is a bool, a number, a float or null; and for an `Option` of these: where such an item is
@@ -158,8 +159,8 @@ pub fn from_slice<'a, T: Deserialize<'a, SliceRead<'a>>>(
     read_all(alloc, SliceRead::new(alloc, slice))
 }
 
-/// What the one item that the bytes spell is read as, as by [`from_slice`]; strings in chunks are
-/// joined in a scratch of the caller's.
+/// Decodes the one item that the slice encodes as a `T`, as [`from_slice`] does; strings in chunks
+/// are joined in a scratch buffer of the caller's.
 ///
 /// It refuses as `from_slice` does, and with `ScratchTooSmall` where the chunks of a string, each
 /// whole in the bytes, are longer together than the scratch: at the offset after the head of the
@@ -207,8 +208,8 @@ pub fn from_slice_with_scratch<'a, T: Deserialize<'a, SliceReadFixed<'a, 'a>>>(
     read_all(alloc, SliceReadFixed::new(slice, scratch))
 }
 
-/// What the one item that the bytes spell is read as, as by [`from_slice`]. The slice is rewritten:
-/// strings in chunks are joined in place. What it holds afterwards isn't said.
+/// Decodes the one item that the slice encodes as a `T`, as [`from_slice`] does. The slice is
+/// rewritten: strings in chunks are joined in place. What it holds afterwards isn't said.
 ///
 /// Beside what `from_slice` takes no memory for, none is taken for a borrowed string, a `char` and
 /// a `ByteArray` in chunks, and for an `IgnoredAny`.
@@ -245,8 +246,9 @@ pub fn from_mut_slice<'a, T: Deserialize<'a, MutSliceRead<'a>>>(
     read_all(alloc, MutSliceRead::new(slice))
 }
 
-/// What the one item that the reader's bytes spell is read as, as by [`from_slice`]. It reads to
-/// the reader's end, and takes memory for what came alone, also for a `char` and a `ByteArray`.
+/// Decodes the one item that the reader's bytes encode as a `T`, as [`from_slice`] does. It reads
+/// to the reader's end, and takes memory only for bytes that came, also for a `char` and a
+/// `ByteArray`.
 ///
 /// It refuses as `from_slice` does, with `Io` where the reader reports a fault (an interrupted read
 /// is one), and with `LengthOutOfRange` where it gives 2^64 bytes and more.

@@ -13,7 +13,7 @@ use std::{error, fmt, io};
 /// What fallible calls return.
 pub type Result<T> = std::result::Result<T, Error>;
 
-/// Why a call refused.
+/// The reason for an error.
 ///
 /// `Message`, `Io` and `OutOfMemory` have no place in the input: their offset is 0.
 #[derive(Debug, Drop)]
@@ -53,7 +53,8 @@ pub enum ErrorCode {
     /// is wanted. The offset is after the identifier. (Items left in such an array are
     /// `TrailingData`.)
     ArrayTooLong,
-    /// Arrays, maps and tags are nested more than 127 levels deep.
+    /// Arrays, maps and tags are nested deeper than the limit: 127 levels, or as many as
+    /// `nesting_limit` of a `Deserializer` sets.
     RecursionLimitExceeded,
     /// An enum in a form that is disabled.
     WrongEnumFormat,
@@ -78,8 +79,8 @@ pub enum Category {
     Eof,
 }
 
-/// Why a call refused, and where: how many bytes of the input come before that place. The offset
-/// of a code that has no place is 0.
+/// The reason for an error, and its offset: how many bytes of the input come before the fault. The
+/// offset of a code that has no place is 0.
 ///
 /// ```rust
 /// let Err(error) = from_slice::<Value>(alloc, &[0x82, 0x01]) else {

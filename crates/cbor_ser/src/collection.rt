@@ -20,8 +20,8 @@ pub(crate) enum Turn {
 
 /// Writes the items of a sequence or a tuple, or the keys and values of a map by turns.
 ///
-/// As many as were declared have to be written before [`end`](CollectionSerializer::end), and no
-/// key may wait for its value there. After an Err no call follows.
+/// As many as were declared have to be written before [`end`](CollectionSerializer::end), and each
+/// key must have its value by then. After an Err no call follows.
 #[derive(Drop)]
 pub struct CollectionSerializer<'a, W> {
     pub(crate) ser: &'a mut Serializer<W>,

@@ -15,7 +15,7 @@ use std::convert::AsSlice;
 pub struct Bytes<'a>(pub &'a [u8]);
 
 impl<'a> Bytes<'a> {
-    /// These bytes.
+    /// Wraps these bytes.
     pub fn new(bytes: &'a [u8]) -> Bytes<'a>
         ensures { result.0.now ≡ bytes.now }
     {
@@ -109,7 +109,7 @@ impl AsSlice<u8> for ByteBuf {
 pub struct ByteArray<const N: usize>(pub [u8; N]);
 
 impl<const N: usize> ByteArray<N> {
-    /// These bytes.
+    /// Wraps these bytes.
     pub fn new(bytes: [u8; N]) -> ByteArray<N>
         ensures { result.0 ≡ bytes.entry }
     {

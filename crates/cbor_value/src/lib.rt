@@ -22,6 +22,9 @@ mod pairs;
 /// NaN equals itself. The order is that of the widths, and then that of the bits, as it is among
 /// values.
 ///
+/// No call makes a float narrower. Where another encoder would write the shortest width that holds
+/// a number, choose it: `Float::Half(0x3c00)` is 1.0 in 16 bits.
+///
 /// ```rust
 /// assert_eq!(rt; Float::Half(0x3c00).to_f64(), 1.0);
 /// assert_eq!(rt; Float::from(1.0), Float::Double(0x3ff0_0000_0000_0000));

@@ -1,11 +1,22 @@
-//! CBOR with canonical values (RFC 7049).
+//! CBOR (RFC 7049, and RFC 8949, which replaced it), with one canonical encoding of each value.
 //!
-//! [`from_slice`], [`from_slice_with_scratch`], [`from_mut_slice`] and [`from_reader`] read any
-//! CBOR item as a [`Value`], and others as types that say which items they read
-//! ([`de::Deserialize`]). [`to_vec`] writes a value as its one canonical spelling, and types that
-//! say their document ([`ser::Serialize`]); [`to_vec_canonical`] writes the one spelling of what a
-//! value of any type stands for. Values are compared by the order of their spellings' heads and
-//! contents, so that a map lists its keys in one order.
+//! [`from_slice`], [`from_slice_with_scratch`], [`from_mut_slice`] and [`from_reader`] decode any
+//! item as a [`Value`], or as a type that says which items it reads ([`de::Deserialize`]).
+//! [`to_vec`] encodes a value, or a type that says its document ([`ser::Serialize`]).
+//! [`to_vec_canonical`] gives the canonical encoding of what a value of any type stands for, to
+//! sign or to hash, and [`from_slice_canonical`] accepts canonical encodings alone. Values compare
+//! as the bytes of their canonical encodings do, and a map lists its keys in that order.
+//!
+//! - [`de`], [`stream`], [`strict`]: reading; [`ser`]: writing
+//! - [`value`]: `Value`, `Map`, `Float`, and the way between a value and a type
+//! - [`parts`]: the description by which a struct or an enum of yours is read and written;
+//!   [`round_trip`]: the law that it is read back
+//! - [`bytes`], [`tags`]: byte strings and tags as types
+//! - [`error`]; [`read`] and [`write`]: sources and sinks; [`model`]: definitions and laws
+//!
+//! In the repository `docs/FORMAT.md` has the format in rules, `docs/OWN_TYPES.md` a type of your
+//! own step by step, `docs/GUARANTEES.md` what is proved and what isn't, and `SECURITY.md` what
+//! hostile input can cost.
 //!
 //! ```rust
 //! let value: Value = from_slice(alloc, &[0xbf, 2, 0, 1, 0, 0xff])?;
