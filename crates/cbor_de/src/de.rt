@@ -14,7 +14,7 @@ use cbor_decode::Decoder;
 use cbor_io::error::Result;
 use cbor_read::{IoRead, MutSliceRead, Offset, SliceRead, SliceReadFixed, Source};
 use std::alloc::Global;
-use std::io;
+use std::{fmt, io};
 
 /// Reads types from a source: a slice, a slice with a scratch, a slice that is rewritten, any
 /// reader, or a source of the caller's own. Arrays, maps and tags may be nested 127 levels deep, or
@@ -275,5 +275,15 @@ impl<R: Source> Deserializer<R> {
             Ok(()) => Ok(()),
             Err(refused) => Err(self.decoder.error(refused)),
         }
+    }
+}
+
+impl<R: fmt::Debug> fmt::Debug for Deserializer<R> {
+    fn fmt<W: fmt::Write>(&self, f: &mut fmt::Formatter<W>) -> fmt::Result {
+        f.debug_struct("Deserializer")
+            .field("source", &self.decoder.source)
+            .field("levels_left", &self.decoder.levels)
+            .field("formats", &self.decoder.formats)
+            .finish_non_exhaustive()
     }
 }

@@ -108,8 +108,8 @@ pub trait Readable: Sized + Drop {
 /// `required`, `fields_read` and `end_refused` of `end`. A whole proof is that of `Point` in the
 /// crate `own_types`: `src/by_hand.rt` and `proofs/by_hand/PointDeserialize`.
 ///
-/// These lemmas are for fields that are read alike whatever formats are read. Where a field isn't,
-/// as an enum, the loop keeps `StructSoFar`, whose lemmas stand there too.
+/// These lemmas are for fields that are read alike whatever formats are read. A struct with a field
+/// that isn't, as an enum, is read by a description (`FromParts` of `cbor_described`).
 ///
 /// An enum is read by its variants, which [`Deserializer::variant`] tells by their names or their
 /// numbers, and each variant by the call on its content. Named fields are read as a struct of

@@ -11,6 +11,7 @@ use crate::deserialize::Deserialize;
 use cbor_io::error::{Error, Result};
 use cbor_read::{Offset, Read, Source};
 use std::alloc::Global;
+use std::fmt;
 use std::marker::PhantomData;
 
 /// The items of an input, one after the other, each read as `T`.
@@ -130,5 +131,14 @@ impl<'de, R: Read<'de> + Drop, T: Deserialize<'de, R>> Iterator for StreamDeseri
 
     fn size_hint(&self) -> (usize, Option<usize>) {
         (0, None)
+    }
+}
+
+impl<R: fmt::Debug, T> fmt::Debug for StreamDeserializer<'_, R, T> {
+    fn fmt<W: fmt::Write>(&self, f: &mut fmt::Formatter<W>) -> fmt::Result {
+        f.debug_struct("StreamDeserializer")
+            .field("de", &self.de)
+            .field("done", &self.done)
+            .finish_non_exhaustive()
     }
 }

@@ -112,7 +112,7 @@ fn stopped<R: Source>(decoder: &mut Decoder<R>, refused: Refused) -> ReadError
 
 // Takes the bytes of a byte string after its head.
 #[inline(always)]
-#[tactic(auto, using(crate::proofs::Memory::kept_only))]
+#[tactic(auto, using(crate::proofs::texts::MemoryAsked::kept_only))]
 pub(crate) fn bytes_part<'a, 'de, R: Read<'de>>(
     decoder: &'a mut Decoder<R>,
     n: Option<u64>,
@@ -142,7 +142,7 @@ pub(crate) fn bytes_part<'a, 'de, R: Read<'de>>(
 
 // Takes the bytes of a text after its head.
 #[inline(always)]
-#[tactic(auto, using(crate::proofs::Memory::kept_only, crate::proofs::Memory::kept_at))]
+#[tactic(auto, using(crate::proofs::texts::MemoryAsked::kept_only, crate::proofs::texts::MemoryAsked::kept_at))]
 pub(crate) fn text_part<'a, 'de, R: Read<'de>>(
     decoder: &'a mut Decoder<R>,
     n: Option<u64>,
@@ -210,7 +210,7 @@ fn bytes_of<'a, 'de>(text: EitherStr<'a, 'de>) -> Result<EitherLifetime<'a, 'de>
 // The refusal of an item of another kind, after its head: the fault of what follows, if it has one.
 #[cold]
 #[inline(never)]
-#[tactic(auto, using(crate::proofs::Memory::kept_only))]
+#[tactic(auto, using(crate::proofs::texts::MemoryAsked::kept_only))]
 fn other<R: Source>(decoder: &mut Decoder<R>, found: HeadAt) -> Unread
     ensures fault { UnreadBehind R.refusals found (R.source decoder.old.source) result }
     ensures memory { UnreadOnly (AsksBehind (asks_for R.refusals R.lends) found
@@ -247,7 +247,7 @@ pub fn unread_error<R: Source>(decoder: &mut Decoder<R>, why: Unread, message: &
 /// Another item, as a byte string that isn't UTF-8, is [`Unread::Other`], and was passed over. What
 /// isn't whole, of any kind, a text that isn't UTF-8 (`InvalidUtf8`), and a break
 /// (`UnexpectedCode`) are refused, and what the source refuses.
-#[tactic(auto, using(crate::proofs::Memory::kept_none))]
+#[tactic(auto, using(crate::proofs::texts::MemoryAsked::kept_none))]
 pub fn read_text<'a, 'de, R: Read<'de>>(decoder: &'a mut Decoder<R>) -> Result<EitherStr<'a, 'de>>
     ensures* after_borrow { sem 𝓛 (Rests (the_row R.row) decoder.entry (λ new.
         (new.levels ≡ decoder.old.levels)
@@ -279,7 +279,7 @@ pub fn read_text<'a, 'de, R: Read<'de>>(decoder: &'a mut Decoder<R>) -> Result<E
 
 /// Lends the bytes of a byte string, or of a text. It refuses as [`read_text`] does, but for bytes
 /// that aren't UTF-8 in a byte string.
-#[tactic(auto, using(crate::proofs::Memory::kept_none))]
+#[tactic(auto, using(crate::proofs::texts::MemoryAsked::kept_none))]
 pub fn read_bytes<'a, 'de, R: Read<'de>>(
     decoder: &'a mut Decoder<R>,
 ) -> Result<EitherLifetime<'a, 'de>>
@@ -312,7 +312,7 @@ pub fn read_bytes<'a, 'de, R: Read<'de>>(
 }
 
 /// Lends the bytes of a byte string; a text is another item. It refuses as [`read_bytes`] does.
-#[tactic(auto, using(crate::proofs::Memory::kept_none))]
+#[tactic(auto, using(crate::proofs::texts::MemoryAsked::kept_none))]
 pub fn read_byte_string<'a, 'de, R: Read<'de>>(
     decoder: &'a mut Decoder<R>,
 ) -> Result<EitherLifetime<'a, 'de>>

@@ -9,7 +9,7 @@ ghost use Rattle.cbor_read.specs.Source.{with_peeked, start_of_reader};
 use super::front::valid_in;
 use super::{EitherLifetime, Offset, Read, ReadError, ReadErrorCode, Result, Source};
 use std::alloc::Global;
-use std::{io, mem};
+use std::{fmt, io, mem};
 
 /// The bytes that a reader of the standard library gives. What is read is lent until the next call.
 ///
@@ -299,4 +299,13 @@ fn read_some<R: io::Read>(reader: &mut R, piece: &mut [u8], most: usize) -> Resu
     ensures { SomeRead (R.remaining reader.old) (R.remaining reader.new) most piece.new result }
 {
     Ok(reader.read(&mut piece[..most])?)
+}
+
+// Neither the input nor the reader is printed: what they hold may be no reader's to see.
+impl<R> fmt::Debug for IoRead<R> {
+    fn fmt<W: fmt::Write>(&self, f: &mut fmt::Formatter<W>) -> fmt::Result {
+        f.debug_struct("IoRead")
+            .field("offset", &self.offset)
+            .finish_non_exhaustive()
+    }
 }

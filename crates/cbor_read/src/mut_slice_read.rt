@@ -8,7 +8,7 @@ ghost use Rattle.cbor_io.specs.declared.read_error.ReadErrorCode.TheVariants as 
 use super::front::{append, valid_in};
 use super::in_place::bring_down;
 use super::{EitherLifetime, Read, ReadError, Result, Source};
-use std::mem;
+use std::{fmt, mem};
 
 /// The bytes of a slice that may be rewritten. All that is handed out is lent for the slice's whole
 /// life, also parts that were joined: the first stays where it is, each further one is brought down
@@ -31,7 +31,7 @@ use std::mem;
 /// source.read_to_buffer(3)?;
 /// assert!(rt; matches!(source.take_buffer(), EitherLifetime::Long(b"foobar")));
 /// ```
-#[derive(Debug, Drop)]
+#[derive(Drop)]
 pub struct MutSliceRead<'a> {
     // what was not lent
     slice: &'a mut [u8],
@@ -261,5 +261,15 @@ impl<'a> Read<'a> for MutSliceRead<'a> {
         let part = cut_front(&mut self.slice, taken);
         self.before += taken;
         EitherLifetime::Long(&part[start..end])
+    }
+}
+
+// The input isn't printed: it may be long, or hold what is no reader's to see.
+impl fmt::Debug for MutSliceRead<'_> {
+    fn fmt<W: fmt::Write>(&self, f: &mut fmt::Formatter<W>) -> fmt::Result {
+        f.debug_struct("MutSliceRead")
+            .field("offset", &(self.before + self.taken))
+            .field("remaining", &(self.slice.len() - self.taken))
+            .finish_non_exhaustive()
     }
 }

@@ -5,6 +5,7 @@ ghost use Rattle.std.specs.Prelude.{◌≡◌, ◌≤◌, [], length, None};
 use super::front::{append, byte_at, end_of, valid_in};
 use super::{EitherLifetime, Offset, Read, Result, Source};
 use std::alloc::Global;
+use std::fmt;
 
 /// The bytes of a slice. What is read is lent by the slice; parts that are joined stand in a buffer
 /// that grows.
@@ -18,7 +19,7 @@ use std::alloc::Global;
 /// assert!(rt; matches!(source.read(3)?, EitherLifetime::Long(b"foo")));
 /// assert_eq!(rt; source.read(1).unwrap_err().offset(), 4);
 /// ```
-#[derive(Debug, Drop)]
+#[derive(Drop)]
 pub struct SliceRead<'a> {
     slice: &'a [u8],
     buffer: Vec<u8>,
@@ -152,5 +153,15 @@ impl<'a> Read<'a> for SliceRead<'a> {
 impl<'a> Offset for SliceRead<'a> {
     fn byte_offset(&self) -> usize {
         self.taken
+    }
+}
+
+// The input isn't printed: it may be long, or hold what is no reader's to see.
+impl fmt::Debug for SliceRead<'_> {
+    fn fmt<W: fmt::Write>(&self, f: &mut fmt::Formatter<W>) -> fmt::Result {
+        f.debug_struct("SliceRead")
+            .field("offset", &self.taken)
+            .field("remaining", &(self.slice.len() - self.taken))
+            .finish_non_exhaustive()
     }
 }

@@ -6,6 +6,7 @@ ghost use Rattle.cbor_io.specs.declared.read_error.ReadErrorCode.TheVariants.{Sc
 
 use super::front::{append, byte_at, end_of, valid_in};
 use super::{EitherLifetime, Offset, Read, ReadError, ReadErrorCode, Result, Source};
+use std::fmt;
 
 /// The bytes of a slice. What is read is lent by the slice; parts that are joined stand in a
 /// scratch that the caller lends. `read_to_vec` takes memory, for the vector that it fills; no
@@ -24,7 +25,7 @@ use super::{EitherLifetime, Offset, Read, ReadError, ReadErrorCode, Result, Sour
 /// source.read_to_buffer(1)?;
 /// assert!(rt; matches!(source.take_buffer(), EitherLifetime::Short(b"foob")));
 /// ```
-#[derive(Debug, Drop)]
+#[derive(Drop)]
 pub struct SliceReadFixed<'a, 'b> {
     slice: &'a [u8],
     scratch: &'b mut [u8],
@@ -188,5 +189,15 @@ impl<'a, 'b> Read<'a> for SliceReadFixed<'a, 'b> {
 impl<'a, 'b> Offset for SliceReadFixed<'a, 'b> {
     fn byte_offset(&self) -> usize {
         self.taken
+    }
+}
+
+// The input isn't printed: it may be long, or hold what is no reader's to see.
+impl fmt::Debug for SliceReadFixed<'_, '_> {
+    fn fmt<W: fmt::Write>(&self, f: &mut fmt::Formatter<W>) -> fmt::Result {
+        f.debug_struct("SliceReadFixed")
+            .field("offset", &self.taken)
+            .field("remaining", &(self.slice.len() - self.taken))
+            .finish_non_exhaustive()
     }
 }

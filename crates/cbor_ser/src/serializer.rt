@@ -20,6 +20,7 @@ use cbor_io::head::Major;
 use cbor_io::write::Write;
 use cbor_value::{Float, Value};
 use std::alloc::Global;
+use std::fmt;
 
 mod compound;
 mod list;
@@ -384,5 +385,15 @@ impl<W: Write> Serializer<W> {
             Serialized W.written W.refuses W.references W.capacity self.old part self.new result }
     {
         self.writer.write_all(piece)
+    }
+}
+
+// The sink isn't printed: what it holds may be no reader's to see.
+impl<W> fmt::Debug for Serializer<W> {
+    fn fmt<F: fmt::Write>(&self, f: &mut fmt::Formatter<F>) -> fmt::Result {
+        f.debug_struct("Serializer")
+            .field("packed", &self.settings.packed)
+            .field("legacy", &self.settings.legacy)
+            .finish_non_exhaustive()
     }
 }

@@ -4,3 +4,4 @@ pub mod Strict
 pub mod Serialize
 pub mod Structs
 pub mod Enums
+pub mod Sources

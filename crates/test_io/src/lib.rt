@@ -5,6 +5,8 @@
 #[cfg(test)]
 mod checks;
 #[cfg(test)]
+mod debug_tests;
+#[cfg(test)]
 mod devices;
 #[cfg(test)]
 mod error_tests;

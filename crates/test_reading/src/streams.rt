@@ -291,3 +291,23 @@ fn ends_by_a_fault_within_an_item(rt: HostRuntime) -> Done {
     ends(&rt, &mut stream);
     Ok(())
 }
+
+// What reads is printed as where it stands, with no byte of its input.
+#[test]
+fn prints_no_bytes(rt: HostRuntime) -> Done {
+    let alloc = rt.alloc();
+    let mut de = Deserializer::from_slice(alloc, b"\xc1\x05\x06").nesting_limit(3);
+    de.read_tag()?;
+    let text = format!(in alloc; "{de:?}")?;
+    let shown = "Deserializer { source: SliceRead { offset: 1, remaining: 2, .. }, levels_left: 2, \
+        formats: Formats { named: true, packed: true, standard_enums: true, legacy_enums: true }, .. }";
+    assert!(rt; text.as_str() == shown);
+
+    let stream = Deserializer::from_reader(alloc, b"\x05".as_slice()).into_iter::<u8>();
+    let text = format!(in alloc; "{stream:?}")?;
+    let shown = "StreamDeserializer { de: Deserializer { source: IoRead { offset: 0, .. }, \
+        levels_left: 127, formats: Formats { named: true, packed: true, standard_enums: true, \
+        legacy_enums: true }, .. }, done: false, .. }";
+    assert!(rt; text.as_str() == shown);
+    Ok(())
+}

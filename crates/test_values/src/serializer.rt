@@ -166,3 +166,14 @@ fn tells_a_writers_fault(rt: HostRuntime) -> Done {
     ser.serialize_str("foobar")?;
     Ok(())
 }
+
+// A serializer is printed by its settings, with no byte of what was written.
+#[test]
+fn prints_no_bytes(rt: HostRuntime) -> Done {
+    let alloc = rt.alloc();
+    let mut ser = Serializer::new(alloc, Vec::new(alloc)).packed_format();
+    ser.serialize_u64(9)?;
+    let text = format!(in alloc; "{ser:?}")?;
+    assert!(rt; text.as_str() == "Serializer { packed: true, legacy: false, .. }");
+    Ok(())
+}

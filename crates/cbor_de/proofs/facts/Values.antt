@@ -7,4 +7,4 @@ pub use Rattle.cbor_de.proofs.OfValues.{value_made, no_value}
 -- what a value stands for
 pub use Rattle.cbor_value.proofs.facts.Views.{view_text, view_array, view_map}
 -- what a call from a slice and one from a reader answer, for the law `sources_agree`
-pub use Rattle.cbor_de.proofs.Alike.{reading}
+pub use Rattle.cbor_de.proofs.Alike.{reading, reading_of_reader}

@@ -5,8 +5,8 @@ ghost use Rattle.cbor_io.specs.Write.{IsFault, Wrote, io_writer};
 
 use super::Write;
 use crate::error::Result;
-use std::io;
 use std::io::ErrorKind;
+use std::{fmt, io};
 
 /// A writer of the standard library as a sink.
 ///
@@ -81,4 +81,11 @@ fn is_tried_again(kind: ErrorKind) -> bool
     ensures { IsTrue result ↔ (kind ≡ Interrupted) }
 {
     kind == ErrorKind::Interrupted
+}
+
+// The writer isn't printed: what it holds may be no reader's to see.
+impl<W> fmt::Debug for IoWrite<W> {
+    fn fmt<F: fmt::Write>(&self, f: &mut fmt::Formatter<F>) -> fmt::Result {
+        f.debug_struct("IoWrite").finish_non_exhaustive()
+    }
 }

@@ -2,6 +2,7 @@ ghost use Rattle.std.specs.Prelude.{◌≤◌, length};
 
 use super::Write;
 use crate::error::{Error, Result};
+use std::fmt;
 
 /// A slice of fixed length as a sink. It takes no memory.
 ///
@@ -91,5 +92,15 @@ impl Write for SliceWrite<'_> {
         self.slice[self.count..end].copy_from_slice(buf);
         self.count = end;
         Ok(())
+    }
+}
+
+// What was written isn't printed: it may be long, or hold what is no reader's to see.
+impl fmt::Debug for SliceWrite<'_> {
+    fn fmt<W: fmt::Write>(&self, f: &mut fmt::Formatter<W>) -> fmt::Result {
+        f.debug_struct("SliceWrite")
+            .field("bytes_written", &self.count)
+            .field("remaining", &(self.slice.len() - self.count))
+            .finish_non_exhaustive()
     }
 }

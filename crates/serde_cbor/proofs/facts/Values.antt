@@ -5,4 +5,4 @@ pub use Rattle.cbor_de.proofs.facts.Values.{value_made, no_value}
 -- what a value stands for
 pub use Rattle.cbor_de.proofs.facts.Values.{view_text, view_array, view_map}
 -- what a call from a slice and one from a reader answer, for the law `sources_agree`
-pub use Rattle.cbor_de.proofs.facts.Values.{reading}
+pub use Rattle.cbor_de.proofs.facts.Values.{reading, reading_of_reader}

@@ -1,0 +1,4 @@
+-- Published: what proves a source of one's own.
+
+-- a call that appends was refused, took nothing, and changed nothing
+pub use Rattle.cbor_read.proofs.facts.Sources.{none_taken}
