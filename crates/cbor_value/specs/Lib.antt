@@ -1,4 +1,6 @@
+pub mod Contents
 pub mod Floats
+pub mod Rows
 pub mod Search
 pub mod View
 pub use Rattle.cbor_io.specs.Error

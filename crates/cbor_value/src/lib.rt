@@ -7,6 +7,7 @@
 //! number that a float stands for), and on the facts of `proofs/facts`.
 #![tactic(auto)]
 
+mod accessors;
 mod clone;
 mod floats;
 mod from;

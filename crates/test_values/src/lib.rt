@@ -2,6 +2,8 @@
 #![tactic(auto)]
 
 #[cfg(test)]
+mod accessors;
+#[cfg(test)]
 mod beginnings;
 #[cfg(test)]
 mod byte_order;
