@@ -11,6 +11,7 @@ mod accessors;
 mod clone;
 mod floats;
 mod from;
+mod lookup;
 mod memory;
 mod order;
 mod pairs;

@@ -12,6 +12,8 @@ mod checks;
 #[cfg(test)]
 mod floats;
 #[cfg(test)]
+mod lookup;
+#[cfg(test)]
 mod serializer;
 #[cfg(test)]
 mod sinks;
