@@ -1,5 +1,6 @@
 pub mod Contents
 pub mod Floats
+pub mod Lending
 pub mod Lookup
 pub mod Rows
 pub mod Search

@@ -11,6 +11,7 @@ mod accessors;
 mod clone;
 mod floats;
 mod from;
+mod in_place;
 mod lookup;
 mod memory;
 mod order;

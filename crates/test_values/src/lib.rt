@@ -12,6 +12,8 @@ mod checks;
 #[cfg(test)]
 mod floats;
 #[cfg(test)]
+mod in_place;
+#[cfg(test)]
 mod lookup;
 #[cfg(test)]
 mod serializer;
