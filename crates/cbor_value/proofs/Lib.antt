@@ -1,4 +1,5 @@
 pub mod Comparing
+pub mod Lookups
 pub mod Maps
 pub mod Numbers
 pub mod Sorting

@@ -1,16 +1,19 @@
 //! Any value that CBOR encodes, as a tree.
 //!
-//! [`Value`] and [`Map`] with their order, copies and conversions. It names the definitions of
-//! `cbor_model`, its facts on the order and on maps, and the
-//! error of `cbor_io`. The crates above rely on the contracts of its public calls, on
+//! [`Value`] and [`Map`] with their order, copies, look-ups and conversions, and byte strings as
+//! types of their own (`bytes`). It names the definitions of `cbor_model`, its facts on the order
+//! and on maps, and the error of `cbor_io`. The crates above rely on the contracts of its public calls, on
 //! `specs/View.antt` (the tree of the model that a value stands for), on `specs/Floats.antt` (the
 //! number that a float stands for), and on the facts of `proofs/facts`.
 #![tactic(auto)]
 
+mod accessors;
 pub mod bytes;
 mod clone;
 mod floats;
 mod from;
+mod in_place;
+mod lookup;
 mod memory;
 mod order;
 mod pairs;

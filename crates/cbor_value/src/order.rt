@@ -68,7 +68,7 @@ fn major_type(v: &Value) -> u8
 
 /// Numbers from 0 stand first, and on either side the one nearer to 0.
 #[tactic(auto, unfolding(cbor_model::specs::Order::flat))]
-fn cmp_integers(x: i128, y: i128) -> Ordering
+pub(crate) fn cmp_integers(x: i128, y: i128) -> Ordering
     ensures { result ≡ val_cmp (integer x) (integer y) }
 {
     match (x < 0, y < 0) {
@@ -91,7 +91,7 @@ fn cmp_strings(a: &[u8], b: &[u8]) -> Ordering
 
 /// The order of two texts of one length. Std's own order of short texts, by words, takes the fewest
 /// instructions.
-fn cmp_texts(a: &str, b: &str) -> Ordering
+pub(crate) fn cmp_texts(a: &str, b: &str) -> Ordering
     ensures { result ≡ lex (length a.now ∷ a.now) (length b.now ∷ b.now) }
 {
     if a.len() < 8 && a.len() == b.len() {

@@ -17,6 +17,7 @@ ghost use Rattle.cbor_value.specs.View.{view, map_view, map_of, pair_views, IsMa
 ghost use Rattle.cbor_value.specs.View.{IsPairOrdered};
 ghost use Rattle.cbor_value.specs.Search.{StandsAt, IsPlaceIn, IsPlaceOf, binary_digits};
 
+use super::lookup::Key;
 use super::{Map, Value};
 use cbor_io::error;
 use std::alloc::Global;
@@ -134,15 +135,7 @@ impl Map {
         ensures few { result.1 ≤ binary_digits (pair_count (map_view self.now)) }
         ensures some { result.1 ≡ 0 → pair_count (map_view self.now) ≡ 0 }
     {
-        let mut count = 0;
-        let place = self.search(key, &mut count);
-        match place {
-            Ok(i) => {
-                let pair = &self.pairs[i];
-                (Some(&pair.1), count)
-            }
-            Err(_) => (None, count),
-        }
+        self.find(key)
     }
 
     /// Whether it has the key.
@@ -268,21 +261,38 @@ impl Map {
     }
 
     /// Where the key stands, or else where it belongs.
-    fn position(&self, key: &Value) -> Result<usize, usize>
+    pub(crate) fn position<K: Key>(&self, key: &K) -> Result<usize, usize>
         ensures in_range { IsPlaceIn (length self.now.pairs.items) result }
         ensures found { KeysAscend (map_view self.now)
-            → IsPlaceOf (view key.now) (map_view self.now) result }
+            → IsPlaceOf (K.stands_for key.now) (map_view self.now) result }
     {
         let mut count = 0;
         self.search(key, &mut count)
     }
 
+    /// The value of a key, and how many keys the search compared it with.
+    pub(crate) fn find<K: Key>(&self, key: &K) -> (Option<&Value>, u32)
+        ensures found { KeysAscend (map_view self.now) → option_map (λ v. view v.now) result.0
+            ≡ finmap.get (map_of self.now) (K.stands_for key.now) }
+        ensures few { result.1 ≤ binary_digits (pair_count (map_view self.now)) }
+        ensures some { result.1 ≡ 0 → pair_count (map_view self.now) ≡ 0 }
+    {
+        let mut count = 0;
+        match self.search(key, &mut count) {
+            Ok(i) => {
+                let pair = &self.pairs[i];
+                (Some(&pair.1), count)
+            }
+            Err(_) => (None, count),
+        }
+    }
+
     /// The key's position, by halves; it counts the keys that it is compared with.
-    fn search(&self, key: &Value, count: &mut u32) -> Result<usize, usize>
+    fn search<K: Key>(&self, key: &K, count: &mut u32) -> Result<usize, usize>
         requires { count.old ≡ 0 }
         ensures in_range { IsPlaceIn (length self.now.pairs.items) result }
         ensures found { KeysAscend (map_view self.now)
-            → IsPlaceOf (view key.now) (map_view self.now) result }
+            → IsPlaceOf (K.stands_for key.now) (map_view self.now) result }
         ensures few { count.new ≤ binary_digits (pair_count (map_view self.now)) }
         ensures some { count.new ≡ 0 → pair_count (map_view self.now) ≡ 0 }
     {
@@ -314,14 +324,13 @@ impl Map {
 }
 
 /// Compares two keys, and counts that.
-#[tactic(auto, unfolding(crate::specs::View::flat_of))]
-fn compare(key: &Value, other: &Value, count: &mut u32) -> Ordering
+fn compare<K: Key>(key: &K, other: &Value, count: &mut u32) -> Ordering
     requires { count.old < 2 ^ 32 - 1 }
-    ensures order { result ≡ val_cmp (view key.now) (view other.now) }
+    ensures order { result ≡ val_cmp (K.stands_for key.now) (view other.now) }
     ensures counted { count.new ≡ count.old + 1 }
 {
     *count += 1;
-    key.cmp(other)
+    key.compare(other)
 }
 
 /// Whether the keys strictly ascend.

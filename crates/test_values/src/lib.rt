@@ -2,6 +2,8 @@
 #![tactic(auto)]
 
 #[cfg(test)]
+mod accessors;
+#[cfg(test)]
 mod beginnings;
 #[cfg(test)]
 mod byte_order;
@@ -9,6 +11,10 @@ mod byte_order;
 mod checks;
 #[cfg(test)]
 mod floats;
+#[cfg(test)]
+mod in_place;
+#[cfg(test)]
+mod lookup;
 #[cfg(test)]
 mod serializer;
 #[cfg(test)]

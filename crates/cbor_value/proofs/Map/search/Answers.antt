@@ -9,15 +9,15 @@ use Rattle.cbor_value.proofs.Maps.{binary_digits-half, binary_digits-fit}
 use Rattle.cbor_value.proofs.Map.search.Goals as goal
 
 pub compare-requires : goal.compare-requires
-compare-requires c =
+compare-requires g c =
     let n = length c.args.self.now.pairs.items in
     let fits : n < 2 ^ 64 = search rules in
     omega (arith, c.halves.invariant.few, binary_digits-fit n fits)
 
 pub halves-preserved-in-Less : goal.halves-preserved-in-Less
-halves-preserved-in-Less c =
+halves-preserved-in-Less g c =
     let m = c.args.self.now in
-    let k = view c.args.key.now in
+    let k = g.K.Key.stands_for c.args.key.now in
     let p = c.index-pair.result.now in
     let left = c.halves.end - c.halves.start in
     let middle = c.halves.start + left / 2 in
@@ -37,9 +37,9 @@ halves-preserved-in-Less c =
     }
 
 pub halves-preserved : goal.halves-preserved
-halves-preserved c =
+halves-preserved g c =
     let m = c.args.self.now in
-    let k = view c.args.key.now in
+    let k = g.K.Key.stands_for c.args.key.now in
     let p = c.index-pair.result.now in
     let left = c.halves.end - c.halves.start in
     let middle = c.halves.start + left / 2 in
@@ -64,9 +64,9 @@ halves-preserved c =
     }
 
 pub returns-in-Equal-clause-found : goal.returns-in-Equal-clause-found
-returns-in-Equal-clause-found c =
+returns-in-Equal-clause-found g c =
     let m = c.args.self.now in
-    let k = view c.args.key.now in
+    let k = g.K.Key.stands_for c.args.key.now in
     let p = c.index-pair.result.now in
     let middle = c.halves.start + (c.halves.end - c.halves.start) / 2 in
     let lt : middle < length m.pairs.items = omega arith in
@@ -78,7 +78,7 @@ returns-in-Equal-clause-found c =
     (Reaches-Equal k (view p.0) order) here))
 
 pub returns-in-Equal-clause-few : goal.returns-in-Equal-clause-few
-returns-in-Equal-clause-few c =
+returns-in-Equal-clause-few g c =
     let left = c.halves.end - c.halves.start in
     omega (
       arith,
@@ -89,19 +89,19 @@ returns-in-Equal-clause-few c =
     )
 
 pub returns-clause-few : goal.returns-clause-few
-returns-clause-few c =
+returns-clause-few g c =
     omega (arith, c.halves.invariant.few, ap binary_digits (pair_count_map_view c.args.self.now))
 
 pub returns-clause-some : goal.returns-clause-some
-returns-clause-some c =
+returns-clause-some g c =
     λ none. omega (arith, c.halves.invariant.some none, pair_count_map_view c.args.self.now)
 
 pub returns-clause-found : goal.returns-clause-found
-returns-clause-found c =
+returns-clause-found g c =
     let m = c.args.self.now in
     λ ascend.
     let passed = rw (map_view_is m) at (c.halves.invariant.above ascend) in
     let met : c.halves.end ≡ c.halves.start = omega arith in
     let below = rw met at (c.halves.invariant.below ascend) in
     rw (map_view_is m) (BelongsAt-between
-    (view c.args.key.now) c.halves.start m.pairs.items passed below)
+    (g.K.Key.stands_for c.args.key.now) c.halves.start m.pairs.items passed below)
