@@ -2,9 +2,9 @@
 //!
 //! [`Value`] and [`Map`] with their order, copies, look-ups and conversions, and byte strings as
 //! types of their own (`bytes`). It names the definitions of `cbor_model`, its facts on the order
-//! and on maps, and the error of `cbor_io`. The crates above rely on the contracts of its public calls, on
-//! `specs/View.antt` (the tree of the model that a value stands for), on `specs/Floats.antt` (the
-//! number that a float stands for), and on the facts of `proofs/facts`.
+//! and on maps, and the error of `cbor_io`. The crates above rely on the contracts of its public
+//! calls, on `specs/View.antt` (the tree of the model that a value stands for), on
+//! `specs/Floats.antt` (the number that a float stands for), and on the facts of `proofs/facts`.
 #![tactic(auto)]
 
 mod accessors;
