@@ -1,5 +1,5 @@
 -- What is read of a value's canonical spelling.
-use Rattle.std.proofs.Common.{◌≡◌, ℕ, ◌^◌, ◌<◌, ◌≤◌, List, [], length, drop, false, refl, sym, ap, ◌∙◌, subst, append-nil, arith, Some}
+use Rattle.std.proofs.Common.{◌≡◌, ◌⊎◌, inl, inr, ℕ, ◌≤◌, Bool, true, false, List, [], refl, sym, ap, ◌∙◌, subst, append-nil, arith}
 use Rattle.std.specs.Prelude.{Result, Ok, Err, IfOk, IfErr, OnOk}
 use Rattle.std.specs.Result.{IsErrAnd}
 use Rattle.cbor_model.specs.Raw.{Raw, IsWellFormed, depth}
@@ -16,22 +16,24 @@ use Rattle.cbor_io.specs.declared.error.Error.{Error}
 use Rattle.cbor_io.specs.declared.error.ErrorCode.{ErrorCode}
 use Rattle.cbor_io.specs.declared.error.ErrorCode.TheVariants.{Message, OutOfMemory}
 use Rattle.cbor_ser.specs.Written.{IsNotWritten, IsRefusedBy, IsUnstorableCode, SaysUnstorable}
-use Rattle.cbor_decode.specs.Gives.{IsMemoryOrFault, IsMemoryOrFaultBy}
-
--- a reader over bytes that begins at their front
-pub all_left : (n : ℕ) (xs bs : List ℕ) → n ≡ 0 → xs ≡ bs → Some (drop n xs) ≡ Some bs
-all_left n xs bs none same = ap (λ (k : ℕ). Some (drop k xs)) none ∙ ap (λ (ys : List ℕ). Some ys) same
+use Rattle.cbor_io.specs.Error.{IsOutOfMemory}
+use Rattle.cbor_decode_as.specs.Takes.{WhereTotal}
 
 -- ---- a storable value is refused for want of memory alone
 
-memory_code : (code : ErrorCode) (S : Type 0) → S → IsRefusedBy code S → IsMemoryOrFaultBy code
+memory_code : (code : ErrorCode) (S : Type 0) → S → IsRefusedBy code S → code ≡ OutOfMemory
 memory_code (Message text) S s h = absurd (h.1 s)
-memory_code OutOfMemory S s h = tt
+memory_code OutOfMemory S s h = refl
 memory_code _ S s h = absurd h
 
-pub not_refused : {T : Type 0} (r : Result T Error) (v : Val) (e : Error) → IsNotWritten (IsStorableDocument (document_of v)) e → IsErrAnd r (λ x. x ≡ e) → IsStorable v → IfErr r IsMemoryOrFault
+pub not_refused : {T : Type 0} (r : Result T Error) (v : Val) (e : Error) → IsNotWritten (IsStorableDocument (document_of v)) e → IsErrAnd r (λ x. x ≡ e) → IsStorable v → IfErr r IsOutOfMemory
 not_refused (Ok x) v e h is stored = tt
-not_refused (Err x) v e h is stored = subst IsMemoryOrFault (sym is) (memory_code e.code (IsStorableDocument (document_of v)) (storable_document v stored) h.0, h.1)
+not_refused (Err x) v e h is stored = subst IsOutOfMemory (sym is) (memory_code e.code (IsStorableDocument (document_of v)) (storable_document v stored) h.0, h.1)
+
+pub first_by_memory : {A : Type 0} (total : Bool) (r : Result A Error) (P : Error → Type 0) → IfErr r IsOutOfMemory → IfErr r (λ e. WhereTotal total (IsOutOfMemory e ⊎ P e))
+first_by_memory total (Ok x) P h = tt
+first_by_memory false (Err e) P h = tt
+first_by_memory true (Err e) P h = inl h
 
 -- ---- one that isn't storable is told so
 

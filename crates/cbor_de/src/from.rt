@@ -1,6 +1,6 @@
 //! Reading a whole input as a type.
 
-ghost use Rattle.std.specs.Prelude.{⊤, ◌≡◌, ◌<◌, ◌⊎◌, ℕ, List, [], length, Some, None};
+ghost use Rattle.std.specs.Prelude.{⊤, ◌≡◌, ◌^◌, ◌<◌, ◌⊎◌, ℕ, List, [], length, Some, None};
 ghost use Rattle.std.specs.Prelude.{IfOk, IfErr, MatchResult};
 ghost use Rattle.cbor_model.specs.Acceptable.{max_depth, FitsScratch};
 ghost use Rattle.cbor_model.specs.Allowed.{limits_of};
@@ -24,7 +24,7 @@ ghost use Rattle.cbor_de.specs.Whole.{asks_none, from_reader_asks, from_slice_as
 use crate::de::Deserializer;
 use crate::deserialize::{Deserialize, DeserializeOwned};
 use cbor_io::error::Result;
-use cbor_read::{IoRead, MutSliceRead, Read, SliceRead, SliceReadFixed};
+use cbor_read::{IoRead, MutSliceRead, Read, SliceRead, SliceReadFixed, VecRead};
 use std::alloc::Global;
 use std::io;
 
@@ -67,9 +67,10 @@ fn whole<'de, T: Deserialize<'de, R>, R: Read<'de>>(de: &mut Deserializer<R>) ->
     }
 }
 
-// Tells a proof that what a slice holds is below 256.
+// Tells a proof that what a slice holds is below 256, and fewer than 2^64.
 fn are_bytes(slice: &[u8])
-    ensures { AreBytes slice.now }
+    ensures bytes { AreBytes slice.now }
+    ensures short { length slice.now < 2 ^ 64 }
 {
     let _ = slice.len();
 }
@@ -244,6 +245,40 @@ pub fn from_mut_slice<'a, T: Deserialize<'a, MutSliceRead<'a>>>(
 {
     are_bytes(slice);
     read_all(alloc, MutSliceRead::new(slice))
+}
+
+/// Decodes the one item that the bytes encode as a `T`, as [`from_slice`] does, of a vector that is
+/// used up: what is read borrows nothing of it. It takes memory as [`from_reader`] does.
+///
+/// ```rust
+/// let number: u8 = from_vec(alloc, b"\x18\x2a".to_vec(alloc)?)?;
+/// assert_eq!(rt; number, 42);
+/// ```
+pub fn from_vec<'de, T: DeserializeOwned + Deserialize<'de, VecRead>>(
+    alloc: Global,
+    bytes: Vec<u8>,
+) -> Result<T>
+    // As of `from_slice`:
+    ensures found { IfOk result (SpellsAs all_formats (T.reads from_reader_context) bytes.items) }
+    ensures accepted { (x : T) → SpellsAs all_formats (T.reads from_reader_context) bytes.items x
+        → IfErr result IsOutOfMemory }
+    ensures memory { (x : T)
+        → (spelt : SpellsAs all_formats (T.reads from_reader_context) bytes.items x)
+        → IfErr result (λ e. T.asks_memory from_reader_asks spelt.item) }
+    ensures every { (v : Val) → (spelt : SpellsValue bytes.items v)
+        → MatchResult result (T.reads from_reader_context spelt.item)
+        (λ e. WhereTotal T.total (IsOutOfMemory e)) }
+    ensures first { IfErr result (λ e. WhereTotal T.total
+        (IsOutOfMemory e ⊎ TellsFirst (limits_of None) bytes.items e)) }
+    ensures refused { IfErr result (λ e.
+        WhereTotal T.total (Fails (length bytes.items) e (read_value bytes.items))) }
+    ensures fault { IfErr result (λ e. WhereTotal T.passes_over
+        (RefusesBytes ⊥ (T.reads from_reader_context) None bytes.items e)) }
+    ensures form { IfErr result (MayTell T.wrong_forms all_formats
+        (start_of_slice bytes.items None)) }
+{
+    are_bytes(&bytes);
+    read_all(alloc, VecRead::new(alloc, bytes))
 }
 
 /// Decodes the one item that the reader's bytes encode as a `T`, as [`from_slice`] does. It reads

@@ -35,13 +35,13 @@ pub use cbor_decode_as::borrowed::{EitherStr, Unread};
 pub use cbor_decode_as::variant::Form;
 pub use cbor_read::{
     EitherLifetime, IoRead, MutSliceRead, Offset, Read, ReadError, ReadErrorCode, SliceRead,
-    SliceReadFixed, Source,
+    SliceReadFixed, Source, VecRead,
 };
 pub use de::Deserializer;
 pub use deserialize::{Deserialize, DeserializeOwned, Readable};
 pub use field::{Field, duplicate_field, missing_field, next_key};
 pub use field_type::FieldType;
-pub use from::{from_mut_slice, from_reader, from_slice, from_slice_with_scratch};
+pub use from::{from_mut_slice, from_reader, from_slice, from_slice_with_scratch, from_vec};
 pub use item_list::{ReadTuple, ReadableTuple};
 pub use laws::{heads_taken, item_refused_first, item_taken, owned_agree, sources_agree};
 pub use map::MapAccess;

@@ -6,6 +6,7 @@ use Rattle.cbor_read.specs.declared.io_read.IoRead.{IoRead}
 use Rattle.cbor_read.specs.declared.mut_slice_read.MutSliceRead.{MutSliceRead}
 use Rattle.cbor_read.specs.declared.slice_read.SliceRead.{SliceRead}
 use Rattle.cbor_read.specs.declared.slice_read_fixed.SliceReadFixed.{SliceReadFixed}
+use Rattle.cbor_read.specs.declared.vec_read.VecRead.{VecRead}
 
 abbrev pub input_of_slice : SliceRead → Input
 input_of_slice s = slice_input s.slice.now s.taken s.buffer.items None
@@ -28,6 +29,9 @@ pub record Rearranged (s t : MutSliceRead) : Type 0 where
   pub before : t.before ≡ s.before
   pub same : IsPermutation (take t.taken s.slice.now) (take t.taken t.slice.now)
   pub behind : drop t.taken t.slice.now ≡ drop t.taken s.slice.now
+
+abbrev pub input_of_vec : VecRead → Input
+input_of_vec s = slice_input s.bytes.items s.taken s.buffer.items None
 
 -- a reader, by the bytes that it has left
 abbrev pub input_of_reader : {R : Type 0} → (R → Option (List ℕ)) → IoRead R → Input

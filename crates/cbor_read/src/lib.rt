@@ -25,12 +25,14 @@ mod io_read;
 mod mut_slice_read;
 mod slice_read;
 mod slice_read_fixed;
+mod vec_read;
 
 pub use cbor_io::read_error::{ReadError, ReadErrorCode};
 pub use io_read::IoRead;
 pub use mut_slice_read::MutSliceRead;
 pub use slice_read::SliceRead;
 pub use slice_read_fixed::SliceReadFixed;
+pub use vec_read::VecRead;
 
 /// What the calls of a source answer.
 type Result<T> = std::result::Result<T, ReadError>;
@@ -110,149 +112,9 @@ pub trait Offset: Source {
 /// - `read`, `skip` and `skip_text` ask for no memory where `read` lends for the input's life, nor
 ///   does `read_to_buffer` where `take_buffer` does.
 ///
-/// The bytes of a vector that the source owns, so that it lends none of them for longer. Its
-/// `proofs/OwnSource.antt` passes on `none_taken` of `proofs/facts/Sources.antt`:
-///
-/// ```rust
-/// #[derive(Drop)]
-/// struct VecRead {
-///     bytes: Vec<u8>,
-///     buffer: Vec<u8>,
-///     taken: usize,
-///     ghost within: { taken ≤ vec_len bytes },
-/// }
-///
-/// impl VecRead {
-///     // Where the next n bytes end.
-///     fn end_of(&self, n: usize) -> Result<usize, ReadError>
-///         ensures ok { IfOk result
-///             (λ end. (end ≡ self.now.taken + n) × (end ≤ vec_len self.now.bytes)) }
-///         ensures err { IfErr result (λ e. (why e ≡ EofWhileParsingValue)
-///             × (place e ≡ vec_len self.now.bytes)
-///             × (vec_len self.now.bytes < self.now.taken + n)) }
-///     {
-///         if n <= self.bytes.len() - self.taken {
-///             Ok(self.taken + n)
-///         } else {
-///             Err(ReadError::eof(self.bytes.len() as u64))
-///         }
-///     }
-/// }
-///
-/// // How many of these bytes, from the front, are UTF-8.
-/// fn valid_in(bytes: &[u8]) -> usize
-///     ensures { result ≡ utf8_valid_len bytes.now }
-/// {
-///     match str::from_utf8(bytes) {
-///         Ok(text) => text.len(),
-///         Err(e) => e.valid_up_to(),
-///     }
-/// }
-///
-/// impl Source for VecRead {
-///     ghost use Rattle.std.specs.Prelude.{false};
-///     ghost use Rattle.cbor_read.specs.Source.{slice_input, slice_refusals, first_of};
-///
-///     ghost source = { λ s. slice_input s.bytes.items s.taken s.buffer.items None };
-///
-///     ghost peeked = { λ s. first_of (drop s.taken s.bytes.items) };
-///
-///     ghost at_hand = { λ s. drop s.taken s.bytes.items };
-///
-///     ghost refusals = { slice_refusals };
-///
-///     ghost lends = { record { whole = false; joined = false } };
-///
-///     fn next(&mut self) -> Result<Option<u8>, ReadError> {
-///         let byte = self.peek()?;
-///         if byte.is_some() {
-///             self.taken += 1;
-///         }
-///         Ok(byte)
-///     }
-///
-///     fn peek(&mut self) -> Result<Option<u8>, ReadError> {
-///         Ok(if self.taken < self.bytes.len() {
-///             Some(self.bytes[self.taken])
-///         } else {
-///             None
-///         })
-///     }
-///
-///     fn ahead(&self) -> &[u8] {
-///         &self.bytes[self.taken..]
-///     }
-///
-///     fn advance(&mut self, n: usize) {
-///         self.taken += n;
-///     }
-///
-///     fn clear_buffer(&mut self) {
-///         self.buffer.clear();
-///     }
-///
-///     #[tactic(auto, using(crate::proofs::OwnSource::none_taken))]
-///     fn read_to_buffer(&mut self, n: usize) -> Result<(), ReadError> {
-///         let end = self.end_of(n)?;
-///         self.buffer.extend_from_slice(&self.bytes[self.taken..end])?;
-///         self.taken = end;
-///         Ok(())
-///     }
-///
-///     fn buffer(&self) -> &[u8] {
-///         &self.buffer
-///     }
-///
-///     #[tactic(auto, using(crate::proofs::OwnSource::none_taken))]
-///     fn read_to_vec(&mut self, n: usize, out: &mut Vec<u8>) -> Result<(), ReadError> {
-///         let end = self.end_of(n)?;
-///         out.extend_from_slice(&self.bytes[self.taken..end])?;
-///         self.taken = end;
-///         Ok(())
-///     }
-///
-///     fn read_into(&mut self, buf: &mut [u8]) -> Result<(), ReadError> {
-///         let end = self.end_of(buf.len())?;
-///         buf.copy_from_slice(&self.bytes[self.taken..end]);
-///         self.taken = end;
-///         Ok(())
-///     }
-///
-///     fn skip(&mut self, n: usize) -> Result<(), ReadError> {
-///         self.skip_text(n)?;
-///         Ok(())
-///     }
-///
-///     fn skip_text(&mut self, n: usize) -> Result<usize, ReadError> {
-///         let end = self.end_of(n)?;
-///         let valid = valid_in(&self.bytes[self.taken..end]);
-///         self.taken = end;
-///         Ok(valid)
-///     }
-///
-///     fn discard(&mut self) {
-///         self.taken += 1;
-///     }
-///
-///     fn offset(&self) -> u64 {
-///         self.taken as u64
-///     }
-/// }
-///
-/// impl<'de> Read<'de> for VecRead {
-///     fn read<'a>(&'a mut self, n: usize) -> Result<EitherLifetime<'a, 'de>, ReadError> {
-///         let end = self.end_of(n)?;
-///         let start = self.taken;
-///         self.taken = end;
-///         let whole = &*self;
-///         Ok(EitherLifetime::Short(&whole.bytes[start..end]))
-///     }
-///
-///     fn take_buffer<'a>(&'a mut self) -> EitherLifetime<'a, 'de> {
-///         EitherLifetime::Short(&self.buffer)
-///     }
-/// }
-/// ```
+/// [`VecRead`] is a short example; one that stands in another crate (`own_source.rt` of `test_io`)
+/// passes on `none_taken` of `proofs/facts/Sources.antt`, which proves its `read_to_buffer` and
+/// `read_to_vec`.
 pub trait Source {
     ghost use Rattle.cbor_io.specs.declared.read_error.ReadErrorCode.{ReadErrorCode};
 

@@ -1,14 +1,14 @@
 -- What the calls that write a value and read it again answer.
-use Rattle.std.proofs.Common.{◌≡◌, ◌≤◌, ℕ, List, false, Some, drop, length, subst, sym, ap, ◌∙◌, ◌<◌, ◌^◌}
+use Rattle.std.proofs.Common.{◌≡◌, ◌≤◌, ℕ, List, false, refl, subst, sym}
 use Rattle.std.specs.Prelude.{Result, Ok, Err, IfOk, IfErr}
 use Rattle.std.specs.Result.{IsErrAnd}
 use Rattle.std.proofs.lemmas.Result.{IfOk-weaker}
 use Rattle.cbor_model.specs.Acceptable.{max_depth}
 use Rattle.cbor_model.specs.Document.{Doc, raw_of, document_bytes, IsStorableDocument, IsDocumentInRange}
 use Rattle.cbor_model.specs.Formats.{all_formats}
-use Rattle.cbor_model.specs.Raw.{Raw, AreBytes, depth}
+use Rattle.cbor_model.specs.Raw.{Raw, depth}
 use Rattle.cbor_model.specs.Readable.{Context, SpellsAs}
-use Rattle.cbor_decode.specs.Gives.{Gave, IsMemoryOrFault, IsMemoryOrFaultBy}
+use Rattle.cbor_io.specs.Error.{IsOutOfMemory}
 use Rattle.cbor_io.specs.declared.error.Error.{Error}
 use Rattle.cbor_io.specs.declared.error.ErrorCode.{ErrorCode}
 use Rattle.cbor_io.specs.declared.error.ErrorCode.TheVariants.{Message, OutOfMemory}
@@ -22,24 +22,16 @@ use Rattle.cbor_round_trip.proofs.Written.{written}
 abbrev of_reader : Lends
 of_reader = record { whole = false; joined = false }
 
-memory_code : (code : ErrorCode) (S : Type 0) → S → IsRefusedBy code S → IsMemoryOrFaultBy code
+memory_code : (code : ErrorCode) (S : Type 0) → S → IsRefusedBy code S → code ≡ OutOfMemory
 memory_code (Message text) S s h = absurd (h.1 s)
-memory_code OutOfMemory S s h = tt
+memory_code OutOfMemory S s h = refl
 memory_code _ S s h = absurd h
 
 -- what can be stored is refused for want of memory alone
 pub only_memory : {T : Type 0} (r : Result T Error) (S : Type 0) (e : Error) → IsNotWritten S e → IsErrAnd r (λ x. x ≡ e)
-    → S → IfErr r IsMemoryOrFault
+    → S → IfErr r IsOutOfMemory
 only_memory (Ok x) S e h is s = tt
-only_memory (Err x) S e h is s = subst IsMemoryOrFault (sym is) (memory_code e.code S s h.0, h.1)
-
--- what a cursor gives from its begin on is what it holds
-pub gave_all : (n : ℕ) (xs bs : List ℕ) → n ≡ 0 → xs ≡ bs → AreBytes bs → length bs < 2 ^ 64 → Gave (Some (drop n xs)) bs
-gave_all n xs bs none same bytes short = record {
-  told = ap (λ (k : ℕ). Some (drop k xs)) none ∙ ap (λ (ys : List ℕ). Some ys) same;
-  are_bytes = bytes;
-  short = short;
-}
+only_memory (Err x) S e h is s = subst IsOutOfMemory (sym is) (memory_code e.code S s h.0, h.1)
 
 module _ {A : Type 0} (document : A → Doc) (reads : Context → Raw → A → Type 0) (fits : A → Type 0) (law : IsReadBack document reads fits)
     (x : A) (bytes : List ℕ) (stored : IsStorableDocument (document x)) (range : IsDocumentInRange (document x)) (is : bytes ≡ document_bytes (document x) false false) where

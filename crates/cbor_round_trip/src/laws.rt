@@ -1,19 +1,18 @@
 //! The law over what is written, and over the calls.
 
-ghost use Rattle.std.specs.Prelude.{◌≡◌, ◌≤◌, ◌<◌, ◌^◌, false, length, IfOk, IfErr};
+ghost use Rattle.std.specs.Prelude.{◌≡◌, ◌≤◌, false, IfOk, IfErr};
 ghost use Rattle.cbor_model.specs.Acceptable.{max_depth};
 ghost use Rattle.cbor_model.specs.Document.{raw_of, IsStorableDocument};
-ghost use Rattle.cbor_model.specs.Raw.{AreBytes, depth};
-ghost use Rattle.cbor_decode.specs.Gives.{IsMemoryOrFault};
+ghost use Rattle.cbor_model.specs.Raw.{depth};
+ghost use Rattle.cbor_io.specs.Error.{IsOutOfMemory};
 ghost use Rattle.cbor_round_trip.specs.ReadBack.{IsWrittenReadBack};
 
 use crate::round_trip::RoundTrip;
-use cbor_de::{Deserialize, from_reader};
+use cbor_de::{Deserialize, from_vec};
 use cbor_io::error::Result;
-use cbor_read::IoRead;
+use cbor_read::VecRead;
 use cbor_ser::to_vec;
 use std::alloc::Global;
-use std::io::Cursor;
 
 /// The bytes of a value's document are read as that value, where its item nests at most 127 levels;
 /// and as no value of another document. It holds under each setting of the writer, and for each
@@ -36,27 +35,17 @@ pub fn written_reads_back_as<T: RoundTrip>()
 /// let again: u32 = write_and_read(alloc, &500)?;
 /// assert_eq!(rt; again, 500);
 /// ```
-pub fn write_and_read<'de, T: RoundTrip + Deserialize<'de, IoRead<Cursor<Vec<u8>>>>>(
+pub fn write_and_read<'de, T: RoundTrip + Deserialize<'de, VecRead>>(
     alloc: Global,
     value: &T,
 ) -> Result<T>
     ensures same { T.law.fits value.now
         → IfOk result (λ again. T.document again ≡ T.document value.now) }
-    // It is returned, unless memory runs out. (A reader over memory reports no fault, but its
-    // contract doesn't say so.)
+    // It is returned, unless memory runs out.
     ensures answered { T.law.fits value.now → IsStorableDocument (T.document value.now)
         → depth (raw_of (T.document value.now) false false) ≤ max_depth
-        → IfErr result IsMemoryOrFault }
+        → IfErr result IsOutOfMemory }
 {
     let bytes = to_vec(alloc, value)?;
-    are_bytes(&bytes);
-    from_reader(alloc, Cursor::new(bytes))
-}
-
-// Tells a proof that what a vector holds is below 256, and fewer than 2^64.
-fn are_bytes(bytes: &[u8])
-    ensures bytes { AreBytes bytes.now }
-    ensures short { length bytes.now < 2 ^ 64 }
-{
-    let _ = bytes.len();
+    from_vec(alloc, bytes)
 }

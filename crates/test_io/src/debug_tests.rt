@@ -1,7 +1,7 @@
 //! What holds an input or an output is printed as where it stands, with no byte of what it holds.
 
 use cbor_io::write::{IoWrite, SliceWrite, Write};
-use cbor_read::{IoRead, MutSliceRead, SliceRead, SliceReadFixed, Source};
+use cbor_read::{IoRead, MutSliceRead, SliceRead, SliceReadFixed, Source, VecRead};
 use std::process::Abort;
 use test_checks::Done;
 
@@ -24,6 +24,11 @@ fn sources_print_no_bytes(rt: HostRuntime) -> Done {
     source.next()?;
     let text = format!(in alloc; "{source:?}")?;
     assert!(rt; text.as_str() == "MutSliceRead { offset: 1, remaining: 1, .. }");
+
+    let mut source = VecRead::new(alloc, b"\x61a".to_vec(alloc)?);
+    source.next()?;
+    let text = format!(in alloc; "{source:?}")?;
+    assert!(rt; text.as_str() == "VecRead { offset: 1, remaining: 1, .. }");
 
     let mut source = IoRead::new(alloc, b"\x61a".as_slice());
     source.next()?;

@@ -10,21 +10,21 @@ use cbor_read::{EitherLifetime, Read, ReadError, Source};
 use std::alloc::{AllocError, Global};
 
 #[derive(Drop)]
-pub struct VecRead {
+pub struct OwnBytes {
     bytes: Vec<u8>,
     buffer: Vec<u8>,
     taken: usize,
     ghost within: { taken ≤ vec_len bytes },
 }
 
-impl VecRead {
+impl OwnBytes {
     ghost use Rattle.cbor_read.specs.Source.{slice_input, start_of_slice};
 
-    fn new(alloc: Global, bytes: Vec<u8>) -> VecRead
+    fn new(alloc: Global, bytes: Vec<u8>) -> OwnBytes
         ensures { slice_input result.bytes.items result.taken result.buffer.items None
             ≡ start_of_slice bytes.items None }
     {
-        VecRead {
+        OwnBytes {
             bytes,
             buffer: Vec::new(alloc),
             taken: 0,
@@ -58,7 +58,7 @@ fn valid_in(bytes: &[u8]) -> usize
     }
 }
 
-impl Source for VecRead {
+impl Source for OwnBytes {
     ghost use Rattle.std.specs.Prelude.{false};
     ghost use Rattle.cbor_read.specs.Source.{slice_input, slice_refusals, first_of};
 
@@ -148,7 +148,7 @@ impl Source for VecRead {
     }
 }
 
-impl<'de> Read<'de> for VecRead {
+impl<'de> Read<'de> for OwnBytes {
     fn read<'a>(&'a mut self, n: usize) -> Result<EitherLifetime<'a, 'de>, ReadError> {
         let end = self.end_of(n)?;
         let start = self.taken;
@@ -163,8 +163,8 @@ impl<'de> Read<'de> for VecRead {
 }
 
 /// A source of these bytes.
-pub fn owned(alloc: Global, bytes: &[u8]) -> Result<VecRead, AllocError> {
+pub fn owned(alloc: Global, bytes: &[u8]) -> Result<OwnBytes, AllocError> {
     let mut all = Vec::with_capacity(alloc, bytes.len())?;
     all.extend_from_slice(bytes)?;
-    Ok(VecRead::new(alloc, all))
+    Ok(OwnBytes::new(alloc, all))
 }

@@ -17,7 +17,7 @@ pub returns-clause-found : goal.returns-clause-found
 returns-clause-found g c =
     let bs = c.args.slice.now in
     let s = start_of_slice bs None in
-    let fits : AreBytes bs = c.are_bytes.ensures in
+    let fits : AreBytes bs = c.are_bytes.ensures.bytes in
     let reads = g.T.Readable.reads from_mut_slice_context in
     let given = subst (λ (s : Input). ReadsAll mut_refusals all_formats reads max_depth s c.read_all.result) c.new.ensures c.read_all.ensures.read in
     let tells : Tells s bs = record { is = refl; short = omega arith } in
@@ -27,7 +27,7 @@ pub returns-clause-accepted : goal.returns-clause-accepted
 returns-clause-accepted g c = λ x spelt.
     let bs = c.args.slice.now in
     let s = start_of_slice bs None in
-    let fits : AreBytes bs = c.are_bytes.ensures in
+    let fits : AreBytes bs = c.are_bytes.ensures.bytes in
     let reads = g.T.Readable.reads from_mut_slice_context in
     let given = subst (λ (s : Input). ReadsAll mut_refusals all_formats reads max_depth s c.read_all.result) c.new.ensures c.read_all.ensures.read in
     let tells : Tells s bs = record { is = refl; short = omega arith } in
@@ -61,13 +61,13 @@ returns-clause-every g c = λ v spelt.
 
 pub returns-clause-first : goal.returns-clause-first
 returns-clause-first g c =
-    first g.T.Readable.total None c.args.slice.now c.are_bytes.ensures c.read_all.result (returns-clause-refused g c)
+    first g.T.Readable.total None c.args.slice.now c.are_bytes.ensures.bytes c.read_all.result (returns-clause-refused g c)
 
 pub returns-clause-memory : goal.returns-clause-memory
 returns-clause-memory g c = λ x spelt.
     let bs = c.args.slice.now in
     let s = start_of_slice bs None in
-    let fits : AreBytes bs = c.are_bytes.ensures in
+    let fits : AreBytes bs = c.are_bytes.ensures.bytes in
     let reads = g.T.Readable.reads from_mut_slice_context in
     let asks = g.T.Readable.asks_memory asks_none in
     let given = subst (λ (s : Input). ReadsAll mut_refusals all_formats reads max_depth s c.read_all.result) c.new.ensures c.read_all.ensures.read in
