@@ -29,6 +29,10 @@ pub use Rattle.cbor_io.specs.Write
 pub use Rattle.cbor_value.specs.Floats
 pub use Rattle.cbor_value.specs.View
 pub use Rattle.cbor_value.specs.Search
+pub use Rattle.cbor_value.specs.Contents
+pub use Rattle.cbor_value.specs.Lookup
+pub use Rattle.cbor_value.specs.Lending
+pub use Rattle.cbor_value.specs.Rows
 pub use Rattle.cbor_decode.specs.Decoder
 pub use Rattle.cbor_decode.specs.Gives
 pub use Rattle.cbor_decode.specs.AtEnd
