@@ -2,6 +2,7 @@ pub mod Comparing
 pub mod Lookups
 pub mod Maps
 pub mod Numbers
+pub mod Pointers
 pub mod Sorting
 pub mod Views
 pub mod Walks

@@ -2,6 +2,7 @@ pub mod Contents
 pub mod Floats
 pub mod Lending
 pub mod Lookup
+pub mod Pointer
 pub mod Rows
 pub mod Search
 pub mod View

@@ -17,6 +17,7 @@ mod lookup;
 mod memory;
 mod order;
 mod pairs;
+mod pointer;
 
 /// A float as it was read: its width, and its bits by IEEE 754. [`to_f64`](Float::to_f64) is the
 /// number, and `Float::from` makes a float of an `f64` or an `f32`.

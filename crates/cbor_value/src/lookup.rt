@@ -159,7 +159,7 @@ impl Value {
     }
 
     /// A map's value of a key.
-    fn value_of<K: Key>(&self, key: &K) -> Option<&Value>
+    pub(crate) fn value_of<K: Key>(&self, key: &K) -> Option<&Value>
         ensures found { IsOrdered (view self.now) → option_map (λ v. view v.now) result
             ≡ value_of (K.stands_for key.now) (view self.now) }
         ensures ordered { IsOrdered (view self.now) → IfSome result (λ v. IsOrdered (view v.now)) }

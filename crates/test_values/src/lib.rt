@@ -16,6 +16,8 @@ mod in_place;
 #[cfg(test)]
 mod lookup;
 #[cfg(test)]
+mod pointer;
+#[cfg(test)]
 mod serializer;
 #[cfg(test)]
 mod sinks;

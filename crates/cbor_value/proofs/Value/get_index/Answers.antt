@@ -1,4 +1,3 @@
-use Rattle.cbor_value.specs.View.{view}
 use Rattle.cbor_value.proofs.Views.{view_array}
 use Rattle.cbor_value.proofs.Lookups.{item_at-views, IsOrdered-found, IsOrdered-item_at}
 use Rattle.cbor_value.proofs.Value.get_index.Goals as goal
