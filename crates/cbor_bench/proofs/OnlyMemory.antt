@@ -1,4 +1,4 @@
--- Of a document whose numbers are all stored, a refusal is for want of memory.
+-- Of a document whose numbers are all stored, a refusal is for lack of memory.
 use Rattle.std.proofs.Common.{◌≡◌, ℕ, Vec, refl}
 use Rattle.std.specs.Prelude.{Result, IfErr}
 use Rattle.std.specs.declared.alloc.Global.{Global}

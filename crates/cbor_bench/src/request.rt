@@ -77,12 +77,12 @@ impl<'a> Request<'a> {
     /// Does it as many times as it says, each time from the item's bytes, and answers what the last
     /// turn wrote. What another turn reads and writes is dropped at its end.
     ///
-    /// It stops at the first refusal, which is `from_slice`'s or for want of memory.
+    /// It stops at the first refusal, which is `from_slice`'s or for lack of memory.
     pub fn repeat(&self, alloc: Global) -> Result<Option<Vec<u8>>>
         ensures done { IfOk result (λ last. 0 < self.now.times
             → Leaves self.now.task self.now.item.now last) }
         // An acceptable item, or one that is read as records where they are asked for, is refused
-        // for want of memory alone.
+        // for lack of memory alone.
         ensures accepted { IsReadFor self.now.task self.now.item.now → IfErr result IsOutOfMemory }
         // A refusal of a value tells the fault that the reference reader meets, or that memory ran
         // out.

@@ -19,7 +19,7 @@ use Rattle.cbor_ser.specs.Written.{IsNotWritten, IsRefusedBy, IsUnstorableCode, 
 use Rattle.cbor_io.specs.Error.{IsOutOfMemory}
 use Rattle.cbor_decode_as.specs.Takes.{WhereTotal}
 
--- ---- a storable value is refused for want of memory alone
+-- ---- a storable value is refused for lack of memory alone
 
 memory_code : (code : ErrorCode) (S : Type 0) → S → IsRefusedBy code S → code ≡ OutOfMemory
 memory_code (Message text) S s h = absurd (h.1 s)

@@ -17,7 +17,7 @@ memory_code S code is = subst (λ (x : ErrorCode). IsRefusedBy x S) (sym is) tt
 pub refused_memory : (S : Type 0) (e : Error) → IsOutOfMemory e → IsNotWritten S e
 refused_memory S e h = (memory_code S e.code h.0, h.1)
 
--- what is storable is refused for want of memory alone, and so as anything else
+-- what is storable is refused for lack of memory alone, and so as anything else
 refused_code : (S T : Type 0) (code : ErrorCode) → S → IsRefusedBy code S → IsRefusedBy code T
 refused_code S T (Message text) s h = absurd (h.1 s)
 refused_code S T OutOfMemory s h = tt

@@ -51,7 +51,7 @@ module _ (d : Doc) (bytes : List ℕ) (stored : IsStorableDocument d) (fits : Is
 
 -- ---- how it is read
 
--- nothing but want of memory refuses what the reference reader reads
+-- nothing but lack of memory refuses what the reference reader reads
 no_fault : {A : Type 0} (code : _) (end offset : ℕ) (read : Result A Fault) (y : A) → read ≡ Ok y → FailsAs code end offset read → ⊥
 no_fault code end offset read y is h = absurd (let same : Ok y ≡ Err (record { why = code; left = h.0 }) = sym is ∙ h.2 in cc)
 

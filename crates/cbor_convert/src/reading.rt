@@ -44,7 +44,7 @@ pub fn from_value<'de, T: DeserializeOwned + Deserialize<'de, VecRead>>(
         → IfErr result IsOutOfMemory }
     // A value that can't be stored is told so by that message, unless memory runs out.
     ensures refused { (IsStorable (view value) → ⊥) → IfErr result SaysUnstorable }
-    // Where the type reads every item, a value that can be stored is refused for want of memory, or
+    // Where the type reads every item, a value that can be stored is refused for lack of memory, or
     // by the first refusal of its encoding, as one that is nested too deep.
     ensures first { IsStorable (view value) → IfErr result (λ e. WhereTotal T.total
         (IsOutOfMemory e ⊎ TellsFirst (limits_of None) (canon (view value)) e)) }

@@ -18,7 +18,7 @@ use Rattle.cbor_decode_as.specs.Takes.{TellsFault, formats_of}
 use Rattle.cbor_decode_as.specs.Cases.{FormAlone, IsBadKey, IsEnumCode, NoItemHere, HasCase, CaseHolds, enum_cases, key_cases, unit_cases}
 use Rattle.cbor_decode_as.specs.declared.variant.Form.{Form}
 use Rattle.cbor_decode_as.specs.declared.variant.Form.TheVariants as form
-use Rattle.cbor_de.specs.Forms.{WrongForms, never, told, either, may_tell, FormOnlyIf, MayTell}
+use Rattle.cbor_de.specs.Forms.{WrongForms, never, told, any_of, may_tell, FormOnlyIf, MayTell}
 use Rattle.cbor_de.specs.Forms.{TellsAt, TellsKey, TellsWithin, TellsBeginning, TellsEnum, TellsNameAlone, IsBadWithin, IsNameAlone, item_form, key_form, enum_form, unit_form, part_form}
 
 -- an error that tells no form, of any type
@@ -27,13 +27,13 @@ plain never f s e h = h
 plain (told P) f s e h = inl h
 
 -- an error of one of two parts
-pub of_left : (a b : WrongForms) (f : Formats) (s : Input) (e : Error) → MayTell a f s e → MayTell (either a b) f s e
+pub of_left : (a b : WrongForms) (f : Formats) (s : Input) (e : Error) → MayTell a f s e → MayTell (any_of a b) f s e
 of_left never b f s e h = plain b f s e h
 of_left (told P) never f s e h = h
 of_left (told P) (told Q) f s e (inl h) = inl h
 of_left (told P) (told Q) f s e (inr r) = inr (record { place = r.place; took = r.took; holds = inl r.holds })
 
-pub of_right : (a b : WrongForms) (f : Formats) (s : Input) (e : Error) → MayTell b f s e → MayTell (either a b) f s e
+pub of_right : (a b : WrongForms) (f : Formats) (s : Input) (e : Error) → MayTell b f s e → MayTell (any_of a b) f s e
 of_right never b f s e h = h
 of_right (told P) never f s e h = inl h
 of_right (told P) (told Q) f s e (inl h) = inl h
@@ -59,11 +59,11 @@ later_err a f g s m (Ok x) same took h = h
 later_err a f g s m (Err e) same took h = later_in a f g s m e same took h
 
 -- what was answered of one of two parts
-pub left_err : {A : Type 0} (a b : WrongForms) (f : Formats) (s : Input) (r : Result A Error) → IfErr r (MayTell a f s) → IfErr r (MayTell (either a b) f s)
+pub left_err : {A : Type 0} (a b : WrongForms) (f : Formats) (s : Input) (r : Result A Error) → IfErr r (MayTell a f s) → IfErr r (MayTell (any_of a b) f s)
 left_err a b f s (Ok x) h = h
 left_err a b f s (Err e) h = of_left a b f s e h
 
-pub right_err : {A : Type 0} (a b : WrongForms) (f : Formats) (s : Input) (r : Result A Error) → IfErr r (MayTell b f s) → IfErr r (MayTell (either a b) f s)
+pub right_err : {A : Type 0} (a b : WrongForms) (f : Formats) (s : Input) (r : Result A Error) → IfErr r (MayTell b f s) → IfErr r (MayTell (any_of a b) f s)
 right_err a b f s (Ok x) h = h
 right_err a b f s (Err e) h = of_right a b f s e h
 

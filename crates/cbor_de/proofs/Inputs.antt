@@ -53,7 +53,7 @@ module _ {A : Type 0} (allowed : ReadErrorCode → Bool) (f : Formats) (reads : 
       or_other (Reports allowed) (code_of e) (offset_of e) (limits s bs) bs got.rest x got.holds
       (excused_or (Reports allowed) (code_of e) (t.offset + length got.rest) (offset_of e) (end_at got.rest) (ends got.rest got.tells))
 
--- the end is refused for no want of memory
+-- the end is refused for no lack of memory
 pub end_other : (allowed : ReadErrorCode → Bool) (s t : Input) (e : Error) → EndTakes allowed s t (Err e) → code_of e ≡ code.OutOfMemory → ⊥
 end_other allowed s t e takes is = subst (λ (k : ErrorCode). EndRefused allowed k (offset_of e) s t) is takes
 

@@ -34,10 +34,10 @@ MayTell never f s e = TellsNoForm (code_of e)
 MayTell (told P) f s e = TellsNoForm (code_of e) ⊎ Reached (P f) s e
 
 -- what either of two parts may tell
-abbrev pub either : WrongForms → WrongForms → WrongForms
-either never b = b
-either (told P) never = told P
-either (told P) (told Q) = told (λ f s e. P f s e ⊎ Q f s e)
+abbrev pub any_of : WrongForms → WrongForms → WrongForms
+any_of never b = b
+any_of (told P) never = told P
+any_of (told P) (told Q) = told (λ f s e. P f s e ⊎ Q f s e)
 
 -- any code, anywhere
 abbrev pub any_form : WrongForms
@@ -81,7 +81,7 @@ item_form = told TellsWithin
 
 -- of a struct: of its keys, and of an item that no field is made of
 abbrev pub struct_form : WrongForms
-struct_form = either key_form item_form
+struct_form = any_of key_form item_form
 
 -- An enum begins in a form that isn't read, its array has no item, or the key of its map may not begin as
 -- it does, behind its tags.
@@ -116,9 +116,9 @@ part_form = told (TellsNameAlone ArrayTooShort)
 -- ---- examples
 
 -- a pair of numbers
-pair_of_numbers : either never never ≡ never
+pair_of_numbers : any_of never never ≡ never
 pair_of_numbers = refl
 
 -- a struct of two numbers: what any struct may tell
-struct_of_numbers : either struct_form (either never (either never never)) ≡ struct_form
+struct_of_numbers : any_of struct_form (any_of never (any_of never never)) ≡ struct_form
 struct_of_numbers = refl

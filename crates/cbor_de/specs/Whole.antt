@@ -72,7 +72,7 @@ spelt_front_in room bs =
 
 -- The bytes begin with nothing that is read, and the error tells the fault of what they begin with, or
 -- is a message exactly where that is an acceptable item; or they begin with an item that is read, and it
--- tells that more follows. Want of memory and a device's fault may come in place of either.
+-- tells that more follows. Lack of memory and a device's fault may come in place of either.
 abbrev pub RefusesBytes : {A : Type 0} → Type 0 → (Raw → A → Type 0) → Option ℕ → List ℕ → Error
     → Type 0
 RefusesBytes Device reads room bs e =

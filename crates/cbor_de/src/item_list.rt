@@ -135,12 +135,12 @@ impl<'de, R: Read<'de>> ReadItems<'de, R> for () {
 }
 
 impl<A: Readable, F: ItemList> ItemList for (A, F) {
-    ghost use Rattle.cbor_de.specs.Forms.{either};
+    ghost use Rattle.cbor_de.specs.Forms.{any_of};
     ghost use Rattle.cbor_decode_as.specs.Enums.{part_then};
 
     ghost parts = { λ c. part_then (A.reads c) (F.parts c) };
 
-    ghost wrong_forms = { either A.wrong_forms F.wrong_forms };
+    ghost wrong_forms = { any_of A.wrong_forms F.wrong_forms };
 }
 
 impl<'de, R: Read<'de>, A: Deserialize<'de, R>, F: ReadItems<'de, R>> ReadItems<'de, R> for (A, F) {

@@ -8,7 +8,7 @@ ghost use Rattle.cbor_decode.specs.declared.head.Head.TheVariants.{Array, Map};
 use crate::deserialize::{DeserializeOwned, Readable};
 
 /// Two readings of one input as a `Value` answer alike, whatever their sources: the same value; or
-/// errors of one code at one offset, since there is one first refusal. Only want of memory, a
+/// errors of one code at one offset, since there is one first refusal. Only lack of memory, a
 /// reader's fault and a scratch that is too small are of a source alone.
 ///
 /// A caller gives it the answers of two `from_*` of the same bytes (`IsReading`); the published
@@ -20,7 +20,7 @@ pub fn sources_agree()
 
 /// Two readings of one input as a type that borrows nothing agree, whatever their sources lend: one
 /// item is read as both answers, or both refuse. So a slice and one that is rewritten in place give
-/// the same, want of memory aside.
+/// the same, lack of memory aside.
 ///
 /// A caller gives it the answers of two `from_*` of the same bytes (`IsReadingAs`), which the
 /// clauses `found` and `accepted` of each say.

@@ -8,12 +8,12 @@ use cbor_io::error::Result;
 use cbor_read::Read;
 
 impl<A: Readable> ReadableTuple for (A,) {
-    ghost use Rattle.cbor_de.specs.Forms.{either, never};
+    ghost use Rattle.cbor_de.specs.Forms.{any_of, never};
     ghost use Rattle.cbor_decode_as.specs.Enums.{part_then, no_part};
 
     ghost parts = { λ c all x. part_then (A.reads c) no_part all (x.0, tt) };
 
-    ghost wrong_forms = { either A.wrong_forms never };
+    ghost wrong_forms = { any_of A.wrong_forms never };
 }
 
 impl<'de, R: Read<'de>, A: Deserialize<'de, R>> ReadTuple<'de, R> for (A,) {
@@ -30,14 +30,14 @@ impl<'de, R: Read<'de>, A: Deserialize<'de, R>> ReadTuple<'de, R> for (A,) {
 }
 
 impl<A: Readable, B: Readable> ReadableTuple for (A, B) {
-    ghost use Rattle.cbor_de.specs.Forms.{either, never};
+    ghost use Rattle.cbor_de.specs.Forms.{any_of, never};
     ghost use Rattle.cbor_decode_as.specs.Enums.{part_then, no_part};
 
     ghost parts = { λ c all x. part_then (A.reads c)
         (part_then (B.reads c) no_part)
         all (x.0, (x.1, tt)) };
 
-    ghost wrong_forms = { either A.wrong_forms (either B.wrong_forms never) };
+    ghost wrong_forms = { any_of A.wrong_forms (any_of B.wrong_forms never) };
 }
 
 impl<'de, R: Read<'de>, A: Deserialize<'de, R>, B: Deserialize<'de, R>> ReadTuple<'de, R>
@@ -55,7 +55,7 @@ impl<'de, R: Read<'de>, A: Deserialize<'de, R>, B: Deserialize<'de, R>> ReadTupl
 }
 
 impl<A: Readable, B: Readable, C: Readable> ReadableTuple for (A, B, C) {
-    ghost use Rattle.cbor_de.specs.Forms.{either, never};
+    ghost use Rattle.cbor_de.specs.Forms.{any_of, never};
     ghost use Rattle.cbor_decode_as.specs.Enums.{part_then, no_part};
 
     ghost parts = { λ c all x. part_then (A.reads c)
@@ -63,8 +63,8 @@ impl<A: Readable, B: Readable, C: Readable> ReadableTuple for (A, B, C) {
         (part_then (C.reads c) no_part))
         all (x.0, (x.1, (x.2, tt))) };
 
-    ghost wrong_forms = { either A.wrong_forms (either B.wrong_forms
-        (either C.wrong_forms never)) };
+    ghost wrong_forms = { any_of A.wrong_forms (any_of B.wrong_forms
+        (any_of C.wrong_forms never)) };
 }
 
 impl<
@@ -87,7 +87,7 @@ impl<
 }
 
 impl<A: Readable, B: Readable, C: Readable, D: Readable> ReadableTuple for (A, B, C, D) {
-    ghost use Rattle.cbor_de.specs.Forms.{either, never};
+    ghost use Rattle.cbor_de.specs.Forms.{any_of, never};
     ghost use Rattle.cbor_decode_as.specs.Enums.{part_then, no_part};
 
     ghost parts = { λ c all x. part_then (A.reads c)
@@ -96,8 +96,8 @@ impl<A: Readable, B: Readable, C: Readable, D: Readable> ReadableTuple for (A, B
         (part_then (D.reads c) no_part)))
         all (x.0, (x.1, (x.2, (x.3, tt)))) };
 
-    ghost wrong_forms = { either A.wrong_forms (either B.wrong_forms (either C.wrong_forms
-        (either D.wrong_forms never))) };
+    ghost wrong_forms = { any_of A.wrong_forms (any_of B.wrong_forms (any_of C.wrong_forms
+        (any_of D.wrong_forms never))) };
 }
 
 impl<
@@ -122,7 +122,7 @@ impl<
 
 impl<A: Readable, B: Readable, C: Readable, D: Readable, E: Readable> ReadableTuple
     for (A, B, C, D, E) {
-    ghost use Rattle.cbor_de.specs.Forms.{either, never};
+    ghost use Rattle.cbor_de.specs.Forms.{any_of, never};
     ghost use Rattle.cbor_decode_as.specs.Enums.{part_then, no_part};
 
     ghost parts = { λ c all x. part_then (A.reads c)
@@ -132,8 +132,8 @@ impl<A: Readable, B: Readable, C: Readable, D: Readable, E: Readable> ReadableTu
         (part_then (E.reads c) no_part))))
         all (x.0, (x.1, (x.2, (x.3, (x.4, tt))))) };
 
-    ghost wrong_forms = { either A.wrong_forms (either B.wrong_forms (either C.wrong_forms
-        (either D.wrong_forms (either E.wrong_forms never)))) };
+    ghost wrong_forms = { any_of A.wrong_forms (any_of B.wrong_forms (any_of C.wrong_forms
+        (any_of D.wrong_forms (any_of E.wrong_forms never)))) };
 }
 
 impl<
@@ -159,7 +159,7 @@ impl<
 
 impl<A: Readable, B: Readable, C: Readable, D: Readable, E: Readable, F: Readable> ReadableTuple
     for (A, B, C, D, E, F) {
-    ghost use Rattle.cbor_de.specs.Forms.{either, never};
+    ghost use Rattle.cbor_de.specs.Forms.{any_of, never};
     ghost use Rattle.cbor_decode_as.specs.Enums.{part_then, no_part};
 
     ghost parts = { λ c all x. part_then (A.reads c)
@@ -170,8 +170,8 @@ impl<A: Readable, B: Readable, C: Readable, D: Readable, E: Readable, F: Readabl
         (part_then (F.reads c) no_part)))))
         all (x.0, (x.1, (x.2, (x.3, (x.4, (x.5, tt)))))) };
 
-    ghost wrong_forms = { either A.wrong_forms (either B.wrong_forms (either C.wrong_forms
-        (either D.wrong_forms (either E.wrong_forms (either F.wrong_forms never))))) };
+    ghost wrong_forms = { any_of A.wrong_forms (any_of B.wrong_forms (any_of C.wrong_forms
+        (any_of D.wrong_forms (any_of E.wrong_forms (any_of F.wrong_forms never))))) };
 }
 
 impl<
@@ -207,7 +207,7 @@ impl<
     F: Readable,
     G: Readable,
 > ReadableTuple for (A, B, C, D, E, F, G) {
-    ghost use Rattle.cbor_de.specs.Forms.{either, never};
+    ghost use Rattle.cbor_de.specs.Forms.{any_of, never};
     ghost use Rattle.cbor_decode_as.specs.Enums.{part_then, no_part};
 
     ghost parts = { λ c all x. part_then (A.reads c)
@@ -219,9 +219,9 @@ impl<
         (part_then (G.reads c) no_part))))))
         all (x.0, (x.1, (x.2, (x.3, (x.4, (x.5, (x.6, tt))))))) };
 
-    ghost wrong_forms = { either A.wrong_forms (either B.wrong_forms (either C.wrong_forms
-        (either D.wrong_forms (either E.wrong_forms (either F.wrong_forms
-        (either G.wrong_forms never)))))) };
+    ghost wrong_forms = { any_of A.wrong_forms (any_of B.wrong_forms (any_of C.wrong_forms
+        (any_of D.wrong_forms (any_of E.wrong_forms (any_of F.wrong_forms
+        (any_of G.wrong_forms never)))))) };
 }
 
 impl<
@@ -259,7 +259,7 @@ impl<
     G: Readable,
     H: Readable,
 > ReadableTuple for (A, B, C, D, E, F, G, H) {
-    ghost use Rattle.cbor_de.specs.Forms.{either, never};
+    ghost use Rattle.cbor_de.specs.Forms.{any_of, never};
     ghost use Rattle.cbor_decode_as.specs.Enums.{part_then, no_part};
 
     ghost parts = { λ c all x. part_then (A.reads c)
@@ -272,9 +272,9 @@ impl<
         (part_then (H.reads c) no_part)))))))
         all (x.0, (x.1, (x.2, (x.3, (x.4, (x.5, (x.6, (x.7, tt)))))))) };
 
-    ghost wrong_forms = { either A.wrong_forms (either B.wrong_forms (either C.wrong_forms
-        (either D.wrong_forms (either E.wrong_forms (either F.wrong_forms (either G.wrong_forms
-        (either H.wrong_forms never))))))) };
+    ghost wrong_forms = { any_of A.wrong_forms (any_of B.wrong_forms (any_of C.wrong_forms
+        (any_of D.wrong_forms (any_of E.wrong_forms (any_of F.wrong_forms (any_of G.wrong_forms
+        (any_of H.wrong_forms never))))))) };
 }
 
 impl<

@@ -21,7 +21,7 @@ ghost use Rattle.cbor_decode_as.specs.Variants.{IsPartsHead, RefusesParts, Takes
 ghost use Rattle.cbor_decode_as.specs.Variants.{content_at};
 ghost use Rattle.cbor_decode_as.specs.Variants.{TellsAlone, alone_text};
 ghost use Rattle.cbor_decode_as.specs.declared.variant.Form.TheVariants.{Array};
-ghost use Rattle.cbor_de.specs.Forms.{MayTell, either, part_form};
+ghost use Rattle.cbor_de.specs.Forms.{MayTell, any_of, part_form};
 ghost use Rattle.cbor_de.specs.contracts.de.Deserializer.{the_row};
 
 use crate::de::Deserializer;
@@ -103,7 +103,7 @@ impl<'de, R: Read<'de>> Deserializer<R> {
             (IsPart (T.reads (context self.old.decoder.formats R.lends)))
             self.old.decoder.levels (Array remaining)
             (R.source self.old.decoder.source) (R.source self.new.decoder.source) result }
-        ensures form { IfErr result (MayTell (either part_form T.wrong_forms)
+        ensures form { IfErr result (MayTell (any_of part_form T.wrong_forms)
             (formats_of self.old.decoder.formats) (R.source self.old.decoder.source)) }
         ensures too_short { IfErr result (TellsTooShort R.refusals (Array remaining)
             (R.source self.old.decoder.source)) }
@@ -129,7 +129,7 @@ pub fn one_part<'de, R: Read<'de>, T: Deserialize<'de, R>>(
         de.old.decoder.levels form
         (R.source de.old.decoder.source) (R.source de.new.decoder.source) result }
     ensures alone { IfErr result (TellsAlone alone.now form) }
-    ensures form { IfErr result (MayTell (either part_form T.wrong_forms)
+    ensures form { IfErr result (MayTell (any_of part_form T.wrong_forms)
         (formats_of de.old.decoder.formats) (R.source de.old.decoder.source)) }
     ensures too_short { IfErr result (TellsTooShort R.refusals form
         (R.source de.old.decoder.source)) }
@@ -226,7 +226,7 @@ impl<'a, R: Source> VariantAccess<'a, R> {
             result }
         ensures alone { IfErr result
             (TellsAlone (alone_text (codes "newtype")) self.entry.form) }
-        ensures form { IfErr result (MayTell (either part_form T.wrong_forms)
+        ensures form { IfErr result (MayTell (any_of part_form T.wrong_forms)
             (formats_of self.entry.de.now.decoder.formats)
             (R.source self.entry.de.now.decoder.source)) }
         ensures too_short { IfErr result (TellsTooShort R.refusals self.entry.form
@@ -271,7 +271,7 @@ impl<'a, R: Source> VariantAccess<'a, R> {
             result }
         ensures alone { IfErr result
             (TellsAlone (alone_text (codes "struct")) self.entry.form) }
-        ensures form { IfErr result (MayTell (either part_form T.wrong_forms)
+        ensures form { IfErr result (MayTell (any_of part_form T.wrong_forms)
             (formats_of self.entry.de.now.decoder.formats)
             (R.source self.entry.de.now.decoder.source)) }
         ensures too_short { IfErr result (TellsTooShort R.refusals self.entry.form

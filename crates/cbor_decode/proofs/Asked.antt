@@ -13,7 +13,7 @@ use Rattle.cbor_decode.proofs.Memory.{asked_on, kept_asked, none_asked, on_err}
 pub whole_asked : (asks : Asks) (kept : ReadError) (r : Refused) (e : ReadError) → r ≡ refused.Kept → kept ≡ e → MemoryWhere asks.whole e → MemoryOnly (asks.whole ≡ true) kept r
 whole_asked asks kept r e is keeps h = kept_asked (asks.whole ≡ true) kept r e is keeps h
 
--- what is never for want of memory
+-- what is never for lack of memory
 pub none_asked_all : {X : Type 0} (P : Type 0) (kept : ReadError) (r : Result X Refused) → IfErr r (TellsNoMemory kept) → IfErr r (MemoryOnly P kept)
 none_asked_all P kept (Ok x) h = tt
 none_asked_all P kept (Err r) h = none_asked P kept r h

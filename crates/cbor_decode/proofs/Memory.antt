@@ -21,7 +21,7 @@ use Rattle.cbor_decode.proofs.Steps.{same_limits}
 use Rattle.cbor_decode.proofs.Heads.{value_after}
 use Rattle.cbor_decode.proofs.Inside.{value_first}
 
--- a refusal that isn't for want of memory
+-- a refusal that isn't for lack of memory
 pub none_asked : (P : Type 0) (kept : ReadError) (r : Refused) → TellsNoMemory kept r → MemoryOnly P kept r
 none_asked P kept refused.OutOfMemory h = absurd h
 none_asked P kept refused.Kept h = λ is. absurd (h is)

@@ -1,4 +1,6 @@
--- What a reader of the code answers, beside what the reference reader answers.
+-- What a step of a decoder answers, beside what the reference reader answers. `Gives` is the word for
+-- steps, which keep why they were refused; for calls, which return an error, it is `Takes`
+-- (`cbor_decode_as`).
 use Rattle.std.specs.Prelude.{⊤, ◌≡◌, ◌≢◌, ◌+◌, ◌^◌, ◌<◌, ℕ, Bool, true, List, [], ◌∷◌, length}
 use Rattle.std.specs.Prelude.{Option, Some, Result, Ok, Err}
 use Rattle.cbor_model.specs.Refusal.{Refusal, end_in_value, end_in_array, end_in_map}

@@ -1,4 +1,5 @@
--- What a call takes of its source that reads a type.
+-- What a call takes of its source that reads a type: `Takes` is the word for calls, which return an
+-- error; for the steps of a decoder, which keep why they were refused, it is `Gives` (`cbor_decode`).
 use Rattle.std.specs.Prelude.{◌≡◌, ◌+◌, ℕ, Bool, true, false, List, [], ◌∷◌, length, None, Result, Ok}
 use Rattle.std.specs.Prelude.{Err, ◌⊎◌, String, refl}
 use Rattle.std.specs.Global.{Global}
@@ -45,7 +46,7 @@ ExcusedBy Device (Io fault) at = Device × (at ≡ 0)
 ExcusedBy Device _ at = ⊥
 
 -- A call was refused, and left t: some of the bytes to come were taken from their front, and counted;
--- and it was by want of memory or a fault of the device, or N holds of the bytes that were to come.
+-- and it was by lack of memory or a fault of the device, or N holds of the bytes that were to come.
 pub record Refuses (refusals : ReadErrorCode → Bool) (s t : Input) (code : ErrorCode) (at : ℕ) (N : Limits → List ℕ → Type 0) : Type 0 where
   pub took : TookSome s t
   pub told : (bs : List ℕ) → Tells s bs → ExcusedBy (Reports refusals) code at ⊎ N (limits s bs) bs
@@ -123,7 +124,7 @@ abbrev pub any_item : ℕ → Limits → List ℕ → Reads Val
 any_item levels l = item_at (values all_formats l) levels
 
 -- A refusal tells the fault of the item at the front, where so many levels are left; and it is a
--- message exactly where an item stands there. Want of memory and a device's fault may come in place of
+-- message exactly where an item stands there. Lack of memory and a device's fault may come in place of
 -- either.
 abbrev pub RefusesWhole : (ReadErrorCode → Bool) → ℕ → Input → Error → Type 0
 RefusesWhole refusals levels s e = (bs : List ℕ) → Tells s bs → FaultOrMessage (Reports refusals) (code_of e) (s.offset + length bs) (offset_of e) (any_item levels (limits s bs) bs)

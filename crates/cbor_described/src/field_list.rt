@@ -10,7 +10,7 @@ ghost use Rattle.cbor_de.specs.Structs.{IsAny, IsStruct};
 ghost use Rattle.cbor_io.specs.Error.{code_of};
 ghost use Rattle.cbor_decode.specs.Gives.{Advances, TellsNoForm};
 ghost use Rattle.cbor_decode_as.specs.Takes.{TakesItem, context, formats_of};
-ghost use Rattle.cbor_de.specs.Forms.{MayTell, either, item_form, struct_form};
+ghost use Rattle.cbor_de.specs.Forms.{MayTell, any_of, item_form, struct_form};
 
 use cbor_de::steps::{end_map, leave_to, map_head};
 use cbor_de::{
@@ -66,7 +66,7 @@ pub(crate) trait ReadFields<'de, R: Read<'de>>: FieldList {
             TakesField (formats_of de.old.decoder.formats) de.old.decoder.levels R.refusals
             (Self.fields c) i (Self.slots c held.old) (Self.slots c held.new)
             (R.source de.old.decoder.source) (R.source de.new.decoder.source) result }
-        ensures form { IfErr result (MayTell (either item_form Self.wrong_forms)
+        ensures form { IfErr result (MayTell (any_of item_form Self.wrong_forms)
             (formats_of de.old.decoder.formats) (R.source de.old.decoder.source)) }
         ensures forward { IfOk result (λ u. (R.source de.old.decoder.source).offset
             ≤ (R.source de.new.decoder.source).offset) }
@@ -130,7 +130,7 @@ impl<'de, R: Read<'de>> ReadFields<'de, R> for () {
 
 impl<A: FieldType, F: FieldList> FieldList for (A, F) {
     ghost use Rattle.std.specs.Prelude.{◌∷◌, ◌+◌};
-    ghost use Rattle.cbor_de.specs.Forms.{either};
+    ghost use Rattle.cbor_de.specs.Forms.{any_of};
     ghost use Rattle.cbor_described.specs.FieldLists.{over, slots_over};
     ghost use Rattle.cbor_de.specs.Structs.{field_or};
 
@@ -143,7 +143,7 @@ impl<A: FieldType, F: FieldList> FieldList for (A, F) {
 
     ghost slots = { λ c held. (held.0, slots_over (λ p. p.1) (F.fields c) (F.slots c held.1)) };
 
-    ghost wrong_forms = { either A.Of.wrong_forms F.wrong_forms };
+    ghost wrong_forms = { any_of A.Of.wrong_forms F.wrong_forms };
 
     fn none() -> (Option<A>, F::Slots) {
         (None, F::none())
@@ -162,7 +162,7 @@ impl<A: FieldType, F: FieldList> FieldList for (A, F) {
 impl<A: FieldType, B: FieldType, C: FieldType, D: FieldType, F: FieldList> FieldList
     for (A, B, C, D, F) {
     ghost use Rattle.std.specs.Prelude.{◌∷◌, ◌+◌};
-    ghost use Rattle.cbor_de.specs.Forms.{either};
+    ghost use Rattle.cbor_de.specs.Forms.{any_of};
     ghost use Rattle.cbor_described.specs.FieldLists.{over, slots_over};
     ghost use Rattle.cbor_de.specs.Structs.{field_or};
 
@@ -190,8 +190,8 @@ impl<A: FieldType, B: FieldType, C: FieldType, D: FieldType, F: FieldList> Field
       ),
     ) };
 
-    ghost wrong_forms = { either A.Of.wrong_forms (either B.Of.wrong_forms (either C.Of.wrong_forms
-        (either D.Of.wrong_forms F.wrong_forms))) };
+    ghost wrong_forms = { any_of A.Of.wrong_forms (any_of B.Of.wrong_forms (any_of C.Of.wrong_forms
+        (any_of D.Of.wrong_forms F.wrong_forms))) };
 
     fn none() -> (Option<A>, Option<B>, Option<C>, Option<D>, F::Slots) {
         (None, None, None, None, F::none())
@@ -326,7 +326,7 @@ pub(crate) fn read_fields<'de, R: Read<'de>, F: ReadFields<'de, R>>(
         (R.source de.new.decoder.source) result }
     ensures taken { OnOk result (Advances (R.source de.old.decoder.source)
         (R.source de.new.decoder.source)) }
-    ensures form { IfErr result (MayTell (either struct_form F.wrong_forms)
+    ensures form { IfErr result (MayTell (any_of struct_form F.wrong_forms)
         (formats_of de.old.decoder.formats) (R.source de.old.decoder.source)) }
     ensures levels { de.new.decoder.levels ≡ de.old.decoder.levels }
     ensures formats { de.new.decoder.formats ≡ de.old.decoder.formats }
@@ -350,7 +350,7 @@ fn fields_within<'de, R: Read<'de>, F: ReadFields<'de, R>>(
         (R.source de.new.decoder.source) result }
     ensures taken { OnOk result (Advances (R.source de.old.decoder.source)
         (R.source de.new.decoder.source)) }
-    ensures form { IfErr result (MayTell (either struct_form F.wrong_forms)
+    ensures form { IfErr result (MayTell (any_of struct_form F.wrong_forms)
         (formats_of de.old.decoder.formats) (R.source de.old.decoder.source)) }
     ensures formats { de.new.decoder.formats ≡ de.old.decoder.formats }
 {

@@ -13,13 +13,13 @@ use cbor_parts::{OneOf1, OneOf2, OneOf3, OneOf4, OneOf5, OneOf6, OneOf7, OneOf8}
 impl<A: Variant> ReadableParts for OneOf1<A> {
     ghost use Rattle.cbor_model.specs.Readable.{PassesTags};
     ghost use Rattle.cbor_decode_as.specs.Enums.{IsEnum};
-    ghost use Rattle.cbor_de.specs.Forms.{either, enum_form, never};
+    ghost use Rattle.cbor_de.specs.Forms.{any_of, enum_form, never};
     ghost use Rattle.cbor_described.specs.OneOfs.{either, no_variant, list1};
 
     ghost reads = { λ names c r x. PassesTags
         (IsEnum c.formats names (either (A.means c) no_variant)) r (list1 x) };
 
-    ghost wrong_forms = { either enum_form (either A.wrong_forms never) };
+    ghost wrong_forms = { any_of enum_form (any_of A.wrong_forms never) };
 }
 
 impl<'de, R: Read<'de>, A: ReadVariant<'de, R>> ReadParts<'de, R> for OneOf1<A> {
@@ -43,13 +43,13 @@ fn one_of1<A: Drop>(list: OneOf<A, Never>) -> OneOf1<A>
 impl<A: Variant, B: Variant> ReadableParts for OneOf2<A, B> {
     ghost use Rattle.cbor_model.specs.Readable.{PassesTags};
     ghost use Rattle.cbor_decode_as.specs.Enums.{IsEnum};
-    ghost use Rattle.cbor_de.specs.Forms.{either, enum_form, never};
+    ghost use Rattle.cbor_de.specs.Forms.{any_of, enum_form, never};
     ghost use Rattle.cbor_described.specs.OneOfs.{either, no_variant, list2};
 
     ghost reads = { λ names c r x. PassesTags
         (IsEnum c.formats names (either (A.means c) (either (B.means c) no_variant))) r (list2 x) };
 
-    ghost wrong_forms = { either enum_form (either A.wrong_forms (either B.wrong_forms never)) };
+    ghost wrong_forms = { any_of enum_form (any_of A.wrong_forms (any_of B.wrong_forms never)) };
 }
 
 impl<'de, R: Read<'de>, A: ReadVariant<'de, R>, B: ReadVariant<'de, R>> ReadParts<'de, R>
@@ -75,7 +75,7 @@ fn one_of2<A: Drop, B: Drop>(list: OneOf<A, OneOf<B, Never>>) -> OneOf2<A, B>
 impl<A: Variant, B: Variant, C: Variant> ReadableParts for OneOf3<A, B, C> {
     ghost use Rattle.cbor_model.specs.Readable.{PassesTags};
     ghost use Rattle.cbor_decode_as.specs.Enums.{IsEnum};
-    ghost use Rattle.cbor_de.specs.Forms.{either, enum_form, never};
+    ghost use Rattle.cbor_de.specs.Forms.{any_of, enum_form, never};
     ghost use Rattle.cbor_described.specs.OneOfs.{either, no_variant, list3};
 
     ghost reads = { λ names c r x. PassesTags
@@ -84,8 +84,8 @@ impl<A: Variant, B: Variant, C: Variant> ReadableParts for OneOf3<A, B, C> {
         (either (C.means c) no_variant))))
         r (list3 x) };
 
-    ghost wrong_forms = { either enum_form (either A.wrong_forms (either B.wrong_forms
-        (either C.wrong_forms never))) };
+    ghost wrong_forms = { any_of enum_form (any_of A.wrong_forms (any_of B.wrong_forms
+        (any_of C.wrong_forms never))) };
 }
 
 impl<
@@ -117,7 +117,7 @@ fn one_of3<A: Drop, B: Drop, C: Drop>(list: OneOf<A, OneOf<B, OneOf<C, Never>>>)
 impl<A: Variant, B: Variant, C: Variant, D: Variant> ReadableParts for OneOf4<A, B, C, D> {
     ghost use Rattle.cbor_model.specs.Readable.{PassesTags};
     ghost use Rattle.cbor_decode_as.specs.Enums.{IsEnum};
-    ghost use Rattle.cbor_de.specs.Forms.{either, enum_form, never};
+    ghost use Rattle.cbor_de.specs.Forms.{any_of, enum_form, never};
     ghost use Rattle.cbor_described.specs.OneOfs.{either, no_variant, list4};
 
     ghost reads = { λ names c r x. PassesTags
@@ -127,9 +127,9 @@ impl<A: Variant, B: Variant, C: Variant, D: Variant> ReadableParts for OneOf4<A,
         (either (D.means c) no_variant)))))
         r (list4 x) };
 
-    ghost wrong_forms = { either enum_form (either A.wrong_forms (either B.wrong_forms
-        (either C.wrong_forms
-        (either D.wrong_forms never)))) };
+    ghost wrong_forms = { any_of enum_form (any_of A.wrong_forms (any_of B.wrong_forms
+        (any_of C.wrong_forms
+        (any_of D.wrong_forms never)))) };
 }
 
 impl<
@@ -166,7 +166,7 @@ impl<A: Variant, B: Variant, C: Variant, D: Variant, E: Variant> ReadableParts
     for OneOf5<A, B, C, D, E> {
     ghost use Rattle.cbor_model.specs.Readable.{PassesTags};
     ghost use Rattle.cbor_decode_as.specs.Enums.{IsEnum};
-    ghost use Rattle.cbor_de.specs.Forms.{either, enum_form, never};
+    ghost use Rattle.cbor_de.specs.Forms.{any_of, enum_form, never};
     ghost use Rattle.cbor_described.specs.OneOfs.{either, no_variant, list5};
 
     ghost reads = { λ names c r x. PassesTags
@@ -177,9 +177,9 @@ impl<A: Variant, B: Variant, C: Variant, D: Variant, E: Variant> ReadableParts
         (either (E.means c) no_variant))))))
         r (list5 x) };
 
-    ghost wrong_forms = { either enum_form (either A.wrong_forms (either B.wrong_forms
-        (either C.wrong_forms
-        (either D.wrong_forms (either E.wrong_forms never))))) };
+    ghost wrong_forms = { any_of enum_form (any_of A.wrong_forms (any_of B.wrong_forms
+        (any_of C.wrong_forms
+        (any_of D.wrong_forms (any_of E.wrong_forms never))))) };
 }
 
 impl<
@@ -220,7 +220,7 @@ impl<A: Variant, B: Variant, C: Variant, D: Variant, E: Variant, F: Variant> Rea
     for OneOf6<A, B, C, D, E, F> {
     ghost use Rattle.cbor_model.specs.Readable.{PassesTags};
     ghost use Rattle.cbor_decode_as.specs.Enums.{IsEnum};
-    ghost use Rattle.cbor_de.specs.Forms.{either, enum_form, never};
+    ghost use Rattle.cbor_de.specs.Forms.{any_of, enum_form, never};
     ghost use Rattle.cbor_described.specs.OneOfs.{either, no_variant, list6};
 
     ghost reads = { λ names c r x. PassesTags
@@ -232,9 +232,9 @@ impl<A: Variant, B: Variant, C: Variant, D: Variant, E: Variant, F: Variant> Rea
         (either (F.means c) no_variant)))))))
         r (list6 x) };
 
-    ghost wrong_forms = { either enum_form (either A.wrong_forms (either B.wrong_forms
-        (either C.wrong_forms
-        (either D.wrong_forms (either E.wrong_forms (either F.wrong_forms never)))))) };
+    ghost wrong_forms = { any_of enum_form (any_of A.wrong_forms (any_of B.wrong_forms
+        (any_of C.wrong_forms
+        (any_of D.wrong_forms (any_of E.wrong_forms (any_of F.wrong_forms never)))))) };
 }
 
 impl<
@@ -285,7 +285,7 @@ impl<
 > ReadableParts for OneOf7<A, B, C, D, E, F, G> {
     ghost use Rattle.cbor_model.specs.Readable.{PassesTags};
     ghost use Rattle.cbor_decode_as.specs.Enums.{IsEnum};
-    ghost use Rattle.cbor_de.specs.Forms.{either, enum_form, never};
+    ghost use Rattle.cbor_de.specs.Forms.{any_of, enum_form, never};
     ghost use Rattle.cbor_described.specs.OneOfs.{either, no_variant, list7};
 
     ghost reads = { λ names c r x. PassesTags
@@ -298,10 +298,10 @@ impl<
         (either (G.means c) no_variant))))))))
         r (list7 x) };
 
-    ghost wrong_forms = { either enum_form (either A.wrong_forms (either B.wrong_forms
-        (either C.wrong_forms
-        (either D.wrong_forms (either E.wrong_forms (either F.wrong_forms
-        (either G.wrong_forms never))))))) };
+    ghost wrong_forms = { any_of enum_form (any_of A.wrong_forms (any_of B.wrong_forms
+        (any_of C.wrong_forms
+        (any_of D.wrong_forms (any_of E.wrong_forms (any_of F.wrong_forms
+        (any_of G.wrong_forms never))))))) };
 }
 
 impl<
@@ -359,7 +359,7 @@ impl<
 > ReadableParts for OneOf8<A, B, C, D, E, F, G, H> {
     ghost use Rattle.cbor_model.specs.Readable.{PassesTags};
     ghost use Rattle.cbor_decode_as.specs.Enums.{IsEnum};
-    ghost use Rattle.cbor_de.specs.Forms.{either, enum_form, never};
+    ghost use Rattle.cbor_de.specs.Forms.{any_of, enum_form, never};
     ghost use Rattle.cbor_described.specs.OneOfs.{either, no_variant, list8};
 
     ghost reads = { λ names c r x. PassesTags
@@ -373,10 +373,10 @@ impl<
         (either (H.means c) no_variant)))))))))
         r (list8 x) };
 
-    ghost wrong_forms = { either enum_form (either A.wrong_forms (either B.wrong_forms
-        (either C.wrong_forms
-        (either D.wrong_forms (either E.wrong_forms (either F.wrong_forms (either G.wrong_forms
-        (either H.wrong_forms never)))))))) };
+    ghost wrong_forms = { any_of enum_form (any_of A.wrong_forms (any_of B.wrong_forms
+        (any_of C.wrong_forms
+        (any_of D.wrong_forms (any_of E.wrong_forms (any_of F.wrong_forms (any_of G.wrong_forms
+        (any_of H.wrong_forms never)))))))) };
 }
 
 impl<

@@ -7,7 +7,7 @@ ghost use Rattle.cbor_decode_as.specs.Identifiers.{texts};
 ghost use Rattle.cbor_decode_as.specs.Takes.{TakesItem, context, formats_of};
 ghost use Rattle.cbor_decode_as.specs.Variants.{TakesContent};
 ghost use Rattle.cbor_model.specs.Readable.{PassesTags};
-ghost use Rattle.cbor_de.specs.Forms.{MayTell, either, enum_form};
+ghost use Rattle.cbor_de.specs.Forms.{MayTell, any_of, enum_form};
 
 use crate::parts::{ReadParts, ReadableParts};
 use cbor_de::steps::{leave_to, no_part, parts, variant_head};
@@ -61,11 +61,11 @@ impl<'de, R: Read<'de>> ReadVariant<'de, R> for () {
 
 impl<T: Readable> Variant for Newtype<T> {
     ghost use Rattle.cbor_decode_as.specs.Enums.{IsPart};
-    ghost use Rattle.cbor_de.specs.Forms.{either, part_form};
+    ghost use Rattle.cbor_de.specs.Forms.{any_of, part_form};
 
     ghost means = { λ c content y. IsPart (T.reads c) content y.0 };
 
-    ghost wrong_forms = { either part_form T.wrong_forms };
+    ghost wrong_forms = { any_of part_form T.wrong_forms };
 }
 
 impl<'de, R: Read<'de>, T: Deserialize<'de, R>> ReadVariant<'de, R> for Newtype<T> {
@@ -130,11 +130,11 @@ where
     N::Parts: ReadableParts,
 {
     ghost use Rattle.cbor_decode_as.specs.Enums.{IsPart};
-    ghost use Rattle.cbor_de.specs.Forms.{either, part_form};
+    ghost use Rattle.cbor_de.specs.Forms.{any_of, part_form};
 
     ghost means = { λ c content y. IsPart (N.Parts.reads N.names c) content y.0 };
 
-    ghost wrong_forms = { either part_form N.Parts.wrong_forms };
+    ghost wrong_forms = { any_of part_form N.Parts.wrong_forms };
 }
 
 impl<'de, R: Read<'de>, N: FieldNames> ReadVariant<'de, R> for Struct<N>
@@ -208,12 +208,12 @@ impl<'de, R: Read<'de>> ReadVariants<'de, R> for Never {
 }
 
 impl<V: Variant, Vs: VariantList> VariantList for OneOf<V, Vs> {
-    ghost use Rattle.cbor_de.specs.Forms.{either};
+    ghost use Rattle.cbor_de.specs.Forms.{any_of};
     ghost use Rattle.cbor_described.specs.OneOfs.{either};
 
     ghost means = { λ c. either (V.means c) (Vs.means c) };
 
-    ghost wrong_forms = { either V.wrong_forms Vs.wrong_forms };
+    ghost wrong_forms = { any_of V.wrong_forms Vs.wrong_forms };
 }
 
 impl<'de, R: Read<'de>, V: ReadVariant<'de, R>, Vs: ReadVariants<'de, R>> ReadVariants<'de, R>
@@ -244,7 +244,7 @@ pub(crate) fn read_variants<'de, R: Read<'de>, E: ReadVariants<'de, R>>(
         (R.source de.new.decoder.source) result }
     ensures taken { OnOk result (Advances (R.source de.old.decoder.source)
         (R.source de.new.decoder.source)) }
-    ensures form { IfErr result (MayTell (either enum_form E.wrong_forms)
+    ensures form { IfErr result (MayTell (any_of enum_form E.wrong_forms)
         (formats_of de.old.decoder.formats) (R.source de.old.decoder.source)) }
     ensures levels { de.new.decoder.levels ≡ de.old.decoder.levels }
     ensures formats { de.new.decoder.formats ≡ de.old.decoder.formats }
@@ -267,7 +267,7 @@ fn variants_within<'de, R: Read<'de>, E: ReadVariants<'de, R>>(
         (R.source de.new.decoder.source) result }
     ensures taken { OnOk result (Advances (R.source de.old.decoder.source)
         (R.source de.new.decoder.source)) }
-    ensures form { IfErr result (MayTell (either enum_form E.wrong_forms)
+    ensures form { IfErr result (MayTell (any_of enum_form E.wrong_forms)
         (formats_of de.old.decoder.formats) (R.source de.old.decoder.source)) }
     ensures formats { de.new.decoder.formats ≡ de.old.decoder.formats }
 {

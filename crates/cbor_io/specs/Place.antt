@@ -6,7 +6,7 @@ use Rattle.cbor_io.specs.declared.error.ErrorCode.TheVariants.{Message, Io, OutO
 use Rattle.cbor_io.specs.declared.read_error.ReadErrorCode.{ReadErrorCode}
 use Rattle.cbor_io.specs.declared.read_error.ReadErrorCode.TheVariants as read
 
--- a message, a fault of a device and want of memory have no place in the input
+-- a message, a fault of a device and lack of memory have no place in the input
 abbrev pub HasNoOffset : ErrorCode → Type 0
 HasNoOffset (Message s) = ⊤
 HasNoOffset (Io e) = ⊤

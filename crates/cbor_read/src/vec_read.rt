@@ -13,8 +13,8 @@ use std::fmt;
 /// The bytes of a vector that the source owns, so that it lends none of them for longer than until
 /// its next call. Parts that are joined stand in memory.
 ///
-/// It returns `EofWhileParsingValue`, and `OutOfMemory` where the buffer or the vector to fill can't
-/// grow.
+/// It returns `EofWhileParsingValue`, and `OutOfMemory` where the buffer or the vector to fill
+/// can't grow.
 ///
 /// ```rust
 /// let mut source = VecRead::new(alloc, b"\x62hi".to_vec(alloc)?);

@@ -27,7 +27,7 @@ memory_code (Message text) S s h = absurd (h.1 s)
 memory_code OutOfMemory S s h = refl
 memory_code _ S s h = absurd h
 
--- what can be stored is refused for want of memory alone
+-- what can be stored is refused for lack of memory alone
 pub only_memory : {T : Type 0} (r : Result T Error) (S : Type 0) (e : Error) → IsNotWritten S e → IsErrAnd r (λ x. x ≡ e)
     → S → IfErr r IsOutOfMemory
 only_memory (Ok x) S e h is s = tt

@@ -9,7 +9,7 @@ use Rattle.cbor_io.specs.declared.error.ErrorCode.TheVariants.{Message, OutOfMem
 use Rattle.cbor_io.specs.declared.error.Error.{Error}
 use Rattle.cbor_io.specs.Error.{code_of, offset_of}
 
--- What is refused with this code is so for want of memory, or because it isn't storable.
+-- What is refused with this code is so for lack of memory, or because it isn't storable.
 abbrev pub IsRefusedBy : ErrorCode → Type 0 → Type 0
 IsRefusedBy (Message text) storable = (string_bytes text ≡ codes "The number can't be stored in CBOR") × (storable → ⊥)
 IsRefusedBy OutOfMemory storable = Unit {0}

@@ -99,7 +99,7 @@ pub trait Serialize {
     // What a value is written as: its document.
     ghost document: { Self → Doc };
 
-    /// Appends the document, or a prefix of it and refuses: for want of memory, by the sink, or
+    /// Appends the document, or a prefix of it and refuses: for lack of memory, by the sink, or
     /// with the message `The number can't be stored in CBOR`, which only a document with such a
     /// number gets.
     fn serialize<W: Write>(&self, ser: &mut Serializer<W>) -> Result<()>

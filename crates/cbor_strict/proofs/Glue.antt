@@ -94,7 +94,7 @@ spells_value bs v spelt = subst (λ (b : List ℕ). SpellsValue b v) spelt.spell
 pub value_spelled : {A : Type 0} (reads : Raw → A → Type 0) (bs : List ℕ) (x : A) → (spelt : SpellsAs all_formats reads bs x) → SpellsValue bs (value spelt.item)
 value_spelled reads bs x spelt = record { item = spelt.item; acceptable = spelt.acceptable; spelled = spelt.spelled; valued = refl }
 
--- and the canonical item departs nowhere, so that only want of memory is told of it
+-- and the canonical item departs nowhere, so that only lack of memory is told of it
 pub memory_only : (v : Val) (e : Error) → IsOrdered v → TellsItsDeparture (canonical v) e → IsOutOfMemory e
 memory_only v e ordered (inl memory) = memory
 memory_only v e ordered (inr departs) = absurd (listed_none (canonical v) (canonical_clean 0 v ordered) (offset_of e) departs.1.departs)

@@ -97,7 +97,7 @@ answered_refused Strict bytes text e (inr tells) accepted ne is =
     })
     is
 
--- want of memory is told at no offset
+-- lack of memory is told at no offset
 no_refusal : (why : Refusal) → refusal_code why ≡ OutOfMemory → ⊥
 no_refusal end_in_value is = cc
 no_refusal end_in_array is = cc

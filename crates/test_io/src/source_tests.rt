@@ -328,7 +328,7 @@ fn by_failing(rt: &impl Abort, alloc: Global, at: usize, kind: ErrorKind, script
     plays(rt, alloc, &mut IoRead::new(alloc, reader), script)
 }
 
-// An interrupted read is a fault like any other, and so is a device's want of memory. It takes
+// An interrupted read is a fault like any other, and so is a device's lack of memory. It takes
 // nothing: the call after it goes on where the source stood.
 #[test]
 fn goes_on_after_a_fault(rt: HostRuntime) -> Done {

@@ -8,13 +8,13 @@ use cbor_read::Read;
 
 /// An array of exactly one item.
 impl<A: Readable> Readable for (A,) {
-    ghost use Rattle.cbor_de.specs.Forms.{either, never};
+    ghost use Rattle.cbor_de.specs.Forms.{any_of, never};
     ghost use Rattle.cbor_model.specs.Readable.{PassesTags};
     ghost use Rattle.cbor_decode_as.specs.Arrays.{AsArray, FirstThen, AreNone};
 
     ghost reads = { λ c. PassesTags (AsArray (λ rs t. FirstThen (A.reads c) t.0 AreNone rs)) };
 
-    ghost wrong_forms = { either A.wrong_forms never };
+    ghost wrong_forms = { any_of A.wrong_forms never };
 }
 
 impl<'de, R: Read<'de>, A: Deserialize<'de, R>> Deserialize<'de, R> for (A,) {
@@ -34,14 +34,14 @@ impl<A: DeserializeOwned> DeserializeOwned for (A,) {
 
 /// An array of exactly two items.
 impl<A: Readable, B: Readable> Readable for (A, B) {
-    ghost use Rattle.cbor_de.specs.Forms.{either, never};
+    ghost use Rattle.cbor_de.specs.Forms.{any_of, never};
     ghost use Rattle.cbor_model.specs.Readable.{PassesTags};
     ghost use Rattle.cbor_decode_as.specs.Arrays.{AsArray, FirstThen, AreNone};
 
     ghost reads = { λ c. PassesTags (AsArray (λ rs t. FirstThen (A.reads c) t.0
         (FirstThen (B.reads c) t.1 AreNone) rs)) };
 
-    ghost wrong_forms = { either A.wrong_forms (either B.wrong_forms never) };
+    ghost wrong_forms = { any_of A.wrong_forms (any_of B.wrong_forms never) };
 }
 
 impl<'de, R: Read<'de>, A: Deserialize<'de, R>, B: Deserialize<'de, R>> Deserialize<'de, R>
@@ -63,7 +63,7 @@ impl<A: DeserializeOwned, B: DeserializeOwned> DeserializeOwned for (A, B) {
 
 /// An array of exactly three items.
 impl<A: Readable, B: Readable, C: Readable> Readable for (A, B, C) {
-    ghost use Rattle.cbor_de.specs.Forms.{either, never};
+    ghost use Rattle.cbor_de.specs.Forms.{any_of, never};
     ghost use Rattle.cbor_model.specs.Readable.{PassesTags};
     ghost use Rattle.cbor_decode_as.specs.Arrays.{AsArray, FirstThen, AreNone};
 
@@ -71,8 +71,8 @@ impl<A: Readable, B: Readable, C: Readable> Readable for (A, B, C) {
         (FirstThen (B.reads c) t.1
         (FirstThen (C.reads c) t.2 AreNone)) rs)) };
 
-    ghost wrong_forms = { either A.wrong_forms (either B.wrong_forms
-        (either C.wrong_forms never)) };
+    ghost wrong_forms = { any_of A.wrong_forms (any_of B.wrong_forms
+        (any_of C.wrong_forms never)) };
 }
 
 impl<
@@ -100,7 +100,7 @@ impl<A: DeserializeOwned, B: DeserializeOwned, C: DeserializeOwned> DeserializeO
 
 /// An array of exactly four items.
 impl<A: Readable, B: Readable, C: Readable, D: Readable> Readable for (A, B, C, D) {
-    ghost use Rattle.cbor_de.specs.Forms.{either, never};
+    ghost use Rattle.cbor_de.specs.Forms.{any_of, never};
     ghost use Rattle.cbor_model.specs.Readable.{PassesTags};
     ghost use Rattle.cbor_decode_as.specs.Arrays.{AsArray, FirstThen, AreNone};
 
@@ -109,8 +109,8 @@ impl<A: Readable, B: Readable, C: Readable, D: Readable> Readable for (A, B, C, 
         (FirstThen (C.reads c) t.2
         (FirstThen (D.reads c) t.3 AreNone))) rs)) };
 
-    ghost wrong_forms = { either A.wrong_forms (either B.wrong_forms (either C.wrong_forms
-        (either D.wrong_forms never))) };
+    ghost wrong_forms = { any_of A.wrong_forms (any_of B.wrong_forms (any_of C.wrong_forms
+        (any_of D.wrong_forms never))) };
 }
 
 impl<
@@ -145,7 +145,7 @@ impl<
 
 /// An array of exactly five items.
 impl<A: Readable, B: Readable, C: Readable, D: Readable, E: Readable> Readable for (A, B, C, D, E) {
-    ghost use Rattle.cbor_de.specs.Forms.{either, never};
+    ghost use Rattle.cbor_de.specs.Forms.{any_of, never};
     ghost use Rattle.cbor_model.specs.Readable.{PassesTags};
     ghost use Rattle.cbor_decode_as.specs.Arrays.{AsArray, FirstThen, AreNone};
 
@@ -155,8 +155,8 @@ impl<A: Readable, B: Readable, C: Readable, D: Readable, E: Readable> Readable f
         (FirstThen (D.reads c) t.3
         (FirstThen (E.reads c) t.4 AreNone)))) rs)) };
 
-    ghost wrong_forms = { either A.wrong_forms (either B.wrong_forms (either C.wrong_forms
-        (either D.wrong_forms (either E.wrong_forms never)))) };
+    ghost wrong_forms = { any_of A.wrong_forms (any_of B.wrong_forms (any_of C.wrong_forms
+        (any_of D.wrong_forms (any_of E.wrong_forms never)))) };
 }
 
 impl<
@@ -195,7 +195,7 @@ impl<
 /// An array of exactly six items.
 impl<A: Readable, B: Readable, C: Readable, D: Readable, E: Readable, F: Readable> Readable
     for (A, B, C, D, E, F) {
-    ghost use Rattle.cbor_de.specs.Forms.{either, never};
+    ghost use Rattle.cbor_de.specs.Forms.{any_of, never};
     ghost use Rattle.cbor_model.specs.Readable.{PassesTags};
     ghost use Rattle.cbor_decode_as.specs.Arrays.{AsArray, FirstThen, AreNone};
 
@@ -206,8 +206,8 @@ impl<A: Readable, B: Readable, C: Readable, D: Readable, E: Readable, F: Readabl
         (FirstThen (E.reads c) t.4
         (FirstThen (F.reads c) t.5 AreNone))))) rs)) };
 
-    ghost wrong_forms = { either A.wrong_forms (either B.wrong_forms (either C.wrong_forms
-        (either D.wrong_forms (either E.wrong_forms (either F.wrong_forms never))))) };
+    ghost wrong_forms = { any_of A.wrong_forms (any_of B.wrong_forms (any_of C.wrong_forms
+        (any_of D.wrong_forms (any_of E.wrong_forms (any_of F.wrong_forms never))))) };
 }
 
 impl<
@@ -256,7 +256,7 @@ impl<
     F: Readable,
     G: Readable,
 > Readable for (A, B, C, D, E, F, G) {
-    ghost use Rattle.cbor_de.specs.Forms.{either, never};
+    ghost use Rattle.cbor_de.specs.Forms.{any_of, never};
     ghost use Rattle.cbor_model.specs.Readable.{PassesTags};
     ghost use Rattle.cbor_decode_as.specs.Arrays.{AsArray, FirstThen, AreNone};
 
@@ -268,9 +268,9 @@ impl<
         (FirstThen (F.reads c) t.5
         (FirstThen (G.reads c) t.6 AreNone)))))) rs)) };
 
-    ghost wrong_forms = { either A.wrong_forms (either B.wrong_forms (either C.wrong_forms
-        (either D.wrong_forms (either E.wrong_forms (either F.wrong_forms
-        (either G.wrong_forms never)))))) };
+    ghost wrong_forms = { any_of A.wrong_forms (any_of B.wrong_forms (any_of C.wrong_forms
+        (any_of D.wrong_forms (any_of E.wrong_forms (any_of F.wrong_forms
+        (any_of G.wrong_forms never)))))) };
 }
 
 impl<
@@ -324,7 +324,7 @@ impl<
     G: Readable,
     H: Readable,
 > Readable for (A, B, C, D, E, F, G, H) {
-    ghost use Rattle.cbor_de.specs.Forms.{either, never};
+    ghost use Rattle.cbor_de.specs.Forms.{any_of, never};
     ghost use Rattle.cbor_model.specs.Readable.{PassesTags};
     ghost use Rattle.cbor_decode_as.specs.Arrays.{AsArray, FirstThen, AreNone};
 
@@ -337,9 +337,9 @@ impl<
         (FirstThen (G.reads c) t.6
         (FirstThen (H.reads c) t.7 AreNone))))))) rs)) };
 
-    ghost wrong_forms = { either A.wrong_forms (either B.wrong_forms (either C.wrong_forms
-        (either D.wrong_forms (either E.wrong_forms (either F.wrong_forms (either G.wrong_forms
-        (either H.wrong_forms never))))))) };
+    ghost wrong_forms = { any_of A.wrong_forms (any_of B.wrong_forms (any_of C.wrong_forms
+        (any_of D.wrong_forms (any_of E.wrong_forms (any_of F.wrong_forms (any_of G.wrong_forms
+        (any_of H.wrong_forms never))))))) };
 }
 
 impl<

@@ -6,7 +6,7 @@ pub use Rattle.cbor_decode_as.proofs.numbers.Scalars.{excused_or}
 pub use Rattle.cbor_decode_as.proofs.numbers.Scalars.{refuses, told_by}
 -- further bytes were taken
 pub use Rattle.cbor_decode_as.proofs.numbers.Scalars.{refuses_on}
--- an error that isn't want of memory says nothing of items that take some
+-- an error that isn't lack of memory says nothing of items that take some
 pub use Rattle.cbor_decode_as.proofs.numbers.Scalars.{other_code}
 -- where memory ran out, what the refusal says of it holds
 pub use Rattle.cbor_decode_as.proofs.texts.MemoryAsked.{error_only}

@@ -43,7 +43,7 @@ pub kept_only : (P : Type 0) (kept : ReadError) (r : Refused) (e : ReadError) �
 kept_only P kept refused.OutOfMemory e is h = λ why_is. h
 kept_only P kept refused.Kept e is h = λ why_is. h (ap why (sym is) ∙ why_is)
 
--- one that isn't for want of memory
+-- one that isn't for lack of memory
 pub kept_none : (P : Type 0) (kept : ReadError) (r : Refused) (e : ReadError) → IsKept kept r e → TellsNoMemory kept r → UnreadOnly P (Stopped e)
 kept_none P kept refused.OutOfMemory e is h = absurd h
 kept_none P kept refused.Kept e is h = λ why_is. absurd (h (ap why (sym is) ∙ why_is))

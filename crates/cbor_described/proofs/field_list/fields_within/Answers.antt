@@ -9,7 +9,7 @@ use Rattle.std.proofs.lemmas.Result.{err_from_is_err_and}
 use Rattle.cbor_de.proofs.facts.Structs.{no_struct, no_field_named, field_named, other_passed, other_unread, field_missing, end_unread, struct_held}
 use Rattle.cbor_de.proofs.facts.Structs.{unknown_other}
 use Rattle.cbor_described.proofs.FieldLists.{unread, begins_with, value_in, value_not_in, lacking_is}
-use Rattle.cbor_de.specs.Forms.{either, item_form, struct_form, key_form}
+use Rattle.cbor_de.specs.Forms.{any_of, item_form, struct_form, key_form}
 use Rattle.cbor_decode.proofs.facts.Steps.{advances_some}
 use Rattle.cbor_de.proofs.facts.Forms.{later_in, of_left, of_right, took_then}
 use Rattle.cbor_described.proofs.FieldForms.{of_fields}
@@ -151,7 +151,7 @@ returns-in_err-take-in-Known-clause-form g c =
     let e = c.in_err-take-in-Known.field-0.0 in
     let next = c.in_ok-field.ensures in
     let took = took_then (took_then i.so_far.head.took i.so_far.so_far.took) next.read.took in
-    rw (passed.1, passed.2) (of_fields g.F.FieldList.wrong_forms _ _ e (later_in (either item_form g.F.FieldList.wrong_forms) c.args.de.now.decoder.formats c.next_key.new.de.decoder.formats _ _ e (next.formats ∙ i.formats) took c.in_err-take-in-Known.ensures.form))
+    rw (passed.1, passed.2) (of_fields g.F.FieldList.wrong_forms _ _ e (later_in (any_of item_form g.F.FieldList.wrong_forms) c.args.de.now.decoder.formats c.next_key.new.de.decoder.formats _ _ e (next.formats ∙ i.formats) took c.in_err-take-in-Known.ensures.form))
 
 pub returns-in_err-skip_item-in-Unknown-clause-form : goal.returns-in_err-skip_item-in-Unknown-clause-form
 returns-in_err-skip_item-in-Unknown-clause-form g c =

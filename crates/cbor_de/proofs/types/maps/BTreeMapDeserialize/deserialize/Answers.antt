@@ -15,7 +15,7 @@ use Rattle.cbor_decode_as.proofs.facts.Refusals.{refuses_on}
 use Rattle.cbor_decode.proofs.facts.Steps.{took_same, some_then}
 use Rattle.cbor_decode_as.proofs.facts.Readings.{refuses_memory}
 use Rattle.cbor_de.proofs.Forms.{later_in, of_left, of_right}
-use Rattle.cbor_de.specs.Forms.{either, key_form}
+use Rattle.cbor_de.specs.Forms.{any_of, key_form}
 use Rattle.cbor_de.proofs.types.maps.BTreeMapDeserialize.deserialize.Goals as goal
 
 pub returns-in_err-access-clause-read : goal.returns-in_err-access-clause-read
@@ -191,7 +191,7 @@ returns-in_err-key-clause-form g c =
     let passed = err_from_is_err_and c.from_residual-in_err-key.result c.from_residual-in_err-key.ensures.1 in
     let i = c.pairs.invariant in
     let e = c.in_err-key.field-0.0 in
-    let keys = either key_form g.K.Readable.wrong_forms in
+    let keys = any_of key_form g.K.Readable.wrong_forms in
     rw (passed.1, passed.2) (of_left keys g.V.Readable.wrong_forms _ _ e (later_in keys c.args.de.now.decoder.formats c.pairs.access.de.now.decoder.formats _ _ e i.formats (some_then _ _ _ c.in_ok-access.ensures.head.took i.so_far.took) c.in_err-key.ensures.form))
 
 pub returns-in_err-value-clause-form : goal.returns-in_err-value-clause-form
@@ -200,4 +200,4 @@ returns-in_err-value-clause-form g c =
     let i = c.pairs.invariant in
     let e = c.in_err-value.field-0.0 in
     let took = some_then _ _ _ c.in_ok-access.ensures.head.took (some_then _ _ _ i.so_far.took c.in_ok-key.ensures.read.took) in
-    rw (passed.1, passed.2) (of_right (either key_form g.K.Readable.wrong_forms) g.V.Readable.wrong_forms _ _ e (later_in g.V.Readable.wrong_forms c.args.de.now.decoder.formats c.next_key.new.self.de.now.decoder.formats _ _ e (c.in_ok-key.ensures.formats ∙ i.formats) took c.in_err-value.ensures.form))
+    rw (passed.1, passed.2) (of_right (any_of key_form g.K.Readable.wrong_forms) g.V.Readable.wrong_forms _ _ e (later_in g.V.Readable.wrong_forms c.args.de.now.decoder.formats c.next_key.new.self.de.now.decoder.formats _ _ e (c.in_ok-key.ensures.formats ∙ i.formats) took c.in_err-value.ensures.form))
