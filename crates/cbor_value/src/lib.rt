@@ -1,10 +1,12 @@
 //! Any value that CBOR encodes, as a tree.
 //!
-//! [`Value`] and [`Map`] with their order, copies, look-ups and conversions, and byte strings as
-//! types of their own (`bytes`). It names the definitions of `cbor_model`, its facts on the order
-//! and on maps, and the error of `cbor_io`. The crates above rely on the contracts of its public
-//! calls, on `specs/View.antt` (the tree of the model that a value stands for), on
-//! `specs/Floats.antt` (the number that a float stands for), and on the facts of `proofs/facts`.
+//! [`Value`] and [`Map`] with their order, copies and conversions, and what is found in them; and
+//! byte strings as types of their own (`bytes`). It names the definitions of `cbor_model`, its
+//! facts on the order and on maps, and the error of `cbor_io`. The crates above rely on the
+//! contracts of its public calls, on `specs/View.antt` (the tree of the model that a value stands
+//! for), on `specs/Floats.antt` (the number that a float stands for), and on the facts of
+//! `proofs/facts`. `specs/Contents.antt`, `specs/Lookup.antt` and `specs/Pointer.antt` say what is
+//! found in a value, and `specs/Lending.antt` what a map ends as where a value in it is lent.
 #![tactic(auto)]
 
 mod accessors;
@@ -59,6 +61,10 @@ pub enum Float {
 /// that aren't written, [`in_memory`](Value::in_memory) gives the latter, and the law `byte_order`
 /// of `cbor_model` the rest.
 ///
+/// What a value holds is had by a `match`, or by [`as_str`](Value::as_str) and its kin. What lies
+/// within it is found by [`get_str`](Value::get_str), [`get_integer`](Value::get_integer) and
+/// [`get_index`](Value::get_index), or by a path with [`pointer`](Value::pointer).
+///
 /// ```rust
 /// let mut map = Map::new(alloc);
 /// map.insert(Value::Integer(1), Value::Array(Vec::new(alloc)))?;
@@ -90,11 +96,11 @@ pub enum Value {
 
 /// A map from values to values, which lists its pairs in the order of the keys.
 ///
-/// Of n pairs, `get`, `contains_key`, `insert` and `remove` compare a key with at most as many as n
-/// has binary digits; `insert` of a key that is new, and `remove`, then move the pairs after it.
-/// So many pairs are best put in at once: `from_pairs` compares n - 1 times where the keys ascend
-/// already, and else in the order of n log n times. The other calls take the same time whatever n
-/// is.
+/// Of n pairs, `get` and its kin, `contains_key`, `insert` and `remove` compare a key with at most
+/// as many as n has binary digits; `insert` of a key that is new, and `remove`, then move the pairs
+/// after it. So many pairs are best put in at once: `from_pairs` compares n - 1 times where the keys
+/// ascend already, and else in the order of n log n times. The other calls take the same time
+/// whatever n is.
 ///
 /// ```rust
 /// let mut map = Map::new(alloc);

@@ -111,14 +111,8 @@ impl Map {
     /// assert_eq!(rt; map.get(&Value::Integer(2)), None);
     /// ```
     ///
-    /// A key is a value, so one that is a text is made of a `String`:
-    ///
-    /// ```rust
-    /// let mut map = Map::new(alloc);
-    /// map.insert(Value::Text("port".to_owned(alloc)?), Value::Integer(80))?;
-    /// let key = Value::Text("port".to_owned(alloc)?);
-    /// assert_eq!(rt; map.get(&key), Some(&Value::Integer(80)));
-    /// ```
+    /// A key is a value. [`get_str`](Map::get_str) and [`get_integer`](Map::get_integer) take a
+    /// text and an integer as they are.
     pub fn get(&self, key: &Value) -> Option<&Value>
         ensures { KeysAscend (map_view self.now)
             → option_map (λ v. view v.now) result ≡ finmap.get (map_of self.now) (view key.now) }

@@ -31,6 +31,7 @@ pub use Rattle.cbor_value.specs.View
 pub use Rattle.cbor_value.specs.Search
 pub use Rattle.cbor_value.specs.Contents
 pub use Rattle.cbor_value.specs.Lookup
+pub use Rattle.cbor_value.specs.Pointer
 pub use Rattle.cbor_value.specs.Lending
 pub use Rattle.cbor_value.specs.Rows
 pub use Rattle.cbor_decode.specs.Decoder
