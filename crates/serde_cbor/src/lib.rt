@@ -26,7 +26,8 @@
 //!
 //! The items stand in crates of their own, as `cbor_value`, `cbor_ser` and `cbor_de`. This one
 //! has them all under the paths of the Rust crate, and passes on the words that their contracts
-//! use, so that a crate above names no other but `cbor_value`, where it handles a `Value`.
+//! use, so that a crate above names no other; only one whose specs or proofs name the type `Value`
+//! names `cbor_value` too.
 #![tactic(auto)]
 
 pub mod de;
