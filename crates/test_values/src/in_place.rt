@@ -1,5 +1,10 @@
 //! Changing the values of a map in place.
 
+ghost use Rattle.std.specs.Prelude.{◌≡◌, IsTrue};
+ghost use Rattle.cbor_model.specs.Canonical.{KeysAscend};
+ghost use Rattle.cbor_model.specs.Value.{put};
+ghost use Rattle.cbor_value.specs.View.{view, map_view};
+
 use crate::checks::text;
 use cbor_value::{Map, Value};
 use std::alloc::Global;
@@ -31,6 +36,30 @@ fn changes(rt: &impl Abort, value: Option<&mut Value>, before: i128, after: i128
     let value = value.ok_or("no value")?;
     assert_eq!(rt; *value, Value::Integer(before));
     *value = Value::Integer(after);
+    Ok(())
+}
+
+/// Gives a key another value, where it is there: what a caller knows of a map that lends a value.
+fn replace(map: &mut Map, key: &Value, value: Value) -> bool
+    ensures { KeysAscend (map_view map.old) → IsTrue result
+        → map_view map.new ≡ put (view key.now) (view value) (map_view map.old) }
+{
+    match map.get_mut(key) {
+        Some(place) => {
+            *place = value;
+            true
+        }
+        None => false,
+    }
+}
+
+#[test]
+fn replaces_one_value(rt: HostRuntime) -> Done {
+    let mut map = four(rt.alloc())?;
+    assert!(rt; replace(&mut map, &Value::Integer(1), Value::Integer(11)));
+    lists(&rt, &map, [11, 20, 30, 40]);
+    assert!(rt; !replace(&mut map, &Value::Null, Value::Integer(12)));
+    lists(&rt, &map, [11, 20, 30, 40]);
     Ok(())
 }
 
