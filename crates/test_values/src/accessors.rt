@@ -25,21 +25,42 @@ fn is_of_kind(rt: &impl Abort, value: &Value, kind: usize) {
     }
 }
 
-/// One value of each kind.
-fn each_kind(alloc: Global) -> Result<[Value; 9], Fail> {
+/// `h'0102'`
+fn bytes(alloc: Global) -> Result<Value, Fail> {
+    Ok(Value::Bytes(Vec::from_slice(alloc, &[1, 2])?))
+}
+
+/// `[1, 2]`
+fn array(alloc: Global) -> Result<Value, Fail> {
+    let items = vec![in alloc; Value::Integer(1), Value::Integer(2)]?;
+    Ok(Value::Array(items))
+}
+
+/// `{1: 2}`
+fn map(alloc: Global) -> Result<Value, Fail> {
     let mut map = Map::new(alloc);
     map.insert(Value::Integer(1), Value::Integer(2))?;
-    Ok([
-        Value::Null,
-        Value::Bool(false),
-        Value::Integer(0),
-        Value::Float(Float::Half(0)),
-        Value::Bytes(Vec::from_slice(alloc, &[1, 2])?),
-        text(alloc, "IETF")?,
-        Value::Array(vec![in alloc; Value::Integer(1), Value::Integer(2)]?),
-        Value::Map(map),
-        tag(alloc, 1, Value::Integer(1363896240))?,
-    ])
+    Ok(Value::Map(map))
+}
+
+/// `1(1363896240)`
+fn time(alloc: Global) -> Result<Value, Fail> {
+    Ok(tag(alloc, 1, Value::Integer(1363896240))?)
+}
+
+/// One value of each kind.
+fn each_kind(alloc: Global) -> Result<Vec<Value>, Fail> {
+    let mut values = Vec::new(alloc);
+    values.push(Value::Null)?;
+    values.push(Value::Bool(false))?;
+    values.push(Value::Integer(0))?;
+    values.push(Value::Float(Float::Half(0)))?;
+    values.push(bytes(alloc)?)?;
+    values.push(text(alloc, "IETF")?)?;
+    values.push(array(alloc)?)?;
+    values.push(map(alloc)?)?;
+    values.push(time(alloc)?)?;
+    Ok(values)
 }
 
 #[test]
@@ -114,13 +135,20 @@ fn gives_what_strings_hold(rt: HostRuntime) -> Done {
 
 #[test]
 fn gives_what_lies_inside(rt: HostRuntime) -> Done {
-    let [_, b, _, _, _, _, array, map, tagged] = each_kind(rt.alloc())?;
-    assert_eq!(rt; b.as_bool(), Some(false));
+    assert_eq!(rt; Value::Bool(false).as_bool(), Some(false));
+    let array = array(rt.alloc())?;
     let items = array.as_array().ok_or("no array")?;
     assert!(rt; items == &[Value::Integer(1), Value::Integer(2)][..]);
-    let map = map.as_map().ok_or("no map")?;
-    assert_eq!(rt; map.get(&Value::Integer(1)), Some(&Value::Integer(2)));
-    let (tag, inner) = tagged.as_tag().ok_or("no tag")?;
+    let map = map(rt.alloc())?;
+    let pairs = map.as_map().ok_or("no map")?;
+    assert_eq!(rt; pairs.get(&Value::Integer(1)), Some(&Value::Integer(2)));
+    Ok(())
+}
+
+#[test]
+fn gives_a_tag_and_what_is_in_it(rt: HostRuntime) -> Done {
+    let time = time(rt.alloc())?;
+    let (tag, inner) = time.as_tag().ok_or("no tag")?;
     assert_eq!(rt; tag, 1);
     assert_eq!(rt; inner, &Value::Integer(1363896240));
     Ok(())
@@ -143,15 +171,24 @@ fn lends_of_each_kind(rt: HostRuntime) -> Done {
 }
 
 #[test]
-fn changes_what_it_lends(rt: HostRuntime) -> Done {
+fn changes_strings_in_place(rt: HostRuntime) -> Done {
     let alloc = rt.alloc();
-    let [_, _, _, _, mut bytes, mut word, mut array, mut map, _] = each_kind(alloc)?;
+    let mut bytes = bytes(alloc)?;
     bytes.as_bytes_mut().ok_or("no bytes")?.push(3)?;
     assert!(rt; bytes.as_bytes() == Some(&[1, 2, 3][..]));
+    let mut word = text(alloc, "IETF")?;
     word.as_text_mut().ok_or("no text")?.push('!')?;
     assert!(rt; word.as_str() == Some("IETF!"));
+    Ok(())
+}
+
+#[test]
+fn changes_arrays_and_maps_in_place(rt: HostRuntime) -> Done {
+    let alloc = rt.alloc();
+    let mut array = array(alloc)?;
     array.as_array_mut().ok_or("no array")?.push(Value::Null)?;
     assert_eq!(rt; array.as_array().map_or(0, |items| items.len()), 3);
+    let mut map = map(alloc)?;
     let pairs = map.as_map_mut().ok_or("no map")?;
     assert_eq!(rt; pairs.remove(&Value::Integer(1)), Some(Value::Integer(2)));
     assert_eq!(rt; map, Value::Map(Map::new(alloc)));
@@ -188,17 +225,23 @@ fn gives_back_what_holds_no_values(rt: HostRuntime) -> Done {
 }
 
 #[test]
-fn gives_up_what_it_holds(rt: HostRuntime) -> Done {
-    let [_, _, _, _, bytes, word, array, map, tagged] = each_kind(rt.alloc())?;
-    let bytes = bytes.into_bytes().map_err(|_| Fail::from("no bytes"))?;
-    assert!(rt; bytes.as_slice() == &[1, 2][..]);
-    let word = word.into_text().map_err(|_| Fail::from("no text"))?;
-    assert!(rt; word.as_str() == "IETF");
-    let items = array.into_array().map_err(|_| Fail::from("no array"))?;
-    assert!(rt; items.as_slice() == &[Value::Integer(1), Value::Integer(2)][..]);
-    let map = map.into_map().map_err(|_| Fail::from("no map"))?;
-    assert_eq!(rt; map.len(), 1);
-    let tagged = tagged.into_tag().map_err(|_| Fail::from("no tag"))?;
-    assert_eq!(rt; tagged, (1, Value::Integer(1363896240)));
+fn gives_up_its_string(rt: HostRuntime) -> Done {
+    let alloc = rt.alloc();
+    let bytes = bytes(alloc)?.into_bytes();
+    assert!(rt; bytes.is_ok_and(|bytes| bytes.as_slice() == &[1, 2][..]));
+    let word = text(alloc, "IETF")?.into_text();
+    assert!(rt; word.is_ok_and(|word| word.as_str() == "IETF"));
+    Ok(())
+}
+
+#[test]
+fn gives_up_its_values(rt: HostRuntime) -> Done {
+    let alloc = rt.alloc();
+    let items = array(alloc)?.into_array();
+    assert!(rt; items.is_ok_and(|items| items.len() == 2));
+    let pairs = map(alloc)?.into_map();
+    assert!(rt; pairs.is_ok_and(|pairs| pairs.len() == 1));
+    let tagged = time(alloc)?.into_tag();
+    assert!(rt; tagged.is_ok_and(|(tag, inner)| tag == 1 && inner == Value::Integer(1363896240)));
     Ok(())
 }
