@@ -300,8 +300,7 @@ fn prints_no_bytes(rt: HostRuntime) -> Done {
     de.read_tag()?;
     let text = format!(in alloc; "{de:?}")?;
     let shown = "Deserializer { source: SliceRead { offset: 1, remaining: 2, .. }, levels_left: 2, \
-        formats: Formats
-        { named: true, packed: true, standard_enums: true, legacy_enums: true }, .. }";
+        formats: Formats { named: true, packed: true, standard_enums: true, legacy_enums: true }, .. }";
     assert!(rt; text.as_str() == shown);
 
     let stream = Deserializer::from_reader(alloc, b"\x05".as_slice()).into_iter::<u8>();
