@@ -18,7 +18,7 @@ mod values;
 mod variants;
 
 pub use canonical::to_vec_canonical;
-pub use laws::same_value_same_bytes;
+pub use laws::{compare_as_bytes, same_value_same_bytes};
 pub use list::SerializeVec;
 pub use map::SerializeMap;
 pub use reading::from_value;

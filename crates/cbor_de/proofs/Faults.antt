@@ -151,7 +151,7 @@ seen_of (Ok x) v rest is =
     record { item = x.0; is = ap (λ (p : Val × List ℕ). Ok (x.0, p.1)) both; valued = sym (ap (λ (p : Val × List ℕ). p.0) both) }
 seen_of (Err d) v rest is = absurd cc
 
-fault_of : (read : Reads Raw) (d : Fault) → along value read ≡ Err d → read ≡ Err d
+pub fault_of : (read : Reads Raw) (d : Fault) → along value read ≡ Err d → read ≡ Err d
 fault_of (Ok x) d is = absurd cc
 fault_of (Err g) d is = cc
 

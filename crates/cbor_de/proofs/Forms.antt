@@ -1,6 +1,7 @@
 -- Errors that tell no wrong form, and those that a part may tell.
-use Rattle.std.proofs.Common.{◌≡◌, ◌⊎◌, ◌+◌, ℕ, Bool, List, length, IfErr, Option, Some, None, Result, Ok, Err, inl, inr, refl, sym, ap, subst}
+use Rattle.std.proofs.Common.{◌≡◌, ◌⊎◌, ◌+◌, ◌∙◌, ℕ, Bool, List, length, IfErr, Option, Some, None, Result, Ok, Err, inl, inr, refl, sym, ap, ap₂, subst, arith}
 use Rattle.cbor_model.specs.Formats.{Formats}
+use Rattle.cbor_model.specs.Raw.{Raw}
 use Rattle.cbor_model.specs.Reader.{item_at}
 use Rattle.cbor_io.specs.declared.error.Error.{Error}
 use Rattle.cbor_io.specs.declared.error.ErrorCode.{ErrorCode}
@@ -9,17 +10,21 @@ use Rattle.cbor_io.specs.Error.{code_of, offset_of, IsMessageOf}
 use Rattle.cbor_io.specs.declared.read_error.ReadErrorCode.{ReadErrorCode}
 use Rattle.cbor_read.specs.Source.{Input, TookSome}
 use Rattle.cbor_decode.specs.AtEnd.{EndRefused}
-use Rattle.cbor_decode.specs.Gives.{FailsBy, Limits, Reports, Tells, TellsNoForm, limits, values}
+use Rattle.cbor_decode.specs.Gives.{FailsBy, Limits, Reports, Step, Tells, TellsNoForm, limits, values}
 use Rattle.cbor_decode.specs.Heads.{remaining_of}
 use Rattle.cbor_decode.specs.declared.cursor.Remaining.{Remaining}
 use Rattle.cbor_decode.specs.declared.formats.Formats as declared
-use Rattle.cbor_decode.proofs.facts.Steps.{some_then, took_none}
-use Rattle.cbor_decode_as.specs.Takes.{TellsFault, formats_of}
-use Rattle.cbor_decode_as.specs.Cases.{FormAlone, IsBadKey, IsEnumCode, NoItemHere, HasCase, CaseHolds, enum_cases, key_cases, unit_cases}
+use Rattle.cbor_decode.proofs.facts.Readings.{value_seen}
+use Rattle.cbor_decode.proofs.facts.Steps.{some_then, step_then, took_none}
+use Rattle.cbor_decode_as.specs.MapAccesses.{IsMapHead}
+use Rattle.cbor_decode_as.specs.Takes.{TellsFault, formats_of, raws}
+use Rattle.cbor_decode_as.specs.Cases.{FormAlone, IsBadKey, IsEnumCode, NoItemHere, NothingFollows, HasCase, CaseHolds, enum_cases, key_cases, unit_cases}
 use Rattle.cbor_decode_as.specs.declared.variant.Form.{Form}
 use Rattle.cbor_decode_as.specs.declared.variant.Form.TheVariants as form
-use Rattle.cbor_de.specs.Forms.{WrongForms, never, told, any_of, may_tell, FormOnlyIf, MayTell}
-use Rattle.cbor_de.specs.Forms.{TellsAt, TellsKey, TellsWithin, TellsBeginning, TellsEnum, TellsNameAlone, IsBadWithin, IsNameAlone, item_form, key_form, enum_form, unit_form, part_form}
+use Rattle.cbor_decode_as.proofs.facts.Maps.{PairsSoFar, map_stops}
+use Rattle.cbor_de.specs.Forms.{WrongForms, never, told, any_of, may_tell, Began, FormOnlyIf, MayTell, MayTellContent, MayTellKey, MayTellPart}
+use Rattle.cbor_de.specs.Forms.{TellsAt, TellsKey, TellsWithin, TellsBeginning, TellsEnum, TellsNameAlone, IsBadWithin, key_form, enum_form, unit_form, part_form}
+use Rattle.cbor_de.proofs.Faults.{fault_of}
 
 -- an error that tells no form, of any type
 pub plain : (a : WrongForms) (f : Formats) (s : Input) (e : Error) → TellsNoForm (code_of e) → MayTell a f s e
@@ -96,14 +101,56 @@ with_some B x (inl c) = inl c
 with_some B x (inr b) = inr (x, b)
 
 -- the fault of an item that is taken whole
-pub item_told : (refusals : ReadErrorCode → Bool) (f : Formats) (levels : ℕ) (s : Input) (e : Error) → FormAlone code.WrongStructFormat (code_of e) → TellsFault refusals (λ l. item_at (values f l) levels) s e → MayTell item_form f s e
+pub item_told : (refusals : ReadErrorCode → Bool) (f : Formats) (levels : ℕ) (s : Input) (e : Error) → FormAlone code.WrongStructFormat (code_of e) → TellsFault refusals (λ l. item_at (values f l) levels) s e → MayTell key_form f s e
 item_told refusals f levels s e one h = told_here TellsWithin f s e (with_some (λ (n : ℕ). TellsAt code.WrongStructFormat (IsBadWithin f n) s e) levels (alone code.WrongStructFormat (IsBadWithin f levels) s e one
-    (λ is bs tells. subst (λ (k : ErrorCode). FailsBy (Reports refusals) k (s.offset + length bs) (offset_of e) (item_at (values f (limits s bs)) levels bs)) is (h bs tells))))
+    (λ is bs tells.
+    let l = limits s bs in
+    let d = subst (λ (k : ErrorCode). FailsBy (Reports refusals) k (s.offset + length bs) (offset_of e) (item_at (values f l) levels bs)) is (h bs tells) in
+    (d.0, d.1, fault_of (item_at (raws f l) levels bs) _ (sym (value_seen f l levels bs) ∙ d.2)))))
+
+-- ---- keys
 
 -- a next key that may not begin as it does
-pub key_told : (f : Formats) (remaining : Remaining) (s : Input) (e : Error) → FormAlone code.WrongStructFormat (code_of e) → HasCase s e (key_cases f remaining) → MayTell key_form f s e
-key_told f remaining s e one h = told_here TellsKey f s e (with_some (λ (r : Remaining). TellsAt code.WrongStructFormat (IsBadKey f (remaining_of r)) s e) remaining (alone code.WrongStructFormat (IsBadKey f (remaining_of remaining)) s e one
-    (λ is bs tells. subst (λ (k : ErrorCode). CaseHolds (key_cases f remaining (limits s bs) bs) k (offset_of e)) is (h.told bs tells))))
+pub key_told : (f : Formats) (remaining : Remaining) (s : Input) (e : Error) → FormAlone code.WrongStructFormat (code_of e) → HasCase s e (key_cases f remaining) → MayTellKey never f remaining s e
+key_told f remaining s e one h = alone code.WrongStructFormat (IsBadKey f (remaining_of remaining)) s e one
+    (λ is bs tells. subst (λ (k : ErrorCode). CaseHolds (key_cases f remaining (limits s bs) bs) k (offset_of e)) is (h.told bs tells))
+
+-- whatever the type of the key
+pub key_of : (a : WrongForms) (f : Formats) (remaining : Remaining) (s : Input) (e : Error) → MayTellKey never f remaining s e → MayTellKey a f remaining s e
+key_of a f remaining s e (inl h) = inl (plain a f s e h)
+key_of a f remaining s e (inr h) = inr h
+
+module _ (P : List (Raw × Raw) → Type 0) (f : declared.Formats) (levels left : ℕ) (all r : Remaining) (s first t : Input) (head : Step s first (λ l bs rest. IsMapHead (formats_of f) l (item_at (raws (formats_of f) l) levels bs) left all rest)) (so : Step first t (PairsSoFar P (formats_of f) left (remaining_of all) (remaining_of r))) where
+  -- the map, of which some pairs were read
+  record MapBehind (l : Limits) (bs rest : List ℕ) : Type 0 where
+    mid : List ℕ
+    begins : IsMapHead (formats_of f) l (item_at (raws (formats_of f) l) levels bs) left all mid
+    pairs : PairsSoFar P (formats_of f) left (remaining_of all) (remaining_of r) l mid rest
+
+  map_behind : Step s t MapBehind
+  map_behind = step_then s first t (λ l bs rest. IsMapHead (formats_of f) l (item_at (raws (formats_of f) l) levels bs) left all rest) (PairsSoFar P (formats_of f) left (remaining_of all) (remaining_of r)) MapBehind
+      (λ l bs mid rest begins pairs. record { mid = mid; begins = begins; pairs = pairs }) head so
+
+  -- its next key may not begin as it does
+  bad_within : (e : Error) → TellsKey (formats_of f) r t e → TellsWithin (formats_of f) s e
+  bad_within e h = (
+    levels,
+    record {
+      is = h.is;
+      told = λ bs tells.
+          let one = map_behind.told bs tells in
+          let same : limits t one.rest ≡ limits s bs = ap₂ (λ (n : ℕ) (room : Option ℕ). record { total = n; room = room }) one.total map_behind.took.room in
+          let bad = subst (λ (l : Limits). IsBadKey (formats_of f) (remaining_of r) l one.rest (offset_of e)) same (h.told one.rest one.tells) in
+          map_stops P (formats_of f) (limits s bs) levels left all r bs one.holds.mid one.rest (offset_of e) one.holds.begins one.holds.pairs bad;
+    },
+  )
+
+  -- what the reading of its next key tells
+  pub key_in_map : (a : WrongForms) (g : declared.Formats) (e : Error) → g ≡ f → MayTellKey a (formats_of g) r t e → MayTell (any_of key_form a) (formats_of f) s e
+  key_in_map a g e same (inl h) = of_right key_form a (formats_of f) s e (later_in a f g s t e same map_behind.took h)
+  key_in_map a g e same (inr h) = of_left key_form a (formats_of f) s e (here TellsWithin (formats_of f) s e (bad_within e (subst (λ (x : declared.Formats). TellsKey (formats_of x) r t e) same h)))
+
+-- ---- enums
 
 -- an enum up to its identifier
 enum_by : (f : Formats) (levels : ℕ) (s : Input) (e : Error) (k : ErrorCode) → code_of e ≡ k → IsEnumCode k
@@ -130,20 +177,79 @@ enum_by f levels s e code.OutOfMemory is h at = inl (subst TellsNoForm (sym is) 
 pub enum_told : (f : Formats) (levels : ℕ) (s : Input) (e : Error) → IsEnumCode (code_of e) → HasCase s e (enum_cases f levels) → MayTell enum_form f s e
 enum_told f levels s e code h = told_here TellsEnum f s e (with_some (λ (n : ℕ). TellsBeginning f n s e) levels (enum_by f levels s e (code_of e) refl code h.told))
 
+-- ---- the content of a variant
+
+-- at this place nothing follows the identifier
+name_alone : (k : ErrorCode) (f : Formats) (form : Form) (s t : Input) (e : Error) → Began f form s t → code_of e ≡ k
+    → ((bs : List ℕ) → Tells t bs → (offset_of e + length bs ≡ (limits t bs).total) × NothingFollows form bs) → TellsNameAlone k f s e
+name_alone k f form s t e began is place = (
+  began.levels,
+  record {
+    is = is;
+    told = λ bs tells.
+        let one = began.step.told bs tells in
+        let end = place one.rest one.tells in
+        record {
+          names = began.names;
+          left = began.left;
+          index = began.index;
+          form = form;
+          rest = one.rest;
+          begins = one.holds;
+          nothing = end.1;
+          place = omega (arith, end.0, one.total);
+        };
+  },
+)
+
 -- a variant of no part
-unit_told : (f : Formats) (form : Form) (s : Input) (e : Error) → FormAlone code.ArrayTooLong (code_of e) → HasCase s e (unit_cases form) → MayTell unit_form f s e
-unit_told f form s e one h = told_here (TellsNameAlone code.ArrayTooLong) f s e (with_some (λ (w : Form). TellsAt code.ArrayTooLong (IsNameAlone w) s e) form (alone code.ArrayTooLong (IsNameAlone form) s e one
-    (λ is bs tells. subst (λ (k : ErrorCode). CaseHolds (unit_cases form (limits s bs) bs) k (offset_of e)) is (h.told bs tells))))
+unit_told : (f : Formats) (form : Form) (t : Input) (e : Error) → FormAlone code.ArrayTooLong (code_of e) → HasCase t e (unit_cases form) → MayTellContent unit_form f form t e
+unit_told f form t e (inl other) h = λ s began. inl other
+unit_told f form t e (inr is) h = λ s began. here (TellsNameAlone code.ArrayTooLong) f s e (name_alone code.ArrayTooLong f form s t e began is
+    (λ bs tells. subst (λ (k : ErrorCode). CaseHolds (unit_cases form (limits t bs) bs) k (offset_of e)) is (h.told bs tells)))
 
-pub unit_err : {A : Type 0} (f : Formats) (form : Form) (s : Input) (r : Result A Error) → IfErr r (λ e. FormAlone code.ArrayTooLong (code_of e)) → IfErr r (λ e. HasCase s e (unit_cases form)) → IfErr r (MayTell unit_form f s)
-unit_err f form s (Ok x) one h = h
-unit_err f form s (Err e) one h = unit_told f form s e one h
+pub unit_err : {A : Type 0} (f : Formats) (form : Form) (t : Input) (r : Result A Error) → IfErr r (λ e. FormAlone code.ArrayTooLong (code_of e)) → IfErr r (λ e. HasCase t e (unit_cases form)) → IfErr r (MayTellContent unit_form f form t)
+unit_err f form t (Ok x) one h = h
+unit_err f form t (Err e) one h = unit_told f form t e one h
 
--- an array in which nothing follows the identifier
-pub none_told : (f : Formats) (remaining : Remaining) (s : Input) (e : Error) → TellsNoForm (code_of e) ⊎ NoItemHere code.ArrayTooShort remaining s e → MayTell part_form f s e
-none_told f remaining s e (inl h) = inl h
-none_told f remaining s e (inr h) = here (TellsNameAlone code.ArrayTooShort) f s e
-    (form.Array remaining, record { is = h.code; told = λ bs tells. (ap (λ (n : ℕ). n + length bs) h.place, h.told bs tells) })
+-- an array in which nothing follows the identifier, where a part is read
+pub none_told : (a : WrongForms) (f : Formats) (remaining : Remaining) (t : Input) (e : Error) → TellsNoForm (code_of e) ⊎ NoItemHere code.ArrayTooShort remaining t e → MayTellPart a f (form.Array remaining) t e
+none_told a f remaining t e (inl other) = inl (plain a f t e other)
+none_told a f remaining t e (inr h) = inr (record { is = h.code; place = h.place; told = h.told })
+
+pub part_plain : (a : WrongForms) (f : Formats) (form : Form) (t : Input) (e : Error) → TellsNoForm (code_of e) → MayTellPart a f form t e
+part_plain a f form t e other = inl (plain a f t e other)
+
+-- what the part tells, of what was answered
+pub part_err : {A : Type 0} (a : WrongForms) (f : Formats) (form : Form) (t : Input) (r : Result A Error) → IfErr r (MayTell a f t) → IfErr r (MayTellPart a f form t)
+part_err a f form t (Ok x) h = h
+part_err a f form t (Err e) h = inl h
+
+-- the content of one part
+pub part_content : (a : WrongForms) (f : Formats) (form : Form) (t : Input) (e : Error) → MayTellPart a f form t e → MayTellContent (any_of part_form a) f form t e
+part_content a f form t e (inl h) = λ s began. of_right part_form a f s e (later a f s t e began.step.took h)
+part_content a f form t e (inr h) = λ s began. of_left part_form a f s e (here (TellsNameAlone code.ArrayTooShort) f s e
+    (name_alone code.ArrayTooShort f form s t e began h.is (λ bs tells. (ap (λ (n : ℕ). n + length bs) h.place, h.told bs tells))))
+
+-- an error that tells no form
+pub content_plain : (a : WrongForms) (f : Formats) (form : Form) (t : Input) (e : Error) → TellsNoForm (code_of e) → MayTellContent a f form t e
+content_plain a f form t e other = λ s began. plain a f s e other
+
+-- what is told behind what was taken of the content
+pub content_later : (a : WrongForms) (f g : declared.Formats) (form : Form) (t m : Input) (e : Error) → g ≡ f → TookSome t m → MayTell a (formats_of g) m e → MayTellContent a (formats_of f) form t e
+content_later a f g form t m e same took h = λ s began. later_in a f g s m e same (some_then s t m began.step.took took) h
+
+-- what a part tells
+pub content_right : (a b : WrongForms) (f : Formats) (form : Form) (t : Input) (e : Error) → MayTellContent b f form t e → MayTellContent (any_of a b) f form t e
+content_right a b f form t e h = λ s began. of_right a b f s e (h s began)
+
+pub content_left : (a b : WrongForms) (f : Formats) (form : Form) (t : Input) (e : Error) → MayTellContent a f form t e → MayTellContent (any_of a b) f form t e
+content_left a b f form t e h = λ s began. of_left a b f s e (h s began)
+
+-- the whole enum
+pub began_err : {A : Type 0} (a : WrongForms) (f g : declared.Formats) (form : Form) (s t : Input) (r : Result A Error) → g ≡ f → Began (formats_of f) form s t → IfErr r (MayTellContent a (formats_of g) form t) → IfErr r (MayTell a (formats_of f) s)
+began_err a f g form s t (Ok x) same began h = h
+began_err a f g form s t (Err e) same began h = subst (λ (x : declared.Formats). MayTellContent a (formats_of x) form t e) same h s began
 
 -- a message
 pub message_form : (text : Option (List ℕ)) (k : ErrorCode) → IsMessageOf text k → TellsNoForm k

@@ -22,6 +22,7 @@ pub mod ItemLists
 pub mod StreamSteps
 pub mod Taken
 pub mod HeadsTaken
+pub mod TagTaken
 pub mod ItemFronts
 pub mod Items
 pub mod StreamAnswers

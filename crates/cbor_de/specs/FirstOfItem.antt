@@ -1,13 +1,14 @@
--- The refusal of an item at the front of the bytes to come, by the definitions.
-use Rattle.std.specs.Prelude.{false, ◌⊎◌, ℕ, Bool, List}
-use Rattle.cbor_model.specs.Allowed.{Limits}
+-- The refusal of an item at the front of the bytes to come, or of a whole input, by the definitions.
+use Rattle.std.specs.Prelude.{false, ◌⊎◌, ℕ, Bool, List, length, Option}
+use Rattle.cbor_model.specs.Allowed.{Limits, limits_of}
 use Rattle.cbor_model.specs.Formats.{all_formats}
 use Rattle.cbor_model.specs.Raw.{AreBytes}
+use Rattle.cbor_model.specs.Reader.{read_value_in}
 use Rattle.cbor_io.specs.declared.error.Error.{Error}
 use Rattle.cbor_io.specs.declared.read_error.ReadErrorCode.{ReadErrorCode}
 use Rattle.cbor_io.specs.Error.{IsOutOfMemory}
 use Rattle.cbor_decode.specs.FirstRefusal.{TellsFirst}
-use Rattle.cbor_decode.specs.Gives.{IsMemoryOrFault, Reports, Tells}
+use Rattle.cbor_decode.specs.Gives.{Fails, IsMemoryOrFault, Reports, Tells}
 use Rattle.cbor_read.specs.Source.{Input}
 use Rattle.cbor_decode_as.specs.Takes.{TellsItem, WhereTotal}
 
@@ -23,3 +24,8 @@ ItemRefusedFirst total = (refusals : ReadErrorCode → Bool) (levels : ℕ) (s :
     → TellsItem false total refusals all_formats levels s e
     → WhereTotal total (IsOutOfMemory e ⊎ (Reports refusals × IsMemoryOrFault e)
     ⊎ TellsFirst (bounds_of levels s) bytes e)
+
+-- An error that tells the first refusal that an input allows tells the fault of the reference reader.
+abbrev pub FirstIsFault : Type 0
+FirstIsFault = (room : Option ℕ) (bytes : List ℕ) (e : Error) → AreBytes bytes
+    → TellsFirst (limits_of room) bytes e → Fails (length bytes) e (read_value_in room bytes)

@@ -10,6 +10,7 @@ pub mod Alike
 pub mod FirstOfItem
 pub mod ItemTaken
 pub mod HeadsTaken
+pub mod TagTaken
 pub mod Streams
 pub use Rattle.cbor_io.specs.Error
 pub use Rattle.cbor_decode_as.specs.Takes

@@ -13,7 +13,7 @@ ghost use Rattle.cbor_decode_as.specs.MapAccesses.{TakesKey};
 ghost use Rattle.cbor_de.specs.Structs.{IsField, place_in, missing_text, duplicate_text};
 ghost use Rattle.cbor_decode_as.specs.Takes.{OnceMade, TakesItem};
 ghost use Rattle.cbor_decode_as.specs.Takes.{formats_of};
-ghost use Rattle.cbor_de.specs.Forms.{MayTell, key_form};
+ghost use Rattle.cbor_de.specs.Forms.{MayTellKey, never};
 
 use crate::de::Deserializer;
 use cbor_decode::Remaining;
@@ -105,8 +105,8 @@ pub fn next_key<'de, R: Read<'de>>(
     ensures remains { IfOk result (λ next. MatchOption next (remaining.new ≡ Counted 0)
         (λ k. most_left remaining.new (R.source de.new.decoder.source)
         < most_left remaining.old (R.source de.old.decoder.source))) }
-    ensures form { IfErr result (MayTell key_form (formats_of de.old.decoder.formats)
-        (R.source de.old.decoder.source)) }
+    ensures form { IfErr result (MayTellKey never (formats_of de.old.decoder.formats)
+        remaining.old (R.source de.old.decoder.source)) }
     ensures levels { de.new.decoder.levels ≡ de.old.decoder.levels }
     ensures formats { de.new.decoder.formats ≡ de.old.decoder.formats }
 {

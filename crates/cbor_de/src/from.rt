@@ -9,10 +9,9 @@ ghost use Rattle.cbor_model.specs.Laws.{SpellsValue};
 ghost use Rattle.cbor_model.specs.Plain.{Val};
 ghost use Rattle.cbor_model.specs.Raw.{AreBytes, longest_joined};
 ghost use Rattle.cbor_model.specs.Readable.{SpellsAs};
-ghost use Rattle.cbor_model.specs.Reader.{read_value, read_value_in};
 ghost use Rattle.cbor_io.specs.Error.{IsOutOfMemory};
 ghost use Rattle.cbor_decode.specs.FirstRefusal.{TellsFirst};
-ghost use Rattle.cbor_decode.specs.Gives.{Fails, FailsOrFaults, Gave};
+ghost use Rattle.cbor_decode.specs.Gives.{Gave};
 ghost use Rattle.cbor_decode.specs.Gives.{IsMemoryOrFault, IsScratchOrMemory};
 ghost use Rattle.cbor_read.specs.Source.{asks_for, start_of_reader, start_of_slice};
 ghost use Rattle.cbor_decode_as.specs.Takes.{context, formats_of, lending, MemoryFor, WhereTotal};
@@ -145,9 +144,6 @@ pub fn from_slice<'a, T: Deserialize<'a, SliceRead<'a>>>(
     // A refusal of it is the first that the bytes allow, or memory ran out.
     ensures first { IfErr result (λ e. WhereTotal T.total
         (IsOutOfMemory e ⊎ TellsFirst (limits_of None) slice.now e)) }
-    // It tells the fault that the reference reader meets, or that memory ran out.
-    ensures refused { IfErr result (λ e.
-        WhereTotal T.total (Fails (length slice.now) e (read_value slice.now))) }
     // Where the type passes over an item that it doesn't read, a refusal tells the fault of what
     // the bytes begin with, and is a message exactly where an item stands there that isn't read;
     // of one that is read, it tells that more follows.
@@ -199,8 +195,6 @@ pub fn from_slice_with_scratch<'a, T: Deserialize<'a, SliceReadFixed<'a, 'a>>>(
         → MatchResult result (λ x. ⊥) (λ e. WhereTotal T.total (IsScratchOrMemory e)) }
     ensures first { IfErr result (λ e. WhereTotal T.total
         (IsOutOfMemory e ⊎ TellsFirst (limits_of (Some (length scratch.old))) slice.now e)) }
-    ensures refused { IfErr result (λ e. WhereTotal T.total (Fails (length slice.now) e
-        (read_value_in (Some (length scratch.old)) slice.now))) }
     ensures fault { IfErr result (λ e. WhereTotal T.passes_over (RefusesBytes ⊥
         (T.reads from_slice_context) (Some (length scratch.old)) slice.now e)) }
     ensures form { IfErr result (MayTell T.wrong_forms all_formats
@@ -236,8 +230,6 @@ pub fn from_mut_slice<'a, T: Deserialize<'a, MutSliceRead<'a>>>(
         (λ e. WhereTotal T.total (IsOutOfMemory e)) }
     ensures first { IfErr result (λ e. WhereTotal T.total
         (IsOutOfMemory e ⊎ TellsFirst (limits_of None) slice.old e)) }
-    ensures refused { IfErr result (λ e.
-        WhereTotal T.total (Fails (length slice.old) e (read_value slice.old))) }
     ensures fault { IfErr result (λ e. WhereTotal T.passes_over
         (RefusesBytes ⊥ (T.reads from_mut_slice_context) None slice.old e)) }
     ensures form { IfErr result
@@ -270,8 +262,6 @@ pub fn from_vec<'de, T: DeserializeOwned + Deserialize<'de, VecRead>>(
         (λ e. WhereTotal T.total (IsOutOfMemory e)) }
     ensures first { IfErr result (λ e. WhereTotal T.total
         (IsOutOfMemory e ⊎ TellsFirst (limits_of None) bytes.items e)) }
-    ensures refused { IfErr result (λ e.
-        WhereTotal T.total (Fails (length bytes.items) e (read_value bytes.items))) }
     ensures fault { IfErr result (λ e. WhereTotal T.passes_over
         (RefusesBytes ⊥ (T.reads from_reader_context) None bytes.items e)) }
     ensures form { IfErr result (MayTell T.wrong_forms all_formats
@@ -324,10 +314,6 @@ pub fn from_reader<'de, T: DeserializeOwned + Deserialize<'de, IoRead<R>>, R: io
     ensures first { (bytes : List ℕ) → Gave (R.remaining reader) bytes
         → IfErr result (λ e. WhereTotal T.total
         (IsMemoryOrFault e ⊎ TellsFirst (limits_of None) bytes e)) }
-    // It tells the fault that the reference reader meets, with the same exceptions.
-    ensures refused { (bytes : List ℕ) → Gave (R.remaining reader) bytes
-        → IfErr result (λ e.
-        WhereTotal T.total (FailsOrFaults (length bytes) e (read_value bytes))) }
     // Of a type that passes over what it doesn't read, with the same exceptions:
     ensures fault { (bytes : List ℕ) → Gave (R.remaining reader) bytes
         → IfErr result (λ e. WhereTotal T.passes_over

@@ -1,11 +1,13 @@
 //! Laws about what is read, which are the contracts of functions that do nothing.
 ghost use Rattle.cbor_de.specs.Alike.{SourcesAgree, OwnedAgree};
-ghost use Rattle.cbor_de.specs.FirstOfItem.{ItemRefusedFirst};
+ghost use Rattle.cbor_de.specs.FirstOfItem.{FirstIsFault, ItemRefusedFirst};
 ghost use Rattle.cbor_de.specs.ItemTaken.{ItemTaken};
 ghost use Rattle.cbor_de.specs.HeadsTaken.{HeadsTaken};
+ghost use Rattle.cbor_de.specs.TagTaken.{TagTaken};
 ghost use Rattle.cbor_decode.specs.declared.head.Head.TheVariants.{Array, Map};
 
 use crate::deserialize::{DeserializeOwned, Readable};
+use cbor_model::{first_refusal, none_allowed, one_first_refusal};
 
 /// Two readings of one input as a `Value` answer alike, whatever their sources: the same value; or
 /// errors of one code at one offset, since there is one first refusal. Only lack of memory, a
@@ -37,6 +39,18 @@ pub fn item_refused_first<T: Readable>()
     ensures { ItemRefusedFirst T.total }
 {}
 
+/// An error of a whole input that tells the first refusal that its bytes allow tells the fault that
+/// the reference reader meets, by its code and at its offset.
+///
+/// A caller gives it the clause `first` of a `from_*`.
+pub fn first_is_fault()
+    ensures { FirstIsFault }
+{
+    first_refusal();
+    one_first_refusal();
+    none_allowed();
+}
+
 /// What `deserialize` takes, by the definitions alone. Ok: the bytes to come were the spelling of
 /// an item that the type reads so, acceptable within the levels that are left and with keys of the
 /// formats that are read, and then those that are still to come. Err: no such item is there whose
@@ -56,4 +70,14 @@ pub fn item_taken<T: Readable>()
 pub fn heads_taken()
     ensures arrays { HeadsTaken Array 4 }
     ensures maps { HeadsTaken Map 5 }
+{}
+
+/// What `read_tag` takes, by the definitions alone. Some: the bytes to come were the head of a tag
+/// (major type 6) of that number, and then those that are still to come, and a level was left. None:
+/// no tag's head begins, and nothing was taken. Err: the head that begins is cut off, or no level is
+/// left for the item behind it; or memory ran out, or the source reported a fault.
+///
+/// A caller gives it the clause `read` of the call.
+pub fn tag_taken()
+    ensures { TagTaken }
 {}

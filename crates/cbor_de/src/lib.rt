@@ -43,7 +43,10 @@ pub use field::{Field, duplicate_field, missing_field, next_key};
 pub use field_type::FieldType;
 pub use from::{from_mut_slice, from_reader, from_slice, from_slice_with_scratch, from_vec};
 pub use item_list::{ReadTuple, ReadableTuple};
-pub use laws::{heads_taken, item_refused_first, item_taken, owned_agree, sources_agree};
+pub use laws::{
+    first_is_fault, heads_taken, item_refused_first, item_taken, owned_agree, sources_agree,
+    tag_taken,
+};
 pub use map::MapAccess;
 pub use sequence::SeqAccess;
 pub use stream::StreamDeserializer;

@@ -16,7 +16,7 @@ ghost use Rattle.cbor_decode_as.specs.MapAccesses.{IsMapHead, RefusesMap, TakesK
 ghost use Rattle.cbor_decode_as.specs.MapAccesses.{TakesMapEnd};
 ghost use Rattle.cbor_read.specs.Source.{TookSome};
 ghost use Rattle.cbor_decode_as.specs.Takes.{TakesItem, WhateverTaken, context, formats_of, raws};
-ghost use Rattle.cbor_de.specs.Forms.{MayTell, any_of, key_form};
+ghost use Rattle.cbor_de.specs.Forms.{MayTell, MayTellKey};
 ghost use Rattle.cbor_de.specs.contracts.de.Deserializer.{the_row};
 
 use crate::de::Deserializer;
@@ -132,8 +132,9 @@ impl<'a, R: Source> MapAccess<'a, R> {
             (self.new.remaining ≡ Counted 0)
             (λ k. most_left self.new.remaining (R.source self.new.de.now.decoder.source)
             < most_left self.old.remaining (R.source self.old.de.now.decoder.source))) }
-        ensures form { IfErr result (MayTell (any_of key_form K.wrong_forms)
-            (formats_of self.old.de.now.decoder.formats)
+        // The key alone that may not begin as it does is told so, at its first byte.
+        ensures form { IfErr result (MayTellKey K.wrong_forms
+            (formats_of self.old.de.now.decoder.formats) self.old.remaining
             (R.source self.old.de.now.decoder.source)) }
         // Of a key that may begin as it does, it is the reading of `K` that refuses.
         ensures bad_key { IfErr result (TellsBadKey R.refusals

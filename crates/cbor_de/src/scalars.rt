@@ -7,7 +7,7 @@ ghost use Rattle.cbor_model.specs.Readable.{PassesTags, IsBool, IsInteger, IsUni
 ghost use Rattle.cbor_model.specs.Reader.{item_at};
 ghost use Rattle.cbor_io.specs.Error.{code_of};
 ghost use Rattle.cbor_decode.specs.Gives.{Advances, TellsNoForm, TellsNoKey};
-ghost use Rattle.cbor_decode_as.specs.TaggedHeads.{OpensAt};
+ghost use Rattle.cbor_decode_as.specs.TaggedHeads.{TakesTaggedHead};
 ghost use Rattle.cbor_decode_as.specs.Scalars.{IsFloatItem};
 ghost use Rattle.cbor_decode_as.specs.Strings.{IsMadeOf, IsNoKey, LendsBytes, LendsString};
 ghost use Rattle.cbor_decode_as.specs.Strings.{LendsText};

@@ -20,7 +20,7 @@ ghost use Rattle.cbor_de.specs.Structs.{IsAny, IsField, place_in, missing_text, 
 ghost use Rattle.cbor_decode_as.specs.Takes.{TakesItem, IsRead, IsNotRead, Refuses};
 ghost use Rattle.cbor_decode_as.specs.Takes.{WhateverTaken, context, formats_of, raws};
 ghost use Rattle.cbor_read.specs.Source.{TookSome};
-ghost use Rattle.cbor_de.specs.Forms.{MayTell, item_form};
+ghost use Rattle.cbor_de.specs.Forms.{MayTell, key_form};
 ghost use Rattle.cbor_de.specs.contracts.de.Deserializer.{the_row};
 
 use crate::de::Deserializer;
@@ -345,7 +345,7 @@ impl<'a, R: Source> StructAccess<'a, R> {
             IsAny self.old.de.now.decoder.levels
             (R.source self.old.de.now.decoder.source)
             (R.source self.new.de.now.decoder.source) result }
-        ensures form { IfErr result (MayTell item_form
+        ensures form { IfErr result (MayTell key_form
             (formats_of self.old.de.now.decoder.formats)
             (R.source self.old.de.now.decoder.source)) }
         ensures due { IfOk result (λ u. self.new.value_due ≡ false) }

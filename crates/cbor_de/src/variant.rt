@@ -21,7 +21,7 @@ ghost use Rattle.cbor_decode_as.specs.Variants.{IsPartsHead, RefusesParts, Takes
 ghost use Rattle.cbor_decode_as.specs.Variants.{content_at};
 ghost use Rattle.cbor_decode_as.specs.Variants.{TellsAlone, alone_text};
 ghost use Rattle.cbor_decode_as.specs.declared.variant.Form.TheVariants.{Array};
-ghost use Rattle.cbor_de.specs.Forms.{MayTell, any_of, part_form};
+ghost use Rattle.cbor_de.specs.Forms.{MayTellPart};
 ghost use Rattle.cbor_de.specs.contracts.de.Deserializer.{the_row};
 
 use crate::de::Deserializer;
@@ -97,14 +97,15 @@ impl<'de, R: Read<'de>> Deserializer<R> {
     }
 
     // Reads the only item of an array that remains.
-    #[tactic(auto, using(cbor_decode_as::proofs::facts::Places::too_short_first, cbor_decode_as::proofs::facts::Places::too_short_later, crate::proofs::Forms::plain))]
+    #[tactic(auto, using(cbor_decode_as::proofs::facts::Places::too_short_first, cbor_decode_as::proofs::facts::Places::too_short_later, crate::proofs::Forms::part_plain))]
     fn only_item<T: Deserialize<'de, R>>(&mut self, mut remaining: Remaining) -> Result<T>
         ensures read { TakesContent R.refusals (formats_of self.old.decoder.formats)
             (IsPart (T.reads (context self.old.decoder.formats R.lends)))
             self.old.decoder.levels (Array remaining)
             (R.source self.old.decoder.source) (R.source self.new.decoder.source) result }
-        ensures form { IfErr result (MayTell (any_of part_form T.wrong_forms)
-            (formats_of self.old.decoder.formats) (R.source self.old.decoder.source)) }
+        ensures form { IfErr result (MayTellPart T.wrong_forms
+            (formats_of self.old.decoder.formats) (Array remaining)
+            (R.source self.old.decoder.source)) }
         ensures too_short { IfErr result (TellsTooShort R.refusals (Array remaining)
             (R.source self.old.decoder.source)) }
         ensures levels { self.new.decoder.levels ≡ self.old.decoder.levels }
@@ -119,6 +120,7 @@ impl<'de, R: Read<'de>> Deserializer<R> {
 
 /// Reads the content of a variant of one part, after its identifier. An identifier alone is refused
 /// with this text, and an array in which nothing follows it with `ArrayTooShort`.
+#[tactic(auto, using(crate::proofs::Forms::part_plain))]
 pub fn one_part<'de, R: Read<'de>, T: Deserialize<'de, R>>(
     de: &mut Deserializer<R>,
     form: Form,
@@ -129,8 +131,8 @@ pub fn one_part<'de, R: Read<'de>, T: Deserialize<'de, R>>(
         de.old.decoder.levels form
         (R.source de.old.decoder.source) (R.source de.new.decoder.source) result }
     ensures alone { IfErr result (TellsAlone alone.now form) }
-    ensures form { IfErr result (MayTell (any_of part_form T.wrong_forms)
-        (formats_of de.old.decoder.formats) (R.source de.old.decoder.source)) }
+    ensures form { IfErr result (MayTellPart T.wrong_forms
+        (formats_of de.old.decoder.formats) form (R.source de.old.decoder.source)) }
     ensures too_short { IfErr result (TellsTooShort R.refusals form
         (R.source de.old.decoder.source)) }
     ensures levels { de.new.decoder.levels ≡ de.old.decoder.levels }
@@ -226,8 +228,9 @@ impl<'a, R: Source> VariantAccess<'a, R> {
             result }
         ensures alone { IfErr result
             (TellsAlone (alone_text (codes "newtype")) self.entry.form) }
-        ensures form { IfErr result (MayTell (any_of part_form T.wrong_forms)
-            (formats_of self.entry.de.now.decoder.formats)
+        // That nothing follows the identifier is told there alone.
+        ensures form { IfErr result (MayTellPart T.wrong_forms
+            (formats_of self.entry.de.now.decoder.formats) self.entry.form
             (R.source self.entry.de.now.decoder.source)) }
         ensures too_short { IfErr result (TellsTooShort R.refusals self.entry.form
             (R.source self.entry.de.now.decoder.source)) }
@@ -271,8 +274,9 @@ impl<'a, R: Source> VariantAccess<'a, R> {
             result }
         ensures alone { IfErr result
             (TellsAlone (alone_text (codes "struct")) self.entry.form) }
-        ensures form { IfErr result (MayTell (any_of part_form T.wrong_forms)
-            (formats_of self.entry.de.now.decoder.formats)
+        // That nothing follows the identifier is told there alone.
+        ensures form { IfErr result (MayTellPart T.wrong_forms
+            (formats_of self.entry.de.now.decoder.formats) self.entry.form
             (R.source self.entry.de.now.decoder.source)) }
         ensures too_short { IfErr result (TellsTooShort R.refusals self.entry.form
             (R.source self.entry.de.now.decoder.source)) }

@@ -3,7 +3,7 @@ use Rattle.std.specs.Prelude.{⊤, ◌≡◌, ◌+◌, ◌⊎◌, ℕ, Bool, fal
 use Rattle.std.specs.Prelude.{Some, None, Ok}
 use Rattle.cbor_model.specs.Formats.{Formats}
 use Rattle.cbor_model.specs.Refusal.{end_in_array, end_in_map, wrong_struct_format}
-use Rattle.cbor_model.specs.Reader.{next_at, item_at}
+use Rattle.cbor_model.specs.Reader.{next_at}
 use Rattle.cbor_model.specs.Reader as reader
 use Rattle.cbor_io.specs.declared.error.Error.{Error}
 use Rattle.cbor_io.specs.declared.error.ErrorCode.{ErrorCode}
@@ -16,11 +16,12 @@ use Rattle.cbor_read.specs.Source.{Input}
 use Rattle.cbor_decode.specs.Gives.{FailsAs, Limits, limits, Reports, Tells, TellsNoForm}
 use Rattle.cbor_decode.specs.Heads.{remaining_of}
 use Rattle.cbor_decode.specs.declared.cursor.Remaining.{Remaining}
-use Rattle.cbor_decode_as.specs.Accesses.{IsArrayHead}
+use Rattle.cbor_decode.specs.declared.head.Head.TheVariants.{Array}
+use Rattle.cbor_decode_as.specs.Begins.{Begins}
 use Rattle.cbor_decode_as.specs.MapAccesses.{key_front}
-use Rattle.cbor_decode_as.specs.Takes.{raws, ExcusedBy}
+use Rattle.cbor_decode_as.specs.Takes.{ExcusedBy}
 use Rattle.cbor_decode_as.specs.Variants.{pair_head_at, reads_shape, shape_of}
-use Rattle.cbor_decode_as.specs.Tags.{IsBehindTags}
+use Rattle.cbor_decode_as.specs.Tags.{passed_at}
 use Rattle.cbor_decode_as.specs.declared.variant.Form.{Form}
 use Rattle.cbor_decode_as.specs.declared.variant.Form.TheVariants as form
 
@@ -87,12 +88,12 @@ pub record NoItemHere (none : ErrorCode) (remaining : Remaining) (s : Input) (e 
   pub place : offset_of e ≡ s.offset
   pub told : (bs : List ℕ) → Tells s bs → NoItem remaining bs
 
--- An array is at the front, and at this offset, where its first item would stand, none comes.
-pub record IsEmptyArray (f : Formats) (levels : ℕ) (l : Limits) (bs : List ℕ) (at : ℕ) : Type 0 where
+-- An array begins at the front, and at this offset, where its first item would stand, none comes.
+pub record IsEmptyArray (levels : ℕ) (l : Limits) (bs : List ℕ) (at : ℕ) : Type 0 where
   pub left : ℕ
   pub remaining : Remaining
   pub rest : List ℕ
-  pub head : IsArrayHead f l (item_at (raws f l) levels bs) left remaining rest
+  pub head : Begins Array levels left remaining bs rest
   pub place : at + length rest ≡ l.total
   pub none : NoItem remaining rest
 
@@ -123,26 +124,26 @@ IsEnumCode code = ⊤
 -- of an enum within no tag
 abbrev pub untagged_cases : Formats → ℕ → Limits → List ℕ → Cases
 untagged_cases f levels l bs = record {
-  too_short = IsEmptyArray f levels l bs;
+  too_short = IsEmptyArray levels l bs;
   too_long = λ at. ⊥;
   wrong_enum = IsInOtherForm f l bs;
   wrong_struct = IsBadPair f levels l bs;
 }
 
--- what holds after all tags of the item at the front
-pub record BehindTags (f : Formats) (levels : ℕ) (l : Limits) (bs : List ℕ) (P : ℕ → List ℕ → Type 0) : Type 0 where
+-- what holds after all tags at the front, whatever follows them
+pub record BehindTags (levels : ℕ) (bs : List ℕ) (P : ℕ → List ℕ → Type 0) : Type 0 where
   pub left : ℕ
   pub rest : List ℕ
-  pub behind : IsBehindTags f l (item_at (raws f l) levels bs) left rest
+  pub tags : passed_at levels bs ≡ Ok (left, rest)
   pub holds : P left rest
 
 -- of an enum
 abbrev pub enum_cases : Formats → ℕ → Limits → List ℕ → Cases
 enum_cases f levels l bs = record {
-  too_short = λ at. BehindTags f levels l bs (λ left rest. IsEmptyArray f left l rest at);
+  too_short = λ at. BehindTags levels bs (λ left rest. IsEmptyArray left l rest at);
   too_long = λ at. ⊥;
-  wrong_enum = λ at. BehindTags f levels l bs (λ left rest. IsInOtherForm f l rest at);
-  wrong_struct = λ at. BehindTags f levels l bs (λ left rest. IsBadPair f left l rest at);
+  wrong_enum = λ at. BehindTags levels bs (λ left rest. IsInOtherForm f l rest at);
+  wrong_struct = λ at. BehindTags levels bs (λ left rest. IsBadPair f left l rest at);
 }
 
 -- nothing follows the identifier of an enum that is an array

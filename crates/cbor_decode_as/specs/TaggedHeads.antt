@@ -36,7 +36,7 @@ abbrev pub in_tags : List (HeadWidth × ℕ) → Reads Raw → Reads Raw
 in_tags ts read = read >>= (λ r. Ok (tagged ts r.0, r.1))
 
 -- The reading goes on after the head of the item within all tags, where so many levels are left.
-pub record Opens (f : Formats) (l : Limits) (read : Reads Raw) (left : ℕ) (h : Head) (rest : List ℕ) : Type 0 where
+pub record IsTaggedHead (f : Formats) (l : Limits) (read : Reads Raw) (left : ℕ) (h : Head) (rest : List ℕ) : Type 0 where
   pub tags : List (HeadWidth × ℕ)
   pub width : HeadWidth
   pub inner : head_kind h ≡ kind.tag → ⊥
@@ -47,23 +47,23 @@ abbrev pub item_inside : Formats → Limits → ℕ → List ℕ → Reads Raw
 item_inside f l levels bs = within (inside (raws f l) levels) bs (λ p. p bs)
 
 -- The head of the item that is read was taken, and so many levels are left; or why not.
-abbrev pub OpensAt : (ReadErrorCode → Bool) → Formats → (Limits → List ℕ → Reads Raw) → Input
+abbrev pub TakesTaggedHead : (ReadErrorCode → Bool) → Formats → (Limits → List ℕ → Reads Raw) → Input
     → Input → ℕ → ReadError → Result Head Refused → Type 0
-OpensAt refusals f read s t left kept (Ok h) =
-    Step s t (λ l bs rest. Opens f l (read l bs) left h rest)
-OpensAt refusals f read s t left kept (Err r) = Stopped refusals read s t kept r
+TakesTaggedHead refusals f read s t left kept (Ok h) =
+    Step s t (λ l bs rest. IsTaggedHead f l (read l bs) left h rest)
+TakesTaggedHead refusals f read s t left kept (Err r) = Stopped refusals read s t kept r
 
 -- The head of the item at the front was taken, where so many levels are left; or why not.
-abbrev pub OpensItem : (ReadErrorCode → Bool) → Formats → ℕ → Input → Input → ReadError
+abbrev pub TakesItemHead : (ReadErrorCode → Bool) → Formats → ℕ → Input → Input → ReadError
     → Result Head Refused → Type 0
-OpensItem refusals f levels s t kept r =
-    (left : ℕ) × OpensAt refusals f (λ l. item_at (raws f l) levels) s t left kept r
+TakesItemHead refusals f levels s t kept r =
+    (left : ℕ) × TakesTaggedHead refusals f (λ l. item_at (raws f l) levels) s t left kept r
 
--- What opens of the item one level further in.
-abbrev pub OpensInside : (ReadErrorCode → Bool) → Formats → ℕ → Input → Input → ReadError
+-- the same of the item one level further in
+abbrev pub TakesHeadInside : (ReadErrorCode → Bool) → Formats → ℕ → Input → Input → ReadError
     → Result Head Refused → Type 0
-OpensInside refusals f levels s t kept r =
-    (left : ℕ) × OpensAt refusals f (λ l. item_inside f l levels) s t left kept r
+TakesHeadInside refusals f levels s t kept r =
+    (left : ℕ) × TakesTaggedHead refusals f (λ l. item_inside f l levels) s t left kept r
 
 -- what was found, as its head
 abbrev pub found_head : Result HeadAt Refused → Result Head Refused

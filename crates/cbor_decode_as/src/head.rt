@@ -8,7 +8,7 @@ ghost use Rattle.cbor_decode.specs.Heads.{HeadGives, opening_at};
 ghost use Rattle.cbor_decode.specs.Heads.{passed};
 ghost use Rattle.cbor_decode.specs.Memory.{MemoryOnly};
 ghost use Rattle.cbor_read.specs.Source.{TookSome, asks_for};
-ghost use Rattle.cbor_decode_as.specs.TaggedHeads.{AsksBehind, OpensAt};
+ghost use Rattle.cbor_decode_as.specs.TaggedHeads.{AsksBehind, TakesTaggedHead};
 ghost use Rattle.cbor_decode_as.specs.TaggedHeads.{item_inside, opened_at, opened_inside};
 ghost use Rattle.cbor_decode_as.specs.TaggedHeads.{RefusesBehind, behind_any};
 ghost use Rattle.cbor_decode_as.specs.Takes.{formats_of, raws};
@@ -51,7 +51,7 @@ pub(crate) fn take_head<R: Source>(decoder: &mut Decoder<R>) -> Done<Head>
 #[cycle(tagged_head)]
 #[inline(always)]
 pub fn tagged_head<R: Source>(decoder: &mut Decoder<R>) -> Done<Head>
-    ensures read { OpensAt R.refusals (formats_of decoder.old.formats)
+    ensures read { TakesTaggedHead R.refusals (formats_of decoder.old.formats)
         (λ l. item_at (raws (formats_of decoder.old.formats) l) decoder.old.levels)
         (R.source decoder.old.source) (R.source decoder.new.source)
         decoder.new.levels decoder.new.refusal result }
@@ -77,7 +77,7 @@ pub fn tagged_head<R: Source>(decoder: &mut Decoder<R>) -> Done<Head>
 #[cycle(tagged_head)]
 #[inline(never)]
 pub(crate) fn tagged_head_inside<R: Source>(decoder: &mut Decoder<R>) -> Done<Head>
-    ensures read { OpensAt R.refusals (formats_of decoder.old.formats)
+    ensures read { TakesTaggedHead R.refusals (formats_of decoder.old.formats)
         (λ l. item_inside (formats_of decoder.old.formats) l decoder.old.levels)
         (R.source decoder.old.source) (R.source decoder.new.source)
         decoder.new.levels decoder.new.refusal result }

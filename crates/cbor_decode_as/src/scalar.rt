@@ -4,7 +4,7 @@ ghost use Rattle.std.specs.Prelude.{◌≡◌, IfErr, OnOk};
 ghost use Rattle.cbor_model.specs.Readable.{PassesTags, IsBool, IsUnit};
 ghost use Rattle.cbor_io.specs.Error.{code_of};
 ghost use Rattle.cbor_decode.specs.Gives.{Gives, Advances, TellsNoForm, TellsNoKey, TellsNoMemory};
-ghost use Rattle.cbor_decode_as.specs.TaggedHeads.{OpensInside, OpensItem, found_head};
+ghost use Rattle.cbor_decode_as.specs.TaggedHeads.{TakesHeadInside, TakesItemHead, found_head};
 ghost use Rattle.cbor_decode_as.specs.TaggedHeads.{opened_at, opened_inside};
 ghost use Rattle.cbor_decode_as.specs.Scalars.{IsFloatItem};
 ghost use Rattle.cbor_decode_as.specs.Takes.{TakesItem, TakesNoMemory, formats_of};
@@ -20,7 +20,7 @@ use cbor_value::Float;
 // says how many levels are left for what follows.
 #[inline(always)]
 pub(crate) fn scalar_head<R: Source>(decoder: &mut Decoder<R>) -> Done<HeadAt>
-    ensures read { OpensItem R.refusals (formats_of decoder.old.formats)
+    ensures read { TakesItemHead R.refusals (formats_of decoder.old.formats)
         decoder.old.levels
         (R.source decoder.old.source) (R.source decoder.new.source)
         decoder.new.refusal (found_head result) }
@@ -48,7 +48,7 @@ pub(crate) fn scalar_head<R: Source>(decoder: &mut Decoder<R>) -> Done<HeadAt>
 // Takes further tags and the head, one level further in, and restores the level.
 #[inline(always)]
 fn scalar_head_inside<R: Source>(decoder: &mut Decoder<R>) -> Done<HeadAt>
-    ensures read { OpensInside R.refusals (formats_of decoder.old.formats)
+    ensures read { TakesHeadInside R.refusals (formats_of decoder.old.formats)
         decoder.old.levels
         (R.source decoder.old.source) (R.source decoder.new.source)
         decoder.new.refusal (found_head result) }

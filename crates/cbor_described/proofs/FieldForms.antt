@@ -3,7 +3,7 @@ use Rattle.std.proofs.Common.{◌⊎◌, IfErr, Result, Ok, Err, inl, inr}
 use Rattle.cbor_model.specs.Formats.{Formats}
 use Rattle.cbor_io.specs.declared.error.Error.{Error}
 use Rattle.cbor_read.specs.Source.{Input}
-use Rattle.cbor_de.specs.Forms.{WrongForms, never, told, any_of, item_form, struct_form, MayTell}
+use Rattle.cbor_de.specs.Forms.{WrongForms, never, told, any_of, MayTell}
 use Rattle.cbor_de.proofs.facts.Forms.{of_left, of_right}
 
 -- of the first field
@@ -26,14 +26,3 @@ one_more (told P) (told Q) (told R) f s e (inr r) = inr (record { place = r.plac
 pub of_others : {A : Type 0} (a b c : WrongForms) (f : Formats) (s : Input) (r : Result A Error) → IfErr r (MayTell (any_of a c) f s) → IfErr r (MayTell (any_of a (any_of b c)) f s)
 of_others a b c f s (Ok x) h = h
 of_others a b c f s (Err e) h = one_more a b c f s e h
-
-within : {A B C : Type 0} → B ⊎ C → (A ⊎ B) ⊎ C
-within (inl b) = inl (inr b)
-within (inr c) = inr c
-
--- of a struct that has these fields
-pub of_fields : (c : WrongForms) (f : Formats) (s : Input) (e : Error) → MayTell (any_of item_form c) f s e → MayTell (any_of struct_form c) f s e
-of_fields never f s e (inl h) = inl h
-of_fields never f s e (inr r) = inr (record { place = r.place; took = r.took; holds = inr r.holds })
-of_fields (told R) f s e (inl h) = inl h
-of_fields (told R) f s e (inr r) = inr (record { place = r.place; took = r.took; holds = within r.holds })

@@ -10,7 +10,7 @@ ghost use Rattle.cbor_de.specs.Structs.{IsAny, IsStruct};
 ghost use Rattle.cbor_io.specs.Error.{code_of};
 ghost use Rattle.cbor_decode.specs.Gives.{Advances, TellsNoForm};
 ghost use Rattle.cbor_decode_as.specs.Takes.{TakesItem, context, formats_of};
-ghost use Rattle.cbor_de.specs.Forms.{MayTell, any_of, item_form, struct_form};
+ghost use Rattle.cbor_de.specs.Forms.{MayTell, any_of, key_form};
 
 use cbor_de::steps::{end_map, leave_to, map_head};
 use cbor_de::{
@@ -66,7 +66,7 @@ pub(crate) trait ReadFields<'de, R: Read<'de>>: FieldList {
             TakesField (formats_of de.old.decoder.formats) de.old.decoder.levels R.refusals
             (Self.fields c) i (Self.slots c held.old) (Self.slots c held.new)
             (R.source de.old.decoder.source) (R.source de.new.decoder.source) result }
-        ensures form { IfErr result (MayTell (any_of item_form Self.wrong_forms)
+        ensures form { IfErr result (MayTell (any_of key_form Self.wrong_forms)
             (formats_of de.old.decoder.formats) (R.source de.old.decoder.source)) }
         ensures forward { IfOk result (λ u. (R.source de.old.decoder.source).offset
             ≤ (R.source de.new.decoder.source).offset) }
@@ -303,7 +303,7 @@ fn skip_item<'de, R: Read<'de>>(de: &mut Deserializer<R>) -> Result<()>
     ensures read { TakesItem R.refusals (formats_of de.old.decoder.formats) IsAny
         de.old.decoder.levels (R.source de.old.decoder.source)
         (R.source de.new.decoder.source) result }
-    ensures form { IfErr result (MayTell item_form
+    ensures form { IfErr result (MayTell key_form
         (formats_of de.old.decoder.formats) (R.source de.old.decoder.source)) }
     ensures levels { de.new.decoder.levels ≡ de.old.decoder.levels }
     ensures formats { de.new.decoder.formats ≡ de.old.decoder.formats }
@@ -326,7 +326,7 @@ pub(crate) fn read_fields<'de, R: Read<'de>, F: ReadFields<'de, R>>(
         (R.source de.new.decoder.source) result }
     ensures taken { OnOk result (Advances (R.source de.old.decoder.source)
         (R.source de.new.decoder.source)) }
-    ensures form { IfErr result (MayTell (any_of struct_form F.wrong_forms)
+    ensures form { IfErr result (MayTell (any_of key_form F.wrong_forms)
         (formats_of de.old.decoder.formats) (R.source de.old.decoder.source)) }
     ensures levels { de.new.decoder.levels ≡ de.old.decoder.levels }
     ensures formats { de.new.decoder.formats ≡ de.old.decoder.formats }
@@ -350,7 +350,7 @@ fn fields_within<'de, R: Read<'de>, F: ReadFields<'de, R>>(
         (R.source de.new.decoder.source) result }
     ensures taken { OnOk result (Advances (R.source de.old.decoder.source)
         (R.source de.new.decoder.source)) }
-    ensures form { IfErr result (MayTell (any_of struct_form F.wrong_forms)
+    ensures form { IfErr result (MayTell (any_of key_form F.wrong_forms)
         (formats_of de.old.decoder.formats) (R.source de.old.decoder.source)) }
     ensures formats { de.new.decoder.formats ≡ de.old.decoder.formats }
 {

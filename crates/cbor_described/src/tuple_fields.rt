@@ -12,14 +12,14 @@ use cbor_io::error::Result;
 
 impl<A: FieldType> ReadableParts for (A,) {
     ghost use Rattle.std.specs.Prelude.{[], ◌∷◌};
-    ghost use Rattle.cbor_de.specs.Forms.{any_of, never, struct_form};
+    ghost use Rattle.cbor_de.specs.Forms.{any_of, key_form, never};
     ghost use Rattle.cbor_de.specs.Structs.{IsStruct, field_or};
 
     ghost reads = { λ names c r x. IsStruct {S = A × Unit {0}} names
         (field_or (A.reads c) A.missing (λ p. p.0) ∷ [])
         r (x.0, tt) };
 
-    ghost wrong_forms = { any_of struct_form (any_of A.Of.wrong_forms never) };
+    ghost wrong_forms = { any_of key_form (any_of A.Of.wrong_forms never) };
 }
 
 impl<'de, R: Read<'de>, A: FieldType> ReadParts<'de, R> for (A,)
@@ -39,7 +39,7 @@ where
 
 impl<A: FieldType, B: FieldType> ReadableParts for (A, B) {
     ghost use Rattle.std.specs.Prelude.{[], ◌∷◌};
-    ghost use Rattle.cbor_de.specs.Forms.{any_of, never, struct_form};
+    ghost use Rattle.cbor_de.specs.Forms.{any_of, key_form, never};
     ghost use Rattle.cbor_de.specs.Structs.{IsStruct, field_or};
 
     ghost reads = { λ names c r x. IsStruct {S = A × (B × Unit {0})} names
@@ -47,7 +47,7 @@ impl<A: FieldType, B: FieldType> ReadableParts for (A, B) {
         ∷ field_or (B.reads c) B.missing (λ p. p.1.0) ∷ [])
         r (x.0, (x.1, tt)) };
 
-    ghost wrong_forms = { any_of struct_form (any_of A.Of.wrong_forms
+    ghost wrong_forms = { any_of key_form (any_of A.Of.wrong_forms
         (any_of B.Of.wrong_forms never)) };
 }
 
@@ -69,7 +69,7 @@ where
 
 impl<A: FieldType, B: FieldType, C: FieldType> ReadableParts for (A, B, C) {
     ghost use Rattle.std.specs.Prelude.{[], ◌∷◌};
-    ghost use Rattle.cbor_de.specs.Forms.{any_of, never, struct_form};
+    ghost use Rattle.cbor_de.specs.Forms.{any_of, key_form, never};
     ghost use Rattle.cbor_de.specs.Structs.{IsStruct, field_or};
 
     ghost reads = { λ names c r x. IsStruct {S = A × (B × (C × Unit {0}))} names
@@ -78,7 +78,7 @@ impl<A: FieldType, B: FieldType, C: FieldType> ReadableParts for (A, B, C) {
         ∷ field_or (C.reads c) C.missing (λ p. p.1.1.0) ∷ [])
         r (x.0, (x.1, (x.2, tt))) };
 
-    ghost wrong_forms = { any_of struct_form (any_of A.Of.wrong_forms (any_of B.Of.wrong_forms
+    ghost wrong_forms = { any_of key_form (any_of A.Of.wrong_forms (any_of B.Of.wrong_forms
         (any_of C.Of.wrong_forms never))) };
 }
 
@@ -101,7 +101,7 @@ where
 
 impl<A: FieldType, B: FieldType, C: FieldType, D: FieldType> ReadableParts for (A, B, C, D) {
     ghost use Rattle.std.specs.Prelude.{[], ◌∷◌};
-    ghost use Rattle.cbor_de.specs.Forms.{any_of, never, struct_form};
+    ghost use Rattle.cbor_de.specs.Forms.{any_of, key_form, never};
     ghost use Rattle.cbor_de.specs.Structs.{IsStruct, field_or};
 
     ghost reads = { λ names c r x. IsStruct {S = A × B × C × D × Unit {0}} names
@@ -111,7 +111,7 @@ impl<A: FieldType, B: FieldType, C: FieldType, D: FieldType> ReadableParts for (
         ∷ field_or (D.reads c) D.missing (λ p. p.3) ∷ [])
         r (x.0, x.1, x.2, x.3, tt) };
 
-    ghost wrong_forms = { any_of struct_form (any_of A.Of.wrong_forms (any_of B.Of.wrong_forms
+    ghost wrong_forms = { any_of key_form (any_of A.Of.wrong_forms (any_of B.Of.wrong_forms
         (any_of C.Of.wrong_forms (any_of D.Of.wrong_forms never)))) };
 }
 
@@ -137,7 +137,7 @@ where
 impl<A: FieldType, B: FieldType, C: FieldType, D: FieldType, E: FieldType> ReadableParts
     for (A, B, C, D, E) {
     ghost use Rattle.std.specs.Prelude.{[], ◌∷◌};
-    ghost use Rattle.cbor_de.specs.Forms.{any_of, never, struct_form};
+    ghost use Rattle.cbor_de.specs.Forms.{any_of, key_form, never};
     ghost use Rattle.cbor_de.specs.Structs.{IsStruct, field_or};
 
     ghost reads = { λ names c r x. IsStruct {S = A × B × C × D × (E × Unit {0})} names
@@ -148,7 +148,7 @@ impl<A: FieldType, B: FieldType, C: FieldType, D: FieldType, E: FieldType> Reada
         ∷ field_or (E.reads c) E.missing (λ p. p.4.0) ∷ [])
         r (x.0, x.1, x.2, x.3, (x.4, tt)) };
 
-    ghost wrong_forms = { any_of struct_form (any_of A.Of.wrong_forms (any_of B.Of.wrong_forms
+    ghost wrong_forms = { any_of key_form (any_of A.Of.wrong_forms (any_of B.Of.wrong_forms
         (any_of C.Of.wrong_forms (any_of D.Of.wrong_forms (any_of E.Of.wrong_forms never))))) };
 }
 
@@ -184,7 +184,7 @@ impl<
     F: FieldType,
 > ReadableParts for (A, B, C, D, E, F) {
     ghost use Rattle.std.specs.Prelude.{[], ◌∷◌};
-    ghost use Rattle.cbor_de.specs.Forms.{any_of, never, struct_form};
+    ghost use Rattle.cbor_de.specs.Forms.{any_of, key_form, never};
     ghost use Rattle.cbor_de.specs.Structs.{IsStruct, field_or};
 
     ghost reads = { λ names c r x. IsStruct {S = A × B × C × D × (E × (F × Unit {0}))} names
@@ -196,7 +196,7 @@ impl<
         ∷ field_or (F.reads c) F.missing (λ p. p.4.1.0) ∷ [])
         r (x.0, x.1, x.2, x.3, (x.4, (x.5, tt))) };
 
-    ghost wrong_forms = { any_of struct_form (any_of A.Of.wrong_forms (any_of B.Of.wrong_forms
+    ghost wrong_forms = { any_of key_form (any_of A.Of.wrong_forms (any_of B.Of.wrong_forms
         (any_of C.Of.wrong_forms (any_of D.Of.wrong_forms (any_of E.Of.wrong_forms
         (any_of F.Of.wrong_forms never)))))) };
 }
@@ -235,7 +235,7 @@ impl<
     G: FieldType,
 > ReadableParts for (A, B, C, D, E, F, G) {
     ghost use Rattle.std.specs.Prelude.{[], ◌∷◌};
-    ghost use Rattle.cbor_de.specs.Forms.{any_of, never, struct_form};
+    ghost use Rattle.cbor_de.specs.Forms.{any_of, key_form, never};
     ghost use Rattle.cbor_de.specs.Structs.{IsStruct, field_or};
 
     ghost reads = { λ names c r x. IsStruct {S = A × B × C × D × (E × (F × (G × Unit {0})))} names
@@ -248,7 +248,7 @@ impl<
         ∷ field_or (G.reads c) G.missing (λ p. p.4.1.1.0) ∷ [])
         r (x.0, x.1, x.2, x.3, (x.4, (x.5, (x.6, tt)))) };
 
-    ghost wrong_forms = { any_of struct_form (any_of A.Of.wrong_forms (any_of B.Of.wrong_forms
+    ghost wrong_forms = { any_of key_form (any_of A.Of.wrong_forms (any_of B.Of.wrong_forms
         (any_of C.Of.wrong_forms (any_of D.Of.wrong_forms (any_of E.Of.wrong_forms
         (any_of F.Of.wrong_forms
         (any_of G.Of.wrong_forms never))))))) };
@@ -290,7 +290,7 @@ impl<
     H: FieldType,
 > ReadableParts for (A, B, C, D, E, F, G, H) {
     ghost use Rattle.std.specs.Prelude.{[], ◌∷◌};
-    ghost use Rattle.cbor_de.specs.Forms.{any_of, never, struct_form};
+    ghost use Rattle.cbor_de.specs.Forms.{any_of, key_form, never};
     ghost use Rattle.cbor_de.specs.Structs.{IsStruct, field_or};
 
     ghost reads = { λ names c r x. IsStruct {S = A × B × C × D × (E × F × G × H × Unit {0})} names
@@ -304,7 +304,7 @@ impl<
         ∷ field_or (H.reads c) H.missing (λ p. p.4.3) ∷ [])
         r (x.0, x.1, x.2, x.3, (x.4, x.5, x.6, x.7, tt)) };
 
-    ghost wrong_forms = { any_of struct_form (any_of A.Of.wrong_forms (any_of B.Of.wrong_forms
+    ghost wrong_forms = { any_of key_form (any_of A.Of.wrong_forms (any_of B.Of.wrong_forms
         (any_of C.Of.wrong_forms (any_of D.Of.wrong_forms (any_of E.Of.wrong_forms
         (any_of F.Of.wrong_forms
         (any_of G.Of.wrong_forms (any_of H.Of.wrong_forms never)))))))) };
@@ -348,7 +348,7 @@ impl<
     I: FieldType,
 > ReadableParts for (A, B, C, D, E, F, G, H, I) {
     ghost use Rattle.std.specs.Prelude.{[], ◌∷◌};
-    ghost use Rattle.cbor_de.specs.Forms.{any_of, never, struct_form};
+    ghost use Rattle.cbor_de.specs.Forms.{any_of, key_form, never};
     ghost use Rattle.cbor_de.specs.Structs.{IsStruct, field_or};
 
     ghost reads = { λ names c r x. IsStruct
@@ -364,7 +364,7 @@ impl<
         ∷ field_or (I.reads c) I.missing (λ p. p.4.4.0) ∷ [])
         r (x.0, x.1, x.2, x.3, (x.4, x.5, x.6, x.7, (x.8, tt))) };
 
-    ghost wrong_forms = { any_of struct_form (any_of A.Of.wrong_forms (any_of B.Of.wrong_forms
+    ghost wrong_forms = { any_of key_form (any_of A.Of.wrong_forms (any_of B.Of.wrong_forms
         (any_of C.Of.wrong_forms (any_of D.Of.wrong_forms (any_of E.Of.wrong_forms
         (any_of F.Of.wrong_forms
         (any_of G.Of.wrong_forms (any_of H.Of.wrong_forms (any_of I.Of.wrong_forms never))))))))) };
@@ -414,7 +414,7 @@ impl<
     J: FieldType,
 > ReadableParts for (A, B, C, D, E, F, G, H, I, J) {
     ghost use Rattle.std.specs.Prelude.{[], ◌∷◌};
-    ghost use Rattle.cbor_de.specs.Forms.{any_of, never, struct_form};
+    ghost use Rattle.cbor_de.specs.Forms.{any_of, key_form, never};
     ghost use Rattle.cbor_de.specs.Structs.{IsStruct, field_or};
 
     ghost reads = { λ names c r x. IsStruct
@@ -431,7 +431,7 @@ impl<
         ∷ field_or (J.reads c) J.missing (λ p. p.4.4.1.0) ∷ [])
         r (x.0, x.1, x.2, x.3, (x.4, x.5, x.6, x.7, (x.8, (x.9, tt)))) };
 
-    ghost wrong_forms = { any_of struct_form (any_of A.Of.wrong_forms (any_of B.Of.wrong_forms
+    ghost wrong_forms = { any_of key_form (any_of A.Of.wrong_forms (any_of B.Of.wrong_forms
         (any_of C.Of.wrong_forms (any_of D.Of.wrong_forms (any_of E.Of.wrong_forms
         (any_of F.Of.wrong_forms
         (any_of G.Of.wrong_forms (any_of H.Of.wrong_forms (any_of I.Of.wrong_forms
@@ -493,7 +493,7 @@ impl<
     K: FieldType,
 > ReadableParts for (A, B, C, D, E, F, G, H, I, J, K) {
     ghost use Rattle.std.specs.Prelude.{[], ◌∷◌};
-    ghost use Rattle.cbor_de.specs.Forms.{any_of, never, struct_form};
+    ghost use Rattle.cbor_de.specs.Forms.{any_of, key_form, never};
     ghost use Rattle.cbor_de.specs.Structs.{IsStruct, field_or};
 
     ghost reads = { λ names c r x. IsStruct
@@ -511,7 +511,7 @@ impl<
         ∷ field_or (K.reads c) K.missing (λ p. p.4.4.1.1.0) ∷ [])
         r (x.0, x.1, x.2, x.3, (x.4, x.5, x.6, x.7, (x.8, (x.9, (x.10, tt))))) };
 
-    ghost wrong_forms = { any_of struct_form (any_of A.Of.wrong_forms (any_of B.Of.wrong_forms
+    ghost wrong_forms = { any_of key_form (any_of A.Of.wrong_forms (any_of B.Of.wrong_forms
         (any_of C.Of.wrong_forms (any_of D.Of.wrong_forms (any_of E.Of.wrong_forms
         (any_of F.Of.wrong_forms
         (any_of G.Of.wrong_forms (any_of H.Of.wrong_forms (any_of I.Of.wrong_forms
@@ -576,7 +576,7 @@ impl<
     L: FieldType,
 > ReadableParts for (A, B, C, D, E, F, G, H, I, J, K, L) {
     ghost use Rattle.std.specs.Prelude.{[], ◌∷◌};
-    ghost use Rattle.cbor_de.specs.Forms.{any_of, never, struct_form};
+    ghost use Rattle.cbor_de.specs.Forms.{any_of, key_form, never};
     ghost use Rattle.cbor_de.specs.Structs.{IsStruct, field_or};
 
     ghost reads = { λ names c r x. IsStruct
@@ -595,7 +595,7 @@ impl<
         ∷ field_or (L.reads c) L.missing (λ p. p.4.4.3) ∷ [])
         r (x.0, x.1, x.2, x.3, (x.4, x.5, x.6, x.7, (x.8, x.9, x.10, x.11, tt))) };
 
-    ghost wrong_forms = { any_of struct_form (any_of A.Of.wrong_forms (any_of B.Of.wrong_forms
+    ghost wrong_forms = { any_of key_form (any_of A.Of.wrong_forms (any_of B.Of.wrong_forms
         (any_of C.Of.wrong_forms (any_of D.Of.wrong_forms (any_of E.Of.wrong_forms
         (any_of F.Of.wrong_forms
         (any_of G.Of.wrong_forms (any_of H.Of.wrong_forms (any_of I.Of.wrong_forms

@@ -7,7 +7,7 @@ ghost use Rattle.cbor_decode_as.specs.Identifiers.{texts};
 ghost use Rattle.cbor_decode_as.specs.Takes.{TakesItem, context, formats_of};
 ghost use Rattle.cbor_decode_as.specs.Variants.{TakesContent};
 ghost use Rattle.cbor_model.specs.Readable.{PassesTags};
-ghost use Rattle.cbor_de.specs.Forms.{MayTell, any_of, enum_form};
+ghost use Rattle.cbor_de.specs.Forms.{MayTell, MayTellContent, any_of, enum_form};
 
 use crate::parts::{ReadParts, ReadableParts};
 use cbor_de::steps::{leave_to, no_part, parts, variant_head};
@@ -28,7 +28,7 @@ pub trait Variant: Sized + Drop {
     // What a variant's content means.
     ghost means: { Context → Content → Self → Type 0 };
 
-    // By which codes a content may be refused for its form, and where.
+    // By which codes an enum may be refused for the form of this content, and where.
     ghost wrong_forms: { WrongForms };
 }
 
@@ -39,8 +39,8 @@ pub trait ReadVariant<'de, R: Read<'de>>: Variant {
         ensures read { TakesContent R.refusals (formats_of de.old.decoder.formats)
             (Self.means (context de.old.decoder.formats R.lends)) de.old.decoder.levels form
             (R.source de.old.decoder.source) (R.source de.new.decoder.source) result }
-        ensures form { IfErr result (MayTell Self.wrong_forms
-            (formats_of de.old.decoder.formats) (R.source de.old.decoder.source)) }
+        ensures form { IfErr result (MayTellContent Self.wrong_forms
+            (formats_of de.old.decoder.formats) form (R.source de.old.decoder.source)) }
         ensures formats { de.new.decoder.formats ≡ de.old.decoder.formats };
 }
 
@@ -90,7 +90,7 @@ impl<F: ReadableTuple> Variant for Tuple<F> {
 }
 
 impl<'de, R: Read<'de>, F: ReadTuple<'de, R>> ReadVariant<'de, R> for Tuple<F> {
-    #[tactic(auto, using(cbor_de::proofs::facts::Forms::plain))]
+    #[tactic(auto, using(cbor_de::proofs::facts::Forms::content_plain))]
     fn read_content(de: &mut Deserializer<R>, form: Form) -> Result<Tuple<F>> {
         let remaining = parts(de, form)?;
         match F::read_tuple(de, remaining) {
@@ -177,7 +177,7 @@ pub(crate) trait VariantList: Sized + Drop {
     // What the content of the variant in this place means.
     ghost means: { Context → ℕ → Content → Self → Type 0 };
 
-    // By which codes the content of one of them may be refused for its form, and where.
+    // By which codes an enum may be refused for the form of the content of one of them, and where.
     ghost wrong_forms: { WrongForms };
 }
 
@@ -188,8 +188,8 @@ pub(crate) trait ReadVariants<'de, R: Read<'de>>: VariantList {
         ensures read { TakesContent R.refusals (formats_of de.old.decoder.formats)
             (Self.means (context de.old.decoder.formats R.lends) i) de.old.decoder.levels form
             (R.source de.old.decoder.source) (R.source de.new.decoder.source) result }
-        ensures form { IfErr result (MayTell Self.wrong_forms
-            (formats_of de.old.decoder.formats) (R.source de.old.decoder.source)) }
+        ensures form { IfErr result (MayTellContent Self.wrong_forms
+            (formats_of de.old.decoder.formats) form (R.source de.old.decoder.source)) }
         ensures formats { de.new.decoder.formats ≡ de.old.decoder.formats };
 }
 

@@ -9,6 +9,7 @@
 //! says what the law is, and on the laws of types in `specs/`, by which a type's own law is proved.
 #![tactic(auto)]
 
+mod fits;
 mod laws;
 mod one_of;
 mod parts;
@@ -16,6 +17,9 @@ mod round_trip;
 mod tuples;
 mod types;
 
+pub use fits::{
+    integers_fit, items_fit, naturals_fit, ordered_values_fit, scalars_fit, strings_fit,
+};
 pub use laws::{write_and_read, written_reads_back_as};
 pub use parts::{
     FieldRoundTrip, FieldsRoundTrip, PartsRoundTrip, TupleRoundTrip, VariantRoundTrip,

@@ -46,6 +46,7 @@ pub use Rattle.cbor_de.specs.Alike
 pub use Rattle.cbor_de.specs.FirstOfItem
 pub use Rattle.cbor_de.specs.ItemTaken
 pub use Rattle.cbor_de.specs.HeadsTaken
+pub use Rattle.cbor_de.specs.TagTaken
 pub use Rattle.cbor_de.specs.Streams
 pub use Rattle.cbor_de.specs.Items
 pub use Rattle.cbor_de.specs.ItemLaws

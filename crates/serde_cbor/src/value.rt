@@ -1,7 +1,7 @@
 //! Values of any kind, their parts, and what values of other types stand for.
 
 pub use cbor_convert::{
-    SerializeMap, SerializeStructVariant, SerializeTupleVariant, SerializeVec, ToValue, from_value,
-    same_value_same_bytes, to_value,
+    SerializeMap, SerializeStructVariant, SerializeTupleVariant, SerializeVec, ToValue,
+    compare_as_bytes, from_value, same_value_same_bytes, to_value,
 };
 pub use cbor_value::{Float, Map, Value};

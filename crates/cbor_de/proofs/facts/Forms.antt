@@ -4,6 +4,11 @@
 pub use Rattle.cbor_de.proofs.Forms.{plain}
 -- what an enum tells up to its identifier, and in a variant of no part
 pub use Rattle.cbor_de.proofs.Forms.{enum_told, unit_err}
+-- what the content of a variant tells, and so the whole enum
+pub use Rattle.cbor_de.proofs.Forms.{began_err, content_later, content_left, content_plain, content_right}
+pub use Rattle.cbor_de.proofs.Forms.{part_content}
+-- what the next key of a map tells, and so the map
+pub use Rattle.cbor_de.proofs.Forms.{key_in_map}
 -- of one of two parts
 pub use Rattle.cbor_de.proofs.Forms.{of_left, of_right, right_err}
 -- behind what was taken

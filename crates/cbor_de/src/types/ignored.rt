@@ -20,7 +20,7 @@ pub struct IgnoredAny;
 impl Readable for IgnoredAny {
     ghost use Rattle.std.specs.Prelude.{⊤, true};
     ghost use Rattle.cbor_decode.specs.HasChunks.{AsksWhere, HasChunks};
-    ghost use Rattle.cbor_de.specs.Forms.{item_form};
+    ghost use Rattle.cbor_de.specs.Forms.{key_form};
 
     ghost reads = { λ c r x. ⊤ };
 
@@ -28,7 +28,7 @@ impl Readable for IgnoredAny {
 
     ghost asks_memory = { λ a r. AsksWhere a (HasChunks r) };
 
-    ghost wrong_forms = { item_form };
+    ghost wrong_forms = { key_form };
 }
 
 impl<'de, R: Read<'de>> Deserialize<'de, R> for IgnoredAny {

@@ -11,7 +11,7 @@ impl Readable for Value {
     ghost use Rattle.cbor_model.specs.Value.{value};
     ghost use Rattle.cbor_value.specs.View.{view};
     ghost use Rattle.cbor_decode.specs.Memory.{IsStored};
-    ghost use Rattle.cbor_de.specs.Forms.{item_form};
+    ghost use Rattle.cbor_de.specs.Forms.{key_form};
 
     ghost reads = { λ c r v. view v ≡ value r };
 
@@ -19,7 +19,7 @@ impl Readable for Value {
 
     ghost asks_memory = { λ a r. IsStored (value r) };
 
-    ghost wrong_forms = { item_form };
+    ghost wrong_forms = { key_form };
 }
 
 impl<'de, R: Read<'de>> Deserialize<'de, R> for Value {

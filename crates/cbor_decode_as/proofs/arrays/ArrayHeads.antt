@@ -24,7 +24,7 @@ use Rattle.cbor_decode_as.specs.Accesses.{items_at, array_of, IsArrayHead, IsIte
 use Rattle.cbor_decode_as.specs.Arrays.{AsArray}
 use Rattle.cbor_decode_as.specs.Kinds.{kind_of, head_kind}
 use Rattle.cbor_decode_as.specs.Kinds as kind
-use Rattle.cbor_decode_as.specs.TaggedHeads.{tagged, Opens}
+use Rattle.cbor_decode_as.specs.TaggedHeads.{tagged, IsTaggedHead}
 use Rattle.cbor_decode_as.specs.Takes.{raws, IsRead, IsNotRead}
 use Rattle.cbor_decode_as.proofs.numbers.Scalars.{within_tags, untagged-tagged, other_kind, opened_none}
 use Rattle.cbor_decode_as.proofs.numbers.Scalars.{refuses}
@@ -73,19 +73,19 @@ module _ (allowed : ReadErrorCode → Bool) (f : Formats) (levels : ℕ) (s t : 
       next : left ≡ suc inner
       next = omega (arith, is)
 
-  head_here : (l : Limits) (read : Reads Raw) (left inner : ℕ) (r : Remaining) (rest : List ℕ) → left ≡ inner + 1 → Opens f l read left (head.Array r) rest → IsArrayHead f l read inner r rest
+  head_here : (l : Limits) (read : Reads Raw) (left inner : ℕ) (r : Remaining) (rest : List ℕ) → left ≡ inner + 1 → IsTaggedHead f l read left (head.Array r) rest → IsArrayHead f l read inner r rest
   unfolding array_at
   head_here l read left inner r rest is o = record { tags = o.tags; len = length_of o.width r; is = o.is ∙ rw (inside_is l left inner is) refl }
 
-  pub head_taken : (left inner : ℕ) (h : Head) (r : Remaining) → h ≡ head.Array r → left ≡ inner + 1 → Step s t (λ l bs rest. Opens f l (whole l bs) left h rest) → Step s t (λ l bs rest. IsArrayHead f l (whole l bs) inner r rest)
-  head_taken left inner h r is one = step_map s t (λ l bs rest. Opens f l (whole l bs) left h rest) (λ l bs rest. IsArrayHead f l (whole l bs) inner r rest)
-      (λ l bs rest o. head_here l (whole l bs) left inner r rest one (subst (λ (h : Head). Opens f l (whole l bs) left h rest) is o))
+  pub head_taken : (left inner : ℕ) (h : Head) (r : Remaining) → h ≡ head.Array r → left ≡ inner + 1 → Step s t (λ l bs rest. IsTaggedHead f l (whole l bs) left h rest) → Step s t (λ l bs rest. IsArrayHead f l (whole l bs) inner r rest)
+  head_taken left inner h r is one = step_map s t (λ l bs rest. IsTaggedHead f l (whole l bs) left h rest) (λ l bs rest. IsArrayHead f l (whole l bs) inner r rest)
+      (λ l bs rest o. head_here l (whole l bs) left inner r rest one (subst (λ (h : Head). IsTaggedHead f l (whole l bs) left h rest) is o))
 
   pub head_stops : {w : Input} (kept : ReadError) (r : Refused) (e : Error) → IsErrorOf kept r e → Stopped allowed whole s w kept r → RefusesArray allowed f levels s w e
   head_stops kept r e = refuses allowed (PassesTags IsItems) whole s kept r e
 
-  pub other_head : (left : ℕ) (h : Head) (e : Error) → ((r : Remaining) → h ≡ head.Array r → ⊥) → Step s t (λ l bs rest. Opens f l (whole l bs) left h rest) → RefusesArray allowed f levels s t e
-  other_head left h e other = refuses_by allowed s (code_of e) (offset_of e) t (λ l bs rest. Opens f l (whole l bs) left h rest) (λ l bs. IsNotRead (PassesTags IsItems) (whole l bs))
+  pub other_head : (left : ℕ) (h : Head) (e : Error) → ((r : Remaining) → h ≡ head.Array r → ⊥) → Step s t (λ l bs rest. IsTaggedHead f l (whole l bs) left h rest) → RefusesArray allowed f levels s t e
+  other_head left h e other = refuses_by allowed s (code_of e) (offset_of e) t (λ l bs rest. IsTaggedHead f l (whole l bs) left h rest) (λ l bs. IsNotRead (PassesTags IsItems) (whole l bs))
       (λ l bs rest o. other_kind f IsItems l (whole l bs) left h rest o
       (λ r x means is. no_array h other (sym (array_kind (λ rs items. rs ≡ items) r x means (λ tag. o.inner (sym is ∙ tag))) ∙ is)))
 
@@ -99,10 +99,10 @@ module _ (allowed : ReadErrorCode → Bool) (f : Formats) (levels : ℕ) (s t : 
       both (Ok y) x g is other = absurd cc
       both (Err g') x g is other = absurd cc
 
-  pub too_deep_head : (left : ℕ) (h : Head) (r : Remaining) (e : Error) → h ≡ head.Array r → left ≡ 0 → Step s t (λ l bs rest. Opens f l (whole l bs) left h rest) → RefusesArray allowed f levels s t e
-  too_deep_head left h r e is none = refuses_by allowed s (code_of e) (offset_of e) t (λ l bs rest. Opens f l (whole l bs) left h rest) (λ l bs. IsNotRead (PassesTags IsItems) (whole l bs))
+  pub too_deep_head : (left : ℕ) (h : Head) (r : Remaining) (e : Error) → h ≡ head.Array r → left ≡ 0 → Step s t (λ l bs rest. IsTaggedHead f l (whole l bs) left h rest) → RefusesArray allowed f levels s t e
+  too_deep_head left h r e is none = refuses_by allowed s (code_of e) (offset_of e) t (λ l bs rest. IsTaggedHead f l (whole l bs) left h rest) (λ l bs. IsNotRead (PassesTags IsItems) (whole l bs))
       (λ l bs rest o.
-      let o' = subst (λ (h : Head). Opens f l (whole l bs) left h rest) is o in
+      let o' = subst (λ (h : Head). IsTaggedHead f l (whole l bs) left h rest) is o in
       opened_none f IsItems l (whole l bs) left (head.Array r) rest o' (λ i after x read means. deep_here l left o'.width r rest none i after read))
 
 -- ---- the whole array

@@ -18,7 +18,7 @@ use Rattle.cbor_decode.proofs.facts.Steps.{advances_some, step_map, step_then, s
 use Rattle.cbor_decode_as.specs.Kinds.{head_kind}
 use Rattle.cbor_decode_as.specs.Kinds as kind
 use Rattle.cbor_decode_as.specs.Takes.{raws}
-use Rattle.cbor_decode_as.specs.TaggedHeads.{in_tags, Opens, item_inside, OpensAt, OpensItem}
+use Rattle.cbor_decode_as.specs.TaggedHeads.{in_tags, IsTaggedHead, item_inside, TakesTaggedHead, TakesItemHead}
 
 -- ---- a head, and what is after it
 
@@ -26,7 +26,7 @@ pub untagged_same : (read : Reads Raw) → read ≡ in_tags [] read
 untagged_same (Ok r) = refl
 untagged_same (Err f) = refl
 
-opens_here : (f : Formats) (l : Limits) (levels : ℕ) (bs rest : List ℕ) (w : HeadWidth) (h : Head) → (head_kind h ≡ kind.tag → ⊥) → opening_at bs ≡ Ok ((w, h), rest) → Opens f l (item_at (raws f l) levels bs) levels h rest
+opens_here : (f : Formats) (l : Limits) (levels : ℕ) (bs rest : List ℕ) (w : HeadWidth) (h : Head) → (head_kind h ≡ kind.tag → ⊥) → opening_at bs ≡ Ok ((w, h), rest) → IsTaggedHead f l (item_at (raws f l) levels bs) levels h rest
 opens_here f l levels bs rest w h inner is = record {
   tags = [];
   width = w;
@@ -34,9 +34,9 @@ opens_here f l levels bs rest w h inner is = record {
   is = item_opened (raws f l) levels bs ∙ rw is (untagged_same (behind_head (raws f l) (inside (raws f l) levels) w h rest));
 }
 
-pub head_opens : (f : Formats) (s t : Input) (levels left : ℕ) (h : Head) → (head_kind h ≡ kind.tag → ⊥) → left ≡ levels → Step s t (λ l bs rest. (w : HeadWidth) × (opening_at bs ≡ Ok ((w, h), rest))) → Step s t (λ l bs rest. Opens f l (item_at (raws f l) levels bs) left h rest)
-head_opens f s t levels left h inner is step = step_map s t (λ l bs rest. (w : HeadWidth) × (opening_at bs ≡ Ok ((w, h), rest))) (λ l bs rest. Opens f l (item_at (raws f l) levels bs) left h rest)
-    (λ l bs rest p. subst (λ (n : ℕ). Opens f l (item_at (raws f l) levels bs) n h rest) (sym is) (opens_here f l levels bs rest p.0 h inner p.1)) step
+pub head_opens : (f : Formats) (s t : Input) (levels left : ℕ) (h : Head) → (head_kind h ≡ kind.tag → ⊥) → left ≡ levels → Step s t (λ l bs rest. (w : HeadWidth) × (opening_at bs ≡ Ok ((w, h), rest))) → Step s t (λ l bs rest. IsTaggedHead f l (item_at (raws f l) levels bs) left h rest)
+head_opens f s t levels left h inner is step = step_map s t (λ l bs rest. (w : HeadWidth) × (opening_at bs ≡ Ok ((w, h), rest))) (λ l bs rest. IsTaggedHead f l (item_at (raws f l) levels bs) left h rest)
+    (λ l bs rest p. subst (λ (n : ℕ). IsTaggedHead f l (item_at (raws f l) levels bs) n h rest) (sym is) (opens_here f l levels bs rest p.0 h inner p.1)) step
 
 pub head_stops : {t : Input} (allowed : ReadErrorCode → Bool) (f : Formats) (s : Input) (levels : ℕ) (kept : ReadError) (r : Refused) → Stopped allowed (λ l. opening_at) s t kept r → Stopped allowed (λ l. item_at (raws f l) levels) s t kept r
 head_stops allowed f s levels kept r h = stopped_map allowed (λ l. opening_at) (λ l. item_at (raws f l) levels) s kept r (λ l bs e is. item_opened (raws f l) levels bs ∙ rw is refl) h
@@ -70,7 +70,7 @@ pub one_more : (w : HeadWidth) (n : ℕ) (tags : List (HeadWidth × ℕ)) (read 
 one_more w n tags (Ok r) = refl
 one_more w n tags (Err f) = refl
 
-tag_opens : (f : Formats) (l : Limits) (levels left n : ℕ) (w : HeadWidth) (h : Head) (bs mid rest : List ℕ) → opening_at bs ≡ Ok ((w, head.Tag n), mid) → Opens f l (item_inside f l levels mid) left h rest → Opens f l (item_at (raws f l) levels bs) left h rest
+tag_opens : (f : Formats) (l : Limits) (levels left n : ℕ) (w : HeadWidth) (h : Head) (bs mid rest : List ℕ) → opening_at bs ≡ Ok ((w, head.Tag n), mid) → IsTaggedHead f l (item_inside f l levels mid) left h rest → IsTaggedHead f l (item_at (raws f l) levels bs) left h rest
 tag_opens f l levels left n w h bs mid rest is o = record {
   tags = (w, n) ∷ o.tags;
   width = o.width;
@@ -82,9 +82,9 @@ tag_stops : (f : Formats) (l : Limits) (levels n : ℕ) (w : HeadWidth) (bs mid 
 tag_stops f l levels n w bs mid e is stops = tag_read f l levels n w bs mid is ∙ rw stops refl
 
 pub behind_tag : (allowed : ReadErrorCode → Bool) (f : Formats) (s t u : Input) (levels left n : ℕ) (kept : ReadError) (r : Result Head Refused)
-    → Step s t (λ l bs rest. (w : HeadWidth) × (opening_at bs ≡ Ok ((w, head.Tag n), rest))) → OpensAt allowed f (λ l. item_inside f l levels) t u left kept r → OpensAt allowed f (λ l. item_at (raws f l) levels) s u left kept r
+    → Step s t (λ l bs rest. (w : HeadWidth) × (opening_at bs ≡ Ok ((w, head.Tag n), rest))) → TakesTaggedHead allowed f (λ l. item_inside f l levels) t u left kept r → TakesTaggedHead allowed f (λ l. item_at (raws f l) levels) s u left kept r
 behind_tag allowed f s t u levels left n kept (Ok h) one two =
-    step_then s t u (λ l bs rest. (w : HeadWidth) × (opening_at bs ≡ Ok ((w, head.Tag n), rest))) (λ l bs rest. Opens f l (item_inside f l levels bs) left h rest) (λ l bs rest. Opens f l (item_at (raws f l) levels bs) left h rest)
+    step_then s t u (λ l bs rest. (w : HeadWidth) × (opening_at bs ≡ Ok ((w, head.Tag n), rest))) (λ l bs rest. IsTaggedHead f l (item_inside f l levels bs) left h rest) (λ l bs rest. IsTaggedHead f l (item_at (raws f l) levels bs) left h rest)
     (λ l bs mid rest p o. tag_opens f l levels left n p.0 h bs mid rest p.1 o) one two
 behind_tag allowed f s t u levels left n kept (Err r) one two =
     stopped_then allowed (λ l. item_inside f l levels) (λ l. item_at (raws f l) levels) s t kept r (λ l bs rest. (w : HeadWidth) × (opening_at bs ≡ Ok ((w, head.Tag n), rest)))
@@ -102,10 +102,10 @@ pub inside_too_deep : (f : Formats) (l : Limits) (levels : ℕ) (bs : List ℕ) 
 inside_too_deep f l levels bs none = rw none refl
 
 pub inside_opens : (allowed : ReadErrorCode → Bool) (f : Formats) (s t u : Input) (levels inner left : ℕ) (kept : ReadError) (r : Result Head Refused) → levels ≡ inner + 1 → t ≡ s
-    → OpensAt allowed f (λ l. item_at (raws f l) inner) t u left kept r → OpensAt allowed f (λ l. item_inside f l levels) s u left kept r
+    → TakesTaggedHead allowed f (λ l. item_at (raws f l) inner) t u left kept r → TakesTaggedHead allowed f (λ l. item_inside f l levels) s u left kept r
 inside_opens allowed f s t u levels inner left kept (Ok h) is at step =
-    step_map s u (λ l bs rest. Opens f l (item_at (raws f l) inner bs) left h rest) (λ l bs rest. Opens f l (item_inside f l levels bs) left h rest)
-    (λ l bs rest o. subst (λ (read : Reads Raw). Opens f l read left h rest) (sym (inside_is f l levels inner bs is)) o) (subst (λ (x : Input). Step x u (λ l bs rest. Opens f l (item_at (raws f l) inner bs) left h rest)) at step)
+    step_map s u (λ l bs rest. IsTaggedHead f l (item_at (raws f l) inner bs) left h rest) (λ l bs rest. IsTaggedHead f l (item_inside f l levels bs) left h rest)
+    (λ l bs rest o. subst (λ (read : Reads Raw). IsTaggedHead f l read left h rest) (sym (inside_is f l levels inner bs is)) o) (subst (λ (x : Input). Step x u (λ l bs rest. IsTaggedHead f l (item_at (raws f l) inner bs) left h rest)) at step)
 inside_opens allowed f s t u levels inner left kept (Err r) is at stops =
     stopped_map allowed (λ l. item_at (raws f l) inner) (λ l. item_inside f l levels) s kept r (λ l bs e stops. inside_is f l levels inner bs is ∙ stops) (subst (λ (x : Input). Stopped allowed (λ l. item_at (raws f l) inner) x u kept r) at stops)
 
@@ -113,7 +113,7 @@ inside_opens allowed f s t u levels inner left kept (Err r) is at stops =
 
 -- a head that is no tag
 -- a short text is within no tag
-pub text_opened : (allowed : ReadErrorCode → Bool) (f : Formats) (s t : Input) (levels n : ℕ) (kept : ReadError) → Step s t (λ l bs rest. (w : HeadWidth) × (opening_at bs ≡ Ok ((w, head.Text (Some n)), rest))) → OpensItem allowed f levels s t kept (Ok (head.Text (Some n)))
+pub text_opened : (allowed : ReadErrorCode → Bool) (f : Formats) (s t : Input) (levels n : ℕ) (kept : ReadError) → Step s t (λ l bs rest. (w : HeadWidth) × (opening_at bs ≡ Ok ((w, head.Text (Some n)), rest))) → TakesItemHead allowed f levels s t kept (Ok (head.Text (Some n)))
 text_opened allowed f s t levels n kept step = (levels, head_opens f s t levels levels (head.Text (Some n)) (λ e. absurd cc) refl step)
 
 pub no_tag : (h : Head) → ((n : ℕ) → h ≡ head.Tag n → ⊥) → head_kind h ≡ kind.tag → ⊥

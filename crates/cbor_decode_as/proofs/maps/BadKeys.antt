@@ -1,8 +1,9 @@
 -- That the next key may not begin as it does is told.
-use Rattle.std.proofs.Common.{◌≡◌, ◌⊎◌, ◌+◌, ◌∙◌, refl, length, arith, ℕ, Bool, true, false, List, Option, Some, Ok, Err, inl, inr, sym, ap, subst}
+use Rattle.std.proofs.Common.{◌≡◌, ◌⊎◌, ◌+◌, ◌∙◌, refl, length, arith, ℕ, Bool, true, false, if◌then◌else◌, List, [], ◌∷◌, Option, Some, Ok, Err, inl, inr, sym, ap, subst}
 use Rattle.cbor_model.specs.Refusal.{end_in_map, wrong_struct_format}
-use Rattle.cbor_model.specs.Formats.{Formats}
-use Rattle.cbor_model.specs.Reader.{Fault, Reads, next_at}
+use Rattle.cbor_model.specs.Formats.{Formats, may_begin_key}
+use Rattle.cbor_model.specs.Raw.{Raw}
+use Rattle.cbor_model.specs.Reader.{Fault, Reads, before, item_at, key_at, next_at, pair_at, parts_by}
 use Rattle.cbor_model.specs.Reader as reader
 use Rattle.cbor_model.proofs.facts.Reader.{ok_is}
 use Rattle.cbor_read.specs.Source.{Input}
@@ -13,13 +14,15 @@ use Rattle.cbor_io.specs.declared.error.ErrorCode.TheVariants as code
 use Rattle.cbor_io.specs.declared.read_error.ReadError.{ReadError}
 use Rattle.cbor_io.specs.declared.read_error.ReadErrorCode.{ReadErrorCode}
 use Rattle.cbor_decode.specs.declared.refusal.Refused.{Refused}
-use Rattle.cbor_decode.specs.Gives.{FailsAs, FailsBy, IsErrorOf, Reports, Step, Stopped}
+use Rattle.cbor_decode.specs.Gives.{FailsAs, FailsBy, IsErrorOf, Limits, Reports, Step, Stopped}
 use Rattle.cbor_decode.specs.declared.cursor.Remaining.{Remaining}
 use Rattle.cbor_decode.specs.Heads.{remaining_of}
 use Rattle.cbor_decode.specs.Cursor.{behind_next}
-use Rattle.cbor_decode_as.specs.Cases.{TellsBadKey}
-use Rattle.cbor_decode_as.specs.MapAccesses.{Comes, key_front}
-use Rattle.cbor_decode_as.specs.Takes.{ExcusedBy}
+use Rattle.cbor_decode_as.specs.Cases.{IsBadKey, TellsBadKey}
+use Rattle.cbor_decode_as.specs.MapAccesses.{Comes, IsMapHead, key_front, map_of, pairs_at}
+use Rattle.cbor_decode_as.specs.TaggedHeads.{in_tags}
+use Rattle.cbor_decode_as.specs.Takes.{ExcusedBy, raws}
+use Rattle.cbor_decode_as.proofs.maps.PairsRead.{PairsSoFar, with_pairs}
 use Rattle.cbor_decode_as.proofs.numbers.Scalars.{excused_or, told_by}
 
 -- ---- faults
@@ -98,3 +101,29 @@ pub bad_key_told : {w : Input} (allowed : ReadErrorCode → Bool) (f g : Formats
 bad_key_told allowed f g remaining behind false s a kept r same comes step h e made = absurd cc
 bad_key_told {w = w} allowed f g remaining behind true s a kept r same comes step h e made =
     bad_key_here allowed f remaining s behind a step kept r (subst (λ (k : Formats). Stopped allowed (λ l. key_front k) a w kept r) same h) e made
+
+-- ---- the whole map
+
+-- what stops the key before it is read
+key_stops : (f : Formats) (p : List ℕ → Reads Raw) (key : List ℕ) (d : Fault) → key_front f key ≡ Err d → key_at (may_begin_key f) p key ≡ Err d
+unfolding key_at
+key_stops f p [] d e = ap (λ (f : Fault). Err f) (fault_is _ d e)
+key_stops f p (b ∷ key) d e = by_first (may_begin_key f b) (tt, b ∷ key) (p (b ∷ key)) (before wrong_struct_format (b ∷ key)) e
+  where
+    by_first : {A B : Type 0} (c : Bool) (x : A × List ℕ) (read : Reads B) (g : Fault) → (if c then Ok x else Err g) ≡ Err d → (if c then read else Err g) ≡ Err d
+    by_first true x read g e = absurd (not_both x d e)
+    by_first false x read g e = ap (λ (f : Fault). Err f) (fault_is g d e)
+
+-- the pairs that remain aren't read where the first key may not begin as it does
+pairs_stop : (f : Formats) (l : Limits) (levels : ℕ) (r : reader.Remaining) (bs : List ℕ) (at : ℕ) → IsBadKey f r l bs at → FailsAs wrong_struct_format l.total at (pairs_at f l levels r bs)
+unfolding parts_by pair_at
+pairs_stop f l levels r bs at bad =
+    (bad.refused.0, bad.refused.1, rw (bad.comes, key_stops f (item_at (raws f l) levels) bad.key _ bad.refused.2) refl)
+
+-- nor is the map, of which some pairs were read
+pub map_stops : (P : List (Raw × Raw) → Type 0) (f : Formats) (l : Limits) (levels left : ℕ) (all r : Remaining) (bs mid rest : List ℕ) (at : ℕ)
+    → IsMapHead f l (item_at (raws f l) levels bs) left all mid → PairsSoFar P f left (remaining_of all) (remaining_of r) l mid rest → IsBadKey f (remaining_of r) l rest at → FailsAs wrong_struct_format l.total at (item_at (raws f l) levels bs)
+map_stops P f l levels left all r bs mid rest at head so bad =
+    let stops = pairs_stop f l left (remaining_of r) rest at bad in
+    let whole = sym so.same ∙ ap (with_pairs so.front) stops.2 in
+    (stops.0, stops.1, head.is ∙ ap (λ (pairs : _). in_tags head.tags (map_of head.len pairs)) whole)

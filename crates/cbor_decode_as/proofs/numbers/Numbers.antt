@@ -18,7 +18,7 @@ use Rattle.cbor_decode.specs.Heads.{behind_head}
 use Rattle.cbor_decode.specs.declared.head.Head.{Head}
 use Rattle.cbor_decode.specs.declared.head.Head.TheVariants as head
 use Rattle.cbor_decode_as.specs.Takes.{raws, IsRead, IsNotRead, Refuses}
-use Rattle.cbor_decode_as.specs.TaggedHeads.{OpensItem}
+use Rattle.cbor_decode_as.specs.TaggedHeads.{TakesItemHead}
 use Rattle.cbor_decode_as.specs.Kinds.{kind_of, head_kind}
 use Rattle.cbor_decode_as.specs.Kinds as kind
 use Rattle.cbor_decode_as.specs.Scalars.{IsNumber}
@@ -66,7 +66,7 @@ number_head f l inner w (head.Float m) bs rest r z is tag means = no_kind (head.
 number_head f l inner w head.Break bs rest r z is tag means = no_kind head.Break r z (kinds f l inner w bs head.Break r rest is) (λ e. absurd cc) (λ e. absurd cc) tag means
 
 pub number_read : {X : Type 0} (allowed : ReadErrorCode → Bool) (f : Formats) (reads : Raw → X → Type 0) (levels : ℕ) (s t : Input) (kept : ReadError) (h : Head) (z : ℤ) (x : X) → ((r : Raw) → IsInteger r z → reads r x) → IsNumber h z
-    → OpensItem allowed f levels s t kept (Ok h) → Step s t (λ l bs rest. IsRead (PassesTags reads) (item_at (raws f l) levels bs) x rest)
+    → TakesItemHead allowed f levels s t kept (Ok h) → Step s t (λ l bs rest. IsRead (PassesTags reads) (item_at (raws f l) levels bs) x rest)
 number_read allowed f reads levels s t kept (head.Unsigned n) z x also is = takes_scalar allowed f reads levels s t kept (head.Unsigned n) x (λ w. raw.unsigned w n) (λ l inner w mid. refl) (λ w. also (raw.unsigned w n) is)
 number_read allowed f reads levels s t kept (head.Negative n) z x also is = takes_scalar allowed f reads levels s t kept (head.Negative n) x (λ w. raw.negative w n) (λ l inner w mid. refl) (λ w. also (raw.negative w n) is)
 number_read allowed f reads levels s t kept (head.Bytes m) z x also is = absurd is
@@ -82,7 +82,7 @@ number_read allowed f reads levels s t kept head.Break z x also is = absurd is
 
 -- what isn't a number of the head isn't read, whatever the error
 pub number_unread : {X : Type 0} (allowed : ReadErrorCode → Bool) (f : Formats) (reads : Raw → X → Type 0) (levels : ℕ) (s t : Input) (kept : ReadError) (h : Head) (number : X → ℤ) → ((r : Raw) (x : X) → reads r x → IsInteger r (number x)) → ((r : Raw) (x : X) → reads r x → IsNumber h (number x) → ⊥)
-    → OpensItem allowed f levels s t kept (Ok h) → (bs : List ℕ) → Tells s bs → IsNotRead (PassesTags reads) (item_at (raws f (limits s bs)) levels bs)
+    → TakesItemHead allowed f levels s t kept (Ok h) → (bs : List ℕ) → Tells s bs → IsNotRead (PassesTags reads) (item_at (raws f (limits s bs)) levels bs)
 number_unread allowed f reads levels s t kept h number is none (left, step) bs tells =
     let l = limits s bs in
     let got = step.told bs tells in
@@ -90,5 +90,5 @@ number_unread allowed f reads levels s t kept h number is none (left, step) bs t
     opened_none f reads l (item_at (raws f l) levels bs) left h got.rest o (λ r rest x read means. none (untagged r) x means (number_head f l (inside (raws f l) left) o.width h got.rest rest r (number x) read o.inner (is (untagged r) x means)))
 
 pub number_none : {X : Type 0} (allowed : ReadErrorCode → Bool) (f : Formats) (reads : Raw → X → Type 0) (levels : ℕ) (s t : Input) (kept : ReadError) (h : Head) (e : Error) (number : X → ℤ) → ((r : Raw) (x : X) → reads r x → IsInteger r (number x)) → ((r : Raw) (x : X) → reads r x → IsNumber h (number x) → ⊥)
-    → OpensItem allowed f levels s t kept (Ok h) → Refuses allowed s t (code_of e) (offset_of e) (λ l bs. IsNotRead (PassesTags reads) (item_at (raws f l) levels bs))
+    → TakesItemHead allowed f levels s t kept (Ok h) → Refuses allowed s t (code_of e) (offset_of e) (λ l bs. IsNotRead (PassesTags reads) (item_at (raws f l) levels bs))
 number_none allowed f reads levels s t kept h e number is none opens = record { took = opens.1.took; told = λ bs tells. inr (number_unread allowed f reads levels s t kept h number is none opens bs tells) }

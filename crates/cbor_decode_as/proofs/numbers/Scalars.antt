@@ -25,7 +25,7 @@ use Rattle.cbor_decode.specs.declared.refusal.Refused.{Refused}
 use Rattle.cbor_decode.specs.declared.refusal.Refused.TheVariants as refused
 use Rattle.cbor_decode.proofs.facts.Steps.{some_then, step_map}
 use Rattle.cbor_decode_as.specs.Takes.{raws, IsRead, IsNotRead, ExcusedBy, MemoryFor, Refuses, TellsFault}
-use Rattle.cbor_decode_as.specs.TaggedHeads.{tagged, in_tags, Opens, OpensItem}
+use Rattle.cbor_decode_as.specs.TaggedHeads.{tagged, in_tags, IsTaggedHead, TakesItemHead}
 use Rattle.cbor_decode_as.specs.Kinds.{kind_of, head_kind}
 use Rattle.cbor_decode_as.specs.Kinds as kind
 use Rattle.cbor_decode_as.specs.Scalars.{IsFloatItem}
@@ -118,7 +118,7 @@ within_tags ts (Ok x) r rest is =
     record { item = x.0; is = ap (λ (p : Raw × List ℕ). Ok (x.0, p.1)) both; wrapped = sym (ap (λ (p : Raw × List ℕ). p.0) both) }
 within_tags ts (Err f) r rest is = absurd cc
 
-module _ {A : Type 0} (f : Formats) (reads : Raw → A → Type 0) (l : Limits) (read : Reads Raw) (left : ℕ) (h : Head) (mid : List ℕ) (o : Opens f l read left h mid) where
+module _ {A : Type 0} (f : Formats) (reads : Raw → A → Type 0) (l : Limits) (read : Reads Raw) (left : ℕ) (h : Head) (mid : List ℕ) (o : IsTaggedHead f l read left h mid) where
   abbrev behind : Reads Raw
   behind = behind_head (raws f l) (inside (raws f l) left) o.width h mid
 
@@ -145,15 +145,15 @@ module _ {A : Type 0} (f : Formats) (reads : Raw → A → Type 0) (l : Limits) 
 
 pub takes_scalar : {A : Type 0} (allowed : ReadErrorCode → Bool) (f : Formats) (reads : Raw → A → Type 0) (levels : ℕ) (s t : Input) (kept : ReadError) (h : Head) (x : A) (item : HeadWidth → Raw)
     → ((l : Limits) (inner : Option (List ℕ → Reads Raw)) (w : HeadWidth) (mid : List ℕ) → behind_head (raws f l) inner w h mid ≡ Ok (item w, mid)) → ((w : HeadWidth) → reads (untagged (item w)) x)
-    → OpensItem allowed f levels s t kept (Ok h) → Step s t (λ l bs rest. IsRead (PassesTags reads) (item_at (raws f l) levels bs) x rest)
+    → TakesItemHead allowed f levels s t kept (Ok h) → Step s t (λ l bs rest. IsRead (PassesTags reads) (item_at (raws f l) levels bs) x rest)
 takes_scalar allowed f reads levels s t kept h x item whole means (left, step) =
-    step_map s t (λ l bs rest. Opens f l (item_at (raws f l) levels bs) left h rest) (λ l bs rest. IsRead (PassesTags reads) (item_at (raws f l) levels bs) x rest)
+    step_map s t (λ l bs rest. IsTaggedHead f l (item_at (raws f l) levels bs) left h rest) (λ l bs rest. IsRead (PassesTags reads) (item_at (raws f l) levels bs) x rest)
     (λ l bs rest o. opened_read f reads l (item_at (raws f l) levels bs) left h rest o (item o.width) rest x (whole l (inside (raws f l) left) o.width rest) (means o.width)) step
 
 -- an item of another kind isn't read, whatever the error
 pub scalar_unread : {A : Type 0} (allowed : ReadErrorCode → Bool) (f : Formats) (reads : Raw → A → Type 0) (levels : ℕ) (s t : Input) (kept : ReadError) (h : Head)
     → ((r : Raw) (x : A) → reads (untagged r) x → (kind_of r ≡ kind.tag → ⊥) → kind_of r ≡ head_kind h → ⊥)
-    → OpensItem allowed f levels s t kept (Ok h) → (bs : List ℕ) → Tells s bs → IsNotRead (PassesTags reads) (item_at (raws f (limits s bs)) levels bs)
+    → TakesItemHead allowed f levels s t kept (Ok h) → (bs : List ℕ) → Tells s bs → IsNotRead (PassesTags reads) (item_at (raws f (limits s bs)) levels bs)
 scalar_unread allowed f reads levels s t kept h other (left, step) bs tells =
     let l = limits s bs in
     let o = (step.told bs tells).holds in
@@ -161,11 +161,11 @@ scalar_unread allowed f reads levels s t kept h other (left, step) bs tells =
 
 pub none_scalar : {A : Type 0} (allowed : ReadErrorCode → Bool) (f : Formats) (reads : Raw → A → Type 0) (levels : ℕ) (s t : Input) (kept : ReadError) (h : Head) (e : Error)
     → ((r : Raw) (x : A) → reads (untagged r) x → (kind_of r ≡ kind.tag → ⊥) → kind_of r ≡ head_kind h → ⊥)
-    → OpensItem allowed f levels s t kept (Ok h) → Refuses allowed s t (code_of e) (offset_of e) (λ l bs. IsNotRead (PassesTags reads) (item_at (raws f l) levels bs))
+    → TakesItemHead allowed f levels s t kept (Ok h) → Refuses allowed s t (code_of e) (offset_of e) (λ l bs. IsNotRead (PassesTags reads) (item_at (raws f l) levels bs))
 none_scalar allowed f reads levels s t kept h e other opens = record { took = opens.1.took; told = λ bs tells. inr (scalar_unread allowed f reads levels s t kept h other opens bs tells) }
 
 pub stops_scalar : {A : Type 0} (allowed : ReadErrorCode → Bool) (f : Formats) (reads : Raw → A → Type 0) (levels : ℕ) (s t : Input) (kept : ReadError) (r : Refused) (e : Error)
-    → OpensItem allowed f levels s t kept (Err r) → IsErrorOf kept r e → Refuses allowed s t (code_of e) (offset_of e) (λ l bs. IsNotRead reads (item_at (raws f l) levels bs))
+    → TakesItemHead allowed f levels s t kept (Err r) → IsErrorOf kept r e → Refuses allowed s t (code_of e) (offset_of e) (λ l bs. IsNotRead reads (item_at (raws f l) levels bs))
 stops_scalar allowed f reads levels s t kept r e (left, stops) is = refuses allowed reads (λ l. item_at (raws f l) levels) s kept r e is stops
 
 -- ---- kinds
@@ -293,17 +293,17 @@ abbrev pub bool_item : Bool → Simple
 bool_item false = false_item
 bool_item true = true_item
 
-pub bool_read : (allowed : ReadErrorCode → Bool) (f : Formats) (levels : ℕ) (s t : Input) (kept : ReadError) (b : Bool) → OpensItem allowed f levels s t kept (Ok (head.Bool b)) → Step s t (λ l bs rest. IsRead (PassesTags IsBool) (item_at (raws f l) levels bs) b rest)
+pub bool_read : (allowed : ReadErrorCode → Bool) (f : Formats) (levels : ℕ) (s t : Input) (kept : ReadError) (b : Bool) → TakesItemHead allowed f levels s t kept (Ok (head.Bool b)) → Step s t (λ l bs rest. IsRead (PassesTags IsBool) (item_at (raws f l) levels bs) b rest)
 bool_read allowed f levels s t kept false = takes_scalar allowed f IsBool levels s t kept (head.Bool false) false (λ w. raw.simple false_item) (λ l inner w mid. refl) (λ w. refl)
 bool_read allowed f levels s t kept true = takes_scalar allowed f IsBool levels s t kept (head.Bool true) true (λ w. raw.simple true_item) (λ l inner w mid. refl) (λ w. refl)
 
-pub float_read : (allowed : ReadErrorCode → Bool) (f : Formats) (levels : ℕ) (s t : Input) (kept : ReadError) (x : Float) → OpensItem allowed f levels s t kept (Ok (head.Float x)) → Step s t (λ l bs rest. IsRead (PassesTags IsFloatItem) (item_at (raws f l) levels bs) x rest)
+pub float_read : (allowed : ReadErrorCode → Bool) (f : Formats) (levels : ℕ) (s t : Input) (kept : ReadError) (x : Float) → TakesItemHead allowed f levels s t kept (Ok (head.Float x)) → Step s t (λ l bs rest. IsRead (PassesTags IsFloatItem) (item_at (raws f l) levels bs) x rest)
 float_read allowed f levels s t kept (Half n) = takes_scalar allowed f IsFloatItem levels s t kept (head.Float (Half n)) (Half n) (λ w. raw.float raw.half n) (λ l inner w mid. refl) (λ w. refl)
 float_read allowed f levels s t kept (Single n) = takes_scalar allowed f IsFloatItem levels s t kept (head.Float (Single n)) (Single n) (λ w. raw.float raw.single n) (λ l inner w mid. refl) (λ w. refl)
 float_read allowed f levels s t kept (Double n) = takes_scalar allowed f IsFloatItem levels s t kept (head.Float (Double n)) (Double n) (λ w. raw.float raw.double n) (λ l inner w mid. refl) (λ w. refl)
 
-pub null_read : (allowed : ReadErrorCode → Bool) (f : Formats) (levels : ℕ) (s t : Input) (kept : ReadError) → OpensItem allowed f levels s t kept (Ok head.Null) → Step s t (λ l bs rest. IsRead (PassesTags IsUnit) (item_at (raws f l) levels bs) tt rest)
+pub null_read : (allowed : ReadErrorCode → Bool) (f : Formats) (levels : ℕ) (s t : Input) (kept : ReadError) → TakesItemHead allowed f levels s t kept (Ok head.Null) → Step s t (λ l bs rest. IsRead (PassesTags IsUnit) (item_at (raws f l) levels bs) tt rest)
 null_read allowed f levels s t kept = takes_scalar allowed f IsUnit levels s t kept head.Null tt (λ w. raw.simple null_item) (λ l inner w mid. refl) (λ w. tt)
 
-pub undefined_read : (allowed : ReadErrorCode → Bool) (f : Formats) (levels : ℕ) (s t : Input) (kept : ReadError) → OpensItem allowed f levels s t kept (Ok head.Undefined) → Step s t (λ l bs rest. IsRead (PassesTags IsUnit) (item_at (raws f l) levels bs) tt rest)
+pub undefined_read : (allowed : ReadErrorCode → Bool) (f : Formats) (levels : ℕ) (s t : Input) (kept : ReadError) → TakesItemHead allowed f levels s t kept (Ok head.Undefined) → Step s t (λ l bs rest. IsRead (PassesTags IsUnit) (item_at (raws f l) levels bs) tt rest)
 undefined_read allowed f levels s t kept = takes_scalar allowed f IsUnit levels s t kept head.Undefined tt (λ w. raw.simple undefined_item) (λ l inner w mid. refl) (λ w. tt)

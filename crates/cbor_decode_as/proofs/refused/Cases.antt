@@ -2,7 +2,7 @@
 use Rattle.std.proofs.Common.{◌≡◌, ◌≢◌, ◌⊎◌, ◌+◌, ◌∙◌, refl, length, IfErr, arith, ℕ, Bool, true, false, List, Option, Some, None, Result, Ok, Err, inl, inr, sym, ap, ap₂, subst}
 use Rattle.cbor_model.specs.Refusal.{end_in_array, end_in_map, wrong_struct_format}
 use Rattle.cbor_model.specs.Formats.{Formats}
-use Rattle.cbor_model.specs.Reader.{Fault, Reads, item_at, next_at}
+use Rattle.cbor_model.specs.Reader.{Fault, Reads, next_at}
 use Rattle.cbor_model.specs.Reader as reader
 use Rattle.cbor_model.proofs.facts.Reader.{ok_is}
 use Rattle.cbor_read.specs.Source.{Input}
@@ -20,15 +20,16 @@ use Rattle.cbor_decode.specs.Gives.{FailsAs, FailsBy, IsErrorOf, Limits, limits,
 use Rattle.cbor_decode.specs.declared.cursor.Remaining.{Remaining}
 use Rattle.cbor_decode.specs.Heads.{remaining_of}
 use Rattle.cbor_decode.specs.Cursor.{behind_next}
-use Rattle.cbor_decode_as.specs.Accesses.{IsArrayHead}
+use Rattle.cbor_decode.specs.declared.head.Head.TheVariants.{Array}
+use Rattle.cbor_decode_as.specs.Begins.{Begins}
 use Rattle.cbor_decode_as.specs.Cases.{Cases, HasCase, CaseHolds, NoItemHere, IsEmptyArray, IsInOtherForm, IsBadPair, TellsTooShort, form_cases, untagged_cases, enum_cases, unit_cases, key_cases}
 use Rattle.cbor_decode_as.specs.Identifiers.{IsMadeBy, NamesNoKey}
 use Rattle.cbor_decode_as.specs.MapAccesses.{key_front}
 use Rattle.cbor_decode_as.specs.declared.identifier.Why.{Why}
 use Rattle.cbor_decode_as.specs.declared.identifier.Why.TheVariants as unnamed
-use Rattle.cbor_decode_as.specs.Takes.{raws, TellsFault}
+use Rattle.cbor_decode_as.specs.Takes.{TellsFault}
 use Rattle.cbor_decode_as.specs.Variants.{IsShaped, TakesComing, pair_head_at}
-use Rattle.cbor_decode_as.specs.Tags.{IsBehindTags}
+use Rattle.cbor_decode_as.specs.Tags.{passed_at}
 use Rattle.cbor_decode_as.specs.declared.variant.Form.TheVariants as form
 use Rattle.cbor_decode_as.specs.declared.variant.Shape.{Shape}
 use Rattle.cbor_decode_as.proofs.numbers.Scalars.{excused_or, told_by}
@@ -147,25 +148,25 @@ shaped_stand f g levels n s a x (Ok v) formats same step h = tt
 shaped_stand f g levels n s a x (Err e) formats same step h =
     let there = subst (λ (k : ℕ). HasCase a e (untagged_cases f k)) same (subst (λ (k : Formats). HasCase a e (untagged_cases k n)) formats h) in
     stands_then s a e (λ l bs rest. IsShaped x bs rest) (untagged_cases f levels) (untagged_cases f levels) (record {
-      short = λ l bs rest at here h. subst (λ (b : List ℕ). IsEmptyArray f levels l b at) here.1 h;
+      short = λ l bs rest at here h. subst (λ (b : List ℕ). IsEmptyArray levels l b at) here.1 h;
       long = λ l bs rest at here h. h;
       enum = λ l bs rest at here h. subst (λ (b : List ℕ). IsInOtherForm f l b at) here.1 h;
       key = λ l bs rest at here h. subst (λ (b : List ℕ). IsBadPair f levels l b at) here.1 h;
     }) step there
 
 -- the enum begins after its tags
-pub tagged_stand : {X : Type 0} (f g : Formats) (levels left : ℕ) (s a : Input) (r : Result X Error) → g ≡ f → Step s a (λ l bs rest. IsBehindTags f l (item_at (raws f l) levels bs) left rest) → IfErr r (λ e. HasCase a e (untagged_cases g left)) → IfErr r (λ e. HasCase s e (enum_cases f levels))
+pub tagged_stand : {X : Type 0} (f g : Formats) (levels left : ℕ) (s a : Input) (r : Result X Error) → g ≡ f → Step s a (λ l bs rest. passed_at levels bs ≡ Ok (left, rest)) → IfErr r (λ e. HasCase a e (untagged_cases g left)) → IfErr r (λ e. HasCase s e (enum_cases f levels))
 tagged_stand f g levels left s a (Ok v) formats step h = tt
 tagged_stand f g levels left s a (Err e) formats step h =
-    stands_then s a e (λ l bs rest. IsBehindTags f l (item_at (raws f l) levels bs) left rest) (untagged_cases f left) (enum_cases f levels) (record {
-      short = λ l bs rest at behind h. record { left = left; rest = rest; behind = behind; holds = h };
-      long = λ l bs rest at behind h. h;
-      enum = λ l bs rest at behind h. record { left = left; rest = rest; behind = behind; holds = h };
-      key = λ l bs rest at behind h. record { left = left; rest = rest; behind = behind; holds = h };
+    stands_then s a e (λ l bs rest. passed_at levels bs ≡ Ok (left, rest)) (untagged_cases f left) (enum_cases f levels) (record {
+      short = λ l bs rest at tags h. record { left = left; rest = rest; tags = tags; holds = h };
+      long = λ l bs rest at tags h. h;
+      enum = λ l bs rest at tags h. record { left = left; rest = rest; tags = tags; holds = h };
+      key = λ l bs rest at tags h. record { left = left; rest = rest; tags = tags; holds = h };
     }) step (subst (λ (k : Formats). HasCase a e (untagged_cases k left)) formats h)
 
 -- no first item comes of an array
-pub empty_stands : (f : Formats) (levels left : ℕ) (remaining : Remaining) (s a : Input) (e : Error) → Step s a (λ l bs rest. IsArrayHead f l (item_at (raws f l) levels bs) left remaining rest) → TellsNoForm (code_of e) ⊎ NoItemHere code.ArrayTooShort remaining a e → HasCase s e (untagged_cases f levels)
+pub empty_stands : (f : Formats) (levels left : ℕ) (remaining : Remaining) (s a : Input) (e : Error) → Step s a (λ l bs rest. Begins Array levels left remaining bs rest) → TellsNoForm (code_of e) ⊎ NoItemHere code.ArrayTooShort remaining a e → HasCase s e (untagged_cases f levels)
 empty_stands f levels left remaining s a e step (inl other) = other_stands s e (untagged_cases f levels) other
 empty_stands f levels left remaining s a e step (inr none) = record {
   told = λ bs tells.

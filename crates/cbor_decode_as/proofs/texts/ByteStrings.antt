@@ -15,7 +15,7 @@ use Rattle.cbor_decode.specs.declared.head.Head.TheVariants as head
 use Rattle.cbor_decode.proofs.facts.Steps.{step_then}
 use Rattle.cbor_decode_as.specs.Kinds.{kind_of, head_kind}
 use Rattle.cbor_decode_as.specs.Kinds as kind
-use Rattle.cbor_decode_as.specs.TaggedHeads.{Opens, OpensItem}
+use Rattle.cbor_decode_as.specs.TaggedHeads.{IsTaggedHead, TakesItemHead}
 use Rattle.cbor_decode_as.specs.Takes.{raws, lending, IsRead, IsNotRead}
 use Rattle.cbor_decode_as.specs.Strings.{content_at, is_lent_head, IsByteString, IsLentBytes, Lent, LendsBytes}
 use Rattle.cbor_decode_as.specs.declared.borrowed.Unread.{Unread}
@@ -68,11 +68,11 @@ not_bytes h bytes (raw.float w bits) x is tag k = absurd is
 
 module _ {A : Type 0} (allowed : ReadErrorCode → Bool) (f : Formats) (reads : Raw → A → Type 0) (levels : ℕ) (s m : Input) (kept : ReadError) where
   -- a byte string was taken
-  pub byte_string_takes : (n : Option ℕ) → (opened : OpensItem allowed f levels s m kept (Ok (head.Bytes n))) → (t : Input) (b : List ℕ) (x : A)
+  pub byte_string_takes : (n : Option ℕ) → (opened : TakesItemHead allowed f levels s m kept (Ok (head.Bytes n))) → (t : Input) (b : List ℕ) (x : A)
       → ((r : Raw) → IsByteString r b → ((c : Context) → is_lent c r ≡ is_lent_head c (head.Bytes n)) → reads r x)
       → Step m t (λ l bs rest. content_at l (head.Bytes n) bs ≡ Ok (b, rest)) → Step s t (λ l bs rest. IsRead (PassesTags reads) (item_at (raws f l) levels bs) x rest)
   byte_string_takes n opened t b x means taken =
-      step_then s m t (λ l bs rest. Opens f l (item_at (raws f l) levels bs) opened.0 (head.Bytes n) rest) (λ l bs rest. content_at l (head.Bytes n) bs ≡ Ok (b, rest)) (λ l bs rest. IsRead (PassesTags reads) (item_at (raws f l) levels bs) x rest)
+      step_then s m t (λ l bs rest. IsTaggedHead f l (item_at (raws f l) levels bs) opened.0 (head.Bytes n) rest) (λ l bs rest. content_at l (head.Bytes n) bs ≡ Ok (b, rest)) (λ l bs rest. IsRead (PassesTags reads) (item_at (raws f l) levels bs) x rest)
       (λ l bs mid rest o is.
       let r = bytes_read f l (inside (raws f l) opened.0) o.width n mid b rest is in
       let bytes : IsByteString r.item b = of_kind r.item b r.string r.kind in
@@ -83,12 +83,12 @@ module _ (allowed : ReadErrorCode → Bool) (f : Formats) (l : Lends) (levels : 
   c = lending f l
 
   -- a byte string was lent
-  pub bytes_lent : (n : Option ℕ) (t : Input) (r : Result EitherLifetime Unread) → OpensItem allowed f levels s m kept (Ok (head.Bytes n)) → Lent allowed l (head.Bytes n) m t r → LendsBytes allowed c levels s t r
+  pub bytes_lent : (n : Option ℕ) (t : Input) (r : Result EitherLifetime Unread) → TakesItemHead allowed f levels s m kept (Ok (head.Bytes n)) → Lent allowed l (head.Bytes n) m t r → LendsBytes allowed c levels s t r
   bytes_lent n t (Ok p) opened is =
       byte_string_takes allowed f (IsLentBytes c) levels s m kept n opened t (part_bytes p) p (λ r bytes lent. (bytes, is.1 ∙ lends_bytes allowed f l levels s m kept n ∙ sym (lent c))) is.0
   bytes_lent n t (Err u) opened is = bytes_lacks allowed f l levels s m kept IsByteString n t u opened is
 
   -- an item of another kind is no byte string
-  pub other_bytes : (h : Head) (u : Unread) (t : Input) → ((n : Option ℕ) → h ≡ head.Bytes n → ⊥) → OpensItem allowed f levels s m kept (Ok h) → TookSome m t → LendsBytes allowed c levels s t (Err u)
+  pub other_bytes : (h : Head) (u : Unread) (t : Input) → ((n : Option ℕ) → h ≡ head.Bytes n → ⊥) → TakesItemHead allowed f levels s m kept (Ok h) → TookSome m t → LendsBytes allowed c levels s t (Err u)
   other_bytes h u t bytes opened more =
       lacks_all allowed s (λ limits bs. IsNotRead (PassesTags IsByteString) (item_at (raws f limits) levels bs)) (λ k at. refuses_on (none_at allowed f IsByteString levels s m kept h k at (λ r b is. not_bytes h bytes r b is) opened) more) u

@@ -28,7 +28,7 @@ use Rattle.cbor_decode.proofs.facts.Steps.{step_map, step_then, stopped_then}
 use Rattle.cbor_decode_as.specs.Kinds.{kind_of, head_kind}
 use Rattle.cbor_decode_as.specs.Kinds as kind
 use Rattle.cbor_decode_as.specs.Takes.{raws, IsRead, IsNotRead, Refuses, ExcusedBy}
-use Rattle.cbor_decode_as.specs.TaggedHeads.{in_tags, Opens, OpensItem}
+use Rattle.cbor_decode_as.specs.TaggedHeads.{in_tags, IsTaggedHead, TakesItemHead}
 use Rattle.cbor_decode_as.specs.Strings.{content_at, is_lent_head, KeepsTextOf, TakesText}
 use Rattle.cbor_decode_as.proofs.numbers.Scalars.{refuses, opened_read, opened_none, other_kind}
 
@@ -204,7 +204,7 @@ module _ (f : Formats) (l : Limits) (inner : Option (List ℕ → Reads Raw)) (w
 pub step_refuses : (allowed : ReadErrorCode → Bool) (s t : Input) (k : ErrorCode) (at : ℕ) (N : Limits → List ℕ → Type 0) → Step s t (λ l bs rest. N l bs) → Refuses allowed s t k at N
 step_refuses allowed s t k at N step = record { took = step.took; told = λ bs tells. inr (step.told bs tells).holds }
 
-module _ {A : Type 0} (allowed : ReadErrorCode → Bool) (f : Formats) (reads : Raw → A → Type 0) (levels : ℕ) (s m : Input) (kept : ReadError) (h : Head) (opened : OpensItem allowed f levels s m kept (Ok h)) where
+module _ {A : Type 0} (allowed : ReadErrorCode → Bool) (f : Formats) (reads : Raw → A → Type 0) (levels : ℕ) (s m : Input) (kept : ReadError) (h : Head) (opened : TakesItemHead allowed f levels s m kept (Ok h)) where
   abbrev item : Limits → List ℕ → Reads Raw
   item l bs = item_at (raws f l) levels bs
 
@@ -212,7 +212,7 @@ module _ {A : Type 0} (allowed : ReadErrorCode → Bool) (f : Formats) (reads : 
   inner l = inside (raws f l) opened.0
 
   abbrev Opened : Limits → List ℕ → List ℕ → Type 0
-  Opened l bs rest = Opens f l (item l bs) opened.0 h rest
+  Opened l bs rest = IsTaggedHead f l (item l bs) opened.0 h rest
 
   abbrev Taken : List ℕ → Limits → List ℕ → List ℕ → Type 0
   Taken b l bs rest = content_at l h bs ≡ Ok (b, rest)
@@ -241,21 +241,21 @@ module _ {A : Type 0} (allowed : ReadErrorCode → Bool) (f : Formats) (reads : 
       (λ l bs mid rest o is. opened_none f reads l (item l bs) opened.0 h mid o (λ r after x read means. none l o.width mid rest after r x is read means)) opened.1 taken
 
 module _ {A : Type 0} (allowed : ReadErrorCode → Bool) (f : Formats) (reads : Raw → A → Type 0) (levels : ℕ) (s m : Input) (kept : ReadError) (n : Option ℕ) where
-  abbrev OpensText : Type 0
-  OpensText = OpensItem allowed f levels s m kept (Ok (head.Text n))
+  abbrev TakesTextHead : Type 0
+  TakesTextHead = TakesItemHead allowed f levels s m kept (Ok (head.Text n))
 
-  abbrev OpensBytes : Type 0
-  OpensBytes = OpensItem allowed f levels s m kept (Ok (head.Bytes n))
+  abbrev TakesBytesHead : Type 0
+  TakesBytesHead = TakesItemHead allowed f levels s m kept (Ok (head.Bytes n))
 
-  pub bytes_stops : {u : Input} → OpensBytes → (r : Refused) (later : ReadError) (e : Error) → IsErrorOf later r e → Stopped allowed (λ l. content_at l (head.Bytes n)) m u later r → Refuses allowed s u (code_of e) (offset_of e) (λ l bs. IsNotRead (PassesTags reads) (item_at (raws f l) levels bs))
+  pub bytes_stops : {u : Input} → TakesBytesHead → (r : Refused) (later : ReadError) (e : Error) → IsErrorOf later r e → Stopped allowed (λ l. content_at l (head.Bytes n)) m u later r → Refuses allowed s u (code_of e) (offset_of e) (λ l bs. IsNotRead (PassesTags reads) (item_at (raws f l) levels bs))
   bytes_stops opened r later e is stopped = string_stops allowed f reads levels s m kept (head.Bytes n) opened r later e (λ l w bs g stops. bytes_stop f l (inside (raws f l) opened.0) w n bs g stops) is stopped
 
-  pub bytes_takes : OpensBytes → (t : Input) (b : List ℕ) (x : A) → ((r : Raw) → IsString r b → ((c : Context) → is_lent c r ≡ is_lent_head c (head.Bytes n)) → reads r x)
+  pub bytes_takes : TakesBytesHead → (t : Input) (b : List ℕ) (x : A) → ((r : Raw) → IsString r b → ((c : Context) → is_lent c r ≡ is_lent_head c (head.Bytes n)) → reads r x)
       → Step m t (λ l bs rest. content_at l (head.Bytes n) bs ≡ Ok (b, rest)) → Step s t (λ l bs rest. IsRead (PassesTags reads) (item_at (raws f l) levels bs) x rest)
   bytes_takes opened t b x means taken = string_takes allowed f reads levels s m kept (head.Bytes n) opened t b x (λ l w bs rest is. bytes_read f l (inside (raws f l) opened.0) w n bs b rest is) means taken
 
   -- a byte string that isn't UTF-8 is no text
-  pub bad_bytes : OpensBytes → (t : Input) (b : List ℕ) (view : A → List ℕ) → ((r : Raw) (x : A) → reads r x → IsText r (view x)) → (IsUtf8 b → ⊥)
+  pub bad_bytes : TakesBytesHead → (t : Input) (b : List ℕ) (view : A → List ℕ) → ((r : Raw) (x : A) → reads r x → IsText r (view x)) → (IsUtf8 b → ⊥)
       → Step m t (λ l bs rest. content_at l (head.Bytes n) bs ≡ Ok (b, rest)) → Step s t (λ l bs rest. IsNotRead (PassesTags reads) (item_at (raws f l) levels bs))
   bad_bytes opened t b view text bad taken = string_none allowed f reads levels s m kept (head.Bytes n) opened t b
       (λ l w bs rest after r x is read means.
@@ -266,13 +266,13 @@ module _ {A : Type 0} (allowed : ReadErrorCode → Bool) (f : Formats) (reads : 
       let found = text r x means' in
       bad (subst IsUtf8 (same_bytes r b (view x) string found.0) found.1)) taken
 
-  pub bytes_bad : OpensBytes → (t : Input) (b : List ℕ) (k : ErrorCode) (at : ℕ) (view : A → List ℕ) → ((r : Raw) (x : A) → reads r x → IsText r (view x)) → (IsUtf8 b → ⊥)
+  pub bytes_bad : TakesBytesHead → (t : Input) (b : List ℕ) (k : ErrorCode) (at : ℕ) (view : A → List ℕ) → ((r : Raw) (x : A) → reads r x → IsText r (view x)) → (IsUtf8 b → ⊥)
       → Step m t (λ l bs rest. content_at l (head.Bytes n) bs ≡ Ok (b, rest)) → Refuses allowed s t k at (λ l bs. IsNotRead (PassesTags reads) (item_at (raws f l) levels bs))
   bytes_bad opened t b k at view text bad taken =
       step_refuses allowed s t k at (λ l bs. IsNotRead (PassesTags reads) (item_at (raws f l) levels bs)) (bad_bytes opened t b view text bad taken)
 
   -- a text was taken
-  pub text_takes : OpensText → (t : Input) (b : List ℕ) (x : A) → ((r : Raw) → IsString r b → IsUtf8 b → ((c : Context) → is_lent c r ≡ is_lent_head c (head.Text n)) → reads r x) → IsUtf8 b
+  pub text_takes : TakesTextHead → (t : Input) (b : List ℕ) (x : A) → ((r : Raw) → IsString r b → IsUtf8 b → ((c : Context) → is_lent c r ≡ is_lent_head c (head.Text n)) → reads r x) → IsUtf8 b
       → Step m t (λ l bs rest. content_at l (head.Text n) bs ≡ Ok (b, rest)) → Step s t (λ l bs rest. IsRead (PassesTags reads) (item_at (raws f l) levels bs) x rest)
   text_takes opened t b x means utf8 taken =
       string_takes allowed f reads levels s m kept (head.Text n) opened t b x (λ l w bs rest content. text_read f l (inside (raws f l) opened.0) w n bs b rest content utf8)
@@ -293,9 +293,9 @@ text_checked allowed view h s t b end kept (Err r) step is = λ e made.
 -- an item of another kind
 pub other_step : {A : Type 0} (allowed : ReadErrorCode → Bool) (f : Formats) (reads : Raw → A → Type 0) (levels : ℕ) (s t : Input) (kept : ReadError) (h : Head)
     → ((r : Raw) (x : A) → reads (untagged r) x → (kind_of r ≡ kind.tag → ⊥) → kind_of r ≡ head_kind h → ⊥)
-    → OpensItem allowed f levels s t kept (Ok h) → Step s t (λ l bs rest. IsNotRead (PassesTags reads) (item_at (raws f l) levels bs))
+    → TakesItemHead allowed f levels s t kept (Ok h) → Step s t (λ l bs rest. IsNotRead (PassesTags reads) (item_at (raws f l) levels bs))
 other_step allowed f reads levels s t kept h none opened =
-    step_map s t (λ l bs rest. Opens f l (item_at (raws f l) levels bs) opened.0 h rest) (λ l bs rest. IsNotRead (PassesTags reads) (item_at (raws f l) levels bs))
+    step_map s t (λ l bs rest. IsTaggedHead f l (item_at (raws f l) levels bs) opened.0 h rest) (λ l bs rest. IsNotRead (PassesTags reads) (item_at (raws f l) levels bs))
     (λ l bs rest o. other_kind f reads l (item_at (raws f l) levels bs) opened.0 h rest o (λ r x means is. none r x means (λ tag. o.inner (sym is ∙ tag)) is)) opened.1
 
 -- what follows is passed over
@@ -304,7 +304,7 @@ step_over {N = N} {P = P} {s = s} {m = m} {t = t} none over = step_then s m t (�
 
 pub none_at : {A : Type 0} (allowed : ReadErrorCode → Bool) (f : Formats) (reads : Raw → A → Type 0) (levels : ℕ) (s t : Input) (kept : ReadError) (h : Head) (k : ErrorCode) (at : ℕ)
     → ((r : Raw) (x : A) → reads (untagged r) x → (kind_of r ≡ kind.tag → ⊥) → kind_of r ≡ head_kind h → ⊥)
-    → OpensItem allowed f levels s t kept (Ok h) → Refuses allowed s t k at (λ l bs. IsNotRead (PassesTags reads) (item_at (raws f l) levels bs))
+    → TakesItemHead allowed f levels s t kept (Ok h) → Refuses allowed s t k at (λ l bs. IsNotRead (PassesTags reads) (item_at (raws f l) levels bs))
 none_at allowed f reads levels s t kept h k at none opened =
     step_refuses allowed s t k at (λ l bs. IsNotRead (PassesTags reads) (item_at (raws f l) levels bs)) (other_step allowed f reads levels s t kept h none opened)
 

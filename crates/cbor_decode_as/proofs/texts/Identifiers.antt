@@ -19,7 +19,7 @@ use Rattle.cbor_decode.specs.declared.head.Head.TheVariants as head
 use Rattle.cbor_decode_as.specs.Identifiers.{texts, place_of, IsFirst, IsPlace, IsIdentifier, Content, IsMadeBy, TakesBytesName}
 use Rattle.cbor_decode_as.specs.Kinds.{kind_of, head_kind}
 use Rattle.cbor_decode_as.specs.Kinds as kind
-use Rattle.cbor_decode_as.specs.TaggedHeads.{Opens, OpensItem}
+use Rattle.cbor_decode_as.specs.TaggedHeads.{IsTaggedHead, TakesItemHead}
 use Rattle.cbor_decode_as.specs.Strings.{content_at}
 use Rattle.cbor_decode_as.specs.Takes.{raws, IsRead, IsNotRead, Refuses, TakesItem, OnceMade}
 use Rattle.cbor_decode_as.specs.declared.identifier.Why.{Why}
@@ -121,28 +121,28 @@ module _ (names : List (List ℕ)) where
     abbrev Reads : Input → Option ℕ → Type 0
     Reads t place = Step s t (λ limits bs rest. IsRead (PassesTags (IsIdentifier names)) (item_at (raws f limits) levels bs) place rest)
 
-    pub number_names : (n : ℕ) (place : Option ℕ) → place ≡ place_of names n → OpensItem allowed f levels s m kept (Ok (head.Unsigned n)) → Reads m place
+    pub number_names : (n : ℕ) (place : Option ℕ) → place ≡ place_of names n → TakesItemHead allowed f levels s m kept (Ok (head.Unsigned n)) → Reads m place
     number_names n place is = takes_scalar allowed f (IsIdentifier names) levels s m kept (head.Unsigned n) place (λ w. raw.unsigned w n) (λ limits inner w mid. refl) (λ w. is)
 
-    pub text_names : (n : Option ℕ) (t : Input) (b : List ℕ) (place : Option ℕ) → IsUtf8 b → IsPlace names b place → OpensItem allowed f levels s m kept (Ok (head.Text n)) → Content (head.Text n) m t b → Reads t place
+    pub text_names : (n : Option ℕ) (t : Input) (b : List ℕ) (place : Option ℕ) → IsUtf8 b → IsPlace names b place → TakesItemHead allowed f levels s m kept (Ok (head.Text n)) → Content (head.Text n) m t b → Reads t place
     text_names n t b place utf8 at opened taken =
         string_takes allowed f (IsIdentifier names) levels s m kept (head.Text n) opened t b place (λ limits w bs rest content. text_read f limits (inside (raws f limits) opened.0) w n bs b rest content utf8)
         (λ r string lent. string_names r b place string at) taken
 
-    bytes_name : (n : Option ℕ) (t : Input) (b : List ℕ) (place : Option ℕ) → IsPlace names b place → OpensItem allowed f levels s m kept (Ok (head.Bytes n)) → Content (head.Bytes n) m t b → Reads t place
+    bytes_name : (n : Option ℕ) (t : Input) (b : List ℕ) (place : Option ℕ) → IsPlace names b place → TakesItemHead allowed f levels s m kept (Ok (head.Bytes n)) → Content (head.Bytes n) m t b → Reads t place
     bytes_name n t b place at opened taken =
         bytes_takes allowed f (IsIdentifier names) levels s m kept n opened t b place (λ r string lent. string_names r b place string at) taken
 
-    bytes_refused : {t : Input} (n : Option ℕ) (e : Error) → OpensItem allowed f levels s m kept (Ok (head.Bytes n))
+    bytes_refused : {t : Input} (n : Option ℕ) (e : Error) → TakesItemHead allowed f levels s m kept (Ok (head.Bytes n))
         → Refuses allowed m t (code_of e) (offset_of e) (λ limits bs. (b rest : List ℕ) → content_at limits (head.Bytes n) bs ≡ Ok (b, rest) → ⊥) → Refused t e
     bytes_refused n e opened none =
-        refuses_behind allowed s m (code_of e) (offset_of e) (λ limits bs rest. Opens f limits (item_at (raws f limits) levels bs) opened.0 (head.Bytes n) rest) _ (λ limits bs. IsNotRead (PassesTags (IsIdentifier names)) (item_at (raws f limits) levels bs))
+        refuses_behind allowed s m (code_of e) (offset_of e) (λ limits bs rest. IsTaggedHead f limits (item_at (raws f limits) levels bs) opened.0 (head.Bytes n) rest) _ (λ limits bs. IsNotRead (PassesTags (IsIdentifier names)) (item_at (raws f limits) levels bs))
         (λ limits bs mid o none. opened_none f (IsIdentifier names) limits (item_at (raws f limits) levels bs) opened.0 (head.Bytes n) mid o (λ r rest x read is. no_bytes allowed f l levels s m kept limits (inside (raws f limits) opened.0) o.width n mid _ refl none (r, rest) read)) opened.1 none
 
-    pub bytes_read : (n : Option ℕ) (t : Input) (later : ReadError) (r : Result (Option ℕ) Why) → OpensItem allowed f levels s m kept (Ok (head.Bytes n)) → TakesBytesName allowed names (head.Bytes n) m t later r
+    pub bytes_read : (n : Option ℕ) (t : Input) (later : ReadError) (r : Result (Option ℕ) Why) → TakesItemHead allowed f levels s m kept (Ok (head.Bytes n)) → TakesBytesName allowed names (head.Bytes n) m t later r
         → OnceMade (IsMadeBy later) (TakesItem allowed f (PassesTags (IsIdentifier names)) levels s t) r
     bytes_read n t later (Ok place) opened is = bytes_name n t is.0 place is.1 opened is.2
     bytes_read n t later (Err why) opened is = λ e made. bytes_refused n e opened (is e made)
 
-    pub other_refused : (h : Head) (e : Error) → ((n : ℕ) → h ≡ head.Unsigned n → ⊥) → ((n : Option ℕ) → h ≡ head.Text n → ⊥) → ((n : Option ℕ) → h ≡ head.Bytes n → ⊥) → OpensItem allowed f levels s m kept (Ok h) → Refused m e
+    pub other_refused : (h : Head) (e : Error) → ((n : ℕ) → h ≡ head.Unsigned n → ⊥) → ((n : Option ℕ) → h ≡ head.Text n → ⊥) → ((n : Option ℕ) → h ≡ head.Bytes n → ⊥) → TakesItemHead allowed f levels s m kept (Ok h) → Refused m e
     other_refused h e u t b opened = none_at allowed f (IsIdentifier names) levels s m kept h (code_of e) (offset_of e) (not_identifier h u t b) opened

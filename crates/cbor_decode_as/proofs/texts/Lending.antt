@@ -23,7 +23,7 @@ use Rattle.cbor_decode.specs.declared.head.Head.TheVariants as head
 use Rattle.cbor_decode.proofs.facts.Steps.{advances_some, step_map, step_then, taken_step, none_step}
 use Rattle.cbor_io.specs.declared.read_error.ReadError.{ReadError}
 use Rattle.cbor_decode.specs.Heads.{behind_head}
-use Rattle.cbor_decode_as.specs.TaggedHeads.{Opens, OpensItem}
+use Rattle.cbor_decode_as.specs.TaggedHeads.{IsTaggedHead, TakesItemHead}
 use Rattle.cbor_decode_as.specs.Takes.{raws, lending, IsRead, IsNotRead, ExcusedBy, Refuses}
 use Rattle.cbor_decode_as.specs.Strings.{IsNoKey, content_at, is_lent_head, lends_head, Lacks, Lent, LentText, LendsText, LendsString, IsLentText, IsLentString, IsMadeOf, BytesOf, PartText, Utf8Of, text_bytes}
 use Rattle.cbor_decode_as.specs.declared.borrowed.EitherStr.{EitherStr}
@@ -153,32 +153,32 @@ module _ (allowed : ReadErrorCode → Bool) (f : Formats) (l : Lends) (levels : 
   no_bytes limits inner w n bs (Err g) is none r read = not_both (behind_head (raws f limits) inner w (head.Bytes n) bs) r g read (bytes_stop f limits inner w n bs g is)
 
   -- nothing is read of a string whose content isn't there
-  pub text_lacks : {X : Type 0} (reads : Raw → X → Type 0) (n : Option ℕ) (t : Input) (u : Unread) → OpensItem allowed f levels s m kept (Ok (head.Text n)) → LentText allowed l (head.Text n) m t (Err u) → Lacks allowed s t (λ limits bs. IsNotRead (PassesTags reads) (item_at (raws f limits) levels bs)) u
+  pub text_lacks : {X : Type 0} (reads : Raw → X → Type 0) (n : Option ℕ) (t : Input) (u : Unread) → TakesItemHead allowed f levels s m kept (Ok (head.Text n)) → LentText allowed l (head.Text n) m t (Err u) → Lacks allowed s t (λ limits bs. IsNotRead (PassesTags reads) (item_at (raws f limits) levels bs)) u
   text_lacks reads n t u opened is =
-      lacks_behind allowed s m t (λ limits bs rest. Opens f limits (item_at (raws f limits) levels bs) opened.0 (head.Text n) rest) _ (λ limits bs. IsNotRead (PassesTags reads) (item_at (raws f limits) levels bs))
+      lacks_behind allowed s m t (λ limits bs rest. IsTaggedHead f limits (item_at (raws f limits) levels bs) opened.0 (head.Text n) rest) _ (λ limits bs. IsNotRead (PassesTags reads) (item_at (raws f limits) levels bs))
       (λ limits bs mid o none. opened_none f reads limits (item_at (raws f limits) levels bs) opened.0 (head.Text n) mid o (λ r rest x read text. no_text limits (inside (raws f limits) opened.0) o.width n mid _ refl none (r, rest) read)) opened.1 u is
 
-  pub bytes_lacks : {X : Type 0} (reads : Raw → X → Type 0) (n : Option ℕ) (t : Input) (u : Unread) → OpensItem allowed f levels s m kept (Ok (head.Bytes n)) → Lent allowed l (head.Bytes n) m t (Err u) → Lacks allowed s t (λ limits bs. IsNotRead (PassesTags reads) (item_at (raws f limits) levels bs)) u
+  pub bytes_lacks : {X : Type 0} (reads : Raw → X → Type 0) (n : Option ℕ) (t : Input) (u : Unread) → TakesItemHead allowed f levels s m kept (Ok (head.Bytes n)) → Lent allowed l (head.Bytes n) m t (Err u) → Lacks allowed s t (λ limits bs. IsNotRead (PassesTags reads) (item_at (raws f limits) levels bs)) u
   bytes_lacks reads n t u opened is =
-      lacks_behind allowed s m t (λ limits bs rest. Opens f limits (item_at (raws f limits) levels bs) opened.0 (head.Bytes n) rest) _ (λ limits bs. IsNotRead (PassesTags reads) (item_at (raws f limits) levels bs))
+      lacks_behind allowed s m t (λ limits bs rest. IsTaggedHead f limits (item_at (raws f limits) levels bs) opened.0 (head.Bytes n) rest) _ (λ limits bs. IsNotRead (PassesTags reads) (item_at (raws f limits) levels bs))
       (λ limits bs mid o none. opened_none f reads limits (item_at (raws f limits) levels bs) opened.0 (head.Bytes n) mid o (λ r rest x read text. no_bytes limits (inside (raws f limits) opened.0) o.width n mid _ refl none (r, rest) read)) opened.1 u is
 
-  pub text_refuses : {X : Type 0} {t : Input} (reads : Raw → X → Type 0) (n : Option ℕ) (k : ErrorCode) (at : ℕ) → OpensItem allowed f levels s m kept (Ok (head.Text n)) → Refuses allowed m t k at (λ limits bs. (b rest : List ℕ) → content_at limits (head.Text n) bs ≡ Ok (b, rest) → IsUtf8 b → ⊥)
+  pub text_refuses : {X : Type 0} {t : Input} (reads : Raw → X → Type 0) (n : Option ℕ) (k : ErrorCode) (at : ℕ) → TakesItemHead allowed f levels s m kept (Ok (head.Text n)) → Refuses allowed m t k at (λ limits bs. (b rest : List ℕ) → content_at limits (head.Text n) bs ≡ Ok (b, rest) → IsUtf8 b → ⊥)
       → Refuses allowed s t k at (λ limits bs. IsNotRead (PassesTags reads) (item_at (raws f limits) levels bs))
   text_refuses reads n k at opened none =
-      refuses_behind allowed s m k at (λ limits bs rest. Opens f limits (item_at (raws f limits) levels bs) opened.0 (head.Text n) rest) _ (λ limits bs. IsNotRead (PassesTags reads) (item_at (raws f limits) levels bs))
+      refuses_behind allowed s m k at (λ limits bs rest. IsTaggedHead f limits (item_at (raws f limits) levels bs) opened.0 (head.Text n) rest) _ (λ limits bs. IsNotRead (PassesTags reads) (item_at (raws f limits) levels bs))
       (λ limits bs mid o none. opened_none f reads limits (item_at (raws f limits) levels bs) opened.0 (head.Text n) mid o (λ r rest x read text. no_text limits (inside (raws f limits) opened.0) o.width n mid _ refl none (r, rest) read)) opened.1 none
 
-  pub text_item : (n : Option ℕ) (t : Input) (r : Result EitherStr Unread) → OpensItem allowed f levels s m kept (Ok (head.Text n)) → LentText allowed l (head.Text n) m t r → LendsText allowed c levels s t r
+  pub text_item : (n : Option ℕ) (t : Input) (r : Result EitherStr Unread) → TakesItemHead allowed f levels s m kept (Ok (head.Text n)) → LentText allowed l (head.Text n) m t r → LendsText allowed c levels s t r
   text_item n t (Ok x) opened is =
       string_takes allowed f (IsLentText c) levels s m kept (head.Text n) opened t (text_bytes x) x (λ limits w bs rest content. text_read f limits (inside (raws f limits) opened.0) w n bs (text_bytes x) rest content is.1)
       (λ r string lent. ((string, is.1), is.2 ∙ lends_text n ∙ sym (lent c))) is.0
   text_item n t (Err u) opened is = text_lacks IsText n t u opened is
 
-  pub bytes_stopped : (n : Option ℕ) (t : Input) (u : Unread) → OpensItem allowed f levels s m kept (Ok (head.Bytes n)) → Lent allowed l (head.Bytes n) m t (Err u) → LendsText allowed c levels s t (Err u)
+  pub bytes_stopped : (n : Option ℕ) (t : Input) (u : Unread) → TakesItemHead allowed f levels s m kept (Ok (head.Bytes n)) → Lent allowed l (head.Bytes n) m t (Err u) → LendsText allowed c levels s t (Err u)
   bytes_stopped n t u opened is = bytes_lacks IsText n t u opened is
 
-  pub bytes_item : (n : Option ℕ) (t : Input) (p : EitherLifetime) (r : Result EitherStr Unread) → OpensItem allowed f levels s m kept (Ok (head.Bytes n)) → Lent allowed l (head.Bytes n) m t (Ok p) → Utf8Of p r → LendsText allowed c levels s t r
+  pub bytes_item : (n : Option ℕ) (t : Input) (p : EitherLifetime) (r : Result EitherStr Unread) → TakesItemHead allowed f levels s m kept (Ok (head.Bytes n)) → Lent allowed l (head.Bytes n) m t (Ok p) → Utf8Of p r → LendsText allowed c levels s t r
   bytes_item n t p (Ok x) opened is text =
       bytes_takes allowed f (IsLentText c) levels s m kept n opened t (part_bytes p) x
       (λ r string lent. ((subst (IsString r) (sym text.0) string, subst IsUtf8 (sym text.0) text.1), text.2 ∙ is.1 ∙ lends_bytes n ∙ sym (lent c))) is.0
@@ -186,27 +186,27 @@ module _ (allowed : ReadErrorCode → Bool) (f : Formats) (l : Lends) (levels : 
       lacks_all allowed s (λ limits bs. IsNotRead (PassesTags IsText) (item_at (raws f limits) levels bs)) (λ k at. bytes_bad allowed f IsText levels s m kept n opened t (part_bytes p) k at (λ b. b) (λ r b is. is) text.0 is.0) u
 
   -- an item of another kind is no text
-  pub other_item : (h : Head) (u : Unread) (t : Input) → ((n : Option ℕ) → h ≡ head.Text n → ⊥) → ((n : Option ℕ) → h ≡ head.Bytes n → ⊥) → OpensItem allowed f levels s m kept (Ok h) → TookSome m t → LendsText allowed c levels s t (Err u)
+  pub other_item : (h : Head) (u : Unread) (t : Input) → ((n : Option ℕ) → h ≡ head.Text n → ⊥) → ((n : Option ℕ) → h ≡ head.Bytes n → ⊥) → TakesItemHead allowed f levels s m kept (Ok h) → TookSome m t → LendsText allowed c levels s t (Err u)
   other_item h u t text bytes opened more =
       lacks_all allowed s (λ limits bs. IsNotRead (PassesTags IsText) (item_at (raws f limits) levels bs)) (λ k at. refuses_on (none_at allowed f IsText levels s m kept h k at (λ r b is. not_string h text bytes r b is.0) opened) more) u
 
   -- ---- strings
 
-  pub bytes_string : (n : Option ℕ) (t : Input) (r : Result EitherLifetime Unread) → OpensItem allowed f levels s m kept (Ok (head.Bytes n)) → Lent allowed l (head.Bytes n) m t r → LendsString allowed c levels s t r
+  pub bytes_string : (n : Option ℕ) (t : Input) (r : Result EitherLifetime Unread) → TakesItemHead allowed f levels s m kept (Ok (head.Bytes n)) → Lent allowed l (head.Bytes n) m t r → LendsString allowed c levels s t r
   bytes_string n t (Ok p) opened is =
       bytes_takes allowed f (IsLentString c) levels s m kept n opened t (part_bytes p) p (λ r string lent. (string, is.1 ∙ lends_bytes n ∙ sym (lent c))) is.0
   bytes_string n t (Err u) opened is = bytes_lacks IsString n t u opened is
 
-  pub text_string : (n : Option ℕ) (t : Input) (x : EitherStr) (r : Result EitherLifetime Unread) → OpensItem allowed f levels s m kept (Ok (head.Text n)) → LentText allowed l (head.Text n) m t (Ok x) → BytesOf x r → LendsString allowed c levels s t r
+  pub text_string : (n : Option ℕ) (t : Input) (x : EitherStr) (r : Result EitherLifetime Unread) → TakesItemHead allowed f levels s m kept (Ok (head.Text n)) → LentText allowed l (head.Text n) m t (Ok x) → BytesOf x r → LendsString allowed c levels s t r
   text_string n t x (Ok p) opened is bytes =
       string_takes allowed f (IsLentString c) levels s m kept (head.Text n) opened t (text_bytes x) p (λ limits w bs rest content. text_read f limits (inside (raws f limits) opened.0) w n bs (text_bytes x) rest content is.1)
       (λ r string lent. (subst (IsString r) (sym bytes.0) string, bytes.1 ∙ is.2 ∙ lends_text n ∙ sym (lent c))) is.0
   text_string n t x (Err u) opened is bytes = absurd bytes
 
-  pub text_stopped : (n : Option ℕ) (t : Input) (u : Unread) → OpensItem allowed f levels s m kept (Ok (head.Text n)) → LentText allowed l (head.Text n) m t (Err u) → LendsString allowed c levels s t (Err u)
+  pub text_stopped : (n : Option ℕ) (t : Input) (u : Unread) → TakesItemHead allowed f levels s m kept (Ok (head.Text n)) → LentText allowed l (head.Text n) m t (Err u) → LendsString allowed c levels s t (Err u)
   text_stopped n t u opened is = text_lacks IsString n t u opened is
 
-  pub other_string : (h : Head) (u : Unread) (t : Input) → ((n : Option ℕ) → h ≡ head.Text n → ⊥) → ((n : Option ℕ) → h ≡ head.Bytes n → ⊥) → OpensItem allowed f levels s m kept (Ok h) → TookSome m t → LendsString allowed c levels s t (Err u)
+  pub other_string : (h : Head) (u : Unread) (t : Input) → ((n : Option ℕ) → h ≡ head.Text n → ⊥) → ((n : Option ℕ) → h ≡ head.Bytes n → ⊥) → TakesItemHead allowed f levels s m kept (Ok h) → TookSome m t → LendsString allowed c levels s t (Err u)
   other_string h u t text bytes opened more =
       lacks_all allowed s (λ limits bs. IsNotRead (PassesTags IsString) (item_at (raws f limits) levels bs)) (λ k at. refuses_on (none_at allowed f IsString levels s m kept h k at (λ r b is. not_string h text bytes r b is) opened) more) u
 

@@ -24,7 +24,7 @@ use Rattle.cbor_decode.specs.declared.head.Head.{Head}
 use Rattle.cbor_decode.specs.declared.head.Head.TheVariants as head
 use Rattle.cbor_decode.specs.declared.refusal.Refused.{Refused}
 use Rattle.cbor_decode.specs.declared.refusal.Refused.TheVariants as refused
-use Rattle.cbor_decode_as.specs.TaggedHeads.{AsksBehind, OpensItem, opened_at}
+use Rattle.cbor_decode_as.specs.TaggedHeads.{AsksBehind, TakesItemHead, opened_at}
 use Rattle.cbor_decode_as.specs.Takes.{raws, lending, IsNotRead, MemoryFor, OfItem}
 use Rattle.cbor_decode_as.specs.Strings.{AsksForBytes, AsksForString, AsksToLend, BytesOf, IsByteString, IsKept, IsMadeOf, Lacks, PartText, UnreadOnly, Utf8Of, asks_head, asks_string}
 use Rattle.cbor_decode_as.specs.declared.borrowed.EitherStr.{EitherStr}
@@ -138,7 +138,7 @@ module _ (allowed : ReadErrorCode → Bool) (a : Asks) (f : Formats) (levels : �
 
   -- the item after a head
   of_head : (h : Head) → ((l : Limits) (inner : Option (List ℕ → Reads Raw)) (w : HeadWidth) (bs : List ℕ) → AskAs a f l inner w bs h)
-      → OpensItem allowed f levels s m kept (Ok h) → asks_head a h ≡ true → OfItem Asked f levels s
+      → TakesItemHead allowed f levels s m kept (Ok h) → asks_head a h ≡ true → OfItem Asked f levels s
   of_head h all (left, step) asks bs tells r rest is =
       let l = limits s bs in
       let o = (step.told bs tells).holds in
@@ -168,27 +168,27 @@ module _ (allowed : ReadErrorCode → Bool) (a : Asks) (f : Formats) (levels : �
   passed : AsksBehind a found m → OfItem (λ r. AsksWhere a (HasChunks r)) all_formats levels s
   passed = behind_asks a found levels s m opens
 
-  pub of_text : {X : Type 0} (n : Option ℕ) (r : Result X Unread) → found.head ≡ head.Text n → OpensItem allowed f levels s m kept (Ok (head.Text n)) → IfErr r (UnreadOnly (asks_head a (head.Text n) ≡ true)) → IfErr r (UnreadOnly (AsksToLend AsksForString a f levels s))
+  pub of_text : {X : Type 0} (n : Option ℕ) (r : Result X Unread) → found.head ≡ head.Text n → TakesItemHead allowed f levels s m kept (Ok (head.Text n)) → IfErr r (UnreadOnly (asks_head a (head.Text n) ≡ true)) → IfErr r (UnreadOnly (AsksToLend AsksForString a f levels s))
   of_text n r is opened h = unread_err (asks_head a (head.Text n) ≡ true) (AsksToLend AsksForString a f levels s) r
       (λ asks. (λ bs tells i rest read b string. of_head (head.Text n) (λ l inner w bs. text_asks a f l inner w bs n) opened asks bs tells i rest read, passed (text_behind n is asks))) h
 
-  of_bytes_head : (n : Option ℕ) → OpensItem allowed f levels s m kept (Ok (head.Bytes n)) → asks_head a (head.Bytes n) ≡ true → OfItem Asked f levels s
+  of_bytes_head : (n : Option ℕ) → TakesItemHead allowed f levels s m kept (Ok (head.Bytes n)) → asks_head a (head.Bytes n) ≡ true → OfItem Asked f levels s
   of_bytes_head n = of_head (head.Bytes n) (λ l inner w bs. bytes_ask a f l inner w bs n)
 
-  pub of_bytes : {X : Type 0} (n : Option ℕ) (r : Result X Unread) → found.head ≡ head.Bytes n → OpensItem allowed f levels s m kept (Ok (head.Bytes n)) → IfErr r (UnreadOnly (asks_head a (head.Bytes n) ≡ true)) → IfErr r (UnreadOnly (AsksToLend AsksForString a f levels s))
+  pub of_bytes : {X : Type 0} (n : Option ℕ) (r : Result X Unread) → found.head ≡ head.Bytes n → TakesItemHead allowed f levels s m kept (Ok (head.Bytes n)) → IfErr r (UnreadOnly (asks_head a (head.Bytes n) ≡ true)) → IfErr r (UnreadOnly (AsksToLend AsksForString a f levels s))
   of_bytes n r is opened h = unread_err (asks_head a (head.Bytes n) ≡ true) (AsksToLend AsksForString a f levels s) r
       (λ asks. (λ bs tells i rest read b string. of_bytes_head n opened asks bs tells i rest read, passed (bytes_behind n is asks))) h
 
-  pub of_byte_string : {X : Type 0} (n : Option ℕ) (r : Result X Unread) → found.head ≡ head.Bytes n → OpensItem allowed f levels s m kept (Ok (head.Bytes n)) → IfErr r (UnreadOnly (asks_head a (head.Bytes n) ≡ true)) → IfErr r (UnreadOnly (AsksToLend AsksForBytes a f levels s))
+  pub of_byte_string : {X : Type 0} (n : Option ℕ) (r : Result X Unread) → found.head ≡ head.Bytes n → TakesItemHead allowed f levels s m kept (Ok (head.Bytes n)) → IfErr r (UnreadOnly (asks_head a (head.Bytes n) ≡ true)) → IfErr r (UnreadOnly (AsksToLend AsksForBytes a f levels s))
   of_byte_string n r is opened h = unread_err (asks_head a (head.Bytes n) ≡ true) (AsksToLend AsksForBytes a f levels s) r
       (λ asks. (λ bs tells i rest read b string. of_bytes_head n opened asks bs tells i rest read, passed (bytes_behind n is asks))) h
 
   -- an item of another kind is no string, and is passed over
-  pub of_other : (u : Unread) → ((n : Option ℕ) → found.head ≡ head.Text n → ⊥) → ((n : Option ℕ) → found.head ≡ head.Bytes n → ⊥) → OpensItem allowed f levels s m kept (Ok found.head) → UnreadOnly (AsksBehind a found m) u → UnreadOnly (AsksToLend AsksForString a f levels s) u
+  pub of_other : (u : Unread) → ((n : Option ℕ) → found.head ≡ head.Text n → ⊥) → ((n : Option ℕ) → found.head ≡ head.Bytes n → ⊥) → TakesItemHead allowed f levels s m kept (Ok found.head) → UnreadOnly (AsksBehind a found m) u → UnreadOnly (AsksToLend AsksForString a f levels s) u
   of_other u text bytes opened = unread_on (AsksBehind a found m) (AsksToLend AsksForString a f levels s) u
       (λ asks. (λ bs tells r rest is b string. absurd (scalar_unread allowed f IsString levels s m kept found.head (λ r b means tag is. not_string found.head text bytes r b means tag is) opened bs tells b rest (record { item = r; is = is; means = string })), passed asks))
 
-  pub of_no_bytes : (u : Unread) → ((n : Option ℕ) → found.head ≡ head.Bytes n → ⊥) → OpensItem allowed f levels s m kept (Ok found.head) → UnreadOnly (AsksBehind a found m) u → UnreadOnly (AsksToLend AsksForBytes a f levels s) u
+  pub of_no_bytes : (u : Unread) → ((n : Option ℕ) → found.head ≡ head.Bytes n → ⊥) → TakesItemHead allowed f levels s m kept (Ok found.head) → UnreadOnly (AsksBehind a found m) u → UnreadOnly (AsksToLend AsksForBytes a f levels s) u
   of_no_bytes u bytes opened = unread_on (AsksBehind a found m) (AsksToLend AsksForBytes a f levels s) u
       (λ asks. (λ bs tells r rest is b string. absurd (scalar_unread allowed f IsByteString levels s m kept found.head (λ r b means tag is. not_bytes found.head bytes r b means tag is) opened bs tells b rest (record { item = r; is = is; means = string })), passed asks))
 

@@ -1,4 +1,4 @@
-use Rattle.std.proofs.Common.{IfErr, [], None, refl, subst, arith}
+use Rattle.std.proofs.Common.{IfErr, [], refl, subst, arith}
 use Rattle.std.specs.Prelude.{⊤}
 use Rattle.cbor_model.specs.Acceptable.{max_depth}
 use Rattle.cbor_model.specs.Formats.{all_formats}
@@ -29,13 +29,6 @@ returns-clause-accepted g c = λ bs gave x spelt.
     let tells : Tells s bs = record { is = gave.told; short = omega (arith, gave.short) } in
     accepted_or_fault reader_refusals all_formats reads s bs tells refl gave.are_bytes x spelt tt c.read_all.result given
 
-pub returns-clause-refused : goal.returns-clause-refused
-returns-clause-refused g c = λ bs gave.
-    let s = start_of_reader (g.R.Read.remaining c.args.reader) in
-    let tells : Tells s bs = record { is = gave.told; short = omega (arith, gave.short) } in
-    let given = subst (λ (s : Input). IfErr c.read_all.result (TellsWhole g.T.Readable.passes_over g.T.Readable.total reader_refusals all_formats (g.T.Readable.reads from_reader_context) max_depth s)) c.new.ensures c.read_all.ensures.fault in
-    fails_or_faults g.T.Readable.passes_over g.T.Readable.total reader_refusals (g.T.Readable.reads from_reader_context) s bs tells refl c.read_all.result given
-
 pub returns-clause-fault : goal.returns-clause-fault
 returns-clause-fault g c = λ bs gave.
     let s = start_of_reader (g.R.Read.remaining c.args.reader) in
@@ -54,7 +47,10 @@ returns-clause-every g c = λ bs gave v spelt.
 
 pub returns-clause-first : goal.returns-clause-first
 returns-clause-first g c = λ bs gave.
-    first_from_reader g.T.Readable.total bs gave.are_bytes c.read_all.result (returns-clause-refused g c bs gave)
+    let s = start_of_reader (g.R.Read.remaining c.args.reader) in
+    let tells : Tells s bs = record { is = gave.told; short = omega (arith, gave.short) } in
+    let given = subst (λ (s : Input). IfErr c.read_all.result (TellsWhole g.T.Readable.passes_over g.T.Readable.total reader_refusals all_formats (g.T.Readable.reads from_reader_context) max_depth s)) c.new.ensures c.read_all.ensures.fault in
+    first_from_reader g.T.Readable.total bs gave.are_bytes c.read_all.result (fails_or_faults g.T.Readable.passes_over g.T.Readable.total reader_refusals (g.T.Readable.reads from_reader_context) s bs tells refl c.read_all.result given)
 
 pub returns-clause-memory : goal.returns-clause-memory
 returns-clause-memory g c = λ bs gave x spelt.

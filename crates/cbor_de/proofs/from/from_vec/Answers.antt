@@ -35,15 +35,6 @@ returns-clause-accepted g c = λ x spelt.
     let tells : Tells s bs = record { is = refl; short = omega (arith, short) } in
     accepted slice_refusals all_formats reads s bs tells refl fits (λ device. absurd cc) x spelt tt c.read_all.result given
 
-pub returns-clause-refused : goal.returns-clause-refused
-returns-clause-refused g c =
-    let bs = c.args.bytes.items in
-    let s = start_of_slice bs None in
-    let short : length bs < 2 ^ 64 = subst (λ (xs : List ℕ). length xs < 2 ^ 64) c.deref.ensures.value c.are_bytes.ensures.short in
-    let tells : Tells s bs = record { is = refl; short = omega (arith, short) } in
-    let given = subst (λ (s : Input). IfErr c.read_all.result (TellsWhole g.T.Readable.passes_over g.T.Readable.total slice_refusals all_formats (g.T.Readable.reads from_reader_context) max_depth s)) c.new.ensures c.read_all.ensures.fault in
-    fails g.T.Readable.passes_over g.T.Readable.total slice_refusals (g.T.Readable.reads from_reader_context) s bs tells refl (λ device. absurd cc) c.read_all.result given
-
 pub returns-clause-fault : goal.returns-clause-fault
 returns-clause-fault g c =
     let bs = c.args.bytes.items in
@@ -66,7 +57,12 @@ returns-clause-every g c = λ v spelt.
 
 pub returns-clause-first : goal.returns-clause-first
 returns-clause-first g c =
-    first g.T.Readable.total None c.args.bytes.items (subst AreBytes c.deref.ensures.value c.are_bytes.ensures.bytes) c.read_all.result (returns-clause-refused g c)
+    let bs = c.args.bytes.items in
+    let s = start_of_slice bs None in
+    let short : length bs < 2 ^ 64 = subst (λ (xs : List ℕ). length xs < 2 ^ 64) c.deref.ensures.value c.are_bytes.ensures.short in
+    let tells : Tells s bs = record { is = refl; short = omega (arith, short) } in
+    let given = subst (λ (s : Input). IfErr c.read_all.result (TellsWhole g.T.Readable.passes_over g.T.Readable.total slice_refusals all_formats (g.T.Readable.reads from_reader_context) max_depth s)) c.new.ensures c.read_all.ensures.fault in
+    first g.T.Readable.total None c.args.bytes.items (subst AreBytes c.deref.ensures.value c.are_bytes.ensures.bytes) c.read_all.result (fails g.T.Readable.passes_over g.T.Readable.total slice_refusals (g.T.Readable.reads from_reader_context) s bs tells refl (λ device. absurd cc) c.read_all.result given)
 
 pub returns-clause-memory : goal.returns-clause-memory
 returns-clause-memory g c = λ x spelt.

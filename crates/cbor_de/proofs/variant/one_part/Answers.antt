@@ -1,7 +1,6 @@
 use Rattle.cbor_decode_as.specs.Takes.{context, formats_of}
 use Rattle.cbor_decode_as.proofs.facts.Enums.{one_answer, untold}
-use Rattle.cbor_de.proofs.Forms.{right_err}
-use Rattle.cbor_de.specs.Forms.{part_form}
+use Rattle.cbor_de.proofs.Forms.{part_err}
 use Rattle.cbor_de.proofs.variant.one_part.Goals as goal
 
 pub returns-in-Array-clause-read : goal.returns-in-Array-clause-read
@@ -19,4 +18,4 @@ pub returns-in-Map-clause-alone : goal.returns-in-Map-clause-alone
 returns-in-Map-clause-alone g c = rw c.in-Map.is (untold c.deserialize.result)
 
 pub returns-in-Map-clause-form : goal.returns-in-Map-clause-form
-returns-in-Map-clause-form g c = right_err part_form g.T.Readable.wrong_forms _ _ c.deserialize.result c.deserialize.ensures.form
+returns-in-Map-clause-form g c = part_err g.T.Readable.wrong_forms _ c.args.form _ c.deserialize.result c.deserialize.ensures.form

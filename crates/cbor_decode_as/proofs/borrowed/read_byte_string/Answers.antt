@@ -2,7 +2,7 @@ use Rattle.std.proofs.Common.{◌∙◌, Ok, refl, subst, ap}
 use Rattle.cbor_decode.specs.declared.head.Head.{Head}
 use Rattle.cbor_decode.specs.declared.head.Head.TheVariants as head
 use Rattle.cbor_decode.proofs.facts.Steps.{took_same, some_then}
-use Rattle.cbor_decode_as.specs.TaggedHeads.{OpensItem}
+use Rattle.cbor_decode_as.specs.TaggedHeads.{TakesItemHead}
 use Rattle.cbor_decode_as.specs.Takes.{IsNotRead, formats_of, raws}
 use Rattle.cbor_decode_as.proofs.texts.ByteStrings.{bytes_lent, other_bytes}
 use Rattle.cbor_decode_as.proofs.texts.Lending.{lent_advances}
@@ -23,7 +23,7 @@ returns-in-Bytes g c =
     let s = g.R.Source.source c.args.decoder.now.source in
     let m = g.R.Source.source u.source in
     let t = g.R.Source.source c.bytes_part.follows.lender-at-none.source in
-    let opened = subst (λ (h : Head). OpensItem g.R.Source.refusals f levels s m u.refusal (Ok h)) c.in-Bytes.is c.in-Ok.ensures.read in
+    let opened = subst (λ (h : Head). TakesItemHead g.R.Source.refusals f levels s m u.refusal (Ok h)) c.in-Bytes.is c.in-Ok.ensures.read in
     let after = c.bytes_part.follows.holds-at-none in
     ((refl, λ _. tt, (after.0 ∙ c.in-Ok.ensures.levels, after.1 ∙ c.in-Ok.ensures.formats, bytes_lent g.R.Source.refusals f g.R.Source.lends levels s m u.refusal c.in-Bytes.n t c.bytes_part.result opened after.2, after.3, of_byte_string g.R.Source.refusals (asks_for g.R.Source.refusals g.R.Source.lends) f levels s m u.refusal c.in-Ok.found c.in-Ok.ensures.opened c.in-Bytes.n c.bytes_part.result c.in-Bytes.is opened after.4, bytes_lends g.R.Source.refusals c.in-Ok.found levels s m c.in-Ok.ensures.opened g.R.Source.lends c.in-Bytes.n t c.bytes_part.result c.in-Bytes.is after.2 after.5, lent_advances g.R.Source.refusals g.R.Source.lends (head.Bytes c.in-Bytes.n) s m t c.bytes_part.result c.in-Ok.ensures.taken after.2)), record { after_borrow = tt })
 

@@ -3,7 +3,7 @@ use Rattle.std.proofs.lemmas.Result.{err_from_is_err_and}
 use Rattle.cbor_decode.specs.declared.head.Head.{Head}
 use Rattle.cbor_decode.specs.declared.head.Head.TheVariants as head
 use Rattle.cbor_decode.proofs.facts.Steps.{advances_some, took_same, some_then}
-use Rattle.cbor_decode_as.specs.TaggedHeads.{OpensItem}
+use Rattle.cbor_decode_as.specs.TaggedHeads.{TakesItemHead}
 use Rattle.cbor_decode_as.specs.Strings.{AsksForString, AsksToLend, IsNoKey, LendsWhole, LentText, UnreadOnly}
 use Rattle.cbor_decode_as.specs.Takes.{IsNotRead, formats_of, raws}
 use Rattle.cbor_decode_as.proofs.texts.Lending.{any_ok, lent_advances, bytes_string, text_string, text_stopped, other_string, bytes_no_key}
@@ -23,7 +23,7 @@ returns-in-Bytes g c =
     let s = g.R.Source.source c.args.decoder.now.source in
     let m = g.R.Source.source u.source in
     let t = g.R.Source.source c.bytes_part.follows.lender-at-none.source in
-    let opened = subst (λ (h : Head). OpensItem g.R.Source.refusals f levels s m u.refusal (Ok h)) c.in-Bytes.is c.in-Ok.ensures.read in
+    let opened = subst (λ (h : Head). TakesItemHead g.R.Source.refusals f levels s m u.refusal (Ok h)) c.in-Bytes.is c.in-Ok.ensures.read in
     let after = c.bytes_part.follows.holds-at-none in
     ((refl, λ _. tt, (after.0 ∙ c.in-Ok.ensures.levels, after.1 ∙ c.in-Ok.ensures.formats, bytes_string g.R.Source.refusals f g.R.Source.lends levels s m u.refusal c.in-Bytes.n t c.bytes_part.result opened after.2, after.3, of_bytes g.R.Source.refusals (asks_for g.R.Source.refusals g.R.Source.lends) f levels s m u.refusal c.in-Ok.found c.in-Ok.ensures.opened c.in-Bytes.n c.bytes_part.result c.in-Bytes.is opened after.4, bytes_lends g.R.Source.refusals c.in-Ok.found levels s m c.in-Ok.ensures.opened g.R.Source.lends c.in-Bytes.n t c.bytes_part.result c.in-Bytes.is after.2 after.5, lent_advances g.R.Source.refusals g.R.Source.lends (head.Bytes c.in-Bytes.n) s m t c.bytes_part.result c.in-Ok.ensures.taken after.2)), record { after_borrow = tt })
 
@@ -36,7 +36,7 @@ returns-in_err-text_part-in-Text g c =
     let s = g.R.Source.source c.args.decoder.now.source in
     let m = g.R.Source.source u.source in
     let t = g.R.Source.source c.text_part.follows.lender-at-none.source in
-    let opened = subst (λ (h : Head). OpensItem g.R.Source.refusals f levels s m u.refusal (Ok h)) c.in-Text.is c.in-Ok.ensures.read in
+    let opened = subst (λ (h : Head). TakesItemHead g.R.Source.refusals f levels s m u.refusal (Ok h)) c.in-Text.is c.in-Ok.ensures.read in
     let after = c.text_part.follows.holds-at-none in
     let lent = subst (λ r. LentText g.R.Source.refusals g.R.Source.lends (head.Text c.in-Text.n) m t r) c.in_err-text_part-in-Text.was after.2 in
     ((refl, λ _. tt, (after.0 ∙ c.in-Ok.ensures.levels, after.1 ∙ c.in-Ok.ensures.formats, rw (passed.1, passed.2) (text_stopped g.R.Source.refusals f g.R.Source.lends levels s m u.refusal c.in-Text.n t _ opened lent), rw (passed.1, passed.2) (subst (λ r. IfErr r IsNoKey) c.in_err-text_part-in-Text.was after.3), rw (passed.1, passed.2) (subst (λ r. IfErr r (UnreadOnly (AsksToLend AsksForString (asks_for g.R.Source.refusals g.R.Source.lends) f levels s))) c.in_err-text_part-in-Text.was (of_text g.R.Source.refusals (asks_for g.R.Source.refusals g.R.Source.lends) f levels s m u.refusal c.in-Ok.found c.in-Ok.ensures.opened c.in-Text.n c.text_part.result c.in-Text.is opened after.4)), rw (passed.1, passed.2) (subst (λ r. LendsWhole g.R.Source.refusals levels s r) c.in_err-text_part-in-Text.was (text_lends g.R.Source.refusals c.in-Ok.found levels s m c.in-Ok.ensures.opened g.R.Source.lends c.in-Text.n t c.text_part.result c.in-Text.is after.2 after.5)), rw passed.1 tt)), record { after_borrow = tt })
@@ -50,7 +50,7 @@ returns-in_ok-text_part-in-Text g c =
     let m = g.R.Source.source u.source in
     let t = g.R.Source.source c.text_part.follows.lender-at-none.source in
     let p = c.in_ok-text_part-in-Text.field-0 in
-    let opened = subst (λ (h : Head). OpensItem g.R.Source.refusals f levels s m u.refusal (Ok h)) c.in-Text.is c.in-Ok.ensures.read in
+    let opened = subst (λ (h : Head). TakesItemHead g.R.Source.refusals f levels s m u.refusal (Ok h)) c.in-Text.is c.in-Ok.ensures.read in
     let after = c.text_part.follows.holds-at-none in
     let lent = subst (λ r. LentText g.R.Source.refusals g.R.Source.lends (head.Text c.in-Text.n) m t r) c.in_ok-text_part-in-Text.was after.2 in
     ((refl, λ _. tt, (after.0 ∙ c.in-Ok.ensures.levels, after.1 ∙ c.in-Ok.ensures.formats, text_string g.R.Source.refusals f g.R.Source.lends levels s m u.refusal c.in-Text.n t p c.bytes_of.result opened lent c.bytes_of.ensures, bytes_no_key p c.bytes_of.result c.bytes_of.ensures, bytes_only (AsksToLend AsksForString (asks_for g.R.Source.refusals g.R.Source.lends) f levels s) p c.bytes_of.result c.bytes_of.ensures, bytes_of_lends g.R.Source.refusals c.in-Ok.found levels s m c.in-Ok.ensures.opened g.R.Source.lends c.in-Text.n t p c.bytes_of.result c.in-Text.is lent c.bytes_of.ensures, any_ok c.bytes_of.result (advances_some s m t c.in-Ok.ensures.taken lent.0.took))), record { after_borrow = tt })

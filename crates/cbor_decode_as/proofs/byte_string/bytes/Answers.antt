@@ -4,7 +4,7 @@ use Rattle.std.proofs.lemmas.Result.{err_from_is_err_and}
 use Rattle.cbor_model.specs.Raw.{Raw}
 use Rattle.cbor_io.specs.Error.{code_of, offset_of}
 use Rattle.cbor_decode.specs.declared.head.Head.{Head}
-use Rattle.cbor_decode_as.specs.TaggedHeads.{OpensItem}
+use Rattle.cbor_decode_as.specs.TaggedHeads.{TakesItemHead}
 use Rattle.cbor_decode_as.specs.Strings.{IsByteString}
 use Rattle.cbor_decode_as.specs.Takes.{formats_of, raws}
 use Rattle.cbor_decode_as.proofs.texts.Contents.{bytes_stops, other_step, step_over, none_at}
@@ -28,7 +28,7 @@ returns-in_err-bytes-in-Bytes-clause-read g c =
     let f = formats_of c.args.decoder.now.formats in
     let s = g.R.Source.source c.args.decoder.now.source in
     let m = g.R.Source.source u.source in
-    let opened = subst (λ (h : Head). OpensItem g.R.Source.refusals f levels s m u.refusal (Ok h)) c.in-Bytes.is c.in_ok-found.ensures.read in
+    let opened = subst (λ (h : Head). TakesItemHead g.R.Source.refusals f levels s m u.refusal (Ok h)) c.in-Bytes.is c.in_ok-found.ensures.read in
     rw (p.1, p.2) (λ e is. bytes_stops g.R.Source.refusals f reads levels s m u.refusal c.in-Bytes.n opened _ c.byte_string.new.decoder.refusal e is c.in_err-bytes-in-Bytes.ensures.read)
 
 pub returns-in_ok-bytes-in-Bytes-clause-read : goal.returns-in_ok-bytes-in-Bytes-clause-read
@@ -39,7 +39,7 @@ returns-in_ok-bytes-in-Bytes-clause-read g c =
     let s = g.R.Source.source c.args.decoder.now.source in
     let m = g.R.Source.source u.source in
     let v = c.in_ok-bytes-in-Bytes.bytes in
-    let opened = subst (λ (h : Head). OpensItem g.R.Source.refusals f levels s m u.refusal (Ok h)) c.in-Bytes.is c.in_ok-found.ensures.read in
+    let opened = subst (λ (h : Head). TakesItemHead g.R.Source.refusals f levels s m u.refusal (Ok h)) c.in-Bytes.is c.in_ok-found.ensures.read in
     byte_string_takes g.R.Source.refusals f reads levels s m u.refusal c.in-Bytes.n opened (g.R.Source.source c.byte_string.new.decoder.source) v.items v (λ r is lent. is) c.in_ok-bytes-in-Bytes.ensures.read
 
 pub returns-in-Ok-clause-read : goal.returns-in-Ok-clause-read

@@ -3,7 +3,7 @@ use Rattle.cbor_read.specs.Source.{Input}
 use Rattle.cbor_decode.specs.Gives.{Step}
 use Rattle.cbor_decode_as.specs.Takes.{formats_of}
 use Rattle.cbor_decode.specs.declared.head.Head.TheVariants as head
-use Rattle.cbor_decode_as.specs.TaggedHeads.{Opens, opened_at}
+use Rattle.cbor_decode_as.specs.TaggedHeads.{IsTaggedHead, opened_at}
 use Rattle.cbor_decode_as.proofs.arrays.ArrayHeads.{whole, head_taken, other_head, too_deep_head}
 use Rattle.cbor_decode_as.proofs.arrays.Begins.{begins, begins_stopped, begins_other, begins_too_deep}
 use Rattle.cbor_decode_as.proofs.collection.array_head.Goals as goal
@@ -23,7 +23,7 @@ returns-in-Ok-enter-clause-read g c =
     let s = g.R.Source.source old.source in
     let at = ap g.R.Source.source c.enter.ensures.source in
     let t = g.R.Source.source c.enter.new.self.source in
-    let read = subst (λ (t : Input). Step s t (λ l bs rest. Opens f l (whole g.R.Source.refusals f levels s t l bs) u.levels c.in-Ok.head rest)) (sym at) c.in-Ok.ensures.read in
+    let read = subst (λ (t : Input). Step s t (λ l bs rest. IsTaggedHead f l (whole g.R.Source.refusals f levels s t l bs) u.levels c.in-Ok.head rest)) (sym at) c.in-Ok.ensures.read in
     head_taken g.R.Source.refusals f levels s t u.levels c.enter.new.self.levels c.in-Ok.head c.in-Array.remaining c.in-Array.is c.in-Ok-enter.ensures.inside read
 
 pub returns-in-Err-enter-clause-read : goal.returns-in-Err-enter-clause-read

@@ -10,7 +10,7 @@ use Rattle.cbor_decode.proofs.facts.Steps.{fault_stops}
 use Rattle.cbor_decode_as.specs.Takes.{formats_of, raws}
 use Rattle.cbor_model.specs.Reader.{item_at}
 use Rattle.cbor_model.specs.Formats.{Formats}
-use Rattle.cbor_decode_as.specs.TaggedHeads.{OpensAt, item_inside, opened_inside}
+use Rattle.cbor_decode_as.specs.TaggedHeads.{TakesTaggedHead, item_inside, opened_inside}
 use Rattle.cbor_decode.specs.Heads.{opening_at}
 use Rattle.cbor_decode_as.proofs.heads.Opened.{no_tag, head_opens, head_stops, behind_tag, inside_too_deep, inside_opens, advances_on}
 use Rattle.cbor_decode_as.proofs.heads.Openings.{head_opened, head_unopened, tag_opened, inside_opened, no_level_inside}
@@ -30,8 +30,8 @@ tagged_head-returns-in-Tag-clause-read g t c =
     let u = c.tagged_head_inside.new.decoder in
     let first = subst (λ (h : Head). Step s m (λ l bs rest. (w : HeadWidth) × (opening_at bs ≡ Ok ((w, h), rest)))) c.in-Tag.is c.in_ok-head.ensures.read in
     let formats = ap formats_of c.in_ok-head.ensures.formats in
-    let inner = subst (λ (n : ℕ). OpensAt g.R.Source.refusals f (λ l. item_inside f l n) m (g.R.Source.source u.source) u.levels u.refusal c.tagged_head_inside.result) c.in_ok-head.ensures.levels
-    (subst (λ (k : Formats). OpensAt g.R.Source.refusals k (λ l. item_inside k l c.take_head.new.decoder.levels) m (g.R.Source.source u.source) u.levels u.refusal c.tagged_head_inside.result) formats c.tagged_head_inside.ensures.read) in
+    let inner = subst (λ (n : ℕ). TakesTaggedHead g.R.Source.refusals f (λ l. item_inside f l n) m (g.R.Source.source u.source) u.levels u.refusal c.tagged_head_inside.result) c.in_ok-head.ensures.levels
+    (subst (λ (k : Formats). TakesTaggedHead g.R.Source.refusals k (λ l. item_inside k l c.take_head.new.decoder.levels) m (g.R.Source.source u.source) u.levels u.refusal c.tagged_head_inside.result) formats c.tagged_head_inside.ensures.read) in
     behind_tag g.R.Source.refusals f s m (g.R.Source.source u.source) levels u.levels c.in-Tag.field-0 u.refusal c.tagged_head_inside.result first inner
 
 pub tagged_head-returns-clause-read : goal.tagged_head-returns-clause-read
@@ -52,7 +52,7 @@ tagged_head_inside-returns-clause-read g t c =
     let u = c.tagged_head.new.decoder in
     let at : m ≡ s = ap g.R.Source.source c.enter.ensures.source in
     let f = formats_of c.args.decoder.now.formats in
-    let opened = subst (λ (k : Formats). OpensAt g.R.Source.refusals k (λ l. item_at (raws k l) c.enter.new.self.levels) m (g.R.Source.source u.source) u.levels u.refusal c.tagged_head.result) (ap formats_of c.enter.ensures.formats) c.tagged_head.ensures.read in
+    let opened = subst (λ (k : Formats). TakesTaggedHead g.R.Source.refusals k (λ l. item_at (raws k l) c.enter.new.self.levels) m (g.R.Source.source u.source) u.levels u.refusal c.tagged_head.result) (ap formats_of c.enter.ensures.formats) c.tagged_head.ensures.read in
     inside_opens g.R.Source.refusals f s m (g.R.Source.source u.source) c.args.decoder.now.levels c.enter.new.self.levels u.levels u.refusal c.tagged_head.result c.in_ok-enter.ensures.inside at opened
 
 -- ---- the head alone

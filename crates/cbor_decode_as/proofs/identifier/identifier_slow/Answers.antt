@@ -6,7 +6,7 @@ use Rattle.cbor_io.specs.Error.{code_of, offset_of}
 use Rattle.cbor_decode.specs.declared.head.Head.{Head}
 use Rattle.cbor_decode.proofs.facts.Steps.{took_same}
 use Rattle.cbor_decode_as.specs.Identifiers.{texts, IsIdentifier}
-use Rattle.cbor_decode_as.specs.TaggedHeads.{OpensItem}
+use Rattle.cbor_decode_as.specs.TaggedHeads.{TakesItemHead}
 use Rattle.cbor_decode_as.specs.Takes.{formats_of, raws}
 use Rattle.cbor_decode_as.proofs.numbers.Scalars.{refuses, refuses_on}
 use Rattle.cbor_decode_as.proofs.texts.Lending.{text_refuses}
@@ -20,7 +20,7 @@ returns-in-Unsigned-clause-read g c =
     let f = formats_of old.formats in
     let s = g.R.Source.source old.source in
     let m = g.R.Source.source u.source in
-    let opened = subst (λ (h : Head). OpensItem g.R.Source.refusals f old.levels s m u.refusal (Ok h)) c.in-Unsigned.is c.in_ok-found.ensures.read in
+    let opened = subst (λ (h : Head). TakesItemHead g.R.Source.refusals f old.levels s m u.refusal (Ok h)) c.in-Unsigned.is c.in_ok-found.ensures.read in
     number_names (texts c.args.names.now) g.R.Source.refusals f g.R.Source.lends old.levels s m u.refusal c.in-Unsigned.n c.place_of_number.result c.place_of_number.ensures.place opened
 
 pub returns-in_ok-text_name-in-Text-clause-read : goal.returns-in_ok-text_name-in-Text-clause-read
@@ -31,7 +31,7 @@ returns-in_ok-text_name-in-Text-clause-read g c =
     let s = g.R.Source.source old.source in
     let m = g.R.Source.source u.source in
     let t = g.R.Source.source c.text_name.new.decoder.source in
-    let opened = subst (λ (h : Head). OpensItem g.R.Source.refusals f old.levels s m u.refusal (Ok h)) c.in-Text.is c.in_ok-found.ensures.read in
+    let opened = subst (λ (h : Head). TakesItemHead g.R.Source.refusals f old.levels s m u.refusal (Ok h)) c.in-Text.is c.in_ok-found.ensures.read in
     let named = c.in_ok-text_name-in-Text.ensures.read in
     text_names (texts c.args.names.now) g.R.Source.refusals f g.R.Source.lends old.levels s m u.refusal c.in-Text.n t named.0 c.in_ok-text_name-in-Text.field-0 named.1 named.2 opened named.3
 
@@ -43,7 +43,7 @@ returns-in_err-text_name-in-Text-clause-read g c =
     let f = formats_of old.formats in
     let s = g.R.Source.source old.source in
     let m = g.R.Source.source u.source in
-    let opened = subst (λ (h : Head). OpensItem g.R.Source.refusals f old.levels s m u.refusal (Ok h)) c.in-Text.is c.in_ok-found.ensures.read in
+    let opened = subst (λ (h : Head). TakesItemHead g.R.Source.refusals f old.levels s m u.refusal (Ok h)) c.in-Text.is c.in_ok-found.ensures.read in
     rw (passed.1, passed.2) (λ e made. text_refuses g.R.Source.refusals f g.R.Source.lends old.levels s m u.refusal (IsIdentifier (texts c.args.names.now)) c.in-Text.n (code_of e) (offset_of e) opened (c.in_err-text_name-in-Text.ensures.read e made))
 
 pub returns-in-Bytes-clause-read : goal.returns-in-Bytes-clause-read
@@ -55,7 +55,7 @@ returns-in-Bytes-clause-read g c =
     let s = g.R.Source.source old.source in
     let m = g.R.Source.source u.source in
     let t = g.R.Source.source new.source in
-    let opened = subst (λ (h : Head). OpensItem g.R.Source.refusals f old.levels s m u.refusal (Ok h)) c.in-Bytes.is c.in_ok-found.ensures.read in
+    let opened = subst (λ (h : Head). TakesItemHead g.R.Source.refusals f old.levels s m u.refusal (Ok h)) c.in-Bytes.is c.in_ok-found.ensures.read in
     bytes_read (texts c.args.names.now) g.R.Source.refusals f g.R.Source.lends old.levels s m u.refusal c.in-Bytes.n t new.refusal c.bytes_name.result opened c.bytes_name.ensures.read
 
 pub returns-in_default-clause-read : goal.returns-in_default-clause-read

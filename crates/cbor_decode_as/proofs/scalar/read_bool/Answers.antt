@@ -1,7 +1,7 @@
 use Rattle.std.proofs.Common.{Ok, subst}
 use Rattle.cbor_decode.specs.declared.head.Head.{Head}
 use Rattle.cbor_model.specs.Readable.{IsBool}
-use Rattle.cbor_decode_as.specs.TaggedHeads.{OpensItem}
+use Rattle.cbor_decode_as.specs.TaggedHeads.{TakesItemHead}
 use Rattle.cbor_decode_as.specs.Takes.{formats_of}
 use Rattle.cbor_decode_as.proofs.numbers.Scalars.{scalar_unread, none_scalar, bool_read, not_bool, refuses_on}
 use Rattle.cbor_decode_as.proofs.heads.PassedOver.{behind_whole, unopened_whole}
@@ -13,7 +13,7 @@ returns-in-Bool-clause-read g c =
     let u = c.scalar_head.new.decoder in
     let t = g.R.Source.source u.source in
     let levels = c.args.decoder.now.levels in
-    let read = subst (λ (h : Head). OpensItem g.R.Source.refusals (formats_of c.args.decoder.now.formats) levels s t u.refusal (Ok h)) c.in-Bool.is c.in-Ok.ensures.read in
+    let read = subst (λ (h : Head). TakesItemHead g.R.Source.refusals (formats_of c.args.decoder.now.formats) levels s t u.refusal (Ok h)) c.in-Bool.is c.in-Ok.ensures.read in
     bool_read g.R.Source.refusals (formats_of c.args.decoder.now.formats) levels s t u.refusal c.in-Bool.b read
 
 pub returns-in_default-clause-read : goal.returns-in_default-clause-read

@@ -1,6 +1,6 @@
 use Rattle.std.proofs.Common.{Ok, subst}
 use Rattle.cbor_decode.specs.declared.head.Head.{Head}
-use Rattle.cbor_decode_as.specs.TaggedHeads.{OpensItem}
+use Rattle.cbor_decode_as.specs.TaggedHeads.{TakesItemHead}
 use Rattle.cbor_decode_as.specs.Takes.{formats_of}
 use Rattle.cbor_decode_as.specs.Scalars.{IsFloatItem}
 use Rattle.cbor_decode_as.proofs.numbers.Scalars.{scalar_unread, none_scalar, float_read, not_float, refuses_on}
@@ -13,7 +13,7 @@ returns-in-Float-clause-read g c =
     let u = c.scalar_head.new.decoder in
     let t = g.R.Source.source u.source in
     let levels = c.args.decoder.now.levels in
-    let read = subst (λ (h : Head). OpensItem g.R.Source.refusals (formats_of c.args.decoder.now.formats) levels s t u.refusal (Ok h)) c.in-Float.is c.in-Ok.ensures.read in
+    let read = subst (λ (h : Head). TakesItemHead g.R.Source.refusals (formats_of c.args.decoder.now.formats) levels s t u.refusal (Ok h)) c.in-Float.is c.in-Ok.ensures.read in
     float_read g.R.Source.refusals (formats_of c.args.decoder.now.formats) levels s t u.refusal c.in-Float.float read
 
 pub returns-in_default-clause-read : goal.returns-in_default-clause-read

@@ -2,7 +2,7 @@ use Rattle.std.proofs.Common.{◌≡◌, Ok, subst, inl, inr}
 use Rattle.cbor_decode.specs.declared.head.Head.{Head}
 use Rattle.cbor_decode.specs.declared.head.Head.TheVariants as head
 use Rattle.cbor_model.specs.Readable.{IsUnit}
-use Rattle.cbor_decode_as.specs.TaggedHeads.{OpensItem}
+use Rattle.cbor_decode_as.specs.TaggedHeads.{TakesItemHead}
 use Rattle.cbor_decode_as.specs.Takes.{formats_of}
 use Rattle.cbor_decode_as.proofs.numbers.Scalars.{scalar_unread, none_scalar, null_read, undefined_read, not_unit, refuses_on}
 use Rattle.cbor_decode_as.proofs.heads.PassedOver.{behind_whole, unopened_whole}
@@ -14,7 +14,7 @@ returns-in-Null-clause-read g c =
     let u = c.scalar_head.new.decoder in
     let t = g.R.Source.source u.source in
     let levels = c.args.decoder.now.levels in
-    let taken = λ (h : Head). λ (is : c.in-Ok.found.head ≡ h). subst (λ (h : Head). OpensItem g.R.Source.refusals (formats_of c.args.decoder.now.formats) levels s t u.refusal (Ok h)) is c.in-Ok.ensures.read in
+    let taken = λ (h : Head). λ (is : c.in-Ok.found.head ≡ h). subst (λ (h : Head). TakesItemHead g.R.Source.refusals (formats_of c.args.decoder.now.formats) levels s t u.refusal (Ok h)) is c.in-Ok.ensures.read in
     elim c.in-Null.is [
       | inl is ↦ null_read g.R.Source.refusals (formats_of c.args.decoder.now.formats) levels s t u.refusal (taken head.Null is)
       | inr is ↦ undefined_read g.R.Source.refusals (formats_of c.args.decoder.now.formats) levels s t u.refusal (taken head.Undefined is)

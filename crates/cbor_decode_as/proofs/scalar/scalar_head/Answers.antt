@@ -4,7 +4,7 @@ use Rattle.cbor_model.specs.Formats.{Formats}
 use Rattle.cbor_model.specs.Head.{HeadWidth}
 use Rattle.cbor_decode.specs.Gives.{Gives, Step}
 use Rattle.cbor_decode.specs.declared.head.Head.{Head}
-use Rattle.cbor_decode_as.specs.TaggedHeads.{OpensInside, found_head, opened_inside}
+use Rattle.cbor_decode_as.specs.TaggedHeads.{TakesHeadInside, found_head, opened_inside}
 use Rattle.cbor_decode.specs.Heads.{opening_at}
 use Rattle.cbor_decode_as.specs.Takes.{formats_of}
 use Rattle.cbor_decode_as.proofs.heads.Opened.{no_tag, head_opens, head_stops, behind_tag, advances_on}
@@ -26,8 +26,8 @@ returns-in-Tag-clause-read g c =
     let u = c.scalar_head_inside.new.decoder in
     let first = subst (λ (h : Head). Step s m (λ l bs rest. (w : HeadWidth) × (opening_at bs ≡ Ok ((w, h), rest)))) c.in-Tag.is c.in_ok-head.ensures.read in
     let formats = ap formats_of c.in_ok-head.ensures.formats in
-    let inner = subst (λ (n : ℕ). OpensInside g.R.Source.refusals f n m (g.R.Source.source u.source) u.refusal (found_head c.scalar_head_inside.result)) c.in_ok-head.ensures.levels
-    (subst (λ (k : Formats). OpensInside g.R.Source.refusals k c.take_head.new.decoder.levels m (g.R.Source.source u.source) u.refusal (found_head c.scalar_head_inside.result)) formats c.scalar_head_inside.ensures.read) in
+    let inner = subst (λ (n : ℕ). TakesHeadInside g.R.Source.refusals f n m (g.R.Source.source u.source) u.refusal (found_head c.scalar_head_inside.result)) c.in_ok-head.ensures.levels
+    (subst (λ (k : Formats). TakesHeadInside g.R.Source.refusals k c.take_head.new.decoder.levels m (g.R.Source.source u.source) u.refusal (found_head c.scalar_head_inside.result)) formats c.scalar_head_inside.ensures.read) in
     (inner.0, behind_tag g.R.Source.refusals f s m (g.R.Source.source u.source) levels inner.0 c.in-Tag.field-0 u.refusal (found_head c.scalar_head_inside.result) first inner.1)
 
 pub returns-clause-read : goal.returns-clause-read

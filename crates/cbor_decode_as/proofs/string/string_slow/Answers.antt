@@ -8,7 +8,7 @@ use Rattle.cbor_model.specs.Raw.{Raw}
 use Rattle.cbor_model.specs.Readable.{IsString, IsText, PassesTags}
 use Rattle.cbor_io.specs.Error.{code_of, offset_of}
 use Rattle.cbor_decode.specs.declared.head.Head.{Head}
-use Rattle.cbor_decode_as.specs.TaggedHeads.{OpensItem}
+use Rattle.cbor_decode_as.specs.TaggedHeads.{TakesItemHead}
 use Rattle.cbor_decode_as.specs.Takes.{formats_of, raws}
 use Rattle.cbor_decode_as.proofs.texts.Lending.{text_refuses}
 use Rattle.cbor_decode_as.proofs.texts.Contents.{text_takes, bytes_takes, bytes_stops, not_string, none_at, other_step, step_over, bad_bytes}
@@ -30,7 +30,7 @@ returns-in_err-text-in-Text-clause-read g c =
     let f = formats_of c.args.decoder.now.formats in
     let s = g.R.Source.source c.args.decoder.now.source in
     let m = g.R.Source.source u.source in
-    let opened = subst (λ (h : Head). OpensItem g.R.Source.refusals f levels s m u.refusal (Ok h)) c.in-Text.is c.in_ok-found.ensures.read in
+    let opened = subst (λ (h : Head). TakesItemHead g.R.Source.refusals f levels s m u.refusal (Ok h)) c.in-Text.is c.in_ok-found.ensures.read in
     rw (p.1, p.2) (λ e is. text_refuses g.R.Source.refusals f g.R.Source.lends levels s m u.refusal reads c.in-Text.n (code_of e) (offset_of e) opened (c.in_err-text-in-Text.ensures.read e is))
 
 pub returns-in-Text-clause-read : goal.returns-in-Text-clause-read
@@ -43,7 +43,7 @@ returns-in-Text-clause-read g c =
     let t = g.R.Source.source c.text_slow.new.decoder.source in
     let x = c.in_ok-text-in-Text.text in
     let is = c.in_ok-text-in-Text.ensures.read in
-    let opened = subst (λ (h : Head). OpensItem g.R.Source.refusals f levels s m u.refusal (Ok h)) c.in-Text.is c.in_ok-found.ensures.read in
+    let opened = subst (λ (h : Head). TakesItemHead g.R.Source.refusals f levels s m u.refusal (Ok h)) c.in-Text.is c.in_ok-found.ensures.read in
     text_takes g.R.Source.refusals f reads levels s m u.refusal c.in-Text.n opened t (string_bytes x) x (λ r string utf8 lent. (string, utf8)) is.1 is.0
 
 pub returns-in_err-bytes-in-Bytes-clause-read : goal.returns-in_err-bytes-in-Bytes-clause-read
@@ -54,7 +54,7 @@ returns-in_err-bytes-in-Bytes-clause-read g c =
     let f = formats_of c.args.decoder.now.formats in
     let s = g.R.Source.source c.args.decoder.now.source in
     let m = g.R.Source.source u.source in
-    let opened = subst (λ (h : Head). OpensItem g.R.Source.refusals f levels s m u.refusal (Ok h)) c.in-Bytes.is c.in_ok-found.ensures.read in
+    let opened = subst (λ (h : Head). TakesItemHead g.R.Source.refusals f levels s m u.refusal (Ok h)) c.in-Bytes.is c.in_ok-found.ensures.read in
     rw (p.1, p.2) (λ e is. bytes_stops g.R.Source.refusals f reads levels s m u.refusal c.in-Bytes.n opened _ c.byte_string.new.decoder.refusal e is c.in_err-bytes-in-Bytes.ensures.read)
 
 pub returns-in-Ok-clause-read : goal.returns-in-Ok-clause-read
@@ -67,7 +67,7 @@ returns-in-Ok-clause-read g c =
     let x = c.in-Ok.text in
     let b = c.in_ok-bytes-in-Bytes.bytes.items in
     let same : string_bytes x ≡ b = ap (λ v. v.items) c.in-Ok.ensures.ok in
-    let opened = subst (λ (h : Head). OpensItem g.R.Source.refusals f levels s m u.refusal (Ok h)) c.in-Bytes.is c.in_ok-found.ensures.read in
+    let opened = subst (λ (h : Head). TakesItemHead g.R.Source.refusals f levels s m u.refusal (Ok h)) c.in-Bytes.is c.in_ok-found.ensures.read in
     bytes_takes g.R.Source.refusals f reads levels s m u.refusal c.in-Bytes.n opened (g.R.Source.source c.byte_string.new.decoder.source) b x
     (λ r is lent. (subst (IsString r) (sym same) is, IsUtf8-string_bytes x)) c.in_ok-bytes-in-Bytes.ensures.read
 
@@ -80,7 +80,7 @@ returns-in-Bytes-clause-read g c =
     let m = g.R.Source.source u.source in
     let b = c.in_ok-bytes-in-Bytes.bytes.items in
     let bad : IsUtf8 b → ⊥ = λ is. cc (c.in-Err.ensures.succeeds is) in
-    let opened = subst (λ (h : Head). OpensItem g.R.Source.refusals f levels s m u.refusal (Ok h)) c.in-Bytes.is c.in_ok-found.ensures.read in
+    let opened = subst (λ (h : Head). TakesItemHead g.R.Source.refusals f levels s m u.refusal (Ok h)) c.in-Bytes.is c.in_ok-found.ensures.read in
     bad_bytes g.R.Source.refusals f reads levels s m u.refusal c.in-Bytes.n opened (g.R.Source.source c.byte_string.new.decoder.source) b (λ x. string_bytes x) (λ r x is. is) bad c.in_ok-bytes-in-Bytes.ensures.read
 
 pub returns-in-Ok-pass_over-clause-read : goal.returns-in-Ok-pass_over-clause-read

@@ -27,7 +27,7 @@ returns-in_err-expect_item-clause-cases g c =
     let passed = err_from_is_err_and c.from_residual-in_err-expect_item.result c.from_residual-in_err-expect_item.ensures.1 in
     let old = c.args.decoder.now in
     let inner = c.array_head.new.decoder in
-    rw (passed.1, passed.2) (empty_stands (formats_of old.formats) old.levels inner.levels c.in_ok-remaining.remaining (g.R.Source.source old.source) (g.R.Source.source inner.source) c.in_err-expect_item.field-0.0 c.in_ok-remaining.ensures.read c.in_err-expect_item.ensures.none)
+    rw (passed.1, passed.2) (empty_stands (formats_of old.formats) old.levels inner.levels c.in_ok-remaining.remaining (g.R.Source.source old.source) (g.R.Source.source inner.source) c.in_err-expect_item.field-0.0 c.in_ok-remaining.ensures.opened c.in_err-expect_item.ensures.none)
 
 pub returns-in_err-index-clause-read : goal.returns-in_err-index-clause-read
 returns-in_err-index-clause-read g c =

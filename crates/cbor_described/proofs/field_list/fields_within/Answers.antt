@@ -9,10 +9,9 @@ use Rattle.std.proofs.lemmas.Result.{err_from_is_err_and}
 use Rattle.cbor_de.proofs.facts.Structs.{no_struct, no_field_named, field_named, other_passed, other_unread, field_missing, end_unread, struct_held}
 use Rattle.cbor_de.proofs.facts.Structs.{unknown_other}
 use Rattle.cbor_described.proofs.FieldLists.{unread, begins_with, value_in, value_not_in, lacking_is}
-use Rattle.cbor_de.specs.Forms.{any_of, item_form, struct_form, key_form}
+use Rattle.cbor_de.specs.Forms.{any_of, key_form, never}
 use Rattle.cbor_decode.proofs.facts.Steps.{advances_some}
-use Rattle.cbor_de.proofs.facts.Forms.{later_in, of_left, of_right, took_then}
-use Rattle.cbor_described.proofs.FieldForms.{of_fields}
+use Rattle.cbor_de.proofs.facts.Forms.{key_in_map, later_in, of_left, took_then}
 use Rattle.cbor_described.proofs.field_list.fields_within.Goals as goal
 
 -- ---- the map's head
@@ -141,8 +140,10 @@ returns-in_err-field-clause-form g c =
     let passed = err_from_is_err_and c.from_residual-in_err-field.result c.from_residual-in_err-field.ensures.1 in
     let i = c.fields.invariant in
     let e = c.in_err-field.field-0.0 in
-    let took = took_then i.so_far.head.took i.so_far.so_far.took in
-    rw (passed.1, passed.2) (of_left struct_form g.F.FieldList.wrong_forms _ _ e (of_left key_form item_form _ _ e (later_in key_form c.args.de.now.decoder.formats c.fields.de.decoder.formats _ _ e i.formats took c.in_err-field.ensures.form)))
+    let old = c.args.de.now.decoder in
+    let so = i.so_far in
+    rw (passed.1, passed.2) (of_left key_form g.F.FieldList.wrong_forms _ _ e
+    (key_in_map _ old.formats old.levels so.deep so.all c.fields.remaining _ so.first _ so.head so.so_far never c.fields.de.decoder.formats e i.formats c.in_err-field.ensures.form))
 
 pub returns-in_err-take-in-Known-clause-form : goal.returns-in_err-take-in-Known-clause-form
 returns-in_err-take-in-Known-clause-form g c =
@@ -151,7 +152,7 @@ returns-in_err-take-in-Known-clause-form g c =
     let e = c.in_err-take-in-Known.field-0.0 in
     let next = c.in_ok-field.ensures in
     let took = took_then (took_then i.so_far.head.took i.so_far.so_far.took) next.read.took in
-    rw (passed.1, passed.2) (of_fields g.F.FieldList.wrong_forms _ _ e (later_in (any_of item_form g.F.FieldList.wrong_forms) c.args.de.now.decoder.formats c.next_key.new.de.decoder.formats _ _ e (next.formats ∙ i.formats) took c.in_err-take-in-Known.ensures.form))
+    rw (passed.1, passed.2) (later_in (any_of key_form g.F.FieldList.wrong_forms) c.args.de.now.decoder.formats c.next_key.new.de.decoder.formats _ _ e (next.formats ∙ i.formats) took c.in_err-take-in-Known.ensures.form)
 
 pub returns-in_err-skip_item-in-Unknown-clause-form : goal.returns-in_err-skip_item-in-Unknown-clause-form
 returns-in_err-skip_item-in-Unknown-clause-form g c =
@@ -160,7 +161,7 @@ returns-in_err-skip_item-in-Unknown-clause-form g c =
     let e = c.in_err-skip_item-in-Unknown.field-0.0 in
     let next = c.in_ok-field.ensures in
     let took = took_then (took_then i.so_far.head.took i.so_far.so_far.took) next.read.took in
-    rw (passed.1, passed.2) (of_left struct_form g.F.FieldList.wrong_forms _ _ e (of_right key_form item_form _ _ e (later_in item_form c.args.de.now.decoder.formats c.next_key.new.de.decoder.formats _ _ e (next.formats ∙ i.formats) took c.in_err-skip_item-in-Unknown.ensures.form)))
+    rw (passed.1, passed.2) (of_left key_form g.F.FieldList.wrong_forms _ _ e (later_in key_form c.args.de.now.decoder.formats c.next_key.new.de.decoder.formats _ _ e (next.formats ∙ i.formats) took c.in_err-skip_item-in-Unknown.ensures.form))
 
 pub returns-clause-taken : goal.returns-clause-taken
 returns-clause-taken g c =

@@ -1,10 +1,9 @@
-use Rattle.std.proofs.Common.{ℕ, Ok, Err, subst}
+use Rattle.std.proofs.Common.{ℕ, Ok, Err, inl, subst}
 use Rattle.std.proofs.lemmas.Result.{err_from_is_err_and}
 use Rattle.cbor_decode.specs.declared.formats.Formats.{Formats}
 use Rattle.cbor_decode_as.specs.Takes.{context, formats_of, TakesItem}
 use Rattle.cbor_decode_as.proofs.facts.Enums.{none_comes, item_lacks, end_left, only_taken}
-use Rattle.cbor_de.proofs.Forms.{later_in, none_told, of_left, of_right}
-use Rattle.cbor_de.specs.Forms.{part_form}
+use Rattle.cbor_de.proofs.Forms.{later_in, none_told}
 use Rattle.cbor_de.proofs.de.Deserializer.only_item.Goals as goal
 
 pub returns-in_err-expect_item-clause-read : goal.returns-in_err-expect_item-clause-read
@@ -60,10 +59,10 @@ pub returns-in_err-expect_item-clause-form : goal.returns-in_err-expect_item-cla
 returns-in_err-expect_item-clause-form g c =
     let passed = err_from_is_err_and c.from_residual.result c.from_residual.ensures.1 in
     let e = c.in_err-expect_item.field-0.0 in
-    rw (passed.1, passed.2) (of_left part_form g.T.Readable.wrong_forms _ _ e (none_told (formats_of c.args.self.now.decoder.formats) c.args.remaining (g.R.Source.source c.args.self.now.decoder.source) e c.in_err-expect_item.ensures.none))
+    rw (passed.1, passed.2) (none_told g.T.Readable.wrong_forms (formats_of c.args.self.now.decoder.formats) c.args.remaining (g.R.Source.source c.args.self.now.decoder.source) e c.in_err-expect_item.ensures.none)
 
 pub returns-in_err-item-clause-form : goal.returns-in_err-item-clause-form
 returns-in_err-item-clause-form g c =
     let passed = err_from_is_err_and c.from_residual-in_err-item.result c.from_residual-in_err-item.ensures.1 in
     let e = c.in_err-item.field-0.0 in
-    rw (passed.1, passed.2) (of_right part_form g.T.Readable.wrong_forms _ _ e (later_in g.T.Readable.wrong_forms c.args.self.now.decoder.formats c.expect_item.new.decoder.formats _ _ e c.in_ok-expect_item.ensures.formats c.in_ok-expect_item.ensures.read.took c.in_err-item.ensures.form))
+    rw (passed.1, passed.2) (inl (later_in g.T.Readable.wrong_forms c.args.self.now.decoder.formats c.expect_item.new.decoder.formats _ _ e c.in_ok-expect_item.ensures.formats c.in_ok-expect_item.ensures.read.took c.in_err-item.ensures.form))

@@ -4,8 +4,8 @@ use Rattle.cbor_decode.specs.declared.formats.Formats.{Formats}
 use Rattle.cbor_decode_as.specs.Takes.{context, formats_of}
 use Rattle.cbor_decode_as.proofs.facts.Places.{bad_key_later, kept_alone}
 use Rattle.cbor_decode_as.proofs.facts.Maps.{none_is_key, there, key_refused, key_next}
-use Rattle.cbor_de.proofs.Forms.{key_told, later_in, of_left, of_right}
-use Rattle.cbor_de.specs.Forms.{key_form}
+use Rattle.std.proofs.Common.{inl}
+use Rattle.cbor_de.proofs.Forms.{key_of, key_told, later_in}
 use Rattle.cbor_de.proofs.map.MapAccess.next_key.Goals as goal
 
 pub returns-in-Err-clause-read : goal.returns-in-Err-clause-read
@@ -61,9 +61,9 @@ pub returns-in-Err-clause-form : goal.returns-in-Err-clause-form
 returns-in-Err-clause-form g c =
     let old = c.args.self.now in
     let e = c.error.result in
-    of_left key_form g.K.Readable.wrong_forms _ _ e (key_told (formats_of old.de.now.decoder.formats) old.remaining (g.R.Source.source old.de.now.decoder.source) e (kept_alone c.more_pairs.new.decoder.refusal c.in-Err.refused e c.error.ensures.tells) (c.in-Err.ensures.cases e c.error.ensures.tells))
+    key_of g.K.Readable.wrong_forms (formats_of old.de.now.decoder.formats) old.remaining _ e (key_told (formats_of old.de.now.decoder.formats) old.remaining (g.R.Source.source old.de.now.decoder.source) e (kept_alone c.more_pairs.new.decoder.refusal c.in-Err.refused e c.error.ensures.tells) (c.in-Err.ensures.cases e c.error.ensures.tells))
 
 pub returns-in-Err-deserialize-clause-form : goal.returns-in-Err-deserialize-clause-form
 returns-in-Err-deserialize-clause-form g c =
     let e = c.in-Err-deserialize.e in
-    of_right key_form g.K.Readable.wrong_forms _ _ e (later_in g.K.Readable.wrong_forms c.args.self.now.de.now.decoder.formats c.more_pairs.new.decoder.formats _ _ e c.more_pairs.ensures.formats c.in-Ok-true.ensures.read.took c.in-Err-deserialize.ensures.form)
+    inl (later_in g.K.Readable.wrong_forms c.args.self.now.de.now.decoder.formats c.more_pairs.new.decoder.formats _ _ e c.more_pairs.ensures.formats c.in-Ok-true.ensures.read.took c.in-Err-deserialize.ensures.form)

@@ -3,7 +3,7 @@ use Rattle.cbor_de.specs.Structs.{field_or}
 use Rattle.cbor_decode_as.specs.Takes.{context, formats_of}
 use Rattle.cbor_described.specs.FieldLists.{over, slots_over}
 use Rattle.cbor_described.proofs.FieldLists.{slot_taken, taken_behind}
-use Rattle.cbor_de.specs.Forms.{item_form}
+use Rattle.cbor_de.specs.Forms.{key_form}
 use Rattle.cbor_described.proofs.FieldForms.{of_first, of_others}
 use Rattle.cbor_described.proofs.field_list.Tuple2ReadFields.take.Goals as goal
 
@@ -24,7 +24,7 @@ returns-clause-read g c =
     c.args.held.now.0 _ (slots_over (λ p. p.1) (g.F.FieldList.fields k) (g.F.FieldList.slots k c.args.held.now.1)) (g.R.Source.source old.source) _ c.take_slot.result c.take_slot.ensures.read
 
 pub returns-then-i-ne0-clause-form : goal.returns-then-i-ne0-clause-form
-returns-then-i-ne0-clause-form g c = of_others item_form g.A.Of.Readable.wrong_forms g.F.FieldList.wrong_forms _ _ c.take.result c.take.ensures.form
+returns-then-i-ne0-clause-form g c = of_others key_form g.A.Of.Readable.wrong_forms g.F.FieldList.wrong_forms _ _ c.take.result c.take.ensures.form
 
 pub returns-clause-form : goal.returns-clause-form
-returns-clause-form g c = of_first item_form g.A.Of.Readable.wrong_forms g.F.FieldList.wrong_forms _ _ c.take_slot.result c.take_slot.ensures.form
+returns-clause-form g c = of_first key_form g.A.Of.Readable.wrong_forms g.F.FieldList.wrong_forms _ _ c.take_slot.result c.take_slot.ensures.form

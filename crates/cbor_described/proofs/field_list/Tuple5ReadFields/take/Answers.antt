@@ -3,7 +3,7 @@ use Rattle.cbor_de.specs.Structs.{field_or}
 use Rattle.cbor_decode_as.specs.Takes.{context, formats_of}
 use Rattle.cbor_described.specs.FieldLists.{over, slots_over}
 use Rattle.cbor_described.proofs.FieldLists.{slot_taken, taken_behind}
-use Rattle.cbor_de.specs.Forms.{any_of, item_form}
+use Rattle.cbor_de.specs.Forms.{any_of, key_form}
 use Rattle.cbor_described.proofs.FieldForms.{of_first, of_others}
 use Rattle.cbor_described.proofs.field_list.Tuple5ReadFields.take.Goals as goal
 
@@ -52,27 +52,27 @@ returns-in_default-clause-read g c =
 -- ---- a wrong form
 
 pub returns-in-0-clause-form : goal.returns-in-0-clause-form
-returns-in-0-clause-form g c = of_first item_form g.A.Of.Readable.wrong_forms (any_of g.B.Of.Readable.wrong_forms (any_of g.C.Of.Readable.wrong_forms (any_of g.D.Of.Readable.wrong_forms g.F.FieldList.wrong_forms))) _ _ c.take_slot.result c.take_slot.ensures.form
+returns-in-0-clause-form g c = of_first key_form g.A.Of.Readable.wrong_forms (any_of g.B.Of.Readable.wrong_forms (any_of g.C.Of.Readable.wrong_forms (any_of g.D.Of.Readable.wrong_forms g.F.FieldList.wrong_forms))) _ _ c.take_slot.result c.take_slot.ensures.form
 
 pub returns-in-1-clause-form : goal.returns-in-1-clause-form
 returns-in-1-clause-form g c =
     let r = c.take_slot-in-1.result in
-    of_others item_form g.A.Of.Readable.wrong_forms (any_of g.B.Of.Readable.wrong_forms (any_of g.C.Of.Readable.wrong_forms (any_of g.D.Of.Readable.wrong_forms g.F.FieldList.wrong_forms))) _ _ r (of_first item_form g.B.Of.Readable.wrong_forms (any_of g.C.Of.Readable.wrong_forms (any_of g.D.Of.Readable.wrong_forms g.F.FieldList.wrong_forms)) _ _ r c.take_slot-in-1.ensures.form)
+    of_others key_form g.A.Of.Readable.wrong_forms (any_of g.B.Of.Readable.wrong_forms (any_of g.C.Of.Readable.wrong_forms (any_of g.D.Of.Readable.wrong_forms g.F.FieldList.wrong_forms))) _ _ r (of_first key_form g.B.Of.Readable.wrong_forms (any_of g.C.Of.Readable.wrong_forms (any_of g.D.Of.Readable.wrong_forms g.F.FieldList.wrong_forms)) _ _ r c.take_slot-in-1.ensures.form)
 
 pub returns-in-2-clause-form : goal.returns-in-2-clause-form
 returns-in-2-clause-form g c =
     let r = c.take_slot-in-2.result in
-    of_others item_form g.A.Of.Readable.wrong_forms (any_of g.B.Of.Readable.wrong_forms (any_of g.C.Of.Readable.wrong_forms (any_of g.D.Of.Readable.wrong_forms g.F.FieldList.wrong_forms))) _ _ r (of_others item_form g.B.Of.Readable.wrong_forms (any_of g.C.Of.Readable.wrong_forms (any_of g.D.Of.Readable.wrong_forms g.F.FieldList.wrong_forms)) _ _ r
-    (of_first item_form g.C.Of.Readable.wrong_forms (any_of g.D.Of.Readable.wrong_forms g.F.FieldList.wrong_forms) _ _ r c.take_slot-in-2.ensures.form))
+    of_others key_form g.A.Of.Readable.wrong_forms (any_of g.B.Of.Readable.wrong_forms (any_of g.C.Of.Readable.wrong_forms (any_of g.D.Of.Readable.wrong_forms g.F.FieldList.wrong_forms))) _ _ r (of_others key_form g.B.Of.Readable.wrong_forms (any_of g.C.Of.Readable.wrong_forms (any_of g.D.Of.Readable.wrong_forms g.F.FieldList.wrong_forms)) _ _ r
+    (of_first key_form g.C.Of.Readable.wrong_forms (any_of g.D.Of.Readable.wrong_forms g.F.FieldList.wrong_forms) _ _ r c.take_slot-in-2.ensures.form))
 
 pub returns-in-3-clause-form : goal.returns-in-3-clause-form
 returns-in-3-clause-form g c =
     let r = c.take_slot-in-3.result in
-    of_others item_form g.A.Of.Readable.wrong_forms (any_of g.B.Of.Readable.wrong_forms (any_of g.C.Of.Readable.wrong_forms (any_of g.D.Of.Readable.wrong_forms g.F.FieldList.wrong_forms))) _ _ r (of_others item_form g.B.Of.Readable.wrong_forms (any_of g.C.Of.Readable.wrong_forms (any_of g.D.Of.Readable.wrong_forms g.F.FieldList.wrong_forms)) _ _ r
-    (of_others item_form g.C.Of.Readable.wrong_forms (any_of g.D.Of.Readable.wrong_forms g.F.FieldList.wrong_forms) _ _ r (of_first item_form g.D.Of.Readable.wrong_forms g.F.FieldList.wrong_forms _ _ r c.take_slot-in-3.ensures.form)))
+    of_others key_form g.A.Of.Readable.wrong_forms (any_of g.B.Of.Readable.wrong_forms (any_of g.C.Of.Readable.wrong_forms (any_of g.D.Of.Readable.wrong_forms g.F.FieldList.wrong_forms))) _ _ r (of_others key_form g.B.Of.Readable.wrong_forms (any_of g.C.Of.Readable.wrong_forms (any_of g.D.Of.Readable.wrong_forms g.F.FieldList.wrong_forms)) _ _ r
+    (of_others key_form g.C.Of.Readable.wrong_forms (any_of g.D.Of.Readable.wrong_forms g.F.FieldList.wrong_forms) _ _ r (of_first key_form g.D.Of.Readable.wrong_forms g.F.FieldList.wrong_forms _ _ r c.take_slot-in-3.ensures.form)))
 
 pub returns-in_default-clause-form : goal.returns-in_default-clause-form
 returns-in_default-clause-form g c =
     let r = c.take.result in
-    of_others item_form g.A.Of.Readable.wrong_forms (any_of g.B.Of.Readable.wrong_forms (any_of g.C.Of.Readable.wrong_forms (any_of g.D.Of.Readable.wrong_forms g.F.FieldList.wrong_forms))) _ _ r (of_others item_form g.B.Of.Readable.wrong_forms (any_of g.C.Of.Readable.wrong_forms (any_of g.D.Of.Readable.wrong_forms g.F.FieldList.wrong_forms)) _ _ r
-    (of_others item_form g.C.Of.Readable.wrong_forms (any_of g.D.Of.Readable.wrong_forms g.F.FieldList.wrong_forms) _ _ r (of_others item_form g.D.Of.Readable.wrong_forms g.F.FieldList.wrong_forms _ _ r c.take.ensures.form)))
+    of_others key_form g.A.Of.Readable.wrong_forms (any_of g.B.Of.Readable.wrong_forms (any_of g.C.Of.Readable.wrong_forms (any_of g.D.Of.Readable.wrong_forms g.F.FieldList.wrong_forms))) _ _ r (of_others key_form g.B.Of.Readable.wrong_forms (any_of g.C.Of.Readable.wrong_forms (any_of g.D.Of.Readable.wrong_forms g.F.FieldList.wrong_forms)) _ _ r
+    (of_others key_form g.C.Of.Readable.wrong_forms (any_of g.D.Of.Readable.wrong_forms g.F.FieldList.wrong_forms) _ _ r (of_others key_form g.D.Of.Readable.wrong_forms g.F.FieldList.wrong_forms _ _ r c.take.ensures.form)))

@@ -1,5 +1,6 @@
 use Rattle.cbor_decode_as.specs.Enums.{IsPart}
 use Rattle.cbor_decode_as.specs.Takes.{context, formats_of}
+use Rattle.cbor_de.proofs.facts.Forms.{part_content}
 use Rattle.cbor_described.proofs.OneOfs.{content_not_made}
 use Rattle.cbor_described.proofs.variant_list.NewtypeReadVariant.read_content.Goals as goal
 
@@ -9,3 +10,6 @@ returns-in-Err-clause-read g c =
     let reads = g.T.Readable.reads (context old.formats g.R.Source.lends) in
     content_not_made (formats_of old.formats) old.levels c.args.form g.R.Source.refusals (g.R.Source.source old.source) (g.R.Source.source c.one_part.new.de.decoder.source)
     (IsPart reads) (λ content y. IsPart reads content y.0) c.in-Err.e (λ content y h. (y.0, h)) c.in-Err.ensures.read
+
+pub returns-in-Err-clause-form : goal.returns-in-Err-clause-form
+returns-in-Err-clause-form g c = part_content g.T.Readable.wrong_forms (formats_of c.args.de.now.decoder.formats) c.args.form _ c.in-Err.e c.in-Err.ensures.form

@@ -1,6 +1,6 @@
 use Rattle.cbor_decode_as.specs.Takes.{context, formats_of}
 use Rattle.cbor_described.proofs.OneOfs.{this_unread, other_unread}
-use Rattle.cbor_de.proofs.facts.Forms.{of_left, of_right}
+use Rattle.cbor_de.proofs.facts.Forms.{content_left, content_right}
 use Rattle.cbor_described.proofs.variant_list.OneOfReadVariants.read_variant.Goals as goal
 
 pub returns-in-Err-clause-read : goal.returns-in-Err-clause-read
@@ -16,7 +16,7 @@ returns-in-Err-read_content-clause-read g c =
     rw c.if-i-ne0.false (this_unread (g.V.Variant.means k) (g.Vs.VariantList.means k) (formats_of old.formats) old.levels c.args.form g.R.Source.refusals (g.R.Source.source old.source) (g.R.Source.source c.read_content.new.de.decoder.source) c.in-Err-read_content.e c.in-Err-read_content.ensures.read)
 
 pub returns-in-Err-clause-form : goal.returns-in-Err-clause-form
-returns-in-Err-clause-form g c = of_right g.V.Variant.wrong_forms g.Vs.VariantList.wrong_forms _ _ c.in-Err.e c.in-Err.ensures.form
+returns-in-Err-clause-form g c = content_right g.V.Variant.wrong_forms g.Vs.VariantList.wrong_forms _ c.args.form _ c.in-Err.e c.in-Err.ensures.form
 
 pub returns-in-Err-read_content-clause-form : goal.returns-in-Err-read_content-clause-form
-returns-in-Err-read_content-clause-form g c = of_left g.V.Variant.wrong_forms g.Vs.VariantList.wrong_forms _ _ c.in-Err-read_content.e c.in-Err-read_content.ensures.form
+returns-in-Err-read_content-clause-form g c = content_left g.V.Variant.wrong_forms g.Vs.VariantList.wrong_forms _ c.args.form _ c.in-Err-read_content.e c.in-Err-read_content.ensures.form

@@ -3,6 +3,7 @@ use Rattle.cbor_model.specs.Raw.{Raw}
 use Rattle.cbor_decode_as.specs.Enums.{IsPart}
 use Rattle.cbor_decode_as.specs.Takes.{context, formats_of}
 use Rattle.cbor_described.specs.declared.variant_list.NamedParts.{NamedParts}
+use Rattle.cbor_de.proofs.facts.Forms.{part_content}
 use Rattle.cbor_described.proofs.OneOfs.{content_made, content_not_made}
 use Rattle.cbor_described.proofs.OneParts.{is_part, part_is}
 use Rattle.cbor_described.proofs.variant_list.StructReadVariant.read_content.Goals as goal
@@ -22,3 +23,6 @@ returns-in-Err-clause-read g c =
     let named = λ (r : Raw) (y : NamedParts g.row.N.Denot g.row.N-Parts.Denot). reads r y.0 in
     content_not_made (formats_of old.formats) old.levels c.args.form g.R.Source.refusals (g.R.Source.source old.source) (g.R.Source.source c.one_part.new.de.decoder.source)
     (IsPart named) (λ content (y : Struct g.row.N.Denot g.row.N-Parts.Denot). IsPart reads content y.0) c.in-Err.e (λ content y h. (record { 0 = y.0 }, part_is reads (λ (y : NamedParts g.row.N.Denot g.row.N-Parts.Denot). y.0) content (record { 0 = y.0 }) h)) c.in-Err.ensures.read
+
+pub returns-in-Err-clause-form : goal.returns-in-Err-clause-form
+returns-in-Err-clause-form g c = part_content g.N.Parts.ReadableParts.wrong_forms (formats_of c.args.de.now.decoder.formats) c.args.form _ c.in-Err.e c.in-Err.ensures.form

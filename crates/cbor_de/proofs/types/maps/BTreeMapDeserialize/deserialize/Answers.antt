@@ -14,7 +14,7 @@ use Rattle.cbor_de.proofs.WholeMaps.{map_begins, map_goes_on, key_lacks, value_l
 use Rattle.cbor_decode_as.proofs.facts.Refusals.{refuses_on}
 use Rattle.cbor_decode.proofs.facts.Steps.{took_same, some_then}
 use Rattle.cbor_decode_as.proofs.facts.Readings.{refuses_memory}
-use Rattle.cbor_de.proofs.Forms.{later_in, of_left, of_right}
+use Rattle.cbor_de.proofs.Forms.{key_in_map, later_in, of_left, of_right}
 use Rattle.cbor_de.specs.Forms.{any_of, key_form}
 use Rattle.cbor_de.proofs.types.maps.BTreeMapDeserialize.deserialize.Goals as goal
 
@@ -191,8 +191,11 @@ returns-in_err-key-clause-form g c =
     let passed = err_from_is_err_and c.from_residual-in_err-key.result c.from_residual-in_err-key.ensures.1 in
     let i = c.pairs.invariant in
     let e = c.in_err-key.field-0.0 in
-    let keys = any_of key_form g.K.Readable.wrong_forms in
-    rw (passed.1, passed.2) (of_left keys g.V.Readable.wrong_forms _ _ e (later_in keys c.args.de.now.decoder.formats c.pairs.access.de.now.decoder.formats _ _ e i.formats (some_then _ _ _ c.in_ok-access.ensures.head.took i.so_far.took) c.in_err-key.ensures.form))
+    let old = c.args.de.now in
+    let first = c.in_ok-access.access.de.now in
+    let made = Made (g.K.Readable.reads (context old.decoder.formats g.R.Source.lends)) (g.V.Readable.reads (context old.decoder.formats g.R.Source.lends)) g.K.Ord.cmp c.pairs.map.entries in
+    rw (passed.1, passed.2) (of_left (any_of key_form g.K.Readable.wrong_forms) g.V.Readable.wrong_forms _ _ e
+    (key_in_map made old.decoder.formats old.decoder.levels first.decoder.levels c.in_ok-access.access.remaining c.pairs.access.remaining _ _ _ c.in_ok-access.ensures.head i.so_far g.K.Readable.wrong_forms c.pairs.access.de.now.decoder.formats e i.formats c.in_err-key.ensures.form))
 
 pub returns-in_err-value-clause-form : goal.returns-in_err-value-clause-form
 returns-in_err-value-clause-form g c =

@@ -1,0 +1,5 @@
+use Rattle.cbor_de.proofs.TagTaken as tags
+use Rattle.cbor_de.proofs.laws.tag_taken.Goals as goal
+
+pub returns : goal.returns
+returns c = tags.tag_taken

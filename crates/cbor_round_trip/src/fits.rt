@@ -1,0 +1,59 @@
+//! What the laws of single types ask of a value (`law.fits`): nothing that a program's value lacks.
+
+ghost use Rattle.std.specs.List.{AllByRecursion};
+ghost use Rattle.cbor_model.specs.Canonical.{IsOrdered};
+ghost use Rattle.cbor_value.specs.View.{view};
+
+use crate::round_trip::RoundTrip;
+use cbor_value::bytes::{ByteArray, ByteBuf};
+use cbor_value::{Float, Value};
+
+/// Every integer from 0 is read back as it was written, where it can be: one of a `u128` above
+/// 2^64 - 1 is refused.
+pub fn naturals_fit(a: u8, b: u16, c: u32, d: u64, e: u128, f: usize)
+    ensures of_u8 { ⟦<u8 as RoundTrip>⟧.law.fits a }
+    ensures of_u16 { ⟦<u16 as RoundTrip>⟧.law.fits b }
+    ensures of_u32 { ⟦<u32 as RoundTrip>⟧.law.fits c }
+    ensures of_u64 { ⟦<u64 as RoundTrip>⟧.law.fits d }
+    ensures of_u128 { ⟦<u128 as RoundTrip>⟧.law.fits e }
+    ensures of_usize { ⟦<usize as RoundTrip>⟧.law.fits f }
+{}
+
+/// So is every signed integer.
+pub fn integers_fit(a: i8, b: i16, c: i32, d: i64, e: i128, f: isize)
+    ensures of_i8 { ⟦<i8 as RoundTrip>⟧.law.fits a }
+    ensures of_i16 { ⟦<i16 as RoundTrip>⟧.law.fits b }
+    ensures of_i32 { ⟦<i32 as RoundTrip>⟧.law.fits c }
+    ensures of_i64 { ⟦<i64 as RoundTrip>⟧.law.fits d }
+    ensures of_i128 { ⟦<i128 as RoundTrip>⟧.law.fits e }
+    ensures of_isize { ⟦<isize as RoundTrip>⟧.law.fits f }
+{}
+
+/// So are every bool, character and float, and the unit.
+pub fn scalars_fit(a: bool, b: char, c: Float, d: f32, e: f64)
+    ensures of_bool { ⟦<bool as RoundTrip>⟧.law.fits a }
+    ensures of_char { ⟦<char as RoundTrip>⟧.law.fits b }
+    ensures of_float { ⟦<Float as RoundTrip>⟧.law.fits c }
+    ensures of_f32 { ⟦<f32 as RoundTrip>⟧.law.fits d }
+    ensures of_f64 { ⟦<f64 as RoundTrip>⟧.law.fits e }
+    ensures of_unit { ⟦<() as RoundTrip>⟧.law.fits tt }
+{}
+
+/// So is every string.
+pub fn strings_fit<const N: usize>(a: &String, b: &ByteBuf, c: &ByteArray<N>)
+    ensures of_string { ⟦<String as RoundTrip>⟧.law.fits a.now }
+    ensures of_byte_buf { ⟦<ByteBuf as RoundTrip>⟧.law.fits b.now }
+    ensures of_byte_array { ⟦<ByteArray<N> as RoundTrip>⟧.law.fits c.now }
+{}
+
+/// A value is, whose maps list their keys in order, as all calls of `Map` leave them.
+pub fn ordered_values_fit(value: &Value)
+    ensures { IsOrdered (view value.now) → ⟦<Value as RoundTrip>⟧.law.fits value.now }
+{}
+
+/// A vector and an array are whose items are.
+pub fn items_fit<T: RoundTrip, const N: usize>(a: &Vec<T>, b: &[T; N])
+    ensures of_vec { AllByRecursion T.law.fits a.now.items
+        → ⟦<Vec<T> as RoundTrip>⟧.law.fits a.now }
+    ensures of_array { AllByRecursion T.law.fits b.now → ⟦<[T; N] as RoundTrip>⟧.law.fits b.now }
+{}
