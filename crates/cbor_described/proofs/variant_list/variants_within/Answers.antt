@@ -3,7 +3,7 @@ use Rattle.cbor_decode_as.specs.Identifiers.{texts}
 use Rattle.cbor_decode_as.specs.Takes.{context, formats_of}
 use Rattle.cbor_de.proofs.facts.Enums.{variant_unread}
 use Rattle.cbor_described.proofs.OneOfs.{enum_answer}
-use Rattle.cbor_de.specs.Forms.{enum_form}
+use Rattle.cbor_de.specs.Forms.{Began, enum_form}
 use Rattle.cbor_de.proofs.facts.Forms.{began_err, enum_told, of_left, right_err}
 use Rattle.std.proofs.lemmas.Result.{err_from_is_err_and}
 use Rattle.cbor_described.proofs.variant_list.variants_within.Goals as goal
@@ -34,5 +34,5 @@ pub returns-clause-form : goal.returns-clause-form
 returns-clause-form g c =
     let r = c.read_variant.result in
     let old = c.args.de.now.decoder in
-    let began = record { names = texts c.args.names.now; levels = old.levels; left = c.variant_head.new.de.decoder.levels; index = c.in_ok-index.index; step = c.in_ok-index.ensures.opened } in
+    let began : Began (formats_of old.formats) c.in_ok-index.form (g.R.Source.source old.source) (g.R.Source.source c.variant_head.new.de.decoder.source) = record { names = texts c.args.names.now; levels = old.levels; left = c.variant_head.new.de.decoder.levels; index = c.in_ok-index.index; step = c.in_ok-index.ensures.opened } in
     right_err enum_form g.E.VariantList.wrong_forms _ _ r (began_err g.E.VariantList.wrong_forms old.formats c.variant_head.new.de.decoder.formats c.in_ok-index.form _ _ r c.in_ok-index.ensures.formats began c.read_variant.ensures.form)
