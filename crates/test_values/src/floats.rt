@@ -1,11 +1,8 @@
 //! Floats as numbers. The bits that are wanted are those of Python's module `struct`.
 
-use crate::checks::writes;
-use cbor_value::bytes::ByteBuf;
 use cbor_value::{Float, Value};
 use std::num::{f32_to_bits_with_nan, f64_to_bits_with_nan};
 use std::process::Abort;
-use test_checks::Done;
 
 // The checks below promise nothing, so that a test of many rows carries no facts from one to the
 // next.
@@ -203,12 +200,4 @@ fn makes_floats_of_numbers(rt: HostRuntime) {
     singles(&rt, f32::MAX, 0x7f7f_ffff);
     singles(&rt, f32::NEG_INFINITY, 0xff80_0000);
     singles(&rt, f32::NAN, 0x7fc0_0000);
-}
-
-#[test]
-fn makes_values_of_byte_strings(rt: HostRuntime) -> Done {
-    let alloc = rt.alloc();
-    let made = Value::from(ByteBuf::from(Vec::from_slice(alloc, b"ab")?));
-    writes(&rt, alloc, &made, b"\x42ab")?;
-    writes(&rt, alloc, &b"ab".as_slice(), b"\x42ab")
 }

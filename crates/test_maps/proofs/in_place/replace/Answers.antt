@@ -1,4 +1,4 @@
-use Rattle.test_values.proofs.in_place.replace.Goals as goal
+use Rattle.test_maps.proofs.in_place.replace.Goals as goal
 
 pub returns-in-Some : goal.returns-in-Some
 returns-in-Some c =

@@ -3,6 +3,7 @@
 use crate::checks::{FailingWriter, is_written_up_to, tag, text, writes};
 use cbor_io::error;
 use cbor_ser::{IoWrite, Serializer, SliceWrite, to_writer};
+use cbor_value::bytes::ByteBuf;
 use cbor_value::{Float, Map, Value};
 use std::alloc::Global;
 use std::process::Abort;
@@ -56,6 +57,14 @@ const PIECES: usize = 18;
 fn spells_each_kind(rt: HostRuntime) -> Done {
     let alloc = rt.alloc();
     writes(&rt, alloc, &each_kind(alloc)?, EACH_KIND.as_slice())
+}
+
+#[test]
+fn makes_values_of_byte_strings(rt: HostRuntime) -> Done {
+    let alloc = rt.alloc();
+    let made = Value::from(ByteBuf::from(Vec::from_slice(alloc, b"ab")?));
+    writes(&rt, alloc, &made, b"\x42ab")?;
+    writes(&rt, alloc, &b"ab".as_slice(), b"\x42ab")
 }
 
 #[test]

@@ -1,0 +1,203 @@
+//! Strings, chunks, arrays, maps and messages of 65,536 bytes or items, by each source and sink.
+
+use cbor_de::{
+    Deserializer, IgnoredAny, from_mut_slice, from_reader, from_slice, from_slice_with_scratch,
+};
+use cbor_io::error::Error;
+use cbor_ser::{IoWrite, SliceWrite, to_vec, to_writer};
+use cbor_strict::from_slice_canonical;
+use cbor_value::Value;
+use std::alloc::{AllocError, Global};
+use std::process::Abort;
+use std::test::Fail;
+use test_checks::{Done, is_refused};
+
+const MANY: usize = 65_536;
+
+/// A front, and this many times after it.
+fn times(alloc: Global, front: &[u8], part: &[u8], count: usize) -> Result<Vec<u8>, AllocError> {
+    let len = part.len().saturating_mul(count).saturating_add(front.len());
+    let mut bytes = Vec::with_capacity(alloc, len.saturating_add(1))?;
+    bytes.extend_from_slice(front)?;
+    for _ in 0..count {
+        bytes.extend_from_slice(part)?;
+    }
+    Ok(bytes)
+}
+
+/// A front, this many times after it, and a break.
+fn up_to_break(
+    alloc: Global,
+    front: &[u8],
+    part: &[u8],
+    count: usize,
+) -> Result<Vec<u8>, AllocError> {
+    let mut bytes = times(alloc, front, part, count)?;
+    bytes.push(0xff)?;
+    Ok(bytes)
+}
+
+/// The value is written as these bytes by each sink.
+fn writes(rt: &impl Abort, alloc: Global, value: &Value, want: &[u8]) -> Done {
+    assert!(rt; to_vec(alloc, value)?.as_slice() == want);
+    let mut room: Vec<u8> = vec![in alloc; 0; want.len()]?;
+    let mut sink = SliceWrite::new(&mut room);
+    to_writer(alloc, &mut sink, value)?;
+    assert!(rt; sink.bytes_written() == want.len());
+    assert!(rt; &*sink.into_inner() == want);
+    let mut file: Vec<u8> = Vec::with_capacity(alloc, want.len())?;
+    to_writer(alloc, &mut IoWrite::new(&mut file), value)?;
+    assert!(rt; file.as_slice() == want);
+    Ok(())
+}
+
+/// The bytes are a value by each source, which is written as those.
+fn becomes(rt: &impl Abort, alloc: Global, bytes: &[u8], want: &[u8]) -> Done {
+    writes(rt, alloc, &from_slice(alloc, bytes)?, want)?;
+    let mut scratch: Vec<u8> = vec![in alloc; 0; 131_072]?;
+    let value = from_slice_with_scratch(alloc, bytes, &mut scratch)?;
+    writes(rt, alloc, &value, want)?;
+    let mut copy = Vec::from_slice(alloc, bytes)?;
+    writes(rt, alloc, &from_mut_slice(alloc, &mut copy)?, want)?;
+    writes(rt, alloc, &from_reader(alloc, bytes)?, want)
+}
+
+/// They are the canonical encoding of it.
+fn stays(rt: &impl Abort, alloc: Global, bytes: &[u8]) -> Done {
+    becomes(rt, alloc, bytes, bytes)?;
+    writes(rt, alloc, &from_slice_canonical(alloc, bytes)?, bytes)
+}
+
+#[test]
+fn keeps_long_strings(rt: HostRuntime) -> Done {
+    let alloc = rt.alloc();
+    stays(&rt, alloc, &times(alloc, b"\x5a\0\x01\0\0", b"\x2a", MANY)?)?;
+    stays(&rt, alloc, &times(alloc, b"\x7a\0\x01\0\0", b"a", MANY)?)?;
+    stays(
+        &rt,
+        alloc,
+        &times(alloc, b"\x7a\0\x03\0\0", "水".as_bytes(), MANY)?,
+    )
+}
+
+#[test]
+fn joins_many_chunks(rt: HostRuntime) -> Done {
+    let alloc = rt.alloc();
+    let bytes = up_to_break(alloc, b"\x5f", b"\x41\x2a", MANY)?;
+    becomes(
+        &rt,
+        alloc,
+        &bytes,
+        &times(alloc, b"\x5a\0\x01\0\0", b"\x2a", MANY)?,
+    )?;
+    let bytes = up_to_break(alloc, b"\x7f", b"\x61a", MANY)?;
+    becomes(
+        &rt,
+        alloc,
+        &bytes,
+        &times(alloc, b"\x7a\0\x01\0\0", b"a", MANY)?,
+    )
+}
+
+#[test]
+fn joins_long_chunks(rt: HostRuntime) -> Done {
+    let alloc = rt.alloc();
+    let chunk = times(alloc, b"\x7a\0\x01\0\0", b"a", MANY)?;
+    let bytes = up_to_break(alloc, b"\x7f", &chunk, 2)?;
+    let joined = times(alloc, b"\x7a\0\x02\0\0", b"aa", MANY)?;
+    becomes(&rt, alloc, &bytes, &joined)
+}
+
+#[test]
+fn keeps_long_arrays(rt: HostRuntime) -> Done {
+    let alloc = rt.alloc();
+    let array = times(alloc, b"\x9a\0\x01\0\0", b"\xf6", MANY)?;
+    stays(&rt, alloc, &array)?;
+    becomes(
+        &rt,
+        alloc,
+        &up_to_break(alloc, b"\x9f", b"\xf6", MANY)?,
+        &array,
+    )
+}
+
+/// The pairs from 0 to 65,535, each to null, in ascending order of their keys.
+fn push_pairs(bytes: &mut Vec<u8>) -> Result<(), AllocError> {
+    for key in 0..=u16::MAX {
+        let [high, low] = key.to_be_bytes();
+        match key {
+            0..24 => bytes.push(low)?,
+            24..256 => bytes.extend_from_slice(&[0x18, low])?,
+            _ => bytes.extend_from_slice(&[0x19, high, low])?,
+        }
+        bytes.push(0xf6)?;
+    }
+    Ok(())
+}
+
+#[test]
+fn keeps_long_maps(rt: HostRuntime) -> Done {
+    let alloc = rt.alloc();
+    let mut map = Vec::from_slice(alloc, b"\xba\0\x01\0\0")?;
+    push_pairs(&mut map)?;
+    stays(&rt, alloc, &map)?;
+    let mut open = Vec::from_slice(alloc, b"\xbf")?;
+    push_pairs(&mut open)?;
+    open.push(0xff)?;
+    becomes(&rt, alloc, &open, &map)
+}
+
+/// How many items a stream over a reader has.
+fn counts(alloc: Global, bytes: &[u8]) -> Result<usize, Fail> {
+    let mut count = 0usize;
+    for item in Deserializer::from_reader(alloc, bytes).into_iter::<IgnoredAny>() {
+        item?;
+        count = count.saturating_add(1);
+    }
+    Ok(count)
+}
+
+#[test]
+fn reads_long_streams(rt: HostRuntime) -> Done {
+    let alloc = rt.alloc();
+    let count = counts(alloc, &times(alloc, b"", b"\x62ab", MANY)?)?;
+    assert!(rt; count == MANY);
+    Ok(())
+}
+
+#[test]
+fn refuses_long_items_that_are_cut_off(rt: HostRuntime) -> Done {
+    let alloc = rt.alloc();
+    let text = times(alloc, b"\x7a\0\x01\0\x01", b"a", MANY)?;
+    let end = "EOF while parsing a value at offset 65541";
+    is_refused(from_slice::<Value>(alloc, &text), end)?;
+    is_refused(from_reader::<String, _>(alloc, text.as_slice()), end)?;
+    let array = times(alloc, b"\x9f", b"\xf6", MANY)?;
+    let end = "EOF while parsing an array at offset 65537";
+    is_refused(from_slice::<Value>(alloc, &array), end)?;
+    is_refused(from_reader::<IgnoredAny, _>(alloc, array.as_slice()), end)
+}
+
+#[test]
+fn refuses_a_long_text_that_is_not_utf8(rt: HostRuntime) -> Done {
+    let alloc = rt.alloc();
+    let mut text = times(alloc, b"\x7a\0\x01\0\x01", b"a", MANY)?;
+    text.push(0xff)?;
+    let bad = "invalid UTF-8 at offset 65541";
+    is_refused(from_slice::<Value>(alloc, &text), bad)?;
+    is_refused(from_reader::<String, _>(alloc, text.as_slice()), bad)
+}
+
+// A message owns its text, which is printed whole.
+#[test]
+fn prints_long_messages(rt: HostRuntime) -> Done {
+    let alloc = rt.alloc();
+    let bytes = times(alloc, b"", b"a", MANY)?;
+    let text = str::from_utf8(&bytes).map_err(|_| Fail::from("no text"))?;
+    let e = Error::message(alloc, text);
+    if e.is_memory() {
+        return Err(Fail::from(e));
+    }
+    assert!(rt; e.to_string(alloc)?.as_str() == text);
+    Ok(())
+}

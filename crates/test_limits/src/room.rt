@@ -1,0 +1,77 @@
+//! How much room is taken for what is read and written.
+
+use cbor_de::from_slice;
+use cbor_ser::to_vec;
+use cbor_value::Value;
+use std::alloc::Global;
+use std::process::Abort;
+use std::test::Fail;
+use test_checks::Done;
+
+/// An array of indefinite length, of so many zeros (RFC 7049, section 2.2.1).
+fn zeros(alloc: Global, count: usize) -> Result<Vec<u8>, Fail> {
+    let mut bytes = Vec::with_capacity(alloc, count.saturating_add(2))?;
+    bytes.push(0x9f)?;
+    for _ in 0..count {
+        bytes.push(0)?;
+    }
+    bytes.push(0xff)?;
+    Ok(bytes)
+}
+
+/// A vector of so many that grew by doubling has room for at most twice as many, and for half as many
+/// again where they were just too many.
+fn has_doubled(rt: &impl Abort, len: usize, capacity: usize) {
+    assert!(rt; len == 65_537);
+    assert!(rt; capacity >= 98_304);
+    assert!(rt; capacity <= 131_072);
+}
+
+#[test]
+fn grows_by_doubling(rt: HostRuntime) -> Done {
+    let alloc = rt.alloc();
+    let bytes = zeros(alloc, 65_537)?;
+    let numbers: Vec<u8> = from_slice(alloc, &bytes)?;
+    has_doubled(&rt, numbers.len(), numbers.capacity());
+    let value: Value = from_slice(alloc, &bytes)?;
+    let Ok(items) = value.into_array() else {
+        return Err(Fail::from("no array"));
+    };
+    has_doubled(&rt, items.len(), items.capacity());
+    Ok(())
+}
+
+// The head of 65,533 items is of three bytes, and one more is written than 65,536.
+#[test]
+fn writes_by_doubling(rt: HostRuntime) -> Done {
+    let alloc = rt.alloc();
+    let numbers: Vec<u8> = from_slice(alloc, &zeros(alloc, 65_534)?)?;
+    let written = to_vec(alloc, &numbers)?;
+    has_doubled(&rt, written.len(), written.capacity());
+    Ok(())
+}
+
+/// So many zeros are read into a vector of at most so much room.
+fn takes_room(rt: &impl Abort, alloc: Global, bytes: &[u8], count: usize, most: usize) -> Done {
+    let numbers: Vec<u8> = from_slice(alloc, bytes)?;
+    assert!(rt; numbers.len() == count);
+    assert!(rt; numbers.capacity() <= most);
+    let value: Value = from_slice(alloc, bytes)?;
+    let Ok(items) = value.into_array() else {
+        return Err(Fail::from("no array"));
+    };
+    assert!(rt; items.len() == count);
+    assert!(rt; items.capacity() <= most);
+    Ok(())
+}
+
+#[test]
+fn takes_room_for_the_items_that_there_are(rt: HostRuntime) -> Done {
+    let alloc = rt.alloc();
+    takes_room(&rt, alloc, b"\x80", 0, 0)?;
+    takes_room(&rt, alloc, b"\x81\0", 1, 1)?;
+    takes_room(&rt, alloc, b"\x82\0\0", 2, 8)?;
+    takes_room(&rt, alloc, b"\x83\0\0\0", 3, 8)?;
+    takes_room(&rt, alloc, b"\x9f\0\0\0\xff", 3, 8)?;
+    takes_room(&rt, alloc, b"\x89\0\0\0\0\0\0\0\0\0", 9, 16)
+}
