@@ -1,0 +1,6 @@
+pub mod Printing
+pub mod Layouts
+pub mod Characters
+pub mod Sizes
+pub mod Items
+pub mod Numerals

@@ -1,5 +1,5 @@
 pub mod Prints
 pub mod Layout
 pub mod Texts
-pub mod Floats
+pub mod Numerals
 pub mod Notation

@@ -8,11 +8,11 @@ use Rattle.cbor_model.specs.Plain.{Vals, no_vals, val, Pairs, no_pairs, pair, co
 use Rattle.cbor_value.specs.Floats.{number}
 use Rattle.cbor_diagnostic.specs.Layout.{inner, lead, closing}
 use Rattle.cbor_diagnostic.specs.Texts.{byte_string, quoted}
-use Rattle.cbor_diagnostic.specs.Floats.{IsFloatNotation}
+use Rattle.cbor_diagnostic.specs.Numerals.{IsFloatNotation}
 
 -- each item and each pair on a line of its own, from no indent on
-abbrev pub lines : Option ℕ
-lines = Some 0
+abbrev pub pretty : Option ℕ
+pretty = Some 0
 
 abbrev mutual
   pub IsNotation : Option ℕ → Val → List ℕ → Type 0

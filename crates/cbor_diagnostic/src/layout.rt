@@ -36,7 +36,7 @@ fn start_line<W: Write>(indent: Option<usize>, out: &mut W) -> fmt::Result
 fn write_blanks<W: Write>(steps: usize, out: &mut W) -> fmt::Result
     ensures { OnOk result (WritesInCalls W.write_str_gives out.old (blanks steps) out.new) }
 {
-    for _ in 0..steps {
+    for _step in 0..steps {
         out.write_str("  ")?;
     }
     Ok(())

@@ -14,7 +14,7 @@ mod scalars;
 ghost use Rattle.std.specs.Prelude.{IfOk, IfErr, None, string_bytes};
 ghost use Rattle.cbor_io.specs.Error.{IsOutOfMemory};
 ghost use Rattle.cbor_value.specs.View.{view};
-ghost use Rattle.cbor_diagnostic.specs.Notation.{IsNotation, lines};
+ghost use Rattle.cbor_diagnostic.specs.Notation.{IsNotation, pretty};
 
 use crate::notation::{to_text, write_value};
 use cbor_io::error::Result;
@@ -88,7 +88,7 @@ pub fn to_diagnostic(alloc: Global, value: &Value) -> Result<String>
 /// assert_eq!(rt; to_diagnostic_pretty(alloc, &value)?.as_str(), "[\n  1,\n  2\n]");
 /// ```
 pub fn to_diagnostic_pretty(alloc: Global, value: &Value) -> Result<String>
-    ensures notation { IfOk result (λ text. IsNotation lines (view value.now) (string_bytes text)) }
+    ensures notation { IfOk result (λ text. IsNotation pretty (view value.now) (string_bytes text)) }
     ensures memory { IfErr result IsOutOfMemory }
 {
     to_text(alloc, value, Some(0))

@@ -16,11 +16,7 @@ use std::fmt;
 use std::fmt::Write;
 
 /// The value's notation as a text of its own.
-pub(crate) fn to_text(
-    alloc: Global,
-    value: &Value,
-    indent: Option<usize>,
-) -> error::Result<String>
+pub(crate) fn to_text(alloc: Global, value: &Value, indent: Option<usize>) -> error::Result<String>
     ensures notation { IfOk result (λ text.
         IsNotation indent (view value.now) (string_bytes text)) }
     ensures memory { IfErr result IsOutOfMemory }
@@ -56,12 +52,7 @@ pub(crate) fn write_value<W: Write>(
 }
 
 #[cycle(value)]
-fn write_tag<W: Write>(
-    tag: u64,
-    inner: &Value,
-    indent: Option<usize>,
-    out: &mut W,
-) -> fmt::Result
+fn write_tag<W: Write>(tag: u64, inner: &Value, indent: Option<usize>, out: &mut W) -> fmt::Result
     ensures { OnOk result (Prints W.write_str_gives
         (IsNotation indent (plain.tag tag (view inner.now))) out.old out.new) }
 {

@@ -5,7 +5,7 @@ ghost use Rattle.std.specs.Float.{float_is_finite};
 ghost use Rattle.std.specs.Fmt.{WritesInCalls, signed_decimal};
 ghost use Rattle.cbor_diagnostic.specs.Texts.{hex, byte_string, escape_letter, escaped};
 ghost use Rattle.cbor_diagnostic.specs.Texts.{all_escaped, quoted};
-ghost use Rattle.cbor_diagnostic.specs.Floats.{IsFloatNotation, IsNumeralOf};
+ghost use Rattle.cbor_diagnostic.specs.Numerals.{IsFloatNotation, IsNumeralOf};
 ghost use Rattle.cbor_diagnostic.specs.Prints.{Prints};
 
 use ryu::Buffer;

@@ -9,7 +9,11 @@ use std::process::Abort;
 use test_checks::Done;
 
 /// The value that the hexadecimal encodes.
-fn value_of(rt: &impl Abort, alloc: Global, encoding: &str) -> Result<Value, cbor_io::error::Error> {
+fn value_of(
+    rt: &impl Abort,
+    alloc: Global,
+    encoding: &str,
+) -> Result<Value, cbor_io::error::Error> {
     let bytes = hex::decode(alloc, encoding.as_bytes()).unwrap_or(Vec::new(alloc));
     from_slice(alloc, &bytes)
 }
@@ -26,6 +30,9 @@ pub fn is_shown(rt: &impl Abort, alloc: Global, encoding: &str, want: &str) -> D
 pub fn is_shown_pretty(rt: &impl Abort, alloc: Global, encoding: &str, want: &str) -> Done {
     let value = value_of(rt, alloc, encoding)?;
     assert_eq!(rt; to_diagnostic_pretty(alloc, &value)?.as_str(), want);
-    assert_eq!(rt; format!(in alloc; "{:#}", Diagnostic(&value))?.as_str(), want);
+    assert_eq!(rt;
+        format!(in alloc; "{:#}", Diagnostic(&value))?.as_str(),
+        want
+    );
     Ok(())
 }

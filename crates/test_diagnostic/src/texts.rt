@@ -20,6 +20,11 @@ fn shows_lines(rt: HostRuntime) -> Done {
     is_shown_pretty(&rt, alloc, "a0", "{}")?;
     is_shown_pretty(&rt, alloc, "01", "1")?;
     is_shown_pretty(&rt, alloc, "820180", "[\n  1,\n  []\n]")?;
-    is_shown_pretty(&rt, alloc, "a2016161038102", "{\n  1: \"a\",\n  3: [\n    2\n  ]\n}")?;
+    is_shown_pretty(
+        &rt,
+        alloc,
+        "a2016161038102",
+        "{\n  1: \"a\",\n  3: [\n    2\n  ]\n}",
+    )?;
     is_shown_pretty(&rt, alloc, "c2820102", "2([\n  1,\n  2\n])")
 }
