@@ -1,4 +1,5 @@
 pub mod Printing
+pub mod Formatters
 pub mod Layouts
 pub mod Characters
 pub mod Sizes

@@ -11,10 +11,12 @@ mod layout;
 mod notation;
 mod scalars;
 
-ghost use Rattle.std.specs.Prelude.{IfOk, IfErr, None, string_bytes};
+ghost use Rattle.std.specs.Prelude.{IfOk, IfErr, OnOk, None, string_bytes};
+ghost use Rattle.std.specs.Fmt.{IsPlainFormatter, DisplaysOnOk, DisplaysStyledOnOk};
 ghost use Rattle.cbor_io.specs.Error.{IsOutOfMemory};
 ghost use Rattle.cbor_value.specs.View.{view};
 ghost use Rattle.cbor_diagnostic.specs.Notation.{IsNotation, pretty};
+ghost use Rattle.cbor_diagnostic.specs.Prints.{Shows};
 
 use crate::notation::{to_text, write_value};
 use cbor_io::error::Result;
@@ -26,7 +28,7 @@ use std::fmt;
 /// an array and each pair of a map on a line of its own, indented by two blanks a level.
 ///
 /// The text is as [`to_diagnostic`] describes it. Showing takes no memory, and is refused only where
-/// the writer refuses it.
+/// the writer refuses it. What `{}` writes is proved; what `{:#}` writes is tested.
 ///
 /// ```rust
 /// let value = Value::Tag(1, Box::new(alloc, Value::Integer(-7))?);
@@ -39,7 +41,13 @@ pub struct Diagnostic<'a>(
 );
 
 impl fmt::Display for Diagnostic<'_> {
-    fn fmt<W: fmt::Write>(&self, f: &mut fmt::Formatter<W>) -> fmt::Result {
+    fn fmt<W: fmt::Write>(&self, f: &mut fmt::Formatter<W>) -> fmt::Result
+        ensures writes { DisplaysOnOk W.write_str_gives f.old result None f.new }
+        ensures styled { DisplaysStyledOnOk W.write_str_gives f.old result None f.new }
+        // What `{}` writes is a notation on one line.
+        ensures notation { IsPlainFormatter f.old → OnOk result
+            (Shows W.write_str_gives (IsNotation None (view self.now.0.now)) f.old f.new) }
+    {
         let indent = if f.alternate() { Some(0) } else { None };
         write_value(self.0, indent, f)
     }
