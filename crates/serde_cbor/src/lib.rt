@@ -12,6 +12,7 @@
 //! - [`parts`]: the description by which a struct or an enum of yours is read and written;
 //!   [`round_trip`]: the law that it is read back
 //! - [`bytes`], [`tags`]: byte strings and tags as types
+//! - [`cbor!`](crate::cbor): a value as a literal
 //! - [`error`]; [`read`] and [`write`]: sources and sinks; [`model`]: definitions and laws
 //!
 //! In the repository `docs/FORMAT.md` has the format in rules, `docs/OWN_TYPES.md` a type of your
@@ -31,6 +32,7 @@
 #![tactic(auto)]
 
 pub mod de;
+pub mod literal;
 pub mod stream;
 pub mod tags;
 
