@@ -29,8 +29,9 @@ const PIECE: usize = 1024;
 /// alone takes no memory.
 ///
 /// ```rust
-/// let user: User = from_slice(alloc, b"\xa2\x67user_id\x07\x65admin\xf5")?;
-/// assert_eq!(rt; user, User { user_id: 7, admin: true });
+/// let (port, name): (u16, &str) = from_slice(alloc, b"\x82\x18\x50\x64http")?;
+/// assert_eq!(rt; port, 80);
+/// assert_eq!(rt; name, "http");
 /// ```
 pub fn from_slice<'de, T: Deserialize<'de>>(alloc: Global, bytes: &'de [u8]) -> Result<T> {
     from_slice_with(Options::new(), alloc, bytes)

@@ -26,6 +26,11 @@ use std::alloc::Global;
 /// allocation fails, and what the type's own `serialize` returns.
 ///
 /// ```rust
+/// #[derive(Drop, Serialize)]
+/// struct User {
+///     user_id: u32,
+///     admin: bool,
+/// }
 /// let bytes = to_vec(alloc, &User { user_id: 7, admin: true })?;
 /// assert_eq!(rt; bytes.as_slice(), b"\xa2\x67user_id\x07\x65admin\xf5".as_slice());
 /// ```
@@ -75,8 +80,10 @@ fn is_item(alloc: Global, bytes: &[u8]) -> Result<()>
 /// definite. It refuses what [`to_vec`] refuses.
 ///
 /// ```rust
-/// let bytes = to_vec_canonical(alloc, &User { user_id: 7, admin: true })?;
-/// assert_eq!(rt; bytes.as_slice(), b"\xa2\x65admin\xf5\x67user_id\x07".as_slice());
+/// let mut map = BTreeMap::new(alloc);
+/// map.insert(-1i8, 1u8)?;
+/// map.insert(0, 2)?;
+/// assert_eq!(rt; to_vec_canonical(alloc, &map)?.as_slice(), b"\xa2\0\x02\x20\x01".as_slice());
 /// ```
 pub fn to_vec_canonical<T: Serialize>(alloc: Global, value: &T) -> Result<Vec<u8>>
     ensures canonical { IfOk result (λ bytes. (log : Log) × T.writes value.now (Some []) log

@@ -44,7 +44,7 @@ pub fn to_value_with<T: Serialize>(options: Options, alloc: Global, value: &T) -
 /// outside `-2^64..=2^64-1`, and what [`from_slice`](crate::from_slice) refuses of its bytes.
 ///
 /// ```rust
-/// let numbers: Vec<u8> = from_value(alloc, &to_value(alloc, &[1u8, 2])?)?;
+/// let numbers: Vec<u8> = from_value(alloc, &to_value(alloc, &(1u8, 2u8))?)?;
 /// assert_eq!(rt; numbers.as_slice(), [1, 2].as_slice());
 /// ```
 pub fn from_value<T: DeserializeOwned>(alloc: Global, value: &Value) -> Result<T> {

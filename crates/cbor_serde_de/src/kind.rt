@@ -1,5 +1,8 @@
 //! The kind of the item that is to come.
 
+ghost use Rattle.std.specs.Prelude.{◌≡◌};
+ghost use Rattle.cbor_serde_de.specs.Kinds.{kind_of};
+
 use cbor_decode::Head;
 use serde::Kind;
 
@@ -21,7 +24,9 @@ pub(crate) fn kind_at(first: u8) -> Option<Kind> {
 }
 
 /// The kind of the item with this head; None of a tag and of a break.
-pub(crate) fn kind_of(head: Head) -> Option<Kind> {
+pub(crate) fn kind_of(head: Head) -> Option<Kind>
+    ensures { result ≡ kind_of head }
+{
     match head {
         Head::Unsigned(_) => Some(Kind::Unsigned),
         Head::Negative(_) => Some(Kind::Signed),

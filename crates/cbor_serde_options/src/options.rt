@@ -1,6 +1,6 @@
 //! What may be chosen of the encoding.
 
-ghost use Rattle.std.specs.Prelude.{◌≡◌, ◌≤◌, true, false};
+ghost use Rattle.std.specs.Prelude.{◌≡◌, true};
 ghost use Rattle.cbor_serde_options.specs.Defaults.{default_options};
 
 /// How many levels of arrays, maps and tags are read where nothing else is said.
@@ -44,7 +44,8 @@ impl Options {
     ///     #[serde(rename = "-1")]
     ///     curve: u8,
     /// }
-    /// let key: Key = from_slice_with(Options::new().integer_keys(), alloc, b"\xa2\x01\x02\x20\x01")?;
+    /// let cose = Options::new().integer_keys();
+    /// let key: Key = from_slice_with(cose, alloc, b"\xa2\x01\x02\x20\x01")?;
     /// assert_eq!(rt; key.curve, 1);
     /// ```
     pub fn integer_keys(self) -> Options
@@ -81,7 +82,6 @@ impl Options {
     /// assert!(rt; refused.is_err());
     /// ```
     pub fn nesting_limit(self, levels: u8) -> Options
-        requires { levels ≤ 127 }
         ensures { result ≡ record self { levels = levels } }
     {
         Options { levels, ..self }
