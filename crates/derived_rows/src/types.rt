@@ -7,6 +7,7 @@ use derived_enums::{Adjacent, Any, Event, Hinted, Shape};
 use derived_fields::{Blob, Mixed, Nothing, Pair, Wrap};
 use derived_keys::{Attestation, Claims, CoseKey};
 use derived_structs::{Moon, Outer, Strict, Tree, Tuned, User};
+use derived_types::{Answer, Folder};
 use std::alloc::Global;
 
 /// Whether a row is answered as it says; None where no type has that name. Floats are written in
@@ -33,6 +34,7 @@ fn structs(options: Options, alloc: Global, row: &Row<'_>) -> Result<Option<bool
     let right = match row.kind {
         "user" => of_both::<User>(options, alloc, row, bytes)?,
         "moon" => of_slice::<Moon>(options, alloc, row, bytes)?,
+        "folder" => of_slice::<Folder>(options, alloc, row, bytes)?,
         "tuned" => of_both::<Tuned>(options, alloc, row, bytes)?,
         "outer" => of_both::<Outer>(options, alloc, row, bytes)?,
         "strict" => of_both::<Strict>(options, alloc, row, bytes)?,
@@ -63,6 +65,7 @@ fn enums(options: Options, alloc: Global, row: &Row<'_>) -> Result<Option<bool>>
         "adjacent" => of_both::<Adjacent>(options, alloc, row, bytes)?,
         "any" => of_both::<Any>(options, alloc, row, bytes)?,
         "hinted" => of_both::<Hinted>(options, alloc, row, bytes)?,
+        "answer" => of_both::<Answer>(options, alloc, row, bytes)?,
         _ => return Ok(None),
     };
     Ok(Some(right))
