@@ -1,10 +1,15 @@
 -- The end of an array or a map, where no part comes.
-use Rattle.std.proofs.Common.{◌≡◌, ℕ, zero, suc, List, [], ◌∷◌, Bool, false, true, Option, Some, None, Ok, Err, refl, rules, arith}
+use Rattle.std.proofs.Common.{◌≡◌, ℕ, zero, suc, List, [], ◌∷◌, ◌++◌, false, true, Some, None, Ok, Err, subst, sym, arith}
 use Rattle.cbor_model.specs.Refusal.{Refusal, end_in_array, end_in_map}
 use Rattle.cbor_model.specs.Formats.{Formats}
 use Rattle.cbor_model.specs.Reader.{next_at}
 use Rattle.cbor_model.specs.Reader as reader
 use Rattle.cbor_read.specs.Source.{Input}
+use Rattle.cbor_read.specs.Sources.{input_of_slice}
+use Rattle.cbor_read.specs.declared.slice_read.SliceRead.{SliceRead}
+use Rattle.cbor_serde_de.specs.Given.{Closes}
+use Rattle.cbor_serde_de.specs.Places.{input_of}
+use Rattle.cbor_serde_de.specs.declared.cbor.Cbor.{Cbor}
 use Rattle.cbor_decode.specs.Cursor.{behind_next, ended_at}
 use Rattle.cbor_decode.specs.Gives.{Step}
 use Rattle.cbor_decode.specs.Heads.{remaining_of}
@@ -49,3 +54,14 @@ key_comes s t f r behind h =
     (λ l bs rest. Comes f (remaining_of r) (remaining_of behind) true bs rest)
     (λ l bs rest. next_at end_in_map (remaining_of r) bs ≡ Ok (Some (remaining_of behind), rest))
     (λ l bs rest comes. comes.0) h
+
+-- what is innermost ended, and was left
+pub closes : (why : Refusal) (old new : Cbor) (mid : SliceRead)
+    → Step (input_of old) (input_of_slice mid) (λ l bs rest. ended_at why (remaining_of old.innermost.remaining) bs ≡ Ok (tt, rest))
+    → new.decoder.source ≡ mid → new.decoder.levels ≡ old.innermost.levels
+    → old.outer.items ≡ new.outer.items ++ new.innermost ∷ [] → Closes why old new
+closes why old new mid h same levels around = record {
+  taken = subst (λ s. Step (input_of old) (input_of_slice s) (λ l bs rest. ended_at why (remaining_of old.innermost.remaining) bs ≡ Ok (tt, rest))) (sym same) h;
+  levels = levels;
+  around = around;
+}

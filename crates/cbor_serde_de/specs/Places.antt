@@ -1,6 +1,6 @@
 -- Where a reader stands in its slice, and in the arrays and maps that are open.
-use Rattle.std.specs.Prelude.{◌≡◌, ◌++◌, ◌∷◌, ◌≤◌, ℕ, List, [], length, take, drop, None, Some}
-use Rattle.cbor_read.specs.Source.{Input, start_of_slice}
+use Rattle.std.specs.Prelude.{◌≡◌, ◌++◌, ◌∷◌, ◌≤◌, ℕ, List, [], length, take, None}
+use Rattle.cbor_read.specs.Source.{Input, TookKept, start_of_slice}
 use Rattle.cbor_read.specs.Sources.{input_of_slice}
 use Rattle.cbor_decode.specs.Gives.{Tells}
 use Rattle.cbor_decode.specs.declared.cursor.Remaining.{Remaining}
@@ -18,7 +18,7 @@ pub record Starts (slice : List ℕ) (options : Options) (c : Cbor) : Type 0 whe
   pub whole : c.whole.now ≡ slice
   pub levels : c.decoder.levels ≡ options.levels
   pub around : c.outer.items ≡ []
-  pub options : c.options ≡ options
+  pub chosen : c.options ≡ options
 
 -- nothing is to come
 abbrev pub EndsSlice : Cbor → Type 0
@@ -34,10 +34,13 @@ mark_of c =
       depth = length c.outer.items;
     }
 
--- The bytes to come are those behind the mark in the slice, and what was open there is open.
+-- so many bytes of the slice were taken
+abbrev pub IsAt : List ℕ → ℕ → Input → Type 0
+IsAt slice taken s = TookKept (start_of_slice slice None) s (take taken slice)
+
+-- It stands at the mark in the slice, and what was open there is open.
 pub record Returns (old : Cbor) (mark : Mark) (new : Cbor) : Type 0 where
-  pub bytes : mark.taken ≤ length old.whole.now → (input_of new).to_come ≡ Some (drop mark.taken old.whole.now)
-  pub offset : mark.taken ≤ length old.whole.now → (input_of new).offset ≡ mark.taken
+  pub source : mark.taken ≤ length old.whole.now → IsAt old.whole.now mark.taken (input_of new)
   pub levels : new.decoder.levels ≡ mark.levels
   pub innermost : new.innermost ≡ mark.innermost
   pub around : new.outer.items ≡ take mark.depth old.outer.items

@@ -1,10 +1,12 @@
 //! What reads the items of a slice.
 
-ghost use Rattle.std.specs.Prelude.{◌≡◌, IfOk, OnOk, IsTrue, MatchBool};
+ghost use Rattle.std.specs.Prelude.{◌≡◌, ◌≤◌, length, IfOk, OnOk, IsTrue, MatchBool};
+ghost use Rattle.cbor_read.specs.Sources.{input_of_slice};
 ghost use Rattle.cbor_model.specs.Readable.{IsUnit};
 ghost use Rattle.cbor_model.specs.Refusal.{end_in_map};
 ghost use Rattle.cbor_serde_de.specs.Given.{Closes, ReadsAs, TakesKey};
-ghost use Rattle.cbor_serde_de.specs.Places.{EndsSlice, Enters, Leaves, Returns, Starts, mark_of};
+ghost use Rattle.cbor_serde_de.specs.Places.{EndsSlice, Enters, IsAt, Leaves, Returns};
+ghost use Rattle.cbor_serde_de.specs.Places.{Starts, mark_of};
 
 use crate::kind::{kind_at, kind_of};
 use crate::places::{place_of, place_of_bytes, place_of_integer, place_of_number};
@@ -53,6 +55,19 @@ pub struct Mark {
 
 /// The message of a key or a variant that is no name.
 const NO_NAME: &str = "invalid type: expected an identifier";
+
+// The slice, of which so many bytes were taken.
+#[tactic(auto, using(crate::proofs::Rewinds::rewound, crate::proofs::Rewinds::none_behind))]
+fn source_at<'i>(alloc: Global, whole: &'i [u8], taken: usize) -> SliceRead<'i>
+    ensures { taken ≤ length whole.now → IsAt whole.now taken (input_of_slice result) }
+{
+    let mut source = SliceRead::new(alloc, whole);
+    if source.ahead().len() < taken {
+        return source;
+    }
+    source.advance(taken);
+    source
+}
 
 impl<'i> Cbor<'i> {
     /// Reads from the beginning of the slice, by these options.
@@ -114,10 +129,7 @@ impl<'i> Cbor<'i> {
     pub(crate) fn go_to(&mut self, mark: Mark)
         ensures { Returns self.old mark self.new }
     {
-        let mut source = SliceRead::new(self.decoder.alloc, self.whole);
-        if mark.taken <= source.ahead().len() {
-            source.advance(mark.taken);
-        }
+        let source = source_at(self.decoder.alloc, self.whole, mark.taken);
         self.decoder.source = source;
         self.decoder.levels = mark.levels;
         self.innermost = mark.innermost;
