@@ -1,0 +1,263 @@
+//! What reads the items of a slice.
+
+ghost use Rattle.std.specs.Prelude.{◌≡◌, ◌≤◌, length, IfOk, OnOk, IsTrue, MatchBool};
+ghost use Rattle.cbor_read.specs.Sources.{input_of_slice};
+ghost use Rattle.cbor_model.specs.Readable.{IsUnit};
+ghost use Rattle.cbor_model.specs.Refusal.{end_in_map};
+ghost use Rattle.cbor_serde_de.specs.Given.{Closes, ReadsAs, TakesKey};
+ghost use Rattle.cbor_serde_de.specs.Places.{EndsSlice, Enters, IsAt, Leaves, Returns};
+ghost use Rattle.cbor_serde_de.specs.Places.{Starts, mark_of};
+
+use crate::kind::{kind_at, kind_of};
+use crate::places::{place_of, place_of_bytes, place_of_integer, place_of_number};
+use cbor_decode::{Decoder, Remaining};
+use cbor_decode_as::borrowed::{EitherStr, read_bytes, read_text, unread_error};
+use cbor_decode_as::collection::more_pairs;
+use cbor_decode_as::head::tagged_head;
+use cbor_decode_as::integer::read_integer;
+use cbor_decode_as::scalar::read_unit;
+use cbor_io::error::{Error, ErrorCode, Result};
+use cbor_read::{EitherLifetime, Offset, ReadErrorCode, SliceRead, Source};
+use cbor_serde_options::Options;
+use serde::{Kind, Name};
+use std::alloc::{AllocError, Global};
+
+/// An array or a map that is open: what remains of it, and the levels that are left outside.
+#[derive(Clone, Copy)]
+pub(crate) struct Open {
+    pub(crate) remaining: Remaining,
+    pub(crate) levels: u64,
+}
+
+/// Reads the items of a slice, as a [`Format`](serde::Format) of the kit's `serde`.
+///
+/// Its errors have the codes and the offsets of `cbor_decode_as`; what a derived type says of an
+/// item that doesn't fit it is a `Message`.
+#[derive(Drop)]
+pub struct Cbor<'i> {
+    whole: &'i [u8],
+    pub(crate) decoder: Decoder<SliceRead<'i>>,
+    pub(crate) options: Options,
+    // What is open and innermost. At the top nothing remains of it.
+    pub(crate) innermost: Open,
+    // What is around it, the nearest last.
+    pub(crate) outer: Vec<Open>,
+}
+
+/// A place to come back to.
+#[derive(Clone, Copy, Drop)]
+pub struct Mark {
+    taken: usize,
+    levels: u64,
+    innermost: Open,
+    depth: usize,
+}
+
+/// The message of a key or a variant that is no name.
+const NO_NAME: &str = "invalid type: expected an identifier";
+
+// The slice, of which so many bytes were taken.
+#[tactic(auto, using(crate::proofs::Rewinds::rewound, crate::proofs::Rewinds::none_behind))]
+fn source_at<'i>(alloc: Global, whole: &'i [u8], taken: usize) -> SliceRead<'i>
+    ensures { taken ≤ length whole.now → IsAt whole.now taken (input_of_slice result) }
+{
+    let mut source = SliceRead::new(alloc, whole);
+    if source.ahead().len() < taken {
+        return source;
+    }
+    source.advance(taken);
+    source
+}
+
+impl<'i> Cbor<'i> {
+    /// Reads from the beginning of the slice, by these options.
+    pub fn new(alloc: Global, whole: &'i [u8], options: Options) -> Cbor<'i>
+        ensures { Starts whole.now options result }
+    {
+        let mut decoder = Decoder::new(alloc, SliceRead::new(alloc, whole));
+        decoder.levels = options.levels as u64;
+        Cbor {
+            whole,
+            decoder,
+            options,
+            innermost: Open {
+                remaining: Remaining::Counted(0),
+                levels: 0,
+            },
+            outer: Vec::new(alloc),
+        }
+    }
+
+    /// Takes the end of the slice: `TrailingData` where bytes follow.
+    pub fn end(&mut self) -> Result<()>
+        ensures { OnOk result (EndsSlice self.old) }
+    {
+        match self.decoder.ended() {
+            Ok(()) => Ok(()),
+            Err(refused) => Err(self.decoder.error(refused)),
+        }
+    }
+
+    #[cold]
+    #[inline(never)]
+    pub(crate) fn message(&self, message: &str) -> Error {
+        Error::message(self.decoder.alloc, message)
+    }
+
+    #[cold]
+    #[inline(never)]
+    pub(crate) fn about(&self, text: std::result::Result<String, AllocError>) -> Error {
+        match text {
+            Ok(text) => Error::at(ErrorCode::Message(text), 0),
+            Err(_) => Error::at(ErrorCode::OutOfMemory, 0),
+        }
+    }
+
+    /// The place where it stands.
+    pub(crate) fn here(&self) -> Mark
+        ensures { result ≡ mark_of self.now }
+    {
+        Mark {
+            taken: self.decoder.source.byte_offset(),
+            levels: self.decoder.levels,
+            innermost: self.innermost,
+            depth: self.outer.len(),
+        }
+    }
+
+    /// Goes back to a place of this slice.
+    pub(crate) fn go_to(&mut self, mark: Mark)
+        ensures { Returns self.old mark self.new }
+    {
+        let source = source_at(self.decoder.alloc, self.whole, mark.taken);
+        self.decoder.source = source;
+        self.decoder.levels = mark.levels;
+        self.innermost = mark.innermost;
+        self.outer.truncate(mark.depth);
+    }
+
+    // The kind of the item at the front, where a look at its first byte doesn't tell it.
+    #[inline(never)]
+    fn kind_within(&mut self) -> Result<Kind> {
+        let here = self.here();
+        let head = tagged_head(&mut self.decoder);
+        self.decoder.levels = here.levels;
+        match head {
+            Ok(head) => match kind_of(head) {
+                Some(kind) => {
+                    self.go_to(here);
+                    Ok(kind)
+                }
+                None => {
+                    let refused = self.decoder.refuse(ReadErrorCode::UnexpectedCode);
+                    Err(self.decoder.error(refused))
+                }
+            },
+            Err(refused) => Err(self.decoder.error(refused)),
+        }
+    }
+
+    /// The kind of the item at the front, within its tags; nothing is taken.
+    #[inline(always)]
+    pub(crate) fn kind(&mut self) -> Result<Kind> {
+        match self.decoder.source.ahead().first().copied() {
+            Some(first) => match kind_at(first) {
+                Some(kind) => Ok(kind),
+                None => self.kind_within(),
+            },
+            None => self.kind_within(),
+        }
+    }
+
+    /// Takes a unit within tags, if one comes.
+    #[inline(never)]
+    pub(crate) fn take_unit_within(&mut self) -> Result<bool>
+        ensures { IfOk result (λ b. IsTrue b → ReadsAs IsUnit self.old tt self.new) }
+    {
+        let here = self.here();
+        match read_unit(&mut self.decoder) {
+            Ok(()) => Ok(true),
+            Err(error) if error.is_data() => {
+                self.go_to(here);
+                Ok(false)
+            }
+            Err(error) => Err(error),
+        }
+    }
+
+    /// An array or a map has begun, outside of which so many levels are left.
+    pub(crate) fn enter(&mut self, remaining: Remaining, levels: u64) -> Result<()>
+        ensures { OnOk result (Enters self.old remaining levels self.new) }
+    {
+        self.outer.push(self.innermost)?;
+        self.innermost = Open { remaining, levels };
+        Ok(())
+    }
+
+    /// What is innermost has ended. It refuses where nothing is open.
+    pub(crate) fn leave(&mut self) -> Result<()>
+        ensures { OnOk result (Leaves self.old self.new) }
+    {
+        let Some(outer) = self.outer.pop() else {
+            return Err(self.message("no array or map is open"));
+        };
+        self.decoder.levels = self.innermost.levels;
+        self.innermost = outer;
+        Ok(())
+    }
+
+    /// Whether another pair comes of the map that is innermost. At its end it is left.
+    #[inline(always)]
+    pub(crate) fn more(&mut self) -> Result<bool>
+        ensures { IfOk result (λ b. MatchBool b (TakesKey self.old self.new)
+            (Closes end_in_map self.old self.new)) }
+    {
+        match more_pairs(&mut self.decoder, &mut self.innermost.remaining) {
+            Ok(true) => Ok(true),
+            Ok(false) => {
+                self.leave()?;
+                Ok(false)
+            }
+            Err(refused) => Err(self.decoder.error(refused)),
+        }
+    }
+
+    /// Takes a name, and finds it.
+    #[inline(always)]
+    pub(crate) fn named(&mut self, names: &[Name<'_>], integer_keys: bool) -> Result<usize> {
+        match self.kind()? {
+            Kind::Str => match read_text(&mut self.decoder) {
+                Ok(EitherStr::Short(key)) => Ok(place_of(names, key, integer_keys)),
+                Ok(EitherStr::Long(key)) => Ok(place_of(names, key, integer_keys)),
+                Err(why) => Err(unread_error(&mut self.decoder, why, NO_NAME)),
+            },
+            other => self.other_name(other, names, integer_keys),
+        }
+    }
+
+    // Takes a name that is no text.
+    #[inline(never)]
+    fn other_name(&mut self, kind: Kind, names: &[Name<'_>], integer_keys: bool) -> Result<usize> {
+        match kind {
+            Kind::Bytes => match read_bytes(&mut self.decoder) {
+                Ok(EitherLifetime::Short(key)) => Ok(place_of_bytes(names, key, integer_keys)),
+                Ok(EitherLifetime::Long(key)) => Ok(place_of_bytes(names, key, integer_keys)),
+                Err(why) => Err(unread_error(&mut self.decoder, why, NO_NAME)),
+            },
+            Kind::Unsigned | Kind::Signed => self.numbered(names, integer_keys),
+            _ => Err(self.message(NO_NAME)),
+        }
+    }
+
+    // Takes an integer: the name that is its text, or the number of a field.
+    fn numbered(&mut self, names: &[Name<'_>], integer_keys: bool) -> Result<usize> {
+        let number = read_integer(&mut self.decoder)?;
+        if integer_keys {
+            return Ok(place_of_integer(self.decoder.alloc, names, number)?);
+        }
+        match u64::try_from(number) {
+            Ok(n) => Ok(place_of_number(names, n)),
+            Err(_) => Ok(usize::MAX),
+        }
+    }
+}

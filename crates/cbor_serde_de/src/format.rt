@@ -1,0 +1,299 @@
+//! CBOR as a `Format` of the kit's `serde`.
+
+use crate::cbor::{Cbor, Mark};
+use cbor_decode_as::borrowed::{EitherStr, read_byte_string, read_text, unread_error};
+use cbor_decode_as::byte_string::read_byte_string as read_own_bytes;
+use cbor_decode_as::collection::{array_head, end_array, map_head, more_items};
+use cbor_decode_as::floats::read_f64;
+use cbor_decode_as::integer::{read_from_zero, read_integer, read_signed, read_u128};
+use cbor_decode_as::scalar::{read_bool, read_unit};
+use cbor_decode_as::string::read_string;
+use cbor_io::error::{Error, ErrorCode, Result};
+use cbor_read::{EitherLifetime, Offset, Source};
+use serde::{Format, Kind, Name};
+use std::alloc::Global;
+use std::num::{
+    nearest_f64_to_f32_with_nan, nearest_i64_to_f32, nearest_i64_to_f64, nearest_u64_to_f32,
+    nearest_u64_to_f64,
+};
+
+/// The message of what doesn't stand in the input as it reads, or is of another kind.
+const NOT_LENT: &str = "invalid type: expected a borrowed string";
+
+// Where the string that ends here stands in the input.
+fn part_of(input: &[u8], end: usize, string: &[u8]) -> Option<(usize, usize)> {
+    let start = end.checked_sub(string.len())?;
+    if input.get(start..end)? == string {
+        Some((start, end))
+    } else {
+        None
+    }
+}
+
+fn one_char(text: &str) -> Option<char> {
+    let mut chars = text.chars();
+    let only = chars.next()?;
+    if chars.next().is_some() {
+        return None;
+    }
+    Some(only)
+}
+
+impl<'i> Format for Cbor<'i> {
+    ghost use Rattle.cbor_serde_de.specs.Given.{Given};
+
+    type Error = Error;
+
+    type Mark = Mark;
+
+    ghost gives = { λ old _ e new. Given old e new };
+
+    #[inline(always)]
+    fn bool(&mut self, _input: &[u8]) -> Result<bool> {
+        read_bool(&mut self.decoder)
+    }
+
+    #[inline(always)]
+    fn i64(&mut self, _input: &[u8]) -> Result<i64> {
+        read_signed(
+            &mut self.decoder,
+            i64::MAX as u64,
+            "integer out of range: expected i64",
+        )
+    }
+
+    #[inline(always)]
+    fn u64(&mut self, _input: &[u8]) -> Result<u64> {
+        read_from_zero(
+            &mut self.decoder,
+            u64::MAX,
+            "integer out of range: expected u64",
+        )
+    }
+
+    fn i128(&mut self, _input: &[u8]) -> Result<i128> {
+        read_integer(&mut self.decoder)
+    }
+
+    fn u128(&mut self, _input: &[u8]) -> Result<u128> {
+        read_u128(&mut self.decoder)
+    }
+
+    // A float of any width, to the nearest, or a whole number, as in Rust.
+    #[inline(always)]
+    fn f32(&mut self, input: &[u8]) -> Result<f32> {
+        match self.kind()? {
+            Kind::Unsigned => Ok(nearest_u64_to_f32(self.u64(input)?)),
+            Kind::Signed => Ok(nearest_i64_to_f32(self.i64(input)?)),
+            _ => Ok(nearest_f64_to_f32_with_nan(read_f64(&mut self.decoder)?)),
+        }
+    }
+
+    #[inline(always)]
+    fn f64(&mut self, input: &[u8]) -> Result<f64> {
+        match self.kind()? {
+            Kind::Unsigned => Ok(nearest_u64_to_f64(self.u64(input)?)),
+            Kind::Signed => Ok(nearest_i64_to_f64(self.i64(input)?)),
+            _ => read_f64(&mut self.decoder),
+        }
+    }
+
+    fn char(&mut self, _input: &[u8]) -> Result<char> {
+        let read = match read_text(&mut self.decoder) {
+            Ok(EitherStr::Short(text)) => one_char(text),
+            Ok(EitherStr::Long(text)) => one_char(text),
+            Err(why) => return Err(unread_error(
+                &mut self.decoder,
+                why,
+                "invalid type: expected a character",
+            )),
+        };
+        match read {
+            Some(c) => Ok(c),
+            None => Err(self.message("invalid type: expected a character")),
+        }
+    }
+
+    // What is in chunks isn't lent by the input.
+    #[inline(always)]
+    fn plain_str(&mut self, input: &[u8]) -> Result<(usize, usize)> {
+        let text = match read_text(&mut self.decoder) {
+            Ok(EitherStr::Long(text)) => text.as_bytes(),
+            Ok(EitherStr::Short(_)) => return Err(self.message(NOT_LENT)),
+            Err(why) => return Err(unread_error(&mut self.decoder, why, NOT_LENT)),
+        };
+        match part_of(input, self.decoder.source.byte_offset(), text) {
+            Some(part) => Ok(part),
+            None => Err(self.message(NOT_LENT)),
+        }
+    }
+
+    fn plain_bytes(&mut self, input: &[u8]) -> Result<(usize, usize)> {
+        let bytes = match read_byte_string(&mut self.decoder) {
+            Ok(EitherLifetime::Long(bytes)) => bytes,
+            Ok(EitherLifetime::Short(_)) => return Err(self.message(NOT_LENT)),
+            Err(why) => return Err(unread_error(&mut self.decoder, why, NOT_LENT)),
+        };
+        match part_of(input, self.decoder.source.byte_offset(), bytes) {
+            Some(part) => Ok(part),
+            None => Err(self.message(NOT_LENT)),
+        }
+    }
+
+    #[inline(always)]
+    fn string(&mut self, _alloc: Global, _input: &[u8]) -> Result<String> {
+        read_string(&mut self.decoder)
+    }
+
+    fn byte_buf(&mut self, _alloc: Global, _input: &[u8]) -> Result<Vec<u8>> {
+        read_own_bytes(&mut self.decoder)
+    }
+
+    #[inline(always)]
+    fn peek(&mut self, _input: &[u8]) -> Result<Kind> {
+        self.kind()
+    }
+
+    #[inline(always)]
+    fn take_unit(&mut self, _input: &[u8]) -> Result<bool> {
+        match self.decoder.source.ahead().first().copied() {
+            Some(0xf6 | 0xf7) | None => {
+                read_unit(&mut self.decoder)?;
+                Ok(true)
+            }
+            Some(0xc0..=0xdb) => self.take_unit_within(),
+            Some(_) => Ok(false),
+        }
+    }
+
+    // Null alone, as in Rust: what undefined is, the value's type says.
+    #[inline(always)]
+    fn take_none(&mut self, _input: &[u8]) -> Result<bool> {
+        match self.decoder.source.ahead().first().copied() {
+            Some(0xf6) => {
+                read_unit(&mut self.decoder)?;
+                Ok(true)
+            }
+            _ => Ok(false),
+        }
+    }
+
+    #[inline(always)]
+    fn begin_seq(&mut self, _input: &[u8]) -> Result<()> {
+        let levels = self.decoder.levels;
+        let remaining = array_head(&mut self.decoder)?;
+        self.enter(remaining, levels)
+    }
+
+    #[inline(always)]
+    fn next_item(&mut self, _input: &[u8]) -> Result<bool> {
+        if more_items(&mut self.decoder, &mut self.innermost.remaining)? {
+            return Ok(true);
+        }
+        self.leave()?;
+        Ok(false)
+    }
+
+    // Items that are left of a tuple are `TrailingData`, as for a described type.
+    fn end_tuple(&mut self, _input: &[u8]) -> Result<()> {
+        end_array(&mut self.decoder, self.innermost.remaining)?;
+        self.leave()
+    }
+
+    #[inline(always)]
+    fn begin_map(&mut self, _input: &[u8]) -> Result<()> {
+        let levels = self.decoder.levels;
+        let remaining = map_head(&mut self.decoder)?;
+        self.enter(remaining, levels)
+    }
+
+    // A struct is a map, or an array of its fields.
+    #[inline(always)]
+    fn begin_struct(&mut self, input: &[u8]) -> Result<bool> {
+        match self.kind()? {
+            Kind::Seq => {
+                self.begin_seq(input)?;
+                Ok(true)
+            }
+            _ => {
+                self.begin_map(input)?;
+                Ok(false)
+            }
+        }
+    }
+
+    #[inline(always)]
+    fn next_key(&mut self, _input: &[u8], names: &[Name<'_>]) -> Result<Option<usize>> {
+        if !self.more()? {
+            return Ok(None);
+        }
+        let place = self.named(names, self.options.integer_keys)?;
+        Ok(Some(place))
+    }
+
+    fn next_entry(&mut self, _input: &[u8]) -> Result<bool> {
+        self.more()
+    }
+
+    fn variant(&mut self, _input: &[u8], names: &[Name<'_>]) -> Result<usize> {
+        self.named(names, false)
+    }
+
+    #[inline(always)]
+    fn skip(&mut self, _input: &[u8]) -> Result<()> {
+        match self.decoder.skip() {
+            Ok(()) => Ok(()),
+            Err(refused) => Err(self.decoder.error(refused)),
+        }
+    }
+
+    fn mark(&mut self) -> Mark {
+        self.here()
+    }
+
+    fn rewind(&mut self, mark: Mark) {
+        self.go_to(mark)
+    }
+
+    fn release(&mut self, _mark: Mark) {}
+
+    // A message is of what doesn't fit, and items that are left of a tuple too.
+    fn is_fatal(&self, error: &Error) -> bool {
+        !matches!(
+            error.code(),
+            ErrorCode::Message(_) | ErrorCode::TrailingData
+        )
+    }
+
+    fn missing(&self, name: &str) -> Error {
+        self.about(format!(in self.decoder.alloc; "missing field `{name}`"))
+    }
+
+    fn duplicate(&self, name: &str) -> Error {
+        self.about(format!(in self.decoder.alloc; "duplicate field `{name}`"))
+    }
+
+    fn unknown_key(&self) -> Error {
+        self.message("unknown field")
+    }
+
+    fn unknown_variant(&self) -> Error {
+        self.message("unknown variant")
+    }
+
+    fn wrong_len(&self) -> Error {
+        self.message("invalid length")
+    }
+
+    fn invalid(&self) -> Error {
+        self.message("invalid value")
+    }
+
+    fn no_memory(&self) -> Error {
+        Error::at(ErrorCode::OutOfMemory, 0)
+    }
+
+    fn custom(&self, message: &str) -> Error {
+        self.message(message)
+    }
+}

@@ -1,0 +1,7 @@
+-- What is encoded and read where nothing else is chosen.
+use Rattle.std.specs.Prelude.{false}
+use Rattle.cbor_serde_options.specs.declared.options.Options.{Options}
+
+-- fields by their names, floats in their own width, and 127 levels
+abbrev pub default_options : Options
+default_options = record { integer_keys = false; shortest_floats = false; levels = 127 }

@@ -1,0 +1,6 @@
+use Rattle.cbor_serde_ser.proofs.logged.LoggedSerializer.unit.Goals as goal
+
+pub invariant_of-self-2 : goal.invariant_of-self-2
+invariant_of-self-2 c = record {
+  follows = c.after-self-2.ensures.follows _ _ _ _ c.args.self.now.follows c.unit.ensures.options c.in_default.ensures.step;
+}

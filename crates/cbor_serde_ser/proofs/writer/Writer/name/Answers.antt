@@ -1,0 +1,10 @@
+use Rattle.std.proofs.Common.{◌≡◌, ap, ◌∙◌, arith}
+use Rattle.std.proofs.lemmas.Grind.{common_steps}
+use Rattle.serde.specs.Spelling.{spelled}
+use Rattle.serde.proofs.Spellings.{spelled-AsIs}
+use Rattle.cbor_serde_ser.proofs.writer.Writer.name.Goals as goal
+
+pub returns-in-AsIs-clause-item : goal.returns-in-AsIs-clause-item
+returns-in-AsIs-clause-item c =
+    let same : spelled c.args.case c.args.kind c.args.name.now ≡ c.args.name.now = ap (λ k. spelled k c.args.kind c.args.name.now) c.in-AsIs.is ∙ spelled-AsIs c.args.kind c.args.name.now in
+    rw same (grind (arith, common_steps))

@@ -1,0 +1,12 @@
+-- The state of the writer behind `to_vec`; for private clauses.
+use Rattle.std.specs.Prelude.{◌≡◌, Some, reverse}
+use Rattle.serde.specs.Event.{Event}
+use Rattle.cbor_serde_ser.specs.Document.{State, step}
+use Rattle.cbor_serde_ser.specs.declared.writer.Writer.{Writer}
+
+abbrev pub state : Writer → State
+state w = record { bytes = w.out.items; level = w.level; outer = reverse w.outer.items; flattens = w.flattens }
+
+-- the event was written, which may come there
+abbrev pub Writes : Writer → Event → Writer → Type 0
+Writes old e new = step old.options (state old) e ≡ Some (state new)

@@ -1,0 +1,240 @@
+//! What each call of a `Serializer` writes.
+
+ghost use Rattle.std.specs.Prelude.{◌≡◌, Some, OnOk};
+ghost use Rattle.serde.specs.Event.{boolean, signed, unsigned, single, double, character};
+ghost use Rattle.serde.specs.Event.{text as text_event, octets, nothing, unit_variant, seq_begins};
+ghost use Rattle.serde.specs.Event.{seq_ends, map_begins, map_ends, field_key, key_begins, key_ends};
+ghost use Rattle.serde.specs.Event.{variant_key as variant_event, flattens as flatten_event};
+ghost use Rattle.cbor_serde_ser.specs.State.{Writes};
+
+use crate::bytes::{put, put_float, put_head, put_integer, put_string};
+use crate::float::{of_double, of_single};
+use crate::level::Level;
+use crate::writer::Writer;
+use cbor_io::error::{Error, ErrorCode, Result};
+use cbor_io::head::Major;
+use serde::{Case, NameKind};
+
+impl Writer {
+    pub(crate) fn bool(&mut self, v: bool) -> Result<()>
+        ensures step { OnOk result (Writes self.old (boolean v) self.new) }
+        ensures options { self.new.options ≡ self.old.options }
+    {
+        self.item()?;
+        put(&mut self.out, &[if v { 0xf5 } else { 0xf4 }])?;
+        Ok(())
+    }
+
+    pub(crate) fn i64(&mut self, v: i64) -> Result<()>
+        ensures step { OnOk result (Writes self.old (signed v) self.new) }
+        ensures options { self.new.options ≡ self.old.options }
+    {
+        self.item()?;
+        if v >= 0 {
+            put_head(&mut self.out, Major::UnsignedInteger, v as u64)?;
+        } else {
+            put_head(&mut self.out, Major::NegativeInteger, (-1 - v) as u64)?;
+        }
+        Ok(())
+    }
+
+    pub(crate) fn u64(&mut self, v: u64) -> Result<()>
+        ensures step { OnOk result (Writes self.old (unsigned v) self.new) }
+        ensures options { self.new.options ≡ self.old.options }
+    {
+        self.item()?;
+        put_head(&mut self.out, Major::UnsignedInteger, v)?;
+        Ok(())
+    }
+
+    pub(crate) fn i128(&mut self, v: i128) -> Result<()>
+        ensures step { OnOk result (Writes self.old (signed v) self.new) }
+        ensures options { self.new.options ≡ self.old.options }
+    {
+        self.item()?;
+        put_integer(self.alloc, &mut self.out, v)
+    }
+
+    pub(crate) fn u128(&mut self, v: u128) -> Result<()>
+        ensures step { OnOk result (Writes self.old (unsigned v) self.new) }
+        ensures options { self.new.options ≡ self.old.options }
+    {
+        self.item()?;
+        match u64::try_from(v) {
+            Ok(n) => {
+                put_head(&mut self.out, Major::UnsignedInteger, n)?;
+                Ok(())
+            }
+            Err(_) => Err(self.refuse("The number can't be stored in CBOR")),
+        }
+    }
+
+    pub(crate) fn f32(&mut self, v: f32) -> Result<()>
+        ensures step { OnOk result (Writes self.old (single v) self.new) }
+        ensures options { self.new.options ≡ self.old.options }
+    {
+        self.item()?;
+        let width = of_single(v, self.options.shortest_floats);
+        put_float(&mut self.out, width)?;
+        Ok(())
+    }
+
+    pub(crate) fn f64(&mut self, v: f64) -> Result<()>
+        ensures step { OnOk result (Writes self.old (double v) self.new) }
+        ensures options { self.new.options ≡ self.old.options }
+    {
+        self.item()?;
+        let width = of_double(v, self.options.shortest_floats);
+        put_float(&mut self.out, width)?;
+        Ok(())
+    }
+
+    pub(crate) fn char(&mut self, v: char) -> Result<()>
+        ensures step { OnOk result (Writes self.old (character v) self.new) }
+        ensures options { self.new.options ≡ self.old.options }
+    {
+        self.item()?;
+        let mut bytes = [0; 4];
+        let text = v.encode_utf8(&mut bytes);
+        put_string(&mut self.out, Major::TextString, text.as_bytes())?;
+        Ok(())
+    }
+
+    pub(crate) fn str(&mut self, v: &str) -> Result<()>
+        ensures step { OnOk result (Writes self.old (text_event v.now) self.new) }
+        ensures options { self.new.options ≡ self.old.options }
+    {
+        self.item()?;
+        put_string(&mut self.out, Major::TextString, v.as_bytes())?;
+        Ok(())
+    }
+
+    pub(crate) fn bytes(&mut self, v: &[u8]) -> Result<()>
+        ensures step { OnOk result (Writes self.old (octets v.now) self.new) }
+        ensures options { self.new.options ≡ self.old.options }
+    {
+        self.item()?;
+        put_string(&mut self.out, Major::ByteString, v)?;
+        Ok(())
+    }
+
+    // A unit that is flattened writes nothing.
+    pub(crate) fn unit(&mut self) -> Result<()>
+        ensures step { OnOk result (Writes self.old nothing self.new) }
+        ensures options { self.new.options ≡ self.old.options }
+    {
+        if self.flattens {
+            self.flattens = false;
+            return Ok(());
+        }
+        self.item()?;
+        put(&mut self.out, &[0xf6])?;
+        Ok(())
+    }
+
+    pub(crate) fn str_cased(&mut self, name: &str, case: Case) -> Result<()>
+        ensures step { OnOk result (Writes self.old (unit_variant name.now case) self.new) }
+        ensures options { self.new.options ≡ self.old.options }
+    {
+        self.name(name, case, NameKind::Variant, false)
+    }
+
+    pub(crate) fn begin_seq(&mut self, len: Option<usize>) -> Result<()>
+        ensures step { OnOk result (Writes self.old (seq_begins len) self.new) }
+        ensures options { self.new.options ≡ self.old.options }
+    {
+        self.begin(Level::open(counted(len), false))
+    }
+
+    pub(crate) fn end_seq(&mut self) -> Result<()>
+        ensures step { OnOk result (Writes self.old seq_ends self.new) }
+        ensures options { self.new.options ≡ self.old.options }
+    {
+        self.end()
+    }
+
+    pub(crate) fn begin_map(&mut self, len: Option<usize>) -> Result<()>
+        ensures step { OnOk result (Writes self.old (map_begins len) self.new) }
+        ensures options { self.new.options ≡ self.old.options }
+    {
+        if self.flattens {
+            if self.level.flat == u64::MAX {
+                return Err(self.refuse("too many maps are flattened"));
+            }
+            self.flattens = false;
+            self.level.flat += 1;
+            return Ok(());
+        }
+        self.begin(Level::open(counted(len), true))
+    }
+
+    pub(crate) fn end_map(&mut self) -> Result<()>
+        ensures step { OnOk result (Writes self.old map_ends self.new) }
+        ensures options { self.new.options ≡ self.old.options }
+    {
+        self.end()
+    }
+
+    pub(crate) fn key_cased(&mut self, name: &str, case: Case) -> Result<()>
+        ensures step { OnOk result (Writes self.old (field_key name.now case) self.new) }
+        ensures options { self.new.options ≡ self.old.options }
+    {
+        self.name(name, case, NameKind::Field, self.options.integer_keys)
+    }
+
+    pub(crate) fn variant_key(&mut self, name: &str, case: Case) -> Result<()>
+        ensures step { OnOk result (Writes self.old (variant_event name.now case) self.new) }
+        ensures options { self.new.options ≡ self.old.options }
+    {
+        self.name(name, case, NameKind::Variant, false)
+    }
+
+    pub(crate) fn flatten_next(&mut self) -> Result<()>
+        ensures step { OnOk result (Writes self.old flatten_event self.new) }
+        ensures options { self.new.options ≡ self.old.options }
+    {
+        self.flattens = true;
+        Ok(())
+    }
+
+    // A key is an item like any other.
+    pub(crate) fn begin_key(&mut self) -> Result<()>
+        ensures step { OnOk result (Writes self.old key_begins self.new) }
+        ensures options { self.new.options ≡ self.old.options }
+    {
+        Ok(())
+    }
+
+    pub(crate) fn end_key(&mut self) -> Result<()>
+        ensures step { OnOk result (Writes self.old key_ends self.new) }
+        ensures options { self.new.options ≡ self.old.options }
+    {
+        Ok(())
+    }
+
+    pub(crate) fn collect_str<T: std::fmt::Display>(&mut self, value: &T) -> Result<()>
+        ensures options { self.new.options ≡ self.old.options }
+    {
+        self.item()?;
+        self.room.clear();
+        if write!(self.room, "{value}").is_err() {
+            return Err(Error::at(ErrorCode::OutOfMemory, 0));
+        }
+        put_string(&mut self.out, Major::TextString, self.room.as_bytes())?;
+        Ok(())
+    }
+
+    pub(crate) fn custom(&self, message: &str) -> Error {
+        Error::message(self.alloc, message)
+    }
+}
+
+// A length as a count of 64 bits.
+fn counted(len: Option<usize>) -> Option<u64>
+    ensures { result ≡ len }
+{
+    match len {
+        Some(n) => Some(n as u64),
+        None => None,
+    }
+}

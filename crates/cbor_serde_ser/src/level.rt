@@ -1,0 +1,67 @@
+//! The arrays and maps that are open while events are written.
+
+ghost use Rattle.std.specs.Prelude.{◌≡◌, ◌↔◌, Some, true, false, IsTrue};
+ghost use Rattle.cbor_serde_ser.specs.Document.{after_item, is_full, opened};
+
+/// An array, a map or the document itself, and what is due in it.
+#[derive(Clone, Copy)]
+pub(crate) struct Level {
+    // How many items or pairs are still to come, where the count was declared.
+    pub(crate) left: Option<u64>,
+    pub(crate) is_map: bool,
+    // Whether the value of a pair is due.
+    pub(crate) at_value: bool,
+    // How many open maps stand within it whose members are its own.
+    pub(crate) flat: u64,
+}
+
+impl Level {
+    /// The document, which is one item.
+    pub(crate) fn document() -> Level
+        ensures { result ≡ opened (Some 1) false }
+    {
+        Level::open(Some(1), false)
+    }
+
+    /// An array or a map that begins.
+    pub(crate) fn open(left: Option<u64>, is_map: bool) -> Level
+        ensures { result ≡ opened left is_map }
+    {
+        Level {
+            left,
+            is_map,
+            at_value: false,
+            flat: 0,
+        }
+    }
+
+    /// What is due after an item; None where no item is due.
+    #[inline(always)]
+    pub(crate) fn after_item(self) -> Option<Level>
+        ensures { result ≡ after_item self }
+    {
+        if self.at_value {
+            return Some(Level {
+                at_value: false,
+                ..self
+            });
+        }
+        let left = match self.left {
+            Some(0) => return None,
+            Some(n) => Some(n - 1),
+            None => None,
+        };
+        Some(Level {
+            left,
+            at_value: self.is_map,
+            ..self
+        })
+    }
+
+    /// Whether all that was declared has come.
+    pub(crate) fn is_full(self) -> bool
+        ensures { result ≡ is_full self }
+    {
+        !self.at_value && matches!(self.left, Some(0) | None)
+    }
+}

@@ -1,0 +1,157 @@
+//! The bytes of the events so far, and what is due after them.
+
+ghost use Rattle.std.specs.Prelude.{◌≡◌, Some, false, IfOk, OnOk};
+ghost use Rattle.serde.specs.Spelling.{spelled};
+ghost use Rattle.cbor_serde_ser.specs.Document.{after_item, start, item, opens, ends, opened};
+ghost use Rattle.cbor_serde_ser.specs.Document.{level_start, name_bytes, whole};
+ghost use Rattle.cbor_serde_ser.specs.State.{state};
+
+use crate::bytes::{put, put_head, put_name};
+use crate::level::Level;
+use cbor_io::error::{Error, Result};
+use cbor_io::head::Major;
+use cbor_serde_options::Options;
+use serde::{Case, NameKind};
+use std::alloc::Global;
+
+/// What is written so far, and what is due (`specs/State.antt`).
+#[derive(Drop)]
+pub(crate) struct Writer {
+    pub(crate) alloc: Global,
+    pub(crate) out: Vec<u8>,
+    pub(crate) options: Options,
+    // The innermost of what is open, and those around it, the nearest last.
+    pub(crate) level: Level,
+    pub(crate) outer: Vec<Level>,
+    // Whether the next map's members go into the map that is open.
+    pub(crate) flattens: bool,
+    // Room for a name in another case, and for printed text.
+    pub(crate) room: String,
+}
+
+impl Writer {
+    /// Nothing is written, and one item is due.
+    pub(crate) fn new(alloc: Global, options: Options) -> Writer
+        ensures state { state result ≡ start }
+        ensures options { result.options ≡ options }
+    {
+        Writer {
+            alloc,
+            out: Vec::new(alloc),
+            options,
+            level: Level::document(),
+            outer: Vec::new(alloc),
+            flattens: false,
+            room: String::new(alloc),
+        }
+    }
+
+    // Refuses what is no document.
+    #[cold]
+    #[inline(never)]
+    pub(crate) fn refuse(&self, message: &'static str) -> Error {
+        Error::message(self.alloc, message)
+    }
+
+    /// The whole document, by these options, which are the serializer's.
+    pub(crate) fn finish(self, options: Options) -> Result<Vec<u8>>
+        ensures options { OnOk result (self.options ≡ options) }
+        ensures whole { IfOk result (λ bytes. whole (state self) ≡ Some bytes.items) }
+    {
+        if self.options != options {
+            return Err(self.refuse("the options changed"));
+        }
+        if !self.outer.is_empty() || self.flattens || self.level.left != Some(0) {
+            return Err(self.refuse("no whole item was written"));
+        }
+        let Writer { out, .. } = self;
+        Ok(out)
+    }
+
+    // An item comes.
+    #[inline(always)]
+    pub(crate) fn item(&mut self) -> Result<()>
+        ensures due { OnOk result ((self.old.flattens ≡ false)
+            × (after_item self.old.level ≡ Some self.new.level)) }
+        ensures rest { self.new ≡ record self.old { level = self.new.level } }
+    {
+        if self.flattens {
+            return Err(self.refuse("can only flatten structs and maps"));
+        }
+        match self.level.after_item() {
+            Some(level) => {
+                self.level = level;
+                Ok(())
+            }
+            None => Err(self.refuse("more items than the length that was declared")),
+        }
+    }
+
+    // An array or a map begins.
+    pub(crate) fn begin(&mut self, level: Level) -> Result<()>
+        requires { level ≡ opened level.left level.is_map }
+        ensures opens { OnOk result
+            (opens (state self.old) (level_start level) level ≡ Some (state self.new)) }
+        ensures options { self.new.options ≡ self.old.options }
+    {
+        self.item()?;
+        match level.left {
+            Some(n) => {
+                let major = if level.is_map {
+                    Major::Map
+                } else {
+                    Major::Array
+                };
+                put_head(&mut self.out, major, n)?;
+            }
+            None => put(&mut self.out, &[if level.is_map { 0xbf } else { 0x9f }])?,
+        }
+        self.outer.push(self.level)?;
+        self.level = level;
+        Ok(())
+    }
+
+    // It ends, or a map within it ends whose members are its own.
+    pub(crate) fn end(&mut self) -> Result<()>
+        ensures ends { OnOk result (ends (state self.old) ≡ Some (state self.new)) }
+        ensures options { self.new.options ≡ self.old.options }
+    {
+        if self.level.flat != 0 {
+            self.level.flat -= 1;
+            return Ok(());
+        }
+        if !self.level.is_full() {
+            return Err(self.refuse("fewer items than the length that was declared"));
+        }
+        let Some(outer) = self.outer.pop() else {
+            return Err(self.refuse("nothing is open that could end"));
+        };
+        let ended = self.level;
+        self.level = outer;
+        if ended.left.is_none() {
+            put(&mut self.out, &[0xff])?;
+        }
+        Ok(())
+    }
+
+    // A name comes, as an item.
+    pub(crate) fn name(
+        &mut self,
+        name: &str,
+        case: Case,
+        kind: NameKind,
+        as_integer: bool,
+    ) -> Result<()>
+        ensures item { OnOk result (item (state self.old)
+            (name_bytes as_integer (spelled case kind name.now)) ≡ Some (state self.new)) }
+        ensures options { self.new.options ≡ self.old.options }
+    {
+        self.item()?;
+        if let Case::AsIs = case {
+            return put_name(self.alloc, &mut self.out, name, as_integer);
+        }
+        self.room.clear();
+        case.append(kind, name, &mut self.room)?;
+        put_name(self.alloc, &mut self.out, self.room.as_str(), as_integer)
+    }
+}

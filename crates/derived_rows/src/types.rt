@@ -1,0 +1,101 @@
+//! The types that rows name.
+
+use crate::answer::{of_both, of_slice};
+use crate::row::Row;
+use cbor_serde::{Options, Result};
+use derived_enums::{Adjacent, Any, Event, Hinted, Shape};
+use derived_fields::{Blob, Mixed, Nothing, Pair, Wrap};
+use derived_keys::{Attestation, Claims, CoseKey};
+use derived_structs::{Moon, Outer, Strict, Tree, Tuned, User};
+use derived_types::{Answer, Folder};
+use std::alloc::Global;
+
+/// Whether a row is answered as it says; None where no type has that name. Floats are written in
+/// the shortest width, as the Rust crate writes them.
+pub fn judge(alloc: Global, row: &Row<'_>) -> Result<Option<bool>> {
+    let options = Options::new().shortest_floats();
+    if let Some(right) = structs(options, alloc, row)? {
+        return Ok(Some(right));
+    }
+    if let Some(right) = fields(options, alloc, row)? {
+        return Ok(Some(right));
+    }
+    if let Some(right) = enums(options, alloc, row)? {
+        return Ok(Some(right));
+    }
+    if let Some(right) = plain(options, alloc, row)? {
+        return Ok(Some(right));
+    }
+    keys(options, alloc, row)
+}
+
+fn structs(options: Options, alloc: Global, row: &Row<'_>) -> Result<Option<bool>> {
+    let bytes = row.bytes.as_slice();
+    let right = match row.kind {
+        "user" => of_both::<User>(options, alloc, row, bytes)?,
+        "moon" => of_slice::<Moon>(options, alloc, row, bytes)?,
+        "folder" => of_slice::<Folder>(options, alloc, row, bytes)?,
+        "tuned" => of_both::<Tuned>(options, alloc, row, bytes)?,
+        "outer" => of_both::<Outer>(options, alloc, row, bytes)?,
+        "strict" => of_both::<Strict>(options, alloc, row, bytes)?,
+        "tree" => of_both::<Tree>(options, alloc, row, bytes)?,
+        _ => return Ok(None),
+    };
+    Ok(Some(right))
+}
+
+fn fields(options: Options, alloc: Global, row: &Row<'_>) -> Result<Option<bool>> {
+    let bytes = row.bytes.as_slice();
+    let right = match row.kind {
+        "mixed" => of_slice::<Mixed>(options, alloc, row, bytes)?,
+        "pair" => of_both::<Pair>(options, alloc, row, bytes)?,
+        "wrap" => of_both::<Wrap>(options, alloc, row, bytes)?,
+        "nothing" => of_both::<Nothing>(options, alloc, row, bytes)?,
+        "blob" => of_both::<Blob>(options, alloc, row, bytes)?,
+        _ => return Ok(None),
+    };
+    Ok(Some(right))
+}
+
+fn enums(options: Options, alloc: Global, row: &Row<'_>) -> Result<Option<bool>> {
+    let bytes = row.bytes.as_slice();
+    let right = match row.kind {
+        "shape" => of_both::<Shape>(options, alloc, row, bytes)?,
+        "event" => of_both::<Event>(options, alloc, row, bytes)?,
+        "adjacent" => of_both::<Adjacent>(options, alloc, row, bytes)?,
+        "any" => of_both::<Any>(options, alloc, row, bytes)?,
+        "hinted" => of_both::<Hinted>(options, alloc, row, bytes)?,
+        "answer" => of_both::<Answer>(options, alloc, row, bytes)?,
+        _ => return Ok(None),
+    };
+    Ok(Some(right))
+}
+
+fn plain(options: Options, alloc: Global, row: &Row<'_>) -> Result<Option<bool>> {
+    let bytes = row.bytes.as_slice();
+    let right = match row.kind {
+        "(u8, bool)" => of_both::<(u8, bool)>(options, alloc, row, bytes)?,
+        "Option<u8>" => of_both::<Option<u8>>(options, alloc, row, bytes)?,
+        "Vec<u8>" => of_both::<Vec<u8>>(options, alloc, row, bytes)?,
+        "String" => of_both::<String>(options, alloc, row, bytes)?,
+        "f32" => of_both::<f32>(options, alloc, row, bytes)?,
+        "f64" => of_both::<f64>(options, alloc, row, bytes)?,
+        "char" => of_both::<char>(options, alloc, row, bytes)?,
+        "u64" => of_both::<u64>(options, alloc, row, bytes)?,
+        _ => return Ok(None),
+    };
+    Ok(Some(right))
+}
+
+fn keys(options: Options, alloc: Global, row: &Row<'_>) -> Result<Option<bool>> {
+    let bytes = row.bytes.as_slice();
+    let integers = options.integer_keys();
+    let right = match row.kind {
+        "named key" => of_both::<CoseKey>(options, alloc, row, bytes)?,
+        "key" => of_both::<CoseKey>(integers, alloc, row, bytes)?,
+        "claims" => of_slice::<Claims>(integers, alloc, row, bytes)?,
+        "attestation" => of_slice::<Attestation>(integers, alloc, row, bytes)?,
+        _ => return Ok(None),
+    };
+    Ok(Some(right))
+}
