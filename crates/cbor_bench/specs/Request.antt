@@ -1,12 +1,13 @@
 -- What is asked for, and what doing it shows.
-use Rattle.std.specs.Prelude.{◌≡◌, ℕ, ◌≤◌, List, ◌∷◌, Option, Some, None, Vec, length}
+use Rattle.std.specs.Prelude.{◌≡◌, ◌⊎◌, ℕ, ◌≤◌, List, ◌∷◌, Option, Some, None, Vec}
 use Rattle.std.specs.declared.alloc.Global.{Global}
 use Rattle.cbor_model.specs.Plain.{Val}
+use Rattle.cbor_model.specs.Allowed.{limits_of}
 use Rattle.cbor_model.specs.Canonical.{canon}
 use Rattle.cbor_model.specs.Laws.{SpellsValue}
-use Rattle.cbor_model.specs.Reader.{read_value}
 use Rattle.serde_cbor.specs.declared.error.Error.{Error}
-use Rattle.serde_cbor.specs.Gives.{Fails}
+use Rattle.serde_cbor.specs.Error.{IsOutOfMemory}
+use Rattle.serde_cbor.specs.FirstRefusal.{TellsFirst}
 use Rattle.cbor_bench.specs.Record.{SpellsRecords, AreRewritten}
 use Rattle.cbor_bench.specs.declared.request.Task.{Task}
 use Rattle.cbor_bench.specs.declared.request.Task.TheVariants.{Read, ReadAndWrite, ReadRecords, ReadAndWriteRecords}
@@ -51,9 +52,9 @@ IsReadFor ReadAndWrite bytes = SpellsItem bytes
 IsReadFor ReadRecords bytes = SpellsRecords bytes
 IsReadFor ReadAndWriteRecords bytes = SpellsRecords bytes
 
--- Of bytes that are read as a value, a refusal tells the fault that the reference reader meets, or that
--- memory ran out. Of records it may tell any fault.
+-- Of bytes that are read as a value, a refusal tells the first that they allow, or that memory ran out.
+-- Of records it may tell any fault.
 abbrev pub Refuses : Task → List ℕ → Error → Type 0
-Refuses Read bytes e = Fails (length bytes) e (read_value bytes)
-Refuses ReadAndWrite bytes e = Fails (length bytes) e (read_value bytes)
+Refuses Read bytes e = IsOutOfMemory e ⊎ TellsFirst (limits_of None) bytes e
+Refuses ReadAndWrite bytes e = IsOutOfMemory e ⊎ TellsFirst (limits_of None) bytes e
 Refuses _ bytes e = Unit {0}

@@ -1,9 +1,9 @@
 //! What is to be measured.
 
-ghost use Rattle.std.specs.Prelude.{◌<◌, ◌↔◌, length, IfOk, IfErr, IfSome, IsSome, OnErr};
-ghost use Rattle.cbor_model.specs.Reader.{read_value};
+ghost use Rattle.std.specs.Prelude.{◌<◌, ◌↔◌, ◌⊎◌, None, IfOk, IfErr, IfSome, IsSome, OnErr};
+ghost use Rattle.cbor_model.specs.Allowed.{limits_of};
 ghost use Rattle.serde_cbor.specs.Error.{IsOutOfMemory};
-ghost use Rattle.serde_cbor.specs.Gives.{Fails};
+ghost use Rattle.serde_cbor.specs.FirstRefusal.{TellsFirst};
 ghost use Rattle.cbor_bench.specs.Record.{SpellsRecords, AreRewritten};
 ghost use Rattle.cbor_bench.specs.Request.{IsRequest, IsRequestOf, SpellsItem, IsRewritten};
 ghost use Rattle.cbor_bench.specs.Request.{Leaves, IsReadFor, Refuses};
@@ -84,8 +84,7 @@ impl<'a> Request<'a> {
         // An acceptable item, or one that is read as records where they are asked for, is refused
         // for lack of memory alone.
         ensures accepted { IsReadFor self.now.task self.now.item.now → IfErr result IsOutOfMemory }
-        // A refusal of a value tells the fault that the reference reader meets, or that memory ran
-        // out.
+        // A refusal of a value is the first that the bytes allow, or memory ran out.
         ensures refused { IfErr result (Refuses self.now.task self.now.item.now) }
         ensures idle { OnErr result (0 < self.now.times) }
     {
@@ -129,7 +128,8 @@ fn perform(alloc: Global, task: Task, item: &[u8]) -> Result<Option<Vec<u8>>>
 fn rewritten(alloc: Global, item: &[u8]) -> Result<Vec<u8>>
     ensures written { IfOk result (λ bytes. IsRewritten item.now bytes.items) }
     ensures accepted { SpellsItem item.now → IfErr result IsOutOfMemory }
-    ensures refused { IfErr result (λ e. Fails (length item.now) e (read_value item.now)) }
+    ensures refused { IfErr result (λ e. IsOutOfMemory e
+        ⊎ TellsFirst (limits_of None) item.now e) }
 {
     let value: Value = from_slice(alloc, item)?;
     to_vec(alloc, &value)

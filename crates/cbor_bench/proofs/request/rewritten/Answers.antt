@@ -1,11 +1,8 @@
-use Rattle.std.proofs.Common.{arith, length, subst, sym}
+use Rattle.std.proofs.Common.{arith, inl}
 use Rattle.std.proofs.lemmas.Result.{err_from_is_err_and, IfErr-weaker}
 use Rattle.cbor_model.specs.Document.{document_of, IsStorableDocument}
 use Rattle.cbor_model.proofs.facts.Documents.{storable_document}
-use Rattle.cbor_model.specs.Reader.{read_value}
-use Rattle.serde_cbor.specs.declared.error.ErrorCode.{ErrorCode}
-use Rattle.serde_cbor.specs.Error.{IsOutOfMemory, offset_of}
-use Rattle.serde_cbor.specs.Gives.{FailsBy}
+use Rattle.serde_cbor.specs.Error.{IsOutOfMemory}
 use Rattle.serde_cbor.specs.View.{view}
 use Rattle.serde_cbor.proofs.facts.Values.{spelled_value, is_canonical}
 use Rattle.cbor_bench.proofs.OnlyMemory.{memory_alone}
@@ -27,5 +24,4 @@ returns-clause-refused c =
     let v = view c.in_ok-value.value in
     let storable = (is_canonical c.args.item.now v (omega arith) (spelled_value c.args.item.now c.in_ok-value.value c.in_ok-value.ensures.found)).0 in
     let memory = memory_alone (IsStorableDocument (document_of v)) c.to_vec.result (storable_document v storable) c.to_vec.ensures.refused in
-    let item = c.args.item.now in
-    IfErr-weaker c.to_vec.result IsOutOfMemory _ (λ e h. subst (λ (code : ErrorCode). FailsBy ⊥ code (length item) (offset_of e) (read_value item)) (sym h.0) h.1) memory
+    IfErr-weaker c.to_vec.result IsOutOfMemory _ (λ e h. inl h) memory
