@@ -3,7 +3,7 @@ use Rattle.std.proofs.Common.{◌≡◌, ℕ, List, [], ◌∷◌, subst}
 use Rattle.std.proofs.Output.{writes_in_calls_nil, has_written_append}
 use Rattle.std.specs.Fmt.{HasWritten, IsPlainFormatter}
 use Rattle.std.specs.List.{FoldsTo, concat}
-use Rattle.std.specs.declared.fmt.formatter.Formatter.{Formatter}
+use Rattle.std.specs.declared.fmt.Formatter.{Formatter}
 use Rattle.cbor_diagnostic.specs.Prints.{Prints, Shows}
 
 module _ {W : Type 0} (took : W → List ℕ → W → Type 0) where

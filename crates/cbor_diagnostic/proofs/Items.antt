@@ -24,7 +24,7 @@ pub next_item : {W : Type 0} {took : W → List ℕ → W → Type 0} {IsWhole :
 next_item indent is_first vs i v lt is so_far led item =
     more (AreItems indent false (views (drop (i + 1) vs))) (lead indent is_first ++ item.text) so_far (both led item.wrote)
     (λ rest h. subst (λ (xs : List Value). AreItems indent is_first (views xs) ((lead indent is_first ++ item.text) ++ rest)) (sym (cons_at vs i v lt is))
-        (item.text, rest, item.is, h, append_assoc (lead indent is_first) item.text rest))
+    (item.text, rest, item.is, h, append_assoc (lead indent is_first) item.text rest))
 
 pub no_more_items : {W : Type 0} {took : W → List ℕ → W → Type 0} {IsWhole : List ℕ → Type 0} {w a : W} (indent : Option ℕ) (is_first : Bool) (vs : List Value) (i : ℕ)
     → length vs ≤ i → SoFar took IsWhole (AreItems indent is_first (views (drop i vs))) w a → Prints took IsWhole w a
@@ -37,9 +37,15 @@ pub next_pair : {W : Type 0} {took : W → List ℕ → W → Type 0} {IsWhole :
     → SoFar took IsWhole (ArePairs indent false (pair_views (drop (i + 1) ps))) w c
 next_pair indent is_first ps i p lt is so_far led pair =
     more (ArePairs indent false (pair_views (drop (i + 1) ps))) (lead indent is_first ++ pair.text) so_far (both led pair.wrote)
-    (λ rest h. subst (λ (xs : List (Value × Value)). ArePairs indent is_first (pair_views xs) ((lead indent is_first ++ pair.text) ++ rest)) (sym (cons_at ps i p lt is))
-        (pair.is.key, pair.is.value, rest, pair.is.of_key, pair.is.of_value, h,
-        append_assoc (lead indent is_first) pair.text rest ∙ ap (λ (t : List ℕ). lead indent is_first ++ (t ++ rest)) pair.is.is))
+    (λ rest h. subst (λ (xs : List (Value × Value)). ArePairs indent is_first (pair_views xs) ((lead indent is_first ++ pair.text) ++ rest)) (sym (cons_at ps i p lt is)) (
+      pair.is.key,
+      pair.is.value,
+      rest,
+      pair.is.of_key,
+      pair.is.of_value,
+      h,
+      append_assoc (lead indent is_first) pair.text rest ∙ ap (λ (t : List ℕ). lead indent is_first ++ (t ++ rest)) pair.is.is,
+    ))
 
 pub no_more_pairs : {W : Type 0} {took : W → List ℕ → W → Type 0} {IsWhole : List ℕ → Type 0} {w a : W} (indent : Option ℕ) (is_first : Bool) (ps : List (Value × Value)) (i : ℕ)
     → length ps ≤ i → SoFar took IsWhole (ArePairs indent is_first (pair_views (drop i ps))) w a → Prints took IsWhole w a
@@ -53,8 +59,11 @@ pub array_printed : {W : Type 0} {took : W → List ℕ → W → Type 0} {w a b
     → Prints took (IsNotation indent (array vs)) w c
 array_printed {took = took} {w = w} {a = a} indent inside vs is_empty within empty opened items closed = record {
   text = codes "[" ++ (items.text ++ (closing indent is_empty ++ codes "]"));
-  is = (items.text, subst (λ (i : Option ℕ). AreItems i true vs items.text) within items.is,
-      ap (λ (b : Bool). codes "[" ++ (items.text ++ (closing indent b ++ codes "]"))) empty);
+  is = (
+    items.text,
+    subst (λ (i : Option ℕ). AreItems i true vs items.text) within items.is,
+    ap (λ (b : Bool). codes "[" ++ (items.text ++ (closing indent b ++ codes "]"))) empty,
+  );
   wrote = both (one_call took w (codes "[") a opened) (both items.wrote closed);
 }
 
@@ -63,8 +72,11 @@ pub map_printed : {W : Type 0} {took : W → List ℕ → W → Type 0} {w a b c
     → Prints took (IsNotation indent (map ps)) w c
 map_printed {took = took} {w = w} {a = a} indent inside ps is_empty within empty opened pairs closed = record {
   text = codes "{" ++ (pairs.text ++ (closing indent is_empty ++ codes "}"));
-  is = (pairs.text, subst (λ (i : Option ℕ). ArePairs i true ps pairs.text) within pairs.is,
-      ap (λ (b : Bool). codes "{" ++ (pairs.text ++ (closing indent b ++ codes "}"))) empty);
+  is = (
+    pairs.text,
+    subst (λ (i : Option ℕ). ArePairs i true ps pairs.text) within pairs.is,
+    ap (λ (b : Bool). codes "{" ++ (pairs.text ++ (closing indent b ++ codes "}"))) empty,
+  );
   wrote = both (one_call took w (codes "{") a opened) (both pairs.wrote closed);
 }
 

@@ -1,12 +1,12 @@
 -- The numeral of a float: where it has a point, and that it reads as the same float once it is given
 -- one.
-use Rattle.std.proofs.Common.{◌≡◌, ◌≢◌, ℕ, zero, suc, ◌+◌, ◌*◌, ◌^◌, ◌<◌, Bool, true, false, cond, List, [], ◌∷◌, ◌++◌, length, get_or, Option, Some, None, refl, sym, ap, ◌∙◌, subst, arith, append-nil, append_assoc, true≢false}
+use Rattle.std.proofs.Common.{◌≡◌, ◌≢◌, ℕ, zero, suc, ◌+◌, ◌*◌, ◌^◌, ◌<◌, Bool, true, false, cond, List, [], ◌∷◌, ◌++◌, length, get_or, Option, Some, None, refl, sym, ap, ◌∙◌, subst, arith, append-nil, append_assoc, true≢false, codes}
 use Rattle.std.proofs.Math.Nat.{pow-suc}
 use Rattle.std.proofs.lemmas.Int.Digits.{digits_value_push}
 use Rattle.std.proofs.lemmas.Str.Parse.{digit_from_value}
-use Rattle.std.specs.Float.{binary64}
+use Rattle.std.specs.Float.{binary64, nan, inf, fin, float_is_finite, is_sign_negative}
 use Rattle.std.specs.Float.Ieee as ieee
-use Rattle.std.specs.Float.Ieee.{round}
+use Rattle.std.specs.Float.Ieee.{round, is_nan}
 use Rattle.std.specs.Fmt.{sign_text}
 use Rattle.std.specs.Str.Parse.{digits_value, AllDigits}
 use lib.Ieee.Scale.{round_same}
@@ -14,7 +14,12 @@ use Rattle.fast_float.specs.Text.{Parts, nearest, tens_up, tens_down, text_of, I
 use Rattle.ryu.specs.Parse.{parse_float}
 use Rattle.ryu.specs.Plain.{text_with, exponent_with, exponent_sign, IsPlain, IsPlusNumber}
 use Rattle.ryu.proofs.Plus.{parse_float-text_with}
-use Rattle.cbor_diagnostic.specs.Numerals.{IsNumeralOf}
+use Rattle.cbor_value.specs.Floats.{number_of}
+use Rattle.cbor_value.specs.View.{float_view}
+use Rattle.cbor_value.specs.declared.Float.{Float}
+use Rattle.cbor_value.specs.declared.Float.TheVariants.{Half, Single, Double}
+use Rattle.cbor_diagnostic.specs.Numerals.{IsNumeralOf, IsFloatNotation}
+use Rattle.cbor_diagnostic.specs.Notation.{IsNotation}
 
 -- ---- bytes that stand in a text, and that don't
 
@@ -68,14 +73,14 @@ no_dot negative p w none =
     avoids_both 46 _ _ (no_dot_in_sign negative)
     (avoids_both 46 _ _ (no_dot_in_digits p.whole w.whole_digits)
     (subst (λ (b : Bool). Avoids 46 (cond b (46 ∷ p.fraction) [] ++ exponent_with true p.exponent_negative p.exponent)) (sym none)
-        (no_dot_in_exponent p.exponent_negative p.exponent w.exponent_digits)))
+    (no_dot_in_exponent p.exponent_negative p.exponent w.exponent_digits)))
 
 has_dot : (negative : Bool) (p : Parts) → p.point ≡ true → Has 46 (sign_text negative ++ text_with true p)
 has_dot negative p some =
     has_after 46 (sign_text negative) _
     (has_after 46 p.whole _
     (subst (λ (b : Bool). Has 46 (cond b (46 ∷ p.fraction) [] ++ exponent_with true p.exponent_negative p.exponent)) (sym some)
-        (0, omega arith, refl)))
+    (0, omega arith, refl)))
 
 -- ---- a numeral with a point
 
@@ -84,8 +89,8 @@ point_there negative true p w is h = refl
 point_there negative false p w is h = absurd (avoids_at 46 _ (no_dot negative p w is) h.0 h.1 h.2)
 
 point_missing : (negative b : Bool) (p : Parts) → p.point ≡ b → (Has 46 (sign_text negative ++ text_with true p) → ⊥) → b ≡ false
-point_missing negative false p is no = refl
-point_missing negative true p is no = absurd (no (has_dot negative p is))
+point_missing negative false p is missing = refl
+point_missing negative true p is missing = absurd (missing (has_dot negative p is))
 
 pub pointed : (x : ieee.Float) (text : List ℕ) (n m : ℕ) → IsPlusNumber n m text → parse_float binary64 text ≡ Some x → Has 46 text → IsNumeralOf x text
 pointed x text n m (negative, p, is, plain, laid) reads dot =
@@ -185,18 +190,46 @@ unpointed x text n m (negative, p, is, plain, laid) reads no_dot_there =
     let some : 0 < length p.exponent = plain.marked none in
     let here : parse_float binary64 (sign_text negative ++ text_with true p) ≡ Some (nearest binary64 negative p) = parse_float-text_with binary64 negative p w plain.whole in
     let there = parse_float-text_with binary64 negative (with_zero p) (still_well_formed p w) plain.whole in
-    let join = joined negative p some in
-    (before_e negative p, after_e p, record {
-      at = is ∙ cut negative p none some;
-      first = avoids_at 101 _ (no_e_before negative p w);
-      made = record {
-        negative = negative;
-        parts = with_zero p;
-        is = join;
-        well_formed = still_well_formed p w;
-        whole = plain.whole;
-        point = refl;
-        fraction = omega arith;
-        reads = ap (parse_float binary64) join ∙ there ∙ ap (λ (y : ieee.Float). Some y) (same_number negative p (w.no_point none)) ∙ sym here ∙ ap (parse_float binary64) (sym is) ∙ reads;
-      };
-    })
+    let join = joined negative p some in (
+      before_e negative p,
+      after_e p,
+      record {
+        at = is ∙ cut negative p none some;
+        first = avoids_at 101 _ (no_e_before negative p w);
+        made = record {
+          negative = negative;
+          parts = with_zero p;
+          is = join;
+          well_formed = still_well_formed p w;
+          whole = plain.whole;
+          point = refl;
+          fraction = omega arith;
+          reads = ap (parse_float binary64) join ∙ there ∙ ap (λ (y : ieee.Float). Some y) (same_number negative p (w.no_point none)) ∙ sym here ∙ ap (parse_float binary64) (sym is) ∙ reads;
+        };
+      },
+    )
+
+-- ---- which floats are numerals, and which are words
+
+pub numeral_is : (x : ieee.Float) (text : List ℕ) → float_is_finite x ≡ true → IsNumeralOf x text → IsFloatNotation x text
+unfolding float_is_finite
+numeral_is nan text finite is = cc
+numeral_is (inf s) text finite is = cc
+numeral_is (fin s m e) text finite is = is
+
+pub nan_is : (x : ieee.Float) → is_nan x ≡ true → IsFloatNotation x (codes "NaN")
+unfolding is_nan
+nan_is nan h = refl
+nan_is (inf s) h = cc
+nan_is (fin s m e) h = cc
+
+pub infinity_is : (x : ieee.Float) (negative : Bool) → float_is_finite x ≡ false → is_nan x ≡ false → is_sign_negative x ≡ negative → IsFloatNotation x (sign_text negative ++ codes "Infinity")
+unfolding float_is_finite is_nan is_sign_negative
+infinity_is nan negative infinite number sign = cc
+infinity_is (inf s) negative infinite number sign = ap (λ (b : Bool). sign_text b ++ codes "Infinity") (sym sign)
+infinity_is (fin s m e) negative infinite number sign = cc
+
+pub float_notation : (indent : Option ℕ) (f : Float) (text : List ℕ) → IsFloatNotation (number_of f) text → IsNotation indent (float_view f) text
+float_notation indent (Half bits) text is = is
+float_notation indent (Single bits) text is = is
+float_notation indent (Double bits) text is = is

@@ -29,6 +29,14 @@ same_text {took = took} {w = w} {v = v} e p = subst (λ (bs : List ℕ). WritesI
 
 -- ---- any text of a kind
 
+pub prints_text : {W : Type 0} (took : W → List ℕ → W → Type 0) (w v : W) (IsOne : List ℕ → Type 0) (bs : List ℕ) (r : Answer) → IsOne bs → OnOk r (WritesInCalls took w bs v) → OnOk r (Prints took IsOne w v)
+prints_text took w v IsOne bs (Ok x) is wrote = record { text = bs; is = is; wrote = wrote }
+prints_text took w v IsOne bs (Err e) is wrote = tt
+
+pub prints_also : {W : Type 0} (took : W → List ℕ → W → Type 0) (w v : W) (IsOne IsAlso : List ℕ → Type 0) (r : Answer) → ((bs : List ℕ) → IsOne bs → IsAlso bs) → OnOk r (Prints took IsOne w v) → OnOk r (Prints took IsAlso w v)
+prints_also took w v IsOne IsAlso (Ok x) also h = record { text = h.text; is = also h.text h.is; wrote = h.wrote }
+prints_also took w v IsOne IsAlso (Err e) also h = tt
+
 -- What was written so far, with a text of what is left, is a text of the whole.
 pub record SoFar {W : Type 0} (took : W → List ℕ → W → Type 0) (IsWhole IsRest : List ℕ → Type 0) (old new : W) : Type 0 where
   pub done : List ℕ

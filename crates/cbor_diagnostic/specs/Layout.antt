@@ -1,7 +1,7 @@
 -- Where lines are broken. An indent is `None` where all stands on one line, and otherwise how many
 -- steps of two blanks a line begins with.
-use Rattle.std.specs.Prelude.{ℕ, zero, suc, ◌+◌, Bool, List, [], ◌∷◌, ◌++◌, codes}
-use Rattle.std.specs.Prelude.{Option, Some, None, if◌then◌else◌}
+use Rattle.std.specs.Prelude.{ℕ, zero, suc, ◌+◌, Bool, true, false, List, [], ◌∷◌, ◌++◌, codes}
+use Rattle.std.specs.Prelude.{Option, Some, None}
 
 -- so many steps of blanks
 abbrev pub blanks : ℕ → List ℕ
@@ -18,15 +18,17 @@ abbrev pub line_start : Option ℕ → List ℕ
 line_start None = []
 line_start (Some n) = 10 ∷ blanks n
 
--- what parts two items
-abbrev pub comma : Option ℕ → List ℕ
-comma None = codes ", "
-comma (Some n) = codes ","
+-- what parts an item from the one before it
+abbrev pub comma : Option ℕ → Bool → List ℕ
+comma indent true = []
+comma None false = codes ", "
+comma (Some n) false = codes ","
 
 -- what stands before an item
 abbrev pub lead : Option ℕ → Bool → List ℕ
-lead indent is_first = (if is_first then [] else comma indent) ++ line_start indent
+lead indent is_first = comma indent is_first ++ line_start indent
 
 -- what stands before the closing bracket
 abbrev pub closing : Option ℕ → Bool → List ℕ
-closing indent is_empty = if is_empty then [] else line_start indent
+closing indent true = []
+closing indent false = line_start indent

@@ -1,7 +1,7 @@
 -- What was written, where a value has more than one text.
 use Rattle.std.specs.Prelude.{ℕ, List}
 use Rattle.std.specs.Fmt.{WritesInCalls, HasWritten}
-use Rattle.std.specs.declared.fmt.formatter.Formatter.{Formatter}
+use Rattle.std.specs.declared.fmt.Formatter.{Formatter}
 
 -- A text of this kind was written, and nothing else. `took` says what one call of the writer does.
 pub record Prints {W : Type 0} (took : W → List ℕ → W → Type 0) (IsOne : List ℕ → Type 0)

@@ -3,7 +3,7 @@
 
 ghost use Rattle.std.specs.Prelude.{◌≡◌, ◌++◌, IfOk, OnOk};
 ghost use Rattle.std.specs.Fmt.{WritesInCalls};
-ghost use Rattle.cbor_diagnostic.specs.Layout.{blanks, inner, line_start, lead, closing};
+ghost use Rattle.cbor_diagnostic.specs.Layout.{blanks, inner, line_start, comma, lead, closing};
 
 use std::fmt;
 use std::fmt::Write;
@@ -36,7 +36,7 @@ fn start_line<W: Write>(indent: Option<usize>, out: &mut W) -> fmt::Result
 fn write_blanks<W: Write>(steps: usize, out: &mut W) -> fmt::Result
     ensures { OnOk result (WritesInCalls W.write_str_gives out.old (blanks steps) out.new) }
 {
-    for _step in 0..steps {
+    for step in 0..steps {
         out.write_str("  ")?;
     }
     Ok(())
@@ -50,10 +50,21 @@ pub(crate) fn write_lead<W: Write>(
 ) -> fmt::Result
     ensures { OnOk result (WritesInCalls W.write_str_gives out.old (lead indent is_first) out.new) }
 {
-    if !is_first {
-        out.write_str(if indent.is_none() { ", " } else { "," })?;
-    }
+    write_comma(is_first, indent, out)?;
     start_line(indent, out)
+}
+
+// Writes what parts an item from the one before it.
+fn write_comma<W: Write>(is_first: bool, indent: Option<usize>, out: &mut W) -> fmt::Result
+    ensures { OnOk result (WritesInCalls W.write_str_gives out.old (comma indent is_first) out.new) }
+{
+    if is_first {
+        return Ok(());
+    }
+    match indent {
+        None => out.write_str(", "),
+        Some(_) => out.write_str(","),
+    }
 }
 
 /// Writes what stands after the last item or pair, and the bracket.
@@ -66,8 +77,16 @@ pub(crate) fn close<W: Write>(
     ensures { OnOk result (WritesInCalls W.write_str_gives out.old
         (closing indent is_empty ++ bracket.now) out.new) }
 {
-    if !is_empty {
-        start_line(indent, out)?;
-    }
+    end_items(is_empty, indent, out)?;
     out.write_str(bracket)
+}
+
+// Begins the line of the bracket, unless there are no items.
+fn end_items<W: Write>(is_empty: bool, indent: Option<usize>, out: &mut W) -> fmt::Result
+    ensures { OnOk result (WritesInCalls W.write_str_gives out.old (closing indent is_empty) out.new) }
+{
+    if is_empty {
+        return Ok(());
+    }
+    start_line(indent, out)
 }

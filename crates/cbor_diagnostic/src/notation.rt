@@ -1,6 +1,6 @@
 //! The notation of a value, and of what lies inside it.
 
-ghost use Rattle.std.specs.Prelude.{◌≡◌, IfOk, IfErr, OnOk, string_bytes};
+ghost use Rattle.std.specs.Prelude.{◌≡◌, true, IfOk, IfErr, OnOk, string_bytes};
 ghost use Rattle.cbor_model.specs.Plain as plain;
 ghost use Rattle.cbor_io.specs.Error.{IsOutOfMemory};
 ghost use Rattle.cbor_value.specs.View.{view, views, map_view, pair_views};
@@ -8,7 +8,7 @@ ghost use Rattle.cbor_diagnostic.specs.Notation.{IsNotation, AreItems, ArePairs,
 ghost use Rattle.cbor_diagnostic.specs.Prints.{Prints};
 
 use crate::layout::{close, inner, write_lead};
-use crate::scalars::{write_bytes, write_float, write_integer, write_text};
+use crate::scalars::{write_bool, write_bytes, write_float, write_integer, write_text};
 use cbor_io::error;
 use cbor_value::{Map, Value};
 use std::alloc::{AllocError, Global};
@@ -40,7 +40,7 @@ pub(crate) fn write_value<W: Write>(
 {
     match value {
         Value::Null => out.write_str("null"),
-        Value::Bool(b) => out.write_str(if *b { "true" } else { "false" }),
+        Value::Bool(b) => write_bool(*b, out),
         Value::Integer(i) => write_integer(*i, out),
         Value::Float(float) => write_float(float.to_f64(), out),
         Value::Bytes(bytes) => write_bytes(bytes, out),

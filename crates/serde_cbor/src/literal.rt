@@ -33,7 +33,7 @@ macro_rules! cbor {
     (in $alloc:expr; $($value:tt)+) => {{
         let alloc = $alloc;
         let built: $crate::Result<$crate::Value> = 'built: {
-            Ok($crate::cbor_value!(alloc 'built; $($value)+))
+            Ok($crate::cbor_internal!(alloc 'built; $($value)+))
         };
         built
     }};
@@ -44,7 +44,7 @@ macro_rules! cbor {
 
 /// What [`cbor!`](crate::cbor) is made of, one value or one item at a time. It isn't for use alone.
 #[macro_export]
-macro_rules! cbor_value {
+macro_rules! cbor_internal {
     // `?`, which leaves the block `$out` and not the caller's function.
     (@try $out:lifetime $step:expr) => {
         match $step {
@@ -56,54 +56,54 @@ macro_rules! cbor_value {
     // The items that are left.
     (@items $alloc:ident $out:lifetime $items:ident) => {};
     (@items $alloc:ident $out:lifetime $items:ident null $(, $($rest:tt)*)?) => {
-        $crate::cbor_value!(@item $alloc $out $items (null) $($($rest)*)?);
+        $crate::cbor_internal!(@item $alloc $out $items (null) $($($rest)*)?);
     };
     (@items $alloc:ident $out:lifetime $items:ident [$($inner:tt)*] $(, $($rest:tt)*)?) => {
-        $crate::cbor_value!(@item $alloc $out $items ([$($inner)*]) $($($rest)*)?);
+        $crate::cbor_internal!(@item $alloc $out $items ([$($inner)*]) $($($rest)*)?);
     };
     (@items $alloc:ident $out:lifetime $items:ident {$($inner:tt)*} $(, $($rest:tt)*)?) => {
-        $crate::cbor_value!(@item $alloc $out $items ({$($inner)*}) $($($rest)*)?);
+        $crate::cbor_internal!(@item $alloc $out $items ({$($inner)*}) $($($rest)*)?);
     };
     (@items $alloc:ident $out:lifetime $items:ident $item:expr, $($rest:tt)*) => {
-        $crate::cbor_value!(@item $alloc $out $items ($item) $($rest)*);
+        $crate::cbor_internal!(@item $alloc $out $items ($item) $($rest)*);
     };
     (@items $alloc:ident $out:lifetime $items:ident $item:expr) => {
-        $crate::cbor_value!(@item $alloc $out $items ($item));
+        $crate::cbor_internal!(@item $alloc $out $items ($item));
     };
     (@item $alloc:ident $out:lifetime $items:ident ($($item:tt)+) $($rest:tt)*) => {
-        let item = $crate::cbor_value!($alloc $out; $($item)+);
-        $crate::cbor_value!(@try $out $crate::literal::push(&mut $items, item));
-        $crate::cbor_value!(@items $alloc $out $items $($rest)*);
+        let item = $crate::cbor_internal!($alloc $out; $($item)+);
+        $crate::cbor_internal!(@try $out $crate::literal::push(&mut $items, item));
+        $crate::cbor_internal!(@items $alloc $out $items $($rest)*);
     };
 
     // The pairs that are left.
     (@pairs $alloc:ident $out:lifetime $map:ident) => {};
     (@pairs $alloc:ident $out:lifetime $map:ident $key:literal : $($rest:tt)+) => {
-        $crate::cbor_value!(@pair $alloc $out $map ($key) $($rest)+);
+        $crate::cbor_internal!(@pair $alloc $out $map ($key) $($rest)+);
     };
     (@pairs $alloc:ident $out:lifetime $map:ident ($key:expr) : $($rest:tt)+) => {
-        $crate::cbor_value!(@pair $alloc $out $map ($key) $($rest)+);
+        $crate::cbor_internal!(@pair $alloc $out $map ($key) $($rest)+);
     };
     (@pair $alloc:ident $out:lifetime $map:ident $key:tt null $(, $($rest:tt)*)?) => {
-        $crate::cbor_value!(@put $alloc $out $map $key (null) $($($rest)*)?);
+        $crate::cbor_internal!(@put $alloc $out $map $key (null) $($($rest)*)?);
     };
     (@pair $alloc:ident $out:lifetime $map:ident $key:tt [$($inner:tt)*] $(, $($rest:tt)*)?) => {
-        $crate::cbor_value!(@put $alloc $out $map $key ([$($inner)*]) $($($rest)*)?);
+        $crate::cbor_internal!(@put $alloc $out $map $key ([$($inner)*]) $($($rest)*)?);
     };
     (@pair $alloc:ident $out:lifetime $map:ident $key:tt {$($inner:tt)*} $(, $($rest:tt)*)?) => {
-        $crate::cbor_value!(@put $alloc $out $map $key ({$($inner)*}) $($($rest)*)?);
+        $crate::cbor_internal!(@put $alloc $out $map $key ({$($inner)*}) $($($rest)*)?);
     };
     (@pair $alloc:ident $out:lifetime $map:ident $key:tt $value:expr, $($rest:tt)*) => {
-        $crate::cbor_value!(@put $alloc $out $map $key ($value) $($rest)*);
+        $crate::cbor_internal!(@put $alloc $out $map $key ($value) $($rest)*);
     };
     (@pair $alloc:ident $out:lifetime $map:ident $key:tt $value:expr) => {
-        $crate::cbor_value!(@put $alloc $out $map $key ($value));
+        $crate::cbor_internal!(@put $alloc $out $map $key ($value));
     };
     (@put $alloc:ident $out:lifetime $map:ident ($key:expr) ($($value:tt)+) $($rest:tt)*) => {
-        let key = $crate::cbor_value!(@try $out $crate::value::to_value($alloc, &$key));
-        let value = $crate::cbor_value!($alloc $out; $($value)+);
-        $crate::cbor_value!(@try $out $crate::literal::insert(&mut $map, key, value));
-        $crate::cbor_value!(@pairs $alloc $out $map $($rest)*);
+        let key = $crate::cbor_internal!(@try $out $crate::value::to_value($alloc, &$key));
+        let value = $crate::cbor_internal!($alloc $out; $($value)+);
+        $crate::cbor_internal!(@try $out $crate::literal::insert(&mut $map, key, value));
+        $crate::cbor_internal!(@pairs $alloc $out $map $($rest)*);
     };
 
     // A value.
@@ -112,16 +112,16 @@ macro_rules! cbor_value {
     };
     ($alloc:ident $out:lifetime; [$($items:tt)*]) => {{
         let mut items = Vec::new($alloc);
-        $crate::cbor_value!(@items $alloc $out items $($items)*);
+        $crate::cbor_internal!(@items $alloc $out items $($items)*);
         $crate::Value::Array(items)
     }};
     ($alloc:ident $out:lifetime; {$($pairs:tt)*}) => {{
         let mut map = $crate::value::Map::new($alloc);
-        $crate::cbor_value!(@pairs $alloc $out map $($pairs)*);
+        $crate::cbor_internal!(@pairs $alloc $out map $($pairs)*);
         $crate::Value::Map(map)
     }};
     ($alloc:ident $out:lifetime; $other:expr) => {
-        $crate::cbor_value!(@try $out $crate::value::to_value($alloc, &$other))
+        $crate::cbor_internal!(@try $out $crate::value::to_value($alloc, &$other))
     };
 }
 

@@ -2,5 +2,5 @@ use Rattle.std.specs.Fmt.{WritesInCalls}
 use Rattle.cbor_diagnostic.specs.Layout.{blanks}
 use Rattle.cbor_diagnostic.proofs.layout.write_blanks.Given as goal
 
-abbrev pub invariant-loop-_step : goal.invariant-loop-_step
-invariant-loop-_step g l = WritesInCalls g.W.Write.write_str_gives l.fn.out (blanks l._step) l.out
+abbrev pub invariant-loop-step : goal.invariant-loop-step
+invariant-loop-step g l = WritesInCalls g.W.Write.write_str_gives l.fn.out (blanks l.step) l.out
