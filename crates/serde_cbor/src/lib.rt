@@ -41,7 +41,6 @@ pub use cbor_de::{
     Deserializer, Formats, StreamDeserializer, from_mut_slice, from_reader, from_slice,
     from_slice_with_scratch,
 };
-pub use cbor_diagnostic as diagnostic;
 pub use cbor_io::error::{Error, Result};
 pub use cbor_io::{error, write};
 pub use cbor_model as model;
