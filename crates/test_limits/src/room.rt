@@ -1,6 +1,7 @@
 //! How much room is taken for what is read and written.
 
 use cbor_de::from_slice;
+use cbor_read::{IoRead, Source};
 use cbor_ser::to_vec;
 use cbor_value::Value;
 use std::alloc::Global;
@@ -74,4 +75,19 @@ fn takes_room_for_the_items_that_there_are(rt: HostRuntime) -> Done {
     takes_room(&rt, alloc, b"\x83\0\0\0", 3, 8)?;
     takes_room(&rt, alloc, b"\x9f\0\0\0\xff", 3, 8)?;
     takes_room(&rt, alloc, b"\x89\0\0\0\0\0\0\0\0\0", 9, 16)
+}
+
+// What a reader passes over is held one string at a time.
+#[test]
+fn holds_what_it_skips_alone(rt: HostRuntime) -> Done {
+    let alloc = rt.alloc();
+    let bytes = zeros(alloc, 65_536)?;
+    let mut source = IoRead::new(alloc, bytes.as_slice());
+    for _ in 0..500u16 {
+        source.skip(64)?;
+        assert!(rt; source.buffer().len() <= 64);
+        source.skip_text(65)?;
+        assert!(rt; source.buffer().len() <= 65);
+    }
+    Ok(())
 }

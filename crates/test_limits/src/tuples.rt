@@ -17,11 +17,15 @@ const ZEROS: [&'static [u8]; 8] = [
     b"\x87\0\0\0\0\0\0\0",
 ];
 
-/// A tuple of so many refuses each array of fewer.
-fn wants<T: Deserialize<'static, SliceRead<'static>>>(alloc: Global, count: usize) -> Done {
-    for (n, bytes) in ZEROS.iter().take(count).enumerate() {
+/// A tuple of so many refuses each of these arrays that is of fewer.
+fn wants<'a, T: Deserialize<'a, SliceRead<'a>>>(
+    alloc: Global,
+    arrays: &[&'a [u8]],
+    count: usize,
+) -> Done {
+    for (n, bytes) in arrays.iter().take(count).enumerate() {
         let words = InlineText::<48>::of(format_args!("invalid length {n}, expected {count}"));
-        is_refused(from_slice::<T>(alloc, bytes), words.as_str())?;
+        is_refused(from_slice::<T>(alloc, *bytes), words.as_str())?;
     }
     Ok(())
 }
@@ -29,17 +33,17 @@ fn wants<T: Deserialize<'static, SliceRead<'static>>>(alloc: Global, count: usiz
 #[test]
 fn tells_the_length_of_tuples_up_to_four(rt: HostRuntime) -> Done {
     let alloc = rt.alloc();
-    wants::<(u8,)>(alloc, 1)?;
-    wants::<(u8, u8)>(alloc, 2)?;
-    wants::<(u8, u8, u8)>(alloc, 3)?;
-    wants::<(u8, u8, u8, u8)>(alloc, 4)
+    wants::<(u8,)>(alloc, &ZEROS, 1)?;
+    wants::<(u8, u8)>(alloc, &ZEROS, 2)?;
+    wants::<(u8, u8, u8)>(alloc, &ZEROS, 3)?;
+    wants::<(u8, u8, u8, u8)>(alloc, &ZEROS, 4)
 }
 
 #[test]
 fn tells_the_length_of_tuples_beyond_four(rt: HostRuntime) -> Done {
     let alloc = rt.alloc();
-    wants::<(u8, u8, u8, u8, u8)>(alloc, 5)?;
-    wants::<(u8, u8, u8, u8, u8, u8)>(alloc, 6)?;
-    wants::<(u8, u8, u8, u8, u8, u8, u8)>(alloc, 7)?;
-    wants::<(u8, u8, u8, u8, u8, u8, u8, u8)>(alloc, 8)
+    wants::<(u8, u8, u8, u8, u8)>(alloc, &ZEROS, 5)?;
+    wants::<(u8, u8, u8, u8, u8, u8)>(alloc, &ZEROS, 6)?;
+    wants::<(u8, u8, u8, u8, u8, u8, u8)>(alloc, &ZEROS, 7)?;
+    wants::<(u8, u8, u8, u8, u8, u8, u8, u8)>(alloc, &ZEROS, 8)
 }

@@ -1,4 +1,4 @@
-//! Tests of maps, and of looking into values by keys, positions and paths.
+//! Tests of maps.
 #![tactic(auto)]
 
 #[cfg(test)]
@@ -6,8 +6,4 @@ mod checks;
 #[cfg(test)]
 mod in_place;
 #[cfg(test)]
-mod lookup;
-#[cfg(test)]
 mod maps;
-#[cfg(test)]
-mod pointer;
