@@ -31,6 +31,7 @@
 #![tactic(auto)]
 
 pub mod de;
+pub mod literal;
 pub mod stream;
 pub mod tags;
 

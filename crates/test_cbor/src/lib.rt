@@ -11,6 +11,8 @@ mod counter;
 mod floats;
 #[cfg(test)]
 mod laws;
+#[cfg(test)]
+mod literal;
 pub mod lookup;
 #[cfg(test)]
 mod sinks;
