@@ -12,6 +12,7 @@
 //! - [`parts`]: the description by which a struct or an enum of yours is read and written;
 //!   [`round_trip`]: the law that it is read back
 //! - [`bytes`], [`tags`]: byte strings and tags as types
+//! - [`cbor!`](crate::cbor): a value as a literal; [`diagnostic`]: a value as a person reads it
 //! - [`error`]; [`read`] and [`write`]: sources and sinks; [`model`]: definitions and laws
 //!
 //! In the repository `docs/FORMAT.md` has the format in rules, `docs/OWN_TYPES.md` a type of your
@@ -40,6 +41,7 @@ pub use cbor_de::{
     Deserializer, Formats, StreamDeserializer, from_mut_slice, from_reader, from_slice,
     from_slice_with_scratch,
 };
+pub use cbor_diagnostic as diagnostic;
 pub use cbor_io::error::{Error, Result};
 pub use cbor_io::{error, write};
 pub use cbor_model as model;

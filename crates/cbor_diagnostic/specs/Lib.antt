@@ -1,0 +1,5 @@
+pub mod Prints
+pub mod Layout
+pub mod Texts
+pub mod Numerals
+pub mod Notation
