@@ -67,14 +67,14 @@ array_printed {took = took} {w = w} {a = a} indent inside vs is_empty within emp
   wrote = both (one_call took w (codes "[") a opened) (both items.wrote closed);
 }
 
-pub map_printed : {W : Type 0} {took : W → List ℕ → W → Type 0} {w a b c : W} (indent : Option ℕ) (inside : Option ℕ) (ps : Pairs) (is_empty : Bool) → inside ≡ inner indent → is_empty ≡ (pair_count ps == 0)
-    → took w (codes "{") a → Prints took (ArePairs inside true ps) a b → WritesInCalls took b (closing indent is_empty ++ codes "}") c
+pub map_printed : {W : Type 0} {took : W → List ℕ → W → Type 0} {w a b c : W} (indent : Option ℕ) (inside : Option ℕ) (ps qs : Pairs) (is_empty : Bool) → qs ≡ ps → inside ≡ inner indent
+    → is_empty ≡ (pair_count ps == 0) → took w (codes "{") a → Prints took (ArePairs inside true qs) a b → WritesInCalls took b (closing indent is_empty ++ codes "}") c
     → Prints took (IsNotation indent (map ps)) w c
-map_printed {took = took} {w = w} {a = a} indent inside ps is_empty within empty opened pairs closed = record {
+map_printed {took = took} {w = w} {a = a} indent inside ps qs is_empty listed within empty opened pairs closed = record {
   text = codes "{" ++ (pairs.text ++ (closing indent is_empty ++ codes "}"));
   is = (
     pairs.text,
-    subst (λ (i : Option ℕ). ArePairs i true ps pairs.text) within pairs.is,
+    subst (λ (i : Option ℕ). ArePairs i true ps pairs.text) within (subst (λ (rs : Pairs). ArePairs inside true rs pairs.text) listed pairs.is),
     ap (λ (b : Bool). codes "{" ++ (pairs.text ++ (closing indent b ++ codes "}"))) empty,
   );
   wrote = both (one_call took w (codes "{") a opened) (both pairs.wrote closed);

@@ -1,14 +1,11 @@
 -- What makes a text the answer to a line, and answers that follow others.
 use Rattle.std.proofs.Common.{◌≡◌, ◌⊎◌, ℕ, List, [], ◌∷◌, ◌++◌, Option, None, Ok, Err, inl, inr}
-use Rattle.std.proofs.Common.{refl, sym, ap, subst, ◌∙◌, arith, append_assoc}
+use Rattle.std.proofs.Common.{refl, sym, ap, ◌∙◌, arith, append_assoc}
 use Rattle.std.specs.Prelude.{codes}
 use Rattle.std.specs.Io.KnownBytes.{Appends, Keeps}
 use Rattle.std.proofs.KnownBytes.{Appends-nil, Appends-trans, Appends-kept}
 use Rattle.hex.specs.Hex.{decode_of}
 use Rattle.hex.specs.declared.error.FromHexError.{FromHexError}
-use Rattle.cbor_model.specs.Raw.{Raw}
-use Rattle.cbor_model.specs.Acceptable.{IsAcceptable}
-use Rattle.cbor_model.specs.Spelling.{spell}
 use Rattle.cbor_model.specs.Plain.{Val}
 use Rattle.cbor_model.specs.Canonical.{canon, IsStorable}
 use Rattle.cbor_model.specs.Refusal.{Refusal, words, at_offset, end_in_value, end_in_array, end_in_map, length_out_of_range, invalid_utf8, unassigned_code, unexpected_code, trailing_data, too_deep, scratch_too_small, wrong_struct_format}
@@ -16,8 +13,7 @@ use Rattle.cbor_model.specs.Allowed.{limits_of}
 use Rattle.cbor_model.specs.Value.{value}
 use Rattle.cbor_model.specs.Laws.{SpellsValue}
 use Rattle.cbor_tool.specs.Answer.{hex, Answered, IsAnswered, IsAnsweredStrictly, IsAnswer, AreAnswers, strict_words}
-use Rattle.cbor_tool.specs.Answer.{IsRefusalText, IsDiagnosed}
-use Rattle.cbor_tool.specs.Answer.{canonical, refused, unchanged, not_spelled, shown, not_read, hexadecimal, not_hexadecimal}
+use Rattle.cbor_tool.specs.Answer.{canonical, refused, unchanged, not_spelled, hexadecimal, not_hexadecimal}
 use Rattle.cbor_model.specs.Document.{document_of, IsStorableDocument}
 use Rattle.cbor_model.proofs.facts.Laws.{value_is_storable}
 use Rattle.cbor_model.proofs.facts.Documents.{storable_document}
@@ -26,14 +22,13 @@ use Rattle.serde_cbor.specs.declared.error.ErrorCode.TheVariants.{Message, Io, S
 use Rattle.serde_cbor.specs.declared.error.Error.{Error}
 use Rattle.serde_cbor.specs.Error.{code_of, offset_of, code_text, error_text, IsOutOfMemory}
 use Rattle.serde_cbor.specs.FirstRefusal.{refusal_code, TellsFirst}
-use Rattle.cbor_diagnostic.specs.Notation.{IsNotation}
 use Rattle.serde_cbor.specs.Strict.{SpellsCanonically}
 use Rattle.serde_cbor.specs.StrictRefusals.{StrictRefusal, ordinary, not_canonical}
 use Rattle.serde_cbor.specs.StrictAnswers.{strict_code, TellsFirstStrictly}
 use Rattle.serde_cbor.specs.Written.{IsRefusedBy, IsNotWritten}
 use Rattle.cbor_tool.specs.Run.{AppendsAnswers}
 use Rattle.cbor_tool.specs.declared.program.Mode.{Mode}
-use Rattle.cbor_tool.specs.declared.program.Mode.TheVariants.{Lenient, Strict, Diagnose, DiagnosePretty}
+use Rattle.cbor_tool.specs.declared.program.Mode.TheVariants.{Lenient, Strict}
 use Rattle.cbor_tool.specs.RunSteps.{answered_in, SpellsIn, TellsIn}
 use Rattle.cbor_tool.proofs.Hexadecimal.{IsHexOf-decoded, decode_of-hex}
 
@@ -59,35 +54,13 @@ strict_words_of (ordinary why) = words_of why
 strict_words_of not_canonical = refl
 
 -- what was read is answered with its canonical spelling
-pub answered_leniently : (bytes text : List ℕ) (v : Val) → SpellsValue bytes v → text ≡ hex (canon v) → IsAnswered bytes text
-answered_leniently bytes text v spells is =
+pub answered_read : (mode : Mode) (bytes text : List ℕ) (v : Val) → SpellsIn mode bytes v
+    → text ≡ hex (canon v) → answered_in mode bytes text
+answered_read Lenient bytes text v spells is =
     canonical spells.item spells.acceptable spells.spelled (is ∙ ap (λ w. hex (canon w)) spells.valued)
-
-pub answered_strictly : (bytes text : List ℕ) (v : Val) → SpellsCanonically bytes v → text ≡ hex (canon v) → IsAnsweredStrictly bytes text
-answered_strictly bytes text v spells is = unchanged v spells (is ∙ ap hex spells.spelled)
-
--- or with its notation
-pub diagnosed : (indent : Option ℕ) (bytes text : List ℕ) (v : Val) → SpellsValue bytes v → IsNotation indent v text → IsDiagnosed indent bytes text
-diagnosed indent bytes text v spells is =
-    shown spells.item spells.acceptable spells.spelled (subst (λ (w : Val). IsNotation indent w text) spells.valued is)
+answered_read Strict bytes text v spells is = unchanged v spells (is ∙ ap hex spells.spelled)
 
 -- and what wasn't, with the refusal
-refusal_text : (bytes : List ℕ) (e : Error) → TellsFirst (limits_of None) bytes e → IsRefusalText bytes (error_text e)
-refusal_text bytes e tells =
-    let place : offset_of e ≡ tells.offset = omega (arith, tells.at) in
-    record {
-      why = tells.why;
-      offset = tells.offset;
-      first = tells.first;
-      is = ap (λ c. code_text c ++ at_offset (offset_of e)) tells.code
-          ∙ ap (λ t. t ++ at_offset (offset_of e)) (words_of tells.why)
-          ∙ ap (λ n. words tells.why ++ at_offset n) place;
-    }
-
-none_spelled : (bytes : List ℕ) (e : Error) → ((v : Val) → SpellsValue bytes v → IsOutOfMemory e) → (code_of e ≡ OutOfMemory → ⊥)
-    → (r : Raw) → IsAcceptable r → spell r ≡ bytes → ⊥
-none_spelled bytes e accepted ne r good spelled = ne (accepted (value r) (record { item = r; acceptable = good; spelled = spelled; valued = refl })).0
-
 pub answered_refused : (mode : Mode) (bytes text : List ℕ) (e : Error)
     → IsOutOfMemory e ⊎ TellsIn mode bytes e
     → ((v : Val) → SpellsIn mode bytes v → IsOutOfMemory e)
@@ -95,7 +68,24 @@ pub answered_refused : (mode : Mode) (bytes text : List ℕ) (e : Error)
     → answered_in mode bytes text
 answered_refused mode bytes text e (inl memory) accepted ne is = absurd (ne memory.0)
 answered_refused Lenient bytes text e (inr tells) accepted ne is =
-    refused (error_text e) (none_spelled bytes e accepted ne) (refusal_text bytes e tells) is
+    let place : offset_of e ≡ tells.offset = omega (arith, tells.at) in
+    refused (error_text e)
+    (λ r good spelled. ne
+    (accepted (value r) (record {
+      item = r;
+      acceptable = good;
+      spelled = spelled;
+      valued = refl;
+    })).0)
+    (record {
+      why = tells.why;
+      offset = tells.offset;
+      first = tells.first;
+      is = ap (λ c. code_text c ++ at_offset (offset_of e)) tells.code
+          ∙ ap (λ t. t ++ at_offset (offset_of e)) (words_of tells.why)
+          ∙ ap (λ n. words tells.why ++ at_offset n) place;
+    })
+    is
 answered_refused Strict bytes text e (inr tells) accepted ne is =
     not_spelled (error_text e) (λ v spelt. ne (accepted v spelt).0)
     (record {
@@ -106,10 +96,6 @@ answered_refused Strict bytes text e (inr tells) accepted ne is =
           ∙ ap (λ t. t ++ at_offset (offset_of e)) (strict_words_of tells.why);
     })
     is
-answered_refused Diagnose bytes text e (inr tells) accepted ne is =
-    not_read (error_text e) (none_spelled bytes e accepted ne) (refusal_text bytes e tells) is
-answered_refused DiagnosePretty bytes text e (inr tells) accepted ne is =
-    not_read (error_text e) (none_spelled bytes e accepted ne) (refusal_text bytes e tells) is
 
 -- lack of memory is told at no offset
 no_refusal : (why : Refusal) → refusal_code why ≡ OutOfMemory → ⊥
@@ -132,8 +118,8 @@ no_strict_refusal not_canonical is = cc
 pub memory_told : (mode : Mode) (bytes : List ℕ) (e : Error) → IsOutOfMemory e ⊎ TellsIn mode bytes e
     → code_of e ≡ OutOfMemory → IsOutOfMemory e
 memory_told mode bytes e (inl memory) is = memory
+memory_told Lenient bytes e (inr tells) is = absurd (no_refusal tells.why (sym tells.code ∙ is))
 memory_told Strict bytes e (inr tells) is = absurd (no_strict_refusal tells.why (sym tells.code ∙ is))
-memory_told _ bytes e (inr tells) is = absurd (no_refusal tells.why (sym tells.code ∙ is))
 
 pub IsAnswer-decoded : (A : Answered) (line bytes text : List ℕ) → decode_of line ≡ Ok bytes
     → A bytes text → IsAnswer A line text
@@ -146,19 +132,19 @@ IsAnswer-not_hexadecimal A line text e failed is =
 
 -- ---- a value that was read is written, unless memory runs out
 
--- what is read in any mode is storable
-pub storable_in : (mode : Mode) (bytes : List ℕ) (v : Val) → SpellsIn mode bytes v → IsStorable v
+-- what is read in either mode is storable
+storable_in : (mode : Mode) (bytes : List ℕ) (v : Val) → SpellsIn mode bytes v → IsStorable v
+storable_in Lenient bytes v spells = rw spells.valued (value_is_storable spells.item spells.acceptable.fits)
 storable_in Strict bytes v spells = spells.stored
-storable_in _ bytes v spells = rw spells.valued (value_is_storable spells.item spells.acceptable.fits)
 
 code_of_refusal : (code : ErrorCode) (storable : Type 0) → storable → IsRefusedBy code storable → code ≡ OutOfMemory
 code_of_refusal OutOfMemory storable fits h = refl
 code_of_refusal (Message text) storable fits h = absurd (h.1 fits)
 code_of_refusal _ storable fits h = absurd h
 
-pub IsOutOfMemory-not_written : (v : Val) (e : Error) → IsStorable v → IsNotWritten (IsStorableDocument (document_of v)) e → IsOutOfMemory e
-IsOutOfMemory-not_written v e stored h =
-    (code_of_refusal (code_of e) (IsStorableDocument (document_of v)) (storable_document v stored) h.0, h.1)
+pub IsOutOfMemory-not_written : (mode : Mode) (bytes : List ℕ) (v : Val) (e : Error) → SpellsIn mode bytes v → IsNotWritten (IsStorableDocument (document_of v)) e → IsOutOfMemory e
+IsOutOfMemory-not_written mode bytes v e spells h =
+    (code_of_refusal (code_of e) (IsStorableDocument (document_of v)) (storable_document v (storable_in mode bytes v spells)) h.0, h.1)
 
 -- ---- answers that follow others
 

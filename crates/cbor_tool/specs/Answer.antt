@@ -1,6 +1,6 @@
 -- What the program answers to the lines that it reads.
 use Rattle.std.specs.Prelude.{◌≡◌, ℕ, ◌+◌, ◌/◌, ◌%◌, List, [], ◌∷◌, ◌++◌, map, flat_map, codes}
-use Rattle.std.specs.Prelude.{Option, None, nat_lt, ◌==◌, if◌then◌else◌, refl}
+use Rattle.std.specs.Prelude.{None, nat_lt, ◌==◌, if◌then◌else◌, refl}
 use Rattle.std.specs.Char.{to_ascii_lowercase}
 use Rattle.cbor_model.specs.Raw.{Raw, AreBytes}
 use Rattle.cbor_model.specs.Spelling.{spell}
@@ -13,7 +13,6 @@ use Rattle.cbor_model.specs.Allowed.{limits_of, IsFirstRefusal}
 use Rattle.serde_cbor.specs.Strict.{SpellsCanonically}
 use Rattle.serde_cbor.specs.StrictRefusals.{StrictRefusal, ordinary, not_canonical}
 use Rattle.serde_cbor.specs.StrictRefusals.{IsFirstStrictRefusal}
-use Rattle.cbor_diagnostic.specs.Notation.{IsNotation}
 
 -- ---- lines
 
@@ -78,16 +77,6 @@ pub data IsAnsweredStrictly (bytes answer : List ℕ) : Type 0 where
   not_spelled : (text : List ℕ) → ((v : Val) → SpellsCanonically bytes v → ⊥)
       → IsStrictRefusalText bytes text → answer ≡ codes "error: " ++ text
       → IsAnsweredStrictly bytes answer
-
--- ---- what they are answered in diagnostic notation
-
--- A notation of the value that the bytes spell, or why there is none.
-pub data IsDiagnosed (indent : Option ℕ) (bytes answer : List ℕ) : Type 0 where
-  shown : (r : Raw) → IsAcceptable r → spell r ≡ bytes → IsNotation indent (value r) answer
-      → IsDiagnosed indent bytes answer
-  not_read : (text : List ℕ) → ((r : Raw) → IsAcceptable r → spell r ≡ bytes → ⊥)
-      → IsRefusalText bytes text → answer ≡ codes "error: " ++ text
-      → IsDiagnosed indent bytes answer
 
 -- ---- answers to lines
 

@@ -2,7 +2,7 @@
 use Rattle.std.specs.Prelude.{◌≡◌, ◌≢◌, ℕ, ◌+◌, ◌<◌, List, [], ◌∷◌, ◌++◌, length, All, Option, Some}
 use Rattle.std.specs.Prelude.{None, codes}
 use Rattle.std.specs.Io.KnownBytes.{Consumes, Keeps, IsAtEnd}
-use Rattle.cbor_tool.specs.Answer.{Answered, IsAnswered, IsAnsweredStrictly, IsDiagnosed}
+use Rattle.cbor_tool.specs.Answer.{Answered, IsAnswered, IsAnsweredStrictly}
 use Rattle.serde_cbor.specs.declared.error.ErrorCode.{ErrorCode}
 use Rattle.serde_cbor.specs.declared.error.ErrorCode.TheVariants.{Io, OutOfMemory, LengthOutOfRange}
 use Rattle.serde_cbor.specs.declared.error.Error.{Error}
@@ -11,12 +11,10 @@ use Rattle.cbor_model.specs.Plain.{Val}
 use Rattle.cbor_model.specs.Allowed.{limits_of}
 use Rattle.cbor_model.specs.Laws.{SpellsValue}
 use Rattle.serde_cbor.specs.FirstRefusal.{TellsFirst}
-use Rattle.cbor_diagnostic.specs.Notation.{pretty}
 use Rattle.serde_cbor.specs.Strict.{SpellsCanonically}
 use Rattle.serde_cbor.specs.StrictAnswers.{TellsFirstStrictly}
 use Rattle.cbor_tool.specs.declared.program.Mode.{Mode}
-use Rattle.cbor_tool.specs.declared.program.Mode.TheVariants.{Lenient, Strict, Diagnose}
-use Rattle.cbor_tool.specs.declared.program.Mode.TheVariants.{DiagnosePretty}
+use Rattle.cbor_tool.specs.declared.program.Mode.TheVariants.{Lenient, Strict}
 use Rattle.cbor_tool.specs.declared.program.End.{End}
 use Rattle.cbor_tool.specs.declared.program.End.TheVariants.{Newline, Input}
 use Rattle.cbor_tool.specs.Run.{AppendsUpTo, max_offset}
@@ -88,18 +86,16 @@ StopsAtByte e = StopsAtByteBy (code_of e) (offset_of e)
 abbrev pub answered_in : Mode → Answered
 answered_in Lenient = IsAnswered
 answered_in Strict = IsAnsweredStrictly
-answered_in Diagnose = IsDiagnosed None
-answered_in DiagnosePretty = IsDiagnosed pretty
 
 -- the bytes spell the value, as it is read in each mode
 abbrev pub SpellsIn : Mode → List ℕ → Val → Type 0
+SpellsIn Lenient = SpellsValue
 SpellsIn Strict = SpellsCanonically
-SpellsIn _ = SpellsValue
 
 -- the error tells the first refusal that the bytes allow
 abbrev pub TellsIn : Mode → List ℕ → Error → Type 0
+TellsIn Lenient = TellsFirst (limits_of None)
 TellsIn Strict = TellsFirstStrictly
-TellsIn _ = TellsFirst (limits_of None)
 
 abbrev pub StopsAnsweringBy : Answered → ErrorCode → ℕ → List ℕ → (writer writer' : Option (List ℕ))
     → Type 0
@@ -115,14 +111,8 @@ StopsAnswering answered e = StopsAnsweringBy answered (code_of e) (offset_of e)
 
 -- ---- the words after the program's name
 
--- the words of each mode
-abbrev pub words_of : Mode → List (List ℕ)
-words_of Lenient = []
-words_of Strict = codes "strict" ∷ []
-words_of Diagnose = codes "diagnose" ∷ []
-words_of DiagnosePretty = codes "diagnose" ∷ codes "--pretty" ∷ []
-
--- the mode whose words they are, or none where they are those of no mode
+-- none is lenient, the one word `strict` is strict, and any others are neither
 abbrev pub Chooses : List (List ℕ) → Option Mode → Type 0
-Chooses words (Some mode) = words ≡ words_of mode
-Chooses words None = (mode : Mode) → words ≢ words_of mode
+Chooses words (Some Lenient) = words ≡ []
+Chooses words (Some Strict) = words ≡ codes "strict" ∷ []
+Chooses words None = (words ≢ []) × (words ≢ codes "strict" ∷ [])

@@ -1,6 +1,5 @@
 //! Reads lines of CBOR in hexadecimal, and answers each with its canonical spelling. With the one
-//! word `strict` after its name it reads canonical spellings alone, and with `diagnose` or
-//! `diagnose --pretty` it answers in diagnostic notation.
+//! word `strict` after its name it reads canonical spellings alone.
 //!
 //! It names `serde_cbor`, the definitions of `cbor_model`, and the kit's `hex`.
 #![tactic(auto)]
@@ -11,7 +10,7 @@ mod program;
 mod tests;
 mod words;
 
-use crate::program::{Mode, run, run_diagnose, run_diagnose_pretty, run_strict};
+use crate::program::{Mode, run, run_strict};
 use serde_cbor::Result;
 use std::alloc::AllocError;
 use std::env;
@@ -23,7 +22,7 @@ fn main(rt: HostRuntime) -> ExitCode {
         Ok(true) => ExitCode::SUCCESS,
         Ok(false) => {
             // Nothing is left to do where standard error fails.
-            let _ = eprintln!(rt; "usage: cbor_tool [strict | diagnose [--pretty]]");
+            let _ = eprintln!(rt; "usage: cbor_tool [strict]");
             ExitCode::from(2)
         }
         Err(error) => {
@@ -50,12 +49,9 @@ fn answer_input(rt: &HostRuntime) -> Result<bool> {
         return Ok(false);
     };
     let mut reader = BufReader::new(rt.alloc(), rt.stdin()).map_err(|_| AllocError)?;
-    let (alloc, writer) = (rt.alloc(), &mut rt.stdout());
     match mode {
-        Mode::Lenient => run(alloc, &mut reader, writer)?,
-        Mode::Strict => run_strict(alloc, &mut reader, writer)?,
-        Mode::Diagnose => run_diagnose(alloc, &mut reader, writer)?,
-        Mode::DiagnosePretty => run_diagnose_pretty(alloc, &mut reader, writer)?,
+        Mode::Lenient => run(rt.alloc(), &mut reader, &mut rt.stdout())?,
+        Mode::Strict => run_strict(rt.alloc(), &mut reader, &mut rt.stdout())?,
     }
     Ok(true)
 }

@@ -1,13 +1,10 @@
 //! Lines of hexadecimal in, lines of answers out.
 
 ghost use Rattle.std.specs.Prelude.{◌≡◌, ◌⊎◌, ◌+◌, ◌<◌, ◌≤◌, ◌∷◌, [], length};
-ghost use Rattle.std.specs.Prelude.{ℕ, List, None, IfOk, IfErr, IfSome, OnOk};
+ghost use Rattle.std.specs.Prelude.{IfOk, IfErr, IfSome, OnOk};
 ghost use Rattle.std.specs.Io.KnownBytes.{WriteAppends, IsAtEnd};
 ghost use Rattle.cbor_model.specs.Plain.{Val};
-ghost use Rattle.cbor_model.specs.Canonical.{canon, IsStorable};
 ghost use Rattle.cbor_tool.specs.Answer.{lines, hex, IsAnswer, IsAnswered, IsAnsweredStrictly};
-ghost use Rattle.cbor_tool.specs.Answer.{IsDiagnosed};
-ghost use Rattle.cbor_diagnostic.specs.Notation.{pretty};
 ghost use Rattle.serde_cbor.specs.Error.{IsOutOfMemory};
 ghost use Rattle.serde_cbor.specs.View.{view};
 ghost use Rattle.serde_cbor.specs.Write.{Wrote};
@@ -15,7 +12,6 @@ ghost use Rattle.cbor_tool.specs.Run.{AppendsAnswers, IsStopped};
 ghost use Rattle.cbor_tool.specs.RunSteps.{IsNext, IsNextLine, StopsReading, StopsAtByte};
 ghost use Rattle.cbor_tool.specs.RunSteps.{answered_in, SpellsIn, StopsAnswering, TellsIn};
 
-use cbor_diagnostic::{to_diagnostic, to_diagnostic_pretty};
 use hex::FromHexError;
 use serde_cbor::error::{Error, ErrorCode};
 use serde_cbor::{Result, Value, from_slice, from_slice_canonical, to_vec};
@@ -30,17 +26,13 @@ enum End {
     Input,
 }
 
-/// Which bytes are read, and what they are answered.
+/// Which bytes are read.
 #[derive(Clone, Copy)]
 pub enum Mode {
     /// Those of any acceptable item, which is answered with its canonical spelling.
     Lenient,
     /// Canonical spellings alone.
     Strict,
-    /// Those of any acceptable item, which is answered in diagnostic notation.
-    Diagnose,
-    /// The same, with each item of an array and each pair of a map on a line of its own.
-    DiagnosePretty,
 }
 
 /// Answers each line that the reader gives by one line to the writer.
@@ -81,42 +73,6 @@ pub fn run_strict<R: io::Read, W: io::Write>(
         (W.contents writer.old) (W.contents writer.new)) }
 {
     answer_lines(Mode::Strict, alloc, reader, writer)
-}
-
-/// Answers each line as [`run`] does, but with the value's diagnostic notation in place of its
-/// canonical spelling.
-pub fn run_diagnose<R: io::Read, W: io::Write>(
-    alloc: Global,
-    reader: &mut R,
-    writer: &mut W,
-) -> Result<()>
-    ensures answers { OnOk result (IfSome (R.remaining reader.old) (λ input.
-        AppendsAnswers (IsDiagnosed None) (lines input)
-        (W.contents writer.old) (W.contents writer.new))) }
-    ensures end { OnOk result (IsAtEnd (R.remaining reader.new)) }
-    ensures stopped { IfErr result (λ e. IsStopped (IsDiagnosed None) e
-        (R.remaining reader.old) (R.remaining reader.new)
-        (W.contents writer.old) (W.contents writer.new)) }
-{
-    answer_lines(Mode::Diagnose, alloc, reader, writer)
-}
-
-/// Answers each line as [`run_diagnose`] does, with each item of an array and each pair of a map on
-/// a line of its own.
-pub fn run_diagnose_pretty<R: io::Read, W: io::Write>(
-    alloc: Global,
-    reader: &mut R,
-    writer: &mut W,
-) -> Result<()>
-    ensures answers { OnOk result (IfSome (R.remaining reader.old) (λ input.
-        AppendsAnswers (IsDiagnosed pretty) (lines input)
-        (W.contents writer.old) (W.contents writer.new))) }
-    ensures end { OnOk result (IsAtEnd (R.remaining reader.new)) }
-    ensures stopped { IfErr result (λ e. IsStopped (IsDiagnosed pretty) e
-        (R.remaining reader.old) (R.remaining reader.new)
-        (W.contents writer.old) (W.contents writer.new)) }
-{
-    answer_lines(Mode::DiagnosePretty, alloc, reader, writer)
 }
 
 // Answers each line in this mode.
@@ -254,7 +210,10 @@ fn answer_bytes(mode: Mode, alloc: Global, bytes: &[u8], text: &mut Vec<u8>) -> 
     ensures err { IfErr result IsOutOfMemory }
 {
     match read(mode, alloc, bytes) {
-        Ok(value) => answer_value(mode, alloc, &value, text),
+        Ok(value) => {
+            let spelling = to_vec(alloc, &value)?;
+            replace_by_hex(text, &spelling)
+        }
         Err(error) => {
             if error.is_memory() {
                 return Err(error);
@@ -265,34 +224,6 @@ fn answer_bytes(mode: Mode, alloc: Global, bytes: &[u8], text: &mut Vec<u8>) -> 
     }
 }
 
-// Makes `text` the answer to bytes that encode the value.
-fn answer_value(mode: Mode, alloc: Global, value: &Value, text: &mut Vec<u8>) -> Result<()>
-    ensures ok { (bytes : List ℕ) → SpellsIn mode bytes (view value.now)
-        → OnOk result (answered_in mode bytes text.new.items) }
-    ensures err { (bytes : List ℕ) → SpellsIn mode bytes (view value.now)
-        → IfErr result IsOutOfMemory }
-{
-    match mode {
-        Mode::Lenient | Mode::Strict => replace_by_spelling(alloc, value, text),
-        Mode::Diagnose => {
-            let notation = to_diagnostic(alloc, value)?;
-            replace(text, notation.as_bytes())
-        }
-        Mode::DiagnosePretty => {
-            let notation = to_diagnostic_pretty(alloc, value)?;
-            replace(text, notation.as_bytes())
-        }
-    }
-}
-
-fn replace_by_spelling(alloc: Global, value: &Value, text: &mut Vec<u8>) -> Result<()>
-    ensures ok { OnOk result (text.new.items ≡ hex (canon (view value.now))) }
-    ensures err { IsStorable (view value.now) → IfErr result IsOutOfMemory }
-{
-    let spelling = to_vec(alloc, value)?;
-    replace_by_hex(text, &spelling)
-}
-
 // Reads the bytes in this mode.
 fn read(mode: Mode, alloc: Global, bytes: &[u8]) -> Result<Value>
     ensures found { IfOk result (λ v. SpellsIn mode bytes.now (view v)) }
@@ -300,8 +231,8 @@ fn read(mode: Mode, alloc: Global, bytes: &[u8]) -> Result<Value>
     ensures refused { IfErr result (λ e. IsOutOfMemory e ⊎ TellsIn mode bytes.now e) }
 {
     match mode {
+        Mode::Lenient => from_slice::<Value>(alloc, bytes),
         Mode::Strict => from_slice_canonical(alloc, bytes),
-        Mode::Lenient | Mode::Diagnose | Mode::DiagnosePretty => from_slice::<Value>(alloc, bytes),
     }
 }
 

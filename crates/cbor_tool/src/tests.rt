@@ -1,4 +1,4 @@
-use crate::program::{Mode, run, run_diagnose, run_diagnose_pretty, run_strict};
+use crate::program::{Mode, run, run_strict};
 use crate::words;
 use serde_cbor::Result;
 use std::alloc::{AllocError, Global};
@@ -296,30 +296,6 @@ fn answers_each_line_strictly(rt: HostRuntime) -> Result<()> {
     Ok(())
 }
 
-// The notations are those of RFC 8949, Appendix A.
-#[test]
-fn answers_in_diagnostic_notation(rt: HostRuntime) -> Result<()> {
-    let alloc = rt.alloc();
-    let input = b"F93e00\na26161016162820203\n\n8\n62c328";
-    let output = b"1.5\n{\"a\": 1, \"b\": [2, 3]}\nerror: EOF while parsing a value\n\
-        error: not hexadecimal\nerror: invalid UTF-8 at offset 1\n";
-    let mut reader = input.as_slice();
-    let mut writer = Vec::with_capacity(alloc, ROOM)?;
-    run_diagnose(alloc, &mut reader, &mut writer)?;
-    assert!(rt; writer.as_slice() == output.as_slice());
-    Ok(())
-}
-
-#[test]
-fn answers_in_notation_over_lines(rt: HostRuntime) -> Result<()> {
-    let alloc = rt.alloc();
-    let mut reader = b"820103\n80".as_slice();
-    let mut writer = Vec::with_capacity(alloc, ROOM)?;
-    run_diagnose_pretty(alloc, &mut reader, &mut writer)?;
-    assert!(rt; writer.as_slice() == b"[\n  1,\n  3\n]\n[]\n".as_slice());
-    Ok(())
-}
-
 #[test]
 fn chooses_the_mode_by_words(rt: HostRuntime) -> Result<()> {
     let alloc = rt.alloc();
@@ -331,13 +307,6 @@ fn chooses_the_mode_by_words(rt: HostRuntime) -> Result<()> {
     assert!(rt; words::mode(&words).is_none());
     words.clear();
     words.push("Strict".to_owned(alloc)?)?;
-    assert!(rt; words::mode(&words).is_none());
-    words.clear();
-    words.push("diagnose".to_owned(alloc)?)?;
-    assert!(rt; matches!(words::mode(&words), Some(Mode::Diagnose)));
-    words.push("--pretty".to_owned(alloc)?)?;
-    assert!(rt; matches!(words::mode(&words), Some(Mode::DiagnosePretty)));
-    words.push("--pretty".to_owned(alloc)?)?;
     assert!(rt; words::mode(&words).is_none());
     Ok(())
 }

@@ -68,9 +68,8 @@ pub write_map-returns : goal.write_map-returns
 write_map-returns g t c =
     let ps = map_view c.args.map.now in
     let listed : pair_views c.as_slice.result.now ≡ ps = search rules in
-    let written = subst (λ (qs : Pairs). Prints g.W.Write.write_str_gives (ArePairs c.in_ok-inside.inside true qs) _ _) listed c.in_ok-write_pairs.ensures in
     on_ok_weaker c.close.result
-    (λ h. map_printed c.args.indent c.in_ok-inside.inside ps c.is_empty.result c.in_ok-inside.ensures c.is_empty.ensures (c.in_ok-write_str.ensures.ok refl) written h)
+    (λ h. map_printed c.args.indent c.in_ok-inside.inside ps (pair_views c.as_slice.result.now) c.is_empty.result listed c.in_ok-inside.ensures c.is_empty.ensures (c.in_ok-write_str.ensures.ok refl) c.in_ok-write_pairs.ensures h)
     c.close.ensures
 
 -- ---- a value

@@ -1,4 +1,4 @@
-use Rattle.std.proofs.Common.{ℕ, List, string_bytes, refl, sym, ◌∙◌, subst}
+use Rattle.std.proofs.Common.{◌≡◌, ℕ, List, ◌++◌, string_bytes, sym, ◌∙◌, subst, rules}
 use Rattle.std.proofs.lemmas.Fmt.{contents_after_writes}
 use Rattle.cbor_value.specs.View.{view}
 use Rattle.cbor_diagnostic.specs.Notation.{IsNotation}
@@ -8,4 +8,5 @@ pub returns-in-Ok-clause-notation : goal.returns-in-Ok-clause-notation
 returns-in-Ok-clause-notation c =
     let printed = c.in-Ok.ensures in
     let whole = contents_after_writes _ string_bytes (λ _ _ _ t. t) _ _ _ printed.wrote in
-    subst (IsNotation c.args.indent (view c.args.value.now)) (sym (whole ∙ search rules)) printed.is
+    let empty : string_bytes c.new-text.result ++ printed.text ≡ printed.text = search rules in
+    subst (IsNotation c.args.indent (view c.args.value.now)) (sym (whole ∙ empty)) printed.is

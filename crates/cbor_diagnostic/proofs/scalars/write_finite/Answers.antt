@@ -1,4 +1,4 @@
-use Rattle.std.proofs.Common.{◌≡◌, ◌++◌, ◌∷◌, ⊥, arith}
+use Rattle.std.proofs.Common.{◌≡◌, ◌++◌, ◌∷◌, arith}
 use Rattle.std.proofs.lemmas.Result.{on_ok_weaker}
 use Rattle.std.proofs.lemmas.Str.Pattern.{contains_char, split_after}
 use Rattle.cbor_diagnostic.specs.Numerals.{IsNumeralOf}
@@ -22,8 +22,8 @@ unreachable-requires g c =
     let cut = unpointed c.args.x numeral.result.now _ _ numeral.ensures.layout numeral.ensures.parses missing in
     rw c.in-None.is at (split_after 101 numeral.result.now cut.0 cut.1 c.split_once.result c.split_once.ensures.cases (omega arith) cut.2.at cut.2.first)
 
-pub returns-in-Some : goal.returns-in-Some
-returns-in-Some g c =
+pub returns : goal.returns
+returns g c =
     let numeral = c.format_finite_with_plus-numeral in
     let found = contains_char 46 numeral.result.now c.contains.result c.contains.ensures.cases (omega arith) in
     let missing : Has 46 numeral.result.now → ⊥ = λ h. let there = found.1 h.0 h.1 h.2 in cc in
