@@ -99,7 +99,3 @@ pub use Rattle.cbor_round_trip.specs.ReadBack
 pub use Rattle.cbor_round_trip.specs.TypeLaws
 pub use Rattle.cbor_round_trip.specs.Keyed
 pub use Rattle.cbor_round_trip.specs.Lists
-pub use Rattle.cbor_diagnostic.specs.Layout
-pub use Rattle.cbor_diagnostic.specs.Texts
-pub use Rattle.cbor_diagnostic.specs.Numerals
-pub use Rattle.cbor_diagnostic.specs.Notation
