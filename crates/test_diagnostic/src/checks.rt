@@ -4,23 +4,24 @@
 use cbor_de::from_slice;
 use cbor_diagnostic::{Diagnostic, to_diagnostic, to_diagnostic_pretty};
 use cbor_value::Value;
-use std::alloc::Global;
+use hex::FromHexError;
+use std::alloc::{AllocError, Global};
 use std::process::Abort;
+use std::test::Fail;
 use test_checks::Done;
 
 /// The value that the hexadecimal encodes.
-fn value_of(
-    rt: &impl Abort,
-    alloc: Global,
-    encoding: &str,
-) -> Result<Value, cbor_io::error::Error> {
-    let bytes = hex::decode(alloc, encoding.as_bytes()).unwrap_or(Vec::new(alloc));
-    from_slice(alloc, &bytes)
+fn value_of(alloc: Global, encoding: &str) -> Result<Value, Fail> {
+    let bytes = hex::decode(alloc, encoding).map_err(|e| match e {
+        FromHexError::OutOfMemory => Fail::from(AllocError),
+        _ => Fail::from("not hexadecimal"),
+    })?;
+    Ok(from_slice(alloc, &bytes)?)
 }
 
 /// The item is shown so, on one line.
 pub fn is_shown(rt: &impl Abort, alloc: Global, encoding: &str, want: &str) -> Done {
-    let value = value_of(rt, alloc, encoding)?;
+    let value = value_of(alloc, encoding)?;
     assert_eq!(rt; to_diagnostic(alloc, &value)?.as_str(), want);
     assert_eq!(rt; format!(in alloc; "{}", Diagnostic(&value))?.as_str(), want);
     Ok(())
@@ -28,7 +29,7 @@ pub fn is_shown(rt: &impl Abort, alloc: Global, encoding: &str, want: &str) -> D
 
 /// The item is shown so, over lines.
 pub fn is_shown_pretty(rt: &impl Abort, alloc: Global, encoding: &str, want: &str) -> Done {
-    let value = value_of(rt, alloc, encoding)?;
+    let value = value_of(alloc, encoding)?;
     assert_eq!(rt; to_diagnostic_pretty(alloc, &value)?.as_str(), want);
     assert_eq!(rt;
         format!(in alloc; "{:#}", Diagnostic(&value))?.as_str(),
