@@ -1,5 +1,6 @@
 -- Items with their outermost tags (RFC 7049, section 2.4).
-use Rattle.std.specs.Prelude.{⊤, ◌≡◌, ◌<◌, ℕ, false, List, [], ◌∷◌, Option, Some, None}
+use Rattle.std.specs.Prelude.{⊤, ◌≡◌, ◌<◌, ℕ, false, List, [], ◌∷◌, ◌++◌, Option, Some, None, codes}
+use Rattle.std.specs.Fmt.{decimal}
 use Rattle.cbor_model.specs.Document.{Doc, tagged}
 use Rattle.cbor_model.specs.Raw as raw
 use Rattle.cbor_model.specs.Raw.{Raw}
@@ -16,6 +17,10 @@ tagged_document None d = d
 abbrev pub IsTagged : {A : Type 0} → (Raw → A → Type 0) → Raw → Option ℕ → A → Type 0
 IsTagged reads (raw.tag w n r) tag x = (tag ≡ Some n) × reads r x
 IsTagged reads r tag x = (tag ≡ None) × reads r x
+
+-- the words for an item that isn't within this tag
+abbrev pub tag_expected : ℕ → List ℕ
+tag_expected n = codes "invalid type: expected tag " ++ decimal n
 
 -- of two readings of which one reads what the other does, so is the second within tags
 pub same_tagged : {A : Type 0} (one two : Raw → A → Type 0)

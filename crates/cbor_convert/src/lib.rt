@@ -3,7 +3,8 @@
 //!
 //! [`to_value`] and [`from_value`] go from a type to a `Value` and back, [`to_vec_canonical`]
 //! writes the one spelling that stands for a value of any type, and the builders put a `Value`
-//! together part by part. [`Tagged`] keeps the outermost tag of an item (RFC 7049, section 2.4).
+//! together part by part. [`Tagged`] keeps the outermost tag of an item (RFC 7049, section 2.4), and
+//! [`Required`] asks for one.
 #![tactic(auto)]
 
 mod canonical;
@@ -13,6 +14,7 @@ mod map;
 mod outermost;
 mod pairs;
 mod reading;
+mod required;
 mod tagged;
 mod values;
 mod variants;
@@ -22,6 +24,7 @@ pub use laws::{compare_as_bytes, same_value_same_bytes};
 pub use list::SerializeVec;
 pub use map::SerializeMap;
 pub use reading::from_value;
+pub use required::Required;
 pub use tagged::Tagged;
 pub use values::{ToValue, to_value};
 pub use variants::{SerializeStructVariant, SerializeTupleVariant};

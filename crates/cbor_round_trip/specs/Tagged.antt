@@ -1,5 +1,5 @@
 -- What is read back is so within a tag, and without one unless it has a tag of its own.
-use Rattle.std.proofs.Common.{◌≡◌, ℕ, Bool, true, false, pos, negsuc, Option, Some, None, refl, ap₂}
+use Rattle.std.proofs.Common.{◌≡◌, ℕ, Bool, true, false, pos, negsuc, Option, Some, None, refl, ap, ap₂}
 use Rattle.std.specs.Prelude.{◌↔◌}
 use Rattle.cbor_model.specs.Document.{Doc, null, bool, integer, float, bytes, text, sequence, mapping, structure, unit_variant, newtype_variant, tuple_variant, struct_variant, tagged, raw_of}
 use Rattle.cbor_model.specs.Formats.{all_formats}
@@ -69,4 +69,14 @@ module _ {A : Type 0} {document : A → Doc} {reads : Context → Raw → A → 
   tagged_back {tag = tag} {inner = inner} = record {
     itself = λ t fit l p g. tagged_itself (tag t) (inner t) fit.0 fit.1 l p g;
     alone = λ t u fit l p g h. tagged_alone (tag t) (tag u) (inner t) (inner u) fit.0 fit.1 l p g h;
+  }
+
+  -- within the one tag that has to be there
+  pub required_back : {T : Type 0} {n : ℕ} {inner : T → A}
+      → IsReadBack (λ t. tagged n (document (inner t)))
+      (λ c r t. IsTagged (reads c) r (Some n) (inner t)) (λ t. fits (inner t))
+  unfolding raw_of
+  required_back {n = n} {inner = inner} = record {
+    itself = λ t fit l p g. (refl, law.itself (inner t) fit l p g);
+    alone = λ t u fit l p g h. ap (tagged n) (law.alone (inner t) (inner u) fit l p g h.1);
   }

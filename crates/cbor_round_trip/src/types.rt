@@ -1,7 +1,7 @@
 //! The types of the standard library but its tuples, byte strings, floats and values.
 
 use crate::round_trip::{RoundTrip, RoundTripKey};
-use cbor_convert::Tagged;
+use cbor_convert::{Required, Tagged};
 use cbor_value::bytes::{ByteArray, ByteBuf};
 use cbor_value::{Float, Value};
 use std::collections::BTreeMap;
@@ -272,6 +272,16 @@ impl<T: RoundTrip> RoundTrip for Tagged<T> {
         (tagged_back T.law.back {tag = λ t. t.tag} {inner = λ t. t.value}) };
 
     ghost back = { asking_more (λ t fit. fit.1) (tagged_back T.back) };
+}
+
+/// A value within a tag that it has to have.
+impl<const N: u64, T: RoundTrip> RoundTrip for Required<N, T> {
+    ghost use Rattle.cbor_round_trip.specs.Tagged.{required_back};
+    ghost use Rattle.cbor_round_trip.specs.TypeLaws.{law_of};
+
+    ghost law = { law_of (required_back T.law.back {n = N} {inner = λ x. x.0}) };
+
+    ghost back = { required_back T.back };
 }
 
 impl RoundTripKey for String {

@@ -1,11 +1,12 @@
-//! Values with the outermost tag of their item.
+//! Values with the outermost tag of their item, or within one that has to be there.
 
 use crate::desk::Desk;
 use crate::row::Row;
-use cbor_convert::Tagged;
+use cbor_convert::{Required, Tagged};
 use cbor_de::Deserializer;
 use cbor_read::Read;
 use cbor_value::Value;
+use cbor_value::bytes::ByteBuf;
 use std::collections::BTreeMap;
 use std::io;
 
@@ -28,6 +29,11 @@ pub fn judge<'r, R: Read<'r> + Drop>(
         "Tagged<i128>" => desk.reads::<Tagged<i128>, R>(row, de)?,
         "Tagged<Value>" => desk.reads::<Tagged<Value>, R>(row, de)?,
         "Tagged<Tagged<u8>>" => desk.reads::<Tagged<Tagged<u8>>, R>(row, de)?,
+        "Required<1, u32>" => desk.reads::<Required<1, u32>, R>(row, de)?,
+        "Required<24, ByteBuf>" => desk.reads::<Required<24, ByteBuf>, R>(row, de)?,
+        "Required<61, Required<18, Value>>" => {
+            desk.reads::<Required<61, Required<18, Value>>, R>(row, de)?;
+        }
         "Nest" => desk.reads::<Nest, R>(row, de)?,
         _ => return Ok(Some(de)),
     }
