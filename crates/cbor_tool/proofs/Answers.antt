@@ -1,7 +1,7 @@
 -- What makes a text the answer to a line, and answers that follow others.
-use Rattle.std.proofs.Common.{◌≡◌, ◌⊎◌, ℕ, List, [], ◌∷◌, ◌++◌, Option, None, Ok, Err, inl, inr}
+use Rattle.std.proofs.Common.{◌≡◌, ◌⊎◌, ℕ, List, [], ◌∷◌, ◌++◌, Option, None, Result, Ok, Err, inl, inr}
 use Rattle.std.proofs.Common.{refl, sym, ap, ◌∙◌, arith, append_assoc}
-use Rattle.std.specs.Prelude.{codes}
+use Rattle.std.specs.Prelude.{codes, IfErr}
 use Rattle.std.specs.Io.KnownBytes.{Appends, Keeps}
 use Rattle.std.proofs.KnownBytes.{Appends-nil, Appends-trans, Appends-kept}
 use Rattle.hex.specs.Hex.{decode_of}
@@ -12,8 +12,8 @@ use Rattle.cbor_model.specs.Refusal.{Refusal, words, at_offset, end_in_value, en
 use Rattle.cbor_model.specs.Allowed.{limits_of}
 use Rattle.cbor_model.specs.Value.{value}
 use Rattle.cbor_model.specs.Laws.{SpellsValue}
-use Rattle.cbor_tool.specs.Answer.{hex, Answered, IsAnswered, IsAnsweredStrictly, IsAnswer, AreAnswers, strict_words}
-use Rattle.cbor_tool.specs.Answer.{canonical, refused, unchanged, not_spelled, hexadecimal, not_hexadecimal}
+use Rattle.cbor_tool.specs.Answer.{hex, Answered, IsAnswer, AreAnswers, IsRefusalText, strict_words}
+use Rattle.cbor_tool.specs.Answer.{refused, hexadecimal, not_hexadecimal}
 use Rattle.cbor_model.specs.Document.{document_of, IsStorableDocument}
 use Rattle.cbor_model.proofs.facts.Laws.{value_is_storable}
 use Rattle.cbor_model.proofs.facts.Documents.{storable_document}
@@ -28,8 +28,9 @@ use Rattle.serde_cbor.specs.StrictAnswers.{strict_code, TellsFirstStrictly}
 use Rattle.serde_cbor.specs.Written.{IsRefusedBy, IsNotWritten}
 use Rattle.cbor_tool.specs.Run.{AppendsAnswers}
 use Rattle.cbor_tool.specs.declared.program.Mode.{Mode}
-use Rattle.cbor_tool.specs.declared.program.Mode.TheVariants.{Lenient, Strict}
-use Rattle.cbor_tool.specs.RunSteps.{answered_in, SpellsIn, TellsIn}
+use Rattle.cbor_tool.specs.declared.program.Mode.TheVariants.{Lenient, Strict, Diagnose}
+use Rattle.cbor_tool.specs.declared.program.Mode.TheVariants.{DiagnosePretty}
+use Rattle.cbor_tool.specs.RunSteps.{answered_in, IsRefusalIn, SpellsIn, TellsIn}
 use Rattle.cbor_tool.proofs.Hexadecimal.{IsHexOf-decoded, decode_of-hex}
 
 -- ---- one answer
@@ -53,49 +54,42 @@ strict_words_of : (why : StrictRefusal) → code_text (strict_code why) ≡ stri
 strict_words_of (ordinary why) = words_of why
 strict_words_of not_canonical = refl
 
--- what was read is answered with its canonical spelling
-pub answered_read : (mode : Mode) (bytes text : List ℕ) (v : Val) → SpellsIn mode bytes v
-    → text ≡ hex (canon v) → answered_in mode bytes text
-answered_read Lenient bytes text v spells is =
-    canonical spells.item spells.acceptable spells.spelled (is ∙ ap (λ w. hex (canon w)) spells.valued)
-answered_read Strict bytes text v spells is = unchanged v spells (is ∙ ap hex spells.spelled)
-
--- and what wasn't, with the refusal
-pub answered_refused : (mode : Mode) (bytes text : List ℕ) (e : Error)
-    → IsOutOfMemory e ⊎ TellsIn mode bytes e
-    → ((v : Val) → SpellsIn mode bytes v → IsOutOfMemory e)
-    → (code_of e ≡ OutOfMemory → ⊥) → text ≡ codes "error: " ++ error_text e
-    → answered_in mode bytes text
-answered_refused mode bytes text e (inl memory) accepted ne is = absurd (ne memory.0)
-answered_refused Lenient bytes text e (inr tells) accepted ne is =
+-- the text of an error that tells the first refusal
+ordinary_text : (bytes : List ℕ) (e : Error) → TellsFirst (limits_of None) bytes e
+    → IsRefusalText bytes (error_text e)
+ordinary_text bytes e tells =
     let place : offset_of e ≡ tells.offset = omega (arith, tells.at) in
-    refused (error_text e)
-    (λ r good spelled. ne
-    (accepted (value r) (record {
-      item = r;
-      acceptable = good;
-      spelled = spelled;
-      valued = refl;
-    })).0)
-    (record {
+    record {
       why = tells.why;
       offset = tells.offset;
       first = tells.first;
       is = ap (λ c. code_text c ++ at_offset (offset_of e)) tells.code
           ∙ ap (λ t. t ++ at_offset (offset_of e)) (words_of tells.why)
           ∙ ap (λ n. words tells.why ++ at_offset n) place;
-    })
-    is
-answered_refused Strict bytes text e (inr tells) accepted ne is =
-    not_spelled (error_text e) (λ v spelt. ne (accepted v spelt).0)
-    (record {
-      why = tells.why;
-      offset = offset_of e;
-      first = tells.first;
-      is = ap (λ c. code_text c ++ at_offset (offset_of e)) tells.code
-          ∙ ap (λ t. t ++ at_offset (offset_of e)) (strict_words_of tells.why);
-    })
-    is
+    }
+
+refusal_text : (mode : Mode) (bytes : List ℕ) (e : Error) → TellsIn mode bytes e
+    → IsRefusalIn mode bytes (error_text e)
+refusal_text Lenient bytes e tells = ordinary_text bytes e tells
+refusal_text Strict bytes e tells = record {
+  why = tells.why;
+  offset = offset_of e;
+  first = tells.first;
+  is = ap (λ c. code_text c ++ at_offset (offset_of e)) tells.code
+      ∙ ap (λ t. t ++ at_offset (offset_of e)) (strict_words_of tells.why);
+}
+refusal_text Diagnose bytes e tells = ordinary_text bytes e tells
+refusal_text DiagnosePretty bytes e tells = ordinary_text bytes e tells
+
+-- what wasn't read is answered with the refusal
+pub answered_refused : (mode : Mode) (bytes text : List ℕ) (e : Error)
+    → IsOutOfMemory e ⊎ TellsIn mode bytes e
+    → ((v : Val) → SpellsIn mode bytes v → IsOutOfMemory e)
+    → (code_of e ≡ OutOfMemory → ⊥) → text ≡ codes "error: " ++ error_text e
+    → answered_in mode bytes text
+answered_refused mode bytes text e (inl memory) accepted ne is = absurd (ne memory.0)
+answered_refused mode bytes text e (inr tells) accepted ne is =
+    refused (error_text e) (λ v spelt. ne (accepted v spelt).0) (refusal_text mode bytes e tells) is
 
 -- lack of memory is told at no offset
 no_refusal : (why : Refusal) → refusal_code why ≡ OutOfMemory → ⊥
@@ -115,11 +109,17 @@ no_strict_refusal : (why : StrictRefusal) → strict_code why ≡ OutOfMemory �
 no_strict_refusal (ordinary why) is = no_refusal why is
 no_strict_refusal not_canonical is = cc
 
+told : (mode : Mode) (bytes : List ℕ) (e : Error) → TellsIn mode bytes e
+    → code_of e ≡ OutOfMemory → ⊥
+told Lenient bytes e tells is = no_refusal tells.why (sym tells.code ∙ is)
+told Strict bytes e tells is = no_strict_refusal tells.why (sym tells.code ∙ is)
+told Diagnose bytes e tells is = no_refusal tells.why (sym tells.code ∙ is)
+told DiagnosePretty bytes e tells is = no_refusal tells.why (sym tells.code ∙ is)
+
 pub memory_told : (mode : Mode) (bytes : List ℕ) (e : Error) → IsOutOfMemory e ⊎ TellsIn mode bytes e
     → code_of e ≡ OutOfMemory → IsOutOfMemory e
 memory_told mode bytes e (inl memory) is = memory
-memory_told Lenient bytes e (inr tells) is = absurd (no_refusal tells.why (sym tells.code ∙ is))
-memory_told Strict bytes e (inr tells) is = absurd (no_strict_refusal tells.why (sym tells.code ∙ is))
+memory_told mode bytes e (inr tells) is = absurd (told mode bytes e tells is)
 
 pub IsAnswer-decoded : (A : Answered) (line bytes text : List ℕ) → decode_of line ≡ Ok bytes
     → A bytes text → IsAnswer A line text
@@ -132,19 +132,31 @@ IsAnswer-not_hexadecimal A line text e failed is =
 
 -- ---- a value that was read is written, unless memory runs out
 
--- what is read in either mode is storable
+-- what is read is storable
+storable : (bytes : List ℕ) (v : Val) → SpellsValue bytes v → IsStorable v
+storable bytes v spells = rw spells.valued (value_is_storable spells.item spells.acceptable.fits)
+
 storable_in : (mode : Mode) (bytes : List ℕ) (v : Val) → SpellsIn mode bytes v → IsStorable v
-storable_in Lenient bytes v spells = rw spells.valued (value_is_storable spells.item spells.acceptable.fits)
+storable_in Lenient bytes v spells = storable bytes v spells
 storable_in Strict bytes v spells = spells.stored
+storable_in Diagnose bytes v spells = storable bytes v spells
+storable_in DiagnosePretty bytes v spells = storable bytes v spells
 
 code_of_refusal : (code : ErrorCode) (storable : Type 0) → storable → IsRefusedBy code storable → code ≡ OutOfMemory
 code_of_refusal OutOfMemory storable fits h = refl
 code_of_refusal (Message text) storable fits h = absurd (h.1 fits)
 code_of_refusal _ storable fits h = absurd h
 
+pub out_of_memory : (v : Val) (e : Error) → IsStorable v → IsNotWritten (IsStorableDocument (document_of v)) e → IsOutOfMemory e
+out_of_memory v e stored h =
+    (code_of_refusal (code_of e) (IsStorableDocument (document_of v)) (storable_document v stored) h.0, h.1)
+
 pub IsOutOfMemory-not_written : (mode : Mode) (bytes : List ℕ) (v : Val) (e : Error) → SpellsIn mode bytes v → IsNotWritten (IsStorableDocument (document_of v)) e → IsOutOfMemory e
-IsOutOfMemory-not_written mode bytes v e spells h =
-    (code_of_refusal (code_of e) (IsStorableDocument (document_of v)) (storable_document v (storable_in mode bytes v spells)) h.0, h.1)
+IsOutOfMemory-not_written mode bytes v e spells h = out_of_memory v e (storable_in mode bytes v spells) h
+
+pub err_weaker : {T : Type 0} {P Q : Error → Type 0} (r : Result T Error) → ((e : Error) → P e → Q e) → IfErr r P → IfErr r Q
+err_weaker (Ok x) on h = tt
+err_weaker (Err e) on h = on e h
 
 -- ---- answers that follow others
 

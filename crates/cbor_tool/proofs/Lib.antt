@@ -4,3 +4,6 @@ pub mod Lines
 pub mod Answers
 pub mod Writing
 pub mod Stops
+pub mod Sequences
+pub mod WordLists
+pub mod StreamItems

@@ -9,12 +9,15 @@ use Rattle.cbor_model.specs.Spelling.{spell}
 use Rattle.cbor_model.specs.Acceptable.{IsAcceptable}
 use Rattle.cbor_model.specs.Value.{value}
 use Rattle.cbor_model.specs.Canonical.{canon}
+use Rattle.cbor_model.specs.Plain.{Val}
+use Rattle.cbor_model.specs.Laws.{SpellsValue}
 use Rattle.cbor_model.specs.Refusal.{Refusal, words, at_offset}
 use Rattle.cbor_model.specs.Allowed.{limits_of, IsFirstRefusal}
 use Rattle.cbor_tool.specs.Answer.{hex_digit, hex, IsHexOf, IsRefusalText, IsStrictRefusalText}
 use Rattle.cbor_tool.specs.Answer.{strict_words, Answered, IsAnswered, IsAnsweredStrictly, OneAnswer}
-use Rattle.cbor_tool.specs.Answer.{canonical, refused, unchanged, not_spelled}
+use Rattle.cbor_tool.specs.Answer.{Answers, IsHexOfCanonical, shown, refused}
 use Rattle.cbor_tool.specs.Answer.{hexadecimal, not_hexadecimal}
+use Rattle.serde_cbor.specs.Strict.{SpellsCanonically}
 use Rattle.serde_cbor.specs.StrictRefusals.{StrictRefusal}
 use Rattle.cbor_model.proofs.facts.Laws.{one_spelling}
 use Rattle.cbor_model.proofs.facts.Refusals.{one_first}
@@ -76,26 +79,40 @@ strict_refusal_unique bytes text text' one other =
 abbrev IsUnique : Answered → Type 0
 IsUnique A = (bytes a b : List ℕ) → A bytes a → A bytes b → a ≡ b
 
+-- What is read of bytes is shown in one way, and a refusal told in one way: so is the answer.
+unique_of : (Spells : List ℕ → Val → Type 0) (Shows : Val → List ℕ → Type 0)
+    (IsRefusal : List ℕ → List ℕ → Type 0)
+    → ((bytes : List ℕ) (v w : Val) (a b : List ℕ) → Spells bytes v → Spells bytes w → Shows v a
+    → Shows w b → a ≡ b)
+    → ((bytes a b : List ℕ) → IsRefusal bytes a → IsRefusal bytes b → a ≡ b)
+    → IsUnique (λ bytes. Answers (Spells bytes) Shows (IsRefusal bytes))
+unique_of Spells Shows IsRefusal one_shown one_refusal bytes a b (shown v spelt is) (shown w spelt' is') =
+    one_shown bytes v w a b spelt spelt' is is'
+unique_of Spells Shows IsRefusal one_shown one_refusal bytes a b (shown v spelt is) (refused text none why is') =
+    absurd (none v spelt)
+unique_of Spells Shows IsRefusal one_shown one_refusal bytes a b (refused text none why is) (shown v spelt is') =
+    absurd (none v spelt)
+unique_of Spells Shows IsRefusal one_shown one_refusal bytes a b (refused text none why is) (refused text' none' why' is') =
+    is ∙ ap (λ (t : List ℕ). codes "error: " ++ t) (one_refusal bytes text text' why why') ∙ sym is'
+
+-- bytes spell one value
+same_shown : (bytes : List ℕ) (v w : Val) (a b : List ℕ) → SpellsValue bytes v → SpellsValue bytes w
+    → IsHexOfCanonical v a → IsHexOfCanonical w b → a ≡ b
+same_shown bytes v w a b one other is is' =
+    let same = same_item one.item other.item one.acceptable other.acceptable (one.spelled ∙ sym other.spelled) in
+    is ∙ ap (λ (x : Val). hex (canon x)) (one.valued ∙ ap value same ∙ sym other.valued) ∙ sym is'
+
+same_shown_strictly : (bytes : List ℕ) (v w : Val) (a b : List ℕ) → SpellsCanonically bytes v
+    → SpellsCanonically bytes w → IsHexOfCanonical v a → IsHexOfCanonical w b → a ≡ b
+same_shown_strictly bytes v w a b one other is is' =
+    is ∙ ap hex (one.spelled ∙ sym other.spelled) ∙ sym is'
+
 answered_unique : IsUnique IsAnswered
-answered_unique bytes a b (canonical r good spelled is) (canonical s good' spelled' is') =
-    is ∙ ap (λ (i : Raw). hex (canon (value i))) (same_item r s good good' (spelled ∙ sym spelled'))
-    ∙ sym is'
-answered_unique bytes a b (canonical r good spelled is) (refused text none why is') =
-    absurd (none r good spelled)
-answered_unique bytes a b (refused text none why is) (canonical s good spelled is') =
-    absurd (none s good spelled)
-answered_unique bytes a b (refused text none why is) (refused text' none' why' is') =
-    is ∙ ap (λ (t : List ℕ). codes "error: " ++ t) (refusal_unique bytes text text' why why') ∙ sym is'
+answered_unique = unique_of SpellsValue IsHexOfCanonical IsRefusalText same_shown refusal_unique
 
 answered_strictly_unique : IsUnique IsAnsweredStrictly
-answered_strictly_unique bytes a b (unchanged v spelt is) (unchanged w spelt' is') = is ∙ sym is'
-answered_strictly_unique bytes a b (unchanged v spelt is) (not_spelled text none why is') =
-    absurd (none v spelt)
-answered_strictly_unique bytes a b (not_spelled text none why is) (unchanged w spelt is') =
-    absurd (none w spelt)
-answered_strictly_unique bytes a b (not_spelled text none why is) (not_spelled text' none' why' is') =
-    is ∙ ap (λ (t : List ℕ). codes "error: " ++ t) (strict_refusal_unique bytes text text' why why')
-    ∙ sym is'
+answered_strictly_unique =
+    unique_of SpellsCanonically IsHexOfCanonical IsStrictRefusalText same_shown_strictly strict_refusal_unique
 
 -- ---- answers to lines
 

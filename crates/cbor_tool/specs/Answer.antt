@@ -2,12 +2,10 @@
 use Rattle.std.specs.Prelude.{◌≡◌, ℕ, ◌+◌, ◌/◌, ◌%◌, List, [], ◌∷◌, ◌++◌, map, flat_map, codes}
 use Rattle.std.specs.Prelude.{None, nat_lt, ◌==◌, if◌then◌else◌, refl}
 use Rattle.std.specs.Char.{to_ascii_lowercase}
-use Rattle.cbor_model.specs.Raw.{Raw, AreBytes}
-use Rattle.cbor_model.specs.Spelling.{spell}
-use Rattle.cbor_model.specs.Acceptable.{IsAcceptable}
+use Rattle.cbor_model.specs.Raw.{AreBytes}
 use Rattle.cbor_model.specs.Plain.{Val}
-use Rattle.cbor_model.specs.Value.{value}
 use Rattle.cbor_model.specs.Canonical.{canon}
+use Rattle.cbor_model.specs.Laws.{SpellsValue}
 use Rattle.cbor_model.specs.Refusal.{Refusal, words, at_offset}
 use Rattle.cbor_model.specs.Allowed.{limits_of, IsFirstRefusal}
 use Rattle.serde_cbor.specs.Strict.{SpellsCanonically}
@@ -49,12 +47,20 @@ pub record IsRefusalText (bytes text : List ℕ) : Type 0 where
   pub first : IsFirstRefusal (limits_of None) bytes why offset
   pub is : text ≡ words why ++ at_offset offset
 
--- The canonical spelling of the value that the bytes spell, or why there is none.
-pub data IsAnswered (bytes answer : List ℕ) : Type 0 where
-  canonical : (r : Raw) → IsAcceptable r → spell r ≡ bytes → answer ≡ hex (canon (value r))
-      → IsAnswered bytes answer
-  refused : (text : List ℕ) → ((r : Raw) → IsAcceptable r → spell r ≡ bytes → ⊥)
-      → IsRefusalText bytes text → answer ≡ codes "error: " ++ text → IsAnswered bytes answer
+-- What is shown of the value that bytes spell, or why they spell none.
+pub data Answers (Spells : Val → Type 0) (Shows : Val → List ℕ → Type 0)
+    (IsRefusal : List ℕ → Type 0) (answer : List ℕ) : Type 0 where
+  shown : (v : Val) → Spells v → Shows v answer → Answers Spells Shows IsRefusal answer
+  refused : (text : List ℕ) → ((v : Val) → Spells v → ⊥) → IsRefusal text
+      → answer ≡ codes "error: " ++ text → Answers Spells Shows IsRefusal answer
+
+-- the canonical spelling, in hexadecimal
+abbrev pub IsHexOfCanonical : Val → List ℕ → Type 0
+IsHexOfCanonical v answer = answer ≡ hex (canon v)
+
+-- The canonical spelling of the value that the bytes spell, or why they spell none.
+abbrev pub IsAnswered : List ℕ → List ℕ → Type 0
+IsAnswered bytes = Answers (SpellsValue bytes) IsHexOfCanonical (IsRefusalText bytes)
 
 -- ---- what they are answered strictly
 
@@ -71,12 +77,9 @@ pub record IsStrictRefusalText (bytes text : List ℕ) : Type 0 where
   pub is : text ≡ strict_words why ++ at_offset offset
 
 -- The bytes themselves, which are a canonical spelling, or why they aren't one.
-pub data IsAnsweredStrictly (bytes answer : List ℕ) : Type 0 where
-  unchanged : (v : Val) → SpellsCanonically bytes v → answer ≡ hex bytes
-      → IsAnsweredStrictly bytes answer
-  not_spelled : (text : List ℕ) → ((v : Val) → SpellsCanonically bytes v → ⊥)
-      → IsStrictRefusalText bytes text → answer ≡ codes "error: " ++ text
-      → IsAnsweredStrictly bytes answer
+abbrev pub IsAnsweredStrictly : List ℕ → List ℕ → Type 0
+IsAnsweredStrictly bytes =
+    Answers (SpellsCanonically bytes) IsHexOfCanonical (IsStrictRefusalText bytes)
 
 -- ---- answers to lines
 

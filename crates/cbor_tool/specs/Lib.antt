@@ -1,3 +1,5 @@
 pub mod Answer
 pub mod Run
 pub mod RunSteps
+pub mod Sequence
+pub mod SequenceSteps

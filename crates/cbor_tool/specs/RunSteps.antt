@@ -2,7 +2,9 @@
 use Rattle.std.specs.Prelude.{◌≡◌, ◌≢◌, ℕ, ◌+◌, ◌<◌, List, [], ◌∷◌, ◌++◌, length, All, Option, Some}
 use Rattle.std.specs.Prelude.{None, codes}
 use Rattle.std.specs.Io.KnownBytes.{Consumes, Keeps, IsAtEnd}
-use Rattle.cbor_tool.specs.Answer.{Answered, IsAnswered, IsAnsweredStrictly}
+use Rattle.cbor_tool.specs.Answer.{Answered, Answers, IsHexOfCanonical, IsRefusalText}
+use Rattle.cbor_tool.specs.Answer.{IsStrictRefusalText}
+use Rattle.cbor_diagnostic.specs.Notation.{IsNotation, pretty}
 use Rattle.serde_cbor.specs.declared.error.ErrorCode.{ErrorCode}
 use Rattle.serde_cbor.specs.declared.error.ErrorCode.TheVariants.{Io, OutOfMemory, LengthOutOfRange}
 use Rattle.serde_cbor.specs.declared.error.Error.{Error}
@@ -14,8 +16,12 @@ use Rattle.serde_cbor.specs.FirstRefusal.{TellsFirst}
 use Rattle.serde_cbor.specs.Strict.{SpellsCanonically}
 use Rattle.serde_cbor.specs.StrictAnswers.{TellsFirstStrictly}
 use Rattle.cbor_tool.specs.declared.program.Mode.{Mode}
-use Rattle.cbor_tool.specs.declared.program.Mode.TheVariants.{Lenient, Strict}
+use Rattle.cbor_tool.specs.declared.program.Mode.TheVariants.{Lenient, Strict, Diagnose}
+use Rattle.cbor_tool.specs.declared.program.Mode.TheVariants.{DiagnosePretty}
 use Rattle.cbor_tool.specs.declared.program.End.{End}
+use Rattle.cbor_tool.specs.declared.sequence.Form.{Form}
+use Rattle.cbor_tool.specs.declared.sequence.Form.TheVariants.{Canonical, Notation}
+use Rattle.cbor_tool.specs.declared.sequence.Form.TheVariants.{PrettyNotation}
 use Rattle.cbor_tool.specs.declared.program.End.TheVariants.{Newline, Input}
 use Rattle.cbor_tool.specs.Run.{AppendsUpTo, max_offset}
 
@@ -82,20 +88,30 @@ StopsAtByte e = StopsAtByteBy (code_of e) (offset_of e)
 
 -- ---- answering
 
--- what bytes are answered in each mode
-abbrev pub answered_in : Mode → Answered
-answered_in Lenient = IsAnswered
-answered_in Strict = IsAnsweredStrictly
-
 -- the bytes spell the value, as it is read in each mode
 abbrev pub SpellsIn : Mode → List ℕ → Val → Type 0
-SpellsIn Lenient = SpellsValue
 SpellsIn Strict = SpellsCanonically
+SpellsIn _ = SpellsValue
 
--- the error tells the first refusal that the bytes allow
+-- what is shown of a value in each mode
+abbrev pub ShowsIn : Mode → Val → List ℕ → Type 0
+ShowsIn Diagnose = IsNotation None
+ShowsIn DiagnosePretty = IsNotation pretty
+ShowsIn _ = IsHexOfCanonical
+
+-- the text of the first refusal that the bytes allow
+abbrev pub IsRefusalIn : Mode → List ℕ → List ℕ → Type 0
+IsRefusalIn Strict = IsStrictRefusalText
+IsRefusalIn _ = IsRefusalText
+
+-- the error tells that refusal
 abbrev pub TellsIn : Mode → List ℕ → Error → Type 0
-TellsIn Lenient = TellsFirst (limits_of None)
 TellsIn Strict = TellsFirstStrictly
+TellsIn _ = TellsFirst (limits_of None)
+
+-- what bytes are answered in each mode
+abbrev pub answered_in : Mode → Answered
+answered_in mode bytes = Answers (SpellsIn mode bytes) (ShowsIn mode) (IsRefusalIn mode bytes)
 
 abbrev pub StopsAnsweringBy : Answered → ErrorCode → ℕ → List ℕ → (writer writer' : Option (List ℕ))
     → Type 0
@@ -111,8 +127,25 @@ StopsAnswering answered e = StopsAnsweringBy answered (code_of e) (offset_of e)
 
 -- ---- the words after the program's name
 
--- none is lenient, the one word `strict` is strict, and any others are neither
+-- the words that choose a mode
+abbrev pub words_of : Mode → List (List ℕ)
+words_of Lenient = []
+words_of Strict = codes "strict" ∷ []
+words_of Diagnose = codes "diagnose" ∷ []
+words_of DiagnosePretty = codes "diagnose" ∷ codes "--pretty" ∷ []
+
+-- the mode of these words, or none where they are no mode's
 abbrev pub Chooses : List (List ℕ) → Option Mode → Type 0
-Chooses words (Some Lenient) = words ≡ []
-Chooses words (Some Strict) = words ≡ codes "strict" ∷ []
-Chooses words None = (words ≢ []) × (words ≢ codes "strict" ∷ [])
+Chooses words (Some mode) = words ≡ words_of mode
+Chooses words None = (mode : Mode) → words ≢ words_of mode
+
+-- the words that choose how a sequence is answered
+abbrev pub form_words : Form → List (List ℕ)
+form_words Canonical = codes "raw" ∷ []
+form_words Notation = codes "diagnose" ∷ codes "raw" ∷ []
+form_words PrettyNotation = codes "diagnose" ∷ codes "--pretty" ∷ codes "raw" ∷ []
+
+-- the form of these words, or none where they are no form's
+abbrev pub ChoosesForm : List (List ℕ) → Option Form → Type 0
+ChoosesForm words (Some form) = words ≡ form_words form
+ChoosesForm words None = (form : Form) → words ≢ form_words form

@@ -1,16 +1,20 @@
 //! Reads lines of CBOR in hexadecimal, and answers each with its canonical spelling. With the one
-//! word `strict` after its name it reads canonical spellings alone.
+//! word `strict` after its name it reads canonical spellings alone, and with `diagnose` it answers
+//! in diagnostic notation (RFC 8949, section 8). With a last word `raw` it reads bytes in place of
+//! lines: a sequence of items (RFC 8742).
 //!
-//! It names `serde_cbor`, the definitions of `cbor_model`, and the kit's `hex`.
+//! It names `serde_cbor`, `cbor_diagnostic`, the definitions of `cbor_model`, and the kit's `hex`.
 #![tactic(auto)]
 
 mod laws;
 mod program;
+mod sequence;
 #[cfg(test)]
 mod tests;
 mod words;
 
-use crate::program::{Mode, run, run_strict};
+use crate::program::{Mode, run, run_in, run_strict};
+use crate::sequence::run_sequence;
 use serde_cbor::Result;
 use std::alloc::AllocError;
 use std::env;
@@ -22,7 +26,7 @@ fn main(rt: HostRuntime) -> ExitCode {
         Ok(true) => ExitCode::SUCCESS,
         Ok(false) => {
             // Nothing is left to do where standard error fails.
-            let _ = eprintln!(rt; "usage: cbor_tool [strict]");
+            let _ = eprintln!(rt; "usage: cbor_tool [strict | [diagnose [--pretty]] [raw]]");
             ExitCode::from(2)
         }
         Err(error) => {
@@ -32,9 +36,28 @@ fn main(rt: HostRuntime) -> ExitCode {
     }
 }
 
-// Answers the lines of standard input on standard output, in the mode that the words after the
-// program's name choose. Where they choose none it reads nothing, and answers false.
+// Answers standard input on standard output, as the words after the program's name choose. Where
+// they choose nothing it reads nothing, and answers false.
 fn answer_input(rt: &HostRuntime) -> Result<bool> {
+    let words = read_words(rt)?;
+    let mut reader = BufReader::new(rt.alloc(), rt.stdin()).map_err(|_| AllocError)?;
+    let mut writer = rt.stdout();
+    match words::mode(&words) {
+        Some(Mode::Lenient) => run(rt.alloc(), &mut reader, &mut writer)?,
+        Some(Mode::Strict) => run_strict(rt.alloc(), &mut reader, &mut writer)?,
+        Some(mode) => run_in(mode, rt.alloc(), &mut reader, &mut writer)?,
+        None => {
+            let Some(form) = words::form(&words) else {
+                return Ok(false);
+            };
+            run_sequence(form, rt.alloc(), reader, &mut writer)?;
+        }
+    }
+    Ok(true)
+}
+
+// The words after the program's name.
+fn read_words(rt: &HostRuntime) -> Result<Vec<String>> {
     let args = match env::args(rt) {
         Ok(args) => args,
         Err(fault) if fault.kind() == ErrorKind::OutOfMemory => return Err(AllocError.into()),
@@ -45,13 +68,5 @@ fn answer_input(rt: &HostRuntime) -> Result<bool> {
     for word in args.skip(1) {
         words.push(word)?;
     }
-    let Some(mode) = words::mode(&words) else {
-        return Ok(false);
-    };
-    let mut reader = BufReader::new(rt.alloc(), rt.stdin()).map_err(|_| AllocError)?;
-    match mode {
-        Mode::Lenient => run(rt.alloc(), &mut reader, &mut rt.stdout())?,
-        Mode::Strict => run_strict(rt.alloc(), &mut reader, &mut rt.stdout())?,
-    }
-    Ok(true)
+    Ok(words)
 }

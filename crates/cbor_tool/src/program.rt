@@ -4,14 +4,18 @@ ghost use Rattle.std.specs.Prelude.{◌≡◌, ◌⊎◌, ◌+◌, ◌<◌, ◌�
 ghost use Rattle.std.specs.Prelude.{IfOk, IfErr, IfSome, OnOk};
 ghost use Rattle.std.specs.Io.KnownBytes.{WriteAppends, IsAtEnd};
 ghost use Rattle.cbor_model.specs.Plain.{Val};
+ghost use Rattle.cbor_model.specs.Document.{document_of, IsStorableDocument};
 ghost use Rattle.cbor_tool.specs.Answer.{lines, hex, IsAnswer, IsAnswered, IsAnsweredStrictly};
 ghost use Rattle.serde_cbor.specs.Error.{IsOutOfMemory};
 ghost use Rattle.serde_cbor.specs.View.{view};
 ghost use Rattle.serde_cbor.specs.Write.{Wrote};
+ghost use Rattle.serde_cbor.specs.Written.{IsNotWritten};
 ghost use Rattle.cbor_tool.specs.Run.{AppendsAnswers, IsStopped};
 ghost use Rattle.cbor_tool.specs.RunSteps.{IsNext, IsNextLine, StopsReading, StopsAtByte};
-ghost use Rattle.cbor_tool.specs.RunSteps.{answered_in, SpellsIn, StopsAnswering, TellsIn};
+ghost use Rattle.cbor_tool.specs.RunSteps.{answered_in, ShowsIn, SpellsIn, StopsAnswering};
+ghost use Rattle.cbor_tool.specs.RunSteps.{TellsIn};
 
+use cbor_diagnostic::{to_diagnostic, to_diagnostic_pretty};
 use hex::FromHexError;
 use serde_cbor::error::{Error, ErrorCode};
 use serde_cbor::{Result, Value, from_slice, from_slice_canonical, to_vec};
@@ -33,6 +37,11 @@ pub enum Mode {
     Lenient,
     /// Canonical spellings alone.
     Strict,
+    /// Those of any acceptable item, which is answered in diagnostic notation (RFC 8949, section 8)
+    /// on one line.
+    Diagnose,
+    /// The same, with each item of an array and each pair of a map on a line of its own.
+    DiagnosePretty,
 }
 
 /// Answers each line that the reader gives by one line to the writer.
@@ -54,7 +63,7 @@ pub fn run<R: io::Read, W: io::Write>(alloc: Global, reader: &mut R, writer: &mu
         (R.remaining reader.old) (R.remaining reader.new)
         (W.contents writer.old) (W.contents writer.new)) }
 {
-    answer_lines(Mode::Lenient, alloc, reader, writer)
+    run_in(Mode::Lenient, alloc, reader, writer)
 }
 
 /// Answers each line as [`run`] does, but reads canonical spellings alone: such a one is answered
@@ -72,11 +81,11 @@ pub fn run_strict<R: io::Read, W: io::Write>(
         (R.remaining reader.old) (R.remaining reader.new)
         (W.contents writer.old) (W.contents writer.new)) }
 {
-    answer_lines(Mode::Strict, alloc, reader, writer)
+    run_in(Mode::Strict, alloc, reader, writer)
 }
 
-// Answers each line in this mode.
-fn answer_lines<R: io::Read, W: io::Write>(
+/// Answers each line as [`run`] does, in this mode.
+pub fn run_in<R: io::Read, W: io::Write>(
     mode: Mode,
     alloc: Global,
     reader: &mut R,
@@ -158,8 +167,8 @@ fn write_answer<W: io::Write>(
     Ok(())
 }
 
-// Writes the bytes, as `io::Write::write_all` does. A clause says what stands after a fault.
-fn write_all<W: io::Write>(writer: &mut W, bytes: &[u8]) -> io::Result<()>
+/// Writes the bytes, as `io::Write::write_all` does. A clause says what stands after a fault.
+pub fn write_all<W: io::Write>(writer: &mut W, bytes: &[u8]) -> io::Result<()>
     ensures { Wrote (W.contents writer.old) bytes.now (W.contents writer.new) result }
 {
     let mut rest = bytes;
@@ -210,16 +219,28 @@ fn answer_bytes(mode: Mode, alloc: Global, bytes: &[u8], text: &mut Vec<u8>) -> 
     ensures err { IfErr result IsOutOfMemory }
 {
     match read(mode, alloc, bytes) {
-        Ok(value) => {
-            let spelling = to_vec(alloc, &value)?;
-            replace_by_hex(text, &spelling)
-        }
+        Ok(value) => show(mode, alloc, &value, text),
         Err(error) => {
             if error.is_memory() {
                 return Err(error);
             }
             let refusal = format!(in alloc; "error: {error}")?;
             replace(text, refusal.as_bytes())
+        }
+    }
+}
+
+// Makes `text` what is shown of the value in this mode.
+fn show(mode: Mode, alloc: Global, value: &Value, text: &mut Vec<u8>) -> Result<()>
+    ensures ok { OnOk result (ShowsIn mode (view value.now) text.new.items) }
+    ensures err { IfErr result (IsNotWritten (IsStorableDocument (document_of (view value.now)))) }
+{
+    match mode {
+        Mode::Diagnose => replace(text, to_diagnostic(alloc, value)?.as_bytes()),
+        Mode::DiagnosePretty => replace(text, to_diagnostic_pretty(alloc, value)?.as_bytes()),
+        Mode::Lenient | Mode::Strict => {
+            let spelling = to_vec(alloc, value)?;
+            replace_by_hex(text, &spelling)
         }
     }
 }
@@ -231,8 +252,8 @@ fn read(mode: Mode, alloc: Global, bytes: &[u8]) -> Result<Value>
     ensures refused { IfErr result (λ e. IsOutOfMemory e ⊎ TellsIn mode bytes.now e) }
 {
     match mode {
-        Mode::Lenient => from_slice::<Value>(alloc, bytes),
         Mode::Strict => from_slice_canonical(alloc, bytes),
+        _ => from_slice(alloc, bytes),
     }
 }
 

@@ -1,4 +1,5 @@
-use crate::program::{Mode, run, run_strict};
+use crate::program::{Mode, run, run_in, run_strict};
+use crate::sequence::{Form, run_sequence};
 use crate::words;
 use serde_cbor::Result;
 use std::alloc::{AllocError, Global};
@@ -293,6 +294,106 @@ fn answers_each_line_strictly(rt: HostRuntime) -> Result<()> {
     let output = b"error: not hexadecimal\nerror: EOF while parsing a value\n\
         error: unassigned type at offset 1\nerror: not canonical at offset 4\n";
     assert!(rt; strict_answers_to(alloc, input)?.as_slice() == output.as_slice());
+    Ok(())
+}
+
+fn diagnoses(alloc: Global, mode: Mode, input: &[u8]) -> Result<Vec<u8>> {
+    let mut reader = input;
+    let mut writer = Vec::with_capacity(alloc, ROOM)?;
+    run_in(mode, alloc, &mut reader, &mut writer)?;
+    Ok(writer)
+}
+
+#[test]
+fn answers_each_line_in_notation(rt: HostRuntime) -> Result<()> {
+    let alloc = rt.alloc();
+    let input = b"182a\na16161f93c00\n8\n1c\n";
+    let output = diagnoses(alloc, Mode::Diagnose, input)?;
+    let answers = b"42\n{\"a\": 1.0}\nerror: not hexadecimal\nerror: unassigned type at offset 1\n";
+    assert!(rt; output.as_slice() == answers.as_slice());
+    let output = diagnoses(alloc, Mode::DiagnosePretty, input)?;
+    let answers = b"42\n{\n  \"a\": 1.0\n}\nerror: not hexadecimal\n\
+        error: unassigned type at offset 1\n";
+    assert!(rt; output.as_slice() == answers.as_slice());
+    Ok(())
+}
+
+// How the run over a sequence ended, and what it wrote.
+fn answers_to_items(alloc: Global, form: Form, input: &[u8]) -> Result<(Result<()>, Vec<u8>)> {
+    let mut writer = Vec::with_capacity(alloc, ROOM)?;
+    let ended = run_sequence(form, alloc, input, &mut writer);
+    Ok((ended, writer))
+}
+
+const SEQUENCE: &[u8] = b"\x19\x00\x2a\x82\x01\xf9\x3c\x00\xa1\x61a\x61b";
+
+#[test]
+fn answers_each_item_of_a_sequence(rt: HostRuntime) -> Result<()> {
+    let alloc = rt.alloc();
+    let answers: [(Form, &[u8]); 3] = [
+        (
+            Form::Canonical,
+            b"\x18\x2a\x82\x01\xf9\x3c\x00\xa1\x61a\x61b",
+        ),
+        (Form::Notation, b"42\n[1, 1.0]\n{\"a\": \"b\"}\n"),
+        (
+            Form::PrettyNotation,
+            b"42\n[\n  1,\n  1.0\n]\n{\n  \"a\": \"b\"\n}\n",
+        ),
+    ];
+    for (form, output) in answers {
+        let (ended, written) = answers_to_items(alloc, form, SEQUENCE)?;
+        ended?;
+        assert!(rt; written.as_slice() == output);
+    }
+    Ok(())
+}
+
+// The answers to the items before the one that isn't acceptable are written.
+#[test]
+fn stops_at_an_item_that_is_cut_off(rt: HostRuntime) -> Result<()> {
+    let alloc = rt.alloc();
+    let (ended, written) = answers_to_items(alloc, Form::Notation, &SEQUENCE[..9])?;
+    let Err(error) = ended else {
+        panic!(rt; "not refused");
+    };
+    if error.is_memory() {
+        return Err(error);
+    }
+    let text = InlineText::<64>::of(&error);
+    assert!(rt; text.as_str() == "EOF while parsing a value at offset 9");
+    assert!(rt; written.as_slice() == b"42\n[1, 1.0]\n".as_slice());
+    Ok(())
+}
+
+#[test]
+fn stops_at_each_item_whose_answer_is_not_written(rt: HostRuntime) -> Result<()> {
+    let alloc = rt.alloc();
+    let output = b"42\n[1, 1.0]\n{\"a\": \"b\"}\n";
+    for writes in 0..output.len() {
+        let mut writer = FailingWriter::new(alloc, 1, writes, 3)?;
+        ended_by_fault(
+            &rt,
+            run_sequence(Form::Notation, alloc, SEQUENCE, &mut writer),
+        )?;
+        assert!(rt; writer.written.as_slice() == &output[..writes]);
+    }
+    Ok(())
+}
+
+#[test]
+fn chooses_the_form_by_words(rt: HostRuntime) -> Result<()> {
+    let alloc = rt.alloc();
+    let mut words = Vec::new(alloc);
+    assert!(rt; words::form(&words).is_none());
+    words.push("diagnose".to_owned(alloc)?)?;
+    assert!(rt; matches!(words::mode(&words), Some(Mode::Diagnose)));
+    words.push("--pretty".to_owned(alloc)?)?;
+    assert!(rt; matches!(words::mode(&words), Some(Mode::DiagnosePretty)));
+    assert!(rt; words::form(&words).is_none());
+    words.push("raw".to_owned(alloc)?)?;
+    assert!(rt; words::mode(&words).is_none());
+    assert!(rt; matches!(words::form(&words), Some(Form::PrettyNotation)));
     Ok(())
 }
 

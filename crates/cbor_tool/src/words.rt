@@ -2,18 +2,39 @@
 
 ghost use Rattle.std.specs.Prelude.{map};
 ghost use Rattle.std.specs.String.{string_bytes};
-ghost use Rattle.cbor_tool.specs.RunSteps.{Chooses};
+ghost use Rattle.cbor_tool.specs.RunSteps.{Chooses, ChoosesForm};
 
 use crate::program::Mode;
+use crate::sequence::Form;
 
-/// The mode that the words choose: no word is lenient, and the one word `strict` is strict. Other
-/// words choose none.
+/// The mode that the words choose: no word is lenient, and `strict`, `diagnose` and `diagnose
+/// --pretty` choose those. Other words choose none.
 pub fn mode(words: &[String]) -> Option<Mode>
     ensures { Chooses (map string_bytes words.now) result }
 {
     match words {
         [] => Some(Mode::Lenient),
         [word] if word.as_str() == "strict" => Some(Mode::Strict),
+        [word] if word.as_str() == "diagnose" => Some(Mode::Diagnose),
+        [word, option] if word.as_str() == "diagnose" && option.as_str() == "--pretty" => {
+            Some(Mode::DiagnosePretty)
+        }
+        _ => None,
+    }
+}
+
+/// The form in which a sequence is answered that the words choose: `raw`, `diagnose raw` or
+/// `diagnose --pretty raw`. Other words choose none.
+pub fn form(words: &[String]) -> Option<Form>
+    ensures { ChoosesForm (map string_bytes words.now) result }
+{
+    match words {
+        [raw] if raw.as_str() == "raw" => Some(Form::Canonical),
+        [word, raw] if word.as_str() == "diagnose" && raw.as_str() == "raw" => Some(Form::Notation),
+        [word, option, raw]
+            if word.as_str() == "diagnose"
+                && option.as_str() == "--pretty"
+                && raw.as_str() == "raw" => { Some(Form::PrettyNotation) }
         _ => None,
     }
 }

@@ -1,22 +1,9 @@
-use Rattle.std.proofs.Common.{ap, refl, ◌∙◌}
+use Rattle.std.proofs.Common.{refl, ◌∙◌}
+use Rattle.std.proofs.lemmas.Result.{on_ok_weaker}
 use Rattle.serde_cbor.specs.View.{view}
-use Rattle.std.proofs.lemmas.Result.{err_from_is_err_and, on_ok_weaker}
-use Rattle.cbor_tool.specs.Answer.{hex}
-use Rattle.cbor_tool.proofs.Answers.{answered_read, answered_refused, memory_told}
-use Rattle.cbor_tool.proofs.Answers.{IsOutOfMemory-not_written}
+use Rattle.cbor_tool.specs.Answer.{shown}
+use Rattle.cbor_tool.proofs.Answers.{answered_refused, memory_told, IsOutOfMemory-not_written, err_weaker}
 use Rattle.cbor_tool.proofs.program.answer_bytes.Goals as goal
-
-pub returns-in_err-spelling-in-Ok-clause-err : goal.returns-in_err-spelling-in-Ok-clause-err
-returns-in_err-spelling-in-Ok-clause-err c =
-    let p = err_from_is_err_and c.from_residual.result c.from_residual.ensures.1 in
-    rw (p.1, p.2) (IsOutOfMemory-not_written c.args.mode _ _ c.in_err-spelling-in-Ok.field-0.0 c.in-Ok.ensures.found
-    c.in_err-spelling-in-Ok.ensures.refused)
-
-pub returns-in_ok-spelling-in-Ok-clause-ok : goal.returns-in_ok-spelling-in-Ok-clause-ok
-returns-in_ok-spelling-in-Ok-clause-ok c =
-    on_ok_weaker c.replace_by_hex.result
-    (λ is. answered_read c.args.mode _ _ _ c.in-Ok.ensures.found (is ∙ ap hex (c.deref.ensures.value ∙ (c.in_ok-spelling-in-Ok.ensures.canonical (view c.in-Ok.value) refl).written)))
-    c.replace_by_hex.ensures.ok
 
 pub returns-in_ok-refusal-in-Err-clause-ok : goal.returns-in_ok-refusal-in-Err-clause-ok
 returns-in_ok-refusal-in-Err-clause-ok c =
@@ -30,3 +17,10 @@ returns-in_ok-refusal-in-Err-clause-ok c =
 pub returns-then-is_memory-clause-err : goal.returns-then-is_memory-clause-err
 returns-then-is_memory-clause-err c =
     memory_told c.args.mode c.args.bytes.now c.in-Err.error c.in-Err.ensures.refused (c.if-is_memory.ensures.0 refl)
+
+pub returns-in-Ok-clause-ok : goal.returns-in-Ok-clause-ok
+returns-in-Ok-clause-ok c = on_ok_weaker c.show.result (λ is. shown (view c.in-Ok.value) c.in-Ok.ensures.found is) c.show.ensures.ok
+
+pub returns-in-Ok-clause-err : goal.returns-in-Ok-clause-err
+returns-in-Ok-clause-err c =
+    err_weaker c.show.result (λ e. IsOutOfMemory-not_written c.args.mode c.args.bytes.now (view c.in-Ok.value) e c.in-Ok.ensures.found) c.show.ensures.err

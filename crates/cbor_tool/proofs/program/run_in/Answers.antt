@@ -4,9 +4,9 @@ use Rattle.cbor_tool.specs.RunSteps.{answered_in}
 use Rattle.cbor_tool.proofs.Stops.{not_empty, empty, HasAnswered-none, HasAnswered-line}
 use Rattle.cbor_tool.proofs.Stops.{AppendsAnswers-all, AppendsAnswers-whole, IsStopped-reading}
 use Rattle.cbor_tool.proofs.Stops.{IsStopped-at_line, IsStopped-at_last}
-use Rattle.cbor_tool.proofs.program.answer_lines.Goals as goal
-use Rattle.cbor_tool.proofs.program.answer_lines.Goals.{then-not-is_empty+in_ok-write_answer-2}
-use Rattle.cbor_tool.proofs.program.answer_lines.Goals.{else-not-is_empty}
+use Rattle.cbor_tool.proofs.program.run_in.Goals as goal
+use Rattle.cbor_tool.proofs.program.run_in.Goals.{then-not-is_empty+in_ok-write_answer-2}
+use Rattle.cbor_tool.proofs.program.run_in.Goals.{else-not-is_empty}
 
 pub lines-init : goal.lines-init
 lines-init g c = HasAnswered-none (answered_in c.args.mode) _ _

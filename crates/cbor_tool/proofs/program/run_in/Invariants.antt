@@ -2,7 +2,7 @@
 use Rattle.std.proofs.Common.{◌-◌, ◌^◌}
 use Rattle.cbor_tool.specs.RunSteps.{answered_in}
 use Rattle.cbor_tool.proofs.Stops.{HasAnswered}
-use Rattle.cbor_tool.proofs.program.answer_lines.Given as goal
+use Rattle.cbor_tool.proofs.program.run_in.Given as goal
 
 abbrev pub invariant-lines : goal.invariant-lines
 invariant-lines g l =
