@@ -1,6 +1,7 @@
 //! Tests over all of `serde_cbor`: what a user knows by the public contracts alone (`laws`), a
 //! function that says by these what it finds in a map (`lookup`), a tree of a user's own that is
-//! refused, what is written to sinks of each kind, and what values of types stand for.
+//! refused, what is written to sinks of each kind, what values of types stand for, and a stream that
+//! goes on after a message of the wrong type.
 #![tactic(auto)]
 
 #[cfg(test)]
@@ -14,6 +15,8 @@ mod laws;
 #[cfg(test)]
 mod literal;
 pub mod lookup;
+#[cfg(test)]
+mod messages;
 #[cfg(test)]
 mod sinks;
 #[cfg(test)]
