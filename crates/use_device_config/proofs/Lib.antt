@@ -1,0 +1,3 @@
+mod NewFields
+mod Readings
+mod Saved

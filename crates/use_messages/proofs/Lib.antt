@@ -1,0 +1,4 @@
+mod Given
+mod Longest
+mod Requests
+mod Serving

@@ -1,0 +1,3 @@
+mod Parts
+mod Records
+mod Signed
