@@ -1,5 +1,8 @@
 //! Prints what the Rust crate writes of values of derived types, and what these types read of bytes:
-//! `w NAME BYTES`, and `r NAME BYTES ANSWER`.
+//! `w NAME BYTES`, and `r NAME BYTES ANSWER`. With the word `attributes` it prints the rows of that
+//! table.
+
+mod attributes;
 
 use serde::{Deserialize, Serialize};
 use std::collections::BTreeMap;
@@ -139,6 +142,9 @@ fn r<'a, T: Deserialize<'a> + Debug>(name: &str, b: &'a [u8]) {
 }
 
 fn main() {
+    if std::env::args().nth(1).as_deref() == Some("attributes") {
+        return attributes::print();
+    }
     let user = || User {
         user_id: 7,
         admin: true,

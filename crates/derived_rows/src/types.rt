@@ -3,6 +3,7 @@
 use crate::answer::{of_both, of_slice};
 use crate::row::Row;
 use cbor_serde::{Options, Result};
+use derived_attributes::{Command, Id, Joined, Kind, Loud, Page, Percent, Preset, Sided, Wide};
 use derived_enums::{Adjacent, Any, Event, Hinted, Shape};
 use derived_fields::{Blob, Mixed, Nothing, Pair, Wrap};
 use derived_keys::{Attestation, Claims, CoseKey};
@@ -24,6 +25,9 @@ pub fn judge(alloc: Global, row: &Row<'_>) -> Result<Option<bool>> {
         return Ok(Some(right));
     }
     if let Some(right) = plain(options, alloc, row)? {
+        return Ok(Some(right));
+    }
+    if let Some(right) = attributes(options, alloc, row)? {
         return Ok(Some(right));
     }
     keys(options, alloc, row)
@@ -66,6 +70,26 @@ fn enums(options: Options, alloc: Global, row: &Row<'_>) -> Result<Option<bool>>
         "any" => of_both::<Any>(options, alloc, row, bytes)?,
         "hinted" => of_both::<Hinted>(options, alloc, row, bytes)?,
         "answer" => of_both::<Answer>(options, alloc, row, bytes)?,
+        _ => return Ok(None),
+    };
+    Ok(Some(right))
+}
+
+fn attributes(options: Options, alloc: Global, row: &Row<'_>) -> Result<Option<bool>> {
+    let bytes = row.bytes.as_slice();
+    let right = match row.kind {
+        "loud" => of_both::<Loud>(options, alloc, row, bytes)?,
+        "kind" => of_both::<Kind>(options, alloc, row, bytes)?,
+        "wide" => of_both::<Wide>(options, alloc, row, bytes)?,
+        "preset" => of_both::<Preset>(options, alloc, row, bytes)?,
+        "sided" => of_both::<Sided>(options, alloc, row, bytes)?,
+        "id" => of_both::<Id>(options, alloc, row, bytes)?,
+        "percent" => of_both::<Percent>(options, alloc, row, bytes)?,
+        "command" => of_both::<Command>(options, alloc, row, bytes)?,
+        "page of numbers" => of_both::<Page<u8>>(options, alloc, row, bytes)?,
+        "page of kinds" => of_both::<Page<Kind>>(options, alloc, row, bytes)?,
+        "page of pages" => of_both::<Page<Page<bool>>>(options, alloc, row, bytes)?,
+        "joined" => of_both::<Joined>(options, alloc, row, bytes)?,
         _ => return Ok(None),
     };
     Ok(Some(right))
