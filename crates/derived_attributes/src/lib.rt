@@ -1,4 +1,4 @@
-//! Types that derive the kit's `serde`, by the attributes that those of the other crates don't have.
+//! Types that derive the kit's `serde`, with attributes that no type of the other crates has.
 #![tactic(auto)]
 
 use serde::{Deserialize, Deserializer, Format, Serialize, Serializer};
