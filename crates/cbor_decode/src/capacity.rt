@@ -9,7 +9,8 @@ use crate::refusal::Done;
 /// Adds an item of up to 1,024 bytes after the others, where so many remain after it.
 ///
 /// `Vec` would take room for four at once. Where fewer than four come, room is taken for those
-/// alone: most arrays and maps are small, and each level of a nest holds one item.
+/// alone, and where none says how many, for one at first: most arrays and maps are small, and each
+/// level of a nest holds one item.
 #[inline(always)]
 pub fn push<T: Drop>(items: &mut Vec<T>, item: T, remaining: Remaining) -> Done<()>
     ensures items { OnOk result (items.new.items ≡ items.old.items ++ item ∷ []) }
@@ -53,6 +54,7 @@ fn grow<T>(items: &mut Vec<T>, remaining: Remaining) -> Done<()>
         Remaining::Counted(behind @ 0..=2) if items.is_empty() => {
             items.reserve_exact(behind as usize + 1)?
         }
+        Remaining::ToBreak if items.is_empty() => items.reserve_exact(1)?,
         _ => items.reserve(1)?,
     }
     Ok(())
