@@ -4,7 +4,7 @@ ghost use Rattle.std.specs.Prelude.{◌≡◌, ◌+◌, ◌<◌, ◌≤◌, [], 
 ghost use Rattle.std.specs.Prelude.{OnErr, Some, None};
 ghost use Rattle.std.specs.Io.KnownBytes.{Keeps};
 ghost use Rattle.cbor_read.specs.Reader.{ByteRead, Filled, SomeRead, PieceTaken};
-ghost use Rattle.cbor_read.specs.Source.{with_peeked, start_of_reader};
+ghost use Rattle.cbor_read.specs.Source.{reader_input, with_peeked, start_of_reader};
 
 use super::front::valid_in;
 use super::{EitherLifetime, Offset, Read, ReadError, ReadErrorCode, Result, Source};
@@ -61,6 +61,26 @@ impl<R: io::Read> IoRead<R> {
             buffer: Vec::new(alloc),
             peeked: None,
             offset: 0,
+        }
+    }
+
+    /// The bytes of this reader, the first of which stands at this offset of an input whose bytes
+    /// before were taken elsewhere: offsets, those of errors too, count from that input's start.
+    ///
+    /// ```rust
+    /// let mut source = IoRead::at_offset(alloc, b"\x2a".as_slice(), 1);
+    /// assert_eq!(rt; source.next()?, Some(0x2a));
+    /// assert_eq!(rt; source.offset(), 2);
+    /// ```
+    pub fn at_offset(alloc: Global, reader: R, offset: u64) -> IoRead<R>
+        ensures { input_of_reader R.remaining result
+            ≡ reader_input None (R.remaining reader) [] offset }
+    {
+        IoRead {
+            reader,
+            buffer: Vec::new(alloc),
+            peeked: None,
+            offset,
         }
     }
 

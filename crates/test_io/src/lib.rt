@@ -11,6 +11,8 @@ mod devices;
 #[cfg(test)]
 mod error_tests;
 #[cfg(test)]
+mod offset_tests;
+#[cfg(test)]
 mod own_source;
 #[cfg(test)]
 mod script;
