@@ -1,6 +1,6 @@
 #!/usr/bin/env bash
-# Builds the programs that bench/speed.py and bench/agree.py compare with, into bench/out: `measured`
-# and `answers` over the Rust crate serde_cbor, and `libcbor`. They stand on Debian's packages
+# Builds the programs that bench/speed.py, lists.py and agree.py compare with, into bench/out: `measured`,
+# `lists` and `answers` over the Rust crate serde_cbor, and `libcbor`. They stand on Debian's packages
 # librust-serde-cbor-dev, librust-serde-derive-dev, librust-half-dev and libcbor-dev; cargo and cc have
 # to be there.
 set -euo pipefail
@@ -20,5 +20,5 @@ cp -r rust out/rust
         --config 'source.crates-io.replace-with="debian"' \
         --config "source.debian.directory=\"$registry\""
 )
-cp out/target/release/measured out/target/release/answers out/
+cp out/target/release/measured out/target/release/answers out/target/release/lists out/
 cc -O2 -o out/libcbor libcbor.c -lcbor

@@ -5,12 +5,14 @@ ghost use Rattle.cbor_decode.specs.declared.cursor.Remaining.TheVariants.{Counte
 ghost use Rattle.std.specs.Borrow.{sem, RestsIfErr};
 ghost use Rattle.cbor_model.specs.Reader.{item_at};
 ghost use Rattle.cbor_io.specs.Error.{code_of, offset_of};
-ghost use Rattle.cbor_decode.specs.Gives.{Advances, Step, TellsNoForm};
+ghost use Rattle.cbor_decode.specs.Gives.{Advances, IsErrorOf, Step, TellsNoForm};
+ghost use Rattle.cbor_decode.specs.Gives.{TellsNoKey};
 ghost use Rattle.cbor_decode_as.specs.Begins.{Begins, RefusesBeginning};
 ghost use Rattle.cbor_decode_as.specs.Accesses.{IsArrayHead, RefusesArray, TakesNext, TakesPart};
 ghost use Rattle.cbor_decode_as.specs.Accesses.{TakesEnd, most_left, size_of, TakesMore};
 ghost use Rattle.cbor_read.specs.Source.{TookSome};
-ghost use Rattle.cbor_decode_as.specs.Takes.{IsMessage, WhateverTaken, context, formats_of, raws};
+ghost use Rattle.cbor_decode_as.specs.Takes.{IsMessage, OnceMade, WhateverTaken, context};
+ghost use Rattle.cbor_decode_as.specs.Takes.{formats_of, raws};
 ghost use Rattle.cbor_de.specs.Forms.{MayTell};
 ghost use Rattle.cbor_de.specs.contracts.de.Deserializer.{the_row};
 ghost use Rattle.cbor_decode.specs.Cursor.{Counts};
@@ -18,7 +20,7 @@ ghost use Rattle.cbor_decode.specs.declared.head.Head.TheVariants as kind;
 
 use crate::de::Deserializer;
 use crate::deserialize::Deserialize;
-use cbor_decode::Remaining;
+use cbor_decode::{Collection, Done, Refused, Remaining};
 use cbor_decode_as::collection::{array_head, end_array, more_items};
 use cbor_io::error::{Error, Result};
 use cbor_read::{Read, Source};
@@ -267,28 +269,42 @@ impl<'a, R: Source> SeqAccess<'a, R> {
 
 impl<'a, R: Source> SeqAccess<'a, R> {
     // Whether another item comes; its first byte stays. An array of indefinite length that has no
-    // end is refused with `EofWhileParsingArray`.
+    // end is refused with `EofWhileParsingArray`; `refused` makes the error.
     #[inline(always)]
-    pub(crate) fn more(&mut self) -> Result<bool>
+    pub(crate) fn more(&mut self) -> Done<bool>
         requires { self.old.de.now.decoder.levels < self.old.outer }
         ensures same_reference { self.new.de.ghost_name ≡ self.old.de.ghost_name }
-        ensures read { TakesMore R.refusals self.old.remaining self.new.remaining
+        ensures read { OnceMade (IsErrorOf self.new.de.now.decoder.refusal)
+            (TakesMore R.refusals self.old.remaining self.new.remaining
             (R.source self.old.de.now.decoder.source)
-            (R.source self.new.de.now.decoder.source) result }
+            (R.source self.new.de.now.decoder.source)) result }
         ensures counts { IfOk result (λ more. Counts self.old.remaining more self.new.remaining) }
-        ensures no_form { IfErr result (λ e. TellsNoForm (code_of e)) }
-        ensures inside { IfOk result (λ more.
-            self.new.de.now.decoder.levels ≡ self.old.de.now.decoder.levels) }
-        ensures left { IfErr result (λ e. self.new.de.now.decoder.levels ≡ self.old.outer) }
+        ensures no_key { IfErr result (TellsNoKey self.new.de.now.decoder.refusal) }
+        ensures levels { self.new.de.now.decoder.levels ≡ self.old.de.now.decoder.levels }
         ensures outer { self.new.outer ≡ self.old.outer }
         ensures formats { self.new.de.now.decoder.formats ≡ self.old.de.now.decoder.formats }
     {
-        match more_items(&mut self.de.decoder, &mut self.remaining) {
-            Ok(more) => Ok(more),
-            Err(e) => {
-                self.de.decoder.levels = self.outer;
-                Err(e)
-            }
-        }
+        self.de.decoder.more(&mut self.remaining, Collection::Array)
+    }
+
+    // Leaves the array for the error of a call on it that was refused.
+    #[cold]
+    #[inline(never)]
+    pub(crate) fn refused(self, refused: Refused) -> Error
+        requires { self.de.now.decoder.levels < self.outer }
+        ensures tells { IsErrorOf self.entry.de.now.decoder.refusal refused result }
+        ensures no_form { TellsNoKey self.entry.de.now.decoder.refusal refused
+            → TellsNoForm (code_of result) }
+        ensures source { self.exit.0.now.decoder.source ≡ self.entry.de.now.decoder.source }
+        ensures levels { self.exit.0.now.decoder.levels ≡ self.entry.outer }
+        ensures formats { self.exit.0.now.decoder.formats ≡ self.entry.de.now.decoder.formats }
+    {
+        let SeqAccess {
+            de,
+            remaining: _,
+            outer,
+        } = self;
+        de.decoder.levels = outer;
+        de.decoder.error(refused)
     }
 }

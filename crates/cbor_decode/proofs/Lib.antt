@@ -8,6 +8,7 @@ pub mod Heads
 pub mod ShortTexts
 pub mod AtEnd
 mod AtHand
+mod WholeHeads
 pub mod Chunk
 pub mod Chunks
 pub mod Items

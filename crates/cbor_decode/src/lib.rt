@@ -10,6 +10,7 @@
 //! reads from.
 #![tactic(auto)]
 
+mod at_hand;
 pub mod capacity;
 mod cursor;
 mod formats;

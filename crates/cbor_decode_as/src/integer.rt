@@ -1,6 +1,6 @@
 //! Whole numbers (RFC 7049, section 2.1, major types 0 and 1).
 
-ghost use Rattle.std.specs.Prelude.{◌≡◌, ◌≤◌, ◌<◌, ◌-◌, ◌^◌, ℕ, ℤ, pos, IfOk, IfErr};
+ghost use Rattle.std.specs.Prelude.{◌≡◌, ◌≤◌, ◌<◌, ◌-◌, ◌^◌, ℕ, ℤ, pos, negsuc, IfOk, IfErr};
 ghost use Rattle.std.specs.Prelude.{MatchOption, OnOk};
 ghost use Rattle.cbor_model.specs.Readable.{PassesTags, IsInteger, IsFromZero, IsSigned, IsWithin};
 ghost use Rattle.cbor_io.specs.Error.{code_of};
@@ -66,6 +66,15 @@ fn signed(head: Head, most: u64) -> Option<i64>
     }
 }
 
+// The number -1 - n.
+#[inline(always)]
+fn below_zero(n: u64) -> i64
+    requires { n < 2 ^ 63 }
+    ensures { result ≡ negsuc n }
+{
+    -1 - n as i64
+}
+
 /// Reads a whole number. What isn't whole is refused by its fault, and another item by a message.
 #[inline(always)]
 pub fn read_integer<R: Source>(decoder: &mut Decoder<R>) -> Result<i128>
@@ -103,6 +112,33 @@ pub fn read_integer<R: Source>(decoder: &mut Decoder<R>) -> Result<i128>
 /// [`read_integer`] does.
 #[inline(always)]
 pub fn read_from_zero<R: Source>(
+    decoder: &mut Decoder<R>,
+    most: u64,
+    message: &'static str,
+) -> Result<u64>
+    ensures read { TakesItem R.refusals (formats_of decoder.old.formats)
+        (PassesTags (IsFromZero most)) decoder.old.levels
+        (R.source decoder.old.source) (R.source decoder.new.source) result }
+    ensures taken { OnOk result
+        (Advances (R.source decoder.old.source) (R.source decoder.new.source)) }
+    ensures bound { IfOk result (λ n. n ≤ most) }
+    ensures fault { IfErr result (RefusesWhole R.refusals decoder.old.levels
+        (R.source decoder.old.source)) }
+    ensures no_form { IfErr result (λ e. TellsNoForm (code_of e)) }
+    ensures memory { IfErr result (TakesNoMemory (formats_of decoder.old.formats)
+        (PassesTags (IsFromZero most)) decoder.old.levels (R.source decoder.old.source)) }
+    ensures levels { decoder.new.levels ≡ decoder.old.levels }
+    ensures formats { decoder.new.formats ≡ decoder.old.formats }
+{
+    match decoder.unsigned(most) {
+        Some(number) => Ok(number),
+        None => from_zero_slow(decoder, most, message),
+    }
+}
+
+// The same where no such number is whole at hand.
+#[inline(never)]
+fn from_zero_slow<R: Source>(
     decoder: &mut Decoder<R>,
     most: u64,
     message: &'static str,
@@ -179,6 +215,33 @@ pub fn read_signed<R: Source>(
     most: u64,
     message: &'static str,
 ) -> Result<i64>
+    requires { most < 2 ^ 63 }
+    ensures read { TakesItem R.refusals (formats_of decoder.old.formats)
+        (PassesTags (IsSigned most)) decoder.old.levels
+        (R.source decoder.old.source) (R.source decoder.new.source) result }
+    ensures taken { OnOk result
+        (Advances (R.source decoder.old.source) (R.source decoder.new.source)) }
+    ensures bounds { IfOk result (IsWithin most) }
+    ensures fault { IfErr result (RefusesWhole R.refusals decoder.old.levels
+        (R.source decoder.old.source)) }
+    ensures no_form { IfErr result (λ e. TellsNoForm (code_of e)) }
+    ensures memory { IfErr result (TakesNoMemory (formats_of decoder.old.formats)
+        (PassesTags (IsSigned most)) decoder.old.levels (R.source decoder.old.source)) }
+    ensures levels { decoder.new.levels ≡ decoder.old.levels }
+    ensures formats { decoder.new.formats ≡ decoder.old.formats }
+{
+    if let Some(number) = decoder.unsigned(most) {
+        return Ok(number as i64);
+    }
+    match decoder.negative(most) {
+        Some(number) => Ok(below_zero(number)),
+        None => signed_slow(decoder, most, message),
+    }
+}
+
+// The same where no such number is whole at hand.
+#[inline(never)]
+fn signed_slow<R: Source>(decoder: &mut Decoder<R>, most: u64, message: &'static str) -> Result<i64>
     requires { most < 2 ^ 63 }
     ensures read { TakesItem R.refusals (formats_of decoder.old.formats)
         (PassesTags (IsSigned most)) decoder.old.levels

@@ -24,6 +24,29 @@ pub fn take_null<R: Source>(decoder: &mut Decoder<R>) -> Done<bool>
     ensures levels { decoder.new.levels ≡ decoder.old.levels }
     ensures formats { decoder.new.formats ≡ decoder.old.formats }
 {
+    match decoder.source.ahead().first().copied() {
+        Some(NULL) => {
+            decoder.source.advance(1);
+            Ok(true)
+        }
+        Some(_) => Ok(false),
+        None => take_null_peeked(decoder),
+    }
+}
+
+// The same where no byte is at hand: the source is asked to show one.
+#[inline(never)]
+fn take_null_peeked<R: Source>(decoder: &mut Decoder<R>) -> Done<bool>
+    ensures read { Gives R.refusals (λ b. b) (λ l. null_at)
+        (R.source decoder.old.source) (R.source decoder.new.source)
+        decoder.new.refusal result }
+    ensures taken { IfOk result (λ null. null ≡ true
+        → Advances (R.source decoder.old.source) (R.source decoder.new.source)) }
+    ensures no_key { IfErr result (TellsNoKey decoder.new.refusal) }
+    ensures memory { IfErr result (TellsNoMemory decoder.new.refusal) }
+    ensures levels { decoder.new.levels ≡ decoder.old.levels }
+    ensures formats { decoder.new.formats ≡ decoder.old.formats }
+{
     match decoder.source.peek() {
         Ok(Some(NULL)) => {
             // An offset that was read is known to be below 2^64.

@@ -92,6 +92,29 @@ pub fn read_bool<R: Source>(decoder: &mut Decoder<R>) -> Result<bool>
     ensures levels { decoder.new.levels ≡ decoder.old.levels }
     ensures formats { decoder.new.formats ≡ decoder.old.formats }
 {
+    match decoder.boolean() {
+        Some(b) => Ok(b),
+        None => bool_slow(decoder),
+    }
+}
+
+// The same where no bool is at hand.
+#[inline(never)]
+fn bool_slow<R: Source>(decoder: &mut Decoder<R>) -> Result<bool>
+    ensures read { TakesItem R.refusals (formats_of decoder.old.formats) (PassesTags IsBool)
+        decoder.old.levels
+        (R.source decoder.old.source) (R.source decoder.new.source)
+        result }
+    ensures taken { OnOk result
+        (Advances (R.source decoder.old.source) (R.source decoder.new.source)) }
+    ensures fault { IfErr result (RefusesWhole R.refusals decoder.old.levels
+        (R.source decoder.old.source)) }
+    ensures no_form { IfErr result (λ e. TellsNoForm (code_of e)) }
+    ensures memory { IfErr result (TakesNoMemory (formats_of decoder.old.formats)
+        (PassesTags IsBool) decoder.old.levels (R.source decoder.old.source)) }
+    ensures levels { decoder.new.levels ≡ decoder.old.levels }
+    ensures formats { decoder.new.formats ≡ decoder.old.formats }
+{
     let found = match scalar_head(decoder) {
         Ok(found) => found,
         Err(refused) => return Err(decoder.error(refused)),

@@ -28,6 +28,7 @@ impl Serialize for bool {
 impl Serialize for u8 {
     ghost document = { λ n. integer (pos n) };
 
+    #[inline(always)]
     fn serialize<W: Write>(&self, ser: &mut Serializer<W>) -> Result<()> {
         ser.serialize_u8(*self)
     }
@@ -36,6 +37,7 @@ impl Serialize for u8 {
 impl Serialize for u16 {
     ghost document = { λ n. integer (pos n) };
 
+    #[inline(always)]
     fn serialize<W: Write>(&self, ser: &mut Serializer<W>) -> Result<()> {
         ser.serialize_u16(*self)
     }
@@ -44,6 +46,7 @@ impl Serialize for u16 {
 impl Serialize for u32 {
     ghost document = { λ n. integer (pos n) };
 
+    #[inline(always)]
     fn serialize<W: Write>(&self, ser: &mut Serializer<W>) -> Result<()> {
         ser.serialize_u32(*self)
     }
@@ -52,6 +55,7 @@ impl Serialize for u32 {
 impl Serialize for u64 {
     ghost document = { λ n. integer (pos n) };
 
+    #[inline(always)]
     fn serialize<W: Write>(&self, ser: &mut Serializer<W>) -> Result<()> {
         ser.serialize_u64(*self)
     }
@@ -68,6 +72,7 @@ impl Serialize for u128 {
 impl Serialize for usize {
     ghost document = { λ n. integer (pos n) };
 
+    #[inline(always)]
     fn serialize<W: Write>(&self, ser: &mut Serializer<W>) -> Result<()> {
         ser.serialize_u64(*self as u64)
     }
@@ -76,6 +81,7 @@ impl Serialize for usize {
 impl Serialize for i8 {
     ghost document = { λ n. integer n };
 
+    #[inline(always)]
     fn serialize<W: Write>(&self, ser: &mut Serializer<W>) -> Result<()> {
         ser.serialize_i8(*self)
     }
@@ -84,6 +90,7 @@ impl Serialize for i8 {
 impl Serialize for i16 {
     ghost document = { λ n. integer n };
 
+    #[inline(always)]
     fn serialize<W: Write>(&self, ser: &mut Serializer<W>) -> Result<()> {
         ser.serialize_i16(*self)
     }
@@ -92,6 +99,7 @@ impl Serialize for i16 {
 impl Serialize for i32 {
     ghost document = { λ n. integer n };
 
+    #[inline(always)]
     fn serialize<W: Write>(&self, ser: &mut Serializer<W>) -> Result<()> {
         ser.serialize_i32(*self)
     }
@@ -100,6 +108,7 @@ impl Serialize for i32 {
 impl Serialize for i64 {
     ghost document = { λ n. integer n };
 
+    #[inline(always)]
     fn serialize<W: Write>(&self, ser: &mut Serializer<W>) -> Result<()> {
         ser.serialize_i64(*self)
     }
@@ -116,6 +125,7 @@ impl Serialize for i128 {
 impl Serialize for isize {
     ghost document = { λ n. integer n };
 
+    #[inline(always)]
     fn serialize<W: Write>(&self, ser: &mut Serializer<W>) -> Result<()> {
         ser.serialize_i64(*self as i64)
     }

@@ -4,7 +4,7 @@
 //! `Error` is large, and would be copied at each step on the way out.
 
 ghost use Rattle.std.specs.Prelude.{◌≡◌, ◌++◌, ℕ, List, Bool, length};
-ghost use Rattle.std.specs.Prelude.{Err, IfSome, IsSome, IsOk, OnErr, OnOk};
+ghost use Rattle.std.specs.Prelude.{Err, IfErr, IfSome, IsSome, IsOk, OnErr, OnOk};
 ghost use Rattle.std.specs.Option.{IsSomeAnd};
 ghost use Rattle.cbor_model.specs.Head.{short};
 ghost use Rattle.cbor_model.specs.Plain as plain;
@@ -73,6 +73,35 @@ fn put<W: Write>(writer: &mut W, refusal: &mut Option<Error>, piece: &[u8]) -> W
 }
 
 /// Appends the shortest head of the major type with this number, as one piece.
+#[inline(always)]
+pub(crate) fn write_head<W: Write>(writer: &mut W, major: Major, n: u64) -> Result<()>
+    ensures written { Wrote (W.written writer.old) (short (major_number major) n)
+        (W.written writer.new) result }
+    ensures same_references { W.references writer.new ≡ W.references writer.old }
+    ensures same_capacity { W.capacity writer.new ≡ W.capacity writer.old }
+    ensures refused { IfErr result (W.refuses writer.new) }
+    ensures fits { TakesWhatFits (W.capacity writer.old) (W.written writer.old)
+        (short (major_number major) n) result }
+{
+    let first = major.number() * 32;
+    if n < 24 {
+        writer.write_all(&[first + n as u8])
+    } else if n < 1 << 8 {
+        writer.write_all(&[first + 24, n as u8])
+    } else if n < 1 << 16 {
+        let [a, b] = (n as u16).to_be_bytes();
+        writer.write_all(&[first + 25, a, b])
+    } else if n < 1 << 32 {
+        let [a, b, c, d] = (n as u32).to_be_bytes();
+        writer.write_all(&[first + 26, a, b, c, d])
+    } else {
+        let [a, b, c, d, e, f, g, h] = n.to_be_bytes();
+        writer.write_all(&[first + 27, a, b, c, d, e, f, g, h])
+    }
+}
+
+/// The same as a step. It is written out for each width: a result of `write_head` would be moved
+/// once more.
 #[inline(always)]
 pub(crate) fn put_head<W: Write>(
     writer: &mut W,

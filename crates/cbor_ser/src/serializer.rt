@@ -8,13 +8,16 @@ ghost use Rattle.cbor_model.specs.Document.{null, bool, integer, bytes, text, un
 ghost use Rattle.cbor_model.specs.Document.{document_of, float};
 ghost use Rattle.cbor_model.specs.Raw.{single, double};
 ghost use Rattle.cbor_model.specs.Parts.{Part, item, tag_head};
-ghost use Rattle.cbor_model.specs.Canonical.{IsStorableInteger};
+ghost use Rattle.cbor_model.specs.Canonical.{IsStorableInteger, canonical_integer};
+ghost use Rattle.cbor_model.specs.Spelling.{spell};
 ghost use Rattle.cbor_io.specs.Head.{major_number};
 ghost use Rattle.cbor_value.specs.View.{view, float_view};
 ghost use Rattle.cbor_ser.specs.Serialized.{writer_of, settings_of, Serialized, Spells};
 ghost use Rattle.cbor_ser.specs.Written.{SaysUnstorable};
 
-use crate::items::{answer, not_storable, put_float, put_head, put_integer, put_string, put_value};
+use crate::items::{
+    answer, not_storable, put_float, put_integer, put_string, put_value, write_head,
+};
 use cbor_io::error::Result;
 use cbor_io::head::Major;
 use cbor_io::write::Write;
@@ -50,6 +53,19 @@ pub struct Serializer<W> {
     pub(crate) alloc: Global,
     pub(crate) writer: W,
     pub(crate) settings: Settings,
+}
+
+// The head of a whole number: its major type and its argument.
+#[inline(always)]
+#[tactic(auto, unfolding(cbor_model::specs::Spelling::spell))]
+fn integer_head(v: i64) -> (Major, u64)
+    ensures { spell (canonical_integer v) ≡ short (major_number result.0) result.1 }
+{
+    if v >= 0 {
+        (Major::UnsignedInteger, v as u64)
+    } else {
+        (Major::NegativeInteger, (-1 - v) as u64)
+    }
 }
 
 impl<W: Write> Serializer<W> {
@@ -181,6 +197,7 @@ impl<W: Write> Serializer<W> {
     }
 
     /// Appends an unsigned integer.
+    #[inline(always)]
     pub fn serialize_u64(&mut self, v: u64) -> Result<()>
         ensures { Serialized W.written W.refuses W.references W.capacity self.old
             (item (integer (pos v))) self.new result }
@@ -189,6 +206,7 @@ impl<W: Write> Serializer<W> {
     }
 
     /// Appends an unsigned integer.
+    #[inline(always)]
     pub fn serialize_u8(&mut self, v: u8) -> Result<()>
         ensures { Serialized W.written W.refuses W.references W.capacity self.old
             (item (integer (pos v))) self.new result }
@@ -197,6 +215,7 @@ impl<W: Write> Serializer<W> {
     }
 
     /// Appends an unsigned integer.
+    #[inline(always)]
     pub fn serialize_u16(&mut self, v: u16) -> Result<()>
         ensures { Serialized W.written W.refuses W.references W.capacity self.old
             (item (integer (pos v))) self.new result }
@@ -205,6 +224,7 @@ impl<W: Write> Serializer<W> {
     }
 
     /// Appends an unsigned integer.
+    #[inline(always)]
     pub fn serialize_u32(&mut self, v: u32) -> Result<()>
         ensures { Serialized W.written W.refuses W.references W.capacity self.old
             (item (integer (pos v))) self.new result }
@@ -213,6 +233,7 @@ impl<W: Write> Serializer<W> {
     }
 
     /// Appends a whole number.
+    #[inline(always)]
     pub fn serialize_i8(&mut self, v: i8) -> Result<()>
         ensures { Serialized W.written W.refuses W.references W.capacity self.old
             (item (integer v)) self.new result }
@@ -221,6 +242,7 @@ impl<W: Write> Serializer<W> {
     }
 
     /// Appends a whole number.
+    #[inline(always)]
     pub fn serialize_i16(&mut self, v: i16) -> Result<()>
         ensures { Serialized W.written W.refuses W.references W.capacity self.old
             (item (integer v)) self.new result }
@@ -229,6 +251,7 @@ impl<W: Write> Serializer<W> {
     }
 
     /// Appends a whole number.
+    #[inline(always)]
     pub fn serialize_i32(&mut self, v: i32) -> Result<()>
         ensures { Serialized W.written W.refuses W.references W.capacity self.old
             (item (integer v)) self.new result }
@@ -237,15 +260,13 @@ impl<W: Write> Serializer<W> {
     }
 
     /// Appends a whole number.
+    #[inline(always)]
     pub fn serialize_i64(&mut self, v: i64) -> Result<()>
         ensures { Serialized W.written W.refuses W.references W.capacity self.old
             (item (integer v)) self.new result }
     {
-        if v >= 0 {
-            self.write_head(Major::UnsignedInteger, v as u64)
-        } else {
-            self.write_head(Major::NegativeInteger, (-1 - v) as u64)
-        }
+        let (major, n) = integer_head(v);
+        self.write_head(major, n)
     }
 
     /// Appends a whole number. Outside `-2^64..=2^64-1` it is refused with the message
@@ -370,13 +391,12 @@ impl<W: Write> Serializer<W> {
     }
 
     // Appends the shortest head of the major type with this number, as one piece.
+    #[inline(always)]
     fn write_head(&mut self, major: Major, n: u64) -> Result<()>
         ensures { (part : Part) → Spells self.old.settings part (short (major_number major) n) →
             Serialized W.written W.refuses W.references W.capacity self.old part self.new result }
     {
-        let mut refusal = None;
-        let done = put_head(&mut self.writer, &mut refusal, major, n);
-        answer(done, refusal)
+        write_head(&mut self.writer, major, n)
     }
 
     // Appends a piece.

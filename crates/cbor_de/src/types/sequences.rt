@@ -35,7 +35,7 @@ impl<'de, R: Read<'de>, T: Deserialize<'de, R>> Deserialize<'de, R> for Vec<T> {
             match access.more() {
                 Ok(true) => {}
                 Ok(false) => break,
-                Err(e) => return Err(e),
+                Err(refused) => return Err(access.refused(refused)),
             }
             let item = match T::deserialize(access.de) {
                 Ok(item) => item,

@@ -7,24 +7,8 @@ use Rattle.cbor_model.specs.Reader.{number_at, number_behind}
 use Rattle.cbor_io.specs.declared.read_error.ReadErrorCode.TheVariants.{UnassignedCode}
 use Rattle.cbor_decode.proofs.Steps.{step_same, step_map, stopped_map, gives_map}
 use Rattle.cbor_decode.proofs.Calls.{fault_stops}
+use Rattle.cbor_decode.proofs.WholeHeads.{at_24, at_25, at_26, at_27}
 use Rattle.cbor_decode.proofs.Decoder.argument.Goals as goal
-
-module _ (low : ℕ) (bs : List ℕ) where
-  at_24 : low ≡ 24 → number_behind low bs ≡ number_at w8 bs
-  unfolding number_behind
-  at_24 is = rw is refl
-
-  at_25 : low ≡ 25 → number_behind low bs ≡ number_at w16 bs
-  unfolding number_behind
-  at_25 is = rw is refl
-
-  at_26 : low ≡ 26 → number_behind low bs ≡ number_at w32 bs
-  unfolding number_behind
-  at_26 is = rw is refl
-
-  at_27 : low ≡ 27 → number_behind low bs ≡ number_at w64 bs
-  unfolding number_behind
-  at_27 is = rw is refl
 
 pub returns-in_err-number_of_1-in-24-clause-read : goal.returns-in_err-number_of_1-in-24-clause-read
 returns-in_err-number_of_1-in-24-clause-read g c =

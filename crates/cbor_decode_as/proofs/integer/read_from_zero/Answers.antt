@@ -1,38 +1,18 @@
-use Rattle.std.proofs.Common.{pos}
-use Rattle.cbor_decode_as.specs.Takes.{formats_of}
+use Rattle.std.proofs.Common.{ℕ, pos, refl}
 use Rattle.cbor_model.specs.Readable.{IsFromZero}
-use Rattle.cbor_decode_as.proofs.numbers.Numbers.{number_read, number_none, number_unread}
-use Rattle.cbor_decode_as.proofs.heads.PassedOver.{behind_whole, unopened_whole}
-use Rattle.cbor_decode_as.proofs.numbers.Scalars.{refuses_on}
+use Rattle.cbor_decode.specs.declared.head.Head.TheVariants.{Unsigned}
+use Rattle.cbor_decode_as.specs.Takes.{formats_of}
+use Rattle.cbor_decode_as.proofs.heads.Opened.{head_opens, no_tag}
+use Rattle.cbor_decode_as.proofs.numbers.Numbers.{number_read}
 use Rattle.cbor_decode_as.proofs.integer.read_from_zero.Goals as goal
 
 pub returns-in-Some-clause-read : goal.returns-in-Some-clause-read
 returns-in-Some-clause-read g c =
-    let f = formats_of c.args.decoder.now.formats in
-    let s = g.R.Source.source c.args.decoder.now.source in
-    let u = c.scalar_head.new.decoder in
+    let decoder = c.args.decoder.now in
+    let f = formats_of decoder.formats in
+    let s = g.R.Source.source decoder.source in
+    let u = c.unsigned.new.self in
+    let t = g.R.Source.source u.source in
     let n = c.in-Some.number in
-    number_read g.R.Source.refusals f (IsFromZero c.args.most) c.args.decoder.now.levels s (g.R.Source.source u.source) u.refusal c.in-Ok.found.head (pos n) n (λ r is. (is, c.in-Some.ensures.1)) c.in-Some.ensures.0 c.in-Ok.ensures.read
-
-pub returns-in-None-clause-read : goal.returns-in-None-clause-read
-returns-in-None-clause-read g c =
-    let s = g.R.Source.source c.args.decoder.now.source in
-    let u = c.scalar_head.new.decoder in
-    refuses_on (number_none g.R.Source.refusals (formats_of c.args.decoder.now.formats) (IsFromZero c.args.most) c.args.decoder.now.levels s (g.R.Source.source u.source) u.refusal c.in-Ok.found.head c.no_number.result (λ n. pos n) (λ r n h. h.0) (λ r n h is. c.in-None.ensures n is h.1) c.in-Ok.ensures.read) c.no_number.ensures.took
-
-pub returns-in-None-clause-memory : goal.returns-in-None-clause-memory
-returns-in-None-clause-memory g c = λ e.
-    let s = g.R.Source.source c.args.decoder.now.source in
-    let u = c.scalar_head.new.decoder in
-    number_unread g.R.Source.refusals (formats_of c.args.decoder.now.formats) (IsFromZero c.args.most) c.args.decoder.now.levels s (g.R.Source.source u.source) u.refusal c.in-Ok.found.head (λ n. pos n) (λ r n h. h.0) (λ r n h is. c.in-None.ensures n is h.1) c.in-Ok.ensures.read
-
-pub returns-in-Err-clause-fault : goal.returns-in-Err-clause-fault
-returns-in-Err-clause-fault g c =
-    let u = c.scalar_head.new.decoder in
-    unopened_whole g.R.Source.refusals c.args.decoder.now.levels (g.R.Source.source c.args.decoder.now.source) u.refusal c.in-Err.refused c.error.result c.in-Err.ensures.opened.told c.error.ensures.tells
-
-pub returns-in-None-clause-fault : goal.returns-in-None-clause-fault
-returns-in-None-clause-fault g c =
-    let s = g.R.Source.source c.args.decoder.now.source in
-    let m = g.R.Source.source c.scalar_head.new.decoder.source in
-    behind_whole g.R.Source.refusals c.in-Ok.found c.args.decoder.now.levels s m c.no_number.result c.in-Ok.ensures.opened c.no_number.ensures.fault
+    let opens = head_opens f s t decoder.levels decoder.levels (Unsigned n) (no_tag (Unsigned n) (λ (m : ℕ) e. absurd cc)) refl c.in-Some.ensures.read in
+    number_read g.R.Source.refusals f (IsFromZero c.args.most) decoder.levels s t u.refusal (Unsigned n) (pos n) n (λ r is. (is, c.in-Some.ensures.bound)) refl (decoder.levels, opens)

@@ -1,40 +1,17 @@
-use Rattle.std.proofs.Common.{Ok, subst}
-use Rattle.cbor_decode.specs.declared.head.Head.{Head}
-use Rattle.cbor_model.specs.Readable.{IsBool}
-use Rattle.cbor_decode_as.specs.TaggedHeads.{TakesItemHead}
+use Rattle.std.proofs.Common.{ℕ, refl}
+use Rattle.cbor_decode.specs.declared.head.Head.TheVariants.{Bool as BoolHead}
 use Rattle.cbor_decode_as.specs.Takes.{formats_of}
-use Rattle.cbor_decode_as.proofs.numbers.Scalars.{scalar_unread, none_scalar, bool_read, not_bool, refuses_on}
-use Rattle.cbor_decode_as.proofs.heads.PassedOver.{behind_whole, unopened_whole}
+use Rattle.cbor_decode_as.proofs.heads.Opened.{head_opens, no_tag}
+use Rattle.cbor_decode_as.proofs.numbers.Scalars.{bool_read}
 use Rattle.cbor_decode_as.proofs.scalar.read_bool.Goals as goal
 
-pub returns-in-Bool-clause-read : goal.returns-in-Bool-clause-read
-returns-in-Bool-clause-read g c =
-    let s = g.R.Source.source c.args.decoder.now.source in
-    let u = c.scalar_head.new.decoder in
+pub returns-in-Some-clause-read : goal.returns-in-Some-clause-read
+returns-in-Some-clause-read g c =
+    let decoder = c.args.decoder.now in
+    let f = formats_of decoder.formats in
+    let s = g.R.Source.source decoder.source in
+    let u = c.boolean.new.self in
     let t = g.R.Source.source u.source in
-    let levels = c.args.decoder.now.levels in
-    let read = subst (λ (h : Head). TakesItemHead g.R.Source.refusals (formats_of c.args.decoder.now.formats) levels s t u.refusal (Ok h)) c.in-Bool.is c.in-Ok.ensures.read in
-    bool_read g.R.Source.refusals (formats_of c.args.decoder.now.formats) levels s t u.refusal c.in-Bool.b read
-
-pub returns-in_default-clause-read : goal.returns-in_default-clause-read
-returns-in_default-clause-read g c =
-    let s = g.R.Source.source c.args.decoder.now.source in
-    let u = c.scalar_head.new.decoder in
-    refuses_on (none_scalar g.R.Source.refusals (formats_of c.args.decoder.now.formats) IsBool c.args.decoder.now.levels s (g.R.Source.source u.source) u.refusal c.in-Ok.found.head c.skip_mismatch.result (not_bool c.in-Ok.found.head c.in_default.not-Bool) c.in-Ok.ensures.read) c.skip_mismatch.ensures.took
-
-pub returns-in_default-clause-memory : goal.returns-in_default-clause-memory
-returns-in_default-clause-memory g c = λ is.
-    let s = g.R.Source.source c.args.decoder.now.source in
-    let u = c.scalar_head.new.decoder in
-    scalar_unread g.R.Source.refusals (formats_of c.args.decoder.now.formats) IsBool c.args.decoder.now.levels s (g.R.Source.source u.source) u.refusal c.in-Ok.found.head (not_bool c.in-Ok.found.head c.in_default.not-Bool) c.in-Ok.ensures.read
-
-pub returns-in-Err-clause-fault : goal.returns-in-Err-clause-fault
-returns-in-Err-clause-fault g c =
-    let u = c.scalar_head.new.decoder in
-    unopened_whole g.R.Source.refusals c.args.decoder.now.levels (g.R.Source.source c.args.decoder.now.source) u.refusal c.in-Err.refused c.error.result c.in-Err.ensures.opened.told c.error.ensures.tells
-
-pub returns-in_default-clause-fault : goal.returns-in_default-clause-fault
-returns-in_default-clause-fault g c =
-    let s = g.R.Source.source c.args.decoder.now.source in
-    let m = g.R.Source.source c.scalar_head.new.decoder.source in
-    behind_whole g.R.Source.refusals c.in-Ok.found c.args.decoder.now.levels s m c.skip_mismatch.result c.in-Ok.ensures.opened c.skip_mismatch.ensures.fault
+    let b = c.in-Some.b in
+    let opens = head_opens f s t decoder.levels decoder.levels (BoolHead b) (no_tag (BoolHead b) (λ (m : ℕ) e. absurd cc)) refl c.in-Some.ensures.read in
+    bool_read g.R.Source.refusals f decoder.levels s t u.refusal b (decoder.levels, opens)

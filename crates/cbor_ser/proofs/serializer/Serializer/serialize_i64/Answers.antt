@@ -1,15 +1,15 @@
-use Rattle.std.proofs.Common.{rules}
+use Rattle.std.proofs.Common.{rules, FitsSigned}
+use Rattle.std.specs.Int.{w64}
+use Rattle.std.proofs.lemmas.Int.{to_z-of_z}
 use Rattle.cbor_ser.proofs.WriteSteps.{integer_storable}
 use Rattle.cbor_model.specs.Parts.{part_bytes, item}
 use Rattle.cbor_model.specs.Document as document
 use Rattle.cbor_model.specs.Document.{document_bytes, raw_of}
-use Rattle.cbor_model.specs.Spelling.{spell}
 use Rattle.cbor_ser.proofs.serializer.Serializer.serialize_i64.Goals as goal
 
-pub returns-then-v-ge0 : goal.returns-then-v-ge0
-unfolding part_bytes document_bytes raw_of spell
-returns-then-v-ge0 g c = c.write_head.ensures (item (document.integer c.args.v)) (record { same = search rules; storable = integer_storable c.args.v c.ranges.v; in_range = tt })
-
-pub returns-else-v-ge0 : goal.returns-else-v-ge0
-unfolding part_bytes document_bytes raw_of spell
-returns-else-v-ge0 g c = c.write_head-else-v-ge0.ensures (item (document.integer c.args.v)) (record { same = search rules; storable = integer_storable c.args.v c.ranges.v; in_range = tt })
+pub returns : goal.returns
+unfolding part_bytes document_bytes raw_of
+returns g c =
+    let v = c.args.v in
+    let fits : FitsSigned w64 v = search rules in
+    c.write_head.ensures (item (document.integer v)) (record { same = rw (to_z-of_z w64 v fits) at c.integer_head-major.ensures; storable = integer_storable v c.ranges.v; in_range = tt })

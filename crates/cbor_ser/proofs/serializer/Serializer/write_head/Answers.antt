@@ -1,12 +1,8 @@
 use Rattle.std.proofs.Common.{refl}
-use Rattle.cbor_ser.proofs.Beginnings.{told, told_refused, told_fits}
 use Rattle.cbor_ser.proofs.WriteSteps.{serialized}
 use Rattle.cbor_ser.proofs.serializer.Serializer.write_head.Goals as goal
 
 pub returns : goal.returns
 returns g c part spells =
-    let done = c.put_head-done in
-    serialized part c.answer.result spells refl done.ensures.same_references done.ensures.same_capacity
-    (told _ done.result _ c.answer.result c.answer.ensures.ok c.answer.ensures.err done.ensures.refused done.ensures.written)
-    (told_refused _ done.result _ c.answer.result c.answer.ensures.ok c.answer.ensures.err done.ensures.refused)
-    (told_fits done.result c.answer.result c.answer.ensures.ok done.ensures.fits)
+    let done = c.write_head in
+    serialized part done.result spells refl done.ensures.same_references done.ensures.same_capacity done.ensures.written done.ensures.refused done.ensures.fits

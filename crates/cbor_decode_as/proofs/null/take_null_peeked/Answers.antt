@@ -1,7 +1,7 @@
 use Rattle.std.proofs.Common.{◌≡◌, ℕ, true, List, ◌∷◌, Ok, refl}
 use Rattle.cbor_decode.proofs.facts.Steps.{peeked_step}
 use Rattle.cbor_decode_as.specs.Nulls.{null_at}
-use Rattle.cbor_decode_as.proofs.null.take_null.Goals as goal
+use Rattle.cbor_decode_as.proofs.null.take_null_peeked.Goals as goal
 
 null_first : (b : ℕ) (rest : List ℕ) → b ≡ 246 → null_at (b ∷ rest) ≡ Ok (true, rest)
 null_first b rest is = rw is refl

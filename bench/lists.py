@@ -1,0 +1,78 @@
+#!/usr/bin/env python3
+"""Counts the instructions that an item of a list of small things takes; see README.md."""
+import argparse
+import os
+import random
+import re
+import struct
+import subprocess
+import tempfile
+
+from items import NEGATIVE, UNSIGNED, array, head, text
+
+HERE = os.path.dirname(os.path.abspath(__file__))
+OURS = os.path.join(HERE, '..', 'crates', 'lists_bench', 'out', 'lists_bench')
+CRATE = os.path.join(HERE, 'out', 'lists')
+COUNT = 20_000
+rng = random.Random(8949)
+
+
+def word(length):
+    return text(''.join(rng.choice('abcdefgh') for _ in range(length)))
+
+
+def of_five_bytes(major):
+    return head(major, rng.randrange(1 << 16, 1 << 31))
+
+
+LISTS = {
+    'bool': ('b', lambda: rng.choice([b'\xf4', b'\xf5'])),
+    'Option<u8>, half null': ('o', lambda: rng.choice([b'\xf6', head(UNSIGNED, rng.randrange(24))])),
+    'i64, five bytes': ('i', lambda: of_five_bytes(rng.choice([UNSIGNED, NEGATIVE]))),
+    'u32, five bytes': ('u', lambda: of_five_bytes(UNSIGNED)),
+    'u32, three bytes': ('u', lambda: head(UNSIGNED, rng.randrange(1 << 8, 1 << 16))),
+    'u32, two bytes': ('u', lambda: head(UNSIGNED, rng.randrange(24, 1 << 8))),
+    'u32, below 24': ('u', lambda: head(UNSIGNED, rng.randrange(24))),
+    'char, ASCII': ('c', lambda: word(1)),
+    '&str, 8 bytes': ('s', lambda: word(8)),
+    'String, 8 bytes': ('S', lambda: word(8)),
+    'f64': ('f', lambda: b'\xfb' + struct.pack('>d', rng.random() * 1e9 + 1 / 3)),
+    '(u32, bool, String)': ('t', lambda: b'\x83' + of_five_bytes(UNSIGNED) + b'\xf5' + word(8)),
+}
+
+
+def instructions(program, task, times, kind, item):
+    with tempfile.TemporaryFile() as given:
+        given.write(bytes([task, times]) + kind.encode() + item)
+        given.seek(0)
+        words = ['valgrind', '--tool=callgrind', '--callgrind-out-file=/dev/null', program]
+        run = subprocess.run(words, stdin=given, stdout=subprocess.DEVNULL, stderr=subprocess.PIPE)
+    assert run.returncode == 0, run.stderr.decode()
+    return int(re.search(rb'Collected : (\d+)', run.stderr)[1])
+
+
+def each(program, task, kind, item):
+    """What one more turn takes, for each item."""
+    once, twice = (instructions(program, task, times, kind, item) for times in (1, 2))
+    return (twice - once) / COUNT
+
+
+def main():
+    parser = argparse.ArgumentParser(description=__doc__)
+    parser.add_argument('word', nargs='?', default='', help='count the lists alone whose name has this in it')
+    parser.add_argument('--program', default=OURS, help='count this program in place of lists_bench')
+    chosen = parser.parse_args()
+    print('| list | read | Rust crate | times | read and written | Rust crate | times |')
+    print('|---|---|---|---|---|---|---|')
+    for name, (kind, make) in LISTS.items():
+        item = array(make() for _ in range(COUNT))
+        if chosen.word in name:
+            cells = [name]
+            for task in (0, 1):
+                ours, theirs = (each(program, task, kind, item) for program in (chosen.program, CRATE))
+                cells += [f'{ours:.1f}', f'{theirs:.1f}', f'{theirs / ours:.2f}']
+            print('| ' + ' | '.join(cells) + ' |', flush=True)
+
+
+if __name__ == '__main__':
+    main()

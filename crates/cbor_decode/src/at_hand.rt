@@ -1,0 +1,128 @@
+//! Heads of numbers and bools that are whole at hand: they are told by the bytes themselves, without
+//! a refusal. All others are for [`Decoder::head`].
+
+ghost use Rattle.std.specs.Prelude.{◌≡◌, ◌≤◌, ◌++◌, List, ℕ, length, take, MatchOption, IfSome};
+ghost use Rattle.std.specs.Prelude.{OnSome, Ok};
+ghost use Rattle.cbor_model.specs.Reader.{number_behind};
+ghost use Rattle.cbor_decode.specs.Gives.{Advances};
+ghost use Rattle.cbor_decode.specs.Heads.{HeadGives, opening_at};
+ghost use Rattle.cbor_decode.specs.declared.head.Head.TheVariants.{Unsigned, Negative};
+ghost use Rattle.cbor_decode.specs.declared.head.Head.TheVariants.{Bool as BoolHead};
+
+use crate::Decoder;
+use cbor_read::Source;
+
+// The argument after a first byte with these lower five bits, and how many of the bytes behind it
+// are the argument's; None where they are too few, or none has such bits.
+#[inline(always)]
+fn argument_in(low: u8, behind: &[u8]) -> Option<(u64, usize)>
+    ensures within { IfSome result (λ found. found.1 ≤ length behind.now) }
+    ensures read { IfSome result (λ found. (rest : List ℕ)
+        → number_behind low (take found.1 behind.now ++ rest) ≡ Ok (found.0, rest)) }
+{
+    match low {
+        0..=23 => Some((low as u64, 0)),
+        24 => match behind.first_chunk() {
+            Some(bytes) => Some((u8::from_be_bytes(*bytes) as u64, 1)),
+            None => None,
+        },
+        25 => match behind.first_chunk() {
+            Some(bytes) => Some((u16::from_be_bytes(*bytes) as u64, 2)),
+            None => None,
+        },
+        26 => match behind.first_chunk() {
+            Some(bytes) => Some((u32::from_be_bytes(*bytes) as u64, 4)),
+            None => None,
+        },
+        27 => match behind.first_chunk() {
+            Some(bytes) => Some((u64::from_be_bytes(*bytes), 8)),
+            None => None,
+        },
+        _ => None,
+    }
+}
+
+impl<R: Source> Decoder<R> {
+    /// Takes a whole number from 0 to the most. None where another head or a greater number comes,
+    /// or too few bytes are available; then nothing is taken.
+    #[inline(always)]
+    pub fn unsigned(&mut self, most: u64) -> Option<u64>
+        ensures read { MatchOption result (R.source self.new.source ≡ R.source self.old.source)
+            (λ n. HeadGives R.refusals opening_at (R.source self.old.source)
+            (R.source self.new.source) self.new.refusal (Ok (Unsigned n))) }
+        ensures bound { IfSome result (λ n. n ≤ most) }
+        ensures taken { OnSome result (Advances (R.source self.old.source)
+            (R.source self.new.source)) }
+        ensures levels { self.new.levels ≡ self.old.levels }
+        ensures formats { self.new.formats ≡ self.old.formats }
+    {
+        let ahead = self.source.ahead();
+        match ahead.first().copied() {
+            Some(first @ 0x00..=0x1b) => match argument_in(first, &ahead[1..]) {
+                Some((n, behind)) => {
+                    if n > most {
+                        return None;
+                    }
+                    self.source.advance(1 + behind);
+                    Some(n)
+                }
+                None => None,
+            },
+            _ => None,
+        }
+    }
+
+    /// Takes a whole number -1 - n, of an n up to the most, and returns n. None as
+    /// [`unsigned`](Decoder::unsigned) returns it.
+    #[inline(always)]
+    pub fn negative(&mut self, most: u64) -> Option<u64>
+        ensures read { MatchOption result (R.source self.new.source ≡ R.source self.old.source)
+            (λ n. HeadGives R.refusals opening_at (R.source self.old.source)
+            (R.source self.new.source) self.new.refusal (Ok (Negative n))) }
+        ensures bound { IfSome result (λ n. n ≤ most) }
+        ensures taken { OnSome result (Advances (R.source self.old.source)
+            (R.source self.new.source)) }
+        ensures levels { self.new.levels ≡ self.old.levels }
+        ensures formats { self.new.formats ≡ self.old.formats }
+    {
+        let ahead = self.source.ahead();
+        match ahead.first().copied() {
+            Some(first @ 0x20..=0x3b) => match argument_in(first - 0x20, &ahead[1..]) {
+                Some((n, behind)) => {
+                    if n > most {
+                        return None;
+                    }
+                    self.source.advance(1 + behind);
+                    Some(n)
+                }
+                None => None,
+            },
+            _ => None,
+        }
+    }
+
+    /// Takes false or true. None where another head comes, or no byte is available; then nothing is
+    /// taken.
+    #[inline(always)]
+    pub fn boolean(&mut self) -> Option<bool>
+        ensures read { MatchOption result (R.source self.new.source ≡ R.source self.old.source)
+            (λ b. HeadGives R.refusals opening_at (R.source self.old.source)
+            (R.source self.new.source) self.new.refusal (Ok (BoolHead b))) }
+        ensures taken { OnSome result (Advances (R.source self.old.source)
+            (R.source self.new.source)) }
+        ensures levels { self.new.levels ≡ self.old.levels }
+        ensures formats { self.new.formats ≡ self.old.formats }
+    {
+        match self.source.ahead().first().copied() {
+            Some(0xf4) => {
+                self.source.advance(1);
+                Some(false)
+            }
+            Some(0xf5) => {
+                self.source.advance(1);
+                Some(true)
+            }
+            _ => None,
+        }
+    }
+}

@@ -1,0 +1,38 @@
+use Rattle.std.proofs.Common.{pos}
+use Rattle.cbor_decode_as.specs.Takes.{formats_of}
+use Rattle.cbor_model.specs.Readable.{IsFromZero}
+use Rattle.cbor_decode_as.proofs.numbers.Numbers.{number_read, number_none, number_unread}
+use Rattle.cbor_decode_as.proofs.heads.PassedOver.{behind_whole, unopened_whole}
+use Rattle.cbor_decode_as.proofs.numbers.Scalars.{refuses_on}
+use Rattle.cbor_decode_as.proofs.integer.from_zero_slow.Goals as goal
+
+pub returns-in-Some-clause-read : goal.returns-in-Some-clause-read
+returns-in-Some-clause-read g c =
+    let f = formats_of c.args.decoder.now.formats in
+    let s = g.R.Source.source c.args.decoder.now.source in
+    let u = c.scalar_head.new.decoder in
+    let n = c.in-Some.number in
+    number_read g.R.Source.refusals f (IsFromZero c.args.most) c.args.decoder.now.levels s (g.R.Source.source u.source) u.refusal c.in-Ok.found.head (pos n) n (λ r is. (is, c.in-Some.ensures.1)) c.in-Some.ensures.0 c.in-Ok.ensures.read
+
+pub returns-in-None-clause-read : goal.returns-in-None-clause-read
+returns-in-None-clause-read g c =
+    let s = g.R.Source.source c.args.decoder.now.source in
+    let u = c.scalar_head.new.decoder in
+    refuses_on (number_none g.R.Source.refusals (formats_of c.args.decoder.now.formats) (IsFromZero c.args.most) c.args.decoder.now.levels s (g.R.Source.source u.source) u.refusal c.in-Ok.found.head c.no_number.result (λ n. pos n) (λ r n h. h.0) (λ r n h is. c.in-None.ensures n is h.1) c.in-Ok.ensures.read) c.no_number.ensures.took
+
+pub returns-in-None-clause-memory : goal.returns-in-None-clause-memory
+returns-in-None-clause-memory g c = λ e.
+    let s = g.R.Source.source c.args.decoder.now.source in
+    let u = c.scalar_head.new.decoder in
+    number_unread g.R.Source.refusals (formats_of c.args.decoder.now.formats) (IsFromZero c.args.most) c.args.decoder.now.levels s (g.R.Source.source u.source) u.refusal c.in-Ok.found.head (λ n. pos n) (λ r n h. h.0) (λ r n h is. c.in-None.ensures n is h.1) c.in-Ok.ensures.read
+
+pub returns-in-Err-clause-fault : goal.returns-in-Err-clause-fault
+returns-in-Err-clause-fault g c =
+    let u = c.scalar_head.new.decoder in
+    unopened_whole g.R.Source.refusals c.args.decoder.now.levels (g.R.Source.source c.args.decoder.now.source) u.refusal c.in-Err.refused c.error.result c.in-Err.ensures.opened.told c.error.ensures.tells
+
+pub returns-in-None-clause-fault : goal.returns-in-None-clause-fault
+returns-in-None-clause-fault g c =
+    let s = g.R.Source.source c.args.decoder.now.source in
+    let m = g.R.Source.source c.scalar_head.new.decoder.source in
+    behind_whole g.R.Source.refusals c.in-Ok.found c.args.decoder.now.levels s m c.no_number.result c.in-Ok.ensures.opened c.no_number.ensures.fault

@@ -1,0 +1,41 @@
+use Rattle.std.proofs.Common.{rules, FitsSigned}
+use Rattle.std.specs.Int.{w64}
+use Rattle.std.proofs.lemmas.Int.{to_z-of_z}
+use Rattle.cbor_decode_as.specs.Takes.{formats_of}
+use Rattle.cbor_model.specs.Readable.{IsSigned}
+use Rattle.cbor_decode_as.proofs.numbers.Numbers.{number_read, number_none, number_unread}
+use Rattle.cbor_decode_as.proofs.heads.PassedOver.{behind_whole, unopened_whole}
+use Rattle.cbor_decode_as.proofs.numbers.Scalars.{refuses_on}
+use Rattle.cbor_decode_as.proofs.integer.signed_slow.Goals as goal
+
+pub returns-in-Some-clause-read : goal.returns-in-Some-clause-read
+returns-in-Some-clause-read g c =
+    let f = formats_of c.args.decoder.now.formats in
+    let s = g.R.Source.source c.args.decoder.now.source in
+    let u = c.scalar_head.new.decoder in
+    let n = c.in-Some.number in
+    let fits : FitsSigned w64 n = search rules in
+    rw (to_z-of_z w64 n fits) (number_read g.R.Source.refusals f (IsSigned c.args.most) c.args.decoder.now.levels s (g.R.Source.source u.source) u.refusal c.in-Ok.found.head n n (λ r is. (is, c.in-Some.ensures.1)) c.in-Some.ensures.0 c.in-Ok.ensures.read)
+
+pub returns-in-None-clause-read : goal.returns-in-None-clause-read
+returns-in-None-clause-read g c =
+    let s = g.R.Source.source c.args.decoder.now.source in
+    let u = c.scalar_head.new.decoder in
+    refuses_on (number_none g.R.Source.refusals (formats_of c.args.decoder.now.formats) (IsSigned c.args.most) c.args.decoder.now.levels s (g.R.Source.source u.source) u.refusal c.in-Ok.found.head c.no_number.result (λ z. z) (λ r z h. h.0) (λ r z h is. c.in-None.ensures z is h.1) c.in-Ok.ensures.read) c.no_number.ensures.took
+
+pub returns-in-None-clause-memory : goal.returns-in-None-clause-memory
+returns-in-None-clause-memory g c = λ e.
+    let s = g.R.Source.source c.args.decoder.now.source in
+    let u = c.scalar_head.new.decoder in
+    number_unread g.R.Source.refusals (formats_of c.args.decoder.now.formats) (IsSigned c.args.most) c.args.decoder.now.levels s (g.R.Source.source u.source) u.refusal c.in-Ok.found.head (λ z. z) (λ r z h. h.0) (λ r z h is. c.in-None.ensures z is h.1) c.in-Ok.ensures.read
+
+pub returns-in-Err-clause-fault : goal.returns-in-Err-clause-fault
+returns-in-Err-clause-fault g c =
+    let u = c.scalar_head.new.decoder in
+    unopened_whole g.R.Source.refusals c.args.decoder.now.levels (g.R.Source.source c.args.decoder.now.source) u.refusal c.in-Err.refused c.error.result c.in-Err.ensures.opened.told c.error.ensures.tells
+
+pub returns-in-None-clause-fault : goal.returns-in-None-clause-fault
+returns-in-None-clause-fault g c =
+    let s = g.R.Source.source c.args.decoder.now.source in
+    let m = g.R.Source.source c.scalar_head.new.decoder.source in
+    behind_whole g.R.Source.refusals c.in-Ok.found c.args.decoder.now.levels s m c.no_number.result c.in-Ok.ensures.opened c.no_number.ensures.fault
