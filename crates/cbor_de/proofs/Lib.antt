@@ -16,6 +16,7 @@ pub mod ByteStrings
 pub mod FieldNames
 pub mod Slots
 pub mod Structs
+pub mod NewFieldPassed
 pub mod StructLoops
 pub mod Enums
 pub mod ItemLists
@@ -23,6 +24,8 @@ pub mod StreamSteps
 pub mod Taken
 pub mod HeadsTaken
 pub mod TagTaken
+pub mod PartTaken
 pub mod ItemFronts
 pub mod Items
 pub mod StreamAnswers
+pub mod StreamedValues

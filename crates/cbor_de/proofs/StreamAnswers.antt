@@ -26,7 +26,7 @@ use Rattle.cbor_decode_as.proofs.facts.Refusals.{excused_or}
 use Rattle.cbor_de.proofs.facts.Readings.{where_map}
 use Rattle.cbor_de.specs.Items.{AreMostItems}
 use Rattle.cbor_de.specs.Streams.{Stream, StreamGives, GivesNone, GivesItem, GivesError, begun}
-use Rattle.cbor_de.specs.StreamAnswers.{AreReadAs, IsExcused, Unread, Faulty, limits_at, AnswersTo, StreamAnswers}
+use Rattle.cbor_de.specs.StreamAnswers.{AreReadAs, IsExcused, Rejected, Faulty, limits_at, AnswersTo, StreamAnswers}
 use Rattle.cbor_de.proofs.ItemFronts.{behind_bytes}
 use Rattle.cbor_de.proofs.Items.{most_behind, first_begins, no_items, none_behind}
 
@@ -150,7 +150,7 @@ module _ {A : Type 0} (reads : Formats → Raw → A → Type 0) (total : Bool) 
       (subst (λ (l : Limits). FailsBy Device (code_of e) l.total (offset_of e) (item_at (values all_formats l) levels bs)) (sym (here s bs o)) fails))) h
 
   -- where an item is at the front, it isn't read as the type, or the error is excused
-  unread : (s t : Stream) (bs : List ℕ) (r : Raw) (more : List ℕ) (e : Error) → Over levels end room s bs → FitsScratch room r → Begins levels bs r more → GivesError refusals reads total e s t → Unread (reads all_formats) total Device levels end room r e
+  unread : (s t : Stream) (bs : List ℕ) (r : Raw) (more : List ℕ) (e : Error) → Over levels end room s bs → FitsScratch room r → Begins levels bs r more → GivesError refusals reads total e s t → Rejected (reads all_formats) total Device levels end room r e
   unread s t bs r more e o fits b h =
       let is = is_read s bs r more o fits b in
       let value_is : item_at (values all_formats Here) levels bs ≡ Ok (value r, more) = value_seen all_formats Here levels bs ∙ ap (along value) is in

@@ -4,3 +4,4 @@ pub mod Values
 pub mod Structs
 pub mod Enums
 pub mod Forms
+pub mod Streams

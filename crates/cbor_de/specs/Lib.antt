@@ -1,4 +1,5 @@
 pub mod Structs
+pub mod NewFields
 pub mod Fields
 pub mod Absent
 pub mod ItemLists
@@ -11,7 +12,9 @@ pub mod FirstOfItem
 pub mod ItemTaken
 pub mod HeadsTaken
 pub mod TagTaken
+pub mod PartTaken
 pub mod Streams
+pub mod Streamed
 pub use Rattle.cbor_io.specs.Error
 pub use Rattle.cbor_decode_as.specs.Takes
 pub use Rattle.cbor_decode_as.specs.TaggedHeads

@@ -29,7 +29,7 @@ module _ {A : Type 0} (reads : Raw → A → Type 0) (total : Bool) (Device : Ty
     (levels end : ℕ) (room : Option ℕ) where
   -- Why an item isn't read: the type doesn't read it, which one that reads every item never does;
   -- or the error is excused.
-  pub record Unread (r : Raw) (e : Error) : Type 0 where
+  pub record Rejected (r : Raw) (e : Error) : Type 0 where
     pub not : IsExcused Device e ⊎ ((x : A) → reads r x → ⊥)
     pub excused : WhereTotal total (IsExcused Device e)
 
@@ -49,7 +49,7 @@ module _ {A : Type 0} (reads : Raw → A → Type 0) (total : Bool) (Device : Ty
   -- read.
   abbrev pub AnswersTo : List Raw → List ℕ → List (Result A Error) → Type 0
   AnswersTo (r ∷ rs) rest (Ok x ∷ answers) = reads r x × AnswersTo rs rest answers
-  AnswersTo (r ∷ rs) rest (Err e ∷ []) = Unread r e
+  AnswersTo (r ∷ rs) rest (Err e ∷ []) = Rejected r e
   AnswersTo [] [] [] = ⊤
   AnswersTo [] [] (Err e ∷ []) = IsExcused Device e
   AnswersTo [] (b ∷ rest) (Err e ∷ []) = Faulty (b ∷ rest) e

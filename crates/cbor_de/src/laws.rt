@@ -3,6 +3,7 @@ ghost use Rattle.cbor_de.specs.Alike.{SourcesAgree, OwnedAgree};
 ghost use Rattle.cbor_de.specs.FirstOfItem.{FirstIsFault, ItemRefusedFirst};
 ghost use Rattle.cbor_de.specs.ItemTaken.{ItemTaken};
 ghost use Rattle.cbor_de.specs.HeadsTaken.{HeadsTaken};
+ghost use Rattle.cbor_de.specs.PartTaken.{ArrayEndTaken, ElementTaken, KeyTaken, MapEndTaken};
 ghost use Rattle.cbor_de.specs.TagTaken.{TagTaken};
 ghost use Rattle.cbor_decode.specs.declared.head.Head.TheVariants.{Array, Map};
 
@@ -80,4 +81,32 @@ pub fn heads_taken()
 /// A caller gives it the clause `read` of the call.
 pub fn tag_taken()
     ensures { TagTaken }
+{}
+
+/// What `next_element` takes, by the definitions alone. Some: another item came of what remains, a
+/// count or up to the break, and it was taken as `deserialize` takes one ([`item_taken`]). None: the
+/// array ends here, and its break was taken, if it has one. Err: neither is here; or memory ran out,
+/// or the source reported a fault.
+///
+/// A caller gives it the clause `read` of the call.
+pub fn element_taken<T: Readable>()
+    ensures { ElementTaken T.reads }
+{}
+
+/// What `next_key` takes, by the definitions alone, as [`element_taken`] says it of an item: a key
+/// that is taken begins as one of a format that is read. `next_value` takes what `deserialize` does.
+///
+/// A caller gives it the clause `read` of the call.
+pub fn key_taken<K: Readable>()
+    ensures { KeyTaken K.reads }
+{}
+
+/// What the `end` of an array and of a map takes, by the definitions alone. Ok: none remains of a
+/// count, and nothing was taken; or the break of an indefinite length was. Err: no such end is here;
+/// or memory ran out, or the source reported a fault.
+///
+/// A caller gives it the clause `read` of the call.
+pub fn end_taken()
+    ensures arrays { ArrayEndTaken }
+    ensures maps { MapEndTaken }
 {}

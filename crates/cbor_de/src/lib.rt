@@ -44,8 +44,8 @@ pub use field_type::FieldType;
 pub use from::{from_mut_slice, from_reader, from_slice, from_slice_with_scratch, from_vec};
 pub use item_list::{ReadTuple, ReadableTuple};
 pub use laws::{
-    first_is_fault, heads_taken, item_refused_first, item_taken, owned_agree, sources_agree,
-    tag_taken,
+    element_taken, end_taken, first_is_fault, heads_taken, item_refused_first, item_taken,
+    key_taken, owned_agree, sources_agree, tag_taken,
 };
 pub use map::MapAccess;
 pub use sequence::SeqAccess;

@@ -1,2 +1,4 @@
 pub mod Written
 pub mod Calls
+pub mod NoChunks
+pub mod facts

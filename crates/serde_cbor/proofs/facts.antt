@@ -5,3 +5,5 @@ pub mod Serialize
 pub mod Structs
 pub mod Enums
 pub mod Sources
+pub mod Streams
+pub mod Documents

@@ -1,3 +1,2 @@
-mod NewFields
 mod Readings
 mod Saved

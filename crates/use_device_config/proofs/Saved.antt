@@ -12,12 +12,13 @@ use Rattle.serde_cbor.specs.Written.{IsNotWritten, IsRefusedBy}
 use Rattle.serde_cbor.specs.Formats.{all_formats, HasAllowedKeys}
 use Rattle.serde_cbor.specs.Laws.{DocumentIsAcceptable, OneSpelling}
 use Rattle.serde_cbor.specs.PartLists.{document_if, field_if}
-use Rattle.serde_cbor.specs.Raw.{Raw, depth, depth_all, depth_pairs, longest_joined, longest_joined_all, longest_joined_pairs}
+use Rattle.serde_cbor.specs.Raw.{Raw, depth, depth_all, depth_pairs}
 use Rattle.serde_cbor.specs.ReadBack.{IsWrittenReadBack}
 use Rattle.serde_cbor.specs.Readable.{Context}
 use Rattle.serde_cbor.specs.Source.{Lends}
 use Rattle.serde_cbor.specs.Spelling.{spell}
 use Rattle.serde_cbor.specs.Whole.{from_slice_context}
+use Rattle.serde_cbor.proofs.facts.Documents.{no_chunks}
 use Rattle.use_device_config.specs.Configs.{SaysOnly, most_levels}
 use Rattle.use_device_config.specs.contracts.config.ConfigSerialize.TheImpl as config
 use Rattle.use_device_config.specs.contracts.config.ConfigRoundTrip.TheImpl as law
@@ -32,13 +33,13 @@ lends = record { whole = true; joined = false }
 module _ {C : Type 0} (document : C → Doc) (reads : Context → Raw → C → Type 0) (fits : C → Type 0) where
   pub says_only : IsWrittenReadBack document reads fits → DocumentIsAcceptable → OneSpelling
       → (x : C) (bytes : List ℕ) → fits x → IsStorableDocument (document x) → IsDocumentInRange (document x)
-      → (depth (raw_of (document x) true false) ≤ most_levels) × (longest_joined (raw_of (document x) true false) ≡ 0) → bytes ≡ document_bytes (document x) true false
+      → depth (raw_of (document x) true false) ≤ most_levels → bytes ≡ document_bytes (document x) true false
       → SaysOnly document (reads from_slice_context) bytes x
   unfolding document_bytes lends
   says_only law acceptable one x bytes fit stored range plain is =
       let r = raw_of (document x) true false in
-      let good = acceptable most_levels (document x) true false stored range plain.0 in
-      let spelt = law.itself x fit lends true false stored range (omega (arith, plain.0)) in
+      let good = acceptable most_levels (document x) true false stored range plain in
+      let spelt = law.itself x fit lends true false stored range (omega (arith, plain)) in
       let same = (one spelt.item r [] spelt.acceptable.fits good.fits (append-nil (spell spelt.item) ∙ spelt.spelled)).0 in
       record {
         itself = record {
@@ -47,7 +48,7 @@ module _ {C : Type 0} (document : C → Doc) (reads : Context → Raw → C → 
           keys = subst (HasAllowedKeys all_formats) same spelt.keys;
           means = subst (λ (item : Raw). reads from_slice_context item x) same spelt.means;
         };
-        fits = omega (arith, plain.1);
+        fits = (let none = no_chunks (document x) true false in omega arith);
         alone = λ y says. law.alone x y fit lends true false stored range (record {
           item = says.item;
           acceptable = record {
@@ -76,53 +77,52 @@ pub memory_alone : {A S : Type 0} (r : Result A Error) → S → IfErr r (IsNotW
 memory_alone (Ok x) stored h = tt
 memory_alone (Err e) stored h = (refused_for (code_of e) stored h.0, h.1)
 
--- ---- nesting, where no string is in chunks
+-- ---- nesting
 
 abbrev pub IsPlain : ℕ → Doc → Type 0
-IsPlain n d = (depth (raw_of d true false) ≤ n) × (longest_joined (raw_of d true false) ≡ 0)
+IsPlain n d = depth (raw_of d true false) ≤ n
 
 abbrev ArePlain : Fields → Type 0
-ArePlain fs = (depth_pairs (raw_fields_of fs true false) ≤ 3) × (longest_joined_pairs (raw_fields_of fs true false) ≡ 0)
+ArePlain fs = depth_pairs (raw_fields_of fs true false) ≤ 3
 
-numbers : (xs : List ℕ) → (depth_all (raws_of (docs (λ x. integer (pos x)) xs) true false) ≤ 0)
-    × (longest_joined_all (raws_of (docs (λ x. integer (pos x)) xs) true false) ≡ 0)
+numbers : (xs : List ℕ) → depth_all (raws_of (docs (λ x. integer (pos x)) xs) true false) ≤ 0
 unfolding raw_of
-numbers [] = (omega arith, refl)
-numbers (x ∷ xs) = let rest = numbers xs in (omega arith, omega arith)
+numbers [] = omega arith
+numbers (x ∷ xs) = let rest = numbers xs in omega arith
 
 list_plain : (xs : List ℕ) → IsPlain 3 (sequence declared (docs (λ x. integer (pos x)) xs))
 unfolding raw_of
-list_plain xs = let all = numbers xs in (omega arith, all.1)
+list_plain xs = let all = numbers xs in omega arith
 
 mode_plain : (m : Mode) → IsPlain 3 (mode.ghosts.document m)
 unfolding raw_of
-mode_plain Idle = (omega arith, refl)
-mode_plain (Every n) = (omega arith, refl)
+mode_plain Idle = omega arith
+mode_plain (Every n) = omega arith
 
 name_plain : (o : Option (String Global)) → IfSome (document_if (λ s. text (string_bytes s)) o) (IsPlain 3)
 unfolding raw_of
 name_plain None = tt
-name_plain (Some s) = (omega arith, refl)
-
-flag_plain : (b : Bool) → IsPlain 3 (bool b)
-unfolding raw_of
-flag_plain b = (omega arith, refl)
+name_plain (Some s) = omega arith
 
 one_more : (i : ℕ) (name : List ℕ) (d : Doc) (others : Fields) → IsPlain 3 d → ArePlain others → ArePlain (field i name d others)
 unfolding raw_of
-one_more i name d others h rest = (omega arith, omega arith)
+one_more i name d others h rest = omega arith
 
 one_or_none : (i : ℕ) (name : List ℕ) (d : Option Doc) (others : Fields) → IfSome d (IsPlain 3) → ArePlain others → ArePlain (field_if i name d others)
 one_or_none i name None others h rest = rest
 one_or_none i name (Some d) others h rest = one_more i name d others h rest
 
-no_more : ArePlain no_fields
-unfolding raw_of
-no_more = (omega arith, refl)
-
 all_plain : (fs : Fields) → ArePlain fs → IsPlain most_levels (structure fs)
 unfolding raw_of
-all_plain fs h = (omega arith, h.1)
+all_plain fs h = omega arith
+
+flag_plain : (b : Bool) → IsPlain 3 (bool b)
+unfolding raw_of
+flag_plain b = omega arith
+
+no_more : ArePlain no_fields
+unfolding raw_of
+no_more = omega arith
 
 pub config_plain : (c : Config) → IsPlain most_levels (config.ghosts.document c)
 config_plain c = all_plain _

@@ -4,9 +4,7 @@ use Rattle.serde_cbor.specs.Acceptable.{FitsScratch}
 use Rattle.serde_cbor.specs.Document.{Doc}
 use Rattle.serde_cbor.specs.Formats.{all_formats}
 use Rattle.serde_cbor.specs.ItemTaken.{BeginsAs}
-use Rattle.serde_cbor.specs.Raw.{Raw, RawPairs, Length, raw_pair, map}
-use Rattle.serde_cbor.specs.Structs.{IsField}
-use Rattle.serde_cbor.specs.declared.de.Field.TheVariants.{Unknown}
+use Rattle.serde_cbor.specs.Raw.{Raw}
 use Rattle.use_device_config.specs.declared.config.Config.{Config}
 use Rattle.use_device_config.specs.declared.config.Mode.TheVariants.{Idle}
 
@@ -30,16 +28,3 @@ pub record SaysOnly {C : Type 0} (document : C → Doc) (reads : Raw → C → T
   pub itself : Says reads bytes config
   pub fits : FitsScratch (Some 0) itself.item
   pub alone : (other : C) → Says reads bytes other → document other ≡ document config
-
--- The pairs of a map, and the same with one more among them, whose key names none of the fields.
-pub data HasNewField (names : List (List ℕ)) : RawPairs → RawPairs → Type 0 where
-  here : {k v : Raw} {ps : RawPairs} → IsField names k Unknown
-      → HasNewField names ps (raw_pair k v ps)
-  later : {k v : Raw} {ps qs : RawPairs} → HasNewField names ps qs
-      → HasNewField names (raw_pair k v ps) (raw_pair k v qs)
-
--- What an item is read as, it is read as with a field more.
-abbrev pub PassesOverNewFields : {C : Type 0} → List (List ℕ) → (Raw → C → Type 0)
-    → Type 0
-PassesOverNewFields {C} names reads = (l m : Length) (ps qs : RawPairs) (config : C)
-    → HasNewField names ps qs → reads (map l ps) config → reads (map m qs) config

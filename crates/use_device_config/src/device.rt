@@ -4,10 +4,10 @@ ghost use Rattle.std.specs.Prelude.{◌≡◌, ◌≤◌, true, false, IfErr, If
 ghost use Rattle.serde_cbor.specs.Acceptable.{FitsScratch};
 ghost use Rattle.serde_cbor.specs.Document.{document_bytes, IsStorableDocument};
 ghost use Rattle.serde_cbor.specs.Error.{IsOutOfMemory};
+ghost use Rattle.serde_cbor.specs.NewFields.{PassesOverNewFields};
 ghost use Rattle.serde_cbor.specs.Raw.{AreBytes};
 ghost use Rattle.serde_cbor.specs.Whole.{from_slice_context};
-ghost use Rattle.use_device_config.specs.Configs.{IsFactorySetting, PassesOverNewFields};
-ghost use Rattle.use_device_config.specs.Configs.{Says, SaysOnly};
+ghost use Rattle.use_device_config.specs.Configs.{IsFactorySetting, Says, SaysOnly};
 
 use crate::config::{Config, Mode};
 use serde_cbor::de::{Deserialize, Readable, item_taken};

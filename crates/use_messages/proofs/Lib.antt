@@ -1,4 +1,2 @@
-mod Given
-mod Longest
 mod Requests
 mod Serving

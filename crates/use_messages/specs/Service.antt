@@ -2,33 +2,12 @@
 use Rattle.std.specs.Prelude.{◌≡◌, ◌≤◌, ◌⊎◌, ℕ, ◌+◌, List, [], ◌∷◌, ◌++◌, length, flat_map, Option}
 use Rattle.std.specs.Prelude.{Result, Ok, Err}
 use Rattle.std.specs.Io.KnownBytes.{Appends}
-use Rattle.serde_cbor.specs.Acceptable.{max_depth}
-use Rattle.serde_cbor.specs.Formats.{all_formats}
 use Rattle.serde_cbor.specs.Gives.{IsMemoryOrFault}
-use Rattle.serde_cbor.specs.ItemTaken.{BeginsAs}
 use Rattle.serde_cbor.specs.Raw.{Raw}
+use Rattle.serde_cbor.specs.Streamed.{AreMostValues, ValuesBegin}
 use Rattle.serde_cbor.specs.declared.error.Error.{Error}
 use Rattle.use_messages.specs.declared.service.Stopped.{Stopped}
 use Rattle.use_messages.specs.declared.service.Stopped.TheVariants.{Broken, Unsent}
-
--- ---- messages, by the items that are read as them
-
-module _ {M : Type 0} (reads : Raw → M → Type 0) where
-  -- The bytes are the encoding of a message, and these others.
-  abbrev pub BeginsWith : List ℕ → M → List ℕ → Type 0
-  BeginsWith bytes m others = BeginsAs all_formats max_depth reads bytes m others
-
-  -- The bytes are the encodings of these messages, one after the other, and the rest.
-  abbrev pub AreMessages : List ℕ → List M → List ℕ → Type 0
-  AreMessages bytes [] rest = bytes ≡ rest
-  AreMessages bytes (m ∷ ms) rest =
-      (others : List ℕ) × BeginsWith bytes m others × AreMessages others ms rest
-
-  -- They are the longest list of messages that the bytes begin with.
-  pub record AreMostMessages (bytes : List ℕ) (messages : List M) (rest : List ℕ) : Type 0 where
-    pub are : AreMessages bytes messages rest
-    pub most : (others : List M) (after : List ℕ) → AreMessages bytes others after
-        → length others ≤ length messages
 
 -- ---- what was served, of the bytes that a reader gives, to a sink
 
@@ -37,7 +16,7 @@ module _ {M : Type 0} (reads : Raw → M → Type 0) (reply : M → List ℕ) (b
   -- All the bytes are messages, and the reply to each was written.
   pub record ServedAll : Type 0 where
     pub messages : List M
-    pub are : AreMessages reads bytes messages []
+    pub are : ValuesBegin reads bytes messages []
     pub written : Appends old new (flat_map reply messages)
 
   -- Each message of a list that the bytes begin with has its reply, and the rest stands at this
@@ -45,10 +24,10 @@ module _ {M : Type 0} (reads : Raw → M → Type 0) (reply : M → List ℕ) (b
   pub record ServedUpTo (at : ℕ) (e : Error) : Type 0 where
     pub messages : List M
     pub rest : List ℕ
-    pub are : AreMessages reads bytes messages rest
+    pub are : ValuesBegin reads bytes messages rest
     pub place : at + length rest ≡ length bytes
     pub written : Appends old new (flat_map reply messages)
-    pub broken : IsMemoryOrFault e ⊎ AreMostMessages reads bytes messages rest
+    pub broken : IsMemoryOrFault e ⊎ AreMostValues reads bytes messages rest
 
   -- Each message but the last that was read has its reply, and of the last one's a prefix was
   -- written.
@@ -56,7 +35,7 @@ module _ {M : Type 0} (reads : Raw → M → Type 0) (reply : M → List ℕ) (b
     pub messages : List M
     pub last : M
     pub rest : List ℕ
-    pub are : AreMessages reads bytes (messages ++ last ∷ []) rest
+    pub are : ValuesBegin reads bytes (messages ++ last ∷ []) rest
     pub front : List ℕ
     pub missing : List ℕ
     pub whole : front ++ missing ≡ reply last

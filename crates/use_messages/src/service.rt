@@ -8,8 +8,7 @@ ghost use Rattle.use_messages.specs.Replies.{reply_to};
 ghost use Rattle.use_messages.specs.Service.{Serves};
 
 use crate::messages::{Reply, Request};
-use serde_cbor::de::{Readable, item_taken};
-use serde_cbor::model::one_spelling;
+use serde_cbor::de::Readable;
 use serde_cbor::ser::{Serialize, Write, to_writer};
 use serde_cbor::{Deserializer, Error};
 use std::alloc::Global;
@@ -37,8 +36,6 @@ pub fn serve<R: io::Read + Drop, W: Write>(
         (λ q. document_bytes (⟦<Reply as Serialize>⟧.document (reply_to q)) false false) bytes
         (W.written writer.old) (W.written writer.new) result }
 {
-    item_taken::<Request>();
-    one_spelling();
     let mut stream = Deserializer::from_reader(alloc, reader).into_iter::<Request>();
     let mut at = 0;
     'requests: while let Some(next) = stream.next() {

@@ -34,3 +34,5 @@ pub use Rattle.cbor_de.proofs.StructLoops.{other_taken, other_refused, known_oth
 pub use Rattle.cbor_de.proofs.StructLoops.{field_required, field_absent}
 -- `end`
 pub use Rattle.cbor_de.proofs.StructLoops.{fields_read, end_refused}
+-- a field that the struct doesn't have changes nothing of what it is read as
+pub use Rattle.cbor_de.proofs.NewFieldPassed.{new_field_passed}

@@ -1,13 +1,11 @@
-use Rattle.std.proofs.Common.{◌∙◌, false, refl, subst}
+use Rattle.std.proofs.Common.{false, refl, subst}
 use Rattle.std.specs.Io.KnownBytes.{Appends}
 use Rattle.serde_cbor.specs.Document.{document_bytes}
 use Rattle.serde_cbor.specs.Sources.{input_of_reader}
 use Rattle.serde_cbor.specs.Streams.{standing}
 use Rattle.serde_cbor.specs.Write.{AppendsBeginning}
 use Rattle.use_messages.specs.contracts.messages.ReplySerialize.TheImpl as replies
-use Rattle.use_messages.specs.contracts.messages.RequestReadable.TheImpl as requests
 use Rattle.use_messages.specs.declared.messages.Reply.{Reply}
-use Rattle.use_messages.proofs.Given.{error_given, item_given, lends}
 use Rattle.use_messages.proofs.Requests.{reads, reply}
 use Rattle.use_messages.proofs.Serving.{all_but_one, broken, one_more}
 use Rattle.use_messages.proofs.service.serve.Goals as goal
@@ -19,8 +17,7 @@ returns-in-Err g c bytes gave =
     let s = standing (input_of_reader g.R.Read.remaining) c.requests.stream in
     let t = standing (input_of_reader g.R.Read.remaining) c.next.new.self in
     let given = rw c.in-Err.is at c.in-Some.ensures.steps in
-    let why = error_given requests.ghosts.reads c.item_taken.ensures lends s t served.rest before.levels before.formats served.tells served.are_bytes _ c.in-Err.error given in
-    rw before.at (broken reads reply bytes s.input (g.W.Write.written c.args.writer.now) (g.W.Write.written c.requests.writer) served c.one_spelling.ensures c.in-Err.error refl why)
+    rw before.at (broken reads reply bytes s t (g.W.Write.written c.args.writer.now) (g.W.Write.written c.requests.writer) served _ c.in-Err.error given)
 
 pub returns-in-Err-to_writer : goal.returns-in-Err-to_writer
 returns-in-Err-to_writer g c bytes gave =
@@ -29,10 +26,9 @@ returns-in-Err-to_writer g c bytes gave =
     let s = standing (input_of_reader g.R.Read.remaining) c.requests.stream in
     let t = standing (input_of_reader g.R.Read.remaining) c.next.new.self in
     let given = rw c.in-Ok.is at c.in-Some.ensures.steps in
-    let took = item_given requests.ghosts.reads c.item_taken.ensures lends s t served.rest before.levels before.formats served.tells served.are_bytes c.in-Ok.request given in
     let old = g.W.Write.written c.requests.writer in
     let new = g.W.Write.written c.to_writer.new.writer in
-    all_but_one reads reply bytes s.input (g.W.Write.written c.args.writer.now) old served t.input c.in-Ok.request took new
+    all_but_one reads reply bytes s t (g.W.Write.written c.args.writer.now) old served c.in-Ok.request given refl new
     (subst (λ (a : Reply). AppendsBeginning (document_bytes (replies.ghosts.document a) false false) old new) c.reply_to.ensures c.in-Err-to_writer.ensures.written.err)
 
 pub requests-preserved : goal.requests-preserved
@@ -45,12 +41,7 @@ requests-preserved g c =
     let new = g.W.Write.written c.to_writer.new.writer in
     record {
       served = λ bytes gave.
-          let served = before.served bytes gave in
-          let took = item_given requests.ghosts.reads c.item_taken.ensures lends s t served.rest before.levels before.formats served.tells served.are_bytes c.in-Ok.request given in
-          one_more reads reply bytes s.input (g.W.Write.written c.args.writer.now) old served t.input c.in-Ok.request took new
+          one_more reads reply bytes s t (g.W.Write.written c.args.writer.now) old (before.served bytes gave) c.in-Ok.request given refl new
           (subst (λ (a : Reply). Appends old new (document_bytes (replies.ghosts.document a) false false)) c.reply_to.ensures c.in_default-to_writer.ensures.written.ok);
       at = c.byte_offset-at.ensures;
-      levels = given.levels ∙ before.levels;
-      formats = given.formats ∙ before.formats;
-      going = given.done;
     }

@@ -1,7 +1,5 @@
 -- Each request that was taken has its reply.
-use Rattle.std.proofs.Common.{◌≡◌, ℕ, ◌-◌, ◌^◌, List, false}
-use Rattle.serde_cbor.specs.Acceptable.{max_depth}
-use Rattle.serde_cbor.specs.Formats.{all_formats}
+use Rattle.std.proofs.Common.{◌≡◌, ℕ, ◌-◌, ◌^◌, List}
 use Rattle.serde_cbor.specs.Gives.{Gave}
 use Rattle.serde_cbor.specs.Sources.{input_of_reader}
 use Rattle.serde_cbor.specs.Streams.{standing}
@@ -12,12 +10,9 @@ use Rattle.use_messages.proofs.service.serve.Given as goal
 abbrev pub invariant-requests : goal.invariant-requests
 invariant-requests g l = record {
   served : (bytes : List ℕ) → Gave (g.R.Read.remaining l.fn.reader) bytes
-      → HasServed reads reply bytes (standing (input_of_reader g.R.Read.remaining) l.stream).input
+      → HasServed reads reply bytes (standing (input_of_reader g.R.Read.remaining) l.stream)
       (g.W.Write.written l.initial.writer) (g.W.Write.written l.writer);
   at : l.at ≡ (standing (input_of_reader g.R.Read.remaining) l.stream).input.offset;
-  levels : (standing (input_of_reader g.R.Read.remaining) l.stream).levels ≡ max_depth;
-  formats : (standing (input_of_reader g.R.Read.remaining) l.stream).formats ≡ all_formats;
-  going : (standing (input_of_reader g.R.Read.remaining) l.stream).done ≡ false;
 }
 
 abbrev pub decreases-requests : goal.decreases-requests

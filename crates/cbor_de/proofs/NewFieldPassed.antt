@@ -1,12 +1,12 @@
 -- A struct is read as it was where a pair more stands in its map, whose key names none of its fields.
 use Rattle.std.proofs.Common.{◌≡◌, ◌∙◌, ℕ, suc, List, [], ◌∷◌, Some, None, inl, inr, sym, subst}
-use Rattle.serde_cbor.specs.Identifiers.{IsFirst, IsIdentifier, IsPlace}
-use Rattle.serde_cbor.specs.Raw as raw
-use Rattle.serde_cbor.specs.Raw.{Raw, RawPairs, Length, map}
-use Rattle.serde_cbor.specs.Readable.{untagged}
-use Rattle.serde_cbor.specs.Structs.{Absent, AreFields, FieldOf, HasFields, IfAbsent, IsFieldOr, IsStruct, Once, refused, taken}
-use Rattle.serde_cbor.specs.declared.de.Field.TheVariants.{Unknown}
-use Rattle.use_device_config.specs.Configs.{HasNewField, here, later}
+use Rattle.cbor_decode_as.specs.Identifiers.{IsFirst, IsIdentifier, IsPlace}
+use Rattle.cbor_model.specs.Raw as raw
+use Rattle.cbor_model.specs.Raw.{Raw, RawPairs, Length, map}
+use Rattle.cbor_model.specs.Readable.{untagged}
+use Rattle.cbor_de.specs.Structs.{Absent, AreFields, FieldOf, HasFields, IfAbsent, IsFieldOr, IsStruct, Once, refused, taken}
+use Rattle.cbor_de.specs.declared.field.Field.TheVariants.{Unknown}
+use Rattle.cbor_de.specs.NewFields.{HasNewField, here, later}
 
 module _ (names : List (List ℕ)) where
   no_place : (i : ℕ) (content b c : List ℕ) → content ≡ b → IsPlace names b None → content ≡ c → IsFirst names c i → ⊥
@@ -44,6 +44,6 @@ module _ (names : List (List ℕ)) where
   fields i [] x more h = h
   fields i (d ∷ ds) x more h = (one_field d.missing i d.reads (d.of x) more h.0, fields (suc i) ds x more h.1)
 
-  pub struct_passes : {S : Type 0} {ps qs : RawPairs} (ds : List (FieldOf S)) (l m : Length) (x : S) → HasNewField names ps qs
+  pub new_field_passed : {S : Type 0} {ps qs : RawPairs} (ds : List (FieldOf S)) (l m : Length) (x : S) → HasNewField names ps qs
       → IsStruct names ds (map l ps) x → IsStruct names ds (map m qs) x
-  struct_passes ds l m x more h = record { keys = keys more h.keys; read = fields 0 ds x more h.read }
+  new_field_passed ds l m x more h = record { keys = keys more h.keys; read = fields 0 ds x more h.read }
