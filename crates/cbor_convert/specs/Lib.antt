@@ -1,3 +1,4 @@
 pub mod Meaning
 pub mod Builders
 pub mod Tagged
+pub mod Encoded

@@ -1,7 +1,7 @@
 //! The types of the standard library but its tuples, byte strings, floats and values.
 
 use crate::round_trip::{RoundTrip, RoundTripKey};
-use cbor_convert::{Required, Tagged};
+use cbor_convert::{Encoded, Required, Tagged};
 use cbor_value::bytes::{ByteArray, ByteBuf};
 use cbor_value::{Float, Value};
 use std::collections::BTreeMap;
@@ -282,6 +282,17 @@ impl<const N: u64, T: RoundTrip> RoundTrip for Required<N, T> {
     ghost law = { law_of (required_back T.law.back {n = N} {inner = λ x. x.0}) };
 
     ghost back = { required_back T.back };
+}
+
+/// An encoding within its tag.
+impl<T> RoundTrip for Encoded<T> {
+    ghost use Rattle.cbor_round_trip.specs.ReadBack.{by_part};
+    ghost use Rattle.cbor_round_trip.specs.TypeLaws.{law_of};
+
+    ghost law = { law_of (by_part (λ e. e.tagged)
+        ⟦<Required<24, ByteBuf> as RoundTrip>⟧.law.back) };
+
+    ghost back = { Self.law.back };
 }
 
 impl RoundTripKey for String {

@@ -2,7 +2,7 @@
 
 use crate::desk::Desk;
 use crate::row::Row;
-use cbor_convert::{Required, Tagged};
+use cbor_convert::{Encoded, Required, Tagged};
 use cbor_de::Deserializer;
 use cbor_read::Read;
 use cbor_value::Value;
@@ -31,6 +31,7 @@ pub fn judge<'r, R: Read<'r> + Drop>(
         "Tagged<Tagged<u8>>" => desk.reads::<Tagged<Tagged<u8>>, R>(row, de)?,
         "Required<1, u32>" => desk.reads::<Required<1, u32>, R>(row, de)?,
         "Required<24, ByteBuf>" => desk.reads::<Required<24, ByteBuf>, R>(row, de)?,
+        "Encoded<Value>" => desk.reads::<Encoded<Value>, R>(row, de)?,
         "Required<61, Required<18, Value>>" => {
             desk.reads::<Required<61, Required<18, Value>>, R>(row, de)?;
         }
