@@ -22,13 +22,18 @@ at s place = option_map (λ b. b.items) (get_by_text s.entries place)
 abbrev pub Holds : Store → Val → Type 0
 Holds s v = at s (address (canon v)) ≡ Some (canon v)
 
--- The two stores hold the same.
+-- The two stores have the same at each address.
 abbrev pub HoldsTheSame : Store → Store → Type 0
-HoldsTheSame s t = (w : Val) → Holds t w ↔ Holds s w
+HoldsTheSame s t = (place : List ℕ) → at t place ≡ at s place
 
--- t holds what s holds, and the values that are encoded as v is.
+-- The bytes are the canonical encoding of the value, and this is their address.
+abbrev pub IsEntryOf : Val → List ℕ → List ℕ → Type 0
+IsEntryOf v place bytes = (place ≡ address bytes) × (bytes ≡ canon v)
+
+-- t has what s has, and the entry of the value v, and nothing else.
 abbrev pub HoldsToo : Store → Val → Store → Type 0
-HoldsToo s v t = (w : Val) → Holds t w ↔ ((canon w ≡ canon v) ⊎ Holds s w)
+HoldsToo s v t = (place bytes : List ℕ)
+    → (at t place ≡ Some bytes) ↔ (IsEntryOf v place bytes ⊎ (at s place ≡ Some bytes))
 
 -- Other bytes stand at the address of the value.
 pub record Collides (s : Store) (v : Val) : Type 0 where

@@ -39,7 +39,7 @@ pub enum Put {
 impl Store {
     /// A store that holds nothing.
     pub fn new(alloc: Global) -> Store
-        ensures { (v : Val) → Holds result v → ⊥ }
+        ensures { (place : List ℕ) → at result place ≡ None }
     {
         Store {
             entries: BTreeMap::new(alloc),
@@ -86,7 +86,7 @@ impl Store {
     }
 
     // Whether these bytes stand at the address.
-    fn has(&self, place: &str, bytes: &[u8]) -> bool
+    pub(crate) fn has(&self, place: &str, bytes: &[u8]) -> bool
         ensures { IsTrue result ↔ (at self.now place.now ≡ Some bytes.now) }
     {
         match self.entries.get(place) {
@@ -96,14 +96,18 @@ impl Store {
     }
 
     // Whether any bytes do.
-    fn is_taken(&self, place: &str) -> bool
+    pub(crate) fn is_taken(&self, place: &str) -> bool
         ensures { result ≡ is_some (at self.now place.now) }
     {
         self.entries.contains_key(place)
     }
 
     // Puts bytes at an address.
-    fn add(&mut self, place: String, bytes: Vec<u8>) -> std::result::Result<(), AllocError>
+    pub(crate) fn add(
+        &mut self,
+        place: String,
+        bytes: Vec<u8>,
+    ) -> std::result::Result<(), AllocError>
         ensures ok { OnOk result ((q : List ℕ) → at self.new q
             ≡ (if bytes_eq (string_bytes place) q then Some bytes.items else at self.old q)) }
         ensures err { OnErr result ((q : List ℕ) → at self.new q ≡ at self.old q) }
@@ -114,7 +118,7 @@ impl Store {
 }
 
 // The address of a value, and its canonical encoding.
-fn entry_of(alloc: Global, value: &Value) -> Result<(String, Vec<u8>)>
+pub(crate) fn entry_of(alloc: Global, value: &Value) -> Result<(String, Vec<u8>)>
     ensures place { IfOk result (λ entry. string_bytes entry.0 ≡ address (canon (view value.now))) }
     ensures bytes { IfOk result (λ entry. entry.1.items ≡ canon (view value.now)) }
     ensures refused { IfErr result
