@@ -47,7 +47,9 @@ pub use Rattle.cbor_de.specs.FirstOfItem
 pub use Rattle.cbor_de.specs.ItemTaken
 pub use Rattle.cbor_de.specs.HeadsTaken
 pub use Rattle.cbor_de.specs.TagTaken
+pub use Rattle.cbor_de.specs.PartTaken
 pub use Rattle.cbor_de.specs.Streams
+pub use Rattle.cbor_de.specs.Streamed
 pub use Rattle.cbor_de.specs.Items
 pub use Rattle.cbor_de.specs.ItemLaws
 pub use Rattle.cbor_de.specs.StreamAnswers
@@ -69,6 +71,7 @@ pub use Rattle.cbor_decode_as.specs.Tags
 pub use Rattle.cbor_decode_as.specs.Strings
 pub use Rattle.cbor_decode_as.specs.Identifiers
 pub use Rattle.cbor_de.specs.Structs
+pub use Rattle.cbor_de.specs.NewFields
 pub use Rattle.cbor_decode_as.specs.Enums
 pub use Rattle.cbor_decode_as.specs.Variants
 pub use Rattle.cbor_de.specs.Absent
@@ -95,6 +98,11 @@ pub use Rattle.cbor_convert.specs.Builders
 pub use Rattle.cbor_de.specs.FieldTypes
 pub use Rattle.cbor_described.specs.FieldLists
 pub use Rattle.cbor_convert.specs.Tagged
+pub use Rattle.cbor_convert.specs.Encoded
+pub use Rattle.cbor_forms.specs.Shortest
+pub use Rattle.cbor_forms.specs.Shortened
+pub use Rattle.cbor_forms.specs.Deterministic
+pub use Rattle.cbor_forms.specs.LengthFirst
 pub use Rattle.cbor_round_trip.specs.ReadBack
 pub use Rattle.cbor_round_trip.specs.TypeLaws
 pub use Rattle.cbor_round_trip.specs.Keyed

@@ -6,9 +6,10 @@ pub use cbor_de::{
     Deserialize, DeserializeOwned, Deserializer, EitherLifetime, EitherStr, Field, FieldType,
     Formats, IgnoredAny, IoRead, MapAccess, MutSliceRead, Offset, Read, ReadError, ReadErrorCode,
     Readable, SeqAccess, SliceRead, SliceReadFixed, Source, StreamDeserializer, StructAccess,
-    Unread, VariantAccess, VecRead, duplicate_field, first_is_fault, from_mut_slice, from_reader,
-    from_slice, from_slice_with_scratch, from_vec, heads_taken, item_refused_first, item_taken,
-    missing_field, owned_agree, sources_agree, tag_taken,
+    Unread, VariantAccess, VecRead, duplicate_field, element_taken, end_taken, first_is_fault,
+    from_mut_slice, from_reader, from_slice, from_slice_with_scratch, from_vec, heads_taken,
+    item_refused_first, item_taken, key_taken, missing_field, owned_agree, sources_agree,
+    tag_taken,
 };
 pub use cbor_described::{FromParts, ReadParts, ReadableParts, ReadableTuple, Variant};
 pub use cbor_round_trip::RoundTrip;

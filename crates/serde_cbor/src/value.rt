@@ -4,4 +4,8 @@ pub use cbor_convert::{
     SerializeMap, SerializeStructVariant, SerializeTupleVariant, SerializeVec, ToValue,
     compare_as_bytes, from_value, same_value_same_bytes, to_value,
 };
+pub use cbor_forms::{
+    length_first_reads_back, same_number_same_float, same_numbers_same_bytes, shortened,
+    shortened_once, shorter_keys_first, shortest,
+};
 pub use cbor_value::{Float, Map, Value};

@@ -1,0 +1,11 @@
+mod Sizes
+mod Odds
+mod Halves
+mod Narrowest
+mod Keys
+mod Shortening
+mod Forms
+mod Refused
+mod Encoding
+mod Sorted
+mod ReadBack

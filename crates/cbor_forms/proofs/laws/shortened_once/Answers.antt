@@ -1,0 +1,5 @@
+use Rattle.cbor_forms.proofs.Forms.{once}
+use Rattle.cbor_forms.proofs.laws.shortened_once.Goals as goal
+
+pub returns : goal.returns
+returns c v = once v

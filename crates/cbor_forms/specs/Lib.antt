@@ -1,0 +1,4 @@
+pub mod Shortest
+pub mod Shortened
+pub mod Deterministic
+pub mod LengthFirst

@@ -1,0 +1,9 @@
+//! Tests of the forms of writing by name, against RFC 8949's own examples.
+#![tactic(auto)]
+
+#[cfg(test)]
+mod checks;
+#[cfg(test)]
+mod floats;
+#[cfg(test)]
+mod keys;
