@@ -7,6 +7,8 @@
 #![tactic(auto)]
 
 mod field_list;
+mod fields_to_eight;
+mod fields_to_twelve;
 mod one_of;
 mod parts;
 mod tuple_fields;

@@ -3,7 +3,7 @@ use Rattle.cbor_decode_as.specs.Identifiers.{texts}
 use Rattle.cbor_decode_as.specs.Takes.{context, formats_of}
 use Rattle.cbor_de.specs.Structs.{IsStruct, field_or}
 use Rattle.cbor_described.proofs.Makings.{not_made}
-use Rattle.cbor_described.proofs.tuple_fields.Tuple11ReadParts.read_parts.Goals as goal
+use Rattle.cbor_described.proofs.fields_to_twelve.Tuple11ReadParts.read_parts.Goals as goal
 
 pub returns-in-Err-clause-read : goal.returns-in-Err-clause-read
 returns-in-Err-clause-read g c =

@@ -1,0 +1,316 @@
+//! Structs of nine to twelve fields, that are read as tuples of them.
+
+use crate::field_list::{ReadField, ReadFields, read_fields};
+use crate::parts::{ReadParts, ReadableParts};
+use cbor_de::{Deserializer, FieldType, Read};
+use cbor_io::error::Result;
+
+impl<
+    A: FieldType,
+    B: FieldType,
+    C: FieldType,
+    D: FieldType,
+    E: FieldType,
+    F: FieldType,
+    G: FieldType,
+    H: FieldType,
+    I: FieldType,
+> ReadableParts for (A, B, C, D, E, F, G, H, I) {
+    ghost use Rattle.std.specs.Prelude.{[], ◌∷◌};
+    ghost use Rattle.cbor_de.specs.Forms.{any_of, key_form, never};
+    ghost use Rattle.cbor_de.specs.Structs.{IsStruct, field_or};
+
+    ghost reads = { λ names c r x. IsStruct
+        {S = A × B × C × D × (E × F × G × H × (I × Unit {0}))} names
+        (field_or (A.reads c) A.missing (λ p. p.0)
+        ∷ field_or (B.reads c) B.missing (λ p. p.1)
+        ∷ field_or (C.reads c) C.missing (λ p. p.2)
+        ∷ field_or (D.reads c) D.missing (λ p. p.3)
+        ∷ field_or (E.reads c) E.missing (λ p. p.4.0)
+        ∷ field_or (F.reads c) F.missing (λ p. p.4.1)
+        ∷ field_or (G.reads c) G.missing (λ p. p.4.2)
+        ∷ field_or (H.reads c) H.missing (λ p. p.4.3)
+        ∷ field_or (I.reads c) I.missing (λ p. p.4.4.0) ∷ [])
+        r (x.0, x.1, x.2, x.3, (x.4, x.5, x.6, x.7, (x.8, tt))) };
+
+    ghost wrong_forms = { any_of key_form (any_of A.Of.wrong_forms (any_of B.Of.wrong_forms
+        (any_of C.Of.wrong_forms (any_of D.Of.wrong_forms (any_of E.Of.wrong_forms
+        (any_of F.Of.wrong_forms
+        (any_of G.Of.wrong_forms (any_of H.Of.wrong_forms (any_of I.Of.wrong_forms never))))))))) };
+}
+
+impl<
+    'de,
+    R: Read<'de>,
+    A: ReadField<'de, R>,
+    B: ReadField<'de, R>,
+    C: ReadField<'de, R>,
+    D: ReadField<'de, R>,
+    E: FieldType,
+    F: FieldType,
+    G: FieldType,
+    H: FieldType,
+    I: FieldType,
+> ReadParts<'de, R> for (A, B, C, D, E, F, G, H, I)
+where
+    (E, F, G, H, (I, ())): ReadFields<
+        'de,
+        R,
+        Slots = (Option<E>, Option<F>, Option<G>, Option<H>, (Option<I>, ())),
+    >,
+{
+    fn read_parts(de: &mut Deserializer<R>, names: &[&str]) -> Result<(A, B, C, D, E, F, G, H, I)> {
+        match read_fields::<R, (A, B, C, D, (E, F, G, H, (I, ())))>(de, names) {
+            Ok(parts) => {
+                let (a, b, c, d, (e, f, g, h, (i, ()))) = parts;
+                Ok((a, b, c, d, e, f, g, h, i))
+            }
+            Err(e) => Err(e),
+        }
+    }
+}
+
+impl<
+    A: FieldType,
+    B: FieldType,
+    C: FieldType,
+    D: FieldType,
+    E: FieldType,
+    F: FieldType,
+    G: FieldType,
+    H: FieldType,
+    I: FieldType,
+    J: FieldType,
+> ReadableParts for (A, B, C, D, E, F, G, H, I, J) {
+    ghost use Rattle.std.specs.Prelude.{[], ◌∷◌};
+    ghost use Rattle.cbor_de.specs.Forms.{any_of, key_form, never};
+    ghost use Rattle.cbor_de.specs.Structs.{IsStruct, field_or};
+
+    ghost reads = { λ names c r x. IsStruct
+        {S = A × B × C × D × (E × F × G × H × (I × (J × Unit {0})))} names
+        (field_or (A.reads c) A.missing (λ p. p.0)
+        ∷ field_or (B.reads c) B.missing (λ p. p.1)
+        ∷ field_or (C.reads c) C.missing (λ p. p.2)
+        ∷ field_or (D.reads c) D.missing (λ p. p.3)
+        ∷ field_or (E.reads c) E.missing (λ p. p.4.0)
+        ∷ field_or (F.reads c) F.missing (λ p. p.4.1)
+        ∷ field_or (G.reads c) G.missing (λ p. p.4.2)
+        ∷ field_or (H.reads c) H.missing (λ p. p.4.3)
+        ∷ field_or (I.reads c) I.missing (λ p. p.4.4.0)
+        ∷ field_or (J.reads c) J.missing (λ p. p.4.4.1.0) ∷ [])
+        r (x.0, x.1, x.2, x.3, (x.4, x.5, x.6, x.7, (x.8, (x.9, tt)))) };
+
+    ghost wrong_forms = { any_of key_form (any_of A.Of.wrong_forms (any_of B.Of.wrong_forms
+        (any_of C.Of.wrong_forms (any_of D.Of.wrong_forms (any_of E.Of.wrong_forms
+        (any_of F.Of.wrong_forms
+        (any_of G.Of.wrong_forms (any_of H.Of.wrong_forms (any_of I.Of.wrong_forms
+        (any_of J.Of.wrong_forms never)))))))))) };
+}
+
+impl<
+    'de,
+    R: Read<'de>,
+    A: ReadField<'de, R>,
+    B: ReadField<'de, R>,
+    C: ReadField<'de, R>,
+    D: ReadField<'de, R>,
+    E: FieldType,
+    F: FieldType,
+    G: FieldType,
+    H: FieldType,
+    I: FieldType,
+    J: FieldType,
+> ReadParts<'de, R> for (A, B, C, D, E, F, G, H, I, J)
+where
+    (E, F, G, H, (I, (J, ()))): ReadFields<
+        'de,
+        R,
+        Slots = (
+            Option<E>,
+            Option<F>,
+            Option<G>,
+            Option<H>,
+            (Option<I>, (Option<J>, ())),
+        ),
+    >,
+{
+    fn read_parts(
+        de: &mut Deserializer<R>,
+        names: &[&str],
+    ) -> Result<(A, B, C, D, E, F, G, H, I, J)> {
+        match read_fields::<R, (A, B, C, D, (E, F, G, H, (I, (J, ()))))>(de, names) {
+            Ok(parts) => {
+                let (a, b, c, d, (e, f, g, h, (i, (j, ())))) = parts;
+                Ok((a, b, c, d, e, f, g, h, i, j))
+            }
+            Err(e) => Err(e),
+        }
+    }
+}
+
+impl<
+    A: FieldType,
+    B: FieldType,
+    C: FieldType,
+    D: FieldType,
+    E: FieldType,
+    F: FieldType,
+    G: FieldType,
+    H: FieldType,
+    I: FieldType,
+    J: FieldType,
+    K: FieldType,
+> ReadableParts for (A, B, C, D, E, F, G, H, I, J, K) {
+    ghost use Rattle.std.specs.Prelude.{[], ◌∷◌};
+    ghost use Rattle.cbor_de.specs.Forms.{any_of, key_form, never};
+    ghost use Rattle.cbor_de.specs.Structs.{IsStruct, field_or};
+
+    ghost reads = { λ names c r x. IsStruct
+        {S = A × B × C × D × (E × F × G × H × (I × (J × (K × Unit {0}))))} names
+        (field_or (A.reads c) A.missing (λ p. p.0)
+        ∷ field_or (B.reads c) B.missing (λ p. p.1)
+        ∷ field_or (C.reads c) C.missing (λ p. p.2)
+        ∷ field_or (D.reads c) D.missing (λ p. p.3)
+        ∷ field_or (E.reads c) E.missing (λ p. p.4.0)
+        ∷ field_or (F.reads c) F.missing (λ p. p.4.1)
+        ∷ field_or (G.reads c) G.missing (λ p. p.4.2)
+        ∷ field_or (H.reads c) H.missing (λ p. p.4.3)
+        ∷ field_or (I.reads c) I.missing (λ p. p.4.4.0)
+        ∷ field_or (J.reads c) J.missing (λ p. p.4.4.1.0)
+        ∷ field_or (K.reads c) K.missing (λ p. p.4.4.1.1.0) ∷ [])
+        r (x.0, x.1, x.2, x.3, (x.4, x.5, x.6, x.7, (x.8, (x.9, (x.10, tt))))) };
+
+    ghost wrong_forms = { any_of key_form (any_of A.Of.wrong_forms (any_of B.Of.wrong_forms
+        (any_of C.Of.wrong_forms (any_of D.Of.wrong_forms (any_of E.Of.wrong_forms
+        (any_of F.Of.wrong_forms
+        (any_of G.Of.wrong_forms (any_of H.Of.wrong_forms (any_of I.Of.wrong_forms
+        (any_of J.Of.wrong_forms
+        (any_of K.Of.wrong_forms never))))))))))) };
+}
+
+impl<
+    'de,
+    R: Read<'de>,
+    A: ReadField<'de, R>,
+    B: ReadField<'de, R>,
+    C: ReadField<'de, R>,
+    D: ReadField<'de, R>,
+    E: FieldType,
+    F: FieldType,
+    G: FieldType,
+    H: FieldType,
+    I: FieldType,
+    J: FieldType,
+    K: FieldType,
+> ReadParts<'de, R> for (A, B, C, D, E, F, G, H, I, J, K)
+where
+    (E, F, G, H, (I, (J, (K, ())))): ReadFields<
+        'de,
+        R,
+        Slots = (
+            Option<E>,
+            Option<F>,
+            Option<G>,
+            Option<H>,
+            (Option<I>, (Option<J>, (Option<K>, ()))),
+        ),
+    >,
+{
+    fn read_parts(
+        de: &mut Deserializer<R>,
+        names: &[&str],
+    ) -> Result<(A, B, C, D, E, F, G, H, I, J, K)> {
+        match read_fields::<R, (A, B, C, D, (E, F, G, H, (I, (J, (K, ())))))>(de, names) {
+            Ok(parts) => {
+                let (a, b, c, d, (e, f, g, h, (i, (j, (k, ()))))) = parts;
+                Ok((a, b, c, d, e, f, g, h, i, j, k))
+            }
+            Err(e) => Err(e),
+        }
+    }
+}
+
+impl<
+    A: FieldType,
+    B: FieldType,
+    C: FieldType,
+    D: FieldType,
+    E: FieldType,
+    F: FieldType,
+    G: FieldType,
+    H: FieldType,
+    I: FieldType,
+    J: FieldType,
+    K: FieldType,
+    L: FieldType,
+> ReadableParts for (A, B, C, D, E, F, G, H, I, J, K, L) {
+    ghost use Rattle.std.specs.Prelude.{[], ◌∷◌};
+    ghost use Rattle.cbor_de.specs.Forms.{any_of, key_form, never};
+    ghost use Rattle.cbor_de.specs.Structs.{IsStruct, field_or};
+
+    ghost reads = { λ names c r x. IsStruct
+        {S = A × B × C × D × (E × F × G × H × (I × J × K × L × Unit {0}))} names
+        (field_or (A.reads c) A.missing (λ p. p.0)
+        ∷ field_or (B.reads c) B.missing (λ p. p.1)
+        ∷ field_or (C.reads c) C.missing (λ p. p.2)
+        ∷ field_or (D.reads c) D.missing (λ p. p.3)
+        ∷ field_or (E.reads c) E.missing (λ p. p.4.0)
+        ∷ field_or (F.reads c) F.missing (λ p. p.4.1)
+        ∷ field_or (G.reads c) G.missing (λ p. p.4.2)
+        ∷ field_or (H.reads c) H.missing (λ p. p.4.3)
+        ∷ field_or (I.reads c) I.missing (λ p. p.4.4.0)
+        ∷ field_or (J.reads c) J.missing (λ p. p.4.4.1)
+        ∷ field_or (K.reads c) K.missing (λ p. p.4.4.2)
+        ∷ field_or (L.reads c) L.missing (λ p. p.4.4.3) ∷ [])
+        r (x.0, x.1, x.2, x.3, (x.4, x.5, x.6, x.7, (x.8, x.9, x.10, x.11, tt))) };
+
+    ghost wrong_forms = { any_of key_form (any_of A.Of.wrong_forms (any_of B.Of.wrong_forms
+        (any_of C.Of.wrong_forms (any_of D.Of.wrong_forms (any_of E.Of.wrong_forms
+        (any_of F.Of.wrong_forms
+        (any_of G.Of.wrong_forms (any_of H.Of.wrong_forms (any_of I.Of.wrong_forms
+        (any_of J.Of.wrong_forms
+        (any_of K.Of.wrong_forms (any_of L.Of.wrong_forms never)))))))))))) };
+}
+
+impl<
+    'de,
+    R: Read<'de>,
+    A: ReadField<'de, R>,
+    B: ReadField<'de, R>,
+    C: ReadField<'de, R>,
+    D: ReadField<'de, R>,
+    E: FieldType,
+    F: FieldType,
+    G: FieldType,
+    H: FieldType,
+    I: FieldType,
+    J: FieldType,
+    K: FieldType,
+    L: FieldType,
+> ReadParts<'de, R> for (A, B, C, D, E, F, G, H, I, J, K, L)
+where
+    (E, F, G, H, (I, J, K, L, ())): ReadFields<
+        'de,
+        R,
+        Slots = (
+            Option<E>,
+            Option<F>,
+            Option<G>,
+            Option<H>,
+            (Option<I>, Option<J>, Option<K>, Option<L>, ()),
+        ),
+    >,
+{
+    fn read_parts(
+        de: &mut Deserializer<R>,
+        names: &[&str],
+    ) -> Result<(A, B, C, D, E, F, G, H, I, J, K, L)> {
+        match read_fields::<R, (A, B, C, D, (E, F, G, H, (I, J, K, L, ())))>(de, names) {
+            Ok(parts) => {
+                let (a, b, c, d, (e, f, g, h, (i, j, k, l, ()))) = parts;
+                Ok((a, b, c, d, e, f, g, h, i, j, k, l))
+            }
+            Err(e) => Err(e),
+        }
+    }
+}
