@@ -1,4 +1,4 @@
-//! The one spelling of what a value of any type stands for.
+//! The one encoding of what a value of any type stands for.
 
 ghost use Rattle.std.specs.Prelude.{IfOk, IfErr, OnOk};
 ghost use Rattle.cbor_model.specs.Document.{IsStorableDocument};
@@ -11,13 +11,14 @@ use cbor_io::error::Result;
 use cbor_ser::{Serialize, to_vec};
 use std::alloc::Global;
 
-/// The canonical spelling of what a value of any type stands for: the bytes of `to_vec` of its
+/// The canonical encoding of what a value of any type stands for: the bytes of `to_vec` of its
 /// `to_value`. They are what to sign, to hash, or to look up by, and `from_slice_canonical` reads
 /// no others.
 ///
-/// `to_vec` of a type is no such spelling: it writes a struct's fields in the order of their
+/// `to_vec` of a type is no such encoding: it writes a struct's fields in the order of their
 /// declaration, and a `BTreeMap`'s pairs in that of its keys. Here each map's pairs are in the
-/// order of their keys' bytes.
+/// order of their keys' bytes. Floats keep their width: where a protocol asks for the shortest one
+/// (RFC 8949, section 4.2.1), `to_vec_deterministic` of `serde_cbor` writes it.
 ///
 /// It refuses what `to_vec` refuses.
 ///

@@ -1,14 +1,18 @@
 //! An encoded item, kept as its bytes within a byte string.
 
-ghost use Rattle.std.specs.Prelude.{◌≡◌, ◌⊎◌, IfErr, IfOk, OnOk, None, false};
+ghost use Rattle.std.specs.Prelude.{◌≡◌, ◌⊎◌, IfErr, IfOk, MatchResult, OnOk, None, false};
 ghost use Rattle.cbor_model.specs.Allowed.{limits_of};
 ghost use Rattle.cbor_model.specs.Document.{document_bytes, IsStorableDocument};
 ghost use Rattle.cbor_model.specs.Formats.{all_formats};
+ghost use Rattle.cbor_model.specs.Laws.{SpellsValue};
+ghost use Rattle.cbor_model.specs.Plain.{Val};
 ghost use Rattle.cbor_model.specs.Readable.{SpellsAs};
 ghost use Rattle.cbor_io.specs.Error.{IsOutOfMemory};
+ghost use Rattle.cbor_read.specs.Source.{start_of_slice};
 ghost use Rattle.cbor_decode.specs.FirstRefusal.{TellsFirst};
 ghost use Rattle.cbor_decode_as.specs.Takes.{WhereTotal};
-ghost use Rattle.cbor_de.specs.Whole.{from_slice_context};
+ghost use Rattle.cbor_de.specs.Forms.{MayTell};
+ghost use Rattle.cbor_de.specs.Whole.{RefusesUnread, from_slice_asks, from_slice_context};
 ghost use Rattle.cbor_ser.specs.Written.{IsNotWritten};
 ghost use Rattle.cbor_convert.specs.Encoded.{encoding};
 
@@ -76,7 +80,7 @@ impl<T: Serialize> Encoded<T> {
 
 impl<T> Encoded<T> {
     /// What the bytes encode, as `from_slice` reads it: strings may be borrowed from them. It
-    /// refuses as `from_slice` does, by offsets within these bytes.
+    /// refuses as `from_slice` does, by offsets within these bytes, and promises what that does.
     pub fn decode<'a>(&'a self, alloc: Global) -> Result<T>
     where
         T: Deserialize<'a, SliceRead<'a>>,
@@ -85,8 +89,18 @@ impl<T> Encoded<T> {
         ensures accepted { (x : T)
             → SpellsAs all_formats (T.reads from_slice_context) (encoding self.now) x
             → IfErr result IsOutOfMemory }
+        ensures memory { (x : T)
+            → (spelt : SpellsAs all_formats (T.reads from_slice_context) (encoding self.now) x)
+            → IfErr result (λ e. T.asks_memory from_slice_asks spelt.item) }
+        ensures every { (v : Val) → (spelt : SpellsValue (encoding self.now) v)
+            → MatchResult result (T.reads from_slice_context spelt.item)
+            (λ e. WhereTotal T.total (IsOutOfMemory e)) }
         ensures first { IfErr result (λ e. WhereTotal T.total
             (IsOutOfMemory e ⊎ TellsFirst (limits_of None) (encoding self.now) e)) }
+        ensures fault { IfErr result (λ e. WhereTotal T.passes_over (IsOutOfMemory e
+            ⊎ RefusesUnread (T.reads from_slice_context) None (encoding self.now) e)) }
+        ensures form { IfErr result
+            (MayTell T.wrong_forms all_formats (start_of_slice (encoding self.now) None)) }
     {
         from_slice(alloc, self.as_slice())
     }

@@ -44,7 +44,7 @@ pub fn to_value<T: Serialize>(alloc: Global, value: &T) -> Result<Value>
     value_in(alloc, &bytes)
 }
 
-// The value of the item that the bytes spell, however deep it is nested.
+// The value of the item that the bytes encode, however deep it is nested.
 fn value_in(alloc: Global, bytes: &[u8]) -> Result<Value>
     ensures { (r : Raw) → IsAcceptableWithin (length bytes.now) r → spell r ≡ bytes.now
         → MatchResult result (λ v. view v ≡ value r) IsOutOfMemory }

@@ -22,9 +22,9 @@ use Rattle.cbor_decode.specs.Gives.{Limits, limits, values, Tells, Step, Stopped
 use Rattle.cbor_decode.specs.declared.refusal.Refused.{Refused}
 use Rattle.cbor_decode.specs.Heads.{passed}
 use Rattle.cbor_decode.proofs.facts.Steps.{step_map, stopped_map, passed_on, fault_in, passed_was, passed_stops}
-use Rattle.cbor_decode_as.specs.Takes.{raws, ExcusedBy, FaultOrMessage, IsMessageBy, IsRead, IsNotRead, Refuses, TellsItem, WhereTotal, TellsFault, any_item}
-use Rattle.cbor_de.specs.Whole.{IsSomeRead, RefusesAll, RefusesBytes, TellsWhole, front_in, spelt_front_in}
-use Rattle.cbor_decode_as.proofs.facts.Refusals.{passes_told, refuses, tells_both, tells_map, total_told}
+use Rattle.cbor_decode_as.specs.Takes.{raws, IsRead, IsNotRead, Refuses, TellsItem, WhereTotal, TellsFault}
+use Rattle.cbor_de.specs.Whole.{RefusesAll, TellsWhole}
+use Rattle.cbor_decode_as.proofs.facts.Refusals.{refuses, tells_both, tells_map, total_told}
 use Rattle.cbor_decode.proofs.facts.Readings.{along, value_seen}
 
 pub where_map : {P Q : Type 0} (total : Bool) → (P → Q) → WhereTotal total P → WhereTotal total Q
@@ -58,7 +58,7 @@ module _ (allowed : ReadErrorCode → Bool) (f : Formats) (levels : ℕ) (s : In
 -- ---- all of an input
 
 -- an error that tells a fault tells it where devices have more faults
-fails_map : {A : Type 0} (D E : Type 0) → (D → E) → (k : ErrorCode) (end at : ℕ) (r : Result A Fault) → FailsBy D k end at r → FailsBy E k end at r
+pub fails_map : {A : Type 0} (D E : Type 0) → (D → E) → (k : ErrorCode) (end at : ℕ) (r : Result A Fault) → FailsBy D k end at r → FailsBy E k end at r
 fails_map D E g (code.Message m) end at r h = absurd h
 fails_map D E g (code.Io e) end at r h = (g h.0, h.1)
 fails_map D E g code.ScratchTooSmall end at r h = h
@@ -78,28 +78,18 @@ fails_map D E g code.WrongStructFormat end at r h = h
 fails_map D E g code.NotCanonical end at r h = absurd h
 fails_map D E g code.OutOfMemory end at r h = h
 
-message_map : (D E : Type 0) → (D → E) → (k : ErrorCode) (at : ℕ) → IsMessageBy D k at → IsMessageBy E k at
-message_map D E g (code.Message m) at h = h
-message_map D E g (code.Io e) at h = (g h.0, h.1)
-message_map D E g code.OutOfMemory at h = h
-message_map D E g k at h = absurd h
-
-excused_map : (D E : Type 0) → (D → E) → (k : ErrorCode) (at : ℕ) → ExcusedBy D k at → ExcusedBy E k at
-excused_map D E g (code.Io e) at h = (g h.0, h.1)
-excused_map D E g code.OutOfMemory at h = h
-excused_map D E g k at h = absurd h
-
-fault_map : {A : Type 0} (D E : Type 0) → (D → E) → (k : ErrorCode) (end at : ℕ) (r : Result A Fault) → FaultOrMessage D k end at r → FaultOrMessage E k end at r
-fault_map D E g k end at (Ok x) h = message_map D E g k at h
-fault_map D E g k end at (Err f) h = fails_map D E g k end at (Err f) h
+-- what the reading of an input that begins at 0 meets, the reading of its bytes meets
+pub of_bytes : (allowed : ReadErrorCode → Bool) (s : Input) (bs : List ℕ) (e : Error) → s.offset ≡ 0 → FailsBy (Reports allowed) (code_of e) (s.offset + length bs) (offset_of e) (whole_at all_formats max_depth (limits s bs) bs) → FailsBy (Reports allowed) (code_of e) (length bs) (offset_of e) (read_value_in s.room bs)
+of_bytes allowed s bs e zero h =
+    let whole = whole_at all_formats max_depth (limits s bs) bs in
+    let all = subst (λ (n : ℕ). FailsBy (Reports allowed) (code_of e) n (offset_of e) whole) (omega (arith, zero)) h in
+    passed_on (Reports allowed) (code_of e) (length bs) (offset_of e) whole (read_value_in s.room bs) (λ d is. fault_in s bs zero d is) all
 
 module _ {T : Type 0} (passes_over total : Bool) (allowed : ReadErrorCode → Bool) (reads : Raw → T → Type 0) (s : Input) (bs : List ℕ) (tells : Tells s bs) (zero : s.offset ≡ 0) where
   told : (E : Type 0) → (Reports allowed → E) → (e : Error) → TellsWhole passes_over total allowed all_formats reads max_depth s e → WhereTotal total (FailsBy E (code_of e) (length bs) (offset_of e) (read_value_in s.room bs))
   told E g e whole = where_map total (λ h.
-      let l = limits s bs in
-      let all = subst (λ (n : ℕ). FailsBy (Reports allowed) (code_of e) n (offset_of e) (whole_at all_formats max_depth l bs)) (omega (arith, zero)) (h bs tells) in
-      fails_map (Reports allowed) E g (code_of e) (length bs) (offset_of e) (read_value_in s.room bs)
-      (passed_on (Reports allowed) (code_of e) (length bs) (offset_of e) (whole_at all_formats max_depth l bs) (read_value_in s.room bs) (λ d is. fault_in s bs zero d is) all)) (total_told (TellsFault allowed (whole_at all_formats max_depth) s e) (RefusesAll allowed all_formats reads max_depth s e) passes_over total whole)
+      fails_map (Reports allowed) E g (code_of e) (length bs) (offset_of e) (read_value_in s.room bs) (of_bytes allowed s bs e zero (h bs tells)))
+      (total_told (TellsFault allowed (whole_at all_formats max_depth) s e) (RefusesAll allowed all_formats reads max_depth s e) passes_over total whole)
 
   pub fails : {A : Type 0} → (Reports allowed → ⊥) → (r : Result A Error) → IfErr r (TellsWhole passes_over total allowed all_formats reads max_depth s) → IfErr r (λ e. WhereTotal total (Fails (length bs) e (read_value_in s.room bs)))
   fails none (Ok x) h = tt
@@ -109,43 +99,15 @@ module _ {T : Type 0} (passes_over total : Bool) (allowed : ReadErrorCode → Bo
   fails_or_faults (Ok x) h = tt
   fails_or_faults (Err e) h = told ⊤ (λ d. tt) e h
 
-  refuses_bytes : (E : Type 0) → (Reports allowed → E) → (e : Error) → RefusesAll allowed all_formats reads max_depth s e → RefusesBytes E reads s.room bs e
-  refuses_bytes E g e h =
-      let D = Reports allowed in
-      let k = code_of e in
-      let at = offset_of e in
-      let l = limits s bs in
-      let end : s.offset + length bs ≡ length bs = omega (arith, zero) in
-      let same : l ≡ record { total = length bs; room = s.room } = ap (λ (n : ℕ). record { total = n; room = s.room }) end in
-      elim (h bs tells) [
-        | inl item ↦
-            let here = subst (λ (n : ℕ). FaultOrMessage D k n at (any_item max_depth l bs)) end item.0 in
-            let there = subst (λ (i : Limits). FaultOrMessage D k (length bs) at (any_item max_depth i bs)) same here in
-            inl (fault_map D E g k (length bs) at (front_in s.room bs) there, unread_in same item.1)
-        | inr all ↦
-            let here = subst (λ (n : ℕ). FailsBy D k n at (whole_at all_formats max_depth l bs)) end all.0 in
-            let fails = fails_map D E g k (length bs) at (read_value_in s.room bs)
-            (passed_on D k (length bs) at (whole_at all_formats max_depth l bs) (read_value_in s.room bs) (λ d is. fault_in s bs zero d is) here) in
-            inr (fails, subst (λ (i : Limits). IsSomeRead reads (item_at (raws all_formats i) max_depth bs)) same all.1)
-      ]
-    where
-      unread_in : limits s bs ≡ record { total = length bs; room = s.room } → ExcusedBy (Reports allowed) (code_of e) (offset_of e) ⊎ IsNotRead reads (item_at (raws all_formats (limits s bs)) max_depth bs) → ExcusedBy E (code_of e) (offset_of e) ⊎ IsNotRead reads (spelt_front_in s.room bs)
-      unread_in same (inl excused) = inl (excused_map (Reports allowed) E g (code_of e) (offset_of e) excused)
-      unread_in same (inr none) = inr (subst (λ (i : Limits). IsNotRead reads (item_at (raws all_formats i) max_depth bs)) same none)
-
-  pub kinds : {A : Type 0} (E : Type 0) → (Reports allowed → E) → (r : Result A Error) → IfErr r (TellsWhole passes_over total allowed all_formats reads max_depth s) → IfErr r (λ e. WhereTotal passes_over (RefusesBytes E reads s.room bs e))
-  kinds E g (Ok x) h = tt
-  kinds E g (Err e) h = where_map passes_over (refuses_bytes E g e) (passes_told (TellsFault allowed (whole_at all_formats max_depth) s e) (RefusesAll allowed all_formats reads max_depth s e) passes_over total h)
-
 -- ---- values
 
 -- what is read as a value is the value of a raw item
-record Seen (read : Reads Raw) (v : Val) (rest : List ℕ) : Type 0 where
-  item : Raw
-  is : read ≡ Ok (item, rest)
-  valued : v ≡ value item
+pub record Seen (read : Reads Raw) (v : Val) (rest : List ℕ) : Type 0 where
+  pub item : Raw
+  pub is : read ≡ Ok (item, rest)
+  pub valued : v ≡ value item
 
-seen_of : (read : Reads Raw) (v : Val) (rest : List ℕ) → along value read ≡ Ok (v, rest) → Seen read v rest
+pub seen_of : (read : Reads Raw) (v : Val) (rest : List ℕ) → along value read ≡ Ok (v, rest) → Seen read v rest
 seen_of (Ok x) v rest is =
     let both = ok_is (value x.0, x.1) (v, rest) is in
     record { item = x.0; is = ap (λ (p : Val × List ℕ). Ok (x.0, p.1)) both; valued = sym (ap (λ (p : Val × List ℕ). p.0) both) }

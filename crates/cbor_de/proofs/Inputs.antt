@@ -76,7 +76,7 @@ module _ {A : Type 0} (allowed : ReadErrorCode → Bool) (f : Formats) (reads : 
   found (Ok x) h = spells x (h bs tells)
   found (Err e) h = tt
 
-  excused_memory : (D : Type 0) → (D → ⊥) → (k : ErrorCode) (at : ℕ) → ExcusedBy D k at → (k ≡ code.OutOfMemory) × (at ≡ 0)
+  pub excused_memory : (D : Type 0) → (D → ⊥) → (k : ErrorCode) (at : ℕ) → ExcusedBy D k at → (k ≡ code.OutOfMemory) × (at ≡ 0)
   excused_memory D none (code.Message m) at h = absurd h
   excused_memory D none (code.Io e) at h = absurd (none h.0)
   excused_memory D none code.ScratchTooSmall at h = absurd h
@@ -96,7 +96,7 @@ module _ {A : Type 0} (allowed : ReadErrorCode → Bool) (f : Formats) (reads : 
   excused_memory D none code.NotCanonical at h = absurd h
   excused_memory D none code.OutOfMemory at h = (refl, h)
 
-  memory_or_fault : (D : Type 0) (k : ErrorCode) (at : ℕ) → ExcusedBy D k at → IsMemoryOrFaultBy k × (at ≡ 0)
+  pub memory_or_fault : (D : Type 0) (k : ErrorCode) (at : ℕ) → ExcusedBy D k at → IsMemoryOrFaultBy k × (at ≡ 0)
   memory_or_fault D (code.Message m) at h = absurd h
   memory_or_fault D (code.Io e) at h = (tt, h.1)
   memory_or_fault D code.ScratchTooSmall at h = absurd h

@@ -3,6 +3,7 @@ pub mod WholeMaps
 pub mod Inputs
 pub mod Left
 pub mod Faults
+pub mod PassedOver
 pub mod FirstRefusals
 pub mod Alike
 pub mod Every

@@ -1,19 +1,25 @@
 -- A whole input that is read as one item.
-use Rattle.std.specs.Prelude.{◌⊎◌, ◌+◌, ℕ, Bool, List, [], length, true, false, Option, Result, Ok, Err}
-use Rattle.cbor_model.specs.Raw.{Raw}
+use Rattle.std.specs.Prelude.{◌⊎◌, ◌+◌, ℕ, Bool, List, [], ◌∷◌, length, true, false, Option, Result, Ok, Err, refl}
+use Rattle.std.proofs.Common.{arith}
+use Rattle.cbor_model.specs.Raw as raw
+use Rattle.cbor_model.specs.Raw.{Raw, null_item}
 use Rattle.cbor_model.specs.Formats.{Formats, all_formats}
-use Rattle.cbor_model.specs.Readable.{Context}
-use Rattle.cbor_model.specs.Acceptable.{max_depth}
+use Rattle.cbor_model.specs.Readable.{Context, IsBool}
+use Rattle.cbor_model.specs.Spelling.{spell}
+use Rattle.cbor_model.specs.Acceptable.{max_depth, FitsScratch}
+use Rattle.cbor_model.specs.Allowed.{limits_of}
+use Rattle.cbor_model.specs.RawReader.{Begins}
 use Rattle.cbor_model.specs.Plain.{Val}
-use Rattle.cbor_model.specs.Reader.{Fault, Reads, item_at, read_value_in}
+use Rattle.cbor_model.specs.Reader.{Fault, Reads, item_at}
 use Rattle.cbor_io.specs.declared.error.Error.{Error}
 use Rattle.cbor_io.specs.declared.error.ErrorCode.{ErrorCode}
 use Rattle.cbor_io.specs.declared.read_error.ReadErrorCode.{ReadErrorCode}
 use Rattle.cbor_io.specs.Error.{code_of, offset_of}
 use Rattle.cbor_read.specs.Source.{Input, Asks}
+use Rattle.cbor_decode.specs.FirstRefusal.{TellsFirst}
 use Rattle.cbor_decode.specs.Gives.{FailsBy, limits, Tells, Reports, whole_at}
 use Rattle.cbor_decode_as.specs.Takes.{raws, IsRead, IsNotRead, ExcusedBy, TellsFault}
-use Rattle.cbor_decode_as.specs.Takes.{FaultOrMessage, TellsOf, any_item}
+use Rattle.cbor_decode_as.specs.Takes.{FaultOrMessage, IsMessage, TellsOf, any_item}
 
 -- The one item that a source has to give is read as x, where so many levels are left.
 abbrev pub IsWholeRead : {A : Type 0} → Formats → (Raw → A → Type 0) → ℕ → Input → List ℕ → A
@@ -61,23 +67,21 @@ abbrev pub TellsWhole : {A : Type 0} → Bool → Bool → (ReadErrorCode → Bo
 TellsWhole passes_over total refusals f reads levels s e =
     TellsOf passes_over total (TellsFault refusals (whole_at f levels) s e) (RefusesAll refusals f reads levels s e)
 
--- the item that these bytes begin with, where so many bytes of chunks can be joined
-abbrev pub front_in : Option ℕ → List ℕ → Reads Val
-front_in room bs = any_item max_depth (record { total = length bs; room = room }) bs
+-- The bytes begin with an acceptable item that isn't read as anything.
+pub record BeginsUnread {A : Type 0} (reads : Raw → A → Type 0) (bytes : List ℕ) : Type 0 where
+  pub item : Raw
+  pub rest : List ℕ
+  pub begins : Begins max_depth bytes item rest
+  pub unread : (x : A) → reads item x → ⊥
 
--- the same item as it is spelled
-abbrev pub spelt_front_in : Option ℕ → List ℕ → Reads Raw
-spelt_front_in room bs =
-    item_at (raws all_formats (record { total = length bs; room = room })) max_depth bs
-
--- The bytes begin with nothing that is read, and the error tells the fault of what they begin with, or
--- is a message exactly where that is an acceptable item; or they begin with an item that is read, and it
--- tells that more follows. Lack of memory and a device's fault may come in place of either.
-abbrev pub RefusesBytes : {A : Type 0} → Type 0 → (Raw → A → Type 0) → Option ℕ → List ℕ → Error
-    → Type 0
-RefusesBytes Device reads room bs e =
-    RefusesFront Device (code_of e) (length bs) (offset_of e) reads (spelt_front_in room bs) (front_in room bs)
-    ⊎ RefusesRest Device (code_of e) (length bs) (offset_of e) reads (spelt_front_in room bs) (read_value_in room bs)
+-- A refusal by a type that passes over an item that it doesn't read: a message where the bytes begin
+-- with such an item; and the first refusal that the bytes allow where they don't, or with one whose
+-- chunks don't fit the scratch.
+abbrev pub RefusesUnread : {A : Type 0} → (Raw → A → Type 0) → Option ℕ → List ℕ → Error → Type 0
+RefusesUnread reads scratch bytes e =
+    (IsMessage e × BeginsUnread reads bytes)
+    ⊎ (TellsFirst (limits_of scratch) bytes e
+    × ((unread : BeginsUnread reads bytes) → FitsScratch scratch unread.item → ⊥))
 
 -- What a slice lends: definite strings, for its whole life.
 abbrev pub from_slice_context : Context
@@ -103,3 +107,15 @@ asks_none = record { whole = false; joined = false }
 -- A reader asks for memory for each string.
 abbrev pub from_reader_asks : Asks
 from_reader_asks = record { whole = true; joined = true }
+
+-- ---- examples
+
+-- f6, null, isn't read as a bool
+null_is_no_bool : BeginsUnread IsBool (0xf6 ∷ [])
+unfolding spell
+null_is_no_bool = record {
+  item = raw.simple null_item;
+  rest = [];
+  begins = record { spelled = refl; acceptable = record { fits = tt; nests = omega arith; texts = tt } };
+  unread = λ x is. is;
+}

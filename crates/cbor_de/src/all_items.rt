@@ -28,7 +28,7 @@ pub fn read_items<'de, T: Deserialize<'de, R>, R: Read<'de> + Drop>(
     alloc: Global,
     source: R,
 ) -> Result<Vec<T>>
-    // The bytes are the joined spellings of acceptable items, and these are read so.
+    // The bytes are the joined encodings of acceptable items, and these are read so.
     ensures found { IfOk result (λ v. (bytes rest : List ℕ) (items : List Raw)
         → Tells (R.source source) bytes → AreBytes bytes
         → AreMostItems max_depth bytes items rest

@@ -15,7 +15,7 @@ use cbor_read::Read;
 /// `reads` says of an item, and of what a source lends and which formats are read, as which values
 /// the type reads it. Nesting and the formats of keys are not its matter.
 ///
-/// `total` says that the type reads every item, so that each refusal tells why the bytes spell
+/// `total` says that the type reads every item, so that each refusal tells why the bytes encode
 /// none.
 ///
 /// `asks_memory` says for which items memory may be asked, where a source asks for it to hand out
@@ -51,7 +51,7 @@ pub trait Readable: Sized + Drop {
 
 /// A type that is read from a source.
 ///
-/// Ok where the bytes to come begin with the spelling of an item that the type reads: acceptable
+/// Ok where the bytes to come begin with the encoding of an item that the type reads: acceptable
 /// within the levels that are left, and with keys of the formats that are read. Exactly the item's
 /// bytes are taken then. Refused, some of the bytes to come were taken from their front, and
 /// counted. Ok or Err, as many levels are left as before.

@@ -16,7 +16,7 @@ ghost use Rattle.cbor_decode.specs.Gives.{IsMemoryOrFault, IsScratchOrMemory};
 ghost use Rattle.cbor_read.specs.Source.{asks_for, start_of_reader, start_of_slice};
 ghost use Rattle.cbor_decode_as.specs.Takes.{context, formats_of, lending, MemoryFor, WhereTotal};
 ghost use Rattle.cbor_de.specs.Forms.{MayTell};
-ghost use Rattle.cbor_de.specs.Whole.{ReadsAll, RefusesBytes, TellsWhole, from_slice_context};
+ghost use Rattle.cbor_de.specs.Whole.{ReadsAll, RefusesUnread, TellsWhole, from_slice_context};
 ghost use Rattle.cbor_de.specs.Whole.{from_mut_slice_context, from_reader_context};
 ghost use Rattle.cbor_de.specs.Whole.{asks_none, from_reader_asks, from_slice_asks};
 
@@ -125,7 +125,7 @@ pub fn from_slice<'a, T: Deserialize<'a, SliceRead<'a>>>(
     alloc: Global,
     slice: &'a [u8],
 ) -> Result<T>
-    // The bytes spell an acceptable item, and it is read so.
+    // The bytes encode an acceptable item, and it is read so.
     ensures found { IfOk result (SpellsAs all_formats (T.reads from_slice_context) slice.now) }
     // Each such item is read, unless memory runs out.
     ensures accepted { (x : T) → SpellsAs all_formats (T.reads from_slice_context) slice.now x
@@ -136,7 +136,7 @@ pub fn from_slice<'a, T: Deserialize<'a, SliceRead<'a>>>(
     ensures memory { (x : T)
         → (spelt : SpellsAs all_formats (T.reads from_slice_context) slice.now x)
         → IfErr result (λ e. T.asks_memory from_slice_asks spelt.item) }
-    // The acceptable item that the bytes spell is the one that is read; and where the type reads
+    // The acceptable item that the bytes encode is the one that is read; and where the type reads
     // every item, it is read, unless memory runs out.
     ensures every { (v : Val) → (spelt : SpellsValue slice.now v)
         → MatchResult result (T.reads from_slice_context spelt.item)
@@ -144,11 +144,10 @@ pub fn from_slice<'a, T: Deserialize<'a, SliceRead<'a>>>(
     // A refusal of it is the first that the bytes allow, or memory ran out.
     ensures first { IfErr result (λ e. WhereTotal T.total
         (IsOutOfMemory e ⊎ TellsFirst (limits_of None) slice.now e)) }
-    // Where the type passes over an item that it doesn't read, a refusal tells the fault of what
-    // the bytes begin with, and is a message exactly where an item stands there that isn't read;
-    // of one that is read, it tells that more follows.
+    // Where the type passes over an item that it doesn't read, a refusal is a message if the bytes
+    // begin with such an item, and the first that they allow if they don't; or memory ran out.
     ensures fault { IfErr result (λ e. WhereTotal T.passes_over
-        (RefusesBytes ⊥ (T.reads from_slice_context) None slice.now e)) }
+        (IsOutOfMemory e ⊎ RefusesUnread (T.reads from_slice_context) None slice.now e)) }
     // A wrong form is told by a code, and at a place, that the type may tell it by and at.
     ensures form { IfErr result
         (MayTell T.wrong_forms all_formats (start_of_slice slice.now None)) }
@@ -195,8 +194,8 @@ pub fn from_slice_with_scratch<'a, T: Deserialize<'a, SliceReadFixed<'a, 'a>>>(
         → MatchResult result (λ x. ⊥) (λ e. WhereTotal T.total (IsScratchOrMemory e)) }
     ensures first { IfErr result (λ e. WhereTotal T.total
         (IsOutOfMemory e ⊎ TellsFirst (limits_of (Some (length scratch.old))) slice.now e)) }
-    ensures fault { IfErr result (λ e. WhereTotal T.passes_over (RefusesBytes ⊥
-        (T.reads from_slice_context) (Some (length scratch.old)) slice.now e)) }
+    ensures fault { IfErr result (λ e. WhereTotal T.passes_over (IsOutOfMemory e
+        ⊎ RefusesUnread (T.reads from_slice_context) (Some (length scratch.old)) slice.now e)) }
     ensures form { IfErr result (MayTell T.wrong_forms all_formats
         (start_of_slice slice.now (Some (length scratch.old)))) }
 {
@@ -231,7 +230,7 @@ pub fn from_mut_slice<'a, T: Deserialize<'a, MutSliceRead<'a>>>(
     ensures first { IfErr result (λ e. WhereTotal T.total
         (IsOutOfMemory e ⊎ TellsFirst (limits_of None) slice.old e)) }
     ensures fault { IfErr result (λ e. WhereTotal T.passes_over
-        (RefusesBytes ⊥ (T.reads from_mut_slice_context) None slice.old e)) }
+        (IsOutOfMemory e ⊎ RefusesUnread (T.reads from_mut_slice_context) None slice.old e)) }
     ensures form { IfErr result
         (MayTell T.wrong_forms all_formats (start_of_slice slice.old None)) }
 {
@@ -263,7 +262,7 @@ pub fn from_vec<'de, T: DeserializeOwned + Deserialize<'de, VecRead>>(
     ensures first { IfErr result (λ e. WhereTotal T.total
         (IsOutOfMemory e ⊎ TellsFirst (limits_of None) bytes.items e)) }
     ensures fault { IfErr result (λ e. WhereTotal T.passes_over
-        (RefusesBytes ⊥ (T.reads from_reader_context) None bytes.items e)) }
+        (IsOutOfMemory e ⊎ RefusesUnread (T.reads from_reader_context) None bytes.items e)) }
     ensures form { IfErr result (MayTell T.wrong_forms all_formats
         (start_of_slice bytes.items None)) }
 {
@@ -303,7 +302,7 @@ pub fn from_reader<'de, T: DeserializeOwned + Deserialize<'de, IoRead<R>>, R: io
     ensures memory { (bytes : List ℕ) → Gave (R.remaining reader) bytes
         → (x : T) → (spelt : SpellsAs all_formats (T.reads from_reader_context) bytes x)
         → IfErr result (λ e. IsOutOfMemory e → T.asks_memory from_reader_asks spelt.item) }
-    // The acceptable item that the bytes spell is the one that is read; and where the type reads
+    // The acceptable item that the bytes encode is the one that is read; and where the type reads
     // every item, it is read, with the same exceptions.
     ensures every { (bytes : List ℕ) → Gave (R.remaining reader) bytes
         → (v : Val) → (spelt : SpellsValue bytes v)
@@ -317,7 +316,7 @@ pub fn from_reader<'de, T: DeserializeOwned + Deserialize<'de, IoRead<R>>, R: io
     // Of a type that passes over what it doesn't read, with the same exceptions:
     ensures fault { (bytes : List ℕ) → Gave (R.remaining reader) bytes
         → IfErr result (λ e. WhereTotal T.passes_over
-        (RefusesBytes ⊤ (T.reads from_reader_context) None bytes e)) }
+        (IsMemoryOrFault e ⊎ RefusesUnread (T.reads from_reader_context) None bytes e)) }
     ensures form { IfErr result (MayTell T.wrong_forms all_formats
         (start_of_reader (R.remaining reader))) }
 {

@@ -52,7 +52,7 @@ pub fn first_is_fault()
     none_allowed();
 }
 
-/// What `deserialize` takes, by the definitions alone. Ok: the bytes to come were the spelling of
+/// What `deserialize` takes, by the definitions alone. Ok: the bytes to come were the encoding of
 /// an item that the type reads so, acceptable within the levels that are left and with keys of the
 /// formats that are read, and then those that are still to come. Err: no such item is there whose
 /// chunks fit the buffer; or memory ran out, or the source reported a fault.

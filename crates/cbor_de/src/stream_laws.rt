@@ -17,18 +17,18 @@ pub fn stream_answers<T: Readable>()
     ensures { (l : Lends) → StreamAnswers (λ f. T.reads (lending f l)) T.total }
 {}
 
-/// The bytes are the joined spellings of one list of items at most that are acceptable within so
+/// The bytes are the joined encodings of one list of items at most that are acceptable within so
 /// many levels.
 pub fn one_list_of_items()
     ensures { OneListOfItems }
 {}
 
-/// Of the lists of such items whose joined spellings are a front of the bytes, one is the longest.
+/// Of the lists of such items whose joined encodings are a front of the bytes, one is the longest.
 pub fn one_longest_list()
     ensures { OneLongestList }
 {}
 
-/// A list whose joined spellings are all of the bytes is the longest.
+/// A list whose joined encodings are all of the bytes is the longest.
 pub fn all_are_most()
     ensures { AllAreMost }
 {}

@@ -156,7 +156,7 @@ pub struct VariantAccess<'a, R> {
     pub(crate) de: &'a mut Deserializer<R>,
     // The variant's place among the names.
     pub(crate) index: usize,
-    // How the enum is spelled.
+    // How the enum is written.
     pub(crate) form: Form,
     // How many levels were left before the enum.
     pub(crate) outer: u64,

@@ -1,5 +1,4 @@
 use Rattle.std.proofs.Common.{IfErr, [], refl, subst, arith}
-use Rattle.std.specs.Prelude.{⊤}
 use Rattle.cbor_model.specs.Acceptable.{max_depth}
 use Rattle.cbor_model.specs.Formats.{all_formats}
 use Rattle.cbor_read.specs.Source.{Input, start_of_reader, reader_refusals}
@@ -7,7 +6,8 @@ use Rattle.cbor_decode.specs.Gives.{Tells}
 use Rattle.cbor_decode_as.specs.Takes.{MemoryFor}
 use Rattle.cbor_de.specs.Whole.{ReadsAll, TellsWhole, from_reader_context, from_reader_asks}
 use Rattle.cbor_de.proofs.Every.{every_or_fault}
-use Rattle.cbor_de.proofs.Faults.{fails_or_faults, kinds}
+use Rattle.cbor_de.proofs.Faults.{fails_or_faults}
+use Rattle.cbor_de.proofs.PassedOver.{passed_over_by_reader}
 use Rattle.cbor_de.proofs.Inputs.{found, accepted_or_fault, asked_or_fault}
 use Rattle.cbor_de.proofs.FirstRefusals.{first_from_reader}
 use Rattle.cbor_de.specs.Forms.{MayTell}
@@ -34,7 +34,7 @@ returns-clause-fault g c = λ bs gave.
     let s = start_of_reader (g.R.Read.remaining c.args.reader) in
     let tells : Tells s bs = record { is = gave.told; short = omega (arith, gave.short) } in
     let given = subst (λ (s : Input). IfErr c.read_all.result (TellsWhole g.T.Readable.passes_over g.T.Readable.total reader_refusals all_formats (g.T.Readable.reads from_reader_context) max_depth s)) c.new.ensures c.read_all.ensures.fault in
-    kinds g.T.Readable.passes_over g.T.Readable.total reader_refusals (g.T.Readable.reads from_reader_context) s bs tells refl ⊤ (λ device. tt) c.read_all.result given
+    passed_over_by_reader g.T.Readable.passes_over g.T.Readable.total reader_refusals (g.T.Readable.reads from_reader_context) s bs tells refl gave.are_bytes c.read_all.result given
 
 pub returns-clause-every : goal.returns-clause-every
 returns-clause-every g c = λ bs gave v spelt.

@@ -8,7 +8,8 @@ use Rattle.cbor_decode_as.specs.Takes.{MemoryFor}
 use Rattle.cbor_de.specs.Whole.{ReadsAll, TellsWhole, from_slice_context, asks_none}
 use Rattle.cbor_de.proofs.Every.{every, small}
 use Rattle.cbor_model.proofs.facts.Laws.{scratch_need}
-use Rattle.cbor_de.proofs.Faults.{fails, kinds}
+use Rattle.cbor_de.proofs.Faults.{fails}
+use Rattle.cbor_de.proofs.PassedOver.{passed_over}
 use Rattle.cbor_de.proofs.Inputs.{found, accepted, asked}
 use Rattle.cbor_de.proofs.FirstRefusals.{first}
 use Rattle.cbor_de.specs.Forms.{MayTell}
@@ -40,7 +41,7 @@ returns-clause-fault g c =
     let s = start_of_slice bs (Some (length c.args.scratch.now)) in
     let tells : Tells s bs = record { is = refl; short = omega arith } in
     let given = subst (λ (s : Input). IfErr c.read_all.result (TellsWhole g.T.Readable.passes_over g.T.Readable.total fixed_refusals all_formats (g.T.Readable.reads from_slice_context) max_depth s)) c.new.ensures c.read_all.ensures.fault in
-    kinds g.T.Readable.passes_over g.T.Readable.total fixed_refusals (g.T.Readable.reads from_slice_context) s bs tells refl ⊥ (λ device. absurd cc) c.read_all.result given
+    passed_over g.T.Readable.passes_over g.T.Readable.total fixed_refusals (g.T.Readable.reads from_slice_context) s bs tells refl (λ i. omega (arith, c.type_inv.slice i)) (λ device. absurd cc) c.read_all.result given
 
 pub returns-clause-every : goal.returns-clause-every
 returns-clause-every g c = λ v spelt room.

@@ -7,7 +7,8 @@ use Rattle.cbor_decode.specs.Gives.{Tells}
 use Rattle.cbor_decode_as.specs.Takes.{MemoryFor}
 use Rattle.cbor_de.specs.Whole.{ReadsAll, TellsWhole, from_reader_context, from_reader_asks}
 use Rattle.cbor_de.proofs.Every.{every}
-use Rattle.cbor_de.proofs.Faults.{fails, kinds}
+use Rattle.cbor_de.proofs.Faults.{fails}
+use Rattle.cbor_de.proofs.PassedOver.{passed_over}
 use Rattle.cbor_de.proofs.Inputs.{found, accepted, asked}
 use Rattle.cbor_de.proofs.FirstRefusals.{first}
 use Rattle.cbor_de.specs.Forms.{MayTell}
@@ -42,7 +43,7 @@ returns-clause-fault g c =
     let short : length bs < 2 ^ 64 = subst (λ (xs : List ℕ). length xs < 2 ^ 64) c.deref.ensures.value c.are_bytes.ensures.short in
     let tells : Tells s bs = record { is = refl; short = omega (arith, short) } in
     let given = subst (λ (s : Input). IfErr c.read_all.result (TellsWhole g.T.Readable.passes_over g.T.Readable.total slice_refusals all_formats (g.T.Readable.reads from_reader_context) max_depth s)) c.new.ensures c.read_all.ensures.fault in
-    kinds g.T.Readable.passes_over g.T.Readable.total slice_refusals (g.T.Readable.reads from_reader_context) s bs tells refl ⊥ (λ device. absurd cc) c.read_all.result given
+    passed_over g.T.Readable.passes_over g.T.Readable.total slice_refusals (g.T.Readable.reads from_reader_context) s bs tells refl (subst AreBytes c.deref.ensures.value c.are_bytes.ensures.bytes) (λ device. absurd cc) c.read_all.result given
 
 pub returns-clause-every : goal.returns-clause-every
 returns-clause-every g c = λ v spelt.
