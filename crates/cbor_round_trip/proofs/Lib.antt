@@ -1,4 +1,13 @@
 pub mod Written
 pub mod Calls
 pub mod NoChunks
+pub mod Bytes
+pub mod Nesting
+pub mod Unwritten
+pub mod CanonicalValues
+pub mod Contents
+pub mod ItemLists
+pub mod CutOff
+pub mod StreamedItems
+pub mod Said
 pub mod facts

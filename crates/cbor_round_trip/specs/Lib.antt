@@ -11,3 +11,7 @@ pub mod Variants
 pub mod Enums
 pub mod TypeLaws
 pub mod PartsLaws
+pub mod CutOff
+pub mod StreamedItems
+pub mod Nesting
+pub mod Said

@@ -7,3 +7,6 @@ pub mod Enums
 pub mod Sources
 pub mod Streams
 pub mod Documents
+pub mod Items
+pub mod Said
+pub mod Canonical

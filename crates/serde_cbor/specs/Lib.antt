@@ -107,3 +107,7 @@ pub use Rattle.cbor_round_trip.specs.ReadBack
 pub use Rattle.cbor_round_trip.specs.TypeLaws
 pub use Rattle.cbor_round_trip.specs.Keyed
 pub use Rattle.cbor_round_trip.specs.Lists
+pub use Rattle.cbor_round_trip.specs.CutOff
+pub use Rattle.cbor_round_trip.specs.StreamedItems
+pub use Rattle.cbor_round_trip.specs.Nesting
+pub use Rattle.cbor_round_trip.specs.Said

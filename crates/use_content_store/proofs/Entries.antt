@@ -1,40 +1,26 @@
 -- The entries of a store that holds the values of some items.
-use Rattle.std.proofs.Common.{◌≡◌, ◌∙◌, ◌⊎◌, ◌↔◌, ℕ, List, [], ◌∷◌, ◌++◌, Bool, true, false, Some, None, inl, inr, refl, sym, ap}
+use Rattle.std.proofs.Common.{◌≡◌, ◌∙◌, ◌⊎◌, ◌↔◌, ℕ, List, [], ◌∷◌, ◌++◌, Bool, true, false, Some, None, inl, inr, refl, sym, ap, subst}
 use Rattle.std.specs.Prelude.{if◌then◌else◌}
+use Rattle.std.proofs.lemmas.List.Elements.{Contains-append_left, Contains-push, Contains-push_cases}
 use Rattle.serde_cbor.specs.Canonical.{canon}
 use Rattle.serde_cbor.specs.Plain.{Val}
 use Rattle.serde_cbor.specs.Raw.{Raw}
 use Rattle.serde_cbor.specs.Value.{value}
 use Rattle.use_content_store.specs.declared.store.Store.{Store}
-use Rattle.use_content_store.specs.Log.{HoldsJust, IsEntryOfOne}
+use Rattle.use_content_store.specs.Log.{HoldsJust}
 use Rattle.use_content_store.specs.Store.{address, at, HoldsToo, IsEntryOf}
 
--- ---- of one item more
-
-pub entry_of_front : (items more : List Raw) (place bytes : List ℕ) → IsEntryOfOne items place bytes → IsEntryOfOne (items ++ more) place bytes
-entry_of_front [] more place bytes h = absurd h
-entry_of_front (r ∷ items) more place bytes (inl h) = inl h
-entry_of_front (r ∷ items) more place bytes (inr h) = inr (entry_of_front items more place bytes h)
-
-pub entry_within : (items : List Raw) (r : Raw) (more : List Raw) (place bytes : List ℕ) → IsEntryOf (value r) place bytes
-    → IsEntryOfOne (items ++ r ∷ more) place bytes
-entry_within [] r more place bytes h = inl h
-entry_within (q ∷ items) r more place bytes h = inr (entry_within items r more place bytes h)
-
-entry_of_more : (items : List Raw) (r : Raw) (place bytes : List ℕ) → IsEntryOfOne (items ++ r ∷ []) place bytes
-    → IsEntryOf (value r) place bytes ⊎ IsEntryOfOne items place bytes
-entry_of_more [] r place bytes (inl h) = inl h
-entry_of_more [] r place bytes (inr h) = absurd h
-entry_of_more (q ∷ items) r place bytes (inl h) = inr (inl h)
-entry_of_more (q ∷ items) r place bytes (inr h) = elim (entry_of_more items r place bytes h) [ inl one ↦ inl one | inr others ↦ inr (inr others) ]
-
+-- of one item more
 pub holds_more : (s t : Store) (items : List Raw) (r : Raw) → HoldsJust s items → HoldsToo s (value r) t → HoldsJust t (items ++ r ∷ [])
 holds_more s t items r just too place bytes = (
   λ here. elim ((too place bytes).0 here) [
-    | inl one ↦ entry_within items r [] place bytes one
-    | inr before ↦ entry_of_front items (r ∷ []) place bytes ((just place bytes).0 before)
+    | inl one ↦ (r, Contains-push items r, one)
+    | inr before ↦ let e = (just place bytes).0 before in (e.0, Contains-append_left items (r ∷ []) e.0 e.1, e.2)
   ],
-  λ entry. (too place bytes).1 (elim (entry_of_more items r place bytes entry) [ inl one ↦ inl one | inr others ↦ inr ((just place bytes).1 others) ]),
+  λ entry. (too place bytes).1 (elim (Contains-push_cases items r entry.0 entry.1) [
+    | inl before ↦ inr ((just place bytes).1 (entry.0, before, entry.2))
+    | inr last ↦ inl (subst (λ (q : Raw). IsEntryOf (value q) place bytes) (sym last) entry.2)
+  ]),
 )
 
 -- ---- of what is put

@@ -1,8 +1,5 @@
-mod CutOff
 mod Entries
-mod Items
 mod Law
 mod Reading
 mod Records
 mod Stores
-mod Streams

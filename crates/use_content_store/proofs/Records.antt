@@ -5,19 +5,20 @@ use Rattle.std.specs.Io.KnownBytes.{Appends}
 use Rattle.std.specs.Str.{bytes_eq}
 use Rattle.std.proofs.KnownBytes.{Appends-nil}
 use Rattle.std.proofs.lemmas.Slice.Eq.{bytes_eq-Decides}
+use Rattle.serde_cbor.specs.Acceptable.{max_depth}
 use Rattle.serde_cbor.specs.Canonical.{canon}
 use Rattle.serde_cbor.specs.Laws.{NormalisedOnce, SpellsValue}
 use Rattle.serde_cbor.specs.Plain.{Val}
 use Rattle.serde_cbor.specs.Raw.{Raw}
 use Rattle.serde_cbor.specs.Spelling.{spell}
 use Rattle.serde_cbor.specs.Write.{AppendsBeginning}
+use Rattle.serde_cbor.proofs.facts.Items.{items_joined, one_item}
 use Rattle.use_content_store.specs.declared.store.Put.{Put}
 use Rattle.use_content_store.specs.declared.store.Put.TheVariants.{Collision, Stored}
 use Rattle.use_content_store.specs.declared.store.Store.{Store}
 use Rattle.use_content_store.specs.Log.{Appended, Encodes, IsLog, KeepsLog, Recorded, WrotePart}
 use Rattle.use_content_store.specs.Store.{address, at, HoldsToo}
 use Rattle.use_content_store.proofs.Entries.{added_at, holds_more, there}
-use Rattle.use_content_store.proofs.Items.{alone, joined}
 
 pub keeps_log : (s t : Store) (v : Val) (old new : Option (List ℕ)) → SpellsValue (canon v) v → Recorded s v t old new → KeepsLog s t old new
 keeps_log s t v old new read (inl h) log items is = (
@@ -34,10 +35,10 @@ keeps_log s t v old new read (inr h) log items is = (
   read.item ∷ [],
   h.0,
   record {
-    are = joined (log ++ canon v) items (read.item ∷ []) (canon v) [] (record {
+    are = items_joined max_depth (record {
       acceptable = is.are.acceptable;
       spelled = ap (λ l. l ++ canon v) (is.are.spelled ∙ append-nil (flat_map spell items));
-    }) (alone read.item (canon v) [] read.acceptable (sym read.spelled ∙ sym (append-nil (spell read.item))));
+    }) (one_item max_depth read.acceptable (sym read.spelled ∙ sym (append-nil (spell read.item))));
     holds = holds_more s t items read.item is.holds (subst (λ (w : Val). HoldsToo s w t) read.valued h.1);
   },
 )

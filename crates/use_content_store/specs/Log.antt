@@ -1,13 +1,13 @@
 -- The log of a store: the values that it holds, as a CBOR sequence (RFC 8742), of which a cut may
 -- leave only a part.
 use Rattle.std.specs.Prelude.{◌≡◌, ◌≢◌, ◌⊎◌, ◌↔◌, ℕ, ◌^◌, ◌<◌, List, [], ◌∷◌, ◌++◌, length}
-use Rattle.std.specs.Prelude.{flat_map, Option, Some, None, Result, Ok, Err}
+use Rattle.std.specs.Prelude.{flat_map, Option, Some, Result, Ok, Err}
 use Rattle.std.specs.Io.KnownBytes.{Appends}
+use Rattle.std.specs.List.{Contains}
 use Rattle.serde_cbor.specs.Acceptable.{max_depth}
-use Rattle.serde_cbor.specs.Allowed.{Limits}
 use Rattle.serde_cbor.specs.Canonical.{canon}
+use Rattle.serde_cbor.specs.CutOff.{IsCutTo, SaysCutOff, bounds_at}
 use Rattle.serde_cbor.specs.Document.{document_of, IsStorableDocument}
-use Rattle.serde_cbor.specs.Error.{code_of, category_of}
 use Rattle.serde_cbor.specs.FirstRefusal.{TellsFirst}
 use Rattle.serde_cbor.specs.Gives.{IsMemoryOrFault}
 use Rattle.serde_cbor.specs.Items.{ItemsBegin, AreItems, AreMostItems}
@@ -18,9 +18,7 @@ use Rattle.serde_cbor.specs.Spelling.{spell}
 use Rattle.serde_cbor.specs.Value.{value}
 use Rattle.serde_cbor.specs.Write.{AppendsBeginning}
 use Rattle.serde_cbor.specs.Written.{IsNotWritten}
-use Rattle.serde_cbor.specs.declared.error.Category.TheVariants.{Eof}
 use Rattle.serde_cbor.specs.declared.error.Error.{Error}
-use Rattle.serde_cbor.specs.declared.error.ErrorCode.TheVariants.{LengthOutOfRange}
 use Rattle.use_content_store.specs.declared.log.OpenError.{OpenError}
 use Rattle.use_content_store.specs.declared.log.OpenError.TheVariants.{Broken, Collision}
 use Rattle.use_content_store.specs.declared.log.Opened.{Opened}
@@ -33,8 +31,7 @@ use Rattle.use_content_store.specs.Store.{Collides, Puts}
 
 -- This is the entry of one of the items' values.
 abbrev pub IsEntryOfOne : List Raw → List ℕ → List ℕ → Type 0
-IsEntryOfOne [] place bytes = ⊥
-IsEntryOfOne (r ∷ rs) place bytes = IsEntryOf (value r) place bytes ⊎ IsEntryOfOne rs place bytes
+IsEntryOfOne items place bytes = (r : Raw) × Contains items r × IsEntryOf (value r) place bytes
 
 -- The store holds the values of the items, and nothing else.
 abbrev pub HoldsJust : Store → List Raw → Type 0
@@ -80,15 +77,6 @@ WrotePart bytes old new =
     ⊎ ((v : Val) × SpellsValue bytes v × AppendsBeginning (canon v) old new)
 
 -- ---- opening
-
--- The error says that a record goes on beyond the end of the bytes: they end within it, or it names
--- a length that no bytes have.
-abbrev pub SaysCutOff : Error → Type 0
-SaysCutOff e = (category_of (code_of e) ≡ Eof) ⊎ (code_of e ≡ LengthOutOfRange)
-
--- what bounds a record at an offset: 127 levels, and no scratch
-abbrev pub bounds_at : ℕ → Limits
-bounds_at offset = record { start = offset; levels = max_depth; scratch = None }
 
 -- The bytes begin with the log of the store, and no longer list of records begins them: what
 -- follows is nothing, or a record that goes on beyond the end.
@@ -142,19 +130,6 @@ Stops s offset e (Err (Broken n f)) = ¬ (SaysCutOff e) × (n ≡ offset) × (f 
 Stops s offset e (Err (Collision n)) = ⊥
 
 -- ---- logs that are cut off
-
--- The bytes are a part of the first item's, and not all of them; or there is no item, and no byte.
-abbrev pub IsPartOfFirst : List Raw → List ℕ → Type 0
-IsPartOfFirst [] rest = rest ≡ []
-IsPartOfFirst (r ∷ rs) rest = (missing : List ℕ) × (missing ≢ []) × (rest ++ missing ≡ spell r)
-
--- The bytes are all those of the items `whole`, and of what follows these a part of the first.
-pub record IsCutTo (items : List Raw) (bytes : List ℕ) (whole : List Raw) (rest : List ℕ)
-    : Type 0 where
-  pub behind : List Raw
-  pub are : items ≡ whole ++ behind
-  pub parts : bytes ≡ flat_map spell whole ++ rest
-  pub part : IsPartOfFirst behind rest
 
 -- The items that are whole are opened, and no other.
 pub record OpensWhole (items : List Raw) (bytes : List ℕ) (o : Opened) : Type 0 where

@@ -4,18 +4,19 @@
 ghost use Rattle.std.specs.Prelude.{◌⊎◌, ◌↔◌, ℕ, List, None, IfErr, IfOk, IsTrue, OnErr, OnOk};
 ghost use Rattle.std.specs.String.{string_bytes};
 ghost use Rattle.serde_cbor.specs.Allowed.{limits_of};
+ghost use Rattle.serde_cbor.specs.CutOff.{SaysCutOff};
 ghost use Rattle.serde_cbor.specs.Error.{IsOutOfMemory};
 ghost use Rattle.serde_cbor.specs.FirstRefusal.{TellsFirst};
 ghost use Rattle.serde_cbor.specs.Gives.{Gave};
 ghost use Rattle.serde_cbor.specs.View.{view};
 ghost use Rattle.use_content_store.specs.Log.{Appended, CutOffAnywhere, Encodes, IsNotPut};
-ghost use Rattle.use_content_store.specs.Log.{KeepsLog, Opens, SaysCutOff, Stops, WrotePart};
+ghost use Rattle.use_content_store.specs.Log.{KeepsLog, Opens, Stops, WrotePart};
 ghost use Rattle.use_content_store.specs.Store.{HoldsTheSame, HoldsToo};
 
 use crate::store::{Put, Store, entry_of};
-use serde_cbor::de::{item_refused_first, item_taken};
+use serde_cbor::de::item_refused_first;
 use serde_cbor::error::{Error, ErrorCode, Result};
-use serde_cbor::model::{normalised_once, one_spelling, spelled_allows_none};
+use serde_cbor::model::normalised_once;
 use serde_cbor::stream::one_longest_list;
 use serde_cbor::write::Write;
 use serde_cbor::{Deserializer, Value, from_slice};
@@ -50,9 +51,7 @@ pub fn open<R: io::Read + Drop>(alloc: Global, reader: R) -> std::result::Result
     // Of a reader that tells its bytes, fewer than 2^64:
     ensures { (bytes : List ℕ) → Gave (R.remaining reader) bytes → Opens bytes result }
 {
-    item_taken::<Value>();
     item_refused_first::<Value>();
-    one_spelling();
     let mut store = Store::new(alloc);
     let mut stream = Deserializer::from_reader(alloc, reader).into_iter::<Value>();
     let mut whole = 0;
@@ -154,7 +153,5 @@ fn is_cut_off(error: &Error) -> bool
 pub fn cut_off_anywhere()
     ensures { CutOffAnywhere }
 {
-    one_spelling();
     one_longest_list();
-    spelled_allows_none();
 }

@@ -1,2 +1,1 @@
-mod Readings
 mod Saved

@@ -11,7 +11,6 @@ ghost use Rattle.use_device_config.specs.Configs.{IsFactorySetting, Says, SaysOn
 
 use crate::config::{Config, Mode};
 use serde_cbor::de::{Deserialize, Readable, item_taken};
-use serde_cbor::model::{document_is_acceptable, one_spelling};
 use serde_cbor::parts::Schema;
 use serde_cbor::round_trip::written_reads_back_as;
 use serde_cbor::ser::{Serialize, to_vec_packed};
@@ -72,8 +71,6 @@ impl Device {
         ensures memory { IfErr result IsOutOfMemory }
     {
         written_reads_back_as::<Config>();
-        document_is_acceptable();
-        one_spelling();
         are_in_range(&self.config);
         to_vec_packed(alloc, &self.config)
     }
@@ -106,7 +103,6 @@ fn read(alloc: Global, bytes: &[u8], scratch: &mut [u8]) -> Result<Config>
         → FitsScratch (Some (length scratch.old)) said.item → IfErr result IsOutOfMemory }
 {
     item_taken::<Config>();
-    one_spelling();
     let mut de = Deserializer::from_slice_with_scratch(alloc, bytes, scratch).nesting_limit(LEVELS);
     let config = Config::deserialize(&mut de)?;
     de.end()?;

@@ -1,8 +1,9 @@
 -- What is known of a service between two messages, and at its end.
-use Rattle.std.proofs.Common.{◌≡◌, ◌∙◌, ℕ, Bool, false, List, [], ◌∷◌, ◌++◌, Option, None, sym, ap, subst, append-nil, append_assoc}
+use Rattle.std.proofs.Common.{◌≡◌, ℕ, Bool, false, List, [], ◌∷◌, ◌++◌, Option, None, subst}
 use Rattle.std.specs.Prelude.{flat_map}
 use Rattle.std.specs.Io.KnownBytes.{Appends}
 use Rattle.std.proofs.KnownBytes.{Appends-nil, Appends-trans}
+use Rattle.std.proofs.lemmas.List.{flat_map_more}
 use Rattle.serde_cbor.specs.Acceptable.{max_depth}
 use Rattle.serde_cbor.specs.Formats.{Formats, all_formats}
 use Rattle.serde_cbor.specs.Gives.{Gave}
@@ -29,10 +30,6 @@ module _ {M : Type 0} (reads : Context → Raw → M → Type 0) (reply : M → 
   abbrev by : Formats → Raw → M → Type 0
   by f = reads (lending f lends)
 
-  one_more_reply : (ms : List M) (m : M) → flat_map reply (ms ++ m ∷ []) ≡ flat_map reply ms ++ reply m
-  one_more_reply [] m = append-nil (reply m)
-  one_more_reply (x ∷ xs) m = ap (λ l. reply x ++ l) (one_more_reply xs m) ∙ sym (append_assoc (reply x) (flat_map reply xs) (reply m))
-
   -- Each message that the stream gave has its reply.
   pub record HasServed (s : Stream) (old new : Option (List ℕ)) : Type 0 where
     pub messages : List M
@@ -40,11 +37,7 @@ module _ {M : Type 0} (reads : Context → Raw → M → Type 0) (reply : M → 
     pub written : Appends old new (flat_map reply messages)
 
   pub none_served : (remaining old : Option (List ℕ)) → Gave remaining bytes → HasServed (begun (start_of_reader remaining) max_depth all_formats) old old
-  none_served remaining old gave = record {
-    messages = [];
-    given = none_streamed reads bytes remaining gave;
-    written = Appends-nil old;
-  }
+  none_served remaining old gave = record { messages = []; given = none_streamed reads bytes remaining gave; written = Appends-nil old }
 
   module _ (s t : Stream) (old new : Option (List ℕ)) (served : HasServed s old new) where
     pub all_served : GivesNone s t → ServedAll read_as reply bytes old new
@@ -72,7 +65,7 @@ module _ {M : Type 0} (reads : Context → Raw → M → Type 0) (reply : M → 
       one_more wrote = record {
         messages = served.messages ++ m ∷ [];
         given = more;
-        written = subst (λ (bs : List ℕ). Appends old new' bs) (sym (one_more_reply served.messages m))
+        written = subst (λ (bs : List ℕ). Appends old new' bs) (flat_map_more reply [] served.messages m)
             (Appends-trans old new new' (flat_map reply served.messages) (reply m) served.written wrote);
       }
 

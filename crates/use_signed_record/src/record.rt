@@ -128,14 +128,14 @@ fn parts_of(value: &Value) -> Option<Parts<'_>>
     let (SIGN1, items) = value.as_tag()? else {
         return None;
     };
-    if items.as_array()?.len() != 4 {
+    let [protected, unprotected, payload, signature] = items.as_array()? else {
         return None;
-    }
-    items.get_index(1)?.as_map()?;
+    };
+    unprotected.as_map()?;
     Some(Parts {
-        protected: items.get_index(0)?.as_bytes()?,
-        payload: items.get_index(2)?.as_bytes()?,
-        signature: items.get_index(3)?.as_bytes()?,
+        protected: protected.as_bytes()?,
+        payload: payload.as_bytes()?,
+        signature: signature.as_bytes()?,
     })
 }
 

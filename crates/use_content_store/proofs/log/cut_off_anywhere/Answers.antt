@@ -1,5 +1,5 @@
-use Rattle.use_content_store.proofs.Law.{cut_off}
+use Rattle.use_content_store.proofs.Law.{opens_whole}
 use Rattle.use_content_store.proofs.log.cut_off_anywhere.Goals as goal
 
 pub returns : goal.returns
-returns c = cut_off c.one_spelling.ensures c.one_longest_list.ensures c.spelled_allows_none.ensures
+returns c = opens_whole c.one_longest_list.ensures

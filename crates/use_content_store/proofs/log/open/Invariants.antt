@@ -1,7 +1,5 @@
 -- The records that were read are in the store.
-use Rattle.std.proofs.Common.{◌≡◌, ℕ, ◌-◌, ◌^◌, List, false}
-use Rattle.serde_cbor.specs.Acceptable.{max_depth}
-use Rattle.serde_cbor.specs.Formats.{all_formats}
+use Rattle.std.proofs.Common.{◌≡◌, ℕ, ◌-◌, ◌^◌, List}
 use Rattle.serde_cbor.specs.Gives.{Gave}
 use Rattle.serde_cbor.specs.Sources.{input_of_reader}
 use Rattle.serde_cbor.specs.Streams.{standing}
@@ -11,11 +9,8 @@ use Rattle.use_content_store.proofs.log.open.Given as goal
 abbrev pub invariant-records : goal.invariant-records
 invariant-records g l = record {
   far : (bytes : List ℕ) → Gave (g.R.Read.remaining l.fn.reader) bytes
-      → SoFar bytes (standing (input_of_reader g.R.Read.remaining) l.stream).input l.store;
+      → SoFar bytes (standing (input_of_reader g.R.Read.remaining) l.stream) l.store;
   whole : l.whole ≡ (standing (input_of_reader g.R.Read.remaining) l.stream).input.offset;
-  levels : (standing (input_of_reader g.R.Read.remaining) l.stream).levels ≡ max_depth;
-  formats : (standing (input_of_reader g.R.Read.remaining) l.stream).formats ≡ all_formats;
-  going : (standing (input_of_reader g.R.Read.remaining) l.stream).done ≡ false;
 }
 
 abbrev pub decreases-records : goal.decreases-records

@@ -1,4 +1,4 @@
-use Rattle.use_signed_record.proofs.Signed.{content_is_signed}
+use Rattle.use_signed_record.proofs.Records.{content_is_signed}
 use Rattle.use_signed_record.proofs.record.content_is_signed.Goals as goal
 
 pub returns : goal.returns

@@ -1,10 +1,9 @@
-use Rattle.use_signed_record.proofs.Records.{signed_by}
+use Rattle.std.proofs.Common.{◌∙◌, refl}
+use Rattle.serde_cbor.specs.Document.{raw_of}
+use Rattle.serde_cbor.specs.Meaning.{value_of}
+use Rattle.serde_cbor.specs.Value.{value}
 use Rattle.use_signed_record.proofs.record.signed_and_payload.Goals as goal
 
 pub returns-clause-signed : goal.returns-clause-signed
-returns-clause-signed c =
-    signed_by c.in_ok-signed.signed.items c.new-protected.result.0.now c.new.result.0.now
-    c.new-payload.result.0.now
-    c.args.parts.now.protected.now c.args.parts.now.payload.now
-    c.in_ok-signed.ensures.canonical.written c.new-protected.ensures c.new.ensures
-    c.new-payload.ensures
+unfolding value_of value raw_of
+returns-clause-signed c = c.in_ok-signed.ensures.canonical.written ∙ rw (c.new-protected.ensures, c.new.ensures, c.new-payload.ensures) refl
