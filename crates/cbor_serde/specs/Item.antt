@@ -1,20 +1,11 @@
 -- What the bytes of a value are.
 use Rattle.std.specs.Prelude.{◌≡◌, ◌++◌, ℕ, List, [], Option, Some, IfSome}
 use Rattle.serde.specs.Event.{Log}
-use Rattle.cbor_model.specs.Raw.{Raw}
-use Rattle.cbor_model.specs.Acceptable.{IsAcceptable}
-use Rattle.cbor_model.specs.Spelling.{spell}
 use Rattle.cbor_model.specs.Plain.{Val}
 use Rattle.cbor_model.specs.Laws.{SpellsValue}
 use Rattle.cbor_ser.specs.Bytes.{IsCanonicalSpelling}
 use Rattle.cbor_serde_options.specs.declared.options.Options.{Options}
-use Rattle.cbor_serde_ser.specs.Document.{AreBytesOf}
-
--- they encode one acceptable item
-pub record IsItem (bytes : List ℕ) : Type 0 where
-  pub item : Raw
-  pub acceptable : IsAcceptable item
-  pub spelled : spell item ≡ bytes
+use Rattle.cbor_serde_ser.specs.Document.{AreBytesOf, IsItem}
 
 -- They are the canonical encoding of the value that the document of these events encodes.
 pub record IsCanonicalOf (o : Options) (log : Log) (bytes : List ℕ) : Type 0 where

@@ -3,10 +3,9 @@
 ghost use Rattle.std.specs.Prelude.{Some, [], IfOk, OnOk};
 ghost use Rattle.serde.specs.Event.{Log};
 ghost use Rattle.cbor_serde_options.specs.Defaults.{default_options};
-ghost use Rattle.cbor_serde_ser.specs.Document.{AreBytesOf};
-ghost use Rattle.cbor_serde.specs.Item.{Appends, IsItem, IsCanonicalOf};
+ghost use Rattle.cbor_serde_ser.specs.Document.{AreBytesOf, IsItem};
+ghost use Rattle.cbor_serde.specs.Item.{Appends, IsCanonicalOf};
 
-use cbor_de::IgnoredAny;
 use cbor_io::error::Result;
 use cbor_io::write::Write;
 use cbor_serde_options::Options;
@@ -22,8 +21,8 @@ use std::alloc::Global;
 /// It refuses an integer outside `-2^64..=2^64-1` with the message
 /// `The number can't be stored in CBOR`; what nests more than 127 levels, with
 /// `RecursionLimitExceeded`; and by a message what a type may not send: more or fewer items than it
-/// declared, or a flattened field that is no struct or map. It returns `OutOfMemory` where an
-/// allocation fails, and what the type's own `serialize` returns.
+/// declared, a flattened field that is no struct or map, or anything after a step that was refused.
+/// It returns `OutOfMemory` where an allocation fails, and what the type's own `serialize` returns.
 ///
 /// ```rust
 /// #[derive(Drop, Serialize)]
@@ -57,21 +56,9 @@ pub fn to_vec_with<T: Serialize>(options: Options, alloc: Global, value: &T) -> 
 {
     let mut out = Logged::new(alloc, options);
     value.serialize(&mut out)?;
-    let bytes = match out.finish(options) {
-        Ok(bytes) => bytes,
-        Err(error) => return Err(error),
-    };
-    is_item(alloc, &bytes)?;
-    Ok(bytes)
-}
-
-// Refuses what isn't one acceptable item. Nothing that is written takes memory here.
-fn is_item(alloc: Global, bytes: &[u8]) -> Result<()>
-    ensures { OnOk result (IsItem bytes.now) }
-{
-    match cbor_de::from_slice::<IgnoredAny>(alloc, bytes) {
-        Ok(_passed) => Ok(()),
-        Err(error) => Err(error),
+    match out.finish(options) {
+        Ok(bytes) => Ok(bytes),
+        Err(refusal) => Err(refusal.into()),
     }
 }
 

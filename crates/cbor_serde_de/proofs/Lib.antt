@@ -1,2 +1,4 @@
 pub mod Ends
+pub mod PlainNames
 pub mod Rewinds
+pub mod ShortTexts

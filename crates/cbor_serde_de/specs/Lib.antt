@@ -1,3 +1,4 @@
+pub mod AtHand
 pub mod Given
 pub mod Keys
 pub mod Kinds

@@ -1,22 +1,25 @@
 //! What reads the items of a slice.
 
-ghost use Rattle.std.specs.Prelude.{◌≡◌, ◌≤◌, length, IfOk, OnOk, IsTrue, MatchBool};
+ghost use Rattle.std.specs.Prelude.{◌≡◌, ◌≤◌, ⊤, length, string_bytes, IfOk, IfSome, OnOk, IsTrue};
+ghost use Rattle.std.specs.Prelude.{MatchBool, MatchOption};
 ghost use Rattle.cbor_read.specs.Sources.{input_of_slice};
 ghost use Rattle.cbor_model.specs.Readable.{IsUnit};
-ghost use Rattle.cbor_model.specs.Refusal.{end_in_map};
+ghost use Rattle.cbor_model.specs.Refusal.{end_in_array, end_in_map};
 ghost use Rattle.cbor_serde_de.specs.Given.{Closes, ReadsAs, TakesKey};
+ghost use Rattle.cbor_serde_de.specs.AtHand.{BeginsText, CountsDown, TakesName, TakesText};
 ghost use Rattle.cbor_serde_de.specs.Places.{EndsSlice, Enters, IsAt, Leaves, Returns};
 ghost use Rattle.cbor_serde_de.specs.Places.{Starts, mark_of};
 
 use crate::kind::{kind_at, kind_of};
-use crate::places::{place_of, place_of_bytes, place_of_integer, place_of_number};
+use crate::places::{place_of, place_of_bytes, place_of_integer, place_of_number, place_of_plain};
 use cbor_decode::{Decoder, Remaining};
 use cbor_decode_as::borrowed::{EitherStr, read_bytes, read_text, unread_error};
-use cbor_decode_as::collection::more_pairs;
+use cbor_decode_as::collection::{more_items, more_pairs};
 use cbor_decode_as::head::tagged_head;
 use cbor_decode_as::integer::read_integer;
 use cbor_decode_as::scalar::read_unit;
 use cbor_io::error::{Error, ErrorCode, Result};
+use cbor_io::utf8::from_utf8;
 use cbor_read::{EitherLifetime, Offset, ReadErrorCode, SliceRead, Source};
 use cbor_serde_options::Options;
 use serde::{Kind, Name};
@@ -55,6 +58,22 @@ pub struct Mark {
 
 /// The message of a key or a variant that is no name.
 const NO_NAME: &str = "invalid type: expected an identifier";
+
+// The bytes of a text of up to 23 bytes, where it stands here.
+#[inline(always)]
+#[tactic(auto, using(crate::proofs::ShortTexts::begins))]
+fn short_text(ahead: &[u8]) -> Option<&[u8]>
+    ensures { IfSome result (λ text. BeginsText ahead.now text.now) }
+{
+    if ahead.is_empty() || ahead[0] < 0x60 || 0x77 < ahead[0] {
+        return None;
+    }
+    let end = (ahead[0] - 0x60) as usize + 1;
+    if ahead.len() < end {
+        return None;
+    }
+    Some(&ahead[1..end])
+}
 
 // The slice, of which so many bytes were taken.
 #[tactic(auto, using(crate::proofs::Rewinds::rewound, crate::proofs::Rewinds::none_behind))]
@@ -220,6 +239,82 @@ impl<'i> Cbor<'i> {
             }
             Err(refused) => Err(self.decoder.error(refused)),
         }
+    }
+
+    /// Counts an item, where a count says that one comes.
+    #[inline(always)]
+    pub(crate) fn is_counted_down(&mut self) -> bool
+        ensures { MatchBool result (CountsDown self.old self.new) (self.new ≡ self.old) }
+    {
+        match self.innermost.remaining {
+            Remaining::Counted(n) if 0 < n => {
+                self.innermost.remaining = Remaining::Counted(n - 1);
+                true
+            }
+            _ => false,
+        }
+    }
+
+    /// Whether another item comes of the array that is innermost. At its end it is left.
+    #[inline(never)]
+    pub(crate) fn more_items(&mut self) -> Result<bool>
+        ensures { IfOk result (λ b. MatchBool b ⊤ (Closes end_in_array self.old self.new)) }
+    {
+        if more_items(&mut self.decoder, &mut self.innermost.remaining)? {
+            return Ok(true);
+        }
+        self.leave()?;
+        Ok(false)
+    }
+
+    /// Takes a text of up to 23 bytes that are at hand.
+    #[inline(always)]
+    #[tactic(auto, using(crate::proofs::ShortTexts::short_taken))]
+    pub(crate) fn text_at_hand(&mut self) -> std::result::Result<Option<String>, AllocError>
+        ensures { IfOk result (λ o. MatchOption o (self.new ≡ self.old)
+            (λ text. TakesText self.old (string_bytes text) self.new)) }
+    {
+        let Some(bytes) = short_text(self.decoder.source.ahead()) else {
+            return Ok(None);
+        };
+        let Ok(text) = from_utf8(bytes) else {
+            return Ok(None);
+        };
+        let taken = 1 + text.len();
+        let text = String::from_str(self.decoder.alloc, text)?;
+        self.decoder.source.advance(taken);
+        Ok(Some(text))
+    }
+
+    /// Takes the next key of a map, where it is a text at hand and one of the names.
+    #[inline(always)]
+    pub(crate) fn key_at_hand(&mut self, names: &[Name<'_>]) -> Option<usize>
+        ensures { MatchOption result (self.new ≡ self.old)
+            (λ at. TakesName self.old names.now at self.new) }
+    {
+        if self.options.integer_keys {
+            return None;
+        }
+        let key = short_text(self.decoder.source.ahead())?;
+        let place = place_of_plain(names, key)?;
+        let taken = 1 + key.len();
+        if !self.is_counted_down() {
+            return None;
+        }
+        self.decoder.source.advance(taken);
+        Some(place)
+    }
+
+    /// The place of the next key of a map; None at its end.
+    #[inline(never)]
+    pub(crate) fn any_key(&mut self, names: &[Name<'_>]) -> Result<Option<usize>>
+        ensures { IfOk result (λ at. MatchOption at (Closes end_in_map self.old self.new) (λ _. ⊤)) }
+    {
+        if !self.more()? {
+            return Ok(None);
+        }
+        let place = self.named(names, self.options.integer_keys)?;
+        Ok(Some(place))
     }
 
     /// Takes a name, and finds it.

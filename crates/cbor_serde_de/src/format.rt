@@ -3,7 +3,7 @@
 use crate::cbor::{Cbor, Mark};
 use cbor_decode_as::borrowed::{EitherStr, read_byte_string, read_text, unread_error};
 use cbor_decode_as::byte_string::read_byte_string as read_own_bytes;
-use cbor_decode_as::collection::{array_head, end_array, map_head, more_items};
+use cbor_decode_as::collection::{array_head, end_array, map_head};
 use cbor_decode_as::floats::read_f64;
 use cbor_decode_as::integer::{read_from_zero, read_integer, read_signed, read_u128};
 use cbor_decode_as::scalar::{read_bool, read_unit};
@@ -142,7 +142,10 @@ impl<'i> Format for Cbor<'i> {
 
     #[inline(always)]
     fn string(&mut self, _alloc: Global, _input: &[u8]) -> Result<String> {
-        read_string(&mut self.decoder)
+        match self.text_at_hand()? {
+            Some(text) => Ok(text),
+            None => read_string(&mut self.decoder),
+        }
     }
 
     fn byte_buf(&mut self, _alloc: Global, _input: &[u8]) -> Result<Vec<u8>> {
@@ -187,11 +190,10 @@ impl<'i> Format for Cbor<'i> {
 
     #[inline(always)]
     fn next_item(&mut self, _input: &[u8]) -> Result<bool> {
-        if more_items(&mut self.decoder, &mut self.innermost.remaining)? {
+        if self.is_counted_down() {
             return Ok(true);
         }
-        self.leave()?;
-        Ok(false)
+        self.more_items()
     }
 
     // Items that are left of a tuple are `TrailingData`, as for a described type.
@@ -224,11 +226,10 @@ impl<'i> Format for Cbor<'i> {
 
     #[inline(always)]
     fn next_key(&mut self, _input: &[u8], names: &[Name<'_>]) -> Result<Option<usize>> {
-        if !self.more()? {
-            return Ok(None);
+        match self.key_at_hand(names) {
+            Some(place) => Ok(Some(place)),
+            None => self.any_key(names),
         }
-        let place = self.named(names, self.options.integer_keys)?;
-        Ok(Some(place))
     }
 
     fn next_entry(&mut self, _input: &[u8]) -> Result<bool> {

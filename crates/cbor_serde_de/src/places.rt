@@ -1,10 +1,11 @@
 //! The places of keys among names.
 
-ghost use Rattle.std.specs.Prelude.{◌≡◌, IfOk};
+ghost use Rattle.std.specs.Prelude.{◌≡◌, ◌↔◌, ◌<◌, ◌+◌, [], false, length, IsTrue, IfOk, IfSome, MatchBool};
+ghost use Rattle.serde.specs.Names.{Finds, NoneBelow, StandsFor};
 ghost use Rattle.cbor_serde_de.specs.Keys.{PicksText, PicksBytes};
 
 use cbor_serde_options::number_of;
-use serde::{Name, find};
+use serde::{Case, Name, find};
 use std::alloc::{AllocError, Global};
 
 /// The place of the name that this key stands for; `usize::MAX` of none. Where names are integers,
@@ -17,6 +18,52 @@ pub(crate) fn place_of(names: &[Name<'_>], key: &str, integer_keys: bool) -> usi
         return usize::MAX;
     }
     find(names, key)
+}
+
+// Whether the name is read as it is spelled, and as nothing else.
+#[inline(always)]
+fn is_plain(name: &Name<'_>) -> bool
+    ensures { IsTrue result → (name.now.skipped ≡ false) × (name.now.aliases.now ≡ [])
+        × (name.now.case ≡ Case.AsIs) }
+{
+    !name.skipped && matches!(name.case, Case::AsIs) && name.aliases.is_empty()
+}
+
+// Whether a key of these bytes stands for the name, if that is plain.
+#[inline(always)]
+fn is_plain_name(name: &Name<'_>, key: &[u8]) -> Option<bool>
+    ensures { IfSome result (λ b. IsTrue b ↔ StandsFor key.now name.now) }
+{
+    if is_plain(name) {
+        Some(name.name.as_bytes() == key)
+    } else {
+        None
+    }
+}
+
+// Whether such a key stands for the name at this place, and for none before it.
+#[inline(always)]
+fn is_first_plain(names: &[Name<'_>], at: usize, key: &[u8]) -> Option<bool>
+    requires inside { at < length names.now }
+    requires below { NoneBelow names.now key.now at }
+    ensures { IfSome result (λ b. MatchBool b (Finds names.now key.now at)
+        (NoneBelow names.now key.now (at + 1))) }
+{
+    is_plain_name(&names[at], key)
+}
+
+/// The place of the first name that a key of these bytes stands for, if all names before it are
+/// plain.
+#[inline(always)]
+pub(crate) fn place_of_plain(names: &[Name<'_>], key: &[u8]) -> Option<usize>
+    ensures { IfSome result (λ at. Finds names.now key.now at) }
+{
+    for at in 0..names.len() {
+        if is_first_plain(names, at, key)? {
+            return Some(at);
+        }
+    }
+    None
 }
 
 /// The place of the name that these bytes are, if they are UTF-8.

@@ -1,2 +1,7 @@
-mod Walks
+pub mod Contents
+pub mod Due
+pub mod Levels
+pub mod Opening
 pub mod Running
+mod Walks
+pub mod Whole

@@ -1,5 +1,6 @@
 -- One event more.
 use Rattle.std.proofs.Common.{◌≡◌, ℕ, List, [], ◌∷◌, ◌++◌, Option, Some, None, IfSome, option_and_then, refl, ap, ◌∙◌, subst, sym}
+use Rattle.std.specs.Prelude.{is_some, true}
 use Rattle.serde.specs.Event.{Event, Log}
 use Rattle.cbor_serde_ser.specs.Document.{State, start, step, run, whole, document, AreBytesOf}
 use Rattle.cbor_serde_ser.specs.Follows.{Follows}
@@ -40,3 +41,14 @@ pub moved : (o p : Options) (old new : State) (log more : Log) (event : Option E
 moved o p old new log more event is same took h =
     subst (λ q. Follows q more new) (sym same)
     (subst (λ l. Follows o l new) (sym is) (extends o old new log event took h))
+
+still_some : (log : Log) (e : Event) → is_some log ≡ true → is_some (then log e) ≡ true
+still_some None e h = h
+still_some (Some es) e h = refl
+
+more_known : (log : Log) (event : Option Event) → is_some event ≡ true → is_some log ≡ true → is_some (option_and_then (then log) event) ≡ true
+more_known log None sent h = sent
+more_known log (Some e) sent h = still_some log e h
+
+pub known_more : (log more : Log) (event : Option Event) → more ≡ option_and_then (then log) event → is_some event ≡ true → is_some log ≡ true → is_some more ≡ true
+known_more log more event is sent h = subst (λ l. is_some l ≡ true) (sym is) (more_known log event sent h)

@@ -1,6 +1,11 @@
 -- The bytes that each event of serde's is written as.
-use Rattle.std.specs.Prelude.{◌≡◌, ◌≢◌, ℕ, zero, suc, ◌+◌, ◌-◌, ◌^◌, ℤ, pos, negsuc, Bool, true, false, not, ◌&&◌, ◌==◌, nat_lt, if◌then◌else◌, Option, Some, None, is_none, option_map, option_and_then, List, [], ◌∷◌, ◌++◌, length, encode_utf8, IfSome}
+use Rattle.std.specs.Prelude.{◌≡◌, ◌≢◌, ℕ, zero, suc, ◌+◌, ◌-◌, ◌^◌, ℤ, pos, negsuc, Bool, true, false, not, ◌&&◌, ◌||◌, ◌==◌, nat_lt, if◌then◌else◌, Option, Some, None, is_none, option_map, option_and_then, List, [], ◌∷◌, ◌++◌, length, encode_utf8, IfSome}
+use Rattle.std.specs.Str.{is_utf8}
+use Rattle.std.specs.List.{list_all}
+use Rattle.cbor_model.specs.Acceptable.{IsAcceptable, max_depth}
 use Rattle.cbor_model.specs.Head.{short}
+use Rattle.cbor_model.specs.Raw.{Raw}
+use Rattle.cbor_model.specs.Spelling.{spell}
 use Rattle.cbor_model.specs.Parts.{array_start, map_start, end_of}
 use Rattle.serde.specs.Event.{Event, Log, boolean, signed, unsigned, single, double, character, text, octets, nothing, unit_variant, seq_begins, seq_ends, map_begins, map_ends, field_key, variant_key, key_begins, key_ends, flattens}
 use Rattle.serde.specs.Spelling.{spelled}
@@ -76,6 +81,33 @@ Stored z old new = option_map (λ bs. old ++ bs) (stored z) ≡ Some new
 abbrev pub level_start : Level → List ℕ
 level_start l = if l.is_map then map_start l.left else array_start l.left
 
+-- ---- what a program can send
+
+-- the content of a string: bytes, fewer than 2^64
+abbrev pub is_bytes : List ℕ → Bool
+is_bytes bs = nat_lt (length bs) (2 ^ 64) && list_all (λ b. nat_lt b 256) bs
+
+-- the content of a text, which is UTF-8
+abbrev pub is_text : List ℕ → Bool
+is_text bs = is_bytes bs && is_utf8 bs
+
+-- a length that is declared
+abbrev pub is_count : Option ℕ → Bool
+is_count None = true
+is_count (Some n) = nat_lt n (2 ^ 64)
+
+-- Texts and names are UTF-8, and lengths are below 2^64.
+abbrev pub may_come : Event → Bool
+may_come (character c) = is_text (encode_utf8 c)
+may_come (text t) = is_text t
+may_come (octets bs) = is_bytes bs
+may_come (unit_variant name case) = is_text (spelled case Variant name)
+may_come (seq_begins n) = is_count n
+may_come (map_begins n) = is_count n
+may_come (field_key name case) = is_text (spelled case Field name)
+may_come (variant_key name case) = is_text (spelled case Variant name)
+may_come _ = true
+
 -- ---- events
 
 -- a whole item, which is no map, so that it isn't flattened
@@ -84,10 +116,10 @@ item s bs =
     if s.flattens then None
     else option_map (λ l. record s { level = l; bytes = s.bytes ++ bs }) (after_item s.level)
 
--- an array or a map begins, of so many items or pairs
+-- an array or a map begins, of so many items or pairs, within fewer than 127 others
 abbrev pub opens : State → List ℕ → Level → Option State
 opens s bs l =
-    if s.flattens then None
+    if s.flattens || not (nat_lt (length s.outer) max_depth) then None
     else option_map (λ after. record s { level = l; outer = after ∷ s.outer; bytes = s.bytes ++ bs }) (after_item s.level)
 
 -- the level around is the innermost again
@@ -108,27 +140,31 @@ joined s =
     then Some (record s { flattens = false; level = record s.level { flat = s.level.flat + 1 } })
     else None
 
+-- what an event that a program can send makes of it; None where it may not come there
+abbrev pub taken : Options → State → Event → Option State
+taken o s (boolean b) = item s ((if b then 0xf5 else 0xf4) ∷ [])
+taken o s (signed z) = option_and_then (item s) (stored z)
+taken o s (unsigned n) = option_and_then (item s) (stored (pos n))
+taken o s (single x) = item s (single_bytes o.shortest_floats x)
+taken o s (double x) = item s (double_bytes o.shortest_floats x)
+taken o s (character c) = item s (string 3 (encode_utf8 c))
+taken o s (text t) = item s (string 3 t)
+taken o s (octets bs) = item s (string 2 bs)
+taken o s nothing = if s.flattens then Some (record s { flattens = false }) else item s (0xf6 ∷ [])
+taken o s (unit_variant name case) = item s (string 3 (spelled case Variant name))
+taken o s (seq_begins n) = opens s (array_start n) (opened n false)
+taken o s seq_ends = ends s
+taken o s (map_begins n) = if s.flattens then joined s else opens s (map_start n) (opened n true)
+taken o s map_ends = ends s
+taken o s (field_key name case) = item s (name_bytes o.integer_keys (spelled case Field name))
+taken o s (variant_key name case) = item s (string 3 (spelled case Variant name))
+taken o s key_begins = Some s
+taken o s key_ends = Some s
+taken o s flattens = Some (record s { flattens = true })
+
 -- what an event makes of it; None where the event may not come
 abbrev pub step : Options → State → Event → Option State
-step o s (boolean b) = item s ((if b then 0xf5 else 0xf4) ∷ [])
-step o s (signed z) = option_and_then (item s) (stored z)
-step o s (unsigned n) = option_and_then (item s) (stored (pos n))
-step o s (single x) = item s (single_bytes o.shortest_floats x)
-step o s (double x) = item s (double_bytes o.shortest_floats x)
-step o s (character c) = item s (string 3 (encode_utf8 c))
-step o s (text t) = item s (string 3 t)
-step o s (octets bs) = item s (string 2 bs)
-step o s nothing = if s.flattens then Some (record s { flattens = false }) else item s (0xf6 ∷ [])
-step o s (unit_variant name case) = item s (string 3 (spelled case Variant name))
-step o s (seq_begins n) = opens s (array_start n) (opened n false)
-step o s seq_ends = ends s
-step o s (map_begins n) = if s.flattens then joined s else opens s (map_start n) (opened n true)
-step o s map_ends = ends s
-step o s (field_key name case) = item s (name_bytes o.integer_keys (spelled case Field name))
-step o s (variant_key name case) = item s (string 3 (spelled case Variant name))
-step o s key_begins = Some s
-step o s key_ends = Some s
-step o s flattens = Some (record s { flattens = true })
+step o s e = if may_come e then taken o s e else None
 
 abbrev pub run : Options → State → List Event → Option State
 run o s [] = Some s
@@ -144,7 +180,7 @@ is_empty (l ∷ ls) = false
 
 -- the bytes, where the one item is whole
 abbrev pub whole : State → Option (List ℕ)
-whole s = if is_empty s.outer && (not s.flattens && left_is_zero s.level.left) then Some s.bytes else None
+whole s = if is_empty s.outer && (not s.flattens && (not s.level.at_value && left_is_zero s.level.left)) then Some s.bytes else None
 
 -- the document of the events
 unfoldable pub document : Options → List Event → Option (List ℕ)
@@ -153,3 +189,9 @@ document o es = option_and_then whole (run o start es)
 -- where the events are known, these are the bytes of their document
 abbrev pub AreBytesOf : Options → Log → List ℕ → Type 0
 AreBytesOf o log bytes = IfSome log (λ es. document o es ≡ Some bytes)
+
+-- the bytes encode one acceptable item
+pub record IsItem (bytes : List ℕ) : Type 0 where
+  pub item : Raw
+  pub acceptable : IsAcceptable item
+  pub spelled : spell item ≡ bytes

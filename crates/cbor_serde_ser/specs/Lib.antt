@@ -5,3 +5,4 @@ pub mod State
 pub mod Logged
 pub mod Noted
 pub mod Follows
+pub mod Refused

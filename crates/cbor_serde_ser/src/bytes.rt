@@ -1,13 +1,13 @@
 //! What an item is written as.
 
-ghost use Rattle.std.specs.Prelude.{◌≡◌, ◌++◌, OnOk};
+ghost use Rattle.std.specs.Prelude.{◌≡◌, ◌++◌, OnOk, true};
 ghost use Rattle.cbor_model.specs.Head.{short};
 ghost use Rattle.cbor_io.specs.Head.{major_number};
-ghost use Rattle.cbor_serde_ser.specs.Document.{string, name_bytes, Stored};
+ghost use Rattle.cbor_serde_ser.specs.Document.{string, name_bytes, is_bytes, is_text, Stored};
 ghost use Rattle.cbor_serde_ser.specs.Encoded.{encoded_bytes};
 
 use crate::float::Encoded;
-use cbor_io::error::{Error, Result};
+use crate::refusal::{Refusal, Result};
 use cbor_io::head::Major;
 use cbor_serde_options::number_of;
 use std::alloc::{AllocError, Global};
@@ -45,13 +45,43 @@ pub(crate) fn put_head(out: &mut Vec<u8>, major: Major, n: u64) -> Done
     }
 }
 
+// What a slice holds are bytes, fewer than 2^64.
+#[inline(always)]
+#[tactic(auto, using(crate::proofs::Contents::bytes_pass))]
+fn holds_bytes(bytes: &[u8])
+    ensures { is_bytes bytes.now ≡ true }
+{
+    let _ = bytes.len();
+}
+
+// What a text holds is UTF-8 besides.
+#[inline(always)]
+#[tactic(auto, using(crate::proofs::Contents::text_passes))]
+fn holds_text(text: &str)
+    ensures { is_text text.now ≡ true }
+{
+    holds_bytes(text.as_bytes())
+}
+
 /// Appends a string: its head, and what it holds.
 pub(crate) fn put_string(out: &mut Vec<u8>, major: Major, content: &[u8]) -> Done
-    ensures { OnOk result
+    ensures content { is_bytes content.now ≡ true }
+    ensures appended { OnOk result
         (out.new.items ≡ out.old.items ++ string (major_number major) content.now) }
 {
+    holds_bytes(content);
     put_head(out, major, content.len() as u64)?;
     put(out, content)
+}
+
+/// Appends a text.
+#[inline(always)]
+pub(crate) fn put_text(out: &mut Vec<u8>, text: &str) -> Done
+    ensures content { is_text text.now ≡ true }
+    ensures appended { OnOk result (out.new.items ≡ out.old.items ++ string 3 text.now) }
+{
+    holds_text(text);
+    put_string(out, Major::TextString, text.as_bytes())
 }
 
 /// Appends a whole number that CBOR stores, or refuses another.
@@ -66,7 +96,7 @@ pub(crate) fn put_integer(alloc: Global, out: &mut Vec<u8>, v: i128) -> Result<(
         put_head(out, Major::NegativeInteger, n)?;
         return Ok(());
     }
-    Err(Error::message(alloc, "The number can't be stored in CBOR"))
+    Err(Refusal::message(alloc, "The number can't be stored in CBOR"))
 }
 
 /// Appends a float.
@@ -90,14 +120,30 @@ pub(crate) fn put_float(out: &mut Vec<u8>, v: Encoded) -> Done
 }
 
 /// Appends a name, or the integer that it is where that is asked for.
+#[inline(always)]
 pub(crate) fn put_name(alloc: Global, out: &mut Vec<u8>, name: &str, as_integer: bool) -> Result<()>
-    ensures { OnOk result (out.new.items ≡ out.old.items ++ name_bytes as_integer name.now) }
+    ensures content { is_text name.now ≡ true }
+    ensures appended { OnOk result
+        (out.new.items ≡ out.old.items ++ name_bytes as_integer name.now) }
 {
-    let number = if as_integer { number_of(name) } else { None };
-    match number {
+    if as_integer {
+        return put_key(alloc, out, name);
+    }
+    put_text(out, name)?;
+    Ok(())
+}
+
+// Appends the integer that a name is, or the name where it is none.
+#[inline(never)]
+fn put_key(alloc: Global, out: &mut Vec<u8>, name: &str) -> Result<()>
+    ensures content { is_text name.now ≡ true }
+    ensures appended { OnOk result (out.new.items ≡ out.old.items ++ name_bytes true name.now) }
+{
+    holds_text(name);
+    match number_of(name) {
         Some(number) => put_integer(alloc, out, number),
         None => {
-            put_string(out, Major::TextString, name.as_bytes())?;
+            put_text(out, name)?;
             Ok(())
         }
     }

@@ -1,17 +1,18 @@
 //! What each call of a `Serializer` writes.
 
-ghost use Rattle.std.specs.Prelude.{◌≡◌, Some, OnOk};
+ghost use Rattle.std.specs.Prelude.{◌≡◌, Some, true, string_bytes, OnOk};
 ghost use Rattle.serde.specs.Event.{boolean, signed, unsigned, single, double, character};
 ghost use Rattle.serde.specs.Event.{text as text_event, octets, nothing, unit_variant, seq_begins};
 ghost use Rattle.serde.specs.Event.{seq_ends, map_begins, map_ends, field_key, key_begins, key_ends};
 ghost use Rattle.serde.specs.Event.{variant_key as variant_event, flattens as flatten_event};
+ghost use Rattle.cbor_serde_ser.specs.Document.{is_count};
 ghost use Rattle.cbor_serde_ser.specs.State.{Writes};
 
-use crate::bytes::{put, put_float, put_head, put_integer, put_string};
+use crate::bytes::{put, put_float, put_head, put_integer, put_string, put_text};
 use crate::float::{of_double, of_single};
 use crate::level::Level;
+use crate::refusal::{Refusal, Result};
 use crate::writer::Writer;
-use cbor_io::error::{Error, ErrorCode, Result};
 use cbor_io::head::Major;
 use serde::{Case, NameKind};
 
@@ -96,7 +97,7 @@ impl Writer {
         self.item()?;
         let mut bytes = [0; 4];
         let text = v.encode_utf8(&mut bytes);
-        put_string(&mut self.out, Major::TextString, text.as_bytes())?;
+        put_text(&mut self.out, text)?;
         Ok(())
     }
 
@@ -105,7 +106,7 @@ impl Writer {
         ensures options { self.new.options ≡ self.old.options }
     {
         self.item()?;
-        put_string(&mut self.out, Major::TextString, v.as_bytes())?;
+        put_text(&mut self.out, v)?;
         Ok(())
     }
 
@@ -212,26 +213,31 @@ impl Writer {
         Ok(())
     }
 
+    // The printed text stays in the room.
     pub(crate) fn collect_str<T: std::fmt::Display>(&mut self, value: &T) -> Result<()>
+        ensures step { OnOk result
+            (Writes self.old (text_event (string_bytes self.new.room)) self.new) }
         ensures options { self.new.options ≡ self.old.options }
     {
         self.item()?;
         self.room.clear();
         if write!(self.room, "{value}").is_err() {
-            return Err(Error::at(ErrorCode::OutOfMemory, 0));
+            return Err(Refusal::OutOfMemory);
         }
-        put_string(&mut self.out, Major::TextString, self.room.as_bytes())?;
+        put_text(&mut self.out, self.room.as_str())?;
         Ok(())
     }
 
-    pub(crate) fn custom(&self, message: &str) -> Error {
-        Error::message(self.alloc, message)
+    pub(crate) fn custom(&self, message: &str) -> Refusal {
+        Refusal::message(self.alloc, message)
     }
 }
 
 // A length as a count of 64 bits.
+#[tactic(auto, using(crate::proofs::Contents::count_passes))]
 fn counted(len: Option<usize>) -> Option<u64>
-    ensures { result ≡ len }
+    ensures same { result ≡ len }
+    ensures count { is_count len ≡ true }
 {
     match len {
         Some(n) => Some(n as u64),

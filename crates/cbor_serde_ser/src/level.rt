@@ -1,6 +1,6 @@
 //! The arrays and maps that are open while events are written.
 
-ghost use Rattle.std.specs.Prelude.{◌≡◌, ◌↔◌, Some, true, false, IsTrue};
+ghost use Rattle.std.specs.Prelude.{◌≡◌, ◌↔◌, Some, None, true, false, IsTrue, MatchBool};
 ghost use Rattle.cbor_serde_ser.specs.Document.{after_item, is_full, opened};
 
 /// An array, a map or the document itself, and what is due in it.
@@ -35,27 +35,23 @@ impl Level {
         }
     }
 
-    /// What is due after an item; None where no item is due.
+    /// Counts an item. It answers false, and changes nothing, where none is due.
     #[inline(always)]
-    pub(crate) fn after_item(self) -> Option<Level>
-        ensures { result ≡ after_item self }
+    pub(crate) fn count_item(&mut self) -> bool
+        ensures { MatchBool result (after_item self.old ≡ Some self.new)
+            ((after_item self.old ≡ None) × (self.new ≡ self.old)) }
     {
         if self.at_value {
-            return Some(Level {
-                at_value: false,
-                ..self
-            });
+            self.at_value = false;
+            return true;
         }
-        let left = match self.left {
-            Some(0) => return None,
-            Some(n) => Some(n - 1),
-            None => None,
-        };
-        Some(Level {
-            left,
-            at_value: self.is_map,
-            ..self
-        })
+        match self.left {
+            Some(0) => return false,
+            Some(n) => self.left = Some(n - 1),
+            None => {}
+        }
+        self.at_value = self.is_map;
+        true
     }
 
     /// Whether all that was declared has come.

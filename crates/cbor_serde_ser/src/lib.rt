@@ -10,6 +10,8 @@ mod float;
 mod level;
 mod log;
 mod logged;
+mod refusal;
 mod writer;
 
 pub use logged::Logged;
+pub use refusal::Refusal;

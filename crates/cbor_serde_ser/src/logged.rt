@@ -1,16 +1,16 @@
 //! A `Writer` that keeps the events which it was sent, for proofs.
 
-ghost use Rattle.std.specs.Prelude.{◌≡◌, [], Some, None, IfOk, IfSome};
+ghost use Rattle.std.specs.Prelude.{◌≡◌, [], Some, None, true, false, is_some, IfOk, IfSome};
 ghost use Rattle.cbor_serde_options.specs.declared.options.Options.{Options};
 ghost use Rattle.serde.specs.Event.{Logs};
 ghost use Rattle.cbor_serde_ser.specs.Follows.{Follows};
 ghost use Rattle.cbor_serde_ser.specs.Noted.{event_of};
-ghost use Rattle.cbor_serde_ser.specs.Document.{State, step, AreBytesOf};
+ghost use Rattle.cbor_serde_ser.specs.Document.{State, step, AreBytesOf, IsItem};
 ghost use Rattle.cbor_serde_ser.specs.State.{state};
 
 use crate::log::{Log, Note};
+use crate::refusal::Refusal;
 use crate::writer::Writer;
-use cbor_io::error::Error;
 use cbor_serde_options::Options;
 use serde::{Case, Serializer};
 use std::alloc::Global;
@@ -19,7 +19,10 @@ use std::alloc::Global;
 pub struct Logged {
     writer: Writer,
     log: Log,
+    // Whether a step was refused, after which what was sent is not known.
+    refused: bool,
     ghost follows: { Follows writer.options log.events (state writer) },
+    ghost known: { refused ≡ false → is_some log.events ≡ true },
 }
 
 impl Logged {
@@ -30,26 +33,37 @@ impl Logged {
         Logged {
             writer: Writer::new(alloc, options),
             log: Log::new(),
+            refused: false,
         }
     }
 
-    /// The bytes of the document of the events, by these options, which are the serializer's.
-    pub fn finish(self, options: Options) -> Result<Vec<u8>, Error>
-        ensures { IfOk result (λ bytes. AreBytesOf options self.log.events bytes.items) }
+    /// The bytes of the document of the events, by these options, which are the serializer's. After
+    /// a step that was refused there are none.
+    pub fn finish(self, options: Options) -> Result<Vec<u8>, Refusal>
+        ensures events { IfOk result (λ bytes. AreBytesOf options self.log.events bytes.items) }
+        ensures item { IfOk result (λ bytes. IsItem bytes.items) }
     {
-        let Logged { writer, .. } = self;
+        let Logged {
+            writer,
+            refused,
+            ..
+        } = self;
+        if refused {
+            return Err(writer.refuse("a step was refused"));
+        }
         writer.finish(options)
     }
 }
 
 impl Serializer for Logged {
-    type Error = Error;
+    type Error = Refusal;
 
     ghost written = { λ s. s.log.events };
 
     #[inline(always)]
-    fn bool(&mut self, v: bool) -> Result<(), Error> {
+    fn bool(&mut self, v: bool) -> Result<(), Refusal> {
         if let Err(error) = self.writer.bool(v) {
+            self.refused = true;
             self.log = after(&self.log, Note::Lost);
             return Err(error);
         }
@@ -58,8 +72,9 @@ impl Serializer for Logged {
     }
 
     #[inline(always)]
-    fn i64(&mut self, v: i64) -> Result<(), Error> {
+    fn i64(&mut self, v: i64) -> Result<(), Refusal> {
         if let Err(error) = self.writer.i64(v) {
+            self.refused = true;
             self.log = after(&self.log, Note::Lost);
             return Err(error);
         }
@@ -68,8 +83,9 @@ impl Serializer for Logged {
     }
 
     #[inline(always)]
-    fn u64(&mut self, v: u64) -> Result<(), Error> {
+    fn u64(&mut self, v: u64) -> Result<(), Refusal> {
         if let Err(error) = self.writer.u64(v) {
+            self.refused = true;
             self.log = after(&self.log, Note::Lost);
             return Err(error);
         }
@@ -78,8 +94,9 @@ impl Serializer for Logged {
     }
 
     #[inline(always)]
-    fn i128(&mut self, v: i128) -> Result<(), Error> {
+    fn i128(&mut self, v: i128) -> Result<(), Refusal> {
         if let Err(error) = self.writer.i128(v) {
+            self.refused = true;
             self.log = after(&self.log, Note::Lost);
             return Err(error);
         }
@@ -88,8 +105,9 @@ impl Serializer for Logged {
     }
 
     #[inline(always)]
-    fn u128(&mut self, v: u128) -> Result<(), Error> {
+    fn u128(&mut self, v: u128) -> Result<(), Refusal> {
         if let Err(error) = self.writer.u128(v) {
+            self.refused = true;
             self.log = after(&self.log, Note::Lost);
             return Err(error);
         }
@@ -98,8 +116,9 @@ impl Serializer for Logged {
     }
 
     #[inline(always)]
-    fn f32(&mut self, v: f32) -> Result<(), Error> {
+    fn f32(&mut self, v: f32) -> Result<(), Refusal> {
         if let Err(error) = self.writer.f32(v) {
+            self.refused = true;
             self.log = after(&self.log, Note::Lost);
             return Err(error);
         }
@@ -108,8 +127,9 @@ impl Serializer for Logged {
     }
 
     #[inline(always)]
-    fn f64(&mut self, v: f64) -> Result<(), Error> {
+    fn f64(&mut self, v: f64) -> Result<(), Refusal> {
         if let Err(error) = self.writer.f64(v) {
+            self.refused = true;
             self.log = after(&self.log, Note::Lost);
             return Err(error);
         }
@@ -118,8 +138,9 @@ impl Serializer for Logged {
     }
 
     #[inline(always)]
-    fn char(&mut self, v: char) -> Result<(), Error> {
+    fn char(&mut self, v: char) -> Result<(), Refusal> {
         if let Err(error) = self.writer.char(v) {
+            self.refused = true;
             self.log = after(&self.log, Note::Lost);
             return Err(error);
         }
@@ -128,8 +149,9 @@ impl Serializer for Logged {
     }
 
     #[inline(always)]
-    fn str(&mut self, v: &str) -> Result<(), Error> {
+    fn str(&mut self, v: &str) -> Result<(), Refusal> {
         if let Err(error) = self.writer.str(v) {
+            self.refused = true;
             self.log = after(&self.log, Note::Lost);
             return Err(error);
         }
@@ -138,8 +160,9 @@ impl Serializer for Logged {
     }
 
     #[inline(always)]
-    fn bytes(&mut self, v: &[u8]) -> Result<(), Error> {
+    fn bytes(&mut self, v: &[u8]) -> Result<(), Refusal> {
         if let Err(error) = self.writer.bytes(v) {
+            self.refused = true;
             self.log = after(&self.log, Note::Lost);
             return Err(error);
         }
@@ -148,8 +171,9 @@ impl Serializer for Logged {
     }
 
     #[inline(always)]
-    fn unit(&mut self) -> Result<(), Error> {
+    fn unit(&mut self) -> Result<(), Refusal> {
         if let Err(error) = self.writer.unit() {
+            self.refused = true;
             self.log = after(&self.log, Note::Lost);
             return Err(error);
         }
@@ -158,8 +182,9 @@ impl Serializer for Logged {
     }
 
     #[inline(always)]
-    fn str_cased(&mut self, name: &str, case: Case) -> Result<(), Error> {
+    fn str_cased(&mut self, name: &str, case: Case) -> Result<(), Refusal> {
         if let Err(error) = self.writer.str_cased(name, case) {
+            self.refused = true;
             self.log = after(&self.log, Note::Lost);
             return Err(error);
         }
@@ -168,8 +193,9 @@ impl Serializer for Logged {
     }
 
     #[inline(always)]
-    fn begin_seq(&mut self, len: Option<usize>) -> Result<(), Error> {
+    fn begin_seq(&mut self, len: Option<usize>) -> Result<(), Refusal> {
         if let Err(error) = self.writer.begin_seq(len) {
+            self.refused = true;
             self.log = after(&self.log, Note::Lost);
             return Err(error);
         }
@@ -178,8 +204,9 @@ impl Serializer for Logged {
     }
 
     #[inline(always)]
-    fn end_seq(&mut self) -> Result<(), Error> {
+    fn end_seq(&mut self) -> Result<(), Refusal> {
         if let Err(error) = self.writer.end_seq() {
+            self.refused = true;
             self.log = after(&self.log, Note::Lost);
             return Err(error);
         }
@@ -188,8 +215,9 @@ impl Serializer for Logged {
     }
 
     #[inline(always)]
-    fn begin_map(&mut self, len: Option<usize>) -> Result<(), Error> {
+    fn begin_map(&mut self, len: Option<usize>) -> Result<(), Refusal> {
         if let Err(error) = self.writer.begin_map(len) {
+            self.refused = true;
             self.log = after(&self.log, Note::Lost);
             return Err(error);
         }
@@ -198,8 +226,9 @@ impl Serializer for Logged {
     }
 
     #[inline(always)]
-    fn end_map(&mut self) -> Result<(), Error> {
+    fn end_map(&mut self) -> Result<(), Refusal> {
         if let Err(error) = self.writer.end_map() {
+            self.refused = true;
             self.log = after(&self.log, Note::Lost);
             return Err(error);
         }
@@ -208,8 +237,9 @@ impl Serializer for Logged {
     }
 
     #[inline(always)]
-    fn key_cased(&mut self, name: &str, case: Case) -> Result<(), Error> {
+    fn key_cased(&mut self, name: &str, case: Case) -> Result<(), Refusal> {
         if let Err(error) = self.writer.key_cased(name, case) {
+            self.refused = true;
             self.log = after(&self.log, Note::Lost);
             return Err(error);
         }
@@ -218,8 +248,9 @@ impl Serializer for Logged {
     }
 
     #[inline(always)]
-    fn variant_key(&mut self, name: &str, case: Case) -> Result<(), Error> {
+    fn variant_key(&mut self, name: &str, case: Case) -> Result<(), Refusal> {
         if let Err(error) = self.writer.variant_key(name, case) {
+            self.refused = true;
             self.log = after(&self.log, Note::Lost);
             return Err(error);
         }
@@ -228,8 +259,9 @@ impl Serializer for Logged {
     }
 
     #[inline(always)]
-    fn begin_key(&mut self) -> Result<(), Error> {
+    fn begin_key(&mut self) -> Result<(), Refusal> {
         if let Err(error) = self.writer.begin_key() {
+            self.refused = true;
             self.log = after(&self.log, Note::Lost);
             return Err(error);
         }
@@ -238,8 +270,9 @@ impl Serializer for Logged {
     }
 
     #[inline(always)]
-    fn end_key(&mut self) -> Result<(), Error> {
+    fn end_key(&mut self) -> Result<(), Refusal> {
         if let Err(error) = self.writer.end_key() {
+            self.refused = true;
             self.log = after(&self.log, Note::Lost);
             return Err(error);
         }
@@ -248,8 +281,9 @@ impl Serializer for Logged {
     }
 
     #[inline(always)]
-    fn flatten_next(&mut self) -> Result<(), Error> {
+    fn flatten_next(&mut self) -> Result<(), Refusal> {
         if let Err(error) = self.writer.flatten_next() {
+            self.refused = true;
             self.log = after(&self.log, Note::Lost);
             return Err(error);
         }
@@ -257,12 +291,17 @@ impl Serializer for Logged {
         Ok(())
     }
 
-    fn collect_str<T: std::fmt::Display>(&mut self, value: &T) -> Result<(), Error> {
-        self.log = after(&self.log, Note::Lost);
-        self.writer.collect_str(value)
+    fn collect_str<T: std::fmt::Display>(&mut self, value: &T) -> Result<(), Refusal> {
+        if let Err(error) = self.writer.collect_str(value) {
+            self.refused = true;
+            self.log = after(&self.log, Note::Lost);
+            return Err(error);
+        }
+        self.log = after(&self.log, Note::Text(self.writer.room.as_str()));
+        Ok(())
     }
 
-    fn custom(&self, message: &str) -> Error {
+    fn custom(&self, message: &str) -> Refusal {
         self.writer.custom(message)
     }
 }
@@ -273,6 +312,8 @@ fn after(log: &Log, note: Note<'_>) -> Log
     ensures follows { (o p : Options) (old new : State) → Follows o log.now.events old
         → p ≡ o → IfSome (event_of note.entry) (λ e. step o old e ≡ Some new)
         → Follows p result.events new }
+    ensures known { is_some (event_of note.entry) ≡ true → is_some log.now.events ≡ true
+        → is_some result.events ≡ true }
     ensures lost { note.entry ≡ Note.Lost → result.events ≡ None }
 {
     log.then(&note)

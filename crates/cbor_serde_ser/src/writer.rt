@@ -1,18 +1,21 @@
 //! The bytes of the events so far, and what is due after them.
 
-ghost use Rattle.std.specs.Prelude.{◌≡◌, Some, false, IfOk, OnOk};
+ghost use Rattle.std.specs.Prelude.{◌≡◌, ◌++◌, Some, true, false, IfOk, OnOk};
 ghost use Rattle.serde.specs.Spelling.{spelled};
 ghost use Rattle.cbor_serde_ser.specs.Document.{after_item, start, item, opens, ends, opened};
-ghost use Rattle.cbor_serde_ser.specs.Document.{level_start, name_bytes, whole};
+ghost use Rattle.cbor_serde_ser.specs.Document.{is_text, level_start, name_bytes, whole};
 ghost use Rattle.cbor_serde_ser.specs.State.{state};
 
 use crate::bytes::{put, put_head, put_name};
 use crate::level::Level;
-use cbor_io::error::{Error, Result};
+use crate::refusal::{Refusal, Result};
 use cbor_io::head::Major;
 use cbor_serde_options::Options;
 use serde::{Case, NameKind};
 use std::alloc::Global;
+
+/// How many arrays and maps may stand inside one another.
+const MAX_LEVELS: usize = 127;
 
 /// What is written so far, and what is due (`specs/State.antt`).
 #[derive(Drop)]
@@ -49,8 +52,8 @@ impl Writer {
     // Refuses what is no document.
     #[cold]
     #[inline(never)]
-    pub(crate) fn refuse(&self, message: &'static str) -> Error {
-        Error::message(self.alloc, message)
+    pub(crate) fn refuse(&self, message: &'static str) -> Refusal {
+        Refusal::message(self.alloc, message)
     }
 
     /// The whole document, by these options, which are the serializer's.
@@ -61,7 +64,8 @@ impl Writer {
         if self.options != options {
             return Err(self.refuse("the options changed"));
         }
-        if !self.outer.is_empty() || self.flattens || self.level.left != Some(0) {
+        let is_full = !self.level.at_value && self.level.left == Some(0);
+        if !self.outer.is_empty() || self.flattens || !is_full {
             return Err(self.refuse("no whole item was written"));
         }
         let Writer { out, .. } = self;
@@ -78,16 +82,14 @@ impl Writer {
         if self.flattens {
             return Err(self.refuse("can only flatten structs and maps"));
         }
-        match self.level.after_item() {
-            Some(level) => {
-                self.level = level;
-                Ok(())
-            }
-            None => Err(self.refuse("more items than the length that was declared")),
+        if !self.level.count_item() {
+            return Err(self.refuse("more items than the length that was declared"));
         }
+        Ok(())
     }
 
     // An array or a map begins.
+    #[tactic(auto, using(crate::proofs::Opening::few_around))]
     pub(crate) fn begin(&mut self, level: Level) -> Result<()>
         requires { level ≡ opened level.left level.is_map }
         ensures opens { OnOk result
@@ -105,6 +107,9 @@ impl Writer {
                 put_head(&mut self.out, major, n)?;
             }
             None => put(&mut self.out, &[if level.is_map { 0xbf } else { 0x9f }])?,
+        }
+        if MAX_LEVELS <= self.outer.len() {
+            return Err(Refusal::TooDeep(self.out.len() as u64));
         }
         self.outer.push(self.level)?;
         self.level = level;
@@ -135,6 +140,7 @@ impl Writer {
     }
 
     // A name comes, as an item.
+    #[inline(always)]
     pub(crate) fn name(
         &mut self,
         name: &str,
@@ -142,6 +148,7 @@ impl Writer {
         kind: NameKind,
         as_integer: bool,
     ) -> Result<()>
+        ensures text { OnOk result (is_text (spelled case kind name.now) ≡ true) }
         ensures item { OnOk result (item (state self.old)
             (name_bytes as_integer (spelled case kind name.now)) ≡ Some (state self.new)) }
         ensures options { self.new.options ≡ self.old.options }
@@ -150,6 +157,24 @@ impl Writer {
         if let Case::AsIs = case {
             return put_name(self.alloc, &mut self.out, name, as_integer);
         }
+        self.put_spelled(name, case, kind, as_integer)
+    }
+
+    // Appends a name in another case.
+    #[inline(never)]
+    fn put_spelled(
+        &mut self,
+        name: &str,
+        case: Case,
+        kind: NameKind,
+        as_integer: bool,
+    ) -> Result<()>
+        ensures text { OnOk result (is_text (spelled case kind name.now) ≡ true) }
+        ensures appended { OnOk result (state self.new ≡ record (state self.old) {
+          bytes = self.old.out.items ++ name_bytes as_integer (spelled case kind name.now);
+        }) }
+        ensures options { self.new.options ≡ self.old.options }
+    {
         self.room.clear();
         case.append(kind, name, &mut self.room)?;
         put_name(self.alloc, &mut self.out, self.room.as_str(), as_integer)

@@ -150,3 +150,75 @@ fn writes_printed_text(rt: HostRuntime) -> Done {
     assert_eq!(rt; bytes.as_slice(), b"\x6242".as_slice());
     Ok(())
 }
+
+// Empty arrays, so many inside one another.
+#[derive(Clone, Copy)]
+struct Nest(usize);
+
+impl Described for Nest {}
+
+impl Serialize for Nest {
+    fn serialize<S: Serializer>(&self, out: &mut S) -> Result<(), S::Error> {
+        for level in 0..self.0 {
+            let len = if level + 1 < self.0 { 1 } else { 0 };
+            out.begin_seq(Some(len))?;
+        }
+        for _ in 0..self.0 {
+            out.end_seq()?;
+        }
+        Ok(())
+    }
+}
+
+#[test]
+fn refuses_a_level_too_many(rt: HostRuntime) -> Done {
+    let alloc = rt.alloc();
+    let bytes = to_vec(alloc, &Nest(127))?;
+    assert_eq!(rt; bytes.len(), 127);
+    assert_eq!(rt; bytes.first(), Some(&0x81));
+    assert_eq!(rt; bytes.last(), Some(&0x80));
+    is_refused(
+        to_vec(alloc, &Nest(128)),
+        "recursion limit exceeded at offset 128",
+    )
+}
+
+// Goes on after a number that is refused.
+#[derive(Clone, Copy)]
+struct Heedless;
+
+impl Described for Heedless {}
+
+impl Serialize for Heedless {
+    fn serialize<S: Serializer>(&self, out: &mut S) -> Result<(), S::Error> {
+        let _ = out.u128(1 << 64);
+        out.bool(true)
+    }
+}
+
+// Of an array that lacks its item nothing is left open.
+#[derive(Clone, Copy)]
+struct Patient;
+
+impl Described for Patient {}
+
+impl Serialize for Patient {
+    fn serialize<S: Serializer>(&self, out: &mut S) -> Result<(), S::Error> {
+        out.begin_seq(Some(1))?;
+        if out.end_seq().is_err() {
+            out.bool(true)?;
+            return out.end_seq();
+        }
+        Ok(())
+    }
+}
+
+#[test]
+fn writes_nothing_after_a_refused_step(rt: HostRuntime) -> Done {
+    let alloc = rt.alloc();
+    is_refused(
+        to_vec(alloc, &Heedless),
+        "more items than the length that was declared",
+    )?;
+    is_refused(to_vec(alloc, &Patient), "a step was refused")
+}

@@ -7,7 +7,7 @@ use Rattle.cbor_decode.specs.Gives.{Step}
 use Rattle.cbor_decode.specs.Heads.{remaining_of}
 use Rattle.cbor_serde_de.specs.Places.{input_of}
 use Rattle.cbor_serde_de.proofs.Ends.{array_ends, closes}
-use Rattle.cbor_serde_de.proofs.format.CborFormat.next_item.Goals as goal
+use Rattle.cbor_serde_de.proofs.cbor.Cbor.more_items.Goals as goal
 
 pub returns : goal.returns
 returns c =

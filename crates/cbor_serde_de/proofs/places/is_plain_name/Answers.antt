@@ -1,0 +1,9 @@
+use Rattle.std.proofs.Common.{arith}
+use Rattle.std.proofs.lemmas.Grind.{common_steps}
+use Rattle.cbor_serde_de.proofs.PlainNames.{stands_for}
+use Rattle.cbor_serde_de.proofs.places.is_plain_name.Goals as goal
+
+pub returns-then-is_plain : goal.returns-then-is_plain
+returns-then-is_plain c =
+    let plain = c.is_plain.ensures (grind (arith, common_steps)) in
+    stands_for c.args.name.now c.args.key.now c.as_bytes.result.now c.eq.result plain.0 plain.1 plain.2 c.as_bytes.ensures.value c.eq.ensures
