@@ -57,18 +57,26 @@ def each(program, task, kind, item):
     return (twice - once) / COUNT
 
 
+# What is done with a list, by the program's number for it; and the types of which the last three are.
+SLICES = {'read': 0, 'read and written': 1}
+DEVICES = {'by a BufReader': 2, 'seven bytes a call': 3, 'read, and written by a BufWriter': 4}
+DEVICE_KINDS = 'biuSft'
+
+
 def main():
     parser = argparse.ArgumentParser(description=__doc__)
     parser.add_argument('word', nargs='?', default='', help='count the lists alone whose name has this in it')
     parser.add_argument('--program', default=OURS, help='count this program in place of lists_bench')
+    parser.add_argument('--devices', action='store_true', help='from readers and to a writer')
     chosen = parser.parse_args()
-    print('| list | read | Rust crate | times | read and written | Rust crate | times |')
-    print('|---|---|---|---|---|---|---|')
+    tasks = DEVICES if chosen.devices else SLICES
+    print('| list | ' + ' | '.join(f'{task} | Rust crate | times' for task in tasks) + ' |')
+    print('|---' * (1 + 3 * len(tasks)) + '|')
     for name, (kind, make) in LISTS.items():
         item = array(make() for _ in range(COUNT))
-        if chosen.word in name:
+        if chosen.word in name and (not chosen.devices or kind in DEVICE_KINDS):
             cells = [name]
-            for task in (0, 1):
+            for task in tasks.values():
                 ours, theirs = (each(program, task, kind, item) for program in (chosen.program, CRATE))
                 cells += [f'{ours:.1f}', f'{theirs:.1f}', f'{theirs / ours:.2f}']
             print('| ' + ' | '.join(cells) + ' |', flush=True)

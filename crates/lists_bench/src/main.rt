@@ -2,11 +2,14 @@
 //! says, to be measured. It prints how many bytes the last turn wrote.
 #![tactic(auto)]
 
-use serde_cbor::de::{Deserialize, SliceRead};
-use serde_cbor::ser::Serialize;
-use serde_cbor::{Result, from_slice, to_vec};
+mod pieces;
+
+use pieces::Sevens;
+use serde_cbor::de::{Deserialize, DeserializeOwned, IoRead, SliceRead};
+use serde_cbor::ser::{IoWrite, Serialize};
+use serde_cbor::{Result, from_reader, from_slice, to_vec, to_writer};
 use std::alloc::Global;
-use std::io::Read;
+use std::io::{BufReader, BufWriter, Read, Write};
 use std::process::ExitCode;
 
 fn main(rt: HostRuntime) -> ExitCode {
@@ -24,28 +27,39 @@ fn main(rt: HostRuntime) -> ExitCode {
     }
 }
 
-// Does what standard input asks for: one byte for what to do (0: read, 1: read and write), one for
-// how many times, one for the type, and then the item. Answers how many bytes were written; None
-// where it asks for nothing that is known.
+// Does what standard input asks for: one byte for what to do, one for how many times, one for the
+// type, and then the item. Answers how many bytes were written; None where it asks for nothing that
+// is known.
 fn answer_input(rt: &HostRuntime) -> Result<Option<usize>> {
     let mut input = Vec::new(rt.alloc());
     rt.stdin().read_to_end(&mut input)?;
-    if let [task @ 0..=1, times, kind, item @ ..] = input.as_slice() {
-        let (alloc, writes, times) = (rt.alloc(), *task == 1, *times);
-        match *kind {
-            b'b' => turns::<bool>(alloc, writes, times, item),
-            b'o' => turns::<Option<u8>>(alloc, writes, times, item),
-            b'i' => turns::<i64>(alloc, writes, times, item),
-            b'u' => turns::<u32>(alloc, writes, times, item),
-            b'c' => turns::<char>(alloc, writes, times, item),
-            b's' => turns::<&str>(alloc, writes, times, item),
-            b'S' => turns::<String>(alloc, writes, times, item),
-            b'f' => turns::<f64>(alloc, writes, times, item),
-            b't' => turns::<(u32, bool, String)>(alloc, writes, times, item),
-            _ => Ok(None),
-        }
-    } else {
-        Ok(None)
+    let alloc = rt.alloc();
+    match input.as_slice() {
+        [task @ 0..=1, times, kind, item @ ..] => of_slice(alloc, *task == 1, *times, *kind, item),
+        [task @ 2..=4, times, kind, item @ ..] => of_device(alloc, *task, *times, *kind, item),
+        _ => Ok(None),
+    }
+}
+
+// From a slice, and, where it writes, to a vector.
+fn of_slice(
+    alloc: Global,
+    writes: bool,
+    times: u8,
+    kind: u8,
+    item: &[u8],
+) -> Result<Option<usize>> {
+    match kind {
+        b'b' => turns::<bool>(alloc, writes, times, item),
+        b'o' => turns::<Option<u8>>(alloc, writes, times, item),
+        b'i' => turns::<i64>(alloc, writes, times, item),
+        b'u' => turns::<u32>(alloc, writes, times, item),
+        b'c' => turns::<char>(alloc, writes, times, item),
+        b's' => turns::<&str>(alloc, writes, times, item),
+        b'S' => turns::<String>(alloc, writes, times, item),
+        b'f' => turns::<f64>(alloc, writes, times, item),
+        b't' => turns::<(u32, bool, String)>(alloc, writes, times, item),
+        _ => Ok(None),
     }
 }
 
@@ -64,4 +78,54 @@ fn turns<'a, T: Deserialize<'a, SliceRead<'a>> + Serialize>(
         }
     }
     Ok(Some(written))
+}
+
+// From a buffered reader (2), from one that gives seven bytes a call (3), or from a slice and to a
+// buffered writer (4).
+fn of_device(alloc: Global, task: u8, times: u8, kind: u8, item: &[u8]) -> Result<Option<usize>> {
+    match kind {
+        b'b' => device_turns::<bool>(alloc, task, times, item),
+        b'i' => device_turns::<i64>(alloc, task, times, item),
+        b'u' => device_turns::<u32>(alloc, task, times, item),
+        b'S' => device_turns::<String>(alloc, task, times, item),
+        b'f' => device_turns::<f64>(alloc, task, times, item),
+        b't' => device_turns::<(u32, bool, String)>(alloc, task, times, item),
+        _ => Ok(None),
+    }
+}
+
+fn device_turns<'a, T>(alloc: Global, task: u8, times: u8, item: &'a [u8]) -> Result<Option<usize>>
+where
+    T: Serialize
+        + DeserializeOwned
+        + Deserialize<'a, SliceRead<'a>>
+        + Deserialize<'a, IoRead<BufReader<&'a [u8]>>>
+        + Deserialize<'a, IoRead<Sevens<'a>>>,
+{
+    let mut written = 0;
+    'turns: for _ in 0..times {
+        match task {
+            2 => {
+                let _: Vec<T> = from_reader(alloc, BufReader::new(alloc, item)?)?;
+            }
+            3 => {
+                let _: Vec<T> = from_reader(alloc, Sevens::new(item))?;
+            }
+            _ => written = through_writer::<T>(alloc, item)?,
+        }
+    }
+    Ok(Some(written))
+}
+
+fn through_writer<'a, T: Deserialize<'a, SliceRead<'a>> + Serialize>(
+    alloc: Global,
+    item: &'a [u8],
+) -> Result<usize> {
+    let list: Vec<T> = from_slice(alloc, item)?;
+    let mut bytes = Vec::new(alloc);
+    let mut writer = BufWriter::new(alloc, &mut bytes)?;
+    to_writer(alloc, &mut IoWrite::new(&mut writer), &list)?;
+    writer.flush()?;
+    drop(writer);
+    Ok(bytes.len())
 }

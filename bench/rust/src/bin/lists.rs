@@ -1,9 +1,10 @@
 //! What `lists_bench` does, by the Rust crate.
+use serde::de::DeserializeOwned;
 use serde::{Deserialize, Serialize};
 use serde_cbor::Result;
 use std::error::Error;
 use std::hint::black_box;
-use std::io::{self, Read};
+use std::io::{self, BufReader, BufWriter, Read};
 use std::process::ExitCode;
 
 fn turns<'a, T: Deserialize<'a> + Serialize>(writes: bool, times: u8, item: &'a [u8]) -> Result<()> {
@@ -17,23 +18,57 @@ fn turns<'a, T: Deserialize<'a> + Serialize>(writes: bool, times: u8, item: &'a 
     Ok(())
 }
 
+/// Gives at most seven bytes a call.
+struct Sevens<'a>(&'a [u8]);
+
+impl Read for Sevens<'_> {
+    fn read(&mut self, buf: &mut [u8]) -> io::Result<usize> {
+        let count = buf.len().min(7);
+        self.0.read(&mut buf[..count])
+    }
+}
+
+fn device_turns<T: DeserializeOwned + Serialize>(task: u8, times: u8, item: &[u8]) -> Result<()> {
+    for _ in 0..times {
+        let item = black_box(item);
+        let list: Vec<T> = match task {
+            2 => serde_cbor::from_reader(BufReader::new(item))?,
+            3 => serde_cbor::from_reader(Sevens(item))?,
+            _ => serde_cbor::from_slice(item)?,
+        };
+        if task == 4 {
+            let mut bytes = Vec::new();
+            serde_cbor::to_writer(BufWriter::new(&mut bytes), &list)?;
+            black_box(bytes);
+        }
+        drop(black_box(list));
+    }
+    Ok(())
+}
+
 fn main() -> std::result::Result<ExitCode, Box<dyn Error>> {
     let mut input = Vec::new();
     io::stdin().read_to_end(&mut input)?;
-    let [task @ 0..=1, times, kind, item @ ..] = input.as_slice() else {
+    let [task, times, kind, item @ ..] = input.as_slice() else {
         return Ok(ExitCode::from(2));
     };
     let (writes, times) = (*task == 1, *times);
-    match *kind {
-        b'b' => turns::<bool>(writes, times, item)?,
-        b'o' => turns::<Option<u8>>(writes, times, item)?,
-        b'i' => turns::<i64>(writes, times, item)?,
-        b'u' => turns::<u32>(writes, times, item)?,
-        b'c' => turns::<char>(writes, times, item)?,
-        b's' => turns::<&str>(writes, times, item)?,
-        b'S' => turns::<String>(writes, times, item)?,
-        b'f' => turns::<f64>(writes, times, item)?,
-        b't' => turns::<(u32, bool, String)>(writes, times, item)?,
+    match (*task, *kind) {
+        (0..=1, b'b') => turns::<bool>(writes, times, item)?,
+        (0..=1, b'o') => turns::<Option<u8>>(writes, times, item)?,
+        (0..=1, b'i') => turns::<i64>(writes, times, item)?,
+        (0..=1, b'u') => turns::<u32>(writes, times, item)?,
+        (0..=1, b'c') => turns::<char>(writes, times, item)?,
+        (0..=1, b's') => turns::<&str>(writes, times, item)?,
+        (0..=1, b'S') => turns::<String>(writes, times, item)?,
+        (0..=1, b'f') => turns::<f64>(writes, times, item)?,
+        (0..=1, b't') => turns::<(u32, bool, String)>(writes, times, item)?,
+        (2..=4, b'b') => device_turns::<bool>(*task, times, item)?,
+        (2..=4, b'i') => device_turns::<i64>(*task, times, item)?,
+        (2..=4, b'u') => device_turns::<u32>(*task, times, item)?,
+        (2..=4, b'S') => device_turns::<String>(*task, times, item)?,
+        (2..=4, b'f') => device_turns::<f64>(*task, times, item)?,
+        (2..=4, b't') => device_turns::<(u32, bool, String)>(*task, times, item)?,
         _ => return Ok(ExitCode::from(2)),
     }
     Ok(ExitCode::SUCCESS)

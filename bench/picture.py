@@ -1,0 +1,90 @@
+#!/usr/bin/env python3
+"""Draws the tables of instructions in docs/SPEED.md as docs/speed.svg; see README.md."""
+import argparse
+import math
+import os
+import sys
+from xml.sax.saxutils import escape
+
+HERE = os.path.dirname(os.path.abspath(__file__))
+TABLES = os.path.join(HERE, '..', 'docs', 'SPEED.md')
+PICTURE = os.path.join(HERE, '..', 'docs', 'speed.svg')
+
+# The headings of the tables, and the columns in which the Rust crate's ratio stands: of reading, and
+# of reading and writing.
+DRAWN = [('| shape | read | Rust crate | libcbor | read and written |', 2, 5), ('| list | read |', 2, 4)]
+
+LEAST, MOST = 0.5, 16
+ROW, LABEL, SCALE, WIDTH = 24, 250, 110, 860
+TOP = 64
+
+STYLE = '''
+svg { background: #fff; font: 13px system-ui, sans-serif; fill: #1f2328 }
+.read { fill: #0969da } .both { fill: #9a6700 } line { stroke: #d0d7de } .one { stroke: #1f2328 }
+@media (prefers-color-scheme: dark) {
+  svg { background: #0d1117; fill: #e6edf3 }
+  .read { fill: #58a6ff } .both { fill: #d29922 } line { stroke: #30363d } .one { stroke: #e6edf3 }
+}
+'''
+
+
+def rows(lines):
+    """The name of each shape, and its two ratios, table by table."""
+    for heading, read, both in DRAWN:
+        begin = next(i for i, line in enumerate(lines) if line.startswith(heading))
+        for line in lines[begin + 2:]:
+            if not line.startswith('|'):
+                break
+            cells = [cell.strip().replace('`', '') for cell in line.strip('|').split('|')]
+            yield cells[0], float(cells[read]), float(cells[both])
+
+
+def across(ratio):
+    return LABEL + SCALE * math.log2(ratio / LEAST)
+
+
+def bar(kind, ratio, top):
+    start, end = sorted((across(1), across(ratio)))
+    return (f'<rect class="{kind}" x="{start:.1f}" y="{top}" width="{max(end - start, 1):.1f}" height="8"/>'
+            f'<text x="{max(end, across(1)) + 4:.1f}" y="{top + 8}" font-size="9">{ratio:.2f}</text>')
+
+
+def picture(shapes):
+    height = TOP + ROW * len(shapes) + 8
+    parts = [f'<svg xmlns="http://www.w3.org/2000/svg" viewBox="0 0 {WIDTH} {height}" role="img">',
+             f'<style>{STYLE}</style>',
+             '<title>How many times as many instructions the Rust crate takes</title>',
+             f'<text x="12" y="20">How many times as many instructions the Rust crate takes</text>',
+             f'<rect class="read" x="12" y="32" width="8" height="8"/><text x="26" y="40">to read</text>',
+             f'<rect class="both" x="90" y="32" width="8" height="8"/><text x="104" y="40">to read and write</text>']
+    for power in range(int(math.log2(LEAST)), int(math.log2(MOST)) + 1):
+        x = across(2 ** power)
+        kind = ' class="one"' if power == 0 else ''
+        parts.append(f'<line{kind} x1="{x:.1f}" y1="{TOP - 8}" x2="{x:.1f}" y2="{height - 8}"/>'
+                     f'<text x="{x:.1f}" y="{TOP - 12}" text-anchor="middle" font-size="10">{2 ** power:g}</text>')
+    for number, (name, read, both) in enumerate(shapes):
+        top = TOP + ROW * number
+        parts.append(f'<text x="{LABEL + SCALE - 118}" y="{top + 13}" text-anchor="end">{escape(name)}</text>')
+        parts += [bar('read', read, top), bar('both', both, top + 10)]
+    return '\n'.join(parts + ['</svg>']) + '\n'
+
+
+def main():
+    parser = argparse.ArgumentParser(description=__doc__)
+    parser.add_argument('--check', action='store_true', help='say whether the picture is that of the tables')
+    chosen = parser.parse_args()
+    with open(TABLES, encoding='utf-8') as tables:
+        drawn = picture(list(rows(tables.read().split('\n'))))
+    if chosen.check:
+        with open(PICTURE, encoding='utf-8') as stored:
+            same = stored.read() == drawn
+        if not same:
+            print('docs/speed.svg is not that of docs/SPEED.md: run bench/picture.py')
+        return 0 if same else 1
+    with open(PICTURE, 'w', encoding='utf-8') as stored:
+        stored.write(drawn)
+    return 0
+
+
+if __name__ == '__main__':
+    sys.exit(main())
