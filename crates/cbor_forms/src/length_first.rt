@@ -34,7 +34,8 @@ use std::alloc::Global;
 /// longer ones, by the lengths of their encodings, and keys of one length in the order of their
 /// bytes.
 ///
-/// It refuses what `to_vec_deterministic` refuses.
+/// It refuses what `to_vec_deterministic` refuses. Each map's pairs are put together by themselves,
+/// so that what stands within `d` maps, one in another, is copied `d` times.
 ///
 /// ```rust
 /// let mut map = BTreeMap::new(alloc);

@@ -222,7 +222,7 @@ impl Serialize for f64 {
     }
 }
 
-/// Its canonical spelling, whatever the settings.
+/// Its canonical encoding, whatever the settings.
 impl Serialize for Value {
     ghost document = { λ v. document_of (view v) };
 

@@ -218,7 +218,7 @@ pub(crate) fn put_integer<W: Write>(
     Err(WriteRefused)
 }
 
-/// Appends a value's canonical spelling. The allocator is for the text of a refusal alone.
+/// Appends a value's canonical encoding. The allocator is for the text of a refusal alone.
 #[cycle(value)]
 #[tactic(auto, unfolding(cbor_model::specs::Canonical::canon, cbor_model::specs::Canonical::canonical, cbor_model::specs::Spelling::spell, cbor_model::specs::Document::document_of))]
 pub(crate) fn put_value<W: Write>(

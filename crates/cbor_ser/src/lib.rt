@@ -45,7 +45,7 @@ pub use tuples::SerializeTuple;
 
 /// The bytes of a value's document: shortest heads, fields and variants by their names, and
 /// definite lengths where the document declares them. A [`Value`](cbor_value::Value) is written as
-/// its canonical spelling.
+/// its canonical encoding.
 ///
 /// It refuses an integer outside `-2^64..=2^64-1`, at any depth, with the message
 /// `The number can't be stored in CBOR`, and returns `OutOfMemory` where an allocation fails. A
@@ -61,7 +61,7 @@ pub fn to_vec<T: Serialize>(alloc: Global, value: &T) -> Result<Vec<u8>>
     ensures in_range { IfOk result (λ bytes. IsDocumentInRange (T.document value.now)) }
     ensures written { IfOk result
         (λ bytes. bytes.items ≡ document_bytes (T.document value.now) false false) }
-    // Where the document is that of a `Value`, these are the value's canonical spelling, stand for
+    // Where the document is that of a `Value`, these are the value's canonical encoding, stand for
     // it among all values, and are read as it, if it is ordered and nests at most 127 levels.
     ensures canonical { IfOk result (λ bytes. SpellsValues bytes.items (T.document value.now)) }
     ensures refused { IfErr result (IsNotWritten (IsStorableDocument (T.document value.now))) }
@@ -73,7 +73,7 @@ pub fn to_vec<T: Serialize>(alloc: Global, value: &T) -> Result<Vec<u8>>
 
 /// The bytes of a value's document as [`to_vec`] answers them, but in the packed format: fields and
 /// unit variants by their numbers in place of their names, and the keys of struct variants too. A
-/// [`Value`](cbor_value::Value) is written as its canonical spelling here too.
+/// [`Value`](cbor_value::Value) is written as its canonical encoding here too.
 ///
 /// It refuses what `to_vec` refuses.
 ///
@@ -147,7 +147,7 @@ pub fn to_writer<W: Write, T: Serialize>(alloc: Global, writer: &mut W, value: &
         (document_bytes (T.document value.now) false false) result }
     ensures same_references { W.references writer.new ≡ W.references writer.old }
     ensures same_capacity { W.capacity writer.new ≡ W.capacity writer.old }
-    // Where the document is that of a `Value`, the bytes are the value's canonical spelling.
+    // Where the document is that of a `Value`, the bytes are the value's canonical encoding.
     ensures canonical { WroteValues W.written W.refuses writer.old (T.document value.now)
         writer.new result }
 {

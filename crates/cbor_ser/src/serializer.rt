@@ -28,7 +28,7 @@ use std::fmt;
 mod compound;
 mod list;
 
-/// How names and enums are spelled.
+/// How names and enums are written.
 #[derive(Clone, Copy)]
 pub(crate) struct Settings {
     pub(crate) packed: bool,
@@ -37,7 +37,7 @@ pub(crate) struct Settings {
 
 /// Writes items to a sink, one after the other.
 ///
-/// Each call appends the item's shortest spelling, a head as one piece and what a string holds as
+/// Each call appends the item's shortest encoding, a head as one piece and what a string holds as
 /// another. Where the sink refuses, it holds what it had and a prefix of the item, if it tells
 /// its bytes. One that has a capacity refuses no item that can be stored and fits what is left of
 /// it. The allocator is for the text of a refusal alone.
@@ -369,7 +369,7 @@ impl<W: Write> Serializer<W> {
         self.write_string(Major::ByteString, v)
     }
 
-    // Appends a value's canonical spelling.
+    // Appends a value's canonical encoding.
     pub(crate) fn write_value(&mut self, v: &Value) -> Result<()>
         ensures { Serialized W.written W.refuses W.references W.capacity self.old
             (item (document_of (view v.now))) self.new result }

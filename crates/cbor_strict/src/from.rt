@@ -1,4 +1,4 @@
-//! Reading a whole input that is spelled canonically.
+//! Reading a whole input that is encoded canonically.
 
 ghost use Rattle.std.specs.Prelude.{◌≡◌, ◌⊎◌, IfErr, IfOk, MatchResult, take};
 ghost use Rattle.cbor_model.specs.Formats.{all_formats};
@@ -21,14 +21,14 @@ use cbor_read::SliceRead;
 use cbor_value::Value;
 use std::alloc::Global;
 
-/// The value whose canonical spelling the bytes are: heads as short as they can be, lengths
+/// The value whose canonical encoding the bytes are: heads as short as they can be, lengths
 /// definite, each map's keys ascending, and no undefined (docs/FORMAT.md).
 ///
 /// Use it in place of [`from_slice`] before a signature is checked, or where bytes are an address:
-/// each value has one spelling that it reads, which is what `to_vec` writes.
+/// each value has one encoding that it reads, which is what `to_vec` writes.
 ///
 /// The refusals are those of `from_slice`, and `NotCanonical` at the first departure from the
-/// canonical spelling, after the bytes that show it: a head that isn't the shortest, after the
+/// canonical encoding, after the bytes that show it: a head that isn't the shortest, after the
 /// head; an indefinite length, after its first byte; undefined, after it; a key that isn't above
 /// the one before it, after that key. Of all it returns the one that comes first; at one place a
 /// departure comes after a text that isn't UTF-8, and before all others.
@@ -39,7 +39,7 @@ use std::alloc::Global;
 /// assert_eq!(rt; refused.is_err(), true);
 /// ```
 pub fn from_slice_canonical(alloc: Global, slice: &[u8]) -> Result<Value>
-    // The bytes are the canonical spelling of what is read.
+    // The bytes are the canonical encoding of what is read.
     ensures found { IfOk result (λ v. SpellsCanonically slice.now (view v)) }
     // Each such value is read, unless memory runs out.
     ensures accepted { (v : Val) → SpellsCanonically slice.now v → IfErr result IsOutOfMemory }
@@ -52,11 +52,11 @@ pub fn from_slice_canonical(alloc: Global, slice: &[u8]) -> Result<Value>
     from_slice_canonical_as(alloc, slice)
 }
 
-/// What the one item is read as whose canonical spelling the bytes are, as by
+/// What the one item is read as whose canonical encoding the bytes are, as by
 /// [`from_slice_canonical`], of any type.
 ///
 /// It reads as [`from_slice`] does, and lends what that lends. Where `from_slice` reads bytes that
-/// aren't spelled canonically, it refuses them with `NotCanonical` at the first departure; and
+/// aren't encoded canonically, it refuses them with `NotCanonical` at the first departure; and
 /// where `from_slice` refuses them at an offset, it does so too, if a departure comes no later than
 /// that. Otherwise it refuses as `from_slice` does. It takes no memory beyond that of `from_slice`.
 ///
@@ -75,7 +75,7 @@ pub fn from_slice_canonical_as<'a, T: Deserialize<'a, SliceRead<'a>>>(
     alloc: Global,
     slice: &'a [u8],
 ) -> Result<T>
-    // The bytes are the canonical spelling of an item, and it is read so.
+    // The bytes are the canonical encoding of an item, and it is read so.
     ensures found { IfOk result (SpellsCanonicallyAs (T.reads from_slice_context) slice.now) }
     // Each such item is read, unless memory runs out.
     ensures accepted { (x : T)
@@ -85,7 +85,7 @@ pub fn from_slice_canonical_as<'a, T: Deserialize<'a, SliceRead<'a>>>(
     ensures departs { (x : T)
         → (spelt : SpellsAs all_formats (T.reads from_slice_context) slice.now x)
         → IfErr result (TellsItsDeparture spelt.item) }
-    // The acceptable item that the bytes spell is the one that is read; and where the type reads
+    // The acceptable item that the bytes encode is the one that is read; and where the type reads
     // every item, it is refused by its first departure alone.
     ensures every { (v : Val) → (spelt : SpellsValue slice.now v)
         → MatchResult result (T.reads from_slice_context spelt.item)

@@ -3,7 +3,7 @@ ghost use Rattle.cbor_strict.specs.Strict.{FirstShownIsFirst, KeysCompareByBytes
 ghost use Rattle.cbor_strict.specs.Strict.{NoneWhereCanonical};
 ghost use Rattle.cbor_strict.specs.StrictRefusals.{OneFirstStrictRefusal};
 
-/// An acceptable item departs nowhere from the canonical form exactly where its spelling is the
+/// An acceptable item departs nowhere from the canonical form exactly where its encoding is the
 /// canonical one of its value.
 pub fn none_where_canonical()
     ensures { NoneWhereCanonical }
@@ -14,7 +14,7 @@ pub fn keys_compare_by_bytes()
     ensures { KeysCompareByBytes }
 {}
 
-/// The first departure that an item's spelling shows is the item's first.
+/// The first departure that an item's encoding shows is the item's first.
 pub fn first_shown_is_first()
     ensures { FirstShownIsFirst }
 {}

@@ -1,7 +1,7 @@
-//! Strict reading: only the canonical spelling of a value is read.
+//! Strict reading: only the canonical encoding of a value is read.
 //!
 //! The ordinary reader reads; a walk over the same bytes then looks for the first departure from
-//! the canonical spelling, without memory.
+//! the canonical encoding, without memory.
 #![tactic(auto)]
 
 mod from;

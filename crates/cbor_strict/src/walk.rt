@@ -31,7 +31,7 @@ pub enum Walk {
     Stopped,
 }
 
-/// The offset at which the bytes show that no canonical spelling goes on so, or none where they end
+/// The offset at which the bytes show that no canonical encoding goes on so, or none where they end
 /// or are at fault before that.
 pub(crate) fn first_departure(bytes: &[u8]) -> Option<usize>
     ensures { TellsDeparture bytes.now result }

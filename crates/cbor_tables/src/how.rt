@@ -15,7 +15,7 @@ pub struct How {
     pub reads: Formats,
     /// How many levels deep an item may be nested.
     pub limit: u8,
-    /// The canonical spelling alone is read, of a slice.
+    /// The canonical encoding alone is read, of a slice.
     pub strict: bool,
     /// Items are read one after the other, to the end.
     pub stream: bool,
@@ -23,7 +23,7 @@ pub struct How {
     pub packed: bool,
     /// Enums are written as arrays.
     pub legacy: bool,
-    /// The canonical spelling is written of what the value stands for.
+    /// The canonical encoding is written of what the value stands for.
     pub canonical: bool,
     /// The library takes no memory for it.
     pub no_memory: bool,

@@ -9,7 +9,7 @@ use cbor_value::Value;
 use std::alloc::Global;
 
 /// Whether `to_value` makes of a value what is read of its bytes, and `to_vec_canonical` writes the
-/// canonical spelling of that.
+/// canonical encoding of that.
 pub fn closes<T: Serialize>(alloc: Global, value: &T) -> Result<bool> {
     let read: Value = from_slice(alloc, &to_vec(alloc, value)?)?;
     let made = to_value(alloc, value)?;

@@ -1,4 +1,4 @@
-//! Strict reading: the canonical spelling alone is read.
+//! Strict reading: the canonical encoding alone is read.
 
 use crate::desk::{Desk, Step};
 use crate::how::Source;

@@ -6,7 +6,7 @@ pub fn one_answer()
     ensures { OneAnswer IsAnswered }
 {}
 
-/// Nor has it where canonical spellings alone are read.
+/// Nor has it where canonical encodings alone are read.
 pub fn one_strict_answer()
     ensures { OneAnswer IsAnsweredStrictly }
 {}

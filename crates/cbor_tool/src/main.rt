@@ -1,5 +1,5 @@
-//! Reads lines of CBOR in hexadecimal, and answers each with its canonical spelling. With the one
-//! word `strict` after its name it reads canonical spellings alone, and with `diagnose` it answers
+//! Reads lines of CBOR in hexadecimal, and answers each with its canonical encoding. With the one
+//! word `strict` after its name it reads canonical encodings alone, and with `diagnose` it answers
 //! in diagnostic notation (RFC 8949, section 8). With a last word `raw` it reads bytes in place of
 //! lines: a sequence of items (RFC 8742).
 //!

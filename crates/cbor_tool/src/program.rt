@@ -33,9 +33,9 @@ enum End {
 /// Which bytes are read.
 #[derive(Clone, Copy)]
 pub enum Mode {
-    /// Those of any acceptable item, which is answered with its canonical spelling.
+    /// Those of any acceptable item, which is answered with its canonical encoding.
     Lenient,
-    /// Canonical spellings alone.
+    /// Canonical encodings alone.
     Strict,
     /// Those of any acceptable item, which is answered in diagnostic notation (RFC 8949, section 8)
     /// on one line.
@@ -66,7 +66,7 @@ pub fn run<R: io::Read, W: io::Write>(alloc: Global, reader: &mut R, writer: &mu
     run_in(Mode::Lenient, alloc, reader, writer)
 }
 
-/// Answers each line as [`run`] does, but reads canonical spellings alone: such a one is answered
+/// Answers each line as [`run`] does, but reads canonical encodings alone: such a one is answered
 /// with itself, and other bytes with the first refusal of strict reading.
 pub fn run_strict<R: io::Read, W: io::Write>(
     alloc: Global,

@@ -19,7 +19,7 @@ use std::io;
 /// What is answered to an item.
 #[derive(Clone, Copy)]
 pub enum Form {
-    /// Its canonical spelling, as bytes.
+    /// Its canonical encoding, as bytes.
     Canonical,
     /// A line in diagnostic notation (RFC 8949, section 8).
     Notation,

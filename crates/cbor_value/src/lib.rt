@@ -28,8 +28,8 @@ mod pointer;
 /// NaN equals itself. The order is that of the widths, and then that of the bits, as it is among
 /// values.
 ///
-/// No call makes a float narrower. Where another encoder would write the shortest width that holds
-/// a number, choose it: `Float::Half(0x3c00)` is 1.0 in 16 bits.
+/// No method makes a float narrower. Where another encoder would write the shortest width that
+/// holds a number, `shortest` of `serde_cbor::value` gives it: of 1.0 it is `Float::Half(0x3c00)`.
 ///
 /// ```rust
 /// assert_eq!(rt; Float::Half(0x3c00).to_f64(), 1.0);

@@ -152,7 +152,7 @@ fn two_sources_answer_alike(rt: HostRuntime) -> Result<(), Fail> {
     is_refused(other, "invalid UTF-8 at offset 2")
 }
 
-/// The number that the bytes begin with: they are the spelling of an item that is such a number,
+/// The number that the bytes begin with: they are the encoding of an item that is such a number,
 /// within any tags, and other bytes.
 fn first_number(alloc: Global, bytes: &[u8]) -> serde_cbor::Result<u8>
     ensures { IfOk result (λ n. (rest : List ℕ)

@@ -10,7 +10,7 @@ use std::alloc::{AllocError, Global};
 #[cfg(test)]
 use std::test::Fail;
 
-/// The text under a key, where the bytes spell a map that has a text there; else `None`.
+/// The text under a key, where the bytes encode a map that has a text there; else `None`.
 pub fn text_under(alloc: Global, bytes: &[u8], key: &str) -> serde_cbor::Result<Option<String>>
     ensures { IfOk result (λ found. MatchOption found
         ((text : List ℕ) → HasText bytes.now key.now text → ⊥)

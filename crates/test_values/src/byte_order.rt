@@ -9,7 +9,7 @@ use cbor_model::byte_order;
 use cbor_value::Value;
 use std::cmp::Ordering;
 
-/// How two values compare, which is how their canonical spellings do.
+/// How two values compare, which is how their canonical encodings do.
 #[tactic(auto, unfolding(cbor_value::specs::View::flat_of))]
 fn compared(a: &Value, b: &Value) -> Ordering
     ensures { IsStorable (view a.now) → IsStorable (view b.now)

@@ -21,7 +21,7 @@ pub fn tag(alloc: Global, tag: u64, value: Value) -> Result<Value, AllocError> {
     }
 }
 
-/// The value is spelled so.
+/// The value is encoded so.
 pub fn writes<T: Serialize>(rt: &impl Abort, alloc: Global, value: &T, want: &[u8]) -> Done {
     assert!(rt; to_vec(alloc, value)?.as_slice() == want);
     Ok(())

@@ -10,7 +10,7 @@ use std::process::Abort;
 use std::test::Fail;
 use test_checks::{Done, is_refused};
 
-/// A value with each kind of item in it, whose spelling `EACH_KIND` puts together from RFC 7049,
+/// A value with each kind of item in it, whose encoding `EACH_KIND` puts together from RFC 7049,
 /// sections 2.1 to 2.4 and appendix A.
 fn each_kind(alloc: Global) -> Result<Value, Fail> {
     let mut items = plain(alloc)?;
