@@ -1,14 +1,14 @@
 -- The refusal of a type that passes over an item that it doesn't read, by the definitions.
 use Rattle.std.proofs.Common.{inl, inr, ◌⊎◌, ◌≡◌, ◌∙◌, ◌+◌, ℕ, Bool, List, length, None, Result, Ok, Err, IfErr, refl, sym, ap, subst, arith}
 use Rattle.std.specs.Prelude.{⊤}
-use Rattle.cbor_model.specs.Acceptable.{max_depth, FitsScratch}
+use Rattle.cbor_model.specs.Acceptable.{max_depth}
 use Rattle.cbor_model.specs.Allowed.{limits_of}
 use Rattle.cbor_model.specs.Formats.{all_formats}
 use Rattle.cbor_model.specs.Plain.{Val}
 use Rattle.cbor_model.specs.Raw.{Raw, AreBytes}
 use Rattle.cbor_model.specs.Reader.{Fault, Reads, item_at, read_value_in}
 use Rattle.cbor_model.specs.Value.{value}
-use Rattle.cbor_model.proofs.facts.Reader.{ok_is, item_found, item_again, all_allowed}
+use Rattle.cbor_model.proofs.facts.Reader.{ok_is, item_found, item_fits, item_again, all_allowed}
 use Rattle.cbor_io.specs.declared.error.Error.{Error}
 use Rattle.cbor_io.specs.declared.error.ErrorCode.{ErrorCode}
 use Rattle.cbor_io.specs.declared.error.ErrorCode.TheVariants as code
@@ -16,11 +16,10 @@ use Rattle.cbor_io.specs.declared.read_error.ReadErrorCode.{ReadErrorCode}
 use Rattle.cbor_io.specs.Error.{code_of, offset_of, IsMessageOf, IsOutOfMemory}
 use Rattle.cbor_read.specs.Source.{Input}
 use Rattle.cbor_decode.specs.FirstRefusal.{TellsFirst}
-use Rattle.cbor_decode.specs.Gives.{FailsBy, IsMemoryOrFault, Limits, Reports, Tells, limits, values, whole_at}
+use Rattle.cbor_decode.specs.Gives.{FailsBy, IsMemoryOrFault, Reports, Tells, limits, whole_at}
 use Rattle.cbor_decode.proofs.facts.FirstRefusal.{first_or_memory, first_or_fault}
 use Rattle.cbor_decode.proofs.facts.Readings.{along, value_seen}
-use Rattle.cbor_decode.proofs.facts.Steps.{passed_on}
-use Rattle.cbor_decode_as.specs.Takes.{raws, any_item, ExcusedBy, FaultOrMessage, IsMessage, IsMessageBy, IsNotRead, IsRead, TellsFault, WhereTotal}
+use Rattle.cbor_decode_as.specs.Takes.{raws, any_item, ExcusedBy, FaultOrMessage, IsMessage, IsMessageBy, IsNotRead, TellsFault, WhereTotal}
 use Rattle.cbor_decode_as.proofs.facts.Refusals.{passes_told}
 use Rattle.cbor_de.specs.Whole.{BeginsUnread, IsSomeRead, RefusesAll, RefusesUnread, TellsWhole}
 use Rattle.cbor_de.proofs.Faults.{fails_map, of_bytes, seen_of, where_map}
@@ -42,7 +41,7 @@ module _ {T : Type 0} (allowed : ReadErrorCode → Bool) (reads : Raw → T → 
   front = item_at (raws all_formats (limits s bs)) max_depth bs
 
   -- an item that isn't read stands at the front
-  begins_unread : (v : Val) (rest : List ℕ) → any_item max_depth (limits s bs) bs ≡ Ok (v, rest) → IsNotRead reads front → BeginsUnread reads bs
+  begins_unread : (v : Val) (rest : List ℕ) → any_item max_depth (limits s bs) bs ≡ Ok (v, rest) → IsNotRead reads front → BeginsUnread reads s.room bs
   begins_unread v rest is none =
       let l = limits s bs in
       let seen = seen_of front v rest (sym (value_seen all_formats l max_depth bs) ∙ is) in
@@ -50,28 +49,29 @@ module _ {T : Type 0} (allowed : ReadErrorCode → Bool) (reads : Raw → T → 
         item = seen.item;
         rest = rest;
         begins = (item_found all_formats l.total l.room max_depth bs rest seen.item fits seen.is).0;
+        joins = item_fits all_formats l.total l.room max_depth bs rest seen.item fits seen.is;
         unread = λ x means. none x rest (record { item = seen.item; is = seen.is; means = means });
       }
 
-  -- and then the reference reader reads it, where its chunks fit the scratch
-  front_is : (u : BeginsUnread reads bs) → FitsScratch s.room u.item → front ≡ Ok (u.item, u.rest)
-  front_is u room =
+  -- and then the reference reader reads it
+  front_is : (u : BeginsUnread reads s.room bs) → front ≡ Ok (u.item, u.rest)
+  front_is u =
       let l = limits s bs in
-      item_again all_formats l.total l.room max_depth bs u.rest u.item tells.short (omega (arith, zero)) room u.begins (all_allowed u.item)
+      item_again all_formats l.total l.room max_depth bs u.rest u.item tells.short (omega (arith, zero)) u.joins u.begins (all_allowed u.item)
 
-  none_at_fault : (f : Fault) → any_item max_depth (limits s bs) bs ≡ Err f → (u : BeginsUnread reads bs) → FitsScratch s.room u.item → ⊥
-  none_at_fault f is u room =
-      let both : ◌≡◌ {A = Reads Val} (Err f) (along value (Ok (u.item, u.rest))) = sym is ∙ value_seen all_formats (limits s bs) max_depth bs ∙ ap (along value) (front_is u room) in
+  none_at_fault : (f : Fault) → any_item max_depth (limits s bs) bs ≡ Err f → BeginsUnread reads s.room bs → ⊥
+  none_at_fault f is u =
+      let both : ◌≡◌ {A = Reads Val} (Err f) (along value (Ok (u.item, u.rest))) = sym is ∙ value_seen all_formats (limits s bs) max_depth bs ∙ ap (along value) (front_is u) in
       absurd cc
 
-  none_if_read : IsSomeRead reads front → (u : BeginsUnread reads bs) → FitsScratch s.room u.item → ⊥
-  none_if_read some u room =
-      let both = ok_is (some.is.item, some.rest) (u.item, u.rest) (sym some.is.is ∙ front_is u room) in
+  none_if_read : IsSomeRead reads front → BeginsUnread reads s.room bs → ⊥
+  none_if_read some u =
+      let both = ok_is (some.is.item, some.rest) (u.item, u.rest) (sym some.is.is ∙ front_is u) in
       u.unread some.value (subst (λ (r : Raw). reads r some.value) (ap (λ (p : Raw × List ℕ). p.0) both) some.is.means)
 
   -- ---- one refusal, where M stands for what excuses it
   module _ (e : Error) (M : Type 0) (excused : ExcusedBy (Reports allowed) (code_of e) (offset_of e) → M) (split : FailsBy (Reports allowed) (code_of e) (length bs) (offset_of e) (read_value_in s.room bs) → M ⊎ TellsFirst (limits_of s.room) bs e) where
-    first_unless : ((u : BeginsUnread reads bs) → FitsScratch s.room u.item → ⊥) → FailsBy (Reports allowed) (code_of e) (s.offset + length bs) (offset_of e) (whole_at all_formats max_depth (limits s bs) bs) → M ⊎ RefusesUnread reads s.room bs e
+    first_unless : (BeginsUnread reads s.room bs → ⊥) → FailsBy (Reports allowed) (code_of e) (s.offset + length bs) (offset_of e) (whole_at all_formats max_depth (limits s bs) bs) → M ⊎ RefusesUnread reads s.room bs e
     first_unless none h = elim (split (of_bytes allowed s bs e zero h)) [
       | inl m ↦ inl m
       | inr first ↦ inr (inr (first, none))

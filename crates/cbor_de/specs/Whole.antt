@@ -1,5 +1,5 @@
 -- A whole input that is read as one item.
-use Rattle.std.specs.Prelude.{◌⊎◌, ◌+◌, ℕ, Bool, List, [], ◌∷◌, length, true, false, Option, Result, Ok, Err, refl}
+use Rattle.std.specs.Prelude.{◌⊎◌, ◌+◌, ℕ, Bool, List, [], ◌∷◌, length, true, false, Option, None, Result, Ok, Err, refl}
 use Rattle.std.proofs.Common.{arith}
 use Rattle.cbor_model.specs.Raw as raw
 use Rattle.cbor_model.specs.Raw.{Raw, null_item}
@@ -67,21 +67,20 @@ abbrev pub TellsWhole : {A : Type 0} → Bool → Bool → (ReadErrorCode → Bo
 TellsWhole passes_over total refusals f reads levels s e =
     TellsOf passes_over total (TellsFault refusals (whole_at f levels) s e) (RefusesAll refusals f reads levels s e)
 
--- The bytes begin with an acceptable item that isn't read as anything.
-pub record BeginsUnread {A : Type 0} (reads : Raw → A → Type 0) (bytes : List ℕ) : Type 0 where
+-- The bytes begin with an acceptable item, whose chunks fit the scratch, that isn't read as anything.
+pub record BeginsUnread {A : Type 0} (reads : Raw → A → Type 0) (scratch : Option ℕ) (bytes : List ℕ) : Type 0 where
   pub item : Raw
   pub rest : List ℕ
   pub begins : Begins max_depth bytes item rest
+  pub joins : FitsScratch scratch item
   pub unread : (x : A) → reads item x → ⊥
 
 -- A refusal by a type that passes over an item that it doesn't read: a message where the bytes begin
--- with such an item; and the first refusal that the bytes allow where they don't, or with one whose
--- chunks don't fit the scratch.
+-- with such an item, and the first refusal that the bytes allow where they don't.
 abbrev pub RefusesUnread : {A : Type 0} → (Raw → A → Type 0) → Option ℕ → List ℕ → Error → Type 0
 RefusesUnread reads scratch bytes e =
-    (IsMessage e × BeginsUnread reads bytes)
-    ⊎ (TellsFirst (limits_of scratch) bytes e
-    × ((unread : BeginsUnread reads bytes) → FitsScratch scratch unread.item → ⊥))
+    (IsMessage e × BeginsUnread reads scratch bytes)
+    ⊎ (TellsFirst (limits_of scratch) bytes e × (BeginsUnread reads scratch bytes → ⊥))
 
 -- What a slice lends: definite strings, for its whole life.
 abbrev pub from_slice_context : Context
@@ -111,11 +110,12 @@ from_reader_asks = record { whole = true; joined = true }
 -- ---- examples
 
 -- f6, null, isn't read as a bool
-null_is_no_bool : BeginsUnread IsBool (0xf6 ∷ [])
+null_is_no_bool : BeginsUnread IsBool None (0xf6 ∷ [])
 unfolding spell
 null_is_no_bool = record {
   item = raw.simple null_item;
   rest = [];
   begins = record { spelled = refl; acceptable = record { fits = tt; nests = omega arith; texts = tt } };
+  joins = tt;
   unread = λ x is. is;
 }

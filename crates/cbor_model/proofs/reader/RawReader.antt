@@ -14,7 +14,7 @@ use Rattle.cbor_model.proofs.reader.FoundParts.{Passes, MayBeKey}
 use Rattle.cbor_model.proofs.reader.Found.{found}
 use Rattle.cbor_model.proofs.reader.FirstBytes.{EachKey-map, key_begins, begun_allows, all_allowed}
 use Rattle.cbor_model.proofs.reader.Again.{HasRoom, lets, again}
-use Rattle.cbor_model.proofs.reader.Whole.{grows, fits_joins, none_fits}
+use Rattle.cbor_model.proofs.reader.Whole.{grows, fits_joins, joins_fit, none_fits}
 use Rattle.cbor_model.proofs.reader.Texts.{EachText-map, IsUtf8-from_valid_len, valid_len-from_IsUtf8}
 
 -- items are made of themselves
@@ -57,6 +57,14 @@ item_found f total most levels bs rest r fits is =
       },
       subst (HasAllowedKeys f) same keys,
     )
+
+-- and its chunks fit the scratch
+pub item_fits : (f : Formats) (total : ℕ) (most : Option ℕ) (levels : ℕ) (bs rest : List ℕ) (r : Raw) → AreBytes bs → item_at (raws_in f total most) levels bs ≡ Ok (r, rest) → FitsScratch most r
+item_fits f total most levels bs rest r fits is =
+    let m = raws_in f total most in
+    let got = found m (none_fits most) levels bs (r, rest) fits is in
+    let same : got.item ≡ r = sym (made-itself m.has_room m.is_text m.exceeds m.allows got.item) ∙ got.made_is in
+    subst (FitsScratch most) same (joins_fit most got.item got.joins)
 
 -- in an input shorter than 2^64 a text that fits what is left has room
 room_in : (f : Formats) (total : ℕ) (most : Option ℕ) → total < 2 ^ 64 → HasRoom (raws_in f total most) total

@@ -31,7 +31,7 @@ none_fits None = refl
 none_fits (Some most) = le-ltb most 0 (omega arith)
 
 -- chunks that are joined fit
-joins_fit : (room : Option ℕ) (r : Raw) → exceeds_most room (longest_joined r) ≡ false
+pub joins_fit : (room : Option ℕ) (r : Raw) → exceeds_most room (longest_joined r) ≡ false
     → FitsScratch room r
 joins_fit None r joins = tt
 joins_fit (Some most) r joins = ltb-false most (longest_joined r) joins
