@@ -25,7 +25,7 @@ use cbor_decode::{Decoder, Done, Refused, Remaining};
 use cbor_io::error::{Error, ErrorCode, Result};
 use cbor_read::{Read, ReadErrorCode, Source};
 
-/// How an enum is spelled.
+/// How an enum is encoded.
 #[derive(Clone, Copy)]
 pub enum Form {
     /// An array of the identifier and the parts, of which so much remains.
@@ -39,7 +39,7 @@ pub enum Form {
 /// The first byte of a map of one pair.
 const ONE_PAIR: u8 = 0xa1;
 
-// How an enum is spelled, by its first byte.
+// How an enum is encoded, by its first byte.
 #[derive(Clone, Copy)]
 enum Shape {
     Array,
@@ -49,7 +49,7 @@ enum Shape {
     Unassigned,
 }
 
-// How an enum is spelled that begins with this byte.
+// How an enum is encoded that begins with this byte.
 fn shape_of(first: u8) -> Shape
     ensures { result ≡ shape_of first }
 {
@@ -61,7 +61,7 @@ fn shape_of(first: u8) -> Shape
     }
 }
 
-// How the enum at the front is spelled, where that is read. Its first byte stays.
+// How the enum at the front is encoded, where that is read. Its first byte stays.
 #[tactic(auto, using(crate::proofs::refused::Codes::kept_enum, crate::proofs::refused::Codes::other_enum))]
 fn enum_shape<R: Source>(decoder: &mut Decoder<R>) -> Result<Shape>
     ensures read { TakesShape R.refusals (formats_of decoder.old.formats)
@@ -91,7 +91,7 @@ fn enum_shape<R: Source>(decoder: &mut Decoder<R>) -> Result<Shape>
     }
 }
 
-// Whether enums that are spelled so are read.
+// Whether enums that are encoded so are read.
 fn reads_shape<R: Source>(decoder: &Decoder<R>, shape: Shape) -> bool
     ensures { result ≡ reads_shape (formats_of decoder.now.formats) shape }
 {

@@ -60,7 +60,7 @@ pub enum ErrorCode {
     WrongEnumFormat,
     /// A map's key in a form that is disabled.
     WrongStructFormat,
-    /// Bytes that depart from the canonical spelling; strict reading alone returns it.
+    /// Bytes that depart from the canonical encoding; strict reading alone returns it.
     NotCanonical,
     /// An allocation failed.
     OutOfMemory,

@@ -11,12 +11,12 @@ ghost use Rattle.cbor_model.specs.Laws.{RefusedHoldsBeginning, StoredOrStops, Al
 ghost use Rattle.cbor_model.specs.Laws.{DocumentIsAcceptable, DocumentReadsBack};
 
 /// What the reference reader reads is the value of an acceptable item, and the bytes are its
-/// spelling.
+/// encoding.
 pub fn reader_finds()
     ensures { ReaderFinds }
 {}
 
-/// The reference reader reads the spelling of each acceptable item, as the item's value.
+/// The reference reader reads the encoding of each acceptable item, as the item's value.
 pub fn reader_accepts()
     ensures { ReaderAccepts }
 {}
@@ -33,7 +33,7 @@ pub fn scratch_need()
     ensures { ScratchNeed }
 {}
 
-/// No well-formed item's spelling begins another's, and equal spellings are equal items.
+/// No well-formed item's encoding begins another's, and equal encodings are equal items.
 pub fn one_spelling()
     ensures { OneSpelling }
 {}
@@ -65,26 +65,26 @@ pub fn value_is_canonical()
     ensures { ValueIsCanonical }
 {}
 
-/// Of what is read, the canonical spelling is read as the same value again: normalising twice is
+/// Of what is read, the canonical encoding is read as the same value again: normalising twice is
 /// once.
 pub fn normalised_once()
     ensures { NormalisedOnce }
 {}
 
-/// Equal canonical spellings are equal values, so the bytes can stand for the value, as a key,
+/// Equal canonical encodings are equal values, so the bytes can stand for the value, as a key,
 /// under a signature or in a hash. The values are storable and in range (each length, count and
 /// tag number is below 2^64), at any depth.
 pub fn equal_bytes()
     ensures { EqualBytes }
 {}
 
-/// Comparing two values is comparing their canonical spellings byte by byte, so what is sorted by
+/// Comparing two values is comparing their canonical encodings byte by byte, so what is sorted by
 /// its bytes is sorted by its value. The values are storable and in range, at any depth.
 pub fn byte_order()
     ensures { ByteOrder }
 {}
 
-/// No spelling of definite lengths is shorter than its value's canonical one, whatever its heads,
+/// No encoding of definite lengths is shorter than its value's canonical one, whatever its heads,
 /// the order of its pairs and the keys that it says twice. One of indefinite length can be shorter:
 /// its break takes one byte, where a count of 256 takes two after the first.
 pub fn least_spelling()
@@ -108,7 +108,7 @@ pub fn none_allowed()
     ensures { NoneAllowed }
 {}
 
-/// Bytes fewer than 2^64 that spell an acceptable item, whose chunks fit the scratch, allow no
+/// Bytes fewer than 2^64 that encode an acceptable item, whose chunks fit the scratch, allow no
 /// refusal.
 pub fn spelled_allows_none()
     ensures { SpelledAllowsNone }
@@ -124,7 +124,7 @@ pub fn same_first_refusal()
     ensures { SameFirstRefusal }
 {}
 
-/// Each input spells one acceptable item, whose chunks fit the scratch, or has a first refusal.
+/// Each input encodes one acceptable item, whose chunks fit the scratch, or has a first refusal.
 pub fn read_or_refused()
     ensures { ReadOrRefused }
 {}
@@ -140,7 +140,7 @@ pub fn canonical_is_acceptable()
     ensures { CanonicalIsAcceptable }
 {}
 
-/// The canonical spelling of any storable ordered value in a program, which nests at most 127
+/// The canonical encoding of any storable ordered value in a program, which nests at most 127
 /// levels, is read as that value.
 pub fn written_reads_back()
     ensures { WrittenReadsBack }

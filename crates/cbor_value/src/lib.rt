@@ -53,7 +53,7 @@ pub enum Float {
 /// then the content, from its front. They are equal where nothing of that differs. Comparing takes
 /// no memory.
 ///
-/// That is the byte order of the values' canonical spellings: of two values that `to_vec` writes,
+/// That is the byte order of the values' canonical encodings: of two values that `to_vec` writes,
 /// `a.cmp(&b)` is how their bytes compare, so what is sorted by value is sorted by its bytes. A
 /// proof takes this from the contract of `to_vec`: `in_order` says that the bytes of one value
 /// compare with another's as the values do, and `exact` that they are equal where these are. What

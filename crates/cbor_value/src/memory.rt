@@ -12,7 +12,7 @@ impl Value {
     /// and each text is UTF-8.
     ///
     /// So it need not be written for its order to be that of its bytes: of two values that CBOR
-    /// stores, `cmp` is the byte order of their canonical spellings, by the law `byte_order`, and
+    /// stores, `cmp` is the byte order of their canonical encodings, by the law `byte_order`, and
     /// what is written of them reads back, by `written_reads_back`.
     ///
     /// It goes through the whole value, changes nothing and takes no memory.
