@@ -26,6 +26,8 @@ pub mod Taken
 pub mod HeadsTaken
 pub mod TagTaken
 pub mod PartTaken
+pub mod VariantTaken
+pub mod ContentTaken
 pub mod ItemFronts
 pub mod Items
 pub mod StreamAnswers

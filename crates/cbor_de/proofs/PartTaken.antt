@@ -1,8 +1,7 @@
 -- The next part of an array or a map, or its end, by the definitions.
 use Rattle.std.proofs.Common.{◌≡◌, ◌≢◌, ◌⊎◌, inl, inr, ℕ, zero, suc, ◌+◌, Bool, true, false, cond, List, [], ◌∷◌, length, Option, Some, None, Result, Ok, Err, eqb, refl, sym, ap, subst, ◌∙◌, arith}
 use Rattle.std.specs.Prelude.{MatchResult}
-use Rattle.std.proofs.lemmas.Bool.{eqb-true, ne_eqb}
-use Rattle.cbor_model.specs.Acceptable.{FitsScratch}
+use Rattle.std.proofs.lemmas.Bool.{eqb-true}
 use Rattle.cbor_model.specs.Formats.{Formats, may_begin_key}
 use Rattle.cbor_model.specs.Raw.{Raw, AreBytes}
 use Rattle.cbor_model.specs.Refusal.{Refusal, end_in_array, end_in_map, trailing_data}
@@ -22,8 +21,7 @@ use Rattle.cbor_decode_as.specs.Accesses.{TakesNext}
 use Rattle.cbor_decode_as.specs.MapAccesses.{TakesKey}
 use Rattle.cbor_decode_as.specs.Takes.{ExcusedBy, IsRead, raws}
 use Rattle.cbor_decode_as.proofs.facts.Refusals.{excused_or}
-use Rattle.cbor_de.specs.ItemTaken.{BeginsAs}
-use Rattle.cbor_de.specs.PartTaken.{ArrayEndTaken, BeginsKey, Comes, Ends, IsEndTaken, LacksKey, LacksNext, MapEndTaken, TookEnd, TookKey, TookNext}
+use Rattle.cbor_de.specs.PartTaken.{ArrayEndTaken, BeginsKey, Comes, Ends, LacksKey, LacksNext, MapEndTaken, TookKey, TookNext}
 use Rattle.cbor_de.proofs.Taken.{read_again, took}
 
 -- ---- what remains

@@ -1,5 +1,5 @@
 -- What a stream over a reader has given, one call after the other.
-use Rattle.std.proofs.Common.{◌≡◌, ◌∙◌, ◌≤◌, ◌⊎◌, ◌+◌, ◌^◌, ◌<◌, ℕ, Bool, true, false, suc, List, [], ◌∷◌, ◌++◌, length, Option, None, IfSome, Ok, Err, inl, inr, refl, sym, ap, subst, length-append, arith}
+use Rattle.std.proofs.Common.{◌≡◌, ◌∙◌, ◌≤◌, ◌⊎◌, ◌+◌, ℕ, Bool, true, false, suc, List, [], ◌∷◌, ◌++◌, length, Option, None, IfSome, Ok, Err, inl, inr, refl, sym, ap, subst, length-append, arith}
 use Rattle.cbor_model.specs.Acceptable.{max_depth, FitsScratch}
 use Rattle.cbor_model.specs.Formats.{Formats, all_formats}
 use Rattle.cbor_model.specs.Raw.{Raw, AreBytes}
@@ -10,8 +10,8 @@ use Rattle.cbor_io.specs.Error.{code_of, offset_of}
 use Rattle.cbor_io.specs.declared.error.Error.{Error}
 use Rattle.cbor_io.specs.declared.error.ErrorCode.{ErrorCode}
 use Rattle.cbor_io.specs.declared.error.ErrorCode.TheVariants.{Io, OutOfMemory}
-use Rattle.cbor_read.specs.Source.{Input, Lends, reader_refusals, start_of_reader}
-use Rattle.cbor_decode.specs.Gives.{Gave, IsMemoryOrFault, IsMemoryOrFaultBy, Reports, Tells}
+use Rattle.cbor_read.specs.Source.{Lends, reader_refusals, start_of_reader}
+use Rattle.cbor_decode.specs.Gives.{Gave, IsMemoryOrFault, IsMemoryOrFaultBy, Reports}
 use Rattle.cbor_decode_as.specs.Takes.{ExcusedBy, lending}
 use Rattle.cbor_de.specs.ItemTaken.{BeginsAs, BeginsAsNone, TookItem}
 use Rattle.cbor_de.specs.Streamed.{AreMostValues, HasStreamed, ValuesBegin}

@@ -4,7 +4,7 @@ use Rattle.std.specs.Option.{is_some}
 use Rattle.std.specs.Prelude.{IfSome}
 use Rattle.cbor_model.specs.Formats.{may_begin_key}
 use Rattle.cbor_model.specs.Raw.{Raw, RawPairs, no_raw_pairs, raw_pair}
-use Rattle.cbor_model.specs.Reader.{Reads, item_at, key_at, next_at}
+use Rattle.cbor_model.specs.Reader.{Reads, item_at, key_at}
 use Rattle.cbor_model.specs.Reader as reader
 use Rattle.cbor_model.proofs.facts.Reader.{ok_is}
 use Rattle.cbor_read.specs.Source.{Input}

@@ -14,7 +14,7 @@ use Rattle.cbor_de.specs.TagTaken.{BeginsTag, BeginsByTag, LacksTag, TagTaken}
 
 -- ---- the first byte
 
-begins_is : (b : ℕ) → begins_tag b ≡ true → (0xc0 ≤ b) × (b ≤ 0xdb)
+pub begins_is : (b : ℕ) → begins_tag b ≡ true → (0xc0 ≤ b) × (b ≤ 0xdb)
 begins_is b is = by (ltb b 0xc0) (ltb b 0xdc) refl refl is
   where
     by : (x y : Bool) → ltb b 0xc0 ≡ x → ltb b 0xdc ≡ y → cond x false (cond y true false) ≡ true → (0xc0 ≤ b) × (b ≤ 0xdb)
@@ -25,7 +25,7 @@ begins_is b is = by (ltb b 0xc0) (ltb b 0xdc) refl refl is
         let to = ltb-true b 0xdc high in
         (omega (arith, from), omega (arith, to))
 
-begins_not : (b : ℕ) → begins_tag b ≡ false → (0xc0 ≤ b) × (b ≤ 0xdb) → ⊥
+pub begins_not : (b : ℕ) → begins_tag b ≡ false → (0xc0 ≤ b) × (b ≤ 0xdb) → ⊥
 begins_not b is range = by (ltb b 0xc0) (ltb b 0xdc) refl refl is
   where
     by : (x y : Bool) → ltb b 0xc0 ≡ x → ltb b 0xdc ≡ y → cond x false (cond y true false) ≡ false → ⊥
@@ -36,13 +36,13 @@ begins_not b is range = by (ltb b 0xc0) (ltb b 0xdc) refl refl is
 -- ---- the number, and the level
 
 -- what follows the first byte of a tag's head
-abbrev Behind : ℕ → ℕ → List ℕ → Reads (Option ℕ)
+abbrev pub Behind : ℕ → ℕ → List ℕ → Reads (Option ℕ)
 Behind levels b bs = number_behind (b % 32) bs >>= (λ n. entered_at levels n.0 n.1)
 
-abbrev HeadBy : ℕ → ℕ → List ℕ → Bool → Reads (Option ℕ)
+abbrev pub HeadBy : ℕ → ℕ → List ℕ → Bool → Reads (Option ℕ)
 HeadBy levels b bs t = cond {A = Reads (Option ℕ)} t (Behind levels b bs) (Ok (None, b ∷ bs))
 
-by_first : (levels b : ℕ) (bs : List ℕ) (t : Bool) → begins_tag b ≡ t → tag_head_at levels (b ∷ bs) ≡ HeadBy levels b bs t
+pub by_first : (levels b : ℕ) (bs : List ℕ) (t : Bool) → begins_tag b ≡ t → tag_head_at levels (b ∷ bs) ≡ HeadBy levels b bs t
 by_first levels b bs true is = rw is refl
 by_first levels b bs false is = rw is refl
 
@@ -122,7 +122,7 @@ module _ (levels b : ℕ) (bs : List ℕ) (fits : AreBytes (b ∷ bs)) where
 none_some : (n : ℕ) → None ≡ Some n → ⊥
 none_some n e = absurd cc
 
-tag_ok : (levels : ℕ) (bs : List ℕ) (n : ℕ) (rest : List ℕ) → AreBytes bs → tag_head_at levels bs ≡ Ok (Some n, rest) → BeginsByTag n bs rest × (0 < levels)
+pub tag_ok : (levels : ℕ) (bs : List ℕ) (n : ℕ) (rest : List ℕ) → AreBytes bs → tag_head_at levels bs ≡ Ok (Some n, rest) → BeginsByTag n bs rest × (0 < levels)
 tag_ok levels [] n rest fits is = absurd (none_some n (ap (λ (p : Option ℕ × List ℕ). p.0) (ok_is (None, []) (Some n, rest) is)))
 tag_ok levels (b ∷ bs) n rest fits is = by (begins_tag b) refl
   where
@@ -130,7 +130,7 @@ tag_ok levels (b ∷ bs) n rest fits is = by (begins_tag b) refl
     by true first = taken levels b bs fits n rest first (sym (by_first levels b bs true first) ∙ is)
     by false first = absurd (none_some n (ap (λ (p : Option ℕ × List ℕ). p.0) (ok_is (None, b ∷ bs) (Some n, rest) (sym (by_first levels b bs false first) ∙ is))))
 
-tag_none : (levels : ℕ) (bs rest : List ℕ) → tag_head_at levels bs ≡ Ok (None, rest) → (BeginsTag bs → ⊥) × (bs ≡ rest)
+pub tag_none : (levels : ℕ) (bs rest : List ℕ) → tag_head_at levels bs ≡ Ok (None, rest) → (BeginsTag bs → ⊥) × (bs ≡ rest)
 tag_none levels [] rest is = ((λ h. h), ap (λ (p : Option ℕ × List ℕ). p.1) (ok_is (None, []) (None, rest) is))
 tag_none levels (b ∷ bs) rest is = by (begins_tag b) refl
   where

@@ -13,6 +13,8 @@ pub mod ItemTaken
 pub mod HeadsTaken
 pub mod TagTaken
 pub mod PartTaken
+pub mod VariantTaken
+pub mod ContentTaken
 pub mod Streams
 pub mod Streamed
 pub use Rattle.cbor_io.specs.Error

@@ -1,7 +1,6 @@
 -- What the accesses to an array and a map take of the bytes to come, by the definitions.
 use Rattle.std.specs.Prelude.{◌≡◌, ◌≢◌, ◌⊎◌, ℕ, ◌+◌, Bool, true, List, [], ◌∷◌, length, Option, Some}
 use Rattle.std.specs.Prelude.{None, Result, MatchResult}
-use Rattle.cbor_model.specs.Acceptable.{FitsScratch}
 use Rattle.cbor_model.specs.Formats.{Formats, may_begin_key}
 use Rattle.cbor_model.specs.Raw.{Raw, AreBytes}
 use Rattle.cbor_model.specs.Readable.{Context}
@@ -15,7 +14,7 @@ use Rattle.cbor_decode.specs.declared.cursor.Remaining.TheVariants.{Counted, ToB
 use Rattle.cbor_decode_as.specs.Accesses.{TakesEnd, TakesNext}
 use Rattle.cbor_decode_as.specs.MapAccesses.{TakesKey, TakesMapEnd}
 use Rattle.cbor_decode_as.specs.Takes.{ExcusedBy, lending}
-use Rattle.cbor_de.specs.ItemTaken.{BeginsAs, BeginsAsNone, TookItem}
+use Rattle.cbor_de.specs.ItemTaken.{BeginsAsNone, TookItem}
 
 -- ---- the end
 

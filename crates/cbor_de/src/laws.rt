@@ -1,10 +1,12 @@
 //! Laws about what is read, which are the contracts of functions that do nothing.
 ghost use Rattle.cbor_de.specs.Alike.{SourcesAgree, OwnedAgree};
+ghost use Rattle.cbor_de.specs.ContentTaken.{NewtypeTaken, PartTaken, UnitTaken};
 ghost use Rattle.cbor_de.specs.FirstOfItem.{FirstIsFault, ItemRefusedFirst};
 ghost use Rattle.cbor_de.specs.ItemTaken.{ItemTaken};
 ghost use Rattle.cbor_de.specs.HeadsTaken.{HeadsTaken};
 ghost use Rattle.cbor_de.specs.PartTaken.{ArrayEndTaken, ElementTaken, KeyTaken, MapEndTaken};
 ghost use Rattle.cbor_de.specs.TagTaken.{TagTaken};
+ghost use Rattle.cbor_de.specs.VariantTaken.{TupleTaken, VariantTaken};
 ghost use Rattle.cbor_decode.specs.declared.head.Head.TheVariants.{Array, Map};
 
 use crate::deserialize::{DeserializeOwned, Readable};
@@ -109,4 +111,56 @@ pub fn key_taken<K: Readable>()
 pub fn end_taken()
     ensures arrays { ArrayEndTaken }
     ensures maps { MapEndTaken }
+{}
+
+/// What `variant` takes, by the definitions alone. Ok: the bytes to come were the heads of some
+/// tags, each a level further in, and then an enum in a form that is read, up to the identifier of
+/// the variant in this place, a number or a name: an array that begins with it, a map of one pair
+/// whose key it is, or the identifier alone; and then those that are still to come, whatever they
+/// are. Err: no enum begins so whose identifier's chunks fit the buffer; or memory ran out, or the
+/// source reported a fault.
+///
+/// A caller gives it the clauses `opened` and `unopened` of the call.
+pub fn variant_taken()
+    ensures { VariantTaken }
+{}
+
+/// What `unit` takes of a variant, by the definitions alone. Ok: nothing after an identifier alone;
+/// in a map null or undefined, within tags; in an array the same, as its last item, and its break,
+/// if it has one. Err: no such content is there; or memory ran out, or the source reported a fault.
+///
+/// A caller gives it the clause `read` of the call.
+pub fn variant_unit_taken()
+    ensures { UnitTaken }
+{}
+
+/// What `newtype` and `structure` take of a variant, by the definitions alone. Ok: an item, as
+/// `deserialize` takes one ([`item_taken`]), and in an array, whose last item it is, its break, if
+/// it has one. Err: no such content is there whose chunks fit the buffer, and none after an
+/// identifier alone; or memory ran out, or the source reported a fault.
+///
+/// A caller gives it the clause `read` of the call.
+pub fn variant_newtype_taken<T: Readable>()
+    ensures { NewtypeTaken T.reads }
+{}
+
+/// What `tuple` takes of a variant, by the definitions alone. Ok: nothing of an array, of which the
+/// items after the identifier are the parts; in a map the heads of some tags and the head of an
+/// array, as `array` takes them ([`heads_taken`]). Err: no array is there for which the levels
+/// suffice, and none after an identifier alone; or memory ran out, or the source reported a fault.
+///
+/// A caller gives it the clauses `opened` and `unopened` of the call. The parts end as any array
+/// ([`end_taken`]).
+pub fn variant_tuple_taken()
+    ensures { TupleTaken }
+{}
+
+/// What `part` takes, by the definitions alone. Ok: another item came of what remains, a count or
+/// up to the break, and it was taken as `deserialize` takes one ([`item_taken`]). Err: no item comes
+/// that the type reads, whose chunks fit the buffer; or memory ran out, or the source reported a
+/// fault.
+///
+/// A caller gives it the clause `read` of the call.
+pub fn part_taken<T: Readable>()
+    ensures { PartTaken T.reads }
 {}

@@ -45,7 +45,8 @@ pub use from::{from_mut_slice, from_reader, from_slice, from_slice_with_scratch,
 pub use item_list::{ReadTuple, ReadableTuple};
 pub use laws::{
     element_taken, end_taken, first_is_fault, heads_taken, item_refused_first, item_taken,
-    key_taken, owned_agree, sources_agree, tag_taken,
+    key_taken, owned_agree, part_taken, sources_agree, tag_taken, variant_newtype_taken,
+    variant_taken, variant_tuple_taken, variant_unit_taken,
 };
 pub use map::MapAccess;
 pub use sequence::SeqAccess;

@@ -8,8 +8,9 @@ pub use cbor_de::{
     Readable, SeqAccess, SliceRead, SliceReadFixed, Source, StreamDeserializer, StructAccess,
     Unread, VariantAccess, VecRead, duplicate_field, element_taken, end_taken, first_is_fault,
     from_mut_slice, from_reader, from_slice, from_slice_with_scratch, from_vec, heads_taken,
-    item_refused_first, item_taken, key_taken, missing_field, owned_agree, sources_agree,
-    tag_taken,
+    item_refused_first, item_taken, key_taken, missing_field, owned_agree, part_taken,
+    sources_agree, tag_taken, variant_newtype_taken, variant_taken, variant_tuple_taken,
+    variant_unit_taken,
 };
 pub use cbor_described::{FromParts, ReadParts, ReadableParts, ReadableTuple, Variant};
 pub use cbor_round_trip::RoundTrip;

@@ -1,0 +1,5 @@
+use Rattle.cbor_de.proofs.VariantTaken as variants
+use Rattle.cbor_de.proofs.laws.variant_taken.Goals as goal
+
+pub returns : goal.returns
+returns c = variants.variant_taken
