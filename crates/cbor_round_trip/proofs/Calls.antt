@@ -49,17 +49,17 @@ pub told_unstorable : {T : Type 0} (r : Result T Error) (S : Type 0) (e : Error)
 told_unstorable (Ok x) S e h is = tt
 told_unstorable (Err x) S e h is = subst SaysUnstorable (sym is) (unstorable_code e.code S h.0, h.1)
 
-module _ {A : Type 0} (document : A → Doc) (reads : Context → Raw → A → Type 0) (fits : A → Type 0) (law : IsReadBack document reads fits)
+module _ {A : Type 0} (document : A → Doc) (reads : Context → Raw → A → Type 0) (fits : A → Type 0) (determined : Type 0) (law : IsReadBack document reads fits determined)
     (x : A) (bytes : List ℕ) (stored : IsStorableDocument (document x)) (range : IsDocumentInRange (document x)) (is : bytes ≡ document_bytes (document x) false false) where
   pub same_again : (r : Result A Error) → fits x → IfOk r (SpellsAs all_formats (reads from_reader_context) bytes)
       → IfOk r (λ again. document again ≡ document x)
   same_again r fit found =
       IfOk-weaker r (SpellsAs all_formats (reads from_reader_context) bytes) (λ again. document again ≡ document x)
-      (λ again told. (written document reads fits law).alone x again fit of_reader false false stored range
+      (λ again told. (written document reads fits determined law).alone x again fit of_reader false false stored range
       (subst (λ (bs : List ℕ). SpellsAs all_formats (reads from_reader_context) bs again) is told)) found
 
   pub spelled_again : fits x → depth (raw_of (document x) false false) ≤ max_depth
       → SpellsAs all_formats (reads from_reader_context) bytes x
   spelled_again fit nests =
       subst (λ (bs : List ℕ). SpellsAs all_formats (reads from_reader_context) bs x) (sym is)
-      ((written document reads fits law).itself x fit of_reader false false stored range nests)
+      ((written document reads fits determined law).itself x fit of_reader false false stored range nests)

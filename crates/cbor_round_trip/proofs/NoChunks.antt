@@ -1,5 +1,5 @@
 -- No string of a document's item is in chunks.
-use Rattle.std.proofs.Common.{◌≡◌, ℕ, Bool, true, false, List, max, pos, negsuc, ℤ, refl}
+use Rattle.std.proofs.Common.{◌≡◌, ℕ, Bool, true, false, List, pos, negsuc, ℤ, refl}
 use Rattle.cbor_model.specs.Document.{Doc, Docs, DocPairs, Fields, null, bool, integer, float, bytes, text, sequence, mapping, structure, unit_variant, newtype_variant, tuple_variant, struct_variant, tagged, no_docs, doc, no_doc_pairs, doc_pair, no_fields, field, identifier, raw_of, raws_of, raw_pairs_of, raw_fields_of, variant_of}
 use Rattle.cbor_model.specs.Canonical.{canonical_integer}
 use Rattle.cbor_model.specs.Raw.{Raw, Raws, longest_joined, longest_joined_all, longest_joined_pairs}

@@ -1,5 +1,5 @@
 -- Maps are read back whose keys and values are, in the order of the keys.
-use Rattle.std.proofs.Common.{ℤ, pos, negsuc, ◌≡◌, ℕ, List, [], ◌∷◌, ◌++◌, Bool, Ordering, Less, Greater, refl, ap, ap₂, sym, ◌∙◌, append_assoc}
+use Rattle.std.proofs.Common.{ℤ, pos, negsuc, ◌≡◌, ℕ, List, [], ◌∷◌, ◌++◌, Bool, Ordering, Less, Equal, Greater, refl, ap, ap₂, sym, subst, ◌∙◌, append_assoc}
 use Rattle.std.specs.Prelude.{String}
 use Rattle.std.specs.String.{string_bytes}
 use Rattle.std.specs.Ordering.{ordering_reverse, match_ordering, nat_cmp, int_cmp}
@@ -12,11 +12,12 @@ use Rattle.std.specs.List.Sorted.{IsStrictlySortedBy}
 use Rattle.std.specs.Map.{keys_of}
 use Rattle.cbor_model.specs.Document.{Doc, text, integer, doc_pair, doc_pairs, mapping, declared, raw_of, raw_pairs_of}
 use Rattle.cbor_model.specs.Formats.{all_formats}
-use Rattle.cbor_model.specs.Raw.{Raw}
-use Rattle.cbor_model.specs.Readable.{Context, PassesTags}
+use Rattle.cbor_model.specs.Raw.{Raw, RawPairs, no_raw_pairs, raw_pair}
+use Rattle.cbor_model.specs.Readable.{Context, PassesTags, untagged}
 use Rattle.cbor_read.specs.Source.{Lends}
 use Rattle.cbor_decode_as.specs.Takes.{lending}
 use Rattle.cbor_decode_as.specs.Maps.{AsMap, ArePairsRead, AreEntries, put_all}
+use Rattle.cbor_round_trip.specs.OneReading.{in_map}
 use Rattle.cbor_round_trip.specs.ReadBack.{IsReadBack}
 
 -- the order of two values is told by their documents
@@ -80,8 +81,8 @@ AreFit cmp key_fits value_fits es =
 
 -- ---- the pairs of a document
 
-module _ {K V : Type 0} {cmp : K → K → Ordering} {key_doc : K → Doc} {value_doc : V → Doc} {keys : Context → Raw → K → Type 0} {values : Context → Raw → V → Type 0} {key_fits : K → Type 0} {value_fits : V → Type 0}
-    (total : IsTotalOrder cmp) (told : IsToldByDocuments key_doc cmp) (key : IsReadBack key_doc keys key_fits) (value : IsReadBack value_doc values value_fits) where
+module _ {K V : Type 0} {cmp : K → K → Ordering} {key_doc : K → Doc} {value_doc : V → Doc} {keys : Context → Raw → K → Type 0} {values : Context → Raw → V → Type 0} {key_fits : K → Type 0} {value_fits : V → Type 0} {key_determined value_determined : Type 0}
+    (total : IsTotalOrder cmp) (told : IsToldByDocuments key_doc cmp) (key : IsReadBack key_doc keys key_fits key_determined) (value : IsReadBack value_doc values value_fits value_determined) where
   abbrev EntriesFit : List (K × V) → Type 0
   EntriesFit = AllByRecursion (λ e. key_fits e.0 × value_fits e.1)
 
@@ -127,10 +128,65 @@ module _ {K V : Type 0} {cmp : K → K → Ordering} {key_doc : K → Doc} {valu
     sorted_alike es fs fit.1 l p g h.2 up.1,
   )
 
+  -- entries of the same documents, one by one
+  abbrev Alike : List (K × V) → List (K × V) → Type 0
+  Alike [] [] = Unit {0}
+  Alike [] (f ∷ fs) = ⊥
+  Alike (e ∷ es) [] = ⊥
+  Alike (e ∷ es) (f ∷ fs) = (key_doc e.0 ≡ key_doc f.0) × (value_doc e.1 ≡ value_doc f.1) × Alike es fs
+
+  alike_documents : (es fs : List (K × V)) → Alike es fs → doc_pairs key_doc value_doc es ≡ doc_pairs key_doc value_doc fs
+  alike_documents [] [] h = refl
+  alike_documents [] (f ∷ fs) h = absurd h
+  alike_documents (e ∷ es) [] h = absurd h
+  alike_documents (e ∷ es) (f ∷ fs) h =
+      ap₂ (λ (d c : Doc). doc_pair d c (doc_pairs key_doc value_doc es)) h.0 h.1 ∙ ap (doc_pair (key_doc f.0) (value_doc f.1)) (alike_documents es fs h.2)
+
+  read_alike : key_determined × value_determined → (c : Context) (rs : RawPairs) (es fs : List (K × V))
+      → ArePairsRead (keys c) (values c) rs es → ArePairsRead (keys c) (values c) rs fs → Alike es fs
+  read_alike d c no_raw_pairs [] [] h k = tt
+  read_alike d c no_raw_pairs [] (f ∷ fs) h k = absurd k
+  read_alike d c no_raw_pairs (e ∷ es) fs h k = absurd h
+  read_alike d c (raw_pair q v rs) [] fs h k = absurd h
+  read_alike d c (raw_pair q v rs) (e ∷ es) [] h k = absurd k
+  read_alike d c (raw_pair q v rs) (e ∷ es) (f ∷ fs) h k =
+      (key.single d.0 c q e.0 f.0 h.0 k.0, value.single d.1 c v e.1 f.1 h.1 k.1, read_alike d c rs es fs h.2 k.2)
+
+  by_order : (o : Ordering) (less equal greater less' equal' greater' : List (K × V)) → Alike less less' → Alike equal equal' → Alike greater greater'
+      → Alike (match_ordering o less equal greater) (match_ordering o less' equal' greater')
+  by_order Less less equal greater less' equal' greater' a b c = a
+  by_order Equal less equal greater less' equal' greater' a b c = b
+  by_order Greater less equal greater less' equal' greater' a b c = c
+
+  insert_alike : (es fs : List (K × V)) (k j : K) (v w : V) → Alike es fs → key_doc k ≡ key_doc j → value_doc v ≡ value_doc w
+      → Alike (insert_entry cmp es k v) (insert_entry cmp fs j w)
+  insert_alike [] [] k j v w h one two = (one, two, tt)
+  insert_alike [] (f ∷ fs) k j v w h one two = absurd h
+  insert_alike (e ∷ es) [] k j v w h one two = absurd h
+  insert_alike (e ∷ es) (f ∷ fs) k j v w h one two =
+      subst (λ (o : Ordering). Alike (insert_entry cmp (e ∷ es) k v) (match_ordering o ((j, w) ∷ f ∷ fs) ((f.0, w) ∷ fs) (f ∷ insert_entry cmp fs j w))) (told k e.0 j f.0 one h.0)
+      (by_order (cmp k e.0) ((k, v) ∷ e ∷ es) ((e.0, v) ∷ es) (e ∷ insert_entry cmp es k v) ((j, w) ∷ f ∷ fs) ((f.0, w) ∷ fs) (f ∷ insert_entry cmp fs j w)
+      (one, two, h) (h.0, two, h.2) (h.0, h.1, insert_alike es fs k j v w h.2 one two))
+
+  put_alike : (es fs ps qs : List (K × V)) → Alike es fs → Alike ps qs → Alike (put_all cmp es ps) (put_all cmp fs qs)
+  put_alike es fs [] [] h same = h
+  put_alike es fs [] (q ∷ qs) h same = absurd same
+  put_alike es fs (p ∷ ps) [] h same = absurd same
+  put_alike es fs (p ∷ ps) (q ∷ qs) h same =
+      put_alike (insert_entry cmp es p.0 p.1) (insert_entry cmp fs q.0 q.1) ps qs (insert_alike es fs p.0 q.0 p.1 q.1 h same.0 same.1) same.2
+
+  entries_one : key_determined × value_determined → (c : Context) (rs : RawPairs) (es fs : List (K × V))
+      → AreEntries cmp (keys c) (values c) rs es → AreEntries cmp (keys c) (values c) rs fs
+      → doc_pairs key_doc value_doc es ≡ doc_pairs key_doc value_doc fs
+  entries_one d c rs es fs h k =
+      ap (doc_pairs key_doc value_doc) h.put
+      ∙ alike_documents (put_all cmp [] h.pairs) (put_all cmp [] k.pairs) (put_alike [] [] h.pairs k.pairs tt (read_alike d c rs h.pairs k.pairs h.read k.read))
+      ∙ sym (ap (doc_pairs key_doc value_doc) k.put)
+
   pub map_back : {M : Type 0} {entries : M → List (K × V)}
       → IsReadBack (λ m. mapping declared (doc_pairs key_doc value_doc (entries m)))
       (λ c. PassesTags (AsMap (λ rs m. AreEntries cmp (keys c) (values c) rs (entries m))))
-      (λ m. AreFit cmp key_fits value_fits (entries m))
+      (λ m. AreFit cmp key_fits value_fits (entries m)) (key_determined × value_determined)
   unfolding raw_of
   map_back {entries = entries} = record {
     itself = λ m fit l p g. record {
@@ -142,6 +198,9 @@ module _ {K V : Type 0} {cmp : K → K → Ordering} {key_doc : K → Doc} {valu
         let up = sorted_alike (entries m) h.pairs fit.1 l p g h.read fit.0 in
         ap (λ (es : List (K × V)). mapping declared (doc_pairs key_doc value_doc es)) (h.put ∙ sym (put_sorted cmp total h.pairs up))
         ∙ ap (mapping declared) (pairs_alone (entries m) h.pairs fit.1 l p g h.read);
+    single = λ d c r m n h k.
+        let of_map = in_map (λ rs o. AreEntries cmp (keys c) (values c) rs (entries o)) (untagged r) m n h k in
+        ap (mapping declared) (entries_one d c of_map.0 (entries m) (entries n) of_map.1 of_map.2);
   }
 
 -- ---- keys

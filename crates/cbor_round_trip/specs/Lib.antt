@@ -1,4 +1,5 @@
 pub mod ReadBack
+pub mod OneReading
 pub mod Scalars
 pub mod Lists
 pub mod Options

@@ -48,7 +48,7 @@ first_in (n ∷ ns) (suc i) distinct below =
     let less : i < length ns = omega (arith, below) in
     ((λ same. other_name n ns i parts.0 less (sym same)), first_in ns i parts.1 less)
 
-one_first : (ns : List (List ℕ)) (b : List ℕ) (i k : ℕ) → IsFirst ns b i → IsFirst ns b k → i ≡ k
+pub one_first : (ns : List (List ℕ)) (b : List ℕ) (i k : ℕ) → IsFirst ns b i → IsFirst ns b k → i ≡ k
 one_first [] b i k one two = absurd one
 one_first (n ∷ ns) b zero zero one two = refl
 one_first (n ∷ ns) b zero (suc k) one two = absurd (two.0 one)

@@ -39,7 +39,7 @@ abbrev pub IsAbsentOrFits : {A : Type 0} → (A → Doc) → (A → Type 0) → 
 IsAbsentOrFits document fits None = Unit {0}
 IsAbsentOrFits document fits (Some x) = (document x ≢ null) × fits x
 
-module _ {A : Type 0} {document : A → Doc} {reads : Context → Raw → A → Type 0} {fits : A → Type 0} (law : IsReadBack document reads fits) where
+module _ {A : Type 0} {document : A → Doc} {reads : Context → Raw → A → Type 0} {fits : A → Type 0} {determined : Type 0} (law : IsReadBack document reads fits determined) where
   option_itself : (o : Option A) → IsAbsentOrFits document fits o → (l : Lends) (p g : Bool)
       → IsOptional (reads (lending all_formats l)) (raw_of (option_document document o) p g) o
   unfolding raw_of
@@ -56,5 +56,12 @@ module _ {A : Type 0} {document : A → Doc} {reads : Context → Raw → A → 
   option_alone (Some x) None fit l p g h = sym (null_alone (document x) p g h)
   option_alone (Some x) (Some y) fit l p g h = law.alone x y fit.1 l p g h.1
 
-  pub option_back : IsReadBack (option_document document) (λ c. IsOptional (reads c)) (IsAbsentOrFits document fits)
-  option_back = record { itself = option_itself; alone = option_alone }
+  option_one : determined → (c : Context) (r : Raw) (o q : Option A) → IsOptional (reads c) r o → IsOptional (reads c) r q
+      → option_document document o ≡ option_document document q
+  option_one d c r None None h k = refl
+  option_one d c r None (Some y) h k = absurd (k.0 h)
+  option_one d c r (Some x) None h k = absurd (h.0 k)
+  option_one d c r (Some x) (Some y) h k = law.single d c r x y h.1 k.1
+
+  pub option_back : IsReadBack (option_document document) (λ c. IsOptional (reads c)) (IsAbsentOrFits document fits) determined
+  option_back = record { itself = option_itself; alone = option_alone; single = option_one }

@@ -4,13 +4,14 @@ use Rattle.std.specs.Prelude.{◌⊎◌}
 use Rattle.cbor_model.specs.Document.{Doc, Fields, no_fields, identifier, structure, raw_of, raw_fields_of}
 use Rattle.cbor_model.specs.Formats.{all_formats}
 use Rattle.cbor_model.specs.Raw.{Raw, RawPairs, raw_pair, no_raw_pairs}
-use Rattle.cbor_model.specs.Readable.{Context}
+use Rattle.cbor_model.specs.Readable.{Context, untagged}
 use Rattle.cbor_read.specs.Source.{Lends}
 use Rattle.cbor_decode_as.specs.Takes.{lending}
 use Rattle.cbor_ser.specs.PartLists.{name_in, document_if, field_if}
 use Rattle.cbor_de.specs.FieldTypes.{IsGiven}
-use Rattle.cbor_de.specs.Structs.{FieldOf, field_or, IfAbsent, refused, taken, AreFields, Absent, Once, IsFieldOr, HasFields, IsStruct}
+use Rattle.cbor_de.specs.Structs.{FieldOf, field_or, IfAbsent, refused, taken, AreFields, AreFieldsOf, Absent, Once, IsFieldOr, IsFieldRead, HasFields, IsStruct}
 use Rattle.cbor_de.specs.declared.field.Field.TheVariants.{Known}
+use Rattle.cbor_round_trip.specs.OneReading.{in_map}
 use Rattle.cbor_round_trip.specs.ReadBack.{IsReadBack}
 use Rattle.cbor_round_trip.specs.Names.{are_distinct, names_place, one_place}
 
@@ -95,19 +96,40 @@ module _ (names : List (List ℕ)) (distinct : are_distinct names ≡ true) (p g
 
 -- Where a field holds its document, or is absent as it has none, it is read as itself, and as none of
 -- another document.
-pub record IsFieldReadBack {A : Type 0} (document : A → Option Doc) (reads : Context → Raw → A → Type 0) (missing : IfAbsent A) (fits : A → Type 0) : Type 0 where
+pub record IsFieldReadBack {A : Type 0} (document : A → Option Doc) (reads : Context → Raw → A → Type 0) (missing : IfAbsent A) (fits : A → Type 0) (determined : Type 0) : Type 0 where
   pub itself : (x : A) → fits x → (l : Lends) (p g : Bool) (names : List (List ℕ)) (i : ℕ) (rs : RawPairs)
       → Holds names p g i (document x) rs → IsFieldOr missing names i (reads (lending all_formats l)) rs x
   pub alone : (x y : A) → fits x → (l : Lends) (p g : Bool) (names : List (List ℕ)) (i : ℕ) (rs : RawPairs)
       → Holds names p g i (document x) rs → IsFieldOr missing names i (reads (lending all_formats l)) rs y
       → document y ≡ document x
+  pub single : determined → (c : Context) (names : List (List ℕ)) (i : ℕ) (rs : RawPairs) (x y : A)
+      → IsFieldOr missing names i (reads c) rs x → IsFieldOr missing names i (reads c) rs y → document x ≡ document y
+
+-- Where more is asked of its default, it is read back too.
+pub field_where_determined : {A : Type 0} {document : A → Option Doc} {reads : Context → Raw → A → Type 0} {missing : IfAbsent A} {fits : A → Type 0} {determined more : Type 0}
+    → (more → determined) → IsFieldReadBack document reads missing fits determined → IsFieldReadBack document reads missing fits more
+field_where_determined less law = record {
+  itself = law.itself;
+  alone = law.alone;
+  single = λ d. law.single (less d);
+}
+
+-- each default is of one document
+abbrev pub OneDefault : {A F : Type 0} → (A → Doc) → (F → A) → (F → Type 0) → Type 0
+OneDefault {F = F} document part default = (x y : F) → default x → default y → document (part x) ≡ document (part y)
 
 -- what the law asks of what may be absent
 abbrev pub FitsIfThere : {A : Type 0} → (A → Type 0) → Option A → Type 0
 FitsIfThere fits None = Unit {0}
 FitsIfThere fits (Some x) = fits x
 
-module _ {A : Type 0} {document : A → Doc} {reads : Context → Raw → A → Type 0} {fits : A → Type 0} (law : IsReadBack document reads fits) where
+module _ {A : Type 0} {document : A → Doc} {reads : Context → Raw → A → Type 0} {fits : A → Type 0} {determined : Type 0} (law : IsReadBack document reads fits determined) where
+  -- the item of a field has one document
+  one_read : determined → (c : Context) (names : List (List ℕ)) (i : ℕ) (rs : RawPairs) (x y : A)
+      → IsFieldRead names i (reads c) rs x → IsFieldRead names i (reads c) rs y → document x ≡ document y
+  one_read d c names i rs x y h k =
+      law.single d c k.0 x y (subst (λ (r : Raw). reads c r x) (one_item names i rs h.0 k.0 h.1 k.1) h.2) k.2
+
   -- an item that is read has the document of the one that was written
   one_document : (x y : A) → fits x → (l : Lends) (p g : Bool) (names : List (List ℕ)) (i : ℕ) (rs : RawPairs) (v : Raw)
       → Once names i rs (raw_of (document x) p g) → Once names i rs v → reads (lending all_formats l) v y
@@ -117,11 +139,12 @@ module _ {A : Type 0} {document : A → Doc} {reads : Context → Raw → A → 
       law.alone x y fit l p g (subst (λ (r : Raw). reads (lending all_formats l) r y) same read)
 
   -- a field that has to be there
-  pub required_back : IsFieldReadBack (λ x. Some (document x)) reads refused fits
+  pub required_back : IsFieldReadBack (λ x. Some (document x)) reads refused fits determined
   required_back = record {
     itself = λ x fit l p g names i rs h. (raw_of (document x) p g, h, law.itself x fit l p g);
     alone = λ x y fit l p g names i rs h read.
         ap (λ (d : Doc). Some d) (one_document x y fit l p g names i rs read.0 h read.1 read.2);
+    single = λ d c names i rs x y h k. ap (λ (e : Doc). Some e) (one_read d c names i rs x y h k);
   }
 
   module _ {F : Type 0} (part : F → A) (default : F → Type 0) where
@@ -132,11 +155,23 @@ module _ {A : Type 0} {document : A → Doc} {reads : Context → Raw → A → 
     default_alone x y fit l p g names i rs h (inl read) = one_document (part x) (part y) fit l p g names i rs read.0 h read.1 read.2
     default_alone x y fit l p g names i rs h (inr absent) = absurd (not_absent names i rs (raw_of (document (part x)) p g) h absent.0)
 
+    -- what is there, or the default
+    abbrev IsThereOr : Context → List (List ℕ) → ℕ → RawPairs → F → Type 0
+    IsThereOr c names i rs = IsFieldOr (taken default) names i (λ r z. reads c r (part z)) rs
+
+    default_one : determined × OneDefault document part default → (c : Context) (names : List (List ℕ)) (i : ℕ) (rs : RawPairs) (x y : F)
+        → IsThereOr c names i rs x → IsThereOr c names i rs y → document (part x) ≡ document (part y)
+    default_one d c names i rs x y (inl h) (inl k) = one_read d.0 c names i rs (part x) (part y) h k
+    default_one d c names i rs x y (inl h) (inr k) = absurd (not_absent names i rs h.0 h.1 k.0)
+    default_one d c names i rs x y (inr h) (inl k) = absurd (not_absent names i rs k.0 k.1 h.0)
+    default_one d c names i rs x y (inr h) (inr k) = d.1 x y h.1 k.1
+
     -- one that is always written, and a default where it isn't read
-    pub default_back : IsFieldReadBack (λ x. Some (document (part x))) (λ c r x. reads c r (part x)) (taken default) (λ x. fits (part x))
+    pub default_back : IsFieldReadBack (λ x. Some (document (part x))) (λ c r x. reads c r (part x)) (taken default) (λ x. fits (part x)) (determined × OneDefault document part default)
     default_back = record {
       itself = λ x fit l p g names i rs h. inl (raw_of (document (part x)) p g, h, law.itself (part x) fit l p g);
       alone = λ x y fit l p g names i rs h read. ap (λ (d : Doc). Some d) (default_alone x y fit l p g names i rs h read);
+      single = λ d c names i rs x y h k. ap (λ (e : Doc). Some e) (default_one d c names i rs x y h k);
     }
 
   module _ (l : Lends) (p g : Bool) (names : List (List ℕ)) (i : ℕ) (rs : RawPairs) where
@@ -159,38 +194,58 @@ module _ {A : Type 0} {document : A → Doc} {reads : Context → Raw → A → 
         ap (λ (d : Doc). Some d) (one_document x y fit l p g names i rs read.0 h read.1 read.2)
     optional_alone (Some x) (Some y) fit h (inr absent) = let none = absent.1 in absurd cc
 
+  module _ (d : determined) (c : Context) (names : List (List ℕ)) (i : ℕ) (rs : RawPairs) where
+    abbrev IsHere : Option A → Type 0
+    IsHere o = ((v : Raw) × Once names i rs v × IsGiven (reads c) v o) ⊎ (Absent names i rs × (o ≡ None))
+
+    optional_one : (o q : Option A) → IsHere o → IsHere q → document_if document o ≡ document_if document q
+    optional_one None None h k = refl
+    optional_one None (Some y) (inl h) k = absurd h.2
+    optional_one None (Some y) (inr h) (inl k) = absurd (not_absent names i rs k.0 k.1 h.0)
+    optional_one None (Some y) (inr h) (inr k) = let none = k.1 in absurd cc
+    optional_one (Some x) None h (inl k) = absurd k.2
+    optional_one (Some x) None (inl h) (inr k) = absurd (not_absent names i rs h.0 h.1 k.0)
+    optional_one (Some x) None (inr h) (inr k) = let none = h.1 in absurd cc
+    optional_one (Some x) (Some y) (inl h) (inl k) = ap (λ (e : Doc). Some e) (one_read d c names i rs x y h k)
+    optional_one (Some x) (Some y) (inr h) k = let none = h.1 in absurd cc
+    optional_one (Some x) (Some y) (inl h) (inr k) = let none = k.1 in absurd cc
+
   -- one that is left out where it is None
   pub optional_back : {F : Type 0} {part : F → Option A}
-      → IsFieldReadBack (λ x. document_if document (part x)) (λ c r x. IsGiven (reads c) r (part x)) (taken (λ x. part x ≡ None)) (λ x. FitsIfThere fits (part x))
+      → IsFieldReadBack (λ x. document_if document (part x)) (λ c r x. IsGiven (reads c) r (part x)) (taken (λ x. part x ≡ None)) (λ x. FitsIfThere fits (part x)) determined
   optional_back {part = part} = record {
     itself = λ x fit l p g names i rs h. optional_itself l p g names i rs (part x) fit h;
     alone = λ x y fit l p g names i rs h read. optional_alone l p g names i rs (part x) (part y) fit h read;
+    single = λ d c names i rs x y h k. optional_one d c names i rs (part x) (part y) h k;
   }
 
 -- ---- the fields of a tuple
 
 -- Where the fields from the i-th on hold these documents, they are read as those of the tuple.
-pub record AreFieldsReadBack {T S : Type 0} (view : T → S) (documents : T → List (Option Doc)) (fields : Context → List (FieldOf S)) (fits : T → Type 0) : Type 0 where
+pub record AreFieldsReadBack {T S : Type 0} (view : T → S) (documents : T → List (Option Doc)) (fields : Context → List (FieldOf S)) (fits : T → Type 0) (determined : Type 0) : Type 0 where
   pub itself : (t : T) → fits t → (l : Lends) (p g : Bool) (names : List (List ℕ)) (i : ℕ) (rs : RawPairs)
       → Hold names p g i (documents t) rs → HasFields names i (fields (lending all_formats l)) rs (view t)
   pub alone : (t u : T) → fits t → (l : Lends) (p g : Bool) (names : List (List ℕ)) (i : ℕ) (rs : RawPairs)
       → Hold names p g i (documents t) rs → HasFields names i (fields (lending all_formats l)) rs (view u)
       → documents u ≡ documents t
+  pub single : determined → (c : Context) (names : List (List ℕ)) (i : ℕ) (rs : RawPairs) (t u : T)
+      → HasFields names i (fields c) rs (view t) → HasFields names i (fields c) rs (view u) → documents t ≡ documents u
 
-module _ {A T S : Type 0} {view : T → S} {of : S → A} {document : A → Option Doc} {reads : Context → Raw → A → Type 0} {missing : IfAbsent A} {fits : A → Type 0} (law : IsFieldReadBack document reads missing fits) where
+module _ {A T S : Type 0} {view : T → S} {of : S → A} {document : A → Option Doc} {reads : Context → Raw → A → Type 0} {missing : IfAbsent A} {fits : A → Type 0} {determined : Type 0} (law : IsFieldReadBack document reads missing fits determined) where
   pub last_field_back : AreFieldsReadBack view (λ t. document (of (view t)) ∷ [])
-      (λ c. field_or (reads c) missing of ∷ []) (λ t. fits (of (view t)))
+      (λ c. field_or (reads c) missing of ∷ []) (λ t. fits (of (view t))) determined
   last_field_back = record {
     itself = λ t fit l p g names i rs h. (law.itself (of (view t)) fit l p g names i rs h.0, tt);
     alone = λ t u fit l p g names i rs h read.
         ap (λ (o : Option Doc). o ∷ []) (law.alone (of (view t)) (of (view u)) fit l p g names i rs h.0 read.0);
+    single = λ d c names i rs t u h k. ap (λ (o : Option Doc). o ∷ []) (law.single d c names i rs (of (view t)) (of (view u)) h.0 k.0);
   }
 
-  pub field_back : {documents : T → List (Option Doc)} {others : Context → List (FieldOf S)} {others_fit : T → Type 0}
-      → AreFieldsReadBack view documents others others_fit
+  pub field_back : {documents : T → List (Option Doc)} {others : Context → List (FieldOf S)} {others_fit : T → Type 0} {others_determined : Type 0}
+      → AreFieldsReadBack view documents others others_fit others_determined
       → AreFieldsReadBack view (λ t. document (of (view t)) ∷ documents t)
       (λ c. field_or (reads c) missing of ∷ others c)
-      (λ t. fits (of (view t)) × others_fit t)
+      (λ t. fits (of (view t)) × others_fit t) (determined × others_determined)
   field_back rest = record {
     itself = λ t fit l p g names i rs h. (
       law.itself (of (view t)) fit.0 l p g names i rs h.0,
@@ -199,14 +254,17 @@ module _ {A T S : Type 0} {view : T → S} {of : S → A} {document : A → Opti
     alone = λ t u fit l p g names i rs h read.
         ap₂ (λ (o : Option Doc) (os : List (Option Doc)). o ∷ os) (law.alone (of (view t)) (of (view u)) fit.0 l p g names i rs h.0 read.0)
         (rest.alone t u fit.1 l p g names (suc i) rs h.1 read.1);
+    single = λ d c names i rs t u h k.
+        ap₂ (λ (o : Option Doc) (os : List (Option Doc)). o ∷ os) (law.single d.0 c names i rs (of (view t)) (of (view u)) h.0 k.0)
+        (rest.single d.1 c names (suc i) rs t u h.1 k.1);
   }
 
-pub struct_back : {T S : Type 0} {n : ℕ} {view : T → S} {documents : T → List (Option Doc)} {fields : Context → List (FieldOf S)} {fits : T → Type 0}
-    → AreFieldsReadBack view documents fields fits → ((t : T) → length (documents t) ≡ n)
+pub struct_back : {T S : Type 0} {n : ℕ} {view : T → S} {documents : T → List (Option Doc)} {fields : Context → List (FieldOf S)} {fits : T → Type 0} {determined : Type 0}
+    → AreFieldsReadBack view documents fields fits determined → ((t : T) → length (documents t) ≡ n)
     → (names : List (List ℕ)) → length names ≡ n → are_distinct names ≡ true
-    → IsReadBack (λ t. structure (fields_from names 0 (documents t))) (λ c r t. IsStruct names (fields c) r (view t)) fits
+    → IsReadBack (λ t. structure (fields_from names 0 (documents t))) (λ c r t. IsStruct names (fields c) r (view t)) fits determined
 unfolding raw_of
-struct_back {T = T} {documents = documents} law counted names as_many distinct =
+struct_back {T = T} {view = view} {documents = documents} {fields = fields} law counted names as_many distinct =
     let within : (t : T) → 0 + length (documents t) ≤ length names = λ t. let c = counted t in omega (arith, c, as_many) in
     record {
       itself = λ t fit l p g. record {
@@ -215,4 +273,8 @@ struct_back {T = T} {documents = documents} law counted names as_many distinct =
       };
       alone = λ t u fit l p g h. ap (λ (os : List (Option Doc)). structure (fields_from names 0 os))
           (law.alone t u fit l p g names 0 _ (all_hold names distinct p g 0 (documents t) (within t)) h.read);
+      single = λ d c r t u h k.
+          let of_map = in_map (AreFieldsOf names (fields c)) (untagged r) (view t) (view u) h k in
+          ap (λ (os : List (Option Doc)). structure (fields_from names 0 os))
+          (law.single d c names 0 of_map.0 t u of_map.1.read of_map.2.read);
     }

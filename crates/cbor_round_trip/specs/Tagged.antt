@@ -1,8 +1,9 @@
 -- What is read back is so within a tag, and without one unless it has a tag of its own.
-use Rattle.std.proofs.Common.{◌≡◌, ℕ, Bool, true, false, pos, negsuc, Option, Some, None, refl, ap, ap₂}
+use Rattle.std.proofs.Common.{◌≡◌, ℕ, Bool, true, false, pos, negsuc, Option, Some, None, refl, sym, ap, ap₂, ◌∙◌}
 use Rattle.std.specs.Prelude.{◌↔◌}
 use Rattle.cbor_model.specs.Document.{Doc, null, bool, integer, float, bytes, text, sequence, mapping, structure, unit_variant, newtype_variant, tuple_variant, struct_variant, tagged, raw_of}
 use Rattle.cbor_model.specs.Formats.{all_formats}
+use Rattle.cbor_model.specs.Raw as raw
 use Rattle.cbor_model.specs.Raw.{Raw}
 use Rattle.cbor_model.specs.Readable.{Context}
 use Rattle.cbor_read.specs.Source.{Lends}
@@ -45,7 +46,31 @@ module _ {A : Type 0} (reads : Raw → A → Type 0) (tag : Option ℕ) (x : A) 
   no_tag (struct_variant i n fs) p true h = ((λ is. is), (λ is. is))
   no_tag (tagged n d) p g h = absurd h
 
-module _ {A : Type 0} {document : A → Doc} {reads : Context → Raw → A → Type 0} {fits : A → Type 0} (law : IsReadBack document reads fits) where
+-- the outermost tag of an item, if it has one, and the item within it
+abbrev outermost : Raw → Option ℕ
+outermost (raw.tag w n r) = Some n
+outermost _ = None
+
+abbrev within_tag : Raw → Raw
+within_tag (raw.tag w n r) = r
+within_tag r = r
+
+-- what is read with a tag is told by these
+by_tag : {A : Type 0} (reads : Raw → A → Type 0) (r : Raw) (tag : Option ℕ) (x : A) → IsTagged reads r tag x
+    → (tag ≡ outermost r) × reads (within_tag r) x
+by_tag reads (raw.unsigned w n) tag x h = h
+by_tag reads (raw.negative w n) tag x h = h
+by_tag reads (raw.bytes c) tag x h = h
+by_tag reads (raw.text c) tag x h = h
+by_tag reads (raw.bytes_chunks cs) tag x h = h
+by_tag reads (raw.text_chunks cs) tag x h = h
+by_tag reads (raw.array l rs) tag x h = h
+by_tag reads (raw.map l ps) tag x h = h
+by_tag reads (raw.tag w n r) tag x h = h
+by_tag reads (raw.simple s) tag x h = h
+by_tag reads (raw.float w bits) tag x h = h
+
+module _ {A : Type 0} {document : A → Doc} {reads : Context → Raw → A → Type 0} {fits : A → Type 0} {determined : Type 0} (law : IsReadBack document reads fits determined) where
   tagged_itself : (tag : Option ℕ) (x : A) → IsToldApart tag (document x) → fits x → (l : Lends) (p g : Bool)
       → IsTagged (reads (lending all_formats l)) (raw_of (tagged_document tag (document x)) p g) tag x
   unfolding raw_of
@@ -62,21 +87,31 @@ module _ {A : Type 0} {document : A → Doc} {reads : Context → Raw → A → 
       let is = (no_tag (reads (lending all_formats l)) other y (document x) p g apart).0 h in
       ap₂ tagged_document is.0 (law.alone x y fit l p g is.1)
 
+  tagged_one : determined → (c : Context) (r : Raw) (tag other : Option ℕ) (x y : A)
+      → IsTagged (reads c) r tag x → IsTagged (reads c) r other y
+      → tagged_document tag (document x) ≡ tagged_document other (document y)
+  tagged_one d c r tag other x y h k =
+      let both = (by_tag (reads c) r tag x h) in
+      let same = (by_tag (reads c) r other y k) in
+      ap₂ tagged_document (both.0 ∙ sym same.0) (law.single d c (within_tag r) x y both.1 same.1)
+
   pub tagged_back : {T : Type 0} {tag : T → Option ℕ} {inner : T → A}
       → IsReadBack (λ t. tagged_document (tag t) (document (inner t)))
       (λ c r t. IsTagged (reads c) r (tag t) (inner t))
-      (λ t. IsToldApart (tag t) (document (inner t)) × fits (inner t))
+      (λ t. IsToldApart (tag t) (document (inner t)) × fits (inner t)) determined
   tagged_back {tag = tag} {inner = inner} = record {
     itself = λ t fit l p g. tagged_itself (tag t) (inner t) fit.0 fit.1 l p g;
     alone = λ t u fit l p g h. tagged_alone (tag t) (tag u) (inner t) (inner u) fit.0 fit.1 l p g h;
+    single = λ d c r t u h k. tagged_one d c r (tag t) (tag u) (inner t) (inner u) h k;
   }
 
   -- within the one tag that has to be there
   pub required_back : {T : Type 0} {n : ℕ} {inner : T → A}
       → IsReadBack (λ t. tagged n (document (inner t)))
-      (λ c r t. IsTagged (reads c) r (Some n) (inner t)) (λ t. fits (inner t))
+      (λ c r t. IsTagged (reads c) r (Some n) (inner t)) (λ t. fits (inner t)) determined
   unfolding raw_of
   required_back {n = n} {inner = inner} = record {
     itself = λ t fit l p g. (refl, law.itself (inner t) fit l p g);
     alone = λ t u fit l p g h. ap (tagged n) (law.alone (inner t) (inner u) fit l p g h.1);
+    single = λ d c r t u h k. tagged_one d c r (Some n) (Some n) (inner t) (inner u) h k;
   }

@@ -12,8 +12,9 @@ item_value : (v : Val) → IsOrdered v → (p g : Bool) → value (raw_of (docum
 item_value v ordered p g = ap value (document_item v p g) ∙ canonical_reads_back v ordered
 
 pub value_back : {A : Type 0} (view : A → Val)
-    → IsReadBack (λ x. document_of (view x)) (λ c r x. view x ≡ value r) (λ x. IsOrdered (view x))
+    → IsReadBack (λ x. document_of (view x)) (λ c r x. view x ≡ value r) (λ x. IsOrdered (view x)) (Unit {0})
 value_back view = record {
   itself = λ x fit l p g. sym (item_value (view x) fit p g);
   alone = λ x y fit l p g h. ap document_of (h ∙ item_value (view x) fit p g);
+  single = λ d c r x y h k. ap document_of (h ∙ sym k);
 }

@@ -5,6 +5,7 @@ ghost use Rattle.cbor_model.specs.Canonical.{IsOrdered};
 ghost use Rattle.cbor_value.specs.View.{view};
 
 use crate::round_trip::RoundTrip;
+use cbor_convert::{Encoded, Required};
 use cbor_value::bytes::ByteBuf;
 use cbor_value::{Float, Value};
 
@@ -48,6 +49,25 @@ pub fn strings_fit(a: &String, b: &ByteBuf)
 /// A value is, whose maps list their keys in order, as all calls of `Map` leave them.
 pub fn ordered_values_fit(value: &Value)
     ensures { IsOrdered (view value.now) → ⟦<Value as RoundTrip>⟧.law.fits value.now }
+{}
+
+/// Every encoding within its tag is.
+pub fn encodings_fit<T>(a: &Encoded<T>)
+    ensures of_encoded { ⟦<Encoded<T> as RoundTrip>⟧.law.fits a.now }
+{}
+
+/// A value within a tag that it has to have is where it is by itself.
+pub fn required_fit<T: RoundTrip, const N: u64>(a: &Required<N, T>)
+    ensures of_required { T.law.fits a.now.0 → ⟦<Required<N, T> as RoundTrip>⟧.law.fits a.now }
+{}
+
+/// A tuple is whose parts are.
+pub fn tuples_fit<A: RoundTrip, B: RoundTrip, C: RoundTrip>(a: &(A,), b: &(A, B), c: &(A, B, C))
+    ensures of_one { A.law.fits a.now.0 → ⟦<(A,) as RoundTrip>⟧.law.fits a.now }
+    ensures of_two { A.law.fits b.now.0 → B.law.fits b.now.1
+        → ⟦<(A, B) as RoundTrip>⟧.law.fits b.now }
+    ensures of_three { A.law.fits c.now.0 → B.law.fits c.now.1 → C.law.fits c.now.2
+        → ⟦<(A, B, C) as RoundTrip>⟧.law.fits c.now }
 {}
 
 /// A vector and an array are whose items are.

@@ -9,7 +9,7 @@ ghost use Rattle.cbor_io.specs.Error.{IsOutOfMemory};
 ghost use Rattle.cbor_ser.specs.Written.{SaysUnstorable};
 ghost use Rattle.cbor_decode.specs.FirstRefusal.{TellsFirst};
 ghost use Rattle.cbor_decode_as.specs.Takes.{WhereTotal};
-ghost use Rattle.cbor_round_trip.specs.ReadBack.{IsWrittenReadBack};
+ghost use Rattle.cbor_round_trip.specs.ReadBack.{IsWrittenReadBack, ReadsOneValue};
 
 use crate::round_trip::RoundTrip;
 use cbor_de::{Deserialize, from_vec};
@@ -26,6 +26,15 @@ use std::alloc::Global;
 /// `in_range`), and gets what the clauses `found` and `accepted` of the four `from_*` are about.
 pub fn written_reads_back_as<T: RoundTrip>()
     ensures { IsWrittenReadBack T.document T.reads T.law.fits }
+{}
+
+/// A type reads an input as one value: two values that it is read as, from sources that lend this or
+/// that, are written alike, under each setting of the writer.
+///
+/// A caller gives it the clauses `found` of two of the `from_*`. Of a struct with a field that has a
+/// default it asks that the default is one value (`law.determined`, which else is `tt` for each part).
+pub fn one_value<T: RoundTrip>()
+    ensures { ReadsOneValue T.document T.reads T.law.determined }
 {}
 
 /// Writes a value, and reads it from its bytes again: a value of the same document, if the value

@@ -18,9 +18,10 @@ mod tuples;
 mod types;
 
 pub use fits::{
-    integers_fit, items_fit, naturals_fit, ordered_values_fit, scalars_fit, strings_fit,
+    encodings_fit, integers_fit, items_fit, naturals_fit, ordered_values_fit, required_fit,
+    scalars_fit, strings_fit, tuples_fit,
 };
-pub use laws::{write_and_read, written_reads_back_as};
+pub use laws::{one_value, write_and_read, written_reads_back_as};
 pub use parts::{
     FieldRoundTrip, FieldsRoundTrip, PartsRoundTrip, TupleRoundTrip, VariantRoundTrip,
 };

@@ -11,11 +11,11 @@ use cbor_ser::{FieldDocument, FieldsDocument, PartsDocument, TupleDocuments, Var
 pub trait PartsRoundTrip: PartsDocument + ReadableParts {
     ghost use Rattle.cbor_round_trip.specs.TypeLaws.{ByNames, PartsLaw};
 
-    // The law as a value, with what it asks of a value (`fits`).
+    // The law as a value, with what it asks of a value (`fits`), and of defaults (`determined`).
     ghost law: { PartsLaw Self };
 
     // By such names the parts are read back.
-    ghost back: { ByNames law.count Self.document Self.reads law.fits };
+    ghost back: { ByNames law.count Self.document Self.reads law.fits law.determined };
 }
 
 /// A field of a struct that is read back: what is `RoundTrip`, or [`Optional`] or [`OrDefault`] of
@@ -24,11 +24,12 @@ pub trait FieldRoundTrip: FieldDocument + FieldType {
     ghost use Rattle.cbor_round_trip.specs.StructFields.{IsFieldReadBack};
     ghost use Rattle.cbor_round_trip.specs.TypeLaws.{FieldLaw};
 
-    // The law as a value, with what it asks of a value (`fits`).
+    // The law as a value, with what it asks of a value (`fits`), and of defaults (`determined`).
     ghost law: { FieldLaw Self };
 
     // It is read back where it is written, and is as it was where it is left out.
-    ghost read_back: { IsFieldReadBack Self.document Self.reads Self.missing law.fits };
+    ghost read_back: { IsFieldReadBack Self.document Self.reads Self.missing law.fits
+        law.determined };
 }
 
 impl<T: RoundTrip + Drop> FieldRoundTrip for T {
@@ -50,13 +51,16 @@ impl<T: RoundTrip + Drop> FieldRoundTrip for Optional<T> {
 }
 
 impl<T: RoundTrip + Default + Drop> FieldRoundTrip for OrDefault<T> {
-    ghost use Rattle.cbor_round_trip.specs.StructFields.{default_back};
-    ghost use Rattle.cbor_round_trip.specs.TypeLaws.{field_law};
+    ghost use Rattle.cbor_round_trip.specs.StructFields.{OneDefault, default_back};
+    ghost use Rattle.cbor_round_trip.specs.StructFields.{field_where_determined};
+    ghost use Rattle.cbor_round_trip.specs.TypeLaws.{field_law_asking};
 
-    ghost law = { field_law (default_back T.law.back (λ o. o.0)
-        (λ o. T.is_default o.0)) };
+    ghost law = { field_law_asking
+        (OneDefault {F = Self} T.document (λ o. o.0) (λ o. T.is_default o.0))
+        (default_back T.law.back (λ o. o.0) (λ o. T.is_default o.0)) };
 
-    ghost read_back = { default_back T.back (λ o. o.0) (λ o. T.is_default o.0) };
+    ghost read_back = { field_where_determined (λ d. (d.0.0, d.1))
+        (default_back T.back (λ o. o.0) (λ o. T.is_default o.0)) };
 }
 
 /// The fields of a struct: a tuple of what is read back.
@@ -64,12 +68,12 @@ pub trait FieldsRoundTrip: FieldsDocument + ReadableParts {
     ghost use Rattle.cbor_model.specs.Document.{structure};
     ghost use Rattle.cbor_round_trip.specs.TypeLaws.{ByNames, FieldsLaw};
 
-    // The law as a value, with what it asks of a value (`fits`).
+    // The law as a value, with what it asks of a value (`fits`), and of defaults (`determined`).
     ghost law: { FieldsLaw Self };
 
     // By such names the parts are read back.
     ghost back: { ByNames law.count (λ names t. structure (Self.fields names t)) Self.reads
-        law.fits };
+        law.fits law.determined };
 }
 
 impl<F: FieldsRoundTrip> PartsRoundTrip for F {
@@ -94,11 +98,12 @@ pub trait TupleRoundTrip: TupleDocuments + ReadableTuple {
     ghost use Rattle.cbor_round_trip.specs.TypeLaws.{TupleLaw};
     ghost use Rattle.cbor_round_trip.specs.Lists.{ArePartsReadBack};
 
-    // The law as a value, with what it asks of a value (`fits`).
+    // The law as a value, with what it asks of a value (`fits`), and of defaults (`determined`).
     ghost law: { TupleLaw Self };
 
     // They are read back as the items of an array.
-    ghost back: { ArePartsReadBack Self.documents (λ c t rs. Self.parts c rs t) law.fits };
+    ghost back: { ArePartsReadBack Self.documents (λ c t rs. Self.parts c rs t) law.fits
+        law.determined };
 }
 
 /// A variant that is read back, in whatever place it is.
@@ -106,11 +111,11 @@ pub trait VariantRoundTrip: VariantDocument + Variant {
     ghost use Rattle.cbor_round_trip.specs.TypeLaws.{VariantLaw};
     ghost use Rattle.cbor_round_trip.specs.Variants.{IsVariantReadBack};
 
-    // The law as a value, with what it asks of a value (`fits`).
+    // The law as a value, with what it asks of a value (`fits`), and of defaults (`determined`).
     ghost law: { VariantLaw Self };
 
     // It is read back by whatever number and name.
-    ghost back: { IsVariantReadBack Self.document Self.means law.fits };
+    ghost back: { IsVariantReadBack Self.document Self.means law.fits law.determined };
 }
 
 impl VariantRoundTrip for () {

@@ -17,6 +17,10 @@ use cbor_ser::Serialize;
 /// - `Tagged`: a value within no tag has none of its own;
 /// - `Value`: the maps list their keys in order, as all calls of `Map` leave them.
 ///
+/// And each item is read as one value at the most, that is as values of one document (`single`; the
+/// law [`one_value`](crate::one_value)). Of a struct with a field that has a default (`OrDefault`)
+/// this asks that the default is one value (`law.determined`).
+///
 /// Floats come back as their numbers, and a NaN as a NaN. A type without a law of its own is a
 /// `&str` or another that borrows.
 ///
@@ -75,11 +79,11 @@ pub trait RoundTrip: Serialize + DeserializeOwned {
     ghost use Rattle.cbor_round_trip.specs.TypeLaws.{Law};
     ghost use Rattle.cbor_round_trip.specs.ReadBack.{IsReadBack};
 
-    // The law as a value, with what it asks of a value (`fits`).
+    // The law as a value, with what it asks of a value (`fits`), and of defaults (`determined`).
     ghost law: { Law Self };
 
-    // Each value that fits is read back.
-    ghost back: { IsReadBack Self.document Self.reads law.fits };
+    // Each value that fits is read back; and each item is read as one value.
+    ghost back: { IsReadBack Self.document Self.reads law.fits law.determined };
 }
 
 /// A type that may be the key of a map that is read back: one value is below another exactly where

@@ -252,13 +252,15 @@ impl<T: RoundTrip, const N: usize> RoundTrip for [T; N] {
 /// Each map whose keys are written so that their order is told.
 impl<K: RoundTripKey, V: RoundTrip> RoundTrip for BTreeMap<K, V> {
     ghost use Rattle.cbor_round_trip.specs.Keyed.{AreFit, map_back};
-    ghost use Rattle.cbor_round_trip.specs.ReadBack.{asking_more};
-    ghost use Rattle.cbor_round_trip.specs.TypeLaws.{law_asking};
+    ghost use Rattle.cbor_round_trip.specs.ReadBack.{asking_more, where_determined};
+    ghost use Rattle.cbor_round_trip.specs.TypeLaws.{law_asking_both};
 
-    ghost law = { law_asking (λ m. AreFit K.cmp K.law.fits V.law.fits m.entries)
+    ghost law = { law_asking_both (λ m. AreFit K.cmp K.law.fits V.law.fits m.entries)
+        K.law.determined
         (map_back K.key.total K.key.told K.key.back V.law.back {entries = λ m. m.entries}) };
 
-    ghost back = { asking_more (λ m fit. fit.1) (map_back K.Ord.total K.told K.back V.back) };
+    ghost back = { where_determined (λ d. (d.1, d.0.1))
+        (asking_more (λ m fit. fit.1) (map_back K.Ord.total K.told K.back V.back)) };
 }
 
 /// A value within a tag; and without one, a value that has none of its own, as a `Tagged` within
