@@ -6,36 +6,11 @@ ghost use Rattle.cbor_value.specs.declared.Float.{Float};
 ghost use Rattle.cbor_value.specs.declared.Float.TheVariants.{Half};
 ghost use Rattle.cbor_value.specs.Floats.{number_of};
 ghost use Rattle.cbor_value.specs.View.{float_view};
-ghost use Rattle.cbor_forms.specs.Shortest.{half_of, shortest, width};
+ghost use Rattle.cbor_forms.specs.Shortest.{shortest, width};
 
+use cbor_halves::half_of;
 use cbor_value::Float;
 use std::num::{f32_to_bits_with_nan, f64_to_bits_with_nan};
-
-// The bits of 16 that are the number of these of 32; those of a NaN are 7e00.
-fn half_of(bits: u32) -> Option<u16>
-    ensures { result ≡ half_of bits }
-{
-    let sign = if 0x8000_0000 <= bits { 0x8000u16 } else { 0 };
-    let exponent = bits / 0x80_0000 % 256;
-    let fraction = bits % 0x80_0000;
-    if exponent == 255 {
-        return Some(if fraction == 0 { sign + 0x7c00 } else { 0x7e00 });
-    }
-    if exponent == 0 && fraction == 0 {
-        return Some(sign);
-    }
-    if 113 <= exponent && exponent <= 142 && fraction % 0x2000 == 0 {
-        return Some(sign + (exponent - 112) as u16 * 1024 + (fraction / 0x2000) as u16);
-    }
-    if 103 <= exponent && exponent <= 112 {
-        let digits = 0x80_0000 + fraction;
-        let unit = 1u32 << (126 - exponent);
-        if digits % unit == 0 {
-            return Some(sign + (digits / unit % 1024) as u16);
-        }
-    }
-    None
-}
 
 // The shortest float of a number that 32 bits hold.
 fn half_or_single(x: f32) -> Float

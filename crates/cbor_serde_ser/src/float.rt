@@ -1,9 +1,10 @@
 //! The widths in which a float is written.
 
-ghost use Rattle.std.specs.Prelude.{◌≡◌, ◌<◌, ◌^◌, if◌then◌else◌};
-ghost use Rattle.cbor_serde_ser.specs.Floats.{half_of, single_bytes, double_bytes};
+ghost use Rattle.std.specs.Prelude.{◌≡◌};
+ghost use Rattle.cbor_serde_ser.specs.Floats.{single_bytes, double_bytes};
 ghost use Rattle.cbor_serde_ser.specs.Encoded.{encoded_bytes};
 
+use cbor_halves::half_of;
 use std::num::{
     f32_to_bits_with_nan, f32_to_f64_with_nan, f64_to_bits_with_nan, nearest_f64_to_f32_with_nan,
 };
@@ -14,32 +15,6 @@ pub(crate) enum Encoded {
     Half(u16),
     Single(u32),
     Double(u64),
-}
-
-// The bits of a half that is the number of these bits of a single; that of a NaN is 7e00.
-fn half_of(bits: u32) -> Option<u16>
-    ensures { result ≡ half_of bits }
-{
-    let sign = if 0x8000_0000 <= bits { 0x8000u16 } else { 0 };
-    let exponent = bits / 0x80_0000 % 256;
-    let fraction = bits % 0x80_0000;
-    if exponent == 255 {
-        return Some(if fraction == 0 { sign + 0x7c00 } else { 0x7e00 });
-    }
-    if exponent == 0 && fraction == 0 {
-        return Some(sign);
-    }
-    if 113 <= exponent && exponent <= 142 && fraction % 0x2000 == 0 {
-        return Some(sign + (exponent - 112) as u16 * 1024 + (fraction / 0x2000) as u16);
-    }
-    if 103 <= exponent && exponent <= 112 {
-        let digits = 0x80_0000 + fraction;
-        let unit = 1u32 << (126 - exponent);
-        if digits % unit == 0 {
-            return Some(sign + (digits / unit % 1024) as u16);
-        }
-    }
-    None
 }
 
 /// A number of 32 bits, in its own width or, where that is asked for, in the shortest.
