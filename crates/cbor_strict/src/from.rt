@@ -1,6 +1,6 @@
 //! Reading a whole input that is encoded canonically.
 
-ghost use Rattle.std.specs.Prelude.{◌≡◌, ◌⊎◌, IfErr, IfOk, MatchResult, take};
+ghost use Rattle.std.specs.Prelude.{◌≡◌, ◌⊎◌, IfErr, IfOk, MatchResult, None, take};
 ghost use Rattle.cbor_model.specs.Formats.{all_formats};
 ghost use Rattle.cbor_model.specs.Laws.{SpellsValue};
 ghost use Rattle.cbor_model.specs.Plain.{Val};
@@ -9,7 +9,7 @@ ghost use Rattle.cbor_value.specs.View.{view};
 ghost use Rattle.cbor_io.specs.Error.{code_of, offset_of, IsOutOfMemory};
 ghost use Rattle.cbor_io.specs.declared.error.ErrorCode.TheVariants.{NotCanonical};
 ghost use Rattle.cbor_decode_as.specs.Takes.{WhereTotal};
-ghost use Rattle.cbor_de.specs.Whole.{from_slice_context};
+ghost use Rattle.cbor_de.specs.Whole.{RefusesUnread, from_slice_asks, from_slice_context};
 ghost use Rattle.cbor_strict.specs.Strict.{SpellsCanonically, SpellsCanonicallyAs};
 ghost use Rattle.cbor_strict.specs.StrictAnswers.{PassesNoDeparture, TellsFirstStrictly};
 ghost use Rattle.cbor_strict.specs.StrictAnswers.{TellsItsDeparture, DepartureOrForm};
@@ -93,6 +93,14 @@ pub fn from_slice_canonical_as<'a, T: Deserialize<'a, SliceRead<'a>>>(
     // A refusal of it is the first that the bytes allow, or memory ran out.
     ensures refused { IfErr result (λ e. WhereTotal T.total
         (IsOutOfMemory e ⊎ TellsFirstStrictly slice.now e)) }
+    // A type that passes over an item that it doesn't read refuses as `from_slice` does, unless it
+    // tells a departure.
+    ensures fault { IfErr result (λ e. WhereTotal T.passes_over ((code_of e ≡ NotCanonical)
+        ⊎ IsOutOfMemory e ⊎ RefusesUnread (T.reads from_slice_context) None slice.now e)) }
+    // Memory runs out only for an item for which the type may ask for it.
+    ensures memory { (x : T)
+        → (spelt : SpellsAs all_formats (T.reads from_slice_context) slice.now x)
+        → IfErr result (λ e. IsOutOfMemory e → T.asks_memory from_slice_asks spelt.item) }
     // Of any type: no departure stands before what is told.
     ensures earliest { IfErr result (PassesNoDeparture slice.now) }
     // Another wrong form is told by a code, and at a place, that the type may tell it by and at.

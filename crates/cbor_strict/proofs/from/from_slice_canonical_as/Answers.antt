@@ -132,3 +132,31 @@ returns-in-Some-first_departure-clause-form g c = inl c.not_canonical-in-Some-fi
 
 pub returns-in-None-first_departure-clause-form : goal.returns-in-None-first_departure-clause-form
 returns-in-None-first_departure-clause-form g c = inr c.in-Err.ensures.form
+
+-- ---- what isn't read
+
+pub returns-in-Some-clause-fault : goal.returns-in-Some-clause-fault
+returns-in-Some-clause-fault g c = where_any g.T.Readable.passes_over (inl c.not_canonical.ensures.code)
+
+pub returns-in-Some-first_departure-clause-fault : goal.returns-in-Some-first_departure-clause-fault
+returns-in-Some-first_departure-clause-fault g c =
+    where_any g.T.Readable.passes_over (inl c.not_canonical-in-Some-first_departure.ensures.code)
+
+pub returns-in-None-first_departure-clause-fault : goal.returns-in-None-first_departure-clause-fault
+returns-in-None-first_departure-clause-fault g c =
+    where_map g.T.Readable.passes_over (λ h. inr h) c.in-Err.ensures.fault
+
+-- ---- memory
+
+pub returns-in-Some-clause-memory : goal.returns-in-Some-clause-memory
+returns-in-Some-clause-memory g c = λ x spelt memory.
+    let clash = sym c.not_canonical.ensures.code ∙ memory.0 in
+    absurd cc
+
+pub returns-in-Some-first_departure-clause-memory : goal.returns-in-Some-first_departure-clause-memory
+returns-in-Some-first_departure-clause-memory g c = λ x spelt memory.
+    let clash = sym c.not_canonical-in-Some-first_departure.ensures.code ∙ memory.0 in
+    absurd cc
+
+pub returns-in-None-first_departure-clause-memory : goal.returns-in-None-first_departure-clause-memory
+returns-in-None-first_departure-clause-memory g c = λ x spelt memory. c.in-Err.ensures.memory x spelt
