@@ -1,6 +1,6 @@
 //! An array, put together item by item.
 
-ghost use Rattle.std.specs.Prelude.{IfErr, MatchResult};
+ghost use Rattle.std.specs.Prelude.{IfErr, IsOk, MatchResult};
 ghost use Rattle.cbor_model.specs.Document.{Docs, no_docs, sequence, declared, IsStorableDocument};
 ghost use Rattle.cbor_ser.specs.Written.{IsNotWritten};
 ghost use Rattle.cbor_convert.specs.Builders.{HoldsItems, push_doc};
@@ -61,9 +61,10 @@ impl SerializeVec {
         self.serialize_element(part)
     }
 
-    /// The array of these items.
+    /// The array of these items. It takes no memory, and is never refused.
     pub fn end(self) -> Result<Value>
-        ensures { (ds : Docs) → HoldsItems ds self → Makes (sequence declared ds) result }
+        ensures array { (ds : Docs) → HoldsItems ds self → Makes (sequence declared ds) result }
+        ensures made { IsOk result }
     {
         let SerializeVec { alloc: _, items } = self;
         Ok(Value::Array(items))

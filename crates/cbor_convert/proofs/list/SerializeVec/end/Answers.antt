@@ -6,5 +6,5 @@ use Rattle.cbor_convert.proofs.Made.{is_made}
 use Rattle.cbor_convert.proofs.Meanings.{value_sequence}
 use Rattle.cbor_convert.proofs.list.SerializeVec.end.Goals as goal
 
-pub returns : goal.returns
-returns c = λ ds h. is_made (view_array c.args.self.items ∙ ap array h.values ∙ sym (value_sequence declared ds)) h.storable
+pub returns-clause-array : goal.returns-clause-array
+returns-clause-array c = λ ds h. is_made (view_array c.args.self.items ∙ ap array h.values ∙ sym (value_sequence declared ds)) h.storable

@@ -5,4 +5,4 @@ use Rattle.cbor_convert.proofs.Named.{named_tuple}
 use Rattle.cbor_convert.proofs.variants.SerializeTupleVariant.end.Goals as goal
 
 pub returns : goal.returns
-returns c = λ i n ds h. subst (λ (m : List ℕ). Makes (tuple_variant i m ds) c.named.result) h.name (named_tuple i c.args.self.variant.now ds (c.in_ok-content.ensures ds h.parts) c.named.ensures.made c.named.ensures.memory)
+returns c = λ i n ds h. subst (λ (m : List ℕ). Makes (tuple_variant i m ds) c.named.result) h.name (named_tuple i c.args.self.variant.now ds (c.in_ok-content.ensures.array ds h.parts) c.named.ensures.made c.named.ensures.memory)
