@@ -1,0 +1,52 @@
+-- What a walk over all of an item's bytes tells.
+use Rattle.std.proofs.Common.{◌≡◌, ℕ, suc, ◌+◌, ◌-◌, List, [], ◌++◌, length, Option, Some, None, refl, ap, ap₂, subst, ◌∙◌, arith}
+use Rattle.std.proofs.lemmas.List.{append-nil}
+use Rattle.cbor_model.specs.Raw.{Raw, IsWellFormed, depth}
+use Rattle.cbor_model.specs.Spelling.{spell}
+use Rattle.cbor_rules.specs.Rules.{departure_in, first_departure}
+use Rattle.cbor_rules.specs.Features.{features}
+use Rattle.cbor_rules.specs.Walk as model
+use Rattle.cbor_rules.specs.Walk.{passed, departed, stopped}
+use Rattle.cbor_rules.specs.Walks.{walk_view, Walks}
+use Rattle.cbor_rules.specs.declared.settings.Rules.{Rules}
+use Rattle.cbor_rules.specs.declared.settings.Rule.{Rule}
+use Rattle.cbor_rules.specs.declared.settings.Rule.TheVariants.{ShortestHeads}
+use Rattle.cbor_rules.specs.declared.answers.Departure.{Departure}
+use Rattle.cbor_rules.specs.declared.walk.Walk.{Walk}
+use Rattle.cbor_rules.specs.declared.walk.Walk.TheVariants.{Passed, Departed, Stopped}
+use Rattle.cbor_rules.proofs.Walked.{Answers, walked}
+
+-- of all of the bytes of an item
+pub answered : (rules : Rules) (bs : List ℕ) (r : Raw) (w : Walk) → IsWellFormed r → spell r ≡ bs → Walks bs (model.walk rules) w → Answers (length bs) [] (first_departure rules r) (walk_view bs w)
+unfolding first_departure
+answered rules bs r w fits is walks =
+    let fuel = length bs + suc (suc (depth r)) in
+    let whole : spell r ++ [] ≡ bs = append-nil (spell r) ∙ is in
+    let tells = walked rules r fuel 0 [] (length bs) fits (omega arith) (omega (arith, ap length whole)) in
+    let walk_is : model.walk rules fuel (spell r ++ []) ≡ walk_view bs w = ap (model.walk rules fuel) whole ∙ walks fuel (omega arith) in
+    subst (Answers (length bs) [] (departure_in rules (features 0 r))) walk_is tells
+
+rule_of : model.Walk → Rule
+rule_of (passed bs) = ShortestHeads
+rule_of (departed rule left) = rule
+rule_of stopped = ShortestHeads
+
+left_of : model.Walk → ℕ
+left_of (passed bs) = 0
+left_of (departed rule left) = left
+left_of stopped = 0
+
+pub told : (total : ℕ) (o : Option Departure) (rule : Rule) (left : ℕ) → Answers total [] o (departed rule left) → Some (record { rule = rule; offset = total - left }) ≡ o
+unfolding rule_of left_of
+told total None rule left answers = absurd cc
+told total (Some d) rule left answers =
+    let one : rule ≡ d.rule = ap rule_of answers.2 in
+    let same : left ≡ answers.0 = ap left_of answers.2 in
+    let other : total - left ≡ d.offset = omega (arith, answers.1, same) in
+    ap₂ (λ (r : Rule) (o : ℕ). Some (record { rule = r; offset = o })) one other
+
+pub untold : (total : ℕ) (bs : List ℕ) (o : Option Departure) (w : Walk) → ((rule : Rule) (left : ℕ) → w ≡ Departed rule left → ⊥) → Answers total [] o (walk_view bs w) → None ≡ o
+untold total bs None w none answers = refl
+untold total bs (Some d) (Passed left) none answers = absurd (let is = answers.2 in cc)
+untold total bs (Some d) (Departed rule left) none answers = absurd (none rule left refl)
+untold total bs (Some d) Stopped none answers = absurd (let is = answers.2 in cc)

@@ -1,0 +1,296 @@
+-- Steps of going through bytes.
+use Rattle.std.proofs.Common.{◌≡◌, ℕ, zero, suc, ◌∷◌, ◌/◌, ◌%◌, subst, ◌+◌, ◌-◌, ◌<◌, ◌≤◌, Bool, true, false, cond, List, [], length, take, drop, Ok, Err, Option, Some, None, refl, sym, ap, ◌∙◌, arith}
+use Rattle.std.specs.Prelude.{IsErr, ◌&&◌}
+use Rattle.std.proofs.lemmas.Bool.{ne_eqb, le-leb, lt-leb}
+use Rattle.std.proofs.lemmas.List.{drop-drop, length-drop}
+use Rattle.cbor_model.specs.Raw.{FloatWidth}
+use Rattle.cbor_rules.specs.Features.{number, float_bits, key}
+use Rattle.cbor_rules.specs.Rules.{broken, is_less, key_cmp}
+use Rattle.cbor_rules.specs.Walk as model
+use Rattle.cbor_rules.specs.Walk.{and_then, seen, unless_broken, is_break, with_number, all_walk, pairs_walk, content_walk, past, float_walk, simple_walk, inside_walk, indefinite_walk, head_walk}
+use Rattle.cbor_model.specs.Reader.{Reads, number_behind, width_of}
+use Rattle.cbor_rules.specs.declared.settings.Rules.{Rules}
+use Rattle.cbor_rules.specs.declared.settings.Rule.{Rule}
+use Rattle.cbor_rules.specs.declared.settings.Rule.TheVariants.{AscendingKeys, DefiniteLengths}
+use Rattle.cbor_rules.specs.declared.walk.Walk.{Walk}
+use Rattle.cbor_rules.specs.declared.walk.Walk.TheVariants.{Passed, Departed, Stopped}
+use Rattle.cbor_rules.specs.Walks.{last, walk_view, IsWithin, IsAfter}
+
+pub last_all : (bs : List ℕ) → bs ≡ last (length bs) bs
+last_all bs = let none : length bs - length bs ≡ 0 = omega arith in sym (ap (λ (n : ℕ). drop n bs) none)
+
+pub length-last : (n : ℕ) (bs : List ℕ) → n ≤ length bs → length (last n bs) ≡ n
+length-last n bs le = omega (arith, length-drop (length bs - n) bs)
+
+pub last-last : (k n : ℕ) (bs : List ℕ) → k ≤ n → n ≤ length bs → last k (last n bs) ≡ last k bs
+last-last k n bs few le =
+    let m : (length bs - n) + (length (last n bs) - k) ≡ length bs - k = omega (arith, length-last n bs le) in
+    drop-drop (length (last n bs) - k) (length bs - n) bs ∙ ap (λ (n : ℕ). drop n bs) m
+
+-- what is left of the last bytes is left of all
+pub view-last : (left : ℕ) (bs : List ℕ) (r : Walk) → left ≤ length bs → IsWithin (length (last left bs)) r → walk_view (last left bs) r ≡ walk_view bs r
+view-last left bs (Passed k) le few = ap model.passed (last-last k left bs (omega (arith, few, length-last left bs le)) le)
+view-last left bs (Departed rule k) le few = refl
+view-last left bs Stopped le few = refl
+
+pub within-last : (left : ℕ) (bs : List ℕ) (r : Walk) → left ≤ length bs → IsWithin (length (last left bs)) r → IsWithin (length bs) r
+within-last left bs (Passed k) le few = omega (arith, few, le, length-last left bs le)
+within-last left bs (Departed rule k) le few = omega (arith, few, le, length-last left bs le)
+within-last left bs Stopped le few = tt
+
+-- past a feature that breaks a rule, or none
+pub seen_broken : (rule : Rule) (o : Option Rule) (left : ℕ) (w : model.Walk) → o ≡ Some rule → unless_broken o left w ≡ model.departed rule left
+seen_broken rule o left w is = rw is refl
+
+pub seen_kept : (o : Option Rule) (left : ℕ) (w : model.Walk) → o ≡ None → unless_broken o left w ≡ w
+seen_kept o left w is = rw is refl
+
+-- after a number, or where there is none
+pub number_on : (go : ℕ → List ℕ → model.Walk) (r : Reads ℕ) (n : ℕ) (rest : List ℕ) → r ≡ Ok (n, rest) → with_number go r ≡ go n rest
+number_on go r n rest is = rw is refl
+
+pub number_end : (go : ℕ → List ℕ → model.Walk) (r : Reads ℕ) → IsErr r → with_number go r ≡ model.stopped
+number_end go (Ok x) is = absurd cc
+number_end go (Err d) is = refl
+
+-- what isn't passed is answered
+abbrev pub IsOther : Walk → Type 0
+IsOther r = (left : ℕ) → r ≡ Passed left → ⊥
+
+pub other_view : (r : Walk) (bs cs : List ℕ) → IsOther r → walk_view bs r ≡ walk_view cs r
+other_view (Passed left) bs cs other = absurd (other left refl)
+other_view (Departed rule left) bs cs other = refl
+other_view Stopped bs cs other = refl
+
+other_then : (r : Walk) (bs : List ℕ) (go : List ℕ → model.Walk) → IsOther r → and_then (walk_view bs r) go ≡ walk_view bs r
+other_then (Passed left) bs go other = absurd (other left refl)
+other_then (Departed rule left) bs go other = refl
+other_then Stopped bs go other = refl
+
+one_less : (n i : ℕ) → i < n → n - i ≡ suc (n - (i + 1))
+one_less n i lt = omega (arith, lt)
+
+-- ---- items and pairs
+
+-- a break ends here, and one byte less is left
+pub after_break : (rest bs : List ℕ) → 1 ≤ length rest → length rest ≤ length bs → rest ≡ last (length rest) bs → drop 1 rest ≡ last (length rest - 1) bs
+after_break rest bs some le is =
+    let m : (length bs - length rest) + 1 ≡ length bs - (length rest - 1) = omega (arith, some, le) in
+    ap (drop 1) is ∙ drop-drop 1 (length bs - length rest) bs ∙ ap (λ (n : ℕ). drop n bs) m
+
+module _ (p : List ℕ → model.Walk) (is_open : Bool) (n i : ℕ) (lt : i < n) (rest : List ℕ) where
+  pub all_break : (is_open && is_break rest) ≡ true → all_walk p is_open (n - i) rest ≡ model.passed (drop 1 rest)
+  unfolding all_walk
+  all_break ends = rw (one_less n i lt) (rw ends refl)
+
+  module _ (on : (is_open && is_break rest) ≡ false) where
+    all_begin : all_walk p is_open (n - i) rest ≡ and_then (p rest) (all_walk p is_open (n - (i + 1)))
+    unfolding all_walk
+    all_begin = rw (one_less n i lt) (rw on refl)
+
+    pub all_step : (mid : List ℕ) → p rest ≡ model.passed mid → all_walk p is_open (n - i) rest ≡ all_walk p is_open (n - (i + 1)) mid
+    all_step mid is = all_begin ∙ ap (λ (w : model.Walk). and_then w (all_walk p is_open (n - (i + 1)))) is
+
+    pub all_other : (bs : List ℕ) (r : Walk) → p rest ≡ walk_view rest r → IsOther r → all_walk p is_open (n - i) rest ≡ walk_view bs r
+    all_other bs r is other =
+        all_begin
+        ∙ ap (λ (w : model.Walk). and_then w (all_walk p is_open (n - (i + 1)))) is
+        ∙ other_then r rest (all_walk p is_open (n - (i + 1))) other
+        ∙ other_view r rest bs other
+
+module _ (rules : Rules) (p : List ℕ → model.Walk) (is_open : Bool) (n i : ℕ) (lt : i < n) (before rest : List ℕ) where
+  pub pairs_break : (is_open && is_break rest) ≡ true → pairs_walk rules p is_open (n - i) before rest ≡ model.passed (drop 1 rest)
+  unfolding pairs_walk
+  pairs_break ends = rw (one_less n i lt) (rw ends refl)
+
+  -- what follows a key
+  abbrev behind_key : List ℕ → model.Walk
+  behind_key at_value =
+      let k = take (length rest - length at_value) rest in
+      seen rules (key before k) (length at_value) (and_then (p at_value) (pairs_walk rules p is_open (n - (i + 1)) k))
+
+  module _ (on : (is_open && is_break rest) ≡ false) where
+    pairs_begin : pairs_walk rules p is_open (n - i) before rest ≡ and_then (p rest) behind_key
+    unfolding pairs_walk
+    pairs_begin = rw (one_less n i lt) (rw on refl)
+
+    pub pairs_other : (bs : List ℕ) (r : Walk) → p rest ≡ walk_view rest r → IsOther r → pairs_walk rules p is_open (n - i) before rest ≡ walk_view bs r
+    pairs_other bs r is other =
+        pairs_begin
+        ∙ ap (λ (w : model.Walk). and_then w behind_key) is
+        ∙ other_then r rest behind_key other
+        ∙ other_view r rest bs other
+
+    module _ (at_value k : List ℕ) (is : p rest ≡ model.passed at_value) (key_is : k ≡ take (length rest - length at_value) rest) where
+      pairs_key : pairs_walk rules p is_open (n - i) before rest ≡ seen rules (key before k) (length at_value) (and_then (p at_value) (pairs_walk rules p is_open (n - (i + 1)) k))
+      pairs_key =
+          pairs_begin
+          ∙ ap (λ (w : model.Walk). and_then w behind_key) is
+          ∙ ap (λ (k : List ℕ). seen rules (key before k) (length at_value) (and_then (p at_value) (pairs_walk rules p is_open (n - (i + 1)) k))) (sym key_is)
+
+      pub pairs_departs : (rule : Rule) → broken rules (key before k) ≡ Some rule → pairs_walk rules p is_open (n - i) before rest ≡ model.departed rule (length at_value)
+      pairs_departs rule breaks = pairs_key ∙ seen_broken rule (broken rules (key before k)) (length at_value) _ breaks
+
+      module _ (keeps : broken rules (key before k) ≡ None) where
+        pairs_value : pairs_walk rules p is_open (n - i) before rest ≡ and_then (p at_value) (pairs_walk rules p is_open (n - (i + 1)) k)
+        pairs_value = pairs_key ∙ seen_kept (broken rules (key before k)) (length at_value) _ keeps
+
+        pub pairs_step : (more : List ℕ) → p at_value ≡ model.passed more → pairs_walk rules p is_open (n - i) before rest ≡ pairs_walk rules p is_open (n - (i + 1)) k more
+        pairs_step more is' = pairs_value ∙ ap (λ (w : model.Walk). and_then w (pairs_walk rules p is_open (n - (i + 1)) k)) is'
+
+        pub pairs_value_other : (bs : List ℕ) (r : Walk) → p at_value ≡ walk_view at_value r → IsOther r → pairs_walk rules p is_open (n - i) before rest ≡ walk_view bs r
+        pairs_value_other bs r is' other =
+            pairs_value
+            ∙ ap (λ (w : model.Walk). and_then w (pairs_walk rules p is_open (n - (i + 1)) k)) is'
+            ∙ other_then r at_value (pairs_walk rules p is_open (n - (i + 1)) k) other
+            ∙ other_view r at_value bs other
+
+-- where all are passed
+pub all_end : (p : List ℕ → model.Walk) (is_open : Bool) (n i : ℕ) (rest : List ℕ) → n ≤ i → all_walk p is_open (n - i) rest ≡ cond is_open model.stopped (model.passed rest)
+unfolding all_walk
+all_end p is_open n i rest le = let none : n - i ≡ 0 = omega (arith, le) in ap (λ (k : ℕ). all_walk p is_open k rest) none
+
+pub pairs_end : (rules : Rules) (p : List ℕ → model.Walk) (is_open : Bool) (n i : ℕ) (before rest : List ℕ) → n ≤ i → pairs_walk rules p is_open (n - i) before rest ≡ cond is_open model.stopped (model.passed rest)
+unfolding pairs_walk
+pairs_end rules p is_open n i before rest le = let none : n - i ≡ 0 = omega (arith, le) in ap (λ (k : ℕ). pairs_walk rules p is_open k before rest) none
+
+-- ---- an item
+
+pub on_first : (rules : Rules) (fuel : ℕ) (bs : List ℕ) (b : ℕ) (rest : List ℕ) (r : Walk) → bs ≡ b ∷ rest → length bs ≤ fuel → ((fuel : ℕ) → length rest ≤ fuel → content_walk rules (model.walk rules fuel) (b / 32) (b % 32) rest ≡ walk_view rest r) → IsWithin (length rest) r → model.walk rules fuel bs ≡ walk_view bs r
+unfolding model.walk
+on_first rules zero bs b rest r is enough walks few = absurd (omega (arith, ap length is, enough))
+on_first rules (suc fuel) bs b rest r is enough walks few =
+    let view : walk_view rest r ≡ walk_view (b ∷ rest) r = ap (λ (t : List ℕ). walk_view t r) (last_all-but b rest) ∙ view-last (length rest) (b ∷ rest) r (omega arith) (subst (λ (t : List ℕ). IsWithin (length t) r) (last_all-but b rest) few) in
+    ap (model.walk rules (suc fuel)) is ∙ walks fuel (omega (arith, ap length is, enough)) ∙ view ∙ ap (λ (t : List ℕ). walk_view t r) (sym is)
+  where
+    last_all-but : (b : ℕ) (rest : List ℕ) → rest ≡ last (length rest) (b ∷ rest)
+    last_all-but b rest = let one : suc (length rest) - length rest ≡ 1 = omega arith in sym (ap (λ (n : ℕ). drop n (b ∷ rest)) one)
+
+pub no_first : (rules : Rules) (fuel : ℕ) (bs : List ℕ) → length bs ≡ 0 → model.walk rules fuel bs ≡ model.stopped
+unfolding model.walk
+no_first rules zero bs none = refl
+no_first rules (suc fuel) [] none = refl
+no_first rules (suc fuel) (b ∷ bs) none = absurd (omega (arith, none))
+
+-- ---- the rest of the bytes
+
+-- what goes on with the rest
+pub rest_last : (rest : List ℕ) (left : ℕ) (bs : List ℕ) (r : Walk) (go : List ℕ → model.Walk) (fuel : ℕ) → rest ≡ last left bs → left ≤ length bs → length bs ≤ fuel → (length rest ≤ fuel → go rest ≡ walk_view rest r) → IsWithin (length rest) r → go (last left bs) ≡ walk_view bs r
+rest_last rest left bs r go fuel is le enough walks few =
+    let fewer : length rest ≤ fuel = omega (arith, ap length is, length-last left bs le, le, enough) in
+    ap go (sym is) ∙ walks fewer ∙ ap (λ (t : List ℕ). walk_view t r) is ∙ view-last left bs r le (subst (λ (t : List ℕ). IsWithin (length t) r) is few)
+
+-- what a part of the bytes leaves, all of them do
+pub view_rest : (rest bs : List ℕ) (r : Walk) → length rest ≤ length bs → rest ≡ last (length rest) bs → IsWithin (length rest) r → walk_view rest r ≡ walk_view bs r
+view_rest rest bs r le is few = ap (λ (t : List ℕ). walk_view t r) is ∙ view-last (length rest) bs r le (subst (λ (t : List ℕ). IsWithin (length t) r) is few)
+
+pub within_rest : (rest bs : List ℕ) (r : Walk) → length rest ≤ length bs → IsWithin (length rest) r → IsWithin (length bs) r
+within_rest rest bs (Passed k) le few = omega (arith, few, le)
+within_rest rest bs (Departed rule k) le few = omega (arith, few, le)
+within_rest rest bs Stopped le few = tt
+
+-- the rest after a part of the rest
+pub next_rest : (next rest bs : List ℕ) (left : ℕ) → next ≡ last left rest → left ≤ length rest → length rest ≤ length bs → rest ≡ last (length rest) bs → (length next ≤ length bs) × (next ≡ last (length next) bs)
+next_rest next rest bs left is le within is_last =
+    let long : length next ≡ left = ap length is ∙ length-last left rest le in (
+      omega (arith, long, le, within),
+      is ∙ ap (last left) is_last ∙ last-last left (length rest) bs le within ∙ ap (λ (n : ℕ). last n bs) (sym long),
+    )
+
+-- the key before the rest
+pub key_of : (k : List ℕ) (left : ℕ) (rest : List ℕ) → k ≡ take (length rest - left) rest → left ≤ length rest → k ≡ take (length rest - length (last left rest)) rest
+key_of k left rest is le = is ∙ ap (λ (n : ℕ). take (length rest - n) rest) (sym (length-last left rest le))
+
+pub key_at : (k at_value : List ℕ) (left : ℕ) (rest : List ℕ) → k ≡ take (length rest - left) rest → at_value ≡ last left rest → left ≤ length rest → k ≡ take (length rest - length at_value) rest
+key_at k at_value left rest is value_is le = is ∙ ap (λ (n : ℕ). take (length rest - n) rest) (sym (ap length value_is ∙ length-last left rest le))
+
+-- ---- features
+
+pub key_departs : (rules : Rules) (before k : List ℕ) → false ≡ is_less (key_cmp rules.keys before k) → broken rules (key before k) ≡ Some AscendingKeys
+key_departs rules before k is = rw (← is) refl
+
+pub key_keeps : (rules : Rules) (before k : List ℕ) → true ≡ is_less (key_cmp rules.keys before k) → broken rules (key before k) ≡ None
+key_keeps rules before k is = rw (← is) refl
+
+-- past a float
+module _ (bs : List ℕ) (left : ℕ) (r : Walk) (le : left ≤ length bs) where
+  pub after_view : (o : Option Rule) → IsAfter o left r → unless_broken o (length (last left bs)) (model.passed (last left bs)) ≡ walk_view bs r
+  after_view None is = rw is refl
+  after_view (Some rule) is = rw is (ap (model.departed rule) (length-last left bs le))
+
+  pub after_within : (o : Option Rule) → IsAfter o left r → IsWithin (length bs) r
+  after_within None is = rw is le
+  after_within (Some rule) is = rw is le
+
+pub float_on : (rules : Rules) (w : FloatWidth) (low bits left : ℕ) (bs : List ℕ) (r : Walk) → number_behind low bs ≡ Ok (bits, last left bs) → left ≤ length bs → IsAfter (broken rules (float_bits w bits)) left r → float_walk rules w low bs ≡ walk_view bs r
+float_on rules w low bits left bs r is le after =
+    number_on (λ bits rest. seen rules (float_bits w bits) (length rest) (model.passed rest)) (number_behind low bs) bits (last left bs) is
+    ∙ after_view bs left r le (broken rules (float_bits w bits)) after
+
+-- ---- what follows a first byte
+
+module _ (rules : Rules) (p : List ℕ → model.Walk) (k low : ℕ) (bs : List ℕ) where
+  pub on_simple : k ≡ 7 → content_walk rules p k low bs ≡ simple_walk rules low bs
+  unfolding content_walk
+  on_simple is = rw is refl
+
+  pub on_indefinite : (k ≡ 7 → ⊥) → low ≡ 31 → content_walk rules p k low bs ≡ indefinite_walk rules p k bs
+  unfolding content_walk
+  on_indefinite not_7 is = rw (ne_eqb k 7 not_7, is) refl
+
+  pub on_head : (k ≡ 7 → ⊥) → (low ≡ 31 → ⊥) → content_walk rules p k low bs ≡ head_walk rules p k low bs
+  unfolding content_walk
+  on_head not_7 not_31 = rw (ne_eqb k 7 not_7, ne_eqb low 31 not_31) refl
+
+module _ (rules : Rules) (p : List ℕ → model.Walk) (k : ℕ) (bs : List ℕ) where
+  pub indefinite_departs : rules.definite_lengths ≡ true → indefinite_walk rules p k bs ≡ model.departed DefiniteLengths (length bs)
+  unfolding indefinite_walk
+  indefinite_departs is = rw is refl
+
+  pub indefinite_pairs : rules.definite_lengths ≡ false → k ≡ 5 → indefinite_walk rules p k bs ≡ pairs_walk rules p true (length bs) [] bs
+  unfolding indefinite_walk
+  indefinite_pairs is five = rw (is, five) refl
+
+  pub indefinite_items : rules.definite_lengths ≡ false → (k ≡ 5 → ⊥) → indefinite_walk rules p k bs ≡ all_walk p true (length bs) bs
+  unfolding indefinite_walk
+  indefinite_items is not_5 = rw (is, ne_eqb k 5 not_5) refl
+
+  module _ (n : ℕ) where
+    pub in_integer : k ≤ 1 → inside_walk rules p k n bs ≡ model.passed bs
+    unfolding inside_walk
+    in_integer le = rw (le-leb k 1 le) refl
+
+    pub in_string : 1 < k → k ≤ 3 → inside_walk rules p k n bs ≡ past n bs
+    unfolding inside_walk
+    in_string lt le = rw (lt-leb k 1 lt, le-leb k 3 le) refl
+
+    pub in_array : k ≡ 4 → inside_walk rules p k n bs ≡ all_walk p false n bs
+    unfolding inside_walk
+    in_array is = rw is refl
+
+    pub in_map : k ≡ 5 → inside_walk rules p k n bs ≡ pairs_walk rules p false n [] bs
+    unfolding inside_walk
+    in_map is = rw is refl
+
+    pub in_tag : 5 < k → inside_walk rules p k n bs ≡ p bs
+    unfolding inside_walk
+    in_tag lt =
+        let not_4 : k ≡ 4 → ⊥ = λ is. omega (arith, lt, is) in
+        let not_5 : k ≡ 5 → ⊥ = λ is. omega (arith, lt, is) in
+        let not_1 : 1 < k = omega (arith, lt) in
+        let not_3 : 3 < k = omega (arith, lt) in
+        rw (lt-leb k 1 not_1, lt-leb k 3 not_3, ne_eqb k 4 not_4, ne_eqb k 5 not_5) refl
+
+-- past a head, whose number breaks a rule or none
+module _ (rules : Rules) (p : List ℕ → model.Walk) (major low n left : ℕ) (bs : List ℕ) (is : number_behind low bs ≡ Ok (n, last left bs)) where
+  head_on : head_walk rules p major low bs ≡ seen rules (number major (width_of low) n) (length (last left bs)) (inside_walk rules p major n (last left bs))
+  head_on = number_on (λ n rest. seen rules (number major (width_of low) n) (length rest) (inside_walk rules p major n rest)) (number_behind low bs) n (last left bs) is
+
+  pub head_departs : (rule : Rule) → broken rules (number major (width_of low) n) ≡ Some rule → head_walk rules p major low bs ≡ model.departed rule (length (last left bs))
+  head_departs rule breaks = head_on ∙ seen_broken rule (broken rules (number major (width_of low) n)) (length (last left bs)) _ breaks
+
+  pub head_keeps : broken rules (number major (width_of low) n) ≡ None → head_walk rules p major low bs ≡ inside_walk rules p major n (last left bs)
+  head_keeps keeps = head_on ∙ seen_kept (broken rules (number major (width_of low) n)) (length (last left bs)) _ keeps
+
+pub head_end : (rules : Rules) (p : List ℕ → model.Walk) (major low : ℕ) (bs : List ℕ) → IsErr (number_behind low bs) → head_walk rules p major low bs ≡ model.stopped
+head_end rules p major low bs is = number_end (λ n rest. seen rules (number major (width_of low) n) (length rest) (inside_walk rules p major n rest)) (number_behind low bs) is

@@ -1,0 +1,39 @@
+use Rattle.std.proofs.Common.{◌≡◌, ◌≤◌, ◌-◌, ◌+◌, ◌*◌, ℕ, [], length}
+use Rattle.cbor_rules.specs.Walk.{all_walk, pairs_walk, walk}
+use Rattle.cbor_rules.specs.Walks.{last}
+use Rattle.cbor_rules.proofs.walk.+walk.Given as goal
+
+abbrev pub decreases-item : goal.decreases-item
+decreases-item l = 8 * length l.bytes.now
+
+abbrev pub decreases-items : goal.decreases-items
+decreases-items l = 8 * length l.bytes.now + 1
+
+abbrev pub decreases-pairs : goal.decreases-pairs
+decreases-pairs l = 8 * length l.bytes.now + 1
+
+abbrev pub decreases-inside : goal.decreases-inside
+decreases-inside l = 8 * length l.bytes.now + 2
+
+abbrev pub decreases-head : goal.decreases-head
+decreases-head l = 8 * length l.bytes.now + 3
+
+abbrev pub decreases-indefinite : goal.decreases-indefinite
+decreases-indefinite l = 8 * length l.bytes.now + 3
+
+abbrev pub decreases-content : goal.decreases-content
+decreases-content l = 8 * length l.bytes.now + 4
+
+abbrev pub invariant-items-loop-i : goal.invariant-items-loop-i
+invariant-items-loop-i l = record {
+  within : length l.rest ≤ length l.fn.bytes;
+  is_last : l.rest ≡ last (length l.rest) l.fn.bytes;
+  so_far : (fuel : ℕ) → length l.fn.bytes ≤ fuel → all_walk (walk l.fn.rules fuel) l.fn.is_open l.fn.n l.fn.bytes ≡ all_walk (walk l.fn.rules fuel) l.fn.is_open (l.fn.n - l._i) l.rest;
+}
+
+abbrev pub invariant-pairs-loop-i : goal.invariant-pairs-loop-i
+invariant-pairs-loop-i l = record {
+  within : length l.rest ≤ length l.fn.bytes;
+  is_last : l.rest ≡ last (length l.rest) l.fn.bytes;
+  so_far : (fuel : ℕ) → length l.fn.bytes ≤ fuel → pairs_walk l.fn.rules (walk l.fn.rules fuel) l.fn.is_open l.fn.n [] l.fn.bytes ≡ pairs_walk l.fn.rules (walk l.fn.rules fuel) l.fn.is_open (l.fn.n - l._i) l.before l.rest;
+}

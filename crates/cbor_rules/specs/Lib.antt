@@ -1,0 +1,5 @@
+pub mod Features
+pub mod Rules
+pub mod Walk
+pub mod Walks
+pub mod Answers

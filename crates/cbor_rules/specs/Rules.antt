@@ -1,0 +1,199 @@
+-- Which features break a rule, which items keep the rules that are on, and the first departure.
+use Rattle.std.specs.Prelude.{◌≡◌, ℕ, ◌≤◌, ◌/◌, Bool, true, false, List, [], ◌∷◌, Option, Some, None}
+use Rattle.std.specs.Prelude.{◌&&◌, ◌==◌, not, nat_lt, if◌then◌else◌, slice_index, refl}
+use Rattle.std.specs.List.{AllByRecursion, Contains}
+use Rattle.std.specs.Ordering.{ordering_then, nat_cmp}
+use Rattle.std.specs.declared.cmp.Ordering.{Ordering}
+use Rattle.std.specs.declared.cmp.Ordering.TheVariants.{Less, Equal, Greater}
+use Rattle.cbor_model.specs.Head.{HeadWidth, no_bytes, one_byte, two_bytes, four_bytes, eight_bytes}
+use Rattle.cbor_model.specs.Head.{limit}
+use Rattle.cbor_model.specs.Raw.{Raw, FloatWidth, half, single, null_item, undefined_item}
+use Rattle.cbor_model.specs.Raw.{unsigned, negative, array, map, simple, float, definite, no_raws, raw}
+use Rattle.cbor_model.specs.Raw.{no_raw_pairs, raw_pair}
+use Rattle.std.specs.Float.Ieee.{fits, odd, of_bits, of_fields, to_bits}
+use Rattle.cbor_model.specs.Plain as plain
+use Rattle.cbor_model.specs.Plain.{Val}
+use Rattle.cbor_model.specs.Order.{lex}
+use Rattle.cbor_model.specs.Spelling.{spell}
+use Rattle.cbor_value.specs.Floats as floats
+use Rattle.cbor_forms.specs.Shortest.{shortest}
+use Rattle.cbor_forms.specs.LengthFirst.{by_length}
+use Rattle.cbor_rules.specs.Features.{Feature, number, indefinite_length, simple_item, float_bits, key, Place}
+use Rattle.cbor_rules.specs.Features.{features}
+use Rattle.cbor_rules.specs.declared.settings.Rules.{Rules}
+use Rattle.cbor_rules.specs.declared.settings.KeyOrder.{KeyOrder}
+use Rattle.cbor_rules.specs.declared.settings.KeyOrder.TheVariants.{Any, Bytewise, LengthFirst}
+use Rattle.cbor_rules.specs.declared.settings.KeyOrder.TheVariants.{TypeFirst}
+use Rattle.cbor_rules.specs.declared.settings.Rule.{Rule}
+use Rattle.cbor_rules.specs.declared.settings.Rule.TheVariants.{ShortestHeads, DefiniteLengths}
+use Rattle.cbor_rules.specs.declared.settings.Rule.TheVariants.{AscendingKeys, ShortestFloats, OneNan}
+use Rattle.cbor_rules.specs.declared.settings.Rule.TheVariants.{NoUndefined, NoTags}
+use Rattle.cbor_rules.specs.declared.answers.Departure.{Departure}
+
+-- a number below this fits a narrower width
+abbrev pub floor : HeadWidth → ℕ
+floor no_bytes = 0
+floor one_byte = limit no_bytes
+floor two_bytes = limit one_byte
+floor four_bytes = limit two_bytes
+floor eight_bytes = limit four_bytes
+
+-- the width of a float
+abbrev pub float_size : Val → ℕ
+float_size (plain.float half bits) = 16
+float_size (plain.float single bits) = 32
+float_size _ = 64
+
+-- f9 7e 00
+abbrev pub is_quiet_nan : Val → Bool
+is_quiet_nan (plain.float half bits) = bits == 0x7e00
+is_quiet_nan _ = false
+
+-- a narrower float is the same number
+abbrev pub is_wide : FloatWidth → ℕ → Bool
+is_wide w bits = nat_lt (float_size (shortest (floats.number w bits))) (float_size (plain.float w bits))
+
+-- a NaN but f9 7e 00, which is each NaN at its shortest
+abbrev pub is_other_nan : FloatWidth → ℕ → Bool
+is_other_nan w bits =
+    is_quiet_nan (shortest (floats.number w bits)) && not (is_quiet_nan (plain.float w bits))
+
+-- the major type of what is encoded so
+abbrev pub major : List ℕ → ℕ
+major bs = slice_index bs 0 / 32
+
+-- the orders of keys by their encodings
+abbrev pub key_cmp : KeyOrder → List ℕ → List ℕ → Ordering
+key_cmp Any a b = Less
+key_cmp Bytewise a b = lex a b
+key_cmp LengthFirst a b = by_length a b
+key_cmp TypeFirst a b = ordering_then (nat_cmp (major a) (major b)) (by_length a b)
+
+abbrev pub is_less : Ordering → Bool
+is_less Less = true
+is_less Equal = false
+is_less Greater = false
+
+-- whether a rule is on, and this feature breaks it
+abbrev pub breaks : Rules → Rule → Feature → Bool
+breaks rules ShortestHeads (number m w n) = nat_lt n (floor w) && rules.shortest_heads
+breaks rules NoTags (number m w n) = (m == 6) && rules.no_tags
+breaks rules DefiniteLengths indefinite_length = rules.definite_lengths
+breaks rules NoUndefined (simple_item undefined_item) = rules.no_undefined
+breaks rules ShortestFloats (float_bits w bits) = rules.shortest_floats && is_wide w bits
+breaks rules OneNan (float_bits w bits) = rules.one_nan && is_other_nan w bits
+breaks rules AscendingKeys (key before k) = not (is_less (key_cmp rules.keys before k))
+breaks rules _ _ = false
+
+-- at each of the places the rule is kept, or it is off
+abbrev pub KeepsRule : Rules → Rule → Raw → Type 0
+KeepsRule rules rule item = AllByRecursion (λ p. breaks rules rule p.feature ≡ false) (features 0 item)
+
+-- the item keeps each rule that is on
+abbrev pub Keeps : Rules → Raw → Type 0
+Keeps rules item = (rule : Rule) → KeepsRule rules rule item
+
+-- ---- the first departure
+
+-- the first of these rules that the feature breaks
+abbrev pub first_broken : Rules → Feature → List Rule → Option Rule
+first_broken rules f [] = None
+first_broken rules f (rule ∷ others) =
+    if breaks rules rule f then Some rule else first_broken rules f others
+
+-- each rule
+abbrev pub all_rules : List Rule
+all_rules =
+    ShortestHeads ∷ DefiniteLengths ∷ AscendingKeys ∷ ShortestFloats ∷ OneNan ∷ NoUndefined ∷ NoTags
+    ∷ []
+
+abbrev pub broken : Rules → Feature → Option Rule
+broken rules f = first_broken rules f all_rules
+
+abbrev pub departure_or : ℕ → Option Departure → Option Rule → Option Departure
+departure_or at others None = others
+departure_or at others (Some rule) = Some (record { rule = rule; offset = at })
+
+-- the first place where a rule is broken
+abbrev pub departure_in : Rules → List Place → Option Departure
+departure_in rules [] = None
+departure_in rules (p ∷ ps) =
+    departure_or p.offset (departure_in rules ps) (broken rules p.feature)
+
+-- the item's first departure, in the order of its bytes
+unfoldable pub first_departure : Rules → Raw → Option Departure
+first_departure rules item = departure_in rules (features 0 item)
+
+-- The departure is at one of the places, which breaks its rule; and no place before that breaks any.
+pub record IsFirst (rules : Rules) (places : List Place) (d : Departure) : Type 0 where
+  pub place : Place
+  pub among : Contains places place
+  pub there : place.offset ≡ d.offset
+  pub breaks_rule : breaks rules d.rule place.feature ≡ true
+  pub first : AllByRecursion
+      (λ p. (rule : Rule) → breaks rules rule p.feature ≡ true → d.offset ≤ p.offset) places
+
+-- ---- the laws
+
+-- An item departs nowhere exactly where it keeps each rule that is on.
+abbrev pub NoneWhereKept : Type 0
+NoneWhereKept = (rules : Rules) (item : Raw)
+    → (first_departure rules item ≡ None → Keeps rules item)
+    × (Keeps rules item → first_departure rules item ≡ None)
+
+-- The first departure is at the first place that breaks a rule: there is none at a lesser offset.
+abbrev pub FirstIsLeast : Type 0
+FirstIsLeast = (rules : Rules) (item : Raw) (d : Departure)
+    → first_departure rules item ≡ Some d → IsFirst rules (features 0 item) d
+
+-- ---- examples
+
+-- no rule but the order of keys
+abbrev keys_only : KeyOrder → Rules
+keys_only order = record {
+  keys = order;
+  shortest_heads = false;
+  definite_lengths = false;
+  shortest_floats = false;
+  one_nan = false;
+  no_undefined = false;
+  no_tags = false;
+}
+
+-- a2 18 64 f6 20 f6, of RFC 8949, 4.2.1: 20 is above 18 64 by its bytes, and shorter
+abbrev hundred_first : Raw
+hundred_first = map (definite no_bytes)
+    (raw_pair (unsigned one_byte 100) (simple null_item)
+    (raw_pair (negative no_bytes 0) (simple null_item)
+    no_raw_pairs))
+
+above_by_bytes : first_departure (keys_only Bytewise) hundred_first ≡ None
+unfolding first_departure features spell
+above_by_bytes = refl
+
+not_by_length : first_departure (keys_only LengthFirst) hundred_first
+    ≡ Some (record { rule = AscendingKeys; offset = 5 })
+unfolding first_departure features spell
+not_by_length = refl
+
+-- 82 f7 18 17: undefined, and a head that isn't the shortest
+undefined_first : first_departure
+    (record (keys_only Any) { no_undefined = true; shortest_heads = true })
+    (array (definite no_bytes) (raw (simple undefined_item) (raw (unsigned one_byte 23) no_raws)))
+    ≡ Some (record { rule = NoUndefined; offset = 2 })
+unfolding first_departure features spell
+undefined_first = refl
+
+-- fa 3f c0 00 00, which is 1.5
+one_and_a_half_wide : first_departure (record (keys_only Any) { shortest_floats = true })
+    (float single 0x3fc0_0000)
+    ≡ Some (record { rule = ShortestFloats; offset = 5 })
+unfolding first_departure features shortest of_bits of_fields odd fits to_bits
+one_and_a_half_wide = refl
+
+-- f9 7e 01
+other_nan : first_departure (record (keys_only Any) { shortest_floats = true; one_nan = true })
+    (float half 0x7e01)
+    ≡ Some (record { rule = OneNan; offset = 3 })
+unfolding first_departure features shortest floats.half_number of_bits of_fields odd fits to_bits
+other_nan = refl

@@ -1,0 +1,52 @@
+-- What going through bytes answers.
+use Rattle.std.specs.Prelude.{⊤, ◌≡◌, ◌-◌, ◌<◌, ◌≤◌, ℕ, List, length, drop, Option, Some, None, Ok}
+use Rattle.std.specs.Prelude.{IsErr}
+use Rattle.cbor_model.specs.Head.{limit}
+use Rattle.cbor_model.specs.Raw.{half, single, double}
+use Rattle.cbor_model.specs.Reader.{number_behind, width_of}
+use Rattle.cbor_value.specs.declared.Float.{Float}
+use Rattle.cbor_value.specs.declared.Float.TheVariants.{Half, Single, Double}
+use Rattle.cbor_rules.specs.Features.{Feature, float_bits}
+use Rattle.cbor_rules.specs.Walk as model
+use Rattle.cbor_rules.specs.declared.settings.Rule.{Rule}
+use Rattle.cbor_rules.specs.declared.walk.Walk.{Walk}
+use Rattle.cbor_rules.specs.declared.walk.Walk.TheVariants.{Passed, Departed, Stopped}
+
+-- the last n of the bytes
+abbrev pub last : ℕ → List ℕ → List ℕ
+last n bs = drop (length bs - n) bs
+
+abbrev pub walk_view : List ℕ → Walk → model.Walk
+walk_view bs (Passed left) = model.passed (last left bs)
+walk_view bs (Departed rule left) = model.departed rule left
+walk_view bs Stopped = model.stopped
+
+-- no more than so many bytes are left
+abbrev pub IsWithin : ℕ → Walk → Type 0
+IsWithin n (Passed left) = left ≤ n
+IsWithin n (Departed rule left) = left ≤ n
+IsWithin n Stopped = ⊤
+
+-- The answer is that of the model, with fuel for all of the bytes.
+abbrev pub Walks : List ℕ → (ℕ → List ℕ → model.Walk) → Walk → Type 0
+Walks bs go r = (fuel : ℕ) → length bs ≤ fuel → go fuel bs ≡ walk_view bs r
+
+-- a number, and how many bytes are left after it
+abbrev pub IsNumber : ℕ → List ℕ → ℕ × ℕ → Type 0
+IsNumber low bs n =
+    (low < 28) × (number_behind low bs ≡ Ok (n.0, last n.1 bs)) × (n.1 ≤ length bs)
+    × (n.0 < limit (width_of low))
+
+abbrev pub StopsNumber : ℕ → List ℕ → Type 0
+StopsNumber low bs = IsErr (number_behind low bs)
+
+-- a float as a feature
+abbrev pub float_feature : Float → Feature
+float_feature (Half bits) = float_bits half bits
+float_feature (Single bits) = float_bits single bits
+float_feature (Double bits) = float_bits double bits
+
+-- It passes, or departs from the rule that is broken, with so many bytes left.
+abbrev pub IsAfter : Option Rule → ℕ → Walk → Type 0
+IsAfter None left r = r ≡ Passed left
+IsAfter (Some rule) left r = r ≡ Departed rule left

@@ -1,0 +1,78 @@
+//! Reading a whole input by rules.
+
+ghost use Rattle.std.specs.Prelude.{◌⊎◌, IfErr, IfOk, MatchResult, None};
+ghost use Rattle.cbor_model.specs.Allowed.{limits_of};
+ghost use Rattle.cbor_model.specs.Formats.{all_formats};
+ghost use Rattle.cbor_model.specs.Laws.{SpellsValue};
+ghost use Rattle.cbor_model.specs.Plain.{Val};
+ghost use Rattle.cbor_model.specs.Readable.{SpellsAs};
+ghost use Rattle.cbor_io.specs.Error.{IsOutOfMemory};
+ghost use Rattle.cbor_read.specs.Source.{start_of_slice};
+ghost use Rattle.cbor_decode.specs.FirstRefusal.{TellsFirst};
+ghost use Rattle.cbor_decode_as.specs.Takes.{WhereTotal};
+ghost use Rattle.cbor_de.specs.Forms.{MayTell};
+ghost use Rattle.cbor_de.specs.Whole.{from_slice_context};
+ghost use Rattle.cbor_rules.specs.Answers.{IfDeparts, IfUnread, IsMemory, SpellsByRules};
+ghost use Rattle.cbor_rules.specs.Answers.{SpellsDeparting, TellsItsDeparture};
+
+use crate::answers::Refusal;
+use crate::settings::Rules;
+use crate::walk::first_departure;
+use cbor_de::{Deserialize, from_slice};
+use cbor_read::SliceRead;
+use std::alloc::Global;
+
+/// What the item is read as that the bytes encode, if they keep each of the rules.
+///
+/// It reads as `from_slice` does, and refuses what that refuses, with its error. An item that
+/// departs from a rule is refused by its first departure: with the rule, and the offset after the
+/// bytes that show it. That is after the head for a head that isn't the shortest and for a tag,
+/// after the first byte of an indefinite length, after a float or an undefined, and after a key
+/// that may not follow the one before it. What is told of a head comes before what is told of the
+/// key that it ends. No memory is taken beyond that of `from_slice`.
+///
+/// ```rust
+/// let numbers: [u8; 2] = from_slice_with(alloc, &[0x82, 0x01, 0x02], Rules::DETERMINISTIC)?;
+/// assert_eq!(rt; numbers, [1, 2]);
+/// let bytes = &[0x81, 0x18, 0x17];
+/// let Err(Refusal::Departs(departure)) = from_slice_with::<Value>(alloc, bytes, Rules::CTAP2) else {
+///     return Err(Fail::from("18 17 is not the shortest"));
+/// };
+/// assert_eq!(rt; departure, Departure { rule: Rule::ShortestHeads, offset: 3 });
+/// ```
+pub fn from_slice_with<'a, T: Deserialize<'a, SliceRead<'a>>>(
+    alloc: Global,
+    slice: &'a [u8],
+    rules: Rules,
+) -> Result<T, Refusal>
+    // The bytes encode an acceptable item that keeps the rules, and it is read so.
+    ensures found { IfOk result (SpellsByRules rules (T.reads from_slice_context) slice.now) }
+    // Each such item is read, unless memory runs out.
+    ensures accepted { (x : T) → SpellsByRules rules (T.reads from_slice_context) slice.now x
+        → IfErr result IsMemory }
+    // An item that `from_slice` reads so is refused by its first departure alone.
+    ensures departs { (x : T)
+        → (spelt : SpellsAs all_formats (T.reads from_slice_context) slice.now x)
+        → IfErr result (TellsItsDeparture rules spelt.item) }
+    // The acceptable item that the bytes encode is the one that is read; and where the type reads
+    // every item, it is refused by its first departure alone.
+    ensures every { (v : Val) → (spelt : SpellsValue slice.now v)
+        → MatchResult result (T.reads from_slice_context spelt.item)
+        (λ e. WhereTotal T.total (TellsItsDeparture rules spelt.item e)) }
+    // A departure that is told is the first of the acceptable item that the bytes encode.
+    ensures departed { IfErr result (IfDeparts (SpellsDeparting rules slice.now)) }
+    // Another refusal is that of `from_slice`: where the type reads every item, the first that the
+    // bytes allow, or memory ran out; and a wrong form is told as the type may tell it.
+    ensures first { IfErr result (IfUnread (λ e. WhereTotal T.total
+        (IsOutOfMemory e ⊎ TellsFirst (limits_of None) slice.now e))) }
+    ensures form { IfErr result
+        (IfUnread (MayTell T.wrong_forms all_formats (start_of_slice slice.now None))) }
+{
+    match from_slice::<T>(alloc, slice) {
+        Ok(value) => match first_departure(rules, slice) {
+            Some(departure) => Err(Refusal::Departs(departure)),
+            None => Ok(value),
+        },
+        Err(e) => Err(Refusal::Unread(e)),
+    }
+}

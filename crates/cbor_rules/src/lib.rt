@@ -1,0 +1,18 @@
+//! Reading by rules of one's own: each strictness by itself, and each deterministic form by name.
+//!
+//! The ordinary reader reads; a walk over the same bytes then looks for the first departure from
+//! the rules that are on, without memory.
+#![tactic(auto)]
+
+mod answers;
+mod from;
+mod heads;
+mod keys;
+mod laws;
+mod settings;
+mod walk;
+
+pub use answers::{Departure, Refusal};
+pub use from::from_slice_with;
+pub use laws::{first_is_least, none_where_kept};
+pub use settings::{KeyOrder, Rule, Rules};

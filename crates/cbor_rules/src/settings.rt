@@ -1,0 +1,134 @@
+//! The rules that bytes can be held to.
+
+ghost use Rattle.std.specs.Prelude.{◌≡◌};
+
+/// An order in which the keys of each map may have to ascend, by their encodings. Keys that ascend
+/// are encoded apart; one value has several encodings unless heads are the shortest, lengths
+/// definite and floats at their shortest too.
+#[derive(Clone, Copy, Debug, PartialEq, Eq)]
+pub enum KeyOrder {
+    /// In any order, and more than once.
+    Any,
+    /// By their bytes, as RFC 8949, section 4.2.1, has it.
+    Bytewise,
+    /// Shorter ones first, and those of one length by their bytes: RFC 8949, section 4.2.3, and
+    /// RFC 7049, section 3.9.
+    LengthFirst,
+    /// By their major types, then shorter ones first, and then by their bytes, as CTAP2 has it.
+    TypeFirst,
+}
+
+/// One of the rules, as a [`Departure`](crate::Departure) names it.
+#[derive(Clone, Copy, Debug, PartialEq, Eq)]
+pub enum Rule {
+    /// Each length, count, integer and tag is in the shortest head that holds it.
+    ShortestHeads,
+    /// No length is indefinite.
+    DefiniteLengths,
+    /// Each map's keys strictly ascend.
+    AscendingKeys,
+    /// No float could be narrower and the same number.
+    ShortestFloats,
+    /// Each NaN is `f9 7e 00`.
+    OneNan,
+    /// No item is undefined.
+    NoUndefined,
+    /// No item has a tag.
+    NoTags,
+}
+
+/// The rules that are on.
+///
+/// ```rust
+/// let rules = Rules { no_tags: true, ..Rules::DETERMINISTIC };
+/// assert!(rt; rules.shortest_heads);
+/// ```
+#[derive(Clone, Copy, Debug, PartialEq, Eq)]
+pub struct Rules {
+    /// The order in which the keys of each map strictly ascend.
+    pub keys: KeyOrder,
+    /// Whether each head has to be the shortest.
+    pub shortest_heads: bool,
+    /// Whether each length has to be definite.
+    pub definite_lengths: bool,
+    /// Whether each float has to be at its shortest.
+    pub shortest_floats: bool,
+    /// Whether each NaN has to be `f9 7e 00`.
+    pub one_nan: bool,
+    /// Whether undefined is refused.
+    pub no_undefined: bool,
+    /// Whether tags are refused.
+    pub no_tags: bool,
+}
+
+impl Rules {
+    /// None: what `from_slice` reads.
+    pub const ANY: Rules = Rules {
+        keys: KeyOrder::Any,
+        shortest_heads: false,
+        definite_lengths: false,
+        shortest_floats: false,
+        one_nan: false,
+        no_undefined: false,
+        no_tags: false,
+    };
+
+    /// The canonical form of this library: shortest heads, definite lengths, keys ascending by
+    /// their bytes, floats in the width that they have, and no undefined. It is what
+    /// `from_slice_canonical` reads.
+    pub const CANONICAL: Rules = Rules {
+        keys: KeyOrder::Bytewise,
+        shortest_heads: true,
+        definite_lengths: true,
+        shortest_floats: false,
+        one_nan: false,
+        no_undefined: true,
+        no_tags: false,
+    };
+
+    /// The core deterministic encoding (RFC 8949, section 4.2.1): shortest heads and floats,
+    /// definite lengths, and keys ascending by their bytes. A NaN is `f9 7e 00`, as section 4.2.2
+    /// has it for protocols that use one NaN.
+    pub const DETERMINISTIC: Rules = Rules {
+        keys: KeyOrder::Bytewise,
+        shortest_heads: true,
+        definite_lengths: true,
+        shortest_floats: true,
+        one_nan: true,
+        no_undefined: false,
+        no_tags: false,
+    };
+
+    /// The deterministic encoding with shorter keys first (RFC 8949, section 4.2.3).
+    pub const LENGTH_FIRST: Rules = Rules {
+        keys: KeyOrder::LengthFirst,
+        shortest_heads: true,
+        definite_lengths: true,
+        shortest_floats: true,
+        one_nan: true,
+        no_undefined: false,
+        no_tags: false,
+    };
+
+    /// The canonical form of CTAP2 (section 6): shortest heads, definite lengths, keys ascending by
+    /// type, length and bytes, floats in the width that they have, and no tags.
+    pub const CTAP2: Rules = Rules {
+        keys: KeyOrder::TypeFirst,
+        shortest_heads: true,
+        definite_lengths: true,
+        shortest_floats: false,
+        one_nan: false,
+        no_undefined: false,
+        no_tags: true,
+    };
+
+    /// These, with this order of keys.
+    pub fn with_keys(self, order: KeyOrder) -> Rules
+        ensures { result ≡ record self { keys = order } }
+    {
+        Rules {
+            keys: order,
+            ..self
+        }
+    }
+}

@@ -1,0 +1,342 @@
+//! Going through the bytes of an item up to its first departure from the rules.
+//!
+//! Nothing is kept of the item, so it takes no memory. A string is passed in one step, and the key
+//! of a pair is compared with the one before it by the bytes of both.
+
+ghost use Rattle.std.specs.Prelude.{◌≡◌, ◌&&◌, ◌-◌, ◌/◌, ◌%◌, ◌<◌, ◌≤◌, [], length, take, IsTrue};
+ghost use Rattle.std.specs.Prelude.{MatchOption, if◌then◌else◌};
+ghost use Rattle.cbor_model.specs.Raw.{Raw, IsWellFormed, half, single, double, undefined_item};
+ghost use Rattle.cbor_model.specs.Spelling.{spell};
+ghost use Rattle.cbor_rules.specs.Features.{simple_item};
+ghost use Rattle.cbor_rules.specs.Rules.{broken, first_departure};
+ghost use Rattle.cbor_rules.specs.Walk.{all_walk, content_walk, float_walk, head_walk, inside_walk};
+ghost use Rattle.cbor_rules.specs.Walk.{is_break, indefinite_walk, pairs_walk, past, simple_walk, walk};
+ghost use Rattle.cbor_rules.specs.Walk.{passed, seen, stopped};
+ghost use Rattle.cbor_rules.specs.Walks.{last, float_feature, walk_view, IsNumber, IsWithin};
+ghost use Rattle.cbor_rules.specs.Walks.{IsAfter, StopsNumber, Walks};
+
+use crate::answers::Departure;
+use crate::heads::{broken_by_float, broken_by_number};
+use crate::keys::ascends;
+use crate::settings::{Rule, Rules};
+use cbor_value::Float;
+
+/// What came of going on.
+#[derive(Clone, Copy)]
+pub enum Walk {
+    /// No departure, and so many bytes after.
+    Passed(usize),
+    /// The first departure, from this rule, and so many bytes after what shows it.
+    Departed(Rule, usize),
+    /// No departure up to where no item goes on so, or the bytes end.
+    Stopped,
+}
+
+/// The first departure of the item that the bytes encode, if there is one. Of other bytes nothing
+/// is said.
+pub(crate) fn first_departure(rules: Rules, bytes: &[u8]) -> Option<Departure>
+    ensures { (r : Raw) → IsWellFormed r → spell r ≡ bytes.now
+        → result ≡ first_departure rules r }
+{
+    match item(rules, bytes) {
+        Walk::Departed(rule, left) => Some(Departure {
+            rule,
+            offset: (bytes.len() - left) as u64,
+        }),
+        _ => None,
+    }
+}
+
+/// Goes past an item.
+#[cycle(walk)]
+#[inline(always)]
+fn item(rules: Rules, bytes: &[u8]) -> Walk
+    ensures walks { Walks bytes.now (walk rules) result }
+    ensures within { IsWithin (length bytes.now) result }
+{
+    match bytes.split_first() {
+        Some((first, rest)) => content(rules, *first, rest),
+        None => Walk::Stopped,
+    }
+}
+
+/// Goes past what follows a first byte.
+#[cycle(walk)]
+fn content(rules: Rules, first: u8, bytes: &[u8]) -> Walk
+    ensures walks { Walks bytes.now
+        (λ fuel. content_walk rules (walk rules fuel) (first / 32) (first % 32)) result }
+    ensures within { IsWithin (length bytes.now) result }
+{
+    let major = first / 32;
+    let low = first % 32;
+    if major == 7 {
+        simple(rules, low, bytes)
+    } else if low == 31 {
+        indefinite(rules, major, bytes)
+    } else {
+        head(rules, major, low, bytes)
+    }
+}
+
+/// Goes past what follows a first byte of a head with its number.
+#[cycle(walk)]
+fn head(rules: Rules, major: u8, low: u8, bytes: &[u8]) -> Walk
+    ensures walks { Walks bytes.now
+        (λ fuel. head_walk rules (walk rules fuel) major low) result }
+    ensures within { IsWithin (length bytes.now) result }
+{
+    match number(low, bytes) {
+        Some((n, left)) => match broken_by_number(rules, major, low, n) {
+            Some(rule) => Walk::Departed(rule, left),
+            None => inside(rules, major, n, behind(bytes, left)),
+        },
+        None => Walk::Stopped,
+    }
+}
+
+/// Goes past what follows a head with its number.
+#[cycle(walk)]
+fn inside(rules: Rules, major: u8, n: u64, bytes: &[u8]) -> Walk
+    ensures walks { Walks bytes.now
+        (λ fuel. inside_walk rules (walk rules fuel) major n) result }
+    ensures within { IsWithin (length bytes.now) result }
+{
+    if major <= 1 {
+        Walk::Passed(bytes.len())
+    } else if major <= 3 {
+        past(n, bytes)
+    } else if major == 4 {
+        items(rules, false, n, bytes)
+    } else if major == 5 {
+        pairs(rules, false, n, bytes)
+    } else {
+        item(rules, bytes)
+    }
+}
+
+/// Goes past what follows the first byte of an indefinite length. The chunks of a string are
+/// passed as items, which their encodings are.
+#[cycle(walk)]
+fn indefinite(rules: Rules, major: u8, bytes: &[u8]) -> Walk
+    ensures walks { Walks bytes.now
+        (λ fuel. indefinite_walk rules (walk rules fuel) major) result }
+    ensures within { IsWithin (length bytes.now) result }
+{
+    if rules.definite_lengths {
+        return Walk::Departed(Rule::DefiniteLengths, bytes.len());
+    }
+    let most = bytes.len() as u64;
+    if major == 5 {
+        pairs(rules, true, most, bytes)
+    } else {
+        items(rules, true, most, bytes)
+    }
+}
+
+/// Goes past n items; in an indefinite length up to a break, and past n at the most.
+#[cycle(walk)]
+#[inline(never)]
+fn items(rules: Rules, is_open: bool, n: u64, bytes: &[u8]) -> Walk
+    ensures walks { Walks bytes.now (λ fuel. all_walk (walk rules fuel) is_open n) result }
+    ensures within { IsWithin (length bytes.now) result }
+{
+    let mut rest = bytes;
+    for _i in 0..n {
+        if ends(is_open, rest) {
+            return Walk::Passed(rest.len() - 1);
+        }
+        match item(rules, rest) {
+            Walk::Passed(left) => rest = behind(rest, left),
+            other => return other,
+        }
+    }
+    ended(is_open, rest)
+}
+
+/// Goes past n pairs likewise, whose keys' bytes ascend.
+#[cycle(walk)]
+#[inline(never)]
+fn pairs(rules: Rules, is_open: bool, n: u64, bytes: &[u8]) -> Walk
+    ensures walks { Walks bytes.now
+        (λ fuel. pairs_walk rules (walk rules fuel) is_open n []) result }
+    ensures within { IsWithin (length bytes.now) result }
+{
+    let mut rest = bytes;
+    let mut before = &bytes[..0];
+    for _i in 0..n {
+        if ends(is_open, rest) {
+            return Walk::Passed(rest.len() - 1);
+        }
+        match item(rules, rest) {
+            Walk::Passed(left) => {
+                let key = ahead(rest, left);
+                if !ascends(rules.keys, before, key) {
+                    return Walk::Departed(Rule::AscendingKeys, left);
+                }
+                before = key;
+                rest = behind(rest, left);
+            }
+            other => return other,
+        }
+        match item(rules, rest) {
+            Walk::Passed(left) => rest = behind(rest, left),
+            other => return other,
+        }
+    }
+    ended(is_open, rest)
+}
+
+/// Whether a break ends an indefinite length here.
+#[inline(always)]
+fn ends(is_open: bool, bytes: &[u8]) -> bool
+    ensures value { result ≡ (is_open && is_break bytes.now) }
+    ensures some { IsTrue result → 1 ≤ length bytes.now }
+{
+    match bytes.first() {
+        Some(first) => is_open && *first == 0xff,
+        None => false,
+    }
+}
+
+/// What came of going past as many as there may be.
+#[inline(always)]
+fn ended(is_open: bool, bytes: &[u8]) -> Walk
+    ensures walks { (if is_open then stopped else passed bytes.now) ≡ walk_view bytes.now result }
+    ensures within { IsWithin (length bytes.now) result }
+{
+    if is_open {
+        Walk::Stopped
+    } else {
+        Walk::Passed(bytes.len())
+    }
+}
+
+/// The last so many bytes.
+#[inline(always)]
+fn behind(bytes: &[u8], left: usize) -> &[u8]
+    requires { left ≤ length bytes.now }
+    ensures { result.now ≡ last left bytes.now }
+{
+    &bytes[bytes.len() - left..]
+}
+
+/// The bytes ahead of the last so many.
+#[inline(always)]
+fn ahead(bytes: &[u8], left: usize) -> &[u8]
+    requires { left ≤ length bytes.now }
+    ensures { result.now ≡ take (length bytes.now - left) bytes.now }
+{
+    &bytes[..bytes.len() - left]
+}
+
+/// Goes past n bytes.
+#[inline(always)]
+fn past(n: u64, bytes: &[u8]) -> Walk
+    ensures walks { Walks bytes.now (λ fuel. past n) result }
+    ensures within { IsWithin (length bytes.now) result }
+{
+    let len = bytes.len() as u64;
+    if len < n {
+        Walk::Stopped
+    } else {
+        Walk::Passed((len - n) as usize)
+    }
+}
+
+/// Goes past what follows a first byte of major type 7.
+#[tactic(auto, using(crate::proofs::Walking::last_all), unfolding(crate::specs::Walk::simple_walk))]
+fn simple(rules: Rules, low: u8, bytes: &[u8]) -> Walk
+    ensures walks { Walks bytes.now (λ fuel. simple_walk rules low) result }
+    ensures within { IsWithin (length bytes.now) result }
+{
+    match low {
+        23 => undefined(rules, bytes),
+        25 => half(rules, bytes),
+        26 => single(rules, bytes),
+        27 => double(rules, bytes),
+        _ => Walk::Passed(bytes.len()),
+    }
+}
+
+/// Goes past an undefined.
+#[inline(always)]
+fn undefined(rules: Rules, bytes: &[u8]) -> Walk
+    ensures walks { seen rules (simple_item undefined_item) (length bytes.now) (passed bytes.now)
+        ≡ walk_view bytes.now result }
+    ensures within { IsWithin (length bytes.now) result }
+{
+    if rules.no_undefined {
+        Walk::Departed(Rule::NoUndefined, bytes.len())
+    } else {
+        Walk::Passed(bytes.len())
+    }
+}
+
+/// Goes past the bits of a float of 16 bits, and likewise of 32 and of 64.
+fn half(rules: Rules, bytes: &[u8]) -> Walk
+    ensures walks { Walks bytes.now (λ fuel. float_walk rules half 25) result }
+    ensures within { IsWithin (length bytes.now) result }
+{
+    match number(25, bytes) {
+        Some((bits, left)) => float(rules, Float::Half(bits as u16), left),
+        None => Walk::Stopped,
+    }
+}
+
+fn single(rules: Rules, bytes: &[u8]) -> Walk
+    ensures walks { Walks bytes.now (λ fuel. float_walk rules single 26) result }
+    ensures within { IsWithin (length bytes.now) result }
+{
+    match number(26, bytes) {
+        Some((bits, left)) => float(rules, Float::Single(bits as u32), left),
+        None => Walk::Stopped,
+    }
+}
+
+fn double(rules: Rules, bytes: &[u8]) -> Walk
+    ensures walks { Walks bytes.now (λ fuel. float_walk rules double 27) result }
+    ensures within { IsWithin (length bytes.now) result }
+{
+    match number(27, bytes) {
+        Some((bits, left)) => float(rules, Float::Double(bits), left),
+        None => Walk::Stopped,
+    }
+}
+
+/// Goes past a float, which so many bytes follow.
+fn float(rules: Rules, float: Float, left: usize) -> Walk
+    ensures { IsAfter (broken rules (float_feature float)) left result }
+{
+    match broken_by_float(rules, float) {
+        Some(rule) => Walk::Departed(rule, left),
+        None => Walk::Passed(left),
+    }
+}
+
+/// The number after a first byte with these lower five bits, and how many bytes are after it.
+#[tactic(auto, using(crate::proofs::Walking::last_all), unfolding(cbor_model::specs::Reader::number_behind))]
+#[inline(always)]
+fn number(low: u8, bytes: &[u8]) -> Option<(u64, usize)>
+    ensures { MatchOption result (StopsNumber low bytes.now) (IsNumber low bytes.now) }
+{
+    match low {
+        0..=23 => Some((low as u64, bytes.len())),
+        24 => {
+            let (n, rest) = bytes.split_first_chunk::<1>()?;
+            Some((n[0] as u64, rest.len()))
+        }
+        25 => {
+            let (n, rest) = bytes.split_first_chunk::<2>()?;
+            Some((u16::from_be_bytes(*n) as u64, rest.len()))
+        }
+        26 => {
+            let (n, rest) = bytes.split_first_chunk::<4>()?;
+            Some((u32::from_be_bytes(*n) as u64, rest.len()))
+        }
+        27 => {
+            let (n, rest) = bytes.split_first_chunk::<8>()?;
+            Some((u64::from_be_bytes(*n), rest.len()))
+        }
+        _ => None,
+    }
+}

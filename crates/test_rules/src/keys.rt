@@ -1,0 +1,74 @@
+//! The orders of keys.
+
+use crate::checks::{departs, keeps};
+use cbor_rules::{KeyOrder, Rule, Rules};
+use test_checks::Done;
+
+// The keys of RFC 8949, section 4.2.1, in the order given there, each with null.
+const BYTEWISE: &[u8] =
+    b"\xa8\x0a\xf6\x18\x64\xf6\x20\xf6\x61z\xf6\x62aa\xf6\x81\x18\x64\xf6\x81\x20\xf6\xf4\xf6";
+
+// The same keys in the order of section 4.2.3.
+const LENGTH_FIRST: &[u8] =
+    b"\xa8\x0a\xf6\x20\xf6\xf4\xf6\x18\x64\xf6\x61z\xf6\x81\x20\xf6\x62aa\xf6\x81\x18\x64\xf6";
+
+#[test]
+fn reads_the_example_in_its_order_alone(rt: HostRuntime) -> Done {
+    keeps(rt.alloc(), Rules::DETERMINISTIC, BYTEWISE)?;
+    keeps(rt.alloc(), Rules::LENGTH_FIRST, LENGTH_FIRST)?;
+    // 20 after 18 64, and 18 64 after f4
+    let rule = Rule::AscendingKeys;
+    departs(&rt, rt.alloc(), Rules::LENGTH_FIRST, BYTEWISE, rule, 7)?;
+    departs(&rt, rt.alloc(), Rules::DETERMINISTIC, LENGTH_FIRST, rule, 9)?;
+    let any = Rules::DETERMINISTIC.with_keys(KeyOrder::Any);
+    keeps(rt.alloc(), any, BYTEWISE)?;
+    keeps(rt.alloc(), any, LENGTH_FIRST)
+}
+
+// By type, length and bytes: [-1] stands before [100], which is longer, and both before false.
+#[test]
+fn reads_keys_by_type_and_length(rt: HostRuntime) -> Done {
+    let sorted =
+        b"\xa8\x0a\xf6\x18\x64\xf6\x20\xf6\x61z\xf6\x62aa\xf6\x81\x20\xf6\x81\x18\x64\xf6\xf4\xf6";
+    keeps(rt.alloc(), Rules::CTAP2, sorted.as_slice())?;
+    departs(
+        &rt,
+        rt.alloc(),
+        Rules::CTAP2,
+        BYTEWISE,
+        Rule::AscendingKeys,
+        21,
+    )?;
+    departs(
+        &rt,
+        rt.alloc(),
+        Rules::CTAP2,
+        LENGTH_FIRST,
+        Rule::AscendingKeys,
+        9,
+    )
+}
+
+// {1: 2, 1: 3} has one key twice (RFC 8949, section 5.6).
+#[test]
+fn refuses_equal_keys(rt: HostRuntime) -> Done {
+    let orders = [
+        KeyOrder::Bytewise,
+        KeyOrder::LengthFirst,
+        KeyOrder::TypeFirst,
+    ];
+    for order in orders {
+        let rules = Rules::ANY.with_keys(order);
+        let bytes = b"\xa2\x01\x02\x01\x03".as_slice();
+        departs(&rt, rt.alloc(), rules, bytes, Rule::AscendingKeys, 4)?;
+        let bytes = b"\xbf\x01\x02\x01\x03\xff".as_slice();
+        departs(&rt, rt.alloc(), rules, bytes, Rule::AscendingKeys, 4)?;
+        // one key in each of two maps
+        keeps(
+            rt.alloc(),
+            rules,
+            b"\x82\xa1\x01\x02\xa1\x01\x02".as_slice(),
+        )?;
+    }
+    keeps(rt.alloc(), Rules::ANY, b"\xa2\x01\x02\x01\x03".as_slice())
+}

@@ -1,0 +1,11 @@
+//! Tests of reading by rules, with the examples of RFC 8949 and of CTAP2.
+#![tactic(auto)]
+
+#[cfg(test)]
+mod appendix;
+#[cfg(test)]
+mod checks;
+#[cfg(test)]
+mod keys;
+#[cfg(test)]
+mod rules;

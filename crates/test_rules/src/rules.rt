@@ -1,0 +1,121 @@
+//! Each rule by itself, and what is told first.
+
+use crate::checks::{departs, keeps};
+use cbor_io::error::ErrorCode;
+use cbor_rules::{Refusal, Rule, Rules, from_slice_with};
+use cbor_value::Value;
+use std::test::Fail;
+use test_checks::Done;
+
+// One rule each, with bytes that break it alone, the place, and bytes that keep it.
+#[test]
+fn tells_each_rule(rt: HostRuntime) -> Done {
+    let rows: [(Rules, Rule, &[u8], u64, &[u8]); 6] = [
+        (
+            Rules {
+                shortest_heads: true,
+                ..Rules::ANY
+            },
+            Rule::ShortestHeads,
+            b"\x82\x01\x58\x01a".as_slice(),
+            4,
+            b"\x9f\x01\x41a\xff".as_slice(),
+        ),
+        (
+            Rules {
+                definite_lengths: true,
+                ..Rules::ANY
+            },
+            Rule::DefiniteLengths,
+            b"\xc1\x7f\xff".as_slice(),
+            2,
+            b"\xd8\x01\x78\0".as_slice(),
+        ),
+        (
+            Rules {
+                shortest_floats: true,
+                ..Rules::ANY
+            },
+            Rule::ShortestFloats,
+            b"\x81\xfa\x3f\xc0\0\0".as_slice(),
+            6,
+            b"\x98\x02\xf9\x3e\0\xf9\x7e\x01".as_slice(),
+        ),
+        (
+            Rules {
+                one_nan: true,
+                ..Rules::ANY
+            },
+            Rule::OneNan,
+            b"\x81\xf9\xfe\0".as_slice(),
+            4,
+            b"\x82\xf9\x7e\0\xfa\x3f\xc0\0\0".as_slice(),
+        ),
+        (
+            Rules {
+                no_undefined: true,
+                ..Rules::ANY
+            },
+            Rule::NoUndefined,
+            b"\xa1\xf7\xf7".as_slice(),
+            2,
+            b"\x83\xf6\xf5\xf4".as_slice(),
+        ),
+        (
+            Rules {
+                no_tags: true,
+                ..Rules::ANY
+            },
+            Rule::NoTags,
+            b"\x81\xd8\x20\x60".as_slice(),
+            3,
+            b"\x81\x18\x06".as_slice(),
+        ),
+    ];
+    for (rules, rule, breaking, offset, keeping) in rows {
+        departs(&rt, rt.alloc(), rules, breaking, rule, offset)?;
+        keeps(rt.alloc(), Rules::ANY, breaking)?;
+        keeps(rt.alloc(), rules, keeping)?;
+    }
+    Ok(())
+}
+
+// d8 01 is a tag in a head that isn't the shortest; and 18 01 a key that is a second 1 besides.
+#[test]
+fn tells_a_head_before_what_it_says(rt: HostRuntime) -> Done {
+    let rule = Rule::ShortestHeads;
+    departs(
+        &rt,
+        rt.alloc(),
+        Rules::CTAP2,
+        b"\xd8\x01\0".as_slice(),
+        rule,
+        2,
+    )?;
+    let key = b"\xa2\x01\0\x18\x01\x02".as_slice();
+    departs(&rt, rt.alloc(), Rules::CTAP2, key, rule, 5)
+}
+
+// What is no item is refused as such, also where a departure comes before.
+#[test]
+fn refuses_what_is_no_item(rt: HostRuntime) -> Done {
+    let rows: [(&[u8], u64); 3] = [
+        (b"\x82\x18\x01".as_slice(), 3),
+        (b"\x18\x01\0".as_slice(), 3),
+        (b"\x81\xfc".as_slice(), 2),
+    ];
+    for (bytes, offset) in rows {
+        let Err(Refusal::Unread(e)) = from_slice_with::<Value>(
+            rt.alloc(),
+            bytes,
+            Rules::DETERMINISTIC,
+        ) else {
+            return Err(Fail::from("not refused as no item"));
+        };
+        if matches!(e.code(), ErrorCode::OutOfMemory) {
+            return Err(Fail::from(e));
+        }
+        assert_eq!(rt; e.offset(), offset);
+    }
+    Ok(())
+}
