@@ -2,7 +2,7 @@
    it refuses the n-th call of malloc or realloc, and says so on standard error. Where FAIL_ALLOC_OF_PART
    is n, it refuses the n-th call of each part of the program that begins with a line "+" on standard
    output and ends with a line "-", and none elsewhere; and where n is 0, it says at the end of each part
-   how large the largest was. It needs no header. */
+   for how many bytes all of them asked. It needs no header. */
 typedef __SIZE_TYPE__ size_t;
 
 void abort(void);
@@ -18,7 +18,7 @@ static long refused = -1; /* which call is refused, 0 for none */
 static int by_parts;      /* whether calls are counted by parts */
 static int in_part;
 static long calls;
-static size_t largest; /* of this part */
+static size_t asked; /* by this part, in bytes */
 
 static void read_settings(void) {
     const char *of_all = getenv("FAIL_ALLOC");
@@ -35,34 +35,34 @@ static int is_refused(void) {
     return 1;
 }
 
-static void say_largest(void) {
-    static const char told[] = "fail_alloc: the largest is ";
+static void say_asked(void) {
+    static const char told[] = "fail_alloc: in all ";
     char digits[24];
     size_t at = sizeof digits;
     digits[--at] = '\n';
-    do digits[--at] = '0' + largest % 10;
-    while (largest /= 10);
+    do digits[--at] = '0' + asked % 10;
+    while (asked /= 10);
     if (syscall(WRITE, 2, told, sizeof told - 1) < 0) abort();
     if (syscall(WRITE, 2, digits + at, sizeof digits - at) < 0) abort();
 }
 
 void *malloc(size_t size) {
-    if (size > largest) largest = size;
+    asked += size;
     return is_refused() ? 0 : __libc_malloc(size);
 }
 
 void *realloc(void *old, size_t size) {
-    if (size > largest) largest = size;
+    asked += size;
     return is_refused() ? 0 : __libc_realloc(old, size);
 }
 
 long write(int to, const void *bytes, size_t count) {
     const char *text = bytes;
     if (by_parts && to == 1 && count == 2 && text[1] == '\n' && (text[0] == '+' || text[0] == '-')) {
-        if (in_part && refused == 0) say_largest();
+        if (in_part && refused == 0) say_asked();
         in_part = text[0] == '+';
         calls = 0;
-        largest = 0;
+        asked = 0;
     }
     return syscall(WRITE, to, bytes, count);
 }

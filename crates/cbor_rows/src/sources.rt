@@ -1,6 +1,7 @@
 //! What bytes are read as, by each source that a row asks for.
 
 use crate::user_types;
+use cbor_tables::rewritten::are_rearranged;
 use cbor_tables::{Desk, How, Pieces, Row, SCRATCH, Source, Step, strict, types, values};
 use serde_cbor::Deserializer;
 use serde_cbor::de::{Read, Source as Bytes};
@@ -45,7 +46,11 @@ fn in_place(desk: &mut Desk<'_>, row: &Row<'_>) -> io::Result<bool> {
     desk.step = Step::Read(Source::InPlace);
     let mut copy = row.bytes.clone()?;
     let de = Deserializer::from_mut_slice(desk.rt.alloc(), &mut copy);
-    typed(desk, row, switched(de, row.how))
+    let is_known = typed(desk, row, switched(de, row.how))?;
+    if !are_rearranged(&copy, &row.bytes) {
+        desk.tells_lost()?;
+    }
+    Ok(is_known)
 }
 
 fn reader(desk: &mut Desk<'_>, row: &Row<'_>) -> io::Result<bool> {
@@ -53,9 +58,29 @@ fn reader(desk: &mut Desk<'_>, row: &Row<'_>) -> io::Result<bool> {
         return Ok(true);
     }
     desk.step = Step::Read(Source::Reader);
-    let pieces = Pieces::new(&row.bytes, row.how.piece);
-    let de = Deserializer::from_reader(desk.rt.alloc(), pieces);
-    typed(desk, row, switched(de, row.how))
+    let mut pieces = Pieces::new(&row.bytes, row.how.piece);
+    let de = Deserializer::from_reader(desk.rt.alloc(), &mut pieces);
+    if !typed(desk, row, switched(de, row.how))? {
+        return Ok(false);
+    }
+    if row.is_read() && !row.how.stream {
+        before_a_fault(desk, row)?;
+    }
+    Ok(true)
+}
+
+// Of a reader that fails after the item, and isn't asked for more.
+fn before_a_fault(desk: &mut Desk<'_>, row: &Row<'_>) -> io::Result<()> {
+    let mut pieces = Pieces::failing(&row.bytes);
+    let de = Deserializer::from_reader(desk.rt.alloc(), &mut pieces);
+    desk.step = Step::Read(Source::Reader);
+    desk.ends = false;
+    typed(desk, row, switched(de, row.how))?;
+    desk.ends = true;
+    if pieces.failed {
+        desk.tells_asked()?;
+    }
+    Ok(())
 }
 
 // Judges what is read as the type that a row names; false where no type has that name.

@@ -25,6 +25,7 @@ pub fn answer(rt: &HostRuntime, table: &str, text: &str, tells_each: bool) -> io
             table,
             line: i.saturating_add(1),
             step: Step::Read(Source::Slice),
+            ends: true,
             steps: 0,
             wrong: 0,
         };

@@ -76,6 +76,8 @@ pub struct Desk<'d> {
     pub line: usize,
     /// What is judged.
     pub step: Step,
+    /// Whether the end of the input is asked for behind an item, and what is read is written.
+    pub ends: bool,
     /// How many steps there were.
     pub steps: usize,
     /// How many of them were not right.
@@ -93,7 +95,7 @@ impl<'d> Desk<'d> {
             return streams::judge::<T, R>(self, row, de);
         }
         self.begins(self.step)?;
-        let read = whole::<T, R>(de);
+        let read = whole::<T, R>(de, self.ends);
         self.judges_and_writes(row, read)
     }
 
@@ -107,7 +109,7 @@ impl<'d> Desk<'d> {
             return streams::judge::<T, R>(self, row, de);
         }
         self.begins(self.step)?;
-        let read = whole::<T, R>(de);
+        let read = whole::<T, R>(de, self.ends);
         self.judges(row, &read)
     }
 
@@ -117,6 +119,9 @@ impl<'d> Desk<'d> {
         T: Serialize + Debug + Drop,
     {
         self.judges(row, &read)?;
+        if !self.ends {
+            return Ok(());
+        }
         let Some(want) = &row.written else {
             return Ok(());
         };
@@ -126,13 +131,13 @@ impl<'d> Desk<'d> {
         self.begins(self.step.then_write())?;
         let written = write(self.rt.alloc(), value, row.how);
         self.judges_written(row, want, &written)?;
-        if self.tells_each {
+        if self.tells_each || row.how.reads_deeper() {
             return Ok(());
         }
         match closes(self.rt.alloc(), value) {
-            Ok(false) => self.tells_square(),
-            // What can't be read or written is judged by the steps.
-            Ok(true) | Err(_) => Ok(()),
+            Ok(true) => Ok(()),
+            // What was written is read, and made and written again, so that no error is right.
+            Ok(false) | Err(_) => self.tells_square(),
         }
     }
 
@@ -174,6 +179,18 @@ impl<'d> Desk<'d> {
     pub fn refuses(&mut self, malformed: Malformed) -> io::Result<()> {
         self.wrong = self.wrong.saturating_add(1);
         println!(self.rt; "{}:{}: {malformed}", self.table, self.line)
+    }
+
+    /// Tells that a reader was asked for a byte behind the item.
+    pub fn tells_asked(&mut self) -> io::Result<()> {
+        self.wrong = self.wrong.saturating_add(1);
+        println!(self.rt; "{}:{}: reader: asked for more", self.table, self.line)
+    }
+
+    /// Tells that bytes that were read in place aren't there any more.
+    pub fn tells_lost(&mut self) -> io::Result<()> {
+        self.wrong = self.wrong.saturating_add(1);
+        println!(self.rt; "{}:{}: in place: bytes lost", self.table, self.line)
     }
 
     /// Tells that so many of the row's bytes were not refused as an end of input.
@@ -239,11 +256,16 @@ impl Step {
     }
 }
 
-// Reads one item, and the end after it.
-fn whole<'r, T: Deserialize<'r, R>, R: Read<'r> + Drop>(de: Deserializer<R>) -> Result<T> {
+// Reads one item, and the end after it where that is asked for.
+fn whole<'r, T: Deserialize<'r, R>, R: Read<'r> + Drop>(
+    de: Deserializer<R>,
+    ends: bool,
+) -> Result<T> {
     let mut de = de;
     let value = T::deserialize(&mut de)?;
-    de.end()?;
+    if ends {
+        de.end()?;
+    }
     Ok(value)
 }
 

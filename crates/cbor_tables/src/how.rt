@@ -100,6 +100,11 @@ impl How {
         all_formats && self.limit == LEVELS && !self.stream
     }
 
+    /// Whether items may be nested deeper than where nothing is said.
+    pub fn reads_deeper(&self) -> bool {
+        self.limit > LEVELS
+    }
+
     /// How many levels deep an item may be nested.
     pub fn levels(&self) -> u8
         ensures { result ≤ 254 }
@@ -130,6 +135,8 @@ impl How {
             "legacy" => self.legacy = true,
             "canonical" => self.canonical = true,
             "no memory" => self.no_memory = true,
+            // .ci/growths sees to it: some 4 KB in all, however long the row is.
+            "little memory" => {}
             _ => return false,
         }
         true

@@ -21,7 +21,8 @@
 //! A row of a `Value` by each source, which is read, shows too that each proper front of its bytes
 //! is refused as an end of input, and that what is written of it is read strictly, and written
 //! again. Of each row that is written, `to_value` has to give what its bytes are read as, and
-//! `to_vec_canonical` has to write that, which strict reading reads.
+//! `to_vec_canonical` has to write that, which strict reading reads. A reader is asked for no byte
+//! behind an item, and what is read in place keeps its bytes, in some order.
 //!
 //! [`Desk`] judges what is read as a type, and what that is written as. [`types`] has the types
 //! that a row may name, but for those that users write; [`values`] and [`strict`] read the rows of
@@ -33,6 +34,7 @@ mod desk;
 mod fronts;
 mod how;
 mod pieces;
+pub mod rewritten;
 mod row;
 mod square;
 mod streams;

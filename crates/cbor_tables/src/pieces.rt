@@ -9,6 +9,8 @@ pub struct Pieces<'a> {
     rest: &'a [u8],
     piece: usize,
     fails: bool,
+    /// Whether it was asked for more than its bytes, and told its fault.
+    pub failed: bool,
 }
 
 impl<'a> Pieces<'a> {
@@ -18,6 +20,7 @@ impl<'a> Pieces<'a> {
             rest,
             piece: usize::from(piece),
             fails: false,
+            failed: false,
         }
     }
 
@@ -27,6 +30,7 @@ impl<'a> Pieces<'a> {
             rest,
             piece: 1,
             fails: true,
+            failed: false,
         }
     }
 }
@@ -34,6 +38,7 @@ impl<'a> Pieces<'a> {
 impl<'a> io::Read for Pieces<'a> {
     fn read(&mut self, buf: &mut [u8]) -> io::Result<usize> {
         if self.fails && self.rest.is_empty() {
+            self.failed = true;
             return Err(io::Error::from(ErrorKind::Interrupted));
         }
         let count = buf.len().min(self.rest.len()).min(self.piece);

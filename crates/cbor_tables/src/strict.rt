@@ -25,9 +25,8 @@ pub fn judge(desk: &mut Desk<'_>, row: &Row<'_>) -> io::Result<bool> {
 /// Has what is written of a row's value read strictly, and written again.
 pub fn reads_back(desk: &mut Desk<'_>, row: &Row<'_>) -> io::Result<()> {
     match is_read_back(desk.rt.alloc(), &row.bytes) {
-        Ok(false) => desk.tells_strict(),
-        // What isn't read or written is judged by the row itself.
-        Ok(true) | Err(_) => Ok(()),
+        Ok(true) => Ok(()),
+        Ok(false) | Err(_) => desk.tells_strict(),
     }
 }
 
@@ -35,8 +34,6 @@ pub fn reads_back(desk: &mut Desk<'_>, row: &Row<'_>) -> io::Result<()> {
 fn is_read_back(alloc: Global, bytes: &[u8]) -> Result<bool> {
     let value: Value = from_slice(alloc, bytes)?;
     let spelling = to_vec(alloc, &value)?;
-    match from_slice_canonical(alloc, &spelling) {
-        Ok(again) => Ok(again == value && to_vec(alloc, &again)?.as_slice() == spelling.as_slice()),
-        Err(e) => Ok(e.is_memory()),
-    }
+    let again = from_slice_canonical(alloc, &spelling)?;
+    Ok(again == value && to_vec(alloc, &again)?.as_slice() == spelling.as_slice())
 }

@@ -3,9 +3,10 @@
 use crate::desk::{Desk, Step};
 use crate::how::{SCRATCH, Source};
 use crate::pieces::Pieces;
+use crate::rewritten::are_rearranged;
 use crate::row::Row;
 use crate::{fronts, strict};
-use cbor_de::{from_mut_slice, from_reader, from_slice, from_slice_with_scratch};
+use cbor_de::{Deserializer, from_mut_slice, from_reader, from_slice, from_slice_with_scratch};
 use cbor_value::Value;
 use std::io;
 
@@ -41,11 +42,31 @@ fn sources(desk: &mut Desk<'_>, row: &Row<'_>) -> io::Result<()> {
         desk.begins(Step::Read(Source::InPlace))?;
         let read = from_mut_slice::<Value>(alloc, &mut copy);
         desk.judges_and_writes(row, read)?;
+        if !are_rearranged(&copy, bytes) {
+            desk.tells_lost()?;
+        }
     }
     if row.asks_for(Source::Reader) {
         desk.begins(Step::Read(Source::Reader))?;
         let read = from_reader::<Value, _>(alloc, Pieces::new(bytes, row.how.piece));
         desk.judges_and_writes(row, read)?;
+        if row.is_read() {
+            before_a_fault(desk, row)?;
+        }
+    }
+    Ok(())
+}
+
+// Of a reader that fails after the item, and isn't asked for more.
+fn before_a_fault(desk: &mut Desk<'_>, row: &Row<'_>) -> io::Result<()> {
+    let mut pieces = Pieces::failing(&row.bytes);
+    let de = Deserializer::from_reader(desk.rt.alloc(), &mut pieces);
+    desk.step = Step::Read(Source::Reader);
+    desk.ends = false;
+    desk.reads::<Value, _>(row, de)?;
+    desk.ends = true;
+    if pieces.failed {
+        desk.tells_asked()?;
     }
     Ok(())
 }

@@ -7,3 +7,5 @@ mod checks;
 mod floats;
 #[cfg(test)]
 mod keys;
+#[cfg(test)]
+mod once;

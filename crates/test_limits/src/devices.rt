@@ -1,6 +1,6 @@
 //! Which fault of a reader or a writer is told, and what is tried again.
 
-use cbor_de::from_reader;
+use cbor_de::{IgnoredAny, from_reader};
 use cbor_io::error::{ErrorCode, Result as Answer};
 use cbor_ser::{IoWrite, to_writer};
 use cbor_value::Value;
@@ -68,6 +68,21 @@ fn tells_the_kind_of_a_readers_fault(rt: HostRuntime) -> Done {
         ] {
             let answer = from_reader::<Value, _>(alloc, FailingReader { rest, kind });
             is_fault(&rt, answer, kind)?;
+        }
+    }
+    Ok(())
+}
+
+// In what is passed over, in a text that is lent, and in chunks that are joined.
+#[test]
+fn tells_the_kind_of_a_fault_in_what_is_not_kept(rt: HostRuntime) -> Done {
+    let alloc = rt.alloc();
+    for kind in KINDS {
+        for rest in [b"\x43fo".as_slice(), b"\x63fo", b"\x7f\x61a\x62b", b"\xa1"] {
+            let reader = FailingReader { rest, kind };
+            is_fault(&rt, from_reader::<IgnoredAny, _>(alloc, reader), kind)?;
+            let reader = FailingReader { rest, kind };
+            is_fault(&rt, from_reader::<char, _>(alloc, reader), kind)?;
         }
     }
     Ok(())

@@ -99,6 +99,18 @@ fn joins_many_chunks(rt: HostRuntime) -> Done {
     )
 }
 
+// Bytes that were moved for each chunk would take minutes.
+#[test]
+fn joins_two_million_chunks_in_place(rt: HostRuntime) -> Done {
+    let alloc = rt.alloc();
+    let chunks = times(alloc, b"", b"\x41\x2a", MANY)?;
+    let mut bytes = up_to_break(alloc, b"\x5f", &chunks, 32)?;
+    let joined = from_mut_slice::<&[u8]>(alloc, &mut bytes)?;
+    assert!(rt; joined.len() == 2_097_152);
+    assert!(rt; joined.iter().all(|&byte| byte == 0x2a));
+    Ok(())
+}
+
 #[test]
 fn joins_long_chunks(rt: HostRuntime) -> Done {
     let alloc = rt.alloc();

@@ -3,11 +3,12 @@
 use cbor_de::from_slice;
 use cbor_read::{IoRead, Source};
 use cbor_ser::to_vec;
+use cbor_strict::from_slice_canonical_as;
 use cbor_value::Value;
 use std::alloc::Global;
 use std::process::Abort;
 use std::test::Fail;
-use test_checks::Done;
+use test_checks::{Done, is_refused};
 
 /// An array of indefinite length, of so many zeros (RFC 7049, section 2.2.1).
 fn zeros(alloc: Global, count: usize) -> Result<Vec<u8>, Fail> {
@@ -90,4 +91,18 @@ fn holds_what_it_skips_alone(rt: HostRuntime) -> Done {
         assert!(rt; source.buffer().len() <= 65);
     }
     Ok(())
+}
+
+// A text that is lent, a number, and a head that isn't the shortest (.ci/growths).
+#[test]
+fn reads_strictly_without_memory(rt: HostRuntime) -> Done {
+    let alloc = rt.alloc();
+    let text: &str = from_slice_canonical_as(alloc, b"\x65hello")?;
+    assert!(rt; text == "hello");
+    let number: u32 = from_slice_canonical_as(alloc, b"\x1a\x00\x01\x00\x00")?;
+    assert!(rt; number == 65_536);
+    is_refused(
+        from_slice_canonical_as::<u32>(alloc, b"\x18\x17"),
+        "not canonical at offset 2",
+    )
 }

@@ -4,6 +4,8 @@
 #[cfg(test)]
 mod checks;
 #[cfg(test)]
+mod cost;
+#[cfg(test)]
 mod in_place;
 #[cfg(test)]
 mod maps;

@@ -8,4 +8,6 @@ mod devices;
 #[cfg(test)]
 mod floats;
 #[cfg(test)]
+mod long;
+#[cfg(test)]
 mod sent;

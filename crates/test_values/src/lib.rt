@@ -10,4 +10,6 @@ mod checks;
 #[cfg(test)]
 mod floats;
 #[cfg(test)]
+mod nests;
+#[cfg(test)]
 mod values;

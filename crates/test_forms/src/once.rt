@@ -1,0 +1,45 @@
+//! A value is asked once to write itself, by each call that makes something of its document.
+
+use cbor_convert::{to_value, to_vec_canonical};
+use cbor_forms::{to_vec_deterministic, to_vec_length_first};
+use cbor_io::error::Result;
+use cbor_ser::{Serialize, Serializer, Write};
+use std::alloc::Global;
+use std::cell::Cell;
+use test_checks::Done;
+
+/// A number that counts how often it was written.
+#[derive(Drop)]
+struct Counted {
+    number: u8,
+    times: Cell<u32>,
+}
+
+impl Serialize for Counted {
+    ghost document = { λ x. ⟦<u8 as Serialize>⟧.document x.number };
+
+    fn serialize<W: Write>(&self, ser: &mut Serializer<W>) -> Result<()> {
+        self.times.set(self.times.get().saturating_add(1));
+        self.number.serialize(ser)
+    }
+}
+
+/// Gives the number to each call.
+fn give_to_each(alloc: Global, counted: &Counted) -> Done {
+    to_value(alloc, counted)?;
+    to_vec_canonical(alloc, counted)?;
+    to_vec_deterministic(alloc, counted)?;
+    to_vec_length_first(alloc, counted)?;
+    Ok(())
+}
+
+#[test]
+fn writes_a_value_once(rt: HostRuntime) -> Done {
+    let counted = Counted {
+        number: 42,
+        times: Cell::new(0),
+    };
+    give_to_each(rt.alloc(), &counted)?;
+    assert!(rt; counted.times.get() == 4);
+    Ok(())
+}
