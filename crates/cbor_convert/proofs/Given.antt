@@ -1,9 +1,9 @@
 -- What is read of a value's canonical spelling.
-use Rattle.std.proofs.Common.{◌≡◌, ◌⊎◌, inl, inr, ℕ, ◌≤◌, Bool, true, false, List, [], refl, sym, ap, ◌∙◌, subst, append-nil, arith}
+use Rattle.std.proofs.Common.{◌≡◌, ◌⊎◌, inl, ℕ, Bool, true, false, List, [], refl, sym, ◌∙◌, subst, append-nil, arith}
 use Rattle.std.specs.Prelude.{Result, Ok, Err, IfOk, IfErr, OnOk}
 use Rattle.std.specs.Result.{IsErrAnd}
 use Rattle.cbor_model.specs.Raw.{Raw, IsWellFormed, depth}
-use Rattle.cbor_model.specs.Acceptable.{IsAcceptable, IsAcceptableWithin}
+use Rattle.cbor_model.specs.Acceptable.{IsAcceptable}
 use Rattle.cbor_model.specs.Plain.{Val}
 use Rattle.cbor_model.specs.Canonical.{canonical, canon, IsStorable}
 use Rattle.cbor_model.specs.Document.{document_of, raw_of, IsStorableDocument, IsDocumentInRange}

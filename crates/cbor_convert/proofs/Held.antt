@@ -1,9 +1,8 @@
 -- One part more in a builder.
 use Rattle.std.proofs.Common.{◌≡◌, ℕ, List, [], ◌∷◌, ◌++◌, refl, ap, sym, ◌∙◌, Option, Some}
 use Rattle.std.specs.Option.{option_map}
-use Rattle.cbor_model.specs.Plain as plain
 use Rattle.cbor_model.specs.Plain.{Val, Vals, no_vals, val, Pairs, no_pairs, pair}
-use Rattle.cbor_model.specs.Document.{Doc, Docs, no_docs, doc, DocPairs, no_doc_pairs, doc_pair, Fields, no_fields, field, text, AreStorableDocuments, AreStorableDocumentPairs, AreStorableFields, IsStorableDocument}
+use Rattle.cbor_model.specs.Document.{Doc, Docs, no_docs, doc, DocPairs, no_doc_pairs, doc_pair, Fields, no_fields, field, AreStorableDocuments, AreStorableDocumentPairs, AreStorableFields, IsStorableDocument}
 use Rattle.cbor_value.specs.declared.Value.{Value}
 use Rattle.cbor_value.specs.View.{view, views, pair_views}
 use Rattle.cbor_convert.specs.Meaning.{value_of, values_of}

@@ -1,7 +1,7 @@
 -- The values of documents, kind by kind.
 use Rattle.std.proofs.Common.{◌≡◌, ℕ, List, false, refl, ap}
 use Rattle.cbor_model.specs.Plain as plain
-use Rattle.cbor_model.specs.Plain.{Vals, no_vals, val, Pairs, no_pairs, pair}
+use Rattle.cbor_model.specs.Plain.{no_vals, val, Pairs, no_pairs, pair}
 use Rattle.cbor_model.specs.Value.{value, pairs, put}
 use Rattle.cbor_model.specs.FiniteMap.{put_all}
 use Rattle.cbor_model.specs.Document.{Doc, Docs, no_docs, doc, DocPairs, no_doc_pairs, doc_pair, Fields, no_fields, field, Length, text, sequence, mapping, structure, tuple_variant, struct_variant, raw_of, raw_pairs_of, raw_fields_of}

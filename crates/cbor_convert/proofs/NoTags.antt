@@ -15,7 +15,7 @@ use Rattle.cbor_decode.specs.Heads.{head_at, head_of, number_head, length_head, 
 use Rattle.cbor_decode.specs.declared.head.Head.{Head}
 use Rattle.cbor_decode.specs.declared.head.Head.TheVariants as head
 use Rattle.cbor_decode.specs.declared.cursor.Remaining.TheVariants.{Counted, ToBreak}
-use Rattle.cbor_decode_as.specs.Kinds.{kind_of, head_kind}
+use Rattle.cbor_decode_as.specs.Kinds.{head_kind}
 use Rattle.cbor_decode_as.specs.Kinds as kind
 use Rattle.cbor_decode_as.specs.Tags.{begins_tag, tag_head_at, tag_behind, entered_at}
 use Rattle.cbor_convert.specs.Tagged.{BeginsNoTag}

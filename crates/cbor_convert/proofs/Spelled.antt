@@ -1,5 +1,5 @@
 -- What is read of the bytes that were written.
-use Rattle.std.proofs.Common.{◌≡◌, ℕ, ◌+◌, ◌^◌, ◌<◌, ◌≤◌, ◌++◌, List, [], length, Bool, false, append-nil, refl, sym, ap, ◌∙◌, subst, arith, Option, None, Some}
+use Rattle.std.proofs.Common.{◌≡◌, ℕ, ◌+◌, ◌^◌, ◌<◌, ◌≤◌, ◌++◌, List, [], length, false, append-nil, refl, sym, ap, ◌∙◌, subst, arith, None}
 use Rattle.std.specs.Prelude.{Result, Ok, Err, IfOk, IfErr, MatchResult}
 use Rattle.cbor_model.specs.Raw.{Raw, depth}
 use Rattle.cbor_model.specs.Spelling.{spell}
@@ -16,10 +16,10 @@ use Rattle.cbor_read.specs.Source.{Input, start_of_slice, slice_refusals}
 use Rattle.cbor_io.specs.declared.error.Error.{Error}
 use Rattle.cbor_io.specs.declared.error.ErrorCode.{ErrorCode}
 use Rattle.cbor_io.specs.declared.error.ErrorCode.TheVariants as code
-use Rattle.cbor_io.specs.Error.{code_of, offset_of, IsOutOfMemory}
+use Rattle.cbor_io.specs.Error.{IsOutOfMemory}
 use Rattle.cbor_io.specs.declared.read_error.ReadError.{ReadError}
 use Rattle.cbor_io.specs.ReadError.{why, place, error_code}
-use Rattle.cbor_decode.specs.Gives.{FailsAs, FailsBy, Limits, limits, values, Tells, Gives, Reports, IsErrorOf}
+use Rattle.cbor_decode.specs.Gives.{FailsAs, FailsBy, limits, values, Tells, Gives, Reports, IsErrorOf}
 use Rattle.cbor_decode.specs.declared.refusal.Refused.{Refused}
 use Rattle.cbor_decode.specs.declared.refusal.Refused.TheVariants as refused
 use Rattle.cbor_value.specs.declared.Value.{Value}

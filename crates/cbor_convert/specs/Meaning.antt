@@ -1,7 +1,6 @@
 -- What a document means.
 use Rattle.std.specs.Prelude.{◌≡◌, false, Result, IfOk, OnOk, IfErr}
 use Rattle.cbor_model.specs.Plain.{Val, Vals}
-use Rattle.cbor_model.specs.Canonical.{IsOrdered}
 use Rattle.cbor_model.specs.Value.{value, values}
 use Rattle.cbor_model.specs.Document.{Doc, Docs, raw_of, raws_of, IsStorableDocument}
 use Rattle.cbor_io.specs.declared.error.Error.{Error}

@@ -1,5 +1,5 @@
 -- The end of an array or a map, where no part comes.
-use Rattle.std.proofs.Common.{◌≡◌, ℕ, zero, suc, List, [], ◌∷◌, ◌++◌, false, true, Some, None, Ok, Err, subst, sym, arith}
+use Rattle.std.proofs.Common.{◌≡◌, ℕ, zero, suc, List, [], ◌∷◌, ◌++◌, false, true, Some, None, Ok, subst, sym, arith}
 use Rattle.cbor_model.specs.Refusal.{Refusal, end_in_array, end_in_map}
 use Rattle.cbor_model.specs.Formats.{Formats}
 use Rattle.cbor_model.specs.Reader.{next_at}

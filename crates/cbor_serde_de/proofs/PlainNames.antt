@@ -5,7 +5,6 @@ use Rattle.std.specs.Cmp.Lexicographic.{pointwise, same_text, other_text}
 use Rattle.serde.specs.Names.{StandsFor, NoneBelow, Finds}
 use Rattle.serde.proofs.Finding.{first_or_past}
 use Rattle.serde.specs.Spelling.{spelled}
-use Rattle.serde.specs.declared.name.Case.{Case}
 use Rattle.serde.specs.declared.name.Case.TheVariants.{AsIs}
 use Rattle.serde.specs.declared.name.Name.{Name}
 use Rattle.serde.proofs.Spellings.{spelled-AsIs}

@@ -1,5 +1,5 @@
 -- What a step of reading read: the item, the head or the end at the front, as this event.
-use Rattle.std.specs.Prelude.{◌≡◌, ⊤, ◌⊎◌, ◌++◌, ◌∷◌, ◌^◌, ◌-◌, ℕ, ℤ, pos, List, [], Bool, Ok, Some}
+use Rattle.std.specs.Prelude.{◌≡◌, ⊤, ◌⊎◌, ◌++◌, ◌∷◌, ◌^◌, ◌-◌, [], Ok, Some}
 use Rattle.cbor_model.specs.Raw.{Raw}
 use Rattle.cbor_model.specs.Readable.{PassesTags, IsBool, IsInteger, IsFromZero, IsSigned, IsUnit}
 use Rattle.cbor_model.specs.Reader.{item_at, next_at}

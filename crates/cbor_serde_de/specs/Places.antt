@@ -7,7 +7,6 @@ use Rattle.cbor_decode.specs.declared.cursor.Remaining.{Remaining}
 use Rattle.cbor_serde_options.specs.declared.options.Options.{Options}
 use Rattle.cbor_serde_de.specs.declared.cbor.Cbor.{Cbor}
 use Rattle.cbor_serde_de.specs.declared.cbor.Mark.{Mark}
-use Rattle.cbor_serde_de.specs.declared.cbor.Open.{Open}
 
 abbrev pub input_of : Cbor → Input
 input_of c = input_of_slice c.decoder.source

@@ -1,7 +1,7 @@
 -- What is still due of an item that is written part by part.
-use Rattle.std.proofs.Common.{◌≡◌, ◌≤◌, ◌-◌, ◌+◌, ◌<◌, ◌^◌, ℕ, zero, suc, List, [], ◌∷◌, ◌++◌, length, Bool, true, false, Option, Some, None, IsUtf8, refl, ap, ◌∙◌, subst, sym, arith, append_assoc}
+use Rattle.std.proofs.Common.{◌≡◌, ◌≤◌, ◌-◌, ◌+◌, ℕ, zero, suc, List, ◌++◌, Bool, true, false, Option, Some, None, IsUtf8, ap, ◌∙◌, subst, sym, append_assoc}
 use Rattle.std.proofs.Math.Nat.{max-le}
-use Rattle.cbor_model.specs.Raw.{Raw, Raws, no_raws, raw, RawPairs, no_raw_pairs, raw_pair, count, pair_count, AreWellFormed, ArePairsWellFormed, depth, depth_all, depth_pairs, EachTextOfAll, EachTextOfPairs}
+use Rattle.cbor_model.specs.Raw.{Raw, Raws, raw, RawPairs, raw_pair, count, pair_count, AreWellFormed, ArePairsWellFormed, depth_all, depth_pairs, EachTextOfAll, EachTextOfPairs}
 use Rattle.cbor_model.specs.Acceptable.{IsAcceptableWithin}
 use Rattle.cbor_model.specs.Spelling.{spell, spell_all, spell_pairs}
 use Rattle.cbor_model.specs.Parts.{end_of}

@@ -1,5 +1,5 @@
 -- How many arrays and maps are open.
-use Rattle.std.proofs.Common.{◌≡◌, ◌<◌, ℕ, List, length, true, reverse, arith, subst, sym}
+use Rattle.std.proofs.Common.{◌≡◌, ◌<◌, List, length, true, reverse, subst, sym}
 use Rattle.std.specs.Prelude.{nat_lt}
 use Rattle.std.proofs.lemmas.Bool.{lt-ltb}
 use Rattle.std.proofs.lemmas.List.{length-reverse}

@@ -1,5 +1,5 @@
 -- The document of events is one acceptable item.
-use Rattle.std.proofs.Common.{◌≡◌, ◌≤◌, ◌<◌, ◌+◌, ◌-◌, ◌^◌, ℕ, zero, suc, ℤ, pos, negsuc, List, [], ◌∷◌, ◌++◌, length, Bool, true, false, Option, Some, None, IfSome, option_and_then, IsUtf8, refl, ap, ◌∙◌, subst, sym, arith, append_assoc, append-nil}
+use Rattle.std.proofs.Common.{◌≡◌, ◌<◌, ◌+◌, ◌-◌, ◌^◌, ℕ, zero, suc, ℤ, pos, negsuc, List, [], ◌∷◌, ◌++◌, length, Bool, true, false, Option, Some, None, option_and_then, IsUtf8, refl, ap, ◌∙◌, subst, sym, arith, append_assoc, append-nil}
 use Rattle.std.specs.Prelude.{not, ◌&&◌, ◌||◌, ◌==◌, nat_lt, if◌then◌else◌, option_map, is_some, encode_utf8, to_bits}
 use Rattle.std.specs.Str.{is_utf8}
 use Rattle.std.specs.List.{list_all}
@@ -11,7 +11,7 @@ use Rattle.std.proofs.lemmas.Nat.{be_bytes_2, be_bytes_4, be_bytes_8}
 use Rattle.cbor_model.specs.Head.{short, least}
 use Rattle.std.proofs.Math.Nat.{le-max_left}
 use Rattle.cbor_model.specs.Raw.{Raw, Raws, no_raws, raw, count, depth, AreBytes, unsigned, negative, bytes, text, simple, float, half, single, double, false_item, true_item, null_item}
-use Rattle.cbor_model.specs.Acceptable.{IsAcceptable, IsAcceptableWithin}
+use Rattle.cbor_model.specs.Acceptable.{IsAcceptableWithin}
 use Rattle.cbor_model.specs.Spelling.{spell, spell_all}
 use Rattle.cbor_model.specs.Canonical.{chunk_of}
 use Rattle.cbor_model.specs.Parts.{array_start, map_start, end_of}
@@ -23,9 +23,9 @@ use Rattle.cbor_serde_options.specs.Keys.{key_number, negative as negative_key, 
 use Rattle.cbor_serde_options.specs.declared.options.Options.{Options}
 use Rattle.cbor_serde_ser.specs.declared.level.Level.{Level}
 use Rattle.cbor_serde_ser.specs.Floats.{half_of, half_or_single, single_bytes, is_single}
-use Rattle.cbor_serde_ser.specs.Document.{State, start, after_item, is_full, none_left, opened, item, opens, closed, ends, joined, taken, step, run, whole, is_empty, left_is_zero, document, is_bytes, is_text, is_count, may_come, string, integer, stored, integer_or_text, name_bytes, IsItem, AreBytesOf}
-use Rattle.cbor_serde_ser.proofs.Due.{AreFine, Items, Whole, Due}
-use Rattle.cbor_serde_ser.proofs.Levels.{levels_left, Completes, took, fits_least, IsCount, Fronts, fronts, ended_due}
+use Rattle.cbor_serde_ser.specs.Document.{State, start, after_item, is_full, opened, item, opens, closed, ends, joined, taken, step, run, whole, is_empty, left_is_zero, document, is_bytes, is_text, is_count, may_come, string, integer, stored, integer_or_text, name_bytes, IsItem, AreBytesOf}
+use Rattle.cbor_serde_ser.proofs.Due.{AreFine, Due}
+use Rattle.cbor_serde_ser.proofs.Levels.{levels_left, Completes, took, fits_least, IsCount, fronts, ended_due}
 
 -- What completes what is open makes it one acceptable item.
 abbrev Good : State → Type 0

@@ -6,7 +6,7 @@ use Rattle.std.proofs.lemmas.List.{append-nil}
 use Rattle.cbor_model.specs.Head.{HeadWidth, no_bytes, limit, head}
 use Rattle.cbor_model.specs.Major.{major_of}
 use Rattle.cbor_model.specs.Raw as raw
-use Rattle.cbor_model.specs.Raw.{Length, definite, indefinite, Raw, Raws, no_raws, RawPairs, no_raw_pairs, raw_pair, Simple, false_item, true_item, null_item, undefined_item, FloatWidth, half, single, double, float_limit, AreBytes, count, pair_count, IsWellFormed, AreWellFormed, ArePairsWellFormed}
+use Rattle.cbor_model.specs.Raw.{definite, indefinite, Raw, Raws, no_raws, RawPairs, no_raw_pairs, raw_pair, Simple, false_item, true_item, null_item, undefined_item, FloatWidth, half, single, double, float_limit, AreBytes, count, pair_count, IsWellFormed, AreWellFormed, ArePairsWellFormed}
 use Rattle.cbor_model.specs.Spelling.{spell, spell_all, spell_pairs, break, simple_byte, float_spelling, BeginsSpelling}
 use Rattle.cbor_model.specs.Order.{lex}
 use Rattle.cbor_model.specs.Value.{by_order}

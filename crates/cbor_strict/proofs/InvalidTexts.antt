@@ -7,7 +7,7 @@ use Rattle.std.proofs.lemmas.List.{append-nil, length-append, length-take, lengt
 use Rattle.std.proofs.lemmas.List.Elements.{Contains-append_cases, Contains-append_left, Contains-append_right}
 use Rattle.cbor_model.specs.Head.{head}
 use Rattle.cbor_model.specs.Raw as raw
-use Rattle.cbor_model.specs.Raw.{Length, Raw, Raws, no_raws, RawPairs, no_raw_pairs, raw_pair, Chunk, joined, AreBytes, count, pair_count, depth, IsWellFormed}
+use Rattle.cbor_model.specs.Raw.{Raw, Raws, no_raws, RawPairs, no_raw_pairs, raw_pair, Chunk, joined, AreBytes, count, pair_count, depth, IsWellFormed}
 use Rattle.cbor_model.specs.Spelling.{spell, spell_all, spell_pairs, chunk, break}
 use Rattle.cbor_model.specs.Allowed.{IsTextOf, IsInvalidUtf8}
 use Rattle.cbor_model.proofs.reader.ReaderSteps.{AreBytes-take}

@@ -10,7 +10,7 @@ use Rattle.cbor_model.specs.Value.{value}
 use Rattle.cbor_model.specs.Canonical.{canonical, canon}
 use Rattle.cbor_strict.specs.Departure.{departures, DepartsAt, IsFirstDeparture, ShowsDeparture}
 use Rattle.cbor_strict.specs.Walk.{departed, walk, walk_of}
-use Rattle.cbor_strict.specs.Strict.{SpellsCanonically, IsFirstShown}
+use Rattle.cbor_strict.specs.Strict.{IsFirstShown}
 use Rattle.cbor_strict.specs.Strict as laws
 use Rattle.cbor_model.proofs.order.Apart.{one_spelling}
 use Rattle.cbor_model.proofs.values.Canonical.{value_is_canonical}

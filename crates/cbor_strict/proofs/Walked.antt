@@ -6,7 +6,7 @@ use Rattle.std.proofs.lemmas.List.{append-nil, length-append, take_at, drop_at}
 use Rattle.cbor_model.specs.Head.{HeadWidth, limit, info, behind, head}
 use Rattle.cbor_model.specs.Major.{major_of}
 use Rattle.cbor_model.specs.Raw as raw
-use Rattle.cbor_model.specs.Raw.{Length, definite, indefinite, Raw, Raws, no_raws, RawPairs, no_raw_pairs, raw_pair, false_item, true_item, null_item, undefined_item, half, single, double, count, pair_count, depth, depth_all, depth_pairs, IsWellFormed, AreWellFormed, ArePairsWellFormed}
+use Rattle.cbor_model.specs.Raw.{definite, indefinite, Raw, Raws, no_raws, RawPairs, no_raw_pairs, raw_pair, false_item, true_item, null_item, undefined_item, half, single, double, count, pair_count, depth, depth_all, depth_pairs, IsWellFormed, AreWellFormed, ArePairsWellFormed}
 use Rattle.cbor_model.specs.Spelling.{spell, spell_all, spell_pairs}
 use Rattle.cbor_model.specs.Order.{lex, val_cmp}
 use Rattle.cbor_model.specs.Value.{value, by_order}

@@ -1,5 +1,5 @@
 -- What strict reading answers where it refuses.
-use Rattle.std.specs.Prelude.{◌≡◌, ◌⊎◌, ℕ, ◌<◌, List, [], None}
+use Rattle.std.specs.Prelude.{◌≡◌, ◌⊎◌, ℕ, ◌<◌, List, None}
 use Rattle.cbor_model.specs.Formats.{all_formats}
 use Rattle.cbor_model.specs.Raw.{Raw}
 use Rattle.cbor_io.specs.declared.error.Error.{Error}

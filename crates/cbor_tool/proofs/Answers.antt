@@ -7,7 +7,7 @@ use Rattle.std.proofs.KnownBytes.{Appends-nil, Appends-trans, Appends-kept}
 use Rattle.hex.specs.Hex.{decode_of}
 use Rattle.hex.specs.declared.error.FromHexError.{FromHexError}
 use Rattle.cbor_model.specs.Plain.{Val}
-use Rattle.cbor_model.specs.Canonical.{canon, IsStorable}
+use Rattle.cbor_model.specs.Canonical.{IsStorable}
 use Rattle.cbor_model.specs.Refusal.{Refusal, words, at_offset, end_in_value, end_in_array, end_in_map, length_out_of_range, invalid_utf8, unassigned_code, unexpected_code, trailing_data, too_deep, scratch_too_small, wrong_struct_format}
 use Rattle.cbor_model.specs.Allowed.{limits_of}
 use Rattle.cbor_model.specs.Value.{value}
@@ -18,13 +18,12 @@ use Rattle.cbor_model.specs.Document.{document_of, IsStorableDocument}
 use Rattle.cbor_model.proofs.facts.Laws.{value_is_storable}
 use Rattle.cbor_model.proofs.facts.Documents.{storable_document}
 use Rattle.serde_cbor.specs.declared.error.ErrorCode.{ErrorCode}
-use Rattle.serde_cbor.specs.declared.error.ErrorCode.TheVariants.{Message, Io, ScratchTooSmall, EofWhileParsingValue, EofWhileParsingArray, EofWhileParsingMap, LengthOutOfRange, InvalidUtf8, UnassignedCode, UnexpectedCode, TrailingData, RecursionLimitExceeded, WrongStructFormat, OutOfMemory}
+use Rattle.serde_cbor.specs.declared.error.ErrorCode.TheVariants.{Message, OutOfMemory}
 use Rattle.serde_cbor.specs.declared.error.Error.{Error}
 use Rattle.serde_cbor.specs.Error.{code_of, offset_of, code_text, error_text, IsOutOfMemory}
 use Rattle.serde_cbor.specs.FirstRefusal.{refusal_code, TellsFirst}
-use Rattle.serde_cbor.specs.Strict.{SpellsCanonically}
 use Rattle.serde_cbor.specs.StrictRefusals.{StrictRefusal, ordinary, not_canonical}
-use Rattle.serde_cbor.specs.StrictAnswers.{strict_code, TellsFirstStrictly}
+use Rattle.serde_cbor.specs.StrictAnswers.{strict_code}
 use Rattle.serde_cbor.specs.Written.{IsRefusedBy, IsNotWritten}
 use Rattle.cbor_tool.specs.Run.{AppendsAnswers}
 use Rattle.cbor_tool.specs.declared.program.Mode.{Mode}

@@ -12,7 +12,7 @@ use Rattle.cbor_model.specs.Canonical.{canon}
 use Rattle.cbor_model.specs.Plain.{Val}
 use Rattle.cbor_model.specs.Laws.{SpellsValue}
 use Rattle.cbor_model.specs.Refusal.{Refusal, words, at_offset}
-use Rattle.cbor_model.specs.Allowed.{limits_of, IsFirstRefusal}
+use Rattle.cbor_model.specs.Allowed.{limits_of}
 use Rattle.cbor_tool.specs.Answer.{hex_digit, hex, IsHexOf, IsRefusalText, IsStrictRefusalText}
 use Rattle.cbor_tool.specs.Answer.{strict_words, Answered, IsAnswered, IsAnsweredStrictly, OneAnswer}
 use Rattle.cbor_tool.specs.Answer.{Answers, IsHexOfCanonical, shown, refused}

@@ -1,8 +1,8 @@
 -- What is known of a run over a sequence between two items, and at its end.
-use Rattle.std.proofs.Common.{◌≡◌, ◌⊎◌, inl, inr, ℕ, suc, ◌+◌, ◌-◌, true, false, List, [], ◌∷◌, ◌++◌, map, length, Option, Some, None, IfSome, refl, sym, ap, ap₂, subst, ◌∙◌, append_assoc, append-nil, length-append, arith}
+use Rattle.std.proofs.Common.{◌≡◌, ◌⊎◌, inl, inr, ℕ, suc, ◌+◌, ◌-◌, false, List, [], ◌∷◌, ◌++◌, map, length, Option, None, IfSome, refl, sym, ap, subst, ◌∙◌, append_assoc, append-nil, length-append, arith}
 use Rattle.std.specs.Prelude.{flat_map}
 use Rattle.std.specs.List.{AllByRecursion}
-use Rattle.std.specs.Io.KnownBytes.{Appends, Keeps}
+use Rattle.std.specs.Io.KnownBytes.{Appends}
 use Rattle.std.proofs.KnownBytes.{Appends-nil, Appends-trans, Appends-kept}
 use Rattle.cbor_model.specs.Acceptable.{max_depth, IsAcceptableWithin}
 use Rattle.cbor_model.specs.Formats.{all_formats}
@@ -22,7 +22,7 @@ use Rattle.serde_cbor.specs.Source.{Input, Lends, reader_refusals, start_of_read
 use Rattle.serde_cbor.specs.Error.{IsOutOfMemory}
 use Rattle.serde_cbor.specs.declared.error.Error.{Error}
 use Rattle.cbor_tool.specs.declared.sequence.Form.{Form}
-use Rattle.cbor_tool.specs.Sequence.{IsShown, AreShown, AnswersSequence, StopsSequence, BeginsAnswer, failed, refused, limits_behind}
+use Rattle.cbor_tool.specs.Sequence.{IsShown, AreShown, AnswersSequence, StopsSequence, failed, refused}
 use Rattle.cbor_tool.specs.SequenceSteps.{AppendsAnswer, FailsAnswering}
 
 pub memory_excuses : (e : Error) → IsOutOfMemory e → IsMemoryOrFault e

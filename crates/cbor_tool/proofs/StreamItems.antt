@@ -1,5 +1,5 @@
 -- What a stream gives, by the definitions.
-use Rattle.std.proofs.Common.{◌≡◌, ◌⊎◌, ℕ, Bool, List, false, Ok, Err, inl, inr, subst}
+use Rattle.std.proofs.Common.{◌≡◌, ◌⊎◌, ℕ, Bool, List, Ok, Err, inl, inr, subst}
 use Rattle.serde_cbor.specs.Error.{code_of, offset_of}
 use Rattle.serde_cbor.specs.Acceptable.{max_depth}
 use Rattle.serde_cbor.specs.Formats.{Formats, all_formats}

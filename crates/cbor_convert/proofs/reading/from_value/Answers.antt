@@ -1,4 +1,4 @@
-use Rattle.std.proofs.Common.{◌≡◌, ◌⊎◌, ℕ, List, IfErr, None, subst, refl}
+use Rattle.std.proofs.Common.{◌⊎◌, ℕ, List, IfErr, None, subst, refl}
 use Rattle.cbor_model.specs.Allowed.{limits_of}
 use Rattle.cbor_io.specs.Error.{IsOutOfMemory}
 use Rattle.cbor_value.specs.View.{view}

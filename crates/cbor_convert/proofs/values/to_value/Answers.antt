@@ -1,4 +1,4 @@
-use Rattle.std.proofs.Common.{◌≡◌, ◌∙◌, arith}
+use Rattle.std.proofs.Common.{◌∙◌}
 use Rattle.cbor_convert.proofs.Spelled.{value_answered, stored_answered, ordered_answered, memory_answered}
 use Rattle.cbor_convert.proofs.values.to_value.Goals as goal
 

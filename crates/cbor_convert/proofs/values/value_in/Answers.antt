@@ -1,5 +1,4 @@
-use Rattle.std.proofs.Common.{◌≡◌, [], length, ap, ◌∙◌, arith, refl}
-use Rattle.cbor_model.specs.Formats.{all_formats}
+use Rattle.std.proofs.Common.{ap, ◌∙◌, arith, refl}
 use Rattle.cbor_read.specs.Sources.{input_of_slice}
 use Rattle.cbor_convert.proofs.Spelled.{is_value, memory_alone}
 use Rattle.cbor_convert.proofs.values.value_in.Goals as goal

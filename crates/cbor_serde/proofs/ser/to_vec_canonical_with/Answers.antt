@@ -1,4 +1,4 @@
-use Rattle.std.proofs.Common.{◌≡◌, [], Some, Result, Ok, Err, IfOk, refl, ◌∙◌}
+use Rattle.std.proofs.Common.{[], Some, Result, Ok, Err, IfOk, refl, ◌∙◌}
 use Rattle.serde.specs.Event.{Log}
 use Rattle.cbor_model.specs.Document.{document_of}
 use Rattle.cbor_value.specs.View.{view}

@@ -1,12 +1,9 @@
-use Rattle.std.proofs.Common.{◌≡◌, ◌⊎◌, List, ℕ, ◌∙◌, Bool, true, false, inl, inr, refl, sym, subst}
+use Rattle.std.proofs.Common.{◌≡◌, ℕ, ◌∙◌, true, false, refl, subst}
 use Rattle.cbor_model.specs.Acceptable.{max_depth}
-use Rattle.cbor_model.specs.Canonical.{IsStorable}
-use Rattle.cbor_model.specs.Formats.{Formats, all_formats}
-use Rattle.cbor_model.specs.Plain.{Val}
+use Rattle.cbor_model.specs.Formats.{Formats}
 use Rattle.cbor_model.specs.Raw.{Raw}
 use Rattle.cbor_model.specs.Readable.{Context}
 use Rattle.cbor_model.specs.Value.{value}
-use Rattle.cbor_model.proofs.facts.Laws.{value_is_storable}
 use Rattle.cbor_value.specs.declared.Value.{Value}
 use Rattle.serde_cbor.specs.Source.{reader_refusals}
 use Rattle.serde_cbor.specs.Sources.{input_of_reader}

@@ -1,7 +1,6 @@
 use Rattle.std.proofs.Common.{rules, List, subst}
 use Rattle.std.proofs.lemmas.Result.{err_from_is_err_and}
-use Rattle.serde_cbor.specs.View.{view, views}
-use Rattle.serde_cbor.specs.declared.error.Error.{Error}
+use Rattle.serde_cbor.specs.View.{views}
 use Rattle.cbor_value.specs.declared.Value.{Value}
 use Rattle.samples.specs.Trees.{AreTrees, RefusesTrees}
 use Rattle.samples.proofs.Trees.{node_is, node_lacks, trees_more, trees_lack}

@@ -1,4 +1,4 @@
-use Rattle.std.proofs.Common.{◌≡◌, sym, ap, ◌∙◌, Some, rules}
+use Rattle.std.proofs.Common.{◌≡◌, sym, ◌∙◌, Some, rules}
 use Rattle.cbor_value.specs.View.{view}
 use Rattle.cbor_convert.specs.Meaning.{value_of}
 use Rattle.cbor_convert.proofs.Held.{pair_held, pairs_stored, key_is}
