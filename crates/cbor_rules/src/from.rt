@@ -11,7 +11,7 @@ ghost use Rattle.cbor_read.specs.Source.{start_of_slice};
 ghost use Rattle.cbor_decode.specs.FirstRefusal.{TellsFirst};
 ghost use Rattle.cbor_decode_as.specs.Takes.{WhereTotal};
 ghost use Rattle.cbor_de.specs.Forms.{MayTell};
-ghost use Rattle.cbor_de.specs.Whole.{from_slice_context};
+ghost use Rattle.cbor_de.specs.Whole.{RefusesUnread, from_slice_asks, from_slice_context};
 ghost use Rattle.cbor_rules.specs.Answers.{IfDeparts, IfUnread, IsMemory, SpellsByRules};
 ghost use Rattle.cbor_rules.specs.Answers.{SpellsDeparting, TellsItsDeparture};
 
@@ -67,6 +67,14 @@ pub fn from_slice_with<'a, T: Deserialize<'a, SliceRead<'a>>>(
         (IsOutOfMemory e ⊎ TellsFirst (limits_of None) slice.now e))) }
     ensures form { IfErr result
         (IfUnread (MayTell T.wrong_forms all_formats (start_of_slice slice.now None))) }
+    // A type that passes over an item that it doesn't read refuses it by a message, and other bytes
+    // by their first refusal.
+    ensures fault { IfErr result (IfUnread (λ e. WhereTotal T.passes_over
+        (IsOutOfMemory e ⊎ RefusesUnread (T.reads from_slice_context) None slice.now e))) }
+    // Memory runs out only for an item for which the type may ask for it.
+    ensures memory { (x : T)
+        → (spelt : SpellsAs all_formats (T.reads from_slice_context) slice.now x)
+        → IfErr result (IfUnread (λ e. T.asks_memory from_slice_asks spelt.item)) }
 {
     match from_slice::<T>(alloc, slice) {
         Ok(value) => match first_departure(rules, slice) {

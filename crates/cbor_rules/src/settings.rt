@@ -111,7 +111,8 @@ impl Rules {
     };
 
     /// The canonical form of CTAP2 (section 6): shortest heads, definite lengths, keys ascending by
-    /// type, length and bytes, floats in the width that they have, and no tags.
+    /// type, length and bytes, floats in the width that they have, and no tags. That CTAP2 nests
+    /// four levels at the most is none of these rules.
     pub const CTAP2: Rules = Rules {
         keys: KeyOrder::TypeFirst,
         shortest_heads: true,

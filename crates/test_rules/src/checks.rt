@@ -1,7 +1,9 @@
 //! What one row of a test asks. These promise nothing, so that a test of many rows carries no facts
 //! from one to the next.
 
+use cbor_io::error::ErrorCode;
 use cbor_rules::{Departure, Refusal, Rule, Rules, from_slice_with};
+use cbor_strict::from_slice_canonical;
 use cbor_value::Value;
 use std::alloc::Global;
 use std::process::Abort;
@@ -34,4 +36,36 @@ pub fn departs(
             Ok(())
         }
     }
+}
+
+/// Where the bytes depart from the canonical rules, if they do.
+fn departs_at(alloc: Global, bytes: &[u8]) -> Result<Option<u64>, Fail> {
+    match from_slice_with::<Value>(alloc, bytes, Rules::CANONICAL) {
+        Ok(_) => Ok(None),
+        Err(Refusal::Unread(e)) => Err(Fail::from(e)),
+        Err(Refusal::Departs(departure)) => Ok(Some(departure.offset)),
+    }
+}
+
+/// Where strict reading finds that they aren't canonical, if it does.
+fn strictly_departs_at(alloc: Global, bytes: &[u8]) -> Result<Option<u64>, Fail> {
+    match from_slice_canonical(alloc, bytes) {
+        Ok(_) => Ok(None),
+        Err(e) => {
+            let offset = e.offset();
+            if matches!(e.code(), ErrorCode::NotCanonical) {
+                Ok(Some(offset))
+            } else {
+                Err(Fail::from(e))
+            }
+        }
+    }
+}
+
+/// By the canonical rules the bytes depart where they do for strict reading.
+pub fn agrees(rt: &impl Abort, alloc: Global, bytes: &[u8]) -> Done {
+    let by_rules = departs_at(alloc, bytes)?;
+    let strictly = strictly_departs_at(alloc, bytes)?;
+    assert!(rt; by_rules == strictly);
+    Ok(())
 }

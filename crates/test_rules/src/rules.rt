@@ -1,6 +1,6 @@
 //! Each rule by itself, and what is told first.
 
-use crate::checks::{departs, keeps};
+use crate::checks::{agrees, departs, keeps};
 use cbor_io::error::ErrorCode;
 use cbor_rules::{Refusal, Rule, Rules, from_slice_with};
 use cbor_value::Value;
@@ -116,6 +116,29 @@ fn refuses_what_is_no_item(rt: HostRuntime) -> Done {
             return Err(Fail::from(e));
         }
         assert_eq!(rt; e.offset(), offset);
+    }
+    Ok(())
+}
+
+// Each kind of departure from the canonical encoding, and what departs nowhere.
+#[test]
+fn reads_canonically_as_strict_reading_does(rt: HostRuntime) -> Done {
+    let rows: [&[u8]; 12] = [
+        b"\xa2\x01\xf6\x20\x82\xfb\x3f\xf8\0\0\0\0\0\0\x60".as_slice(),
+        b"\xa2\x18\x64\xf6\x20\xf6".as_slice(),
+        b"\xa2\x20\xf6\x18\x64\xf6".as_slice(),
+        b"\xa2\x01\xf6\x01\xf6".as_slice(),
+        b"\xa2\x01\xf6\x18\x01\xf6".as_slice(),
+        b"\x81\x19\0\xff".as_slice(),
+        b"\x82\x58\x01a\xf7".as_slice(),
+        b"\xd8\x01\x81\xf7".as_slice(),
+        b"\x83\x01\xf7\x18\x01".as_slice(),
+        b"\x9f\xff".as_slice(),
+        b"\x81\xbf\x01\x02\xff".as_slice(),
+        b"\xa1\x61a\x7f\x61b\xff".as_slice(),
+    ];
+    for bytes in rows {
+        agrees(&rt, rt.alloc(), bytes)?;
     }
     Ok(())
 }

@@ -46,3 +46,9 @@ returns-in-Err-clause-first g c = c.in-Err.ensures.first
 
 pub returns-in-Err-clause-form : goal.returns-in-Err-clause-form
 returns-in-Err-clause-form g c = c.in-Err.ensures.form
+
+pub returns-in-Err-clause-fault : goal.returns-in-Err-clause-fault
+returns-in-Err-clause-fault g c = c.in-Err.ensures.fault
+
+pub returns-in-Err-clause-memory : goal.returns-in-Err-clause-memory
+returns-in-Err-clause-memory g c = λ x spelt. c.in-Err.ensures.memory x spelt
