@@ -3,3 +3,6 @@ pub mod Walked
 pub mod Told
 pub mod Kept
 pub mod Reading
+pub mod Canonical
+pub mod Floats
+pub mod Deterministic

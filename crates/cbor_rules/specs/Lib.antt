@@ -3,3 +3,4 @@ pub mod Rules
 pub mod Walk
 pub mod Walks
 pub mod Answers
+pub mod Presets

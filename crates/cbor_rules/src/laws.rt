@@ -1,5 +1,18 @@
-//! Laws about departures, which are the contracts of functions that do nothing.
+//! Laws, which are the contracts of functions that do nothing: about departures, and that what a
+//! preset's writer writes is what its rules accept.
+//!
+//! A caller gives the laws of a preset the bytes that encode an acceptable item, and what their
+//! writer says of them.
+
+ghost use Rattle.std.specs.Prelude.{◌≡◌};
 ghost use Rattle.cbor_rules.specs.Rules.{FirstIsLeast, NoneWhereKept};
+ghost use Rattle.cbor_rules.specs.Presets.{any_item, canonical, ctap2, deterministic, length_first};
+ghost use Rattle.cbor_rules.specs.Presets.{AcceptedIsWritten, WrittenIsAccepted, defined};
+ghost use Rattle.cbor_rules.specs.Presets.{IsCanonicalOf, IsDeterministicOf};
+ghost use Rattle.cbor_rules.specs.Presets.{ShortenedHasShortestFloats};
+
+use crate::settings::Rules;
+use cbor_forms::{same_number_same_float, shortened_once};
 
 /// An item departs nowhere exactly where it keeps each rule that is on.
 pub fn none_where_kept()
@@ -10,3 +23,42 @@ pub fn none_where_kept()
 pub fn first_is_least()
     ensures { FirstIsLeast }
 {}
+
+/// Which rules are on in each preset.
+pub fn presets()
+    ensures any { Rules.ANY ≡ any_item }
+    ensures canonical { Rules.CANONICAL ≡ canonical }
+    ensures deterministic { Rules.DETERMINISTIC ≡ deterministic }
+    ensures length_first { Rules.LENGTH_FIRST ≡ length_first }
+    ensures ctap2 { Rules.CTAP2 ≡ ctap2 }
+{}
+
+/// What is written canonically, as `to_vec_canonical` does, keeps the canonical rules.
+pub fn canonical_written_is_accepted()
+    ensures { WrittenIsAccepted Rules.CANONICAL IsCanonicalOf }
+{}
+
+/// What keeps the canonical rules is written canonically.
+pub fn canonical_accepted_is_written()
+    ensures { AcceptedIsWritten Rules.CANONICAL IsCanonicalOf }
+{}
+
+/// What is written deterministically keeps the deterministic rules, and has nothing undefined.
+pub fn deterministic_written_is_accepted()
+    ensures kept { WrittenIsAccepted Rules.DETERMINISTIC IsDeterministicOf }
+    ensures defined { WrittenIsAccepted (defined Rules.DETERMINISTIC) IsDeterministicOf }
+{
+    same_number_same_float();
+}
+
+/// What keeps the deterministic rules and has nothing undefined is written deterministically.
+pub fn deterministic_accepted_is_written()
+    ensures { AcceptedIsWritten (defined Rules.DETERMINISTIC) IsDeterministicOf }
+{}
+
+/// A value as `to_vec_deterministic` writes it has its floats at their shortest.
+pub fn shortened_has_shortest_floats()
+    ensures { ShortenedHasShortestFloats }
+{
+    shortened_once();
+}

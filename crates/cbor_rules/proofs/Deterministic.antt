@@ -1,0 +1,287 @@
+-- An item keeps the deterministic rules exactly where it is the canonical item of its value, with floats at their shortest.
+use Rattle.std.proofs.Common.{pos, negsuc, ◌≡◌, ◌∙◌, ℕ, ◌+◌, true, List, [], ◌∷◌, length, Ordering, Less, Equal, Greater, refl, sym, ap, subst}
+use Rattle.std.specs.Prelude.{◌==◌, ◌↔◌, nat_lt}
+use Rattle.cbor_model.specs.Order.{val_cmp}
+use Rattle.cbor_model.specs.Plain.{Val, null, bool, integer, float, bytes, text, array, map, tag, Vals, no_vals, val, Pairs, no_pairs, pair}
+use Rattle.cbor_model.specs.Raw as raw
+use Rattle.cbor_model.specs.Raw.{FloatWidth, half, single, double, definite, indefinite, Raw, Raws, no_raws, RawPairs, no_raw_pairs, raw_pair, false_item, true_item, null_item, undefined_item, IsWellFormed, AreWellFormed, ArePairsWellFormed}
+use Rattle.cbor_model.specs.Spelling.{spell}
+use Rattle.cbor_model.specs.Value.{value, values, pairs, put, by_order}
+use Rattle.cbor_model.specs.FiniteMap.{put_all}
+use Rattle.cbor_model.specs.Canonical.{canonical, canonical_all, canonical_pairs}
+use Rattle.cbor_value.specs.Floats.{number, half_number}
+use Rattle.cbor_value.specs.Floats.{number_of as number_of_float}
+use Rattle.cbor_value.specs.View.{float_view}
+use Rattle.cbor_value.specs.declared.Float.{Float}
+use Rattle.cbor_value.specs.declared.Float.TheVariants.{Half}
+use Rattle.cbor_forms.specs.Shortest as forms
+use Rattle.cbor_forms.specs.Shortened.{shortened, all_shortened, pairs_shortened}
+use Rattle.cbor_rules.specs.Features.{Feature, number as number_of, indefinite_length, simple_item, float_bits, key, Place, head_end, length_end, features, all_features, pair_features}
+use Rattle.cbor_rules.specs.Presets as presets
+use Rattle.cbor_rules.specs.Presets.{WrittenIsAccepted, AcceptedIsWritten, IsDeterministicOf, IsShortest, HasShortestFloats, HaveShortestFloats, PairsHaveShortestFloats, ShortenedHasShortestFloats, defined}
+use Rattle.cbor_rules.specs.Rules.{floor}
+use Rattle.cbor_rules.specs.declared.settings.Rules.{Rules}
+use Rattle.cbor_rules.specs.declared.settings.Rule.TheVariants.{ShortestHeads, DefiniteLengths, AscendingKeys, ShortestFloats, OneNan, NoUndefined, NoTags}
+use Rattle.cbor_rules.proofs.Canonical as canonical
+use Rattle.cbor_rules.proofs.Canonical.{IsFine, AreFine, kept_fine, fine_kept, first_fine, rest_fine, both_fine, and_false}
+use Rattle.cbor_rules.proofs.Floats.{shortest_is, shortest_nan, kept_shortest, shortest_narrow, shortest_one}
+
+-- the rules about floats alone
+abbrev pub floats_only : Rules
+floats_only = record presets.any_item { shortest_floats = true; one_nan = true }
+
+-- ---- rules by some and others
+
+module _ (rules others : Rules) where
+  pub fine_too : ((f : Feature) → IsFine rules f → IsFine others f) → (ps : List Place) → AreFine rules ps → AreFine others ps
+  fine_too each [] all = tt
+  fine_too each (p ∷ ps) all = (each p.feature all.0, fine_too each ps all.1)
+
+  pub fine_both : (all : Rules) → ((f : Feature) → IsFine rules f → IsFine others f → IsFine all f) → (ps : List Place) → AreFine rules ps → AreFine others ps → AreFine all ps
+  fine_both all each [] one other = tt
+  fine_both all each (p ∷ ps) one other = (each p.feature one.0 other.0, fine_both all each ps one.1 other.1)
+
+-- all of them are the canonical ones and those about floats
+is_canonical : (f : Feature) → IsFine (defined presets.deterministic) f → IsFine presets.canonical f
+is_canonical f fine ShortestHeads = fine ShortestHeads
+is_canonical f fine DefiniteLengths = fine DefiniteLengths
+is_canonical f fine AscendingKeys = fine AscendingKeys
+is_canonical f fine NoUndefined = fine NoUndefined
+is_canonical f fine NoTags = fine NoTags
+is_canonical (float_bits w bits) fine ShortestFloats = refl
+is_canonical _ fine ShortestFloats = refl
+is_canonical (float_bits w bits) fine OneNan = refl
+is_canonical _ fine OneNan = refl
+
+is_floats : (f : Feature) → IsFine (defined presets.deterministic) f → IsFine floats_only f
+is_floats f fine ShortestFloats = fine ShortestFloats
+is_floats f fine OneNan = fine OneNan
+is_floats (number_of m w n) fine ShortestHeads = and_false (nat_lt n (floor w))
+is_floats _ fine ShortestHeads = refl
+is_floats (number_of m w n) fine NoTags = and_false (m == 6)
+is_floats _ fine NoTags = refl
+is_floats indefinite_length fine DefiniteLengths = refl
+is_floats _ fine DefiniteLengths = refl
+is_floats (key before k) fine AscendingKeys = refl
+is_floats _ fine AscendingKeys = refl
+is_floats (simple_item undefined_item) fine NoUndefined = refl
+is_floats (simple_item _) fine NoUndefined = refl
+is_floats _ fine NoUndefined = refl
+
+is_deterministic : (f : Feature) → IsFine presets.canonical f → IsFine floats_only f → IsFine (defined presets.deterministic) f
+is_deterministic f one floats ShortestHeads = one ShortestHeads
+is_deterministic f one floats DefiniteLengths = one DefiniteLengths
+is_deterministic f one floats AscendingKeys = one AscendingKeys
+is_deterministic f one floats ShortestFloats = floats ShortestFloats
+is_deterministic f one floats OneNan = floats OneNan
+is_deterministic f one floats NoUndefined = one NoUndefined
+is_deterministic f one floats NoTags = one NoTags
+
+-- and undefined is not refused
+not_defined : (f : Feature) → IsFine (defined presets.deterministic) f → IsFine presets.deterministic f
+not_defined f fine ShortestHeads = fine ShortestHeads
+not_defined f fine DefiniteLengths = fine DefiniteLengths
+not_defined f fine AscendingKeys = fine AscendingKeys
+not_defined f fine ShortestFloats = fine ShortestFloats
+not_defined f fine OneNan = fine OneNan
+not_defined (simple_item undefined_item) fine NoUndefined = refl
+not_defined (simple_item _) fine NoUndefined = refl
+not_defined _ fine NoUndefined = refl
+not_defined f fine NoTags = fine NoTags
+
+-- of the rules about floats, only floats break any
+abbrev IsFloat : Feature → Type 0
+IsFloat (float_bits w bits) = Unit {0}
+IsFloat _ = ⊥
+
+other_fine : (f : Feature) → (IsFloat f → ⊥) → IsFine floats_only f
+other_fine (number_of m w n) other ShortestHeads = and_false (nat_lt n (floor w))
+other_fine _ other ShortestHeads = refl
+other_fine (number_of m w n) other NoTags = and_false (m == 6)
+other_fine _ other NoTags = refl
+other_fine indefinite_length other DefiniteLengths = refl
+other_fine _ other DefiniteLengths = refl
+other_fine (key before k) other AscendingKeys = refl
+other_fine _ other AscendingKeys = refl
+other_fine (float_bits w bits) other ShortestFloats = absurd (other tt)
+other_fine _ other ShortestFloats = refl
+other_fine (float_bits w bits) other OneNan = absurd (other tt)
+other_fine _ other OneNan = refl
+other_fine (simple_item undefined_item) other NoUndefined = refl
+other_fine (simple_item _) other NoUndefined = refl
+other_fine _ other NoUndefined = refl
+
+-- ---- what keeps the rules about floats
+
+put_short : (k v : Val) (ps : Pairs) → HasShortestFloats k → HasShortestFloats v → PairsHaveShortestFloats ps → PairsHaveShortestFloats (put k v ps)
+put_short k v no_pairs name content all = (name, content, tt)
+put_short k v (pair l w ps) name content all = by (val_cmp k l) (put_short k v ps name content all.2)
+  where
+    by : (o : Ordering) → PairsHaveShortestFloats (put k v ps) → PairsHaveShortestFloats (by_order o (pair k v (pair l w ps)) (pair k v ps) (pair l w (put k v ps)))
+    by Less others = (name, content, all)
+    by Equal others = (name, content, all.2)
+    by Greater others = (all.0, all.1, others)
+
+simple_short : (s : raw.Simple) → HasShortestFloats (value (raw.simple s))
+unfolding value
+simple_short false_item = tt
+simple_short true_item = tt
+simple_short null_item = tt
+simple_short undefined_item = tt
+
+mutual
+  unfolding features value
+
+  -- has its value's floats at their shortest
+  pub kept_floats : (at : ℕ) (r : Raw) → IsWellFormed r → AreFine floats_only (features at r) → HasShortestFloats (value r)
+  kept_floats at (raw.unsigned w n) fits fine = tt
+  kept_floats at (raw.negative w n) fits fine = tt
+  kept_floats at (raw.bytes c) fits fine = tt
+  kept_floats at (raw.text c) fits fine = tt
+  kept_floats at (raw.bytes_chunks cs) fits fine = tt
+  kept_floats at (raw.text_chunks cs) fits fine = tt
+  kept_floats at (raw.array l rs) fits fine = all_kept_floats (length_end at 4 l (raw.count rs)) rs fits.1 fine.1
+  kept_floats at (raw.map l ps) fits fine = pairs_kept_floats (length_end at 5 l (raw.pair_count ps)) [] ps no_pairs fits.1 fine.1 tt
+  kept_floats at (raw.tag w n r) fits fine = kept_floats (head_end at 6 w n) r fits.1 fine.1
+  kept_floats at (raw.simple s) fits fine = simple_short s
+  kept_floats at (raw.float w bits) fits fine = kept_shortest w bits fits (fine.0 ShortestFloats) (fine.0 OneNan)
+
+  all_kept_floats : (at : ℕ) (rs : Raws) → AreWellFormed rs → AreFine floats_only (all_features at rs) → HaveShortestFloats (values rs)
+  all_kept_floats at no_raws fits fine = tt
+  all_kept_floats at (raw.raw r rs) fits fine =
+      let more = at + length (spell r) in
+      (kept_floats at r fits.0 (first_fine floats_only (features at r) (all_features more rs) fine), all_kept_floats more rs fits.1 (rest_fine floats_only (features at r) (all_features more rs) fine))
+
+  pairs_kept_floats : (at : ℕ) (before : List ℕ) (ps : RawPairs) (onto : Pairs) → ArePairsWellFormed ps → AreFine floats_only (pair_features at before ps) → PairsHaveShortestFloats onto → PairsHaveShortestFloats (pairs ps onto)
+  pairs_kept_floats at before no_raw_pairs onto fits fine all = all
+  pairs_kept_floats at before (raw_pair k v ps) onto fits fine all =
+      let here = at + length (spell k) in
+      let there = at + length (spell k) + length (spell v) in
+      let others = pair_features there (spell k) ps in
+      let a = rest_fine floats_only (features at k) _ fine in
+      pairs_kept_floats there (spell k) ps (put (value k) (value v) onto) fits.2 (rest_fine floats_only (features here v) others a.1)
+      (put_short (value k) (value v) onto
+      (kept_floats at k fits.0 (first_fine floats_only (features at k) _ fine))
+      (kept_floats here v fits.1 (first_fine floats_only (features here v) others a.1)) all)
+
+-- ---- what keeps them
+
+abbrev pub ApartFloats : Type 0
+ApartFloats = (a b : ℕ) → forms.shortest (half_number a) ≡ forms.shortest (half_number b) → half_number a ≡ half_number b
+
+module _ (apart : ApartFloats) where
+  float_fine : (w : FloatWidth) (bits : ℕ) → IsShortest w bits → IsFine floats_only (float_bits w bits)
+  float_fine w bits is ShortestFloats = shortest_narrow w bits is
+  float_fine w bits is OneNan = shortest_one apart w bits is
+  float_fine w bits is ShortestHeads = refl
+  float_fine w bits is DefiniteLengths = refl
+  float_fine w bits is AscendingKeys = refl
+  float_fine w bits is NoUndefined = refl
+  float_fine w bits is NoTags = refl
+
+  mutual
+    unfolding features canonical
+
+    pub floats_kept : (at : ℕ) (v : Val) → HasShortestFloats v → AreFine floats_only (features at (canonical v))
+    floats_kept at null short = (other_fine _ (λ is. is), tt)
+    floats_kept at (bool b) short = (other_fine _ (λ is. is), tt)
+    floats_kept at (integer (pos n)) short = (other_fine _ (λ is. is), tt)
+    floats_kept at (integer (negsuc n)) short = (other_fine _ (λ is. is), tt)
+    floats_kept at (float w bits) short = (float_fine w bits short, tt)
+    floats_kept at (bytes b) short = (other_fine _ (λ is. is), tt)
+    floats_kept at (text b) short = (other_fine _ (λ is. is), tt)
+    floats_kept at (array vs) short = (other_fine _ (λ is. is), all_floats_kept _ vs short)
+    floats_kept at (map ps) short = (other_fine _ (λ is. is), pairs_floats_kept _ [] ps short)
+    floats_kept at (tag n v) short = (other_fine _ (λ is. is), floats_kept _ v short)
+
+    all_floats_kept : (at : ℕ) (vs : Vals) → HaveShortestFloats vs → AreFine floats_only (all_features at (canonical_all vs))
+    all_floats_kept at no_vals short = tt
+    all_floats_kept at (val v vs) short =
+        let more = at + length (spell (canonical v)) in
+        both_fine floats_only (features at (canonical v)) (all_features more (canonical_all vs)) (floats_kept at v short.0) (all_floats_kept more vs short.1)
+
+    pairs_floats_kept : (at : ℕ) (before : List ℕ) (ps : Pairs) → PairsHaveShortestFloats ps → AreFine floats_only (pair_features at before (canonical_pairs ps))
+    pairs_floats_kept at before no_pairs short = tt
+    pairs_floats_kept at before (pair k v ps) short =
+        let name = spell (canonical k) in
+        let here = at + length name in
+        let there = at + length name + length (spell (canonical v)) in
+        both_fine floats_only (features at (canonical k)) _ (floats_kept at k short.0) (
+          other_fine (key before name) (λ is. is),
+          both_fine floats_only (features here (canonical v)) (pair_features there name (canonical_pairs ps)) (floats_kept here v short.1) (pairs_floats_kept there name ps short.2),
+        )
+
+-- ---- what is shortened
+
+module _ (once : (v : Val) → shortened (shortened v) ≡ shortened v) where
+  shortest_of : (w : FloatWidth) (bits : ℕ) → forms.shortest (number w bits) ≡ float w bits → IsShortest w bits
+  shortest_of half bits is = λ not_a_number.
+      let same : float half 0x7e00 ≡ float half bits = sym (ap forms.shortest not_a_number ∙ shortest_nan) ∙ is in cc
+  shortest_of single bits is = is
+  shortest_of double bits is = is
+
+  float_shortened : (w : FloatWidth) (bits : ℕ) → HasShortestFloats (forms.shortest (number w bits))
+  unfolding shortened
+  float_shortened w bits =
+      let s = shortest_is (number w bits) in
+      subst HasShortestFloats (sym s.is)
+      (shortest_of s.width s.bits (subst (λ (v : Val). shortened v ≡ v) s.is (once (float w bits))))
+
+  put_all_short : (ps onto : Pairs) → PairsHaveShortestFloats ps → PairsHaveShortestFloats onto → PairsHaveShortestFloats (put_all ps onto)
+  put_all_short no_pairs onto all others = others
+  put_all_short (pair k v ps) onto all others = put_all_short ps (put k v onto) all.2 (put_short k v onto all.0 all.1 others)
+
+  mutual
+    unfolding shortened
+
+    pub shortened_short : (v : Val) → HasShortestFloats (shortened v)
+    shortened_short null = tt
+    shortened_short (bool b) = tt
+    shortened_short (integer z) = tt
+    shortened_short (float w bits) = float_shortened w bits
+    shortened_short (bytes b) = tt
+    shortened_short (text b) = tt
+    shortened_short (array vs) = all_shortened_short vs
+    shortened_short (map ps) = put_all_short (pairs_shortened ps) no_pairs (pairs_shortened_short ps) tt
+    shortened_short (tag n v) = shortened_short v
+
+    all_shortened_short : (vs : Vals) → HaveShortestFloats (all_shortened vs)
+    all_shortened_short no_vals = tt
+    all_shortened_short (val v vs) = (shortened_short v, all_shortened_short vs)
+
+    pairs_shortened_short : (ps : Pairs) → PairsHaveShortestFloats (pairs_shortened ps)
+    pairs_shortened_short no_pairs = tt
+    pairs_shortened_short (pair k v ps) = (shortened_short k, shortened_short v, pairs_shortened_short ps)
+
+-- ---- the laws
+
+pub accepted_is_written : AcceptedIsWritten (defined presets.deterministic) IsDeterministicOf
+accepted_is_written bs v short spelt keeps =
+    let r = spelt.item in
+    let fine = kept_fine (defined presets.deterministic) r keeps in
+    let plain = fine_too (defined presets.deterministic) presets.canonical is_canonical (features 0 r) fine in
+    let floats = fine_too (defined presets.deterministic) floats_only is_floats (features 0 r) fine in (
+      subst HasShortestFloats (sym spelt.valued) (kept_floats 0 r spelt.acceptable.fits floats),
+      canonical.accepted_is_written bs v short spelt (fine_kept presets.canonical r plain),
+    )
+
+module _ (apart : ApartFloats) where
+  pub written_is_defined : WrittenIsAccepted (defined presets.deterministic) IsDeterministicOf
+  written_is_defined bs v short spelt is =
+      let r = spelt.item in
+      let same = canonical.canonical_item bs v short spelt is.1 in
+      fine_kept (defined presets.deterministic) r
+      (fine_both presets.canonical floats_only (defined presets.deterministic) is_deterministic (features 0 r)
+      (kept_fine presets.canonical r (canonical.written_is_accepted bs v short spelt is.1))
+      (subst (λ (r : Raw). AreFine floats_only (features 0 r)) (sym same) (floats_kept apart 0 v is.0)))
+
+  pub written_is_accepted : WrittenIsAccepted presets.deterministic IsDeterministicOf
+  written_is_accepted bs v short spelt is =
+      let r = spelt.item in
+      fine_kept presets.deterministic r
+      (fine_too (defined presets.deterministic) presets.deterministic not_defined (features 0 r) (kept_fine (defined presets.deterministic) r (written_is_defined bs v short spelt is)))
+
+-- floats of one number have one shortest float
+pub apart : ((a b : Float) → (number_of_float a ≡ number_of_float b) ↔ (shortened (float_view a) ≡ shortened (float_view b))) → ApartFloats
+unfolding shortened
+apart same a b is = (same (Half a) (Half b)).1 is

@@ -1,0 +1,127 @@
+-- The presets of rules, and what their writers write.
+use Rattle.std.specs.Prelude.{◌≡◌, ℕ, ◌^◌, ◌<◌, true, false, List, length, refl}
+use Rattle.std.specs.Float.{nan}
+use Rattle.std.specs.Float.Ieee.{fits, odd, of_bits, of_fields, to_bits}
+use Rattle.cbor_model.specs.Canonical.{canon}
+use Rattle.cbor_model.specs.Laws.{SpellsValue}
+use Rattle.cbor_model.specs.Plain.{Val, float, array, map, tag, Vals, no_vals, val}
+use Rattle.cbor_model.specs.Plain.{Pairs, no_pairs, pair}
+use Rattle.cbor_model.specs.Raw.{FloatWidth, half, single}
+use Rattle.cbor_value.specs.Floats.{number, half_number}
+use Rattle.cbor_forms.specs.Shortened.{shortened}
+use Rattle.cbor_forms.specs.Shortest.{shortest}
+use Rattle.cbor_rules.specs.Rules.{Keeps}
+use Rattle.cbor_rules.specs.declared.settings.Rules.{Rules}
+use Rattle.cbor_rules.specs.declared.settings.KeyOrder.TheVariants.{Any, Bytewise, LengthFirst}
+use Rattle.cbor_rules.specs.declared.settings.KeyOrder.TheVariants.{TypeFirst}
+
+-- no rule
+abbrev pub any_item : Rules
+any_item = record {
+  keys = Any;
+  shortest_heads = false;
+  definite_lengths = false;
+  shortest_floats = false;
+  one_nan = false;
+  no_undefined = false;
+  no_tags = false;
+}
+
+-- shortest heads, definite lengths, keys in the order of their bytes, and nothing undefined
+abbrev pub canonical : Rules
+canonical = record any_item {
+  keys = Bytewise;
+  shortest_heads = true;
+  definite_lengths = true;
+  no_undefined = true;
+}
+
+-- RFC 8949, section 4.2.1, with one NaN as by section 4.2.2
+abbrev pub deterministic : Rules
+deterministic = record any_item {
+  keys = Bytewise;
+  shortest_heads = true;
+  definite_lengths = true;
+  shortest_floats = true;
+  one_nan = true;
+}
+
+-- RFC 8949, section 4.2.3, and RFC 7049, section 3.9
+abbrev pub length_first : Rules
+length_first = record deterministic { keys = LengthFirst }
+
+-- CTAP2, section 6
+abbrev pub ctap2 : Rules
+ctap2 = record any_item {
+  keys = TypeFirst;
+  shortest_heads = true;
+  definite_lengths = true;
+  no_tags = true;
+}
+
+-- these rules, and nothing undefined, which no value is written as
+abbrev pub defined : Rules → Rules
+defined rules = record rules { no_undefined = true }
+
+-- ---- what is written
+
+-- the bytes are what the value is written as canonically
+abbrev pub IsCanonicalOf : List ℕ → Val → Type 0
+IsCanonicalOf bytes v = bytes ≡ canon v
+
+-- A float of this width and with these bits is at its shortest (RFC 8949, sections 4.2.1 and
+-- 4.2.2): no narrower one is its number, and a NaN is f9 7e 00.
+abbrev pub IsShortest : FloatWidth → ℕ → Type 0
+IsShortest half bits = half_number bits ≡ nan → bits ≡ 0x7e00
+IsShortest w bits = shortest (number w bits) ≡ float w bits
+
+-- each float of the value is at its shortest
+abbrev mutual
+  pub HasShortestFloats : Val → Type 0
+  HasShortestFloats (float w bits) = IsShortest w bits
+  HasShortestFloats (array vs) = HaveShortestFloats vs
+  HasShortestFloats (map ps) = PairsHaveShortestFloats ps
+  HasShortestFloats (tag n v) = HasShortestFloats v
+  HasShortestFloats _ = Unit {0}
+
+  pub HaveShortestFloats : Vals → Type 0
+  HaveShortestFloats no_vals = Unit {0}
+  HaveShortestFloats (val v vs) = HasShortestFloats v × HaveShortestFloats vs
+
+  pub PairsHaveShortestFloats : Pairs → Type 0
+  PairsHaveShortestFloats no_pairs = Unit {0}
+  PairsHaveShortestFloats (pair k v ps) =
+      HasShortestFloats k × HasShortestFloats v × PairsHaveShortestFloats ps
+
+-- the bytes are what the value is written as deterministically
+abbrev pub IsDeterministicOf : List ℕ → Val → Type 0
+IsDeterministicOf bytes v = HasShortestFloats v × (bytes ≡ canon v)
+
+-- ---- the laws
+
+-- What is written so keeps the rules: where the bytes of an acceptable item are an encoding P of its
+-- value, the item keeps them.
+abbrev pub WrittenIsAccepted : Rules → (List ℕ → Val → Type 0) → Type 0
+WrittenIsAccepted rules P = (bytes : List ℕ) (v : Val) → length bytes < 2 ^ 64
+    → (spelt : SpellsValue bytes v) → P bytes v → Keeps rules spelt.item
+
+-- What keeps the rules is written so: where an acceptable item keeps them, its bytes are an
+-- encoding P of its value.
+abbrev pub AcceptedIsWritten : Rules → (List ℕ → Val → Type 0) → Type 0
+AcceptedIsWritten rules P = (bytes : List ℕ) (v : Val) → length bytes < 2 ^ 64
+    → (spelt : SpellsValue bytes v) → Keeps rules spelt.item → P bytes v
+
+-- What is written deterministically has its floats at their shortest.
+abbrev pub ShortenedHasShortestFloats : Type 0
+ShortenedHasShortestFloats = (v : Val) → HasShortestFloats (shortened v)
+
+-- ---- examples
+
+-- 100000.0 of 32 bits; and 1.5 of 32 bits has a narrower one
+hundred_thousand : HasShortestFloats (float single 0x47c3_5000)
+unfolding shortest of_bits of_fields odd fits to_bits
+hundred_thousand = refl
+
+one_and_a_half : shortest (number single 0x3fc0_0000) ≡ float half 0x3e00
+unfolding shortest of_bits of_fields odd fits to_bits
+one_and_a_half = refl
