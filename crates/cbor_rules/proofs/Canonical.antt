@@ -22,8 +22,10 @@ use Rattle.cbor_model.proofs.facts.Maps.{put_all-ascending}
 use Rattle.cbor_rules.specs.Features.{Feature, number, simple_item, float_bits, key, Place, head_end, features, all_features, pair_features}
 use Rattle.cbor_rules.specs.Presets as presets
 use Rattle.cbor_rules.specs.Presets.{IsCanonicalOf, WrittenIsAccepted, AcceptedIsWritten}
-use Rattle.cbor_rules.specs.Rules.{floor, is_less, breaks, Keeps}
+use Rattle.cbor_rules.specs.Rules.{floor, is_less, key_cmp, breaks, Keeps}
 use Rattle.cbor_rules.specs.declared.settings.Rules.{Rules}
+use Rattle.cbor_rules.specs.declared.settings.KeyOrder.{KeyOrder}
+use Rattle.cbor_rules.specs.declared.settings.KeyOrder.TheVariants.{Bytewise}
 use Rattle.cbor_rules.specs.declared.settings.Rule.{Rule}
 use Rattle.cbor_rules.specs.declared.settings.Rule.TheVariants.{ShortestHeads, DefiniteLengths, AscendingKeys, ShortestFloats, OneNan, NoUndefined, NoTags}
 
@@ -73,7 +75,7 @@ pub and_false : (b : Bool) → (b && false) ≡ false
 and_false true = refl
 and_false false = refl
 
-less : (o : Ordering) → not (is_less o) ≡ false → o ≡ Less
+pub less : (o : Ordering) → not (is_less o) ≡ false → o ≡ Less
 less Less is = refl
 less Equal is = absurd cc
 less Greater is = absurd cc
@@ -99,7 +101,7 @@ floor-least n =
     (λ c. cond_both (ltb n (2 ^ 32)) _ _ (λ w. floor w ≤ n) (λ e. ltb-false n (2 ^ 16) c)
     (λ d. ltb-false n (2 ^ 32) d))))
 
-limit-le : (w : HeadWidth) → limit w ≤ 2 ^ 64
+pub limit-le : (w : HeadWidth) → limit w ≤ 2 ^ 64
 limit-le no_bytes = omega arith
 limit-le one_byte = omega arith
 limit-le two_bytes = omega arith
@@ -230,51 +232,55 @@ mutual
 
 -- ---- and the canonical item of an ordered value keeps them
 
-number_fine : (major n : ℕ) → IsFine rules (number major (least n) n)
-number_fine major n ShortestHeads = rw (le-ltb n (floor (least n)) (floor-least n)) refl
-number_fine major n NoTags = and_false (major == 6)
-number_fine major n DefiniteLengths = refl
-number_fine major n AscendingKeys = refl
-number_fine major n ShortestFloats = refl
-number_fine major n OneNan = refl
-number_fine major n NoUndefined = refl
+-- likewise with another order of keys
+abbrev pub by_keys : KeyOrder → Rules
+by_keys order = record presets.canonical { keys = order }
 
-float_fine : (w : raw.FloatWidth) (bits : ℕ) → IsFine rules (float_bits w bits)
-float_fine w bits ShortestHeads = refl
-float_fine w bits NoTags = refl
-float_fine w bits DefiniteLengths = refl
-float_fine w bits AscendingKeys = refl
-float_fine w bits ShortestFloats = refl
-float_fine w bits OneNan = refl
-float_fine w bits NoUndefined = refl
+pub number_fine : (order : KeyOrder) (major n : ℕ) → IsFine (by_keys order) (number major (least n) n)
+number_fine order major n ShortestHeads = rw (le-ltb n (floor (least n)) (floor-least n)) refl
+number_fine order major n NoTags = and_false (major == 6)
+number_fine order major n DefiniteLengths = refl
+number_fine order major n AscendingKeys = refl
+number_fine order major n ShortestFloats = refl
+number_fine order major n OneNan = refl
+number_fine order major n NoUndefined = refl
 
-key_fine : (before k : List ℕ) → lex before k ≡ Less → IsFine rules (key before k)
-key_fine before k is ShortestHeads = refl
-key_fine before k is NoTags = refl
-key_fine before k is DefiniteLengths = refl
-key_fine before k is AscendingKeys = ap (λ (o : Ordering). not (is_less o)) is
-key_fine before k is ShortestFloats = refl
-key_fine before k is OneNan = refl
-key_fine before k is NoUndefined = refl
+pub float_fine : (order : KeyOrder) (w : raw.FloatWidth) (bits : ℕ) → IsFine (by_keys order) (float_bits w bits)
+float_fine order w bits ShortestHeads = refl
+float_fine order w bits NoTags = refl
+float_fine order w bits DefiniteLengths = refl
+float_fine order w bits AscendingKeys = refl
+float_fine order w bits ShortestFloats = refl
+float_fine order w bits OneNan = refl
+float_fine order w bits NoUndefined = refl
+
+pub key_fine : (order : KeyOrder) (before k : List ℕ) → key_cmp order before k ≡ Less → IsFine (by_keys order) (key before k)
+key_fine order before k is ShortestHeads = refl
+key_fine order before k is NoTags = refl
+key_fine order before k is DefiniteLengths = refl
+key_fine order before k is AscendingKeys = ap (λ (o : Ordering). not (is_less o)) is
+key_fine order before k is ShortestFloats = refl
+key_fine order before k is OneNan = refl
+key_fine order before k is NoUndefined = refl
 
 -- of what is written for a value
-abbrev IsWritten : raw.Simple → Type 0
+abbrev pub IsWritten : raw.Simple → Type 0
 IsWritten undefined_item = ⊥
 IsWritten _ = Unit {0}
 
-simple_fine : (s : raw.Simple) → IsWritten s → IsFine rules (simple_item s)
-simple_fine s is ShortestHeads = refl
-simple_fine s is NoTags = refl
-simple_fine s is DefiniteLengths = refl
-simple_fine s is AscendingKeys = refl
-simple_fine s is ShortestFloats = refl
-simple_fine s is OneNan = refl
-simple_fine false_item is NoUndefined = refl
-simple_fine true_item is NoUndefined = refl
-simple_fine null_item is NoUndefined = refl
-simple_fine undefined_item is NoUndefined = absurd is
+pub simple_fine : (order : KeyOrder) (s : raw.Simple) → IsWritten s → IsFine (by_keys order) (simple_item s)
+simple_fine order s is ShortestHeads = refl
+simple_fine order s is NoTags = refl
+simple_fine order s is DefiniteLengths = refl
+simple_fine order s is AscendingKeys = refl
+simple_fine order s is ShortestFloats = refl
+simple_fine order s is OneNan = refl
+simple_fine order false_item is NoUndefined = refl
+simple_fine order true_item is NoUndefined = refl
+simple_fine order null_item is NoUndefined = refl
+simple_fine order undefined_item is NoUndefined = absurd is
 
-bool_written : (b : Bool) → IsWritten (canonical_bool b)
+pub bool_written : (b : Bool) → IsWritten (canonical_bool b)
 bool_written true = tt
 bool_written false = tt
 
@@ -311,20 +317,20 @@ mutual
   unfolding features canonical
 
   pub canonical_fine : (at : ℕ) (v : Val) → IsStorable v → IsInRange v → IsOrdered v → AreFine rules (features at (canonical v))
-  canonical_fine at null stored held ordered = (simple_fine null_item tt, tt)
-  canonical_fine at (bool b) stored held ordered = (simple_fine (canonical_bool b) (bool_written b), tt)
-  canonical_fine at (integer (pos n)) stored held ordered = (number_fine 0 n, tt)
-  canonical_fine at (integer (negsuc n)) stored held ordered = (number_fine 1 n, tt)
-  canonical_fine at (float w bits) stored held ordered = (float_fine w bits, tt)
-  canonical_fine at (bytes b) stored held ordered = (number_fine 2 (length b), tt)
-  canonical_fine at (text b) stored held ordered = (number_fine 3 (length b), tt)
+  canonical_fine at null stored held ordered = (simple_fine Bytewise null_item tt, tt)
+  canonical_fine at (bool b) stored held ordered = (simple_fine Bytewise (canonical_bool b) (bool_written b), tt)
+  canonical_fine at (integer (pos n)) stored held ordered = (number_fine Bytewise 0 n, tt)
+  canonical_fine at (integer (negsuc n)) stored held ordered = (number_fine Bytewise 1 n, tt)
+  canonical_fine at (float w bits) stored held ordered = (float_fine Bytewise w bits, tt)
+  canonical_fine at (bytes b) stored held ordered = (number_fine Bytewise 2 (length b), tt)
+  canonical_fine at (text b) stored held ordered = (number_fine Bytewise 3 (length b), tt)
   canonical_fine at (array vs) stored held ordered =
       let n = raw.count (canonical_all vs) in
-      (number_fine 4 n, all_canonical_fine (head_end at 4 (least n) n) vs stored held.1 ordered)
+      (number_fine Bytewise 4 n, all_canonical_fine (head_end at 4 (least n) n) vs stored held.1 ordered)
   canonical_fine at (map ps) stored held ordered =
       let n = raw.pair_count (canonical_pairs ps) in
-      (number_fine 5 n, pairs_canonical_fine (head_end at 5 (least n) n) [] ps stored held.1 ordered (first_of_map (canonical_pairs ps)))
-  canonical_fine at (tag n v) stored held ordered = (number_fine 6 n, canonical_fine (head_end at 6 (least n) n) v stored held.1 ordered)
+      (number_fine Bytewise 5 n, pairs_canonical_fine (head_end at 5 (least n) n) [] ps stored held.1 ordered (first_of_map (canonical_pairs ps)))
+  canonical_fine at (tag n v) stored held ordered = (number_fine Bytewise 6 n, canonical_fine (head_end at 6 (least n) n) v stored held.1 ordered)
 
   all_canonical_fine : (at : ℕ) (vs : Vals) → AreStorable vs → AreInRange vs → AreOrdered vs → AreFine rules (all_features at (canonical_all vs))
   all_canonical_fine at no_vals stored held ordered = tt
@@ -340,7 +346,7 @@ mutual
       let here = at + length name in
       let there = at + length name + length (spell (canonical v)) in
       both_fine rules (features at (canonical k)) _ (canonical_fine at k stored.0 held.0 ordered.1) (
-        key_fine before name above,
+        key_fine Bytewise before name above,
         both_fine rules (features here (canonical v)) (pair_features there name (canonical_pairs ps))
             (canonical_fine here v stored.1 held.1 ordered.2)
             (pairs_canonical_fine there name ps stored.2 held.2 ordered.3 (next_above k ps stored.0 held.0 stored.2 held.2 ordered.0)),
@@ -348,13 +354,17 @@ mutual
 
 -- ---- the laws
 
+-- bytes encode one item
+pub one_item : (bs : List ℕ) (r s : Raw) → IsWellFormed r → IsWellFormed s → spell r ≡ bs → spell s ≡ bs → r ≡ s
+one_item bs r s fits fits' is is' = (one_spelling r s [] fits fits' (append-nil (spell r) ∙ is ∙ sym is')).0
+
 -- where the bytes are the canonical encoding of the value, the item is the canonical one
 pub canonical_item : (bs : List ℕ) (v : Val) → length bs < 2 ^ 64 → (spelt : SpellsValue bs v) → bs ≡ canon v → spelt.item ≡ canonical v
 unfolding canon
 canonical_item bs v short spelt is =
     let good = value_is_canonical max_depth spelt.item spelt.acceptable (subst (λ (bs : List ℕ). length bs < 2 ^ 64) (sym spelt.spelled) short) in
     let fits = subst (λ (v : Val). IsWellFormed (canonical v)) (sym spelt.valued) good.2.fits in
-    (one_spelling spelt.item (canonical v) [] spelt.acceptable.fits fits (append-nil (spell spelt.item) ∙ spelt.spelled ∙ is)).0
+    one_item bs spelt.item (canonical v) spelt.acceptable.fits fits spelt.spelled (sym is)
 
 pub written_is_accepted : WrittenIsAccepted presets.canonical IsCanonicalOf
 written_is_accepted bs v short spelt is =

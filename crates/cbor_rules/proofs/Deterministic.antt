@@ -1,5 +1,5 @@
 -- An item keeps the deterministic rules exactly where it is the canonical item of its value, with floats at their shortest.
-use Rattle.std.proofs.Common.{pos, negsuc, ◌≡◌, ◌∙◌, ℕ, ◌+◌, true, List, [], ◌∷◌, length, Ordering, Less, Equal, Greater, refl, sym, ap, subst}
+use Rattle.std.proofs.Common.{false, pos, negsuc, ◌≡◌, ◌∙◌, ℕ, ◌+◌, true, List, [], ◌∷◌, length, Ordering, Less, Equal, Greater, refl, sym, ap, subst}
 use Rattle.std.specs.Prelude.{◌==◌, ◌↔◌, nat_lt}
 use Rattle.cbor_model.specs.Order.{val_cmp}
 use Rattle.cbor_model.specs.Plain.{Val, null, bool, integer, float, bytes, text, array, map, tag, Vals, no_vals, val, Pairs, no_pairs, pair}
@@ -19,11 +19,13 @@ use Rattle.cbor_forms.specs.Shortened.{shortened, all_shortened, pairs_shortened
 use Rattle.cbor_rules.specs.Features.{Feature, number as number_of, indefinite_length, simple_item, float_bits, key, Place, head_end, length_end, features, all_features, pair_features}
 use Rattle.cbor_rules.specs.Presets as presets
 use Rattle.cbor_rules.specs.Presets.{WrittenIsAccepted, AcceptedIsWritten, IsDeterministicOf, IsShortest, HasShortestFloats, HaveShortestFloats, PairsHaveShortestFloats, ShortenedHasShortestFloats, defined}
-use Rattle.cbor_rules.specs.Rules.{floor}
+use Rattle.cbor_rules.specs.Rules.{breaks, floor}
 use Rattle.cbor_rules.specs.declared.settings.Rules.{Rules}
+use Rattle.cbor_rules.specs.declared.settings.KeyOrder.{KeyOrder}
+use Rattle.cbor_rules.specs.declared.settings.KeyOrder.TheVariants.{Bytewise}
 use Rattle.cbor_rules.specs.declared.settings.Rule.TheVariants.{ShortestHeads, DefiniteLengths, AscendingKeys, ShortestFloats, OneNan, NoUndefined, NoTags}
 use Rattle.cbor_rules.proofs.Canonical as canonical
-use Rattle.cbor_rules.proofs.Canonical.{IsFine, AreFine, kept_fine, fine_kept, first_fine, rest_fine, both_fine, and_false}
+use Rattle.cbor_rules.proofs.Canonical.{IsFine, AreFine, by_keys, kept_fine, fine_kept, first_fine, rest_fine, both_fine, and_false}
 use Rattle.cbor_rules.proofs.Floats.{shortest_is, shortest_nan, kept_shortest, shortest_narrow, shortest_one}
 
 -- the rules about floats alone
@@ -41,75 +43,73 @@ module _ (rules others : Rules) where
   fine_both all each [] one other = tt
   fine_both all each (p ∷ ps) one other = (each p.feature one.0 other.0, fine_both all each ps one.1 other.1)
 
+-- the rules of a deterministic form, with keys in this order
+abbrev pub with_keys : KeyOrder → Rules
+with_keys order = record (defined presets.deterministic) { keys = order }
+
 -- all of them are the canonical ones and those about floats
-is_canonical : (f : Feature) → IsFine (defined presets.deterministic) f → IsFine presets.canonical f
-is_canonical f fine ShortestHeads = fine ShortestHeads
-is_canonical f fine DefiniteLengths = fine DefiniteLengths
-is_canonical f fine AscendingKeys = fine AscendingKeys
-is_canonical f fine NoUndefined = fine NoUndefined
-is_canonical f fine NoTags = fine NoTags
-is_canonical (float_bits w bits) fine ShortestFloats = refl
-is_canonical _ fine ShortestFloats = refl
-is_canonical (float_bits w bits) fine OneNan = refl
-is_canonical _ fine OneNan = refl
+pub is_canonical : (order : KeyOrder) (f : Feature) → IsFine (with_keys order) f → IsFine (by_keys order) f
+is_canonical order f fine ShortestHeads = fine ShortestHeads
+is_canonical order f fine DefiniteLengths = fine DefiniteLengths
+is_canonical order f fine AscendingKeys = fine AscendingKeys
+is_canonical order f fine NoUndefined = fine NoUndefined
+is_canonical order f fine NoTags = fine NoTags
+is_canonical order (float_bits w bits) fine ShortestFloats = refl
+is_canonical order _ fine ShortestFloats = refl
+is_canonical order (float_bits w bits) fine OneNan = refl
+is_canonical order _ fine OneNan = refl
 
-is_floats : (f : Feature) → IsFine (defined presets.deterministic) f → IsFine floats_only f
-is_floats f fine ShortestFloats = fine ShortestFloats
-is_floats f fine OneNan = fine OneNan
-is_floats (number_of m w n) fine ShortestHeads = and_false (nat_lt n (floor w))
-is_floats _ fine ShortestHeads = refl
-is_floats (number_of m w n) fine NoTags = and_false (m == 6)
-is_floats _ fine NoTags = refl
-is_floats indefinite_length fine DefiniteLengths = refl
-is_floats _ fine DefiniteLengths = refl
-is_floats (key before k) fine AscendingKeys = refl
-is_floats _ fine AscendingKeys = refl
-is_floats (simple_item undefined_item) fine NoUndefined = refl
-is_floats (simple_item _) fine NoUndefined = refl
-is_floats _ fine NoUndefined = refl
+pub is_all : (order : KeyOrder) (f : Feature) → IsFine (by_keys order) f → IsFine floats_only f → IsFine (with_keys order) f
+is_all order f one floats ShortestHeads = one ShortestHeads
+is_all order f one floats DefiniteLengths = one DefiniteLengths
+is_all order f one floats AscendingKeys = one AscendingKeys
+is_all order f one floats ShortestFloats = floats ShortestFloats
+is_all order f one floats OneNan = floats OneNan
+is_all order f one floats NoUndefined = one NoUndefined
+is_all order f one floats NoTags = one NoTags
 
-is_deterministic : (f : Feature) → IsFine presets.canonical f → IsFine floats_only f → IsFine (defined presets.deterministic) f
-is_deterministic f one floats ShortestHeads = one ShortestHeads
-is_deterministic f one floats DefiniteLengths = one DefiniteLengths
-is_deterministic f one floats AscendingKeys = one AscendingKeys
-is_deterministic f one floats ShortestFloats = floats ShortestFloats
-is_deterministic f one floats OneNan = floats OneNan
-is_deterministic f one floats NoUndefined = one NoUndefined
-is_deterministic f one floats NoTags = one NoTags
+-- the rules about floats are kept where the two that are on are
+floats_fine : (f : Feature) → breaks floats_only ShortestFloats f ≡ false → breaks floats_only OneNan f ≡ false → IsFine floats_only f
+floats_fine f short one ShortestFloats = short
+floats_fine f short one OneNan = one
+floats_fine (number_of m w n) short one ShortestHeads = and_false (nat_lt n (floor w))
+floats_fine _ short one ShortestHeads = refl
+floats_fine (number_of m w n) short one NoTags = and_false (m == 6)
+floats_fine _ short one NoTags = refl
+floats_fine indefinite_length short one DefiniteLengths = refl
+floats_fine _ short one DefiniteLengths = refl
+floats_fine (key before k) short one AscendingKeys = refl
+floats_fine _ short one AscendingKeys = refl
+floats_fine (simple_item undefined_item) short one NoUndefined = refl
+floats_fine (simple_item _) short one NoUndefined = refl
+floats_fine _ short one NoUndefined = refl
+
+pub is_floats : (order : KeyOrder) (f : Feature) → IsFine (with_keys order) f → IsFine floats_only f
+is_floats order f fine = floats_fine f (fine ShortestFloats) (fine OneNan)
 
 -- and undefined is not refused
-not_defined : (f : Feature) → IsFine (defined presets.deterministic) f → IsFine presets.deterministic f
-not_defined f fine ShortestHeads = fine ShortestHeads
-not_defined f fine DefiniteLengths = fine DefiniteLengths
-not_defined f fine AscendingKeys = fine AscendingKeys
-not_defined f fine ShortestFloats = fine ShortestFloats
-not_defined f fine OneNan = fine OneNan
-not_defined (simple_item undefined_item) fine NoUndefined = refl
-not_defined (simple_item _) fine NoUndefined = refl
-not_defined _ fine NoUndefined = refl
-not_defined f fine NoTags = fine NoTags
+pub not_defined : (order : KeyOrder) (f : Feature) → IsFine (with_keys order) f → IsFine (record presets.deterministic { keys = order }) f
+not_defined order f fine ShortestHeads = fine ShortestHeads
+not_defined order f fine DefiniteLengths = fine DefiniteLengths
+not_defined order f fine AscendingKeys = fine AscendingKeys
+not_defined order f fine ShortestFloats = fine ShortestFloats
+not_defined order f fine OneNan = fine OneNan
+not_defined order (simple_item undefined_item) fine NoUndefined = refl
+not_defined order (simple_item _) fine NoUndefined = refl
+not_defined order _ fine NoUndefined = refl
+not_defined order f fine NoTags = fine NoTags
 
--- of the rules about floats, only floats break any
+-- only floats break any of the rules about them
 abbrev IsFloat : Feature → Type 0
 IsFloat (float_bits w bits) = Unit {0}
 IsFloat _ = ⊥
 
-other_fine : (f : Feature) → (IsFloat f → ⊥) → IsFine floats_only f
-other_fine (number_of m w n) other ShortestHeads = and_false (nat_lt n (floor w))
-other_fine _ other ShortestHeads = refl
-other_fine (number_of m w n) other NoTags = and_false (m == 6)
-other_fine _ other NoTags = refl
-other_fine indefinite_length other DefiniteLengths = refl
-other_fine _ other DefiniteLengths = refl
-other_fine (key before k) other AscendingKeys = refl
-other_fine _ other AscendingKeys = refl
-other_fine (float_bits w bits) other ShortestFloats = absurd (other tt)
-other_fine _ other ShortestFloats = refl
-other_fine (float_bits w bits) other OneNan = absurd (other tt)
-other_fine _ other OneNan = refl
-other_fine (simple_item undefined_item) other NoUndefined = refl
-other_fine (simple_item _) other NoUndefined = refl
-other_fine _ other NoUndefined = refl
+pub other_fine : (f : Feature) → (IsFloat f → ⊥) → IsFine floats_only f
+other_fine (float_bits w bits) other = absurd (other tt)
+other_fine (number_of m w n) other = floats_fine (number_of m w n) refl refl
+other_fine indefinite_length other = floats_fine indefinite_length refl refl
+other_fine (simple_item s) other = floats_fine (simple_item s) refl refl
+other_fine (key before k) other = floats_fine (key before k) refl refl
 
 -- ---- what keeps the rules about floats
 
@@ -170,7 +170,7 @@ abbrev pub ApartFloats : Type 0
 ApartFloats = (a b : ℕ) → forms.shortest (half_number a) ≡ forms.shortest (half_number b) → half_number a ≡ half_number b
 
 module _ (apart : ApartFloats) where
-  float_fine : (w : FloatWidth) (bits : ℕ) → IsShortest w bits → IsFine floats_only (float_bits w bits)
+  pub float_fine : (w : FloatWidth) (bits : ℕ) → IsShortest w bits → IsFine floats_only (float_bits w bits)
   float_fine w bits is ShortestFloats = shortest_narrow w bits is
   float_fine w bits is OneNan = shortest_one apart w bits is
   float_fine w bits is ShortestHeads = refl
@@ -255,12 +255,16 @@ module _ (once : (v : Val) → shortened (shortened v) ≡ shortened v) where
 
 -- ---- the laws
 
+-- the rules of the deterministic form are those, with keys in the order of their bytes
+abbrev all : Rules
+all = with_keys Bytewise
+
 pub accepted_is_written : AcceptedIsWritten (defined presets.deterministic) IsDeterministicOf
 accepted_is_written bs v short spelt keeps =
     let r = spelt.item in
-    let fine = kept_fine (defined presets.deterministic) r keeps in
-    let plain = fine_too (defined presets.deterministic) presets.canonical is_canonical (features 0 r) fine in
-    let floats = fine_too (defined presets.deterministic) floats_only is_floats (features 0 r) fine in (
+    let fine = kept_fine all r keeps in
+    let plain = fine_too all presets.canonical (is_canonical Bytewise) (features 0 r) fine in
+    let floats = fine_too all floats_only (is_floats Bytewise) (features 0 r) fine in (
       subst HasShortestFloats (sym spelt.valued) (kept_floats 0 r spelt.acceptable.fits floats),
       canonical.accepted_is_written bs v short spelt (fine_kept presets.canonical r plain),
     )
@@ -270,8 +274,8 @@ module _ (apart : ApartFloats) where
   written_is_defined bs v short spelt is =
       let r = spelt.item in
       let same = canonical.canonical_item bs v short spelt is.1 in
-      fine_kept (defined presets.deterministic) r
-      (fine_both presets.canonical floats_only (defined presets.deterministic) is_deterministic (features 0 r)
+      fine_kept all r
+      (fine_both presets.canonical floats_only all (is_all Bytewise) (features 0 r)
       (kept_fine presets.canonical r (canonical.written_is_accepted bs v short spelt is.1))
       (subst (λ (r : Raw). AreFine floats_only (features 0 r)) (sym same) (floats_kept apart 0 v is.0)))
 
@@ -279,7 +283,7 @@ module _ (apart : ApartFloats) where
   written_is_accepted bs v short spelt is =
       let r = spelt.item in
       fine_kept presets.deterministic r
-      (fine_too (defined presets.deterministic) presets.deterministic not_defined (features 0 r) (kept_fine (defined presets.deterministic) r (written_is_defined bs v short spelt is)))
+      (fine_too all presets.deterministic (not_defined Bytewise) (features 0 r) (kept_fine all r (written_is_defined bs v short spelt is)))
 
 -- floats of one number have one shortest float
 pub apart : ((a b : Float) → (number_of_float a ≡ number_of_float b) ↔ (shortened (float_view a) ≡ shortened (float_view b))) → ApartFloats

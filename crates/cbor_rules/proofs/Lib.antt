@@ -6,3 +6,6 @@ pub mod Reading
 pub mod Canonical
 pub mod Floats
 pub mod Deterministic
+pub mod Puts
+pub mod LengthFirst
+pub mod LengthFirstItems

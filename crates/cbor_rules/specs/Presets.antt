@@ -8,6 +8,7 @@ use Rattle.cbor_model.specs.Plain.{Val, float, array, map, tag, Vals, no_vals, v
 use Rattle.cbor_model.specs.Plain.{Pairs, no_pairs, pair}
 use Rattle.cbor_model.specs.Raw.{FloatWidth, half, single}
 use Rattle.cbor_value.specs.Floats.{number, half_number}
+use Rattle.cbor_forms.specs.LengthFirst as forms
 use Rattle.cbor_forms.specs.Shortened.{shortened}
 use Rattle.cbor_forms.specs.Shortest.{shortest}
 use Rattle.cbor_rules.specs.Rules.{Keeps}
@@ -97,6 +98,10 @@ abbrev mutual
 abbrev pub IsDeterministicOf : List ℕ → Val → Type 0
 IsDeterministicOf bytes v = HasShortestFloats v × (bytes ≡ canon v)
 
+-- likewise with shorter keys first
+abbrev pub IsLengthFirstOf : List ℕ → Val → Type 0
+IsLengthFirstOf bytes v = HasShortestFloats v × (bytes ≡ forms.length_first v)
+
 -- ---- the laws
 
 -- What is written so keeps the rules: where the bytes of an acceptable item are an encoding P of its
@@ -111,7 +116,7 @@ abbrev pub AcceptedIsWritten : Rules → (List ℕ → Val → Type 0) → Type 
 AcceptedIsWritten rules P = (bytes : List ℕ) (v : Val) → length bytes < 2 ^ 64
     → (spelt : SpellsValue bytes v) → Keeps rules spelt.item → P bytes v
 
--- What is written deterministically has its floats at their shortest.
+-- What is written deterministically, or with shorter keys first, has its floats at their shortest.
 abbrev pub ShortenedHasShortestFloats : Type 0
 ShortenedHasShortestFloats = (v : Val) → HasShortestFloats (shortened v)
 

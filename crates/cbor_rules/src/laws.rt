@@ -8,11 +8,11 @@ ghost use Rattle.std.specs.Prelude.{◌≡◌};
 ghost use Rattle.cbor_rules.specs.Rules.{FirstIsLeast, NoneWhereKept};
 ghost use Rattle.cbor_rules.specs.Presets.{any_item, canonical, ctap2, deterministic, length_first};
 ghost use Rattle.cbor_rules.specs.Presets.{AcceptedIsWritten, WrittenIsAccepted, defined};
-ghost use Rattle.cbor_rules.specs.Presets.{IsCanonicalOf, IsDeterministicOf};
+ghost use Rattle.cbor_rules.specs.Presets.{IsCanonicalOf, IsDeterministicOf, IsLengthFirstOf};
 ghost use Rattle.cbor_rules.specs.Presets.{ShortenedHasShortestFloats};
 
 use crate::settings::Rules;
-use cbor_forms::{same_number_same_float, shortened_once};
+use cbor_forms::{length_first_reads_back, same_number_same_float, shortened_once};
 
 /// An item departs nowhere exactly where it keeps each rule that is on.
 pub fn none_where_kept()
@@ -56,7 +56,21 @@ pub fn deterministic_accepted_is_written()
     ensures { AcceptedIsWritten (defined Rules.DETERMINISTIC) IsDeterministicOf }
 {}
 
-/// A value as `to_vec_deterministic` writes it has its floats at their shortest.
+/// What is written with shorter keys first keeps the rules of that form, and has nothing undefined.
+pub fn length_first_written_is_accepted()
+    ensures kept { WrittenIsAccepted Rules.LENGTH_FIRST IsLengthFirstOf }
+    ensures defined { WrittenIsAccepted (defined Rules.LENGTH_FIRST) IsLengthFirstOf }
+{
+    same_number_same_float();
+    length_first_reads_back();
+}
+
+/// What keeps the rules of that form and has nothing undefined is written with shorter keys first.
+pub fn length_first_accepted_is_written()
+    ensures { AcceptedIsWritten (defined Rules.LENGTH_FIRST) IsLengthFirstOf }
+{}
+
+/// A value as `to_vec_deterministic` and `to_vec_length_first` write it has its floats at their shortest.
 pub fn shortened_has_shortest_floats()
     ensures { ShortenedHasShortestFloats }
 {

@@ -17,6 +17,7 @@ pub use from::from_slice_with;
 pub use laws::{
     canonical_accepted_is_written, canonical_written_is_accepted,
     deterministic_accepted_is_written, deterministic_written_is_accepted, first_is_least,
-    none_where_kept, presets, shortened_has_shortest_floats,
+    length_first_accepted_is_written, length_first_written_is_accepted, none_where_kept, presets,
+    shortened_has_shortest_floats,
 };
 pub use settings::{KeyOrder, Rule, Rules};
