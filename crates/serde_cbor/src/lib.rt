@@ -10,6 +10,7 @@
 //! floats are at their shortest.
 //!
 //! - [`de`], [`stream`], [`strict`]: reading; [`ser`]: writing
+//! - [`rules`]: reading by rules of your own, each a switch, or by the form that a name stands for
 //! - [`value`]: `Value`, `Map`, `Float`, and the way between a value and a type
 //! - [`parts`]: the description by which a struct or an enum of yours is read and written;
 //!   [`round_trip`]: the law that it is read back
@@ -51,6 +52,7 @@ pub use cbor_parts as parts;
 pub use cbor_read as read;
 pub use cbor_round_trip as round_trip;
 pub use cbor_round_trip::RoundTrip;
+pub use cbor_rules as rules;
 pub use cbor_ser as ser;
 pub use cbor_ser::{Serializer, to_vec, to_vec_packed, to_writer};
 pub use cbor_strict as strict;
