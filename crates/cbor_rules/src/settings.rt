@@ -75,7 +75,7 @@ impl Rules {
 
     /// The canonical form of this library: shortest heads, definite lengths, keys ascending by
     /// their bytes, floats in the width that they have, and no undefined. It is what
-    /// `from_slice_canonical` reads.
+    /// `from_slice_canonical` reads and `to_vec_canonical` writes.
     pub const CANONICAL: Rules = Rules {
         keys: KeyOrder::Bytewise,
         shortest_heads: true,
@@ -88,7 +88,8 @@ impl Rules {
 
     /// The core deterministic encoding (RFC 8949, section 4.2.1): shortest heads and floats,
     /// definite lengths, and keys ascending by their bytes. A NaN is `f9 7e 00`, as section 4.2.2
-    /// has it for protocols that use one NaN.
+    /// has it for protocols that use one NaN. It is what `to_vec_deterministic` writes; undefined is
+    /// read besides, which no value is written as.
     pub const DETERMINISTIC: Rules = Rules {
         keys: KeyOrder::Bytewise,
         shortest_heads: true,
@@ -99,7 +100,8 @@ impl Rules {
         no_tags: false,
     };
 
-    /// The deterministic encoding with shorter keys first (RFC 8949, section 4.2.3).
+    /// The deterministic encoding with shorter keys first (RFC 8949, section 4.2.3). It is what
+    /// `to_vec_length_first` writes; undefined is read besides.
     pub const LENGTH_FIRST: Rules = Rules {
         keys: KeyOrder::LengthFirst,
         shortest_heads: true,

@@ -1,7 +1,10 @@
 //! The orders of keys.
 
 use crate::checks::{departs, keeps};
+use cbor_de::from_slice;
+use cbor_forms::{to_vec_deterministic, to_vec_length_first};
 use cbor_rules::{KeyOrder, Rule, Rules};
+use cbor_value::Value;
 use test_checks::Done;
 
 // The keys of RFC 8949, section 4.2.1, in the order given there, each with null.
@@ -23,6 +26,19 @@ fn reads_the_example_in_its_order_alone(rt: HostRuntime) -> Done {
     let any = Rules::DETERMINISTIC.with_keys(KeyOrder::Any);
     keeps(rt.alloc(), any, BYTEWISE)?;
     keeps(rt.alloc(), any, LENGTH_FIRST)
+}
+
+// Each order is what its form writes.
+#[test]
+fn reads_what_its_form_writes(rt: HostRuntime) -> Done {
+    let value: Value = from_slice(rt.alloc(), LENGTH_FIRST)?;
+    let bytes = to_vec_deterministic(rt.alloc(), &value)?;
+    assert_eq!(rt; bytes.as_slice(), BYTEWISE);
+    keeps(rt.alloc(), Rules::DETERMINISTIC, &bytes)?;
+    let value: Value = from_slice(rt.alloc(), BYTEWISE)?;
+    let bytes = to_vec_length_first(rt.alloc(), &value)?;
+    assert_eq!(rt; bytes.as_slice(), LENGTH_FIRST);
+    keeps(rt.alloc(), Rules::LENGTH_FIRST, &bytes)
 }
 
 // By type, length and bytes: [-1] stands before [100], which is longer, and both before false.
