@@ -103,6 +103,9 @@ pub use Rattle.cbor_de.specs.FieldTypes
 pub use Rattle.cbor_described.specs.FieldLists
 pub use Rattle.cbor_convert.specs.Tagged
 pub use Rattle.cbor_convert.specs.Encoded
+pub use Rattle.cbor_io.specs.Compare
+pub use Rattle.cbor_tags.specs.Numbers
+pub use Rattle.cbor_tags.specs.Times
 pub use Rattle.cbor_forms.specs.Shortest
 pub use Rattle.cbor_forms.specs.Shortened
 pub use Rattle.cbor_forms.specs.Deterministic

@@ -1,0 +1,14 @@
+use Rattle.std.proofs.Common.{Some, inl, inr}
+use Rattle.cbor_tags.specs.Numbers.{sign_tag}
+use Rattle.cbor_tags.proofs.big.BigIntDeserialize.deserialize.Goals as goal
+
+pub returns-in-Err-clause-read : goal.returns-in-Err-clause-read
+returns-in-Err-clause-read g c =
+    let unread = c.in-Err.ensures.read in
+    record {
+      took = unread.took;
+      told = λ bs tells. elim (unread.told bs tells) [
+        | inl e ↦ inl e
+        | inr none ↦ inr (λ b rest is. none (record { tag = Some (sign_tag b.negative); value = b.bytes }) rest (record { item = is.item; is = is.is; means = is.means }))
+      ];
+    }

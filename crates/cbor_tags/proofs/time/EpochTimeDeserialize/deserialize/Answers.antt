@@ -1,0 +1,14 @@
+use Rattle.std.proofs.Common.{inl, inr}
+use Rattle.cbor_tags.proofs.Times.{tagged_value, value_of}
+use Rattle.cbor_tags.proofs.time.EpochTimeDeserialize.deserialize.Goals as goal
+
+pub returns-in-Err-clause-read : goal.returns-in-Err-clause-read
+returns-in-Err-clause-read g c =
+    let unread = c.in-Err.ensures.read in
+    record {
+      took = unread.took;
+      told = λ bs tells. elim (unread.told bs tells) [
+        | inl e ↦ inl e
+        | inr none ↦ inr (λ t rest is. none (record { 0 = value_of t }) rest (record { item = is.item; is = is.is; means = tagged_value is.item t is.means }))
+      ];
+    }
