@@ -14,9 +14,10 @@ use std::alloc::Global;
 /// A value within the tag of the number `N` (RFC 8949, section 3.4), as the 18 of a `COSE_Sign1`
 /// (RFC 9052) or the 61 of a CWT (RFC 8392).
 ///
-/// It writes the tag, and then the value. It reads the value from the item within that tag, and
-/// refuses an item without a tag, or whose outermost tag is another, with the message
-/// `invalid type: expected tag N`. The tag counts as a level of nesting.
+/// It writes the tag, and then the value. It reads the value from the item within that tag. What
+/// `T` doesn't read is refused as `T` refuses it, whatever its tag; what it reads without a tag, or
+/// where the outermost tag is another, with the message `invalid type: expected tag N`. The tag
+/// counts as a level of nesting.
 ///
 /// ```rust
 /// let bytes = to_vec(alloc, &Required::<1, u32>(1363896240))?;

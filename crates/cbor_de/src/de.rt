@@ -1,11 +1,12 @@
 //! What reads types from a source.
 
-ghost use Rattle.std.specs.Prelude.{◌≡◌, ◌≤◌, false, [], None, Some, length};
+ghost use Rattle.std.specs.Prelude.{◌≡◌, ◌≤◌, false, None, Some, length};
 ghost use Rattle.cbor_model.specs.Acceptable.{max_depth};
 ghost use Rattle.cbor_model.specs.Formats.{all_formats};
 ghost use Rattle.cbor_read.specs.Source.{start_of_slice, start_of_reader};
 ghost use Rattle.cbor_read.specs.Sources.{input_of_slice, input_of_slice_fixed, input_of_mut_slice};
 ghost use Rattle.cbor_read.specs.Sources.{input_of_reader};
+ghost use Rattle.cbor_decode.specs.Decoder.{SameSettings};
 ghost use Rattle.cbor_decode.specs.AtEnd.{EndTakes};
 ghost use Rattle.cbor_decode.specs.Gives.{Ends};
 ghost use Rattle.cbor_decode_as.specs.Takes.{formats_of};
@@ -268,8 +269,7 @@ impl<R: Source> Deserializer<R> {
         ensures read { Ends R.refusals (R.source self.old.decoder.source) result }
         ensures takes { EndTakes R.refusals (R.source self.old.decoder.source)
             (R.source self.new.decoder.source) result }
-        ensures levels { self.new.decoder.levels ≡ self.old.decoder.levels }
-        ensures formats { self.new.decoder.formats ≡ self.old.decoder.formats }
+        ensures settings { SameSettings self.old.decoder self.new.decoder }
     {
         match self.decoder.ended() {
             Ok(()) => Ok(()),

@@ -1,10 +1,10 @@
 //! Types that are read.
 
-ghost use Rattle.std.specs.Prelude.{◌≡◌, IfErr, OnOk};
+ghost use Rattle.std.specs.Prelude.{IfErr, OnOk};
 ghost use Rattle.cbor_read.specs.Source.{asks_for};
-ghost use Rattle.cbor_decode.specs.Gives.{Advances};
-ghost use Rattle.cbor_decode_as.specs.Takes.{TakesItem, TellsItem, MemoryFor, context, formats_of};
-ghost use Rattle.cbor_de.specs.Forms.{MayTell};
+ghost use Rattle.cbor_decode.specs.Decoder.{SameSettings};
+ghost use Rattle.cbor_decode_as.specs.Takes.{context};
+ghost use Rattle.cbor_de.specs.Calls as call;
 
 use crate::de::Deserializer;
 use cbor_io::error::Result;
@@ -202,24 +202,17 @@ pub trait Readable: Sized + Drop {
 pub trait Deserialize<'de, R: Read<'de>>: Readable {
     /// Reads the item at the front.
     fn deserialize(de: &mut Deserializer<R>) -> Result<Self>
-        ensures read { TakesItem R.refusals (formats_of de.old.decoder.formats)
-            (Self.reads (context de.old.decoder.formats R.lends)) de.old.decoder.levels
-            (R.source de.old.decoder.source) (R.source de.new.decoder.source) result }
+        ensures read { call.TakesItem R.source R.refusals
+            (Self.reads (context de.old.decoder.formats R.lends)) de.old de.new result }
         // A byte at the least, also of a source that doesn't tell its bytes.
-        ensures taken { OnOk result (Advances (R.source de.old.decoder.source)
-            (R.source de.new.decoder.source)) }
-        ensures fault { IfErr result (TellsItem Self.passes_over Self.total R.refusals
-            (formats_of de.old.decoder.formats) de.old.decoder.levels
-            (R.source de.old.decoder.source)) }
+        ensures taken { OnOk result (call.Advances R.source de.old de.new) }
+        ensures fault { IfErr result
+            (call.TellsItem R.source R.refusals Self.passes_over Self.total de.old) }
         ensures memory { IfErr result
-            (MemoryFor (Self.asks_memory (asks_for R.refusals R.lends))
-            (formats_of de.old.decoder.formats)
-            (Self.reads (context de.old.decoder.formats R.lends)) de.old.decoder.levels
-            (R.source de.old.decoder.source)) }
-        ensures form { IfErr result (MayTell Self.wrong_forms
-            (formats_of de.old.decoder.formats) (R.source de.old.decoder.source)) }
-        ensures levels { de.new.decoder.levels ≡ de.old.decoder.levels }
-        ensures formats { de.new.decoder.formats ≡ de.old.decoder.formats };
+            (call.MemoryFor R.source (Self.asks_memory (asks_for R.refusals R.lends))
+            (Self.reads (context de.old.decoder.formats R.lends)) de.old) }
+        ensures form { IfErr result (call.MayTell R.source Self.wrong_forms de.old) }
+        ensures settings { SameSettings de.old.decoder de.new.decoder };
 }
 
 /// A type that borrows nothing: what it reads doesn't depend on what a source lends.

@@ -4,16 +4,18 @@ ghost use Rattle.std.specs.Prelude.{◌≡◌, ◌<◌, length, IfOk, IfErr, IfS
 ghost use Rattle.std.specs.Prelude.{MatchOption, OnOk, Some};
 ghost use Rattle.cbor_io.specs.Error.{code_of, offset_of, IsMessageOf};
 ghost use Rattle.cbor_io.specs.declared.error.Error.{Error};
+ghost use Rattle.cbor_decode.specs.Decoder.{SameSettings};
 ghost use Rattle.cbor_decode.specs.declared.cursor.Remaining.TheVariants.{Counted};
-ghost use Rattle.cbor_decode.specs.Gives.{Advances, TellsNoForm};
+ghost use Rattle.cbor_decode.specs.Gives.{TellsNoForm};
 ghost use Rattle.cbor_decode_as.specs.Accesses.{most_left};
 ghost use Rattle.cbor_decode_as.specs.Cases.{HasCase, TellsBadKey, key_cases};
 ghost use Rattle.cbor_decode_as.specs.Identifiers.{IsMadeBy, NamesNoKey, texts};
 ghost use Rattle.cbor_decode_as.specs.MapAccesses.{TakesKey};
 ghost use Rattle.cbor_de.specs.Structs.{IsField, place_in, missing_text, duplicate_text};
-ghost use Rattle.cbor_decode_as.specs.Takes.{OnceMade, TakesItem};
+ghost use Rattle.cbor_decode_as.specs.Takes.{OnceMade};
 ghost use Rattle.cbor_decode_as.specs.Takes.{formats_of};
 ghost use Rattle.cbor_de.specs.Forms.{MayTellKey, never};
+ghost use Rattle.cbor_de.specs.Calls as call;
 
 use crate::de::Deserializer;
 use cbor_decode::Remaining;
@@ -37,15 +39,12 @@ impl<'de, R: Read<'de>> Deserializer<R> {
     #[inline(always)]
     fn field(&mut self, names: &[&str]) -> Lookup<Field>
         ensures read { OnceMade (IsMadeBy self.new.decoder.refusal)
-            (TakesItem R.refusals (formats_of self.old.decoder.formats)
-            (IsField (texts names.now)) self.old.decoder.levels
-            (R.source self.old.decoder.source) (R.source self.new.decoder.source)) result }
-        ensures taken { OnOk result
-            (Advances (R.source self.old.decoder.source) (R.source self.new.decoder.source)) }
+            (call.TakesItem R.source R.refusals (IsField (texts names.now))
+            self.old self.new) result }
+        ensures taken { OnOk result (call.Advances R.source self.old self.new) }
         ensures below { IfOk result (λ field. IfSome (place_in field) (λ i. i < length names.now)) }
         ensures no_key { IfErr result (NamesNoKey self.new.decoder.refusal) }
-        ensures levels { self.new.decoder.levels ≡ self.old.decoder.levels }
-        ensures formats { self.new.decoder.formats ≡ self.old.decoder.formats }
+        ensures settings { SameSettings self.old.decoder self.new.decoder }
     {
         match identifier(&mut self.decoder, names)? {
             Some(place) => Ok(Field::Known(place)),
@@ -77,8 +76,7 @@ impl<'de, R: Read<'de>> Deserializer<R> {
         ensures bad_key { IfErr result (λ w. (e : Error) → IsMadeBy self.new.decoder.refusal w e
             → TellsBadKey R.refusals (formats_of self.old.decoder.formats) remaining.old
             (R.source self.old.decoder.source) e) }
-        ensures levels { self.new.decoder.levels ≡ self.old.decoder.levels }
-        ensures formats { self.new.decoder.formats ≡ self.old.decoder.formats }
+        ensures settings { SameSettings self.old.decoder self.new.decoder }
     {
         if !more_pairs(&mut self.decoder, remaining)? {
             return Ok(None);
@@ -107,8 +105,7 @@ pub fn next_key<'de, R: Read<'de>>(
         < most_left remaining.old (R.source de.old.decoder.source))) }
     ensures form { IfErr result (MayTellKey never (formats_of de.old.decoder.formats)
         remaining.old (R.source de.old.decoder.source)) }
-    ensures levels { de.new.decoder.levels ≡ de.old.decoder.levels }
-    ensures formats { de.new.decoder.formats ≡ de.old.decoder.formats }
+    ensures settings { SameSettings de.old.decoder de.new.decoder }
 {
     match de.next_field(remaining, names) {
         Ok(next) => Ok(next),

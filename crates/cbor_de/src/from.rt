@@ -1,6 +1,6 @@
 //! Reading a whole input as a type.
 
-ghost use Rattle.std.specs.Prelude.{⊤, ◌≡◌, ◌^◌, ◌<◌, ◌⊎◌, ℕ, List, [], length, Some, None};
+ghost use Rattle.std.specs.Prelude.{◌^◌, ◌<◌, ◌⊎◌, ℕ, List, [], length, Some, None};
 ghost use Rattle.std.specs.Prelude.{IfOk, IfErr, MatchResult};
 ghost use Rattle.cbor_model.specs.Acceptable.{max_depth, FitsScratch};
 ghost use Rattle.cbor_model.specs.Allowed.{limits_of};
@@ -19,6 +19,7 @@ ghost use Rattle.cbor_de.specs.Forms.{MayTell};
 ghost use Rattle.cbor_de.specs.Whole.{ReadsAll, RefusesUnread, TellsWhole, from_slice_context};
 ghost use Rattle.cbor_de.specs.Whole.{from_mut_slice_context, from_reader_context};
 ghost use Rattle.cbor_de.specs.Whole.{asks_none, from_reader_asks, from_slice_asks};
+ghost use Rattle.cbor_de.specs.Calls as call;
 
 use crate::de::Deserializer;
 use crate::deserialize::{Deserialize, DeserializeOwned};
@@ -49,12 +50,10 @@ fn whole<'de, T: Deserialize<'de, R>, R: Read<'de>>(de: &mut Deserializer<R>) ->
     ensures fault { IfErr result (TellsWhole T.passes_over T.total R.refusals
         (formats_of de.old.decoder.formats) (T.reads (context de.old.decoder.formats R.lends))
         de.old.decoder.levels (R.source de.old.decoder.source)) }
-    ensures memory { IfErr result (MemoryFor
-        (T.asks_memory (asks_for R.refusals R.lends)) (formats_of de.old.decoder.formats)
-        (T.reads (context de.old.decoder.formats R.lends)) de.old.decoder.levels
-        (R.source de.old.decoder.source)) }
-    ensures form { IfErr result (MayTell T.wrong_forms (formats_of de.old.decoder.formats)
-        (R.source de.old.decoder.source)) }
+    ensures memory { IfErr result (MemoryFor (T.asks_memory (asks_for R.refusals R.lends))
+        (formats_of de.old.decoder.formats) (T.reads (context de.old.decoder.formats R.lends))
+        de.old.decoder.levels (R.source de.old.decoder.source)) }
+    ensures form { IfErr result (call.MayTell R.source T.wrong_forms de.old) }
 {
     let value = match T::deserialize(de) {
         Ok(value) => value,

@@ -3,12 +3,12 @@
 
 ghost use Rattle.std.specs.Prelude.{◌≡◌, IfErr, OnOk};
 ghost use Rattle.cbor_model.specs.Readable.{PassesTags};
-ghost use Rattle.cbor_decode.specs.Gives.{Advances};
+ghost use Rattle.cbor_decode.specs.Decoder.{SameSettings};
 ghost use Rattle.cbor_decode_as.specs.Accesses.{TakesPart};
 ghost use Rattle.cbor_decode_as.specs.Arrays.{AsArray};
-ghost use Rattle.cbor_decode_as.specs.Takes.{TakesItem, context, formats_of};
-ghost use Rattle.cbor_de.specs.Forms.{MayTell};
+ghost use Rattle.cbor_decode_as.specs.Takes.{context, formats_of};
 ghost use Rattle.cbor_de.specs.ItemLists.{TakesItems};
+ghost use Rattle.cbor_de.specs.Calls as call;
 
 use crate::de::Deserializer;
 use crate::deserialize::{Deserialize, Readable};
@@ -40,8 +40,7 @@ pub trait ReadTuple<'de, R: Read<'de>>: ReadableTuple {
         ensures read { TakesItems R.refusals (formats_of de.old.decoder.formats)
             (Self.parts (context de.old.decoder.formats R.lends)) de.old.decoder.levels remaining
             (R.source de.old.decoder.source) (R.source de.new.decoder.source) result }
-        ensures form { IfErr result (MayTell Self.wrong_forms
-            (formats_of de.old.decoder.formats) (R.source de.old.decoder.source)) }
+        ensures form { IfErr result (call.MayTell R.source Self.wrong_forms de.old) }
         ensures formats { de.new.decoder.formats ≡ de.old.decoder.formats };
 }
 
@@ -51,16 +50,12 @@ pub trait ReadTuple<'de, R: Read<'de>>: ReadableTuple {
 pub(crate) fn read_array<'de, R: Read<'de>, T: ReadTuple<'de, R>>(
     de: &mut Deserializer<R>,
 ) -> Result<T>
-    ensures read { TakesItem R.refusals (formats_of de.old.decoder.formats)
+    ensures read { call.TakesItem R.source R.refusals
         (PassesTags (AsArray (T.parts (context de.old.decoder.formats R.lends))))
-        de.old.decoder.levels (R.source de.old.decoder.source)
-        (R.source de.new.decoder.source) result }
-    ensures taken { OnOk result (Advances (R.source de.old.decoder.source)
-        (R.source de.new.decoder.source)) }
-    ensures form { IfErr result (MayTell T.wrong_forms
-        (formats_of de.old.decoder.formats) (R.source de.old.decoder.source)) }
-    ensures levels { de.new.decoder.levels ≡ de.old.decoder.levels }
-    ensures formats { de.new.decoder.formats ≡ de.old.decoder.formats }
+        de.old de.new result }
+    ensures taken { OnOk result (call.Advances R.source de.old de.new) }
+    ensures form { IfErr result (call.MayTell R.source T.wrong_forms de.old) }
+    ensures settings { SameSettings de.old.decoder de.new.decoder }
 {
     let outer = de.decoder.levels;
     let remaining = match array_head(&mut de.decoder) {
@@ -108,8 +103,7 @@ pub(crate) trait ReadItems<'de, R: Read<'de>>: ItemList {
         ensures read { TakesItems R.refusals (formats_of de.old.decoder.formats)
             (Self.parts (context de.old.decoder.formats R.lends)) de.old.decoder.levels remaining
             (R.source de.old.decoder.source) (R.source de.new.decoder.source) result }
-        ensures form { IfErr result (MayTell Self.wrong_forms
-            (formats_of de.old.decoder.formats) (R.source de.old.decoder.source)) }
+        ensures form { IfErr result (call.MayTell R.source Self.wrong_forms de.old) }
         ensures formats { de.new.decoder.formats ≡ de.old.decoder.formats };
 }
 
@@ -175,10 +169,8 @@ fn next_part<'de, R: Read<'de>, T: Deserialize<'de, R>>(
         (T.reads (context de.old.decoder.formats R.lends))
         de.old.decoder.levels remaining.old remaining.new
         (R.source de.old.decoder.source) (R.source de.new.decoder.source) result }
-    ensures form { IfErr result (MayTell T.wrong_forms
-        (formats_of de.old.decoder.formats) (R.source de.old.decoder.source)) }
-    ensures levels { de.new.decoder.levels ≡ de.old.decoder.levels }
-    ensures formats { de.new.decoder.formats ≡ de.old.decoder.formats }
+    ensures form { IfErr result (call.MayTell R.source T.wrong_forms de.old) }
+    ensures settings { SameSettings de.old.decoder de.new.decoder }
 {
     match more_items(&mut de.decoder, remaining) {
         Ok(true) => T::deserialize(de),

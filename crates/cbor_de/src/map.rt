@@ -1,23 +1,21 @@
 //! Maps, one pair after the other (RFC 7049, section 2.1, major type 5).
 
-ghost use Rattle.std.specs.Prelude.{◌≡◌, ◌<◌, ◌≤◌, true, false, IfOk, IfErr, MatchOption};
+ghost use Rattle.std.specs.Prelude.{◌≡◌, ◌<◌, true, false, IfOk, IfErr};
 ghost use Rattle.std.specs.Option.{is_some};
 ghost use Rattle.std.specs.Borrow.{sem, RestsIfErr};
-ghost use Rattle.cbor_model.specs.Reader.{item_at};
 ghost use Rattle.cbor_decode.specs.declared.cursor.Remaining.TheVariants.{Counted};
 ghost use Rattle.cbor_io.specs.Error.{code_of};
-ghost use Rattle.cbor_decode.specs.Gives.{Advances, Step, TellsNoForm};
+ghost use Rattle.cbor_decode.specs.Gives.{TellsNoForm};
 ghost use Rattle.cbor_io.specs.declared.error.Error.{Error};
-ghost use Rattle.cbor_decode_as.specs.Begins.{Begins, RefusesBeginning};
 ghost use Rattle.cbor_decode.specs.declared.head.Head.TheVariants as kind;
-ghost use Rattle.cbor_decode_as.specs.Accesses.{most_left, size_of};
+ghost use Rattle.cbor_decode_as.specs.Accesses.{size_of};
 ghost use Rattle.cbor_decode_as.specs.Cases.{TellsBadKey};
-ghost use Rattle.cbor_decode_as.specs.MapAccesses.{IsMapHead, RefusesMap, TakesKey};
 ghost use Rattle.cbor_decode_as.specs.MapAccesses.{TakesMapEnd};
-ghost use Rattle.cbor_read.specs.Source.{TookSome};
-ghost use Rattle.cbor_decode_as.specs.Takes.{TakesItem, WhateverTaken, context, formats_of, raws};
-ghost use Rattle.cbor_de.specs.Forms.{MayTell, MayTellKey};
+ghost use Rattle.cbor_decode_as.specs.Takes.{context, formats_of};
+ghost use Rattle.cbor_de.specs.Forms.{MayTellKey};
 ghost use Rattle.cbor_de.specs.contracts.de.Deserializer.{the_row};
+ghost use Rattle.cbor_de.specs.Access as access;
+ghost use Rattle.cbor_de.specs.Calls as call;
 
 use crate::de::Deserializer;
 use crate::deserialize::Deserialize;
@@ -43,32 +41,19 @@ impl<R: Source> Deserializer<R> {
     /// ```
     pub fn map<'a>(&'a mut self) -> Result<MapAccess<'a, R>>
         ensures* rests { sem 𝓛 (RestsIfErr (the_row R.row) self.entry (λ m. m.de.ghost_name) result
-            (λ last. (last.decoder.levels ≡ self.old.decoder.levels)
-            × (last.decoder.formats ≡ self.old.decoder.formats)
-            × TookSome (R.source self.old.decoder.source) (R.source last.decoder.source))) }
+            (λ last. access.Rests R.source self.old.decoder.levels self.old last)) }
         ensures same_reference { IfOk result (λ m. m.de.ghost_name ≡ self.entry.ghost_name) }
-        ensures head { IfOk result (λ m. Step (R.source self.old.decoder.source)
-            (R.source m.de.now.decoder.source)
-            (λ l bs rest. IsMapHead (formats_of self.old.decoder.formats) l
-            (item_at (raws (formats_of self.old.decoder.formats) l) self.old.decoder.levels bs)
-            m.de.now.decoder.levels m.remaining rest)) }
-        ensures refused { IfErr result (WhateverTaken (R.source self.old.decoder.source)
-            (RefusesMap R.refusals (formats_of self.old.decoder.formats)
-            self.old.decoder.levels (R.source self.old.decoder.source))) }
+        ensures head { IfOk result (λ m. access.OpensMap R.source self.old m.de.now m.remaining) }
+        ensures refused { IfErr result (access.RefusesMap R.source R.refusals self.old) }
         // The head alone, whatever follows it.
-        ensures opened { IfOk result (λ m. Step (R.source self.old.decoder.source)
-            (R.source m.de.now.decoder.source)
-            (λ l bs rest. Begins kind.Map self.old.decoder.levels
-            m.de.now.decoder.levels m.remaining bs rest)) }
-        ensures unopened { IfErr result (WhateverTaken (R.source self.old.decoder.source)
-            (RefusesBeginning kind.Map R.refusals
-            self.old.decoder.levels (R.source self.old.decoder.source))) }
+        ensures opened { IfOk result
+            (λ m. access.Begins R.source kind.Map self.old m.de.now m.remaining) }
+        ensures unopened { IfErr result
+            (access.RefusesBeginning R.source R.refusals kind.Map self.old) }
         ensures no_form { IfErr result (λ e. TellsNoForm (code_of e)) }
-        ensures taken { IfOk result (λ m. Advances (R.source self.old.decoder.source)
-            (R.source m.de.now.decoder.source)) }
-        ensures outer { IfOk result (λ m. m.outer ≡ self.old.decoder.levels) }
-        ensures inside { IfOk result (λ m. m.de.now.decoder.levels < m.outer) }
-        ensures formats { IfOk result (λ m. m.de.now.decoder.formats ≡ self.old.decoder.formats) }
+        ensures taken { IfOk result (λ m. call.Advances R.source self.old m.de.now) }
+        ensures settings { IfOk result
+            (λ m. call.Within self.old.decoder.levels m.outer self.old m.de.now) }
         ensures due { IfOk result (λ m. m.value_due ≡ false) }
     {
         let outer = self.decoder.levels;
@@ -122,16 +107,13 @@ impl<'a, R: Source> MapAccess<'a, R> {
         requires live { self.old.de.now.decoder.levels < self.old.outer }
         requires due { self.old.value_due ≡ false }
         ensures same_reference { self.new.de.ghost_name ≡ self.old.de.ghost_name }
-        ensures read { TakesKey R.refusals (formats_of self.old.de.now.decoder.formats)
-            (K.reads (context self.old.de.now.decoder.formats R.lends))
-            self.old.de.now.decoder.levels self.old.remaining self.new.remaining
-            (R.source self.old.de.now.decoder.source)
-            (R.source self.new.de.now.decoder.source) result }
+        ensures read { access.TakesKey R.source R.refusals
+            (K.reads (context self.old.de.now.decoder.formats R.lends)) self.old.remaining
+            self.new.remaining self.old.de.now self.new.de.now result }
         // Nothing remains after the last pair, and a loop over the pairs ends.
-        ensures remains { IfOk result (λ next. MatchOption next
-            (self.new.remaining ≡ Counted 0)
-            (λ k. most_left self.new.remaining (R.source self.new.de.now.decoder.source)
-            < most_left self.old.remaining (R.source self.old.de.now.decoder.source))) }
+        ensures remains { IfOk result
+            (access.Ends R.source self.old.remaining self.new.remaining self.old.de.now
+            self.new.de.now) }
         // The key alone that may not begin as it does is told so, at its first byte.
         ensures form { IfErr result (MayTellKey K.wrong_forms
             (formats_of self.old.de.now.decoder.formats) self.old.remaining
@@ -141,11 +123,8 @@ impl<'a, R: Source> MapAccess<'a, R> {
             (formats_of self.old.de.now.decoder.formats) self.old.remaining
             (R.source self.old.de.now.decoder.source)) }
         ensures due { IfOk result (λ next. self.new.value_due ≡ is_some next) }
-        ensures inside { IfOk result (λ k.
-            self.new.de.now.decoder.levels ≡ self.old.de.now.decoder.levels) }
-        ensures left { IfErr result (λ e. self.new.de.now.decoder.levels ≡ self.old.outer) }
+        ensures settings { call.StaysInside self.old.outer self.old.de.now self.new.de.now result }
         ensures outer { self.new.outer ≡ self.old.outer }
-        ensures formats { self.new.de.now.decoder.formats ≡ self.old.de.now.decoder.formats }
     {
         match more_pairs(&mut self.de.decoder, &mut self.remaining) {
             Ok(true) => {}
@@ -175,25 +154,18 @@ impl<'a, R: Source> MapAccess<'a, R> {
         requires live { self.old.de.now.decoder.levels < self.old.outer }
         requires due { self.old.value_due ≡ true }
         ensures same_reference { self.new.de.ghost_name ≡ self.old.de.ghost_name }
-        ensures read { TakesItem R.refusals (formats_of self.old.de.now.decoder.formats)
+        ensures read { call.TakesItem R.source R.refusals
             (V.reads (context self.old.de.now.decoder.formats R.lends))
-            self.old.de.now.decoder.levels
-            (R.source self.old.de.now.decoder.source)
-            (R.source self.new.de.now.decoder.source) result }
-        ensures form { IfErr result (MayTell V.wrong_forms
-            (formats_of self.old.de.now.decoder.formats)
-            (R.source self.old.de.now.decoder.source)) }
+            self.old.de.now self.new.de.now result }
+        ensures form { IfErr result (call.MayTell R.source V.wrong_forms self.old.de.now) }
         ensures due { IfOk result (λ v. self.new.value_due ≡ false) }
-        ensures inside { IfOk result (λ v.
-            self.new.de.now.decoder.levels ≡ self.old.de.now.decoder.levels) }
-        ensures left { IfErr result (λ e. self.new.de.now.decoder.levels ≡ self.old.outer) }
+        ensures settings { call.StaysInside self.old.outer self.old.de.now self.new.de.now result }
         ensures outer { self.new.outer ≡ self.old.outer }
         ensures remaining { self.new.remaining ≡ self.old.remaining }
         // A loop over the pairs ends.
-        ensures remains { IfOk result (λ v.
-            most_left self.new.remaining (R.source self.new.de.now.decoder.source)
-            ≤ most_left self.old.remaining (R.source self.old.de.now.decoder.source)) }
-        ensures formats { self.new.de.now.decoder.formats ≡ self.old.de.now.decoder.formats }
+        ensures remains { IfOk result
+            (λ v. access.NoMore R.source self.old.remaining self.new.remaining self.old.de.now
+            self.new.de.now) }
     {
         match V::deserialize(self.de) {
             Ok(value) => {
@@ -230,8 +202,7 @@ impl<'a, R: Source> MapAccess<'a, R> {
             (R.source self.entry.de.now.decoder.source) (R.source self.exit.0.now.decoder.source)
             result }
         ensures no_form { IfErr result (λ e. TellsNoForm (code_of e)) }
-        ensures levels { self.exit.0.now.decoder.levels ≡ self.entry.outer }
-        ensures formats { self.exit.0.now.decoder.formats ≡ self.entry.de.now.decoder.formats }
+        ensures settings { call.BackTo self.entry.outer self.entry.de.now self.exit.0.now }
     {
         let MapAccess {
             de,
@@ -248,8 +219,7 @@ impl<'a, R: Source> MapAccess<'a, R> {
         requires { self.de.now.decoder.levels < self.outer }
         ensures error { result ≡ e }
         ensures source { self.exit.0.now.decoder.source ≡ self.entry.de.now.decoder.source }
-        ensures levels { self.exit.0.now.decoder.levels ≡ self.entry.outer }
-        ensures formats { self.exit.0.now.decoder.formats ≡ self.entry.de.now.decoder.formats }
+        ensures settings { call.BackTo self.entry.outer self.entry.de.now self.exit.0.now }
     {
         let MapAccess {
             de,

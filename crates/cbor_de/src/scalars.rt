@@ -1,22 +1,21 @@
 //! Simple values, numbers and strings, which hold no other item, and the head of any item.
 
-ghost use Rattle.std.specs.Prelude.{◌≡◌, ◌≤◌, IfErr, OnOk};
+ghost use Rattle.std.specs.Prelude.{◌≡◌, IfErr, OnOk};
 ghost use Rattle.std.specs.Io.BufRead.{Rests};
 ghost use types.Logic.{sem};
 ghost use Rattle.cbor_model.specs.Readable.{PassesTags, IsBool, IsInteger, IsUnit};
-ghost use Rattle.cbor_model.specs.Reader.{item_at};
 ghost use Rattle.cbor_io.specs.Error.{code_of};
-ghost use Rattle.cbor_decode.specs.Gives.{Advances, TellsNoForm, TellsNoKey};
-ghost use Rattle.cbor_decode_as.specs.TaggedHeads.{TakesTaggedHead};
+ghost use Rattle.cbor_decode.specs.Decoder.{SameSettings};
+ghost use Rattle.cbor_decode.specs.Gives.{TellsNoForm};
 ghost use Rattle.cbor_decode_as.specs.Scalars.{IsFloatItem};
 ghost use Rattle.cbor_decode_as.specs.Strings.{IsMadeOf, IsNoKey, LendsBytes, LendsString};
 ghost use Rattle.cbor_decode_as.specs.Strings.{LendsText};
-ghost use Rattle.cbor_decode_as.specs.Takes.{TakesItem, TakesNoMemory, context, formats_of};
+ghost use Rattle.cbor_decode_as.specs.Takes.{context, formats_of};
 ghost use Rattle.cbor_read.specs.Source.{asks_for};
 ghost use Rattle.cbor_decode_as.specs.Strings.{AsksForBytes, AsksForString, AsksToLend};
 ghost use Rattle.cbor_decode_as.specs.Strings.{LendsWhole, UnreadOnly};
-ghost use Rattle.cbor_decode_as.specs.Takes.{ReadsWhole, RefusesWhole, raws};
 ghost use Rattle.cbor_de.specs.contracts.de.Deserializer.{the_row as typed_row};
+ghost use Rattle.cbor_de.specs.Calls as call;
 
 use crate::de::Deserializer;
 use cbor_decode::{Done, Head};
@@ -35,20 +34,13 @@ impl<R: Source> Deserializer<R> {
     /// What isn't whole is refused by its fault, and another item by a message.
     #[inline(always)]
     pub fn read_bool(&mut self) -> Result<bool>
-        ensures read { TakesItem R.refusals (formats_of self.old.decoder.formats)
-            (PassesTags IsBool)
-            self.old.decoder.levels
-            (R.source self.old.decoder.source) (R.source self.new.decoder.source)
-            result }
-        ensures taken { OnOk result (Advances (R.source self.old.decoder.source)
-            (R.source self.new.decoder.source)) }
-        ensures fault { IfErr result (RefusesWhole R.refusals self.old.decoder.levels
-            (R.source self.old.decoder.source)) }
+        ensures read { call.TakesItem R.source R.refusals (PassesTags IsBool)
+            self.old self.new result }
+        ensures taken { OnOk result (call.Advances R.source self.old self.new) }
+        ensures fault { IfErr result (call.RefusesWhole R.source R.refusals self.old) }
         ensures no_form { IfErr result (λ e. TellsNoForm (code_of e)) }
-        ensures memory { IfErr result (TakesNoMemory (formats_of self.old.decoder.formats)
-            (PassesTags IsBool) self.old.decoder.levels (R.source self.old.decoder.source)) }
-        ensures levels { self.new.decoder.levels ≡ self.old.decoder.levels }
-        ensures formats { self.new.decoder.formats ≡ self.old.decoder.formats }
+        ensures memory { IfErr result (call.TakesNoMemory R.source (PassesTags IsBool) self.old) }
+        ensures settings { SameSettings self.old.decoder self.new.decoder }
     {
         scalar::read_bool(&mut self.decoder)
     }
@@ -58,19 +50,14 @@ impl<R: Source> Deserializer<R> {
     /// What isn't whole is refused by its fault, and another item by a message.
     #[inline(always)]
     pub fn read_float(&mut self) -> Result<Float>
-        ensures read { TakesItem R.refusals (formats_of self.old.decoder.formats)
-            (PassesTags IsFloatItem) self.old.decoder.levels
-            (R.source self.old.decoder.source) (R.source self.new.decoder.source)
-            result }
-        ensures taken { OnOk result (Advances (R.source self.old.decoder.source)
-            (R.source self.new.decoder.source)) }
-        ensures fault { ReadsWhole R.refusals self.old.decoder.levels
-            (R.source self.old.decoder.source) result }
+        ensures read { call.TakesItem R.source R.refusals (PassesTags IsFloatItem)
+            self.old self.new result }
+        ensures taken { OnOk result (call.Advances R.source self.old self.new) }
+        ensures fault { call.ReadsWhole R.source R.refusals self.old result }
         ensures no_form { IfErr result (λ e. TellsNoForm (code_of e)) }
-        ensures memory { IfErr result (TakesNoMemory (formats_of self.old.decoder.formats)
-            (PassesTags IsFloatItem) self.old.decoder.levels (R.source self.old.decoder.source)) }
-        ensures levels { self.new.decoder.levels ≡ self.old.decoder.levels }
-        ensures formats { self.new.decoder.formats ≡ self.old.decoder.formats }
+        ensures memory { IfErr result
+            (call.TakesNoMemory R.source (PassesTags IsFloatItem) self.old) }
+        ensures settings { SameSettings self.old.decoder self.new.decoder }
     {
         scalar::read_float(&mut self.decoder)
     }
@@ -80,20 +67,13 @@ impl<R: Source> Deserializer<R> {
     /// What isn't whole is refused by its fault, and another item by a message.
     #[inline(always)]
     pub fn read_unit(&mut self) -> Result<()>
-        ensures read { TakesItem R.refusals (formats_of self.old.decoder.formats)
-            (PassesTags IsUnit)
-            self.old.decoder.levels
-            (R.source self.old.decoder.source) (R.source self.new.decoder.source)
-            result }
-        ensures taken { OnOk result (Advances (R.source self.old.decoder.source)
-            (R.source self.new.decoder.source)) }
-        ensures fault { IfErr result (RefusesWhole R.refusals self.old.decoder.levels
-            (R.source self.old.decoder.source)) }
+        ensures read { call.TakesItem R.source R.refusals (PassesTags IsUnit)
+            self.old self.new result }
+        ensures taken { OnOk result (call.Advances R.source self.old self.new) }
+        ensures fault { IfErr result (call.RefusesWhole R.source R.refusals self.old) }
         ensures no_form { IfErr result (λ e. TellsNoForm (code_of e)) }
-        ensures memory { IfErr result (TakesNoMemory (formats_of self.old.decoder.formats)
-            (PassesTags IsUnit) self.old.decoder.levels (R.source self.old.decoder.source)) }
-        ensures levels { self.new.decoder.levels ≡ self.old.decoder.levels }
-        ensures formats { self.new.decoder.formats ≡ self.old.decoder.formats }
+        ensures memory { IfErr result (call.TakesNoMemory R.source (PassesTags IsUnit) self.old) }
+        ensures settings { SameSettings self.old.decoder self.new.decoder }
     {
         scalar::read_unit(&mut self.decoder)
     }
@@ -107,18 +87,14 @@ impl<R: Source> Deserializer<R> {
     /// ```
     #[inline(always)]
     pub fn read_integer(&mut self) -> Result<i128>
-        ensures read { TakesItem R.refusals (formats_of self.old.decoder.formats)
-            (PassesTags IsInteger) self.old.decoder.levels
-            (R.source self.old.decoder.source) (R.source self.new.decoder.source) result }
-        ensures taken { OnOk result (Advances (R.source self.old.decoder.source)
-            (R.source self.new.decoder.source)) }
-        ensures fault { IfErr result (RefusesWhole R.refusals self.old.decoder.levels
-            (R.source self.old.decoder.source)) }
+        ensures read { call.TakesItem R.source R.refusals (PassesTags IsInteger)
+            self.old self.new result }
+        ensures taken { OnOk result (call.Advances R.source self.old self.new) }
+        ensures fault { IfErr result (call.RefusesWhole R.source R.refusals self.old) }
         ensures no_form { IfErr result (λ e. TellsNoForm (code_of e)) }
-        ensures memory { IfErr result (TakesNoMemory (formats_of self.old.decoder.formats)
-            (PassesTags IsInteger) self.old.decoder.levels (R.source self.old.decoder.source)) }
-        ensures levels { self.new.decoder.levels ≡ self.old.decoder.levels }
-        ensures formats { self.new.decoder.formats ≡ self.old.decoder.formats }
+        ensures memory { IfErr result
+            (call.TakesNoMemory R.source (PassesTags IsInteger) self.old) }
+        ensures settings { SameSettings self.old.decoder self.new.decoder }
     {
         integer::read_integer(&mut self.decoder)
     }
@@ -130,8 +106,7 @@ impl<R: Source> Deserializer<R> {
         ensures made { IsMadeOf why result }
         ensures no_form { IsNoKey why → TellsNoForm (code_of result) }
         ensures source { self.new.decoder.source ≡ self.old.decoder.source }
-        ensures levels { self.new.decoder.levels ≡ self.old.decoder.levels }
-        ensures formats { self.new.decoder.formats ≡ self.old.decoder.formats }
+        ensures settings { SameSettings self.old.decoder self.new.decoder }
     {
         borrowed::unread_error(&mut self.decoder, why, message)
     }
@@ -154,8 +129,7 @@ impl<'de, R: Read<'de>> Deserializer<R> {
             (R.source self.old.decoder.source)))
             × LendsWhole R.refusals self.old.decoder.levels
             (R.source self.old.decoder.source) result
-            × OnOk result (Advances (R.source self.old.decoder.source)
-            (R.source new.decoder.source)))) }
+            × OnOk result (call.Advances R.source self.old new))) }
     {
         borrowed::read_text(&mut self.decoder)
     }
@@ -176,8 +150,7 @@ impl<'de, R: Read<'de>> Deserializer<R> {
             (R.source self.old.decoder.source)))
             × LendsWhole R.refusals self.old.decoder.levels
             (R.source self.old.decoder.source) result
-            × OnOk result (Advances (R.source self.old.decoder.source)
-            (R.source new.decoder.source)))) }
+            × OnOk result (call.Advances R.source self.old new))) }
     {
         borrowed::read_bytes(&mut self.decoder)
     }
@@ -197,8 +170,7 @@ impl<'de, R: Read<'de>> Deserializer<R> {
             (R.source self.old.decoder.source)))
             × LendsWhole R.refusals self.old.decoder.levels
             (R.source self.old.decoder.source) result
-            × OnOk result (Advances (R.source self.old.decoder.source)
-            (R.source new.decoder.source)))) }
+            × OnOk result (call.Advances R.source self.old new))) }
     {
         borrowed::read_byte_string(&mut self.decoder)
     }

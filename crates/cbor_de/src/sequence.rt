@@ -1,22 +1,19 @@
 //! Arrays, one item after the other (RFC 7049, section 2.1, major type 4).
 
-ghost use Rattle.std.specs.Prelude.{◌≡◌, ◌<◌, IfOk, IfErr, MatchOption};
+ghost use Rattle.std.specs.Prelude.{◌≡◌, ◌<◌, IfOk, IfErr};
 ghost use Rattle.cbor_decode.specs.declared.cursor.Remaining.TheVariants.{Counted};
 ghost use Rattle.std.specs.Borrow.{sem, RestsIfErr};
-ghost use Rattle.cbor_model.specs.Reader.{item_at};
 ghost use Rattle.cbor_io.specs.Error.{code_of, offset_of};
-ghost use Rattle.cbor_decode.specs.Gives.{Advances, IsErrorOf, Step, TellsNoForm};
+ghost use Rattle.cbor_decode.specs.Gives.{IsErrorOf, TellsNoForm};
 ghost use Rattle.cbor_decode.specs.Gives.{TellsNoKey};
-ghost use Rattle.cbor_decode_as.specs.Begins.{Begins, RefusesBeginning};
-ghost use Rattle.cbor_decode_as.specs.Accesses.{IsArrayHead, RefusesArray, TakesNext, TakesPart};
-ghost use Rattle.cbor_decode_as.specs.Accesses.{TakesEnd, most_left, size_of, TakesMore};
-ghost use Rattle.cbor_read.specs.Source.{TookSome};
-ghost use Rattle.cbor_decode_as.specs.Takes.{IsMessage, OnceMade, WhateverTaken, context};
-ghost use Rattle.cbor_decode_as.specs.Takes.{formats_of, raws};
-ghost use Rattle.cbor_de.specs.Forms.{MayTell};
+ghost use Rattle.cbor_decode_as.specs.Accesses.{TakesEnd, size_of, TakesMore};
+ghost use Rattle.cbor_decode_as.specs.Takes.{IsMessage, OnceMade, context};
 ghost use Rattle.cbor_de.specs.contracts.de.Deserializer.{the_row};
 ghost use Rattle.cbor_decode.specs.Cursor.{Counts};
 ghost use Rattle.cbor_decode.specs.declared.head.Head.TheVariants as kind;
+ghost use Rattle.cbor_decode.specs.Decoder.{SameSettings};
+ghost use Rattle.cbor_de.specs.Access as access;
+ghost use Rattle.cbor_de.specs.Calls as call;
 
 use crate::de::Deserializer;
 use crate::deserialize::Deserialize;
@@ -45,32 +42,19 @@ impl<R: Source> Deserializer<R> {
     /// ```
     pub fn array<'a>(&'a mut self) -> Result<SeqAccess<'a, R>>
         ensures* rests { sem 𝓛 (RestsIfErr (the_row R.row) self.entry (λ s. s.de.ghost_name) result
-            (λ last. (last.decoder.levels ≡ self.old.decoder.levels)
-            × (last.decoder.formats ≡ self.old.decoder.formats)
-            × TookSome (R.source self.old.decoder.source) (R.source last.decoder.source))) }
+            (λ last. access.Rests R.source self.old.decoder.levels self.old last)) }
         ensures same_reference { IfOk result (λ s. s.de.ghost_name ≡ self.entry.ghost_name) }
-        ensures head { IfOk result (λ s. Step (R.source self.old.decoder.source)
-            (R.source s.de.now.decoder.source)
-            (λ l bs rest. IsArrayHead (formats_of self.old.decoder.formats) l
-            (item_at (raws (formats_of self.old.decoder.formats) l) self.old.decoder.levels bs)
-            s.de.now.decoder.levels s.remaining rest)) }
-        ensures refused { IfErr result (WhateverTaken (R.source self.old.decoder.source)
-            (RefusesArray R.refusals (formats_of self.old.decoder.formats)
-            self.old.decoder.levels (R.source self.old.decoder.source))) }
+        ensures head { IfOk result (λ s. access.OpensArray R.source self.old s.de.now s.remaining) }
+        ensures refused { IfErr result (access.RefusesArray R.source R.refusals self.old) }
         // The head alone, whatever follows it.
-        ensures opened { IfOk result (λ s. Step (R.source self.old.decoder.source)
-            (R.source s.de.now.decoder.source)
-            (λ l bs rest. Begins kind.Array self.old.decoder.levels
-            s.de.now.decoder.levels s.remaining bs rest)) }
-        ensures unopened { IfErr result (WhateverTaken (R.source self.old.decoder.source)
-            (RefusesBeginning kind.Array R.refusals
-            self.old.decoder.levels (R.source self.old.decoder.source))) }
+        ensures opened { IfOk result
+            (λ s. access.Begins R.source kind.Array self.old s.de.now s.remaining) }
+        ensures unopened { IfErr result
+            (access.RefusesBeginning R.source R.refusals kind.Array self.old) }
         ensures no_form { IfErr result (λ e. TellsNoForm (code_of e)) }
-        ensures taken { IfOk result (λ s. Advances (R.source self.old.decoder.source)
-            (R.source s.de.now.decoder.source)) }
-        ensures outer { IfOk result (λ s. s.outer ≡ self.old.decoder.levels) }
-        ensures inside { IfOk result (λ s. s.de.now.decoder.levels < s.outer) }
-        ensures formats { IfOk result (λ s. s.de.now.decoder.formats ≡ self.old.decoder.formats) }
+        ensures taken { IfOk result (λ s. call.Advances R.source self.old s.de.now) }
+        ensures settings { IfOk result
+            (λ s. call.Within self.old.decoder.levels s.outer self.old s.de.now) }
     {
         let outer = self.decoder.levels;
         let remaining = array_head(&mut self.decoder)?;
@@ -134,24 +118,16 @@ impl<'a, R: Source> SeqAccess<'a, R> {
         // The access is live: no call on it has answered Err.
         requires { self.old.de.now.decoder.levels < self.old.outer }
         ensures same_reference { self.new.de.ghost_name ≡ self.old.de.ghost_name }
-        ensures read { TakesNext R.refusals (formats_of self.old.de.now.decoder.formats)
-            (T.reads (context self.old.de.now.decoder.formats R.lends))
-            self.old.de.now.decoder.levels self.old.remaining self.new.remaining
-            (R.source self.old.de.now.decoder.source)
-            (R.source self.new.de.now.decoder.source) result }
-        ensures form { IfErr result (MayTell T.wrong_forms
-            (formats_of self.old.de.now.decoder.formats)
-            (R.source self.old.de.now.decoder.source)) }
+        ensures read { access.TakesNext R.source R.refusals
+            (T.reads (context self.old.de.now.decoder.formats R.lends)) self.old.remaining
+            self.new.remaining self.old.de.now self.new.de.now result }
+        ensures form { IfErr result (call.MayTell R.source T.wrong_forms self.old.de.now) }
         // Nothing remains after the last item, and a loop over the items ends.
-        ensures remains { IfOk result (λ next. MatchOption next
-            (self.new.remaining ≡ Counted 0)
-            (λ x. most_left self.new.remaining (R.source self.new.de.now.decoder.source)
-            < most_left self.old.remaining (R.source self.old.de.now.decoder.source))) }
-        ensures inside { IfOk result (λ x.
-            self.new.de.now.decoder.levels ≡ self.old.de.now.decoder.levels) }
-        ensures left { IfErr result (λ e. self.new.de.now.decoder.levels ≡ self.old.outer) }
+        ensures remains { IfOk result
+            (access.Ends R.source self.old.remaining self.new.remaining self.old.de.now
+            self.new.de.now) }
+        ensures settings { call.StaysInside self.old.outer self.old.de.now self.new.de.now result }
         ensures outer { self.new.outer ≡ self.old.outer }
-        ensures formats { self.new.de.now.decoder.formats ≡ self.old.de.now.decoder.formats }
     {
         match more_items(&mut self.de.decoder, &mut self.remaining) {
             Ok(true) => {}
@@ -191,19 +167,12 @@ impl<'a, R: Source> SeqAccess<'a, R> {
         R: Read<'de>,
         requires { self.old.de.now.decoder.levels < self.old.outer }
         ensures same_reference { self.new.de.ghost_name ≡ self.old.de.ghost_name }
-        ensures read { TakesPart R.refusals (formats_of self.old.de.now.decoder.formats)
-            (T.reads (context self.old.de.now.decoder.formats R.lends))
-            self.old.de.now.decoder.levels self.old.remaining self.new.remaining
-            (R.source self.old.de.now.decoder.source)
-            (R.source self.new.de.now.decoder.source) result }
-        ensures form { IfErr result (MayTell T.wrong_forms
-            (formats_of self.old.de.now.decoder.formats)
-            (R.source self.old.de.now.decoder.source)) }
-        ensures inside { IfOk result (λ x.
-            self.new.de.now.decoder.levels ≡ self.old.de.now.decoder.levels) }
-        ensures left { IfErr result (λ e. self.new.de.now.decoder.levels ≡ self.old.outer) }
+        ensures read { access.TakesPart R.source R.refusals
+            (T.reads (context self.old.de.now.decoder.formats R.lends)) self.old.remaining
+            self.new.remaining self.old.de.now self.new.de.now result }
+        ensures form { IfErr result (call.MayTell R.source T.wrong_forms self.old.de.now) }
+        ensures settings { call.StaysInside self.old.outer self.old.de.now self.new.de.now result }
         ensures outer { self.new.outer ≡ self.old.outer }
-        ensures formats { self.new.de.now.decoder.formats ≡ self.old.de.now.decoder.formats }
     {
         match self.next_element::<T>() {
             Ok(Some(item)) => Ok(item),
@@ -237,8 +206,7 @@ impl<'a, R: Source> SeqAccess<'a, R> {
             (R.source self.entry.de.now.decoder.source) (R.source self.exit.0.now.decoder.source)
             result }
         ensures no_form { IfErr result (λ e. TellsNoForm (code_of e)) }
-        ensures levels { self.exit.0.now.decoder.levels ≡ self.entry.outer }
-        ensures formats { self.exit.0.now.decoder.formats ≡ self.entry.de.now.decoder.formats }
+        ensures settings { call.BackTo self.entry.outer self.entry.de.now self.exit.0.now }
     {
         let SeqAccess {
             de,
@@ -254,8 +222,7 @@ impl<'a, R: Source> SeqAccess<'a, R> {
         requires { self.de.now.decoder.levels < self.outer }
         ensures error { result ≡ e }
         ensures source { self.exit.0.now.decoder.source ≡ self.entry.de.now.decoder.source }
-        ensures levels { self.exit.0.now.decoder.levels ≡ self.entry.outer }
-        ensures formats { self.exit.0.now.decoder.formats ≡ self.entry.de.now.decoder.formats }
+        ensures settings { call.BackTo self.entry.outer self.entry.de.now self.exit.0.now }
     {
         let SeqAccess {
             de,
@@ -280,9 +247,8 @@ impl<'a, R: Source> SeqAccess<'a, R> {
             (R.source self.new.de.now.decoder.source)) result }
         ensures counts { IfOk result (λ more. Counts self.old.remaining more self.new.remaining) }
         ensures no_key { IfErr result (TellsNoKey self.new.de.now.decoder.refusal) }
-        ensures levels { self.new.de.now.decoder.levels ≡ self.old.de.now.decoder.levels }
+        ensures settings { SameSettings self.old.de.now.decoder self.new.de.now.decoder }
         ensures outer { self.new.outer ≡ self.old.outer }
-        ensures formats { self.new.de.now.decoder.formats ≡ self.old.de.now.decoder.formats }
     {
         self.de.decoder.more(&mut self.remaining, Collection::Array)
     }
@@ -296,8 +262,7 @@ impl<'a, R: Source> SeqAccess<'a, R> {
         ensures no_form { TellsNoKey self.entry.de.now.decoder.refusal refused
             → TellsNoForm (code_of result) }
         ensures source { self.exit.0.now.decoder.source ≡ self.entry.de.now.decoder.source }
-        ensures levels { self.exit.0.now.decoder.levels ≡ self.entry.outer }
-        ensures formats { self.exit.0.now.decoder.formats ≡ self.entry.de.now.decoder.formats }
+        ensures settings { call.BackTo self.entry.outer self.entry.de.now self.exit.0.now }
     {
         let SeqAccess {
             de,

@@ -3,11 +3,12 @@
 //! [`SeqAccess`](crate::SeqAccess) and [`VariantAccess`](crate::VariantAccess), which keep count of
 //! the levels.
 
-ghost use Rattle.std.specs.Prelude.{◌≡◌, ◌<◌, [], ◌∷◌, Some, codes, length, take};
+ghost use Rattle.std.specs.Prelude.{◌≡◌, ◌<◌, [], ◌∷◌, codes, length, take};
 ghost use Rattle.std.specs.Prelude.{IfOk, IfErr, IfSome, MatchOption, OnOk, OnErr};
 ghost use Rattle.cbor_io.specs.Error.{code_of};
 ghost use Rattle.cbor_read.specs.Source.{RefusedByte, Stays};
-ghost use Rattle.cbor_decode.specs.Gives.{IsErrorOf, Advances, TellsNoForm};
+ghost use Rattle.cbor_decode.specs.Decoder.{SameSettings};
+ghost use Rattle.cbor_decode.specs.Gives.{IsErrorOf, TellsNoForm};
 ghost use Rattle.cbor_decode.specs.declared.head.Head.TheVariants as kind;
 ghost use Rattle.cbor_decode.specs.declared.refusal.Refused.TheVariants.{Kept};
 ghost use Rattle.cbor_decode_as.specs.Identifiers.{texts};
@@ -21,6 +22,7 @@ ghost use Rattle.cbor_decode_as.specs.Enums.{IsNothing};
 ghost use Rattle.cbor_decode_as.specs.MapAccesses.{TakesMapEnd, TakesMapHead};
 ghost use Rattle.cbor_decode_as.specs.Variants.{IsEntered, IsInside, TakesContent, TakesParts};
 ghost use Rattle.cbor_decode_as.specs.Variants.{TakesVariant, TellsAlone, alone_text};
+ghost use Rattle.cbor_de.specs.Calls as call;
 
 use crate::de::Deserializer;
 use cbor_decode::Remaining;
@@ -40,8 +42,7 @@ pub fn peek<R: Source>(de: &mut Deserializer<R>) -> std::result::Result<Option<u
         (λ b. IfSome (R.source de.old.decoder.source).to_come (λ bs. take 1 bs ≡ b ∷ []))) }
     ensures err { IfErr result (RefusedByte R.refusals (R.source de.old.decoder.source)
         (R.source de.new.decoder.source)) }
-    ensures levels { de.new.decoder.levels ≡ de.old.decoder.levels }
-    ensures formats { de.new.decoder.formats ≡ de.old.decoder.formats }
+    ensures settings { SameSettings de.old.decoder de.new.decoder }
 {
     de.decoder.source.peek()
 }
@@ -52,8 +53,7 @@ pub fn peek<R: Source>(de: &mut Deserializer<R>) -> std::result::Result<Option<u
 pub fn error_of<R: Source>(de: &mut Deserializer<R>, refusal: ReadError) -> Error
     ensures tells { IsErrorOf refusal Kept result }
     ensures source { de.new.decoder.source ≡ de.old.decoder.source }
-    ensures levels { de.new.decoder.levels ≡ de.old.decoder.levels }
-    ensures formats { de.new.decoder.formats ≡ de.old.decoder.formats }
+    ensures settings { SameSettings de.old.decoder de.new.decoder }
 {
     let refused = de.decoder.keep(refusal);
     de.decoder.error(refused)
@@ -79,8 +79,7 @@ pub fn map_head<R: Source>(de: &mut Deserializer<R>) -> Result<Remaining>
     ensures read { TakesMapHead R.refusals (formats_of de.old.decoder.formats)
         de.old.decoder.levels (R.source de.old.decoder.source)
         (R.source de.new.decoder.source) de.new.decoder.levels result }
-    ensures taken { OnOk result (Advances (R.source de.old.decoder.source)
-        (R.source de.new.decoder.source)) }
+    ensures taken { OnOk result (call.Advances R.source de.old de.new) }
     ensures opened { TakesBeginning kind.Map R.refusals de.old.decoder.levels
         (R.source de.old.decoder.source) (R.source de.new.decoder.source)
         de.new.decoder.levels result }
@@ -99,8 +98,7 @@ pub fn end_map<R: Source>(de: &mut Deserializer<R>, remaining: Remaining) -> Res
     ensures read { TakesMapEnd R.refusals remaining
         (R.source de.old.decoder.source) (R.source de.new.decoder.source) result }
     ensures no_form { IfErr result (λ e. TellsNoForm (code_of e)) }
-    ensures levels { de.new.decoder.levels ≡ de.old.decoder.levels }
-    ensures formats { de.new.decoder.formats ≡ de.old.decoder.formats }
+    ensures settings { SameSettings de.old.decoder de.new.decoder }
 {
     cbor_decode_as::collection::end_map(&mut de.decoder, remaining)
 }
@@ -118,8 +116,7 @@ pub fn variant_head<'de, R: Read<'de>>(
         (texts names.now) de.old.decoder.levels
         (R.source de.old.decoder.source) (R.source de.new.decoder.source)
         de.new.decoder.levels result }
-    ensures taken { OnOk result (Advances (R.source de.old.decoder.source)
-        (R.source de.new.decoder.source)) }
+    ensures taken { OnOk result (call.Advances R.source de.old de.new) }
     ensures opened { TakesVariantHead R.refusals
         (formats_of de.old.decoder.formats) (texts names.now) de.old.decoder.levels
         (R.source de.old.decoder.source) (R.source de.new.decoder.source)
@@ -172,8 +169,7 @@ pub fn no_part<R: Source>(de: &mut Deserializer<R>, form: Form) -> Result<()>
     ensures cases { IfErr result (λ e. HasCase (R.source de.old.decoder.source) e
         (unit_cases form)) }
     ensures code { IfErr result (λ e. FormAlone ArrayTooLong (code_of e)) }
-    ensures levels { de.new.decoder.levels ≡ de.old.decoder.levels }
-    ensures formats { de.new.decoder.formats ≡ de.old.decoder.formats }
+    ensures settings { SameSettings de.old.decoder de.new.decoder }
 {
     cbor_decode_as::content::no_part(&mut de.decoder, form)
 }

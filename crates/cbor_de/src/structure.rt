@@ -1,27 +1,27 @@
 //! Structs of named fields, which are read from maps (RFC 7049, section 2.1, major type 5).
 
-ghost use Rattle.std.specs.Prelude.{◌≡◌, ◌<◌, ◌≤◌, true, false, length, IfOk, IfErr, IfSome};
-ghost use Rattle.std.specs.Prelude.{MatchOption, Some};
+ghost use Rattle.std.specs.Prelude.{◌≡◌, ◌<◌, true, false, length, IfOk, IfErr, IfSome};
+ghost use Rattle.std.specs.Prelude.{Some};
 ghost use Rattle.std.specs.Option.{is_some};
 ghost use Rattle.std.specs.Borrow.{sem, RestsIfErr};
 ghost use Rattle.cbor_io.specs.Error.{code_of, offset_of, IsMessageOf};
 ghost use Rattle.cbor_io.specs.declared.error.Error.{Error};
 ghost use Rattle.cbor_model.specs.Reader.{item_at};
 ghost use Rattle.cbor_decode.specs.declared.cursor.Remaining.TheVariants.{Counted};
-ghost use Rattle.cbor_decode.specs.Gives.{Advances, Step, TellsNoForm};
-ghost use Rattle.cbor_decode_as.specs.Begins.{Begins, RefusesBeginning};
+ghost use Rattle.cbor_decode.specs.Gives.{Step, TellsNoForm};
 ghost use Rattle.cbor_decode.specs.declared.head.Head.TheVariants as kind;
-ghost use Rattle.cbor_decode_as.specs.Accesses.{most_left, size_of};
+ghost use Rattle.cbor_decode_as.specs.Accesses.{size_of};
 ghost use Rattle.cbor_io.specs.declared.error.ErrorCode.TheVariants.{WrongStructFormat};
 ghost use Rattle.cbor_decode_as.specs.Cases.{FormAlone, HasCase, TellsBadKey, key_cases};
 ghost use Rattle.cbor_decode_as.specs.Identifiers.{texts};
-ghost use Rattle.cbor_decode_as.specs.MapAccesses.{IsMapHead, RefusesMap, TakesKey, TakesMapEnd};
+ghost use Rattle.cbor_decode_as.specs.MapAccesses.{TakesMapEnd};
 ghost use Rattle.cbor_de.specs.Structs.{IsAny, IsField, place_in, missing_text, duplicate_text};
-ghost use Rattle.cbor_decode_as.specs.Takes.{TakesItem, IsRead, IsNotRead, Refuses};
-ghost use Rattle.cbor_decode_as.specs.Takes.{WhateverTaken, context, formats_of, raws};
-ghost use Rattle.cbor_read.specs.Source.{TookSome};
-ghost use Rattle.cbor_de.specs.Forms.{MayTell, key_form};
+ghost use Rattle.cbor_decode_as.specs.Takes.{IsRead, IsNotRead, Refuses};
+ghost use Rattle.cbor_decode_as.specs.Takes.{context, formats_of, raws};
+ghost use Rattle.cbor_de.specs.Forms.{key_form};
 ghost use Rattle.cbor_de.specs.contracts.de.Deserializer.{the_row};
+ghost use Rattle.cbor_de.specs.Access as access;
+ghost use Rattle.cbor_de.specs.Calls as call;
 
 use crate::de::Deserializer;
 use crate::deserialize::Deserialize;
@@ -55,36 +55,21 @@ impl<R: Source> Deserializer<R> {
     /// fields.end()?;
     /// ```
     pub fn structure<'a>(&'a mut self, names: &'a [&'a str]) -> Result<StructAccess<'a, R>>
-        ensures* rests { sem 𝓛 (RestsIfErr (the_row R.row) self.entry
-            (λ m. m.de.ghost_name) result
-            (λ last. (last.decoder.levels ≡ self.old.decoder.levels)
-            × (last.decoder.formats ≡ self.old.decoder.formats)
-            × TookSome (R.source self.old.decoder.source) (R.source last.decoder.source))) }
+        ensures* rests { sem 𝓛 (RestsIfErr (the_row R.row) self.entry (λ m. m.de.ghost_name) result
+            (λ last. access.Rests R.source self.old.decoder.levels self.old last)) }
         ensures same_reference { IfOk result (λ m.
             m.de.ghost_name ≡ self.entry.ghost_name) }
-        ensures head { IfOk result (λ m. Step (R.source self.old.decoder.source)
-            (R.source m.de.now.decoder.source)
-            (λ l bs rest. IsMapHead (formats_of self.old.decoder.formats) l
-            (item_at (raws (formats_of self.old.decoder.formats) l) self.old.decoder.levels bs)
-            m.de.now.decoder.levels m.remaining rest)) }
-        ensures refused { IfErr result (WhateverTaken (R.source self.old.decoder.source)
-            (RefusesMap R.refusals (formats_of self.old.decoder.formats)
-            self.old.decoder.levels (R.source self.old.decoder.source))) }
+        ensures head { IfOk result (λ m. access.OpensMap R.source self.old m.de.now m.remaining) }
+        ensures refused { IfErr result (access.RefusesMap R.source R.refusals self.old) }
         // The head alone, whatever follows it.
-        ensures opened { IfOk result (λ m. Step (R.source self.old.decoder.source)
-            (R.source m.de.now.decoder.source)
-            (λ l bs rest. Begins kind.Map self.old.decoder.levels
-            m.de.now.decoder.levels m.remaining bs rest)) }
-        ensures unopened { IfErr result (WhateverTaken (R.source self.old.decoder.source)
-            (RefusesBeginning kind.Map R.refusals
-            self.old.decoder.levels (R.source self.old.decoder.source))) }
+        ensures opened { IfOk result
+            (λ m. access.Begins R.source kind.Map self.old m.de.now m.remaining) }
+        ensures unopened { IfErr result
+            (access.RefusesBeginning R.source R.refusals kind.Map self.old) }
         ensures no_form { IfErr result (λ e. TellsNoForm (code_of e)) }
-        ensures taken { IfOk result (λ m. Advances (R.source self.old.decoder.source)
-            (R.source m.de.now.decoder.source)) }
-        ensures outer { IfOk result (λ m. m.outer ≡ self.old.decoder.levels) }
-        ensures inside { IfOk result (λ m. m.de.now.decoder.levels < m.outer) }
-        ensures formats { IfOk result (λ m.
-            m.de.now.decoder.formats ≡ self.old.decoder.formats) }
+        ensures taken { IfOk result (λ m. call.Advances R.source self.old m.de.now) }
+        ensures settings { IfOk result
+            (λ m. call.Within self.old.decoder.levels m.outer self.old m.de.now) }
         ensures due { IfOk result (λ m. m.value_due ≡ false) }
         ensures names { IfOk result (λ m. texts m.names.now ≡ texts names.now) }
     {
@@ -146,18 +131,14 @@ impl<'a, R: Source> StructAccess<'a, R> {
         requires live { self.old.de.now.decoder.levels < self.old.outer }
         requires due { self.old.value_due ≡ false }
         ensures same_reference { self.new.de.ghost_name ≡ self.old.de.ghost_name }
-        ensures read { TakesKey R.refusals (formats_of self.old.de.now.decoder.formats)
-            (IsField (texts self.old.names.now))
-            self.old.de.now.decoder.levels self.old.remaining self.new.remaining
-            (R.source self.old.de.now.decoder.source)
-            (R.source self.new.de.now.decoder.source) result }
+        ensures read { access.TakesKey R.source R.refusals (IsField (texts self.old.names.now))
+            self.old.remaining self.new.remaining self.old.de.now self.new.de.now result }
         ensures below { IfOk result (λ next. IfSome next (λ field.
             IfSome (place_in field) (λ i. i < length self.old.names.now))) }
         // Nothing remains after the last pair, and a loop over the fields ends.
-        ensures remains { IfOk result (λ next. MatchOption next
-            (self.new.remaining ≡ Counted 0)
-            (λ k. most_left self.new.remaining (R.source self.new.de.now.decoder.source)
-            < most_left self.old.remaining (R.source self.old.de.now.decoder.source))) }
+        ensures remains { IfOk result
+            (access.Ends R.source self.old.remaining self.new.remaining self.old.de.now
+            self.new.de.now) }
         ensures cases { IfErr result (λ e. HasCase (R.source self.old.de.now.decoder.source) e
             (key_cases (formats_of self.old.de.now.decoder.formats) self.old.remaining)) }
         ensures code { IfErr result (λ e. FormAlone WrongStructFormat (code_of e)) }
@@ -166,13 +147,8 @@ impl<'a, R: Source> StructAccess<'a, R> {
             (formats_of self.old.de.now.decoder.formats) self.old.remaining
             (R.source self.old.de.now.decoder.source)) }
         ensures due { IfOk result (λ next. self.new.value_due ≡ is_some next) }
-        ensures inside { IfOk result (λ k.
-            self.new.de.now.decoder.levels ≡ self.old.de.now.decoder.levels) }
-        ensures left { IfErr result (λ e.
-            self.new.de.now.decoder.levels ≡ self.old.outer) }
+        ensures settings { call.StaysInside self.old.outer self.old.de.now self.new.de.now result }
         ensures outer { self.new.outer ≡ self.old.outer }
-        ensures formats { self.new.de.now.decoder.formats
-            ≡ self.old.de.now.decoder.formats }
         ensures names { self.new.names ≡ self.old.names }
     {
         match self.de.next_field(&mut self.remaining, self.names) {
@@ -199,27 +175,18 @@ impl<'a, R: Source> StructAccess<'a, R> {
         requires live { self.old.de.now.decoder.levels < self.old.outer }
         requires due { self.old.value_due ≡ true }
         ensures same_reference { self.new.de.ghost_name ≡ self.old.de.ghost_name }
-        ensures read { TakesItem R.refusals (formats_of self.old.de.now.decoder.formats)
+        ensures read { call.TakesItem R.source R.refusals
             (V.reads (context self.old.de.now.decoder.formats R.lends))
-            self.old.de.now.decoder.levels
-            (R.source self.old.de.now.decoder.source)
-            (R.source self.new.de.now.decoder.source) result }
-        ensures form { IfErr result (MayTell V.wrong_forms
-            (formats_of self.old.de.now.decoder.formats)
-            (R.source self.old.de.now.decoder.source)) }
+            self.old.de.now self.new.de.now result }
+        ensures form { IfErr result (call.MayTell R.source V.wrong_forms self.old.de.now) }
         ensures due { IfOk result (λ v. self.new.value_due ≡ false) }
-        ensures inside { IfOk result (λ v.
-            self.new.de.now.decoder.levels ≡ self.old.de.now.decoder.levels) }
-        ensures left { IfErr result (λ e.
-            self.new.de.now.decoder.levels ≡ self.old.outer) }
+        ensures settings { call.StaysInside self.old.outer self.old.de.now self.new.de.now result }
         ensures outer { self.new.outer ≡ self.old.outer }
         ensures remaining { self.new.remaining ≡ self.old.remaining }
         // A loop over the fields ends.
-        ensures remains { IfOk result (λ v.
-            most_left self.new.remaining (R.source self.new.de.now.decoder.source)
-            ≤ most_left self.old.remaining (R.source self.old.de.now.decoder.source)) }
-        ensures formats { self.new.de.now.decoder.formats
-            ≡ self.old.de.now.decoder.formats }
+        ensures remains { IfOk result
+            (λ v. access.NoMore R.source self.old.remaining self.new.remaining self.old.de.now
+            self.new.de.now) }
         ensures names { self.new.names ≡ self.old.names }
     {
         match V::deserialize(self.de) {
@@ -262,25 +229,18 @@ impl<'a, R: Source> StructAccess<'a, R> {
             → IsNotRead (V.reads (context self.old.de.now.decoder.formats R.lends))
             (item_at (raws (formats_of self.old.de.now.decoder.formats) l)
             self.old.de.now.decoder.levels bs))) }
-        ensures form { IfErr result (MayTell V.wrong_forms
-            (formats_of self.old.de.now.decoder.formats)
-            (R.source self.old.de.now.decoder.source)) }
+        ensures form { IfErr result (call.MayTell R.source V.wrong_forms self.old.de.now) }
         ensures text { IfErr result (λ e. is_some slot.old ≡ true →
             IsMessageOf (Some (duplicate_text name.now)) (code_of e)) }
         ensures offset { IfErr result (λ e. is_some slot.old ≡ true → offset_of e ≡ 0) }
         ensures kept { IfErr result (λ e. slot.new ≡ slot.old) }
         ensures due { IfOk result (λ u. self.new.value_due ≡ false) }
-        ensures inside { IfOk result (λ u.
-            self.new.de.now.decoder.levels ≡ self.old.de.now.decoder.levels) }
-        ensures left { IfErr result (λ e.
-            self.new.de.now.decoder.levels ≡ self.old.outer) }
+        ensures settings { call.StaysInside self.old.outer self.old.de.now self.new.de.now result }
         ensures outer { self.new.outer ≡ self.old.outer }
         ensures remaining { self.new.remaining ≡ self.old.remaining }
-        ensures remains { IfOk result (λ u.
-            most_left self.new.remaining (R.source self.new.de.now.decoder.source)
-            ≤ most_left self.old.remaining (R.source self.old.de.now.decoder.source)) }
-        ensures formats { self.new.de.now.decoder.formats
-            ≡ self.old.de.now.decoder.formats }
+        ensures remains { IfOk result
+            (λ u. access.NoMore R.source self.old.remaining self.new.remaining self.old.de.now
+            self.new.de.now) }
         ensures names { self.new.names ≡ self.old.names }
     {
         if slot.is_some() {
@@ -312,15 +272,10 @@ impl<'a, R: Source> StructAccess<'a, R> {
             IsMessageOf (Some (missing_text name.now)) (code_of e)) }
         ensures offset { IfErr result (λ e. offset_of e ≡ 0) }
         ensures source { self.new.de.now.decoder.source ≡ self.old.de.now.decoder.source }
-        ensures inside { IfOk result (λ v.
-            self.new.de.now.decoder.levels ≡ self.old.de.now.decoder.levels) }
-        ensures left { IfErr result (λ e.
-            self.new.de.now.decoder.levels ≡ self.old.outer) }
+        ensures settings { call.StaysInside self.old.outer self.old.de.now self.new.de.now result }
         ensures due { self.new.value_due ≡ false }
         ensures outer { self.new.outer ≡ self.old.outer }
         ensures remaining { self.new.remaining ≡ self.old.remaining }
-        ensures formats { self.new.de.now.decoder.formats
-            ≡ self.old.de.now.decoder.formats }
         ensures names { self.new.names ≡ self.old.names }
     {
         match slot {
@@ -341,25 +296,16 @@ impl<'a, R: Source> StructAccess<'a, R> {
         requires live { self.old.de.now.decoder.levels < self.old.outer }
         requires due { self.old.value_due ≡ true }
         ensures same_reference { self.new.de.ghost_name ≡ self.old.de.ghost_name }
-        ensures read { TakesItem R.refusals (formats_of self.old.de.now.decoder.formats)
-            IsAny self.old.de.now.decoder.levels
-            (R.source self.old.de.now.decoder.source)
-            (R.source self.new.de.now.decoder.source) result }
-        ensures form { IfErr result (MayTell key_form
-            (formats_of self.old.de.now.decoder.formats)
-            (R.source self.old.de.now.decoder.source)) }
+        ensures read { call.TakesItem R.source R.refusals IsAny
+            self.old.de.now self.new.de.now result }
+        ensures form { IfErr result (call.MayTell R.source key_form self.old.de.now) }
         ensures due { IfOk result (λ u. self.new.value_due ≡ false) }
-        ensures inside { IfOk result (λ u.
-            self.new.de.now.decoder.levels ≡ self.old.de.now.decoder.levels) }
-        ensures left { IfErr result (λ e.
-            self.new.de.now.decoder.levels ≡ self.old.outer) }
+        ensures settings { call.StaysInside self.old.outer self.old.de.now self.new.de.now result }
         ensures outer { self.new.outer ≡ self.old.outer }
         ensures remaining { self.new.remaining ≡ self.old.remaining }
-        ensures remains { IfOk result (λ u.
-            most_left self.new.remaining (R.source self.new.de.now.decoder.source)
-            ≤ most_left self.old.remaining (R.source self.old.de.now.decoder.source)) }
-        ensures formats { self.new.de.now.decoder.formats
-            ≡ self.old.de.now.decoder.formats }
+        ensures remains { IfOk result
+            (λ u. access.NoMore R.source self.old.remaining self.new.remaining self.old.de.now
+            self.new.de.now) }
         ensures names { self.new.names ≡ self.old.names }
     {
         match self.value::<IgnoredAny>() {
@@ -385,9 +331,7 @@ impl<'a, R: Source> StructAccess<'a, R> {
         ensures text { IsMessageOf (Some (missing_text name.now)) (code_of result) }
         ensures offset { offset_of result ≡ 0 }
         ensures source { self.exit.0.now.decoder.source ≡ self.entry.de.now.decoder.source }
-        ensures levels { self.exit.0.now.decoder.levels ≡ self.entry.outer }
-        ensures formats { self.exit.0.now.decoder.formats
-            ≡ self.entry.de.now.decoder.formats }
+        ensures settings { call.BackTo self.entry.outer self.entry.de.now self.exit.0.now }
     {
         let alloc = self.de.decoder.alloc;
         self.refuse(missing_field(alloc, name))
@@ -399,9 +343,7 @@ impl<'a, R: Source> StructAccess<'a, R> {
         ensures text { IsMessageOf (Some (duplicate_text name.now)) (code_of result) }
         ensures offset { offset_of result ≡ 0 }
         ensures source { self.exit.0.now.decoder.source ≡ self.entry.de.now.decoder.source }
-        ensures levels { self.exit.0.now.decoder.levels ≡ self.entry.outer }
-        ensures formats { self.exit.0.now.decoder.formats
-            ≡ self.entry.de.now.decoder.formats }
+        ensures settings { call.BackTo self.entry.outer self.entry.de.now self.exit.0.now }
     {
         let alloc = self.de.decoder.alloc;
         self.refuse(duplicate_field(alloc, name))
@@ -412,9 +354,7 @@ impl<'a, R: Source> StructAccess<'a, R> {
         requires { self.de.now.decoder.levels < self.outer }
         ensures error { result ≡ e }
         ensures source { self.exit.0.now.decoder.source ≡ self.entry.de.now.decoder.source }
-        ensures levels { self.exit.0.now.decoder.levels ≡ self.entry.outer }
-        ensures formats { self.exit.0.now.decoder.formats
-            ≡ self.entry.de.now.decoder.formats }
+        ensures settings { call.BackTo self.entry.outer self.entry.de.now self.exit.0.now }
     {
         let StructAccess {
             de,
@@ -435,9 +375,7 @@ impl<'a, R: Source> StructAccess<'a, R> {
             (R.source self.entry.de.now.decoder.source)
             (R.source self.exit.0.now.decoder.source) result }
         ensures no_form { IfErr result (λ e. TellsNoForm (code_of e)) }
-        ensures levels { self.exit.0.now.decoder.levels ≡ self.entry.outer }
-        ensures formats { self.exit.0.now.decoder.formats
-            ≡ self.entry.de.now.decoder.formats }
+        ensures settings { call.BackTo self.entry.outer self.entry.de.now self.exit.0.now }
     {
         let StructAccess {
             de,

@@ -3,26 +3,22 @@
 ghost use Rattle.std.specs.Prelude.{◌≡◌, ◌<◌, codes, length};
 ghost use Rattle.std.specs.Prelude.{IfOk, IfErr};
 ghost use Rattle.std.specs.Borrow.{sem, RestsIfErr};
-ghost use Rattle.cbor_model.specs.Reader.{item_at};
 ghost use Rattle.cbor_io.specs.Error.{code_of};
-ghost use Rattle.cbor_decode.specs.Gives.{Advances, Step, TellsNoForm};
+ghost use Rattle.cbor_decode.specs.Decoder.{SameSettings};
+ghost use Rattle.cbor_decode.specs.Gives.{TellsNoForm};
 ghost use Rattle.cbor_io.specs.declared.error.ErrorCode.TheVariants.{ArrayTooLong};
 ghost use Rattle.cbor_decode_as.specs.Cases.{FormAlone, IsEnumCode, HasCase};
 ghost use Rattle.cbor_decode_as.specs.Cases.{enum_cases, unit_cases, TellsTooShort};
-ghost use Rattle.cbor_decode_as.specs.BeginsEnum.{BeginsVariant, RefusesVariantHead};
-ghost use Rattle.cbor_decode_as.specs.BeginsEnum.{BeginsParts, RefusesPartsHead};
 ghost use Rattle.cbor_decode_as.specs.Enums.{IsNothing, IsPart};
 ghost use Rattle.cbor_decode_as.specs.Identifiers.{texts};
-ghost use Rattle.cbor_read.specs.Source.{TookSome};
-ghost use Rattle.cbor_decode_as.specs.Takes.{WhateverTaken, context, formats_of, raws};
-ghost use Rattle.cbor_decode_as.specs.Variants.{IsVariantHead, RefusesVariant};
+ghost use Rattle.cbor_decode_as.specs.Takes.{context, formats_of};
 ghost use Rattle.cbor_decode_as.specs.Variants.{IsInside};
-ghost use Rattle.cbor_decode_as.specs.Variants.{IsPartsHead, RefusesParts, TakesContent};
-ghost use Rattle.cbor_decode_as.specs.Variants.{content_at};
 ghost use Rattle.cbor_decode_as.specs.Variants.{TellsAlone, alone_text};
 ghost use Rattle.cbor_decode_as.specs.declared.variant.Form.TheVariants.{Array};
 ghost use Rattle.cbor_de.specs.Forms.{MayTellPart};
 ghost use Rattle.cbor_de.specs.contracts.de.Deserializer.{the_row};
+ghost use Rattle.cbor_de.specs.Access as access;
+ghost use Rattle.cbor_de.specs.Calls as call;
 
 use crate::de::Deserializer;
 use crate::deserialize::Deserialize;
@@ -53,35 +49,24 @@ impl<'de, R: Read<'de>> Deserializer<R> {
     /// ```
     pub fn variant<'a>(&'a mut self, names: &[&str]) -> Result<VariantAccess<'a, R>>
         ensures* rests { sem 𝓛 (RestsIfErr (the_row R.row) self.entry (λ v. v.de.ghost_name) result
-            (λ last. (last.decoder.levels ≡ self.old.decoder.levels)
-            × (last.decoder.formats ≡ self.old.decoder.formats)
-            × TookSome (R.source self.old.decoder.source) (R.source last.decoder.source))) }
+            (λ last. access.Rests R.source self.old.decoder.levels self.old last)) }
         ensures same_reference { IfOk result (λ v. v.de.ghost_name ≡ self.entry.ghost_name) }
-        ensures head { IfOk result (λ v. Step (R.source self.old.decoder.source)
-            (R.source v.de.now.decoder.source)
-            (λ l bs rest. IsVariantHead (formats_of self.old.decoder.formats) (texts names.now) l
-            (item_at (raws (formats_of self.old.decoder.formats) l) self.old.decoder.levels bs)
-            v.de.now.decoder.levels v.index v.form rest)) }
-        ensures refused { IfErr result (WhateverTaken (R.source self.old.decoder.source)
-            (RefusesVariant R.refusals
-            (formats_of self.old.decoder.formats) (texts names.now) self.old.decoder.levels
-            (R.source self.old.decoder.source))) }
+        ensures head { IfOk result
+            (λ v. access.OpensVariant R.source (texts names.now) self.old v.de.now v.index v.form) }
+        ensures refused { IfErr result
+            (access.RefusesVariant R.source R.refusals (texts names.now) self.old) }
         // The enum up to its identifier, whatever follows it.
-        ensures opened { IfOk result (λ v. Step (R.source self.old.decoder.source)
-            (R.source v.de.now.decoder.source)
-            (λ l bs rest. BeginsVariant (formats_of self.old.decoder.formats) (texts names.now) l
-            self.old.decoder.levels v.de.now.decoder.levels v.index v.form bs rest)) }
-        ensures unopened { IfErr result (WhateverTaken (R.source self.old.decoder.source)
-            (RefusesVariantHead R.refusals
-            (formats_of self.old.decoder.formats) (texts names.now) self.old.decoder.levels
-            (R.source self.old.decoder.source))) }
+        ensures opened { IfOk result
+            (λ v. access.BeginsVariant R.source (texts names.now) self.old v.de.now v.index
+            v.form) }
+        ensures unopened { IfErr result
+            (access.RefusesVariantHead R.source R.refusals (texts names.now) self.old) }
         ensures cases { IfErr result (λ e. HasCase (R.source self.old.decoder.source) e
             (enum_cases (formats_of self.old.decoder.formats)
             self.old.decoder.levels)) }
         ensures code { IfErr result (λ e. IsEnumCode (code_of e)) }
         ensures below { IfOk result (λ v. v.index < length names.now) }
-        ensures taken { IfOk result (λ v. Advances (R.source self.old.decoder.source)
-            (R.source v.de.now.decoder.source)) }
+        ensures taken { IfOk result (λ v. call.Advances R.source self.old v.de.now) }
         ensures outer { IfOk result (λ v. v.outer ≡ self.old.decoder.levels) }
         ensures inside { IfOk result (λ v. IsInside v.form v.de.now.decoder.levels v.outer) }
         ensures formats { IfOk result (λ v. v.de.now.decoder.formats ≡ self.old.decoder.formats) }
@@ -99,17 +84,15 @@ impl<'de, R: Read<'de>> Deserializer<R> {
     // Reads the only item of an array that remains.
     #[tactic(auto, using(cbor_decode_as::proofs::facts::Places::too_short_first, cbor_decode_as::proofs::facts::Places::too_short_later, crate::proofs::Forms::part_plain))]
     fn only_item<T: Deserialize<'de, R>>(&mut self, mut remaining: Remaining) -> Result<T>
-        ensures read { TakesContent R.refusals (formats_of self.old.decoder.formats)
-            (IsPart (T.reads (context self.old.decoder.formats R.lends)))
-            self.old.decoder.levels (Array remaining)
-            (R.source self.old.decoder.source) (R.source self.new.decoder.source) result }
+        ensures read { access.TakesContent R.source R.refusals
+            (IsPart (T.reads (context self.old.decoder.formats R.lends))) (Array remaining)
+            self.old self.new result }
         ensures form { IfErr result (MayTellPart T.wrong_forms
             (formats_of self.old.decoder.formats) (Array remaining)
             (R.source self.old.decoder.source)) }
         ensures too_short { IfErr result (TellsTooShort R.refusals (Array remaining)
             (R.source self.old.decoder.source)) }
-        ensures levels { self.new.decoder.levels ≡ self.old.decoder.levels }
-        ensures formats { self.new.decoder.formats ≡ self.old.decoder.formats }
+        ensures settings { SameSettings self.old.decoder self.new.decoder }
     {
         expect_item(&mut self.decoder, &mut remaining, ErrorCode::ArrayTooShort)?;
         let item = T::deserialize(self)?;
@@ -126,17 +109,14 @@ pub fn one_part<'de, R: Read<'de>, T: Deserialize<'de, R>>(
     form: Form,
     alone: &str,
 ) -> Result<T>
-    ensures read { TakesContent R.refusals (formats_of de.old.decoder.formats)
-        (IsPart (T.reads (context de.old.decoder.formats R.lends)))
-        de.old.decoder.levels form
-        (R.source de.old.decoder.source) (R.source de.new.decoder.source) result }
+    ensures read { access.TakesContent R.source R.refusals
+        (IsPart (T.reads (context de.old.decoder.formats R.lends))) form de.old de.new result }
     ensures alone { IfErr result (TellsAlone alone.now form) }
     ensures form { IfErr result (MayTellPart T.wrong_forms
         (formats_of de.old.decoder.formats) form (R.source de.old.decoder.source)) }
     ensures too_short { IfErr result (TellsTooShort R.refusals form
         (R.source de.old.decoder.source)) }
-    ensures levels { de.new.decoder.levels ≡ de.old.decoder.levels }
-    ensures formats { de.new.decoder.formats ≡ de.old.decoder.formats }
+    ensures settings { SameSettings de.old.decoder de.new.decoder }
 {
     match form {
         Form::Array(remaining) => de.only_item::<T>(remaining),
@@ -184,17 +164,12 @@ impl<'a, R: Source> VariantAccess<'a, R> {
     pub fn unit<'de>(self) -> Result<()>
     where
         R: Read<'de>,
-        ensures read { TakesContent R.refusals
-            (formats_of self.entry.de.now.decoder.formats)
-            IsNothing
-            self.entry.de.now.decoder.levels self.entry.form
-            (R.source self.entry.de.now.decoder.source) (R.source self.exit.0.now.decoder.source)
-            result }
+        ensures read { access.TakesContent R.source R.refusals IsNothing self.entry.form
+            self.entry.de.now self.exit.0.now result }
         ensures cases { IfErr result (λ e. HasCase (R.source self.entry.de.now.decoder.source) e
             (unit_cases self.entry.form)) }
         ensures code { IfErr result (λ e. FormAlone ArrayTooLong (code_of e)) }
-        ensures levels { self.exit.0.now.decoder.levels ≡ self.entry.outer }
-        ensures formats { self.exit.0.now.decoder.formats ≡ self.entry.de.now.decoder.formats }
+        ensures settings { call.BackTo self.entry.outer self.entry.de.now self.exit.0.now }
     {
         let VariantAccess {
             de,
@@ -220,12 +195,9 @@ impl<'a, R: Source> VariantAccess<'a, R> {
     pub fn newtype<'de, T: Deserialize<'de, R>>(self) -> Result<T>
     where
         R: Read<'de>,
-        ensures read { TakesContent R.refusals
-            (formats_of self.entry.de.now.decoder.formats)
-            (IsPart (T.reads (context self.entry.de.now.decoder.formats R.lends)))
-            self.entry.de.now.decoder.levels self.entry.form
-            (R.source self.entry.de.now.decoder.source) (R.source self.exit.0.now.decoder.source)
-            result }
+        ensures read { access.TakesContent R.source R.refusals
+            (IsPart (T.reads (context self.entry.de.now.decoder.formats R.lends))) self.entry.form
+            self.entry.de.now self.exit.0.now result }
         ensures alone { IfErr result
             (TellsAlone (alone_text (codes "newtype")) self.entry.form) }
         // That nothing follows the identifier is told there alone.
@@ -234,8 +206,7 @@ impl<'a, R: Source> VariantAccess<'a, R> {
             (R.source self.entry.de.now.decoder.source)) }
         ensures too_short { IfErr result (TellsTooShort R.refusals self.entry.form
             (R.source self.entry.de.now.decoder.source)) }
-        ensures levels { self.exit.0.now.decoder.levels ≡ self.entry.outer }
-        ensures formats { self.exit.0.now.decoder.formats ≡ self.entry.de.now.decoder.formats }
+        ensures settings { call.BackTo self.entry.outer self.entry.de.now self.exit.0.now }
     {
         let VariantAccess {
             de,
@@ -266,12 +237,9 @@ impl<'a, R: Source> VariantAccess<'a, R> {
     pub fn structure<'de, T: Deserialize<'de, R>>(self) -> Result<T>
     where
         R: Read<'de>,
-        ensures read { TakesContent R.refusals
-            (formats_of self.entry.de.now.decoder.formats)
-            (IsPart (T.reads (context self.entry.de.now.decoder.formats R.lends)))
-            self.entry.de.now.decoder.levels self.entry.form
-            (R.source self.entry.de.now.decoder.source) (R.source self.exit.0.now.decoder.source)
-            result }
+        ensures read { access.TakesContent R.source R.refusals
+            (IsPart (T.reads (context self.entry.de.now.decoder.formats R.lends))) self.entry.form
+            self.entry.de.now self.exit.0.now result }
         ensures alone { IfErr result
             (TellsAlone (alone_text (codes "struct")) self.entry.form) }
         // That nothing follows the identifier is told there alone.
@@ -280,8 +248,7 @@ impl<'a, R: Source> VariantAccess<'a, R> {
             (R.source self.entry.de.now.decoder.source)) }
         ensures too_short { IfErr result (TellsTooShort R.refusals self.entry.form
             (R.source self.entry.de.now.decoder.source)) }
-        ensures levels { self.exit.0.now.decoder.levels ≡ self.entry.outer }
-        ensures formats { self.exit.0.now.decoder.formats ≡ self.entry.de.now.decoder.formats }
+        ensures settings { call.BackTo self.entry.outer self.entry.de.now self.exit.0.now }
     {
         let VariantAccess {
             de,
@@ -311,37 +278,24 @@ impl<'a, R: Source> VariantAccess<'a, R> {
         // The levels are those that `variant` left.
         requires { IsInside self.form self.de.now.decoder.levels self.outer }
         ensures* rests { sem 𝓛 (RestsIfErr (the_row R.row) self.entry.de (λ s. s.de.ghost_name)
-            result (λ last. (last.decoder.levels ≡ self.entry.outer)
-            × (last.decoder.formats ≡ self.entry.de.now.decoder.formats)
-            × TookSome (R.source self.entry.de.now.decoder.source)
-            (R.source last.decoder.source))) }
+            result (λ last. access.Rests R.source self.entry.outer self.entry.de.now last)) }
         ensures same_reference { IfOk result (λ s. s.de.ghost_name ≡ self.entry.de.ghost_name) }
-        ensures head { IfOk result (λ s. Step (R.source self.entry.de.now.decoder.source)
-            (R.source s.de.now.decoder.source)
-            (λ l bs rest. IsPartsHead (formats_of self.entry.de.now.decoder.formats) l
-            (content_at (formats_of self.entry.de.now.decoder.formats) l
-            self.entry.de.now.decoder.levels self.entry.form bs)
-            s.de.now.decoder.levels s.remaining rest)) }
-        ensures refused { IfErr result (WhateverTaken (R.source self.entry.de.now.decoder.source)
-            (RefusesParts R.refusals
-            (formats_of self.entry.de.now.decoder.formats) self.entry.de.now.decoder.levels
-            self.entry.form (R.source self.entry.de.now.decoder.source))) }
+        ensures head { IfOk result
+            (λ s. access.OpensParts R.source self.entry.form self.entry.de.now s.de.now
+            s.remaining) }
+        ensures refused { IfErr result
+            (access.RefusesParts R.source R.refusals self.entry.form self.entry.de.now) }
         // Up to the parts, whatever follows.
-        ensures opened { IfOk result (λ s. Step (R.source self.entry.de.now.decoder.source)
-            (R.source s.de.now.decoder.source)
-            (λ l bs rest. BeginsParts self.entry.de.now.decoder.levels self.entry.form
-            s.de.now.decoder.levels s.remaining bs rest)) }
-        ensures unopened { IfErr result (WhateverTaken (R.source self.entry.de.now.decoder.source)
-            (RefusesPartsHead R.refusals
-            self.entry.de.now.decoder.levels self.entry.form
-            (R.source self.entry.de.now.decoder.source))) }
+        ensures opened { IfOk result
+            (λ s. access.BeginsParts R.source self.entry.form self.entry.de.now s.de.now
+            s.remaining) }
+        ensures unopened { IfErr result
+            (access.RefusesPartsHead R.source R.refusals self.entry.form self.entry.de.now) }
         ensures alone { IfErr result
             (TellsAlone (alone_text (codes "tuple")) self.entry.form) }
         ensures no_form { IfErr result (λ e. TellsNoForm (code_of e)) }
-        ensures outer { IfOk result (λ s. s.outer ≡ self.entry.outer) }
-        ensures inside { IfOk result (λ s. s.de.now.decoder.levels < s.outer) }
-        ensures formats { IfOk result (λ s.
-            s.de.now.decoder.formats ≡ self.entry.de.now.decoder.formats) }
+        ensures settings { IfOk result
+            (λ s. call.Within self.entry.outer s.outer self.entry.de.now s.de.now) }
     {
         let VariantAccess {
             de,
@@ -366,8 +320,7 @@ impl<'a, R: Source> VariantAccess<'a, R> {
     pub fn refuse(self, e: Error) -> Error
         ensures error { result ≡ e }
         ensures source { self.exit.0.now.decoder.source ≡ self.entry.de.now.decoder.source }
-        ensures levels { self.exit.0.now.decoder.levels ≡ self.entry.outer }
-        ensures formats { self.exit.0.now.decoder.formats ≡ self.entry.de.now.decoder.formats }
+        ensures settings { call.BackTo self.entry.outer self.entry.de.now self.exit.0.now }
     {
         let VariantAccess {
             de,

@@ -4,10 +4,11 @@
 ghost use Rattle.std.specs.Prelude.{◌≡◌, ◌≤◌, ◌++◌, List, ℕ, length, take, MatchOption, IfSome};
 ghost use Rattle.std.specs.Prelude.{OnSome, Ok};
 ghost use Rattle.cbor_model.specs.Reader.{number_behind};
-ghost use Rattle.cbor_decode.specs.Gives.{Advances};
+ghost use Rattle.cbor_decode.specs.Decoder.{SameSettings};
 ghost use Rattle.cbor_decode.specs.Heads.{HeadGives, opening_at};
 ghost use Rattle.cbor_decode.specs.declared.head.Head.TheVariants.{Unsigned, Negative};
 ghost use Rattle.cbor_decode.specs.declared.head.Head.TheVariants.{Bool as BoolHead};
+ghost use Rattle.cbor_decode.specs.Steps as step;
 
 use crate::Decoder;
 use cbor_read::Source;
@@ -51,10 +52,8 @@ impl<R: Source> Decoder<R> {
             (λ n. HeadGives R.refusals opening_at (R.source self.old.source)
             (R.source self.new.source) self.new.refusal (Ok (Unsigned n))) }
         ensures bound { IfSome result (λ n. n ≤ most) }
-        ensures taken { OnSome result (Advances (R.source self.old.source)
-            (R.source self.new.source)) }
-        ensures levels { self.new.levels ≡ self.old.levels }
-        ensures formats { self.new.formats ≡ self.old.formats }
+        ensures taken { OnSome result (step.Advances R.source self.old self.new) }
+        ensures settings { SameSettings self.old self.new }
     {
         let ahead = self.source.ahead();
         match ahead.first().copied() {
@@ -80,10 +79,8 @@ impl<R: Source> Decoder<R> {
             (λ n. HeadGives R.refusals opening_at (R.source self.old.source)
             (R.source self.new.source) self.new.refusal (Ok (Negative n))) }
         ensures bound { IfSome result (λ n. n ≤ most) }
-        ensures taken { OnSome result (Advances (R.source self.old.source)
-            (R.source self.new.source)) }
-        ensures levels { self.new.levels ≡ self.old.levels }
-        ensures formats { self.new.formats ≡ self.old.formats }
+        ensures taken { OnSome result (step.Advances R.source self.old self.new) }
+        ensures settings { SameSettings self.old self.new }
     {
         let ahead = self.source.ahead();
         match ahead.first().copied() {
@@ -108,10 +105,8 @@ impl<R: Source> Decoder<R> {
         ensures read { MatchOption result (R.source self.new.source ≡ R.source self.old.source)
             (λ b. HeadGives R.refusals opening_at (R.source self.old.source)
             (R.source self.new.source) self.new.refusal (Ok (BoolHead b))) }
-        ensures taken { OnSome result (Advances (R.source self.old.source)
-            (R.source self.new.source)) }
-        ensures levels { self.new.levels ≡ self.old.levels }
-        ensures formats { self.new.formats ≡ self.old.formats }
+        ensures taken { OnSome result (step.Advances R.source self.old self.new) }
+        ensures settings { SameSettings self.old self.new }
     {
         match self.source.ahead().first().copied() {
             Some(0xf4) => {

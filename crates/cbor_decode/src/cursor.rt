@@ -1,15 +1,17 @@
 //! What remains of an array or a map.
 
 ghost use Rattle.std.specs.Prelude.{◌≡◌, ◌<◌, IfErr, IfOk, IfSome};
-ghost use Rattle.cbor_decode.specs.Gives.{Gives, Advances, TellsNoKey, TellsNoMemory};
+ghost use Rattle.cbor_decode.specs.Decoder.{SameSettings};
+ghost use Rattle.cbor_decode.specs.Gives.{TellsNoKey, TellsNoMemory};
 ghost use Rattle.cbor_decode.specs.Heads.{first_at, end_of, end_code, remaining_of, first_of_next};
 ghost use Rattle.cbor_model.specs.Reader.{to_break};
 ghost use Rattle.cbor_decode.specs.declared.cursor.Remaining.TheVariants.{ToBreak};
 ghost use Rattle.std.specs.Prelude.{◌≡◌, IfOk, IfErr};
 ghost use Rattle.cbor_model.specs.Reader.{next_at, to_break};
 ghost use Rattle.cbor_decode.specs.Cursor.{behind_next, Counts, ended_at};
-ghost use Rattle.cbor_decode.specs.Gives.{Gives, TellsNoKey, TellsNoMemory};
+ghost use Rattle.cbor_decode.specs.Gives.{TellsNoKey, TellsNoMemory};
 ghost use Rattle.cbor_decode.specs.Heads.{end_of, remaining_of};
+ghost use Rattle.cbor_decode.specs.Steps as step;
 
 use crate::Decoder;
 use crate::refusal::Done;
@@ -52,15 +54,13 @@ impl<R: Source> Decoder<R> {
     /// much remains; None where none comes. A break that comes in its place is taken.
     #[tactic(auto, unfolding(cbor_model::specs::Reader::next_at, cbor_model::specs::Reader::byte_at))]
     pub fn next(&mut self, remaining: &mut Remaining, of: Collection) -> Done<Option<u8>>
-        ensures read { Gives R.refusals (first_of_next remaining.new)
-            (λ l. first_at (end_of of) (remaining_of remaining.old))
-            (R.source self.old.source) (R.source self.new.source) self.new.refusal result }
+        ensures read { step.Gives R.source R.refusals (first_of_next remaining.new)
+            (λ l. first_at (end_of of) (remaining_of remaining.old)) self.old self.new result }
         ensures taken { IfOk result
-            (λ o. IfSome o (λ b. Advances (R.source self.old.source) (R.source self.new.source))) }
+            (λ o. IfSome o (λ b. step.Advances R.source self.old self.new)) }
         ensures memory { IfErr result (TellsNoMemory self.new.refusal) }
         ensures no_key { IfErr result (TellsNoKey self.new.refusal) }
-        ensures levels { self.new.levels ≡ self.old.levels }
-        ensures formats { self.new.formats ≡ self.old.formats }
+        ensures settings { SameSettings self.old self.new }
     {
         match remaining {
             Remaining::Counted(0) => Ok(None),
@@ -75,15 +75,13 @@ impl<R: Source> Decoder<R> {
 
     // Takes the first byte of the next item or key, or the break that comes in its place.
     fn next_to_break(&mut self, of: Collection) -> Done<Option<u8>>
-        ensures read { Gives R.refusals (first_of_next ToBreak)
-            (λ l. first_at (end_of of) to_break)
-            (R.source self.old.source) (R.source self.new.source) self.new.refusal result }
+        ensures read { step.Gives R.source R.refusals (first_of_next ToBreak)
+            (λ l. first_at (end_of of) to_break) self.old self.new result }
         ensures taken { IfOk result
-            (λ o. IfSome o (λ b. Advances (R.source self.old.source) (R.source self.new.source))) }
+            (λ o. IfSome o (λ b. step.Advances R.source self.old self.new)) }
         ensures memory { IfErr result (TellsNoMemory self.new.refusal) }
         ensures no_key { IfErr result (TellsNoKey self.new.refusal) }
-        ensures levels { self.new.levels ≡ self.old.levels }
-        ensures formats { self.new.formats ≡ self.old.formats }
+        ensures settings { SameSettings self.old self.new }
     {
         match self.source.next() {
             Ok(Some(BREAK)) => Ok(None),
@@ -100,13 +98,11 @@ impl<R: Source> Decoder<R> {
     #[inline(always)]
     #[tactic(auto, unfolding(cbor_model::specs::Reader::next_at))]
     pub fn more(&mut self, remaining: &mut Remaining, of: Collection) -> Done<bool>
-        ensures read { Gives R.refusals (behind_next remaining.new)
-            (λ l. next_at (end_of of) (remaining_of remaining.old))
-            (R.source self.old.source) (R.source self.new.source) self.new.refusal result }
+        ensures read { step.Gives R.source R.refusals (behind_next remaining.new)
+            (λ l. next_at (end_of of) (remaining_of remaining.old)) self.old self.new result }
         ensures no_key { IfErr result (TellsNoKey self.new.refusal) }
         ensures memory { IfErr result (TellsNoMemory self.new.refusal) }
-        ensures levels { self.new.levels ≡ self.old.levels }
-        ensures formats { self.new.formats ≡ self.old.formats }
+        ensures settings { SameSettings self.old self.new }
         ensures counts { IfOk result (λ more. Counts remaining.old more remaining.new) }
     {
         match remaining {
@@ -127,12 +123,11 @@ impl<R: Source> Decoder<R> {
 
     // Whether another item or pair comes before the break.
     fn more_to_break(&mut self, of: Collection) -> Done<bool>
-        ensures read { Gives R.refusals (behind_next ToBreak) (λ l. next_at (end_of of) to_break)
-            (R.source self.old.source) (R.source self.new.source) self.new.refusal result }
+        ensures read { step.Gives R.source R.refusals (behind_next ToBreak)
+            (λ l. next_at (end_of of) to_break) self.old self.new result }
         ensures no_key { IfErr result (TellsNoKey self.new.refusal) }
         ensures memory { IfErr result (TellsNoMemory self.new.refusal) }
-        ensures levels { self.new.levels ≡ self.old.levels }
-        ensures formats { self.new.formats ≡ self.old.formats }
+        ensures settings { SameSettings self.old self.new }
     {
         match self.source.peek() {
             Ok(Some(BREAK)) => {
@@ -151,13 +146,11 @@ impl<R: Source> Decoder<R> {
     /// What stands in its place is refused with `TrailingData`: before it where a count was
     /// declared, and after its first byte where it wasn't.
     pub fn end_of(&mut self, remaining: Remaining, of: Collection) -> Done<()>
-        ensures read { Gives R.refusals (λ u. u)
-            (λ l. ended_at (end_of of) (remaining_of remaining))
-            (R.source self.old.source) (R.source self.new.source) self.new.refusal result }
+        ensures read { step.Gives R.source R.refusals (λ u. u)
+            (λ l. ended_at (end_of of) (remaining_of remaining)) self.old self.new result }
         ensures no_key { IfErr result (TellsNoKey self.new.refusal) }
         ensures memory { IfErr result (TellsNoMemory self.new.refusal) }
-        ensures levels { self.new.levels ≡ self.old.levels }
-        ensures formats { self.new.formats ≡ self.old.formats }
+        ensures settings { SameSettings self.old self.new }
     {
         match remaining {
             Remaining::Counted(0) => Ok(()),
@@ -168,12 +161,11 @@ impl<R: Source> Decoder<R> {
 
     // Takes the break of an array or a map of indefinite length.
     fn end_by_break(&mut self, of: Collection) -> Done<()>
-        ensures read { Gives R.refusals (λ u. u) (λ l. ended_at (end_of of) to_break)
-            (R.source self.old.source) (R.source self.new.source) self.new.refusal result }
+        ensures read { step.Gives R.source R.refusals (λ u. u) (λ l. ended_at (end_of of) to_break)
+            self.old self.new result }
         ensures no_key { IfErr result (TellsNoKey self.new.refusal) }
         ensures memory { IfErr result (TellsNoMemory self.new.refusal) }
-        ensures levels { self.new.levels ≡ self.old.levels }
-        ensures formats { self.new.formats ≡ self.old.formats }
+        ensures settings { SameSettings self.old self.new }
     {
         match self.source.next() {
             Ok(Some(BREAK)) => Ok(()),

@@ -6,13 +6,15 @@ ghost use Rattle.std.specs.Int.{w8, w16, w32, w64};
 ghost use Rattle.cbor_model.specs.Reader.{number_at, number_behind};
 ghost use Rattle.cbor_model.specs.Major.{major_of};
 ghost use Rattle.cbor_io.specs.Head.{major_number};
-ghost use Rattle.cbor_decode.specs.Gives.{Gives, KeepsBuffer, Advances, TellsNoKey, TellsNoMemory};
+ghost use Rattle.cbor_decode.specs.Decoder.{SameSettings};
+ghost use Rattle.cbor_decode.specs.Gives.{TellsNoKey, TellsNoMemory};
 ghost use Rattle.cbor_decode.specs.Heads.{HeadGives, NumberGives, opening_at, head_at, head_of};
 ghost use Rattle.cbor_decode.specs.Heads.{simple_head};
 ghost use Rattle.cbor_decode.specs.declared.head.Head.TheVariants.{Float as FloatHead, Text};
 ghost use Rattle.cbor_value.specs.declared.Float.TheVariants.{Single, Double};
 ghost use Rattle.cbor_read.specs.Source.{TookKept, RefusedInto};
 ghost use Rattle.cbor_decode.specs.declared.refusal.Refused.TheVariants.{Kept};
+ghost use Rattle.cbor_decode.specs.Steps as step;
 
 use crate::Decoder;
 use crate::cursor::Remaining;
@@ -59,10 +61,8 @@ impl<R: Source> Decoder<R> {
         ensures read { MatchOption result (R.source self.new.source ≡ R.source self.old.source)
             (λ n. HeadGives R.refusals opening_at (R.source self.old.source)
             (R.source self.new.source) self.new.refusal (Ok (Text (Some n)))) }
-        ensures taken { OnSome result (Advances (R.source self.old.source)
-            (R.source self.new.source)) }
-        ensures levels { self.new.levels ≡ self.old.levels }
-        ensures formats { self.new.formats ≡ self.old.formats }
+        ensures taken { OnSome result (step.Advances R.source self.old self.new) }
+        ensures settings { SameSettings self.old self.new }
     {
         match self.source.ahead().first().copied() {
             Some(first @ 0x60..=0x77) => {
@@ -79,12 +79,11 @@ impl<R: Source> Decoder<R> {
     pub fn single(&mut self) -> Done<Option<u32>>
         ensures read { NumberGives (λ bits. FloatHead (Single bits)) R.refusals
             (R.source self.old.source) (R.source self.new.source) self.new.refusal result }
-        ensures taken { IfOk result (λ bits. OnSome bits
-            (Advances (R.source self.old.source) (R.source self.new.source))) }
+        ensures taken { IfOk result
+            (λ bits. OnSome bits (step.Advances R.source self.old self.new)) }
         ensures no_key { IfErr result (TellsNoKey self.new.refusal) }
         ensures memory { IfErr result (TellsNoMemory self.new.refusal) }
-        ensures levels { self.new.levels ≡ self.old.levels }
-        ensures formats { self.new.formats ≡ self.old.formats }
+        ensures settings { SameSettings self.old self.new }
     {
         match self.source.ahead().first().copied() {
             Some(0xfa) => {
@@ -104,12 +103,11 @@ impl<R: Source> Decoder<R> {
     pub fn double(&mut self) -> Done<Option<u64>>
         ensures read { NumberGives (λ bits. FloatHead (Double bits)) R.refusals
             (R.source self.old.source) (R.source self.new.source) self.new.refusal result }
-        ensures taken { IfOk result (λ bits. OnSome bits
-            (Advances (R.source self.old.source) (R.source self.new.source))) }
+        ensures taken { IfOk result
+            (λ bits. OnSome bits (step.Advances R.source self.old self.new)) }
         ensures no_key { IfErr result (TellsNoKey self.new.refusal) }
         ensures memory { IfErr result (TellsNoMemory self.new.refusal) }
-        ensures levels { self.new.levels ≡ self.old.levels }
-        ensures formats { self.new.formats ≡ self.old.formats }
+        ensures settings { SameSettings self.old self.new }
     {
         match self.source.ahead().first().copied() {
             Some(0xfb) => {
@@ -130,8 +128,7 @@ impl<R: Source> Decoder<R> {
             (R.source self.old.source) (R.source self.new.source) self.new.refusal result }
         ensures no_key { IfErr result (TellsNoKey self.new.refusal) }
         ensures memory { IfErr result (TellsNoMemory self.new.refusal) }
-        ensures levels { self.new.levels ≡ self.old.levels }
-        ensures formats { self.new.formats ≡ self.old.formats }
+        ensures settings { SameSettings self.old self.new }
     {
         // A text of up to 23 bytes, which most keys are.
         if let 0x60..=0x77 = first {
@@ -164,8 +161,7 @@ impl<R: Source> Decoder<R> {
             (R.source self.old.source) (R.source self.new.source) self.new.refusal result }
         ensures no_key { IfErr result (TellsNoKey self.new.refusal) }
         ensures memory { IfErr result (TellsNoMemory self.new.refusal) }
-        ensures levels { self.new.levels ≡ self.old.levels }
-        ensures formats { self.new.formats ≡ self.old.formats }
+        ensures settings { SameSettings self.old self.new }
     {
         match low {
             20 => Ok(Head::Bool(false)),
@@ -187,8 +183,7 @@ impl<R: Source> Decoder<R> {
             (R.source self.old.source) (R.source self.new.source) self.new.refusal result }
         ensures no_key { IfErr result (TellsNoKey self.new.refusal) }
         ensures memory { IfErr result (TellsNoMemory self.new.refusal) }
-        ensures levels { self.new.levels ≡ self.old.levels }
-        ensures formats { self.new.formats ≡ self.old.formats }
+        ensures settings { SameSettings self.old self.new }
     {
         match major {
             Major::ByteString => Ok(Head::Bytes(None)),
@@ -203,14 +198,12 @@ impl<R: Source> Decoder<R> {
     /// Takes the argument after a first byte with these lower five bits.
     #[inline(always)]
     pub fn argument(&mut self, low: u8) -> Done<u64>
-        ensures read { Gives R.refusals (λ n. n) (λ l. number_behind low)
-            (R.source self.old.source) (R.source self.new.source) self.new.refusal result }
-        ensures buffer { OnOk result
-            (KeepsBuffer (R.source self.old.source) (R.source self.new.source)) }
+        ensures read { step.Gives R.source R.refusals (λ n. n) (λ l. number_behind low)
+            self.old self.new result }
+        ensures buffer { OnOk result (step.KeepsBuffer R.source self.old self.new) }
         ensures no_key { IfErr result (TellsNoKey self.new.refusal) }
         ensures memory { IfErr result (TellsNoMemory self.new.refusal) }
-        ensures levels { self.new.levels ≡ self.old.levels }
-        ensures formats { self.new.formats ≡ self.old.formats }
+        ensures settings { SameSettings self.old self.new }
     {
         match low {
             0..=23 => Ok(low as u64),
@@ -225,14 +218,12 @@ impl<R: Source> Decoder<R> {
     // Takes a number of one byte.
     #[inline(always)]
     pub fn number_of_1(&mut self) -> Done<u8>
-        ensures read { Gives R.refusals (λ n. n) (λ l. number_at w8)
-            (R.source self.old.source) (R.source self.new.source) self.new.refusal result }
-        ensures buffer { OnOk result
-            (KeepsBuffer (R.source self.old.source) (R.source self.new.source)) }
+        ensures read { step.Gives R.source R.refusals (λ n. n) (λ l. number_at w8)
+            self.old self.new result }
+        ensures buffer { OnOk result (step.KeepsBuffer R.source self.old self.new) }
         ensures no_key { IfErr result (TellsNoKey self.new.refusal) }
         ensures memory { IfErr result (TellsNoMemory self.new.refusal) }
-        ensures levels { self.new.levels ≡ self.old.levels }
-        ensures formats { self.new.formats ≡ self.old.formats }
+        ensures settings { SameSettings self.old self.new }
     {
         let mut bytes = [0; 1];
         self.fill(&mut bytes)?;
@@ -242,14 +233,12 @@ impl<R: Source> Decoder<R> {
     // Takes a number of two bytes, the most significant first.
     #[inline(always)]
     pub fn number_of_2(&mut self) -> Done<u16>
-        ensures read { Gives R.refusals (λ n. n) (λ l. number_at w16)
-            (R.source self.old.source) (R.source self.new.source) self.new.refusal result }
-        ensures buffer { OnOk result
-            (KeepsBuffer (R.source self.old.source) (R.source self.new.source)) }
+        ensures read { step.Gives R.source R.refusals (λ n. n) (λ l. number_at w16)
+            self.old self.new result }
+        ensures buffer { OnOk result (step.KeepsBuffer R.source self.old self.new) }
         ensures no_key { IfErr result (TellsNoKey self.new.refusal) }
         ensures memory { IfErr result (TellsNoMemory self.new.refusal) }
-        ensures levels { self.new.levels ≡ self.old.levels }
-        ensures formats { self.new.formats ≡ self.old.formats }
+        ensures settings { SameSettings self.old self.new }
     {
         let mut bytes = [0; 2];
         self.fill(&mut bytes)?;
@@ -259,14 +248,12 @@ impl<R: Source> Decoder<R> {
     // Takes a number of four bytes, the most significant first.
     #[inline(always)]
     pub fn number_of_4(&mut self) -> Done<u32>
-        ensures read { Gives R.refusals (λ n. n) (λ l. number_at w32)
-            (R.source self.old.source) (R.source self.new.source) self.new.refusal result }
-        ensures buffer { OnOk result
-            (KeepsBuffer (R.source self.old.source) (R.source self.new.source)) }
+        ensures read { step.Gives R.source R.refusals (λ n. n) (λ l. number_at w32)
+            self.old self.new result }
+        ensures buffer { OnOk result (step.KeepsBuffer R.source self.old self.new) }
         ensures no_key { IfErr result (TellsNoKey self.new.refusal) }
         ensures memory { IfErr result (TellsNoMemory self.new.refusal) }
-        ensures levels { self.new.levels ≡ self.old.levels }
-        ensures formats { self.new.formats ≡ self.old.formats }
+        ensures settings { SameSettings self.old self.new }
     {
         let mut bytes = [0; 4];
         self.fill(&mut bytes)?;
@@ -276,14 +263,12 @@ impl<R: Source> Decoder<R> {
     // Takes a number of eight bytes, the most significant first.
     #[inline(always)]
     pub fn number_of_8(&mut self) -> Done<u64>
-        ensures read { Gives R.refusals (λ n. n) (λ l. number_at w64)
-            (R.source self.old.source) (R.source self.new.source) self.new.refusal result }
-        ensures buffer { OnOk result
-            (KeepsBuffer (R.source self.old.source) (R.source self.new.source)) }
+        ensures read { step.Gives R.source R.refusals (λ n. n) (λ l. number_at w64)
+            self.old self.new result }
+        ensures buffer { OnOk result (step.KeepsBuffer R.source self.old self.new) }
         ensures no_key { IfErr result (TellsNoKey self.new.refusal) }
         ensures memory { IfErr result (TellsNoMemory self.new.refusal) }
-        ensures levels { self.new.levels ≡ self.old.levels }
-        ensures formats { self.new.formats ≡ self.old.formats }
+        ensures settings { SameSettings self.old self.new }
     {
         let mut bytes = [0; 8];
         self.fill(&mut bytes)?;
@@ -301,8 +286,7 @@ impl<R: Source> Decoder<R> {
             self.new.refusal) }
         ensures no_key { IfErr result (TellsNoKey self.new.refusal) }
         ensures memory { IfErr result (TellsNoMemory self.new.refusal) }
-        ensures levels { self.new.levels ≡ self.old.levels }
-        ensures formats { self.new.formats ≡ self.old.formats }
+        ensures settings { SameSettings self.old self.new }
     {
         let ahead = self.source.ahead();
         let n = bytes.len();
@@ -325,8 +309,7 @@ impl<R: Source> Decoder<R> {
             self.new.refusal) }
         ensures no_key { IfErr result (TellsNoKey self.new.refusal) }
         ensures memory { IfErr result (TellsNoMemory self.new.refusal) }
-        ensures levels { self.new.levels ≡ self.old.levels }
-        ensures formats { self.new.formats ≡ self.old.formats }
+        ensures settings { SameSettings self.old self.new }
     {
         match self.source.read_into(bytes) {
             Ok(()) => Ok(()),

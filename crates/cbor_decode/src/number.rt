@@ -1,10 +1,11 @@
 //! Numbers, as values.
 
-ghost use Rattle.std.specs.Prelude.{◌≡◌, ◌≤◌, IfErr};
+ghost use Rattle.std.specs.Prelude.{◌≤◌, IfErr};
 ghost use Rattle.cbor_model.specs.Reader.{after_first, inside};
 ghost use Rattle.cbor_value.specs.View.{view};
-ghost use Rattle.cbor_decode.specs.Decoder.{values_by};
-ghost use Rattle.cbor_decode.specs.Gives.{Gives, TellsNoMemory};
+ghost use Rattle.cbor_decode.specs.Decoder.{values_by, SameSettings};
+ghost use Rattle.cbor_decode.specs.Gives.{TellsNoMemory};
+ghost use Rattle.cbor_decode.specs.Steps as step;
 
 use crate::Decoder;
 use crate::refusal::Done;
@@ -16,12 +17,12 @@ impl<R: Source> Decoder<R> {
     #[inline(always)]
     pub(crate) fn unsigned_from(&mut self, first: u8) -> Done<Value>
         requires { first ≤ 0x1b }
-        ensures read { Gives R.refusals view (λ l. after_first (values_by self.old.formats l)
+        ensures read { step.Gives R.source R.refusals view
+            (λ l. after_first (values_by self.old.formats l)
             (inside (values_by self.old.formats l) self.old.levels) first)
-            (R.source self.old.source) (R.source self.new.source) self.new.refusal result }
+            self.old self.new result }
         ensures memory { IfErr result (TellsNoMemory self.new.refusal) }
-        ensures levels { self.new.levels ≡ self.old.levels }
-        ensures formats { self.new.formats ≡ self.old.formats }
+        ensures settings { SameSettings self.old self.new }
     {
         match first {
             0x18 => Ok(Value::Integer(self.number_of_1()? as i128)),
@@ -37,12 +38,12 @@ impl<R: Source> Decoder<R> {
     pub(crate) fn float_from(&mut self, first: u8) -> Done<Value>
         requires from { 0xf9 ≤ first }
         requires to { first ≤ 0xfb }
-        ensures read { Gives R.refusals view (λ l. after_first (values_by self.old.formats l)
+        ensures read { step.Gives R.source R.refusals view
+            (λ l. after_first (values_by self.old.formats l)
             (inside (values_by self.old.formats l) self.old.levels) first)
-            (R.source self.old.source) (R.source self.new.source) self.new.refusal result }
+            self.old self.new result }
         ensures memory { IfErr result (TellsNoMemory self.new.refusal) }
-        ensures levels { self.new.levels ≡ self.old.levels }
-        ensures formats { self.new.formats ≡ self.old.formats }
+        ensures settings { SameSettings self.old self.new }
     {
         match first {
             0xf9 => Ok(Value::Float(Float::Half(self.number_of_2()?))),

@@ -8,6 +8,7 @@ ghost use Rattle.std.specs.Prelude.{◌≡◌, ◌≢◌, ◌+◌, ◌≤◌};
 ghost use Rattle.cbor_io.specs.Error.{code_of};
 ghost use Rattle.cbor_io.specs.declared.error.ErrorCode.TheVariants.{OutOfMemory};
 ghost use Rattle.cbor_io.specs.ReadError.{why, place, HasNoPlace};
+ghost use Rattle.cbor_decode.specs.Decoder.{SameSettings};
 ghost use Rattle.cbor_decode.specs.Gives.{IsAt, IsErrorOf, TellsNoForm, TellsNoKey, TellsNoMemory};
 ghost use Rattle.cbor_decode.specs.declared.refusal.Refused.TheVariants.{Kept};
 ghost use Rattle.cbor_io.specs.declared.read_error.ReadErrorCode.TheVariants.{InvalidUtf8};
@@ -59,8 +60,7 @@ impl<R: Source> Decoder<R> {
         ensures refused { result ≡ Kept }
         ensures kept { self.new.refusal ≡ refusal }
         ensures source { self.new.source ≡ self.old.source }
-        ensures levels { self.new.levels ≡ self.old.levels }
-        ensures formats { self.new.formats ≡ self.old.formats }
+        ensures settings { SameSettings self.old self.new }
     {
         self.refusal = refusal;
         Refused::Kept
@@ -73,8 +73,7 @@ impl<R: Source> Decoder<R> {
         ensures refused { result ≡ Kept }
         ensures kept { IsAt code (R.source self.old.source).offset self.new.refusal }
         ensures source { self.new.source ≡ self.old.source }
-        ensures levels { self.new.levels ≡ self.old.levels }
-        ensures formats { self.new.formats ≡ self.old.formats }
+        ensures settings { SameSettings self.old self.new }
     {
         self.refuse_back(code, 0)
     }
@@ -88,8 +87,7 @@ impl<R: Source> Decoder<R> {
         ensures kept { (why self.new.refusal ≡ code)
             × (place self.new.refusal + back ≡ (R.source self.old.source).offset) }
         ensures source { self.new.source ≡ self.old.source }
-        ensures levels { self.new.levels ≡ self.old.levels }
-        ensures formats { self.new.formats ≡ self.old.formats }
+        ensures settings { SameSettings self.old self.new }
     {
         let place = self.source.offset() - back as u64;
         self.refusal = ReadError::at(code, place);
@@ -105,8 +103,7 @@ impl<R: Source> Decoder<R> {
         ensures kept { (why self.new.refusal ≡ InvalidUtf8)
             × (place self.new.refusal + back ≡ (R.source self.old.source).offset) }
         ensures source { self.new.source ≡ self.old.source }
-        ensures levels { self.new.levels ≡ self.old.levels }
-        ensures formats { self.new.formats ≡ self.old.formats }
+        ensures settings { SameSettings self.old self.new }
     {
         self.refuse_back(ReadErrorCode::InvalidUtf8, back)
     }
@@ -115,8 +112,7 @@ impl<R: Source> Decoder<R> {
     pub fn take_refusal(&mut self) -> ReadError
         ensures kept { result ≡ self.old.refusal }
         ensures source { self.new.source ≡ self.old.source }
-        ensures levels { self.new.levels ≡ self.old.levels }
-        ensures formats { self.new.formats ≡ self.old.formats }
+        ensures settings { SameSettings self.old self.new }
     {
         mem::replace(&mut self.refusal, ReadError::eof(0))
     }
@@ -127,8 +123,7 @@ impl<R: Source> Decoder<R> {
         ensures no_form { TellsNoKey self.old.refusal refused → TellsNoForm (code_of result) }
         ensures memory { TellsNoMemory self.old.refusal refused → code_of result ≢ OutOfMemory }
         ensures source { self.new.source ≡ self.old.source }
-        ensures levels { self.new.levels ≡ self.old.levels }
-        ensures formats { self.new.formats ≡ self.old.formats }
+        ensures settings { SameSettings self.old self.new }
     {
         match refused {
             Refused::OutOfMemory => Error::from(AllocError),

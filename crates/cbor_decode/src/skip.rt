@@ -6,13 +6,14 @@ ghost use Rattle.cbor_model.specs.Head.{HeadWidth, no_bytes};
 ghost use Rattle.cbor_model.specs.Raw.{Length, indefinite};
 ghost use Rattle.cbor_model.specs.Reader.{inside, parts_at, items_of, pairs_of, array_at, map_at};
 ghost use Rattle.cbor_model.specs.Reader.{tag_at, after_first, item_at};
-ghost use Rattle.cbor_decode.specs.Decoder.{formats_of, values_by};
-ghost use Rattle.cbor_decode.specs.Gives.{Gives, Advances, TellsNoKey};
+ghost use Rattle.cbor_decode.specs.Decoder.{formats_of, values_by, SameSettings};
+ghost use Rattle.cbor_decode.specs.Gives.{TellsNoKey};
 ghost use Rattle.cbor_read.specs.Source.{asks_for};
 ghost use Rattle.cbor_decode.specs.HasChunks.{AllRead, AsksToSkip, AsksWhere, raws_by};
 ghost use Rattle.cbor_decode.specs.HasChunks.{HasChunks, SomeHasChunks, SomePairHasChunks};
 ghost use Rattle.cbor_decode.specs.Memory.{MemoryOnly};
 ghost use Rattle.cbor_decode.specs.Heads.{after_head, behind_head, remaining_of, passed};
+ghost use Rattle.cbor_decode.specs.Steps as step;
 
 use crate::Decoder;
 use crate::cursor::{Collection, Remaining};
@@ -28,18 +29,16 @@ impl<R: Source> Decoder<R> {
     #[cycle(skip)]
     #[tactic(auto, using(crate::proofs::Memory::none_asked))]
     pub fn skip(&mut self) -> Done<()>
-        ensures read { Gives R.refusals (λ u. u)
+        ensures read { step.Gives R.source R.refusals (λ u. u)
             (λ l bs. passed (item_at (values_by self.old.formats l) self.old.levels bs))
-            (R.source self.old.source) (R.source self.new.source) self.new.refusal result }
+            self.old self.new result }
         ensures memory { IfErr result (MemoryOnly (AsksToSkip R.refusals R.lends HasChunks
             (λ l. item_at (raws_by self.old.formats l) self.old.levels)
             (R.source self.old.source)) self.new.refusal) }
         ensures no_key { formats_of self.old.formats ≡ all_formats
             → IfErr result (TellsNoKey self.new.refusal) }
-        ensures levels { self.new.levels ≡ self.old.levels }
-        ensures formats { self.new.formats ≡ self.old.formats }
-        ensures taken { OnOk result
-            (Advances (R.source self.old.source) (R.source self.new.source)) }
+        ensures settings { SameSettings self.old self.new }
+        ensures taken { OnOk result (step.Advances R.source self.old self.new) }
     {
         let first = self.byte()?;
         self.skip_from(first)
@@ -49,18 +48,17 @@ impl<R: Source> Decoder<R> {
     #[cycle(skip)]
     #[tactic(auto, using(crate::proofs::Memory::none_asked))]
     fn skip_from(&mut self, first: u8) -> Done<()>
-        ensures read { Gives R.refusals (λ u. u)
+        ensures read { step.Gives R.source R.refusals (λ u. u)
             (λ l bs. passed (after_first (values_by self.old.formats l)
             (inside (values_by self.old.formats l) self.old.levels) first bs))
-            (R.source self.old.source) (R.source self.new.source) self.new.refusal result }
+            self.old self.new result }
         ensures memory { IfErr result (MemoryOnly (AsksToSkip R.refusals R.lends HasChunks
             (λ l. after_first (raws_by self.old.formats l)
             (inside (raws_by self.old.formats l) self.old.levels) first)
             (R.source self.old.source)) self.new.refusal) }
         ensures no_key { formats_of self.old.formats ≡ all_formats
             → IfErr result (TellsNoKey self.new.refusal) }
-        ensures levels { self.new.levels ≡ self.old.levels }
-        ensures formats { self.new.formats ≡ self.old.formats }
+        ensures settings { SameSettings self.old self.new }
     {
         let head = self.head(first)?;
         self.skip_of(head)
@@ -69,18 +67,17 @@ impl<R: Source> Decoder<R> {
     /// Passes over what follows a head, as [`skip`](Decoder::skip) over an item.
     #[cycle(skip)]
     pub fn skip_of(&mut self, head: Head) -> Done<()>
-        ensures read { Gives R.refusals (λ u. u)
+        ensures read { step.Gives R.source R.refusals (λ u. u)
             (λ l bs. passed (after_head (formats_of self.old.formats) l
             (inside (values_by self.old.formats l) self.old.levels) head bs))
-            (R.source self.old.source) (R.source self.new.source) self.new.refusal result }
+            self.old self.new result }
         ensures memory { IfErr result (MemoryOnly (AsksWhere (asks_for R.refusals R.lends)
             ((w : HeadWidth) → AllRead HasChunks (λ l. behind_head (raws_by self.old.formats l)
             (inside (raws_by self.old.formats l) self.old.levels) w head)
             (R.source self.old.source))) self.new.refusal) }
         ensures no_key { formats_of self.old.formats ≡ all_formats
             → IfErr result (TellsNoKey self.new.refusal) }
-        ensures levels { self.new.levels ≡ self.old.levels }
-        ensures formats { self.new.formats ≡ self.old.formats }
+        ensures settings { SameSettings self.old self.new }
     {
         match head {
             Head::Unsigned(_) => Ok(()),
@@ -104,19 +101,17 @@ impl<R: Source> Decoder<R> {
     #[cycle(skip)]
     #[tactic(auto, using(crate::proofs::Memory::none_asked))]
     fn skip_array(&mut self, remaining: Remaining) -> Done<()>
-        ensures read { Gives R.refusals (λ u. u)
+        ensures read { step.Gives R.source R.refusals (λ u. u)
             (λ l bs. passed (array_at (values_by self.old.formats l)
             (inside (values_by self.old.formats l) self.old.levels) indefinite
-            (remaining_of remaining) bs))
-            (R.source self.old.source) (R.source self.new.source) self.new.refusal result }
+            (remaining_of remaining) bs)) self.old self.new result }
         ensures memory { IfErr result (MemoryOnly (AsksWhere (asks_for R.refusals R.lends)
             ((n : Length) → AllRead HasChunks (λ l. array_at (raws_by self.old.formats l)
             (inside (raws_by self.old.formats l) self.old.levels) n (remaining_of remaining))
             (R.source self.old.source))) self.new.refusal) }
         ensures no_key { formats_of self.old.formats ≡ all_formats
             → IfErr result (TellsNoKey self.new.refusal) }
-        ensures levels { self.new.levels ≡ self.old.levels }
-        ensures formats { self.new.formats ≡ self.old.formats }
+        ensures settings { SameSettings self.old self.new }
     {
         self.enter()?;
         let passed = self.skip_items(remaining);
@@ -129,18 +124,17 @@ impl<R: Source> Decoder<R> {
     #[inline(never)]
     #[tactic(auto, using(crate::proofs::Memory::none_asked))]
     fn skip_items(&mut self, mut remaining: Remaining) -> Done<()>
-        ensures read { Gives R.refusals (λ u. u)
+        ensures read { step.Gives R.source R.refusals (λ u. u)
             (λ l bs. passed (parts_at (items_of (values_by self.old.formats l)
             (item_at (values_by self.old.formats l) self.old.levels)) (remaining_of remaining) bs))
-            (R.source self.old.source) (R.source self.new.source) self.new.refusal result }
+            self.old self.new result }
         ensures memory { IfErr result (MemoryOnly (AsksToSkip R.refusals R.lends SomeHasChunks
             (λ l. parts_at (items_of (raws_by self.old.formats l)
             (item_at (raws_by self.old.formats l) self.old.levels)) (remaining_of remaining))
             (R.source self.old.source)) self.new.refusal) }
         ensures no_key { formats_of self.old.formats ≡ all_formats
             → IfErr result (TellsNoKey self.new.refusal) }
-        ensures levels { self.new.levels ≡ self.old.levels }
-        ensures formats { self.new.formats ≡ self.old.formats }
+        ensures settings { SameSettings self.old self.new }
     {
         'items: while let Some(first) = self.next(&mut remaining, Collection::Array)? {
             self.skip_from(first)?;
@@ -152,19 +146,17 @@ impl<R: Source> Decoder<R> {
     #[cycle(skip)]
     #[tactic(auto, using(crate::proofs::Memory::none_asked))]
     fn skip_map(&mut self, remaining: Remaining) -> Done<()>
-        ensures read { Gives R.refusals (λ u. u)
+        ensures read { step.Gives R.source R.refusals (λ u. u)
             (λ l bs. passed (map_at (values_by self.old.formats l)
             (inside (values_by self.old.formats l) self.old.levels) indefinite
-            (remaining_of remaining) bs))
-            (R.source self.old.source) (R.source self.new.source) self.new.refusal result }
+            (remaining_of remaining) bs)) self.old self.new result }
         ensures memory { IfErr result (MemoryOnly (AsksWhere (asks_for R.refusals R.lends)
             ((n : Length) → AllRead HasChunks (λ l. map_at (raws_by self.old.formats l)
             (inside (raws_by self.old.formats l) self.old.levels) n (remaining_of remaining))
             (R.source self.old.source))) self.new.refusal) }
         ensures no_key { formats_of self.old.formats ≡ all_formats
             → IfErr result (TellsNoKey self.new.refusal) }
-        ensures levels { self.new.levels ≡ self.old.levels }
-        ensures formats { self.new.formats ≡ self.old.formats }
+        ensures settings { SameSettings self.old self.new }
     {
         self.enter()?;
         let passed = self.skip_pairs(remaining);
@@ -177,18 +169,17 @@ impl<R: Source> Decoder<R> {
     #[inline(never)]
     #[tactic(auto, using(crate::proofs::Memory::none_asked))]
     fn skip_pairs(&mut self, mut remaining: Remaining) -> Done<()>
-        ensures read { Gives R.refusals (λ u. u)
+        ensures read { step.Gives R.source R.refusals (λ u. u)
             (λ l bs. passed (parts_at (pairs_of (values_by self.old.formats l)
             (item_at (values_by self.old.formats l) self.old.levels)) (remaining_of remaining) bs))
-            (R.source self.old.source) (R.source self.new.source) self.new.refusal result }
+            self.old self.new result }
         ensures memory { IfErr result (MemoryOnly (AsksToSkip R.refusals R.lends SomePairHasChunks
             (λ l. parts_at (pairs_of (raws_by self.old.formats l)
             (item_at (raws_by self.old.formats l) self.old.levels)) (remaining_of remaining))
             (R.source self.old.source)) self.new.refusal) }
         ensures no_key { formats_of self.old.formats ≡ all_formats
             → IfErr result (TellsNoKey self.new.refusal) }
-        ensures levels { self.new.levels ≡ self.old.levels }
-        ensures formats { self.new.formats ≡ self.old.formats }
+        ensures settings { SameSettings self.old self.new }
     {
         'pairs: while let Some(first) = self.next(&mut remaining, Collection::Map)? {
             if !self.formats.may_begin_key(first) {
@@ -204,18 +195,17 @@ impl<R: Source> Decoder<R> {
     #[cycle(skip)]
     #[tactic(auto, using(crate::proofs::Memory::none_asked))]
     fn skip_tagged(&mut self, tag: u64) -> Done<()>
-        ensures read { Gives R.refusals (λ u. u)
+        ensures read { step.Gives R.source R.refusals (λ u. u)
             (λ l bs. passed (tag_at (values_by self.old.formats l)
             (inside (values_by self.old.formats l) self.old.levels) no_bytes tag bs))
-            (R.source self.old.source) (R.source self.new.source) self.new.refusal result }
+            self.old self.new result }
         ensures memory { IfErr result (MemoryOnly (AsksWhere (asks_for R.refusals R.lends)
             ((w : HeadWidth) → AllRead HasChunks (λ l. tag_at (raws_by self.old.formats l)
             (inside (raws_by self.old.formats l) self.old.levels) w tag)
             (R.source self.old.source))) self.new.refusal) }
         ensures no_key { formats_of self.old.formats ≡ all_formats
             → IfErr result (TellsNoKey self.new.refusal) }
-        ensures levels { self.new.levels ≡ self.old.levels }
-        ensures formats { self.new.formats ≡ self.old.formats }
+        ensures settings { SameSettings self.old self.new }
     {
         self.enter()?;
         let passed = self.skip();

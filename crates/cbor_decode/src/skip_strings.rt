@@ -6,11 +6,13 @@ ghost use Rattle.cbor_model.specs.Formats.{all_formats};
 ghost use Rattle.cbor_model.specs.Head.{no_bytes};
 ghost use Rattle.cbor_model.specs.Reader.{bytes_at, string_at, string_chunks_at};
 ghost use Rattle.cbor_model.specs.Reader.{text_at, text_chunks_at};
-ghost use Rattle.cbor_decode.specs.Gives.{Gives, TellsNoKey, TellsNoMemory, values};
+ghost use Rattle.cbor_decode.specs.Decoder.{SameSettings};
+ghost use Rattle.cbor_decode.specs.Gives.{TellsNoKey, TellsNoMemory, values};
 ghost use Rattle.cbor_decode.specs.HasChunks.{AsksForWhole};
 ghost use Rattle.cbor_decode.specs.Memory.{AsksToJoin, MemoryOnly};
 ghost use Rattle.cbor_decode.specs.Heads.{passed};
 ghost use Rattle.cbor_decode.specs.Strings.{bad_of, checked_by};
+ghost use Rattle.cbor_decode.specs.Steps as step;
 
 use crate::Decoder;
 use crate::refusal::Done;
@@ -34,14 +36,13 @@ impl<R: Source> Decoder<R> {
     /// Passes over n bytes.
     #[tactic(auto, using(crate::proofs::Asked::whole_asked))]
     pub fn skip_bytes(&mut self, n: u64) -> Done<()>
-        ensures read { Gives R.refusals (λ u. u)
+        ensures read { step.Gives R.source R.refusals (λ u. u)
             (λ l bs. passed (string_at (values all_formats l) no_bytes n bs))
-            (R.source self.old.source) (R.source self.new.source) self.new.refusal result }
+            self.old self.new result }
         ensures memory { IfErr result (MemoryOnly (AsksForWhole R.refusals R.lends)
             self.new.refusal) }
         ensures no_key { IfErr result (TellsNoKey self.new.refusal) }
-        ensures levels { self.new.levels ≡ self.old.levels }
-        ensures formats { self.new.formats ≡ self.old.formats }
+        ensures settings { SameSettings self.old self.new }
     {
         match self.source.skip(n as usize) {
             Ok(()) => Ok(()),
@@ -52,14 +53,13 @@ impl<R: Source> Decoder<R> {
     /// Passes over a text of n bytes.
     #[tactic(auto, using(crate::proofs::Memory::none_asked, crate::proofs::Asked::none_asked_all))]
     pub fn skip_text(&mut self, n: u64) -> Done<()>
-        ensures read { Gives R.refusals (λ u. u)
+        ensures read { step.Gives R.source R.refusals (λ u. u)
             (λ l bs. passed (text_at (values all_formats l) no_bytes n bs))
-            (R.source self.old.source) (R.source self.new.source) self.new.refusal result }
+            self.old self.new result }
         ensures memory { IfErr result (MemoryOnly (AsksForWhole R.refusals R.lends)
             self.new.refusal) }
         ensures no_key { IfErr result (TellsNoKey self.new.refusal) }
-        ensures levels { self.new.levels ≡ self.old.levels }
-        ensures formats { self.new.formats ≡ self.old.formats }
+        ensures settings { SameSettings self.old self.new }
     {
         if !self.has_room(n) {
             return Err(self.refuse(ReadErrorCode::LengthOutOfRange));
@@ -70,14 +70,12 @@ impl<R: Source> Decoder<R> {
 
     /// Passes over a byte string in chunks.
     pub fn skip_byte_chunks(&mut self) -> Done<()>
-        ensures read { Gives R.refusals (λ u. u)
-            (λ l bs. passed (string_chunks_at (values all_formats l) bs))
-            (R.source self.old.source) (R.source self.new.source) self.new.refusal result }
+        ensures read { step.Gives R.source R.refusals (λ u. u)
+            (λ l bs. passed (string_chunks_at (values all_formats l) bs)) self.old self.new result }
         ensures memory { IfErr result (MemoryOnly (AsksToJoin R.refusals R.lends)
             self.new.refusal) }
         ensures no_key { IfErr result (TellsNoKey self.new.refusal) }
-        ensures levels { self.new.levels ≡ self.old.levels }
-        ensures formats { self.new.formats ≡ self.old.formats }
+        ensures settings { SameSettings self.old self.new }
     {
         self.join(Major::ByteString)
     }
@@ -85,14 +83,12 @@ impl<R: Source> Decoder<R> {
     /// Passes over a text in chunks.
     #[tactic(auto, using(crate::proofs::Memory::none_asked, crate::proofs::Asked::none_asked_all))]
     pub fn skip_text_chunks(&mut self) -> Done<()>
-        ensures read { Gives R.refusals (λ u. u)
-            (λ l bs. passed (text_chunks_at (values all_formats l) bs))
-            (R.source self.old.source) (R.source self.new.source) self.new.refusal result }
+        ensures read { step.Gives R.source R.refusals (λ u. u)
+            (λ l bs. passed (text_chunks_at (values all_formats l) bs)) self.old self.new result }
         ensures memory { IfErr result (MemoryOnly (AsksToJoin R.refusals R.lends)
             self.new.refusal) }
         ensures no_key { IfErr result (TellsNoKey self.new.refusal) }
-        ensures levels { self.new.levels ≡ self.old.levels }
-        ensures formats { self.new.formats ≡ self.old.formats }
+        ensures settings { SameSettings self.old self.new }
     {
         self.join(Major::TextString)?;
         let bad = bad_in(self.source.buffer());
@@ -102,14 +98,13 @@ impl<R: Source> Decoder<R> {
     // Takes n bytes, and returns how many of them stand from the first on that isn't UTF-8.
     #[tactic(auto, using(crate::proofs::SkippedStrings::valid_within, crate::proofs::SkippedStrings::bad_within, crate::proofs::Asked::whole_asked))]
     fn bad_of_next(&mut self, n: u64) -> Done<usize>
-        ensures read { Gives R.refusals (λ bad. bad) (λ l bs. bad_of (bytes_at n bs))
-            (R.source self.old.source) (R.source self.new.source) self.new.refusal result }
+        ensures read { step.Gives R.source R.refusals (λ bad. bad) (λ l bs. bad_of (bytes_at n bs))
+            self.old self.new result }
         ensures counted { IfOk result (λ bad. bad ≤ (R.source self.new.source).offset) }
         ensures memory { IfErr result (MemoryOnly (AsksForWhole R.refusals R.lends)
             self.new.refusal) }
         ensures no_key { IfErr result (TellsNoKey self.new.refusal) }
-        ensures levels { self.new.levels ≡ self.old.levels }
-        ensures formats { self.new.formats ≡ self.old.formats }
+        ensures settings { SameSettings self.old self.new }
     {
         match self.source.skip_text(n as usize) {
             Ok(valid) => Ok(n as usize - valid),
@@ -121,12 +116,11 @@ impl<R: Source> Decoder<R> {
     // that isn't UTF-8.
     fn skip_checked(&mut self, bad: usize) -> Done<()>
         requires taken { bad ≤ (R.source self.old.source).offset }
-        ensures read { Gives R.refusals (λ u. u) (λ l. checked_by bad)
-            (R.source self.old.source) (R.source self.new.source) self.new.refusal result }
+        ensures read { step.Gives R.source R.refusals (λ u. u) (λ l. checked_by bad)
+            self.old self.new result }
         ensures memory { IfErr result (TellsNoMemory self.new.refusal) }
         ensures no_key { IfErr result (TellsNoKey self.new.refusal) }
-        ensures levels { self.new.levels ≡ self.old.levels }
-        ensures formats { self.new.formats ≡ self.old.formats }
+        ensures settings { SameSettings self.old self.new }
     {
         if bad == 0 {
             return Ok(());

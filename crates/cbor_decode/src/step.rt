@@ -7,10 +7,11 @@ ghost use Rattle.cbor_model.specs.Acceptable.{max_depth};
 ghost use Rattle.cbor_model.specs.Formats.{all_formats};
 ghost use Rattle.cbor_model.specs.Reader.{byte_at};
 ghost use Rattle.cbor_decode.specs.AtEnd.{EndStops};
-ghost use Rattle.cbor_decode.specs.Decoder.{source_of, levels_of, formats_of};
-ghost use Rattle.cbor_decode.specs.Gives.{Gives, Advances, KeepsBuffer, IsAt, TellsNoKey, end_at};
+ghost use Rattle.cbor_decode.specs.Decoder.{source_of, levels_of, formats_of, SameSettings};
+ghost use Rattle.cbor_decode.specs.Gives.{IsAt, TellsNoKey, end_at};
 ghost use Rattle.cbor_decode.specs.Gives.{TellsNoMemory};
 ghost use Rattle.cbor_decode.specs.declared.refusal.Refused.TheVariants.{Kept};
+ghost use Rattle.cbor_decode.specs.Steps as step;
 
 use crate::Decoder;
 use crate::formats::Formats;
@@ -47,16 +48,13 @@ impl<R: Source> Decoder<R> {
     /// Takes one byte.
     #[inline(always)]
     pub fn byte(&mut self) -> Done<u8>
-        ensures read { Gives R.refusals (λ b. b) (λ l. byte_at)
-            (R.source self.old.source) (R.source self.new.source) self.new.refusal result }
-        ensures taken { OnOk result
-            (Advances (R.source self.old.source) (R.source self.new.source)) }
-        ensures buffer { OnOk result
-            (KeepsBuffer (R.source self.old.source) (R.source self.new.source)) }
+        ensures read { step.Gives R.source R.refusals (λ b. b) (λ l. byte_at)
+            self.old self.new result }
+        ensures taken { OnOk result (step.Advances R.source self.old self.new) }
+        ensures buffer { OnOk result (step.KeepsBuffer R.source self.old self.new) }
         ensures no_key { IfErr result (TellsNoKey self.new.refusal) }
         ensures memory { IfErr result (TellsNoMemory self.new.refusal) }
-        ensures levels { self.new.levels ≡ self.old.levels }
-        ensures formats { self.new.formats ≡ self.old.formats }
+        ensures settings { SameSettings self.old self.new }
     {
         match self.source.ahead().first().copied() {
             Some(first) => {
@@ -70,16 +68,13 @@ impl<R: Source> Decoder<R> {
     // Takes one byte, of which none is buffered: the source is asked for it.
     #[inline(never)]
     fn byte_slow(&mut self) -> Done<u8>
-        ensures read { Gives R.refusals (λ b. b) (λ l. byte_at)
-            (R.source self.old.source) (R.source self.new.source) self.new.refusal result }
-        ensures taken { OnOk result
-            (Advances (R.source self.old.source) (R.source self.new.source)) }
-        ensures buffer { OnOk result
-            (KeepsBuffer (R.source self.old.source) (R.source self.new.source)) }
+        ensures read { step.Gives R.source R.refusals (λ b. b) (λ l. byte_at)
+            self.old self.new result }
+        ensures taken { OnOk result (step.Advances R.source self.old self.new) }
+        ensures buffer { OnOk result (step.KeepsBuffer R.source self.old self.new) }
         ensures no_key { IfErr result (TellsNoKey self.new.refusal) }
         ensures memory { IfErr result (TellsNoMemory self.new.refusal) }
-        ensures levels { self.new.levels ≡ self.old.levels }
-        ensures formats { self.new.formats ≡ self.old.formats }
+        ensures settings { SameSettings self.old self.new }
     {
         match self.source.next() {
             Ok(Some(b)) => Ok(b),
@@ -111,12 +106,11 @@ impl<R: Source> Decoder<R> {
     /// Takes the end of the input.
     #[tactic(auto, using(crate::proofs::Calls::trailing_stops))]
     pub fn ended(&mut self) -> Done<()>
-        ensures read { Gives R.refusals (λ u. u) (λ l. end_at)
-            (R.source self.old.source) (R.source self.new.source) self.new.refusal result }
+        ensures read { step.Gives R.source R.refusals (λ u. u) (λ l. end_at)
+            self.old self.new result }
         ensures takes { EndStops R.refusals (R.source self.old.source) (R.source self.new.source)
             self.new.refusal result }
-        ensures levels { self.new.levels ≡ self.old.levels }
-        ensures formats { self.new.formats ≡ self.old.formats }
+        ensures settings { SameSettings self.old self.new }
     {
         match self.source.next() {
             Ok(Some(_)) => Err(self.refuse(ReadErrorCode::TrailingData)),

@@ -1,16 +1,18 @@
 //! Byte strings and texts.
 
-ghost use Rattle.std.specs.Prelude.{◌≡◌, ◌+◌, ◌≤◌, [], length, IfOk, IfErr, OnOk};
+ghost use Rattle.std.specs.Prelude.{◌+◌, ◌≤◌, length, IfOk, IfErr, OnOk};
 ghost use Rattle.cbor_model.specs.Formats.{all_formats};
 ghost use Rattle.cbor_model.specs.Head.{no_bytes};
-ghost use Rattle.cbor_model.specs.Reader.{bytes_at, chunk_at, content_of_chunk, chunks_at};
+ghost use Rattle.cbor_model.specs.Reader.{bytes_at, chunk_at, chunks_at};
 ghost use Rattle.cbor_model.specs.Reader.{checked_text, text_at, text_chunks_at, exceeds_most};
 ghost use Rattle.cbor_model.specs.Plain as plain;
 ghost use Rattle.cbor_io.specs.Head.{major_number};
-ghost use Rattle.cbor_decode.specs.Gives.{Gives, TellsNoKey, values};
+ghost use Rattle.cbor_decode.specs.Decoder.{SameSettings};
+ghost use Rattle.cbor_decode.specs.Gives.{TellsNoKey, values};
 ghost use Rattle.cbor_decode.specs.Memory.{AsksToJoin, MemoryOnly};
 ghost use Rattle.cbor_decode.specs.Heads.{joined_of};
 ghost use Rattle.cbor_decode.specs.Strings.{ChunkGives, text_view};
+ghost use Rattle.cbor_decode.specs.Steps as step;
 
 use crate::Decoder;
 use crate::cursor::BREAK;
@@ -23,13 +25,12 @@ impl<R: Source> Decoder<R> {
     /// Takes n bytes.
     #[inline(always)]
     pub fn bytes(&mut self, n: u64) -> Done<Vec<u8>>
-        ensures read { Gives R.refusals (λ v. v.items) (λ l. bytes_at n)
-            (R.source self.old.source) (R.source self.new.source) self.new.refusal result }
+        ensures read { step.Gives R.source R.refusals (λ v. v.items) (λ l. bytes_at n)
+            self.old self.new result }
         ensures counted { IfOk result
             (λ v. length v.items ≤ (R.source self.new.source).offset) }
         ensures no_key { IfErr result (TellsNoKey self.new.refusal) }
-        ensures levels { self.new.levels ≡ self.old.levels }
-        ensures formats { self.new.formats ≡ self.old.formats }
+        ensures settings { SameSettings self.old self.new }
     {
         let ahead = self.source.ahead();
         if n <= ahead.len() as u64 {
@@ -43,13 +44,12 @@ impl<R: Source> Decoder<R> {
     // Takes n bytes of which too few are buffered: the source is asked for them.
     #[inline(never)]
     fn bytes_slow(&mut self, n: u64) -> Done<Vec<u8>>
-        ensures read { Gives R.refusals (λ v. v.items) (λ l. bytes_at n)
-            (R.source self.old.source) (R.source self.new.source) self.new.refusal result }
+        ensures read { step.Gives R.source R.refusals (λ v. v.items) (λ l. bytes_at n)
+            self.old self.new result }
         ensures counted { IfOk result
             (λ v. length v.items ≤ (R.source self.new.source).offset) }
         ensures no_key { IfErr result (TellsNoKey self.new.refusal) }
-        ensures levels { self.new.levels ≡ self.old.levels }
-        ensures formats { self.new.formats ≡ self.old.formats }
+        ensures settings { SameSettings self.old self.new }
     {
         let mut bytes = Vec::new(self.alloc);
         match self.source.read_to_vec(n as usize, &mut bytes) {
@@ -61,10 +61,9 @@ impl<R: Source> Decoder<R> {
     /// Reads a text of n bytes.
     #[inline(always)]
     pub fn text(&mut self, n: u64) -> Done<String>
-        ensures read { Gives R.refusals text_view (λ l. text_at (values all_formats l) no_bytes n)
-            (R.source self.old.source) (R.source self.new.source) self.new.refusal result }
-        ensures levels { self.new.levels ≡ self.old.levels }
-        ensures formats { self.new.formats ≡ self.old.formats }
+        ensures read { step.Gives R.source R.refusals text_view
+            (λ l. text_at (values all_formats l) no_bytes n) self.old self.new result }
+        ensures settings { SameSettings self.old self.new }
     {
         if !self.has_room(n) {
             return Err(self.refuse(ReadErrorCode::LengthOutOfRange));
@@ -76,11 +75,9 @@ impl<R: Source> Decoder<R> {
     /// Reads a byte string in chunks.
     #[inline(always)]
     pub fn byte_chunks(&mut self) -> Done<Vec<u8>>
-        ensures read { Gives R.refusals (λ v. v.items)
-            (λ l bs. joined_of (chunks_at (exceeds_most l.room) 0 2 bs))
-            (R.source self.old.source) (R.source self.new.source) self.new.refusal result }
-        ensures levels { self.new.levels ≡ self.old.levels }
-        ensures formats { self.new.formats ≡ self.old.formats }
+        ensures read { step.Gives R.source R.refusals (λ v. v.items)
+            (λ l bs. joined_of (chunks_at (exceeds_most l.room) 0 2 bs)) self.old self.new result }
+        ensures settings { SameSettings self.old self.new }
     {
         self.chunks(Major::ByteString)
     }
@@ -88,10 +85,9 @@ impl<R: Source> Decoder<R> {
     /// Reads a text in chunks.
     #[inline(always)]
     pub fn text_chunks(&mut self) -> Done<String>
-        ensures read { Gives R.refusals text_view (λ l. text_chunks_at (values all_formats l))
-            (R.source self.old.source) (R.source self.new.source) self.new.refusal result }
-        ensures levels { self.new.levels ≡ self.old.levels }
-        ensures formats { self.new.formats ≡ self.old.formats }
+        ensures read { step.Gives R.source R.refusals text_view
+            (λ l. text_chunks_at (values all_formats l)) self.old self.new result }
+        ensures settings { SameSettings self.old self.new }
     {
         let bytes = self.chunks(Major::TextString)?;
         self.checked(bytes)
@@ -102,11 +98,10 @@ impl<R: Source> Decoder<R> {
     #[tactic(auto, unfolding(cbor_model::specs::Reader::checked_text))]
     fn checked(&mut self, bytes: Vec<u8>) -> Done<String>
         requires taken { length bytes.items ≤ (R.source self.old.source).offset }
-        ensures read { Gives R.refusals text_view
+        ensures read { step.Gives R.source R.refusals text_view
             (λ l. checked_text (values all_formats l) (plain.text bytes.items) bytes.items)
-            (R.source self.old.source) (R.source self.new.source) self.new.refusal result }
-        ensures levels { self.new.levels ≡ self.old.levels }
-        ensures formats { self.new.formats ≡ self.old.formats }
+            self.old self.new result }
+        ensures settings { SameSettings self.old self.new }
     {
         let len = bytes.len();
         match string_from_utf8(bytes) {
@@ -120,14 +115,13 @@ impl<R: Source> Decoder<R> {
 
     /// Takes chunks of the major type up to the break, and joins them.
     pub fn chunks(&mut self, major: Major) -> Done<Vec<u8>>
-        ensures read { Gives R.refusals (λ v. v.items)
+        ensures read { step.Gives R.source R.refusals (λ v. v.items)
             (λ l bs. joined_of (chunks_at (exceeds_most l.room) 0 (major_number major) bs))
-            (R.source self.old.source) (R.source self.new.source) self.new.refusal result }
+            self.old self.new result }
         ensures counted { IfOk result
             (λ v. length v.items ≤ (R.source self.new.source).offset) }
         ensures no_key { IfErr result (TellsNoKey self.new.refusal) }
-        ensures levels { self.new.levels ≡ self.old.levels }
-        ensures formats { self.new.formats ≡ self.old.formats }
+        ensures settings { SameSettings self.old self.new }
     {
         self.join(major)?;
         let joined = Vec::from_slice(self.alloc, self.source.buffer())?;
@@ -138,16 +132,15 @@ impl<R: Source> Decoder<R> {
     #[inline(never)]
     #[tactic(auto, using(crate::proofs::Memory::none_asked))]
     pub fn join(&mut self, major: Major) -> Done<()>
-        ensures read { Gives R.refusals (λ u. (R.source self.new.source).buffer)
+        ensures read { step.Gives R.source R.refusals (λ u. (R.source self.new.source).buffer)
             (λ l bs. joined_of (chunks_at (exceeds_most l.room) 0 (major_number major) bs))
-            (R.source self.old.source) (R.source self.new.source) self.new.refusal result }
+            self.old self.new result }
         ensures counted { OnOk result
             (length (R.source self.new.source).buffer ≤ (R.source self.new.source).offset) }
         ensures no_key { IfErr result (TellsNoKey self.new.refusal) }
         ensures memory { IfErr result (MemoryOnly (AsksToJoin R.refusals R.lends)
             self.new.refusal) }
-        ensures levels { self.new.levels ≡ self.old.levels }
-        ensures formats { self.new.formats ≡ self.old.formats }
+        ensures settings { SameSettings self.old self.new }
     {
         self.source.clear_buffer();
         'chunks: loop {
@@ -169,8 +162,7 @@ impl<R: Source> Decoder<R> {
         ensures no_key { IfErr result (TellsNoKey self.new.refusal) }
         ensures memory { IfErr result (MemoryOnly (AsksToJoin R.refusals R.lends)
             self.new.refusal) }
-        ensures levels { self.new.levels ≡ self.old.levels }
-        ensures formats { self.new.formats ≡ self.old.formats }
+        ensures settings { SameSettings self.old self.new }
     {
         let low = first % 32;
         if Major::of(first) != major || low >= 28 {

@@ -1,16 +1,16 @@
 //! The item at the front of a source, as a value.
 
-ghost use Rattle.std.specs.Prelude.{◌≡◌, IfErr, OnOk};
+ghost use Rattle.std.specs.Prelude.{IfErr, OnOk};
 ghost use Rattle.cbor_model.specs.Head.{no_bytes};
 ghost use Rattle.cbor_model.specs.Plain as plain;
 ghost use Rattle.cbor_model.specs.Raw.{indefinite};
 ghost use Rattle.cbor_model.specs.Reader.{inside, parts_at, items_of, pairs_of, array_at, map_at};
 ghost use Rattle.cbor_model.specs.Reader.{tag_at, after_first, item_at, counted};
 ghost use Rattle.cbor_value.specs.View.{view, views, map_view};
-ghost use Rattle.cbor_decode.specs.Gives.{Gives, Advances};
-ghost use Rattle.cbor_decode.specs.Decoder.{formats_of, values_by};
+ghost use Rattle.cbor_decode.specs.Decoder.{formats_of, values_by, SameSettings};
 ghost use Rattle.cbor_decode.specs.Heads.{after_head, remaining_of, made_of};
 ghost use Rattle.cbor_decode.specs.Memory.{IsStoredHead, MemoryOnly, ReadsStored};
+ghost use Rattle.cbor_decode.specs.Steps as step;
 
 use crate::Decoder;
 use crate::capacity::push;
@@ -26,16 +26,13 @@ impl<R: Source> Decoder<R> {
     #[inline(always)]
     #[tactic(auto, using(crate::proofs::Memory::none_asked))]
     pub fn value(&mut self) -> Done<Value>
-        ensures read { Gives R.refusals view
-            (λ l. item_at (values_by self.old.formats l) self.old.levels)
-            (R.source self.old.source) (R.source self.new.source) self.new.refusal result }
-        ensures taken { OnOk result
-            (Advances (R.source self.old.source) (R.source self.new.source)) }
+        ensures read { step.Gives R.source R.refusals view
+            (λ l. item_at (values_by self.old.formats l) self.old.levels) self.old self.new result }
+        ensures taken { OnOk result (step.Advances R.source self.old self.new) }
         ensures memory { IfErr result (MemoryOnly (ReadsStored
             (λ l. item_at (values_by self.old.formats l) self.old.levels)
             (R.source self.old.source)) self.new.refusal) }
-        ensures levels { self.new.levels ≡ self.old.levels }
-        ensures formats { self.new.formats ≡ self.old.formats }
+        ensures settings { SameSettings self.old self.new }
     {
         let first = self.byte()?;
         self.value_from(first)
@@ -46,16 +43,15 @@ impl<R: Source> Decoder<R> {
     #[inline(always)]
     #[tactic(auto, using(crate::proofs::Memory::none_asked))]
     fn value_from(&mut self, first: u8) -> Done<Value>
-        ensures read { Gives R.refusals view
+        ensures read { step.Gives R.source R.refusals view
             (λ l. after_first (values_by self.old.formats l)
             (inside (values_by self.old.formats l) self.old.levels) first)
-            (R.source self.old.source) (R.source self.new.source) self.new.refusal result }
+            self.old self.new result }
         ensures memory { IfErr result (MemoryOnly (ReadsStored
             (λ l. after_first (values_by self.old.formats l)
             (inside (values_by self.old.formats l) self.old.levels) first)
             (R.source self.old.source)) self.new.refusal) }
-        ensures levels { self.new.levels ≡ self.old.levels }
-        ensures formats { self.new.formats ≡ self.old.formats }
+        ensures settings { SameSettings self.old self.new }
     {
         match first {
             // Numbers, which most items are, without a head between.
@@ -73,13 +69,11 @@ impl<R: Source> Decoder<R> {
     #[inline(always)]
     #[tactic(auto, using(crate::proofs::Memory::none_asked))]
     fn value_of(&mut self, head: Head) -> Done<Value>
-        ensures read { Gives R.refusals view
+        ensures read { step.Gives R.source R.refusals view
             (λ l. after_head (formats_of self.old.formats) l
-            (inside (values_by self.old.formats l) self.old.levels) head)
-            (R.source self.old.source) (R.source self.new.source) self.new.refusal result }
+            (inside (values_by self.old.formats l) self.old.levels) head) self.old self.new result }
         ensures memory { IfErr result (MemoryOnly (IsStoredHead head) self.new.refusal) }
-        ensures levels { self.new.levels ≡ self.old.levels }
-        ensures formats { self.new.formats ≡ self.old.formats }
+        ensures settings { SameSettings self.old self.new }
     {
         match head {
             Head::Unsigned(n) => Ok(Value::Integer(n as i128)),
@@ -102,13 +96,11 @@ impl<R: Source> Decoder<R> {
     #[cycle(read)]
     #[inline(never)]
     fn array(&mut self, remaining: Remaining) -> Done<Vec<Value>>
-        ensures read { Gives R.refusals (λ v. plain.array (views v.items))
+        ensures read { step.Gives R.source R.refusals (λ v. plain.array (views v.items))
             (λ l. array_at (values_by self.old.formats l)
-            (inside (values_by self.old.formats l) self.old.levels)
-            indefinite (remaining_of remaining))
-            (R.source self.old.source) (R.source self.new.source) self.new.refusal result }
-        ensures levels { self.new.levels ≡ self.old.levels }
-        ensures formats { self.new.formats ≡ self.old.formats }
+            (inside (values_by self.old.formats l) self.old.levels) indefinite
+            (remaining_of remaining)) self.old self.new result }
+        ensures settings { SameSettings self.old self.new }
     {
         self.enter()?;
         let items = self.all_items(remaining);
@@ -120,13 +112,12 @@ impl<R: Source> Decoder<R> {
     #[cycle(read)]
     #[inline(always)]
     fn all_items(&mut self, remaining: Remaining) -> Done<Vec<Value>>
-        ensures read { Gives R.refusals (λ v. views v.items)
-            (λ l. parts_at (items_of (values_by self.old.formats l)
-            (item_at (values_by self.old.formats l) self.old.levels))
-            (remaining_of remaining))
-            (R.source self.old.source) (R.source self.new.source) self.new.refusal result }
-        ensures levels { self.new.levels ≡ self.old.levels }
-        ensures formats { self.new.formats ≡ self.old.formats }
+        ensures read { step.Gives R.source R.refusals (λ v. views v.items)
+            (λ l. parts_at
+            (items_of (values_by self.old.formats l)
+            (item_at (values_by self.old.formats l) self.old.levels)) (remaining_of remaining))
+            self.old self.new result }
+        ensures settings { SameSettings self.old self.new }
     {
         match remaining {
             Remaining::Counted(1) => self.one_item(),
@@ -138,12 +129,12 @@ impl<R: Source> Decoder<R> {
     #[cycle(read)]
     #[inline(always)]
     fn one_item(&mut self) -> Done<Vec<Value>>
-        ensures read { Gives R.refusals (λ v. views v.items)
-            (λ l. parts_at (items_of (values_by self.old.formats l)
+        ensures read { step.Gives R.source R.refusals (λ v. views v.items)
+            (λ l. parts_at
+            (items_of (values_by self.old.formats l)
             (item_at (values_by self.old.formats l) self.old.levels)) (counted 1))
-            (R.source self.old.source) (R.source self.new.source) self.new.refusal result }
-        ensures levels { self.new.levels ≡ self.old.levels }
-        ensures formats { self.new.formats ≡ self.old.formats }
+            self.old self.new result }
+        ensures settings { SameSettings self.old self.new }
     {
         let item = self.value()?;
         let mut items = Vec::new(self.alloc);
@@ -156,13 +147,12 @@ impl<R: Source> Decoder<R> {
     #[cycle(read)]
     #[inline(never)]
     fn items(&mut self, mut remaining: Remaining) -> Done<Vec<Value>>
-        ensures read { Gives R.refusals (λ v. views v.items)
-            (λ l. parts_at (items_of (values_by self.old.formats l)
-            (item_at (values_by self.old.formats l) self.old.levels))
-            (remaining_of remaining))
-            (R.source self.old.source) (R.source self.new.source) self.new.refusal result }
-        ensures levels { self.new.levels ≡ self.old.levels }
-        ensures formats { self.new.formats ≡ self.old.formats }
+        ensures read { step.Gives R.source R.refusals (λ v. views v.items)
+            (λ l. parts_at
+            (items_of (values_by self.old.formats l)
+            (item_at (values_by self.old.formats l) self.old.levels)) (remaining_of remaining))
+            self.old self.new result }
+        ensures settings { SameSettings self.old self.new }
     {
         let mut items = Vec::new(self.alloc);
         'items: while let Some(first) = self.next(&mut remaining, Collection::Array)? {
@@ -175,13 +165,11 @@ impl<R: Source> Decoder<R> {
     /// Reads a map after its head.
     #[cycle(read)]
     fn map(&mut self, remaining: Remaining) -> Done<Map>
-        ensures read { Gives R.refusals (λ m. plain.map (map_view m))
+        ensures read { step.Gives R.source R.refusals (λ m. plain.map (map_view m))
             (λ l. map_at (values_by self.old.formats l)
-            (inside (values_by self.old.formats l) self.old.levels)
-            indefinite (remaining_of remaining))
-            (R.source self.old.source) (R.source self.new.source) self.new.refusal result }
-        ensures levels { self.new.levels ≡ self.old.levels }
-        ensures formats { self.new.formats ≡ self.old.formats }
+            (inside (values_by self.old.formats l) self.old.levels) indefinite
+            (remaining_of remaining)) self.old self.new result }
+        ensures settings { SameSettings self.old self.new }
     {
         self.enter()?;
         let map = self.pairs(remaining);
@@ -193,13 +181,11 @@ impl<R: Source> Decoder<R> {
     #[cycle(read)]
     #[inline(never)]
     fn pairs(&mut self, mut remaining: Remaining) -> Done<Map>
-        ensures read { Gives R.refusals map_view
+        ensures read { step.Gives R.source R.refusals map_view
             (λ l bs. made_of (parts_at (pairs_of (values_by self.old.formats l)
-            (item_at (values_by self.old.formats l) self.old.levels))
-            (remaining_of remaining) bs))
-            (R.source self.old.source) (R.source self.new.source) self.new.refusal result }
-        ensures levels { self.new.levels ≡ self.old.levels }
-        ensures formats { self.new.formats ≡ self.old.formats }
+            (item_at (values_by self.old.formats l) self.old.levels)) (remaining_of remaining) bs))
+            self.old self.new result }
+        ensures settings { SameSettings self.old self.new }
     {
         let mut pairs = Vec::new(self.alloc);
         'pairs: while let Some(first) = self.next(&mut remaining, Collection::Map)? {
@@ -219,12 +205,11 @@ impl<R: Source> Decoder<R> {
     /// Reads a tagged item after the tag's head.
     #[cycle(read)]
     fn tagged(&mut self, tag: u64) -> Done<Box<Value>>
-        ensures read { Gives R.refusals (λ b. plain.tag tag (view b.value))
+        ensures read { step.Gives R.source R.refusals (λ b. plain.tag tag (view b.value))
             (λ l. tag_at (values_by self.old.formats l)
             (inside (values_by self.old.formats l) self.old.levels) no_bytes tag)
-            (R.source self.old.source) (R.source self.new.source) self.new.refusal result }
-        ensures levels { self.new.levels ≡ self.old.levels }
-        ensures formats { self.new.formats ≡ self.old.formats }
+            self.old self.new result }
+        ensures settings { SameSettings self.old self.new }
     {
         self.enter()?;
         let value = self.boxed();
@@ -236,11 +221,9 @@ impl<R: Source> Decoder<R> {
     #[cycle(read)]
     #[inline(never)]
     fn boxed(&mut self) -> Done<Box<Value>>
-        ensures read { Gives R.refusals (λ b. view b.value)
-            (λ l. item_at (values_by self.old.formats l) self.old.levels)
-            (R.source self.old.source) (R.source self.new.source) self.new.refusal result }
-        ensures levels { self.new.levels ≡ self.old.levels }
-        ensures formats { self.new.formats ≡ self.old.formats }
+        ensures read { step.Gives R.source R.refusals (λ b. view b.value)
+            (λ l. item_at (values_by self.old.formats l) self.old.levels) self.old self.new result }
+        ensures settings { SameSettings self.old self.new }
     {
         let value = self.value()?;
         Ok(Box::new(self.alloc, value)?)

@@ -3,10 +3,11 @@
 ghost use Rattle.std.specs.Prelude.{◌≡◌, ◌≤◌, length, true, IfErr, Ok, OnOk};
 ghost use types.Logic.{sem};
 ghost use Rattle.std.specs.Io.BufRead.{Rests};
-ghost use Rattle.cbor_read.specs.Source.{TookSome, asks_for, part_bytes};
+ghost use Rattle.cbor_read.specs.Source.{asks_for, part_bytes};
+ghost use Rattle.cbor_decode.specs.Decoder.{SameSettings};
 ghost use Rattle.cbor_decode.specs.declared.head.Head.TheVariants.{Bytes, Text};
 ghost use Rattle.cbor_io.specs.Error.{code_of};
-ghost use Rattle.cbor_decode.specs.Gives.{Advances, TellsNoForm};
+ghost use Rattle.cbor_decode.specs.Gives.{TellsNoForm};
 ghost use Rattle.cbor_decode_as.specs.Strings.{BytesOf, IsBadAt, IsKept, IsMadeOf, IsNoKey};
 ghost use Rattle.cbor_decode_as.specs.Strings.{Lent, LentText, LendsBytes, LendsString, LendsText};
 ghost use Rattle.cbor_decode_as.specs.TaggedHeads.{AsksBehind};
@@ -16,6 +17,7 @@ ghost use Rattle.cbor_decode_as.specs.Strings.{UnreadBehind, UnreadBy};
 ghost use Rattle.cbor_decode_as.specs.Strings.{Utf8Of, behind_string};
 ghost use Rattle.cbor_decode_as.specs.Takes.{context, formats_of};
 ghost use Rattle.cbor_decode.specs.contracts.Decoder.{the_row};
+ghost use Rattle.cbor_decode.specs.Steps as step;
 
 use crate::head::{HeadAt, pass_over};
 use crate::scalar::scalar_head;
@@ -101,8 +103,7 @@ fn not_utf8(end: u64, back: usize) -> Unread
 fn stopped<R: Source>(decoder: &mut Decoder<R>, refused: Refused) -> ReadError
     ensures kept { IsKept decoder.old.refusal refused result }
     ensures source { decoder.new.source ≡ decoder.old.source }
-    ensures levels { decoder.new.levels ≡ decoder.old.levels }
-    ensures formats { decoder.new.formats ≡ decoder.old.formats }
+    ensures settings { SameSettings decoder.old decoder.new }
 {
     match refused {
         Refused::OutOfMemory => ReadError::from(AllocError),
@@ -215,10 +216,9 @@ fn other<R: Source>(decoder: &mut Decoder<R>, found: HeadAt) -> Unread
     ensures fault { UnreadBehind R.refusals found (R.source decoder.old.source) result }
     ensures memory { UnreadOnly (AsksBehind (asks_for R.refusals R.lends) found
         (R.source decoder.old.source)) result }
-    ensures took { TookSome (R.source decoder.old.source) (R.source decoder.new.source) }
+    ensures took { step.TookSome R.source decoder.old decoder.new }
     ensures no_key { IsNoKey result }
-    ensures levels { decoder.new.levels ≡ decoder.old.levels }
-    ensures formats { decoder.new.formats ≡ decoder.old.formats }
+    ensures settings { SameSettings decoder.old decoder.new }
 {
     match pass_over(decoder, found) {
         Ok(()) => Unread::Other,
@@ -233,8 +233,7 @@ pub fn unread_error<R: Source>(decoder: &mut Decoder<R>, why: Unread, message: &
     ensures made { IsMadeOf why result }
     ensures no_form { IsNoKey why → TellsNoForm (code_of result) }
     ensures source { decoder.new.source ≡ decoder.old.source }
-    ensures levels { decoder.new.levels ≡ decoder.old.levels }
-    ensures formats { decoder.new.formats ≡ decoder.old.formats }
+    ensures settings { SameSettings decoder.old decoder.new }
 {
     match why {
         Unread::Stopped(refusal) => Error::from(refusal),
@@ -258,7 +257,7 @@ pub fn read_text<'a, 'de, R: Read<'de>>(decoder: &'a mut Decoder<R>) -> Result<E
         × IfErr result (UnreadOnly (AsksToLend AsksForString (asks_for R.refusals R.lends)
         (formats_of decoder.old.formats) decoder.old.levels (R.source decoder.old.source)))
         × LendsWhole R.refusals decoder.old.levels (R.source decoder.old.source) result
-        × OnOk result (Advances (R.source decoder.old.source) (R.source new.source)))) }
+        × OnOk result (step.Advances R.source decoder.old new))) }
 {
     let found = match scalar_head(decoder) {
         Ok(found) => found,
@@ -292,7 +291,7 @@ pub fn read_bytes<'a, 'de, R: Read<'de>>(
         × IfErr result (UnreadOnly (AsksToLend AsksForString (asks_for R.refusals R.lends)
         (formats_of decoder.old.formats) decoder.old.levels (R.source decoder.old.source)))
         × LendsWhole R.refusals decoder.old.levels (R.source decoder.old.source) result
-        × OnOk result (Advances (R.source decoder.old.source) (R.source new.source)))) }
+        × OnOk result (step.Advances R.source decoder.old new))) }
 {
     let found = match scalar_head(decoder) {
         Ok(found) => found,
@@ -325,7 +324,7 @@ pub fn read_byte_string<'a, 'de, R: Read<'de>>(
         × IfErr result (UnreadOnly (AsksToLend AsksForBytes (asks_for R.refusals R.lends)
         (formats_of decoder.old.formats) decoder.old.levels (R.source decoder.old.source)))
         × LendsWhole R.refusals decoder.old.levels (R.source decoder.old.source) result
-        × OnOk result (Advances (R.source decoder.old.source) (R.source new.source)))) }
+        × OnOk result (step.Advances R.source decoder.old new))) }
 {
     let found = match scalar_head(decoder) {
         Ok(found) => found,

@@ -1,11 +1,14 @@
 //! Byte strings alone (RFC 7049, section 2.1, major type 2; in chunks, section 2.2.2).
 
-ghost use Rattle.std.specs.Prelude.{◌≡◌, IfErr, OnOk};
+ghost use Rattle.std.specs.Prelude.{IfErr, OnOk};
 ghost use Rattle.cbor_model.specs.Readable.{PassesTags};
 ghost use Rattle.cbor_io.specs.Error.{code_of};
-ghost use Rattle.cbor_decode.specs.Gives.{Advances, TellsNoForm, TellsNoKey};
+ghost use Rattle.cbor_decode.specs.Decoder.{SameSettings};
+ghost use Rattle.cbor_decode.specs.Gives.{TellsNoForm, TellsNoKey};
 ghost use Rattle.cbor_decode_as.specs.Strings.{IsByteString, SeeksItem, SeeksWhole};
-ghost use Rattle.cbor_decode_as.specs.Takes.{RefusesWhole, TakesItem, formats_of};
+ghost use Rattle.cbor_decode_as.specs.Takes.{formats_of};
+ghost use Rattle.cbor_decode.specs.Steps as step;
+ghost use Rattle.cbor_decode_as.specs.Calls as call;
 
 use crate::head::pass_over;
 use crate::identifier::{Why, unnamed};
@@ -25,13 +28,11 @@ fn bytes<R: Source>(decoder: &mut Decoder<R>) -> Done<Option<Vec<u8>>>
         (PassesTags (λ r v. IsByteString r v.items)) decoder.old.levels
         (R.source decoder.old.source) (R.source decoder.new.source)
         decoder.new.refusal result }
-    ensures taken { OnOk result
-        (Advances (R.source decoder.old.source) (R.source decoder.new.source)) }
+    ensures taken { OnOk result (step.Advances R.source decoder.old decoder.new) }
     ensures fault { SeeksWhole R.refusals decoder.old.levels (R.source decoder.old.source)
         decoder.new.refusal result }
     ensures no_key { IfErr result (TellsNoKey decoder.new.refusal) }
-    ensures levels { decoder.new.levels ≡ decoder.old.levels }
-    ensures formats { decoder.new.formats ≡ decoder.old.formats }
+    ensures settings { SameSettings decoder.old decoder.new }
 {
     let found = scalar_head(decoder)?;
     match found.head {
@@ -49,16 +50,12 @@ fn bytes<R: Source>(decoder: &mut Decoder<R>) -> Done<Option<Vec<u8>>>
 /// Reads a byte string to memory of its own. Another item, a text too, is refused with
 /// [`NO_BYTES`], and what isn't whole, of any kind, by its fault.
 pub fn read_byte_string<R: Source>(decoder: &mut Decoder<R>) -> Result<Vec<u8>>
-    ensures read { TakesItem R.refusals (formats_of decoder.old.formats)
-        (PassesTags (λ r v. IsByteString r v.items)) decoder.old.levels
-        (R.source decoder.old.source) (R.source decoder.new.source) result }
-    ensures taken { OnOk result
-        (Advances (R.source decoder.old.source) (R.source decoder.new.source)) }
-    ensures fault { IfErr result (RefusesWhole R.refusals decoder.old.levels
-        (R.source decoder.old.source)) }
+    ensures read { call.TakesItem R.source R.refusals (PassesTags (λ r v. IsByteString r v.items))
+        decoder.old decoder.new result }
+    ensures taken { OnOk result (step.Advances R.source decoder.old decoder.new) }
+    ensures fault { IfErr result (call.RefusesWhole R.source R.refusals decoder.old) }
     ensures no_form { IfErr result (λ e. TellsNoForm (code_of e)) }
-    ensures levels { decoder.new.levels ≡ decoder.old.levels }
-    ensures formats { decoder.new.formats ≡ decoder.old.formats }
+    ensures settings { SameSettings decoder.old decoder.new }
 {
     match bytes(decoder) {
         Ok(Some(bytes)) => Ok(bytes),

@@ -2,8 +2,9 @@
 
 ghost use Rattle.std.specs.Prelude.{◌≡◌, ◌<◌, IfOk, IfErr, OnOk, OnErr, true, false};
 ghost use Rattle.cbor_io.specs.Error.{code_of};
+ghost use Rattle.cbor_decode.specs.Decoder.{SameSettings};
 ghost use Rattle.cbor_decode.specs.Cursor.{Counts};
-ghost use Rattle.cbor_decode.specs.Gives.{Advances, TellsNoForm, Gives, IsAt, IsErrorOf};
+ghost use Rattle.cbor_decode.specs.Gives.{TellsNoForm, IsAt, IsErrorOf};
 ghost use Rattle.cbor_decode_as.specs.Accesses.{TakesHead, TakesMore, TakesEnd};
 ghost use Rattle.cbor_decode_as.specs.Begins.{TakesBeginning};
 ghost use Rattle.cbor_decode_as.specs.Takes.{formats_of, OnceMade};
@@ -15,6 +16,7 @@ ghost use Rattle.cbor_decode_as.specs.MapAccesses.{TakesMapHead, TakesMorePairs,
 ghost use Rattle.cbor_decode_as.specs.MapAccesses.{key_front};
 ghost use Rattle.cbor_decode.specs.declared.head.Head.TheVariants as kind;
 ghost use Rattle.cbor_io.specs.declared.read_error.ReadErrorCode.TheVariants as reading;
+ghost use Rattle.cbor_decode.specs.Steps as step;
 
 use crate::head::{mismatch, tagged_head};
 use cbor_decode::{Collection, Decoder, Done, Head, Remaining};
@@ -32,8 +34,7 @@ pub fn array_head<R: Source>(decoder: &mut Decoder<R>) -> Result<Remaining>
     ensures opened { TakesBeginning kind.Array R.refusals decoder.old.levels
         (R.source decoder.old.source) (R.source decoder.new.source)
         decoder.new.levels result }
-    ensures taken { OnOk result
-        (Advances (R.source decoder.old.source) (R.source decoder.new.source)) }
+    ensures taken { OnOk result (step.Advances R.source decoder.old decoder.new) }
     ensures no_form { IfErr result (λ e. TellsNoForm (code_of e)) }
     ensures inside { IfOk result (λ r. decoder.new.levels < decoder.old.levels) }
     ensures outer { OnErr result (decoder.new.levels ≡ decoder.old.levels) }
@@ -68,8 +69,7 @@ pub fn more_items<R: Source>(decoder: &mut Decoder<R>, remaining: &mut Remaining
         (R.source decoder.old.source) (R.source decoder.new.source) result }
     ensures counts { IfOk result (λ more. Counts remaining.old more remaining.new) }
     ensures no_form { IfErr result (λ e. TellsNoForm (code_of e)) }
-    ensures levels { decoder.new.levels ≡ decoder.old.levels }
-    ensures formats { decoder.new.formats ≡ decoder.old.formats }
+    ensures settings { SameSettings decoder.old decoder.new }
 {
     match decoder.more(remaining, Collection::Array) {
         Ok(more) => Ok(more),
@@ -83,8 +83,7 @@ pub fn end_array<R: Source>(decoder: &mut Decoder<R>, remaining: Remaining) -> R
     ensures read { TakesEnd R.refusals remaining
         (R.source decoder.old.source) (R.source decoder.new.source) result }
     ensures no_form { IfErr result (λ e. TellsNoForm (code_of e)) }
-    ensures levels { decoder.new.levels ≡ decoder.old.levels }
-    ensures formats { decoder.new.formats ≡ decoder.old.formats }
+    ensures settings { SameSettings decoder.old decoder.new }
 {
     match decoder.end_of(remaining, Collection::Array) {
         Ok(()) => Ok(()),
@@ -103,8 +102,7 @@ pub fn map_head<R: Source>(decoder: &mut Decoder<R>) -> Result<Remaining>
     ensures opened { TakesBeginning kind.Map R.refusals decoder.old.levels
         (R.source decoder.old.source) (R.source decoder.new.source)
         decoder.new.levels result }
-    ensures taken { OnOk result
-        (Advances (R.source decoder.old.source) (R.source decoder.new.source)) }
+    ensures taken { OnOk result (step.Advances R.source decoder.old decoder.new) }
     ensures no_form { IfErr result (λ e. TellsNoForm (code_of e)) }
     ensures inside { IfOk result (λ r. decoder.new.levels < decoder.old.levels) }
     ensures outer { OnErr result (decoder.new.levels ≡ decoder.old.levels) }
@@ -135,12 +133,9 @@ pub fn map_head<R: Source>(decoder: &mut Decoder<R>) -> Result<Remaining>
 #[inline(always)]
 #[tactic(auto, unfolding(cbor_model::specs::Reader::key_at))]
 pub(crate) fn key_begins<R: Source>(decoder: &mut Decoder<R>) -> Done<()>
-    ensures read { Gives R.refusals (λ u. u)
-        (λ l. key_front (formats_of decoder.old.formats))
-        (R.source decoder.old.source) (R.source decoder.new.source)
-        decoder.new.refusal result }
-    ensures levels { decoder.new.levels ≡ decoder.old.levels }
-    ensures formats { decoder.new.formats ≡ decoder.old.formats }
+    ensures read { step.Gives R.source R.refusals (λ u. u)
+        (λ l. key_front (formats_of decoder.old.formats)) decoder.old decoder.new result }
+    ensures settings { SameSettings decoder.old decoder.new }
 {
     match decoder.source.ahead().first().copied() {
         Some(first) => key_may_begin(decoder, first),
@@ -152,12 +147,9 @@ pub(crate) fn key_begins<R: Source>(decoder: &mut Decoder<R>) -> Done<()>
 #[inline(never)]
 #[tactic(auto, unfolding(cbor_model::specs::Reader::key_at))]
 fn key_begins_peeked<R: Source>(decoder: &mut Decoder<R>) -> Done<()>
-    ensures read { Gives R.refusals (λ u. u)
-        (λ l. key_front (formats_of decoder.old.formats))
-        (R.source decoder.old.source) (R.source decoder.new.source)
-        decoder.new.refusal result }
-    ensures levels { decoder.new.levels ≡ decoder.old.levels }
-    ensures formats { decoder.new.formats ≡ decoder.old.formats }
+    ensures read { step.Gives R.source R.refusals (λ u. u)
+        (λ l. key_front (formats_of decoder.old.formats)) decoder.old decoder.new result }
+    ensures settings { SameSettings decoder.old decoder.new }
 {
     match decoder.source.peek() {
         Ok(Some(first)) => key_may_begin(decoder, first),
@@ -177,8 +169,7 @@ fn key_may_begin<R: Source>(decoder: &mut Decoder<R>, first: u8) -> Done<()>
     ensures not_allowed { OnErr result
         (may_begin_key (formats_of decoder.old.formats) first ≡ false) }
     ensures source { decoder.new.source ≡ decoder.old.source }
-    ensures levels { decoder.new.levels ≡ decoder.old.levels }
-    ensures formats { decoder.new.formats ≡ decoder.old.formats }
+    ensures settings { SameSettings decoder.old decoder.new }
 {
     if !decoder.formats.may_begin_key(first) {
         return Err(decoder.refuse(ReadErrorCode::WrongStructFormat));
@@ -203,8 +194,7 @@ pub fn more_pairs<R: Source>(decoder: &mut Decoder<R>, remaining: &mut Remaining
         → TellsBadKey R.refusals (formats_of decoder.old.formats) remaining.old
         (R.source decoder.old.source) e) }
     ensures counts { IfOk result (λ more. Counts remaining.old more remaining.new) }
-    ensures levels { decoder.new.levels ≡ decoder.old.levels }
-    ensures formats { decoder.new.formats ≡ decoder.old.formats }
+    ensures settings { SameSettings decoder.old decoder.new }
 {
     if !decoder.more(remaining, Collection::Map)? {
         return Ok(false);
@@ -219,8 +209,7 @@ pub fn end_map<R: Source>(decoder: &mut Decoder<R>, remaining: Remaining) -> Res
     ensures read { TakesMapEnd R.refusals remaining
         (R.source decoder.old.source) (R.source decoder.new.source) result }
     ensures no_form { IfErr result (λ e. TellsNoForm (code_of e)) }
-    ensures levels { decoder.new.levels ≡ decoder.old.levels }
-    ensures formats { decoder.new.formats ≡ decoder.old.formats }
+    ensures settings { SameSettings decoder.old decoder.new }
 {
     match decoder.end_of(remaining, Collection::Map) {
         Ok(()) => Ok(()),

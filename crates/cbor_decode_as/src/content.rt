@@ -4,6 +4,7 @@ ghost use Rattle.std.specs.Prelude.{◌≡◌, ◌⊎◌, codes, OnOk, IfOk, IfE
 ghost use Rattle.cbor_model.specs.Readable.{PassesTags, IsUnit};
 ghost use Rattle.cbor_model.specs.Refusal.{end_in_array};
 ghost use Rattle.cbor_model.specs.Reader.{next_at};
+ghost use Rattle.cbor_decode.specs.Decoder.{SameSettings};
 ghost use Rattle.cbor_decode.specs.Heads.{remaining_of};
 ghost use Rattle.cbor_io.specs.Error.{code_of, HasNoOffset};
 ghost use Rattle.cbor_decode.specs.Gives.{TellsNoForm, TellsNoKey};
@@ -32,8 +33,7 @@ fn item_comes<R: Source>(decoder: &mut Decoder<R>, remaining: &mut Remaining) ->
     ensures no_key { IfErr result (TellsNoKey decoder.new.refusal) }
     ensures stays { OnOk result ((R.source decoder.new.source).offset
         ≡ (R.source decoder.old.source).offset) }
-    ensures levels { decoder.new.levels ≡ decoder.old.levels }
-    ensures formats { decoder.new.formats ≡ decoder.old.formats }
+    ensures settings { SameSettings decoder.old decoder.new }
 {
     match remaining {
         Remaining::Counted(0) => Ok(false),
@@ -67,8 +67,7 @@ pub fn expect_item<R: Source>(
         (λ l. next_at end_in_array (remaining_of remaining.old))
         (R.source decoder.old.source) e
         ⊎ NoItemHere none remaining.old (R.source decoder.old.source) e) }
-    ensures levels { decoder.new.levels ≡ decoder.old.levels }
-    ensures formats { decoder.new.formats ≡ decoder.old.formats }
+    ensures settings { SameSettings decoder.old decoder.new }
 {
     match item_comes(decoder, remaining) {
         Ok(true) => Ok(()),
@@ -115,8 +114,7 @@ fn only_null<R: Source>(decoder: &mut Decoder<R>, mut remaining: Remaining) -> R
     ensures cases { IfErr result (λ e. HasCase (R.source decoder.old.source) e
         (unit_cases (Array remaining))) }
     ensures code { IfErr result (λ e. FormAlone ArrayTooLong (code_of e)) }
-    ensures levels { decoder.new.levels ≡ decoder.old.levels }
-    ensures formats { decoder.new.formats ≡ decoder.old.formats }
+    ensures settings { SameSettings decoder.old decoder.new }
 {
     expect_item(decoder, &mut remaining, ErrorCode::ArrayTooLong)?;
     read_unit(decoder)?;
@@ -137,8 +135,7 @@ pub fn no_part<R: Source>(decoder: &mut Decoder<R>, form: Form) -> Result<()>
     ensures cases { IfErr result (λ e. HasCase (R.source decoder.old.source) e
         (unit_cases form)) }
     ensures code { IfErr result (λ e. FormAlone ArrayTooLong (code_of e)) }
-    ensures levels { decoder.new.levels ≡ decoder.old.levels }
-    ensures formats { decoder.new.formats ≡ decoder.old.formats }
+    ensures settings { SameSettings decoder.old decoder.new }
 {
     match form {
         Form::Array(remaining) => only_null(decoder, remaining),

@@ -1,11 +1,13 @@
 //! Floats as numbers.
 
-ghost use Rattle.std.specs.Prelude.{◌≡◌, IfErr, OnOk};
+ghost use Rattle.std.specs.Prelude.{IfErr, OnOk};
 ghost use Rattle.cbor_model.specs.Readable.{PassesTags};
 ghost use Rattle.cbor_io.specs.Error.{code_of};
-ghost use Rattle.cbor_decode.specs.Gives.{Advances, TellsNoForm};
+ghost use Rattle.cbor_decode.specs.Decoder.{SameSettings};
+ghost use Rattle.cbor_decode.specs.Gives.{TellsNoForm};
 ghost use Rattle.cbor_decode_as.specs.Scalars.{IsFloatOf, IsSingleOf};
-ghost use Rattle.cbor_decode_as.specs.Takes.{RefusesWhole, TakesItem, TakesNoMemory, formats_of};
+ghost use Rattle.cbor_decode.specs.Steps as step;
+ghost use Rattle.cbor_decode_as.specs.Calls as call;
 
 use crate::scalar::read_float;
 use cbor_decode::Decoder;
@@ -18,18 +20,13 @@ use std::num::{f32_from_bits_with_nan, f64_from_bits_with_nan};
 /// fault, and another item by a message.
 #[inline(always)]
 pub fn read_f64<R: Source>(decoder: &mut Decoder<R>) -> Result<f64>
-    ensures read { TakesItem R.refusals (formats_of decoder.old.formats)
-        (PassesTags IsFloatOf) decoder.old.levels
-        (R.source decoder.old.source) (R.source decoder.new.source) result }
-    ensures taken { OnOk result
-        (Advances (R.source decoder.old.source) (R.source decoder.new.source)) }
-    ensures fault { IfErr result (RefusesWhole R.refusals decoder.old.levels
-        (R.source decoder.old.source)) }
+    ensures read { call.TakesItem R.source R.refusals (PassesTags IsFloatOf)
+        decoder.old decoder.new result }
+    ensures taken { OnOk result (step.Advances R.source decoder.old decoder.new) }
+    ensures fault { IfErr result (call.RefusesWhole R.source R.refusals decoder.old) }
     ensures no_form { IfErr result (λ e. TellsNoForm (code_of e)) }
-    ensures memory { IfErr result (TakesNoMemory (formats_of decoder.old.formats)
-        (PassesTags IsFloatOf) decoder.old.levels (R.source decoder.old.source)) }
-    ensures levels { decoder.new.levels ≡ decoder.old.levels }
-    ensures formats { decoder.new.formats ≡ decoder.old.formats }
+    ensures memory { IfErr result (call.TakesNoMemory R.source (PassesTags IsFloatOf) decoder.old) }
+    ensures settings { SameSettings decoder.old decoder.new }
 {
     match decoder.double() {
         Ok(Some(bits)) => Ok(f64_from_bits_with_nan(bits)),
@@ -41,18 +38,13 @@ pub fn read_f64<R: Source>(decoder: &mut Decoder<R>) -> Result<f64>
 // The same where no float of 64 bits stands at the front.
 #[inline(never)]
 fn other_f64<R: Source>(decoder: &mut Decoder<R>) -> Result<f64>
-    ensures read { TakesItem R.refusals (formats_of decoder.old.formats)
-        (PassesTags IsFloatOf) decoder.old.levels
-        (R.source decoder.old.source) (R.source decoder.new.source) result }
-    ensures taken { OnOk result
-        (Advances (R.source decoder.old.source) (R.source decoder.new.source)) }
-    ensures fault { IfErr result (RefusesWhole R.refusals decoder.old.levels
-        (R.source decoder.old.source)) }
+    ensures read { call.TakesItem R.source R.refusals (PassesTags IsFloatOf)
+        decoder.old decoder.new result }
+    ensures taken { OnOk result (step.Advances R.source decoder.old decoder.new) }
+    ensures fault { IfErr result (call.RefusesWhole R.source R.refusals decoder.old) }
     ensures no_form { IfErr result (λ e. TellsNoForm (code_of e)) }
-    ensures memory { IfErr result (TakesNoMemory (formats_of decoder.old.formats)
-        (PassesTags IsFloatOf) decoder.old.levels (R.source decoder.old.source)) }
-    ensures levels { decoder.new.levels ≡ decoder.old.levels }
-    ensures formats { decoder.new.formats ≡ decoder.old.formats }
+    ensures memory { IfErr result (call.TakesNoMemory R.source (PassesTags IsFloatOf) decoder.old) }
+    ensures settings { SameSettings decoder.old decoder.new }
 {
     match decoder.single() {
         Ok(Some(bits)) => Ok(Float::Single(bits).to_f64()),
@@ -64,18 +56,13 @@ fn other_f64<R: Source>(decoder: &mut Decoder<R>) -> Result<f64>
 // Reads a float of any width, within its tags, as an `f64`.
 #[inline(always)]
 fn f64_slow<R: Source>(decoder: &mut Decoder<R>) -> Result<f64>
-    ensures read { TakesItem R.refusals (formats_of decoder.old.formats)
-        (PassesTags IsFloatOf) decoder.old.levels
-        (R.source decoder.old.source) (R.source decoder.new.source) result }
-    ensures taken { OnOk result
-        (Advances (R.source decoder.old.source) (R.source decoder.new.source)) }
-    ensures fault { IfErr result (RefusesWhole R.refusals decoder.old.levels
-        (R.source decoder.old.source)) }
+    ensures read { call.TakesItem R.source R.refusals (PassesTags IsFloatOf)
+        decoder.old decoder.new result }
+    ensures taken { OnOk result (step.Advances R.source decoder.old decoder.new) }
+    ensures fault { IfErr result (call.RefusesWhole R.source R.refusals decoder.old) }
     ensures no_form { IfErr result (λ e. TellsNoForm (code_of e)) }
-    ensures memory { IfErr result (TakesNoMemory (formats_of decoder.old.formats)
-        (PassesTags IsFloatOf) decoder.old.levels (R.source decoder.old.source)) }
-    ensures levels { decoder.new.levels ≡ decoder.old.levels }
-    ensures formats { decoder.new.formats ≡ decoder.old.formats }
+    ensures memory { IfErr result (call.TakesNoMemory R.source (PassesTags IsFloatOf) decoder.old) }
+    ensures settings { SameSettings decoder.old decoder.new }
 {
     match read_float(decoder) {
         Ok(float) => Ok(float.to_f64()),
@@ -87,18 +74,14 @@ fn f64_slow<R: Source>(decoder: &mut Decoder<R>) -> Result<f64>
 /// does.
 #[inline(always)]
 pub fn read_f32<R: Source>(decoder: &mut Decoder<R>) -> Result<f32>
-    ensures read { TakesItem R.refusals (formats_of decoder.old.formats)
-        (PassesTags IsSingleOf) decoder.old.levels
-        (R.source decoder.old.source) (R.source decoder.new.source) result }
-    ensures taken { OnOk result
-        (Advances (R.source decoder.old.source) (R.source decoder.new.source)) }
-    ensures fault { IfErr result (RefusesWhole R.refusals decoder.old.levels
-        (R.source decoder.old.source)) }
+    ensures read { call.TakesItem R.source R.refusals (PassesTags IsSingleOf)
+        decoder.old decoder.new result }
+    ensures taken { OnOk result (step.Advances R.source decoder.old decoder.new) }
+    ensures fault { IfErr result (call.RefusesWhole R.source R.refusals decoder.old) }
     ensures no_form { IfErr result (λ e. TellsNoForm (code_of e)) }
-    ensures memory { IfErr result (TakesNoMemory (formats_of decoder.old.formats)
-        (PassesTags IsSingleOf) decoder.old.levels (R.source decoder.old.source)) }
-    ensures levels { decoder.new.levels ≡ decoder.old.levels }
-    ensures formats { decoder.new.formats ≡ decoder.old.formats }
+    ensures memory { IfErr result
+        (call.TakesNoMemory R.source (PassesTags IsSingleOf) decoder.old) }
+    ensures settings { SameSettings decoder.old decoder.new }
 {
     match decoder.single() {
         Ok(Some(bits)) => Ok(f32_from_bits_with_nan(bits)),
@@ -110,18 +93,14 @@ pub fn read_f32<R: Source>(decoder: &mut Decoder<R>) -> Result<f32>
 // Reads a float of any width, within its tags, as an `f32`.
 #[inline(always)]
 fn f32_slow<R: Source>(decoder: &mut Decoder<R>) -> Result<f32>
-    ensures read { TakesItem R.refusals (formats_of decoder.old.formats)
-        (PassesTags IsSingleOf) decoder.old.levels
-        (R.source decoder.old.source) (R.source decoder.new.source) result }
-    ensures taken { OnOk result
-        (Advances (R.source decoder.old.source) (R.source decoder.new.source)) }
-    ensures fault { IfErr result (RefusesWhole R.refusals decoder.old.levels
-        (R.source decoder.old.source)) }
+    ensures read { call.TakesItem R.source R.refusals (PassesTags IsSingleOf)
+        decoder.old decoder.new result }
+    ensures taken { OnOk result (step.Advances R.source decoder.old decoder.new) }
+    ensures fault { IfErr result (call.RefusesWhole R.source R.refusals decoder.old) }
     ensures no_form { IfErr result (λ e. TellsNoForm (code_of e)) }
-    ensures memory { IfErr result (TakesNoMemory (formats_of decoder.old.formats)
-        (PassesTags IsSingleOf) decoder.old.levels (R.source decoder.old.source)) }
-    ensures levels { decoder.new.levels ≡ decoder.old.levels }
-    ensures formats { decoder.new.formats ≡ decoder.old.formats }
+    ensures memory { IfErr result
+        (call.TakesNoMemory R.source (PassesTags IsSingleOf) decoder.old) }
+    ensures settings { SameSettings decoder.old decoder.new }
 {
     let float = match read_float(decoder) {
         Ok(float) => float,

@@ -2,16 +2,18 @@
 
 ghost use Rattle.std.specs.Prelude.{◌≡◌, ◌≤◌, IfErr, OnOk};
 ghost use Rattle.cbor_model.specs.Reader.{item_at};
-ghost use Rattle.cbor_decode.specs.Gives.{Gives, Advances, TellsNoForm, TellsNoKey, TellsNoMemory};
+ghost use Rattle.cbor_decode.specs.Decoder.{SameSettings};
+ghost use Rattle.cbor_decode.specs.Gives.{TellsNoForm, TellsNoKey, TellsNoMemory};
 ghost use Rattle.cbor_io.specs.Error.{code_of};
 ghost use Rattle.cbor_decode.specs.Heads.{HeadGives, opening_at};
 ghost use Rattle.cbor_decode.specs.Heads.{passed};
 ghost use Rattle.cbor_decode.specs.Memory.{MemoryOnly};
-ghost use Rattle.cbor_read.specs.Source.{TookSome, asks_for};
+ghost use Rattle.cbor_read.specs.Source.{asks_for};
 ghost use Rattle.cbor_decode_as.specs.TaggedHeads.{AsksBehind, TakesTaggedHead};
 ghost use Rattle.cbor_decode_as.specs.TaggedHeads.{item_inside, opened_at, opened_inside};
 ghost use Rattle.cbor_decode_as.specs.TaggedHeads.{RefusesBehind, behind_any};
 ghost use Rattle.cbor_decode_as.specs.Takes.{formats_of, raws};
+ghost use Rattle.cbor_decode.specs.Steps as step;
 
 use cbor_decode::{Decoder, Done, Formats, Head};
 use cbor_io::error::Error;
@@ -32,12 +34,10 @@ pub(crate) fn take_head<R: Source>(decoder: &mut Decoder<R>) -> Done<Head>
     ensures read { HeadGives R.refusals opening_at
         (R.source decoder.old.source) (R.source decoder.new.source)
         decoder.new.refusal result }
-    ensures taken { OnOk result
-        (Advances (R.source decoder.old.source) (R.source decoder.new.source)) }
+    ensures taken { OnOk result (step.Advances R.source decoder.old decoder.new) }
     ensures no_key { IfErr result (TellsNoKey decoder.new.refusal) }
     ensures memory { IfErr result (TellsNoMemory decoder.new.refusal) }
-    ensures levels { decoder.new.levels ≡ decoder.old.levels }
-    ensures formats { decoder.new.formats ≡ decoder.old.formats }
+    ensures settings { SameSettings decoder.old decoder.new }
 {
     let first = decoder.byte()?;
     decoder.head(first)
@@ -55,12 +55,9 @@ pub fn tagged_head<R: Source>(decoder: &mut Decoder<R>) -> Done<Head>
         (λ l. item_at (raws (formats_of decoder.old.formats) l) decoder.old.levels)
         (R.source decoder.old.source) (R.source decoder.new.source)
         decoder.new.levels decoder.new.refusal result }
-    ensures opened { Gives R.refusals (λ head. (decoder.new.levels, head))
-        (λ l. opened_at decoder.old.levels)
-        (R.source decoder.old.source) (R.source decoder.new.source)
-        decoder.new.refusal result }
-    ensures taken { OnOk result
-        (Advances (R.source decoder.old.source) (R.source decoder.new.source)) }
+    ensures opened { step.Gives R.source R.refusals (λ head. (decoder.new.levels, head))
+        (λ l. opened_at decoder.old.levels) decoder.old decoder.new result }
+    ensures taken { OnOk result (step.Advances R.source decoder.old decoder.new) }
     ensures no_key { IfErr result (TellsNoKey decoder.new.refusal) }
     ensures memory { IfErr result (TellsNoMemory decoder.new.refusal) }
     ensures levels { OnOk result (decoder.new.levels ≤ decoder.old.levels) }
@@ -81,12 +78,9 @@ pub(crate) fn tagged_head_inside<R: Source>(decoder: &mut Decoder<R>) -> Done<He
         (λ l. item_inside (formats_of decoder.old.formats) l decoder.old.levels)
         (R.source decoder.old.source) (R.source decoder.new.source)
         decoder.new.levels decoder.new.refusal result }
-    ensures opened { Gives R.refusals (λ head. (decoder.new.levels, head))
-        (λ l. opened_inside decoder.old.levels)
-        (R.source decoder.old.source) (R.source decoder.new.source)
-        decoder.new.refusal result }
-    ensures taken { OnOk result
-        (Advances (R.source decoder.old.source) (R.source decoder.new.source)) }
+    ensures opened { step.Gives R.source R.refusals (λ head. (decoder.new.levels, head))
+        (λ l. opened_inside decoder.old.levels) decoder.old decoder.new result }
+    ensures taken { OnOk result (step.Advances R.source decoder.old decoder.new) }
     ensures no_key { IfErr result (TellsNoKey decoder.new.refusal) }
     ensures memory { IfErr result (TellsNoMemory decoder.new.refusal) }
     ensures levels { OnOk result (decoder.new.levels ≤ decoder.old.levels) }
@@ -103,8 +97,7 @@ pub(crate) fn tagged_head_inside<R: Source>(decoder: &mut Decoder<R>) -> Done<He
 pub fn mismatch<R: Source>(decoder: &mut Decoder<R>, head: Head, message: &str) -> Error
     ensures no_form { TellsNoForm (code_of result) }
     ensures source { decoder.new.source ≡ decoder.old.source }
-    ensures levels { decoder.new.levels ≡ decoder.old.levels }
-    ensures formats { decoder.new.formats ≡ decoder.old.formats }
+    ensures settings { SameSettings decoder.old decoder.new }
 {
     if let Head::Break = head {
         let refused = decoder.refuse(ReadErrorCode::UnexpectedCode);
@@ -118,14 +111,12 @@ pub fn mismatch<R: Source>(decoder: &mut Decoder<R>, head: Head, message: &str) 
 #[cold]
 #[inline(never)]
 pub(crate) fn pass_over<R: Source>(decoder: &mut Decoder<R>, found: HeadAt) -> Done<()>
-    ensures read { Gives R.refusals (λ u. u)
-        (λ l bs. passed (behind_any found.levels found.head l bs))
-        (R.source decoder.old.source) (R.source decoder.new.source) decoder.new.refusal result }
+    ensures read { step.Gives R.source R.refusals (λ u. u)
+        (λ l bs. passed (behind_any found.levels found.head l bs)) decoder.old decoder.new result }
     ensures memory { IfErr result (MemoryOnly (AsksBehind (asks_for R.refusals R.lends) found
         (R.source decoder.old.source)) decoder.new.refusal) }
     ensures no_key { IfErr result (TellsNoKey decoder.new.refusal) }
-    ensures levels { decoder.new.levels ≡ decoder.old.levels }
-    ensures formats { decoder.new.formats ≡ decoder.old.formats }
+    ensures settings { SameSettings decoder.old decoder.new }
 {
     let levels = decoder.levels;
     let formats = decoder.formats;
@@ -146,10 +137,9 @@ pub(crate) fn skip_mismatch<R: Source>(
     message: &str,
 ) -> Error
     ensures fault { RefusesBehind R.refusals found (R.source decoder.old.source) result }
-    ensures took { TookSome (R.source decoder.old.source) (R.source decoder.new.source) }
+    ensures took { step.TookSome R.source decoder.old decoder.new }
     ensures no_form { TellsNoForm (code_of result) }
-    ensures levels { decoder.new.levels ≡ decoder.old.levels }
-    ensures formats { decoder.new.formats ≡ decoder.old.formats }
+    ensures settings { SameSettings decoder.old decoder.new }
 {
     match pass_over(decoder, found) {
         Ok(()) => Error::message(decoder.alloc, message),

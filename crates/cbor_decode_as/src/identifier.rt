@@ -5,14 +5,17 @@ ghost use Rattle.std.specs.Str.{IsUtf8};
 ghost use Rattle.cbor_io.specs.declared.error.Error.{Error};
 ghost use Rattle.cbor_read.specs.Source.{part_bytes};
 ghost use Rattle.cbor_model.specs.Readable.{PassesTags};
-ghost use Rattle.cbor_decode.specs.Gives.{Advances, TellsNoForm, TellsNoKey};
+ghost use Rattle.cbor_decode.specs.Decoder.{SameSettings};
+ghost use Rattle.cbor_decode.specs.Gives.{TellsNoForm, TellsNoKey};
 ghost use Rattle.cbor_decode.specs.declared.head.Head.TheVariants.{Bytes, Text};
 ghost use Rattle.cbor_io.specs.Error.{code_of};
 ghost use Rattle.cbor_decode_as.specs.Identifiers.{IsIdentifier, IsPlace, place_of, texts};
 ghost use Rattle.cbor_decode_as.specs.Identifiers.{IsMadeBy, NamesNoKey, NamesText};
 ghost use Rattle.cbor_decode_as.specs.Identifiers.{TakesBytesName, TakesName};
 ghost use Rattle.cbor_decode_as.specs.Strings.{IsMadeOf, IsNoKey};
-ghost use Rattle.cbor_decode_as.specs.Takes.{OnceMade, TakesItem, formats_of};
+ghost use Rattle.cbor_decode_as.specs.Takes.{OnceMade};
+ghost use Rattle.cbor_decode.specs.Steps as step;
+ghost use Rattle.cbor_decode_as.specs.Calls as call;
 
 use crate::borrowed::{Unread, bytes_part};
 use crate::scalar::scalar_head;
@@ -128,8 +131,7 @@ fn kept<R: Source>(decoder: &mut Decoder<R>, unread: Unread) -> Why
     ensures kept { (e : Error) → IsMadeBy decoder.new.refusal result e → IsMadeOf unread e }
     ensures source { decoder.new.source ≡ decoder.old.source }
     ensures no_key { IsNoKey unread → NamesNoKey decoder.new.refusal result }
-    ensures levels { decoder.new.levels ≡ decoder.old.levels }
-    ensures formats { decoder.new.formats ≡ decoder.old.formats }
+    ensures settings { SameSettings decoder.old decoder.new }
 {
     match unread {
         Unread::Stopped(refusal) => Why::Refused(decoder.keep(refusal)),
@@ -143,8 +145,7 @@ fn kept<R: Source>(decoder: &mut Decoder<R>, unread: Unread) -> Why
 fn no_name<R: Source>(decoder: &mut Decoder<R>, head: Head) -> Why
     ensures no_key { NamesNoKey decoder.new.refusal result }
     ensures source { decoder.new.source ≡ decoder.old.source }
-    ensures levels { decoder.new.levels ≡ decoder.old.levels }
-    ensures formats { decoder.new.formats ≡ decoder.old.formats }
+    ensures settings { SameSettings decoder.old decoder.new }
 {
     if let Head::Break = head {
         return Why::Refused(decoder.refuse(ReadErrorCode::UnexpectedCode));
@@ -159,8 +160,7 @@ pub fn unnamed<R: Source>(decoder: &mut Decoder<R>, why: Why, message: &str) -> 
     ensures made { IsMadeBy decoder.old.refusal why result }
     ensures source { decoder.new.source ≡ decoder.old.source }
     ensures no_form { NamesNoKey decoder.old.refusal why → TellsNoForm (code_of result) }
-    ensures levels { decoder.new.levels ≡ decoder.old.levels }
-    ensures formats { decoder.new.formats ≡ decoder.old.formats }
+    ensures settings { SameSettings decoder.old decoder.new }
 {
     match why {
         Why::Refused(refused) => decoder.error(refused),
@@ -181,8 +181,7 @@ fn definite_name<'de, R: Read<'de>>(
         decoder.new.refusal result }
     ensures below { IfOk result (λ place. IfSome place (λ i. i < length names.now)) }
     ensures no_key { IfErr result (TellsNoKey decoder.new.refusal) }
-    ensures levels { decoder.new.levels ≡ decoder.old.levels }
-    ensures formats { decoder.new.formats ≡ decoder.old.formats }
+    ensures settings { SameSettings decoder.old decoder.new }
 {
     let ahead = decoder.source.ahead();
     if n <= ahead.len() as u64 {
@@ -208,8 +207,7 @@ fn name_slow<'de, R: Read<'de>>(
         decoder.new.refusal result }
     ensures below { IfOk result (λ place. IfSome place (λ i. i < length names.now)) }
     ensures no_key { IfErr result (TellsNoKey decoder.new.refusal) }
-    ensures levels { decoder.new.levels ≡ decoder.old.levels }
-    ensures formats { decoder.new.formats ≡ decoder.old.formats }
+    ensures settings { SameSettings decoder.old decoder.new }
 {
     if !decoder.has_room(n) {
         return Err(decoder.refuse(ReadErrorCode::LengthOutOfRange));
@@ -232,8 +230,7 @@ fn joined_name<'de, R: Read<'de>>(decoder: &mut Decoder<R>, names: &[&str]) -> D
         decoder.new.refusal result }
     ensures below { IfOk result (λ place. IfSome place (λ i. i < length names.now)) }
     ensures no_key { IfErr result (TellsNoKey decoder.new.refusal) }
-    ensures levels { decoder.new.levels ≡ decoder.old.levels }
-    ensures formats { decoder.new.formats ≡ decoder.old.formats }
+    ensures settings { SameSettings decoder.old decoder.new }
 {
     decoder.join(Major::TextString)?;
     match place_of_text_part(names, decoder.source.take_buffer()) {
@@ -254,8 +251,7 @@ fn text_name<'de, R: Read<'de>>(
         decoder.new.refusal result }
     ensures below { IfOk result (λ place. IfSome place (λ i. i < length names.now)) }
     ensures no_key { IfErr result (TellsNoKey decoder.new.refusal) }
-    ensures levels { decoder.new.levels ≡ decoder.old.levels }
-    ensures formats { decoder.new.formats ≡ decoder.old.formats }
+    ensures settings { SameSettings decoder.old decoder.new }
 {
     match n {
         Some(n) => definite_name(decoder, names, n),
@@ -274,8 +270,7 @@ fn bytes_name<'de, R: Read<'de>>(
         decoder.new.refusal result }
     ensures below { IfOk result (λ place. IfSome place (λ i. i < length names.now)) }
     ensures no_key { IfErr result (NamesNoKey decoder.new.refusal) }
-    ensures levels { decoder.new.levels ≡ decoder.old.levels }
-    ensures formats { decoder.new.formats ≡ decoder.old.formats }
+    ensures settings { SameSettings decoder.old decoder.new }
 {
     match bytes_part(decoder, n) {
         Ok(part) => Ok(place_of_part(names, part)),
@@ -294,15 +289,12 @@ pub fn identifier<'de, R: Read<'de>>(
     names: &[&str],
 ) -> Lookup<Option<usize>>
     ensures read { OnceMade (IsMadeBy decoder.new.refusal)
-        (TakesItem R.refusals (formats_of decoder.old.formats)
-        (PassesTags (IsIdentifier (texts names.now))) decoder.old.levels
-        (R.source decoder.old.source) (R.source decoder.new.source)) result }
-    ensures taken { OnOk result
-        (Advances (R.source decoder.old.source) (R.source decoder.new.source)) }
+        (call.TakesItem R.source R.refusals (PassesTags (IsIdentifier (texts names.now)))
+        decoder.old decoder.new) result }
+    ensures taken { OnOk result (step.Advances R.source decoder.old decoder.new) }
     ensures below { IfOk result (λ place. IfSome place (λ i. i < length names.now)) }
     ensures no_key { IfErr result (NamesNoKey decoder.new.refusal) }
-    ensures levels { decoder.new.levels ≡ decoder.old.levels }
-    ensures formats { decoder.new.formats ≡ decoder.old.formats }
+    ensures settings { SameSettings decoder.old decoder.new }
 {
     match decoder.short_text() {
         Some(n) => Ok(definite_name(decoder, names, n)?),
@@ -317,15 +309,12 @@ fn identifier_slow<'de, R: Read<'de>>(
     names: &[&str],
 ) -> Lookup<Option<usize>>
     ensures read { OnceMade (IsMadeBy decoder.new.refusal)
-        (TakesItem R.refusals (formats_of decoder.old.formats)
-        (PassesTags (IsIdentifier (texts names.now))) decoder.old.levels
-        (R.source decoder.old.source) (R.source decoder.new.source)) result }
-    ensures taken { OnOk result
-        (Advances (R.source decoder.old.source) (R.source decoder.new.source)) }
+        (call.TakesItem R.source R.refusals (PassesTags (IsIdentifier (texts names.now)))
+        decoder.old decoder.new) result }
+    ensures taken { OnOk result (step.Advances R.source decoder.old decoder.new) }
     ensures below { IfOk result (λ place. IfSome place (λ i. i < length names.now)) }
     ensures no_key { IfErr result (NamesNoKey decoder.new.refusal) }
-    ensures levels { decoder.new.levels ≡ decoder.old.levels }
-    ensures formats { decoder.new.formats ≡ decoder.old.formats }
+    ensures settings { SameSettings decoder.old decoder.new }
 {
     let found = scalar_head(decoder)?;
     match found.head {

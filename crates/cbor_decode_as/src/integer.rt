@@ -4,11 +4,12 @@ ghost use Rattle.std.specs.Prelude.{◌≡◌, ◌≤◌, ◌<◌, ◌-◌, ◌^
 ghost use Rattle.std.specs.Prelude.{MatchOption, OnOk};
 ghost use Rattle.cbor_model.specs.Readable.{PassesTags, IsInteger, IsFromZero, IsSigned, IsWithin};
 ghost use Rattle.cbor_io.specs.Error.{code_of};
-ghost use Rattle.cbor_decode.specs.Gives.{Advances, TellsNoForm};
-ghost use Rattle.cbor_read.specs.Source.{TookSome};
+ghost use Rattle.cbor_decode.specs.Decoder.{SameSettings};
+ghost use Rattle.cbor_decode.specs.Gives.{TellsNoForm};
 ghost use Rattle.cbor_decode_as.specs.TaggedHeads.{RefusesBehind};
 ghost use Rattle.cbor_decode_as.specs.Scalars.{IsNumber};
-ghost use Rattle.cbor_decode_as.specs.Takes.{RefusesWhole, TakesItem, TakesNoMemory, formats_of};
+ghost use Rattle.cbor_decode.specs.Steps as step;
+ghost use Rattle.cbor_decode_as.specs.Calls as call;
 
 use crate::head::{HeadAt, skip_mismatch};
 use crate::scalar::scalar_head;
@@ -78,18 +79,13 @@ fn below_zero(n: u64) -> i64
 /// Reads a whole number. What isn't whole is refused by its fault, and another item by a message.
 #[inline(always)]
 pub fn read_integer<R: Source>(decoder: &mut Decoder<R>) -> Result<i128>
-    ensures read { TakesItem R.refusals (formats_of decoder.old.formats)
-        (PassesTags IsInteger) decoder.old.levels
-        (R.source decoder.old.source) (R.source decoder.new.source) result }
-    ensures taken { OnOk result
-        (Advances (R.source decoder.old.source) (R.source decoder.new.source)) }
-    ensures fault { IfErr result (RefusesWhole R.refusals decoder.old.levels
-        (R.source decoder.old.source)) }
+    ensures read { call.TakesItem R.source R.refusals (PassesTags IsInteger)
+        decoder.old decoder.new result }
+    ensures taken { OnOk result (step.Advances R.source decoder.old decoder.new) }
+    ensures fault { IfErr result (call.RefusesWhole R.source R.refusals decoder.old) }
     ensures no_form { IfErr result (λ e. TellsNoForm (code_of e)) }
-    ensures memory { IfErr result (TakesNoMemory (formats_of decoder.old.formats)
-        (PassesTags IsInteger) decoder.old.levels (R.source decoder.old.source)) }
-    ensures levels { decoder.new.levels ≡ decoder.old.levels }
-    ensures formats { decoder.new.formats ≡ decoder.old.formats }
+    ensures memory { IfErr result (call.TakesNoMemory R.source (PassesTags IsInteger) decoder.old) }
+    ensures settings { SameSettings decoder.old decoder.new }
 {
     let found = match scalar_head(decoder) {
         Ok(found) => found,
@@ -116,19 +112,15 @@ pub fn read_from_zero<R: Source>(
     most: u64,
     message: &'static str,
 ) -> Result<u64>
-    ensures read { TakesItem R.refusals (formats_of decoder.old.formats)
-        (PassesTags (IsFromZero most)) decoder.old.levels
-        (R.source decoder.old.source) (R.source decoder.new.source) result }
-    ensures taken { OnOk result
-        (Advances (R.source decoder.old.source) (R.source decoder.new.source)) }
+    ensures read { call.TakesItem R.source R.refusals (PassesTags (IsFromZero most))
+        decoder.old decoder.new result }
+    ensures taken { OnOk result (step.Advances R.source decoder.old decoder.new) }
     ensures bound { IfOk result (λ n. n ≤ most) }
-    ensures fault { IfErr result (RefusesWhole R.refusals decoder.old.levels
-        (R.source decoder.old.source)) }
+    ensures fault { IfErr result (call.RefusesWhole R.source R.refusals decoder.old) }
     ensures no_form { IfErr result (λ e. TellsNoForm (code_of e)) }
-    ensures memory { IfErr result (TakesNoMemory (formats_of decoder.old.formats)
-        (PassesTags (IsFromZero most)) decoder.old.levels (R.source decoder.old.source)) }
-    ensures levels { decoder.new.levels ≡ decoder.old.levels }
-    ensures formats { decoder.new.formats ≡ decoder.old.formats }
+    ensures memory { IfErr result
+        (call.TakesNoMemory R.source (PassesTags (IsFromZero most)) decoder.old) }
+    ensures settings { SameSettings decoder.old decoder.new }
 {
     match decoder.unsigned(most) {
         Some(number) => Ok(number),
@@ -143,19 +135,15 @@ fn from_zero_slow<R: Source>(
     most: u64,
     message: &'static str,
 ) -> Result<u64>
-    ensures read { TakesItem R.refusals (formats_of decoder.old.formats)
-        (PassesTags (IsFromZero most)) decoder.old.levels
-        (R.source decoder.old.source) (R.source decoder.new.source) result }
-    ensures taken { OnOk result
-        (Advances (R.source decoder.old.source) (R.source decoder.new.source)) }
+    ensures read { call.TakesItem R.source R.refusals (PassesTags (IsFromZero most))
+        decoder.old decoder.new result }
+    ensures taken { OnOk result (step.Advances R.source decoder.old decoder.new) }
     ensures bound { IfOk result (λ n. n ≤ most) }
-    ensures fault { IfErr result (RefusesWhole R.refusals decoder.old.levels
-        (R.source decoder.old.source)) }
+    ensures fault { IfErr result (call.RefusesWhole R.source R.refusals decoder.old) }
     ensures no_form { IfErr result (λ e. TellsNoForm (code_of e)) }
-    ensures memory { IfErr result (TakesNoMemory (formats_of decoder.old.formats)
-        (PassesTags (IsFromZero most)) decoder.old.levels (R.source decoder.old.source)) }
-    ensures levels { decoder.new.levels ≡ decoder.old.levels }
-    ensures formats { decoder.new.formats ≡ decoder.old.formats }
+    ensures memory { IfErr result
+        (call.TakesNoMemory R.source (PassesTags (IsFromZero most)) decoder.old) }
+    ensures settings { SameSettings decoder.old decoder.new }
 {
     let found = match scalar_head(decoder) {
         Ok(found) => found,
@@ -177,18 +165,14 @@ fn from_zero_slow<R: Source>(
 /// Reads a number from 0. It refuses as [`read_integer`] does.
 #[inline(always)]
 pub fn read_u128<R: Source>(decoder: &mut Decoder<R>) -> Result<u128>
-    ensures read { TakesItem R.refusals (formats_of decoder.old.formats)
-        (PassesTags (IsFromZero (2 ^ 128 - 1))) decoder.old.levels
-        (R.source decoder.old.source) (R.source decoder.new.source) result }
-    ensures taken { OnOk result
-        (Advances (R.source decoder.old.source) (R.source decoder.new.source)) }
-    ensures fault { IfErr result (RefusesWhole R.refusals decoder.old.levels
-        (R.source decoder.old.source)) }
+    ensures read { call.TakesItem R.source R.refusals (PassesTags (IsFromZero (2 ^ 128 - 1)))
+        decoder.old decoder.new result }
+    ensures taken { OnOk result (step.Advances R.source decoder.old decoder.new) }
+    ensures fault { IfErr result (call.RefusesWhole R.source R.refusals decoder.old) }
     ensures no_form { IfErr result (λ e. TellsNoForm (code_of e)) }
-    ensures memory { IfErr result (TakesNoMemory (formats_of decoder.old.formats)
-        (PassesTags (IsFromZero (2 ^ 128 - 1))) decoder.old.levels (R.source decoder.old.source)) }
-    ensures levels { decoder.new.levels ≡ decoder.old.levels }
-    ensures formats { decoder.new.formats ≡ decoder.old.formats }
+    ensures memory { IfErr result
+        (call.TakesNoMemory R.source (PassesTags (IsFromZero (2 ^ 128 - 1))) decoder.old) }
+    ensures settings { SameSettings decoder.old decoder.new }
 {
     let found = match scalar_head(decoder) {
         Ok(found) => found,
@@ -216,19 +200,15 @@ pub fn read_signed<R: Source>(
     message: &'static str,
 ) -> Result<i64>
     requires { most < 2 ^ 63 }
-    ensures read { TakesItem R.refusals (formats_of decoder.old.formats)
-        (PassesTags (IsSigned most)) decoder.old.levels
-        (R.source decoder.old.source) (R.source decoder.new.source) result }
-    ensures taken { OnOk result
-        (Advances (R.source decoder.old.source) (R.source decoder.new.source)) }
+    ensures read { call.TakesItem R.source R.refusals (PassesTags (IsSigned most))
+        decoder.old decoder.new result }
+    ensures taken { OnOk result (step.Advances R.source decoder.old decoder.new) }
     ensures bounds { IfOk result (IsWithin most) }
-    ensures fault { IfErr result (RefusesWhole R.refusals decoder.old.levels
-        (R.source decoder.old.source)) }
+    ensures fault { IfErr result (call.RefusesWhole R.source R.refusals decoder.old) }
     ensures no_form { IfErr result (λ e. TellsNoForm (code_of e)) }
-    ensures memory { IfErr result (TakesNoMemory (formats_of decoder.old.formats)
-        (PassesTags (IsSigned most)) decoder.old.levels (R.source decoder.old.source)) }
-    ensures levels { decoder.new.levels ≡ decoder.old.levels }
-    ensures formats { decoder.new.formats ≡ decoder.old.formats }
+    ensures memory { IfErr result
+        (call.TakesNoMemory R.source (PassesTags (IsSigned most)) decoder.old) }
+    ensures settings { SameSettings decoder.old decoder.new }
 {
     if let Some(number) = decoder.unsigned(most) {
         return Ok(number as i64);
@@ -243,19 +223,15 @@ pub fn read_signed<R: Source>(
 #[inline(never)]
 fn signed_slow<R: Source>(decoder: &mut Decoder<R>, most: u64, message: &'static str) -> Result<i64>
     requires { most < 2 ^ 63 }
-    ensures read { TakesItem R.refusals (formats_of decoder.old.formats)
-        (PassesTags (IsSigned most)) decoder.old.levels
-        (R.source decoder.old.source) (R.source decoder.new.source) result }
-    ensures taken { OnOk result
-        (Advances (R.source decoder.old.source) (R.source decoder.new.source)) }
+    ensures read { call.TakesItem R.source R.refusals (PassesTags (IsSigned most))
+        decoder.old decoder.new result }
+    ensures taken { OnOk result (step.Advances R.source decoder.old decoder.new) }
     ensures bounds { IfOk result (IsWithin most) }
-    ensures fault { IfErr result (RefusesWhole R.refusals decoder.old.levels
-        (R.source decoder.old.source)) }
+    ensures fault { IfErr result (call.RefusesWhole R.source R.refusals decoder.old) }
     ensures no_form { IfErr result (λ e. TellsNoForm (code_of e)) }
-    ensures memory { IfErr result (TakesNoMemory (formats_of decoder.old.formats)
-        (PassesTags (IsSigned most)) decoder.old.levels (R.source decoder.old.source)) }
-    ensures levels { decoder.new.levels ≡ decoder.old.levels }
-    ensures formats { decoder.new.formats ≡ decoder.old.formats }
+    ensures memory { IfErr result
+        (call.TakesNoMemory R.source (PassesTags (IsSigned most)) decoder.old) }
+    ensures settings { SameSettings decoder.old decoder.new }
 {
     let found = match scalar_head(decoder) {
         Ok(found) => found,
@@ -280,9 +256,8 @@ fn signed_slow<R: Source>(decoder: &mut Decoder<R>, most: u64, message: &'static
 fn no_number<R: Source>(decoder: &mut Decoder<R>, found: HeadAt, message: &'static str) -> Error
     ensures fault { RefusesBehind R.refusals found (R.source decoder.old.source) result }
     ensures no_form { TellsNoForm (code_of result) }
-    ensures took { TookSome (R.source decoder.old.source) (R.source decoder.new.source) }
-    ensures levels { decoder.new.levels ≡ decoder.old.levels }
-    ensures formats { decoder.new.formats ≡ decoder.old.formats }
+    ensures took { step.TookSome R.source decoder.old decoder.new }
+    ensures settings { SameSettings decoder.old decoder.new }
 {
     match found.head {
         Head::Unsigned(_) | Head::Negative(_) => Error::message(decoder.alloc, message),

@@ -1,8 +1,10 @@
 //! What may be absent.
 
 ghost use Rattle.std.specs.Prelude.{◌≡◌, true, IfErr, IfOk};
-ghost use Rattle.cbor_decode.specs.Gives.{Gives, Advances, TellsNoKey, TellsNoMemory};
+ghost use Rattle.cbor_decode.specs.Decoder.{SameSettings};
+ghost use Rattle.cbor_decode.specs.Gives.{TellsNoKey, TellsNoMemory};
 ghost use Rattle.cbor_decode_as.specs.Nulls.{null_at};
+ghost use Rattle.cbor_decode.specs.Steps as step;
 
 use cbor_decode::{Decoder, Done};
 use cbor_read::Source;
@@ -14,15 +16,13 @@ const NULL: u8 = 0xf6;
 /// item, and where the input is at its end. It is refused as the source is.
 #[inline(always)]
 pub fn take_null<R: Source>(decoder: &mut Decoder<R>) -> Done<bool>
-    ensures read { Gives R.refusals (λ b. b) (λ l. null_at)
-        (R.source decoder.old.source) (R.source decoder.new.source)
-        decoder.new.refusal result }
-    ensures taken { IfOk result (λ null. null ≡ true
-        → Advances (R.source decoder.old.source) (R.source decoder.new.source)) }
+    ensures read { step.Gives R.source R.refusals (λ b. b) (λ l. null_at)
+        decoder.old decoder.new result }
+    ensures taken { IfOk result
+        (λ null. null ≡ true → step.Advances R.source decoder.old decoder.new) }
     ensures no_key { IfErr result (TellsNoKey decoder.new.refusal) }
     ensures memory { IfErr result (TellsNoMemory decoder.new.refusal) }
-    ensures levels { decoder.new.levels ≡ decoder.old.levels }
-    ensures formats { decoder.new.formats ≡ decoder.old.formats }
+    ensures settings { SameSettings decoder.old decoder.new }
 {
     match decoder.source.ahead().first().copied() {
         Some(NULL) => {
@@ -37,15 +37,13 @@ pub fn take_null<R: Source>(decoder: &mut Decoder<R>) -> Done<bool>
 // The same where no byte is at hand: the source is asked to show one.
 #[inline(never)]
 fn take_null_peeked<R: Source>(decoder: &mut Decoder<R>) -> Done<bool>
-    ensures read { Gives R.refusals (λ b. b) (λ l. null_at)
-        (R.source decoder.old.source) (R.source decoder.new.source)
-        decoder.new.refusal result }
-    ensures taken { IfOk result (λ null. null ≡ true
-        → Advances (R.source decoder.old.source) (R.source decoder.new.source)) }
+    ensures read { step.Gives R.source R.refusals (λ b. b) (λ l. null_at)
+        decoder.old decoder.new result }
+    ensures taken { IfOk result
+        (λ null. null ≡ true → step.Advances R.source decoder.old decoder.new) }
     ensures no_key { IfErr result (TellsNoKey decoder.new.refusal) }
     ensures memory { IfErr result (TellsNoMemory decoder.new.refusal) }
-    ensures levels { decoder.new.levels ≡ decoder.old.levels }
-    ensures formats { decoder.new.formats ≡ decoder.old.formats }
+    ensures settings { SameSettings decoder.old decoder.new }
 {
     match decoder.source.peek() {
         Ok(Some(NULL)) => {

@@ -1,14 +1,16 @@
 //! Simple values and numbers.
 
-ghost use Rattle.std.specs.Prelude.{◌≡◌, IfErr, OnOk};
+ghost use Rattle.std.specs.Prelude.{IfErr, OnOk};
 ghost use Rattle.cbor_model.specs.Readable.{PassesTags, IsBool, IsUnit};
 ghost use Rattle.cbor_io.specs.Error.{code_of};
-ghost use Rattle.cbor_decode.specs.Gives.{Gives, Advances, TellsNoForm, TellsNoKey, TellsNoMemory};
+ghost use Rattle.cbor_decode.specs.Decoder.{SameSettings};
+ghost use Rattle.cbor_decode.specs.Gives.{TellsNoForm, TellsNoKey, TellsNoMemory};
 ghost use Rattle.cbor_decode_as.specs.TaggedHeads.{TakesHeadInside, TakesItemHead, found_head};
 ghost use Rattle.cbor_decode_as.specs.TaggedHeads.{opened_at, opened_inside};
 ghost use Rattle.cbor_decode_as.specs.Scalars.{IsFloatItem};
-ghost use Rattle.cbor_decode_as.specs.Takes.{TakesItem, TakesNoMemory, formats_of};
-ghost use Rattle.cbor_decode_as.specs.Takes.{ReadsWhole, RefusesWhole};
+ghost use Rattle.cbor_decode_as.specs.Takes.{formats_of};
+ghost use Rattle.cbor_decode.specs.Steps as step;
+ghost use Rattle.cbor_decode_as.specs.Calls as call;
 
 use crate::head::{HeadAt, skip_mismatch, tagged_head_inside, take_head};
 use cbor_decode::{Decoder, Done, Head};
@@ -24,16 +26,12 @@ pub(crate) fn scalar_head<R: Source>(decoder: &mut Decoder<R>) -> Done<HeadAt>
         decoder.old.levels
         (R.source decoder.old.source) (R.source decoder.new.source)
         decoder.new.refusal (found_head result) }
-    ensures opened { Gives R.refusals (λ found. (found.levels, found.head))
-        (λ l. opened_at decoder.old.levels)
-        (R.source decoder.old.source) (R.source decoder.new.source)
-        decoder.new.refusal result }
-    ensures taken { OnOk result
-        (Advances (R.source decoder.old.source) (R.source decoder.new.source)) }
+    ensures opened { step.Gives R.source R.refusals (λ found. (found.levels, found.head))
+        (λ l. opened_at decoder.old.levels) decoder.old decoder.new result }
+    ensures taken { OnOk result (step.Advances R.source decoder.old decoder.new) }
     ensures no_key { IfErr result (TellsNoKey decoder.new.refusal) }
     ensures memory { IfErr result (TellsNoMemory decoder.new.refusal) }
-    ensures levels { decoder.new.levels ≡ decoder.old.levels }
-    ensures formats { decoder.new.formats ≡ decoder.old.formats }
+    ensures settings { SameSettings decoder.old decoder.new }
 {
     let head = take_head(decoder)?;
     if let Head::Tag(_) = head {
@@ -52,16 +50,12 @@ fn scalar_head_inside<R: Source>(decoder: &mut Decoder<R>) -> Done<HeadAt>
         decoder.old.levels
         (R.source decoder.old.source) (R.source decoder.new.source)
         decoder.new.refusal (found_head result) }
-    ensures opened { Gives R.refusals (λ found. (found.levels, found.head))
-        (λ l. opened_inside decoder.old.levels)
-        (R.source decoder.old.source) (R.source decoder.new.source)
-        decoder.new.refusal result }
-    ensures taken { OnOk result
-        (Advances (R.source decoder.old.source) (R.source decoder.new.source)) }
+    ensures opened { step.Gives R.source R.refusals (λ found. (found.levels, found.head))
+        (λ l. opened_inside decoder.old.levels) decoder.old decoder.new result }
+    ensures taken { OnOk result (step.Advances R.source decoder.old decoder.new) }
     ensures no_key { IfErr result (TellsNoKey decoder.new.refusal) }
     ensures memory { IfErr result (TellsNoMemory decoder.new.refusal) }
-    ensures levels { decoder.new.levels ≡ decoder.old.levels }
-    ensures formats { decoder.new.formats ≡ decoder.old.formats }
+    ensures settings { SameSettings decoder.old decoder.new }
 {
     let levels = decoder.levels;
     let head = tagged_head_inside(decoder);
@@ -78,19 +72,13 @@ fn scalar_head_inside<R: Source>(decoder: &mut Decoder<R>) -> Done<HeadAt>
 /// What isn't whole is refused by its fault, and another item by a message.
 #[inline(always)]
 pub fn read_bool<R: Source>(decoder: &mut Decoder<R>) -> Result<bool>
-    ensures read { TakesItem R.refusals (formats_of decoder.old.formats) (PassesTags IsBool)
-        decoder.old.levels
-        (R.source decoder.old.source) (R.source decoder.new.source)
-        result }
-    ensures taken { OnOk result
-        (Advances (R.source decoder.old.source) (R.source decoder.new.source)) }
-    ensures fault { IfErr result (RefusesWhole R.refusals decoder.old.levels
-        (R.source decoder.old.source)) }
+    ensures read { call.TakesItem R.source R.refusals (PassesTags IsBool)
+        decoder.old decoder.new result }
+    ensures taken { OnOk result (step.Advances R.source decoder.old decoder.new) }
+    ensures fault { IfErr result (call.RefusesWhole R.source R.refusals decoder.old) }
     ensures no_form { IfErr result (λ e. TellsNoForm (code_of e)) }
-    ensures memory { IfErr result (TakesNoMemory (formats_of decoder.old.formats)
-        (PassesTags IsBool) decoder.old.levels (R.source decoder.old.source)) }
-    ensures levels { decoder.new.levels ≡ decoder.old.levels }
-    ensures formats { decoder.new.formats ≡ decoder.old.formats }
+    ensures memory { IfErr result (call.TakesNoMemory R.source (PassesTags IsBool) decoder.old) }
+    ensures settings { SameSettings decoder.old decoder.new }
 {
     match decoder.boolean() {
         Some(b) => Ok(b),
@@ -101,19 +89,13 @@ pub fn read_bool<R: Source>(decoder: &mut Decoder<R>) -> Result<bool>
 // The same where no bool is at hand.
 #[inline(never)]
 fn bool_slow<R: Source>(decoder: &mut Decoder<R>) -> Result<bool>
-    ensures read { TakesItem R.refusals (formats_of decoder.old.formats) (PassesTags IsBool)
-        decoder.old.levels
-        (R.source decoder.old.source) (R.source decoder.new.source)
-        result }
-    ensures taken { OnOk result
-        (Advances (R.source decoder.old.source) (R.source decoder.new.source)) }
-    ensures fault { IfErr result (RefusesWhole R.refusals decoder.old.levels
-        (R.source decoder.old.source)) }
+    ensures read { call.TakesItem R.source R.refusals (PassesTags IsBool)
+        decoder.old decoder.new result }
+    ensures taken { OnOk result (step.Advances R.source decoder.old decoder.new) }
+    ensures fault { IfErr result (call.RefusesWhole R.source R.refusals decoder.old) }
     ensures no_form { IfErr result (λ e. TellsNoForm (code_of e)) }
-    ensures memory { IfErr result (TakesNoMemory (formats_of decoder.old.formats)
-        (PassesTags IsBool) decoder.old.levels (R.source decoder.old.source)) }
-    ensures levels { decoder.new.levels ≡ decoder.old.levels }
-    ensures formats { decoder.new.formats ≡ decoder.old.formats }
+    ensures memory { IfErr result (call.TakesNoMemory R.source (PassesTags IsBool) decoder.old) }
+    ensures settings { SameSettings decoder.old decoder.new }
 {
     let found = match scalar_head(decoder) {
         Ok(found) => found,
@@ -137,18 +119,14 @@ fn bool_slow<R: Source>(decoder: &mut Decoder<R>) -> Result<bool>
 /// What isn't whole is refused by its fault, and another item by a message.
 #[inline(always)]
 pub fn read_float<R: Source>(decoder: &mut Decoder<R>) -> Result<Float>
-    ensures read { TakesItem R.refusals (formats_of decoder.old.formats)
-        (PassesTags IsFloatItem) decoder.old.levels
-        (R.source decoder.old.source) (R.source decoder.new.source)
-        result }
-    ensures taken { OnOk result
-        (Advances (R.source decoder.old.source) (R.source decoder.new.source)) }
-    ensures fault { ReadsWhole R.refusals decoder.old.levels (R.source decoder.old.source) result }
+    ensures read { call.TakesItem R.source R.refusals (PassesTags IsFloatItem)
+        decoder.old decoder.new result }
+    ensures taken { OnOk result (step.Advances R.source decoder.old decoder.new) }
+    ensures fault { call.ReadsWhole R.source R.refusals decoder.old result }
     ensures no_form { IfErr result (λ e. TellsNoForm (code_of e)) }
-    ensures memory { IfErr result (TakesNoMemory (formats_of decoder.old.formats)
-        (PassesTags IsFloatItem) decoder.old.levels (R.source decoder.old.source)) }
-    ensures levels { decoder.new.levels ≡ decoder.old.levels }
-    ensures formats { decoder.new.formats ≡ decoder.old.formats }
+    ensures memory { IfErr result
+        (call.TakesNoMemory R.source (PassesTags IsFloatItem) decoder.old) }
+    ensures settings { SameSettings decoder.old decoder.new }
 {
     let found = match scalar_head(decoder) {
         Ok(found) => found,
@@ -172,19 +150,13 @@ pub fn read_float<R: Source>(decoder: &mut Decoder<R>) -> Result<Float>
 /// What isn't whole is refused by its fault, and another item by a message.
 #[inline(always)]
 pub fn read_unit<R: Source>(decoder: &mut Decoder<R>) -> Result<()>
-    ensures read { TakesItem R.refusals (formats_of decoder.old.formats) (PassesTags IsUnit)
-        decoder.old.levels
-        (R.source decoder.old.source) (R.source decoder.new.source)
-        result }
-    ensures taken { OnOk result
-        (Advances (R.source decoder.old.source) (R.source decoder.new.source)) }
-    ensures fault { IfErr result (RefusesWhole R.refusals decoder.old.levels
-        (R.source decoder.old.source)) }
+    ensures read { call.TakesItem R.source R.refusals (PassesTags IsUnit)
+        decoder.old decoder.new result }
+    ensures taken { OnOk result (step.Advances R.source decoder.old decoder.new) }
+    ensures fault { IfErr result (call.RefusesWhole R.source R.refusals decoder.old) }
     ensures no_form { IfErr result (λ e. TellsNoForm (code_of e)) }
-    ensures memory { IfErr result (TakesNoMemory (formats_of decoder.old.formats)
-        (PassesTags IsUnit) decoder.old.levels (R.source decoder.old.source)) }
-    ensures levels { decoder.new.levels ≡ decoder.old.levels }
-    ensures formats { decoder.new.formats ≡ decoder.old.formats }
+    ensures memory { IfErr result (call.TakesNoMemory R.source (PassesTags IsUnit) decoder.old) }
+    ensures settings { SameSettings decoder.old decoder.new }
 {
     let found = match scalar_head(decoder) {
         Ok(found) => found,

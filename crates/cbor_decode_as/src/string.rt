@@ -5,12 +5,15 @@ ghost use Rattle.std.specs.Prelude.{◌≡◌, ◌≤◌, length, IfOk, IfErr, O
 ghost use Rattle.std.specs.String.{string_bytes};
 ghost use Rattle.cbor_model.specs.Readable.{PassesTags, IsText};
 ghost use Rattle.cbor_io.specs.Error.{code_of};
-ghost use Rattle.cbor_decode.specs.Gives.{Gives, Advances, TellsNoForm, TellsNoKey};
+ghost use Rattle.cbor_decode.specs.Decoder.{SameSettings};
+ghost use Rattle.cbor_decode.specs.Gives.{TellsNoForm, TellsNoKey};
 ghost use Rattle.cbor_decode_as.specs.Identifiers.{IsMadeBy, NamesNoKey, NamesWhole};
 ghost use Rattle.cbor_decode.specs.declared.head.Head.TheVariants.{Bytes, Text};
 ghost use Rattle.cbor_decode_as.specs.Strings.{content_at, KeepsTextOf, SeeksItem, TakesText};
 ghost use Rattle.cbor_decode_as.specs.Strings.{SeeksWhole, TellsString};
-ghost use Rattle.cbor_decode_as.specs.Takes.{OnceMade, RefusesWhole, TakesItem, formats_of};
+ghost use Rattle.cbor_decode_as.specs.Takes.{OnceMade, formats_of};
+ghost use Rattle.cbor_decode.specs.Steps as step;
+ghost use Rattle.cbor_decode_as.specs.Calls as call;
 
 use crate::head::pass_over;
 use crate::identifier::{Lookup, Why, unnamed};
@@ -24,12 +27,10 @@ use cbor_read::{ReadErrorCode, Source};
 // Takes the bytes of a byte string after its head.
 #[inline(always)]
 pub(crate) fn byte_string<R: Source>(decoder: &mut Decoder<R>, n: Option<u64>) -> Done<Vec<u8>>
-    ensures read { Gives R.refusals (λ v. v.items) (λ l. content_at l (Bytes n))
-        (R.source decoder.old.source) (R.source decoder.new.source)
-        decoder.new.refusal result }
+    ensures read { step.Gives R.source R.refusals (λ v. v.items) (λ l. content_at l (Bytes n))
+        decoder.old decoder.new result }
     ensures no_key { IfErr result (TellsNoKey decoder.new.refusal) }
-    ensures levels { decoder.new.levels ≡ decoder.old.levels }
-    ensures formats { decoder.new.formats ≡ decoder.old.formats }
+    ensures settings { SameSettings decoder.old decoder.new }
 {
     match n {
         Some(n) => decoder.bytes(n),
@@ -40,14 +41,12 @@ pub(crate) fn byte_string<R: Source>(decoder: &mut Decoder<R>, n: Option<u64>) -
 // Takes the bytes of a text after its head.
 #[inline(always)]
 fn text_content<R: Source>(decoder: &mut Decoder<R>, n: Option<u64>) -> Done<Vec<u8>>
-    ensures read { Gives R.refusals (λ v. v.items) (λ l. content_at l (Text n))
-        (R.source decoder.old.source) (R.source decoder.new.source)
-        decoder.new.refusal result }
+    ensures read { step.Gives R.source R.refusals (λ v. v.items) (λ l. content_at l (Text n))
+        decoder.old decoder.new result }
     ensures counted { IfOk result
         (λ v. length v.items ≤ (R.source decoder.new.source).offset) }
     ensures no_key { IfErr result (TellsNoKey decoder.new.refusal) }
-    ensures levels { decoder.new.levels ≡ decoder.old.levels }
-    ensures formats { decoder.new.formats ≡ decoder.old.formats }
+    ensures settings { SameSettings decoder.old decoder.new }
 {
     match n {
         Some(n) => {
@@ -68,8 +67,7 @@ fn checked<R: Source>(decoder: &mut Decoder<R>, bytes: Vec<u8>) -> Done<String>
         (R.source decoder.old.source).offset decoder.new.refusal result }
     ensures source { decoder.new.source ≡ decoder.old.source }
     ensures no_key { IfErr result (TellsNoKey decoder.new.refusal) }
-    ensures levels { decoder.new.levels ≡ decoder.old.levels }
-    ensures formats { decoder.new.formats ≡ decoder.old.formats }
+    ensures settings { SameSettings decoder.old decoder.new }
 {
     let len = bytes.len();
     match string_from_utf8(bytes) {
@@ -90,8 +88,7 @@ fn definite_text<R: Source>(decoder: &mut Decoder<R>, n: u64) -> Done<String>
     ensures fault { IfErr result (TellsString R.refusals (Text (Some n))
         (R.source decoder.old.source) decoder.new.refusal) }
     ensures no_key { IfErr result (TellsNoKey decoder.new.refusal) }
-    ensures levels { decoder.new.levels ≡ decoder.old.levels }
-    ensures formats { decoder.new.formats ≡ decoder.old.formats }
+    ensures settings { SameSettings decoder.old decoder.new }
 {
     let ahead = decoder.source.ahead();
     if n <= ahead.len() as u64 {
@@ -121,8 +118,7 @@ fn text_slow<R: Source>(decoder: &mut Decoder<R>, n: Option<u64>) -> Done<String
     ensures fault { IfErr result (TellsString R.refusals (Text n)
         (R.source decoder.old.source) decoder.new.refusal) }
     ensures no_key { IfErr result (TellsNoKey decoder.new.refusal) }
-    ensures levels { decoder.new.levels ≡ decoder.old.levels }
-    ensures formats { decoder.new.formats ≡ decoder.old.formats }
+    ensures settings { SameSettings decoder.old decoder.new }
 {
     let bytes = text_content(decoder, n)?;
     checked(decoder, bytes)
@@ -135,13 +131,11 @@ fn string<R: Source>(decoder: &mut Decoder<R>) -> Done<Option<String>>
         (PassesTags (λ r s. IsText r (string_bytes s))) decoder.old.levels
         (R.source decoder.old.source) (R.source decoder.new.source)
         decoder.new.refusal result }
-    ensures taken { OnOk result
-        (Advances (R.source decoder.old.source) (R.source decoder.new.source)) }
+    ensures taken { OnOk result (step.Advances R.source decoder.old decoder.new) }
     ensures fault { SeeksWhole R.refusals decoder.old.levels (R.source decoder.old.source)
         decoder.new.refusal result }
     ensures no_key { IfErr result (TellsNoKey decoder.new.refusal) }
-    ensures levels { decoder.new.levels ≡ decoder.old.levels }
-    ensures formats { decoder.new.formats ≡ decoder.old.formats }
+    ensures settings { SameSettings decoder.old decoder.new }
 {
     if let Some(n) = decoder.short_text() {
         let text = definite_text(decoder, n)?;
@@ -157,13 +151,11 @@ fn string_slow<R: Source>(decoder: &mut Decoder<R>) -> Done<Option<String>>
         (PassesTags (λ r s. IsText r (string_bytes s))) decoder.old.levels
         (R.source decoder.old.source) (R.source decoder.new.source)
         decoder.new.refusal result }
-    ensures taken { OnOk result
-        (Advances (R.source decoder.old.source) (R.source decoder.new.source)) }
+    ensures taken { OnOk result (step.Advances R.source decoder.old decoder.new) }
     ensures fault { SeeksWhole R.refusals decoder.old.levels (R.source decoder.old.source)
         decoder.new.refusal result }
     ensures no_key { IfErr result (TellsNoKey decoder.new.refusal) }
-    ensures levels { decoder.new.levels ≡ decoder.old.levels }
-    ensures formats { decoder.new.formats ≡ decoder.old.formats }
+    ensures settings { SameSettings decoder.old decoder.new }
 {
     let found = scalar_head(decoder)?;
     match found.head {
@@ -189,16 +181,13 @@ fn string_slow<R: Source>(decoder: &mut Decoder<R>) -> Done<Option<String>>
 #[inline(always)]
 fn own_string<R: Source>(decoder: &mut Decoder<R>) -> Lookup<String>
     ensures read { OnceMade (IsMadeBy decoder.new.refusal)
-        (TakesItem R.refusals (formats_of decoder.old.formats)
-        (PassesTags (λ r s. IsText r (string_bytes s))) decoder.old.levels
-        (R.source decoder.old.source) (R.source decoder.new.source)) result }
-    ensures taken { OnOk result
-        (Advances (R.source decoder.old.source) (R.source decoder.new.source)) }
+        (call.TakesItem R.source R.refusals (PassesTags (λ r s. IsText r (string_bytes s)))
+        decoder.old decoder.new) result }
+    ensures taken { OnOk result (step.Advances R.source decoder.old decoder.new) }
     ensures fault { IfErr result (NamesWhole R.refusals decoder.old.levels
         (R.source decoder.old.source) decoder.new.refusal) }
     ensures no_key { IfErr result (NamesNoKey decoder.new.refusal) }
-    ensures levels { decoder.new.levels ≡ decoder.old.levels }
-    ensures formats { decoder.new.formats ≡ decoder.old.formats }
+    ensures settings { SameSettings decoder.old decoder.new }
 {
     match string(decoder) {
         Ok(Some(text)) => Ok(text),
@@ -212,16 +201,12 @@ fn own_string<R: Source>(decoder: &mut Decoder<R>) -> Lookup<String>
 /// Another item, as a byte string that isn't UTF-8, is refused with [`NO_STRING`]; a text that
 /// isn't UTF-8 with `InvalidUtf8`, and what isn't whole, of any kind, by its fault.
 pub fn read_string<R: Source>(decoder: &mut Decoder<R>) -> Result<String>
-    ensures read { TakesItem R.refusals (formats_of decoder.old.formats)
-        (PassesTags (λ r s. IsText r (string_bytes s))) decoder.old.levels
-        (R.source decoder.old.source) (R.source decoder.new.source) result }
-    ensures taken { OnOk result
-        (Advances (R.source decoder.old.source) (R.source decoder.new.source)) }
-    ensures fault { IfErr result (RefusesWhole R.refusals decoder.old.levels
-        (R.source decoder.old.source)) }
+    ensures read { call.TakesItem R.source R.refusals
+        (PassesTags (λ r s. IsText r (string_bytes s))) decoder.old decoder.new result }
+    ensures taken { OnOk result (step.Advances R.source decoder.old decoder.new) }
+    ensures fault { IfErr result (call.RefusesWhole R.source R.refusals decoder.old) }
     ensures no_form { IfErr result (λ e. TellsNoForm (code_of e)) }
-    ensures levels { decoder.new.levels ≡ decoder.old.levels }
-    ensures formats { decoder.new.formats ≡ decoder.old.formats }
+    ensures settings { SameSettings decoder.old decoder.new }
 {
     match own_string(decoder) {
         Ok(text) => Ok(text),

@@ -2,10 +2,12 @@
 
 ghost use Rattle.std.specs.Prelude.{◌≡◌, ◌≤◌, IfOk, IfErr, IfSome, OnOk};
 ghost use Rattle.cbor_io.specs.Error.{code_of};
-ghost use Rattle.cbor_decode.specs.Gives.{Gives, TellsNoForm, TellsNoKey};
+ghost use Rattle.cbor_decode.specs.Decoder.{SameSettings};
+ghost use Rattle.cbor_decode.specs.Gives.{TellsNoForm, TellsNoKey};
 ghost use Rattle.cbor_decode_as.specs.Tags.{begins_tag, tag_first_at, tag_head_at};
 ghost use Rattle.cbor_decode_as.specs.Tags.{ReadsTag, LevelsBehind, PassesAll, TagIs, passed_at};
 ghost use Rattle.cbor_decode_as.specs.Takes.{formats_of};
+ghost use Rattle.cbor_decode.specs.Steps as step;
 
 use cbor_decode::{Decoder, Done};
 use cbor_io::error::Result;
@@ -47,9 +49,8 @@ pub fn read_tag<R: Source>(decoder: &mut Decoder<R>) -> Result<Option<u64>>
 
 // Takes a tag's head and goes one level in, if one stands at the front.
 pub(crate) fn take_tag<R: Source>(decoder: &mut Decoder<R>) -> Done<Option<u64>>
-    ensures read { Gives R.refusals (λ o. o) (λ l. tag_head_at decoder.old.levels)
-        (R.source decoder.old.source) (R.source decoder.new.source)
-        decoder.new.refusal result }
+    ensures read { step.Gives R.source R.refusals (λ o. o) (λ l. tag_head_at decoder.old.levels)
+        decoder.old decoder.new result }
     ensures no_key { IfErr result (TellsNoKey decoder.new.refusal) }
     ensures levels { LevelsBehind result decoder.old.levels decoder.new.levels }
     ensures formats { decoder.new.formats ≡ decoder.old.formats }
@@ -66,12 +67,10 @@ pub(crate) fn take_tag<R: Source>(decoder: &mut Decoder<R>) -> Done<Option<u64>>
 
 // Takes the first byte of a tag's head, if one stands at the front.
 fn tag_first<R: Source>(decoder: &mut Decoder<R>) -> Done<Option<u8>>
-    ensures read { Gives R.refusals (λ o. o) (λ l. tag_first_at)
-        (R.source decoder.old.source) (R.source decoder.new.source)
-        decoder.new.refusal result }
+    ensures read { step.Gives R.source R.refusals (λ o. o) (λ l. tag_first_at)
+        decoder.old decoder.new result }
     ensures no_key { IfErr result (TellsNoKey decoder.new.refusal) }
-    ensures levels { decoder.new.levels ≡ decoder.old.levels }
-    ensures formats { decoder.new.formats ≡ decoder.old.formats }
+    ensures settings { SameSettings decoder.old decoder.new }
 {
     match decoder.source.peek() {
         Ok(Some(first)) => {
@@ -93,10 +92,8 @@ pub fn pass_tags<R: Source>(decoder: &mut Decoder<R>) -> Done<()>
         decoder.old.levels
         (R.source decoder.old.source) (R.source decoder.new.source)
         decoder.new.levels decoder.new.refusal result }
-    ensures passed { Gives R.refusals (λ u. decoder.new.levels)
-        (λ l. passed_at decoder.old.levels)
-        (R.source decoder.old.source) (R.source decoder.new.source)
-        decoder.new.refusal result }
+    ensures passed { step.Gives R.source R.refusals (λ u. decoder.new.levels)
+        (λ l. passed_at decoder.old.levels) decoder.old decoder.new result }
     ensures no_key { IfErr result (TellsNoKey decoder.new.refusal) }
     ensures levels { OnOk result (decoder.new.levels ≤ decoder.old.levels) }
     ensures formats { decoder.new.formats ≡ decoder.old.formats }

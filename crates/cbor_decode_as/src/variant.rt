@@ -3,12 +3,13 @@
 ghost use Rattle.std.specs.Prelude.{◌≡◌, ◌+◌, ◌<◌, length, true};
 ghost use Rattle.std.specs.Prelude.{OnOk, OnErr, IfOk, IfErr};
 ghost use Rattle.cbor_io.specs.Error.{code_of, offset_of, HasNoOffset};
-ghost use Rattle.cbor_decode.specs.Gives.{Gives, Advances, Stopped, TellsNoForm, TellsNoKey};
+ghost use Rattle.cbor_decode.specs.Decoder.{SameSettings};
+ghost use Rattle.cbor_decode.specs.Gives.{Stopped, TellsNoForm, TellsNoKey};
 ghost use Rattle.cbor_decode_as.specs.Cases.{HasCase, IsEnumCode, enum_cases, form_cases};
 ghost use Rattle.cbor_decode_as.specs.Cases.{untagged_cases};
 ghost use Rattle.cbor_decode_as.specs.Enums.{IsName};
 ghost use Rattle.cbor_decode_as.specs.Identifiers.{texts};
-ghost use Rattle.cbor_decode_as.specs.Takes.{TakesItem, formats_of};
+ghost use Rattle.cbor_decode_as.specs.Takes.{formats_of};
 ghost use Rattle.cbor_decode_as.specs.BeginsEnum.{TakesVariantHead, TakesForm, TakesFormOf};
 ghost use Rattle.cbor_decode_as.specs.Variants.{HasNoTag, HasShape, IsAlone, IsInside};
 ghost use Rattle.cbor_decode_as.specs.Variants.{TakesShape, TakesShaped, TakesVariant};
@@ -16,6 +17,8 @@ ghost use Rattle.cbor_decode_as.specs.Variants.{pair_head_at, reads_shape, shape
 ghost use Rattle.cbor_decode_as.specs.Variants.{unassigned_at};
 ghost use Rattle.cbor_decode_as.specs.declared.variant.Form.TheVariants.{Array};
 ghost use Rattle.cbor_decode_as.specs.declared.variant.Shape.TheVariants as shape;
+ghost use Rattle.cbor_decode.specs.Steps as step;
+ghost use Rattle.cbor_decode_as.specs.Calls as call;
 
 use crate::collection::{array_head, key_begins};
 use crate::content::expect_item;
@@ -69,8 +72,7 @@ fn enum_shape<R: Source>(decoder: &mut Decoder<R>) -> Result<Shape>
     ensures cases { IfErr result (λ e. HasCase (R.source decoder.old.source) e
         (form_cases (formats_of decoder.old.formats))) }
     ensures code { IfErr result (λ e. IsEnumCode (code_of e)) }
-    ensures levels { decoder.new.levels ≡ decoder.old.levels }
-    ensures formats { decoder.new.formats ≡ decoder.old.formats }
+    ensures settings { SameSettings decoder.old decoder.new }
 {
     let first = match decoder.source.peek() {
         Ok(Some(first)) => first,
@@ -117,10 +119,9 @@ pub(crate) fn refuse_here<R: Source>(decoder: &Decoder<R>, code: ErrorCode) -> E
 
 // Takes the head of a map of one pair, and goes one level in, to a key that may begin so.
 fn pair_head<R: Source>(decoder: &mut Decoder<R>) -> Done<()>
-    ensures read { Gives R.refusals (λ u. u)
+    ensures read { step.Gives R.source R.refusals (λ u. u)
         (λ l. pair_head_at (formats_of decoder.old.formats) decoder.old.levels)
-        (R.source decoder.old.source) (R.source decoder.new.source)
-        decoder.new.refusal result }
+        decoder.old decoder.new result }
     ensures inside { OnOk result (decoder.old.levels ≡ decoder.new.levels + 1) }
     ensures formats { decoder.new.formats ≡ decoder.old.formats }
 {
@@ -150,8 +151,7 @@ pub fn variant_head<'de, R: Read<'de>>(
         (formats_of decoder.old.formats) (texts names.now) decoder.old.levels
         (R.source decoder.old.source) (R.source decoder.new.source)
         decoder.new.levels result }
-    ensures taken { OnOk result
-        (Advances (R.source decoder.old.source) (R.source decoder.new.source)) }
+    ensures taken { OnOk result (step.Advances R.source decoder.old decoder.new) }
     ensures cases { IfErr result (λ e. HasCase (R.source decoder.old.source) e
         (enum_cases (formats_of decoder.old.formats)
         decoder.old.levels)) }
@@ -186,8 +186,7 @@ fn tagged_variant<'de, R: Read<'de>>(
         (formats_of decoder.old.formats) (texts names.now) decoder.old.levels
         (R.source decoder.old.source) (R.source decoder.new.source)
         decoder.new.levels result }
-    ensures taken { OnOk result
-        (Advances (R.source decoder.old.source) (R.source decoder.new.source)) }
+    ensures taken { OnOk result (step.Advances R.source decoder.old decoder.new) }
     ensures cases { IfErr result (λ e. HasCase (R.source decoder.old.source) e
         (enum_cases (formats_of decoder.old.formats)
         decoder.old.levels)) }
@@ -217,8 +216,7 @@ fn untagged_variant<'de, R: Read<'de>>(
         (formats_of decoder.old.formats) (texts names.now) decoder.old.levels
         (R.source decoder.old.source) (R.source decoder.new.source)
         decoder.new.levels result }
-    ensures taken { OnOk result
-        (Advances (R.source decoder.old.source) (R.source decoder.new.source)) }
+    ensures taken { OnOk result (step.Advances R.source decoder.old decoder.new) }
     ensures cases { IfErr result (λ e. HasCase (R.source decoder.old.source) e
         (untagged_cases (formats_of decoder.old.formats)
         decoder.old.levels)) }
@@ -247,8 +245,7 @@ fn unassigned_byte<R: Source>(decoder: &mut Decoder<R>) -> Refused
     ensures read { Stopped R.refusals (λ l. unassigned_at) (R.source decoder.old.source)
         (R.source decoder.new.source) decoder.new.refusal result }
     ensures no_key { TellsNoKey decoder.new.refusal result }
-    ensures levels { decoder.new.levels ≡ decoder.old.levels }
-    ensures formats { decoder.new.formats ≡ decoder.old.formats }
+    ensures settings { SameSettings decoder.old decoder.new }
 {
     match decoder.byte() {
         Ok(_) => decoder.refuse(ReadErrorCode::UnassignedCode),
@@ -267,8 +264,7 @@ fn name_alone<'de, R: Read<'de>>(decoder: &mut Decoder<R>, names: &[&str]) -> Re
         (formats_of decoder.old.formats) (texts names.now) decoder.old.levels
         (R.source decoder.old.source) (R.source decoder.new.source)
         decoder.new.levels result }
-    ensures taken { OnOk result
-        (Advances (R.source decoder.old.source) (R.source decoder.new.source)) }
+    ensures taken { OnOk result (step.Advances R.source decoder.old decoder.new) }
     ensures no_form { IfErr result (λ e. TellsNoForm (code_of e)) }
     ensures below { IfOk result (λ v. v.0 < length names.now) }
     ensures inside { IfOk result (λ v. IsInside v.1 decoder.new.levels
@@ -294,8 +290,7 @@ fn array_variant<'de, R: Read<'de>>(
         (formats_of decoder.old.formats) (texts names.now) decoder.old.levels
         (R.source decoder.old.source) (R.source decoder.new.source)
         decoder.new.levels result }
-    ensures taken { OnOk result
-        (Advances (R.source decoder.old.source) (R.source decoder.new.source)) }
+    ensures taken { OnOk result (step.Advances R.source decoder.old decoder.new) }
     ensures cases { IfErr result (λ e. HasCase (R.source decoder.old.source) e
         (untagged_cases (formats_of decoder.old.formats)
         decoder.old.levels)) }
@@ -323,8 +318,7 @@ fn map_variant<'de, R: Read<'de>>(decoder: &mut Decoder<R>, names: &[&str]) -> R
         (formats_of decoder.old.formats) (texts names.now) decoder.old.levels
         (R.source decoder.old.source) (R.source decoder.new.source)
         decoder.new.levels result }
-    ensures taken { OnOk result
-        (Advances (R.source decoder.old.source) (R.source decoder.new.source)) }
+    ensures taken { OnOk result (step.Advances R.source decoder.old decoder.new) }
     ensures cases { IfErr result (λ e. HasCase (R.source decoder.old.source) e
         (untagged_cases (formats_of decoder.old.formats)
         decoder.old.levels)) }
@@ -344,15 +338,12 @@ fn map_variant<'de, R: Read<'de>>(decoder: &mut Decoder<R>, names: &[&str]) -> R
 
 // Reads a variant's identifier.
 fn variant_name<'de, R: Read<'de>>(decoder: &mut Decoder<R>, names: &[&str]) -> Result<usize>
-    ensures read { TakesItem R.refusals (formats_of decoder.old.formats)
-        (IsName (texts names.now)) decoder.old.levels
-        (R.source decoder.old.source) (R.source decoder.new.source) result }
-    ensures taken { OnOk result
-        (Advances (R.source decoder.old.source) (R.source decoder.new.source)) }
+    ensures read { call.TakesItem R.source R.refusals (IsName (texts names.now))
+        decoder.old decoder.new result }
+    ensures taken { OnOk result (step.Advances R.source decoder.old decoder.new) }
     ensures no_form { IfErr result (λ e. TellsNoForm (code_of e)) }
     ensures below { IfOk result (λ i. i < length names.now) }
-    ensures levels { decoder.new.levels ≡ decoder.old.levels }
-    ensures formats { decoder.new.formats ≡ decoder.old.formats }
+    ensures settings { SameSettings decoder.old decoder.new }
 {
     match identifier(decoder, names) {
         Ok(Some(index)) => Ok(index),

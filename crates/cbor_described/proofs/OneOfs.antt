@@ -19,7 +19,9 @@ use Rattle.cbor_described.specs.OneOfs.{either}
 use Rattle.cbor_de.specs.ItemLists.{AreItems, AreNoItems, TakesItems}
 use Rattle.cbor_decode_as.specs.Takes.{formats_of, raws, Refuses}
 use Rattle.cbor_decode_as.specs.Variants.{content_at, IsVariantHead, IsContent, IsNoContent, TakesContent, IsItemsOf, IsPartsHead, RefusesParts}
+use Rattle.cbor_decode_as.specs.Variants.{IsEntered, TellsAlone}
 use Rattle.cbor_decode_as.specs.declared.variant.Form.{Form}
+use Rattle.cbor_decode_as.specs.declared.variant.Form.TheVariants as form
 use Rattle.cbor_described.specs.declared.variant_list.OneOf.{OneOf}
 use Rattle.cbor_described.specs.declared.variant_list.OneOf.TheVariants.{This, Other}
 use Rattle.cbor_de.proofs.facts.Enums.{TakesEnum, variant_is, content_read, content_unread, has_items, items_read, items_made}
@@ -111,3 +113,9 @@ module _ {E : Type 0} (names : List (List ℕ)) (means : Formats → ℕ → Con
   pub enum_answer : Step s a (λ l bs rest. IsVariantHead (formats_of f) names l (item_at (raws (formats_of f) l) outer bs) left i form rest) → (q : Result E Error) → TakesContent allowed (formats_of g) (means g i) left form a t q → TakesEnum names (means f) allowed f outer s t q
   enum_answer head (Ok x) h = content_read (variant_is names (means f) i head formats refl) (λ f. means f i) x x (λ c m. m) h refl
   enum_answer head (Err e) h = content_unread (variant_is names (means f) i head formats refl) (λ f. means f i) (λ c x m. (x, m)) t e (Err e) h refl refl
+
+-- An enum that was entered is no identifier alone.
+pub entered_tells : (text : List ℕ) (f : Form) (left inner : ℕ) (e : Error) → IsEntered f left inner → TellsAlone text f e
+entered_tells text (form.Array remaining) left inner e entered = tt
+entered_tells text form.Map left inner e entered = tt
+entered_tells text form.Alone left inner e entered = absurd entered

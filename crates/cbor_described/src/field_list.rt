@@ -1,16 +1,18 @@
 //! Lists of fields, of which structs are read.
 
-ghost use Rattle.std.specs.Prelude.{◌≡◌, ◌≤◌, length, IfOk, IfErr, OnOk};
-ghost use Rattle.cbor_model.specs.Raw.{Raw};
+ghost use Rattle.std.specs.Prelude.{◌≡◌, ◌≤◌, true, length, Some, IfOk, IfErr, OnOk};
+ghost use Rattle.std.specs.Option.{is_some};
 ghost use Rattle.cbor_model.specs.Readable.{Context};
+ghost use Rattle.cbor_decode.specs.Decoder.{SameSettings};
 ghost use Rattle.cbor_described.specs.FieldLists.{IsLacking, TakesField, TakesSlot};
 ghost use Rattle.cbor_de.specs.Fields.{AreHeld, IsHeld, Lacks, none_yet};
 ghost use Rattle.cbor_decode_as.specs.Identifiers.{texts};
-ghost use Rattle.cbor_de.specs.Structs.{IsAny, IsStruct};
-ghost use Rattle.cbor_io.specs.Error.{code_of};
-ghost use Rattle.cbor_decode.specs.Gives.{Advances, TellsNoForm};
-ghost use Rattle.cbor_decode_as.specs.Takes.{TakesItem, context, formats_of};
-ghost use Rattle.cbor_de.specs.Forms.{MayTell, any_of, key_form};
+ghost use Rattle.cbor_de.specs.Structs.{IsAny, IsStruct, duplicate_text, missing_text};
+ghost use Rattle.cbor_io.specs.Error.{IsMessageOf, code_of};
+ghost use Rattle.cbor_decode.specs.Gives.{TellsNoForm};
+ghost use Rattle.cbor_decode_as.specs.Takes.{context, formats_of};
+ghost use Rattle.cbor_de.specs.Forms.{any_of, key_form};
+ghost use Rattle.cbor_de.specs.Calls as call;
 
 use cbor_de::steps::{end_map, leave_to, map_head};
 use cbor_de::{
@@ -66,12 +68,11 @@ pub(crate) trait ReadFields<'de, R: Read<'de>>: FieldList {
             TakesField (formats_of de.old.decoder.formats) de.old.decoder.levels R.refusals
             (Self.fields c) i (Self.slots c held.old) (Self.slots c held.new)
             (R.source de.old.decoder.source) (R.source de.new.decoder.source) result }
-        ensures form { IfErr result (MayTell (any_of key_form Self.wrong_forms)
-            (formats_of de.old.decoder.formats) (R.source de.old.decoder.source)) }
+        ensures form { IfErr result
+            (call.MayTell R.source (any_of key_form Self.wrong_forms) de.old) }
         ensures forward { IfOk result (λ u. (R.source de.old.decoder.source).offset
             ≤ (R.source de.new.decoder.source).offset) }
-        ensures levels { de.new.decoder.levels ≡ de.old.decoder.levels }
-        ensures formats { de.new.decoder.formats ≡ de.old.decoder.formats };
+        ensures settings { SameSettings de.old.decoder de.new.decoder };
 }
 
 // A field of a struct, which is read from a source. What has several fields asks for this of each:
@@ -84,12 +85,13 @@ pub(crate) trait ReadField<'de, R: Read<'de>>: FieldType {
             (formats_of de.old.decoder.formats) de.old.decoder.levels R.refusals
             (Self.reads (context de.old.decoder.formats R.lends)) slot.old slot.new
             (R.source de.old.decoder.source) (R.source de.new.decoder.source) result }
-        ensures form { IfErr result (MayTell Self.Of.wrong_forms
-            (formats_of de.old.decoder.formats) (R.source de.old.decoder.source)) }
+        // A slot that has a value is refused by the name.
+        ensures twice { IfErr result (λ e. is_some slot.old ≡ true
+            → IsMessageOf (Some (duplicate_text name.now)) (code_of e)) }
+        ensures form { IfErr result (call.MayTell R.source Self.Of.wrong_forms de.old) }
         ensures forward { IfOk result (λ u. (R.source de.old.decoder.source).offset
             ≤ (R.source de.new.decoder.source).offset) }
-        ensures levels { de.new.decoder.levels ≡ de.old.decoder.levels }
-        ensures formats { de.new.decoder.formats ≡ de.old.decoder.formats };
+        ensures settings { SameSettings de.old.decoder de.new.decoder };
 }
 
 impl<'de, R: Read<'de>, A: FieldType> ReadField<'de, R> for A
@@ -216,6 +218,7 @@ impl<A: FieldType, B: FieldType, C: FieldType, D: FieldType, F: FieldList> Field
 fn required_field<A: FieldType>(alloc: Global, name: &str, held: Option<A>) -> Result<A>
     ensures held { IfOk result (λ x. IsHeld held A.missing x) }
     ensures lacks { IfErr result (λ e. Lacks A.missing held) }
+    ensures text { IfErr result (λ e. IsMessageOf (Some (missing_text name.now)) (code_of e)) }
     ensures no_form { IfErr result (λ e. TellsNoForm (code_of e)) }
 {
     match held {
@@ -279,12 +282,12 @@ where
     ensures read { TakesSlot (formats_of de.old.decoder.formats) de.old.decoder.levels R.refusals
         (A.reads (context de.old.decoder.formats R.lends)) slot.old slot.new
         (R.source de.old.decoder.source) (R.source de.new.decoder.source) result }
-    ensures form { IfErr result (MayTell A.Of.wrong_forms
-        (formats_of de.old.decoder.formats) (R.source de.old.decoder.source)) }
+    ensures twice { IfErr result (λ e. is_some slot.old ≡ true
+        → IsMessageOf (Some (duplicate_text name.now)) (code_of e)) }
+    ensures form { IfErr result (call.MayTell R.source A.Of.wrong_forms de.old) }
     ensures forward { IfOk result (λ u. (R.source de.old.decoder.source).offset
         ≤ (R.source de.new.decoder.source).offset) }
-    ensures levels { de.new.decoder.levels ≡ de.old.decoder.levels }
-    ensures formats { de.new.decoder.formats ≡ de.old.decoder.formats }
+    ensures settings { SameSettings de.old.decoder de.new.decoder }
 {
     if slot.is_some() {
         return Err(duplicate_field(de.alloc(), name));
@@ -300,13 +303,9 @@ where
 
 // Passes over an item.
 fn skip_item<'de, R: Read<'de>>(de: &mut Deserializer<R>) -> Result<()>
-    ensures read { TakesItem R.refusals (formats_of de.old.decoder.formats) IsAny
-        de.old.decoder.levels (R.source de.old.decoder.source)
-        (R.source de.new.decoder.source) result }
-    ensures form { IfErr result (MayTell key_form
-        (formats_of de.old.decoder.formats) (R.source de.old.decoder.source)) }
-    ensures levels { de.new.decoder.levels ≡ de.old.decoder.levels }
-    ensures formats { de.new.decoder.formats ≡ de.old.decoder.formats }
+    ensures read { call.TakesItem R.source R.refusals IsAny de.old de.new result }
+    ensures form { IfErr result (call.MayTell R.source key_form de.old) }
+    ensures settings { SameSettings de.old.decoder de.new.decoder }
 {
     match IgnoredAny::deserialize(de) {
         Ok(_) => Ok(()),
@@ -320,16 +319,12 @@ pub(crate) fn read_fields<'de, R: Read<'de>, F: ReadFields<'de, R>>(
     names: &[&str],
 ) -> Result<F>
     requires { length names.now ≡ F.count }
-    ensures read { TakesItem R.refusals (formats_of de.old.decoder.formats)
+    ensures read { call.TakesItem R.source R.refusals
         (IsStruct (texts names.now) (F.fields (context de.old.decoder.formats R.lends)))
-        de.old.decoder.levels (R.source de.old.decoder.source)
-        (R.source de.new.decoder.source) result }
-    ensures taken { OnOk result (Advances (R.source de.old.decoder.source)
-        (R.source de.new.decoder.source)) }
-    ensures form { IfErr result (MayTell (any_of key_form F.wrong_forms)
-        (formats_of de.old.decoder.formats) (R.source de.old.decoder.source)) }
-    ensures levels { de.new.decoder.levels ≡ de.old.decoder.levels }
-    ensures formats { de.new.decoder.formats ≡ de.old.decoder.formats }
+        de.old de.new result }
+    ensures taken { OnOk result (call.Advances R.source de.old de.new) }
+    ensures form { IfErr result (call.MayTell R.source (any_of key_form F.wrong_forms) de.old) }
+    ensures settings { SameSettings de.old.decoder de.new.decoder }
 {
     let outer = de.levels_left();
     let read = fields_within::<R, F>(de, names);
@@ -344,14 +339,11 @@ fn fields_within<'de, R: Read<'de>, F: ReadFields<'de, R>>(
     names: &[&str],
 ) -> Result<F>
     requires { length names.now ≡ F.count }
-    ensures read { TakesItem R.refusals (formats_of de.old.decoder.formats)
+    ensures read { call.TakesItem R.source R.refusals
         (IsStruct (texts names.now) (F.fields (context de.old.decoder.formats R.lends)))
-        de.old.decoder.levels (R.source de.old.decoder.source)
-        (R.source de.new.decoder.source) result }
-    ensures taken { OnOk result (Advances (R.source de.old.decoder.source)
-        (R.source de.new.decoder.source)) }
-    ensures form { IfErr result (MayTell (any_of key_form F.wrong_forms)
-        (formats_of de.old.decoder.formats) (R.source de.old.decoder.source)) }
+        de.old de.new result }
+    ensures taken { OnOk result (call.Advances R.source de.old de.new) }
+    ensures form { IfErr result (call.MayTell R.source (any_of key_form F.wrong_forms) de.old) }
     ensures formats { de.new.decoder.formats ≡ de.old.decoder.formats }
 {
     let mut remaining = map_head(de)?;

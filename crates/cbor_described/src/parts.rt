@@ -1,10 +1,10 @@
 //! Structs and enums that are read by a description of their parts.
 
 ghost use Rattle.std.specs.Prelude.{◌≡◌, IfErr, OnOk, length};
-ghost use Rattle.cbor_decode.specs.Gives.{Advances};
+ghost use Rattle.cbor_decode.specs.Decoder.{SameSettings};
 ghost use Rattle.cbor_decode_as.specs.Identifiers.{texts};
-ghost use Rattle.cbor_decode_as.specs.Takes.{TakesItem, context, formats_of};
-ghost use Rattle.cbor_de.specs.Forms.{MayTell};
+ghost use Rattle.cbor_decode_as.specs.Takes.{context};
+ghost use Rattle.cbor_de.specs.Calls as call;
 
 use cbor_de::{Deserialize, Deserializer, Read, Readable};
 use cbor_io::error::Result;
@@ -30,16 +30,12 @@ pub trait ReadParts<'de, R: Read<'de>>: ReadableParts {
     /// Reads the item at the front, by the names of the fields or the variants.
     fn read_parts(de: &mut Deserializer<R>, names: &[&str]) -> Result<Self>
         requires { length names.now ≡ Self.count }
-        ensures read { TakesItem R.refusals (formats_of de.old.decoder.formats)
+        ensures read { call.TakesItem R.source R.refusals
             (Self.reads (texts names.now) (context de.old.decoder.formats R.lends))
-            de.old.decoder.levels (R.source de.old.decoder.source)
-            (R.source de.new.decoder.source) result }
-        ensures taken { OnOk result (Advances (R.source de.old.decoder.source)
-            (R.source de.new.decoder.source)) }
-        ensures form { IfErr result (MayTell Self.wrong_forms
-            (formats_of de.old.decoder.formats) (R.source de.old.decoder.source)) }
-        ensures levels { de.new.decoder.levels ≡ de.old.decoder.levels }
-        ensures formats { de.new.decoder.formats ≡ de.old.decoder.formats };
+            de.old de.new result }
+        ensures taken { OnOk result (call.Advances R.source de.old de.new) }
+        ensures form { IfErr result (call.MayTell R.source Self.wrong_forms de.old) }
+        ensures settings { SameSettings de.old.decoder de.new.decoder };
 }
 
 /// A struct is read as its one part.
@@ -90,17 +86,12 @@ pub trait FromParts: Schema {
         Self::Parts: ReadParts<'de, R>,
         requires as_many { length names.now ≡ Self.Parts.count }
         requires named { texts names.now ≡ Self.names }
-        ensures read { TakesItem R.refusals (formats_of de.old.decoder.formats)
+        ensures read { call.TakesItem R.source R.refusals
             (λ r x. Self.Parts.reads Self.names (context de.old.decoder.formats R.lends) r
-            (Self.parts x))
-            de.old.decoder.levels (R.source de.old.decoder.source)
-            (R.source de.new.decoder.source) result }
-        ensures taken { OnOk result (Advances (R.source de.old.decoder.source)
-            (R.source de.new.decoder.source)) }
-        ensures form { IfErr result (MayTell Self.Parts.wrong_forms
-            (formats_of de.old.decoder.formats) (R.source de.old.decoder.source)) }
-        ensures levels { de.new.decoder.levels ≡ de.old.decoder.levels }
-        ensures formats { de.new.decoder.formats ≡ de.old.decoder.formats }
+            (Self.parts x)) de.old de.new result }
+        ensures taken { OnOk result (call.Advances R.source de.old de.new) }
+        ensures form { IfErr result (call.MayTell R.source Self.Parts.wrong_forms de.old) }
+        ensures settings { SameSettings de.old.decoder de.new.decoder }
     {
         match <Self::Parts as ReadParts<'de, R>>::read_parts(de, names) {
             Ok(parts) => Ok(Self::from_parts(parts)),

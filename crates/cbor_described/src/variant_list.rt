@@ -1,13 +1,14 @@
 //! Lists of variants, of which enums are read.
 
 ghost use Rattle.std.specs.Prelude.{◌≡◌, IfErr, OnOk};
-ghost use Rattle.cbor_decode.specs.Gives.{Advances};
+ghost use Rattle.cbor_decode.specs.Decoder.{SameSettings};
 ghost use Rattle.cbor_decode_as.specs.Enums.{IsEnum};
 ghost use Rattle.cbor_decode_as.specs.Identifiers.{texts};
-ghost use Rattle.cbor_decode_as.specs.Takes.{TakesItem, context, formats_of};
+ghost use Rattle.cbor_decode_as.specs.Takes.{context, formats_of};
 ghost use Rattle.cbor_decode_as.specs.Variants.{TakesContent};
 ghost use Rattle.cbor_model.specs.Readable.{PassesTags};
-ghost use Rattle.cbor_de.specs.Forms.{MayTell, MayTellContent, any_of, enum_form};
+ghost use Rattle.cbor_de.specs.Forms.{MayTellContent, any_of, enum_form};
+ghost use Rattle.cbor_de.specs.Calls as call;
 
 use crate::parts::{ReadParts, ReadableParts};
 use cbor_de::steps::{leave_to, no_part, parts, variant_head};
@@ -22,7 +23,9 @@ use cbor_parts::{FieldNames, Newtype, Struct, Tuple};
 /// A variant: `()` of no part, [`Newtype`], [`Tuple`] or [`Struct`].
 pub trait Variant: Sized + Drop {
     ghost use Rattle.cbor_model.specs.Readable.{Context};
+    ghost use Rattle.cbor_io.specs.declared.error.Error.{Error};
     ghost use Rattle.cbor_decode_as.specs.Enums.{Content};
+    ghost use Rattle.cbor_decode_as.specs.declared.variant.Form.{Form};
     ghost use Rattle.cbor_de.specs.Forms.{WrongForms};
 
     // What a variant's content means.
@@ -30,6 +33,9 @@ pub trait Variant: Sized + Drop {
 
     // By which codes an enum may be refused for the form of this content, and where.
     ghost wrong_forms: { WrongForms };
+
+    // How an identifier alone is refused, if it is.
+    ghost alone: { Form → Error → Type 0 };
 }
 
 /// A variant that is read from a source.
@@ -41,6 +47,7 @@ pub trait ReadVariant<'de, R: Read<'de>>: Variant {
             (R.source de.old.decoder.source) (R.source de.new.decoder.source) result }
         ensures form { IfErr result (MayTellContent Self.wrong_forms
             (formats_of de.old.decoder.formats) form (R.source de.old.decoder.source)) }
+        ensures alone { IfErr result (Self.alone form) }
         ensures formats { de.new.decoder.formats ≡ de.old.decoder.formats };
 }
 
@@ -51,6 +58,8 @@ impl Variant for () {
     ghost means = { λ c content u. IsNothing content u };
 
     ghost wrong_forms = { unit_form };
+
+    ghost alone = { λ form e. Unit {0} };
 }
 
 impl<'de, R: Read<'de>> ReadVariant<'de, R> for () {
@@ -60,12 +69,16 @@ impl<'de, R: Read<'de>> ReadVariant<'de, R> for () {
 }
 
 impl<T: Readable> Variant for Newtype<T> {
+    ghost use Rattle.std.specs.Prelude.{codes};
     ghost use Rattle.cbor_decode_as.specs.Enums.{IsPart};
+    ghost use Rattle.cbor_decode_as.specs.Variants.{TellsAlone, alone_text};
     ghost use Rattle.cbor_de.specs.Forms.{any_of, part_form};
 
     ghost means = { λ c content y. IsPart (T.reads c) content y.0 };
 
     ghost wrong_forms = { any_of part_form T.wrong_forms };
+
+    ghost alone = { TellsAlone (alone_text (codes "newtype")) };
 }
 
 impl<'de, R: Read<'de>, T: Deserialize<'de, R>> ReadVariant<'de, R> for Newtype<T> {
@@ -82,11 +95,15 @@ impl<'de, R: Read<'de>, T: Deserialize<'de, R>> ReadVariant<'de, R> for Newtype<
 }
 
 impl<F: ReadableTuple> Variant for Tuple<F> {
+    ghost use Rattle.std.specs.Prelude.{codes};
     ghost use Rattle.cbor_decode_as.specs.Enums.{AreParts};
+    ghost use Rattle.cbor_decode_as.specs.Variants.{TellsAlone, alone_text};
 
     ghost means = { λ c content y. AreParts (F.parts c) content y.0 };
 
     ghost wrong_forms = { F.wrong_forms };
+
+    ghost alone = { TellsAlone (alone_text (codes "tuple")) };
 }
 
 impl<'de, R: Read<'de>, F: ReadTuple<'de, R>> ReadVariant<'de, R> for Tuple<F> {
@@ -129,12 +146,16 @@ impl<N: FieldNames> Variant for Struct<N>
 where
     N::Parts: ReadableParts,
 {
+    ghost use Rattle.std.specs.Prelude.{codes};
     ghost use Rattle.cbor_decode_as.specs.Enums.{IsPart};
+    ghost use Rattle.cbor_decode_as.specs.Variants.{TellsAlone, alone_text};
     ghost use Rattle.cbor_de.specs.Forms.{any_of, part_form};
 
     ghost means = { λ c content y. IsPart (N.Parts.reads N.names c) content y.0 };
 
     ghost wrong_forms = { any_of part_form N.Parts.wrong_forms };
+
+    ghost alone = { TellsAlone (alone_text (codes "struct")) };
 }
 
 impl<'de, R: Read<'de>, N: FieldNames> ReadVariant<'de, R> for Struct<N>
@@ -237,17 +258,12 @@ pub(crate) fn read_variants<'de, R: Read<'de>, E: ReadVariants<'de, R>>(
     de: &mut Deserializer<R>,
     names: &[&str],
 ) -> Result<E>
-    ensures read { TakesItem R.refusals (formats_of de.old.decoder.formats)
+    ensures read { call.TakesItem R.source R.refusals
         (PassesTags (IsEnum (formats_of de.old.decoder.formats) (texts names.now)
-        (E.means (context de.old.decoder.formats R.lends))))
-        de.old.decoder.levels (R.source de.old.decoder.source)
-        (R.source de.new.decoder.source) result }
-    ensures taken { OnOk result (Advances (R.source de.old.decoder.source)
-        (R.source de.new.decoder.source)) }
-    ensures form { IfErr result (MayTell (any_of enum_form E.wrong_forms)
-        (formats_of de.old.decoder.formats) (R.source de.old.decoder.source)) }
-    ensures levels { de.new.decoder.levels ≡ de.old.decoder.levels }
-    ensures formats { de.new.decoder.formats ≡ de.old.decoder.formats }
+        (E.means (context de.old.decoder.formats R.lends)))) de.old de.new result }
+    ensures taken { OnOk result (call.Advances R.source de.old de.new) }
+    ensures form { IfErr result (call.MayTell R.source (any_of enum_form E.wrong_forms) de.old) }
+    ensures settings { SameSettings de.old.decoder de.new.decoder }
 {
     let outer = de.levels_left();
     let read = variants_within::<R, E>(de, names);
@@ -260,15 +276,11 @@ fn variants_within<'de, R: Read<'de>, E: ReadVariants<'de, R>>(
     de: &mut Deserializer<R>,
     names: &[&str],
 ) -> Result<E>
-    ensures read { TakesItem R.refusals (formats_of de.old.decoder.formats)
+    ensures read { call.TakesItem R.source R.refusals
         (PassesTags (IsEnum (formats_of de.old.decoder.formats) (texts names.now)
-        (E.means (context de.old.decoder.formats R.lends))))
-        de.old.decoder.levels (R.source de.old.decoder.source)
-        (R.source de.new.decoder.source) result }
-    ensures taken { OnOk result (Advances (R.source de.old.decoder.source)
-        (R.source de.new.decoder.source)) }
-    ensures form { IfErr result (MayTell (any_of enum_form E.wrong_forms)
-        (formats_of de.old.decoder.formats) (R.source de.old.decoder.source)) }
+        (E.means (context de.old.decoder.formats R.lends)))) de.old de.new result }
+    ensures taken { OnOk result (call.Advances R.source de.old de.new) }
+    ensures form { IfErr result (call.MayTell R.source (any_of enum_form E.wrong_forms) de.old) }
     ensures formats { de.new.decoder.formats ≡ de.old.decoder.formats }
 {
     let (index, form) = variant_head(de, names)?;

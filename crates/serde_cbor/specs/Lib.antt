@@ -40,6 +40,8 @@ pub use Rattle.cbor_decode.specs.AtEnd
 pub use Rattle.cbor_decode.specs.Memory
 pub use Rattle.cbor_decode.specs.FirstRefusal
 pub use Rattle.cbor_decode_as.specs.Takes
+pub use Rattle.cbor_de.specs.Calls
+pub use Rattle.cbor_de.specs.Access
 pub use Rattle.cbor_de.specs.Whole
 pub use Rattle.cbor_de.specs.Forms
 pub use Rattle.cbor_de.specs.Alike

@@ -1,12 +1,11 @@
 //! Vectors and arrays, which are read from arrays.
 
 ghost use Rattle.std.specs.Prelude.{◌≡◌, IfOk, IfErr, OnOk, vec_len};
-ghost use Rattle.cbor_decode.specs.Gives.{Advances};
-ghost use Rattle.cbor_io.specs.Error.{code_of};
+ghost use Rattle.cbor_decode.specs.Decoder.{SameSettings};
 ghost use Rattle.cbor_model.specs.Readable.{PassesTags};
 ghost use Rattle.cbor_decode_as.specs.Arrays.{AsArray, AreExactly, items_in};
-ghost use Rattle.cbor_decode_as.specs.Takes.{TakesItem, context, formats_of};
-ghost use Rattle.cbor_de.specs.Forms.{MayTell};
+ghost use Rattle.cbor_decode_as.specs.Takes.{context};
+ghost use Rattle.cbor_de.specs.Calls as call;
 
 use crate::de::Deserializer;
 use crate::deserialize::{Deserialize, DeserializeOwned, Readable};
@@ -69,17 +68,13 @@ fn exactly<'de, T: Deserialize<'de, R>, R: Read<'de>>(
     de: &mut Deserializer<R>,
     n: usize,
 ) -> Result<Vec<T>>
-    ensures read { TakesItem R.refusals (formats_of de.old.decoder.formats)
+    ensures read { call.TakesItem R.source R.refusals
         (PassesTags (AsArray (AreExactly (T.reads (context de.old.decoder.formats R.lends)) n)))
-        de.old.decoder.levels (R.source de.old.decoder.source) (R.source de.new.decoder.source)
-        (items_in result) }
-    ensures taken { OnOk result (Advances (R.source de.old.decoder.source)
-        (R.source de.new.decoder.source)) }
-    ensures form { IfErr result (MayTell T.wrong_forms
-        (formats_of de.old.decoder.formats) (R.source de.old.decoder.source)) }
+        de.old de.new (items_in result) }
+    ensures taken { OnOk result (call.Advances R.source de.old de.new) }
+    ensures form { IfErr result (call.MayTell R.source T.wrong_forms de.old) }
     ensures count { IfOk result (λ v. vec_len v ≡ n) }
-    ensures levels { de.new.decoder.levels ≡ de.old.decoder.levels }
-    ensures formats { de.new.decoder.formats ≡ de.old.decoder.formats }
+    ensures settings { SameSettings de.old.decoder de.new.decoder }
 {
     let mut items = Vec::new(de.decoder.alloc);
     let mut access = de.array()?;

@@ -13,7 +13,7 @@ returns-in-Ok-Some-clause-item g c =
     let old = c.args.de.now.decoder in
     let mid = c.peek.new.de.decoder in
     tag_peeked (g.R.Source.source old.source) (g.R.Source.source mid.source) (g.R.Source.source c.read_tag.new.self.decoder.source) c.in-Ok-Some.ensures.stays
-    old.formats mid.formats c.peek.ensures.formats old.levels mid.levels c.peek.ensures.levels c.read_tag.result c.read_tag.ensures.item
+    old.formats mid.formats c.peek.ensures.settings.formats old.levels mid.levels c.peek.ensures.settings.levels c.read_tag.result c.read_tag.ensures.item
 
 pub returns-in-Err-clause-refused : goal.returns-in-Err-clause-refused
 returns-in-Err-clause-refused g c =
@@ -31,7 +31,7 @@ returns-in-Ok-Some-clause-refused g c =
     let old = c.args.de.now.decoder in
     let mid = c.peek.new.de.decoder in
     untold_peeked g.R.Source.refusals (g.R.Source.source old.source) (g.R.Source.source mid.source) (g.R.Source.source c.read_tag.new.self.decoder.source) c.in-Ok-Some.ensures.stays
-    old.levels mid.levels c.peek.ensures.levels c.read_tag.result c.read_tag.ensures.read
+    old.levels mid.levels c.peek.ensures.settings.levels c.read_tag.result c.read_tag.ensures.read
 
 pub returns-in-Ok-Some-clause-took : goal.returns-in-Ok-Some-clause-took
 returns-in-Ok-Some-clause-took g c =

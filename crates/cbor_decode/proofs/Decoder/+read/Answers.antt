@@ -99,13 +99,13 @@ boxed-returns-clause-read g t c =
 -- ---- a level is given back
 
 pub array-overflow_add-self : goal.array-overflow_add-self
-array-overflow_add-self g t c = omega (arith, c.all_items-items.ensures.levels, c.in_ok-enter.ensures.below)
+array-overflow_add-self g t c = omega (arith, c.all_items-items.ensures.settings.levels, c.in_ok-enter.ensures.below)
 
 pub map-overflow_add-self : goal.map-overflow_add-self
-map-overflow_add-self g t c = omega (arith, c.pairs-map.ensures.levels, c.in_ok-enter.ensures.below)
+map-overflow_add-self g t c = omega (arith, c.pairs-map.ensures.settings.levels, c.in_ok-enter.ensures.below)
 
 pub tagged-overflow_add-self : goal.tagged-overflow_add-self
-tagged-overflow_add-self g t c = omega (arith, c.boxed-value.ensures.levels, c.in_ok-enter.ensures.below)
+tagged-overflow_add-self g t c = omega (arith, c.boxed-value.ensures.settings.levels, c.in_ok-enter.ensures.below)
 
 -- ---- an item alone
 
@@ -161,8 +161,8 @@ items-returns-in_err-item-clause-read g t c =
     let r = remaining_of c.items.remaining in
     let behind = remaining_of c.next.new.remaining in
     let b = c.in-Some.first in
-    let same : c.next.new.self.levels ≡ levels = c.in_ok-first.ensures.levels ∙ c.items.invariant.levels in
-    let same_formats : formats_of c.next.new.self.formats ≡ f = ap formats_of (c.in_ok-first.ensures.formats ∙ c.items.invariant.formats) in
+    let same : c.next.new.self.levels ≡ levels = c.in_ok-first.ensures.settings.levels ∙ c.items.invariant.levels in
+    let same_formats : formats_of c.next.new.self.formats ≡ f = ap formats_of (c.in_ok-first.ensures.settings.formats ∙ c.items.invariant.formats) in
     let first = subst (λ (o : Option ℕ). Step s t (λ l rest mid. first_at end_in_array r rest ≡ Ok (first_of_next c.next.new.remaining o, mid))) c.in-Some.is c.in_ok-first.ensures.read in
     let begun = step_then s0 s t (SoFar f levels all front r) (λ l rest mid. first_at end_in_array r rest ≡ Ok (Some (behind, b), mid)) (ItemBegun f levels all front behind b)
     (λ l bs rest mid so_far is. item_begins f levels all front r behind b l bs rest mid so_far is) c.items.invariant.so_far first in
@@ -183,8 +183,8 @@ items-items-preserved g t c =
     let behind = remaining_of c.next.new.remaining in
     let b = c.in-Some.first in
     let v = view c.in_ok-item.item in
-    let same : c.next.new.self.levels ≡ levels = c.in_ok-first.ensures.levels ∙ c.items.invariant.levels in
-    let same_formats : formats_of c.next.new.self.formats ≡ f = ap formats_of (c.in_ok-first.ensures.formats ∙ c.items.invariant.formats) in
+    let same : c.next.new.self.levels ≡ levels = c.in_ok-first.ensures.settings.levels ∙ c.items.invariant.levels in
+    let same_formats : formats_of c.next.new.self.formats ≡ f = ap formats_of (c.in_ok-first.ensures.settings.formats ∙ c.items.invariant.formats) in
     let pushed : map view c.push.new.items.items ≡ front ++ v ∷ [] = rw c.in_ok-push.ensures.items (map_push _ c.items.items.items c.in_ok-item.item) in
     let first = subst (λ (o : Option ℕ). Step s t (λ l rest mid. first_at end_in_array r rest ≡ Ok (first_of_next c.next.new.remaining o, mid))) c.in-Some.is c.in_ok-first.ensures.read in
     let begun = step_then s0 s t (SoFar f levels all front r) (λ l rest mid. first_at end_in_array r rest ≡ Ok (Some (behind, b), mid)) (ItemBegun f levels all front behind b)
@@ -194,8 +194,8 @@ items-items-preserved g t c =
     record {
       so_far = step_then s0 t u (ItemBegun f levels all front behind b) (λ l mid after. after_first (values f l) (inside (values f l) levels) b mid ≡ Ok (v, after)) (SoFar f levels all (map view c.push.new.items.items) behind)
           (λ l bs mid after h is. rw pushed (goes_on f levels all front behind b l bs mid after v h is)) begun item;
-      levels = c.in_ok-item.ensures.levels ∙ same;
-      formats = c.in_ok-item.ensures.formats ∙ c.in_ok-first.ensures.formats ∙ c.items.invariant.formats;
+      levels = c.in_ok-item.ensures.settings.levels ∙ same;
+      formats = c.in_ok-item.ensures.settings.formats ∙ c.in_ok-first.ensures.settings.formats ∙ c.items.invariant.formats;
     }
 
 pub items-returns-in_err-push-clause-read : goal.items-returns-in_err-push-clause-read
@@ -254,8 +254,8 @@ pairs-returns-in_err-key-clause-read g t c =
     let r = remaining_of c.pairs.remaining in
     let behind = remaining_of c.next.new.remaining in
     let b = c.in-Some.first in
-    let same : c.next.new.self.levels ≡ levels = c.in_ok-first.ensures.levels ∙ c.pairs.invariant.levels in
-    let same_formats : formats_of c.next.new.self.formats ≡ f = ap formats_of (c.in_ok-first.ensures.formats ∙ c.pairs.invariant.formats) in
+    let same : c.next.new.self.levels ≡ levels = c.in_ok-first.ensures.settings.levels ∙ c.pairs.invariant.levels in
+    let same_formats : formats_of c.next.new.self.formats ≡ f = ap formats_of (c.in_ok-first.ensures.settings.formats ∙ c.pairs.invariant.formats) in
     let may : may_begin_key f b ≡ true = sym (c.if-not-may_begin_key.ensures ∙ ap (λ (f : Formats). may_begin_key f b) same_formats) in
     let first = subst (λ (o : Option ℕ). Step s t (λ l rest mid. first_at end_in_map r rest ≡ Ok (first_of_next c.next.new.remaining o, mid))) c.in-Some.is c.in_ok-first.ensures.read in
     let begun = step_then s0 s t (PairsSoFar f levels all earlier r) (λ l rest mid. first_at end_in_map r rest ≡ Ok (Some (behind, b), mid)) (KeyBegun f levels all earlier behind b)
@@ -276,8 +276,8 @@ pairs-returns-then-not-may_begin_key-clause-read g t c =
     let r = remaining_of c.pairs.remaining in
     let behind = remaining_of c.next.new.remaining in
     let b = c.in-Some.first in
-    let same : c.next.new.self.levels ≡ levels = c.in_ok-first.ensures.levels ∙ c.pairs.invariant.levels in
-    let same_formats : formats_of c.next.new.self.formats ≡ f = ap formats_of (c.in_ok-first.ensures.formats ∙ c.pairs.invariant.formats) in
+    let same : c.next.new.self.levels ≡ levels = c.in_ok-first.ensures.settings.levels ∙ c.pairs.invariant.levels in
+    let same_formats : formats_of c.next.new.self.formats ≡ f = ap formats_of (c.in_ok-first.ensures.settings.formats ∙ c.pairs.invariant.formats) in
     let first = subst (λ (o : Option ℕ). Step s t (λ l rest mid. first_at end_in_map r rest ≡ Ok (first_of_next c.next.new.remaining o, mid))) c.in-Some.is c.in_ok-first.ensures.read in
     let begun = step_then s0 s t (PairsSoFar f levels all earlier r) (λ l rest mid. first_at end_in_map r rest ≡ Ok (Some (behind, b), mid)) (KeyBegun f levels all earlier behind b)
     (λ l bs rest mid so_far is. key_begins f levels all earlier r behind b l bs rest mid so_far is) c.pairs.invariant.so_far first in
@@ -298,8 +298,8 @@ pairs-returns-in_err-value-clause-read g t c =
     let r = remaining_of c.pairs.remaining in
     let behind = remaining_of c.next.new.remaining in
     let b = c.in-Some.first in
-    let same : c.next.new.self.levels ≡ levels = c.in_ok-first.ensures.levels ∙ c.pairs.invariant.levels in
-    let same_formats : formats_of c.next.new.self.formats ≡ f = ap formats_of (c.in_ok-first.ensures.formats ∙ c.pairs.invariant.formats) in
+    let same : c.next.new.self.levels ≡ levels = c.in_ok-first.ensures.settings.levels ∙ c.pairs.invariant.levels in
+    let same_formats : formats_of c.next.new.self.formats ≡ f = ap formats_of (c.in_ok-first.ensures.settings.formats ∙ c.pairs.invariant.formats) in
     let may : may_begin_key f b ≡ true = sym (c.if-not-may_begin_key.ensures ∙ ap (λ (f : Formats). may_begin_key f b) same_formats) in
     let first = subst (λ (o : Option ℕ). Step s t (λ l rest mid. first_at end_in_map r rest ≡ Ok (first_of_next c.next.new.remaining o, mid))) c.in-Some.is c.in_ok-first.ensures.read in
     let begun = step_then s0 s t (PairsSoFar f levels all earlier r) (λ l rest mid. first_at end_in_map r rest ≡ Ok (Some (behind, b), mid)) (KeyBegun f levels all earlier behind b)
@@ -309,8 +309,8 @@ pairs-returns-in_err-value-clause-read g t c =
     let key = subst_both (λ (f : Formats) (n : ℕ). Step t u (λ l mid after. after_first (values f l) (inside (values f l) n) b mid ≡ Ok (k, after))) same_formats same c.in_ok-key.ensures.read in
     let read = step_then s0 t u (KeyBegun f levels all earlier behind b) (λ l mid after. after_first (values f l) (inside (values f l) levels) b mid ≡ Ok (k, after)) (KeyRead f levels all earlier behind k)
     (λ l bs mid after h is. key_ends f levels all earlier behind b k l bs mid after h may is) begun key in
-    let same' : c.value_from.new.self.levels ≡ levels = c.in_ok-key.ensures.levels ∙ same in
-    let same_formats' : formats_of c.value_from.new.self.formats ≡ f = ap formats_of c.in_ok-key.ensures.formats ∙ same_formats in
+    let same' : c.value_from.new.self.levels ≡ levels = c.in_ok-key.ensures.settings.levels ∙ same in
+    let same_formats' : formats_of c.value_from.new.self.formats ≡ f = ap formats_of c.in_ok-key.ensures.settings.formats ∙ same_formats in
     let stops = subst_both (λ (f : Formats) (n : ℕ). Stopped g.R.Source.refusals (λ l. item_at (values f l) n) u (g.R.Source.source c.value.new.self.source) c.value.new.self.refusal c.in_err-value.field-0.0) same_formats' same' c.in_err-value.ensures.read in
     rw (passed.1, passed.2) (stopped_then g.R.Source.refusals (λ l. item_at (values f l) levels) (λ l bs. made_of (parts_at (pairs_of (values f l) (item_at (values f l) levels)) all bs)) s0 u c.value.new.self.refusal c.in_err-value.field-0.0 (KeyRead f levels all earlier behind k)
     (λ l bs mid d h is. value_faulted f levels all earlier behind k l bs mid d h is) read stops)
@@ -327,8 +327,8 @@ pairs-pairs-preserved g t c =
     let r = remaining_of c.pairs.remaining in
     let behind = remaining_of c.next.new.remaining in
     let b = c.in-Some.first in
-    let same : c.next.new.self.levels ≡ levels = c.in_ok-first.ensures.levels ∙ c.pairs.invariant.levels in
-    let same_formats : formats_of c.next.new.self.formats ≡ f = ap formats_of (c.in_ok-first.ensures.formats ∙ c.pairs.invariant.formats) in
+    let same : c.next.new.self.levels ≡ levels = c.in_ok-first.ensures.settings.levels ∙ c.pairs.invariant.levels in
+    let same_formats : formats_of c.next.new.self.formats ≡ f = ap formats_of (c.in_ok-first.ensures.settings.formats ∙ c.pairs.invariant.formats) in
     let may : may_begin_key f b ≡ true = sym (c.if-not-may_begin_key.ensures ∙ ap (λ (f : Formats). may_begin_key f b) same_formats) in
     let first = subst (λ (o : Option ℕ). Step s t (λ l rest mid. first_at end_in_map r rest ≡ Ok (first_of_next c.next.new.remaining o, mid))) c.in-Some.is c.in_ok-first.ensures.read in
     let begun = step_then s0 s t (PairsSoFar f levels all earlier r) (λ l rest mid. first_at end_in_map r rest ≡ Ok (Some (behind, b), mid)) (KeyBegun f levels all earlier behind b)
@@ -338,8 +338,8 @@ pairs-pairs-preserved g t c =
     let key = subst_both (λ (f : Formats) (n : ℕ). Step t u (λ l mid after. after_first (values f l) (inside (values f l) n) b mid ≡ Ok (k, after))) same_formats same c.in_ok-key.ensures.read in
     let read = step_then s0 t u (KeyBegun f levels all earlier behind b) (λ l mid after. after_first (values f l) (inside (values f l) levels) b mid ≡ Ok (k, after)) (KeyRead f levels all earlier behind k)
     (λ l bs mid after h is. key_ends f levels all earlier behind b k l bs mid after h may is) begun key in
-    let same' : c.value_from.new.self.levels ≡ levels = c.in_ok-key.ensures.levels ∙ same in
-    let same_formats' : formats_of c.value_from.new.self.formats ≡ f = ap formats_of c.in_ok-key.ensures.formats ∙ same_formats in
+    let same' : c.value_from.new.self.levels ≡ levels = c.in_ok-key.ensures.settings.levels ∙ same in
+    let same_formats' : formats_of c.value_from.new.self.formats ≡ f = ap formats_of c.in_ok-key.ensures.settings.formats ∙ same_formats in
     let v = view c.in_ok-value.value in
     let w = g.R.Source.source c.value.new.self.source in
     let value = subst_both (λ (f : Formats) (n : ℕ). Step u w (λ l mid after. item_at (values f l) n mid ≡ Ok (v, after))) same_formats' same' c.in_ok-value.ensures.read in
@@ -347,8 +347,8 @@ pairs-pairs-preserved g t c =
     record {
       so_far = step_then s0 u w (KeyRead f levels all earlier behind k) (λ l mid after. item_at (values f l) levels mid ≡ Ok (v, after)) (PairsSoFar f levels all (put_all (pair_views c.push.new.items.items) no_pairs) behind)
           (λ l bs mid after h is. rw pushed (pairs_go_on f levels all earlier behind k v l bs mid after h is)) read value;
-      levels = c.in_ok-value.ensures.levels ∙ same';
-      formats = c.in_ok-value.ensures.formats ∙ c.in_ok-key.ensures.formats ∙ c.in_ok-first.ensures.formats ∙ c.pairs.invariant.formats;
+      levels = c.in_ok-value.ensures.settings.levels ∙ same';
+      formats = c.in_ok-value.ensures.settings.formats ∙ c.in_ok-key.ensures.settings.formats ∙ c.in_ok-first.ensures.settings.formats ∙ c.pairs.invariant.formats;
     }
 
 pub pairs-returns-in_err-push-clause-read : goal.pairs-returns-in_err-push-clause-read

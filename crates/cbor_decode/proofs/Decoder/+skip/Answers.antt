@@ -38,7 +38,7 @@ skip-returns-clause-read g t c =
     let f = formats_of c.args.self.now.formats in
     let levels = c.args.self.now.levels in
     let b = c.in_ok-first.first in
-    let given = subst_both (λ (f : Formats) (n : ℕ). Gives g.R.Source.refusals (λ u. u) (λ l bs. passed (after_first (values f l) (inside (values f l) n) b bs)) (g.R.Source.source c.byte.new.self.source) (g.R.Source.source c.skip_from.new.self.source) c.skip_from.new.self.refusal c.skip_from.result) (ap formats_of c.in_ok-first.ensures.formats) c.in_ok-first.ensures.levels c.skip_from.ensures.read in
+    let given = subst_both (λ (f : Formats) (n : ℕ). Gives g.R.Source.refusals (λ u. u) (λ l bs. passed (after_first (values f l) (inside (values f l) n) b bs)) (g.R.Source.source c.byte.new.self.source) (g.R.Source.source c.skip_from.new.self.source) c.skip_from.new.self.refusal c.skip_from.result) (ap formats_of c.in_ok-first.ensures.settings.formats) c.in_ok-first.ensures.settings.levels c.skip_from.ensures.read in
     gives_then g.R.Source.refusals (λ u. u) (λ l bs. passed (after_first (values f l) (inside (values f l) levels) b bs)) (λ l bs. passed (item_at (values f l) levels bs)) _ _ _ _ _ (λ l bs mid. byte_at bs ≡ Ok (b, mid))
     (λ l bs mid is. ap (λ r. passed r) (value_first f l levels b bs mid is)) c.in_ok-first.ensures.read given
 
@@ -54,7 +54,7 @@ skip_from-returns-clause-read g t c =
     let f = formats_of c.args.self.now.formats in
     let levels = c.args.self.now.levels in
     let h = c.in_ok-head.head in
-    let given = subst_both (λ (f : Formats) (n : ℕ). Gives g.R.Source.refusals (λ u. u) (λ l bs. passed (after_head f l (inside (values f l) n) h bs)) (g.R.Source.source c.head.new.self.source) (g.R.Source.source c.skip_of.new.self.source) c.skip_of.new.self.refusal c.skip_of.result) (ap formats_of c.in_ok-head.ensures.formats) c.in_ok-head.ensures.levels c.skip_of.ensures.read in
+    let given = subst_both (λ (f : Formats) (n : ℕ). Gives g.R.Source.refusals (λ u. u) (λ l bs. passed (after_head f l (inside (values f l) n) h bs)) (g.R.Source.source c.head.new.self.source) (g.R.Source.source c.skip_of.new.self.source) c.skip_of.new.self.refusal c.skip_of.result) (ap formats_of c.in_ok-head.ensures.settings.formats) c.in_ok-head.ensures.settings.levels c.skip_of.ensures.read in
     gives_then g.R.Source.refusals (λ u. u) (λ l bs. passed (after_head f l (inside (values f l) levels) h bs)) (λ l bs. passed (after_first (values f l) (inside (values f l) levels) c.args.first bs)) _ _ _ _ _ _
     (λ l bs mid is. ap (λ r. passed r) (value_after f l (inside (values f l) levels) c.args.first is.0 h bs mid is.1)) c.in_ok-head.ensures.read given
 
@@ -120,13 +120,13 @@ skip_tagged-returns-clause-read g t c =
     (λ l bs. tag_passed f l levels left (omega (arith, c.in_ok-enter.ensures.inside)) n bs) given
 
 pub skip_array-overflow_add-self : goal.skip_array-overflow_add-self
-skip_array-overflow_add-self g t c = omega (arith, c.skip_items-passed.ensures.levels, c.in_ok-enter.ensures.below)
+skip_array-overflow_add-self g t c = omega (arith, c.skip_items-passed.ensures.settings.levels, c.in_ok-enter.ensures.below)
 
 pub skip_map-overflow_add-self : goal.skip_map-overflow_add-self
-skip_map-overflow_add-self g t c = omega (arith, c.skip_pairs-passed.ensures.levels, c.in_ok-enter.ensures.below)
+skip_map-overflow_add-self g t c = omega (arith, c.skip_pairs-passed.ensures.settings.levels, c.in_ok-enter.ensures.below)
 
 pub skip_tagged-overflow_add-self : goal.skip_tagged-overflow_add-self
-skip_tagged-overflow_add-self g t c = omega (arith, c.skip-passed.ensures.levels, c.in_ok-enter.ensures.below)
+skip_tagged-overflow_add-self g t c = omega (arith, c.skip-passed.ensures.settings.levels, c.in_ok-enter.ensures.below)
 
 -- ---- items
 
@@ -162,8 +162,8 @@ skip_items-returns-in_err-skip_from-clause-read g t c =
     let r = remaining_of c.items.remaining in
     let behind = remaining_of c.next.new.remaining in
     let b = c.in-Some.first in
-    let same : c.next.new.self.levels ≡ levels = c.in_ok-first.ensures.levels ∙ c.items.invariant.levels in
-    let same_formats : formats_of c.next.new.self.formats ≡ f = ap formats_of (c.in_ok-first.ensures.formats ∙ c.items.invariant.formats) in
+    let same : c.next.new.self.levels ≡ levels = c.in_ok-first.ensures.settings.levels ∙ c.items.invariant.levels in
+    let same_formats : formats_of c.next.new.self.formats ≡ f = ap formats_of (c.in_ok-first.ensures.settings.formats ∙ c.items.invariant.formats) in
     let first = subst (λ (o : Option ℕ). Step s t (λ l rest mid. first_at end_in_array r rest ≡ Ok (first_of_next c.next.new.remaining o, mid))) c.in-Some.is c.in_ok-first.ensures.read in
     let begun = step_then s0 s t (ItemsSoFar f levels all r) (λ l rest mid. first_at end_in_array r rest ≡ Ok (Some (behind, b), mid)) (PartBegun (items f levels all) all behind b)
     (λ l bs rest mid so_far is. part_begins (items f levels all) all r behind b l bs rest mid so_far is) c.items.invariant.so_far first in
@@ -183,8 +183,8 @@ skip_items-items-preserved g t c =
     let r = remaining_of c.items.remaining in
     let behind = remaining_of c.next.new.remaining in
     let b = c.in-Some.first in
-    let same : c.next.new.self.levels ≡ levels = c.in_ok-first.ensures.levels ∙ c.items.invariant.levels in
-    let same_formats : formats_of c.next.new.self.formats ≡ f = ap formats_of (c.in_ok-first.ensures.formats ∙ c.items.invariant.formats) in
+    let same : c.next.new.self.levels ≡ levels = c.in_ok-first.ensures.settings.levels ∙ c.items.invariant.levels in
+    let same_formats : formats_of c.next.new.self.formats ≡ f = ap formats_of (c.in_ok-first.ensures.settings.formats ∙ c.items.invariant.formats) in
     let first = subst (λ (o : Option ℕ). Step s t (λ l rest mid. first_at end_in_array r rest ≡ Ok (first_of_next c.next.new.remaining o, mid))) c.in-Some.is c.in_ok-first.ensures.read in
     let begun = step_then s0 s t (ItemsSoFar f levels all r) (λ l rest mid. first_at end_in_array r rest ≡ Ok (Some (behind, b), mid)) (PartBegun (items f levels all) all behind b)
     (λ l bs rest mid so_far is. part_begins (items f levels all) all r behind b l bs rest mid so_far is) c.items.invariant.so_far first in
@@ -193,8 +193,8 @@ skip_items-items-preserved g t c =
       so_far = step_then s0 t u (PartBegun (items f levels all) all behind b) (λ l mid after. passed (after_first (values f l) (inside (values f l) levels) b mid) ≡ Ok (tt, after)) (ItemsSoFar f levels all behind)
           (λ l bs mid after h is. item_passed f levels all behind b l bs mid after h is) begun item;
       leads = chunks.item_done f levels s0 t u all behind b (chunks.item_begins f levels s0 s t all r behind b c.items.invariant.leads first) item;
-      levels = c.in_ok-skip_from.ensures.levels ∙ same;
-      formats = c.in_ok-skip_from.ensures.formats ∙ c.in_ok-first.ensures.formats ∙ c.items.invariant.formats;
+      levels = c.in_ok-skip_from.ensures.settings.levels ∙ same;
+      formats = c.in_ok-skip_from.ensures.settings.formats ∙ c.in_ok-first.ensures.settings.formats ∙ c.items.invariant.formats;
     }
 
 pub skip_items-returns-clause-read : goal.skip_items-returns-clause-read
@@ -245,8 +245,8 @@ skip_pairs-returns-then-not-may_begin_key-clause-read g t c =
     let r = remaining_of c.pairs.remaining in
     let behind = remaining_of c.next.new.remaining in
     let b = c.in-Some.first in
-    let same : c.next.new.self.levels ≡ levels = c.in_ok-first.ensures.levels ∙ c.pairs.invariant.levels in
-    let same_formats : formats_of c.next.new.self.formats ≡ f = ap formats_of (c.in_ok-first.ensures.formats ∙ c.pairs.invariant.formats) in
+    let same : c.next.new.self.levels ≡ levels = c.in_ok-first.ensures.settings.levels ∙ c.pairs.invariant.levels in
+    let same_formats : formats_of c.next.new.self.formats ≡ f = ap formats_of (c.in_ok-first.ensures.settings.formats ∙ c.pairs.invariant.formats) in
     let first = subst (λ (o : Option ℕ). Step s t (λ l rest mid. first_at end_in_map r rest ≡ Ok (first_of_next c.next.new.remaining o, mid))) c.in-Some.is c.in_ok-first.ensures.read in
     let begun = step_then s0 s t (PairsSoFar f levels all r) (λ l rest mid. first_at end_in_map r rest ≡ Ok (Some (behind, b), mid)) (PartBegun (pairs f levels all) all behind b)
     (λ l bs rest mid so_far is. part_begins (pairs f levels all) all r behind b l bs rest mid so_far is) c.pairs.invariant.so_far first in
@@ -266,8 +266,8 @@ skip_pairs-returns-in_err-skip_from-clause-read g t c =
     let r = remaining_of c.pairs.remaining in
     let behind = remaining_of c.next.new.remaining in
     let b = c.in-Some.first in
-    let same : c.next.new.self.levels ≡ levels = c.in_ok-first.ensures.levels ∙ c.pairs.invariant.levels in
-    let same_formats : formats_of c.next.new.self.formats ≡ f = ap formats_of (c.in_ok-first.ensures.formats ∙ c.pairs.invariant.formats) in
+    let same : c.next.new.self.levels ≡ levels = c.in_ok-first.ensures.settings.levels ∙ c.pairs.invariant.levels in
+    let same_formats : formats_of c.next.new.self.formats ≡ f = ap formats_of (c.in_ok-first.ensures.settings.formats ∙ c.pairs.invariant.formats) in
     let first = subst (λ (o : Option ℕ). Step s t (λ l rest mid. first_at end_in_map r rest ≡ Ok (first_of_next c.next.new.remaining o, mid))) c.in-Some.is c.in_ok-first.ensures.read in
     let begun = step_then s0 s t (PairsSoFar f levels all r) (λ l rest mid. first_at end_in_map r rest ≡ Ok (Some (behind, b), mid)) (PartBegun (pairs f levels all) all behind b)
     (λ l bs rest mid so_far is. part_begins (pairs f levels all) all r behind b l bs rest mid so_far is) c.pairs.invariant.so_far first in
@@ -288,8 +288,8 @@ skip_pairs-returns-in_err-skip-clause-read g t c =
     let r = remaining_of c.pairs.remaining in
     let behind = remaining_of c.next.new.remaining in
     let b = c.in-Some.first in
-    let same : c.next.new.self.levels ≡ levels = c.in_ok-first.ensures.levels ∙ c.pairs.invariant.levels in
-    let same_formats : formats_of c.next.new.self.formats ≡ f = ap formats_of (c.in_ok-first.ensures.formats ∙ c.pairs.invariant.formats) in
+    let same : c.next.new.self.levels ≡ levels = c.in_ok-first.ensures.settings.levels ∙ c.pairs.invariant.levels in
+    let same_formats : formats_of c.next.new.self.formats ≡ f = ap formats_of (c.in_ok-first.ensures.settings.formats ∙ c.pairs.invariant.formats) in
     let first = subst (λ (o : Option ℕ). Step s t (λ l rest mid. first_at end_in_map r rest ≡ Ok (first_of_next c.next.new.remaining o, mid))) c.in-Some.is c.in_ok-first.ensures.read in
     let begun = step_then s0 s t (PairsSoFar f levels all r) (λ l rest mid. first_at end_in_map r rest ≡ Ok (Some (behind, b), mid)) (PartBegun (pairs f levels all) all behind b)
     (λ l bs rest mid so_far is. part_begins (pairs f levels all) all r behind b l bs rest mid so_far is) c.pairs.invariant.so_far first in
@@ -298,8 +298,8 @@ skip_pairs-returns-in_err-skip-clause-read g t c =
     let key = subst_both (λ (f : Formats) (n : ℕ). Step t u (λ l mid after. passed (after_first (values f l) (inside (values f l) n) b mid) ≡ Ok (tt, after))) same_formats same c.in_ok-skip_from.ensures.read in
     let read = step_then s0 t u (PartBegun (pairs f levels all) all behind b) (λ l mid after. passed (after_first (values f l) (inside (values f l) levels) b mid) ≡ Ok (tt, after)) (KeyPassed f levels all behind)
     (λ l bs mid after h is. key_passed f levels all behind b l bs mid after h may is) begun key in
-    let same' : c.skip_from.new.self.levels ≡ levels = c.in_ok-skip_from.ensures.levels ∙ same in
-    let same_formats' : formats_of c.skip_from.new.self.formats ≡ f = ap formats_of c.in_ok-skip_from.ensures.formats ∙ same_formats in
+    let same' : c.skip_from.new.self.levels ≡ levels = c.in_ok-skip_from.ensures.settings.levels ∙ same in
+    let same_formats' : formats_of c.skip_from.new.self.formats ≡ f = ap formats_of c.in_ok-skip_from.ensures.settings.formats ∙ same_formats in
     let stops = subst_both (λ (f : Formats) (n : ℕ). Stopped g.R.Source.refusals (λ l bs. passed (item_at (values f l) n bs)) u (g.R.Source.source c.skip.new.self.source) c.skip.new.self.refusal c.in_err-skip.field-0.0) same_formats' same' c.in_err-skip.ensures.read in
     rw (is_err.1, is_err.2) (stopped_then g.R.Source.refusals (λ l bs. passed (item_at (values f l) levels bs)) (λ l bs. passed (parts_at (pairs f levels all l) all bs)) s0 u c.skip.new.self.refusal c.in_err-skip.field-0.0 (KeyPassed f levels all behind)
     (λ l bs mid d h is. skipped.value_stops f levels all behind l bs mid d h is) read stops)
@@ -315,8 +315,8 @@ skip_pairs-pairs-preserved g t c =
     let r = remaining_of c.pairs.remaining in
     let behind = remaining_of c.next.new.remaining in
     let b = c.in-Some.first in
-    let same : c.next.new.self.levels ≡ levels = c.in_ok-first.ensures.levels ∙ c.pairs.invariant.levels in
-    let same_formats : formats_of c.next.new.self.formats ≡ f = ap formats_of (c.in_ok-first.ensures.formats ∙ c.pairs.invariant.formats) in
+    let same : c.next.new.self.levels ≡ levels = c.in_ok-first.ensures.settings.levels ∙ c.pairs.invariant.levels in
+    let same_formats : formats_of c.next.new.self.formats ≡ f = ap formats_of (c.in_ok-first.ensures.settings.formats ∙ c.pairs.invariant.formats) in
     let first = subst (λ (o : Option ℕ). Step s t (λ l rest mid. first_at end_in_map r rest ≡ Ok (first_of_next c.next.new.remaining o, mid))) c.in-Some.is c.in_ok-first.ensures.read in
     let begun = step_then s0 s t (PairsSoFar f levels all r) (λ l rest mid. first_at end_in_map r rest ≡ Ok (Some (behind, b), mid)) (PartBegun (pairs f levels all) all behind b)
     (λ l bs rest mid so_far is. part_begins (pairs f levels all) all r behind b l bs rest mid so_far is) c.pairs.invariant.so_far first in
@@ -325,16 +325,16 @@ skip_pairs-pairs-preserved g t c =
     let key = subst_both (λ (f : Formats) (n : ℕ). Step t u (λ l mid after. passed (after_first (values f l) (inside (values f l) n) b mid) ≡ Ok (tt, after))) same_formats same c.in_ok-skip_from.ensures.read in
     let read = step_then s0 t u (PartBegun (pairs f levels all) all behind b) (λ l mid after. passed (after_first (values f l) (inside (values f l) levels) b mid) ≡ Ok (tt, after)) (KeyPassed f levels all behind)
     (λ l bs mid after h is. key_passed f levels all behind b l bs mid after h may is) begun key in
-    let same' : c.skip_from.new.self.levels ≡ levels = c.in_ok-skip_from.ensures.levels ∙ same in
-    let same_formats' : formats_of c.skip_from.new.self.formats ≡ f = ap formats_of c.in_ok-skip_from.ensures.formats ∙ same_formats in
+    let same' : c.skip_from.new.self.levels ≡ levels = c.in_ok-skip_from.ensures.settings.levels ∙ same in
+    let same_formats' : formats_of c.skip_from.new.self.formats ≡ f = ap formats_of c.in_ok-skip_from.ensures.settings.formats ∙ same_formats in
     let w = g.R.Source.source c.skip.new.self.source in
     let value = subst_both (λ (f : Formats) (n : ℕ). Step u w (λ l mid after. passed (item_at (values f l) n mid) ≡ Ok (tt, after))) same_formats' same' c.in_ok-skip.ensures.read in
     record {
       so_far = step_then s0 u w (KeyPassed f levels all behind) (λ l mid after. passed (item_at (values f l) levels mid) ≡ Ok (tt, after)) (PairsSoFar f levels all behind)
           (λ l bs mid after h is. pair_passed f levels all behind l bs mid after h is) read value;
       leads = chunks.value_done f levels s0 u w all behind (chunks.key_done f levels s0 t u all behind b (chunks.key_begins f levels s0 s t all r behind b c.pairs.invariant.leads first) key) value;
-      levels = c.in_ok-skip.ensures.levels ∙ same';
-      formats = c.in_ok-skip.ensures.formats ∙ c.in_ok-skip_from.ensures.formats ∙ c.in_ok-first.ensures.formats ∙ c.pairs.invariant.formats;
+      levels = c.in_ok-skip.ensures.settings.levels ∙ same';
+      formats = c.in_ok-skip.ensures.settings.formats ∙ c.in_ok-skip_from.ensures.settings.formats ∙ c.in_ok-first.ensures.settings.formats ∙ c.pairs.invariant.formats;
     }
 
 pub skip_pairs-returns-clause-read : goal.skip_pairs-returns-clause-read

@@ -67,8 +67,8 @@ chunks-preserved g c =
       so_far = step_then _ t u (Behind major s.buffer b) (λ l mid after. content (chunk_at (λ n. exceeds_most l.room (length t.buffer + n)) major b mid) ≡ Ok (got.some, after)) (λ l bs rest. BytesSoFar (exceeds_most l.room) major u.buffer bs rest)
           (λ l bs mid after h is. rw buffer (chunk_goes_on (exceeds_most l.room) major s.buffer got.some bs h.rest mid after b c.if-first.false h.first (ap (λ (k : ℕ). content (chunk_at (λ n. exceeds_most l.room (k + n)) major b mid)) (sym same) ∙ is) h.so_far)) begun got.step;
       counted = omega (arith, ap length buffer, length-append s.buffer got.some, c.chunks.invariant.counted, got.counted, c.in_ok-first.ensures.taken.further);
-      levels = c.in_ok-chunk.ensures.levels ∙ c.in_ok-first.ensures.levels ∙ c.chunks.invariant.levels;
-      formats = c.in_ok-chunk.ensures.formats ∙ c.in_ok-first.ensures.formats ∙ c.chunks.invariant.formats;
+      levels = c.in_ok-chunk.ensures.settings.levels ∙ c.in_ok-first.ensures.settings.levels ∙ c.chunks.invariant.levels;
+      formats = c.in_ok-chunk.ensures.settings.formats ∙ c.in_ok-first.ensures.settings.formats ∙ c.chunks.invariant.formats;
     }
 
 pub chunks-smaller : goal.chunks-smaller

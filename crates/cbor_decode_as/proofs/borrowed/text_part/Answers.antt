@@ -34,7 +34,7 @@ returns-in-Ok-join g c =
     let end : c.offset-end.result ≡ t.offset = omega (arith, c.offset-end.ensures, c.take_buffer.follows.holds-at-none.count) in
     let step = joined_step s m t m.buffer (part_bytes p) c.take_buffer.ensures.bytes c.take_buffer.follows.holds-at-none c.in-Ok-join.ensures.read in
     let lent = text_lent g.R.Source.refusals g.R.Source.lends (head.Text None) s t p c.offset-end.result c.text_of-in-None.result step c.take_buffer.ensures.long c.text_of-in-None.ensures in
-    ((refl, λ _. tt, (c.in-Ok-join.ensures.levels, c.in-Ok-join.ensures.formats, subst (λ (k : Option ℕ). LentText g.R.Source.refusals g.R.Source.lends (head.Text k) s t c.text_of-in-None.result) (sym c.in-None.is) lent, part_no_key p c.offset-end.result c.text_of-in-None.result c.text_of-in-None.ensures, part_only _ p c.offset-end.result c.text_of-in-None.result c.text_of-in-None.ensures, subst (λ (k : Option ℕ). IfErr c.text_of-in-None.result (UnreadBy g.R.Source.refusals (behind_string (head.Text k)) s)) (sym c.in-None.is) (part_told g.R.Source.refusals s t None p c.offset-end.result c.text_of-in-None.result step end c.text_of-in-None.ensures))), record { after_borrow = tt })
+    ((refl, λ _. tt, (c.in-Ok-join.ensures.settings.levels, c.in-Ok-join.ensures.settings.formats, subst (λ (k : Option ℕ). LentText g.R.Source.refusals g.R.Source.lends (head.Text k) s t c.text_of-in-None.result) (sym c.in-None.is) lent, part_no_key p c.offset-end.result c.text_of-in-None.result c.text_of-in-None.ensures, part_only _ p c.offset-end.result c.text_of-in-None.result c.text_of-in-None.ensures, subst (λ (k : Option ℕ). IfErr c.text_of-in-None.result (UnreadBy g.R.Source.refusals (behind_string (head.Text k)) s)) (sym c.in-None.is) (part_told g.R.Source.refusals s t None p c.offset-end.result c.text_of-in-None.result step end c.text_of-in-None.ensures))), record { after_borrow = tt })
 
 pub returns-then-not-has_room : goal.returns-then-not-has_room
 returns-then-not-has_room g c =
@@ -51,7 +51,7 @@ returns-then-not-has_room g c =
     let stops = kept_stop g.R.Source.refusals (λ l. content_at l (head.Text (Some n))) s kept r q is (text_too_long g.R.Source.refusals s n kept r (sym c.if-not-has_room.ensures) e.refused e.kept) in
     let no_key : IsNoKey (Stopped q) = λ key. (let code = at.0 in cc) in
     let memory : UnreadOnly (asks_head asks (head.Text (Some n)) ≡ true) (Stopped q) = λ memory. absurd (let code = at.0 in cc) in
-    ((refl, λ _. tt, (c.stopped.ensures.levels ∙ e.levels, c.stopped.ensures.formats ∙ e.formats, subst (λ (k : Option ℕ). LentText g.R.Source.refusals g.R.Source.lends (head.Text k) s t (Err (Stopped q))) (sym c.in-Some.is) (content_refuses_text g.R.Source.refusals (head.Text (Some n)) s q stops (took_same (ap g.R.Source.source (c.stopped.ensures.source ∙ e.source)))), no_key, subst (λ (k : Option ℕ). UnreadOnly (asks_head asks (head.Text k) ≡ true) (Stopped q)) (sym c.in-Some.is) memory, subst (λ (k : Option ℕ). UnreadBy g.R.Source.refusals (behind_string (head.Text k)) s (Stopped q)) (sym c.in-Some.is) (text_by g.R.Source.refusals s (Some n) q stops))), record { after_borrow = tt })
+    ((refl, λ _. tt, (c.stopped.ensures.settings.levels ∙ e.settings.levels, c.stopped.ensures.settings.formats ∙ e.settings.formats, subst (λ (k : Option ℕ). LentText g.R.Source.refusals g.R.Source.lends (head.Text k) s t (Err (Stopped q))) (sym c.in-Some.is) (content_refuses_text g.R.Source.refusals (head.Text (Some n)) s q stops (took_same (ap g.R.Source.source (c.stopped.ensures.source ∙ e.source)))), no_key, subst (λ (k : Option ℕ). UnreadOnly (asks_head asks (head.Text k) ≡ true) (Stopped q)) (sym c.in-Some.is) memory, subst (λ (k : Option ℕ). UnreadBy g.R.Source.refusals (behind_string (head.Text k)) s (Stopped q)) (sym c.in-Some.is) (text_by g.R.Source.refusals s (Some n) q stops))), record { after_borrow = tt })
 
 pub returns-in-Err : goal.returns-in-Err
 returns-in-Err g c =
@@ -76,4 +76,4 @@ returns-in-Err-join g c =
     let e = c.in-Err-join.ensures in
     let asks = asks_for g.R.Source.refusals g.R.Source.lends in
     let stops = kept_stop g.R.Source.refusals (λ l. content_at l (head.Text None)) s kept r q is e.read.told in
-    ((refl, λ _. tt, (c.stopped-in-Err-join.ensures.levels ∙ e.levels, c.stopped-in-Err-join.ensures.formats ∙ e.formats, subst (λ (k : Option ℕ). LentText g.R.Source.refusals g.R.Source.lends (head.Text k) s t (Err (Stopped q))) (sym c.in-None.is) (content_refuses_text g.R.Source.refusals (head.Text None) s q stops (some_then _ _ _ e.read.took (took_same (ap g.R.Source.source c.stopped-in-Err-join.ensures.source)))), kept_no_key kept r q is e.no_key, subst (λ (k : Option ℕ). UnreadOnly (asks_head asks (head.Text k) ≡ true) (Stopped q)) (sym c.in-None.is) (kept_only (asks.joined ≡ true) kept r q is e.memory), subst (λ (k : Option ℕ). UnreadBy g.R.Source.refusals (behind_string (head.Text k)) s (Stopped q)) (sym c.in-None.is) (text_by g.R.Source.refusals s None q stops))), record { after_borrow = tt })
+    ((refl, λ _. tt, (c.stopped-in-Err-join.ensures.settings.levels ∙ e.settings.levels, c.stopped-in-Err-join.ensures.settings.formats ∙ e.settings.formats, subst (λ (k : Option ℕ). LentText g.R.Source.refusals g.R.Source.lends (head.Text k) s t (Err (Stopped q))) (sym c.in-None.is) (content_refuses_text g.R.Source.refusals (head.Text None) s q stops (some_then _ _ _ e.read.took (took_same (ap g.R.Source.source c.stopped-in-Err-join.ensures.source)))), kept_no_key kept r q is e.no_key, subst (λ (k : Option ℕ). UnreadOnly (asks_head asks (head.Text k) ≡ true) (Stopped q)) (sym c.in-None.is) (kept_only (asks.joined ≡ true) kept r q is e.memory), subst (λ (k : Option ℕ). UnreadBy g.R.Source.refusals (behind_string (head.Text k)) s (Stopped q)) (sym c.in-None.is) (text_by g.R.Source.refusals s None q stops))), record { after_borrow = tt })

@@ -14,7 +14,7 @@ returns-clause-read g c =
     let m = g.R.Source.source c.more.new.self.source in
     let t = g.R.Source.source c.key_begins.new.decoder.source in
     let more : c.in_ok-more.field-0 ≡ true = search rules in
-    let front = subst (λ (f : Formats). Step m t (λ l bs rest. key_front (formats_of f) bs ≡ Ok (tt, rest))) c.more.ensures.formats c.in_ok-key_begins.ensures.read in
+    let front = subst (λ (f : Formats). Step m t (λ l bs rest. key_front (formats_of f) bs ≡ Ok (tt, rest))) c.more.ensures.settings.formats c.in_ok-key_begins.ensures.read in
     pair_comes s m (formats_of old.formats) c.args.remaining.now c.more.new.remaining c.in_ok-more.field-0 t more c.in_ok-more.ensures.read front
 
 pub returns-in_err-key_begins-clause-read : goal.returns-in_err-key_begins-clause-read
@@ -26,5 +26,5 @@ returns-in_err-key_begins-clause-read g c =
     let m = g.R.Source.source c.more.new.self.source in
     let r = c.in_err-key_begins.field-0.0 in
     let more : c.in_ok-more.field-0 ≡ true = search rules in
-    let stopped = subst (λ (f : Formats). Stopped g.R.Source.refusals (λ l. key_front (formats_of f)) m (g.R.Source.source new.source) new.refusal r) c.more.ensures.formats c.in_err-key_begins.ensures.read in
+    let stopped = subst (λ (f : Formats). Stopped g.R.Source.refusals (λ l. key_front (formats_of f)) m (g.R.Source.source new.source) new.refusal r) c.more.ensures.settings.formats c.in_err-key_begins.ensures.read in
     rw (passed.1, passed.2) (λ e made. front_refused s m (formats_of old.formats) c.args.remaining.now c.more.new.remaining c.in_ok-more.field-0 g.R.Source.refusals new.refusal r e more c.in_ok-more.ensures.read made stopped)

@@ -20,8 +20,8 @@ returns-in_err-read_unit-clause-read g c =
     let s = g.R.Source.source old.source in
     let a = g.R.Source.source mid.source in
     let e = c.in_err-read_unit.field-0.0 in
-    let at = subst (λ (f : Formats). TakesItem g.R.Source.refusals (formats_of f) (PassesTags IsUnit) mid.levels a (g.R.Source.source c.read_unit.new.decoder.source) (Err e)) c.in_ok-expect_item.ensures.formats c.in_err-read_unit.ensures.read in
-    let here = subst (λ (n : ℕ). TakesItem g.R.Source.refusals (formats_of old.formats) (PassesTags IsUnit) n a (g.R.Source.source c.read_unit.new.decoder.source) (Err e)) c.in_ok-expect_item.ensures.levels at in
+    let at = subst (λ (f : Formats). TakesItem g.R.Source.refusals (formats_of f) (PassesTags IsUnit) mid.levels a (g.R.Source.source c.read_unit.new.decoder.source) (Err e)) c.in_ok-expect_item.ensures.settings.formats c.in_err-read_unit.ensures.read in
+    let here = subst (λ (n : ℕ). TakesItem g.R.Source.refusals (formats_of old.formats) (PassesTags IsUnit) n a (g.R.Source.source c.read_unit.new.decoder.source) (Err e)) c.in_ok-expect_item.ensures.settings.levels at in
     rw (passed.1, passed.2) (item_lacks (PassesTags IsUnit) (formats_of old.formats) old.levels c.args.remaining c.expect_item.new.remaining g.R.Source.refusals s e a c.in_ok-expect_item.ensures.read here)
 
 pub returns-in_err-end_array-clause-read : goal.returns-in_err-end_array-clause-read
@@ -33,8 +33,8 @@ returns-in_err-end_array-clause-read g c =
     let a = g.R.Source.source mid.source in
     let b = g.R.Source.source c.read_unit.new.decoder.source in
     let x = tt in
-    let at = subst (λ (f : Formats). TakesItem g.R.Source.refusals (formats_of f) (PassesTags IsUnit) mid.levels a b (Ok x)) c.in_ok-expect_item.ensures.formats c.in_ok-read_unit.ensures.read in
-    let here = subst (λ (n : ℕ). TakesItem g.R.Source.refusals (formats_of old.formats) (PassesTags IsUnit) n a b (Ok x)) c.in_ok-expect_item.ensures.levels at in
+    let at = subst (λ (f : Formats). TakesItem g.R.Source.refusals (formats_of f) (PassesTags IsUnit) mid.levels a b (Ok x)) c.in_ok-expect_item.ensures.settings.formats c.in_ok-read_unit.ensures.read in
+    let here = subst (λ (n : ℕ). TakesItem g.R.Source.refusals (formats_of old.formats) (PassesTags IsUnit) n a b (Ok x)) c.in_ok-expect_item.ensures.settings.levels at in
     rw (passed.1, passed.2) (end_left (PassesTags IsUnit) old.formats old.levels c.args.remaining c.expect_item.new.remaining g.R.Source.refusals s a b (g.R.Source.source c.end_array.new.decoder.source) x c.in_err-end_array.field-0.0 c.in_ok-expect_item.ensures.read here c.in_err-end_array.ensures.read)
 
 pub returns-clause-read : goal.returns-clause-read
@@ -45,6 +45,6 @@ returns-clause-read g c =
     let a = g.R.Source.source mid.source in
     let b = g.R.Source.source c.read_unit.new.decoder.source in
     let x = tt in
-    let at = subst (λ (f : Formats). TakesItem g.R.Source.refusals (formats_of f) (PassesTags IsUnit) mid.levels a b (Ok x)) c.in_ok-expect_item.ensures.formats c.in_ok-read_unit.ensures.read in
-    let here = subst (λ (n : ℕ). TakesItem g.R.Source.refusals (formats_of old.formats) (PassesTags IsUnit) n a b (Ok x)) c.in_ok-expect_item.ensures.levels at in
+    let at = subst (λ (f : Formats). TakesItem g.R.Source.refusals (formats_of f) (PassesTags IsUnit) mid.levels a b (Ok x)) c.in_ok-expect_item.ensures.settings.formats c.in_ok-read_unit.ensures.read in
+    let here = subst (λ (n : ℕ). TakesItem g.R.Source.refusals (formats_of old.formats) (PassesTags IsUnit) n a b (Ok x)) c.in_ok-expect_item.ensures.settings.levels at in
     only_taken (PassesTags IsUnit) (formats_of old.formats) old.levels c.args.remaining c.expect_item.new.remaining s a b (g.R.Source.source c.end_array.new.decoder.source) x c.in_ok-expect_item.ensures.read here c.in_ok-end_array.ensures.read

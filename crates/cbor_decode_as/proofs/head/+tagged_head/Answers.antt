@@ -29,14 +29,14 @@ tagged_head-returns-in-Tag-clause-read g t c =
     let m = g.R.Source.source c.take_head.new.decoder.source in
     let u = c.tagged_head_inside.new.decoder in
     let first = subst (λ (h : Head). Step s m (λ l bs rest. (w : HeadWidth) × (opening_at bs ≡ Ok ((w, h), rest)))) c.in-Tag.is c.in_ok-head.ensures.read in
-    let formats = ap formats_of c.in_ok-head.ensures.formats in
-    let inner = subst (λ (n : ℕ). TakesTaggedHead g.R.Source.refusals f (λ l. item_inside f l n) m (g.R.Source.source u.source) u.levels u.refusal c.tagged_head_inside.result) c.in_ok-head.ensures.levels
+    let formats = ap formats_of c.in_ok-head.ensures.settings.formats in
+    let inner = subst (λ (n : ℕ). TakesTaggedHead g.R.Source.refusals f (λ l. item_inside f l n) m (g.R.Source.source u.source) u.levels u.refusal c.tagged_head_inside.result) c.in_ok-head.ensures.settings.levels
     (subst (λ (k : Formats). TakesTaggedHead g.R.Source.refusals k (λ l. item_inside k l c.take_head.new.decoder.levels) m (g.R.Source.source u.source) u.levels u.refusal c.tagged_head_inside.result) formats c.tagged_head_inside.ensures.read) in
     behind_tag g.R.Source.refusals f s m (g.R.Source.source u.source) levels u.levels c.in-Tag.field-0 u.refusal c.tagged_head_inside.result first inner
 
 pub tagged_head-returns-clause-read : goal.tagged_head-returns-clause-read
 tagged_head-returns-clause-read g t c =
-    head_opens (formats_of c.args.decoder.now.formats) (g.R.Source.source c.args.decoder.now.source) (g.R.Source.source c.take_head.new.decoder.source) c.args.decoder.now.levels c.take_head.new.decoder.levels c.in_ok-head.head (no_tag c.in_ok-head.head c.in_default.not-Tag) c.in_ok-head.ensures.levels c.in_ok-head.ensures.read
+    head_opens (formats_of c.args.decoder.now.formats) (g.R.Source.source c.args.decoder.now.source) (g.R.Source.source c.take_head.new.decoder.source) c.args.decoder.now.levels c.take_head.new.decoder.levels c.in_ok-head.head (no_tag c.in_ok-head.head c.in_default.not-Tag) c.in_ok-head.ensures.settings.levels c.in_ok-head.ensures.read
 
 pub tagged_head_inside-returns-in_err-enter-clause-read : goal.tagged_head_inside-returns-in_err-enter-clause-read
 tagged_head_inside-returns-in_err-enter-clause-read g t c =
@@ -69,12 +69,12 @@ tagged_head-returns-in-Tag-clause-opened g t c =
     let m = g.R.Source.source c.take_head.new.decoder.source in
     let u = c.tagged_head_inside.new.decoder in
     let first = subst (λ (h : Head). Step s m (λ l bs rest. (w : HeadWidth) × (opening_at bs ≡ Ok ((w, h), rest)))) c.in-Tag.is c.in_ok-head.ensures.read in
-    let inner = subst (λ (n : ℕ). Gives {X = Head} {A = ℕ × Head} g.R.Source.refusals (λ h. (u.levels, h)) (λ l. opened_inside n) m (g.R.Source.source u.source) u.refusal c.tagged_head_inside.result) c.in_ok-head.ensures.levels c.tagged_head_inside.ensures.opened in
+    let inner = subst (λ (n : ℕ). Gives {X = Head} {A = ℕ × Head} g.R.Source.refusals (λ h. (u.levels, h)) (λ l. opened_inside n) m (g.R.Source.source u.source) u.refusal c.tagged_head_inside.result) c.in_ok-head.ensures.settings.levels c.tagged_head_inside.ensures.opened in
     tag_opened g.R.Source.refusals s m (g.R.Source.source u.source) levels u.levels c.in-Tag.field-0 u.refusal c.tagged_head_inside.result first inner
 
 pub tagged_head-returns-clause-opened : goal.tagged_head-returns-clause-opened
 tagged_head-returns-clause-opened g t c =
-    head_opened (g.R.Source.source c.args.decoder.now.source) (g.R.Source.source c.take_head.new.decoder.source) c.args.decoder.now.levels c.take_head.new.decoder.levels c.in_ok-head.head (no_tag c.in_ok-head.head c.in_default.not-Tag) c.in_ok-head.ensures.levels c.in_ok-head.ensures.read
+    head_opened (g.R.Source.source c.args.decoder.now.source) (g.R.Source.source c.take_head.new.decoder.source) c.args.decoder.now.levels c.take_head.new.decoder.levels c.in_ok-head.head (no_tag c.in_ok-head.head c.in_default.not-Tag) c.in_ok-head.ensures.settings.levels c.in_ok-head.ensures.read
 
 pub tagged_head_inside-returns-in_err-enter-clause-opened : goal.tagged_head_inside-returns-in_err-enter-clause-opened
 tagged_head_inside-returns-in_err-enter-clause-opened g t c =

@@ -43,5 +43,5 @@ returns-in-None-clause-read g c =
     let t = g.R.Source.source new.source in
     let identifier = PassesTags (IsIdentifier (texts c.args.names.now)) in
     subst (λ (x : Input). OnceMade (IsMadeBy new.refusal) (TakesItem g.R.Source.refusals (formats_of old.formats) identifier old.levels x t) c.identifier_slow.result) c.in-None.ensures.read
-    (subst (λ (n : ℕ). OnceMade (IsMadeBy new.refusal) (TakesItem g.R.Source.refusals (formats_of old.formats) identifier n s t) c.identifier_slow.result) c.in-None.ensures.levels
-    (subst (λ (k : Formats). OnceMade (IsMadeBy new.refusal) (TakesItem g.R.Source.refusals k identifier u.levels s t) c.identifier_slow.result) (ap formats_of c.in-None.ensures.formats) c.identifier_slow.ensures.read))
+    (subst (λ (n : ℕ). OnceMade (IsMadeBy new.refusal) (TakesItem g.R.Source.refusals (formats_of old.formats) identifier n s t) c.identifier_slow.result) c.in-None.ensures.settings.levels
+    (subst (λ (k : Formats). OnceMade (IsMadeBy new.refusal) (TakesItem g.R.Source.refusals k identifier u.levels s t) c.identifier_slow.result) (ap formats_of c.in-None.ensures.settings.formats) c.identifier_slow.ensures.read))

@@ -25,15 +25,15 @@ returns-in-Tag-clause-read g c =
     let m = g.R.Source.source c.take_head.new.decoder.source in
     let u = c.scalar_head_inside.new.decoder in
     let first = subst (λ (h : Head). Step s m (λ l bs rest. (w : HeadWidth) × (opening_at bs ≡ Ok ((w, h), rest)))) c.in-Tag.is c.in_ok-head.ensures.read in
-    let formats = ap formats_of c.in_ok-head.ensures.formats in
-    let inner = subst (λ (n : ℕ). TakesHeadInside g.R.Source.refusals f n m (g.R.Source.source u.source) u.refusal (found_head c.scalar_head_inside.result)) c.in_ok-head.ensures.levels
+    let formats = ap formats_of c.in_ok-head.ensures.settings.formats in
+    let inner = subst (λ (n : ℕ). TakesHeadInside g.R.Source.refusals f n m (g.R.Source.source u.source) u.refusal (found_head c.scalar_head_inside.result)) c.in_ok-head.ensures.settings.levels
     (subst (λ (k : Formats). TakesHeadInside g.R.Source.refusals k c.take_head.new.decoder.levels m (g.R.Source.source u.source) u.refusal (found_head c.scalar_head_inside.result)) formats c.scalar_head_inside.ensures.read) in
     (inner.0, behind_tag g.R.Source.refusals f s m (g.R.Source.source u.source) levels inner.0 c.in-Tag.field-0 u.refusal (found_head c.scalar_head_inside.result) first inner.1)
 
 pub returns-clause-read : goal.returns-clause-read
 returns-clause-read g c =
     let levels = c.args.decoder.now.levels in
-    (c.take_head.new.decoder.levels, head_opens (formats_of c.args.decoder.now.formats) (g.R.Source.source c.args.decoder.now.source) (g.R.Source.source c.take_head.new.decoder.source) levels c.take_head.new.decoder.levels c.in_ok-head.head (no_tag c.in_ok-head.head c.in_default.not-Tag) c.in_ok-head.ensures.levels c.in_ok-head.ensures.read)
+    (c.take_head.new.decoder.levels, head_opens (formats_of c.args.decoder.now.formats) (g.R.Source.source c.args.decoder.now.source) (g.R.Source.source c.take_head.new.decoder.source) levels c.take_head.new.decoder.levels c.in_ok-head.head (no_tag c.in_ok-head.head c.in_default.not-Tag) c.in_ok-head.ensures.settings.levels c.in_ok-head.ensures.read)
 
 -- ---- the head alone
 
@@ -49,12 +49,12 @@ returns-in-Tag-clause-opened g c =
     let m = g.R.Source.source c.take_head.new.decoder.source in
     let u = c.scalar_head_inside.new.decoder in
     let first = subst (λ (h : Head). Step s m (λ l bs rest. (w : HeadWidth) × (opening_at bs ≡ Ok ((w, h), rest)))) c.in-Tag.is c.in_ok-head.ensures.read in
-    let inner = subst (λ (n : ℕ). Gives {X = HeadAt} {A = ℕ × Head} g.R.Source.refusals (λ found. (found.levels, found.head)) (λ l. opened_inside n) m (g.R.Source.source u.source) u.refusal c.scalar_head_inside.result) c.in_ok-head.ensures.levels c.scalar_head_inside.ensures.opened in
+    let inner = subst (λ (n : ℕ). Gives {X = HeadAt} {A = ℕ × Head} g.R.Source.refusals (λ found. (found.levels, found.head)) (λ l. opened_inside n) m (g.R.Source.source u.source) u.refusal c.scalar_head_inside.result) c.in_ok-head.ensures.settings.levels c.scalar_head_inside.ensures.opened in
     tag_found (λ (found : HeadAt). (found.levels, found.head)) g.R.Source.refusals s m (g.R.Source.source u.source) levels c.in-Tag.field-0 u.refusal c.scalar_head_inside.result first inner
 
 pub returns-clause-opened : goal.returns-clause-opened
 returns-clause-opened g c =
-    head_opened (g.R.Source.source c.args.decoder.now.source) (g.R.Source.source c.take_head.new.decoder.source) c.args.decoder.now.levels c.take_head.new.decoder.levels c.in_ok-head.head (no_tag c.in_ok-head.head c.in_default.not-Tag) c.in_ok-head.ensures.levels c.in_ok-head.ensures.read
+    head_opened (g.R.Source.source c.args.decoder.now.source) (g.R.Source.source c.take_head.new.decoder.source) c.args.decoder.now.levels c.take_head.new.decoder.levels c.in_ok-head.head (no_tag c.in_ok-head.head c.in_default.not-Tag) c.in_ok-head.ensures.settings.levels c.in_ok-head.ensures.read
 
 -- ---- a byte at the least
 

@@ -51,7 +51,7 @@ returns-in_err-enter-clause-read g c =
     let numbered = step_then s t u (λ l bs mid. tag_first_at bs ≡ Ok (Some b, mid)) (λ l mid rest. number_behind (b % 32) mid ≡ Ok (n, rest)) (λ l bs rest. Numbered b n bs rest)
     (λ l bs mid rest here number. record { mid = mid; first = here; number = number }) first c.in_ok-n.ensures.read in
     let e = c.in_err-enter.ensures in
-    let none : levels ≡ 0 = sym (c.in_ok-n.ensures.levels ∙ h.ensures.levels) ∙ e.none.0 in
+    let none : levels ≡ 0 = sym (c.in_ok-n.ensures.settings.levels ∙ h.ensures.settings.levels) ∙ e.none.0 in
     let stops = fault_stops g.R.Source.refusals u (λ l bs. Err (before too_deep bs)) _ _ RecursionLimitExceeded too_deep (λ at end r h. h) (λ l bs. refl) e.refused e.kept in
     rw (is_err.1, is_err.2, e.source) (stopped_then g.R.Source.refusals (λ l bs. Err (before too_deep bs)) (λ l. tag_head_at levels) s u _ _ (λ l bs rest. Numbered b n bs rest)
     (λ l bs rest d here is. no_level levels b n bs rest none here ∙ is) numbered stops)
@@ -69,6 +69,6 @@ returns-clause-read g c =
     let first = subst (λ (o : Option ℕ). Step s t (λ l bs rest. tag_first_at bs ≡ Ok (o, rest))) h.field-0-is h.ensures.read in
     let numbered = step_then s t u (λ l bs mid. tag_first_at bs ≡ Ok (Some b, mid)) (λ l mid rest. number_behind (b % 32) mid ≡ Ok (n, rest)) (λ l bs rest. Numbered b n bs rest)
     (λ l bs mid rest here number. record { mid = mid; first = here; number = number }) first c.in_ok-n.ensures.read in
-    let one_in = sym (c.in_ok-n.ensures.levels ∙ h.ensures.levels) ∙ c.in_ok-enter.ensures.inside in
+    let one_in = sym (c.in_ok-n.ensures.settings.levels ∙ h.ensures.settings.levels) ∙ c.in_ok-enter.ensures.inside in
     let step = step_map s u (λ l bs rest. Numbered b n bs rest) (λ l bs rest. tag_head_at levels bs ≡ Ok (Some n, rest)) (λ l bs rest here. one_entered levels c.enter.new.self.levels b n bs rest one_in here) numbered in
     subst (λ (x : Input). Step s x (λ l bs rest. tag_head_at levels bs ≡ Ok (Some n, rest))) (sym (ap g.R.Source.source c.in_ok-enter.ensures.source)) step

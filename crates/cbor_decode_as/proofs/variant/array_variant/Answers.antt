@@ -39,9 +39,9 @@ returns-in_err-index-clause-read g c =
     let t = g.R.Source.source c.variant_name.new.decoder.source in
     let e = c.in_err-index.field-0.0 in
     let names = texts c.args.names.now in
-    let formats = ap formats_of (c.in_ok-expect_item.ensures.formats ∙ c.in_ok-remaining.ensures.formats) in
+    let formats = ap formats_of (c.in_ok-expect_item.ensures.settings.formats ∙ c.in_ok-remaining.ensures.formats) in
     let read = subst (λ (f : Formats). TakesItem g.R.Source.refusals f (IsName names) mid.levels b t (Err e)) formats c.in_err-index.ensures.read in
-    let here = subst (λ (n : ℕ). TakesItem g.R.Source.refusals (formats_of old.formats) (IsName names) n b t (Err e)) c.in_ok-expect_item.ensures.levels read in
+    let here = subst (λ (n : ℕ). TakesItem g.R.Source.refusals (formats_of old.formats) (IsName names) n b t (Err e)) c.in_ok-expect_item.ensures.settings.levels read in
     rw (passed.1, passed.2) (no_first_name (formats_of old.formats) names g.R.Source.refusals old.levels (g.R.Source.source old.source) e (g.R.Source.source inner.source) inner.levels c.in_ok-remaining.remaining c.in_ok-remaining.ensures.read
     b c.expect_item.new.remaining c.in_ok-expect_item.ensures.read here)
 
@@ -55,11 +55,11 @@ returns-clause-read g c =
     let t = g.R.Source.source new.source in
     let i = c.in_ok-index.index in
     let names = texts c.args.names.now in
-    let formats = ap formats_of (c.in_ok-expect_item.ensures.formats ∙ c.in_ok-remaining.ensures.formats) in
+    let formats = ap formats_of (c.in_ok-expect_item.ensures.settings.formats ∙ c.in_ok-remaining.ensures.formats) in
     let read = subst (λ (f : Formats). TakesItem g.R.Source.refusals f (IsName names) mid.levels b t (Ok i)) formats c.in_ok-index.ensures.read in
-    let here = subst (λ (n : ℕ). TakesItem g.R.Source.refusals (formats_of old.formats) (IsName names) n b t (Ok i)) c.in_ok-expect_item.ensures.levels read in
+    let here = subst (λ (n : ℕ). TakesItem g.R.Source.refusals (formats_of old.formats) (IsName names) n b t (Ok i)) c.in_ok-expect_item.ensures.settings.levels read in
     array_variant_taken (formats_of old.formats) names old.levels inner.levels new.levels i c.in_ok-remaining.remaining c.expect_item.new.remaining (g.R.Source.source old.source) (g.R.Source.source inner.source) b t
-    (c.in_ok-index.ensures.levels ∙ c.in_ok-expect_item.ensures.levels) c.requires c.in_ok-remaining.ensures.read c.in_ok-expect_item.ensures.read here
+    (c.in_ok-index.ensures.settings.levels ∙ c.in_ok-expect_item.ensures.settings.levels) c.requires c.in_ok-remaining.ensures.read c.in_ok-expect_item.ensures.read here
 
 -- ---- whatever follows
 
@@ -87,9 +87,9 @@ returns-in_err-index-clause-opened g c =
     let t = g.R.Source.source c.variant_name.new.decoder.source in
     let e = c.in_err-index.field-0.0 in
     let names = texts c.args.names.now in
-    let formats = ap formats_of (c.in_ok-expect_item.ensures.formats ∙ c.in_ok-remaining.ensures.formats) in
+    let formats = ap formats_of (c.in_ok-expect_item.ensures.settings.formats ∙ c.in_ok-remaining.ensures.formats) in
     let read = subst (λ (f : Formats). TakesItem g.R.Source.refusals f (IsName names) mid.levels b t (Err e)) formats c.in_err-index.ensures.read in
-    let here = subst (λ (n : ℕ). TakesItem g.R.Source.refusals (formats_of old.formats) (IsName names) n b t (Err e)) c.in_ok-expect_item.ensures.levels read in
+    let here = subst (λ (n : ℕ). TakesItem g.R.Source.refusals (formats_of old.formats) (IsName names) n b t (Err e)) c.in_ok-expect_item.ensures.settings.levels read in
     rw (passed.1, passed.2) (unnamed_refused (formats_of old.formats) names old.levels (g.R.Source.source old.source) (g.R.Source.source inner.source) inner.levels c.in_ok-remaining.remaining c.in_ok-remaining.ensures.opened
     b c.expect_item.new.remaining c.in_ok-expect_item.ensures.read g.R.Source.refusals e here)
 
@@ -103,8 +103,8 @@ returns-clause-opened g c =
     let t = g.R.Source.source new.source in
     let i = c.in_ok-index.index in
     let names = texts c.args.names.now in
-    let formats = ap formats_of (c.in_ok-expect_item.ensures.formats ∙ c.in_ok-remaining.ensures.formats) in
+    let formats = ap formats_of (c.in_ok-expect_item.ensures.settings.formats ∙ c.in_ok-remaining.ensures.formats) in
     let read = subst (λ (f : Formats). TakesItem g.R.Source.refusals f (IsName names) mid.levels b t (Ok i)) formats c.in_ok-index.ensures.read in
-    let here = subst (λ (n : ℕ). TakesItem g.R.Source.refusals (formats_of old.formats) (IsName names) n b t (Ok i)) c.in_ok-expect_item.ensures.levels read in
+    let here = subst (λ (n : ℕ). TakesItem g.R.Source.refusals (formats_of old.formats) (IsName names) n b t (Ok i)) c.in_ok-expect_item.ensures.settings.levels read in
     array_begun (formats_of old.formats) names old.levels (g.R.Source.source old.source) (g.R.Source.source inner.source) inner.levels c.in_ok-remaining.remaining c.in_ok-remaining.ensures.opened
-    b c.expect_item.new.remaining c.in_ok-expect_item.ensures.read t new.levels i (c.in_ok-index.ensures.levels ∙ c.in_ok-expect_item.ensures.levels) c.requires here
+    b c.expect_item.new.remaining c.in_ok-expect_item.ensures.read t new.levels i (c.in_ok-index.ensures.settings.levels ∙ c.in_ok-expect_item.ensures.settings.levels) c.requires here

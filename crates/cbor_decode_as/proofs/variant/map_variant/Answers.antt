@@ -30,7 +30,7 @@ returns-clause-read g c =
     let i = c.in_ok-index.index in
     let names = texts c.args.names.now in
     let read = subst (λ (f : Formats). TakesItem g.R.Source.refusals f (IsName names) mid.levels a t (Ok i)) (ap formats_of c.in-Ok.ensures.formats) c.in_ok-index.ensures.read in
-    map_taken (formats_of old.formats) names old.levels mid.levels c.in-Ok.ensures.inside (g.R.Source.source old.source) a c.in-Ok.ensures.read t new.levels i c.in_ok-index.ensures.levels c.requires read
+    map_taken (formats_of old.formats) names old.levels mid.levels c.in-Ok.ensures.inside (g.R.Source.source old.source) a c.in-Ok.ensures.read t new.levels i c.in_ok-index.ensures.settings.levels c.requires read
 
 pub returns-in-Err-clause-read : goal.returns-in-Err-clause-read
 returns-in-Err-clause-read g c =
@@ -61,7 +61,7 @@ returns-clause-opened g c =
     let i = c.in_ok-index.index in
     let names = texts c.args.names.now in
     let read = subst (λ (f : Formats). TakesItem g.R.Source.refusals f (IsName names) mid.levels a t (Ok i)) (ap formats_of c.in-Ok.ensures.formats) c.in_ok-index.ensures.read in
-    map_begun (formats_of old.formats) names old.levels (g.R.Source.source old.source) a mid.levels c.in-Ok.ensures.inside c.in-Ok.ensures.read t new.levels i c.in_ok-index.ensures.levels c.requires read
+    map_begun (formats_of old.formats) names old.levels (g.R.Source.source old.source) a mid.levels c.in-Ok.ensures.inside c.in-Ok.ensures.read t new.levels i c.in_ok-index.ensures.settings.levels c.requires read
 
 pub returns-in-Err-clause-opened : goal.returns-in-Err-clause-opened
 returns-in-Err-clause-opened g c =

@@ -16,7 +16,7 @@ pub returns-clause-read : goal.returns-clause-read
 returns-clause-read g c =
     let old = c.args.decoder.now in
     let new = c.variant_name.new.decoder in
-    alone_taken (formats_of old.formats) (texts c.args.names.now) old.levels new.levels c.in_ok-index.index (g.R.Source.source old.source) (g.R.Source.source new.source) c.in_ok-index.ensures.levels c.requires c.in_ok-index.ensures.read
+    alone_taken (formats_of old.formats) (texts c.args.names.now) old.levels new.levels c.in_ok-index.index (g.R.Source.source old.source) (g.R.Source.source new.source) c.in_ok-index.ensures.settings.levels c.requires c.in_ok-index.ensures.read
 
 -- ---- whatever follows
 
@@ -30,4 +30,4 @@ pub returns-clause-opened : goal.returns-clause-opened
 returns-clause-opened g c =
     let old = c.args.decoder.now in
     let new = c.variant_name.new.decoder in
-    alone_begun (formats_of old.formats) (texts c.args.names.now) old.levels (g.R.Source.source old.source) (g.R.Source.source new.source) new.levels c.in_ok-index.index c.in_ok-index.ensures.levels c.requires c.in_ok-index.ensures.read
+    alone_begun (formats_of old.formats) (texts c.args.names.now) old.levels (g.R.Source.source old.source) (g.R.Source.source new.source) new.levels c.in_ok-index.index c.in_ok-index.ensures.settings.levels c.requires c.in_ok-index.ensures.read

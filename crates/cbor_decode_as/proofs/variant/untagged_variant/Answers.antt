@@ -29,8 +29,8 @@ returns-in-Array-clause-read g c =
     let t = g.R.Source.source new.source in
     let names = texts c.args.names.now in
     let shaped = subst (λ (x : Shape). Step s a (λ l bs rest. IsShaped x bs rest)) c.in-Array.is c.in_ok-enum_shape.ensures.read.0 in
-    let read = subst (λ (f : Formats). TakesShaped (HasShape shape.Array) g.R.Source.refusals f names mid.levels a t new.levels c.array_variant.result) (ap formats_of c.in_ok-enum_shape.ensures.formats) c.array_variant.ensures.read in
-    let here = subst (λ (n : ℕ). TakesShaped (HasShape shape.Array) g.R.Source.refusals (formats_of old.formats) names n a t new.levels c.array_variant.result) c.in_ok-enum_shape.ensures.levels read in
+    let read = subst (λ (f : Formats). TakesShaped (HasShape shape.Array) g.R.Source.refusals f names mid.levels a t new.levels c.array_variant.result) (ap formats_of c.in_ok-enum_shape.ensures.settings.formats) c.array_variant.ensures.read in
+    let here = subst (λ (n : ℕ). TakesShaped (HasShape shape.Array) g.R.Source.refusals (formats_of old.formats) names n a t new.levels c.array_variant.result) c.in_ok-enum_shape.ensures.settings.levels read in
     shaped_then (formats_of old.formats) names old.levels g.R.Source.refusals s a shape.Array (HasShape shape.Array) (λ bs none is. is) shaped t new.levels c.array_variant.result here
 
 pub returns-in-Map-clause-read : goal.returns-in-Map-clause-read
@@ -43,8 +43,8 @@ returns-in-Map-clause-read g c =
     let t = g.R.Source.source new.source in
     let names = texts c.args.names.now in
     let shaped = subst (λ (x : Shape). Step s a (λ l bs rest. IsShaped x bs rest)) c.in-Map.is c.in_ok-enum_shape.ensures.read.0 in
-    let read = subst (λ (f : Formats). TakesShaped (HasShape shape.Map) g.R.Source.refusals f names mid.levels a t new.levels c.map_variant.result) (ap formats_of c.in_ok-enum_shape.ensures.formats) c.map_variant.ensures.read in
-    let here = subst (λ (n : ℕ). TakesShaped (HasShape shape.Map) g.R.Source.refusals (formats_of old.formats) names n a t new.levels c.map_variant.result) c.in_ok-enum_shape.ensures.levels read in
+    let read = subst (λ (f : Formats). TakesShaped (HasShape shape.Map) g.R.Source.refusals f names mid.levels a t new.levels c.map_variant.result) (ap formats_of c.in_ok-enum_shape.ensures.settings.formats) c.map_variant.ensures.read in
+    let here = subst (λ (n : ℕ). TakesShaped (HasShape shape.Map) g.R.Source.refusals (formats_of old.formats) names n a t new.levels c.map_variant.result) c.in_ok-enum_shape.ensures.settings.levels read in
     shaped_then (formats_of old.formats) names old.levels g.R.Source.refusals s a shape.Map (HasShape shape.Map) (λ bs none is. is) shaped t new.levels c.map_variant.result here
 
 pub returns-in-Alone-clause-read : goal.returns-in-Alone-clause-read
@@ -57,8 +57,8 @@ returns-in-Alone-clause-read g c =
     let t = g.R.Source.source new.source in
     let names = texts c.args.names.now in
     let shaped = subst (λ (x : Shape). Step s a (λ l bs rest. IsShaped x bs rest)) c.in-Alone.is c.in_ok-enum_shape.ensures.read.0 in
-    let read = subst (λ (f : Formats). TakesShaped IsAlone g.R.Source.refusals f names mid.levels a t new.levels c.name_alone.result) (ap formats_of c.in_ok-enum_shape.ensures.formats) c.name_alone.ensures.read in
-    let here = subst (λ (n : ℕ). TakesShaped IsAlone g.R.Source.refusals (formats_of old.formats) names n a t new.levels c.name_alone.result) c.in_ok-enum_shape.ensures.levels read in
+    let read = subst (λ (f : Formats). TakesShaped IsAlone g.R.Source.refusals f names mid.levels a t new.levels c.name_alone.result) (ap formats_of c.in_ok-enum_shape.ensures.settings.formats) c.name_alone.ensures.read in
+    let here = subst (λ (n : ℕ). TakesShaped IsAlone g.R.Source.refusals (formats_of old.formats) names n a t new.levels c.name_alone.result) c.in_ok-enum_shape.ensures.settings.levels read in
     shaped_then (formats_of old.formats) names old.levels g.R.Source.refusals s a shape.Alone IsAlone (λ bs none is. (none, is)) shaped t new.levels c.name_alone.result here
 
 pub returns-in-Unassigned-clause-read : goal.returns-in-Unassigned-clause-read
@@ -93,8 +93,8 @@ returns-in-Array-clause-opened g c =
     let t = g.R.Source.source new.source in
     let names = texts c.args.names.now in
     let shaped = subst (λ (x : Shape). Step s a (λ l bs rest. IsShaped x bs rest)) c.in-Array.is c.in_ok-enum_shape.ensures.read.0 in
-    let read = subst (λ (f : Formats). TakesFormOf shape.Array g.R.Source.refusals f names mid.levels a t new.levels c.array_variant.result) (ap formats_of c.in_ok-enum_shape.ensures.formats) c.array_variant.ensures.opened in
-    let here = subst (λ (n : ℕ). TakesFormOf shape.Array g.R.Source.refusals (formats_of old.formats) names n a t new.levels c.array_variant.result) c.in_ok-enum_shape.ensures.levels read in
+    let read = subst (λ (f : Formats). TakesFormOf shape.Array g.R.Source.refusals f names mid.levels a t new.levels c.array_variant.result) (ap formats_of c.in_ok-enum_shape.ensures.settings.formats) c.array_variant.ensures.opened in
+    let here = subst (λ (n : ℕ). TakesFormOf shape.Array g.R.Source.refusals (formats_of old.formats) names n a t new.levels c.array_variant.result) c.in_ok-enum_shape.ensures.settings.levels read in
     form_then g.R.Source.refusals (formats_of old.formats) names old.levels s a shape.Array shaped t new.levels c.array_variant.result here
 
 pub returns-in-Map-clause-opened : goal.returns-in-Map-clause-opened
@@ -107,8 +107,8 @@ returns-in-Map-clause-opened g c =
     let t = g.R.Source.source new.source in
     let names = texts c.args.names.now in
     let shaped = subst (λ (x : Shape). Step s a (λ l bs rest. IsShaped x bs rest)) c.in-Map.is c.in_ok-enum_shape.ensures.read.0 in
-    let read = subst (λ (f : Formats). TakesFormOf shape.Map g.R.Source.refusals f names mid.levels a t new.levels c.map_variant.result) (ap formats_of c.in_ok-enum_shape.ensures.formats) c.map_variant.ensures.opened in
-    let here = subst (λ (n : ℕ). TakesFormOf shape.Map g.R.Source.refusals (formats_of old.formats) names n a t new.levels c.map_variant.result) c.in_ok-enum_shape.ensures.levels read in
+    let read = subst (λ (f : Formats). TakesFormOf shape.Map g.R.Source.refusals f names mid.levels a t new.levels c.map_variant.result) (ap formats_of c.in_ok-enum_shape.ensures.settings.formats) c.map_variant.ensures.opened in
+    let here = subst (λ (n : ℕ). TakesFormOf shape.Map g.R.Source.refusals (formats_of old.formats) names n a t new.levels c.map_variant.result) c.in_ok-enum_shape.ensures.settings.levels read in
     form_then g.R.Source.refusals (formats_of old.formats) names old.levels s a shape.Map shaped t new.levels c.map_variant.result here
 
 pub returns-in-Alone-clause-opened : goal.returns-in-Alone-clause-opened
@@ -121,8 +121,8 @@ returns-in-Alone-clause-opened g c =
     let t = g.R.Source.source new.source in
     let names = texts c.args.names.now in
     let shaped = subst (λ (x : Shape). Step s a (λ l bs rest. IsShaped x bs rest)) c.in-Alone.is c.in_ok-enum_shape.ensures.read.0 in
-    let read = subst (λ (f : Formats). TakesFormOf shape.Alone g.R.Source.refusals f names mid.levels a t new.levels c.name_alone.result) (ap formats_of c.in_ok-enum_shape.ensures.formats) c.name_alone.ensures.opened in
-    let here = subst (λ (n : ℕ). TakesFormOf shape.Alone g.R.Source.refusals (formats_of old.formats) names n a t new.levels c.name_alone.result) c.in_ok-enum_shape.ensures.levels read in
+    let read = subst (λ (f : Formats). TakesFormOf shape.Alone g.R.Source.refusals f names mid.levels a t new.levels c.name_alone.result) (ap formats_of c.in_ok-enum_shape.ensures.settings.formats) c.name_alone.ensures.opened in
+    let here = subst (λ (n : ℕ). TakesFormOf shape.Alone g.R.Source.refusals (formats_of old.formats) names n a t new.levels c.name_alone.result) c.in_ok-enum_shape.ensures.settings.levels read in
     form_then g.R.Source.refusals (formats_of old.formats) names old.levels s a shape.Alone shaped t new.levels c.name_alone.result here
 
 pub returns-in-Unassigned-clause-opened : goal.returns-in-Unassigned-clause-opened

@@ -54,15 +54,15 @@ fields-preserved-in-Continue-branch-4 g c =
     let fields = λ (f : Formats). g.F.FieldList.fields (context f g.R.Source.lends) in
     let slots = λ (f : Formats). g.F.FieldList.slots (context f g.R.Source.lends) in
     let next = c.in_ok-field.ensures in
-    let key = field_named names (fields c.args.de.now.decoder.formats) i.so_far c.in_ok-field.field-0 c.in-Some.field c.in-Some.is refl c.next_key.new.remaining next.read next.formats next.levels in
+    let key = field_named names (fields c.args.de.now.decoder.formats) i.so_far c.in_ok-field.field-0 c.in-Some.field c.in-Some.is refl c.next_key.new.remaining next.read next.settings.formats next.settings.levels in
     let now = c.next_key.new.de.decoder in
     let done = c.in_ok-take-in-Known.ensures in
     let named = advances_some _ _ _ i.advances next.read.took in
-    let taken = subst (λ (f : Formats). FieldTaken (formats_of now.formats) now.levels (fields f) c.in-Known.i (slots f c.fields.held) (slots f c.take.new.held) (g.R.Source.source now.source) (g.R.Source.source c.take.new.de.decoder.source)) (next.formats ∙ i.formats) done.read in
+    let taken = subst (λ (f : Formats). FieldTaken (formats_of now.formats) now.levels (fields f) c.in-Known.i (slots f c.fields.held) (slots f c.take.new.held) (g.R.Source.source now.source) (g.R.Source.source c.take.new.de.decoder.source)) (next.settings.formats ∙ i.formats) done.read in
     record {
-      formats = done.formats ∙ next.formats ∙ i.formats;
+      formats = done.settings.formats ∙ next.settings.formats ∙ i.formats;
       advances = record { further = omega (arith, named.further, done.forward); counted = named.counted };
-      so_far = value_in names (fields c.args.de.now.decoder.formats) key c.in-Known.i c.in-Known.is done.formats done.levels refl (slots c.args.de.now.decoder.formats c.take.new.held) taken;
+      so_far = value_in names (fields c.args.de.now.decoder.formats) key c.in-Known.i c.in-Known.is done.settings.formats done.settings.levels refl (slots c.args.de.now.decoder.formats c.take.new.held) taken;
     }
 
 pub returns-in_err-take-in-Known-clause-read : goal.returns-in_err-take-in-Known-clause-read
@@ -73,10 +73,10 @@ returns-in_err-take-in-Known-clause-read g c =
     let fields = λ (f : Formats). g.F.FieldList.fields (context f g.R.Source.lends) in
     let slots = λ (f : Formats). g.F.FieldList.slots (context f g.R.Source.lends) in
     let next = c.in_ok-field.ensures in
-    let key = field_named names (fields old.formats) i.so_far c.in_ok-field.field-0 c.in-Some.field c.in-Some.is refl c.next_key.new.remaining next.read next.formats next.levels in
+    let key = field_named names (fields old.formats) i.so_far c.in_ok-field.field-0 c.in-Some.field c.in-Some.is refl c.next_key.new.remaining next.read next.settings.formats next.settings.levels in
     let now = c.next_key.new.de.decoder in
     let e = c.in_err-take-in-Known.field-0.0 in
-    let refused = subst (λ (f : Formats). FieldRefused (formats_of now.formats) now.levels g.R.Source.refusals (fields f) c.in-Known.i (slots f c.fields.held) (g.R.Source.source now.source) (g.R.Source.source c.take.new.de.decoder.source) e) (next.formats ∙ i.formats) c.in_err-take-in-Known.ensures.read in
+    let refused = subst (λ (f : Formats). FieldRefused (formats_of now.formats) now.levels g.R.Source.refusals (fields f) c.in-Known.i (slots f c.fields.held) (g.R.Source.source now.source) (g.R.Source.source c.take.new.de.decoder.source) e) (next.settings.formats ∙ i.formats) c.in_err-take-in-Known.ensures.read in
     unread names (fields old.formats) g.R.Source.refusals old.formats old.levels (g.R.Source.source old.source) _ e c.from_residual-in_err-take-in-Known.result c.from_residual-in_err-take-in-Known.ensures.1
     (value_not_in names (fields old.formats) key c.in-Known.i c.in-Known.is g.R.Source.refusals e refused) (search rules)
 
@@ -88,9 +88,9 @@ fields-preserved g c =
     let next = c.in_ok-field.ensures in
     let done = c.in_ok-skip_item-in-Unknown.ensures in
     record {
-      formats = done.formats ∙ next.formats ∙ i.formats;
+      formats = done.settings.formats ∙ next.settings.formats ∙ i.formats;
       advances = advances_some _ _ _ i.advances (took_then next.read.took done.read.took);
-      so_far = other_passed names fields i.so_far c.in_ok-field.field-0 c.in-Some.field c.in-Some.is refl c.next_key.new.remaining next.read next.formats next.levels done.formats done.levels refl (unknown_other fields c.in-Unknown.is) done.read;
+      so_far = other_passed names fields i.so_far c.in_ok-field.field-0 c.in-Some.field c.in-Some.is refl c.next_key.new.remaining next.read next.settings.formats next.settings.levels done.settings.formats done.settings.levels refl (unknown_other fields c.in-Unknown.is) done.read;
     }
 
 pub returns-in_err-skip_item-in-Unknown-clause-read : goal.returns-in_err-skip_item-in-Unknown-clause-read
@@ -101,7 +101,7 @@ returns-in_err-skip_item-in-Unknown-clause-read g c =
     let next = c.in_ok-field.ensures in
     let e = c.in_err-skip_item-in-Unknown.field-0.0 in
     unread names fields g.R.Source.refusals old.formats old.levels (g.R.Source.source old.source) _ e c.from_residual-in_err-skip_item-in-Unknown.result c.from_residual-in_err-skip_item-in-Unknown.ensures.1
-    (other_unread names fields c.fields.invariant.so_far c.in_ok-field.field-0 c.in-Some.field c.in-Some.is refl c.next_key.new.remaining next.read next.formats next.levels g.R.Source.refusals (code_of e) (offset_of e) c.in_err-skip_item-in-Unknown.ensures.read) (search rules)
+    (other_unread names fields c.fields.invariant.so_far c.in_ok-field.field-0 c.in-Some.field c.in-Some.is refl c.next_key.new.remaining next.read next.settings.formats next.settings.levels g.R.Source.refusals (code_of e) (offset_of e) c.in_err-skip_item-in-Unknown.ensures.read) (search rules)
 
 -- ---- the end
 
@@ -152,7 +152,7 @@ returns-in_err-take-in-Known-clause-form g c =
     let e = c.in_err-take-in-Known.field-0.0 in
     let next = c.in_ok-field.ensures in
     let took = took_then (took_then i.so_far.head.took i.so_far.so_far.took) next.read.took in
-    rw (passed.1, passed.2) (later_in (any_of key_form g.F.FieldList.wrong_forms) c.args.de.now.decoder.formats c.next_key.new.de.decoder.formats _ _ e (next.formats ∙ i.formats) took c.in_err-take-in-Known.ensures.form)
+    rw (passed.1, passed.2) (later_in (any_of key_form g.F.FieldList.wrong_forms) c.args.de.now.decoder.formats c.next_key.new.de.decoder.formats _ _ e (next.settings.formats ∙ i.formats) took c.in_err-take-in-Known.ensures.form)
 
 pub returns-in_err-skip_item-in-Unknown-clause-form : goal.returns-in_err-skip_item-in-Unknown-clause-form
 returns-in_err-skip_item-in-Unknown-clause-form g c =
@@ -161,7 +161,7 @@ returns-in_err-skip_item-in-Unknown-clause-form g c =
     let e = c.in_err-skip_item-in-Unknown.field-0.0 in
     let next = c.in_ok-field.ensures in
     let took = took_then (took_then i.so_far.head.took i.so_far.so_far.took) next.read.took in
-    rw (passed.1, passed.2) (of_left key_form g.F.FieldList.wrong_forms _ _ e (later_in key_form c.args.de.now.decoder.formats c.next_key.new.de.decoder.formats _ _ e (next.formats ∙ i.formats) took c.in_err-skip_item-in-Unknown.ensures.form))
+    rw (passed.1, passed.2) (of_left key_form g.F.FieldList.wrong_forms _ _ e (later_in key_form c.args.de.now.decoder.formats c.next_key.new.de.decoder.formats _ _ e (next.settings.formats ∙ i.formats) took c.in_err-skip_item-in-Unknown.ensures.form))
 
 pub returns-clause-taken : goal.returns-clause-taken
 returns-clause-taken g c =

@@ -17,7 +17,7 @@ use Rattle.cbor_convert.proofs.tagged.TaggedDeserialize.deserialize.Goals as goa
 pub leave_tag-requires : goal.leave_tag-requires
 leave_tag-requires g c =
     let one = rw c.in-Ok-Some.field-0-is at c.in-Ok-Some.ensures.levels in
-    omega (arith, one, c.deserialize-value.ensures.levels)
+    omega (arith, one, c.deserialize-value.ensures.settings.levels)
 
 pub returns-in-Ok-clause-read : goal.returns-in-Ok-clause-read
 returns-in-Ok-clause-read g c =

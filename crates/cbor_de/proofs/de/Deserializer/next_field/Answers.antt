@@ -29,7 +29,7 @@ returns-in_err-field-clause-read g c =
     let new = c.more_pairs.new.remaining in
     let more = c.in_ok-more_pairs.field-0 in
     let comes : more ≡ true = search rules in
-    rw (passed.1, passed.2) (λ e made. key_refused s m remaining new more reads old.formats now.formats old.levels now.levels c.more_pairs.ensures.formats c.more_pairs.ensures.levels
+    rw (passed.1, passed.2) (λ e made. key_refused s m remaining new more reads old.formats now.formats old.levels now.levels c.more_pairs.ensures.settings.formats c.more_pairs.ensures.settings.levels
     g.R.Source.refusals (code_of e) (offset_of e) (there s m remaining new more old.formats comes c.in_ok-more_pairs.ensures.read) (c.in_err-field.ensures.read e made))
 
 pub returns-clause-read : goal.returns-clause-read
@@ -44,7 +44,7 @@ returns-clause-read g c =
     let new = c.more_pairs.new.remaining in
     let more = c.in_ok-more_pairs.field-0 in
     let comes : more ≡ true = search rules in
-    key_next s m remaining new more reads old.formats now.formats old.levels now.levels c.more_pairs.ensures.formats c.more_pairs.ensures.levels t c.in_ok-field.field
+    key_next s m remaining new more reads old.formats now.formats old.levels now.levels c.more_pairs.ensures.settings.formats c.more_pairs.ensures.settings.levels t c.in_ok-field.field
     (there s m remaining new more old.formats comes c.in_ok-more_pairs.ensures.read) c.in_ok-field.ensures.read
 
 -- ---- a key that may not begin as it does

@@ -23,12 +23,12 @@ returns-in-Err-read_items-clause-read g c =
     let m = g.R.Source.source mid.source in
     let t = g.R.Source.source c.read_items.new.de.decoder.source in
     let e = c.in-Err-read_items.e in
-    let read = same_place (λ (f : Formats). g.F.ItemList.parts (context f g.R.Source.lends)) old.formats mid.formats old.levels mid.levels c.next_part.ensures.formats c.next_part.ensures.levels g.R.Source.refusals c.next_part.new.remaining m t (Err e) c.in-Err-read_items.ensures.read in
+    let read = same_place (λ (f : Formats). g.F.ItemList.parts (context f g.R.Source.lends)) old.formats mid.formats old.levels mid.levels c.next_part.ensures.settings.formats c.next_part.ensures.settings.levels g.R.Source.refusals c.next_part.new.remaining m t (Err e) c.in-Err-read_items.ensures.read in
     others_lack (g.A.Readable.reads k) (g.F.ItemList.parts k) (formats_of old.formats) old.levels c.args.remaining g.R.Source.refusals c.next_part.new.remaining s m c.in-Ok.first c.in-Ok.ensures.read t e read
 
 pub returns-in-Err-read_items-clause-form : goal.returns-in-Err-read_items-clause-form
 returns-in-Err-read_items-clause-form g c =
-    let behind = later_in g.F.ItemList.wrong_forms c.args.de.now.decoder.formats c.next_part.new.de.decoder.formats _ _ c.in-Err-read_items.e c.next_part.ensures.formats c.in-Ok.ensures.read.took c.in-Err-read_items.ensures.form in
+    let behind = later_in g.F.ItemList.wrong_forms c.args.de.now.decoder.formats c.next_part.new.de.decoder.formats _ _ c.in-Err-read_items.e c.next_part.ensures.settings.formats c.in-Ok.ensures.read.took c.in-Err-read_items.ensures.form in
     of_right g.A.Readable.wrong_forms g.F.ItemList.wrong_forms _ _ _ behind
 
 pub returns-in-Ok-read_items-clause-read : goal.returns-in-Ok-read_items-clause-read
@@ -40,5 +40,5 @@ returns-in-Ok-read_items-clause-read g c =
     let m = g.R.Source.source mid.source in
     let t = g.R.Source.source c.read_items.new.de.decoder.source in
     let y = c.in-Ok-read_items.others in
-    let read = same_place (λ (f : Formats). g.F.ItemList.parts (context f g.R.Source.lends)) old.formats mid.formats old.levels mid.levels c.next_part.ensures.formats c.next_part.ensures.levels g.R.Source.refusals c.next_part.new.remaining m t (Ok y) c.in-Ok-read_items.ensures.read in
+    let read = same_place (λ (f : Formats). g.F.ItemList.parts (context f g.R.Source.lends)) old.formats mid.formats old.levels mid.levels c.next_part.ensures.settings.formats c.next_part.ensures.settings.levels g.R.Source.refusals c.next_part.new.remaining m t (Ok y) c.in-Ok-read_items.ensures.read in
     parts_there (g.A.Readable.reads k) (g.F.ItemList.parts k) (formats_of old.formats) old.levels c.args.remaining g.R.Source.refusals c.next_part.new.remaining s m c.in-Ok.first c.in-Ok.ensures.read t y read

@@ -25,7 +25,7 @@ returns-in-Err-deserialize-clause-read g c =
     let new = c.more_pairs.new.remaining in
     let more = c.in-Ok-true.field-0 in
     let e = c.in-Err-deserialize.e in
-    key_refused s m old.remaining new more reads old.de.now.decoder.formats now.formats old.de.now.decoder.levels now.levels c.more_pairs.ensures.formats c.more_pairs.ensures.levels
+    key_refused s m old.remaining new more reads old.de.now.decoder.formats now.formats old.de.now.decoder.levels now.levels c.more_pairs.ensures.settings.formats c.more_pairs.ensures.settings.levels
     g.R.Source.refusals (code_of e) (offset_of e) (there s m old.remaining new more old.de.now.decoder.formats c.in-Ok-true.field-0-test c.in-Ok-true.ensures.read) c.in-Err-deserialize.ensures.read
 
 pub returns-in-Ok-clause-read : goal.returns-in-Ok-clause-read
@@ -38,7 +38,7 @@ returns-in-Ok-clause-read g c =
     let reads = λ (f : Formats). g.K.Readable.reads (context f g.R.Source.lends) in
     let new = c.more_pairs.new.remaining in
     let more = c.in-Ok-true.field-0 in
-    key_next s m old.remaining new more reads old.de.now.decoder.formats now.formats old.de.now.decoder.levels now.levels c.more_pairs.ensures.formats c.more_pairs.ensures.levels t c.in-Ok.key
+    key_next s m old.remaining new more reads old.de.now.decoder.formats now.formats old.de.now.decoder.levels now.levels c.more_pairs.ensures.settings.formats c.more_pairs.ensures.settings.levels t c.in-Ok.key
     (there s m old.remaining new more old.de.now.decoder.formats c.in-Ok-true.field-0-test c.in-Ok-true.ensures.read) c.in-Ok.ensures.read
 
 -- ---- a key that may not begin as it does
@@ -66,4 +66,4 @@ returns-in-Err-clause-form g c =
 pub returns-in-Err-deserialize-clause-form : goal.returns-in-Err-deserialize-clause-form
 returns-in-Err-deserialize-clause-form g c =
     let e = c.in-Err-deserialize.e in
-    inl (later_in g.K.Readable.wrong_forms c.args.self.now.de.now.decoder.formats c.more_pairs.new.decoder.formats _ _ e c.more_pairs.ensures.formats c.in-Ok-true.ensures.read.took c.in-Err-deserialize.ensures.form)
+    inl (later_in g.K.Readable.wrong_forms c.args.self.now.de.now.decoder.formats c.more_pairs.new.decoder.formats _ _ e c.more_pairs.ensures.settings.formats c.in-Ok-true.ensures.read.took c.in-Err-deserialize.ensures.form)

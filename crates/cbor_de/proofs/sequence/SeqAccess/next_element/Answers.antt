@@ -15,7 +15,7 @@ returns-in-Err-deserialize-clause-read g c =
     let new = c.more_items.new.remaining in
     let more = c.in-Ok-true.field-0 in
     let e = c.in-Err-deserialize.e in
-    item_refused s m old.remaining new more reads old.de.now.decoder.formats now.formats old.de.now.decoder.levels now.levels c.more_items.ensures.formats c.more_items.ensures.levels
+    item_refused s m old.remaining new more reads old.de.now.decoder.formats now.formats old.de.now.decoder.levels now.levels c.more_items.ensures.settings.formats c.more_items.ensures.settings.levels
     g.R.Source.refusals (code_of e) (offset_of e) (comes s m old.remaining new more c.in-Ok-true.field-0-test c.in-Ok-true.ensures.read) c.in-Err-deserialize.ensures.read
 
 pub returns-in-Ok-clause-read : goal.returns-in-Ok-clause-read
@@ -28,9 +28,9 @@ returns-in-Ok-clause-read g c =
     let reads = λ (f : Formats). g.T.Readable.reads (context f g.R.Source.lends) in
     let new = c.more_items.new.remaining in
     let more = c.in-Ok-true.field-0 in
-    item_next s m old.remaining new more reads old.de.now.decoder.formats now.formats old.de.now.decoder.levels now.levels c.more_items.ensures.formats c.more_items.ensures.levels t c.in-Ok.item
+    item_next s m old.remaining new more reads old.de.now.decoder.formats now.formats old.de.now.decoder.levels now.levels c.more_items.ensures.settings.formats c.more_items.ensures.settings.levels t c.in-Ok.item
     (comes s m old.remaining new more c.in-Ok-true.field-0-test c.in-Ok-true.ensures.read) c.in-Ok.ensures.read
 
 pub returns-in-Err-deserialize-clause-form : goal.returns-in-Err-deserialize-clause-form
 returns-in-Err-deserialize-clause-form g c =
-    later_in g.T.Readable.wrong_forms c.args.self.now.de.now.decoder.formats c.more_items.new.decoder.formats _ _ c.in-Err-deserialize.e c.more_items.ensures.formats c.in-Ok-true.ensures.read.took c.in-Err-deserialize.ensures.form
+    later_in g.T.Readable.wrong_forms c.args.self.now.de.now.decoder.formats c.more_items.new.decoder.formats _ _ c.in-Err-deserialize.e c.more_items.ensures.settings.formats c.in-Ok-true.ensures.read.took c.in-Err-deserialize.ensures.form

@@ -21,6 +21,6 @@ returns-in-Err-deserialize-clause-steps g c =
       refused = none_before g.R.Source.refusals f (g.T.Readable.reads (context d.formats g.R.Source.lends)) d.levels s m t e b stays front h.read;
       fault = fault_before g.R.Source.refusals g.T.Readable.total f d.levels s m e stays (item_total g.T.Readable.passes_over g.T.Readable.total g.R.Source.refusals f d.levels m e h.fault);
       done = refl;
-      levels = h.levels;
-      formats = ap formats_of h.formats;
+      levels = h.settings.levels;
+      formats = ap formats_of h.settings.formats;
     }

@@ -14,8 +14,10 @@ returns-in-Ok g c = (
     unopened = tt;
     alone = tt;
     no_form = tt;
-    outer = refl;
-    inside = parts_inside c.args.self.form c.args.self.de.now.decoder.levels c.parts.new.decoder.levels c.args.self.outer c.requires c.in-Ok.ensures.inside;
-    formats = c.in-Ok.ensures.formats;
+    settings = record {
+      outer = refl;
+      inside = parts_inside c.args.self.form c.args.self.de.now.decoder.levels c.parts.new.decoder.levels c.args.self.outer c.requires c.in-Ok.ensures.inside;
+      formats = c.in-Ok.ensures.formats;
+    };
   },
 )

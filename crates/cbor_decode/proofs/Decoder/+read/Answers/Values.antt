@@ -34,7 +34,7 @@ value-returns-clause-read g t c =
     let f = formats_of c.args.self.now.formats in
     let levels = c.args.self.now.levels in
     let b = c.in_ok-first.first in
-    let given = subst_both (λ (f : Formats) (n : ℕ). Gives g.R.Source.refusals view (λ l. after_first (values f l) (inside (values f l) n) b) (g.R.Source.source c.byte.new.self.source) (g.R.Source.source c.value_from.new.self.source) c.value_from.new.self.refusal c.value_from.result) (ap formats_of c.in_ok-first.ensures.formats) c.in_ok-first.ensures.levels c.value_from.ensures.read in
+    let given = subst_both (λ (f : Formats) (n : ℕ). Gives g.R.Source.refusals view (λ l. after_first (values f l) (inside (values f l) n) b) (g.R.Source.source c.byte.new.self.source) (g.R.Source.source c.value_from.new.self.source) c.value_from.new.self.refusal c.value_from.result) (ap formats_of c.in_ok-first.ensures.settings.formats) c.in_ok-first.ensures.settings.levels c.value_from.ensures.read in
     gives_then g.R.Source.refusals view (λ l. after_first (values f l) (inside (values f l) levels) b) (λ l. item_at (values f l) levels) _ _ _ _ _ (λ l bs mid. byte_at bs ≡ Ok (b, mid))
     (λ l bs mid is. value_first f l levels b bs mid is) c.in_ok-first.ensures.read given
 
@@ -50,7 +50,7 @@ value_from-returns-in_ok-head-in_default-clause-read g t c =
     let f = formats_of c.args.self.now.formats in
     let levels = c.args.self.now.levels in
     let h = c.in_ok-head-in_default.head in
-    let given = subst_both (λ (f : Formats) (n : ℕ). Gives g.R.Source.refusals view (λ l. after_head f l (inside (values f l) n) h) (g.R.Source.source c.head.new.self.source) (g.R.Source.source c.value_of.new.self.source) c.value_of.new.self.refusal c.value_of.result) (ap formats_of c.in_ok-head-in_default.ensures.formats) c.in_ok-head-in_default.ensures.levels c.value_of.ensures.read in
+    let given = subst_both (λ (f : Formats) (n : ℕ). Gives g.R.Source.refusals view (λ l. after_head f l (inside (values f l) n) h) (g.R.Source.source c.head.new.self.source) (g.R.Source.source c.value_of.new.self.source) c.value_of.new.self.refusal c.value_of.result) (ap formats_of c.in_ok-head-in_default.ensures.settings.formats) c.in_ok-head-in_default.ensures.settings.levels c.value_of.ensures.read in
     gives_then g.R.Source.refusals view (λ l. after_head f l (inside (values f l) levels) h) (λ l. after_first (values f l) (inside (values f l) levels) c.args.first) _ _ _ _ _ _
     (λ l bs mid is. value_after f l (inside (values f l) levels) c.args.first is.0 h bs mid is.1) c.in_ok-head-in_default.ensures.read given
 
@@ -153,7 +153,7 @@ value-returns-clause-memory g t c =
     let s = g.R.Source.source c.args.self.now.source in
     let m = g.R.Source.source c.byte.new.self.source in
     let kept = c.value_from.new.self.refusal in
-    let given = subst_both (λ (f : Formats) (n : ℕ). IfErr c.value_from.result (MemoryOnly (ReadsStored (λ l. after_first (values f l) (inside (values f l) n) b) m) kept)) (ap formats_of c.in_ok-first.ensures.formats) c.in_ok-first.ensures.levels c.value_from.ensures.memory in
+    let given = subst_both (λ (f : Formats) (n : ℕ). IfErr c.value_from.result (MemoryOnly (ReadsStored (λ l. after_first (values f l) (inside (values f l) n) b) m) kept)) (ap formats_of c.in_ok-first.ensures.settings.formats) c.in_ok-first.ensures.settings.levels c.value_from.ensures.memory in
     on_err c.value_from.result (MemoryOnly (ReadsStored (λ l. after_first (values f l) (inside (values f l) levels) b) m) kept) (MemoryOnly (ReadsStored (λ l. item_at (values f l) levels) s) kept)
     (λ e. first_stored f levels b s m kept e c.in_ok-first.ensures.read) given
 

@@ -31,7 +31,7 @@ skip-returns-clause-memory g t c =
     let s = g.R.Source.source c.args.self.now.source in
     let t = g.R.Source.source c.byte.new.self.source in
     let kept = c.skip_from.new.self.refusal in
-    let given = subst_both (λ (f : Formats) (n : ℕ). IfErr c.skip_from.result (MemoryOnly (AsksWhere asks (AllRead HasChunks (chunks.behind_first f n b) t)) kept)) (ap formats_of c.in_ok-first.ensures.formats) c.in_ok-first.ensures.levels c.skip_from.ensures.memory in
+    let given = subst_both (λ (f : Formats) (n : ℕ). IfErr c.skip_from.result (MemoryOnly (AsksWhere asks (AllRead HasChunks (chunks.behind_first f n b) t)) kept)) (ap formats_of c.in_ok-first.ensures.settings.formats) c.in_ok-first.ensures.settings.levels c.skip_from.ensures.memory in
     err_asks asks (AllRead HasChunks (chunks.behind_first f levels b) t) (AllRead HasChunks (chunks.item f levels) s) kept c.skip_from.result (chunks.item_has_first f levels s t b c.in_ok-first.ensures.read) given
 
 pub skip_from-returns-clause-memory : goal.skip_from-returns-clause-memory
@@ -44,7 +44,7 @@ skip_from-returns-clause-memory g t c =
     let s = g.R.Source.source c.args.self.now.source in
     let t = g.R.Source.source c.head.new.self.source in
     let kept = c.skip_of.new.self.refusal in
-    let given = subst_both (λ (f : Formats) (n : ℕ). IfErr c.skip_of.result (MemoryOnly (AsksWhere asks (chunks.AfterHead f n t h)) kept)) (ap formats_of c.in_ok-head.ensures.formats) c.in_ok-head.ensures.levels c.skip_of.ensures.memory in
+    let given = subst_both (λ (f : Formats) (n : ℕ). IfErr c.skip_of.result (MemoryOnly (AsksWhere asks (chunks.AfterHead f n t h)) kept)) (ap formats_of c.in_ok-head.ensures.settings.formats) c.in_ok-head.ensures.settings.levels c.skip_of.ensures.memory in
     err_asks asks (chunks.AfterHead f levels t h) (AllRead HasChunks (chunks.behind_first f levels b) s) kept c.skip_of.result (chunks.first_has f levels s t b h c.in_ok-head.ensures.read) given
 
 pub skip_array-returns-clause-memory : goal.skip_array-returns-clause-memory
@@ -103,8 +103,8 @@ skip_items-returns-in_err-skip_from-clause-memory g t c =
     let b = c.in-Some.first in
     let asks = asks_for g.R.Source.refusals g.R.Source.lends in
     let kept = c.skip_from.new.self.refusal in
-    let same : c.next.new.self.levels ≡ levels = c.in_ok-first.ensures.levels ∙ c.items.invariant.levels in
-    let same_formats : formats_of c.next.new.self.formats ≡ f = ap formats_of (c.in_ok-first.ensures.formats ∙ c.items.invariant.formats) in
+    let same : c.next.new.self.levels ≡ levels = c.in_ok-first.ensures.settings.levels ∙ c.items.invariant.levels in
+    let same_formats : formats_of c.next.new.self.formats ≡ f = ap formats_of (c.in_ok-first.ensures.settings.formats ∙ c.items.invariant.formats) in
     let first = subst (λ (o : Option ℕ). Step s t (λ l rest mid. first_at end_in_array r rest ≡ Ok (first_of_next c.next.new.remaining o, mid))) c.in-Some.is c.in_ok-first.ensures.read in
     let begun = chunks.item_begins f levels s0 s t all r behind b c.items.invariant.leads first in
     let given = subst_both (λ (f : Formats) (n : ℕ). MemoryOnly (AsksWhere asks (AllRead HasChunks (chunks.behind_first f n b) t)) kept c.in_err-skip_from.field-0.0) same_formats same c.in_err-skip_from.ensures.memory in
@@ -124,8 +124,8 @@ skip_pairs-returns-in_err-skip_from-clause-memory g t c =
     let b = c.in-Some.first in
     let asks = asks_for g.R.Source.refusals g.R.Source.lends in
     let kept = c.skip_from.new.self.refusal in
-    let same : c.next.new.self.levels ≡ levels = c.in_ok-first.ensures.levels ∙ c.pairs.invariant.levels in
-    let same_formats : formats_of c.next.new.self.formats ≡ f = ap formats_of (c.in_ok-first.ensures.formats ∙ c.pairs.invariant.formats) in
+    let same : c.next.new.self.levels ≡ levels = c.in_ok-first.ensures.settings.levels ∙ c.pairs.invariant.levels in
+    let same_formats : formats_of c.next.new.self.formats ≡ f = ap formats_of (c.in_ok-first.ensures.settings.formats ∙ c.pairs.invariant.formats) in
     let first = subst (λ (o : Option ℕ). Step s t (λ l rest mid. first_at end_in_map r rest ≡ Ok (first_of_next c.next.new.remaining o, mid))) c.in-Some.is c.in_ok-first.ensures.read in
     let begun = chunks.key_begins f levels s0 s t all r behind b c.pairs.invariant.leads first in
     let given = subst_both (λ (f : Formats) (n : ℕ). MemoryOnly (AsksWhere asks (AllRead HasChunks (chunks.behind_first f n b) t)) kept c.in_err-skip_from.field-0.0) same_formats same c.in_err-skip_from.ensures.memory in
@@ -146,12 +146,12 @@ skip_pairs-returns-in_err-skip-clause-memory g t c =
     let b = c.in-Some.first in
     let asks = asks_for g.R.Source.refusals g.R.Source.lends in
     let kept = c.skip.new.self.refusal in
-    let same : c.next.new.self.levels ≡ levels = c.in_ok-first.ensures.levels ∙ c.pairs.invariant.levels in
-    let same_formats : formats_of c.next.new.self.formats ≡ f = ap formats_of (c.in_ok-first.ensures.formats ∙ c.pairs.invariant.formats) in
+    let same : c.next.new.self.levels ≡ levels = c.in_ok-first.ensures.settings.levels ∙ c.pairs.invariant.levels in
+    let same_formats : formats_of c.next.new.self.formats ≡ f = ap formats_of (c.in_ok-first.ensures.settings.formats ∙ c.pairs.invariant.formats) in
     let first = subst (λ (o : Option ℕ). Step s t (λ l rest mid. first_at end_in_map r rest ≡ Ok (first_of_next c.next.new.remaining o, mid))) c.in-Some.is c.in_ok-first.ensures.read in
     let key = subst_both (λ (f : Formats) (n : ℕ). Step t u (λ l mid after. passed (after_first (values f l) (inside (values f l) n) b mid) ≡ Ok (tt, after))) same_formats same c.in_ok-skip_from.ensures.read in
-    let same' : c.skip_from.new.self.levels ≡ levels = c.in_ok-skip_from.ensures.levels ∙ same in
-    let same_formats' : formats_of c.skip_from.new.self.formats ≡ f = ap formats_of c.in_ok-skip_from.ensures.formats ∙ same_formats in
+    let same' : c.skip_from.new.self.levels ≡ levels = c.in_ok-skip_from.ensures.settings.levels ∙ same in
+    let same_formats' : formats_of c.skip_from.new.self.formats ≡ f = ap formats_of c.in_ok-skip_from.ensures.settings.formats ∙ same_formats in
     let begun = chunks.key_done f levels s0 t u all behind b (chunks.key_begins f levels s0 s t all r behind b c.pairs.invariant.leads first) key in
     let given = subst_both (λ (f : Formats) (n : ℕ). MemoryOnly (AsksWhere asks (AllRead HasChunks (chunks.item f n) u)) kept c.in_err-skip.field-0.0) same_formats' same' c.in_err-skip.ensures.memory in
     rw (is_err.1, is_err.2) (asked_where asks (AllRead HasChunks (chunks.item f levels) u) (AllRead SomePairHasChunks (chunks.pairs f levels all) s0) kept c.in_err-skip.field-0.0 (chunks.value_has f levels s0 u all behind begun) given)

@@ -4,6 +4,7 @@ use Rattle.cbor_decode.specs.declared.formats.Formats.{Formats}
 use Rattle.cbor_decode_as.specs.Enums.{AreParts}
 use Rattle.cbor_de.specs.ItemLists.{TakesItems}
 use Rattle.cbor_decode_as.specs.Takes.{context, formats_of}
+use Rattle.cbor_described.proofs.OneOfs.{entered_tells}
 use Rattle.cbor_described.proofs.OneOfs.{content_made, content_not_made, no_parts, parts_meant, parts_not_meant}
 use Rattle.cbor_de.proofs.facts.Forms.{content_later}
 use Rattle.cbor_described.proofs.variant_list.TupleReadVariant.read_content.Goals as goal
@@ -48,3 +49,7 @@ returns-in-Err-clause-read g c =
 pub returns-in-Err-clause-form : goal.returns-in-Err-clause-form
 returns-in-Err-clause-form g c =
     content_later g.F.ReadableTuple.wrong_forms c.args.de.now.decoder.formats c.parts.new.de.decoder.formats c.args.form _ _ c.in-Err.e c.in_ok-remaining.ensures.formats c.in_ok-remaining.ensures.read.took c.in-Err.ensures.form
+
+pub returns-in-Err-clause-alone : goal.returns-in-Err-clause-alone
+returns-in-Err-clause-alone g c =
+    entered_tells _ c.args.form _ _ c.in-Err.e c.in_ok-remaining.ensures.inside

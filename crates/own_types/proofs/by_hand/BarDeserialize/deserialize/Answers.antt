@@ -64,30 +64,30 @@ returns-in_err-parts-in-2-clause-read g c =
 pub returns-in_err-name-in-2-clause-read : goal.returns-in_err-name-in-2-clause-read
 returns-in_err-name-in-2-clause-read g c =
     let so = variant_is names means 2 c.in_ok-access.ensures.head c.in_ok-access.ensures.formats (search rules) in
-    let parts = tuple_begins so _ _ refl c.in_ok-parts-in-2.ensures.head c.in_ok-parts-in-2.ensures.formats in
+    let parts = tuple_begins so _ _ refl c.in_ok-parts-in-2.ensures.head c.in_ok-parts-in-2.ensures.settings.formats in
     part_unread (λ f. text) _ parts _ _ _ c.in_err-name-in-2.ensures.read c.from_residual-in_err-name-in-2.ensures.1 (search rules)
 
 pub returns-in_err-flag-in-2-clause-read : goal.returns-in_err-flag-in-2-clause-read
 returns-in_err-flag-in-2-clause-read g c =
     let so = variant_is names means 2 c.in_ok-access.ensures.head c.in_ok-access.ensures.formats (search rules) in
-    let parts = tuple_begins so _ _ refl c.in_ok-parts-in-2.ensures.head c.in_ok-parts-in-2.ensures.formats in
-    let part0 = part_read (λ f. text) _ parts _ c.in_ok-name-in-2.ensures.read c.in_ok-name-in-2.ensures.formats c.in_ok-name-in-2.ensures.inside in
+    let parts = tuple_begins so _ _ refl c.in_ok-parts-in-2.ensures.head c.in_ok-parts-in-2.ensures.settings.formats in
+    let part0 = part_read (λ f. text) _ parts _ c.in_ok-name-in-2.ensures.read c.in_ok-name-in-2.ensures.settings.formats c.in_ok-name-in-2.ensures.settings.levels in
     part_unread (λ f. flag) _ part0 _ _ _ c.in_err-flag-in-2.ensures.read c.from_residual-in_err-flag-in-2.ensures.1 (search rules)
 
 pub returns-in_err-end-in-2-clause-read : goal.returns-in_err-end-in-2-clause-read
 returns-in_err-end-in-2-clause-read g c =
     let so = variant_is names means 2 c.in_ok-access.ensures.head c.in_ok-access.ensures.formats (search rules) in
-    let parts = tuple_begins so _ _ refl c.in_ok-parts-in-2.ensures.head c.in_ok-parts-in-2.ensures.formats in
-    let part0 = part_read (λ f. text) _ parts _ c.in_ok-name-in-2.ensures.read c.in_ok-name-in-2.ensures.formats c.in_ok-name-in-2.ensures.inside in
-    let part1 = part_read (λ f. flag) _ part0 _ c.in_ok-flag-in-2.ensures.read c.in_ok-flag-in-2.ensures.formats c.in_ok-flag-in-2.ensures.inside in
+    let parts = tuple_begins so _ _ refl c.in_ok-parts-in-2.ensures.head c.in_ok-parts-in-2.ensures.settings.formats in
+    let part0 = part_read (λ f. text) _ parts _ c.in_ok-name-in-2.ensures.read c.in_ok-name-in-2.ensures.settings.formats c.in_ok-name-in-2.ensures.settings.levels in
+    let part1 = part_read (λ f. flag) _ part0 _ c.in_ok-flag-in-2.ensures.read c.in_ok-flag-in-2.ensures.settings.formats c.in_ok-flag-in-2.ensures.settings.levels in
     parts_left part1 g.R.Source.refusals _ _ _ c.in_err-end-in-2.ensures.read c.from_residual-in_err-end-in-2.ensures.1 (search rules)
 
 pub returns-in_ok-end-in-2-clause-read : goal.returns-in_ok-end-in-2-clause-read
 returns-in_ok-end-in-2-clause-read g c =
     let so = variant_is names means 2 c.in_ok-access.ensures.head c.in_ok-access.ensures.formats (search rules) in
-    let parts = tuple_begins so _ _ refl c.in_ok-parts-in-2.ensures.head c.in_ok-parts-in-2.ensures.formats in
-    let part0 = part_read (λ f. text) _ parts _ c.in_ok-name-in-2.ensures.read c.in_ok-name-in-2.ensures.formats c.in_ok-name-in-2.ensures.inside in
-    let part1 = part_read (λ f. flag) _ part0 _ c.in_ok-flag-in-2.ensures.read c.in_ok-flag-in-2.ensures.formats c.in_ok-flag-in-2.ensures.inside in
+    let parts = tuple_begins so _ _ refl c.in_ok-parts-in-2.ensures.head c.in_ok-parts-in-2.ensures.settings.formats in
+    let part0 = part_read (λ f. text) _ parts _ c.in_ok-name-in-2.ensures.read c.in_ok-name-in-2.ensures.settings.formats c.in_ok-name-in-2.ensures.settings.levels in
+    let part1 = part_read (λ f. flag) _ part0 _ c.in_ok-flag-in-2.ensures.read c.in_ok-flag-in-2.ensures.settings.formats c.in_ok-flag-in-2.ensures.settings.levels in
     parts_read part1 c.in_ok-end-in-2.ensures.read (search rules)
 
 pub returns-in_err-point-in_default-clause-read : goal.returns-in_err-point-in_default-clause-read

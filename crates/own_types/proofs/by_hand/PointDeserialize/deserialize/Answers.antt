@@ -14,7 +14,7 @@ returns-in_err-access-clause-read g c =
 pub fields-init : goal.fields-init
 fields-init g c =
     let access = c.in_ok-access.ensures in
-    fields_begin names fields g.R.Source.source access.head access.formats access.names access.due access.taken
+    fields_begin names fields g.R.Source.source access.head access.settings.formats access.names access.due access.taken
 
 -- ---- next_field
 
@@ -25,7 +25,7 @@ returns-in_err-field-clause-read g c =
 due : (g : Over) (c : In-Some g) → FieldDue names fields g.R.Source.source c.args.de.now c.in_ok-access.access c.next_field.new.self (c.fields.x, (c.fields.y, tt)) c.in-Some.field
 due g c =
     let next = c.in_ok-field.ensures in
-    field_due c.fields.invariant c.next_field.new.self next.read c.in-Some.is next.same_reference next.outer next.names next.formats next.inside
+    field_due c.fields.invariant c.next_field.new.self next.read c.in-Some.is next.same_reference next.outer next.names next.settings.formats next.settings.levels
 
 ended : (g : Over) (c : In_default g) → FieldsEnded names fields g.R.Source.source c.args.de.now c.in_ok-access.access c.next_field.new.self (c.fields.x, (c.fields.y, tt))
 ended g c =
@@ -37,7 +37,7 @@ ended g c =
 pub fields-preserved-in-0-1 : goal.fields-preserved-in-0-1
 fields-preserved-in-0-1 g c =
     let done = c.in_ok-once-in-Known-eq0.ensures in
-    field_taken (due g (goal.at.fields-preserved-in-0-1 g c).In-Some) done.same_reference done.outer done.names done.due done.formats done.inside done.remaining 0 (cc) done.only_once _ done.holds done.read
+    field_taken (due g (goal.at.fields-preserved-in-0-1 g c).In-Some) done.same_reference done.outer done.names done.due done.settings.formats done.settings.levels done.remaining 0 (cc) done.only_once _ done.holds done.read
 
 pub returns-in_err-once-in-Known-eq0-clause-read : goal.returns-in_err-once-in-Known-eq0-clause-read
 returns-in_err-once-in-Known-eq0-clause-read g c =
@@ -46,7 +46,7 @@ returns-in_err-once-in-Known-eq0-clause-read g c =
 pub fields-preserved-in-1-1 : goal.fields-preserved-in-1-1
 fields-preserved-in-1-1 g c =
     let done = c.in_ok-once-in-Known-eq1.ensures in
-    field_taken (due g (goal.at.fields-preserved-in-1-1 g c).In-Some) done.same_reference done.outer done.names done.due done.formats done.inside done.remaining 1 (cc) done.only_once _ done.holds done.read
+    field_taken (due g (goal.at.fields-preserved-in-1-1 g c).In-Some) done.same_reference done.outer done.names done.due done.settings.formats done.settings.levels done.remaining 1 (cc) done.only_once _ done.holds done.read
 
 pub returns-in_err-once-in-Known-eq1-clause-read : goal.returns-in_err-once-in-Known-eq1-clause-read
 returns-in_err-once-in-Known-eq1-clause-read g c =
@@ -57,7 +57,7 @@ returns-in_err-once-in-Known-eq1-clause-read g c =
 pub fields-preserved : goal.fields-preserved
 fields-preserved g c =
     let done = c.in_ok-skip-in_default-field.ensures in
-    other_taken (due g (goal.at.fields-preserved g c).In-Some) done.same_reference done.outer done.names done.due done.formats done.inside done.remaining
+    other_taken (due g (goal.at.fields-preserved g c).In-Some) done.same_reference done.outer done.names done.due done.settings.formats done.settings.levels done.remaining
     (elim c.in_default-field.branch [
       | in_default-field-via-in-Known+in_default w ↦ known_other fields w.in_default-field.is (omega arith)
       | in_default-field-via-in_default w ↦ unknown_other fields w.in_default-field.is

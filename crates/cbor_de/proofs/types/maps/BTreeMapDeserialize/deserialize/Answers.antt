@@ -38,7 +38,7 @@ pairs-init g c =
       same = refl;
       outer = refl;
       levels = refl;
-      formats = c.in_ok-access.ensures.formats;
+      formats = c.in_ok-access.ensures.settings.formats;
       due = c.in_ok-access.ensures.due;
       so_far = map_begins s0 (Made keys values g.K.Ord.cmp es) old.decoder.formats first.decoder.levels c.in_ok-access.access.remaining (none_made keys values g.K.Ord.cmp es c.new-map.ensures.empty);
     }
@@ -65,8 +65,8 @@ pairs-preserved g c =
     let P = Made (keys old.decoder.formats) (values old.decoder.formats) g.K.Ord.cmp es in
     let Q = Made (keys old.decoder.formats) (values old.decoder.formats) g.K.Ord.cmp new in
     let read = subst (λ (o : Option g.row.K.Denot). Step s t (IsKey (keys now.decoder.formats) (formats_of now.decoder.formats) now.decoder.levels (remaining_of c.pairs.access.remaining) (remaining_of next.remaining) o)) c.in-Some.is c.in_ok-key.ensures.read in
-    let formats : next.de.now.decoder.formats ≡ old.decoder.formats = c.in_ok-key.ensures.formats ∙ i.formats in
-    let levels : next.de.now.decoder.levels ≡ first.decoder.levels = c.in_ok-key.ensures.inside ∙ i.levels in
+    let formats : next.de.now.decoder.formats ≡ old.decoder.formats = c.in_ok-key.ensures.settings.formats ∙ i.formats in
+    let levels : next.de.now.decoder.levels ≡ first.decoder.levels = c.in_ok-key.ensures.settings.levels ∙ i.levels in
     let so_far = map_goes_on s0 P old.decoder.formats first.decoder.levels c.in_ok-access.access.remaining
     now.decoder.formats now.decoder.levels i.formats i.levels keys values c.pairs.access.remaining s
     next.remaining t k next.de.now.decoder.formats next.de.now.decoder.levels formats levels
@@ -122,8 +122,8 @@ returns-in_err-value-clause-read g c =
     let P = Made (keys old.decoder.formats) (values old.decoder.formats) g.K.Ord.cmp es in
     let pairs = λ (rs : RawPairs) (m : BTreeMap g.row.K.Denot g.row.V.Denot). AreEntries g.K.Ord.cmp (keys old.decoder.formats) (values old.decoder.formats) rs m.entries in
     let read = subst (λ (o : Option g.row.K.Denot). Step s t (IsKey (keys now.decoder.formats) (formats_of now.decoder.formats) now.decoder.levels (remaining_of c.pairs.access.remaining) (remaining_of next.remaining) o)) c.in-Some.is c.in_ok-key.ensures.read in
-    let formats : next.de.now.decoder.formats ≡ old.decoder.formats = c.in_ok-key.ensures.formats ∙ i.formats in
-    let levels : next.de.now.decoder.levels ≡ first.decoder.levels = c.in_ok-key.ensures.inside ∙ i.levels in
+    let formats : next.de.now.decoder.formats ≡ old.decoder.formats = c.in_ok-key.ensures.settings.formats ∙ i.formats in
+    let levels : next.de.now.decoder.levels ≡ first.decoder.levels = c.in_ok-key.ensures.settings.levels ∙ i.levels in
     rw (passed.1, passed.2) (refuses_on (map_refused s0 P old.decoder.formats first.decoder.levels c.in_ok-access.access.remaining
     pairs old.decoder.levels (g.R.Source.source old.decoder.source) g.R.Source.refusals (code_of e) (offset_of e) c.in_ok-access.ensures.head
     (value_lacks s0 P old.decoder.formats first.decoder.levels c.in_ok-access.access.remaining
@@ -203,4 +203,4 @@ returns-in_err-value-clause-form g c =
     let i = c.pairs.invariant in
     let e = c.in_err-value.field-0.0 in
     let took = some_then _ _ _ c.in_ok-access.ensures.head.took (some_then _ _ _ i.so_far.took c.in_ok-key.ensures.read.took) in
-    rw (passed.1, passed.2) (of_right (any_of key_form g.K.Readable.wrong_forms) g.V.Readable.wrong_forms _ _ e (later_in g.V.Readable.wrong_forms c.args.de.now.decoder.formats c.next_key.new.self.de.now.decoder.formats _ _ e (c.in_ok-key.ensures.formats ∙ i.formats) took c.in_err-value.ensures.form))
+    rw (passed.1, passed.2) (of_right (any_of key_form g.K.Readable.wrong_forms) g.V.Readable.wrong_forms _ _ e (later_in g.V.Readable.wrong_forms c.args.de.now.decoder.formats c.next_key.new.self.de.now.decoder.formats _ _ e (c.in_ok-key.ensures.settings.formats ∙ i.formats) took c.in_err-value.ensures.form))

@@ -28,8 +28,8 @@ returns-in-Ok-clause-read g c =
     let t = g.R.Source.source c.deserialize.new.de.decoder.source in
     let step = subst (λ (b : Bool). Step s m (λ l bs rest. null_at bs ≡ Ok (b, rest))) c.in-Ok-false.field-0-test c.in-Ok-false.ensures.read in
     let x = c.in-Ok.value in
-    let taken = subst (λ (n : ℕ). Step m t (λ l bs rest. IsRead (g.T.Readable.reads (context de.decoder.formats g.R.Source.lends)) (item_at (raws (formats_of de.decoder.formats) l) n bs) x rest)) c.in-Ok-false.ensures.levels
-    (subst (λ (k : Formats). Step m t (λ l bs rest. IsRead (g.T.Readable.reads (context k g.R.Source.lends)) (item_at (raws (formats_of k) l) c.take_null.new.decoder.levels bs) x rest)) c.in-Ok-false.ensures.formats c.in-Ok.ensures.read) in
+    let taken = subst (λ (n : ℕ). Step m t (λ l bs rest. IsRead (g.T.Readable.reads (context de.decoder.formats g.R.Source.lends)) (item_at (raws (formats_of de.decoder.formats) l) n bs) x rest)) c.in-Ok-false.ensures.settings.levels
+    (subst (λ (k : Formats). Step m t (λ l bs rest. IsRead (g.T.Readable.reads (context k g.R.Source.lends)) (item_at (raws (formats_of k) l) c.take_null.new.decoder.levels bs) x rest)) c.in-Ok-false.ensures.settings.formats c.in-Ok.ensures.read) in
     option_some g.R.Source.refusals (formats_of de.decoder.formats) (g.T.Readable.reads (context de.decoder.formats g.R.Source.lends)) de.decoder.levels s m t x step taken
 
 pub returns-in-Err-deserialize-clause-read : goal.returns-in-Err-deserialize-clause-read
@@ -41,8 +41,8 @@ returns-in-Err-deserialize-clause-read g c =
     let step = subst (λ (b : Bool). Step s m (λ l bs rest. null_at bs ≡ Ok (b, rest))) c.in-Ok-false.field-0-test c.in-Ok-false.ensures.read in
     let k = code_of c.in-Err-deserialize.e in
     let at = offset_of c.in-Err-deserialize.e in
-    let stops = subst (λ (n : ℕ). Refuses g.R.Source.refusals m t k at (λ l bs. IsNotRead (g.T.Readable.reads (context de.decoder.formats g.R.Source.lends)) (item_at (raws (formats_of de.decoder.formats) l) n bs))) c.in-Ok-false.ensures.levels
-    (subst (λ (f : Formats). Refuses g.R.Source.refusals m t k at (λ l bs. IsNotRead (g.T.Readable.reads (context f g.R.Source.lends)) (item_at (raws (formats_of f) l) c.take_null.new.decoder.levels bs))) c.in-Ok-false.ensures.formats c.in-Err-deserialize.ensures.read) in
+    let stops = subst (λ (n : ℕ). Refuses g.R.Source.refusals m t k at (λ l bs. IsNotRead (g.T.Readable.reads (context de.decoder.formats g.R.Source.lends)) (item_at (raws (formats_of de.decoder.formats) l) n bs))) c.in-Ok-false.ensures.settings.levels
+    (subst (λ (f : Formats). Refuses g.R.Source.refusals m t k at (λ l bs. IsNotRead (g.T.Readable.reads (context f g.R.Source.lends)) (item_at (raws (formats_of f) l) c.take_null.new.decoder.levels bs))) c.in-Ok-false.ensures.settings.formats c.in-Err-deserialize.ensures.read) in
     option_refused g.R.Source.refusals (formats_of de.decoder.formats) (g.T.Readable.reads (context de.decoder.formats g.R.Source.lends)) de.decoder.levels s m k at step stops
 
 pub returns-in-Err-deserialize-clause-memory : goal.returns-in-Err-deserialize-clause-memory
@@ -54,8 +54,8 @@ returns-in-Err-deserialize-clause-memory g c =
     let e = c.in-Err-deserialize.e in
     let asks = g.T.Readable.asks_memory (asks_for g.R.Source.refusals g.R.Source.lends) in
     let reads = λ (f : Formats). g.T.Readable.reads (context f g.R.Source.lends) in
-    let behind = subst (λ (n : ℕ). MemoryFor asks (formats_of de.decoder.formats) (reads de.decoder.formats) n m e) c.in-Ok-false.ensures.levels
-    (subst (λ (f : Formats). MemoryFor asks (formats_of f) (reads f) c.take_null.new.decoder.levels m e) c.in-Ok-false.ensures.formats c.in-Err-deserialize.ensures.memory) in
+    let behind = subst (λ (n : ℕ). MemoryFor asks (formats_of de.decoder.formats) (reads de.decoder.formats) n m e) c.in-Ok-false.ensures.settings.levels
+    (subst (λ (f : Formats). MemoryFor asks (formats_of f) (reads f) c.take_null.new.decoder.levels m e) c.in-Ok-false.ensures.settings.formats c.in-Err-deserialize.ensures.memory) in
     option_memory g.R.Source.refusals (formats_of de.decoder.formats) (reads de.decoder.formats) de.decoder.levels s asks m e step behind
 
 pub returns-in-Err-clause-fault : goal.returns-in-Err-clause-fault
@@ -80,9 +80,9 @@ returns-in-Err-deserialize-clause-fault g c =
     let e = c.in-Err-deserialize.e in
     let passes = g.T.Readable.passes_over in
     let there = item_passes passes g.T.Readable.total g.R.Source.refusals (formats_of mid.formats) mid.levels m e c.in-Err-deserialize.ensures.fault in
-    let here = subst (λ (n : ℕ). WhereTotal passes (RefusesWhole g.R.Source.refusals n m e)) c.in-Ok-false.ensures.levels there in
+    let here = subst (λ (n : ℕ). WhereTotal passes (RefusesWhole g.R.Source.refusals n m e)) c.in-Ok-false.ensures.settings.levels there in
     item_only passes false g.R.Source.refusals f levels s e (where_map passes (option_whole g.R.Source.refusals levels s m e step) here)
 
 pub returns-in-Err-deserialize-clause-form : goal.returns-in-Err-deserialize-clause-form
 returns-in-Err-deserialize-clause-form g c =
-    later_in g.T.Readable.wrong_forms c.args.de.now.decoder.formats c.take_null.new.decoder.formats _ _ c.in-Err-deserialize.e c.in-Ok-false.ensures.formats c.in-Ok-false.ensures.read.took c.in-Err-deserialize.ensures.form
+    later_in g.T.Readable.wrong_forms c.args.de.now.decoder.formats c.take_null.new.decoder.formats _ _ c.in-Err-deserialize.e c.in-Ok-false.ensures.settings.formats c.in-Ok-false.ensures.read.took c.in-Err-deserialize.ensures.form

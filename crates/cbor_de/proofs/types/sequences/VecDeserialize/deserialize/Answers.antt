@@ -34,7 +34,7 @@ items-init g c =
       same = refl;
       outer = refl;
       levels = refl;
-      formats = c.in_ok-access.ensures.formats;
+      formats = c.in_ok-access.ensures.settings.formats;
       so_far = loop_begins s0 (EachRead reads xs) old.decoder.formats old.decoder.formats first.decoder.levels first.decoder.levels refl refl c.in_ok-access.access.remaining (each_none reads xs c.new-items.ensures.items);
     }
 
@@ -56,7 +56,7 @@ items-preserved g c =
     let ys = c.push_any.new.items.items in
     let pushed : ys ≡ xs ++ x ∷ [] = search rules in
     let came = comes s m c.items.access.remaining mid.remaining c.in-Ok-true.field-0 c.in-Ok-true.field-0-test c.in-Ok-true.ensures.read in
-    let read = item_next s m c.items.access.remaining mid.remaining c.in-Ok-true.field-0 reads now.decoder.formats mid.de.now.decoder.formats now.decoder.levels mid.de.now.decoder.levels c.more.ensures.formats (search rules) t x came c.in-Ok.ensures.read in
+    let read = item_next s m c.items.access.remaining mid.remaining c.in-Ok-true.field-0 reads now.decoder.formats mid.de.now.decoder.formats now.decoder.levels mid.de.now.decoder.levels c.more.ensures.settings.formats (search rules) t x came c.in-Ok.ensures.read in
     record {
       same = search rules;
       outer = search rules;
@@ -104,7 +104,7 @@ returns-in-Err-deserialize-clause-read g c =
     let P = EachRead (reads old.decoder.formats) xs in
     let items = λ (rs : Raws) (v : Vec g.row.T.Denot Global). AreRead (reads old.decoder.formats) rs v.items in
     let came = comes s m c.items.access.remaining mid.remaining c.in-Ok-true.field-0 c.in-Ok-true.field-0-test c.in-Ok-true.ensures.read in
-    let refused = item_refused s m c.items.access.remaining mid.remaining c.in-Ok-true.field-0 reads now.decoder.formats mid.de.now.decoder.formats now.decoder.levels mid.de.now.decoder.levels c.more.ensures.formats (search rules)
+    let refused = item_refused s m c.items.access.remaining mid.remaining c.in-Ok-true.field-0 reads now.decoder.formats mid.de.now.decoder.formats now.decoder.levels mid.de.now.decoder.levels c.more.ensures.settings.formats (search rules)
     g.R.Source.refusals (code_of e) (offset_of e) came c.in-Err-deserialize.ensures.read in
     rw c.refuse.ensures.error (refuses_on (array_refused s0 P old.decoder.formats now.decoder.formats first.decoder.levels now.decoder.levels i.formats i.levels c.in_ok-access.access.remaining
     items old.decoder.levels (g.R.Source.source old.decoder.source) g.R.Source.refusals (code_of e) (offset_of e) c.in_ok-access.ensures.head
@@ -164,4 +164,4 @@ pub returns-in-Err-deserialize-clause-form : goal.returns-in-Err-deserialize-cla
 returns-in-Err-deserialize-clause-form g c =
     let i = c.items.invariant in
     let took = some_then _ _ _ c.in_ok-access.ensures.head.took (some_then _ _ _ i.so_far.took c.in-Ok-true.ensures.read.took) in
-    rw c.refuse.ensures.error (later_in g.T.Readable.wrong_forms c.args.de.now.decoder.formats c.more.new.self.de.now.decoder.formats _ _ c.in-Err-deserialize.e (c.more.ensures.formats ∙ i.formats) took c.in-Err-deserialize.ensures.form)
+    rw c.refuse.ensures.error (later_in g.T.Readable.wrong_forms c.args.de.now.decoder.formats c.more.new.self.de.now.decoder.formats _ _ c.in-Err-deserialize.e (c.more.ensures.settings.formats ∙ i.formats) took c.in-Err-deserialize.ensures.form)

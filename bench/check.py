@@ -1,0 +1,121 @@
+#!/usr/bin/env python3
+"""Proves crates over kept proofs of the libraries below them, in any work tree of this repository.
+
+    bench/check.py NAME..                   proves the crates, and first what isn't kept below them
+    bench/check.py --test NAME..            with their tests
+    bench/check.py NAME -- --only PATH      rattle's own flags stand behind `--`
+
+A library that is proved is kept by its text and that of those below it, under `.git/kept` of the first
+work tree; what was proved of a crate between two runs is kept in its `out`. JOBS is the number of
+processes. It gives no verdict: the gate does, which takes nothing from here. Kit 13b's `rt check` proves
+the libraries below a crate anew in each work tree; this works by that kit's own parts.
+"""
+import fcntl
+import importlib.machinery
+import importlib.util
+import os
+import pathlib
+import shutil
+import subprocess
+import sys
+
+sys.dont_write_bytecode = True
+
+
+def from_kit():
+    """The parts of the kit's command `rt`."""
+    page = subprocess.run(["rt", "doc"], capture_output=True, text=True, check=True).stdout.strip()
+    folder = pathlib.Path(page).parent / "bin"
+    sys.path.insert(0, str(folder))
+    loader = importlib.machinery.SourceFileLoader("rt", str(folder / "rt"))
+    module = importlib.util.module_from_spec(importlib.util.spec_from_loader("rt", loader))
+    loader.exec_module(module)
+    return module
+
+
+class Kept:
+    def __init__(self, rt, top, jobs):
+        common = ["git", "rev-parse", "--path-format=absolute", "--git-common-dir"]
+        said = subprocess.run(common, cwd=top, capture_output=True, text=True, check=True)
+        self.store = pathlib.Path(said.stdout.strip()) / "kept"
+        self.store.mkdir(exist_ok=True)
+        self.rt, self.jobs = rt, ["--jobs", jobs]
+        # the crates above a library load its statements alone
+        rt.Crate.cuts_libraries = True
+        rt.rtlib.Crate = rt.Crate
+        self.crates = {it.name: it for it in rt.rtlib.crates_below(top)}
+        for crate in self.crates.values():
+            rt.read_files(crate)
+
+    def rattle(self, crate, words, log=None):
+        whole = [*self.rt.rtlib.guarded(), self.rt.rtlib.RATTLE, *words]
+        ends = {"stdout": log, "stderr": subprocess.STDOUT if log else None}
+        return subprocess.run(whole, cwd=crate.folder, stdin=subprocess.DEVNULL, **ends).returncode
+
+    def is_placed(self, crate):
+        """Whether the library is built here, or could be copied from the store."""
+        kept = self.store / f"{crate.name}-{crate.stamp()[:24]}"
+        here = pathlib.Path(crate.folder) / "out/rlib"
+        mark = here / "kept"
+        if mark.is_file() and mark.read_text() == kept.name:
+            return True
+        if not kept.is_dir():
+            return False
+        shutil.rmtree(here, ignore_errors=True)
+        shutil.copytree(kept, here, symlinks=True)
+        mark.write_text(kept.name)
+        return True
+
+    def build(self, crate):
+        """Whether the library is proved and built."""
+        if self.is_placed(crate):
+            return True
+        name = f"{crate.name}-{crate.stamp()[:24]}"
+        # another run may be proving it
+        with open(self.store / f"{name}.lock", "w", encoding="utf-8") as lock:
+            fcntl.flock(lock, fcntl.LOCK_EX)
+            if self.is_placed(crate):
+                return True
+            if not all(self.build(it) for it in crate.below()):
+                return False
+            print(f"proving {crate.name}", flush=True)
+            out = pathlib.Path(crate.folder) / "out"
+            shutil.rmtree(out / "rlib", ignore_errors=True)
+            (out / "rlib").mkdir(parents=True)
+            # with --statements nothing is taken from the checks before
+            how = ["--incremental", "out/kept"] if (out / "kept").is_dir() else ["--statements"]
+            words = ["build", *crate.words(self.jobs, keeps=False), *how, "-o", crate.rlib]
+            with open(out / "kept.log", "w", encoding="utf-8") as log:
+                if self.rattle(crate, words, log):
+                    print(f"{crate.name} isn't proved: {out}/kept.log")
+                    return False
+            room = self.store / f"{name}.{os.getpid()}"
+            shutil.copytree(out / "rlib", room, symlinks=True)
+            room.rename(self.store / name)
+            (out / "rlib/kept").write_text(name)
+        return True
+
+    def check(self, crate, flags, tests):
+        if not all(self.build(it) for it in crate.below()):
+            return 1
+        (pathlib.Path(crate.folder) / "out").mkdir(exist_ok=True)
+        words = crate.words([*flags, *self.jobs], tests=tests, keeps=False)
+        kept = ["--incremental", "out/kept-tests" if tests else "out/kept"]
+        return self.rattle(crate, ["check", *words, *kept, "--progress", "--empty-contracts"])
+
+
+def main(words):
+    at = words.index("--") if "--" in words else len(words)
+    names, flags = words[:at], words[at + 1 :]
+    tests = "--test" in names
+    names = [it for it in names if it != "--test"]
+    top = pathlib.Path(__file__).resolve().parent.parent
+    kept = Kept(from_kit(), str(top), os.environ.get("JOBS", "1"))
+    if not names or any(it not in kept.crates for it in names):
+        print(__doc__)
+        return 2
+    return next((status for it in names if (status := kept.check(kept.crates[it], flags, tests))), 0)
+
+
+if __name__ == "__main__":
+    sys.exit(main(sys.argv[1:]))

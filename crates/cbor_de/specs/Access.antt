@@ -1,0 +1,158 @@
+-- The words for accesses: what opens one, and what a call on it takes. They speak of the deserializer
+-- before and after, and of what remains; `Accesses`, `MapAccesses` and `Variants` of `cbor_decode_as`
+-- say the same of inputs.
+use Rattle.std.specs.Prelude.{◌≡◌, ◌<◌, ◌≤◌, ℕ, Bool, List, Option, MatchOption, Result}
+use Rattle.cbor_model.specs.Raw.{Raw}
+use Rattle.cbor_model.specs.Reader.{item_at}
+use Rattle.cbor_io.specs.declared.error.Error.{Error}
+use Rattle.cbor_io.specs.declared.read_error.ReadErrorCode.{ReadErrorCode}
+use Rattle.cbor_read.specs.Source.{Input}
+use Rattle.cbor_decode.specs.Gives.{Step}
+use Rattle.cbor_decode.specs.Steps as step
+use Rattle.cbor_decode.specs.declared.cursor.Remaining.{Remaining}
+use Rattle.cbor_decode.specs.declared.cursor.Remaining.TheVariants.{Counted}
+use Rattle.cbor_decode.specs.declared.head.Head.{Head}
+use Rattle.cbor_decode_as.specs.Accesses as arrays
+use Rattle.cbor_decode_as.specs.Accesses.{most_left}
+use Rattle.cbor_decode_as.specs.Begins as begins
+use Rattle.cbor_decode_as.specs.BeginsEnum as begins_enum
+use Rattle.cbor_decode_as.specs.MapAccesses as maps
+use Rattle.cbor_decode_as.specs.Takes.{WhateverTaken, formats_of, raws}
+use Rattle.cbor_decode_as.specs.Enums.{Content}
+use Rattle.cbor_decode_as.specs.Variants as variants
+use Rattle.cbor_decode_as.specs.declared.variant.Form.{Form}
+use Rattle.cbor_de.specs.declared.de.Deserializer.{Deserializer}
+
+-- ---- what opens one
+
+-- Refused, so many levels are left, the same formats are read, and some bytes were taken.
+abbrev pub Rests : {R : Type 0} → (R → Input) → ℕ → Deserializer R → Deserializer R → Type 0
+Rests seen outer old last =
+    (last.decoder.levels ≡ outer)
+    × (last.decoder.formats ≡ old.decoder.formats)
+    × step.TookSome seen old.decoder last.decoder
+
+-- the heads of an array were taken
+abbrev pub OpensArray : {R : Type 0} → (R → Input) → Deserializer R → Deserializer R → Remaining
+    → Type 0
+OpensArray seen old now remaining =
+    let f = formats_of old.decoder.formats in
+    Step (seen old.decoder.source) (seen now.decoder.source) (λ l bs rest. arrays.IsArrayHead f l (item_at (raws f l) old.decoder.levels bs) now.decoder.levels remaining rest)
+
+abbrev pub RefusesArray : {R : Type 0} → (R → Input) → (ReadErrorCode → Bool) → Deserializer R
+    → Error → Type 0
+RefusesArray seen refusals old e =
+    let s = seen old.decoder.source in
+    WhateverTaken s (arrays.RefusesArray refusals (formats_of old.decoder.formats) old.decoder.levels s) e
+
+-- the heads of a map were taken
+abbrev pub OpensMap : {R : Type 0} → (R → Input) → Deserializer R → Deserializer R → Remaining
+    → Type 0
+OpensMap seen old now remaining =
+    let f = formats_of old.decoder.formats in
+    Step (seen old.decoder.source) (seen now.decoder.source) (λ l bs rest. maps.IsMapHead f l (item_at (raws f l) old.decoder.levels bs) now.decoder.levels remaining rest)
+
+abbrev pub RefusesMap : {R : Type 0} → (R → Input) → (ReadErrorCode → Bool) → Deserializer R
+    → Error → Type 0
+RefusesMap seen refusals old e =
+    let s = seen old.decoder.source in
+    WhateverTaken s (maps.RefusesMap refusals (formats_of old.decoder.formats) old.decoder.levels s) e
+
+-- such a head alone was taken, whatever follows it
+abbrev pub Begins : {R : Type 0} → (R → Input) → (Remaining → Head) → Deserializer R
+    → Deserializer R → Remaining → Type 0
+Begins seen kind old now remaining = Step (seen old.decoder.source) (seen now.decoder.source) (λ l bs rest. begins.Begins kind old.decoder.levels now.decoder.levels remaining bs rest)
+
+abbrev pub RefusesBeginning : {R : Type 0} → (R → Input) → (ReadErrorCode → Bool)
+    → (Remaining → Head) → Deserializer R → Error → Type 0
+RefusesBeginning seen refusals kind old e =
+    let s = seen old.decoder.source in
+    WhateverTaken s (begins.RefusesBeginning kind refusals old.decoder.levels s) e
+
+-- an enum was taken up to its identifier, which is one of the names
+abbrev pub OpensVariant : {R : Type 0} → (R → Input) → List (List ℕ) → Deserializer R
+    → Deserializer R → ℕ → Form → Type 0
+OpensVariant seen names old now index form =
+    let f = formats_of old.decoder.formats in
+    Step (seen old.decoder.source) (seen now.decoder.source) (λ l bs rest. variants.IsVariantHead f names l (item_at (raws f l) old.decoder.levels bs) now.decoder.levels index form rest)
+
+abbrev pub RefusesVariant : {R : Type 0} → (R → Input) → (ReadErrorCode → Bool) → List (List ℕ)
+    → Deserializer R → Error → Type 0
+RefusesVariant seen refusals names old e =
+    let s = seen old.decoder.source in
+    WhateverTaken s (variants.RefusesVariant refusals (formats_of old.decoder.formats) names old.decoder.levels s) e
+
+-- the same, whatever follows
+abbrev pub BeginsVariant : {R : Type 0} → (R → Input) → List (List ℕ) → Deserializer R
+    → Deserializer R → ℕ → Form → Type 0
+BeginsVariant seen names old now index form = Step (seen old.decoder.source) (seen now.decoder.source) (λ l bs rest. begins_enum.BeginsVariant (formats_of old.decoder.formats) names l old.decoder.levels now.decoder.levels index form bs rest)
+
+abbrev pub RefusesVariantHead : {R : Type 0} → (R → Input) → (ReadErrorCode → Bool)
+    → List (List ℕ) → Deserializer R → Error → Type 0
+RefusesVariantHead seen refusals names old e =
+    let s = seen old.decoder.source in
+    WhateverTaken s (begins_enum.RefusesVariantHead refusals (formats_of old.decoder.formats) names old.decoder.levels s) e
+
+-- what stands before the parts of a variant of several was taken
+abbrev pub OpensParts : {R : Type 0} → (R → Input) → Form → Deserializer R → Deserializer R
+    → Remaining → Type 0
+OpensParts seen form old now remaining =
+    let f = formats_of old.decoder.formats in
+    Step (seen old.decoder.source) (seen now.decoder.source) (λ l bs rest. variants.IsPartsHead f l (variants.content_at f l old.decoder.levels form bs) now.decoder.levels remaining rest)
+
+abbrev pub RefusesParts : {R : Type 0} → (R → Input) → (ReadErrorCode → Bool) → Form
+    → Deserializer R → Error → Type 0
+RefusesParts seen refusals form old e =
+    let s = seen old.decoder.source in
+    WhateverTaken s (variants.RefusesParts refusals (formats_of old.decoder.formats) old.decoder.levels form s) e
+
+-- the same, whatever follows
+abbrev pub BeginsParts : {R : Type 0} → (R → Input) → Form → Deserializer R → Deserializer R
+    → Remaining → Type 0
+BeginsParts seen form old now remaining = Step (seen old.decoder.source) (seen now.decoder.source) (λ l bs rest. begins_enum.BeginsParts old.decoder.levels form now.decoder.levels remaining bs rest)
+
+abbrev pub RefusesPartsHead : {R : Type 0} → (R → Input) → (ReadErrorCode → Bool) → Form
+    → Deserializer R → Error → Type 0
+RefusesPartsHead seen refusals form old e =
+    let s = seen old.decoder.source in
+    WhateverTaken s (begins_enum.RefusesPartsHead refusals old.decoder.levels form s) e
+
+-- ---- what a call on one takes
+
+abbrev pub TakesNext : {R A : Type 0} → (R → Input) → (ReadErrorCode → Bool) → (Raw → A → Type 0)
+    → Remaining → Remaining → Deserializer R → Deserializer R → Result (Option A) Error → Type 0
+TakesNext seen refusals reads remaining behind old new result =
+    arrays.TakesNext refusals (formats_of old.decoder.formats) reads old.decoder.levels remaining behind (seen old.decoder.source) (seen new.decoder.source) result
+
+abbrev pub TakesPart : {R A : Type 0} → (R → Input) → (ReadErrorCode → Bool) → (Raw → A → Type 0)
+    → Remaining → Remaining → Deserializer R → Deserializer R → Result A Error → Type 0
+TakesPart seen refusals reads remaining behind old new result =
+    arrays.TakesPart refusals (formats_of old.decoder.formats) reads old.decoder.levels remaining behind (seen old.decoder.source) (seen new.decoder.source) result
+
+abbrev pub TakesKey : {R A : Type 0} → (R → Input) → (ReadErrorCode → Bool) → (Raw → A → Type 0)
+    → Remaining → Remaining → Deserializer R → Deserializer R → Result (Option A) Error → Type 0
+TakesKey seen refusals reads remaining behind old new result =
+    maps.TakesKey refusals (formats_of old.decoder.formats) reads old.decoder.levels remaining behind (seen old.decoder.source) (seen new.decoder.source) result
+
+abbrev pub TakesContent : {R A : Type 0} → (R → Input) → (ReadErrorCode → Bool)
+    → (Content → A → Type 0) → Form → Deserializer R → Deserializer R → Result A Error → Type 0
+TakesContent seen refusals reads form old new result =
+    variants.TakesContent refusals (formats_of old.decoder.formats) reads old.decoder.levels form (seen old.decoder.source) (seen new.decoder.source) result
+
+-- Fewer can still be read, so that a loop ends.
+abbrev pub Fewer : {R : Type 0} → (R → Input) → Remaining → Remaining → Deserializer R
+    → Deserializer R → Type 0
+Fewer seen remaining behind old new =
+    most_left behind (seen new.decoder.source) < most_left remaining (seen old.decoder.source)
+
+-- No more can still be read.
+abbrev pub NoMore : {R : Type 0} → (R → Input) → Remaining → Remaining → Deserializer R
+    → Deserializer R → Type 0
+NoMore seen remaining behind old new =
+    most_left behind (seen new.decoder.source) ≤ most_left remaining (seen old.decoder.source)
+
+-- Nothing remains after the last, and fewer after another.
+abbrev pub Ends : {R A : Type 0} → (R → Input) → Remaining → Remaining → Deserializer R
+    → Deserializer R → Option A → Type 0
+Ends seen remaining behind old new next =
+    MatchOption next (behind ≡ Counted 0) (λ x. Fewer seen remaining behind old new)
