@@ -4,6 +4,8 @@
     bench/check.py NAME..                   proves the crates, and first what isn't kept below them
     bench/check.py --test NAME..            with their tests
     bench/check.py NAME -- --only PATH      rattle's own flags stand behind `--`
+    bench/check.py --edits NAME [EDIT..]    tries the crate's edits that must fail, or these of them
+    bench/check.py --apply                  names each edit, of any crate, whose text isn't found
 
 A library that is proved is kept by its text and that of those below it, under `.git/kept` of the first
 work tree; what was proved of a crate between two runs is kept in its `out`. JOBS is the number of
@@ -103,17 +105,47 @@ class Kept:
         kept = ["--incremental", "out/kept-tests" if tests else "out/kept"]
         return self.rattle(crate, ["check", *words, *kept, "--progress", "--empty-contracts"])
 
+    def try_edits(self, crate, names):
+        """Tries edits in turn, each over what the checks before it proved, and says of each how it went."""
+        if not all(self.build(it) for it in crate.below()):
+            return 1
+        folder = pathlib.Path(crate.folder)
+        edits = [str(folder / f"must-fail/{it}.edit") for it in names] or self.rt.edits_of(crate)[0]
+        status = 0
+        for edit in edits:
+            refused, said = self.rt.must_fail(crate, edit, self.jobs, str(folder / "out/kept-edits"))
+            status = status if refused else 1
+            print(said, flush=True)
+        return status
+
+    def apply_edits(self):
+        """Names the edits that can't be made."""
+        status = 0
+        for crate in self.crates.values():
+            edits, others = self.rt.edits_of(crate)
+            told = [(it, self.rt.read_edit(it, crate.folder)[1]) for it in edits]
+            for edit, why in [*told, *((it, "it is no edit") for it in others)]:
+                if why:
+                    print(f"{crate.name}/{pathlib.Path(edit).name}: {why}")
+                    status = 1
+        return status
+
 
 def main(words):
     at = words.index("--") if "--" in words else len(words)
-    names, flags = words[:at], words[at + 1 :]
-    tests = "--test" in names
-    names = [it for it in names if it != "--test"]
+    names, flags = [it for it in words[:at] if not it.startswith("--")], words[at + 1 :]
+    asked = {it for it in words[:at] if it.startswith("--")}
     top = pathlib.Path(__file__).resolve().parent.parent
     kept = Kept(from_kit(), str(top), os.environ.get("JOBS", "1"))
-    if not names or any(it not in kept.crates for it in names):
+    if asked == {"--apply"} and not names:
+        return kept.apply_edits()
+    known = names[:1] if asked == {"--edits"} else names
+    if not known or asked - {"--test", "--edits"} or any(it not in kept.crates for it in known):
         print(__doc__)
         return 2
+    if asked == {"--edits"}:
+        return kept.try_edits(kept.crates[names[0]], names[1:])
+    tests = "--test" in asked
     return next((status for it in names if (status := kept.check(kept.crates[it], flags, tests))), 0)
 
 
