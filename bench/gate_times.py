@@ -15,6 +15,7 @@ import sys
 import time
 
 TICK = os.sysconf("SC_CLK_TCK")
+KINDS = ["proofs", "tests", "edits"]
 
 
 def provers():
@@ -67,11 +68,15 @@ def table(file, clone):
             times += [float(began), float(ended)]
     if not times:
         return
-    print(f"{(max(times) - min(times)) / 60:.0f} minutes from the first prover to the last")
-    for name, spent in sorted(minutes.items(), key=lambda it: -it[1].total()):
-        print(f"{name:20}", *(f"{spent[kind]:6.1f} {kind}" for kind in ["proofs", "tests", "edits"]))
     whole = sum(minutes.values(), collections.Counter())
-    print(f"{whole.total():.0f} in all:", *(f"{spent:.0f} {kind}" for kind, spent in whole.items()))
+    print(f"{(max(times) - min(times)) / 60:.0f} minutes from the first prover to the last;",
+          f"{whole.total():.0f} of one processor:", ", ".join(f"{whole[it]:.0f} {it}" for it in KINDS))
+    print("\n| crate |", *(f"{it} |" for it in KINDS))
+    print("|---" * (1 + len(KINDS)) + "|")
+    for name, spent in sorted(minutes.items(), key=lambda it: -it[1].total()):
+        edits = len(list(pathlib.Path(clone, "crates", name, "must-fail").glob("*.edit")))
+        told = [f"{spent[it]:.1f}" if spent[it] else "" for it in KINDS]
+        print(f"| `{name}` |", *(f"{it} |" for it in told[:-1]), f"{told[-1]} ({edits}) |" if edits else "|")
 
 
 def main(words):
