@@ -11,8 +11,8 @@ use cbor_ser::{Serialize, Serializer, Write};
 /// A value, and the outermost tag that its item is within, if it is within one.
 ///
 /// It reads that tag or none, and then the value from the item after it: of further tags the
-/// value's own type decides, and each but `Value` and `Tagged` passes over them. The tag counts as
-/// a level of nesting. It writes the tag, where there is one, and then the value.
+/// value's own type decides, and each but `Value` and the types of `tags` passes over them. The tag
+/// counts as a level of nesting. It writes the tag, where there is one, and then the value.
 ///
 /// ```rust
 /// let due: Tagged<u32> = from_slice(alloc, b"\xc1\x1a\x51\x4b\x67\xb0")?;

@@ -198,7 +198,7 @@ pub trait Readable: Sized + Drop {
 /// `IsTree` says of a plain value as which trees it is read. The contract of `tree_of` says that Ok
 /// is such a tree, and that there is none after an Err, but where memory ran out. The rest is two
 /// lines, by `value_made` and `no_value` (`proofs/facts/Values.antt`). The whole is in the crate
-/// `cbor_tree`: `src/tree.rt`, `specs/Trees.antt` and `proofs/tree`.
+/// `samples`: `src/tree.rt`, `specs/Trees.antt` and `proofs/tree`.
 pub trait Deserialize<'de, R: Read<'de>>: Readable {
     /// Reads the item at the front.
     fn deserialize(de: &mut Deserializer<R>) -> Result<Self>

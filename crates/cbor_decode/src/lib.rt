@@ -1,13 +1,14 @@
 //! Decoding: a [`Decoder`] takes heads, strings and whole values from a source.
 //!
-//! What a type's reading takes of it stands above (`cbor_decode_as`, `cbor_decode_as`), and what
-//! reads types above that (`cbor_de`).
+//! What a type's reading takes of it stands above (`cbor_decode_as`), and what reads types above
+//! that (`cbor_de`).
 //!
 //! This crate names the definitions of `cbor_model` and its facts on the reference reader, the
-//! errors and the sources of `cbor_io`, and the values of `cbor_value` with their facts; nothing of
-//! writing. Others rely on the contracts, and on the words that they use: `specs/Gives.antt` says
-//! when an error tells a fault of the reference reader, and `specs/Decoder.antt` what a decoder
-//! reads from.
+//! errors of `cbor_io`, the sources of `cbor_read`, and the values of `cbor_value` with their facts;
+//! nothing of writing. Others rely on the contracts, and on the words that they use:
+//! `specs/Gives.antt` says when an error tells a fault of the reference reader, `specs/Steps.antt`
+//! the same of a decoder before and after a step, and `specs/Decoder.antt` what a decoder reads
+//! from, and what of it stays.
 #![tactic(auto)]
 
 mod at_hand;

@@ -5,8 +5,9 @@
 //! What reads types stands above it (`cbor_de`), which knows the types of the items within.
 //!
 //! This crate names the definitions of `cbor_model` and its facts on the reference reader, the
-//! errors and the sources of `cbor_io`, the floats of `cbor_value`, and `cbor_decode` with its
-//! facts. Others rely on the contracts, on the words that they use, and on the published facts.
+//! errors of `cbor_io`, the sources of `cbor_read`, the floats of `cbor_value`, and `cbor_decode`
+//! with its facts. Others rely on the contracts, on the words that they use, and on the published
+//! facts.
 #![tactic(auto)]
 
 pub mod borrowed;

@@ -4,7 +4,7 @@ ghost use Rattle.std.specs.Prelude.{◌≡◌};
 
 /// An order in which the keys of each map may have to ascend, by their encodings. Keys that ascend
 /// are encoded apart; one value has several encodings unless heads are the shortest, lengths
-/// definite and floats at their shortest too.
+/// definite, floats at their shortest and undefined, which is read as null, refused too.
 #[derive(Clone, Copy, Debug, PartialEq, Eq)]
 pub enum KeyOrder {
     /// In any order, and more than once.

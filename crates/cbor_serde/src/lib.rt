@@ -1,7 +1,8 @@
 //! CBOR for the types of the kit's `serde`, derived or by hand.
 //!
-//! The bytes are those that the Rust crate `serde_cbor` writes for a derived type: fields and
-//! variants by their names, a variant that holds something as a map of one pair.
+//! The bytes are those that the Rust crate `serde_cbor` writes for a derived type, but for floats,
+//! which keep their width, and what docs/DIFFERENCES.md names: fields and variants by their names,
+//! a variant that holds something as a map of one pair.
 //!
 //! ```rust
 //! #[derive(Debug, Drop, Serialize, Deserialize)]

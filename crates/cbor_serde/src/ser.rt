@@ -63,8 +63,8 @@ pub fn to_vec_with<T: Serialize>(options: Options, alloc: Global, value: &T) -> 
 }
 
 /// The canonical encoding of what a value stands for: what to sign, to hash or to look up by. A map
-/// has its keys in the order of their bytes, floats are in the shortest width, and lengths are
-/// definite. It refuses what [`to_vec`] refuses.
+/// has its keys in the order of their bytes, floats keep their width, and lengths are definite. It
+/// refuses what [`to_vec`] refuses.
 ///
 /// ```rust
 /// let mut map = BTreeMap::new(alloc);
