@@ -7,7 +7,7 @@ use Rattle.cbor_model.specs.Canonical.{canon}
 use Rattle.cbor_model.specs.Laws.{SpellsValue}
 use Rattle.serde_cbor.specs.declared.error.Error.{Error}
 use Rattle.serde_cbor.specs.Error.{IsOutOfMemory}
-use Rattle.serde_cbor.specs.FirstRefusal.{TellsFirst}
+use Rattle.serde_cbor.specs.FirstRefusal.{ReportsFirst}
 use Rattle.cbor_bench.specs.Record.{SpellsRecords, AreRewritten}
 use Rattle.cbor_bench.specs.declared.request.Task.{Task}
 use Rattle.cbor_bench.specs.declared.request.Task.TheVariants.{Read, ReadAndWrite, ReadRecords, ReadAndWriteRecords}
@@ -52,9 +52,9 @@ IsReadFor ReadAndWrite bytes = SpellsItem bytes
 IsReadFor ReadRecords bytes = SpellsRecords bytes
 IsReadFor ReadAndWriteRecords bytes = SpellsRecords bytes
 
--- Of bytes that are read as a value, a refusal tells the first that they allow, or that memory ran out.
--- Of records it may tell any fault.
+-- Of bytes that are read as a value, a refusal reports the first that they allow, or that memory ran out.
+-- Of records it may report any fault.
 abbrev pub Refuses : Task → List ℕ → Error → Type 0
-Refuses Read bytes e = IsOutOfMemory e ⊎ TellsFirst (limits_of None) bytes e
-Refuses ReadAndWrite bytes e = IsOutOfMemory e ⊎ TellsFirst (limits_of None) bytes e
+Refuses Read bytes e = IsOutOfMemory e ⊎ ReportsFirst (limits_of None) bytes e
+Refuses ReadAndWrite bytes e = IsOutOfMemory e ⊎ ReportsFirst (limits_of None) bytes e
 Refuses _ bytes e = Unit {0}

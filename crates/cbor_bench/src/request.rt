@@ -3,7 +3,7 @@
 ghost use Rattle.std.specs.Prelude.{◌<◌, ◌↔◌, ◌⊎◌, None, IfOk, IfErr, IfSome, IsSome, OnErr};
 ghost use Rattle.cbor_model.specs.Allowed.{limits_of};
 ghost use Rattle.serde_cbor.specs.Error.{IsOutOfMemory};
-ghost use Rattle.serde_cbor.specs.FirstRefusal.{TellsFirst};
+ghost use Rattle.serde_cbor.specs.FirstRefusal.{ReportsFirst};
 ghost use Rattle.cbor_bench.specs.Record.{SpellsRecords, AreRewritten};
 ghost use Rattle.cbor_bench.specs.Request.{IsRequest, IsRequestOf, SpellsItem, IsRewritten};
 ghost use Rattle.cbor_bench.specs.Request.{Leaves, IsReadFor, Refuses};
@@ -129,7 +129,7 @@ fn rewritten(alloc: Global, item: &[u8]) -> Result<Vec<u8>>
     ensures written { IfOk result (λ bytes. IsRewritten item.now bytes.items) }
     ensures accepted { SpellsItem item.now → IfErr result IsOutOfMemory }
     ensures refused { IfErr result (λ e. IsOutOfMemory e
-        ⊎ TellsFirst (limits_of None) item.now e) }
+        ⊎ ReportsFirst (limits_of None) item.now e) }
 {
     let value: Value = from_slice(alloc, item)?;
     to_vec(alloc, &value)

@@ -35,16 +35,16 @@ first_by_memory total (Ok x) P h = tt
 first_by_memory false (Err e) P h = tt
 first_by_memory true (Err e) P h = inl h
 
--- ---- one that isn't storable is told so
+-- ---- one that isn't storable is reported so
 
 unstorable_code : (code : ErrorCode) (S : Type 0) → IsRefusedBy code S → IsUnstorableCode code
 unstorable_code (Message text) S h = h.0
 unstorable_code OutOfMemory S h = tt
 unstorable_code _ S h = absurd h
 
-pub told_unstorable : {T : Type 0} (r : Result T Error) (v : Val) (e : Error) → IsNotWritten (IsStorableDocument (document_of v)) e → IsErrAnd r (λ x. x ≡ e) → IfErr r SaysUnstorable
-told_unstorable (Ok x) v e h is = tt
-told_unstorable (Err x) v e h is = subst SaysUnstorable (sym is) (unstorable_code e.code (IsStorableDocument (document_of v)) h.0, h.1)
+pub reported_unstorable : {T : Type 0} (r : Result T Error) (v : Val) (e : Error) → IsNotWritten (IsStorableDocument (document_of v)) e → IsErrAnd r (λ x. x ≡ e) → IfErr r SaysUnstorable
+reported_unstorable (Ok x) v e h is = tt
+reported_unstorable (Err x) v e h is = subst SaysUnstorable (sym is) (unstorable_code e.code (IsStorableDocument (document_of v)) h.0, h.1)
 
 -- ---- the item that is read
 

@@ -9,8 +9,8 @@ use Rattle.cbor_decode.specs.Gives.{Limits}
 use Rattle.cbor_decode.specs.declared.formats.Formats.{Formats}
 use Rattle.cbor_decode.proofs.facts.Steps.{none_step, some_then, step_then, took_stays}
 use Rattle.cbor_decode_as.specs.Tags.{ReadsTag, TagIs, tag_head_at}
-use Rattle.cbor_decode_as.specs.Takes.{TellsFault, formats_of, raws}
-use Rattle.cbor_convert.proofs.Tags.{told_then}
+use Rattle.cbor_decode_as.specs.Takes.{ReportsFault, formats_of, raws}
+use Rattle.cbor_convert.proofs.Tags.{reported_then}
 
 -- it stood there before, where as many levels were left and the same formats were read
 pub tag_peeked : (s m t : Input) → Stays s m → (f g : Formats) → g ≡ f → (levels left : ℕ) → left ≡ levels → (r : Result (Option ℕ) Error)
@@ -25,11 +25,11 @@ tag_peeked s m t stays f g same levels left as_many (Err e) tag = tt
 
 -- or couldn't be read
 pub untold_peeked : (allowed : ReadErrorCode → Bool) (s m t : Input) → Stays s m → (levels left : ℕ) → left ≡ levels → (r : Result (Option ℕ) Error)
-    → ReadsTag allowed left m t r → IfErr r (TellsFault allowed (λ l. tag_head_at levels) s)
+    → ReadsTag allowed left m t r → IfErr r (ReportsFault allowed (λ l. tag_head_at levels) s)
 untold_peeked allowed s m t stays levels left as_many (Ok o) h = tt
 untold_peeked allowed s m t stays levels left as_many (Err e) h =
-    let here = subst (λ (k : ℕ). TellsFault allowed (λ l. tag_head_at k) m e) as_many h.1 in
-    told_then allowed (λ l. tag_head_at levels) (λ l. tag_head_at levels) s m e (λ l bs rest. bs ≡ rest)
+    let here = subst (λ (k : ℕ). ReportsFault allowed (λ l. tag_head_at k) m e) as_many h.1 in
+    reported_then allowed (λ l. tag_head_at levels) (λ l. tag_head_at levels) s m e (λ l bs rest. bs ≡ rest)
     (λ l bs mid f same stops. subst (λ (q : List ℕ). tag_head_at levels q ≡ Err f) (sym same) stops) (none_step s m stays.bytes stays.count stays.room) here
 
 pub took_peeked : (allowed : ReadErrorCode → Bool) (s m t : Input) → Stays s m → (levels : ℕ) (r : Result (Option ℕ) Error) → ReadsTag allowed levels m t r → IfErr r (λ e. TookSome s t)

@@ -19,7 +19,7 @@ use Rattle.cbor_io.specs.declared.error.ErrorCode.TheVariants as code
 use Rattle.cbor_io.specs.Error.{IsOutOfMemory}
 use Rattle.cbor_io.specs.declared.read_error.ReadError.{ReadError}
 use Rattle.cbor_io.specs.ReadError.{why, place, error_code}
-use Rattle.cbor_decode.specs.Gives.{FailsAs, FailsBy, limits, values, Tells, Gives, Reports, IsErrorOf}
+use Rattle.cbor_decode.specs.Gives.{FailsAs, FailsBy, limits, values, Reports, Gives, ReportsIo, IsErrorOf}
 use Rattle.cbor_decode.specs.declared.refusal.Refused.{Refused}
 use Rattle.cbor_decode.specs.declared.refusal.Refused.TheVariants as refused
 use Rattle.cbor_value.specs.declared.Value.{Value}
@@ -55,7 +55,7 @@ module _ (d : Doc) (bytes : List ℕ) (stored : IsStorableDocument d) (fits : Is
 no_fault : {A : Type 0} (code : _) (end offset : ℕ) (read : Result A Fault) (y : A) → read ≡ Ok y → FailsAs code end offset read → ⊥
 no_fault code end offset read y is h = absurd (let same : Ok y ≡ Err (record { why = code; left = h.0 }) = sym is ∙ h.2 in cc)
 
-fails_memory : {A : Type 0} (k : ErrorCode) (end offset : ℕ) (read : Result A Fault) (y : A) → read ≡ Ok y → FailsBy (Reports slice_refusals) k end offset read → (k ≡ code.OutOfMemory) × (offset ≡ 0)
+fails_memory : {A : Type 0} (k : ErrorCode) (end offset : ℕ) (read : Result A Fault) (y : A) → read ≡ Ok y → FailsBy (ReportsIo slice_refusals) k end offset read → (k ≡ code.OutOfMemory) × (offset ≡ 0)
 fails_memory code.OutOfMemory end offset read y is h = (refl, h)
 fails_memory (code.Io fault) end offset read y is h = absurd (let none : false ≡ _ = h.0.1 in cc)
 fails_memory code.EofWhileParsingValue end offset read y is h = absurd (no_fault _ end offset read y is h)
@@ -75,8 +75,8 @@ module _ (bs : List ℕ) (r : Raw) (good : IsAcceptableWithin (length bs) r) (sp
   abbrev source : Input
   source = start_of_slice bs None
 
-  tells : Tells source bs
-  tells = record { is = refl; short = omega (arith, short) }
+  reports : Reports source bs
+  reports = record { is = refl; short = omega (arith, short) }
 
   read_as : item_at (values all_formats (limits source bs)) (length bs) bs ≡ Ok (value r, [])
   read_as =
@@ -96,13 +96,13 @@ module _ (bs : List ℕ) (r : Raw) (good : IsAcceptableWithin (length bs) r) (sp
 
   pub is_value : (f : Formats) (levels : ℕ) (s t : Input) (kept : ReadError) (v : Value) → f ≡ all_formats → levels ≡ length bs → s ≡ source → Reads f levels s t kept (Ok v) → view v ≡ value r
   is_value f levels s t kept v all deep front given =
-      let got = (from_front f levels s t kept (Ok v) all deep front given).told bs tells in
+      let got = (from_front f levels s t kept (Ok v) all deep front given).reported bs reports in
       ap (λ (p : Val × List ℕ). p.0) (ok_is _ _ (sym got.holds ∙ read_as))
 
   stopped_memory : (t : Input) (kept : ReadError) (why : Refused) (e : Error) → Reads all_formats (length bs) source t kept (Err why) → IsErrorOf kept why e → IsOutOfMemory e
   stopped_memory t kept refused.OutOfMemory e h is = is
   stopped_memory t kept refused.Kept e h is =
-      let m = fails_memory (error_code (why kept)) (source.offset + length bs) (place kept) _ (value r, []) read_as (h.told.told bs tells) in
+      let m = fails_memory (error_code (why kept)) (source.offset + length bs) (place kept) _ (value r, []) read_as (h.reported.reported bs reports) in
       (is.0 ∙ m.0, is.1 ∙ m.1)
 
   pub memory_alone : {t : Input} (f : Formats) (levels : ℕ) (s : Input) (kept : ReadError) (why : Refused) (e : Error) → f ≡ all_formats → levels ≡ length bs → s ≡ source → Reads f levels s t kept (Err why) → IsErrorOf kept why e → IsOutOfMemory e

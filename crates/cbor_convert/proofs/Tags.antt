@@ -10,13 +10,13 @@ use Rattle.cbor_model.proofs.facts.Reader.{ok_is}
 use Rattle.cbor_read.specs.Source.{Input, TookSome}
 use Rattle.cbor_io.specs.declared.error.ErrorCode.{ErrorCode}
 use Rattle.cbor_io.specs.declared.read_error.ReadErrorCode.{ReadErrorCode}
-use Rattle.cbor_decode.specs.Gives.{FailsBy, Limits, Reports, Step, limits, values}
+use Rattle.cbor_decode.specs.Gives.{FailsBy, Limits, ReportsIo, Step, limits, values}
 use Rattle.cbor_decode.proofs.facts.Steps.{passed_on, step_then}
 use Rattle.cbor_decode_as.specs.Tags.{TagIs, tag_head_at}
 use Rattle.cbor_convert.specs.Tagged.{IsTagged, BeginsNoTag, StandsNoTag}
 use Rattle.cbor_io.specs.declared.error.Error.{Error}
 use Rattle.cbor_io.specs.Error.{code_of, offset_of}
-use Rattle.cbor_decode_as.specs.Takes.{TellsFault, TellsItem, WhereTotal}
+use Rattle.cbor_decode_as.specs.Takes.{ReportsFault, ReportsItem, WhereTotal}
 use Rattle.cbor_decode_as.proofs.facts.Readings.{refuses_fault, refuses_then}
 use Rattle.cbor_convert.proofs.NoTags.{no_tag_item, tag_stops}
 use Rattle.cbor_decode_as.specs.Takes.{raws, IsRead, IsNotRead, Refuses}
@@ -126,37 +126,37 @@ module _ {A T : Type 0} (reads : Raw → A → Type 0) (tag_of : T → Option �
       })) step h
 
   -- a tag's head that can't be read
-  pub head_refused : {t : Input} (allowed : ReadErrorCode → Bool) (s : Input) (e : Error) → TookSome s t → TellsFault allowed (λ l. tag_head_at levels) s e → Refuses allowed s t (code_of e) (offset_of e) (λ l bs. IsNotRead AsTagged (item_at (raws f l) levels bs))
-  head_refused allowed s e took told =
+  pub head_refused : {t : Input} (allowed : ReadErrorCode → Bool) (s : Input) (e : Error) → TookSome s t → ReportsFault allowed (λ l. tag_head_at levels) s e → Refuses allowed s t (code_of e) (offset_of e) (λ l bs. IsNotRead AsTagged (item_at (raws f l) levels bs))
+  head_refused allowed s e took reported =
       refuses_fault allowed (λ l. tag_head_at levels) s e (λ l bs. IsNotRead AsTagged (item_at (raws f l) levels bs))
-      (λ l bs fault stops t rest got. differs (sym (tag_stops (raws f l) levels bs fault stops) ∙ got.is)) took told
+      (λ l bs fault stops t rest got. differs (sym (tag_stops (raws f l) levels bs fault stops) ∙ got.is)) took reported
     where
       differs : {fault : Fault} {r : Raw} {rest : List ℕ} → ◌≡◌ {A = Reads Raw} (Err fault) (Ok (r, rest)) → ⊥
       differs h = absurd cc
 
--- ---- the fault that is told
+-- ---- the fault that is reported
 
 where_total : {P Q : Type 0} (total : Bool) → (P → Q) → WhereTotal total P → WhereTotal total Q
 where_total false f h = tt
 where_total true f h = f h
 
--- what is told after a step is told before it, where the one fault is the other
-pub told_then : {A B : Type 0} (allowed : ReadErrorCode → Bool) (read : Limits → List ℕ → Reads A) (read' : Limits → List ℕ → Reads B) (s m : Input) (e : Error) (P : Limits → List ℕ → List ℕ → Type 0)
-    → ((l : Limits) (bs mid : List ℕ) (f : Fault) → P l bs mid → read l mid ≡ Err f → read' l bs ≡ Err f) → Step s m P → TellsFault allowed read m e → TellsFault allowed read' s e
-told_then allowed read read' s m e P on step tells bs is =
-    let one = step.told bs is in
-    let device = Reports allowed in
+-- what is reported after a step is reported before it, where the one fault is the other
+pub reported_then : {A B : Type 0} (allowed : ReadErrorCode → Bool) (read : Limits → List ℕ → Reads A) (read' : Limits → List ℕ → Reads B) (s m : Input) (e : Error) (P : Limits → List ℕ → List ℕ → Type 0)
+    → ((l : Limits) (bs mid : List ℕ) (f : Fault) → P l bs mid → read l mid ≡ Err f → read' l bs ≡ Err f) → Step s m P → ReportsFault allowed read m e → ReportsFault allowed read' s e
+reported_then allowed read read' s m e P on step reports bs is =
+    let one = step.reported bs is in
+    let device = ReportsIo allowed in
     let code = code_of e in
     let at = offset_of e in
     let same : limits m one.rest ≡ limits s bs = ap₂ (λ (n : ℕ) (r : Option ℕ). record { total = n; room = r }) one.total step.took.room in
-    let there = subst (λ (n : ℕ). FailsBy device code n at (read (limits m one.rest) one.rest)) one.total (tells one.rest one.tells) in
+    let there = subst (λ (n : ℕ). FailsBy device code n at (read (limits m one.rest) one.rest)) one.total (reports one.rest one.reports) in
     let here = subst (λ (l : Limits). FailsBy device code (s.offset + length bs) at (read l one.rest)) same there in
     passed_on device code (s.offset + length bs) at (read (limits s bs) one.rest) (read' (limits s bs) bs) (λ f. on (limits s bs) bs one.rest f one.holds) here
 
 module _ (total : Bool) (allowed : ReadErrorCode → Bool) (f : Formats) (levels : ℕ) (s m : Input) (e : Error) where
   -- within a tag
-  pub tag_told : (left n : ℕ) → levels ≡ left + 1 → TagIs f levels n s m → TellsItem false total allowed f left m e → TellsItem false total allowed f levels s e
-  tag_told left n one step = where_total total (told_then allowed (λ l. item_at (values f l) left) (λ l. item_at (values f l) levels) s m e
+  pub tag_reported : (left n : ℕ) → levels ≡ left + 1 → TagIs f levels n s m → ReportsItem false total allowed f left m e → ReportsItem false total allowed f levels s e
+  tag_reported left n one step = where_total total (reported_then allowed (λ l. item_at (values f l) left) (λ l. item_at (values f l) levels) s m e
       (λ l bs rest. (w : HeadWidth) × (item_at (raws f l) levels bs ≡ tag_at (raws f l) (inside (raws f l) levels) w n rest))
       (λ l bs mid d tag stops.
       let inner = unseen (item_at (raws f l) left mid) d (sym (value_seen f l left mid) ∙ stops) in
@@ -167,14 +167,14 @@ module _ (total : Bool) (allowed : ReadErrorCode → Bool) (f : Formats) (levels
       unseen (Err c) d is = cc
 
   -- where no tag is
-  pub untagged_told : StandsNoTag s m → TellsItem false total allowed f levels m e → TellsItem false total allowed f levels s e
-  untagged_told step = where_total total (told_then allowed (λ l. item_at (values f l) levels) (λ l. item_at (values f l) levels) s m e
+  pub untagged_reported : StandsNoTag s m → ReportsItem false total allowed f levels m e → ReportsItem false total allowed f levels s e
+  untagged_reported step = where_total total (reported_then allowed (λ l. item_at (values f l) levels) (λ l. item_at (values f l) levels) s m e
       (λ l bs rest. (rest ≡ bs) × BeginsNoTag bs)
       (λ l bs mid d none stops. ap (item_at (values f l) levels) (sym none.0) ∙ stops) step)
 
 -- a tag's head that can't be read
-pub head_told : (total : Bool) (allowed : ReadErrorCode → Bool) (f : Formats) (levels : ℕ) (s : Input) (e : Error) → TellsFault allowed (λ l. tag_head_at levels) s e → TellsItem false total allowed f levels s e
-head_told false allowed f levels s e told = tt
-head_told true allowed f levels s e told = λ bs is.
+pub head_reported : (total : Bool) (allowed : ReadErrorCode → Bool) (f : Formats) (levels : ℕ) (s : Input) (e : Error) → ReportsFault allowed (λ l. tag_head_at levels) s e → ReportsItem false total allowed f levels s e
+head_reported false allowed f levels s e reported = tt
+head_reported true allowed f levels s e reported = λ bs is.
     let l = limits s bs in
-    passed_on (Reports allowed) (code_of e) (s.offset + length bs) (offset_of e) (tag_head_at levels bs) (item_at (values f l) levels bs) (tag_stops (values f l) levels bs) (told bs is)
+    passed_on (ReportsIo allowed) (code_of e) (s.offset + length bs) (offset_of e) (tag_head_at levels bs) (item_at (values f l) levels bs) (tag_stops (values f l) levels bs) (reported bs is)

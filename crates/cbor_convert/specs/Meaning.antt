@@ -16,7 +16,7 @@ value_of d = value (raw_of d false false)
 unfoldable pub values_of : Docs → Vals
 values_of ds = values (raws_of ds false false)
 
--- Ok is the document's value, and an Err tells that it isn't storable, or that memory ran out.
+-- Ok is the document's value, and an Err reports that it isn't storable, or that memory ran out.
 pub record Makes (d : Doc) (result : Result Value Error) : Type 0 where
   pub made : IfOk result (λ v. view v ≡ value_of d)
   pub storable : OnOk result (IsStorableDocument d)

@@ -9,9 +9,9 @@ ghost use Rattle.cbor_model.specs.Plain.{Val};
 ghost use Rattle.cbor_model.specs.Readable.{SpellsAs};
 ghost use Rattle.cbor_io.specs.Error.{IsOutOfMemory};
 ghost use Rattle.cbor_read.specs.Source.{start_of_slice};
-ghost use Rattle.cbor_decode.specs.FirstRefusal.{TellsFirst};
+ghost use Rattle.cbor_decode.specs.FirstRefusal.{ReportsFirst};
 ghost use Rattle.cbor_decode_as.specs.Takes.{WhereTotal};
-ghost use Rattle.cbor_de.specs.Forms.{MayTell};
+ghost use Rattle.cbor_de.specs.Forms.{MayReport};
 ghost use Rattle.cbor_de.specs.Whole.{RefusesUnread, from_slice_asks, from_slice_context};
 ghost use Rattle.cbor_ser.specs.Written.{IsNotWritten};
 ghost use Rattle.cbor_convert.specs.Encoded.{encoding};
@@ -96,11 +96,11 @@ impl<T> Encoded<T> {
             → MatchResult result (T.reads from_slice_context spelt.item)
             (λ e. WhereTotal T.total (IsOutOfMemory e)) }
         ensures first { IfErr result (λ e. WhereTotal T.total
-            (IsOutOfMemory e ⊎ TellsFirst (limits_of None) (encoding self.now) e)) }
+            (IsOutOfMemory e ⊎ ReportsFirst (limits_of None) (encoding self.now) e)) }
         ensures fault { IfErr result (λ e. WhereTotal T.passes_over (IsOutOfMemory e
             ⊎ RefusesUnread (T.reads from_slice_context) None (encoding self.now) e)) }
         ensures form { IfErr result
-            (MayTell T.wrong_forms all_formats (start_of_slice (encoding self.now) None)) }
+            (MayReport T.wrong_forms all_formats (start_of_slice (encoding self.now) None)) }
     {
         from_slice(alloc, self.as_slice())
     }

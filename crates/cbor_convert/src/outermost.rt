@@ -2,8 +2,8 @@
 
 ghost use Rattle.std.specs.Prelude.{◌≡◌, IfOk, IfErr, IfSome, IfNone};
 ghost use Rattle.cbor_io.specs.Error.{code_of};
-ghost use Rattle.cbor_decode.specs.Gives.{TellsNoForm};
-ghost use Rattle.cbor_decode_as.specs.Takes.{formats_of, TellsFault};
+ghost use Rattle.cbor_decode.specs.Gives.{ReportsNoForm};
+ghost use Rattle.cbor_decode_as.specs.Takes.{formats_of, ReportsFault};
 ghost use Rattle.cbor_decode_as.specs.Tags.{tag_head_at, LevelsBehind, TagIs};
 ghost use Rattle.cbor_convert.specs.Tagged.{StandsNoTag};
 ghost use Rattle.cbor_de.specs.Calls as call;
@@ -21,10 +21,10 @@ pub(crate) fn outermost<R: Source>(de: &mut Deserializer<R>) -> Result<Option<u6
         (R.source de.old.decoder.source) (R.source de.new.decoder.source))) }
     ensures none { IfOk result (λ o. IfNone o
         (StandsNoTag (R.source de.old.decoder.source) (R.source de.new.decoder.source))) }
-    ensures refused { IfErr result (TellsFault R.refusals (λ l. tag_head_at de.old.decoder.levels)
+    ensures refused { IfErr result (ReportsFault R.refusals (λ l. tag_head_at de.old.decoder.levels)
         (R.source de.old.decoder.source)) }
     ensures took { IfErr result (λ e. call.TookSome R.source de.old de.new) }
-    ensures no_form { IfErr result (λ e. TellsNoForm (code_of e)) }
+    ensures no_form { IfErr result (λ e. ReportsNoForm (code_of e)) }
     ensures levels { LevelsBehind result de.old.decoder.levels de.new.decoder.levels }
     ensures formats { de.new.decoder.formats ≡ de.old.decoder.formats }
 {

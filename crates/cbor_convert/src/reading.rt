@@ -7,9 +7,9 @@ ghost use Rattle.cbor_model.specs.Canonical.{IsStorable, canon, canonical};
 ghost use Rattle.cbor_io.specs.Error.{IsOutOfMemory, code_of};
 ghost use Rattle.cbor_value.specs.View.{view};
 ghost use Rattle.cbor_ser.specs.Written.{SaysUnstorable};
-ghost use Rattle.cbor_decode.specs.FirstRefusal.{TellsFirst};
+ghost use Rattle.cbor_decode.specs.FirstRefusal.{ReportsFirst};
 ghost use Rattle.cbor_decode_as.specs.Takes.{WhereTotal};
-ghost use Rattle.cbor_de.specs.Forms.{FormOnlyIf, may_tell};
+ghost use Rattle.cbor_de.specs.Forms.{FormOnlyIf, may_report};
 ghost use Rattle.cbor_de.specs.Whole.{from_reader_context};
 
 use cbor_de::{Deserialize, DeserializeOwned, from_vec};
@@ -42,14 +42,14 @@ pub fn from_value<'de, T: DeserializeOwned + Deserialize<'de, VecRead>>(
     ensures accepted { (x : T) → IsStorable (view value) → IsAcceptable (canonical (view value))
         → T.reads from_reader_context (canonical (view value)) x
         → IfErr result IsOutOfMemory }
-    // A value that can't be stored is told so by that message, unless memory runs out.
+    // A value that can't be stored is reported so by that message, unless memory runs out.
     ensures refused { (IsStorable (view value) → ⊥) → IfErr result SaysUnstorable }
     // Where the type reads every item, a value that can be stored is refused for lack of memory, or
     // by the first refusal of its encoding, as one that is nested too deep.
     ensures first { IsStorable (view value) → IfErr result (λ e. WhereTotal T.total
-        (IsOutOfMemory e ⊎ TellsFirst (limits_of None) (canon (view value)) e)) }
-    // A wrong form is told only by a type that may refuse an item for one.
-    ensures form { IfErr result (λ e. FormOnlyIf (may_tell T.wrong_forms) (code_of e)) }
+        (IsOutOfMemory e ⊎ ReportsFirst (limits_of None) (canon (view value)) e)) }
+    // A wrong form is reported only by a type that may refuse an item for one.
+    ensures form { IfErr result (λ e. FormOnlyIf (may_report T.wrong_forms) (code_of e)) }
 {
     let bytes = to_vec(alloc, &value)?;
     from_vec(alloc, bytes)

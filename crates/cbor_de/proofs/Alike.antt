@@ -16,7 +16,7 @@ use Rattle.cbor_io.specs.declared.error.ErrorCode.TheVariants.{ScratchTooSmall}
 use Rattle.cbor_io.specs.Error.{code_of, IsOutOfMemory}
 use Rattle.cbor_value.specs.View.{view}
 use Rattle.cbor_value.specs.declared.Value.{Value}
-use Rattle.cbor_decode.specs.FirstRefusal.{TellsFirst}
+use Rattle.cbor_decode.specs.FirstRefusal.{ReportsFirst}
 use Rattle.cbor_decode.specs.Gives.{IsMemoryOrFault, IsMemoryOrFaultBy}
 use Rattle.cbor_decode.proofs.facts.FirstRefusal.{same_error, without_scratch}
 use Rattle.cbor_read.specs.Source.{Lends}
@@ -30,7 +30,7 @@ use Rattle.cbor_de.proofs.Values.{spelled_value}
 -- an answer from a slice, of the clauses `found` and `first` at a `Value`
 pub reading : (scratch : Option ℕ) (bs : List ℕ) (r : Result Value Error)
     → IfOk r (SpellsAs all_formats (λ r x. view x ≡ value r) bs)
-    → IfErr r (λ e. IsOutOfMemory e ⊎ TellsFirst (limits_of scratch) bs e) → IsReading scratch bs r
+    → IfErr r (λ e. IsOutOfMemory e ⊎ ReportsFirst (limits_of scratch) bs e) → IsReading scratch bs r
 reading scratch bs (Ok v) found first = spelled_value bs v found
 reading scratch bs (Err e) found (inl memory) = inl (subst IsMemoryOrFaultBy (sym memory.0) tt, memory.1)
 reading scratch bs (Err e) found (inr first) = inr first
@@ -38,7 +38,7 @@ reading scratch bs (Err e) found (inr first) = inr first
 -- and one from a reader
 pub reading_of_reader : (bs : List ℕ) (r : Result Value Error)
     → IfOk r (SpellsAs all_formats (λ r x. view x ≡ value r) bs)
-    → IfErr r (λ e. IsMemoryOrFault e ⊎ TellsFirst (limits_of None) bs e) → IsReading None bs r
+    → IfErr r (λ e. IsMemoryOrFault e ⊎ ReportsFirst (limits_of None) bs e) → IsReading None bs r
 reading_of_reader bs (Ok v) found first = spelled_value bs v found
 reading_of_reader bs (Err e) found first = first
 
@@ -51,14 +51,14 @@ one_value bs v w a b =
     a.valued ∙ ap value one.0 ∙ sym b.valued
 
 -- without a scratch, or as without one
-plain : (scratch : Option ℕ) (bs : List ℕ) (e : Error) → AreBytes bs → TellsFirst (limits_of scratch) bs e
-    → (code_of e ≡ ScratchTooSmall) ⊎ TellsFirst (limits_of None) bs e
+plain : (scratch : Option ℕ) (bs : List ℕ) (e : Error) → AreBytes bs → ReportsFirst (limits_of scratch) bs e
+    → (code_of e ≡ ScratchTooSmall) ⊎ ReportsFirst (limits_of None) bs e
 plain None bs e fits t = inr t
 plain (Some room) bs e fits t = without_scratch room bs e fits t
 
 -- bytes that spell a value are refused for reasons of the source alone
 no_first : (scratch : Option ℕ) (bs : List ℕ) (v : Val) (e : Error) → AreBytes bs → length bs < 2 ^ 64
-    → SpellsValue bs v → IsMemoryOrFault e ⊎ TellsFirst (limits_of scratch) bs e → IsOfSource e
+    → SpellsValue bs v → IsMemoryOrFault e ⊎ ReportsFirst (limits_of scratch) bs e → IsOfSource e
 no_first scratch bs v e fits short spelt (inl fault) = inl fault
 no_first scratch bs v e fits short spelt (inr t) =
     elim (plain scratch bs e fits t) [
@@ -67,8 +67,8 @@ no_first scratch bs v e fits short spelt (inr t) =
     ]
 
 two_errors : (scratch scratch' : Option ℕ) (bs : List ℕ) (e f : Error) → AreBytes bs
-    → IsMemoryOrFault e ⊎ TellsFirst (limits_of scratch) bs e
-    → IsMemoryOrFault f ⊎ TellsFirst (limits_of scratch') bs f → AreAlike (Err e) (Err f)
+    → IsMemoryOrFault e ⊎ ReportsFirst (limits_of scratch) bs e
+    → IsMemoryOrFault f ⊎ ReportsFirst (limits_of scratch') bs f → AreAlike (Err e) (Err f)
 two_errors scratch scratch' bs e f fits (inl fault) other = inl (inl fault)
 two_errors scratch scratch' bs e f fits (inr t) (inl fault) = inr (inl (inl fault))
 two_errors scratch scratch' bs e f fits (inr t) (inr t') =

@@ -14,7 +14,7 @@ use Rattle.cbor_io.specs.Error.{code_of, offset_of}
 use Rattle.cbor_io.specs.declared.error.Error.{Error}
 use Rattle.cbor_io.specs.declared.read_error.ReadErrorCode.{ReadErrorCode}
 use Rattle.cbor_read.specs.Source.{Input}
-use Rattle.cbor_decode.specs.Gives.{Limits, Reports, Tells, limits}
+use Rattle.cbor_decode.specs.Gives.{Limits, ReportsIo, Reports, limits}
 use Rattle.cbor_decode.specs.Heads.{remaining_of}
 use Rattle.cbor_decode.specs.declared.cursor.Remaining.{Remaining}
 use Rattle.cbor_decode.specs.declared.cursor.Remaining.TheVariants.{Counted, ToBreak}
@@ -210,24 +210,24 @@ one_part reads = record {
   to_parts = λ r x m. (m, tt);
 }
 
-module _ {A : Type 0} (refusals : ReadErrorCode → Bool) (f : Formats) (reads : Raw → A → Type 0) (levels : ℕ) (s t : Input) (bytes : List ℕ) (tells : Tells s bytes) (fits : AreBytes bytes) where
+module _ {A : Type 0} (refusals : ReadErrorCode → Bool) (f : Formats) (reads : Raw → A → Type 0) (levels : ℕ) (s t : Input) (bytes : List ℕ) (reports : Reports s bytes) (fits : AreBytes bytes) where
   only_found : (form : Form) (x : A) (rest : List ℕ) → IsContent (IsPart reads) (content_at f (limits s bytes) levels form bytes) x rest → BeginsOnly f levels reads form bytes x rest
   only_found (form.Array remaining) x rest h = in_array f (limits s bytes) reads (IsPart reads) (one_part reads) levels bytes x rest remaining fits h
   only_found form.Map x rest h = in_map f (limits s bytes) reads (IsPart reads) (one_part reads) levels bytes x rest fits h
   only_found form.Alone x rest h = absurd (subst (λ (c : Content). IsPart reads c x) (sym (ap (λ (p : Content × List ℕ). p.0) (ok_is (alone, bytes) (h.content, rest) h.is))) h.meaning)
 
   only_there : (form : Form) (x : A) (rest : List ℕ) → (b : BeginsOnly f levels reads form bytes x rest) → FitsScratch s.room b.part.item → IsContent (IsPart reads) (content_at f (limits s bytes) levels form bytes) x rest
-  only_there (form.Array remaining) x rest b room = array_again f (limits s bytes) reads (IsPart reads) (one_part reads) levels bytes x rest remaining tells.short (omega arith) b room
-  only_there form.Map x rest b room = map_again f (limits s bytes) reads (IsPart reads) (one_part reads) levels bytes x rest tells.short (omega arith) b room
+  only_there (form.Array remaining) x rest b room = array_again f (limits s bytes) reads (IsPart reads) (one_part reads) levels bytes x rest remaining reports.short (omega arith) b room
+  only_there form.Map x rest b room = map_again f (limits s bytes) reads (IsPart reads) (one_part reads) levels bytes x rest reports.short (omega arith) b room
   only_there form.Alone x rest b room = absurd b.whole
 
   pub newtype_taken : (form : Form) (r : Result A Error) → TakesContent refusals f (IsPart reads) levels form s t r
       → MatchResult r (TookOnly f levels reads form s t bytes)
-      (λ e. ExcusedBy (Reports refusals) (code_of e) (offset_of e) ⊎ LacksOnly f levels reads form s bytes)
+      (λ e. ExcusedBy (ReportsIo refusals) (code_of e) (offset_of e) ⊎ LacksOnly f levels reads form s bytes)
   newtype_taken form (Ok x) step =
-      let got = step.told bytes tells in
-      record { rest = got.rest; begins = only_found form x got.rest got.holds; tells = got.tells; count = got.total }
-  newtype_taken form (Err e) h = elim (h.told bytes tells) [
+      let got = step.reported bytes reports in
+      record { rest = got.rest; begins = only_found form x got.rest got.holds; reports = got.reports; count = got.total }
+  newtype_taken form (Err e) h = elim (h.reported bytes reports) [
     | inl excused ↦ inl excused
     | inr none ↦ inr (λ x rest b room. none x rest (only_there form x rest b room))
   ]
@@ -236,15 +236,15 @@ module _ {A : Type 0} (refusals : ReadErrorCode → Bool) (f : Formats) (reads :
 
   pub part_taken : (remaining behind : Remaining) (r : Result A Error) → TakesPart refusals f reads levels remaining behind s t r
       → MatchResult r (λ x. Comes remaining behind bytes × TookItem f levels reads s t bytes x)
-      (λ e. ExcusedBy (Reports refusals) (code_of e) (offset_of e) ⊎ ((left : Remaining) → Comes remaining left bytes → BeginsAsNone f levels reads s bytes))
+      (λ e. ExcusedBy (ReportsIo refusals) (code_of e) (offset_of e) ⊎ ((left : Remaining) → Comes remaining left bytes → BeginsAsNone f levels reads s bytes))
   part_taken remaining behind (Ok x) step =
-      element_taken refusals f reads levels remaining behind s t bytes tells fits (Ok (Some x)) step
-  part_taken remaining behind (Err e) h = elim (h.told bytes tells) [
+      element_taken refusals f reads levels remaining behind s t bytes reports fits (Ok (Some x)) step
+  part_taken remaining behind (Err e) h = elim (h.reported bytes reports) [
     | inl excused ↦ inl excused
     | inr none ↦ inr (λ after next x rest b room. none x (remaining_of after) rest (record {
       start = bytes;
       next = comes_again end_in_array remaining after bytes next;
-      item = read_again refusals f reads levels s t bytes tells fits x rest b room;
+      item = read_again refusals f reads levels s t bytes reports fits x rest b room;
     }))
   ]
 
@@ -277,25 +277,25 @@ unit_fits (Some room) r is = by r is
     by (raw.float w bits) is = absurd is
 
 pub unit_taken : UnitTaken
-unit_taken refusals f levels (form.Array remaining) s t bytes (Ok u) tells fits step =
-    let got = step.told bytes tells in
-    record { rest = got.rest; begins = in_array f (limits s bytes) (PassesTags IsUnit) IsNothing no_part levels bytes tt got.rest remaining fits got.holds; tells = got.tells; count = got.total }
-unit_taken refusals f levels (form.Array remaining) s t bytes (Err e) tells fits h = elim (h.told bytes tells) [
+unit_taken refusals f levels (form.Array remaining) s t bytes (Ok u) reports fits step =
+    let got = step.reported bytes reports in
+    record { rest = got.rest; begins = in_array f (limits s bytes) (PassesTags IsUnit) IsNothing no_part levels bytes tt got.rest remaining fits got.holds; reports = got.reports; count = got.total }
+unit_taken refusals f levels (form.Array remaining) s t bytes (Err e) reports fits h = elim (h.reported bytes reports) [
   | inl excused ↦ inl excused
-  | inr none ↦ inr (λ rest b. none tt rest (array_again f (limits s bytes) (PassesTags IsUnit) IsNothing no_part levels bytes tt rest remaining tells.short (omega arith) b (unit_fits s.room b.part.item b.part.means)))
+  | inr none ↦ inr (λ rest b. none tt rest (array_again f (limits s bytes) (PassesTags IsUnit) IsNothing no_part levels bytes tt rest remaining reports.short (omega arith) b (unit_fits s.room b.part.item b.part.means)))
 ]
-unit_taken refusals f levels form.Map s t bytes (Ok u) tells fits step =
-    let got = step.told bytes tells in
-    record { rest = got.rest; begins = in_map f (limits s bytes) (PassesTags IsUnit) IsNothing no_part levels bytes tt got.rest fits got.holds; tells = got.tells; count = got.total }
-unit_taken refusals f levels form.Map s t bytes (Err e) tells fits h = elim (h.told bytes tells) [
+unit_taken refusals f levels form.Map s t bytes (Ok u) reports fits step =
+    let got = step.reported bytes reports in
+    record { rest = got.rest; begins = in_map f (limits s bytes) (PassesTags IsUnit) IsNothing no_part levels bytes tt got.rest fits got.holds; reports = got.reports; count = got.total }
+unit_taken refusals f levels form.Map s t bytes (Err e) reports fits h = elim (h.reported bytes reports) [
   | inl excused ↦ inl excused
-  | inr none ↦ inr (λ rest b. none tt rest (map_again f (limits s bytes) (PassesTags IsUnit) IsNothing no_part levels bytes tt rest tells.short (omega arith) b (unit_fits s.room b.part.item b.part.means)))
+  | inr none ↦ inr (λ rest b. none tt rest (map_again f (limits s bytes) (PassesTags IsUnit) IsNothing no_part levels bytes tt rest reports.short (omega arith) b (unit_fits s.room b.part.item b.part.means)))
 ]
-unit_taken refusals f levels form.Alone s t bytes (Ok u) tells fits step =
-    let got = step.told bytes tells in
+unit_taken refusals f levels form.Alone s t bytes (Ok u) reports fits step =
+    let got = step.reported bytes reports in
     let same = ap (λ (p : Content × List ℕ). p.1) (ok_is (alone, bytes) (got.holds.content, got.rest) got.holds.is) in
-    record { rest = got.rest; begins = same; tells = got.tells; count = got.total }
-unit_taken refusals f levels form.Alone s t bytes (Err e) tells fits h = elim (h.told bytes tells) [
+    record { rest = got.rest; begins = same; reports = got.reports; count = got.total }
+unit_taken refusals f levels form.Alone s t bytes (Err e) reports fits h = elim (h.reported bytes reports) [
   | inl excused ↦ inl excused
   | inr none ↦ inr (λ rest same. none tt rest (record { content = alone; is = ap (λ (xs : List ℕ). Ok (alone, xs)) same; meaning = tt }))
 ]

@@ -18,7 +18,7 @@ use Rattle.cbor_decode_as.specs.Accesses.{IsNext, IsEnd}
 use Rattle.cbor_decode_as.proofs.facts.Readings.{refuses_map}
 use Rattle.cbor_decode_as.specs.Takes.{Refuses}
 
--- whether another item comes can't be told
+-- whether another item comes can't be known
 abbrev pub Untold : Remaining → Limits → List ℕ → Type 0
 Untold old l bs = (next : Option reader.Remaining) (rest : List ℕ) → next_at end_in_array (remaining_of old) bs ≡ Ok (next, rest) → ⊥
 

@@ -18,7 +18,7 @@ use Rattle.cbor_io.specs.declared.error.ErrorCode.{ErrorCode}
 use Rattle.cbor_io.specs.declared.error.ErrorCode.TheVariants as code
 use Rattle.cbor_io.specs.Error.{code_of, offset_of, IsOutOfMemory}
 use Rattle.cbor_read.specs.Source.{Input}
-use Rattle.cbor_decode.specs.Gives.{FailsAs, FailsBy, Fails, FailsOrFaults, IsMemoryOrFault, IsMemoryOrFaultBy, IsScratchOrMemory, IsScratchOrMemoryBy, Tells, limits, values, whole_at}
+use Rattle.cbor_decode.specs.Gives.{FailsAs, FailsBy, Fails, FailsOrFaults, IsMemoryOrFault, IsMemoryOrFaultBy, IsScratchOrMemory, IsScratchOrMemoryBy, Reports, limits, values, whole_at}
 use Rattle.cbor_decode.proofs.facts.Steps.{value_in}
 use Rattle.cbor_decode_as.specs.Takes.{WhereTotal}
 use Rattle.cbor_de.specs.Whole.{IsWholeRead, ReadsAll}
@@ -80,13 +80,13 @@ scratch_or_memory D none (code.Io fault) total offset r small h = absurd (none h
 scratch_or_memory D none code.OutOfMemory total offset r small h = tt
 scratch_or_memory D none _ total offset r small h = absurd h
 
-module _ {A : Type 0} (total : Bool) (allowed : ReadErrorCode → Bool) (reads : Raw → A → Type 0) (s : Input) (bs : List ℕ) (tells : Tells s bs) (zero : s.offset ≡ 0) (short : length bs < 2 ^ 64) (v : Val) (spelt : SpellsValue bs v) (fits : FitsScratch s.room spelt.item) where
+module _ {A : Type 0} (total : Bool) (allowed : ReadErrorCode → Bool) (reads : Raw → A → Type 0) (s : Input) (bs : List ℕ) (reports : Reports s bs) (zero : s.offset ≡ 0) (short : length bs < 2 ^ 64) (v : Val) (spelt : SpellsValue bs v) (fits : FitsScratch s.room spelt.item) where
   -- the item that is read is the one that the bytes spell
   read_so : (x : A) → IsWholeRead all_formats reads max_depth s bs x → reads spelt.item x
   read_so x got =
       let l = limits s bs in
       let b : Begins max_depth bs spelt.item [] = record { spelled = sym (append-nil _ ∙ spelt.spelled); acceptable = spelt.acceptable } in
-      let again = item_again all_formats l.total l.room max_depth bs [] spelt.item tells.short (omega (arith, zero)) fits b (all_allowed spelt.item) in
+      let again = item_again all_formats l.total l.room max_depth bs [] spelt.item reports.short (omega (arith, zero)) fits b (all_allowed spelt.item) in
       let same : got.item ≡ spelt.item = ap (λ (p : Raw × List ℕ). p.0) (ok_is (got.item, []) (spelt.item, []) (sym got.is ∙ again)) in
       subst (λ (r : Raw). reads r x) same got.means
 
@@ -95,11 +95,11 @@ module _ {A : Type 0} (total : Bool) (allowed : ReadErrorCode → Bool) (reads :
   reads_it D k at h = subst (FailsBy D k (length bs) at) (reader_accepts s.room bs v short spelt fits) h
 
   pub every : (r : Result A Error) → ReadsAll allowed all_formats reads max_depth s r → IfErr r (λ e. WhereTotal total (Fails (length bs) e (read_value_in s.room bs))) → MatchResult r (reads spelt.item) (λ e. WhereTotal total (IsOutOfMemory e))
-  every (Ok x) given h = read_so x (given bs tells)
+  every (Ok x) given h = read_so x (given bs reports)
   every (Err e) given h = where_map total (λ fails. only_memory ⊥ (λ d. d) (code_of e) (length bs) (offset_of e) v (reads_it ⊥ (code_of e) (offset_of e) fails)) h
 
   pub every_or_fault : (r : Result A Error) → ReadsAll allowed all_formats reads max_depth s r → IfErr r (λ e. WhereTotal total (FailsOrFaults (length bs) e (read_value_in s.room bs))) → MatchResult r (reads spelt.item) (λ e. WhereTotal total (IsMemoryOrFault e))
-  every_or_fault (Ok x) given h = read_so x (given bs tells)
+  every_or_fault (Ok x) given h = read_so x (given bs reports)
   every_or_fault (Err e) given h = where_map total (λ fails. memory_or_fault ⊤ (code_of e) (length bs) (offset_of e) v (reads_it ⊤ (code_of e) (offset_of e) fails)) h
 
 -- ---- a scratch that is too small
@@ -112,7 +112,7 @@ read_is reads s bs x zero got =
     let all : whole_at all_formats max_depth l bs ≡ Ok (value got.item, []) = rw is refl in
     value_in s bs zero (value got.item) [] all
 
-pub small : {A : Type 0} (total : Bool) (allowed : ReadErrorCode → Bool) (reads : Raw → A → Type 0) (s : Input) (bs : List ℕ) → Tells s bs → s.offset ≡ 0 → IsScratchTooSmall (read_value_in s.room bs) → (r : Result A Error)
+pub small : {A : Type 0} (total : Bool) (allowed : ReadErrorCode → Bool) (reads : Raw → A → Type 0) (s : Input) (bs : List ℕ) → Reports s bs → s.offset ≡ 0 → IsScratchTooSmall (read_value_in s.room bs) → (r : Result A Error)
     → ReadsAll allowed all_formats reads max_depth s r → IfErr r (λ e. WhereTotal total (Fails (length bs) e (read_value_in s.room bs))) → MatchResult r (λ x. ⊥) (λ e. WhereTotal total (IsScratchOrMemory e))
-small total allowed reads s bs tells zero stops (Ok x) given fails = subst IsScratchTooSmall (read_is reads s bs x zero (given bs tells)) stops
-small total allowed reads s bs tells zero stops (Err e) given fails = where_map total (λ h. scratch_or_memory ⊥ (λ d. d) (code_of e) (length bs) (offset_of e) (read_value_in s.room bs) stops h) fails
+small total allowed reads s bs reports zero stops (Ok x) given fails = subst IsScratchTooSmall (read_is reads s bs x zero (given bs reports)) stops
+small total allowed reads s bs reports zero stops (Err e) given fails = where_map total (λ h. scratch_or_memory ⊥ (λ d. d) (code_of e) (length bs) (offset_of e) (read_value_in s.room bs) stops h) fails

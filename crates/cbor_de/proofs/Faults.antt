@@ -1,4 +1,4 @@
--- The fault that an error tells, where a type reads every item.
+-- The fault that an error reports, where a type reads every item.
 use Rattle.std.proofs.Common.{inl, inr, ◌≡◌, ◌+◌, ℕ, Bool, true, false, List, length, Result, Ok, Err, IfErr, refl, sym, ap, subst, ◌∙◌, arith}
 use Rattle.std.specs.Prelude.{⊤}
 use Rattle.cbor_model.specs.Formats.{Formats, all_formats}
@@ -8,7 +8,7 @@ use Rattle.cbor_model.specs.Plain.{Val}
 use Rattle.cbor_model.specs.Value.{value}
 use Rattle.cbor_model.specs.Reader.{Fault, Reads, item_at, read_value_in}
 use Rattle.cbor_model.proofs.facts.Reader.{ok_is}
-pub use Rattle.cbor_decode.proofs.facts.Steps.{end_told}
+pub use Rattle.cbor_decode.proofs.facts.Steps.{end_reported}
 use Rattle.cbor_read.specs.Source.{Input}
 use Rattle.cbor_io.specs.Error.{code_of, offset_of}
 use Rattle.cbor_io.specs.declared.error.Error.{Error}
@@ -18,13 +18,13 @@ use Rattle.cbor_io.specs.declared.read_error.ReadError.{ReadError}
 use Rattle.cbor_io.specs.declared.read_error.ReadErrorCode.{ReadErrorCode}
 use Rattle.cbor_value.specs.View.{view}
 use Rattle.cbor_value.specs.declared.Value.{Value}
-use Rattle.cbor_decode.specs.Gives.{limits, values, Tells, Step, Stopped, Reports, Ends, FailsBy, Fails, FailsOrFaults, IsErrorOf, end_at, whole_at}
+use Rattle.cbor_decode.specs.Gives.{limits, values, Reports, Step, Stopped, ReportsIo, Ends, FailsBy, Fails, FailsOrFaults, IsErrorOf, end_at, whole_at}
 use Rattle.cbor_decode.specs.declared.refusal.Refused.{Refused}
 use Rattle.cbor_decode.specs.Heads.{passed}
 use Rattle.cbor_decode.proofs.facts.Steps.{step_map, stopped_map, passed_on, fault_in, passed_was, passed_stops}
-use Rattle.cbor_decode_as.specs.Takes.{raws, IsRead, IsNotRead, Refuses, TellsItem, WhereTotal, TellsFault}
-use Rattle.cbor_de.specs.Whole.{RefusesAll, TellsWhole}
-use Rattle.cbor_decode_as.proofs.facts.Refusals.{refuses, tells_both, tells_map, total_told}
+use Rattle.cbor_decode_as.specs.Takes.{raws, IsRead, IsNotRead, Refuses, ReportsItem, WhereTotal, ReportsFault}
+use Rattle.cbor_de.specs.Whole.{RefusesAll, ReportsWhole}
+use Rattle.cbor_decode_as.proofs.facts.Refusals.{refuses, reports_both, reports_map, total_reported}
 use Rattle.cbor_decode.proofs.facts.Readings.{along, value_seen}
 
 pub where_map : {P Q : Type 0} (total : Bool) → (P → Q) → WhereTotal total P → WhereTotal total Q
@@ -34,30 +34,30 @@ where_map true f h = f h
 -- ---- an item, and then the end
 
 module _ (allowed : ReadErrorCode → Bool) (f : Formats) (levels : ℕ) (s : Input) (e : Error) where
-  pub item_whole : {A : Type 0} (passes_over total : Bool) (reads : Raw → A → Type 0) (t : Input) → Refuses allowed s t (code_of e) (offset_of e) (λ l bs. IsNotRead reads (item_at (raws f l) levels bs)) → TellsItem passes_over total allowed f levels s e → TellsWhole passes_over total allowed f reads levels s e
-  item_whole passes_over total reads t none = tells_map passes_over total (λ h bs tells.
+  pub item_whole : {A : Type 0} (passes_over total : Bool) (reads : Raw → A → Type 0) (t : Input) → Refuses allowed s t (code_of e) (offset_of e) (λ l bs. IsNotRead reads (item_at (raws f l) levels bs)) → ReportsItem passes_over total allowed f levels s e → ReportsWhole passes_over total allowed f reads levels s e
+  item_whole passes_over total reads t none = reports_map passes_over total (λ h bs reports.
       let l = limits s bs in
-      passed_on (Reports allowed) (code_of e) (s.offset + length bs) (offset_of e) (item_at (values f l) levels bs) (whole_at f levels l bs) (λ d is. rw is refl) (h bs tells))
-      (λ h bs tells. inl (h bs tells, none.told bs tells))
+      passed_on (ReportsIo allowed) (code_of e) (s.offset + length bs) (offset_of e) (item_at (values f l) levels bs) (whole_at f levels l bs) (λ d is. rw is refl) (h bs reports))
+      (λ h bs reports. inl (h bs reports, none.reported bs reports))
 
-  tells_end : {A : Type 0} (reads : Raw → A → Type 0) (t : Input) (x : A) → Step s t (λ l bs rest. IsRead reads (item_at (raws f l) levels bs) x rest) → Ends allowed t (Err e) → TellsFault allowed (whole_at f levels) s e
-  tells_end reads t x step ends bs tells =
-      let D = Reports allowed in
+  reports_end : {A : Type 0} (reads : Raw → A → Type 0) (t : Input) (x : A) → Step s t (λ l bs rest. IsRead reads (item_at (raws f l) levels bs) x rest) → Ends allowed t (Err e) → ReportsFault allowed (whole_at f levels) s e
+  reports_end reads t x step ends bs reports =
+      let D = ReportsIo allowed in
       let l = limits s bs in
-      let got = step.told bs tells in
+      let got = step.reported bs reports in
       let is : item_at (values f l) levels bs ≡ Ok (value got.holds.item, got.rest) = value_seen f l levels bs ∙ ap (along value) got.holds.is in
-      let end = subst (λ (n : ℕ). FailsBy D (code_of e) n (offset_of e) (end_at got.rest)) got.total (ends got.rest got.tells) in
+      let end = subst (λ (n : ℕ). FailsBy D (code_of e) n (offset_of e) (end_at got.rest)) got.total (ends got.rest got.reports) in
       passed_on D (code_of e) (s.offset + length bs) (offset_of e) (end_at got.rest) (whole_at f levels l bs) (λ d stops. rw (is, stops) refl) end
 
-  pub end_whole : {A : Type 0} (passes_over total : Bool) (reads : Raw → A → Type 0) (t : Input) (x : A) → Step s t (λ l bs rest. IsRead reads (item_at (raws f l) levels bs) x rest) → Ends allowed t (Err e) → TellsWhole passes_over total allowed f reads levels s e
-  end_whole passes_over total reads t x step ends = tells_both passes_over total (tells_end reads t x step ends)
-      (λ bs tells.
-      let got = step.told bs tells in
-      inr (tells_end reads t x step ends bs tells, record { value = x; rest = got.rest; is = got.holds }))
+  pub end_whole : {A : Type 0} (passes_over total : Bool) (reads : Raw → A → Type 0) (t : Input) (x : A) → Step s t (λ l bs rest. IsRead reads (item_at (raws f l) levels bs) x rest) → Ends allowed t (Err e) → ReportsWhole passes_over total allowed f reads levels s e
+  end_whole passes_over total reads t x step ends = reports_both passes_over total (reports_end reads t x step ends)
+      (λ bs reports.
+      let got = step.reported bs reports in
+      inr (reports_end reads t x step ends bs reports, record { value = x; rest = got.rest; is = got.holds }))
 
 -- ---- all of an input
 
--- an error that tells a fault tells it where devices have more faults
+-- an error that reports a fault reports it where devices have more faults
 pub fails_map : {A : Type 0} (D E : Type 0) → (D → E) → (k : ErrorCode) (end at : ℕ) (r : Result A Fault) → FailsBy D k end at r → FailsBy E k end at r
 fails_map D E g (code.Message m) end at r h = absurd h
 fails_map D E g (code.Io e) end at r h = (g h.0, h.1)
@@ -79,25 +79,25 @@ fails_map D E g code.NotCanonical end at r h = absurd h
 fails_map D E g code.OutOfMemory end at r h = h
 
 -- what the reading of an input that begins at 0 meets, the reading of its bytes meets
-pub of_bytes : (allowed : ReadErrorCode → Bool) (s : Input) (bs : List ℕ) (e : Error) → s.offset ≡ 0 → FailsBy (Reports allowed) (code_of e) (s.offset + length bs) (offset_of e) (whole_at all_formats max_depth (limits s bs) bs) → FailsBy (Reports allowed) (code_of e) (length bs) (offset_of e) (read_value_in s.room bs)
+pub of_bytes : (allowed : ReadErrorCode → Bool) (s : Input) (bs : List ℕ) (e : Error) → s.offset ≡ 0 → FailsBy (ReportsIo allowed) (code_of e) (s.offset + length bs) (offset_of e) (whole_at all_formats max_depth (limits s bs) bs) → FailsBy (ReportsIo allowed) (code_of e) (length bs) (offset_of e) (read_value_in s.room bs)
 of_bytes allowed s bs e zero h =
     let whole = whole_at all_formats max_depth (limits s bs) bs in
-    let all = subst (λ (n : ℕ). FailsBy (Reports allowed) (code_of e) n (offset_of e) whole) (omega (arith, zero)) h in
-    passed_on (Reports allowed) (code_of e) (length bs) (offset_of e) whole (read_value_in s.room bs) (λ d is. fault_in s bs zero d is) all
+    let all = subst (λ (n : ℕ). FailsBy (ReportsIo allowed) (code_of e) n (offset_of e) whole) (omega (arith, zero)) h in
+    passed_on (ReportsIo allowed) (code_of e) (length bs) (offset_of e) whole (read_value_in s.room bs) (λ d is. fault_in s bs zero d is) all
 
-module _ {T : Type 0} (passes_over total : Bool) (allowed : ReadErrorCode → Bool) (reads : Raw → T → Type 0) (s : Input) (bs : List ℕ) (tells : Tells s bs) (zero : s.offset ≡ 0) where
-  told : (E : Type 0) → (Reports allowed → E) → (e : Error) → TellsWhole passes_over total allowed all_formats reads max_depth s e → WhereTotal total (FailsBy E (code_of e) (length bs) (offset_of e) (read_value_in s.room bs))
-  told E g e whole = where_map total (λ h.
-      fails_map (Reports allowed) E g (code_of e) (length bs) (offset_of e) (read_value_in s.room bs) (of_bytes allowed s bs e zero (h bs tells)))
-      (total_told (TellsFault allowed (whole_at all_formats max_depth) s e) (RefusesAll allowed all_formats reads max_depth s e) passes_over total whole)
+module _ {T : Type 0} (passes_over total : Bool) (allowed : ReadErrorCode → Bool) (reads : Raw → T → Type 0) (s : Input) (bs : List ℕ) (reports : Reports s bs) (zero : s.offset ≡ 0) where
+  reported : (E : Type 0) → (ReportsIo allowed → E) → (e : Error) → ReportsWhole passes_over total allowed all_formats reads max_depth s e → WhereTotal total (FailsBy E (code_of e) (length bs) (offset_of e) (read_value_in s.room bs))
+  reported E g e whole = where_map total (λ h.
+      fails_map (ReportsIo allowed) E g (code_of e) (length bs) (offset_of e) (read_value_in s.room bs) (of_bytes allowed s bs e zero (h bs reports)))
+      (total_reported (ReportsFault allowed (whole_at all_formats max_depth) s e) (RefusesAll allowed all_formats reads max_depth s e) passes_over total whole)
 
-  pub fails : {A : Type 0} → (Reports allowed → ⊥) → (r : Result A Error) → IfErr r (TellsWhole passes_over total allowed all_formats reads max_depth s) → IfErr r (λ e. WhereTotal total (Fails (length bs) e (read_value_in s.room bs)))
+  pub fails : {A : Type 0} → (ReportsIo allowed → ⊥) → (r : Result A Error) → IfErr r (ReportsWhole passes_over total allowed all_formats reads max_depth s) → IfErr r (λ e. WhereTotal total (Fails (length bs) e (read_value_in s.room bs)))
   fails none (Ok x) h = tt
-  fails none (Err e) h = told ⊥ none e h
+  fails none (Err e) h = reported ⊥ none e h
 
-  pub fails_or_faults : {A : Type 0} (r : Result A Error) → IfErr r (TellsWhole passes_over total allowed all_formats reads max_depth s) → IfErr r (λ e. WhereTotal total (FailsOrFaults (length bs) e (read_value_in s.room bs)))
+  pub fails_or_faults : {A : Type 0} (r : Result A Error) → IfErr r (ReportsWhole passes_over total allowed all_formats reads max_depth s) → IfErr r (λ e. WhereTotal total (FailsOrFaults (length bs) e (read_value_in s.room bs)))
   fails_or_faults (Ok x) h = tt
-  fails_or_faults (Err e) h = told ⊤ (λ d. tt) e h
+  fails_or_faults (Err e) h = reported ⊤ (λ d. tt) e h
 
 -- ---- values
 

@@ -14,7 +14,7 @@ use Rattle.cbor_io.specs.declared.error.Error.{Error}
 use Rattle.cbor_io.specs.declared.read_error.ReadErrorCode.{ReadErrorCode}
 use Rattle.cbor_io.specs.Error.{code_of, offset_of}
 use Rattle.cbor_read.specs.Source.{Input}
-use Rattle.cbor_decode.specs.Gives.{Reports, Tells}
+use Rattle.cbor_decode.specs.Gives.{ReportsIo, Reports}
 use Rattle.cbor_decode.specs.Heads.{opening_at, head_at, head_of, number_head, length_head, simple_head}
 use Rattle.cbor_decode.specs.declared.cursor.Remaining.{Remaining}
 use Rattle.cbor_decode.specs.declared.cursor.Remaining.TheVariants.{Counted, ToBreak}
@@ -234,12 +234,12 @@ module _ (k : Remaining → Head) (major : ℕ) (is_kind : IsKind k major) where
       ∙ ap (λ (n : ℕ). opened_inside n tail) level
       ∙ again ts (length ts + (left + 1)) left w r tail rest tags.1 fits refl refl
 
-  pub heads_taken : (refusals : ReadErrorCode → Bool) (levels left : ℕ) (s t : Input) (bytes : List ℕ) (r : Result Remaining Error) → Tells s bytes → AreBytes bytes → TakesBeginning k refusals levels s t left r
-      → MatchResult r (TookHeads major levels left s t bytes) (λ e. ExcusedBy (Reports refusals) (code_of e) (offset_of e) ⊎ NoHeads major levels bytes)
-  heads_taken refusals levels left s t bytes (Ok remaining) tells fits step =
-      let got = step.told bytes tells in
-      record { rest = got.rest; begins = heads_spelled levels left remaining bytes got.rest fits got.holds; tells = got.tells; count = got.total }
-  heads_taken refusals levels left s t bytes (Err e) tells fits h = elim (h.told bytes tells) [
+  pub heads_taken : (refusals : ReadErrorCode → Bool) (levels left : ℕ) (s t : Input) (bytes : List ℕ) (r : Result Remaining Error) → Reports s bytes → AreBytes bytes → TakesBeginning k refusals levels s t left r
+      → MatchResult r (TookHeads major levels left s t bytes) (λ e. ExcusedBy (ReportsIo refusals) (code_of e) (offset_of e) ⊎ NoHeads major levels bytes)
+  heads_taken refusals levels left s t bytes (Ok remaining) reports fits step =
+      let got = step.reported bytes reports in
+      record { rest = got.rest; begins = heads_spelled levels left remaining bytes got.rest fits got.holds; reports = got.reports; count = got.total }
+  heads_taken refusals levels left s t bytes (Err e) reports fits h = elim (h.reported bytes reports) [
     | inl excused ↦ inl excused
     | inr none ↦ inr (λ deep remaining rest b. none deep remaining rest (again b.tags levels deep b.width remaining bytes rest b.tags_fit b.fits b.spelled b.inside))
   ]

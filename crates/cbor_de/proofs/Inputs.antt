@@ -14,7 +14,7 @@ use Rattle.cbor_io.specs.declared.error.Error.{Error}
 use Rattle.cbor_io.specs.declared.error.ErrorCode.{ErrorCode}
 use Rattle.cbor_io.specs.declared.error.ErrorCode.TheVariants as code
 use Rattle.cbor_io.specs.declared.read_error.ReadErrorCode.{ReadErrorCode}
-use Rattle.cbor_decode.specs.Gives.{Limits, limits, Tells, Step, Reports, Ends, end_at, IsMemoryOrFault, IsMemoryOrFaultBy}
+use Rattle.cbor_decode.specs.Gives.{Limits, limits, Reports, Step, ReportsIo, Ends, end_at, IsMemoryOrFault, IsMemoryOrFaultBy}
 use Rattle.cbor_decode.specs.AtEnd.{EndTakes, EndRefused}
 use Rattle.cbor_decode_as.specs.Takes.{raws, IsRead, IsNotRead, ExcusedBy, MemoryFor, Refuses}
 use Rattle.cbor_de.specs.Whole.{IsWholeRead, ReadsAll}
@@ -25,7 +25,7 @@ module _ {A : Type 0} (allowed : ReadErrorCode → Bool) (f : Formats) (reads : 
   Front l bs x rest = IsRead reads (item_at (raws f l) levels bs) x rest
 
   pub all_refused : {t : Input} (s : Input) (e : Error) → Refuses allowed s t (code_of e) (offset_of e) (λ l bs. IsNotRead reads (item_at (raws f l) levels bs)) → ReadsAll allowed f reads levels s (Err e)
-  all_refused s e h bs tells = elim (h.told bs tells) [
+  all_refused s e h bs reports = elim (h.reported bs reports) [
     | inl excused ↦ inl excused
     | inr none ↦ inr (λ x got. none x [] got)
   ]
@@ -39,19 +39,19 @@ module _ {A : Type 0} (allowed : ReadErrorCode → Bool) (f : Formats) (reads : 
   ended_not (b ∷ rest) fault e is = absurd cc
 
   pub all_read : (s t : Input) (x : A) (u : Unit {0}) → Step s t (λ l bs rest. Front l bs x rest) → Ends allowed t (Ok u) → ReadsAll allowed f reads levels s (Ok x)
-  all_read s t x u step ends bs tells =
-      let got = step.told bs tells in
-      subst (λ (rest : List ℕ). Front (limits s bs) bs x rest) (ends got.rest got.tells) got.holds
+  all_read s t x u step ends bs reports =
+      let got = step.reported bs reports in
+      subst (λ (rest : List ℕ). Front (limits s bs) bs x rest) (ends got.rest got.reports) got.holds
 
   or_other : (D : Type 0) (k : ErrorCode) (at : ℕ) (l : Limits) (bs rest : List ℕ) (x : A) → Front l bs x rest → ExcusedBy D k at ⊎ ((fault : Fault) × (end_at rest ≡ Err fault)) → ExcusedBy D k at ⊎ ((y : A) → Front l bs y [] → ⊥)
   or_other D k at l bs rest x one (inl e) = inl e
   or_other D k at l bs rest x one (inr h) = inr (λ y other. ended_not rest h.0 (only_rest l bs rest x y one other) h.1)
 
   pub all_trailing : (s t : Input) (x : A) (e : Error) → Step s t (λ l bs rest. Front l bs x rest) → Ends allowed t (Err e) → ReadsAll allowed f reads levels s (Err e)
-  all_trailing s t x e step ends bs tells =
-      let got = step.told bs tells in
-      or_other (Reports allowed) (code_of e) (offset_of e) (limits s bs) bs got.rest x got.holds
-      (excused_or (Reports allowed) (code_of e) (t.offset + length got.rest) (offset_of e) (end_at got.rest) (ends got.rest got.tells))
+  all_trailing s t x e step ends bs reports =
+      let got = step.reported bs reports in
+      or_other (ReportsIo allowed) (code_of e) (offset_of e) (limits s bs) bs got.rest x got.holds
+      (excused_or (ReportsIo allowed) (code_of e) (t.offset + length got.rest) (offset_of e) (end_at got.rest) (ends got.rest got.reports))
 
 -- the end is refused for no lack of memory
 pub end_other : (allowed : ReadErrorCode → Bool) (s t : Input) (e : Error) → EndTakes allowed s t (Err e) → code_of e ≡ code.OutOfMemory → ⊥
@@ -59,7 +59,7 @@ end_other allowed s t e takes is = subst (λ (k : ErrorCode). EndRefused allowed
 
 -- ---- by the definitions
 
-module _ {A : Type 0} (allowed : ReadErrorCode → Bool) (f : Formats) (reads : Raw → A → Type 0) (s : Input) (bs : List ℕ) (tells : Tells s bs) (begins : s.offset ≡ 0) (fits : AreBytes bs) where
+module _ {A : Type 0} (allowed : ReadErrorCode → Bool) (f : Formats) (reads : Raw → A → Type 0) (s : Input) (bs : List ℕ) (reports : Reports s bs) (begins : s.offset ≡ 0) (fits : AreBytes bs) where
   spells : (x : A) → IsWholeRead f reads max_depth s bs x → SpellsAs f reads bs x
   spells x got =
       let l = limits s bs in
@@ -70,10 +70,10 @@ module _ {A : Type 0} (allowed : ReadErrorCode → Bool) (f : Formats) (reads : 
   is_read x spelt room =
       let l = limits s bs in
       let b : Begins max_depth bs spelt.item [] = record { spelled = sym (append-nil _ ∙ spelt.spelled); acceptable = spelt.acceptable } in
-      record { item = spelt.item; is = item_again f l.total l.room max_depth bs [] spelt.item tells.short (omega (arith, begins)) room b spelt.keys; means = spelt.means }
+      record { item = spelt.item; is = item_again f l.total l.room max_depth bs [] spelt.item reports.short (omega (arith, begins)) room b spelt.keys; means = spelt.means }
 
   pub found : (r : Result A Error) → ReadsAll allowed f reads max_depth s r → IfOk r (SpellsAs f reads bs)
-  found (Ok x) h = spells x (h bs tells)
+  found (Ok x) h = spells x (h bs reports)
   found (Err e) h = tt
 
   pub excused_memory : (D : Type 0) → (D → ⊥) → (k : ErrorCode) (at : ℕ) → ExcusedBy D k at → (k ≡ code.OutOfMemory) × (at ≡ 0)
@@ -117,25 +117,25 @@ module _ {A : Type 0} (allowed : ReadErrorCode → Bool) (f : Formats) (reads : 
   memory_or_fault D code.OutOfMemory at h = (tt, h)
 
   -- where the item is there, a refusal is excused
-  is_excused : (e : Error) (x : A) (spelt : SpellsAs f reads bs x) → FitsScratch s.room spelt.item → ReadsAll allowed f reads max_depth s (Err e) → ExcusedBy (Reports allowed) (code_of e) (offset_of e)
-  is_excused e x spelt room h = elim (h bs tells) [
+  is_excused : (e : Error) (x : A) (spelt : SpellsAs f reads bs x) → FitsScratch s.room spelt.item → ReadsAll allowed f reads max_depth s (Err e) → ExcusedBy (ReportsIo allowed) (code_of e) (offset_of e)
+  is_excused e x spelt room h = elim (h bs reports) [
     | inl is ↦ is
     | inr none ↦ absurd (none x (is_read x spelt room))
   ]
 
-  pub accepted : (Reports allowed → ⊥) → (x : A) (spelt : SpellsAs f reads bs x) → FitsScratch s.room spelt.item → (r : Result A Error) → ReadsAll allowed f reads max_depth s r → IfErr r IsOutOfMemory
+  pub accepted : (ReportsIo allowed → ⊥) → (x : A) (spelt : SpellsAs f reads bs x) → FitsScratch s.room spelt.item → (r : Result A Error) → ReadsAll allowed f reads max_depth s r → IfErr r IsOutOfMemory
   accepted device x spelt room (Ok y) h = tt
-  accepted device x spelt room (Err e) h = excused_memory (Reports allowed) device (code_of e) (offset_of e) (is_excused e x spelt room h)
+  accepted device x spelt room (Err e) h = excused_memory (ReportsIo allowed) device (code_of e) (offset_of e) (is_excused e x spelt room h)
 
   -- where memory ran out for the item that is there, it may be asked for that item
   asked_for : (asks : Raw → Type 0) (x : A) (spelt : SpellsAs f reads bs x) → FitsScratch s.room spelt.item → (e : Error) → MemoryFor asks f reads max_depth s e → code_of e ≡ code.OutOfMemory → asks spelt.item
   unfolding is_read
-  asked_for asks x spelt room e h is = h is bs tells x [] (is_read x spelt room)
+  asked_for asks x spelt room e h is = h is bs reports x [] (is_read x spelt room)
 
-  pub asked : (Reports allowed → ⊥) → (asks : Raw → Type 0) (x : A) (spelt : SpellsAs f reads bs x) → FitsScratch s.room spelt.item → (r : Result A Error) → ReadsAll allowed f reads max_depth s r → IfErr r (MemoryFor asks f reads max_depth s) → IfErr r (λ e. asks spelt.item)
+  pub asked : (ReportsIo allowed → ⊥) → (asks : Raw → Type 0) (x : A) (spelt : SpellsAs f reads bs x) → FitsScratch s.room spelt.item → (r : Result A Error) → ReadsAll allowed f reads max_depth s r → IfErr r (MemoryFor asks f reads max_depth s) → IfErr r (λ e. asks spelt.item)
   asked device asks x spelt room (Ok y) read h = tt
   asked device asks x spelt room (Err e) read h =
-      asked_for asks x spelt room e h (excused_memory (Reports allowed) device (code_of e) (offset_of e) (is_excused e x spelt room read)).0
+      asked_for asks x spelt room e h (excused_memory (ReportsIo allowed) device (code_of e) (offset_of e) (is_excused e x spelt room read)).0
 
   pub asked_or_fault : (asks : Raw → Type 0) (x : A) (spelt : SpellsAs f reads bs x) → FitsScratch s.room spelt.item → (r : Result A Error) → IfErr r (MemoryFor asks f reads max_depth s) → IfErr r (λ e. IsOutOfMemory e → asks spelt.item)
   asked_or_fault asks x spelt room (Ok y) h = tt
@@ -143,4 +143,4 @@ module _ {A : Type 0} (allowed : ReadErrorCode → Bool) (f : Formats) (reads : 
 
   pub accepted_or_fault : (x : A) (spelt : SpellsAs f reads bs x) → FitsScratch s.room spelt.item → (r : Result A Error) → ReadsAll allowed f reads max_depth s r → IfErr r IsMemoryOrFault
   accepted_or_fault x spelt room (Ok y) h = tt
-  accepted_or_fault x spelt room (Err e) h = memory_or_fault (Reports allowed) (code_of e) (offset_of e) (is_excused e x spelt room h)
+  accepted_or_fault x spelt room (Err e) h = memory_or_fault (ReportsIo allowed) (code_of e) (offset_of e) (is_excused e x spelt room h)

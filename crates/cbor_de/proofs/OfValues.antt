@@ -18,7 +18,7 @@ use Rattle.cbor_value.specs.declared.Value.{Bool as of_bool, Float as of_float}
 use Rattle.cbor_value.specs.View.{view, float_view}
 use Rattle.cbor_decode.specs.Gives.{Limits, values}
 use Rattle.cbor_decode.proofs.facts.Steps.{step_map}
-use Rattle.cbor_decode_as.specs.Takes.{raws, IsRead, IsNotRead, Refuses, TakesItem, TellsItem}
+use Rattle.cbor_decode_as.specs.Takes.{raws, IsRead, IsNotRead, Refuses, TakesItem, ReportsItem}
 use Rattle.cbor_de.proofs.Faults.{AsValue}
 use Rattle.cbor_decode.proofs.facts.Readings.{along, value_seen}
 use Rattle.cbor_decode_as.proofs.facts.Readings.{refuses_memory, refuses_by, refuses_fault}
@@ -57,10 +57,10 @@ module _ {A : Type 0} (means : Val → A → Type 0) (allowed : ReadErrorCode �
   Valued v l bs rest = IsRead AsValue (item_at (raws f l) levels bs) v rest
 
   -- no item is there
-  pub no_value : (t : Input) (e : Error) (r : Result A Error) → TellsItem false true allowed f levels s e → IsErrAnd r (λ x. x ≡ e) → TookSome s t → TakesItem allowed f reads levels s t r
-  no_value t e (Ok x) told given took = absurd given
-  no_value t e (Err x) told given took = subst (λ (y : Error). Refuses allowed s t (code_of y) (offset_of y) None) (sym given)
-      (refuses_fault allowed (λ l. item_at (values f l) levels) s e None (λ l bs d fails x rest got. no_fault f levels l bs rest got.item d fails got.is) took told)
+  pub no_value : (t : Input) (e : Error) (r : Result A Error) → ReportsItem false true allowed f levels s e → IsErrAnd r (λ x. x ≡ e) → TookSome s t → TakesItem allowed f reads levels s t r
+  no_value t e (Ok x) reported given took = absurd given
+  no_value t e (Err x) reported given took = subst (λ (y : Error). Refuses allowed s t (code_of y) (offset_of y) None) (sym given)
+      (refuses_fault allowed (λ l. item_at (values f l) levels) s e None (λ l bs d fails x rest got. no_fault f levels l bs rest got.item d fails got.is) took reported)
 
   -- an item that means something means it of the value that was read
   same_meaning : (v : Value) (l : Limits) (bs rest after : List ℕ) (x : A) → Valued v l bs rest → IsRead reads (item_at (raws f l) levels bs) x after → means (view v) x

@@ -13,7 +13,7 @@ use Rattle.cbor_io.specs.declared.error.Error.{Error}
 use Rattle.cbor_io.specs.declared.read_error.ReadErrorCode.{ReadErrorCode}
 use Rattle.cbor_read.specs.Source.{Input}
 use Rattle.cbor_decode.specs.Cursor.{ended_at}
-use Rattle.cbor_decode.specs.Gives.{Reports, Tells, limits}
+use Rattle.cbor_decode.specs.Gives.{ReportsIo, Reports, limits}
 use Rattle.cbor_decode.specs.Heads.{remaining_of}
 use Rattle.cbor_decode.specs.declared.cursor.Remaining.{Remaining}
 use Rattle.cbor_decode.specs.declared.cursor.Remaining.TheVariants.{Counted, ToBreak}
@@ -157,50 +157,50 @@ no_end why ToBreak bs f is mid end =
     both a b = absurd cc
 
 pub array_end_taken : ArrayEndTaken
-array_end_taken refusals remaining s t bytes (Ok u) tells step =
-    let got = step.told bytes tells in
-    record { rest = got.rest; ends = ended end_in_array remaining bytes got.rest got.holds; tells = got.tells; count = got.total }
-array_end_taken refusals remaining s t bytes (Err e) tells h =
-    elim (excused_or (Reports refusals) (code_of e) (s.offset + length bytes) (offset_of e) (ended_at end_in_array (remaining_of remaining) bytes) (h.1 bytes tells)) [
+array_end_taken refusals remaining s t bytes (Ok u) reports step =
+    let got = step.reported bytes reports in
+    record { rest = got.rest; ends = ended end_in_array remaining bytes got.rest got.holds; reports = got.reports; count = got.total }
+array_end_taken refusals remaining s t bytes (Err e) reports h =
+    elim (excused_or (ReportsIo refusals) (code_of e) (s.offset + length bytes) (offset_of e) (ended_at end_in_array (remaining_of remaining) bytes) (h.1 bytes reports)) [
       | inl excused ↦ inl excused
       | inr fault ↦ inr (no_end end_in_array remaining bytes fault.0 fault.1)
     ]
 
 pub map_end_taken : MapEndTaken
-map_end_taken refusals remaining s t bytes (Ok u) tells step =
-    let got = step.told bytes tells in
-    record { rest = got.rest; ends = ended end_in_map remaining bytes got.rest got.holds; tells = got.tells; count = got.total }
-map_end_taken refusals remaining s t bytes (Err e) tells h =
-    elim (excused_or (Reports refusals) (code_of e) (s.offset + length bytes) (offset_of e) (ended_at end_in_map (remaining_of remaining) bytes) (h.1 bytes tells)) [
+map_end_taken refusals remaining s t bytes (Ok u) reports step =
+    let got = step.reported bytes reports in
+    record { rest = got.rest; ends = ended end_in_map remaining bytes got.rest got.holds; reports = got.reports; count = got.total }
+map_end_taken refusals remaining s t bytes (Err e) reports h =
+    elim (excused_or (ReportsIo refusals) (code_of e) (s.offset + length bytes) (offset_of e) (ended_at end_in_map (remaining_of remaining) bytes) (h.1 bytes reports)) [
       | inl excused ↦ inl excused
       | inr fault ↦ inr (no_end end_in_map remaining bytes fault.0 fault.1)
     ]
 
 -- ---- the next item, and the next key
 
-module _ {A : Type 0} (refusals : ReadErrorCode → Bool) (f : Formats) (reads : Raw → A → Type 0) (levels : ℕ) (remaining behind : Remaining) (s t : Input) (bytes : List ℕ) (tells : Tells s bytes) (fits : AreBytes bytes) where
+module _ {A : Type 0} (refusals : ReadErrorCode → Bool) (f : Formats) (reads : Raw → A → Type 0) (levels : ℕ) (remaining behind : Remaining) (s t : Input) (bytes : List ℕ) (reports : Reports s bytes) (fits : AreBytes bytes) where
   abbrev Read : List ℕ → A → List ℕ → Type 0
   Read start x rest = IsRead reads (item_at (raws f (limits s bytes)) levels start) x rest
 
   pub element_taken : (r : Result (Option A) Error) → TakesNext refusals f reads levels remaining behind s t r
       → MatchResult r (TookNext f levels reads remaining behind s t bytes)
-      (λ e. ExcusedBy (Reports refusals) (code_of e) (offset_of e) ⊎ LacksNext f levels reads remaining s bytes)
+      (λ e. ExcusedBy (ReportsIo refusals) (code_of e) (offset_of e) ⊎ LacksNext f levels reads remaining s bytes)
   element_taken (Ok (Some x)) step =
-      let got = step.told bytes tells in
+      let got = step.reported bytes reports in
       let next = comes end_in_array remaining behind bytes got.holds.start got.holds.next in
       let read = subst (λ (start : List ℕ). Read start x got.rest) (sym next.1) got.holds.item in
-      (next.0, took refusals f reads levels s t bytes tells fits x got.rest read got.tells got.total)
+      (next.0, took refusals f reads levels s t bytes reports fits x got.rest read got.reports got.total)
   element_taken (Ok None) step =
-      let got = step.told bytes tells in
-      record { rest = got.rest; ends = ends end_in_array remaining bytes got.rest got.holds; tells = got.tells; count = got.total }
-  element_taken (Err e) h = elim (h.told bytes tells) [
+      let got = step.reported bytes reports in
+      record { rest = got.rest; ends = ends end_in_array remaining bytes got.rest got.holds; reports = got.reports; count = got.total }
+  element_taken (Err e) h = elim (h.reported bytes reports) [
     | inl excused ↦ inl excused
     | inr none ↦ inr (record {
       no_end = λ rest end. none None (remaining_of behind) rest (ends_again end_in_array remaining bytes rest end);
       no_item = λ after next x rest b room. none (Some x) (remaining_of after) rest (record {
         start = bytes;
         next = comes_again end_in_array remaining after bytes next;
-        item = read_again refusals f reads levels s t bytes tells fits x rest b room;
+        item = read_again refusals f reads levels s t bytes reports fits x rest b room;
       });
     })
   ]
@@ -224,21 +224,21 @@ module _ {A : Type 0} (refusals : ReadErrorCode → Bool) (f : Formats) (reads :
 
   pub key_taken : (r : Result (Option A) Error) → TakesKey refusals f reads levels remaining behind s t r
       → MatchResult r (TookKey f levels reads remaining behind s t bytes)
-      (λ e. ExcusedBy (Reports refusals) (code_of e) (offset_of e) ⊎ LacksKey f levels reads remaining s bytes)
+      (λ e. ExcusedBy (ReportsIo refusals) (code_of e) (offset_of e) ⊎ LacksKey f levels reads remaining s bytes)
   key_taken (Ok (Some x)) step =
-      let got = step.told bytes tells in
+      let got = step.reported bytes reports in
       let next = comes end_in_map remaining behind bytes got.holds.start got.holds.next in
       let key = begins x got.rest (subst (λ (start : List ℕ). ReadKey start x got.rest) (sym next.1) got.holds.key) in
-      (next.0, key.0, took refusals f reads levels s t bytes tells fits x got.rest key.1 got.tells got.total)
+      (next.0, key.0, took refusals f reads levels s t bytes reports fits x got.rest key.1 got.reports got.total)
   key_taken (Ok None) step =
-      let got = step.told bytes tells in
-      record { rest = got.rest; ends = ends end_in_map remaining bytes got.rest got.holds; tells = got.tells; count = got.total }
-  key_taken (Err e) h = elim (h.told bytes tells) [
+      let got = step.reported bytes reports in
+      record { rest = got.rest; ends = ends end_in_map remaining bytes got.rest got.holds; reports = got.reports; count = got.total }
+  key_taken (Err e) h = elim (h.reported bytes reports) [
     | inl excused ↦ inl excused
     | inr none ↦ inr (record {
       no_end = λ rest end. none None (remaining_of behind) rest (ends_again end_in_map remaining bytes rest end);
       no_key = λ after next may x rest b room.
-          let read = read_again refusals f reads levels s t bytes tells fits x rest b room in
+          let read = read_again refusals f reads levels s t bytes reports fits x rest b room in
           none (Some x) (remaining_of after) rest (record {
             start = bytes;
             next = comes_again end_in_map remaining after bytes next;

@@ -17,10 +17,10 @@ use Rattle.cbor_io.specs.declared.error.Error.{Error}
 use Rattle.cbor_io.specs.declared.read_error.ReadErrorCode.{ReadErrorCode}
 use Rattle.cbor_io.specs.Error.{code_of, offset_of, IsOutOfMemory}
 use Rattle.cbor_read.specs.Source.{Input}
-use Rattle.cbor_decode.specs.FirstRefusal.{TellsFirst}
-use Rattle.cbor_decode.specs.Gives.{Limits, limits, Tells, Step, Reports, FailsBy, IsMemoryOrFault, values}
+use Rattle.cbor_decode.specs.FirstRefusal.{ReportsFirst}
+use Rattle.cbor_decode.specs.Gives.{Limits, limits, Reports, Step, ReportsIo, FailsBy, IsMemoryOrFault, values}
 use Rattle.cbor_decode.proofs.facts.FirstRefusal.{item_limits, item_first}
-use Rattle.cbor_decode_as.specs.Takes.{raws, IsRead, WhereTotal, TellsFault}
+use Rattle.cbor_decode_as.specs.Takes.{raws, IsRead, WhereTotal, ReportsFault}
 use Rattle.cbor_de.proofs.facts.Readings.{along, value_seen}
 use Rattle.cbor_decode_as.proofs.facts.Refusals.{excused_or}
 use Rattle.cbor_de.proofs.facts.Readings.{where_map}
@@ -35,7 +35,7 @@ record Over (levels end : ℕ) (room : Option ℕ) (s : Stream) (bs : List ℕ) 
   going : s.done ≡ false
   levels_is : s.levels ≡ levels
   formats : s.formats ≡ all_formats
-  tells : Tells s.input bs
+  reports : Reports s.input bs
   bytes : AreBytes bs
   end_is : s.input.offset + length bs ≡ end
   room_is : s.input.room ≡ room
@@ -49,7 +49,7 @@ not_both read x is f fails = let both : Ok x ≡ Err f = sym is ∙ fails in cc
 
 module _ {A : Type 0} (reads : Formats → Raw → A → Type 0) (total : Bool) (refusals : ReadErrorCode → Bool) (levels end : ℕ) (room : Option ℕ) where
   abbrev Device : Type 0
-  Device = Reports refusals
+  Device = ReportsIo refusals
 
   abbrev Gives : Stream → Option (Result A Error) → Stream → Type 0
   Gives = StreamGives refusals reads total
@@ -89,7 +89,7 @@ module _ {A : Type 0} (reads : Formats → Raw → A → Type 0) (total : Bool) 
   after : (s t : Stream) (bs : List ℕ) (x : A) → Over levels end room s bs → GivesItem refusals reads x s t → After t bs x
   after s t bs x o h =
       let item : Step s.input t.input (λ l bs rest. IsRead (reads s.formats) (item_at (raws s.formats l) s.levels bs) x rest) = h.item in
-      let got = item.told bs o.tells in
+      let got = item.reported bs o.reports in
       let r = got.holds.item in
       let read : item_at (raws all_formats Here) levels bs ≡ Ok (r, got.rest) = sym (raw_here s bs o) ∙ got.holds.is in
       let here = (item_found all_formats end room levels bs got.rest r o.bytes read).0 in
@@ -102,7 +102,7 @@ module _ {A : Type 0} (reads : Formats → Raw → A → Type 0) (total : Bool) 
           going = h.done;
           levels_is = h.levels ∙ o.levels_is;
           formats = h.formats ∙ o.formats;
-          tells = got.tells;
+          reports = got.reports;
           bytes = behind_bytes (spell r) got.rest (subst AreBytes here.spelled o.bytes);
           end_is = got.total ∙ o.end_is;
           room_is = item.took.room ∙ o.room_is;
@@ -124,27 +124,27 @@ module _ {A : Type 0} (reads : Formats → Raw → A → Type 0) (total : Bool) 
       ap₂ (λ (n : ℕ) (r : Option ℕ). record { start = n; levels = levels; scratch = r }) start o.room_is
 
   first_there : (s : Stream) (bs : List ℕ) (e : Error) → Over levels end room s bs
-      → IsOutOfMemory e ⊎ ((Device × IsMemoryOrFault e) ⊎ TellsFirst (item_limits levels s.input) bs e)
-      → IsOutOfMemory e ⊎ ((Device × IsMemoryOrFault e) ⊎ TellsFirst (limits_at (reads all_formats) total Device levels end room bs) bs e)
+      → IsOutOfMemory e ⊎ ((Device × IsMemoryOrFault e) ⊎ ReportsFirst (item_limits levels s.input) bs e)
+      → IsOutOfMemory e ⊎ ((Device × IsMemoryOrFault e) ⊎ ReportsFirst (limits_at (reads all_formats) total Device levels end room bs) bs e)
   first_there s bs e o (inl memory) = inl memory
   first_there s bs e o (inr (inl fault)) = inr (inl fault)
-  first_there s bs e o (inr (inr first)) = inr (inr (subst (λ (l : model.Limits). TellsFirst l bs e) (bounds s bs o) first))
+  first_there s bs e o (inr (inr first)) = inr (inr (subst (λ (l : model.Limits). ReportsFirst l bs e) (bounds s bs o) first))
 
   -- the reader reads the item at the front
   is_read : (s : Stream) (bs : List ℕ) (r : Raw) (more : List ℕ) → Over levels end room s bs → FitsScratch room r → Begins levels bs r more → item_at (raws all_formats Here) levels bs ≡ Ok (r, more)
   is_read s bs r more o fits b =
-      item_again all_formats end room levels bs more r (omega (arith, o.tells.short, o.end_is)) (omega (arith, o.end_is)) fits b (all_allowed r)
+      item_again all_formats end room levels bs more r (omega (arith, o.reports.short, o.end_is)) (omega (arith, o.end_is)) fits b (all_allowed r)
 
-  tells_fault : (s t : Stream) (bs : List ℕ) (e : Error) → Over levels end room s bs → GivesError refusals reads total e s t → WhereTotal total (FailsBy Device (code_of e) end (offset_of e) (item_at (values all_formats Here) levels bs))
-  tells_fault s t bs e o h = where_map total (λ (tells : TellsFault refusals (λ l. item_at (values s.formats l) s.levels) s.input e).
+  reports_fault : (s t : Stream) (bs : List ℕ) (e : Error) → Over levels end room s bs → GivesError refusals reads total e s t → WhereTotal total (FailsBy Device (code_of e) end (offset_of e) (item_at (values all_formats Here) levels bs))
+  reports_fault s t bs e o h = where_map total (λ (reports : ReportsFault refusals (λ l. item_at (values s.formats l) s.levels) s.input e).
       subst (λ (n : ℕ). FailsBy Device (code_of e) n (offset_of e) (item_at (values all_formats Here) levels bs)) o.end_is
-      (subst (λ (r : Reads Val). FailsBy Device (code_of e) (s.input.offset + length bs) (offset_of e) r) (value_here s bs o) (tells bs o.tells))) h.fault
+      (subst (λ (r : Reads Val). FailsBy Device (code_of e) (s.input.offset + length bs) (offset_of e) r) (value_here s bs o) (reports bs o.reports))) h.fault
 
   -- and so the first refusal of an item there
-  tells_first : (s : Stream) (bs : List ℕ) (e : Error) → Over levels end room s bs
+  reports_first : (s : Stream) (bs : List ℕ) (e : Error) → Over levels end room s bs
       → WhereTotal total (FailsBy Device (code_of e) end (offset_of e) (item_at (values all_formats Here) levels bs))
       → Faulty (reads all_formats) total Device levels end room bs e
-  tells_first s bs e o h = where_map total (λ (fails : FailsBy Device (code_of e) end (offset_of e) (item_at (values all_formats Here) levels bs)).
+  reports_first s bs e o h = where_map total (λ (fails : FailsBy Device (code_of e) end (offset_of e) (item_at (values all_formats Here) levels bs)).
       first_there s bs e o
       (item_first levels s.input bs o.bytes e Device
       (subst (λ (l : Limits). FailsBy Device (code_of e) l.total (offset_of e) (item_at (values all_formats l) levels bs)) (sym (here s bs o)) fails))) h
@@ -155,7 +155,7 @@ module _ {A : Type 0} (reads : Formats → Raw → A → Type 0) (total : Bool) 
       let is = is_read s bs r more o fits b in
       let value_is : item_at (values all_formats Here) levels bs ≡ Ok (value r, more) = value_seen all_formats Here levels bs ∙ ap (along value) is in
       record {
-        not = elim (h.refused.told bs o.tells) [
+        not = elim (h.refused.reported bs o.reports) [
           | inl x ↦ inl x
           | inr n ↦ inr (λ x means. n.1 x more (record { item = r; is = raw_here s bs o ∙ is; means = subst (λ (f : Formats). reads f r x) (sym o.formats) means }))
         ];
@@ -163,12 +163,12 @@ module _ {A : Type 0} (reads : Formats → Raw → A → Type 0) (total : Bool) 
             elim (excused_or Device (code_of e) end (offset_of e) (item_at (values all_formats Here) levels bs) fails) [
               | inl x ↦ x
               | inr f ↦ absurd (not_both _ _ value_is f.0 f.1)
-            ]) (tells_fault s t bs e o h);
+            ]) (reports_fault s t bs e o h);
       }
 
   -- and where nothing is to come
   excused_at_end : (s t : Stream) (e : Error) → Over levels end room s [] → GivesError refusals reads total e s t → IsExcused Device e
-  excused_at_end s t e o h = elim (h.refused.told [] o.tells) [
+  excused_at_end s t e o h = elim (h.refused.reported [] o.reports) [
     | inl x ↦ x
     | inr n ↦ absurd (n.0 refl)
   ]
@@ -177,14 +177,14 @@ module _ {A : Type 0} (reads : Formats → Raw → A → Type 0) (total : Bool) 
   last s t bs rest (r ∷ rs) e o are fits h = unread s t bs r (flat_map spell rs ++ rest) e o fits.0 (first_begins levels bs r rs rest are) h
   last s t bs [] [] e o are fits h = excused_at_end s t e (subst (Over levels end room s) are.begin.spelled o) h
   last s t bs (b ∷ rest) [] e o are fits h =
-      tells_first s (b ∷ rest) e (subst (Over levels end room s) are.begin.spelled o) (tells_fault s t (b ∷ rest) e (subst (Over levels end room s) are.begin.spelled o) h)
+      reports_first s (b ∷ rest) e (subst (Over levels end room s) are.begin.spelled o) (reports_fault s t (b ∷ rest) e (subst (Over levels end room s) are.begin.spelled o) h)
 
   -- ---- the end
 
   nothing_left : (s t : Stream) (bs : List ℕ) → Over levels end room s bs → GivesNone s t → bs ≡ []
   nothing_left s t bs o h = elim h.why [
     | inl done ↦ let on : false ≡ true = sym o.going ∙ done in absurd cc
-    | inr none ↦ subst (λ (x : Option (List ℕ)). IfSome x (λ bs. bs ≡ [])) o.tells.is none
+    | inr none ↦ subst (λ (x : Option (List ℕ)). IfSome x (λ bs. bs ≡ [])) o.reports.is none
   ]
 
   none : (s t : Stream) (bs rest : List ℕ) (items : List Raw) → Over levels end room s bs → AreMostItems levels bs items rest → GivesNone s t → Answers items rest []
@@ -218,9 +218,9 @@ module _ {A : Type 0} (reads : Formats → Raw → A → Type 0) (total : Bool) 
       (subst (λ (i : Raw). reads all_formats i x) (sym b.0) a.means, run_to_error xs all.0 t u e a.rest rest rs a.over b.1 fits.1 all.2 error)
 
 pub stream_answers : {A : Type 0} (reads : Formats → Raw → A → Type 0) (total : Bool) → StreamAnswers reads total
-stream_answers reads total refusals s bytes rest items answers going formats tells fits are room drains =
+stream_answers reads total refusals s bytes rest items answers going formats reports fits are room drains =
     let end = s.input.offset + length bytes in
-    let o : Over s.levels end s.input.room s bytes = record { going = going; levels_is = refl; formats = formats; tells = tells; bytes = fits; end_is = refl; room_is = refl } in
+    let o : Over s.levels end s.input.room s bytes = record { going = going; levels_is = refl; formats = formats; reports = reports; bytes = fits; end_is = refl; room_is = refl } in
     run reads total refusals s.levels end s.input.room answers s drains.1.0 drains.0 bytes rest items o are room drains.1.1 drains.1.2
 
 -- what calls give is what steps between the places where the stream stands give
@@ -245,12 +245,12 @@ begun_is source s is = record {
   formats = ap (λ (x : Stream). x.formats) is;
 }
 
-begun_over : (source : Input) (s : Stream) (bs : List ℕ) → Begun source s → Tells source bs → AreBytes bs → Over max_depth (source.offset + length bs) source.room s bs
-begun_over source s bs b tells fits = record {
+begun_over : (source : Input) (s : Stream) (bs : List ℕ) → Begun source s → Reports source bs → AreBytes bs → Over max_depth (source.offset + length bs) source.room s bs
+begun_over source s bs b reports fits = record {
   going = b.going;
   levels_is = b.levels;
   formats = b.formats;
-  tells = subst (λ (x : Input). Tells x bs) (sym b.input) tells;
+  reports = subst (λ (x : Input). Reports x bs) (sym b.input) reports;
   bytes = fits;
   end_is = ap (λ (x : Input). x.offset + length bs) b.input;
   room_is = ap (λ (x : Input). x.room) b.input;
@@ -258,7 +258,7 @@ begun_over source s bs b tells fits = record {
 
 module _ {A : Type 0} (reads : Formats → Raw → A → Type 0) (total : Bool) (refusals : ReadErrorCode → Bool) where
   -- where all answers are items, each is read, and nothing is left
-  all_read : (end : ℕ) (room : Option ℕ) (xs : List A) (items : List Raw) (rest : List ℕ) → AnswersTo (reads all_formats) total (Reports refusals) max_depth end room items rest (map Ok xs) → (rest ≡ []) × AreReadAs (reads all_formats) items xs
+  all_read : (end : ℕ) (room : Option ℕ) (xs : List A) (items : List Raw) (rest : List ℕ) → AnswersTo (reads all_formats) total (ReportsIo refusals) max_depth end room items rest (map Ok xs) → (rest ≡ []) × AreReadAs (reads all_formats) items xs
   all_read end room [] [] [] h = (refl, tt)
   all_read end room [] [] (b ∷ rest) h = absurd h
   all_read end room [] (r ∷ rs) rest h = absurd h
@@ -268,16 +268,16 @@ module _ {A : Type 0} (reads : Formats → Raw → A → Type 0) (total : Bool) 
 
   -- what was given before the end
   pub items_given : (source : Input) (s t u : Stream) (yielded : List (Result A Error)) (xs : List A) → Begun source s → yielded ≡ map Ok xs → Yields (StreamGives refusals reads total) s yielded t → GivesNone t u
-      → (bs rest : List ℕ) (items : List Raw) → Tells source bs → AreBytes bs → AreMostItems max_depth bs items rest → AllByRecursion (FitsScratch source.room) items → (rest ≡ []) × AreReadAs (reads all_formats) items xs
-  items_given source s t u yielded xs b is all ends bs rest items tells fits are room =
+      → (bs rest : List ℕ) (items : List Raw) → Reports source bs → AreBytes bs → AreMostItems max_depth bs items rest → AllByRecursion (FitsScratch source.room) items → (rest ≡ []) × AreReadAs (reads all_formats) items xs
+  items_given source s t u yielded xs b is all ends bs rest items reports fits are room =
       let end = source.offset + length bs in
-      let given = run reads total refusals max_depth end source.room yielded s t u bs rest items (begun_over source s bs b tells fits) are room all ends in
-      all_read end source.room xs items rest (subst (AnswersTo (reads all_formats) total (Reports refusals) max_depth end source.room items rest) is given)
+      let given = run reads total refusals max_depth end source.room yielded s t u bs rest items (begun_over source s bs b reports fits) are room all ends in
+      all_read end source.room xs items rest (subst (AnswersTo (reads all_formats) total (ReportsIo refusals) max_depth end source.room items rest) is given)
 
   -- what was given before an error, and the error
   pub error_given : (source : Input) (s t u : Stream) (yielded : List (Result A Error)) (xs : List A) (e : Error) → Begun source s → yielded ≡ map Ok xs → Yields (StreamGives refusals reads total) s yielded t → GivesError refusals reads total e t u
-      → (bs rest : List ℕ) (items : List Raw) → Tells source bs → AreBytes bs → AreMostItems max_depth bs items rest → AllByRecursion (FitsScratch source.room) items
-      → AnswersTo (reads all_formats) total (Reports refusals) max_depth (source.offset + length bs) source.room items rest (map Ok xs ++ Err e ∷ [])
-  error_given source s t u yielded xs e b is all error bs rest items tells fits are room =
+      → (bs rest : List ℕ) (items : List Raw) → Reports source bs → AreBytes bs → AreMostItems max_depth bs items rest → AllByRecursion (FitsScratch source.room) items
+      → AnswersTo (reads all_formats) total (ReportsIo refusals) max_depth (source.offset + length bs) source.room items rest (map Ok xs ++ Err e ∷ [])
+  error_given source s t u yielded xs e b is all error bs rest items reports fits are room =
       let all' = subst (λ (ys : List (Result A Error)). Yields (StreamGives refusals reads total) s ys t) is all in
-      run_to_error reads total refusals max_depth (source.offset + length bs) source.room xs s t u e bs rest items (begun_over source s bs b tells fits) are room all' error
+      run_to_error reads total refusals max_depth (source.offset + length bs) source.room xs s t u e bs rest items (begun_over source s bs b reports fits) are room all' error

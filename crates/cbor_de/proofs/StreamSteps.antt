@@ -11,15 +11,15 @@ use Rattle.cbor_io.specs.declared.read_error.ReadErrorCode.{ReadErrorCode}
 use Rattle.cbor_io.specs.Error.{code_of, offset_of}
 use Rattle.cbor_io.specs.ReadError.{why, place, error_code}
 use Rattle.cbor_read.specs.Source.{Input, Stays, RefusedByte}
-use Rattle.cbor_decode.specs.Gives.{Limits, limits, Tells, Step, Reports, FailsBy, values}
+use Rattle.cbor_decode.specs.Gives.{Limits, limits, Reports, Step, ReportsIo, FailsBy, values}
 use Rattle.cbor_decode.proofs.facts.Steps.{some_then, took_stays, step_then, none_step, byte_refused}
-use Rattle.cbor_decode_as.specs.Takes.{raws, IsRead, IsNotRead, ExcusedBy, Refuses, TakesItem, TellsItem, TellsFault}
+use Rattle.cbor_decode_as.specs.Takes.{raws, IsRead, IsNotRead, ExcusedBy, Refuses, TakesItem, ReportsItem, ReportsFault}
 use Rattle.cbor_de.proofs.Faults.{where_map}
 use Rattle.cbor_decode_as.proofs.facts.Refusals.{excused_or}
 
 module _ (refusals : ReadErrorCode → Bool) where
   abbrev Device : Type 0
-  Device = Reports refusals
+  Device = ReportsIo refusals
 
   -- ---- a look
 
@@ -29,21 +29,21 @@ module _ (refusals : ReadErrorCode → Bool) where
   stayed : (s m : Input) → Stays s m → Step s m (λ l bs rest. bs ≡ rest)
   stayed s m h = none_step s m h.bytes h.count h.room
 
-  -- what is told after a look is told before it
-  told_before : {A : Type 0} (read : Limits → List ℕ → Reads A) (s m : Input) (e : Error) → Stays s m → TellsFault refusals read m e → TellsFault refusals read s e
-  told_before read s m e h tells bs is =
-      let one = (stayed s m h).told bs is in
-      let fails = tells one.rest one.tells in
+  -- what is reported after a look is reported before it
+  reported_before : {A : Type 0} (read : Limits → List ℕ → Reads A) (s m : Input) (e : Error) → Stays s m → ReportsFault refusals read m e → ReportsFault refusals read s e
+  reported_before read s m e h reports bs is =
+      let one = (stayed s m h).reported bs is in
+      let fails = reports one.rest one.reports in
       let k = code_of e in
       let at = offset_of e in
       let here = subst (λ (n : ℕ). FailsBy Device k n at (read (limits m one.rest) one.rest)) one.total fails in
       let within = subst (λ (l : Limits). FailsBy Device k (s.offset + length bs) at (read l one.rest)) (same_there s m bs one.rest h.room one.total) here in
       subst (λ (x : List ℕ). FailsBy Device k (s.offset + length bs) at (read (limits s bs) x)) (sym one.holds) within
 
-  pub fault_before : (total : Bool) (f : Formats) (levels : ℕ) (s m : Input) (e : Error) → Stays s m → TellsItem false total refusals f levels m e → TellsItem false total refusals f levels s e
-  fault_before total f levels s m e h = where_map total (told_before (λ l. item_at (values f l) levels) s m e h)
+  pub fault_before : (total : Bool) (f : Formats) (levels : ℕ) (s m : Input) (e : Error) → Stays s m → ReportsItem false total refusals f levels m e → ReportsItem false total refusals f levels s e
+  fault_before total f levels s m e h = where_map total (reported_before (λ l. item_at (values f l) levels) s m e h)
 
-  -- what a look that saw a byte tells
+  -- what a look that saw a byte reports
   abbrev pub Front : Input → Option ℕ → Type 0
   Front s o = MatchOption o (IfSome s.to_come (λ bs. bs ≡ [])) (λ b. IfSome s.to_come (λ bs. take 1 bs ≡ b ∷ []))
 
@@ -51,9 +51,9 @@ module _ (refusals : ReadErrorCode → Bool) where
   front_is s o b is h = subst (Front s) is h
 
   -- a byte that was seen is there
-  seen : (s : Input) (b : ℕ) (bs : List ℕ) → Tells s bs → IfSome s.to_come (λ bs. take 1 bs ≡ b ∷ []) → bs ≢ []
-  seen s b bs tells front none =
-      let first : take 1 bs ≡ b ∷ [] = subst (λ (o : Option (List ℕ)). IfSome o (λ bs. take 1 bs ≡ b ∷ [])) tells.is front in
+  seen : (s : Input) (b : ℕ) (bs : List ℕ) → Reports s bs → IfSome s.to_come (λ bs. take 1 bs ≡ b ∷ []) → bs ≢ []
+  seen s b bs reports front none =
+      let first : take 1 bs ≡ b ∷ [] = subst (λ (o : Option (List ℕ)). IfSome o (λ bs. take 1 bs ≡ b ∷ [])) reports.is front in
       let empty : [] ≡ b ∷ [] = sym (ap (take 1) none) ∙ first in
       absurd cc
 
@@ -72,12 +72,12 @@ module _ (refusals : ReadErrorCode → Bool) where
     pub none_before : (s m t : Input) (e : Error) (b : ℕ) → Stays s m → IfSome s.to_come (λ bs. take 1 bs ≡ b ∷ []) → TakesItem refusals f reads levels m t (Err e) → Refuses refusals s t (code_of e) (offset_of e) (λ l bs. (bs ≢ []) × IsNot l bs)
     none_before s m t e b h front refused = record {
       took = some_then s m t (took_stays s m h) refused.took;
-      told = λ bs tells.
-          let one = (stayed s m h).told bs tells in
-          elim (refused.told one.rest one.tells) [
+      reported = λ bs reports.
+          let one = (stayed s m h).reported bs reports in
+          elim (refused.reported one.rest one.reports) [
             | inl x ↦ inl x
             | inr none ↦ inr (
-              seen s b bs tells front,
+              seen s b bs reports front,
               subst (λ (x : List ℕ). IsNot (limits s bs) x) (sym one.holds) (subst (λ (l : Limits). IsNot l one.rest) (same_there s m bs one.rest h.room one.total) none),
             )
           ];
@@ -89,9 +89,9 @@ module _ (refusals : ReadErrorCode → Bool) where
   pub look_excused : (s m : Input) (q : ReadError) (e : Error) (N : Limits → List ℕ → Type 0) → code_of e ≡ error_code (why q) → offset_of e ≡ place q → RefusedByte refusals s m q → Refuses refusals s m (code_of e) (offset_of e) N
   look_excused s m q e N code at h = record {
     took = h.refused.moved;
-    told = λ bs tells.
+    reported = λ bs reports.
         let read : Limits → List ℕ → Reads (Unit {0}) = λ l x. Ok (tt, x) in
-        let fails = (byte_refused refusals s m q read h).told bs tells in
+        let fails = (byte_refused refusals s m q read h).reported bs reports in
         let k = error_code (why q) in
         let by : ExcusedBy Device k (place q) = elim (excused_or Device k (s.offset + length bs) (place q) (Ok (tt, bs)) fails) [
           | inl x ↦ x
@@ -100,11 +100,11 @@ module _ (refusals : ReadErrorCode → Bool) where
         inl (subst (λ (c : ErrorCode). ExcusedBy Device c (offset_of e)) (sym code) (subst (λ (n : ℕ). ExcusedBy Device k n) (sym at) by));
   }
 
-  pub look_fault : (total : Bool) (f : Formats) (levels : ℕ) (s m : Input) (q : ReadError) (e : Error) → code_of e ≡ error_code (why q) → offset_of e ≡ place q → RefusedByte refusals s m q → TellsItem false total refusals f levels s e
+  pub look_fault : (total : Bool) (f : Formats) (levels : ℕ) (s m : Input) (q : ReadError) (e : Error) → code_of e ≡ error_code (why q) → offset_of e ≡ place q → RefusedByte refusals s m q → ReportsItem false total refusals f levels s e
   look_fault false f levels s m q e code at h = tt
-  look_fault true f levels s m q e code at h = λ bs tells.
+  look_fault true f levels s m q e code at h = λ bs reports.
       let read : Limits → List ℕ → Reads Val = λ l. item_at (values f l) levels in
-      let fails = (byte_refused refusals s m q read h).told bs tells in
+      let fails = (byte_refused refusals s m q read h).reported bs reports in
       let n = s.offset + length bs in
       let r = read (limits s bs) bs in
       subst (λ (c : ErrorCode). FailsBy Device c n (offset_of e) r) (sym code) (subst (λ (o : ℕ). FailsBy Device (error_code (why q)) n o r) (sym at) fails)

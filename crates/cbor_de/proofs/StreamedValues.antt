@@ -11,7 +11,7 @@ use Rattle.cbor_io.specs.declared.error.Error.{Error}
 use Rattle.cbor_io.specs.declared.error.ErrorCode.{ErrorCode}
 use Rattle.cbor_io.specs.declared.error.ErrorCode.TheVariants.{Io, OutOfMemory}
 use Rattle.cbor_read.specs.Source.{Lends, reader_refusals, start_of_reader}
-use Rattle.cbor_decode.specs.Gives.{Gave, IsMemoryOrFault, IsMemoryOrFaultBy, Reports}
+use Rattle.cbor_decode.specs.Gives.{Gave, IsMemoryOrFault, IsMemoryOrFaultBy, ReportsIo}
 use Rattle.cbor_decode_as.specs.Takes.{ExcusedBy, lending}
 use Rattle.cbor_de.specs.ItemTaken.{BeginsAs, BeginsAsNone, TookItem}
 use Rattle.cbor_de.specs.Streamed.{AreMostValues, HasStreamed, ValuesBegin}
@@ -38,7 +38,7 @@ suffix : (front rest : List ℕ) → AreBytes (front ++ rest) → AreBytes rest
 suffix [] rest h = h
 suffix (b ∷ front) rest h = suffix front rest (λ i. h (suc i))
 
-memory_or_fault : (code : ErrorCode) (at : ℕ) → ExcusedBy (Reports reader_refusals) code at → IsMemoryOrFaultBy code × (at ≡ 0)
+memory_or_fault : (code : ErrorCode) (at : ℕ) → ExcusedBy (ReportsIo reader_refusals) code at → IsMemoryOrFaultBy code × (at ≡ 0)
 memory_or_fault OutOfMemory at h = (tt, h)
 memory_or_fault (Io fault) at h = (tt, h.1)
 memory_or_fault _ at h = absurd h
@@ -85,7 +85,7 @@ module _ {A : Type 0} (reads : Context → Raw → A → Type 0) (bytes : List �
   none_streamed remaining gave = record {
     rest = bytes;
     begin = refl;
-    tells = record { is = gave.told; short = omega (arith, gave.short) };
+    reports = record { is = gave.reported; short = omega (arith, gave.short) };
     are_bytes = gave.are_bytes;
     place = omega arith;
     room = refl;
@@ -97,7 +97,7 @@ module _ {A : Type 0} (reads : Context → Raw → A → Type 0) (bytes : List �
   module _ (values : List A) (s t : Stream) (far : HasStreamed read_as bytes values s) where
     took : (x : A) → GivesItem reader_refusals by x s t → TookItem all_formats max_depth read_as s.input t.input far.rest x
     took x given =
-        let here = item_taken reader_refusals s.formats (by s.formats) s.levels s.input t.input far.rest far.tells far.are_bytes (Ok x) given.item in
+        let here = item_taken reader_refusals s.formats (by s.formats) s.levels s.input t.input far.rest far.reports far.are_bytes (Ok x) given.item in
         let deep = subst (λ (n : ℕ). TookItem s.formats n (by s.formats) s.input t.input far.rest x) far.levels here in
         subst (λ (f : Formats). TookItem f max_depth (by f) s.input t.input far.rest x) far.formats deep
 
@@ -110,7 +110,7 @@ module _ {A : Type 0} (reads : Context → Raw → A → Type 0) (bytes : List �
         record {
           rest = took.rest;
           begin = one_more read_as bytes values x far.rest took.rest far.begin took.read;
-          tells = took.tells;
+          reports = took.reports;
           are_bytes = suffix (spell took.read.item) took.rest (subst AreBytes spelled far.are_bytes);
           place = omega (arith, took.count, far.place, lengths);
           room = room;
@@ -125,7 +125,7 @@ module _ {A : Type 0} (reads : Context → Raw → A → Type 0) (bytes : List �
         elim none.why [
           | inl done ↦ absurd (true_false (sym done ∙ far.going))
           | inr end ↦
-              let none : far.rest ≡ [] = subst (λ (o : Option (List ℕ)). IfSome o (λ bs. bs ≡ [])) far.tells.is end in
+              let none : far.rest ≡ [] = subst (λ (o : Option (List ℕ)). IfSome o (λ bs. bs ≡ [])) far.reports.is end in
               subst (λ (bs : List ℕ). ValuesBegin read_as bytes values bs) none far.begin
         ]
       where
@@ -133,14 +133,14 @@ module _ {A : Type 0} (reads : Context → Raw → A → Type 0) (bytes : List �
         true_false e = absurd cc
 
     abbrev Why : Formats → ℕ → Error → Type 0
-    Why f levels e = ExcusedBy (Reports reader_refusals) (code_of e) (offset_of e) ⊎ BeginsAsNone f levels (by f) s.input far.rest
+    Why f levels e = ExcusedBy (ReportsIo reader_refusals) (code_of e) (offset_of e) ⊎ BeginsAsNone f levels (by f) s.input far.rest
 
     -- after an error
     pub most_streamed : (total : Bool) (e : Error) → GivesError reader_refusals by total e s t → IsMemoryOrFault e ⊎ AreMostValues read_as bytes values far.rest
     most_streamed total e given =
-        let why = item_taken reader_refusals s.formats (by s.formats) s.levels s.input t.input far.rest far.tells far.are_bytes (Err e) (record {
+        let why = item_taken reader_refusals s.formats (by s.formats) s.levels s.input t.input far.rest far.reports far.are_bytes (Err e) (record {
           took = given.refused.took;
-          told = λ bs told. elim (given.refused.told bs told) [ inl excused ↦ inl excused | inr none ↦ inr none.1 ];
+          reported = λ bs reported. elim (given.refused.reported bs reported) [ inl excused ↦ inl excused | inr none ↦ inr none.1 ];
         }) in
         elim (subst (λ (f : Formats). Why f max_depth e) far.formats (subst (λ (n : ℕ). Why s.formats n e) far.levels why)) [
           | inl excused ↦ inl (memory_or_fault (code_of e) (offset_of e) excused)

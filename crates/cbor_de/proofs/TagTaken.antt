@@ -7,7 +7,7 @@ use Rattle.cbor_model.specs.Reader.{Fault, Reads, ◌>>=◌, number_behind, widt
 use Rattle.cbor_model.proofs.facts.Reader.{bind_ok, ok_is}
 use Rattle.cbor_model.proofs.facts.HeadNumbers.{AreBytes-rest, info-below, number_behind_found, number_behind_again}
 use Rattle.cbor_io.specs.Error.{code_of, offset_of}
-use Rattle.cbor_decode.specs.Gives.{Reports, Tells}
+use Rattle.cbor_decode.specs.Gives.{ReportsIo, Reports}
 use Rattle.cbor_decode_as.specs.Tags.{begins_tag, entered_at, tag_head_at}
 use Rattle.cbor_decode_as.proofs.facts.Refusals.{excused_or}
 use Rattle.cbor_de.specs.TagTaken.{BeginsTag, BeginsByTag, LacksTag, TagTaken}
@@ -152,17 +152,17 @@ tag_err levels (b ∷ bs) f fits is = by (begins_tag b) refl
         not_err e = absurd cc
 
 pub tag_taken : TagTaken
-tag_taken refusals levels s t bytes (Ok (Some n)) tells fits step =
-    let got = step.told bytes tells in
+tag_taken refusals levels s t bytes (Ok (Some n)) reports fits step =
+    let got = step.reported bytes reports in
     let tag = tag_ok levels bytes n got.rest fits got.holds in
-    record { rest = got.rest; tagged = tag.0; level = tag.1; tells = got.tells; count = got.total }
-tag_taken refusals levels s t bytes (Ok None) tells fits step =
-    let got = step.told bytes tells in
+    record { rest = got.rest; tagged = tag.0; level = tag.1; reports = got.reports; count = got.total }
+tag_taken refusals levels s t bytes (Ok None) reports fits step =
+    let got = step.reported bytes reports in
     let tag = tag_none levels bytes got.rest got.holds in
     let total : t.offset + length bytes ≡ s.offset + length bytes = ap (λ (xs : List ℕ). t.offset + length xs) tag.1 ∙ got.total in
-    record { none = tag.0; tells = subst (λ (xs : List ℕ). Tells t xs) (sym tag.1) got.tells; count = omega (arith, total) }
-tag_taken refusals levels s t bytes (Err e) tells fits h =
-    elim (excused_or (Reports refusals) (code_of e) (s.offset + length bytes) (offset_of e) (tag_head_at levels bytes) (h.1 bytes tells)) [
+    record { none = tag.0; reports = subst (λ (xs : List ℕ). Reports t xs) (sym tag.1) got.reports; count = omega (arith, total) }
+tag_taken refusals levels s t bytes (Err e) reports fits h =
+    elim (excused_or (ReportsIo refusals) (code_of e) (s.offset + length bytes) (offset_of e) (tag_head_at levels bytes) (h.1 bytes reports)) [
       | inl excused ↦ inl excused
       | inr fault ↦ inr (tag_err levels bytes fault.0 fits fault.1)
     ]

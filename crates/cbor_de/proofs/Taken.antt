@@ -12,22 +12,22 @@ use Rattle.cbor_read.specs.Source.{Input}
 use Rattle.cbor_io.specs.Error.{code_of, offset_of}
 use Rattle.cbor_io.specs.declared.error.Error.{Error}
 use Rattle.cbor_io.specs.declared.read_error.ReadErrorCode.{ReadErrorCode}
-use Rattle.cbor_decode.specs.Gives.{limits, Reports, Tells}
+use Rattle.cbor_decode.specs.Gives.{limits, ReportsIo, Reports}
 use Rattle.cbor_decode_as.specs.Takes.{ExcusedBy, IsRead, TakesItem, raws}
 use Rattle.cbor_de.specs.ItemTaken.{BeginsAs, BeginsAsNone, TookItem}
 
-module _ {A : Type 0} (refusals : ReadErrorCode → Bool) (f : Formats) (reads : Raw → A → Type 0) (levels : ℕ) (s t : Input) (bytes : List ℕ) (tells : Tells s bytes) (fits : AreBytes bytes) where
+module _ {A : Type 0} (refusals : ReadErrorCode → Bool) (f : Formats) (reads : Raw → A → Type 0) (levels : ℕ) (s t : Input) (bytes : List ℕ) (reports : Reports s bytes) (fits : AreBytes bytes) where
   -- what the reference reader read, the source took
-  pub took : (x : A) (rest : List ℕ) → IsRead reads (item_at (raws f (limits s bytes)) levels bytes) x rest → Tells t rest
+  pub took : (x : A) (rest : List ℕ) → IsRead reads (item_at (raws f (limits s bytes)) levels bytes) x rest → Reports t rest
       → t.offset + length rest ≡ s.offset + length bytes → TookItem f levels reads s t bytes x
-  took x rest read told total =
+  took x rest read reported total =
       let l = limits s bytes in
       let b = item_found f l.total l.room levels bytes rest read.item fits read.is in
       let parts : length bytes ≡ length (spell read.item ++ rest) = ap length b.0.spelled in
       record {
         rest = rest;
         read = record { item = read.item; begins = b.0; keys = b.1; means = read.means };
-        tells = told;
+        reports = reported;
         count = omega (arith, total, parts, length-append (spell read.item) rest);
       }
 
@@ -38,17 +38,17 @@ module _ {A : Type 0} (refusals : ReadErrorCode → Bool) (f : Formats) (reads :
       let l = limits s bytes in
       record {
         item = b.item;
-        is = item_again f l.total l.room levels bytes rest b.item tells.short (omega arith) room b.begins b.keys;
+        is = item_again f l.total l.room levels bytes rest b.item reports.short (omega arith) room b.begins b.keys;
         means = b.means;
       }
 
   pub item_taken : (r : Result A Error) → TakesItem refusals f reads levels s t r
       → MatchResult r (TookItem f levels reads s t bytes)
-      (λ e. ExcusedBy (Reports refusals) (code_of e) (offset_of e) ⊎ BeginsAsNone f levels reads s bytes)
+      (λ e. ExcusedBy (ReportsIo refusals) (code_of e) (offset_of e) ⊎ BeginsAsNone f levels reads s bytes)
   item_taken (Ok x) step =
-      let got = step.told bytes tells in
-      took x got.rest got.holds got.tells got.total
-  item_taken (Err e) h = elim (h.told bytes tells) [
+      let got = step.reported bytes reports in
+      took x got.rest got.holds got.reports got.total
+  item_taken (Err e) h = elim (h.reported bytes reports) [
     | inl excused ↦ inl excused
     | inr none ↦ inr (λ x rest b room. none x rest (read_again x rest b room))
   ]

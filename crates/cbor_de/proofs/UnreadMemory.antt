@@ -13,7 +13,7 @@ use Rattle.cbor_decode_as.specs.Takes.{raws, IsNotRead, MemoryFor, Refuses}
 -- what is refused by any code isn't read
 pub unread_memory : {A : Type 0} {t : Input} (allowed : ReadErrorCode → Bool) (f : Formats) (reads : Raw → A → Type 0) (levels : ℕ) (s : Input) (asks : Raw → Type 0) (e : Error)
     → ((k : ErrorCode) (at : ℕ) → Refuses allowed s t k at (λ l bs. IsNotRead reads (item_at (raws f l) levels bs))) → MemoryFor asks f reads levels s e
-unread_memory allowed f reads levels s asks e refused is bs tells x rest got = elim ((refused InvalidUtf8 0).told bs tells) [
+unread_memory allowed f reads levels s asks e refused is bs reports x rest got = elim ((refused InvalidUtf8 0).reported bs reports) [
   | inl excused ↦ absurd excused
   | inr none ↦ absurd (none x rest got)
 ]

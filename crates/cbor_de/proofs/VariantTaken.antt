@@ -445,37 +445,37 @@ enum_again f names l levels left index form bs rest short within b room =
     }
 
 pub variant_taken : VariantTaken
-variant_taken refusals f names levels left s t bytes (Ok v) tells fits step =
-    let got = step.told bytes tells in
+variant_taken refusals f names levels left s t bytes (Ok v) reports fits step =
+    let got = step.reported bytes reports in
     record {
       rest = got.rest;
       begins = enum_found f names (limits s bytes) levels left v.0 v.1 bytes got.rest fits got.holds;
-      tells = got.tells;
+      reports = got.reports;
       count = got.total;
     }
-variant_taken refusals f names levels left s t bytes (Err e) tells fits h = elim (h.told bytes tells) [
+variant_taken refusals f names levels left s t bytes (Err e) reports fits h = elim (h.reported bytes reports) [
   | inl excused ↦ inl excused
-  | inr none ↦ inr (λ deep index form rest b room. none deep index form rest (enum_again f names (limits s bytes) levels deep index form bytes rest tells.short (omega arith) b room))
+  | inr none ↦ inr (λ deep index form rest b room. none deep index form rest (enum_again f names (limits s bytes) levels deep index form bytes rest reports.short (omega arith) b room))
 ]
 
 -- ---- the parts of a variant of several
 
 pub tuple_taken : TupleTaken
-tuple_taken refusals levels left (form.Array all) s t bytes (Ok remaining) tells fits step =
-    let got = step.told bytes tells in
-    record { rest = got.rest; begins = (got.holds.0, got.holds.1, sym got.holds.2); tells = got.tells; count = got.total }
-tuple_taken refusals levels left (form.Array all) s t bytes (Err e) tells fits h = elim (h.told bytes tells) [
+tuple_taken refusals levels left (form.Array all) s t bytes (Ok remaining) reports fits step =
+    let got = step.reported bytes reports in
+    record { rest = got.rest; begins = (got.holds.0, got.holds.1, sym got.holds.2); reports = got.reports; count = got.total }
+tuple_taken refusals levels left (form.Array all) s t bytes (Err e) reports fits h = elim (h.reported bytes reports) [
   | inl excused ↦ inl excused
   | inr none ↦ inr (λ deep remaining rest b. none deep remaining rest (b.0, b.1, sym b.2))
 ]
-tuple_taken refusals levels left form.Map s t bytes (Ok remaining) tells fits step =
-    let got = heads_taken kind.Array 4 arrays refusals levels left s t bytes (Ok remaining) tells fits step in
-    record { rest = got.rest; begins = got.begins; tells = got.tells; count = got.count }
-tuple_taken refusals levels left form.Map s t bytes (Err e) tells fits h =
-    heads_taken kind.Array 4 arrays refusals levels left s t bytes (Err e) tells fits h
-tuple_taken refusals levels left form.Alone s t bytes (Ok remaining) tells fits step =
-    absurd (step.told bytes tells).holds
-tuple_taken refusals levels left form.Alone s t bytes (Err e) tells fits h = elim (h.told bytes tells) [
+tuple_taken refusals levels left form.Map s t bytes (Ok remaining) reports fits step =
+    let got = heads_taken kind.Array 4 arrays refusals levels left s t bytes (Ok remaining) reports fits step in
+    record { rest = got.rest; begins = got.begins; reports = got.reports; count = got.count }
+tuple_taken refusals levels left form.Map s t bytes (Err e) reports fits h =
+    heads_taken kind.Array 4 arrays refusals levels left s t bytes (Err e) reports fits h
+tuple_taken refusals levels left form.Alone s t bytes (Ok remaining) reports fits step =
+    absurd (step.reported bytes reports).holds
+tuple_taken refusals levels left form.Alone s t bytes (Err e) reports fits h = elim (h.reported bytes reports) [
   | inl excused ↦ inl excused
   | inr none ↦ inr (λ deep remaining rest b. b)
 ]

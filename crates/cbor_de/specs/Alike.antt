@@ -10,7 +10,7 @@ use Rattle.cbor_io.specs.declared.error.ErrorCode.TheVariants.{ScratchTooSmall}
 use Rattle.cbor_io.specs.Error.{code_of, offset_of, IsOutOfMemory}
 use Rattle.cbor_value.specs.View.{view}
 use Rattle.cbor_value.specs.declared.Value.{Value}
-use Rattle.cbor_decode.specs.FirstRefusal.{TellsFirst}
+use Rattle.cbor_decode.specs.FirstRefusal.{ReportsFirst}
 use Rattle.cbor_decode.specs.Gives.{IsMemoryOrFault}
 use Rattle.cbor_read.specs.Source.{Lends}
 use Rattle.cbor_decode_as.specs.Takes.{lending}
@@ -19,7 +19,7 @@ use Rattle.cbor_decode_as.specs.Takes.{lending}
 -- that it allows, unless memory ran out or a reader reported a fault.
 abbrev pub IsReading : Option ℕ → List ℕ → Result Value Error → Type 0
 IsReading scratch bytes (Ok v) = SpellsValue bytes (view v)
-IsReading scratch bytes (Err e) = IsMemoryOrFault e ⊎ TellsFirst (limits_of scratch) bytes e
+IsReading scratch bytes (Err e) = IsMemoryOrFault e ⊎ ReportsFirst (limits_of scratch) bytes e
 
 -- memory ran out, a reader reported a fault, or a scratch is too small
 abbrev pub IsOfSource : Error → Type 0

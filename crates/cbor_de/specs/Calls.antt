@@ -39,7 +39,7 @@ abbrev pub TakesNoMemory : {R A : Type 0} → (R → Input) → (Raw → A → T
     → Error → Type 0
 TakesNoMemory seen reads old e = decoder.TakesNoMemory seen reads old.decoder e
 
--- A refusal tells the fault of the item at the front, and is a message exactly where an item stands there.
+-- A refusal reports the fault of the item at the front, and is a message exactly where an item stands there.
 abbrev pub RefusesWhole : {R : Type 0} → (R → Input) → (ReadErrorCode → Bool) → Deserializer R
     → Error → Type 0
 RefusesWhole seen refusals old e = decoder.RefusesWhole seen refusals old.decoder e
@@ -49,17 +49,17 @@ abbrev pub ReadsWhole : {R A : Type 0} → (R → Input) → (ReadErrorCode → 
     → Result A Error → Type 0
 ReadsWhole seen refusals old result = decoder.ReadsWhole seen refusals old.decoder result
 
--- Where a type reads every item, a refusal tells the fault of the item at the front; and where it
+-- Where a type reads every item, a refusal reports the fault of the item at the front; and where it
 -- passes over what it doesn't read, that fault too, and of an item it is a message.
-abbrev pub TellsItem : {R : Type 0} → (R → Input) → (ReadErrorCode → Bool) → Bool → Bool
+abbrev pub ReportsItem : {R : Type 0} → (R → Input) → (ReadErrorCode → Bool) → Bool → Bool
     → Deserializer R → Error → Type 0
-TellsItem seen refusals passes_over total old e =
-    input.TellsItem passes_over total refusals (formats_of old.decoder.formats) old.decoder.levels (seen old.decoder.source) e
+ReportsItem seen refusals passes_over total old e =
+    input.ReportsItem passes_over total refusals (formats_of old.decoder.formats) old.decoder.levels (seen old.decoder.source) e
 
--- The error tells no wrong form; or one that may be told.
-abbrev pub MayTell : {R : Type 0} → (R → Input) → WrongForms → Deserializer R → Error → Type 0
-MayTell seen forms old e =
-    form.MayTell forms (formats_of old.decoder.formats) (seen old.decoder.source) e
+-- The error reports no wrong form; or one that may be reported.
+abbrev pub MayReport : {R : Type 0} → (R → Input) → WrongForms → Deserializer R → Error → Type 0
+MayReport seen forms old e =
+    form.MayReport forms (formats_of old.decoder.formats) (seen old.decoder.source) e
 
 -- ---- what stays
 

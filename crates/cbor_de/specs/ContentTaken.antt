@@ -9,7 +9,7 @@ use Rattle.cbor_io.specs.declared.error.Error.{Error}
 use Rattle.cbor_io.specs.declared.read_error.ReadErrorCode.{ReadErrorCode}
 use Rattle.cbor_io.specs.Error.{code_of, offset_of}
 use Rattle.cbor_read.specs.Source.{Input, Lends}
-use Rattle.cbor_decode.specs.Gives.{Reports, Tells}
+use Rattle.cbor_decode.specs.Gives.{ReportsIo, Reports}
 use Rattle.cbor_decode.specs.declared.cursor.Remaining.{Remaining}
 use Rattle.cbor_decode.specs.declared.cursor.Remaining.TheVariants.{Counted}
 use Rattle.cbor_decode_as.specs.Accesses.{TakesPart}
@@ -43,7 +43,7 @@ pub record TookOnly {A : Type 0} (f : Formats) (levels : ℕ) (reads : Raw → A
     (s t : Input) (bytes : List ℕ) (x : A) : Type 0 where
   pub rest : List ℕ
   pub begins : BeginsOnly f levels reads form bytes x rest
-  pub tells : Tells t rest
+  pub reports : Reports t rest
   pub count : t.offset + length rest ≡ s.offset + length bytes
 
 -- No such content is there whose chunks fit the buffer.
@@ -56,10 +56,10 @@ LacksOnly {A} f levels reads form s bytes = (x : A) (rest : List ℕ)
 abbrev pub NewtypeTaken : {A : Type 0} → (Context → Raw → A → Type 0) → Type 0
 NewtypeTaken {A} reads = (refusals : ReadErrorCode → Bool) (f : Formats) (l : Lends) (levels : ℕ)
     (form : Form) (s t : Input) (bytes : List ℕ) (r : Result A Error)
-    → Tells s bytes → AreBytes bytes
+    → Reports s bytes → AreBytes bytes
     → TakesContent refusals f (IsPart (reads (lending f l))) levels form s t r
     → MatchResult r (TookOnly f levels (reads (lending f l)) form s t bytes)
-    (λ e. ExcusedBy (Reports refusals) (code_of e) (offset_of e)
+    (λ e. ExcusedBy (ReportsIo refusals) (code_of e) (offset_of e)
     ⊎ LacksOnly f levels (reads (lending f l)) form s bytes)
 
 -- ---- no part
@@ -78,7 +78,7 @@ pub record TookNothing (f : Formats) (levels : ℕ) (form : Form) (s t : Input) 
     : Type 0 where
   pub rest : List ℕ
   pub begins : BeginsNothing f levels form bytes rest
-  pub tells : Tells t rest
+  pub reports : Reports t rest
   pub count : t.offset + length rest ≡ s.offset + length bytes
 
 abbrev pub LacksNothing : Formats → ℕ → Form → List ℕ → Type 0
@@ -88,9 +88,9 @@ LacksNothing f levels form bytes = (rest : List ℕ) → BeginsNothing f levels 
 abbrev pub UnitTaken : Type 0
 UnitTaken = (refusals : ReadErrorCode → Bool) (f : Formats) (levels : ℕ) (form : Form) (s t : Input)
     (bytes : List ℕ) (r : Result (Unit {0}) Error)
-    → Tells s bytes → AreBytes bytes → TakesContent refusals f IsNothing levels form s t r
+    → Reports s bytes → AreBytes bytes → TakesContent refusals f IsNothing levels form s t r
     → MatchResult r (λ u. TookNothing f levels form s t bytes)
-    (λ e. ExcusedBy (Reports refusals) (code_of e) (offset_of e) ⊎ LacksNothing f levels form bytes)
+    (λ e. ExcusedBy (ReportsIo refusals) (code_of e) (offset_of e) ⊎ LacksNothing f levels form bytes)
 
 -- ---- a part of several
 
@@ -99,11 +99,11 @@ UnitTaken = (refusals : ReadErrorCode → Bool) (f : Formats) (levels : ℕ) (fo
 abbrev pub PartTaken : {A : Type 0} → (Context → Raw → A → Type 0) → Type 0
 PartTaken {A} reads = (refusals : ReadErrorCode → Bool) (f : Formats) (l : Lends) (levels : ℕ)
     (remaining behind : Remaining) (s t : Input) (bytes : List ℕ) (r : Result A Error)
-    → Tells s bytes → AreBytes bytes
+    → Reports s bytes → AreBytes bytes
     → TakesPart refusals f (reads (lending f l)) levels remaining behind s t r
     → MatchResult r
     (λ x. Comes remaining behind bytes × TookItem f levels (reads (lending f l)) s t bytes x)
-    (λ e. ExcusedBy (Reports refusals) (code_of e) (offset_of e)
+    (λ e. ExcusedBy (ReportsIo refusals) (code_of e) (offset_of e)
     ⊎ ((left : Remaining) → Comes remaining left bytes
     → BeginsAsNone f levels (reads (lending f l)) s bytes))
 

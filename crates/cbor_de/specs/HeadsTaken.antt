@@ -7,7 +7,7 @@ use Rattle.cbor_io.specs.declared.error.Error.{Error}
 use Rattle.cbor_io.specs.declared.read_error.ReadErrorCode.{ReadErrorCode}
 use Rattle.cbor_io.specs.Error.{code_of, offset_of}
 use Rattle.cbor_read.specs.Source.{Input}
-use Rattle.cbor_decode.specs.Gives.{Reports, Tells}
+use Rattle.cbor_decode.specs.Gives.{ReportsIo, Reports}
 use Rattle.cbor_decode.specs.declared.cursor.Remaining.{Remaining}
 use Rattle.cbor_decode.specs.declared.cursor.Remaining.TheVariants.{Counted, ToBreak}
 use Rattle.cbor_decode.specs.declared.head.Head.{Head}
@@ -49,7 +49,7 @@ pub record TookHeads (major levels left : ℕ) (s t : Input) (bytes : List ℕ) 
     : Type 0 where
   pub rest : List ℕ
   pub begins : BeginsBy major levels left remaining bytes rest
-  pub tells : Tells t rest
+  pub reports : Reports t rest
   pub count : t.offset + length rest ≡ s.offset + length bytes
 
 -- no such heads are there
@@ -61,6 +61,6 @@ NoHeads major levels bytes = (left : ℕ) (remaining : Remaining) (rest : List �
 abbrev pub HeadsTaken : (Remaining → Head) → ℕ → Type 0
 HeadsTaken kind major = (refusals : ReadErrorCode → Bool) (levels left : ℕ) (s t : Input)
     (bytes : List ℕ) (r : Result Remaining Error)
-    → Tells s bytes → AreBytes bytes → TakesBeginning kind refusals levels s t left r
+    → Reports s bytes → AreBytes bytes → TakesBeginning kind refusals levels s t left r
     → MatchResult r (TookHeads major levels left s t bytes)
-    (λ e. ExcusedBy (Reports refusals) (code_of e) (offset_of e) ⊎ NoHeads major levels bytes)
+    (λ e. ExcusedBy (ReportsIo refusals) (code_of e) (offset_of e) ⊎ NoHeads major levels bytes)

@@ -10,7 +10,7 @@ use Rattle.cbor_io.specs.declared.error.Error.{Error}
 use Rattle.cbor_io.specs.declared.read_error.ReadErrorCode.{ReadErrorCode}
 use Rattle.cbor_io.specs.Error.{code_of, offset_of}
 use Rattle.cbor_read.specs.Source.{Input, Lends}
-use Rattle.cbor_decode.specs.Gives.{Reports, Tells}
+use Rattle.cbor_decode.specs.Gives.{ReportsIo, Reports}
 use Rattle.cbor_decode_as.specs.Takes.{ExcusedBy, TakesItem, lending}
 
 -- The bytes are the spelling of an item that is read as x, and these others: the item is acceptable
@@ -27,7 +27,7 @@ pub record TookItem {A : Type 0} (f : Formats) (levels : ℕ) (reads : Raw → A
     (bytes : List ℕ) (x : A) : Type 0 where
   pub rest : List ℕ
   pub read : BeginsAs f levels reads bytes x rest
-  pub tells : Tells t rest
+  pub reports : Reports t rest
   pub count : t.offset ≡ s.offset + length (spell read.item)
 
 -- No such item is there whose chunks fit the buffer.
@@ -39,7 +39,7 @@ BeginsAsNone {A} f levels reads s bytes = (x : A) (rest : List ℕ)
 abbrev pub ItemTaken : {A : Type 0} → (Context → Raw → A → Type 0) → Type 0
 ItemTaken {A} reads = (refusals : ReadErrorCode → Bool) (f : Formats) (l : Lends) (levels : ℕ)
     (s t : Input) (bytes : List ℕ) (r : Result A Error)
-    → Tells s bytes → AreBytes bytes → TakesItem refusals f (reads (lending f l)) levels s t r
+    → Reports s bytes → AreBytes bytes → TakesItem refusals f (reads (lending f l)) levels s t r
     → MatchResult r (TookItem f levels (reads (lending f l)) s t bytes)
-    (λ e. ExcusedBy (Reports refusals) (code_of e) (offset_of e)
+    (λ e. ExcusedBy (ReportsIo refusals) (code_of e) (offset_of e)
     ⊎ BeginsAsNone f levels (reads (lending f l)) s bytes)

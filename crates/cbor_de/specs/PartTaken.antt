@@ -8,7 +8,7 @@ use Rattle.cbor_io.specs.declared.error.Error.{Error}
 use Rattle.cbor_io.specs.declared.read_error.ReadErrorCode.{ReadErrorCode}
 use Rattle.cbor_io.specs.Error.{code_of, offset_of}
 use Rattle.cbor_read.specs.Source.{Input, Lends}
-use Rattle.cbor_decode.specs.Gives.{Reports, Tells}
+use Rattle.cbor_decode.specs.Gives.{ReportsIo, Reports}
 use Rattle.cbor_decode.specs.declared.cursor.Remaining.{Remaining}
 use Rattle.cbor_decode.specs.declared.cursor.Remaining.TheVariants.{Counted, ToBreak}
 use Rattle.cbor_decode_as.specs.Accesses.{TakesEnd, TakesNext}
@@ -28,7 +28,7 @@ Ends ToBreak bytes rest = bytes ≡ 0xff ∷ rest
 pub record TookEnd (remaining : Remaining) (s t : Input) (bytes : List ℕ) : Type 0 where
   pub rest : List ℕ
   pub ends : Ends remaining bytes rest
-  pub tells : Tells t rest
+  pub reports : Reports t rest
   pub count : t.offset + length rest ≡ s.offset + length bytes
 
 abbrev pub NoEnd : Remaining → List ℕ → Type 0
@@ -38,18 +38,18 @@ NoEnd remaining bytes = (rest : List ℕ) → Ends remaining bytes rest → ⊥
 abbrev pub IsEndTaken : (ReadErrorCode → Bool) → Remaining → Input → Input → List ℕ
     → Result (Unit {0}) Error → Type 0
 IsEndTaken refusals remaining s t bytes r = MatchResult r (λ u. TookEnd remaining s t bytes)
-    (λ e. ExcusedBy (Reports refusals) (code_of e) (offset_of e) ⊎ NoEnd remaining bytes)
+    (λ e. ExcusedBy (ReportsIo refusals) (code_of e) (offset_of e) ⊎ NoEnd remaining bytes)
 
 abbrev pub ArrayEndTaken : Type 0
 ArrayEndTaken = (refusals : ReadErrorCode → Bool) (remaining : Remaining) (s t : Input)
     (bytes : List ℕ) (r : Result (Unit {0}) Error)
-    → Tells s bytes → TakesEnd refusals remaining s t r
+    → Reports s bytes → TakesEnd refusals remaining s t r
     → IsEndTaken refusals remaining s t bytes r
 
 abbrev pub MapEndTaken : Type 0
 MapEndTaken = (refusals : ReadErrorCode → Bool) (remaining : Remaining) (s t : Input)
     (bytes : List ℕ) (r : Result (Unit {0}) Error)
-    → Tells s bytes → TakesMapEnd refusals remaining s t r
+    → Reports s bytes → TakesMapEnd refusals remaining s t r
     → IsEndTaken refusals remaining s t bytes r
 
 -- ---- the next item of an array
@@ -79,10 +79,10 @@ pub record LacksNext {A : Type 0} (f : Formats) (levels : ℕ) (reads : Raw → 
 abbrev pub ElementTaken : {A : Type 0} → (Context → Raw → A → Type 0) → Type 0
 ElementTaken {A} reads = (refusals : ReadErrorCode → Bool) (f : Formats) (l : Lends) (levels : ℕ)
     (remaining behind : Remaining) (s t : Input) (bytes : List ℕ) (r : Result (Option A) Error)
-    → Tells s bytes → AreBytes bytes
+    → Reports s bytes → AreBytes bytes
     → TakesNext refusals f (reads (lending f l)) levels remaining behind s t r
     → MatchResult r (TookNext f levels (reads (lending f l)) remaining behind s t bytes)
-    (λ e. ExcusedBy (Reports refusals) (code_of e) (offset_of e)
+    (λ e. ExcusedBy (ReportsIo refusals) (code_of e) (offset_of e)
     ⊎ LacksNext f levels (reads (lending f l)) remaining s bytes)
 
 -- ---- the next key of a map
@@ -110,8 +110,8 @@ pub record LacksKey {K : Type 0} (f : Formats) (levels : ℕ) (reads : Raw → K
 abbrev pub KeyTaken : {K : Type 0} → (Context → Raw → K → Type 0) → Type 0
 KeyTaken {K} reads = (refusals : ReadErrorCode → Bool) (f : Formats) (l : Lends) (levels : ℕ)
     (remaining behind : Remaining) (s t : Input) (bytes : List ℕ) (r : Result (Option K) Error)
-    → Tells s bytes → AreBytes bytes
+    → Reports s bytes → AreBytes bytes
     → TakesKey refusals f (reads (lending f l)) levels remaining behind s t r
     → MatchResult r (TookKey f levels (reads (lending f l)) remaining behind s t bytes)
-    (λ e. ExcusedBy (Reports refusals) (code_of e) (offset_of e)
+    (λ e. ExcusedBy (ReportsIo refusals) (code_of e) (offset_of e)
     ⊎ LacksKey f levels (reads (lending f l)) remaining s bytes)

@@ -9,8 +9,8 @@ use Rattle.cbor_model.specs.Allowed.{Limits}
 use Rattle.cbor_io.specs.declared.error.Error.{Error}
 use Rattle.cbor_io.specs.declared.read_error.ReadErrorCode.{ReadErrorCode}
 use Rattle.cbor_io.specs.Error.{code_of, offset_of, IsOutOfMemory}
-use Rattle.cbor_decode.specs.FirstRefusal.{TellsFirst}
-use Rattle.cbor_decode.specs.Gives.{Tells, Reports, IsMemoryOrFault}
+use Rattle.cbor_decode.specs.FirstRefusal.{ReportsFirst}
+use Rattle.cbor_decode.specs.Gives.{Reports, ReportsIo, IsMemoryOrFault}
 use Rattle.cbor_decode_as.specs.Takes.{ExcusedBy, WhereTotal}
 use Rattle.cbor_de.specs.Items.{AreMostItems}
 use Rattle.cbor_de.specs.Streams.{Stream, StreamGives}
@@ -38,14 +38,14 @@ module _ {A : Type 0} (reads : Raw → A → Type 0) (total : Bool) (Device : Ty
   limits_at bytes =
       record { start = end - length bytes; levels = levels; scratch = room }
 
-  -- What is told where no item stands at the front of bytes: by a type that reads every item the
+  -- What is reported where no item stands at the front of bytes: by a type that reads every item the
   -- first refusal that they allow of one.
   abbrev pub Faulty : List ℕ → Error → Type 0
   Faulty bytes e = WhereTotal total
-      (IsOutOfMemory e ⊎ (Device × IsMemoryOrFault e) ⊎ TellsFirst (limits_at bytes) bytes e)
+      (IsOutOfMemory e ⊎ (Device × IsMemoryOrFault e) ⊎ ReportsFirst (limits_at bytes) bytes e)
 
   -- The answers to these items and to the rest after them: what each item is read as, and then
-  -- none; or, where something is left, one error. Before that, one may tell that an item isn't
+  -- none; or, where something is left, one error. Before that, one may report that an item isn't
   -- read.
   abbrev pub AnswersTo : List Raw → List ℕ → List (Result A Error) → Type 0
   AnswersTo (r ∷ rs) rest (Ok x ∷ answers) = reads r x × AnswersTo rs rest answers
@@ -55,14 +55,14 @@ module _ {A : Type 0} (reads : Raw → A → Type 0) (total : Bool) (Device : Ty
   AnswersTo [] (b ∷ rest) (Err e ∷ []) = Faulty (b ∷ rest) e
   AnswersTo _ _ _ = ⊥
 
--- A stream, under all formats, over bytes that its source tells: it answers to the longest list of
+-- A stream, under all formats, over bytes that its source reports: it answers to the longest list of
 -- items at their front, acceptable within its levels, and to what follows those.
 abbrev pub StreamAnswers : {A : Type 0} → (Formats → Raw → A → Type 0) → Bool → Type 0
 StreamAnswers {A} reads total = (refusals : ReadErrorCode → Bool) (s : Stream) (bytes rest : List ℕ)
     (items : List Raw) (answers : List (Result A Error))
     → s.done ≡ false → s.formats ≡ all_formats
-    → Tells s.input bytes → AreBytes bytes
+    → Reports s.input bytes → AreBytes bytes
     → AreMostItems s.levels bytes items rest → AllByRecursion (FitsScratch s.input.room) items
     → Drains (StreamGives refusals reads total) s answers
-    → AnswersTo (reads all_formats) total (Reports refusals) s.levels
+    → AnswersTo (reads all_formats) total (ReportsIo refusals) s.levels
     (s.input.offset + length bytes) s.input.room items rest answers

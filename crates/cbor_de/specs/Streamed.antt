@@ -3,7 +3,7 @@ use Rattle.std.specs.Prelude.{◌≡◌, ◌≤◌, ◌+◌, ℕ, false, List, [
 use Rattle.cbor_model.specs.Acceptable.{max_depth}
 use Rattle.cbor_model.specs.Formats.{all_formats}
 use Rattle.cbor_model.specs.Raw.{Raw, AreBytes}
-use Rattle.cbor_decode.specs.Gives.{Tells}
+use Rattle.cbor_decode.specs.Gives.{Reports}
 use Rattle.cbor_de.specs.ItemTaken.{BeginsAs}
 use Rattle.cbor_de.specs.Streams.{Stream}
 
@@ -26,7 +26,7 @@ module _ {A : Type 0} (reads : Raw → A → Type 0) where
   pub record HasStreamed (bytes : List ℕ) (values : List A) (s : Stream) : Type 0 where
     pub rest : List ℕ
     pub begin : ValuesBegin bytes values rest
-    pub tells : Tells s.input rest
+    pub reports : Reports s.input rest
     pub are_bytes : AreBytes rest
     pub place : s.input.offset + length rest ≡ length bytes
     pub room : s.input.room ≡ None

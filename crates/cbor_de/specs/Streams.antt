@@ -9,7 +9,7 @@ use Rattle.cbor_io.specs.declared.read_error.ReadErrorCode.{ReadErrorCode}
 use Rattle.cbor_io.specs.Error.{code_of, offset_of}
 use Rattle.cbor_read.specs.Source.{Input, Stays}
 use Rattle.cbor_decode.specs.Gives.{Advances}
-use Rattle.cbor_decode_as.specs.Takes.{formats_of, raws, IsNotRead, Refuses, TakesItem, TellsItem}
+use Rattle.cbor_decode_as.specs.Takes.{formats_of, raws, IsNotRead, Refuses, TakesItem, ReportsItem}
 use Rattle.cbor_de.specs.declared.stream.StreamDeserializer.{StreamDeserializer}
 
 -- Where a stream stands: its source, the levels that are left, the formats that are read, and whether
@@ -55,7 +55,7 @@ pub record GivesError {A : Type 0} (refusals : ReadErrorCode → Bool) (reads : 
   pub going : s.done ≡ false
   pub refused : Refuses refusals s.input t.input (code_of e) (offset_of e) (λ l bs.
       (bs ≢ []) × IsNotRead (reads s.formats) (item_at (raws s.formats l) s.levels bs))
-  pub fault : TellsItem false total refusals s.formats s.levels s.input e
+  pub fault : ReportsItem false total refusals s.formats s.levels s.input e
   pub done : t.done ≡ true
   pub levels : t.levels ≡ s.levels
   pub formats : t.formats ≡ s.formats
@@ -67,7 +67,7 @@ StreamGives refusals reads total s None t = GivesNone s t
 StreamGives refusals reads total s (Some (Ok x)) t = GivesItem refusals reads x s t
 StreamGives refusals reads total s (Some (Err e)) t = GivesError refusals reads total e s t
 
--- No more items come than there are bytes to come, and one error; nor, where the source doesn't tell
+-- No more items come than there are bytes to come, and one error; nor, where the source doesn't report
 -- its bytes, than there are offsets left.
 abbrev pub most_of : Option (List ℕ) → ℕ → ℕ
 most_of None offset = 2 ^ 64 - offset

@@ -7,7 +7,7 @@ use Rattle.cbor_io.specs.declared.error.Error.{Error}
 use Rattle.cbor_io.specs.declared.read_error.ReadErrorCode.{ReadErrorCode}
 use Rattle.cbor_io.specs.Error.{code_of, offset_of}
 use Rattle.cbor_read.specs.Source.{Input}
-use Rattle.cbor_decode.specs.Gives.{Reports, Tells}
+use Rattle.cbor_decode.specs.Gives.{ReportsIo, Reports}
 use Rattle.cbor_decode_as.specs.Tags.{ReadsTag}
 use Rattle.cbor_decode_as.specs.Takes.{ExcusedBy}
 
@@ -27,13 +27,13 @@ pub record TookTag (levels n : ℕ) (s t : Input) (bytes : List ℕ) : Type 0 wh
   pub rest : List ℕ
   pub tagged : BeginsByTag n bytes rest
   pub level : 0 < levels
-  pub tells : Tells t rest
+  pub reports : Reports t rest
   pub count : t.offset + length rest ≡ s.offset + length bytes
 
 -- No tag begins, and the source has all bytes still to come.
 pub record TookNoTag (s t : Input) (bytes : List ℕ) : Type 0 where
   pub none : BeginsTag bytes → ⊥
-  pub tells : Tells t bytes
+  pub reports : Reports t bytes
   pub count : t.offset ≡ s.offset
 
 abbrev pub TookTagOrNone : ℕ → Input → Input → List ℕ → Option ℕ → Type 0
@@ -50,6 +50,6 @@ pub record LacksTag (levels : ℕ) (bytes : List ℕ) : Type 0 where
 abbrev pub TagTaken : Type 0
 TagTaken = (refusals : ReadErrorCode → Bool) (levels : ℕ) (s t : Input) (bytes : List ℕ)
     (r : Result (Option ℕ) Error)
-    → Tells s bytes → AreBytes bytes → ReadsTag refusals levels s t r
+    → Reports s bytes → AreBytes bytes → ReadsTag refusals levels s t r
     → MatchResult r (TookTagOrNone levels s t bytes)
-    (λ e. ExcusedBy (Reports refusals) (code_of e) (offset_of e) ⊎ LacksTag levels bytes)
+    (λ e. ExcusedBy (ReportsIo refusals) (code_of e) (offset_of e) ⊎ LacksTag levels bytes)

@@ -10,7 +10,7 @@ use Rattle.cbor_io.specs.declared.error.Error.{Error}
 use Rattle.cbor_io.specs.declared.read_error.ReadErrorCode.{ReadErrorCode}
 use Rattle.cbor_io.specs.Error.{code_of, offset_of}
 use Rattle.cbor_read.specs.Source.{Input}
-use Rattle.cbor_decode.specs.Gives.{Reports, Tells}
+use Rattle.cbor_decode.specs.Gives.{ReportsIo, Reports}
 use Rattle.cbor_decode.specs.declared.cursor.Remaining.{Remaining}
 use Rattle.cbor_decode.specs.declared.cursor.Remaining.TheVariants.{Counted}
 use Rattle.cbor_decode_as.specs.BeginsEnum.{TakesPartsHead, TakesVariantHead}
@@ -75,7 +75,7 @@ pub record TookEnum (f : Formats) (names : List (List ℕ)) (levels left index :
     (s t : Input) (bytes : List ℕ) : Type 0 where
   pub rest : List ℕ
   pub begins : BeginsEnum f names levels left index form bytes rest
-  pub tells : Tells t rest
+  pub reports : Reports t rest
   pub count : t.offset + length rest ≡ s.offset + length bytes
 
 -- No enum begins so, the chunks of whose identifier fit the buffer.
@@ -89,9 +89,9 @@ NoEnum f names levels s bytes = (left index : ℕ) (form : Form) (rest : List �
 abbrev pub VariantTaken : Type 0
 VariantTaken = (refusals : ReadErrorCode → Bool) (f : Formats) (names : List (List ℕ))
     (levels left : ℕ) (s t : Input) (bytes : List ℕ) (r : Result (ℕ × Form) Error)
-    → Tells s bytes → AreBytes bytes → TakesVariantHead refusals f names levels s t left r
+    → Reports s bytes → AreBytes bytes → TakesVariantHead refusals f names levels s t left r
     → MatchResult r (λ v. TookEnum f names levels left v.0 v.1 s t bytes)
-    (λ e. ExcusedBy (Reports refusals) (code_of e) (offset_of e) ⊎ NoEnum f names levels s bytes)
+    (λ e. ExcusedBy (ReportsIo refusals) (code_of e) (offset_of e) ⊎ NoEnum f names levels s bytes)
 
 -- ---- the parts of a variant of several
 
@@ -108,7 +108,7 @@ pub record TookTuple (levels left : ℕ) (form : Form) (s t : Input) (bytes : Li
     (remaining : Remaining) : Type 0 where
   pub rest : List ℕ
   pub begins : BeginsTuple levels left form remaining bytes rest
-  pub tells : Tells t rest
+  pub reports : Reports t rest
   pub count : t.offset + length rest ≡ s.offset + length bytes
 
 abbrev pub NoTuple : ℕ → Form → List ℕ → Type 0
@@ -120,9 +120,9 @@ NoTuple levels form bytes = (left : ℕ) (remaining : Remaining) (rest : List �
 abbrev pub TupleTaken : Type 0
 TupleTaken = (refusals : ReadErrorCode → Bool) (levels left : ℕ) (form : Form) (s t : Input)
     (bytes : List ℕ) (r : Result Remaining Error)
-    → Tells s bytes → AreBytes bytes → TakesPartsHead refusals levels form s t left r
+    → Reports s bytes → AreBytes bytes → TakesPartsHead refusals levels form s t left r
     → MatchResult r (TookTuple levels left form s t bytes)
-    (λ e. ExcusedBy (Reports refusals) (code_of e) (offset_of e) ⊎ NoTuple levels form bytes)
+    (λ e. ExcusedBy (ReportsIo refusals) (code_of e) (offset_of e) ⊎ NoTuple levels form bytes)
 
 -- ---- examples
 

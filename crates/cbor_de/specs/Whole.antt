@@ -16,10 +16,10 @@ use Rattle.cbor_io.specs.declared.error.ErrorCode.{ErrorCode}
 use Rattle.cbor_io.specs.declared.read_error.ReadErrorCode.{ReadErrorCode}
 use Rattle.cbor_io.specs.Error.{code_of, offset_of}
 use Rattle.cbor_read.specs.Source.{Input, Asks}
-use Rattle.cbor_decode.specs.FirstRefusal.{TellsFirst}
-use Rattle.cbor_decode.specs.Gives.{FailsBy, limits, Tells, Reports, whole_at}
-use Rattle.cbor_decode_as.specs.Takes.{raws, IsRead, IsNotRead, ExcusedBy, TellsFault}
-use Rattle.cbor_decode_as.specs.Takes.{FaultOrMessage, IsMessage, TellsOf, any_item}
+use Rattle.cbor_decode.specs.FirstRefusal.{ReportsFirst}
+use Rattle.cbor_decode.specs.Gives.{FailsBy, limits, Reports, ReportsIo, whole_at}
+use Rattle.cbor_decode_as.specs.Takes.{raws, IsRead, IsNotRead, ExcusedBy, ReportsFault}
+use Rattle.cbor_decode_as.specs.Takes.{FaultOrMessage, IsMessage, ReportsOf, any_item}
 
 -- The one item that a source has to give is read as x, where so many levels are left.
 abbrev pub IsWholeRead : {A : Type 0} → Formats → (Raw → A → Type 0) → ℕ → Input → List ℕ → A
@@ -30,8 +30,8 @@ IsWholeRead f reads levels s bs x = IsRead reads (item_at (raws f (limits s bs))
 abbrev pub ReadsAll : {A : Type 0} → (ReadErrorCode → Bool) → Formats → (Raw → A → Type 0) → ℕ
     → Input → Result A Error → Type 0
 ReadsAll refusals f reads levels s (Ok x) =
-    (bs : List ℕ) → Tells s bs → IsWholeRead f reads levels s bs x
-ReadsAll {A} refusals f reads levels s (Err e) = (bs : List ℕ) → Tells s bs → ExcusedBy (Reports refusals) (code_of e) (offset_of e) ⊎ ((x : A) → IsWholeRead f reads levels s bs x → ⊥)
+    (bs : List ℕ) → Reports s bs → IsWholeRead f reads levels s bs x
+ReadsAll {A} refusals f reads levels s (Err e) = (bs : List ℕ) → Reports s bs → ExcusedBy (ReportsIo refusals) (code_of e) (offset_of e) ⊎ ((x : A) → IsWholeRead f reads levels s bs x → ⊥)
 
 -- Some item that the reference reader reads is read as something, whatever follows it.
 pub record IsSomeRead {A : Type 0} (reads : Raw → A → Type 0) (read : Reads Raw) : Type 0 where
@@ -39,33 +39,33 @@ pub record IsSomeRead {A : Type 0} (reads : Raw → A → Type 0) (read : Reads 
   pub rest : List ℕ
   pub is : IsRead reads read value rest
 
--- Nothing that is read stands at the front, and a refusal tells the fault of what does, or is a message
+-- Nothing that is read stands at the front, and a refusal reports the fault of what does, or is a message
 -- where an item does.
 abbrev pub RefusesFront : {A : Type 0} → Type 0 → ErrorCode → ℕ → ℕ → (Raw → A → Type 0) → Reads Raw
     → Reads Val → Type 0
 RefusesFront Device code end at reads spelt front =
     FaultOrMessage Device code end at front × (ExcusedBy Device code at ⊎ IsNotRead reads spelt)
 
--- An item that is read stands at the front, and a refusal tells that more follows it.
+-- An item that is read stands at the front, and a refusal reports that more follows it.
 abbrev pub RefusesRest : {A B : Type 0} → Type 0 → ErrorCode → ℕ → ℕ → (Raw → A → Type 0) → Reads Raw
     → Result B Fault → Type 0
 RefusesRest Device code end at reads spelt whole =
     FailsBy Device code end at whole × IsSomeRead reads spelt
 
--- A refusal of all that a source has to give tells the fault of what stands at its front, or is a message
--- where an item does that isn't read; or it tells that more follows an item that is read.
+-- A refusal of all that a source has to give reports the fault of what stands at its front, or is a message
+-- where an item does that isn't read; or it reports that more follows an item that is read.
 abbrev pub RefusesAll : {A : Type 0} → (ReadErrorCode → Bool) → Formats → (Raw → A → Type 0) → ℕ
     → Input → Error → Type 0
-RefusesAll refusals f reads levels s e = (bs : List ℕ) → Tells s bs →
-    RefusesFront (Reports refusals) (code_of e) (s.offset + length bs) (offset_of e) reads (item_at (raws f (limits s bs)) levels bs) (any_item levels (limits s bs) bs)
-    ⊎ RefusesRest (Reports refusals) (code_of e) (s.offset + length bs) (offset_of e) reads (item_at (raws f (limits s bs)) levels bs) (whole_at f levels (limits s bs) bs)
+RefusesAll refusals f reads levels s e = (bs : List ℕ) → Reports s bs →
+    RefusesFront (ReportsIo refusals) (code_of e) (s.offset + length bs) (offset_of e) reads (item_at (raws f (limits s bs)) levels bs) (any_item levels (limits s bs) bs)
+    ⊎ RefusesRest (ReportsIo refusals) (code_of e) (s.offset + length bs) (offset_of e) reads (item_at (raws f (limits s bs)) levels bs) (whole_at f levels (limits s bs) bs)
 
--- Where a type reads every item, a refusal tells the fault of the one item that a source has to give,
+-- Where a type reads every item, a refusal reports the fault of the one item that a source has to give,
 -- or that more follows it; and where it passes over what it doesn't read, it is one of these.
-abbrev pub TellsWhole : {A : Type 0} → Bool → Bool → (ReadErrorCode → Bool) → Formats
+abbrev pub ReportsWhole : {A : Type 0} → Bool → Bool → (ReadErrorCode → Bool) → Formats
     → (Raw → A → Type 0) → ℕ → Input → Error → Type 0
-TellsWhole passes_over total refusals f reads levels s e =
-    TellsOf passes_over total (TellsFault refusals (whole_at f levels) s e) (RefusesAll refusals f reads levels s e)
+ReportsWhole passes_over total refusals f reads levels s e =
+    ReportsOf passes_over total (ReportsFault refusals (whole_at f levels) s e) (RefusesAll refusals f reads levels s e)
 
 -- The bytes begin with an acceptable item, whose chunks fit the scratch, that isn't read as anything.
 pub record BeginsUnread {A : Type 0} (reads : Raw → A → Type 0) (scratch : Option ℕ) (bytes : List ℕ) : Type 0 where
@@ -80,7 +80,7 @@ pub record BeginsUnread {A : Type 0} (reads : Raw → A → Type 0) (scratch : O
 abbrev pub RefusesUnread : {A : Type 0} → (Raw → A → Type 0) → Option ℕ → List ℕ → Error → Type 0
 RefusesUnread reads scratch bytes e =
     (IsMessage e × BeginsUnread reads scratch bytes)
-    ⊎ (TellsFirst (limits_of scratch) bytes e × (BeginsUnread reads scratch bytes → ⊥))
+    ⊎ (ReportsFirst (limits_of scratch) bytes e × (BeginsUnread reads scratch bytes → ⊥))
 
 -- What a slice lends: definite strings, for its whole life.
 abbrev pub from_slice_context : Context

@@ -7,7 +7,7 @@ ghost use Rattle.std.specs.List.{AllByRecursion};
 ghost use Rattle.cbor_model.specs.Acceptable.{max_depth, FitsScratch};
 ghost use Rattle.cbor_model.specs.Formats.{all_formats};
 ghost use Rattle.cbor_model.specs.Raw.{Raw, AreBytes};
-ghost use Rattle.cbor_decode.specs.Gives.{Reports, Tells};
+ghost use Rattle.cbor_decode.specs.Gives.{ReportsIo, Reports};
 ghost use Rattle.cbor_decode_as.specs.Takes.{lending};
 ghost use Rattle.cbor_de.specs.Items.{AreMostItems};
 ghost use Rattle.cbor_de.specs.StreamAnswers.{AnswersTo, AreReadAs, IsExcused};
@@ -30,17 +30,17 @@ pub fn read_items<'de, T: Deserialize<'de, R>, R: Read<'de> + Drop>(
 ) -> Result<Vec<T>>
     // The bytes are the joined encodings of acceptable items, and these are read so.
     ensures found { IfOk result (λ v. (bytes rest : List ℕ) (items : List Raw)
-        → Tells (R.source source) bytes → AreBytes bytes
+        → Reports (R.source source) bytes → AreBytes bytes
         → AreMostItems max_depth bytes items rest
         → AllByRecursion (FitsScratch (R.source source).room) items
         → (rest ≡ []) × AreReadAs (T.reads (lending all_formats R.lends)) items v.items) }
     // An error is the answer after some of the items, or to what follows them; or memory ran out.
     ensures refused { IfErr result (λ e. (bytes rest : List ℕ) (items : List Raw)
-        → Tells (R.source source) bytes → AreBytes bytes
+        → Reports (R.source source) bytes → AreBytes bytes
         → AreMostItems max_depth bytes items rest
         → AllByRecursion (FitsScratch (R.source source).room) items
-        → IsExcused (Reports R.refusals) e ⊎ ((read : List T)
-        × AnswersTo (T.reads (lending all_formats R.lends)) T.total (Reports R.refusals)
+        → IsExcused (ReportsIo R.refusals) e ⊎ ((read : List T)
+        × AnswersTo (T.reads (lending all_formats R.lends)) T.total (ReportsIo R.refusals)
         max_depth ((R.source source).offset + length bytes) (R.source source).room items rest
         (map Ok read ++ Err e ∷ []))) }
 {

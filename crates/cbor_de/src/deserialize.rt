@@ -15,7 +15,7 @@ use cbor_read::Read;
 /// `reads` says of an item, and of what a source lends and which formats are read, as which values
 /// the type reads it. Nesting and the formats of keys are not its matter.
 ///
-/// `total` says that the type reads every item, so that each refusal tells why the bytes encode
+/// `total` says that the type reads every item, so that each refusal reports why the bytes encode
 /// none.
 ///
 /// `asks_memory` says for which items memory may be asked, where a source asks for it to hand out
@@ -111,7 +111,7 @@ pub trait Readable: Sized + Drop {
 /// These lemmas are for fields that are read alike whatever formats are read. A struct with a field
 /// that isn't, as an enum, is read by a description (`FromParts` of `cbor_described`).
 ///
-/// An enum is read by its variants, which [`Deserializer::variant`] tells by their names or their
+/// An enum is read by its variants, which [`Deserializer::variant`] finds by their names or their
 /// numbers, and each variant by the call on its content. Named fields are read as a struct of
 /// their own:
 ///
@@ -167,7 +167,7 @@ pub trait Readable: Sized + Drop {
 /// }
 /// ```
 ///
-/// Its proof is two lines for each `?`, and one more for each part before it: `variant_is` tells
+/// Its proof is two lines for each `?`, and one more for each part before it: `variant_is` says
 /// the variant, and a lemma for each call what its answer says of the enum
 /// (`proofs/facts/Enums.antt`). A whole proof is that of this enum in the crate `own_types`:
 /// `src/by_hand.rt` and `proofs/by_hand/BarDeserialize`.
@@ -204,14 +204,14 @@ pub trait Deserialize<'de, R: Read<'de>>: Readable {
     fn deserialize(de: &mut Deserializer<R>) -> Result<Self>
         ensures read { call.TakesItem R.source R.refusals
             (Self.reads (context de.old.decoder.formats R.lends)) de.old de.new result }
-        // A byte at the least, also of a source that doesn't tell its bytes.
+        // A byte at the least, also of a source that doesn't report its bytes.
         ensures taken { OnOk result (call.Advances R.source de.old de.new) }
         ensures fault { IfErr result
-            (call.TellsItem R.source R.refusals Self.passes_over Self.total de.old) }
+            (call.ReportsItem R.source R.refusals Self.passes_over Self.total de.old) }
         ensures memory { IfErr result
             (call.MemoryFor R.source (Self.asks_memory (asks_for R.refusals R.lends))
             (Self.reads (context de.old.decoder.formats R.lends)) de.old) }
-        ensures form { IfErr result (call.MayTell R.source Self.wrong_forms de.old) }
+        ensures form { IfErr result (call.MayReport R.source Self.wrong_forms de.old) }
         ensures settings { SameSettings de.old.decoder de.new.decoder };
 }
 

@@ -6,15 +6,15 @@ ghost use Rattle.cbor_io.specs.Error.{code_of, offset_of, IsMessageOf};
 ghost use Rattle.cbor_io.specs.declared.error.Error.{Error};
 ghost use Rattle.cbor_decode.specs.Decoder.{SameSettings};
 ghost use Rattle.cbor_decode.specs.declared.cursor.Remaining.TheVariants.{Counted};
-ghost use Rattle.cbor_decode.specs.Gives.{TellsNoForm};
+ghost use Rattle.cbor_decode.specs.Gives.{ReportsNoForm};
 ghost use Rattle.cbor_decode_as.specs.Accesses.{most_left};
-ghost use Rattle.cbor_decode_as.specs.Cases.{HasCase, TellsBadKey, key_cases};
+ghost use Rattle.cbor_decode_as.specs.Cases.{HasCase, ReportsBadKey, key_cases};
 ghost use Rattle.cbor_decode_as.specs.Identifiers.{IsMadeBy, NamesNoKey, texts};
 ghost use Rattle.cbor_decode_as.specs.MapAccesses.{TakesKey};
 ghost use Rattle.cbor_de.specs.Structs.{IsField, place_in, missing_text, duplicate_text};
 ghost use Rattle.cbor_decode_as.specs.Takes.{OnceMade};
 ghost use Rattle.cbor_decode_as.specs.Takes.{formats_of};
-ghost use Rattle.cbor_de.specs.Forms.{MayTellKey, never};
+ghost use Rattle.cbor_de.specs.Forms.{MayReportKey, never};
 ghost use Rattle.cbor_de.specs.Calls as call;
 
 use crate::de::Deserializer;
@@ -74,7 +74,7 @@ impl<'de, R: Read<'de>> Deserializer<R> {
             → HasCase (R.source self.old.decoder.source) e
             (key_cases (formats_of self.old.decoder.formats) remaining.old)) }
         ensures bad_key { IfErr result (λ w. (e : Error) → IsMadeBy self.new.decoder.refusal w e
-            → TellsBadKey R.refusals (formats_of self.old.decoder.formats) remaining.old
+            → ReportsBadKey R.refusals (formats_of self.old.decoder.formats) remaining.old
             (R.source self.old.decoder.source) e) }
         ensures settings { SameSettings self.old.decoder self.new.decoder }
     {
@@ -103,7 +103,7 @@ pub fn next_key<'de, R: Read<'de>>(
     ensures remains { IfOk result (λ next. MatchOption next (remaining.new ≡ Counted 0)
         (λ k. most_left remaining.new (R.source de.new.decoder.source)
         < most_left remaining.old (R.source de.old.decoder.source))) }
-    ensures form { IfErr result (MayTellKey never (formats_of de.old.decoder.formats)
+    ensures form { IfErr result (MayReportKey never (formats_of de.old.decoder.formats)
         remaining.old (R.source de.old.decoder.source)) }
     ensures settings { SameSettings de.old.decoder de.new.decoder }
 {
@@ -120,7 +120,7 @@ pub fn next_key<'de, R: Read<'de>>(
 pub fn missing_field(alloc: Global, name: &str) -> Error
     ensures text { IsMessageOf (Some (missing_text name.now)) (code_of result) }
     ensures offset { offset_of result ≡ 0 }
-    ensures no_form { TellsNoForm (code_of result) }
+    ensures no_form { ReportsNoForm (code_of result) }
 {
     match format!(in alloc; "missing field `{name}`") {
         Ok(text) => Error::message(alloc, text),
@@ -135,7 +135,7 @@ pub fn missing_field(alloc: Global, name: &str) -> Error
 pub fn duplicate_field(alloc: Global, name: &str) -> Error
     ensures text { IsMessageOf (Some (duplicate_text name.now)) (code_of result) }
     ensures offset { offset_of result ≡ 0 }
-    ensures no_form { TellsNoForm (code_of result) }
+    ensures no_form { ReportsNoForm (code_of result) }
 {
     match format!(in alloc; "duplicate field `{name}`") {
         Ok(text) => Error::message(alloc, text),

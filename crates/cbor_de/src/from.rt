@@ -10,13 +10,13 @@ ghost use Rattle.cbor_model.specs.Plain.{Val};
 ghost use Rattle.cbor_model.specs.Raw.{AreBytes, longest_joined};
 ghost use Rattle.cbor_model.specs.Readable.{SpellsAs};
 ghost use Rattle.cbor_io.specs.Error.{IsOutOfMemory};
-ghost use Rattle.cbor_decode.specs.FirstRefusal.{TellsFirst};
+ghost use Rattle.cbor_decode.specs.FirstRefusal.{ReportsFirst};
 ghost use Rattle.cbor_decode.specs.Gives.{Gave};
 ghost use Rattle.cbor_decode.specs.Gives.{IsMemoryOrFault, IsScratchOrMemory};
 ghost use Rattle.cbor_read.specs.Source.{asks_for, start_of_reader, start_of_slice};
 ghost use Rattle.cbor_decode_as.specs.Takes.{context, formats_of, lending, MemoryFor, WhereTotal};
-ghost use Rattle.cbor_de.specs.Forms.{MayTell};
-ghost use Rattle.cbor_de.specs.Whole.{ReadsAll, RefusesUnread, TellsWhole, from_slice_context};
+ghost use Rattle.cbor_de.specs.Forms.{MayReport};
+ghost use Rattle.cbor_de.specs.Whole.{ReadsAll, RefusesUnread, ReportsWhole, from_slice_context};
 ghost use Rattle.cbor_de.specs.Whole.{from_mut_slice_context, from_reader_context};
 ghost use Rattle.cbor_de.specs.Whole.{asks_none, from_reader_asks, from_slice_asks};
 ghost use Rattle.cbor_de.specs.Calls as call;
@@ -32,11 +32,11 @@ use std::io;
 fn read_all<'de, T: Deserialize<'de, R>, R: Read<'de> + Drop>(alloc: Global, source: R) -> Result<T>
     ensures read { ReadsAll R.refusals all_formats (T.reads (lending all_formats R.lends))
         max_depth (R.source source) result }
-    ensures fault { IfErr result (TellsWhole T.passes_over T.total R.refusals all_formats
+    ensures fault { IfErr result (ReportsWhole T.passes_over T.total R.refusals all_formats
         (T.reads (lending all_formats R.lends)) max_depth (R.source source)) }
     ensures memory { IfErr result (MemoryFor (T.asks_memory (asks_for R.refusals R.lends))
         all_formats (T.reads (lending all_formats R.lends)) max_depth (R.source source)) }
-    ensures form { IfErr result (MayTell T.wrong_forms all_formats (R.source source)) }
+    ensures form { IfErr result (MayReport T.wrong_forms all_formats (R.source source)) }
 {
     let mut de = Deserializer::new(alloc, source);
     whole(&mut de)
@@ -47,13 +47,13 @@ fn whole<'de, T: Deserialize<'de, R>, R: Read<'de>>(de: &mut Deserializer<R>) ->
     ensures read { ReadsAll R.refusals (formats_of de.old.decoder.formats)
         (T.reads (context de.old.decoder.formats R.lends)) de.old.decoder.levels
         (R.source de.old.decoder.source) result }
-    ensures fault { IfErr result (TellsWhole T.passes_over T.total R.refusals
+    ensures fault { IfErr result (ReportsWhole T.passes_over T.total R.refusals
         (formats_of de.old.decoder.formats) (T.reads (context de.old.decoder.formats R.lends))
         de.old.decoder.levels (R.source de.old.decoder.source)) }
     ensures memory { IfErr result (MemoryFor (T.asks_memory (asks_for R.refusals R.lends))
         (formats_of de.old.decoder.formats) (T.reads (context de.old.decoder.formats R.lends))
         de.old.decoder.levels (R.source de.old.decoder.source)) }
-    ensures form { IfErr result (call.MayTell R.source T.wrong_forms de.old) }
+    ensures form { IfErr result (call.MayReport R.source T.wrong_forms de.old) }
 {
     let value = match T::deserialize(de) {
         Ok(value) => value,
@@ -142,14 +142,14 @@ pub fn from_slice<'a, T: Deserialize<'a, SliceRead<'a>>>(
         (λ e. WhereTotal T.total (IsOutOfMemory e)) }
     // A refusal of it is the first that the bytes allow, or memory ran out.
     ensures first { IfErr result (λ e. WhereTotal T.total
-        (IsOutOfMemory e ⊎ TellsFirst (limits_of None) slice.now e)) }
+        (IsOutOfMemory e ⊎ ReportsFirst (limits_of None) slice.now e)) }
     // Where the type passes over an item that it doesn't read, a refusal is a message if the bytes
     // begin with such an item, and the first that they allow if they don't; or memory ran out.
     ensures fault { IfErr result (λ e. WhereTotal T.passes_over
         (IsOutOfMemory e ⊎ RefusesUnread (T.reads from_slice_context) None slice.now e)) }
-    // A wrong form is told by a code, and at a place, that the type may tell it by and at.
+    // A wrong form is reported by a code, and at a place, that the type may report it by and at.
     ensures form { IfErr result
-        (MayTell T.wrong_forms all_formats (start_of_slice slice.now None)) }
+        (MayReport T.wrong_forms all_formats (start_of_slice slice.now None)) }
 {
     read_all(alloc, SliceRead::new(alloc, slice))
 }
@@ -187,15 +187,15 @@ pub fn from_slice_with_scratch<'a, T: Deserialize<'a, SliceReadFixed<'a, 'a>>>(
         → MatchResult result (T.reads from_slice_context spelt.item)
         (λ e. WhereTotal T.total (IsOutOfMemory e)) }
     // An item with a string in chunks that is longer than the scratch isn't read; where the type
-    // reads every item, that is told, unless memory runs out.
+    // reads every item, that is reported, unless memory runs out.
     ensures small { (v : Val) → (spelt : SpellsValue slice.now v)
         → length scratch.old < longest_joined spelt.item
         → MatchResult result (λ x. ⊥) (λ e. WhereTotal T.total (IsScratchOrMemory e)) }
     ensures first { IfErr result (λ e. WhereTotal T.total
-        (IsOutOfMemory e ⊎ TellsFirst (limits_of (Some (length scratch.old))) slice.now e)) }
+        (IsOutOfMemory e ⊎ ReportsFirst (limits_of (Some (length scratch.old))) slice.now e)) }
     ensures fault { IfErr result (λ e. WhereTotal T.passes_over (IsOutOfMemory e
         ⊎ RefusesUnread (T.reads from_slice_context) (Some (length scratch.old)) slice.now e)) }
-    ensures form { IfErr result (MayTell T.wrong_forms all_formats
+    ensures form { IfErr result (MayReport T.wrong_forms all_formats
         (start_of_slice slice.now (Some (length scratch.old)))) }
 {
     read_all(alloc, SliceReadFixed::new(slice, scratch))
@@ -227,11 +227,11 @@ pub fn from_mut_slice<'a, T: Deserialize<'a, MutSliceRead<'a>>>(
         → MatchResult result (T.reads from_mut_slice_context spelt.item)
         (λ e. WhereTotal T.total (IsOutOfMemory e)) }
     ensures first { IfErr result (λ e. WhereTotal T.total
-        (IsOutOfMemory e ⊎ TellsFirst (limits_of None) slice.old e)) }
+        (IsOutOfMemory e ⊎ ReportsFirst (limits_of None) slice.old e)) }
     ensures fault { IfErr result (λ e. WhereTotal T.passes_over
         (IsOutOfMemory e ⊎ RefusesUnread (T.reads from_mut_slice_context) None slice.old e)) }
     ensures form { IfErr result
-        (MayTell T.wrong_forms all_formats (start_of_slice slice.old None)) }
+        (MayReport T.wrong_forms all_formats (start_of_slice slice.old None)) }
 {
     are_bytes(slice);
     read_all(alloc, MutSliceRead::new(slice))
@@ -259,10 +259,10 @@ pub fn from_vec<'de, T: DeserializeOwned + Deserialize<'de, VecRead>>(
         → MatchResult result (T.reads from_reader_context spelt.item)
         (λ e. WhereTotal T.total (IsOutOfMemory e)) }
     ensures first { IfErr result (λ e. WhereTotal T.total
-        (IsOutOfMemory e ⊎ TellsFirst (limits_of None) bytes.items e)) }
+        (IsOutOfMemory e ⊎ ReportsFirst (limits_of None) bytes.items e)) }
     ensures fault { IfErr result (λ e. WhereTotal T.passes_over
         (IsOutOfMemory e ⊎ RefusesUnread (T.reads from_reader_context) None bytes.items e)) }
-    ensures form { IfErr result (MayTell T.wrong_forms all_formats
+    ensures form { IfErr result (MayReport T.wrong_forms all_formats
         (start_of_slice bytes.items None)) }
 {
     are_bytes(&bytes);
@@ -290,7 +290,7 @@ pub fn from_reader<'de, T: DeserializeOwned + Deserialize<'de, IoRead<R>>, R: io
     alloc: Global,
     reader: R,
 ) -> Result<T>
-    // Of a reader that tells its bytes, fewer than 2^64, however it gives them:
+    // Of a reader that reports its bytes, fewer than 2^64, however it gives them:
     ensures found { (bytes : List ℕ) → Gave (R.remaining reader) bytes
         → IfOk result (SpellsAs all_formats (T.reads from_reader_context) bytes) }
     // Each such item is read, unless memory runs out or the reader reports a fault.
@@ -311,12 +311,12 @@ pub fn from_reader<'de, T: DeserializeOwned + Deserialize<'de, IoRead<R>>, R: io
     // a fault.
     ensures first { (bytes : List ℕ) → Gave (R.remaining reader) bytes
         → IfErr result (λ e. WhereTotal T.total
-        (IsMemoryOrFault e ⊎ TellsFirst (limits_of None) bytes e)) }
+        (IsMemoryOrFault e ⊎ ReportsFirst (limits_of None) bytes e)) }
     // Of a type that passes over what it doesn't read, with the same exceptions:
     ensures fault { (bytes : List ℕ) → Gave (R.remaining reader) bytes
         → IfErr result (λ e. WhereTotal T.passes_over
         (IsMemoryOrFault e ⊎ RefusesUnread (T.reads from_reader_context) None bytes e)) }
-    ensures form { IfErr result (MayTell T.wrong_forms all_formats
+    ensures form { IfErr result (MayReport T.wrong_forms all_formats
         (start_of_reader (R.remaining reader))) }
 {
     read_all(alloc, IoRead::new(alloc, reader))

@@ -40,7 +40,7 @@ pub trait ReadTuple<'de, R: Read<'de>>: ReadableTuple {
         ensures read { TakesItems R.refusals (formats_of de.old.decoder.formats)
             (Self.parts (context de.old.decoder.formats R.lends)) de.old.decoder.levels remaining
             (R.source de.old.decoder.source) (R.source de.new.decoder.source) result }
-        ensures form { IfErr result (call.MayTell R.source Self.wrong_forms de.old) }
+        ensures form { IfErr result (call.MayReport R.source Self.wrong_forms de.old) }
         ensures formats { de.new.decoder.formats ≡ de.old.decoder.formats };
 }
 
@@ -54,7 +54,7 @@ pub(crate) fn read_array<'de, R: Read<'de>, T: ReadTuple<'de, R>>(
         (PassesTags (AsArray (T.parts (context de.old.decoder.formats R.lends))))
         de.old de.new result }
     ensures taken { OnOk result (call.Advances R.source de.old de.new) }
-    ensures form { IfErr result (call.MayTell R.source T.wrong_forms de.old) }
+    ensures form { IfErr result (call.MayReport R.source T.wrong_forms de.old) }
     ensures settings { SameSettings de.old.decoder de.new.decoder }
 {
     let outer = de.decoder.levels;
@@ -103,7 +103,7 @@ pub(crate) trait ReadItems<'de, R: Read<'de>>: ItemList {
         ensures read { TakesItems R.refusals (formats_of de.old.decoder.formats)
             (Self.parts (context de.old.decoder.formats R.lends)) de.old.decoder.levels remaining
             (R.source de.old.decoder.source) (R.source de.new.decoder.source) result }
-        ensures form { IfErr result (call.MayTell R.source Self.wrong_forms de.old) }
+        ensures form { IfErr result (call.MayReport R.source Self.wrong_forms de.old) }
         ensures formats { de.new.decoder.formats ≡ de.old.decoder.formats };
 }
 
@@ -169,7 +169,7 @@ fn next_part<'de, R: Read<'de>, T: Deserialize<'de, R>>(
         (T.reads (context de.old.decoder.formats R.lends))
         de.old.decoder.levels remaining.old remaining.new
         (R.source de.old.decoder.source) (R.source de.new.decoder.source) result }
-    ensures form { IfErr result (call.MayTell R.source T.wrong_forms de.old) }
+    ensures form { IfErr result (call.MayReport R.source T.wrong_forms de.old) }
     ensures settings { SameSettings de.old.decoder de.new.decoder }
 {
     match more_items(&mut de.decoder, remaining) {

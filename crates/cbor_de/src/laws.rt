@@ -34,7 +34,7 @@ pub fn owned_agree<T: DeserializeOwned>()
 {}
 
 /// Where a type that reads every item, as `Value`, is refused by `deserialize` in all formats, the
-/// error tells the first refusal that the bytes to come allow within the levels that are left, at
+/// error reports the first refusal that the bytes to come allow within the levels that are left, at
 /// whatever nesting limit; or memory ran out, or the source reported a fault.
 ///
 /// A caller gives it the clause `fault` of `deserialize`.
@@ -42,7 +42,7 @@ pub fn item_refused_first<T: Readable>()
     ensures { ItemRefusedFirst T.total }
 {}
 
-/// An error of a whole input that tells the first refusal that its bytes allow tells the fault that
+/// An error of a whole input that reports the first refusal that its bytes allow reports the fault that
 /// the reference reader meets, by its code and at its offset.
 ///
 /// A caller gives it the clause `first` of a `from_*`.

@@ -5,14 +5,14 @@ ghost use Rattle.std.specs.Option.{is_some};
 ghost use Rattle.std.specs.Borrow.{sem, RestsIfErr};
 ghost use Rattle.cbor_decode.specs.declared.cursor.Remaining.TheVariants.{Counted};
 ghost use Rattle.cbor_io.specs.Error.{code_of};
-ghost use Rattle.cbor_decode.specs.Gives.{TellsNoForm};
+ghost use Rattle.cbor_decode.specs.Gives.{ReportsNoForm};
 ghost use Rattle.cbor_io.specs.declared.error.Error.{Error};
 ghost use Rattle.cbor_decode.specs.declared.head.Head.TheVariants as kind;
 ghost use Rattle.cbor_decode_as.specs.Accesses.{size_of};
-ghost use Rattle.cbor_decode_as.specs.Cases.{TellsBadKey};
+ghost use Rattle.cbor_decode_as.specs.Cases.{ReportsBadKey};
 ghost use Rattle.cbor_decode_as.specs.MapAccesses.{TakesMapEnd};
 ghost use Rattle.cbor_decode_as.specs.Takes.{context, formats_of};
-ghost use Rattle.cbor_de.specs.Forms.{MayTellKey};
+ghost use Rattle.cbor_de.specs.Forms.{MayReportKey};
 ghost use Rattle.cbor_de.specs.contracts.de.Deserializer.{the_row};
 ghost use Rattle.cbor_de.specs.Access as access;
 ghost use Rattle.cbor_de.specs.Calls as call;
@@ -50,7 +50,7 @@ impl<R: Source> Deserializer<R> {
             (λ m. access.Begins R.source kind.Map self.old m.de.now m.remaining) }
         ensures unopened { IfErr result
             (access.RefusesBeginning R.source R.refusals kind.Map self.old) }
-        ensures no_form { IfErr result (λ e. TellsNoForm (code_of e)) }
+        ensures no_form { IfErr result (λ e. ReportsNoForm (code_of e)) }
         ensures taken { IfOk result (λ m. call.Advances R.source self.old m.de.now) }
         ensures settings { IfOk result
             (λ m. call.Within self.old.decoder.levels m.outer self.old m.de.now) }
@@ -114,12 +114,12 @@ impl<'a, R: Source> MapAccess<'a, R> {
         ensures remains { IfOk result
             (access.Ends R.source self.old.remaining self.new.remaining self.old.de.now
             self.new.de.now) }
-        // The key alone that may not begin as it does is told so, at its first byte.
-        ensures form { IfErr result (MayTellKey K.wrong_forms
+        // The key alone that may not begin as it does is reported so, at its first byte.
+        ensures form { IfErr result (MayReportKey K.wrong_forms
             (formats_of self.old.de.now.decoder.formats) self.old.remaining
             (R.source self.old.de.now.decoder.source)) }
         // Of a key that may begin as it does, it is the reading of `K` that refuses.
-        ensures bad_key { IfErr result (TellsBadKey R.refusals
+        ensures bad_key { IfErr result (ReportsBadKey R.refusals
             (formats_of self.old.de.now.decoder.formats) self.old.remaining
             (R.source self.old.de.now.decoder.source)) }
         ensures due { IfOk result (λ next. self.new.value_due ≡ is_some next) }
@@ -157,7 +157,7 @@ impl<'a, R: Source> MapAccess<'a, R> {
         ensures read { call.TakesItem R.source R.refusals
             (V.reads (context self.old.de.now.decoder.formats R.lends))
             self.old.de.now self.new.de.now result }
-        ensures form { IfErr result (call.MayTell R.source V.wrong_forms self.old.de.now) }
+        ensures form { IfErr result (call.MayReport R.source V.wrong_forms self.old.de.now) }
         ensures due { IfOk result (λ v. self.new.value_due ≡ false) }
         ensures settings { call.StaysInside self.old.outer self.old.de.now self.new.de.now result }
         ensures outer { self.new.outer ≡ self.old.outer }
@@ -201,7 +201,7 @@ impl<'a, R: Source> MapAccess<'a, R> {
         ensures read { TakesMapEnd R.refusals self.entry.remaining
             (R.source self.entry.de.now.decoder.source) (R.source self.exit.0.now.decoder.source)
             result }
-        ensures no_form { IfErr result (λ e. TellsNoForm (code_of e)) }
+        ensures no_form { IfErr result (λ e. ReportsNoForm (code_of e)) }
         ensures settings { call.BackTo self.entry.outer self.entry.de.now self.exit.0.now }
     {
         let MapAccess {

@@ -6,7 +6,7 @@ ghost use types.Logic.{sem};
 ghost use Rattle.cbor_model.specs.Readable.{PassesTags, IsBool, IsInteger, IsUnit};
 ghost use Rattle.cbor_io.specs.Error.{code_of};
 ghost use Rattle.cbor_decode.specs.Decoder.{SameSettings};
-ghost use Rattle.cbor_decode.specs.Gives.{TellsNoForm};
+ghost use Rattle.cbor_decode.specs.Gives.{ReportsNoForm};
 ghost use Rattle.cbor_decode_as.specs.Scalars.{IsFloatItem};
 ghost use Rattle.cbor_decode_as.specs.Strings.{IsMadeOf, IsNoKey, LendsBytes, LendsString};
 ghost use Rattle.cbor_decode_as.specs.Strings.{LendsText};
@@ -38,7 +38,7 @@ impl<R: Source> Deserializer<R> {
             self.old self.new result }
         ensures taken { OnOk result (call.Advances R.source self.old self.new) }
         ensures fault { IfErr result (call.RefusesWhole R.source R.refusals self.old) }
-        ensures no_form { IfErr result (λ e. TellsNoForm (code_of e)) }
+        ensures no_form { IfErr result (λ e. ReportsNoForm (code_of e)) }
         ensures memory { IfErr result (call.TakesNoMemory R.source (PassesTags IsBool) self.old) }
         ensures settings { SameSettings self.old.decoder self.new.decoder }
     {
@@ -54,7 +54,7 @@ impl<R: Source> Deserializer<R> {
             self.old self.new result }
         ensures taken { OnOk result (call.Advances R.source self.old self.new) }
         ensures fault { call.ReadsWhole R.source R.refusals self.old result }
-        ensures no_form { IfErr result (λ e. TellsNoForm (code_of e)) }
+        ensures no_form { IfErr result (λ e. ReportsNoForm (code_of e)) }
         ensures memory { IfErr result
             (call.TakesNoMemory R.source (PassesTags IsFloatItem) self.old) }
         ensures settings { SameSettings self.old.decoder self.new.decoder }
@@ -71,7 +71,7 @@ impl<R: Source> Deserializer<R> {
             self.old self.new result }
         ensures taken { OnOk result (call.Advances R.source self.old self.new) }
         ensures fault { IfErr result (call.RefusesWhole R.source R.refusals self.old) }
-        ensures no_form { IfErr result (λ e. TellsNoForm (code_of e)) }
+        ensures no_form { IfErr result (λ e. ReportsNoForm (code_of e)) }
         ensures memory { IfErr result (call.TakesNoMemory R.source (PassesTags IsUnit) self.old) }
         ensures settings { SameSettings self.old.decoder self.new.decoder }
     {
@@ -91,7 +91,7 @@ impl<R: Source> Deserializer<R> {
             self.old self.new result }
         ensures taken { OnOk result (call.Advances R.source self.old self.new) }
         ensures fault { IfErr result (call.RefusesWhole R.source R.refusals self.old) }
-        ensures no_form { IfErr result (λ e. TellsNoForm (code_of e)) }
+        ensures no_form { IfErr result (λ e. ReportsNoForm (code_of e)) }
         ensures memory { IfErr result
             (call.TakesNoMemory R.source (PassesTags IsInteger) self.old) }
         ensures settings { SameSettings self.old.decoder self.new.decoder }
@@ -104,7 +104,7 @@ impl<R: Source> Deserializer<R> {
     #[inline(never)]
     pub fn unread(&mut self, why: Unread, message: &str) -> Error
         ensures made { IsMadeOf why result }
-        ensures no_form { IsNoKey why → TellsNoForm (code_of result) }
+        ensures no_form { IsNoKey why → ReportsNoForm (code_of result) }
         ensures source { self.new.decoder.source ≡ self.old.decoder.source }
         ensures settings { SameSettings self.old.decoder self.new.decoder }
     {

@@ -4,8 +4,8 @@ ghost use Rattle.std.specs.Prelude.{◌≡◌, ◌<◌, IfOk, IfErr};
 ghost use Rattle.cbor_decode.specs.declared.cursor.Remaining.TheVariants.{Counted};
 ghost use Rattle.std.specs.Borrow.{sem, RestsIfErr};
 ghost use Rattle.cbor_io.specs.Error.{code_of, offset_of};
-ghost use Rattle.cbor_decode.specs.Gives.{IsErrorOf, TellsNoForm};
-ghost use Rattle.cbor_decode.specs.Gives.{TellsNoKey};
+ghost use Rattle.cbor_decode.specs.Gives.{IsErrorOf, ReportsNoForm};
+ghost use Rattle.cbor_decode.specs.Gives.{ReportsNoKey};
 ghost use Rattle.cbor_decode_as.specs.Accesses.{TakesEnd, size_of, TakesMore};
 ghost use Rattle.cbor_decode_as.specs.Takes.{IsMessage, OnceMade, context};
 ghost use Rattle.cbor_de.specs.contracts.de.Deserializer.{the_row};
@@ -51,7 +51,7 @@ impl<R: Source> Deserializer<R> {
             (λ s. access.Begins R.source kind.Array self.old s.de.now s.remaining) }
         ensures unopened { IfErr result
             (access.RefusesBeginning R.source R.refusals kind.Array self.old) }
-        ensures no_form { IfErr result (λ e. TellsNoForm (code_of e)) }
+        ensures no_form { IfErr result (λ e. ReportsNoForm (code_of e)) }
         ensures taken { IfOk result (λ s. call.Advances R.source self.old s.de.now) }
         ensures settings { IfOk result
             (λ s. call.Within self.old.decoder.levels s.outer self.old s.de.now) }
@@ -73,7 +73,7 @@ impl<R: Source> Deserializer<R> {
 pub(crate) fn invalid_length(alloc: Global, found: usize, expected: usize) -> Error
     ensures message { IsMessage result }
     ensures offset { offset_of result ≡ 0 }
-    ensures no_form { TellsNoForm (code_of result) }
+    ensures no_form { ReportsNoForm (code_of result) }
 {
     match format!(in alloc; "invalid length {found}, expected {expected}") {
         Ok(text) => Error::message(alloc, text),
@@ -121,7 +121,7 @@ impl<'a, R: Source> SeqAccess<'a, R> {
         ensures read { access.TakesNext R.source R.refusals
             (T.reads (context self.old.de.now.decoder.formats R.lends)) self.old.remaining
             self.new.remaining self.old.de.now self.new.de.now result }
-        ensures form { IfErr result (call.MayTell R.source T.wrong_forms self.old.de.now) }
+        ensures form { IfErr result (call.MayReport R.source T.wrong_forms self.old.de.now) }
         // Nothing remains after the last item, and a loop over the items ends.
         ensures remains { IfOk result
             (access.Ends R.source self.old.remaining self.new.remaining self.old.de.now
@@ -148,7 +148,7 @@ impl<'a, R: Source> SeqAccess<'a, R> {
 
     /// Reads the next item of an array that has to have so many; this many were read before it.
     ///
-    /// It refuses as the reading of `T` does, and with `invalid length`, which tells both numbers,
+    /// It refuses as the reading of `T` does, and with `invalid length`, which names both numbers,
     /// where the array's last item was read.
     ///
     /// ```rust
@@ -170,7 +170,7 @@ impl<'a, R: Source> SeqAccess<'a, R> {
         ensures read { access.TakesPart R.source R.refusals
             (T.reads (context self.old.de.now.decoder.formats R.lends)) self.old.remaining
             self.new.remaining self.old.de.now self.new.de.now result }
-        ensures form { IfErr result (call.MayTell R.source T.wrong_forms self.old.de.now) }
+        ensures form { IfErr result (call.MayReport R.source T.wrong_forms self.old.de.now) }
         ensures settings { call.StaysInside self.old.outer self.old.de.now self.new.de.now result }
         ensures outer { self.new.outer ≡ self.old.outer }
     {
@@ -205,7 +205,7 @@ impl<'a, R: Source> SeqAccess<'a, R> {
         ensures read { TakesEnd R.refusals self.entry.remaining
             (R.source self.entry.de.now.decoder.source) (R.source self.exit.0.now.decoder.source)
             result }
-        ensures no_form { IfErr result (λ e. TellsNoForm (code_of e)) }
+        ensures no_form { IfErr result (λ e. ReportsNoForm (code_of e)) }
         ensures settings { call.BackTo self.entry.outer self.entry.de.now self.exit.0.now }
     {
         let SeqAccess {
@@ -246,7 +246,7 @@ impl<'a, R: Source> SeqAccess<'a, R> {
             (R.source self.old.de.now.decoder.source)
             (R.source self.new.de.now.decoder.source)) result }
         ensures counts { IfOk result (λ more. Counts self.old.remaining more self.new.remaining) }
-        ensures no_key { IfErr result (TellsNoKey self.new.de.now.decoder.refusal) }
+        ensures no_key { IfErr result (ReportsNoKey self.new.de.now.decoder.refusal) }
         ensures settings { SameSettings self.old.de.now.decoder self.new.de.now.decoder }
         ensures outer { self.new.outer ≡ self.old.outer }
     {
@@ -258,9 +258,9 @@ impl<'a, R: Source> SeqAccess<'a, R> {
     #[inline(never)]
     pub(crate) fn refused(self, refused: Refused) -> Error
         requires { self.de.now.decoder.levels < self.outer }
-        ensures tells { IsErrorOf self.entry.de.now.decoder.refusal refused result }
-        ensures no_form { TellsNoKey self.entry.de.now.decoder.refusal refused
-            → TellsNoForm (code_of result) }
+        ensures reports { IsErrorOf self.entry.de.now.decoder.refusal refused result }
+        ensures no_form { ReportsNoKey self.entry.de.now.decoder.refusal refused
+            → ReportsNoForm (code_of result) }
         ensures source { self.exit.0.now.decoder.source ≡ self.entry.de.now.decoder.source }
         ensures settings { call.BackTo self.entry.outer self.entry.de.now self.exit.0.now }
     {

@@ -8,7 +8,7 @@ ghost use Rattle.std.specs.Prelude.{IfOk, IfErr, IfSome, MatchOption, OnOk, OnEr
 ghost use Rattle.cbor_io.specs.Error.{code_of};
 ghost use Rattle.cbor_read.specs.Source.{RefusedByte, Stays};
 ghost use Rattle.cbor_decode.specs.Decoder.{SameSettings};
-ghost use Rattle.cbor_decode.specs.Gives.{IsErrorOf, TellsNoForm};
+ghost use Rattle.cbor_decode.specs.Gives.{IsErrorOf, ReportsNoForm};
 ghost use Rattle.cbor_decode.specs.declared.head.Head.TheVariants as kind;
 ghost use Rattle.cbor_decode.specs.declared.refusal.Refused.TheVariants.{Kept};
 ghost use Rattle.cbor_decode_as.specs.Identifiers.{texts};
@@ -21,7 +21,7 @@ ghost use Rattle.cbor_decode_as.specs.Cases.{enum_cases, unit_cases};
 ghost use Rattle.cbor_decode_as.specs.Enums.{IsNothing};
 ghost use Rattle.cbor_decode_as.specs.MapAccesses.{TakesMapEnd, TakesMapHead};
 ghost use Rattle.cbor_decode_as.specs.Variants.{IsEntered, IsInside, TakesContent, TakesParts};
-ghost use Rattle.cbor_decode_as.specs.Variants.{TakesVariant, TellsAlone, alone_text};
+ghost use Rattle.cbor_decode_as.specs.Variants.{TakesVariant, ReportsAlone, alone_text};
 ghost use Rattle.cbor_de.specs.Calls as call;
 
 use crate::de::Deserializer;
@@ -51,7 +51,7 @@ pub fn peek<R: Source>(de: &mut Deserializer<R>) -> std::result::Result<Option<u
 #[cold]
 #[inline(never)]
 pub fn error_of<R: Source>(de: &mut Deserializer<R>, refusal: ReadError) -> Error
-    ensures tells { IsErrorOf refusal Kept result }
+    ensures reports { IsErrorOf refusal Kept result }
     ensures source { de.new.decoder.source ≡ de.old.decoder.source }
     ensures settings { SameSettings de.old.decoder de.new.decoder }
 {
@@ -83,7 +83,7 @@ pub fn map_head<R: Source>(de: &mut Deserializer<R>) -> Result<Remaining>
     ensures opened { TakesBeginning kind.Map R.refusals de.old.decoder.levels
         (R.source de.old.decoder.source) (R.source de.new.decoder.source)
         de.new.decoder.levels result }
-    ensures no_form { IfErr result (λ e. TellsNoForm (code_of e)) }
+    ensures no_form { IfErr result (λ e. ReportsNoForm (code_of e)) }
     ensures inside { IfOk result (λ r. de.new.decoder.levels < de.old.decoder.levels) }
     ensures outer { OnErr result (de.new.decoder.levels ≡ de.old.decoder.levels) }
     ensures formats { de.new.decoder.formats ≡ de.old.decoder.formats }
@@ -97,7 +97,7 @@ pub fn map_head<R: Source>(de: &mut Deserializer<R>) -> Result<Remaining>
 pub fn end_map<R: Source>(de: &mut Deserializer<R>, remaining: Remaining) -> Result<()>
     ensures read { TakesMapEnd R.refusals remaining
         (R.source de.old.decoder.source) (R.source de.new.decoder.source) result }
-    ensures no_form { IfErr result (λ e. TellsNoForm (code_of e)) }
+    ensures no_form { IfErr result (λ e. ReportsNoForm (code_of e)) }
     ensures settings { SameSettings de.old.decoder de.new.decoder }
 {
     cbor_decode_as::collection::end_map(&mut de.decoder, remaining)
@@ -147,8 +147,8 @@ pub fn parts<R: Source>(de: &mut Deserializer<R>, form: Form) -> Result<Remainin
     ensures opened { TakesPartsHead R.refusals de.old.decoder.levels form
         (R.source de.old.decoder.source) (R.source de.new.decoder.source)
         de.new.decoder.levels result }
-    ensures alone { IfErr result (TellsAlone (alone_text (codes "tuple")) form) }
-    ensures no_form { IfErr result (λ e. TellsNoForm (code_of e)) }
+    ensures alone { IfErr result (ReportsAlone (alone_text (codes "tuple")) form) }
+    ensures no_form { IfErr result (λ e. ReportsNoForm (code_of e)) }
     ensures inside { IfOk result (λ r. IsEntered form de.old.decoder.levels
         de.new.decoder.levels) }
     ensures formats { de.new.decoder.formats ≡ de.old.decoder.formats }

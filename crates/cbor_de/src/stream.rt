@@ -17,7 +17,7 @@ use std::marker::PhantomData;
 /// The items of an input, one after the other, each read as `T`.
 ///
 /// `next` looks at the next byte and reads the item that begins with it. It returns None at the end
-/// of the input. After an error it returns None for good: the error tells where the fault stands,
+/// of the input. After an error it returns None for good: the error reports where the fault stands,
 /// and `byte_offset` how many bytes were taken, some of the refused item's among them. An item is
 /// answered before the byte after it is asked for, so that a reader that waits for its peer isn't
 /// asked too early.

@@ -11,7 +11,7 @@ use crate::Readable;
 /// items at the front of the bytes that are acceptable within the stream's levels, and then None;
 /// or, where something follows those, one error, and then None.
 ///
-/// A type that reads every item, as `Value`, tells in that error the fault that stands there. A
+/// A type that reads every item, as `Value`, reports in that error the fault that stands there. A
 /// type that doesn't read one of the items gives an error at it, and then None.
 pub fn stream_answers<T: Readable>()
     ensures { (l : Lends) → StreamAnswers (λ f. T.reads (lending f l)) T.total }

@@ -8,11 +8,11 @@ ghost use Rattle.cbor_io.specs.Error.{code_of, offset_of, IsMessageOf};
 ghost use Rattle.cbor_io.specs.declared.error.Error.{Error};
 ghost use Rattle.cbor_model.specs.Reader.{item_at};
 ghost use Rattle.cbor_decode.specs.declared.cursor.Remaining.TheVariants.{Counted};
-ghost use Rattle.cbor_decode.specs.Gives.{Step, TellsNoForm};
+ghost use Rattle.cbor_decode.specs.Gives.{Step, ReportsNoForm};
 ghost use Rattle.cbor_decode.specs.declared.head.Head.TheVariants as kind;
 ghost use Rattle.cbor_decode_as.specs.Accesses.{size_of};
 ghost use Rattle.cbor_io.specs.declared.error.ErrorCode.TheVariants.{WrongStructFormat};
-ghost use Rattle.cbor_decode_as.specs.Cases.{FormAlone, HasCase, TellsBadKey, key_cases};
+ghost use Rattle.cbor_decode_as.specs.Cases.{FormAlone, HasCase, ReportsBadKey, key_cases};
 ghost use Rattle.cbor_decode_as.specs.Identifiers.{texts};
 ghost use Rattle.cbor_decode_as.specs.MapAccesses.{TakesMapEnd};
 ghost use Rattle.cbor_de.specs.Structs.{IsAny, IsField, place_in, missing_text, duplicate_text};
@@ -66,7 +66,7 @@ impl<R: Source> Deserializer<R> {
             (λ m. access.Begins R.source kind.Map self.old m.de.now m.remaining) }
         ensures unopened { IfErr result
             (access.RefusesBeginning R.source R.refusals kind.Map self.old) }
-        ensures no_form { IfErr result (λ e. TellsNoForm (code_of e)) }
+        ensures no_form { IfErr result (λ e. ReportsNoForm (code_of e)) }
         ensures taken { IfOk result (λ m. call.Advances R.source self.old m.de.now) }
         ensures settings { IfOk result
             (λ m. call.Within self.old.decoder.levels m.outer self.old m.de.now) }
@@ -142,8 +142,8 @@ impl<'a, R: Source> StructAccess<'a, R> {
         ensures cases { IfErr result (λ e. HasCase (R.source self.old.de.now.decoder.source) e
             (key_cases (formats_of self.old.de.now.decoder.formats) self.old.remaining)) }
         ensures code { IfErr result (λ e. FormAlone WrongStructFormat (code_of e)) }
-        // The other way: that key is told.
-        ensures bad_key { IfErr result (TellsBadKey R.refusals
+        // The other way: that key is reported.
+        ensures bad_key { IfErr result (ReportsBadKey R.refusals
             (formats_of self.old.de.now.decoder.formats) self.old.remaining
             (R.source self.old.de.now.decoder.source)) }
         ensures due { IfOk result (λ next. self.new.value_due ≡ is_some next) }
@@ -178,7 +178,7 @@ impl<'a, R: Source> StructAccess<'a, R> {
         ensures read { call.TakesItem R.source R.refusals
             (V.reads (context self.old.de.now.decoder.formats R.lends))
             self.old.de.now self.new.de.now result }
-        ensures form { IfErr result (call.MayTell R.source V.wrong_forms self.old.de.now) }
+        ensures form { IfErr result (call.MayReport R.source V.wrong_forms self.old.de.now) }
         ensures due { IfOk result (λ v. self.new.value_due ≡ false) }
         ensures settings { call.StaysInside self.old.outer self.old.de.now self.new.de.now result }
         ensures outer { self.new.outer ≡ self.old.outer }
@@ -229,7 +229,7 @@ impl<'a, R: Source> StructAccess<'a, R> {
             → IsNotRead (V.reads (context self.old.de.now.decoder.formats R.lends))
             (item_at (raws (formats_of self.old.de.now.decoder.formats) l)
             self.old.de.now.decoder.levels bs))) }
-        ensures form { IfErr result (call.MayTell R.source V.wrong_forms self.old.de.now) }
+        ensures form { IfErr result (call.MayReport R.source V.wrong_forms self.old.de.now) }
         ensures text { IfErr result (λ e. is_some slot.old ≡ true →
             IsMessageOf (Some (duplicate_text name.now)) (code_of e)) }
         ensures offset { IfErr result (λ e. is_some slot.old ≡ true → offset_of e ≡ 0) }
@@ -298,7 +298,7 @@ impl<'a, R: Source> StructAccess<'a, R> {
         ensures same_reference { self.new.de.ghost_name ≡ self.old.de.ghost_name }
         ensures read { call.TakesItem R.source R.refusals IsAny
             self.old.de.now self.new.de.now result }
-        ensures form { IfErr result (call.MayTell R.source key_form self.old.de.now) }
+        ensures form { IfErr result (call.MayReport R.source key_form self.old.de.now) }
         ensures due { IfOk result (λ u. self.new.value_due ≡ false) }
         ensures settings { call.StaysInside self.old.outer self.old.de.now self.new.de.now result }
         ensures outer { self.new.outer ≡ self.old.outer }
@@ -374,7 +374,7 @@ impl<'a, R: Source> StructAccess<'a, R> {
         ensures read { TakesMapEnd R.refusals self.entry.remaining
             (R.source self.entry.de.now.decoder.source)
             (R.source self.exit.0.now.decoder.source) result }
-        ensures no_form { IfErr result (λ e. TellsNoForm (code_of e)) }
+        ensures no_form { IfErr result (λ e. ReportsNoForm (code_of e)) }
         ensures settings { call.BackTo self.entry.outer self.entry.de.now self.exit.0.now }
     {
         let StructAccess {

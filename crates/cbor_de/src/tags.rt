@@ -2,7 +2,7 @@
 
 ghost use Rattle.std.specs.Prelude.{◌≡◌, ◌+◌, ◌^◌, ◌<◌, IfOk, IfErr, IfSome};
 ghost use Rattle.cbor_io.specs.Error.{code_of};
-ghost use Rattle.cbor_decode.specs.Gives.{TellsNoForm};
+ghost use Rattle.cbor_decode.specs.Gives.{ReportsNoForm};
 ghost use Rattle.cbor_decode_as.specs.Tags.{ReadsTag, LevelsBehind, TagIs};
 ghost use Rattle.cbor_decode_as.specs.Takes.{formats_of};
 
@@ -35,7 +35,7 @@ impl<R: Source> Deserializer<R> {
         ensures item { IfOk result (λ o. IfSome o (λ n.
             TagIs (formats_of self.old.decoder.formats) self.old.decoder.levels n
             (R.source self.old.decoder.source) (R.source self.new.decoder.source))) }
-        ensures no_form { IfErr result (λ e. TellsNoForm (code_of e)) }
+        ensures no_form { IfErr result (λ e. ReportsNoForm (code_of e)) }
         ensures levels { LevelsBehind result self.old.decoder.levels self.new.decoder.levels }
         ensures formats { self.new.decoder.formats ≡ self.old.decoder.formats }
     {

@@ -1,21 +1,21 @@
-//! Enums, of which an item tells the variant and holds its content.
+//! Enums, of which an item names the variant and holds its content.
 
 ghost use Rattle.std.specs.Prelude.{◌≡◌, ◌<◌, codes, length};
 ghost use Rattle.std.specs.Prelude.{IfOk, IfErr};
 ghost use Rattle.std.specs.Borrow.{sem, RestsIfErr};
 ghost use Rattle.cbor_io.specs.Error.{code_of};
 ghost use Rattle.cbor_decode.specs.Decoder.{SameSettings};
-ghost use Rattle.cbor_decode.specs.Gives.{TellsNoForm};
+ghost use Rattle.cbor_decode.specs.Gives.{ReportsNoForm};
 ghost use Rattle.cbor_io.specs.declared.error.ErrorCode.TheVariants.{ArrayTooLong};
 ghost use Rattle.cbor_decode_as.specs.Cases.{FormAlone, IsEnumCode, HasCase};
-ghost use Rattle.cbor_decode_as.specs.Cases.{enum_cases, unit_cases, TellsTooShort};
+ghost use Rattle.cbor_decode_as.specs.Cases.{enum_cases, unit_cases, ReportsTooShort};
 ghost use Rattle.cbor_decode_as.specs.Enums.{IsNothing, IsPart};
 ghost use Rattle.cbor_decode_as.specs.Identifiers.{texts};
 ghost use Rattle.cbor_decode_as.specs.Takes.{context, formats_of};
 ghost use Rattle.cbor_decode_as.specs.Variants.{IsInside};
-ghost use Rattle.cbor_decode_as.specs.Variants.{TellsAlone, alone_text};
+ghost use Rattle.cbor_decode_as.specs.Variants.{ReportsAlone, alone_text};
 ghost use Rattle.cbor_decode_as.specs.declared.variant.Form.TheVariants.{Array};
-ghost use Rattle.cbor_de.specs.Forms.{MayTellPart};
+ghost use Rattle.cbor_de.specs.Forms.{MayReportPart};
 ghost use Rattle.cbor_de.specs.contracts.de.Deserializer.{the_row};
 ghost use Rattle.cbor_de.specs.Access as access;
 ghost use Rattle.cbor_de.specs.Calls as call;
@@ -87,10 +87,10 @@ impl<'de, R: Read<'de>> Deserializer<R> {
         ensures read { access.TakesContent R.source R.refusals
             (IsPart (T.reads (context self.old.decoder.formats R.lends))) (Array remaining)
             self.old self.new result }
-        ensures form { IfErr result (MayTellPart T.wrong_forms
+        ensures form { IfErr result (MayReportPart T.wrong_forms
             (formats_of self.old.decoder.formats) (Array remaining)
             (R.source self.old.decoder.source)) }
-        ensures too_short { IfErr result (TellsTooShort R.refusals (Array remaining)
+        ensures too_short { IfErr result (ReportsTooShort R.refusals (Array remaining)
             (R.source self.old.decoder.source)) }
         ensures settings { SameSettings self.old.decoder self.new.decoder }
     {
@@ -111,10 +111,10 @@ pub fn one_part<'de, R: Read<'de>, T: Deserialize<'de, R>>(
 ) -> Result<T>
     ensures read { access.TakesContent R.source R.refusals
         (IsPart (T.reads (context de.old.decoder.formats R.lends))) form de.old de.new result }
-    ensures alone { IfErr result (TellsAlone alone.now form) }
-    ensures form { IfErr result (MayTellPart T.wrong_forms
+    ensures alone { IfErr result (ReportsAlone alone.now form) }
+    ensures form { IfErr result (MayReportPart T.wrong_forms
         (formats_of de.old.decoder.formats) form (R.source de.old.decoder.source)) }
-    ensures too_short { IfErr result (TellsTooShort R.refusals form
+    ensures too_short { IfErr result (ReportsTooShort R.refusals form
         (R.source de.old.decoder.source)) }
     ensures settings { SameSettings de.old.decoder de.new.decoder }
 {
@@ -199,12 +199,12 @@ impl<'a, R: Source> VariantAccess<'a, R> {
             (IsPart (T.reads (context self.entry.de.now.decoder.formats R.lends))) self.entry.form
             self.entry.de.now self.exit.0.now result }
         ensures alone { IfErr result
-            (TellsAlone (alone_text (codes "newtype")) self.entry.form) }
-        // That nothing follows the identifier is told there alone.
-        ensures form { IfErr result (MayTellPart T.wrong_forms
+            (ReportsAlone (alone_text (codes "newtype")) self.entry.form) }
+        // That nothing follows the identifier is reported there alone.
+        ensures form { IfErr result (MayReportPart T.wrong_forms
             (formats_of self.entry.de.now.decoder.formats) self.entry.form
             (R.source self.entry.de.now.decoder.source)) }
-        ensures too_short { IfErr result (TellsTooShort R.refusals self.entry.form
+        ensures too_short { IfErr result (ReportsTooShort R.refusals self.entry.form
             (R.source self.entry.de.now.decoder.source)) }
         ensures settings { call.BackTo self.entry.outer self.entry.de.now self.exit.0.now }
     {
@@ -241,12 +241,12 @@ impl<'a, R: Source> VariantAccess<'a, R> {
             (IsPart (T.reads (context self.entry.de.now.decoder.formats R.lends))) self.entry.form
             self.entry.de.now self.exit.0.now result }
         ensures alone { IfErr result
-            (TellsAlone (alone_text (codes "struct")) self.entry.form) }
-        // That nothing follows the identifier is told there alone.
-        ensures form { IfErr result (MayTellPart T.wrong_forms
+            (ReportsAlone (alone_text (codes "struct")) self.entry.form) }
+        // That nothing follows the identifier is reported there alone.
+        ensures form { IfErr result (MayReportPart T.wrong_forms
             (formats_of self.entry.de.now.decoder.formats) self.entry.form
             (R.source self.entry.de.now.decoder.source)) }
-        ensures too_short { IfErr result (TellsTooShort R.refusals self.entry.form
+        ensures too_short { IfErr result (ReportsTooShort R.refusals self.entry.form
             (R.source self.entry.de.now.decoder.source)) }
         ensures settings { call.BackTo self.entry.outer self.entry.de.now self.exit.0.now }
     {
@@ -292,8 +292,8 @@ impl<'a, R: Source> VariantAccess<'a, R> {
         ensures unopened { IfErr result
             (access.RefusesPartsHead R.source R.refusals self.entry.form self.entry.de.now) }
         ensures alone { IfErr result
-            (TellsAlone (alone_text (codes "tuple")) self.entry.form) }
-        ensures no_form { IfErr result (λ e. TellsNoForm (code_of e)) }
+            (ReportsAlone (alone_text (codes "tuple")) self.entry.form) }
+        ensures no_form { IfErr result (λ e. ReportsNoForm (code_of e)) }
         ensures settings { IfOk result
             (λ s. call.Within self.entry.outer s.outer self.entry.de.now s.de.now) }
     {

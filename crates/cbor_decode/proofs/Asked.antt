@@ -2,7 +2,7 @@
 use Rattle.std.proofs.Common.{◌≡◌, inl, inr, true, Result, Ok, Err, IfErr}
 use Rattle.cbor_io.specs.declared.read_error.ReadError.{ReadError}
 use Rattle.cbor_read.specs.Source.{Asks, MemoryWhere}
-use Rattle.cbor_decode.specs.Gives.{TellsNoMemory}
+use Rattle.cbor_decode.specs.Gives.{ReportsNoMemory}
 use Rattle.cbor_decode.specs.HasChunks.{AsksWhere}
 use Rattle.cbor_decode.specs.Memory.{MemoryOnly}
 use Rattle.cbor_decode.specs.declared.refusal.Refused.{Refused}
@@ -14,7 +14,7 @@ pub whole_asked : (asks : Asks) (kept : ReadError) (r : Refused) (e : ReadError)
 whole_asked asks kept r e is keeps h = kept_asked (asks.whole ≡ true) kept r e is keeps h
 
 -- what is never for lack of memory
-pub none_asked_all : {X : Type 0} (P : Type 0) (kept : ReadError) (r : Result X Refused) → IfErr r (TellsNoMemory kept) → IfErr r (MemoryOnly P kept)
+pub none_asked_all : {X : Type 0} (P : Type 0) (kept : ReadError) (r : Result X Refused) → IfErr r (ReportsNoMemory kept) → IfErr r (MemoryOnly P kept)
 none_asked_all P kept (Ok x) h = tt
 none_asked_all P kept (Err r) h = none_asked P kept r h
 

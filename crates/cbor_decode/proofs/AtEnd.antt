@@ -54,8 +54,8 @@ source_takes allowed s t kept refused.Kept e is keeps h =
     subst (λ x. EndRefused allowed (error_code (why x)) (place x) s t) (sym keeps)
     (by_code allowed s t (why e) (place e) h.refused.code h.refused.kind h.room h.ended h.memory h.refused.nowhere h.refused.limit h.stays)
 
--- the error of the call tells why its step was refused
-pub end_told : (allowed : ReadErrorCode → Bool) (s t : Input) (kept : ReadError) (r : Refused) (e : Error) → EndStops allowed s t kept (Err r) → IsErrorOf kept r e → EndTakes allowed s t (Err e)
-end_told allowed s t kept refused.OutOfMemory e h tells = absurd h
-end_told allowed s t kept refused.Kept e h tells =
-    subst_both (λ k at. EndRefused allowed k at s t) (sym tells.0) (sym tells.1) h
+-- the error of the call reports why its step was refused
+pub end_reported : (allowed : ReadErrorCode → Bool) (s t : Input) (kept : ReadError) (r : Refused) (e : Error) → EndStops allowed s t kept (Err r) → IsErrorOf kept r e → EndTakes allowed s t (Err e)
+end_reported allowed s t kept refused.OutOfMemory e h reports = absurd h
+end_reported allowed s t kept refused.Kept e h reports =
+    subst_both (λ k at. EndRefused allowed k at s t) (sym reports.0) (sym reports.1) h

@@ -12,7 +12,7 @@ use Rattle.cbor_read.specs.Source.{Input, TookKept, TookSome, Stays, RefusedInto
 use Rattle.cbor_read.proofs.facts.Sources.{kept_some}
 use Rattle.cbor_decode.specs.declared.refusal.Refused.{Refused}
 use Rattle.cbor_decode.specs.declared.refusal.Refused.TheVariants as refused
-use Rattle.cbor_decode.specs.Gives.{FailsAs, FailsBy, Limits, limits, Step, Reports, Stops, TellsWhy, Stopped, IsAt, end_at}
+use Rattle.cbor_decode.specs.Gives.{FailsAs, FailsBy, Limits, limits, Step, ReportsIo, Stops, ReportsWhy, Stopped, IsAt, end_at}
 use Rattle.cbor_decode.specs.Heads.{first_at, end_of, end_code}
 use Rattle.cbor_decode.specs.declared.cursor.Collection.{Collection}
 use Rattle.cbor_decode.specs.declared.cursor.Collection.TheVariants.{Array, Map}
@@ -57,24 +57,24 @@ end_step allowed s t o P holds e h =
     let step = none_step s t none.0.bytes none.0.count none.0.room in
     record {
       took = step.took;
-      told = λ bs tells.
-          let got = step.told bs tells in
-          let empty = at_end s bs tells none.1 in
-          record { rest = got.rest; tells = got.tells; total = got.total; holds = subst (λ (x : List ℕ). P (limits s bs) bs x) got.holds (subst (λ (x : List ℕ). P (limits s bs) x x) (sym empty) (holds (limits s bs))) };
+      reported = λ bs reports.
+          let got = step.reported bs reports in
+          let empty = at_end s bs reports none.1 in
+          record { rest = got.rest; reports = got.reports; total = got.total; holds = subst (λ (x : List ℕ). P (limits s bs) bs x) got.holds (subst (λ (x : List ℕ). P (limits s bs) x x) (sym empty) (holds (limits s bs))) };
     }
 
 -- ---- refusals
 
--- what is kept tells of a reading
-pub kept_tells : {A : Type 0} (allowed : ReadErrorCode → Bool) (s : Input) (read : Limits → List ℕ → Reads A) (kept : ReadError) (r : Refused) (P : ReadError → Type 0)
-    → ((e : ReadError) → P e → Stops allowed read s e) → r ≡ refused.Kept → P kept → TellsWhy allowed read s kept r
-kept_tells allowed s read kept refused.OutOfMemory P on is h = absurd cc
-kept_tells allowed s read kept refused.Kept P on is h = on kept h
+-- what is kept reports of a reading
+pub kept_reports : {A : Type 0} (allowed : ReadErrorCode → Bool) (s : Input) (read : Limits → List ℕ → Reads A) (kept : ReadError) (r : Refused) (P : ReadError → Type 0)
+    → ((e : ReadError) → P e → Stops allowed read s e) → r ≡ refused.Kept → P kept → ReportsWhy allowed read s kept r
+kept_reports allowed s read kept refused.OutOfMemory P on is h = absurd cc
+kept_reports allowed s read kept refused.Kept P on is h = on kept h
 
 -- what is kept stops a reading
 pub kept_stops : {A : Type 0} {t : Input} (allowed : ReadErrorCode → Bool) (s : Input) (read : Limits → List ℕ → Reads A) (kept : ReadError) (r : Refused) (P : ReadError → Type 0)
     → ((e : ReadError) → P e → Stops allowed read s e) → TookSome s t → r ≡ refused.Kept → P kept → Stopped allowed read s t kept r
-kept_stops allowed s read kept r P on took is keeps = record { took = took; told = kept_tells allowed s read kept r P on is keeps }
+kept_stops allowed s read kept r P on took is keeps = record { took = took; reported = kept_reports allowed s read kept r P on is keeps }
 
 -- so does a refusal of the source that is kept
 pub source_stops : {A : Type 0} {t : Input} (allowed : ReadErrorCode → Bool) (s : Input) (read : Limits → List ℕ → Reads A) (kept : ReadError) (r : Refused) (e : ReadError)
@@ -87,19 +87,19 @@ next_stops allowed s t read kept r e is keeps h = source_stops allowed s read ke
 
 -- a fault at the end of input
 pub end_stops : {A : Type 0} (allowed : ReadErrorCode → Bool) (s t : Input) (o : Option ℕ) (read : Limits → List ℕ → Reads A) (kept : ReadError) (r : Refused) (k : ReadErrorCode) (w : Refusal)
-    → ((offset end : ℕ) (r : Reads A) → FailsAs w end offset r → FailsBy (Reports allowed) (error_code k) end offset r)
+    → ((offset end : ℕ) (r : Reads A) → FailsAs w end offset r → FailsBy (ReportsIo allowed) (error_code k) end offset r)
     → ((l : Limits) → read l [] ≡ Err (record { why = w; left = 0 })) → r ≡ refused.Kept → IsAt k t.offset kept → o ≡ None → NextDoes allowed s t (Ok o) → Stopped allowed read s t kept r
-end_stops {A} allowed s t o read kept r k w tells_as stops is keeps n h = kept_stops allowed s read kept r (IsAt k t.offset) here (took_stays s t (next_none allowed s t o n h).0) is keeps
+end_stops {A} allowed s t o read kept r k w reports_as stops is keeps n h = kept_stops allowed s read kept r (IsAt k t.offset) here (took_stays s t (next_none allowed s t o n h).0) is keeps
   where
     here : (e : ReadError) → IsAt k t.offset e → Stops allowed read s e
     here e at = record {
-      told = λ bs tells.
+      reported = λ bs reports.
           let none = next_none allowed s t o n h in
-          let empty = at_end s bs tells none.1 in
+          let empty = at_end s bs reports none.1 in
           let r = read (limits s bs) bs in
           let same : r ≡ Err (record { why = w; left = 0 }) = ap (λ (x : List ℕ). read (limits s bs) x) empty ∙ stops (limits s bs) in
           let end : place e + 0 ≡ s.offset + length bs = omega (arith, at.1, none.0.count, ap length empty) in
-          subst (λ (c : ReadErrorCode). FailsBy (Reports allowed) (error_code c) (s.offset + length bs) (place e) r) (sym at.0) (tells_as (place e) (s.offset + length bs) r (0, end, same));
+          subst (λ (c : ReadErrorCode). FailsBy (ReportsIo allowed) (error_code c) (s.offset + length bs) (place e) r) (sym at.0) (reports_as (place e) (s.offset + length bs) r (0, end, same));
     }
 
 -- a byte after all that was wanted
@@ -109,42 +109,42 @@ trailing_stops allowed s t o b kept r is keeps some h = kept_stops allowed s (λ
   where
     here : (e : ReadError) → IsAt reading.TrailingData t.offset e → Stops allowed (λ l. end_at) s e
     here e at = record {
-      told = λ bs tells.
+      reported = λ bs reports.
           let step = next_step allowed s t o b (λ l bs rest. bs ≡ b ∷ rest) (λ l rest. refl) some h in
-          let got = step.told bs tells in
+          let got = step.reported bs reports in
           let end : place e + length got.rest ≡ s.offset + length bs = omega (arith, at.1, got.total) in
           let behind : end_at bs ≡ Err (record { why = trailing_data; left = length got.rest }) = ap end_at got.holds in
-          subst (λ (c : ReadErrorCode). FailsBy (Reports allowed) (error_code c) (s.offset + length bs) (place e) (end_at bs)) (sym at.0) (length got.rest, end, behind);
+          subst (λ (c : ReadErrorCode). FailsBy (ReportsIo allowed) (error_code c) (s.offset + length bs) (place e) (end_at bs)) (sym at.0) (length got.rest, end, behind);
     }
 
 -- a fault before the bytes to come
 pub fault_stops : {A : Type 0} (allowed : ReadErrorCode → Bool) (s : Input) (read : Limits → List ℕ → Reads A) (kept : ReadError) (r : Refused) (k : ReadErrorCode) (w : Refusal)
-    → ((offset end : ℕ) (r : Reads A) → FailsAs w end offset r → FailsBy (Reports allowed) (error_code k) end offset r)
+    → ((offset end : ℕ) (r : Reads A) → FailsAs w end offset r → FailsBy (ReportsIo allowed) (error_code k) end offset r)
     → ((l : Limits) (bs : List ℕ) → read l bs ≡ Err (record { why = w; left = length bs })) → r ≡ refused.Kept → IsAt k s.offset kept → Stopped allowed read s s kept r
-fault_stops {A} allowed s read kept r k w tells_as stops is keeps = kept_stops allowed s read kept r (IsAt k s.offset) here (took_none s) is keeps
+fault_stops {A} allowed s read kept r k w reports_as stops is keeps = kept_stops allowed s read kept r (IsAt k s.offset) here (took_none s) is keeps
   where
     here : (e : ReadError) → IsAt k s.offset e → Stops allowed read s e
     here e at = record {
-      told = λ bs tells.
+      reported = λ bs reports.
           let r = read (limits s bs) bs in
           let end : place e + length bs ≡ s.offset + length bs = omega (arith, at.1) in
-          subst (λ (c : ReadErrorCode). FailsBy (Reports allowed) (error_code c) (s.offset + length bs) (place e) r) (sym at.0) (tells_as (place e) (s.offset + length bs) r (length bs, end, stops (limits s bs) bs));
+          subst (λ (c : ReadErrorCode). FailsBy (ReportsIo allowed) (error_code c) (s.offset + length bs) (place e) r) (sym at.0) (reports_as (place e) (s.offset + length bs) r (length bs, end, stops (limits s bs) bs));
     }
 
 -- a fault before the byte that was taken last, after a step of which P holds
 pub first_stops : {A : Type 0} (allowed : ReadErrorCode → Bool) (s t : Input) (read : Limits → List ℕ → Reads A) (kept : ReadError) (r : Refused) (k : ReadErrorCode) (w : Refusal)
-    → ((offset end : ℕ) (r : Reads A) → FailsAs w end offset r → FailsBy (Reports allowed) (error_code k) end offset r)
+    → ((offset end : ℕ) (r : Reads A) → FailsAs w end offset r → FailsBy (ReportsIo allowed) (error_code k) end offset r)
     → (P : Limits → List ℕ → List ℕ → Type 0) → ((l : Limits) (bs mid : List ℕ) → P l bs mid → read l bs ≡ Err (record { why = w; left = suc (length mid) }))
     → Step s t P → r ≡ refused.Kept → (why kept ≡ k) × (place kept + 1 ≡ t.offset) → Stopped allowed read s t kept r
-first_stops {A} allowed s t read kept r k w tells_as P stops step is keeps = kept_stops allowed s read kept r (λ e. (why e ≡ k) × (place e + 1 ≡ t.offset)) here step.took is keeps
+first_stops {A} allowed s t read kept r k w reports_as P stops step is keeps = kept_stops allowed s read kept r (λ e. (why e ≡ k) × (place e + 1 ≡ t.offset)) here step.took is keeps
   where
     here : (e : ReadError) → (why e ≡ k) × (place e + 1 ≡ t.offset) → Stops allowed read s e
     here e at = record {
-      told = λ bs tells.
-          let got = step.told bs tells in
+      reported = λ bs reports.
+          let got = step.reported bs reports in
           let r = read (limits s bs) bs in
           let end : place e + suc (length got.rest) ≡ s.offset + length bs = omega (arith, at.1, got.total) in
-          subst (λ (c : ReadErrorCode). FailsBy (Reports allowed) (error_code c) (s.offset + length bs) (place e) r) (sym at.0) (tells_as (place e) (s.offset + length bs) r (suc (length got.rest), end, stops (limits s bs) bs got.rest got.holds));
+          subst (λ (c : ReadErrorCode). FailsBy (ReportsIo allowed) (error_code c) (s.offset + length bs) (place e) r) (sym at.0) (reports_as (place e) (s.offset + length bs) r (suc (length got.rest), end, stops (limits s bs) bs got.rest got.holds));
     }
 
 -- ---- numbers and strings
@@ -160,7 +160,7 @@ number_stops allowed s t w kept r is h = kept_stops allowed s (λ l. number_at w
 pub bytes_stop : (allowed : ReadErrorCode → Bool) (s t : Input) (n : ℕ) (kept : ReadError) (r : Refused) (e : ReadError) → r ≡ refused.Kept → kept ≡ e → RefusedInto (or_memory allowed) s t n e → Stopped allowed (λ l. bytes_at n) s t kept r
 bytes_stop allowed s t n kept r e is keeps h =
     let stops = refused_stops (or_memory allowed) s t n e (λ l. bytes_at n) (λ l bs short. rw (lt-ltb (length bs) n short) refl) h.room h.refused in
-    source_stops allowed s (λ l. bytes_at n) kept r e is keeps h.refused.moved (record { told = stops.told })
+    source_stops allowed s (λ l. bytes_at n) kept r e is keeps h.refused.moved (record { reported = stops.reported })
 
 -- ---- the next part
 
@@ -179,14 +179,14 @@ last w b rest is = rw is refl
 pub last_step : (allowed : ReadErrorCode → Bool) (s t : Input) (o : Option ℕ) (b : ℕ) (w : Refusal) → b ≡ 255 → o ≡ Some b → NextDoes allowed s t (Ok o) → Step s t (λ l bs rest. first_at w to_break bs ≡ Ok (None, rest))
 last_step allowed s t o b w is = next_step allowed s t o b (λ l bs rest. first_at w to_break bs ≡ Ok (None, rest)) (λ l rest. last w b rest is)
 
--- the code tells the fault
-pub tells_end : {A : Type 0} (D : Type 0) (of : Collection) (at end : ℕ) (r : Reads A) → FailsAs (end_of of) end at r → FailsBy D (error_code (end_code of)) end at r
-tells_end D Array at end r h = h
-tells_end D Map at end r h = h
+-- the code reports the fault
+pub reports_end : {A : Type 0} (D : Type 0) (of : Collection) (at end : ℕ) (r : Reads A) → FailsAs (end_of of) end at r → FailsBy D (error_code (end_code of)) end at r
+reports_end D Array at end r h = h
+reports_end D Map at end r h = h
 
 -- no break came, nor another part
 pub no_break : (allowed : ReadErrorCode → Bool) (s t : Input) (o : Option ℕ) (of : Collection) (w : Refusal) (k : ReadErrorCode) (kept : ReadError) (r : Refused)
     → k ≡ end_code of → w ≡ end_of of → r ≡ refused.Kept → IsAt k t.offset kept → o ≡ None → NextDoes allowed s t (Ok o) → Stopped allowed (λ l. first_at w to_break) s t kept r
 unfolding next_at
 no_break allowed s t o of w k kept r is ends refused keeps none h =
-    end_stops allowed s t o (λ l. first_at w to_break) kept r k w (λ at end r h. rw is (tells_end _ of at end r (subst (λ (v : Refusal). FailsAs v end at r) ends h))) (λ l. refl) refused keeps none h
+    end_stops allowed s t o (λ l. first_at w to_break) kept r k w (λ at end r h. rw is (reports_end _ of at end r (subst (λ (v : Refusal). FailsAs v end at r) ends h))) (λ l. refl) refused keeps none h

@@ -13,7 +13,7 @@ use Rattle.cbor_io.specs.ReadError.{why, place, error_code}
 use Rattle.cbor_io.specs.declared.read_error.ReadError.{ReadError}
 use Rattle.cbor_io.specs.declared.read_error.ReadErrorCode.{ReadErrorCode}
 use Rattle.cbor_io.specs.declared.read_error.ReadErrorCode.TheVariants as reading
-use Rattle.cbor_decode.specs.Gives.{FailsBy, Limits, limits, Step, Reports, Stops}
+use Rattle.cbor_decode.specs.Gives.{FailsBy, Limits, limits, Step, ReportsIo, Stops}
 use Rattle.cbor_decode.specs.Strings.{content, ChunkStep}
 use Rattle.cbor_decode.proofs.Steps.{stops_then, taken_step, refused_stops}
 
@@ -103,12 +103,12 @@ module _ (allowed : ReadErrorCode → Bool) (major first n : ℕ) (s t u : Input
         buffer = h.buffered ∙ ap (λ (b : List ℕ). b ++ h.some) kept;
         step = record {
           took = some_then s t u number.took took.took;
-          told = λ bs tells.
-              let one = number.told bs tells in
-              let two = took.told one.rest one.tells in
+          reported = λ bs reports.
+              let one = number.reported bs reports in
+              let two = took.reported one.rest one.reports in
               record {
                 rest = two.rest;
-                tells = two.tells;
+                reports = two.reports;
                 total = two.total ∙ one.total;
                 holds = ap content (chunk_behind ex major first bs n one.rest is small one.holds ∙ ap (content_of_chunk ex (width_of (first % 32)) n) two.holds) ∙ content_read ex (width_of (first % 32)) n h.some two.rest h.len fits;
               };
@@ -119,16 +119,16 @@ module _ (allowed : ReadErrorCode → Bool) (major first n : ℕ) (s t u : Input
   pub chunk_refused : (e : ReadError) → RefusedToBuffer allowed t u n e → Stops allowed (λ l. read l (length s.buffer)) s e
   chunk_refused e h = elim (small_or (why e)) [
     | inl is_small ↦ record {
-      told = λ bs tells.
-          let one = number.told bs tells in
+      reported = λ bs reports.
+          let one = number.reported bs reports in
           let ex = λ (n : ℕ). exceeds_most s.room (length s.buffer + n) in
           let w = width_of (first % 32) in
           let small_is = h.small is_small in
           let room : MatchOption s.room ⊥ (λ most. most < length s.buffer + n) = subst (λ (o : Option ℕ). MatchOption o ⊥ (λ most. most < length s.buffer + n)) number.took.room (subst (λ (b : List ℕ). MatchOption t.room ⊥ (λ most. most < length b + n)) kept small_is.2.0) in
           let same : chunk_at ex major first bs ≡ content_of_chunk ex w n one.rest = chunk_behind ex major first bs n one.rest is small one.holds in
-          let stops = same ∙ content_too_long ex w n one.rest (enough_there t.to_come one.rest n one.tells.is small_is.2.1) (too_long s.room (length s.buffer + n) room) in
+          let stops = same ∙ content_too_long ex w n one.rest (enough_there t.to_come one.rest n one.reports.is small_is.2.1) (too_long s.room (length s.buffer + n) room) in
           let at : place e + length one.rest ≡ s.offset + length bs = omega (arith, small_is.1, one.total) in
-          subst (λ (k : ReadErrorCode). FailsBy (Reports allowed) (error_code k) (s.offset + length bs) (place e) (read (limits s bs) (length s.buffer) bs)) (sym is_small) (length one.rest, at, stops);
+          subst (λ (k : ReadErrorCode). FailsBy (ReportsIo allowed) (error_code k) (s.offset + length bs) (place e) (read (limits s bs) (length s.buffer) bs)) (sym is_small) (length one.rest, at, stops);
     }
     | inr other ↦
         stops_then allowed (λ l. content_of_chunk (λ n. exceeds_most l.room (length s.buffer + n)) (width_of (first % 32)) n) (λ l. read l (length s.buffer)) s t e (λ l bs mid. number_behind (first % 32) bs ≡ Ok (n, mid))

@@ -14,10 +14,10 @@ use Rattle.cbor_decode.specs.declared.cursor.Collection.{Collection}
 use Rattle.cbor_decode.specs.declared.cursor.Remaining.{Remaining}
 use Rattle.cbor_decode.specs.declared.cursor.Remaining.TheVariants.{Counted}
 use Rattle.cbor_decode.specs.Cursor.{ended_at}
-use Rattle.cbor_decode.specs.Gives.{FailsBy, Step, Reports, Stops, Stopped, IsAt}
+use Rattle.cbor_decode.specs.Gives.{FailsBy, Step, ReportsIo, Stops, Stopped, IsAt}
 use Rattle.cbor_decode.specs.Heads.{end_of, end_code, remaining_of}
 use Rattle.cbor_decode.proofs.Steps.{step_same}
-use Rattle.cbor_decode.proofs.Calls.{next_took, next_step, kept_stops, end_stops, fault_stops, tells_end}
+use Rattle.cbor_decode.proofs.Calls.{next_took, next_step, kept_stops, end_stops, fault_stops, reports_end}
 
 -- ---- a declared count
 
@@ -57,15 +57,15 @@ other_stops allowed s t o b w kept r other is keeps some h = kept_stops allowed 
   where
     here : (e : ReadError) → IsAt reading.TrailingData t.offset e → Stops allowed (λ l. ended_at w to_break) s e
     here e at = record {
-      told = λ bs tells.
+      reported = λ bs reports.
           let step = next_step allowed s t o b (λ l bs rest. bs ≡ b ∷ rest) (λ l rest. refl) some h in
-          let got = step.told bs tells in
+          let got = step.reported bs reports in
           let end : place e + length got.rest ≡ s.offset + length bs = omega (arith, at.1, got.total) in
-          subst (λ (c : ReadErrorCode). FailsBy (Reports allowed) (error_code c) (s.offset + length bs) (place e) (ended_at w to_break bs)) (sym at.0) (length got.rest, end, other_here w b bs got.rest other got.holds);
+          subst (λ (c : ReadErrorCode). FailsBy (ReportsIo allowed) (error_code c) (s.offset + length bs) (place e) (ended_at w to_break bs)) (sym at.0) (length got.rest, end, other_here w b bs got.rest other got.holds);
     }
 
 pub no_break_stops : (allowed : ReadErrorCode → Bool) (s t : Input) (o : Option ℕ) (of : Collection) (k : ReadErrorCode) (kept : ReadError) (r : Refused)
     → k ≡ end_code of → r ≡ refused.Kept → IsAt k t.offset kept → o ≡ None → NextDoes allowed s t (Ok o) → Stopped allowed (λ l. ended_at (end_of of) to_break) s t kept r
 unfolding ended_at
 no_break_stops allowed s t o of k kept r is refused keeps none h =
-    end_stops allowed s t o (λ l. ended_at (end_of of) to_break) kept r k (end_of of) (λ at end r h. rw is (tells_end _ of at end r h)) (λ l. refl) refused keeps none h
+    end_stops allowed s t o (λ l. ended_at (end_of of) to_break) kept r k (end_of of) (λ at end r h. rw is (reports_end _ of at end r h)) (λ l. refl) refused keeps none h

@@ -1,4 +1,4 @@
--- The fault of the reference reader that an error tells is the first refusal.
+-- The fault of the reference reader that an error reports is the first refusal.
 use Rattle.std.proofs.Common.{◌≡◌, ◌⊎◌, ℕ, ◌+◌, ◌-◌, List, length, Option, Some, None, Result, refl, subst, sym, ap}
 use Rattle.std.proofs.Common.{◌∙◌, arith, inl, inr}
 use Rattle.std.specs.Prelude.{⊤}
@@ -19,9 +19,9 @@ use Rattle.cbor_io.specs.declared.error.Error.{Error}
 use Rattle.cbor_io.specs.Error.{code_of, offset_of, IsOutOfMemory}
 use Rattle.cbor_decode.specs.Gives.{FailsAs, FailsBy, Fails, FailsOrFaults, IsMemoryOrFault}
 use Rattle.cbor_decode.specs.Gives.{IsMemoryOrFaultBy, limits, values}
-use Rattle.cbor_decode.specs.FirstRefusal.{refusal_code, TellsFirst}
+use Rattle.cbor_decode.specs.FirstRefusal.{refusal_code, ReportsFirst}
 
--- memory ran out, or a device has a fault, or each fault that is told is met
+-- memory ran out, or a device has a fault, or each fault that is reported is met
 module _ {A : Type 0} (e : Error) (end : ℕ) (read : Result A Fault) (P : Type 0)
     (each : (why : Refusal) → code_of e ≡ refusal_code why → FailsAs why end (offset_of e) read → P) where
   by_code : (D : Type 0) (k : ErrorCode) → code_of e ≡ k → FailsBy D k end (offset_of e) read
@@ -44,9 +44,9 @@ module _ {A : Type 0} (e : Error) (end : ℕ) (read : Result A Fault) (P : Type 
 -- ---- a whole input
 
 module _ (room : Option ℕ) (bs : List ℕ) (fits : AreBytes bs) (e : Error) where
-  told : (why : Refusal) → code_of e ≡ refusal_code why
-      → FailsAs why (length bs) (offset_of e) (read_value_in room bs) → TellsFirst (limits_of room) bs e
-  told why is h = record {
+  reported : (why : Refusal) → code_of e ≡ refusal_code why
+      → FailsAs why (length bs) (offset_of e) (read_value_in room bs) → ReportsFirst (limits_of room) bs e
+  reported why is h = record {
     why = why;
     offset = offset_of e;
     code = is;
@@ -55,17 +55,17 @@ module _ (room : Option ℕ) (bs : List ℕ) (fits : AreBytes bs) (e : Error) wh
   }
 
   pub first_or_memory : Fails (length bs) e (read_value_in room bs)
-      → IsOutOfMemory e ⊎ TellsFirst (limits_of room) bs e
+      → IsOutOfMemory e ⊎ ReportsFirst (limits_of room) bs e
   first_or_memory h =
-      elim (by_code e (length bs) (read_value_in room bs) (TellsFirst (limits_of room) bs e) told ⊥ (code_of e) refl h) [
+      elim (by_code e (length bs) (read_value_in room bs) (ReportsFirst (limits_of room) bs e) reported ⊥ (code_of e) refl h) [
         | inl memory ↦ inl memory
         | inr others ↦ elim others [ inl device ↦ absurd device.0 | inr first ↦ inr first ]
       ]
 
   pub first_or_fault : FailsOrFaults (length bs) e (read_value_in room bs)
-      → IsMemoryOrFault e ⊎ TellsFirst (limits_of room) bs e
+      → IsMemoryOrFault e ⊎ ReportsFirst (limits_of room) bs e
   first_or_fault h =
-      elim (by_code e (length bs) (read_value_in room bs) (TellsFirst (limits_of room) bs e) told ⊤ (code_of e) refl h) [
+      elim (by_code e (length bs) (read_value_in room bs) (ReportsFirst (limits_of room) bs e) reported ⊤ (code_of e) refl h) [
         | inl memory ↦ inl (subst IsMemoryOrFaultBy (sym memory.0) tt, memory.1)
         | inr others ↦ elim others [ inl device ↦ inl device.1 | inr first ↦ inr first ]
       ]
@@ -77,10 +77,10 @@ abbrev pub item_limits : ℕ → Input → model.Limits
 item_limits levels s = record { start = s.offset; levels = levels; scratch = s.room }
 
 module _ (levels : ℕ) (s : Input) (bs : List ℕ) (fits : AreBytes bs) (e : Error) where
-  item_told : (why : Refusal) → code_of e ≡ refusal_code why
+  item_reported : (why : Refusal) → code_of e ≡ refusal_code why
       → FailsAs why (s.offset + length bs) (offset_of e) (item_at (values all_formats (limits s bs)) levels bs)
-      → TellsFirst (item_limits levels s) bs e
-  item_told why is h =
+      → ReportsFirst (item_limits levels s) bs e
+  item_reported why is h =
       let total = s.offset + length bs in
       let f : Fault = record { why = why; left = h.0 } in
       let got = refused_first s.room total levels bs f (omega arith) fits (rw h.2 refl) in
@@ -93,16 +93,16 @@ module _ (levels : ℕ) (s : Input) (bs : List ℕ) (fits : AreBytes bs) (e : Er
         first = subst (λ (n : ℕ). IsFirstRefusal (record { start = n; levels = levels; scratch = s.room }) bs why got.0) start got.2;
       }
 
-  -- memory ran out, or the device has a fault, or the error tells the item's first refusal
+  -- memory ran out, or the device has a fault, or the error reports the item's first refusal
   pub item_first : (D : Type 0) → FailsBy D (code_of e) (s.offset + length bs) (offset_of e) (item_at (values all_formats (limits s bs)) levels bs)
-      → IsOutOfMemory e ⊎ ((D × IsMemoryOrFault e) ⊎ TellsFirst (item_limits levels s) bs e)
+      → IsOutOfMemory e ⊎ ((D × IsMemoryOrFault e) ⊎ ReportsFirst (item_limits levels s) bs e)
   item_first D h =
-      by_code e (s.offset + length bs) (item_at (values all_formats (limits s bs)) levels bs) (TellsFirst (item_limits levels s) bs e) item_told D (code_of e) refl h
+      by_code e (s.offset + length bs) (item_at (values all_formats (limits s bs)) levels bs) (ReportsFirst (item_limits levels s) bs e) item_reported D (code_of e) refl h
 
 -- ---- two errors
 
--- errors that tell the first refusal of the same bytes tell the same
-pub same_error : (l : Limits) (bs : List ℕ) (e e' : Error) → TellsFirst l bs e → TellsFirst l bs e'
+-- errors that report the first refusal of the same bytes report the same
+pub same_error : (l : Limits) (bs : List ℕ) (e e' : Error) → ReportsFirst l bs e → ReportsFirst l bs e'
     → (code_of e ≡ code_of e') × (offset_of e ≡ offset_of e')
 same_error l bs e e' t t' =
     let one = one_first l bs t.why t'.why t.offset t'.offset t.first t'.first in (
@@ -110,9 +110,9 @@ same_error l bs e e' t t' =
       omega (arith, t.at, t'.at, one.1),
     )
 
--- with a scratch, that it is too small, or what is told without one
-pub without_scratch : (room : ℕ) (bs : List ℕ) (e : Error) → AreBytes bs → TellsFirst (limits_of (Some room)) bs e
-    → (code_of e ≡ code.ScratchTooSmall) ⊎ TellsFirst (limits_of None) bs e
+-- with a scratch, that it is too small, or what is reported without one
+pub without_scratch : (room : ℕ) (bs : List ℕ) (e : Error) → AreBytes bs → ReportsFirst (limits_of (Some room)) bs e
+    → (code_of e ≡ code.ScratchTooSmall) ⊎ ReportsFirst (limits_of None) bs e
 without_scratch room bs e fits t =
     elim (same_first room bs t.why t.offset fits t.first) [
       | inl small ↦ inl (t.code ∙ ap refusal_code small)

@@ -10,7 +10,7 @@ use Rattle.cbor_io.specs.ReadError.{why}
 use Rattle.cbor_io.specs.declared.read_error.ReadError.{ReadError}
 use Rattle.cbor_io.specs.declared.read_error.ReadErrorCode.TheVariants.{OutOfMemory}
 use Rattle.cbor_read.specs.Source.{Input}
-use Rattle.cbor_decode.specs.Gives.{Limits, limits, values, Step, TellsNoMemory}
+use Rattle.cbor_decode.specs.Gives.{Limits, limits, values, Step, ReportsNoMemory}
 use Rattle.cbor_decode.specs.Heads.{after_head, head_at}
 use Rattle.cbor_decode.specs.Memory.{MemoryOnly, IsStored, IsStoredHead, ReadsStored}
 use Rattle.cbor_decode.specs.declared.head.Head.{Head}
@@ -22,7 +22,7 @@ use Rattle.cbor_decode.proofs.Heads.{value_after}
 use Rattle.cbor_decode.proofs.Inside.{value_first}
 
 -- a refusal that isn't for lack of memory
-pub none_asked : (P : Type 0) (kept : ReadError) (r : Refused) → TellsNoMemory kept r → MemoryOnly P kept r
+pub none_asked : (P : Type 0) (kept : ReadError) (r : Refused) → ReportsNoMemory kept r → MemoryOnly P kept r
 none_asked P kept refused.OutOfMemory h = absurd h
 none_asked P kept refused.Kept h = λ is. absurd (h is)
 
@@ -96,9 +96,9 @@ after_stored f l inner head.Break bs h = absurd h
 pub head_stored : (f : Formats) (levels first : ℕ) (s t : Input) (h : Head) (kept : ReadError) (r : Refused) → Step s t (λ l bs rest. (w : HeadWidth) × (head_at first bs ≡ Ok ((w, h), rest)))
     → MemoryOnly (IsStoredHead h) kept r → MemoryOnly (ReadsStored (λ l. after_first (values f l) (inside (values f l) levels) first) s) kept r
 head_stored f levels first s t h kept r step =
-    asked_on (IsStoredHead h) (ReadsStored (λ l. after_first (values f l) (inside (values f l) levels) first) s) kept r (λ is bs tells v rest read.
+    asked_on (IsStoredHead h) (ReadsStored (λ l. after_first (values f l) (inside (values f l) levels) first) s) kept r (λ is bs reports v rest read.
     let l = limits s bs in
-    let one = step.told bs tells in
+    let one = step.reported bs reports in
     let same = value_after f l (inside (values f l) levels) first one.holds.0 h bs one.rest one.holds.1 in
     after_stored f l (inside (values f l) levels) h one.rest is v rest (sym same ∙ read))
 
@@ -106,9 +106,9 @@ head_stored f levels first s t h kept r step =
 pub first_stored : (f : Formats) (levels first : ℕ) (s t : Input) (kept : ReadError) (r : Refused) → Step s t (λ l bs mid. byte_at bs ≡ Ok (first, mid))
     → MemoryOnly (ReadsStored (λ l. after_first (values f l) (inside (values f l) levels) first) t) kept r → MemoryOnly (ReadsStored (λ l. item_at (values f l) levels) s) kept r
 first_stored f levels first s t kept r step =
-    asked_on (ReadsStored (λ l. after_first (values f l) (inside (values f l) levels) first) t) (ReadsStored (λ l. item_at (values f l) levels) s) kept r (λ stores bs tells v rest read.
+    asked_on (ReadsStored (λ l. after_first (values f l) (inside (values f l) levels) first) t) (ReadsStored (λ l. item_at (values f l) levels) s) kept r (λ stores bs reports v rest read.
     let l = limits s bs in
-    let one = step.told bs tells in
+    let one = step.reported bs reports in
     let same = same_limits s t bs one.rest step.took.room one.total in
     let here : after_first (values f l) (inside (values f l) levels) first one.rest ≡ Ok (v, rest) = sym (value_first f l levels first bs one.rest one.holds) ∙ read in
-    stores one.rest one.tells v rest (subst (λ (l : Limits). after_first (values f l) (inside (values f l) levels) first one.rest ≡ Ok (v, rest)) (sym same) here))
+    stores one.rest one.reports v rest (subst (λ (l : Limits). after_first (values f l) (inside (values f l) levels) first one.rest ≡ Ok (v, rest)) (sym same) here))

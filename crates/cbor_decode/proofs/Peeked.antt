@@ -12,7 +12,7 @@ use Rattle.cbor_decode.specs.declared.cursor.Collection.{Collection}
 use Rattle.cbor_decode.specs.Gives.{Limits, Step, Stopped, IsAt}
 use Rattle.cbor_decode.specs.Heads.{end_of, end_code}
 use Rattle.cbor_decode.proofs.Steps.{step_then, kept_step, none_step}
-use Rattle.cbor_decode.proofs.Calls.{end_stops, tells_end}
+use Rattle.cbor_decode.proofs.Calls.{end_stops, reports_end}
 
 -- what is said of the byte at the front
 abbrev Front : Input → Option ℕ → Type 0
@@ -60,10 +60,10 @@ part_stands s t o b w other some stays front =
     let step = stays_step s t stays in
     record {
       took = step.took;
-      told = λ bs tells.
-          let got = step.told bs tells in
-          let here = other_here w b bs other (front_is s o b bs some tells.is front) in
-          record { rest = got.rest; tells = got.tells; total = got.total; holds = here ∙ ap (λ (x : List ℕ). Ok (Some to_break, x)) got.holds };
+      reported = λ bs reports.
+          let got = step.reported bs reports in
+          let here = other_here w b bs other (front_is s o b bs some reports.is front) in
+          record { rest = got.rest; reports = got.reports; total = got.total; holds = here ∙ ap (λ (x : List ℕ). Ok (Some to_break, x)) got.holds };
     }
 
 -- ---- the end of input
@@ -75,4 +75,4 @@ pub no_part : (allowed : ReadErrorCode → Bool) (s t : Input) (o : Option ℕ) 
     → k ≡ end_code of → r ≡ refused.Kept → IsAt k t.offset kept → o ≡ None → Stays s t → Front s o → Stopped allowed (λ l. next_at (end_of of) to_break) s t kept r
 unfolding next_at
 no_part allowed s t o of k kept r is refused keeps none stays front =
-    end_stops allowed s t None (λ l. next_at (end_of of) to_break) kept r k (end_of of) (λ at end r h. rw is (tells_end _ of at end r h)) (λ l. refl) refused keeps refl (none_does allowed s t o none stays front)
+    end_stops allowed s t None (λ l. next_at (end_of of) to_break) kept r k (end_of of) (λ at end r h. rw is (reports_end _ of at end r h)) (λ l. refl) refused keeps refl (none_does allowed s t o none stays front)

@@ -44,16 +44,16 @@ leads_then has read has' read' has'' read'' l bs mid rest one two x after is =
 
 -- what holds of all that is read of the part holds of all that is read of the whole
 pub all_then : {A B : Type 0} (has : A → Type 0) (read : Limits → List ℕ → Reads A) (has' : B → Type 0) (read' : Limits → List ℕ → Reads B) (s t : Input) → Step s t (Leads has read has' read') → AllRead has' read' t → AllRead has read s
-all_then has read has' read' s t step all = λ bs tells x rest is.
-    let one = step.told bs tells in
+all_then has read has' read' s t step all = λ bs reports x rest is.
+    let one = step.reported bs reports in
     let same = same_limits s t bs one.rest step.took.room one.total in
     let w = one.holds x rest is in
-    w.on (all one.rest one.tells w.part w.rest (subst (λ (l : Limits). read' l one.rest ≡ Ok (w.part, w.rest)) (sym same) w.is))
+    w.on (all one.rest one.reports w.part w.rest (subst (λ (l : Limits). read' l one.rest ≡ Ok (w.part, w.rest)) (sym same) w.is))
 
 pub all_same : {A B : Type 0} (has : A → Type 0) (read : Limits → List ℕ → Reads A) (has' : B → Type 0) (read' : Limits → List ℕ → Reads B) (s : Input) → ((l : Limits) (bs : List ℕ) → Leads has read has' read' l bs bs) → AllRead has' read' s → AllRead has read s
-all_same has read has' read' s leads all = λ bs tells x rest is.
+all_same has read has' read' s leads all = λ bs reports x rest is.
     let w = leads (limits s bs) bs x rest is in
-    w.on (all bs tells w.part w.rest w.is)
+    w.on (all bs reports w.part w.rest w.is)
 
 -- ---- a part and others
 
@@ -310,13 +310,13 @@ module _ (f : Formats) (levels : ℕ) where
 
   -- by what follows its head
   pub first_has : (s t : Input) (b : ℕ) (h : Head) → Step s t (λ l bs rest. (w : HeadWidth) × (head_at b bs ≡ Ok ((w, h), rest))) → ((w : HeadWidth) → AllRead HasChunks (λ l. behind_head (raws f l) (inside (raws f l) levels) w h) t) → AllRead HasChunks (behind_first b) s
-  first_has s t b h step all = λ bs tells x rest is.
+  first_has s t b h step all = λ bs reports x rest is.
       let l = limits s bs in
-      let one = step.told bs tells in
+      let one = step.reported bs reports in
       let same = same_limits s t bs one.rest step.took.room one.total in
       let inner = inside (raws f l) levels in
       let here : behind_first b l bs ≡ behind_head (raws f l) inner one.holds.0 h one.rest = first_behind (raws f l) inner b bs ∙ rw one.holds.1 refl in
-      all one.holds.0 one.rest one.tells x rest (subst (λ (l : Limits). behind_head (raws f l) (inside (raws f l) levels) one.holds.0 h one.rest ≡ Ok (x, rest)) (sym same) (sym here ∙ is))
+      all one.holds.0 one.rest one.reports x rest (subst (λ (l : Limits). behind_head (raws f l) (inside (raws f l) levels) one.holds.0 h one.rest ≡ Ok (x, rest)) (sym same) (sym here ∙ is))
 
   -- whatever the head's width, what is read after it has a string in chunks
   abbrev pub AfterHead : Input → Head → Type 0
@@ -329,7 +329,7 @@ module _ (f : Formats) (levels : ℕ) where
 
   pub byte_chunks_has : (s : Input) (w : HeadWidth) → AllRead HasChunks (λ l. behind_head (raws f l) (inside (raws f l) levels) w (head.Bytes None)) s
   unfolding string_chunks_at
-  byte_chunks_has s w bs tells x rest is =
+  byte_chunks_has s w bs reports x rest is =
       let l = limits s bs in
       let one = bind_ok {B = Raw × List ℕ} (chunks_at (raws f l).exceeds 0 2 bs) (λ cs. Ok (raw.bytes_chunks cs.0, cs.1)) (x, rest) is in
       subst HasChunks (ap (λ (p : Raw × List ℕ). p.0) (ok_is (raw.bytes_chunks one.0.0, one.0.1) (x, rest) one.2)) tt
@@ -340,7 +340,7 @@ module _ (f : Formats) (levels : ℕ) where
 
   pub text_chunks_has : (s : Input) (w : HeadWidth) → AllRead HasChunks (λ l. behind_head (raws f l) (inside (raws f l) levels) w (head.Text None)) s
   unfolding text_chunks_at checked_text
-  text_chunks_has s w bs tells x rest is =
+  text_chunks_has s w bs reports x rest is =
       let l = limits s bs in
       let one = bind_ok {B = Raw × List ℕ} (chunks_at (raws f l).exceeds 0 3 bs) (λ cs. checked_text (raws f l) (raw.text_chunks cs.0) (joined cs.0) cs.1) (x, rest) is in
       subst HasChunks (checked_is ((raws f l).is_text (joined one.0.0)) (raw.text_chunks one.0.0) x one.0.1 rest _ one.2) tt

@@ -15,7 +15,7 @@ use Rattle.cbor_decode.specs.declared.refusal.Refused.TheVariants as refused
 use Rattle.cbor_model.specs.Head.{HeadWidth}
 use Rattle.cbor_decode.specs.declared.head.Head.{Head}
 use Rattle.cbor_decode.specs.Heads.{HeadGives}
-use Rattle.cbor_decode.specs.Gives.{FailsBy, Tells, Limits, limits, Advances, Step, Reports, Stops, TellsWhy, Stopped, Gives}
+use Rattle.cbor_decode.specs.Gives.{FailsBy, Reports, Limits, limits, Advances, Step, ReportsIo, Stops, ReportsWhy, Stopped, Gives}
 
 -- an error of one reading is one of another with the same fault
 pub passed_on : {A B : Type 0} (D : Type 0) (k : ErrorCode) (end offset : ℕ) (part : Result A Fault) (all : Result B Fault) → ((f : Fault) → part ≡ Err f → all ≡ Err f) → FailsBy D k end offset part → FailsBy D k end offset all
@@ -72,27 +72,27 @@ same_limits s t bs rest room total = ap₂ (λ (n : ℕ) (r : Option ℕ). recor
 pub step_same : (s : Input) (P : Limits → List ℕ → List ℕ → Type 0) → ((l : Limits) (bs : List ℕ) → P l bs bs) → Step s s P
 step_same s P holds = record {
   took = took_none s;
-  told = λ bs tells. record { rest = bs; tells = tells; total = refl; holds = holds (limits s bs) bs };
+  reported = λ bs reports. record { rest = bs; reports = reports; total = refl; holds = holds (limits s bs) bs };
 }
 
 pub step_map : (s t : Input) (P Q : Limits → List ℕ → List ℕ → Type 0) → ((l : Limits) (bs rest : List ℕ) → P l bs rest → Q l bs rest) → Step s t P → Step s t Q
 step_map s t P Q f h = record {
   took = h.took;
-  told = λ bs tells.
-      let one = h.told bs tells in
-      record { rest = one.rest; tells = one.tells; total = one.total; holds = f (limits s bs) bs one.rest one.holds };
+  reported = λ bs reports.
+      let one = h.reported bs reports in
+      record { rest = one.rest; reports = one.reports; total = one.total; holds = f (limits s bs) bs one.rest one.holds };
 }
 
 pub step_then : (s t u : Input) (P Q W : Limits → List ℕ → List ℕ → Type 0) → ((l : Limits) (bs mid rest : List ℕ) → P l bs mid → Q l mid rest → W l bs rest) → Step s t P → Step t u Q → Step s u W
 step_then s t u P Q W f h k = record {
   took = some_then s t u h.took k.took;
-  told = λ bs tells.
-      let one = h.told bs tells in
-      let two = k.told one.rest one.tells in
+  reported = λ bs reports.
+      let one = h.reported bs reports in
+      let two = k.reported one.rest one.reports in
       let same = same_limits s t bs one.rest h.took.room one.total in
       record {
         rest = two.rest;
-        tells = two.tells;
+        reports = two.reports;
         total = two.total ∙ one.total;
         holds = f (limits s bs) bs one.rest two.rest one.holds (subst (λ (l : Limits). Q l one.rest two.rest) same two.holds);
       };
@@ -102,12 +102,12 @@ step_then s t u P Q W f h k = record {
 pub stops_then : {A B : Type 0} (allowed : ReadErrorCode → Bool) (read : Limits → List ℕ → Reads A) (read' : Limits → List ℕ → Reads B) (s t : Input) (e : ReadError) (P : Limits → List ℕ → List ℕ → Type 0)
     → ((bs mid : List ℕ) (f : Fault) → P (limits s bs) bs mid → read (limits s bs) mid ≡ Err f → read' (limits s bs) bs ≡ Err f) → Step s t P → Stops allowed read t e → Stops allowed read' s e
 stops_then allowed read read' s t e P on h k = record {
-  told = λ bs tells.
-      let one = h.told bs tells in
+  reported = λ bs reports.
+      let one = h.reported bs reports in
       let same = same_limits s t bs one.rest h.took.room one.total in
-      let D = Reports allowed in
+      let D = ReportsIo allowed in
       let c = error_code (why e) in
-      let fails = k.told one.rest one.tells in
+      let fails = k.reported one.rest one.reports in
       let total = subst (λ (n : ℕ). FailsBy D c n (place e) (read (limits t one.rest) one.rest)) one.total fails in
       let here = subst (λ (l : Limits). FailsBy D c (s.offset + length bs) (place e) (read l one.rest)) same total in
       passed_on D c (s.offset + length bs) (place e) (read (limits s bs) one.rest) (read' (limits s bs) bs) (λ f. on bs one.rest f one.holds) here;
@@ -116,30 +116,30 @@ stops_then allowed read read' s t e P on h k = record {
 stops_at : {A B : Type 0} (allowed : ReadErrorCode → Bool) (read : Limits → List ℕ → Reads A) (read' : Limits → List ℕ → Reads B) (s : Input) (e : ReadError)
     → ((bs : List ℕ) (f : Fault) → read (limits s bs) bs ≡ Err f → read' (limits s bs) bs ≡ Err f) → Stops allowed read s e → Stops allowed read' s e
 stops_at allowed read read' s e on h = record {
-  told = λ bs tells.
-      passed_on (Reports allowed) (error_code (why e)) (s.offset + length bs) (place e) (read (limits s bs) bs) (read' (limits s bs) bs) (on bs) (h.told bs tells);
+  reported = λ bs reports.
+      passed_on (ReportsIo allowed) (error_code (why e)) (s.offset + length bs) (place e) (read (limits s bs) bs) (read' (limits s bs) bs) (on bs) (h.reported bs reports);
 }
 
 -- what is kept is kept on the way out
 kept_on : {A B : Type 0} (allowed : ReadErrorCode → Bool) (read : Limits → List ℕ → Reads A) (read' : Limits → List ℕ → Reads B) (s t : Input) (kept : ReadError) (r : Reason)
-    → ((e : ReadError) → Stops allowed read t e → Stops allowed read' s e) → TellsWhy allowed read t kept r → TellsWhy allowed read' s kept r
+    → ((e : ReadError) → Stops allowed read t e → Stops allowed read' s e) → ReportsWhy allowed read t kept r → ReportsWhy allowed read' s kept r
 kept_on allowed read read' s t kept refused.OutOfMemory on h = tt
 kept_on allowed read read' s t kept refused.Kept on h = on kept h
 
--- what is told of a part is told of the whole
+-- what is reported of a part is reported of the whole
 pub why_then : {A B : Type 0} (allowed : ReadErrorCode → Bool) (read : Limits → List ℕ → Reads A) (read' : Limits → List ℕ → Reads B) (s t : Input) (kept : ReadError) (r : Reason) (P : Limits → List ℕ → List ℕ → Type 0)
-    → ((l : Limits) (bs mid : List ℕ) (f : Fault) → P l bs mid → read l mid ≡ Err f → read' l bs ≡ Err f) → Step s t P → TellsWhy allowed read t kept r → TellsWhy allowed read' s kept r
+    → ((l : Limits) (bs mid : List ℕ) (f : Fault) → P l bs mid → read l mid ≡ Err f → read' l bs ≡ Err f) → Step s t P → ReportsWhy allowed read t kept r → ReportsWhy allowed read' s kept r
 why_then allowed read read' s t kept r P on step = kept_on allowed read read' s t kept r (λ e. stops_then allowed read read' s t e P (λ bs. on (limits s bs) bs) step)
 
 pub why_map : {A B : Type 0} (allowed : ReadErrorCode → Bool) (read : Limits → List ℕ → Reads A) (read' : Limits → List ℕ → Reads B) (s : Input) (kept : ReadError) (r : Reason)
-    → ((l : Limits) (bs : List ℕ) (f : Fault) → read l bs ≡ Err f → read' l bs ≡ Err f) → TellsWhy allowed read s kept r → TellsWhy allowed read' s kept r
+    → ((l : Limits) (bs : List ℕ) (f : Fault) → read l bs ≡ Err f → read' l bs ≡ Err f) → ReportsWhy allowed read s kept r → ReportsWhy allowed read' s kept r
 why_map allowed read read' s kept r on = kept_on allowed read read' s s kept r (λ e. stops_at allowed read read' s e (λ bs. on (limits s bs) bs))
 
 pub stopped_then : {A B : Type 0} {u : Input} (allowed : ReadErrorCode → Bool) (read : Limits → List ℕ → Reads A) (read' : Limits → List ℕ → Reads B) (s t : Input) (kept : ReadError) (r : Reason) (P : Limits → List ℕ → List ℕ → Type 0)
     → ((l : Limits) (bs mid : List ℕ) (f : Fault) → P l bs mid → read l mid ≡ Err f → read' l bs ≡ Err f) → Step s t P → Stopped allowed read t u kept r → Stopped allowed read' s u kept r
 stopped_then {u = u} allowed read read' s t kept r P on step h = record {
   took = some_then s t u step.took h.took;
-  told = why_then allowed read read' s t kept r P on step h.told;
+  reported = why_then allowed read read' s t kept r P on step h.reported;
 }
 
 -- readings that are compared at these limits alone
@@ -147,7 +147,7 @@ pub stopped_at : {A B : Type 0} {t : Input} (allowed : ReadErrorCode → Bool) (
     → ((bs : List ℕ) (f : Fault) → read (limits s bs) bs ≡ Err f → read' (limits s bs) bs ≡ Err f) → Stopped allowed read s t kept r → Stopped allowed read' s t kept r
 stopped_at allowed read read' s kept r on h = record {
   took = h.took;
-  told = kept_on allowed read read' s s kept r (λ e. stops_at allowed read read' s e on) h.told;
+  reported = kept_on allowed read read' s s kept r (λ e. stops_at allowed read read' s e on) h.reported;
 }
 
 -- the same at all limits
@@ -157,7 +157,7 @@ stopped_map allowed read read' s kept r on = stopped_at allowed read read' s kep
 
 -- memory ran out after some bytes
 pub memory_stops : {A : Type 0} {allowed : ReadErrorCode → Bool} {read : Limits → List ℕ → Reads A} {s t : Input} {kept : ReadError} (r : Reason) → r ≡ refused.OutOfMemory → TookSome s t → Stopped allowed read s t kept r
-memory_stops refused.OutOfMemory is took = record { took = took; told = tt }
+memory_stops refused.OutOfMemory is took = record { took = took; reported = tt }
 memory_stops refused.Kept is took = absurd cc
 
 -- a reading after a step, which is the rest of another at these limits
@@ -165,20 +165,20 @@ pub gives_at : {X A : Type 0} (allowed : ReadErrorCode → Bool) (view : X → A
     → ((bs mid : List ℕ) → P (limits s bs) bs mid → read' (limits s bs) bs ≡ read (limits s bs) mid) → Step s t P → Gives allowed view read t u kept r → Gives allowed view read' s u kept r
 gives_at allowed view read read' s t u kept (Ok x) P same h k = record {
   took = some_then s t u h.took k.took;
-  told = λ bs tells.
-      let one = h.told bs tells in
-      let two = k.told one.rest one.tells in
+  reported = λ bs reports.
+      let one = h.reported bs reports in
+      let two = k.reported one.rest one.reports in
       let limits_same = same_limits s t bs one.rest h.took.room one.total in
       record {
         rest = two.rest;
-        tells = two.tells;
+        reports = two.reports;
         total = two.total ∙ one.total;
         holds = same bs one.rest one.holds ∙ subst (λ (l : Limits). read l one.rest ≡ Ok (view x, two.rest)) limits_same two.holds;
       };
 }
 gives_at allowed view read read' s t u kept (Err r) P same h k = record {
   took = some_then s t u h.took k.took;
-  told = kept_on allowed read read' s t kept r (λ e. stops_then allowed read read' s t e P (λ bs mid f p is. same bs mid p ∙ is) h) k.told;
+  reported = kept_on allowed read read' s t kept r (λ e. stops_then allowed read read' s t e P (λ bs mid f p is. same bs mid p ∙ is) h) k.reported;
 }
 
 -- the same at all limits
@@ -200,7 +200,7 @@ gives_seen allowed view view' read read' s t kept (Err r) seen on h = stopped_ma
 
 -- ---- calls of a source
 
--- bytes were taken from a source that tells bs
+-- bytes were taken from a source that reports bs
 record Taken (b : Option (List ℕ)) (p bs : List ℕ) : Type 0 where
   rest : List ℕ
   is : b ≡ Some rest
@@ -218,10 +218,10 @@ taken (Some xs) (Some ys) p bs e h = record { rest = ys; is = refl; parts = some
 pub taken_step : (s t : Input) (p : List ℕ) → Consumes s.to_come t.to_come p → t.offset ≡ s.offset + length p → t.room ≡ s.room → Step s t (λ l bs rest. bs ≡ p ++ rest)
 taken_step s t p h count room = record {
   took = record { some = p; bytes = h; count = count; room = room };
-  told = λ bs tells.
-      let got = taken s.to_come t.to_come p bs tells.is h in
+  reported = λ bs reports.
+      let got = taken s.to_come t.to_come p bs reports.is h in
       let total : t.offset + length got.rest ≡ s.offset + length bs = omega (arith, count, ap length got.parts, length-append p got.rest) in
-      record { rest = got.rest; tells = record { is = got.is; short = omega (arith, total, tells.short) }; total = total; holds = got.parts };
+      record { rest = got.rest; reports = record { is = got.is; short = omega (arith, total, reports.short) }; total = total; holds = got.parts };
 }
 
 pub kept_step : (s t : Input) (p : List ℕ) → TookKept s t p → Step s t (λ l bs rest. bs ≡ p ++ rest)
@@ -235,48 +235,48 @@ none_step s t h count room =
 few : (s : Input) (n at : ℕ) (bs : List ℕ) → s.to_come ≡ Some bs → TooFew s n at → (length bs < n) × (at ≡ s.offset + length bs)
 few s n at bs is h = subst (λ (o : Option (List ℕ)). IfSome o (λ bs. (length bs < n) × (at ≡ s.offset + length bs))) is h
 
--- a source that tells fewer than 2^64 bytes isn't at its limit
-no_limit : (s t : Input) (at : ℕ) (bs : List ℕ) → Tells s bs → TookSome s t → AtLimit t at → ⊥
-no_limit s t at bs tells moved h =
-    let got = taken s.to_come t.to_come moved.some bs tells.is moved.bytes in
+-- a source that reports fewer than 2^64 bytes isn't at its limit
+no_limit : (s t : Input) (at : ℕ) (bs : List ℕ) → Reports s bs → TookSome s t → AtLimit t at → ⊥
+no_limit s t at bs reports moved h =
+    let got = taken s.to_come t.to_come moved.some bs reports.is moved.bytes in
     let more = subst (λ (o : Option (List ℕ)). IfSome o (λ bs. bs ≢ [])) got.is h.2 in
-    not_empty got.rest more (omega (arith, tells.short, moved.count, h.1, ap length got.parts, length-append moved.some got.rest))
+    not_empty got.rest more (omega (arith, reports.short, moved.count, h.1, ap length got.parts, length-append moved.some got.rest))
   where
     not_empty : (bs : List ℕ) → bs ≢ [] → length bs ≡ 0 → ⊥
     not_empty [] more none = more refl
     not_empty (b ∷ bs) more none = absurd (omega arith)
 
 -- how a call of a source is refused stops any reading, but for the end of input
-refused_by : {A : Type 0} (allowed : ReadErrorCode → Bool) (s t : Input) (n : ℕ) (k : ReadErrorCode) (at : ℕ) (read : Result A Fault) (bs : List ℕ) → Tells s bs → (length bs < n → read ≡ Err ended)
-    → allowed k ≡ true → IsOfSource k → k ≢ reading.ScratchTooSmall → (HasNoPlace k → at ≡ 0) → (k ≡ reading.EofWhileParsingValue → TooFew s n at) → (k ≡ reading.LengthOutOfRange → ⊥) → FailsBy (Reports allowed) (error_code k) (s.offset + length bs) at read
-refused_by allowed s t n (reading.Io fault) at read bs tells end ok kind room nowhere ends limit = ((fault, ok), nowhere tt)
-refused_by allowed s t n reading.ScratchTooSmall at read bs tells end ok kind room nowhere ends limit = absurd (room refl)
-refused_by allowed s t n reading.EofWhileParsingValue at read bs tells end ok kind room nowhere ends limit =
-    let h = few s n at bs tells.is (ends refl) in
+refused_by : {A : Type 0} (allowed : ReadErrorCode → Bool) (s t : Input) (n : ℕ) (k : ReadErrorCode) (at : ℕ) (read : Result A Fault) (bs : List ℕ) → Reports s bs → (length bs < n → read ≡ Err ended)
+    → allowed k ≡ true → IsOfSource k → k ≢ reading.ScratchTooSmall → (HasNoPlace k → at ≡ 0) → (k ≡ reading.EofWhileParsingValue → TooFew s n at) → (k ≡ reading.LengthOutOfRange → ⊥) → FailsBy (ReportsIo allowed) (error_code k) (s.offset + length bs) at read
+refused_by allowed s t n (reading.Io fault) at read bs reports end ok kind room nowhere ends limit = ((fault, ok), nowhere tt)
+refused_by allowed s t n reading.ScratchTooSmall at read bs reports end ok kind room nowhere ends limit = absurd (room refl)
+refused_by allowed s t n reading.EofWhileParsingValue at read bs reports end ok kind room nowhere ends limit =
+    let h = few s n at bs reports.is (ends refl) in
     (0, omega (arith, h.1), end h.0)
-refused_by allowed s t n reading.EofWhileParsingArray at read bs tells end ok kind room nowhere ends limit = absurd kind
-refused_by allowed s t n reading.EofWhileParsingMap at read bs tells end ok kind room nowhere ends limit = absurd kind
-refused_by allowed s t n reading.LengthOutOfRange at read bs tells end ok kind room nowhere ends limit = absurd (limit refl)
-refused_by allowed s t n reading.InvalidUtf8 at read bs tells end ok kind room nowhere ends limit = absurd kind
-refused_by allowed s t n reading.UnassignedCode at read bs tells end ok kind room nowhere ends limit = absurd kind
-refused_by allowed s t n reading.UnexpectedCode at read bs tells end ok kind room nowhere ends limit = absurd kind
-refused_by allowed s t n reading.TrailingData at read bs tells end ok kind room nowhere ends limit = absurd kind
-refused_by allowed s t n reading.RecursionLimitExceeded at read bs tells end ok kind room nowhere ends limit = absurd kind
-refused_by allowed s t n reading.WrongStructFormat at read bs tells end ok kind room nowhere ends limit = absurd kind
-refused_by allowed s t n reading.OutOfMemory at read bs tells end ok kind room nowhere ends limit = nowhere tt
+refused_by allowed s t n reading.EofWhileParsingArray at read bs reports end ok kind room nowhere ends limit = absurd kind
+refused_by allowed s t n reading.EofWhileParsingMap at read bs reports end ok kind room nowhere ends limit = absurd kind
+refused_by allowed s t n reading.LengthOutOfRange at read bs reports end ok kind room nowhere ends limit = absurd (limit refl)
+refused_by allowed s t n reading.InvalidUtf8 at read bs reports end ok kind room nowhere ends limit = absurd kind
+refused_by allowed s t n reading.UnassignedCode at read bs reports end ok kind room nowhere ends limit = absurd kind
+refused_by allowed s t n reading.UnexpectedCode at read bs reports end ok kind room nowhere ends limit = absurd kind
+refused_by allowed s t n reading.TrailingData at read bs reports end ok kind room nowhere ends limit = absurd kind
+refused_by allowed s t n reading.RecursionLimitExceeded at read bs reports end ok kind room nowhere ends limit = absurd kind
+refused_by allowed s t n reading.WrongStructFormat at read bs reports end ok kind room nowhere ends limit = absurd kind
+refused_by allowed s t n reading.OutOfMemory at read bs reports end ok kind room nowhere ends limit = nowhere tt
 
 pub refused_stops : {A : Type 0} (allowed : ReadErrorCode → Bool) (s t : Input) (n : ℕ) (e : ReadError) (read : Limits → List ℕ → Reads A) → ((l : Limits) (bs : List ℕ) → length bs < n → read l bs ≡ Err ended) → why e ≢ reading.ScratchTooSmall → Refused allowed s t n e → Stops allowed read s e
 refused_stops allowed s t n e read end room h = record {
-  told = λ bs tells.
-      refused_by allowed s t n (why e) (place e) (read (limits s bs) bs) bs tells (end (limits s bs) bs) h.code h.kind room h.nowhere h.ended (λ q. no_limit s t (place e) bs tells h.moved (h.limit q));
+  reported = λ bs reports.
+      refused_by allowed s t n (why e) (place e) (read (limits s bs) bs) bs reports (end (limits s bs) bs) h.code h.kind room h.nowhere h.ended (λ q. no_limit s t (place e) bs reports h.moved (h.limit q));
 }
 
 pub byte_refused : {A : Type 0} (allowed : ReadErrorCode → Bool) (s t : Input) (e : ReadError) (read : Limits → List ℕ → Reads A) → RefusedByte allowed s t e → Stops allowed read s e
 byte_refused allowed s t e read h = refused_stops allowed s t 0 e read (λ l bs short. absurd (omega arith)) h.room h.refused
 
 -- the end was met, where this reading stops
-pub at_end : (s : Input) (bs : List ℕ) → Tells s bs → IfSome s.to_come (λ bs. bs ≡ []) → bs ≡ []
-at_end s bs tells h = subst (λ (o : Option (List ℕ)). IfSome o (λ bs. bs ≡ [])) tells.is h
+pub at_end : (s : Input) (bs : List ℕ) → Reports s bs → IfSome s.to_come (λ bs. bs ≡ []) → bs ≡ []
+at_end s bs reports h = subst (λ (o : Option (List ℕ)). IfSome o (λ bs. bs ≡ [])) reports.is h
 
 -- a head that is read as another is
 pub head_map : (allowed : ReadErrorCode → Bool) (read read' : List ℕ → Reads (HeadWidth × Head)) (s t : Input) (kept : ReadError) (r : Result Head Reason)

@@ -20,7 +20,7 @@ pub record TookByte (s t : Input) (at : ℕ) : Type 0 where
   pub behind : at ≡ t.offset
 
 -- How the end wasn't found: a byte stands in its place; or nothing was taken, since the device has a
--- fault, or another byte is there that no offset counts, of a source that tells such a thing.
+-- fault, or another byte is there that no offset counts, of a source that reports such a thing.
 abbrev pub EndRefused : (ReadErrorCode → Bool) → ErrorCode → ℕ → Input → Input → Type 0
 EndRefused refusals TrailingData at s t = TookByte s t at
 EndRefused refusals (Io fault) at s t =

@@ -1,4 +1,4 @@
--- The refusal that an error tells, by the definitions.
+-- The refusal that an error reports, by the definitions.
 use Rattle.std.specs.Prelude.{◌≡◌, ◌+◌, ℕ, List}
 use Rattle.cbor_model.specs.Refusal.{Refusal, end_in_value, end_in_array, end_in_map}
 use Rattle.cbor_model.specs.Refusal.{length_out_of_range, invalid_utf8, unassigned_code}
@@ -31,9 +31,9 @@ refusal_code too_deep = RecursionLimitExceeded
 refusal_code scratch_too_small = ScratchTooSmall
 refusal_code wrong_struct_format = WrongStructFormat
 
--- The error tells the first refusal that the bytes allow within these limits: by its code, and at its
+-- The error reports the first refusal that the bytes allow within these limits: by its code, and at its
 -- offset in the input that they end.
-pub record TellsFirst (l : Limits) (bytes : List ℕ) (e : Error) : Type 0 where
+pub record ReportsFirst (l : Limits) (bytes : List ℕ) (e : Error) : Type 0 where
   pub why : Refusal
   pub offset : ℕ
   pub code : code_of e ≡ refusal_code why

@@ -40,7 +40,7 @@ abbrev pub FailsAs : {A : Type 0} → Refusal → ℕ → ℕ → Result A Fault
 FailsAs why end offset read =
     (left : ℕ) × (offset + left ≡ end) × (read ≡ Err (record { why = why; left = left }))
 
--- The code and the offset tell the fault; or that memory ran out, or a fault of the device, where
+-- The code and the offset report the fault; or that memory ran out, or a fault of the device, where
 -- there can be one.
 abbrev pub FailsBy : {A : Type 0} → Type 0 → ErrorCode → ℕ → ℕ → Result A Fault → Type 0
 FailsBy Device EofWhileParsingValue end offset read = FailsAs end_in_value end offset read
@@ -58,11 +58,11 @@ FailsBy Device (Io fault) end offset read = Device × (offset ≡ 0)
 FailsBy Device OutOfMemory end offset read = offset ≡ 0
 FailsBy Device _ end offset read = ⊥
 
--- The error tells the fault, or that memory ran out.
+-- The error reports the fault, or that memory ran out.
 abbrev pub Fails : {A : Type 0} → ℕ → Error → Result A Fault → Type 0
 Fails end e read = FailsBy ⊥ (code_of e) end (offset_of e) read
 
--- The error tells the fault, or that memory ran out, or a fault of the reader.
+-- The error reports the fault, or that memory ran out, or a fault of the reader.
 abbrev pub FailsOrFaults : {A : Type 0} → ℕ → Error → Result A Fault → Type 0
 FailsOrFaults end e read = FailsBy ⊤ (code_of e) end (offset_of e) read
 
@@ -84,16 +84,16 @@ IsScratchOrMemoryBy _ = ⊥
 abbrev pub IsScratchOrMemory : Error → Type 0
 IsScratchOrMemory e = IsScratchOrMemoryBy (code_of e)
 
--- A reader tells that these bytes are to come from it.
+-- A reader reports that these bytes are to come from it.
 pub record Gave (remaining : Option (List ℕ)) (bytes : List ℕ) : Type 0 where
-  pub told : remaining ≡ Some bytes
+  pub reported : remaining ≡ Some bytes
   pub are_bytes : AreBytes bytes
   pub short : length bytes < 2 ^ 64
 
 -- ---- sources
 
--- The bytes that a source tells, where its whole input is shorter than 2^64.
-pub record Tells (s : Input) (bs : List ℕ) : Type 0 where
+-- The bytes that a source reports, where its whole input is shorter than 2^64.
+pub record Reports (s : Input) (bs : List ℕ) : Type 0 where
   pub is : s.to_come ≡ Some bs
   pub short : s.offset + length bs < 2 ^ 64
 
@@ -109,10 +109,10 @@ limits s bs = record { total = s.offset + length bs; room = s.room }
 abbrev pub values : Formats → Limits → Reading Val Vals (Pairs → Pairs)
 values f l = values_of f l.total l.room
 
--- what a step from s, which tells bs, leaves in t
+-- what a step from s, which reports bs, leaves in t
 pub record Leaves (s t : Input) (bs : List ℕ) (P : List ℕ → Type 0) : Type 0 where
   pub rest : List ℕ
-  pub tells : Tells t rest
+  pub reports : Reports t rest
   pub total : t.offset + length rest ≡ s.offset + length bs
   pub holds : P rest
 
@@ -120,26 +120,26 @@ pub record Leaves (s t : Input) (bs : List ℕ) (P : List ℕ → Type 0) : Type
 -- after.
 pub record Step (s t : Input) (P : Limits → List ℕ → List ℕ → Type 0) : Type 0 where
   pub took : TookSome s t
-  pub told : (bs : List ℕ) → Tells s bs → Leaves s t bs (P (limits s bs) bs)
+  pub reported : (bs : List ℕ) → Reports s bs → Leaves s t bs (P (limits s bs) bs)
 
 -- whether a source can report a fault of a device
-abbrev pub Reports : (ReadErrorCode → Bool) → Type 0
-Reports refusals = (fault : _) × (refusals (reading.Io fault) ≡ true)
+abbrev pub ReportsIo : (ReadErrorCode → Bool) → Type 0
+ReportsIo refusals = (fault : _) × (refusals (reading.Io fault) ≡ true)
 
--- The error tells the fault of a reading from s.
+-- The error reports the fault of a reading from s.
 pub record Stops {A : Type 0} (refusals : ReadErrorCode → Bool) (read : Limits → List ℕ → Reads A) (s : Input) (e : ReadError) : Type 0 where
-  pub told : (bs : List ℕ) → Tells s bs → FailsBy (Reports refusals) (error_code (why e)) (s.offset + length bs) (place e) (read (limits s bs) bs)
+  pub reported : (bs : List ℕ) → Reports s bs → FailsBy (ReportsIo refusals) (error_code (why e)) (s.offset + length bs) (place e) (read (limits s bs) bs)
 
--- What the decoder keeps tells the fault of a reading from s; or memory ran out.
-abbrev pub TellsWhy : {A : Type 0} → (ReadErrorCode → Bool) → (Limits → List ℕ → Reads A) → Input
+-- What the decoder keeps reports the fault of a reading from s; or memory ran out.
+abbrev pub ReportsWhy : {A : Type 0} → (ReadErrorCode → Bool) → (Limits → List ℕ → Reads A) → Input
     → ReadError → Refused → Type 0
-TellsWhy refusals read s kept refused.OutOfMemory = ⊤
-TellsWhy refusals read s kept refused.Kept = Stops refusals read s kept
+ReportsWhy refusals read s kept refused.OutOfMemory = ⊤
+ReportsWhy refusals read s kept refused.Kept = Stops refusals read s kept
 
--- A step from s was refused, and left t: some bytes were taken, and it is told why.
+-- A step from s was refused, and left t: some bytes were taken, and what is kept says why.
 pub record Stopped {A : Type 0} (refusals : ReadErrorCode → Bool) (read : Limits → List ℕ → Reads A) (s t : Input) (kept : ReadError) (r : Refused) : Type 0 where
   pub took : TookSome s t
-  pub told : TellsWhy refusals read s kept r
+  pub reported : ReportsWhy refusals read s kept r
 
 -- What was read, seen by view, and the bytes to come after it; or why not, and some bytes were taken.
 abbrev pub Gives : {X A : Type 0} → (ReadErrorCode → Bool) → (X → A) → (Limits → List ℕ → Reads A)
@@ -152,14 +152,14 @@ abbrev pub IsAt : ReadErrorCode → ℕ → ReadError → Type 0
 IsAt code offset e = (why e ≡ code) × (place e ≡ offset)
 
 -- What is kept of a refusal isn't the key rule's: that a key may not begin as it does.
-abbrev pub TellsNoKey : ReadError → Refused → Type 0
-TellsNoKey kept refused.OutOfMemory = ⊤
-TellsNoKey kept refused.Kept = why kept ≢ reading.WrongStructFormat
+abbrev pub ReportsNoKey : ReadError → Refused → Type 0
+ReportsNoKey kept refused.OutOfMemory = ⊤
+ReportsNoKey kept refused.Kept = why kept ≢ reading.WrongStructFormat
 
 -- What is kept of a refusal isn't that an allocation failed.
-abbrev pub TellsNoMemory : ReadError → Refused → Type 0
-TellsNoMemory kept refused.OutOfMemory = ⊥
-TellsNoMemory kept refused.Kept = why kept ≢ reading.OutOfMemory
+abbrev pub ReportsNoMemory : ReadError → Refused → Type 0
+ReportsNoMemory kept refused.OutOfMemory = ⊥
+ReportsNoMemory kept refused.Kept = why kept ≢ reading.OutOfMemory
 
 -- the error that a call makes of a refusal
 abbrev pub IsErrorOf : ReadError → Refused → Error → Type 0
@@ -167,14 +167,14 @@ IsErrorOf kept refused.OutOfMemory e = IsOutOfMemory e
 IsErrorOf kept refused.Kept e =
     (code_of e ≡ error_code (why kept)) × (offset_of e ≡ place kept)
 
--- none of the codes that tell a wrong form: of an array, an enum, a struct or a spelling
-abbrev pub TellsNoForm : ErrorCode → Type 0
-TellsNoForm ArrayTooShort = ⊥
-TellsNoForm ArrayTooLong = ⊥
-TellsNoForm WrongEnumFormat = ⊥
-TellsNoForm WrongStructFormat = ⊥
-TellsNoForm NotCanonical = ⊥
-TellsNoForm code = ⊤
+-- none of the codes that report a wrong form: of an array, an enum, a struct or a spelling
+abbrev pub ReportsNoForm : ErrorCode → Type 0
+ReportsNoForm ArrayTooShort = ⊥
+ReportsNoForm ArrayTooLong = ⊥
+ReportsNoForm WrongEnumFormat = ⊥
+ReportsNoForm WrongStructFormat = ⊥
+ReportsNoForm NotCanonical = ⊥
+ReportsNoForm code = ⊤
 
 -- nothing is to come
 abbrev pub end_at : List ℕ → Reads (Unit {0})
@@ -188,8 +188,8 @@ whole_at f levels l bs =
 
 -- That nothing is to come; or why not.
 abbrev pub Ends : (ReadErrorCode → Bool) → Input → Result (Unit {0}) Error → Type 0
-Ends refusals s (Ok u) = (bs : List ℕ) → Tells s bs → bs ≡ []
-Ends refusals s (Err e) = (bs : List ℕ) → Tells s bs → FailsBy (Reports refusals) (code_of e) (s.offset + length bs) (offset_of e) (end_at bs)
+Ends refusals s (Ok u) = (bs : List ℕ) → Reports s bs → bs ≡ []
+Ends refusals s (Err e) = (bs : List ℕ) → Reports s bs → FailsBy (ReportsIo refusals) (code_of e) (s.offset + length bs) (offset_of e) (end_at bs)
 
 -- a byte at the least was taken
 pub record Advances (s t : Input) : Type 0 where

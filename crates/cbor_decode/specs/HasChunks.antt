@@ -8,7 +8,7 @@ use Rattle.cbor_model.specs.Reader.{Reads, Reading}
 use Rattle.cbor_io.specs.declared.read_error.ReadErrorCode.{ReadErrorCode}
 use Rattle.cbor_read.specs.Source.{Input, Lends, Asks, asks_for}
 use Rattle.cbor_decode.specs.Decoder.{formats_of}
-use Rattle.cbor_decode.specs.Gives.{Limits, limits, Tells}
+use Rattle.cbor_decode.specs.Gives.{Limits, limits, Reports}
 use Rattle.cbor_decode.specs.declared.formats.Formats.{Formats}
 
 -- an item that has a string in chunks, at any level
@@ -42,7 +42,7 @@ raws_by f l = raws (formats_of f) l
 
 -- of all that is read from s, P holds
 abbrev pub AllRead : {A : Type 0} → (A → Type 0) → (Limits → List ℕ → Reads A) → Input → Type 0
-AllRead {A = A} P read s = (bs : List ℕ) → Tells s bs → (x : A) (rest : List ℕ) → read (limits s bs) bs ≡ Ok (x, rest) → P x
+AllRead {A = A} P read s = (bs : List ℕ) → Reports s bs → (x : A) (rest : List ℕ) → read (limits s bs) bs ≡ Ok (x, rest) → P x
 
 -- ---- memory
 

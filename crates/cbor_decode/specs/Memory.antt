@@ -7,7 +7,7 @@ use Rattle.cbor_io.specs.declared.read_error.ReadError.{ReadError}
 use Rattle.cbor_io.specs.declared.read_error.ReadErrorCode.{ReadErrorCode}
 use Rattle.cbor_io.specs.declared.read_error.ReadErrorCode.TheVariants as reading
 use Rattle.cbor_read.specs.Source.{Input, Lends, asks_for}
-use Rattle.cbor_decode.specs.Gives.{Limits, limits, Tells}
+use Rattle.cbor_decode.specs.Gives.{Limits, limits, Reports}
 use Rattle.cbor_decode.specs.declared.head.Head.{Head}
 use Rattle.cbor_decode.specs.declared.head.Head.TheVariants as head
 use Rattle.cbor_decode.specs.declared.refusal.Refused.{Refused}
@@ -46,4 +46,4 @@ IsStoredHead _ = ⊥
 
 -- a value that is read from s is kept in memory of its own
 abbrev pub ReadsStored : (Limits → List ℕ → Reads Val) → Input → Type 0
-ReadsStored read s = (bs : List ℕ) → Tells s bs → (v : Val) (rest : List ℕ) → read (limits s bs) bs ≡ Ok (v, rest) → IsStored v
+ReadsStored read s = (bs : List ℕ) → Reports s bs → (v : Val) (rest : List ℕ) → read (limits s bs) bs ≡ Ok (v, rest) → IsStored v

@@ -1,4 +1,4 @@
-//! Heads of numbers and bools that are whole at hand: they are told by the bytes themselves, without
+//! Heads of numbers and bools that are whole at hand: they are known by the bytes themselves, without
 //! a refusal. All others are for [`Decoder::head`].
 
 ghost use Rattle.std.specs.Prelude.{◌≡◌, ◌≤◌, ◌++◌, List, ℕ, length, take, MatchOption, IfSome};

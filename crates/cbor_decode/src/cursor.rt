@@ -2,14 +2,14 @@
 
 ghost use Rattle.std.specs.Prelude.{◌≡◌, ◌<◌, IfErr, IfOk, IfSome};
 ghost use Rattle.cbor_decode.specs.Decoder.{SameSettings};
-ghost use Rattle.cbor_decode.specs.Gives.{TellsNoKey, TellsNoMemory};
+ghost use Rattle.cbor_decode.specs.Gives.{ReportsNoKey, ReportsNoMemory};
 ghost use Rattle.cbor_decode.specs.Heads.{first_at, end_of, end_code, remaining_of, first_of_next};
 ghost use Rattle.cbor_model.specs.Reader.{to_break};
 ghost use Rattle.cbor_decode.specs.declared.cursor.Remaining.TheVariants.{ToBreak};
 ghost use Rattle.std.specs.Prelude.{◌≡◌, IfOk, IfErr};
 ghost use Rattle.cbor_model.specs.Reader.{next_at, to_break};
 ghost use Rattle.cbor_decode.specs.Cursor.{behind_next, Counts, ended_at};
-ghost use Rattle.cbor_decode.specs.Gives.{TellsNoKey, TellsNoMemory};
+ghost use Rattle.cbor_decode.specs.Gives.{ReportsNoKey, ReportsNoMemory};
 ghost use Rattle.cbor_decode.specs.Heads.{end_of, remaining_of};
 ghost use Rattle.cbor_decode.specs.Steps as step;
 
@@ -58,8 +58,8 @@ impl<R: Source> Decoder<R> {
             (λ l. first_at (end_of of) (remaining_of remaining.old)) self.old self.new result }
         ensures taken { IfOk result
             (λ o. IfSome o (λ b. step.Advances R.source self.old self.new)) }
-        ensures memory { IfErr result (TellsNoMemory self.new.refusal) }
-        ensures no_key { IfErr result (TellsNoKey self.new.refusal) }
+        ensures memory { IfErr result (ReportsNoMemory self.new.refusal) }
+        ensures no_key { IfErr result (ReportsNoKey self.new.refusal) }
         ensures settings { SameSettings self.old self.new }
     {
         match remaining {
@@ -79,8 +79,8 @@ impl<R: Source> Decoder<R> {
             (λ l. first_at (end_of of) to_break) self.old self.new result }
         ensures taken { IfOk result
             (λ o. IfSome o (λ b. step.Advances R.source self.old self.new)) }
-        ensures memory { IfErr result (TellsNoMemory self.new.refusal) }
-        ensures no_key { IfErr result (TellsNoKey self.new.refusal) }
+        ensures memory { IfErr result (ReportsNoMemory self.new.refusal) }
+        ensures no_key { IfErr result (ReportsNoKey self.new.refusal) }
         ensures settings { SameSettings self.old self.new }
     {
         match self.source.next() {
@@ -100,8 +100,8 @@ impl<R: Source> Decoder<R> {
     pub fn more(&mut self, remaining: &mut Remaining, of: Collection) -> Done<bool>
         ensures read { step.Gives R.source R.refusals (behind_next remaining.new)
             (λ l. next_at (end_of of) (remaining_of remaining.old)) self.old self.new result }
-        ensures no_key { IfErr result (TellsNoKey self.new.refusal) }
-        ensures memory { IfErr result (TellsNoMemory self.new.refusal) }
+        ensures no_key { IfErr result (ReportsNoKey self.new.refusal) }
+        ensures memory { IfErr result (ReportsNoMemory self.new.refusal) }
         ensures settings { SameSettings self.old self.new }
         ensures counts { IfOk result (λ more. Counts remaining.old more remaining.new) }
     {
@@ -125,8 +125,8 @@ impl<R: Source> Decoder<R> {
     fn more_to_break(&mut self, of: Collection) -> Done<bool>
         ensures read { step.Gives R.source R.refusals (behind_next ToBreak)
             (λ l. next_at (end_of of) to_break) self.old self.new result }
-        ensures no_key { IfErr result (TellsNoKey self.new.refusal) }
-        ensures memory { IfErr result (TellsNoMemory self.new.refusal) }
+        ensures no_key { IfErr result (ReportsNoKey self.new.refusal) }
+        ensures memory { IfErr result (ReportsNoMemory self.new.refusal) }
         ensures settings { SameSettings self.old self.new }
     {
         match self.source.peek() {
@@ -148,8 +148,8 @@ impl<R: Source> Decoder<R> {
     pub fn end_of(&mut self, remaining: Remaining, of: Collection) -> Done<()>
         ensures read { step.Gives R.source R.refusals (λ u. u)
             (λ l. ended_at (end_of of) (remaining_of remaining)) self.old self.new result }
-        ensures no_key { IfErr result (TellsNoKey self.new.refusal) }
-        ensures memory { IfErr result (TellsNoMemory self.new.refusal) }
+        ensures no_key { IfErr result (ReportsNoKey self.new.refusal) }
+        ensures memory { IfErr result (ReportsNoMemory self.new.refusal) }
         ensures settings { SameSettings self.old self.new }
     {
         match remaining {
@@ -163,8 +163,8 @@ impl<R: Source> Decoder<R> {
     fn end_by_break(&mut self, of: Collection) -> Done<()>
         ensures read { step.Gives R.source R.refusals (λ u. u) (λ l. ended_at (end_of of) to_break)
             self.old self.new result }
-        ensures no_key { IfErr result (TellsNoKey self.new.refusal) }
-        ensures memory { IfErr result (TellsNoMemory self.new.refusal) }
+        ensures no_key { IfErr result (ReportsNoKey self.new.refusal) }
+        ensures memory { IfErr result (ReportsNoMemory self.new.refusal) }
         ensures settings { SameSettings self.old self.new }
     {
         match self.source.next() {

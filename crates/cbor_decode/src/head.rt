@@ -7,7 +7,7 @@ ghost use Rattle.cbor_model.specs.Reader.{number_at, number_behind};
 ghost use Rattle.cbor_model.specs.Major.{major_of};
 ghost use Rattle.cbor_io.specs.Head.{major_number};
 ghost use Rattle.cbor_decode.specs.Decoder.{SameSettings};
-ghost use Rattle.cbor_decode.specs.Gives.{TellsNoKey, TellsNoMemory};
+ghost use Rattle.cbor_decode.specs.Gives.{ReportsNoKey, ReportsNoMemory};
 ghost use Rattle.cbor_decode.specs.Heads.{HeadGives, NumberGives, opening_at, head_at, head_of};
 ghost use Rattle.cbor_decode.specs.Heads.{simple_head};
 ghost use Rattle.cbor_decode.specs.declared.head.Head.TheVariants.{Float as FloatHead, Text};
@@ -81,8 +81,8 @@ impl<R: Source> Decoder<R> {
             (R.source self.old.source) (R.source self.new.source) self.new.refusal result }
         ensures taken { IfOk result
             (λ bits. OnSome bits (step.Advances R.source self.old self.new)) }
-        ensures no_key { IfErr result (TellsNoKey self.new.refusal) }
-        ensures memory { IfErr result (TellsNoMemory self.new.refusal) }
+        ensures no_key { IfErr result (ReportsNoKey self.new.refusal) }
+        ensures memory { IfErr result (ReportsNoMemory self.new.refusal) }
         ensures settings { SameSettings self.old self.new }
     {
         match self.source.ahead().first().copied() {
@@ -105,8 +105,8 @@ impl<R: Source> Decoder<R> {
             (R.source self.old.source) (R.source self.new.source) self.new.refusal result }
         ensures taken { IfOk result
             (λ bits. OnSome bits (step.Advances R.source self.old self.new)) }
-        ensures no_key { IfErr result (TellsNoKey self.new.refusal) }
-        ensures memory { IfErr result (TellsNoMemory self.new.refusal) }
+        ensures no_key { IfErr result (ReportsNoKey self.new.refusal) }
+        ensures memory { IfErr result (ReportsNoMemory self.new.refusal) }
         ensures settings { SameSettings self.old self.new }
     {
         match self.source.ahead().first().copied() {
@@ -126,8 +126,8 @@ impl<R: Source> Decoder<R> {
     pub fn head(&mut self, first: u8) -> Done<Head>
         ensures read { HeadGives R.refusals (head_at first)
             (R.source self.old.source) (R.source self.new.source) self.new.refusal result }
-        ensures no_key { IfErr result (TellsNoKey self.new.refusal) }
-        ensures memory { IfErr result (TellsNoMemory self.new.refusal) }
+        ensures no_key { IfErr result (ReportsNoKey self.new.refusal) }
+        ensures memory { IfErr result (ReportsNoMemory self.new.refusal) }
         ensures settings { SameSettings self.old self.new }
     {
         // A text of up to 23 bytes, which most keys are.
@@ -159,8 +159,8 @@ impl<R: Source> Decoder<R> {
     fn simple(&mut self, low: u8) -> Done<Head>
         ensures read { HeadGives R.refusals (simple_head low)
             (R.source self.old.source) (R.source self.new.source) self.new.refusal result }
-        ensures no_key { IfErr result (TellsNoKey self.new.refusal) }
-        ensures memory { IfErr result (TellsNoMemory self.new.refusal) }
+        ensures no_key { IfErr result (ReportsNoKey self.new.refusal) }
+        ensures memory { IfErr result (ReportsNoMemory self.new.refusal) }
         ensures settings { SameSettings self.old self.new }
     {
         match low {
@@ -181,8 +181,8 @@ impl<R: Source> Decoder<R> {
     fn indefinite(&mut self, major: Major) -> Done<Head>
         ensures read { HeadGives R.refusals (head_of (major_of (major_number major)) 31)
             (R.source self.old.source) (R.source self.new.source) self.new.refusal result }
-        ensures no_key { IfErr result (TellsNoKey self.new.refusal) }
-        ensures memory { IfErr result (TellsNoMemory self.new.refusal) }
+        ensures no_key { IfErr result (ReportsNoKey self.new.refusal) }
+        ensures memory { IfErr result (ReportsNoMemory self.new.refusal) }
         ensures settings { SameSettings self.old self.new }
     {
         match major {
@@ -201,8 +201,8 @@ impl<R: Source> Decoder<R> {
         ensures read { step.Gives R.source R.refusals (λ n. n) (λ l. number_behind low)
             self.old self.new result }
         ensures buffer { OnOk result (step.KeepsBuffer R.source self.old self.new) }
-        ensures no_key { IfErr result (TellsNoKey self.new.refusal) }
-        ensures memory { IfErr result (TellsNoMemory self.new.refusal) }
+        ensures no_key { IfErr result (ReportsNoKey self.new.refusal) }
+        ensures memory { IfErr result (ReportsNoMemory self.new.refusal) }
         ensures settings { SameSettings self.old self.new }
     {
         match low {
@@ -221,8 +221,8 @@ impl<R: Source> Decoder<R> {
         ensures read { step.Gives R.source R.refusals (λ n. n) (λ l. number_at w8)
             self.old self.new result }
         ensures buffer { OnOk result (step.KeepsBuffer R.source self.old self.new) }
-        ensures no_key { IfErr result (TellsNoKey self.new.refusal) }
-        ensures memory { IfErr result (TellsNoMemory self.new.refusal) }
+        ensures no_key { IfErr result (ReportsNoKey self.new.refusal) }
+        ensures memory { IfErr result (ReportsNoMemory self.new.refusal) }
         ensures settings { SameSettings self.old self.new }
     {
         let mut bytes = [0; 1];
@@ -236,8 +236,8 @@ impl<R: Source> Decoder<R> {
         ensures read { step.Gives R.source R.refusals (λ n. n) (λ l. number_at w16)
             self.old self.new result }
         ensures buffer { OnOk result (step.KeepsBuffer R.source self.old self.new) }
-        ensures no_key { IfErr result (TellsNoKey self.new.refusal) }
-        ensures memory { IfErr result (TellsNoMemory self.new.refusal) }
+        ensures no_key { IfErr result (ReportsNoKey self.new.refusal) }
+        ensures memory { IfErr result (ReportsNoMemory self.new.refusal) }
         ensures settings { SameSettings self.old self.new }
     {
         let mut bytes = [0; 2];
@@ -251,8 +251,8 @@ impl<R: Source> Decoder<R> {
         ensures read { step.Gives R.source R.refusals (λ n. n) (λ l. number_at w32)
             self.old self.new result }
         ensures buffer { OnOk result (step.KeepsBuffer R.source self.old self.new) }
-        ensures no_key { IfErr result (TellsNoKey self.new.refusal) }
-        ensures memory { IfErr result (TellsNoMemory self.new.refusal) }
+        ensures no_key { IfErr result (ReportsNoKey self.new.refusal) }
+        ensures memory { IfErr result (ReportsNoMemory self.new.refusal) }
         ensures settings { SameSettings self.old self.new }
     {
         let mut bytes = [0; 4];
@@ -266,8 +266,8 @@ impl<R: Source> Decoder<R> {
         ensures read { step.Gives R.source R.refusals (λ n. n) (λ l. number_at w64)
             self.old self.new result }
         ensures buffer { OnOk result (step.KeepsBuffer R.source self.old self.new) }
-        ensures no_key { IfErr result (TellsNoKey self.new.refusal) }
-        ensures memory { IfErr result (TellsNoMemory self.new.refusal) }
+        ensures no_key { IfErr result (ReportsNoKey self.new.refusal) }
+        ensures memory { IfErr result (ReportsNoMemory self.new.refusal) }
         ensures settings { SameSettings self.old self.new }
     {
         let mut bytes = [0; 8];
@@ -284,8 +284,8 @@ impl<R: Source> Decoder<R> {
         ensures kept { OnErr result (RefusedInto R.refusals
             (R.source self.old.source) (R.source self.new.source) (length bytes.old)
             self.new.refusal) }
-        ensures no_key { IfErr result (TellsNoKey self.new.refusal) }
-        ensures memory { IfErr result (TellsNoMemory self.new.refusal) }
+        ensures no_key { IfErr result (ReportsNoKey self.new.refusal) }
+        ensures memory { IfErr result (ReportsNoMemory self.new.refusal) }
         ensures settings { SameSettings self.old self.new }
     {
         let ahead = self.source.ahead();
@@ -307,8 +307,8 @@ impl<R: Source> Decoder<R> {
         ensures kept { OnErr result (RefusedInto R.refusals
             (R.source self.old.source) (R.source self.new.source) (length bytes.old)
             self.new.refusal) }
-        ensures no_key { IfErr result (TellsNoKey self.new.refusal) }
-        ensures memory { IfErr result (TellsNoMemory self.new.refusal) }
+        ensures no_key { IfErr result (ReportsNoKey self.new.refusal) }
+        ensures memory { IfErr result (ReportsNoMemory self.new.refusal) }
         ensures settings { SameSettings self.old self.new }
     {
         match self.source.read_into(bytes) {

@@ -4,7 +4,7 @@ ghost use Rattle.std.specs.Prelude.{◌≤◌, IfErr};
 ghost use Rattle.cbor_model.specs.Reader.{after_first, inside};
 ghost use Rattle.cbor_value.specs.View.{view};
 ghost use Rattle.cbor_decode.specs.Decoder.{values_by, SameSettings};
-ghost use Rattle.cbor_decode.specs.Gives.{TellsNoMemory};
+ghost use Rattle.cbor_decode.specs.Gives.{ReportsNoMemory};
 ghost use Rattle.cbor_decode.specs.Steps as step;
 
 use crate::Decoder;
@@ -21,7 +21,7 @@ impl<R: Source> Decoder<R> {
             (λ l. after_first (values_by self.old.formats l)
             (inside (values_by self.old.formats l) self.old.levels) first)
             self.old self.new result }
-        ensures memory { IfErr result (TellsNoMemory self.new.refusal) }
+        ensures memory { IfErr result (ReportsNoMemory self.new.refusal) }
         ensures settings { SameSettings self.old self.new }
     {
         match first {
@@ -42,7 +42,7 @@ impl<R: Source> Decoder<R> {
             (λ l. after_first (values_by self.old.formats l)
             (inside (values_by self.old.formats l) self.old.levels) first)
             self.old self.new result }
-        ensures memory { IfErr result (TellsNoMemory self.new.refusal) }
+        ensures memory { IfErr result (ReportsNoMemory self.new.refusal) }
         ensures settings { SameSettings self.old self.new }
     {
         match first {

@@ -9,7 +9,7 @@ ghost use Rattle.cbor_io.specs.Error.{code_of};
 ghost use Rattle.cbor_io.specs.declared.error.ErrorCode.TheVariants.{OutOfMemory};
 ghost use Rattle.cbor_io.specs.ReadError.{why, place, HasNoPlace};
 ghost use Rattle.cbor_decode.specs.Decoder.{SameSettings};
-ghost use Rattle.cbor_decode.specs.Gives.{IsAt, IsErrorOf, TellsNoForm, TellsNoKey, TellsNoMemory};
+ghost use Rattle.cbor_decode.specs.Gives.{IsAt, IsErrorOf, ReportsNoForm, ReportsNoKey, ReportsNoMemory};
 ghost use Rattle.cbor_decode.specs.declared.refusal.Refused.TheVariants.{Kept};
 ghost use Rattle.cbor_io.specs.declared.read_error.ReadErrorCode.TheVariants.{InvalidUtf8};
 
@@ -119,9 +119,9 @@ impl<R: Source> Decoder<R> {
 
     /// The error of a call whose step was refused.
     pub fn error(&mut self, refused: Refused) -> Error
-        ensures tells { IsErrorOf self.old.refusal refused result }
-        ensures no_form { TellsNoKey self.old.refusal refused → TellsNoForm (code_of result) }
-        ensures memory { TellsNoMemory self.old.refusal refused → code_of result ≢ OutOfMemory }
+        ensures reports { IsErrorOf self.old.refusal refused result }
+        ensures no_form { ReportsNoKey self.old.refusal refused → ReportsNoForm (code_of result) }
+        ensures memory { ReportsNoMemory self.old.refusal refused → code_of result ≢ OutOfMemory }
         ensures source { self.new.source ≡ self.old.source }
         ensures settings { SameSettings self.old self.new }
     {

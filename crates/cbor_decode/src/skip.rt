@@ -7,7 +7,7 @@ ghost use Rattle.cbor_model.specs.Raw.{Length, indefinite};
 ghost use Rattle.cbor_model.specs.Reader.{inside, parts_at, items_of, pairs_of, array_at, map_at};
 ghost use Rattle.cbor_model.specs.Reader.{tag_at, after_first, item_at};
 ghost use Rattle.cbor_decode.specs.Decoder.{formats_of, values_by, SameSettings};
-ghost use Rattle.cbor_decode.specs.Gives.{TellsNoKey};
+ghost use Rattle.cbor_decode.specs.Gives.{ReportsNoKey};
 ghost use Rattle.cbor_read.specs.Source.{asks_for};
 ghost use Rattle.cbor_decode.specs.HasChunks.{AllRead, AsksToSkip, AsksWhere, raws_by};
 ghost use Rattle.cbor_decode.specs.HasChunks.{HasChunks, SomeHasChunks, SomePairHasChunks};
@@ -36,7 +36,7 @@ impl<R: Source> Decoder<R> {
             (λ l. item_at (raws_by self.old.formats l) self.old.levels)
             (R.source self.old.source)) self.new.refusal) }
         ensures no_key { formats_of self.old.formats ≡ all_formats
-            → IfErr result (TellsNoKey self.new.refusal) }
+            → IfErr result (ReportsNoKey self.new.refusal) }
         ensures settings { SameSettings self.old self.new }
         ensures taken { OnOk result (step.Advances R.source self.old self.new) }
     {
@@ -57,7 +57,7 @@ impl<R: Source> Decoder<R> {
             (inside (raws_by self.old.formats l) self.old.levels) first)
             (R.source self.old.source)) self.new.refusal) }
         ensures no_key { formats_of self.old.formats ≡ all_formats
-            → IfErr result (TellsNoKey self.new.refusal) }
+            → IfErr result (ReportsNoKey self.new.refusal) }
         ensures settings { SameSettings self.old self.new }
     {
         let head = self.head(first)?;
@@ -76,7 +76,7 @@ impl<R: Source> Decoder<R> {
             (inside (raws_by self.old.formats l) self.old.levels) w head)
             (R.source self.old.source))) self.new.refusal) }
         ensures no_key { formats_of self.old.formats ≡ all_formats
-            → IfErr result (TellsNoKey self.new.refusal) }
+            → IfErr result (ReportsNoKey self.new.refusal) }
         ensures settings { SameSettings self.old self.new }
     {
         match head {
@@ -110,7 +110,7 @@ impl<R: Source> Decoder<R> {
             (inside (raws_by self.old.formats l) self.old.levels) n (remaining_of remaining))
             (R.source self.old.source))) self.new.refusal) }
         ensures no_key { formats_of self.old.formats ≡ all_formats
-            → IfErr result (TellsNoKey self.new.refusal) }
+            → IfErr result (ReportsNoKey self.new.refusal) }
         ensures settings { SameSettings self.old self.new }
     {
         self.enter()?;
@@ -133,7 +133,7 @@ impl<R: Source> Decoder<R> {
             (item_at (raws_by self.old.formats l) self.old.levels)) (remaining_of remaining))
             (R.source self.old.source)) self.new.refusal) }
         ensures no_key { formats_of self.old.formats ≡ all_formats
-            → IfErr result (TellsNoKey self.new.refusal) }
+            → IfErr result (ReportsNoKey self.new.refusal) }
         ensures settings { SameSettings self.old self.new }
     {
         'items: while let Some(first) = self.next(&mut remaining, Collection::Array)? {
@@ -155,7 +155,7 @@ impl<R: Source> Decoder<R> {
             (inside (raws_by self.old.formats l) self.old.levels) n (remaining_of remaining))
             (R.source self.old.source))) self.new.refusal) }
         ensures no_key { formats_of self.old.formats ≡ all_formats
-            → IfErr result (TellsNoKey self.new.refusal) }
+            → IfErr result (ReportsNoKey self.new.refusal) }
         ensures settings { SameSettings self.old self.new }
     {
         self.enter()?;
@@ -178,7 +178,7 @@ impl<R: Source> Decoder<R> {
             (item_at (raws_by self.old.formats l) self.old.levels)) (remaining_of remaining))
             (R.source self.old.source)) self.new.refusal) }
         ensures no_key { formats_of self.old.formats ≡ all_formats
-            → IfErr result (TellsNoKey self.new.refusal) }
+            → IfErr result (ReportsNoKey self.new.refusal) }
         ensures settings { SameSettings self.old self.new }
     {
         'pairs: while let Some(first) = self.next(&mut remaining, Collection::Map)? {
@@ -204,7 +204,7 @@ impl<R: Source> Decoder<R> {
             (inside (raws_by self.old.formats l) self.old.levels) w tag)
             (R.source self.old.source))) self.new.refusal) }
         ensures no_key { formats_of self.old.formats ≡ all_formats
-            → IfErr result (TellsNoKey self.new.refusal) }
+            → IfErr result (ReportsNoKey self.new.refusal) }
         ensures settings { SameSettings self.old self.new }
     {
         self.enter()?;

@@ -7,7 +7,7 @@ ghost use Rattle.cbor_model.specs.Head.{no_bytes};
 ghost use Rattle.cbor_model.specs.Reader.{bytes_at, string_at, string_chunks_at};
 ghost use Rattle.cbor_model.specs.Reader.{text_at, text_chunks_at};
 ghost use Rattle.cbor_decode.specs.Decoder.{SameSettings};
-ghost use Rattle.cbor_decode.specs.Gives.{TellsNoKey, TellsNoMemory, values};
+ghost use Rattle.cbor_decode.specs.Gives.{ReportsNoKey, ReportsNoMemory, values};
 ghost use Rattle.cbor_decode.specs.HasChunks.{AsksForWhole};
 ghost use Rattle.cbor_decode.specs.Memory.{AsksToJoin, MemoryOnly};
 ghost use Rattle.cbor_decode.specs.Heads.{passed};
@@ -41,7 +41,7 @@ impl<R: Source> Decoder<R> {
             self.old self.new result }
         ensures memory { IfErr result (MemoryOnly (AsksForWhole R.refusals R.lends)
             self.new.refusal) }
-        ensures no_key { IfErr result (TellsNoKey self.new.refusal) }
+        ensures no_key { IfErr result (ReportsNoKey self.new.refusal) }
         ensures settings { SameSettings self.old self.new }
     {
         match self.source.skip(n as usize) {
@@ -58,7 +58,7 @@ impl<R: Source> Decoder<R> {
             self.old self.new result }
         ensures memory { IfErr result (MemoryOnly (AsksForWhole R.refusals R.lends)
             self.new.refusal) }
-        ensures no_key { IfErr result (TellsNoKey self.new.refusal) }
+        ensures no_key { IfErr result (ReportsNoKey self.new.refusal) }
         ensures settings { SameSettings self.old self.new }
     {
         if !self.has_room(n) {
@@ -74,7 +74,7 @@ impl<R: Source> Decoder<R> {
             (λ l bs. passed (string_chunks_at (values all_formats l) bs)) self.old self.new result }
         ensures memory { IfErr result (MemoryOnly (AsksToJoin R.refusals R.lends)
             self.new.refusal) }
-        ensures no_key { IfErr result (TellsNoKey self.new.refusal) }
+        ensures no_key { IfErr result (ReportsNoKey self.new.refusal) }
         ensures settings { SameSettings self.old self.new }
     {
         self.join(Major::ByteString)
@@ -87,7 +87,7 @@ impl<R: Source> Decoder<R> {
             (λ l bs. passed (text_chunks_at (values all_formats l) bs)) self.old self.new result }
         ensures memory { IfErr result (MemoryOnly (AsksToJoin R.refusals R.lends)
             self.new.refusal) }
-        ensures no_key { IfErr result (TellsNoKey self.new.refusal) }
+        ensures no_key { IfErr result (ReportsNoKey self.new.refusal) }
         ensures settings { SameSettings self.old self.new }
     {
         self.join(Major::TextString)?;
@@ -103,7 +103,7 @@ impl<R: Source> Decoder<R> {
         ensures counted { IfOk result (λ bad. bad ≤ (R.source self.new.source).offset) }
         ensures memory { IfErr result (MemoryOnly (AsksForWhole R.refusals R.lends)
             self.new.refusal) }
-        ensures no_key { IfErr result (TellsNoKey self.new.refusal) }
+        ensures no_key { IfErr result (ReportsNoKey self.new.refusal) }
         ensures settings { SameSettings self.old self.new }
     {
         match self.source.skip_text(n as usize) {
@@ -118,8 +118,8 @@ impl<R: Source> Decoder<R> {
         requires taken { bad ≤ (R.source self.old.source).offset }
         ensures read { step.Gives R.source R.refusals (λ u. u) (λ l. checked_by bad)
             self.old self.new result }
-        ensures memory { IfErr result (TellsNoMemory self.new.refusal) }
-        ensures no_key { IfErr result (TellsNoKey self.new.refusal) }
+        ensures memory { IfErr result (ReportsNoMemory self.new.refusal) }
+        ensures no_key { IfErr result (ReportsNoKey self.new.refusal) }
         ensures settings { SameSettings self.old self.new }
     {
         if bad == 0 {

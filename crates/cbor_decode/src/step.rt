@@ -8,8 +8,8 @@ ghost use Rattle.cbor_model.specs.Formats.{all_formats};
 ghost use Rattle.cbor_model.specs.Reader.{byte_at};
 ghost use Rattle.cbor_decode.specs.AtEnd.{EndStops};
 ghost use Rattle.cbor_decode.specs.Decoder.{source_of, levels_of, formats_of, SameSettings};
-ghost use Rattle.cbor_decode.specs.Gives.{IsAt, TellsNoKey, end_at};
-ghost use Rattle.cbor_decode.specs.Gives.{TellsNoMemory};
+ghost use Rattle.cbor_decode.specs.Gives.{IsAt, ReportsNoKey, end_at};
+ghost use Rattle.cbor_decode.specs.Gives.{ReportsNoMemory};
 ghost use Rattle.cbor_decode.specs.declared.refusal.Refused.TheVariants.{Kept};
 ghost use Rattle.cbor_decode.specs.Steps as step;
 
@@ -52,8 +52,8 @@ impl<R: Source> Decoder<R> {
             self.old self.new result }
         ensures taken { OnOk result (step.Advances R.source self.old self.new) }
         ensures buffer { OnOk result (step.KeepsBuffer R.source self.old self.new) }
-        ensures no_key { IfErr result (TellsNoKey self.new.refusal) }
-        ensures memory { IfErr result (TellsNoMemory self.new.refusal) }
+        ensures no_key { IfErr result (ReportsNoKey self.new.refusal) }
+        ensures memory { IfErr result (ReportsNoMemory self.new.refusal) }
         ensures settings { SameSettings self.old self.new }
     {
         match self.source.ahead().first().copied() {
@@ -72,8 +72,8 @@ impl<R: Source> Decoder<R> {
             self.old self.new result }
         ensures taken { OnOk result (step.Advances R.source self.old self.new) }
         ensures buffer { OnOk result (step.KeepsBuffer R.source self.old self.new) }
-        ensures no_key { IfErr result (TellsNoKey self.new.refusal) }
-        ensures memory { IfErr result (TellsNoMemory self.new.refusal) }
+        ensures no_key { IfErr result (ReportsNoKey self.new.refusal) }
+        ensures memory { IfErr result (ReportsNoMemory self.new.refusal) }
         ensures settings { SameSettings self.old self.new }
     {
         match self.source.next() {
@@ -91,8 +91,8 @@ impl<R: Source> Decoder<R> {
         ensures refused { IfErr result (λ r. r ≡ Kept) }
         ensures kept { OnErr result
             (IsAt RecursionLimitExceeded (R.source self.old.source).offset self.new.refusal) }
-        ensures no_key { IfErr result (TellsNoKey self.new.refusal) }
-        ensures memory { IfErr result (TellsNoMemory self.new.refusal) }
+        ensures no_key { IfErr result (ReportsNoKey self.new.refusal) }
+        ensures memory { IfErr result (ReportsNoMemory self.new.refusal) }
         ensures source { self.new.source ≡ self.old.source }
         ensures formats { self.new.formats ≡ self.old.formats }
     {

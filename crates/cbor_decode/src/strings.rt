@@ -8,7 +8,7 @@ ghost use Rattle.cbor_model.specs.Reader.{checked_text, text_at, text_chunks_at,
 ghost use Rattle.cbor_model.specs.Plain as plain;
 ghost use Rattle.cbor_io.specs.Head.{major_number};
 ghost use Rattle.cbor_decode.specs.Decoder.{SameSettings};
-ghost use Rattle.cbor_decode.specs.Gives.{TellsNoKey, values};
+ghost use Rattle.cbor_decode.specs.Gives.{ReportsNoKey, values};
 ghost use Rattle.cbor_decode.specs.Memory.{AsksToJoin, MemoryOnly};
 ghost use Rattle.cbor_decode.specs.Heads.{joined_of};
 ghost use Rattle.cbor_decode.specs.Strings.{ChunkGives, text_view};
@@ -29,7 +29,7 @@ impl<R: Source> Decoder<R> {
             self.old self.new result }
         ensures counted { IfOk result
             (λ v. length v.items ≤ (R.source self.new.source).offset) }
-        ensures no_key { IfErr result (TellsNoKey self.new.refusal) }
+        ensures no_key { IfErr result (ReportsNoKey self.new.refusal) }
         ensures settings { SameSettings self.old self.new }
     {
         let ahead = self.source.ahead();
@@ -48,7 +48,7 @@ impl<R: Source> Decoder<R> {
             self.old self.new result }
         ensures counted { IfOk result
             (λ v. length v.items ≤ (R.source self.new.source).offset) }
-        ensures no_key { IfErr result (TellsNoKey self.new.refusal) }
+        ensures no_key { IfErr result (ReportsNoKey self.new.refusal) }
         ensures settings { SameSettings self.old self.new }
     {
         let mut bytes = Vec::new(self.alloc);
@@ -120,7 +120,7 @@ impl<R: Source> Decoder<R> {
             self.old self.new result }
         ensures counted { IfOk result
             (λ v. length v.items ≤ (R.source self.new.source).offset) }
-        ensures no_key { IfErr result (TellsNoKey self.new.refusal) }
+        ensures no_key { IfErr result (ReportsNoKey self.new.refusal) }
         ensures settings { SameSettings self.old self.new }
     {
         self.join(major)?;
@@ -137,7 +137,7 @@ impl<R: Source> Decoder<R> {
             self.old self.new result }
         ensures counted { OnOk result
             (length (R.source self.new.source).buffer ≤ (R.source self.new.source).offset) }
-        ensures no_key { IfErr result (TellsNoKey self.new.refusal) }
+        ensures no_key { IfErr result (ReportsNoKey self.new.refusal) }
         ensures memory { IfErr result (MemoryOnly (AsksToJoin R.refusals R.lends)
             self.new.refusal) }
         ensures settings { SameSettings self.old self.new }
@@ -159,7 +159,7 @@ impl<R: Source> Decoder<R> {
         ensures read { ChunkGives R.refusals
             (λ l have. chunk_at (λ n. exceeds_most l.room (have + n)) (major_number major) first)
             (R.source self.old.source) (R.source self.new.source) self.new.refusal result }
-        ensures no_key { IfErr result (TellsNoKey self.new.refusal) }
+        ensures no_key { IfErr result (ReportsNoKey self.new.refusal) }
         ensures memory { IfErr result (MemoryOnly (AsksToJoin R.refusals R.lends)
             self.new.refusal) }
         ensures settings { SameSettings self.old self.new }

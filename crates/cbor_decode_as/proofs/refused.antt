@@ -1,4 +1,4 @@
--- What refusals tell: their codes, their cases, and one reading after another.
+-- What refusals report: their codes, their cases, and one reading after another.
 pub mod Cases
 pub mod Codes
 pub mod Refusing

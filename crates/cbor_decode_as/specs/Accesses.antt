@@ -19,7 +19,7 @@ use Rattle.cbor_decode.specs.declared.cursor.Remaining.{Remaining}
 use Rattle.cbor_decode.specs.declared.cursor.Remaining.TheVariants.{Counted, ToBreak}
 use Rattle.cbor_decode_as.specs.Arrays.{AsArray}
 use Rattle.cbor_decode_as.specs.TaggedHeads.{in_tags}
-use Rattle.cbor_decode_as.specs.Takes.{raws, IsRead, IsNotRead, Refuses, TellsFault}
+use Rattle.cbor_decode_as.specs.Takes.{raws, IsRead, IsNotRead, Refuses, ReportsFault}
 
 -- the items of an array that remain, where so many levels are left for each
 abbrev pub items_at : Formats → Limits → ℕ → reader.Remaining → List ℕ → Reads Raws
@@ -96,13 +96,13 @@ abbrev pub most_left : Remaining → Input → ℕ
 most_left (Counted n) s = n
 most_left ToBreak s = 2 ^ 64 - s.offset
 
--- The array's end was taken; or the error tells why not, and some bytes were taken.
+-- The array's end was taken; or the error reports why not, and some bytes were taken.
 abbrev pub TakesEnd : (ReadErrorCode → Bool) → Remaining → Input → Input → Result (Unit {0}) Error
     → Type 0
 TakesEnd refusals remaining s t (Ok u) =
     Step s t (λ l bs rest. ended_at end_in_array (remaining_of remaining) bs ≡ Ok (tt, rest))
 TakesEnd refusals remaining s t (Err e) =
-    TookSome s t × TellsFault refusals (λ l. ended_at end_in_array (remaining_of remaining)) s e
+    TookSome s t × ReportsFault refusals (λ l. ended_at end_in_array (remaining_of remaining)) s e
 
 -- what is left of a declared count
 abbrev pub size_of : Remaining → Option ℕ

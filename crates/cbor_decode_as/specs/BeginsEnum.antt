@@ -27,7 +27,7 @@ use Rattle.cbor_decode_as.specs.declared.variant.Form.TheVariants as form
 use Rattle.cbor_decode_as.specs.declared.variant.Shape.{Shape}
 use Rattle.cbor_decode_as.specs.declared.variant.Shape.TheVariants as shape
 
--- An array, whose first item tells this place among the names.
+-- An array, whose first item names this place among the names.
 pub record BeginsInArray (f : Formats) (names : List (List ℕ)) (l : Limits) (levels left index : ℕ)
     (remaining : Remaining) (bs rest : List ℕ) : Type 0 where
   pub read : f.legacy_enums ≡ true
@@ -40,7 +40,7 @@ pub record BeginsInArray (f : Formats) (names : List (List ℕ)) (l : Limits) (l
       ≡ Ok (Some (remaining_of remaining), first)
   pub name : IsRead (IsName names) (item_at (raws f l) left first) index rest
 
--- A map of one pair, whose key tells it.
+-- A map of one pair, whose key names it.
 pub record BeginsInMap (f : Formats) (names : List (List ℕ)) (l : Limits) (levels left index : ℕ)
     (bs rest : List ℕ) : Type 0 where
   pub read : f.standard_enums ≡ true
@@ -50,7 +50,7 @@ pub record BeginsInMap (f : Formats) (names : List (List ℕ)) (l : Limits) (lev
   pub head : pair_head_at f levels bs ≡ Ok (tt, key)
   pub name : IsRead (IsName names) (item_at (raws f l) left key) index rest
 
--- An item that tells it alone.
+-- An item that names it alone.
 pub record BeginsAlone (f : Formats) (names : List (List ℕ)) (l : Limits) (levels left index : ℕ)
     (bs rest : List ℕ) : Type 0 where
   pub read : reads_names f ≡ true

@@ -27,7 +27,7 @@ abbrev pub TakesNoMemory : {R A : Type 0} → (R → Input) → (Raw → A → T
 TakesNoMemory seen reads old e =
     input.TakesNoMemory (formats_of old.formats) reads old.levels (seen old.source) e
 
--- A refusal tells the fault of the item at the front, and is a message exactly where an item stands there.
+-- A refusal reports the fault of the item at the front, and is a message exactly where an item stands there.
 abbrev pub RefusesWhole : {R : Type 0} → (R → Input) → (ReadErrorCode → Bool) → Decoder R → Error
     → Type 0
 RefusesWhole seen refusals old e = input.RefusesWhole refusals old.levels (seen old.source) e

@@ -1,4 +1,4 @@
--- Where an error may stand that tells an array too short or too long, or a form that isn't read.
+-- Where an error may stand that reports an array too short or too long, or a form that isn't read.
 use Rattle.std.specs.Prelude.{⊤, ◌≡◌, ◌+◌, ◌⊎◌, ℕ, Bool, false, List, [], ◌∷◌, length}
 use Rattle.std.specs.Prelude.{Some, None, Ok}
 use Rattle.cbor_model.specs.Formats.{Formats}
@@ -13,7 +13,7 @@ use Rattle.cbor_io.specs.declared.error.ErrorCode.TheVariants.{NotCanonical}
 use Rattle.cbor_io.specs.declared.read_error.ReadErrorCode.{ReadErrorCode}
 use Rattle.cbor_io.specs.Error.{code_of, offset_of}
 use Rattle.cbor_read.specs.Source.{Input}
-use Rattle.cbor_decode.specs.Gives.{FailsAs, Limits, limits, Reports, Tells, TellsNoForm}
+use Rattle.cbor_decode.specs.Gives.{FailsAs, Limits, limits, ReportsIo, Reports, ReportsNoForm}
 use Rattle.cbor_decode.specs.Heads.{remaining_of}
 use Rattle.cbor_decode.specs.declared.cursor.Remaining.{Remaining}
 use Rattle.cbor_decode.specs.declared.head.Head.TheVariants.{Array}
@@ -25,14 +25,14 @@ use Rattle.cbor_decode_as.specs.Tags.{passed_at}
 use Rattle.cbor_decode_as.specs.declared.variant.Form.{Form}
 use Rattle.cbor_decode_as.specs.declared.variant.Form.TheVariants as form
 
--- what has to hold of the offset that an error of each of these codes tells
+-- what has to hold of the offset that an error of each of these codes reports
 pub record Cases : Type 1 where
   pub too_short : ℕ → Type 0
   pub too_long : ℕ → Type 0
   pub wrong_enum : ℕ → Type 0
   pub wrong_struct : ℕ → Type 0
 
--- The case of this code stands at the offset; other codes have none. Strict reading alone tells that a
+-- The case of this code stands at the offset; other codes have none. Strict reading alone reports that a
 -- spelling isn't canonical.
 abbrev pub CaseHolds : Cases → ErrorCode → ℕ → Type 0
 CaseHolds cases ArrayTooShort at = cases.too_short at
@@ -44,11 +44,11 @@ CaseHolds cases code at = ⊤
 
 -- Where an error has one of these codes, its case stands.
 pub record HasCase (s : Input) (e : Error) (cases : Limits → List ℕ → Cases) : Type 0 where
-  pub told : (bs : List ℕ) → Tells s bs → CaseHolds (cases (limits s bs) bs) (code_of e) (offset_of e)
+  pub reported : (bs : List ℕ) → Reports s bs → CaseHolds (cases (limits s bs) bs) (code_of e) (offset_of e)
 
--- Of the codes that tell a wrong form, this alone.
+-- Of the codes that report a wrong form, this alone.
 abbrev pub FormAlone : ErrorCode → ErrorCode → Type 0
-FormAlone one code = TellsNoForm code ⊎ (code ≡ one)
+FormAlone one code = ReportsNoForm code ⊎ (code ≡ one)
 
 -- ---- the key rule
 
@@ -68,11 +68,11 @@ key_cases f remaining l bs = record {
   wrong_struct = IsBadKey f (remaining_of remaining) l bs;
 }
 
--- Where the next key may not begin as it does, that is told, at the key.
-abbrev pub TellsBadKey : (ReadErrorCode → Bool) → Formats → Remaining → Input → Error → Type 0
-TellsBadKey refusals f remaining s e = (bs : List ℕ) → Tells s bs → (at : ℕ)
+-- Where the next key may not begin as it does, that is reported, at the key.
+abbrev pub ReportsBadKey : (ReadErrorCode → Bool) → Formats → Remaining → Input → Error → Type 0
+ReportsBadKey refusals f remaining s e = (bs : List ℕ) → Reports s bs → (at : ℕ)
     → IsBadKey f (remaining_of remaining) (limits s bs) bs at
-    → ExcusedBy (Reports refusals) (code_of e) (offset_of e)
+    → ExcusedBy (ReportsIo refusals) (code_of e) (offset_of e)
     ⊎ ((code_of e ≡ WrongStructFormat) × (offset_of e ≡ at))
 
 -- ---- enums
@@ -82,11 +82,11 @@ abbrev pub NoItem : Remaining → List ℕ → Type 0
 NoItem remaining bs =
     (after : List ℕ) × (next_at end_in_array (remaining_of remaining) bs ≡ Ok (None, after))
 
--- no item comes at the present offset, and this code tells it
+-- no item comes at the present offset, and this code reports it
 pub record NoItemHere (none : ErrorCode) (remaining : Remaining) (s : Input) (e : Error) : Type 0 where
   pub code : code_of e ≡ none
   pub place : offset_of e ≡ s.offset
-  pub told : (bs : List ℕ) → Tells s bs → NoItem remaining bs
+  pub reported : (bs : List ℕ) → Reports s bs → NoItem remaining bs
 
 -- An array begins at the front, and at this offset, where its first item would stand, none comes.
 pub record IsEmptyArray (levels : ℕ) (l : Limits) (bs : List ℕ) (at : ℕ) : Type 0 where
@@ -115,7 +115,7 @@ form_cases f l bs = record {
 abbrev pub IsBadPair : Formats → ℕ → Limits → List ℕ → ℕ → Type 0
 IsBadPair f levels l bs at = FailsAs wrong_struct_format l.total at (pair_head_at f levels bs)
 
--- Of the codes that tell a wrong form, those of an enum up to its identifier.
+-- Of the codes that report a wrong form, those of an enum up to its identifier.
 abbrev pub IsEnumCode : ErrorCode → Type 0
 IsEnumCode ArrayTooLong = ⊥
 IsEnumCode NotCanonical = ⊥
@@ -160,8 +160,8 @@ unit_cases form l bs = record {
   wrong_struct = λ at. ⊥;
 }
 
--- Where nothing follows, that is told, at the present offset.
-abbrev pub TellsTooShort : (ReadErrorCode → Bool) → Form → Input → Error → Type 0
-TellsTooShort refusals form s e = (bs : List ℕ) → Tells s bs → NothingFollows form bs
-    → ExcusedBy (Reports refusals) (code_of e) (offset_of e)
+-- Where nothing follows, that is reported, at the present offset.
+abbrev pub ReportsTooShort : (ReadErrorCode → Bool) → Form → Input → Error → Type 0
+ReportsTooShort refusals form s e = (bs : List ℕ) → Reports s bs → NothingFollows form bs
+    → ExcusedBy (ReportsIo refusals) (code_of e) (offset_of e)
     ⊎ ((code_of e ≡ ArrayTooShort) × (offset_of e ≡ s.offset))

@@ -16,7 +16,7 @@ pub data Content : Type 0 where
   one : Raw → Content
   parts : Raws → Content
 
--- the item, within its tags, tells this place among the names
+-- the item, within its tags, names this place among the names
 abbrev pub IsName : List (List ℕ) → Raw → ℕ → Type 0
 IsName names = PassesTags (λ r i. IsIdentifier names r (Some i))
 

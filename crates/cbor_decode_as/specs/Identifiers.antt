@@ -13,7 +13,7 @@ use Rattle.cbor_io.specs.declared.read_error.ReadError.{ReadError}
 use Rattle.cbor_io.specs.declared.read_error.ReadErrorCode.{ReadErrorCode}
 use Rattle.cbor_io.specs.Error.{code_of, offset_of}
 use Rattle.cbor_read.specs.Source.{Input}
-use Rattle.cbor_decode.specs.Gives.{Step, IsErrorOf, TellsNoKey}
+use Rattle.cbor_decode.specs.Gives.{Step, IsErrorOf, ReportsNoKey}
 use Rattle.cbor_decode.specs.declared.head.Head.{Head}
 use Rattle.cbor_decode.specs.declared.refusal.Refused as kept
 use Rattle.cbor_decode_as.specs.Strings.{content_at}
@@ -40,7 +40,7 @@ IsPlace names b None = (i : ℕ) → IsFirst names b i → ⊥
 abbrev pub place_of : List (List ℕ) → ℕ → Option ℕ
 place_of names n = if nat_lt n (length names) then Some n else None
 
--- The place that an item tells: a number from 0 is the place itself, and a text or byte string is a
+-- The place that an item names: a number from 0 is the place itself, and a text or byte string is a
 -- name. None where nothing is at that place, or has that name.
 abbrev pub IsIdentifier : List (List ℕ) → Raw → Option ℕ → Type 0
 IsIdentifier names (raw.unsigned w n) place = place ≡ place_of names n
@@ -59,7 +59,7 @@ NamesWhole refusals levels s kept w = (e : Error) → IsMadeBy kept w e → Refu
 
 -- what is kept of why nothing was named isn't the key rule's
 abbrev pub NamesNoKey : ReadError → Why → Type 0
-NamesNoKey kept (Refused r) = TellsNoKey kept r
+NamesNoKey kept (Refused r) = ReportsNoKey kept r
 NamesNoKey kept Other = ⊤
 
 -- The place of the name that these bytes are as a text. Where they aren't UTF-8 they are no text.

@@ -18,7 +18,7 @@ use Rattle.cbor_decode.specs.Heads.{remaining_of}
 use Rattle.cbor_decode.specs.declared.cursor.Remaining.{Remaining}
 use Rattle.cbor_decode_as.specs.Maps.{AsMap}
 use Rattle.cbor_decode_as.specs.TaggedHeads.{in_tags}
-use Rattle.cbor_decode_as.specs.Takes.{raws, IsRead, IsNotRead, Refuses, TellsFault}
+use Rattle.cbor_decode_as.specs.Takes.{raws, IsRead, IsNotRead, Refuses, ReportsFault}
 
 -- the pairs of a map that remain, where so many levels are left for each key and each value
 abbrev pub pairs_at : Formats → Limits → ℕ → reader.Remaining → List ℕ → Reads RawPairs
@@ -103,10 +103,10 @@ TakesKey {K} refusals f reads levels remaining behind s t (Err e) =
     (λ l bs. (next : Option K) (after : reader.Remaining) (rest : List ℕ)
     → IsKey reads f levels (remaining_of remaining) after next l bs rest → ⊥)
 
--- The map's end was taken; or the error tells why not, and some bytes were taken.
+-- The map's end was taken; or the error reports why not, and some bytes were taken.
 abbrev pub TakesMapEnd : (ReadErrorCode → Bool) → Remaining → Input → Input
     → Result (Unit {0}) Error → Type 0
 TakesMapEnd refusals remaining s t (Ok u) =
     Step s t (λ l bs rest. ended_at end_in_map (remaining_of remaining) bs ≡ Ok (tt, rest))
 TakesMapEnd refusals remaining s t (Err e) =
-    TookSome s t × TellsFault refusals (λ l. ended_at end_in_map (remaining_of remaining)) s e
+    TookSome s t × ReportsFault refusals (λ l. ended_at end_in_map (remaining_of remaining)) s e

@@ -31,7 +31,7 @@ use Rattle.cbor_decode.specs.declared.head.Head.{Head}
 use Rattle.cbor_decode.specs.declared.head.Head.TheVariants.{Bytes, Text}
 use Rattle.cbor_decode_as.specs.TaggedHeads.{StandsBehind, behind_any}
 use Rattle.cbor_decode_as.specs.Takes.{raws, IsRead, IsNotRead, Refuses, RefusesWhole}
-use Rattle.cbor_decode_as.specs.Takes.{IsMessage, OfItem, HasItem, TellsFault, any_item}
+use Rattle.cbor_decode_as.specs.Takes.{IsMessage, OfItem, HasItem, ReportsFault, any_item}
 use Rattle.cbor_decode_as.specs.declared.head.HeadAt.{HeadAt}
 use Rattle.cbor_decode_as.specs.declared.borrowed.EitherStr.{EitherStr}
 use Rattle.cbor_decode_as.specs.declared.borrowed.EitherStr.TheVariants.{Short, Long}
@@ -102,9 +102,9 @@ SeeksWhole refusals levels s kept (Err r) = (e : Error) → IsErrorOf kept r e �
 abbrev pub behind_string : Head → Limits → List ℕ → Reads Val
 behind_string = behind_any 0
 
--- The error that is made of the refusal that is kept tells the fault of what follows the head.
-abbrev pub TellsString : (ReadErrorCode → Bool) → Head → Input → ReadError → Refused → Type 0
-TellsString refusals h s kept r = (e : Error) → IsErrorOf kept r e → TellsFault refusals (behind_string h) s e
+-- The error that is made of the refusal that is kept reports the fault of what follows the head.
+abbrev pub ReportsString : (ReadErrorCode → Bool) → Head → Input → ReadError → Refused → Type 0
+ReportsString refusals h s kept r = (e : Error) → IsErrorOf kept r e → ReportsFault refusals (behind_string h) s e
 
 -- ---- what is lent
 
@@ -178,17 +178,17 @@ LendsString refusals c levels s t (Ok p) =
 LendsString refusals c levels s t (Err u) =
     Lacks refusals s t (λ l bs. IsNotRead (PassesTags IsString) (item_at (raws c.formats l) levels bs)) u
 
--- A refusal tells the fault of this reading, and there is no item of another kind.
+-- A refusal reports the fault of this reading, and there is no item of another kind.
 abbrev pub UnreadBy : (ReadErrorCode → Bool) → (Limits → List ℕ → Reads Val) → Input → Unread → Type 0
 UnreadBy refusals read s (Stopped q) = Stops refusals read s q
 UnreadBy refusals read s Other = ⊥
 
--- A refusal after a head tells the fault of what follows it; or an item of another kind is whole.
+-- A refusal after a head reports the fault of what follows it; or an item of another kind is whole.
 abbrev pub UnreadBehind : (ReadErrorCode → Bool) → HeadAt → Input → Unread → Type 0
 UnreadBehind refusals found s (Stopped q) = Stops refusals (behind_any found.levels found.head) s q
 UnreadBehind refusals found s Other = StandsBehind found s
 
--- A refusal tells the fault of the item at the front; or an item of another kind stands there.
+-- A refusal reports the fault of the item at the front; or an item of another kind stands there.
 abbrev pub UnreadWhole : (ReadErrorCode → Bool) → ℕ → Input → Unread → Type 0
 UnreadWhole refusals levels s (Stopped q) = Stops refusals (any_item levels) s q
 UnreadWhole refusals levels s Other = HasItem levels s

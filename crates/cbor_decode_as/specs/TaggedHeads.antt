@@ -14,7 +14,7 @@ use Rattle.cbor_io.specs.declared.read_error.ReadErrorCode.{ReadErrorCode}
 use Rattle.cbor_io.specs.Error.{code_of, offset_of}
 use Rattle.cbor_io.specs.declared.error.Error.{Error}
 use Rattle.cbor_read.specs.Source.{Asks, Input}
-use Rattle.cbor_decode.specs.Gives.{Limits, limits, values, Reports, Step, Stopped, Tells}
+use Rattle.cbor_decode.specs.Gives.{Limits, limits, values, ReportsIo, Step, Stopped, Reports}
 use Rattle.cbor_decode.specs.HasChunks.{AllRead, AsksWhere, HasChunks}
 use Rattle.cbor_decode.specs.Heads.{opening_at, head_at, head_of, after_head, behind_head}
 use Rattle.cbor_decode.specs.declared.cursor.Remaining.TheVariants.{Counted}
@@ -103,13 +103,13 @@ abbrev pub AsksBehind : Asks → HeadAt → Input → Type 0
 AsksBehind a found s = AsksWhere a ((w : HeadWidth) → AllRead HasChunks
     (λ l. behind_head (raws all_formats l) (inside (raws all_formats l) found.levels) w found.head) s)
 
--- A refusal after a head tells the fault of what follows it; of an item that is whole it is a message.
+-- A refusal after a head reports the fault of what follows it; of an item that is whole it is a message.
 abbrev pub RefusesBehind : (ReadErrorCode → Bool) → HeadAt → Input → Error → Type 0
-RefusesBehind refusals found s e = (bs : List ℕ) → Tells s bs → FaultOrMessage (Reports refusals) (code_of e) (s.offset + length bs) (offset_of e) (behind_any found.levels found.head (limits s bs) bs)
+RefusesBehind refusals found s e = (bs : List ℕ) → Reports s bs → FaultOrMessage (ReportsIo refusals) (code_of e) (s.offset + length bs) (offset_of e) (behind_any found.levels found.head (limits s bs) bs)
 
 -- what follows the head is whole
 abbrev pub StandsBehind : HeadAt → Input → Type 0
-StandsBehind found s = (bs : List ℕ) → Tells s bs → (v : Val) × (rest : List ℕ) × (behind_any found.levels found.head (limits s bs) bs ≡ Ok (v, rest))
+StandsBehind found s = (bs : List ℕ) → Reports s bs → (v : Val) × (rest : List ℕ) × (behind_any found.levels found.head (limits s bs) bs ≡ Ok (v, rest))
 
 -- ---- examples
 

@@ -14,7 +14,7 @@ use Rattle.cbor_decode.specs.declared.refusal.Refused.{Refused}
 use Rattle.cbor_model.specs.Raw.{Raw}
 use Rattle.cbor_io.specs.declared.read_error.ReadError.{ReadError}
 use Rattle.cbor_decode_as.specs.TaggedHeads.{in_tags}
-use Rattle.cbor_decode_as.specs.Takes.{raws, TellsFault}
+use Rattle.cbor_decode_as.specs.Takes.{raws, ReportsFault}
 
 -- whether a tag's head begins with this byte
 abbrev pub begins_tag : ℕ → Bool
@@ -42,11 +42,11 @@ tag_behind levels (Some b) bs = number_behind (b % 32) bs >>= (λ n. entered_at 
 abbrev pub tag_head_at : ℕ → List ℕ → Reads (Option ℕ)
 tag_head_at levels bs = tag_first_at bs >>= (λ o. tag_behind levels o.0 o.1)
 
--- What a call gave for the tag at the front; or the fault that it tells, and some bytes were taken.
+-- What a call gave for the tag at the front; or the fault that it reports, and some bytes were taken.
 abbrev pub ReadsTag : (ReadErrorCode → Bool) → ℕ → Input → Input → Result (Option ℕ) Error → Type 0
 ReadsTag refusals levels s t (Ok o) = Step s t (λ l bs rest. tag_head_at levels bs ≡ Ok (o, rest))
 ReadsTag refusals levels s t (Err e) =
-    TookSome s t × TellsFault refusals (λ l. tag_head_at levels) s e
+    TookSome s t × ReportsFault refusals (λ l. tag_head_at levels) s e
 
 -- the item at the front is the tag of this number, of the item that follows its head
 abbrev pub TagIs : Formats → ℕ → ℕ → Input → Input → Type 0

@@ -17,7 +17,7 @@ use Rattle.cbor_io.specs.declared.error.ErrorCode.TheVariants.{OutOfMemory}
 use Rattle.cbor_io.specs.declared.read_error.ReadErrorCode.{ReadErrorCode}
 use Rattle.cbor_io.specs.Error.{code_of, offset_of, IsMessageOf}
 use Rattle.cbor_read.specs.Source.{Input, Lends, TookSome}
-use Rattle.cbor_decode.specs.Gives.{Limits, limits, values, Tells, Step, Reports, FailsBy}
+use Rattle.cbor_decode.specs.Gives.{Limits, limits, values, Reports, Step, ReportsIo, FailsBy}
 use Rattle.cbor_decode.specs.declared.formats.Formats.{Formats}
 pub use Rattle.cbor_decode.specs.Decoder.{formats_of}
 pub use Rattle.cbor_decode.specs.HasChunks.{raws}
@@ -49,7 +49,7 @@ ExcusedBy Device _ at = ⊥
 -- and it was by lack of memory or a fault of the device, or N holds of the bytes that were to come.
 pub record Refuses (refusals : ReadErrorCode → Bool) (s t : Input) (code : ErrorCode) (at : ℕ) (N : Limits → List ℕ → Type 0) : Type 0 where
   pub took : TookSome s t
-  pub told : (bs : List ℕ) → Tells s bs → ExcusedBy (Reports refusals) code at ⊎ N (limits s bs) bs
+  pub reported : (bs : List ℕ) → Reports s bs → ExcusedBy (ReportsIo refusals) code at ⊎ N (limits s bs) bs
 
 -- the refusal, whatever was taken of the input
 abbrev pub WhateverTaken : Input → (Input → Error → Type 0) → Error → Type 0
@@ -74,7 +74,7 @@ TakesItem refusals f reads levels s t r =
 -- Where memory ran out, the item that is read as something is one for which memory may be asked.
 abbrev pub MemoryFor : {A : Type 0} → (Raw → Type 0) → model.Formats → (Raw → A → Type 0) → ℕ
     → Input → Error → Type 0
-MemoryFor {A} asks f reads levels s e = code_of e ≡ OutOfMemory → (bs : List ℕ) → Tells s bs
+MemoryFor {A} asks f reads levels s e = code_of e ≡ OutOfMemory → (bs : List ℕ) → Reports s bs
     → (x : A) (rest : List ℕ) → (got : IsRead reads (item_at (raws f (limits s bs)) levels bs) x rest)
     → asks got.item
 
@@ -85,7 +85,7 @@ TakesNoMemory f reads levels s e = MemoryFor (λ r. ⊥) f reads levels s e
 
 -- Of the item at the front, if one is there, P holds.
 abbrev pub OfItem : (Raw → Type 0) → model.Formats → ℕ → Input → Type 0
-OfItem P f levels s = (bs : List ℕ) → Tells s bs → (r : Raw) (rest : List ℕ) → item_at (raws f (limits s bs)) levels bs ≡ Ok (r, rest) → P r
+OfItem P f levels s = (bs : List ℕ) → Reports s bs → (r : Raw) (rest : List ℕ) → item_at (raws f (limits s bs)) levels bs ≡ Ok (r, rest) → P r
 
 -- ---- errors that are still to be made
 
@@ -95,17 +95,17 @@ abbrev pub OnceMade : {A W : Type 0} → (W → Error → Type 0) → (Result A 
 OnceMade made takes (Ok x) = takes (Ok x)
 OnceMade made takes (Err w) = (e : Error) → made w e → takes (Err e)
 
--- ---- the fault that is told
+-- ---- the fault that is reported
 
 -- claimed where a type reads every item
 abbrev pub WhereTotal : Bool → Type 0 → Type 0
 WhereTotal false P = Unit {0}
 WhereTotal true P = P
 
--- The error tells the fault that the reference reader meets in this reading.
-abbrev pub TellsFault : {A : Type 0} → (ReadErrorCode → Bool) → (Limits → List ℕ → Reads A) → Input
+-- The error reports the fault that the reference reader meets in this reading.
+abbrev pub ReportsFault : {A : Type 0} → (ReadErrorCode → Bool) → (Limits → List ℕ → Reads A) → Input
     → Error → Type 0
-TellsFault refusals read s e = (bs : List ℕ) → Tells s bs → FailsBy (Reports refusals) (code_of e) (s.offset + length bs) (offset_of e) (read (limits s bs) bs)
+ReportsFault refusals read s e = (bs : List ℕ) → Reports s bs → FailsBy (ReportsIo refusals) (code_of e) (s.offset + length bs) (offset_of e) (read (limits s bs) bs)
 
 -- ---- the fault, or a message for the item that is there
 
@@ -114,7 +114,7 @@ abbrev pub IsMessageBy : Type 0 → ErrorCode → ℕ → Type 0
 IsMessageBy Device (Message s) at = at ≡ 0
 IsMessageBy Device code at = ExcusedBy Device code at
 
--- The code and the offset tell the fault that a reading meets; of what it reads they are a message.
+-- The code and the offset report the fault that a reading meets; of what it reads they are a message.
 abbrev pub FaultOrMessage : {A : Type 0} → Type 0 → ErrorCode → ℕ → ℕ → Result A Fault → Type 0
 FaultOrMessage {A = A} Device code end at (Ok x) = IsMessageBy Device code at
 FaultOrMessage {A = A} Device code end at (Err f) = FailsBy {A = A} Device code end at (Err f)
@@ -123,15 +123,15 @@ FaultOrMessage {A = A} Device code end at (Err f) = FailsBy {A = A} Device code 
 abbrev pub any_item : ℕ → Limits → List ℕ → Reads Val
 any_item levels l = item_at (values all_formats l) levels
 
--- A refusal tells the fault of the item at the front, where so many levels are left; and it is a
+-- A refusal reports the fault of the item at the front, where so many levels are left; and it is a
 -- message exactly where an item stands there. Lack of memory and a device's fault may come in place of
 -- either.
 abbrev pub RefusesWhole : (ReadErrorCode → Bool) → ℕ → Input → Error → Type 0
-RefusesWhole refusals levels s e = (bs : List ℕ) → Tells s bs → FaultOrMessage (Reports refusals) (code_of e) (s.offset + length bs) (offset_of e) (any_item levels (limits s bs) bs)
+RefusesWhole refusals levels s e = (bs : List ℕ) → Reports s bs → FaultOrMessage (ReportsIo refusals) (code_of e) (s.offset + length bs) (offset_of e) (any_item levels (limits s bs) bs)
 
 -- an item stands at the front, where so many levels are left
 abbrev pub HasItem : ℕ → Input → Type 0
-HasItem levels s = (bs : List ℕ) → Tells s bs → (v : Val) × (rest : List ℕ) × (any_item levels (limits s bs) bs ≡ Ok (v, rest))
+HasItem levels s = (bs : List ℕ) → Reports s bs → (v : Val) × (rest : List ℕ) × (any_item levels (limits s bs) bs ≡ Ok (v, rest))
 
 -- an item stands at the front, or the refusal is one of what stands there
 abbrev pub ReadsWhole : {A : Type 0} → (ReadErrorCode → Bool) → ℕ → Input → Result A Error → Type 0
@@ -142,19 +142,19 @@ ReadsWhole refusals levels s (Err e) = RefusesWhole refusals levels s e
 abbrev pub IsMessage : Error → Type 0
 IsMessage e = IsMessageOf None (code_of e) × (offset_of e ≡ 0)
 
--- ---- what a type's refusal tells
+-- ---- what a type's refusal reports
 
 -- P is claimed where a type reads every item, and Q where it passes over those that it doesn't read.
-abbrev pub TellsOf : Bool → Bool → Type 0 → Type 0 → Type 0
-TellsOf false total P Q = WhereTotal total P
-TellsOf true false P Q = Q
-TellsOf true true P Q = P × Q
+abbrev pub ReportsOf : Bool → Bool → Type 0 → Type 0 → Type 0
+ReportsOf false total P Q = WhereTotal total P
+ReportsOf true false P Q = Q
+ReportsOf true true P Q = P × Q
 
--- Where a type reads every item, a refusal tells the fault of the item at the front; and where it passes
--- over an item that it doesn't read, a refusal tells that fault too, and of an item it is a message.
-abbrev pub TellsItem : Bool → Bool → (ReadErrorCode → Bool) → model.Formats → ℕ → Input → Error → Type 0
-TellsItem passes_over total refusals f levels s e =
-    TellsOf passes_over total (TellsFault refusals (λ l. item_at (values f l) levels) s e) (RefusesWhole refusals levels s e)
+-- Where a type reads every item, a refusal reports the fault of the item at the front; and where it passes
+-- over an item that it doesn't read, a refusal reports that fault too, and of an item it is a message.
+abbrev pub ReportsItem : Bool → Bool → (ReadErrorCode → Bool) → model.Formats → ℕ → Input → Error → Type 0
+ReportsItem passes_over total refusals f levels s e =
+    ReportsOf passes_over total (ReportsFault refusals (λ l. item_at (values f l) levels) s e) (RefusesWhole refusals levels s e)
 
 -- ---- examples
 

@@ -116,10 +116,10 @@ TakesParts refusals f left form s t inner (Err e) = RefusesParts refusals f left
 abbrev pub alone_text : List ℕ → List ℕ
 alone_text kind = codes "invalid type: unit variant, expected " ++ kind ++ codes " variant"
 
--- of an identifier alone the error is told by this text, and has no place
-abbrev pub TellsAlone : List ℕ → Form → Error → Type 0
-TellsAlone text form.Alone e = IsMessageOf (Some text) (code_of e) × (offset_of e ≡ 0)
-TellsAlone text _ e = Unit {0}
+-- of an identifier alone the error is reported by this text, and has no place
+abbrev pub ReportsAlone : List ℕ → Form → Error → Type 0
+ReportsAlone text form.Alone e = IsMessageOf (Some text) (code_of e) × (offset_of e ≡ 0)
+ReportsAlone text _ e = Unit {0}
 
 -- ---- steps
 

@@ -7,7 +7,7 @@ ghost use Rattle.cbor_read.specs.Source.{asks_for, part_bytes};
 ghost use Rattle.cbor_decode.specs.Decoder.{SameSettings};
 ghost use Rattle.cbor_decode.specs.declared.head.Head.TheVariants.{Bytes, Text};
 ghost use Rattle.cbor_io.specs.Error.{code_of};
-ghost use Rattle.cbor_decode.specs.Gives.{TellsNoForm};
+ghost use Rattle.cbor_decode.specs.Gives.{ReportsNoForm};
 ghost use Rattle.cbor_decode_as.specs.Strings.{BytesOf, IsBadAt, IsKept, IsMadeOf, IsNoKey};
 ghost use Rattle.cbor_decode_as.specs.Strings.{Lent, LentText, LendsBytes, LendsString, LendsText};
 ghost use Rattle.cbor_decode_as.specs.TaggedHeads.{AsksBehind};
@@ -231,7 +231,7 @@ fn other<R: Source>(decoder: &mut Decoder<R>, found: HeadAt) -> Unread
 #[inline(never)]
 pub fn unread_error<R: Source>(decoder: &mut Decoder<R>, why: Unread, message: &str) -> Error
     ensures made { IsMadeOf why result }
-    ensures no_form { IsNoKey why → TellsNoForm (code_of result) }
+    ensures no_form { IsNoKey why → ReportsNoForm (code_of result) }
     ensures source { decoder.new.source ≡ decoder.old.source }
     ensures settings { SameSettings decoder.old decoder.new }
 {

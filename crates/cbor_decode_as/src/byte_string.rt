@@ -4,7 +4,7 @@ ghost use Rattle.std.specs.Prelude.{IfErr, OnOk};
 ghost use Rattle.cbor_model.specs.Readable.{PassesTags};
 ghost use Rattle.cbor_io.specs.Error.{code_of};
 ghost use Rattle.cbor_decode.specs.Decoder.{SameSettings};
-ghost use Rattle.cbor_decode.specs.Gives.{TellsNoForm, TellsNoKey};
+ghost use Rattle.cbor_decode.specs.Gives.{ReportsNoForm, ReportsNoKey};
 ghost use Rattle.cbor_decode_as.specs.Strings.{IsByteString, SeeksItem, SeeksWhole};
 ghost use Rattle.cbor_decode_as.specs.Takes.{formats_of};
 ghost use Rattle.cbor_decode.specs.Steps as step;
@@ -31,7 +31,7 @@ fn bytes<R: Source>(decoder: &mut Decoder<R>) -> Done<Option<Vec<u8>>>
     ensures taken { OnOk result (step.Advances R.source decoder.old decoder.new) }
     ensures fault { SeeksWhole R.refusals decoder.old.levels (R.source decoder.old.source)
         decoder.new.refusal result }
-    ensures no_key { IfErr result (TellsNoKey decoder.new.refusal) }
+    ensures no_key { IfErr result (ReportsNoKey decoder.new.refusal) }
     ensures settings { SameSettings decoder.old decoder.new }
 {
     let found = scalar_head(decoder)?;
@@ -54,7 +54,7 @@ pub fn read_byte_string<R: Source>(decoder: &mut Decoder<R>) -> Result<Vec<u8>>
         decoder.old decoder.new result }
     ensures taken { OnOk result (step.Advances R.source decoder.old decoder.new) }
     ensures fault { IfErr result (call.RefusesWhole R.source R.refusals decoder.old) }
-    ensures no_form { IfErr result (λ e. TellsNoForm (code_of e)) }
+    ensures no_form { IfErr result (λ e. ReportsNoForm (code_of e)) }
     ensures settings { SameSettings decoder.old decoder.new }
 {
     match bytes(decoder) {

@@ -4,14 +4,14 @@ ghost use Rattle.std.specs.Prelude.{◌≡◌, ◌<◌, IfOk, IfErr, OnOk, OnErr
 ghost use Rattle.cbor_io.specs.Error.{code_of};
 ghost use Rattle.cbor_decode.specs.Decoder.{SameSettings};
 ghost use Rattle.cbor_decode.specs.Cursor.{Counts};
-ghost use Rattle.cbor_decode.specs.Gives.{TellsNoForm, IsAt, IsErrorOf};
+ghost use Rattle.cbor_decode.specs.Gives.{ReportsNoForm, IsAt, IsErrorOf};
 ghost use Rattle.cbor_decode_as.specs.Accesses.{TakesHead, TakesMore, TakesEnd};
 ghost use Rattle.cbor_decode_as.specs.Begins.{TakesBeginning};
 ghost use Rattle.cbor_decode_as.specs.Takes.{formats_of, OnceMade};
 ghost use Rattle.cbor_model.specs.Formats.{may_begin_key};
 ghost use Rattle.cbor_decode.specs.declared.refusal.Refused.TheVariants.{Kept};
 ghost use Rattle.cbor_io.specs.declared.error.Error.{Error};
-ghost use Rattle.cbor_decode_as.specs.Cases.{HasCase, TellsBadKey, key_cases};
+ghost use Rattle.cbor_decode_as.specs.Cases.{HasCase, ReportsBadKey, key_cases};
 ghost use Rattle.cbor_decode_as.specs.MapAccesses.{TakesMapHead, TakesMorePairs, TakesMapEnd};
 ghost use Rattle.cbor_decode_as.specs.MapAccesses.{key_front};
 ghost use Rattle.cbor_decode.specs.declared.head.Head.TheVariants as kind;
@@ -35,7 +35,7 @@ pub fn array_head<R: Source>(decoder: &mut Decoder<R>) -> Result<Remaining>
         (R.source decoder.old.source) (R.source decoder.new.source)
         decoder.new.levels result }
     ensures taken { OnOk result (step.Advances R.source decoder.old decoder.new) }
-    ensures no_form { IfErr result (λ e. TellsNoForm (code_of e)) }
+    ensures no_form { IfErr result (λ e. ReportsNoForm (code_of e)) }
     ensures inside { IfOk result (λ r. decoder.new.levels < decoder.old.levels) }
     ensures outer { OnErr result (decoder.new.levels ≡ decoder.old.levels) }
     ensures formats { decoder.new.formats ≡ decoder.old.formats }
@@ -68,7 +68,7 @@ pub fn more_items<R: Source>(decoder: &mut Decoder<R>, remaining: &mut Remaining
     ensures read { TakesMore R.refusals remaining.old remaining.new
         (R.source decoder.old.source) (R.source decoder.new.source) result }
     ensures counts { IfOk result (λ more. Counts remaining.old more remaining.new) }
-    ensures no_form { IfErr result (λ e. TellsNoForm (code_of e)) }
+    ensures no_form { IfErr result (λ e. ReportsNoForm (code_of e)) }
     ensures settings { SameSettings decoder.old decoder.new }
 {
     match decoder.more(remaining, Collection::Array) {
@@ -82,7 +82,7 @@ pub fn more_items<R: Source>(decoder: &mut Decoder<R>, remaining: &mut Remaining
 pub fn end_array<R: Source>(decoder: &mut Decoder<R>, remaining: Remaining) -> Result<()>
     ensures read { TakesEnd R.refusals remaining
         (R.source decoder.old.source) (R.source decoder.new.source) result }
-    ensures no_form { IfErr result (λ e. TellsNoForm (code_of e)) }
+    ensures no_form { IfErr result (λ e. ReportsNoForm (code_of e)) }
     ensures settings { SameSettings decoder.old decoder.new }
 {
     match decoder.end_of(remaining, Collection::Array) {
@@ -103,7 +103,7 @@ pub fn map_head<R: Source>(decoder: &mut Decoder<R>) -> Result<Remaining>
         (R.source decoder.old.source) (R.source decoder.new.source)
         decoder.new.levels result }
     ensures taken { OnOk result (step.Advances R.source decoder.old decoder.new) }
-    ensures no_form { IfErr result (λ e. TellsNoForm (code_of e)) }
+    ensures no_form { IfErr result (λ e. ReportsNoForm (code_of e)) }
     ensures inside { IfOk result (λ r. decoder.new.levels < decoder.old.levels) }
     ensures outer { OnErr result (decoder.new.levels ≡ decoder.old.levels) }
     ensures formats { decoder.new.formats ≡ decoder.old.formats }
@@ -181,7 +181,7 @@ fn key_may_begin<R: Source>(decoder: &mut Decoder<R>, first: u8) -> Done<()>
 /// may not begin as it does is refused with `WrongStructFormat`, and a map of indefinite length
 /// that has no end with `EofWhileParsingMap`.
 #[inline(always)]
-#[tactic(auto, using(crate::proofs::refused::Cases::made_stands, crate::proofs::refused::Cases::key_stands, crate::proofs::maps::BadKeys::bad_key_first, crate::proofs::maps::BadKeys::bad_key_told))]
+#[tactic(auto, using(crate::proofs::refused::Cases::made_stands, crate::proofs::refused::Cases::key_stands, crate::proofs::maps::BadKeys::bad_key_first, crate::proofs::maps::BadKeys::bad_key_reported))]
 pub fn more_pairs<R: Source>(decoder: &mut Decoder<R>, remaining: &mut Remaining) -> Done<bool>
     ensures read { OnceMade (IsErrorOf decoder.new.refusal)
         (TakesMorePairs R.refusals (formats_of decoder.old.formats)
@@ -191,7 +191,7 @@ pub fn more_pairs<R: Source>(decoder: &mut Decoder<R>, remaining: &mut Remaining
         → HasCase (R.source decoder.old.source) e
         (key_cases (formats_of decoder.old.formats) remaining.old)) }
     ensures bad_key { IfErr result (λ r. (e : Error) → IsErrorOf decoder.new.refusal r e
-        → TellsBadKey R.refusals (formats_of decoder.old.formats) remaining.old
+        → ReportsBadKey R.refusals (formats_of decoder.old.formats) remaining.old
         (R.source decoder.old.source) e) }
     ensures counts { IfOk result (λ more. Counts remaining.old more remaining.new) }
     ensures settings { SameSettings decoder.old decoder.new }
@@ -208,7 +208,7 @@ pub fn more_pairs<R: Source>(decoder: &mut Decoder<R>, remaining: &mut Remaining
 pub fn end_map<R: Source>(decoder: &mut Decoder<R>, remaining: Remaining) -> Result<()>
     ensures read { TakesMapEnd R.refusals remaining
         (R.source decoder.old.source) (R.source decoder.new.source) result }
-    ensures no_form { IfErr result (λ e. TellsNoForm (code_of e)) }
+    ensures no_form { IfErr result (λ e. ReportsNoForm (code_of e)) }
     ensures settings { SameSettings decoder.old decoder.new }
 {
     match decoder.end_of(remaining, Collection::Map) {

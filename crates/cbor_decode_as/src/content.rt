@@ -7,14 +7,14 @@ ghost use Rattle.cbor_model.specs.Reader.{next_at};
 ghost use Rattle.cbor_decode.specs.Decoder.{SameSettings};
 ghost use Rattle.cbor_decode.specs.Heads.{remaining_of};
 ghost use Rattle.cbor_io.specs.Error.{code_of, HasNoOffset};
-ghost use Rattle.cbor_decode.specs.Gives.{TellsNoForm, TellsNoKey};
+ghost use Rattle.cbor_decode.specs.Gives.{ReportsNoForm, ReportsNoKey};
 ghost use Rattle.cbor_io.specs.declared.error.ErrorCode.TheVariants.{ArrayTooLong};
 ghost use Rattle.cbor_decode_as.specs.Cases.{FormAlone, HasCase, NoItemHere, unit_cases};
 ghost use Rattle.cbor_decode_as.specs.Enums.{IsNothing, IsPart};
-ghost use Rattle.cbor_decode_as.specs.Takes.{TellsFault, formats_of};
+ghost use Rattle.cbor_decode_as.specs.Takes.{ReportsFault, formats_of};
 ghost use Rattle.cbor_decode_as.specs.BeginsEnum.{TakesPartsHead};
 ghost use Rattle.cbor_decode_as.specs.Variants.{ExpectsItem, IsEntered, TakesComing, TakesContent};
-ghost use Rattle.cbor_decode_as.specs.Variants.{TakesParts, TellsAlone, alone_text};
+ghost use Rattle.cbor_decode_as.specs.Variants.{TakesParts, ReportsAlone, alone_text};
 ghost use Rattle.cbor_decode_as.specs.declared.variant.Form.TheVariants.{Array};
 
 use crate::collection::{array_head, end_array};
@@ -30,7 +30,7 @@ fn item_comes<R: Source>(decoder: &mut Decoder<R>, remaining: &mut Remaining) ->
     ensures read { TakesComing R.refusals remaining.old remaining.new
         (R.source decoder.old.source) (R.source decoder.new.source)
         decoder.new.refusal result }
-    ensures no_key { IfErr result (TellsNoKey decoder.new.refusal) }
+    ensures no_key { IfErr result (ReportsNoKey decoder.new.refusal) }
     ensures stays { OnOk result ((R.source decoder.new.source).offset
         ≡ (R.source decoder.old.source).offset) }
     ensures settings { SameSettings decoder.old decoder.new }
@@ -61,9 +61,9 @@ pub fn expect_item<R: Source>(
     requires { HasNoOffset none → ⊥ }
     ensures read { ExpectsItem R.refusals remaining.old remaining.new
         (R.source decoder.old.source) (R.source decoder.new.source) result }
-    ensures none { IfErr result (λ e. TellsNoForm (code_of e)
+    ensures none { IfErr result (λ e. ReportsNoForm (code_of e)
         ⊎ NoItemHere none remaining.old (R.source decoder.old.source) e) }
-    ensures fault { IfErr result (λ e. TellsFault R.refusals
+    ensures fault { IfErr result (λ e. ReportsFault R.refusals
         (λ l. next_at end_in_array (remaining_of remaining.old))
         (R.source decoder.old.source) e
         ⊎ NoItemHere none remaining.old (R.source decoder.old.source) e) }
@@ -88,8 +88,8 @@ pub fn parts<R: Source>(decoder: &mut Decoder<R>, form: Form) -> Result<Remainin
     ensures opened { TakesPartsHead R.refusals decoder.old.levels form
         (R.source decoder.old.source) (R.source decoder.new.source)
         decoder.new.levels result }
-    ensures alone { IfErr result (TellsAlone (alone_text (codes "tuple")) form) }
-    ensures no_form { IfErr result (λ e. TellsNoForm (code_of e)) }
+    ensures alone { IfErr result (ReportsAlone (alone_text (codes "tuple")) form) }
+    ensures no_form { IfErr result (λ e. ReportsNoForm (code_of e)) }
     ensures inside { IfOk result (λ r. IsEntered form decoder.old.levels
         decoder.new.levels) }
     ensures formats { decoder.new.formats ≡ decoder.old.formats }

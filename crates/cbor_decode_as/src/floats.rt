@@ -4,7 +4,7 @@ ghost use Rattle.std.specs.Prelude.{IfErr, OnOk};
 ghost use Rattle.cbor_model.specs.Readable.{PassesTags};
 ghost use Rattle.cbor_io.specs.Error.{code_of};
 ghost use Rattle.cbor_decode.specs.Decoder.{SameSettings};
-ghost use Rattle.cbor_decode.specs.Gives.{TellsNoForm};
+ghost use Rattle.cbor_decode.specs.Gives.{ReportsNoForm};
 ghost use Rattle.cbor_decode_as.specs.Scalars.{IsFloatOf, IsSingleOf};
 ghost use Rattle.cbor_decode.specs.Steps as step;
 ghost use Rattle.cbor_decode_as.specs.Calls as call;
@@ -24,7 +24,7 @@ pub fn read_f64<R: Source>(decoder: &mut Decoder<R>) -> Result<f64>
         decoder.old decoder.new result }
     ensures taken { OnOk result (step.Advances R.source decoder.old decoder.new) }
     ensures fault { IfErr result (call.RefusesWhole R.source R.refusals decoder.old) }
-    ensures no_form { IfErr result (λ e. TellsNoForm (code_of e)) }
+    ensures no_form { IfErr result (λ e. ReportsNoForm (code_of e)) }
     ensures memory { IfErr result (call.TakesNoMemory R.source (PassesTags IsFloatOf) decoder.old) }
     ensures settings { SameSettings decoder.old decoder.new }
 {
@@ -42,7 +42,7 @@ fn other_f64<R: Source>(decoder: &mut Decoder<R>) -> Result<f64>
         decoder.old decoder.new result }
     ensures taken { OnOk result (step.Advances R.source decoder.old decoder.new) }
     ensures fault { IfErr result (call.RefusesWhole R.source R.refusals decoder.old) }
-    ensures no_form { IfErr result (λ e. TellsNoForm (code_of e)) }
+    ensures no_form { IfErr result (λ e. ReportsNoForm (code_of e)) }
     ensures memory { IfErr result (call.TakesNoMemory R.source (PassesTags IsFloatOf) decoder.old) }
     ensures settings { SameSettings decoder.old decoder.new }
 {
@@ -60,7 +60,7 @@ fn f64_slow<R: Source>(decoder: &mut Decoder<R>) -> Result<f64>
         decoder.old decoder.new result }
     ensures taken { OnOk result (step.Advances R.source decoder.old decoder.new) }
     ensures fault { IfErr result (call.RefusesWhole R.source R.refusals decoder.old) }
-    ensures no_form { IfErr result (λ e. TellsNoForm (code_of e)) }
+    ensures no_form { IfErr result (λ e. ReportsNoForm (code_of e)) }
     ensures memory { IfErr result (call.TakesNoMemory R.source (PassesTags IsFloatOf) decoder.old) }
     ensures settings { SameSettings decoder.old decoder.new }
 {
@@ -78,7 +78,7 @@ pub fn read_f32<R: Source>(decoder: &mut Decoder<R>) -> Result<f32>
         decoder.old decoder.new result }
     ensures taken { OnOk result (step.Advances R.source decoder.old decoder.new) }
     ensures fault { IfErr result (call.RefusesWhole R.source R.refusals decoder.old) }
-    ensures no_form { IfErr result (λ e. TellsNoForm (code_of e)) }
+    ensures no_form { IfErr result (λ e. ReportsNoForm (code_of e)) }
     ensures memory { IfErr result
         (call.TakesNoMemory R.source (PassesTags IsSingleOf) decoder.old) }
     ensures settings { SameSettings decoder.old decoder.new }
@@ -97,7 +97,7 @@ fn f32_slow<R: Source>(decoder: &mut Decoder<R>) -> Result<f32>
         decoder.old decoder.new result }
     ensures taken { OnOk result (step.Advances R.source decoder.old decoder.new) }
     ensures fault { IfErr result (call.RefusesWhole R.source R.refusals decoder.old) }
-    ensures no_form { IfErr result (λ e. TellsNoForm (code_of e)) }
+    ensures no_form { IfErr result (λ e. ReportsNoForm (code_of e)) }
     ensures memory { IfErr result
         (call.TakesNoMemory R.source (PassesTags IsSingleOf) decoder.old) }
     ensures settings { SameSettings decoder.old decoder.new }

@@ -3,7 +3,7 @@
 ghost use Rattle.std.specs.Prelude.{◌≡◌, ◌≤◌, IfErr, OnOk};
 ghost use Rattle.cbor_model.specs.Reader.{item_at};
 ghost use Rattle.cbor_decode.specs.Decoder.{SameSettings};
-ghost use Rattle.cbor_decode.specs.Gives.{TellsNoForm, TellsNoKey, TellsNoMemory};
+ghost use Rattle.cbor_decode.specs.Gives.{ReportsNoForm, ReportsNoKey, ReportsNoMemory};
 ghost use Rattle.cbor_io.specs.Error.{code_of};
 ghost use Rattle.cbor_decode.specs.Heads.{HeadGives, opening_at};
 ghost use Rattle.cbor_decode.specs.Heads.{passed};
@@ -35,8 +35,8 @@ pub(crate) fn take_head<R: Source>(decoder: &mut Decoder<R>) -> Done<Head>
         (R.source decoder.old.source) (R.source decoder.new.source)
         decoder.new.refusal result }
     ensures taken { OnOk result (step.Advances R.source decoder.old decoder.new) }
-    ensures no_key { IfErr result (TellsNoKey decoder.new.refusal) }
-    ensures memory { IfErr result (TellsNoMemory decoder.new.refusal) }
+    ensures no_key { IfErr result (ReportsNoKey decoder.new.refusal) }
+    ensures memory { IfErr result (ReportsNoMemory decoder.new.refusal) }
     ensures settings { SameSettings decoder.old decoder.new }
 {
     let first = decoder.byte()?;
@@ -58,8 +58,8 @@ pub fn tagged_head<R: Source>(decoder: &mut Decoder<R>) -> Done<Head>
     ensures opened { step.Gives R.source R.refusals (λ head. (decoder.new.levels, head))
         (λ l. opened_at decoder.old.levels) decoder.old decoder.new result }
     ensures taken { OnOk result (step.Advances R.source decoder.old decoder.new) }
-    ensures no_key { IfErr result (TellsNoKey decoder.new.refusal) }
-    ensures memory { IfErr result (TellsNoMemory decoder.new.refusal) }
+    ensures no_key { IfErr result (ReportsNoKey decoder.new.refusal) }
+    ensures memory { IfErr result (ReportsNoMemory decoder.new.refusal) }
     ensures levels { OnOk result (decoder.new.levels ≤ decoder.old.levels) }
     ensures formats { decoder.new.formats ≡ decoder.old.formats }
 {
@@ -81,8 +81,8 @@ pub(crate) fn tagged_head_inside<R: Source>(decoder: &mut Decoder<R>) -> Done<He
     ensures opened { step.Gives R.source R.refusals (λ head. (decoder.new.levels, head))
         (λ l. opened_inside decoder.old.levels) decoder.old decoder.new result }
     ensures taken { OnOk result (step.Advances R.source decoder.old decoder.new) }
-    ensures no_key { IfErr result (TellsNoKey decoder.new.refusal) }
-    ensures memory { IfErr result (TellsNoMemory decoder.new.refusal) }
+    ensures no_key { IfErr result (ReportsNoKey decoder.new.refusal) }
+    ensures memory { IfErr result (ReportsNoMemory decoder.new.refusal) }
     ensures levels { OnOk result (decoder.new.levels ≤ decoder.old.levels) }
     ensures formats { decoder.new.formats ≡ decoder.old.formats }
 {
@@ -95,7 +95,7 @@ pub(crate) fn tagged_head_inside<R: Source>(decoder: &mut Decoder<R>) -> Done<He
 #[cold]
 #[inline(never)]
 pub fn mismatch<R: Source>(decoder: &mut Decoder<R>, head: Head, message: &str) -> Error
-    ensures no_form { TellsNoForm (code_of result) }
+    ensures no_form { ReportsNoForm (code_of result) }
     ensures source { decoder.new.source ≡ decoder.old.source }
     ensures settings { SameSettings decoder.old decoder.new }
 {
@@ -115,7 +115,7 @@ pub(crate) fn pass_over<R: Source>(decoder: &mut Decoder<R>, found: HeadAt) -> D
         (λ l bs. passed (behind_any found.levels found.head l bs)) decoder.old decoder.new result }
     ensures memory { IfErr result (MemoryOnly (AsksBehind (asks_for R.refusals R.lends) found
         (R.source decoder.old.source)) decoder.new.refusal) }
-    ensures no_key { IfErr result (TellsNoKey decoder.new.refusal) }
+    ensures no_key { IfErr result (ReportsNoKey decoder.new.refusal) }
     ensures settings { SameSettings decoder.old decoder.new }
 {
     let levels = decoder.levels;
@@ -138,7 +138,7 @@ pub(crate) fn skip_mismatch<R: Source>(
 ) -> Error
     ensures fault { RefusesBehind R.refusals found (R.source decoder.old.source) result }
     ensures took { step.TookSome R.source decoder.old decoder.new }
-    ensures no_form { TellsNoForm (code_of result) }
+    ensures no_form { ReportsNoForm (code_of result) }
     ensures settings { SameSettings decoder.old decoder.new }
 {
     match pass_over(decoder, found) {

@@ -6,7 +6,7 @@ ghost use Rattle.cbor_io.specs.declared.error.Error.{Error};
 ghost use Rattle.cbor_read.specs.Source.{part_bytes};
 ghost use Rattle.cbor_model.specs.Readable.{PassesTags};
 ghost use Rattle.cbor_decode.specs.Decoder.{SameSettings};
-ghost use Rattle.cbor_decode.specs.Gives.{TellsNoForm, TellsNoKey};
+ghost use Rattle.cbor_decode.specs.Gives.{ReportsNoForm, ReportsNoKey};
 ghost use Rattle.cbor_decode.specs.declared.head.Head.TheVariants.{Bytes, Text};
 ghost use Rattle.cbor_io.specs.Error.{code_of};
 ghost use Rattle.cbor_decode_as.specs.Identifiers.{IsIdentifier, IsPlace, place_of, texts};
@@ -159,7 +159,7 @@ fn no_name<R: Source>(decoder: &mut Decoder<R>, head: Head) -> Why
 pub fn unnamed<R: Source>(decoder: &mut Decoder<R>, why: Why, message: &str) -> Error
     ensures made { IsMadeBy decoder.old.refusal why result }
     ensures source { decoder.new.source ≡ decoder.old.source }
-    ensures no_form { NamesNoKey decoder.old.refusal why → TellsNoForm (code_of result) }
+    ensures no_form { NamesNoKey decoder.old.refusal why → ReportsNoForm (code_of result) }
     ensures settings { SameSettings decoder.old decoder.new }
 {
     match why {
@@ -180,7 +180,7 @@ fn definite_name<'de, R: Read<'de>>(
         (R.source decoder.old.source) (R.source decoder.new.source)
         decoder.new.refusal result }
     ensures below { IfOk result (λ place. IfSome place (λ i. i < length names.now)) }
-    ensures no_key { IfErr result (TellsNoKey decoder.new.refusal) }
+    ensures no_key { IfErr result (ReportsNoKey decoder.new.refusal) }
     ensures settings { SameSettings decoder.old decoder.new }
 {
     let ahead = decoder.source.ahead();
@@ -206,7 +206,7 @@ fn name_slow<'de, R: Read<'de>>(
         (R.source decoder.old.source) (R.source decoder.new.source)
         decoder.new.refusal result }
     ensures below { IfOk result (λ place. IfSome place (λ i. i < length names.now)) }
-    ensures no_key { IfErr result (TellsNoKey decoder.new.refusal) }
+    ensures no_key { IfErr result (ReportsNoKey decoder.new.refusal) }
     ensures settings { SameSettings decoder.old decoder.new }
 {
     if !decoder.has_room(n) {
@@ -229,7 +229,7 @@ fn joined_name<'de, R: Read<'de>>(decoder: &mut Decoder<R>, names: &[&str]) -> D
         (R.source decoder.old.source) (R.source decoder.new.source)
         decoder.new.refusal result }
     ensures below { IfOk result (λ place. IfSome place (λ i. i < length names.now)) }
-    ensures no_key { IfErr result (TellsNoKey decoder.new.refusal) }
+    ensures no_key { IfErr result (ReportsNoKey decoder.new.refusal) }
     ensures settings { SameSettings decoder.old decoder.new }
 {
     decoder.join(Major::TextString)?;
@@ -250,7 +250,7 @@ fn text_name<'de, R: Read<'de>>(
         (R.source decoder.old.source) (R.source decoder.new.source)
         decoder.new.refusal result }
     ensures below { IfOk result (λ place. IfSome place (λ i. i < length names.now)) }
-    ensures no_key { IfErr result (TellsNoKey decoder.new.refusal) }
+    ensures no_key { IfErr result (ReportsNoKey decoder.new.refusal) }
     ensures settings { SameSettings decoder.old decoder.new }
 {
     match n {

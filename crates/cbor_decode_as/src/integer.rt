@@ -5,7 +5,7 @@ ghost use Rattle.std.specs.Prelude.{MatchOption, OnOk};
 ghost use Rattle.cbor_model.specs.Readable.{PassesTags, IsInteger, IsFromZero, IsSigned, IsWithin};
 ghost use Rattle.cbor_io.specs.Error.{code_of};
 ghost use Rattle.cbor_decode.specs.Decoder.{SameSettings};
-ghost use Rattle.cbor_decode.specs.Gives.{TellsNoForm};
+ghost use Rattle.cbor_decode.specs.Gives.{ReportsNoForm};
 ghost use Rattle.cbor_decode_as.specs.TaggedHeads.{RefusesBehind};
 ghost use Rattle.cbor_decode_as.specs.Scalars.{IsNumber};
 ghost use Rattle.cbor_decode.specs.Steps as step;
@@ -83,7 +83,7 @@ pub fn read_integer<R: Source>(decoder: &mut Decoder<R>) -> Result<i128>
         decoder.old decoder.new result }
     ensures taken { OnOk result (step.Advances R.source decoder.old decoder.new) }
     ensures fault { IfErr result (call.RefusesWhole R.source R.refusals decoder.old) }
-    ensures no_form { IfErr result (λ e. TellsNoForm (code_of e)) }
+    ensures no_form { IfErr result (λ e. ReportsNoForm (code_of e)) }
     ensures memory { IfErr result (call.TakesNoMemory R.source (PassesTags IsInteger) decoder.old) }
     ensures settings { SameSettings decoder.old decoder.new }
 {
@@ -117,7 +117,7 @@ pub fn read_from_zero<R: Source>(
     ensures taken { OnOk result (step.Advances R.source decoder.old decoder.new) }
     ensures bound { IfOk result (λ n. n ≤ most) }
     ensures fault { IfErr result (call.RefusesWhole R.source R.refusals decoder.old) }
-    ensures no_form { IfErr result (λ e. TellsNoForm (code_of e)) }
+    ensures no_form { IfErr result (λ e. ReportsNoForm (code_of e)) }
     ensures memory { IfErr result
         (call.TakesNoMemory R.source (PassesTags (IsFromZero most)) decoder.old) }
     ensures settings { SameSettings decoder.old decoder.new }
@@ -140,7 +140,7 @@ fn from_zero_slow<R: Source>(
     ensures taken { OnOk result (step.Advances R.source decoder.old decoder.new) }
     ensures bound { IfOk result (λ n. n ≤ most) }
     ensures fault { IfErr result (call.RefusesWhole R.source R.refusals decoder.old) }
-    ensures no_form { IfErr result (λ e. TellsNoForm (code_of e)) }
+    ensures no_form { IfErr result (λ e. ReportsNoForm (code_of e)) }
     ensures memory { IfErr result
         (call.TakesNoMemory R.source (PassesTags (IsFromZero most)) decoder.old) }
     ensures settings { SameSettings decoder.old decoder.new }
@@ -169,7 +169,7 @@ pub fn read_u128<R: Source>(decoder: &mut Decoder<R>) -> Result<u128>
         decoder.old decoder.new result }
     ensures taken { OnOk result (step.Advances R.source decoder.old decoder.new) }
     ensures fault { IfErr result (call.RefusesWhole R.source R.refusals decoder.old) }
-    ensures no_form { IfErr result (λ e. TellsNoForm (code_of e)) }
+    ensures no_form { IfErr result (λ e. ReportsNoForm (code_of e)) }
     ensures memory { IfErr result
         (call.TakesNoMemory R.source (PassesTags (IsFromZero (2 ^ 128 - 1))) decoder.old) }
     ensures settings { SameSettings decoder.old decoder.new }
@@ -205,7 +205,7 @@ pub fn read_signed<R: Source>(
     ensures taken { OnOk result (step.Advances R.source decoder.old decoder.new) }
     ensures bounds { IfOk result (IsWithin most) }
     ensures fault { IfErr result (call.RefusesWhole R.source R.refusals decoder.old) }
-    ensures no_form { IfErr result (λ e. TellsNoForm (code_of e)) }
+    ensures no_form { IfErr result (λ e. ReportsNoForm (code_of e)) }
     ensures memory { IfErr result
         (call.TakesNoMemory R.source (PassesTags (IsSigned most)) decoder.old) }
     ensures settings { SameSettings decoder.old decoder.new }
@@ -228,7 +228,7 @@ fn signed_slow<R: Source>(decoder: &mut Decoder<R>, most: u64, message: &'static
     ensures taken { OnOk result (step.Advances R.source decoder.old decoder.new) }
     ensures bounds { IfOk result (IsWithin most) }
     ensures fault { IfErr result (call.RefusesWhole R.source R.refusals decoder.old) }
-    ensures no_form { IfErr result (λ e. TellsNoForm (code_of e)) }
+    ensures no_form { IfErr result (λ e. ReportsNoForm (code_of e)) }
     ensures memory { IfErr result
         (call.TakesNoMemory R.source (PassesTags (IsSigned most)) decoder.old) }
     ensures settings { SameSettings decoder.old decoder.new }
@@ -255,7 +255,7 @@ fn signed_slow<R: Source>(decoder: &mut Decoder<R>, most: u64, message: &'static
 #[inline(never)]
 fn no_number<R: Source>(decoder: &mut Decoder<R>, found: HeadAt, message: &'static str) -> Error
     ensures fault { RefusesBehind R.refusals found (R.source decoder.old.source) result }
-    ensures no_form { TellsNoForm (code_of result) }
+    ensures no_form { ReportsNoForm (code_of result) }
     ensures took { step.TookSome R.source decoder.old decoder.new }
     ensures settings { SameSettings decoder.old decoder.new }
 {

@@ -2,7 +2,7 @@
 
 ghost use Rattle.std.specs.Prelude.{◌≡◌, true, IfErr, IfOk};
 ghost use Rattle.cbor_decode.specs.Decoder.{SameSettings};
-ghost use Rattle.cbor_decode.specs.Gives.{TellsNoKey, TellsNoMemory};
+ghost use Rattle.cbor_decode.specs.Gives.{ReportsNoKey, ReportsNoMemory};
 ghost use Rattle.cbor_decode_as.specs.Nulls.{null_at};
 ghost use Rattle.cbor_decode.specs.Steps as step;
 
@@ -20,8 +20,8 @@ pub fn take_null<R: Source>(decoder: &mut Decoder<R>) -> Done<bool>
         decoder.old decoder.new result }
     ensures taken { IfOk result
         (λ null. null ≡ true → step.Advances R.source decoder.old decoder.new) }
-    ensures no_key { IfErr result (TellsNoKey decoder.new.refusal) }
-    ensures memory { IfErr result (TellsNoMemory decoder.new.refusal) }
+    ensures no_key { IfErr result (ReportsNoKey decoder.new.refusal) }
+    ensures memory { IfErr result (ReportsNoMemory decoder.new.refusal) }
     ensures settings { SameSettings decoder.old decoder.new }
 {
     match decoder.source.ahead().first().copied() {
@@ -41,8 +41,8 @@ fn take_null_peeked<R: Source>(decoder: &mut Decoder<R>) -> Done<bool>
         decoder.old decoder.new result }
     ensures taken { IfOk result
         (λ null. null ≡ true → step.Advances R.source decoder.old decoder.new) }
-    ensures no_key { IfErr result (TellsNoKey decoder.new.refusal) }
-    ensures memory { IfErr result (TellsNoMemory decoder.new.refusal) }
+    ensures no_key { IfErr result (ReportsNoKey decoder.new.refusal) }
+    ensures memory { IfErr result (ReportsNoMemory decoder.new.refusal) }
     ensures settings { SameSettings decoder.old decoder.new }
 {
     match decoder.source.peek() {

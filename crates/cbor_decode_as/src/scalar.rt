@@ -4,7 +4,7 @@ ghost use Rattle.std.specs.Prelude.{IfErr, OnOk};
 ghost use Rattle.cbor_model.specs.Readable.{PassesTags, IsBool, IsUnit};
 ghost use Rattle.cbor_io.specs.Error.{code_of};
 ghost use Rattle.cbor_decode.specs.Decoder.{SameSettings};
-ghost use Rattle.cbor_decode.specs.Gives.{TellsNoForm, TellsNoKey, TellsNoMemory};
+ghost use Rattle.cbor_decode.specs.Gives.{ReportsNoForm, ReportsNoKey, ReportsNoMemory};
 ghost use Rattle.cbor_decode_as.specs.TaggedHeads.{TakesHeadInside, TakesItemHead, found_head};
 ghost use Rattle.cbor_decode_as.specs.TaggedHeads.{opened_at, opened_inside};
 ghost use Rattle.cbor_decode_as.specs.Scalars.{IsFloatItem};
@@ -29,8 +29,8 @@ pub(crate) fn scalar_head<R: Source>(decoder: &mut Decoder<R>) -> Done<HeadAt>
     ensures opened { step.Gives R.source R.refusals (λ found. (found.levels, found.head))
         (λ l. opened_at decoder.old.levels) decoder.old decoder.new result }
     ensures taken { OnOk result (step.Advances R.source decoder.old decoder.new) }
-    ensures no_key { IfErr result (TellsNoKey decoder.new.refusal) }
-    ensures memory { IfErr result (TellsNoMemory decoder.new.refusal) }
+    ensures no_key { IfErr result (ReportsNoKey decoder.new.refusal) }
+    ensures memory { IfErr result (ReportsNoMemory decoder.new.refusal) }
     ensures settings { SameSettings decoder.old decoder.new }
 {
     let head = take_head(decoder)?;
@@ -53,8 +53,8 @@ fn scalar_head_inside<R: Source>(decoder: &mut Decoder<R>) -> Done<HeadAt>
     ensures opened { step.Gives R.source R.refusals (λ found. (found.levels, found.head))
         (λ l. opened_inside decoder.old.levels) decoder.old decoder.new result }
     ensures taken { OnOk result (step.Advances R.source decoder.old decoder.new) }
-    ensures no_key { IfErr result (TellsNoKey decoder.new.refusal) }
-    ensures memory { IfErr result (TellsNoMemory decoder.new.refusal) }
+    ensures no_key { IfErr result (ReportsNoKey decoder.new.refusal) }
+    ensures memory { IfErr result (ReportsNoMemory decoder.new.refusal) }
     ensures settings { SameSettings decoder.old decoder.new }
 {
     let levels = decoder.levels;
@@ -76,7 +76,7 @@ pub fn read_bool<R: Source>(decoder: &mut Decoder<R>) -> Result<bool>
         decoder.old decoder.new result }
     ensures taken { OnOk result (step.Advances R.source decoder.old decoder.new) }
     ensures fault { IfErr result (call.RefusesWhole R.source R.refusals decoder.old) }
-    ensures no_form { IfErr result (λ e. TellsNoForm (code_of e)) }
+    ensures no_form { IfErr result (λ e. ReportsNoForm (code_of e)) }
     ensures memory { IfErr result (call.TakesNoMemory R.source (PassesTags IsBool) decoder.old) }
     ensures settings { SameSettings decoder.old decoder.new }
 {
@@ -93,7 +93,7 @@ fn bool_slow<R: Source>(decoder: &mut Decoder<R>) -> Result<bool>
         decoder.old decoder.new result }
     ensures taken { OnOk result (step.Advances R.source decoder.old decoder.new) }
     ensures fault { IfErr result (call.RefusesWhole R.source R.refusals decoder.old) }
-    ensures no_form { IfErr result (λ e. TellsNoForm (code_of e)) }
+    ensures no_form { IfErr result (λ e. ReportsNoForm (code_of e)) }
     ensures memory { IfErr result (call.TakesNoMemory R.source (PassesTags IsBool) decoder.old) }
     ensures settings { SameSettings decoder.old decoder.new }
 {
@@ -123,7 +123,7 @@ pub fn read_float<R: Source>(decoder: &mut Decoder<R>) -> Result<Float>
         decoder.old decoder.new result }
     ensures taken { OnOk result (step.Advances R.source decoder.old decoder.new) }
     ensures fault { call.ReadsWhole R.source R.refusals decoder.old result }
-    ensures no_form { IfErr result (λ e. TellsNoForm (code_of e)) }
+    ensures no_form { IfErr result (λ e. ReportsNoForm (code_of e)) }
     ensures memory { IfErr result
         (call.TakesNoMemory R.source (PassesTags IsFloatItem) decoder.old) }
     ensures settings { SameSettings decoder.old decoder.new }
@@ -154,7 +154,7 @@ pub fn read_unit<R: Source>(decoder: &mut Decoder<R>) -> Result<()>
         decoder.old decoder.new result }
     ensures taken { OnOk result (step.Advances R.source decoder.old decoder.new) }
     ensures fault { IfErr result (call.RefusesWhole R.source R.refusals decoder.old) }
-    ensures no_form { IfErr result (λ e. TellsNoForm (code_of e)) }
+    ensures no_form { IfErr result (λ e. ReportsNoForm (code_of e)) }
     ensures memory { IfErr result (call.TakesNoMemory R.source (PassesTags IsUnit) decoder.old) }
     ensures settings { SameSettings decoder.old decoder.new }
 {

@@ -6,11 +6,11 @@ ghost use Rattle.std.specs.String.{string_bytes};
 ghost use Rattle.cbor_model.specs.Readable.{PassesTags, IsText};
 ghost use Rattle.cbor_io.specs.Error.{code_of};
 ghost use Rattle.cbor_decode.specs.Decoder.{SameSettings};
-ghost use Rattle.cbor_decode.specs.Gives.{TellsNoForm, TellsNoKey};
+ghost use Rattle.cbor_decode.specs.Gives.{ReportsNoForm, ReportsNoKey};
 ghost use Rattle.cbor_decode_as.specs.Identifiers.{IsMadeBy, NamesNoKey, NamesWhole};
 ghost use Rattle.cbor_decode.specs.declared.head.Head.TheVariants.{Bytes, Text};
 ghost use Rattle.cbor_decode_as.specs.Strings.{content_at, KeepsTextOf, SeeksItem, TakesText};
-ghost use Rattle.cbor_decode_as.specs.Strings.{SeeksWhole, TellsString};
+ghost use Rattle.cbor_decode_as.specs.Strings.{SeeksWhole, ReportsString};
 ghost use Rattle.cbor_decode_as.specs.Takes.{OnceMade, formats_of};
 ghost use Rattle.cbor_decode.specs.Steps as step;
 ghost use Rattle.cbor_decode_as.specs.Calls as call;
@@ -29,7 +29,7 @@ use cbor_read::{ReadErrorCode, Source};
 pub(crate) fn byte_string<R: Source>(decoder: &mut Decoder<R>, n: Option<u64>) -> Done<Vec<u8>>
     ensures read { step.Gives R.source R.refusals (λ v. v.items) (λ l. content_at l (Bytes n))
         decoder.old decoder.new result }
-    ensures no_key { IfErr result (TellsNoKey decoder.new.refusal) }
+    ensures no_key { IfErr result (ReportsNoKey decoder.new.refusal) }
     ensures settings { SameSettings decoder.old decoder.new }
 {
     match n {
@@ -45,7 +45,7 @@ fn text_content<R: Source>(decoder: &mut Decoder<R>, n: Option<u64>) -> Done<Vec
         decoder.old decoder.new result }
     ensures counted { IfOk result
         (λ v. length v.items ≤ (R.source decoder.new.source).offset) }
-    ensures no_key { IfErr result (TellsNoKey decoder.new.refusal) }
+    ensures no_key { IfErr result (ReportsNoKey decoder.new.refusal) }
     ensures settings { SameSettings decoder.old decoder.new }
 {
     match n {
@@ -66,7 +66,7 @@ fn checked<R: Source>(decoder: &mut Decoder<R>, bytes: Vec<u8>) -> Done<String>
     ensures read { KeepsTextOf (λ s. string_bytes s) bytes.items
         (R.source decoder.old.source).offset decoder.new.refusal result }
     ensures source { decoder.new.source ≡ decoder.old.source }
-    ensures no_key { IfErr result (TellsNoKey decoder.new.refusal) }
+    ensures no_key { IfErr result (ReportsNoKey decoder.new.refusal) }
     ensures settings { SameSettings decoder.old decoder.new }
 {
     let len = bytes.len();
@@ -85,9 +85,9 @@ fn definite_text<R: Source>(decoder: &mut Decoder<R>, n: u64) -> Done<String>
     ensures read { TakesText R.refusals (λ s. string_bytes s) (Text (Some n))
         (R.source decoder.old.source) (R.source decoder.new.source)
         decoder.new.refusal result }
-    ensures fault { IfErr result (TellsString R.refusals (Text (Some n))
+    ensures fault { IfErr result (ReportsString R.refusals (Text (Some n))
         (R.source decoder.old.source) decoder.new.refusal) }
-    ensures no_key { IfErr result (TellsNoKey decoder.new.refusal) }
+    ensures no_key { IfErr result (ReportsNoKey decoder.new.refusal) }
     ensures settings { SameSettings decoder.old decoder.new }
 {
     let ahead = decoder.source.ahead();
@@ -115,9 +115,9 @@ fn text_slow<R: Source>(decoder: &mut Decoder<R>, n: Option<u64>) -> Done<String
     ensures read { TakesText R.refusals (λ s. string_bytes s) (Text n)
         (R.source decoder.old.source) (R.source decoder.new.source)
         decoder.new.refusal result }
-    ensures fault { IfErr result (TellsString R.refusals (Text n)
+    ensures fault { IfErr result (ReportsString R.refusals (Text n)
         (R.source decoder.old.source) decoder.new.refusal) }
-    ensures no_key { IfErr result (TellsNoKey decoder.new.refusal) }
+    ensures no_key { IfErr result (ReportsNoKey decoder.new.refusal) }
     ensures settings { SameSettings decoder.old decoder.new }
 {
     let bytes = text_content(decoder, n)?;
@@ -134,7 +134,7 @@ fn string<R: Source>(decoder: &mut Decoder<R>) -> Done<Option<String>>
     ensures taken { OnOk result (step.Advances R.source decoder.old decoder.new) }
     ensures fault { SeeksWhole R.refusals decoder.old.levels (R.source decoder.old.source)
         decoder.new.refusal result }
-    ensures no_key { IfErr result (TellsNoKey decoder.new.refusal) }
+    ensures no_key { IfErr result (ReportsNoKey decoder.new.refusal) }
     ensures settings { SameSettings decoder.old decoder.new }
 {
     if let Some(n) = decoder.short_text() {
@@ -154,7 +154,7 @@ fn string_slow<R: Source>(decoder: &mut Decoder<R>) -> Done<Option<String>>
     ensures taken { OnOk result (step.Advances R.source decoder.old decoder.new) }
     ensures fault { SeeksWhole R.refusals decoder.old.levels (R.source decoder.old.source)
         decoder.new.refusal result }
-    ensures no_key { IfErr result (TellsNoKey decoder.new.refusal) }
+    ensures no_key { IfErr result (ReportsNoKey decoder.new.refusal) }
     ensures settings { SameSettings decoder.old decoder.new }
 {
     let found = scalar_head(decoder)?;
@@ -205,7 +205,7 @@ pub fn read_string<R: Source>(decoder: &mut Decoder<R>) -> Result<String>
         (PassesTags (λ r s. IsText r (string_bytes s))) decoder.old decoder.new result }
     ensures taken { OnOk result (step.Advances R.source decoder.old decoder.new) }
     ensures fault { IfErr result (call.RefusesWhole R.source R.refusals decoder.old) }
-    ensures no_form { IfErr result (λ e. TellsNoForm (code_of e)) }
+    ensures no_form { IfErr result (λ e. ReportsNoForm (code_of e)) }
     ensures settings { SameSettings decoder.old decoder.new }
 {
     match own_string(decoder) {

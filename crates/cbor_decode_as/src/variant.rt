@@ -4,7 +4,7 @@ ghost use Rattle.std.specs.Prelude.{◌≡◌, ◌+◌, ◌<◌, length, true};
 ghost use Rattle.std.specs.Prelude.{OnOk, OnErr, IfOk, IfErr};
 ghost use Rattle.cbor_io.specs.Error.{code_of, offset_of, HasNoOffset};
 ghost use Rattle.cbor_decode.specs.Decoder.{SameSettings};
-ghost use Rattle.cbor_decode.specs.Gives.{Stopped, TellsNoForm, TellsNoKey};
+ghost use Rattle.cbor_decode.specs.Gives.{Stopped, ReportsNoForm, ReportsNoKey};
 ghost use Rattle.cbor_decode_as.specs.Cases.{HasCase, IsEnumCode, enum_cases, form_cases};
 ghost use Rattle.cbor_decode_as.specs.Cases.{untagged_cases};
 ghost use Rattle.cbor_decode_as.specs.Enums.{IsName};
@@ -244,7 +244,7 @@ fn untagged_variant<'de, R: Read<'de>>(
 fn unassigned_byte<R: Source>(decoder: &mut Decoder<R>) -> Refused
     ensures read { Stopped R.refusals (λ l. unassigned_at) (R.source decoder.old.source)
         (R.source decoder.new.source) decoder.new.refusal result }
-    ensures no_key { TellsNoKey decoder.new.refusal result }
+    ensures no_key { ReportsNoKey decoder.new.refusal result }
     ensures settings { SameSettings decoder.old decoder.new }
 {
     match decoder.byte() {
@@ -265,7 +265,7 @@ fn name_alone<'de, R: Read<'de>>(decoder: &mut Decoder<R>, names: &[&str]) -> Re
         (R.source decoder.old.source) (R.source decoder.new.source)
         decoder.new.levels result }
     ensures taken { OnOk result (step.Advances R.source decoder.old decoder.new) }
-    ensures no_form { IfErr result (λ e. TellsNoForm (code_of e)) }
+    ensures no_form { IfErr result (λ e. ReportsNoForm (code_of e)) }
     ensures below { IfOk result (λ v. v.0 < length names.now) }
     ensures inside { IfOk result (λ v. IsInside v.1 decoder.new.levels
         decoder.old.levels) }
@@ -341,7 +341,7 @@ fn variant_name<'de, R: Read<'de>>(decoder: &mut Decoder<R>, names: &[&str]) -> 
     ensures read { call.TakesItem R.source R.refusals (IsName (texts names.now))
         decoder.old decoder.new result }
     ensures taken { OnOk result (step.Advances R.source decoder.old decoder.new) }
-    ensures no_form { IfErr result (λ e. TellsNoForm (code_of e)) }
+    ensures no_form { IfErr result (λ e. ReportsNoForm (code_of e)) }
     ensures below { IfOk result (λ i. i < length names.now) }
     ensures settings { SameSettings decoder.old decoder.new }
 {

@@ -164,7 +164,7 @@ module _ {S : Type 0} (names : List (List ℕ)) (fields : List (FieldOf S)) wher
   begins_with slots none {s} {t} {f} {g} {outer} {levels} {all} head formats =
       subst (λ (slots : Slots fields). StructSoFar names fields slots s f outer t g levels all) (sym none) (struct_begins names fields head formats)
 
-  -- an Err tells that no struct is there
+  -- an Err reports that no struct is there
   pub unread : {w : Input} (allowed : ReadErrorCode → Bool) (f : Formats) (levels : ℕ) (s t : Input) (e : Error) (r : Result S Error) → IsErrAnd r (λ x. x ≡ e)
       → NoStruct names fields allowed s w f levels (code_of e) (offset_of e) → t ≡ w → TakesItem allowed (formats_of f) (IsStruct names fields) levels s t r
   unread allowed f levels s t e (Ok x) is none same = absurd is

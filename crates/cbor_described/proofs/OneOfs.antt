@@ -19,7 +19,7 @@ use Rattle.cbor_described.specs.OneOfs.{either}
 use Rattle.cbor_de.specs.ItemLists.{AreItems, AreNoItems, TakesItems}
 use Rattle.cbor_decode_as.specs.Takes.{formats_of, raws, Refuses}
 use Rattle.cbor_decode_as.specs.Variants.{content_at, IsVariantHead, IsContent, IsNoContent, TakesContent, IsItemsOf, IsPartsHead, RefusesParts}
-use Rattle.cbor_decode_as.specs.Variants.{IsEntered, TellsAlone}
+use Rattle.cbor_decode_as.specs.Variants.{IsEntered, ReportsAlone}
 use Rattle.cbor_decode_as.specs.declared.variant.Form.{Form}
 use Rattle.cbor_decode_as.specs.declared.variant.Form.TheVariants as form
 use Rattle.cbor_described.specs.declared.variant_list.OneOf.{OneOf}
@@ -42,7 +42,7 @@ module _ (f : model.Formats) (left : ℕ) (form : Form) (allowed : ReadErrorCode
 
   -- where nothing has a meaning
   pub no_meaning : {A : Type 0} (e : Error) → TookSome s t → TakesContent {A = A} allowed f (λ c x. ⊥) left form s t (Err e)
-  no_meaning e took = record { took = took; told = λ bs tells. inr (λ x rest got. got.meaning) }
+  no_meaning e took = record { took = took; reported = λ bs reports. inr (λ x rest got. got.meaning) }
 
 -- the variants
 module _ {V W : Type 0} (this : Content → V → Type 0) (those : ℕ → Content → W → Type 0) where
@@ -115,7 +115,7 @@ module _ {E : Type 0} (names : List (List ℕ)) (means : Formats → ℕ → Con
   enum_answer head (Err e) h = content_unread (variant_is names (means f) i head formats refl) (λ f. means f i) (λ c x m. (x, m)) t e (Err e) h refl refl
 
 -- An enum that was entered is no identifier alone.
-pub entered_tells : (text : List ℕ) (f : Form) (left inner : ℕ) (e : Error) → IsEntered f left inner → TellsAlone text f e
-entered_tells text (form.Array remaining) left inner e entered = tt
-entered_tells text form.Map left inner e entered = tt
-entered_tells text form.Alone left inner e entered = absurd entered
+pub entered_reports : (text : List ℕ) (f : Form) (left inner : ℕ) (e : Error) → IsEntered f left inner → ReportsAlone text f e
+entered_reports text (form.Array remaining) left inner e entered = tt
+entered_reports text form.Map left inner e entered = tt
+entered_reports text form.Alone left inner e entered = absurd entered

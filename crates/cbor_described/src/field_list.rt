@@ -9,7 +9,7 @@ ghost use Rattle.cbor_de.specs.Fields.{AreHeld, IsHeld, Lacks, none_yet};
 ghost use Rattle.cbor_decode_as.specs.Identifiers.{texts};
 ghost use Rattle.cbor_de.specs.Structs.{IsAny, IsStruct, duplicate_text, missing_text};
 ghost use Rattle.cbor_io.specs.Error.{IsMessageOf, code_of};
-ghost use Rattle.cbor_decode.specs.Gives.{TellsNoForm};
+ghost use Rattle.cbor_decode.specs.Gives.{ReportsNoForm};
 ghost use Rattle.cbor_decode_as.specs.Takes.{context, formats_of};
 ghost use Rattle.cbor_de.specs.Forms.{any_of, key_form};
 ghost use Rattle.cbor_de.specs.Calls as call;
@@ -56,7 +56,7 @@ pub(crate) trait FieldList: Sized + Drop {
         ensures all { IfOk result (λ x. (c : Context)
             → AreHeld (fields c) (slots c held) x) }
         ensures lacking { IfErr result (λ e. (c : Context) → IsLacking (fields c) (slots c held)) }
-        ensures no_form { IfErr result (λ e. TellsNoForm (code_of e)) };
+        ensures no_form { IfErr result (λ e. ReportsNoForm (code_of e)) };
 }
 
 // The fields of a struct, which are read from a source.
@@ -69,7 +69,7 @@ pub(crate) trait ReadFields<'de, R: Read<'de>>: FieldList {
             (Self.fields c) i (Self.slots c held.old) (Self.slots c held.new)
             (R.source de.old.decoder.source) (R.source de.new.decoder.source) result }
         ensures form { IfErr result
-            (call.MayTell R.source (any_of key_form Self.wrong_forms) de.old) }
+            (call.MayReport R.source (any_of key_form Self.wrong_forms) de.old) }
         ensures forward { IfOk result (λ u. (R.source de.old.decoder.source).offset
             ≤ (R.source de.new.decoder.source).offset) }
         ensures settings { SameSettings de.old.decoder de.new.decoder };
@@ -88,7 +88,7 @@ pub(crate) trait ReadField<'de, R: Read<'de>>: FieldType {
         // A slot that has a value is refused by the name.
         ensures twice { IfErr result (λ e. is_some slot.old ≡ true
             → IsMessageOf (Some (duplicate_text name.now)) (code_of e)) }
-        ensures form { IfErr result (call.MayTell R.source Self.Of.wrong_forms de.old) }
+        ensures form { IfErr result (call.MayReport R.source Self.Of.wrong_forms de.old) }
         ensures forward { IfOk result (λ u. (R.source de.old.decoder.source).offset
             ≤ (R.source de.new.decoder.source).offset) }
         ensures settings { SameSettings de.old.decoder de.new.decoder };
@@ -219,7 +219,7 @@ fn required_field<A: FieldType>(alloc: Global, name: &str, held: Option<A>) -> R
     ensures held { IfOk result (λ x. IsHeld held A.missing x) }
     ensures lacks { IfErr result (λ e. Lacks A.missing held) }
     ensures text { IfErr result (λ e. IsMessageOf (Some (missing_text name.now)) (code_of e)) }
-    ensures no_form { IfErr result (λ e. TellsNoForm (code_of e)) }
+    ensures no_form { IfErr result (λ e. ReportsNoForm (code_of e)) }
 {
     match held {
         Some(value) => Ok(value),
@@ -284,7 +284,7 @@ where
         (R.source de.old.decoder.source) (R.source de.new.decoder.source) result }
     ensures twice { IfErr result (λ e. is_some slot.old ≡ true
         → IsMessageOf (Some (duplicate_text name.now)) (code_of e)) }
-    ensures form { IfErr result (call.MayTell R.source A.Of.wrong_forms de.old) }
+    ensures form { IfErr result (call.MayReport R.source A.Of.wrong_forms de.old) }
     ensures forward { IfOk result (λ u. (R.source de.old.decoder.source).offset
         ≤ (R.source de.new.decoder.source).offset) }
     ensures settings { SameSettings de.old.decoder de.new.decoder }
@@ -304,7 +304,7 @@ where
 // Passes over an item.
 fn skip_item<'de, R: Read<'de>>(de: &mut Deserializer<R>) -> Result<()>
     ensures read { call.TakesItem R.source R.refusals IsAny de.old de.new result }
-    ensures form { IfErr result (call.MayTell R.source key_form de.old) }
+    ensures form { IfErr result (call.MayReport R.source key_form de.old) }
     ensures settings { SameSettings de.old.decoder de.new.decoder }
 {
     match IgnoredAny::deserialize(de) {
@@ -323,7 +323,7 @@ pub(crate) fn read_fields<'de, R: Read<'de>, F: ReadFields<'de, R>>(
         (IsStruct (texts names.now) (F.fields (context de.old.decoder.formats R.lends)))
         de.old de.new result }
     ensures taken { OnOk result (call.Advances R.source de.old de.new) }
-    ensures form { IfErr result (call.MayTell R.source (any_of key_form F.wrong_forms) de.old) }
+    ensures form { IfErr result (call.MayReport R.source (any_of key_form F.wrong_forms) de.old) }
     ensures settings { SameSettings de.old.decoder de.new.decoder }
 {
     let outer = de.levels_left();
@@ -343,7 +343,7 @@ fn fields_within<'de, R: Read<'de>, F: ReadFields<'de, R>>(
         (IsStruct (texts names.now) (F.fields (context de.old.decoder.formats R.lends)))
         de.old de.new result }
     ensures taken { OnOk result (call.Advances R.source de.old de.new) }
-    ensures form { IfErr result (call.MayTell R.source (any_of key_form F.wrong_forms) de.old) }
+    ensures form { IfErr result (call.MayReport R.source (any_of key_form F.wrong_forms) de.old) }
     ensures formats { de.new.decoder.formats ≡ de.old.decoder.formats }
 {
     let mut remaining = map_head(de)?;

@@ -34,7 +34,7 @@ pub trait ReadParts<'de, R: Read<'de>>: ReadableParts {
             (Self.reads (texts names.now) (context de.old.decoder.formats R.lends))
             de.old de.new result }
         ensures taken { OnOk result (call.Advances R.source de.old de.new) }
-        ensures form { IfErr result (call.MayTell R.source Self.wrong_forms de.old) }
+        ensures form { IfErr result (call.MayReport R.source Self.wrong_forms de.old) }
         ensures settings { SameSettings de.old.decoder de.new.decoder };
 }
 
@@ -90,7 +90,7 @@ pub trait FromParts: Schema {
             (λ r x. Self.Parts.reads Self.names (context de.old.decoder.formats R.lends) r
             (Self.parts x)) de.old de.new result }
         ensures taken { OnOk result (call.Advances R.source de.old de.new) }
-        ensures form { IfErr result (call.MayTell R.source Self.Parts.wrong_forms de.old) }
+        ensures form { IfErr result (call.MayReport R.source Self.Parts.wrong_forms de.old) }
         ensures settings { SameSettings de.old.decoder de.new.decoder }
     {
         match <Self::Parts as ReadParts<'de, R>>::read_parts(de, names) {

@@ -7,7 +7,7 @@ ghost use Rattle.cbor_decode_as.specs.Identifiers.{texts};
 ghost use Rattle.cbor_decode_as.specs.Takes.{context, formats_of};
 ghost use Rattle.cbor_decode_as.specs.Variants.{TakesContent};
 ghost use Rattle.cbor_model.specs.Readable.{PassesTags};
-ghost use Rattle.cbor_de.specs.Forms.{MayTellContent, any_of, enum_form};
+ghost use Rattle.cbor_de.specs.Forms.{MayReportContent, any_of, enum_form};
 ghost use Rattle.cbor_de.specs.Calls as call;
 
 use crate::parts::{ReadParts, ReadableParts};
@@ -45,7 +45,7 @@ pub trait ReadVariant<'de, R: Read<'de>>: Variant {
         ensures read { TakesContent R.refusals (formats_of de.old.decoder.formats)
             (Self.means (context de.old.decoder.formats R.lends)) de.old.decoder.levels form
             (R.source de.old.decoder.source) (R.source de.new.decoder.source) result }
-        ensures form { IfErr result (MayTellContent Self.wrong_forms
+        ensures form { IfErr result (MayReportContent Self.wrong_forms
             (formats_of de.old.decoder.formats) form (R.source de.old.decoder.source)) }
         ensures alone { IfErr result (Self.alone form) }
         ensures formats { de.new.decoder.formats ≡ de.old.decoder.formats };
@@ -71,14 +71,14 @@ impl<'de, R: Read<'de>> ReadVariant<'de, R> for () {
 impl<T: Readable> Variant for Newtype<T> {
     ghost use Rattle.std.specs.Prelude.{codes};
     ghost use Rattle.cbor_decode_as.specs.Enums.{IsPart};
-    ghost use Rattle.cbor_decode_as.specs.Variants.{TellsAlone, alone_text};
+    ghost use Rattle.cbor_decode_as.specs.Variants.{ReportsAlone, alone_text};
     ghost use Rattle.cbor_de.specs.Forms.{any_of, part_form};
 
     ghost means = { λ c content y. IsPart (T.reads c) content y.0 };
 
     ghost wrong_forms = { any_of part_form T.wrong_forms };
 
-    ghost alone = { TellsAlone (alone_text (codes "newtype")) };
+    ghost alone = { ReportsAlone (alone_text (codes "newtype")) };
 }
 
 impl<'de, R: Read<'de>, T: Deserialize<'de, R>> ReadVariant<'de, R> for Newtype<T> {
@@ -97,13 +97,13 @@ impl<'de, R: Read<'de>, T: Deserialize<'de, R>> ReadVariant<'de, R> for Newtype<
 impl<F: ReadableTuple> Variant for Tuple<F> {
     ghost use Rattle.std.specs.Prelude.{codes};
     ghost use Rattle.cbor_decode_as.specs.Enums.{AreParts};
-    ghost use Rattle.cbor_decode_as.specs.Variants.{TellsAlone, alone_text};
+    ghost use Rattle.cbor_decode_as.specs.Variants.{ReportsAlone, alone_text};
 
     ghost means = { λ c content y. AreParts (F.parts c) content y.0 };
 
     ghost wrong_forms = { F.wrong_forms };
 
-    ghost alone = { TellsAlone (alone_text (codes "tuple")) };
+    ghost alone = { ReportsAlone (alone_text (codes "tuple")) };
 }
 
 impl<'de, R: Read<'de>, F: ReadTuple<'de, R>> ReadVariant<'de, R> for Tuple<F> {
@@ -148,14 +148,14 @@ where
 {
     ghost use Rattle.std.specs.Prelude.{codes};
     ghost use Rattle.cbor_decode_as.specs.Enums.{IsPart};
-    ghost use Rattle.cbor_decode_as.specs.Variants.{TellsAlone, alone_text};
+    ghost use Rattle.cbor_decode_as.specs.Variants.{ReportsAlone, alone_text};
     ghost use Rattle.cbor_de.specs.Forms.{any_of, part_form};
 
     ghost means = { λ c content y. IsPart (N.Parts.reads N.names c) content y.0 };
 
     ghost wrong_forms = { any_of part_form N.Parts.wrong_forms };
 
-    ghost alone = { TellsAlone (alone_text (codes "struct")) };
+    ghost alone = { ReportsAlone (alone_text (codes "struct")) };
 }
 
 impl<'de, R: Read<'de>, N: FieldNames> ReadVariant<'de, R> for Struct<N>
@@ -209,7 +209,7 @@ pub(crate) trait ReadVariants<'de, R: Read<'de>>: VariantList {
         ensures read { TakesContent R.refusals (formats_of de.old.decoder.formats)
             (Self.means (context de.old.decoder.formats R.lends) i) de.old.decoder.levels form
             (R.source de.old.decoder.source) (R.source de.new.decoder.source) result }
-        ensures form { IfErr result (MayTellContent Self.wrong_forms
+        ensures form { IfErr result (MayReportContent Self.wrong_forms
             (formats_of de.old.decoder.formats) form (R.source de.old.decoder.source)) }
         ensures formats { de.new.decoder.formats ≡ de.old.decoder.formats };
 }
@@ -262,7 +262,7 @@ pub(crate) fn read_variants<'de, R: Read<'de>, E: ReadVariants<'de, R>>(
         (PassesTags (IsEnum (formats_of de.old.decoder.formats) (texts names.now)
         (E.means (context de.old.decoder.formats R.lends)))) de.old de.new result }
     ensures taken { OnOk result (call.Advances R.source de.old de.new) }
-    ensures form { IfErr result (call.MayTell R.source (any_of enum_form E.wrong_forms) de.old) }
+    ensures form { IfErr result (call.MayReport R.source (any_of enum_form E.wrong_forms) de.old) }
     ensures settings { SameSettings de.old.decoder de.new.decoder }
 {
     let outer = de.levels_left();
@@ -280,7 +280,7 @@ fn variants_within<'de, R: Read<'de>, E: ReadVariants<'de, R>>(
         (PassesTags (IsEnum (formats_of de.old.decoder.formats) (texts names.now)
         (E.means (context de.old.decoder.formats R.lends)))) de.old de.new result }
     ensures taken { OnOk result (call.Advances R.source de.old de.new) }
-    ensures form { IfErr result (call.MayTell R.source (any_of enum_form E.wrong_forms) de.old) }
+    ensures form { IfErr result (call.MayReport R.source (any_of enum_form E.wrong_forms) de.old) }
     ensures formats { de.new.decoder.formats ≡ de.old.decoder.formats }
 {
     let (index, form) = variant_head(de, names)?;

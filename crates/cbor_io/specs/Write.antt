@@ -1,4 +1,4 @@
--- What a piece leaves in a sink that tells the bytes it was given.
+-- What a piece leaves in a sink that reports the bytes it was given.
 use Rattle.std.specs.Prelude.{◌≡◌, ℕ, ◌+◌, ◌≤◌, List, ◌++◌, Option, Some, None, Result, OnOk, OnErr, IsOk, length, take, drop}
 use Rattle.std.specs.Io.KnownBytes.{Appends}
 use Rattle.cbor_io.specs.Error.{code_of, offset_of}

@@ -22,7 +22,7 @@ pub use slice_write::SliceWrite;
 ///
 /// A sink of one's own says in `written` which bytes it was given and in `refuses` which errors it
 /// returns. One that holds a `&mut`, say in a field `to`, names it in `references`, as
-/// `λ s. s.to.ghost_name ∷ []`. One that tells its bytes and refuses a piece only for want of room
+/// `λ s. s.to.ghost_name ∷ []`. One that reports its bytes and refuses a piece only for want of room
 /// says in `capacity` how many it takes in all, as `λ s. Some s.most`. Others leave these out, as
 /// this one does:
 ///
@@ -45,7 +45,7 @@ pub trait Write {
     ghost use Rattle.cbor_io.specs.declared.error.Error.{Error};
     ghost use Rattle.std.specs.Prelude.{◌≡◌, ℕ, List, [], Option, None, IfErr};
 
-    // The bytes that it was given; None where it doesn't tell them.
+    // The bytes that it was given; None where it doesn't report them.
     ghost written: { Self → Option (List ℕ) };
 
     // Which errors it returns, by what the refusal leaves.

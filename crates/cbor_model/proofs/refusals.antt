@@ -1,4 +1,4 @@
--- Why bytes are refused: what is allowed of them, and that the reference reader tells the first.
+-- Why bytes are refused: what is allowed of them, and that the reference reader reports the first.
 pub mod Wanted
 pub mod FaultMeaning
 pub mod Completion
@@ -14,9 +14,9 @@ pub mod WantedFaults
 pub mod NoFronts
 pub mod EarlierRefusals
 pub mod ReadingRules
-pub mod TellsAllowed
-pub mod TellsEnds
-pub mod TellsFirst
+pub mod ReportsAllowed
+pub mod ReportsEnds
+pub mod ReportsFirst
 pub mod TextPlaces
 pub mod FirstRefusal
 pub mod RefusalExamples

@@ -198,7 +198,7 @@ pub record IsOverScratch (scratch : Option ℕ) (bytes : List ℕ) (j : ℕ) : T
   pub open at use *
   pub whole : at.first.rest ≡ next.bytes ++ rest
 
--- The bytes allow the refusal, at this place, and this offset is told; both are counted from the
+-- The bytes allow the refusal, at this place, and this offset is reported; both are counted from the
 -- first byte. They are one number, but where a text isn't UTF-8. A key's format is no matter of a
 -- value's.
 abbrev pub IsAllowed : Limits → List ℕ → Refusal → ℕ → ℕ → Type 0

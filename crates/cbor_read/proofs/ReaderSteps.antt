@@ -28,9 +28,9 @@ at_end_before None b h e = tt
 at_end_before (Some xs) None h e = absurd h
 at_end_before (Some xs) (Some ys) h e = h ∙ e
 
-told_end : (a : Option (List ℕ)) → IfSome a (λ bs. bs ≡ []) → IsAtEnd a
-told_end None e = tt
-told_end (Some xs) e = e
+reported_end : (a : Option (List ℕ)) → IfSome a (λ bs. bs ≡ []) → IsAtEnd a
+reported_end None e = tt
+reported_end (Some xs) e = e
 
 -- all that was to come was taken, and it is too little
 ended : (a b : Option (List ℕ)) (p : List ℕ) (n at start : ℕ) → Consumes a b p → IsAtEnd b
@@ -83,7 +83,7 @@ stays_kept s t w = record {
 }
 
 pub stays_end : (s : Input) → IfSome s.to_come (λ bs. bs ≡ []) → IsAtEnd s.to_come
-stays_end s e = told_end s.to_come e
+stays_end s e = reported_end s.to_come e
 
 -- ---- what was taken, and then more
 

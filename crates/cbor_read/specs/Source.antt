@@ -14,7 +14,7 @@ use Rattle.cbor_io.specs.declared.read_error.ReadErrorCode.TheVariants.{OutOfMem
 use Rattle.cbor_read.specs.declared.EitherLifetime.{EitherLifetime}
 use Rattle.cbor_read.specs.declared.EitherLifetime.TheVariants.{Short, Long}
 
--- A source is the bytes to come (None where it doesn't tell them), the buffer, how many bytes it
+-- A source is the bytes to come (None where it doesn't report them), the buffer, how many bytes it
 -- handed out, and the most that the buffer holds (None where it grows).
 pub record Input : Type 0 where
   pub to_come : Option (List ℕ)

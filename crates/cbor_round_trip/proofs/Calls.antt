@@ -39,15 +39,15 @@ first_by_memory total (Ok x) P h = tt
 first_by_memory false (Err e) P h = tt
 first_by_memory true (Err e) P h = inl h
 
--- what can't be is told so
+-- what can't be is reported so
 unstorable_code : (code : ErrorCode) (S : Type 0) → IsRefusedBy code S → IsUnstorableCode code
 unstorable_code (Message text) S h = h.0
 unstorable_code OutOfMemory S h = tt
 unstorable_code _ S h = absurd h
 
-pub told_unstorable : {T : Type 0} (r : Result T Error) (S : Type 0) (e : Error) → IsNotWritten S e → IsErrAnd r (λ x. x ≡ e) → IfErr r SaysUnstorable
-told_unstorable (Ok x) S e h is = tt
-told_unstorable (Err x) S e h is = subst SaysUnstorable (sym is) (unstorable_code e.code S h.0, h.1)
+pub reported_unstorable : {T : Type 0} (r : Result T Error) (S : Type 0) (e : Error) → IsNotWritten S e → IsErrAnd r (λ x. x ≡ e) → IfErr r SaysUnstorable
+reported_unstorable (Ok x) S e h is = tt
+reported_unstorable (Err x) S e h is = subst SaysUnstorable (sym is) (unstorable_code e.code S h.0, h.1)
 
 module _ {A : Type 0} (document : A → Doc) (reads : Context → Raw → A → Type 0) (fits : A → Type 0) (determined : Type 0) (law : IsReadBack document reads fits determined)
     (x : A) (bytes : List ℕ) (stored : IsStorableDocument (document x)) (range : IsDocumentInRange (document x)) (is : bytes ≡ document_bytes (document x) false false) where
@@ -55,8 +55,8 @@ module _ {A : Type 0} (document : A → Doc) (reads : Context → Raw → A → 
       → IfOk r (λ again. document again ≡ document x)
   same_again r fit found =
       IfOk-weaker r (SpellsAs all_formats (reads from_reader_context) bytes) (λ again. document again ≡ document x)
-      (λ again told. (written document reads fits determined law).alone x again fit of_reader false false stored range
-      (subst (λ (bs : List ℕ). SpellsAs all_formats (reads from_reader_context) bs again) is told)) found
+      (λ again reported. (written document reads fits determined law).alone x again fit of_reader false false stored range
+      (subst (λ (bs : List ℕ). SpellsAs all_formats (reads from_reader_context) bs again) is reported)) found
 
   pub spelled_again : fits x → depth (raw_of (document x) false false) ≤ max_depth
       → SpellsAs all_formats (reads from_reader_context) bytes x

@@ -19,7 +19,7 @@ use Rattle.cbor_io.specs.declared.error.Category.TheVariants.{Eof}
 use Rattle.cbor_io.specs.declared.error.Error.{Error}
 use Rattle.cbor_io.specs.declared.error.ErrorCode.{ErrorCode}
 use Rattle.cbor_io.specs.declared.error.ErrorCode.TheVariants.{Io, LengthOutOfRange, OutOfMemory}
-use Rattle.cbor_decode.specs.FirstRefusal.{TellsFirst, refusal_code}
+use Rattle.cbor_decode.specs.FirstRefusal.{ReportsFirst, refusal_code}
 use Rattle.cbor_decode.specs.Gives.{IsMemoryOrFault, IsMemoryOrFaultBy}
 use Rattle.cbor_de.specs.Items.{AreItems, AreMostItems}
 use Rattle.cbor_round_trip.specs.CutOff.{IsCutTo, IsPartOfFirst, SaysCutOff, bounds_at}
@@ -181,8 +181,8 @@ module _ {log : List ℕ} {items : List Raw} {bytes : List ℕ} {whole : List Ra
   whole_are_most = longest_items max_depth (record { acceptable = each_front max_depth whole c.behind each; spelled = c.parts }) (no_item rest rest_is)
 
   -- what follows them is refused first for its end
-  pub rest_goes_on : (start : ℕ) (e : Error) → TellsFirst (bounds_at start) rest e → (SaysCutOff e → ⊥) → ⊥
-  rest_goes_on start e tells not = refused rest rest_is start e tells.why tells.first.place tells.offset tells.code tells.first.allowed not
+  pub rest_goes_on : (start : ℕ) (e : Error) → ReportsFirst (bounds_at start) rest e → (SaysCutOff e → ⊥) → ⊥
+  rest_goes_on start e reports not = refused rest rest_is start e reports.why reports.first.place reports.offset reports.code reports.first.allowed not
 
 -- ---- what an error says
 

@@ -15,7 +15,7 @@ use Rattle.cbor_io.specs.declared.error.ErrorCode.{ErrorCode}
 use Rattle.cbor_io.specs.declared.error.ErrorCode.TheVariants.{Io, LengthOutOfRange, OutOfMemory, TrailingData}
 use Rattle.cbor_read.specs.Source.{Input, Lends, fixed_refusals, start_of_slice}
 use Rattle.cbor_decode.specs.AtEnd.{EndRefused}
-use Rattle.cbor_decode.specs.Gives.{Ends, Reports}
+use Rattle.cbor_decode.specs.Gives.{Ends, ReportsIo}
 use Rattle.cbor_decode_as.specs.Takes.{ExcusedBy, TakesItem, lending}
 use Rattle.cbor_de.specs.ItemTaken.{BeginsAs, BeginsAsNone, ItemTaken, TookItem}
 use Rattle.cbor_round_trip.specs.ReadBack.{IsWrittenReadBack}
@@ -69,7 +69,7 @@ module _ {A : Type 0} {document : A → Doc} {reads : Context → Raw → A → 
 
 -- ---- what is read from a slice, with a scratch
 
-memory_alone : (code : ErrorCode) (at : ℕ) → ExcusedBy (Reports fixed_refusals) code at → (code ≡ OutOfMemory) × (at ≡ 0)
+memory_alone : (code : ErrorCode) (at : ℕ) → ExcusedBy (ReportsIo fixed_refusals) code at → (code ≡ OutOfMemory) × (at ≡ 0)
 memory_alone OutOfMemory at h = (refl, h)
 memory_alone (Io fault) at h = let e = h.0.1 in absurd cc
 memory_alone _ at h = absurd h
@@ -92,7 +92,7 @@ module _ {A : Type 0} (reads : Context → Raw → A → Type 0) where
       {s : Input} (t : Input) {f : Formats} {left : ℕ} (begun : s ≡ start_of_slice bytes (Some room)) (deep : left ≡ levels) (formats : f ≡ all_formats) where
     taken : (r : Result A Error) → TakesItem fixed_refusals f (reads (lending f lends)) left s t r
         → MatchResult r (TookItem all_formats levels as_read (start_of_slice bytes (Some room)) t bytes)
-        (λ e. ExcusedBy (Reports fixed_refusals) (code_of e) (offset_of e) ⊎ BeginsAsNone all_formats levels as_read (start_of_slice bytes (Some room)) bytes)
+        (λ e. ExcusedBy (ReportsIo fixed_refusals) (code_of e) (offset_of e) ⊎ BeginsAsNone all_formats levels as_read (start_of_slice bytes (Some room)) bytes)
     taken r given =
         let here = subst (λ (x : Input). TakesItem fixed_refusals f (reads (lending f lends)) left x t r) begun given in
         let within = subst (λ (n : ℕ). TakesItem fixed_refusals f (reads (lending f lends)) n (start_of_slice bytes (Some room)) t r) deep here in
@@ -103,7 +103,7 @@ module _ {A : Type 0} (reads : Context → Raw → A → Type 0) where
     pub whole_read : (x : A) → TakesItem fixed_refusals f (reads (lending f lends)) left s t (Ok x) → Ends fixed_refusals t (Ok tt) → SaysWithin levels as_read bytes x
     whole_read x given end =
         let took = taken (Ok x) given in
-        subst (λ (rest : List ℕ). BeginsAs all_formats levels as_read bytes x rest) (end took.rest took.tells) took.read
+        subst (λ (rest : List ℕ). BeginsAs all_formats levels as_read bytes x rest) (end took.rest took.reports) took.read
 
     module _ (e : Error) (x : A) (says : SaysWithin levels as_read bytes x) where
       -- what says a value is refused for lack of memory alone, where the scratch is long enough
@@ -119,4 +119,4 @@ module _ {A : Type 0} (reads : Context → Raw → A → Type 0) where
           let took = taken (Ok y) given in
           let same = sym took.read.begins.spelled ∙ says.begins.spelled ∙ append-nil _ in
           let nothing = (one_spelling took.read.item says.item took.rest took.read.begins.acceptable.fits says.begins.acceptable.fits same).1 in
-          absurd (ended (code_of e) (offset_of e) t u (took.tells.is ∙ ap Some nothing) end)
+          absurd (ended (code_of e) (offset_of e) t u (took.reports.is ∙ ap Some nothing) end)

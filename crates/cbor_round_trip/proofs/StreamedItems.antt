@@ -18,9 +18,9 @@ use Rattle.cbor_io.specs.declared.error.ErrorCode.{ErrorCode}
 use Rattle.cbor_io.specs.declared.error.ErrorCode.TheVariants.{EofWhileParsingArray, EofWhileParsingMap, EofWhileParsingValue, InvalidUtf8, Io, LengthOutOfRange, OutOfMemory}
 use Rattle.cbor_io.specs.declared.error.ErrorCode.TheVariants.{RecursionLimitExceeded, ScratchTooSmall, TrailingData, UnassignedCode, UnexpectedCode, WrongStructFormat}
 use Rattle.cbor_read.specs.Source.{reader_refusals, start_of_reader}
-use Rattle.cbor_decode.specs.FirstRefusal.{TellsFirst, refusal_code}
-use Rattle.cbor_decode.specs.Gives.{FailsBy, Gave, IsMemoryOrFault, IsMemoryOrFaultBy, Reports, limits, values}
-use Rattle.cbor_decode_as.specs.Takes.{TellsItem}
+use Rattle.cbor_decode.specs.FirstRefusal.{ReportsFirst, refusal_code}
+use Rattle.cbor_decode.specs.Gives.{FailsBy, Gave, IsMemoryOrFault, IsMemoryOrFaultBy, ReportsIo, limits, values}
+use Rattle.cbor_decode_as.specs.Takes.{ReportsItem}
 use Rattle.cbor_de.specs.FirstOfItem.{ItemRefusedFirst}
 use Rattle.cbor_de.specs.ItemTaken.{BeginsAs}
 use Rattle.cbor_de.specs.Items.{AreMostItems, ItemsBegin}
@@ -45,7 +45,7 @@ module _ {A : Type 0} (reads : Raw → A → Type 0) where
   last_value [] x bytes rest h = (bytes, refl, subst (λ (r : List ℕ). BeginsAs all_formats max_depth reads bytes x r) h.2 h.1)
   last_value (y ∷ xs) x bytes rest h = let t = last_value xs x h.0 rest h.2 in (t.0, (h.0, h.1, t.1), t.2)
 
--- ---- what an error tells
+-- ---- what an error reports
 
 -- where memory ran out, it did, or the reader failed
 pub memory_fault : (e : Error) → IsOutOfMemory e → IsMemoryOrFault e
@@ -64,7 +64,7 @@ no_memory too_deep h = h
 no_memory scratch_too_small h = h
 no_memory wrong_struct_format h = h
 
--- of an item at the front no error tells more than that memory ran out or the reader failed
+-- of an item at the front no error reports more than that memory ran out or the reader failed
 no_fault : (code : ErrorCode) (end place : ℕ) (Device : Type 0) (x : Val × List ℕ) → FailsBy Device code end place (Ok x) → IsMemoryOrFaultBy code
 no_fault OutOfMemory end place Device x h = tt
 no_fault (Io fault) end place Device x h = tt
@@ -127,27 +127,27 @@ module _ {A : Type 0} (view : A → Val) (bytes : List ℕ) where
         )
 
     module _ (law : ItemRefusedFirst true) (e : Error) (given : GivesError reader_refusals by true e s t) where
-      fault : TellsItem false true reader_refusals all_formats max_depth s.input e
-      fault = subst (λ (f : Formats). TellsItem false true reader_refusals f max_depth s.input e) far.given.formats
-          (subst (λ (n : ℕ). TellsItem false true reader_refusals s.formats n s.input e) far.given.levels given.fault)
+      fault : ReportsItem false true reader_refusals all_formats max_depth s.input e
+      fault = subst (λ (f : Formats). ReportsItem false true reader_refusals f max_depth s.input e) far.given.formats
+          (subst (λ (n : ℕ). ReportsItem false true reader_refusals s.formats n s.input e) far.given.levels given.fault)
 
-      no_item : TellsFirst (bounds_at s.input.offset) far.given.rest e → (r : Raw) (end : List ℕ) → IsAcceptable r → far.given.rest ≡ spell r ++ end → ⊥
+      no_item : ReportsFirst (bounds_at s.input.offset) far.given.rest e → (r : Raw) (end : List ℕ) → IsAcceptable r → far.given.rest ≡ spell r ++ end → ⊥
       no_item first r end acceptable is =
           let rest = far.given.rest in
           let total = s.input.offset + length rest in
           let read : item_at (values all_formats (limits s.input rest)) max_depth rest ≡ Ok (value r, end) =
           ap (λ (m : Option ℕ). item_at (values all_formats (record { total = total; room = m })) max_depth rest) far.given.room
           ∙ ap (item_at (values all_formats (record { total = total; room = None })) max_depth) is
-          ∙ value_again max_depth total None r end far.given.tells.short (omega (arith, ap length is)) tt acceptable in
-          no_memory first.why (subst IsMemoryOrFaultBy first.code (no_fault (code_of e) total (offset_of e) (Reports reader_refusals) (value r, end)
-          (subst (FailsBy (Reports reader_refusals) (code_of e) total (offset_of e)) read (fault rest far.given.tells))))
+          ∙ value_again max_depth total None r end far.given.reports.short (omega (arith, ap length is)) tt acceptable in
+          no_memory first.why (subst IsMemoryOrFaultBy first.code (no_fault (code_of e) total (offset_of e) (ReportsIo reader_refusals) (value r, end)
+          (subst (FailsBy (ReportsIo reader_refusals) (code_of e) total (offset_of e)) read (fault rest far.given.reports))))
 
       -- after an error
-      pub most_items_streamed : IsMemoryOrFault e ⊎ (AreMostItems max_depth bytes items far.given.rest × TellsFirst (bounds_at s.input.offset) far.given.rest e)
-      most_items_streamed = elim (law reader_refusals max_depth s.input far.given.rest e far.given.tells far.given.are_bytes fault) [
+      pub most_items_streamed : IsMemoryOrFault e ⊎ (AreMostItems max_depth bytes items far.given.rest × ReportsFirst (bounds_at s.input.offset) far.given.rest e)
+      most_items_streamed = elim (law reader_refusals max_depth s.input far.given.rest e far.given.reports far.given.are_bytes fault) [
         | inl memory ↦ inl (memory_fault e memory)
         | inr (inl failed) ↦ inl failed.1
-        | inr (inr tells) ↦
-            let first = subst (λ (m : Option ℕ). TellsFirst (record { start = s.input.offset; levels = max_depth; scratch = m }) far.given.rest e) far.given.room tells in
+        | inr (inr reports) ↦
+            let first = subst (λ (m : Option ℕ). ReportsFirst (record { start = s.input.offset; levels = max_depth; scratch = m }) far.given.rest e) far.given.room reports in
             inr (longest_items max_depth far.begin (no_item first), first)
       ]

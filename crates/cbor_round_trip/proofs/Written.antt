@@ -36,9 +36,9 @@ module _ {A : Type 0} (document : A → Doc) (reads : Context → Raw → A → 
 
   alone : (x y : A) → fits x → (l : Lends) (p g : Bool) → IsStorableDocument (document x) → IsDocumentInRange (document x)
       → SpellsAs all_formats (reads (lending all_formats l)) (document_bytes (document x) p g) y → document y ≡ document x
-  alone x y fit l p g stored range told =
-      let same = item_is (document x) p g told.item stored range told.acceptable told.spelled in
-      law.alone x y fit l p g (subst (λ (r : Raw). reads (lending all_formats l) r y) same told.means)
+  alone x y fit l p g stored range reported =
+      let same = item_is (document x) p g reported.item stored range reported.acceptable reported.spelled in
+      law.alone x y fit l p g (subst (λ (r : Raw). reads (lending all_formats l) r y) same reported.means)
 
   pub written : IsWrittenReadBack document reads fits
   written = record { itself = spelled; alone = alone }

@@ -20,7 +20,7 @@ use Rattle.cbor_decode_as.specs.Maps.{AsMap, ArePairsRead, AreEntries, put_all}
 use Rattle.cbor_round_trip.specs.OneReading.{in_map}
 use Rattle.cbor_round_trip.specs.ReadBack.{IsReadBack}
 
--- the order of two values is told by their documents
+-- the order of two values is shown by their documents
 abbrev pub IsToldByDocuments : {K : Type 0} → (K → Doc) → (K → K → Ordering) → Type 0
 IsToldByDocuments {K} document cmp = (a b c d : K) → document a ≡ document c → document b ≡ document d → cmp a b ≡ cmp c d
 
@@ -82,7 +82,7 @@ AreFit cmp key_fits value_fits es =
 -- ---- the pairs of a document
 
 module _ {K V : Type 0} {cmp : K → K → Ordering} {key_doc : K → Doc} {value_doc : V → Doc} {keys : Context → Raw → K → Type 0} {values : Context → Raw → V → Type 0} {key_fits : K → Type 0} {value_fits : V → Type 0} {key_determined value_determined : Type 0}
-    (total : IsTotalOrder cmp) (told : IsToldByDocuments key_doc cmp) (key : IsReadBack key_doc keys key_fits key_determined) (value : IsReadBack value_doc values value_fits value_determined) where
+    (total : IsTotalOrder cmp) (reported : IsToldByDocuments key_doc cmp) (key : IsReadBack key_doc keys key_fits key_determined) (value : IsReadBack value_doc values value_fits value_determined) where
   abbrev EntriesFit : List (K × V) → Type 0
   EntriesFit = AllByRecursion (λ e. key_fits e.0 × value_fits e.1)
 
@@ -113,7 +113,7 @@ module _ {K V : Type 0} {cmp : K → K → Ordering} {key_doc : K → Doc} {valu
   all_above k j [] (f ∷ fs) same fit l p g h up = absurd h
   all_above k j (e ∷ es) [] same fit l p g h up = absurd h
   all_above k j (e ∷ es) (f ∷ fs) same fit l p g h up = (
-    told j f.0 k e.0 same (key.alone e.0 f.0 fit.0.0 l p g h.0) ∙ up.0,
+    reported j f.0 k e.0 same (key.alone e.0 f.0 fit.0.0 l p g h.0) ∙ up.0,
     all_above k j es fs same fit.1 l p g h.2 up.1,
   )
 
@@ -164,7 +164,7 @@ module _ {K V : Type 0} {cmp : K → K → Ordering} {key_doc : K → Doc} {valu
   insert_alike [] (f ∷ fs) k j v w h one two = absurd h
   insert_alike (e ∷ es) [] k j v w h one two = absurd h
   insert_alike (e ∷ es) (f ∷ fs) k j v w h one two =
-      subst (λ (o : Ordering). Alike (insert_entry cmp (e ∷ es) k v) (match_ordering o ((j, w) ∷ f ∷ fs) ((f.0, w) ∷ fs) (f ∷ insert_entry cmp fs j w))) (told k e.0 j f.0 one h.0)
+      subst (λ (o : Ordering). Alike (insert_entry cmp (e ∷ es) k v) (match_ordering o ((j, w) ∷ f ∷ fs) ((f.0, w) ∷ fs) (f ∷ insert_entry cmp fs j w))) (reported k e.0 j f.0 one h.0)
       (by_order (cmp k e.0) ((k, v) ∷ e ∷ es) ((e.0, v) ∷ es) (e ∷ insert_entry cmp es k v) ((j, w) ∷ f ∷ fs) ((f.0, w) ∷ fs) (f ∷ insert_entry cmp fs j w)
       (one, two, h) (h.0, two, h.2) (h.0, h.1, insert_alike es fs k j v w h.2 one two))
 
@@ -217,14 +217,14 @@ abbrev size : ℤ → ℕ
 size (pos n) = n
 size (negsuc n) = n
 
-pub texts_told : {Z : Type 0} → IsToldByDocuments (λ (s : String Z). text (string_bytes s)) (λ s t. slice_cmp nat_cmp (string_bytes s) (string_bytes t))
-texts_told a b c d one two = ap₂ (slice_cmp nat_cmp) (ap bytes_in one) (ap bytes_in two)
+pub texts_reported : {Z : Type 0} → IsToldByDocuments (λ (s : String Z). text (string_bytes s)) (λ s t. slice_cmp nat_cmp (string_bytes s) (string_bytes t))
+texts_reported a b c d one two = ap₂ (slice_cmp nat_cmp) (ap bytes_in one) (ap bytes_in two)
 
 pub texts_total : {Z : Type 0} → IsTotalOrder (λ (s t : String Z). slice_cmp nat_cmp (string_bytes s) (string_bytes t))
 texts_total = on_total string_bytes nat_list_cmp_total
 
-pub naturals_told : IsToldByDocuments (λ n. integer (pos n)) nat_cmp
-naturals_told a b c d one two = ap₂ nat_cmp (ap (λ d. size (number_in d)) one) (ap (λ d. size (number_in d)) two)
+pub naturals_reported : IsToldByDocuments (λ n. integer (pos n)) nat_cmp
+naturals_reported a b c d one two = ap₂ nat_cmp (ap (λ d. size (number_in d)) one) (ap (λ d. size (number_in d)) two)
 
-pub integers_told : IsToldByDocuments integer int_cmp
-integers_told a b c d one two = ap₂ int_cmp (ap number_in one) (ap number_in two)
+pub integers_reported : IsToldByDocuments integer int_cmp
+integers_reported a b c d one two = ap₂ int_cmp (ap number_in one) (ap number_in two)

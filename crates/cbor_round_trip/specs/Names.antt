@@ -77,6 +77,6 @@ module _ (names : List (List ℕ)) (distinct : are_distinct names ≡ true) wher
   -- and as no other
   pub one_place : (packed : Bool) (k i : ℕ) → k < length names
       → IsIdentifier names (untagged (identifier packed k (name_in names k))) (Some i) → i ≡ k
-  one_place false k i below told =
-      one_first names told.0 i k told.2 (subst (λ b. IsFirst names b k) told.1 (first_in names k distinct below))
-  one_place true k i below told = some_place i k (nat_lt k (length names)) told
+  one_place false k i below reported =
+      one_first names reported.0 i k reported.2 (subst (λ b. IsFirst names b k) reported.1 (first_in names k distinct below))
+  one_place true k i below reported = some_place i k (nat_lt k (length names)) reported

@@ -73,8 +73,8 @@ as_alike {document = document} {reads' = reads'} same alike law = record {
       (alike c (raw_of (document x) p g) x).1 (subst (λ (d : Doc). reads' c (raw_of d p g) x) (sym (same x)) (law.itself x fit l p g));
   alone = λ x y fit l p g h.
       let c = lending all_formats l in
-      let told = (alike c (raw_of (document x) p g) y).0 h in
-      same y ∙ law.alone x y fit l p g (subst (λ (d : Doc). reads' c (raw_of d p g) y) (same x) told) ∙ sym (same x);
+      let reported = (alike c (raw_of (document x) p g) y).0 h in
+      same y ∙ law.alone x y fit l p g (subst (λ (d : Doc). reads' c (raw_of d p g) y) (same x) reported) ∙ sym (same x);
   single = λ d c r x y h k. same x ∙ law.single d c r x y ((alike c r x).0 h) ((alike c r y).0 k) ∙ sym (same y);
 }
 

@@ -62,7 +62,7 @@ module _ (names : List (List ℕ)) (distinct : are_distinct names ≡ true) (p g
   none_behind i k [] before within = tt
   none_behind i k (None ∷ os) before within = none_behind i (suc k) os (omega (arith, before)) (omega (arith, within))
   none_behind i k (Some d ∷ os) before within = (
-    (λ told. let same = one_place names distinct p k i (omega (arith, within)) told in omega (arith, before, same)),
+    (λ reported. let same = one_place names distinct p k i (omega (arith, within)) reported in omega (arith, before, same)),
     none_behind i (suc k) os (omega (arith, before)) (omega (arith, within)),
   )
 
@@ -70,9 +70,9 @@ module _ (names : List (List ℕ)) (distinct : are_distinct names ≡ true) (p g
   holds_behind : (k i : ℕ) (o : Option Doc) (v : Raw) (rs : RawPairs) → k < i → k < length names
       → Holds names p g i o rs → Holds names p g i o (raw_pair (identifier p k (name_in names k)) v rs)
   holds_behind k i None v rs before within h =
-      ((λ told. let same = one_place names distinct p k i within told in omega (arith, before, same)), h)
+      ((λ reported. let same = one_place names distinct p k i within reported in omega (arith, before, same)), h)
   holds_behind k i (Some d) v rs before within h =
-      inr ((λ told. let same = one_place names distinct p k i within told in omega (arith, before, same)), h)
+      inr ((λ reported. let same = one_place names distinct p k i within reported in omega (arith, before, same)), h)
 
   hold_behind : (k i : ℕ) (os : List (Option Doc)) (v : Raw) (rs : RawPairs) → k < i → k < length names
       → Hold names p g i os rs → Hold names p g i os (raw_pair (identifier p k (name_in names k)) v rs)

@@ -55,7 +55,7 @@ abbrev within_tag : Raw → Raw
 within_tag (raw.tag w n r) = r
 within_tag r = r
 
--- what is read with a tag is told by these
+-- what is read with a tag is shown by these
 by_tag : {A : Type 0} (reads : Raw → A → Type 0) (r : Raw) (tag : Option ℕ) (x : A) → IsTagged reads r tag x
     → (tag ≡ outermost r) × reads (within_tag r) x
 by_tag reads (raw.unsigned w n) tag x h = h

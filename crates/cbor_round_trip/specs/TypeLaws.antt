@@ -42,7 +42,7 @@ abbrev pub law_asking_both : {A : Type 0} {document : A → Doc} {reads : Contex
 law_asking_both {fits = fits} {determined = determined} too also back =
     law_of (where_determined {more = determined × also} (λ d. d.0) (asking_more {more = λ x. fits x × too x} (λ x fit. fit.0) back))
 
--- the law of a key's type, whose order its documents tell
+-- the law of a key's type, whose order its documents show
 pub record KeyLaw (A : Type 0) : Type 1 where
   pub document : A → Doc
   pub reads : Context → Raw → A → Type 0
@@ -51,13 +51,13 @@ pub record KeyLaw (A : Type 0) : Type 1 where
   pub back : IsReadBack document reads fits determined
   pub cmp : A → A → Ordering
   pub total : IsTotalOrder cmp
-  pub told : IsToldByDocuments document cmp
+  pub reported : IsToldByDocuments document cmp
 
 abbrev pub key_law : {A : Type 0} {document : A → Doc} {reads : Context → Raw → A → Type 0} {fits : A → Type 0}
     {determined : Type 0} {cmp : A → A → Ordering}
     → IsReadBack document reads fits determined → IsTotalOrder cmp → IsToldByDocuments document cmp → KeyLaw A
-key_law {document = document} {reads = reads} {fits = fits} {determined = determined} {cmp = cmp} back total told =
-    record { document = document; reads = reads; fits = fits; determined = determined; back = back; cmp = cmp; total = total; told = told }
+key_law {document = document} {reads = reads} {fits = fits} {determined = determined} {cmp = cmp} back total reported =
+    record { document = document; reads = reads; fits = fits; determined = determined; back = back; cmp = cmp; total = total; reported = reported }
 
 -- ---- the parts of a type by description
 

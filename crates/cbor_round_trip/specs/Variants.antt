@@ -184,20 +184,20 @@ module _ {A V : Type 0} (part : V → A) (fields_of : List (List ℕ) → A → 
       (λ y. struct_variant i (name_in names i) (fields y)) x
   unfolding raw_of
   struct_holds names distinct i below x fit l p false =
-      let told = law field_names fit.0 fit.1 in
+      let reported = law field_names fit.0 fit.1 in
       record {
         content = one (map_of declared (raw_fields_of (fields x) p false));
         is = one_is names distinct i below p (map_of declared (raw_fields_of (fields x) p false));
-        meaning = told.itself (part x) fit.2 l p false;
-        others = λ y h. ap (λ (d : Doc). struct_variant i (name_in names i) (fields_in d (fields y))) (told.alone (part x) (part y) fit.2 l p false h);
+        meaning = reported.itself (part x) fit.2 l p false;
+        others = λ y h. ap (λ (d : Doc). struct_variant i (name_in names i) (fields_in d (fields y))) (reported.alone (part x) (part y) fit.2 l p false h);
       }
   struct_holds names distinct i below x fit l p true =
-      let told = law field_names fit.0 fit.1 in
+      let reported = law field_names fit.0 fit.1 in
       record {
         content = parts (raw.raw (map_of declared (raw_fields_of (fields x) p true)) no_raws);
         is = parts_are names distinct i below p (raw.raw (map_of declared (raw_fields_of (fields x) p true)) no_raws);
-        meaning = (told.itself (part x) fit.2 l p true, tt);
-        others = λ y h. ap (λ (d : Doc). struct_variant i (name_in names i) (fields_in d (fields y))) (told.alone (part x) (part y) fit.2 l p true h.0);
+        meaning = (reported.itself (part x) fit.2 l p true, tt);
+        others = λ y h. ap (λ (d : Doc). struct_variant i (name_in names i) (fields_in d (fields y))) (reported.alone (part x) (part y) fit.2 l p true h.0);
       }
 
   pub struct_variant_back : IsVariantReadBack (λ i n x. struct_variant i n (fields x)) (λ c content x. IsPart (reads field_names c) content (part x)) Fits Determined
@@ -326,14 +326,14 @@ enum_back {list = list} {document = document} {means = means} {fits = fits} {det
             variant = subst (λ (i : ℕ). IsVariant all_formats names (untagged (raw_of (document names 0 x) p g)) (i, h.content)) at h.is.is;
             meaning = h.meaning;
           };
-      alone = λ x y fit l p g told.
+      alone = λ x y fit l p g reported.
           let h = law.holds names distinct 0 (omega (arith, as_many)) x fit l p g in
           let behind = h.behind in
-          let only = h.is.only told.index told.content told.variant in
+          let only = h.is.only reported.index reported.content reported.variant in
           let place = only.0 in
-          let at : told.index ≡ h.place = omega (arith, behind, place) in
+          let at : reported.index ≡ h.place = omega (arith, behind, place) in
           h.others y (subst (λ (c : Content). means (lending all_formats l) h.place c y) only.1
-          (subst (λ (i : ℕ). means (lending all_formats l) i told.content y) at told.meaning));
+          (subst (λ (i : ℕ). means (lending all_formats l) i reported.content y) at reported.meaning));
       single = λ d c r x y h k.
           let same = one_variant c.formats names (untagged r) (h.index, h.content) (k.index, k.content) h.variant k.variant in
           law.single d c k.index k.content x y (subst (λ (i : ℕ). means c i k.content x) same.0

@@ -7,7 +7,7 @@ ghost use Rattle.cbor_model.specs.Document.{document_bytes, raw_of, IsStorableDo
 ghost use Rattle.cbor_model.specs.Raw.{depth};
 ghost use Rattle.cbor_io.specs.Error.{IsOutOfMemory};
 ghost use Rattle.cbor_ser.specs.Written.{SaysUnstorable};
-ghost use Rattle.cbor_decode.specs.FirstRefusal.{TellsFirst};
+ghost use Rattle.cbor_decode.specs.FirstRefusal.{ReportsFirst};
 ghost use Rattle.cbor_decode_as.specs.Takes.{WhereTotal};
 ghost use Rattle.cbor_round_trip.specs.ReadBack.{IsWrittenReadBack, ReadsOneValue};
 
@@ -67,7 +67,7 @@ pub fn write_and_read<'de, T: RoundTrip + Deserialize<'de, VecRead>>(
     // refusal of its encoding, as one that is nested too deep.
     ensures first { IsStorableDocument (T.document value.now)
         → IfErr result (λ e. WhereTotal T.total (IsOutOfMemory e
-        ⊎ TellsFirst (limits_of None) (document_bytes (T.document value.now) false false) e)) }
+        ⊎ ReportsFirst (limits_of None) (document_bytes (T.document value.now) false false) e)) }
 {
     let bytes = to_vec(alloc, value)?;
     from_vec(alloc, bytes)

@@ -249,7 +249,7 @@ impl<T: RoundTrip, const N: usize> RoundTrip for [T; N] {
     ghost back = { array_back T.back };
 }
 
-/// Each map whose keys are written so that their order is told.
+/// Each map whose keys are written so that their order shows.
 impl<K: RoundTripKey, V: RoundTrip> RoundTrip for BTreeMap<K, V> {
     ghost use Rattle.cbor_round_trip.specs.Keyed.{AreFit, map_back};
     ghost use Rattle.cbor_round_trip.specs.ReadBack.{asking_more, where_determined};
@@ -257,10 +257,10 @@ impl<K: RoundTripKey, V: RoundTrip> RoundTrip for BTreeMap<K, V> {
 
     ghost law = { law_asking_both (λ m. AreFit K.cmp K.law.fits V.law.fits m.entries)
         K.law.determined
-        (map_back K.key.total K.key.told K.key.back V.law.back {entries = λ m. m.entries}) };
+        (map_back K.key.total K.key.reported K.key.back V.law.back {entries = λ m. m.entries}) };
 
     ghost back = { where_determined (λ d. (d.1, d.0.1))
-        (asking_more (λ m fit. fit.1) (map_back K.Ord.total K.told K.back V.back)) };
+        (asking_more (λ m fit. fit.1) (map_back K.Ord.total K.reported K.back V.back)) };
 }
 
 /// A value within a tag; and without one, a value that has none of its own, as a `Tagged` within
@@ -298,130 +298,130 @@ impl<T> RoundTrip for Encoded<T> {
 }
 
 impl RoundTripKey for String {
-    ghost use Rattle.cbor_round_trip.specs.Keyed.{texts_told, texts_total};
+    ghost use Rattle.cbor_round_trip.specs.Keyed.{texts_reported, texts_total};
     ghost use Rattle.cbor_round_trip.specs.TypeLaws.{key_law};
 
-    ghost key = { key_law ⟦<String as RoundTrip>⟧.law.back texts_total texts_told };
+    ghost key = { key_law ⟦<String as RoundTrip>⟧.law.back texts_total texts_reported };
 
-    ghost told = { texts_told };
+    ghost reported = { texts_reported };
 }
 
 impl RoundTripKey for u8 {
     ghost use Rattle.std.proofs.lemmas.Cmp.{nat_cmp_total};
-    ghost use Rattle.cbor_round_trip.specs.Keyed.{naturals_told};
+    ghost use Rattle.cbor_round_trip.specs.Keyed.{naturals_reported};
     ghost use Rattle.cbor_round_trip.specs.TypeLaws.{key_law};
 
-    ghost key = { key_law ⟦<u8 as RoundTrip>⟧.law.back nat_cmp_total naturals_told };
+    ghost key = { key_law ⟦<u8 as RoundTrip>⟧.law.back nat_cmp_total naturals_reported };
 
-    ghost told = { naturals_told };
+    ghost reported = { naturals_reported };
 }
 
 impl RoundTripKey for u16 {
     ghost use Rattle.std.proofs.lemmas.Cmp.{nat_cmp_total};
-    ghost use Rattle.cbor_round_trip.specs.Keyed.{naturals_told};
+    ghost use Rattle.cbor_round_trip.specs.Keyed.{naturals_reported};
     ghost use Rattle.cbor_round_trip.specs.TypeLaws.{key_law};
 
-    ghost key = { key_law ⟦<u16 as RoundTrip>⟧.law.back nat_cmp_total naturals_told };
+    ghost key = { key_law ⟦<u16 as RoundTrip>⟧.law.back nat_cmp_total naturals_reported };
 
-    ghost told = { naturals_told };
+    ghost reported = { naturals_reported };
 }
 
 impl RoundTripKey for u32 {
     ghost use Rattle.std.proofs.lemmas.Cmp.{nat_cmp_total};
-    ghost use Rattle.cbor_round_trip.specs.Keyed.{naturals_told};
+    ghost use Rattle.cbor_round_trip.specs.Keyed.{naturals_reported};
     ghost use Rattle.cbor_round_trip.specs.TypeLaws.{key_law};
 
-    ghost key = { key_law ⟦<u32 as RoundTrip>⟧.law.back nat_cmp_total naturals_told };
+    ghost key = { key_law ⟦<u32 as RoundTrip>⟧.law.back nat_cmp_total naturals_reported };
 
-    ghost told = { naturals_told };
+    ghost reported = { naturals_reported };
 }
 
 impl RoundTripKey for u64 {
     ghost use Rattle.std.proofs.lemmas.Cmp.{nat_cmp_total};
-    ghost use Rattle.cbor_round_trip.specs.Keyed.{naturals_told};
+    ghost use Rattle.cbor_round_trip.specs.Keyed.{naturals_reported};
     ghost use Rattle.cbor_round_trip.specs.TypeLaws.{key_law};
 
-    ghost key = { key_law ⟦<u64 as RoundTrip>⟧.law.back nat_cmp_total naturals_told };
+    ghost key = { key_law ⟦<u64 as RoundTrip>⟧.law.back nat_cmp_total naturals_reported };
 
-    ghost told = { naturals_told };
+    ghost reported = { naturals_reported };
 }
 
 impl RoundTripKey for u128 {
     ghost use Rattle.std.proofs.lemmas.Cmp.{nat_cmp_total};
-    ghost use Rattle.cbor_round_trip.specs.Keyed.{naturals_told};
+    ghost use Rattle.cbor_round_trip.specs.Keyed.{naturals_reported};
     ghost use Rattle.cbor_round_trip.specs.TypeLaws.{key_law};
 
-    ghost key = { key_law ⟦<u128 as RoundTrip>⟧.law.back nat_cmp_total naturals_told };
+    ghost key = { key_law ⟦<u128 as RoundTrip>⟧.law.back nat_cmp_total naturals_reported };
 
-    ghost told = { naturals_told };
+    ghost reported = { naturals_reported };
 }
 
 impl RoundTripKey for usize {
     ghost use Rattle.std.proofs.lemmas.Cmp.{nat_cmp_total};
-    ghost use Rattle.cbor_round_trip.specs.Keyed.{naturals_told};
+    ghost use Rattle.cbor_round_trip.specs.Keyed.{naturals_reported};
     ghost use Rattle.cbor_round_trip.specs.TypeLaws.{key_law};
 
-    ghost key = { key_law ⟦<usize as RoundTrip>⟧.law.back nat_cmp_total naturals_told };
+    ghost key = { key_law ⟦<usize as RoundTrip>⟧.law.back nat_cmp_total naturals_reported };
 
-    ghost told = { naturals_told };
+    ghost reported = { naturals_reported };
 }
 
 impl RoundTripKey for i8 {
     ghost use Rattle.std.proofs.lemmas.Cmp.{int_cmp_total};
-    ghost use Rattle.cbor_round_trip.specs.Keyed.{integers_told};
+    ghost use Rattle.cbor_round_trip.specs.Keyed.{integers_reported};
     ghost use Rattle.cbor_round_trip.specs.TypeLaws.{key_law};
 
-    ghost key = { key_law ⟦<i8 as RoundTrip>⟧.law.back int_cmp_total integers_told };
+    ghost key = { key_law ⟦<i8 as RoundTrip>⟧.law.back int_cmp_total integers_reported };
 
-    ghost told = { integers_told };
+    ghost reported = { integers_reported };
 }
 
 impl RoundTripKey for i16 {
     ghost use Rattle.std.proofs.lemmas.Cmp.{int_cmp_total};
-    ghost use Rattle.cbor_round_trip.specs.Keyed.{integers_told};
+    ghost use Rattle.cbor_round_trip.specs.Keyed.{integers_reported};
     ghost use Rattle.cbor_round_trip.specs.TypeLaws.{key_law};
 
-    ghost key = { key_law ⟦<i16 as RoundTrip>⟧.law.back int_cmp_total integers_told };
+    ghost key = { key_law ⟦<i16 as RoundTrip>⟧.law.back int_cmp_total integers_reported };
 
-    ghost told = { integers_told };
+    ghost reported = { integers_reported };
 }
 
 impl RoundTripKey for i32 {
     ghost use Rattle.std.proofs.lemmas.Cmp.{int_cmp_total};
-    ghost use Rattle.cbor_round_trip.specs.Keyed.{integers_told};
+    ghost use Rattle.cbor_round_trip.specs.Keyed.{integers_reported};
     ghost use Rattle.cbor_round_trip.specs.TypeLaws.{key_law};
 
-    ghost key = { key_law ⟦<i32 as RoundTrip>⟧.law.back int_cmp_total integers_told };
+    ghost key = { key_law ⟦<i32 as RoundTrip>⟧.law.back int_cmp_total integers_reported };
 
-    ghost told = { integers_told };
+    ghost reported = { integers_reported };
 }
 
 impl RoundTripKey for i64 {
     ghost use Rattle.std.proofs.lemmas.Cmp.{int_cmp_total};
-    ghost use Rattle.cbor_round_trip.specs.Keyed.{integers_told};
+    ghost use Rattle.cbor_round_trip.specs.Keyed.{integers_reported};
     ghost use Rattle.cbor_round_trip.specs.TypeLaws.{key_law};
 
-    ghost key = { key_law ⟦<i64 as RoundTrip>⟧.law.back int_cmp_total integers_told };
+    ghost key = { key_law ⟦<i64 as RoundTrip>⟧.law.back int_cmp_total integers_reported };
 
-    ghost told = { integers_told };
+    ghost reported = { integers_reported };
 }
 
 impl RoundTripKey for i128 {
     ghost use Rattle.std.proofs.lemmas.Cmp.{int_cmp_total};
-    ghost use Rattle.cbor_round_trip.specs.Keyed.{integers_told};
+    ghost use Rattle.cbor_round_trip.specs.Keyed.{integers_reported};
     ghost use Rattle.cbor_round_trip.specs.TypeLaws.{key_law};
 
-    ghost key = { key_law ⟦<i128 as RoundTrip>⟧.law.back int_cmp_total integers_told };
+    ghost key = { key_law ⟦<i128 as RoundTrip>⟧.law.back int_cmp_total integers_reported };
 
-    ghost told = { integers_told };
+    ghost reported = { integers_reported };
 }
 
 impl RoundTripKey for isize {
     ghost use Rattle.std.proofs.lemmas.Cmp.{int_cmp_total};
-    ghost use Rattle.cbor_round_trip.specs.Keyed.{integers_told};
+    ghost use Rattle.cbor_round_trip.specs.Keyed.{integers_reported};
     ghost use Rattle.cbor_round_trip.specs.TypeLaws.{key_law};
 
-    ghost key = { key_law ⟦<isize as RoundTrip>⟧.law.back int_cmp_total integers_told };
+    ghost key = { key_law ⟦<isize as RoundTrip>⟧.law.back int_cmp_total integers_reported };
 
-    ghost told = { integers_told };
+    ghost reported = { integers_reported };
 }

@@ -1,4 +1,4 @@
-//! Answers the tables of rows in `data/`, and tells the rows that are answered otherwise than they
+//! Answers the tables of rows in `data/`, and reports the rows that are answered otherwise than they
 //! say.
 #![tactic(auto)]
 

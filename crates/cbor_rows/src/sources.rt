@@ -48,7 +48,7 @@ fn in_place(desk: &mut Desk<'_>, row: &Row<'_>) -> io::Result<bool> {
     let de = Deserializer::from_mut_slice(desk.rt.alloc(), &mut copy);
     let is_known = typed(desk, row, switched(de, row.how))?;
     if !are_rearranged(&copy, &row.bytes) {
-        desk.tells_lost()?;
+        desk.reports_lost()?;
     }
     Ok(is_known)
 }
@@ -78,7 +78,7 @@ fn before_a_fault(desk: &mut Desk<'_>, row: &Row<'_>) -> io::Result<()> {
     typed(desk, row, switched(de, row.how))?;
     desk.ends = true;
     if pieces.failed {
-        desk.tells_asked()?;
+        desk.reports_asked()?;
     }
     Ok(())
 }

@@ -11,9 +11,9 @@ pub struct Tally {
     pub wrong: usize,
 }
 
-/// Answers each row of a table, and tells those that are answered otherwise. A line that is no row,
+/// Answers each row of a table, and reports those that are answered otherwise. A line that is no row,
 /// and a table of none, count as wrong rows.
-pub fn answer(rt: &HostRuntime, table: &str, text: &str, tells_each: bool) -> io::Result<Tally> {
+pub fn answer(rt: &HostRuntime, table: &str, text: &str, reports_each: bool) -> io::Result<Tally> {
     let mut tally = Tally { rows: 0, wrong: 0 };
     for (i, line) in text.lines().enumerate() {
         if line.trim().is_empty() || line.starts_with('#') {
@@ -21,7 +21,7 @@ pub fn answer(rt: &HostRuntime, table: &str, text: &str, tells_each: bool) -> io
         }
         let mut desk = Desk {
             rt,
-            tells_each,
+            reports_each,
             table,
             line: i.saturating_add(1),
             step: Step::Read(Source::Slice),

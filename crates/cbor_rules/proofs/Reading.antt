@@ -18,18 +18,18 @@ pub where_any : {P : Type 0} (total : Bool) → P → WhereTotal total P
 where_any false p = tt
 where_any true p = p
 
-module _ {A : Type 0} (rules : Rules) (reads : Raw → A → Type 0) (bs : List ℕ) (o : Option Departure) (tells : (r : Raw) → IsWellFormed r → spell r ≡ bs → o ≡ first_departure rules r) (x : A) where
+module _ {A : Type 0} (rules : Rules) (reads : Raw → A → Type 0) (bs : List ℕ) (o : Option Departure) (reports : (r : Raw) → IsWellFormed r → spell r ≡ bs → o ≡ first_departure rules r) (x : A) where
   -- what is kept departs nowhere
   pub kept_none : SpellsByRules rules reads bs x → o ≡ None
-  kept_none s = tells s.spelt.item s.spelt.acceptable.fits s.spelt.spelled ∙ (none_where_kept rules s.spelt.item).1 s.keeps
+  kept_none s = reports s.spelt.item s.spelt.acceptable.fits s.spelt.spelled ∙ (none_where_kept rules s.spelt.item).1 s.keeps
 
   module _ (found : SpellsAs all_formats reads bs x) where
     pub departing : (d : Departure) → o ≡ Some d → SpellsDeparting rules bs d
     departing d is = record {
       tree = value found.item;
       spelt = record { item = found.item; acceptable = found.acceptable; spelled = found.spelled; valued = refl };
-      departs = sym (tells found.item found.acceptable.fits found.spelled) ∙ is;
+      departs = sym (reports found.item found.acceptable.fits found.spelled) ∙ is;
     }
 
     pub by_rules : o ≡ None → SpellsByRules rules reads bs x
-    by_rules is = record { spelt = found; keeps = (none_where_kept rules found.item).0 (sym (tells found.item found.acceptable.fits found.spelled) ∙ is) }
+    by_rules is = record { spelt = found; keeps = (none_where_kept rules found.item).0 (sym (reports found.item found.acceptable.fits found.spelled) ∙ is) }

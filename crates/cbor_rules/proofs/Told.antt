@@ -1,4 +1,4 @@
--- What a walk over all of an item's bytes tells.
+-- What a walk over all of an item's bytes reports.
 use Rattle.std.proofs.Common.{◌≡◌, ℕ, suc, ◌+◌, ◌-◌, List, [], ◌++◌, length, Option, Some, None, refl, ap, ap₂, subst, ◌∙◌, arith}
 use Rattle.std.proofs.lemmas.List.{append-nil}
 use Rattle.cbor_model.specs.Raw.{Raw, IsWellFormed, depth}
@@ -22,9 +22,9 @@ unfolding first_departure
 answered rules bs r w fits is walks =
     let fuel = length bs + suc (suc (depth r)) in
     let whole : spell r ++ [] ≡ bs = append-nil (spell r) ∙ is in
-    let tells = walked rules r fuel 0 [] (length bs) fits (omega arith) (omega (arith, ap length whole)) in
+    let reports = walked rules r fuel 0 [] (length bs) fits (omega arith) (omega (arith, ap length whole)) in
     let walk_is : model.walk rules fuel (spell r ++ []) ≡ walk_view bs w = ap (model.walk rules fuel) whole ∙ walks fuel (omega arith) in
-    subst (Answers (length bs) [] (departure_in rules (features 0 r))) walk_is tells
+    subst (Answers (length bs) [] (departure_in rules (features 0 r))) walk_is reports
 
 rule_of : model.Walk → Rule
 rule_of (passed bs) = ShortestHeads
@@ -36,10 +36,10 @@ left_of (passed bs) = 0
 left_of (departed rule left) = left
 left_of stopped = 0
 
-pub told : (total : ℕ) (o : Option Departure) (rule : Rule) (left : ℕ) → Answers total [] o (departed rule left) → Some (record { rule = rule; offset = total - left }) ≡ o
+pub reported : (total : ℕ) (o : Option Departure) (rule : Rule) (left : ℕ) → Answers total [] o (departed rule left) → Some (record { rule = rule; offset = total - left }) ≡ o
 unfolding rule_of left_of
-told total None rule left answers = absurd cc
-told total (Some d) rule left answers =
+reported total None rule left answers = absurd cc
+reported total (Some d) rule left answers =
     let one : rule ≡ d.rule = ap rule_of answers.2 in
     let same : left ≡ answers.0 = ap left_of answers.2 in
     let other : total - left ≡ d.offset = omega (arith, answers.1, same) in

@@ -1,4 +1,4 @@
--- A walk over an item's encoding tells the first departure among its features, or else goes past it.
+-- A walk over an item's encoding reports the first departure among its features, or else goes past it.
 use Rattle.std.proofs.Common.{◌≡◌, ℕ, zero, suc, ◌+◌, ◌*◌, ◌-◌, ◌<◌, ◌≤◌, Bool, true, false, List, [], ◌∷◌, ◌++◌, length, take, Option, Some, None, Ok, refl, sym, ap, subst, ◌∙◌, append_assoc, arith}
 use Rattle.std.specs.Prelude.{◌&&◌, flat_map}
 use Rattle.std.specs.List.{AllByRecursion}
@@ -25,30 +25,30 @@ Answers total rest None w = w ≡ passed rest
 Answers total rest (Some d) w = (left : ℕ) × (d.offset + left ≡ total) × (w ≡ departed d.rule left)
 
 -- of these features the first departure is answered
-abbrev pub Tells : Rules → ℕ → List Place → List ℕ → Walk → Type 0
-Tells rules total ps rest w = Answers total rest (departure_in rules ps) w
+abbrev pub Reports : Rules → ℕ → List Place → List ℕ → Walk → Type 0
+Reports rules total ps rest w = Answers total rest (departure_in rules ps) w
 
 module _ (rules : Rules) (total : ℕ) where
-  tells_same : (ps : List Place) (rest : List ℕ) (w u : Walk) → w ≡ u → Tells rules total ps rest u → Tells rules total ps rest w
-  tells_same ps rest w u same tells = subst (λ (w : Walk). Tells rules total ps rest w) (sym same) tells
+  reports_same : (ps : List Place) (rest : List ℕ) (w u : Walk) → w ≡ u → Reports rules total ps rest u → Reports rules total ps rest w
+  reports_same ps rest w u same reports = subst (λ (w : Walk). Reports rules total ps rest w) (sym same) reports
 
   -- with nothing after it
-  tells_bare : (ps : List Place) (rest : List ℕ) (w : Walk) → Tells rules total (ps ++ []) rest w → Tells rules total ps rest w
-  tells_bare ps rest w tells = subst (λ (qs : List Place). Tells rules total qs rest w) (append-nil ps) tells
+  reports_bare : (ps : List Place) (rest : List ℕ) (w : Walk) → Reports rules total (ps ++ []) rest w → Reports rules total ps rest w
+  reports_bare ps rest w reports = subst (λ (qs : List Place). Reports rules total qs rest w) (append-nil ps) reports
 
-  tells_then : (ps qs : List Place) (mid rest : List ℕ) (w : Walk) (go : List ℕ → Walk) → Tells rules total ps mid w → Tells rules total qs rest (go mid) → Tells rules total (ps ++ qs) rest (and_then w go)
-  tells_then [] qs mid rest w go one other = subst (λ (w : Walk). Tells rules total qs rest (and_then w go)) (sym one) other
-  tells_then (p ∷ ps) qs mid rest w go one other = by (broken rules p.feature) one (λ one. tells_then ps qs mid rest w go one other)
+  reports_then : (ps qs : List Place) (mid rest : List ℕ) (w : Walk) (go : List ℕ → Walk) → Reports rules total ps mid w → Reports rules total qs rest (go mid) → Reports rules total (ps ++ qs) rest (and_then w go)
+  reports_then [] qs mid rest w go one other = subst (λ (w : Walk). Reports rules total qs rest (and_then w go)) (sym one) other
+  reports_then (p ∷ ps) qs mid rest w go one other = by (broken rules p.feature) one (λ one. reports_then ps qs mid rest w go one other)
     where
-      by : (o : Option Rule) → Answers total mid (departure_or p.offset (departure_in rules ps) o) w → (Tells rules total ps mid w → Tells rules total (ps ++ qs) rest (and_then w go)) → Answers total rest (departure_or p.offset (departure_in rules (ps ++ qs)) o) (and_then w go)
+      by : (o : Option Rule) → Answers total mid (departure_or p.offset (departure_in rules ps) o) w → (Reports rules total ps mid w → Reports rules total (ps ++ qs) rest (and_then w go)) → Answers total rest (departure_or p.offset (departure_in rules (ps ++ qs)) o) (and_then w go)
       by None one more = more one
       by (Some rule) one more = (one.0, one.1, ap (λ (w : Walk). and_then w go) one.2)
 
-  seen_tells : (at left : ℕ) (f : Feature) (qs : List Place) (rest : List ℕ) (others : Walk) → at + left ≡ total → Tells rules total qs rest others → Tells rules total (place at f ∷ qs) rest (seen rules f left others)
-  seen_tells at left f qs rest others is tells = by (broken rules f)
+  seen_reports : (at left : ℕ) (f : Feature) (qs : List Place) (rest : List ℕ) (others : Walk) → at + left ≡ total → Reports rules total qs rest others → Reports rules total (place at f ∷ qs) rest (seen rules f left others)
+  seen_reports at left f qs rest others is reports = by (broken rules f)
     where
       by : (o : Option Rule) → Answers total rest (departure_or at (departure_in rules qs) o) (unless_broken o left others)
-      by None = tells
+      by None = reports
       by (Some rule) = (left, is, refl)
 
 -- ---- heads
@@ -70,31 +70,31 @@ at_content rules fuel major w n bs fits =
 
 module _ (rules : Rules) (fuel at major : ℕ) (w : HeadWidth) (n : ℕ) (fits : n < limit w) (at_most : major ≤ 6) (qs : List Place) (bs rest : List ℕ) (total : ℕ)
     (is : at + length (head major w n ++ bs) ≡ total)
-    (tells : Tells rules total qs rest (inside_walk rules (walk rules fuel) major n bs))
+    (reports : Reports rules total qs rest (inside_walk rules (walk rules fuel) major n bs))
   where
-    number_tells : Tells rules total (number_place at major w n ∷ qs) rest (head_walk rules (walk rules fuel) major (info w n) (behind w n ++ bs))
-    number_tells = rw (number_behind_again w n bs fits, width_of-info w n fits) (seen_tells rules total (head_end at major w n) (length bs) (number major w n) qs rest (inside_walk rules (walk rules fuel) major n bs) (behind_end at (head major w n) bs total is) tells)
+    number_reports : Reports rules total (number_place at major w n ∷ qs) rest (head_walk rules (walk rules fuel) major (info w n) (behind w n ++ bs))
+    number_reports = rw (number_behind_again w n bs fits, width_of-info w n fits) (seen_reports rules total (head_end at major w n) (length bs) (number major w n) qs rest (inside_walk rules (walk rules fuel) major n bs) (behind_end at (head major w n) bs total is) reports)
 
-    head_tells : Tells rules total (number_place at major w n ∷ qs) rest (walk rules (suc fuel) (head major w n ++ bs))
-    head_tells =
+    head_reports : Reports rules total (number_place at major w n ∷ qs) rest (walk rules (suc fuel) (head major w n ++ bs))
+    head_reports =
         let not_7 : major ≡ 7 → ⊥ = λ is. omega (arith, is, at_most) in
         let not_31 : info w n ≡ 31 → ⊥ = λ is. omega (arith, is, info-below w n fits) in
-        tells_same rules total (number_place at major w n ∷ qs) rest _ _
+        reports_same rules total (number_place at major w n ∷ qs) rest _ _
         (at_content rules fuel major w n bs fits ∙ on_head rules (walk rules fuel) major (info w n) (behind w n ++ bs) not_7 not_31)
-        number_tells
+        number_reports
 
 past_again : (b rest : List ℕ) → past (length b) (b ++ rest) ≡ passed rest
 past_again b rest = rw (le-ltb (length (b ++ rest)) (length b) (omega (arith, length-append b rest)), drop_at b rest (length b) refl) refl
 
 module _ (rules : Rules) (total : ℕ) where
   -- a definite string, an item or a chunk
-  string_tells : (fuel at major : ℕ) (c : Chunk) (rest : List ℕ) → IsChunk c → 2 ≤ major → major ≤ 3 → at + length (chunk major c ++ rest) ≡ total → Tells rules total (number_place at major c.width (length c.bytes) ∷ []) rest (walk rules (suc fuel) (chunk major c ++ rest))
-  string_tells fuel at major c rest fits least most is =
+  string_reports : (fuel at major : ℕ) (c : Chunk) (rest : List ℕ) → IsChunk c → 2 ≤ major → major ≤ 3 → at + length (chunk major c ++ rest) ≡ total → Reports rules total (number_place at major c.width (length c.bytes) ∷ []) rest (walk rules (suc fuel) (chunk major c ++ rest))
+  string_reports fuel at major c rest fits least most is =
       let w = c.width in
       let n = length c.bytes in
       let front = head major w n in
-      tells_same rules total (number_place at major w n ∷ []) rest _ _ (ap (walk rules (suc fuel)) (append_assoc front c.bytes rest))
-      (head_tells rules fuel at major w n fits.0 (omega (arith, most)) [] (c.bytes ++ rest) rest total (regrouped total at front c.bytes rest is)
+      reports_same rules total (number_place at major w n ∷ []) rest _ _ (ap (walk rules (suc fuel)) (append_assoc front c.bytes rest))
+      (head_reports rules fuel at major w n fits.0 (omega (arith, most)) [] (c.bytes ++ rest) rest total (regrouped total at front c.bytes rest is)
       (in_string rules (walk rules fuel) major (c.bytes ++ rest) n (omega (arith, least)) most ∙ past_again c.bytes rest))
 
 -- ---- breaks
@@ -198,7 +198,7 @@ pair_count-le (raw_pair k v ps) =
     omega (arith, some k, pair_count-le ps, length-append (spell k) (spell v ++ spell_pairs ps), length-append (spell v) (spell_pairs ps))
 
 module _ (rules : Rules) (fuel major : ℕ) (least : 2 ≤ major) (most : major ≤ 3) where
-  chunks_walked : (cs : List Chunk) (m at : ℕ) (rest : List ℕ) (total : ℕ) → AllByRecursion IsChunk cs → length cs < m → at + length (flat_map (chunk major) cs ++ (0xff ∷ rest)) ≡ total → Tells rules total (chunk_places at major cs) rest (all_walk (walk rules (suc fuel)) true m (flat_map (chunk major) cs ++ (0xff ∷ rest)))
+  chunks_walked : (cs : List Chunk) (m at : ℕ) (rest : List ℕ) (total : ℕ) → AllByRecursion IsChunk cs → length cs < m → at + length (flat_map (chunk major) cs ++ (0xff ∷ rest)) ≡ total → Reports rules total (chunk_places at major cs) rest (all_walk (walk rules (suc fuel)) true m (flat_map (chunk major) cs ++ (0xff ∷ rest)))
   chunks_walked [] m at rest total fits few is = all_closed rules (walk rules (suc fuel)) true m rest (omega (arith, few))
   chunks_walked (c ∷ cs) zero at rest total fits few is = absurd (omega (arith, few))
   chunks_walked (c ∷ cs) (suc m) at rest total fits few is =
@@ -207,9 +207,9 @@ module _ (rules : Rules) (fuel major : ℕ) (least : 2 ≤ major) (most : major 
       let within = regrouped total at one (flat_map (chunk major) cs) (0xff ∷ rest) is in
       let begins = head-no_break major c.width (length c.bytes) [] (omega (arith, most)) fits.0.0 in
       rw (append_assoc one (flat_map (chunk major) cs) (0xff ∷ rest))
-      (tells_same rules total (chunk_places at major (c ∷ cs)) rest _ _ (all_next rules (walk rules (suc fuel)) true m (one ++ more) begins)
-      (tells_then rules total (number_place at major c.width (length c.bytes) ∷ []) (chunk_places (at + length one) major cs) more rest (walk rules (suc fuel) (one ++ more)) (all_walk (walk rules (suc fuel)) true m)
-      (string_tells rules total fuel at major c more fits.0 least most within)
+      (reports_same rules total (chunk_places at major (c ∷ cs)) rest _ _ (all_next rules (walk rules (suc fuel)) true m (one ++ more) begins)
+      (reports_then rules total (number_place at major c.width (length c.bytes) ∷ []) (chunk_places (at + length one) major cs) more rest (walk rules (suc fuel) (one ++ more)) (all_walk (walk rules (suc fuel)) true m)
+      (string_reports rules total fuel at major c more fits.0 least most within)
       (chunks_walked cs m (at + length one) rest total fits.1 (omega (arith, few)) (behind_end at one more total within))))
 
 -- what stands between the first byte of an indefinite length and what follows its break
@@ -217,14 +217,14 @@ closed : (a rest : List ℕ) → (a ++ break) ++ rest ≡ a ++ (0xff ∷ rest)
 closed a rest = append_assoc a break rest
 
 -- a string in chunks
-open_chunks : (rules : Rules) (major : ℕ) (cs : List Chunk) (fuel at : ℕ) (rest : List ℕ) (total : ℕ) → 2 ≤ major → major ≤ 3 → AllByRecursion IsChunk cs → at + suc (length ((flat_map (chunk major) cs ++ break) ++ rest)) ≡ total → Tells rules total (place (suc at) indefinite_length ∷ chunk_places (suc at) major cs) rest (seen rules indefinite_length (length ((flat_map (chunk major) cs ++ break) ++ rest)) (all_walk (walk rules (suc fuel)) true (length ((flat_map (chunk major) cs ++ break) ++ rest)) ((flat_map (chunk major) cs ++ break) ++ rest)))
+open_chunks : (rules : Rules) (major : ℕ) (cs : List Chunk) (fuel at : ℕ) (rest : List ℕ) (total : ℕ) → 2 ≤ major → major ≤ 3 → AllByRecursion IsChunk cs → at + suc (length ((flat_map (chunk major) cs ++ break) ++ rest)) ≡ total → Reports rules total (place (suc at) indefinite_length ∷ chunk_places (suc at) major cs) rest (seen rules indefinite_length (length ((flat_map (chunk major) cs ++ break) ++ rest)) (all_walk (walk rules (suc fuel)) true (length ((flat_map (chunk major) cs ++ break) ++ rest)) ((flat_map (chunk major) cs ++ break) ++ rest)))
 open_chunks rules major cs fuel at rest total least most fits is =
     let strings = flat_map (chunk major) cs in
     let bs = (strings ++ break) ++ rest in
     let same = closed strings rest in
     let end : suc at + length bs ≡ total = omega (arith, is) in
-    seen_tells rules total (suc at) (length bs) indefinite_length (chunk_places (suc at) major cs) rest _ end
-    (tells_same rules total (chunk_places (suc at) major cs) rest _ _ (ap (all_walk (walk rules (suc fuel)) true (length bs)) same)
+    seen_reports rules total (suc at) (length bs) indefinite_length (chunk_places (suc at) major cs) rest _ end
+    (reports_same rules total (chunk_places (suc at) major cs) rest _ _ (ap (all_walk (walk rules (suc fuel)) true (length bs)) same)
     (chunks_walked rules fuel major least most cs (length bs) (suc at) rest total fits
     (omega (arith, chunks-le major cs, ap length same, length-append strings (0xff ∷ rest)))
     (ap (λ (t : List ℕ). suc at + length t) (sym same) ∙ end)))
@@ -241,24 +241,24 @@ pair_parts k v more rest = simp append_assoc
 -- ---- floats
 
 module _ (rules : Rules) (total at : ℕ) (rest : List ℕ) where
-  float_tells : (f : FloatWidth) (bits left : ℕ) (low : ℕ) (bs : List ℕ) → number_behind low bs ≡ Ok (bits, rest) → left + length rest ≡ total → Tells rules total (place left (float_bits f bits) ∷ []) rest (float_walk rules f low bs)
-  float_tells f bits left low bs read is = rw read (seen_tells rules total left (length rest) (float_bits f bits) [] rest (passed rest) is refl)
+  float_reports : (f : FloatWidth) (bits left : ℕ) (low : ℕ) (bs : List ℕ) → number_behind low bs ≡ Ok (bits, rest) → left + length rest ≡ total → Reports rules total (place left (float_bits f bits) ∷ []) rest (float_walk rules f low bs)
+  float_reports f bits left low bs read is = rw read (seen_reports rules total left (length rest) (float_bits f bits) [] rest (passed rest) is refl)
 
 -- ---- items
 
 mutual
   unfolding spell features content_walk indefinite_walk simple_walk walk
 
-  pub walked : (rules : Rules) (r : Raw) (fuel at : ℕ) (rest : List ℕ) (total : ℕ) → IsWellFormed r → suc (depth r) < fuel → at + length (spell r ++ rest) ≡ total → Tells rules total (features at r) rest (walk rules fuel (spell r ++ rest))
+  pub walked : (rules : Rules) (r : Raw) (fuel at : ℕ) (rest : List ℕ) (total : ℕ) → IsWellFormed r → suc (depth r) < fuel → at + length (spell r ++ rest) ≡ total → Reports rules total (features at r) rest (walk rules fuel (spell r ++ rest))
   walked rules r zero at rest total fits nests is = absurd (omega (arith, nests))
   walked rules (raw.unsigned w n) (suc fuel) at rest total fits nests is =
-      head_tells rules fuel at 0 w n fits (omega arith) [] rest rest total is (in_integer rules (walk rules fuel) 0 rest n (omega arith))
+      head_reports rules fuel at 0 w n fits (omega arith) [] rest rest total is (in_integer rules (walk rules fuel) 0 rest n (omega arith))
   walked rules (raw.negative w n) (suc fuel) at rest total fits nests is =
-      head_tells rules fuel at 1 w n fits (omega arith) [] rest rest total is (in_integer rules (walk rules fuel) 1 rest n (omega arith))
+      head_reports rules fuel at 1 w n fits (omega arith) [] rest rest total is (in_integer rules (walk rules fuel) 1 rest n (omega arith))
   walked rules (raw.bytes c) (suc fuel) at rest total fits nests is =
-      string_tells rules total fuel at 2 c rest fits (omega arith) (omega arith) is
+      string_reports rules total fuel at 2 c rest fits (omega arith) (omega arith) is
   walked rules (raw.text c) (suc fuel) at rest total fits nests is =
-      string_tells rules total fuel at 3 c rest fits (omega arith) (omega arith) is
+      string_reports rules total fuel at 3 c rest fits (omega arith) (omega arith) is
   walked rules (raw.bytes_chunks cs) (suc zero) at rest total fits nests is = absurd (omega (arith, nests))
   walked rules (raw.bytes_chunks cs) (suc (suc fuel)) at rest total fits nests is = open_chunks rules 2 cs fuel at rest total (omega arith) (omega arith) fits is
   walked rules (raw.text_chunks cs) (suc zero) at rest total fits nests is = absurd (omega (arith, nests))
@@ -268,9 +268,9 @@ mutual
       let front = head 4 w n in
       let items = spell_all rs in
       let within = regrouped total at front items rest is in
-      tells_same rules total (number_place at 4 w n ∷ all_features (head_end at 4 w n) rs) rest _ _ (ap (walk rules (suc fuel)) (append_assoc front items rest))
-      (head_tells rules fuel at 4 w n fits.0 (omega arith) (all_features (head_end at 4 w n) rs) (items ++ rest) rest total within
-      (tells_same rules total (all_features (head_end at 4 w n) rs) rest _ _ (in_array rules (walk rules fuel) 4 (items ++ rest) n refl)
+      reports_same rules total (number_place at 4 w n ∷ all_features (head_end at 4 w n) rs) rest _ _ (ap (walk rules (suc fuel)) (append_assoc front items rest))
+      (head_reports rules fuel at 4 w n fits.0 (omega arith) (all_features (head_end at 4 w n) rs) (items ++ rest) rest total within
+      (reports_same rules total (all_features (head_end at 4 w n) rs) rest _ _ (in_array rules (walk rules fuel) 4 (items ++ rest) n refl)
       (all_walked rules rs false 0 n fuel (head_end at 4 w n) rest total fits.1 (omega (arith, nests)) refl (omega arith) (behind_end at front (items ++ rest) total within))))
   walked rules (raw.array indefinite rs) (suc fuel) at rest total fits nests is =
       let bs = (spell_all rs ++ break) ++ rest in
@@ -280,16 +280,16 @@ mutual
       (omega (arith, count-le rs, ap length same, length-append (spell_all rs) (0xff ∷ rest)))
       (omega (arith, count-le rs, ap length same, length-append (spell_all rs) (0xff ∷ rest)))
       (ap (λ (t : List ℕ). suc at + length t) (sym same) ∙ end) in
-      seen_tells rules total (suc at) (length bs) indefinite_length (all_features (suc at) rs) rest _ end
-      (tells_same rules total (all_features (suc at) rs) rest _ _ (ap (all_walk (walk rules fuel) true (length bs)) same) inside)
+      seen_reports rules total (suc at) (length bs) indefinite_length (all_features (suc at) rs) rest _ end
+      (reports_same rules total (all_features (suc at) rs) rest _ _ (ap (all_walk (walk rules fuel) true (length bs)) same) inside)
   walked rules (raw.map (definite w) ps) (suc fuel) at rest total fits nests is =
       let n = pair_count ps in
       let front = head 5 w n in
       let items = spell_pairs ps in
       let within = regrouped total at front items rest is in
-      tells_same rules total (number_place at 5 w n ∷ pair_features (head_end at 5 w n) [] ps) rest _ _ (ap (walk rules (suc fuel)) (append_assoc front items rest))
-      (head_tells rules fuel at 5 w n fits.0 (omega arith) (pair_features (head_end at 5 w n) [] ps) (items ++ rest) rest total within
-      (tells_same rules total (pair_features (head_end at 5 w n) [] ps) rest _ _ (in_map rules (walk rules fuel) 5 (items ++ rest) n refl)
+      reports_same rules total (number_place at 5 w n ∷ pair_features (head_end at 5 w n) [] ps) rest _ _ (ap (walk rules (suc fuel)) (append_assoc front items rest))
+      (head_reports rules fuel at 5 w n fits.0 (omega arith) (pair_features (head_end at 5 w n) [] ps) (items ++ rest) rest total within
+      (reports_same rules total (pair_features (head_end at 5 w n) [] ps) rest _ _ (in_map rules (walk rules fuel) 5 (items ++ rest) n refl)
       (pairs_walked rules ps [] false 0 n fuel (head_end at 5 w n) rest total fits.1 (omega (arith, nests)) refl (omega arith) (behind_end at front (items ++ rest) total within))))
   walked rules (raw.map indefinite ps) (suc fuel) at rest total fits nests is =
       let bs = (spell_pairs ps ++ break) ++ rest in
@@ -299,29 +299,29 @@ mutual
       (omega (arith, pair_count-le ps, ap length same, length-append (spell_pairs ps) (0xff ∷ rest)))
       (omega (arith, pair_count-le ps, ap length same, length-append (spell_pairs ps) (0xff ∷ rest)))
       (ap (λ (t : List ℕ). suc at + length t) (sym same) ∙ end) in
-      seen_tells rules total (suc at) (length bs) indefinite_length (pair_features (suc at) [] ps) rest _ end
-      (tells_same rules total (pair_features (suc at) [] ps) rest _ _ (ap (pairs_walk rules (walk rules fuel) true (length bs) []) same) inside)
+      seen_reports rules total (suc at) (length bs) indefinite_length (pair_features (suc at) [] ps) rest _ end
+      (reports_same rules total (pair_features (suc at) [] ps) rest _ _ (ap (pairs_walk rules (walk rules fuel) true (length bs) []) same) inside)
   walked rules (raw.tag w n r) (suc fuel) at rest total fits nests is =
       let front = head 6 w n in
       let item = spell r in
       let within = regrouped total at front item rest is in
-      tells_same rules total (number_place at 6 w n ∷ features (head_end at 6 w n) r) rest _ _ (ap (walk rules (suc fuel)) (append_assoc front item rest))
-      (head_tells rules fuel at 6 w n fits.0 (omega arith) (features (head_end at 6 w n) r) (item ++ rest) rest total within
-      (tells_same rules total (features (head_end at 6 w n) r) rest _ _ (in_tag rules (walk rules fuel) 6 (item ++ rest) n (omega arith))
+      reports_same rules total (number_place at 6 w n ∷ features (head_end at 6 w n) r) rest _ _ (ap (walk rules (suc fuel)) (append_assoc front item rest))
+      (head_reports rules fuel at 6 w n fits.0 (omega arith) (features (head_end at 6 w n) r) (item ++ rest) rest total within
+      (reports_same rules total (features (head_end at 6 w n) r) rest _ _ (in_tag rules (walk rules fuel) 6 (item ++ rest) n (omega arith))
       (walked rules r fuel (head_end at 6 w n) rest total fits.1 (omega (arith, nests)) (behind_end at front (item ++ rest) total within))))
   walked rules (raw.simple false_item) (suc fuel) at rest total fits nests is = refl
   walked rules (raw.simple true_item) (suc fuel) at rest total fits nests is = refl
   walked rules (raw.simple null_item) (suc fuel) at rest total fits nests is = refl
   walked rules (raw.simple undefined_item) (suc fuel) at rest total fits nests is =
-      seen_tells rules total (suc at) (length rest) (simple_item undefined_item) [] rest (passed rest) (omega (arith, is)) refl
+      seen_reports rules total (suc at) (length rest) (simple_item undefined_item) [] rest (passed rest) (omega (arith, is)) refl
   walked rules (raw.float half bits) (suc fuel) at rest total fits nests is =
-      float_tells rules total at rest half bits (at + length (float_spelling half bits)) 25 (to_be_bytes w16 bits ++ rest) (number_behind_again two_bytes bits rest fits) (behind_end at (float_spelling half bits) rest total is)
+      float_reports rules total at rest half bits (at + length (float_spelling half bits)) 25 (to_be_bytes w16 bits ++ rest) (number_behind_again two_bytes bits rest fits) (behind_end at (float_spelling half bits) rest total is)
   walked rules (raw.float single bits) (suc fuel) at rest total fits nests is =
-      float_tells rules total at rest single bits (at + length (float_spelling single bits)) 26 (to_be_bytes w32 bits ++ rest) (number_behind_again four_bytes bits rest fits) (behind_end at (float_spelling single bits) rest total is)
+      float_reports rules total at rest single bits (at + length (float_spelling single bits)) 26 (to_be_bytes w32 bits ++ rest) (number_behind_again four_bytes bits rest fits) (behind_end at (float_spelling single bits) rest total is)
   walked rules (raw.float double bits) (suc fuel) at rest total fits nests is =
-      float_tells rules total at rest double bits (at + length (float_spelling double bits)) 27 (to_be_bytes w64 bits ++ rest) (number_behind_again eight_bytes bits rest fits) (behind_end at (float_spelling double bits) rest total is)
+      float_reports rules total at rest double bits (at + length (float_spelling double bits)) 27 (to_be_bytes w64 bits ++ rest) (number_behind_again eight_bytes bits rest fits) (behind_end at (float_spelling double bits) rest total is)
 
-  all_walked : (rules : Rules) (rs : Raws) (is_open : Bool) (extra m fuel at : ℕ) (rest : List ℕ) (total : ℕ) → AreWellFormed rs → suc (depth_all rs) < fuel → Closes is_open extra → m ≡ count rs + extra → at + length (spell_all rs ++ closing is_open rest) ≡ total → Tells rules total (all_features at rs) rest (all_walk (walk rules fuel) is_open m (spell_all rs ++ closing is_open rest))
+  all_walked : (rules : Rules) (rs : Raws) (is_open : Bool) (extra m fuel at : ℕ) (rest : List ℕ) (total : ℕ) → AreWellFormed rs → suc (depth_all rs) < fuel → Closes is_open extra → m ≡ count rs + extra → at + length (spell_all rs ++ closing is_open rest) ≡ total → Reports rules total (all_features at rs) rest (all_walk (walk rules fuel) is_open m (spell_all rs ++ closing is_open rest))
   all_walked rules no_raws is_open extra m fuel at rest total fits nests closes steps is =
       let same : extra ≡ m = omega (arith, steps) in
       all_closed rules (walk rules fuel) is_open m rest (subst (Closes is_open) same closes)
@@ -333,12 +333,12 @@ mutual
       let more = items ++ closing is_open rest in
       let within = regrouped total at one items (closing is_open rest) is in
       rw (append_assoc one items (closing is_open rest))
-      (tells_same rules total (features at r ++ all_features (at + length one) rs) rest _ _ (all_next rules p is_open m (one ++ more) (no_break r more fits.0))
-      (tells_then rules total (features at r) (all_features (at + length one) rs) more rest (p (one ++ more)) (all_walk p is_open m)
+      (reports_same rules total (features at r ++ all_features (at + length one) rs) rest _ _ (all_next rules p is_open m (one ++ more) (no_break r more fits.0))
+      (reports_then rules total (features at r) (all_features (at + length one) rs) more rest (p (one ++ more)) (all_walk p is_open m)
       (walked rules r fuel at more total fits.0 (omega (arith, nests)) within)
       (all_walked rules rs is_open extra m fuel (at + length one) rest total fits.1 (omega (arith, nests)) closes (omega (arith, steps)) (behind_end at one more total within))))
 
-  pairs_walked : (rules : Rules) (ps : RawPairs) (before : List ℕ) (is_open : Bool) (extra m fuel at : ℕ) (rest : List ℕ) (total : ℕ) → ArePairsWellFormed ps → suc (depth_pairs ps) < fuel → Closes is_open extra → m ≡ pair_count ps + extra → at + length (spell_pairs ps ++ closing is_open rest) ≡ total → Tells rules total (pair_features at before ps) rest (pairs_walk rules (walk rules fuel) is_open m before (spell_pairs ps ++ closing is_open rest))
+  pairs_walked : (rules : Rules) (ps : RawPairs) (before : List ℕ) (is_open : Bool) (extra m fuel at : ℕ) (rest : List ℕ) (total : ℕ) → ArePairsWellFormed ps → suc (depth_pairs ps) < fuel → Closes is_open extra → m ≡ pair_count ps + extra → at + length (spell_pairs ps ++ closing is_open rest) ≡ total → Reports rules total (pair_features at before ps) rest (pairs_walk rules (walk rules fuel) is_open m before (spell_pairs ps ++ closing is_open rest))
   pairs_walked rules no_raw_pairs before is_open extra m fuel at rest total fits nests closes steps is =
       let same : extra ≡ m = omega (arith, steps) in
       pairs_closed rules (walk rules fuel) is_open m before rest (subst (Closes is_open) same closes)
@@ -356,11 +356,11 @@ mutual
       let within_more : there + length more ≡ total = behind_end here one more total within_value in
       let behind_key = place here (key before k_bytes) ∷ (features here v ++ pair_features there k_bytes ps) in
       rw (pair_parts k_bytes one (spell_pairs ps) (closing is_open rest))
-      (tells_same rules total (features at k ++ behind_key) rest _ _ (pairs_next rules p is_open m before (k_bytes ++ at_value) (no_break k at_value fits.0))
-      (tells_then rules total (features at k) behind_key at_value rest (p (k_bytes ++ at_value)) _
+      (reports_same rules total (features at k ++ behind_key) rest _ _ (pairs_next rules p is_open m before (k_bytes ++ at_value) (no_break k at_value fits.0))
+      (reports_then rules total (features at k) behind_key at_value rest (p (k_bytes ++ at_value)) _
       (walked rules k fuel at at_value total fits.0 (omega (arith, nests)) within)
-      (subst (λ (t : List ℕ). Tells rules total behind_key rest (seen rules (key before t) (length at_value) (and_then (p at_value) (pairs_walk rules p is_open m t)))) (sym (key_taken k_bytes at_value))
-      (seen_tells rules total here (length at_value) (key before k_bytes) (features here v ++ pair_features there k_bytes ps) rest (and_then (p at_value) (pairs_walk rules p is_open m k_bytes)) within_value
-      (tells_then rules total (features here v) (pair_features there k_bytes ps) more rest (p at_value) (pairs_walk rules p is_open m k_bytes)
+      (subst (λ (t : List ℕ). Reports rules total behind_key rest (seen rules (key before t) (length at_value) (and_then (p at_value) (pairs_walk rules p is_open m t)))) (sym (key_taken k_bytes at_value))
+      (seen_reports rules total here (length at_value) (key before k_bytes) (features here v ++ pair_features there k_bytes ps) rest (and_then (p at_value) (pairs_walk rules p is_open m k_bytes)) within_value
+      (reports_then rules total (features here v) (pair_features there k_bytes ps) more rest (p at_value) (pairs_walk rules p is_open m k_bytes)
       (walked rules v fuel here more total fits.1 (omega (arith, nests)) within_value)
       (pairs_walked rules ps k_bytes is_open extra m fuel there rest total fits.2 (omega (arith, nests)) closes (omega (arith, steps)) within_more))))))

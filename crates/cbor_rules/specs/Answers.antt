@@ -25,10 +25,10 @@ abbrev pub IsMemory : Refusal → Type 0
 IsMemory (Unread e) = IsOutOfMemory e
 IsMemory (Departs d) = ⊥
 
--- It tells the item's first departure; or memory ran out.
-abbrev pub TellsItsDeparture : Rules → Raw → Refusal → Type 0
-TellsItsDeparture rules item (Unread e) = IsOutOfMemory e
-TellsItsDeparture rules item (Departs d) = first_departure rules item ≡ Some d
+-- It reports the item's first departure; or memory ran out.
+abbrev pub ReportsItsDeparture : Rules → Raw → Refusal → Type 0
+ReportsItsDeparture rules item (Unread e) = IsOutOfMemory e
+ReportsItsDeparture rules item (Departs d) = first_departure rules item ≡ Some d
 
 -- The bytes are the encoding of one acceptable item, which departs so first.
 pub record SpellsDeparting (rules : Rules) (bytes : List ℕ) (d : Departure) : Type 0 where

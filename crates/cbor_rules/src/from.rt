@@ -8,12 +8,12 @@ ghost use Rattle.cbor_model.specs.Plain.{Val};
 ghost use Rattle.cbor_model.specs.Readable.{SpellsAs};
 ghost use Rattle.cbor_io.specs.Error.{IsOutOfMemory};
 ghost use Rattle.cbor_read.specs.Source.{start_of_slice};
-ghost use Rattle.cbor_decode.specs.FirstRefusal.{TellsFirst};
+ghost use Rattle.cbor_decode.specs.FirstRefusal.{ReportsFirst};
 ghost use Rattle.cbor_decode_as.specs.Takes.{WhereTotal};
-ghost use Rattle.cbor_de.specs.Forms.{MayTell};
+ghost use Rattle.cbor_de.specs.Forms.{MayReport};
 ghost use Rattle.cbor_de.specs.Whole.{RefusesUnread, from_slice_asks, from_slice_context};
 ghost use Rattle.cbor_rules.specs.Answers.{IfDeparts, IfUnread, IsMemory, SpellsByRules};
-ghost use Rattle.cbor_rules.specs.Answers.{SpellsDeparting, TellsItsDeparture};
+ghost use Rattle.cbor_rules.specs.Answers.{SpellsDeparting, ReportsItsDeparture};
 
 use crate::answers::Refusal;
 use crate::settings::Rules;
@@ -28,7 +28,7 @@ use std::alloc::Global;
 /// departs from a rule is refused by its first departure: with the rule, and the offset after the
 /// bytes that show it. That is after the head for a head that isn't the shortest and for a tag,
 /// after the first byte of an indefinite length, after a float or an undefined, and after a key
-/// that may not follow the one before it. What is told of a head comes before what is told of the
+/// that may not follow the one before it. What is reported of a head comes before what is reported of the
 /// key that it ends. No memory is taken beyond that of `from_slice`.
 ///
 /// ```rust
@@ -53,20 +53,20 @@ pub fn from_slice_with<'a, T: Deserialize<'a, SliceRead<'a>>>(
     // An item that `from_slice` reads so is refused by its first departure alone.
     ensures departs { (x : T)
         → (spelt : SpellsAs all_formats (T.reads from_slice_context) slice.now x)
-        → IfErr result (TellsItsDeparture rules spelt.item) }
+        → IfErr result (ReportsItsDeparture rules spelt.item) }
     // The acceptable item that the bytes encode is the one that is read; and where the type reads
     // every item, it is refused by its first departure alone.
     ensures every { (v : Val) → (spelt : SpellsValue slice.now v)
         → MatchResult result (T.reads from_slice_context spelt.item)
-        (λ e. WhereTotal T.total (TellsItsDeparture rules spelt.item e)) }
-    // A departure that is told is the first of the acceptable item that the bytes encode.
+        (λ e. WhereTotal T.total (ReportsItsDeparture rules spelt.item e)) }
+    // A departure that is reported is the first of the acceptable item that the bytes encode.
     ensures departed { IfErr result (IfDeparts (SpellsDeparting rules slice.now)) }
     // Another refusal is that of `from_slice`: where the type reads every item, the first that the
-    // bytes allow, or memory ran out; and a wrong form is told as the type may tell it.
+    // bytes allow, or memory ran out; and a wrong form is reported as the type may report it.
     ensures first { IfErr result (IfUnread (λ e. WhereTotal T.total
-        (IsOutOfMemory e ⊎ TellsFirst (limits_of None) slice.now e))) }
+        (IsOutOfMemory e ⊎ ReportsFirst (limits_of None) slice.now e))) }
     ensures form { IfErr result
-        (IfUnread (MayTell T.wrong_forms all_formats (start_of_slice slice.now None))) }
+        (IfUnread (MayReport T.wrong_forms all_formats (start_of_slice slice.now None))) }
     // A type that passes over an item that it doesn't read refuses it by a message, and other bytes
     // by their first refusal.
     ensures fault { IfErr result (IfUnread (λ e. WhereTotal T.passes_over

@@ -94,36 +94,36 @@ same_fits {capacity = capacity} {old = old} {r = r} e h = subst (λ (bs : List �
 
 -- ---- a call whose steps answered `done`, and left this refusal
 
-pub told : {T E : Type 0} {old new : Option (List ℕ)} {f : List ℕ} (P : Error → Type 0) (done : Result T E) (kept : Option Error) (r : Result (Unit {0}) Error)
+pub reported : {T E : Type 0} {old new : Option (List ℕ)} {f : List ℕ} (P : Error → Type 0) (done : Result T E) (kept : Option Error) (r : Result (Unit {0}) Error)
     → OnOk done (IsOk r) → OnErr done (IfSome kept (λ e. r ≡ Err e)) → OnErr done (IsSomeAnd kept P) → Wrote old f new done → Wrote old f new r
-told P (Ok x) kept (Ok y) ok err refused h = record { ok = h.ok; err = tt }
-told P (Ok x) kept (Err e) ok err refused h = cc
-told P (Err x) None r ok err refused h = absurd refused
-told {old = old} {new = new} {f = f} P (Err x) (Some e) r ok err refused h =
+reported P (Ok x) kept (Ok y) ok err refused h = record { ok = h.ok; err = tt }
+reported P (Ok x) kept (Err e) ok err refused h = cc
+reported P (Err x) None r ok err refused h = absurd refused
+reported {old = old} {new = new} {f = f} P (Err x) (Some e) r ok err refused h =
     subst (λ (z : Result (Unit {0}) Error). Wrote old f new z) (sym err) (record { ok = tt; err = h.err })
 
-pub told_refused : {T E : Type 0} (P : Error → Type 0) (done : Result T E) (kept : Option Error) (r : Result (Unit {0}) Error)
+pub reported_refused : {T E : Type 0} (P : Error → Type 0) (done : Result T E) (kept : Option Error) (r : Result (Unit {0}) Error)
     → OnOk done (IsOk r) → OnErr done (IfSome kept (λ e. r ≡ Err e)) → OnErr done (IsSomeAnd kept P) → IfErr r P
-told_refused P (Ok x) kept (Ok y) ok err refused = tt
-told_refused P (Ok x) kept (Err e) ok err refused = cc
-told_refused P (Err x) None r ok err refused = absurd refused
-told_refused P (Err x) (Some e) r ok err refused = subst (λ (z : Result (Unit {0}) Error). IfErr z P) (sym err) refused
+reported_refused P (Ok x) kept (Ok y) ok err refused = tt
+reported_refused P (Ok x) kept (Err e) ok err refused = cc
+reported_refused P (Err x) None r ok err refused = absurd refused
+reported_refused P (Err x) (Some e) r ok err refused = subst (λ (z : Result (Unit {0}) Error). IfErr z P) (sym err) refused
 
-pub told_ok : {T E : Type 0} (P : Error → Type 0) (Q : Type 0) (done : Result T E) (kept : Option Error) (r : Result (Unit {0}) Error)
+pub reported_ok : {T E : Type 0} (P : Error → Type 0) (Q : Type 0) (done : Result T E) (kept : Option Error) (r : Result (Unit {0}) Error)
     → OnErr done (IfSome kept (λ e. r ≡ Err e)) → OnErr done (IsSomeAnd kept P) → OnOk done Q → OnOk r Q
-told_ok P Q (Ok x) kept (Ok y) err refused h = h
-told_ok P Q (Ok x) kept (Err e) err refused h = tt
-told_ok P Q (Err x) None r err refused h = absurd refused
-told_ok P Q (Err x) (Some e) r err refused h = subst (λ (z : Result (Unit {0}) Error). OnOk z Q) (sym err) tt
+reported_ok P Q (Ok x) kept (Ok y) err refused h = h
+reported_ok P Q (Ok x) kept (Err e) err refused h = tt
+reported_ok P Q (Err x) None r err refused h = absurd refused
+reported_ok P Q (Err x) (Some e) r err refused h = subst (λ (z : Result (Unit {0}) Error). OnOk z Q) (sym err) tt
 
 -- what can't be was refused for its own reason
-pub told_why : {T E : Type 0} (P : Error → Type 0) (Q : Type 0) (done : Result T E) (kept : Option Error) (r : Result (Unit {0}) Error)
+pub reported_why : {T E : Type 0} (P : Error → Type 0) (Q : Type 0) (done : Result T E) (kept : Option Error) (r : Result (Unit {0}) Error)
     → OnErr done (IfSome kept (λ e. r ≡ Err e)) → OnOk done Q → (Q → ⊥) → IsSomeAnd kept P → IsErrAnd r P
-told_why P Q (Ok x) kept r err stored not says = absurd (not stored)
-told_why P Q (Err x) None r err stored not says = absurd says
-told_why P Q (Err x) (Some e) r err stored not says = subst (λ (z : Result (Unit {0}) Error). IsErrAnd z P) (sym err) says
+reported_why P Q (Ok x) kept r err stored not says = absurd (not stored)
+reported_why P Q (Err x) None r err stored not says = absurd says
+reported_why P Q (Err x) (Some e) r err stored not says = subst (λ (z : Result (Unit {0}) Error). IsErrAnd z P) (sym err) says
 
-pub told_fits : {T E : Type 0} {capacity : Option ℕ} {old : Option (List ℕ)} {f : List ℕ} (done : Result T E) (r : Result (Unit {0}) Error)
+pub reported_fits : {T E : Type 0} {capacity : Option ℕ} {old : Option (List ℕ)} {f : List ℕ} (done : Result T E) (r : Result (Unit {0}) Error)
     → OnOk done (IsOk r) → TakesWhatFits capacity old f done → TakesWhatFits capacity old f r
-told_fits (Ok x) r ok fits = record { taken = λ room. ok }
-told_fits {T = T} {E = E} (Err x) r ok fits = record { taken = λ room. absurd (refused_room {T = T} {E = E} (Err x) refl fits room) }
+reported_fits (Ok x) r ok fits = record { taken = λ room. ok }
+reported_fits {T = T} {E = E} (Err x) r ok fits = record { taken = λ room. absurd (refused_room {T = T} {E = E} (Err x) refl fits room) }

@@ -1,5 +1,5 @@
 -- What a call of a serializer leaves: a part of a document was appended to its sink, or a beginning
--- of that part. `written` tells a sink's bytes, `refuses` its errors, `references` what it writes
+-- of that part. `written` gives a sink's bytes, `refuses` its errors, `references` what it writes
 -- through, and `capacity` how many bytes it takes, as `Write` has them.
 use Rattle.std.specs.Prelude.{◌≡◌, ℕ, List, Option, ◌⊎◌, Bool, Result, OnOk, IfErr}
 use Rattle.std.specs.Io.KnownBytes.{Appends}

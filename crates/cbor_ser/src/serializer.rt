@@ -38,7 +38,7 @@ pub(crate) struct Settings {
 /// Writes items to a sink, one after the other.
 ///
 /// Each call appends the item's shortest encoding, a head as one piece and what a string holds as
-/// another. Where the sink refuses, it holds what it had and a prefix of the item, if it tells
+/// another. Where the sink refuses, it holds what it had and a prefix of the item, if it reports
 /// its bytes. One that has a capacity refuses no item that can be stored and fits what is left of
 /// it. The allocator is for the text of a refusal alone.
 ///

@@ -15,7 +15,7 @@ pub record IsCanonicalOf (o : Options) (log : Log) (bytes : List ℕ) : Type 0 w
   pub spells : SpellsValue plain tree
   pub canonical : IsCanonicalSpelling bytes tree
 
--- A sink that tells its bytes has, after those that it had, one acceptable item: the document of the
+-- A sink that reports its bytes has, after those that it had, one acceptable item: the document of the
 -- events that were sent.
 abbrev pub Appends : Options → (Log → Log → Type 0) → Option (List ℕ) → Option (List ℕ) → Type 0
 Appends o writes old new = IfSome old (λ had.

@@ -2,7 +2,7 @@
 use Rattle.std.specs.Prelude.{◌≡◌, ◌++◌, ◌∷◌, ◌≤◌, ℕ, List, [], length, take, None}
 use Rattle.cbor_read.specs.Source.{Input, TookKept, start_of_slice}
 use Rattle.cbor_read.specs.Sources.{input_of_slice}
-use Rattle.cbor_decode.specs.Gives.{Tells}
+use Rattle.cbor_decode.specs.Gives.{Reports}
 use Rattle.cbor_decode.specs.declared.cursor.Remaining.{Remaining}
 use Rattle.cbor_serde_options.specs.declared.options.Options.{Options}
 use Rattle.cbor_serde_de.specs.declared.cbor.Cbor.{Cbor}
@@ -21,7 +21,7 @@ pub record Starts (slice : List ℕ) (options : Options) (c : Cbor) : Type 0 whe
 
 -- nothing is to come
 abbrev pub EndsSlice : Cbor → Type 0
-EndsSlice c = (bs : List ℕ) → Tells (input_of c) bs → bs ≡ []
+EndsSlice c = (bs : List ℕ) → Reports (input_of c) bs → bs ≡ []
 
 -- the place where it stands
 abbrev pub mark_of : Cbor → Mark

@@ -155,7 +155,7 @@ impl<'i> Cbor<'i> {
         self.outer.truncate(mark.depth);
     }
 
-    // The kind of the item at the front, where a look at its first byte doesn't tell it.
+    // The kind of the item at the front, where a look at its first byte doesn't show it.
     #[inline(never)]
     fn kind_within(&mut self) -> Result<Kind> {
         let here = self.here();

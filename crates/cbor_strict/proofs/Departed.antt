@@ -11,7 +11,7 @@ use Rattle.cbor_model.specs.Value.{value, by_order}
 use Rattle.cbor_strict.specs.Departure.{floor, head_end, long_head, long_length, length_end, undefined_at, not_above, chunk_departures, departures, all_departures, pair_departures, DepartsAt, IsFirstDeparture, ShowsDeparture}
 use Rattle.cbor_strict.specs.Walk.{Walk, passed, departed, stopped, walk, walk_of}
 use Rattle.cbor_strict.specs.Strict.{IsFirstShown}
-use Rattle.cbor_strict.proofs.Walked.{Tells, walked}
+use Rattle.cbor_strict.proofs.Walked.{Reports, walked}
 use Rattle.cbor_strict.proofs.WalkFronts.{Below, Goes, walk_local, walk_fuel}
 use Rattle.cbor_strict.proofs.Completed.{walk_begins}
 use Rattle.std.specs.Prelude.{flat_map, nat_lt}
@@ -131,10 +131,10 @@ first_listed r j js is =
 
 -- ---- a walk over a whole spelling
 
-pub item_answer : (r : Raw) (fuel : ℕ) → IsWellFormed r → depth r < fuel → Tells (length (spell r)) (departures 0 r) [] (walk fuel (spell r))
+pub item_answer : (r : Raw) (fuel : ℕ) → IsWellFormed r → depth r < fuel → Reports (length (spell r)) (departures 0 r) [] (walk fuel (spell r))
 item_answer r fuel fits enough =
     let bare = append-nil (spell r) in
-    subst (λ (bs : List ℕ). Tells (length (spell r)) (departures 0 r) [] (walk fuel bs)) bare
+    subst (λ (bs : List ℕ). Reports (length (spell r)) (departures 0 r) [] (walk fuel bs)) bare
     (walked r fuel 0 [] (length (spell r)) fits enough (omega (arith, ap length bare)))
 
 module _ (r : Raw) (fuel : ℕ) (fits : IsWellFormed r) (enough : depth r < fuel) where
@@ -142,26 +142,26 @@ module _ (r : Raw) (fuel : ℕ) (fits : IsWellFormed r) (enough : depth r < fuel
   pub departs_first : (left : ℕ) → walk fuel (spell r) ≡ departed left → (j : ℕ) × (j + left ≡ length (spell r)) × IsFirstDeparture r j
   departs_first left departs = by_list (departures 0 r) refl (item_answer r fuel fits enough)
     where
-      by_list : (xs : List ℕ) → departures 0 r ≡ xs → Tells (length (spell r)) xs [] (walk fuel (spell r)) → (j : ℕ) × (j + left ≡ length (spell r)) × IsFirstDeparture r j
-      by_list [] is tells = absurd (let no : passed [] ≡ departed left = sym tells ∙ departs in cc)
-      by_list (j ∷ js) is tells =
-          let same : departed tells.0 ≡ departed left = sym tells.2 ∙ departs in
-          let equal : tells.0 ≡ left = cc in
-          (j, omega (arith, tells.1, equal), first_listed r j js is)
+      by_list : (xs : List ℕ) → departures 0 r ≡ xs → Reports (length (spell r)) xs [] (walk fuel (spell r)) → (j : ℕ) × (j + left ≡ length (spell r)) × IsFirstDeparture r j
+      by_list [] is reports = absurd (let no : passed [] ≡ departed left = sym reports ∙ departs in cc)
+      by_list (j ∷ js) is reports =
+          let same : departed reports.0 ≡ departed left = sym reports.2 ∙ departs in
+          let equal : reports.0 ≡ left = cc in
+          (j, omega (arith, reports.1, equal), first_listed r j js is)
 
   -- and it departs no later than where the item does
   pub item_departs : (i : ℕ) → DepartsAt r i → (left : ℕ) × (walk fuel (spell r) ≡ departed left) × (length (spell r) ≤ i + left)
   item_departs i has = by_list (departures 0 r) refl (item_answer r fuel fits enough)
     where
-      by_list : (xs : List ℕ) → departures 0 r ≡ xs → Tells (length (spell r)) xs [] (walk fuel (spell r)) → (left : ℕ) × (walk fuel (spell r) ≡ departed left) × (length (spell r) ≤ i + left)
-      by_list [] is tells =
+      by_list : (xs : List ℕ) → departures 0 r ≡ xs → Reports (length (spell r)) xs [] (walk fuel (spell r)) → (left : ℕ) × (walk fuel (spell r) ≡ departed left) × (length (spell r) ≤ i + left)
+      by_list [] is reports =
           let none : Contains [] i = subst (λ (xs : List ℕ). Contains xs i) is has in
           absurd (omega (arith, none.1))
-      by_list (j ∷ js) is tells = (tells.0, tells.2, omega (arith, tells.1, (first_listed r j js is).first i has))
+      by_list (j ∷ js) is reports = (reports.0, reports.2, omega (arith, reports.1, (first_listed r j js is).first i has))
 
   -- no departure, and the walk goes past
   pub none_departs : departures 0 r ≡ [] → walk fuel (spell r) ≡ passed []
-  none_departs is = subst (λ (xs : List ℕ). Tells (length (spell r)) xs [] (walk fuel (spell r))) is (item_answer r fuel fits enough)
+  none_departs is = subst (λ (xs : List ℕ). Reports (length (spell r)) xs [] (walk fuel (spell r))) is (item_answer r fuel fits enough)
 
 -- ---- a walk over more bytes or fewer
 

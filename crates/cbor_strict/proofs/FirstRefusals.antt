@@ -55,7 +55,7 @@ departs_alone bs v j short spelt shown = record { place = j; allowed = (shown.sh
         ]
 
 module _ (bs : List ℕ) (why : Refusal) (offset : ℕ) (f : IsFirstRefusal (limits_of None) bs why offset) where
-  -- where the first ordinary one tells an offset no less
+  -- where the first ordinary one reports an offset no less
   pub departs_before : (j : ℕ) → j ≤ offset → IsFirstShown bs j → IsFirstStrictRefusal bs not_canonical j
   departs_before j early shown = record { place = j; allowed = (shown.shows, refl); first = by_why }
     where

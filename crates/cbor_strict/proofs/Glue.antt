@@ -18,13 +18,13 @@ use Rattle.cbor_model.proofs.facts.Reader.{all_allowed}
 use Rattle.cbor_io.specs.declared.error.Error.{Error}
 use Rattle.cbor_io.specs.declared.error.ErrorCode.TheVariants.{NotCanonical}
 use Rattle.cbor_io.specs.Error.{code_of, offset_of, IsOutOfMemory}
-use Rattle.cbor_decode.specs.FirstRefusal.{TellsFirst}
+use Rattle.cbor_decode.specs.FirstRefusal.{ReportsFirst}
 use Rattle.cbor_decode_as.specs.Takes.{WhereTotal}
 use Rattle.cbor_strict.specs.Departure.{ShowsDeparture}
 use Rattle.cbor_strict.specs.Walk.{passed, departed, walk_of}
 use Rattle.cbor_strict.specs.Strict.{SpellsCanonically, SpellsCanonicallyAs, IsFirstShown}
 use Rattle.cbor_strict.specs.StrictRefusals.{ordinary, not_canonical}
-use Rattle.cbor_strict.specs.StrictAnswers.{TellsFirstStrictly, TellsItsDeparture}
+use Rattle.cbor_strict.specs.StrictAnswers.{ReportsFirstStrictly, ReportsItsDeparture}
 use Rattle.cbor_strict.proofs.Clean.{clean, canonical_clean}
 use Rattle.cbor_strict.proofs.Departed.{item_departs, none_departs, shown_departs, departed_shows}
 use Rattle.cbor_strict.proofs.Strict.{enough, none_listed, listed_none, walk_whole, first_of_front, to_front}
@@ -94,8 +94,8 @@ spells_value bs v spelt = subst (λ (b : List ℕ). SpellsValue b v) spelt.spell
 pub value_spelled : {A : Type 0} (reads : Raw → A → Type 0) (bs : List ℕ) (x : A) → (spelt : SpellsAs all_formats reads bs x) → SpellsValue bs (value spelt.item)
 value_spelled reads bs x spelt = record { item = spelt.item; acceptable = spelt.acceptable; spelled = spelt.spelled; valued = refl }
 
--- and the canonical item departs nowhere, so that only lack of memory is told of it
-pub memory_only : (v : Val) (e : Error) → IsOrdered v → TellsItsDeparture (canonical v) e → IsOutOfMemory e
+-- and the canonical item departs nowhere, so that only lack of memory is reported of it
+pub memory_only : (v : Val) (e : Error) → IsOrdered v → ReportsItsDeparture (canonical v) e → IsOutOfMemory e
 memory_only v e ordered (inl memory) = memory
 memory_only v e ordered (inr departs) = absurd (listed_none (canonical v) (canonical_clean 0 v ordered) (offset_of e) departs.1.departs)
 
@@ -118,29 +118,29 @@ each_behind bs offset none i shows =
     ]
 
 -- of an item that is read, a departure is the first refusal
-pub read_departs : {A : Type 0} (reads : Raw → A → Type 0) (bs : List ℕ) (x : A) (e : Error) → length bs < 2 ^ 64 → SpellsAs all_formats reads bs x → code_of e ≡ NotCanonical → IsFirstShown bs (offset_of e) → TellsFirstStrictly bs e
+pub read_departs : {A : Type 0} (reads : Raw → A → Type 0) (bs : List ℕ) (x : A) (e : Error) → length bs < 2 ^ 64 → SpellsAs all_formats reads bs x → code_of e ≡ NotCanonical → IsFirstShown bs (offset_of e) → ReportsFirstStrictly bs e
 read_departs reads bs x e short spelt code shown = record {
   why = not_canonical;
   code = code;
   first = departs_alone bs (value spelt.item) (offset_of e) short (value_spelled reads bs x spelt) shown;
 }
 
--- a departure before the offset that ordinary reading told, or at it
-pub departs_earlier : (bs : List ℕ) (told e : Error) → TellsFirst (limits_of None) bs told → code_of e ≡ NotCanonical → IsFirstShown (take (offset_of told) bs) (offset_of e) → TellsFirstStrictly bs e
-departs_earlier bs told e tells code shown =
-    let early : offset_of e ≤ tells.offset = omega (arith, tells.at, shown.shows.within, length-take (offset_of told) bs) in
+-- a departure before the offset that ordinary reading reported, or at it
+pub departs_earlier : (bs : List ℕ) (reported e : Error) → ReportsFirst (limits_of None) bs reported → code_of e ≡ NotCanonical → IsFirstShown (take (offset_of reported) bs) (offset_of e) → ReportsFirstStrictly bs e
+departs_earlier bs reported e reports code shown =
+    let early : offset_of e ≤ reports.offset = omega (arith, reports.at, shown.shows.within, length-take (offset_of reported) bs) in
     record {
       why = not_canonical;
       code = code;
-      first = departs_before bs tells.why tells.offset tells.first (offset_of e) early (first_of_front (offset_of told) bs (offset_of e) shown);
+      first = departs_before bs reports.why reports.offset reports.first (offset_of e) early (first_of_front (offset_of reported) bs (offset_of e) shown);
     }
 
 -- or none
-pub fault_earlier : (bs : List ℕ) (e : Error) → AreBytes bs → TellsFirst (limits_of None) bs e → ((i : ℕ) → ShowsDeparture bs i → offset_of e < i) → TellsFirstStrictly bs e
-fault_earlier bs e fits tells none =
-    let same : tells.offset ≡ offset_of e = omega (arith, tells.at) in
+pub fault_earlier : (bs : List ℕ) (e : Error) → AreBytes bs → ReportsFirst (limits_of None) bs e → ((i : ℕ) → ShowsDeparture bs i → offset_of e < i) → ReportsFirstStrictly bs e
+fault_earlier bs e fits reports none =
+    let same : reports.offset ≡ offset_of e = omega (arith, reports.at) in
     record {
-      why = ordinary tells.why;
-      code = tells.code;
-      first = fault_before bs tells.why (offset_of e) (subst (IsFirstRefusal (limits_of None) bs tells.why) same tells.first) fits none;
+      why = ordinary reports.why;
+      code = reports.code;
+      first = fault_before bs reports.why (offset_of e) (subst (IsFirstRefusal (limits_of None) bs reports.why) same reports.first) fits none;
     }

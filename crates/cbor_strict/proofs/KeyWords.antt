@@ -16,7 +16,7 @@ less_or_not m n = elim (cases_order m n) [
   ]
 ]
 
--- the test of two numbers tells what their order does
+-- the test of two numbers says what their order does
 by_order : (m n : ℕ) (o : Ordering) → nat_cmp m n ≡ o → MatchBool (nat_lt m n) (o ≡ Less) (o ≢ Less)
 by_order m n o is = subst (λ (o : Ordering). MatchBool (nat_lt m n) (o ≡ Less) (o ≢ Less)) is (less_or_not m n)
 

@@ -10,7 +10,7 @@ pub data StrictRefusal : Type 0 where
   ordinary : Refusal → StrictRefusal
   not_canonical : StrictRefusal
 
--- The bytes of a whole input allow the refusal, at this place, and this offset is told.
+-- The bytes of a whole input allow the refusal, at this place, and this offset is reported.
 abbrev pub IsAllowedStrictly : List ℕ → StrictRefusal → ℕ → ℕ → Type 0
 IsAllowedStrictly bytes (ordinary why) place offset =
     IsAllowed (limits_of None) bytes why place offset

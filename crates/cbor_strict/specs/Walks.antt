@@ -35,6 +35,6 @@ abbrev pub StopsNumber : ℕ → List ℕ → Type 0
 StopsNumber low bs = IsErr (number_behind low bs)
 
 -- The first offset at which the bytes show a departure; or none does.
-abbrev pub TellsDeparture : List ℕ → Option ℕ → Type 0
-TellsDeparture bs (Some j) = IsFirstShown bs j
-TellsDeparture bs None = (j : ℕ) → ShowsDeparture bs j → ⊥
+abbrev pub ReportsDeparture : List ℕ → Option ℕ → Type 0
+ReportsDeparture bs (Some j) = IsFirstShown bs j
+ReportsDeparture bs None = (j : ℕ) → ShowsDeparture bs j → ⊥

@@ -11,8 +11,8 @@ ghost use Rattle.cbor_io.specs.declared.error.ErrorCode.TheVariants.{NotCanonica
 ghost use Rattle.cbor_decode_as.specs.Takes.{WhereTotal};
 ghost use Rattle.cbor_de.specs.Whole.{RefusesUnread, from_slice_asks, from_slice_context};
 ghost use Rattle.cbor_strict.specs.Strict.{SpellsCanonically, SpellsCanonicallyAs};
-ghost use Rattle.cbor_strict.specs.StrictAnswers.{PassesNoDeparture, TellsFirstStrictly};
-ghost use Rattle.cbor_strict.specs.StrictAnswers.{TellsItsDeparture, DepartureOrForm};
+ghost use Rattle.cbor_strict.specs.StrictAnswers.{PassesNoDeparture, ReportsFirstStrictly};
+ghost use Rattle.cbor_strict.specs.StrictAnswers.{ReportsItsDeparture, DepartureOrForm};
 
 use crate::walk::first_departure;
 use cbor_de::{Deserialize, from_slice};
@@ -45,9 +45,9 @@ pub fn from_slice_canonical(alloc: Global, slice: &[u8]) -> Result<Value>
     ensures accepted { (v : Val) → SpellsCanonically slice.now v → IfErr result IsOutOfMemory }
     // An item that `from_slice` reads is refused by its first departure alone.
     ensures departs { (v : Val) → (spelt : SpellsValue slice.now v)
-        → IfErr result (TellsItsDeparture spelt.item) }
+        → IfErr result (ReportsItsDeparture spelt.item) }
     // A refusal is the first that the bytes allow, or memory ran out.
-    ensures refused { IfErr result (λ e. IsOutOfMemory e ⊎ TellsFirstStrictly slice.now e) }
+    ensures refused { IfErr result (λ e. IsOutOfMemory e ⊎ ReportsFirstStrictly slice.now e) }
 {
     from_slice_canonical_as(alloc, slice)
 }
@@ -84,26 +84,26 @@ pub fn from_slice_canonical_as<'a, T: Deserialize<'a, SliceRead<'a>>>(
     // An item that `from_slice` reads so is refused by its first departure alone.
     ensures departs { (x : T)
         → (spelt : SpellsAs all_formats (T.reads from_slice_context) slice.now x)
-        → IfErr result (TellsItsDeparture spelt.item) }
+        → IfErr result (ReportsItsDeparture spelt.item) }
     // The acceptable item that the bytes encode is the one that is read; and where the type reads
     // every item, it is refused by its first departure alone.
     ensures every { (v : Val) → (spelt : SpellsValue slice.now v)
         → MatchResult result (T.reads from_slice_context spelt.item)
-        (λ e. WhereTotal T.total (TellsItsDeparture spelt.item e)) }
+        (λ e. WhereTotal T.total (ReportsItsDeparture spelt.item e)) }
     // A refusal of it is the first that the bytes allow, or memory ran out.
     ensures refused { IfErr result (λ e. WhereTotal T.total
-        (IsOutOfMemory e ⊎ TellsFirstStrictly slice.now e)) }
+        (IsOutOfMemory e ⊎ ReportsFirstStrictly slice.now e)) }
     // A type that passes over an item that it doesn't read refuses as `from_slice` does, unless it
-    // tells a departure.
+    // reports a departure.
     ensures fault { IfErr result (λ e. WhereTotal T.passes_over ((code_of e ≡ NotCanonical)
         ⊎ IsOutOfMemory e ⊎ RefusesUnread (T.reads from_slice_context) None slice.now e)) }
     // Memory runs out only for an item for which the type may ask for it.
     ensures memory { (x : T)
         → (spelt : SpellsAs all_formats (T.reads from_slice_context) slice.now x)
         → IfErr result (λ e. IsOutOfMemory e → T.asks_memory from_slice_asks spelt.item) }
-    // Of any type: no departure stands before what is told.
+    // Of any type: no departure stands before what is reported.
     ensures earliest { IfErr result (PassesNoDeparture slice.now) }
-    // Another wrong form is told by a code, and at a place, that the type may tell it by and at.
+    // Another wrong form is reported by a code, and at a place, that the type may report it by and at.
     ensures form { IfErr result (DepartureOrForm T.wrong_forms slice.now) }
 {
     match from_slice::<T>(alloc, slice) {

@@ -14,7 +14,7 @@ ghost use Rattle.cbor_io.specs.Compare.{big_endian};
 ghost use Rattle.cbor_strict.specs.Walk.{all_walk, content_walk, integer_walk, pairs_walk, past};
 ghost use Rattle.cbor_strict.specs.Walk.{simple_walk, string_walk, walk};
 ghost use Rattle.cbor_strict.specs.Walks.{last, IsNumber, IsWithin};
-ghost use Rattle.cbor_strict.specs.Walks.{StopsNumber, TellsDeparture, Walks};
+ghost use Rattle.cbor_strict.specs.Walks.{StopsNumber, ReportsDeparture, Walks};
 
 use crate::words::is_above;
 use cbor_io::compare::compare;
@@ -34,7 +34,7 @@ pub enum Walk {
 /// The offset at which the bytes show that no canonical encoding goes on so, or none where they end
 /// or are at fault before that.
 pub(crate) fn first_departure(bytes: &[u8]) -> Option<usize>
-    ensures { TellsDeparture bytes.now result }
+    ensures { ReportsDeparture bytes.now result }
 {
     match item(bytes) {
         Walk::Departed(left) => Some(bytes.len() - left),

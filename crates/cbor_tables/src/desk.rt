@@ -68,8 +68,8 @@ impl Step {
 #[derive(Drop)]
 pub struct Desk<'d> {
     pub rt: &'d HostRuntime,
-    /// Whether each step is told, as it begins and as it ends.
-    pub tells_each: bool,
+    /// Whether each step is reported, as it begins and as it ends.
+    pub reports_each: bool,
     /// The table's name.
     pub table: &'d str,
     /// The row's line, from 1.
@@ -131,13 +131,13 @@ impl<'d> Desk<'d> {
         self.begins(self.step.then_write())?;
         let written = write(self.rt.alloc(), value, row.how);
         self.judges_written(row, want, &written)?;
-        if self.tells_each || row.how.reads_deeper() {
+        if self.reports_each || row.how.reads_deeper() {
             return Ok(());
         }
         match closes(self.rt.alloc(), value) {
             Ok(true) => Ok(()),
             // What was written is read, and made and written again, so that no error is right.
-            Ok(false) | Err(_) => self.tells_square(),
+            Ok(false) | Err(_) => self.reports_square(),
         }
     }
 
@@ -175,67 +175,67 @@ impl<'d> Desk<'d> {
         }
     }
 
-    /// Tells that the line is no row.
+    /// Reports that the line is no row.
     pub fn refuses(&mut self, malformed: Malformed) -> io::Result<()> {
         self.wrong = self.wrong.saturating_add(1);
         println!(self.rt; "{}:{}: {malformed}", self.table, self.line)
     }
 
-    /// Tells that a reader was asked for a byte behind the item.
-    pub fn tells_asked(&mut self) -> io::Result<()> {
+    /// Reports that a reader was asked for a byte behind the item.
+    pub fn reports_asked(&mut self) -> io::Result<()> {
         self.wrong = self.wrong.saturating_add(1);
         println!(self.rt; "{}:{}: reader: asked for more", self.table, self.line)
     }
 
-    /// Tells that bytes that were read in place aren't there any more.
-    pub fn tells_lost(&mut self) -> io::Result<()> {
+    /// Reports that bytes that were read in place aren't there any more.
+    pub fn reports_lost(&mut self) -> io::Result<()> {
         self.wrong = self.wrong.saturating_add(1);
         println!(self.rt; "{}:{}: in place: bytes lost", self.table, self.line)
     }
 
-    /// Tells that so many of the row's bytes were not refused as an end of input.
-    pub fn tells_front(&mut self, len: usize) -> io::Result<()> {
+    /// Reports that so many of the row's bytes were not refused as an end of input.
+    pub fn reports_front(&mut self, len: usize) -> io::Result<()> {
         self.wrong = self.wrong.saturating_add(1);
         println!(self.rt; "{}:{}: first {len} bytes: wrong", self.table, self.line)
     }
 
-    /// Tells that what a value stands for isn't what its bytes are read as.
-    pub fn tells_square(&mut self) -> io::Result<()> {
+    /// Reports that what a value stands for isn't what its bytes are read as.
+    pub fn reports_square(&mut self) -> io::Result<()> {
         self.wrong = self.wrong.saturating_add(1);
         println!(self.rt; "{}:{}: to_value: wrong", self.table, self.line)
     }
 
-    /// Tells that what is written isn't read strictly as what it was.
-    pub fn tells_strict(&mut self) -> io::Result<()> {
+    /// Reports that what is written isn't read strictly as what it was.
+    pub fn reports_strict(&mut self) -> io::Result<()> {
         self.wrong = self.wrong.saturating_add(1);
         println!(self.rt; "{}:{}: strict: wrong", self.table, self.line)
     }
 
-    /// Tells that a step begins. What stands between this and its end may want memory.
+    /// Reports that a step begins. What stands between this and its end may want memory.
     pub fn begins(&mut self, step: Step) -> io::Result<()> {
         self.step = step;
-        if self.tells_each {
+        if self.reports_each {
             self.rt.print("+\n")?;
         }
         Ok(())
     }
 
-    /// Tells what came of a step.
+    /// Reports what came of a step.
     pub fn ends(&mut self, row: &Row<'_>, outcome: Outcome) -> io::Result<()> {
-        if self.tells_each {
+        if self.reports_each {
             self.rt.print("-\n")?;
         }
         self.steps = self.steps.saturating_add(1);
         if outcome != Outcome::Right {
             self.wrong = self.wrong.saturating_add(1);
         }
-        if self.tells_each || outcome != Outcome::Right {
-            self.tells(row, outcome)?;
+        if self.reports_each || outcome != Outcome::Right {
+            self.reports(row, outcome)?;
         }
         Ok(())
     }
 
-    fn tells(&self, row: &Row<'_>, outcome: Outcome) -> io::Result<()> {
+    fn reports(&self, row: &Row<'_>, outcome: Outcome) -> io::Result<()> {
         let step = self.step.name();
         let free = if row.how.no_memory {
             self.step.free()

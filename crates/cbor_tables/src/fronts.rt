@@ -10,32 +10,32 @@ use std::alloc::Global;
 use std::io;
 
 /// Has each proper front of a row's bytes refused by each source, as an end of input at the
-/// front's end: no item's encoding begins another's. Where a reader tells a fault after a front,
-/// and where it tells one in place of the end, it is that fault that is told.
+/// front's end: no item's encoding begins another's. Where a reader reports a fault after a front,
+/// and where it reports one in place of the end, it is that fault that is reported.
 pub fn judge(desk: &mut Desk<'_>, row: &Row<'_>) -> io::Result<()> {
     let alloc = desk.rt.alloc();
     let mut scratch = [0; 64];
     for n in 0..row.bytes.len() {
         let front = &row.bytes[..n];
-        if !ends_too_early(alloc, front, &mut scratch)? || !tells_fault(alloc, front) {
-            desk.tells_front(n)?;
+        if !ends_too_early(alloc, front, &mut scratch)? || !reports_fault(alloc, front) {
+            desk.reports_front(n)?;
         }
     }
     if !is_fault(&from_reader::<Value, _>(alloc, Pieces::failing(&row.bytes))) {
-        desk.tells_front(row.bytes.len())?;
+        desk.reports_front(row.bytes.len())?;
     }
     Ok(())
 }
 
-// Whether a reader's fault after a front is told, by a stream as its last answer.
-fn tells_fault(alloc: Global, front: &[u8]) -> bool {
+// Whether a reader's fault after a front is reported, by a stream as its last answer.
+fn reports_fault(alloc: Global, front: &[u8]) -> bool {
     let mut stream = Deserializer::from_reader(alloc, Pieces::failing(front)).into_iter::<Value>();
-    let told = match stream.next() {
+    let reported = match stream.next() {
         Some(read) => is_fault(&read),
         None => false,
     };
     let read = from_reader::<Value, _>(alloc, Pieces::failing(front));
-    told && stream.next().is_none() && is_fault(&read)
+    reported && stream.next().is_none() && is_fault(&read)
 }
 
 // Whether this is a fault of a reader.

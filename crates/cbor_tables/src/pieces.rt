@@ -3,13 +3,13 @@
 use std::io;
 use std::io::ErrorKind;
 
-/// A reader that gives some bytes at a call, and tells a fault or the end after them.
+/// A reader that gives some bytes at a call, and reports a fault or the end after them.
 #[derive(Drop)]
 pub struct Pieces<'a> {
     rest: &'a [u8],
     piece: usize,
     fails: bool,
-    /// Whether it was asked for more than its bytes, and told its fault.
+    /// Whether it was asked for more than its bytes, and reported its fault.
     pub failed: bool,
 }
 

@@ -26,7 +26,7 @@ pub fn judge(desk: &mut Desk<'_>, row: &Row<'_>) -> io::Result<bool> {
 pub fn reads_back(desk: &mut Desk<'_>, row: &Row<'_>) -> io::Result<()> {
     match is_read_back(desk.rt.alloc(), &row.bytes) {
         Ok(true) => Ok(()),
-        Ok(false) | Err(_) => desk.tells_strict(),
+        Ok(false) | Err(_) => desk.reports_strict(),
     }
 }
 

@@ -14,7 +14,7 @@ use std::io;
 /// that each proper front of it is refused, and that it is read strictly as it is written.
 pub fn judge(desk: &mut Desk<'_>, row: &Row<'_>) -> io::Result<()> {
     sources(desk, row)?;
-    if row.how.source.is_none() && row.is_read() && !desk.tells_each {
+    if row.how.source.is_none() && row.is_read() && !desk.reports_each {
         fronts::judge(desk, row)?;
         strict::reads_back(desk, row)?;
     }
@@ -43,7 +43,7 @@ fn sources(desk: &mut Desk<'_>, row: &Row<'_>) -> io::Result<()> {
         let read = from_mut_slice::<Value>(alloc, &mut copy);
         desk.judges_and_writes(row, read)?;
         if !are_rearranged(&copy, bytes) {
-            desk.tells_lost()?;
+            desk.reports_lost()?;
         }
     }
     if row.asks_for(Source::Reader) {
@@ -66,7 +66,7 @@ fn before_a_fault(desk: &mut Desk<'_>, row: &Row<'_>) -> io::Result<()> {
     desk.reads::<Value, _>(row, de)?;
     desk.ends = true;
     if pieces.failed {
-        desk.tells_asked()?;
+        desk.reports_asked()?;
     }
     Ok(())
 }

@@ -7,7 +7,7 @@ abbrev pub integer_of : (negative : Bool) → List ℕ → ℤ
 integer_of false bs = pos (big_endian bs)
 integer_of true bs = negsuc (big_endian bs)
 
--- and the tag that tells which
+-- and the tag that says which
 abbrev pub sign_tag : (negative : Bool) → ℕ
 sign_tag false = 2
 sign_tag true = 3

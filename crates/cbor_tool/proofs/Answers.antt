@@ -21,7 +21,7 @@ use Rattle.serde_cbor.specs.declared.error.ErrorCode.{ErrorCode}
 use Rattle.serde_cbor.specs.declared.error.ErrorCode.TheVariants.{Message, OutOfMemory}
 use Rattle.serde_cbor.specs.declared.error.Error.{Error}
 use Rattle.serde_cbor.specs.Error.{code_of, offset_of, code_text, error_text, IsOutOfMemory}
-use Rattle.serde_cbor.specs.FirstRefusal.{refusal_code, TellsFirst}
+use Rattle.serde_cbor.specs.FirstRefusal.{refusal_code, ReportsFirst}
 use Rattle.serde_cbor.specs.StrictRefusals.{StrictRefusal, ordinary, not_canonical}
 use Rattle.serde_cbor.specs.StrictAnswers.{strict_code}
 use Rattle.serde_cbor.specs.Written.{IsRefusedBy, IsNotWritten}
@@ -29,7 +29,7 @@ use Rattle.cbor_tool.specs.Run.{AppendsAnswers}
 use Rattle.cbor_tool.specs.declared.program.Mode.{Mode}
 use Rattle.cbor_tool.specs.declared.program.Mode.TheVariants.{Lenient, Strict, Diagnose}
 use Rattle.cbor_tool.specs.declared.program.Mode.TheVariants.{DiagnosePretty}
-use Rattle.cbor_tool.specs.RunSteps.{answered_in, IsRefusalIn, SpellsIn, TellsIn}
+use Rattle.cbor_tool.specs.RunSteps.{answered_in, IsRefusalIn, SpellsIn, ReportsIn}
 use Rattle.cbor_tool.proofs.Hexadecimal.{IsHexOf-decoded, decode_of-hex}
 
 -- ---- one answer
@@ -53,44 +53,44 @@ strict_words_of : (why : StrictRefusal) → code_text (strict_code why) ≡ stri
 strict_words_of (ordinary why) = words_of why
 strict_words_of not_canonical = refl
 
--- the text of an error that tells the first refusal
-ordinary_text : (bytes : List ℕ) (e : Error) → TellsFirst (limits_of None) bytes e
+-- the text of an error that reports the first refusal
+ordinary_text : (bytes : List ℕ) (e : Error) → ReportsFirst (limits_of None) bytes e
     → IsRefusalText bytes (error_text e)
-ordinary_text bytes e tells =
-    let place : offset_of e ≡ tells.offset = omega (arith, tells.at) in
+ordinary_text bytes e reports =
+    let place : offset_of e ≡ reports.offset = omega (arith, reports.at) in
     record {
-      why = tells.why;
-      offset = tells.offset;
-      first = tells.first;
-      is = ap (λ c. code_text c ++ at_offset (offset_of e)) tells.code
-          ∙ ap (λ t. t ++ at_offset (offset_of e)) (words_of tells.why)
-          ∙ ap (λ n. words tells.why ++ at_offset n) place;
+      why = reports.why;
+      offset = reports.offset;
+      first = reports.first;
+      is = ap (λ c. code_text c ++ at_offset (offset_of e)) reports.code
+          ∙ ap (λ t. t ++ at_offset (offset_of e)) (words_of reports.why)
+          ∙ ap (λ n. words reports.why ++ at_offset n) place;
     }
 
-refusal_text : (mode : Mode) (bytes : List ℕ) (e : Error) → TellsIn mode bytes e
+refusal_text : (mode : Mode) (bytes : List ℕ) (e : Error) → ReportsIn mode bytes e
     → IsRefusalIn mode bytes (error_text e)
-refusal_text Lenient bytes e tells = ordinary_text bytes e tells
-refusal_text Strict bytes e tells = record {
-  why = tells.why;
+refusal_text Lenient bytes e reports = ordinary_text bytes e reports
+refusal_text Strict bytes e reports = record {
+  why = reports.why;
   offset = offset_of e;
-  first = tells.first;
-  is = ap (λ c. code_text c ++ at_offset (offset_of e)) tells.code
-      ∙ ap (λ t. t ++ at_offset (offset_of e)) (strict_words_of tells.why);
+  first = reports.first;
+  is = ap (λ c. code_text c ++ at_offset (offset_of e)) reports.code
+      ∙ ap (λ t. t ++ at_offset (offset_of e)) (strict_words_of reports.why);
 }
-refusal_text Diagnose bytes e tells = ordinary_text bytes e tells
-refusal_text DiagnosePretty bytes e tells = ordinary_text bytes e tells
+refusal_text Diagnose bytes e reports = ordinary_text bytes e reports
+refusal_text DiagnosePretty bytes e reports = ordinary_text bytes e reports
 
 -- what wasn't read is answered with the refusal
 pub answered_refused : (mode : Mode) (bytes text : List ℕ) (e : Error)
-    → IsOutOfMemory e ⊎ TellsIn mode bytes e
+    → IsOutOfMemory e ⊎ ReportsIn mode bytes e
     → ((v : Val) → SpellsIn mode bytes v → IsOutOfMemory e)
     → (code_of e ≡ OutOfMemory → ⊥) → text ≡ codes "error: " ++ error_text e
     → answered_in mode bytes text
 answered_refused mode bytes text e (inl memory) accepted ne is = absurd (ne memory.0)
-answered_refused mode bytes text e (inr tells) accepted ne is =
-    refused (error_text e) (λ v spelt. ne (accepted v spelt).0) (refusal_text mode bytes e tells) is
+answered_refused mode bytes text e (inr reports) accepted ne is =
+    refused (error_text e) (λ v spelt. ne (accepted v spelt).0) (refusal_text mode bytes e reports) is
 
--- lack of memory is told at no offset
+-- lack of memory is reported at no offset
 no_refusal : (why : Refusal) → refusal_code why ≡ OutOfMemory → ⊥
 no_refusal end_in_value is = cc
 no_refusal end_in_array is = cc
@@ -108,17 +108,17 @@ no_strict_refusal : (why : StrictRefusal) → strict_code why ≡ OutOfMemory �
 no_strict_refusal (ordinary why) is = no_refusal why is
 no_strict_refusal not_canonical is = cc
 
-told : (mode : Mode) (bytes : List ℕ) (e : Error) → TellsIn mode bytes e
+reported : (mode : Mode) (bytes : List ℕ) (e : Error) → ReportsIn mode bytes e
     → code_of e ≡ OutOfMemory → ⊥
-told Lenient bytes e tells is = no_refusal tells.why (sym tells.code ∙ is)
-told Strict bytes e tells is = no_strict_refusal tells.why (sym tells.code ∙ is)
-told Diagnose bytes e tells is = no_refusal tells.why (sym tells.code ∙ is)
-told DiagnosePretty bytes e tells is = no_refusal tells.why (sym tells.code ∙ is)
+reported Lenient bytes e reports is = no_refusal reports.why (sym reports.code ∙ is)
+reported Strict bytes e reports is = no_strict_refusal reports.why (sym reports.code ∙ is)
+reported Diagnose bytes e reports is = no_refusal reports.why (sym reports.code ∙ is)
+reported DiagnosePretty bytes e reports is = no_refusal reports.why (sym reports.code ∙ is)
 
-pub memory_told : (mode : Mode) (bytes : List ℕ) (e : Error) → IsOutOfMemory e ⊎ TellsIn mode bytes e
+pub memory_reported : (mode : Mode) (bytes : List ℕ) (e : Error) → IsOutOfMemory e ⊎ ReportsIn mode bytes e
     → code_of e ≡ OutOfMemory → IsOutOfMemory e
-memory_told mode bytes e (inl memory) is = memory
-memory_told mode bytes e (inr tells) is = absurd (told mode bytes e tells is)
+memory_reported mode bytes e (inl memory) is = memory
+memory_reported mode bytes e (inr reports) is = absurd (reported mode bytes e reports is)
 
 pub IsAnswer-decoded : (A : Answered) (line bytes text : List ℕ) → decode_of line ≡ Ok bytes
     → A bytes text → IsAnswer A line text

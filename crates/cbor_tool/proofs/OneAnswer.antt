@@ -79,7 +79,7 @@ strict_refusal_unique bytes text text' one other =
 abbrev IsUnique : Answered → Type 0
 IsUnique A = (bytes a b : List ℕ) → A bytes a → A bytes b → a ≡ b
 
--- What is read of bytes is shown in one way, and a refusal told in one way: so is the answer.
+-- What is read of bytes is shown in one way, and a refusal reported in one way: so is the answer.
 unique_of : (Spells : List ℕ → Val → Type 0) (Shows : Val → List ℕ → Type 0)
     (IsRefusal : List ℕ → List ℕ → Type 0)
     → ((bytes : List ℕ) (v w : Val) (a b : List ℕ) → Spells bytes v → Spells bytes w → Shows v a

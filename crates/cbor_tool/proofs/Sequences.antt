@@ -14,8 +14,8 @@ use Rattle.cbor_model.specs.Value.{value}
 use Rattle.cbor_model.proofs.facts.Laws.{value_is_storable}
 use Rattle.cbor_value.specs.declared.Value.{Value}
 use Rattle.serde_cbor.specs.View.{view}
-use Rattle.serde_cbor.specs.FirstRefusal.{TellsFirst}
-use Rattle.serde_cbor.specs.Gives.{Gave, Reports, Tells, IsMemoryOrFault, IsMemoryOrFaultBy}
+use Rattle.serde_cbor.specs.FirstRefusal.{ReportsFirst}
+use Rattle.serde_cbor.specs.Gives.{Gave, ReportsIo, Reports, IsMemoryOrFault, IsMemoryOrFaultBy}
 use Rattle.serde_cbor.specs.ItemTaken.{TookItem}
 use Rattle.serde_cbor.specs.Items.{ItemsBegin}
 use Rattle.serde_cbor.specs.Source.{Input, Lends, reader_refusals, start_of_reader}
@@ -73,7 +73,7 @@ pub record SoFar (form : Form) (input : List ℕ) (s : Input) (old new : Option 
   pub items : List Raw
   pub rest : List ℕ
   pub begin : ItemsBegin max_depth input items rest
-  pub tells : Tells s rest
+  pub reports : Reports s rest
   pub are_bytes : AreBytes rest
   pub place : s.offset + length rest ≡ length input
   pub output : List ℕ
@@ -85,7 +85,7 @@ none_yet form input remaining old gave = record {
   items = [];
   rest = input;
   begin = record { acceptable = tt; spelled = refl };
-  tells = record { is = gave.told; short = omega (arith, gave.short) };
+  reports = record { is = gave.reported; short = omega (arith, gave.short) };
   are_bytes = gave.are_bytes;
   place = omega arith;
   output = [];
@@ -96,7 +96,7 @@ none_yet form input remaining old gave = record {
 module _ (form : Form) (input : List ℕ) (s : Input) (old new : Option (List ℕ)) (far : SoFar form input s old new) where
   pub all_answered : IfSome s.to_come (λ bs. bs ≡ []) → AnswersSequence form input old new
   all_answered end =
-      let none : far.rest ≡ [] = subst (λ (o : Option (List ℕ)). IfSome o (λ bs. bs ≡ [])) far.tells.is end in
+      let none : far.rest ≡ [] = subst (λ (o : Option (List ℕ)). IfSome o (λ bs. bs ≡ [])) far.reports.is end in
       record {
         items = far.items;
         are = subst (λ (bs : List ℕ). ItemsBegin max_depth input far.items bs) none far.begin;
@@ -105,7 +105,7 @@ module _ (form : Form) (input : List ℕ) (s : Input) (old new : Option (List �
         written = far.written;
       }
 
-  pub refused_behind : (e : Error) → s.room ≡ None → IsOutOfMemory e ⊎ ((Reports reader_refusals × IsMemoryOrFault e) ⊎ TellsFirst (record { start = s.offset; levels = max_depth; scratch = s.room }) far.rest e) → StopsSequence form e input old new
+  pub refused_behind : (e : Error) → s.room ≡ None → IsOutOfMemory e ⊎ ((ReportsIo reader_refusals × IsMemoryOrFault e) ⊎ ReportsFirst (record { start = s.offset; levels = max_depth; scratch = s.room }) far.rest e) → StopsSequence form e input old new
   refused_behind e room why = record {
     items = far.items;
     rest = far.rest;
@@ -117,8 +117,8 @@ module _ (form : Form) (input : List ℕ) (s : Input) (old new : Option (List �
     why = elim why [
       | inl memory ↦ failed (memory_excuses e memory) (inl refl)
       | inr (inl fault) ↦ failed fault.1 (inl refl)
-      | inr (inr first) ↦ refused refl (subst (λ (n : ℕ). TellsFirst (record { start = n; levels = max_depth; scratch = None }) far.rest e) (omega (arith, far.place))
-          (subst (λ (o : Option ℕ). TellsFirst (record { start = s.offset; levels = max_depth; scratch = o }) far.rest e) room first))
+      | inr (inr first) ↦ refused refl (subst (λ (n : ℕ). ReportsFirst (record { start = n; levels = max_depth; scratch = None }) far.rest e) (omega (arith, far.place))
+          (subst (λ (o : Option ℕ). ReportsFirst (record { start = s.offset; levels = max_depth; scratch = o }) far.rest e) room first))
     ];
   }
 
@@ -135,7 +135,7 @@ module _ (form : Form) (input : List ℕ) (s : Input) (old new : Option (List �
             acceptable = acceptable_more far.items r far.begin.acceptable took.read.begins.acceptable;
             spelled = far.begin.spelled ∙ ap (λ (l : List ℕ). flat_map spell far.items ++ l) spelled ∙ spelled_more far.items r took.rest;
           };
-          tells = took.tells;
+          reports = took.reports;
           are_bytes = suffix (spell r) took.rest (subst AreBytes spelled far.are_bytes);
           place = omega (arith, took.count, far.place, lengths);
           output = far.output ++ more.answer;

@@ -12,9 +12,9 @@ use Rattle.serde_cbor.specs.Error.{code_of, offset_of}
 use Rattle.cbor_model.specs.Plain.{Val}
 use Rattle.cbor_model.specs.Allowed.{limits_of}
 use Rattle.cbor_model.specs.Laws.{SpellsValue}
-use Rattle.serde_cbor.specs.FirstRefusal.{TellsFirst}
+use Rattle.serde_cbor.specs.FirstRefusal.{ReportsFirst}
 use Rattle.serde_cbor.specs.Strict.{SpellsCanonically}
-use Rattle.serde_cbor.specs.StrictAnswers.{TellsFirstStrictly}
+use Rattle.serde_cbor.specs.StrictAnswers.{ReportsFirstStrictly}
 use Rattle.cbor_tool.specs.declared.program.Mode.{Mode}
 use Rattle.cbor_tool.specs.declared.program.Mode.TheVariants.{Lenient, Strict, Diagnose}
 use Rattle.cbor_tool.specs.declared.program.Mode.TheVariants.{DiagnosePretty}
@@ -104,10 +104,10 @@ abbrev pub IsRefusalIn : Mode → List ℕ → List ℕ → Type 0
 IsRefusalIn Strict = IsStrictRefusalText
 IsRefusalIn _ = IsRefusalText
 
--- the error tells that refusal
-abbrev pub TellsIn : Mode → List ℕ → Error → Type 0
-TellsIn Strict = TellsFirstStrictly
-TellsIn _ = TellsFirst (limits_of None)
+-- the error reports that refusal
+abbrev pub ReportsIn : Mode → List ℕ → Error → Type 0
+ReportsIn Strict = ReportsFirstStrictly
+ReportsIn _ = ReportsFirst (limits_of None)
 
 -- what bytes are answered in each mode
 abbrev pub answered_in : Mode → Answered

@@ -12,7 +12,7 @@ use Rattle.cbor_model.specs.Value.{value}
 use Rattle.cbor_diagnostic.specs.Notation.{IsNotation, pretty}
 use Rattle.serde_cbor.specs.Items.{ItemsBegin, AreItems}
 use Rattle.serde_cbor.specs.declared.error.Error.{Error}
-use Rattle.serde_cbor.specs.FirstRefusal.{TellsFirst}
+use Rattle.serde_cbor.specs.FirstRefusal.{ReportsFirst}
 use Rattle.serde_cbor.specs.Gives.{IsMemoryOrFault}
 use Rattle.cbor_tool.specs.declared.sequence.Form.{Form}
 use Rattle.cbor_tool.specs.declared.sequence.Form.TheVariants.{Canonical, Notation}
@@ -57,11 +57,11 @@ abbrev pub limits_behind : ℕ → List ℕ → Limits
 limits_behind all rest = record { start = all - length rest; levels = max_depth; scratch = None }
 
 -- Why a run stopped before these bytes: memory ran out, or a device failed, and of the next answer
--- this was written; or the error tells the first refusal that they allow, and nothing was.
+-- this was written; or the error reports the first refusal that they allow, and nothing was.
 pub data StopsBefore (form : Form) (e : Error) (all : ℕ) (rest begun : List ℕ) : Type 0 where
   failed : IsMemoryOrFault e → (begun ≡ []) ⊎ BeginsAnswer form rest begun
       → StopsBefore form e all rest begun
-  refused : begun ≡ [] → TellsFirst (limits_behind all rest) rest e
+  refused : begun ≡ [] → ReportsFirst (limits_behind all rest) rest e
       → StopsBefore form e all rest begun
 
 -- Some acceptable items begin the input. Their answers were written, and of the next what the reason

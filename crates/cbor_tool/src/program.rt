@@ -13,7 +13,7 @@ ghost use Rattle.serde_cbor.specs.Written.{IsNotWritten};
 ghost use Rattle.cbor_tool.specs.Run.{AppendsAnswers, IsStopped};
 ghost use Rattle.cbor_tool.specs.RunSteps.{IsNext, IsNextLine, StopsReading, StopsAtByte};
 ghost use Rattle.cbor_tool.specs.RunSteps.{answered_in, ShowsIn, SpellsIn, StopsAnswering};
-ghost use Rattle.cbor_tool.specs.RunSteps.{TellsIn};
+ghost use Rattle.cbor_tool.specs.RunSteps.{ReportsIn};
 
 use cbor_diagnostic::{to_diagnostic, to_diagnostic_pretty};
 use hex::FromHexError;
@@ -249,7 +249,7 @@ fn show(mode: Mode, alloc: Global, value: &Value, text: &mut Vec<u8>) -> Result<
 fn read(mode: Mode, alloc: Global, bytes: &[u8]) -> Result<Value>
     ensures found { IfOk result (λ v. SpellsIn mode bytes.now (view v)) }
     ensures accepted { (v : Val) → SpellsIn mode bytes.now v → IfErr result IsOutOfMemory }
-    ensures refused { IfErr result (λ e. IsOutOfMemory e ⊎ TellsIn mode bytes.now e) }
+    ensures refused { IfErr result (λ e. IsOutOfMemory e ⊎ ReportsIn mode bytes.now e) }
 {
     match mode {
         Mode::Strict => from_slice_canonical(alloc, bytes),

@@ -11,7 +11,7 @@ pub struct Tally {
     pub wrong: usize,
 }
 
-/// Answers each row of a table, and tells those that are answered otherwise. A line that is no row
+/// Answers each row of a table, and reports those that are answered otherwise. A line that is no row
 /// counts as a wrong one.
 pub fn answer(rt: &HostRuntime, table: &str, text: &str) -> io::Result<Tally> {
     let mut tally = Tally { rows: 0, wrong: 0 };

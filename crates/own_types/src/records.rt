@@ -70,7 +70,7 @@ impl RoundTrip for User {
     ghost back = { Self.law.back };
 }
 
-/// What a sensor told.
+/// What a sensor reported.
 #[derive(Debug, Drop)]
 pub struct Reading {
     pub sensor: ByteArray<4>,
@@ -114,7 +114,7 @@ impl<'de, R: Read<'de>> Deserialize<'de, R> for Reading {
     }
 }
 
-/// What a server is told, of which only the port has to be.
+/// What a server is set to, of which only the port has to be given.
 #[derive(Debug, Drop)]
 pub struct Settings {
     pub port: u16,

@@ -9,7 +9,7 @@ use serde_cbor::parts::{Optional, OrDefault, Schema};
 use serde_cbor::ser::{OptionalField, PartsDocument, Serialize, Serializer, Write};
 use serde_cbor::{Deserializer, Result};
 
-/// What a server is told, of which only the port has to be.
+/// What a server is set to, of which only the port has to be given.
 #[derive(Debug, Drop)]
 pub struct Settings {
     pub port: u16,

@@ -114,7 +114,7 @@ fn fills_slice(rt: &impl Abort, alloc: Global, len: usize) -> Result<usize, Fail
 
 // By a head or what a string holds a call.
 #[test]
-fn tells_a_writers_fault_at_each_piece(rt: HostRuntime) -> Done {
+fn reports_a_writers_fault_at_each_piece(rt: HostRuntime) -> Done {
     let written = [0, 1, 2, 9, 11, 12, 25, 26, 27, 28, 29];
     for (left, count) in written.into_iter().enumerate() {
         fails_after(&rt, rt.alloc(), 30, left, count)?;
@@ -124,7 +124,7 @@ fn tells_a_writers_fault_at_each_piece(rt: HostRuntime) -> Done {
 
 // By a byte a call.
 #[test]
-fn tells_a_writers_fault_at_each_byte(rt: HostRuntime) -> Done {
+fn reports_a_writers_fault_at_each_byte(rt: HostRuntime) -> Done {
     for left in 0..30usize {
         fails_after(&rt, rt.alloc(), 1, left, left)?;
     }
@@ -132,7 +132,7 @@ fn tells_a_writers_fault_at_each_byte(rt: HostRuntime) -> Done {
 }
 
 #[test]
-fn tells_a_writer_that_takes_nothing(rt: HostRuntime) -> Done {
+fn reports_a_writer_that_takes_nothing(rt: HostRuntime) -> Done {
     fails_after(&rt, rt.alloc(), 0, 100, 0)
 }
 

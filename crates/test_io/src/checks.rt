@@ -7,8 +7,8 @@ use std::process::Abort;
 use test_checks::Done;
 
 /// It prints these words, for which no memory is taken.
-pub fn prints<D: Display + Drop>(rt: &impl Abort, told: D, want: &str) {
-    assert!(rt; InlineText::<96>::of(told).as_str() == want);
+pub fn prints<D: Display + Drop>(rt: &impl Abort, reported: D, want: &str) {
+    assert!(rt; InlineText::<96>::of(reported).as_str() == want);
 }
 
 // ---- sinks

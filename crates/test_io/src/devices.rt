@@ -50,7 +50,7 @@ impl<'a> io::Read for PieceReader<'a> {
     }
 }
 
-/// A reader that takes memory for each byte that it gives, and tells its want of it as a fault.
+/// A reader that takes memory for each byte that it gives, and reports its want of it as a fault.
 #[derive(Drop)]
 pub struct HungryReader<'a> {
     rest: &'a [u8],

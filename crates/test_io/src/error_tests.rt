@@ -12,7 +12,7 @@ use test_checks::Done;
 // next.
 
 /// The error, which is one at offset 7, is of this category and prints these words and its offset.
-fn is_told(rt: &impl Abort, alloc: Global, e: Error, category: Category, words: &str) -> Done {
+fn is_reported(rt: &impl Abort, alloc: Global, e: Error, category: Category, words: &str) -> Done {
     is_of(rt, &e, category);
     prints(rt, e.code(), words);
     is_text(rt, e.code().to_string(alloc), words)?;
@@ -36,8 +36,8 @@ fn is_of(rt: &impl Abort, e: &Error, category: Category) {
     is_so(rt, e.is_eof(), category == Category::Eof);
 }
 
-fn is_so(rt: &impl Abort, told: bool, want: bool) {
-    assert!(rt; told == want);
+fn is_so(rt: &impl Abort, reported: bool, want: bool) {
+    assert!(rt; reported == want);
 }
 
 /// It prints these words and its offset, whatever layout is asked for.
@@ -49,76 +49,76 @@ fn prints_its_offset(rt: &impl Abort, e: &Error, words: &str) {
 }
 
 /// The code at offset 7 is of an end of input.
-fn tells_eof(rt: &impl Abort, alloc: Global, e: Error, words: &str) -> Done {
-    is_told(rt, alloc, e, Category::Eof, words)
+fn reports_eof(rt: &impl Abort, alloc: Global, e: Error, words: &str) -> Done {
+    is_reported(rt, alloc, e, Category::Eof, words)
 }
 
 /// The code at offset 7 is of bytes that spell no item that is read.
-fn tells_syntax(rt: &impl Abort, alloc: Global, e: Error, words: &str) -> Done {
-    is_told(rt, alloc, e, Category::Syntax, words)
+fn reports_syntax(rt: &impl Abort, alloc: Global, e: Error, words: &str) -> Done {
+    is_reported(rt, alloc, e, Category::Syntax, words)
 }
 
 #[test]
-fn tells_too_little_room(rt: HostRuntime) -> Done {
+fn reports_too_little_room(rt: HostRuntime) -> Done {
     let e = Error::scratch_too_small(7);
-    is_told(&rt, rt.alloc(), e, Category::Io, "Scratch buffer too small")
+    is_reported(&rt, rt.alloc(), e, Category::Io, "Scratch buffer too small")
 }
 
 #[test]
-fn tells_too_little_input(rt: HostRuntime) -> Done {
+fn reports_too_little_input(rt: HostRuntime) -> Done {
     let alloc = rt.alloc();
     let e = Error::at(ErrorCode::EofWhileParsingValue, 7);
-    tells_eof(&rt, alloc, e, "EOF while parsing a value")?;
+    reports_eof(&rt, alloc, e, "EOF while parsing a value")?;
     let e = Error::at(ErrorCode::EofWhileParsingArray, 7);
-    tells_eof(&rt, alloc, e, "EOF while parsing an array")?;
+    reports_eof(&rt, alloc, e, "EOF while parsing an array")?;
     let e = Error::at(ErrorCode::EofWhileParsingMap, 7);
-    tells_eof(&rt, alloc, e, "EOF while parsing a map")
+    reports_eof(&rt, alloc, e, "EOF while parsing a map")
 }
 
 #[test]
-fn tells_bytes_that_spell_nothing(rt: HostRuntime) -> Done {
+fn reports_bytes_that_spell_nothing(rt: HostRuntime) -> Done {
     let alloc = rt.alloc();
     let e = Error::at(ErrorCode::InvalidUtf8, 7);
-    tells_syntax(&rt, alloc, e, "invalid UTF-8")?;
+    reports_syntax(&rt, alloc, e, "invalid UTF-8")?;
     let e = Error::at(ErrorCode::UnassignedCode, 7);
-    tells_syntax(&rt, alloc, e, "unassigned type")?;
+    reports_syntax(&rt, alloc, e, "unassigned type")?;
     let e = Error::at(ErrorCode::UnexpectedCode, 7);
-    tells_syntax(&rt, alloc, e, "unexpected code")
+    reports_syntax(&rt, alloc, e, "unexpected code")
 }
 
 #[test]
-fn tells_input_that_goes_too_far(rt: HostRuntime) -> Done {
+fn reports_input_that_goes_too_far(rt: HostRuntime) -> Done {
     let alloc = rt.alloc();
     let e = Error::at(ErrorCode::LengthOutOfRange, 7);
-    tells_syntax(&rt, alloc, e, "length out of range")?;
+    reports_syntax(&rt, alloc, e, "length out of range")?;
     let e = Error::at(ErrorCode::TrailingData, 7);
-    tells_syntax(&rt, alloc, e, "trailing data")?;
+    reports_syntax(&rt, alloc, e, "trailing data")?;
     let e = Error::at(ErrorCode::RecursionLimitExceeded, 7);
-    tells_syntax(&rt, alloc, e, "recursion limit exceeded")
+    reports_syntax(&rt, alloc, e, "recursion limit exceeded")
 }
 
 #[test]
-fn tells_arrays_of_another_length(rt: HostRuntime) -> Done {
+fn reports_arrays_of_another_length(rt: HostRuntime) -> Done {
     let alloc = rt.alloc();
     let e = Error::at(ErrorCode::ArrayTooShort, 7);
-    tells_syntax(&rt, alloc, e, "array too short")?;
+    reports_syntax(&rt, alloc, e, "array too short")?;
     let e = Error::at(ErrorCode::ArrayTooLong, 7);
-    tells_syntax(&rt, alloc, e, "array too long")
+    reports_syntax(&rt, alloc, e, "array too long")
 }
 
 #[test]
-fn tells_items_of_another_form(rt: HostRuntime) -> Done {
+fn reports_items_of_another_form(rt: HostRuntime) -> Done {
     let alloc = rt.alloc();
     let e = Error::at(ErrorCode::WrongEnumFormat, 7);
-    tells_syntax(&rt, alloc, e, "wrong enum format")?;
+    reports_syntax(&rt, alloc, e, "wrong enum format")?;
     let e = Error::at(ErrorCode::WrongStructFormat, 7);
-    tells_syntax(&rt, alloc, e, "wrong struct format")?;
+    reports_syntax(&rt, alloc, e, "wrong struct format")?;
     let e = Error::at(ErrorCode::NotCanonical, 7);
-    tells_syntax(&rt, alloc, e, "not canonical")
+    reports_syntax(&rt, alloc, e, "not canonical")
 }
 
 #[test]
-fn tells_a_message(rt: HostRuntime) -> Done {
+fn reports_a_message(rt: HostRuntime) -> Done {
     let alloc = rt.alloc();
     let e = Error::message(alloc, "x");
     if e.is_memory() {
@@ -129,7 +129,7 @@ fn tells_a_message(rt: HostRuntime) -> Done {
 }
 
 #[test]
-fn tells_that_memory_ran_out(rt: HostRuntime) -> Done {
+fn reports_that_memory_ran_out(rt: HostRuntime) -> Done {
     let e = Error::from(AllocError);
     assert!(rt; e.is_memory());
     assert!(rt; e.is_io());
@@ -137,7 +137,7 @@ fn tells_that_memory_ran_out(rt: HostRuntime) -> Done {
 }
 
 #[test]
-fn tells_a_fault_of_a_device(rt: HostRuntime) -> Done {
+fn reports_a_fault_of_a_device(rt: HostRuntime) -> Done {
     let e = Error::from(io::Error::from(ErrorKind::Interrupted));
     assert!(rt; matches!(e.code(), ErrorCode::Io(_)));
     assert!(rt; e.is_io());
@@ -145,14 +145,14 @@ fn tells_a_fault_of_a_device(rt: HostRuntime) -> Done {
 }
 
 #[test]
-fn tells_no_place_before_the_first_byte(rt: HostRuntime) -> Done {
+fn reports_no_place_before_the_first_byte(rt: HostRuntime) -> Done {
     let e = Error::eof(0);
     assert!(rt; e.is_eof());
     is_text(&rt, e.to_string(rt.alloc()), "EOF while parsing a value")
 }
 
 #[test]
-fn tells_the_first_and_the_last_place(rt: HostRuntime) {
+fn reports_the_first_and_the_last_place(rt: HostRuntime) {
     let e = Error::scratch_too_small(1);
     assert!(rt; e.is_scratch_too_small());
     prints(&rt, e, "Scratch buffer too small at offset 1");

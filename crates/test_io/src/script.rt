@@ -34,7 +34,7 @@ pub fn plays<'de, R: Read<'de>>(
     Ok(())
 }
 
-/// Makes the calls of a script, of which one tells a fault of the reader, and those before it
+/// Makes the calls of a script, of which one reports a fault of the reader, and those before it
 /// answer as the script says.
 pub fn fails<'de, R: Read<'de>>(
     rt: &impl Abort,

@@ -125,9 +125,9 @@ const ENDS: &str = r"next = \x01;
     read 1 = EOF while parsing a value at offset 3;
     next = none";
 
-// Where both the input and the scratch are too short, it is the end of the input that is told.
+// Where both the input and the scratch are too short, it is the end of the input that is reported.
 #[test]
-fn tells_its_end(rt: HostRuntime) -> Done {
+fn reports_its_end(rt: HostRuntime) -> Done {
     let alloc = rt.alloc();
     by_each_at_hand(&rt, alloc, b"\x01\x02\x03", ENDS)?;
     by_scratch(&rt, alloc, b"\x01\x02\x03", 0, ENDS)?;
@@ -233,7 +233,7 @@ fn lends_what_was_joined(rt: HostRuntime) -> Done {
     Ok(())
 }
 
-// The end is told from the input's start, also after what was lent.
+// The end is counted from the input's start, also after what was lent.
 #[test]
 fn counts_what_was_lent(rt: HostRuntime) -> Done {
     in_place(
@@ -280,7 +280,7 @@ fn loses_no_byte_in_place(rt: HostRuntime) -> Done {
 // The chunks `ab` and `cd` want a scratch of 4 bytes: one of 3 is refused at the second chunk, and
 // nothing has changed then. It goes on byte by byte.
 #[test]
-fn tells_a_scratch_that_is_a_byte_too_short(rt: HostRuntime) -> Done {
+fn reports_a_scratch_that_is_a_byte_too_short(rt: HostRuntime) -> Done {
     by_scratch(
         &rt,
         rt.alloc(),
@@ -322,7 +322,7 @@ fn takes_no_byte_that_is_not_asked_for(rt: HostRuntime) -> Done {
     Ok(())
 }
 
-/// By a reader of a byte a call that tells this fault at this call, of which the first is 1.
+/// By a reader of a byte a call that reports this fault at this call, of which the first is 1.
 fn by_failing(rt: &impl Abort, alloc: Global, at: usize, kind: ErrorKind, script: &str) -> Done {
     let reader = PieceReader::failing(b"\x18\x2a", 1, at, kind);
     plays(rt, alloc, &mut IoRead::new(alloc, reader), script)
@@ -382,7 +382,7 @@ fn answers_alike_however_much_a_call_gives(rt: HostRuntime) -> Done {
 
 // A byte a call: 14 calls give one, and one more meets the end.
 #[test]
-fn tells_a_fault_at_any_call(rt: HostRuntime) -> Done {
+fn reports_a_fault_at_any_call(rt: HostRuntime) -> Done {
     let alloc = rt.alloc();
     for at in 1..16usize {
         let reader = PieceReader::failing(ALL, 1, at, ErrorKind::BrokenPipe);
@@ -415,10 +415,10 @@ fn takes_memory_for_what_came_alone(rt: HostRuntime) -> Done {
     Ok(())
 }
 
-// A reader that takes memory itself, and makes a fault of a device of its want of it, is told from
+// A reader that takes memory itself, and makes a fault of a device of its want of it, is told apart from
 // the source that has none.
 #[test]
-fn tells_its_own_want_of_memory_from_its_readers(rt: HostRuntime) -> Done {
+fn reports_its_own_want_of_memory_from_its_readers(rt: HostRuntime) -> Done {
     let alloc = rt.alloc();
     let mut reader = HungryReader::new(alloc, b"foo");
     let joined = IoRead::new(alloc, &mut reader).read_to_buffer(3);

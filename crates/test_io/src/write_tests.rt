@@ -112,7 +112,7 @@ fn writes_to_a_writer(rt: HostRuntime) -> Done {
 }
 
 #[test]
-fn tells_a_writers_fault(rt: HostRuntime) -> Done {
+fn reports_a_writers_fault(rt: HostRuntime) -> Done {
     for left in 0..3usize {
         fails_after(&rt, rt.alloc(), left)?;
     }
@@ -148,7 +148,7 @@ fn fails_at_once(rt: &impl Abort, alloc: Global, kind: ErrorKind) -> Done {
 }
 
 #[test]
-fn tells_a_writer_that_takes_nothing(rt: HostRuntime) -> Done {
+fn reports_a_writer_that_takes_nothing(rt: HostRuntime) -> Done {
     let mut sink = IoWrite::new(FullWriter);
     refuses(&rt, &mut sink, b"\xf6", "I/O error");
     takes(&mut sink, b"")

@@ -1,4 +1,4 @@
-//! Which fault of a reader or a writer is told, and what is tried again.
+//! Which fault of a reader or a writer is reported, and what is tried again.
 
 use cbor_de::{IgnoredAny, from_reader};
 use cbor_io::error::{ErrorCode, Result as Answer};
@@ -34,7 +34,7 @@ fn is_fault<T: Drop>(rt: &impl Abort, answer: Answer<T>, kind: ErrorKind) -> Don
     Ok(())
 }
 
-/// A reader that tells a fault after its bytes.
+/// A reader that reports a fault after its bytes.
 #[derive(Drop)]
 struct FailingReader<'a> {
     rest: &'a [u8],
@@ -55,7 +55,7 @@ impl io::Read for FailingReader<'_> {
 
 // At the first byte, within a head, a text, an array and chunks, and where nothing more is wanted.
 #[test]
-fn tells_the_kind_of_a_readers_fault(rt: HostRuntime) -> Done {
+fn reports_the_kind_of_a_readers_fault(rt: HostRuntime) -> Done {
     let alloc = rt.alloc();
     for kind in KINDS {
         for rest in [
@@ -75,7 +75,7 @@ fn tells_the_kind_of_a_readers_fault(rt: HostRuntime) -> Done {
 
 // In what is passed over, in a text that is lent, and in chunks that are joined.
 #[test]
-fn tells_the_kind_of_a_fault_in_what_is_not_kept(rt: HostRuntime) -> Done {
+fn reports_the_kind_of_a_fault_in_what_is_not_kept(rt: HostRuntime) -> Done {
     let alloc = rt.alloc();
     for kind in KINDS {
         for rest in [b"\x43fo".as_slice(), b"\x63fo", b"\x7f\x61a\x62b", b"\xa1"] {
@@ -88,9 +88,9 @@ fn tells_the_kind_of_a_fault_in_what_is_not_kept(rt: HostRuntime) -> Done {
     Ok(())
 }
 
-// A reader's interruption is told, and not tried again.
+// A reader's interruption is reported, and not tried again.
 #[test]
-fn tells_an_interruption_of_a_reader(rt: HostRuntime) -> Done {
+fn reports_an_interruption_of_a_reader(rt: HostRuntime) -> Done {
     let kind = ErrorKind::Interrupted;
     let reader = FailingReader {
         rest: b"\x82\x01",
@@ -146,7 +146,7 @@ fn text(alloc: Global) -> Result<Value, Fail> {
 }
 
 #[test]
-fn tells_the_kind_of_a_writers_fault(rt: HostRuntime) -> Done {
+fn reports_the_kind_of_a_writers_fault(rt: HostRuntime) -> Done {
     let alloc = rt.alloc();
     let value = text(alloc)?;
     for kind in KINDS {

@@ -31,7 +31,7 @@ fn wants<'a, T: Deserialize<'a, SliceRead<'a>>>(
 }
 
 #[test]
-fn tells_the_length_of_tuples_up_to_four(rt: HostRuntime) -> Done {
+fn reports_the_length_of_tuples_up_to_four(rt: HostRuntime) -> Done {
     let alloc = rt.alloc();
     wants::<(u8,)>(alloc, &ZEROS, 1)?;
     wants::<(u8, u8)>(alloc, &ZEROS, 2)?;
@@ -40,7 +40,7 @@ fn tells_the_length_of_tuples_up_to_four(rt: HostRuntime) -> Done {
 }
 
 #[test]
-fn tells_the_length_of_tuples_beyond_four(rt: HostRuntime) -> Done {
+fn reports_the_length_of_tuples_beyond_four(rt: HostRuntime) -> Done {
     let alloc = rt.alloc();
     wants::<(u8, u8, u8, u8, u8)>(alloc, &ZEROS, 5)?;
     wants::<(u8, u8, u8, u8, u8, u8)>(alloc, &ZEROS, 6)?;

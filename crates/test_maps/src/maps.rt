@@ -200,7 +200,7 @@ fn keeps_the_last_of_equal_keys_far_apart(rt: HostRuntime) -> Done {
 }
 
 #[test]
-fn tells_that_a_map_has_no_ends(rt: HostRuntime) {
+fn reports_that_a_map_has_no_ends(rt: HostRuntime) {
     let map = Map::new(rt.alloc());
     assert!(rt; map.first_key_value().is_none());
     assert!(rt; map.last_key_value().is_none());
@@ -208,7 +208,7 @@ fn tells_that_a_map_has_no_ends(rt: HostRuntime) {
 }
 
 #[test]
-fn tells_the_ends_of_a_map(rt: HostRuntime) -> Done {
+fn reports_the_ends_of_a_map(rt: HostRuntime) -> Done {
     let map = counting(rt.alloc(), 3)?;
     takes_to(&rt, &map, 2, Some(&Value::Integer(2)));
     takes_to(&rt, &map, 3, None);

@@ -24,7 +24,7 @@ fn two_items(de: &mut Deserializer<SliceRead<'_>>) -> Answer<(Option<u8>, Option
 }
 
 #[test]
-fn tells_how_many_items_are_left(rt: HostRuntime) -> Done {
+fn reports_how_many_items_are_left(rt: HostRuntime) -> Done {
     let alloc = rt.alloc();
     let mut de = Deserializer::from_slice(alloc, b"\x82\x01\xf5");
     assert!(rt; left_behind_one(&mut de)? == (Some(2), Some(1)));

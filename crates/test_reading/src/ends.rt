@@ -24,7 +24,7 @@ fn ends_where_nothing_is_to_come(rt: HostRuntime) -> Done {
 }
 
 #[test]
-fn tells_the_byte_behind_an_item(rt: HostRuntime) -> Done {
+fn reports_the_byte_behind_an_item(rt: HostRuntime) -> Done {
     let alloc = rt.alloc();
     ends_behind_a_byte(&rt, &mut Deserializer::from_slice(alloc, b"\xf6"))?;
     let mut scratch = [0; 4];

@@ -22,7 +22,7 @@ fn newtype(de: &mut Deserializer<SliceRead<'_>>) -> Answer<(usize, i32)> {
 }
 
 #[test]
-fn tells_the_variant(rt: HostRuntime) -> Done {
+fn reports_the_variant(rt: HostRuntime) -> Done {
     let alloc = rt.alloc();
     let mut de = Deserializer::from_slice(alloc, b"\x64Unit\x82\x01\x0a");
     assert!(rt; unit(&mut de)? == 0);

@@ -30,7 +30,7 @@ fn two_pairs<'a>(de: &mut Deserializer<SliceRead<'a>>) -> Result<(u8, bool, &'a 
 }
 
 #[test]
-fn tells_how_many_pairs_are_left(rt: HostRuntime) -> Done {
+fn reports_how_many_pairs_are_left(rt: HostRuntime) -> Done {
     let alloc = rt.alloc();
     let mut de = Deserializer::from_slice(alloc, b"\xa2\x01\xf5\x61\x61\x02");
     assert!(rt; left_behind_a_key(&mut de)? == (Some(2), Some(1)));

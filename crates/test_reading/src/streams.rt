@@ -95,7 +95,7 @@ fn loses_no_level(rt: HostRuntime) -> Done {
 }
 
 /// An error that isn't of memory, an item or none.
-fn is_told(answer: Option<Result<Value, Error>>) -> Done {
+fn is_reported(answer: Option<Result<Value, Error>>) -> Done {
     match answer {
         Some(Err(e)) => is_no_memory(e),
         Some(Ok(_item)) => Ok(()),
@@ -119,7 +119,7 @@ fn takes<'a, R: Read<'a> + Offset + Drop>(
     let mut stream = de.into_iter::<Value>();
     has_taken(rt, &stream, 0);
     for want in wants {
-        is_told(stream.next())?;
+        is_reported(stream.next())?;
         has_taken(rt, &stream, *want);
     }
     ends(rt, &mut stream);

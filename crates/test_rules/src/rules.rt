@@ -1,4 +1,4 @@
-//! Each rule by itself, and what is told first.
+//! Each rule by itself, and what is reported first.
 
 use crate::checks::{agrees, departs, keeps};
 use cbor_io::error::ErrorCode;
@@ -9,7 +9,7 @@ use test_checks::Done;
 
 // One rule each, with bytes that break it alone, the place, and bytes that keep it.
 #[test]
-fn tells_each_rule(rt: HostRuntime) -> Done {
+fn reports_each_rule(rt: HostRuntime) -> Done {
     let rows: [(Rules, Rule, &[u8], u64, &[u8]); 6] = [
         (
             Rules {
@@ -82,7 +82,7 @@ fn tells_each_rule(rt: HostRuntime) -> Done {
 
 // d8 01 is a tag in a head that isn't the shortest; and 18 01 a key that is a second 1 besides.
 #[test]
-fn tells_a_head_before_what_it_says(rt: HostRuntime) -> Done {
+fn reports_a_head_before_what_it_says(rt: HostRuntime) -> Done {
     let rule = Rule::ShortestHeads;
     departs(
         &rt,

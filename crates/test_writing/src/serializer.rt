@@ -156,7 +156,7 @@ fn fills_a_slice(rt: HostRuntime) -> Done {
 
 // A text is two pieces, and its head is one.
 #[test]
-fn tells_a_writers_fault(rt: HostRuntime) -> Done {
+fn reports_a_writers_fault(rt: HostRuntime) -> Done {
     let alloc = rt.alloc();
     for left in 0..2usize {
         let mut ser = Serializer::new(alloc, IoWrite::new(FailingWriter::new(alloc, left)?));

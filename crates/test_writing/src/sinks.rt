@@ -119,7 +119,7 @@ fn ends_there(rt: &impl Abort, done: error::Result<()>, len: usize, count: usize
 }
 
 #[test]
-fn tells_a_writers_fault_at_each_call(rt: HostRuntime) -> Done {
+fn reports_a_writers_fault_at_each_call(rt: HostRuntime) -> Done {
     let alloc = rt.alloc();
     let value = each_kind(alloc)?;
     let mut writer = FailingWriter::new(alloc, 0)?;

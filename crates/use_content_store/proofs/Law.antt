@@ -6,7 +6,7 @@ use Rattle.std.proofs.lemmas.List.Elements.{Contains-append_left, Contains-push}
 use Rattle.serde_cbor.specs.Acceptable.{max_depth}
 use Rattle.serde_cbor.specs.Canonical.{canon}
 use Rattle.serde_cbor.specs.CutOff.{IsCutTo, bounds_at}
-use Rattle.serde_cbor.specs.FirstRefusal.{TellsFirst}
+use Rattle.serde_cbor.specs.FirstRefusal.{ReportsFirst}
 use Rattle.serde_cbor.specs.ItemLaws.{OneLongestList}
 use Rattle.serde_cbor.specs.Raw.{Raw}
 use Rattle.serde_cbor.specs.Spelling.{spell}
@@ -53,7 +53,7 @@ module _ (log : List ℕ) (items : List Raw) (s : Store) (bytes missing : List �
   opened only short whole rest c (Err (Broken offset e)) (inl failed) = failed
   opened only short whole rest c (Err (Broken offset e)) (inr h) =
       let same = only max_depth bytes h.items whole h.rest rest h.most (whole_are_most is.are short c) in
-      absurd (rest_goes_on is.are short c offset e (subst (λ (l : List ℕ). TellsFirst (bounds_at offset) l e) same.1 h.tells) h.goes_on)
+      absurd (rest_goes_on is.are short c offset e (subst (λ (l : List ℕ). ReportsFirst (bounds_at offset) l e) same.1 h.reports) h.goes_on)
   opened only short whole rest c (Err (Collision offset)) h = no_collision offset h
 
 pub opens_whole : OneLongestList → CutOffAnywhere

@@ -6,7 +6,7 @@ use Rattle.serde_cbor.specs.Acceptable.{IsAcceptable, max_depth}
 use Rattle.serde_cbor.specs.Canonical.{canon}
 use Rattle.serde_cbor.specs.CutOff.{SaysCutOff, bounds_at}
 use Rattle.serde_cbor.specs.FirstOfItem.{ItemRefusedFirst}
-use Rattle.serde_cbor.specs.FirstRefusal.{TellsFirst}
+use Rattle.serde_cbor.specs.FirstRefusal.{ReportsFirst}
 use Rattle.serde_cbor.specs.Formats.{Formats, all_formats}
 use Rattle.serde_cbor.specs.Gives.{Gave, IsMemoryOrFault}
 use Rattle.serde_cbor.specs.Items.{AreMostItems}
@@ -79,7 +79,7 @@ module _ (bytes : List ℕ) where
     abbrev rest : List ℕ
     rest = far.given.given.rest
 
-    opened : AreMostItems max_depth bytes far.items rest → (rest ≡ []) ⊎ ((e : Error) × SaysCutOff e × TellsFirst (bounds_at i.input.offset) rest e)
+    opened : AreMostItems max_depth bytes far.items rest → (rest ≡ []) ⊎ ((e : Error) × SaysCutOff e × ReportsFirst (bounds_at i.input.offset) rest e)
         → IsOpened bytes (record { store = s; whole = i.input.offset })
     opened most cut_off = record {
       log = flat_map spell far.items;
@@ -99,16 +99,16 @@ module _ (bytes : List ℕ) where
       pub stops : (result : Result Opened OpenError) → Stops s i.input.offset e result → Opens bytes result
       stops (Ok o) h = rw h.1 (elim (most_items_streamed view bytes far.given law e given) [
         | inl failed ↦ absurd (excused_no_cut e failed h.0)
-        | inr tells ↦ opened tells.0 (inr (e, h.0, tells.1))
+        | inr reports ↦ opened reports.0 (inr (e, h.0, reports.1))
       ])
       stops (Err (Broken offset f)) h = elim (most_items_streamed view bytes far.given law e given) [
         | inl failed ↦ inl (subst IsMemoryOrFault (sym h.2) failed)
-        | inr tells ↦ inr (record {
+        | inr reports ↦ inr (record {
           items = far.items;
           rest = rest;
           place = h.1 ∙ far.given.place;
-          most = tells.0;
-          tells = rw (h.1, h.2) tells.1;
+          most = reports.0;
+          reports = rw (h.1, h.2) reports.1;
           goes_on = λ cut. h.0 (subst SaysCutOff h.2 cut);
         })
       ]

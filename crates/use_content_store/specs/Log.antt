@@ -8,7 +8,7 @@ use Rattle.serde_cbor.specs.Acceptable.{max_depth}
 use Rattle.serde_cbor.specs.Canonical.{canon}
 use Rattle.serde_cbor.specs.CutOff.{IsCutTo, SaysCutOff, bounds_at}
 use Rattle.serde_cbor.specs.Document.{document_of, IsStorableDocument}
-use Rattle.serde_cbor.specs.FirstRefusal.{TellsFirst}
+use Rattle.serde_cbor.specs.FirstRefusal.{ReportsFirst}
 use Rattle.serde_cbor.specs.Gives.{IsMemoryOrFault}
 use Rattle.serde_cbor.specs.Items.{ItemsBegin, AreItems, AreMostItems}
 use Rattle.serde_cbor.specs.Laws.{SpellsValue}
@@ -88,16 +88,16 @@ pub record IsOpened (bytes : List ℕ) (o : Opened) : Type 0 where
   pub parts : bytes ≡ log ++ rest
   pub is_log : IsLog log items o.store
   pub most : AreMostItems max_depth bytes items rest
-  pub cut_off : (rest ≡ []) ⊎ ((e : Error) × SaysCutOff e × TellsFirst (bounds_at o.whole) rest e)
+  pub cut_off : (rest ≡ []) ⊎ ((e : Error) × SaysCutOff e × ReportsFirst (bounds_at o.whole) rest e)
 
 -- What follows the longest list of records, which ends at this offset, is no beginning of another,
--- and the error tells why.
+-- and the error reports why.
 pub record IsBroken (bytes : List ℕ) (offset : ℕ) (e : Error) : Type 0 where
   pub items : List Raw
   pub rest : List ℕ
   pub place : offset ≡ length (flat_map spell items)
   pub most : AreMostItems max_depth bytes items rest
-  pub tells : TellsFirst (bounds_at offset) rest e
+  pub reports : ReportsFirst (bounds_at offset) rest e
   pub goes_on : ¬ (SaysCutOff e)
 
 -- The record at this offset has the hash of one before it, of another value.

@@ -6,7 +6,7 @@ ghost use Rattle.std.specs.String.{string_bytes};
 ghost use Rattle.serde_cbor.specs.Allowed.{limits_of};
 ghost use Rattle.serde_cbor.specs.CutOff.{SaysCutOff};
 ghost use Rattle.serde_cbor.specs.Error.{IsOutOfMemory};
-ghost use Rattle.serde_cbor.specs.FirstRefusal.{TellsFirst};
+ghost use Rattle.serde_cbor.specs.FirstRefusal.{ReportsFirst};
 ghost use Rattle.serde_cbor.specs.Gives.{Gave};
 ghost use Rattle.serde_cbor.specs.View.{view};
 ghost use Rattle.use_content_store.specs.Log.{Appended, CutOffAnywhere, Encodes, IsNotPut};
@@ -46,9 +46,9 @@ pub enum OpenError {
 /// Reads a log: the values of all whole records that it begins with, each in whichever encoding.
 ///
 /// A last record that was cut off, as by a crash while it was written, is no error: it is left out,
-/// and [`Opened::whole`] tells where it begins.
+/// and [`Opened::whole`] reports where it begins.
 pub fn open<R: io::Read + Drop>(alloc: Global, reader: R) -> std::result::Result<Opened, OpenError>
-    // Of a reader that tells its bytes, fewer than 2^64:
+    // Of a reader that reports its bytes, fewer than 2^64:
     ensures { (bytes : List ℕ) → Gave (R.remaining reader) bytes → Opens bytes result }
 {
     item_refused_first::<Value>();
@@ -84,7 +84,7 @@ impl Store {
         ensures part { OnErr result
             (WrotePart bytes.now (W.written log.old) (W.written log.new)) }
         ensures refused { IfErr result (λ e. W.refuses log.new e ⊎ IsOutOfMemory e
-            ⊎ TellsFirst (limits_of None) bytes.now e) }
+            ⊎ ReportsFirst (limits_of None) bytes.now e) }
     {
         normalised_once();
         let (place, record) = record_of(alloc, bytes)?;
@@ -104,7 +104,7 @@ impl Store {
 fn record_of(alloc: Global, bytes: &[u8]) -> Result<(String, Vec<u8>)>
     ensures ok { IfOk result (λ entry. Encodes bytes.now (string_bytes entry.0) entry.1.items) }
     ensures refused { IfErr result
-        (λ e. IsOutOfMemory e ⊎ TellsFirst (limits_of None) bytes.now e) }
+        (λ e. IsOutOfMemory e ⊎ ReportsFirst (limits_of None) bytes.now e) }
 {
     let value: Value = from_slice(alloc, bytes)?;
     entry_of(alloc, &value)
@@ -138,7 +138,7 @@ fn stopped(store: Store, whole: usize, error: Error) -> std::result::Result<Open
     }
 }
 
-// Whether the error tells a record that goes on beyond the end of the bytes. One that says a length
+// Whether the error reports a record that goes on beyond the end of the bytes. One that says a length
 // beyond 2^64 does so too.
 fn is_cut_off(error: &Error) -> bool
     ensures { IsTrue result ↔ SaysCutOff error.now }

@@ -8,7 +8,7 @@ ghost use Rattle.serde_cbor.specs.Allowed.{limits_of};
 ghost use Rattle.serde_cbor.specs.Canonical.{canon};
 ghost use Rattle.serde_cbor.specs.Document.{document_of, IsStorableDocument};
 ghost use Rattle.serde_cbor.specs.Error.{IsOutOfMemory};
-ghost use Rattle.serde_cbor.specs.FirstRefusal.{TellsFirst};
+ghost use Rattle.serde_cbor.specs.FirstRefusal.{ReportsFirst};
 ghost use Rattle.serde_cbor.specs.Laws.{SpellsValue};
 ghost use Rattle.serde_cbor.specs.Plain.{Val};
 ghost use Rattle.serde_cbor.specs.View.{view};
@@ -74,7 +74,7 @@ impl Store {
             ((v : Val) → SpellsValue bytes.now v → Holds self.now v → ⊥)
             (λ v. SpellsValue bytes.now (view v) × Holds self.now (view v))) }
         ensures refused { IfErr result
-            (λ e. IsOutOfMemory e ⊎ TellsFirst (limits_of None) bytes.now e) }
+            (λ e. IsOutOfMemory e ⊎ ReportsFirst (limits_of None) bytes.now e) }
     {
         let value: Value = from_slice(alloc, bytes)?;
         let (place, bytes) = entry_of(alloc, &value)?;

@@ -114,7 +114,7 @@ impl io::Write for Failing<'_> {
 
 // No record is taken for cut off where the reader fails.
 #[test]
-fn tells_a_readers_fault(rt: HostRuntime) -> Done {
+fn reports_a_readers_fault(rt: HostRuntime) -> Done {
     for (given, whole) in [(0, 0), (13, 0), (14, 14), (25, 19), (30, 30)] {
         let (at, error) = broken(open(
             rt.alloc(),

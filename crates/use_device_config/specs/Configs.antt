@@ -6,7 +6,7 @@ use Rattle.serde_cbor.specs.Said.{SaysOnlyWithin, SaysWithin}
 use Rattle.use_device_config.specs.declared.config.Config.{Config}
 use Rattle.use_device_config.specs.declared.config.Mode.TheVariants.{Idle}
 
--- the configuration of a device that was told none
+-- the configuration of a device that was given none
 abbrev pub IsFactorySetting : Config → Type 0
 IsFactorySetting c =
     (c.mode ≡ Idle) × (c.channels.items ≡ []) × (c.name ≡ None) × (c.verbose ≡ false)

@@ -1,4 +1,4 @@
-//! A device that is told its configuration.
+//! A device that is given its configuration.
 
 ghost use Rattle.std.specs.Prelude.{◌≡◌, ◌≤◌, true, false, IfErr, IfOk, OnErr, OnOk, length};
 ghost use Rattle.serde_cbor.specs.Acceptable.{FitsScratch};
@@ -75,7 +75,7 @@ impl Device {
         to_vec_packed(alloc, &self.config)
     }
 
-    /// Another device, which is told what this one saves: it runs by the same configuration.
+    /// Another device, which is given what this one saves: it runs by the same configuration.
     pub fn copy(&self, alloc: Global) -> Result<Device>
         ensures same { IfOk result (λ copy. ⟦<Config as Serialize>⟧.document copy.config
             ≡ ⟦<Config as Serialize>⟧.document self.now.config) }

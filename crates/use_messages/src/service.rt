@@ -30,7 +30,7 @@ pub fn serve<R: io::Read + Drop, W: Write>(
     reader: R,
     writer: &mut W,
 ) -> Result<(), Stopped>
-    // Of a reader that tells its bytes, fewer than 2^64:
+    // Of a reader that reports its bytes, fewer than 2^64:
     ensures { (bytes : List ℕ) → Gave (R.remaining reader) bytes
         → Serves (⟦<Request as Readable>⟧.reads from_reader_context)
         (λ q. document_bytes (⟦<Reply as Serialize>⟧.document (reply_to q)) false false) bytes

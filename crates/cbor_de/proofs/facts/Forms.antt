@@ -1,13 +1,13 @@
--- Published: what is told of a wrong form, of parts and of the whole.
+-- Published: what is reported of a wrong form, of parts and of the whole.
 
--- nothing, or a form that is told at the front
+-- nothing, or a form that is reported at the front
 pub use Rattle.cbor_de.proofs.Forms.{plain}
--- what an enum tells up to its identifier, and in a variant of no part
-pub use Rattle.cbor_de.proofs.Forms.{enum_told, unit_err}
--- what the content of a variant tells, and so the whole enum
+-- what an enum reports up to its identifier, and in a variant of no part
+pub use Rattle.cbor_de.proofs.Forms.{enum_reported, unit_err}
+-- what the content of a variant reports, and so the whole enum
 pub use Rattle.cbor_de.proofs.Forms.{began_err, content_later, content_left, content_plain, content_right}
 pub use Rattle.cbor_de.proofs.Forms.{part_content}
--- what the next key of a map tells, and so the map
+-- what the next key of a map reports, and so the map
 pub use Rattle.cbor_de.proofs.Forms.{key_in_map}
 -- of one of two parts
 pub use Rattle.cbor_de.proofs.Forms.{of_left, of_right, right_err}

@@ -3,7 +3,7 @@
 ghost use Rattle.std.specs.Prelude.{IfErr};
 ghost use Rattle.cbor_io.specs.Error.{code_of};
 ghost use Rattle.cbor_read.specs.Source.{part_bytes};
-ghost use Rattle.cbor_decode.specs.Gives.{TellsNoForm};
+ghost use Rattle.cbor_decode.specs.Gives.{ReportsNoForm};
 ghost use Rattle.cbor_decode_as.specs.Takes.{IsMessage};
 ghost use Rattle.cbor_de.specs.ByteStrings.{IsArrayOf};
 
@@ -79,7 +79,7 @@ impl<const N: usize> DeserializeOwned for ByteArray<N> {
 fn array_of<const N: usize>(part: EitherLifetime<'_, '_>, alloc: Global) -> Result<ByteArray<N>>
     ensures read { IsArrayOf N (part_bytes part.entry) result }
     ensures message { IfErr result IsMessage }
-    ensures no_form { IfErr result (λ e. TellsNoForm (code_of e)) }
+    ensures no_form { IfErr result (λ e. ReportsNoForm (code_of e)) }
 {
     match part {
         EitherLifetime::Short(bytes) => array_from(bytes, alloc),
@@ -90,7 +90,7 @@ fn array_of<const N: usize>(part: EitherLifetime<'_, '_>, alloc: Global) -> Resu
 fn array_from<const N: usize>(bytes: &[u8], alloc: Global) -> Result<ByteArray<N>>
     ensures read { IsArrayOf N bytes.now result }
     ensures message { IfErr result IsMessage }
-    ensures no_form { IfErr result (λ e. TellsNoForm (code_of e)) }
+    ensures no_form { IfErr result (λ e. ReportsNoForm (code_of e)) }
 {
     match <[u8; N]>::try_from(bytes) {
         Ok(array) => Ok(ByteArray(array)),

@@ -2,7 +2,7 @@
 
 ghost use Rattle.std.specs.Prelude.{IfErr};
 ghost use Rattle.cbor_io.specs.Error.{code_of};
-ghost use Rattle.cbor_decode.specs.Gives.{TellsNoForm};
+ghost use Rattle.cbor_decode.specs.Gives.{ReportsNoForm};
 ghost use Rattle.cbor_decode_as.specs.Strings.{IsOneOf, text_bytes};
 ghost use Rattle.cbor_decode_as.specs.Takes.{IsMessage};
 
@@ -20,7 +20,7 @@ const NO_CHARACTER: &str = "invalid type: expected a character";
 fn one_of(text: &str, alloc: Global) -> Result<char>
     ensures read { IsOneOf text.now result }
     ensures message { IfErr result IsMessage }
-    ensures no_form { IfErr result (λ e. TellsNoForm (code_of e)) }
+    ensures no_form { IfErr result (λ e. ReportsNoForm (code_of e)) }
 {
     match text.chars().next() {
         Some(first) => {
@@ -38,7 +38,7 @@ fn one_of(text: &str, alloc: Global) -> Result<char>
 fn character(text: EitherStr<'_, '_>, alloc: Global) -> Result<char>
     ensures read { IsOneOf (text_bytes text.entry) result }
     ensures message { IfErr result IsMessage }
-    ensures no_form { IfErr result (λ e. TellsNoForm (code_of e)) }
+    ensures no_form { IfErr result (λ e. ReportsNoForm (code_of e)) }
 {
     match text {
         EitherStr::Short(text) => one_of(text, alloc),

@@ -72,7 +72,7 @@ fn exactly<'de, T: Deserialize<'de, R>, R: Read<'de>>(
         (PassesTags (AsArray (AreExactly (T.reads (context de.old.decoder.formats R.lends)) n)))
         de.old de.new (items_in result) }
     ensures taken { OnOk result (call.Advances R.source de.old de.new) }
-    ensures form { IfErr result (call.MayTell R.source T.wrong_forms de.old) }
+    ensures form { IfErr result (call.MayReport R.source T.wrong_forms de.old) }
     ensures count { IfOk result (λ v. vec_len v ≡ n) }
     ensures settings { SameSettings de.old.decoder de.new.decoder }
 {

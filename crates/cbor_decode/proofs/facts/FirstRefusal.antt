@@ -1,4 +1,4 @@
--- Published: the first refusal, as an error tells it.
+-- Published: the first refusal, as an error reports it.
 
 -- a fault of the reference reader is the first refusal of the whole input
 pub use Rattle.cbor_decode.proofs.FirstRefusal.{first_or_memory, first_or_fault}

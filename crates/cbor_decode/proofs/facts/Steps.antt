@@ -7,12 +7,12 @@ pub use Rattle.cbor_decode.proofs.Steps.{took_none, took_same, took_stays, advan
 pub use Rattle.cbor_decode.proofs.Steps.{step_same, step_map, step_then}
 -- what stops a part stops the whole
 pub use Rattle.cbor_decode.proofs.Steps.{stopped_then, stopped_map}
--- and what is told of it
+-- and what is reported of it
 pub use Rattle.cbor_decode.proofs.Steps.{why_then, why_map}
 -- a fault before the bytes to come
 pub use Rattle.cbor_decode.proofs.Calls.{fault_stops}
--- what is kept, where it tells a fault
-pub use Rattle.cbor_decode.proofs.Calls.{kept_tells}
+-- what is kept, where it reports a fault
+pub use Rattle.cbor_decode.proofs.Calls.{kept_reports}
 -- a refusal of a source
 pub use Rattle.cbor_decode.proofs.Calls.{source_stops}
 pub use Rattle.cbor_decode.proofs.Steps.{byte_refused, refused_stops, taken_step, none_step}
@@ -24,5 +24,5 @@ pub use Rattle.cbor_decode.proofs.Steps.{passed_on}
 pub use Rattle.cbor_decode.proofs.All.{value_in, fault_in}
 -- what was passed over was read, and what stops the one stops the other
 pub use Rattle.cbor_decode.proofs.Skipped.{passed_was, passed_stops}
--- the error of a call that looks for the end tells why its step was refused
-pub use Rattle.cbor_decode.proofs.AtEnd.{end_told}
+-- the error of a call that looks for the end reports why its step was refused
+pub use Rattle.cbor_decode.proofs.AtEnd.{end_reported}

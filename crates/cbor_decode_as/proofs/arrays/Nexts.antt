@@ -67,9 +67,9 @@ module _ (s m : Input) (old new : Remaining) (more : Bool) where
       pub nothing_taken : (allowed : ReadErrorCode → Bool) (k : ErrorCode) (at : ℕ) (N : Limits → List ℕ → Type 0) → Step s m Comes → Step m t (λ l bs rest. IsRead (reads g) (item_at (raws (formats_of g) l) inside bs) x rest) → t.offset ≤ m.offset → Refuses allowed s t k at N
       nothing_taken allowed k at N one two few = record {
         took = some_then s m t one.took two.took;
-        told = λ bs tells.
-            let first = one.told bs tells in
-            let second = two.told first.rest first.tells in
+        reported = λ bs reports.
+            let first = one.reported bs reports in
+            let second = two.reported first.rest first.reports in
             let moved = taken (raws (formats_of g) _) inside first.rest (second.holds.item, second.rest) second.holds.is in
             absurd (omega (arith, moved, second.total, few));
       }

@@ -189,7 +189,7 @@ module _ (allowed : ReadErrorCode → Bool) (f : Formats) (names : List (List �
       (λ l bs mid is h. subst (NoForm f names l levels) is.1 (h (subst (HasShape x) (sym is.1) is.0))) shaped h
 
   pub unassigned_form : (left : ℕ) (e : Error) → TookSome s a → TakesFormOf shape.Unassigned allowed f names levels s a left (Err e)
-  unassigned_form left e took = record { took = took; told = λ bs tells. inr (none_unassigned f names (limits s bs) levels bs) }
+  unassigned_form left e took = record { took = took; reported = λ bs reports. inr (none_unassigned f names (limits s bs) levels bs) }
 
   pub tags_refused : {w : Input} (kept : ReadError) (r : Refused) (e : Error) → IsErrorOf kept r e → Stopped allowed (λ l. passed_at levels) s w kept r → RefusesVariantHead allowed f names levels s w e
   tags_refused kept r e = refuses_stopped allowed (λ l. passed_at levels) s kept r e (λ l bs. NoVariant f names l levels bs)
@@ -217,4 +217,4 @@ parts_in_map allowed levels left s t (Ok remaining) h = h
 parts_in_map allowed levels left s t (Err e) h = h
 
 pub alone_has_none : (allowed : ReadErrorCode → Bool) (levels : ℕ) (s t : Input) (left : ℕ) (e : Error) → TookSome s t → TakesPartsHead allowed levels form.Alone s t left (Err e)
-alone_has_none allowed levels s t left e took = record { took = took; told = λ bs tells. inr (λ left r rest h. h) }
+alone_has_none allowed levels s t left e took = record { took = took; reported = λ bs reports. inr (λ left r rest h. h) }

@@ -183,7 +183,7 @@ unassigned_stops allowed s a b kept r is keeps step =
 
 module _ (f : Formats) (names : List (List ℕ)) where
   pub unassigned_shape : (allowed : ReadErrorCode → Bool) (levels : ℕ) (s t : Input) (e : Error) → TookSome s t → RefusesShaped (HasShape shape.Unassigned) allowed f names levels s t e
-  unassigned_shape allowed levels s t e took = record { took = took; told = λ bs tells. inr (nothing (limits s bs) bs) }
+  unassigned_shape allowed levels s t e took = record { took = took; reported = λ bs reports. inr (nothing (limits s bs) bs) }
     where
       nothing : (l : Limits) (bs : List ℕ) → HasShape shape.Unassigned bs → IsNotRead (PassesTags (IsVariant f names)) (item_at (raws f l) levels bs)
       nothing l [] has v rest got = has

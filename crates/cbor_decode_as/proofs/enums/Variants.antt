@@ -67,7 +67,7 @@ module _ (names : List (List ℕ)) where
   named_one : (r : Raw) (p q : Option ℕ) → (b : List ℕ) × IsString r b × IsPlace names b p → (b : List ℕ) × IsString r b × IsPlace names b q → p ≡ q
   named_one r p q h k = place_one names h.0 p q h.2 (subst (λ (b : List ℕ). IsPlace names b q) (string_one r k.0 h.0 k.1 h.1) k.2)
 
-  -- an item tells one place
+  -- an item names one place
   pub identifier_one : (r : Raw) (p q : Option ℕ) → IsIdentifier names r p → IsIdentifier names r q → p ≡ q
   identifier_one (raw.unsigned w n) p q h k = h ∙ sym k
   identifier_one (raw.negative w n) p q h k = named_one (raw.negative w n) p q h k
@@ -90,7 +90,7 @@ module _ (names : List (List ℕ)) where
       some_is : (x y : ℕ) → Some x ≡ Some y → x ≡ y
       some_is x y e = cc
 
-  -- what tells no place is no name
+  -- what names no place is no name
   pub not_named : (f : Formats) (l : Limits) (levels : ℕ) (bs rest : List ℕ) → IsRead (PassesTags (IsIdentifier names)) (item_at (raws f l) levels bs) None rest → IsNotRead (IsName names) (item_at (raws f l) levels bs)
   not_named f l levels bs rest h i after got =
       let both = ok_is (h.item, rest) (got.item, after) (sym h.is ∙ got.is) in

@@ -3,5 +3,5 @@
 -- the items of a content
 pub use Rattle.cbor_decode_as.proofs.enums.VariantParts.{end_left, item_lacks, none_comes, one_answer}
 pub use Rattle.cbor_decode_as.proofs.enums.VariantParts.{only_taken, parts_inside, untold}
--- the identifier tells one variant
+-- the identifier names one variant
 pub use Rattle.cbor_decode_as.proofs.enums.Variants.{identifier_one, name_one}

@@ -31,7 +31,7 @@ front_step s t o b some h front =
     let step = none_step s t h.bytes h.count h.room in
     record {
       took = step.took;
-      told = λ bs tells.
-          let got = step.told bs tells in
-          record { rest = got.rest; tells = got.tells; total = got.total; holds = stands b bs got.rest (front_is s o b bs some tells.is front) got.holds };
+      reported = λ bs reports.
+          let got = step.reported bs reports in
+          record { rest = got.rest; reports = got.reports; total = got.total; holds = stands b bs got.rest (front_is s o b bs some reports.is front) got.holds };
     }

@@ -68,10 +68,10 @@ module _ (l : Limits) where
 
 module _ (a : Asks) (found : HeadAt) (levels : ℕ) (s m : Input) (opens : Step s m (λ l bs rest. opened_at levels bs ≡ Ok ((found.levels, found.head), rest))) where
   pub behind_asks : AsksBehind a found m → OfItem (λ r. AsksWhere a (HasChunks r)) all_formats levels s
-  behind_asks h bs tells r rest is =
-      let one = opens.told bs tells in
+  behind_asks h bs reports r rest is =
+      let one = opens.reported bs reports in
       let l = limits s bs in
       let b = found_behind l levels found.levels found.head bs one.rest rest r one.holds is in
       let same : limits m one.rest ≡ l = ap₂ (λ (n : ℕ) (k : Option ℕ). record { total = n; room = k }) one.total opens.took.room in
       let there = subst (λ (i : Limits). behind_head (raws all_formats i) (inside (raws all_formats i) found.levels) b.width found.head one.rest ≡ Ok (b.item, rest)) (sym same) b.is in
-      asks_on a _ (HasChunks r) (λ all. b.chunks (all b.width one.rest one.tells b.item rest there)) h
+      asks_on a _ (HasChunks r) (λ all. b.chunks (all b.width one.rest one.reports b.item rest there)) h

@@ -13,7 +13,7 @@ use Rattle.cbor_io.specs.declared.read_error.ReadError.{ReadError}
 use Rattle.cbor_io.specs.declared.read_error.ReadErrorCode.{ReadErrorCode}
 use Rattle.cbor_value.specs.View.{float_view}
 use Rattle.cbor_value.specs.declared.Float.{Float}
-use Rattle.cbor_decode.specs.Gives.{Limits, limits, values, Tells, Step, TellsWhy, FailsBy, Reports, IsErrorOf}
+use Rattle.cbor_decode.specs.Gives.{Limits, limits, values, Reports, Step, ReportsWhy, FailsBy, ReportsIo, IsErrorOf}
 use Rattle.cbor_decode.specs.Heads.{opening_at, behind_head, passed}
 use Rattle.cbor_decode.specs.declared.head.Head.{Head}
 use Rattle.cbor_decode.specs.declared.head.Head.TheVariants as head
@@ -21,10 +21,10 @@ use Rattle.cbor_decode.specs.declared.refusal.Refused.{Refused}
 use Rattle.cbor_decode.proofs.facts.Heads.{item_opened, value_behind}
 use Rattle.cbor_decode.proofs.facts.Steps.{passed_on, passed_was, passed_stops, step_then, why_map, why_then}
 use Rattle.cbor_decode_as.specs.TaggedHeads.{opened_by, opened_at, behind_any, RefusesBehind, StandsBehind}
-use Rattle.cbor_decode_as.specs.Takes.{ExcusedBy, FaultOrMessage, IsMessage, TellsItem, TellsOf, WhereTotal, IsMessageBy, RefusesWhole, HasItem, TellsFault, any_item}
+use Rattle.cbor_decode_as.specs.Takes.{ExcusedBy, FaultOrMessage, IsMessage, ReportsItem, ReportsOf, WhereTotal, IsMessageBy, RefusesWhole, HasItem, ReportsFault, any_item}
 use Rattle.cbor_decode_as.specs.declared.head.HeadAt.{HeadAt}
 use Rattle.cbor_decode_as.proofs.heads.Openings.{inner, opened_is}
-use Rattle.cbor_decode_as.proofs.numbers.Scalars.{excused_or, told_why}
+use Rattle.cbor_decode_as.proofs.numbers.Scalars.{excused_or, reported_why}
 
 -- ---- after the head of an item within its tags
 
@@ -90,10 +90,10 @@ fault_alike {A = A} D k end at (Ok x) (Err f) same h = absurd cc
 fault_alike {A = A} D k end at (Err f) (Ok y) same h = absurd cc
 fault_alike {A = A} D k end at (Err f) (Err g) same h = passed_on D k end at (Err f) (Err g) (λ d is. passed_stops (Err g) d (sym same ∙ ap (λ (r : Reads A). passed r) is)) h
 
--- an error that tells a fault tells the one that is met, or is excused
-pub told_or_excused : {A : Type 0} (D : Type 0) (k : ErrorCode) (end at : ℕ) (read : Result A Fault) → FailsBy D k end at read → FaultOrMessage D k end at read
-told_or_excused D k end at (Err f) h = h
-told_or_excused D k end at (Ok x) h = elim (excused_or D k end at (Ok x) h) [
+-- an error that reports a fault reports the one that is met, or is excused
+pub reported_or_excused : {A : Type 0} (D : Type 0) (k : ErrorCode) (end at : ℕ) (read : Result A Fault) → FailsBy D k end at read → FaultOrMessage D k end at read
+reported_or_excused D k end at (Err f) h = h
+reported_or_excused D k end at (Ok x) h = elim (excused_or D k end at (Ok x) h) [
   | inl excused ↦ excused_message D k at excused
   | inr met ↦ absurd (let is = met.1 in cc)
 ]
@@ -112,32 +112,32 @@ message_of D k end at (Err f) x is h = absurd cc
 
 -- ---- the item at the front
 
-pub told_whole : (allowed : ReadErrorCode → Bool) (levels : ℕ) (s : Input) (e : Error) → TellsFault allowed (any_item levels) s e → RefusesWhole allowed levels s e
-told_whole allowed levels s e h bs tells = told_or_excused (Reports allowed) (code_of e) (s.offset + length bs) (offset_of e) (any_item levels (limits s bs) bs) (h bs tells)
+pub reported_whole : (allowed : ReadErrorCode → Bool) (levels : ℕ) (s : Input) (e : Error) → ReportsFault allowed (any_item levels) s e → RefusesWhole allowed levels s e
+reported_whole allowed levels s e h bs reports = reported_or_excused (ReportsIo allowed) (code_of e) (s.offset + length bs) (offset_of e) (any_item levels (limits s bs) bs) (h bs reports)
 
-pub stopped_whole : (allowed : ReadErrorCode → Bool) (levels : ℕ) (s : Input) (kept : ReadError) (r : Refused) (e : Error) → TellsWhy allowed (any_item levels) s kept r → IsErrorOf kept r e → RefusesWhole allowed levels s e
-stopped_whole allowed levels s kept r e h is = told_whole allowed levels s e (told_why allowed (any_item levels) s kept r e is h)
+pub stopped_whole : (allowed : ReadErrorCode → Bool) (levels : ℕ) (s : Input) (kept : ReadError) (r : Refused) (e : Error) → ReportsWhy allowed (any_item levels) s kept r → IsErrorOf kept r e → RefusesWhole allowed levels s e
+stopped_whole allowed levels s kept r e h is = reported_whole allowed levels s e (reported_why allowed (any_item levels) s kept r e is h)
 
 -- no head within all tags
-pub unopened_stops : (allowed : ReadErrorCode → Bool) (levels : ℕ) (s : Input) (kept : ReadError) (r : Refused) → TellsWhy allowed (λ l. opened_at levels) s kept r → TellsWhy allowed (any_item levels) s kept r
+pub unopened_stops : (allowed : ReadErrorCode → Bool) (levels : ℕ) (s : Input) (kept : ReadError) (r : Refused) → ReportsWhy allowed (λ l. opened_at levels) s kept r → ReportsWhy allowed (any_item levels) s kept r
 unopened_stops allowed levels s kept r h = why_map allowed (λ l. opened_at levels) (any_item levels) s kept r (λ l bs f is. found_stops l levels bs f is) h
 
-pub unopened_whole : (allowed : ReadErrorCode → Bool) (levels : ℕ) (s : Input) (kept : ReadError) (r : Refused) (e : Error) → TellsWhy allowed (λ l. opened_at levels) s kept r → IsErrorOf kept r e → RefusesWhole allowed levels s e
+pub unopened_whole : (allowed : ReadErrorCode → Bool) (levels : ℕ) (s : Input) (kept : ReadError) (r : Refused) (e : Error) → ReportsWhy allowed (λ l. opened_at levels) s kept r → IsErrorOf kept r e → RefusesWhole allowed levels s e
 unopened_whole allowed levels s kept r e h is = stopped_whole allowed levels s kept r e (unopened_stops allowed levels s kept r h) is
 
 -- no head at the front
-pub headless_whole : (allowed : ReadErrorCode → Bool) (levels : ℕ) (s : Input) (kept : ReadError) (r : Refused) (e : Error) → TellsWhy allowed (λ l. opening_at) s kept r → IsErrorOf kept r e → RefusesWhole allowed levels s e
+pub headless_whole : (allowed : ReadErrorCode → Bool) (levels : ℕ) (s : Input) (kept : ReadError) (r : Refused) (e : Error) → ReportsWhy allowed (λ l. opening_at) s kept r → IsErrorOf kept r e → RefusesWhole allowed levels s e
 headless_whole allowed levels s kept r e h is =
     stopped_whole allowed levels s kept r e (why_map allowed (λ l. opening_at) (any_item levels) s kept r (λ l bs f none. head_stops_any l levels bs f none) h) is
 
-pub excused_whole : (allowed : ReadErrorCode → Bool) (levels : ℕ) (s : Input) (e : Error) → ((bs : List ℕ) → Tells s bs → ExcusedBy (Reports allowed) (code_of e) (offset_of e)) → RefusesWhole allowed levels s e
-excused_whole allowed levels s e h bs tells = excused_fault (Reports allowed) (code_of e) (s.offset + length bs) (offset_of e) (any_item levels (limits s bs) bs) (h bs tells)
+pub excused_whole : (allowed : ReadErrorCode → Bool) (levels : ℕ) (s : Input) (e : Error) → ((bs : List ℕ) → Reports s bs → ExcusedBy (ReportsIo allowed) (code_of e) (offset_of e)) → RefusesWhole allowed levels s e
+excused_whole allowed levels s e h bs reports = excused_fault (ReportsIo allowed) (code_of e) (s.offset + length bs) (offset_of e) (any_item levels (limits s bs) bs) (h bs reports)
 
 -- a message, where an item is there
 pub stands_whole : (allowed : ReadErrorCode → Bool) (levels : ℕ) (s : Input) (e : Error) (text : Option (List ℕ)) → IsMessageOf text (code_of e) → offset_of e ≡ 0 → HasItem levels s → RefusesWhole allowed levels s e
-stands_whole allowed levels s e text is none stands bs tells =
-    let D = Reports allowed in
-    let item = stands bs tells in
+stands_whole allowed levels s e text is none stands bs reports =
+    let D = ReportsIo allowed in
+    let item = stands bs reports in
     message_of D (code_of e) (s.offset + length bs) (offset_of e) (any_item levels (limits s bs) bs) (item.0, item.1) item.2 (message_by D text (code_of e) (offset_of e) is none)
 
 pub stands_err : {X : Type 0} (allowed : ReadErrorCode → Bool) (levels : ℕ) (s : Input) (r : Result X Error) → IfErr r IsMessage → HasItem levels s → IfErr r (RefusesWhole allowed levels s)
@@ -153,25 +153,25 @@ module _ (allowed : ReadErrorCode → Bool) (found : HeadAt) where
   abbrev passes : Limits → List ℕ → Reads (Unit {0})
   passes l bs = passed (behind l bs)
 
-  pub behind_stopped : (s : Input) (kept : ReadError) (r : Refused) (e : Error) → TellsWhy allowed passes s kept r → IsErrorOf kept r e → RefusesBehind allowed found s e
-  behind_stopped s kept r e h is bs tells =
+  pub behind_stopped : (s : Input) (kept : ReadError) (r : Refused) (e : Error) → ReportsWhy allowed passes s kept r → IsErrorOf kept r e → RefusesBehind allowed found s e
+  behind_stopped s kept r e h is bs reports =
       let l = limits s bs in
-      let D = Reports allowed in
+      let D = ReportsIo allowed in
       let end = s.offset + length bs in
-      let told = told_or_excused D (code_of e) end (offset_of e) (passes l bs) (told_why allowed passes s kept r e is h bs tells) in
-      fault_alike D (code_of e) end (offset_of e) (passes l bs) (behind l bs) (passed_made (behind l bs) (λ (v : Val). tt)) told
+      let reported = reported_or_excused D (code_of e) end (offset_of e) (passes l bs) (reported_why allowed passes s kept r e is h bs reports) in
+      fault_alike D (code_of e) end (offset_of e) (passes l bs) (behind l bs) (passed_made (behind l bs) (λ (v : Val). tt)) reported
 
   pub behind_message : (s t : Input) (e : Error) (text : Option (List ℕ)) → IsMessageOf text (code_of e) → offset_of e ≡ 0 → Step s t (λ l bs rest. passes l bs ≡ Ok (tt, rest)) → RefusesBehind allowed found s e
-  behind_message s t e text is none step bs tells =
+  behind_message s t e text is none step bs reports =
       let l = limits s bs in
-      let D = Reports allowed in
-      let got = step.told bs tells in
+      let D = ReportsIo allowed in
+      let got = step.reported bs reports in
       let item = passed_was (behind l bs) got.rest got.holds in
       message_of D (code_of e) (s.offset + length bs) (offset_of e) (behind l bs) (item.0, got.rest) item.1 (message_by D text (code_of e) (offset_of e) is none)
 
   pub behind_stood : (s t : Input) → Step s t (λ l bs rest. passes l bs ≡ Ok (tt, rest)) → StandsBehind found s
-  behind_stood s t step bs tells =
-      let got = step.told bs tells in
+  behind_stood s t step bs reports =
+      let got = step.reported bs reports in
       let item = passed_was (behind (limits s bs) bs) got.rest got.holds in
       (item.0, got.rest, item.1)
 
@@ -180,42 +180,42 @@ module _ (allowed : ReadErrorCode → Bool) (found : HeadAt) where
 
   -- of the item that the head is of
   pub behind_whole : (levels : ℕ) (s m : Input) (e : Error) → Step s m (Follows levels) → RefusesBehind allowed found m e → RefusesWhole allowed levels s e
-  behind_whole levels s m e step h bs tells =
-      let one = step.told bs tells in
+  behind_whole levels s m e step h bs reports =
+      let one = step.reported bs reports in
       let l = limits s bs in
-      let D = Reports allowed in
+      let D = ReportsIo allowed in
       let k = code_of e in
       let at = offset_of e in
       let same : limits m one.rest ≡ l = ap₂ (λ (n : ℕ) (r : Option ℕ). record { total = n; room = r }) one.total step.took.room in
-      let here = subst (λ (n : ℕ). FaultOrMessage D k n at (behind (limits m one.rest) one.rest)) one.total (h one.rest one.tells) in
+      let here = subst (λ (n : ℕ). FaultOrMessage D k n at (behind (limits m one.rest) one.rest)) one.total (h one.rest one.reports) in
       let there = subst (λ (i : Limits). FaultOrMessage D k (s.offset + length bs) at (behind i one.rest)) same here in
       fault_alike D k (s.offset + length bs) at (behind l one.rest) (any_item levels l bs) (sym (found_is l levels found.levels found.head bs one.rest one.holds)) there
 
   pub behind_stands : (levels : ℕ) (s m t : Input) → Step s m (Follows levels) → Step m t (λ l bs rest. passes l bs ≡ Ok (tt, rest)) → HasItem levels s
-  behind_stands levels s m t step next bs tells =
+  behind_stands levels s m t step next bs reports =
       let l = limits s bs in
       let both = step_then s m t (Follows levels) (λ l bs rest. passes l bs ≡ Ok (tt, rest)) (λ l bs rest. passed (any_item levels l bs) ≡ Ok (tt, rest)) (λ l bs mid rest is was. found_is l levels found.levels found.head bs mid is ∙ was) step next in
-      let got = both.told bs tells in
+      let got = both.reported bs reports in
       let item = passed_was (any_item levels l bs) got.rest got.holds in
       (item.0, got.rest, item.1)
 
   pub stood_stands : (levels : ℕ) (s m : Input) → Step s m (Follows levels) → StandsBehind found m → HasItem levels s
-  stood_stands levels s m step stood bs tells =
+  stood_stands levels s m step stood bs reports =
       let l = limits s bs in
-      let one = step.told bs tells in
-      let item = stood one.rest one.tells in
+      let one = step.reported bs reports in
+      let item = stood one.rest one.reports in
       let same : limits m one.rest ≡ l = ap₂ (λ (n : ℕ) (r : Option ℕ). record { total = n; room = r }) one.total step.took.room in
       let here = subst (λ (i : Limits). behind i one.rest ≡ Ok (item.0, item.1)) same item.2 in
       let was = passed_was (any_item levels l bs) item.1 (found_is l levels found.levels found.head bs one.rest one.holds ∙ ap (λ (r : Reads Val). passed r) here) in
       (was.0, item.1, was.1)
 
-  pub behind_stops : (levels : ℕ) (s m : Input) (kept : ReadError) (r : Refused) → Step s m (Follows levels) → TellsWhy allowed passes m kept r → TellsWhy allowed (any_item levels) s kept r
+  pub behind_stops : (levels : ℕ) (s m : Input) (kept : ReadError) (r : Refused) → Step s m (Follows levels) → ReportsWhy allowed passes m kept r → ReportsWhy allowed (any_item levels) s kept r
   behind_stops levels s m kept r step h = why_then allowed passes (any_item levels) s m kept r (Follows levels) (λ l bs mid f is stops. passed_stops (any_item levels l bs) f (found_is l levels found.levels found.head bs mid is ∙ stops)) step h
 
 -- a number is whole with its head
 pub number_message : (allowed : ReadErrorCode → Bool) (found : HeadAt) (s : Input) (e : Error) (text : Option (List ℕ)) (n : ℕ) → IsMessageOf text (code_of e) → offset_of e ≡ 0 → (found.head ≡ head.Unsigned n) ⊎ (found.head ≡ head.Negative n) → RefusesBehind allowed found s e
-number_message allowed found s e text n is none which bs tells =
-    let D = Reports allowed in
+number_message allowed found s e text n is none which bs reports =
+    let D = ReportsIo allowed in
     let l = limits s bs in
     let message = message_by D text (code_of e) (offset_of e) is none in
     elim which [
@@ -226,49 +226,49 @@ number_message allowed found s e text n is none which bs tells =
 -- so is a float
 pub float_stands : (allowed : ReadErrorCode → Bool) (found : HeadAt) (levels : ℕ) (s m : Input) (x : Float) → found.head ≡ head.Float x → Step s m (λ l bs rest. opened_at levels bs ≡ Ok ((found.levels, found.head), rest)) → HasItem levels s
 float_stands allowed found levels s m x is step =
-    stood_stands allowed found levels s m step (λ bs tells. (float_view x, bs, ap (λ (h : Head). behind_any found.levels h (limits m bs) bs) is))
+    stood_stands allowed found levels s m step (λ bs reports. (float_view x, bs, ap (λ (h : Head). behind_any found.levels h (limits m bs) bs) is))
 
--- ---- what a type's refusal tells
+-- ---- what a type's refusal reports
 
-pub passes_told : (P Q : Type 0) (passes_over total : Bool) → TellsOf passes_over total P Q → WhereTotal passes_over Q
-passes_told P Q false total h = tt
-passes_told P Q true false h = h
-passes_told P Q true true h = h.1
+pub passes_reported : (P Q : Type 0) (passes_over total : Bool) → ReportsOf passes_over total P Q → WhereTotal passes_over Q
+passes_reported P Q false total h = tt
+passes_reported P Q true false h = h
+passes_reported P Q true true h = h.1
 
-pub total_told : (P Q : Type 0) (passes_over total : Bool) → TellsOf passes_over total P Q → WhereTotal total P
-total_told P Q false total h = h
-total_told P Q true false h = tt
-total_told P Q true true h = h.0
+pub total_reported : (P Q : Type 0) (passes_over total : Bool) → ReportsOf passes_over total P Q → WhereTotal total P
+total_reported P Q false total h = h
+total_reported P Q true false h = tt
+total_reported P Q true true h = h.0
 
 -- of a type that doesn't read every item
-only_passes : (P Q : Type 0) (passes_over : Bool) → WhereTotal passes_over Q → TellsOf passes_over false P Q
+only_passes : (P Q : Type 0) (passes_over : Bool) → WhereTotal passes_over Q → ReportsOf passes_over false P Q
 only_passes P Q false h = tt
 only_passes P Q true h = h
 
-pub tells_map : {P P' Q Q' : Type 0} (passes_over total : Bool) → (P → P') → (Q → Q') → TellsOf passes_over total P Q → TellsOf passes_over total P' Q'
-tells_map false false f g h = tt
-tells_map false true f g h = f h
-tells_map true false f g h = g h
-tells_map true true f g h = (f h.0, g h.1)
+pub reports_map : {P P' Q Q' : Type 0} (passes_over total : Bool) → (P → P') → (Q → Q') → ReportsOf passes_over total P Q → ReportsOf passes_over total P' Q'
+reports_map false false f g h = tt
+reports_map false true f g h = f h
+reports_map true false f g h = g h
+reports_map true true f g h = (f h.0, g h.1)
 
-pub tells_both : {P Q : Type 0} (passes_over total : Bool) → P → Q → TellsOf passes_over total P Q
-tells_both false false p q = tt
-tells_both false true p q = p
-tells_both true false p q = q
-tells_both true true p q = (p, q)
+pub reports_both : {P Q : Type 0} (passes_over total : Bool) → P → Q → ReportsOf passes_over total P Q
+reports_both false false p q = tt
+reports_both false true p q = p
+reports_both true false p q = q
+reports_both true true p q = (p, q)
 
 module _ (passes_over total : Bool) (allowed : ReadErrorCode → Bool) (f : Formats) (levels : ℕ) (s : Input) (e : Error) where
-  abbrev TotalTells : Type 0
-  TotalTells = TellsFault allowed (λ l. item_at (values f l) levels) s e
+  abbrev TotalReports : Type 0
+  TotalReports = ReportsFault allowed (λ l. item_at (values f l) levels) s e
 
-  pub item_passes : TellsItem passes_over total allowed f levels s e → WhereTotal passes_over (RefusesWhole allowed levels s e)
-  item_passes = passes_told TotalTells (RefusesWhole allowed levels s e) passes_over total
+  pub item_passes : ReportsItem passes_over total allowed f levels s e → WhereTotal passes_over (RefusesWhole allowed levels s e)
+  item_passes = passes_reported TotalReports (RefusesWhole allowed levels s e) passes_over total
 
-  pub item_total : TellsItem passes_over total allowed f levels s e → TellsItem false total allowed f levels s e
-  item_total = total_told TotalTells (RefusesWhole allowed levels s e) passes_over total
+  pub item_total : ReportsItem passes_over total allowed f levels s e → ReportsItem false total allowed f levels s e
+  item_total = total_reported TotalReports (RefusesWhole allowed levels s e) passes_over total
 
-  pub item_only : WhereTotal passes_over (RefusesWhole allowed levels s e) → TellsItem passes_over false allowed f levels s e
-  item_only = only_passes TotalTells (RefusesWhole allowed levels s e) passes_over
+  pub item_only : WhereTotal passes_over (RefusesWhole allowed levels s e) → ReportsItem passes_over false allowed f levels s e
+  item_only = only_passes TotalReports (RefusesWhole allowed levels s e) passes_over
 
 pub always : {P : Type 0} (b : Bool) → P → WhereTotal b P
 always false p = tt

@@ -1,4 +1,4 @@
--- That the next key may not begin as it does is told.
+-- That the next key may not begin as it does is reported.
 use Rattle.std.proofs.Common.{◌≡◌, ◌⊎◌, ◌+◌, ◌∙◌, refl, length, arith, ℕ, Bool, true, false, if◌then◌else◌, List, [], ◌∷◌, Option, Some, Ok, Err, inl, inr, sym, ap, subst}
 use Rattle.cbor_model.specs.Refusal.{end_in_map, wrong_struct_format}
 use Rattle.cbor_model.specs.Formats.{Formats, may_begin_key}
@@ -14,16 +14,16 @@ use Rattle.cbor_io.specs.declared.error.ErrorCode.TheVariants as code
 use Rattle.cbor_io.specs.declared.read_error.ReadError.{ReadError}
 use Rattle.cbor_io.specs.declared.read_error.ReadErrorCode.{ReadErrorCode}
 use Rattle.cbor_decode.specs.declared.refusal.Refused.{Refused}
-use Rattle.cbor_decode.specs.Gives.{FailsAs, FailsBy, IsErrorOf, Limits, Reports, Step, Stopped}
+use Rattle.cbor_decode.specs.Gives.{FailsAs, FailsBy, IsErrorOf, Limits, ReportsIo, Step, Stopped}
 use Rattle.cbor_decode.specs.declared.cursor.Remaining.{Remaining}
 use Rattle.cbor_decode.specs.Heads.{remaining_of}
 use Rattle.cbor_decode.specs.Cursor.{behind_next}
-use Rattle.cbor_decode_as.specs.Cases.{IsBadKey, TellsBadKey}
+use Rattle.cbor_decode_as.specs.Cases.{IsBadKey, ReportsBadKey}
 use Rattle.cbor_decode_as.specs.MapAccesses.{Comes, IsMapHead, key_front, map_of, pairs_at}
 use Rattle.cbor_decode_as.specs.TaggedHeads.{in_tags}
 use Rattle.cbor_decode_as.specs.Takes.{ExcusedBy, raws}
 use Rattle.cbor_decode_as.proofs.maps.PairsRead.{PairsSoFar, with_pairs}
-use Rattle.cbor_decode_as.proofs.numbers.Scalars.{excused_or, told_by}
+use Rattle.cbor_decode_as.proofs.numbers.Scalars.{excused_or, reported_by}
 
 -- ---- faults
 
@@ -37,69 +37,69 @@ fault_is x y e = cc
 abbrev BreaksRule : {A : Type 0} → ℕ → Reads A → Type 0
 BreaksRule left read = read ≡ Err (record { why = wrong_struct_format; left = left })
 
--- that fault is told by no other code
+-- that fault is reported by no other code
 other_fault : {A : Type 0} (why : _) (end at left : ℕ) (read : Reads A) → (wrong_struct_format ≡ why → ⊥) → BreaksRule left read → FailsAs why end at read → ⊥
 other_fault why end at left read other is h = other (ap (λ (f : Fault). f.why) (fault_is (record { why = wrong_struct_format; left = left }) (record { why = why; left = h.0 }) (sym is ∙ h.2)))
 
--- that fault is told by its code, or the error is excused
-rule_told : {A : Type 0} (D : Type 0) (k : ErrorCode) (end at left : ℕ) (read : Reads A) → BreaksRule left read → FailsBy D k end at read → ExcusedBy D k at ⊎ ((k ≡ code.WrongStructFormat) × (at + left ≡ end))
-rule_told D (code.Message s) end at left read is h = absurd h
-rule_told D (code.Io e) end at left read is h = inl h
-rule_told D code.ScratchTooSmall end at left read is h = absurd (other_fault _ end at left read (λ e. absurd cc) is h)
-rule_told D code.EofWhileParsingValue end at left read is h = absurd (other_fault _ end at left read (λ e. absurd cc) is h)
-rule_told D code.EofWhileParsingArray end at left read is h = absurd (other_fault _ end at left read (λ e. absurd cc) is h)
-rule_told D code.EofWhileParsingMap end at left read is h = absurd (other_fault _ end at left read (λ e. absurd cc) is h)
-rule_told D code.LengthOutOfRange end at left read is h = absurd (other_fault _ end at left read (λ e. absurd cc) is h)
-rule_told D code.InvalidUtf8 end at left read is h = absurd (other_fault _ end at left read (λ e. absurd cc) is h)
-rule_told D code.UnassignedCode end at left read is h = absurd (other_fault _ end at left read (λ e. absurd cc) is h)
-rule_told D code.UnexpectedCode end at left read is h = absurd (other_fault _ end at left read (λ e. absurd cc) is h)
-rule_told D code.TrailingData end at left read is h = absurd (other_fault _ end at left read (λ e. absurd cc) is h)
-rule_told D code.ArrayTooShort end at left read is h = absurd h
-rule_told D code.ArrayTooLong end at left read is h = absurd h
-rule_told D code.RecursionLimitExceeded end at left read is h = absurd (other_fault _ end at left read (λ e. absurd cc) is h)
-rule_told D code.WrongEnumFormat end at left read is h = absurd h
-rule_told D code.WrongStructFormat end at left read is h =
+-- that fault is reported by its code, or the error is excused
+rule_reported : {A : Type 0} (D : Type 0) (k : ErrorCode) (end at left : ℕ) (read : Reads A) → BreaksRule left read → FailsBy D k end at read → ExcusedBy D k at ⊎ ((k ≡ code.WrongStructFormat) × (at + left ≡ end))
+rule_reported D (code.Message s) end at left read is h = absurd h
+rule_reported D (code.Io e) end at left read is h = inl h
+rule_reported D code.ScratchTooSmall end at left read is h = absurd (other_fault _ end at left read (λ e. absurd cc) is h)
+rule_reported D code.EofWhileParsingValue end at left read is h = absurd (other_fault _ end at left read (λ e. absurd cc) is h)
+rule_reported D code.EofWhileParsingArray end at left read is h = absurd (other_fault _ end at left read (λ e. absurd cc) is h)
+rule_reported D code.EofWhileParsingMap end at left read is h = absurd (other_fault _ end at left read (λ e. absurd cc) is h)
+rule_reported D code.LengthOutOfRange end at left read is h = absurd (other_fault _ end at left read (λ e. absurd cc) is h)
+rule_reported D code.InvalidUtf8 end at left read is h = absurd (other_fault _ end at left read (λ e. absurd cc) is h)
+rule_reported D code.UnassignedCode end at left read is h = absurd (other_fault _ end at left read (λ e. absurd cc) is h)
+rule_reported D code.UnexpectedCode end at left read is h = absurd (other_fault _ end at left read (λ e. absurd cc) is h)
+rule_reported D code.TrailingData end at left read is h = absurd (other_fault _ end at left read (λ e. absurd cc) is h)
+rule_reported D code.ArrayTooShort end at left read is h = absurd h
+rule_reported D code.ArrayTooLong end at left read is h = absurd h
+rule_reported D code.RecursionLimitExceeded end at left read is h = absurd (other_fault _ end at left read (λ e. absurd cc) is h)
+rule_reported D code.WrongEnumFormat end at left read is h = absurd h
+rule_reported D code.WrongStructFormat end at left read is h =
     let same : left ≡ h.0 = ap (λ (f : Fault). f.left) (fault_is (record { why = wrong_struct_format; left = left }) (record { why = wrong_struct_format; left = h.0 }) (sym is ∙ h.2)) in
     inr (refl, subst (λ (n : ℕ). at + n ≡ end) (sym same) h.1)
-rule_told D code.NotCanonical end at left read is h = absurd h
-rule_told D code.OutOfMemory end at left read is h = inl h
+rule_reported D code.NotCanonical end at left read is h = absurd h
+rule_reported D code.OutOfMemory end at left read is h = inl h
 
 -- ---- the next key
 
 module _ (allowed : ReadErrorCode → Bool) (f : Formats) (remaining : Remaining) (s : Input) where
-  -- it couldn't be told whether a pair comes
-  pub bad_key_first : {w : Input} (kept : ReadError) (r : Refused) → Stopped allowed (λ l. next_at end_in_map (remaining_of remaining)) s w kept r → (e : Error) → IsErrorOf kept r e → TellsBadKey allowed f remaining s e
-  bad_key_first kept r h e made = λ bs tells at bad.
-      elim (excused_or (Reports allowed) (code_of e) (s.offset + length bs) (offset_of e) (next_at end_in_map (remaining_of remaining) bs) (told_by allowed (λ l. next_at end_in_map (remaining_of remaining)) s kept r e made h bs tells)) [
+  -- it couldn't be known whether a pair comes
+  pub bad_key_first : {w : Input} (kept : ReadError) (r : Refused) → Stopped allowed (λ l. next_at end_in_map (remaining_of remaining)) s w kept r → (e : Error) → IsErrorOf kept r e → ReportsBadKey allowed f remaining s e
+  bad_key_first kept r h e made = λ bs reports at bad.
+      elim (excused_or (ReportsIo allowed) (code_of e) (s.offset + length bs) (offset_of e) (next_at end_in_map (remaining_of remaining) bs) (reported_by allowed (λ l. next_at end_in_map (remaining_of remaining)) s kept r e made h bs reports)) [
         | inl excused ↦ inl excused
         | inr failed ↦ absurd (not_both (Some bad.behind, bad.key) failed.0 (sym bad.comes ∙ failed.1))
       ]
 
   module _ (behind : Remaining) (a : Input) where
     -- a pair came whose key may not begin as it does
-    bad_key_here : {w : Input} → Step s a (λ l bs rest. next_at end_in_map (remaining_of remaining) bs ≡ Ok (Some (remaining_of behind), rest)) → (kept : ReadError) (r : Refused) → Stopped allowed (λ l. key_front f) a w kept r → (e : Error) → IsErrorOf kept r e → TellsBadKey allowed f remaining s e
-    bad_key_here step kept r h e made = λ bs tells at bad.
-        let one = step.told bs tells in
+    bad_key_here : {w : Input} → Step s a (λ l bs rest. next_at end_in_map (remaining_of remaining) bs ≡ Ok (Some (remaining_of behind), rest)) → (kept : ReadError) (r : Refused) → Stopped allowed (λ l. key_front f) a w kept r → (e : Error) → IsErrorOf kept r e → ReportsBadKey allowed f remaining s e
+    bad_key_here step kept r h e made = λ bs reports at bad.
+        let one = step.reported bs reports in
         let same : bad.key ≡ one.rest = ap (λ (p : Option reader.Remaining × List ℕ). p.1) (ok_is (Some bad.behind, bad.key) (Some (remaining_of behind), one.rest) (sym bad.comes ∙ one.holds)) in
         let rule = subst (λ (bs : List ℕ). BreaksRule bad.refused.0 (key_front f bs)) same bad.refused.2 in
-        elim (rule_told (Reports allowed) (code_of e) (a.offset + length one.rest) (offset_of e) bad.refused.0 (key_front f one.rest) rule (told_by allowed (λ l. key_front f) a kept r e made h one.rest one.tells)) [
+        elim (rule_reported (ReportsIo allowed) (code_of e) (a.offset + length one.rest) (offset_of e) bad.refused.0 (key_front f one.rest) rule (reported_by allowed (λ l. key_front f) a kept r e made h one.rest one.reports)) [
           | inl excused ↦ inl excused
-          | inr told ↦ inr (told.0, omega (arith, told.1, one.total, bad.refused.1))
+          | inr reported ↦ inr (reported.0, omega (arith, reported.1, one.total, bad.refused.1))
         ]
 
     -- a pair came whose key may begin as it does
-    pub bad_key_later : (e : Error) → Step s a (λ l bs rest. Comes f (remaining_of remaining) (remaining_of behind) true bs rest) → TellsBadKey allowed f remaining s e
-    bad_key_later e step = λ bs tells at bad.
-        let one = step.told bs tells in
+    pub bad_key_later : (e : Error) → Step s a (λ l bs rest. Comes f (remaining_of remaining) (remaining_of behind) true bs rest) → ReportsBadKey allowed f remaining s e
+    bad_key_later e step = λ bs reports at bad.
+        let one = step.reported bs reports in
         let same : bad.key ≡ one.rest = ap (λ (p : Option reader.Remaining × List ℕ). p.1) (ok_is (Some bad.behind, bad.key) (Some (remaining_of behind), one.rest) (sym bad.comes ∙ one.holds.0)) in
         let rule = subst (λ (bs : List ℕ). BreaksRule bad.refused.0 (key_front f bs)) same bad.refused.2 in
         absurd (not_both (tt, one.rest) (record { why = wrong_struct_format; left = bad.refused.0 }) (sym one.holds.1 ∙ rule))
 
 -- the key's first byte was looked at
-pub bad_key_told : {w : Input} (allowed : ReadErrorCode → Bool) (f g : Formats) (remaining behind : Remaining) (more : Bool) (s a : Input) (kept : ReadError) (r : Refused) → g ≡ f → more ≡ true
-    → Step s a (λ l bs rest. next_at end_in_map (remaining_of remaining) bs ≡ Ok (behind_next behind more, rest)) → Stopped allowed (λ l. key_front g) a w kept r → (e : Error) → IsErrorOf kept r e → TellsBadKey allowed f remaining s e
-bad_key_told allowed f g remaining behind false s a kept r same comes step h e made = absurd cc
-bad_key_told {w = w} allowed f g remaining behind true s a kept r same comes step h e made =
+pub bad_key_reported : {w : Input} (allowed : ReadErrorCode → Bool) (f g : Formats) (remaining behind : Remaining) (more : Bool) (s a : Input) (kept : ReadError) (r : Refused) → g ≡ f → more ≡ true
+    → Step s a (λ l bs rest. next_at end_in_map (remaining_of remaining) bs ≡ Ok (behind_next behind more, rest)) → Stopped allowed (λ l. key_front g) a w kept r → (e : Error) → IsErrorOf kept r e → ReportsBadKey allowed f remaining s e
+bad_key_reported allowed f g remaining behind false s a kept r same comes step h e made = absurd cc
+bad_key_reported {w = w} allowed f g remaining behind true s a kept r same comes step h e made =
     bad_key_here allowed f remaining s behind a step kept r (subst (λ (k : Formats). Stopped allowed (λ l. key_front k) a w kept r) same h) e made
 
 -- ---- the whole map

@@ -80,15 +80,15 @@ module _ (s m : Input) (f : model.Formats) (old new : Remaining) where
 
     pub front_refused : {w : Input} (allowed : ReadErrorCode → Bool) (kept : ReadError) (r : Refused) (e : Error) → more ≡ true → Step s m (Next more)
         → IsErrorOf kept r e → Stopped allowed (λ l. key_front f) m w kept r → Refuses allowed s w (code_of e) (offset_of e) (NonePairs f (remaining_of old))
-    front_refused allowed kept r e is step tells stops =
+    front_refused allowed kept r e is step reports stops =
         refuses_then allowed s (code_of e) (offset_of e) m (Next more) (λ l bs. (rest : List ℕ) → key_front f bs ≡ Ok (tt, rest) → ⊥) (NonePairs f (remaining_of old))
         (λ l bs mid next none. not_front l bs mid is next none) step
-        (refuses_stopped allowed (λ l. key_front f) m kept r e (λ l bs. (rest : List ℕ) → key_front f bs ≡ Ok (tt, rest) → ⊥) (λ l bs fault stops rest front. not_both (key_front f bs) (tt, rest) fault front stops) tells stops)
+        (refuses_stopped allowed (λ l. key_front f) m kept r e (λ l bs. (rest : List ℕ) → key_front f bs ≡ Ok (tt, rest) → ⊥) (λ l bs fault stops rest front. not_both (key_front f bs) (tt, rest) fault front stops) reports stops)
 
   pub next_refused : {w : Input} (allowed : ReadErrorCode → Bool) (kept : ReadError) (r : Refused) (e : Error)
       → IsErrorOf kept r e → Stopped allowed (λ l. next_at end_in_map (remaining_of old)) s w kept r → Refuses allowed s w (code_of e) (offset_of e) (NonePairs f (remaining_of old))
-  next_refused allowed kept r e tells stops =
-      refuses_stopped allowed (λ l. next_at end_in_map (remaining_of old)) s kept r e (NonePairs f (remaining_of old)) none tells stops
+  next_refused allowed kept r e reports stops =
+      refuses_stopped allowed (λ l. next_at end_in_map (remaining_of old)) s kept r e (NonePairs f (remaining_of old)) none reports stops
     where
       none : (l : Limits) (bs : List ℕ) (fault : Fault) → next_at end_in_map (remaining_of old) bs ≡ Err fault → NonePairs f (remaining_of old) l bs
       none l bs fault is false after rest comes = not_both (next_at end_in_map (remaining_of old) bs) (None, rest) fault comes is
@@ -141,9 +141,9 @@ module _ (s m : Input) (old new : Remaining) (more : Bool) where
       pub no_key_taken : (allowed : ReadErrorCode → Bool) (k : ErrorCode) (at : ℕ) (N : Limits → List ℕ → Type 0) → Step s m (There f) → Step m t (λ l bs rest. IsRead (reads g) (item_at (raws (formats_of g) l) inside bs) x rest) → t.offset ≤ m.offset → Refuses allowed s t k at N
       no_key_taken allowed k at N one two few = record {
         took = some_then s m t one.took two.took;
-        told = λ bs tells.
-            let first = one.told bs tells in
-            let second = two.told first.rest first.tells in
+        reported = λ bs reports.
+            let first = one.reported bs reports in
+            let second = two.reported first.rest first.reports in
             let moved = taken (raws (formats_of g) _) inside first.rest (second.holds.item, second.rest) second.holds.is in
             absurd (omega (arith, moved, second.total, few));
       }

@@ -54,14 +54,14 @@ none_read reads number read also none x rest got =
 pub double_memory : (f : Formats) (levels : ℕ) (s : Input) (e : Error)
     → TakesNoMemory f (PassesTags IsFloatItem) levels s e
     → TakesNoMemory f (PassesTags IsFloatOf) levels s e
-double_memory f levels s e none is bs tells =
-    none_read IsFloatOf (λ x. x) (item_at (raws f (limits s bs)) levels bs) (λ r x is. is) (none is bs tells)
+double_memory f levels s e none is bs reports =
+    none_read IsFloatOf (λ x. x) (item_at (raws f (limits s bs)) levels bs) (λ r x is. is) (none is bs reports)
 
 pub single_memory : (f : Formats) (levels : ℕ) (s : Input) (e : Error)
     → TakesNoMemory f (PassesTags IsFloatItem) levels s e
     → TakesNoMemory f (PassesTags IsSingleOf) levels s e
-single_memory f levels s e none is bs tells =
-    none_read IsSingleOf (λ x. x) (item_at (raws f (limits s bs)) levels bs) (λ r x is. is.0) (none is bs tells)
+single_memory f levels s e none is bs reports =
+    none_read IsSingleOf (λ x. x) (item_at (raws f (limits s bs)) levels bs) (λ r x is. is.0) (none is bs reports)
 
 module _ (allowed : ReadErrorCode → Bool) (read : Limits → List ℕ → Reads Raw) (s : Input) where
   refused : {A : Type 0} {t : Input} (reads : Raw → A → Type 0) (number : A → ieee.Float) (k : ErrorCode)
@@ -70,7 +70,7 @@ module _ (allowed : ReadErrorCode → Bool) (read : Limits → List ℕ → Read
       → Refuses allowed s t k at (λ l bs. IsNotRead (PassesTags reads) (read l bs))
   refused reads number k at also none = record {
     took = none.took;
-    told = λ bs tells. elim (none.told bs tells) [
+    reported = λ bs reports. elim (none.reported bs reports) [
       | inl excused ↦ inl excused
       | inr absent ↦ inr (none_read reads number (read (limits s bs) bs) also absent)
     ];

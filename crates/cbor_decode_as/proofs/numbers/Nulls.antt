@@ -18,7 +18,7 @@ use Rattle.cbor_io.specs.declared.error.ErrorCode.{ErrorCode}
 use Rattle.cbor_io.specs.declared.read_error.ReadError.{ReadError}
 use Rattle.cbor_io.specs.declared.read_error.ReadErrorCode.{ReadErrorCode}
 use Rattle.cbor_value.specs.declared.Float.TheVariants.{Half, Single, Double}
-use Rattle.cbor_decode.specs.Gives.{Limits, limits, Reports, Step, Stopped, IsErrorOf}
+use Rattle.cbor_decode.specs.Gives.{Limits, limits, ReportsIo, Step, Stopped, IsErrorOf}
 use Rattle.cbor_decode.specs.Heads.{opening_at, head_at, head_of, number_head, length_head, simple_head, behind_head}
 use Rattle.cbor_decode.specs.declared.head.Head.{Head}
 use Rattle.cbor_decode.specs.declared.head.Head.TheVariants as head
@@ -164,10 +164,10 @@ pub refuses_behind : {t : Input} (allowed : ReadErrorCode → Bool) (s m : Input
     → ((l : Limits) (bs mid : List ℕ) → P l bs mid → N l mid → N' l bs) → Step s m P → Refuses allowed m t k at N → Refuses allowed s t k at N'
 refuses_behind {t = t} allowed s m k at P N N' on step h = record {
   took = some_then s m t step.took h.took;
-  told = λ bs tells.
-      let got = step.told bs tells in
+  reported = λ bs reports.
+      let got = step.reported bs reports in
       let same : limits m got.rest ≡ limits s bs = ap₂ (λ (n : ℕ) (r : Option ℕ). record { total = n; room = r }) got.total step.took.room in
-      elim (h.told got.rest got.tells) [
+      elim (h.reported got.rest got.reports) [
         | inl excused ↦ inl excused
         | inr none ↦ inr (on (limits s bs) bs got.rest got.holds (subst (λ (l : Limits). N l got.rest) same none))
       ];
@@ -206,15 +206,15 @@ module _ {A : Type 0} (allowed : ReadErrorCode → Bool) (f : Formats) (reads : 
   -- an option takes memory where what is there does, unless it is null
   pub option_memory : (asks : Raw → Type 0) (m : Input) (e : Error) → Step s m (Seen false) → MemoryFor asks f reads levels m e
       → MemoryFor (UnlessNull asks) f (IsOptional reads) levels s e
-  option_memory asks m e step h is bs tells None rest got =
-      let behind = step.told bs tells in
+  option_memory asks m e step h is bs reports None rest got =
+      let behind = step.reported bs reports in
       let front = seen bs behind.rest behind.holds in
       absurd (not_null f (limits s bs) levels bs rest front.1 (got.is ∙ ap (λ (r : Raw). Ok (r, rest)) got.means))
-  option_memory asks m e step h is bs tells (Some x) rest got =
-      let behind = step.told bs tells in
+  option_memory asks m e step h is bs reports (Some x) rest got =
+      let behind = step.reported bs reports in
       let front = seen bs behind.rest behind.holds in
       let same : limits m behind.rest ≡ limits s bs = ap₂ (λ (n : ℕ) (r : Option ℕ). record { total = n; room = r }) behind.total step.took.room in
-      (got.means.0, h is behind.rest behind.tells x rest (record { item = got.item; is = ap₂ item same front.0 ∙ got.is; means = got.means.1 }))
+      (got.means.0, h is behind.rest behind.reports x rest (record { item = got.item; is = ap₂ item same front.0 ∙ got.is; means = got.means.1 }))
 
   pub option_stops : {t : Input} (kept : ReadError) (r : Refused) (e : Error) → IsErrorOf kept r e → Stopped allowed (λ l. null_at) s t kept r → Refuses allowed s t (code_of e) (offset_of e) (λ l bs. IsNotRead (IsOptional reads) (item l bs))
   option_stops kept r e is stopped = refuses allowed (IsOptional reads) item s kept r e is (stopped_map allowed (λ l. null_at) item s kept r (λ l bs g stops. absurd (never bs g stops)) stopped)
@@ -224,15 +224,15 @@ module _ {A : Type 0} (allowed : ReadErrorCode → Bool) (f : Formats) (reads : 
 module _ (allowed : ReadErrorCode → Bool) (levels : ℕ) (s : Input) where
   -- a refusal of what is there
   pub option_whole : (m : Input) (e : Error) → Step s m (λ l bs rest. null_at bs ≡ Ok (false, rest)) → RefusesWhole allowed levels m e → RefusesWhole allowed levels s e
-  option_whole m e step h bs tells =
-      let behind = step.told bs tells in
-      let D = Reports allowed in
+  option_whole m e step h bs reports =
+      let behind = step.reported bs reports in
+      let D = ReportsIo allowed in
       let k = code_of e in
       let at = offset_of e in
       let same : limits m behind.rest ≡ limits s bs = ap₂ (λ (n : ℕ) (r : Option ℕ). record { total = n; room = r }) behind.total step.took.room in
-      let here = subst (λ (n : ℕ). FaultOrMessage D k n at (any_item levels (limits m behind.rest) behind.rest)) behind.total (h behind.rest behind.tells) in
+      let here = subst (λ (n : ℕ). FaultOrMessage D k n at (any_item levels (limits m behind.rest) behind.rest)) behind.total (h behind.rest behind.reports) in
       subst (λ (r : Reads Val). FaultOrMessage D k (s.offset + length bs) at r) (ap₂ (any_item levels) same (seen bs behind.rest behind.holds).0) here
 
   -- the source refused
   pub unseen_whole : {t : Input} (kept : ReadError) (r : Refused) (e : Error) → Stopped allowed (λ l. null_at) s t kept r → IsErrorOf kept r e → RefusesWhole allowed levels s e
-  unseen_whole kept r e h is = stopped_whole allowed levels s kept r e (why_map allowed (λ l. null_at) (any_item levels) s kept r (λ l bs g stops. absurd (never bs g stops)) h.told) is
+  unseen_whole kept r e h is = stopped_whole allowed levels s kept r e (why_map allowed (λ l. null_at) (any_item levels) s kept r (λ l bs g stops. absurd (never bs g stops)) h.reported) is

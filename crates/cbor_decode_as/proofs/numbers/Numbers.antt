@@ -13,7 +13,7 @@ use Rattle.cbor_io.specs.Error.{code_of, offset_of}
 use Rattle.cbor_io.specs.declared.error.Error.{Error}
 use Rattle.cbor_io.specs.declared.read_error.ReadError.{ReadError}
 use Rattle.cbor_io.specs.declared.read_error.ReadErrorCode.{ReadErrorCode}
-use Rattle.cbor_decode.specs.Gives.{Limits, limits, Step, Tells}
+use Rattle.cbor_decode.specs.Gives.{Limits, limits, Step, Reports}
 use Rattle.cbor_decode.specs.Heads.{behind_head}
 use Rattle.cbor_decode.specs.declared.head.Head.{Head}
 use Rattle.cbor_decode.specs.declared.head.Head.TheVariants as head
@@ -82,13 +82,13 @@ number_read allowed f reads levels s t kept head.Break z x also is = absurd is
 
 -- what isn't a number of the head isn't read, whatever the error
 pub number_unread : {X : Type 0} (allowed : ReadErrorCode → Bool) (f : Formats) (reads : Raw → X → Type 0) (levels : ℕ) (s t : Input) (kept : ReadError) (h : Head) (number : X → ℤ) → ((r : Raw) (x : X) → reads r x → IsInteger r (number x)) → ((r : Raw) (x : X) → reads r x → IsNumber h (number x) → ⊥)
-    → TakesItemHead allowed f levels s t kept (Ok h) → (bs : List ℕ) → Tells s bs → IsNotRead (PassesTags reads) (item_at (raws f (limits s bs)) levels bs)
-number_unread allowed f reads levels s t kept h number is none (left, step) bs tells =
+    → TakesItemHead allowed f levels s t kept (Ok h) → (bs : List ℕ) → Reports s bs → IsNotRead (PassesTags reads) (item_at (raws f (limits s bs)) levels bs)
+number_unread allowed f reads levels s t kept h number is none (left, step) bs reports =
     let l = limits s bs in
-    let got = step.told bs tells in
+    let got = step.reported bs reports in
     let o = got.holds in
     opened_none f reads l (item_at (raws f l) levels bs) left h got.rest o (λ r rest x read means. none (untagged r) x means (number_head f l (inside (raws f l) left) o.width h got.rest rest r (number x) read o.inner (is (untagged r) x means)))
 
 pub number_none : {X : Type 0} (allowed : ReadErrorCode → Bool) (f : Formats) (reads : Raw → X → Type 0) (levels : ℕ) (s t : Input) (kept : ReadError) (h : Head) (e : Error) (number : X → ℤ) → ((r : Raw) (x : X) → reads r x → IsInteger r (number x)) → ((r : Raw) (x : X) → reads r x → IsNumber h (number x) → ⊥)
     → TakesItemHead allowed f levels s t kept (Ok h) → Refuses allowed s t (code_of e) (offset_of e) (λ l bs. IsNotRead (PassesTags reads) (item_at (raws f l) levels bs))
-number_none allowed f reads levels s t kept h e number is none opens = record { took = opens.1.took; told = λ bs tells. inr (number_unread allowed f reads levels s t kept h number is none opens bs tells) }
+number_none allowed f reads levels s t kept h e number is none opens = record { took = opens.1.took; reported = λ bs reports. inr (number_unread allowed f reads levels s t kept h number is none opens bs reports) }

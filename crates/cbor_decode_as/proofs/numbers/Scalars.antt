@@ -17,14 +17,14 @@ use Rattle.cbor_io.specs.declared.read_error.ReadError.{ReadError}
 use Rattle.cbor_io.specs.declared.read_error.ReadErrorCode.{ReadErrorCode}
 use Rattle.cbor_value.specs.declared.Float.{Float}
 use Rattle.cbor_value.specs.declared.Float.TheVariants.{Half, Single, Double}
-use Rattle.cbor_decode.specs.Gives.{Limits, limits, Tells, Step, TellsWhy, Stopped, FailsBy, Reports, IsErrorOf}
+use Rattle.cbor_decode.specs.Gives.{Limits, limits, Reports, Step, ReportsWhy, Stopped, FailsBy, ReportsIo, IsErrorOf}
 use Rattle.cbor_decode.specs.Heads.{behind_head}
 use Rattle.cbor_decode.specs.declared.head.Head.{Head}
 use Rattle.cbor_decode.specs.declared.head.Head.TheVariants as head
 use Rattle.cbor_decode.specs.declared.refusal.Refused.{Refused}
 use Rattle.cbor_decode.specs.declared.refusal.Refused.TheVariants as refused
 use Rattle.cbor_decode.proofs.facts.Steps.{some_then, step_map}
-use Rattle.cbor_decode_as.specs.Takes.{raws, IsRead, IsNotRead, ExcusedBy, MemoryFor, Refuses, TellsFault}
+use Rattle.cbor_decode_as.specs.Takes.{raws, IsRead, IsNotRead, ExcusedBy, MemoryFor, Refuses, ReportsFault}
 use Rattle.cbor_decode_as.specs.TaggedHeads.{tagged, in_tags, IsTaggedHead, TakesItemHead}
 use Rattle.cbor_decode_as.specs.Kinds.{kind_of, head_kind}
 use Rattle.cbor_decode_as.specs.Kinds as kind
@@ -33,7 +33,7 @@ use Rattle.cbor_decode_as.proofs.heads.OfKind.{kinds}
 
 -- ---- refusals
 
--- an error that tells a fault is excused, or the reading meets that fault
+-- an error that reports a fault is excused, or the reading meets that fault
 pub excused_or : {A : Type 0} (D : Type 0) (k : ErrorCode) (end at : ℕ) (read : Result A Fault) → FailsBy D k end at read → ExcusedBy D k at ⊎ ((f : Fault) × (read ≡ Err f))
 excused_or D (code.Message s) end at read h = absurd h
 excused_or D (code.Io e) end at read h = inl h
@@ -66,32 +66,32 @@ or_none : {A : Type 0} (D : Type 0) (k : ErrorCode) (at : ℕ) (reads : Raw → 
 or_none D k at reads read (inl e) = inl e
 or_none D k at reads read (inr h) = inr (not_read reads read h.0 h.1)
 
--- the error of a refusal tells the fault
-pub told_why : {A : Type 0} (allowed : ReadErrorCode → Bool) (read : Limits → List ℕ → Reads A) (s : Input) (kept : ReadError) (r : Refused) (e : Error) → IsErrorOf kept r e → TellsWhy allowed read s kept r → TellsFault allowed read s e
-told_why allowed read s kept refused.OutOfMemory e is h bs tells = subst (λ (k : ErrorCode). FailsBy (Reports allowed) k (s.offset + length bs) (offset_of e) (read (limits s bs) bs)) (sym is.0) is.1
-told_why allowed read s kept refused.Kept e is h bs tells =
-    let D = Reports allowed in
-    let there = subst (λ (k : ErrorCode). FailsBy D k (s.offset + length bs) (place kept) (read (limits s bs) bs)) (sym is.0) (h.told bs tells) in
+-- the error of a refusal reports the fault
+pub reported_why : {A : Type 0} (allowed : ReadErrorCode → Bool) (read : Limits → List ℕ → Reads A) (s : Input) (kept : ReadError) (r : Refused) (e : Error) → IsErrorOf kept r e → ReportsWhy allowed read s kept r → ReportsFault allowed read s e
+reported_why allowed read s kept refused.OutOfMemory e is h bs reports = subst (λ (k : ErrorCode). FailsBy (ReportsIo allowed) k (s.offset + length bs) (offset_of e) (read (limits s bs) bs)) (sym is.0) is.1
+reported_why allowed read s kept refused.Kept e is h bs reports =
+    let D = ReportsIo allowed in
+    let there = subst (λ (k : ErrorCode). FailsBy D k (s.offset + length bs) (place kept) (read (limits s bs) bs)) (sym is.0) (h.reported bs reports) in
     subst (λ (n : ℕ). FailsBy D (code_of e) (s.offset + length bs) n (read (limits s bs) bs)) (sym is.1) there
 
-pub told_by : {A : Type 0} {t : Input} (allowed : ReadErrorCode → Bool) (read : Limits → List ℕ → Reads A) (s : Input) (kept : ReadError) (r : Refused) (e : Error) → IsErrorOf kept r e → Stopped allowed read s t kept r → TellsFault allowed read s e
-told_by allowed read s kept r e is h = told_why allowed read s kept r e is h.told
+pub reported_by : {A : Type 0} {t : Input} (allowed : ReadErrorCode → Bool) (read : Limits → List ℕ → Reads A) (s : Input) (kept : ReadError) (r : Refused) (e : Error) → IsErrorOf kept r e → Stopped allowed read s t kept r → ReportsFault allowed read s e
+reported_by allowed read s kept r e is h = reported_why allowed read s kept r e is h.reported
 
 -- an error that is made of a refusal
 pub refuses : {A : Type 0} {t : Input} (allowed : ReadErrorCode → Bool) (reads : Raw → A → Type 0) (read : Limits → List ℕ → Reads Raw) (s : Input) (kept : ReadError) (r : Refused) (e : Error)
     → IsErrorOf kept r e → Stopped allowed read s t kept r → Refuses allowed s t (code_of e) (offset_of e) (λ l bs. IsNotRead reads (read l bs))
 refuses allowed reads read s kept r e is h = record {
   took = h.took;
-  told = λ bs tells. or_none (Reports allowed) (code_of e) (offset_of e) reads (read (limits s bs) bs) (excused_or (Reports allowed) (code_of e) (s.offset + length bs) (offset_of e) (read (limits s bs) bs) (told_by allowed read s kept r e is h bs tells));
+  reported = λ bs reports. or_none (ReportsIo allowed) (code_of e) (offset_of e) reads (read (limits s bs) bs) (excused_or (ReportsIo allowed) (code_of e) (s.offset + length bs) (offset_of e) (read (limits s bs) bs) (reported_by allowed read s kept r e is h bs reports));
 }
 
 -- further bytes were taken
 pub refuses_on : {allowed : ReadErrorCode → Bool} {s t u : Input} {k : ErrorCode} {at : ℕ} {N : Limits → List ℕ → Type 0} → Refuses allowed s t k at N → TookSome t u → Refuses allowed s u k at N
-refuses_on {s = s} {t = t} {u = u} h more = record { took = some_then s t u h.took more; told = h.told }
+refuses_on {s = s} {t = t} {u = u} h more = record { took = some_then s t u h.took more; reported = h.reported }
 
 -- what isn't excused holds
-pub unexcused : {t : Input} (allowed : ReadErrorCode → Bool) (s : Input) (N : Limits → List ℕ → Type 0) → Refuses allowed s t code.TrailingData 0 N → (bs : List ℕ) → Tells s bs → N (limits s bs) bs
-unexcused allowed s N h bs tells = elim (h.told bs tells) [
+pub unexcused : {t : Input} (allowed : ReadErrorCode → Bool) (s : Input) (N : Limits → List ℕ → Type 0) → Refuses allowed s t code.TrailingData 0 N → (bs : List ℕ) → Reports s bs → N (limits s bs) bs
+unexcused allowed s N h bs reports = elim (h.reported bs reports) [
   | inl excused ↦ absurd excused
   | inr none ↦ none
 ]
@@ -153,16 +153,16 @@ takes_scalar allowed f reads levels s t kept h x item whole means (left, step) =
 -- an item of another kind isn't read, whatever the error
 pub scalar_unread : {A : Type 0} (allowed : ReadErrorCode → Bool) (f : Formats) (reads : Raw → A → Type 0) (levels : ℕ) (s t : Input) (kept : ReadError) (h : Head)
     → ((r : Raw) (x : A) → reads (untagged r) x → (kind_of r ≡ kind.tag → ⊥) → kind_of r ≡ head_kind h → ⊥)
-    → TakesItemHead allowed f levels s t kept (Ok h) → (bs : List ℕ) → Tells s bs → IsNotRead (PassesTags reads) (item_at (raws f (limits s bs)) levels bs)
-scalar_unread allowed f reads levels s t kept h other (left, step) bs tells =
+    → TakesItemHead allowed f levels s t kept (Ok h) → (bs : List ℕ) → Reports s bs → IsNotRead (PassesTags reads) (item_at (raws f (limits s bs)) levels bs)
+scalar_unread allowed f reads levels s t kept h other (left, step) bs reports =
     let l = limits s bs in
-    let o = (step.told bs tells).holds in
-    other_kind f reads l (item_at (raws f l) levels bs) left h (step.told bs tells).rest o (λ r x means is. other r x means (λ tag. o.inner (sym is ∙ tag)) is)
+    let o = (step.reported bs reports).holds in
+    other_kind f reads l (item_at (raws f l) levels bs) left h (step.reported bs reports).rest o (λ r x means is. other r x means (λ tag. o.inner (sym is ∙ tag)) is)
 
 pub none_scalar : {A : Type 0} (allowed : ReadErrorCode → Bool) (f : Formats) (reads : Raw → A → Type 0) (levels : ℕ) (s t : Input) (kept : ReadError) (h : Head) (e : Error)
     → ((r : Raw) (x : A) → reads (untagged r) x → (kind_of r ≡ kind.tag → ⊥) → kind_of r ≡ head_kind h → ⊥)
     → TakesItemHead allowed f levels s t kept (Ok h) → Refuses allowed s t (code_of e) (offset_of e) (λ l bs. IsNotRead (PassesTags reads) (item_at (raws f l) levels bs))
-none_scalar allowed f reads levels s t kept h e other opens = record { took = opens.1.took; told = λ bs tells. inr (scalar_unread allowed f reads levels s t kept h other opens bs tells) }
+none_scalar allowed f reads levels s t kept h e other opens = record { took = opens.1.took; reported = λ bs reports. inr (scalar_unread allowed f reads levels s t kept h other opens bs reports) }
 
 pub stops_scalar : {A : Type 0} (allowed : ReadErrorCode → Bool) (f : Formats) (reads : Raw → A → Type 0) (levels : ℕ) (s t : Input) (kept : ReadError) (r : Refused) (e : Error)
     → TakesItemHead allowed f levels s t kept (Err r) → IsErrorOf kept r e → Refuses allowed s t (code_of e) (offset_of e) (λ l bs. IsNotRead reads (item_at (raws f l) levels bs))

@@ -16,26 +16,26 @@ use Rattle.cbor_io.specs.declared.read_error.ReadError.{ReadError}
 use Rattle.cbor_io.specs.declared.read_error.ReadErrorCode.{ReadErrorCode}
 use Rattle.cbor_decode.specs.declared.refusal.Refused.{Refused}
 use Rattle.cbor_decode.specs.declared.refusal.Refused.TheVariants as refused
-use Rattle.cbor_decode.specs.Gives.{FailsAs, FailsBy, IsErrorOf, Limits, limits, Reports, Step, Stopped, TellsNoForm, TellsNoKey}
+use Rattle.cbor_decode.specs.Gives.{FailsAs, FailsBy, IsErrorOf, Limits, limits, ReportsIo, Step, Stopped, ReportsNoForm, ReportsNoKey}
 use Rattle.cbor_decode.specs.declared.cursor.Remaining.{Remaining}
 use Rattle.cbor_decode.specs.Heads.{remaining_of}
 use Rattle.cbor_decode.specs.Cursor.{behind_next}
 use Rattle.cbor_decode.specs.declared.head.Head.TheVariants.{Array}
 use Rattle.cbor_decode_as.specs.Begins.{Begins}
-use Rattle.cbor_decode_as.specs.Cases.{Cases, HasCase, CaseHolds, NoItemHere, IsEmptyArray, IsInOtherForm, IsBadPair, TellsTooShort, form_cases, untagged_cases, enum_cases, unit_cases, key_cases}
+use Rattle.cbor_decode_as.specs.Cases.{Cases, HasCase, CaseHolds, NoItemHere, IsEmptyArray, IsInOtherForm, IsBadPair, ReportsTooShort, form_cases, untagged_cases, enum_cases, unit_cases, key_cases}
 use Rattle.cbor_decode_as.specs.Identifiers.{IsMadeBy, NamesNoKey}
 use Rattle.cbor_decode_as.specs.MapAccesses.{key_front}
 use Rattle.cbor_decode_as.specs.declared.identifier.Why.{Why}
 use Rattle.cbor_decode_as.specs.declared.identifier.Why.TheVariants as unnamed
-use Rattle.cbor_decode_as.specs.Takes.{TellsFault}
+use Rattle.cbor_decode_as.specs.Takes.{ReportsFault}
 use Rattle.cbor_decode_as.specs.Variants.{IsShaped, TakesComing, pair_head_at}
 use Rattle.cbor_decode_as.specs.Tags.{passed_at}
 use Rattle.cbor_decode_as.specs.declared.variant.Form.TheVariants as form
 use Rattle.cbor_decode_as.specs.declared.variant.Shape.{Shape}
-use Rattle.cbor_decode_as.proofs.numbers.Scalars.{excused_or, told_by}
+use Rattle.cbor_decode_as.proofs.numbers.Scalars.{excused_or, reported_by}
 
 -- no case is asked of another code
-other_code : (cases : Cases) (k : ErrorCode) (at : ℕ) → TellsNoForm k → CaseHolds cases k at
+other_code : (cases : Cases) (k : ErrorCode) (at : ℕ) → ReportsNoForm k → CaseHolds cases k at
 other_code cases code.ArrayTooShort at h = absurd h
 other_code cases code.ArrayTooLong at h = absurd h
 other_code cases code.WrongEnumFormat at h = absurd h
@@ -55,8 +55,8 @@ other_code cases code.TrailingData at h = tt
 other_code cases code.RecursionLimitExceeded at h = tt
 other_code cases code.OutOfMemory at h = tt
 
-pub other_stands : (s : Input) (e : Error) (cases : Limits → List ℕ → Cases) → TellsNoForm (code_of e) → HasCase s e cases
-other_stands s e cases other = record { told = λ bs tells. other_code (cases (limits s bs) bs) (code_of e) (offset_of e) other }
+pub other_stands : (s : Input) (e : Error) (cases : Limits → List ℕ → Cases) → ReportsNoForm (code_of e) → HasCase s e cases
+other_stands s e cases other = record { reported = λ bs reports. other_code (cases (limits s bs) bs) (code_of e) (offset_of e) other }
 
 -- a fault of a reading has no case but the key rule's
 of_fault : {A : Type 0} (D : Type 0) (cases : Cases) (k : ErrorCode) (end at : ℕ) (read : Reads A) → (FailsAs wrong_struct_format end at read → cases.wrong_struct at) → FailsBy D k end at read → CaseHolds cases k at
@@ -82,8 +82,8 @@ of_fault D cases code.OutOfMemory end at read on h = tt
 pub stopped_stands : {A : Type 0} {w : Input} (allowed : ReadErrorCode → Bool) (read : Limits → List ℕ → Reads A) (s : Input) (kept : ReadError) (r : Refused) (e : Error) (cases : Limits → List ℕ → Cases)
     → ((l : Limits) (bs : List ℕ) (at : ℕ) → FailsAs wrong_struct_format l.total at (read l bs) → (cases l bs).wrong_struct at) → IsErrorOf kept r e → Stopped allowed read s w kept r → HasCase s e cases
 stopped_stands allowed read s kept r e cases on made h = record {
-  told = λ bs tells.
-      of_fault (Reports allowed) (cases (limits s bs) bs) (code_of e) (s.offset + length bs) (offset_of e) (read (limits s bs) bs) (on (limits s bs) bs (offset_of e)) (told_by allowed read s kept r e made h bs tells);
+  reported = λ bs reports.
+      of_fault (ReportsIo allowed) (cases (limits s bs) bs) (code_of e) (s.offset + length bs) (offset_of e) (read (limits s bs) bs) (on (limits s bs) bs (offset_of e)) (reported_by allowed read s kept r e made h bs reports);
 }
 
 -- one case for another
@@ -116,26 +116,26 @@ pub record Carries (P : Limits → List ℕ → List ℕ → Type 0) (c d : Limi
 
 pub stands_then : (s t : Input) (e : Error) (P : Limits → List ℕ → List ℕ → Type 0) (c d : Limits → List ℕ → Cases) → Carries P c d → Step s t P → HasCase t e c → HasCase s e d
 stands_then s t e P c d on step h = record {
-  told = λ bs tells.
-      let one = step.told bs tells in
+  reported = λ bs reports.
+      let one = step.reported bs reports in
       let same : limits t one.rest ≡ limits s bs = ap₂ (λ (n : ℕ) (r : Option ℕ). record { total = n; room = r }) one.total step.took.room in
       let l = limits s bs in
-      let there = subst (λ (l : Limits). CaseHolds (c l one.rest) (code_of e) (offset_of e)) same (h.told one.rest one.tells) in
+      let there = subst (λ (l : Limits). CaseHolds (c l one.rest) (code_of e) (offset_of e)) same (h.reported one.rest one.reports) in
       code_stands (c l one.rest) (d l bs) (code_of e) (offset_of e)
       (on.short l bs one.rest (offset_of e) one.holds) (on.long l bs one.rest (offset_of e) one.holds) (on.enum l bs one.rest (offset_of e) one.holds) (on.key l bs one.rest (offset_of e) one.holds) there;
 }
 
 -- ---- calls
 
-pub others_stand : {X : Type 0} (s : Input) (cases : Limits → List ℕ → Cases) (r : Result X Error) → IfErr r (λ e. TellsNoForm (code_of e)) → IfErr r (λ e. HasCase s e cases)
+pub others_stand : {X : Type 0} (s : Input) (cases : Limits → List ℕ → Cases) (r : Result X Error) → IfErr r (λ e. ReportsNoForm (code_of e)) → IfErr r (λ e. HasCase s e cases)
 others_stand s cases (Ok x) h = tt
 others_stand s cases (Err e) h = other_stands s e cases h
 
 -- an enum's form is that of an enum within no tag
 form_stands : (f : Formats) (levels : ℕ) (s : Input) (e : Error) → HasCase s e (form_cases f) → HasCase s e (untagged_cases f levels)
 form_stands f levels s e h = record {
-  told = λ bs tells.
-      code_stands (form_cases f (limits s bs) bs) (untagged_cases f levels (limits s bs) bs) (code_of e) (offset_of e) (λ h. absurd h) (λ h. h) (λ h. h) (λ h. absurd h) (h.told bs tells);
+  reported = λ bs reports.
+      code_stands (form_cases f (limits s bs) bs) (untagged_cases f levels (limits s bs) bs) (code_of e) (offset_of e) (λ h. absurd h) (λ h. h) (λ h. h) (λ h. absurd h) (h.reported bs reports);
 }
 
 pub forms_stand : {X : Type 0} (f : Formats) (levels : ℕ) (s : Input) (r : Result X Error) → IfErr r (λ e. HasCase s e (form_cases f)) → IfErr r (λ e. HasCase s e (untagged_cases f levels))
@@ -166,14 +166,14 @@ tagged_stand f g levels left s a (Err e) formats step h =
     }) step (subst (λ (k : Formats). HasCase a e (untagged_cases k left)) formats h)
 
 -- no first item comes of an array
-pub empty_stands : (f : Formats) (levels left : ℕ) (remaining : Remaining) (s a : Input) (e : Error) → Step s a (λ l bs rest. Begins Array levels left remaining bs rest) → TellsNoForm (code_of e) ⊎ NoItemHere code.ArrayTooShort remaining a e → HasCase s e (untagged_cases f levels)
+pub empty_stands : (f : Formats) (levels left : ℕ) (remaining : Remaining) (s a : Input) (e : Error) → Step s a (λ l bs rest. Begins Array levels left remaining bs rest) → ReportsNoForm (code_of e) ⊎ NoItemHere code.ArrayTooShort remaining a e → HasCase s e (untagged_cases f levels)
 empty_stands f levels left remaining s a e step (inl other) = other_stands s e (untagged_cases f levels) other
 empty_stands f levels left remaining s a e step (inr none) = record {
-  told = λ bs tells.
-      let one = step.told bs tells in
+  reported = λ bs reports.
+      let one = step.reported bs reports in
       let place : offset_of e + length one.rest ≡ s.offset + length bs = omega (arith, none.place, one.total) in
       subst (λ (k : ErrorCode). CaseHolds (untagged_cases f levels (limits s bs) bs) k (offset_of e)) (sym none.code)
-      (record { left = left; remaining = remaining; rest = one.rest; head = one.holds; place = place; none = none.told one.rest one.tells });
+      (record { left = left; remaining = remaining; rest = one.rest; head = one.holds; place = place; none = none.reported one.rest one.reports });
 }
 
 -- the key of a map of one pair may not begin as it does
@@ -181,24 +181,24 @@ pub pair_stands : {w : Input} (allowed : ReadErrorCode → Bool) (f : Formats) (
 pair_stands allowed f levels s kept r e made h = stopped_stands allowed (λ l. pair_head_at f levels) s kept r e (untagged_cases f levels) (λ l bs at h. h) made h
 
 -- an array ends where an item was wanted
-pub full_stands : (remaining : Remaining) (s : Input) (e : Error) → TellsNoForm (code_of e) ⊎ NoItemHere code.ArrayTooLong remaining s e → HasCase s e (unit_cases (form.Array remaining))
+pub full_stands : (remaining : Remaining) (s : Input) (e : Error) → ReportsNoForm (code_of e) ⊎ NoItemHere code.ArrayTooLong remaining s e → HasCase s e (unit_cases (form.Array remaining))
 full_stands remaining s e (inl other) = other_stands s e (unit_cases (form.Array remaining)) other
 full_stands remaining s e (inr none) = record {
-  told = λ bs tells.
+  reported = λ bs reports.
       let place : offset_of e + length bs ≡ s.offset + length bs = omega (arith, none.place) in
-      subst (λ (k : ErrorCode). CaseHolds (unit_cases (form.Array remaining) (limits s bs) bs) k (offset_of e)) (sym none.code) (place, none.told bs tells);
+      subst (λ (k : ErrorCode). CaseHolds (unit_cases (form.Array remaining) (limits s bs) bs) k (offset_of e)) (sym none.code) (place, none.reported bs reports);
 }
 
--- why it couldn't be told whether an item comes
-pub coming_fault : (allowed : ReadErrorCode → Bool) (remaining behind : Remaining) (s t : Input) (kept : ReadError) (r : Refused) (e : Error) → IsErrorOf kept r e → TakesComing allowed remaining behind s t kept (Err r) → TellsFault allowed (λ l. next_at end_in_array (remaining_of remaining)) s e
-coming_fault allowed remaining behind s t kept r e made h = told_by allowed (λ l. next_at end_in_array (remaining_of remaining)) s kept r e made h
+-- why it couldn't be known whether an item comes
+pub coming_fault : (allowed : ReadErrorCode → Bool) (remaining behind : Remaining) (s t : Input) (kept : ReadError) (r : Refused) (e : Error) → IsErrorOf kept r e → TakesComing allowed remaining behind s t kept (Err r) → ReportsFault allowed (λ l. next_at end_in_array (remaining_of remaining)) s e
+coming_fault allowed remaining behind s t kept r e made h = reported_by allowed (λ l. next_at end_in_array (remaining_of remaining)) s kept r e made h
 
--- where no item comes, either that is told or the error is excused
+-- where no item comes, either that is reported or the error is excused
 pub too_short_first : (allowed : ReadErrorCode → Bool) (remaining : Remaining) (s : Input) (e : Error)
-    → TellsFault allowed (λ l. next_at end_in_array (remaining_of remaining)) s e ⊎ NoItemHere code.ArrayTooShort remaining s e → TellsTooShort allowed (form.Array remaining) s e
-too_short_first allowed remaining s e (inr none) = λ bs tells no. inr (none.code, none.place)
-too_short_first allowed remaining s e (inl fault) = λ bs tells no.
-    elim (excused_or (Reports allowed) (code_of e) (s.offset + length bs) (offset_of e) (next_at end_in_array (remaining_of remaining) bs) (fault bs tells)) [
+    → ReportsFault allowed (λ l. next_at end_in_array (remaining_of remaining)) s e ⊎ NoItemHere code.ArrayTooShort remaining s e → ReportsTooShort allowed (form.Array remaining) s e
+too_short_first allowed remaining s e (inr none) = λ bs reports no. inr (none.code, none.place)
+too_short_first allowed remaining s e (inl fault) = λ bs reports no.
+    elim (excused_or (ReportsIo allowed) (code_of e) (s.offset + length bs) (offset_of e) (next_at end_in_array (remaining_of remaining) bs) (fault bs reports)) [
       | inl excused ↦ inl excused
       | inr failed ↦ absurd (not_both no.0 failed.0 (sym no.1 ∙ failed.1))
     ]
@@ -207,20 +207,20 @@ too_short_first allowed remaining s e (inl fault) = λ bs tells no.
     not_both after f e = absurd cc
 
 -- an item did come
-pub too_short_later : (allowed : ReadErrorCode → Bool) (remaining behind : Remaining) (s a : Input) (e : Error) → Step s a (λ l bs rest. next_at end_in_array (remaining_of remaining) bs ≡ Ok (Some (remaining_of behind), rest)) → TellsTooShort allowed (form.Array remaining) s e
-too_short_later allowed remaining behind s a e step = λ bs tells no.
-    let one = step.told bs tells in
+pub too_short_later : (allowed : ReadErrorCode → Bool) (remaining behind : Remaining) (s a : Input) (e : Error) → Step s a (λ l bs rest. next_at end_in_array (remaining_of remaining) bs ≡ Ok (Some (remaining_of behind), rest)) → ReportsTooShort allowed (form.Array remaining) s e
+too_short_later allowed remaining behind s a e step = λ bs reports no.
+    let one = step.reported bs reports in
     absurd (none_some (ap (λ (p : Option reader.Remaining × List ℕ). p.0) (ok_is (None, no.0) (Some (remaining_of behind), one.rest) (sym no.1 ∙ one.holds))))
   where
     none_some : ◌≡◌ {A = Option reader.Remaining} None (Some (remaining_of behind)) → ⊥
     none_some e = absurd cc
 
 -- the error of a step that no key stopped
-pub no_form : (kept : ReadError) (r : Refused) (e : Error) → TellsNoKey kept r → IsErrorOf kept r e → TellsNoForm (code_of e)
-no_form kept refused.OutOfMemory e other made = subst TellsNoForm (sym made.0) tt
-no_form kept refused.Kept e other made = subst TellsNoForm (sym made.0) (of_kept (why kept) other)
+pub no_form : (kept : ReadError) (r : Refused) (e : Error) → ReportsNoKey kept r → IsErrorOf kept r e → ReportsNoForm (code_of e)
+no_form kept refused.OutOfMemory e other made = subst ReportsNoForm (sym made.0) tt
+no_form kept refused.Kept e other made = subst ReportsNoForm (sym made.0) (of_kept (why kept) other)
   where
-    of_kept : (k : ReadErrorCode) → k ≢ reading.WrongStructFormat → TellsNoForm (error_code k)
+    of_kept : (k : ReadErrorCode) → k ≢ reading.WrongStructFormat → ReportsNoForm (error_code k)
     of_kept reading.WrongStructFormat other = absurd (other refl)
     of_kept (reading.Io fault) other = tt
     of_kept reading.ScratchTooSmall other = tt
@@ -235,7 +235,7 @@ no_form kept refused.Kept e other made = subst TellsNoForm (sym made.0) (of_kept
     of_kept reading.RecursionLimitExceeded other = tt
     of_kept reading.OutOfMemory other = tt
 
-pub made_stands : (s : Input) (cases : Limits → List ℕ → Cases) (kept : ReadError) (r : Refused) → TellsNoKey kept r → (e : Error) → IsErrorOf kept r e → HasCase s e cases
+pub made_stands : (s : Input) (cases : Limits → List ℕ → Cases) (kept : ReadError) (r : Refused) → ReportsNoKey kept r → (e : Error) → IsErrorOf kept r e → HasCase s e cases
 made_stands s cases kept r other e made = other_stands s e cases (no_form kept r e other made)
 
 -- the error of what named nothing, where no key stopped it
@@ -243,7 +243,7 @@ pub unnamed_stands : (s : Input) (cases : Limits → List ℕ → Cases) (kept :
 unnamed_stands s cases kept (unnamed.Refused r) other e made = made_stands s cases kept r other e made
 unnamed_stands s cases kept unnamed.Other other e made = other_stands s e cases (of_message (code_of e) made.0)
   where
-    of_message : (k : ErrorCode) → IsMessageOf None k → TellsNoForm k
+    of_message : (k : ErrorCode) → IsMessageOf None k → ReportsNoForm k
     of_message (code.Message text) h = tt
     of_message code.OutOfMemory h = tt
     of_message (code.Io fault) h = absurd h

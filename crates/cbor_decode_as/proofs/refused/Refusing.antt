@@ -9,10 +9,10 @@ use Rattle.cbor_io.specs.declared.error.ErrorCode.TheVariants as code
 use Rattle.cbor_io.specs.declared.read_error.ReadError.{ReadError}
 use Rattle.cbor_io.specs.declared.read_error.ReadErrorCode.{ReadErrorCode}
 use Rattle.cbor_decode.specs.declared.refusal.Refused.{Refused}
-use Rattle.cbor_decode.specs.Gives.{Limits, limits, Step, Stopped, Reports, IsErrorOf}
-use Rattle.cbor_decode_as.specs.Takes.{ExcusedBy, Refuses, TellsFault}
+use Rattle.cbor_decode.specs.Gives.{Limits, limits, Step, Stopped, ReportsIo, IsErrorOf}
+use Rattle.cbor_decode_as.specs.Takes.{ExcusedBy, Refuses, ReportsFault}
 use Rattle.cbor_decode.proofs.facts.Steps.{some_then}
-use Rattle.cbor_decode_as.proofs.numbers.Scalars.{excused_or, told_by}
+use Rattle.cbor_decode_as.proofs.numbers.Scalars.{excused_or, reported_by}
 
 -- ---- refusals
 
@@ -21,7 +21,7 @@ module _ (allowed : ReadErrorCode → Bool) (s : Input) (k : ErrorCode) (at : �
   pub refuses_map : {w : Input} (N N' : Limits → List ℕ → Type 0) → ((l : Limits) (bs : List ℕ) → N l bs → N' l bs) → Refuses allowed s w k at N → Refuses allowed s w k at N'
   refuses_map N N' on h = record {
     took = h.took;
-    told = λ bs tells. elim (h.told bs tells) [
+    reported = λ bs reports. elim (h.reported bs reports) [
       | inl e ↦ inl e
       | inr n ↦ inr (on (limits s bs) bs n)
     ];
@@ -29,34 +29,34 @@ module _ (allowed : ReadErrorCode → Bool) (s : Input) (k : ErrorCode) (at : �
 
   -- whatever N is, where an allocation failed
   pub refuses_memory : {t : Input} (N : Limits → List ℕ → Type 0) → k ≡ code.OutOfMemory → at ≡ 0 → TookSome s t → Refuses allowed s t k at N
-  refuses_memory N is none took = record { took = took; told = λ bs tells. inl (subst (λ (c : ErrorCode). ExcusedBy (Reports allowed) c at) (sym is) none) }
+  refuses_memory N is none took = record { took = took; reported = λ bs reports. inl (subst (λ (c : ErrorCode). ExcusedBy (ReportsIo allowed) c at) (sym is) none) }
 
   -- after a step
   pub refuses_then : {w : Input} (t : Input) (P : Limits → List ℕ → List ℕ → Type 0) (N N' : Limits → List ℕ → Type 0) → ((l : Limits) (bs mid : List ℕ) → P l bs mid → N l mid → N' l bs) → Step s t P → Refuses allowed t w k at N → Refuses allowed s w k at N'
   refuses_then {w = w} t P N N' on step h = record {
     took = some_then s t w step.took h.took;
-    told = λ bs tells.
-        let one = step.told bs tells in
+    reported = λ bs reports.
+        let one = step.reported bs reports in
         let same : limits t one.rest ≡ limits s bs = ap₂ (λ (n : ℕ) (r : Option ℕ). record { total = n; room = r }) one.total step.took.room in
-        elim (h.told one.rest one.tells) [
+        elim (h.reported one.rest one.reports) [
           | inl e ↦ inl e
           | inr n ↦ inr (on (limits s bs) bs one.rest one.holds (subst (λ (l : Limits). N l one.rest) same n))
         ];
   }
 
-  -- N is said of what a step tells
+  -- N is said of what a step reports
   pub refuses_by : (t : Input) (P : Limits → List ℕ → List ℕ → Type 0) (N : Limits → List ℕ → Type 0) → ((l : Limits) (bs rest : List ℕ) → P l bs rest → N l bs) → Step s t P → Refuses allowed s t k at N
-  refuses_by t P N on step = record { took = step.took; told = λ bs tells. inr (on (limits s bs) bs (step.told bs tells).rest (step.told bs tells).holds) }
+  refuses_by t P N on step = record { took = step.took; reported = λ bs reports. inr (on (limits s bs) bs (step.reported bs reports).rest (step.reported bs reports).holds) }
 
--- ---- errors that tell a fault
+-- ---- errors that report a fault
 
 -- what a fault stops can't be read
 pub refuses_fault : {A : Type 0} {t : Input} (allowed : ReadErrorCode → Bool) (read : Limits → List ℕ → Reads A) (s : Input) (e : Error) (N : Limits → List ℕ → Type 0)
     → ((l : Limits) (bs : List ℕ) (f : Fault) → read l bs ≡ Err f → N l bs)
-    → TookSome s t → TellsFault allowed read s e → Refuses allowed s t (code_of e) (offset_of e) N
+    → TookSome s t → ReportsFault allowed read s e → Refuses allowed s t (code_of e) (offset_of e) N
 refuses_fault allowed read s e N on took fails = record {
   took = took;
-  told = λ bs tells. elim (excused_or (Reports allowed) (code_of e) (s.offset + length bs) (offset_of e) (read (limits s bs) bs) (fails bs tells)) [
+  reported = λ bs reports. elim (excused_or (ReportsIo allowed) (code_of e) (s.offset + length bs) (offset_of e) (read (limits s bs) bs) (fails bs reports)) [
     | inl x ↦ inl x
     | inr h ↦ inr (on (limits s bs) bs h.0 h.1)
   ];
@@ -64,4 +64,4 @@ refuses_fault allowed read s e N on took fails = record {
 
 pub refuses_stopped : {A : Type 0} {w : Input} (allowed : ReadErrorCode → Bool) (read : Limits → List ℕ → Reads A) (s : Input) (kept : ReadError) (r : Refused) (e : Error) (N : Limits → List ℕ → Type 0)
     → ((l : Limits) (bs : List ℕ) (f : Fault) → read l bs ≡ Err f → N l bs) → IsErrorOf kept r e → Stopped allowed read s w kept r → Refuses allowed s w (code_of e) (offset_of e) N
-refuses_stopped allowed read s kept r e N on is h = refuses_fault allowed read s e N on h.took (told_by allowed read s kept r e is h)
+refuses_stopped allowed read s kept r e N on is h = refuses_fault allowed read s e N on h.took (reported_by allowed read s kept r e is h)

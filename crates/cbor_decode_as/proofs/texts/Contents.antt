@@ -19,7 +19,7 @@ use Rattle.cbor_io.specs.declared.error.ErrorCode.{ErrorCode}
 use Rattle.cbor_io.specs.declared.read_error.ReadError.{ReadError}
 use Rattle.cbor_io.specs.declared.read_error.ReadErrorCode.{ReadErrorCode}
 use Rattle.cbor_io.specs.declared.error.ErrorCode.TheVariants.{InvalidUtf8}
-use Rattle.cbor_decode.specs.Gives.{Limits, limits, Step, Stopped, IsErrorOf, Reports, Tells}
+use Rattle.cbor_decode.specs.Gives.{Limits, limits, Step, Stopped, IsErrorOf, ReportsIo, Reports}
 use Rattle.cbor_decode.specs.Heads.{behind_head, joined_of}
 use Rattle.cbor_decode.specs.declared.head.Head.{Head}
 use Rattle.cbor_decode.specs.declared.head.Head.TheVariants as head
@@ -202,7 +202,7 @@ module _ (f : Formats) (l : Limits) (inner : Option (List ℕ → Reads Raw)) (w
 
 -- what is known to be no such item
 pub step_refuses : (allowed : ReadErrorCode → Bool) (s t : Input) (k : ErrorCode) (at : ℕ) (N : Limits → List ℕ → Type 0) → Step s t (λ l bs rest. N l bs) → Refuses allowed s t k at N
-step_refuses allowed s t k at N step = record { took = step.took; told = λ bs tells. inr (step.told bs tells).holds }
+step_refuses allowed s t k at N step = record { took = step.took; reported = λ bs reports. inr (step.reported bs reports).holds }
 
 module _ {A : Type 0} (allowed : ReadErrorCode → Bool) (f : Formats) (reads : Raw → A → Type 0) (levels : ℕ) (s m : Input) (kept : ReadError) (h : Head) (opened : TakesItemHead allowed f levels s m kept (Ok h)) where
   abbrev item : Limits → List ℕ → Reads Raw
@@ -309,9 +309,9 @@ none_at allowed f reads levels s t kept h k at none opened =
     step_refuses allowed s t k at (λ l bs. IsNotRead (PassesTags reads) (item_at (raws f l) levels bs)) (other_step allowed f reads levels s t kept h none opened)
 
 -- What is refused by any code isn't there.
-pub none_there : {N : Limits → List ℕ → Type 0} {t : Input} (allowed : ReadErrorCode → Bool) (s : Input) → ((k : ErrorCode) (at : ℕ) → Refuses allowed s t k at N) → (bs : List ℕ) → Tells s bs → N (limits s bs) bs
-none_there {N} allowed s refused bs tells = unexcused ((refused InvalidUtf8 0).told bs tells)
+pub none_there : {N : Limits → List ℕ → Type 0} {t : Input} (allowed : ReadErrorCode → Bool) (s : Input) → ((k : ErrorCode) (at : ℕ) → Refuses allowed s t k at N) → (bs : List ℕ) → Reports s bs → N (limits s bs) bs
+none_there {N} allowed s refused bs reports = unexcused ((refused InvalidUtf8 0).reported bs reports)
   where
-    unexcused : ExcusedBy (Reports allowed) InvalidUtf8 0 ⊎ N (limits s bs) bs → N (limits s bs) bs
+    unexcused : ExcusedBy (ReportsIo allowed) InvalidUtf8 0 ⊎ N (limits s bs) bs → N (limits s bs) bs
     unexcused (inl e) = absurd e
     unexcused (inr n) = n

@@ -17,7 +17,7 @@ use Rattle.cbor_io.specs.declared.error.Error.{Error}
 use Rattle.cbor_io.specs.declared.error.ErrorCode.{ErrorCode}
 use Rattle.cbor_read.specs.declared.EitherLifetime.{EitherLifetime}
 use Rattle.cbor_io.specs.declared.read_error.ReadErrorCode.{ReadErrorCode}
-use Rattle.cbor_decode.specs.Gives.{Limits, limits, Advances, Step, Reports}
+use Rattle.cbor_decode.specs.Gives.{Limits, limits, Advances, Step, ReportsIo}
 use Rattle.cbor_decode.specs.declared.head.Head.{Head}
 use Rattle.cbor_decode.specs.declared.head.Head.TheVariants as head
 use Rattle.cbor_decode.proofs.facts.Steps.{advances_some, step_map, step_then, taken_step, none_step}
@@ -57,9 +57,9 @@ text_step s t n p room len took =
     let step = read_step s t n p len took in
     record {
       took = step.took;
-      told = λ bs tells.
-          let one = step.told bs tells in
-          record { rest = one.rest; tells = one.tells; total = one.total; holds = rw (ends_at s bs n room) one.holds };
+      reported = λ bs reports.
+          let one = step.reported bs reports in
+          record { rest = one.rest; reports = one.reports; total = one.total; holds = rw (ends_at s bs n room) one.holds };
     }
 
 -- n bytes at hand, which were taken
@@ -231,14 +231,14 @@ module _ {A B : Type 0} (allowed : ReadErrorCode → Bool) (reads : Raw → A �
 pub made_refuses : {t : Input} (allowed : ReadErrorCode → Bool) (s : Input) (N N' : Limits → List ℕ → Type 0) (u : Unread) (e : Error) → ((l : Limits) (bs : List ℕ) → N l bs → N' l bs) → IsMadeOf u e → Lacks allowed s t N u → Refuses allowed s t (code_of e) (offset_of e) N'
 made_refuses allowed s N N' (Stopped q) e on made h = record {
   took = h.took;
-  told = λ bs tells. elim (h.told bs tells) [
-    | inl excused ↦ inl (subst (λ (at : ℕ). ExcusedBy (Reports allowed) (code_of e) at) (sym made.1) (subst (λ (k : ErrorCode). ExcusedBy (Reports allowed) k (place q)) (sym made.0) excused))
+  reported = λ bs reports. elim (h.reported bs reports) [
+    | inl excused ↦ inl (subst (λ (at : ℕ). ExcusedBy (ReportsIo allowed) (code_of e) at) (sym made.1) (subst (λ (k : ErrorCode). ExcusedBy (ReportsIo allowed) k (place q)) (sym made.0) excused))
     | inr none ↦ inr (on (limits s bs) bs none)
   ];
 }
 made_refuses allowed s N N' Other e on made h = record {
   took = (h (code_of e) (offset_of e)).took;
-  told = λ bs tells. elim ((h (code_of e) (offset_of e)).told bs tells) [
+  reported = λ bs reports. elim ((h (code_of e) (offset_of e)).reported bs reports) [
     | inl excused ↦ inl excused
     | inr none ↦ inr (on (limits s bs) bs none)
   ];

@@ -16,7 +16,7 @@ use Rattle.cbor_io.specs.declared.error.ErrorCode.TheVariants as code
 use Rattle.cbor_io.specs.declared.read_error.ReadError.{ReadError}
 use Rattle.cbor_io.specs.declared.read_error.ReadErrorCode.{ReadErrorCode}
 use Rattle.cbor_io.specs.declared.read_error.ReadErrorCode.TheVariants as reading
-use Rattle.cbor_decode.specs.Gives.{IsErrorOf, Limits, limits, Step, TellsNoMemory}
+use Rattle.cbor_decode.specs.Gives.{IsErrorOf, Limits, limits, Step, ReportsNoMemory}
 use Rattle.cbor_decode.specs.HasChunks.{AsksWhere, HasChunks}
 use Rattle.cbor_decode.specs.Heads.{behind_head}
 use Rattle.cbor_decode.specs.Memory.{MemoryOnly}
@@ -44,7 +44,7 @@ kept_only P kept refused.OutOfMemory e is h = λ why_is. h
 kept_only P kept refused.Kept e is h = λ why_is. h (ap why (sym is) ∙ why_is)
 
 -- one that isn't for lack of memory
-pub kept_none : (P : Type 0) (kept : ReadError) (r : Refused) (e : ReadError) → IsKept kept r e → TellsNoMemory kept r → UnreadOnly P (Stopped e)
+pub kept_none : (P : Type 0) (kept : ReadError) (r : Refused) (e : ReadError) → IsKept kept r e → ReportsNoMemory kept r → UnreadOnly P (Stopped e)
 kept_none P kept refused.OutOfMemory e is h = absurd h
 kept_none P kept refused.Kept e is h = λ why_is. absurd (h (ap why (sym is) ∙ why_is))
 
@@ -139,10 +139,10 @@ module _ (allowed : ReadErrorCode → Bool) (a : Asks) (f : Formats) (levels : �
   -- the item after a head
   of_head : (h : Head) → ((l : Limits) (inner : Option (List ℕ → Reads Raw)) (w : HeadWidth) (bs : List ℕ) → AskAs a f l inner w bs h)
       → TakesItemHead allowed f levels s m kept (Ok h) → asks_head a h ≡ true → OfItem Asked f levels s
-  of_head h all (left, step) asks bs tells r rest is =
+  of_head h all (left, step) asks bs reports r rest is =
       let l = limits s bs in
-      let o = (step.told bs tells).holds in
-      let mid = (step.told bs tells).rest in
+      let o = (step.reported bs reports).holds in
+      let mid = (step.reported bs reports).rest in
       let item = within_tags o.tags (behind_head (raws f l) (inside (raws f l) left) o.width h mid) r rest (sym o.is ∙ is) in
       let same : untagged r ≡ untagged item.item = ap untagged item.wrapped ∙ untagged-tagged o.tags item.item in
       ap (asks_string a) same ∙ all l (inside (raws f l) left) o.width mid item.item rest item.is ∙ asks
@@ -151,7 +151,7 @@ module _ (allowed : ReadErrorCode → Bool) (a : Asks) (f : Formats) (levels : �
   joined_behind : (h : Head) → found.head ≡ h → a.joined ≡ true → ((l : Limits) (inner : Option (List ℕ → Reads Raw)) (w : HeadWidth) (bs : List ℕ) → Always HasChunks (behind_head (raws all_formats l) inner w h bs)) → AsksBehind a found m
   joined_behind h is asks all = inr (
     asks,
-    λ w bs tells r rest read.
+    λ w bs reports r rest read.
         let l = limits m bs in
         let inner = inside (raws all_formats l) found.levels in
         all l inner w bs r rest (subst (λ (h : Head). behind_head (raws all_formats l) inner w h bs ≡ Ok (r, rest)) is read),
@@ -170,27 +170,27 @@ module _ (allowed : ReadErrorCode → Bool) (a : Asks) (f : Formats) (levels : �
 
   pub of_text : {X : Type 0} (n : Option ℕ) (r : Result X Unread) → found.head ≡ head.Text n → TakesItemHead allowed f levels s m kept (Ok (head.Text n)) → IfErr r (UnreadOnly (asks_head a (head.Text n) ≡ true)) → IfErr r (UnreadOnly (AsksToLend AsksForString a f levels s))
   of_text n r is opened h = unread_err (asks_head a (head.Text n) ≡ true) (AsksToLend AsksForString a f levels s) r
-      (λ asks. (λ bs tells i rest read b string. of_head (head.Text n) (λ l inner w bs. text_asks a f l inner w bs n) opened asks bs tells i rest read, passed (text_behind n is asks))) h
+      (λ asks. (λ bs reports i rest read b string. of_head (head.Text n) (λ l inner w bs. text_asks a f l inner w bs n) opened asks bs reports i rest read, passed (text_behind n is asks))) h
 
   of_bytes_head : (n : Option ℕ) → TakesItemHead allowed f levels s m kept (Ok (head.Bytes n)) → asks_head a (head.Bytes n) ≡ true → OfItem Asked f levels s
   of_bytes_head n = of_head (head.Bytes n) (λ l inner w bs. bytes_ask a f l inner w bs n)
 
   pub of_bytes : {X : Type 0} (n : Option ℕ) (r : Result X Unread) → found.head ≡ head.Bytes n → TakesItemHead allowed f levels s m kept (Ok (head.Bytes n)) → IfErr r (UnreadOnly (asks_head a (head.Bytes n) ≡ true)) → IfErr r (UnreadOnly (AsksToLend AsksForString a f levels s))
   of_bytes n r is opened h = unread_err (asks_head a (head.Bytes n) ≡ true) (AsksToLend AsksForString a f levels s) r
-      (λ asks. (λ bs tells i rest read b string. of_bytes_head n opened asks bs tells i rest read, passed (bytes_behind n is asks))) h
+      (λ asks. (λ bs reports i rest read b string. of_bytes_head n opened asks bs reports i rest read, passed (bytes_behind n is asks))) h
 
   pub of_byte_string : {X : Type 0} (n : Option ℕ) (r : Result X Unread) → found.head ≡ head.Bytes n → TakesItemHead allowed f levels s m kept (Ok (head.Bytes n)) → IfErr r (UnreadOnly (asks_head a (head.Bytes n) ≡ true)) → IfErr r (UnreadOnly (AsksToLend AsksForBytes a f levels s))
   of_byte_string n r is opened h = unread_err (asks_head a (head.Bytes n) ≡ true) (AsksToLend AsksForBytes a f levels s) r
-      (λ asks. (λ bs tells i rest read b string. of_bytes_head n opened asks bs tells i rest read, passed (bytes_behind n is asks))) h
+      (λ asks. (λ bs reports i rest read b string. of_bytes_head n opened asks bs reports i rest read, passed (bytes_behind n is asks))) h
 
   -- an item of another kind is no string, and is passed over
   pub of_other : (u : Unread) → ((n : Option ℕ) → found.head ≡ head.Text n → ⊥) → ((n : Option ℕ) → found.head ≡ head.Bytes n → ⊥) → TakesItemHead allowed f levels s m kept (Ok found.head) → UnreadOnly (AsksBehind a found m) u → UnreadOnly (AsksToLend AsksForString a f levels s) u
   of_other u text bytes opened = unread_on (AsksBehind a found m) (AsksToLend AsksForString a f levels s) u
-      (λ asks. (λ bs tells r rest is b string. absurd (scalar_unread allowed f IsString levels s m kept found.head (λ r b means tag is. not_string found.head text bytes r b means tag is) opened bs tells b rest (record { item = r; is = is; means = string })), passed asks))
+      (λ asks. (λ bs reports r rest is b string. absurd (scalar_unread allowed f IsString levels s m kept found.head (λ r b means tag is. not_string found.head text bytes r b means tag is) opened bs reports b rest (record { item = r; is = is; means = string })), passed asks))
 
   pub of_no_bytes : (u : Unread) → ((n : Option ℕ) → found.head ≡ head.Bytes n → ⊥) → TakesItemHead allowed f levels s m kept (Ok found.head) → UnreadOnly (AsksBehind a found m) u → UnreadOnly (AsksToLend AsksForBytes a f levels s) u
   of_no_bytes u bytes opened = unread_on (AsksBehind a found m) (AsksToLend AsksForBytes a f levels s) u
-      (λ asks. (λ bs tells r rest is b string. absurd (scalar_unread allowed f IsByteString levels s m kept found.head (λ r b means tag is. not_bytes found.head bytes r b means tag is) opened bs tells b rest (record { item = r; is = is; means = string })), passed asks))
+      (λ asks. (λ bs reports r rest is b string. absurd (scalar_unread allowed f IsByteString levels s m kept found.head (λ r b means tag is. not_bytes found.head bytes r b means tag is) opened bs reports b rest (record { item = r; is = is; means = string })), passed asks))
 
 -- ---- types
 
@@ -218,10 +218,10 @@ error_only P kept refused.Kept e made h is = h (memory_code (why kept) (sym made
 pub made_memory : {A B : Type 0} (allowed : ReadErrorCode → Bool) (f : Formats) (reads : Raw → A → Type 0) (other : Raw → B → Type 0) (view : A → B) (levels : ℕ) (s t : Input) (asks : Asks → Raw → Type 0) (a : Asks) (asked : Raw → Type 0) (u : Unread) (e : Error)
     → ((r : Raw) (x : A) → reads r x → other r (view x)) → ((r : Raw) (x : A) → PassesTags reads r x → asks a r → asked r) → IsMadeOf u e → UnreadOnly (AsksToLend asks a f levels s) u
     → Lacks allowed s t (λ l bs. IsNotRead (PassesTags other) (item_at (raws f l) levels bs)) u → MemoryFor asked f (PassesTags reads) levels s e
-made_memory allowed f reads other view levels s t asks a asked (Stopped q) e on more made h lacks is bs tells x rest got =
-    more got.item x got.means ((h (memory_code (why q) (sym made.0 ∙ is))).0 bs tells got.item rest got.is)
-made_memory allowed f reads other view levels s t asks a asked Other e on more made h lacks is bs tells x rest got =
-    absurd (none_there allowed s lacks bs tells (view x) rest (record { item = got.item; is = got.is; means = on (untagged got.item) x got.means }))
+made_memory allowed f reads other view levels s t asks a asked (Stopped q) e on more made h lacks is bs reports x rest got =
+    more got.item x got.means ((h (memory_code (why q) (sym made.0 ∙ is))).0 bs reports got.item rest got.is)
+made_memory allowed f reads other view levels s t asks a asked Other e on more made h lacks is bs reports x rest got =
+    absurd (none_there allowed s lacks bs reports (view x) rest (record { item = got.item; is = got.is; means = on (untagged got.item) x got.means }))
 
 -- no memory is asked for what is lent for the input's life
 asked_or_lent : (m b : Bool) → b ≡ true → asks_part m b ≡ true → ⊥

@@ -13,13 +13,13 @@ use Rattle.cbor_io.specs.declared.error.ErrorCode.{ErrorCode}
 use Rattle.cbor_io.specs.declared.read_error.ReadError.{ReadError}
 use Rattle.cbor_io.specs.declared.read_error.ReadErrorCode.{ReadErrorCode}
 use Rattle.cbor_io.specs.declared.read_error.ReadErrorCode.TheVariants as reading
-use Rattle.cbor_decode.specs.Gives.{FailsBy, IsAt, Limits, limits, Reports, Step, TellsWhy, Stops, TellsNoKey}
+use Rattle.cbor_decode.specs.Gives.{FailsBy, IsAt, Limits, limits, ReportsIo, Step, ReportsWhy, Stops, ReportsNoKey}
 use Rattle.cbor_decode.specs.Heads.{passed}
 use Rattle.cbor_decode.specs.declared.head.Head.{Head}
 use Rattle.cbor_decode.specs.declared.head.Head.TheVariants as head
 use Rattle.cbor_decode.specs.declared.refusal.Refused.{Refused}
 use Rattle.cbor_decode.specs.declared.refusal.Refused.TheVariants as refused
-use Rattle.cbor_decode.proofs.facts.Steps.{kept_tells, passed_on, refused_stops}
+use Rattle.cbor_decode.proofs.facts.Steps.{kept_reports, passed_on, refused_stops}
 use Rattle.cbor_decode_as.specs.TaggedHeads.{opened_at, behind_any}
 use Rattle.cbor_decode_as.specs.Strings.{BytesOf, IsKept, IsNoKey, IsMadeOf, Lent, LentText, LendsWhole, PartText, UnreadBehind, UnreadBy, UnreadWhole, Utf8Of, behind_string, content_at, text_bytes}
 use Rattle.cbor_decode_as.specs.Takes.{Refuses, RefusesWhole, any_item}
@@ -27,7 +27,7 @@ use Rattle.cbor_decode_as.specs.declared.borrowed.EitherStr.{EitherStr}
 use Rattle.cbor_decode_as.specs.declared.borrowed.Unread.{Unread}
 use Rattle.cbor_decode_as.specs.declared.borrowed.Unread.TheVariants.{Stopped as Halted, Other}
 use Rattle.cbor_decode_as.specs.declared.head.HeadAt.{HeadAt}
-use Rattle.cbor_decode_as.proofs.heads.PassedOver.{behind_stops, stands_whole, stood_stands, told_or_excused, unopened_stops}
+use Rattle.cbor_decode_as.proofs.heads.PassedOver.{behind_stops, stands_whole, stood_stands, reported_or_excused, unopened_stops}
 use Rattle.cbor_decode_as.proofs.texts.PassedStrings.{bad_fails, bytes_stand, bytes_stop_item, bytes_unread, text_stands, text_stops, text_unread}
 use Rattle.cbor_decode_as.proofs.texts.Lending.{ends_at}
 use Rattle.cbor_decode_as.proofs.numbers.Scalars.{excused_or}
@@ -44,11 +44,11 @@ too_far s bs n h = subst (λ (k : ℕ). ltb (k + n) (2 ^ 64) ≡ false) (omega a
 
 memory_stop : {A : Type 0} (allowed : ReadErrorCode → Bool) (read : Limits → List ℕ → Reads A) (s : Input) (q : ReadError) → IsMemory q → Stops allowed read s q
 memory_stop allowed read s q is = record {
-  told = λ bs tells. subst (λ (k : ReadErrorCode). FailsBy (Reports allowed) (error_code k) (s.offset + length bs) (place q) (read (limits s bs) bs)) (sym is.0) is.1;
+  reported = λ bs reports. subst (λ (k : ReadErrorCode). FailsBy (ReportsIo allowed) (error_code k) (s.offset + length bs) (place q) (read (limits s bs) bs)) (sym is.0) is.1;
 }
 
 -- the refusal that was kept
-pub kept_stop : {A : Type 0} (allowed : ReadErrorCode → Bool) (read : Limits → List ℕ → Reads A) (s : Input) (kept : ReadError) (r : Refused) (q : ReadError) → IsKept kept r q → TellsWhy allowed read s kept r → Stops allowed read s q
+pub kept_stop : {A : Type 0} (allowed : ReadErrorCode → Bool) (read : Limits → List ℕ → Reads A) (s : Input) (kept : ReadError) (r : Refused) (q : ReadError) → IsKept kept r q → ReportsWhy allowed read s kept r → Stops allowed read s q
 kept_stop allowed read s kept refused.OutOfMemory q is h = memory_stop allowed read s q is
 kept_stop allowed read s kept refused.Kept q is h = subst (Stops allowed read s) (sym is) h
 
@@ -59,7 +59,7 @@ kept_is kept refused.Kept q Q keeps h is = subst Q (sym is) h
 pub source_no_key : (q : ReadError) → IsOfSource (why q) → IsNoKey (Halted q)
 source_no_key q kind = λ key. absurd (subst IsOfSource key kind)
 
-pub kept_no_key : (kept : ReadError) (r : Refused) (q : ReadError) → IsKept kept r q → TellsNoKey kept r → IsNoKey (Halted q)
+pub kept_no_key : (kept : ReadError) (r : Refused) (q : ReadError) → IsKept kept r q → ReportsNoKey kept r → IsNoKey (Halted q)
 kept_no_key kept refused.OutOfMemory q is h = λ key. let memory = is.0 in absurd cc
 kept_no_key kept refused.Kept q is h = λ key. h (ap why (sym is) ∙ key)
 
@@ -68,9 +68,9 @@ pub stops_refuses : {A : Type 0} {t : Input} (allowed : ReadErrorCode → Bool) 
     → TookSome s t → Refuses allowed s t (error_code (why q)) (place q) N
 stops_refuses allowed read s q N none h took = record {
   took = took;
-  told = λ bs tells.
+  reported = λ bs reports.
       let l = limits s bs in
-      elim (excused_or (Reports allowed) (error_code (why q)) (s.offset + length bs) (place q) (read l bs) (h.told bs tells)) [
+      elim (excused_or (ReportsIo allowed) (error_code (why q)) (s.offset + length bs) (place q) (read l bs) (h.reported bs reports)) [
         | inl excused ↦ inl excused
         | inr met ↦ inr (none l bs met.0 met.1)
       ];
@@ -96,21 +96,21 @@ pub text_cut : (allowed : ReadErrorCode → Bool) (s t : Input) (n : ℕ) (q : R
 text_cut allowed s t n q room h =
     let bytes = refused_stops allowed s t n q (λ l. bytes_at n) (λ l bs short. cut n bs short) h.1 h.0 in
     record {
-      told = λ bs tells.
+      reported = λ bs reports.
           let same : bytes_at n bs ≡ content_at (limits s bs) (head.Text (Some n)) bs = rw (ends_at s bs n room) refl in
-          subst (λ (r : Reads (List ℕ)). FailsBy (Reports allowed) (error_code (why q)) (s.offset + length bs) (place q) r) same (bytes.told bs tells);
+          subst (λ (r : Reads (List ℕ)). FailsBy (ReportsIo allowed) (error_code (why q)) (s.offset + length bs) (place q) r) same (bytes.reported bs reports);
     }
 
-pub text_too_long : (allowed : ReadErrorCode → Bool) (s : Input) (n : ℕ) (kept : ReadError) (r : Refused) → ltb (s.offset + n) (2 ^ 64) ≡ false → r ≡ refused.Kept → IsAt reading.LengthOutOfRange s.offset kept → TellsWhy allowed (λ l. content_at l (head.Text (Some n))) s kept r
-text_too_long allowed s n kept r room is keeps = kept_tells allowed s (λ l. content_at l (head.Text (Some n))) kept r (IsAt reading.LengthOutOfRange s.offset) here is keeps
+pub text_too_long : (allowed : ReadErrorCode → Bool) (s : Input) (n : ℕ) (kept : ReadError) (r : Refused) → ltb (s.offset + n) (2 ^ 64) ≡ false → r ≡ refused.Kept → IsAt reading.LengthOutOfRange s.offset kept → ReportsWhy allowed (λ l. content_at l (head.Text (Some n))) s kept r
+text_too_long allowed s n kept r room is keeps = kept_reports allowed s (λ l. content_at l (head.Text (Some n))) kept r (IsAt reading.LengthOutOfRange s.offset) here is keeps
   where
     here : (e : ReadError) → IsAt reading.LengthOutOfRange s.offset e → Stops allowed (λ l. content_at l (head.Text (Some n))) s e
     here e at = record {
-      told = λ bs tells.
+      reported = λ bs reports.
           let l = limits s bs in
           let there : place e + length bs ≡ s.offset + length bs = omega (arith, at.1) in
           let long : content_at l (head.Text (Some n)) bs ≡ Err (before length_out_of_range bs) = rw (too_far s bs n room) refl in
-          subst (λ (k : ReadErrorCode). FailsBy (Reports allowed) (error_code k) (s.offset + length bs) (place e) (content_at l (head.Text (Some n)) bs)) (sym at.0) (length bs, there, long);
+          subst (λ (k : ReadErrorCode). FailsBy (ReportsIo allowed) (error_code k) (s.offset + length bs) (place e) (content_at l (head.Text (Some n)) bs)) (sym at.0) (length bs, there, long);
     }
 
 -- a string whose content stops
@@ -123,19 +123,19 @@ text_by allowed s n q h = text_unread allowed s n q refused.Kept h
 -- what stops a reading stops passing over it
 passes_stop : {A : Type 0} (allowed : ReadErrorCode → Bool) (read : Limits → List ℕ → Reads A) (s : Input) (q : ReadError) → Stops allowed read s q → Stops allowed (λ l bs. passed (read l bs)) s q
 passes_stop allowed read s q h = record {
-  told = λ bs tells. passed_on (Reports allowed) (error_code (why q)) (s.offset + length bs) (place q) (read (limits s bs) bs) (passed (read (limits s bs) bs)) (λ f is. rw is refl) (h.told bs tells);
+  reported = λ bs reports. passed_on (ReportsIo allowed) (error_code (why q)) (s.offset + length bs) (place q) (read (limits s bs) bs) (passed (read (limits s bs) bs)) (λ f is. rw is refl) (h.reported bs reports);
 }
 
 -- the text of a part
-pub part_told : (allowed : ReadErrorCode → Bool) (s t : Input) (n : Option ℕ) (p : EitherLifetime) (end : ℕ) (r : Result EitherStr Unread) → Step s t (λ l bs rest. content_at l (head.Text n) bs ≡ Ok (part_bytes p, rest)) → end ≡ t.offset → PartText p end r
+pub part_reported : (allowed : ReadErrorCode → Bool) (s t : Input) (n : Option ℕ) (p : EitherLifetime) (end : ℕ) (r : Result EitherStr Unread) → Step s t (λ l bs rest. content_at l (head.Text n) bs ≡ Ok (part_bytes p, rest)) → end ≡ t.offset → PartText p end r
     → IfErr r (UnreadBy allowed (behind_string (head.Text n)) s)
-part_told allowed s t n p end (Ok x) step same is = tt
-part_told allowed s t n p end (Err (Halted e)) step same is = record {
-  told = λ bs tells.
-      subst (λ (k : ReadErrorCode). FailsBy (Reports allowed) (error_code k) (s.offset + length bs) (place e) (behind_string (head.Text n) (limits s bs) bs)) (sym is.1)
-      (bad_fails allowed s t n (part_bytes p) (place e) step is.0 (is.2 ∙ same) bs tells);
+part_reported allowed s t n p end (Ok x) step same is = tt
+part_reported allowed s t n p end (Err (Halted e)) step same is = record {
+  reported = λ bs reports.
+      subst (λ (k : ReadErrorCode). FailsBy (ReportsIo allowed) (error_code k) (s.offset + length bs) (place e) (behind_string (head.Text n) (limits s bs) bs)) (sym is.1)
+      (bad_fails allowed s t n (part_bytes p) (place e) step is.0 (is.2 ∙ same) bs reports);
 }
-part_told allowed s t n p end (Err Other) step same is = absurd is
+part_reported allowed s t n p end (Err Other) step same is = absurd is
 
 -- ---- the item at the front
 
@@ -162,17 +162,17 @@ module _ (allowed : ReadErrorCode → Bool) (found : HeadAt) (levels : ℕ) (s m
   other_lends (Halted q) h = behind_stops allowed found levels s m q refused.Kept opens (passes_stop allowed (behind_any found.levels found.head) m q h)
   other_lends Other h = stood_stands allowed found levels s m opens h
 
-pub unopened_lends : (allowed : ReadErrorCode → Bool) (levels : ℕ) (s : Input) (kept : ReadError) (r : Refused) (q : ReadError) → TellsWhy allowed (λ l. opened_at levels) s kept r → IsKept kept r q → Stops allowed (any_item levels) s q
+pub unopened_lends : (allowed : ReadErrorCode → Bool) (levels : ℕ) (s : Input) (kept : ReadError) (r : Refused) (q : ReadError) → ReportsWhy allowed (λ l. opened_at levels) s kept r → IsKept kept r q → Stops allowed (any_item levels) s q
 unopened_lends allowed levels s kept r q h is = kept_stop allowed (any_item levels) s kept r q is (unopened_stops allowed levels s kept r h)
 
 -- ---- errors
 
 -- the error that is made of what wasn't lent
 pub made_whole : (allowed : ReadErrorCode → Bool) (levels : ℕ) (s : Input) (u : Unread) (e : Error) → IsMadeOf u e → UnreadWhole allowed levels s u → RefusesWhole allowed levels s e
-made_whole allowed levels s (Halted q) e made h = λ bs tells.
-    let D = Reports allowed in
+made_whole allowed levels s (Halted q) e made h = λ bs reports.
+    let D = ReportsIo allowed in
     let end = s.offset + length bs in
     let read = any_item levels (limits s bs) bs in
-    let there = subst (λ (k : ErrorCode). FailsBy D k end (place q) read) (sym made.0) (h.told bs tells) in
-    told_or_excused D (code_of e) end (offset_of e) read (subst (λ (n : ℕ). FailsBy D (code_of e) end n read) (sym made.1) there)
+    let there = subst (λ (k : ErrorCode). FailsBy D k end (place q) read) (sym made.0) (h.reported bs reports) in
+    reported_or_excused D (code_of e) end (offset_of e) read (subst (λ (n : ℕ). FailsBy D (code_of e) end n read) (sym made.1) there)
 made_whole allowed levels s Other e made h = stands_whole allowed levels s e None made.0 made.1 h

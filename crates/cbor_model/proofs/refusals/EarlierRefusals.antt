@@ -1,4 +1,4 @@
--- The reference reader, on its way to a refusal that is allowed: it comes there, or tells another whose
+-- The reference reader, on its way to a refusal that is allowed: it comes there, or reports another whose
 -- place lies before.
 use Rattle.std.specs.List.{AllByRecursion}
 use Rattle.std.proofs.Common.{◌≡◌, ◌⊎◌, ℕ, suc, ◌+◌, ◌*◌, ◌≤◌}
@@ -23,8 +23,8 @@ use Rattle.cbor_model.specs.Allowed.{IsOverScratch}
 use Rattle.cbor_model.proofs.refusals.Wanted.{IsFrame, frame, flat, flat_fit, spell-flat, beginning_behind}
 use Rattle.cbor_model.proofs.refusals.Wanted.{beginning_wanted, GoesOn, on_wanted, on_item}
 use Rattle.cbor_model.proofs.refusals.Completion.{nothing_begins, headed, chunked, and_then, and_then-fit, and_then-bytes}
-use Rattle.cbor_model.proofs.refusals.FaultMeaning as told_rows
-use Rattle.cbor_model.proofs.refusals.FaultMeaning.{Meaning, Tells, IsClosedBreak}
+use Rattle.cbor_model.proofs.refusals.FaultMeaning as reported_rows
+use Rattle.cbor_model.proofs.refusals.FaultMeaning.{Meaning, Reports, IsClosedBreak}
 use Rattle.cbor_model.proofs.refusals.NoFronts.{proper_out, on_fits, hard_out, unassigned_hard, no_chunk_hard}
 use Rattle.cbor_model.proofs.refusals.NoFronts.{break_hard}
 
@@ -108,13 +108,13 @@ pub special_behind : (o : Opening) (items : Raws) → IsFrame o items → (start
     → Special (record { start = start'; levels = levels; scratch = scratch }) bytes why left n
     → Special (record { start = start; levels = suc levels; scratch = scratch }) (frame o items ++ bytes) why left (length (frame o items) + n)
 special_behind o items f start start' levels scratch bytes length_out_of_range left n le s =
-    (length (frame o items) + s.0, told_rows.at_behind o items f left bytes s.0 s.1, omega (arith, s.2), told_rows.range_behind o items f start bytes s.0 (range_more start' (start + length (frame o items)) bytes s.0 le s.3))
+    (length (frame o items) + s.0, reported_rows.at_behind o items f left bytes s.0 s.1, omega (arith, s.2), reported_rows.range_behind o items f start bytes s.0 (range_more start' (start + length (frame o items)) bytes s.0 le s.3))
 special_behind o items f start start' levels scratch bytes invalid_utf8 left n le s =
-    (length (frame o items) + s.0, length (frame o items) + s.1, told_rows.at_behind o items f left bytes s.1 s.2, omega (arith, s.3), told_rows.utf8_behind o items f bytes s.0 s.1 s.4)
+    (length (frame o items) + s.0, length (frame o items) + s.1, reported_rows.at_behind o items f left bytes s.1 s.2, omega (arith, s.3), reported_rows.utf8_behind o items f bytes s.0 s.1 s.4)
 special_behind o items f start start' levels scratch bytes too_deep left n le s =
-    (length (frame o items) + s.0, told_rows.at_behind o items f left bytes s.0 s.1, omega (arith, s.2), told_rows.deep_behind o items f levels bytes s.0 s.3)
+    (length (frame o items) + s.0, reported_rows.at_behind o items f left bytes s.0 s.1, omega (arith, s.2), reported_rows.deep_behind o items f levels bytes s.0 s.3)
 special_behind o items f start start' levels scratch bytes scratch_too_small left n le s =
-    (length (frame o items) + s.0, told_rows.at_behind o items f left bytes s.0 s.1, omega (arith, s.2), told_rows.scratch_behind o items f scratch bytes s.0 s.3)
+    (length (frame o items) + s.0, reported_rows.at_behind o items f left bytes s.0 s.1, omega (arith, s.2), reported_rows.scratch_behind o items f scratch bytes s.0 s.3)
 special_behind o items f start start' levels scratch bytes end_in_value left n le s = absurd s
 special_behind o items f start start' levels scratch bytes end_in_array left n le s = absurd s
 special_behind o items f start start' levels scratch bytes end_in_map left n le s = absurd s
@@ -123,35 +123,35 @@ special_behind o items f start start' levels scratch bytes unexpected_code left 
 special_behind o items f start start' levels scratch bytes trailing_data left n le s = absurd s
 special_behind o items f start start' levels scratch bytes wrong_struct_format left n le s = absurd s
 
--- what is told where a whole item stands
-pub told_within : (l : Limits) (r : Raw) (rest : List ℕ) (why : Refusal) (left : ℕ) → IsWellFormed r → Meaning l (spell r ++ rest) why left → Special l (spell r ++ rest) why left (length (spell r))
-told_within l r rest end_in_value left fits e = absurd (proper_out (spell r ++ rest) [] r rest e.1 fits (append-nil (spell r ++ rest)) (omega (arith, length-append (spell r) rest)))
-told_within l r rest end_in_array left fits e = absurd (proper_out (spell r ++ rest) [] r rest (array_begins (spell r ++ rest) e.1) fits (append-nil (spell r ++ rest)) (omega (arith, length-append (spell r) rest)))
-told_within l r rest end_in_map left fits e = absurd (proper_out (spell r ++ rest) [] r rest (map_begins (spell r ++ rest) e.1) fits (append-nil (spell r ++ rest)) (omega (arith, length-append (spell r) rest)))
-told_within l r rest length_out_of_range left fits e =
+-- what is reported where a whole item stands
+pub reported_within : (l : Limits) (r : Raw) (rest : List ℕ) (why : Refusal) (left : ℕ) → IsWellFormed r → Meaning l (spell r ++ rest) why left → Special l (spell r ++ rest) why left (length (spell r))
+reported_within l r rest end_in_value left fits e = absurd (proper_out (spell r ++ rest) [] r rest e.1 fits (append-nil (spell r ++ rest)) (omega (arith, length-append (spell r) rest)))
+reported_within l r rest end_in_array left fits e = absurd (proper_out (spell r ++ rest) [] r rest (array_begins (spell r ++ rest) e.1) fits (append-nil (spell r ++ rest)) (omega (arith, length-append (spell r) rest)))
+reported_within l r rest end_in_map left fits e = absurd (proper_out (spell r ++ rest) [] r rest (map_begins (spell r ++ rest) e.1) fits (append-nil (spell r ++ rest)) (omega (arith, length-append (spell r) rest)))
+reported_within l r rest length_out_of_range left fits e =
     let row = e.2 in
     let on = on_wanted row.levels row.before (head 3 row.width row.n) row.wanted (headed 3 row.width row.n (omega arith) row.fits) in
     (e.0, e.1, omega (arith, on_fits (row.before ++ head 3 row.width row.n) row.first.rest r rest on fits (sym row.first.parts), row.first.long), row)
-told_within l r rest invalid_utf8 left fits e =
+reported_within l r rest invalid_utf8 left fits e =
     let row = e.1.2 in
     let on = on_wanted row.levels row.before (spell row.item) row.wanted (on_item row.item row.fits) in
     (e.0, e.1.0, e.1.1, omega (arith, on_fits (row.before ++ spell row.item) row.first.rest r rest on fits (sym row.first.parts), row.first.long), row)
-told_within l r rest unassigned_code left fits e =
+reported_within l r rest unassigned_code left fits e =
     let row = e.2 in
     absurd (hard_out unassigned_code (row.before ++ (row.byte ∷ [])) row.first.rest r rest (unassigned_hard row.levels row.before row.byte row.wanted row.unassigned) fits (sym row.first.parts))
-told_within l r rest unexpected_code left fits e = absurd (either e.2)
+reported_within l r rest unexpected_code left fits e = absurd (either e.2)
   where
     either : IsClosedBreak (spell r ++ rest) e.0 ⊎ Rattle.cbor_model.specs.Allowed.IsNoChunk (spell r ++ rest) e.0 → ⊥
     either (inl b) = hard_out unexpected_code (b.before ++ (0xff ∷ [])) b.first.rest r rest (break_hard b.before b.closed) fits (sym b.first.parts)
     either (inr c) = hard_out unexpected_code (c.before ++ (chunks_begun c.major c.chunks ++ (c.byte ∷ []))) c.first.rest r rest (no_chunk_hard (spell r ++ rest) e.0 c) fits (sym c.first.parts)
-told_within l r rest trailing_data left fits e = absurd e
-told_within l r rest too_deep left fits e =
+reported_within l r rest trailing_data left fits e = absurd e
+reported_within l r rest too_deep left fits e =
     let row = e.2 in
     let on = on_wanted row.levels row.before (opening row.opens) row.wanted (opening_on row.opens row.fits) in
     (e.0, e.1, omega (arith, on_fits (row.before ++ opening row.opens) row.first.rest r rest on fits (sym row.first.parts), row.first.long), row)
-told_within l r rest scratch_too_small left fits e =
+reported_within l r rest scratch_too_small left fits e =
     let row = e.2 in
     let x = chunks_begun row.major row.chunks ++ head row.major row.next.width (length row.next.bytes) in
     let on = on_wanted row.levels row.before x row.wanted (chunk_on row.major row.chunks row.next row.of_strings row.fits row.next_fits) in
     (e.0, e.1, omega (arith, on_fits (row.before ++ x) row.first.rest r rest on fits (sym row.first.parts), row.first.long), row)
-told_within l r rest wrong_struct_format left fits e = absurd e
+reported_within l r rest wrong_struct_format left fits e = absurd e

@@ -1,4 +1,4 @@
--- What the bytes must be where a fault is told, and that the same is told after an opening and whole
+-- What the bytes must be where a fault is reported, and that the same is reported after an opening and whole
 -- items.
 use Rattle.std.proofs.Common.{◌≡◌, ◌⊎◌, ℕ, suc, ◌+◌, ◌%◌, Bool, true, false, cond, List, []}
 use Rattle.std.proofs.Common.{◌∷◌, ◌++◌, length, Option, Result, Ok, Err, refl, sym, ap, ◌∙◌}
@@ -60,20 +60,20 @@ Meaning l bytes too_deep left = At left bytes (IsTooDeep l.levels bytes)
 Meaning l bytes scratch_too_small left = At left bytes (IsOverScratch l.scratch bytes)
 Meaning l bytes wrong_struct_format left = ⊥
 
--- where a fault is told, the bytes are as it says
-abbrev pub Tells : {A : Type 0} → Limits → List ℕ → Result A Fault → Type 0
-Tells l bytes (Ok x) = Unit {0}
-Tells l bytes (Err f) = Meaning l bytes f.why f.left
+-- where a fault is reported, the bytes are as it says
+abbrev pub Reports : {A : Type 0} → Limits → List ℕ → Result A Fault → Type 0
+Reports l bytes (Ok x) = Unit {0}
+Reports l bytes (Err f) = Meaning l bytes f.why f.left
 
-pub Tells-bind : {A B : Type 0} (l : Limits) (bytes : List ℕ) (r : Result A Fault) (f : A → Result B Fault)
-    → Tells l bytes r → ((x : A) → r ≡ Ok x → Tells l bytes (f x)) → Tells l bytes (r >>= f)
-Tells-bind l bytes (Ok x) f told each = each x refl
-Tells-bind l bytes (Err d) f told each = told
+pub Reports-bind : {A B : Type 0} (l : Limits) (bytes : List ℕ) (r : Result A Fault) (f : A → Result B Fault)
+    → Reports l bytes r → ((x : A) → r ≡ Ok x → Reports l bytes (f x)) → Reports l bytes (r >>= f)
+Reports-bind l bytes (Ok x) f reported each = each x refl
+Reports-bind l bytes (Err d) f reported each = reported
 
-pub Tells-cond : {A : Type 0} (l : Limits) (bytes : List ℕ) (b : Bool) (x y : Result A Fault)
-    → (b ≡ true → Tells l bytes x) → (b ≡ false → Tells l bytes y) → Tells l bytes (cond b x y)
-Tells-cond l bytes true x y one other = one refl
-Tells-cond l bytes false x y one other = other refl
+pub Reports-cond : {A : Type 0} (l : Limits) (bytes : List ℕ) (b : Bool) (x y : Result A Fault)
+    → (b ≡ true → Reports l bytes x) → (b ≡ false → Reports l bytes y) → Reports l bytes (cond b x y)
+Reports-cond l bytes true x y one other = one refl
+Reports-cond l bytes false x y one other = other refl
 
 -- ---- after a frame
 
@@ -256,28 +256,28 @@ module _ (o : Opening) (items : Raws) (is_frame : IsFrame o items) where
   pub at_behind : (left : ℕ) (bytes : List ℕ) (j : ℕ) → j + left ≡ length bytes → (length pre + j) + left ≡ length (pre ++ bytes)
   at_behind left bytes j is = omega (arith, is, length-append pre bytes)
 
-  pub told_behind : (start levels : ℕ) (scratch : Option ℕ) (bytes : List ℕ) (why : Refusal) (left : ℕ) → NoEnd bytes
+  pub reported_behind : (start levels : ℕ) (scratch : Option ℕ) (bytes : List ℕ) (why : Refusal) (left : ℕ) → NoEnd bytes
       → Meaning (record { start = start + length pre; levels = levels; scratch = scratch }) bytes why left
       → Meaning (record { start = start; levels = suc levels; scratch = scratch }) (pre ++ bytes) why left
-  told_behind start levels scratch bytes end_in_value left no_end e = (e.0, beginning_behind o items bytes is_frame e.1)
-  told_behind start levels scratch bytes end_in_array left no_end e = (e.0, array_behind bytes e.1)
-  told_behind start levels scratch bytes end_in_map left no_end e = (e.0, map_behind bytes e.1)
-  told_behind start levels scratch bytes length_out_of_range left no_end e =
+  reported_behind start levels scratch bytes end_in_value left no_end e = (e.0, beginning_behind o items bytes is_frame e.1)
+  reported_behind start levels scratch bytes end_in_array left no_end e = (e.0, array_behind bytes e.1)
+  reported_behind start levels scratch bytes end_in_map left no_end e = (e.0, map_behind bytes e.1)
+  reported_behind start levels scratch bytes length_out_of_range left no_end e =
       (length pre + e.0, at_behind left bytes e.0 e.1, range_behind start bytes e.0 e.2)
-  told_behind start levels scratch bytes invalid_utf8 left no_end e =
+  reported_behind start levels scratch bytes invalid_utf8 left no_end e =
       (length pre + e.0, (length pre + e.1.0, at_behind left bytes e.1.0 e.1.1, utf8_behind bytes e.0 e.1.0 e.1.2))
-  told_behind start levels scratch bytes unassigned_code left no_end e =
+  reported_behind start levels scratch bytes unassigned_code left no_end e =
       (length pre + e.0, at_behind left bytes e.0 e.1, unassigned_behind bytes e.0 e.2)
-  told_behind start levels scratch bytes unexpected_code left no_end e =
+  reported_behind start levels scratch bytes unexpected_code left no_end e =
       (length pre + e.0, at_behind left bytes e.0 e.1, either e.2)
     where
       either : IsClosedBreak bytes e.0 ⊎ IsNoChunk bytes e.0
           → IsClosedBreak (pre ++ bytes) (length pre + e.0) ⊎ IsNoChunk (pre ++ bytes) (length pre + e.0)
       either (inl b) = inl (break_behind bytes e.0 no_end b)
       either (inr c) = inr (no_chunk_behind bytes e.0 c)
-  told_behind start levels scratch bytes trailing_data left no_end e = absurd e
-  told_behind start levels scratch bytes too_deep left no_end e =
+  reported_behind start levels scratch bytes trailing_data left no_end e = absurd e
+  reported_behind start levels scratch bytes too_deep left no_end e =
       (length pre + e.0, at_behind left bytes e.0 e.1, deep_behind levels bytes e.0 e.2)
-  told_behind start levels scratch bytes scratch_too_small left no_end e =
+  reported_behind start levels scratch bytes scratch_too_small left no_end e =
       (length pre + e.0, at_behind left bytes e.0 e.1, scratch_behind scratch bytes e.0 e.2)
-  told_behind start levels scratch bytes wrong_struct_format left no_end e = absurd e
+  reported_behind start levels scratch bytes wrong_struct_format left no_end e = absurd e

@@ -21,7 +21,7 @@ use Rattle.cbor_model.proofs.reader.Bytes.{spelled_bytes}
 use Rattle.cbor_model.proofs.reader.Whole.{none_fits, found_fits, read_whole}
 use Rattle.cbor_model.proofs.refusals.ReadingRules.{Rules}
 use Rattle.cbor_model.proofs.reader.Scratch.{same_with_scratch}
-use Rattle.cbor_model.proofs.refusals.TellsFirst as every
+use Rattle.cbor_model.proofs.refusals.ReportsFirst as every
 
 -- ---- the longest front that is UTF-8
 

@@ -1,4 +1,4 @@
--- What faults in numbers, strings and simple values tell of the bytes.
+-- What faults in numbers, strings and simple values say of the bytes.
 use Rattle.std.specs.Prelude.{flat_map}
 use Rattle.std.specs.List.{AllByRecursion}
 use Rattle.std.proofs.Common.{◌≡◌, ◌⊎◌, ℕ, zero, suc, ◌+◌, ◌-◌, ◌*◌, ◌/◌, ◌%◌, ◌^◌, ◌<◌, ◌≤◌, Bool, true}
@@ -29,34 +29,34 @@ use Rattle.cbor_model.proofs.reader.ReaderSteps.{wide8, wide16, wide32, wide64, 
 use Rattle.cbor_model.proofs.reader.ReaderSteps.{first_is, AreBytes-rest}
 use Rattle.cbor_model.proofs.reader.FoundParts.{whole_head, behind_head, behind_first, chunk_found, chunks_found}
 use Rattle.cbor_model.proofs.reader.Taken.{chunk_taken}
-use Rattle.cbor_model.proofs.refusals.FaultMeaning.{Meaning, Tells, Tells-bind, Tells-cond}
+use Rattle.cbor_model.proofs.refusals.FaultMeaning.{Meaning, Reports, Reports-bind, Reports-cond}
 use Rattle.cbor_model.proofs.refusals.Completion.{IsCutBehind, cut_behind, float_cut, string_cut, IsCutChunk}
 use Rattle.cbor_model.proofs.refusals.Completion.{chunk_head_cut, chunk_content_cut, and_then, and_then-fit}
 use Rattle.cbor_model.proofs.refusals.Completion.{and_then-bytes, and_then-joined, chunks_cut, chunk_cut}
 
 -- ---- numbers
 
-Tells-number_at : (l : Limits) (bytes : List ℕ) (w : Width) (bs : List ℕ)
-    → (length bs < byte_len w → IsProperBeginning bytes) → Tells l bytes (number_at w bs)
-Tells-number_at l bytes w bs cut =
-    Tells-cond l bytes (ltb (length bs) (byte_len w)) _ _ (λ few. (refl, cut (ltb-true _ _ few))) (λ enough. tt)
+Reports-number_at : (l : Limits) (bytes : List ℕ) (w : Width) (bs : List ℕ)
+    → (length bs < byte_len w → IsProperBeginning bytes) → Reports l bytes (number_at w bs)
+Reports-number_at l bytes w bs cut =
+    Reports-cond l bytes (ltb (length bs) (byte_len w)) _ _ (λ few. (refl, cut (ltb-true _ _ few))) (λ enough. tt)
 
-Tells-bytes_at : (l : Limits) (bytes : List ℕ) (n : ℕ) (bs : List ℕ)
-    → (length bs < n → IsProperBeginning bytes) → Tells l bytes (bytes_at n bs)
-Tells-bytes_at l bytes n bs cut =
-    Tells-cond l bytes (ltb (length bs) n) _ _ (λ few. (refl, cut (ltb-true _ _ few))) (λ enough. tt)
+Reports-bytes_at : (l : Limits) (bytes : List ℕ) (n : ℕ) (bs : List ℕ)
+    → (length bs < n → IsProperBeginning bytes) → Reports l bytes (bytes_at n bs)
+Reports-bytes_at l bytes n bs cut =
+    Reports-cond l bytes (ltb (length bs) n) _ _ (λ few. (refl, cut (ltb-true _ _ few))) (λ enough. tt)
 
-pub Tells-number_behind : (l : Limits) (bytes : List ℕ) (low : ℕ) (bs : List ℕ) → AreBytes bs
+pub Reports-number_behind : (l : Limits) (bytes : List ℕ) (low : ℕ) (bs : List ℕ) → AreBytes bs
     → (IsCutBehind low bs → IsProperBeginning bytes)
     → (28 ≤ low → Meaning l bytes unassigned_code (length bs))
-    → Tells l bytes (number_behind low bs)
+    → Reports l bytes (number_behind low bs)
 unfolding number_behind
-Tells-number_behind l bytes low bs fits cut unassigned =
-    Tells-cond l bytes (ltb low 24) _ _ (λ small. tt) (λ more.
-    Tells-cond l bytes (eqb low 24) _ _ (λ is. Tells-number_at l bytes w8 bs (at 24 is (cut_behind 24 one_byte w8 wide8 (λ n. refl) (λ n. refl) bs fits))) (λ not_24.
-    Tells-cond l bytes (eqb low 25) _ _ (λ is. Tells-number_at l bytes w16 bs (at 25 is (cut_behind 25 two_bytes w16 wide16 (λ n. refl) (λ n. refl) bs fits))) (λ not_25.
-    Tells-cond l bytes (eqb low 26) _ _ (λ is. Tells-number_at l bytes w32 bs (at 26 is (cut_behind 26 four_bytes w32 wide32 (λ n. refl) (λ n. refl) bs fits))) (λ not_26.
-    Tells-cond l bytes (eqb low 27) _ _ (λ is. Tells-number_at l bytes w64 bs (at 27 is (cut_behind 27 eight_bytes w64 wide64 (λ n. refl) (λ n. refl) bs fits))) (λ not_27.
+Reports-number_behind l bytes low bs fits cut unassigned =
+    Reports-cond l bytes (ltb low 24) _ _ (λ small. tt) (λ more.
+    Reports-cond l bytes (eqb low 24) _ _ (λ is. Reports-number_at l bytes w8 bs (at 24 is (cut_behind 24 one_byte w8 wide8 (λ n. refl) (λ n. refl) bs fits))) (λ not_24.
+    Reports-cond l bytes (eqb low 25) _ _ (λ is. Reports-number_at l bytes w16 bs (at 25 is (cut_behind 25 two_bytes w16 wide16 (λ n. refl) (λ n. refl) bs fits))) (λ not_25.
+    Reports-cond l bytes (eqb low 26) _ _ (λ is. Reports-number_at l bytes w32 bs (at 26 is (cut_behind 26 four_bytes w32 wide32 (λ n. refl) (λ n. refl) bs fits))) (λ not_26.
+    Reports-cond l bytes (eqb low 27) _ _ (λ is. Reports-number_at l bytes w64 bs (at 27 is (cut_behind 27 eight_bytes w64 wide64 (λ n. refl) (λ n. refl) bs fits))) (λ not_27.
     unassigned (above (ltb-false _ _ more) (eqb-false _ _ not_24) (eqb-false _ _ not_25) (eqb-false _ _ not_26) (eqb-false _ _ not_27)))))))
   where
     at : {n : ℕ} (k : ℕ) → eqb low k ≡ true → (length bs < n → IsCutBehind k bs) → length bs < n → IsProperBeginning bytes
@@ -135,17 +135,17 @@ module _ {Item Items Pairs : Type 0} (m : Reading Item Items Pairs) where
     }),
   )
 
-  pub Tells-simple : (l : Limits) (low : ℕ) (bs : List ℕ) → AreBytes bs → low < 32
-      → Tells l ((32 * 7 + low) ∷ bs) (simple_at m low bs)
+  pub Reports-simple : (l : Limits) (low : ℕ) (bs : List ℕ) → AreBytes bs → low < 32
+      → Reports l ((32 * 7 + low) ∷ bs) (simple_at m low bs)
   unfolding simple_at float_at
-  Tells-simple l low bs fits small =
-      Tells-cond l bytes (eqb low 20) _ _ (λ is. tt) (λ not_20.
-      Tells-cond l bytes (eqb low 21) _ _ (λ is. tt) (λ not_21.
-      Tells-cond l bytes (eqb low 22) _ _ (λ is. tt) (λ not_22.
-      Tells-cond l bytes (eqb low 23) _ _ (λ is. tt) (λ not_23.
-      Tells-cond l bytes (eqb low 25) _ _ (λ is. Tells-bind l bytes (number_at w16 bs) _ (Tells-number_at l bytes w16 bs (at 25 is (float_cut half w16 0xf9 wide16 (λ n. refl) bs fits))) (λ n got. tt)) (λ not_25.
-      Tells-cond l bytes (eqb low 26) _ _ (λ is. Tells-bind l bytes (number_at w32 bs) _ (Tells-number_at l bytes w32 bs (at 26 is (float_cut single w32 0xfa wide32 (λ n. refl) bs fits))) (λ n got. tt)) (λ not_26.
-      Tells-cond l bytes (eqb low 27) _ _ (λ is. Tells-bind l bytes (number_at w64 bs) _ (Tells-number_at l bytes w64 bs (at 27 is (float_cut double w64 0xfb wide64 (λ n. refl) bs fits))) (λ n got. tt)) (λ not_27.
+  Reports-simple l low bs fits small =
+      Reports-cond l bytes (eqb low 20) _ _ (λ is. tt) (λ not_20.
+      Reports-cond l bytes (eqb low 21) _ _ (λ is. tt) (λ not_21.
+      Reports-cond l bytes (eqb low 22) _ _ (λ is. tt) (λ not_22.
+      Reports-cond l bytes (eqb low 23) _ _ (λ is. tt) (λ not_23.
+      Reports-cond l bytes (eqb low 25) _ _ (λ is. Reports-bind l bytes (number_at w16 bs) _ (Reports-number_at l bytes w16 bs (at 25 is (float_cut half w16 0xf9 wide16 (λ n. refl) bs fits))) (λ n got. tt)) (λ not_25.
+      Reports-cond l bytes (eqb low 26) _ _ (λ is. Reports-bind l bytes (number_at w32 bs) _ (Reports-number_at l bytes w32 bs (at 26 is (float_cut single w32 0xfa wide32 (λ n. refl) bs fits))) (λ n got. tt)) (λ not_26.
+      Reports-cond l bytes (eqb low 27) _ _ (λ is. Reports-bind l bytes (number_at w64 bs) _ (Reports-number_at l bytes w64 bs (at 27 is (float_cut double w64 0xfb wide64 (λ n. refl) bs fits))) (λ n got. tt)) (λ not_27.
       by_last (eqb low 31) refl (eqb-false _ _ not_20) (eqb-false _ _ not_21) (eqb-false _ _ not_22) (eqb-false _ _ not_23) (eqb-false _ _ not_25) (eqb-false _ _ not_26) (eqb-false _ _ not_27))))))))
     where
       bytes : List ℕ
@@ -179,18 +179,18 @@ module _ {Item Items Pairs : Type 0} (m : Reading Item Items Pairs) (total : ℕ
     abbrev pub lim : ℕ → ℕ → Limits
     lim start levels = record { start = start; levels = levels; scratch = scratch }
 
-    pub Tells-string : (l : Limits) (w : HeadWidth) (n : ℕ) (bs : List ℕ) → AreBytes bs → n < limit w
-        → Tells l (head 2 w n ++ bs) (string_at m w n bs)
+    pub Reports-string : (l : Limits) (w : HeadWidth) (n : ℕ) (bs : List ℕ) → AreBytes bs → n < limit w
+        → Reports l (head 2 w n ++ bs) (string_at m w n bs)
     unfolding string_at
-    Tells-string l w n bs fits small =
-        Tells-bind l (head 2 w n ++ bs) (bytes_at n bs) _ (Tells-bytes_at l (head 2 w n ++ bs) n bs (λ few. (string_cut w n bs fits few small).0)) (λ b got. tt)
+    Reports-string l w n bs fits small =
+        Reports-bind l (head 2 w n ++ bs) (bytes_at n bs) _ (Reports-bytes_at l (head 2 w n ++ bs) n bs (λ few. (string_cut w n bs fits few small).0)) (λ b got. tt)
 
-    Tells-checked : (l : Limits) (bytes : List ℕ) (x : Item) (item : Raw) (b rest : List ℕ)
+    Reports-checked : (l : Limits) (bytes : List ℕ) (x : Item) (item : Raw) (b rest : List ℕ)
         → bytes ≡ spell item ++ rest → IsWellFormed item → IsTextOf item b → length b ≤ length (spell item)
-        → Tells l bytes (checked_text m x b rest)
+        → Reports l bytes (checked_text m x b rest)
     unfolding checked_text
-    Tells-checked l bytes x item b rest parts fits is few =
-        Tells-cond l bytes (m.is_text b) _ _ (λ passes. tt) (λ fails.
+    Reports-checked l bytes x item b rest parts fits is few =
+        Reports-cond l bytes (m.is_text b) _ _ (λ passes. tt) (λ fails.
         let bad = length b - utf8_valid_len b in
         let place = length (spell item) in (
           place,
@@ -215,17 +215,17 @@ module _ {Item Items Pairs : Type 0} (m : Reading Item Items Pairs) (total : ℕ
           ),
         ))
 
-    pub Tells-text : (start levels : ℕ) (w : HeadWidth) (n : ℕ) (bs : List ℕ) → start + length (head 3 w n ++ bs) ≡ total
-        → AreBytes bs → n < limit w → Tells (lim start levels) (head 3 w n ++ bs) (text_at m w n bs)
+    pub Reports-text : (start levels : ℕ) (w : HeadWidth) (n : ℕ) (bs : List ℕ) → start + length (head 3 w n ++ bs) ≡ total
+        → AreBytes bs → n < limit w → Reports (lim start levels) (head 3 w n ++ bs) (text_at m w n bs)
     unfolding text_at spell
-    Tells-text start levels w n bs at_total fits small =
+    Reports-text start levels w n bs at_total fits small =
         let l = lim start levels in
         let bytes = head 3 w n ++ bs in
-        Tells-cond l bytes (m.has_room (length bs) n) _ _ (λ room.
-        Tells-bind l bytes (bytes_at n bs) _ (Tells-bytes_at l bytes n bs (λ few. (string_cut w n bs fits few small).1)) (λ b got.
+        Reports-cond l bytes (m.has_room (length bs) n) _ _ (λ room.
+        Reports-bind l bytes (bytes_at n bs) _ (Reports-bytes_at l bytes n bs (λ few. (string_cut w n bs fits few small).1)) (λ b got.
         let taken = bytes_found n bs b fits got in
         let long : length b.0 ≡ n = taken.long in
-        Tells-checked l bytes _ (raw.text (record { width = w; bytes = b.0 })) b.0 b.1 (behind_head 3 w n (length b.0) bs b.0 b.1 taken.parts long)
+        Reports-checked l bytes _ (raw.text (record { width = w; bytes = b.0 })) b.0 b.1 (behind_head 3 w n (length b.0) bs b.0 b.1 taken.parts long)
         (omega (arith, long, small), taken.fits) refl (omega (arith, length-append (head 3 w (length b.0)) b.0))))
         (λ none.
         let front = head 3 w n in (
@@ -247,29 +247,29 @@ module _ {Item Items Pairs : Type 0} (m : Reading Item Items Pairs) (total : ℕ
 
     -- ---- chunks
 
-    Tells-chunk : (l : Limits) → l.scratch ≡ scratch → (major have : ℕ) (cs : List Chunk) (b : ℕ) (bs : List ℕ) → IsOfStrings major → AllByRecursion IsChunk cs → have ≡ length (joined cs) → (b ≡ 0xff → ⊥) → AreBytes bs
-        → Tells l (chunks_begun major cs ++ (b ∷ bs)) (chunk_at (λ n. m.exceeds (have + n)) major b bs)
+    Reports-chunk : (l : Limits) → l.scratch ≡ scratch → (major have : ℕ) (cs : List Chunk) (b : ℕ) (bs : List ℕ) → IsOfStrings major → AllByRecursion IsChunk cs → have ≡ length (joined cs) → (b ≡ 0xff → ⊥) → AreBytes bs
+        → Reports l (chunks_begun major cs ++ (b ∷ bs)) (chunk_at (λ n. m.exceeds (have + n)) major b bs)
     unfolding chunk_at content_of_chunk
-    Tells-chunk l same major have cs b bs of_strings cs_fit joined_is no_break fits =
-        Tells-cond l bytes (begins_chunk major b) _ _ (λ is.
+    Reports-chunk l same major have cs b bs of_strings cs_fit joined_is no_break fits =
+        Reports-cond l bytes (begins_chunk major b) _ _ (λ is.
         let begins = both (eqb (b / 32) major) (ltb low 28) is in
         let is_major : b / 32 ≡ major = eqb-true _ _ begins.0 in
         let small : low < 28 = ltb-true _ _ begins.1 in
         let first : b ≡ 32 * major + low = omega (arith, first_is b, is_major) in
-        Tells-bind l bytes (number_behind low bs) _
-        (Tells-number_behind l bytes low bs fits
+        Reports-bind l bytes (number_behind low bs) _
+        (Reports-number_behind l bytes low bs fits
         (λ cut. chunk_cut major cs (b ∷ bs) of_strings cs_fit (subst (λ (k : ℕ). IsCutChunk major (k ∷ bs)) (sym first) (chunk_head_cut major low bs cut)))
         (λ least. absurd (omega (arith, least, small))))
         (λ n got.
         let w = width_of low in
         let found = number_behind_found low bs n fits got in
         let head_is : (b ∷ bs) ≡ head major w n.0 ++ n.1 = ap (λ (k : ℕ). k ∷ bs) first ∙ whole_head major low n.0 w bs n.1 found.is_low found.parts in
-        Tells-bind l bytes (bytes_at n.0 n.1) _
-        (Tells-bytes_at l bytes n.0 n.1
+        Reports-bind l bytes (bytes_at n.0 n.1) _
+        (Reports-bytes_at l bytes n.0 n.1
         (λ few. chunk_cut major cs (b ∷ bs) of_strings cs_fit (subst (IsCutChunk major) (sym head_is) (chunk_content_cut major w n.0 n.1 found.rest_fits few found.fits))))
         (λ c got'.
         let taken = bytes_found n.0 n.1 c found.rest_fits got' in
-        Tells-cond l bytes (m.exceeds (have + n.0)) _ _ (λ more. too_long w n c more head_is found.fits taken.long taken.parts taken.fits) (λ enough. tt))))
+        Reports-cond l bytes (m.exceeds (have + n.0)) _ _ (λ more. too_long w n c more head_is found.fits taken.long taken.parts taken.fits) (λ enough. tt))))
         (λ other. (
           length (front ++ (b ∷ [])),
           first-length (length (front ++ (b ∷ []))) bytes (front ++ (b ∷ [])) here,
@@ -348,18 +348,18 @@ module _ {Item Items Pairs : Type 0} (m : Reading Item Items Pairs) (total : ℕ
             )
 
     -- chunks, after those that are read
-    Tells-chunks : (l : Limits) → l.scratch ≡ scratch → (major have fuel : ℕ) (cs : List Chunk) (bs : List ℕ) → IsOfStrings major → AllByRecursion IsChunk cs → have ≡ length (joined cs) → AreBytes bs → length bs < fuel
-        → Tells l (chunks_begun major cs ++ bs) (chunks_by m.exceeds have major fuel bs)
+    Reports-chunks : (l : Limits) → l.scratch ≡ scratch → (major have fuel : ℕ) (cs : List Chunk) (bs : List ℕ) → IsOfStrings major → AllByRecursion IsChunk cs → have ≡ length (joined cs) → AreBytes bs → length bs < fuel
+        → Reports l (chunks_begun major cs ++ bs) (chunks_by m.exceeds have major fuel bs)
     unfolding chunks_by byte_at
-    Tells-chunks l same major have zero cs bs of_strings cs_fit joined_is fits enough = absurd (omega arith)
-    Tells-chunks l same major have (suc fuel) cs [] of_strings cs_fit joined_is fits enough = (refl, chunks_cut major cs of_strings cs_fit)
-    Tells-chunks l same major have (suc fuel) cs (b ∷ bs) of_strings cs_fit joined_is fits enough =
+    Reports-chunks l same major have zero cs bs of_strings cs_fit joined_is fits enough = absurd (omega arith)
+    Reports-chunks l same major have (suc fuel) cs [] of_strings cs_fit joined_is fits enough = (refl, chunks_cut major cs of_strings cs_fit)
+    Reports-chunks l same major have (suc fuel) cs (b ∷ bs) of_strings cs_fit joined_is fits enough =
         let rest_fits = AreBytes-rest b bs fits in
         let ex = λ (n : ℕ). m.exceeds (have + n) in
         let bytes = chunks_begun major cs ++ (b ∷ bs) in
-        Tells-cond l bytes (eqb b 0xff) _ _ (λ last. tt) (λ other.
-        Tells-bind l bytes (chunk_at ex major b bs) _
-        (Tells-chunk l same major have cs b bs of_strings cs_fit joined_is (eqb-false _ _ other) rest_fits)
+        Reports-cond l bytes (eqb b 0xff) _ _ (λ last. tt) (λ other.
+        Reports-bind l bytes (chunk_at ex major b bs) _
+        (Reports-chunk l same major have cs b bs of_strings cs_fit joined_is (eqb-false _ _ other) rest_fits)
         (λ c got.
         let found = chunk_found ex major b bs c rest_fits got in
         let fewer : length c.1 ≤ length bs = chunk_taken ex major b bs c got in
@@ -368,22 +368,22 @@ module _ {Item Items Pairs : Type 0} (m : Reading Item Items Pairs) (total : ℕ
         ap (λ (t : List ℕ). chunks_begun major cs ++ t) found.parts
         ∙ sym (append_assoc (chunks_begun major cs) (chunk major c.0) c.1)
         ∙ ap (λ (t : List ℕ). ((32 * major + 31) ∷ t) ++ c.1) (sym (and_then-bytes major cs c.0)) in
-        Tells-bind l bytes (chunks_by m.exceeds (have + length c.0.bytes) major fuel c.1) _
-        (subst (λ (t : List ℕ). Tells l t (chunks_by m.exceeds (have + length c.0.bytes) major fuel c.1)) (sym moved)
-        (Tells-chunks l same major (have + length c.0.bytes) fuel all c.1 of_strings (and_then-fit cs c.0 cs_fit found.fits) (omega (arith, joined_is, and_then-joined cs c.0)) found.rest_fits (omega (arith, enough, fewer))))
+        Reports-bind l bytes (chunks_by m.exceeds (have + length c.0.bytes) major fuel c.1) _
+        (subst (λ (t : List ℕ). Reports l t (chunks_by m.exceeds (have + length c.0.bytes) major fuel c.1)) (sym moved)
+        (Reports-chunks l same major (have + length c.0.bytes) fuel all c.1 of_strings (and_then-fit cs c.0 cs_fit found.fits) (omega (arith, joined_is, and_then-joined cs c.0)) found.rest_fits (omega (arith, enough, fewer))))
         (λ others got'. tt)))
 
-    pub Tells-string_chunks : (l : Limits) → l.scratch ≡ scratch → (bs : List ℕ) → AreBytes bs → Tells l (0x5f ∷ bs) (string_chunks_at m bs)
+    pub Reports-string_chunks : (l : Limits) → l.scratch ≡ scratch → (bs : List ℕ) → AreBytes bs → Reports l (0x5f ∷ bs) (string_chunks_at m bs)
     unfolding string_chunks_at
-    Tells-string_chunks l same bs fits =
-        Tells-bind l (0x5f ∷ bs) (chunks_at m.exceeds 0 2 bs) _ (Tells-chunks l same 2 0 (suc (length bs)) [] bs (inl refl) tt refl fits (omega arith)) (λ cs got. tt)
+    Reports-string_chunks l same bs fits =
+        Reports-bind l (0x5f ∷ bs) (chunks_at m.exceeds 0 2 bs) _ (Reports-chunks l same 2 0 (suc (length bs)) [] bs (inl refl) tt refl fits (omega arith)) (λ cs got. tt)
 
-    pub Tells-text_chunks : (l : Limits) → l.scratch ≡ scratch → (bs : List ℕ) → AreBytes bs → Tells l (0x7f ∷ bs) (text_chunks_at m bs)
+    pub Reports-text_chunks : (l : Limits) → l.scratch ≡ scratch → (bs : List ℕ) → AreBytes bs → Reports l (0x7f ∷ bs) (text_chunks_at m bs)
     unfolding text_chunks_at spell
-    Tells-text_chunks l same bs fits =
+    Reports-text_chunks l same bs fits =
         let bytes = 0x7f ∷ bs in
-        Tells-bind l bytes (chunks_at m.exceeds 0 3 bs) _ (Tells-chunks l same 3 0 (suc (length bs)) [] bs (inr refl) tt refl fits (omega arith)) (λ cs got.
+        Reports-bind l bytes (chunks_at m.exceeds 0 3 bs) _ (Reports-chunks l same 3 0 (suc (length bs)) [] bs (inr refl) tt refl fits (omega arith)) (λ cs got.
         let found = chunks_found m.exceeds 0 3 (suc (length bs)) bs cs none_fits fits got in
         let all = flat_map (chunk 3) cs.0 in
-        Tells-checked l bytes _ (raw.text_chunks cs.0) (joined cs.0) cs.1 (behind_first 0x7f bs all cs.1 found.parts) found.fits refl
+        Reports-checked l bytes _ (raw.text_chunks cs.0) (joined cs.0) cs.1 (behind_first 0x7f bs all cs.1 found.parts) found.fits refl
         (omega (arith, joined-le 3 cs.0, length-append all (0xff ∷ []))))

@@ -11,7 +11,7 @@ use Rattle.cbor_model.specs.Raw.{Raw, Raws, no_raws, RawPairs, no_raw_pairs, raw
 use Rattle.cbor_model.specs.Raw.{indefinite, count, depth, depth_all, depth_pairs, IsWellFormed}
 use Rattle.cbor_model.specs.Spelling.{spell, spell_all, spell_pairs, break, chunk}
 use Rattle.cbor_model.specs.Refusal.{Refusal, unassigned_code, unexpected_code}
-use Rattle.cbor_model.specs.Reader.{Fault, before as told_at, item_at}
+use Rattle.cbor_model.specs.Reader.{Fault, before as reported_at, item_at}
 use Rattle.cbor_model.specs.Wanted.{Opening, opening, IsWanted, at_first, inside}
 use Rattle.cbor_model.specs.Wanted.{StandsInIndefiniteArray, StandsInIndefiniteMap}
 use Rattle.cbor_model.specs.Allowed.{IsProperBeginning, IsUnassigned, IsNoChunk, chunks_begun}
@@ -116,17 +116,17 @@ pub record IsHard (why : Refusal) (u : List ℕ) : Type 0 where
   pub wanted : IsWanted levels before
   pub begins : IsProperBeginning (before ++ here)
   pub comes : (bs : List ℕ) → LastComes wanted (here ++ (byte ∷ bs))
-  pub refuses : (l : ℕ) (bs : List ℕ) → item_at raw_items l (here ++ (byte ∷ bs)) ≡ Err (told_at why bs)
+  pub refuses : (l : ℕ) (bs : List ℕ) → item_at raw_items l (here ++ (byte ∷ bs)) ≡ Err (reported_at why bs)
   pub parts : u ≡ before ++ (here ++ (byte ∷ []))
 
 hard-bytes : (before here : List ℕ) (byte : ℕ) (bs : List ℕ) → (before ++ (here ++ (byte ∷ []))) ++ bs ≡ before ++ (here ++ (byte ∷ bs))
 hard-bytes before here byte bs = simp append_assoc
 
-pub hard_raw : (why : Refusal) (u : List ℕ) → IsHard why u → (L : ℕ) (bs : List ℕ) → length (u ++ bs) ≤ L → item_at raw_items L (u ++ bs) ≡ Err (told_at why bs)
+pub hard_raw : (why : Refusal) (u : List ℕ) → IsHard why u → (L : ℕ) (bs : List ℕ) → length (u ++ bs) ≤ L → item_at raw_items L (u ++ bs) ≡ Err (reported_at why bs)
 hard_raw why u h L bs enough =
     let same : u ++ bs ≡ h.before ++ (h.here ++ (h.byte ∷ bs)) = ap (λ (t : List ℕ). t ++ bs) h.parts ∙ hard-bytes h.before h.here h.byte bs in
     ap (item_at raw_items L) same
-    ∙ raw_through h.levels h.before h.wanted L (h.here ++ (h.byte ∷ bs)) (told_at why bs) (omega (arith, enough, ap length same)) (h.comes bs) (λ l. h.refuses l bs)
+    ∙ raw_through h.levels h.before h.wanted L (h.here ++ (h.byte ∷ bs)) (reported_at why bs) (omega (arith, enough, ap length same)) (h.comes bs) (λ l. h.refuses l bs)
 
 nothing_more : (r s : Raw) (more : List ℕ) → IsWellFormed r → IsWellFormed s → spell s ≡ spell r ++ more → more ≡ []
 nothing_more r s more fits fits' same = sym (same_beginning s r [] more fits' fits (append-nil (spell s) ∙ same)).1
@@ -172,7 +172,7 @@ hard_out why u bs r rest h fits same =
         let L = length (spell r) in
         let reads = item_again r L [] fits (depth-le r) in
         let fails = hard_raw why u h L past.between (omega (arith, ap length past.longer)) in
-        not_ok (told_at why past.between) (r, []) (sym fails ∙ ap (item_at raw_items L) (sym past.longer ∙ sym (append-nil (spell r))) ∙ reads)
+        not_ok (reported_at why past.between) (r, []) (sym fails ∙ ap (item_at raw_items L) (sym past.longer ∙ sym (append-nil (spell r))) ∙ reads)
 
 -- ---- which bytes are so
 

@@ -1,4 +1,4 @@
--- The reader passes a whole item, or tells a refusal that isn't one of spelling within it; and so
+-- The reader passes a whole item, or reports a refusal that isn't one of spelling within it; and so
 -- it comes to each place where an item is wanted.
 use Rattle.std.proofs.Common.{◌≡◌, ◌⊎◌, ℕ, suc, ◌+◌, ◌-◌, ◌*◌, ◌^◌, ◌≤◌, true, false, cond, List}
 use Rattle.std.proofs.Common.{[], ◌∷◌, ◌++◌, length, Option, Ok, Err, refl, sym, ap, subst, ◌∙◌}
@@ -9,19 +9,19 @@ use Rattle.std.proofs.lemmas.List.{length-append}
 use Rattle.cbor_model.specs.Raw.{Raw, Raws, count, AreBytes, IsWellFormed, AreWellFormed}
 use Rattle.cbor_model.specs.Spelling.{spell, spell_all}
 use Rattle.cbor_model.specs.Refusal.{end_in_array, end_in_map, too_deep}
-use Rattle.cbor_model.specs.Reader.{Fault, Reads, Reading, before as told_at, item_at}
+use Rattle.cbor_model.specs.Reader.{Fault, Reads, Reading, before as reported_at, item_at}
 use Rattle.cbor_model.specs.Wanted.{Opening, opening, IsOpening, IsWanted, at_first}
 use Rattle.cbor_model.specs.Allowed.{Limits, IsOver}
 use Rattle.cbor_model.proofs.order.Apart.{same_beginning}
 use Rattle.cbor_model.proofs.reader.Found.{found}
 use Rattle.cbor_model.proofs.refusals.Wanted.{IsFrame, frame}
-use Rattle.cbor_model.proofs.refusals.FaultMeaning.{Meaning, Tells}
-use Rattle.cbor_model.proofs.refusals.Faults.{told}
+use Rattle.cbor_model.proofs.refusals.FaultMeaning.{Meaning, Reports}
+use Rattle.cbor_model.proofs.refusals.Faults.{reported}
 use Rattle.cbor_model.proofs.refusals.InnerFaults.{LastComes}
 use Rattle.cbor_model.proofs.refusals.Passage.{Passage}
 use Rattle.cbor_model.proofs.refusals.PassedOpenings.{array_ends, map_ends}
 use Rattle.cbor_model.proofs.refusals.ReachedPlaces.{Refused, Reached, through, bad_wanted}
-use Rattle.cbor_model.proofs.refusals.EarlierRefusals.{Special, special_more, special_behind, told_within}
+use Rattle.cbor_model.proofs.refusals.EarlierRefusals.{Special, special_more, special_behind, reported_within}
 
 -- What a reading lets pass, in an input of this length, with a scratch of this length or none: a
 -- text that ends before 2^64, and is UTF-8; chunks that fit; and each key.
@@ -50,12 +50,12 @@ module _ {Item Items Pairs : Type 0} (m : Reading Item Items Pairs) (total : ℕ
   abbrev pub Bad : ℕ → List ℕ → Fault → ℕ → Type 0
   Bad l bytes f n = Special (lim l bytes) bytes f.why f.left n
 
-  -- what the reader tells of bytes
-  pub tells : (l : ℕ) (bytes : List ℕ) → Cond l bytes → Tells (lim l bytes) bytes (item_at m l bytes)
-  tells l bytes cond = told m total scratch rules.far rules.no_text rules.over rules.none_fits rules.every l (total - length bytes) bytes (omega (arith, cond.0)) cond.1
+  -- what the reader reports of bytes
+  pub reports : (l : ℕ) (bytes : List ℕ) → Cond l bytes → Reports (lim l bytes) bytes (item_at m l bytes)
+  reports l bytes cond = reported m total scratch rules.far rules.no_text rules.over rules.none_fits rules.every l (total - length bytes) bytes (omega (arith, cond.0)) cond.1
 
-  pub tells_err : (l : ℕ) (bytes : List ℕ) (f : Fault) → Cond l bytes → item_at m l bytes ≡ Err f → Meaning (lim l bytes) bytes f.why f.left
-  tells_err l bytes f cond is = subst (λ (r : Reads Item). Tells (lim l bytes) bytes r) is (tells l bytes cond)
+  pub reports_err : (l : ℕ) (bytes : List ℕ) (f : Fault) → Cond l bytes → item_at m l bytes ≡ Err f → Meaning (lim l bytes) bytes f.why f.left
+  reports_err l bytes f cond is = subst (λ (r : Reads Item). Reports (lim l bytes) bytes r) is (reports l bytes cond)
 
   pub rest_cond : (l : ℕ) (a b : List ℕ) → Cond l (a ++ b) → Cond l b
   rest_cond l a b cond = (omega (arith, cond.0, length-append a b), AreBytes-back a b cond.1)
@@ -83,9 +83,9 @@ module _ {Item Items Pairs : Type 0} (m : Reading Item Items Pairs) (total : ℕ
           let got = found m rules.none_fits l (spell r ++ rest) x cond.1 is in
           let same = (same_beginning r got.item rest x.1 fits got.fits got.parts).1 in
           inl (x.0, is ∙ ap (λ (t : List ℕ). Ok (x.0, t)) (sym same))
-      by_result (Err f) is = inr (f, is, told_within (lim l (spell r ++ rest)) r rest f.why f.left fits (tells_err l (spell r ++ rest) f cond is))
+      by_result (Err f) is = inr (f, is, reported_within (lim l (spell r ++ rest)) r rest f.why f.left fits (reports_err l (spell r ++ rest) f cond is))
 
-  pub deep : (o : Opening) (bs : List ℕ) → IsOpening o → Cond 0 (opening o ++ bs) → Bad 0 (opening o ++ bs) (told_at too_deep bs) (length (opening o))
+  pub deep : (o : Opening) (bs : List ℕ) → IsOpening o → Cond 0 (opening o ++ bs) → Bad 0 (opening o ++ bs) (reported_at too_deep bs) (length (opening o))
   deep o bs opens cond = (
     length (opening o),
     omega (arith, length-append (opening o) bs),

@@ -13,7 +13,7 @@ use Rattle.cbor_model.specs.Refusal.{Refusal, end_in_value, end_in_array, end_in
 use Rattle.cbor_model.specs.Refusal.{length_out_of_range, invalid_utf8, unassigned_code}
 use Rattle.cbor_model.specs.Refusal.{unexpected_code, trailing_data, too_deep, scratch_too_small}
 use Rattle.cbor_model.specs.Refusal.{wrong_struct_format}
-use Rattle.cbor_model.specs.Reader.{Fault, Reads, before as told_at, item_at}
+use Rattle.cbor_model.specs.Reader.{Fault, Reads, before as reported_at, item_at}
 use Rattle.cbor_model.specs.Wanted.{Opening, array_head, map_head, tag_head, indefinite_array}
 use Rattle.cbor_model.specs.Wanted.{indefinite_map, opening, IsWanted, at_first, inside}
 use Rattle.cbor_model.specs.Allowed.{IsTextOf, IsInvalidUtf8, IsUnassigned, Limits, IsAllowed}
@@ -22,9 +22,9 @@ use Rattle.cbor_model.proofs.reader.Bytes.{AreBytes-append, spelled_bytes}
 use Rattle.cbor_model.proofs.order.Apart.{raw_items, same_beginning}
 use Rattle.cbor_model.proofs.reader.Found.{found}
 use Rattle.cbor_model.proofs.refusals.Wanted.{frame, on_wanted, on_item}
-use Rattle.cbor_model.proofs.refusals.FaultMeaning.{Meaning, Tells}
+use Rattle.cbor_model.proofs.refusals.FaultMeaning.{Meaning, Reports}
 use Rattle.cbor_model.proofs.refusals.LeafFaults.{joined-le}
-use Rattle.cbor_model.proofs.refusals.Faults.{told}
+use Rattle.cbor_model.proofs.refusals.Faults.{reported}
 use Rattle.cbor_model.proofs.refusals.NoFronts.{goes_past, raw_goes, hard_out, hard_raw, unassigned_hard, Goes}
 use Rattle.cbor_model.proofs.refusals.InnerFaults.{LastComes, last_comes}
 
@@ -70,10 +70,10 @@ AreBytes-front [] b fits i = omega arith
 AreBytes-front (x ∷ a) b fits zero = fits 0
 AreBytes-front (x ∷ a) b fits (suc i) = AreBytes-front a b (λ j. fits (suc j)) i
 
-raw_told : (l : ℕ) (bs : List ℕ) (f : Fault) → AreBytes bs → item_at raw_items l bs ≡ Err f → Meaning (record { start = 0; levels = l; scratch = None }) bs f.why f.left
-raw_told l bs f fits is =
-    subst (λ (r : Reads Raw). Tells (record { start = 0; levels = l; scratch = None }) bs r) is
-    (told raw_items (length bs) None (λ left n le no. absurd (never no)) (λ b no. absurd (never no)) (λ n no. never (sym no)) refl (λ b. refl) l 0 bs (omega arith) fits)
+raw_reported : (l : ℕ) (bs : List ℕ) (f : Fault) → AreBytes bs → item_at raw_items l bs ≡ Err f → Meaning (record { start = 0; levels = l; scratch = None }) bs f.why f.left
+raw_reported l bs f fits is =
+    subst (λ (r : Reads Raw). Reports (record { start = 0; levels = l; scratch = None }) bs r) is
+    (reported raw_items (length bs) None (λ left n le no. absurd (never no)) (λ b no. absurd (never no)) (λ n no. never (sym no)) refl (λ b. refl) l 0 bs (omega arith) fits)
   where
     never : true ≡ false → ⊥
     never e = cc
@@ -133,7 +133,7 @@ within_text k p w j y z t b wanted fits is parts some more = by_result (item_at 
       no_break = Rattle.std.proofs.lemmas.Bool.ne_eqb first.0 0xff (λ same. omega (arith, first.3));
     })
 
-    refused : item_at raw_items L (p ++ here) ≡ Err (told_at unassigned_code [])
+    refused : item_at raw_items L (p ++ here) ≡ Err (reported_at unassigned_code [])
     refused =
         let h = unassigned_hard j (p ++ y) 0x1c wanted unassigned_1c in
         let same : ((p ++ y) ++ (0x1c ∷ [])) ++ [] ≡ p ++ here = append-nil ((p ++ y) ++ (0x1c ∷ [])) ∙ append_assoc p y (0x1c ∷ []) in
@@ -197,8 +197,8 @@ within_text k p w j y z t b wanted fits is parts some more = by_result (item_at 
         let item = found raw_items refl goes.left here x bytes_fit got in
         by_rest item.item x.1 item.fits item.parts
     by_result (Err f) got =
-        let same : f ≡ told_at unassigned_code [] = one_fault (item_at raw_items L (p ++ here)) f (told_at unassigned_code []) (goes.refuses f comes got) refused in
-        by_why f.why f.left (ap (λ (h : Fault). h.why) same) (ap (λ (h : Fault). h.left) same) (raw_told goes.left here f bytes_fit got)
+        let same : f ≡ reported_at unassigned_code [] = one_fault (item_at raw_items L (p ++ here)) f (reported_at unassigned_code []) (goes.refuses f comes got) refused in
+        by_why f.why f.left (ap (λ (h : Fault). h.why) same) (ap (λ (h : Fault). h.left) same) (raw_reported goes.left here f bytes_fit got)
 
 -- ---- the place of a fault in a text
 

@@ -3,7 +3,7 @@ use Rattle.cbor_model.specs.Reader.{Reads}
 use Rattle.cbor_decode.specs.Gives.{Limits}
 use Rattle.cbor_decode.specs.declared.refusal.Refused.TheVariants.{Kept}
 use Rattle.cbor_decode_as.specs.Tags.{tag_head_at}
-use Rattle.cbor_decode_as.proofs.facts.Refusals.{told_by}
+use Rattle.cbor_decode_as.proofs.facts.Refusals.{reported_by}
 use Rattle.cbor_decode.proofs.facts.Steps.{source_stops, byte_refused}
 use Rattle.cbor_convert.proofs.PeekedTags.{tag_peeked, took_peeked, untold_peeked}
 use Rattle.cbor_convert.proofs.outermost.outermost.Goals as goal
@@ -20,7 +20,7 @@ returns-in-Err-clause-refused g c =
     let s = g.R.Source.source c.args.de.now.decoder.source in
     let read : Limits → List ℕ → Reads (Option ℕ) = λ l. tag_head_at c.args.de.now.decoder.levels in
     let e = c.in-Err.refusal in
-    told_by g.R.Source.refusals read s e Kept c.error_of.result c.error_of.ensures.tells
+    reported_by g.R.Source.refusals read s e Kept c.error_of.result c.error_of.ensures.reports
     (source_stops g.R.Source.refusals s read e Kept e refl refl c.in-Err.ensures.err.refused.moved (byte_refused g.R.Source.refusals s _ e read c.in-Err.ensures.err))
 
 pub returns-in-Err-clause-took : goal.returns-in-Err-clause-took

@@ -2,11 +2,11 @@ use Rattle.std.proofs.Common.{◌⊎◌, ℕ, List, IfErr, None, subst, refl}
 use Rattle.cbor_model.specs.Allowed.{limits_of}
 use Rattle.cbor_io.specs.Error.{IsOutOfMemory}
 use Rattle.cbor_value.specs.View.{view}
-use Rattle.cbor_decode.specs.FirstRefusal.{TellsFirst}
+use Rattle.cbor_decode.specs.FirstRefusal.{ReportsFirst}
 use Rattle.cbor_decode_as.specs.Takes.{WhereTotal}
 use Rattle.cbor_de.specs.Whole.{from_reader_context}
 use Rattle.cbor_de.proofs.facts.Forms.{only_err}
-use Rattle.cbor_convert.proofs.Given.{first_by_memory, not_refused, told_unstorable, value_acceptable, value_read, spelled_so}
+use Rattle.cbor_convert.proofs.Given.{first_by_memory, not_refused, reported_unstorable, value_acceptable, value_read, spelled_so}
 use Rattle.cbor_convert.proofs.reading.from_value.Goals as goal
 
 pub returns-in_err-bytes-clause-accepted : goal.returns-in_err-bytes-clause-accepted
@@ -19,7 +19,7 @@ returns-in_err-bytes-clause-first g c = λ stored.
 
 pub returns-in_err-bytes-clause-refused : goal.returns-in_err-bytes-clause-refused
 returns-in_err-bytes-clause-refused g c = λ not_stored.
-    told_unstorable _ (view c.args.value) _ c.in_err-bytes.ensures.refused c.from_residual.ensures.1
+    reported_unstorable _ (view c.args.value) _ c.in_err-bytes.ensures.refused c.from_residual.ensures.1
 
 pub returns-clause-refused : goal.returns-clause-refused
 returns-clause-refused g c = λ not_stored.
@@ -46,7 +46,7 @@ returns-clause-accepted g c = λ x stored good means.
 pub returns-clause-first : goal.returns-clause-first
 returns-clause-first g c = λ stored.
     let w = c.in_ok-bytes.ensures in
-    subst (λ (bs : List ℕ). IfErr c.from_vec.result (λ e. WhereTotal g.T.Readable.total (IsOutOfMemory e ⊎ TellsFirst (limits_of None) bs e))) (w.canonical (view c.args.value) refl).written c.from_vec.ensures.first
+    subst (λ (bs : List ℕ). IfErr c.from_vec.result (λ e. WhereTotal g.T.Readable.total (IsOutOfMemory e ⊎ ReportsFirst (limits_of None) bs e))) (w.canonical (view c.args.value) refl).written c.from_vec.ensures.first
 
 pub returns-clause-form : goal.returns-clause-form
 returns-clause-form g c = only_err g.T.Readable.wrong_forms _ _ c.from_vec.result c.from_vec.ensures.form

@@ -9,4 +9,4 @@ returns-in-Ok c = λ r good spelled.
 
 pub returns : goal.returns
 returns c = λ r good spelled.
-    memory_alone c.args.bytes.now r good spelled (omega arith) _ _ _ _ c.in-Err.refused _ c.new-de.ensures.formats refl (ap input_of_slice c.new-de.ensures.source ∙ c.new.ensures) c.in-Err.ensures.read c.error.ensures.tells
+    memory_alone c.args.bytes.now r good spelled (omega arith) _ _ _ _ c.in-Err.refused _ c.new-de.ensures.formats refl (ap input_of_slice c.new-de.ensures.source ∙ c.new.ensures) c.in-Err.ensures.read c.error.ensures.reports

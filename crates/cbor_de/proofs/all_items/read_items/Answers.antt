@@ -31,4 +31,4 @@ returns-in-Err-clause-refused g c =
     let t = at c.loop-answer.answer-iterator in
     let u = at c.next.new.self in
     let error = subst (λ (r : Result g.row.T.Denot Error). StreamGives g.R.Source.refusals reads g.T.Readable.total t (Some r) u) c.in-Err.is c.in-Some.ensures.steps in
-    λ bytes rest items tells fits are room. inr (c.loop-answer.items.items, error_given reads g.T.Readable.total g.R.Source.refusals source _ t u c.loop-answer.yielded c.loop-answer.items.items c.in-Err.e begins c.loop-answer.invariant all error bytes rest items tells fits are room)
+    λ bytes rest items reports fits are room. inr (c.loop-answer.items.items, error_given reads g.T.Readable.total g.R.Source.refusals source _ t u c.loop-answer.yielded c.loop-answer.items.items c.in-Err.e begins c.loop-answer.invariant all error bytes rest items reports fits are room)

@@ -1,5 +1,5 @@
 use Rattle.cbor_decode_as.proofs.facts.Places.{made_alone}
-use Rattle.cbor_de.proofs.Forms.{key_told}
+use Rattle.cbor_de.proofs.Forms.{key_reported}
 use Rattle.cbor_decode_as.specs.Takes.{formats_of}
 use Rattle.cbor_de.proofs.field.next_key.Goals as goal
 
@@ -10,4 +10,4 @@ pub returns-in-Err-clause-form : goal.returns-in-Err-clause-form
 returns-in-Err-clause-form g c =
     let old = c.args.de.now.decoder in
     let e = c.unnamed.result in
-    key_told (formats_of old.formats) c.args.remaining.now (g.R.Source.source old.source) e (made_alone c.next_field.new.self.decoder.refusal c.in-Err.why e c.unnamed.ensures.made) (c.in-Err.ensures.cases e c.unnamed.ensures.made)
+    key_reported (formats_of old.formats) c.args.remaining.now (g.R.Source.source old.source) e (made_alone c.next_field.new.self.decoder.refusal c.in-Err.why e c.unnamed.ensures.made) (c.in-Err.ensures.cases e c.unnamed.ensures.made)

@@ -3,15 +3,15 @@ use Rattle.cbor_model.specs.Acceptable.{max_depth}
 use Rattle.cbor_model.specs.Formats.{all_formats}
 use Rattle.cbor_model.specs.Raw.{AreBytes}
 use Rattle.cbor_read.specs.Source.{Input, start_of_slice, slice_refusals}
-use Rattle.cbor_decode.specs.Gives.{Tells}
+use Rattle.cbor_decode.specs.Gives.{Reports}
 use Rattle.cbor_decode_as.specs.Takes.{MemoryFor}
-use Rattle.cbor_de.specs.Whole.{ReadsAll, TellsWhole, from_reader_context, from_reader_asks}
+use Rattle.cbor_de.specs.Whole.{ReadsAll, ReportsWhole, from_reader_context, from_reader_asks}
 use Rattle.cbor_de.proofs.Every.{every}
 use Rattle.cbor_de.proofs.Faults.{fails}
 use Rattle.cbor_de.proofs.PassedOver.{passed_over}
 use Rattle.cbor_de.proofs.Inputs.{found, accepted, asked}
 use Rattle.cbor_de.proofs.FirstRefusals.{first}
-use Rattle.cbor_de.specs.Forms.{MayTell}
+use Rattle.cbor_de.specs.Forms.{MayReport}
 use Rattle.cbor_de.proofs.from.from_vec.Goals as goal
 
 pub returns-clause-found : goal.returns-clause-found
@@ -22,8 +22,8 @@ returns-clause-found g c =
     let reads = g.T.Readable.reads from_reader_context in
     let given = subst (λ (s : Input). ReadsAll slice_refusals all_formats reads max_depth s c.read_all.result) c.new.ensures c.read_all.ensures.read in
     let short : length bs < 2 ^ 64 = subst (λ (xs : List ℕ). length xs < 2 ^ 64) c.deref.ensures.value c.are_bytes.ensures.short in
-    let tells : Tells s bs = record { is = refl; short = omega (arith, short) } in
-    found slice_refusals all_formats reads s bs tells refl fits c.read_all.result given
+    let reports : Reports s bs = record { is = refl; short = omega (arith, short) } in
+    found slice_refusals all_formats reads s bs reports refl fits c.read_all.result given
 
 pub returns-clause-accepted : goal.returns-clause-accepted
 returns-clause-accepted g c = λ x spelt.
@@ -33,37 +33,37 @@ returns-clause-accepted g c = λ x spelt.
     let reads = g.T.Readable.reads from_reader_context in
     let given = subst (λ (s : Input). ReadsAll slice_refusals all_formats reads max_depth s c.read_all.result) c.new.ensures c.read_all.ensures.read in
     let short : length bs < 2 ^ 64 = subst (λ (xs : List ℕ). length xs < 2 ^ 64) c.deref.ensures.value c.are_bytes.ensures.short in
-    let tells : Tells s bs = record { is = refl; short = omega (arith, short) } in
-    accepted slice_refusals all_formats reads s bs tells refl fits (λ device. absurd cc) x spelt tt c.read_all.result given
+    let reports : Reports s bs = record { is = refl; short = omega (arith, short) } in
+    accepted slice_refusals all_formats reads s bs reports refl fits (λ device. absurd cc) x spelt tt c.read_all.result given
 
 pub returns-clause-fault : goal.returns-clause-fault
 returns-clause-fault g c =
     let bs = c.args.bytes.items in
     let s = start_of_slice bs None in
     let short : length bs < 2 ^ 64 = subst (λ (xs : List ℕ). length xs < 2 ^ 64) c.deref.ensures.value c.are_bytes.ensures.short in
-    let tells : Tells s bs = record { is = refl; short = omega (arith, short) } in
-    let given = subst (λ (s : Input). IfErr c.read_all.result (TellsWhole g.T.Readable.passes_over g.T.Readable.total slice_refusals all_formats (g.T.Readable.reads from_reader_context) max_depth s)) c.new.ensures c.read_all.ensures.fault in
-    passed_over g.T.Readable.passes_over g.T.Readable.total slice_refusals (g.T.Readable.reads from_reader_context) s bs tells refl (subst AreBytes c.deref.ensures.value c.are_bytes.ensures.bytes) (λ device. absurd cc) c.read_all.result given
+    let reports : Reports s bs = record { is = refl; short = omega (arith, short) } in
+    let given = subst (λ (s : Input). IfErr c.read_all.result (ReportsWhole g.T.Readable.passes_over g.T.Readable.total slice_refusals all_formats (g.T.Readable.reads from_reader_context) max_depth s)) c.new.ensures c.read_all.ensures.fault in
+    passed_over g.T.Readable.passes_over g.T.Readable.total slice_refusals (g.T.Readable.reads from_reader_context) s bs reports refl (subst AreBytes c.deref.ensures.value c.are_bytes.ensures.bytes) (λ device. absurd cc) c.read_all.result given
 
 pub returns-clause-every : goal.returns-clause-every
 returns-clause-every g c = λ v spelt.
     let bs = c.args.bytes.items in
     let s = start_of_slice bs None in
     let short : length bs < 2 ^ 64 = subst (λ (xs : List ℕ). length xs < 2 ^ 64) c.deref.ensures.value c.are_bytes.ensures.short in
-    let tells : Tells s bs = record { is = refl; short = omega (arith, short) } in
-    let given = subst (λ (s : Input). IfErr c.read_all.result (TellsWhole g.T.Readable.passes_over g.T.Readable.total slice_refusals all_formats (g.T.Readable.reads from_reader_context) max_depth s)) c.new.ensures c.read_all.ensures.fault in
+    let reports : Reports s bs = record { is = refl; short = omega (arith, short) } in
+    let given = subst (λ (s : Input). IfErr c.read_all.result (ReportsWhole g.T.Readable.passes_over g.T.Readable.total slice_refusals all_formats (g.T.Readable.reads from_reader_context) max_depth s)) c.new.ensures c.read_all.ensures.fault in
     let reads = g.T.Readable.reads from_reader_context in
     let read = subst (λ (s : Input). ReadsAll slice_refusals all_formats reads max_depth s c.read_all.result) c.new.ensures c.read_all.ensures.read in
-    every g.T.Readable.total slice_refusals reads s bs tells refl short v spelt tt c.read_all.result read (fails g.T.Readable.passes_over g.T.Readable.total slice_refusals (g.T.Readable.reads from_reader_context) s bs tells refl (λ device. absurd cc) c.read_all.result given)
+    every g.T.Readable.total slice_refusals reads s bs reports refl short v spelt tt c.read_all.result read (fails g.T.Readable.passes_over g.T.Readable.total slice_refusals (g.T.Readable.reads from_reader_context) s bs reports refl (λ device. absurd cc) c.read_all.result given)
 
 pub returns-clause-first : goal.returns-clause-first
 returns-clause-first g c =
     let bs = c.args.bytes.items in
     let s = start_of_slice bs None in
     let short : length bs < 2 ^ 64 = subst (λ (xs : List ℕ). length xs < 2 ^ 64) c.deref.ensures.value c.are_bytes.ensures.short in
-    let tells : Tells s bs = record { is = refl; short = omega (arith, short) } in
-    let given = subst (λ (s : Input). IfErr c.read_all.result (TellsWhole g.T.Readable.passes_over g.T.Readable.total slice_refusals all_formats (g.T.Readable.reads from_reader_context) max_depth s)) c.new.ensures c.read_all.ensures.fault in
-    first g.T.Readable.total None c.args.bytes.items (subst AreBytes c.deref.ensures.value c.are_bytes.ensures.bytes) c.read_all.result (fails g.T.Readable.passes_over g.T.Readable.total slice_refusals (g.T.Readable.reads from_reader_context) s bs tells refl (λ device. absurd cc) c.read_all.result given)
+    let reports : Reports s bs = record { is = refl; short = omega (arith, short) } in
+    let given = subst (λ (s : Input). IfErr c.read_all.result (ReportsWhole g.T.Readable.passes_over g.T.Readable.total slice_refusals all_formats (g.T.Readable.reads from_reader_context) max_depth s)) c.new.ensures c.read_all.ensures.fault in
+    first g.T.Readable.total None c.args.bytes.items (subst AreBytes c.deref.ensures.value c.are_bytes.ensures.bytes) c.read_all.result (fails g.T.Readable.passes_over g.T.Readable.total slice_refusals (g.T.Readable.reads from_reader_context) s bs reports refl (λ device. absurd cc) c.read_all.result given)
 
 pub returns-clause-memory : goal.returns-clause-memory
 returns-clause-memory g c = λ x spelt.
@@ -75,9 +75,9 @@ returns-clause-memory g c = λ x spelt.
     let given = subst (λ (s : Input). ReadsAll slice_refusals all_formats reads max_depth s c.read_all.result) c.new.ensures c.read_all.ensures.read in
     let memory = subst (λ (s : Input). IfErr c.read_all.result (MemoryFor asks all_formats reads max_depth s)) c.new.ensures c.read_all.ensures.memory in
     let short : length bs < 2 ^ 64 = subst (λ (xs : List ℕ). length xs < 2 ^ 64) c.deref.ensures.value c.are_bytes.ensures.short in
-    let tells : Tells s bs = record { is = refl; short = omega (arith, short) } in
-    asked slice_refusals all_formats reads s bs tells refl fits (λ device. absurd cc) asks x spelt tt c.read_all.result given memory
+    let reports : Reports s bs = record { is = refl; short = omega (arith, short) } in
+    asked slice_refusals all_formats reads s bs reports refl fits (λ device. absurd cc) asks x spelt tt c.read_all.result given memory
 
 pub returns-clause-form : goal.returns-clause-form
 returns-clause-form g c =
-    subst (λ (s : Input). IfErr c.read_all.result (MayTell g.T.Readable.wrong_forms all_formats s)) c.new.ensures c.read_all.ensures.form
+    subst (λ (s : Input). IfErr c.read_all.result (MayReport g.T.Readable.wrong_forms all_formats s)) c.new.ensures c.read_all.ensures.form

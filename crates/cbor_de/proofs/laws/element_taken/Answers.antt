@@ -3,5 +3,5 @@ use Rattle.cbor_de.proofs.PartTaken.{element_taken}
 use Rattle.cbor_de.proofs.laws.element_taken.Goals as goal
 
 pub returns : goal.returns
-returns g c = λ refusals f l levels remaining behind s t bytes r tells fits taken.
-    element_taken refusals f (g.T.Readable.reads (lending f l)) levels remaining behind s t bytes tells fits r taken
+returns g c = λ refusals f l levels remaining behind s t bytes r reports fits taken.
+    element_taken refusals f (g.T.Readable.reads (lending f l)) levels remaining behind s t bytes reports fits r taken

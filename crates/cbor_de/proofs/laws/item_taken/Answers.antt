@@ -3,5 +3,5 @@ use Rattle.cbor_de.proofs.Taken.{item_taken}
 use Rattle.cbor_de.proofs.laws.item_taken.Goals as goal
 
 pub returns : goal.returns
-returns g c = λ refusals f l levels s t bytes r tells fits taken.
-    item_taken refusals f (g.T.Readable.reads (lending f l)) levels s t bytes tells fits r taken
+returns g c = λ refusals f l levels s t bytes r reports fits taken.
+    item_taken refusals f (g.T.Readable.reads (lending f l)) levels s t bytes reports fits r taken

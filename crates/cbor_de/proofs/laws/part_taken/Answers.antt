@@ -3,5 +3,5 @@ use Rattle.cbor_de.proofs.ContentTaken.{part_taken}
 use Rattle.cbor_de.proofs.laws.part_taken.Goals as goal
 
 pub returns : goal.returns
-returns g c = λ refusals f l levels remaining behind s t bytes r tells fits taken.
-    part_taken refusals f (g.T.Readable.reads (lending f l)) levels s t bytes tells fits remaining behind r taken
+returns g c = λ refusals f l levels remaining behind s t bytes r reports fits taken.
+    part_taken refusals f (g.T.Readable.reads (lending f l)) levels s t bytes reports fits remaining behind r taken

@@ -3,5 +3,5 @@ use Rattle.cbor_de.proofs.ContentTaken.{newtype_taken}
 use Rattle.cbor_de.proofs.laws.variant_newtype_taken.Goals as goal
 
 pub returns : goal.returns
-returns g c = λ refusals f l levels form s t bytes r tells fits taken.
-    newtype_taken refusals f (g.T.Readable.reads (lending f l)) levels s t bytes tells fits form r taken
+returns g c = λ refusals f l levels form s t bytes r reports fits taken.
+    newtype_taken refusals f (g.T.Readable.reads (lending f l)) levels s t bytes reports fits form r taken

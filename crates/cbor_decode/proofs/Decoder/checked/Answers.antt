@@ -13,7 +13,7 @@ use Rattle.cbor_io.specs.ReadError.{why, place, error_code}
 use Rattle.cbor_io.specs.declared.read_error.ReadError.{ReadError}
 use Rattle.cbor_io.specs.declared.read_error.ReadErrorCode.TheVariants.{InvalidUtf8}
 use Rattle.cbor_io.specs.declared.read_error.ReadErrorCode.{ReadErrorCode}
-use Rattle.cbor_decode.specs.Gives.{FailsBy, Limits, limits, values, Reports, Stops}
+use Rattle.cbor_decode.specs.Gives.{FailsBy, Limits, limits, values, ReportsIo, Stops}
 use Rattle.cbor_decode.proofs.Calls.{kept_stops}
 use Rattle.cbor_decode.proofs.Steps.{took_none, step_same}
 use Rattle.cbor_decode.proofs.Decoder.checked.Goals as goal
@@ -56,10 +56,10 @@ returns-in-Err-clause-read g c =
     let read : (Limits → List ℕ → Reads Val) = λ l. checked_text (values all_formats l) (text b) b in
     let P : (ReadError → Type 0) = λ e. (why e ≡ InvalidUtf8) × (place e + (c.len-len.result - c.valid_up_to-valid.result) ≡ s.offset) in
     let stops : ((e : ReadError) → P e → Stops g.R.Source.refusals read s e) = λ e h. record {
-      told = λ bs tells.
+      reported = λ bs reports.
           let left : ℕ = length bs + (length b - utf8_valid_len b) in
           let r = read (limits s bs) bs in
           let at : place e + left ≡ s.offset + length bs = omega (arith, h.1, long, valid, utf8_valid_len_le b) in
-          subst (λ (k : ReadErrorCode). FailsBy (Reports g.R.Source.refusals) (error_code k) (s.offset + length bs) (place e) r) (sym h.0) (left, at, not_utf8 (limits s bs) b bs bad);
+          subst (λ (k : ReadErrorCode). FailsBy (ReportsIo g.R.Source.refusals) (error_code k) (s.offset + length bs) (place e) r) (sym h.0) (left, at, not_utf8 (limits s bs) b bs bad);
     } in
     rw c.refuse_back.ensures.source (kept_stops g.R.Source.refusals s read _ _ P stops (took_none s) c.refuse_back.ensures.refused c.refuse_back.ensures.kept)

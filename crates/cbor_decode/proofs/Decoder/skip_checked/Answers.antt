@@ -4,7 +4,7 @@ use Rattle.cbor_io.specs.ReadError.{why, place, error_code}
 use Rattle.cbor_io.specs.declared.read_error.ReadError.{ReadError}
 use Rattle.cbor_io.specs.declared.read_error.ReadErrorCode.{ReadErrorCode}
 use Rattle.cbor_io.specs.declared.read_error.ReadErrorCode.TheVariants.{InvalidUtf8}
-use Rattle.cbor_decode.specs.Gives.{FailsBy, Limits, Reports, Stops}
+use Rattle.cbor_decode.specs.Gives.{FailsBy, Limits, ReportsIo, Stops}
 use Rattle.cbor_decode.specs.Strings.{checked_by}
 use Rattle.cbor_decode.proofs.Calls.{kept_stops}
 use Rattle.cbor_decode.proofs.SkippedStrings.{checked_bad}
@@ -21,9 +21,9 @@ returns-clause-read g c =
     let read : (Limits → List ℕ → Reads (Unit {0})) = λ l. checked_by bad in
     let P : (ReadError → Type 0) = λ e. (why e ≡ InvalidUtf8) × (place e + bad ≡ s.offset) in
     let stops : ((e : ReadError) → P e → Stops g.R.Source.refusals read s e) = λ e h. record {
-      told = λ bs tells.
+      reported = λ bs reports.
           let left : ℕ = length bs + bad in
           let at : place e + left ≡ s.offset + length bs = omega (arith, h.1) in
-          subst (λ (k : ReadErrorCode). FailsBy (Reports g.R.Source.refusals) (error_code k) (s.offset + length bs) (place e) (checked_by bad bs)) (sym h.0) (left, at, checked_bad bad bs c.if-bad-eq0.false);
+          subst (λ (k : ReadErrorCode). FailsBy (ReportsIo g.R.Source.refusals) (error_code k) (s.offset + length bs) (place e) (checked_by bad bs)) (sym h.0) (left, at, checked_bad bad bs c.if-bad-eq0.false);
     } in
     rw c.refuse_back.ensures.source (kept_stops g.R.Source.refusals s read _ _ P stops (took_none s) c.refuse_back.ensures.refused c.refuse_back.ensures.kept)

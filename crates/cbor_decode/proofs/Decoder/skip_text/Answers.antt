@@ -7,7 +7,7 @@ use Rattle.cbor_io.specs.ReadError.{place, error_code}
 use Rattle.cbor_io.specs.declared.read_error.ReadError.{ReadError}
 use Rattle.cbor_io.specs.declared.read_error.ReadErrorCode.{ReadErrorCode}
 use Rattle.cbor_io.specs.declared.read_error.ReadErrorCode.TheVariants.{LengthOutOfRange}
-use Rattle.cbor_decode.specs.Gives.{FailsBy, Limits, limits, values, Reports, Stops, IsAt}
+use Rattle.cbor_decode.specs.Gives.{FailsBy, Limits, limits, values, ReportsIo, Stops, IsAt}
 use Rattle.cbor_decode.specs.Heads.{passed}
 use Rattle.cbor_decode.specs.Strings.{bad_of, checked_by}
 use Rattle.cbor_decode.proofs.Calls.{kept_stops}
@@ -20,10 +20,10 @@ returns-then-not-has_room-clause-read g c =
     let s = g.R.Source.source c.args.self.now.source in
     let read : (Limits → List ℕ → Reads (Unit {0})) = λ l bs. passed (text_at (values all_formats l) no_bytes c.args.n bs) in
     let stops : ((e : ReadError) → IsAt LengthOutOfRange s.offset e → Stops g.R.Source.refusals read s e) = λ e at. record {
-      told = λ bs tells.
+      reported = λ bs reports.
           let r = read (limits s bs) bs in
           let here : place e + length bs ≡ s.offset + length bs = omega (arith, at.1) in
-          subst (λ (k : ReadErrorCode). FailsBy (Reports g.R.Source.refusals) (error_code k) (s.offset + length bs) (place e) r) (sym at.0) (length bs, here, text_too_long s c.args.n bs (sym c.if-not-has_room.ensures));
+          subst (λ (k : ReadErrorCode). FailsBy (ReportsIo g.R.Source.refusals) (error_code k) (s.offset + length bs) (place e) r) (sym at.0) (length bs, here, text_too_long s c.args.n bs (sym c.if-not-has_room.ensures));
     } in
     rw c.refuse.ensures.source (kept_stops g.R.Source.refusals s read _ _ (IsAt LengthOutOfRange s.offset) stops (took_none s) c.refuse.ensures.refused c.refuse.ensures.kept)
 

@@ -10,7 +10,7 @@ use Rattle.cbor_io.specs.ReadError.{place, error_code}
 use Rattle.cbor_io.specs.declared.read_error.ReadErrorCode.{ReadErrorCode}
 use Rattle.cbor_io.specs.declared.read_error.ReadError.{ReadError}
 use Rattle.cbor_io.specs.declared.read_error.ReadErrorCode.TheVariants.{LengthOutOfRange}
-use Rattle.cbor_decode.specs.Gives.{FailsBy, Limits, limits, values, Reports, Stops, IsAt}
+use Rattle.cbor_decode.specs.Gives.{FailsBy, Limits, limits, values, ReportsIo, Stops, IsAt}
 use Rattle.cbor_decode.proofs.Calls.{kept_stops}
 use Rattle.cbor_decode.proofs.Steps.{took_none, stopped_at, gives_at}
 use Rattle.cbor_decode.proofs.Texts.{no_room, has_room, text_stop}
@@ -21,10 +21,10 @@ returns-then-not-has_room-clause-read g c =
     let s = g.R.Source.source c.args.self.now.source in
     let read : (Limits → List ℕ → Reads Val) = λ l. text_at (values all_formats l) no_bytes c.args.n in
     let stops : ((e : ReadError) → IsAt LengthOutOfRange s.offset e → Stops g.R.Source.refusals read s e) = λ e at. record {
-      told = λ bs tells.
+      reported = λ bs reports.
           let r = read (limits s bs) bs in
           let here : place e + length bs ≡ s.offset + length bs = omega (arith, at.1) in
-          subst (λ (k : ReadErrorCode). FailsBy (Reports g.R.Source.refusals) (error_code k) (s.offset + length bs) (place e) r) (sym at.0) (length bs, here, no_room s bs c.args.n (sym c.if-not-has_room.ensures));
+          subst (λ (k : ReadErrorCode). FailsBy (ReportsIo g.R.Source.refusals) (error_code k) (s.offset + length bs) (place e) r) (sym at.0) (length bs, here, no_room s bs c.args.n (sym c.if-not-has_room.ensures));
     } in
     rw c.refuse.ensures.source (kept_stops g.R.Source.refusals s read _ _ (IsAt LengthOutOfRange s.offset) stops (took_none s) c.refuse.ensures.refused c.refuse.ensures.kept)
 

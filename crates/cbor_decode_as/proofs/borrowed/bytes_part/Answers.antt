@@ -42,5 +42,5 @@ returns-in-Err-join g c =
     let is = c.stopped.ensures.kept in
     let e = c.in-Err-join.ensures in
     let asks = asks_for g.R.Source.refusals g.R.Source.lends in
-    let stops = kept_stop g.R.Source.refusals (λ l. content_at l (Bytes None)) s kept r q is e.read.told in
+    let stops = kept_stop g.R.Source.refusals (λ l. content_at l (Bytes None)) s kept r q is e.read.reported in
     ((refl, λ _. tt, (c.stopped.ensures.settings.levels ∙ e.settings.levels, c.stopped.ensures.settings.formats ∙ e.settings.formats, subst (λ (k : Option ℕ). Lent g.R.Source.refusals g.R.Source.lends (Bytes k) s t (Err (Stopped q))) (sym c.in-None.is) (content_refuses g.R.Source.refusals (Bytes None) s q stops (some_then _ _ _ e.read.took (took_same (ap g.R.Source.source c.stopped.ensures.source)))), kept_no_key kept r q is e.no_key, subst (λ (k : Option ℕ). UnreadOnly (asks_head asks (Bytes k) ≡ true) (Stopped q)) (sym c.in-None.is) (kept_only (asks.joined ≡ true) kept r q is e.memory), subst (λ (k : Option ℕ). UnreadBy g.R.Source.refusals (behind_string (Bytes k)) s (Stopped q)) (sym c.in-None.is) (bytes_by g.R.Source.refusals s None q stops))), record { after_borrow = tt })

@@ -38,7 +38,7 @@ pub returns-in-Err-clause-opened : goal.returns-in-Err-clause-opened
 returns-in-Err-clause-opened g c =
     let old = c.args.decoder.now in
     let u = c.tagged_head.new.decoder in
-    rw c.error.ensures.source (begins_stopped head.Array g.R.Source.refusals old.levels (g.R.Source.source old.source) (g.R.Source.source u.source) u.refusal c.in-Err.refused c.error.result c.error.ensures.tells c.in-Err.ensures.opened)
+    rw c.error.ensures.source (begins_stopped head.Array g.R.Source.refusals old.levels (g.R.Source.source old.source) (g.R.Source.source u.source) u.refusal c.in-Err.refused c.error.result c.error.ensures.reports c.in-Err.ensures.opened)
 
 pub returns-in_default-clause-opened : goal.returns-in_default-clause-opened
 returns-in_default-clause-opened g c =

@@ -28,10 +28,10 @@ returns-in-Err-clause-read g c =
     let decoder = c.args.decoder.now in
     let f = formats_of decoder.formats in
     let s = g.R.Source.source decoder.source in
-    rw c.error.ensures.source (refuses g.R.Source.refusals (PassesTags IsFloatOf) (λ l. item_at (raws f l) decoder.levels) s c.double.new.self.refusal c.in-Err.refused c.error.result c.error.ensures.tells
+    rw c.error.ensures.source (refuses g.R.Source.refusals (PassesTags IsFloatOf) (λ l. item_at (raws f l) decoder.levels) s c.double.new.self.refusal c.in-Err.refused c.error.result c.error.ensures.reports
     (head_stops g.R.Source.refusals f s decoder.levels c.double.new.self.refusal c.in-Err.refused c.in-Err.ensures.read))
 
 pub returns-in-Err-clause-fault : goal.returns-in-Err-clause-fault
 returns-in-Err-clause-fault g c =
     let decoder = c.args.decoder.now in
-    headless_whole g.R.Source.refusals decoder.levels (g.R.Source.source decoder.source) c.double.new.self.refusal c.in-Err.refused c.error.result c.in-Err.ensures.read.told c.error.ensures.tells
+    headless_whole g.R.Source.refusals decoder.levels (g.R.Source.source decoder.source) c.double.new.self.refusal c.in-Err.refused c.error.result c.in-Err.ensures.read.reported c.error.ensures.reports

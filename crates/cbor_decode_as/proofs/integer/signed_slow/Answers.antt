@@ -32,7 +32,7 @@ returns-in-None-clause-memory g c = λ e.
 pub returns-in-Err-clause-fault : goal.returns-in-Err-clause-fault
 returns-in-Err-clause-fault g c =
     let u = c.scalar_head.new.decoder in
-    unopened_whole g.R.Source.refusals c.args.decoder.now.levels (g.R.Source.source c.args.decoder.now.source) u.refusal c.in-Err.refused c.error.result c.in-Err.ensures.opened.told c.error.ensures.tells
+    unopened_whole g.R.Source.refusals c.args.decoder.now.levels (g.R.Source.source c.args.decoder.now.source) u.refusal c.in-Err.refused c.error.result c.in-Err.ensures.opened.reported c.error.ensures.reports
 
 pub returns-in-None-clause-fault : goal.returns-in-None-clause-fault
 returns-in-None-clause-fault g c =

@@ -31,7 +31,7 @@ returns-in_default-clause-memory g c = λ is.
 pub returns-in-Err-clause-fault : goal.returns-in-Err-clause-fault
 returns-in-Err-clause-fault g c =
     let u = c.scalar_head.new.decoder in
-    unopened_whole g.R.Source.refusals c.args.decoder.now.levels (g.R.Source.source c.args.decoder.now.source) u.refusal c.in-Err.refused c.error.result c.in-Err.ensures.opened.told c.error.ensures.tells
+    unopened_whole g.R.Source.refusals c.args.decoder.now.levels (g.R.Source.source c.args.decoder.now.source) u.refusal c.in-Err.refused c.error.result c.in-Err.ensures.opened.reported c.error.ensures.reports
 
 pub returns-in_default-clause-fault : goal.returns-in_default-clause-fault
 returns-in_default-clause-fault g c =

@@ -96,7 +96,7 @@ pub returns-in_err-found-clause-fault : goal.returns-in_err-found-clause-fault
 returns-in_err-found-clause-fault g c =
     let p = err_from_is_err_and c.from_residual.result c.from_residual.ensures.1 in
     let s = g.R.Source.source c.args.decoder.now.source in
-    rw (p.1, p.2) (λ e is. unopened_whole g.R.Source.refusals c.args.decoder.now.levels s _ _ e c.in_err-found.ensures.opened.told is)
+    rw (p.1, p.2) (λ e is. unopened_whole g.R.Source.refusals c.args.decoder.now.levels s _ _ e c.in_err-found.ensures.opened.reported is)
 
 pub returns-in_err-text-in-Text-clause-fault : goal.returns-in_err-text-in-Text-clause-fault
 returns-in_err-text-in-Text-clause-fault g c =
@@ -114,7 +114,7 @@ returns-in_err-bytes-in-Bytes-clause-fault g c =
     let levels = c.args.decoder.now.levels in
     let s = g.R.Source.source c.args.decoder.now.source in
     let m = g.R.Source.source u.source in
-    rw (p.1, p.2) (λ e is. bytes_whole g.R.Source.refusals c.in_ok-found.found levels s m c.in_ok-found.ensures.opened c.in-Bytes.n _ _ e c.in-Bytes.is c.in_err-bytes-in-Bytes.ensures.read.told is)
+    rw (p.1, p.2) (λ e is. bytes_whole g.R.Source.refusals c.in_ok-found.found levels s m c.in_ok-found.ensures.opened c.in-Bytes.n _ _ e c.in-Bytes.is c.in_err-bytes-in-Bytes.ensures.read.reported is)
 
 pub returns-in-Bytes-clause-fault : goal.returns-in-Bytes-clause-fault
 returns-in-Bytes-clause-fault g c =
@@ -145,7 +145,7 @@ returns-clause-fault g c =
     let m = g.R.Source.source c.scalar_head.new.decoder.source in
     let found = c.in_ok-found.found in
     λ e is. behind_whole g.R.Source.refusals found c.args.decoder.now.levels s m e c.in_ok-found.ensures.opened
-    (behind_stopped g.R.Source.refusals found m _ _ e c.in-Err-pass_over.ensures.read.told is)
+    (behind_stopped g.R.Source.refusals found m _ _ e c.in-Err-pass_over.ensures.read.reported is)
 
 pub returns-in_err-found-clause-read : goal.returns-in_err-found-clause-read
 returns-in_err-found-clause-read g c =

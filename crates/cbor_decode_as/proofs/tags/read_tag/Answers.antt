@@ -1,6 +1,6 @@
 use Rattle.cbor_decode_as.specs.Takes.{formats_of}
 use Rattle.cbor_decode_as.specs.Tags.{tag_head_at}
-use Rattle.cbor_decode_as.proofs.numbers.Scalars.{told_by}
+use Rattle.cbor_decode_as.proofs.numbers.Scalars.{reported_by}
 use Rattle.cbor_decode_as.proofs.heads.TagHeads.{tag_is}
 use Rattle.cbor_decode_as.proofs.tags.read_tag.Goals as goal
 
@@ -12,4 +12,4 @@ returns-in-Ok-clause-item g c =
 pub returns-in-Err-clause-read : goal.returns-in-Err-clause-read
 returns-in-Err-clause-read g c =
     let d = c.args.decoder.now in
-    rw c.error.ensures.source (c.in-Err.ensures.read.took, told_by g.R.Source.refusals (λ l. tag_head_at d.levels) (g.R.Source.source d.source) c.take_tag.new.decoder.refusal c.in-Err.refused c.error.result c.error.ensures.tells c.in-Err.ensures.read)
+    rw c.error.ensures.source (c.in-Err.ensures.read.took, reported_by g.R.Source.refusals (λ l. tag_head_at d.levels) (g.R.Source.source d.source) c.take_tag.new.decoder.refusal c.in-Err.refused c.error.result c.error.ensures.reports c.in-Err.ensures.read)

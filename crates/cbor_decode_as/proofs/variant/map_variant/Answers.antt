@@ -35,7 +35,7 @@ returns-clause-read g c =
 pub returns-in-Err-clause-read : goal.returns-in-Err-clause-read
 returns-in-Err-clause-read g c =
     let old = c.args.decoder.now in
-    rw c.error.ensures.source (map_head_refused (formats_of old.formats) (texts c.args.names.now) old.levels (g.R.Source.source old.source) g.R.Source.refusals c.pair_head.new.decoder.refusal c.in-Err.refused c.error.result c.error.ensures.tells c.in-Err.ensures.read)
+    rw c.error.ensures.source (map_head_refused (formats_of old.formats) (texts c.args.names.now) old.levels (g.R.Source.source old.source) g.R.Source.refusals c.pair_head.new.decoder.refusal c.in-Err.refused c.error.result c.error.ensures.reports c.in-Err.ensures.read)
 
 -- ---- whatever follows
 
@@ -66,4 +66,4 @@ returns-clause-opened g c =
 pub returns-in-Err-clause-opened : goal.returns-in-Err-clause-opened
 returns-in-Err-clause-opened g c =
     let old = c.args.decoder.now in
-    rw c.error.ensures.source (pair_refused (formats_of old.formats) (texts c.args.names.now) old.levels (g.R.Source.source old.source) g.R.Source.refusals c.pair_head.new.decoder.refusal c.in-Err.refused c.error.result c.error.ensures.tells c.in-Err.ensures.read)
+    rw c.error.ensures.source (pair_refused (formats_of old.formats) (texts c.args.names.now) old.levels (g.R.Source.source old.source) g.R.Source.refusals c.pair_head.new.decoder.refusal c.in-Err.refused c.error.result c.error.ensures.reports c.in-Err.ensures.read)

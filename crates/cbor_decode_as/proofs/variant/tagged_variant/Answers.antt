@@ -36,4 +36,4 @@ pub returns-in-Err-clause-opened : goal.returns-in-Err-clause-opened
 returns-in-Err-clause-opened g c =
     let old = c.args.decoder.now in
     let s = g.R.Source.source old.source in
-    rw c.error.ensures.source (tags_refused g.R.Source.refusals (formats_of old.formats) (texts c.args.names.now) old.levels s s c.pass_tags.new.decoder.refusal c.in-Err.refused c.error.result c.error.ensures.tells c.in-Err.ensures.passed)
+    rw c.error.ensures.source (tags_refused g.R.Source.refusals (formats_of old.formats) (texts c.args.names.now) old.levels s s c.pass_tags.new.decoder.refusal c.in-Err.refused c.error.result c.error.ensures.reports c.in-Err.ensures.passed)

@@ -4,7 +4,7 @@ use Rattle.cbor_decode_as.specs.Takes.{context, formats_of}
 use Rattle.cbor_de.proofs.facts.Enums.{variant_unread}
 use Rattle.cbor_described.proofs.OneOfs.{enum_answer}
 use Rattle.cbor_de.specs.Forms.{Began, enum_form}
-use Rattle.cbor_de.proofs.facts.Forms.{began_err, enum_told, of_left, right_err}
+use Rattle.cbor_de.proofs.facts.Forms.{began_err, enum_reported, of_left, right_err}
 use Rattle.std.proofs.lemmas.Result.{err_from_is_err_and}
 use Rattle.cbor_described.proofs.variant_list.variants_within.Goals as goal
 
@@ -12,7 +12,7 @@ pub returns-in_err-index-clause-read : goal.returns-in_err-index-clause-read
 returns-in_err-index-clause-read g c =
     let old = c.args.de.now.decoder in
     variant_unread (texts c.args.names.now) (g.E.VariantList.means (context old.formats g.R.Source.lends)) old.formats old.levels (g.R.Source.source c.variant_head.new.de.decoder.source) c.in_err-index.field-0.0 c.from_residual.result
-    (λ t took. record { took = took; told = c.in_err-index.ensures.read.told }) c.from_residual.ensures.1 c.in_err-index.ensures.read.took
+    (λ t took. record { took = took; reported = c.in_err-index.ensures.read.reported }) c.from_residual.ensures.1 c.in_err-index.ensures.read.took
 
 pub returns-clause-read : goal.returns-clause-read
 returns-clause-read g c =
@@ -28,7 +28,7 @@ pub returns-in_err-index-clause-form : goal.returns-in_err-index-clause-form
 returns-in_err-index-clause-form g c =
     let passed = err_from_is_err_and c.from_residual.result c.from_residual.ensures.1 in
     let e = c.in_err-index.field-0.0 in
-    rw (passed.1, passed.2) (of_left enum_form g.E.VariantList.wrong_forms _ _ e (enum_told (formats_of c.args.de.now.decoder.formats) c.args.de.now.decoder.levels (g.R.Source.source c.args.de.now.decoder.source) e c.in_err-index.ensures.code c.in_err-index.ensures.cases))
+    rw (passed.1, passed.2) (of_left enum_form g.E.VariantList.wrong_forms _ _ e (enum_reported (formats_of c.args.de.now.decoder.formats) c.args.de.now.decoder.levels (g.R.Source.source c.args.de.now.decoder.source) e c.in_err-index.ensures.code c.in_err-index.ensures.cases))
 
 pub returns-clause-form : goal.returns-clause-form
 returns-clause-form g c =

@@ -1,9 +1,9 @@
 use Rattle.std.proofs.Common.{◌⊎◌, ℕ, List, IfErr, None, subst}
 use Rattle.cbor_model.specs.Allowed.{limits_of}
 use Rattle.cbor_io.specs.Error.{IsOutOfMemory}
-use Rattle.cbor_decode.specs.FirstRefusal.{TellsFirst}
+use Rattle.cbor_decode.specs.FirstRefusal.{ReportsFirst}
 use Rattle.cbor_decode_as.specs.Takes.{WhereTotal}
-use Rattle.cbor_round_trip.proofs.Calls.{first_by_memory, only_memory, same_again, spelled_again, told_unstorable}
+use Rattle.cbor_round_trip.proofs.Calls.{first_by_memory, only_memory, same_again, spelled_again, reported_unstorable}
 use Rattle.cbor_round_trip.proofs.laws.write_and_read.Goals as goal
 
 pub returns-in_err-bytes-clause-answered : goal.returns-in_err-bytes-clause-answered
@@ -25,7 +25,7 @@ returns-clause-answered g c = λ fit stored nests.
 -- ---- why it is refused
 
 pub returns-in_err-bytes-clause-refused : goal.returns-in_err-bytes-clause-refused
-returns-in_err-bytes-clause-refused g c = λ unstorable. told_unstorable _ _ _ c.in_err-bytes.ensures.refused c.from_residual.ensures.1
+returns-in_err-bytes-clause-refused g c = λ unstorable. reported_unstorable _ _ _ c.in_err-bytes.ensures.refused c.from_residual.ensures.1
 
 pub returns-in_err-bytes-clause-first : goal.returns-in_err-bytes-clause-first
 returns-in_err-bytes-clause-first g c = λ stored. first_by_memory g.T.Readable.total _ _ (only_memory _ _ _ c.in_err-bytes.ensures.refused c.from_residual.ensures.1 stored)
@@ -35,4 +35,4 @@ returns-clause-refused g c = λ unstorable. absurd (unstorable c.in_ok-bytes.ens
 
 pub returns-clause-first : goal.returns-clause-first
 returns-clause-first g c = λ stored.
-    subst (λ (bs : List ℕ). IfErr c.from_vec.result (λ e. WhereTotal g.T.Readable.total (IsOutOfMemory e ⊎ TellsFirst (limits_of None) bs e))) c.in_ok-bytes.ensures.written c.from_vec.ensures.first
+    subst (λ (bs : List ℕ). IfErr c.from_vec.result (λ e. WhereTotal g.T.Readable.total (IsOutOfMemory e ⊎ ReportsFirst (limits_of None) bs e))) c.in_ok-bytes.ensures.written c.from_vec.ensures.first

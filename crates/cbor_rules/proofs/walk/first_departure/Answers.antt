@@ -1,13 +1,13 @@
 use Rattle.std.proofs.Common.{length}
 use Rattle.cbor_rules.specs.Rules.{first_departure}
 use Rattle.cbor_rules.specs.declared.walk.Walk.TheVariants.{Departed}
-use Rattle.cbor_rules.proofs.Told.{answered, told, untold}
+use Rattle.cbor_rules.proofs.Told.{answered, reported, untold}
 use Rattle.cbor_rules.proofs.walk.first_departure.Goals as goal
 
 pub returns-in-Departed : goal.returns-in-Departed
 returns-in-Departed c = λ r fits is.
     let bs = c.args.bytes.now in
-    told (length bs) (first_departure c.args.rules r) c.in-Departed.rule c.in-Departed.left
+    reported (length bs) (first_departure c.args.rules r) c.in-Departed.rule c.in-Departed.left
     (answered c.args.rules bs r (Departed c.in-Departed.rule c.in-Departed.left) fits is c.in-Departed.ensures.walks)
 
 pub returns-in_default : goal.returns-in_default

@@ -78,11 +78,11 @@ returns-in-Some-first_departure-clause-refused g c =
     let j = c.in-Some-first_departure.offset in
     let e = c.not_canonical-in-Some-first_departure in
     let shown = subst (λ (b : List ℕ). IsFirstShown b j) (c.up_to.ensures ∙ ap (λ (o : ℕ). take o c.args.slice.now) c.offset.ensures.value) c.in-Some-first_departure.ensures in
-    let told = subst (IsFirstShown (take o bs)) (sym e.ensures.offset) shown in
+    let reported = subst (IsFirstShown (take o bs)) (sym e.ensures.offset) shown in
     where_map g.T.Readable.total (λ first.
     elim first [
       | inl memory ↦ absurd (nothing_shown bs c.in-Err.e j memory shown)
-      | inr tells ↦ inr (departs_earlier bs c.in-Err.e e.result tells e.ensures.code told)
+      | inr reports ↦ inr (departs_earlier bs c.in-Err.e e.result reports e.ensures.code reported)
     ]) c.in-Err.ensures.first
 
 pub returns-in-Some-first_departure-clause-earliest : goal.returns-in-Some-first_departure-clause-earliest
@@ -114,7 +114,7 @@ returns-in-None-first_departure-clause-refused g c =
     where_map g.T.Readable.total (λ first.
     elim first [
       | inl memory ↦ inl memory
-      | inr tells ↦ inr (fault_earlier bs c.in-Err.e fits tells (each_behind bs (offset_of c.in-Err.e) none))
+      | inr reports ↦ inr (fault_earlier bs c.in-Err.e fits reports (each_behind bs (offset_of c.in-Err.e) none))
     ]) c.in-Err.ensures.first
 
 pub returns-in-None-first_departure-clause-earliest : goal.returns-in-None-first_departure-clause-earliest

@@ -2,7 +2,7 @@ use Rattle.std.proofs.Common.{refl, ◌∙◌}
 use Rattle.std.proofs.lemmas.Result.{on_ok_weaker}
 use Rattle.serde_cbor.specs.View.{view}
 use Rattle.cbor_tool.specs.Answer.{shown}
-use Rattle.cbor_tool.proofs.Answers.{answered_refused, memory_told, IsOutOfMemory-not_written, err_weaker}
+use Rattle.cbor_tool.proofs.Answers.{answered_refused, memory_reported, IsOutOfMemory-not_written, err_weaker}
 use Rattle.cbor_tool.proofs.program.answer_bytes.Goals as goal
 
 pub returns-in_ok-refusal-in-Err-clause-ok : goal.returns-in_ok-refusal-in-Err-clause-ok
@@ -16,7 +16,7 @@ returns-in_ok-refusal-in-Err-clause-ok c =
 
 pub returns-then-is_memory-clause-err : goal.returns-then-is_memory-clause-err
 returns-then-is_memory-clause-err c =
-    memory_told c.args.mode c.args.bytes.now c.in-Err.error c.in-Err.ensures.refused (c.if-is_memory.ensures.0 refl)
+    memory_reported c.args.mode c.args.bytes.now c.in-Err.error c.in-Err.ensures.refused (c.if-is_memory.ensures.0 refl)
 
 pub returns-in-Ok-clause-ok : goal.returns-in-Ok-clause-ok
 returns-in-Ok-clause-ok c = on_ok_weaker c.show.result (λ is. shown (view c.in-Ok.value) c.in-Ok.ensures.found is) c.show.ensures.ok

@@ -11,11 +11,11 @@ use Rattle.serde_cbor.specs.Error.{IsOutOfMemory}
 use Rattle.serde_cbor.specs.View.{view}
 use Rattle.serde_cbor.proofs.facts.Values.{spelled_value}
 use Rattle.cbor_model.specs.Allowed.{limits_of}
-use Rattle.serde_cbor.specs.FirstRefusal.{TellsFirst}
+use Rattle.serde_cbor.specs.FirstRefusal.{ReportsFirst}
 use Rattle.cbor_tool.specs.declared.program.Mode.{Mode}
 use Rattle.cbor_tool.specs.declared.program.Mode.TheVariants.{Lenient, Strict, Diagnose}
 use Rattle.cbor_tool.specs.declared.program.Mode.TheVariants.{DiagnosePretty}
-use Rattle.cbor_tool.specs.RunSteps.{SpellsIn, TellsIn}
+use Rattle.cbor_tool.specs.RunSteps.{SpellsIn, ReportsIn}
 use Rattle.cbor_tool.proofs.program.read.Goals as goal
 
 -- what is read leniently
@@ -40,7 +40,7 @@ accepted_in Strict bs r other h = absurd (other refl)
 accepted_in Diagnose bs r other h = h
 accepted_in DiagnosePretty bs r other h = h
 
-refused_in : (mode : Mode) (bs : List ℕ) (r : Result Value Error) → (mode ≡ Strict → ⊥) → IfErr r (λ e. IsOutOfMemory e ⊎ TellsFirst (limits_of None) bs e) → IfErr r (λ e. IsOutOfMemory e ⊎ TellsIn mode bs e)
+refused_in : (mode : Mode) (bs : List ℕ) (r : Result Value Error) → (mode ≡ Strict → ⊥) → IfErr r (λ e. IsOutOfMemory e ⊎ ReportsFirst (limits_of None) bs e) → IfErr r (λ e. IsOutOfMemory e ⊎ ReportsIn mode bs e)
 refused_in Lenient bs r other h = h
 refused_in Strict bs r other h = absurd (other refl)
 refused_in Diagnose bs r other h = h

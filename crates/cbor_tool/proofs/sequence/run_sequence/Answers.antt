@@ -8,7 +8,7 @@ use Rattle.cbor_value.specs.declared.Value.{Value}
 use Rattle.serde_cbor.specs.Source.{reader_refusals}
 use Rattle.serde_cbor.specs.Sources.{input_of_reader}
 use Rattle.serde_cbor.specs.Streams.{standing}
-use Rattle.serde_cbor.specs.Takes.{TellsItem}
+use Rattle.serde_cbor.specs.Takes.{ReportsItem}
 use Rattle.serde_cbor.specs.View.{view}
 use Rattle.cbor_tool.proofs.StreamItems.{item_given}
 use Rattle.cbor_tool.proofs.Sequences.{failed_behind, lends, one_more, refused_behind, storable_taken}
@@ -24,10 +24,10 @@ returns-in-Err-clause-stopped g c input gave =
     let far = before.far input gave in
     let s = standing (input_of_reader g.R.Read.remaining) c.items.stream in
     let given = rw c.in-Err.is at c.in-Some.ensures.steps in
-    let fault = subst (λ (f : Formats). TellsItem false true reader_refusals f max_depth s.input c.in-Err.error) before.formats
-    (subst (λ (n : ℕ). TellsItem false true reader_refusals s.formats n s.input c.in-Err.error) before.levels given.fault) in
+    let fault = subst (λ (f : Formats). ReportsItem false true reader_refusals f max_depth s.input c.in-Err.error) before.formats
+    (subst (λ (n : ℕ). ReportsItem false true reader_refusals s.formats n s.input c.in-Err.error) before.levels given.fault) in
     refused_behind c.args.form input s.input (g.W.Write.contents c.args.writer.now) (g.W.Write.contents c.items.writer) far c.in-Err.error refl
-    (c.item_refused_first.ensures reader_refusals max_depth s.input far.rest c.in-Err.error far.tells far.are_bytes fault)
+    (c.item_refused_first.ensures reader_refusals max_depth s.input far.rest c.in-Err.error far.reports far.are_bytes fault)
 
 pub returns-in-Err-answer_item-clause-stopped : goal.returns-in-Err-answer_item-clause-stopped
 returns-in-Err-answer_item-clause-stopped g c input gave =
@@ -36,7 +36,7 @@ returns-in-Err-answer_item-clause-stopped g c input gave =
     let s = standing (input_of_reader g.R.Read.remaining) c.items.stream in
     let t = standing (input_of_reader g.R.Read.remaining) c.next.new.self in
     let given = rw c.in-Ok.is at c.in-Some.ensures.steps in
-    let took = item_given reads c.item_taken.ensures lends s t far.rest before.levels before.formats far.tells far.are_bytes c.in-Ok.item given in
+    let took = item_given reads c.item_taken.ensures lends s t far.rest before.levels before.formats far.reports far.are_bytes c.in-Ok.item given in
     failed_behind c.args.form input s.input (g.W.Write.contents c.args.writer.now) (g.W.Write.contents c.items.writer) far t.input c.in-Ok.item took (g.W.Write.contents c.answer_item.new.writer)
     c.in-Err-answer_item.error (c.in-Err-answer_item.ensures.err (storable_taken s.input t.input far.rest c.in-Ok.item took))
 
@@ -49,7 +49,7 @@ items-preserved g c =
     record {
       far = λ input gave.
           let far = before.far input gave in
-          let took = item_given reads c.item_taken.ensures lends s t far.rest before.levels before.formats far.tells far.are_bytes c.in-Ok.item given in
+          let took = item_given reads c.item_taken.ensures lends s t far.rest before.levels before.formats far.reports far.are_bytes c.in-Ok.item given in
           one_more c.args.form input s.input (g.W.Write.contents c.args.writer.now) (g.W.Write.contents c.items.writer) far t.input c.in-Ok.item took (g.W.Write.contents c.answer_item.new.writer)
           c.in_default-answer_item.ensures.ok;
       levels = given.levels ∙ before.levels;

@@ -6,7 +6,7 @@ use Rattle.cbor_model.specs.Readable.{PassesTags, IsFromZero}
 use Rattle.serde_cbor.specs.Error.{code_of, offset_of}
 use Rattle.serde_cbor.specs.Source.{Input, Lends, start_of_slice, slice_refusals}
 use Rattle.serde_cbor.specs.Sources.{input_of_slice}
-use Rattle.serde_cbor.specs.Gives.{Reports, Tells}
+use Rattle.serde_cbor.specs.Gives.{ReportsIo, Reports}
 use Rattle.serde_cbor.specs.Takes.{ExcusedBy, TakesItem, formats_of}
 use Rattle.serde_cbor.specs.ItemTaken.{BeginsAs, BeginsAsNone, TookItem}
 use Rattle.test_cbor.proofs.laws.first_number.Goals as goal
@@ -26,11 +26,11 @@ returns c =
     let t = input_of_slice c.deserialize.new.de.decoder.source in
     let r = c.deserialize.result in
     let lends : Lends = record { whole = true; joined = false } in
-    let tells : Tells s bs = record { is = refl; short = omega arith } in
+    let reports : Reports s bs = record { is = refl; short = omega arith } in
     let bytes : AreBytes bs = λ i. omega (arith, c.type_inv.bytes i) in
     let made = c.from_slice-de.ensures in
     let here = subst (λ (x : Input). TakesItem slice_refusals (formats_of d.formats) IsSmall d.levels x t r) made.input c.deserialize.ensures.read in
     let deep = subst (λ (n : ℕ). TakesItem slice_refusals (formats_of d.formats) IsSmall n s t r) made.levels here in
     let read = subst (λ (f : Formats). TakesItem slice_refusals f IsSmall max_depth s t r) made.formats deep in
-    if_ok s t bs (λ e. ExcusedBy (Reports slice_refusals) (code_of e) (offset_of e) ⊎ BeginsAsNone all_formats max_depth IsSmall s bs) r
-    (c.item_taken.ensures slice_refusals all_formats lends max_depth s t bs r tells bytes read)
+    if_ok s t bs (λ e. ExcusedBy (ReportsIo slice_refusals) (code_of e) (offset_of e) ⊎ BeginsAsNone all_formats max_depth IsSmall s bs) r
+    (c.item_taken.ensures slice_refusals all_formats lends max_depth s t bs r reports bytes read)

@@ -6,9 +6,9 @@ use Rattle.cbor_model.specs.Plain.{Val}
 use Rattle.cbor_model.specs.Readable.{SpellsAs}
 use Rattle.cbor_io.specs.Error.{IsOutOfMemory}
 use Rattle.cbor_read.specs.Source.{start_of_slice}
-use Rattle.cbor_decode.specs.FirstRefusal.{TellsFirst}
+use Rattle.cbor_decode.specs.FirstRefusal.{ReportsFirst}
 use Rattle.cbor_decode_as.specs.Takes.{WhereTotal}
-use Rattle.cbor_de.specs.Forms.{MayTell}
+use Rattle.cbor_de.specs.Forms.{MayReport}
 use Rattle.cbor_de.specs.Whole.{RefusesUnread, from_slice_asks, from_slice_context}
 use Rattle.cbor_convert.proofs.encoded.Encoded.decode.Goals as goal
 
@@ -32,7 +32,7 @@ returns-clause-every g c =
 
 pub returns-clause-first : goal.returns-clause-first
 returns-clause-first g c =
-    subst (λ (bs : List ℕ). IfErr c.from_slice.result (λ e. WhereTotal g.T.Readable.total (IsOutOfMemory e ⊎ TellsFirst (limits_of None) bs e))) c.as_slice.ensures c.from_slice.ensures.first
+    subst (λ (bs : List ℕ). IfErr c.from_slice.result (λ e. WhereTotal g.T.Readable.total (IsOutOfMemory e ⊎ ReportsFirst (limits_of None) bs e))) c.as_slice.ensures c.from_slice.ensures.first
 
 pub returns-clause-fault : goal.returns-clause-fault
 returns-clause-fault g c =
@@ -40,4 +40,4 @@ returns-clause-fault g c =
 
 pub returns-clause-form : goal.returns-clause-form
 returns-clause-form g c =
-    subst (λ (bs : List ℕ). IfErr c.from_slice.result (MayTell g.T.Readable.wrong_forms all_formats (start_of_slice bs None))) c.as_slice.ensures c.from_slice.ensures.form
+    subst (λ (bs : List ℕ). IfErr c.from_slice.result (MayReport g.T.Readable.wrong_forms all_formats (start_of_slice bs None))) c.as_slice.ensures c.from_slice.ensures.form

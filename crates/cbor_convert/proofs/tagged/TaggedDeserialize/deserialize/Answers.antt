@@ -6,9 +6,9 @@ use Rattle.cbor_read.specs.Source.{Input}
 use Rattle.cbor_io.specs.Error.{code_of, offset_of}
 use Rattle.cbor_decode.specs.Gives.{Step}
 use Rattle.cbor_decode.specs.declared.formats.Formats.{Formats}
-use Rattle.cbor_decode_as.specs.Takes.{raws, context, formats_of, IsRead, IsNotRead, Refuses, TellsItem}
+use Rattle.cbor_decode_as.specs.Takes.{raws, context, formats_of, IsRead, IsNotRead, Refuses, ReportsItem}
 use Rattle.cbor_convert.specs.declared.tagged.Tagged.{Tagged}
-use Rattle.cbor_convert.proofs.Tags.{tag_read, tag_unread, untagged_taken, untagged_refused, head_refused, tag_told, untagged_told, head_told}
+use Rattle.cbor_convert.proofs.Tags.{tag_read, tag_unread, untagged_taken, untagged_refused, head_refused, tag_reported, untagged_reported, head_reported}
 use Rattle.cbor_decode.proofs.facts.Steps.{took_same}
 use Rattle.cbor_decode_as.proofs.facts.Refusals.{item_total, refuses_on}
 use Rattle.cbor_de.proofs.facts.Forms.{later_in}
@@ -104,8 +104,8 @@ returns-in-Err-value-clause-fault g c =
     let e = c.in-Err-value.e in
     let one = rw c.in-Ok-Some.field-0-is at c.in-Ok-Some.ensures.levels in
     let tag = rw c.in-Ok-Some.field-0-is at c.in-Ok-Some.ensures.item in
-    tag_told total g.R.Source.refusals f old.decoder.levels s m e mid.decoder.levels c.in-Ok-Some.tag one tag
-    (subst (λ (k : Formats). TellsItem false total g.R.Source.refusals (formats_of k) mid.decoder.levels m e) c.in-Ok-Some.ensures.formats (item_total g.T.Readable.passes_over total g.R.Source.refusals (formats_of mid.decoder.formats) mid.decoder.levels m e c.in-Err-value.ensures.fault))
+    tag_reported total g.R.Source.refusals f old.decoder.levels s m e mid.decoder.levels c.in-Ok-Some.tag one tag
+    (subst (λ (k : Formats). ReportsItem false total g.R.Source.refusals (formats_of k) mid.decoder.levels m e) c.in-Ok-Some.ensures.formats (item_total g.T.Readable.passes_over total g.R.Source.refusals (formats_of mid.decoder.formats) mid.decoder.levels m e c.in-Err-value.ensures.fault))
 
 pub returns-in-Err-deserialize-clause-fault : goal.returns-in-Err-deserialize-clause-fault
 returns-in-Err-deserialize-clause-fault g c =
@@ -118,14 +118,14 @@ returns-in-Err-deserialize-clause-fault g c =
     let e = c.in-Err-deserialize.e in
     let levels : mid.decoder.levels ≡ old.decoder.levels = rw c.in-Ok-None.field-0-is at c.in-Ok-None.ensures.levels in
     let none : StandsNoTag s m = rw c.in-Ok-None.field-0-is at c.in-Ok-None.ensures.none in
-    let there = subst (λ (k : Formats). TellsItem false total g.R.Source.refusals (formats_of k) mid.decoder.levels m e) c.in-Ok-None.ensures.formats (item_total g.T.Readable.passes_over total g.R.Source.refusals (formats_of mid.decoder.formats) mid.decoder.levels m e c.in-Err-deserialize.ensures.fault) in
-    untagged_told total g.R.Source.refusals f old.decoder.levels s m e none
-    (subst (λ (n : ℕ). TellsItem false total g.R.Source.refusals f n m e) levels there)
+    let there = subst (λ (k : Formats). ReportsItem false total g.R.Source.refusals (formats_of k) mid.decoder.levels m e) c.in-Ok-None.ensures.formats (item_total g.T.Readable.passes_over total g.R.Source.refusals (formats_of mid.decoder.formats) mid.decoder.levels m e c.in-Err-deserialize.ensures.fault) in
+    untagged_reported total g.R.Source.refusals f old.decoder.levels s m e none
+    (subst (λ (n : ℕ). ReportsItem false total g.R.Source.refusals f n m e) levels there)
 
 pub returns-in-Err-clause-fault : goal.returns-in-Err-clause-fault
 returns-in-Err-clause-fault g c =
     let old = c.args.de.now in
-    head_told g.T.Readable.total g.R.Source.refusals (formats_of old.decoder.formats) old.decoder.levels (g.R.Source.source old.decoder.source) c.in-Err.e c.in-Err.ensures.refused
+    head_reported g.T.Readable.total g.R.Source.refusals (formats_of old.decoder.formats) old.decoder.levels (g.R.Source.source old.decoder.source) c.in-Err.e c.in-Err.ensures.refused
 
 -- ---- a wrong form
 

@@ -3,7 +3,7 @@ use Rattle.std.proofs.lemmas.Result.{err_from_is_err_and}
 use Rattle.cbor_decode.specs.declared.formats.Formats.{Formats}
 use Rattle.cbor_decode_as.specs.Takes.{context, formats_of, TakesItem}
 use Rattle.cbor_decode_as.proofs.facts.Enums.{none_comes, item_lacks, end_left, only_taken}
-use Rattle.cbor_de.proofs.Forms.{later_in, none_told}
+use Rattle.cbor_de.proofs.Forms.{later_in, none_reported}
 use Rattle.cbor_de.proofs.de.Deserializer.only_item.Goals as goal
 
 pub returns-in_err-expect_item-clause-read : goal.returns-in_err-expect_item-clause-read
@@ -59,7 +59,7 @@ pub returns-in_err-expect_item-clause-form : goal.returns-in_err-expect_item-cla
 returns-in_err-expect_item-clause-form g c =
     let passed = err_from_is_err_and c.from_residual.result c.from_residual.ensures.1 in
     let e = c.in_err-expect_item.field-0.0 in
-    rw (passed.1, passed.2) (none_told g.T.Readable.wrong_forms (formats_of c.args.self.now.decoder.formats) c.args.remaining (g.R.Source.source c.args.self.now.decoder.source) e c.in_err-expect_item.ensures.none)
+    rw (passed.1, passed.2) (none_reported g.T.Readable.wrong_forms (formats_of c.args.self.now.decoder.formats) c.args.remaining (g.R.Source.source c.args.self.now.decoder.source) e c.in_err-expect_item.ensures.none)
 
 pub returns-in_err-item-clause-form : goal.returns-in_err-item-clause-form
 returns-in_err-item-clause-form g c =

@@ -5,7 +5,7 @@ use Rattle.cbor_decode_as.specs.Takes.{context, formats_of}
 use Rattle.cbor_decode_as.proofs.facts.Places.{bad_key_later, kept_alone}
 use Rattle.cbor_decode_as.proofs.facts.Maps.{none_is_key, there, key_refused, key_next}
 use Rattle.std.proofs.Common.{inl}
-use Rattle.cbor_de.proofs.Forms.{key_of, key_told, later_in}
+use Rattle.cbor_de.proofs.Forms.{key_of, key_reported, later_in}
 use Rattle.cbor_de.proofs.map.MapAccess.next_key.Goals as goal
 
 pub returns-in-Err-clause-read : goal.returns-in-Err-clause-read
@@ -13,7 +13,7 @@ returns-in-Err-clause-read g c =
     let old = c.args.self.now in
     let e = c.error.result in
     rw c.error.ensures.source (none_is_key (g.K.Readable.reads (context old.de.now.decoder.formats g.R.Source.lends)) (formats_of old.de.now.decoder.formats) old.de.now.decoder.levels (remaining_of old.remaining)
-    g.R.Source.refusals (g.R.Source.source old.de.now.decoder.source) (code_of e) (offset_of e) (c.in-Err.ensures.read e c.error.ensures.tells))
+    g.R.Source.refusals (g.R.Source.source old.de.now.decoder.source) (code_of e) (offset_of e) (c.in-Err.ensures.read e c.error.ensures.reports))
 
 pub returns-in-Err-deserialize-clause-read : goal.returns-in-Err-deserialize-clause-read
 returns-in-Err-deserialize-clause-read g c =
@@ -44,7 +44,7 @@ returns-in-Ok-clause-read g c =
 -- ---- a key that may not begin as it does
 
 pub returns-in-Err-clause-bad_key : goal.returns-in-Err-clause-bad_key
-returns-in-Err-clause-bad_key g c = c.in-Err.ensures.bad_key c.error.result c.error.ensures.tells
+returns-in-Err-clause-bad_key g c = c.in-Err.ensures.bad_key c.error.result c.error.ensures.reports
 
 pub returns-in-Err-deserialize-clause-bad_key : goal.returns-in-Err-deserialize-clause-bad_key
 returns-in-Err-deserialize-clause-bad_key g c =
@@ -61,7 +61,7 @@ pub returns-in-Err-clause-form : goal.returns-in-Err-clause-form
 returns-in-Err-clause-form g c =
     let old = c.args.self.now in
     let e = c.error.result in
-    key_of g.K.Readable.wrong_forms (formats_of old.de.now.decoder.formats) old.remaining _ e (key_told (formats_of old.de.now.decoder.formats) old.remaining (g.R.Source.source old.de.now.decoder.source) e (kept_alone c.more_pairs.new.decoder.refusal c.in-Err.refused e c.error.ensures.tells) (c.in-Err.ensures.cases e c.error.ensures.tells))
+    key_of g.K.Readable.wrong_forms (formats_of old.de.now.decoder.formats) old.remaining _ e (key_reported (formats_of old.de.now.decoder.formats) old.remaining (g.R.Source.source old.de.now.decoder.source) e (kept_alone c.more_pairs.new.decoder.refusal c.in-Err.refused e c.error.ensures.reports) (c.in-Err.ensures.cases e c.error.ensures.reports))
 
 pub returns-in-Err-deserialize-clause-form : goal.returns-in-Err-deserialize-clause-form
 returns-in-Err-deserialize-clause-form g c =

@@ -4,7 +4,7 @@ use Rattle.cbor_decode.specs.declared.formats.Formats.{Formats}
 use Rattle.cbor_decode_as.specs.Enums.{AreParts}
 use Rattle.cbor_de.specs.ItemLists.{TakesItems}
 use Rattle.cbor_decode_as.specs.Takes.{context, formats_of}
-use Rattle.cbor_described.proofs.OneOfs.{entered_tells}
+use Rattle.cbor_described.proofs.OneOfs.{entered_reports}
 use Rattle.cbor_described.proofs.OneOfs.{content_made, content_not_made, no_parts, parts_meant, parts_not_meant}
 use Rattle.cbor_de.proofs.facts.Forms.{content_later}
 use Rattle.cbor_described.proofs.variant_list.TupleReadVariant.read_content.Goals as goal
@@ -52,4 +52,4 @@ returns-in-Err-clause-form g c =
 
 pub returns-in-Err-clause-alone : goal.returns-in-Err-clause-alone
 returns-in-Err-clause-alone g c =
-    entered_tells _ c.args.form _ _ c.in-Err.e c.in_ok-remaining.ensures.inside
+    entered_reports _ c.args.form _ _ c.in-Err.e c.in_ok-remaining.ensures.inside

@@ -1,6 +1,6 @@
 use Rattle.cbor_ser.proofs.WriteSteps.{float_storable}
 use Rattle.std.proofs.Common.{refl}
-use Rattle.cbor_ser.proofs.Beginnings.{told, told_refused, told_fits}
+use Rattle.cbor_ser.proofs.Beginnings.{reported, reported_refused, reported_fits}
 use Rattle.cbor_ser.proofs.WriteSteps.{serialized}
 use Rattle.cbor_value.specs.View.{float_view}
 use Rattle.cbor_model.proofs.facts.Documents.{document_is_canonical, storable_document, document_in_range}
@@ -17,6 +17,6 @@ returns g c =
     let v = float_view c.args.v in
     serialized (item (document.document_of v)) c.answer.result
     (record { same = document_is_canonical v s.packed s.legacy; storable = storable_document v (float_storable c.args.v); in_range = document_in_range v done.ensures.in_memory }) refl done.ensures.same_references done.ensures.same_capacity
-    (told _ done.result _ c.answer.result c.answer.ensures.ok c.answer.ensures.err done.ensures.refused done.ensures.written)
-    (told_refused _ done.result _ c.answer.result c.answer.ensures.ok c.answer.ensures.err done.ensures.refused)
-    (told_fits done.result c.answer.result c.answer.ensures.ok done.ensures.fits)
+    (reported _ done.result _ c.answer.result c.answer.ensures.ok c.answer.ensures.err done.ensures.refused done.ensures.written)
+    (reported_refused _ done.result _ c.answer.result c.answer.ensures.ok c.answer.ensures.err done.ensures.refused)
+    (reported_fits done.result c.answer.result c.answer.ensures.ok done.ensures.fits)

@@ -1,5 +1,5 @@
 use Rattle.std.proofs.Common.{refl}
-use Rattle.cbor_ser.proofs.Beginnings.{told, told_refused, told_fits, told_ok}
+use Rattle.cbor_ser.proofs.Beginnings.{reported, reported_refused, reported_fits, reported_ok}
 use Rattle.cbor_value.specs.View.{view}
 use Rattle.cbor_ser.proofs.WriteSteps.{serialized_value}
 use Rattle.cbor_ser.proofs.serializer.Serializer.write_value.Goals as goal
@@ -9,9 +9,9 @@ returns g c =
     let done = c.put_value-done in
     let v = view c.args.v.now in
     serialized_value v c.answer.result refl done.ensures.same_references done.ensures.same_capacity
-    (told_ok _ _ done.result _ c.answer.result c.answer.ensures.err done.ensures.refused done.ensures.storable)
-    (told_ok _ _ done.result _ c.answer.result c.answer.ensures.err done.ensures.refused done.ensures.in_memory)
-    (told _ done.result _ c.answer.result c.answer.ensures.ok c.answer.ensures.err done.ensures.refused done.ensures.written)
-    (told_refused _ done.result _ c.answer.result c.answer.ensures.ok c.answer.ensures.err done.ensures.refused)
-    (λ storable. told_fits done.result c.answer.result c.answer.ensures.ok (done.ensures.fits storable))
+    (reported_ok _ _ done.result _ c.answer.result c.answer.ensures.err done.ensures.refused done.ensures.storable)
+    (reported_ok _ _ done.result _ c.answer.result c.answer.ensures.err done.ensures.refused done.ensures.in_memory)
+    (reported _ done.result _ c.answer.result c.answer.ensures.ok c.answer.ensures.err done.ensures.refused done.ensures.written)
+    (reported_refused _ done.result _ c.answer.result c.answer.ensures.ok c.answer.ensures.err done.ensures.refused)
+    (λ storable. reported_fits done.result c.answer.result c.answer.ensures.ok (done.ensures.fits storable))
     done.ensures.before

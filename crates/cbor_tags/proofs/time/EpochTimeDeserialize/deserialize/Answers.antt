@@ -7,7 +7,7 @@ returns-in-Err-clause-read g c =
     let unread = c.in-Err.ensures.read in
     record {
       took = unread.took;
-      told = λ bs tells. elim (unread.told bs tells) [
+      reported = λ bs reports. elim (unread.reported bs reports) [
         | inl e ↦ inl e
         | inr none ↦ inr (λ t rest is. none (record { 0 = value_of t }) rest (record { item = is.item; is = is.is; means = tagged_value is.item t is.means }))
       ];

@@ -8,7 +8,7 @@ returns-in_err-text-clause-read g c =
     let unread = c.in_err-text.ensures.read in
     rw (passed.1, passed.2) (record {
       took = unread.took;
-      told = λ bs tells. elim (unread.told bs tells) [
+      reported = λ bs reports. elim (unread.reported bs reports) [
         | inl e ↦ inl e
         | inr none ↦ inr (λ u rest is. none (record { tag = is.means.tag; value = u.0 }) rest (record { item = is.item; is = is.is; means = is.means.text }))
       ];

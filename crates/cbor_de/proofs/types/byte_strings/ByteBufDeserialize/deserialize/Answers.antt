@@ -17,7 +17,7 @@ returns-in-Err-clause-read g c =
     let other : (Raw → Vec ℕ Global → Type 0) = λ r v. IsByteString r v.items in
     record {
       took = c.in-Err.ensures.read.took;
-      told = λ bs tells. elim (c.in-Err.ensures.read.told bs tells) [
+      reported = λ bs reports. elim (c.in-Err.ensures.read.reported bs reports) [
         | inl excused ↦ inl excused
         | inr none ↦ inr (none_of reads other (λ b. b.0) (item_at (raws (formats_of de.decoder.formats) (limits s bs)) de.decoder.levels bs) (λ r b is. is) none)
       ];

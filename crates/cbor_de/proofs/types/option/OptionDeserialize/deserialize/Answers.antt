@@ -65,7 +65,7 @@ returns-in-Err-clause-fault g c =
     let s = g.R.Source.source de.decoder.source in
     let f = formats_of de.decoder.formats in
     let e = c.error.result in
-    let whole = unseen_whole g.R.Source.refusals levels s c.take_null.new.decoder.refusal c.in-Err.refused e c.in-Err.ensures.read c.error.ensures.tells in
+    let whole = unseen_whole g.R.Source.refusals levels s c.take_null.new.decoder.refusal c.in-Err.refused e c.in-Err.ensures.read c.error.ensures.reports in
     item_only g.T.Readable.passes_over false g.R.Source.refusals f levels s e (always g.T.Readable.passes_over whole)
 
 pub returns-in-Err-deserialize-clause-fault : goal.returns-in-Err-deserialize-clause-fault

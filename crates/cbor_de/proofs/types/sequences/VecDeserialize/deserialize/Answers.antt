@@ -86,7 +86,7 @@ returns-in-Err-clause-read g c =
     (loop_refused s0 P old.decoder.formats now.decoder.formats first.decoder.levels now.decoder.levels i.formats i.levels c.in_ok-access.access.remaining
     reads c.items.access.remaining s items g.R.Source.refusals (code_of e) (offset_of e)
     (λ front more v h means. let w = rest_read (reads old.decoder.formats) front more v.items means in may_follow (reads old.decoder.formats) more w.0 w.1)
-    i.so_far (untold_refused (reads now.decoder.formats) (formats_of now.decoder.formats) now.decoder.levels c.items.access.remaining g.R.Source.refusals s (code_of e) (offset_of e) (c.in-Err.ensures.read e c.refused.ensures.tells)))) (took_same (search rules))
+    i.so_far (untold_refused (reads now.decoder.formats) (formats_of now.decoder.formats) now.decoder.levels c.items.access.remaining g.R.Source.refusals s (code_of e) (offset_of e) (c.in-Err.ensures.read e c.refused.ensures.reports)))) (took_same (search rules))
 
 pub returns-in-Err-deserialize-clause-read : goal.returns-in-Err-deserialize-clause-read
 returns-in-Err-deserialize-clause-read g c =

@@ -1,4 +1,4 @@
--- What the reader tells after a whole item, and at the end of input.
+-- What the reader reports after a whole item, and at the end of input.
 use Rattle.std.proofs.Common.{◌≡◌, ◌⊎◌, ℕ, zero, suc, ◌+◌, ◌-◌, ◌<◌, ◌≤◌}
 use Rattle.std.proofs.Common.{false, cond, eqb, List, [], ◌∷◌, ◌++◌, length, Option, Ok, Err, refl}
 use Rattle.std.proofs.Common.{sym, ap, subst, ◌∙◌, append_assoc, arith, inl, inr}
@@ -11,7 +11,7 @@ use Rattle.cbor_model.specs.Refusal.{Refusal, end_in_value, end_in_array, end_in
 use Rattle.cbor_model.specs.Refusal.{length_out_of_range, invalid_utf8, unassigned_code}
 use Rattle.cbor_model.specs.Refusal.{unexpected_code, trailing_data, too_deep, scratch_too_small}
 use Rattle.cbor_model.specs.Refusal.{wrong_struct_format}
-use Rattle.cbor_model.specs.Reader.{Fault, Reads, Reading, before as told_at, item_at, whole}
+use Rattle.cbor_model.specs.Reader.{Fault, Reads, Reading, before as reported_at, item_at, whole}
 use Rattle.cbor_model.specs.Wanted.{indefinite_array, indefinite_map, IsWanted}
 use Rattle.cbor_model.specs.Wanted.{StandsInIndefiniteArray, StandsInIndefiniteMap}
 use Rattle.cbor_model.specs.Allowed.{IsProperBeginning, chunks_begun, Limits, IsStrayBreak}
@@ -27,8 +27,8 @@ use Rattle.cbor_model.proofs.refusals.InnerFaults.{deep_err}
 use Rattle.cbor_model.proofs.refusals.EarlierRefusals.{Special}
 use Rattle.cbor_model.proofs.refusals.ReadingRules as passing
 use Rattle.cbor_model.proofs.refusals.ReadingRules.{Rules}
-use Rattle.cbor_model.proofs.refusals.TellsAllowed as rows
-use Rattle.cbor_model.proofs.refusals.TellsAllowed.{Precedes}
+use Rattle.cbor_model.proofs.refusals.ReportsAllowed as rows
+use Rattle.cbor_model.proofs.refusals.ReportsAllowed.{Precedes}
 
 -- a proper beginning has no front that no spelling has
 no_hard : (why : Refusal) (u rest b : List ℕ) → IsProperBeginning b → IsHard why u → b ≡ u ++ rest → ⊥
@@ -80,7 +80,7 @@ module _ {Item Items Pairs : Type 0} (m : Reading Item Items Pairs) (total : ℕ
 
   -- ---- where an array or a map is open
 
-  -- what is told after a path, at the end
+  -- what is reported after a path, at the end
   end_before : (k : ℕ) (p : List ℕ) → IsWanted k p → (L l : ℕ) (here b : List ℕ) (f : Fault) (n : ℕ) (why : Refusal) → IsEnd why → L ≡ k + l → b ≡ p ++ here → n ≤ length here → item_at m L (p ++ here) ≡ Err f → Bad l here f n
       → Answers L b why (length b) (length b)
   end_before k p w L l here b f n why is_end levels parts few is bad = record {
@@ -124,7 +124,7 @@ module _ {Item Items Pairs : Type 0} (m : Reading Item Items Pairs) (total : ℕ
 
       by_level : (l : ℕ) → L ≡ s.levels + l → Cond l here → ((f : Fault) → LastComes s.wanted here → item_at m l here ≡ Err f → item_at m L (s.before ++ here) ≡ Err f) → Answers L b end_in_array (length b) (length b)
       by_level zero levels cond' refuses =
-          let f = told_at too_deep (spell_all s.items) in
+          let f = reported_at too_deep (spell_all s.items) in
           end_before s.levels s.before s.wanted L 0 here b f 1 end_in_array tt levels s.parts (omega arith) (refuses f begins (deep_err m indefinite_array (spell_all s.items) tt)) (passing.deep m total scratch rules indefinite_array (spell_all s.items) tt cond')
       by_level (suc l) levels cond' refuses =
           elim (passing.array_end m total scratch rules l s.items s.fits cond') [
@@ -155,7 +155,7 @@ module _ {Item Items Pairs : Type 0} (m : Reading Item Items Pairs) (total : ℕ
 
       by_level : (l : ℕ) → L ≡ s.levels + l → Cond l here → ((f : Fault) → LastComes s.wanted here → item_at m l here ≡ Err f → item_at m L (s.before ++ here) ≡ Err f) → Answers L b end_in_map (length b) (length b)
       by_level zero levels cond' refuses =
-          let f = told_at too_deep (spell_all items) in
+          let f = reported_at too_deep (spell_all items) in
           end_before s.levels s.before s.wanted L 0 here b f 1 end_in_map tt levels parts (omega arith) (refuses f begins (deep_err m indefinite_map (spell_all items) tt)) (passing.deep m total scratch rules indefinite_map (spell_all items) tt cond')
       by_level (suc l) levels cond' refuses =
           elim (passing.map_end m total scratch rules l (raw.pair_count s.pairs) items (flat_fit s.pairs s.fits) (count-flat s.pairs) cond') [
@@ -206,7 +206,7 @@ module _ {Item Items Pairs : Type 0} (m : Reading Item Items Pairs) (total : ℕ
       by_result (Ok x) is =
           let got = found m rules.none_fits L b x cond.1 is in
           absurd (proper_out b [] got.item x.1 begins got.fits (append-nil b ∙ got.parts) (omega (arith, ap length got.parts, length-append (spell got.item) x.1)))
-      by_result (Err f) is = by_why f.why f.left is (passing.tells_err m total scratch rules L b f cond is)
+      by_result (Err f) is = by_why f.why f.left is (passing.reports_err m total scratch rules L b f cond is)
 
   -- ---- each of them
 

@@ -1,4 +1,4 @@
--- For each refusal that the bytes allow, the reader tells it or another that comes before.
+-- For each refusal that the bytes allow, the reader reports it or another that comes before.
 use Rattle.std.specs.Prelude.{flat_map}
 use Rattle.std.proofs.Common.{◌≡◌, ◌⊎◌, ℕ, zero, suc, ◌+◌, ◌-◌, ◌*◌, ◌/◌, ◌%◌, ◌<◌, ◌≤◌, Bool, true}
 use Rattle.std.proofs.Common.{false, cond, List, [], ◌∷◌, ◌++◌, length, Option, Ok, Err, refl}
@@ -66,7 +66,7 @@ module _ {Item Items Pairs : Type 0} (m : Reading Item Items Pairs) (total : ℕ
   abbrev Bad : ℕ → List ℕ → Fault → ℕ → Type 0
   Bad l bytes f n = passing.Bad m total scratch rules l bytes f n
 
-  -- the reader tells the refusal, or one that comes before
+  -- the reader reports the refusal, or one that comes before
   pub record Answers (L : ℕ) (b : List ℕ) (why : Refusal) (place offset : ℕ) : Type 0 where
     pub fault : Fault
     pub is : whole (item_at m L b) ≡ Err fault
@@ -105,20 +105,20 @@ module _ {Item Items Pairs : Type 0} (m : Reading Item Items Pairs) (total : ℕ
       by_event l refuses (inr (inr earlier)) =
           let f : Fault = record { why = length_out_of_range; left = earlier.0 } in
           let is = ap (item_at m L) parts ∙ refuses f comes earlier.1 in
-          let told = passing.tells_err m total scratch rules L b f cond is in
+          let reported = passing.reports_err m total scratch rules L b f cond is in
           record {
             fault = f;
             is = whole_err (item_at m L b) f is;
-            how = inr (told.0, inl (omega (arith, told.1, earlier.2)), (told.0, told.1, omega arith, told.2));
+            how = inr (reported.0, inl (omega (arith, reported.1, earlier.2)), (reported.0, reported.1, omega arith, reported.2));
           }
       by_event l refuses (inr (inl earlier)) =
           let f = over_scratch earlier.0 in
           let is = ap (item_at m L) parts ∙ refuses f comes earlier.1 in
-          let told = passing.tells_err m total scratch rules L b f cond is in
+          let reported = passing.reports_err m total scratch rules L b f cond is in
           record {
             fault = f;
             is = whole_err (item_at m L b) f is;
-            how = inr (told.0, inl (omega (arith, told.1, earlier.2)), (told.0, told.1, omega arith, told.2));
+            how = inr (reported.0, inl (omega (arith, reported.1, earlier.2)), (reported.0, reported.1, omega arith, reported.2));
           }
 
   -- ---- row by row

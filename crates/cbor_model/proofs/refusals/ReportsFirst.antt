@@ -1,4 +1,4 @@
--- What the reader tells is allowed, and the first that is.
+-- What the reader reports is allowed, and the first that is.
 use Rattle.std.proofs.Common.{◌≡◌, ◌⊎◌, ℕ, ◌+◌, ◌-◌, ◌≤◌}
 use Rattle.std.proofs.Common.{cond, List, [], ◌∷◌, ◌++◌, length, Option, Ok, Err, refl}
 use Rattle.std.proofs.Common.{sym, ap, subst, ◌∙◌, append_assoc, arith, inl, inr, IsUtf8}
@@ -25,9 +25,9 @@ use Rattle.cbor_model.proofs.refusals.EarlierRefusals.{Special, array_begins}
 use Rattle.cbor_model.proofs.refusals.EarlierRefusals.{map_begins}
 use Rattle.cbor_model.proofs.refusals.ReadingRules as passing
 use Rattle.cbor_model.proofs.refusals.ReadingRules.{Rules}
-use Rattle.cbor_model.proofs.refusals.TellsAllowed as rows
-use Rattle.cbor_model.proofs.refusals.TellsAllowed.{Precedes}
-use Rattle.cbor_model.proofs.refusals.TellsEnds as ends
+use Rattle.cbor_model.proofs.refusals.ReportsAllowed as rows
+use Rattle.cbor_model.proofs.refusals.ReportsAllowed.{Precedes}
+use Rattle.cbor_model.proofs.refusals.ReportsEnds as ends
 
 -- a refusal that isn't an end, with its place
 special_allowed : (l : Limits) (b : List ℕ) (why : Refusal) (left n : ℕ) → Special l b why left n → (place : ℕ) × (place ≤ n) × IsAllowed l b why place (length b - left)
@@ -67,10 +67,10 @@ module _ {Item Items Pairs : Type 0} (m : Reading Item Items Pairs) (total : ℕ
   abbrev Answers : ℕ → List ℕ → Refusal → ℕ → ℕ → Type 0
   Answers L b why place offset = rows.Answers m total scratch rules L b why place offset
 
-  -- ---- what the reader tells is allowed
+  -- ---- what the reader reports is allowed
 
-  told_allowed : (L : ℕ) (b : List ℕ) (why : Refusal) (left : ℕ) → Cond L b → item_at m L b ≡ Err (record { why = why; left = left }) → Meaning (lim L b) b why left → (place : ℕ) × IsAllowed (lim L b) b why place (length b - left)
-  told_allowed L b end_in_value left cond is e = (length b, (record { ends = record { whole = refl; begins = e.1 }; no_array = no_array; no_map = no_map }, omega (arith, e.0)))
+  reported_allowed : (L : ℕ) (b : List ℕ) (why : Refusal) (left : ℕ) → Cond L b → item_at m L b ≡ Err (record { why = why; left = left }) → Meaning (lim L b) b why left → (place : ℕ) × IsAllowed (lim L b) b why place (length b - left)
+  reported_allowed L b end_in_value left cond is e = (length b, (record { ends = record { whole = refl; begins = e.1 }; no_array = no_array; no_map = no_map }, omega (arith, e.0)))
     where
       f : Fault
       f = record { why = end_in_value; left = left }
@@ -87,14 +87,14 @@ module _ {Item Items Pairs : Type 0} (m : Reading Item Items Pairs) (total : ℕ
 
       no_map : StandsInIndefiniteMap b → ⊥
       no_map s = never end_in_map (λ e. cc) (ends.answers_in_map m total scratch rules L b cond s)
-  told_allowed L b end_in_array left cond is e = (length b, (record { ends = record { whole = refl; begins = array_begins b e.1 }; stands = e.1 }, omega (arith, e.0)))
-  told_allowed L b end_in_map left cond is e = (length b, (record { ends = record { whole = refl; begins = map_begins b e.1 }; stands = e.1 }, omega (arith, e.0)))
-  told_allowed L b length_out_of_range left cond is e = (e.0, (e.2, omega (arith, e.1)))
-  told_allowed L b invalid_utf8 left cond is e =
+  reported_allowed L b end_in_array left cond is e = (length b, (record { ends = record { whole = refl; begins = array_begins b e.1 }; stands = e.1 }, omega (arith, e.0)))
+  reported_allowed L b end_in_map left cond is e = (length b, (record { ends = record { whole = refl; begins = map_begins b e.1 }; stands = e.1 }, omega (arith, e.0)))
+  reported_allowed L b length_out_of_range left cond is e = (e.0, (e.2, omega (arith, e.1)))
+  reported_allowed L b invalid_utf8 left cond is e =
       let offset_is : e.1.0 ≡ length b - left = omega (arith, e.1.1) in
       (e.0, subst (IsInvalidUtf8 b e.0) offset_is e.1.2)
-  told_allowed L b unassigned_code left cond is e = (e.0, (e.2, omega (arith, e.1)))
-  told_allowed L b unexpected_code left cond is e = (e.0, (either e.2, omega (arith, e.1)))
+  reported_allowed L b unassigned_code left cond is e = (e.0, (e.2, omega (arith, e.1)))
+  reported_allowed L b unexpected_code left cond is e = (e.0, (either e.2, omega (arith, e.1)))
     where
       either : IsClosedBreak b e.0 ⊎ IsNoChunk b e.0 → IsStrayBreak b e.0 ⊎ IsNoChunk b e.0
       either (inr c) = inr c
@@ -108,10 +108,10 @@ module _ {Item Items Pairs : Type 0} (m : Reading Item Items Pairs) (total : ℕ
           first = c.first;
         };
       })
-  told_allowed L b trailing_data left cond is e = absurd e
-  told_allowed L b too_deep left cond is e = (e.0, (e.2, omega (arith, e.1)))
-  told_allowed L b scratch_too_small left cond is e = (e.0, (e.2, omega (arith, e.1)))
-  told_allowed L b wrong_struct_format left cond is e = absurd e
+  reported_allowed L b trailing_data left cond is e = absurd e
+  reported_allowed L b too_deep left cond is e = (e.0, (e.2, omega (arith, e.1)))
+  reported_allowed L b scratch_too_small left cond is e = (e.0, (e.2, omega (arith, e.1)))
+  reported_allowed L b wrong_struct_format left cond is e = absurd e
 
   -- more follows a whole item
   more_allowed : (L : ℕ) (b : List ℕ) (x : Item) (rest : List ℕ) (f : Fault) → Cond L b → item_at m L b ≡ Ok (x, rest) → whole (item_at m L b) ≡ Err f → (place : ℕ) × IsAllowed (lim L b) b f.why place (length b - f.left)
@@ -144,7 +144,7 @@ module _ {Item Items Pairs : Type 0} (m : Reading Item Items Pairs) (total : ℕ
       by_result (Ok x) is = more_allowed L b x.0 x.1 f cond is fails
       by_result (Err g) is =
           let same : g ≡ f = one_fault (whole (item_at m L b)) g f (rows.whole_err m total scratch rules (item_at m L b) g is) fails in
-          subst (λ (h : Fault). (place : ℕ) × IsAllowed (lim L b) b h.why place (length b - h.left)) same (told_allowed L b g.why g.left cond is (passing.tells_err m total scratch rules L b g cond is))
+          subst (λ (h : Fault). (place : ℕ) × IsAllowed (lim L b) b h.why place (length b - h.left)) same (reported_allowed L b g.why g.left cond is (passing.reports_err m total scratch rules L b g cond is))
 
   -- ---- and the first that is
 
