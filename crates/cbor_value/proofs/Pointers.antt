@@ -7,7 +7,7 @@ use Rattle.std.proofs.lemmas.Bool.Decides.{Decides-eqb}
 use Rattle.std.proofs.lemmas.Fmt.{decimal_is_IsNumeral, decimal_digit, first_decimal, parse-decimal}
 use Rattle.std.proofs.lemmas.Fmt.{decimal-digits_value}
 use Rattle.std.proofs.lemmas.Slice.Eq.{bytes_eq-Decides}
-use Rattle.std.proofs.lemmas.Str.Parse.{numerals_by_value, reports_digits, parse_plain, digit_at}
+use Rattle.std.proofs.lemmas.Str.Parse.{numerals_by_value, tells_digits, parse_plain, digit_at}
 use Rattle.std.proofs.lemmas.Str.Parse.{IsNumeralModel}
 use Rattle.std.specs.Fmt.{decimal}
 use Rattle.std.specs.Result.{result_ok}
@@ -79,7 +79,7 @@ unescape-plain x (y ∷ ys) no_slash no_tilde =
 -- ---- positions
 
 digits : IsNumeralModel (AllDigits 10) (digits_value 10)
-digits = numerals_by_value _ reports_digits
+digits = numerals_by_value _ tells_digits
 
 is_position : (t : List ℕ) (n : ℕ) → n < 2 ^ 64 → t ≡ decimal n → position_of t ≡ Some n
 unfolding position_of
