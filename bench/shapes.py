@@ -60,12 +60,24 @@ def keys(count, order):
     return [head(UNSIGNED, number) for number in numbers]
 
 
+def maps_as_keys(depth, last=0):
+    """A map of two keys that are such maps themselves, and differ in their last byte alone."""
+    if depth == 0:
+        return pairs([(head(UNSIGNED, 24 + last), NULL)])
+    return pairs([(maps_as_keys(depth - 1), NULL), (maps_as_keys(depth - 1, last + 1), NULL)])
+
+
 def of_pairs(count, order):
+    if order == 'maps':
+        return maps_as_keys(count.bit_length() - 2)
     return pairs((key, NULL) for key in keys(count, order))
 
 
 RECORDS = '20,000 records of 6 fields'
 ORDERS = ['ascending', 'descending', 'shuffled', 'equal', 'long common fronts']
+
+# of which keys maps are read that grow; of maps within maps as many pairs in all, to a power of two
+GROWING = [*ORDERS, 'maps']
 
 SHAPES = {
     '200,000 integers': lambda: integers(200_000),

@@ -91,7 +91,7 @@ def growth(word, measure, unit, most):
     counts = [10_000 << doubled for doubled in range(most)]
     print(f'| keys, read in {unit} | ' + ' | '.join(f'{count:,}' for count in counts) + ' |')
     print('|---|' + '---|' * len(counts))
-    for order in shapes.ORDERS:
+    for order in shapes.GROWING:
         if word in order:
             inputs = (Request(READ, shapes.of_pairs(count, order)) for count in counts)
             costs = [measure([OURS], request)[0] for request in inputs]

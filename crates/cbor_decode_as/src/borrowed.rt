@@ -246,8 +246,29 @@ pub fn unread_error<R: Source>(decoder: &mut Decoder<R>, why: Unread, message: &
 /// Another item, as a byte string that isn't UTF-8, is [`Unread::Other`], and was passed over. What
 /// isn't whole, of any kind, a text that isn't UTF-8 (`InvalidUtf8`), and a break
 /// (`UnexpectedCode`) are refused, and what the source refuses.
-#[tactic(auto, using(crate::proofs::texts::MemoryAsked::kept_none))]
+#[inline(always)]
 pub fn read_text<'a, 'de, R: Read<'de>>(decoder: &'a mut Decoder<R>) -> Result<EitherStr<'a, 'de>>
+    ensures* after_borrow { sem 𝓛 (Rests (the_row R.row) decoder.entry (λ new.
+        (new.levels ≡ decoder.old.levels)
+        × (new.formats ≡ decoder.old.formats)
+        × LendsText R.refusals (context decoder.old.formats R.lends) decoder.old.levels
+        (R.source decoder.old.source) (R.source new.source) result
+        × IfErr result IsNoKey
+        × IfErr result (UnreadOnly (AsksToLend AsksForString (asks_for R.refusals R.lends)
+        (formats_of decoder.old.formats) decoder.old.levels (R.source decoder.old.source)))
+        × LendsWhole R.refusals decoder.old.levels (R.source decoder.old.source) result
+        × OnOk result (step.Advances R.source decoder.old new))) }
+{
+    match decoder.short_text() {
+        Some(n) => text_part(decoder, Some(n)),
+        None => text_by_head(decoder),
+    }
+}
+
+// Lends a text, or a byte string that is UTF-8, by its head, within its tags.
+#[inline(never)]
+#[tactic(auto, using(crate::proofs::texts::MemoryAsked::kept_none))]
+fn text_by_head<'a, 'de, R: Read<'de>>(decoder: &'a mut Decoder<R>) -> Result<EitherStr<'a, 'de>>
     ensures* after_borrow { sem 𝓛 (Rests (the_row R.row) decoder.entry (λ new.
         (new.levels ≡ decoder.old.levels)
         × (new.formats ≡ decoder.old.formats)
