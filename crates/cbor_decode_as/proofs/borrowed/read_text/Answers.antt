@@ -27,16 +27,22 @@ returns-in-Some g c =
     let opens = head_opened s m levels levels (head.Text n) (λ e. absurd cc) refl head_is.read in
     let opened = text_opened allowed f s m levels c.in-Some.n u.refusal head_is.read in
     let after = c.text_part.follows.holds-at-none in
-    let r = c.text_part.result in
-    ((refl, λ _. tt, (
-      after.0 ∙ head_is.settings.levels,
-      after.1 ∙ head_is.settings.formats,
-      text_item allowed f lends levels s m u.refusal n t r opened after.2,
-      after.3,
-      of_text allowed (asks_for allowed lends) f levels s m u.refusal found opens n r refl opened after.4,
-      text_lends allowed found levels s m opens lends n t r refl after.2 after.5,
-      text_advances allowed lends (head.Text n) s m t r head_is.taken after.2,
-    )), record { after_borrow = tt })
+    let r = c.text_part.result in (
+      (
+        refl,
+        λ _. tt,
+        (
+          after.0 ∙ head_is.settings.levels,
+          after.1 ∙ head_is.settings.formats,
+          text_item allowed f lends levels s m u.refusal n t r opened after.2,
+          after.3,
+          of_text allowed (asks_for allowed lends) f levels s m u.refusal found opens n r refl opened after.4,
+          text_lends allowed found levels s m opens lends n t r refl after.2 after.5,
+          text_advances allowed lends (head.Text n) s m t r head_is.taken after.2,
+        ),
+      ),
+      record { after_borrow = tt },
+    )
 
 pub returns-in-None : goal.returns-in-None
 returns-in-None g c =
