@@ -60,8 +60,8 @@ pub trait Readable: Sized + Drop {
 /// borrowed `Bytes`. An `f64` or an `f32` is a float of any width that it holds exactly.
 ///
 /// A struct or an enum that says what its parts are (`parts::Schema`) is read by one call,
-/// `FromParts::read_described` of `cbor_described`, and no proof is written for it;
-/// `docs/OWN_TYPES.md` goes through it step by step.
+/// `read_described` of `cbor_described`, and no proof is written for it; `docs/OWN_TYPES.md` goes
+/// through it step by step.
 ///
 /// What no description can say is read part by part. A struct is read by a loop over its fields, in
 /// any order, by their names or their numbers:
@@ -109,7 +109,7 @@ pub trait Readable: Sized + Drop {
 /// crate `own_types`: `src/by_hand.rt` and `proofs/by_hand/PointDeserialize`.
 ///
 /// These lemmas are for fields that are read alike whatever formats are read. A struct with a field
-/// that isn't, as an enum, is read by a description (`FromParts` of `cbor_described`).
+/// that isn't, as an enum, is read by a description (`read_described` of `cbor_described`).
 ///
 /// An enum is read by its variants, which [`Deserializer::variant`] finds by their names or their
 /// numbers, and each variant by the call on its content. Named fields are read as a struct of

@@ -55,47 +55,57 @@ impl<'de, R: Read<'de>, T: Deserialize<'de, R>> ReadParts<'de, R> for Newtype<T>
     }
 }
 
-/// A struct or an enum that is made of its parts, and so read by its description.
+/// As what a struct or an enum is read by its description: as what its parts are, by the names that
+/// the description gives; and by which codes an item may be refused for its form. Each type with a
+/// [`Schema`] has both, and quotes them.
 ///
 /// ```rust
-/// impl FromParts for User {
-///     fn from_parts((user_id, admin): Self::Parts) -> User {
-///         User { user_id, admin }
+/// impl Readable for User {
+///     ghost reads = { ⟦<User as ReadByParts>⟧.reads };
+///
+///     ghost wrong_forms = { ⟦<User as ReadByParts>⟧.wrong_forms };
+/// }
+/// ```
+pub trait ReadByParts: Sized {
+    ghost use Rattle.cbor_model.specs.Raw.{Raw};
+    ghost use Rattle.cbor_model.specs.Readable.{Context};
+    ghost use Rattle.cbor_de.specs.Forms.{WrongForms};
+
+    ghost reads: { Context → Raw → Self → Type 0 };
+
+    ghost wrong_forms: { WrongForms };
+}
+
+impl<T: Schema> ReadByParts for T
+where
+    T::Parts: ReadableParts,
+{
+    ghost reads = { λ c r x. T.Parts.reads T.names c r (T.parts x) };
+
+    ghost wrong_forms = { T.Parts.wrong_forms };
+}
+
+/// Reads the item at the front by the description of the type.
+///
+/// ```rust
+/// impl<'de, R: Read<'de>> Deserialize<'de, R> for User {
+///     fn deserialize(de: &mut Deserializer<R>) -> Result<User> {
+///         read_described(de)
 ///     }
 /// }
 /// ```
-pub trait FromParts: Schema {
-    /// What has these parts.
-    fn from_parts(from: Self::Parts) -> Self
-        ensures { Self.parts result ≡ from };
-
-    /// Reads the item at the front by the description, and by the names that it gives.
-    ///
-    /// ```rust
-    /// impl<'de, R: Read<'de>> Deserialize<'de, R> for User {
-    ///     fn deserialize(de: &mut Deserializer<R>) -> Result<User> {
-    ///         User::read_described(de, &["user_id", "admin"])
-    ///     }
-    /// }
-    /// ```
-    final fn read_described<'de, R: Read<'de>>(
-        de: &mut Deserializer<R>,
-        names: &[&str],
-    ) -> Result<Self>
-    where
-        Self::Parts: ReadParts<'de, R>,
-        requires as_many { length names.now ≡ Self.Parts.count }
-        requires named { texts names.now ≡ Self.names }
-        ensures read { call.TakesItem R.source R.refusals
-            (λ r x. Self.Parts.reads Self.names (context de.old.decoder.formats R.lends) r
-            (Self.parts x)) de.old de.new result }
-        ensures taken { OnOk result (call.Advances R.source de.old de.new) }
-        ensures form { IfErr result (call.MayReport R.source Self.Parts.wrong_forms de.old) }
-        ensures settings { SameSettings de.old.decoder de.new.decoder }
-    {
-        match <Self::Parts as ReadParts<'de, R>>::read_parts(de, names) {
-            Ok(parts) => Ok(Self::from_parts(parts)),
-            Err(e) => Err(e),
-        }
+pub fn read_described<'de, R: Read<'de>, T: Schema>(de: &mut Deserializer<R>) -> Result<T>
+where
+    T::Parts: ReadParts<'de, R>,
+    ensures read { call.TakesItem R.source R.refusals
+        (λ r x. T.Parts.reads T.names (context de.old.decoder.formats R.lends) r (T.parts x))
+        de.old de.new result }
+    ensures taken { OnOk result (call.Advances R.source de.old de.new) }
+    ensures form { IfErr result (call.MayReport R.source T.Parts.wrong_forms de.old) }
+    ensures settings { SameSettings de.old.decoder de.new.decoder }
+{
+    match <T::Parts as ReadParts<'de, R>>::read_parts(de, T::names()) {
+        Ok(parts) => Ok(T::from_parts(parts)),
+        Err(e) => Err(e),
     }
 }

@@ -166,6 +166,14 @@ impl<
 ///     ghost names = { map (λ n. n.now) USER.now };
 ///
 ///     ghost parts = { λ u. (u.user_id, u.admin) };
+///
+///     fn names() -> &'static [&'static str] {
+///         USER
+///     }
+///
+///     fn from_parts((user_id, admin): Self::Parts) -> User {
+///         User { user_id, admin }
+///     }
 /// }
 /// ```
 pub trait Schema: Sized + Drop {
@@ -173,12 +181,21 @@ pub trait Schema: Sized + Drop {
 
     /// The fields in the order of their numbers, or the variants in that of theirs; or a
     /// `Newtype` of the one part of a struct, where that has no name.
-    type Parts: Drop;
+    type Parts: Parts;
 
     // The names of the fields or the variants.
     ghost names: { List (List ℕ) };
 
     ghost parts: { Self → Self.Parts };
+
+    /// The names of the fields or the variants.
+    fn names() -> &'static [&'static str]
+        ensures names { map (λ n. n.now) result.now ≡ names }
+        ensures as_many { length result.now ≡ Self.Parts.count };
+
+    /// What has these parts.
+    fn from_parts(from: Self::Parts) -> Self
+        ensures { parts result ≡ from };
 }
 
 /// The one variant of an enum, by its place.

@@ -149,3 +149,13 @@ parts_law count {document = document} {reads = reads} {fits = fits} {determined 
 abbrev pub by_description : {A B : Type 0} (names : List (List ℕ)) (parts : B → A) (law : PartsLaw A)
     → length names ≡ law.count → are_distinct names ≡ true → Law B
 by_description names parts law as_many distinct = law_of (by_part parts (law.back names as_many distinct))
+
+-- The law of a type by its description: the type has it where its names are as many as its parts, and
+-- no two of them the same.
+pub record DescribedLaw (A : Type 0) : Type 1 where
+  pub names : List (List ℕ)
+  pub count : ℕ
+  pub by_names : length names ≡ count → are_distinct names ≡ true → Law A
+
+abbrev pub described_law : {A B : Type 0} (names : List (List ℕ)) (parts : B → A) (law : PartsLaw A) → DescribedLaw B
+described_law names parts law = record { names = names; count = law.count; by_names = by_description names parts law }

@@ -3,7 +3,7 @@
 use crate::round_trip::RoundTrip;
 use cbor_de::FieldType;
 use cbor_described::{ReadableParts, ReadableTuple, Variant};
-use cbor_parts::{FieldNames, Newtype, Optional, OrDefault, Struct, Tuple};
+use cbor_parts::{FieldNames, Newtype, Optional, OrDefault, Schema, Struct, Tuple};
 use cbor_ser::{FieldDocument, FieldsDocument, PartsDocument, TupleDocuments, VariantDocument};
 
 /// The parts of a struct or an enum, which are read back where the names are as many, and no two of
@@ -91,6 +91,34 @@ impl<T: RoundTrip + Drop> PartsRoundTrip for Newtype<T> {
     ghost law = { parts_law 0 (λ names as_many distinct. by_part (λ p. p.0) T.law.back) };
 
     ghost back = { λ names as_many distinct. by_part (λ p. p.0) T.back };
+}
+
+/// The law of a struct or an enum by its description, which a type with a
+/// [`Schema`](cbor_parts::Schema) has where its parts are read back, and quotes. The two `refl` show
+/// that its names are as many as its parts, and no two of them the same.
+///
+/// ```rust
+/// impl RoundTrip for User {
+///     ghost use Rattle.std.specs.Prelude.{refl};
+///
+///     ghost law = { ⟦<User as RoundTripByParts>⟧.law.by_names refl refl };
+///
+///     ghost back = { Self.law.back };
+/// }
+/// ```
+pub trait RoundTripByParts: Sized {
+    ghost use Rattle.cbor_round_trip.specs.TypeLaws.{DescribedLaw};
+
+    ghost law: { DescribedLaw Self };
+}
+
+impl<T: Schema> RoundTripByParts for T
+where
+    T::Parts: PartsRoundTrip,
+{
+    ghost use Rattle.cbor_round_trip.specs.TypeLaws.{described_law};
+
+    ghost law = { described_law T.names T.parts T.Parts.law };
 }
 
 /// The parts of a variant: a tuple of what is read back.

@@ -25,16 +25,14 @@ use cbor_ser::Serialize;
 /// `&str` or another that borrows.
 ///
 /// A struct or an enum by description has the law of its parts
-/// ([`PartsRoundTrip`](crate::PartsRoundTrip)), where no two of its names are the same, which the
-/// two `refl` show:
+/// ([`RoundTripByParts`](crate::RoundTripByParts)), where no two of its names are the same, which
+/// the two `refl` show:
 ///
 /// ```rust
 /// impl RoundTrip for User {
 ///     ghost use Rattle.std.specs.Prelude.{refl};
-///     ghost use Rattle.serde_cbor.specs.TypeLaws.{by_description};
 ///
-///     ghost law = { by_description ⟦<User as Schema>⟧.names ⟦<User as Schema>⟧.parts
-///         ⟦<<User as Schema>::Parts as PartsRoundTrip>⟧.law refl refl };
+///     ghost law = { ⟦<User as RoundTripByParts>⟧.law.by_names refl refl };
 ///
 ///     ghost back = { Self.law.back };
 /// }

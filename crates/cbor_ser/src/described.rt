@@ -1,6 +1,6 @@
 //! Structs and enums that are written from tuples of references.
 
-ghost use Rattle.std.specs.Prelude.{◌≡◌, ◌<◌, length, map};
+ghost use Rattle.std.specs.Prelude.{◌≡◌, ◌<◌};
 ghost use Rattle.cbor_model.specs.Document.{structure, unit_variant, newtype_variant};
 ghost use Rattle.cbor_model.specs.Document.{tuple_variant, struct_variant};
 ghost use Rattle.cbor_model.specs.Parts.{item};
@@ -13,7 +13,7 @@ use crate::serializer::Serializer;
 use crate::tuples::SerializeTuple;
 use cbor_io::error::Result;
 use cbor_io::write::Write;
-use cbor_parts::{Newtype, Tuple};
+use cbor_parts::{FieldNames, Newtype, Schema, Tuple};
 
 /// The content of a variant, to be written: `()`, [`Newtype`] of a reference, [`Tuple`] of a tuple
 /// of references, or [`NamedFields`].
@@ -86,14 +86,15 @@ impl<F: SerializeTuple> SerializeVariant for Tuple<F> {
     }
 }
 
-/// The content of a variant of named fields, to be written: their names, and references to them.
+/// The content of a variant of named fields, to be written: the type that names them, and
+/// references to them.
 #[derive(Drop)]
-pub struct NamedFields<'a, F>(pub &'a [&'a str], pub F);
+pub struct NamedFields<N, F>(pub N, pub F);
 
-impl<'a, F: SerializeFields> SerializeVariant for NamedFields<'a, F> {
-    ghost document = { λ i n v. struct_variant i n (F.fields (map (λ n. n.now) v.0.now) v.1) };
+impl<N: FieldNames, F: SerializeFields> SerializeVariant for NamedFields<N, F> {
+    ghost document = { λ i n v. struct_variant i n (F.fields N.names v.1) };
 
-    ghost is_named = { λ v. length v.0.now ≡ F.count };
+    ghost is_named = { λ v. F.count ≡ N.Parts.count };
 
     fn serialize_variant<W: Write>(
         &self,
@@ -102,48 +103,57 @@ impl<'a, F: SerializeFields> SerializeVariant for NamedFields<'a, F> {
         name: &str,
     ) -> Result<()> {
         ser.write_struct_head(number, name, self.1.len())?;
-        self.1.serialize_as_fields(ser, self.0)
+        self.1.serialize_as_fields(ser, N::names())
     }
 }
 
 impl<W: Write> Serializer<W> {
-    /// Writes a struct of these fields, by their names, or their numbers where the format is
-    /// packed. An [`OptionalField`](crate::OptionalField) that is None is left out.
+    /// Writes a struct of these fields, by the names that its description gives, or their numbers
+    /// where the format is packed. An [`OptionalField`](crate::OptionalField) that is None is left
+    /// out.
     ///
     /// ```rust
-    /// let mut ser = Serializer::new(alloc, Vec::new(alloc));
-    /// ser.serialize_fields(&["x", "y"], &(&1u8, &2u8))?;
-    /// assert_eq!(rt; ser.into_inner().as_slice(), b"\xa2\x61x\x01\x61y\x02".as_slice());
+    /// impl Serialize for User {
+    ///     ghost document = { ⟦<User as WrittenByParts>⟧.document };
+    ///
+    ///     fn serialize<W: Write>(&self, ser: &mut Serializer<W>) -> Result<()> {
+    ///         ser.serialize_fields(self, &(&self.user_id, &self.admin))
+    ///     }
+    /// }
     /// ```
-    pub fn serialize_fields<F: SerializeFields>(&mut self, names: &[&str], fields: &F) -> Result<()>
-        requires { length names.now ≡ F.count }
+    pub fn serialize_fields<T: Schema, F: SerializeFields>(
+        &mut self,
+        _of: &T,
+        fields: &F,
+    ) -> Result<()>
+        requires { F.count ≡ T.Parts.count }
         ensures { Serialized W.written W.refuses W.references W.capacity self.old
-            (item (structure (F.fields (map (λ n. n.now) names.now) fields.now)))
-            self.new result }
+            (item (structure (F.fields T.names fields.now))) self.new result }
     {
         self.write_map_head(Some(fields.len()))?;
-        fields.serialize_as_fields(self, names)
+        fields.serialize_as_fields(self, T::names())
     }
 
-    /// Writes a variant of an enum of variants with these names, by its number.
+    /// Writes a variant of an enum, by its number among those that the enum's description names.
     ///
     /// ```rust
-    /// let mut ser = Serializer::new(alloc, Vec::new(alloc));
-    /// ser.serialize_variant(&["Nothing", "Circle"], 1, &Newtype(&7u8))?;
-    /// assert_eq!(rt; ser.into_inner().as_slice(), b"\xa1\x66Circle\x07".as_slice());
+    /// match self {
+    ///     Shape::Nothing => ser.serialize_variant(self, 0, &()),
+    ///     Shape::Circle(radius) => ser.serialize_variant(self, 1, &Newtype(radius)),
+    /// }
     /// ```
-    pub fn serialize_variant<V: SerializeVariant>(
+    pub fn serialize_variant<T: Schema, V: SerializeVariant>(
         &mut self,
-        names: &[&str],
+        _of: &T,
         number: u32,
         content: &V,
     ) -> Result<()>
-        requires numbered { number < length names.now }
+        requires numbered { number < T.Parts.count }
         requires named { V.is_named content.now }
         ensures { Serialized W.written W.refuses W.references W.capacity self.old
-            (item (V.document number (name_in (map (λ n. n.now) names.now) number) content.now))
-            self.new result }
+            (item (V.document number (name_in T.names number) content.now)) self.new result }
     {
+        let names = T::names();
         content.serialize_variant(self, number, names[number as usize])
     }
 }

@@ -58,10 +58,13 @@ impl<'a, T: Serialize> SerializeField for &'a T {
 /// A field that may be absent, to be written: it is left out where it is None.
 ///
 /// ```rust
-/// let limit: Option<u32> = None;
-/// let mut ser = Serializer::new(alloc, Vec::new(alloc));
-/// ser.serialize_fields(&["port", "limit"], &(&80u16, OptionalField(&limit)))?;
-/// assert_eq!(rt; ser.into_inner().as_slice(), b"\xa1\x64port\x18\x50".as_slice());
+/// impl Serialize for Settings {
+///     ghost document = { ⟦<Settings as WrittenByParts>⟧.document };
+///
+///     fn serialize<W: Write>(&self, ser: &mut Serializer<W>) -> Result<()> {
+///         ser.serialize_fields(self, &(&self.port, OptionalField(&self.limit)))
+///     }
+/// }
 /// ```
 #[derive(Drop)]
 pub struct OptionalField<'a, T>(pub &'a Option<T>);

@@ -37,7 +37,7 @@ pub use collection::{CollectionSerializer, StructSerializer};
 pub use described::{NamedFields, SerializeVariant};
 pub use field::{OptionalField, SerializeField};
 pub use fields::SerializeFields;
-pub use schema::{PartsDocument, VariantDocument};
+pub use schema::{PartsDocument, VariantDocument, WrittenByParts};
 pub use serialize::Serialize;
 pub use serializer::Serializer;
 pub use tuple_documents::{FieldDocument, FieldsDocument, TupleDocuments};

@@ -7,8 +7,8 @@ ghost use Rattle.cbor_model.specs.Document.{struct_variant};
 use crate::serialize::Serialize;
 use crate::tuple_documents::{FieldsDocument, TupleDocuments};
 use cbor_parts::{
-    FieldNames, Newtype, OneOf1, OneOf2, OneOf3, OneOf4, OneOf5, OneOf6, OneOf7, OneOf8, Struct,
-    Tuple,
+    FieldNames, Newtype, OneOf1, OneOf2, OneOf3, OneOf4, OneOf5, OneOf6, OneOf7, OneOf8, Schema,
+    Struct, Tuple,
 };
 
 /// A variant that has a document.
@@ -46,6 +46,31 @@ pub trait PartsDocument {
 
     // What the parts are written as, by the names of the fields or the variants.
     ghost document: { List (List ℕ) → Self → Doc };
+}
+
+/// What a struct or an enum is written as by its description: the document of its parts, by the
+/// names that the description gives. Each type with a [`Schema`] has it, and quotes it.
+///
+/// ```rust
+/// impl Serialize for User {
+///     ghost document = { ⟦<User as WrittenByParts>⟧.document };
+///
+///     fn serialize<W: Write>(&self, ser: &mut Serializer<W>) -> Result<()> {
+///         ser.serialize_fields(self, &(&self.user_id, &self.admin))
+///     }
+/// }
+/// ```
+pub trait WrittenByParts: Sized {
+    ghost use Rattle.cbor_model.specs.Document.{Doc};
+
+    ghost document: { Self → Doc };
+}
+
+impl<T: Schema> WrittenByParts for T
+where
+    T::Parts: PartsDocument,
+{
+    ghost document = { λ x. T.Parts.document T.names (T.parts x) };
 }
 
 impl<F: FieldsDocument> PartsDocument for F {
