@@ -22,35 +22,35 @@ use Rattle.cbor_model.proofs.facts.Maps.{put_all-ascending}
 use Rattle.cbor_rules.specs.Features.{Feature, number, simple_item, float_bits, key, Place, head_end, features, all_features, pair_features}
 use Rattle.cbor_rules.specs.Presets as presets
 use Rattle.cbor_rules.specs.Presets.{IsCanonicalOf, WrittenIsAccepted, AcceptedIsWritten}
-use Rattle.cbor_rules.specs.Rules.{floor, is_less, key_cmp, breaks, Keeps}
+use Rattle.cbor_rules.specs.Rules.{only, floor, is_less, key_cmp, breaks, Keeps}
 use Rattle.cbor_rules.specs.declared.settings.Rules.{Rules}
 use Rattle.cbor_rules.specs.declared.settings.KeyOrder.{KeyOrder}
 use Rattle.cbor_rules.specs.declared.settings.KeyOrder.TheVariants.{Bytewise}
 use Rattle.cbor_rules.specs.declared.settings.Rule.{Rule}
-use Rattle.cbor_rules.specs.declared.settings.Rule.TheVariants.{ShortestHeads, DefiniteLengths, AscendingKeys, ShortestFloats, OneNan, NoUndefined, NoTags}
+use Rattle.cbor_rules.specs.declared.settings.Rule.TheVariants.{ShortestHeads, DefiniteLengths, PlainKeys, AscendingKeys, ShortestFloats, OneNan, NoUndefined, NoTags}
 
 -- ---- places
 
 -- the feature breaks no rule that is on
 abbrev pub IsFine : Rules → Feature → Type 0
-IsFine rules f = (rule : Rule) → breaks rules rule f ≡ false
+IsFine rules f = (rule : Rule) → breaks (only rules) rule f ≡ false
 
 abbrev pub AreFine : Rules → List Place → Type 0
 AreFine rules = AllByRecursion (λ (p : Place). IsFine rules p.feature)
 
 module _ (rules : Rules) where
-  by_place : (ps : List Place) → ((rule : Rule) → AllByRecursion (λ (p : Place). breaks rules rule p.feature ≡ false) ps) → AreFine rules ps
+  by_place : (ps : List Place) → ((rule : Rule) → AllByRecursion (λ (p : Place). breaks (only rules) rule p.feature ≡ false) ps) → AreFine rules ps
   by_place [] each = tt
   by_place (p ∷ ps) each = (λ rule. (each rule).0, by_place ps (λ rule. (each rule).1))
 
-  by_rule : (ps : List Place) → AreFine rules ps → (rule : Rule) → AllByRecursion (λ (p : Place). breaks rules rule p.feature ≡ false) ps
+  by_rule : (ps : List Place) → AreFine rules ps → (rule : Rule) → AllByRecursion (λ (p : Place). breaks (only rules) rule p.feature ≡ false) ps
   by_rule [] all rule = tt
   by_rule (p ∷ ps) all rule = (all.0 rule, by_rule ps all.1 rule)
 
-  pub kept_fine : (item : Raw) → Keeps rules item → AreFine rules (features 0 item)
+  pub kept_fine : (item : Raw) → Keeps (only rules) item → AreFine rules (features 0 item)
   kept_fine item keeps = by_place (features 0 item) keeps
 
-  pub fine_kept : (item : Raw) → AreFine rules (features 0 item) → Keeps rules item
+  pub fine_kept : (item : Raw) → AreFine rules (features 0 item) → Keeps (only rules) item
   fine_kept item fine = by_rule (features 0 item) fine
 
   pub first_fine : (ps qs : List Place) → AreFine rules (ps ++ qs) → AreFine rules ps
@@ -113,7 +113,7 @@ limit-le eight_bytes = omega arith
 mutual
   unfolding canonical
 
-  in_range : (v : Val) → IsWellFormed (canonical v) → IsInRange v
+  pub in_range : (v : Val) → IsWellFormed (canonical v) → IsInRange v
   in_range null fits = tt
   in_range (bool b) fits = tt
   in_range (integer z) fits = tt
@@ -240,6 +240,7 @@ pub number_fine : (order : KeyOrder) (major n : ℕ) → IsFine (by_keys order) 
 number_fine order major n ShortestHeads = rw (le-ltb n (floor (least n)) (floor-least n)) refl
 number_fine order major n NoTags = and_false (major == 6)
 number_fine order major n DefiniteLengths = refl
+number_fine order major n PlainKeys = refl
 number_fine order major n AscendingKeys = refl
 number_fine order major n ShortestFloats = refl
 number_fine order major n OneNan = refl
@@ -249,6 +250,7 @@ pub float_fine : (order : KeyOrder) (w : raw.FloatWidth) (bits : ℕ) → IsFine
 float_fine order w bits ShortestHeads = refl
 float_fine order w bits NoTags = refl
 float_fine order w bits DefiniteLengths = refl
+float_fine order w bits PlainKeys = refl
 float_fine order w bits AscendingKeys = refl
 float_fine order w bits ShortestFloats = refl
 float_fine order w bits OneNan = refl
@@ -258,6 +260,7 @@ pub key_fine : (order : KeyOrder) (before k : List ℕ) → key_cmp order before
 key_fine order before k is ShortestHeads = refl
 key_fine order before k is NoTags = refl
 key_fine order before k is DefiniteLengths = refl
+key_fine order before k is PlainKeys = refl
 key_fine order before k is AscendingKeys = ap (λ (o : Ordering). not (is_less o)) is
 key_fine order before k is ShortestFloats = refl
 key_fine order before k is OneNan = refl
@@ -272,6 +275,7 @@ pub simple_fine : (order : KeyOrder) (s : raw.Simple) → IsWritten s → IsFine
 simple_fine order s is ShortestHeads = refl
 simple_fine order s is NoTags = refl
 simple_fine order s is DefiniteLengths = refl
+simple_fine order s is PlainKeys = refl
 simple_fine order s is AscendingKeys = refl
 simple_fine order s is ShortestFloats = refl
 simple_fine order s is OneNan = refl
@@ -285,7 +289,7 @@ bool_written true = tt
 bool_written false = tt
 
 -- the bytes of a first key are above none
-first_above : (r : Raw) → lex [] (spell r) ≡ Less
+pub first_above : (r : Raw) → lex [] (spell r) ≡ Less
 unfolding spell
 first_above (raw.unsigned w n) = refl
 first_above (raw.negative w n) = refl

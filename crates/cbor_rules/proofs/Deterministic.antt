@@ -19,11 +19,11 @@ use Rattle.cbor_forms.specs.Shortened.{shortened, all_shortened, pairs_shortened
 use Rattle.cbor_rules.specs.Features.{Feature, number as number_of, indefinite_length, simple_item, float_bits, key, Place, head_end, length_end, features, all_features, pair_features}
 use Rattle.cbor_rules.specs.Presets as presets
 use Rattle.cbor_rules.specs.Presets.{WrittenIsAccepted, AcceptedIsWritten, IsDeterministicOf, IsShortest, HasShortestFloats, HaveShortestFloats, PairsHaveShortestFloats, ShortenedHasShortestFloats, defined}
-use Rattle.cbor_rules.specs.Rules.{breaks, floor}
+use Rattle.cbor_rules.specs.Rules.{only, breaks, floor}
 use Rattle.cbor_rules.specs.declared.settings.Rules.{Rules}
 use Rattle.cbor_rules.specs.declared.settings.KeyOrder.{KeyOrder}
 use Rattle.cbor_rules.specs.declared.settings.KeyOrder.TheVariants.{Bytewise}
-use Rattle.cbor_rules.specs.declared.settings.Rule.TheVariants.{ShortestHeads, DefiniteLengths, AscendingKeys, ShortestFloats, OneNan, NoUndefined, NoTags}
+use Rattle.cbor_rules.specs.declared.settings.Rule.TheVariants.{ShortestHeads, DefiniteLengths, PlainKeys, AscendingKeys, ShortestFloats, OneNan, NoUndefined, NoTags}
 use Rattle.cbor_rules.proofs.Canonical as canonical
 use Rattle.cbor_rules.proofs.Canonical.{IsFine, AreFine, by_keys, kept_fine, fine_kept, first_fine, rest_fine, both_fine, and_false}
 use Rattle.cbor_rules.proofs.Floats.{shortest_is, shortest_nan, kept_shortest, shortest_narrow, shortest_one}
@@ -51,6 +51,7 @@ with_keys order = record (defined presets.deterministic) { keys = order }
 pub is_canonical : (order : KeyOrder) (f : Feature) → IsFine (with_keys order) f → IsFine (by_keys order) f
 is_canonical order f fine ShortestHeads = fine ShortestHeads
 is_canonical order f fine DefiniteLengths = fine DefiniteLengths
+is_canonical order f fine PlainKeys = fine PlainKeys
 is_canonical order f fine AscendingKeys = fine AscendingKeys
 is_canonical order f fine NoUndefined = fine NoUndefined
 is_canonical order f fine NoTags = fine NoTags
@@ -62,6 +63,7 @@ is_canonical order _ fine OneNan = refl
 pub is_all : (order : KeyOrder) (f : Feature) → IsFine (by_keys order) f → IsFine floats_only f → IsFine (with_keys order) f
 is_all order f one floats ShortestHeads = one ShortestHeads
 is_all order f one floats DefiniteLengths = one DefiniteLengths
+is_all order f one floats PlainKeys = one PlainKeys
 is_all order f one floats AscendingKeys = one AscendingKeys
 is_all order f one floats ShortestFloats = floats ShortestFloats
 is_all order f one floats OneNan = floats OneNan
@@ -69,7 +71,7 @@ is_all order f one floats NoUndefined = one NoUndefined
 is_all order f one floats NoTags = one NoTags
 
 -- the rules about floats are kept where the two that are on are
-floats_fine : (f : Feature) → breaks floats_only ShortestFloats f ≡ false → breaks floats_only OneNan f ≡ false → IsFine floats_only f
+floats_fine : (f : Feature) → breaks (only floats_only) ShortestFloats f ≡ false → breaks (only floats_only) OneNan f ≡ false → IsFine floats_only f
 floats_fine f short one ShortestFloats = short
 floats_fine f short one OneNan = one
 floats_fine (number_of m w n) short one ShortestHeads = and_false (nat_lt n (floor w))
@@ -78,6 +80,8 @@ floats_fine (number_of m w n) short one NoTags = and_false (m == 6)
 floats_fine _ short one NoTags = refl
 floats_fine indefinite_length short one DefiniteLengths = refl
 floats_fine _ short one DefiniteLengths = refl
+floats_fine (key before k) short one PlainKeys = refl
+floats_fine _ short one PlainKeys = refl
 floats_fine (key before k) short one AscendingKeys = refl
 floats_fine _ short one AscendingKeys = refl
 floats_fine (simple_item undefined_item) short one NoUndefined = refl
@@ -91,6 +95,7 @@ is_floats order f fine = floats_fine f (fine ShortestFloats) (fine OneNan)
 pub not_defined : (order : KeyOrder) (f : Feature) → IsFine (with_keys order) f → IsFine (record presets.deterministic { keys = order }) f
 not_defined order f fine ShortestHeads = fine ShortestHeads
 not_defined order f fine DefiniteLengths = fine DefiniteLengths
+not_defined order f fine PlainKeys = fine PlainKeys
 not_defined order f fine AscendingKeys = fine AscendingKeys
 not_defined order f fine ShortestFloats = fine ShortestFloats
 not_defined order f fine OneNan = fine OneNan
@@ -175,6 +180,7 @@ module _ (apart : ApartFloats) where
   float_fine w bits is OneNan = shortest_one apart w bits is
   float_fine w bits is ShortestHeads = refl
   float_fine w bits is DefiniteLengths = refl
+  float_fine w bits is PlainKeys = refl
   float_fine w bits is AscendingKeys = refl
   float_fine w bits is NoUndefined = refl
   float_fine w bits is NoTags = refl

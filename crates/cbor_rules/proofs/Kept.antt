@@ -8,72 +8,72 @@ use Rattle.cbor_model.specs.Raw as raw
 use Rattle.cbor_model.specs.Raw.{Chunk, definite, indefinite, Raw, Raws, no_raws, RawPairs, no_raw_pairs, raw_pair, count, pair_count}
 use Rattle.cbor_model.specs.Spelling.{spell, spell_all, spell_pairs, chunk, break}
 use Rattle.cbor_rules.specs.Features.{Feature, Place, features, all_features, pair_features, chunk_places}
-use Rattle.cbor_rules.specs.Rules.{breaks, first_broken, all_rules, broken, departure_or, departure_in, first_departure, IsFirst, NoneWhereKept, FirstIsLeast}
-use Rattle.cbor_rules.specs.declared.settings.Rules.{Rules}
+use Rattle.cbor_rules.specs.Rules.{Terms, breaks, first_broken, all_rules, broken, departure_or, departure_in, first_departure, IsFirst, NoneWhereKept, FirstIsLeast}
 use Rattle.cbor_rules.specs.declared.settings.Rule.{Rule}
-use Rattle.cbor_rules.specs.declared.settings.Rule.TheVariants.{ShortestHeads, DefiniteLengths, AscendingKeys, ShortestFloats, OneNan, NoUndefined, NoTags}
+use Rattle.cbor_rules.specs.declared.settings.Rule.TheVariants.{ShortestHeads, DefiniteLengths, PlainKeys, AscendingKeys, ShortestFloats, OneNan, NoUndefined, NoTags}
 use Rattle.cbor_rules.specs.declared.answers.Departure.{Departure}
 
 -- ---- one feature
 
-module _ (rules : Rules) (f : Feature) where
+module _ (terms : Terms) (f : Feature) where
   -- these rules are kept
   abbrev AreKept : List Rule → Type 0
-  AreKept = AllByRecursion (λ (rule : Rule). breaks rules rule f ≡ false)
+  AreKept = AllByRecursion (λ (rule : Rule). breaks terms rule f ≡ false)
 
-  none_kept : (others : List Rule) → first_broken rules f others ≡ None → AreKept others
+  none_kept : (others : List Rule) → first_broken terms f others ≡ None → AreKept others
   none_kept [] none = tt
-  none_kept (rule ∷ others) none = by (breaks rules rule f) none (none_kept others)
+  none_kept (rule ∷ others) none = by (breaks terms rule f) none (none_kept others)
     where
-      by : (b : Bool) → cond b (Some rule) (first_broken rules f others) ≡ None → (first_broken rules f others ≡ None → AreKept others) → (b ≡ false) × AreKept others
+      by : (b : Bool) → cond b (Some rule) (first_broken terms f others) ≡ None → (first_broken terms f others ≡ None → AreKept others) → (b ≡ false) × AreKept others
       by true none more = absurd cc
       by false none more = (refl, more none)
 
-  kept_none : (others : List Rule) → AreKept others → first_broken rules f others ≡ None
+  kept_none : (others : List Rule) → AreKept others → first_broken terms f others ≡ None
   kept_none [] kept = refl
   kept_none (rule ∷ others) kept = rw kept.0 (kept_none others kept.1)
 
-  some_breaks : (others : List Rule) (rule : Rule) → first_broken rules f others ≡ Some rule → breaks rules rule f ≡ true
+  some_breaks : (others : List Rule) (rule : Rule) → first_broken terms f others ≡ Some rule → breaks terms rule f ≡ true
   some_breaks [] rule is = absurd cc
-  some_breaks (r ∷ others) rule is = by (breaks rules r f) refl is (some_breaks others rule)
+  some_breaks (r ∷ others) rule is = by (breaks terms r f) refl is (some_breaks others rule)
     where
-      by : (b : Bool) → breaks rules r f ≡ b → cond b (Some r) (first_broken rules f others) ≡ Some rule → (first_broken rules f others ≡ Some rule → breaks rules rule f ≡ true) → breaks rules rule f ≡ true
-      by true e is more = let same : r ≡ rule = cc in subst (λ (t : Rule). breaks rules t f ≡ true) same e
+      by : (b : Bool) → breaks terms r f ≡ b → cond b (Some r) (first_broken terms f others) ≡ Some rule → (first_broken terms f others ≡ Some rule → breaks terms rule f ≡ true) → breaks terms rule f ≡ true
+      by true e is more = let same : r ≡ rule = cc in subst (λ (t : Rule). breaks terms t f ≡ true) same e
       by false e is more = more is
 
   -- each rule is among them all
-  pick : AreKept all_rules → (rule : Rule) → breaks rules rule f ≡ false
+  pick : AreKept all_rules → (rule : Rule) → breaks terms rule f ≡ false
   pick kept ShortestHeads = kept.0
   pick kept DefiniteLengths = kept.1.0
-  pick kept AscendingKeys = kept.1.1.0
-  pick kept ShortestFloats = kept.1.1.1.0
-  pick kept OneNan = kept.1.1.1.1.0
-  pick kept NoUndefined = kept.1.1.1.1.1.0
-  pick kept NoTags = kept.1.1.1.1.1.1.0
+  pick kept PlainKeys = kept.1.1.0
+  pick kept AscendingKeys = kept.1.1.1.0
+  pick kept ShortestFloats = kept.1.1.1.1.0
+  pick kept OneNan = kept.1.1.1.1.1.0
+  pick kept NoUndefined = kept.1.1.1.1.1.1.0
+  pick kept NoTags = kept.1.1.1.1.1.1.1.0
 
-  gather : ((rule : Rule) → breaks rules rule f ≡ false) → AreKept all_rules
-  gather each = (each ShortestHeads, (each DefiniteLengths, (each AscendingKeys, (each ShortestFloats, (each OneNan, (each NoUndefined, (each NoTags, tt)))))))
+  gather : ((rule : Rule) → breaks terms rule f ≡ false) → AreKept all_rules
+  gather each = (each ShortestHeads, (each DefiniteLengths, (each PlainKeys, (each AscendingKeys, (each ShortestFloats, (each OneNan, (each NoUndefined, (each NoTags, tt))))))))
 
 -- ---- places
 
-module _ (rules : Rules) where
-  departs_none : (ps : List Place) → departure_in rules ps ≡ None → (rule : Rule) → AllByRecursion (λ (p : Place). breaks rules rule p.feature ≡ false) ps
+module _ (terms : Terms) where
+  departs_none : (ps : List Place) → departure_in terms ps ≡ None → (rule : Rule) → AllByRecursion (λ (p : Place). breaks terms rule p.feature ≡ false) ps
   departs_none [] none rule = tt
-  departs_none (p ∷ ps) none rule = by (broken rules p.feature) refl none (λ none. departs_none ps none rule)
+  departs_none (p ∷ ps) none rule = by (broken terms p.feature) refl none (λ none. departs_none ps none rule)
     where
-      by : (o : Option Rule) → broken rules p.feature ≡ o → departure_or p.offset (departure_in rules ps) o ≡ None → (departure_in rules ps ≡ None → AllByRecursion (λ (p : Place). breaks rules rule p.feature ≡ false) ps) → (breaks rules rule p.feature ≡ false) × AllByRecursion (λ (p : Place). breaks rules rule p.feature ≡ false) ps
-      by None e none more = (pick rules p.feature (none_kept rules p.feature all_rules e) rule, more none)
+      by : (o : Option Rule) → broken terms p.feature ≡ o → departure_or p.offset (departure_in terms ps) o ≡ None → (departure_in terms ps ≡ None → AllByRecursion (λ (p : Place). breaks terms rule p.feature ≡ false) ps) → (breaks terms rule p.feature ≡ false) × AllByRecursion (λ (p : Place). breaks terms rule p.feature ≡ false) ps
+      by None e none more = (pick terms p.feature (none_kept terms p.feature all_rules e) rule, more none)
       by (Some r) e none more = absurd cc
 
-  kept_departs : (ps : List Place) → ((rule : Rule) → AllByRecursion (λ (p : Place). breaks rules rule p.feature ≡ false) ps) → departure_in rules ps ≡ None
+  kept_departs : (ps : List Place) → ((rule : Rule) → AllByRecursion (λ (p : Place). breaks terms rule p.feature ≡ false) ps) → departure_in terms ps ≡ None
   kept_departs [] each = refl
   kept_departs (p ∷ ps) each =
-      let none : broken rules p.feature ≡ None = kept_none rules p.feature all_rules (gather rules p.feature (λ rule. (each rule).0)) in
+      let none : broken terms p.feature ≡ None = kept_none terms p.feature all_rules (gather terms p.feature (λ rule. (each rule).0)) in
       rw none (kept_departs ps (λ rule. (each rule).1))
 
 pub none_where_kept : NoneWhereKept
 unfolding first_departure
-none_where_kept rules item = (departs_none rules (features 0 item), kept_departs rules (features 0 item))
+none_where_kept terms item = (departs_none terms (features 0 item), kept_departs terms (features 0 item))
 
 -- ---- offsets ascend
 
@@ -148,16 +148,16 @@ mutual
 
 -- ---- the first
 
-module _ (rules : Rules) (offset : ℕ) where
+module _ (terms : Terms) (offset : ℕ) where
   -- a place of lesser offset breaks no rule
   abbrev NoneBefore : Place → Type 0
-  NoneBefore p = (rule : Rule) → breaks rules rule p.feature ≡ true → offset ≤ p.offset
+  NoneBefore p = (rule : Rule) → breaks terms rule p.feature ≡ true → offset ≤ p.offset
 
   all_behind : (low high : ℕ) (ps : List Place) → offset ≤ low → Climbs low high ps → AllByRecursion NoneBefore ps
   all_behind low high [] le climbs = tt
   all_behind low high (p ∷ ps) le climbs = (λ rule breaks. omega (arith, le, climbs.0), all_behind p.offset high ps (omega (arith, le, climbs.0)) climbs.1)
 
-module _ (rules : Rules) (d : Departure) where
+module _ (terms : Terms) (d : Departure) where
   rule_or : Option Departure → Rule
   rule_or None = ShortestHeads
   rule_or (Some e) = e.rule
@@ -166,12 +166,12 @@ module _ (rules : Rules) (d : Departure) where
   offset_or None = 0
   offset_or (Some e) = e.offset
 
-  first_in : (ps : List Place) (low high : ℕ) → Climbs low high ps → departure_in rules ps ≡ Some d → IsFirst rules ps d
+  first_in : (ps : List Place) (low high : ℕ) → Climbs low high ps → departure_in terms ps ≡ Some d → IsFirst terms ps d
   unfolding rule_or offset_or
   first_in [] low high climbs is = absurd cc
-  first_in (p ∷ ps) low high climbs is = by (broken rules p.feature) refl is (λ is. first_in ps p.offset high climbs.1 is)
+  first_in (p ∷ ps) low high climbs is = by (broken terms p.feature) refl is (λ is. first_in ps p.offset high climbs.1 is)
     where
-      by : (o : Option Rule) → broken rules p.feature ≡ o → departure_or p.offset (departure_in rules ps) o ≡ Some d → (departure_in rules ps ≡ Some d → IsFirst rules ps d) → IsFirst rules (p ∷ ps) d
+      by : (o : Option Rule) → broken terms p.feature ≡ o → departure_or p.offset (departure_in terms ps) o ≡ Some d → (departure_in terms ps ≡ Some d → IsFirst terms ps d) → IsFirst terms (p ∷ ps) d
       by None e is more =
           let later = more is in
           record {
@@ -179,7 +179,7 @@ module _ (rules : Rules) (d : Departure) where
             among = (suc later.among.0, omega (arith, later.among.1), later.among.2);
             there = later.there;
             breaks_rule = later.breaks_rule;
-            first = (λ rule breaking. absurd (let kept = pick rules p.feature (none_kept rules p.feature all_rules e) rule in cc), later.first);
+            first = (λ rule breaking. absurd (let kept = pick terms p.feature (none_kept terms p.feature all_rules e) rule in cc), later.first);
           }
       by (Some rule) e is more =
           let same : rule ≡ d.rule = ap rule_or is in
@@ -188,11 +188,11 @@ module _ (rules : Rules) (d : Departure) where
             place = p;
             among = (0, omega arith, refl);
             there = at;
-            breaks_rule = subst (λ (t : Rule). breaks rules t p.feature ≡ true) same (some_breaks rules p.feature all_rules rule e);
-            first = (λ rule breaking. omega (arith, at), all_behind rules d.offset p.offset high ps (omega (arith, at)) climbs.1);
+            breaks_rule = subst (λ (t : Rule). breaks terms t p.feature ≡ true) same (some_breaks terms p.feature all_rules rule e);
+            first = (λ rule breaking. omega (arith, at), all_behind terms d.offset p.offset high ps (omega (arith, at)) climbs.1);
           }
 
 pub first_is_least : FirstIsLeast
 unfolding first_departure
-first_is_least rules item d is =
-    first_in rules d (features 0 item) 0 (length (spell item)) (climb item 0 (length (spell item)) (omega arith)) is
+first_is_least terms item d is =
+    first_in terms d (features 0 item) 0 (length (spell item)) (climb item 0 (length (spell item)) (omega arith)) is

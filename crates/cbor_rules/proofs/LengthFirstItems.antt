@@ -23,7 +23,7 @@ use Rattle.cbor_forms.specs.LengthFirst.{length_first, all_length_first, encoded
 use Rattle.cbor_rules.specs.Features.{number, simple_item, float_bits, key, head_end, features, all_features, pair_features}
 use Rattle.cbor_rules.specs.Presets as presets
 use Rattle.cbor_rules.specs.Presets.{WrittenIsAccepted, IsLengthFirstOf, HasShortestFloats, HaveShortestFloats, PairsHaveShortestFloats, defined}
-use Rattle.cbor_rules.specs.Rules.{Keeps}
+use Rattle.cbor_rules.specs.Rules.{Keeps, only}
 use Rattle.cbor_rules.specs.declared.settings.Rules.{Rules}
 use Rattle.cbor_rules.specs.declared.settings.KeyOrder.TheVariants.{LengthFirst}
 use Rattle.cbor_rules.proofs.Canonical.{IsFine, AreFine, one_item, kept_fine, fine_kept, both_fine, number_fine, key_fine, simple_fine, bool_written, limit-le}
@@ -136,7 +136,7 @@ some (raw.float half bits) = omega arith
 some (raw.float single bits) = omega arith
 some (raw.float double bits) = omega arith
 
-first_after : (r : Raw) → by_length [] (spell r) ≡ Less
+pub first_after : (r : Raw) → by_length [] (spell r) ≡ Less
 first_after r = ap (λ (o : Ordering). ordering_then o (lex [] (spell r))) (sym (nat_cmp_is 0 (length (spell r)) Less (some r)))
 
 first_of : (ps : RawPairs) → FirstAfter [] ps
@@ -328,7 +328,7 @@ module _ (reads : ReadsBack) where
 
 -- ---- the law
 
-from_item : (bs : List ℕ) (v : Val) (spelt : SpellsValue bs v) → bs ≡ length_first v → IsEncoded (length_first v) → Keeps all spelt.item
+from_item : (bs : List ℕ) (v : Val) (spelt : SpellsValue bs v) → bs ≡ length_first v → IsEncoded (length_first v) → Keeps (only all) spelt.item
 from_item bs v spelt is one =
     let same = one_item bs spelt.item one.item spelt.acceptable.fits one.fits spelt.spelled (one.is ∙ sym is) in
     fine_kept all spelt.item (subst (λ (r : Raw). AreFine all (features 0 r)) (sym same) (one.fine 0))

@@ -9,3 +9,5 @@ pub mod Deterministic
 pub mod Puts
 pub mod LengthFirst
 pub mod LengthFirstItems
+pub mod TypeOrder
+pub mod Ctap2

@@ -8,9 +8,8 @@ use Rattle.cbor_model.specs.Spelling.{spell}
 use Rattle.cbor_model.specs.Value.{value}
 use Rattle.cbor_decode_as.specs.Takes.{WhereTotal}
 use Rattle.cbor_rules.specs.Answers.{SpellsByRules, SpellsDeparting}
-use Rattle.cbor_rules.specs.Rules.{first_departure}
+use Rattle.cbor_rules.specs.Rules.{Terms, first_departure}
 use Rattle.cbor_rules.specs.declared.answers.Departure.{Departure}
-use Rattle.cbor_rules.specs.declared.settings.Rules.{Rules}
 use Rattle.cbor_rules.proofs.Kept.{none_where_kept}
 
 -- where a type reads every item, a promise that always holds
@@ -18,18 +17,18 @@ pub where_any : {P : Type 0} (total : Bool) → P → WhereTotal total P
 where_any false p = tt
 where_any true p = p
 
-module _ {A : Type 0} (rules : Rules) (reads : Raw → A → Type 0) (bs : List ℕ) (o : Option Departure) (reports : (r : Raw) → IsWellFormed r → spell r ≡ bs → o ≡ first_departure rules r) (x : A) where
+module _ {A : Type 0} (terms : Terms) (reads : Raw → A → Type 0) (bs : List ℕ) (o : Option Departure) (reports : (r : Raw) → IsWellFormed r → spell r ≡ bs → o ≡ first_departure terms r) (x : A) where
   -- what is kept departs nowhere
-  pub kept_none : SpellsByRules rules reads bs x → o ≡ None
-  kept_none s = reports s.spelt.item s.spelt.acceptable.fits s.spelt.spelled ∙ (none_where_kept rules s.spelt.item).1 s.keeps
+  pub kept_none : SpellsByRules terms reads bs x → o ≡ None
+  kept_none s = reports s.spelt.item s.spelt.acceptable.fits s.spelt.spelled ∙ (none_where_kept terms s.spelt.item).1 s.keeps
 
   module _ (found : SpellsAs all_formats reads bs x) where
-    pub departing : (d : Departure) → o ≡ Some d → SpellsDeparting rules bs d
+    pub departing : (d : Departure) → o ≡ Some d → SpellsDeparting terms bs d
     departing d is = record {
       tree = value found.item;
       spelt = record { item = found.item; acceptable = found.acceptable; spelled = found.spelled; valued = refl };
       departs = sym (reports found.item found.acceptable.fits found.spelled) ∙ is;
     }
 
-    pub by_rules : o ≡ None → SpellsByRules rules reads bs x
-    by_rules is = record { spelt = found; keeps = (none_where_kept rules found.item).0 (sym (reports found.item found.acceptable.fits found.spelled) ∙ is) }
+    pub by_rules : o ≡ None → SpellsByRules terms reads bs x
+    by_rules is = record { spelt = found; keeps = (none_where_kept terms found.item).0 (sym (reports found.item found.acceptable.fits found.spelled) ∙ is) }

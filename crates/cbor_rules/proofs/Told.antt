@@ -3,12 +3,11 @@ use Rattle.std.proofs.Common.{◌≡◌, ℕ, suc, ◌+◌, ◌-◌, List, [], �
 use Rattle.std.proofs.lemmas.List.{append-nil}
 use Rattle.cbor_model.specs.Raw.{Raw, IsWellFormed, depth}
 use Rattle.cbor_model.specs.Spelling.{spell}
-use Rattle.cbor_rules.specs.Rules.{departure_in, first_departure}
+use Rattle.cbor_rules.specs.Rules.{Terms, departure_in, first_departure}
 use Rattle.cbor_rules.specs.Features.{features}
 use Rattle.cbor_rules.specs.Walk as model
 use Rattle.cbor_rules.specs.Walk.{passed, departed, stopped}
 use Rattle.cbor_rules.specs.Walks.{walk_view, Walks}
-use Rattle.cbor_rules.specs.declared.settings.Rules.{Rules}
 use Rattle.cbor_rules.specs.declared.settings.Rule.{Rule}
 use Rattle.cbor_rules.specs.declared.settings.Rule.TheVariants.{ShortestHeads}
 use Rattle.cbor_rules.specs.declared.answers.Departure.{Departure}
@@ -17,14 +16,14 @@ use Rattle.cbor_rules.specs.declared.walk.Walk.TheVariants.{Passed, Departed, St
 use Rattle.cbor_rules.proofs.Walked.{Answers, walked}
 
 -- of all of the bytes of an item
-pub answered : (rules : Rules) (bs : List ℕ) (r : Raw) (w : Walk) → IsWellFormed r → spell r ≡ bs → Walks bs (model.walk rules) w → Answers (length bs) [] (first_departure rules r) (walk_view bs w)
+pub answered : (terms : Terms) (bs : List ℕ) (r : Raw) (w : Walk) → IsWellFormed r → spell r ≡ bs → Walks bs (model.walk terms) w → Answers (length bs) [] (first_departure terms r) (walk_view bs w)
 unfolding first_departure
-answered rules bs r w fits is walks =
+answered terms bs r w fits is walks =
     let fuel = length bs + suc (suc (depth r)) in
     let whole : spell r ++ [] ≡ bs = append-nil (spell r) ∙ is in
-    let reports = walked rules r fuel 0 [] (length bs) fits (omega arith) (omega (arith, ap length whole)) in
-    let walk_is : model.walk rules fuel (spell r ++ []) ≡ walk_view bs w = ap (model.walk rules fuel) whole ∙ walks fuel (omega arith) in
-    subst (Answers (length bs) [] (departure_in rules (features 0 r))) walk_is reports
+    let reports = walked terms r fuel 0 [] (length bs) fits (omega arith) (omega (arith, ap length whole)) in
+    let walk_is : model.walk terms fuel (spell r ++ []) ≡ walk_view bs w = ap (model.walk terms fuel) whole ∙ walks fuel (omega arith) in
+    subst (Answers (length bs) [] (departure_in terms (features 0 r))) walk_is reports
 
 rule_of : model.Walk → Rule
 rule_of (passed bs) = ShortestHeads

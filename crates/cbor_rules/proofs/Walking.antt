@@ -5,13 +5,13 @@ use Rattle.std.proofs.lemmas.Bool.{ne_eqb, le-leb, lt-leb}
 use Rattle.std.proofs.lemmas.List.{drop-drop, length-drop}
 use Rattle.cbor_model.specs.Raw.{FloatWidth}
 use Rattle.cbor_rules.specs.Features.{number, float_bits, key}
-use Rattle.cbor_rules.specs.Rules.{broken, is_less, key_cmp}
+use Rattle.cbor_rules.specs.Rules.{Terms, under, only, broken}
 use Rattle.cbor_rules.specs.Walk as model
 use Rattle.cbor_rules.specs.Walk.{and_then, seen, unless_broken, is_break, with_number, all_walk, pairs_walk, content_walk, past, float_walk, simple_walk, inside_walk, indefinite_walk, head_walk}
 use Rattle.cbor_model.specs.Reader.{Reads, number_behind, width_of}
 use Rattle.cbor_rules.specs.declared.settings.Rules.{Rules}
 use Rattle.cbor_rules.specs.declared.settings.Rule.{Rule}
-use Rattle.cbor_rules.specs.declared.settings.Rule.TheVariants.{AscendingKeys, DefiniteLengths}
+use Rattle.cbor_rules.specs.declared.settings.Rule.TheVariants.{DefiniteLengths}
 use Rattle.cbor_rules.specs.declared.walk.Walk.{Walk}
 use Rattle.cbor_rules.specs.declared.walk.Walk.TheVariants.{Passed, Departed, Stopped}
 use Rattle.cbor_rules.specs.Walks.{last, walk_view, IsWithin, IsAfter}
@@ -98,8 +98,8 @@ module _ (p : List ℕ → model.Walk) (is_open : Bool) (n i : ℕ) (lt : i < n)
         ∙ other_then r rest (all_walk p is_open (n - (i + 1))) other
         ∙ other_view r rest bs other
 
-module _ (rules : Rules) (p : List ℕ → model.Walk) (is_open : Bool) (n i : ℕ) (lt : i < n) (before rest : List ℕ) where
-  pub pairs_break : (is_open && is_break rest) ≡ true → pairs_walk rules p is_open (n - i) before rest ≡ model.passed (drop 1 rest)
+module _ (terms : Terms) (p : List ℕ → model.Walk) (is_open : Bool) (n i : ℕ) (lt : i < n) (before rest : List ℕ) where
+  pub pairs_break : (is_open && is_break rest) ≡ true → pairs_walk terms p is_open (n - i) before rest ≡ model.passed (drop 1 rest)
   unfolding pairs_walk
   pairs_break ends = rw (one_less n i lt) (rw ends refl)
 
@@ -107,14 +107,14 @@ module _ (rules : Rules) (p : List ℕ → model.Walk) (is_open : Bool) (n i : �
   abbrev behind_key : List ℕ → model.Walk
   behind_key at_value =
       let k = take (length rest - length at_value) rest in
-      seen rules (key before k) (length at_value) (and_then (p at_value) (pairs_walk rules p is_open (n - (i + 1)) k))
+      seen terms (key before k) (length at_value) (and_then (p at_value) (pairs_walk terms p is_open (n - (i + 1)) k))
 
   module _ (on : (is_open && is_break rest) ≡ false) where
-    pairs_begin : pairs_walk rules p is_open (n - i) before rest ≡ and_then (p rest) behind_key
+    pairs_begin : pairs_walk terms p is_open (n - i) before rest ≡ and_then (p rest) behind_key
     unfolding pairs_walk
     pairs_begin = rw (one_less n i lt) (rw on refl)
 
-    pub pairs_other : (bs : List ℕ) (r : Walk) → p rest ≡ walk_view rest r → IsOther r → pairs_walk rules p is_open (n - i) before rest ≡ walk_view bs r
+    pub pairs_other : (bs : List ℕ) (r : Walk) → p rest ≡ walk_view rest r → IsOther r → pairs_walk terms p is_open (n - i) before rest ≡ walk_view bs r
     pairs_other bs r is other =
         pairs_begin
         ∙ ap (λ (w : model.Walk). and_then w behind_key) is
@@ -122,27 +122,27 @@ module _ (rules : Rules) (p : List ℕ → model.Walk) (is_open : Bool) (n i : �
         ∙ other_view r rest bs other
 
     module _ (at_value k : List ℕ) (is : p rest ≡ model.passed at_value) (key_is : k ≡ take (length rest - length at_value) rest) where
-      pairs_key : pairs_walk rules p is_open (n - i) before rest ≡ seen rules (key before k) (length at_value) (and_then (p at_value) (pairs_walk rules p is_open (n - (i + 1)) k))
+      pairs_key : pairs_walk terms p is_open (n - i) before rest ≡ seen terms (key before k) (length at_value) (and_then (p at_value) (pairs_walk terms p is_open (n - (i + 1)) k))
       pairs_key =
           pairs_begin
           ∙ ap (λ (w : model.Walk). and_then w behind_key) is
-          ∙ ap (λ (k : List ℕ). seen rules (key before k) (length at_value) (and_then (p at_value) (pairs_walk rules p is_open (n - (i + 1)) k))) (sym key_is)
+          ∙ ap (λ (k : List ℕ). seen terms (key before k) (length at_value) (and_then (p at_value) (pairs_walk terms p is_open (n - (i + 1)) k))) (sym key_is)
 
-      pub pairs_departs : (rule : Rule) → broken rules (key before k) ≡ Some rule → pairs_walk rules p is_open (n - i) before rest ≡ model.departed rule (length at_value)
-      pairs_departs rule breaks = pairs_key ∙ seen_broken rule (broken rules (key before k)) (length at_value) _ breaks
+      pub pairs_departs : (rule : Rule) → broken terms (key before k) ≡ Some rule → pairs_walk terms p is_open (n - i) before rest ≡ model.departed rule (length at_value)
+      pairs_departs rule breaks = pairs_key ∙ seen_broken rule (broken terms (key before k)) (length at_value) _ breaks
 
-      module _ (keeps : broken rules (key before k) ≡ None) where
-        pairs_value : pairs_walk rules p is_open (n - i) before rest ≡ and_then (p at_value) (pairs_walk rules p is_open (n - (i + 1)) k)
-        pairs_value = pairs_key ∙ seen_kept (broken rules (key before k)) (length at_value) _ keeps
+      module _ (keeps : broken terms (key before k) ≡ None) where
+        pairs_value : pairs_walk terms p is_open (n - i) before rest ≡ and_then (p at_value) (pairs_walk terms p is_open (n - (i + 1)) k)
+        pairs_value = pairs_key ∙ seen_kept (broken terms (key before k)) (length at_value) _ keeps
 
-        pub pairs_step : (more : List ℕ) → p at_value ≡ model.passed more → pairs_walk rules p is_open (n - i) before rest ≡ pairs_walk rules p is_open (n - (i + 1)) k more
-        pairs_step more is' = pairs_value ∙ ap (λ (w : model.Walk). and_then w (pairs_walk rules p is_open (n - (i + 1)) k)) is'
+        pub pairs_step : (more : List ℕ) → p at_value ≡ model.passed more → pairs_walk terms p is_open (n - i) before rest ≡ pairs_walk terms p is_open (n - (i + 1)) k more
+        pairs_step more is' = pairs_value ∙ ap (λ (w : model.Walk). and_then w (pairs_walk terms p is_open (n - (i + 1)) k)) is'
 
-        pub pairs_value_other : (bs : List ℕ) (r : Walk) → p at_value ≡ walk_view at_value r → IsOther r → pairs_walk rules p is_open (n - i) before rest ≡ walk_view bs r
+        pub pairs_value_other : (bs : List ℕ) (r : Walk) → p at_value ≡ walk_view at_value r → IsOther r → pairs_walk terms p is_open (n - i) before rest ≡ walk_view bs r
         pairs_value_other bs r is' other =
             pairs_value
-            ∙ ap (λ (w : model.Walk). and_then w (pairs_walk rules p is_open (n - (i + 1)) k)) is'
-            ∙ other_then r at_value (pairs_walk rules p is_open (n - (i + 1)) k) other
+            ∙ ap (λ (w : model.Walk). and_then w (pairs_walk terms p is_open (n - (i + 1)) k)) is'
+            ∙ other_then r at_value (pairs_walk terms p is_open (n - (i + 1)) k) other
             ∙ other_view r at_value bs other
 
 -- where all are passed
@@ -150,27 +150,27 @@ pub all_end : (p : List ℕ → model.Walk) (is_open : Bool) (n i : ℕ) (rest :
 unfolding all_walk
 all_end p is_open n i rest le = let none : n - i ≡ 0 = omega (arith, le) in ap (λ (k : ℕ). all_walk p is_open k rest) none
 
-pub pairs_end : (rules : Rules) (p : List ℕ → model.Walk) (is_open : Bool) (n i : ℕ) (before rest : List ℕ) → n ≤ i → pairs_walk rules p is_open (n - i) before rest ≡ cond is_open model.stopped (model.passed rest)
+pub pairs_end : (terms : Terms) (p : List ℕ → model.Walk) (is_open : Bool) (n i : ℕ) (before rest : List ℕ) → n ≤ i → pairs_walk terms p is_open (n - i) before rest ≡ cond is_open model.stopped (model.passed rest)
 unfolding pairs_walk
-pairs_end rules p is_open n i before rest le = let none : n - i ≡ 0 = omega (arith, le) in ap (λ (k : ℕ). pairs_walk rules p is_open k before rest) none
+pairs_end terms p is_open n i before rest le = let none : n - i ≡ 0 = omega (arith, le) in ap (λ (k : ℕ). pairs_walk terms p is_open k before rest) none
 
 -- ---- an item
 
-pub on_first : (rules : Rules) (fuel : ℕ) (bs : List ℕ) (b : ℕ) (rest : List ℕ) (r : Walk) → bs ≡ b ∷ rest → length bs ≤ fuel → ((fuel : ℕ) → length rest ≤ fuel → content_walk rules (model.walk rules fuel) (b / 32) (b % 32) rest ≡ walk_view rest r) → IsWithin (length rest) r → model.walk rules fuel bs ≡ walk_view bs r
+pub on_first : (terms : Terms) (fuel : ℕ) (bs : List ℕ) (b : ℕ) (rest : List ℕ) (r : Walk) → bs ≡ b ∷ rest → length bs ≤ fuel → ((fuel : ℕ) → length rest ≤ fuel → content_walk terms (model.walk terms fuel) (b / 32) (b % 32) rest ≡ walk_view rest r) → IsWithin (length rest) r → model.walk terms fuel bs ≡ walk_view bs r
 unfolding model.walk
-on_first rules zero bs b rest r is enough walks few = absurd (omega (arith, ap length is, enough))
-on_first rules (suc fuel) bs b rest r is enough walks few =
+on_first terms zero bs b rest r is enough walks few = absurd (omega (arith, ap length is, enough))
+on_first terms (suc fuel) bs b rest r is enough walks few =
     let view : walk_view rest r ≡ walk_view (b ∷ rest) r = ap (λ (t : List ℕ). walk_view t r) (last_all-but b rest) ∙ view-last (length rest) (b ∷ rest) r (omega arith) (subst (λ (t : List ℕ). IsWithin (length t) r) (last_all-but b rest) few) in
-    ap (model.walk rules (suc fuel)) is ∙ walks fuel (omega (arith, ap length is, enough)) ∙ view ∙ ap (λ (t : List ℕ). walk_view t r) (sym is)
+    ap (model.walk terms (suc fuel)) is ∙ walks fuel (omega (arith, ap length is, enough)) ∙ view ∙ ap (λ (t : List ℕ). walk_view t r) (sym is)
   where
     last_all-but : (b : ℕ) (rest : List ℕ) → rest ≡ last (length rest) (b ∷ rest)
     last_all-but b rest = let one : suc (length rest) - length rest ≡ 1 = omega arith in sym (ap (λ (n : ℕ). drop n (b ∷ rest)) one)
 
-pub no_first : (rules : Rules) (fuel : ℕ) (bs : List ℕ) → length bs ≡ 0 → model.walk rules fuel bs ≡ model.stopped
+pub no_first : (terms : Terms) (fuel : ℕ) (bs : List ℕ) → length bs ≡ 0 → model.walk terms fuel bs ≡ model.stopped
 unfolding model.walk
-no_first rules zero bs none = refl
-no_first rules (suc fuel) [] none = refl
-no_first rules (suc fuel) (b ∷ bs) none = absurd (omega (arith, none))
+no_first terms zero bs none = refl
+no_first terms (suc fuel) [] none = refl
+no_first terms (suc fuel) (b ∷ bs) none = absurd (omega (arith, none))
 
 -- ---- the rest of the bytes
 
@@ -206,11 +206,10 @@ key_at k at_value left rest is value_is le = is ∙ ap (λ (n : ℕ). take (leng
 
 -- ---- features
 
-pub key_departs : (rules : Rules) (before k : List ℕ) → false ≡ is_less (key_cmp rules.keys before k) → broken rules (key before k) ≡ Some AscendingKeys
-key_departs rules before k is = rw (← is) refl
-
-pub key_keeps : (rules : Rules) (before k : List ℕ) → true ≡ is_less (key_cmp rules.keys before k) → broken rules (key before k) ≡ None
-key_keeps rules before k is = rw (← is) refl
+-- what is no rule is none
+pub none_of : (o : Option Rule) → ((rule : Rule) → o ≡ Some rule → ⊥) → o ≡ None
+none_of None none = refl
+none_of (Some rule) none = absurd (none rule refl)
 
 -- past a float
 module _ (bs : List ℕ) (left : ℕ) (r : Walk) (le : left ≤ length bs) where
@@ -222,57 +221,62 @@ module _ (bs : List ℕ) (left : ℕ) (r : Walk) (le : left ≤ length bs) where
   after_within None is = rw is le
   after_within (Some rule) is = rw is le
 
-pub float_on : (rules : Rules) (w : FloatWidth) (low bits left : ℕ) (bs : List ℕ) (r : Walk) → number_behind low bs ≡ Ok (bits, last left bs) → left ≤ length bs → IsAfter (broken rules (float_bits w bits)) left r → float_walk rules w low bs ≡ walk_view bs r
-float_on rules w low bits left bs r is le after =
-    number_on (λ bits rest. seen rules (float_bits w bits) (length rest) (model.passed rest)) (number_behind low bs) bits (last left bs) is
-    ∙ after_view bs left r le (broken rules (float_bits w bits)) after
+pub float_on : (terms : Terms) (w : FloatWidth) (low bits left : ℕ) (bs : List ℕ) (r : Walk) → number_behind low bs ≡ Ok (bits, last left bs) → left ≤ length bs → IsAfter (broken terms (float_bits w bits)) left r → float_walk terms w low bs ≡ walk_view bs r
+float_on terms w low bits left bs r is le after =
+    number_on (λ bits rest. seen terms (float_bits w bits) (length rest) (model.passed rest)) (number_behind low bs) bits (last left bs) is
+    ∙ after_view bs left r le (broken terms (float_bits w bits)) after
 
 -- ---- what follows a first byte
 
-module _ (rules : Rules) (p : List ℕ → model.Walk) (k low : ℕ) (bs : List ℕ) where
-  pub on_simple : k ≡ 7 → content_walk rules p k low bs ≡ simple_walk rules low bs
+-- where nothing has a tag, the tags that stand are the same as none
+pub simple_only : (rules : Rules) (tags : List ℕ) (low : ℕ) (bs : List ℕ) → simple_walk (under rules tags) low bs ≡ simple_walk (only rules) low bs
+unfolding simple_walk
+simple_only rules tags low bs = refl
+
+module _ (terms : Terms) (p : List ℕ → model.Walk) (k low : ℕ) (bs : List ℕ) where
+  pub on_simple : k ≡ 7 → content_walk terms p k low bs ≡ simple_walk terms low bs
   unfolding content_walk
   on_simple is = rw is refl
 
-  pub on_indefinite : (k ≡ 7 → ⊥) → low ≡ 31 → content_walk rules p k low bs ≡ indefinite_walk rules p k bs
+  pub on_indefinite : (k ≡ 7 → ⊥) → low ≡ 31 → content_walk terms p k low bs ≡ indefinite_walk terms p k bs
   unfolding content_walk
   on_indefinite not_7 is = rw (ne_eqb k 7 not_7, is) refl
 
-  pub on_head : (k ≡ 7 → ⊥) → (low ≡ 31 → ⊥) → content_walk rules p k low bs ≡ head_walk rules p k low bs
+  pub on_head : (k ≡ 7 → ⊥) → (low ≡ 31 → ⊥) → content_walk terms p k low bs ≡ head_walk terms p k low bs
   unfolding content_walk
   on_head not_7 not_31 = rw (ne_eqb k 7 not_7, ne_eqb low 31 not_31) refl
 
-module _ (rules : Rules) (p : List ℕ → model.Walk) (k : ℕ) (bs : List ℕ) where
-  pub indefinite_departs : rules.definite_lengths ≡ true → indefinite_walk rules p k bs ≡ model.departed DefiniteLengths (length bs)
+module _ (terms : Terms) (p : List ℕ → model.Walk) (k : ℕ) (bs : List ℕ) where
+  pub indefinite_departs : terms.rules.definite_lengths ≡ true → indefinite_walk terms p k bs ≡ model.departed DefiniteLengths (length bs)
   unfolding indefinite_walk
   indefinite_departs is = rw is refl
 
-  pub indefinite_pairs : rules.definite_lengths ≡ false → k ≡ 5 → indefinite_walk rules p k bs ≡ pairs_walk rules p true (length bs) [] bs
+  pub indefinite_pairs : terms.rules.definite_lengths ≡ false → k ≡ 5 → indefinite_walk terms p k bs ≡ pairs_walk terms p true (length bs) [] bs
   unfolding indefinite_walk
   indefinite_pairs is five = rw (is, five) refl
 
-  pub indefinite_items : rules.definite_lengths ≡ false → (k ≡ 5 → ⊥) → indefinite_walk rules p k bs ≡ all_walk p true (length bs) bs
+  pub indefinite_items : terms.rules.definite_lengths ≡ false → (k ≡ 5 → ⊥) → indefinite_walk terms p k bs ≡ all_walk p true (length bs) bs
   unfolding indefinite_walk
   indefinite_items is not_5 = rw (is, ne_eqb k 5 not_5) refl
 
   module _ (n : ℕ) where
-    pub in_integer : k ≤ 1 → inside_walk rules p k n bs ≡ model.passed bs
+    pub in_integer : k ≤ 1 → inside_walk terms p k n bs ≡ model.passed bs
     unfolding inside_walk
     in_integer le = rw (le-leb k 1 le) refl
 
-    pub in_string : 1 < k → k ≤ 3 → inside_walk rules p k n bs ≡ past n bs
+    pub in_string : 1 < k → k ≤ 3 → inside_walk terms p k n bs ≡ past n bs
     unfolding inside_walk
     in_string lt le = rw (lt-leb k 1 lt, le-leb k 3 le) refl
 
-    pub in_array : k ≡ 4 → inside_walk rules p k n bs ≡ all_walk p false n bs
+    pub in_array : k ≡ 4 → inside_walk terms p k n bs ≡ all_walk p false n bs
     unfolding inside_walk
     in_array is = rw is refl
 
-    pub in_map : k ≡ 5 → inside_walk rules p k n bs ≡ pairs_walk rules p false n [] bs
+    pub in_map : k ≡ 5 → inside_walk terms p k n bs ≡ pairs_walk terms p false n [] bs
     unfolding inside_walk
     in_map is = rw is refl
 
-    pub in_tag : 5 < k → inside_walk rules p k n bs ≡ p bs
+    pub in_tag : 5 < k → inside_walk terms p k n bs ≡ p bs
     unfolding inside_walk
     in_tag lt =
         let not_4 : k ≡ 4 → ⊥ = λ is. omega (arith, lt, is) in
@@ -282,15 +286,15 @@ module _ (rules : Rules) (p : List ℕ → model.Walk) (k : ℕ) (bs : List ℕ)
         rw (lt-leb k 1 not_1, lt-leb k 3 not_3, ne_eqb k 4 not_4, ne_eqb k 5 not_5) refl
 
 -- past a head, whose number breaks a rule or none
-module _ (rules : Rules) (p : List ℕ → model.Walk) (major low n left : ℕ) (bs : List ℕ) (is : number_behind low bs ≡ Ok (n, last left bs)) where
-  head_on : head_walk rules p major low bs ≡ seen rules (number major (width_of low) n) (length (last left bs)) (inside_walk rules p major n (last left bs))
-  head_on = number_on (λ n rest. seen rules (number major (width_of low) n) (length rest) (inside_walk rules p major n rest)) (number_behind low bs) n (last left bs) is
+module _ (terms : Terms) (p : List ℕ → model.Walk) (major low n left : ℕ) (bs : List ℕ) (is : number_behind low bs ≡ Ok (n, last left bs)) where
+  head_on : head_walk terms p major low bs ≡ seen terms (number major (width_of low) n) (length (last left bs)) (inside_walk terms p major n (last left bs))
+  head_on = number_on (λ n rest. seen terms (number major (width_of low) n) (length rest) (inside_walk terms p major n rest)) (number_behind low bs) n (last left bs) is
 
-  pub head_departs : (rule : Rule) → broken rules (number major (width_of low) n) ≡ Some rule → head_walk rules p major low bs ≡ model.departed rule (length (last left bs))
-  head_departs rule breaks = head_on ∙ seen_broken rule (broken rules (number major (width_of low) n)) (length (last left bs)) _ breaks
+  pub head_departs : (rule : Rule) → broken terms (number major (width_of low) n) ≡ Some rule → head_walk terms p major low bs ≡ model.departed rule (length (last left bs))
+  head_departs rule breaks = head_on ∙ seen_broken rule (broken terms (number major (width_of low) n)) (length (last left bs)) _ breaks
 
-  pub head_keeps : broken rules (number major (width_of low) n) ≡ None → head_walk rules p major low bs ≡ inside_walk rules p major n (last left bs)
-  head_keeps keeps = head_on ∙ seen_kept (broken rules (number major (width_of low) n)) (length (last left bs)) _ keeps
+  pub head_keeps : broken terms (number major (width_of low) n) ≡ None → head_walk terms p major low bs ≡ inside_walk terms p major n (last left bs)
+  head_keeps keeps = head_on ∙ seen_kept (broken terms (number major (width_of low) n)) (length (last left bs)) _ keeps
 
-pub head_end : (rules : Rules) (p : List ℕ → model.Walk) (major low : ℕ) (bs : List ℕ) → IsErr (number_behind low bs) → head_walk rules p major low bs ≡ model.stopped
-head_end rules p major low bs is = number_end (λ n rest. seen rules (number major (width_of low) n) (length rest) (inside_walk rules p major n rest)) (number_behind low bs) is
+pub head_end : (terms : Terms) (p : List ℕ → model.Walk) (major low : ℕ) (bs : List ℕ) → IsErr (number_behind low bs) → head_walk terms p major low bs ≡ model.stopped
+head_end terms p major low bs is = number_end (λ n rest. seen terms (number major (width_of low) n) (length rest) (inside_walk terms p major n rest)) (number_behind low bs) is

@@ -3,4 +3,5 @@ pub mod Rules
 pub mod Walk
 pub mod Walks
 pub mod Answers
+pub mod Texts
 pub mod Presets

@@ -1,9 +1,13 @@
 -- The presets of rules, and what their writers write.
-use Rattle.std.specs.Prelude.{◌≡◌, ℕ, ◌^◌, ◌<◌, true, false, List, length, refl}
+use Rattle.std.specs.Prelude.{◌≡◌, ℕ, ◌^◌, ◌<◌, true, false, List, [], ◌∷◌, length}
+use Rattle.std.specs.Prelude.{refl}
 use Rattle.std.specs.Float.{nan}
 use Rattle.std.specs.Float.Ieee.{fits, odd, of_bits, of_fields, to_bits}
-use Rattle.cbor_model.specs.Canonical.{canon}
+use Rattle.std.specs.declared.cmp.Ordering.TheVariants.{Less}
+use Rattle.cbor_model.specs.Canonical.{canon, IsStorable}
+use Rattle.cbor_model.specs.InRange.{IsInRange}
 use Rattle.cbor_model.specs.Laws.{SpellsValue}
+use Rattle.cbor_model.specs.Order.{lex}
 use Rattle.cbor_model.specs.Plain.{Val, float, array, map, tag, Vals, no_vals, val}
 use Rattle.cbor_model.specs.Plain.{Pairs, no_pairs, pair}
 use Rattle.cbor_model.specs.Raw.{FloatWidth, half, single}
@@ -11,7 +15,7 @@ use Rattle.cbor_value.specs.Floats.{number, half_number}
 use Rattle.cbor_forms.specs.LengthFirst as forms
 use Rattle.cbor_forms.specs.Shortened.{shortened}
 use Rattle.cbor_forms.specs.Shortest.{shortest}
-use Rattle.cbor_rules.specs.Rules.{Keeps}
+use Rattle.cbor_rules.specs.Rules.{Keeps, key_cmp, only}
 use Rattle.cbor_rules.specs.declared.settings.Rules.{Rules}
 use Rattle.cbor_rules.specs.declared.settings.KeyOrder.TheVariants.{Any, Bytewise, LengthFirst}
 use Rattle.cbor_rules.specs.declared.settings.KeyOrder.TheVariants.{TypeFirst}
@@ -20,6 +24,7 @@ use Rattle.cbor_rules.specs.declared.settings.KeyOrder.TheVariants.{TypeFirst}
 abbrev pub any_item : Rules
 any_item = record {
   keys = Any;
+  plain_keys = false;
   shortest_heads = false;
   definite_lengths = false;
   shortest_floats = false;
@@ -51,10 +56,11 @@ deterministic = record any_item {
 abbrev pub length_first : Rules
 length_first = record deterministic { keys = LengthFirst }
 
--- CTAP2, section 6
+-- CTAP 2.1, section 8
 abbrev pub ctap2 : Rules
 ctap2 = record any_item {
   keys = TypeFirst;
+  plain_keys = true;
   shortest_heads = true;
   definite_lengths = true;
   no_tags = true;
@@ -102,23 +108,55 @@ IsDeterministicOf bytes v = HasShortestFloats v × (bytes ≡ canon v)
 abbrev pub IsLengthFirstOf : List ℕ → Val → Type 0
 IsLengthFirstOf bytes v = HasShortestFloats v × (bytes ≡ forms.length_first v)
 
+-- a number, a string or a simple value
+abbrev pub IsPlain : Val → Type 0
+IsPlain (array vs) = ⊥
+IsPlain (map ps) = ⊥
+IsPlain (tag n v) = ⊥
+IsPlain _ = Unit {0}
+
+-- The value has no tags, and each key of its maps is plain (CTAP 2.1, section 8, uses no others).
+abbrev mutual
+  pub IsForCtap2 : Val → Type 0
+  IsForCtap2 (array vs) = AreForCtap2 vs
+  IsForCtap2 (map ps) = ArePairsForCtap2 ps
+  IsForCtap2 (tag n v) = ⊥
+  IsForCtap2 _ = Unit {0}
+
+  pub AreForCtap2 : Vals → Type 0
+  AreForCtap2 no_vals = Unit {0}
+  AreForCtap2 (val v vs) = IsForCtap2 v × AreForCtap2 vs
+
+  pub ArePairsForCtap2 : Pairs → Type 0
+  ArePairsForCtap2 no_pairs = Unit {0}
+  ArePairsForCtap2 (pair k v ps) = IsPlain k × IsForCtap2 v × ArePairsForCtap2 ps
+
+-- the bytes are what such a value is written as canonically
+abbrev pub IsCtap2Of : List ℕ → Val → Type 0
+IsCtap2Of bytes v = IsForCtap2 v × (bytes ≡ canon v)
+
 -- ---- the laws
 
 -- What is written so keeps the rules: where the bytes of an acceptable item are an encoding P of its
 -- value, the item keeps them.
 abbrev pub WrittenIsAccepted : Rules → (List ℕ → Val → Type 0) → Type 0
 WrittenIsAccepted rules P = (bytes : List ℕ) (v : Val) → length bytes < 2 ^ 64
-    → (spelt : SpellsValue bytes v) → P bytes v → Keeps rules spelt.item
+    → (spelt : SpellsValue bytes v) → P bytes v → Keeps (only rules) spelt.item
 
 -- What keeps the rules is written so: where an acceptable item keeps them, its bytes are an
 -- encoding P of its value.
 abbrev pub AcceptedIsWritten : Rules → (List ℕ → Val → Type 0) → Type 0
 AcceptedIsWritten rules P = (bytes : List ℕ) (v : Val) → length bytes < 2 ^ 64
-    → (spelt : SpellsValue bytes v) → Keeps rules spelt.item → P bytes v
+    → (spelt : SpellsValue bytes v) → Keeps (only rules) spelt.item → P bytes v
 
 -- What is written deterministically, or with shorter keys first, has its floats at their shortest.
 abbrev pub ShortenedHasShortestFloats : Type 0
 ShortenedHasShortestFloats = (v : Val) → HasShortestFloats (shortened v)
+
+-- CTAP2's order of keys is that of their bytes, for keys that are plain.
+abbrev pub TypeFirstIsBytewise : Type 0
+TypeFirstIsBytewise = (k l : Val) → IsPlain k → IsPlain l → IsStorable k → IsStorable l
+    → IsInRange k → IsInRange l → key_cmp TypeFirst (canon k) (canon l) ≡ lex (canon k) (canon l)
 
 -- ---- examples
 
@@ -130,3 +168,8 @@ hundred_thousand = refl
 one_and_a_half : shortest (number single 0x3fc0_0000) ≡ float half 0x3e00
 unfolding shortest of_bits of_fields odd fits to_bits
 one_and_a_half = refl
+
+-- of arrays, which CTAP2 doesn't use as keys, [0, 0] stands before the longer [1000], whose bytes
+-- come first
+arrays_otherwise : key_cmp TypeFirst (0x82 ∷ 0 ∷ 0 ∷ []) (0x81 ∷ 0x19 ∷ 0x03 ∷ 0xe8 ∷ []) ≡ Less
+arrays_otherwise = refl

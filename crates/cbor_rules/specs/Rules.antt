@@ -1,15 +1,15 @@
 -- Which features break a rule, which items keep the rules that are on, and the first departure.
 use Rattle.std.specs.Prelude.{◌≡◌, ℕ, ◌≤◌, ◌/◌, Bool, true, false, List, [], ◌∷◌, Option, Some, None}
 use Rattle.std.specs.Prelude.{◌&&◌, ◌==◌, not, nat_lt, if◌then◌else◌, slice_index, refl}
-use Rattle.std.specs.List.{AllByRecursion, Contains}
+use Rattle.std.specs.List.{AllByRecursion, Contains, list_any}
 use Rattle.std.specs.Ordering.{ordering_then, nat_cmp}
 use Rattle.std.specs.declared.cmp.Ordering.{Ordering}
 use Rattle.std.specs.declared.cmp.Ordering.TheVariants.{Less, Equal, Greater}
 use Rattle.cbor_model.specs.Head.{HeadWidth, no_bytes, one_byte, two_bytes, four_bytes, eight_bytes}
 use Rattle.cbor_model.specs.Head.{limit}
 use Rattle.cbor_model.specs.Raw.{Raw, FloatWidth, half, single, null_item, undefined_item}
-use Rattle.cbor_model.specs.Raw.{unsigned, negative, array, map, simple, float, definite, no_raws, raw}
-use Rattle.cbor_model.specs.Raw.{no_raw_pairs, raw_pair}
+use Rattle.cbor_model.specs.Raw.{unsigned, negative, array, map, tag, simple, float, definite, raw}
+use Rattle.cbor_model.specs.Raw.{no_raws, no_raw_pairs, raw_pair}
 use Rattle.std.specs.Float.Ieee.{fits, odd, of_bits, of_fields, to_bits}
 use Rattle.cbor_model.specs.Plain as plain
 use Rattle.cbor_model.specs.Plain.{Val}
@@ -26,8 +26,8 @@ use Rattle.cbor_rules.specs.declared.settings.KeyOrder.TheVariants.{Any, Bytewis
 use Rattle.cbor_rules.specs.declared.settings.KeyOrder.TheVariants.{TypeFirst}
 use Rattle.cbor_rules.specs.declared.settings.Rule.{Rule}
 use Rattle.cbor_rules.specs.declared.settings.Rule.TheVariants.{ShortestHeads, DefiniteLengths}
-use Rattle.cbor_rules.specs.declared.settings.Rule.TheVariants.{AscendingKeys, ShortestFloats, OneNan}
-use Rattle.cbor_rules.specs.declared.settings.Rule.TheVariants.{NoUndefined, NoTags}
+use Rattle.cbor_rules.specs.declared.settings.Rule.TheVariants.{PlainKeys, AscendingKeys, OneNan}
+use Rattle.cbor_rules.specs.declared.settings.Rule.TheVariants.{ShortestFloats, NoUndefined, NoTags}
 use Rattle.cbor_rules.specs.declared.answers.Departure.{Departure}
 
 -- a number below this fits a narrower width
@@ -74,77 +74,98 @@ is_less Less = true
 is_less Equal = false
 is_less Greater = false
 
+-- the key is an array, a map or a tag
+abbrev pub is_compound : List ℕ → Bool
+is_compound k = nat_lt 3 (major k) && nat_lt (major k) 7
+
+-- Rules, and the tags that stand where tags are refused.
+pub record Terms : Type 0 where
+  pub rules : Rules
+  pub tags : List ℕ
+
+abbrev pub under : Rules → List ℕ → Terms
+under rules tags = record { rules = rules; tags = tags }
+
+-- where tags are refused, each is
+abbrev pub only : Rules → Terms
+only rules = under rules []
+
+abbrev pub is_among : ℕ → List ℕ → Bool
+is_among n tags = list_any (λ m. m == n) tags
+
 -- whether a rule is on, and this feature breaks it
-abbrev pub breaks : Rules → Rule → Feature → Bool
-breaks rules ShortestHeads (number m w n) = nat_lt n (floor w) && rules.shortest_heads
-breaks rules NoTags (number m w n) = (m == 6) && rules.no_tags
-breaks rules DefiniteLengths indefinite_length = rules.definite_lengths
-breaks rules NoUndefined (simple_item undefined_item) = rules.no_undefined
-breaks rules ShortestFloats (float_bits w bits) = rules.shortest_floats && is_wide w bits
-breaks rules OneNan (float_bits w bits) = rules.one_nan && is_other_nan w bits
-breaks rules AscendingKeys (key before k) = not (is_less (key_cmp rules.keys before k))
-breaks rules _ _ = false
+abbrev pub breaks : Terms → Rule → Feature → Bool
+breaks terms ShortestHeads (number m w n) = nat_lt n (floor w) && terms.rules.shortest_heads
+breaks terms NoTags (number m w n) =
+    (m == 6) && (not (is_among n terms.tags) && terms.rules.no_tags)
+breaks terms DefiniteLengths indefinite_length = terms.rules.definite_lengths
+breaks terms NoUndefined (simple_item undefined_item) = terms.rules.no_undefined
+breaks terms ShortestFloats (float_bits w bits) = terms.rules.shortest_floats && is_wide w bits
+breaks terms OneNan (float_bits w bits) = terms.rules.one_nan && is_other_nan w bits
+breaks terms PlainKeys (key before k) = terms.rules.plain_keys && is_compound k
+breaks terms AscendingKeys (key before k) = not (is_less (key_cmp terms.rules.keys before k))
+breaks terms _ _ = false
 
 -- at each of the places the rule is kept, or it is off
-abbrev pub KeepsRule : Rules → Rule → Raw → Type 0
-KeepsRule rules rule item = AllByRecursion (λ p. breaks rules rule p.feature ≡ false) (features 0 item)
+abbrev pub KeepsRule : Terms → Rule → Raw → Type 0
+KeepsRule terms rule item = AllByRecursion (λ p. breaks terms rule p.feature ≡ false) (features 0 item)
 
 -- the item keeps each rule that is on
-abbrev pub Keeps : Rules → Raw → Type 0
-Keeps rules item = (rule : Rule) → KeepsRule rules rule item
+abbrev pub Keeps : Terms → Raw → Type 0
+Keeps terms item = (rule : Rule) → KeepsRule terms rule item
 
 -- ---- the first departure
 
--- the first of these rules that the feature breaks
-abbrev pub first_broken : Rules → Feature → List Rule → Option Rule
-first_broken rules f [] = None
-first_broken rules f (rule ∷ others) =
-    if breaks rules rule f then Some rule else first_broken rules f others
+-- the first of these terms that the feature breaks
+abbrev pub first_broken : Terms → Feature → List Rule → Option Rule
+first_broken terms f [] = None
+first_broken terms f (rule ∷ others) =
+    if breaks terms rule f then Some rule else first_broken terms f others
 
 -- each rule
 abbrev pub all_rules : List Rule
 all_rules =
-    ShortestHeads ∷ DefiniteLengths ∷ AscendingKeys ∷ ShortestFloats ∷ OneNan ∷ NoUndefined ∷ NoTags
-    ∷ []
+    ShortestHeads ∷ DefiniteLengths ∷ PlainKeys ∷ AscendingKeys ∷ ShortestFloats ∷ OneNan
+    ∷ NoUndefined ∷ NoTags ∷ []
 
-abbrev pub broken : Rules → Feature → Option Rule
-broken rules f = first_broken rules f all_rules
+abbrev pub broken : Terms → Feature → Option Rule
+broken terms f = first_broken terms f all_rules
 
 abbrev pub departure_or : ℕ → Option Departure → Option Rule → Option Departure
 departure_or at others None = others
 departure_or at others (Some rule) = Some (record { rule = rule; offset = at })
 
 -- the first place where a rule is broken
-abbrev pub departure_in : Rules → List Place → Option Departure
-departure_in rules [] = None
-departure_in rules (p ∷ ps) =
-    departure_or p.offset (departure_in rules ps) (broken rules p.feature)
+abbrev pub departure_in : Terms → List Place → Option Departure
+departure_in terms [] = None
+departure_in terms (p ∷ ps) =
+    departure_or p.offset (departure_in terms ps) (broken terms p.feature)
 
 -- the item's first departure, in the order of its bytes
-unfoldable pub first_departure : Rules → Raw → Option Departure
-first_departure rules item = departure_in rules (features 0 item)
+unfoldable pub first_departure : Terms → Raw → Option Departure
+first_departure terms item = departure_in terms (features 0 item)
 
 -- The departure is at one of the places, which breaks its rule; and no place before that breaks any.
-pub record IsFirst (rules : Rules) (places : List Place) (d : Departure) : Type 0 where
+pub record IsFirst (terms : Terms) (places : List Place) (d : Departure) : Type 0 where
   pub place : Place
   pub among : Contains places place
   pub there : place.offset ≡ d.offset
-  pub breaks_rule : breaks rules d.rule place.feature ≡ true
+  pub breaks_rule : breaks terms d.rule place.feature ≡ true
   pub first : AllByRecursion
-      (λ p. (rule : Rule) → breaks rules rule p.feature ≡ true → d.offset ≤ p.offset) places
+      (λ p. (rule : Rule) → breaks terms rule p.feature ≡ true → d.offset ≤ p.offset) places
 
 -- ---- the laws
 
 -- An item departs nowhere exactly where it keeps each rule that is on.
 abbrev pub NoneWhereKept : Type 0
-NoneWhereKept = (rules : Rules) (item : Raw)
-    → (first_departure rules item ≡ None → Keeps rules item)
-    × (Keeps rules item → first_departure rules item ≡ None)
+NoneWhereKept = (terms : Terms) (item : Raw)
+    → (first_departure terms item ≡ None → Keeps terms item)
+    × (Keeps terms item → first_departure terms item ≡ None)
 
 -- The first departure is at the first place that breaks a rule: there is none at a lesser offset.
 abbrev pub FirstIsLeast : Type 0
-FirstIsLeast = (rules : Rules) (item : Raw) (d : Departure)
-    → first_departure rules item ≡ Some d → IsFirst rules (features 0 item) d
+FirstIsLeast = (terms : Terms) (item : Raw) (d : Departure)
+    → first_departure terms item ≡ Some d → IsFirst terms (features 0 item) d
 
 -- ---- examples
 
@@ -152,6 +173,7 @@ FirstIsLeast = (rules : Rules) (item : Raw) (d : Departure)
 abbrev keys_only : KeyOrder → Rules
 keys_only order = record {
   keys = order;
+  plain_keys = false;
   shortest_heads = false;
   definite_lengths = false;
   shortest_floats = false;
@@ -167,33 +189,50 @@ hundred_first = map (definite no_bytes)
     (raw_pair (negative no_bytes 0) (simple null_item)
     no_raw_pairs))
 
-above_by_bytes : first_departure (keys_only Bytewise) hundred_first ≡ None
+above_by_bytes : first_departure (only (keys_only Bytewise)) hundred_first ≡ None
 unfolding first_departure features spell
 above_by_bytes = refl
 
-not_by_length : first_departure (keys_only LengthFirst) hundred_first
+not_by_length : first_departure (only (keys_only LengthFirst)) hundred_first
     ≡ Some (record { rule = AscendingKeys; offset = 5 })
 unfolding first_departure features spell
 not_by_length = refl
 
 -- 82 f7 18 17: undefined, and a head that isn't the shortest
 undefined_first : first_departure
-    (record (keys_only Any) { no_undefined = true; shortest_heads = true })
+    (only (record (keys_only Any) { no_undefined = true; shortest_heads = true }))
     (array (definite no_bytes) (raw (simple undefined_item) (raw (unsigned one_byte 23) no_raws)))
     ≡ Some (record { rule = NoUndefined; offset = 2 })
 unfolding first_departure features spell
 undefined_first = refl
 
 -- fa 3f c0 00 00, which is 1.5
-one_and_a_half_wide : first_departure (record (keys_only Any) { shortest_floats = true })
+one_and_a_half_wide : first_departure (only (record (keys_only Any) { shortest_floats = true }))
     (float single 0x3fc0_0000)
     ≡ Some (record { rule = ShortestFloats; offset = 5 })
 unfolding first_departure features shortest of_bits of_fields odd fits to_bits
 one_and_a_half_wide = refl
 
 -- f9 7e 01
-other_nan : first_departure (record (keys_only Any) { shortest_floats = true; one_nan = true })
+other_nan : first_departure
+    (only (record (keys_only Any) { shortest_floats = true; one_nan = true }))
     (float half 0x7e01)
     ≡ Some (record { rule = OneNan; offset = 3 })
 unfolding first_departure features shortest floats.half_number of_bits of_fields odd fits to_bits
 other_nan = refl
+
+-- a1 81 00 f6, whose key is an array
+array_as_key : first_departure (only (record (keys_only Any) { plain_keys = true }))
+    (map (definite no_bytes)
+    (raw_pair (array (definite no_bytes) (raw (unsigned no_bytes 0) no_raws)) (simple null_item)
+    no_raw_pairs))
+    ≡ Some (record { rule = PlainKeys; offset = 3 })
+unfolding first_departure features spell
+array_as_key = refl
+
+-- c1 c2 00, where tag 1 stands
+other_tag : first_departure (under (record (keys_only Any) { no_tags = true }) (0 ∷ 1 ∷ []))
+    (tag no_bytes 1 (tag no_bytes 2 (unsigned no_bytes 0)))
+    ≡ Some (record { rule = NoTags; offset = 2 })
+unfolding first_departure features spell
+other_tag = refl

@@ -14,6 +14,7 @@ ghost use Rattle.cbor_de.specs.Forms.{MayReport};
 ghost use Rattle.cbor_de.specs.Whole.{RefusesUnread, from_slice_asks, from_slice_context};
 ghost use Rattle.cbor_rules.specs.Answers.{IfDeparts, IfUnread, IsMemory, SpellsByRules};
 ghost use Rattle.cbor_rules.specs.Answers.{SpellsDeparting, ReportsItsDeparture};
+ghost use Rattle.cbor_rules.specs.Rules.{only, under};
 
 use crate::answers::Refusal;
 use crate::settings::Rules;
@@ -28,8 +29,8 @@ use std::alloc::Global;
 /// departs from a rule is refused by its first departure: with the rule, and the offset after the
 /// bytes that show it. That is after the head for a head that isn't the shortest and for a tag,
 /// after the first byte of an indefinite length, after a float or an undefined, and after a key
-/// that may not follow the one before it. What is reported of a head comes before what is reported of the
-/// key that it ends. No memory is taken beyond that of `from_slice`.
+/// that is not plain or may not follow the one before it. What is reported of a head comes before
+/// what is reported of the key that it ends. No memory is taken beyond that of `from_slice`.
 ///
 /// ```rust
 /// let numbers: [u8; 2] = from_slice_with(alloc, &[0x82, 0x01, 0x02], Rules::DETERMINISTIC)?;
@@ -46,21 +47,73 @@ pub fn from_slice_with<'a, T: Deserialize<'a, SliceRead<'a>>>(
     rules: Rules,
 ) -> Result<T, Refusal>
     // The bytes encode an acceptable item that keeps the rules, and it is read so.
-    ensures found { IfOk result (SpellsByRules rules (T.reads from_slice_context) slice.now) }
+    ensures found { IfOk result (SpellsByRules (only rules) (T.reads from_slice_context) slice.now) }
     // Each such item is read, unless memory runs out.
-    ensures accepted { (x : T) → SpellsByRules rules (T.reads from_slice_context) slice.now x
+    ensures accepted { (x : T) → SpellsByRules (only rules) (T.reads from_slice_context) slice.now x
         → IfErr result IsMemory }
     // An item that `from_slice` reads so is refused by its first departure alone.
     ensures departs { (x : T)
         → (spelt : SpellsAs all_formats (T.reads from_slice_context) slice.now x)
-        → IfErr result (ReportsItsDeparture rules spelt.item) }
+        → IfErr result (ReportsItsDeparture (only rules) spelt.item) }
     // The acceptable item that the bytes encode is the one that is read; and where the type reads
     // every item, it is refused by its first departure alone.
     ensures every { (v : Val) → (spelt : SpellsValue slice.now v)
         → MatchResult result (T.reads from_slice_context spelt.item)
-        (λ e. WhereTotal T.total (ReportsItsDeparture rules spelt.item e)) }
+        (λ e. WhereTotal T.total (ReportsItsDeparture (only rules) spelt.item e)) }
     // A departure that is reported is the first of the acceptable item that the bytes encode.
-    ensures departed { IfErr result (IfDeparts (SpellsDeparting rules slice.now)) }
+    ensures departed { IfErr result (IfDeparts (SpellsDeparting (only rules) slice.now)) }
+    // Another refusal is that of `from_slice`: where the type reads every item, the first that the
+    // bytes allow, or memory ran out; and a wrong form is reported as the type may report it.
+    ensures first { IfErr result (IfUnread (λ e. WhereTotal T.total
+        (IsOutOfMemory e ⊎ ReportsFirst (limits_of None) slice.now e))) }
+    ensures form { IfErr result
+        (IfUnread (MayReport T.wrong_forms all_formats (start_of_slice slice.now None))) }
+    // A type that passes over an item that it doesn't read refuses it by a message, and other bytes
+    // by their first refusal.
+    ensures fault { IfErr result (IfUnread (λ e. WhereTotal T.passes_over
+        (IsOutOfMemory e ⊎ RefusesUnread (T.reads from_slice_context) None slice.now e))) }
+    // Memory runs out only for an item for which the type may ask for it.
+    ensures memory { (x : T)
+        → (spelt : SpellsAs all_formats (T.reads from_slice_context) slice.now x)
+        → IfErr result (IfUnread (λ e. T.asks_memory from_slice_asks spelt.item)) }
+{
+    from_slice_with_tags(alloc, slice, rules, &[])
+}
+
+/// What the item is read as that the bytes encode, as by [`from_slice_with`], but where the rules
+/// refuse tags these stand: each tag of the item is one of them.
+///
+/// Each tag is looked for in the list from its beginning.
+///
+/// ```rust
+/// let rules = Rules { no_tags: true, ..Rules::CANONICAL };
+/// let time: u64 = from_slice_with_tags(alloc, b"\xc1\x18\x64", rules, &[0, 1])?;
+/// assert_eq!(rt; time, 100);
+/// ```
+pub fn from_slice_with_tags<'a, T: Deserialize<'a, SliceRead<'a>>>(
+    alloc: Global,
+    slice: &'a [u8],
+    rules: Rules,
+    tags: &[u64],
+) -> Result<T, Refusal>
+    // The bytes encode an acceptable item that keeps the rules, and it is read so.
+    ensures found { IfOk result
+        (SpellsByRules (under rules tags.now) (T.reads from_slice_context) slice.now) }
+    // Each such item is read, unless memory runs out.
+    ensures accepted { (x : T)
+        → SpellsByRules (under rules tags.now) (T.reads from_slice_context) slice.now x
+        → IfErr result IsMemory }
+    // An item that `from_slice` reads so is refused by its first departure alone.
+    ensures departs { (x : T)
+        → (spelt : SpellsAs all_formats (T.reads from_slice_context) slice.now x)
+        → IfErr result (ReportsItsDeparture (under rules tags.now) spelt.item) }
+    // The acceptable item that the bytes encode is the one that is read; and where the type reads
+    // every item, it is refused by its first departure alone.
+    ensures every { (v : Val) → (spelt : SpellsValue slice.now v)
+        → MatchResult result (T.reads from_slice_context spelt.item)
+        (λ e. WhereTotal T.total (ReportsItsDeparture (under rules tags.now) spelt.item e)) }
+    // A departure that is reported is the first of the acceptable item that the bytes encode.
+    ensures departed { IfErr result (IfDeparts (SpellsDeparting (under rules tags.now) slice.now)) }
     // Another refusal is that of `from_slice`: where the type reads every item, the first that the
     // bytes allow, or memory ran out; and a wrong form is reported as the type may report it.
     ensures first { IfErr result (IfUnread (λ e. WhereTotal T.total
@@ -77,7 +130,7 @@ pub fn from_slice_with<'a, T: Deserialize<'a, SliceRead<'a>>>(
         → IfErr result (IfUnread (λ e. T.asks_memory from_slice_asks spelt.item)) }
 {
     match from_slice::<T>(alloc, slice) {
-        Ok(value) => match first_departure(rules, slice) {
+        Ok(value) => match first_departure(rules, tags, slice) {
             Some(departure) => Err(Refusal::Departs(departure)),
             None => Ok(value),
         },

@@ -4,7 +4,7 @@ ghost use Rattle.std.specs.Prelude.{◌≡◌, ◌<◌, nat_lt};
 ghost use Rattle.cbor_model.specs.Reader.{width_of};
 ghost use Rattle.cbor_value.specs.View.{float_view};
 ghost use Rattle.cbor_rules.specs.Features.{number};
-ghost use Rattle.cbor_rules.specs.Rules.{broken, float_size, floor, is_quiet_nan};
+ghost use Rattle.cbor_rules.specs.Rules.{broken, float_size, floor, is_quiet_nan, only, under};
 ghost use Rattle.cbor_rules.specs.Walks.{float_feature};
 
 use crate::settings::{Rule, Rules};
@@ -12,15 +12,21 @@ use cbor_forms::shortest;
 use cbor_value::Float;
 
 /// The rule that a head with this number breaks, if it does: of this major type, below 7, after a
-/// first byte with these lower five bits.
+/// first byte with these lower five bits. These tags stand where tags are refused.
 #[inline(always)]
-pub(crate) fn broken_by_number(rules: Rules, major: u8, low: u8, n: u64) -> Option<Rule>
+pub(crate) fn broken_by_number(
+    rules: Rules,
+    tags: &[u64],
+    major: u8,
+    low: u8,
+    n: u64,
+) -> Option<Rule>
     requires { low < 28 }
-    ensures { result ≡ broken rules (number major (width_of low) n) }
+    ensures { result ≡ broken (under rules tags.now) (number major (width_of low) n) }
 {
     if rules.shortest_heads && is_long(low, n) {
         Some(Rule::ShortestHeads)
-    } else if rules.no_tags && major == 6 {
+    } else if rules.no_tags && major == 6 && !tags.contains(&n) {
         Some(Rule::NoTags)
     } else {
         None
@@ -44,7 +50,7 @@ fn is_long(low: u8, n: u64) -> bool
 
 /// The rule that a float breaks, if it does.
 pub(crate) fn broken_by_float(rules: Rules, float: Float) -> Option<Rule>
-    ensures { result ≡ broken rules (float_feature float) }
+    ensures { result ≡ broken (only rules) (float_feature float) }
 {
     if !rules.shortest_floats && !rules.one_nan {
         return None;

@@ -9,6 +9,7 @@ ghost use Rattle.cbor_rules.specs.Rules.{FirstIsLeast, NoneWhereKept};
 ghost use Rattle.cbor_rules.specs.Presets.{any_item, canonical, ctap2, deterministic, length_first};
 ghost use Rattle.cbor_rules.specs.Presets.{AcceptedIsWritten, WrittenIsAccepted, defined};
 ghost use Rattle.cbor_rules.specs.Presets.{IsCanonicalOf, IsDeterministicOf, IsLengthFirstOf};
+ghost use Rattle.cbor_rules.specs.Presets.{IsCtap2Of, TypeFirstIsBytewise};
 ghost use Rattle.cbor_rules.specs.Presets.{ShortenedHasShortestFloats};
 
 use crate::settings::Rules;
@@ -68,6 +69,23 @@ pub fn length_first_written_is_accepted()
 /// What keeps the rules of that form and has nothing undefined is written with shorter keys first.
 pub fn length_first_accepted_is_written()
     ensures { AcceptedIsWritten (defined Rules.LENGTH_FIRST) IsLengthFirstOf }
+{}
+
+/// What is written canonically, of a value that has no tags and no arrays or maps as keys, keeps
+/// CTAP2's rules, and has nothing undefined.
+pub fn ctap2_written_is_accepted()
+    ensures kept { WrittenIsAccepted Rules.CTAP2 IsCtap2Of }
+    ensures defined { WrittenIsAccepted (defined Rules.CTAP2) IsCtap2Of }
+{}
+
+/// What keeps CTAP2's rules and has nothing undefined is written so.
+pub fn ctap2_accepted_is_written()
+    ensures { AcceptedIsWritten (defined Rules.CTAP2) IsCtap2Of }
+{}
+
+/// CTAP2's order of keys is that of their bytes, but for arrays, maps and tags.
+pub fn type_first_is_bytewise()
+    ensures { TypeFirstIsBytewise }
 {}
 
 /// A value as `to_vec_deterministic` and `to_vec_length_first` write it has its floats at their shortest.

@@ -25,6 +25,8 @@ pub enum Rule {
     ShortestHeads,
     /// No length is indefinite.
     DefiniteLengths,
+    /// No key of a map is an array, a map or a tag.
+    PlainKeys,
     /// Each map's keys strictly ascend.
     AscendingKeys,
     /// No float could be narrower and the same number.
@@ -47,6 +49,8 @@ pub enum Rule {
 pub struct Rules {
     /// The order in which the keys of each map strictly ascend.
     pub keys: KeyOrder,
+    /// Whether each key of a map has to be a number, a string or a simple value.
+    pub plain_keys: bool,
     /// Whether each head has to be the shortest.
     pub shortest_heads: bool,
     /// Whether each length has to be definite.
@@ -65,6 +69,7 @@ impl Rules {
     /// None: what `from_slice` reads.
     pub const ANY: Rules = Rules {
         keys: KeyOrder::Any,
+        plain_keys: false,
         shortest_heads: false,
         definite_lengths: false,
         shortest_floats: false,
@@ -78,6 +83,7 @@ impl Rules {
     /// `from_slice_canonical` reads and `to_vec_canonical` writes.
     pub const CANONICAL: Rules = Rules {
         keys: KeyOrder::Bytewise,
+        plain_keys: false,
         shortest_heads: true,
         definite_lengths: true,
         shortest_floats: false,
@@ -92,6 +98,7 @@ impl Rules {
     /// read besides, which no value is written as.
     pub const DETERMINISTIC: Rules = Rules {
         keys: KeyOrder::Bytewise,
+        plain_keys: false,
         shortest_heads: true,
         definite_lengths: true,
         shortest_floats: true,
@@ -104,6 +111,7 @@ impl Rules {
     /// `to_vec_length_first` writes; undefined is read besides.
     pub const LENGTH_FIRST: Rules = Rules {
         keys: KeyOrder::LengthFirst,
+        plain_keys: false,
         shortest_heads: true,
         definite_lengths: true,
         shortest_floats: true,
@@ -112,11 +120,15 @@ impl Rules {
         no_tags: false,
     };
 
-    /// The canonical form of CTAP2 (section 6): shortest heads, definite lengths, keys ascending by
-    /// type, length and bytes, floats in the width that they have, and no tags. That CTAP2 nests
-    /// four levels at the most is none of these rules.
+    /// The canonical form of CTAP2 (CTAP 2.1, section 8): shortest heads, definite lengths, keys
+    /// ascending by type, length and bytes, floats in the width that they have, and no tags. No key is
+    /// an array or a map, which CTAP2 doesn't use as such; of others its order is that of the bytes,
+    /// so that `to_vec_canonical` writes this form of a value without tags and without such keys
+    /// (law `ctap2_written_is_accepted`); undefined is read besides. That CTAP2 nests four levels at
+    /// the most is none of these rules.
     pub const CTAP2: Rules = Rules {
         keys: KeyOrder::TypeFirst,
+        plain_keys: true,
         shortest_heads: true,
         definite_lengths: true,
         shortest_floats: false,

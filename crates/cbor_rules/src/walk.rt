@@ -8,7 +8,7 @@ ghost use Rattle.std.specs.Prelude.{MatchOption, if◌then◌else◌};
 ghost use Rattle.cbor_model.specs.Raw.{Raw, IsWellFormed, half, single, double, undefined_item};
 ghost use Rattle.cbor_model.specs.Spelling.{spell};
 ghost use Rattle.cbor_rules.specs.Features.{simple_item};
-ghost use Rattle.cbor_rules.specs.Rules.{broken, first_departure};
+ghost use Rattle.cbor_rules.specs.Rules.{broken, first_departure, only, under};
 ghost use Rattle.cbor_rules.specs.Walk.{all_walk, content_walk, float_walk, head_walk, inside_walk};
 ghost use Rattle.cbor_rules.specs.Walk.{is_break, indefinite_walk, pairs_walk, past, simple_walk, walk};
 ghost use Rattle.cbor_rules.specs.Walk.{passed, seen, stopped};
@@ -17,7 +17,7 @@ ghost use Rattle.cbor_rules.specs.Walks.{IsAfter, StopsNumber, Walks};
 
 use crate::answers::Departure;
 use crate::heads::{broken_by_float, broken_by_number};
-use crate::keys::ascends;
+use crate::keys::broken_by_key;
 use crate::settings::{Rule, Rules};
 use cbor_value::Float;
 
@@ -32,13 +32,13 @@ pub enum Walk {
     Stopped,
 }
 
-/// The first departure of the item that the bytes encode, if there is one. Of other bytes nothing
-/// is said.
-pub(crate) fn first_departure(rules: Rules, bytes: &[u8]) -> Option<Departure>
+/// The first departure of the item that the bytes encode, if there is one, where these tags stand
+/// that the rules refuse otherwise. Of other bytes nothing is said.
+pub(crate) fn first_departure(rules: Rules, tags: &[u64], bytes: &[u8]) -> Option<Departure>
     ensures { (r : Raw) → IsWellFormed r → spell r ≡ bytes.now
-        → result ≡ first_departure rules r }
+        → result ≡ first_departure (under rules tags.now) r }
 {
-    match item(rules, bytes) {
+    match item(rules, tags, bytes) {
         Walk::Departed(rule, left) => Some(Departure {
             rule,
             offset: (bytes.len() - left) as u64,
@@ -50,21 +50,23 @@ pub(crate) fn first_departure(rules: Rules, bytes: &[u8]) -> Option<Departure>
 /// Goes past an item.
 #[cycle(walk)]
 #[inline(always)]
-fn item(rules: Rules, bytes: &[u8]) -> Walk
-    ensures walks { Walks bytes.now (walk rules) result }
+fn item(rules: Rules, tags: &[u64], bytes: &[u8]) -> Walk
+    ensures walks { Walks bytes.now (walk (under rules tags.now)) result }
+
     ensures within { IsWithin (length bytes.now) result }
 {
     match bytes.split_first() {
-        Some((first, rest)) => content(rules, *first, rest),
+        Some((first, rest)) => content(rules, tags, *first, rest),
         None => Walk::Stopped,
     }
 }
 
 /// Goes past what follows a first byte.
 #[cycle(walk)]
-fn content(rules: Rules, first: u8, bytes: &[u8]) -> Walk
-    ensures walks { Walks bytes.now
-        (λ fuel. content_walk rules (walk rules fuel) (first / 32) (first % 32)) result }
+fn content(rules: Rules, tags: &[u64], first: u8, bytes: &[u8]) -> Walk
+    ensures walks { let terms = under rules tags.now in
+        Walks bytes.now
+        (λ fuel. content_walk terms (walk terms fuel) (first / 32) (first % 32)) result }
     ensures within { IsWithin (length bytes.now) result }
 {
     let major = first / 32;
@@ -72,23 +74,23 @@ fn content(rules: Rules, first: u8, bytes: &[u8]) -> Walk
     if major == 7 {
         simple(rules, low, bytes)
     } else if low == 31 {
-        indefinite(rules, major, bytes)
+        indefinite(rules, tags, major, bytes)
     } else {
-        head(rules, major, low, bytes)
+        head(rules, tags, major, low, bytes)
     }
 }
 
 /// Goes past what follows a first byte of a head with its number.
 #[cycle(walk)]
-fn head(rules: Rules, major: u8, low: u8, bytes: &[u8]) -> Walk
-    ensures walks { Walks bytes.now
-        (λ fuel. head_walk rules (walk rules fuel) major low) result }
+fn head(rules: Rules, tags: &[u64], major: u8, low: u8, bytes: &[u8]) -> Walk
+    ensures walks { let terms = under rules tags.now in
+        Walks bytes.now (λ fuel. head_walk terms (walk terms fuel) major low) result }
     ensures within { IsWithin (length bytes.now) result }
 {
     match number(low, bytes) {
-        Some((n, left)) => match broken_by_number(rules, major, low, n) {
+        Some((n, left)) => match broken_by_number(rules, tags, major, low, n) {
             Some(rule) => Walk::Departed(rule, left),
-            None => inside(rules, major, n, behind(bytes, left)),
+            None => inside(rules, tags, major, n, behind(bytes, left)),
         },
         None => Walk::Stopped,
     }
@@ -96,9 +98,9 @@ fn head(rules: Rules, major: u8, low: u8, bytes: &[u8]) -> Walk
 
 /// Goes past what follows a head with its number.
 #[cycle(walk)]
-fn inside(rules: Rules, major: u8, n: u64, bytes: &[u8]) -> Walk
-    ensures walks { Walks bytes.now
-        (λ fuel. inside_walk rules (walk rules fuel) major n) result }
+fn inside(rules: Rules, tags: &[u64], major: u8, n: u64, bytes: &[u8]) -> Walk
+    ensures walks { let terms = under rules tags.now in
+        Walks bytes.now (λ fuel. inside_walk terms (walk terms fuel) major n) result }
     ensures within { IsWithin (length bytes.now) result }
 {
     if major <= 1 {
@@ -106,20 +108,20 @@ fn inside(rules: Rules, major: u8, n: u64, bytes: &[u8]) -> Walk
     } else if major <= 3 {
         past(n, bytes)
     } else if major == 4 {
-        items(rules, false, n, bytes)
+        items(rules, tags, false, n, bytes)
     } else if major == 5 {
-        pairs(rules, false, n, bytes)
+        pairs(rules, tags, false, n, bytes)
     } else {
-        item(rules, bytes)
+        item(rules, tags, bytes)
     }
 }
 
 /// Goes past what follows the first byte of an indefinite length. The chunks of a string are
 /// passed as items, which their encodings are.
 #[cycle(walk)]
-fn indefinite(rules: Rules, major: u8, bytes: &[u8]) -> Walk
-    ensures walks { Walks bytes.now
-        (λ fuel. indefinite_walk rules (walk rules fuel) major) result }
+fn indefinite(rules: Rules, tags: &[u64], major: u8, bytes: &[u8]) -> Walk
+    ensures walks { let terms = under rules tags.now in
+        Walks bytes.now (λ fuel. indefinite_walk terms (walk terms fuel) major) result }
     ensures within { IsWithin (length bytes.now) result }
 {
     if rules.definite_lengths {
@@ -127,17 +129,18 @@ fn indefinite(rules: Rules, major: u8, bytes: &[u8]) -> Walk
     }
     let most = bytes.len() as u64;
     if major == 5 {
-        pairs(rules, true, most, bytes)
+        pairs(rules, tags, true, most, bytes)
     } else {
-        items(rules, true, most, bytes)
+        items(rules, tags, true, most, bytes)
     }
 }
 
 /// Goes past n items; in an indefinite length up to a break, and past n at the most.
 #[cycle(walk)]
 #[inline(never)]
-fn items(rules: Rules, is_open: bool, n: u64, bytes: &[u8]) -> Walk
-    ensures walks { Walks bytes.now (λ fuel. all_walk (walk rules fuel) is_open n) result }
+fn items(rules: Rules, tags: &[u64], is_open: bool, n: u64, bytes: &[u8]) -> Walk
+    ensures walks { let terms = under rules tags.now in
+        Walks bytes.now (λ fuel. all_walk (walk terms fuel) is_open n) result }
     ensures within { IsWithin (length bytes.now) result }
 {
     let mut rest = bytes;
@@ -145,7 +148,7 @@ fn items(rules: Rules, is_open: bool, n: u64, bytes: &[u8]) -> Walk
         if ends(is_open, rest) {
             return Walk::Passed(rest.len() - 1);
         }
-        match item(rules, rest) {
+        match item(rules, tags, rest) {
             Walk::Passed(left) => rest = behind(rest, left),
             other => return other,
         }
@@ -153,12 +156,12 @@ fn items(rules: Rules, is_open: bool, n: u64, bytes: &[u8]) -> Walk
     ended(is_open, rest)
 }
 
-/// Goes past n pairs likewise, whose keys' bytes ascend.
+/// Goes past n pairs likewise, whose keys keep the rules.
 #[cycle(walk)]
 #[inline(never)]
-fn pairs(rules: Rules, is_open: bool, n: u64, bytes: &[u8]) -> Walk
-    ensures walks { Walks bytes.now
-        (λ fuel. pairs_walk rules (walk rules fuel) is_open n []) result }
+fn pairs(rules: Rules, tags: &[u64], is_open: bool, n: u64, bytes: &[u8]) -> Walk
+    ensures walks { let terms = under rules tags.now in
+        Walks bytes.now (λ fuel. pairs_walk terms (walk terms fuel) is_open n []) result }
     ensures within { IsWithin (length bytes.now) result }
 {
     let mut rest = bytes;
@@ -167,18 +170,18 @@ fn pairs(rules: Rules, is_open: bool, n: u64, bytes: &[u8]) -> Walk
         if ends(is_open, rest) {
             return Walk::Passed(rest.len() - 1);
         }
-        match item(rules, rest) {
+        match item(rules, tags, rest) {
             Walk::Passed(left) => {
                 let key = ahead(rest, left);
-                if !ascends(rules.keys, before, key) {
-                    return Walk::Departed(Rule::AscendingKeys, left);
+                if let Some(rule) = broken_by_key(rules, before, key) {
+                    return Walk::Departed(rule, left);
                 }
                 before = key;
                 rest = behind(rest, left);
             }
             other => return other,
         }
-        match item(rules, rest) {
+        match item(rules, tags, rest) {
             Walk::Passed(left) => rest = behind(rest, left),
             other => return other,
         }
@@ -202,6 +205,7 @@ fn ends(is_open: bool, bytes: &[u8]) -> bool
 #[inline(always)]
 fn ended(is_open: bool, bytes: &[u8]) -> Walk
     ensures walks { (if is_open then stopped else passed bytes.now) ≡ walk_view bytes.now result }
+
     ensures within { IsWithin (length bytes.now) result }
 {
     if is_open {
@@ -233,6 +237,7 @@ fn ahead(bytes: &[u8], left: usize) -> &[u8]
 #[inline(always)]
 fn past(n: u64, bytes: &[u8]) -> Walk
     ensures walks { Walks bytes.now (λ fuel. past n) result }
+
     ensures within { IsWithin (length bytes.now) result }
 {
     let len = bytes.len() as u64;
@@ -246,7 +251,8 @@ fn past(n: u64, bytes: &[u8]) -> Walk
 /// Goes past what follows a first byte of major type 7.
 #[tactic(auto, using(crate::proofs::Walking::last_all), unfolding(crate::specs::Walk::simple_walk))]
 fn simple(rules: Rules, low: u8, bytes: &[u8]) -> Walk
-    ensures walks { Walks bytes.now (λ fuel. simple_walk rules low) result }
+    ensures walks { Walks bytes.now (λ fuel. simple_walk (only rules) low) result }
+
     ensures within { IsWithin (length bytes.now) result }
 {
     match low {
@@ -261,8 +267,8 @@ fn simple(rules: Rules, low: u8, bytes: &[u8]) -> Walk
 /// Goes past an undefined.
 #[inline(always)]
 fn undefined(rules: Rules, bytes: &[u8]) -> Walk
-    ensures walks { seen rules (simple_item undefined_item) (length bytes.now) (passed bytes.now)
-        ≡ walk_view bytes.now result }
+    ensures walks { seen (only rules) (simple_item undefined_item) (length bytes.now)
+        (passed bytes.now) ≡ walk_view bytes.now result }
     ensures within { IsWithin (length bytes.now) result }
 {
     if rules.no_undefined {
@@ -274,7 +280,8 @@ fn undefined(rules: Rules, bytes: &[u8]) -> Walk
 
 /// Goes past the bits of a float of 16 bits, and likewise of 32 and of 64.
 fn half(rules: Rules, bytes: &[u8]) -> Walk
-    ensures walks { Walks bytes.now (λ fuel. float_walk rules half 25) result }
+    ensures walks { Walks bytes.now (λ fuel. float_walk (only rules) half 25) result }
+
     ensures within { IsWithin (length bytes.now) result }
 {
     match number(25, bytes) {
@@ -284,7 +291,8 @@ fn half(rules: Rules, bytes: &[u8]) -> Walk
 }
 
 fn single(rules: Rules, bytes: &[u8]) -> Walk
-    ensures walks { Walks bytes.now (λ fuel. float_walk rules single 26) result }
+    ensures walks { Walks bytes.now (λ fuel. float_walk (only rules) single 26) result }
+
     ensures within { IsWithin (length bytes.now) result }
 {
     match number(26, bytes) {
@@ -294,7 +302,8 @@ fn single(rules: Rules, bytes: &[u8]) -> Walk
 }
 
 fn double(rules: Rules, bytes: &[u8]) -> Walk
-    ensures walks { Walks bytes.now (λ fuel. float_walk rules double 27) result }
+    ensures walks { Walks bytes.now (λ fuel. float_walk (only rules) double 27) result }
+
     ensures within { IsWithin (length bytes.now) result }
 {
     match number(27, bytes) {
@@ -305,7 +314,7 @@ fn double(rules: Rules, bytes: &[u8]) -> Walk
 
 /// Goes past a float, which so many bytes follow.
 fn float(rules: Rules, float: Float, left: usize) -> Walk
-    ensures { IsAfter (broken rules (float_feature float)) left result }
+    ensures { IsAfter (broken (only rules) (float_feature float)) left result }
 {
     match broken_by_float(rules, float) {
         Some(rule) => Walk::Departed(rule, left),

@@ -2,7 +2,7 @@
 //! from one to the next.
 
 use cbor_io::error::ErrorCode;
-use cbor_rules::{Departure, Refusal, Rule, Rules, from_slice_with};
+use cbor_rules::{Departure, Refusal, Rule, Rules, from_slice_with, from_slice_with_tags};
 use cbor_strict::from_slice_canonical;
 use cbor_value::Value;
 use std::alloc::Global;
@@ -37,6 +37,39 @@ pub fn departs(
         }
     }
 }
+
+/// The bytes have no tags but these.
+pub fn has_tags(alloc: Global, tags: &[u64], bytes: &[u8]) -> Done {
+    match from_slice_with_tags::<Value>(alloc, bytes, NO_TAGS, tags) {
+        Ok(_) => Ok(()),
+        Err(Refusal::Unread(e)) => Err(Fail::from(e)),
+        Err(Refusal::Departs(_)) => Err(Fail::from("another tag")),
+    }
+}
+
+/// The bytes have another tag first at this offset.
+pub fn has_another(
+    rt: &impl Abort,
+    alloc: Global,
+    tags: &[u64],
+    bytes: &[u8],
+    offset: u64,
+) -> Done {
+    match from_slice_with_tags::<Value>(alloc, bytes, NO_TAGS, tags) {
+        Ok(_) => Err(Fail::from("not refused")),
+        Err(Refusal::Unread(e)) => Err(Fail::from(e)),
+        Err(Refusal::Departs(departure)) => {
+            let rule = Rule::NoTags;
+            assert_eq!(rt; departure, Departure { rule, offset });
+            Ok(())
+        }
+    }
+}
+
+const NO_TAGS: Rules = Rules {
+    no_tags: true,
+    ..Rules::ANY
+};
 
 /// Where the bytes depart from the canonical rules, if they do.
 fn departs_at(alloc: Global, bytes: &[u8]) -> Result<Option<u64>, Fail> {

@@ -9,3 +9,5 @@ mod checks;
 mod keys;
 #[cfg(test)]
 mod rules;
+#[cfg(test)]
+mod tags;

@@ -10,7 +10,7 @@ use test_checks::Done;
 // One rule each, with bytes that break it alone, the place, and bytes that keep it.
 #[test]
 fn reports_each_rule(rt: HostRuntime) -> Done {
-    let rows: [(Rules, Rule, &[u8], u64, &[u8]); 6] = [
+    let rows: [(Rules, Rule, &[u8], u64, &[u8]); 7] = [
         (
             Rules {
                 shortest_heads: true,
@@ -30,6 +30,16 @@ fn reports_each_rule(rt: HostRuntime) -> Done {
             b"\xc1\x7f\xff".as_slice(),
             2,
             b"\xd8\x01\x78\0".as_slice(),
+        ),
+        (
+            Rules {
+                plain_keys: true,
+                ..Rules::ANY
+            },
+            Rule::PlainKeys,
+            b"\xa2\xf5\xf6\xc1\x05\xf6".as_slice(),
+            5,
+            b"\xa3\x20\x80\x7f\xff\xa0\xf9\x3e\0\xc1\0".as_slice(),
         ),
         (
             Rules {

@@ -1,67 +1,67 @@
 use Rattle.std.proofs.Common.{◌≡◌, ◌≤◌, ◌-◌, ◌/◌, ◌%◌, ◌∙◌, length, drop, sym, refl, ap, arith}
+use Rattle.cbor_rules.specs.Rules.{under}
 use Rattle.cbor_rules.specs.Walk.{walk, departed, passed}
 use Rattle.cbor_rules.specs.Walks.{last}
-use Rattle.cbor_rules.specs.declared.settings.Rule.TheVariants.{AscendingKeys}
 use Rattle.cbor_rules.proofs.walk.+walk.Goals as goal
-use Rattle.cbor_rules.proofs.Walking.{length-last, within_rest, on_first, no_first, on_simple, on_indefinite, on_head, indefinite_departs, indefinite_pairs, indefinite_items, in_integer, in_string, in_array, in_map, in_tag, key_departs, key_keeps, all_break, all_step, all_other, all_end, pairs_break, pairs_step, pairs_departs, pairs_other, pairs_value_other, pairs_end, after_break, view_rest, next_rest, key_of, key_at}
+use Rattle.cbor_rules.proofs.Walking.{length-last, within_rest, on_first, no_first, on_simple, on_indefinite, on_head, indefinite_departs, indefinite_pairs, indefinite_items, in_integer, in_string, in_array, in_map, in_tag, simple_only, none_of, all_break, all_step, all_other, all_end, pairs_break, pairs_step, pairs_departs, pairs_other, pairs_value_other, pairs_end, after_break, view_rest, next_rest, key_of, key_at}
 
 -- ---- an item
 
 pub item-returns-in-Some-clause-walks : goal.item-returns-in-Some-clause-walks
 item-returns-in-Some-clause-walks t c = λ fuel enough.
-    on_first c.args.rules fuel c.args.bytes.now c.in-Some.first.now c.in-Some.rest.now c.content.result c.in-Some.ensures.cases.0 enough c.content.ensures.walks c.content.ensures.within
+    on_first (under c.args.rules c.args.tags.now) fuel c.args.bytes.now c.in-Some.first.now c.in-Some.rest.now c.content.result c.in-Some.ensures.cases.0 enough c.content.ensures.walks c.content.ensures.within
 
 pub item-returns-in-None-clause-walks : goal.item-returns-in-None-clause-walks
-item-returns-in-None-clause-walks t c = λ fuel enough. no_first c.args.rules fuel c.args.bytes.now c.in-None.ensures.cases
+item-returns-in-None-clause-walks t c = λ fuel enough. no_first (under c.args.rules c.args.tags.now) fuel c.args.bytes.now c.in-None.ensures.cases
 
 pub content-returns-then-major-eq7-clause-walks : goal.content-returns-then-major-eq7-clause-walks
 content-returns-then-major-eq7-clause-walks t c = λ fuel enough.
-    on_simple c.args.rules (walk c.args.rules fuel) (c.args.first / 32) (c.args.first % 32) c.args.bytes.now c.if-major-eq7.true ∙ c.simple.ensures.walks fuel enough
+    on_simple (under c.args.rules c.args.tags.now) (walk (under c.args.rules c.args.tags.now) fuel) (c.args.first / 32) (c.args.first % 32) c.args.bytes.now c.if-major-eq7.true ∙ simple_only c.args.rules c.args.tags.now (c.args.first % 32) c.args.bytes.now ∙ c.simple.ensures.walks fuel enough
 
 pub content-returns-then-low-eq31-clause-walks : goal.content-returns-then-low-eq31-clause-walks
 content-returns-then-low-eq31-clause-walks t c = λ fuel enough.
-    on_indefinite c.args.rules (walk c.args.rules fuel) (c.args.first / 32) (c.args.first % 32) c.args.bytes.now c.if-major-eq7.false c.if-low-eq31.true ∙ c.indefinite.ensures.walks fuel enough
+    on_indefinite (under c.args.rules c.args.tags.now) (walk (under c.args.rules c.args.tags.now) fuel) (c.args.first / 32) (c.args.first % 32) c.args.bytes.now c.if-major-eq7.false c.if-low-eq31.true ∙ c.indefinite.ensures.walks fuel enough
 
 pub content-returns-else-low-eq31-clause-walks : goal.content-returns-else-low-eq31-clause-walks
 content-returns-else-low-eq31-clause-walks t c = λ fuel enough.
-    on_head c.args.rules (walk c.args.rules fuel) (c.args.first / 32) (c.args.first % 32) c.args.bytes.now c.if-major-eq7.false c.if-low-eq31.false ∙ c.head.ensures.walks fuel enough
+    on_head (under c.args.rules c.args.tags.now) (walk (under c.args.rules c.args.tags.now) fuel) (c.args.first / 32) (c.args.first % 32) c.args.bytes.now c.if-major-eq7.false c.if-low-eq31.false ∙ c.head.ensures.walks fuel enough
 
 -- ---- an indefinite length
 
 pub indefinite-returns-then-rules-clause-walks : goal.indefinite-returns-then-rules-clause-walks
 indefinite-returns-then-rules-clause-walks t c = λ fuel enough.
-    indefinite_departs c.args.rules (walk c.args.rules fuel) c.args.major c.args.bytes.now c.if-rules.true
+    indefinite_departs (under c.args.rules c.args.tags.now) (walk (under c.args.rules c.args.tags.now) fuel) c.args.major c.args.bytes.now c.if-rules.true
 
 pub indefinite-returns-then-major-eq5-clause-walks : goal.indefinite-returns-then-major-eq5-clause-walks
 indefinite-returns-then-major-eq5-clause-walks t c = λ fuel enough.
-    indefinite_pairs c.args.rules (walk c.args.rules fuel) c.args.major c.args.bytes.now c.if-rules.false c.if-major-eq5.true ∙ c.pairs.ensures.walks fuel enough
+    indefinite_pairs (under c.args.rules c.args.tags.now) (walk (under c.args.rules c.args.tags.now) fuel) c.args.major c.args.bytes.now c.if-rules.false c.if-major-eq5.true ∙ c.pairs.ensures.walks fuel enough
 
 pub indefinite-returns-else-major-eq5-clause-walks : goal.indefinite-returns-else-major-eq5-clause-walks
 indefinite-returns-else-major-eq5-clause-walks t c = λ fuel enough.
-    indefinite_items c.args.rules (walk c.args.rules fuel) c.args.major c.args.bytes.now c.if-rules.false c.if-major-eq5.false ∙ c.items.ensures.walks fuel enough
+    indefinite_items (under c.args.rules c.args.tags.now) (walk (under c.args.rules c.args.tags.now) fuel) c.args.major c.args.bytes.now c.if-rules.false c.if-major-eq5.false ∙ c.items.ensures.walks fuel enough
 
 -- ---- what follows a head with its number
 
 pub inside-returns-then-major-le1-clause-walks : goal.inside-returns-then-major-le1-clause-walks
 inside-returns-then-major-le1-clause-walks t c = λ fuel enough.
-    in_integer c.args.rules (walk c.args.rules fuel) c.args.major c.args.bytes.now c.args.n c.if-major-le1.true
+    in_integer (under c.args.rules c.args.tags.now) (walk (under c.args.rules c.args.tags.now) fuel) c.args.major c.args.bytes.now c.args.n c.if-major-le1.true
     ∙ ap passed (let none : length c.args.bytes.now - length c.args.bytes.now ≡ 0 = omega arith in sym (ap (λ n. drop n c.args.bytes.now) none))
 
 pub inside-returns-then-major-le3-clause-walks : goal.inside-returns-then-major-le3-clause-walks
 inside-returns-then-major-le3-clause-walks t c = λ fuel enough.
-    in_string c.args.rules (walk c.args.rules fuel) c.args.major c.args.bytes.now c.args.n (omega (arith, c.if-major-le1.false)) c.if-major-le3.true ∙ c.past.ensures.walks fuel enough
+    in_string (under c.args.rules c.args.tags.now) (walk (under c.args.rules c.args.tags.now) fuel) c.args.major c.args.bytes.now c.args.n (omega (arith, c.if-major-le1.false)) c.if-major-le3.true ∙ c.past.ensures.walks fuel enough
 
 pub inside-returns-then-major-eq4-clause-walks : goal.inside-returns-then-major-eq4-clause-walks
 inside-returns-then-major-eq4-clause-walks t c = λ fuel enough.
-    in_array c.args.rules (walk c.args.rules fuel) c.args.major c.args.bytes.now c.args.n c.if-major-eq4.true ∙ c.items.ensures.walks fuel enough
+    in_array (under c.args.rules c.args.tags.now) (walk (under c.args.rules c.args.tags.now) fuel) c.args.major c.args.bytes.now c.args.n c.if-major-eq4.true ∙ c.items.ensures.walks fuel enough
 
 pub inside-returns-then-major-eq5-clause-walks : goal.inside-returns-then-major-eq5-clause-walks
 inside-returns-then-major-eq5-clause-walks t c = λ fuel enough.
-    in_map c.args.rules (walk c.args.rules fuel) c.args.major c.args.bytes.now c.args.n c.if-major-eq5.true ∙ c.pairs.ensures.walks fuel enough
+    in_map (under c.args.rules c.args.tags.now) (walk (under c.args.rules c.args.tags.now) fuel) c.args.major c.args.bytes.now c.args.n c.if-major-eq5.true ∙ c.pairs.ensures.walks fuel enough
 
 pub inside-returns-else-major-eq5-clause-walks : goal.inside-returns-else-major-eq5-clause-walks
 inside-returns-else-major-eq5-clause-walks t c = λ fuel enough.
-    in_tag c.args.rules (walk c.args.rules fuel) c.args.major c.args.bytes.now c.args.n (omega (arith, c.if-major-le3.false, c.if-major-eq4.false, c.if-major-eq5.false)) ∙ c.item.ensures.walks fuel enough
+    in_tag (under c.args.rules c.args.tags.now) (walk (under c.args.rules c.args.tags.now) fuel) c.args.major c.args.bytes.now c.args.n (omega (arith, c.if-major-le3.false, c.if-major-eq4.false, c.if-major-eq5.false)) ∙ c.item.ensures.walks fuel enough
 
 -- ---- items
 
@@ -70,14 +70,14 @@ items-returns-then-ends-clause-walks t c = λ fuel enough.
     let i = c.loop-i.invariant in
     let rest = c.loop-i.rest.now in
     i.so_far fuel enough
-    ∙ all_break (walk c.args.rules fuel) c.args.is_open c.args.n c.loop-i._i c.loop-i-test.true rest (sym c.if-ends.ensures.value)
+    ∙ all_break (walk (under c.args.rules c.args.tags.now) fuel) c.args.is_open c.args.n c.loop-i._i c.loop-i-test.true rest (sym c.if-ends.ensures.value)
     ∙ ap passed (after_break rest c.args.bytes.now (c.if-ends.ensures.some refl) i.within i.is_last)
 
 pub items-returns-in_default : goal.items-returns-in_default
 items-returns-in_default t c = record {
   walks = λ fuel enough.
       let few : length c.loop-i.rest.now ≤ fuel = omega (arith, enough, c.loop-i.invariant.within) in
-      c.loop-i.invariant.so_far fuel enough ∙ all_other (walk c.args.rules fuel) c.args.is_open c.args.n c.loop-i._i c.loop-i-test.true c.loop-i.rest.now (sym c.if-ends.ensures.value) c.args.bytes.now c.item.result (c.item.ensures.walks fuel few) c.in_default.not-Passed;
+      c.loop-i.invariant.so_far fuel enough ∙ all_other (walk (under c.args.rules c.args.tags.now) fuel) c.args.is_open c.args.n c.loop-i._i c.loop-i-test.true c.loop-i.rest.now (sym c.if-ends.ensures.value) c.args.bytes.now c.item.result (c.item.ensures.walks fuel few) c.in_default.not-Passed;
   within = within_rest c.loop-i.rest.now c.args.bytes.now c.item.result c.loop-i.invariant.within c.item.ensures.within;
 }
 
@@ -92,13 +92,13 @@ items-loop-i-preserved t c =
       is_last = next.1;
       so_far = λ fuel enough.
           let few : length rest ≤ fuel = omega (arith, enough, i.within) in
-          i.so_far fuel enough ∙ all_step (walk c.args.rules fuel) c.args.is_open c.args.n c.loop-i._i c.loop-i-test.true rest (sym c.if-ends.ensures.value) c.behind-rest.result.now (one.walks fuel few ∙ ap passed (sym c.behind-rest.ensures));
+          i.so_far fuel enough ∙ all_step (walk (under c.args.rules c.args.tags.now) fuel) c.args.is_open c.args.n c.loop-i._i c.loop-i-test.true rest (sym c.if-ends.ensures.value) c.behind-rest.result.now (one.walks fuel few ∙ ap passed (sym c.behind-rest.ensures));
     }
 
 pub items-returns-clause-walks : goal.items-returns-clause-walks
 items-returns-clause-walks t c = λ fuel enough.
     let i = c.loop-i.invariant in
-    i.so_far fuel enough ∙ all_end (walk c.args.rules fuel) c.args.is_open c.args.n c.loop-i._i c.loop-i.rest.now c.loop-i-test.false ∙ c.ended.ensures.walks ∙ view_rest c.loop-i.rest.now c.args.bytes.now c.ended.result i.within i.is_last c.ended.ensures.within
+    i.so_far fuel enough ∙ all_end (walk (under c.args.rules c.args.tags.now) fuel) c.args.is_open c.args.n c.loop-i._i c.loop-i.rest.now c.loop-i-test.false ∙ c.ended.ensures.walks ∙ view_rest c.loop-i.rest.now c.args.bytes.now c.ended.result i.within i.is_last c.ended.ensures.within
 
 -- ---- pairs
 
@@ -107,11 +107,11 @@ pairs-returns-then-ends-clause-walks t c = λ fuel enough.
     let i = c.loop-i.invariant in
     let rest = c.loop-i.rest.now in
     i.so_far fuel enough
-    ∙ pairs_break c.args.rules (walk c.args.rules fuel) c.args.is_open c.args.n c.loop-i._i c.loop-i-test.true c.loop-i.before.now rest (sym c.if-ends.ensures.value)
+    ∙ pairs_break (under c.args.rules c.args.tags.now) (walk (under c.args.rules c.args.tags.now) fuel) c.args.is_open c.args.n c.loop-i._i c.loop-i-test.true c.loop-i.before.now rest (sym c.if-ends.ensures.value)
     ∙ ap passed (after_break rest c.args.bytes.now (c.if-ends.ensures.some refl) i.within i.is_last)
 
-pub pairs-returns-then-not-ascends-clause-walks : goal.pairs-returns-then-not-ascends-clause-walks
-pairs-returns-then-not-ascends-clause-walks t c = λ fuel enough.
+pub pairs-returns-in-Some-clause-walks : goal.pairs-returns-in-Some-clause-walks
+pairs-returns-in-Some-clause-walks t c = λ fuel enough.
     let rest = c.loop-i.rest.now in
     let left = c.in-Passed.left in
     let i = c.loop-i.invariant in
@@ -120,14 +120,14 @@ pairs-returns-then-not-ascends-clause-walks t c = λ fuel enough.
     let k = c.ahead-key.result.now in
     let few : length rest ≤ fuel = omega (arith, enough, i.within) in
     i.so_far fuel enough
-    ∙ pairs_departs c.args.rules (walk c.args.rules fuel) c.args.is_open c.args.n c.loop-i._i c.loop-i-test.true before rest (sym c.if-ends.ensures.value) (last left rest) k (one.walks fuel few) (key_of k left rest c.ahead-key.ensures one.within) AscendingKeys (key_departs c.args.rules before k c.if-not-ascends.ensures)
-    ∙ ap (departed AscendingKeys) (length-last left rest one.within)
+    ∙ pairs_departs (under c.args.rules c.args.tags.now) (walk (under c.args.rules c.args.tags.now) fuel) c.args.is_open c.args.n c.loop-i._i c.loop-i-test.true before rest (sym c.if-ends.ensures.value) (last left rest) k (one.walks fuel few) (key_of k left rest c.ahead-key.ensures one.within) c.in-Some.rule (sym c.in-Some.ensures)
+    ∙ ap (departed c.in-Some.rule) (length-last left rest one.within)
 
 pub pairs-returns-in_default : goal.pairs-returns-in_default
 pairs-returns-in_default t c = record {
   walks = λ fuel enough.
       let few : length c.loop-i.rest.now ≤ fuel = omega (arith, enough, c.loop-i.invariant.within) in
-      c.loop-i.invariant.so_far fuel enough ∙ pairs_other c.args.rules (walk c.args.rules fuel) c.args.is_open c.args.n c.loop-i._i c.loop-i-test.true c.loop-i.before.now c.loop-i.rest.now (sym c.if-ends.ensures.value) c.args.bytes.now c.item.result (c.item.ensures.walks fuel few) c.in_default.not-Passed;
+      c.loop-i.invariant.so_far fuel enough ∙ pairs_other (under c.args.rules c.args.tags.now) (walk (under c.args.rules c.args.tags.now) fuel) c.args.is_open c.args.n c.loop-i._i c.loop-i-test.true c.loop-i.before.now c.loop-i.rest.now (sym c.if-ends.ensures.value) c.args.bytes.now c.item.result (c.item.ensures.walks fuel few) c.in_default.not-Passed;
   within = within_rest c.loop-i.rest.now c.args.bytes.now c.item.result c.loop-i.invariant.within c.item.ensures.within;
 }
 
@@ -146,7 +146,7 @@ pairs-returns-in_default-item t c =
           let few : length rest ≤ fuel = omega (arith, enough, i.within) in
           let few' : length at_value ≤ fuel = omega (arith, enough, next.0) in
           i.so_far fuel enough
-          ∙ pairs_value_other c.args.rules (walk c.args.rules fuel) c.args.is_open c.args.n c.loop-i._i c.loop-i-test.true before rest (sym c.if-ends.ensures.value) at_value k (one.walks fuel few ∙ ap passed (sym c.behind-rest.ensures)) (key_at k at_value left rest c.ahead-key.ensures c.behind-rest.ensures one.within) (key_keeps c.args.rules before k c.if-not-ascends.ensures) c.args.bytes.now c.item-in-loop-i.result (c.item-in-loop-i.ensures.walks fuel few') c.in_default-item.not-Passed;
+          ∙ pairs_value_other (under c.args.rules c.args.tags.now) (walk (under c.args.rules c.args.tags.now) fuel) c.args.is_open c.args.n c.loop-i._i c.loop-i-test.true before rest (sym c.if-ends.ensures.value) at_value k (one.walks fuel few ∙ ap passed (sym c.behind-rest.ensures)) (key_at k at_value left rest c.ahead-key.ensures c.behind-rest.ensures one.within) (sym c.broken_by_key.ensures ∙ none_of c.broken_by_key.result c.in_default-broken_by_key.not-Some) c.args.bytes.now c.item-in-loop-i.result (c.item-in-loop-i.ensures.walks fuel few') c.in_default-item.not-Passed;
       within = within_rest at_value c.args.bytes.now c.item-in-loop-i.result next.0 c.item-in-loop-i.ensures.within;
     }
 
@@ -170,10 +170,10 @@ pairs-loop-i-preserved t c =
           let few : length rest ≤ fuel = omega (arith, enough, i.within) in
           let few' : length at_value ≤ fuel = omega (arith, enough, next.0) in
           i.so_far fuel enough
-          ∙ pairs_step c.args.rules (walk c.args.rules fuel) c.args.is_open c.args.n c.loop-i._i c.loop-i-test.true before rest (sym c.if-ends.ensures.value) at_value k (one.walks fuel few ∙ ap passed (sym c.behind-rest.ensures)) (key_at k at_value left rest c.ahead-key.ensures c.behind-rest.ensures one.within) (key_keeps c.args.rules before k c.if-not-ascends.ensures) more (two.walks fuel few' ∙ ap passed (sym c.behind-rest-in-Passed-item.ensures));
+          ∙ pairs_step (under c.args.rules c.args.tags.now) (walk (under c.args.rules c.args.tags.now) fuel) c.args.is_open c.args.n c.loop-i._i c.loop-i-test.true before rest (sym c.if-ends.ensures.value) at_value k (one.walks fuel few ∙ ap passed (sym c.behind-rest.ensures)) (key_at k at_value left rest c.ahead-key.ensures c.behind-rest.ensures one.within) (sym c.broken_by_key.ensures ∙ none_of c.broken_by_key.result c.in_default-broken_by_key.not-Some) more (two.walks fuel few' ∙ ap passed (sym c.behind-rest-in-Passed-item.ensures));
     }
 
 pub pairs-returns-clause-walks : goal.pairs-returns-clause-walks
 pairs-returns-clause-walks t c = λ fuel enough.
     let i = c.loop-i.invariant in
-    i.so_far fuel enough ∙ pairs_end c.args.rules (walk c.args.rules fuel) c.args.is_open c.args.n c.loop-i._i c.loop-i.before.now c.loop-i.rest.now c.loop-i-test.false ∙ c.ended.ensures.walks ∙ view_rest c.loop-i.rest.now c.args.bytes.now c.ended.result i.within i.is_last c.ended.ensures.within
+    i.so_far fuel enough ∙ pairs_end (under c.args.rules c.args.tags.now) (walk (under c.args.rules c.args.tags.now) fuel) c.args.is_open c.args.n c.loop-i._i c.loop-i.before.now c.loop-i.rest.now c.loop-i-test.false ∙ c.ended.ensures.walks ∙ view_rest c.loop-i.rest.now c.args.bytes.now c.ended.result i.within i.is_last c.ended.ensures.within

@@ -1,19 +1,19 @@
 use Rattle.cbor_model.specs.Raw.{single}
 use Rattle.cbor_model.specs.Reader.{number_behind}
 use Rattle.cbor_rules.specs.Features.{float_bits}
-use Rattle.cbor_rules.specs.Rules.{broken}
+use Rattle.cbor_rules.specs.Rules.{broken, only}
 use Rattle.cbor_rules.proofs.Walking.{after_within, float_on, number_end}
 use Rattle.cbor_rules.proofs.walk.single.Goals as goal
 
 pub returns-in-Some-clause-walks : goal.returns-in-Some-clause-walks
 returns-in-Some-clause-walks c = λ fuel enough.
     let number = c.in-Some.ensures in
-    float_on c.args.rules single 26 c.in-Some.bits c.in-Some.left c.args.bytes.now c.float.result number.1 number.2 c.float.ensures
+    float_on (only c.args.rules) single 26 c.in-Some.bits c.in-Some.left c.args.bytes.now c.float.result number.1 number.2 c.float.ensures
 
 pub returns-in-Some-clause-within : goal.returns-in-Some-clause-within
 returns-in-Some-clause-within c =
     let number = c.in-Some.ensures in
-    after_within c.args.bytes.now c.in-Some.left c.float.result number.2 (broken c.args.rules (float_bits single c.in-Some.bits)) c.float.ensures
+    after_within c.args.bytes.now c.in-Some.left c.float.result number.2 (broken (only c.args.rules) (float_bits single c.in-Some.bits)) c.float.ensures
 
 pub returns-in-None-clause-walks : goal.returns-in-None-clause-walks
 returns-in-None-clause-walks c = λ fuel enough.

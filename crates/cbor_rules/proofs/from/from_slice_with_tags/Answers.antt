@@ -1,13 +1,14 @@
 use Rattle.std.proofs.Common.{Some, None, refl, sym}
 use Rattle.cbor_de.specs.Whole.{from_slice_context}
+use Rattle.cbor_rules.specs.Rules.{under}
 use Rattle.cbor_rules.proofs.Reading.{where_any, kept_none, departing, by_rules}
-use Rattle.cbor_rules.proofs.from.from_slice_with.Goals as goal
+use Rattle.cbor_rules.proofs.from.from_slice_with_tags.Goals as goal
 
 -- ---- read, and departs
 
 pub returns-in-Some-clause-accepted : goal.returns-in-Some-clause-accepted
 returns-in-Some-clause-accepted g c = λ x s.
-    absurd (let none = kept_none c.args.rules (g.T.Readable.reads from_slice_context) c.args.slice.now (Some c.in-Some.departure) c.in-Some.ensures x s in cc)
+    absurd (let none = kept_none (under c.args.rules c.args.tags.now) (g.T.Readable.reads from_slice_context) c.args.slice.now (Some c.in-Some.departure) c.in-Some.ensures x s in cc)
 
 pub returns-in-Some-clause-departs : goal.returns-in-Some-clause-departs
 returns-in-Some-clause-departs g c = λ x spelt.
@@ -19,13 +20,13 @@ returns-in-Some-clause-every g c = λ v spelt.
 
 pub returns-in-Some-clause-departed : goal.returns-in-Some-clause-departed
 returns-in-Some-clause-departed g c =
-    departing c.args.rules (g.T.Readable.reads from_slice_context) c.args.slice.now (Some c.in-Some.departure) c.in-Some.ensures c.in-Ok.value c.in-Ok.ensures.found c.in-Some.departure refl
+    departing (under c.args.rules c.args.tags.now) (g.T.Readable.reads from_slice_context) c.args.slice.now (Some c.in-Some.departure) c.in-Some.ensures c.in-Ok.value c.in-Ok.ensures.found c.in-Some.departure refl
 
 -- ---- read, and departs nowhere
 
 pub returns-in-None-clause-found : goal.returns-in-None-clause-found
 returns-in-None-clause-found g c =
-    by_rules c.args.rules (g.T.Readable.reads from_slice_context) c.args.slice.now None c.in-None.ensures c.in-Ok.value c.in-Ok.ensures.found refl
+    by_rules (under c.args.rules c.args.tags.now) (g.T.Readable.reads from_slice_context) c.args.slice.now None c.in-None.ensures c.in-Ok.value c.in-Ok.ensures.found refl
 
 pub returns-in-None-clause-every : goal.returns-in-None-clause-every
 returns-in-None-clause-every g c = λ v spelt. c.in-Ok.ensures.every v spelt
